@@ -1,0 +1,5 @@
+use Rattle.varisat_theory.proofs.Lines.{derives_same}
+use Rattle.varisat_theory.proofs.laws.held.same_lines_derive.Goals as goal
+
+pub returns : goal.returns
+returns c = derives_same

@@ -1,0 +1,5 @@
+use Rattle.varisat_theory.proofs.Lines.{refutes_same}
+use Rattle.varisat_theory.proofs.laws.held.same_lines_refute.Goals as goal
+
+pub returns : goal.returns
+returns c = refutes_same

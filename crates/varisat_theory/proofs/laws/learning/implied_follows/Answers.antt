@@ -1,0 +1,5 @@
+use Rattle.varisat_theory.proofs.Implication.{implied_follows}
+use Rattle.varisat_theory.proofs.laws.learning.implied_follows.Goals as goal
+
+pub returns : goal.returns
+returns c = implied_follows

@@ -1,0 +1,5 @@
+use Rattle.varisat_theory.proofs.Saturated.{learned_is_new}
+use Rattle.varisat_theory.proofs.laws.learning.learned_is_new.Goals as goal
+
+pub returns : goal.returns
+returns c = learned_is_new

@@ -1,0 +1,5 @@
+use Rattle.varisat_theory.proofs.Points.{point_zero, point_next, point_rises}
+use Rattle.varisat_theory.proofs.laws.luby.restart_points.Goals as goal
+
+pub returns : goal.returns
+returns c = (point_zero, point_next, point_rises)

@@ -1,0 +1,7 @@
+use Rattle.std.proofs.Common.{refl}
+use Rattle.varisat_theory.specs.Luby.{luby}
+use Rattle.varisat_theory.proofs.laws.luby.restarts_start.Goals as goal
+
+pub returns : goal.returns
+unfolding luby
+returns c = refl

@@ -1,0 +1,5 @@
+use Rattle.varisat_theory.proofs.Count.{length-distinct}
+use Rattle.varisat_theory.proofs.laws.rank.distinct_is_short.Goals as goal
+
+pub returns : goal.returns
+returns c = length-distinct

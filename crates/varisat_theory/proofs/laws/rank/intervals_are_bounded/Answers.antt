@@ -1,0 +1,5 @@
+use Rattle.varisat_theory.proofs.Bound.{intervals_bound}
+use Rattle.varisat_theory.proofs.laws.rank.intervals_are_bounded.Goals as goal
+
+pub returns : goal.returns
+returns c = intervals_bound

@@ -1,0 +1,5 @@
+use Rattle.varisat_theory.proofs.Ranks.{rank_raised}
+use Rattle.varisat_theory.proofs.laws.rank.rank_rises.Goals as goal
+
+pub returns : goal.returns
+returns c = rank_raised

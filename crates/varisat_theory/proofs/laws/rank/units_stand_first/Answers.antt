@@ -1,0 +1,5 @@
+use Rattle.varisat_theory.proofs.Points.{units_first, units_below, units_raised}
+use Rattle.varisat_theory.proofs.laws.rank.units_stand_first.Goals as goal
+
+pub returns : goal.returns
+returns c = (units_first, units_below, units_raised)

@@ -1,0 +1,5 @@
+use Rattle.varisat_theory.proofs.Sound.{follows_entails}
+use Rattle.varisat_theory.proofs.laws.soundness.follows_entails.Goals as goal
+
+pub returns : goal.returns
+returns c = follows_entails

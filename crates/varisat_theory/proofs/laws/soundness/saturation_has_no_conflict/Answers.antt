@@ -1,0 +1,5 @@
+use Rattle.varisat_theory.proofs.Saturated.{saturated_no_conflict}
+use Rattle.varisat_theory.proofs.laws.soundness.saturation_has_no_conflict.Goals as goal
+
+pub returns : goal.returns
+returns c = saturated_no_conflict

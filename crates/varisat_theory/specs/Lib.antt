@@ -1,0 +1,12 @@
+pub mod Membership
+pub mod Literals
+pub mod Propagation
+pub mod Derivations
+pub mod Held
+pub mod Analysis
+pub mod Renaming
+pub mod Luby
+pub mod Rank
+pub mod Steps
+pub mod Laws
+pub mod Checking

@@ -1,0 +1,9 @@
+// The laws, by subject: each is the contract of a function with an empty body.
+
+pub mod growth;
+pub mod held;
+pub mod learning;
+pub mod luby;
+pub mod rank;
+pub mod renaming;
+pub mod soundness;

@@ -1,0 +1,48 @@
+// The rank of a trail, and the number of steps of a call.
+
+ghost use Rattle.varisat_theory.specs.Laws.{BoundIsAPower, CallIsBounded, DistinctIsShort, IntervalsAreBounded, RankIsBounded, RankRises, RisingIsShort, StepRaisesRank, UnitsStandFirst};
+
+/// A trail's rank is below 2^(n+1).
+pub fn rank_is_bounded()
+    ensures { RankIsBounded }
+{}
+
+/// An implied literal in a decision's place raises the rank.
+pub fn rank_rises()
+    ensures { RankRises }
+{}
+
+/// A conflict step raises the rank.
+pub fn step_raises_rank()
+    ensures { StepRaisesRank }
+{}
+
+/// Units that were removed are counted in front.
+pub fn units_stand_first()
+    ensures { UnitsStandFirst }
+{}
+
+/// Steps that raise the rank are at most as many as it.
+pub fn rising_is_short()
+    ensures { RisingIsShort }
+{}
+
+/// A list of different elements is no longer than one that holds them.
+pub fn distinct_is_short()
+    ensures { DistinctIsShort }
+{}
+
+/// Intervals of the sequence that are all short are short together.
+pub fn intervals_are_bounded()
+    ensures { IntervalsAreBounded }
+{}
+
+/// A call makes fewer than (n+2) * 2^(n+2) steps.
+pub fn call_is_bounded()
+    ensures { CallIsBounded }
+{}
+
+/// That is at most 2^(2n+3).
+pub fn bound_is_a_power()
+    ensures { BoundIsAPower }
+{}

@@ -1,0 +1,94 @@
+//! Where proof lines go.
+ghost use Rattle.std.specs.Prelude.{◌≡◌, ℕ, ◌+◌, ◌-◌, ◌<◌, ◌≤◌, ◌^◌, List, [], ◌++◌, OnOk, OnErr, take};
+ghost use Rattle.varisat_formula.specs.Memory.{Memory};
+
+use std::alloc::Allocator;
+use std::io;
+use std::marker::Model;
+
+/// Takes the bytes of a proof, and counts its faults.
+pub trait ProofTarget: Drop {
+    /// The bytes that it holds.
+    ghost written: { Self → List ℕ };
+
+    /// How many faults there were.
+    ghost fault_count: { Self → ℕ };
+
+    /// Appends all the bytes, or answers Err and appended a beginning of them.
+    fn put(&mut self, bytes: &[u8]) -> io::Result<()>
+        requires { fault_count self.old < 2 ^ 64 - 1 }
+        ensures whole { OnOk result (written self.new ≡ written self.old ++ bytes.now) }
+        ensures begun { OnErr result ((n : ℕ) × (written self.new ≡ written self.old ++ take n bytes.now)) }
+        ensures quiet { OnOk result (fault_count self.new ≡ fault_count self.old) }
+        ensures fault { OnErr result (fault_count self.new ≡ fault_count self.old + 1) };
+
+    /// Hands on what the target still keeps back.
+    fn flush(&mut self) -> io::Result<()>
+        requires { fault_count self.old < 2 ^ 64 - 1 }
+        ensures same { written self.new ≡ written self.old }
+        ensures quiet { OnOk result (fault_count self.new ≡ fault_count self.old) }
+        ensures fault { OnErr result (fault_count self.new ≡ fault_count self.old + 1) };
+
+    /// How many calls answered Err.
+    fn faults(&self) -> u64
+        ensures { result ≡ fault_count self.now };
+}
+
+/// A target in memory. A growth that is refused is a fault, and takes none of the bytes.
+#[derive(Drop)]
+pub struct MemoryTarget<A: Allocator + Copy> {
+    bytes: Vec<u8, A>,
+    faults: u64,
+}
+
+impl<A: Allocator + Copy> Model for MemoryTarget<A> {
+    ghost Value = { Memory };
+
+    ghost view = { λ t. record { bytes = t.bytes.items; faults = t.faults } };
+}
+
+impl<A: Allocator + Copy> MemoryTarget<A> {
+    /// An empty target. It takes no memory.
+    pub fn new_in(alloc: A) -> MemoryTarget<A>
+        ensures { result ≡ record { bytes = []; faults = 0 } }
+    {
+        MemoryTarget {
+            bytes: Vec::new(alloc),
+            faults: 0,
+        }
+    }
+
+    /// All the bytes that it holds.
+    pub fn bytes(&self) -> &[u8]
+        ensures { result.now ≡ self.now.bytes }
+    {
+        self.bytes.as_slice()
+    }
+}
+
+impl<A: Allocator + Copy> ProofTarget for MemoryTarget<A> {
+    ghost written = { λ t. t.bytes };
+
+    ghost fault_count = { λ t. t.faults };
+
+    fn put(&mut self, bytes: &[u8]) -> io::Result<()> {
+        match self.bytes.extend_from_slice(bytes) {
+            Ok(()) => Ok(()),
+            Err(error) => {
+                self.faults += 1;
+                Err(io::Error::from(error))
+            }
+        }
+    }
+
+    fn flush(&mut self) -> io::Result<()> {
+        Ok(())
+    }
+
+    fn faults(&self) -> u64 {
+        self.faults
+    }
+}
+
+#[cfg(test)]
+mod tests;

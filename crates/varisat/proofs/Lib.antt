@@ -1,0 +1,12 @@
+pub mod Places
+pub mod Flagged
+pub mod Trailed
+pub mod Looked
+pub mod Bounded
+pub mod Searched
+pub mod Loaded
+pub mod Named
+pub mod Kept
+pub mod Runs
+pub mod Historied
+pub mod LineLemmas

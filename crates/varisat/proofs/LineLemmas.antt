@@ -1,0 +1,257 @@
+-- How lines part into words, and that a word stands for one literal.
+use Rattle.std.proofs.Common.{◌≡◌, ◌≢◌, ℕ, zero, suc, ◌+◌, ◌*◌, ◌/◌, ◌%◌, ◌^◌, ◌<◌, ◌≤◌, ◌==◌, ◌⊎◌, inl, inr, Bool, true, false, nat_eq, if◌then◌else◌, List, [], ◌∷◌, ◌++◌, map, length, get_or, fold, ℤ, pos, negsuc, refl, sym, ap, subst, Ok, take, drop, Option, None, Some, IfNone, IfSome, Bor, append_assoc, append-nil, ◌∙◌, arith, rules, tests, codes, decimal}
+use lib.Signed.{mag}
+use Rattle.std.specs.List.{All, AllByRecursion, AllWithin, HoldsAt, join_with_byte}
+use Rattle.std.specs.Fmt.{signed_decimal}
+use Rattle.std.specs.Cmp.Lexicographic.{same_text, pointwise}
+use Rattle.std.specs.Str.{IsUtf8}
+use Rattle.std.specs.Str.Parse.{AllDigits, digits_value, ParsesUnsigned}
+use Rattle.std.proofs.lemmas.Fmt.{decimal_is_IsNumeral, signed_decimal_injective, first_decimal, decimal_nonempty, IsAscii-decimal, decimal-digits_value, decimal_digit, decimal_injective}
+use Rattle.std.proofs.lemmas.Str.{IsUtf8-from_ascii}
+use Rattle.std.proofs.lemmas.Str.Parse.{digit_from_value, IsNumeralModel, numerals_by_value, tells_digits, parse_plain}
+use Rattle.std.proofs.lemmas.List.{get_or-take, take-append-drop, length-take, map-append}
+use Rattle.std.proofs.Math.Seq.{drop-cons}
+use Rattle.std.proofs.lemmas.List.Elements.{All-from_recursion, recursion_from_All}
+use Rattle.std.proofs.lemmas.List.Splits.{slice_split_none, slice_split_at, join_with_byte-slice_split, length-slice_split}
+use Rattle.varisat_formula.specs.Numbers.{literal_number}
+use Rattle.varisat.specs.Lines.{Line, Add, New, Solve, Model, Means, MeansOneLine, IsInRange, words, words_of, spelling, literal_text}
+
+abbrev pub NoSpace : List ℕ → Type 0
+NoSpace word = All (λ b. (b == 32) ≡ false) word
+
+no_space : (word : List ℕ) → AllByRecursion (λ b. (b == 32) ≡ false) word → NoSpace word
+no_space word h = All-from_recursion (λ b. (b == 32) ≡ false) word h
+
+digit_is_no_space : (c : ℕ) → 48 ≤ c → (c == 32) ≡ false
+digit_is_no_space c h = search (rules, h)
+
+digits_have_no_space : (ds : List ℕ) → AllDigits 10 ds → AllByRecursion (λ b. (b == 32) ≡ false) ds
+digits_have_no_space [] h = tt
+digits_have_no_space (c ∷ cs) (h, hs) =
+    let r = digit_from_value c h in (digit_is_no_space c (omega arith), digits_have_no_space cs hs)
+
+decimal_has_no_space : (n : ℕ) → n < 2 ^ 64 → AllByRecursion (λ b. (b == 32) ≡ false) (decimal n)
+decimal_has_no_space n h = digits_have_no_space (decimal n) (decimal_is_IsNumeral n h).0.1
+
+-- what the number of a literal is
+pub record HasNumber (l : ℕ) (z : ℤ) : Type 0 where
+  pub v : ℕ
+  pub is : ((l ≡ 2 * v) × (z ≡ pos (v + 1))) ⊎ ((l ≡ 2 * v + 1) × (z ≡ negsuc v))
+
+number_case : (l : ℕ) (t : Bool) → nat_eq (l % 2) 0 ≡ t → HasNumber l (if t then pos (l / 2 + 1) else negsuc (l / 2))
+number_case l true h = let n : l % 2 ≡ 0 = search (rules, tests, h) in record { v = l / 2; is = inl (omega arith, refl) }
+number_case l false h = let n : l % 2 ≢ 0 = search (rules, tests, h) in record { v = l / 2; is = inr (omega arith, refl) }
+
+pub has_number : (l : ℕ) → HasNumber l (literal_number l)
+has_number l = number_case l (nat_eq (l % 2) 0) refl
+
+pub numbers_apart : (l m : ℕ) → literal_number l ≡ literal_number m → l ≡ m
+numbers_apart l m e = apart l m (literal_number l) (literal_number m) e (has_number l) (has_number m)
+  where
+    cases : (l m : ℕ) (y z : ℤ) (v w : ℕ) → y ≡ z → ((l ≡ 2 * v) × (y ≡ pos (v + 1))) ⊎ ((l ≡ 2 * v + 1) × (y ≡ negsuc v)) → ((m ≡ 2 * w) × (z ≡ pos (w + 1))) ⊎ ((m ≡ 2 * w + 1) × (z ≡ negsuc w)) → l ≡ m
+    cases l m y z v w e (inl (a, b)) (inl (c, d)) = let k : v + 1 ≡ w + 1 = cc in omega arith
+    cases l m y z v w e (inl (a, b)) (inr (c, d)) = absurd cc
+    cases l m y z v w e (inr (a, b)) (inl (c, d)) = absurd cc
+    cases l m y z v w e (inr (a, b)) (inr (c, d)) = let k : v ≡ w = cc in omega arith
+
+    apart : (l m : ℕ) (y z : ℤ) → y ≡ z → HasNumber l y → HasNumber m z → l ≡ m
+    apart l m y z e a b = cases l m y z a.v b.v e a.is b.is
+
+small_case : (l v : ℕ) (z : ℤ) → l < 2 ^ 32 → ((l ≡ 2 * v) × (z ≡ pos (v + 1))) ⊎ ((l ≡ 2 * v + 1) × (z ≡ negsuc v)) → mag z < 2 ^ 63
+small_case l v z h (inl (a, b)) = rw b (omega arith)
+small_case l v z h (inr (a, b)) = rw b (omega arith)
+
+pub number_is_small : (l : ℕ) → l < 2 ^ 32 → mag (literal_number l) < 2 ^ 63
+number_is_small l h = let n = has_number l in small_case l n.v (literal_number l) h n.is
+
+pub texts_apart : (l m : ℕ) → l < 2 ^ 32 → m < 2 ^ 32 → literal_text l ≡ literal_text m → l ≡ m
+texts_apart l m h k e = numbers_apart l m (signed_decimal_injective (literal_number l) (literal_number m) (number_is_small l h) (number_is_small m k) e)
+
+no_space_case : (l v : ℕ) (z : ℤ) → l < 2 ^ 32 → ((l ≡ 2 * v) × (z ≡ pos (v + 1))) ⊎ ((l ≡ 2 * v + 1) × (z ≡ negsuc v)) → AllByRecursion (λ b. (b == 32) ≡ false) (signed_decimal z)
+no_space_case l v z h (inl (a, b)) = rw b (decimal_has_no_space (v + 1) (omega arith))
+no_space_case l v z h (inr (a, b)) = rw b (refl, decimal_has_no_space (suc v) (omega arith))
+
+pub literal_has_no_space : (l : ℕ) → l < 2 ^ 32 → NoSpace (literal_text l)
+literal_has_no_space l h = let n = has_number l in no_space (literal_text l) (no_space_case l n.v (literal_number l) h n.is)
+
+texts_have_no_space : (ls : List ℕ) → AllByRecursion (λ l. l < 2 ^ 32) ls → AllByRecursion NoSpace (map literal_text ls)
+texts_have_no_space [] h = tt
+texts_have_no_space (l ∷ ls) (h, hs) = (literal_has_no_space l h, texts_have_no_space ls hs)
+
+pub words_have_no_space : (line : Line) → IsInRange line → AllByRecursion NoSpace (words line)
+words_have_no_space (Add ls) h = (no_space (codes "add") (refl, (refl, (refl, tt))), texts_have_no_space ls (recursion_from_All (λ l. l < 2 ^ 32) ls h))
+words_have_no_space New h = (no_space (codes "new") (refl, (refl, (refl, tt))), tt)
+words_have_no_space Solve h = (no_space (codes "solve") (refl, (refl, (refl, (refl, (refl, tt))))), tt)
+words_have_no_space Model h = (no_space (codes "model") (refl, (refl, (refl, (refl, (refl, tt))))), tt)
+
+-- words that are joined are parted again
+pub words_of_joined : (w : List ℕ) (ws : List (List ℕ)) → AllByRecursion NoSpace (w ∷ ws) → words_of (join_with_byte 32 (w ∷ ws)) ≡ w ∷ ws
+words_of_joined w [] (h, hs) = slice_split_none (λ b. b == 32) w h
+words_of_joined w (x ∷ xs) (h, hs) = slice_split_at (λ b. b == 32) w 32 (join_with_byte 32 (x ∷ xs)) h refl ∙ ap (λ l. w ∷ l) (words_of_joined x xs hs)
+
+words_of_spelled : (line : Line) → IsInRange line → words_of (spelling line) ≡ words line
+words_of_spelled (Add ls) h = words_of_joined (codes "add") (map literal_text ls) (words_have_no_space (Add ls) h)
+words_of_spelled New h = words_of_joined (codes "new") [] (words_have_no_space New h)
+words_of_spelled Solve h = words_of_joined (codes "solve") [] (words_have_no_space Solve h)
+words_of_spelled Model h = words_of_joined (codes "model") [] (words_have_no_space Model h)
+
+pub words_of_meant : (text : List ℕ) (line : Line) → Means text line → words_of text ≡ words line
+words_of_meant text line m = ap words_of (sym m.spelled) ∙ words_of_spelled line m.in_range
+
+lists_apart : (ls ms : List ℕ) → AllByRecursion (λ l. l < 2 ^ 32) ls → AllByRecursion (λ l. l < 2 ^ 32) ms → map literal_text ls ≡ map literal_text ms → ls ≡ ms
+lists_apart [] [] h k e = refl
+lists_apart [] (m ∷ ms) h k e = absurd cc
+lists_apart (l ∷ ls) [] h k e = absurd cc
+lists_apart (l ∷ ls) (m ∷ ms) (h, hs) (k, ks) e =
+    let heads : literal_text l ≡ literal_text m = cc in
+    let tails : map literal_text ls ≡ map literal_text ms = cc in
+    let one = texts_apart l m h k heads in
+    let others = lists_apart ls ms hs ks tails in cc
+
+adds_apart : (ls ms : List ℕ) → All (λ l. l < 2 ^ 32) ls → All (λ l. l < 2 ^ 32) ms → words (Add ls) ≡ words (Add ms) → Add ls ≡ Add ms
+adds_apart ls ms h k e =
+    let tails : map literal_text ls ≡ map literal_text ms = cc in
+    ap Add (lists_apart ls ms (recursion_from_All (λ l. l < 2 ^ 32) ls h) (recursion_from_All (λ l. l < 2 ^ 32) ms k) tails)
+
+-- the bytes of the first word as one number, by which the kinds of lines differ
+abbrev first_word_number : List (List ℕ) → ℕ
+first_word_number [] = 0
+first_word_number (word ∷ ws) = fold (λ n b. 256 * n + b) 0 word
+
+pub words_apart : (a b : Line) → IsInRange a → IsInRange b → words a ≡ words b → a ≡ b
+words_apart (Add ls) (Add ms) h k e = adds_apart ls ms h k e
+words_apart New New h k e = refl
+words_apart Solve Solve h k e = refl
+words_apart Model Model h k e = refl
+words_apart a b h k e = let n : first_word_number (words a) ≡ first_word_number (words b) = ap first_word_number e in absurd (omega arith)
+
+pub one_line : MeansOneLine
+one_line text a b m n = words_apart a b m.in_range n.in_range (sym (words_of_meant text a m) ∙ words_of_meant text b n)
+
+-- a variable's number begins with a digit other than 0
+pub begins_above : (v : ℕ) (ds : List ℕ) → v < 2 ^ 31 → decimal (v + 1) ≡ ds → 48 < get_or ds 0 0
+begins_above v ds h e = subst (λ xs. 48 < get_or xs 0 0) e (first_decimal (v + 1) (omega arith) (omega arith))
+
+pub nonempty : (v : ℕ) (ds : List ℕ) → v < 2 ^ 31 → decimal (v + 1) ≡ ds → 0 < length ds
+nonempty v ds h e = subst (λ xs. 0 < length xs) e (decimal_nonempty (v + 1) (omega arith))
+
+pub is_utf8 : (v : ℕ) (ds : List ℕ) → v < 2 ^ 31 → decimal (v + 1) ≡ ds → IsUtf8 ds
+is_utf8 v ds h e = subst IsUtf8 e (IsUtf8-from_ascii (decimal (v + 1)) (IsAscii-decimal (v + 1) (omega arith)))
+
+-- digits that begin with none of `+` and `0` are the number's text
+own : IsNumeralModel (AllDigits 10) (digits_value 10)
+own = numerals_by_value (AllDigits 10) tells_digits
+
+pub record Reads (text : List ℕ) (n : ℕ) : Type 0 where
+  pub written : decimal n ≡ text
+  pub positive : 1 ≤ n
+  pub small : n < 2 ^ 32
+
+positive_case : (n : ℕ) (text : List ℕ) → decimal n ≡ text → get_or text 0 0 ≢ 48 → 1 ≤ n
+positive_case zero text e h = absurd (h (ap (λ xs. get_or xs 0 0) (sym e ∙ decimal_digit 0 (omega arith))))
+positive_case (suc n) text e h = omega arith
+
+parsed : (ds : List ℕ) (n : ℕ) → get_or ds 0 0 ≢ 43 → get_or ds 0 0 ≢ 48 → ParsesUnsigned {E = ℕ} 32 10 ds (Ok n) → Reads ds n
+parsed ds n plus nought p =
+    let r = parse_plain own {E = ℕ} 32 ds (Ok n) p plus in
+    let written : decimal n ≡ ds = subst (λ k. decimal k ≡ ds) (sym r.1) (decimal-digits_value own ds r.0.0 r.0.1 (λ z. absurd (nought z)) (omega (arith, r.0.2))) in
+    record { written = written; positive = positive_case n ds written nought; small = omega (arith, r.0.2, r.1) }
+
+pub reads : (ds text : List ℕ) (first n : ℕ) → ds ≡ text → first ≡ get_or text 0 0 → first ≢ 43 → first ≢ 48 → ParsesUnsigned {E = ℕ} 32 10 ds (Ok n) → Reads text n
+reads ds text first n e f plus nought p =
+    subst (λ xs. Reads xs n) e (parsed ds n (λ k. plus (f ∙ ap (λ xs. get_or xs 0 0) (sym e) ∙ k)) (λ k. nought (f ∙ ap (λ xs. get_or xs 0 0) (sym e) ∙ k)) p)
+
+pub reads_one : (text : List ℕ) (n v : ℕ) → Reads text n → v < 2 ^ 31 → decimal (v + 1) ≡ text → n ≡ v + 1
+reads_one text n v r h e = decimal_injective n (v + 1) (omega (arith, r.small)) (omega arith) (r.written ∙ sym e)
+
+-- behind a `-` stands the number of a variable
+behind_case : (l v : ℕ) (z : ℤ) (text digits : List ℕ) → l < 2 ^ 32 → ((l ≡ 2 * v) × (z ≡ pos (v + 1))) ⊎ ((l ≡ 2 * v + 1) × (z ≡ negsuc v)) →
+    take 1 text ≡ 45 ∷ [] → digits ≡ drop 1 text → signed_decimal z ≡ text → (v < 2 ^ 31) × (decimal (v + 1) ≡ digits)
+behind_case l v z text digits h (inl (a, b)) t d e =
+    let w : decimal (v + 1) ≡ text = ap signed_decimal (sym b) ∙ e in
+    let k = begins_above v text (omega arith) w in
+    let f : get_or text 0 0 ≡ 45 = first_taken text 45 t in absurd (omega arith)
+  where
+    first_taken : (xs : List ℕ) (b : ℕ) → take 1 xs ≡ b ∷ [] → get_or xs 0 0 ≡ b
+    first_taken [] b e = absurd cc
+    first_taken (x ∷ xs) b e = cc
+behind_case l v z text digits h (inr (a, b)) t d e =
+    (omega arith, ap decimal (omega arith) ∙ ap (drop 1) (ap signed_decimal (sym b) ∙ e) ∙ sym d)
+
+pub no_literal : (text digits : List ℕ) → true ≡ pointwise nat_eq (take 1 text) (45 ∷ []) → digits ≡ drop 1 text → ((v : ℕ) → v < 2 ^ 31 → decimal (v + 1) ≢ digits) → (l : ℕ) → l < 2 ^ 32 → literal_text l ≢ text
+no_literal text digits t d none l h e =
+    let n = has_number l in
+    let r = behind_case l n.v (literal_number l) text digits h n.is (same_text (take 1 text) (45 ∷ []) t) d e in none n.v r.0 r.1
+
+-- a text is cut behind its first word
+pub word_cut : (text : List ℕ) (i : ℕ) → i < length text → HoldsAt (λ b. (b == 32) ≡ true) text i → AllWithin (λ b. (b == 32) ≡ false) text 0 i →
+    words_of text ≡ take i text ∷ words_of (drop (i + 1) text)
+word_cut text i h at before =
+    let front : NoSpace (take i text) = λ k d l. let k_below : k < i = omega (arith, length-take i text) in rw get_or-take (before k d (omega arith) k_below) in
+    let parts : take i text ++ get_or text i 0 ∷ drop (suc i) text ≡ text = ap (λ xs. take i text ++ xs) (sym (drop-cons text i 0 h)) ∙ take-append-drop i text in
+    let up : suc i ≡ i + 1 = omega arith in
+    ap words_of (sym parts) ∙ slice_split_at (λ b. b == 32) (take i text) (get_or text i 0) (drop (suc i) text) front (at 0) ∙ ap (λ n. take i text ∷ words_of (drop n text)) up
+
+pub word_alone : (text : List ℕ) → AllWithin (λ b. (b == 32) ≡ false) text 0 (length text) → words_of text ≡ text ∷ []
+word_alone text h = slice_split_none (λ b. b == 32) text (λ k d l. h k d (omega arith) l)
+
+-- the words that are still to be read
+abbrev pub words_left : Option (Bor (List ℕ)) → List (List ℕ)
+words_left None = []
+words_left (Some text) = words_of text.now
+
+abbrev pub bytes_left : Option (Bor (List ℕ)) → ℕ
+bytes_left None = 0
+bytes_left (Some text) = length text.now + 1
+
+pub first_word : (text word : List ℕ) (others : Option (Bor (List ℕ))) → IfNone others (words_of text ≡ word ∷ []) → IfSome others (λ rest. words_of text ≡ word ∷ words_of rest.now) →
+    words_of text ≡ word ∷ words_left others
+first_word text word None e f = e
+first_word text word (Some rest) e f = f
+
+pub none_left : (rest : Option (Bor (List ℕ))) → ((text : Bor (List ℕ)) → rest ≢ Some text) → words_left rest ≡ []
+none_left None h = refl
+none_left (Some text) h = absurd (h text refl)
+
+pub one_more_read : (ls : List ℕ) (l : ℕ) (word : List ℕ) (others all : List (List ℕ)) → map literal_text ls ++ word ∷ others ≡ all → literal_text l ≡ word →
+    map literal_text (ls ++ l ∷ []) ++ others ≡ all
+one_more_read ls l word others all e f =
+    ap (λ xs. xs ++ others) (map-append literal_text ls (l ∷ [])) ∙ append_assoc (map literal_text ls) (literal_text l ∷ []) others ∙ ap (λ w. map literal_text ls ++ w ∷ others) f ∙ e
+
+joined_behind : (word : List ℕ) (ws : List (List ℕ)) → 0 < length ws → join_with_byte 32 (word ∷ ws) ≡ word ++ (32 ∷ join_with_byte 32 ws)
+joined_behind word [] h = absurd (omega arith)
+joined_behind word (x ∷ xs) h = refl
+
+-- a clause whose literals were all read
+pub clause_read : (numbers ls : List ℕ) → map literal_text ls ++ [] ≡ words_of numbers → All (λ l. l < 2 ^ 32) ls → Means (codes "add " ++ numbers) (Add ls)
+clause_read numbers ls e h = record {
+  spelled =
+      ap (λ ws. join_with_byte 32 (codes "add" ∷ ws)) (sym (append-nil (map literal_text ls)) ∙ e) ∙
+      joined_behind (codes "add") (words_of numbers) (omega (arith, length-slice_split (λ b. b == 32) numbers)) ∙
+      ap (λ xs. codes "add" ++ (32 ∷ xs)) (join_with_byte-slice_split 32 numbers);
+  in_range = h;
+}
+
+-- a word that is no literal stands in no clause
+not_among : (ls ms word : List ℕ) (others : List (List ℕ)) → AllByRecursion (λ l. l < 2 ^ 32) ms → ((m : ℕ) → m < 2 ^ 32 → literal_text m ≢ word) →
+    map literal_text ls ++ word ∷ others ≡ map literal_text ms → ⊥
+not_among [] [] word others h none e = absurd cc
+not_among [] (m ∷ ms) word others (h, hs) none e = let k : literal_text m ≡ word = cc in none m h k
+not_among (l ∷ ls) [] word others h none e = absurd cc
+not_among (l ∷ ls) (m ∷ ms) word others (h, hs) none e =
+    let tails : map literal_text ls ++ word ∷ others ≡ map literal_text ms = cc in not_among ls ms word others hs none tails
+
+tails_same : (a b : List ℕ) (xs ys : List (List ℕ)) → a ∷ xs ≡ b ∷ ys → xs ≡ ys
+tails_same a b xs ys e = cc
+
+no_clause_case : (numbers ls word : List ℕ) (others : List (List ℕ)) (line : Line) → IsInRange line → ((m : ℕ) → m < 2 ^ 32 → literal_text m ≢ word) →
+    map literal_text ls ++ word ∷ others ≡ words_of numbers → codes "add" ∷ words_of numbers ≡ words line → ⊥
+no_clause_case numbers ls word others (Add ms) h none e w =
+    not_among ls ms word others (recursion_from_All (λ l. l < 2 ^ 32) ms h) none (e ∙ tails_same (codes "add") (codes "add") (words_of numbers) (map literal_text ms) w)
+no_clause_case numbers ls word others line h none e w =
+    let n : first_word_number (codes "add" ∷ words_of numbers) ≡ first_word_number (words line) = ap first_word_number w in absurd (omega arith)
+
+pub no_clause : (numbers ls word : List ℕ) (others : List (List ℕ)) → ((m : ℕ) → m < 2 ^ 32 → literal_text m ≢ word) →
+    map literal_text ls ++ word ∷ others ≡ words_of numbers → (line : Line) → Means (codes "add " ++ numbers) line → ⊥
+no_clause numbers ls word others none e line m =
+    no_clause_case numbers ls word others line m.in_range none e (words_of_meant (codes "add " ++ numbers) line m)

@@ -1,0 +1,20 @@
+use Rattle.std.proofs.Common.{List, ℕ, subst}
+use Rattle.varisat.specs.Calls.{AddsClause}
+use Rattle.varisat.proofs.session.make_call.Goals as goal
+
+pub returns-in-AddClause : goal.returns-in-AddClause
+returns-in-AddClause g c s st =
+    let (t, a, w) = c.add_clause.ensures s st in
+    rw c.in-AddClause.is (t, subst (λ (d : List ℕ). AddsClause s d c.add_clause.result t) c.deref.ensures.value a, w)
+
+pub returns-in-NewVar : goal.returns-in-NewVar
+returns-in-NewVar g c s st = rw c.in-NewVar.is (c.new_var.ensures s st)
+
+pub returns-in-Solve : goal.returns-in-Solve
+returns-in-Solve g c s st = rw c.in-Solve.is (c.solve.ensures.call s st)
+
+pub returns-in-Model : goal.returns-in-Model
+returns-in-Model g c s st = rw c.in-Model.is (c.model.ensures.call s st)
+
+pub returns-in-IsValid : goal.returns-in-IsValid
+returns-in-IsValid g c s st = rw c.in-IsValid.is (c.is_valid.ensures s st)

@@ -1,0 +1,35 @@
+-- The models that are told.
+use Rattle.std.specs.Prelude.{◌≡◌, ℕ, zero, suc, ◌≤◌, false, Option, Some, None, List, [], ◌∷◌, map}
+use Rattle.varisat_theory.specs.Membership.{◌∈◌}
+use Rattle.varisat_theory.specs.Literals.{Literal, Assignment, variable_of, literal_of, SatisfiesAll, MakesTrue}
+use Rattle.varisat.specs.States.{State, Verdict, Unknown, Sat, Unsat}
+use Rattle.varisat.specs.Names.{through_names}
+
+-- the literal of a name in use, in front of others
+abbrev pub put_name : ℕ → Option ℕ → Assignment → List Literal → List Literal
+put_name u None found rest = rest
+put_name u (Some i) found rest = literal_of u (found i) ∷ rest
+
+-- the names in use among the k names from u on, in increasing order, with the values of their identities
+abbrev pub list_names : State → Assignment → ℕ → ℕ → List Literal
+list_names s found u zero = []
+list_names s found u (suc k) = put_name u (s.names u) found (list_names s found (suc u) k)
+
+-- Under Sat the names in use with the values that were found, else nothing.
+abbrev pub model_of : State → Verdict → Option (List Literal)
+model_of s Unknown = None
+model_of s (Sat found) = Some (list_names s found 0 s.watermark)
+model_of s Unsat = None
+
+-- each name is higher than those before it, and the first is not below `low`
+abbrev pub IsRising : ℕ → List Literal → Type 0
+IsRising low [] = Unit {0}
+IsRising low (l ∷ ls) = (low ≤ variable_of l) × IsRising (suc (variable_of l)) ls
+
+-- A completable model: exactly the names in use, each once and in increasing order, such that some assignment agrees with the list through the names and satisfies the accepted clauses and the assumptions. A name whose identity is not counted is listed false.
+pub record IsCompletable (s : State) (model : List Literal) : Type 0 where
+  pub rising : IsRising 0 model
+  pub all_listed : (u i : ℕ) → s.names u ≡ Some i → (l : Literal) × (l ∈ model) × (variable_of l ≡ u)
+  pub in_use : (l : Literal) → l ∈ model → (i : ℕ) × (s.names (variable_of l) ≡ Some i)
+  pub uncounted : (l : Literal) (i : ℕ) → l ∈ model → s.names (variable_of l) ≡ Some i → (i ∈ s.counted → ⊥) → l ≡ literal_of (variable_of l) false
+  pub satisfied : (a : Assignment) × MakesTrue a (map (through_names s) model) × SatisfiesAll a s.clauses × MakesTrue a s.assumptions

@@ -1,0 +1,9 @@
+-- The numbers under which the refusals are told.
+use Rattle.std.specs.Prelude.{ℕ}
+use Rattle.varisat.specs.declared.solver.SolverError.{SolverError}
+use Rattle.varisat.specs.declared.solver.SolverError.TheVariants.{OutOfMemory, Invalid, VariableLimit}
+
+abbrev pub refusal_number : SolverError → ℕ
+refusal_number OutOfMemory = 3
+refusal_number Invalid = 4
+refusal_number VariableLimit = 7

@@ -1,0 +1,67 @@
+-- What a user can know of a solver.
+use Rattle.std.specs.Prelude.{◌≡◌, ℕ, ◌<◌, ◌≤◌, Bool, true, false, Option, Some, None, List, []}
+use Rattle.varisat_theory.specs.Membership.{◌∈◌}
+use Rattle.varisat_theory.specs.Literals.{Literal, Clause, Assignment, variable_of, SatisfiesAll, MakesTrue, IsSatisfiable}
+
+-- A name is a number by which the user speaks of a variable. An identity is a number that is given to a variable once and never again: a name may become free, and come back with another identity.
+
+-- How a name in use may be used: clauses and assumptions may name a sampled one, and not a witness.
+pub data Mode : Type 0 where
+  Sample : Mode
+  Witness : Mode
+
+-- What is known of the accepted clauses. Under `Sat` an assignment of the identities was found.
+pub data Verdict : Type 0 where
+  Unknown : Verdict
+  Sat : Assignment → Verdict
+  Unsat : Verdict
+
+-- The flags. `valid`: no error came from which there is no way back. `started`: a clause or a variable was accepted.
+pub record Ledger : Type 0 where
+  pub valid : Bool
+  pub started : Bool
+
+-- The identities made are those below `made`. `names` gives the identity of each name in use, and `watermark` is one above the highest name ever in use. `modes`: the mode of each identity in use. `clauses`: those accepted, over identities. `assumptions`: the list as given, over identities. `counted`: the identities that accepted clauses and assumption lists have named so far.
+pub record State : Type 0 where
+  pub made : ℕ
+  pub names : ℕ → Option ℕ
+  pub watermark : ℕ
+  pub modes : ℕ → Mode
+  pub clauses : List Clause
+  pub assumptions : List Literal
+  pub counted : List ℕ
+  pub verdict : Verdict
+  pub ledger : Ledger
+
+-- a new solver's state
+abbrev pub empty_state : State
+empty_state = record {
+  made = 0;
+  names = λ u. None;
+  watermark = 0;
+  modes = λ i. Sample;
+  clauses = [];
+  assumptions = [];
+  counted = [];
+  verdict = Unknown;
+  ledger = record { valid = true; started = false };
+}
+
+-- What is true of each state: names stand for different identities, none is in use from the watermark on, and identities that are spoken of were made.
+pub record IsWellFormed (s : State) : Type 0 where
+  pub one_to_one : (u v i : ℕ) → s.names u ≡ Some i → s.names v ≡ Some i → u ≡ v
+  pub free : (u : ℕ) → s.watermark ≤ u → s.names u ≡ None
+  pub named : (u i : ℕ) → s.names u ≡ Some i → i < s.made
+  pub accepted : (c : Clause) (l : Literal) → c ∈ s.clauses → l ∈ c → variable_of l < s.made
+  pub assumed : (l : Literal) → l ∈ s.assumptions → variable_of l < s.made
+  pub counted : (i : ℕ) → i ∈ s.counted → i < s.made
+
+-- What a verdict claims: an assignment that was found satisfies the clauses and the assumptions, and is false on each identity that is not counted; Unsat stands only where no assignment satisfies the clauses.
+abbrev pub IsRight : List Clause → List Literal → List ℕ → Verdict → Type 0
+IsRight clauses assumptions counted Unknown = Unit {0}
+IsRight clauses assumptions counted (Sat found) =
+    SatisfiesAll found clauses × MakesTrue found assumptions × ((i : ℕ) → (i ∈ counted → ⊥) → found i ≡ false)
+IsRight clauses assumptions counted Unsat = IsSatisfiable clauses → ⊥
+
+abbrev pub HasRightVerdict : State → Type 0
+HasRightVerdict s = IsRight s.clauses s.assumptions s.counted s.verdict

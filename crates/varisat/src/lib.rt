@@ -1,0 +1,14 @@
+//! A SAT solver that is called again and again on one growing formula.
+#![tactic(auto)]
+
+mod line;
+mod load;
+pub mod program;
+mod prop;
+mod search;
+pub mod session;
+pub mod solver;
+
+pub use solver::{Solver, SolverError};
+pub use varisat_formula::formula::{Lit, Var};
+pub use varisat_formula::{formula, io, lit, lits, var};

@@ -1,0 +1,166 @@
+//! The lines of a session: reading one line as a call, and writing the answer.
+ghost use Rattle.std.specs.Prelude.{◌≡◌, ◌≢◌, ◌==◌, ℕ, ◌+◌, ◌<◌, ◌≤◌, ◌^◌, List, [], ◌∷◌, ◌++◌, map, Some, IsTrue, IfOk, IfSome, IfNone, OnOk, decimal, length, codes};
+ghost use Rattle.std.specs.List.{All, join_with_byte};
+ghost use Rattle.std.specs.Io.KnownBytes.{Appends};
+ghost use Rattle.varisat_theory.specs.Literals.{Literal};
+ghost use Rattle.varisat.specs.Lines.{Line, Add, words, Means, MeansOneLine, line_of, words_of, literal_text, variable_text, literals_text, refusal_text, answer_text};
+
+use crate::session::{Answer, Call};
+use crate::solver::SolverError;
+use itoa::Buffer;
+use std::alloc::{AllocError, Allocator};
+use std::io::{self, Write};
+use std::str;
+use varisat_formula::formula::{Lit, Var};
+
+// The highest number of a variable.
+const MAX_NUMBER: u32 = 0x8000_0000;
+
+/// Reads a line, without its line feed. None is for a text that is no line; only want of memory is an error.
+pub fn parse_line<A: Allocator + Copy>(alloc: A, text: &[u8]) -> Result<Option<Call<A>>, AllocError>
+    ensures line { IfOk result (λ found. IfSome found (λ call. (line : Line) × (line_of call ≡ Some line) × Means text.now line)) }
+    ensures no_line { IfOk result (λ found. IfNone found ((line : Line) → Means text.now line → ⊥)) }
+{
+    match text.strip_prefix(b"add ") {
+        Some(numbers) => match parse_literals(alloc, numbers)? {
+            Some(literals) => Ok(Some(Call::AddClause(literals))),
+            None => Ok(None),
+        },
+        None => Ok(parse_word(alloc, text)),
+    }
+}
+
+// The call of a line that is one word.
+fn parse_word<A: Allocator + Copy>(alloc: A, word: &[u8]) -> Option<Call<A>>
+    ensures line { IfSome result (λ call. (line : Line) × (line_of call ≡ Some line) × Means word.now line) }
+    ensures no_line { IfNone result ((line : Line) → Means word.now line → 1 < length (words line)) }
+{
+    if word == b"add".as_slice() {
+        Some(Call::AddClause(Vec::new(alloc)))
+    } else if word == b"new".as_slice() {
+        Some(Call::NewVar)
+    } else if word == b"solve".as_slice() {
+        Some(Call::Solve)
+    } else if word == b"model".as_slice() {
+        Some(Call::Model)
+    } else {
+        None
+    }
+}
+
+// The literals of a line that begins with `add` and a space, from what follows.
+fn parse_literals<A: Allocator + Copy>(
+    alloc: A,
+    numbers: &[u8],
+) -> Result<Option<Vec<Lit, A>>, AllocError>
+    ensures line { IfOk result (λ found. IfSome found (λ literals. Means (codes "add " ++ numbers.now) (Add literals.items))) }
+    ensures no_line { IfOk result (λ found. IfNone found ((line : Line) → Means (codes "add " ++ numbers.now) line → ⊥)) }
+{
+    let mut literals = Vec::new(alloc);
+    let mut rest = Some(numbers);
+    while let Some(text) = rest {
+        let (number, others) = split_word(text);
+        match parse_literal(number) {
+            Some(literal) => literals.push(literal)?,
+            None => return Ok(None),
+        }
+        rest = others;
+    }
+    Ok(Some(literals))
+}
+
+// What stands before the first space, and what behind it, if there is one.
+fn split_word(text: &[u8]) -> (&[u8], Option<&[u8]>)
+    ensures last { IfNone result.1 (words_of text.now ≡ result.0.now ∷ []) }
+    ensures more { IfSome result.1 (λ rest. words_of text.now ≡ result.0.now ∷ words_of rest.now) }
+    ensures shorter { IfSome result.1 (λ rest. length rest.now < length text.now) }
+{
+    match text.iter().position(|byte| *byte == b' ') {
+        Some(end) => (&text[..end], Some(&text[end + 1..])),
+        None => (text, None),
+    }
+}
+
+/// The literal of a DIMACS number, which is an optional `-` and digits without a leading zero, from 1 to 2^31.
+pub fn parse_literal(number: &[u8]) -> Option<Lit>
+    ensures literal { IfSome result (λ l. (literal_text l ≡ number.now) × (l < 2 ^ 32)) }
+    ensures no_literal { IfNone result ((l : Literal) → l < 2 ^ 32 → literal_text l ≢ number.now) }
+{
+    match number.strip_prefix(b"-") {
+        Some(digits) => Some(parse_variable(digits)?.lit(false)),
+        None => Some(parse_variable(number)?.lit(true)),
+    }
+}
+
+/// The variable of a DIMACS number, which is digits without a leading zero, from 1 to 2^31.
+pub fn parse_variable(number: &[u8]) -> Option<Var>
+    ensures variable { IfSome result (λ v. (variable_text v ≡ number.now) × (v < 2 ^ 31)) }
+    ensures no_variable { IfNone result ((v : ℕ) → v < 2 ^ 31 → variable_text v ≢ number.now) }
+{
+    let first = *number.first()?;
+    if first == b'0' || first == b'+' {
+        return None;
+    }
+    let Ok(digits) = str::from_utf8(number) else {
+        return None;
+    };
+    match digits.parse::<u32>() {
+        Ok(value) if value <= MAX_NUMBER => Some(Var::from_index(value as usize - 1)),
+        _ => None,
+    }
+}
+
+/// A text means at most one line.
+pub fn means_one_line()
+    ensures { MeansOneLine }
+{}
+
+/// Writes the answer of a call, without a line feed. An error is the writer's, and a beginning of the answer may be written.
+pub fn write_answer<W: Write, A: Allocator + Copy>(
+    out: &mut W,
+    answer: &Answer<A>,
+) -> io::Result<()>
+    ensures { OnOk result (Appends (W.contents out.old) (W.contents out.new) (answer_text answer.now)) }
+{
+    match answer {
+        Answer::AddClause(Ok(())) => out.write_all(b"ok"),
+        Answer::NewVar(Ok(var)) => {
+            out.write_all(b"ok ")?;
+            out.write_all(Buffer::new().format(var.to_dimacs()).as_bytes())
+        }
+        Answer::Solve(Ok(true)) | Answer::IsValid(true) => out.write_all(b"ok true"),
+        Answer::Solve(Ok(false)) | Answer::IsValid(false) => out.write_all(b"ok false"),
+        Answer::Model(Ok(Some(list))) => {
+            out.write_all(b"ok")?;
+            write_literals(out, list)
+        }
+        Answer::Model(Ok(None)) => out.write_all(b"ok none"),
+        Answer::AddClause(Err(error)) => write_refusal(out, error),
+        Answer::NewVar(Err(error)) => write_refusal(out, error),
+        Answer::Solve(Err(error)) => write_refusal(out, error),
+        Answer::Model(Err(_)) => write_refusal(out, &SolverError::OutOfMemory),
+    }
+}
+
+/// Writes a refusal by its number. Of errors the same holds as of `write_answer`.
+fn write_refusal<W: Write>(out: &mut W, error: &SolverError) -> io::Result<()>
+    ensures { OnOk result (Appends (W.contents out.old) (W.contents out.new) (refusal_text error.now)) }
+{
+    out.write_all(b"err ")?;
+    out.write_all(Buffer::new().format(error.number()).as_bytes())
+}
+
+/// Writes the literals' DIMACS numbers, each after a space, and then ` 0`. Of errors the same holds as of `write_answer`.
+pub fn write_literals<W: Write>(out: &mut W, literals: &[Lit]) -> io::Result<()>
+    ensures { OnOk result (Appends (W.contents out.old) (W.contents out.new) (literals_text literals.now)) }
+{
+    let mut buffer = Buffer::new();
+    for literal in literals {
+        out.write_all(b" ")?;
+        out.write_all(buffer.format(literal.to_dimacs()).as_bytes())?;
+    }
+    out.write_all(b" 0")
+}
+
+#[cfg(test)]
+mod tests;

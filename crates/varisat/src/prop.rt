@@ -1,0 +1,4 @@
+//! The trail, and unit propagation.
+
+pub mod propagate;
+pub mod trail;

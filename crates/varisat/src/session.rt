@@ -1,0 +1,77 @@
+//! Any list of calls of a solver.
+ghost use Rattle.std.specs.Prelude.{◌≡◌, [], IfOk, OnErr};
+ghost use Rattle.varisat.specs.States.{State, empty_state};
+ghost use Rattle.varisat.specs.Summaries.{StandsFor};
+ghost use Rattle.varisat.specs.Runs.{Gives, Run};
+ghost use Rattle.varisat.specs.Histories.{AreTrue};
+
+use crate::solver::{Solver, SolverError};
+use std::alloc::{AllocError, Allocator};
+use varisat_formula::formula::{Lit, Var};
+use varisat_formula::io::ProofTarget;
+
+/// A call of a solver.
+#[derive(Drop)]
+pub enum Call<A: Allocator + Copy> {
+    AddClause(Vec<Lit, A>),
+    NewVar,
+    Solve,
+    Model,
+    IsValid,
+}
+
+/// What a call answered.
+#[derive(Drop)]
+pub enum Answer<A: Allocator + Copy> {
+    AddClause(Result<(), SolverError>),
+    NewVar(Result<Var, SolverError>),
+    Solve(Result<bool, SolverError>),
+    Model(Result<Option<Vec<Lit, A>>, AllocError>),
+    IsValid(bool),
+}
+
+/// Makes one call.
+pub fn make_call<W: ProofTarget, A: Allocator + Copy>(
+    solver: &mut Solver<W, A>,
+    call: Call<A>,
+) -> Answer<A>
+    ensures { (s : State) → StandsFor solver.old s → (t : State) × Gives s call result t × StandsFor solver.new t }
+{
+    match call {
+        Call::AddClause(clause) => Answer::AddClause(solver.add_clause(&clause)),
+        Call::NewVar => Answer::NewVar(solver.new_var()),
+        Call::Solve => Answer::Solve(solver.solve()),
+        Call::Model => Answer::Model(solver.model()),
+        Call::IsValid => Answer::IsValid(solver.is_valid()),
+    }
+}
+
+/// Makes the calls in turn, and gives their answers in this order. Err comes only before the first call, where the list of answers was refused.
+pub fn run<W: ProofTarget, A: Allocator + Copy>(
+    solver: &mut Solver<W, A>,
+    calls: Vec<Call<A>, A>,
+) -> Result<Vec<Answer<A>, A>, AllocError>
+    ensures run { IfOk result (λ answers. (s : State) → StandsFor solver.old s → (t : State) × Run s calls.items answers.items t × StandsFor solver.new t) }
+    ensures err { OnErr result (solver.new ≡ solver.old) }
+{
+    let mut answers = Vec::with_capacity(*calls.allocator(), calls.len())?;
+    for call in calls {
+        answers.push_reserved(make_call(solver, call));
+    }
+    Ok(answers)
+}
+
+/// The answers of a new solver to the calls. True is answered only if some assignment satisfies all clauses that were accepted until then, false only if none does, and a model that is told is one of them.
+pub fn answers_of<W: ProofTarget, A: Allocator + Copy>(
+    calls: Vec<Call<A>, A>,
+) -> Result<Vec<Answer<A>, A>, AllocError>
+    ensures run { IfOk result (λ answers. (t : State) × Run empty_state calls.items answers.items t) }
+    ensures truth { IfOk result (λ answers. AreTrue [] calls.items answers.items) }
+{
+    let mut solver: Solver<W, A> = Solver::new_in(*calls.allocator());
+    let answers = run(&mut solver, calls)?;
+    Ok(answers)
+}
+
+#[cfg(test)]
+mod tests;

@@ -1,0 +1,249 @@
+//! The solver, and the calls that a user makes.
+ghost use Rattle.std.specs.Prelude.{◌≡◌, ◌<◌, ◌≤◌, ◌^◌, ℕ, List, true, MatchOption, IfOk};
+ghost use Rattle.varisat_theory.specs.Literals.{Literal};
+ghost use Rattle.varisat.specs.Calls.{IsPastLimit};
+ghost use Rattle.varisat.specs.Counts.{count_with, list_values};
+ghost use Rattle.varisat.specs.Trails.{literals_of, assignment_of};
+
+use crate::load::{Loaded, load_clause};
+use crate::prop::trail::Trail;
+use crate::search::search;
+use std::alloc::{AllocError, Allocator};
+use std::marker::Model;
+use thiserror::Error;
+use varisat_formula::formula::{Lit, Var};
+use varisat_formula::io::ProofTarget;
+
+/// Why a call was refused.
+#[derive(Debug, Drop, Error)]
+pub enum SolverError {
+    #[error("Out of memory")]
+    OutOfMemory,
+    #[error("The solver is invalid after an unrecoverable error")]
+    Invalid,
+    #[error("The variable limit is passed")]
+    VariableLimit,
+}
+
+impl SolverError {
+    ghost use Rattle.std.specs.Prelude.{◌↔◌, ◌≡◌, ◌<◌, ◌⊎◌, IsTrue};
+    ghost use Rattle.varisat.specs.Refusals.{refusal_number};
+
+    /// The number under which a session tells the refusal.
+    pub fn number(&self) -> u8
+        ensures { result ≡ refusal_number self.now }
+    {
+        match self {
+            SolverError::OutOfMemory => 3,
+            SolverError::Invalid => 4,
+            SolverError::VariableLimit => 7,
+        }
+    }
+
+    /// Whether the solver can be used as before.
+    pub fn is_recoverable(&self) -> bool
+        ensures { IsTrue result ↔ ((refusal_number self.now < 2) ⊎ (5 < refusal_number self.now)) }
+    {
+        match self {
+            SolverError::OutOfMemory | SolverError::Invalid => false,
+            SolverError::VariableLimit => true,
+        }
+    }
+}
+
+/// What is known of the accepted clauses.
+#[derive(Clone, Copy, Debug, PartialEq, Eq)]
+pub enum SatState {
+    Unknown,
+    Sat,
+    Unsat,
+}
+
+/// How many names are in use once those of the clause are. None where one of them is past the limit.
+fn count_with_clause(clause: &[Lit], var_count: usize) -> Option<usize>
+    requires { var_count ≤ 2 ^ 28 }
+    ensures { MatchOption result (IsPastLimit clause.now)
+        (λ n. (n ≡ count_with var_count clause.now) × (n ≤ 2 ^ 28) × (IsPastLimit clause.now → ⊥)) }
+{
+    let mut count = var_count;
+    for lit in clause {
+        let index = lit.index();
+        if index >= Var::max_count() {
+            return None;
+        }
+        count = count.max(index + 1);
+    }
+    Some(count)
+}
+
+/// The names below the count in increasing order, with their values.
+fn list_model<A: Allocator + Copy>(
+    alloc: A,
+    trail: &Trail<A>,
+    var_count: usize,
+) -> Result<Vec<Lit, A>, AllocError>
+    requires { var_count ≤ 2 ^ 28 }
+    ensures { IfOk result (λ list. list.items ≡ list_values (assignment_of (literals_of trail.now)) 0 var_count) }
+{
+    let mut list = Vec::new(alloc);
+    for index in 0..var_count {
+        let var = Var::from_index(index);
+        list.push(var.lit(trail.is_true(var.lit(true))))?;
+    }
+    Ok(list)
+}
+
+/// A solver of one growing formula. `W` is the type of the targets that proofs are written to.
+#[derive(Drop)]
+pub struct Solver<W: ProofTarget, A: Allocator + Copy> {
+    alloc: A,
+    clauses: Vec<Vec<Lit, A>, A>,
+    trail: Trail<A>,
+    var_count: usize,
+    sat_state: SatState,
+    valid: bool,
+    // Whether a clause or a variable was accepted.
+    started: bool,
+    // Where an open proof would go. No call opens one yet.
+    target: Option<W>,
+}
+
+impl<W: ProofTarget, A: Allocator + Copy> Model for Solver<W, A> {
+    ghost use Rattle.std.specs.Prelude.{◌≡◌, true};
+    ghost use Rattle.varisat.specs.Trails.{literals_of};
+    ghost use Rattle.varisat.specs.Clauses.{clauses_of};
+    ghost use Rattle.varisat.specs.Summaries.{Summary, IsKept};
+
+    ghost Value = { Summary };
+
+    ghost view = { λ c. record { var_count = c.var_count; clauses = clauses_of c.clauses.items; assigned = literals_of c.trail; sat_state = c.sat_state; ledger = record { valid = c.valid; started = c.started } } };
+
+    ghost invariant = { λ c. c.valid ≡ true → IsKept c.var_count (clauses_of c.clauses.items) c.trail c.sat_state };
+}
+
+impl<W: ProofTarget, A: Allocator + Copy> Solver<W, A> {
+    ghost use Rattle.std.specs.Prelude.{◌≡◌, Ok, Some, None, true, false, List, ℕ};
+    ghost use Rattle.varisat_theory.specs.Literals.{IsSatisfiableWith};
+    ghost use Rattle.varisat.specs.States.{State, empty_state};
+    ghost use Rattle.varisat.specs.Models.{model_of, IsCompletable};
+    ghost use Rattle.varisat.specs.Calls.{IsValid, AddsClause, MakesVar, Solves, TellsModel, TellsValid, answer_of};
+    ghost use Rattle.varisat.specs.Told.{told_model};
+    ghost use Rattle.varisat.specs.Summaries.{StandsFor};
+
+    /// A solver with no clause. It takes no memory.
+    pub fn new_in(alloc: A) -> Self
+        ensures { StandsFor result empty_state }
+    {
+        Solver {
+            alloc,
+            clauses: Vec::new(alloc),
+            trail: Trail::new_in(alloc),
+            var_count: 0,
+            sat_state: SatState::Unknown,
+            valid: true,
+            started: false,
+            target: None,
+        }
+    }
+
+    /// False once memory ran out in a call that changes the solver. From then on the other calls are refused, and `model` tells nothing.
+    pub fn is_valid(&self) -> bool
+        ensures { (s : State) → StandsFor self.now s → (t : State) × TellsValid s result t × StandsFor self.now t }
+    {
+        self.valid
+    }
+
+    /// Accepts a clause, and brings its names into use. Once the clauses are known to be unsatisfiable a clause is accepted without a change. Refused in an invalid solver; where a name is past the limit of 2^28 names, and then nothing changes; and where memory runs out.
+    pub fn add_clause(&mut self, clause: &[Lit]) -> Result<(), SolverError>
+        ensures { (s : State) → StandsFor self.old s → (t : State) × AddsClause s clause.now result t × StandsFor self.new t }
+    {
+        if !self.valid {
+            return Err(SolverError::Invalid);
+        }
+        if let SatState::Unsat = self.sat_state {
+            return Ok(());
+        }
+        let Some(count) = count_with_clause(clause, self.var_count) else {
+            return Err(SolverError::VariableLimit);
+        };
+        match load_clause(&mut self.clauses, &mut self.trail, clause) {
+            Ok(loaded) => {
+                self.var_count = count;
+                self.started = true;
+                self.sat_state = match loaded {
+                    Loaded::Consistent => SatState::Unknown,
+                    Loaded::Contradiction => SatState::Unsat,
+                };
+                Ok(())
+            }
+            Err(_) => {
+                self.valid = false;
+                Err(SolverError::OutOfMemory)
+            }
+        }
+    }
+
+    /// Brings the least free name into use. Refused in an invalid solver, and where all 2^28 names are in use.
+    pub fn new_var(&mut self) -> Result<Var, SolverError>
+        ensures { (s : State) → StandsFor self.old s → (t : State) × MakesVar s result t × StandsFor self.new t }
+    {
+        if !self.valid {
+            return Err(SolverError::Invalid);
+        }
+        if self.var_count >= Var::max_count() {
+            return Err(SolverError::VariableLimit);
+        }
+        let index = self.var_count;
+        self.var_count += 1;
+        self.started = true;
+        Ok(Var::from_index(index))
+    }
+
+    /// Whether some assignment satisfies the accepted clauses. Refused in an invalid solver, and where memory runs out.
+    pub fn solve(&mut self) -> Result<bool, SolverError>
+        ensures call { (s : State) → StandsFor self.old s → (t : State) × Solves s result t × StandsFor self.new t }
+        ensures satisfiable { result ≡ Ok true → (s : State) → StandsFor self.old s → IsSatisfiableWith s.clauses s.assumptions }
+        ensures unsatisfiable { result ≡ Ok false → (s : State) → StandsFor self.old s → IsSatisfiableWith s.clauses s.assumptions → ⊥ }
+        ensures model { result ≡ Ok true → (s : State) → StandsFor self.new s → (m : List ℕ) × (model_of s s.verdict ≡ Some m) × IsCompletable s m }
+    {
+        if !self.valid {
+            return Err(SolverError::Invalid);
+        }
+        match self.sat_state {
+            SatState::Sat => Ok(true),
+            SatState::Unsat => Ok(false),
+            SatState::Unknown => match search(&self.clauses, &mut self.trail) {
+                Ok(found) => {
+                    self.sat_state = if found {
+                        SatState::Sat
+                    } else {
+                        SatState::Unsat
+                    };
+                    Ok(found)
+                }
+                Err(_) => {
+                    self.valid = false;
+                    Err(SolverError::OutOfMemory)
+                }
+            },
+        }
+    }
+
+    /// The names in use in increasing order with the values that were found, if the last thing that was found out is that the clauses are satisfiable; else None, as in an invalid solver. Want of memory changes nothing.
+    pub fn model(&self) -> Result<Option<Vec<Lit, A>>, AllocError>
+        ensures call { (s : State) → StandsFor self.now s → (t : State) × TellsModel s (told_model result) t × StandsFor self.now t }
+        ensures completable { (m : List ℕ) → told_model result ≡ Ok (Some m) → (s : State) → StandsFor self.now s → IsCompletable s m }
+        ensures absent { told_model result ≡ Ok None → (s : State) → StandsFor self.now s → IsValid s → answer_of s.verdict ≡ Some true → ⊥ }
+    {
+        if !self.valid {
+            return Ok(None);
+        }
+        match self.sat_state {
+            SatState::Sat => {
+                let list = list_model(self.alloc, &self.trail, self.var_count)?;
+                Ok(Some(list))
+            }
+            SatState::Unknown | SatState::Unsat => Ok(None),
+        }
+    }
+}

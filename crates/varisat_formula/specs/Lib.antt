@@ -1,2 +1,10 @@
+pub mod Dimacs
+pub mod Equality
+pub mod Formulas
+pub mod Machine
 pub mod Memory
 pub mod Numbers
+pub mod Parsed
+pub mod Rest
+pub mod Streams
+pub mod Written

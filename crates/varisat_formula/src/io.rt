@@ -1,7 +1,13 @@
-//! Where proof lines go.
+//! Where bytes are read from, and where proof lines go.
 ghost use Rattle.std.specs.Prelude.{◌≡◌, ℕ, ◌+◌, ◌-◌, ◌<◌, ◌≤◌, ◌^◌, List, [], ◌++◌, OnOk, OnErr, take};
 ghost use Rattle.varisat_formula.specs.Memory.{Memory};
 
+pub mod history;
+pub mod output;
+pub mod source;
+
+pub use output::IoTarget;
+pub use source::{ByteSource, ReadSource};
 use std::alloc::Allocator;
 use std::io;
 use std::marker::Model;

@@ -1,6 +1,7 @@
-// Literals, formulas, and the bytes that proofs are written to.
+// Literals and formulas, DIMACS CNF text, and where bytes are read from and written to.
 #![tactic(auto)]
 
+pub mod dimacs;
 pub mod formula;
 pub mod io;
 mod macros;

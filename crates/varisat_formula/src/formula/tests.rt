@@ -2,8 +2,8 @@ use crate::formula::laws::{
     compared_lits, compared_vars, hashed_lit, hashed_var, number_of_lit, number_of_var,
     numbered_lit, numbered_var, opposite_twice,
 };
-use crate::formula::{Lit, Var};
-use crate::{lit, lits, var};
+use crate::formula::{CnfFormula, ExtendFormula, FormulaError, Lit, Var, new_lits, new_vars};
+use crate::{cnf, cnf_formula, lit, lits, var};
 use std::alloc::AllocError;
 use std::cmp::Ordering;
 use std::hash::{DefaultHasher, Hasher};
@@ -79,5 +79,49 @@ fn printed(rt: HostRuntime) -> Result<(), AllocError> {
     let variable = var!(2147483648);
     let text = format!(in rt.alloc(); "{literal} {literal:?} {last} {variable} {variable:?}")?;
     assert_eq!(rt; text.as_str(), "-2 -2 -2147483648 2147483648 2147483648");
+    Ok(())
+}
+
+#[test]
+fn formulas(rt: HostRuntime) -> Result<(), FormulaError> {
+    let formula = cnf_formula!(in rt.alloc(); 1, -2; 3;)?;
+    assert_eq!(rt; formula.len(), 2);
+    assert_eq!(rt; formula.var_count(), 3);
+    assert!(rt; !formula.is_empty());
+    let mut other = CnfFormula::new_in(rt.alloc());
+    assert!(rt; other.is_empty());
+    other.add_clause(&lits![1, -2])?;
+    assert!(rt; other != formula);
+    other.add_clause(&[lit!(3)])?;
+    assert!(rt; other == formula);
+    other.set_var_count(2);
+    assert!(rt; other == formula);
+    other.set_var_count(5);
+    assert_eq!(rt; other.var_count(), 5);
+    assert!(rt; other != formula);
+    assert!(rt; CnfFormula::from_clauses_in(rt.alloc(), &cnf![1, -2; 3])? == formula);
+    assert_eq!(rt; cnf_formula!(in rt.alloc(); ; 1;)?.len(), 2);
+    assert_eq!(rt; cnf_formula!(in rt.alloc();)?.len(), 0);
+    let mut clauses = formula.iter();
+    assert!(rt; clauses.next() == Some(lits![1, -2].as_slice()));
+    assert!(rt; clauses.next() == Some(lits![3].as_slice()));
+    assert!(rt; clauses.next().is_none());
+    Ok(())
+}
+
+#[test]
+fn new_variables(rt: HostRuntime) -> Result<(), FormulaError> {
+    let mut formula = CnfFormula::new_in(rt.alloc());
+    let [a, b] = new_vars::<_, 2>(&mut formula)?;
+    assert!(rt; (a, b) == (var!(1), var!(2)));
+    let [c, d] = new_lits::<_, 2>(&mut formula)?;
+    assert!(rt; (c, d) == (lit!(3), lit!(4)));
+    assert!(rt; formula.new_var()? == var!(5));
+    assert!(rt; formula.new_lit()? == lit!(6));
+    assert_eq!(rt; formula.var_count(), 6);
+    formula.set_var_count(2147483647);
+    assert!(rt; formula.new_var()? == var!(2147483648));
+    assert!(rt; matches!(&formula.new_var(), Err(FormulaError::Full)));
+    assert_eq!(rt; formula.var_count(), 2147483648);
     Ok(())
 }

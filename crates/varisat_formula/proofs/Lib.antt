@@ -1,0 +1,14 @@
+pub mod Back
+pub mod Buffers
+pub mod Decimal
+pub mod Headers
+pub mod Incremental
+pub mod Kept
+pub mod Known
+pub mod Parsing
+pub mod Putting
+pub mod Rows
+pub mod Steps
+pub mod Taken
+pub mod Walks
+pub mod Words

@@ -1,0 +1,141 @@
+-- Texts that are read from sources, piece by piece.
+use Rattle.std.proofs.Common.{◌≡◌, ℕ, ◌+◌, List, [], ◌++◌, ◌⊎◌, inl, inr, Bool, false, Option, Some, None, Result, Ok, Err, take, drop, refl, sym, ap, subst, ◌∙◌, append_assoc, append-nil, take-append-drop}
+use Rattle.std.specs.Io.KnownBytes.{Consumes, Keeps, IsAtEnd}
+use Rattle.varisat_formula.specs.declared.dimacs.error.DimacsError.{DimacsError}
+use Rattle.varisat_formula.specs.declared.dimacs.error.DimacsErrorKind.TheVariants.{Io, OutOfMemory}
+use Rattle.varisat_formula.specs.Formulas.{Formula}
+use Rattle.varisat_formula.specs.Dimacs.{Ending, Ends, BreaksOff, gives, dimacs, broken}
+use Rattle.varisat_formula.specs.Rest.{Progress, begin, gives_from, dimacs_from, Follows, RunsOut}
+use Rattle.varisat_formula.specs.Parsed.{Stand, Breaks, TakesPiece, IsFaultOf, Parses}
+use Rattle.varisat_formula.proofs.Steps.{follows_none, follows_more, gives_failed, begin_gives, breaks_off}
+
+consumes_none : (a b : Option (List ℕ)) → Keeps a b → Consumes a b []
+consumes_none None b k = tt
+consumes_none (Some xs) None k = absurd k
+consumes_none (Some xs) (Some ys) k = sym k
+
+pub consumes_self : (a : Option (List ℕ)) → Consumes a a []
+consumes_self None = tt
+consumes_self (Some xs) = refl
+
+pub consumes_more : (a b c : Option (List ℕ)) (xs ys : List ℕ) → Consumes a b xs → Consumes b c ys → Consumes a c (xs ++ ys)
+consumes_more None b c xs ys f g = tt
+consumes_more (Some us) None c xs ys f g = absurd f
+consumes_more (Some us) (Some vs) None xs ys f g = absurd g
+consumes_more (Some us) (Some vs) (Some ws) xs ys f g = f ∙ ap (λ z. xs ++ z) g ∙ sym (append_assoc xs ys ws)
+
+-- the source failed
+pub source_failed : (s t : Stand) (p q : Progress) (e : DimacsError) → Keeps s.left t.left → t.faults ≡ s.faults + 1 → q.reading.fault ≡ Some e → (p.over ≡ false → q.reading ≡ gives_from (BreaksOff Io) p []) → TakesPiece s p (Err e) t q
+source_failed s t p q e k f h b = record {
+  piece = [];
+  consumed = consumes_none s.left t.left k;
+  good = λ more d. absurd cc;
+  goes = λ d. absurd cc;
+  ends = λ d. absurd cc;
+  bad = λ x d. let y : e ≡ x = cc in (h ∙ ap Some y, inr (b, refl, f));
+}
+
+-- what was read of a source so far, without a fault
+pub record ReadSo (s t : Stand) (p : Progress) : Type 0 where
+  pub text : List ℕ
+  pub consumed : Consumes s.left t.left text
+  pub follows : Follows begin text p
+  pub open_still : p.over ≡ false
+  pub fine : p.reading.fault ≡ None
+  pub quiet : t.faults ≡ s.faults
+
+pub read_nothing : (s : Stand) (p : Progress) → p ≡ begin → ReadSo s s p
+read_nothing s p e = record {
+  text = [];
+  consumed = consumes_self s.left;
+  follows = subst (λ x. Follows begin [] x) (sym e) (follows_none begin);
+  open_still = ap (λ x. x.over) e;
+  fine = ap (λ x. x.reading.fault) e;
+  quiet = refl;
+}
+
+pub read_more : (s t u : Stand) (p q : Progress) (more : Bool) (r : Result Bool DimacsError) → ReadSo s t p → TakesPiece t p r u q → r ≡ Ok more → q.over ≡ p.over → ReadSo s u q
+read_more s t u p q more r w k e o =
+    let g = k.good more e in
+    record {
+      text = w.text ++ k.piece;
+      consumed = consumes_more s.left t.left u.left w.text k.piece w.consumed k.consumed;
+      follows = follows_more begin p q w.text k.piece w.follows g.0;
+      open_still = o ∙ w.open_still;
+      fine = g.1;
+      quiet = g.2 ∙ w.quiet;
+    }
+
+same_err : (e x : DimacsError) (r : Result Formula DimacsError) → r ≡ Err e → r ≡ Err x → e ≡ x
+same_err e x r a b = cc
+
+same_ok : (f x : Formula) (r : Result Formula DimacsError) → r ≡ Ok f → r ≡ Ok x → f ≡ x
+same_ok f x r a b = cc
+
+not_both : (f : Formula) (e : DimacsError) (r : Result Formula DimacsError) → r ≡ Ok f → r ≡ Err e → ⊥
+not_both f e r a b = cc
+
+-- what the definition of a text says of it
+whole_gives : (ending : Ending) (text : List ℕ) (p : Progress) (rest : List ℕ) → Follows begin text p → gives ending (text ++ rest) ≡ gives_from ending p rest
+whole_gives ending text p rest f = sym (begin_gives ending (text ++ rest)) ∙ sym (f.same ending rest)
+
+end_gives : (ending : Ending) (text : List ℕ) (p : Progress) → Follows begin text p → gives ending text ≡ gives_from ending p []
+end_gives ending text p f = sym (ap (λ x. gives ending x) (append-nil text)) ∙ whole_gives ending text p [] f
+
+pub fault_told : (s t u : Stand) (p q : Progress) (e : DimacsError) (r : Result Bool DimacsError) (answer : Result Formula DimacsError) → ReadSo s t p → TakesPiece t p r u q → r ≡ Err e → answer ≡ Err e → Parses s answer u
+fault_told s t u p q e r answer w k d a = record {
+  text = w.text ++ k.piece;
+  consumed = consumes_more s.left t.left u.left w.text k.piece w.consumed k.consumed;
+  formula = λ f b. absurd (not_both f e answer b a);
+  fault = λ x b. subst (λ y. IsFaultOf (w.text ++ k.piece) y s u) (same_err e x answer a b) (why (k.bad e d).1);
+}
+  where
+    h : q.reading.fault ≡ Some e
+    h = (k.bad e d).0
+
+    why : Breaks p k.piece q t u → IsFaultOf (w.text ++ k.piece) e s u
+    why (inl (inl f, n)) =
+        let g = follows_more begin p q w.text k.piece w.follows f in
+        inl (λ rest. ap (λ z. z.fault) (whole_gives Ends (w.text ++ k.piece) q rest g ∙ gives_failed Ends q e h rest) ∙ h, n ∙ w.quiet)
+    why (inl (inr o, n)) =
+        inr (inr (inl (
+          w.text ++ take o.at k.piece,
+          drop o.at k.piece,
+          append_assoc w.text (take o.at k.piece) (drop o.at k.piece) ∙ ap (λ z. w.text ++ z) (take-append-drop o.at k.piece),
+          ap (λ z. z.fault) (whole_gives (BreaksOff OutOfMemory) w.text p (take o.at k.piece) w.follows ∙ sym o.out.reading) ∙ h,
+          n ∙ w.quiet,
+        )))
+    why (inr (b, n, f)) =
+        inr (inr (inr (ap (λ z. z.fault) (ap (λ z. broken Io (w.text ++ z)) n ∙ whole_gives (BreaksOff Io) w.text p [] w.follows ∙ sym (b w.open_still)) ∙ h, f ∙ ap (λ n. n + 1) w.quiet)))
+
+-- the text ended
+pub formula_told : (s t : Stand) (p q : Progress) (answer : Result Formula DimacsError) (f : Formula) → ReadSo s t p → IsAtEnd t.left → (q.reading ≡ dimacs_from p []) ⊎ RunsOut p [] q → q.reading.fault ≡ None →
+    f ≡ record { var_count = q.reading.highest; clauses = q.reading.clauses } → answer ≡ Ok f → Parses s answer t
+formula_told s t p q answer f w a r h d b = record {
+  text = w.text;
+  consumed = w.consumed;
+  formula = λ x c. (sym (same_ok f x answer b c) ∙ d ∙ ap (λ z. record { var_count = z.highest; clauses = z.clauses }) is_whole, ap (λ z. z.fault) (sym is_whole) ∙ h, a, w.quiet);
+  fault = λ e c. absurd (not_both f e answer b c);
+}
+  where
+    by_end : (q.reading ≡ dimacs_from p []) ⊎ RunsOut p [] q → q.reading ≡ dimacs w.text
+    by_end (inl g) = g ∙ sym (end_gives Ends w.text p w.follows)
+    by_end (inr o) = absurd (no_fault (sym h ∙ ap (λ z. z.fault) (o.reading ∙ breaks_off OutOfMemory p w.open_still w.fine)))
+      where
+        no_fault : {e : DimacsError} → None ≡ Some e → ⊥
+        no_fault d = cc
+
+    is_whole : q.reading ≡ dimacs w.text
+    is_whole = by_end r
+
+pub end_told : (s t : Stand) (p q : Progress) (e : DimacsError) (answer : Result Formula DimacsError) → ReadSo s t p → IsAtEnd t.left → (q.reading ≡ dimacs_from p []) ⊎ RunsOut p [] q → q.reading.fault ≡ Some e → answer ≡ Err e → Parses s answer t
+end_told s t p q e answer w a r h b = record {
+  text = w.text;
+  consumed = w.consumed;
+  formula = λ f c. absurd (not_both f e answer c b);
+  fault = λ x c. subst (λ y. IsFaultOf w.text y s t) (same_err e x answer b c) (why r);
+}
+  where
+    why : (q.reading ≡ dimacs_from p []) ⊎ RunsOut p [] q → IsFaultOf w.text e s t
+    why (inl g) = inr (inl (ap (λ z. z.fault) (end_gives Ends w.text p w.follows ∙ sym g) ∙ h, a, w.quiet))
+    why (inr o) = inr (inr (inl (w.text, [], append-nil w.text, ap (λ z. z.fault) (end_gives (BreaksOff OutOfMemory) w.text p w.follows ∙ sym o.reading) ∙ h, w.quiet)))

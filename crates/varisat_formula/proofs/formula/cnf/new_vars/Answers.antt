@@ -1,0 +1,22 @@
+use Rattle.std.proofs.Common.{◌<◌, length, take, sym, subst, arith, ◌∙◌, Ok}
+use Rattle.std.specs.List.{FoldsTo}
+use Rattle.std.proofs.Math.ListN.{length-set}
+use Rattle.std.proofs.lemmas.Fn.{FoldsTo-push}
+use Rattle.std.proofs.lemmas.List.{take_more_set, length-take-le}
+use Rattle.varisat_formula.proofs.formula.cnf.new_vars.Goals as goal
+
+pub returns-in-Err-clause-err : goal.returns-in-Err-clause-err
+returns-in-Err-clause-err g c =
+    let w = c.loop-i.invariant.whole in
+    let e = length-take-le c.loop-i.i c.loop-i.vars (omega arith) in
+    (take c.loop-i.i c.loop-i.vars, c.loop-i.formula, c.loop-i.invariant.made, omega arith, c.in-Err.ensures)
+
+pub loop-i-preserved : goal.loop-i-preserved
+loop-i-preserved g c =
+    let w = c.loop-i.invariant.whole in
+    let h : c.loop-i.i < length c.loop-i.vars = omega arith in
+    record {
+      made = subst (λ xs. FoldsTo (λ s v t. g.F.ExtendFormula.makes_var s (Ok v) t) c.args.formula.now xs c.new_var.new.self) (sym (take_more_set c.loop-i.vars c.loop-i.i c.in-Ok.var h))
+          (FoldsTo-push (λ s v t. g.F.ExtendFormula.makes_var s (Ok v) t) _ _ _ _ _ c.loop-i.invariant.made c.in-Ok.ensures);
+      whole = length-set _ _ _ ∙ w;
+    }

@@ -1,0 +1,51 @@
+-- Formulas in conjunctive normal form.
+use Rattle.std.specs.Prelude.{◌≡◌, ℕ, ◌+◌, ◌/◌, ◌^◌, ◌<◌, ◌≤◌, max, List, [], ◌∷◌, ◌++◌, length, take, drop}
+use Rattle.varisat_theory.specs.Literals.{Literal, Clause}
+
+-- a count of variables, and clauses in order
+pub record Formula : Type 0 where
+  pub var_count : ℕ
+  pub clauses : List Clause
+
+abbrev pub no_clauses : Formula
+no_clauses = record { var_count = 0; clauses = [] }
+
+-- the least count of variables that the literals have
+abbrev pub variables_of : List Literal → ℕ
+variables_of [] = 0
+variables_of (l ∷ ls) = max (l / 2 + 1) (variables_of ls)
+
+-- one more clause
+abbrev pub with_clause : Formula → Clause → Formula
+with_clause f c = record { var_count = max f.var_count (variables_of c); clauses = f.clauses ++ c ∷ [] }
+
+-- each of the clauses in turn
+abbrev pub with_clauses : Formula → List Clause → Formula
+with_clauses f [] = f
+with_clauses f (c ∷ cs) = with_clauses (with_clause f c) cs
+
+-- the literals' variables are below the count
+abbrev pub AllBelow : ℕ → List Literal → Type 0
+AllBelow count [] = Unit {0}
+AllBelow count (l ∷ ls) = (l / 2 < count) × AllBelow count ls
+
+-- so are those of each clause
+abbrev pub AreBelow : ℕ → List Clause → Type 0
+AreBelow count [] = Unit {0}
+AreBelow count (c ∷ cs) = AllBelow count c × AreBelow count cs
+
+-- the literals, cut into clauses of these lengths
+abbrev pub cut : List ℕ → List Literal → List Clause
+cut [] ls = []
+cut (n ∷ ns) ls = take n ls ∷ cut ns (drop n ls)
+
+-- the lengths use up the literals
+abbrev pub UseUp : List ℕ → List Literal → Type 0
+UseUp [] ls = ls ≡ []
+UseUp (n ∷ ns) ls = (n ≤ length ls) × UseUp ns (drop n ls)
+
+-- what is true of the buffers of a formula
+pub record Fits (count : ℕ) (lengths : List ℕ) (literals : List Literal) : Type 0 where
+  pub used : UseUp lengths literals
+  pub below : AllBelow count literals
+  pub small : count ≤ 2 ^ 31

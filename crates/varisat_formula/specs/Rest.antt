@@ -1,0 +1,93 @@
+-- What the rest of a text gives, for a text whose beginning was read.
+use Rattle.std.specs.Prelude.{◌≡◌, ℕ, List, [], ◌∷◌, ◌++◌, Bool, true, false, ◌==◌, if◌then◌else◌, Option, Some, None, Result, Ok, Err, take, slice_index}
+use Rattle.varisat_formula.specs.declared.dimacs.token.Word.{Word}
+use Rattle.varisat_formula.specs.declared.dimacs.header.HeaderPart.TheVariants.{Name}
+use Rattle.varisat_formula.specs.declared.dimacs.parser.Place.{Place}
+use Rattle.varisat_formula.specs.declared.dimacs.parser.Place.TheVariants.{Start, Comment, Header, Plain}
+use Rattle.varisat_formula.specs.declared.dimacs.error.DimacsError.{DimacsError}
+use Rattle.varisat_formula.specs.declared.dimacs.error.DimacsErrorKind.TheVariants.{OutOfMemory}
+use Rattle.varisat_formula.specs.Dimacs.{Item, Token, Reading, nothing, is_blank, header_items, line_items, items, next, lines, last_line, read, Ending, Ends, GoesOn, BreaksOff, is_whole, close}
+use Rattle.varisat_formula.specs.Machine.{no_word, is_none, after_byte, word_says, header_from, header_says}
+
+-- where the reader stands: in which line, at its start, in a comment, behind a part of a header, or in another line behind
+-- a part of a token; what was read before that; and whether the text is over
+pub record Progress : Type 0 where
+  pub line : ℕ
+  pub place : Place
+  pub over : Bool
+  pub reading : Reading
+
+-- before the first byte
+abbrev pub begin : Progress
+begin = record { line = 1; place = Start; over = false; reading = nothing }
+
+-- the token, or nothing
+abbrev pub word_items : ℕ → Word → List Item
+word_items n w = if is_none w then [] else Token n (word_says w) ∷ []
+
+-- the tokens of the rest of a line, the first of which goes on
+abbrev pub plain_rest : Bool → ℕ → Word → List ℕ → List Item
+plain_rest ended n w [] = if ended then word_items n w else []
+plain_rest ended n w (b ∷ bs) = if is_blank b then word_items n w ++ plain_rest ended n no_word bs else plain_rest ended n (after_byte w b) bs
+
+-- behind the first byte of a line
+abbrev pub start_place : ℕ → Place
+start_place b = if b == 99 then Comment else (if b == 112 then Header Name else (if is_blank b then Plain no_word else Plain (after_byte no_word b)))
+
+-- the items of the line that the reader is in, whose rest is given
+abbrev pub line_rest : Bool → ℕ → Place → List ℕ → List Item
+line_rest ended n Start line = line_items ended n line
+line_rest ended n Comment line = []
+line_rest ended n (Header h) line = header_items ended n (header_says (header_from h line))
+line_rest ended n (Plain w) line = plain_rest ended n w line
+
+abbrev pub rest_items : Bool → ℕ → Place → List (List ℕ) → List Item
+rest_items ended n place [] = []
+rest_items ended n place (line ∷ []) = line_rest ended n place line
+rest_items ended n place (line ∷ more ∷ rest) = line_rest true n place line ++ items ended (next n) (more ∷ rest)
+
+-- what the text gives; a text that is over gives no more
+abbrev pub gives_from : Ending → Progress → List ℕ → Reading
+gives_from ending p rest =
+    if p.over then p.reading else close ending (read p.reading (rest_items (is_whole ending) p.line p.place (lines rest))) (last_line p.line (lines rest))
+
+abbrev pub dimacs_from : Progress → List ℕ → Reading
+dimacs_from p rest = gives_from Ends p rest
+
+abbrev pub so_far_from : Progress → List ℕ → Reading
+so_far_from p rest = gives_from GoesOn p rest
+
+-- q is what p becomes by reading the text
+pub record Follows (p : Progress) (text : List ℕ) (q : Progress) : Type 0 where
+  pub same : (ending : Ending) (rest : List ℕ) → gives_from ending q rest ≡ gives_from ending p (text ++ rest)
+
+-- what was answered
+abbrev pub fault_of : {X : Type 0} → Result X DimacsError → Option DimacsError
+fault_of (Ok x) = None
+fault_of (Err e) = Some e
+
+-- a token was kept: a literal or the end of a clause, without a fault
+pub record Keeps (r s : Reading) : Type 0 where
+  pub fine : s.fault ≡ r.fault
+  pub more : s ≡ r → ⊥
+
+-- Memory ran out behind the text, where a token stands that a blank would have ended, and that is to be kept.
+pub record RunsOut (p : Progress) (text : List ℕ) (q : Progress) : Type 0 where
+  pub reading : q.reading ≡ gives_from (BreaksOff OutOfMemory) p text
+  pub wants : Keeps (so_far_from p text) (so_far_from p (text ++ 32 ∷ []))
+
+-- the token at which the reader stands is to be kept
+pub record WantsRoom (p : Progress) : Type 0 where
+  pub word : Word
+  pub place_is : p.place ≡ Plain word
+  pub keeps : Keeps p.reading (read p.reading (word_items p.line word))
+
+-- memory ran out at a blank of the text
+pub record RunsOutIn (p : Progress) (text : List ℕ) (q : Progress) : Type 0 where
+  pub at : ℕ
+  pub blank : is_blank (slice_index text at) ≡ true
+  pub out : RunsOut p (take at text) q
+
+-- with the clauses that were taken before
+abbrev pub with_front : List (List ℕ) → Reading → Reading
+with_front front r = record r { clauses = front ++ r.clauses }

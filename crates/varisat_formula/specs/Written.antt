@@ -1,0 +1,36 @@
+-- The text that is written for a formula.
+use Rattle.std.specs.Prelude.{◌≡◌, ℕ, ◌+◌, ◌/◌, ◌%◌, List, [], ◌∷◌, ◌++◌, length, take, None, Some, codes, decimal, if◌then◌else◌, ◌==◌, Result, MatchResult}
+use Rattle.varisat_theory.specs.Literals.{Literal, Clause}
+use Rattle.varisat_formula.specs.Formulas.{Formula}
+use Rattle.varisat_formula.specs.Dimacs.{dimacs}
+
+-- a literal's number in decimal digits, with a `-` where the literal is negative
+abbrev pub literal_text : Literal → List ℕ
+literal_text l = if l % 2 == 0 then decimal (l / 2 + 1) else 45 ∷ decimal (l / 2 + 1)
+
+-- each number with a space behind it
+abbrev pub literals_text : List Literal → List ℕ
+literals_text [] = []
+literals_text (l ∷ ls) = literal_text l ++ 32 ∷ literals_text ls
+
+-- for each clause its numbers, `0` and a line feed
+abbrev pub clauses_text : List Clause → List ℕ
+clauses_text [] = []
+clauses_text (c ∷ cs) = literals_text c ++ 48 ∷ 10 ∷ clauses_text cs
+
+-- `p cnf V C` and a line feed
+abbrev pub header_text : ℕ → ℕ → List ℕ
+header_text v c = (codes "p cnf " ++ decimal v ++ 32 ∷ decimal c) ++ 10 ∷ []
+
+abbrev pub formula_text : Formula → List ℕ
+formula_text f = header_text f.var_count (length f.clauses) ++ clauses_text f.clauses
+
+-- what is written is read back: the same clauses and count of variables, and no fault
+abbrev pub ReadsBack : Formula → Type 0
+ReadsBack f =
+    dimacs (formula_text f) ≡ record { clauses = f.clauses; begun = []; count = length f.clauses; header = Some (record { vars = f.var_count; clauses = length f.clauses }); highest = f.var_count; fault = None }
+
+-- the text was appended; or a beginning of it, and there was one fault
+abbrev pub Puts : {T E : Type 0} → (T → List ℕ) → (T → ℕ) → T → Result (Unit {0}) E → List ℕ → T → Type 0
+Puts written faults old result text new =
+    MatchResult result (λ _. (written new ≡ written old ++ text) × (faults new ≡ faults old)) (λ _. ((n : ℕ) × (written new ≡ written old ++ take n text)) × (faults new ≡ faults old + 1))

@@ -1,0 +1,18 @@
+//! DIMACS CNF text: a reader that takes it in any pieces, and a writer.
+
+pub mod error;
+pub mod header;
+pub mod incremental;
+pub mod parse;
+pub mod parser;
+pub mod reading;
+pub mod token;
+pub mod writer;
+
+pub use error::{DimacsError, DimacsErrorKind};
+pub use incremental::PieceReader;
+pub use parser::DimacsParser;
+pub use writer::write_dimacs;
+
+#[cfg(test)]
+mod tests;

@@ -1,0 +1,95 @@
+//! Reads texts from sources, with a call of the caller's function for each piece.
+ghost use Rattle.std.specs.Prelude.{◌≡◌, ◌-◌, ◌<◌, ◌^◌, ◌⊎◌, [], true, length, IfOk, IfErr};
+ghost use Rattle.std.specs.Fn.{CalledAtMut};
+ghost use Rattle.varisat_formula.specs.Rest.{Progress, begin, dimacs_from, RunsOut, fault_of};
+ghost use Rattle.varisat_formula.specs.Parsed.{stand, TakesPiece, Finishes, Refuses};
+
+use crate::dimacs::error::DimacsError;
+use crate::dimacs::parse::PIECE;
+use crate::dimacs::parser::DimacsParser;
+use crate::io::ByteSource;
+use std::alloc::Allocator;
+
+/// A reader of texts in pieces.
+pub trait PieceReader<A: Allocator + Copy>: Drop {
+    /// How far it has come.
+    ghost progress: { Self → Progress };
+
+    /// A reader before the first byte of a text.
+    fn begin_in(alloc: A) -> Self
+        ensures { progress result ≡ begin };
+
+    /// Reads the next piece of the source, with room for it in the buffer.
+    fn take_piece<S: ByteSource>(
+        &mut self,
+        source: &mut S,
+        buffer: &mut [u8],
+    ) -> Result<bool, DimacsError>
+        requires few { S.fault_count source.old < 2 ^ 64 - 1 }
+        requires room { 0 < length buffer.old }
+        ensures { TakesPiece (stand S.left S.pieces_left S.fault_count source.old) (progress self.old) result (stand S.left S.pieces_left S.fault_count source.new) (progress self.new) };
+
+    /// Ends the text.
+    fn end(&mut self) -> Result<(), DimacsError>
+        ensures reads { ((progress self.new).reading ≡ dimacs_from (progress self.old) []) ⊎ RunsOut (progress self.old) [] (progress self.new) }
+        ensures answer { fault_of result ≡ (progress self.new).reading.fault }
+        ensures over { (progress self.new).over ≡ true };
+
+    /// Reads all of the source as one text, and calls `f` with the reader after each piece and after the end, where these
+    /// gave no fault. A fault, or an error of `f`, ends it. Answers the reader as `f` left it.
+    final fn parse_incremental<
+        S: ByteSource,
+        E: From<DimacsError>,
+        F: FnMut(&mut Self) -> Result<(), E>,
+    >(alloc: A, source: &mut S, mut f: F) -> Result<Self, E>
+    where
+        Self: Sized,
+        F: Drop,
+        requires few { S.fault_count source.old < 2 ^ 64 - 1 }
+        requires callable { (state : F) (x : _) → F.pre state x }
+        ensures ok { IfOk result (Finishes (CalledAtMut F.FnMut) progress (stand S.left S.pieces_left S.fault_count source.old) f (stand S.left S.pieces_left S.fault_count source.new)) }
+        ensures err { IfErr result (Refuses (CalledAtMut F.FnMut) progress E.from_gives) }
+    {
+        let mut parser = Self::begin_in(alloc);
+        let mut buffer = [0; PIECE];
+        'pieces: loop {
+            match parser.take_piece(source, &mut buffer) {
+                Ok(true) => {}
+                Ok(false) => break,
+                Err(fault) => return Err(E::from(fault)),
+            }
+            match f(&mut parser) {
+                Ok(()) => {}
+                Err(error) => return Err(error),
+            }
+        }
+        match parser.end() {
+            Ok(()) => {}
+            Err(fault) => return Err(E::from(fault)),
+        }
+        match f(&mut parser) {
+            Ok(()) => Ok(parser),
+            Err(error) => Err(error),
+        }
+    }
+}
+
+impl<A: Allocator + Copy> PieceReader<A> for DimacsParser<A> {
+    ghost progress = { λ p. p };
+
+    fn begin_in(alloc: A) -> DimacsParser<A> {
+        DimacsParser::new_in(alloc)
+    }
+
+    fn take_piece<S: ByteSource>(
+        &mut self,
+        source: &mut S,
+        buffer: &mut [u8],
+    ) -> Result<bool, DimacsError> {
+        self.next_piece(source, buffer)
+    }
+
+    fn end(&mut self) -> Result<(), DimacsError> {
+        self.finish()
+    }
+}

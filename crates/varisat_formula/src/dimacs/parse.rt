@@ -1,0 +1,56 @@
+//! Reads texts from sources.
+ghost use Rattle.std.specs.Prelude.{◌≡◌, ◌-◌, ◌<◌, ◌^◌, length};
+ghost use Rattle.varisat_formula.specs.Parsed.{stand, TakesPiece, Parses};
+
+use crate::dimacs::error::DimacsError;
+use crate::dimacs::parser::DimacsParser;
+use crate::formula::CnfFormula;
+use crate::io::ByteSource;
+use std::alloc::Allocator;
+
+/// How many bytes of a source are asked for at a time.
+pub(crate) const PIECE: usize = 0x2000;
+
+impl<A: Allocator + Copy> DimacsParser<A> {
+    /// Reads the next piece of the source, with room for it in the buffer. Answers false at the source's end, and a fault of
+    /// the text or the source.
+    pub fn next_piece<S: ByteSource>(
+        &mut self,
+        source: &mut S,
+        buffer: &mut [u8],
+    ) -> Result<bool, DimacsError>
+        requires few { S.fault_count source.old < 2 ^ 64 - 1 }
+        requires room { 0 < length buffer.old }
+        ensures takes { TakesPiece (stand S.left S.pieces_left S.fault_count source.old) self.old result (stand S.left S.pieces_left S.fault_count source.new) self.new }
+        ensures open { self.new.over ≡ self.old.over }
+    {
+        let count = match source.fill(buffer) {
+            Ok(count) => count,
+            Err(_) => return Err(self.break_off()),
+        };
+        match self.feed(&buffer[..count]) {
+            Ok(()) => Ok(count > 0),
+            Err(fault) => Err(fault),
+        }
+    }
+
+    /// Reads all of the source as one text, and answers its formula or its first fault.
+    pub fn parse<S: ByteSource>(alloc: A, source: &mut S) -> Result<CnfFormula<A>, DimacsError>
+        requires { S.fault_count source.old < 2 ^ 64 - 1 }
+        ensures { Parses (stand S.left S.pieces_left S.fault_count source.old) result (stand S.left S.pieces_left S.fault_count source.new) }
+    {
+        let mut parser = DimacsParser::new_in(alloc);
+        let mut buffer = [0; PIECE];
+        'pieces: loop {
+            match parser.next_piece(source, &mut buffer) {
+                Ok(true) => {}
+                Ok(false) => break,
+                Err(fault) => return Err(fault),
+            }
+        }
+        match parser.finish() {
+            Ok(()) => Ok(parser.take_formula()),
+            Err(fault) => Err(fault),
+        }
+    }
+}

@@ -1,0 +1,303 @@
+//! A reader of DIMACS CNF text.
+ghost use Rattle.std.specs.Prelude.{◌≡◌, ℕ, List, [], ◌∷◌, ◌++◌, ◌⊎◌, ◌≢◌, true, false, Option, None, Some, Result, Ok, Err, OnOk, OnErr};
+ghost use Rattle.varisat_formula.specs.declared.dimacs.parser.Place.TheVariants.{Start};
+ghost use Rattle.varisat_formula.specs.declared.dimacs.error.DimacsErrorKind.TheVariants.{Io, OutOfMemory};
+ghost use Rattle.varisat_formula.specs.Dimacs.{Reading, failed, next, read, is_line_feed, is_blank, gives, Ending, BreaksOff};
+ghost use Rattle.varisat_formula.specs.Machine.{no_word};
+ghost use Rattle.varisat_formula.specs.Rest.{begin, word_items, line_rest, start_place, gives_from, dimacs_from, Follows, Keeps, WantsRoom, RunsOut, RunsOutIn, fault_of, with_front};
+
+use crate::dimacs::error::{DimacsError, DimacsErrorKind};
+use crate::dimacs::header::HeaderPart;
+use crate::dimacs::reading::Reader;
+use crate::dimacs::token::{Word, is_blank_byte};
+use crate::formula::CnfFormula;
+use std::alloc::{AllocError, Allocator};
+use std::marker::Model;
+
+/// Where the reader stands in its line.
+#[derive(Clone, Copy)]
+pub enum Place {
+    /// Before its first byte.
+    Start,
+    /// In a comment.
+    Comment,
+    /// In a header.
+    Header(HeaderPart),
+    /// In another line.
+    Plain(Word),
+}
+
+/// A reader of DIMACS CNF text, which may come in any pieces. Beside the clauses that ended and the open clause it takes
+/// no memory.
+#[derive(Drop)]
+pub struct DimacsParser<A: Allocator + Copy> {
+    line: u64,
+    place: Place,
+    over: bool,
+    reader: Reader<A>,
+}
+
+impl<A: Allocator + Copy> Model for DimacsParser<A> {
+    ghost use Rattle.varisat_formula.specs.Rest.{Progress};
+
+    ghost Value = { Progress };
+
+    ghost view = { λ p. record { line = p.line; place = p.place; over = p.over; reading = p.reader } };
+}
+
+impl<A: Allocator + Copy> DimacsParser<A> {
+    /// A reader before the first byte of a text. It takes no memory.
+    pub fn new_in(alloc: A) -> DimacsParser<A>
+        ensures begins { result ≡ begin }
+        ensures gives { (ending : Ending) (text : List ℕ) → gives_from ending result text ≡ gives ending text }
+    {
+        DimacsParser {
+            line: 1,
+            place: Place::Start,
+            over: false,
+            reader: Reader::new_in(alloc),
+        }
+    }
+
+    /// Reads the token that ends here, if there is one.
+    fn end_token(&mut self, word: Word) -> Result<(), AllocError>
+        requires { self.old.reading.fault ≡ None }
+        ensures ok { OnOk result (self.new ≡ record self.old { reading = read self.old.reading (word_items self.old.line word) }) }
+        ensures err { OnErr result (self.new ≡ self.old) }
+        ensures wants { OnErr result (Keeps self.old.reading (read self.old.reading (word_items self.old.line word))) }
+    {
+        if !word.is_none() {
+            self.reader.token(self.line, word.meaning())?;
+        }
+        Ok(())
+    }
+
+    /// Reads what the end of the line ends.
+    fn end_place(&mut self) -> Result<(), AllocError>
+        requires { self.old.reading.fault ≡ None }
+        ensures ok { OnOk result (self.new ≡ record self.old { reading = read self.old.reading (line_rest true self.old.line self.old.place []) }) }
+        ensures err { OnErr result (self.new ≡ self.old) }
+        ensures wants { OnErr result (WantsRoom self.old) }
+    {
+        match self.place {
+            Place::Start | Place::Comment => {}
+            Place::Header(part) => self.reader.header(self.line, part.heading()),
+            Place::Plain(word) => self.end_token(word)?,
+        }
+        Ok(())
+    }
+
+    /// Ends the line.
+    fn end_line(&mut self) -> Result<(), AllocError>
+        requires { self.old.reading.fault ≡ None }
+        ensures ok { OnOk result (self.new ≡ record self.old {
+          line = next self.old.line;
+          place = Start;
+          reading = read self.old.reading (line_rest true self.old.line self.old.place []);
+        }) }
+        ensures err { OnErr result (self.new ≡ self.old) }
+        ensures wants { OnErr result (WantsRoom self.old) }
+    {
+        self.end_place()?;
+        self.place = Place::Start;
+        self.line = self.line.saturating_add(1);
+        Ok(())
+    }
+
+    /// Reads a byte that is no line feed.
+    fn add(&mut self, b: u8) -> Result<(), AllocError>
+        requires open { self.old.over ≡ false }
+        requires fine { self.old.reading.fault ≡ None }
+        requires inside { is_line_feed b ≡ false }
+        ensures ok { OnOk result (Follows self.old (b ∷ []) self.new) }
+        ensures open { self.new.over ≡ false }
+        ensures err { OnErr result (self.new ≡ self.old) }
+        ensures wants { OnErr result (WantsRoom self.old × (is_blank b ≡ true)) }
+    {
+        match self.place {
+            Place::Start => self.place = start_place(b),
+            Place::Comment => {}
+            Place::Header(part) => self.place = Place::Header(part.after(b)),
+            Place::Plain(word) => {
+                if is_blank_byte(b) {
+                    self.end_token(word)?;
+                    self.place = Place::Plain(Word::new());
+                } else {
+                    self.place = Place::Plain(word.after(b));
+                }
+            }
+        }
+        Ok(())
+    }
+
+    /// Reads a byte, unless memory runs out: then nothing changes.
+    fn byte(&mut self, b: u8) -> Result<(), AllocError>
+        requires open { self.old.over ≡ false }
+        requires fine { self.old.reading.fault ≡ None }
+        ensures ok { OnOk result (Follows self.old (b ∷ []) self.new) }
+        ensures open { self.new.over ≡ false }
+        ensures err { OnErr result (self.new ≡ self.old) }
+        ensures wants { OnErr result (WantsRoom self.old × (is_blank b ≡ true)) }
+    {
+        if b == b'\n' {
+            self.end_line()?;
+        } else {
+            self.add(b)?;
+        }
+        Ok(())
+    }
+
+    /// The first fault.
+    fn told(&self) -> Option<DimacsError>
+        ensures { result ≡ self.now.reading.fault }
+    {
+        self.reader.fault()
+    }
+
+    fn run_out(&mut self) -> DimacsError
+        ensures reading { self.new ≡ record self.old { reading = failed self.old.reading self.old.line OutOfMemory } }
+        ensures told { self.new.reading.fault ≡ Some result }
+    {
+        let line = self.line;
+        self.reader.fail(line, DimacsErrorKind::OutOfMemory);
+        DimacsError {
+            line,
+            kind: DimacsErrorKind::OutOfMemory,
+        }
+    }
+
+    /// The bytes of the piece in turn.
+    fn read_piece(&mut self, piece: &[u8]) -> Result<(), DimacsError>
+        requires open { self.old.over ≡ false }
+        requires fine { self.old.reading.fault ≡ None }
+        ensures reads { Follows self.old piece.now self.new ⊎ RunsOutIn self.old piece.now self.new }
+        ensures answer { fault_of result ≡ self.new.reading.fault }
+        ensures open { self.new.over ≡ false }
+    {
+        for b in piece {
+            match self.byte(*b) {
+                Ok(()) => {}
+                Err(_) => return Err(self.run_out()),
+            }
+            if let Some(fault) = self.told() {
+                return Err(fault);
+            }
+        }
+        Ok(())
+    }
+
+    /// Reads the next piece of the text, and answers its first fault, from then on always the same. After `finish` the text
+    /// is over, and no bytes are taken. `OutOfMemory` is answered where a growth was refused, at the line of the clause that
+    /// could not be kept.
+    pub fn feed(&mut self, piece: &[u8]) -> Result<(), DimacsError>
+        ensures reads { Follows self.old piece.now self.new ⊎ RunsOutIn self.old piece.now self.new }
+        ensures answer { fault_of result ≡ self.new.reading.fault }
+        ensures same { (e : DimacsError) → self.old.reading.fault ≡ Some e → self.new ≡ self.old }
+        ensures over { self.old.over ≡ true → self.new ≡ self.old }
+        ensures open { self.new.over ≡ self.old.over }
+    {
+        if let Some(fault) = self.told() {
+            return Err(fault);
+        }
+        if self.over {
+            return Ok(());
+        }
+        self.read_piece(piece)
+    }
+
+    /// Ends the text, and answers its first fault.
+    pub fn finish(&mut self) -> Result<(), DimacsError>
+        ensures reads { (self.new.reading ≡ dimacs_from self.old []) ⊎ RunsOut self.old [] self.new }
+        ensures answer { fault_of result ≡ self.new.reading.fault }
+        ensures stays { self.new ≡ record self.old { over = true; reading = self.new.reading } }
+        ensures over { self.new.over ≡ true }
+    {
+        if self.told().is_none() && !self.over {
+            self.end_text();
+        }
+        self.over = true;
+        match self.told() {
+            Some(fault) => Err(fault),
+            None => Ok(()),
+        }
+    }
+
+    /// The text breaks off, since its source failed: the fault `Io` in the line that was reached, unless there was a fault
+    /// before. Answers the first fault.
+    pub fn break_off(&mut self) -> DimacsError
+        ensures reading { self.old.over ≡ false → self.new.reading ≡ gives_from (BreaksOff Io) self.old [] }
+        ensures told { self.new.reading.fault ≡ Some result }
+        ensures stays { self.new ≡ record self.old { reading = self.new.reading } }
+        ensures open { self.new.over ≡ self.old.over }
+    {
+        if let Some(fault) = self.told() {
+            return fault;
+        }
+        let line = self.line;
+        self.reader.fail(line, DimacsErrorKind::Io);
+        DimacsError {
+            line,
+            kind: DimacsErrorKind::Io,
+        }
+    }
+
+    /// What the end of the text ends.
+    fn end_text(&mut self)
+        requires open { self.old.over ≡ false }
+        requires fine { self.old.reading.fault ≡ None }
+        ensures reads { (self.new.reading ≡ dimacs_from self.old []) ⊎ RunsOut self.old [] self.new }
+        ensures stays { self.new ≡ record self.old { reading = self.new.reading } }
+    {
+        match self.end_place() {
+            Ok(()) => {
+                if self.told().is_none() {
+                    self.reader.end(self.line);
+                }
+            }
+            Err(_) => {
+                self.run_out();
+            }
+        }
+    }
+
+    /// Takes the clauses that ended since the last call, also after a fault. The formula's count of variables is
+    /// `var_count`.
+    pub fn take_formula(&mut self) -> CnfFormula<A>
+        ensures formula { result ≡ record { var_count = self.old.reading.highest; clauses = self.old.reading.clauses } }
+        ensures rest { self.new ≡ record self.old { reading = record self.old.reading { clauses = [] } } }
+        ensures later { (ending : Ending) (text : List ℕ) → gives_from ending self.old text ≡ with_front result.clauses (gives_from ending self.new text) }
+    {
+        self.reader.take()
+    }
+
+    /// How many clauses ended. The count stays at 2^64-1.
+    pub fn clause_count(&self) -> u64
+        ensures { result ≡ self.now.reading.count }
+    {
+        self.reader.clause_count()
+    }
+
+    /// The larger of the header's count of variables and the highest number of a literal so far.
+    pub fn var_count(&self) -> usize
+        ensures { result ≡ self.now.reading.highest }
+    {
+        self.reader.var_count()
+    }
+}
+
+/// Where the first byte of a line leaves the reader.
+fn start_place(b: u8) -> Place
+    ensures { result ≡ start_place b }
+{
+    match b {
+        b'c' => Place::Comment,
+        b'p' => Place::Header(HeaderPart::Name),
+        _ => {
+            if is_blank_byte(b) {
+                Place::Plain(Word::new())
+            } else {
+                Place::Plain(Word::new().after(b))
+            }
+        }
+    }
+}

@@ -1,0 +1,156 @@
+//! Tokens, a byte at a time: a token of any length takes no memory.
+ghost use Rattle.std.specs.Prelude.{◌≡◌, ◌<◌, ◌≤◌, ◌^◌, ℕ, Some};
+ghost use Rattle.varisat_formula.specs.Dimacs.{positive, negative, in_range, is_digit, is_blank};
+ghost use Rattle.varisat_formula.specs.Machine.{after_digit, grown, after_byte, is_none, is_empty, word_says, no_word};
+
+use crate::formula::Lit;
+
+/// What digits write.
+#[derive(Clone, Copy)]
+pub enum Digits {
+    /// There is none yet.
+    Empty,
+    Number(u64),
+    /// A number from 2^64 on.
+    Large,
+    /// Other bytes, or a leading zero.
+    NoNumber,
+}
+
+/// A token as far as it was read: whether it begins with a minus sign, and its digits.
+#[derive(Clone, Copy)]
+pub struct Word {
+    pub minus: bool,
+    pub digits: Digits,
+}
+
+/// What a token says.
+#[derive(Clone, Copy)]
+pub enum Meaning {
+    /// The end of a clause.
+    End,
+    Literal(Lit),
+    /// A literal whose number is above 2^28.
+    TooLarge,
+    Wrong,
+}
+
+/// Whether it is a space, a tab, a carriage return or a line feed.
+pub fn is_blank_byte(b: u8) -> bool
+    ensures { result ≡ is_blank b }
+{
+    b == b' ' || b == b'\t' || b == b'\r' || b == b'\n'
+}
+
+fn is_digit_byte(b: u8) -> bool
+    ensures { result ≡ is_digit b }
+{
+    b >= b'0' && b <= b'9'
+}
+
+/// The digits and one more, at most 9.
+fn grown(number: u64, digit: u64) -> Digits
+    requires { digit < 10 }
+    ensures { result ≡ grown number digit }
+{
+    if number == 0 {
+        return Digits::NoNumber;
+    }
+    let next = u128::from(number) * 10 + u128::from(digit);
+    if next < 0x1_0000_0000_0000_0000 {
+        Digits::Number(next as u64)
+    } else {
+        Digits::Large
+    }
+}
+
+impl Digits {
+    /// With one byte more.
+    pub fn after(self, b: u8) -> Digits
+        ensures { result ≡ after_digit self b }
+    {
+        if !is_digit_byte(b) {
+            return Digits::NoNumber;
+        }
+        let digit = u64::from(b - b'0');
+        match self {
+            Digits::Empty => Digits::Number(digit),
+            Digits::Number(number) => grown(number, digit),
+            Digits::Large => Digits::Large,
+            Digits::NoNumber => Digits::NoNumber,
+        }
+    }
+
+    fn is_empty(self) -> bool
+        ensures { result ≡ is_empty self }
+    {
+        matches!(&self, Digits::Empty)
+    }
+}
+
+/// The literal with the number, unless that is too large.
+fn in_range(polarity: bool, number: u64) -> Meaning
+    requires { 0 < number }
+    ensures { result ≡ in_range polarity number }
+{
+    if number > 0x1000_0000 {
+        Meaning::TooLarge
+    } else {
+        Meaning::Literal(Lit::from_index((number - 1) as usize, polarity))
+    }
+}
+
+impl Word {
+    /// No byte.
+    pub fn new() -> Word
+        ensures { result ≡ no_word }
+    {
+        Word {
+            minus: false,
+            digits: Digits::Empty,
+        }
+    }
+
+    /// Whether there is no byte.
+    pub fn is_none(self) -> bool
+        ensures { result ≡ is_none self }
+    {
+        !self.minus && self.digits.is_empty()
+    }
+
+    /// With one byte more.
+    pub fn after(self, b: u8) -> Word
+        ensures { result ≡ after_byte self b }
+    {
+        if self.is_none() && b == b'-' {
+            Word {
+                minus: true,
+                digits: Digits::Empty,
+            }
+        } else {
+            Word {
+                minus: self.minus,
+                digits: self.digits.after(b),
+            }
+        }
+    }
+
+    /// What the token says, if it ends here.
+    pub fn meaning(self) -> Meaning
+        ensures { result ≡ word_says self }
+    {
+        match self.digits {
+            Digits::Empty | Digits::NoNumber => Meaning::Wrong,
+            Digits::Large => Meaning::TooLarge,
+            Digits::Number(number) => {
+                if number > 0 {
+                    in_range(!self.minus, number)
+                } else if self.minus {
+                    Meaning::Wrong
+                } else {
+                    Meaning::End
+                }
+            }
+        }
+    }
+}

@@ -1,0 +1,99 @@
+//! Writes formulas as DIMACS CNF text.
+ghost use Rattle.std.specs.Prelude.{◌≡◌, ℕ, List, [], ◌∷◌, ◌++◌, ◌+◌, ◌-◌, ◌<◌, ◌≤◌, ◌^◌, length, take, flat_map, OnOk, OnErr};
+ghost use Rattle.varisat_formula.specs.Written.{Puts, ReadsBack, literal_text, literals_text, header_text, formula_text};
+
+use crate::formula::{CnfFormula, Lit};
+use crate::io::ProofTarget;
+use itoa::Buffer;
+use std::alloc::Allocator;
+use std::io;
+
+/// Writes the parts one after another.
+fn put_all<W: ProofTarget>(target: &mut W, parts: &[&[u8]]) -> io::Result<()>
+    requires { W.fault_count target.old < 2 ^ 64 - 1 }
+    ensures { Puts W.written W.fault_count target.old result (flat_map (λ p. p.now) parts.now) target.new }
+{
+    for part in parts {
+        match target.put(part) {
+            Ok(()) => {}
+            Err(error) => return Err(error),
+        }
+    }
+    Ok(())
+}
+
+/// Writes the literal's number and a space.
+fn write_literal<W: ProofTarget>(target: &mut W, literal: Lit) -> io::Result<()>
+    requires { W.fault_count target.old < 2 ^ 64 - 1 }
+    ensures { Puts W.written W.fault_count target.old result (literal_text literal ++ 32 ∷ []) target.new }
+{
+    let mut buffer = Buffer::new();
+    let number = buffer.format(literal.index() + 1).as_bytes();
+    if literal.is_negative() {
+        put_all(target, &[b"-".as_slice(), number, b" ".as_slice()])
+    } else {
+        put_all(target, &[number, b" ".as_slice()])
+    }
+}
+
+/// Writes the clause's literals, `0` and a line feed.
+fn write_clause<W: ProofTarget>(target: &mut W, clause: &[Lit]) -> io::Result<()>
+    requires { W.fault_count target.old < 2 ^ 64 - 1 }
+    ensures { Puts W.written W.fault_count target.old result (literals_text clause.now ++ 48 ∷ 10 ∷ []) target.new }
+{
+    for literal in clause {
+        match write_literal(target, *literal) {
+            Ok(()) => {}
+            Err(error) => return Err(error),
+        }
+    }
+    put_all(target, &[b"0\n".as_slice()])
+}
+
+/// Writes the header.
+fn write_header<W: ProofTarget>(target: &mut W, vars: usize, clauses: usize) -> io::Result<()>
+    requires { W.fault_count target.old < 2 ^ 64 - 1 }
+    ensures { Puts W.written W.fault_count target.old result (header_text vars clauses) target.new }
+{
+    let mut vars_buffer = Buffer::new();
+    let mut clauses_buffer = Buffer::new();
+    let vars = vars_buffer.format(vars).as_bytes();
+    let clauses = clauses_buffer.format(clauses).as_bytes();
+    put_all(
+        target,
+        &[
+            b"p cnf ".as_slice(),
+            vars,
+            b" ".as_slice(),
+            clauses,
+            b"\n".as_slice(),
+        ],
+    )
+}
+
+/// Writes the formula as DIMACS CNF text: the header with its count of variables and of clauses, and then each clause on a
+/// line of its own. A fault is the target's, and a beginning of the text then stands in the target. What is written for up
+/// to 2^28 variables is read back as the same clauses and count of variables.
+pub fn write_dimacs<W: ProofTarget, A: Allocator + Copy>(
+    target: &mut W,
+    formula: &CnfFormula<A>,
+) -> io::Result<()>
+    requires { W.fault_count target.old < 2 ^ 64 - 1 }
+    ensures whole { OnOk result (W.written target.new ≡ W.written target.old ++ formula_text formula.now) }
+    ensures begun { OnErr result ((n : ℕ) × (W.written target.new ≡ W.written target.old ++ take n (formula_text formula.now))) }
+    ensures quiet { OnOk result (W.fault_count target.new ≡ W.fault_count target.old) }
+    ensures fault { OnErr result (W.fault_count target.new ≡ W.fault_count target.old + 1) }
+    ensures read_back { formula.now.var_count ≤ 2 ^ 28 → ReadsBack formula.now }
+{
+    match write_header(target, formula.var_count(), formula.len()) {
+        Ok(()) => {}
+        Err(error) => return Err(error),
+    }
+    for clause in formula.iter() {
+        match write_clause(target, clause) {
+            Ok(()) => {}
+            Err(error) => return Err(error),
+        }
+    }
+    Ok(())
+}

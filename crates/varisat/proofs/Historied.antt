@@ -5,7 +5,7 @@ use Rattle.varisat_theory.specs.Literals.{Literal, Clause, Assignment, variable_
 use Rattle.varisat_theory.proofs.Members.{∈-append_cases}
 use Rattle.varisat_theory.proofs.Assigned.{satisfies_fewer}
 use Rattle.varisat.specs.declared.solver.SolverError.{SolverError}
-use Rattle.varisat.specs.declared.solver.SolverError.TheVariants.{OutOfMemory, Invalid, VariableLimit}
+use Rattle.varisat.specs.declared.solver.SolverError.TheVariants.{OutOfMemory, Invalid, VariableLimit, Dimacs}
 use Rattle.varisat.specs.declared.session.Call.{Call}
 use Rattle.varisat.specs.declared.session.Answer.{Answer}
 use Rattle.varisat.specs.declared.session.Call.TheVariants as call
@@ -95,6 +95,7 @@ refused-add : (P : List Clause) (s t : State) (d : Clause) (e : SolverError) →
 refused-add P s t d OutOfMemory k a = invalid-knows P s t a.3
 refused-add P s t d Invalid k a = same-knows P s t a.1 k
 refused-add P s t d VariableLimit k a = same-knows P s t a.3 k
+refused-add P s t d (Dimacs cause) k a = absurd a
 
 -- 2. A new variable.
 
@@ -119,6 +120,7 @@ after-new P s t (Ok u) k m = λ _. subst (Agrees P) (sym m.3) (agrees-named P s 
 after-new P s t (Err OutOfMemory) k m = invalid-knows P s t m.2
 after-new P s t (Err Invalid) k m = same-knows P s t m.1 k
 after-new P s t (Err VariableLimit) k m = same-knows P s t m.2 k
+after-new P s t (Err (Dimacs cause)) k m = absurd m
 
 -- 3. An answer of `solve`.
 
@@ -175,6 +177,7 @@ refused-solve : (P : List Clause) (s t : State) (e : SolverError) → Knows P s 
 refused-solve P s t OutOfMemory k r = invalid-knows P s t r.2
 refused-solve P s t Invalid k r = same-knows P s t r.1 k
 refused-solve P s t VariableLimit k r = absurd r
+refused-solve P s t (Dimacs cause) k r = absurd r
 
 -- 4. A model.
 

@@ -7,6 +7,8 @@ pub mod Searched
 pub mod Loaded
 pub mod Named
 pub mod Kept
+pub mod Added
+pub mod Texted
 pub mod Runs
 pub mod Historied
 pub mod LineLemmas

@@ -9,7 +9,7 @@ use Rattle.varisat.specs.States.{State, Verdict, Unknown, Sat, Unsat, HasRightVe
 use Rattle.varisat.specs.Names.{name_one, name_all, through_names, IsLeastFree}
 use Rattle.varisat.specs.Models.{model_of}
 use Rattle.varisat.specs.declared.solver.SolverError.{SolverError}
-use Rattle.varisat.specs.declared.solver.SolverError.TheVariants.{OutOfMemory, Invalid, VariableLimit}
+use Rattle.varisat.specs.declared.solver.SolverError.TheVariants.{OutOfMemory, Invalid, VariableLimit, Dimacs}
 
 abbrev pub IsValid : State → Type 0
 IsValid s = s.ledger.valid ≡ true
@@ -70,6 +70,18 @@ AddsClause s d (Ok _) t = IsValid s × (((s.verdict ≡ Unsat) × (t ≡ s)) ⊎
 AddsClause s d (Err Invalid) t = IsRefusedInvalid s t
 AddsClause s d (Err VariableLimit) t = IsValid s × (s.verdict ≢ Unsat) × (IsPastLimit d ⊎ IsCrowded (name_all d s)) × (t ≡ s)
 AddsClause s d (Err OutOfMemory) t = IsValid s × (s.verdict ≢ Unsat) × (IsPastLimit d → ⊥) × Breaks s t
+AddsClause s d (Err (Dimacs cause)) t = ⊥
+
+-- The call `add_formula`.
+
+-- the clauses in turn, up to the first refusal; those before it stay
+abbrev pub AddsAll : State → List Clause → Result (Unit {0}) SolverError → State → Type 0
+AddsAll s [] r t = (r ≡ Ok tt) × (t ≡ s)
+AddsAll s (c ∷ P) r t =
+    ((mid : State) × AddsClause s c (Ok tt) mid × AddsAll mid P r t) ⊎ ((e : SolverError) × (r ≡ Err e) × AddsClause s c (Err e) t)
+
+abbrev pub AddsFormula : State → List Clause → Result (Unit {0}) SolverError → State → Type 0
+AddsFormula s P r t = (IsValid s × AddsAll s P r t) ⊎ ((r ≡ Err Invalid) × IsRefusedInvalid s t)
 
 -- The call `new_var`.
 
@@ -78,6 +90,7 @@ abbrev pub MakesVar : State → Result ℕ SolverError → State → Type 0
 MakesVar s (Ok u) t = IsValid s × IsLeastFree s u × (u < 2 ^ 28) × IsLike (start (name_one u s)) t
 MakesVar s (Err Invalid) t = IsRefusedInvalid s t
 MakesVar s (Err VariableLimit) t = IsValid s × ((u : ℕ) × IsLeastFree s u × ((2 ^ 28 ≤ u) ⊎ IsCrowded (name_one u s))) × (t ≡ s)
+MakesVar s (Err (Dimacs cause)) t = ⊥
 MakesVar s (Err OutOfMemory) t = IsValid s × ((u : ℕ) × IsLeastFree s u × (u < 2 ^ 28)) × Breaks s t
 
 -- The call `solve`.

@@ -15,3 +15,4 @@ pub mod Summaries
 pub mod Loads
 pub mod Counts
 pub mod Lines
+pub mod Texts

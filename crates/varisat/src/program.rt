@@ -1,15 +1,25 @@
 //! The commands of the program, over readers and writers.
-ghost use Rattle.std.specs.Prelude.{◌≡◌};
+ghost use Rattle.std.specs.Prelude.{◌≡◌, ◌++◌, OnOk, codes};
+ghost use Rattle.std.specs.Io.KnownBytes.{Appends};
+ghost use Rattle.varisat.specs.Lines.{literals_text};
 
-use crate::line::{parse_line, write_answer};
+use crate::line::{parse_line, write_answer, write_literals};
 use crate::session::make_call;
-use crate::solver::Solver;
+use crate::solver::{Solver, SolverError};
 use std::alloc::Allocator;
+use std::fmt::Display;
 use std::io::{self, BufRead, BufReader, Read, Write};
-use varisat_formula::io::MemoryTarget;
+use varisat_formula::formula::Lit;
+use varisat_formula::io::{MemoryTarget, ReadSource};
 
 /// The status of a command that came to its end.
 pub const STATUS_DONE: u8 = 0;
+
+/// The status of `solve` where a model was found.
+pub const STATUS_SATISFIABLE: u8 = 10;
+
+/// The status of `solve` where there is none.
+pub const STATUS_UNSATISFIABLE: u8 = 20;
 
 /// The status of a command that met a fault.
 pub const STATUS_FAULT: u8 = 2;
@@ -27,12 +37,73 @@ pub fn session_lines<A: Allocator + Copy, R: Read + Drop, W: Write, E: Write>(
     }
 }
 
+/// Reads a DIMACS CNF text and decides it. Prints `s SATISFIABLE` and a `v` line with the model, status 10, or `s UNSATISFIABLE`, status 20. A fault of the text, its reader or the writer, and want of memory, is told on `err`, and the status is 2.
+pub fn solve_lines<A: Allocator + Copy, R: Read + Drop, W: Write, E: Write>(
+    alloc: A,
+    cnf: R,
+    out: &mut W,
+    err: &mut E,
+) -> u8 {
+    match decide(alloc, cnf) {
+        Ok(outcome) => match write_outcome(out, &outcome) {
+            Ok(status) => status,
+            Err(error) => tell_fault(err, &error),
+        },
+        Err(error) => tell_fault(err, &error),
+    }
+}
+
+/// The model of a DIMACS CNF text, or None where its clauses are unsatisfiable.
+fn decide<A: Allocator + Copy, R: Read + Drop>(
+    alloc: A,
+    cnf: R,
+) -> Result<Option<Vec<Lit, A>>, SolverError> {
+    let mut solver: Solver<MemoryTarget<A>, A> = Solver::new_in(alloc);
+    solver.add_dimacs_cnf(&mut ReadSource::new(cnf))?;
+    if !solver.solve()? {
+        return Ok(None);
+    }
+    match solver.model() {
+        Ok(model) => Ok(model),
+        Err(_) => Err(SolverError::OutOfMemory),
+    }
+}
+
+/// Writes the model or that there is none, and gives the status for it.
+fn write_outcome<W: Write, A: Allocator + Copy>(
+    out: &mut W,
+    outcome: &Option<Vec<Lit, A>>,
+) -> io::Result<u8> {
+    let status = match outcome {
+        Some(model) => {
+            write_model(out, model)?;
+            STATUS_SATISFIABLE
+        }
+        None => {
+            out.write_all(b"s UNSATISFIABLE\n")?;
+            STATUS_UNSATISFIABLE
+        }
+    };
+    out.flush()?;
+    Ok(status)
+}
+
+/// Writes that a model was found, and the model.
+fn write_model<W: Write>(out: &mut W, model: &[Lit]) -> io::Result<()>
+    ensures { OnOk result (Appends (W.contents out.old) (W.contents out.new) (codes "s SATISFIABLE\nv" ++ literals_text model.now ++ codes "\n")) }
+{
+    out.write_all(b"s SATISFIABLE\nv")?;
+    write_literals(out, model)?;
+    out.write_all(b"\n")?;
+    Ok(())
+}
+
 /// Tells a fault, and gives the status for it.
-pub fn tell_fault<E: Write>(err: &mut E, error: &io::Error) -> u8
+pub fn tell_fault<E: Write, F: Display>(err: &mut E, fault: &F) -> u8
     ensures { result ≡ STATUS_FAULT }
 {
     // Of a writer that fails here nothing is left to tell.
-    let _ = writeln!(err, "error: {error}");
+    let _ = writeln!(err, "error: {fault}");
     STATUS_FAULT
 }
 

@@ -11,8 +11,12 @@ use crate::search::search;
 use std::alloc::{AllocError, Allocator};
 use std::marker::Model;
 use thiserror::Error;
-use varisat_formula::formula::{Lit, Var};
-use varisat_formula::io::ProofTarget;
+use varisat_formula::dimacs::{DimacsError, DimacsErrorKind, DimacsParser};
+use varisat_formula::formula::{CnfFormula, ExtendFormula, Lit, Var};
+use varisat_formula::io::{ByteSource, ProofTarget};
+
+/// How many bytes of a text are asked for at a time.
+const PIECE: usize = 0x2000;
 
 /// Why a call was refused.
 #[derive(Debug, Drop, Error)]
@@ -23,6 +27,8 @@ pub enum SolverError {
     Invalid,
     #[error("The variable limit is passed")]
     VariableLimit,
+    #[error("Error in DIMACS input: {cause}")]
+    Dimacs { cause: DimacsError },
 }
 
 impl SolverError {
@@ -37,6 +43,7 @@ impl SolverError {
             SolverError::OutOfMemory => 3,
             SolverError::Invalid => 4,
             SolverError::VariableLimit => 7,
+            SolverError::Dimacs { .. } => 13,
         }
     }
 
@@ -46,7 +53,7 @@ impl SolverError {
     {
         match self {
             SolverError::OutOfMemory | SolverError::Invalid => false,
-            SolverError::VariableLimit => true,
+            SolverError::VariableLimit | SolverError::Dimacs { .. } => true,
         }
     }
 }
@@ -122,12 +129,14 @@ impl<W: ProofTarget, A: Allocator + Copy> Model for Solver<W, A> {
 }
 
 impl<W: ProofTarget, A: Allocator + Copy> Solver<W, A> {
-    ghost use Rattle.std.specs.Prelude.{◌≡◌, Ok, Some, None, true, false, List, ℕ};
+    ghost use Rattle.std.specs.Prelude.{◌≡◌, ◌-◌, ◌<◌, ◌^◌, Ok, Err, Some, None, true, false, List, ℕ};
     ghost use Rattle.varisat_theory.specs.Literals.{IsSatisfiableWith};
     ghost use Rattle.varisat.specs.States.{State, empty_state};
     ghost use Rattle.varisat.specs.Models.{model_of, IsCompletable};
-    ghost use Rattle.varisat.specs.Calls.{IsValid, AddsClause, MakesVar, Solves, TellsModel, TellsValid, answer_of};
+    ghost use Rattle.varisat.specs.Calls.{IsValid, AddsClause, AddsFormula, MakesVar, Solves, TellsModel, TellsValid, answer_of};
     ghost use Rattle.varisat.specs.Told.{told_model};
+    ghost use Rattle.varisat.specs.Texts.{AnswersFault, AddsDimacs};
+    ghost use Rattle.varisat_formula.specs.Parsed.{stand};
     ghost use Rattle.varisat.specs.Summaries.{StandsFor};
 
     /// A solver with no clause. It takes no memory.
@@ -180,6 +189,60 @@ impl<W: ProofTarget, A: Allocator + Copy> Solver<W, A> {
                 self.valid = false;
                 Err(SolverError::OutOfMemory)
             }
+        }
+    }
+
+    /// Accepts the clauses of a formula in turn, up to the first that is refused. Those before it stay. Refused as a clause is.
+    pub fn add_formula<B: Allocator + Copy>(
+        &mut self,
+        formula: &CnfFormula<B>,
+    ) -> Result<(), SolverError>
+        ensures { (s : State) → StandsFor self.old s → (t : State) × AddsFormula s formula.now.clauses result t × StandsFor self.new t }
+    {
+        if !self.valid {
+            return Err(SolverError::Invalid);
+        }
+        for clause in formula.iter() {
+            self.add_clause(clause)?;
+        }
+        Ok(())
+    }
+
+    /// The refusal for a fault of a text. Want of memory leaves the solver invalid.
+    fn refuse_text(&mut self, fault: DimacsError) -> SolverError
+        ensures { (s : State) → StandsFor self.old s → (t : State) × AnswersFault (Some fault) s (Err result) t × StandsFor self.new t }
+    {
+        if let DimacsErrorKind::OutOfMemory = fault.kind {
+            self.valid = false;
+            return SolverError::OutOfMemory;
+        }
+        SolverError::Dimacs { cause: fault }
+    }
+
+    /// Accepts the clauses of a DIMACS CNF text in turn, up to the first that is refused or the text's first fault, which is then answered, whatever the pieces in which the source gives the text. The clauses before it stay. Want of memory in the reader is answered as in any call.
+    pub fn add_dimacs_cnf<S: ByteSource>(&mut self, source: &mut S) -> Result<(), SolverError>
+        requires { S.fault_count source.old < 2 ^ 64 - 1 }
+        ensures { (s : State) → StandsFor self.old s → (t : State) × AddsDimacs s (stand S.left S.pieces_left S.fault_count source.old) result (stand S.left S.pieces_left S.fault_count source.new) t × StandsFor self.new t }
+    {
+        if !self.valid {
+            return Err(SolverError::Invalid);
+        }
+        let mut parser = DimacsParser::new_in(self.alloc);
+        let mut buffer = [0; PIECE];
+        'pieces: loop {
+            let more = parser.next_piece(source, &mut buffer);
+            self.add_formula(&parser.take_formula())?;
+            match more {
+                Ok(true) => {}
+                Ok(false) => break,
+                Err(fault) => return Err(self.refuse_text(fault)),
+            }
+        }
+        let end = parser.finish();
+        self.add_formula(&parser.take_formula())?;
+        match end {
+            Ok(()) => Ok(()),
+            Err(fault) => Err(self.refuse_text(fault)),
         }
     }
 
@@ -247,3 +310,26 @@ impl<W: ProofTarget, A: Allocator + Copy> Solver<W, A> {
         }
     }
 }
+
+impl<W: ProofTarget, A: Allocator + Copy> ExtendFormula for Solver<W, A> {
+    ghost use Rattle.varisat.specs.States.{State};
+    ghost use Rattle.varisat.specs.Calls.{AddsClause, MakesVar};
+    ghost use Rattle.varisat.specs.Summaries.{StandsFor};
+
+    type Error = SolverError;
+
+    ghost adds_clause = { λ g c r h. (s : State) → StandsFor g s → (t : State) × AddsClause s c r t × StandsFor h t };
+
+    ghost makes_var = { λ g r h. (s : State) → StandsFor g s → (t : State) × MakesVar s r t × StandsFor h t };
+
+    fn add_clause(&mut self, literals: &[Lit]) -> Result<(), SolverError> {
+        Solver::add_clause(self, literals)
+    }
+
+    fn new_var(&mut self) -> Result<Var, SolverError> {
+        Solver::new_var(self)
+    }
+}
+
+#[cfg(test)]
+mod tests;

@@ -55,6 +55,51 @@ fn sessions_are_answered(rt: HostRuntime) -> Result<(), Fail> {
     Ok(())
 }
 
+// DIMACS texts, what is printed for them, and the statuses.
+const TEXTS: [(&str, &str, &str, u8); 8] = [
+    (
+        "p cnf 5 2\n1 2 0\n-1 0\n",
+        "s SATISFIABLE\nv -1 2 0\n",
+        "",
+        10,
+    ),
+    ("", "s SATISFIABLE\nv 0\n", "", 10),
+    ("1\nc 2 0\n-2 0", "s SATISFIABLE\nv -1 -2 0\n", "", 10),
+    ("1 2 0 -1 2 0 1 -2 0 -1 -2 0\n", "s UNSATISFIABLE\n", "", 20),
+    ("0\n", "s UNSATISFIABLE\n", "", 20),
+    (
+        "1 2",
+        "",
+        "error: Error in DIMACS input: line 1: UnterminatedClause\n",
+        2,
+    ),
+    (
+        "p cnf 2 3\n3 0\n",
+        "",
+        "error: Error in DIMACS input: line 2: VarCount\n",
+        2,
+    ),
+    (
+        "1 0\np cnf 1 1\n",
+        "",
+        "error: Error in DIMACS input: line 2: InvalidHeader\n",
+        2,
+    ),
+];
+
+#[test]
+fn texts_are_decided(rt: HostRuntime) -> Result<(), Fail> {
+    for (text, printed, told, wanted) in &TEXTS {
+        let mut out = Vec::new(rt.alloc());
+        let mut err = Vec::new(rt.alloc());
+        let status = solve_lines(rt.alloc(), Cursor::new(*text), &mut out, &mut err);
+        assert_eq!(rt; status, *wanted, "{text}");
+        assert_eq!(rt; out.as_slice(), printed.as_bytes(), "{text}");
+        assert_eq!(rt; err.as_slice(), told.as_bytes(), "{text}");
+    }
+    Ok(())
+}
+
 // A reader that fails where its text ends.
 #[derive(Drop)]
 struct CutReader<'a> {
@@ -83,6 +128,20 @@ fn a_reader_that_fails_is_told(rt: HostRuntime) -> Result<(), Fail> {
     assert_eq!(rt; session_lines(rt.alloc(), input, &mut out, &mut err), 2);
     assert_eq!(rt; out.as_slice(), b"ok 1\n".as_slice());
     assert_eq!(rt; err.as_slice(), b"error: the reader failed\n".as_slice());
+    Ok(())
+}
+
+#[test]
+fn a_file_that_fails_is_told(rt: HostRuntime) -> Result<(), Fail> {
+    let mut out = Vec::new(rt.alloc());
+    let mut err = Vec::new(rt.alloc());
+    let cnf = CutReader { text: b"1 0\n2" };
+    assert_eq!(rt; solve_lines(rt.alloc(), cnf, &mut out, &mut err), 2);
+    assert!(rt; out.is_empty());
+    assert_eq!(rt;
+        err.as_slice(),
+        b"error: Error in DIMACS input: line 2: Io\n".as_slice()
+    );
     Ok(())
 }
 

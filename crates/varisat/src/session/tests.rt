@@ -3,6 +3,7 @@ use super::*;
 use linked_list_allocator::LocalHeap;
 use std::alloc::Global;
 use std::test::Fail;
+use varisat_formula::dimacs::{DimacsError, DimacsErrorKind};
 use varisat_formula::io::MemoryTarget;
 use varisat_formula::{lit, lits};
 
@@ -117,6 +118,15 @@ fn refusals_have_their_texts(rt: HostRuntime) -> Result<(), Fail> {
             "The solver is invalid after an unrecoverable error",
         ),
         (SolverError::VariableLimit, "The variable limit is passed"),
+        (
+            SolverError::Dimacs {
+                cause: DimacsError {
+                    line: 3,
+                    kind: DimacsErrorKind::UnterminatedClause,
+                },
+            },
+            "Error in DIMACS input: line 3: UnterminatedClause",
+        ),
     ];
     for (error, text) in texts {
         assert_eq!(rt; error.to_string(rt.alloc())?.as_str(), text);

@@ -1,0 +1,47 @@
+-- Clauses that are added in turn.
+use Rattle.std.proofs.Common.{◌≡◌, inl, inr, List, [], ◌∷◌, ◌++◌, Result, Ok, Err, true, false, refl, sym, ap, subst, ◌∙◌}
+use Rattle.std.specs.Result.{IsErr, IsErrAnd}
+use Rattle.varisat_theory.specs.Literals.{Clause}
+use Rattle.varisat.specs.States.{State}
+use Rattle.varisat.specs.Calls.{IsValid, AddsClause, AddsAll, AddsFormula}
+use Rattle.varisat.proofs.Named.{rest-all}
+use Rattle.varisat.specs.declared.solver.SolverError.{SolverError}
+
+-- more clauses behind those that were accepted
+pub adds-more : (s mid t : State) (P Q : List Clause) (r : Result (Unit {0}) SolverError) → AddsAll s P (Ok tt) mid → AddsAll mid Q r t → AddsAll s (P ++ Q) r t
+adds-more s mid t [] Q r a b = subst (λ x. AddsAll x Q r t) a.1 b
+adds-more s mid t (c ∷ P) Q r (inl (u, a, rest)) b = inl (u, a, adds-more u mid t P Q r rest b)
+adds-more s mid t (c ∷ P) Q r (inr (e, k, a)) b = absurd cc
+
+-- the clause behind them decides
+pub adds-last : (s mid t : State) (P : List Clause) (c : Clause) → AddsAll s P (Ok tt) mid → AddsClause mid c (Ok tt) t → AddsAll s (P ++ c ∷ []) (Ok tt) t
+adds-last s mid t P c a b = adds-more s mid t P (c ∷ []) (Ok tt) a (inl (t, b, (refl, refl)))
+
+-- the clauses behind a refused one don't count
+pub adds-refused : (s mid t : State) (P Q : List Clause) (c : Clause) (e : SolverError) → AddsAll s P (Ok tt) mid → AddsClause mid c (Err e) t → AddsAll s (P ++ c ∷ Q) (Err e) t
+adds-refused s mid t P Q c e a b = adds-more s mid t P (c ∷ Q) (Err e) a (inr (e, refl, b))
+
+-- an error that is handed on as it is
+pub told-error : {X E : Type 0} (r : Result X E) (e : E) → IsErr r × IsErrAnd r (λ x. x ≡ e) → r ≡ Err e
+told-error (Ok x) e (a, b) = absurd cc
+told-error (Err x) e (a, b) = ap Err b
+
+-- clauses behind a refused one don't count
+pub adds-longer : (s t : State) (P Q : List Clause) (e : SolverError) → AddsAll s P (Err e) t → AddsAll s (P ++ Q) (Err e) t
+adds-longer s t [] Q e a = absurd cc
+adds-longer s t (c ∷ P) Q e (inl (u, a, rest)) = inl (u, a, adds-longer u t P Q e rest)
+adds-longer s t (c ∷ P) Q e (inr a) = inr a
+
+-- accepted clauses leave the state valid
+clause-valid : (s t : State) (c : Clause) → AddsClause s c (Ok tt) t → IsValid t
+clause-valid s t c (v, inl (n, e)) = subst IsValid (sym e) v
+clause-valid s t c (v, inr (n, p, (w, k, e))) = subst IsValid (sym e) (ap (λ x. x.valid) (rest-all c s).ledger ∙ v)
+
+pub adds-valid : (s t : State) (P : List Clause) → IsValid s → AddsAll s P (Ok tt) t → IsValid t
+adds-valid s t [] v a = subst IsValid (sym a.1) v
+adds-valid s t (c ∷ P) v (inl (u, a, rest)) = adds-valid u t P (clause-valid s u c a) rest
+adds-valid s t (c ∷ P) v (inr (e, k, a)) = absurd cc
+
+pub only-adds : (s t : State) (P : List Clause) (r : Result (Unit {0}) SolverError) → IsValid s → AddsFormula s P r t → AddsAll s P r t
+only-adds s t P r v (inl a) = a.1
+only-adds s t P r v (inr (e, (n, k))) = absurd (let q : true ≡ false = sym v ∙ n in cc)

@@ -1,0 +1,101 @@
+//! Formulas and texts that are added.
+use super::*;
+use linked_list_allocator::LocalHeap;
+use std::alloc::Global;
+use std::io::{self, Read};
+use std::test::Fail;
+use varisat_formula::io::{MemoryTarget, ReadSource};
+use varisat_formula::{cnf_formula, lits};
+
+fn solver(alloc: Global) -> Solver<MemoryTarget<Global>, Global> {
+    Solver::new_in(alloc)
+}
+
+// Whether the model is the list.
+fn has_model(solver: &Solver<MemoryTarget<Global>, Global>, list: &[Lit]) -> bool {
+    match solver.model() {
+        Ok(Some(model)) => model.as_slice() == list,
+        _ => false,
+    }
+}
+
+#[test]
+fn a_formula_is_added(rt: HostRuntime) -> Result<(), Fail> {
+    let mut solver = solver(rt.alloc());
+    let formula = cnf_formula!(in rt.alloc(); 1, -2; 3;)?;
+    assert!(rt; solver.add_formula(&formula).is_ok());
+    assert!(rt; matches!(solver.solve(), Ok(true)));
+    assert!(rt; has_model(&solver, &lits![-1, -2, 3]));
+    Ok(())
+}
+
+#[test]
+fn clauses_before_a_refused_one_stay(rt: HostRuntime) -> Result<(), Fail> {
+    let mut solver = solver(rt.alloc());
+    let formula = cnf_formula!(in rt.alloc(); 2; 268435457; -2;)?;
+    assert!(rt;
+        matches!(
+            solver.add_formula(&formula),
+            Err(SolverError::VariableLimit)
+        )
+    );
+    assert!(rt; matches!(solver.solve(), Ok(true)));
+    assert!(rt; has_model(&solver, &lits![-1, 2]));
+    Ok(())
+}
+
+#[test]
+fn a_text_is_cut_anywhere(rt: HostRuntime) -> Result<(), Fail> {
+    let text = b"p cnf 2 2\n1 -2 0\n2".as_slice();
+    for place in 0..=text.len() {
+        let mut solver = solver(rt.alloc());
+        let mut source = ReadSource::new(text[..place].chain(&text[place..]));
+        let added = solver.add_dimacs_cnf(&mut source);
+        let Err(SolverError::Dimacs { cause }) = added else {
+            panic!(rt; "no fault at {place}");
+        };
+        assert_eq!(rt; cause.line, 3);
+        assert_eq!(rt; cause.kind, DimacsErrorKind::UnterminatedClause);
+        assert!(rt; matches!(solver.solve(), Ok(true)));
+        assert!(rt; has_model(&solver, &lits![-1, -2]));
+    }
+    Ok(())
+}
+
+#[test]
+fn the_first_in_the_text_is_answered(rt: HostRuntime) -> Result<(), Fail> {
+    let mut solver = solver(rt.alloc());
+    let mut late = ReadSource::new(b"1 0 x 2 0".as_slice());
+    assert!(rt;
+        matches!(
+            solver.add_dimacs_cnf(&mut late),
+            Err(SolverError::Dimacs { .. })
+        )
+    );
+    let mut good = ReadSource::new(b"c a comment\n-1 3 0 \n".as_slice());
+    assert!(rt; solver.add_dimacs_cnf(&mut good).is_ok());
+    assert!(rt; matches!(solver.solve(), Ok(true)));
+    assert!(rt; has_model(&solver, &lits![1, -2, 3]));
+    Ok(())
+}
+
+#[test]
+fn a_text_may_want_memory(rt: HostRuntime) -> Result<(), Fail> {
+    let mut added_all = false;
+    let mut refused = false;
+    for room in 0..60 {
+        let heap = LocalHeap::new(rt.alloc(), 16 * room)?;
+        let mut solver: Solver<MemoryTarget<&LocalHeap>, &LocalHeap> = Solver::new_in(&heap);
+        let mut source = ReadSource::new(b"1 -2 0\n3 0\n".as_slice());
+        match solver.add_dimacs_cnf(&mut source) {
+            Ok(()) => added_all = true,
+            Err(error) => {
+                assert!(rt; matches!(error, SolverError::OutOfMemory));
+                assert!(rt; !solver.is_valid());
+                refused = true;
+            }
+        }
+    }
+    assert!(rt; added_all && refused);
+    Ok(())
+}

@@ -1,11 +1,18 @@
 -- What a run says of the clauses that were accepted.
-use Rattle.std.proofs.Common.{◌≡◌, ◌≢◌, ℕ, ◌<◌, ◌+◌, max, true, false, List, [], ◌∷◌, ◌++◌, ◌⊎◌, inl, inr, ⊎_elim, sym, ap, ◌∙◌, subst, refl, Some, None, Result, Ok, Err, map, arith}
+use Rattle.std.proofs.Common.{◌≡◌, ◌≢◌, ℕ, ◌<◌, ◌+◌, max, true, false, List, [], ◌∷◌, ◌++◌, ◌⊎◌, inl, inr, ⊎_elim, sym, ap, ◌∙◌, subst, refl, Option, Some, None, Result, Ok, Err, map, arith, append_assoc, append-nil}
+use Rattle.std.specs.Io.KnownBytes.{Consumes, IsAtEnd}
 use Rattle.varisat_theory.specs.Membership.{◌∈◌}
 use Rattle.varisat_theory.specs.Literals.{Literal, Clause, Assignment, variable_of, SatisfiesAll, IsSatisfiable}
 use Rattle.varisat_theory.proofs.Members.{∈-append_cases}
 use Rattle.varisat_theory.proofs.Assigned.{satisfies_fewer}
 use Rattle.varisat.specs.declared.solver.SolverError.{SolverError}
 use Rattle.varisat.specs.declared.solver.SolverError.TheVariants.{OutOfMemory, Invalid, VariableLimit, Dimacs}
+use Rattle.varisat_formula.specs.declared.dimacs.error.DimacsError.{DimacsError}
+use Rattle.varisat_formula.specs.declared.dimacs.error.DimacsErrorKind.{DimacsErrorKind}
+use Rattle.varisat_formula.specs.declared.dimacs.error.DimacsErrorKind.TheVariants as kind
+use Rattle.varisat_formula.specs.Dimacs.{Reading, nothing, items, read, lines, last_line, Ending, Ends, BreaksOff, close_by, gives, dimacs, broken}
+use Rattle.varisat_formula.specs.Parsed.{Stand}
+use Rattle.varisat_formula.proofs.Parsing.{consumes_self}
 use Rattle.varisat.specs.declared.session.Call.{Call}
 use Rattle.varisat.specs.declared.session.Answer.{Answer}
 use Rattle.varisat.specs.declared.session.Call.TheVariants as call
@@ -13,9 +20,10 @@ use Rattle.varisat.specs.declared.session.Answer.TheVariants as answer
 use Rattle.varisat.specs.States.{State, Verdict, Unknown, Sat, Unsat, empty_state, IsRight, HasRightVerdict}
 use Rattle.varisat.specs.Names.{name_one, name_all, through_names}
 use Rattle.varisat.specs.Models.{list_names, model_of}
-use Rattle.varisat.specs.Calls.{IsValid, Breaks, start, with_clause, VerdictAfter, AddsClause, MakesVar, Solves, TellsModel, answer_of}
+use Rattle.varisat.specs.Calls.{IsValid, Breaks, start, with_clause, VerdictAfter, AddsClause, AddsAll, AddsFormula, MakesVar, Solves, TellsModel, answer_of}
+use Rattle.varisat.specs.Texts.{AnswersFault, AddsReading, AddsText, AddsDimacs}
 use Rattle.varisat.specs.Runs.{Run}
-use Rattle.varisat.specs.Histories.{IsModel, AreTrue}
+use Rattle.varisat.specs.Histories.{IsModel, IsBeginning, GivesAll, AreTrue}
 use Rattle.varisat.specs.Counts.{count_with}
 use Rattle.varisat.specs.Summaries.{NamesFit}
 use Rattle.varisat.proofs.Named.{rest-one, rest-all, fit-one, fit-all, count-within, count-above}
@@ -198,27 +206,175 @@ told-model P s t m k r =
     (λ w. absurd (let z = w.1 in cc))
     r.0
 
--- 5. The run.
+-- 5. Formulas and texts.
 
-history : {A : Type 0} (calls : List (Call A)) (answers : List (Answer A)) (P : List Clause) (s t : State) → Run s calls answers t → Knows P s → AreTrue P calls answers
-history [] [] P s t r k = tt
-history [] (a ∷ answers) P s t r k = absurd r
-history (c ∷ calls) [] P s t r k = absurd r
-history (call.AddClause c ∷ calls) (answer.AddClause (Ok u) ∷ answers) P s t (mid, g, r) k = history calls answers (P ++ c.items ∷ []) mid t r (after-add P s mid c.items u k g)
-history (call.AddClause c ∷ calls) (answer.AddClause (Err e) ∷ answers) P s t (mid, g, r) k = history calls answers P mid t r (refused-add P s mid c.items e k g)
-history (call.NewVar ∷ calls) (answer.NewVar a ∷ answers) P s t (mid, g, r) k = history calls answers P mid t r (after-new P s mid a k g)
-history (call.Solve ∷ calls) (answer.Solve (Ok true) ∷ answers) P s t (mid, g, r) k = let (x, y) = true-solve P s mid k g in (x, history calls answers P mid t r y)
-history (call.Solve ∷ calls) (answer.Solve (Ok false) ∷ answers) P s t (mid, g, r) k = let (x, y) = false-solve P s mid k g in (x, history calls answers P mid t r y)
-history (call.Solve ∷ calls) (answer.Solve (Err e) ∷ answers) P s t (mid, g, r) k = history calls answers P mid t r (refused-solve P s mid e k g)
-history (call.Model ∷ calls) (answer.Model (Ok None) ∷ answers) P s t (mid, g, r) k = history calls answers P mid t r (same-knows P s mid g.1 k)
-history (call.Model ∷ calls) (answer.Model (Ok (Some m)) ∷ answers) P s t (mid, g, r) k = (told-model P s mid m.items k g, history calls answers P mid t r (same-knows P s mid g.1 k))
-history (call.Model ∷ calls) (answer.Model (Err e) ∷ answers) P s t (mid, g, r) k = history calls answers P mid t r (same-knows P s mid g.2 k)
-history (call.IsValid ∷ calls) (answer.IsValid b ∷ answers) P s t (mid, g, r) k = history calls answers P mid t r (same-knows P s mid g.1 k)
-history (_ ∷ calls) (_ ∷ answers) P s t (mid, g, r) k = absurd g
+all-added : (P C : List Clause) (s t : State) → Knows P s → AddsAll s C (Ok tt) t → Knows (P ++ C) t
+all-added P [] s t k a = subst (λ Q. Knows Q t) (sym (append-nil P)) (same-knows P s t a.1 k)
+all-added P (c ∷ C) s t k (inl (mid, a, rest)) = subst (λ Q. Knows Q t) (append_assoc P (c ∷ []) C) (all-added (P ++ c ∷ []) C mid t (after-add P s mid c tt k a) rest)
+all-added P (c ∷ C) s t k (inr (e, n, a)) = absurd cc
 
-pub history-true : {A : Type 0} (calls : List (Call A)) (answers : List (Answer A)) (t : State) → Run empty_state calls answers t → AreTrue [] calls answers
-history-true calls answers t r =
-    history calls answers [] empty_state t r (λ _. record {
+-- the first clauses were accepted, and then one was refused
+some-added : (P C : List Clause) (s t : State) (e : SolverError) → Knows P s → AddsAll s C (Err e) t → (Q : List Clause) × IsBeginning Q C × Knows (P ++ Q) t
+some-added P [] s t e k a = absurd (let z = a.0 in cc)
+some-added P (c ∷ C) s t e k (inl (mid, a, rest)) =
+    let (Q, b, w) = some-added (P ++ c ∷ []) C mid t e (after-add P s mid c tt k a) rest in
+    (c ∷ Q, (b.0, ap (λ x. c ∷ x) b.1), subst (λ x. Knows x t) (append_assoc P (c ∷ []) Q) w)
+some-added P (c ∷ C) s t e k (inr (d, n, a)) = ([], (c ∷ C, refl), subst (λ x. Knows x t) (sym (append-nil P)) (refused-add P s t c d k a))
+
+none-added : (P C : List Clause) (s t : State) → t ≡ s → Knows P s → (Q : List Clause) × IsBeginning Q C × Knows (P ++ Q) t
+none-added P C s t e k = ([], (C, refl), subst (λ x. Knows x t) (sym (append-nil P)) (same-knows P s t e k))
+
+after-formula : (P C : List Clause) (s t : State) → Knows P s → AddsFormula s C (Ok tt) t → Knows (P ++ C) t
+after-formula P C s t k (inl (v, a)) = all-added P C s t k a
+after-formula P C s t k (inr (n, r)) = absurd cc
+
+refused-formula : (P C : List Clause) (s t : State) (e : SolverError) → Knows P s → AddsFormula s C (Err e) t → (Q : List Clause) × IsBeginning Q C × Knows (P ++ Q) t
+refused-formula P C s t e k (inl (v, a)) = some-added P C s t e k a
+refused-formula P C s t e k (inr (n, r)) = none-added P C s t r.1 k
+
+-- a text that breaks off has a fault
+closed-broken : (f : Option DimacsError) (x : DimacsErrorKind) (r : Reading) (n : ℕ) → r.fault ≡ f → (close_by f (BreaksOff x) r n).fault ≡ None → ⊥
+closed-broken None x r n h e = cc
+closed-broken (Some d) x r n h e = let z : Some d ≡ None = sym h ∙ e in cc
+
+broken-fails : (x : DimacsErrorKind) (text : List ℕ) → (broken x text).fault ≡ None → ⊥
+broken-fails x text e =
+    let r : Reading = read nothing (items false 1 (lines text)) in closed-broken r.fault x r (last_line 1 (lines text)) refl e
+
+told-fine : (x : Option DimacsError) (s t : State) → AnswersFault x s (Ok tt) t → (x ≡ None) × (t ≡ s)
+told-fine None s t f = (refl, f.1)
+told-fine (Some d) s t (inl f) = absurd (let z = f.1 in cc)
+told-fine (Some d) s t (inr f) = absurd (let z = f.1 in cc)
+
+reading-added : (P : List Clause) (R : Reading) (s t : State) → Knows P s → AddsReading s R (Ok tt) t → (R.fault ≡ None) × Knows (P ++ R.clauses) t
+reading-added P R s t k (inl (e, n, a)) = absurd cc
+reading-added P R s t k (inr (mid, a, f)) =
+    let (x, y) = told-fine R.fault mid t f in (x, same-knows (P ++ R.clauses) mid t y (all-added P R.clauses s mid k a))
+
+told-fault : (P : List Clause) (x : Option DimacsError) (s t : State) (e : SolverError) → Knows P s → AnswersFault x s (Err e) t → Knows P t
+told-fault P None s t e k f = absurd (let z = f.0 in cc)
+told-fault P (Some d) s t e k (inl f) = invalid-knows P s t f.2
+told-fault P (Some d) s t e k (inr f) = same-knows P s t f.2 k
+
+reading-refused : (P : List Clause) (R : Reading) (s t : State) (e : SolverError) → Knows P s → AddsReading s R (Err e) t → (Q : List Clause) × IsBeginning Q R.clauses × Knows (P ++ Q) t
+reading-refused P R s t e k (inl (d, n, a)) = some-added P R.clauses s t d k a
+reading-refused P R s t e k (inr (mid, a, f)) = (R.clauses, ([], append-nil R.clauses), told-fault (P ++ R.clauses) R.fault mid t e (all-added P R.clauses s mid k a) f)
+
+abbrev done : Result (Unit {0}) SolverError
+done = Ok tt
+
+abbrev refused : SolverError → Result (Unit {0}) SolverError
+refused e = Err e
+
+-- what a text that was taken in gave
+record TextAdded (P : List Clause) (left : Option (List ℕ)) (t : State) : Type 0 where
+  text : List ℕ
+  all : GivesAll left text
+  fine : (dimacs text).fault ≡ None
+  knows : Knows (P ++ (dimacs text).clauses) t
+
+text-added : (P : List Clause) (s t : State) (old new : Stand) → Knows P s → AddsText s old done new t → TextAdded P old.left t
+text-added P s t old new k a = why a.answer
+  where
+    ended : IsAtEnd new.left → AddsReading s (dimacs a.text) done t → TextAdded P old.left t
+    ended e r =
+        let (x, y) = reading-added P (dimacs a.text) s t k r in record {
+          text = a.text;
+          all = record { later = new.left; consumed = a.consumed; at_end = e };
+          fine = x;
+          knows = y;
+        }
+
+    why : (((rest : List ℕ) → AddsReading s (dimacs (a.text ++ rest)) done t) × ((e : SolverError) × (done ≡ Err e)) × (new.faults ≡ old.faults))
+        ⊎ ((IsAtEnd new.left × AddsReading s (dimacs a.text) done t × (new.faults ≡ old.faults))
+        ⊎ (((front : List ℕ) × (rest : List ℕ) × (front ++ rest ≡ a.text) × AddsReading s (broken kind.OutOfMemory front) done t × (new.faults ≡ old.faults))
+        ⊎ (AddsReading s (broken kind.Io a.text) done t × (new.faults ≡ old.faults + 1)))) → TextAdded P old.left t
+    why (inl (f, (e, n), q)) = absurd cc
+    why (inr (inl (e, r, q))) = ended e r
+    why (inr (inr (inl (front, rest, e, r, q)))) = absurd (broken-fails kind.OutOfMemory front (reading-added P (broken kind.OutOfMemory front) s t k r).0)
+    why (inr (inr (inr (r, q)))) = absurd (broken-fails kind.Io a.text (reading-added P (broken kind.Io a.text) s t k r).0)
+
+-- what a text that was refused, or had a fault, gave before
+record TextBegun (P : List Clause) (left : Option (List ℕ)) (t : State) : Type 0 where
+  text : List ℕ
+  later : Option (List ℕ)
+  consumed : Consumes left later text
+  ending : Ending
+  begun : List Clause
+  first : IsBeginning begun (gives ending text).clauses
+  knows : Knows (P ++ begun) t
+
+consumes-less : (left new : Option (List ℕ)) (front rest text : List ℕ) → front ++ rest ≡ text → Consumes left new text → (later : Option (List ℕ)) × Consumes left later front
+consumes-less None new front rest text e c = (None, tt)
+consumes-less (Some xs) None front rest text e c = absurd c
+consumes-less (Some xs) (Some ys) front rest text e c = (Some (rest ++ ys), c ∙ ap (λ z. z ++ ys) (sym e) ∙ append_assoc front rest ys)
+
+text-refused : (P : List Clause) (s t : State) (old new : Stand) (e : SolverError) → Knows P s → AddsText s old (refused e) new t → TextBegun P old.left t
+text-refused P s t old new e k a = why a.answer
+  where
+    begun : (text : List ℕ) (later : Option (List ℕ)) (ending : Ending) → Consumes old.left later text → AddsReading s (gives ending text) (refused e) t → TextBegun P old.left t
+    begun text later ending c r =
+        let (Q, b, w) = reading-refused P (gives ending text) s t e k r in
+        record { text = text; later = later; consumed = c; ending = ending; begun = Q; first = b; knows = w }
+
+    why : (((rest : List ℕ) → AddsReading s (dimacs (a.text ++ rest)) (refused e) t) × ((d : SolverError) × (refused e ≡ Err d)) × (new.faults ≡ old.faults))
+        ⊎ ((IsAtEnd new.left × AddsReading s (dimacs a.text) (refused e) t × (new.faults ≡ old.faults))
+        ⊎ (((front : List ℕ) × (rest : List ℕ) × (front ++ rest ≡ a.text) × AddsReading s (broken kind.OutOfMemory front) (refused e) t × (new.faults ≡ old.faults))
+        ⊎ (AddsReading s (broken kind.Io a.text) (refused e) t × (new.faults ≡ old.faults + 1)))) → TextBegun P old.left t
+    why (inl (f, (d, n), q)) = begun a.text new.left Ends a.consumed (subst (λ x. AddsReading s (dimacs x) (refused e) t) (append-nil a.text) (f []))
+    why (inr (inl (m, r, q))) = begun a.text new.left Ends a.consumed r
+    why (inr (inr (inl (front, rest, m, r, q)))) =
+        let (later, c) = consumes-less old.left new.left front rest a.text m a.consumed in begun front later (BreaksOff kind.OutOfMemory) c r
+    why (inr (inr (inr (r, q)))) = begun a.text new.left (BreaksOff kind.Io) a.consumed r
+
+-- a text that an invalid solver refused
+text-invalid : (P : List Clause) (s t : State) (left : Option (List ℕ)) → t ≡ s → Knows P s → TextBegun P left t
+text-invalid P s t left e k =
+    record { text = []; later = left; consumed = consumes_self left; ending = Ends; begun = []; first = ((gives Ends []).clauses, refl); knows = subst (λ Q. Knows Q t) (sym (append-nil P)) (same-knows P s t e k) }
+
+after-text : (P : List Clause) (s t : State) (old new : Stand) → Knows P s → AddsDimacs s old done new t → TextAdded P old.left t
+after-text P s t old new k (inl (v, a)) = text-added P s t old new k a
+after-text P s t old new k (inr (n, r, q)) = absurd cc
+
+refused-text : (P : List Clause) (s t : State) (old new : Stand) (e : SolverError) → Knows P s → AddsDimacs s old (refused e) new t → TextBegun P old.left t
+refused-text P s t old new e k (inl (v, a)) = text-refused P s t old new e k a
+refused-text P s t old new e k (inr (n, r, q)) = text-invalid P s t old.left r.1 k
+
+-- 6. The run.
+
+-- where a call accepts nothing
+still : {S A : Type 0} (left : S → Option (List ℕ)) (P : List Clause) (calls : List (Call S A)) (answers : List (Answer A)) (t : State) → Knows P t → (Knows (P ++ []) t → AreTrue left (P ++ []) calls answers) → (Q : List Clause) × (Q ≡ []) × AreTrue left (P ++ Q) calls answers
+still left P calls answers t k go = ([], refl, go (subst (λ Q. Knows Q t) (sym (append-nil P)) k))
+
+history : {S A : Type 0} (seen : S → Stand) (calls : List (Call S A)) (answers : List (Answer A)) (P : List Clause) (s t : State) → Run seen s calls answers t → Knows P s → AreTrue (λ x. (seen x).left) P calls answers
+history seen [] [] P s t r k = tt
+history seen [] (a ∷ answers) P s t r k = absurd r
+history seen (c ∷ calls) [] P s t r k = absurd r
+history seen (call.AddClause c ∷ calls) (answer.AddClause (Ok u) ∷ answers) P s t (mid, g, r) k = (tt, (c.items ∷ [], refl, history seen calls answers (P ++ c.items ∷ []) mid t r (after-add P s mid c.items u k g)))
+history seen (call.AddClause c ∷ calls) (answer.AddClause (Err e) ∷ answers) P s t (mid, g, r) k = (tt, still (λ x. (seen x).left) P calls answers mid (refused-add P s mid c.items e k g) (history seen calls answers (P ++ []) mid t r))
+history seen (call.AddFormula f ∷ calls) (answer.AddFormula (Ok u) ∷ answers) P s t (mid, g, r) k = (tt, (f.clauses, refl, history seen calls answers (P ++ f.clauses) mid t r (after-formula P f.clauses s mid k g)))
+history seen (call.AddFormula f ∷ calls) (answer.AddFormula (Err e) ∷ answers) P s t (mid, g, r) k =
+    let (Q, b, w) = refused-formula P f.clauses s mid e k g in (tt, (Q, b, history seen calls answers (P ++ Q) mid t r w))
+history seen (call.AddDimacsCnf x ∷ calls) (answer.AddDimacsCnf (Ok u) ∷ answers) P s t (mid, (new, g), r) k =
+    let w = after-text P s mid (seen x) new k g in (tt, ((dimacs w.text).clauses, (w.text, w.all, w.fine, refl), history seen calls answers (P ++ (dimacs w.text).clauses) mid t r w.knows))
+history seen (call.AddDimacsCnf x ∷ calls) (answer.AddDimacsCnf (Err e) ∷ answers) P s t (mid, (new, g), r) k =
+    let w = refused-text P s mid (seen x) new e k g in (tt, (w.begun, (w.text, w.later, w.consumed, (w.ending, w.first)), history seen calls answers (P ++ w.begun) mid t r w.knows))
+history seen (call.NewVar ∷ calls) (answer.NewVar a ∷ answers) P s t (mid, g, r) k = (tt, still (λ x. (seen x).left) P calls answers mid (after-new P s mid a k g) (history seen calls answers (P ++ []) mid t r))
+history seen (call.Solve ∷ calls) (answer.Solve (Ok true) ∷ answers) P s t (mid, g, r) k =
+    let (x, y) = true-solve P s mid k g in (x, still (λ x. (seen x).left) P calls answers mid y (history seen calls answers (P ++ []) mid t r))
+history seen (call.Solve ∷ calls) (answer.Solve (Ok false) ∷ answers) P s t (mid, g, r) k =
+    let (x, y) = false-solve P s mid k g in (x, still (λ x. (seen x).left) P calls answers mid y (history seen calls answers (P ++ []) mid t r))
+history seen (call.Solve ∷ calls) (answer.Solve (Err e) ∷ answers) P s t (mid, g, r) k = (tt, still (λ x. (seen x).left) P calls answers mid (refused-solve P s mid e k g) (history seen calls answers (P ++ []) mid t r))
+history seen (call.Model ∷ calls) (answer.Model (Ok None) ∷ answers) P s t (mid, g, r) k = (tt, still (λ x. (seen x).left) P calls answers mid (same-knows P s mid g.1 k) (history seen calls answers (P ++ []) mid t r))
+history seen (call.Model ∷ calls) (answer.Model (Ok (Some m)) ∷ answers) P s t (mid, g, r) k =
+    (told-model P s mid m.items k g, still (λ x. (seen x).left) P calls answers mid (same-knows P s mid g.1 k) (history seen calls answers (P ++ []) mid t r))
+history seen (call.Model ∷ calls) (answer.Model (Err e) ∷ answers) P s t (mid, g, r) k = (tt, still (λ x. (seen x).left) P calls answers mid (same-knows P s mid g.2 k) (history seen calls answers (P ++ []) mid t r))
+history seen (call.IsValid ∷ calls) (answer.IsValid b ∷ answers) P s t (mid, g, r) k = (tt, still (λ x. (seen x).left) P calls answers mid (same-knows P s mid g.1 k) (history seen calls answers (P ++ []) mid t r))
+history seen (_ ∷ calls) (_ ∷ answers) P s t (mid, g, r) k = absurd g
+
+pub history-true : {S A : Type 0} (seen : S → Stand) (calls : List (Call S A)) (answers : List (Answer A)) (t : State) → Run seen empty_state calls answers t → AreTrue (λ x. (seen x).left) [] calls answers
+history-true seen calls answers t r =
+    history seen calls answers [] empty_state t r (λ _. record {
       count = 0;
       names = record { made = refl; watermark = refl; in_use = λ u h. absurd (omega arith); free = λ u h. refl };
       within = λ _ c l h. absurd h;

@@ -1,5 +1,5 @@
 -- Texts whose clauses are added, piece by piece.
-use Rattle.std.proofs.Common.{◌≡◌, ℕ, ◌+◌, List, [], ◌++◌, ◌⊎◌, inl, inr, Bool, false, Option, Some, None, Result, Ok, Err, take, drop, refl, sym, ap, subst, ◌∙◌, append_assoc, append-nil, take-append-drop}
+use Rattle.std.proofs.Common.{◌≡◌, ℕ, ◌+◌, List, [], ◌++◌, ◌⊎◌, inl, inr, ⊎_elim, Bool, false, Option, Some, None, Result, Ok, Err, take, drop, refl, sym, ap, subst, ◌∙◌, append_assoc, append-nil, take-append-drop}
 use Rattle.std.specs.Io.KnownBytes.{Consumes, IsAtEnd}
 use Rattle.varisat_theory.specs.Literals.{Clause}
 use Rattle.varisat_formula.specs.declared.dimacs.error.DimacsError.{DimacsError}
@@ -14,6 +14,7 @@ use Rattle.varisat.specs.States.{State}
 use Rattle.varisat.specs.Calls.{AddsAll}
 use Rattle.varisat.specs.Texts.{AnswersFault, AddsReading, AddsText}
 use Rattle.varisat.specs.declared.solver.SolverError.{SolverError}
+use Rattle.varisat.specs.declared.solver.SolverError.TheVariants.{OutOfMemory, Dimacs}
 use Rattle.varisat.proofs.Added.{adds-more, adds-longer}
 
 -- what was read of a source without a fault, where the clauses `front` were taken
@@ -67,6 +68,11 @@ joined : (s mid t : State) (front : List Clause) (R X : Reading) (r : Result (Un
 joined s mid t front R X r a (inl (e, k, b)) g = subst (λ R. AddsReading s R r t) (sym g) (inl (e, k, adds-more s mid t front X.clauses (Err e) a b))
 joined s mid t front R X r a (inr (u, b, w)) g = subst (λ R. AddsReading s R r t) (sym g) (inr (u, adds-more s mid u front X.clauses (Ok tt) a b, w))
 
+-- where there is a fault an error is answered
+refused-by-fault : (s t : State) (R : Reading) (x : DimacsError) (r : Result (Unit {0}) SolverError) → R.fault ≡ Some x → AddsReading s R r t → (e : SolverError) × (r ≡ Err e)
+refused-by-fault s t R x r h (inl (e, k, a)) = (e, k)
+refused-by-fault s t R x r h (inr (mid, a, f)) = ⊎_elim (λ o. (OutOfMemory, o.1)) (λ o. (Dimacs x, o.1)) (subst (λ z. AnswersFault z mid r t) h f)
+
 -- one of the clauses of a piece was refused
 pub text-refused : (s mid t : State) (a b d : Stand) (q p o : Progress) (front clauses : List Clause) (more : Bool) (e : SolverError) →
     ReadSo a b q front → TakesPiece b q (Ok more) d p → Took p clauses o → AddsAll s front (Ok tt) mid → AddsAll mid clauses (Err e) t → AddsText s a (Err e) d t
@@ -79,6 +85,7 @@ text-refused s mid t a b d q p o front clauses more e w k h x y =
         λ rest. joined s mid t front (dimacs ((w.text ++ k.piece) ++ rest)) (gives_from Ends p rest) (Err e) x
             (inl (e, refl, subst (λ cs. AddsAll mid cs (Err e) t) (sym (ap (λ z. z.clauses) (h.later Ends rest))) (adds-longer mid t clauses (gives_from Ends o rest).clauses e y)))
             (piece-same a b q p front k.piece w g.0 Ends rest),
+        (e, refl),
         g.2 ∙ w.quiet,
       );
     }
@@ -96,12 +103,12 @@ text-broken s mid t a b d q p front x out r w k is y z = record {
     h = (k.bad x is).0
 
     why : Breaks q k.piece p b d →
-        (((rest : List ℕ) → AddsReading s (dimacs ((w.text ++ k.piece) ++ rest)) r t) × (d.faults ≡ a.faults))
+        (((rest : List ℕ) → AddsReading s (dimacs ((w.text ++ k.piece) ++ rest)) r t) × ((e : SolverError) × (r ≡ Err e)) × (d.faults ≡ a.faults))
         ⊎ ((IsAtEnd d.left × AddsReading s (dimacs (w.text ++ k.piece)) r t × (d.faults ≡ a.faults))
         ⊎ (((front : List ℕ) × (rest : List ℕ) × (front ++ rest ≡ w.text ++ k.piece) × AddsReading s (broken kind.OutOfMemory front) r t × (d.faults ≡ a.faults))
         ⊎ (AddsReading s (broken kind.Io (w.text ++ k.piece)) r t × (d.faults ≡ a.faults + 1))))
     why (inl (inl f, n)) =
-        inl (λ rest. joined s mid t front (dimacs ((w.text ++ k.piece) ++ rest)) p.reading r y z (piece-same a b q p front k.piece w f Ends rest ∙ ap (λ v. with_front front v) (gives_failed Ends p x h rest)), n ∙ w.quiet)
+        inl (λ rest. joined s mid t front (dimacs ((w.text ++ k.piece) ++ rest)) p.reading r y z (piece-same a b q p front k.piece w f Ends rest ∙ ap (λ v. with_front front v) (gives_failed Ends p x h rest)), refused-by-fault mid t p.reading x r h z, n ∙ w.quiet)
     why (inl (inr o, n)) =
         inr (inr (inl (
           w.text ++ take o.at k.piece,
@@ -150,7 +157,7 @@ text-ended s mid t a b q p front r w l k y z = record {
     whole ending = ap (λ v. gives ending v) (sym (append-nil w.text)) ∙ w.same ending []
 
     why : (p.reading ≡ dimacs_from q []) ⊎ RunsOut q [] p →
-        (((rest : List ℕ) → AddsReading s (dimacs (w.text ++ rest)) r t) × (b.faults ≡ a.faults))
+        (((rest : List ℕ) → AddsReading s (dimacs (w.text ++ rest)) r t) × ((e : SolverError) × (r ≡ Err e)) × (b.faults ≡ a.faults))
         ⊎ ((IsAtEnd b.left × AddsReading s (dimacs w.text) r t × (b.faults ≡ a.faults))
         ⊎ (((front : List ℕ) × (rest : List ℕ) × (front ++ rest ≡ w.text) × AddsReading s (broken kind.OutOfMemory front) r t × (b.faults ≡ a.faults))
         ⊎ (AddsReading s (broken kind.Io w.text) r t × (b.faults ≡ a.faults + 1))))

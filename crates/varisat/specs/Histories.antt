@@ -1,7 +1,9 @@
 -- What the answers of a new solver say of the clauses that were accepted, with no state in between.
-use Rattle.std.specs.Prelude.{◌≡◌, ℕ, ◌<◌, true, false, List, [], ◌∷◌, ◌++◌, Some, Ok}
+use Rattle.std.specs.Prelude.{◌≡◌, ℕ, ◌<◌, true, false, List, [], ◌∷◌, ◌++◌, Option, Some, None, Ok, Err}
+use Rattle.std.specs.Io.KnownBytes.{Consumes, IsAtEnd}
 use Rattle.varisat_theory.specs.Membership.{◌∈◌}
 use Rattle.varisat_theory.specs.Literals.{Literal, Clause, Assignment, variable_of, SatisfiesAll, IsSatisfiable}
+use Rattle.varisat_formula.specs.Dimacs.{Ending, gives, dimacs}
 use Rattle.varisat.specs.Counts.{list_values}
 use Rattle.varisat.specs.declared.session.Call.{Call}
 use Rattle.varisat.specs.declared.session.Answer.{Answer}
@@ -12,11 +14,33 @@ use Rattle.varisat.specs.declared.session.Answer.TheVariants as answer
 abbrev pub IsModel : List Clause → List Literal → Type 0
 IsModel P model = (a : Assignment) × (n : ℕ) × (model ≡ list_values a 0 n) × ((c : Clause) (l : Literal) → c ∈ P → l ∈ c → variable_of l < n) × SatisfiesAll a P
 
--- Where the clauses P were accepted before: true is answered only if some assignment satisfies all that were accepted until then, false only if none does, and a model that is told is one of them.
-abbrev pub AreTrue : {A : Type 0} → List Clause → List (Call A) → List (Answer A) → Type 0
-AreTrue P (call.AddClause c ∷ calls) (answer.AddClause (Ok _) ∷ answers) = AreTrue (P ++ c.items ∷ []) calls answers
-AreTrue P (call.Solve ∷ calls) (answer.Solve (Ok true) ∷ answers) = IsSatisfiable P × AreTrue P calls answers
-AreTrue P (call.Solve ∷ calls) (answer.Solve (Ok false) ∷ answers) = (IsSatisfiable P → ⊥) × AreTrue P calls answers
-AreTrue P (call.Model ∷ calls) (answer.Model (Ok (Some model)) ∷ answers) = IsModel P model.items × AreTrue P calls answers
-AreTrue P (_ ∷ calls) (_ ∷ answers) = AreTrue P calls answers
-AreTrue P _ _ = Unit {0}
+-- the first clauses of the list
+abbrev pub IsBeginning : List Clause → List Clause → Type 0
+IsBeginning Q clauses = (rest : List Clause) × (Q ++ rest ≡ clauses)
+
+-- The source gave the text, of which nothing is left.
+pub record GivesAll (left : Option (List ℕ)) (text : List ℕ) : Type 0 where
+  pub later : Option (List ℕ)
+  pub consumed : Consumes left later text
+  pub at_end : IsAtEnd later
+
+-- The call with this answer accepted the clauses Q: the clause, or those of the formula or the text. Where the call was refused these are the first ones, of a text as far as it was read.
+abbrev pub Accepted : {S A : Type 0} → (S → Option (List ℕ)) → Call S A → Answer A → List Clause → Type 0
+Accepted left (call.AddClause c) (answer.AddClause (Ok _)) Q = Q ≡ c.items ∷ []
+Accepted left (call.AddFormula f) (answer.AddFormula (Ok _)) Q = Q ≡ f.clauses
+Accepted left (call.AddFormula f) (answer.AddFormula (Err _)) Q = IsBeginning Q f.clauses
+Accepted left (call.AddDimacsCnf source) (answer.AddDimacsCnf (Ok _)) Q = (text : List ℕ) × GivesAll (left source) text × ((dimacs text).fault ≡ None) × (Q ≡ (dimacs text).clauses)
+Accepted left (call.AddDimacsCnf source) (answer.AddDimacsCnf (Err _)) Q = (text : List ℕ) × (later : Option (List ℕ)) × Consumes (left source) later text × ((ending : Ending) × IsBeginning Q (gives ending text).clauses)
+Accepted left _ _ Q = Q ≡ []
+
+-- Where the clauses P were accepted: true is answered only if some assignment satisfies them, false only if none does, and a model that is told is one of them.
+abbrev pub IsTrueOf : {S A : Type 0} → List Clause → Call S A → Answer A → Type 0
+IsTrueOf P call.Solve (answer.Solve (Ok true)) = IsSatisfiable P
+IsTrueOf P call.Solve (answer.Solve (Ok false)) = IsSatisfiable P → ⊥
+IsTrueOf P call.Model (answer.Model (Ok (Some model))) = IsModel P model.items
+IsTrueOf P _ _ = Unit {0}
+
+-- Where the clauses P were accepted before, each answer is true of all that were accepted until then.
+abbrev pub AreTrue : {S A : Type 0} → (S → Option (List ℕ)) → List Clause → List (Call S A) → List (Answer A) → Type 0
+AreTrue left P (c ∷ calls) (a ∷ answers) = IsTrueOf P c a × ((Q : List Clause) × Accepted left c a Q × AreTrue left (P ++ Q) calls answers)
+AreTrue left P _ _ = Unit {0}

@@ -1,5 +1,5 @@
 -- The lines of a session: what each one calls, and how it is spelled.
-use Rattle.std.specs.Prelude.{◌≡◌, ◌==◌, ◌<◌, ◌^◌, ℕ, Bool, true, false, Option, Some, None, Ok, Err, List, [], ◌∷◌, ◌++◌, map, flat_map, codes, decimal}
+use Rattle.std.specs.Prelude.{◌≡◌, ◌==◌, ◌<◌, ◌^◌, ℕ, Bool, true, false, Option, Some, None, Result, Ok, Err, List, [], ◌∷◌, ◌++◌, map, flat_map, codes, decimal}
 use Rattle.std.specs.List.{All, join_with_byte, slice_split}
 use Rattle.std.specs.Fmt.{signed_decimal}
 use Rattle.varisat_theory.specs.Literals.{Literal}
@@ -53,9 +53,11 @@ pub record Means (text : List ℕ) (line : Line) : Type 0 where
 abbrev pub MeansOneLine : Type 0
 MeansOneLine = (text : List ℕ) (a b : Line) → Means text a → Means text b → a ≡ b
 
--- the line that asks for a call
-abbrev pub line_of : {A : Type 0} → Call A → Option Line
+-- the line that asks for a call, where there is one
+abbrev pub line_of : {S A : Type 0} → Call S A → Option Line
 line_of (call.AddClause literals) = Some (Add literals.items)
+line_of (call.AddFormula formula) = None
+line_of (call.AddDimacsCnf source) = None
 line_of call.NewVar = Some New
 line_of call.Solve = Some Solve
 line_of call.Model = Some Model
@@ -76,10 +78,15 @@ abbrev pub truth_text : Bool → List ℕ
 truth_text true = codes "ok true"
 truth_text false = codes "ok false"
 
+abbrev pub done_text : Result (Unit {0}) SolverError → List ℕ
+done_text (Ok _) = codes "ok"
+done_text (Err error) = refusal_text error
+
 -- the text of an answer
 abbrev pub answer_text : {A : Type 0} → Answer A → List ℕ
-answer_text (answer.AddClause (Ok _)) = codes "ok"
-answer_text (answer.AddClause (Err error)) = refusal_text error
+answer_text (answer.AddClause done) = done_text done
+answer_text (answer.AddFormula done) = done_text done
+answer_text (answer.AddDimacsCnf done) = done_text done
 answer_text (answer.NewVar (Ok variable)) = codes "ok " ++ variable_text variable
 answer_text (answer.NewVar (Err error)) = refusal_text error
 answer_text (answer.Solve (Ok b)) = truth_text b

@@ -22,13 +22,13 @@ AddsReading s reading r t =
     ((e : SolverError) × (r ≡ Err e) × AddsAll s reading.clauses (Err e) t)
     ⊎ ((mid : State) × AddsAll s reading.clauses (Ok tt) mid × AnswersFault reading.fault mid r t)
 
--- The text that a source gave decides the answer: a beginning of it, whatever stands behind that; or all of it; or what was
--- read until memory ran out, or until the source failed.
+-- The text that a source gave decides the answer: a beginning of it a refusal, whatever stands behind that; or all of it; or
+-- what was read until memory ran out, or until the source failed.
 pub record AddsText (s : State) (old : Stand) (r : Result (Unit {0}) SolverError) (new : Stand) (t : State) : Type 0 where
   pub text : List ℕ
   pub consumed : Consumes old.left new.left text
   pub answer :
-      (((rest : List ℕ) → AddsReading s (dimacs (text ++ rest)) r t) × (new.faults ≡ old.faults))
+      (((rest : List ℕ) → AddsReading s (dimacs (text ++ rest)) r t) × ((e : SolverError) × (r ≡ Err e)) × (new.faults ≡ old.faults))
       ⊎ ((IsAtEnd new.left × AddsReading s (dimacs text) r t × (new.faults ≡ old.faults))
       ⊎ (((front : List ℕ) × (rest : List ℕ) × (front ++ rest ≡ text) × AddsReading s (broken kind.OutOfMemory front) r t × (new.faults ≡ old.faults))
       ⊎ (AddsReading s (broken kind.Io text) r t × (new.faults ≡ old.faults + 1))))

@@ -3,7 +3,7 @@ ghost use Rattle.std.specs.Prelude.{◌≡◌, ◌≢◌, ◌==◌, ℕ, ◌+◌
 ghost use Rattle.std.specs.List.{All, join_with_byte};
 ghost use Rattle.std.specs.Io.KnownBytes.{Appends};
 ghost use Rattle.varisat_theory.specs.Literals.{Literal};
-ghost use Rattle.varisat.specs.Lines.{Line, Add, words, Means, MeansOneLine, line_of, words_of, literal_text, variable_text, literals_text, refusal_text, answer_text};
+ghost use Rattle.varisat.specs.Lines.{Line, Add, words, Means, MeansOneLine, line_of, words_of, literal_text, variable_text, literals_text, refusal_text, done_text, answer_text};
 
 use crate::session::{Answer, Call};
 use crate::solver::SolverError;
@@ -12,12 +12,16 @@ use std::alloc::{AllocError, Allocator};
 use std::io::{self, Write};
 use std::str;
 use varisat_formula::formula::{Lit, Var};
+use varisat_formula::io::ByteSource;
 
 // The highest number of a variable.
 const MAX_NUMBER: u32 = 0x8000_0000;
 
 /// Reads a line, without its line feed. None is for a text that is no line; only want of memory is an error.
-pub fn parse_line<A: Allocator + Copy>(alloc: A, text: &[u8]) -> Result<Option<Call<A>>, AllocError>
+pub fn parse_line<S: ByteSource, A: Allocator + Copy>(
+    alloc: A,
+    text: &[u8],
+) -> Result<Option<Call<S, A>>, AllocError>
     ensures line { IfOk result (λ found. IfSome found (λ call. (line : Line) × (line_of call ≡ Some line) × Means text.now line)) }
     ensures no_line { IfOk result (λ found. IfNone found ((line : Line) → Means text.now line → ⊥)) }
 {
@@ -31,7 +35,7 @@ pub fn parse_line<A: Allocator + Copy>(alloc: A, text: &[u8]) -> Result<Option<C
 }
 
 // The call of a line that is one word.
-fn parse_word<A: Allocator + Copy>(alloc: A, word: &[u8]) -> Option<Call<A>>
+fn parse_word<S: ByteSource, A: Allocator + Copy>(alloc: A, word: &[u8]) -> Option<Call<S, A>>
     ensures line { IfSome result (λ call. (line : Line) × (line_of call ≡ Some line) × Means word.now line) }
     ensures no_line { IfNone result ((line : Line) → Means word.now line → 1 < length (words line)) }
 {
@@ -123,7 +127,9 @@ pub fn write_answer<W: Write, A: Allocator + Copy>(
     ensures { OnOk result (Appends (W.contents out.old) (W.contents out.new) (answer_text answer.now)) }
 {
     match answer {
-        Answer::AddClause(Ok(())) => out.write_all(b"ok"),
+        Answer::AddClause(done) | Answer::AddFormula(done) | Answer::AddDimacsCnf(done) => {
+            write_done(out, done)
+        }
         Answer::NewVar(Ok(var)) => {
             out.write_all(b"ok ")?;
             out.write_all(Buffer::new().format(var.to_dimacs()).as_bytes())
@@ -135,10 +141,19 @@ pub fn write_answer<W: Write, A: Allocator + Copy>(
             write_literals(out, list)
         }
         Answer::Model(Ok(None)) => out.write_all(b"ok none"),
-        Answer::AddClause(Err(error)) => write_refusal(out, error),
         Answer::NewVar(Err(error)) => write_refusal(out, error),
         Answer::Solve(Err(error)) => write_refusal(out, error),
         Answer::Model(Err(_)) => write_refusal(out, &SolverError::OutOfMemory),
+    }
+}
+
+/// Writes `ok` or the refusal. Of errors the same holds as of `write_answer`.
+fn write_done<W: Write>(out: &mut W, done: &Result<(), SolverError>) -> io::Result<()>
+    ensures { OnOk result (Appends (W.contents out.old) (W.contents out.new) (done_text done.now)) }
+{
+    match done {
+        Ok(()) => out.write_all(b"ok"),
+        Err(error) => write_refusal(out, error),
     }
 }
 

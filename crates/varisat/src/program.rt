@@ -8,7 +8,7 @@ use crate::session::make_call;
 use crate::solver::{Solver, SolverError};
 use std::alloc::Allocator;
 use std::fmt::Display;
-use std::io::{self, BufRead, BufReader, Read, Write};
+use std::io::{self, BufRead, BufReader, Empty, Read, Write};
 use varisat_formula::formula::Lit;
 use varisat_formula::io::{MemoryTarget, ReadSource};
 
@@ -149,7 +149,7 @@ fn answer_line<A: Allocator + Copy, W: Write>(
     text: &[u8],
     out: &mut W,
 ) -> io::Result<()> {
-    match parse_line(alloc, text)? {
+    match parse_line::<ReadSource<Empty>, A>(alloc, text)? {
         Some(call) => write_answer(out, &make_call(solver, call)),
         None => out.write_all(b"bad line"),
     }

@@ -1,19 +1,22 @@
 //! Any list of calls of a solver.
 ghost use Rattle.std.specs.Prelude.{◌≡◌, [], IfOk, OnErr};
+ghost use Rattle.varisat_formula.specs.Parsed.{stand};
 ghost use Rattle.varisat.specs.States.{State, empty_state};
 ghost use Rattle.varisat.specs.Summaries.{StandsFor};
-ghost use Rattle.varisat.specs.Runs.{Gives, Run};
+ghost use Rattle.varisat.specs.Runs.{Gives, Run, IsReadable, AreReadable};
 ghost use Rattle.varisat.specs.Histories.{AreTrue};
 
 use crate::solver::{Solver, SolverError};
 use std::alloc::{AllocError, Allocator};
-use varisat_formula::formula::{Lit, Var};
-use varisat_formula::io::ProofTarget;
+use varisat_formula::formula::{CnfFormula, Lit, Var};
+use varisat_formula::io::{ByteSource, ProofTarget};
 
-/// A call of a solver.
+/// A call of a solver, with what it is given. A text is given by its source.
 #[derive(Drop)]
-pub enum Call<A: Allocator + Copy> {
+pub enum Call<S: ByteSource, A: Allocator + Copy> {
     AddClause(Vec<Lit, A>),
+    AddFormula(CnfFormula<A>),
+    AddDimacsCnf(S),
     NewVar,
     Solve,
     Model,
@@ -24,21 +27,26 @@ pub enum Call<A: Allocator + Copy> {
 #[derive(Drop)]
 pub enum Answer<A: Allocator + Copy> {
     AddClause(Result<(), SolverError>),
+    AddFormula(Result<(), SolverError>),
+    AddDimacsCnf(Result<(), SolverError>),
     NewVar(Result<Var, SolverError>),
     Solve(Result<bool, SolverError>),
     Model(Result<Option<Vec<Lit, A>>, AllocError>),
     IsValid(bool),
 }
 
-/// Makes one call.
-pub fn make_call<W: ProofTarget, A: Allocator + Copy>(
+/// Makes one call. A source has to have counted fewer than 2^64-1 faults.
+pub fn make_call<W: ProofTarget, S: ByteSource, A: Allocator + Copy>(
     solver: &mut Solver<W, A>,
-    call: Call<A>,
+    call: Call<S, A>,
 ) -> Answer<A>
-    ensures { (s : State) → StandsFor solver.old s → (t : State) × Gives s call result t × StandsFor solver.new t }
+    requires { IsReadable S.fault_count call }
+    ensures { (s : State) → StandsFor solver.old s → (t : State) × Gives (stand S.left S.pieces_left S.fault_count) s call result t × StandsFor solver.new t }
 {
     match call {
         Call::AddClause(clause) => Answer::AddClause(solver.add_clause(&clause)),
+        Call::AddFormula(formula) => Answer::AddFormula(solver.add_formula(&formula)),
+        Call::AddDimacsCnf(mut source) => Answer::AddDimacsCnf(solver.add_dimacs_cnf(&mut source)),
         Call::NewVar => Answer::NewVar(solver.new_var()),
         Call::Solve => Answer::Solve(solver.solve()),
         Call::Model => Answer::Model(solver.model()),
@@ -46,12 +54,13 @@ pub fn make_call<W: ProofTarget, A: Allocator + Copy>(
     }
 }
 
-/// Makes the calls in turn, and gives their answers in this order. Err comes only before the first call, where the list of answers was refused.
-pub fn run<W: ProofTarget, A: Allocator + Copy>(
+/// Makes the calls in turn, and gives their answers in this order. Err comes only before the first call, where the list of answers was refused. Each source has to have counted fewer than 2^64-1 faults.
+pub fn run<W: ProofTarget, S: ByteSource, A: Allocator + Copy>(
     solver: &mut Solver<W, A>,
-    calls: Vec<Call<A>, A>,
+    calls: Vec<Call<S, A>, A>,
 ) -> Result<Vec<Answer<A>, A>, AllocError>
-    ensures run { IfOk result (λ answers. (s : State) → StandsFor solver.old s → (t : State) × Run s calls.items answers.items t × StandsFor solver.new t) }
+    requires { AreReadable S.fault_count calls.items }
+    ensures run { IfOk result (λ answers. (s : State) → StandsFor solver.old s → (t : State) × Run (stand S.left S.pieces_left S.fault_count) s calls.items answers.items t × StandsFor solver.new t) }
     ensures err { OnErr result (solver.new ≡ solver.old) }
 {
     let mut answers = Vec::with_capacity(*calls.allocator(), calls.len())?;
@@ -61,12 +70,13 @@ pub fn run<W: ProofTarget, A: Allocator + Copy>(
     Ok(answers)
 }
 
-/// The answers of a new solver to the calls. True is answered only if some assignment satisfies all clauses that were accepted until then, false only if none does, and a model that is told is one of them.
-pub fn answers_of<W: ProofTarget, A: Allocator + Copy>(
-    calls: Vec<Call<A>, A>,
+/// The answers of a new solver to the calls. True is answered only if some assignment satisfies all clauses that were accepted until then, also those of formulas and texts, false only if none does, and a model that is told is one of them. Of sources the same is asked as by `run`.
+pub fn answers_of<W: ProofTarget, S: ByteSource, A: Allocator + Copy>(
+    calls: Vec<Call<S, A>, A>,
 ) -> Result<Vec<Answer<A>, A>, AllocError>
-    ensures run { IfOk result (λ answers. (t : State) × Run empty_state calls.items answers.items t) }
-    ensures truth { IfOk result (λ answers. AreTrue [] calls.items answers.items) }
+    requires { AreReadable S.fault_count calls.items }
+    ensures run { IfOk result (λ answers. (t : State) × Run (stand S.left S.pieces_left S.fault_count) empty_state calls.items answers.items t) }
+    ensures truth { IfOk result (λ answers. AreTrue S.left [] calls.items answers.items) }
 {
     let mut solver: Solver<W, A> = Solver::new_in(*calls.allocator());
     let answers = run(&mut solver, calls)?;

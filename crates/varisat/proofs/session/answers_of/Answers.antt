@@ -6,4 +6,4 @@ pub returns-clause-run : goal.returns-clause-run
 returns-clause-run g c = let (t, r, q) = c.in_ok-answers.ensures.run empty_state c.new_in-solver.ensures in (t, r)
 
 pub returns-clause-truth : goal.returns-clause-truth
-returns-clause-truth g c = let (t, r, q) = c.in_ok-answers.ensures.run empty_state c.new_in-solver.ensures in history-true c.args.calls.items c.in_ok-answers.answers.items t r
+returns-clause-truth g c = let (t, r, q) = c.in_ok-answers.ensures.run empty_state c.new_in-solver.ensures in history-true _ c.args.calls.items c.in_ok-answers.answers.items t r

@@ -7,6 +7,16 @@ returns-in-AddClause g c s st =
     let (t, a, w) = c.add_clause.ensures s st in
     rw c.in-AddClause.is (t, subst (λ (d : List ℕ). AddsClause s d c.add_clause.result t) c.deref.ensures.value a, w)
 
+pub returns-in-AddFormula : goal.returns-in-AddFormula
+returns-in-AddFormula g c s st = rw c.in-AddFormula.is (c.add_formula.ensures s st)
+
+pub add_dimacs_cnf-requires : goal.add_dimacs_cnf-requires
+add_dimacs_cnf-requires g c = rw c.in-AddDimacsCnf.is at c.requires
+
+pub returns-in-AddDimacsCnf : goal.returns-in-AddDimacsCnf
+returns-in-AddDimacsCnf g c s st =
+    let (t, a, w) = c.add_dimacs_cnf.ensures s st in rw c.in-AddDimacsCnf.is (t, (_, a), w)
+
 pub returns-in-NewVar : goal.returns-in-NewVar
 returns-in-NewVar g c s st = rw c.in-NewVar.is (c.new_var.ensures s st)
 

@@ -1,16 +1,22 @@
 use Rattle.std.proofs.Common.{◌++◌, ◌∷◌, [], sym, ◌∙◌, ap, subst, arith, length, append_assoc}
 use Rattle.std.proofs.lemmas.List.{nil_from_length, append-nil}
 use Rattle.std.specs.Vec.Iter.{into_iter_items}
-use Rattle.varisat.specs.Runs.{Run}
-use Rattle.varisat.proofs.Runs.{run-push}
+use Rattle.varisat_formula.specs.Parsed.{stand}
+use Rattle.varisat.specs.Runs.{Run, AreReadable}
+use Rattle.varisat.proofs.Runs.{run-push, readable-next}
 use Rattle.varisat.proofs.session.run.Goals as goal
+
+pub make_call-requires : goal.make_call-requires
+make_call-requires g c =
+    readable-next _ c.loop-call.yielded _ c.in-Some.call
+        (subst (λ cs. AreReadable g.S.ByteSource.fault_count cs) (sym (ap (λ xs. c.loop-call.yielded ++ xs) (sym c.in-Some.ensures.steps.0) ∙ c.loop-call.invariant.whole)) c.requires)
 
 pub loop-call-preserved : goal.loop-call-preserved
 loop-call-preserved g c = record {
   so_far = λ s st.
       let (t, r, q) = c.loop-call.invariant.so_far s st in
       let (u, p, w) = c.make_call.ensures t q in
-      (u, rw c.push_reserved.ensures.items (run-push s t u c.loop-call.yielded c.loop-call.answers.items c.in-Some.call c.make_call.result r p), w);
+      (u, rw c.push_reserved.ensures.items (run-push _ s t u c.loop-call.yielded c.loop-call.answers.items c.in-Some.call c.make_call.result r p), w);
   room = omega (arith, c.loop-call.invariant.room, c.in-Some.ensures.steps.1, c.push_reserved.ensures.len, c.push_reserved.ensures.capacity);
   left = let e = ap length c.in-Some.ensures.steps.0 in omega (arith, e, c.loop-call.invariant.left, c.in-Some.ensures.steps.1);
   whole = append_assoc c.loop-call.yielded (c.in-Some.call ∷ []) _ ∙ ap (λ xs. c.loop-call.yielded ++ xs) (sym c.in-Some.ensures.steps.0) ∙ c.loop-call.invariant.whole;
@@ -21,4 +27,4 @@ returns-clause-run g c s st =
     let none = nil_from_length (into_iter_items c.loop-call.call-iterator) (sym c.loop-call.invariant.left ∙ c.in-None.ensures.steps.0) in
     let e = sym (append-nil c.loop-call.yielded) ∙ ap (λ xs. c.loop-call.yielded ++ xs) (sym none) ∙ c.loop-call.invariant.whole in
     let (t, r, q) = c.loop-call.invariant.so_far s st in
-    (t, subst (λ cs. Run s cs c.loop-call.answers.items t) e r, q)
+    (t, subst (λ cs. Run (stand g.S.ByteSource.left g.S.ByteSource.pieces_left g.S.ByteSource.fault_count) s cs c.loop-call.answers.items t) e r, q)

@@ -1,6 +1,7 @@
 -- What a run says of the clauses that were accepted.
-use Rattle.std.proofs.Common.{◌≡◌, ◌≢◌, ℕ, ◌<◌, ◌+◌, max, true, false, List, [], ◌∷◌, ◌++◌, ◌⊎◌, inl, inr, ⊎_elim, sym, ap, ◌∙◌, subst, refl, Option, Some, None, Result, Ok, Err, map, arith, append_assoc, append-nil}
+use Rattle.std.proofs.Common.{◌≡◌, ◌≢◌, ℕ, ◌<◌, ◌+◌, max, Bool, true, false, List, [], ◌∷◌, ◌++◌, ◌⊎◌, inl, inr, ⊎_elim, sym, ap, ◌∙◌, subst, refl, Option, Some, None, Result, Ok, Err, Vec, map, arith, append_assoc, append-nil}
 use Rattle.std.specs.Io.KnownBytes.{Consumes, IsAtEnd}
+use Rattle.std.specs.declared.alloc.AllocError.{AllocError}
 use Rattle.varisat_theory.specs.Membership.{◌∈◌}
 use Rattle.varisat_theory.specs.Literals.{Literal, Clause, Assignment, variable_of, SatisfiesAll, IsSatisfiable}
 use Rattle.varisat_theory.proofs.Members.{∈-append_cases}
@@ -24,6 +25,8 @@ use Rattle.varisat.specs.Calls.{IsValid, Breaks, start, with_clause, VerdictAfte
 use Rattle.varisat.specs.Texts.{AnswersFault, AddsReading, AddsText, AddsDimacs}
 use Rattle.varisat.specs.Runs.{Run}
 use Rattle.varisat.specs.Histories.{IsModel, IsBeginning, GivesAll, AreTrue}
+use Rattle.varisat.specs.Told.{told_model}
+use Rattle.varisat.specs.Decided.{listed, Decides}
 use Rattle.varisat.specs.Counts.{count_with}
 use Rattle.varisat.specs.Summaries.{NamesFit}
 use Rattle.varisat.proofs.Named.{rest-one, rest-all, fit-one, fit-all, count-within, count-above}
@@ -340,6 +343,16 @@ refused-text : (P : List Clause) (s t : State) (old new : Stand) (e : SolverErro
 refused-text P s t old new e k (inl (v, a)) = text-refused P s t old new e k a
 refused-text P s t old new e k (inr (n, r, q)) = text-invalid P s t old.left r.1 k
 
+empty-knows : Knows [] empty_state
+empty-knows _ = record {
+  count = 0;
+  names = record { made = refl; watermark = refl; in_use = λ u h. absurd (omega arith); free = λ u h. refl };
+  within = λ _ c l h. absurd h;
+  same = λ _. refl;
+  refuted = λ e. absurd cc;
+  right = tt;
+}
+
 -- 6. The run.
 
 -- where a call accepts nothing
@@ -373,12 +386,31 @@ history seen (call.IsValid ∷ calls) (answer.IsValid b ∷ answers) P s t (mid,
 history seen (_ ∷ calls) (_ ∷ answers) P s t (mid, g, r) k = absurd g
 
 pub history-true : {S A : Type 0} (seen : S → Stand) (calls : List (Call S A)) (answers : List (Answer A)) (t : State) → Run seen empty_state calls answers t → AreTrue (λ x. (seen x).left) [] calls answers
-history-true seen calls answers t r =
-    history seen calls answers [] empty_state t r (λ _. record {
-      count = 0;
-      names = record { made = refl; watermark = refl; in_use = λ u h. absurd (omega arith); free = λ u h. refl };
-      within = λ _ c l h. absurd h;
-      same = λ _. refl;
-      refuted = λ e. absurd cc;
-      right = tt;
-    })
+history-true seen calls answers t r = history seen calls answers [] empty_state t r empty-knows
+
+-- 7. A text that a new solver takes in, and what is found then.
+
+decided-none : (old new : Stand) (t u : State) → AddsDimacs empty_state old (Ok tt) new t → Solves t (Ok false) u → Decides old.left None
+decided-none old new t u a b =
+    let w = after-text [] empty_state t old new empty-knows a in (w.text, w.all, w.fine, (false-solve (dimacs w.text).clauses t u w.knows b).0)
+
+pub outcome-none : (old new : Stand) (t u : State) (added : Result (Unit {0}) SolverError) (found : Result Bool SolverError) (left : Option (List ℕ)) → AddsDimacs empty_state old added new t → added ≡ Ok tt → Solves t found u → found ≡ Ok false → old.left ≡ left → Decides left None
+outcome-none old new t u added found left a x b y l = subst (λ z. Decides z None) l (decided-none old new t u (subst (λ r. AddsDimacs empty_state old r new t) x a) (subst (λ r. Solves t r u) y b))
+
+-- a model is told where one was found
+solved-told : (t u : State) → Solves t (Ok true) u → TellsModel u (Ok None) u → ⊥
+solved-told t u (v, (x, k, e, r, l)) (inl (n, m), q) =
+    let (a, s) = answer-sat x e in let z : None ≡ model_of u (Sat a) = m ∙ ap (model_of u) (ap (λ y. y.verdict) l ∙ s) in cc
+solved-told t u (v, (x, k, e, r, l)) (inr (n, m), q) = let z : true ≡ false = sym v ∙ sym (ap (λ y. y.ledger.valid) l) ∙ n in cc
+
+decided-told : {A : Type 0} (old new : Stand) (t u v : State) (m : Option (Vec Literal A)) → AddsDimacs empty_state old (Ok tt) new t → Solves t (Ok true) u → TellsModel u (told_model (Ok m)) v → Decides old.left (listed m)
+decided-told old new t u v None a b d = absurd (solved-told t u b (d.0, refl))
+decided-told old new t u v (Some m) a b d =
+    let w = after-text [] empty_state t old new empty-knows a in
+    (w.text, w.all, w.fine, told-model (dimacs w.text).clauses u v m.items (true-solve (dimacs w.text).clauses t u w.knows b).1 d)
+
+pub outcome-told : {A : Type 0} (old new : Stand) (t u v : State) (added : Result (Unit {0}) SolverError) (found : Result Bool SolverError) (told : Result (Option (Vec Literal A)) AllocError) (m : Option (Vec Literal A)) (left : Option (List ℕ)) →
+    AddsDimacs empty_state old added new t → added ≡ Ok tt → Solves t found u → found ≡ Ok true → TellsModel u (told_model told) v → told ≡ Ok m → old.left ≡ left → Decides left (listed m)
+outcome-told old new t u v added found told m left a x b y d z l =
+    subst (λ q. Decides q (listed m)) l
+    (decided-told old new t u v m (subst (λ r. AddsDimacs empty_state old r new t) x a) (subst (λ r. Solves t r u) y b) (subst (λ r. TellsModel u (told_model r) v) z d))

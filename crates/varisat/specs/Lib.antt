@@ -16,3 +16,4 @@ pub mod Loads
 pub mod Counts
 pub mod Lines
 pub mod Texts
+pub mod Decided

@@ -10,5 +10,5 @@ pub mod session;
 pub mod solver;
 
 pub use solver::{Solver, SolverError};
-pub use varisat_formula::formula::{Lit, Var};
-pub use varisat_formula::{formula, io, lit, lits, var};
+pub use varisat_formula::formula::{CnfFormula, ExtendFormula, Lit, Var};
+pub use varisat_formula::{cnf, cnf_formula, dimacs, formula, io, lit, lits, var};

@@ -1,7 +1,8 @@
 //! The commands of the program, over readers and writers.
-ghost use Rattle.std.specs.Prelude.{◌≡◌, ◌++◌, OnOk, codes};
+ghost use Rattle.std.specs.Prelude.{◌≡◌, ◌⊎◌, List, Option, OnOk, IfOk};
 ghost use Rattle.std.specs.Io.KnownBytes.{Appends};
-ghost use Rattle.varisat.specs.Lines.{literals_text};
+ghost use Rattle.varisat_theory.specs.Literals.{Literal};
+ghost use Rattle.varisat.specs.Decided.{listed, Decides, model_text, outcome_text, outcome_status};
 
 use crate::line::{parse_line, write_answer, write_literals};
 use crate::session::make_call;
@@ -43,7 +44,10 @@ pub fn solve_lines<A: Allocator + Copy, R: Read + Drop, W: Write, E: Write>(
     cnf: R,
     out: &mut W,
     err: &mut E,
-) -> u8 {
+) -> u8
+    // Any other status is given only after the whole text was read and decided, and the outcome printed.
+    ensures { (result ≡ STATUS_FAULT) ⊎ ((outcome : Option (List Literal)) × Decides (R.remaining cnf) outcome × (result ≡ outcome_status outcome) × Appends (W.contents out.old) (W.contents out.new) (outcome_text outcome)) }
+{
     match decide(alloc, cnf) {
         Ok(outcome) => match write_outcome(out, &outcome) {
             Ok(status) => status,
@@ -57,7 +61,9 @@ pub fn solve_lines<A: Allocator + Copy, R: Read + Drop, W: Write, E: Write>(
 fn decide<A: Allocator + Copy, R: Read + Drop>(
     alloc: A,
     cnf: R,
-) -> Result<Option<Vec<Lit, A>>, SolverError> {
+) -> Result<Option<Vec<Lit, A>>, SolverError>
+    ensures { IfOk result (λ outcome. Decides (R.remaining cnf) (listed outcome)) }
+{
     let mut solver: Solver<MemoryTarget<A>, A> = Solver::new_in(alloc);
     solver.add_dimacs_cnf(&mut ReadSource::new(cnf))?;
     if !solver.solve()? {
@@ -73,7 +79,10 @@ fn decide<A: Allocator + Copy, R: Read + Drop>(
 fn write_outcome<W: Write, A: Allocator + Copy>(
     out: &mut W,
     outcome: &Option<Vec<Lit, A>>,
-) -> io::Result<u8> {
+) -> io::Result<u8>
+    ensures text { OnOk result (Appends (W.contents out.old) (W.contents out.new) (outcome_text (listed outcome.now))) }
+    ensures status { IfOk result (λ status. status ≡ outcome_status (listed outcome.now)) }
+{
     let status = match outcome {
         Some(model) => {
             write_model(out, model)?;
@@ -90,7 +99,7 @@ fn write_outcome<W: Write, A: Allocator + Copy>(
 
 /// Writes that a model was found, and the model.
 fn write_model<W: Write>(out: &mut W, model: &[Lit]) -> io::Result<()>
-    ensures { OnOk result (Appends (W.contents out.old) (W.contents out.new) (codes "s SATISFIABLE\nv" ++ literals_text model.now ++ codes "\n")) }
+    ensures { OnOk result (Appends (W.contents out.old) (W.contents out.new) (model_text model.now)) }
 {
     out.write_all(b"s SATISFIABLE\nv")?;
     write_literals(out, model)?;

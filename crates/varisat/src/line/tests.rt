@@ -1,6 +1,17 @@
 //! Lines that are read or refused, and the answers' bytes.
 use super::*;
 use std::alloc::Global;
+use std::io::Empty;
+use varisat_formula::dimacs::{DimacsError, DimacsErrorKind};
+use varisat_formula::io::ReadSource;
+
+// The call of a line. No line has a source.
+fn parse(
+    alloc: Global,
+    text: &[u8],
+) -> Result<Option<Call<ReadSource<Empty>, Global>>, AllocError> {
+    parse_line(alloc, text)
+}
 
 #[test]
 fn reads_clauses(rt: HostRuntime) -> Result<(), AllocError> {
@@ -15,7 +26,7 @@ fn reads_clauses(rt: HostRuntime) -> Result<(), AllocError> {
         (b"add -2147483648".as_slice(), [4294967295].as_slice()),
     ];
     for (text, codes) in clauses {
-        let Some(Call::AddClause(literals)) = parse_line(rt.alloc(), text)? else {
+        let Some(Call::AddClause(literals)) = parse(rt.alloc(), text)? else {
             panic!(rt; "no clause was read");
         };
         assert_eq!(rt; literals.len(), codes.len());
@@ -28,62 +39,61 @@ fn reads_clauses(rt: HostRuntime) -> Result<(), AllocError> {
 
 #[test]
 fn reads_words(rt: HostRuntime) -> Result<(), AllocError> {
-    assert!(rt; matches!(parse_line(rt.alloc(), b"new")?, Some(Call::NewVar)));
-    assert!(rt; matches!(parse_line(rt.alloc(), b"solve")?, Some(Call::Solve)));
-    assert!(rt; matches!(parse_line(rt.alloc(), b"model")?, Some(Call::Model)));
+    assert!(rt; matches!(parse(rt.alloc(), b"new")?, Some(Call::NewVar)));
+    assert!(rt; matches!(parse(rt.alloc(), b"solve")?, Some(Call::Solve)));
+    assert!(rt; matches!(parse(rt.alloc(), b"model")?, Some(Call::Model)));
     Ok(())
 }
 
+// Texts that are no line.
+const OTHER_TEXTS: [&[u8]; 41] = [
+    b"",
+    b" ",
+    b" add",
+    b"add ",
+    b"add  1",
+    b"add 1 ",
+    b"add 1  2",
+    b"add\t1",
+    b"add 0",
+    b"add -0",
+    b"add 01",
+    b"add -01",
+    b"add +1",
+    b"add --1",
+    b"add -",
+    b"add 1-",
+    b"add 1 0",
+    b"add 1a",
+    b"add 2147483649",
+    b"add -2147483649",
+    b"add 4294967296",
+    b"add 4294967297",
+    b"add 18446744073709551617",
+    b"add 99999999999999999999999",
+    b"add 1\r",
+    b"add \xc2\xb2",
+    b"add \xff",
+    b"adds",
+    b"add1",
+    b"ADD 1",
+    b"new ",
+    b"new 1",
+    b"New",
+    b"solve ",
+    b" solve",
+    b"Solve",
+    b"solve\r",
+    b"model\n",
+    b"modell",
+    b"quit",
+    b"\xc3\xa4",
+];
+
 #[test]
 fn refuses_other_texts(rt: HostRuntime) -> Result<(), AllocError> {
-    let texts = [
-        b"".as_slice(),
-        b" ",
-        b" add",
-        b"add ",
-        b"add  1",
-        b"add 1 ",
-        b"add 1  2",
-        b"add\t1",
-        b"add 0",
-        b"add -0",
-        b"add 01",
-        b"add -01",
-        b"add +1",
-        b"add --1",
-        b"add -",
-        b"add 1-",
-        b"add 1 0",
-        b"add 1a",
-        b"add 2147483649",
-        b"add -2147483649",
-        b"add 4294967296",
-        b"add 4294967297",
-        b"add 18446744073709551617",
-        b"add 99999999999999999999999",
-        b"add 1\r",
-        b"add \xc2\xb2",
-        b"add \xff",
-        b"adds",
-        b"add1",
-        b"ADD 1",
-        b"new ",
-        b"new 1",
-        b"New",
-        b"solve ",
-        b" solve",
-        b"Solve",
-        b"solve\r",
-        b"model\n",
-        b"modell",
-        b"quit",
-        b"\xc3\xa4",
-    ];
-    for (place, text) in texts.iter().enumerate() {
-        assert!(rt;
-            parse_line(rt.alloc(), text)?.is_none(),
-            "the text at {place}"
-        );
+    for (place, text) in OTHER_TEXTS.iter().enumerate() {
+        assert!(rt; parse(rt.alloc(), text)?.is_none(), "the text at {place}");
     }
     Ok(())
 }
@@ -99,9 +109,18 @@ fn literals(alloc: Global) -> Result<Vec<Lit>, AllocError> {
 
 #[test]
 fn writes_answers(rt: HostRuntime) -> io::Result<()> {
-    let answers: [(Answer<Global>, &[u8]); 13] = [
+    let cause = DimacsError {
+        line: 1,
+        kind: DimacsErrorKind::VarCount,
+    };
+    let answers: [(Answer<Global>, &[u8]); 15] = [
         (Answer::AddClause(Ok(())), b"ok".as_slice()),
         (Answer::AddClause(Err(SolverError::VariableLimit)), b"err 7"),
+        (Answer::AddFormula(Ok(())), b"ok"),
+        (
+            Answer::AddDimacsCnf(Err(SolverError::Dimacs { cause })),
+            b"err 13",
+        ),
         (Answer::NewVar(Ok(Var::from_index(6))), b"ok 7"),
         (Answer::NewVar(Err(SolverError::Invalid)), b"err 4"),
         (Answer::Solve(Ok(true)), b"ok true"),

@@ -1,16 +1,27 @@
 //! Lists of calls with their answers.
+ghost use Rattle.std.specs.Prelude.{IfOk};
+ghost use Rattle.varisat.specs.Runs.{AreReadable};
+
 use super::*;
 use linked_list_allocator::LocalHeap;
 use std::alloc::Global;
 use std::test::Fail;
 use varisat_formula::dimacs::{DimacsError, DimacsErrorKind};
-use varisat_formula::io::MemoryTarget;
-use varisat_formula::{lit, lits};
+use varisat_formula::io::{MemoryTarget, ReadSource};
+use varisat_formula::{cnf_formula, lit, lits};
 
-// The calls of a small session: a clause, a variable, the question, the model and the flag.
-fn calls<A: Allocator + Copy>(alloc: A) -> Result<Vec<Call<A>, A>, AllocError> {
+// A call on a text.
+type TextCall = Call<ReadSource<&'static [u8]>, Global>;
+
+// The calls of a small session: a clause, a formula, a text that breaks off, a variable, the question, the model and the flag.
+fn calls(alloc: Global) -> Result<Vec<TextCall>, Fail>
+    ensures { IfOk result (λ calls. AreReadable (λ s. s.faults) calls.items) }
+{
     let mut calls = Vec::new(alloc);
     calls.push(Call::AddClause(Vec::from_slice(alloc, &lits![3, -1])?))?;
+    calls.push(Call::AddFormula(cnf_formula!(in alloc; 4, -1; -5;)?))?;
+    let text = b"6 0\n-2 0\n2".as_slice();
+    calls.push(Call::AddDimacsCnf(ReadSource::new(text)))?;
     calls.push(Call::NewVar)?;
     calls.push(Call::Solve)?;
     calls.push(Call::Model)?;
@@ -19,12 +30,17 @@ fn calls<A: Allocator + Copy>(alloc: A) -> Result<Vec<Call<A>, A>, AllocError> {
 }
 
 // Whether the answers are those that the calls get with ample memory.
-fn are_right<A: Allocator + Copy>(answers: &[Answer<A>]) -> bool {
+fn are_right(answers: &[Answer<Global>]) -> bool {
     answers.iter().all(|answer| match answer {
-        Answer::AddClause(added) => added.is_ok(),
-        Answer::NewVar(made) => matches!(made, Ok(var) if var.index() == 3),
+        Answer::AddClause(added) | Answer::AddFormula(added) => added.is_ok(),
+        Answer::AddDimacsCnf(added) => {
+            matches!(added, Err(SolverError::Dimacs { cause }) if cause.line == 3)
+        }
+        Answer::NewVar(made) => matches!(made, Ok(var) if var.index() == 6),
         Answer::Solve(solved) => matches!(solved, Ok(true)),
-        Answer::Model(model) => matches!(model, Ok(Some(list)) if list.len() == 4),
+        Answer::Model(model) => {
+            matches!(model, Ok(Some(list)) if list.as_slice() == lits![-1, -2, -3, -4, -5, 6, -7].as_slice())
+        }
         Answer::IsValid(valid) => *valid,
     })
 }
@@ -33,9 +49,12 @@ fn are_right<A: Allocator + Copy>(answers: &[Answer<A>]) -> bool {
 fn calls_are_answered(rt: HostRuntime) -> Result<(), Fail> {
     let mut solver: Solver<MemoryTarget<Global>, Global> = Solver::new_in(rt.alloc());
     let answers = run(&mut solver, calls(rt.alloc())?)?;
-    assert_eq!(rt; answers.len(), 5);
+    assert_eq!(rt; answers.len(), 7);
     assert!(rt; are_right(&answers));
-    let answers = answers_of::<MemoryTarget<Global>, Global>(calls(rt.alloc())?)?;
+    let answers = answers_of::<MemoryTarget<Global>, ReadSource<&'static [u8]>, Global>(calls(
+        rt.alloc(),
+    )?)?;
+    assert_eq!(rt; answers.len(), 7);
     assert!(rt; are_right(&answers));
     Ok(())
 }

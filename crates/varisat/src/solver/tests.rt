@@ -44,20 +44,73 @@ fn clauses_before_a_refused_one_stay(rt: HostRuntime) -> Result<(), Fail> {
     Ok(())
 }
 
+// A reader that gives at most so many bytes at a time, and at the end of its text fails or ends.
+#[derive(Drop)]
+struct Pieces<'a> {
+    text: &'a [u8],
+    size: usize,
+    fails: bool,
+}
+
+impl Read for Pieces<'_> {
+    fn read(&mut self, buf: &mut [u8]) -> io::Result<usize> {
+        if self.fails && self.text.is_empty() {
+            return Err(io::Error::other("the reader failed"));
+        }
+        let mut text = self.text;
+        let room = self.size.min(buf.len());
+        let count = text.read(&mut buf[..room])?;
+        self.text = text;
+        Ok(count)
+    }
+}
+
+// A text that ends in an open clause in line 3.
+const CUT_TEXT: &[u8] = b"p cnf 2 2\n1 -2 0\n2";
+
+// Whether the text is refused for a fault of this kind in line 3, and its first clause stays.
+fn is_cut_in_line_3<R: Read + Drop>(alloc: Global, reader: R, kind: DimacsErrorKind) -> bool {
+    let mut solver = solver(alloc);
+    let added = solver.add_dimacs_cnf(&mut ReadSource::new(reader));
+    matches!(added, Err(SolverError::Dimacs { cause }) if cause.line == 3 && cause.kind == kind)
+        && matches!(solver.solve(), Ok(true))
+        && has_model(&solver, &lits![-1, -2])
+        && matches!(solver.add_clause(&lits![2]), Ok(()))
+        && matches!(solver.solve(), Ok(true))
+        && has_model(&solver, &lits![1, 2])
+}
+
 #[test]
 fn a_text_is_cut_anywhere(rt: HostRuntime) -> Result<(), Fail> {
-    let text = b"p cnf 2 2\n1 -2 0\n2".as_slice();
+    let text = CUT_TEXT;
+    for size in 1..=text.len() {
+        let (whole, failing) = (
+            Pieces {
+                text,
+                size,
+                fails: false,
+            },
+            Pieces {
+                text,
+                size,
+                fails: true,
+            },
+        );
+        assert!(rt;
+            is_cut_in_line_3(rt.alloc(), whole, DimacsErrorKind::UnterminatedClause),
+            "in pieces of {size}"
+        );
+        assert!(rt;
+            is_cut_in_line_3(rt.alloc(), failing, DimacsErrorKind::Io),
+            "in pieces of {size}"
+        );
+    }
     for place in 0..=text.len() {
-        let mut solver = solver(rt.alloc());
-        let mut source = ReadSource::new(text[..place].chain(&text[place..]));
-        let added = solver.add_dimacs_cnf(&mut source);
-        let Err(SolverError::Dimacs { cause }) = added else {
-            panic!(rt; "no fault at {place}");
-        };
-        assert_eq!(rt; cause.line, 3);
-        assert_eq!(rt; cause.kind, DimacsErrorKind::UnterminatedClause);
-        assert!(rt; matches!(solver.solve(), Ok(true)));
-        assert!(rt; has_model(&solver, &lits![-1, -2]));
+        let cut = text[..place].chain(&text[place..]);
+        assert!(rt;
+            is_cut_in_line_3(rt.alloc(), cut, DimacsErrorKind::UnterminatedClause),
+            "cut at {place}"
+        );
     }
     Ok(())
 }

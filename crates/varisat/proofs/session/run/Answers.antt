@@ -9,7 +9,7 @@ use Rattle.varisat.proofs.session.run.Goals as goal
 pub make_call-requires : goal.make_call-requires
 make_call-requires g c =
     readable-next _ c.loop-call.yielded _ c.in-Some.call
-        (subst (λ cs. AreReadable g.S.ByteSource.fault_count cs) (sym (ap (λ xs. c.loop-call.yielded ++ xs) (sym c.in-Some.ensures.steps.0) ∙ c.loop-call.invariant.whole)) c.requires)
+    (subst (λ cs. AreReadable g.S.ByteSource.fault_count cs) (sym (ap (λ xs. c.loop-call.yielded ++ xs) (sym c.in-Some.ensures.steps.0) ∙ c.loop-call.invariant.whole)) c.requires)
 
 pub loop-call-preserved : goal.loop-call-preserved
 loop-call-preserved g c = record {

@@ -1,7 +1,11 @@
 //! The program: opens what the command line names, and hands it to the command.
 #![tactic(auto)]
 
-use std::io::{self, BufWriter, Write};
+ghost use Rattle.std.specs.Prelude.{◌≡◌, ◌↔◌, IsErr};
+ghost use Rattle.std.specs.Fs.{file_type, IsDir};
+
+use std::fs::{File, Metadata};
+use std::io::{self, BufWriter, ErrorKind, Write};
 use std::process::ExitCode;
 use std::{env, fs};
 use varisat::program::{STATUS_FAULT, session_lines, solve_lines, tell_fault, tell_usage};
@@ -43,9 +47,9 @@ fn session(rt: &HostRuntime) -> u8 {
 // Decides the formula in a file.
 fn solve(rt: &HostRuntime, path: &str) -> u8 {
     let mut err = rt.stderr();
-    let cnf = match fs::open(rt, path) {
+    let cnf = match open_text(rt, path) {
         Ok(cnf) => cnf,
-        Err(error) => return tell_file(rt, path, &error),
+        Err(error) => return tell_file(&mut err, path, &error),
     };
     match BufWriter::new(rt.alloc(), io::writer(rt)) {
         Ok(mut out) => solve_lines(rt.alloc(), cnf, &mut out, &mut err),
@@ -53,9 +57,32 @@ fn solve(rt: &HostRuntime, path: &str) -> u8 {
     }
 }
 
-// Tells why a file cannot be read.
-fn tell_file(rt: &HostRuntime, path: &str, error: &io::Error) -> u8 {
-    let mut err = rt.stderr();
-    let _ = writeln!(err, "error: {path}: {error}");
+// Opens a file for reading, unless it is a folder: that would open, and only fail when it is read.
+fn open_text(rt: &HostRuntime, path: &str) -> io::Result<File> {
+    let file = fs::open(rt, path)?;
+    refuse_folder(&file.metadata()?)?;
+    Ok(file)
+}
+
+// Answers an error just for a folder.
+fn refuse_folder(found: &Metadata) -> io::Result<()>
+    ensures { IsErr result ↔ IsDir (file_type found.now) }
+{
+    if found.is_dir() {
+        Err(io::Error::from(ErrorKind::IsADirectory))
+    } else {
+        Ok(())
+    }
+}
+
+// Tells why a file cannot be read, and gives the status for it.
+fn tell_file<E: Write>(err: &mut E, path: &str, error: &io::Error) -> u8
+    ensures { result ≡ STATUS_FAULT }
+{
+    // Of a writer that fails here nothing is left to tell.
+    let _ = writeln!(err, "error: '{path}': {error}");
     STATUS_FAULT
 }
+
+#[cfg(test)]
+mod tests;

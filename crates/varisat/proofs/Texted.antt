@@ -89,20 +89,17 @@ pub text-broken : (s mid t : State) (a b d : Stand) (q p : Progress) (front : Li
 text-broken s mid t a b d q p front x out r w k is y z = record {
   text = w.text ++ k.piece;
   consumed = consumes_more a.left b.left d.left w.text k.piece w.consumed k.consumed;
-  answer = why (k.bad x is).1;
+  answer = why (k.bad x is);
 }
   where
-    h : p.reading.fault ≡ Some x
-    h = (k.bad x is).0
-
-    why : Breaks q k.piece p b d →
+    why : Breaks q k.piece x p b d →
         (((rest : List ℕ) → AddsReading s (dimacs ((w.text ++ k.piece) ++ rest)) r t) × (d.faults ≡ a.faults))
         ⊎ ((IsAtEnd d.left × AddsReading s (dimacs (w.text ++ k.piece)) r t × (d.faults ≡ a.faults))
         ⊎ (((front : List ℕ) × (rest : List ℕ) × (front ++ rest ≡ w.text ++ k.piece) × AddsReading s (broken kind.OutOfMemory front) r t × (d.faults ≡ a.faults))
         ⊎ (AddsReading s (broken kind.Io (w.text ++ k.piece)) r t × (d.faults ≡ a.faults + 1))))
-    why (inl (inl f, n)) =
+    why (inl (inl f, h, n)) =
         inl (λ rest. joined s mid t front (dimacs ((w.text ++ k.piece) ++ rest)) p.reading r y z (piece-same a b q p front k.piece w f Ends rest ∙ ap (λ v. with_front front v) (gives_failed Ends p x h rest)), n ∙ w.quiet)
-    why (inl (inr o, n)) =
+    why (inl (inr o, h, n)) =
         inr (inr (inl (
           w.text ++ take o.at k.piece,
           drop o.at k.piece,
@@ -110,10 +107,10 @@ text-broken s mid t a b d q p front x out r w k is y z = record {
           joined s mid t front (broken kind.OutOfMemory (w.text ++ take o.at k.piece)) p.reading r y z (w.same (BreaksOff kind.OutOfMemory) (take o.at k.piece) ∙ ap (λ v. with_front front v) (sym o.out.reading)),
           n ∙ w.quiet,
         )))
-    why (inr (g, n, f)) =
+    why (inr (g, h, n, f)) =
         inr (inr (inr (
           joined s mid t front (broken kind.Io (w.text ++ k.piece)) p.reading r y z
-              (ap (λ v. broken kind.Io (w.text ++ v)) n ∙ w.same (BreaksOff kind.Io) [] ∙ ap (λ v. with_front front v) (sym (g w.open_still))),
+              (ap (λ v. broken kind.Io (w.text ++ v)) n ∙ w.same (BreaksOff kind.Io) [] ∙ ap (λ v. with_front front v) (sym g)),
           f ∙ ap (λ n. n + 1) w.quiet,
         )))
 

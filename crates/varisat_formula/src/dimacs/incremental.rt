@@ -27,7 +27,7 @@ pub trait PieceReader<A: Allocator + Copy>: Drop {
     ) -> Result<bool, DimacsError>
         requires few { S.fault_count source.old < 2 ^ 64 - 1 }
         requires room { 0 < length buffer.old }
-        ensures { TakesPiece (stand S.left S.pieces_left S.fault_count source.old) (progress self.old) result (stand S.left S.pieces_left S.fault_count source.new) (progress self.new) };
+        ensures { TakesPiece (stand S.given S.left S.pieces_left S.fault_count source.old) (progress self.old) result (stand S.given S.left S.pieces_left S.fault_count source.new) (progress self.new) };
 
     /// Ends the text.
     fn end(&mut self) -> Result<(), DimacsError>
@@ -47,8 +47,8 @@ pub trait PieceReader<A: Allocator + Copy>: Drop {
         F: Drop,
         requires few { S.fault_count source.old < 2 ^ 64 - 1 }
         requires callable { (state : F) (x : _) → F.pre state x }
-        ensures ok { IfOk result (Finishes (CalledAtMut F.FnMut) progress (stand S.left S.pieces_left S.fault_count source.old) f (stand S.left S.pieces_left S.fault_count source.new)) }
-        ensures err { IfErr result (Refuses (CalledAtMut F.FnMut) progress E.from_gives) }
+        ensures ok { IfOk result (Finishes (CalledAtMut F.FnMut) progress (stand S.given S.left S.pieces_left S.fault_count source.old) f (stand S.given S.left S.pieces_left S.fault_count source.new)) }
+        ensures err { IfErr result (Refuses (CalledAtMut F.FnMut) progress E.from_gives (stand S.given S.left S.pieces_left S.fault_count source.old) f (stand S.given S.left S.pieces_left S.fault_count source.new)) }
     {
         let mut parser = Self::begin_in(alloc);
         let mut buffer = [0; PIECE];

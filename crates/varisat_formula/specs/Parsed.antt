@@ -39,7 +39,7 @@ abbrev pub EndsToken : List ℕ → Option (List ℕ) → Type 0
 EndsToken [] left = IsAtEnd left
 EndsToken (b ∷ bs) left = is_blank b ≡ true
 
--- memory ran out in the text: in the line of a token that was to be kept, of which nothing behind it is known
+-- memory ran out behind this front of the text, where a token ends that was to be kept: the fault has the token's line
 pub record RunsOutAt (text : List ℕ) (e : DimacsError) (t : Stand) : Type 0 where
   pub front : List ℕ
   pub rest : List ℕ

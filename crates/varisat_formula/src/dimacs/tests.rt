@@ -316,6 +316,22 @@ fn after_the_end(rt: HostRuntime) {
 }
 
 #[test]
+fn broken_off(rt: HostRuntime) {
+    let mut parser = DimacsParser::new_in(rt.alloc());
+    assert!(rt; parser.feed(b"1 0\n2").is_ok());
+    let fault = Some(parser.break_off());
+    assert!(rt; fault == at(2, DimacsErrorKind::Io));
+    assert!(rt; parser.finish().err() == fault);
+    assert!(rt; Some(parser.break_off()) == fault);
+    let mut parser = DimacsParser::new_in(rt.alloc());
+    assert!(rt; parser.feed(b"1 0\n").is_ok());
+    assert!(rt; parser.finish().is_ok());
+    // The text was over before.
+    assert!(rt; Some(parser.break_off()) == at(2, DimacsErrorKind::Io));
+    assert!(rt; parser.finish().is_ok());
+}
+
+#[test]
 fn source_that_fails(rt: HostRuntime) -> Result<(), FormulaError> {
     let alloc = rt.alloc();
     let mut source = ReadSource::new(CutReader {
@@ -355,16 +371,19 @@ fn pieces_of_a_function(rt: HostRuntime) {
         text: b"1 0 2 0 3 0",
         fails: false,
     });
-    let mut clauses = 0;
+    let (mut calls, mut clauses) = (0, 0);
     let answer: Result<DimacsParser<Global>, DimacsError> = DimacsParser::parse_incremental(
         rt.alloc(),
         &mut source,
         |reader| {
-            clauses = clauses.max(reader.clause_count());
+            calls = u64::saturating_add(calls, 1);
+            clauses = reader.clause_count();
             Ok(())
         },
     );
     assert!(rt; answer.is_ok());
+    // Four pieces and the end.
+    assert_eq!(rt; calls, 5);
     assert_eq!(rt; clauses, 3);
     let mut source = ReadSource::new(b"1 0".as_slice());
     let refusal = DimacsError {

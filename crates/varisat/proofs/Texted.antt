@@ -20,6 +20,7 @@ use Rattle.varisat.proofs.Added.{adds-more, adds-longer}
 -- what was read of a source without a fault, where the clauses `front` were taken
 pub record ReadSo (s t : Stand) (q : Progress) (front : List Clause) : Type 0 where
   pub text : List ℕ
+  pub gave : t.given ≡ s.given ++ text
   pub consumed : Consumes s.left t.left text
   pub same : (ending : Ending) (rest : List ℕ) → gives ending (text ++ rest) ≡ with_front front (gives_from ending q rest)
   pub open_still : q.over ≡ false
@@ -29,6 +30,7 @@ pub record ReadSo (s t : Stand) (q : Progress) (front : List Clause) : Type 0 wh
 pub read-nothing : (s : Stand) (q : Progress) → q ≡ begin → ReadSo s s q []
 read-nothing s q e = record {
   text = [];
+  gave = sym (append-nil s.given);
   consumed = consumes_self s.left;
   same = λ ending rest. sym (begin_gives ending rest) ∙ ap (λ x. gives_from ending x rest) (sym e);
   open_still = ap (λ x. x.over) e;
@@ -51,11 +53,15 @@ piece-same a b q p front piece w f ending rest =
 fronts-join : (xs ys : List Clause) (r : Reading) → with_front xs (with_front ys r) ≡ with_front (xs ++ ys) r
 fronts-join xs ys r = ap (λ cs. record r { clauses = cs }) (sym (append_assoc xs ys r.clauses))
 
+gives-more : (a b c : Stand) (xs ys : List ℕ) → b.given ≡ a.given ++ xs → c.given ≡ b.given ++ ys → c.given ≡ a.given ++ (xs ++ ys)
+gives-more a b c xs ys e f = f ∙ ap (λ z. z ++ ys) e ∙ append_assoc a.given xs ys
+
 pub read-more : (a b d : Stand) (q p o : Progress) (front clauses : List Clause) (more : Bool) (r : Result Bool DimacsError) → ReadSo a b q front → TakesPiece b q r d p → r ≡ Ok more → p.over ≡ q.over → Took p clauses o → ReadSo a d o (front ++ clauses)
 read-more a b d q p o front clauses more r w k e v t =
     let g = k.good more e in
     record {
       text = w.text ++ k.piece;
+      gave = gives-more a b d w.text k.piece w.gave k.gave;
       consumed = consumes_more a.left b.left d.left w.text k.piece w.consumed k.consumed;
       same = λ ending rest. piece-same a b q p front k.piece w g.0 ending rest ∙ ap (λ x. with_front front x) (t.later ending rest) ∙ fronts-join front clauses (gives_from ending o rest);
       open_still = t.same_over ∙ v ∙ w.open_still;
@@ -80,6 +86,7 @@ text-refused s mid t a b d q p o front clauses more e w k h x y =
     let g = k.good more refl in
     record {
       text = w.text ++ k.piece;
+      gave = gives-more a b d w.text k.piece w.gave k.gave;
       consumed = consumes_more a.left b.left d.left w.text k.piece w.consumed k.consumed;
       answer = inl (
         λ rest. joined s mid t front (dimacs ((w.text ++ k.piece) ++ rest)) (gives_from Ends p rest) (Err e) x
@@ -95,21 +102,19 @@ pub text-broken : (s mid t : State) (a b d : Stand) (q p : Progress) (front : Li
     ReadSo a b q front → TakesPiece b q out d p → out ≡ Err x → AddsAll s front (Ok tt) mid → AddsReading mid p.reading r t → AddsText s a r d t
 text-broken s mid t a b d q p front x out r w k is y z = record {
   text = w.text ++ k.piece;
+  gave = gives-more a b d w.text k.piece w.gave k.gave;
   consumed = consumes_more a.left b.left d.left w.text k.piece w.consumed k.consumed;
-  answer = why (k.bad x is).1;
+  answer = why (k.bad x is);
 }
   where
-    h : p.reading.fault ≡ Some x
-    h = (k.bad x is).0
-
-    why : Breaks q k.piece p b d →
+    why : Breaks q k.piece x p b d →
         (((rest : List ℕ) → AddsReading s (dimacs ((w.text ++ k.piece) ++ rest)) r t) × ((e : SolverError) × (r ≡ Err e)) × (d.faults ≡ a.faults))
         ⊎ ((IsAtEnd d.left × AddsReading s (dimacs (w.text ++ k.piece)) r t × (d.faults ≡ a.faults))
         ⊎ (((front : List ℕ) × (rest : List ℕ) × (front ++ rest ≡ w.text ++ k.piece) × AddsReading s (broken kind.OutOfMemory front) r t × (d.faults ≡ a.faults))
         ⊎ (AddsReading s (broken kind.Io (w.text ++ k.piece)) r t × (d.faults ≡ a.faults + 1))))
-    why (inl (inl f, n)) =
+    why (inl (inl f, h, n)) =
         inl (λ rest. joined s mid t front (dimacs ((w.text ++ k.piece) ++ rest)) p.reading r y z (piece-same a b q p front k.piece w f Ends rest ∙ ap (λ v. with_front front v) (gives_failed Ends p x h rest)), refused-by-fault mid t p.reading x r h z, n ∙ w.quiet)
-    why (inl (inr o, n)) =
+    why (inl (inr o, h, n)) =
         inr (inr (inl (
           w.text ++ take o.at k.piece,
           drop o.at k.piece,
@@ -117,10 +122,10 @@ text-broken s mid t a b d q p front x out r w k is y z = record {
           joined s mid t front (broken kind.OutOfMemory (w.text ++ take o.at k.piece)) p.reading r y z (w.same (BreaksOff kind.OutOfMemory) (take o.at k.piece) ∙ ap (λ v. with_front front v) (sym o.out.reading)),
           n ∙ w.quiet,
         )))
-    why (inr (g, n, f)) =
+    why (inr (g, h, n, f)) =
         inr (inr (inr (
           joined s mid t front (broken kind.Io (w.text ++ k.piece)) p.reading r y z
-              (ap (λ v. broken kind.Io (w.text ++ v)) n ∙ w.same (BreaksOff kind.Io) [] ∙ ap (λ v. with_front front v) (sym (g w.open_still))),
+              (ap (λ v. broken kind.Io (w.text ++ v)) n ∙ w.same (BreaksOff kind.Io) [] ∙ ap (λ v. with_front front v) (sym g)),
           f ∙ ap (λ n. n + 1) w.quiet,
         )))
 
@@ -149,6 +154,7 @@ pub text-ended : (s mid t : State) (a b : Stand) (q p : Progress) (front : List 
     ReadSo a b q front → IsAtEnd b.left → (p.reading ≡ dimacs_from q []) ⊎ RunsOut q [] p → AddsAll s front (Ok tt) mid → AddsReading mid p.reading r t → AddsText s a r b t
 text-ended s mid t a b q p front r w l k y z = record {
   text = w.text;
+  gave = w.gave;
   consumed = w.consumed;
   answer = why k;
 }

@@ -26,6 +26,7 @@ AddsReading s reading r t =
 -- what was read until memory ran out, or until the source failed.
 pub record AddsText (s : State) (old : Stand) (r : Result (Unit {0}) SolverError) (new : Stand) (t : State) : Type 0 where
   pub text : List ℕ
+  pub gave : new.given ≡ old.given ++ text
   pub consumed : Consumes old.left new.left text
   pub answer :
       (((rest : List ℕ) → AddsReading s (dimacs (text ++ rest)) r t) × ((e : SolverError) × (r ≡ Err e)) × (new.faults ≡ old.faults))

@@ -41,7 +41,7 @@ pub fn make_call<W: ProofTarget, S: ByteSource, A: Allocator + Copy>(
     call: Call<S, A>,
 ) -> Answer<A>
     requires { IsReadable S.fault_count call }
-    ensures { (s : State) → StandsFor solver.old s → (t : State) × Gives (stand S.left S.pieces_left S.fault_count) s call result t × StandsFor solver.new t }
+    ensures { (s : State) → StandsFor solver.old s → (t : State) × Gives (stand S.given S.left S.pieces_left S.fault_count) s call result t × StandsFor solver.new t }
 {
     match call {
         Call::AddClause(clause) => Answer::AddClause(solver.add_clause(&clause)),
@@ -60,7 +60,7 @@ pub fn run<W: ProofTarget, S: ByteSource, A: Allocator + Copy>(
     calls: Vec<Call<S, A>, A>,
 ) -> Result<Vec<Answer<A>, A>, AllocError>
     requires { AreReadable S.fault_count calls.items }
-    ensures run { IfOk result (λ answers. (s : State) → StandsFor solver.old s → (t : State) × Run (stand S.left S.pieces_left S.fault_count) s calls.items answers.items t × StandsFor solver.new t) }
+    ensures run { IfOk result (λ answers. (s : State) → StandsFor solver.old s → (t : State) × Run (stand S.given S.left S.pieces_left S.fault_count) s calls.items answers.items t × StandsFor solver.new t) }
     ensures err { OnErr result (solver.new ≡ solver.old) }
 {
     let mut answers = Vec::with_capacity(*calls.allocator(), calls.len())?;
@@ -75,7 +75,7 @@ pub fn answers_of<W: ProofTarget, S: ByteSource, A: Allocator + Copy>(
     calls: Vec<Call<S, A>, A>,
 ) -> Result<Vec<Answer<A>, A>, AllocError>
     requires { AreReadable S.fault_count calls.items }
-    ensures run { IfOk result (λ answers. (t : State) × Run (stand S.left S.pieces_left S.fault_count) empty_state calls.items answers.items t) }
+    ensures run { IfOk result (λ answers. (t : State) × Run (stand S.given S.left S.pieces_left S.fault_count) empty_state calls.items answers.items t) }
     ensures truth { IfOk result (λ answers. AreTrue S.left [] calls.items answers.items) }
 {
     let mut solver: Solver<W, A> = Solver::new_in(*calls.allocator());

@@ -222,7 +222,7 @@ impl<W: ProofTarget, A: Allocator + Copy> Solver<W, A> {
     /// Accepts the clauses of a DIMACS CNF text in turn, up to the first that is refused or the text's first fault, which is then answered, whatever the pieces in which the source gives the text. The clauses before it stay. Want of memory in the reader is answered as in any call.
     pub fn add_dimacs_cnf<S: ByteSource>(&mut self, source: &mut S) -> Result<(), SolverError>
         requires { S.fault_count source.old < 2 ^ 64 - 1 }
-        ensures { (s : State) → StandsFor self.old s → (t : State) × AddsDimacs s (stand S.left S.pieces_left S.fault_count source.old) result (stand S.left S.pieces_left S.fault_count source.new) t × StandsFor self.new t }
+        ensures { (s : State) → StandsFor self.old s → (t : State) × AddsDimacs s (stand S.given S.left S.pieces_left S.fault_count source.old) result (stand S.given S.left S.pieces_left S.fault_count source.new) t × StandsFor self.new t }
     {
         if !self.valid {
             return Err(SolverError::Invalid);

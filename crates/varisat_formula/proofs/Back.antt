@@ -15,11 +15,12 @@ use Rattle.varisat_formula.specs.Formulas.{Formula, AllBelow, AreBelow}
 use Rattle.varisat_formula.specs.Dimacs.{Token, Reading, nothing, step_by, is_blank, is_line_feed, next, number, in_range, meaning, positive, negative, after_token, after_header, is_one_too_many, read, failed, put, split, nonempty, tokens, header_of, sized, sizes, at_end, Ends}
 use Rattle.varisat_formula.specs.Machine.{no_word, after_byte, word_from, after_header_byte, header_from}
 use Rattle.varisat_formula.specs.Rest.{Progress, Follows, begin, word_items, start_place, gives_from}
-use Rattle.varisat_formula.specs.Written.{literal_text, literals_text, clauses_text, formula_text, ReadsBack}
+use Rattle.varisat_formula.specs.Numbers.{literal_text}
+use Rattle.varisat_formula.specs.Written.{literals_text, clauses_text, formula_text, ReadsBack}
 use Rattle.varisat_formula.proofs.Words.{one_items, join, split_pieces}
 use Rattle.varisat_formula.proofs.Headers.{header_agrees}
 use Rattle.varisat_formula.proofs.Steps.{standing, follows_none, follows_more, follows_byte, follows_line_feed, plain_blank, plain_more, header_more, start_more, begin_gives}
-use Rattle.varisat_formula.proofs.Decimal.{number_decimal}
+use Rattle.varisat_formula.proofs.Decimal.{number_decimal, literal_text_is}
 
 abbrev pub plain : ℕ → Word → Reading → Progress
 plain n w r = standing n (Plain w) r
@@ -146,7 +147,7 @@ literal_follows : (vars total : ℕ) (done : List (List ℕ)) (begun : List ℕ)
     Follows (plain n no_word (at vars total done begun k)) (literal_text l ++ 32 ∷ []) (plain n no_word (at vars total done (begun ++ l ∷ []) k))
 literal_follows vars total done begun k n l h f g =
     let small : l / 2 < 2 ^ 28 = omega arith in
-    let c = literal_case (l % 2 == 0) l small refl in
+    let c : Spells (literal_text l) l = subst (λ t. Spells t l) (sym (literal_text_is l)) (literal_case (l % 2 == 0) l small refl) in
     subst (λ r. Follows (plain n no_word (at vars total done begun k)) (literal_text l ++ 32 ∷ []) (plain n no_word r))
     (token_read (at vars total done begun k) n (literal_text l) refl c.some
     ∙ ap (λ m. after_token (at vars total done begun k) n m) c.says
@@ -217,7 +218,7 @@ fine_clause vars [] rest h b = (refl, refl, refl)
 fine_clause vars (l ∷ ls) rest h b =
     let f = b.0 in
     let p : l / 2 + 1 < 2 ^ 64 = omega (arith, f) in
-    fine_more (literal_text l ++ 32 ∷ literals_text ls) (48 ∷ rest) (fine_more (literal_text l) (32 ∷ literals_text ls) (fine_literal (l % 2 == 0) (l / 2 + 1) p))
+    fine_more (literal_text l ++ 32 ∷ literals_text ls) (48 ∷ rest) (fine_more (literal_text l) (32 ∷ literals_text ls) (subst (λ t. Fine t) (sym (literal_text_is l)) (fine_literal (l % 2 == 0) (l / 2 + 1) p)))
 
 clause_follows : (vars total : ℕ) (done : List (List ℕ)) (k n : ℕ) (c : List ℕ) → vars ≤ 2 ^ 28 → k < total → total < 2 ^ 64 → AllBelow vars c →
     Follows (standing n Start (at vars total done [] k)) (literals_text c ++ 48 ∷ 10 ∷ []) (standing (next n) Start (at vars total (done ++ c ∷ []) [] (suc k)))

@@ -1,7 +1,9 @@
 -- Decimal text is read as its number.
-use Rattle.std.proofs.Common.{◌≡◌, ℕ, zero, suc, ◌+◌, ◌-◌, ◌*◌, ◌/◌, ◌%◌, ◌^◌, ◌<◌, List, [], ◌∷◌, ◌++◌, Bool, true, false, ◌==◌, if◌then◌else◌, refl, ap, ◌∙◌, Option, Some, None, get_or, arith, rules, decimal}
+use Rattle.std.proofs.Common.{◌≡◌, ℕ, zero, suc, ◌+◌, ◌-◌, ◌*◌, ◌/◌, ◌%◌, ◌^◌, ◌<◌, List, [], ◌∷◌, ◌++◌, Bool, true, false, ◌==◌, if◌then◌else◌, refl, sym, ap, ◌∙◌, Option, Some, None, get_or, arith, rules, decimal, pos, negsuc}
 use Rattle.std.proofs.lemmas.Fmt.{decimal_by_steps, first_decimal, decimal_digit}
+use Rattle.std.specs.Fmt.{signed_decimal}
 use Rattle.varisat_formula.specs.Dimacs.{is_digit, digits_after, number}
+use Rattle.varisat_formula.specs.Numbers.{literal_text}
 
 is_digit_of : (n : ℕ) → n < 10 → is_digit (48 + n) ≡ true
 is_digit_of n h = search (rules, h)
@@ -39,3 +41,14 @@ number_plain (d ∷ e ∷ ds) h = let f : (d == 48) ≡ false = search (rules, h
 pub number_decimal : (n : ℕ) → n < 2 ^ 64 → number (decimal n) ≡ Some n
 number_decimal zero h = ap number (decimal_digit 0 (omega arith))
 number_decimal (suc n) h = number_plain (decimal (suc n)) (first_decimal (suc n) (omega arith) h) ∙ digits_decimal (suc n) h
+
+-- a literal's text by its sign
+pub literal_text_is : (l : ℕ) → literal_text l ≡ (if l % 2 == 0 then decimal (l / 2 + 1) else 45 ∷ decimal (l / 2 + 1))
+literal_text_is l = by_sign (l % 2 == 0)
+  where
+    more : (n : ℕ) → suc n ≡ n + 1
+    more n = omega arith
+
+    by_sign : (t : Bool) → signed_decimal (if t then pos (l / 2 + 1) else negsuc (l / 2)) ≡ (if t then decimal (l / 2 + 1) else 45 ∷ decimal (l / 2 + 1))
+    by_sign true = refl
+    by_sign false = ap (λ n. 45 ∷ decimal n) (more (l / 2))

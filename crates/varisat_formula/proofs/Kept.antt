@@ -14,6 +14,9 @@ longer xs x e = let f = ap length e in let g = length-append xs (x ∷ []) in ab
 kept_at : (r s t : Reading) → t ≡ s → Keeps r s → Keeps r t
 kept_at r s t e k = subst (λ x. Keeps r x) (sym e) k
 
+pub kept_by : (a b r s : Reading) → a ≡ r → b ≡ s → Keeps r s → Keeps a b
+kept_by a b r s e f k = subst (λ x. Keeps x b) (sym e) (kept_at r s b f k)
+
 -- a blank ends the token
 blank_gives : (s : Progress) (w : Word) → s.over ≡ false → s.place ≡ Plain w → so_far_from s (32 ∷ []) ≡ read s.reading (word_items s.line w)
 blank_gives s w e f =

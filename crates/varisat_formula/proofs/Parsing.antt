@@ -1,12 +1,14 @@
 -- Texts that are read from sources, piece by piece.
-use Rattle.std.proofs.Common.{◌≡◌, ℕ, ◌+◌, List, [], ◌++◌, ◌⊎◌, inl, inr, Bool, false, Option, Some, None, Result, Ok, Err, take, drop, refl, sym, ap, subst, ◌∙◌, append_assoc, append-nil, take-append-drop}
+use Rattle.std.proofs.Common.{◌≡◌, ℕ, ◌+◌, List, [], ◌++◌, ◌⊎◌, inl, inr, Bool, false, Option, Some, None, Result, Ok, Err, take, drop, refl, sym, ap, subst, ◌∙◌, append_assoc, append-nil, take-append-drop, zero, suc, get_or, true, ◌∷◌}
 use Rattle.std.specs.Io.KnownBytes.{Consumes, Keeps, IsAtEnd}
 use Rattle.varisat_formula.specs.declared.dimacs.error.DimacsError.{DimacsError}
 use Rattle.varisat_formula.specs.declared.dimacs.error.DimacsErrorKind.TheVariants.{Io, OutOfMemory}
 use Rattle.varisat_formula.specs.Formulas.{Formula}
-use Rattle.varisat_formula.specs.Dimacs.{Ending, Ends, BreaksOff, gives, dimacs, broken}
-use Rattle.varisat_formula.specs.Rest.{Progress, begin, gives_from, dimacs_from, Follows, RunsOut}
-use Rattle.varisat_formula.specs.Parsed.{Stand, Breaks, TakesPiece, IsFaultOf, Parses}
+use Rattle.varisat_formula.specs.Dimacs.{is_blank, Ending, Ends, GoesOn, BreaksOff, gives, dimacs, so_far, broken}
+use Rattle.varisat_formula.specs.Rest.{Progress, begin, gives_from, dimacs_from, Follows, RunsOut, failing, failing_by}
+use Rattle.varisat_formula.specs.Parsed.{Stand, Breaks, TakesPiece, EndsToken, IsFaultOf, Parses}
+use Rattle.varisat_formula.proofs.Kept.{kept_by}
+use Rattle.varisat_formula.proofs.Putting.{put_part}
 use Rattle.varisat_formula.proofs.Steps.{follows_none, follows_more, gives_failed, begin_gives, breaks_off}
 
 consumes_none : (a b : Option (List ℕ)) → Keeps a b → Consumes a b []
@@ -25,19 +27,43 @@ consumes_more (Some us) (Some vs) None xs ys f g = absurd g
 consumes_more (Some us) (Some vs) (Some ws) xs ys f g = f ∙ ap (λ z. xs ++ z) g ∙ sym (append_assoc xs ys ws)
 
 -- the source failed
-pub source_failed : (s t : Stand) (p q : Progress) (e : DimacsError) → Keeps s.left t.left → t.faults ≡ s.faults + 1 → q.reading.fault ≡ Some e → (p.over ≡ false → q.reading ≡ gives_from (BreaksOff Io) p []) → TakesPiece s p (Err e) t q
-source_failed s t p q e k f h b = record {
+pub source_failed : (s t : Stand) (p q : Progress) (e : DimacsError) → t.given ≡ s.given → Keeps s.left t.left → t.faults ≡ s.faults + 1 → e ≡ failing p → q.reading ≡ gives_from (BreaksOff Io) p [] → TakesPiece s p (Err e) t q
+source_failed s t p q e v k f h b = record {
   piece = [];
+  gave = v ∙ sym (append-nil s.given);
   consumed = consumes_none s.left t.left k;
   good = λ more d. absurd cc;
   goes = λ d. absurd cc;
   ends = λ d. absurd cc;
-  bad = λ x d. let y : e ≡ x = cc in (h ∙ ap Some y, inr (b, refl, f));
+  bad = λ x d. let y : e ≡ x = cc in inr (b, sym y ∙ h, refl, f);
 }
+
+pub failing_told : (p : Progress) (e : DimacsError) → p.over ≡ false → e ≡ failing p → (gives_from (BreaksOff Io) p []).fault ≡ Some e
+failing_told p e o h = by_fault p.reading.fault refl
+  where
+    by_fault : (f : Option DimacsError) → p.reading.fault ≡ f → (gives_from (BreaksOff Io) p []).fault ≡ Some e
+    by_fault None g = ap (λ z. z.fault) (breaks_off Io p o g) ∙ ap Some (sym (h ∙ ap (λ f. failing_by f p.line) g))
+    by_fault (Some x) g = ap (λ z. z.fault) (gives_failed (BreaksOff Io) p x g []) ∙ g ∙ ap Some (sym (h ∙ ap (λ f. failing_by f p.line) g))
+
+-- the fault that a piece had is the reader's, unless the text was over
+pub piece_told : (s t : Stand) (p q : Progress) (e : DimacsError) (r : Result Bool DimacsError) → p.over ≡ false → TakesPiece s p r t q → r ≡ Err e → q.reading.fault ≡ Some e
+piece_told s t p q e r o k h = by_why (k.bad e h)
+  where
+    by_why : Breaks p k.piece e q s t → q.reading.fault ≡ Some e
+    by_why (inl (f, d, n)) = d
+    by_why (inr (b, d, n, f)) = ap (λ z. z.fault) b ∙ failing_told p e o d
+
+-- a token ends before a blank
+blank_ends : (left : Option (List ℕ)) (i : ℕ) (piece : List ℕ) → is_blank (get_or piece i 0) ≡ true → EndsToken (drop i piece) left
+blank_ends left zero [] h = absurd cc
+blank_ends left (suc i) [] h = absurd cc
+blank_ends left zero (b ∷ bs) h = h
+blank_ends left (suc i) (b ∷ bs) h = blank_ends left i bs h
 
 -- what was read of a source so far, without a fault
 pub record ReadSo (s t : Stand) (p : Progress) : Type 0 where
   pub text : List ℕ
+  pub gave : t.given ≡ s.given ++ text
   pub consumed : Consumes s.left t.left text
   pub follows : Follows begin text p
   pub open_still : p.over ≡ false
@@ -47,6 +73,7 @@ pub record ReadSo (s t : Stand) (p : Progress) : Type 0 where
 pub read_nothing : (s : Stand) (p : Progress) → p ≡ begin → ReadSo s s p
 read_nothing s p e = record {
   text = [];
+  gave = sym (append-nil s.given);
   consumed = consumes_self s.left;
   follows = subst (λ x. Follows begin [] x) (sym e) (follows_none begin);
   open_still = ap (λ x. x.over) e;
@@ -59,6 +86,7 @@ read_more s t u p q more r w k e o =
     let g = k.good more e in
     record {
       text = w.text ++ k.piece;
+      gave = put_part s.given t.given u.given w.text k.piece w.gave k.gave;
       consumed = consumes_more s.left t.left u.left w.text k.piece w.consumed k.consumed;
       follows = follows_more begin p q w.text k.piece w.follows g.0;
       open_still = o ∙ w.open_still;
@@ -85,34 +113,38 @@ end_gives ending text p f = sym (ap (λ x. gives ending x) (append-nil text)) �
 pub fault_told : (s t u : Stand) (p q : Progress) (e : DimacsError) (r : Result Bool DimacsError) (answer : Result Formula DimacsError) → ReadSo s t p → TakesPiece t p r u q → r ≡ Err e → answer ≡ Err e → Parses s answer u
 fault_told s t u p q e r answer w k d a = record {
   text = w.text ++ k.piece;
+  gave = put_part s.given t.given u.given w.text k.piece w.gave k.gave;
   consumed = consumes_more s.left t.left u.left w.text k.piece w.consumed k.consumed;
   formula = λ f b. absurd (not_both f e answer b a);
-  fault = λ x b. subst (λ y. IsFaultOf (w.text ++ k.piece) y s u) (same_err e x answer a b) (why (k.bad e d).1);
+  fault = λ x b. subst (λ y. IsFaultOf (w.text ++ k.piece) y s u) (same_err e x answer a b) (why (k.bad e d));
 }
   where
-    h : q.reading.fault ≡ Some e
-    h = (k.bad e d).0
-
-    why : Breaks p k.piece q t u → IsFaultOf (w.text ++ k.piece) e s u
-    why (inl (inl f, n)) =
+    why : Breaks p k.piece e q t u → IsFaultOf (w.text ++ k.piece) e s u
+    why (inl (inl f, h, n)) =
         let g = follows_more begin p q w.text k.piece w.follows f in
         inl (λ rest. ap (λ z. z.fault) (whole_gives Ends (w.text ++ k.piece) q rest g ∙ gives_failed Ends q e h rest) ∙ h, n ∙ w.quiet)
-    why (inl (inr o, n)) =
+    why (inl (inr o, h, n)) =
+        let front : List ℕ = take o.at k.piece in
         inr (inr (inl (
-          w.text ++ take o.at k.piece,
-          drop o.at k.piece,
-          append_assoc w.text (take o.at k.piece) (drop o.at k.piece) ∙ ap (λ z. w.text ++ z) (take-append-drop o.at k.piece),
-          ap (λ z. z.fault) (whole_gives (BreaksOff OutOfMemory) w.text p (take o.at k.piece) w.follows ∙ sym o.out.reading) ∙ h,
+          record {
+            front = w.text ++ front;
+            rest = drop o.at k.piece;
+            splits = append_assoc w.text front (drop o.at k.piece) ∙ ap (λ z. w.text ++ z) (take-append-drop o.at k.piece);
+            ends = blank_ends u.left o.at k.piece o.blank;
+            wants = kept_by _ _ _ _ (whole_gives GoesOn w.text p front w.follows) (ap so_far (append_assoc w.text front (32 ∷ [])) ∙ whole_gives GoesOn w.text p (front ++ 32 ∷ []) w.follows) o.out.wants;
+            told = ap (λ z. z.fault) (whole_gives (BreaksOff OutOfMemory) w.text p front w.follows ∙ sym o.out.reading) ∙ h;
+          },
           n ∙ w.quiet,
         )))
-    why (inr (b, n, f)) =
-        inr (inr (inr (ap (λ z. z.fault) (ap (λ z. broken Io (w.text ++ z)) n ∙ whole_gives (BreaksOff Io) w.text p [] w.follows ∙ sym (b w.open_still)) ∙ h, f ∙ ap (λ n. n + 1) w.quiet)))
+    why (inr (b, h, n, f)) =
+        inr (inr (inr (ap (λ z. z.fault) (ap (λ z. broken Io (w.text ++ z)) n ∙ whole_gives (BreaksOff Io) w.text p [] w.follows) ∙ failing_told p e w.open_still h, f ∙ ap (λ n. n + 1) w.quiet)))
 
 -- the text ended
 pub formula_told : (s t : Stand) (p q : Progress) (answer : Result Formula DimacsError) (f : Formula) → ReadSo s t p → IsAtEnd t.left → (q.reading ≡ dimacs_from p []) ⊎ RunsOut p [] q → q.reading.fault ≡ None →
     f ≡ record { var_count = q.reading.highest; clauses = q.reading.clauses } → answer ≡ Ok f → Parses s answer t
 formula_told s t p q answer f w a r h d b = record {
   text = w.text;
+  gave = w.gave;
   consumed = w.consumed;
   formula = λ x c. (sym (same_ok f x answer b c) ∙ d ∙ ap (λ z. record { var_count = z.highest; clauses = z.clauses }) is_whole, ap (λ z. z.fault) (sym is_whole) ∙ h, a, w.quiet);
   fault = λ e c. absurd (not_both f e answer b c);
@@ -131,6 +163,7 @@ formula_told s t p q answer f w a r h d b = record {
 pub end_told : (s t : Stand) (p q : Progress) (e : DimacsError) (answer : Result Formula DimacsError) → ReadSo s t p → IsAtEnd t.left → (q.reading ≡ dimacs_from p []) ⊎ RunsOut p [] q → q.reading.fault ≡ Some e → answer ≡ Err e → Parses s answer t
 end_told s t p q e answer w a r h b = record {
   text = w.text;
+  gave = w.gave;
   consumed = w.consumed;
   formula = λ f c. absurd (not_both f e answer c b);
   fault = λ x c. subst (λ y. IsFaultOf w.text y s t) (same_err e x answer b c) (why r);
@@ -138,4 +171,15 @@ end_told s t p q e answer w a r h b = record {
   where
     why : (q.reading ≡ dimacs_from p []) ⊎ RunsOut p [] q → IsFaultOf w.text e s t
     why (inl g) = inr (inl (ap (λ z. z.fault) (end_gives Ends w.text p w.follows ∙ sym g) ∙ h, a, w.quiet))
-    why (inr o) = inr (inr (inl (w.text, [], append-nil w.text, ap (λ z. z.fault) (end_gives (BreaksOff OutOfMemory) w.text p w.follows ∙ sym o.reading) ∙ h, w.quiet)))
+    why (inr o) =
+        inr (inr (inl (
+          record {
+            front = w.text;
+            rest = [];
+            splits = append-nil w.text;
+            ends = a;
+            wants = kept_by _ _ _ _ (end_gives GoesOn w.text p w.follows) (whole_gives GoesOn w.text p (32 ∷ []) w.follows) o.wants;
+            told = ap (λ z. z.fault) (end_gives (BreaksOff OutOfMemory) w.text p w.follows ∙ sym o.reading) ∙ h;
+          },
+          w.quiet,
+        )))

@@ -33,3 +33,10 @@ polarity_of l = nat_eq (l % 2) 0
 -- a number as it is printed, in decimal digits with a minus in front of a negative one
 abbrev pub number_text : ℤ → List ℕ
 number_text n = signed_decimal n
+
+-- how a variable and a literal are written
+abbrev pub variable_text : ℕ → List ℕ
+variable_text v = number_text (variable_number v)
+
+abbrev pub literal_text : Literal → List ℕ
+literal_text l = number_text (literal_number l)

@@ -5,7 +5,7 @@ use Rattle.varisat_formula.specs.declared.dimacs.header.HeaderPart.TheVariants.{
 use Rattle.varisat_formula.specs.declared.dimacs.parser.Place.{Place}
 use Rattle.varisat_formula.specs.declared.dimacs.parser.Place.TheVariants.{Start, Comment, Header, Plain}
 use Rattle.varisat_formula.specs.declared.dimacs.error.DimacsError.{DimacsError}
-use Rattle.varisat_formula.specs.declared.dimacs.error.DimacsErrorKind.TheVariants.{OutOfMemory}
+use Rattle.varisat_formula.specs.declared.dimacs.error.DimacsErrorKind.TheVariants.{Io, OutOfMemory}
 use Rattle.varisat_formula.specs.Dimacs.{Item, Token, Reading, nothing, is_blank, header_items, line_items, items, next, lines, last_line, read, Ending, Ends, GoesOn, BreaksOff, is_whole, close}
 use Rattle.varisat_formula.specs.Machine.{no_word, is_none, after_byte, word_says, header_from, header_says}
 
@@ -56,6 +56,14 @@ dimacs_from p rest = gives_from Ends p rest
 
 abbrev pub so_far_from : Progress → List ℕ → Reading
 so_far_from p rest = gives_from GoesOn p rest
+
+-- what is answered where the source fails: the first fault, or `Io` in the line that was reached
+abbrev pub failing_by : Option DimacsError → ℕ → DimacsError
+failing_by None n = record { line = n; kind = Io }
+failing_by (Some e) n = e
+
+abbrev pub failing : Progress → DimacsError
+failing p = failing_by p.reading.fault p.line
 
 -- q is what p becomes by reading the text
 pub record Follows (p : Progress) (text : List ℕ) (q : Progress) : Type 0 where

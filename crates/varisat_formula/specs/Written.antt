@@ -1,12 +1,9 @@
 -- The text that is written for a formula.
-use Rattle.std.specs.Prelude.{◌≡◌, ℕ, ◌+◌, ◌/◌, ◌%◌, List, [], ◌∷◌, ◌++◌, length, take, None, Some, codes, decimal, if◌then◌else◌, ◌==◌, Result, MatchResult}
+use Rattle.std.specs.Prelude.{◌≡◌, ℕ, ◌+◌, List, [], ◌∷◌, ◌++◌, length, take, None, Some, codes, decimal, Result, MatchResult}
 use Rattle.varisat_theory.specs.Literals.{Literal, Clause}
+use Rattle.varisat_formula.specs.Numbers.{literal_text}
 use Rattle.varisat_formula.specs.Formulas.{Formula}
 use Rattle.varisat_formula.specs.Dimacs.{dimacs}
-
--- a literal's number in decimal digits, with a `-` where the literal is negative
-abbrev pub literal_text : Literal → List ℕ
-literal_text l = if l % 2 == 0 then decimal (l / 2 + 1) else 45 ∷ decimal (l / 2 + 1)
 
 -- each number with a space behind it
 abbrev pub literals_text : List Literal → List ℕ

@@ -1,12 +1,12 @@
 //! DIMACS CNF text: a reader that takes it in any pieces, and a writer.
 
 pub mod error;
-pub mod header;
+mod header;
 pub mod incremental;
 pub mod parse;
 pub mod parser;
-pub mod reading;
-pub mod token;
+mod reading;
+mod token;
 pub mod writer;
 
 pub use error::{DimacsError, DimacsErrorKind};

@@ -1,4 +1,4 @@
-// Literals and formulas, DIMACS CNF text, and where bytes are read from and written to.
+//! Literals and formulas, DIMACS CNF text, and where bytes are read from and written to.
 #![tactic(auto)]
 
 pub mod dimacs;

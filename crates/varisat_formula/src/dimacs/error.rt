@@ -20,7 +20,7 @@ pub enum DimacsErrorKind {
     UnterminatedClause,
     /// The source of the text failed.
     Io,
-    /// A growth was refused, and a clause could not be kept.
+    /// A growth was refused, and the token in this line could not be kept.
     OutOfMemory,
 }
 

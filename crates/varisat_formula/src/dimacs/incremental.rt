@@ -1,4 +1,4 @@
-//! Reads texts from sources, with a call of the caller's function for each piece.
+//! Reads texts from sources, with a call of the caller's function after each piece and after the end.
 ghost use Rattle.std.specs.Prelude.{◌≡◌, ◌-◌, ◌<◌, ◌^◌, ◌⊎◌, [], true, length, IfOk, IfErr};
 ghost use Rattle.std.specs.Fn.{CalledAtMut};
 ghost use Rattle.varisat_formula.specs.Rest.{Progress, begin, dimacs_from, RunsOut, fault_of};
@@ -19,7 +19,8 @@ pub trait PieceReader<A: Allocator + Copy>: Drop {
     fn begin_in(alloc: A) -> Self
         ensures { progress result ≡ begin };
 
-    /// Reads the next piece of the source, with room for it in the buffer.
+    /// Reads the next piece of the source, with room for it in the buffer. Answers false at the source's end, and a fault of
+    /// the text or the source.
     fn take_piece<S: ByteSource>(
         &mut self,
         source: &mut S,
@@ -27,16 +28,17 @@ pub trait PieceReader<A: Allocator + Copy>: Drop {
     ) -> Result<bool, DimacsError>
         requires few { S.fault_count source.old < 2 ^ 64 - 1 }
         requires room { 0 < length buffer.old }
-        ensures { TakesPiece (stand S.left S.pieces_left S.fault_count source.old) (progress self.old) result (stand S.left S.pieces_left S.fault_count source.new) (progress self.new) };
+        ensures { TakesPiece (stand S.given S.left S.pieces_left S.fault_count source.old) (progress self.old) result (stand S.given S.left S.pieces_left S.fault_count source.new) (progress self.new) };
 
-    /// Ends the text.
+    /// Ends the text, and answers its first fault.
     fn end(&mut self) -> Result<(), DimacsError>
         ensures reads { ((progress self.new).reading ≡ dimacs_from (progress self.old) []) ⊎ RunsOut (progress self.old) [] (progress self.new) }
         ensures answer { fault_of result ≡ (progress self.new).reading.fault }
         ensures over { (progress self.new).over ≡ true };
 
-    /// Reads all of the source as one text, and calls `f` with the reader after each piece and after the end, where these
-    /// gave no fault. A fault, or an error of `f`, ends it. Answers the reader as `f` left it.
+    /// Begins a text and reads the source piece by piece to its end. Calls `f` with the reader after each piece that has
+    /// bytes, and after the end of the text, where the reader has no fault; it goes on as `f` left it. The first fault, or
+    /// the first error of `f`, ends it and is answered. Else the reader is answered as `f` left it.
     final fn parse_incremental<
         S: ByteSource,
         E: From<DimacsError>,
@@ -47,8 +49,8 @@ pub trait PieceReader<A: Allocator + Copy>: Drop {
         F: Drop,
         requires few { S.fault_count source.old < 2 ^ 64 - 1 }
         requires callable { (state : F) (x : _) → F.pre state x }
-        ensures ok { IfOk result (Finishes (CalledAtMut F.FnMut) progress (stand S.left S.pieces_left S.fault_count source.old) f (stand S.left S.pieces_left S.fault_count source.new)) }
-        ensures err { IfErr result (Refuses (CalledAtMut F.FnMut) progress E.from_gives) }
+        ensures ok { IfOk result (Finishes (CalledAtMut F.FnMut) progress (stand S.given S.left S.pieces_left S.fault_count source.old) f (stand S.given S.left S.pieces_left S.fault_count source.new)) }
+        ensures err { IfErr result (Refuses (CalledAtMut F.FnMut) progress E.from_gives (stand S.given S.left S.pieces_left S.fault_count source.old) f (stand S.given S.left S.pieces_left S.fault_count source.new)) }
     {
         let mut parser = Self::begin_in(alloc);
         let mut buffer = [0; PIECE];

@@ -21,7 +21,7 @@ impl<A: Allocator + Copy> DimacsParser<A> {
     ) -> Result<bool, DimacsError>
         requires few { S.fault_count source.old < 2 ^ 64 - 1 }
         requires room { 0 < length buffer.old }
-        ensures takes { TakesPiece (stand S.left S.pieces_left S.fault_count source.old) self.old result (stand S.left S.pieces_left S.fault_count source.new) self.new }
+        ensures takes { TakesPiece (stand S.given S.left S.pieces_left S.fault_count source.old) self.old result (stand S.given S.left S.pieces_left S.fault_count source.new) self.new }
         ensures open { self.new.over ≡ self.old.over }
     {
         let count = match source.fill(buffer) {
@@ -37,7 +37,7 @@ impl<A: Allocator + Copy> DimacsParser<A> {
     /// Reads all of the source as one text, and answers its formula or its first fault.
     pub fn parse<S: ByteSource>(alloc: A, source: &mut S) -> Result<CnfFormula<A>, DimacsError>
         requires { S.fault_count source.old < 2 ^ 64 - 1 }
-        ensures { Parses (stand S.left S.pieces_left S.fault_count source.old) result (stand S.left S.pieces_left S.fault_count source.new) }
+        ensures { Parses (stand S.given S.left S.pieces_left S.fault_count source.old) result (stand S.given S.left S.pieces_left S.fault_count source.new) }
     {
         let mut parser = DimacsParser::new_in(alloc);
         let mut buffer = [0; PIECE];

@@ -4,7 +4,7 @@ ghost use Rattle.varisat_formula.specs.declared.dimacs.parser.Place.TheVariants.
 ghost use Rattle.varisat_formula.specs.declared.dimacs.error.DimacsErrorKind.TheVariants.{Io, OutOfMemory};
 ghost use Rattle.varisat_formula.specs.Dimacs.{Reading, failed, next, read, is_line_feed, is_blank, gives, Ending, BreaksOff};
 ghost use Rattle.varisat_formula.specs.Machine.{no_word};
-ghost use Rattle.varisat_formula.specs.Rest.{begin, word_items, line_rest, start_place, gives_from, dimacs_from, Follows, Keeps, WantsRoom, RunsOut, RunsOutIn, fault_of, with_front};
+ghost use Rattle.varisat_formula.specs.Rest.{begin, word_items, line_rest, start_place, gives_from, dimacs_from, Follows, Keeps, WantsRoom, RunsOut, RunsOutIn, failing, fault_of, with_front};
 
 use crate::dimacs::error::{DimacsError, DimacsErrorKind};
 use crate::dimacs::header::HeaderPart;
@@ -187,7 +187,7 @@ impl<A: Allocator + Copy> DimacsParser<A> {
     }
 
     /// Reads the next piece of the text, and answers its first fault, from then on always the same. After `finish` the text
-    /// is over, and no bytes are taken. `OutOfMemory` is answered where a growth was refused, at the line of the clause that
+    /// is over, and no bytes are taken. `OutOfMemory` is answered where a growth was refused, at the line of the token that
     /// could not be kept.
     pub fn feed(&mut self, piece: &[u8]) -> Result<(), DimacsError>
         ensures reads { Follows self.old piece.now self.new ⊎ RunsOutIn self.old piece.now self.new }
@@ -222,11 +222,14 @@ impl<A: Allocator + Copy> DimacsParser<A> {
         }
     }
 
-    /// The text breaks off, since its source failed: the fault `Io` in the line that was reached, unless there was a fault
-    /// before. Answers the first fault.
+    /// The text breaks off, since its source failed: the fault `Io` in the line that was reached. A text that has a fault or
+    /// is over stays as it is. Answers the first fault, or this one.
     pub fn break_off(&mut self) -> DimacsError
-        ensures reading { self.old.over ≡ false → self.new.reading ≡ gives_from (BreaksOff Io) self.old [] }
-        ensures told { self.new.reading.fault ≡ Some result }
+        ensures reading { self.new.reading ≡ gives_from (BreaksOff Io) self.old [] }
+        ensures answer { result ≡ failing self.old }
+        ensures told { self.old.over ≡ false → self.new.reading.fault ≡ Some result }
+        ensures same { (e : DimacsError) → self.old.reading.fault ≡ Some e → self.new ≡ self.old }
+        ensures over { self.old.over ≡ true → self.new ≡ self.old }
         ensures stays { self.new ≡ record self.old { reading = self.new.reading } }
         ensures open { self.new.over ≡ self.old.over }
     {
@@ -234,7 +237,9 @@ impl<A: Allocator + Copy> DimacsParser<A> {
             return fault;
         }
         let line = self.line;
-        self.reader.fail(line, DimacsErrorKind::Io);
+        if !self.over {
+            self.reader.fail(line, DimacsErrorKind::Io);
+        }
         DimacsError {
             line,
             kind: DimacsErrorKind::Io,

@@ -1,7 +1,7 @@
 use crate::dimacs::{DimacsError, DimacsErrorKind, DimacsParser, PieceReader, write_dimacs};
 use crate::formula::{CnfFormula, ExtendFormula, FormulaError, Lit};
 use crate::io::{ByteSource, IoTarget, MemoryTarget, ProofTarget, ReadSource};
-use crate::{cnf, cnf_formula, lits};
+use crate::{cnf_formula, lits};
 use std::alloc::{AllocError, Global};
 use std::io;
 use std::io::{ErrorKind, Read};
@@ -26,222 +26,269 @@ impl Read for CutReader {
     }
 }
 
-/// What a text gave: its fault, and the clauses that ended, with room for all variables.
-fn ended(
-    parser: &mut DimacsParser<Global>,
-    answer: Result<(), DimacsError>,
-) -> (Option<DimacsError>, CnfFormula<Global>) {
-    let mut formula = parser.take_formula();
-    formula.set_var_count(0x1000_0000);
-    (answer.err(), formula)
+/// What a text gives: the clauses that ended, by their literals' numbers, the count of variables, and the fault by its line
+/// and kind.
+#[derive(Clone, Copy)]
+struct Outcome {
+    clauses: &'static [&'static [isize]],
+    vars: usize,
+    fault: Option<(u64, DimacsErrorKind)>,
 }
 
-fn read_cut(alloc: Global, text: &[u8], cut: usize) -> (Option<DimacsError>, CnfFormula<Global>) {
-    let mut parser = DimacsParser::new_in(alloc);
-    let (front, back) = text.split_at(cut.min(text.len()));
-    let _ = parser.feed(front);
-    let _ = parser.feed(back);
-    let answer = parser.finish();
-    ended(&mut parser, answer)
-}
-
-fn read_bytes(alloc: Global, text: &[u8]) -> (Option<DimacsError>, CnfFormula<Global>) {
-    let mut parser = DimacsParser::new_in(alloc);
-    for i in 0..text.len() {
-        let _ = parser.feed(&text[i..i + 1]);
-    }
-    let answer = parser.finish();
-    ended(&mut parser, answer)
-}
-
-/// Whether the text gives the clauses and the fault whole, in bytes, and cut in two at each place.
-fn holds(
-    alloc: Global,
-    text: &[u8],
-    clauses: &[&[Lit]],
-    fault: Option<DimacsError>,
-) -> Result<bool, FormulaError> {
-    let mut formula = CnfFormula::from_clauses_in(alloc, clauses)?;
-    formula.set_var_count(0x1000_0000);
-    for cut in 0..text.len() {
-        let (told, given) = read_cut(alloc, text, cut);
-        if told != fault || given != formula {
-            return Ok(false);
-        }
-    }
-    let (told, given) = read_bytes(alloc, text);
-    if told != fault || given != formula {
-        return Ok(false);
-    }
-    let (told, given) = read_cut(alloc, text, 0);
-    Ok(told == fault && given == formula)
-}
-
-/// Whether `parse` and `parse_incremental` tell the fault, or give the clauses.
-fn parses(
-    alloc: Global,
-    text: &[u8],
-    clauses: &[&[Lit]],
-    fault: Option<DimacsError>,
-) -> Result<bool, FormulaError> {
-    let mut formula = CnfFormula::from_clauses_in(alloc, clauses)?;
-    formula.set_var_count(0x1000_0000);
-    match DimacsParser::parse(alloc, &mut ReadSource::new(text)) {
-        Ok(mut given) => {
-            given.set_var_count(0x1000_0000);
-            if fault.is_some() || given != formula {
-                return Ok(false);
-            }
-        }
-        Err(told) => {
-            if fault != Some(told) {
-                return Ok(false);
-            }
-        }
-    }
-    let answer: Result<DimacsParser<Global>, DimacsError> = DimacsParser::parse_incremental(
-        alloc,
-        &mut ReadSource::new(text),
-        |_reader| Ok(()),
-    );
-    match answer {
-        Ok(mut parser) => {
-            let mut given = parser.take_formula();
-            given.set_var_count(0x1000_0000);
-            Ok(fault.is_none() && given == formula)
-        }
-        Err(told) => Ok(fault == Some(told)),
-    }
-}
+const TEXTS: [(&[u8], Outcome); 13] = [
+    (
+        b"",
+        Outcome {
+            clauses: &[],
+            vars: 0,
+            fault: None,
+        },
+    ),
+    (
+        b"1 2 0",
+        Outcome {
+            clauses: &[&[1, 2]],
+            vars: 2,
+            fault: None,
+        },
+    ),
+    (
+        b"1\nc 2 0\n-2 0",
+        Outcome {
+            clauses: &[&[1, -2]],
+            vars: 2,
+            fault: None,
+        },
+    ),
+    (
+        b"1 2",
+        Outcome {
+            clauses: &[],
+            vars: 2,
+            fault: Some((1, DimacsErrorKind::UnterminatedClause)),
+        },
+    ),
+    (
+        b"1 -0 0\n",
+        Outcome {
+            clauses: &[],
+            vars: 1,
+            fault: Some((1, DimacsErrorKind::UnexpectedInput)),
+        },
+    ),
+    (
+        b" c\n",
+        Outcome {
+            clauses: &[],
+            vars: 0,
+            fault: Some((1, DimacsErrorKind::UnexpectedInput)),
+        },
+    ),
+    (
+        b"p cnf 2 01\n",
+        Outcome {
+            clauses: &[],
+            vars: 0,
+            fault: Some((1, DimacsErrorKind::InvalidHeader)),
+        },
+    ),
+    (
+        b"1 0\np cnf 1 1\n",
+        Outcome {
+            clauses: &[&[1]],
+            vars: 1,
+            fault: Some((2, DimacsErrorKind::InvalidHeader)),
+        },
+    ),
+    (
+        b"p cnf 268435457 0\n",
+        Outcome {
+            clauses: &[],
+            vars: 0,
+            fault: Some((1, DimacsErrorKind::LiteralTooLarge)),
+        },
+    ),
+    (
+        b"p cnf 2 3\n3 0\n",
+        Outcome {
+            clauses: &[],
+            vars: 2,
+            fault: Some((2, DimacsErrorKind::VarCount)),
+        },
+    ),
+    (
+        b"p cnf 2 1\n1 2\n0 -1 0\n",
+        Outcome {
+            clauses: &[&[1, 2]],
+            vars: 2,
+            fault: Some((3, DimacsErrorKind::ClauseCount)),
+        },
+    ),
+    (
+        b"p cnf 3 2\n1 0\n",
+        Outcome {
+            clauses: &[&[1]],
+            vars: 3,
+            fault: Some((3, DimacsErrorKind::ClauseCount)),
+        },
+    ),
+    (
+        b"p cnf 2 2\n1 -2 0\n2",
+        Outcome {
+            clauses: &[&[1, -2]],
+            vars: 2,
+            fault: Some((3, DimacsErrorKind::UnterminatedClause)),
+        },
+    ),
+];
 
 fn at(line: u64, kind: DimacsErrorKind) -> Option<DimacsError> {
     Some(DimacsError { line, kind })
 }
 
-fn row(
-    alloc: Global,
-    text: &str,
-    clauses: &[&[Lit]],
-    fault: Option<DimacsError>,
-) -> Result<bool, FormulaError> {
-    Ok(
-        holds(alloc, text.as_bytes(), clauses, fault)?
-            && parses(alloc, text.as_bytes(), clauses, fault)?,
-    )
+fn fault_of(outcome: &Outcome) -> Option<DimacsError> {
+    match outcome.fault {
+        Some((line, kind)) => at(line, kind),
+        None => None,
+    }
+}
+
+fn is_clause(literals: &[Lit], numbers: &[isize]) -> bool {
+    if literals.len() != numbers.len() {
+        return false;
+    }
+    for i in 0..literals.len() {
+        if literals[i].to_dimacs() != numbers[i] {
+            return false;
+        }
+    }
+    true
+}
+
+/// Whether the formula has the clauses and the count of variables.
+fn is_formula(formula: &CnfFormula<Global>, outcome: &Outcome) -> bool {
+    if formula.len() != outcome.clauses.len() || formula.var_count() != outcome.vars {
+        return false;
+    }
+    let mut clauses = formula.iter();
+    for numbers in outcome.clauses {
+        match clauses.next() {
+            Some(clause) => if !is_clause(clause, numbers) {
+                return false;
+            },
+            None => return false,
+        }
+    }
+    true
+}
+
+/// Whether the end of the text tells the fault, and what was read is the formula.
+fn ends(parser: &mut DimacsParser<Global>, outcome: &Outcome) -> bool {
+    parser.finish().err() == fault_of(outcome) && is_formula(&parser.take_formula(), outcome)
+}
+
+fn reads_cut(alloc: Global, text: &[u8], place: usize, outcome: &Outcome) -> bool {
+    let mut parser = DimacsParser::new_in(alloc);
+    let (front, back) = text.split_at(place.min(text.len()));
+    let _ = parser.feed(front);
+    let _ = parser.feed(back);
+    ends(&mut parser, outcome)
+}
+
+fn reads_bytes(alloc: Global, text: &[u8], outcome: &Outcome) -> bool {
+    let mut parser = DimacsParser::new_in(alloc);
+    for i in 0..text.len() {
+        let _ = parser.feed(&text[i..i + 1]);
+    }
+    ends(&mut parser, outcome)
+}
+
+fn reads_whole(alloc: Global, text: &[u8], outcome: &Outcome) -> bool {
+    let mut parser = DimacsParser::new_in(alloc);
+    let _ = parser.feed(text);
+    ends(&mut parser, outcome)
+}
+
+/// Whether the text gives this whole, in pieces of one byte, and cut in two at every place.
+fn reads(alloc: Global, text: &[u8], outcome: &Outcome) -> bool {
+    for place in 0..text.len() {
+        if !reads_cut(alloc, text, place, outcome) {
+            return false;
+        }
+    }
+    reads_bytes(alloc, text, outcome) && reads_whole(alloc, text, outcome)
+}
+
+/// Whether `parse` answers the formula or the fault.
+fn parses<R: Read + Drop>(alloc: Global, reader: R, outcome: &Outcome) -> bool {
+    match DimacsParser::parse(alloc, &mut ReadSource::new(reader)) {
+        Ok(formula) => outcome.fault.is_none() && is_formula(&formula, outcome),
+        Err(fault) => fault_of(outcome) == Some(fault),
+    }
+}
+
+/// Whether `parse_incremental`, with a function that takes nothing, answers a parser that has the formula, or the fault.
+fn parses_in_pieces<R: Read + Drop>(alloc: Global, reader: R, outcome: &Outcome) -> bool {
+    let answer: Result<DimacsParser<Global>, DimacsError> = DimacsParser::parse_incremental(
+        alloc,
+        &mut ReadSource::new(reader),
+        |_reader| Ok(()),
+    );
+    match answer {
+        Ok(mut parser) => outcome.fault.is_none() && is_formula(&parser.take_formula(), outcome),
+        Err(fault) => fault_of(outcome) == Some(fault),
+    }
 }
 
 #[test]
-fn texts(rt: HostRuntime) -> Result<(), FormulaError> {
-    let alloc = rt.alloc();
-    assert!(rt; row(alloc, "", &cnf![], None)?);
-    assert!(rt; row(alloc, "1 2 0", &cnf![1, 2], None)?);
-    assert!(rt; row(alloc, "1\nc 2 0\n-2 0", &cnf![1, -2], None)?);
-    assert!(rt;
-        row(
-            alloc,
-            "1 2",
-            &cnf![],
-            at(1, DimacsErrorKind::UnterminatedClause)
-        )?
-    );
-    assert!(rt;
-        row(
-            alloc,
-            "1 -0 0\n",
-            &cnf![],
-            at(1, DimacsErrorKind::UnexpectedInput)
-        )?
-    );
-    assert!(rt;
-        row(
-            alloc,
-            " c\n",
-            &cnf![],
-            at(1, DimacsErrorKind::UnexpectedInput)
-        )?
-    );
-    assert!(rt;
-        row(
-            alloc,
-            "p cnf 2 01\n",
-            &cnf![],
-            at(1, DimacsErrorKind::InvalidHeader)
-        )?
-    );
-    assert!(rt;
-        row(
-            alloc,
-            "1 0\np cnf 1 1\n",
-            &cnf![1],
-            at(2, DimacsErrorKind::InvalidHeader)
-        )?
-    );
-    assert!(rt;
-        row(
-            alloc,
-            "p cnf 268435457 0\n",
-            &cnf![],
-            at(1, DimacsErrorKind::LiteralTooLarge)
-        )?
-    );
-    assert!(rt;
-        row(
-            alloc,
-            "p cnf 2 3\n3 0\n",
-            &cnf![],
-            at(2, DimacsErrorKind::VarCount)
-        )?
-    );
-    assert!(rt;
-        row(
-            alloc,
-            "p cnf 2 1\n1 2\n0 -1 0\n",
-            &cnf![1, 2],
-            at(3, DimacsErrorKind::ClauseCount)
-        )?
-    );
-    assert!(rt;
-        row(
-            alloc,
-            "p cnf 3 2\n1 0\n",
-            &cnf![1],
-            at(3, DimacsErrorKind::ClauseCount)
-        )?
-    );
-    assert!(rt;
-        row(
-            alloc,
-            "p cnf 2 2\n1 -2 0\n2",
-            &cnf![1, -2],
-            at(3, DimacsErrorKind::UnterminatedClause)
-        )?
-    );
-    Ok(())
+fn texts_in_pieces(rt: HostRuntime) {
+    for (text, outcome) in &TEXTS {
+        assert!(rt; reads(rt.alloc(), text, outcome));
+    }
 }
 
 #[test]
-fn beginnings(rt: HostRuntime) -> Result<(), FormulaError> {
+fn texts_of_sources(rt: HostRuntime) {
     let alloc = rt.alloc();
+    for (text, outcome) in &TEXTS {
+        assert!(rt; parses(alloc, *text, outcome));
+        assert!(rt; parses(alloc, CutReader { text, fails: false }, outcome));
+        assert!(rt; parses_in_pieces(alloc, *text, outcome));
+        assert!(rt; parses_in_pieces(alloc, CutReader { text, fails: false }, outcome));
+    }
+}
+
+/// What the first bytes of `p cnf 3 2`, `1 -2 0` and `0` on three lines give.
+fn of_beginning(length: usize) -> Outcome {
+    let (line, kind) = match length {
+        1..=8 => (1, DimacsErrorKind::InvalidHeader),
+        9 => (1, DimacsErrorKind::ClauseCount),
+        10 | 16 => (2, DimacsErrorKind::ClauseCount),
+        13 => (2, DimacsErrorKind::UnexpectedInput),
+        17 => (3, DimacsErrorKind::ClauseCount),
+        _ => (2, DimacsErrorKind::UnterminatedClause),
+    };
+    Outcome {
+        clauses: match length {
+            16 | 17 => &[&[1, -2]],
+            18 | 19 => &[&[1, -2], &[]],
+            _ => &[],
+        },
+        vars: if length < 9 { 0 } else { 3 },
+        fault: match length {
+            0 | 18 | 19 => None,
+            _ => Some((line, kind)),
+        },
+    }
+}
+
+#[test]
+fn beginnings(rt: HostRuntime) {
     let text = b"p cnf 3 2\n1 -2 0\n0\n".as_slice();
     for length in 0..text.len() + 1 {
-        let fault = match length {
-            0 | 18 | 19 => None,
-            1..=8 => at(1, DimacsErrorKind::InvalidHeader),
-            9 => at(1, DimacsErrorKind::ClauseCount),
-            10 | 16 => at(2, DimacsErrorKind::ClauseCount),
-            13 => at(2, DimacsErrorKind::UnexpectedInput),
-            17 => at(3, DimacsErrorKind::ClauseCount),
-            _ => at(2, DimacsErrorKind::UnterminatedClause),
-        };
-        let front = &text[..length];
-        let right = match length {
-            16 | 17 => holds(alloc, front, &cnf![1, -2], fault)?,
-            18 | 19 => holds(alloc, front, &cnf![1, -2; ;], fault)?,
-            _ => holds(alloc, front, &cnf![], fault)?,
-        };
+        let right = reads(rt.alloc(), &text[..length], &of_beginning(length));
         assert!(rt; right, "the first {length} bytes");
     }
-    Ok(())
 }
 
 #[test]
@@ -266,6 +313,22 @@ fn after_the_end(rt: HostRuntime) {
     assert!(rt; parser.feed(b"1 0").err() == fault);
     assert!(rt; parser.finish().err() == fault);
     assert_eq!(rt; parser.take_formula().len(), 1);
+}
+
+#[test]
+fn broken_off(rt: HostRuntime) {
+    let mut parser = DimacsParser::new_in(rt.alloc());
+    assert!(rt; parser.feed(b"1 0\n2").is_ok());
+    let fault = Some(parser.break_off());
+    assert!(rt; fault == at(2, DimacsErrorKind::Io));
+    assert!(rt; parser.finish().err() == fault);
+    assert!(rt; Some(parser.break_off()) == fault);
+    let mut parser = DimacsParser::new_in(rt.alloc());
+    assert!(rt; parser.feed(b"1 0\n").is_ok());
+    assert!(rt; parser.finish().is_ok());
+    // The text was over before.
+    assert!(rt; Some(parser.break_off()) == at(2, DimacsErrorKind::Io));
+    assert!(rt; parser.finish().is_ok());
 }
 
 #[test]
@@ -308,16 +371,19 @@ fn pieces_of_a_function(rt: HostRuntime) {
         text: b"1 0 2 0 3 0",
         fails: false,
     });
-    let mut clauses = 0;
+    let (mut calls, mut clauses) = (0, 0);
     let answer: Result<DimacsParser<Global>, DimacsError> = DimacsParser::parse_incremental(
         rt.alloc(),
         &mut source,
         |reader| {
-            clauses = clauses.max(reader.clause_count());
+            calls = u64::saturating_add(calls, 1);
+            clauses = reader.clause_count();
             Ok(())
         },
     );
     assert!(rt; answer.is_ok());
+    // Four pieces and the end.
+    assert_eq!(rt; calls, 5);
     assert_eq!(rt; clauses, 3);
     let mut source = ReadSource::new(b"1 0".as_slice());
     let refusal = DimacsError {

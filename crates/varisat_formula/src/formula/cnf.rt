@@ -178,6 +178,18 @@ impl<A: Allocator + Copy> CnfFormula<A> {
         self.var_count = self.var_count.max(count);
     }
 
+    /// Takes a clause. Where memory runs out, nothing changes.
+    pub fn add_clause(&mut self, literals: &[Lit]) -> Result<(), FormulaError>
+        ensures { MatchResult result (λ _. self.new ≡ with_clause self.old literals.now) (λ e. (e ≡ Memory) × (self.new ≡ self.old)) }
+    {
+        let needed = variables_of(literals);
+        self.lengths.reserve(1)?;
+        self.literals.extend_from_slice(literals)?;
+        self.lengths.push_reserved(literals.len());
+        self.var_count = self.var_count.max(needed);
+        Ok(())
+    }
+
     /// The clauses in order.
     pub fn iter(&self) -> Clauses<'_>
         ensures { result ≡ self.now.clauses }
@@ -199,12 +211,7 @@ impl<A: Allocator + Copy> ExtendFormula for CnfFormula<A> {
         (λ e. (e ≡ Full) × (f.var_count ≡ 2 ^ 31) × (g ≡ f)) };
 
     fn add_clause(&mut self, literals: &[Lit]) -> Result<(), FormulaError> {
-        let needed = variables_of(literals);
-        self.lengths.reserve(1)?;
-        self.literals.extend_from_slice(literals)?;
-        self.lengths.push_reserved(literals.len());
-        self.var_count = self.var_count.max(needed);
-        Ok(())
+        CnfFormula::add_clause(self, literals)
     }
 
     fn new_var(&mut self) -> Result<Var, FormulaError> {

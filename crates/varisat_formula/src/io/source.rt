@@ -1,13 +1,18 @@
 //! Where bytes are read from.
-ghost use Rattle.std.specs.Prelude.{◌≡◌, ℕ, List, Option, ◌+◌, ◌-◌, ◌<◌, ◌≤◌, ◌^◌, length, OnOk, OnErr, IfOk};
+ghost use Rattle.std.specs.Prelude.{◌≡◌, ℕ, List, [], Option, ◌+◌, ◌-◌, ◌<◌, ◌≤◌, ◌^◌, min, length, OnOk, OnErr, IfOk};
 ghost use Rattle.std.specs.Io.KnownBytes.{ReadConsumes};
+ghost use Rattle.varisat_formula.specs.Streams.{Gives};
 
+use crate::io::history::{History, Part};
 use std::io;
 use std::io::{ErrorKind, Read};
 use std::marker::Model;
 
 /// Gives bytes in pieces, and counts its faults.
 pub trait ByteSource: Drop {
+    /// The bytes that it gave so far.
+    ghost given: { Self → List ℕ };
+
     /// The bytes that are left, where they are known.
     ghost left: { Self → Option (List ℕ) };
 
@@ -23,6 +28,7 @@ pub trait ByteSource: Drop {
         requires { fault_count self.old < 2 ^ 64 - 1 }
         ensures bound { IfOk result (λ n. n ≤ length buffer.new) }
         ensures bytes { ReadConsumes (left self.old) (left self.new) result buffer.new }
+        ensures gives { Gives (given self.old) (given self.new) result buffer.new }
         ensures pieces { IfOk result (λ n. 0 < n → pieces_left self.new < pieces_left self.old) }
         ensures no_more { pieces_left self.new ≤ pieces_left self.old }
         ensures quiet { OnOk result (fault_count self.new ≡ fault_count self.old) }
@@ -38,6 +44,7 @@ pub trait ByteSource: Drop {
 #[derive(Drop)]
 pub struct ReadSource<R: Read + Drop> {
     reader: R,
+    history: History,
     pieces: u64,
     faults: u64,
 }
@@ -47,16 +54,17 @@ impl<R: Read + Drop> Model for ReadSource<R> {
 
     ghost Value = { Source };
 
-    ghost view = { λ s. record { left = R.remaining s.reader; pieces = s.pieces; faults = s.faults } };
+    ghost view = { λ s. record { given = s.history.bytes; left = R.remaining s.reader; pieces = s.pieces; faults = s.faults } };
 }
 
 impl<R: Read + Drop> ReadSource<R> {
     /// The source of what the reader still has. It takes no memory.
     pub fn new(reader: R) -> ReadSource<R>
-        ensures { result ≡ record { left = R.remaining reader; pieces = 2 ^ 64 - 1; faults = 0 } }
+        ensures { result ≡ record { given = []; left = R.remaining reader; pieces = 2 ^ 64 - 1; faults = 0 } }
     {
         ReadSource {
             reader,
+            history: History::new(),
             pieces: u64::MAX,
             faults: 0,
         }
@@ -64,19 +72,38 @@ impl<R: Read + Drop> ReadSource<R> {
 }
 
 impl<R: Read + Drop> ByteSource for ReadSource<R> {
+    ghost given = { λ s. s.given };
+
     ghost left = { λ s. s.left };
 
     ghost pieces_left = { λ s. s.pieces };
 
     ghost fault_count = { λ s. s.faults };
 
-    fn fill(&mut self, buffer: &mut [u8]) -> io::Result<usize> {
+    /// A piece that has bytes lowers the pieces left by one, and no other answer changes them. With none left the answer is
+    /// Err.
+    fn fill(&mut self, buffer: &mut [u8]) -> io::Result<usize>
+        requires { self.old.faults < 2 ^ 64 - 1 }
+        ensures bound { IfOk result (λ n. n ≤ length buffer.new) }
+        ensures bytes { ReadConsumes self.old.left self.new.left result buffer.new }
+        ensures gives { Gives self.old.given self.new.given result buffer.new }
+        ensures pieces { IfOk result (λ n. 0 < n → self.new.pieces < self.old.pieces) }
+        ensures no_more { self.new.pieces ≤ self.old.pieces }
+        ensures counts { IfOk result (λ n. self.new.pieces + min n 1 ≡ self.old.pieces) }
+        ensures stays { OnErr result (self.new.pieces ≡ self.old.pieces) }
+        ensures spent { OnOk result (0 < self.old.pieces) }
+        ensures quiet { OnOk result (self.new.faults ≡ self.old.faults) }
+        ensures fault { OnErr result (self.new.faults ≡ self.old.faults + 1) }
+    {
         if self.pieces == 0 {
             self.faults += 1;
             return Err(io::Error::from(ErrorKind::Other));
         }
         match self.reader.read(buffer) {
             Ok(count) => {
+                self.history = self.history.then(&Part {
+                    bytes: &buffer[..count],
+                });
                 if count > 0 {
                     self.pieces -= 1;
                 }

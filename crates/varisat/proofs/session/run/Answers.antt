@@ -27,4 +27,4 @@ returns-clause-run g c s st =
     let none = nil_from_length (into_iter_items c.loop-call.call-iterator) (sym c.loop-call.invariant.left ∙ c.in-None.ensures.steps.0) in
     let e = sym (append-nil c.loop-call.yielded) ∙ ap (λ xs. c.loop-call.yielded ++ xs) (sym none) ∙ c.loop-call.invariant.whole in
     let (t, r, q) = c.loop-call.invariant.so_far s st in
-    (t, subst (λ cs. Run (stand g.S.ByteSource.left g.S.ByteSource.pieces_left g.S.ByteSource.fault_count) s cs c.loop-call.answers.items t) e r, q)
+    (t, subst (λ cs. Run (stand g.S.ByteSource.given g.S.ByteSource.left g.S.ByteSource.pieces_left g.S.ByteSource.fault_count) s cs c.loop-call.answers.items t) e r, q)

@@ -1,6 +1,7 @@
 -- The text goes on, or a clause of it is refused, or it ends.
 use Rattle.std.proofs.Common.{◌∙◌, ◌++◌, [], inl, refl, sym, ap, arith, Ok, Some, None}
 use Rattle.varisat_formula.specs.Rest.{fault_of}
+use Rattle.varisat_formula.proofs.Parsing.{piece_told}
 use Rattle.varisat.proofs.Added.{told-error, adds-more, adds-valid, only-adds}
 use Rattle.varisat.proofs.Texted.{took, read-nothing, read-more, piece-refused, piece-fault, ending-refused, text-broken, text-ended}
 use Rattle.varisat.proofs.solver.Solver.add_dimacs_cnf.Goals as goal
@@ -21,7 +22,7 @@ returns-in_err-add_formula g c s st =
     (t, inl (valid, rw refused (piece-refused s mid t _ _ _ _ _ _ _ _ _ _ c.pieces.invariant.read c.next_piece-more.ensures.takes (took _ _ _ c.take_formula.ensures.formula c.take_formula.ensures.rest c.take_formula.ensures.later) a (only-adds mid t _ _ (adds-valid s mid _ valid a) b))), w)
 
 pub pieces-smaller : goal.pieces-smaller
-pieces-smaller g c = c.next_piece-more.ensures.takes.goes (c.in-Ok-true.is ∙ ap Ok c.in-Ok-true.field-0-test)
+pieces-smaller g c = (c.next_piece-more.ensures.takes.goes (c.in-Ok-true.is ∙ ap Ok c.in-Ok-true.field-0-test)).1
 
 pub pieces-preserved : goal.pieces-preserved
 pieces-preserved g c = record {
@@ -46,7 +47,7 @@ returns-in-Err g c s st =
       inl (
         valid,
         text-broken s mid t _ _ _ _ _ _ c.in-Err.fault _ _ c.pieces.invariant.read c.next_piece-more.ensures.takes c.in-Err.is a
-            (piece-fault mid u t _ _ _ _ _ took (c.next_piece-more.ensures.takes.bad c.in-Err.fault c.in-Err.is).0 (only-adds mid u _ _ (adds-valid s mid _ valid a) b) f),
+            (piece-fault mid u t _ _ _ _ _ took (piece_told _ _ _ _ c.in-Err.fault _ c.pieces.invariant.read.open_still c.next_piece-more.ensures.takes c.in-Err.is) (only-adds mid u _ _ (adds-valid s mid _ valid a) b) f),
       ),
       z,
     )

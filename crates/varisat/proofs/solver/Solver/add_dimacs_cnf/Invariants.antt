@@ -11,7 +11,7 @@ use Rattle.varisat.proofs.solver.Solver.add_dimacs_cnf.Given as goal
 abbrev pub invariant-pieces : goal.invariant-pieces
 invariant-pieces g l = record {
   front : List Clause;
-  read : ReadSo (stand g.S.ByteSource.left g.S.ByteSource.pieces_left g.S.ByteSource.fault_count l.initial.source) (stand g.S.ByteSource.left g.S.ByteSource.pieces_left g.S.ByteSource.fault_count l.source) l.parser front;
+  read : ReadSo (stand g.S.ByteSource.given g.S.ByteSource.left g.S.ByteSource.pieces_left g.S.ByteSource.fault_count l.initial.source) (stand g.S.ByteSource.given g.S.ByteSource.left g.S.ByteSource.pieces_left g.S.ByteSource.fault_count l.source) l.parser front;
   so_far : (s : State) → StandsFor l.initial.self s → (mid : State) × AddsAll s front (Ok tt) mid × StandsFor l.self mid;
 }
 

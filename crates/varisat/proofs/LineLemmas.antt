@@ -14,7 +14,8 @@ use Rattle.std.proofs.Math.Seq.{drop-cons}
 use Rattle.std.proofs.lemmas.List.Elements.{All-from_recursion, recursion_from_All}
 use Rattle.std.proofs.lemmas.List.Splits.{slice_split_none, slice_split_at, join_with_byte-slice_split, length-slice_split}
 use Rattle.varisat_formula.specs.Numbers.{literal_number}
-use Rattle.varisat.specs.Lines.{Line, Add, New, Solve, Model, Means, MeansOneLine, IsInRange, words, words_of, spelling, literal_text}
+use Rattle.varisat_formula.specs.Numbers.{literal_text}
+use Rattle.varisat.specs.Lines.{Line, Add, New, Solve, Model, Means, MeansOneLine, IsInRange, words, words_of, spelling}
 
 abbrev pub NoSpace : List ℕ → Type 0
 NoSpace word = All (λ b. (b == 32) ≡ false) word

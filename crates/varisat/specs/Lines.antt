@@ -1,9 +1,8 @@
 -- The lines of a session: what each one calls, and how it is spelled.
 use Rattle.std.specs.Prelude.{◌≡◌, ◌==◌, ◌<◌, ◌^◌, ℕ, Bool, true, false, Option, Some, None, Result, Ok, Err, List, [], ◌∷◌, ◌++◌, map, flat_map, codes, decimal}
 use Rattle.std.specs.List.{All, join_with_byte, slice_split}
-use Rattle.std.specs.Fmt.{signed_decimal}
 use Rattle.varisat_theory.specs.Literals.{Literal}
-use Rattle.varisat_formula.specs.Numbers.{literal_number, variable_number}
+use Rattle.varisat_formula.specs.Numbers.{variable_text, literal_text}
 use Rattle.varisat.specs.Refusals.{refusal_number}
 use Rattle.varisat.specs.declared.session.Call.{Call}
 use Rattle.varisat.specs.declared.session.Call.TheVariants as call
@@ -18,13 +17,6 @@ pub data Line : Type 0 where
   New : Line
   Solve : Line
   Model : Line
-
--- the numbers of variables and literals in decimal: without leading zeros, and with a `-` where negative
-abbrev pub variable_text : ℕ → List ℕ
-variable_text v = signed_decimal (variable_number v)
-
-abbrev pub literal_text : Literal → List ℕ
-literal_text l = signed_decimal (literal_number l)
 
 -- the words of a line, in order
 abbrev pub words : Line → List (List ℕ)

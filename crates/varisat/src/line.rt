@@ -3,7 +3,8 @@ ghost use Rattle.std.specs.Prelude.{◌≡◌, ◌≢◌, ◌==◌, ℕ, ◌+◌
 ghost use Rattle.std.specs.List.{All, join_with_byte};
 ghost use Rattle.std.specs.Io.KnownBytes.{Appends};
 ghost use Rattle.varisat_theory.specs.Literals.{Literal};
-ghost use Rattle.varisat.specs.Lines.{Line, Add, words, Means, MeansOneLine, line_of, words_of, literal_text, variable_text, literals_text, refusal_text, done_text, answer_text};
+ghost use Rattle.varisat_formula.specs.Numbers.{literal_text, variable_text};
+ghost use Rattle.varisat.specs.Lines.{Line, Add, words, Means, MeansOneLine, line_of, words_of, literals_text, refusal_text, done_text, answer_text};
 
 use crate::session::{Answer, Call};
 use crate::solver::SolverError;

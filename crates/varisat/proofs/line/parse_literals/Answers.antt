@@ -1,6 +1,6 @@
 -- Where all words are literals, the text is the line of their clause. Where one is none, no line is spelled so.
 use Rattle.std.proofs.Common.{◌++◌, ap, sym, ◌∙◌, map}
-use Rattle.varisat.specs.Lines.{literal_text}
+use Rattle.varisat_formula.specs.Numbers.{literal_text}
 use Rattle.varisat.proofs.LineLemmas.{words_left, first_word, none_left, clause_read, no_clause}
 use Rattle.varisat.proofs.line.parse_literals.Goals as goal
 

@@ -1,6 +1,5 @@
 -- Texts that are read with a call of a function for each piece.
-use Rattle.std.proofs.Common.{◌≡◌, ℕ, List, [], ◌∷◌, ◌++◌, ◌⊎◌, inl, inr, Bool, true, false, None, Some, Result, Ok, Err, refl, sym, ap, subst, ◌∙◌}
-use Rattle.std.specs.List.{FoldsTo}
+use Rattle.std.proofs.Common.{◌≡◌, [], ◌∷◌, ◌++◌, ◌⊎◌, inl, inr, Bool, true, false, None, Some, Result, Ok, Err, refl, sym, ap, subst, ◌∙◌}
 use Rattle.std.proofs.lemmas.Fn.{FoldsTo-push}
 use Rattle.varisat_formula.specs.declared.dimacs.error.DimacsError.{DimacsError}
 use Rattle.varisat_formula.specs.declared.dimacs.error.DimacsErrorKind.TheVariants.{OutOfMemory}
@@ -8,7 +7,7 @@ use Rattle.varisat_formula.specs.Dimacs.{Ends, GoesOn, BreaksOff}
 use Rattle.varisat_formula.specs.Rest.{Progress, begin, dimacs_from, Follows, RunsOut, fault_of}
 use Rattle.varisat_formula.proofs.Kept.{kept_by}
 use Rattle.varisat_formula.proofs.Steps.{over_gives, breaks_off}
-use Rattle.varisat_formula.specs.Parsed.{Stand, TakesPiece, Standing, Turn, Turns, TakesEnd, Finishes, HasFault, IsRefused, Refuses}
+use Rattle.varisat_formula.specs.Parsed.{Stand, TakesPiece, Turn, Turns, TakesEnd, Finishes, Refuses}
 
 -- the end of a text that was read, without a fault
 end_whole : (p q : Progress) → p.reading.fault ≡ None → q.reading.fault ≡ None → (q.reading ≡ dimacs_from p []) ⊎ RunsOut p [] q → q.reading ≡ dimacs_from p []

@@ -2,7 +2,8 @@ use crate::dimacs::{DimacsError, DimacsErrorKind, DimacsParser, PieceReader, wri
 use crate::formula::{CnfFormula, ExtendFormula, FormulaError, Lit};
 use crate::io::{ByteSource, IoTarget, MemoryTarget, ProofTarget, ReadSource};
 use crate::{cnf_formula, lits};
-use std::alloc::{AllocError, Global};
+use linked_list_allocator::LocalHeap;
+use std::alloc::{AllocError, Allocator, Global};
 use std::io;
 use std::io::{ErrorKind, Read};
 
@@ -430,30 +431,50 @@ fn error_text(rt: HostRuntime) -> Result<(), AllocError> {
     Ok(())
 }
 
-/// Each line has a clause, so that a fault's line tells how many clauses ended before it.
-#[test]
-fn want_of_memory(rt: HostRuntime) {
-    let mut parser = DimacsParser::new_in(rt.alloc());
-    match parser.feed(b"1 0\n2 0\n3 -4 5 -6 7 0\n8 0\n9 0\n") {
-        Ok(()) => {
-            assert!(rt; parser.finish().is_ok());
-            assert_eq!(rt; parser.take_formula().len(), 5);
-        }
+/// How a text was read with little memory.
+#[derive(Clone, Copy, PartialEq, Eq)]
+enum Reached {
+    Ended,
+    RanOut,
+    Wrong,
+}
+
+/// Reads a text of five lines, each of which has a clause, so that a fault's line tells how many clauses ended before it.
+fn read_five<A: Allocator + Copy>(alloc: A) -> Reached {
+    let mut parser = DimacsParser::new_in(alloc);
+    let fed = parser.feed(b"1 0\n2 0\n3 -4 5 -6 7 0\n8 0\n9 0\n");
+    let ended = parser.finish();
+    let taken = parser.take_formula().len();
+    match fed {
+        Ok(()) if ended.is_ok() && taken == 5 => Reached::Ended,
+        Ok(()) => Reached::Wrong,
         Err(error) => {
-            assert!(rt; error.kind == DimacsErrorKind::OutOfMemory);
-            assert!(rt; parser.feed(b"1 0") == Err(error));
-            assert!(rt; parser.finish() == Err(error));
-            let taken = parser.take_formula().len();
-            assert!(rt; taken < 5);
-            assert_eq!(rt; taken as u64 + 1, error.line);
+            let again = parser.feed(b"1 0") == Err(error) && parser.finish() == Err(error);
+            if error.kind == DimacsErrorKind::OutOfMemory
+                && ended == Err(error)
+                && again
+                && taken < 5
+                && taken as u64 + 1 == error.line
+            {
+                Reached::RanOut
+            } else {
+                Reached::Wrong
+            }
         }
     }
-    let mut formula = CnfFormula::new_in(rt.alloc());
-    for _ in 0..20 {
-        let (count, vars) = (formula.len(), formula.var_count());
-        if formula.add_clause(&lits![1, -2, 3]).is_err() {
-            assert_eq!(rt; formula.len(), count);
-            assert_eq!(rt; formula.var_count(), vars);
-        }
+}
+
+#[test]
+fn each_growth_of_a_text_may_be_refused(rt: HostRuntime) -> Result<(), AllocError> {
+    let mut ended = false;
+    let mut ran_out = false;
+    for room in 0..60 {
+        let heap = LocalHeap::new(rt.alloc(), 16 * room)?;
+        let outcome = read_five(&heap);
+        assert!(rt; outcome != Reached::Wrong, "with {room}");
+        ended |= outcome == Reached::Ended;
+        ran_out |= outcome == Reached::RanOut;
     }
+    assert!(rt; ended && ran_out);
+    Ok(())
 }

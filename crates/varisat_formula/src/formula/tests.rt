@@ -4,7 +4,8 @@ use crate::formula::laws::{
 };
 use crate::formula::{CnfFormula, ExtendFormula, FormulaError, Lit, Var, new_lits, new_vars};
 use crate::{cnf, cnf_formula, lit, lits, var};
-use std::alloc::AllocError;
+use linked_list_allocator::LocalHeap;
+use std::alloc::{AllocError, Allocator};
 use std::cmp::Ordering;
 use std::hash::{DefaultHasher, Hasher};
 
@@ -123,5 +124,40 @@ fn new_variables(rt: HostRuntime) -> Result<(), FormulaError> {
     assert!(rt; formula.new_var()? == var!(2147483648));
     assert!(rt; matches!(&formula.new_var(), Err(FormulaError::Full)));
     assert_eq!(rt; formula.var_count(), 2147483648);
+    Ok(())
+}
+
+/// Adds a clause up to the first refusal, which has to leave the formula as it was. Answers how many were added.
+fn fill_up<A: Allocator + Copy>(alloc: A) -> Option<usize> {
+    let mut formula = CnfFormula::new_in(alloc);
+    for added in 0..20 {
+        match formula.add_clause(&lits![1, -2, 3]) {
+            Ok(()) => {}
+            Err(FormulaError::Full) => return None,
+            Err(FormulaError::Memory) => {
+                let same = formula.len() == added
+                    && formula.var_count() == if added == 0 { 0 } else { 3 }
+                    && formula
+                        .iter()
+                        .all(|clause| clause == lits![1, -2, 3].as_slice());
+                return if same { Some(added) } else { None };
+            }
+        }
+    }
+    Some(20)
+}
+
+#[test]
+fn each_growth_of_a_formula_may_be_refused(rt: HostRuntime) -> Result<(), AllocError> {
+    let mut most = 0;
+    for room in 0..80 {
+        let heap = LocalHeap::new(rt.alloc(), 16 * room)?;
+        let added = fill_up(&heap);
+        assert!(rt; added.is_some(), "with {room}");
+        let count = added.unwrap_or(0);
+        assert!(rt; room > 0 || count == 0);
+        most = count.max(most);
+    }
+    assert_eq!(rt; most, 20);
     Ok(())
 }

@@ -1,0 +1,9 @@
+pub mod Clauses
+pub mod Lits
+pub mod Distinct
+pub mod Fronted
+pub mod Extend
+pub mod Growth
+pub mod Enqueued
+pub mod Reordered
+pub mod Looked

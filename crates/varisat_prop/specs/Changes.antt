@@ -1,0 +1,36 @@
+-- What a search does to its view.
+use Rattle.std.specs.Prelude.{ℕ, suc, ◌<◌, ◌≤◌, Some, List, [], ◌∷◌, ◌++◌, length, slice_index_or, slice_set}
+use Rattle.varisat_theory.specs.Literals.{Literal, Clause, variable_of}
+use Rattle.varisat_formula.specs.Numbers.{polarity_of}
+use Rattle.varisat_prop.specs.declared.prop.graph.Reason.{Reason}
+use Rattle.varisat_prop.specs.declared.prop.graph.Reason.TheVariants as reason
+use Rattle.varisat_prop.specs.declared.prop.graph.Conflict.{Conflict}
+use Rattle.varisat_prop.specs.declared.prop.graph.Conflict.TheVariants as conflict
+use Rattle.varisat_prop.specs.View.{View}
+
+-- the clause that a reason names is one of the list, and is not empty
+abbrev pub NamesClause : List Clause → Reason → Type 0
+NamesClause P reason.Unit = Unit {0}
+NamesClause P (reason.Long i) = (i < length P) × (1 ≤ length (slice_index_or P i []))
+
+-- the clause without its first literal
+abbrev pub others_of : Clause → Clause
+others_of [] = []
+others_of (l ∷ c) = c
+
+-- the literals that are false where the reason holds
+abbrev pub causes_of : List Clause → Reason → List Literal
+causes_of P reason.Unit = []
+causes_of P (reason.Long i) = others_of (slice_index_or P i [])
+
+abbrev pub place_of : Conflict → ℕ
+place_of (conflict.Long i) = i
+
+-- the literal is true, at the present level and for the reason
+abbrev pub enqueued : View → Literal → Reason → View
+enqueued s l r =
+    record s { values = slice_set s.values (variable_of l) (Some (polarity_of l)); trail = s.trail ++ l ∷ []; nodes = slice_set s.nodes (variable_of l) (record { reason = r; level = length s.decisions; depth = suc (length s.trail) }) }
+
+-- the literal is decided
+abbrev pub decided_on : View → Literal → View
+decided_on s l = enqueued (record s { decisions = s.decisions ++ length s.trail ∷ [] }) l reason.Unit

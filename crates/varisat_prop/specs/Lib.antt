@@ -1,0 +1,4 @@
+pub mod Parts
+pub mod View
+pub mod Changes
+pub mod Looks

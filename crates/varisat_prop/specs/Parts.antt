@@ -1,0 +1,43 @@
+-- What contracts see of the parts.
+use Rattle.std.specs.Prelude.{◌≡◌, ℕ, ◌+◌, Bool, false, Option, Some, None, List, [], length, map, option_map, slice_index_or, Vec}
+use Rattle.std.specs.Bool.{beq}
+use Rattle.varisat_theory.specs.Literals.{Literal, Clause, variable_of}
+use Rattle.varisat_formula.specs.Numbers.{polarity_of}
+
+-- the clauses as lists of literals
+abbrev pub clauses_of : {A : Type 0} → List (Vec Literal A) → List Clause
+clauses_of vs = map (λ v. v.items) vs
+
+-- For each variable the value that it has, and the value that it had when it lost one the last time.
+pub record Values : Type 0 where
+  pub current : List (Option Bool)
+  pub last : List Bool
+
+abbrev pub no_values : Values
+no_values = record { current = []; last = [] }
+
+-- the literal's variable has the value that makes it true
+abbrev pub IsMadeTrue : List (Option Bool) → Literal → Type 0
+IsMadeTrue values l = slice_index_or values (variable_of l) None ≡ Some (polarity_of l)
+
+-- what the value of its variable makes of the literal
+abbrev pub value_in : List (Option Bool) → Literal → Option Bool
+value_in values l = option_map (λ b. beq b (polarity_of l)) (slice_index_or values (variable_of l) None)
+
+abbrev pub is_true_value : Option Bool → Bool
+is_true_value None = false
+is_true_value (Some b) = b
+
+-- The true literals, oldest first; how many of them were propagated; the places of the decisions, oldest first; and how many units were taken off.
+pub record TrailParts : Type 0 where
+  pub literals : List Literal
+  pub queue_head : ℕ
+  pub decisions : List ℕ
+  pub units_removed : ℕ
+
+abbrev pub empty_trail : TrailParts
+empty_trail = record { literals = []; queue_head = 0; decisions = []; units_removed = 0 }
+
+-- how many literals stand before the first decision, those that were taken off counted too
+abbrev pub top_level_count : TrailParts → ℕ
+top_level_count t = slice_index_or t.decisions 0 (length t.literals) + t.units_removed

@@ -1,0 +1,137 @@
+//! The partial assignment, and the value that each variable had last.
+ghost use Rattle.std.specs.Prelude.{◌≡◌, ◌<◌, ◌≤◌, ◌↔◌, ◌++◌, ◌-◌, IsTrue, [], length, replicate, slice_index_or, slice_set, Option, Some, None, true, false, OnOk};
+ghost use Rattle.varisat_theory.specs.Literals.{variable_of, opposite};
+ghost use Rattle.varisat_formula.specs.Numbers.{polarity_of};
+ghost use Rattle.varisat_prop.specs.Parts.{IsMadeTrue, value_in, no_values, is_true_value};
+
+use std::alloc::{AllocError, Allocator};
+use std::marker::Model;
+use varisat_formula::formula::{Lit, Var};
+
+/// The value of each variable, if it has one, and the value that it had before.
+#[derive(Drop)]
+pub struct Assignment<A: Allocator + Copy> {
+    assignment: Vec<Option<bool>, A>,
+    last_value: Vec<bool, A>,
+}
+
+impl<A: Allocator + Copy> Model for Assignment<A> {
+    ghost use Rattle.std.specs.Prelude.{◌≤◌, length};
+    ghost use Rattle.varisat_prop.specs.Parts.{Values};
+
+    ghost Value = { Values };
+
+    ghost view = { λ a. record { current = a.assignment.items; last = a.last_value.items } };
+
+    ghost invariant = { λ a. length a.assignment.items ≤ length a.last_value.items };
+}
+
+impl<A: Allocator + Copy> Assignment<A> {
+    /// No variables. It takes no memory.
+    pub fn new_in(alloc: A) -> Assignment<A>
+        ensures { result ≡ no_values }
+    {
+        Assignment {
+            assignment: Vec::new(alloc),
+            last_value: Vec::new(alloc),
+        }
+    }
+
+    /// Raises the count of variables. The new ones have no value, and had the value false.
+    pub fn set_var_count(&mut self, count: usize) -> Result<(), AllocError>
+        requires { length self.old.current ≤ count }
+        ensures { OnOk result (self.new.current ≡ self.old.current ++ replicate (count - length self.old.current) None) }
+    {
+        self.last_value.resize(count, false)?;
+        self.assignment.resize(count, None)?;
+        Ok(())
+    }
+
+    /// The value of each variable.
+    pub fn assignment(&self) -> &[Option<bool>]
+        ensures { result.now ≡ self.now.current }
+    {
+        self.assignment.as_slice()
+    }
+
+    /// Takes the variable's value away, and remembers it as the last.
+    pub fn release_var(&mut self, var: Var)
+        requires { var < length self.old.current }
+        ensures { self.new ≡ record { current = slice_set self.old.current var None; last = slice_set self.old.last var (is_true_value (slice_index_or self.old.current var None)) } }
+    {
+        self.last_value[var.index()] = self.assignment[var.index()] == Some(true);
+        self.unassign_var(var);
+    }
+
+    /// The value of the variable, if it has one.
+    pub fn var_value(&self, var: Var) -> Option<bool>
+        requires { var < length self.now.current }
+        ensures { result ≡ slice_index_or self.now.current var None }
+    {
+        self.assignment[var.index()]
+    }
+
+    /// The value that the variable had before it lost one the last time, false at first.
+    pub fn last_var_value(&self, var: Var) -> bool
+        requires { var < length self.now.current }
+        ensures { result ≡ slice_index_or self.now.last var false }
+    {
+        self.last_value[var.index()]
+    }
+
+    /// The value of the literal, if its variable has one.
+    pub fn lit_value(&self, lit: Lit) -> Option<bool>
+        requires { variable_of lit < length self.now.current }
+        ensures { result ≡ value_in self.now.current lit }
+    {
+        self.assignment[lit.index()].map(|value| value ^ lit.is_negative())
+    }
+
+    /// Whether the literal is true.
+    pub fn lit_is_true(&self, lit: Lit) -> bool
+        requires { variable_of lit < length self.now.current }
+        ensures { IsTrue result ↔ IsMadeTrue self.now.current lit }
+    {
+        self.lit_value(lit) == Some(true)
+    }
+
+    /// Whether the literal is false.
+    pub fn lit_is_false(&self, lit: Lit) -> bool
+        requires { variable_of lit < length self.now.current }
+        ensures { IsTrue result ↔ IsMadeTrue self.now.current (opposite lit) }
+    {
+        self.lit_value(lit) == Some(false)
+    }
+
+    /// Whether the literal's variable has no value.
+    pub fn lit_is_unk(&self, lit: Lit) -> bool
+        requires { variable_of lit < length self.now.current }
+        ensures { IsTrue result ↔ (slice_index_or self.now.current (variable_of lit) None ≡ None) }
+    {
+        self.lit_value(lit).is_none()
+    }
+
+    /// Makes the literal true.
+    pub fn assign_lit(&mut self, lit: Lit)
+        requires { variable_of lit < length self.old.current }
+        ensures { self.new ≡ record self.old { current = slice_set self.old.current (variable_of lit) (Some (polarity_of lit)) } }
+    {
+        self.assignment[lit.index()] = Some(lit.is_positive());
+    }
+
+    /// Takes the variable's value away.
+    pub fn unassign_var(&mut self, var: Var)
+        requires { var < length self.old.current }
+        ensures { self.new ≡ record self.old { current = slice_set self.old.current var None } }
+    {
+        self.assignment[var.index()] = None;
+    }
+
+    /// Gives the variable the value, or takes its value away.
+    pub fn set_var(&mut self, var: Var, assignment: Option<bool>)
+        requires { var < length self.old.current }
+        ensures { self.new ≡ record self.old { current = slice_set self.old.current var assignment } }
+    {
+        self.assignment[var.index()] = assignment;
+    }
+}

@@ -1,0 +1,116 @@
+//! Unit propagation: a scan of the clauses in the order of adding, until nothing changes.
+ghost use Rattle.std.specs.Prelude.{◌≡◌, ◌<◌, [], length, slice_index_or, OnOk, IfOk, MatchResult};
+ghost use Rattle.varisat_theory.specs.Propagation.{IsFalse, IsComplete};
+ghost use Rattle.varisat_prop.specs.View.{view_of, WellFormed};
+ghost use Rattle.varisat_prop.specs.Changes.{place_of};
+ghost use Rattle.varisat_prop.specs.Looks.{Propagates, IsInRange, IsStatus, IsLook};
+
+use crate::clause::{ClauseAlloc, ClauseRef};
+use crate::prop::assignment::Assignment;
+use crate::prop::enqueue::enqueue_assignment;
+use crate::prop::graph::{Conflict, ImplGraph, Reason};
+use crate::prop::trail::Trail;
+use std::alloc::{AllocError, Allocator};
+use varisat_formula::formula::Lit;
+
+/// What a clause is under an assignment.
+#[derive(Clone, Copy, Debug)]
+enum Status {
+    /// All literals are false.
+    False,
+    /// All literals but the one at this place are false.
+    Leaves(usize),
+    /// Two literals are not false.
+    Open,
+}
+
+/// What a look at a clause found.
+#[derive(Clone, Copy, Debug)]
+enum Look {
+    /// The clause is false.
+    Conflicting,
+    /// The literal that it leaves was made true.
+    Implied,
+    /// Nothing is to be done.
+    Quiet,
+}
+
+/// What the clause is under the assignment.
+fn status_of<A: Allocator + Copy>(assignment: &Assignment<A>, clause: &[Lit]) -> Status
+    requires { IsInRange assignment.now.current clause.now }
+    ensures { IsStatus assignment.now.current clause.now result }
+{
+    let mut left: Option<usize> = None;
+    for (place, lit) in clause.iter().enumerate() {
+        if assignment.lit_is_false(*lit) {
+            continue;
+        }
+        if left.is_some() {
+            return Status::Open;
+        }
+        left = Some(place);
+    }
+    match left {
+        None => Status::False,
+        Some(place) => Status::Leaves(place),
+    }
+}
+
+/// Makes the literal true that the clause leaves, if it isn't true. It becomes the clause's first.
+fn look_at<A: Allocator + Copy>(
+    assignment: &mut Assignment<A>,
+    clause_alloc: &mut ClauseAlloc<A>,
+    impl_graph: &mut ImplGraph<A>,
+    trail: &mut Trail<A>,
+    cref: ClauseRef,
+) -> Result<Look, AllocError>
+    requires well { WellFormed (view_of clause_alloc.old assignment.old trail.old impl_graph.old) }
+    requires within { cref < length clause_alloc.old }
+    ensures { IfOk result (λ look. IsLook (view_of clause_alloc.old assignment.old trail.old impl_graph.old) (view_of clause_alloc.new assignment.new trail.new impl_graph.new) cref look) }
+{
+    match status_of(assignment, clause_alloc.clause(cref)) {
+        Status::False => Ok(Look::Conflicting),
+        Status::Open => Ok(Look::Quiet),
+        Status::Leaves(place) => {
+            let lit = clause_alloc.clause(cref)[place];
+            if assignment.lit_is_true(lit) {
+                return Ok(Look::Quiet);
+            }
+            clause_alloc.put_first(cref, place);
+            enqueue_assignment(assignment, impl_graph, trail, lit, Reason::Long(cref))?;
+            Ok(Look::Implied)
+        }
+    }
+}
+
+/// Makes true what the clauses imply, until a clause is false or nothing more is implied.
+pub fn propagate<A: Allocator + Copy>(
+    assignment: &mut Assignment<A>,
+    clause_alloc: &mut ClauseAlloc<A>,
+    impl_graph: &mut ImplGraph<A>,
+    trail: &mut Trail<A>,
+) -> Result<Result<(), Conflict>, AllocError>
+    requires { WellFormed (view_of clause_alloc.old assignment.old trail.old impl_graph.old) }
+    // Each literal that was added has a clause as its reason, whose other literals are false and stand before it.
+    ensures propagates { OnOk result (Propagates (view_of clause_alloc.old assignment.old trail.old impl_graph.old) (view_of clause_alloc.new assignment.new trail.new impl_graph.new)) }
+    // At a conflict all literals of the named clause are false. Else no clause is false, none leaves a literal that isn't true, and each literal was propagated.
+    ensures ends { IfOk result (λ end. MatchResult end
+        (λ _. IsComplete clause_alloc.new trail.new.literals × (trail.new.queue_head ≡ length trail.new.literals))
+        (λ conflict. (place_of conflict < length clause_alloc.new) × IsFalse trail.new.literals (slice_index_or clause_alloc.new (place_of conflict) []))) }
+{
+    'rounds: loop {
+        let mut changed = false;
+        for place in 0..clause_alloc.len() {
+            let cref = ClauseRef::from_place(place);
+            match look_at(assignment, clause_alloc, impl_graph, trail, cref)? {
+                Look::Conflicting => return Ok(Err(Conflict::Long(cref))),
+                Look::Implied => changed = true,
+                Look::Quiet => {}
+            }
+        }
+        if !changed {
+            trail.end_queue();
+            return Ok(Ok(()));
+        }
+    }
+}

@@ -1,0 +1,43 @@
+-- How a search comes to a conflict or a model.
+use Rattle.std.proofs.Common.{◌≡◌, ℕ, suc, ◌+◌, ◌*◌, ◌/◌, ◌<◌, ◌≤◌, Bool, true, false, Option, None, Result, Ok, Err, MatchResult, List, [], ◌∷◌, ◌++◌, length, get_or, refl, sym, ap, ◌∙◌, subst, arith, length-append}
+use Rattle.varisat_theory.specs.Literals.{Literal, variable_of, literal_of}
+use Rattle.varisat_theory.specs.Propagation.{IsComplete}
+use Rattle.varisat_prop.specs.View.{View, WellFormed, LevelsSettled, Grows}
+use Rattle.varisat_prop.specs.Changes.{decided_on}
+use Rattle.varisat_prop.specs.Looks.{Propagates}
+use Rattle.varisat_prop.proofs.Growth.{grows-trans, grows-longer}
+use Rattle.varisat_prop.proofs.Enqueued.{decided-well, decided-grows}
+use Rattle.varisat_prop.proofs.Reordered.{trail-short}
+use Rattle.varisat_search.specs.Steps.{IsFree}
+use Rattle.varisat_search.proofs.Settled.{settled-grows, settled-decided}
+
+pub record Finding (s t : View) : Type 0 where
+  pub well : WellFormed t
+  pub settled : LevelsSettled t
+  pub grows : Grows s t
+
+pub finding-propagated : (s t u : View) → Finding s t → Propagates t u → Finding s u
+finding-propagated s t u f p = record { well = p.well; settled = settled-grows t u f.well p.grows p.decisions f.settled; grows = grows-trans s t u f.grows p.grows }
+
+pub finding-decided : (s t u : View) (l : Literal) → Finding s t → IsComplete t.clauses t.trail → IsFree t l → u ≡ decided_on t l → Finding s u
+finding-decided s t u l f q r e =
+    subst (Finding s) (sym e) record {
+      well = decided-well t l f.well r.0 r.1;
+      settled = settled-decided t l f.well q f.settled;
+      grows = grows-trans s t (decided_on t l) f.grows (decided-grows t l f.well r.0 r.1);
+    }
+
+-- the trail gets longer, and is no longer than there are variables
+pub decided-longer : (t u : View) (l : Literal) → WellFormed u → u ≡ decided_on t l → (length t.trail < length u.trail) × (length u.trail ≤ length u.values)
+decided-longer t u l w e =
+    let n = ap (λ (x : View). length x.trail) e in
+    let m = length-append t.trail (l ∷ []) in
+    (omega (arith, n, m), trail-short u w)
+
+pub not-err : {X E : Type 0} (r : Result X E) (A : X → Type 0) (B : E → Type 0) → ((e : E) → r ≡ Err e → ⊥) → MatchResult r A B → (x : X) × A x
+not-err (Ok x) A B n h = (x, h)
+not-err (Err e) A B n h = absurd (n e refl)
+
+pub variable-literal : (v : ℕ) (b : Bool) → variable_of (literal_of v b) ≡ v
+variable-literal v true = omega arith
+variable-literal v false = omega arith

@@ -1,0 +1,86 @@
+-- More variables.
+use Rattle.std.proofs.Common.{◌≡◌, Bool, ℕ, zero, suc, ◌+◌, ◌-◌, ◌<◌, ◌≤◌, ◌^◌, Option, None, List, [], ◌∷◌, ◌++◌, length, get_or, replicate, ◌⊎◌, inl, inr, ⊎_elim, refl, sym, ap, ◌∙◌, subst, arith, length-append}
+use Rattle.std.proofs.lemmas.List.{length-replicate}
+use Rattle.varisat_theory.specs.Membership.{◌∈◌}
+use Rattle.varisat_theory.specs.Literals.{Literal, Clause, variable_of, opposite, IsUnit}
+use Rattle.varisat_theory.specs.Propagation.{IsComplete}
+use Rattle.varisat_prop.specs.declared.prop.graph.Reason.{Reason}
+use Rattle.varisat_prop.specs.declared.prop.graph.Reason.TheVariants as reason
+use Rattle.varisat_prop.specs.declared.prop.graph.ImplNode.{ImplNode}
+use Rattle.varisat_prop.specs.View.{View, IsTrueIn, clause_at, literal_at, decision_at, node_of, node_at, no_node, Implies, IsReason, WellFormed, LevelsSettled, IsFixed, Fits}
+
+pub get_or-padded : {X : Type 0} (xs : List X) (n v : ℕ) (d : X) → get_or (xs ++ replicate n d) v d ≡ get_or xs v d
+get_or-padded [] n v d = none n v
+  where
+    none : (n v : ℕ) → get_or (replicate n d) v d ≡ d
+    none zero v = refl
+    none (suc n) zero = refl
+    none (suc n) (suc v) = none n v
+get_or-padded (x ∷ xs) n zero d = refl
+get_or-padded (x ∷ xs) n (suc v) d = get_or-padded xs n v d
+
+module _ (s : View) (m n : ℕ) (w : WellFormed s) where
+  abbrev pub grown : View
+  grown = record s { values = s.values ++ replicate m None; nodes = s.nodes ++ replicate n no_node }
+
+  true-to : (l : Literal) → IsTrueIn s l → IsTrueIn grown l
+  true-to l h = get_or-padded s.values m (variable_of l) None ∙ h
+
+  true-from : (l : Literal) → IsTrueIn grown l → IsTrueIn s l
+  true-from l h = sym (get_or-padded s.values m (variable_of l) None) ∙ h
+
+  node-same : (l : Literal) → node_of grown l ≡ node_of s l
+  node-same l = get_or-padded s.nodes n (variable_of l) no_node
+
+  level-same : (k : ℕ) → (node_at grown k).level ≡ (node_at s k).level
+  level-same k = ap (λ n. n.level) (node-same (literal_at s k))
+
+  implies-same : (c : Clause) (k : ℕ) → Implies s c k → Implies grown c k
+  implies-same [] k h = h
+  implies-same (x ∷ c) k h = h
+
+  reason-same : (k : ℕ) (q : Reason) → IsReason s k q → IsReason grown k q
+  reason-same k reason.Unit h = ⊎_elim inl (λ e. inr (level-same k ∙ e)) h
+  reason-same k (reason.Long i) (a, b) = (a, implies-same (clause_at s i) k b)
+
+  pub grown-well : length grown.nodes ≡ length grown.values → length grown.values ≤ 2 ^ 28 → WellFormed grown
+  grown-well e f = record {
+    nodes_are = e;
+    small = f;
+    in_range = λ c i l j. let a = w.in_range c i l j in let b = length-append s.values (replicate m None) in omega (arith, a, b);
+    several = w.several;
+    distinct = w.distinct;
+    is_true = λ k h. true-to (literal_at s k) (w.is_true k h);
+    stands = λ l h. w.stands l (true-from l h);
+    depth_is = λ k h. ap (λ n. n.depth) (node-same (literal_at s k)) ∙ w.depth_is k h;
+    decided = λ j h. let d = w.decided j h in (d.0, ap (λ n. n.reason) (node-same (literal_at s (decision_at s j))) ∙ d.1);
+    rising = w.rising;
+    levels_to = λ k h. let a = level-same k in let b = w.levels_to k h in omega (arith, a, b);
+    levels_up = λ k j h i o. w.levels_up k j h i (let a = level-same k in omega (arith, a, o));
+    levels_down = λ k j h i o. let a = level-same k in let b = w.levels_down k j h i o in omega (arith, a, b);
+    reason_is = λ k h. subst (IsReason grown k) (sym (ap (λ n. n.reason) (node-same (literal_at s k)))) (reason-same k (node_at s k).reason (w.reason_is k h));
+  }
+
+  pub grown-fits : (held : List Clause) → Fits held s → Fits held grown
+  grown-fits held f = record {
+    stored = f.stored;
+    units = λ k h a b. f.units k h (sym (level-same k) ∙ a) (sym (ap (λ n. n.reason) (node-same (literal_at s k))) ∙ b);
+    covered = λ c i. ⊎_elim inl (λ q. inr (⊎_elim inl (λ (l, j, (t, z)). inr (l, j, (true-to l t, ap (λ n. n.level) (node-same l) ∙ z))) q)) (f.covered c i);
+  }
+
+pub grown-settled : (s : View) (m n : ℕ) → LevelsSettled s → LevelsSettled (record s { values = s.values ++ replicate m None; nodes = s.nodes ++ replicate n no_node })
+grown-settled s m n v j h = v j h
+
+pub grown-result : (s u : View) (count : ℕ) → WellFormed s → LevelsSettled s → length s.values ≤ count → count ≤ 2 ^ 28 → u ≡ record s { values = s.values ++ replicate (count - length s.values) None; nodes = s.nodes ++ replicate (count - length s.nodes) no_node } → WellFormed u × LevelsSettled u × (length u.values ≡ count) × ((held : List Clause) → Fits held s → Fits held u)
+grown-result s u count w v h b e =
+    let m = count - length s.values in
+    let n = count - length s.nodes in
+    let a = length-append s.values (replicate m None) in
+    let x = length-append s.nodes (replicate n no_node) in
+    let y = length-replicate {A = Option Bool} m None in
+    let z = length-replicate {A = ImplNode} n no_node in
+    let d = w.nodes_are in
+    let l : length (s.values ++ replicate m None) ≡ count = omega (arith, a, y, h) in
+    let k : length (s.nodes ++ replicate n no_node) ≡ count = omega (arith, x, z, d, h) in
+    subst (λ (q : View). WellFormed q × LevelsSettled q × (length q.values ≡ count) × ((held : List Clause) → Fits held s → Fits held q)) (sym e)
+    (grown-well s m n w (k ∙ sym l) (omega (arith, l, b)), grown-settled s m n v, l, grown-fits s m n w)

@@ -1,0 +1,100 @@
+-- The learned clause, from what each part of the analysis found.
+use Rattle.std.proofs.Common.{◌≡◌, ◌≢◌, ℕ, zero, suc, ◌+◌, ◌<◌, ◌≤◌, Bool, true, false, List, [], ◌∷◌, length, get_or, ◌⊎◌, inl, inr, ⊎_elim, refl, sym, ap, ◌∙◌, subst, arith}
+use Rattle.std.proofs.lemmas.Bool.{cases_lt, cases_Bool}
+use Rattle.varisat_theory.specs.Membership.{◌∈◌, ◌⊆◌, SameSet, IsDistinct}
+use Rattle.varisat_theory.specs.Literals.{Literal, Clause, variable_of, opposite}
+use Rattle.varisat_theory.specs.Propagation.{Follows, Conflicts}
+use Rattle.varisat_theory.proofs.Growth.{follows_more, covered_by_self}
+use Rattle.varisat_theory.proofs.Implication.{implied_false}
+use Rattle.varisat_theory.proofs.Members.{∈-or_not}
+use Rattle.varisat_theory.proofs.Places.{∈-get_or, place_in}
+use Rattle.varisat_theory.proofs.Values.{opposite_twice}
+use Rattle.varisat_prop.specs.View.{View, clause_at, literal_at, level_of, WellFormed, Fits}
+use Rattle.varisat_prop.proofs.Fronted.{IsFronted, fronted}
+use Rattle.std.specs.List.{swap}
+use Rattle.varisat_search.specs.Learned.{present_level, IsConflict, IsLevelOf, IsAsserting, IsLearned}
+use Rattle.varisat_search.specs.Marks.{IsMarked, Marks, IsResolved, IsMinimized}
+use Rattle.varisat_search.proofs.Standing.{level-opposite, level-small, fixed-implied}
+
+-- a literal of the highest level was put first
+pub level-fronted : (s : View) (c d : Clause) (p r : ℕ) → IsFronted c d p → ((k : ℕ) → k < length c → level_of s (get_or c k 0) ≤ level_of s (get_or c p 0)) → r ≡ level_of s (get_or d 0 0) → IsLevelOf s d r
+level-fronted s c d p r f h e =
+    let first : get_or d 0 0 ≡ get_or c p 0 = ap (λ x. get_or x 0 0) f.first in
+    let g = ap (level_of s) first in
+    subst (λ x. IsLevelOf s x r) (sym f.first)
+    (omega (arith, e, g), λ n i. let (j, a, b, q) = f.elsewhere n i in let o = h j a in let z = ap (level_of s) q in omega (arith, o, z, e, g))
+
+pub fronted-now : (c d : Clause) (p : ℕ) → p < length c → IsDistinct c → d ≡ swap c 0 p → IsFronted c d p
+fronted-now c d p h u e = subst (λ x. IsFronted c x p) (sym e) (fronted c p h u)
+
+-- The places below `place` have literals of no higher level.
+pub record Highest (s : View) (c : Clause) (best place : ℕ) : Type 0 where
+  pub within : best < length c
+  pub above : (k : ℕ) → k < place → level_of s (get_or c k 0) ≤ level_of s (get_or c best 0)
+
+pub highest-start : (s : View) (c : Clause) → 0 < length c → Highest s c 0 1
+highest-start s c h = record { within = h; above = λ k l. let e : k ≡ 0 = omega (arith, l) in let g = ap (λ i. level_of s (get_or c i 0)) e in omega (arith, g) }
+
+pub highest-same : (s : View) (c : Clause) (best place : ℕ) → level_of s (get_or c place 0) ≤ level_of s (get_or c best 0) → Highest s c best place → Highest s c best (place + 1)
+highest-same s c best place l a = record {
+  within = a.within;
+  above = λ k h. ⊎_elim (λ (b : k < place). a.above k b) (λ (b : place ≤ k). let e : k ≡ place = omega (arith, b, h) in let g = ap (λ i. level_of s (get_or c i 0)) e in omega (arith, g, l)) (cases_lt k place);
+}
+
+pub highest-new : (s : View) (c : Clause) (best place : ℕ) → place < length c → level_of s (get_or c best 0) < level_of s (get_or c place 0) → Highest s c best place → Highest s c place (place + 1)
+highest-new s c best place h l a = record {
+  within = h;
+  above = λ k o. ⊎_elim (λ (b : k < place). let z = a.above k b in omega (arith, z, l)) (λ (b : place ≤ k). let e : k ≡ place = omega (arith, b, o) in let g = ap (λ i. level_of s (get_or c i 0)) e in omega (arith, g)) (cases_lt k place);
+}
+
+module _ (s : View) (w : WellFormed s) (cf : ℕ) (first : Literal) (c : Clause) (f : List Bool) (t : List ℕ) (c' c'' new : Clause) (a : IsResolved s cf first c f t) (b : IsMinimized s c c') (same : SameSet c'' c') (distinct : IsDistinct c'') (e : new ≡ first ∷ c'') where
+  pub learned-follows : (held : List Clause) → Fits held s → Follows held new
+  learned-follows held k = subst (Follows held) (sym e)
+      (follows_more held held (first ∷ c') (first ∷ c'') (covered_by_self held) (λ x. ⊎_elim inl (λ i. inr (same.1 x i))) (b.follows first held k (a.follows held k)))
+
+  pub learned-asserting : (level : ℕ) → IsLevelOf s c'' level → IsAsserting s cf new level
+  learned-asserting level l = subst (λ x. IsAsserting s cf x level) (sym e) record {
+    false_now = λ m. ⊎_elim (λ i. subst (λ x. opposite x ∈ s.trail) (sym i) first-false) (λ i. (a.marks.lower m (b.part m (same.0 m i))).false_now);
+    distinct = ((λ i. let x = (a.marks.lower first (b.part first (same.0 first i))).below in omega (arith, x, first-level)), distinct);
+    first = first;
+    others = c'';
+    split = refl;
+    present = first-level;
+    lower = λ m i. (a.marks.lower m (b.part m (same.0 m i))).below;
+    second = l;
+    place = a.place;
+    point = a.point;
+    opposite_is = a.opposite_is;
+  }
+    where
+      here : literal_at s a.place ≡ opposite first
+      here = sym (opposite_twice (literal_at s a.place)) ∙ ap opposite (sym a.opposite_is)
+
+      first-false : opposite first ∈ s.trail
+      first-false = subst (λ x. x ∈ s.trail) here (∈-get_or s.trail a.place 0 a.point.point.present.0)
+
+      first-level : level_of s first ≡ present_level s
+      first-level = sym (level-opposite s first) ∙ ap (level_of s) (sym here) ∙ a.point.point.present.1
+
+-- a conflict at level 0
+pub learned-at-zero : (s : View) (w : WellFormed s) (cf : ℕ) (c : Clause) (level : ℕ) → IsConflict s cf → present_level s ≡ 0 → c ≡ [] → level ≡ 0 → IsLearned s cf c level
+learned-at-zero s w cf c level h z e l = subst (λ x. IsLearned s cf x level) (sym e) record {
+  follows = λ held k. let (d, i, o) = k.stored (clause_at s cf) (∈-get_or s.clauses cf [] h.0) in
+      implied_false held [] d i (λ m j. let g = h.1 m (o.0 m j) in fixed-implied s w held k m g (let x = level-small s w m g in omega (arith, x, z)));
+  at_zero = λ _. (refl, l);
+  above = λ d. absurd (omega (arith, d, z));
+}
+
+pub learned-above : (s : View) (cf : ℕ) (c : Clause) (level : ℕ) → 0 < present_level s → ((held : List Clause) → Fits held s → Follows held c) → IsAsserting s cf c level → IsLearned s cf c level
+learned-above s cf c level d f a = record {
+  follows = f;
+  at_zero = λ z. absurd (omega (arith, d, z));
+  above = λ _. a;
+}
+
+-- once the listed variables are cleared no flag is set
+pub none-left : (f g : List Bool) (t : List ℕ) → ((v : ℕ) → IsMarked f v → v ∈ t) → ((v : ℕ) → v ∈ t → get_or g v false ≡ false) → ((v : ℕ) → (v ∈ t → ⊥) → get_or g v false ≡ get_or f v false) → (v : ℕ) → get_or g v false ≡ false
+none-left f g t h gone rest v = ⊎_elim
+    (λ i. gone v i)
+    (λ n. rest v n ∙ ⊎_elim (λ e. absurd (n (h v e))) (λ e. e) (cases_Bool (get_or f v false)))
+    (∈-or_not v t)

@@ -1,0 +1,27 @@
+use Rattle.std.proofs.Common.{◌≡◌, ◌<◌, length, MatchResult, sym, ap, ◌∙◌, subst}
+use Rattle.varisat_theory.specs.Propagation.{IsComplete}
+use Rattle.varisat_prop.specs.Changes.{place_of}
+use Rattle.varisat_search.specs.Learned.{IsConflict}
+use Rattle.varisat_search.specs.Contexts.{view}
+use Rattle.varisat_search.specs.Conflicts.{conflict_of}
+use Rattle.varisat_search.specs.Steps.{IsTotal}
+use Rattle.varisat_search.proofs.Settled.{satisfied}
+use Rattle.varisat_search.proofs.Stepping.{step-after}
+use Rattle.varisat_search.proofs.cdcl.conflict_step.Goals as goal
+
+pub learn-requires-clause-conflict : goal.learn-requires-clause-conflict
+learn-requires-clause-conflict g c =
+    let x = c.find_conflict.new.ctx in
+    let a = subst (λ r. MatchResult r (λ _. IsComplete x.clause_alloc x.trail.literals × IsTotal (view x)) (λ f. IsConflict (view x) (place_of (conflict_of f)))) c.in-Err.is c.in_ok-find_conflict.ensures.found in
+    subst (λ k. IsConflict (view x) (place_of k)) (sym c.conflict.ensures) a
+
+pub returns-in-Ok-clause-gives : goal.returns-in-Ok-clause-gives
+returns-in-Ok-clause-gives g c held f =
+    let x = c.find_conflict.new.ctx in
+    let a = subst (λ r. MatchResult r (λ _. IsComplete x.clause_alloc x.trail.literals × IsTotal (view x)) (λ f. IsConflict (view x) (place_of (conflict_of f)))) c.in-Ok.is c.in_ok-find_conflict.ensures.found in
+    let h = c.in_ok-find_conflict.ensures.grows.fits held f in
+    (h, satisfied (view x) c.in_ok-find_conflict.ensures.ready.well a.0 a.1 held h)
+
+pub returns-in_ok-learn-in-Err-clause-gives : goal.returns-in_ok-learn-in-Err-clause-gives
+returns-in_ok-learn-in-Err-clause-gives g c =
+    step-after (view c.args.ctx.now) (view c.find_conflict.new.ctx) (view c.learn.new.ctx) c.in_ok-find_conflict.ensures.grows c.learn.new.ctx.solver_state.sat_state c.in_ok-learn-in-Err.ensures.gives

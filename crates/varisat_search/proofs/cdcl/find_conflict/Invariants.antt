@@ -1,0 +1,10 @@
+use Rattle.std.proofs.Common.{◌≡◌, ◌-◌, length}
+use Rattle.varisat_prop.specs.View.{Grows}
+use Rattle.varisat_search.specs.Contexts.{view, IsReady}
+use Rattle.varisat_search.proofs.cdcl.find_conflict.Given as goal
+
+abbrev pub invariant-levels : goal.invariant-levels
+invariant-levels g l = record { ready : IsReady l.ctx; grows : Grows (view l.fn.ctx) (view l.ctx); state : l.ctx.solver_state ≡ l.fn.ctx.solver_state }
+
+abbrev pub decreases-levels : goal.decreases-levels
+decreases-levels g l = length l.ctx.assignment.current - length l.ctx.trail.literals

@@ -1,0 +1,152 @@
+use Rattle.std.proofs.Common.{◌≡◌, ℕ, ◌*◌, ◌<◌, length, None, sym, ap, ◌∙◌, subst}
+use Rattle.varisat_prop.specs.View.{view_of}
+use Rattle.varisat_prop.specs.Changes.{place_of}
+use Rattle.varisat_search.specs.declared.context.Context.{Context}
+use Rattle.varisat_search.specs.Contexts.{view}
+use Rattle.varisat_search.specs.Steps.{StepGives}
+use Rattle.varisat_search.proofs.Learning.{Learning, learning-free, learning-node, learning-result}
+use Rattle.varisat_search.proofs.cdcl.learn.Goals as goal
+
+pub enqueue_assignment-requires-clause-values : goal.enqueue_assignment-requires-clause-values
+enqueue_assignment-requires-clause-values g c =
+    let x0 = c.args.ctx.now in
+    let x1 = c.analyze.new.ctx in
+    let x2 = c.backtrack.new.ctx in
+    let x3 = c.keep_learned.new.ctx in
+    let i = place_of c.args.conflict in
+    let level = c.in_ok-level.level in
+    let l = c.in-Some.first in
+    let others = c.in-Some.ensures.0 in
+    let r = c.in_ok-reason.reason in
+    let d : Learning x0 x1 x2 x3 i level l others r = record {
+      analyzed = c.analyze.ensures.kept;
+      learned = c.in_ok-level.ensures.learned;
+      cut = c.backtrack.ensures.cut;
+      back = c.backtrack.ensures.kept;
+      split = sym c.clause.ensures ∙ c.in-Some.ensures.1;
+      stored = c.in_ok-reason.ensures.kept;
+      kept = c.in_ok-reason.ensures.reason;
+    } in
+    (learning-free x0 x1 x2 x3 i level l others r c.requires.ready d).0
+
+pub enqueue_assignment-requires-clause-nodes : goal.enqueue_assignment-requires-clause-nodes
+enqueue_assignment-requires-clause-nodes g c =
+    let x0 = c.args.ctx.now in
+    let x1 = c.analyze.new.ctx in
+    let x2 = c.backtrack.new.ctx in
+    let x3 = c.keep_learned.new.ctx in
+    let i = place_of c.args.conflict in
+    let level = c.in_ok-level.level in
+    let l = c.in-Some.first in
+    let others = c.in-Some.ensures.0 in
+    let r = c.in_ok-reason.reason in
+    let d : Learning x0 x1 x2 x3 i level l others r = record {
+      analyzed = c.analyze.ensures.kept;
+      learned = c.in_ok-level.ensures.learned;
+      cut = c.backtrack.ensures.cut;
+      back = c.backtrack.ensures.kept;
+      split = sym c.clause.ensures ∙ c.in-Some.ensures.1;
+      stored = c.in_ok-reason.ensures.kept;
+      kept = c.in_ok-reason.ensures.reason;
+    } in
+    learning-node x0 x1 x2 x3 i level l others r c.requires.ready d
+
+pub enqueue_assignment-requires-clause-unassigned : goal.enqueue_assignment-requires-clause-unassigned
+enqueue_assignment-requires-clause-unassigned g c =
+    let x0 = c.args.ctx.now in
+    let x1 = c.analyze.new.ctx in
+    let x2 = c.backtrack.new.ctx in
+    let x3 = c.keep_learned.new.ctx in
+    let i = place_of c.args.conflict in
+    let level = c.in_ok-level.level in
+    let l = c.in-Some.first in
+    let others = c.in-Some.ensures.0 in
+    let r = c.in_ok-reason.reason in
+    let d : Learning x0 x1 x2 x3 i level l others r = record {
+      analyzed = c.analyze.ensures.kept;
+      learned = c.in_ok-level.ensures.learned;
+      cut = c.backtrack.ensures.cut;
+      back = c.backtrack.ensures.kept;
+      split = sym c.clause.ensures ∙ c.in-Some.ensures.1;
+      stored = c.in_ok-reason.ensures.kept;
+      kept = c.in_ok-reason.ensures.reason;
+    } in
+    (learning-free x0 x1 x2 x3 i level l others r c.requires.ready d).1
+
+pub returns-clause-ready : goal.returns-clause-ready
+returns-clause-ready g c =
+    let x0 = c.args.ctx.now in
+    let x1 = c.analyze.new.ctx in
+    let x2 = c.backtrack.new.ctx in
+    let x3 = c.keep_learned.new.ctx in
+    let i = place_of c.args.conflict in
+    let level = c.in_ok-level.level in
+    let l = c.in-Some.first in
+    let others = c.in-Some.ensures.0 in
+    let r = c.in_ok-reason.reason in
+    let d : Learning x0 x1 x2 x3 i level l others r = record {
+      analyzed = c.analyze.ensures.kept;
+      learned = c.in_ok-level.ensures.learned;
+      cut = c.backtrack.ensures.cut;
+      back = c.backtrack.ensures.kept;
+      split = sym c.clause.ensures ∙ c.in-Some.ensures.1;
+      stored = c.in_ok-reason.ensures.kept;
+      kept = c.in_ok-reason.ensures.reason;
+    } in
+    let z = view_of x3.clause_alloc c.enqueue_assignment.new.assignment c.enqueue_assignment.new.trail c.enqueue_assignment.new.impl_graph in
+    let q = learning-result x0 x1 x2 x3 i level l others r c.requires.ready d z (c.in_ok-enqueue_assignment.ensures.view x3.clause_alloc) in
+    record {
+      well = q.well;
+      settled = q.settled;
+      analysis = ap (λ (x : Context g.row.A.Denot). x.analyze_conflict.var_count) d.stored ∙ ap (λ (x : Context g.row.A.Denot). x.analyze_conflict.var_count) d.back ∙ c.analyze.ensures.count ∙ c.requires.ready.analysis ∙ sym q.goes.count;
+      flags = ap (λ (x : Context g.row.A.Denot). length x.tmp_flags.flags.items) d.stored ∙ ap (λ (x : Context g.row.A.Denot). length x.tmp_flags.flags.items) d.back ∙ ap (λ (x : Context g.row.A.Denot). length x.tmp_flags.flags.items) d.analyzed ∙ c.requires.ready.flags ∙ ap (λ n. 2 * n) (sym q.goes.count);
+    }
+
+pub returns-clause-gives : goal.returns-clause-gives
+returns-clause-gives g c =
+    let x0 = c.args.ctx.now in
+    let x1 = c.analyze.new.ctx in
+    let x2 = c.backtrack.new.ctx in
+    let x3 = c.keep_learned.new.ctx in
+    let i = place_of c.args.conflict in
+    let level = c.in_ok-level.level in
+    let l = c.in-Some.first in
+    let others = c.in-Some.ensures.0 in
+    let r = c.in_ok-reason.reason in
+    let d : Learning x0 x1 x2 x3 i level l others r = record {
+      analyzed = c.analyze.ensures.kept;
+      learned = c.in_ok-level.ensures.learned;
+      cut = c.backtrack.ensures.cut;
+      back = c.backtrack.ensures.kept;
+      split = sym c.clause.ensures ∙ c.in-Some.ensures.1;
+      stored = c.in_ok-reason.ensures.kept;
+      kept = c.in_ok-reason.ensures.reason;
+    } in
+    let z = view_of x3.clause_alloc c.enqueue_assignment.new.assignment c.enqueue_assignment.new.trail c.enqueue_assignment.new.impl_graph in
+    let q = learning-result x0 x1 x2 x3 i level l others r c.requires.ready d z (c.in_ok-enqueue_assignment.ensures.view x3.clause_alloc) in
+    let e = ap (λ (x : Context g.row.A.Denot). x.solver_state.sat_state) d.stored ∙ ap (λ (x : Context g.row.A.Denot). x.solver_state.sat_state) d.back ∙ ap (λ (x : Context g.row.A.Denot). x.solver_state.sat_state) d.analyzed ∙ c.requires.unknown in
+    subst (StepGives (view x0) z) (sym e) q.goes
+
+pub returns-clause-count : goal.returns-clause-count
+returns-clause-count g c =
+    let x0 = c.args.ctx.now in
+    let x1 = c.analyze.new.ctx in
+    let x2 = c.backtrack.new.ctx in
+    let x3 = c.keep_learned.new.ctx in
+    let i = place_of c.args.conflict in
+    let level = c.in_ok-level.level in
+    let l = c.in-Some.first in
+    let others = c.in-Some.ensures.0 in
+    let r = c.in_ok-reason.reason in
+    let d : Learning x0 x1 x2 x3 i level l others r = record {
+      analyzed = c.analyze.ensures.kept;
+      learned = c.in_ok-level.ensures.learned;
+      cut = c.backtrack.ensures.cut;
+      back = c.backtrack.ensures.kept;
+      split = sym c.clause.ensures ∙ c.in-Some.ensures.1;
+      stored = c.in_ok-reason.ensures.kept;
+      kept = c.in_ok-reason.ensures.reason;
+    } in
+    let z = view_of x3.clause_alloc c.enqueue_assignment.new.assignment c.enqueue_assignment.new.trail c.enqueue_assignment.new.impl_graph in
+    let q = learning-result x0 x1 x2 x3 i level l others r c.requires.ready d z (c.in_ok-enqueue_assignment.ensures.view x3.clause_alloc) in
+    q.goes.count

@@ -1,0 +1,7 @@
+use Rattle.std.proofs.Common.{◌≡◌}
+use Rattle.varisat_search.specs.Contexts.{view}
+use Rattle.varisat_search.proofs.Cut.{Cutting}
+use Rattle.varisat_search.proofs.levels.backtrack.Given as goal
+
+abbrev pub invariant-loop-place : goal.invariant-loop-place
+invariant-loop-place g l = record { cutting : Cutting (view l.fn.ctx) (view l.ctx) l.end l.place; kept : l.ctx ≡ record l.fn.ctx { assignment = l.ctx.assignment } }

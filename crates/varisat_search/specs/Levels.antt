@@ -1,0 +1,7 @@
+-- Levels in a Bloom filter of 64 bits.
+use Rattle.std.specs.Prelude.{◌≡◌, ℕ, ◌%◌}
+use Rattle.std.specs.Int.{bit_at}
+
+-- the bit of the level is set
+abbrev pub MayHold : ℕ → ℕ → Type 0
+MayHold bits level = bit_at bits (level % 64) ≡ 1

@@ -1,0 +1,15 @@
+-- What becomes of a clause's distinct literals.
+use Rattle.std.specs.Prelude.{◌≡◌, List, [], ◌∷◌, ◌++◌, ◌⊎◌}
+use Rattle.varisat_theory.specs.Literals.{Literal, Clause, opposite}
+use Rattle.varisat_prop.specs.declared.prop.graph.Reason.TheVariants as reason
+use Rattle.varisat_prop.specs.View.{View, IsTrueIn}
+use Rattle.varisat_prop.specs.Changes.{enqueued}
+use Rattle.varisat_search.specs.declared.state.SatState.{SatState}
+use Rattle.varisat_search.specs.declared.state.SatState.TheVariants as verdict
+use Rattle.varisat_search.specs.Steps.{IsFree}
+
+-- The empty clause, and a single literal that is false, give verdict Unsat. Another single literal is made true. A longer clause is kept.
+abbrev pub IsAdded : View → View → Clause → SatState → SatState → Type 0
+IsAdded s t [] before after = (t ≡ s) × (after ≡ verdict.Unsat)
+IsAdded s t (l ∷ []) before after = (IsTrueIn s (opposite l) × (t ≡ s) × (after ≡ verdict.Unsat)) ⊎ (IsFree s l × (t ≡ enqueued s l reason.Unit) × (after ≡ before))
+IsAdded s t (l ∷ m ∷ c) before after = (t ≡ record s { clauses = s.clauses ++ (l ∷ m ∷ c) ∷ [] }) × (after ≡ before)

@@ -1,0 +1,157 @@
+//! One step of the search: propagate and decide to a conflict or a model, and learn.
+ghost use Rattle.std.specs.Prelude.{◌≡◌, ◌<◌, ℕ, length, [], ◌∷◌, List, OnOk, IfOk, MatchOption, MatchResult};
+ghost use Rattle.varisat_theory.specs.Propagation.{IsComplete};
+ghost use Rattle.varisat_prop.specs.View.{View, WellFormed, LevelsSettled, Grows};
+ghost use Rattle.varisat_prop.specs.Parts.{Values};
+ghost use Rattle.varisat_prop.specs.Changes.{place_of};
+ghost use Rattle.varisat_search.specs.Learned.{IsConflict, IsLearned};
+ghost use Rattle.varisat_search.specs.Contexts.{view, IsReady};
+ghost use Rattle.varisat_search.specs.Steps.{IsTotal, StepGives};
+ghost use Rattle.varisat_search.specs.Conflicts.{conflict_of, IsKept};
+
+use crate::analyze_conflict::analyze_conflict;
+use crate::context::Context;
+use crate::decision::make_decision;
+use crate::levels::backtrack;
+use crate::state::SatState;
+use std::alloc::{AllocError, Allocator};
+use varisat_formula::formula::Lit;
+use varisat_prop::prop::{Conflict, Reason, enqueue_assignment, propagate};
+
+/// Why a search for a model stopped.
+#[derive(Clone, Copy, Debug, PartialEq, Eq)]
+pub enum FoundConflict {
+    /// Propagation found a false clause.
+    Conflict(Conflict),
+}
+
+impl FoundConflict {
+    /// The conflict that was found.
+    pub fn conflict(self) -> Conflict
+        ensures { result ≡ conflict_of self }
+    {
+        match self {
+            FoundConflict::Conflict(conflict) => conflict,
+        }
+    }
+}
+
+/// Propagates and decides until a clause is false or each variable has a value.
+fn find_conflict<A: Allocator + Copy>(
+    ctx: &mut Context<A>,
+) -> Result<Result<(), FoundConflict>, AllocError>
+    requires { IsReady ctx.old }
+    ensures ready { OnOk result (IsReady ctx.new) }
+    ensures grows { OnOk result (Grows (view ctx.old) (view ctx.new)) }
+    ensures found { IfOk result (λ found. MatchResult found
+        (λ _. IsComplete ctx.new.clause_alloc ctx.new.trail.literals × IsTotal (view ctx.new))
+        (λ conflict. IsConflict (view ctx.new) (place_of (conflict_of conflict)))) }
+    ensures state { OnOk result (ctx.new.solver_state ≡ ctx.old.solver_state) }
+{
+    'levels: loop {
+        let propagated = propagate(
+            &mut ctx.assignment,
+            &mut ctx.clause_alloc,
+            &mut ctx.impl_graph,
+            &mut ctx.trail,
+        )?;
+        if let Err(conflict) = propagated {
+            return Ok(Err(FoundConflict::Conflict(conflict)));
+        }
+        if !make_decision(ctx)? {
+            return Ok(Ok(()));
+        }
+    }
+}
+
+/// The clause's first literal.
+pub fn first_of(clause: &[Lit]) -> Option<Lit>
+    ensures { MatchOption result (clause.now ≡ []) (λ l. (others : List ℕ) × (clause.now ≡ l ∷ others)) }
+{
+    if clause.is_empty() {
+        return None;
+    }
+    Some(clause[0])
+}
+
+/// Keeps the learned clause where it has two literals or more, and answers what makes its first literal true.
+fn keep_learned<A: Allocator + Copy>(ctx: &mut Context<A>) -> Result<Reason, AllocError>
+    ensures kept { OnOk result (ctx.new ≡ record ctx.old { clause_alloc = ctx.new.clause_alloc }) }
+    ensures reason { IfOk result (λ reason. IsKept ctx.old.clause_alloc ctx.new.clause_alloc ctx.old.analyze_conflict.clause reason) }
+{
+    if ctx.analyze_conflict.clause().len() < 2 {
+        return Ok(Reason::Unit);
+    }
+    let cref = ctx.clause_alloc.add_clause(ctx.analyze_conflict.clause())?;
+    Ok(Reason::Long(cref))
+}
+
+/// Learns a clause from the conflict, and answers the level to go back to.
+fn analyze<A: Allocator + Copy>(
+    ctx: &mut Context<A>,
+    conflict: Conflict,
+) -> Result<usize, AllocError>
+    ghost values: { Values }
+    requires ready { IsReady ctx.old }
+    requires conflict { IsConflict (view ctx.old) (place_of conflict) }
+    requires values { values ≡ ctx.old.assignment }
+    ensures kept { ctx.new ≡ record ctx.old { analyze_conflict = ctx.new.analyze_conflict } }
+    ensures count { ctx.new.analyze_conflict.var_count ≡ ctx.old.analyze_conflict.var_count }
+    ensures learned { IfOk result (λ level. IsLearned (view ctx.old) (place_of conflict) ctx.new.analyze_conflict.clause level) }
+{
+    let level = analyze_conflict(
+        &mut ctx.analyze_conflict,
+        &ctx.clause_alloc,
+        &ctx.impl_graph,
+        &ctx.trail,
+        conflict,
+    )?;
+    Ok(level)
+}
+
+/// Learns from the conflict: goes back, keeps the learned clause, and makes its first literal true. The empty clause
+/// gives verdict Unsat.
+fn learn<A: Allocator + Copy>(ctx: &mut Context<A>, conflict: Conflict) -> Result<(), AllocError>
+    requires ready { IsReady ctx.old }
+    requires conflict { IsConflict (view ctx.old) (place_of conflict) }
+    requires unknown { ctx.old.solver_state.sat_state ≡ SatState.Unknown }
+    ensures ready { OnOk result (IsReady ctx.new) }
+    ensures gives { OnOk result (StepGives (view ctx.old) (view ctx.new) ctx.new.solver_state.sat_state) }
+    ensures count { OnOk result (length ctx.new.assignment.current ≡ length ctx.old.assignment.current) }
+    ensures state { OnOk result (ctx.new.solver_state ≡ record ctx.old.solver_state { sat_state = ctx.new.solver_state.sat_state }) }
+{
+    let level = analyze(ctx, conflict)?;
+    backtrack(ctx, level);
+    let Some(first) = first_of(ctx.analyze_conflict.clause()) else {
+        ctx.solver_state.sat_state = SatState::Unsat;
+        return Ok(());
+    };
+    let reason = keep_learned(ctx)?;
+    enqueue_assignment(
+        &mut ctx.assignment,
+        &mut ctx.impl_graph,
+        &mut ctx.trail,
+        first,
+        reason,
+    )?;
+    Ok(())
+}
+
+/// Makes one step: finds a conflict and learns from it, or finds a model.
+pub fn conflict_step<A: Allocator + Copy>(ctx: &mut Context<A>) -> Result<(), AllocError>
+    requires ready { IsReady ctx.old }
+    requires unknown { ctx.old.solver_state.sat_state ≡ SatState.Unknown }
+    ensures ready { OnOk result (IsReady ctx.new) }
+    ensures gives { OnOk result (StepGives (view ctx.old) (view ctx.new) ctx.new.solver_state.sat_state) }
+    ensures count { OnOk result (length ctx.new.assignment.current ≡ length ctx.old.assignment.current) }
+    ensures state { OnOk result (ctx.new.solver_state ≡ record ctx.old.solver_state { sat_state = ctx.new.solver_state.sat_state }) }
+{
+    match find_conflict(ctx)? {
+        Ok(()) => ctx.solver_state.sat_state = SatState::Sat,
+        Err(found) => learn(ctx, found.conflict())?,
+    }
+    Ok(())
+}
+
+#[cfg(test)]
+mod tests;

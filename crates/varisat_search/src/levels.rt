@@ -1,0 +1,38 @@
+//! Going back to an earlier level.
+ghost use Rattle.std.specs.Prelude.{◌≡◌, ◌<◌, ◌≤◌, [], length, take, slice_index};
+ghost use Rattle.varisat_prop.specs.View.{WellFormed};
+ghost use Rattle.varisat_search.specs.Contexts.{view};
+ghost use Rattle.varisat_search.specs.Steps.{IsCut};
+
+use crate::context::Context;
+use std::alloc::Allocator;
+
+/// Undoes the levels above the given one. Nothing happens where it isn't below the present one.
+pub fn backtrack<A: Allocator + Copy>(ctx: &mut Context<A>, level: usize)
+    requires { WellFormed (view ctx.old) }
+    ensures same { length ctx.old.trail.decisions ≤ level → ctx.new ≡ ctx.old }
+    ensures cut { level < length ctx.old.trail.decisions → IsCut (view ctx.old) (view ctx.new) level }
+    ensures queue { level < length ctx.old.trail.decisions → ctx.new.trail.queue_head ≡ slice_index ctx.old.trail.decisions level }
+    ensures kept { ctx.new ≡ record ctx.old { assignment = ctx.new.assignment; trail = ctx.new.trail } }
+{
+    if level >= ctx.trail.current_level() {
+        return;
+    }
+    let end = ctx.trail.level_end(level);
+    for place in end..ctx.trail.trail().len() {
+        let lit = ctx.trail.trail()[place];
+        ctx.assignment.release_var(lit.var());
+    }
+    ctx.trail.truncate(level);
+}
+
+/// Undoes all decisions.
+pub fn full_restart<A: Allocator + Copy>(ctx: &mut Context<A>)
+    requires { WellFormed (view ctx.old) }
+    ensures same { ctx.old.trail.decisions ≡ [] → ctx.new ≡ ctx.old }
+    ensures cut { 0 < length ctx.old.trail.decisions → IsCut (view ctx.old) (view ctx.new) 0 }
+    ensures undecided { ctx.new.trail.decisions ≡ [] }
+    ensures kept { ctx.new ≡ record ctx.old { assignment = ctx.new.assignment; trail = ctx.new.trail } }
+{
+    backtrack(ctx, 0);
+}

@@ -1,0 +1,12 @@
+//! One search: learning from conflicts, going back, loading of clauses, and the step that a solver repeats.
+#![tactic(auto)]
+
+pub mod analyze_conflict;
+pub mod cdcl;
+pub mod context;
+pub mod decision;
+pub mod glue;
+pub mod levels;
+pub mod load;
+pub mod state;
+pub mod tmp;

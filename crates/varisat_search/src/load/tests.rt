@@ -1,0 +1,36 @@
+//! Clauses that are loaded.
+use crate::context::{Context, set_var_count};
+use crate::load::load_clause;
+use crate::state::SatState;
+use std::test::Fail;
+use varisat_formula::lits;
+
+#[test]
+fn units(rt: HostRuntime) -> Result<(), Fail> {
+    let mut ctx = Context::new_in(rt.alloc());
+    set_var_count(&mut ctx, 3)?;
+    load_clause(&mut ctx, &lits![1])?;
+    assert_eq!(rt; ctx.trail.trail().len(), 1);
+    load_clause(&mut ctx, &lits![3, -3])?;
+    assert_eq!(rt; ctx.trail.trail().len(), 1);
+    load_clause(&mut ctx, &lits![-2])?;
+    assert_eq!(rt; ctx.trail.trail().len(), 2);
+    load_clause(&mut ctx, &lits![1, 1])?;
+    assert_eq!(rt; ctx.trail.trail().len(), 2);
+    assert_eq!(rt; ctx.solver_state.sat_state, SatState::Unknown);
+    load_clause(&mut ctx, &lits![2])?;
+    assert_eq!(rt; ctx.trail.trail().len(), 2);
+    assert_eq!(rt; ctx.solver_state.sat_state, SatState::Unsat);
+    Ok(())
+}
+
+#[test]
+fn longer_clauses(rt: HostRuntime) -> Result<(), Fail> {
+    let mut ctx = Context::new_in(rt.alloc());
+    set_var_count(&mut ctx, 4)?;
+    load_clause(&mut ctx, &lits![1, 2])?;
+    load_clause(&mut ctx, &lits![-1, 3, 3])?;
+    load_clause(&mut ctx, &lits![4, -4])?;
+    assert_eq!(rt; ctx.clause_alloc.len(), 2);
+    Ok(())
+}

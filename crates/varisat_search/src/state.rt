@@ -1,0 +1,64 @@
+//! What a solver knows of its formula.
+
+/// Whether an assignment satisfies the clauses.
+#[derive(Clone, Copy, Debug, PartialEq, Eq)]
+pub enum SatState {
+    Unknown,
+    Sat,
+    Unsat,
+    UnsatUnderAssumptions,
+}
+
+/// The verdict, and what was done so far.
+#[derive(Clone, Copy, Debug)]
+pub struct SolverState {
+    pub sat_state: SatState,
+    pub formula_is_empty: bool,
+    /// Whether `solve` was called.
+    pub solver_invoked: bool,
+    pub state_is_invalid: bool,
+}
+
+impl Default for SatState {
+    ghost use Rattle.std.specs.Prelude.{◌≡◌};
+    ghost use Rattle.varisat_search.specs.declared.state.SatState.TheVariants.{Unknown};
+
+    ghost is_default = { λ s. s ≡ Unknown };
+
+    /// Unknown.
+    fn default() -> SatState {
+        SatState::Unknown
+    }
+}
+
+impl Default for SolverState {
+    ghost use Rattle.std.specs.Prelude.{◌≡◌};
+    ghost use Rattle.varisat_search.specs.Contexts.{first_state};
+
+    ghost is_default = { λ s. s ≡ first_state };
+
+    /// The state of a solver without clauses.
+    fn default() -> SolverState {
+        SolverState {
+            sat_state: SatState::default(),
+            formula_is_empty: true,
+            solver_invoked: false,
+            state_is_invalid: false,
+        }
+    }
+}
+
+impl SolverState {
+    ghost use Rattle.std.specs.Prelude.{◌≡◌, false};
+    ghost use Rattle.varisat_search.specs.Steps.{with_clause};
+
+    /// Notes that a clause was accepted: a model that was found may not satisfy it.
+    pub fn accept_clause(&mut self)
+        ensures { self.new ≡ record self.old { sat_state = with_clause self.old.sat_state; formula_is_empty = false } }
+    {
+        if let SatState::Sat = self.sat_state {
+            self.sat_state = SatState::Unknown;
+        }
+        self.formula_is_empty = false;
+    }
+}

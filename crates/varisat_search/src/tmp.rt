@@ -1,0 +1,52 @@
+//! Room for lists and flags that are needed for a short time.
+ghost use Rattle.std.specs.Prelude.{◌≡◌, ◌≤◌, ◌*◌, ◌-◌, ◌++◌, [], length, replicate, false, OnOk};
+
+use std::alloc::{AllocError, Allocator};
+use varisat_formula::formula::Lit;
+
+/// Lists of literals. Nothing is kept in them between calls.
+#[derive(Drop)]
+pub struct TmpData<A: Allocator + Copy> {
+    pub lits: Vec<Lit, A>,
+    pub lits_2: Vec<Lit, A>,
+}
+
+impl<A: Allocator + Copy> TmpData<A> {
+    /// Empty lists. It takes no memory.
+    pub fn new_in(alloc: A) -> TmpData<A>
+        ensures lits { result.lits.items ≡ [] }
+        ensures lits_2 { result.lits_2.items ≡ [] }
+    {
+        TmpData {
+            lits: Vec::new(alloc),
+            lits_2: Vec::new(alloc),
+        }
+    }
+}
+
+/// A flag for each literal. All are false between calls.
+#[derive(Drop)]
+pub struct TmpFlags<A: Allocator + Copy> {
+    pub flags: Vec<bool, A>,
+}
+
+impl<A: Allocator + Copy> TmpFlags<A> {
+    /// No flags. It takes no memory.
+    pub fn new_in(alloc: A) -> TmpFlags<A>
+        ensures { result.flags.items ≡ [] }
+    {
+        TmpFlags {
+            flags: Vec::new(alloc),
+        }
+    }
+
+    /// Raises the count of variables. The new flags are false.
+    pub fn set_var_count(&mut self, count: usize) -> Result<(), AllocError>
+        requires raised { length self.old.flags.items ≤ 2 * count }
+        requires small { count ≤ 0x1000_0000 }
+        ensures { OnOk result (self.new.flags.items ≡ self.old.flags.items ++ replicate (2 * count - length self.old.flags.items) false) }
+    {
+        self.flags.resize(2 * count, false)?;
+        Ok(())
+    }
+}

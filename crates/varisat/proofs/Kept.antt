@@ -1,24 +1,23 @@
 -- What the solver's calls do to the states that it stands for.
-use Rattle.std.proofs.Common.{◌≡◌, ◌≢◌, ℕ, zero, suc, ◌+◌, ◌*◌, ◌/◌, ◌%◌, ◌<◌, ◌≤◌, max, Bool, true, false, not, List, [], ◌∷◌, ◌++◌, ◌⊎◌, inl, inr, ⊎_elim, sym, ap, ◌∙◌, subst, refl, Some, None, map, arith}
-use Rattle.std.proofs.lemmas.List.{map-append}
+use Rattle.std.proofs.Common.{◌≡◌, ◌≢◌, ℕ, zero, suc, ◌+◌, ◌*◌, ◌/◌, ◌%◌, ◌<◌, ◌≤◌, max, Bool, true, false, not, ◌&&◌, List, [], ◌∷◌, ◌++◌, ◌⊎◌, inl, inr, ⊎_elim, sym, ap, ◌∙◌, subst, refl, Some, None, map, get_or, ◌↔◌, arith}
 use Rattle.std.proofs.lemmas.Bool.{cases_Bool}
+use Rattle.std.specs.Prelude.{MatchBool}
 use Rattle.varisat_theory.specs.Membership.{◌∈◌}
-use Rattle.varisat_theory.specs.Literals.{Literal, Clause, Assignment, variable_of, literal_of, value, SatisfiesAll, MakesTrue, IsSatisfiable}
+use Rattle.varisat_theory.specs.Literals.{Literal, Clause, Assignment, variable_of, literal_of, value, SatisfiesAll, MakesTrue, IsSatisfiable, IsSatisfiableWith}
 use Rattle.varisat_theory.proofs.Members.{∈-append_cases, ∈-append_left, ∈-append_right}
-use Rattle.varisat.specs.declared.prop.trail.Entry.{Entry}
-use Rattle.varisat.specs.declared.solver.SatState.{SatState}
-use Rattle.varisat.specs.declared.solver.SatState.TheVariants as outcome
+use Rattle.varisat_prop.specs.Parts.{is_true_value}
+use Rattle.varisat_prop.specs.View.{View}
+use Rattle.varisat_search.specs.declared.state.SatState.{SatState}
+use Rattle.varisat_search.specs.declared.state.SatState.TheVariants as outcome
+use Rattle.varisat_search.specs.Steps.{assignment_of}
 use Rattle.varisat.specs.States.{State, Verdict, Unknown, Sat, Unsat, IsRight, IsWellFormed}
 use Rattle.varisat.specs.Names.{name_one, name_all, through_names}
 use Rattle.varisat.specs.Models.{put_name, list_names, model_of, IsRising, IsCompletable}
-use Rattle.varisat.specs.Calls.{start, IsContradicted, with_clause, VerdictAfter, append_clause, with_verdict}
+use Rattle.varisat.specs.Calls.{start, IsContradicted, with_clause, VerdictAfter, append_clause, with_verdict, answer_of}
 use Rattle.varisat.specs.Counts.{count_with, list_values}
-use Rattle.varisat.specs.Trails.{literals_of, variables_of, AllOccur, IsTrail, fixed_of, assignment_of}
-use Rattle.varisat.specs.Searches.{KeepsFixed}
-use Rattle.varisat.specs.Summaries.{Summary, UnitsAreFixed, SatStateIsRight, NamesFit, VerdictFits, Fits}
+use Rattle.varisat.specs.Searches.{Holds, IsFlagged, found, IsOpen, IsLoaded, verdict_of}
+use Rattle.varisat.specs.Summaries.{Summary, NamesFit, VerdictFits, Fits}
 use Rattle.varisat_theory.proofs.Renaming.{∈-map, map-∈}
-use Rattle.varisat.proofs.Flagged.{on-variables}
-use Rattle.varisat.proofs.Searched.{listed-∈, fixed-append, fixed-implied}
 use Rattle.varisat.proofs.Named.{rest-one, rest-all, fit-one, fit-all, through-all, count-within, count-above}
 
 -- 0. States whose names in use are those below a count.
@@ -51,64 +50,95 @@ accepted s d w = start (append_clause (map (through_names (name_all d s)) d) w (
 pub read-clause : (n : ℕ) (s : State) (d : Clause) → NamesFit n s → map (through_names (name_all d s)) d ≡ d
 read-clause n s d f = through-all (count_with n d) (name_all d s) d (fit-all d n s f) (count-within d n)
 
-pub fits-accepted : (g h : Summary) (s : State) (d : Clause) (w : Verdict) → Fits g s → h.var_count ≡ count_with g.var_count d → h.clauses ≡ g.clauses ++ d ∷ [] → VerdictFits h.sat_state h.assigned w → ((A : List Literal) (C : List ℕ) → IsRight h.clauses A C w) → Fits h (accepted s d w)
-fits-accepted g h s d w f n p v r =
+pub fits-accepted : (g h : Summary) (s : State) (d : Clause) (w : Verdict) → Fits g s → h.var_count ≡ count_with g.var_count d → ((v : ℕ) → IsFlagged h.flags v ↔ (IsFlagged g.flags v ⊎ (v ∈ map variable_of d))) → ((h.sat_state ≡ outcome.Unsat → ⊥) → Holds (s.clauses ++ d ∷ []) h.search) → VerdictFits h.sat_state (found h.flags h.search.values) w → ((A : List Literal) (C : List ℕ) → IsRight (s.clauses ++ d ∷ []) A C w) → Fits h (accepted s d w)
+fits-accepted g h s d w f n x p v r =
     let k = rest-all d s in
     let m = fit-all d g.var_count s f.names in
     let q = read-clause g.var_count s d f.names in
-    let all : (accepted s d w).clauses ≡ h.clauses = ap (λ P. P ++ map (through_names (name_all d s)) d ∷ []) (k.clauses ∙ f.clauses) ∙ ap (λ c. g.clauses ++ c ∷ []) q ∙ sym p in
+    let named : NamesFit (count_with g.var_count d) (accepted s d w) = record { made = m.made; watermark = m.watermark; in_use = m.in_use; free = m.free } in
+    let all : (accepted s d w).clauses ≡ s.clauses ++ d ∷ [] = ap (λ P. P ++ map (through_names (name_all d s)) d ∷ []) k.clauses ∙ ap (λ c. s.clauses ++ c ∷ []) q in
+    let counts : (accepted s d w).counted ≡ s.counted ++ map variable_of d = ap (λ C. C ++ map variable_of (map (through_names (name_all d s)) d)) k.counted ∙ ap (λ c. s.counted ++ map variable_of c) q in
     record {
-      names = subst (λ x. NamesFit x (accepted s d w)) (sym n) (record { made = m.made; watermark = m.watermark; in_use = m.in_use; free = m.free });
-      clauses = all;
+      names = subst (λ y. NamesFit y (accepted s d w)) (sym n) named;
+      holds = λ o. subst (λ P. Holds P h.search) (sym all) (p o);
       assumptions = k.assumptions ∙ f.assumptions;
       counted = λ c l i j.
-          ⊎_elim
-          (λ z. ∈-append_left (variable_of l) (name_all d s).counted (map variable_of (map (through_names (name_all d s)) d)) (subst (λ C. variable_of l ∈ C) (sym k.counted) (f.counted c l (subst (λ P. c ∈ P) k.clauses z) j)))
-          (λ z. ⊎_elim (λ e. ∈-append_right (variable_of l) (name_all d s).counted (map variable_of (map (through_names (name_all d s)) d)) (∈-map variable_of l (map (through_names (name_all d s)) d) (subst (λ x. l ∈ x) e j))) (λ y. absurd y) z)
-          (∈-append_cases c (name_all d s).clauses (map (through_names (name_all d s)) d ∷ []) i);
+          (x (variable_of l)).1 (⊎_elim
+          (λ z. inl (f.counted c l z j))
+          (λ z. ⊎_elim (λ e. inr (∈-map variable_of l d (subst (λ y. l ∈ y) e j))) (λ y. absurd y) z)
+          (∈-append_cases c s.clauses (d ∷ []) (subst (λ P. c ∈ P) all i)));
+      flagged = λ i j.
+          subst (λ C. i ∈ C) (sym counts) (⊎_elim
+          (λ z. ∈-append_left i s.counted (map variable_of d) (f.flagged i z))
+          (λ z. ∈-append_right i s.counted (map variable_of d) z)
+          ((x i).0 j));
       verdict = v;
       right = subst (λ P. IsRight P (accepted s d w).assumptions (accepted s d w).counted w) (sym all) (r (accepted s d w).assumptions (accepted s d w).counted);
-      well_formed = well-formed (count_with g.var_count d) (accepted s d w) (record { made = m.made; watermark = m.watermark; in_use = m.in_use; free = m.free })
-          (λ c l i j. ⊎_elim (λ z. let b = f.well_formed.accepted c l (subst (λ P. c ∈ P) k.clauses z) j in let e = count-above d g.var_count in omega (arith, b, e, f.names.made)) (λ z. ⊎_elim (λ e. count-within d g.var_count l (subst (λ x. l ∈ x) (e ∙ q) j)) (λ y. absurd y) z) (∈-append_cases c (name_all d s).clauses (map (through_names (name_all d s)) d ∷ []) i))
+      well_formed = well-formed (count_with g.var_count d) (accepted s d w) named
+          (λ c l i j. ⊎_elim (λ z. let b = f.well_formed.accepted c l z j in let e = count-above d g.var_count in omega (arith, b, e, f.names.made)) (λ z. ⊎_elim (λ e. count-within d g.var_count l (subst (λ y. l ∈ y) e j)) (λ y. absurd y) z) (∈-append_cases c s.clauses (d ∷ []) (subst (λ P. c ∈ P) all i)))
           (k.assumptions ∙ f.assumptions)
-          (λ i h. ⊎_elim (λ z. let b = f.well_formed.counted i (subst (λ C. i ∈ C) k.counted z) in let e = count-above d g.var_count in omega (arith, b, e, f.names.made)) (λ z. let v = map-∈ variable_of i (map (through_names (name_all d s)) d) z in let b = count-within d g.var_count v.0 (subst (λ x. v.0 ∈ x) q v.1) in omega (arith, b, v.2)) (∈-append_cases i (name_all d s).counted (map variable_of (map (through_names (name_all d s)) d)) h));
+          (λ i j. ⊎_elim (λ z. let b = f.well_formed.counted i z in let e = count-above d g.var_count in omega (arith, b, e, f.names.made)) (λ z. let y = map-∈ variable_of i d z in let b = count-within d g.var_count y.0 y.1 in omega (arith, b, y.2)) (∈-append_cases i s.counted (map variable_of d) (subst (λ C. i ∈ C) counts j)));
     }
 
 -- a verdict that is not Unsat becomes Unknown
-pub becomes-unknown : (x : SatState) (assigned : List Literal) (v : Verdict) → (x ≡ outcome.Unsat → ⊥) → VerdictFits x assigned v → with_clause v ≡ Unknown
-becomes-unknown outcome.Unknown assigned Unknown n f = refl
-becomes-unknown outcome.Unknown assigned (Sat a) n f = absurd f
-becomes-unknown outcome.Unknown assigned Unsat n f = absurd f
-becomes-unknown outcome.Sat assigned Unknown n f = absurd f
-becomes-unknown outcome.Sat assigned (Sat a) n f = refl
-becomes-unknown outcome.Sat assigned Unsat n f = absurd f
-becomes-unknown outcome.Unsat assigned v n f = absurd (n refl)
+pub becomes-unknown : (x : SatState) (b : Assignment) (v : Verdict) → (x ≡ outcome.Unsat → ⊥) → VerdictFits x b v → with_clause v ≡ Unknown
+becomes-unknown outcome.Unknown b Unknown n f = refl
+becomes-unknown outcome.Unknown b (Sat a) n f = absurd f
+becomes-unknown outcome.Unknown b Unsat n f = absurd f
+becomes-unknown outcome.Sat b Unknown n f = absurd f
+becomes-unknown outcome.Sat b (Sat a) n f = refl
+becomes-unknown outcome.Sat b Unsat n f = absurd f
+becomes-unknown outcome.Unsat b v n f = absurd (n refl)
+becomes-unknown outcome.UnsatUnderAssumptions b v n f = absurd f
 
-pub not-unsat : (x : SatState) (assigned : List Literal) (v : Verdict) → (x ≡ outcome.Unsat → ⊥) → VerdictFits x assigned v → v ≢ Unsat
-not-unsat x assigned v n f e = let k = becomes-unknown x assigned v n f in let q : Unsat ≡ Unknown = ap with_clause (sym e) ∙ k in cc
+pub not-unsat : (x : SatState) (b : Assignment) (v : Verdict) → (x ≡ outcome.Unsat → ⊥) → VerdictFits x b v → v ≢ Unsat
+not-unsat x b v n f e = let k = becomes-unknown x b v n f in let q : Unsat ≡ Unknown = ap with_clause (sym e) ∙ k in cc
 
-pub is-unsat : (assigned : List Literal) (v : Verdict) → VerdictFits outcome.Unsat assigned v → v ≡ Unsat
-is-unsat assigned Unknown f = absurd f
-is-unsat assigned (Sat a) f = absurd f
-is-unsat assigned Unsat f = refl
+pub is-unsat : (b : Assignment) (v : Verdict) → VerdictFits outcome.Unsat b v → v ≡ Unsat
+is-unsat b Unknown f = absurd f
+is-unsat b (Sat a) f = absurd f
+is-unsat b Unsat f = refl
 
-pub is-unknown : (assigned : List Literal) (v : Verdict) → VerdictFits outcome.Unknown assigned v → v ≡ Unknown
-is-unknown assigned Unknown f = refl
-is-unknown assigned (Sat a) f = absurd f
-is-unknown assigned Unsat f = absurd f
+pub is-unknown : (b : Assignment) (v : Verdict) → VerdictFits outcome.Unknown b v → v ≡ Unknown
+is-unknown b Unknown f = refl
+is-unknown b (Sat a) f = absurd f
+is-unknown b Unsat f = absurd f
 
-pub is-sat : (assigned : List Literal) (v : Verdict) → VerdictFits outcome.Sat assigned v → (a : Assignment) × (v ≡ Sat a) × ((i : ℕ) → a i ≡ assignment_of assigned i)
-is-sat assigned Unknown f = absurd f
-is-sat assigned (Sat a) f = (a, refl, f)
-is-sat assigned Unsat f = absurd f
+pub is-sat : (b : Assignment) (v : Verdict) → VerdictFits outcome.Sat b v → (a : Assignment) × (v ≡ Sat a) × ((i : ℕ) → a i ≡ b i)
+is-sat b Unknown f = absurd f
+is-sat b (Sat a) f = (a, refl, f)
+is-sat b Unsat f = absurd f
 
-pub after-open : (g : Summary) (s : State) (d : Clause) → Fits g s → (g.sat_state ≡ outcome.Unsat → ⊥) → (IsContradicted g.clauses d → ⊥) → VerdictAfter s.clauses (map (through_names (name_all d s)) d) s.verdict Unknown
-after-open g s d f n k =
-    inr (sym (becomes-unknown g.sat_state g.assigned s.verdict n f.verdict), λ q. k (subst (λ c. IsContradicted g.clauses c) (read-clause g.var_count s d f.names) (subst (λ P. IsContradicted P (map (through_names (name_all d s)) d)) f.clauses q)))
+-- a verdict that is kept and not Unsat is open
+pub still-open : (x : SatState) → (x ≡ outcome.Unsat → ⊥) → x ≢ outcome.UnsatUnderAssumptions → IsOpen x
+still-open outcome.Unknown n a = tt
+still-open outcome.Sat n a = tt
+still-open outcome.Unsat n a = n refl
+still-open outcome.UnsatUnderAssumptions n a = a refl
 
-pub after-contradiction : (g : Summary) (s : State) (d : Clause) → Fits g s → (IsSatisfiable (g.clauses ++ d ∷ []) → ⊥) → VerdictAfter s.clauses (map (through_names (name_all d s)) d) s.verdict Unsat
-after-contradiction g s d f k =
-    inl (refl, λ q. k (subst (λ c. IsSatisfiable (g.clauses ++ c ∷ [])) (read-clause g.var_count s d f.names) (subst (λ P. IsSatisfiable (P ++ map (through_names (name_all d s)) d ∷ [])) f.clauses q)))
+-- What an accepted clause gives, by the verdict after it.
+pub record Accepted (g h : Summary) (s : State) (d : Clause) : Type 0 where
+  pub verdict : Verdict
+  pub after : VerdictAfter s.clauses (map (through_names (name_all d s)) d) s.verdict verdict
+  pub fits : Fits h (accepted s d verdict)
+
+pub accepted-clause : (g h : Summary) (s : State) (d : Clause) → Fits g s → (g.sat_state ≡ outcome.Unsat → ⊥) → h.var_count ≡ count_with g.var_count d → ((v : ℕ) → IsFlagged h.flags v ↔ (IsFlagged g.flags v ⊎ (v ∈ map variable_of d))) → (x : SatState) → h.sat_state ≡ x → IsLoaded s.clauses d h.search x → Accepted g h s d
+accepted-clause g h s d f n c m outcome.Unknown e l =
+    let q = read-clause g.var_count s d f.names in
+    record {
+      verdict = Unknown;
+      after = inr (sym (becomes-unknown g.sat_state (found g.flags g.search.values) s.verdict n f.verdict), λ k. l.0 (subst (λ y. IsContradicted s.clauses y) q k));
+      fits = fits-accepted g h s d Unknown f c m (λ o. l.1) (subst (λ y. VerdictFits y (found h.flags h.search.values) Unknown) (sym e) tt) (λ A C. tt);
+    }
+accepted-clause g h s d f n c m outcome.Sat e l = absurd l
+accepted-clause g h s d f n c m outcome.Unsat e l =
+    let q = read-clause g.var_count s d f.names in
+    record {
+      verdict = Unsat;
+      after = inl (refl, λ k. l (subst (λ y. IsSatisfiable (s.clauses ++ y ∷ [])) q k));
+      fits = fits-accepted g h s d Unsat f c m (λ o. absurd (o e)) (subst (λ y. VerdictFits y (found h.flags h.search.values) Unsat) (sym e) tt) (λ A C. l);
+    }
+accepted-clause g h s d f n c m outcome.UnsatUnderAssumptions e l = absurd l
 
 -- 2. A new variable.
 
@@ -119,10 +149,11 @@ fits-new g h s f e =
     let up : max g.var_count (g.var_count + 1) ≡ g.var_count + 1 = omega arith in
     subst (λ x. Fits x (start (name_one g.var_count s))) (sym e) record {
       names = subst (λ x. NamesFit x (start (name_one g.var_count s))) up (record { made = m.made; watermark = m.watermark; in_use = m.in_use; free = m.free });
-      clauses = k.clauses ∙ f.clauses;
+      holds = λ o. subst (λ P. Holds P g.search) (sym k.clauses) (f.holds o);
       assumptions = k.assumptions ∙ f.assumptions;
-      counted = λ c l i j. subst (λ C. variable_of l ∈ C) (sym k.counted) (f.counted c l (subst (λ P. c ∈ P) k.clauses i) j);
-      verdict = subst (VerdictFits g.sat_state g.assigned) (sym k.verdict) f.verdict;
+      counted = λ c l i j. f.counted c l (subst (λ P. c ∈ P) k.clauses i) j;
+      flagged = λ i j. subst (λ C. i ∈ C) (sym k.counted) (f.flagged i j);
+      verdict = subst (VerdictFits g.sat_state (found g.flags g.search.values)) (sym k.verdict) f.verdict;
       right = subst (λ v. IsRight (name_one g.var_count s).clauses (name_one g.var_count s).assumptions (name_one g.var_count s).counted v) (sym k.verdict)
           (subst (λ C. IsRight (name_one g.var_count s).clauses (name_one g.var_count s).assumptions C s.verdict) (sym k.counted)
           (subst (λ A. IsRight (name_one g.var_count s).clauses A s.counted s.verdict) (sym k.assumptions)
@@ -135,30 +166,62 @@ fits-new g h s f e =
 
 -- 3. A verdict that is found.
 
--- an identity that is not counted is false
-uncounted-false : (g : Summary) (s : State) (es : List Entry) → Fits g s → AllOccur g.clauses es → (i : ℕ) → (i ∈ s.counted → ⊥) → assignment_of (literals_of es) i ≡ false
-uncounted-false g s es f t i n =
-    ⊎_elim
-    (λ e. let on = on-variables es (2 * i) (listed-∈ (literals_of es) (2 * i) e) in
-    let v : variable_of (2 * i) ≡ i = omega arith in
-    let o = t i (subst (λ x. x ∈ variables_of es) v on) in
-    absurd (n (subst (λ x. x ∈ s.counted) o.4 (f.counted o.0 o.1 (subst (λ P. o.0 ∈ P) (sym f.clauses) o.2) o.3))))
-    (λ e. e) (cases_Bool (assignment_of (literals_of es) i))
+-- what satisfies the clauses does so with the flags, which are set for each variable of theirs
+flagged-value : (flags : List Bool) (t : View) (l : Literal) → IsFlagged flags (variable_of l) → value (assignment_of t) l ≡ true → value (found flags t.values) l ≡ true
+unfolding value
+flagged-value flags t l h e = rw h e
 
-pub found-right : (g : Summary) (s : State) (es : List Entry) → Fits g s → AllOccur g.clauses es → SatisfiesAll (assignment_of (literals_of es)) g.clauses → IsRight s.clauses s.assumptions s.counted (Sat (assignment_of (literals_of es)))
-found-right g s es f t m =
-    (subst (SatisfiesAll (assignment_of (literals_of es))) (sym f.clauses) m, λ l h. let z : l ∈ [] = subst (λ A. l ∈ A) f.assumptions h in absurd z, uncounted-false g s es f t)
+pub found-right : (g : Summary) (s : State) (t : View) → Fits g s → SatisfiesAll (assignment_of t) s.clauses → IsRight s.clauses s.assumptions s.counted (Sat (found g.flags t.values))
+found-right g s t f m =
+    (λ c i. let k = m c i in (k.0, k.1, flagged-value g.flags t k.0 (f.counted c k.0 i k.1) k.2), λ l h. let z : l ∈ [] = subst (λ A. l ∈ A) f.assumptions h in absurd z, uncounted)
+  where
+    uncounted : (i : ℕ) → (i ∈ s.counted → ⊥) → found g.flags t.values i ≡ false
+    uncounted i n = ⊎_elim (λ e. absurd (n (f.flagged i e))) (λ e. ap (λ b. b && is_true_value (get_or t.values i None)) e) (cases_Bool (get_or g.flags i false))
 
-pub fits-decided : (g h : Summary) (s : State) (w : Verdict) → Fits g s → h.var_count ≡ g.var_count → h.clauses ≡ g.clauses → VerdictFits h.sat_state h.assigned w → IsRight s.clauses s.assumptions s.counted w → Fits h (with_verdict w s)
-fits-decided g h s w f n p v r = record {
-  names = subst (λ x. NamesFit x (with_verdict w s)) (sym n) (record { made = f.names.made; watermark = f.names.watermark; in_use = f.names.in_use; free = f.names.free });
-  clauses = f.clauses ∙ sym p;
+pub fits-decided : (g h : Summary) (s : State) (w : Verdict) → Fits g s → h.var_count ≡ g.var_count → h.flags ≡ g.flags → ((h.sat_state ≡ outcome.Unsat → ⊥) → Holds s.clauses h.search) → VerdictFits h.sat_state (found h.flags h.search.values) w → IsRight s.clauses s.assumptions s.counted w → Fits h (with_verdict w s)
+fits-decided g h s w f n x p v r = record {
+  names = subst (λ y. NamesFit y (with_verdict w s)) (sym n) (record { made = f.names.made; watermark = f.names.watermark; in_use = f.names.in_use; free = f.names.free });
+  holds = p;
   assumptions = f.assumptions;
-  counted = f.counted;
+  counted = λ c l i j. subst (λ y. IsFlagged y (variable_of l)) (sym x) (f.counted c l i j);
+  flagged = λ i j. f.flagged i (subst (λ y. IsFlagged y i) x j);
   verdict = v;
   right = r;
   well_formed = record { one_to_one = f.well_formed.one_to_one; free = f.well_formed.free; named = f.well_formed.named; accepted = f.well_formed.accepted; assumed = f.well_formed.assumed; counted = f.well_formed.counted };
 }
+
+-- where the search answers true its values satisfy the clauses
+pub search-true : (g : Summary) (s : State) (t : View) (b : Bool) → Fits g s → g.sat_state ≡ outcome.Unknown → b ≡ true → ((P : List Clause) → Holds P g.search → MatchBool b (Holds P t × SatisfiesAll (assignment_of t) P) (IsSatisfiable P → ⊥)) → IsSatisfiableWith s.clauses s.assumptions
+search-true g s t true f u e k =
+    (assignment_of t, (k s.clauses (f.holds (λ z. let y : outcome.Unknown ≡ outcome.Unsat = sym u ∙ z in cc))).1, λ l h. let z : l ∈ [] = subst (λ A. l ∈ A) f.assumptions h in absurd z)
+search-true g s t false f u e k = absurd cc
+
+-- What the search's answer gives.
+pub record Decided (h : Summary) (s : State) (b : Bool) : Type 0 where
+  pub verdict : Verdict
+  pub answer : answer_of verdict ≡ Some b
+  pub right : IsRight s.clauses s.assumptions s.counted verdict
+  pub fits : Fits h (with_verdict verdict s)
+
+pub decided : (g h : Summary) (s : State) (b : Bool) → Fits g s → g.sat_state ≡ outcome.Unknown → h.var_count ≡ g.var_count → h.flags ≡ g.flags → h.sat_state ≡ verdict_of b → ((P : List Clause) → Holds P g.search → MatchBool b (Holds P h.search × SatisfiesAll (assignment_of h.search) P) (IsSatisfiable P → ⊥)) → Decided h s b
+decided g h s true f u n x e k =
+    let q = k s.clauses (f.holds (λ z. let y : outcome.Unknown ≡ outcome.Unsat = sym u ∙ z in cc)) in
+    let r = subst (λ xs. IsRight s.clauses s.assumptions s.counted (Sat (found xs h.search.values))) (sym x) (found-right g s h.search f q.1) in
+    let v = Sat (found h.flags h.search.values) in
+    record {
+      verdict = v;
+      answer = refl;
+      right = r;
+      fits = fits-decided g h s v f n x (λ o. q.0) (subst (λ y. VerdictFits y (found h.flags h.search.values) v) (sym e) (λ i. refl)) r;
+    }
+decided g h s false f u n x e k =
+    let r = k s.clauses (f.holds (λ z. let y : outcome.Unknown ≡ outcome.Unsat = sym u ∙ z in cc)) in
+    record {
+      verdict = Unsat;
+      answer = refl;
+      right = r;
+      fits = fits-decided g h s Unsat f n x (λ o. absurd (o e)) (subst (λ y. VerdictFits y (found h.flags h.search.values) Unsat) (sym e) tt) r;
+    }
 
 -- 4. The model.
 
@@ -230,9 +293,10 @@ model-completable g s a b f r e =
 -- where a model was found it is told, and can be completed
 pub sat-model : (g : Summary) (s : State) → Fits g s → g.sat_state ≡ outcome.Sat → (m : List Literal) × (model_of s s.verdict ≡ Some m) × IsCompletable s m
 sat-model g s f e =
-    let v = is-sat g.assigned s.verdict (subst (λ x. VerdictFits x g.assigned s.verdict) e f.verdict) in
-    let m = model-listed g s v.0 (assignment_of g.assigned) f v.2 in
-    (list_values (assignment_of g.assigned) 0 g.var_count, ap (model_of s) v.1 ∙ ap Some m, model-completable g s v.0 (assignment_of g.assigned) f (subst (IsRight s.clauses s.assumptions s.counted) v.1 f.right) v.2)
+    let b = found g.flags g.search.values in
+    let v = is-sat b s.verdict (subst (λ x. VerdictFits x b s.verdict) e f.verdict) in
+    let m = model-listed g s v.0 b f v.2 in
+    (list_values b 0 g.var_count, ap (model_of s) v.1 ∙ ap Some m, model-completable g s v.0 b f (subst (IsRight s.clauses s.assumptions s.counted) v.1 f.right) v.2)
 
 pub values-push : (b : Assignment) (k u : ℕ) → list_values b u (k + 1) ≡ list_values b u k ++ literal_of (u + k) (b (u + k)) ∷ []
 values-push b k u = ap (list_values b u) (one-more k) ∙ go b k u
@@ -243,15 +307,3 @@ values-push b k u = ap (list_values b u) (one-more k) ∙ go b k u
     go : (b : Assignment) (k u : ℕ) → list_values b u (suc k) ≡ list_values b u k ++ literal_of (u + k) (b (u + k)) ∷ []
     go b zero u = let e : u ≡ u + 0 = omega arith in ap (λ x. literal_of x (b x) ∷ []) e
     go b (suc k) u = let e : suc u + k ≡ u + suc k = omega arith in ap (λ xs. literal_of u (b u) ∷ xs) (go b k (suc u) ∙ ap (λ x. list_values b (suc u) k ++ literal_of x (b x) ∷ []) e)
-
--- 5. What the solver keeps.
-
-pub open-trail : (x : SatState) (P : List Clause) (es : List Entry) → (x ≡ outcome.Unsat → ⊥) → SatStateIsRight x P es → IsTrail P es × AllOccur P es × UnitsAreFixed P es
-open-trail outcome.Unknown P es n r = r
-open-trail outcome.Sat P es n r = (r.0, r.1, r.2)
-open-trail outcome.Unsat P es n r = absurd (n refl)
-
-pub units-kept : (P : List Clause) (old new : List Entry) → UnitsAreFixed P old → KeepsFixed old new → UnitsAreFixed P new
-units-kept P old new u k c l h w =
-    let e = ap fixed_of k.1 ∙ fixed-append (fixed_of old) k.0 (fixed-implied old) in
-    subst (λ xs. l ∈ literals_of xs) (sym e) (subst (λ xs. l ∈ xs) (sym (map-append (λ (x : Entry). x.lit) (fixed_of old) (fixed_of k.0))) (∈-append_left l (literals_of (fixed_of old)) (literals_of (fixed_of k.0)) (u c l h w)))

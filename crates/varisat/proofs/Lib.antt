@@ -1,11 +1,8 @@
 pub mod Places
-pub mod Flagged
-pub mod Trailed
-pub mod Looked
-pub mod Bounded
-pub mod Searched
-pub mod Loaded
 pub mod Named
+pub mod Marked
+pub mod Loaded
+pub mod Solved
 pub mod Kept
 pub mod Added
 pub mod Texted

@@ -31,3 +31,7 @@ outcome_text (Some model) = model_text model
 abbrev pub outcome_status : Option (List Literal) → ℕ
 outcome_status None = 20
 outcome_status (Some model) = 10
+
+-- the status where there was a fault
+abbrev pub fault_status : ℕ
+fault_status = 2

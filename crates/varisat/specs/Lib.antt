@@ -6,13 +6,8 @@ pub mod Calls
 pub mod Told
 pub mod Runs
 pub mod Histories
-pub mod Trails
-pub mod Flags
-pub mod Clauses
-pub mod Looks
 pub mod Searches
 pub mod Summaries
-pub mod Loads
 pub mod Counts
 pub mod Lines
 pub mod Texts

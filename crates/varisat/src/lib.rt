@@ -4,7 +4,6 @@
 mod line;
 mod load;
 pub mod program;
-mod prop;
 mod search;
 pub mod session;
 pub mod solver;

@@ -1,85 +1,57 @@
-//! What an accepted clause adds to what is known.
-ghost use Rattle.std.specs.Prelude.{◌≡◌, ◌++◌, ◌∷◌, [], OnOk, IfOk};
-ghost use Rattle.varisat.specs.Clauses.{clauses_of, IsKind};
-ghost use Rattle.varisat.specs.Trails.{IsTrail, AllOccur};
-ghost use Rattle.varisat.specs.Summaries.{UnitsAreFixed};
-ghost use Rattle.varisat.specs.Loads.{IsLoadedUnit, IsLoaded};
+//! What an accepted clause brings: its variables, and the clause itself.
+ghost use Rattle.std.specs.Prelude.{◌≡◌, ◌≢◌, ℕ, ◌<◌, ◌≤◌, ◌^◌, ◌⊎◌, ◌↔◌, false, List, length, map, OnOk};
+ghost use Rattle.varisat_theory.specs.Membership.{◌∈◌};
+ghost use Rattle.varisat_theory.specs.Literals.{Literal, Clause, variable_of};
+ghost use Rattle.varisat_search.specs.Contexts.{view, IsReady};
+ghost use Rattle.varisat.specs.Searches.{Holds, IsFlagged, IsOpen, IsLoaded};
 
-use crate::prop::trail::{Reason, Trail};
-use crate::search::full_restart;
 use std::alloc::{AllocError, Allocator};
 use varisat_formula::formula::Lit;
+use varisat_search::context::{Context, set_var_count};
+use varisat_search::load::load_clause;
+use varisat_search::state::SatState;
 
-/// What a clause is, as a set of literals.
-#[derive(Clone, Copy, Debug)]
-pub enum Kind {
-    Empty,
-    Unit(Lit),
-    Long,
-}
-
-/// The kind of the clause.
-pub fn kind_of(clause: &[Lit]) -> Kind
-    ensures { IsKind clause.now result }
-{
-    let Some((first, others)) = clause.split_first() else {
-        return Kind::Empty;
-    };
-    for lit in others {
-        if *lit != *first {
-            return Kind::Long;
-        }
-    }
-    Kind::Unit(*first)
-}
-
-/// Whether an accepted clause contradicts what is known.
-#[derive(Clone, Copy, Debug, PartialEq, Eq)]
-pub enum Loaded {
-    Consistent,
-    Contradiction,
-}
-
-/// Makes the literal true that a clause of one literal says.
-fn load_unit<A: Allocator + Copy>(
-    place: usize,
-    trail: &mut Trail<A>,
-    lit: Lit,
-) -> Result<Loaded, AllocError>
-    ensures { IfOk result (λ loaded. IsLoadedUnit trail.old trail.new place lit loaded) }
-{
-    if trail.is_true(lit) {
-        return Ok(Loaded::Consistent);
-    }
-    if trail.is_true(!lit) {
-        return Ok(Loaded::Contradiction);
-    }
-    trail.push(lit, Reason::Clause(place))?;
-    Ok(Loaded::Consistent)
-}
-
-/// Keeps a copy of the clause, and takes back all decisions. A literal that the clause alone says is fixed.
-pub fn load_clause<A: Allocator + Copy>(
-    clauses: &mut Vec<Vec<Lit, A>, A>,
-    trail: &mut Trail<A>,
+/// Sets the flags of the clause's variables.
+fn flag_variables<A: Allocator + Copy>(
+    flags: &mut Vec<bool, A>,
     clause: &[Lit],
-) -> Result<Loaded, AllocError>
-    requires trail { IsTrail (clauses_of clauses.old.items) trail.old }
-    requires occurs { AllOccur (clauses_of clauses.old.items) trail.old }
-    requires fixed { UnitsAreFixed (clauses_of clauses.old.items) trail.old }
-    ensures kept { OnOk result (clauses_of clauses.new.items ≡ clauses_of clauses.old.items ++ clause.now ∷ []) }
-    ensures loaded { IfOk result (λ loaded. IsLoaded (clauses_of clauses.old.items) clause.now trail.old trail.new loaded) }
+    var_count: usize,
+) -> Result<(), AllocError>
+    requires raised { length flags.old.items ≤ var_count }
+    requires in_range { (l : Literal) → l ∈ clause.now → variable_of l < var_count }
+    ensures count { OnOk result (length flags.new.items ≡ var_count) }
+    ensures flagged { OnOk result ((v : ℕ) → IsFlagged flags.new.items v ↔ (IsFlagged flags.old.items v ⊎ (v ∈ map variable_of clause.now))) }
 {
-    full_restart(trail);
-    let place = clauses.len();
-    let copy = Vec::from_slice(*clauses.allocator(), clause)?;
-    clauses.push(copy)?;
-    match kind_of(clause) {
-        Kind::Empty => Ok(Loaded::Contradiction),
-        Kind::Unit(lit) => {
-            let loaded = load_unit(place, trail, lit)?;
-            Ok(loaded)
-        }
-        Kind::Long => Ok(Loaded::Consistent),
+    flags.resize(var_count, false)?;
+    for lit in clause {
+        flags[lit.index()] = true;
     }
+    Ok(())
+}
+
+/// Brings the variables below the count into the search, flags those of the clause, and loads it.
+pub fn accept_clause<A: Allocator + Copy>(
+    ctx: &mut Context<A>,
+    flags: &mut Vec<bool, A>,
+    clause: &[Lit],
+    var_count: usize,
+) -> Result<(), AllocError>
+    requires ready { IsReady ctx.old }
+    requires unsettled { IsOpen ctx.old.solver_state.sat_state }
+    requires raised { length ctx.old.assignment.current ≤ var_count }
+    requires small { var_count ≤ 2 ^ 28 }
+    requires flags { length flags.old.items ≤ var_count }
+    requires in_range { (l : Literal) → l ∈ clause.now → variable_of l < var_count }
+    ensures ready { OnOk result (IsReady ctx.new) }
+    ensures count { OnOk result (length ctx.new.assignment.current ≡ var_count) }
+    ensures flags { OnOk result (length flags.new.items ≡ var_count) }
+    ensures flagged { OnOk result ((v : ℕ) → IsFlagged flags.new.items v ↔ (IsFlagged flags.old.items v ⊎ (v ∈ map variable_of clause.now))) }
+    ensures state { OnOk result (ctx.new.solver_state ≡ record ctx.old.solver_state { sat_state = ctx.new.solver_state.sat_state; formula_is_empty = false }) }
+    ensures no_assumptions { OnOk result (ctx.new.solver_state.sat_state ≢ SatState.UnsatUnderAssumptions) }
+    ensures loaded { OnOk result ((P : List Clause) → Holds P (view ctx.old) → IsLoaded P clause.now (view ctx.new) ctx.new.solver_state.sat_state) }
+{
+    flag_variables(flags, clause, var_count)?;
+    set_var_count(ctx, var_count)?;
+    load_clause(ctx, clause)?;
+    Ok(())
 }

@@ -2,7 +2,7 @@
 ghost use Rattle.std.specs.Prelude.{◌≡◌, ◌⊎◌, List, Option, OnOk, IfOk};
 ghost use Rattle.std.specs.Io.KnownBytes.{Appends};
 ghost use Rattle.varisat_theory.specs.Literals.{Literal};
-ghost use Rattle.varisat.specs.Decided.{listed, Decides, model_text, outcome_text, outcome_status};
+ghost use Rattle.varisat.specs.Decided.{listed, Decides, model_text, outcome_text, outcome_status, fault_status};
 
 use crate::line::{parse_line, write_answer, write_literals};
 use crate::session::make_call;
@@ -46,7 +46,7 @@ pub fn solve_lines<A: Allocator + Copy, R: Read + Drop, W: Write, E: Write>(
     err: &mut E,
 ) -> u8
     // Any other status is given only after the whole text was read and decided, and the outcome printed.
-    ensures { (result ≡ STATUS_FAULT) ⊎ ((outcome : Option (List Literal)) × Decides (R.remaining cnf) outcome × (result ≡ outcome_status outcome) × Appends (W.contents out.old) (W.contents out.new) (outcome_text outcome)) }
+    ensures { (result ≡ fault_status) ⊎ ((outcome : Option (List Literal)) × Decides (R.remaining cnf) outcome × (result ≡ outcome_status outcome) × Appends (W.contents out.old) (W.contents out.new) (outcome_text outcome)) }
 {
     match decide(alloc, cnf) {
         Ok(outcome) => match write_outcome(out, &outcome) {
@@ -109,7 +109,7 @@ fn write_model<W: Write>(out: &mut W, model: &[Lit]) -> io::Result<()>
 
 /// Tells a fault, and gives the status for it.
 pub fn tell_fault<E: Write, F: Display>(err: &mut E, fault: &F) -> u8
-    ensures { result ≡ STATUS_FAULT }
+    ensures { result ≡ fault_status }
 {
     // Of a writer that fails here nothing is left to tell.
     let _ = writeln!(err, "error: {fault}");
@@ -118,7 +118,7 @@ pub fn tell_fault<E: Write, F: Display>(err: &mut E, fault: &F) -> u8
 
 /// Tells how the program is called, and gives the status for a bad command line.
 pub fn tell_usage<E: Write>(err: &mut E) -> u8
-    ensures { result ≡ STATUS_FAULT }
+    ensures { result ≡ fault_status }
 {
     let _ = writeln!(err, "usage: varisat solve|check|session");
     STATUS_FAULT

@@ -3,10 +3,9 @@ ghost use Rattle.std.specs.Prelude.{◌≡◌, ◌<◌, ◌≤◌, ◌^◌, ℕ,
 ghost use Rattle.varisat_theory.specs.Literals.{Literal};
 ghost use Rattle.varisat.specs.Calls.{IsPastLimit};
 ghost use Rattle.varisat.specs.Counts.{count_with, list_values};
-ghost use Rattle.varisat.specs.Trails.{literals_of, assignment_of};
+ghost use Rattle.varisat.specs.Searches.{found};
 
-use crate::load::{Loaded, load_clause};
-use crate::prop::trail::Trail;
+use crate::load::accept_clause;
 use crate::search::search;
 use std::alloc::{AllocError, Allocator};
 use std::marker::Model;
@@ -14,6 +13,8 @@ use thiserror::Error;
 use varisat_formula::dimacs::{DimacsError, DimacsErrorKind, DimacsParser};
 use varisat_formula::formula::{CnfFormula, ExtendFormula, Lit, Var};
 use varisat_formula::io::{ByteSource, ProofTarget};
+use varisat_search::context::Context;
+use varisat_search::state::SatState;
 
 /// How many bytes of a text are asked for at a time.
 const PIECE: usize = 0x2000;
@@ -58,14 +59,6 @@ impl SolverError {
     }
 }
 
-/// What is known of the accepted clauses.
-#[derive(Clone, Copy, Debug, PartialEq, Eq)]
-pub enum SatState {
-    Unknown,
-    Sat,
-    Unsat,
-}
-
 /// How many names are in use once those of the clause are. None where one of them is past the limit.
 fn count_with_clause(clause: &[Lit], var_count: usize) -> Option<usize>
     requires { var_count ≤ 2 ^ 28 }
@@ -83,19 +76,30 @@ fn count_with_clause(clause: &[Lit], var_count: usize) -> Option<usize>
     Some(count)
 }
 
+/// The value that was found for the variable: false where its flag is not set, and where it has no value.
+fn found_value(flags: &[bool], values: &[Option<bool>], index: usize) -> bool
+    ensures { result ≡ found flags.now values.now index }
+{
+    if index >= flags.len() || index >= values.len() {
+        return false;
+    }
+    flags[index] && values[index] == Some(true)
+}
+
 /// The names below the count in increasing order, with their values.
 fn list_model<A: Allocator + Copy>(
     alloc: A,
-    trail: &Trail<A>,
+    flags: &[bool],
+    values: &[Option<bool>],
     var_count: usize,
 ) -> Result<Vec<Lit, A>, AllocError>
     requires { var_count ≤ 2 ^ 28 }
-    ensures { IfOk result (λ list. list.items ≡ list_values (assignment_of (literals_of trail.now)) 0 var_count) }
+    ensures { IfOk result (λ list. list.items ≡ list_values (found flags.now values.now) 0 var_count) }
 {
     let mut list = Vec::new(alloc);
     for index in 0..var_count {
         let var = Var::from_index(index);
-        list.push(var.lit(trail.is_true(var.lit(true))))?;
+        list.push(var.lit(found_value(flags, values, index)))?;
     }
     Ok(list)
 }
@@ -104,11 +108,10 @@ fn list_model<A: Allocator + Copy>(
 #[derive(Drop)]
 pub struct Solver<W: ProofTarget, A: Allocator + Copy> {
     alloc: A,
-    clauses: Vec<Vec<Lit, A>, A>,
-    trail: Trail<A>,
+    ctx: Context<A>,
     var_count: usize,
-    sat_state: SatState,
-    valid: bool,
+    // For each variable of the search whether an accepted clause names it.
+    named: Vec<bool, A>,
     // Whether a clause or a variable was accepted.
     started: bool,
     // Where an open proof would go. No call opens one yet.
@@ -116,16 +119,15 @@ pub struct Solver<W: ProofTarget, A: Allocator + Copy> {
 }
 
 impl<W: ProofTarget, A: Allocator + Copy> Model for Solver<W, A> {
-    ghost use Rattle.std.specs.Prelude.{◌≡◌, true};
-    ghost use Rattle.varisat.specs.Trails.{literals_of};
-    ghost use Rattle.varisat.specs.Clauses.{clauses_of};
+    ghost use Rattle.std.specs.Prelude.{◌≡◌, not, false};
+    ghost use Rattle.varisat_search.specs.Contexts as contexts;
     ghost use Rattle.varisat.specs.Summaries.{Summary, IsKept};
 
     ghost Value = { Summary };
 
-    ghost view = { λ c. record { var_count = c.var_count; clauses = clauses_of c.clauses.items; assigned = literals_of c.trail; sat_state = c.sat_state; ledger = record { valid = c.valid; started = c.started } } };
+    ghost view = { λ c. record { var_count = c.var_count; flags = c.named.items; search = contexts.view c.ctx; sat_state = c.ctx.solver_state.sat_state; ledger = record { valid = not c.ctx.solver_state.state_is_invalid; started = c.started } } };
 
-    ghost invariant = { λ c. c.valid ≡ true → IsKept c.var_count (clauses_of c.clauses.items) c.trail c.sat_state };
+    ghost invariant = { λ c. c.ctx.solver_state.state_is_invalid ≡ false → IsKept c.var_count c.named.items c.ctx };
 }
 
 impl<W: ProofTarget, A: Allocator + Copy> Solver<W, A> {
@@ -145,11 +147,9 @@ impl<W: ProofTarget, A: Allocator + Copy> Solver<W, A> {
     {
         Solver {
             alloc,
-            clauses: Vec::new(alloc),
-            trail: Trail::new_in(alloc),
+            ctx: Context::new_in(alloc),
             var_count: 0,
-            sat_state: SatState::Unknown,
-            valid: true,
+            named: Vec::new(alloc),
             started: false,
             target: None,
         }
@@ -159,34 +159,30 @@ impl<W: ProofTarget, A: Allocator + Copy> Solver<W, A> {
     pub fn is_valid(&self) -> bool
         ensures { (s : State) → StandsFor self.now s → (t : State) × TellsValid s result t × StandsFor self.now t }
     {
-        self.valid
+        !self.ctx.solver_state.state_is_invalid
     }
 
     /// Accepts a clause, and brings its names into use. Once the clauses are known to be unsatisfiable a clause is accepted without a change. Refused in an invalid solver; where a name is past the limit of 2^28 names, and then nothing changes; and where memory runs out.
     pub fn add_clause(&mut self, clause: &[Lit]) -> Result<(), SolverError>
         ensures { (s : State) → StandsFor self.old s → (t : State) × AddsClause s clause.now result t × StandsFor self.new t }
     {
-        if !self.valid {
+        if self.ctx.solver_state.state_is_invalid {
             return Err(SolverError::Invalid);
         }
-        if let SatState::Unsat = self.sat_state {
+        if let SatState::Unsat = self.ctx.solver_state.sat_state {
             return Ok(());
         }
         let Some(count) = count_with_clause(clause, self.var_count) else {
             return Err(SolverError::VariableLimit);
         };
-        match load_clause(&mut self.clauses, &mut self.trail, clause) {
-            Ok(loaded) => {
+        match accept_clause(&mut self.ctx, &mut self.named, clause, count) {
+            Ok(()) => {
                 self.var_count = count;
                 self.started = true;
-                self.sat_state = match loaded {
-                    Loaded::Consistent => SatState::Unknown,
-                    Loaded::Contradiction => SatState::Unsat,
-                };
                 Ok(())
             }
             Err(_) => {
-                self.valid = false;
+                self.ctx.solver_state.state_is_invalid = true;
                 Err(SolverError::OutOfMemory)
             }
         }
@@ -199,7 +195,7 @@ impl<W: ProofTarget, A: Allocator + Copy> Solver<W, A> {
     ) -> Result<(), SolverError>
         ensures { (s : State) → StandsFor self.old s → (t : State) × AddsFormula s formula.now.clauses result t × StandsFor self.new t }
     {
-        if !self.valid {
+        if self.ctx.solver_state.state_is_invalid {
             return Err(SolverError::Invalid);
         }
         for clause in formula.iter() {
@@ -213,7 +209,7 @@ impl<W: ProofTarget, A: Allocator + Copy> Solver<W, A> {
         ensures { (s : State) → StandsFor self.old s → (t : State) × AnswersFault (Some fault) s (Err result) t × StandsFor self.new t }
     {
         if let DimacsErrorKind::OutOfMemory = fault.kind {
-            self.valid = false;
+            self.ctx.solver_state.state_is_invalid = true;
             return SolverError::OutOfMemory;
         }
         SolverError::Dimacs { cause: fault }
@@ -224,7 +220,7 @@ impl<W: ProofTarget, A: Allocator + Copy> Solver<W, A> {
         requires { S.fault_count source.old < 2 ^ 64 - 1 }
         ensures { (s : State) → StandsFor self.old s → (t : State) × AddsDimacs s (stand S.given S.left S.pieces_left S.fault_count source.old) result (stand S.given S.left S.pieces_left S.fault_count source.new) t × StandsFor self.new t }
     {
-        if !self.valid {
+        if self.ctx.solver_state.state_is_invalid {
             return Err(SolverError::Invalid);
         }
         let mut parser = DimacsParser::new_in(self.alloc);
@@ -250,7 +246,7 @@ impl<W: ProofTarget, A: Allocator + Copy> Solver<W, A> {
     pub fn new_var(&mut self) -> Result<Var, SolverError>
         ensures { (s : State) → StandsFor self.old s → (t : State) × MakesVar s result t × StandsFor self.new t }
     {
-        if !self.valid {
+        if self.ctx.solver_state.state_is_invalid {
             return Err(SolverError::Invalid);
         }
         if self.var_count >= Var::max_count() {
@@ -269,26 +265,22 @@ impl<W: ProofTarget, A: Allocator + Copy> Solver<W, A> {
         ensures unsatisfiable { result ≡ Ok false → (s : State) → StandsFor self.old s → IsSatisfiableWith s.clauses s.assumptions → ⊥ }
         ensures model { result ≡ Ok true → (s : State) → StandsFor self.new s → (m : List ℕ) × (model_of s s.verdict ≡ Some m) × IsCompletable s m }
     {
-        if !self.valid {
+        if self.ctx.solver_state.state_is_invalid {
             return Err(SolverError::Invalid);
         }
-        match self.sat_state {
+        match self.ctx.solver_state.sat_state {
             SatState::Sat => Ok(true),
-            SatState::Unsat => Ok(false),
-            SatState::Unknown => match search(&self.clauses, &mut self.trail) {
-                Ok(found) => {
-                    self.sat_state = if found {
-                        SatState::Sat
-                    } else {
-                        SatState::Unsat
-                    };
-                    Ok(found)
+            SatState::Unsat | SatState::UnsatUnderAssumptions => Ok(false),
+            SatState::Unknown => {
+                self.ctx.solver_state.solver_invoked = true;
+                match search(&mut self.ctx) {
+                    Ok(found) => Ok(found),
+                    Err(_) => {
+                        self.ctx.solver_state.state_is_invalid = true;
+                        Err(SolverError::OutOfMemory)
+                    }
                 }
-                Err(_) => {
-                    self.valid = false;
-                    Err(SolverError::OutOfMemory)
-                }
-            },
+            }
         }
     }
 
@@ -298,15 +290,16 @@ impl<W: ProofTarget, A: Allocator + Copy> Solver<W, A> {
         ensures completable { (m : List ℕ) → told_model result ≡ Ok (Some m) → (s : State) → StandsFor self.now s → IsCompletable s m }
         ensures absent { told_model result ≡ Ok None → (s : State) → StandsFor self.now s → IsValid s → answer_of s.verdict ≡ Some true → ⊥ }
     {
-        if !self.valid {
+        if self.ctx.solver_state.state_is_invalid {
             return Ok(None);
         }
-        match self.sat_state {
+        match self.ctx.solver_state.sat_state {
             SatState::Sat => {
-                let list = list_model(self.alloc, &self.trail, self.var_count)?;
+                let values = self.ctx.assignment.assignment();
+                let list = list_model(self.alloc, &self.named, values, self.var_count)?;
                 Ok(Some(list))
             }
-            SatState::Unknown | SatState::Unsat => Ok(None),
+            SatState::Unknown | SatState::Unsat | SatState::UnsatUnderAssumptions => Ok(None),
         }
     }
 }

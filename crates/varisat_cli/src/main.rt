@@ -3,6 +3,7 @@
 
 ghost use Rattle.std.specs.Prelude.{◌≡◌, ◌↔◌, IsErr};
 ghost use Rattle.std.specs.Fs.{file_type, IsDir};
+ghost use Rattle.varisat.specs.Decided.{fault_status};
 
 use std::fs::{File, Metadata};
 use std::io::{self, BufWriter, ErrorKind, Write};
@@ -77,7 +78,7 @@ fn refuse_folder(found: &Metadata) -> io::Result<()>
 
 // Tells why a file cannot be read, and gives the status for it.
 fn tell_file<E: Write>(err: &mut E, path: &str, error: &io::Error) -> u8
-    ensures { result ≡ STATUS_FAULT }
+    ensures { result ≡ fault_status }
 {
     // Of a writer that fails here nothing is left to tell.
     let _ = writeln!(err, "error: '{path}': {error}");

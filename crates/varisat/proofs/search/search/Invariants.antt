@@ -1,15 +1,17 @@
-use Rattle.varisat.specs.Trails.{IsTrail, AllOccur}
-use Rattle.varisat.specs.Clauses.{clauses_of}
-use Rattle.varisat.specs.Searches.{KeepsFixed}
-use Rattle.varisat.proofs.Searched.{room_left}
+use Rattle.std.proofs.Common.{◌≡◌, List, length}
+use Rattle.varisat_theory.specs.Literals.{Clause}
+use Rattle.varisat_search.specs.Contexts.{view, IsReady}
+use Rattle.varisat.specs.Searches.{Holds}
+use Rattle.varisat.proofs.Solved.{room_left}
 use Rattle.varisat.proofs.search.search.Given as goal
 
 abbrev pub invariant-steps : goal.invariant-steps
 invariant-steps g l = record {
-  trail : IsTrail (clauses_of l.clauses) l.trail;
-  occurs : AllOccur (clauses_of l.clauses) l.trail;
-  fixed : KeepsFixed l.initial.trail l.trail;
+  ready : IsReady l.ctx;
+  count : length l.ctx.assignment.current ≡ length l.fn.ctx.assignment.current;
+  state : l.ctx.solver_state ≡ l.fn.ctx.solver_state;
+  holds : (P : List Clause) → Holds P (view l.fn.ctx) → Holds P (view l.ctx);
 }
 
 abbrev pub decreases-steps : goal.decreases-steps
-decreases-steps g l = room_left (clauses_of l.clauses) l.trail
+decreases-steps g l = room_left (view l.ctx)

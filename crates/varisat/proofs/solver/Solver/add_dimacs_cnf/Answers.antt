@@ -1,5 +1,5 @@
 -- The text goes on, or a clause of it is refused, or it ends.
-use Rattle.std.proofs.Common.{◌∙◌, ◌++◌, [], inl, refl, sym, ap, arith, Ok, Some, None}
+use Rattle.std.proofs.Common.{◌∙◌, ◌++◌, [], inl, refl, sym, ap, not, arith, Ok, Some, None}
 use Rattle.varisat_formula.specs.Rest.{fault_of}
 use Rattle.varisat_formula.proofs.Parsing.{piece_told}
 use Rattle.varisat.proofs.Added.{told-error, adds-more, adds-valid, only-adds}
@@ -15,7 +15,7 @@ next_piece-more-requires-clause-few g c = omega (arith, c.pieces.invariant.read.
 pub returns-in_err-add_formula : goal.returns-in_err-add_formula
 returns-in_err-add_formula g c s st =
     let before = rw (← c.self.view_is) at st in
-    let valid = ap (λ x. x.valid) before.ledger ∙ c.if-not-self.false in
+    let valid = ap (λ x. x.valid) before.ledger ∙ ap not c.if-self.false in
     let (mid, a, q) = c.pieces.invariant.so_far s st in
     let (t, b, w) = c.in_err-add_formula.ensures {u = tt} mid q in
     let refused = told-error c.from_residual.result c.in_err-add_formula.field-0.0 c.from_residual.ensures in
@@ -32,13 +32,13 @@ pieces-preserved g c = record {
       let (mid, a, q) = c.pieces.invariant.so_far s st in
       let (t, b, w) = c.in_ok-add_formula.ensures {u = tt} mid q in
       let before = rw (← c.self.view_is) at st in
-      (t, adds-more s mid t _ _ (Ok tt) a (only-adds mid t _ _ (adds-valid s mid _ (ap (λ x. x.valid) before.ledger ∙ c.if-not-self.false) a) b), w);
+      (t, adds-more s mid t _ _ (Ok tt) a (only-adds mid t _ _ (adds-valid s mid _ (ap (λ x. x.valid) before.ledger ∙ ap not c.if-self.false) a) b), w);
 }
 
 pub returns-in-Err : goal.returns-in-Err
 returns-in-Err g c s st =
     let before = rw (← c.self.view_is) at st in
-    let valid = ap (λ x. x.valid) before.ledger ∙ c.if-not-self.false in
+    let valid = ap (λ x. x.valid) before.ledger ∙ ap not c.if-self.false in
     let (mid, a, q) = c.pieces.invariant.so_far s st in
     let (u, b, w) = c.in_ok-add_formula.ensures {u = tt} mid q in
     let (t, f, z) = c.refuse_text.ensures u w in
@@ -55,7 +55,7 @@ returns-in-Err g c s st =
 pub returns-in_err-add_formula-2 : goal.returns-in_err-add_formula-2
 returns-in_err-add_formula-2 g c s st =
     let before = rw (← c.self.view_is) at st in
-    let valid = ap (λ x. x.valid) before.ledger ∙ c.if-not-self.false in
+    let valid = ap (λ x. x.valid) before.ledger ∙ ap not c.if-self.false in
     let k = c.next_piece-more.ensures.takes in
     let ok = c.in-Ok-false.is ∙ ap Ok c.in-Ok-false.field-0-test in
     let read = read-more _ _ _ _ _ _ _ _ _ _ c.pieces.invariant.read k ok c.next_piece-more.ensures.open (took _ _ _ c.take_formula.ensures.formula c.take_formula.ensures.rest c.take_formula.ensures.later) in
@@ -70,7 +70,7 @@ returns-in_err-add_formula-2 g c s st =
 pub returns-in-Ok : goal.returns-in-Ok
 returns-in-Ok g c s st =
     let before = rw (← c.self.view_is) at st in
-    let valid = ap (λ x. x.valid) before.ledger ∙ c.if-not-self.false in
+    let valid = ap (λ x. x.valid) before.ledger ∙ ap not c.if-self.false in
     let k = c.next_piece-more.ensures.takes in
     let ok = c.in-Ok-false.is ∙ ap Ok c.in-Ok-false.field-0-test in
     let read = read-more _ _ _ _ _ _ _ _ _ _ c.pieces.invariant.read k ok c.next_piece-more.ensures.open (took _ _ _ c.take_formula.ensures.formula c.take_formula.ensures.rest c.take_formula.ensures.later) in
@@ -91,7 +91,7 @@ returns-in-Ok g c s st =
 pub returns : goal.returns
 returns g c s st =
     let before = rw (← c.self.view_is) at st in
-    let valid = ap (λ x. x.valid) before.ledger ∙ c.if-not-self.false in
+    let valid = ap (λ x. x.valid) before.ledger ∙ ap not c.if-self.false in
     let k = c.next_piece-more.ensures.takes in
     let ok = c.in-Ok-false.is ∙ ap Ok c.in-Ok-false.field-0-test in
     let read = read-more _ _ _ _ _ _ _ _ _ _ c.pieces.invariant.read k ok c.next_piece-more.ensures.open (took _ _ _ c.take_formula.ensures.formula c.take_formula.ensures.rest c.take_formula.ensures.later) in

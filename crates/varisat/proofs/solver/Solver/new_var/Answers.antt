@@ -1,4 +1,4 @@
-use Rattle.std.proofs.Common.{◌∙◌, refl, ap, arith, true}
+use Rattle.std.proofs.Common.{◌∙◌, not, refl, ap, arith, true}
 use Rattle.varisat.specs.States.{Ledger}
 use Rattle.varisat.specs.Names.{name_one}
 use Rattle.varisat.specs.Calls.{start}
@@ -9,11 +9,11 @@ use Rattle.varisat.proofs.solver.Solver.new_var.Goals as goal
 pub returns : goal.returns
 returns g c s st =
     let q = rw (← c.self.view_is) at st in
-    let f = q.fits c.if-not-self.false in
+    let f = q.fits (ap not c.if-self.false) in
     let n = c.self.inside.var_count in
     rw c.from_index.ensures (
       start (name_one n s),
-      (ap (λ x. x.valid) q.ledger ∙ c.if-not-self.false, least-free n s f.names, omega (arith, c.if-self-max_count.false, c.max_count.ensures), refl),
+      (ap (λ x. x.valid) q.ledger ∙ ap not c.if-self.false, least-free n s f.names, omega (arith, c.if-self-max_count.false, c.max_count.ensures), refl),
       record {
         ledger = ap (λ (x : Ledger). record x { started = true }) ((rest-one n s).ledger ∙ q.ledger);
         fits = λ _. fits-new _ _ s f refl;

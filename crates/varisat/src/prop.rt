@@ -1,4 +1,0 @@
-//! The trail, and unit propagation.
-
-pub mod propagate;
-pub mod trail;

@@ -128,7 +128,7 @@ search-start s l f t r st h e q = record {
   start = inl (subst (λ y. opposite l ∈ y) (sym q) (inl refl));
 }
 
-reasoned-more : (s : View) (f g : List Bool) (x : Literal) → ((v : ℕ) → IsMarked f v → IsMarked g v) → IsReasoned s f x → IsReasoned s g x
+pub reasoned-more : (s : View) (f g : List Bool) (x : Literal) → ((v : ℕ) → IsMarked f v → IsMarked g v) → IsReasoned s f x → IsReasoned s g x
 reasoned-more s f g x h (r, e, k) = (r, e, λ m i. ⊎_elim inl (λ o. inr (h (variable_of m) o)) (k m i))
 
 module _ (s : View) (w : WellFormed s) (l : Literal) (f : List Bool) (t : List ℕ) (g : List Bool) (u : List ℕ) (st : List Literal) (x : Literal) (st' : List Literal) (a : Search s l f t g u st) (e : st ≡ st' ++ x ∷ []) where

@@ -1,17 +1,16 @@
 -- Marking the literals of a clause.
-use Rattle.std.proofs.Common.{◌≡◌, ◌≢◌, ℕ, zero, suc, ◌+◌, ◌<◌, ◌≤◌, Bool, true, false, List, [], ◌∷◌, ◌++◌, length, get_or, set, take, ◌⊎◌, inl, inr, ⊎_elim, refl, sym, ap, ◌∙◌, subst, arith, add-one, get_or-set_same, get_or-set_other}
-use Rattle.std.proofs.lemmas.Bool.{cases_lt}
-use Rattle.varisat_theory.specs.Membership.{◌∈◌, ◌⊆◌, IsDistinct}
+use Rattle.std.proofs.Common.{◌≡◌, ℕ, zero, suc, ◌+◌, ◌<◌, ◌≤◌, Bool, true, false, List, [], ◌∷◌, ◌++◌, length, get_or, set, take, ◌⊎◌, inl, inr, ⊎_elim, refl, sym, ap, ◌∙◌, subst, arith, add-one, get_or-set_same, get_or-set_other}
+use Rattle.varisat_theory.specs.Membership.{◌∈◌}
 use Rattle.varisat_theory.specs.Literals.{Literal, Clause, variable_of, opposite}
 use Rattle.varisat_theory.proofs.Members.{equal_or_not, ∈-append_left, ∈-append_right, ∈-append_cases}
-use Rattle.varisat_theory.proofs.Places.{∈-get_or, ∈-take_more}
+use Rattle.varisat_theory.proofs.Places.{∈-take_more}
 use Rattle.varisat_prop.specs.View.{View, literal_at, node_at, level_of, StandsBefore, WellFormed}
 use Rattle.varisat_prop.proofs.Lits.{variable-opposite}
 use Rattle.varisat_search.specs.Learned.{present_level, IsPresent}
-use Rattle.varisat_search.specs.Marks.{IsMarked, IsLower, Marks, is_open, open_below, AreFalseBefore, Adds}
+use Rattle.varisat_search.specs.Marks.{IsMarked, IsLower, open_below, AreFalseBefore, Adds}
 use Rattle.varisat_search.proofs.Copies.{distinct-push}
-use Rattle.varisat_search.proofs.Standing.{inside, level-small, level-opposite, level-same, same-place, false-same, stands-∈}
-use Rattle.varisat_search.proofs.Opening.{open-is, closed-unmarked, open-same, open-elsewhere, count-same, count-more, count-small}
+use Rattle.varisat_search.proofs.Standing.{inside, level-small, level-opposite, level-same, same-place}
+use Rattle.varisat_search.proofs.Opening.{open-is, closed-unmarked, open-same, open-elsewhere, count-same, count-more}
 
 pub take-grow : {X : Type 0} (i : ℕ) (xs : List X) (x : X) → x ∈ take i xs → x ∈ take (i + 1) xs
 take-grow {X = X} i xs x h = subst (λ n. x ∈ take n xs) (sym (add-one i)) (go i xs h)

@@ -1,24 +1,21 @@
 -- What minimization leaves follows.
-use Rattle.std.proofs.Common.{◌≡◌, ◌≢◌, ℕ, zero, suc, ◌+◌, ◌<◌, ◌≤◌, Bool, true, false, List, [], ◌∷◌, ◌++◌, length, get_or, set, take, ◌⊎◌, inl, inr, ⊎_elim, refl, sym, ap, ◌∙◌, subst, arith, add-one, length-set, get_or-set_same, get_or-set_other}
+use Rattle.std.proofs.Common.{◌≡◌, ℕ, zero, suc, ◌+◌, ◌<◌, ◌≤◌, Bool, true, false, List, [], ◌∷◌, length, get_or, set, take, ◌⊎◌, inl, inr, ⊎_elim, refl, sym, ap, ◌∙◌, subst, arith, add-one, length-set, get_or-set_other}
 use Rattle.std.proofs.lemmas.Bool.{cases_lt}
-use Rattle.varisat_theory.specs.Membership.{◌∈◌, ◌⊆◌, IsDistinct}
+use Rattle.varisat_theory.specs.Membership.{◌∈◌, IsDistinct}
 use Rattle.varisat_theory.specs.Literals.{Literal, Clause, variable_of, opposite, opposites}
-use Rattle.varisat_theory.specs.Propagation.{Follows}
 use Rattle.varisat_theory.specs.Analysis.{Implied, Known, ByReason}
-use Rattle.varisat_theory.proofs.Members.{equal_or_not, ∈-append_left, ∈-append_right, ∈-append_cases}
-use Rattle.varisat_theory.proofs.Places.{∈-get_or, place_in, place_in_take, ∈-take_more}
+use Rattle.varisat_theory.proofs.Members.{∈-append_left, ∈-append_right, ∈-append_cases}
+use Rattle.varisat_theory.proofs.Places.{∈-get_or, place_in, place_in_take}
 use Rattle.varisat_theory.proofs.Values.{opposite_twice, ∈-opposites}
 use Rattle.varisat_theory.proofs.Implication.{implied_alone}
 use Rattle.varisat_theory.proofs.Learning.{follows_shorter}
-use Rattle.varisat_prop.specs.declared.prop.graph.Reason.{Reason}
 use Rattle.varisat_prop.specs.declared.prop.graph.Reason.TheVariants as reason
 use Rattle.varisat_prop.specs.Changes.{others_of}
-use Rattle.varisat_prop.specs.View.{View, clause_at, literal_at, node_of, node_at, level_of, StandsBefore, Implies, IsReason, WellFormed, Fits}
+use Rattle.varisat_prop.specs.View.{View, clause_at, literal_at, level_of, StandsBefore, Implies, IsReason, WellFormed, Fits}
 use Rattle.varisat_prop.proofs.Lits.{variable-opposite}
 use Rattle.varisat_prop.proofs.Distinct.{distinct-places}
-use Rattle.varisat_search.specs.Learned.{present_level, IsPresent}
 use Rattle.varisat_search.specs.Marks.{IsMarked, Marks, IsMinimized}
-use Rattle.varisat_search.specs.Redundancy.{IsImplied, IsReasoned, IsListed, IsFound}
+use Rattle.varisat_search.specs.Redundancy.{IsReasoned, IsFound}
 use Rattle.varisat_search.proofs.Adding.{take-grow}
 use Rattle.varisat_search.proofs.Searching.{reasoned-more}
 use Rattle.varisat_search.proofs.Standing.{level-opposite, true-same, fixed-implied}

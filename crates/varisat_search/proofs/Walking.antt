@@ -1,11 +1,10 @@
 -- The walk back over the trail, down to the first unique implication point.
-use Rattle.std.proofs.Common.{◌≡◌, ◌≢◌, ℕ, zero, suc, ◌+◌, ◌-◌, ◌^◌, ◌<◌, ◌≤◌, Bool, true, false, List, [], ◌∷◌, ◌++◌, length, get_or, set, take, take_all, drop, ◌⊎◌, inl, inr, ⊎_elim, refl, sym, ap, ◌∙◌, subst, arith, add-one, get_or-set_same, get_or-set_other}
+use Rattle.std.proofs.Common.{◌≡◌, ◌≢◌, ℕ, zero, suc, ◌+◌, ◌-◌, ◌^◌, ◌<◌, ◌≤◌, Bool, true, false, List, [], ◌∷◌, length, get_or, set, take, take_all, drop, ◌⊎◌, inl, inr, ⊎_elim, refl, sym, ap, ◌∙◌, subst, arith, add-one, get_or-set_same, get_or-set_other}
 use Rattle.std.proofs.lemmas.Bool.{cases_lt}
-use Rattle.varisat_theory.specs.Membership.{◌∈◌, ◌⊆◌, IsDistinct}
+use Rattle.varisat_theory.specs.Membership.{◌∈◌, IsDistinct}
 use Rattle.varisat_theory.specs.Literals.{Literal, Clause, variable_of, opposite}
-use Rattle.varisat_theory.specs.Propagation.{Follows, IsFalse}
-use Rattle.varisat_theory.specs.Analysis.{Implied, Reached, AtStart, InReason}
-use Rattle.varisat_theory.proofs.Members.{equal_or_not}
+use Rattle.varisat_theory.specs.Propagation.{IsFalse}
+use Rattle.varisat_theory.specs.Analysis.{AtStart, InReason}
 use Rattle.varisat_theory.proofs.Places.{∈-get_or, place_in}
 use Rattle.varisat_theory.proofs.Values.{opposite_twice}
 use Rattle.varisat_theory.proofs.Learning.{Pending, IsPassed, pending_start, pending_skip, pending_resolve, pending_end}
@@ -14,9 +13,9 @@ use Rattle.varisat_prop.specs.declared.prop.graph.Reason.TheVariants as reason
 use Rattle.varisat_prop.specs.Changes.{others_of}
 use Rattle.varisat_prop.specs.View.{View, clause_at, literal_at, decision_at, node_of, node_at, level_of, StandsBefore, Implies, IsReason, WellFormed, LevelsSettled, Fits}
 use Rattle.varisat_prop.proofs.Lits.{variable-opposite}
-use Rattle.varisat_search.specs.Learned.{present_level, IsPresent, IsConflict, clause_of, reason_clause, StandsBehind, IsReachedDownTo, IsImplicationPoint, IsFirstPoint}
-use Rattle.varisat_search.specs.Marks.{IsMarked, IsLower, Marks, is_open, open_below, one_if, AreFalseBefore, Adds, IsResolved}
-use Rattle.varisat_search.proofs.Standing.{inside-at, level-opposite, level-same, same-place, place-of, stands-∈, no-clash, true-same, false-same, level-small, reason-before, causes-before, has-late, fixed-implied, last-in}
+use Rattle.varisat_search.specs.Learned.{present_level, IsPresent, IsConflict, clause_of, reason_clause, IsReachedDownTo, IsImplicationPoint, IsFirstPoint}
+use Rattle.varisat_search.specs.Marks.{IsMarked, Marks, is_open, open_below, one_if, AreFalseBefore, Adds, IsResolved}
+use Rattle.varisat_search.proofs.Standing.{inside-at, level-opposite, level-same, same-place, place-of, stands-∈, no-clash, true-same, false-same, level-small, causes-before, has-late, fixed-implied, last-in}
 use Rattle.varisat_prop.proofs.Reordered.{trail-short}
 use Rattle.varisat_search.proofs.Opening.{count-small, open-is, open-level, open-marked, closed-unmarked, open-same, count-same, count-none, count-some}
 

@@ -18,7 +18,7 @@ use Rattle.varisat_formula.specs.Rest.{Progress, Follows, begin, word_items, sta
 use Rattle.varisat_formula.specs.Numbers.{literal_text}
 use Rattle.varisat_formula.specs.Written.{literals_text, clauses_text, formula_text, ReadsBack}
 use Rattle.varisat_formula.proofs.Words.{one_items, join, split_pieces}
-use Rattle.varisat_formula.proofs.Headers.{header_agrees}
+use Rattle.varisat_formula.proofs.Headers.{below_test, header_agrees}
 use Rattle.varisat_formula.proofs.Steps.{standing, follows_none, follows_more, follows_byte, follows_line_feed, plain_blank, plain_more, header_more, start_more, begin_gives}
 use Rattle.varisat_formula.proofs.Decimal.{number_decimal, literal_text_is}
 
@@ -290,9 +290,6 @@ tokens_last (b ∷ w) f s = ap (λ x. tokens true x) (sym (append-nil (b ∷ w))
 
 abbrev pub header_line : ℕ → ℕ → List ℕ
 header_line vars total = codes "p cnf " ++ decimal vars ++ 32 ∷ decimal total
-
-below_test : (c : ℕ) → c < 2 ^ 64 → nat_lt c (2 ^ 64) ≡ true
-below_test c h = search (rules, h)
 
 header_is : (vars total : ℕ) → vars ≤ 2 ^ 28 → total < 2 ^ 64 → header_of (tokens true (header_line vars total)) ≡ Sized (record { vars = vars; clauses = total })
 header_is vars total h f =

@@ -144,7 +144,7 @@ sized_kept v w c e = go (nat_lt (2 ^ 28) v) refl
         let k : v ≡ w = omega arith in
         ap (λ x. sized x c) k
 
-below_test : (c : ℕ) → c < 2 ^ 64 → nat_lt c (2 ^ 64) ≡ true
+pub below_test : (c : ℕ) → c < 2 ^ 64 → nat_lt c (2 ^ 64) ≡ true
 below_test c h = search (rules, h)
 
 above_test : (c : ℕ) → 2 ^ 64 ≤ c → nat_lt c (2 ^ 64) ≡ false

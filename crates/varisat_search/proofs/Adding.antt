@@ -1,16 +1,16 @@
 -- Marking the literals of a clause.
-use Rattle.std.proofs.Common.{◌≡◌, ◌≢◌, ℕ, zero, suc, ◌+◌, ◌<◌, ◌≤◌, Bool, true, false, List, [], ◌∷◌, ◌++◌, length, get_or, set, take, ◌⊎◌, inl, inr, ⊎_elim, refl, sym, ap, ◌∙◌, subst, arith, add-one, get_or-set_same, get_or-set_other}
-use Rattle.std.proofs.lemmas.Bool.{cases_lt}
-use Rattle.varisat_theory.specs.Membership.{◌∈◌, ◌⊆◌, IsDistinct}
+use Rattle.std.proofs.Common.{◌≡◌, ℕ, zero, suc, ◌+◌, ◌<◌, ◌≤◌, Bool, true, false, List, [], ◌∷◌, ◌++◌, length, get_or, set, take, ◌⊎◌, inl, inr, ⊎_elim, refl, sym, ap, ◌∙◌, subst, arith, add-one, get_or-set_same, get_or-set_other}
+use Rattle.varisat_theory.specs.Membership.{◌∈◌}
 use Rattle.varisat_theory.specs.Literals.{Literal, Clause, variable_of, opposite}
 use Rattle.varisat_theory.proofs.Members.{equal_or_not, ∈-append_left, ∈-append_right, ∈-append_cases}
-use Rattle.varisat_theory.proofs.Places.{∈-get_or, ∈-take_more}
+use Rattle.varisat_theory.proofs.Places.{∈-take_more}
 use Rattle.varisat_prop.specs.View.{View, literal_at, node_at, level_of, StandsBefore, WellFormed}
 use Rattle.varisat_prop.proofs.Lits.{variable-opposite}
 use Rattle.varisat_search.specs.Learned.{present_level, IsPresent}
-use Rattle.varisat_search.specs.Marks.{IsMarked, IsLower, Marks, is_open, open_below, AreFalseBefore, Adds}
-use Rattle.varisat_search.proofs.Standing.{inside, level-small, level-opposite, level-same, same-place, false-same, stands-∈}
-use Rattle.varisat_search.proofs.Opening.{open-is, closed-unmarked, open-same, open-elsewhere, count-same, count-more, count-small}
+use Rattle.varisat_search.specs.Marks.{IsMarked, IsLower, open_below, AreFalseBefore, Adds}
+use Rattle.varisat_search.proofs.Copies.{distinct-push}
+use Rattle.varisat_search.proofs.Standing.{inside, level-small, level-opposite, level-same, same-place}
+use Rattle.varisat_search.proofs.Opening.{open-is, closed-unmarked, open-same, open-elsewhere, count-same, count-more}
 
 pub take-grow : {X : Type 0} (i : ℕ) (xs : List X) (x : X) → x ∈ take i xs → x ∈ take (i + 1) xs
 take-grow {X = X} i xs x h = subst (λ n. x ∈ take n xs) (sym (add-one i)) (go i xs h)
@@ -40,11 +40,6 @@ marked-old f v x h m =
 pub marked-new : (f : List Bool) (v x : ℕ) → IsMarked (set f v true) x → IsMarked f x ⊎ (x ≡ v)
 marked-new f v x m =
     ⊎_elim inr (λ n. inl (sym (get_or-set_other f v x true false n) ∙ m)) (equal_or_not x v)
-
-pub distinct-last : (xs : List ℕ) (x : ℕ) → IsDistinct xs → (x ∈ xs → ⊥) → IsDistinct (xs ++ x ∷ [])
-distinct-last [] x d n = ((λ h. h), tt)
-distinct-last (y ∷ xs) x d n =
-    ((λ h. ⊎_elim d.0 (λ k. ⊎_elim (λ e. n (inl (sym e))) (λ z. z) k) (∈-append_cases y xs (x ∷ []) h)), distinct-last xs x d.1 (λ h. n (inr h)))
 
 pub adds-start : (s : View) (c : Clause) (f : List Bool) (t : List ℕ) → Adds s [] 0 c f t c f t
 adds-start s c f t = record {
@@ -123,7 +118,7 @@ module _ (s : View) (w : WellFormed s) (m : Literal) (c : Clause) (f : List Bool
     marks = λ i q z0 k. record {
       lower = λ x j. ⊎_elim (k.lower x) (λ o. ⊎_elim (λ e. subst (IsLower s) (sym e) (record { false_now = fm; above = a; below = b })) (λ z. absurd z) o) (∈-append_cases x c (m ∷ []) j);
       marked = λ x j. ⊎_elim (λ o. marked-old f (variable_of m) (variable_of x) h (k.marked x o)) (λ o. all-one x o (⊎_elim (λ e. let z = ap (level_of s) e in omega (arith, z, a)) (λ z. absurd z) o)) (∈-append_cases x c (m ∷ []) j);
-      distinct = distinct-last c m k.distinct (λ o. not-marked (k.marked m o));
+      distinct = distinct-push c m k.distinct (λ o. not-marked (k.marked m o));
       listed = λ v j. ⊎_elim (k.listed v) (λ o. ⊎_elim (λ e. let z = inside s w m fm in omega (arith, e, z)) (λ z. absurd z) o) (∈-append_cases v t (variable_of m ∷ []) j);
       known = λ v r. ⊎_elim
           (λ u. ⊎_elim (λ (x, j, e, z). inl (x, ∈-append_left x c (m ∷ []) j, e, ∈-append_left v t (variable_of m ∷ []) z)) inr (k.known v u))

@@ -1,10 +1,10 @@
 -- Copies of a clause's literals, each once.
-use Rattle.std.proofs.Common.{◌≡◌, ℕ, zero, suc, ◌+◌, ◌<◌, ◌≤◌, List, [], ◌∷◌, ◌++◌, ◌⊎◌, inl, inr, ⊎_elim, length, get_or, take, refl, sym, ap, ◌∙◌, subst, arith}
+use Rattle.std.proofs.Common.{◌≡◌, ℕ, zero, suc, ◌+◌, ◌<◌, ◌≤◌, List, [], ◌∷◌, ◌++◌, inl, inr, ⊎_elim, length, get_or, take, refl, sym, ap, ◌∙◌, subst, arith}
 use Rattle.varisat_theory.specs.Membership.{◌∈◌, SameSet, IsDistinct}
 use Rattle.varisat_theory.proofs.Members.{∈-append_left, ∈-append_right, ∈-append_cases}
 use Rattle.varisat_theory.proofs.Places.{∈-take_more}
 
-distinct-push : (xs : List ℕ) (x : ℕ) → IsDistinct xs → (x ∈ xs → ⊥) → IsDistinct (xs ++ x ∷ [])
+pub distinct-push : (xs : List ℕ) (x : ℕ) → IsDistinct xs → (x ∈ xs → ⊥) → IsDistinct (xs ++ x ∷ [])
 distinct-push [] x d n = ((λ h. h), tt)
 distinct-push (y ∷ xs) x d n =
     ((λ h. ⊎_elim d.0 (λ k. ⊎_elim (λ e. n (inl (sym e))) (λ z. z) k) (∈-append_cases y xs (x ∷ []) h)), distinct-push xs x d.1 (λ h. n (inr h)))

@@ -1,16 +1,15 @@
 -- What going back keeps.
-use Rattle.std.proofs.Common.{◌≡◌, ◌≢◌, ℕ, zero, suc, ◌+◌, ◌<◌, ◌≤◌, Bool, Option, Some, None, List, [], ◌∷◌, ◌++◌, length, get_or, set, take, map, ◌⊎◌, inl, inr, ⊎_elim, refl, sym, ap, ◌∙◌, subst, arith, get_or-set_same, get_or-set_other, length-set}
+use Rattle.std.proofs.Common.{◌≡◌, ◌≢◌, ℕ, zero, suc, ◌+◌, ◌<◌, ◌≤◌, None, List, [], ◌∷◌, length, get_or, set, take, inl, inr, ⊎_elim, refl, sym, ap, ◌∙◌, subst, arith, get_or-set_same, get_or-set_other, length-set}
 use Rattle.std.proofs.lemmas.List.{get_or-take, length-take-le}
 use Rattle.std.proofs.lemmas.Bool.{cases_lt}
 use Rattle.varisat_theory.specs.Membership.{◌∈◌}
-use Rattle.varisat_theory.specs.Literals.{Literal, Clause, variable_of, opposite, IsUnit}
+use Rattle.varisat_theory.specs.Literals.{Literal, Clause, variable_of, IsUnit}
 use Rattle.varisat_theory.specs.Propagation.{IsComplete}
 use Rattle.varisat_theory.proofs.Places.{∈-get_or, place_in}
 use Rattle.varisat_theory.proofs.Members.{equal_or_not}
-use Rattle.varisat_formula.specs.Numbers.{polarity_of}
 use Rattle.varisat_prop.specs.declared.prop.graph.Reason.{Reason}
 use Rattle.varisat_prop.specs.declared.prop.graph.Reason.TheVariants as reason
-use Rattle.varisat_prop.specs.View.{View, IsTrueIn, clause_at, literal_at, decision_at, node_of, node_at, no_node, level_of, StandsBefore, Implies, IsReason, WellFormed, IsFixed, Fits, LevelsSettled}
+use Rattle.varisat_prop.specs.View.{View, IsTrueIn, clause_at, literal_at, decision_at, node_of, node_at, no_node, StandsBefore, Implies, IsReason, WellFormed, IsFixed, Fits, LevelsSettled}
 use Rattle.varisat_prop.proofs.Lits.{made-inside}
 use Rattle.varisat_search.specs.Steps.{IsCut, LeavesFrom}
 

@@ -1,11 +1,11 @@
 -- How a search comes to a conflict or a model.
-use Rattle.std.proofs.Common.{◌≡◌, ℕ, suc, ◌+◌, ◌*◌, ◌/◌, ◌<◌, ◌≤◌, Bool, true, false, Option, None, Result, Ok, Err, MatchResult, List, [], ◌∷◌, ◌++◌, length, get_or, refl, sym, ap, ◌∙◌, subst, arith, length-append}
+use Rattle.std.proofs.Common.{◌≡◌, ℕ, ◌<◌, ◌≤◌, Bool, true, false, Result, Ok, Err, MatchResult, [], ◌∷◌, length, refl, sym, ap, subst, arith, length-append}
 use Rattle.varisat_theory.specs.Literals.{Literal, variable_of, literal_of}
 use Rattle.varisat_theory.specs.Propagation.{IsComplete}
 use Rattle.varisat_prop.specs.View.{View, WellFormed, LevelsSettled, Grows}
 use Rattle.varisat_prop.specs.Changes.{decided_on}
 use Rattle.varisat_prop.specs.Looks.{Propagates}
-use Rattle.varisat_prop.proofs.Growth.{grows-trans, grows-longer}
+use Rattle.varisat_prop.proofs.Growth.{grows-trans}
 use Rattle.varisat_prop.proofs.Enqueued.{decided-well, decided-grows}
 use Rattle.varisat_prop.proofs.Reordered.{trail-short}
 use Rattle.varisat_search.specs.Steps.{IsFree}

@@ -1,31 +1,28 @@
 -- What a learned clause does.
-use Rattle.std.proofs.Common.{◌≡◌, ◌≢◌, ℕ, zero, suc, ◌+◌, ◌-◌, ◌<◌, ◌≤◌, Bool, true, false, nat_eq, ◌||◌, Option, Some, None, List, [], ◌∷◌, ◌++◌, length, get_or, set, take, drop, map, ◌⊎◌, inl, inr, ⊎_elim, refl, sym, ap, ◌∙◌, subst, arith, length-append, length-set}
-use Rattle.std.proofs.lemmas.List.{get_or_append_left, length-map, map-append, take-append-le}
+use Rattle.std.proofs.Common.{◌≡◌, ◌≢◌, ℕ, zero, suc, ◌<◌, ◌≤◌, Bool, true, false, nat_eq, ◌||◌, Some, None, List, [], ◌∷◌, ◌++◌, length, get_or, take, map, inl, inr, ⊎_elim, refl, sym, ap, ◌∙◌, subst, arith, length-append, length-set}
+use Rattle.std.proofs.lemmas.List.{length-map, map-append, take-append-le}
 use Rattle.std.proofs.lemmas.Bool.{cases_lt, ne_eqb}
-use Rattle.varisat_theory.specs.Membership.{◌∈◌, ◌⊆◌, SameSet, IsDistinct}
+use Rattle.varisat_theory.specs.Membership.{◌∈◌, ◌⊆◌, IsDistinct}
 use Rattle.varisat_theory.specs.Literals.{Literal, Clause, variable_of, opposite, IsUnit}
-use Rattle.varisat_theory.specs.Propagation.{IsFalse, IsComplete, Follows, Conflicts}
-use Rattle.varisat_theory.specs.Derivations.{Derives, Add}
+use Rattle.varisat_theory.specs.Propagation.{IsComplete, Follows}
 use Rattle.varisat_theory.specs.Rank.{rank}
 use Rattle.varisat_theory.proofs.Ranks.{rank_raised, rank_grows}
 use Rattle.varisat_theory.proofs.Saturated.{learned_is_new, complete_added}
-use Rattle.varisat_theory.proofs.Places.{∈-get_or, place_in, place_in_take}
-use Rattle.varisat_theory.proofs.Members.{∈-append_left, ∈-append_right}
-use Rattle.varisat_theory.proofs.Values.{opposite_twice}
+use Rattle.varisat_theory.proofs.Places.{place_in_take}
 use Rattle.varisat_prop.specs.declared.prop.graph.Reason.{Reason}
 use Rattle.varisat_prop.specs.declared.prop.graph.Reason.TheVariants as reason
-use Rattle.varisat_prop.specs.View.{View, IsTrueIn, clause_at, literal_at, decision_at, node_of, node_at, level_of, WellFormed, LevelsSettled, IsFixed, IsTautology, Fits, Grows, kinds, is_implied, is_clause}
+use Rattle.varisat_prop.specs.View.{View, IsTrueIn, literal_at, decision_at, node_of, node_at, level_of, WellFormed, LevelsSettled, Fits, Grows, kinds, is_implied, is_clause}
 use Rattle.varisat_prop.specs.Changes.{enqueued}
 use Rattle.varisat_formula.specs.Numbers.{polarity_of}
 use Rattle.varisat_prop.proofs.Lits.{none-made, made-inside, made-clash, variable-opposite}
-use Rattle.varisat_prop.proofs.Looked.{on-trail, trail-true}
-use Rattle.varisat_prop.proofs.Growth.{same-self, kinds-more, reordered-refl}
-use Rattle.varisat_prop.proofs.Extend.{node-old, node-new, literal-old, literal-new, fresh}
-use Rattle.varisat_prop.proofs.Enqueued.{MayImply, enqueued-well, ext-fits}
+use Rattle.varisat_prop.proofs.Looked.{trail-true}
+use Rattle.varisat_prop.proofs.Growth.{same-self, kinds-more}
+use Rattle.varisat_prop.proofs.Extend.{node-old, node-new, literal-old, literal-new}
+use Rattle.varisat_prop.proofs.Enqueued.{enqueued-well, ext-fits}
 use Rattle.varisat_prop.proofs.Reordered.{trail-short}
 use Rattle.varisat_search.specs.Learned.{IsAsserting, IsLevelOf}
 use Rattle.varisat_search.specs.Steps.{IsCut, LeavesFrom, Goes}
-use Rattle.varisat_search.proofs.Cut.{end-inside, still, cut-well, cut-fits, cut-settled, only, level-length, decision-cut}
+use Rattle.varisat_search.proofs.Cut.{end-inside, still, cut-well, cut-fits, cut-settled, level-length}
 use Rattle.varisat_search.proofs.Kept.{with_kept, kept-last, kept-well, kept-fits, unit-fits}
 
 take-∈ : (n : ℕ) (xs : List ℕ) (j : ℕ) → j < n → j < length xs → get_or xs j 0 ∈ take n xs

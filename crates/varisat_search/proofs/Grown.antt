@@ -1,13 +1,11 @@
 -- More variables.
-use Rattle.std.proofs.Common.{◌≡◌, Bool, ℕ, zero, suc, ◌+◌, ◌-◌, ◌<◌, ◌≤◌, ◌^◌, Option, None, List, [], ◌∷◌, ◌++◌, length, get_or, replicate, ◌⊎◌, inl, inr, ⊎_elim, refl, sym, ap, ◌∙◌, subst, arith, length-append}
+use Rattle.std.proofs.Common.{◌≡◌, Bool, ℕ, zero, suc, ◌-◌, ◌≤◌, ◌^◌, Option, None, List, [], ◌∷◌, ◌++◌, length, get_or, replicate, inl, inr, ⊎_elim, refl, sym, ap, ◌∙◌, subst, arith, length-append}
 use Rattle.std.proofs.lemmas.List.{length-replicate}
-use Rattle.varisat_theory.specs.Membership.{◌∈◌}
-use Rattle.varisat_theory.specs.Literals.{Literal, Clause, variable_of, opposite, IsUnit}
-use Rattle.varisat_theory.specs.Propagation.{IsComplete}
+use Rattle.varisat_theory.specs.Literals.{Literal, Clause, variable_of}
 use Rattle.varisat_prop.specs.declared.prop.graph.Reason.{Reason}
 use Rattle.varisat_prop.specs.declared.prop.graph.Reason.TheVariants as reason
 use Rattle.varisat_prop.specs.declared.prop.graph.ImplNode.{ImplNode}
-use Rattle.varisat_prop.specs.View.{View, IsTrueIn, clause_at, literal_at, decision_at, node_of, node_at, no_node, Implies, IsReason, WellFormed, LevelsSettled, IsFixed, Fits}
+use Rattle.varisat_prop.specs.View.{View, IsTrueIn, clause_at, literal_at, decision_at, node_of, node_at, no_node, Implies, IsReason, WellFormed, LevelsSettled, Fits}
 
 pub get_or-padded : {X : Type 0} (xs : List X) (n v : ℕ) (d : X) → get_or (xs ++ replicate n d) v d ≡ get_or xs v d
 get_or-padded [] n v d = none n v

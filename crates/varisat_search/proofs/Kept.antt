@@ -1,16 +1,14 @@
 -- What one more clause keeps.
-use Rattle.std.proofs.Common.{◌≡◌, ◌≢◌, ℕ, zero, suc, ◌+◌, ◌<◌, ◌≤◌, Option, Some, None, List, [], ◌∷◌, ◌++◌, length, get_or, set, take, ◌⊎◌, inl, inr, ⊎_elim, refl, sym, ap, ◌∙◌, subst, arith, length-append}
+use Rattle.std.proofs.Common.{◌≡◌, ℕ, ◌<◌, ◌≤◌, None, List, [], ◌∷◌, ◌++◌, length, get_or, ◌⊎◌, inl, inr, ⊎_elim, refl, sym, ap, ◌∙◌, subst, arith, length-append}
 use Rattle.std.proofs.lemmas.List.{get_or_append_left}
 use Rattle.varisat_theory.specs.Membership.{◌∈◌, ◌⊆◌, SameSet, IsDistinct}
-use Rattle.varisat_theory.specs.Literals.{Literal, Clause, variable_of, opposite, IsUnit}
+use Rattle.varisat_theory.specs.Literals.{Literal, Clause, variable_of, IsUnit}
 use Rattle.varisat_theory.proofs.Members.{∈-append_left, ∈-append_right, ∈-append_cases}
 use Rattle.varisat_prop.specs.declared.prop.graph.Reason.{Reason}
 use Rattle.varisat_prop.specs.declared.prop.graph.Reason.TheVariants as reason
-use Rattle.varisat_prop.specs.View.{View, IsTrueIn, clause_at, literal_at, node_of, node_at, level_of, Implies, IsReason, WellFormed, IsFixed, IsTautology, Fits}
+use Rattle.varisat_prop.specs.View.{View, clause_at, literal_at, node_of, node_at, level_of, Implies, IsReason, WellFormed, IsFixed, IsTautology, Fits}
 use Rattle.varisat_prop.specs.Changes.{enqueued}
 use Rattle.varisat_prop.proofs.Extend.{get_or-last, node-old, node-new, node-other, fresh, true-old, true-new, literal-old, literal-new, each-place}
-use Rattle.varisat_prop.proofs.Enqueued.{ext-fits}
-use Rattle.varisat_prop.proofs.Growth.{same-self}
 
 pub last-one : {X : Type 0} (xs : List X) (x y : X) → y ∈ (xs ++ x ∷ []) → (y ∈ xs) ⊎ (y ≡ x)
 last-one xs x y h = ⊎_elim inl (λ k. ⊎_elim inr (λ z. absurd z) k) (∈-append_cases y xs (x ∷ []) h)

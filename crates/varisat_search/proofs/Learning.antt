@@ -1,17 +1,17 @@
 -- The context after learning.
-use Rattle.std.proofs.Common.{◌≡◌, ℕ, ◌*◌, ◌<◌, ◌≤◌, Option, None, List, [], ◌∷◌, ◌++◌, length, get_or, ◌⊎◌, inl, inr, ⊎_elim, refl, sym, ap, ◌∙◌, subst, arith}
+use Rattle.std.proofs.Common.{◌≡◌, ℕ, ◌<◌, ◌≤◌, List, [], ◌∷◌, ◌++◌, length, ⊎_elim, refl, sym, ap, ◌∙◌, subst, arith}
 use Rattle.std.proofs.lemmas.Bool.{cases_lt}
 use Rattle.varisat_theory.specs.Literals.{Literal, Clause, variable_of}
 use Rattle.varisat_theory.specs.Propagation.{Follows, Conflicts}
 use Rattle.varisat_prop.specs.declared.prop.graph.Reason.{Reason}
 use Rattle.varisat_prop.specs.declared.prop.graph.Reason.TheVariants as reason
-use Rattle.varisat_prop.specs.View.{View, view_of, WellFormed, LevelsSettled, Fits}
+use Rattle.varisat_prop.specs.View.{View, WellFormed, LevelsSettled, Fits}
 use Rattle.varisat_prop.specs.Changes.{enqueued}
 use Rattle.varisat_search.specs.declared.context.Context.{Context}
 use Rattle.varisat_search.specs.Learned.{IsLearned, IsAsserting}
 use Rattle.varisat_search.specs.Contexts.{view, IsReady}
 use Rattle.varisat_search.specs.Conflicts.{IsKept}
-use Rattle.varisat_search.specs.Steps.{IsCut, IsFree, Goes}
+use Rattle.varisat_search.specs.Steps.{IsCut, IsFree}
 use Rattle.varisat_search.proofs.Going.{Result, second-level, first-inside, first-free, unit-result, kept-result}
 
 same-first : (l m : Literal) (c d : Clause) → (l ∷ c) ≡ (m ∷ d) → l ≡ m

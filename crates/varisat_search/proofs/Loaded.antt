@@ -1,9 +1,9 @@
 -- What loading a clause gives.
-use Rattle.std.proofs.Common.{◌≡◌, ◌≢◌, ℕ, zero, suc, ◌+◌, ◌<◌, ◌≤◌, Option, Some, None, List, [], ◌∷◌, ◌++◌, length, get_or, take, ◌⊎◌, inl, inr, ⊎_elim, refl, sym, ap, ◌∙◌, subst, arith, length-set}
+use Rattle.std.proofs.Common.{◌≡◌, ℕ, zero, suc, ◌<◌, ◌≤◌, Some, List, [], ◌∷◌, ◌++◌, length, get_or, take, ◌⊎◌, inl, inr, ⊎_elim, refl, sym, ap, ◌∙◌, subst, arith, length-set}
 use Rattle.std.proofs.lemmas.Bool.{cases_lt}
-use Rattle.varisat_theory.specs.Membership.{◌∈◌, ◌⊆◌, SameSet, IsDistinct}
+use Rattle.varisat_theory.specs.Membership.{◌∈◌, SameSet, IsDistinct}
 use Rattle.varisat_theory.specs.Literals.{Literal, Clause, variable_of, opposite, IsUnit}
-use Rattle.varisat_theory.specs.Propagation.{IsFalse, LeavesOnly, Conflicts, FalseClause}
+use Rattle.varisat_theory.specs.Propagation.{IsFalse, LeavesOnly, FalseClause}
 use Rattle.varisat_theory.specs.Analysis.{IsTrail}
 use Rattle.varisat_theory.proofs.Implication.{trail_conflicts}
 use Rattle.varisat_theory.proofs.Places.{∈-get_or}
@@ -11,18 +11,16 @@ use Rattle.varisat_theory.proofs.Members.{∈-append_left, ∈-append_right}
 use Rattle.varisat_formula.specs.Numbers.{polarity_of}
 use Rattle.varisat_prop.specs.declared.prop.graph.Reason.{Reason}
 use Rattle.varisat_prop.specs.declared.prop.graph.Reason.TheVariants as reason
-use Rattle.varisat_prop.specs.View.{View, IsTrueIn, clause_at, literal_at, node_of, node_at, level_of, Implies, IsReason, WellFormed, LevelsSettled, IsFixed, IsTautology, Fits}
-use Rattle.varisat_prop.specs.Changes.{enqueued}
+use Rattle.varisat_prop.specs.View.{View, IsTrueIn, clause_at, literal_at, node_at, level_of, Implies, IsReason, WellFormed, LevelsSettled, IsFixed, IsTautology, Fits}
 use Rattle.varisat_prop.specs.Looks.{IsInRange}
 use Rattle.varisat_prop.proofs.Lits.{own-opposite, made-clash, none-made, variable-opposite}
 use Rattle.varisat_prop.proofs.Looked.{on-trail}
 use Rattle.varisat_prop.proofs.Enqueued.{enqueued-well}
 use Rattle.varisat_search.specs.declared.state.SatState.{SatState}
-use Rattle.varisat_search.specs.declared.state.SatState.TheVariants as verdict
-use Rattle.varisat_search.specs.Steps.{IsCut, IsContradicted, with_clause, Loads}
+use Rattle.varisat_search.specs.Steps.{IsCut, with_clause, Loads}
 use Rattle.varisat_search.specs.Loading.{IsAdded}
 use Rattle.varisat_search.proofs.Cut.{cut-well, cut-fits, was-true, fixed-cut}
-use Rattle.varisat_search.proofs.Kept.{with_kept, kept-well, kept-fits, unit-fits, fits-more}
+use Rattle.varisat_search.proofs.Kept.{kept-well, kept-fits, unit-fits, fits-more}
 
 -- All decisions are undone, and what was fixed stays so.
 pub record Restarted (s t : View) : Type 0 where

@@ -1,25 +1,23 @@
 -- What minimization leaves follows.
-use Rattle.std.proofs.Common.{◌≡◌, ◌≢◌, ℕ, zero, suc, ◌+◌, ◌<◌, ◌≤◌, Bool, true, false, List, [], ◌∷◌, ◌++◌, length, get_or, set, take, ◌⊎◌, inl, inr, ⊎_elim, refl, sym, ap, ◌∙◌, subst, arith, add-one, length-set, get_or-set_same, get_or-set_other}
+use Rattle.std.proofs.Common.{◌≡◌, ℕ, zero, suc, ◌+◌, ◌<◌, ◌≤◌, Bool, true, false, List, [], ◌∷◌, length, get_or, set, take, ◌⊎◌, inl, inr, ⊎_elim, refl, sym, ap, ◌∙◌, subst, arith, add-one, length-set, get_or-set_other}
 use Rattle.std.proofs.lemmas.Bool.{cases_lt}
-use Rattle.varisat_theory.specs.Membership.{◌∈◌, ◌⊆◌, IsDistinct}
+use Rattle.varisat_theory.specs.Membership.{◌∈◌, IsDistinct}
 use Rattle.varisat_theory.specs.Literals.{Literal, Clause, variable_of, opposite, opposites}
-use Rattle.varisat_theory.specs.Propagation.{Follows}
 use Rattle.varisat_theory.specs.Analysis.{Implied, Known, ByReason}
-use Rattle.varisat_theory.proofs.Members.{equal_or_not, ∈-append_left, ∈-append_right, ∈-append_cases}
-use Rattle.varisat_theory.proofs.Places.{∈-get_or, place_in, place_in_take, ∈-take_more}
+use Rattle.varisat_theory.proofs.Members.{∈-append_left, ∈-append_right, ∈-append_cases}
+use Rattle.varisat_theory.proofs.Places.{∈-get_or, place_in, place_in_take}
 use Rattle.varisat_theory.proofs.Values.{opposite_twice, ∈-opposites}
 use Rattle.varisat_theory.proofs.Implication.{implied_alone}
 use Rattle.varisat_theory.proofs.Learning.{follows_shorter}
-use Rattle.varisat_prop.specs.declared.prop.graph.Reason.{Reason}
 use Rattle.varisat_prop.specs.declared.prop.graph.Reason.TheVariants as reason
 use Rattle.varisat_prop.specs.Changes.{others_of}
-use Rattle.varisat_prop.specs.View.{View, clause_at, literal_at, node_of, node_at, level_of, StandsBefore, Implies, IsReason, WellFormed, Fits}
+use Rattle.varisat_prop.specs.View.{View, clause_at, literal_at, level_of, StandsBefore, Implies, IsReason, WellFormed, Fits}
 use Rattle.varisat_prop.proofs.Lits.{variable-opposite}
 use Rattle.varisat_prop.proofs.Distinct.{distinct-places}
-use Rattle.varisat_search.specs.Learned.{present_level, IsPresent}
 use Rattle.varisat_search.specs.Marks.{IsMarked, Marks, IsMinimized}
-use Rattle.varisat_search.specs.Redundancy.{IsImplied, IsReasoned, IsListed, IsFound}
+use Rattle.varisat_search.specs.Redundancy.{IsReasoned, IsFound}
 use Rattle.varisat_search.proofs.Adding.{take-grow}
+use Rattle.varisat_search.proofs.Searching.{reasoned-more}
 use Rattle.varisat_search.proofs.Standing.{level-opposite, true-same, fixed-implied}
 
 -- the literal is one of the clause from place i on
@@ -66,9 +64,6 @@ left-next c i m (j, a, b, e) =
     (λ (h : j ≤ i). let q : j ≡ i = omega (arith, a, h) in inl (sym e ∙ ap (λ x. get_or c x 0) q))
     (cases_lt i j)
 
-reasoned-same : (s : View) (f g : List Bool) (x : Literal) → ((v : ℕ) → IsMarked f v → IsMarked g v) → IsReasoned s f x → IsReasoned s g x
-reasoned-same s f g x h (r, e, k) = (r, e, λ m i. ⊎_elim inl (λ o. inr (h (variable_of m) o)) (k m i))
-
 -- the first k + 1 elements after a write at place k
 take-set-new : (xs : List ℕ) (k x : ℕ) → k < length xs → x ∈ take (suc k) (set xs k x)
 take-set-new [] k x h = absurd (omega arith)
@@ -112,7 +107,7 @@ minimizing-keep s c now f t k i m g u new h e n q a =
           (λ y. inl (old (opposite x) y))
           (λ y. ⊎_elim
           (λ v. ⊎_elim (λ b. inl (subst (λ p. p ∈ take (k + 1) (set now k m)) (sym (b ∙ sym is)) new-in)) (λ b. inr (inl b)) (left-next c i (opposite x) v))
-          (λ v. inr (inr (reasoned-same s f g x (λ p r. n.0 p ∙ r) v)))
+          (λ v. inr (inr (reasoned-more s f g x (λ p r. n.0 p ∙ r) v)))
           y)
           (a.explained x z (sym (n.0 (variable_of x)) ∙ o));
       cleaned = λ v o. subst (λ x. v ∈ x) (sym n.1) (a.cleaned v (sym (n.0 v) ∙ o));
@@ -153,7 +148,7 @@ minimizing-drop s c now f t k i m g u h e (l, r, n) q a = record {
       (λ y. ⊎_elim inl
       (λ v. ⊎_elim
       (λ b. ⊎_elim (λ p. inr (inr (subst (IsReasoned s g) (ap opposite (e ∙ a.rest i (omega arith) ∙ sym p) ∙ opposite_twice x) r))) (λ p. inr (inl p)) (left-next c i (opposite x) b))
-      (λ b. inr (inr (reasoned-same s f g x l.more b)))
+      (λ b. inr (inr (reasoned-more s f g x l.more b)))
       v)
       (a.explained x z y))
       (λ y. inr (inr y))

@@ -1,19 +1,19 @@
 -- The learned clause, from what each part of the analysis found.
-use Rattle.std.proofs.Common.{◌≡◌, ◌≢◌, ℕ, zero, suc, ◌+◌, ◌<◌, ◌≤◌, Bool, true, false, List, [], ◌∷◌, length, get_or, ◌⊎◌, inl, inr, ⊎_elim, refl, sym, ap, ◌∙◌, subst, arith}
+use Rattle.std.proofs.Common.{◌≡◌, ℕ, ◌+◌, ◌<◌, ◌≤◌, Bool, false, List, [], ◌∷◌, length, get_or, inl, inr, ⊎_elim, refl, sym, ap, ◌∙◌, subst, arith}
 use Rattle.std.proofs.lemmas.Bool.{cases_lt, cases_Bool}
-use Rattle.varisat_theory.specs.Membership.{◌∈◌, ◌⊆◌, SameSet, IsDistinct}
-use Rattle.varisat_theory.specs.Literals.{Literal, Clause, variable_of, opposite}
-use Rattle.varisat_theory.specs.Propagation.{Follows, Conflicts}
+use Rattle.varisat_theory.specs.Membership.{◌∈◌, SameSet, IsDistinct}
+use Rattle.varisat_theory.specs.Literals.{Literal, Clause, opposite}
+use Rattle.varisat_theory.specs.Propagation.{Follows}
 use Rattle.varisat_theory.proofs.Growth.{follows_more, covered_by_self}
 use Rattle.varisat_theory.proofs.Implication.{implied_false}
 use Rattle.varisat_theory.proofs.Members.{∈-or_not}
-use Rattle.varisat_theory.proofs.Places.{∈-get_or, place_in}
+use Rattle.varisat_theory.proofs.Places.{∈-get_or}
 use Rattle.varisat_theory.proofs.Values.{opposite_twice}
 use Rattle.varisat_prop.specs.View.{View, clause_at, literal_at, level_of, WellFormed, Fits}
 use Rattle.varisat_prop.proofs.Fronted.{IsFronted, fronted}
 use Rattle.std.specs.List.{swap}
 use Rattle.varisat_search.specs.Learned.{present_level, IsConflict, IsLevelOf, IsAsserting, IsLearned}
-use Rattle.varisat_search.specs.Marks.{IsMarked, Marks, IsResolved, IsMinimized}
+use Rattle.varisat_search.specs.Marks.{IsMarked, IsResolved, IsMinimized}
 use Rattle.varisat_search.proofs.Standing.{level-opposite, level-small, fixed-implied}
 
 -- a literal of the highest level was put first

@@ -1,12 +1,11 @@
 -- The search for what implies a literal to be false.
-use Rattle.std.proofs.Common.{◌≡◌, ◌≢◌, ℕ, zero, suc, ◌+◌, ◌-◌, ◌<◌, ◌≤◌, Bool, true, false, List, [], ◌∷◌, ◌++◌, length, get_or, set, take, take_all, drop, ◌⊎◌, inl, inr, ⊎_elim, refl, sym, ap, ◌∙◌, subst, arith, append_assoc, length-append, length-set, get_or-set_same, get_or-set_other}
+use Rattle.std.proofs.Common.{◌≡◌, ℕ, zero, suc, ◌+◌, ◌-◌, ◌<◌, ◌≤◌, Bool, true, false, List, [], ◌∷◌, ◌++◌, length, get_or, set, take, take_all, drop, ◌⊎◌, inl, inr, ⊎_elim, refl, sym, ap, ◌∙◌, subst, arith, append_assoc, length-append, get_or-set_same}
 use Rattle.std.proofs.lemmas.Bool.{cases_Bool}
-use Rattle.varisat_theory.specs.Membership.{◌∈◌, ◌⊆◌}
+use Rattle.varisat_theory.specs.Membership.{◌∈◌}
 use Rattle.varisat_theory.specs.Literals.{Literal, Clause, variable_of, opposite}
 use Rattle.varisat_theory.specs.Propagation.{IsFalse}
 use Rattle.varisat_theory.proofs.Members.{∈-append_left, ∈-append_right, ∈-append_cases, ∈-or_not}
 use Rattle.varisat_theory.proofs.Places.{∈-take_more}
-use Rattle.varisat_theory.proofs.Values.{opposite_twice}
 use Rattle.varisat_prop.specs.declared.prop.graph.Reason.{Reason}
 use Rattle.varisat_prop.specs.declared.prop.graph.Reason.TheVariants as reason
 use Rattle.varisat_prop.specs.declared.prop.graph.ImplNode.{ImplNode}
@@ -16,7 +15,7 @@ use Rattle.varisat_prop.proofs.Lits.{variable-opposite}
 use Rattle.varisat_prop.proofs.Growth.{append-nil}
 use Rattle.varisat_search.specs.Marks.{IsMarked}
 use Rattle.varisat_search.specs.Redundancy.{IsImplied, IsReasoned, unmarked, IsListed, Explores, IsFound}
-use Rattle.varisat_search.proofs.Adding.{take-grow, take-last, marked-old, marked-new}
+use Rattle.varisat_search.proofs.Adding.{marked-old, marked-new}
 use Rattle.varisat_search.proofs.Standing.{true-same, has-clause, inside-true, names-clause, causes-false}
 
 pub unmarked-set : (f : List Bool) (v : ℕ) → v < length f → get_or f v false ≡ false → unmarked f ≡ unmarked (set f v true) + 1
@@ -128,7 +127,7 @@ search-start s l f t r st h e q = record {
   start = inl (subst (λ y. opposite l ∈ y) (sym q) (inl refl));
 }
 
-reasoned-more : (s : View) (f g : List Bool) (x : Literal) → ((v : ℕ) → IsMarked f v → IsMarked g v) → IsReasoned s f x → IsReasoned s g x
+pub reasoned-more : (s : View) (f g : List Bool) (x : Literal) → ((v : ℕ) → IsMarked f v → IsMarked g v) → IsReasoned s f x → IsReasoned s g x
 reasoned-more s f g x h (r, e, k) = (r, e, λ m i. ⊎_elim inl (λ o. inr (h (variable_of m) o)) (k m i))
 
 module _ (s : View) (w : WellFormed s) (l : Literal) (f : List Bool) (t : List ℕ) (g : List Bool) (u : List ℕ) (st : List Literal) (x : Literal) (st' : List Literal) (a : Search s l f t g u st) (e : st ≡ st' ++ x ∷ []) where

@@ -1,20 +1,20 @@
 -- Places, variables and levels of a well-formed view.
-use Rattle.std.proofs.Common.{◌≡◌, ◌≢◌, ℕ, zero, suc, ◌+◌, ◌-◌, ◌<◌, ◌≤◌, List, [], ◌∷◌, length, get_or, take, ◌⊎◌, inl, inr, ⊎_elim, refl, sym, ap, ◌∙◌, subst, arith}
+use Rattle.std.proofs.Common.{◌≡◌, ℕ, zero, suc, ◌-◌, ◌<◌, ◌≤◌, List, [], ◌∷◌, length, get_or, take, ◌⊎◌, inl, inr, ⊎_elim, refl, sym, ap, ◌∙◌, subst, arith}
 use Rattle.std.proofs.lemmas.Bool.{cases_lt}
-use Rattle.varisat_theory.specs.Membership.{◌∈◌, ◌⊆◌, SameSet}
+use Rattle.varisat_theory.specs.Membership.{◌∈◌}
 use Rattle.varisat_theory.specs.Literals.{Literal, Clause, variable_of, opposite}
 use Rattle.varisat_theory.specs.Propagation.{IsFalse}
-use Rattle.varisat_theory.specs.Analysis.{Implied, Known, ByReason}
+use Rattle.varisat_theory.specs.Analysis.{Implied, ByReason}
 use Rattle.varisat_theory.proofs.Places.{∈-get_or, place_in}
 use Rattle.varisat_theory.proofs.Values.{opposite_twice}
 use Rattle.varisat_prop.specs.declared.prop.graph.Reason.{Reason}
 use Rattle.varisat_prop.specs.declared.prop.graph.Reason.TheVariants as reason
 use Rattle.varisat_prop.specs.declared.prop.graph.ImplNode.{ImplNode}
-use Rattle.varisat_prop.specs.View.{View, IsTrueIn, clause_at, literal_at, decision_at, no_node, node_of, node_at, level_of, StandsBefore, Implies, IsReason, WellFormed, LevelsSettled, Fits}
+use Rattle.varisat_prop.specs.View.{View, clause_at, literal_at, decision_at, no_node, node_of, node_at, level_of, StandsBefore, Implies, IsReason, WellFormed, LevelsSettled, Fits}
 use Rattle.varisat_prop.specs.Changes.{NamesClause, others_of, causes_of}
 use Rattle.varisat_prop.proofs.Lits.{same-variable, variable-opposite, made-clash, made-inside}
-use Rattle.varisat_prop.proofs.Looked.{on-trail, trail-true}
-use Rattle.varisat_search.specs.Learned.{present_level, IsPresent, IsConflict, clause_of, reason_clause}
+use Rattle.varisat_prop.proofs.Looked.{trail-true}
+use Rattle.varisat_search.specs.Learned.{present_level, IsConflict, clause_of, reason_clause}
 
 pub level-opposite : (s : View) (m : Literal) → level_of s (opposite m) ≡ level_of s m
 level-opposite s m = ap (λ v. (get_or s.nodes v no_node).level) (variable-opposite m)

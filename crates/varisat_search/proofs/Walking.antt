@@ -1,11 +1,10 @@
 -- The walk back over the trail, down to the first unique implication point.
-use Rattle.std.proofs.Common.{◌≡◌, ◌≢◌, ℕ, zero, suc, ◌+◌, ◌-◌, ◌^◌, ◌<◌, ◌≤◌, Bool, true, false, List, [], ◌∷◌, ◌++◌, length, get_or, set, take, take_all, drop, ◌⊎◌, inl, inr, ⊎_elim, refl, sym, ap, ◌∙◌, subst, arith, add-one, get_or-set_same, get_or-set_other}
+use Rattle.std.proofs.Common.{◌≡◌, ◌≢◌, ℕ, zero, suc, ◌+◌, ◌-◌, ◌^◌, ◌<◌, ◌≤◌, Bool, true, false, List, [], ◌∷◌, length, get_or, set, take, take_all, drop, ◌⊎◌, inl, inr, ⊎_elim, refl, sym, ap, ◌∙◌, subst, arith, add-one, get_or-set_same, get_or-set_other}
 use Rattle.std.proofs.lemmas.Bool.{cases_lt}
-use Rattle.varisat_theory.specs.Membership.{◌∈◌, ◌⊆◌, IsDistinct}
+use Rattle.varisat_theory.specs.Membership.{◌∈◌, IsDistinct}
 use Rattle.varisat_theory.specs.Literals.{Literal, Clause, variable_of, opposite}
-use Rattle.varisat_theory.specs.Propagation.{Follows, IsFalse}
-use Rattle.varisat_theory.specs.Analysis.{Implied, Reached, AtStart, InReason}
-use Rattle.varisat_theory.proofs.Members.{equal_or_not}
+use Rattle.varisat_theory.specs.Propagation.{IsFalse}
+use Rattle.varisat_theory.specs.Analysis.{AtStart, InReason}
 use Rattle.varisat_theory.proofs.Places.{∈-get_or, place_in}
 use Rattle.varisat_theory.proofs.Values.{opposite_twice}
 use Rattle.varisat_theory.proofs.Learning.{Pending, IsPassed, pending_start, pending_skip, pending_resolve, pending_end}
@@ -14,9 +13,9 @@ use Rattle.varisat_prop.specs.declared.prop.graph.Reason.TheVariants as reason
 use Rattle.varisat_prop.specs.Changes.{others_of}
 use Rattle.varisat_prop.specs.View.{View, clause_at, literal_at, decision_at, node_of, node_at, level_of, StandsBefore, Implies, IsReason, WellFormed, LevelsSettled, Fits}
 use Rattle.varisat_prop.proofs.Lits.{variable-opposite}
-use Rattle.varisat_search.specs.Learned.{present_level, IsPresent, IsConflict, clause_of, reason_clause, StandsBehind, IsReachedDownTo, IsImplicationPoint, IsFirstPoint}
-use Rattle.varisat_search.specs.Marks.{IsMarked, IsLower, Marks, is_open, open_below, one_if, AreFalseBefore, Adds, IsResolved}
-use Rattle.varisat_search.proofs.Standing.{inside-at, level-opposite, level-same, same-place, place-of, stands-∈, no-clash, true-same, false-same, level-small, reason-before, causes-before, has-late, fixed-implied, last-in}
+use Rattle.varisat_search.specs.Learned.{present_level, IsPresent, IsConflict, clause_of, reason_clause, IsReachedDownTo, IsImplicationPoint, IsFirstPoint}
+use Rattle.varisat_search.specs.Marks.{IsMarked, Marks, is_open, open_below, one_if, AreFalseBefore, Adds, IsResolved}
+use Rattle.varisat_search.proofs.Standing.{inside-at, level-opposite, level-same, same-place, place-of, stands-∈, no-clash, true-same, false-same, level-small, causes-before, has-late, fixed-implied, last-in}
 use Rattle.varisat_prop.proofs.Reordered.{trail-short}
 use Rattle.varisat_search.proofs.Opening.{count-small, open-is, open-level, open-marked, closed-unmarked, open-same, count-same, count-none, count-some}
 
@@ -41,23 +40,23 @@ pub record Walk (s : View) (cf : ℕ) (c : Clause) (f : List Bool) (t : List ℕ
 -- what is reached from further down is reached from further up too
 pub reached-down : (s : View) (cf p q : ℕ) (x : Literal) → q ≤ p → IsReachedDownTo s cf p x → IsReachedDownTo s cf q x
 reached-down s cf p q x l (AtStart h) = AtStart h
-reached-down s cf p q x l (InReason y r (j, a, b, e) o) = InReason y (reached-down s cf p q y l r) (j, omega (arith, a, l), b, e) o
+reached-down s cf p q x l (InReason y r (j, a, b, e) o n) = InReason y (reached-down s cf p q y l r) (j, omega (arith, a, l), b, e) o n
 
 module _ (s : View) (w : WellFormed s) (cf : ℕ) where
   -- a literal is reached over reasons of later literals alone
   pub reached-sharp : (p k : ℕ) (x : Literal) → IsReachedDownTo s cf p x → k < length s.trail → literal_at s k ≡ x → p ≤ k → IsReachedDownTo s cf k x
   reached-sharp p k x (AtStart h) l e b = AtStart h
-  reached-sharp p k x (InReason y r (j, a, pr, e') o) l e b =
+  reached-sharp p k x (InReason y r (j, a, pr, e') o n) l e b =
       let xt : x ∈ s.trail = subst (λ z. z ∈ s.trail) e (∈-get_or s.trail k 0 l) in
       let (k', d, e'') = causes-before s w j x pr.0 xt (subst (λ z. opposite x ∈ reason_clause s z) (sym e') o) in
       let jl = pr.0 in
       let q : k' ≡ k = same-place s w k' k (omega (arith, d, jl)) l (ap variable_of (e'' ∙ sym e)) in
       let kj : k < j = omega (arith, q, d) in
-      InReason y (reached-down s cf j k y (omega (arith, kj)) (reached-sharp p j y r pr.0 e' (omega (arith, a)))) (j, kj, pr, e') o
+      InReason y (reached-down s cf j k y (omega (arith, kj)) (reached-sharp p j y r pr.0 e' (omega (arith, a)))) (j, kj, pr, e') o n
 
   pub reached-marked : (c : Clause) (f : List Bool) (t : List ℕ) (count i : ℕ) → Walk s cf c f t count i → (p k : ℕ) (x : Literal) → i ≤ p + 1 → IsReachedDownTo s cf p x → literal_at s k ≡ x → k < i → IsPresent s k → IsMarked f (variable_of (literal_at s k))
   reached-marked c f t count i u p k x l (AtStart h) e a b = u.start k a b (subst (λ z. opposite z ∈ clause_at s cf) (sym e) h)
-  reached-marked c f t count i u p k x l (InReason y r (j, d, pr, e') o) e a b =
+  reached-marked c f t count i u p k x l (InReason y r (j, d, pr, e') o n) e a b =
       let r' : IsReachedDownTo s cf j (literal_at s j) = subst (IsReachedDownTo s cf j) (sym e') (reached-sharp p j y r pr.0 e' (omega (arith, d))) in
       u.passed j k (omega (arith, l, d)) pr r' a b (subst (λ z. opposite (literal_at s k) ∈ reason_clause s z) (sym e') (subst (λ z. opposite z ∈ reason_clause s y) (sym e) o))
 
@@ -333,7 +332,8 @@ module _ (s : View) (w : WellFormed s) (cf : ℕ) where
               let (q, v) = join (clause_at s r) why.1 x y in
               let l : opposite x ≡ literal_at s k = true-same s w (opposite x) (literal_at s k) (stands-∈ s w j (opposite x) (omega (arith, at)) v) (∈-get_or s.trail k 0 b.0) (variable-opposite x ∙ z) in
               InReason (literal_at s j) (reached-here p (omega (arith, i))) (j, i, present-here, refl)
-              (subst (λ z. opposite (literal_at s k) ∈ z) (sym clause-is) (subst (λ z. z ∈ clause_at s r) (sym (opposite_twice x) ∙ ap opposite l) q)))
+              (subst (λ z. opposite (literal_at s k) ∈ z) (sym clause-is) (subst (λ z. z ∈ clause_at s r) (sym (opposite_twice x) ∙ ap opposite l) q))
+              (not-opposite k b))
               (a.only (variable_of (literal_at s k)) m);
           start = λ k i b m. kept k i (u.start k (omega (arith, i)) b m);
           passed = λ j' k i pr re b o m. ⊎_elim
@@ -360,12 +360,15 @@ module _ (s : View) (w : WellFormed s) (cf : ℕ) where
             marks-now : Marks s j c' f' t'
             marks-now = a.marks j false-before (omega (arith, at)) marks-here
 
+            not-opposite : (k : ℕ) → IsPresent s k → opposite (literal_at s k) ≢ literal_at s j
+            not-opposite k o e = no-clash s w (literal_at s k) (∈-get_or s.trail k 0 o.0) (subst (λ x. x ∈ s.trail) (sym e) (∈-get_or s.trail j 0 at))
+
             kept : (k : ℕ) → k < j → IsMarked f (variable_of (literal_at s k)) → IsMarked f' (variable_of (literal_at s k))
             kept k i m = a.more (variable_of (literal_at s k)) (still (variable_of (literal_at s k)) (other-place k i) m)
 
             added : (k : ℕ) → IsPresent s k → opposite (literal_at s k) ∈ clause_at s r → IsMarked f' (variable_of (literal_at s k))
             added k o m = ⊎_elim
-                (λ z. absurd (no-clash s w (literal_at s k) (∈-get_or s.trail k 0 o.0) (subst (λ x. x ∈ s.trail) (sym z) (∈-get_or s.trail j 0 at))))
+                (λ z. absurd (not-opposite k o z))
                 (λ z. subst (IsMarked f') (variable-opposite (literal_at s k)) (a.all (opposite (literal_at s k)) z (let x = level-opposite s (literal_at s k) in let y = o.1 in omega (arith, x, y, d))))
                 (split (clause_at s r) why.1 (opposite (literal_at s k)) m)
 

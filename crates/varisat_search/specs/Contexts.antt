@@ -1,5 +1,5 @@
 -- The context as its view, and what is kept of it between calls.
-use Rattle.std.specs.Prelude.{◌≡◌, ℕ, ◌*◌, true, false, [], length}
+use Rattle.std.specs.Prelude.{◌≡◌, ◌*◌, true, false, length}
 use Rattle.varisat_prop.specs.View.{View, view_of, WellFormed, LevelsSettled}
 use Rattle.varisat_search.specs.declared.state.SatState.TheVariants as verdict
 use Rattle.varisat_search.specs.declared.state.SolverState.{SolverState}

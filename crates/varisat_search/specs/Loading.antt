@@ -1,6 +1,6 @@
 -- What becomes of a clause's distinct literals.
-use Rattle.std.specs.Prelude.{◌≡◌, List, [], ◌∷◌, ◌++◌, ◌⊎◌}
-use Rattle.varisat_theory.specs.Literals.{Literal, Clause, opposite}
+use Rattle.std.specs.Prelude.{◌≡◌, [], ◌∷◌, ◌++◌, ◌⊎◌}
+use Rattle.varisat_theory.specs.Literals.{Clause, opposite}
 use Rattle.varisat_prop.specs.declared.prop.graph.Reason.TheVariants as reason
 use Rattle.varisat_prop.specs.View.{View, IsTrueIn}
 use Rattle.varisat_prop.specs.Changes.{enqueued}

@@ -1,11 +1,11 @@
 -- Which literals of a clause the others imply to be false, as the search for them marks it.
 use Rattle.std.specs.Prelude.{◌≡◌, ℕ, ◌+◌, ◌<◌, ◌⊎◌, Bool, true, false, List, [], ◌∷◌, ◌++◌, slice_index_or, length}
 use Rattle.varisat_theory.specs.Membership.{◌∈◌, ◌⊆◌}
-use Rattle.varisat_theory.specs.Literals.{Literal, Clause, opposite, variable_of}
+use Rattle.varisat_theory.specs.Literals.{Literal, opposite, variable_of}
 use Rattle.varisat_prop.specs.declared.prop.graph.Reason.TheVariants as reason
 use Rattle.varisat_prop.specs.Changes.{others_of}
 use Rattle.varisat_prop.specs.View.{View, clause_at, node_of, level_of}
-use Rattle.varisat_search.specs.Marks.{IsMarked, one_if}
+use Rattle.varisat_search.specs.Marks.{IsMarked}
 
 -- the literal is true, and a clause is its reason
 abbrev pub IsImplied : View → Literal → Type 0

@@ -37,7 +37,7 @@ module _ (P : List Clause) (start : Clause) (reason : Literal → Clause) (Resol
   reached_below h w (suc n) l b r =
       ⊎_elim
       (λ i. Known i)
-      (λ o. ⊎_elim (λ s. let e = h l s in ByReason (reason l) e.0 e.1 (λ m i d. let lt = e.2 m i d in reached_below h w n (opposite m) (omega arith) (InReason l r s (subst (λ y. y ∈ reason l) (sym (opposite_twice m)) i)))) (λ k. implied_alone P base l k) o)
+      (λ o. ⊎_elim (λ s. let e = h l s in ByReason (reason l) e.0 e.1 (λ m i d. let lt = e.2 m i d in reached_below h w n (opposite m) (omega arith) (InReason l r s (subst (λ y. y ∈ reason l) (sym (opposite_twice m)) i) (λ e. d (sym (opposite_twice m) ∙ e))))) (λ k. implied_alone P base l k) o)
       (w l r)
 
   -- each literal that is reached is implied by the base

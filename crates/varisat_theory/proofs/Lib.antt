@@ -8,6 +8,7 @@ pub mod Sound
 pub mod Forms
 pub mod Saturated
 pub mod Learning
+pub mod Example
 pub mod Held
 pub mod Lines
 pub mod Dropping

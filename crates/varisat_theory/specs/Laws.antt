@@ -1,11 +1,12 @@
 -- The laws that the functions of `laws` state.
-use Rattle.std.specs.Prelude.{◌≡◌, ◌≢◌, ℕ, suc, ◌+◌, ◌-◌, ◌*◌, ◌^◌, ◌<◌, ◌≤◌, Bool, true, false, List, [], ◌∷◌, ◌++◌, ◌⊎◌, ◌↔◌, length, map}
+use Rattle.std.specs.Prelude.{◌≡◌, ◌≢◌, ℕ, suc, ◌+◌, ◌-◌, ◌*◌, ◌^◌, ◌<◌, ◌≤◌, Bool, true, false, nat_eq, List, [], ◌∷◌, ◌++◌, ◌⊎◌, ◌↔◌, length, map}
 use Rattle.varisat_theory.specs.Membership.{◌∈◌, ◌⊆◌, SameSet, IsDistinct}
 use Rattle.varisat_theory.specs.Literals.{Literal, Clause, Assignment, opposite, opposites, Satisfies, SatisfiesAll, MakesTrue, IsSatisfiable, IsSatisfiableWith, Entails, IsUnit, IsFailedCore}
 use Rattle.varisat_theory.specs.Propagation.{IsFalse, HasFalse, PropagatesToConflict, Conflicts, Follows, IsCoveredBy, IsComplete, IsSaturated}
 use Rattle.varisat_theory.specs.Derivations.{Line, TakesOut, IsPresentAfter, IsDerivation, Refutes, Derives}
 use Rattle.varisat_theory.specs.Held.{SameClauses, SameLines, without}
 use Rattle.varisat_theory.specs.Analysis.{Implied, IsTrail, HasEarlierReasons, EndsIn, MarksAreReasoned}
+use Rattle.varisat_theory.specs.Example.{small_clauses, small_conflict, small_reason, small_resolved, small_learned, small_assumption, small_core}
 use Rattle.varisat_theory.specs.Renaming.{KeepsOpposites, IsOneToOneOn, IsWithin, rename, rename_line, named_back}
 use Rattle.varisat_theory.specs.Rank.{rank, with_units}
 use Rattle.varisat_theory.specs.Luby.{luby, sum_from, saturated, restart_point, walk_at}
@@ -147,6 +148,10 @@ ResolventFollows = (P : List Clause) (c reason d : Clause) (l : Literal) → Fol
 abbrev pub LearnedFollows : Type 0
 LearnedFollows = (P : List Clause) (conflict : Clause) (reason : Literal → Clause) (resolved : Literal → Bool) (place : Literal → ℕ) (learned : Clause) → HasEarlierReasons P reason (λ k. resolved k ≡ true) place → EndsIn P conflict reason (λ k. resolved k ≡ true) (opposites learned) → conflict ∈ P → Follows P learned
 
+-- the premises of that law can be met: on a small conflict they hold with 2 and 5 resolved, and so [-4 -1] follows
+abbrev pub LearnedOnExample : Type 0
+LearnedOnExample = HasEarlierReasons small_clauses small_reason (λ k. small_resolved k ≡ true) (λ l. l) × EndsIn small_clauses small_conflict small_reason (λ k. small_resolved k ≡ true) (opposites small_learned) × (small_conflict ∈ small_clauses) × Follows small_clauses small_learned
+
 -- what minimization keeps of a clause that follows does so too
 abbrev pub MinimizedFollows : Type 0
 MinimizedFollows = (P : List Clause) (c kept : Clause) (marked : Literal → Bool) (reason : Literal → Clause) (place : Literal → ℕ) → MarksAreReasoned P kept (λ k. marked k ≡ true) reason place → ((m : Literal) → m ∈ c → marked (opposite m) ≡ true) → Follows P c → Follows P kept
@@ -162,6 +167,10 @@ ImpliedFollows = (P : List Clause) (l : Literal) → Implied P [] l → Follows 
 -- a false assumption conflicts with the assumptions that the reasons of its opposite lead back to
 abbrev pub CoreConflicts : Type 0
 CoreConflicts = (P : List Clause) (l : Literal) (reason : Literal → Clause) (resolved : Literal → Bool) (place : Literal → ℕ) (core : List Literal) → l ∈ core → HasEarlierReasons P reason (λ k. resolved k ≡ true) place → EndsIn P (l ∷ []) reason (λ k. resolved k ≡ true) core → Conflicts P core
+
+-- the premises of that law can be met: over the same clauses they hold for the assumption -4 with 4 resolved, and so -4 and 3 conflict
+abbrev pub CoreOnExample : Type 0
+CoreOnExample = (small_assumption ∈ small_core) × HasEarlierReasons small_clauses small_reason (λ k. nat_eq k 6 ≡ true) (λ l. l) × EndsIn small_clauses (small_assumption ∷ []) small_reason (λ k. nat_eq k 6 ≡ true) small_core × Conflicts small_clauses small_core
 
 -- literals conflict exactly where the clause of their opposites follows
 abbrev pub CoreFollows : Type 0

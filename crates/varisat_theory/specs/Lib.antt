@@ -4,6 +4,7 @@ pub mod Propagation
 pub mod Derivations
 pub mod Held
 pub mod Analysis
+pub mod Example
 pub mod Renaming
 pub mod Luby
 pub mod Rank

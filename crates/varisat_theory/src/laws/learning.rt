@@ -1,6 +1,6 @@
 // What conflict analysis, minimization and cores rest on.
 
-ghost use Rattle.varisat_theory.specs.Laws.{CompletenessStays, CoreConflicts, CoreFails, CoreFollows, ImpliedFollows, ImpliedIsKnown, LearnedFollows, LearnedIsNew, MinimizedFollows, ResolventFollows, ShorterFollows, TrailConflicts};
+ghost use Rattle.varisat_theory.specs.Laws.{CompletenessStays, CoreConflicts, CoreFails, CoreFollows, CoreOnExample, ImpliedFollows, ImpliedIsKnown, LearnedFollows, LearnedIsNew, LearnedOnExample, MinimizedFollows, ResolventFollows, ShorterFollows, TrailConflicts};
 
 /// What is implied may be taken as known. The others here are uses of this law.
 pub fn implied_is_known()
@@ -22,6 +22,11 @@ pub fn learned_follows()
     ensures { LearnedFollows }
 {}
 
+/// The premises of that law can be met: on a small conflict they are.
+pub fn learned_on_example()
+    ensures { LearnedOnExample }
+{}
+
 /// What minimization keeps follows.
 pub fn minimized_follows()
     ensures { MinimizedFollows }
@@ -40,6 +45,11 @@ pub fn implied_follows()
 /// A core conflicts with the clauses.
 pub fn core_conflicts()
     ensures { CoreConflicts }
+{}
+
+/// The premises of that law can be met too.
+pub fn core_on_example()
+    ensures { CoreOnExample }
 {}
 
 /// The clause of the opposites of a core's literals follows.

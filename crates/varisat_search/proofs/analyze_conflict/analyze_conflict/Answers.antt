@@ -1,11 +1,7 @@
-use Rattle.std.proofs.Common.{◌≡◌, ◌≢◌, ℕ, suc, ◌+◌, ◌-◌, ◌*◌, ◌<◌, ◌≤◌, Bool, true, false, List, [], ◌∷◌, ◌++◌, ◌⊎◌, inl, inr, length, get_or, set, take, drop, length-set, refl, sym, ap, ◌∙◌, subst, arith}
-use Rattle.varisat_theory.specs.Membership.{◌∈◌}
-use Rattle.varisat_theory.specs.Literals.{Literal, variable_of, opposite}
-use Rattle.varisat_theory.specs.Propagation.{IsFalse}
-use Rattle.varisat_prop.proofs.Clauses.{element, item-∈}
+use Rattle.std.proofs.Common.{refl, sym, ◌∙◌}
 use Rattle.varisat_prop.specs.Changes.{place_of}
 use Rattle.varisat_prop.specs.View.{view_of}
-use Rattle.varisat_search.proofs.Results.{learned-at-zero, none-left}
+use Rattle.varisat_search.proofs.Results.{learned-at-zero}
 use Rattle.varisat_search.proofs.analyze_conflict.analyze_conflict.Goals as goal
 
 pub returns-then-current_level-eq0-clause-learned : goal.returns-then-current_level-eq0-clause-learned

@@ -1,8 +1,4 @@
-use Rattle.std.proofs.Common.{◌≡◌, ◌≢◌, ℕ, suc, ◌+◌, ◌-◌, ◌*◌, ◌<◌, ◌≤◌, Bool, true, false, List, [], ◌∷◌, ◌++◌, ◌⊎◌, inl, inr, length, get_or, set, take, drop, length-set, refl, sym, ap, ◌∙◌, subst, arith}
-use Rattle.varisat_theory.specs.Membership.{◌∈◌}
-use Rattle.varisat_theory.specs.Literals.{Literal, variable_of, opposite}
-use Rattle.varisat_theory.specs.Propagation.{IsFalse}
-use Rattle.varisat_prop.proofs.Clauses.{element, item-∈}
+use Rattle.std.proofs.Common.{◌≡◌, ◌-◌, ◌≤◌, [], ◌∷◌, ◌++◌, length, take, drop, ap, ◌∙◌, subst, arith}
 use Rattle.varisat_search.specs.Redundancy.{Explores}
 use Rattle.varisat_search.proofs.Standing.{reason-read, read-inside}
 use Rattle.varisat_search.proofs.Searching.{search-begin, search-inside, search-names, search-falsified, search-next, search-listed, listed-inside, listed-long, listed-cleared, search-found, part-is, empty-list}

@@ -1,8 +1,3 @@
-use Rattle.std.proofs.Common.{◌≡◌, ◌≢◌, ℕ, suc, ◌+◌, ◌-◌, ◌*◌, ◌<◌, ◌≤◌, Bool, true, false, List, [], ◌∷◌, ◌++◌, ◌⊎◌, inl, inr, length, get_or, set, take, drop, length-set, refl, sym, ap, ◌∙◌, subst, arith}
-use Rattle.varisat_theory.specs.Membership.{◌∈◌}
-use Rattle.varisat_theory.specs.Literals.{Literal, variable_of, opposite}
-use Rattle.varisat_theory.specs.Propagation.{IsFalse}
-use Rattle.varisat_prop.proofs.Clauses.{element, item-∈}
 use Rattle.varisat_prop.specs.Changes.{place_of}
 use Rattle.varisat_search.proofs.Standing.{inside}
 use Rattle.varisat_search.proofs.Results.{learned-follows, learned-asserting}

@@ -1,6 +1,5 @@
-use Rattle.std.proofs.Common.{◌≡◌, ◌≢◌, ℕ, suc, ◌+◌, ◌-◌, ◌%◌, ◌<◌, ◌≤◌, ◌^◌, Bool, true, false, List, [], ◌∷◌, ◌++◌, ◌⊎◌, inl, inr, length, get_or, set, take, drop, refl, sym, ap, ◌∙◌, subst, arith}
-use Rattle.varisat_theory.specs.Membership.{◌∈◌}
-use Rattle.varisat_theory.specs.Literals.{variable_of, opposite}
+use Rattle.std.proofs.Common.{◌≡◌, ◌<◌, true, false, ◌⊎◌, inl, inr, length, get_or, refl, sym, ◌∙◌, subst, arith}
+use Rattle.varisat_theory.specs.Literals.{variable_of}
 use Rattle.varisat_prop.proofs.Clauses.{element, item-∈}
 use Rattle.varisat_prop.specs.View.{level_of}
 use Rattle.varisat_search.proofs.Standing.{read-inside, inside, level-read, reason-read}

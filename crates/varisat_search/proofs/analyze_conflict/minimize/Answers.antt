@@ -1,8 +1,5 @@
-use Rattle.std.proofs.Common.{◌≡◌, ◌≢◌, ℕ, suc, ◌+◌, ◌-◌, ◌*◌, ◌<◌, ◌≤◌, Bool, true, false, List, [], ◌∷◌, ◌++◌, ◌⊎◌, inl, inr, length, get_or, set, take, drop, length-set, refl, sym, ap, ◌∙◌, subst, arith}
-use Rattle.varisat_theory.specs.Membership.{◌∈◌}
-use Rattle.varisat_theory.specs.Literals.{Literal, variable_of, opposite}
-use Rattle.varisat_theory.specs.Propagation.{IsFalse}
-use Rattle.varisat_prop.proofs.Clauses.{element, item-∈}
+use Rattle.std.proofs.Common.{◌≡◌, ◌+◌, ◌<◌, length, get_or, set, sym, ap, ◌∙◌, subst, arith}
+use Rattle.varisat_prop.proofs.Clauses.{element}
 use Rattle.varisat_search.specs.Redundancy.{IsFound}
 use Rattle.varisat_search.proofs.Minimizing.{Minimizing, minimizing-start, minimizing-keep, minimizing-drop, minimizing-end, minimizing-false}
 use Rattle.varisat_search.proofs.analyze_conflict.minimize.Goals as goal

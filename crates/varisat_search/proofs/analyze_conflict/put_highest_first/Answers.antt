@@ -1,9 +1,6 @@
-use Rattle.std.proofs.Common.{◌≡◌, ◌≢◌, ℕ, suc, ◌+◌, ◌-◌, ◌%◌, ◌<◌, ◌≤◌, ◌^◌, Bool, true, false, List, [], ◌∷◌, ◌++◌, ◌⊎◌, inl, inr, length, get_or, set, take, drop, refl, sym, ap, ◌∙◌, subst, arith}
-use Rattle.varisat_theory.specs.Membership.{◌∈◌}
-use Rattle.varisat_theory.specs.Literals.{variable_of, opposite}
+use Rattle.std.proofs.Common.{ℕ, ◌<◌, ◌≤◌, length, get_or, ap, ◌∙◌, subst, arith}
 use Rattle.varisat_prop.proofs.Clauses.{element, item-∈}
 use Rattle.varisat_prop.specs.View.{level_of}
-use Rattle.varisat_prop.proofs.Fronted.{IsFronted}
 use Rattle.varisat_search.proofs.Standing.{level-read}
 use Rattle.varisat_search.proofs.Results.{fronted-now, level-fronted}
 use Rattle.varisat_search.proofs.analyze_conflict.put_highest_first.Goals as goal

@@ -1,12 +1,8 @@
-use Rattle.std.proofs.Common.{◌≡◌, ◌≢◌, ℕ, suc, ◌+◌, ◌-◌, ◌*◌, ◌<◌, ◌≤◌, Bool, true, false, List, [], ◌∷◌, ◌++◌, ◌⊎◌, inl, inr, length, get_or, set, take, drop, length-set, refl, sym, ap, ◌∙◌, subst, arith}
-use Rattle.varisat_theory.specs.Membership.{◌∈◌}
-use Rattle.varisat_theory.specs.Literals.{Literal, variable_of, opposite}
+use Rattle.std.proofs.Common.{◌≡◌, ◌+◌, ◌-◌, ◌<◌, ◌≤◌, false, [], length, get_or, take, drop, length-set, refl, sym, ap, ◌∙◌, subst, arith}
 use Rattle.varisat_theory.specs.Propagation.{IsFalse}
-use Rattle.varisat_prop.proofs.Clauses.{element, item-∈}
+use Rattle.varisat_prop.proofs.Clauses.{element}
 use Rattle.varisat_prop.specs.Changes.{place_of, others_of}
-use Rattle.varisat_prop.specs.View.{clause_at}
 use Rattle.varisat_prop.proofs.Reordered.{trail-short}
-use Rattle.varisat_search.specs.Learned.{present_level}
 use Rattle.varisat_search.specs.Marks.{Adds}
 use Rattle.varisat_search.proofs.Standing.{reason-read}
 use Rattle.varisat_search.proofs.Walking.{Walk, walk-start, walk-positive, walk-small, part-others, unit-left, read-inside-flags, read-skip, read-end, read-unit, read-clause, read-resolve}

@@ -1,4 +1,4 @@
-use Rattle.std.proofs.Common.{◌≡◌, ◌<◌, length, MatchResult, sym, ap, ◌∙◌, subst}
+use Rattle.std.proofs.Common.{MatchResult, sym, subst}
 use Rattle.varisat_theory.specs.Propagation.{IsComplete}
 use Rattle.varisat_prop.specs.Changes.{place_of}
 use Rattle.varisat_search.specs.Learned.{IsConflict}

@@ -1,9 +1,9 @@
-use Rattle.std.proofs.Common.{◌≡◌, ℕ, ◌*◌, ◌<◌, ◌≤◌, length, Result, MatchResult, sym, ap, ◌∙◌, subst, arith}
-use Rattle.varisat_prop.specs.View.{View, view_of, Grows}
+use Rattle.std.proofs.Common.{◌*◌, length, sym, ap, ◌∙◌, subst, arith}
+use Rattle.varisat_prop.specs.View.{view_of, Grows}
 use Rattle.varisat_prop.proofs.Growth.{grows-refl, grows-trans, grows-longer}
 use Rattle.varisat_search.specs.declared.context.Context.{Context}
 use Rattle.varisat_search.specs.Contexts.{view, IsReady}
-use Rattle.varisat_search.proofs.Finding.{Finding, finding-propagated, finding-decided, decided-longer, not-err}
+use Rattle.varisat_search.proofs.Finding.{finding-propagated, finding-decided, decided-longer, not-err}
 use Rattle.varisat_search.proofs.cdcl.find_conflict.Goals as goal
 
 pub returns-in-Err-clause-ready : goal.returns-in-Err-clause-ready

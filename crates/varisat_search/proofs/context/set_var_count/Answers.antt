@@ -1,6 +1,6 @@
-use Rattle.std.proofs.Common.{◌≡◌, ℕ, ◌+◌, ◌*◌, ◌-◌, ◌≤◌, None, false, ◌++◌, length, replicate, sym, ap, ◌∙◌, arith, length-append}
+use Rattle.std.proofs.Common.{◌≡◌, ◌*◌, ◌-◌, None, false, ◌++◌, length, replicate, sym, ap, ◌∙◌, arith, length-append}
 use Rattle.std.proofs.lemmas.List.{length-replicate}
-use Rattle.varisat_prop.specs.View.{View, no_node}
+use Rattle.varisat_prop.specs.View.{no_node}
 use Rattle.varisat_search.specs.Contexts.{view}
 use Rattle.varisat_search.proofs.Grown.{grown-result}
 use Rattle.varisat_search.proofs.context.set_var_count.Goals as goal

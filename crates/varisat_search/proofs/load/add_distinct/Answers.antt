@@ -1,6 +1,5 @@
-use Rattle.std.proofs.Common.{◌≡◌, ◌≤◌, [], ◌∷◌, inr, inl, length, get_or, None, refl, sym, ap, ◌∙◌, subst, arith}
+use Rattle.std.proofs.Common.{inr, inl, refl, sym, ◌∙◌, subst, arith}
 use Rattle.varisat_theory.specs.Membership.{◌∈◌}
-use Rattle.varisat_theory.specs.Literals.{Literal, opposite}
 use Rattle.varisat_prop.specs.View.{view_of}
 use Rattle.varisat_prop.proofs.Lits.{made-none}
 use Rattle.varisat_search.specs.Contexts.{view}

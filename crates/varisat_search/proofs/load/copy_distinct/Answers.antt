@@ -1,5 +1,5 @@
-use Rattle.std.proofs.Common.{◌≡◌, ◌++◌, ◌∷◌, [], take, take_all, refl, sym, ap, ◌∙◌, subst}
-use Rattle.varisat_theory.specs.Membership.{◌∈◌, SameSet, IsDistinct}
+use Rattle.std.proofs.Common.{take_all, sym, subst}
+use Rattle.varisat_theory.specs.Membership.{◌∈◌, SameSet}
 use Rattle.varisat_theory.proofs.Scans.{refused, granted}
 use Rattle.varisat_prop.proofs.Clauses.{element}
 use Rattle.varisat_search.proofs.Copies.{copied-more, copied-same}

@@ -1,4 +1,4 @@
-use Rattle.std.proofs.Common.{◌≡◌, ℕ, take}
+use Rattle.std.proofs.Common.{take}
 use Rattle.varisat_theory.specs.Membership.{◌∈◌}
 use Rattle.varisat_search.proofs.load.holds.Given as goal
 

@@ -1,4 +1,4 @@
-use Rattle.std.proofs.Common.{◌≡◌, take_all, refl, sym, ap, ◌∙◌, subst, ⊎_elim}
+use Rattle.std.proofs.Common.{take_all, refl, sym, ap, ◌∙◌, subst, ⊎_elim}
 use Rattle.varisat_theory.specs.Membership.{◌∈◌}
 use Rattle.varisat_theory.specs.Literals.{opposite}
 use Rattle.varisat_theory.proofs.Places.{∈-take_more}

@@ -1,21 +1,35 @@
-"""The programs that are compared, and what a run of one takes."""
+"""The programs that are compared, the machine they run on, and what a run of one takes."""
 import os
+import platform
+import re
+import resource
 import shutil
+import signal
 import subprocess
 import sys
+import tempfile
 import time
 from dataclasses import dataclass
+from typing import Callable, Optional
 
 ROOT = os.path.dirname(os.path.dirname(os.path.abspath(__file__)))
 # Each tool that is not ours, and the Debian package that has it.
 PACKAGES = {"minisat": "minisat", "cadical": "cadical", "/usr/bin/time": "time"}
+SATISFIABLE = 10
 UNSATISFIABLE = 20
+
+
+def untold(output):
+    """For a program that does not tell its conflicts."""
+    return None
 
 
 @dataclass
 class Program:
     name: str
     command: list
+    # From what a run printed, how many conflicts it came to, or None.
+    conflicts_of: Callable = untold
 
 
 @dataclass
@@ -26,13 +40,29 @@ class Taken:
     processor: float
 
 
+@dataclass
+class Decided:
+    """What a run came to: SATISFIABLE, UNSATISFIABLE, or None past the limit."""
+
+    verdict: Optional[int]
+    conflicts: Optional[int]
+    taken: Taken
+
+
 def stop(why):
     print(f"bench: {why}", file=sys.stderr)
     sys.exit(2)
 
 
-def check_tools():
-    missing = [package for tool, package in PACKAGES.items() if not shutil.which(tool)]
+def machine():
+    with open("/proc/cpuinfo", encoding="utf-8") as file:
+        models = [line.partition(":")[2].strip() for line in file if line.startswith("model name")]
+    load = os.getloadavg()[0]
+    return f"{len(models)} x {models[0] if models else platform.processor()}, Linux {platform.release()}, load {load:.1f}"
+
+
+def check_tools(*tools):
+    missing = [PACKAGES[tool] for tool in tools if not shutil.which(tool)]
     if missing:
         stop(f"missing: {', '.join(missing)}. On Debian: apt-get update; apt-get install -y {' '.join(missing)}")
 
@@ -43,10 +73,14 @@ def build_ours():
         stop("./varisat was not built")
 
 
-def all_programs():
-    ours = f"{ROOT}/crates/varisat_cli/out/varisat_cli"
+def ours():
+    return Program("varisat", [f"{ROOT}/crates/varisat_cli/out/varisat_cli", "solve"])
+
+
+def readers():
+    """The programs whose reading is compared."""
     return [
-        Program("varisat", [ours, "solve"]),
+        ours(),
         Program("minisat", ["minisat", "-verb=0"]),
         # Without its preprocessing it keeps no lists for that while it reads.
         Program("minisat -no-pre", ["minisat", "-verb=0", "-no-pre"]),
@@ -54,20 +88,52 @@ def all_programs():
     ]
 
 
+def minisat_conflicts(output):
+    line = re.search(r"^conflicts +: (\d+)", output, re.MULTILINE)
+    return int(line[1]) if line else None
+
+
+def learning_minisat():
+    """The program whose search ours is compared with. It prints its conflicts, and searches without preprocessing."""
+    return Program("minisat", ["minisat", "-verb=1", "-no-pre"], minisat_conflicts)
+
+
 def must_be(status, wanted, program):
     if status != wanted:
         stop(f"{program.name} ended with status {status}, not {wanted}")
 
 
-def measure(program, path, status):
-    """Runs the program on the file, and sees that it ends with the status."""
+def run_once(program, path, output, limit=None):
+    """Runs the program on the file, and gives its status and what it took. It is killed past the limit, in whole seconds of the processor."""
     started = time.perf_counter()
-    child = subprocess.Popen([*program.command, path], stdout=subprocess.DEVNULL, stderr=subprocess.DEVNULL)
+    child = subprocess.Popen([*program.command, path], stdout=output, stderr=subprocess.DEVNULL)
+    if limit is not None:
+        resource.prlimit(child.pid, resource.RLIMIT_CPU, (limit, limit))
     _, ended, usage = os.wait4(child.pid, 0)
     wall = time.perf_counter() - started
     child.returncode = os.waitstatus_to_exitcode(ended)
-    must_be(child.returncode, status, program)
-    return Taken(wall, usage.ru_utime + usage.ru_stime)
+    return child.returncode, Taken(wall, usage.ru_utime + usage.ru_stime)
+
+
+def measure(program, path, status):
+    """Runs the program on the file, and sees that it ends with the status."""
+    ended, taken = run_once(program, path, subprocess.DEVNULL)
+    must_be(ended, status, program)
+    return taken
+
+
+def decide(program, path, limit):
+    """Runs the program on the file, and sees that it decides the formula, or is killed past the limit."""
+    with tempfile.TemporaryFile("w+", encoding="utf-8") as output:
+        status, taken = run_once(program, path, output, limit)
+        output.seek(0)
+        conflicts = program.conflicts_of(output.read())
+    # The times that are told are rounded, so that one at the limit may seem just below it.
+    if status == -signal.SIGKILL and taken.processor > 0.99 * limit:
+        return Decided(None, None, taken)
+    if status not in (SATISFIABLE, UNSATISFIABLE):
+        stop(f"{program.name} ended with status {status} on {os.path.basename(path)}, and decided nothing")
+    return Decided(status, conflicts, taken)
 
 
 def peak_memory(program, path, status):

@@ -1,6 +1,5 @@
 """How long reading a formula takes, and how much memory."""
 import os
-import platform
 import statistics
 import tempfile
 
@@ -18,13 +17,6 @@ AIM = 2.0
 
 def add_arguments(command):
     command.add_argument("--repetitions", type=int, default=11, help="runs of each program at each size (11)")
-
-
-def machine():
-    with open("/proc/cpuinfo", encoding="utf-8") as file:
-        models = [line.partition(":")[2].strip() for line in file if line.startswith("model name")]
-    load = os.getloadavg()[0]
-    return f"{len(models)} x {models[0] if models else platform.processor()}, Linux {platform.release()}, load {load:.1f}"
 
 
 def time_all(every, path, repetitions):
@@ -59,10 +51,10 @@ def print_size(every, path, literals, repetitions):
 
 
 def run(arguments):
-    programs.check_tools()
+    programs.check_tools(*programs.PACKAGES)
     programs.build_ours()
-    every = programs.all_programs()
-    print(machine())
+    every = programs.readers()
+    print(programs.machine())
     print(f"the median of {arguments.repetitions} runs; each program reads the file, and an empty clause at its end leaves nothing to search")
     ratios = []
     with tempfile.TemporaryDirectory() as folder:

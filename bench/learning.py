@@ -1,0 +1,140 @@
+"""How long deciding formulas takes where it matters to learn."""
+import argparse
+import datetime
+import statistics
+import sys
+import tempfile
+
+import formulas
+import programs
+
+SUMMARY = "times deciding ten small hard formulas beside minisat"
+LIMIT = 60
+REPETITIONS = 5
+# Seconds below which a run is repeated, since its time is uncertain.
+SHORT = 1.0
+# Seeds and sizes that make one of a pair satisfiable, and give minisat hundreds of conflicts at least.
+FORMULAS = {
+    "pigeonhole-7": lambda: formulas.pigeonhole(7),
+    "pigeonhole-8": lambda: formulas.pigeonhole(8),
+    "random-4.00-sat": lambda: formulas.random_3_sat(120, 480, 11),
+    "random-4.00-unsat": lambda: formulas.random_3_sat(120, 480, 12),
+    "random-4.26-sat": lambda: formulas.random_3_sat(120, 511, 5),
+    "random-4.26-unsat": lambda: formulas.random_3_sat(120, 511, 9),
+    "colouring-sat": lambda: formulas.colouring(200, 460, 3, 2),
+    "colouring-unsat": lambda: formulas.colouring(200, 460, 3, 1),
+    "counter-sat": lambda: formulas.counter(6, 50, 50),
+    "counter-unsat": lambda: formulas.counter(6, 50, 51),
+}
+VERDICTS = {programs.SATISFIABLE: "sat", programs.UNSATISFIABLE: "unsat", None: "-"}
+# The columns of a row: what stands above each, in two lines, and where it is aligned.
+COLUMNS = [
+    ("", "formula", "<18"),
+    ("", "variables", ">9"),
+    ("", "clauses", ">8"),
+    ("varisat", "verdict", ">8"),
+    ("", "ms", ">10"),
+    ("minisat", "verdict", ">8"),
+    ("", "ms", ">10"),
+    ("ours /", "theirs", ">9"),
+    ("conflicts", "ours", ">10"),
+    ("", "theirs", ">9"),
+    ("ours, ms a", "conflict of theirs", ">19"),
+]
+
+
+def positive(text):
+    number = int(text)
+    if number < 1:
+        raise argparse.ArgumentTypeError("has to be at least 1")
+    return number
+
+
+def add_arguments(command):
+    command.add_argument("--limit", type=positive, default=LIMIT, metavar="SECONDS", help=f"seconds of the processor for a run ({LIMIT})")
+    command.add_argument("--only", action="append", choices=FORMULAS, metavar="NAME", help=f"this formula, and others named so: {', '.join(FORMULAS)}")
+    command.add_argument("--repetitions", type=positive, default=REPETITIONS, help=f"runs of each program on each formula, where they take less than {SHORT:.0f} s ({REPETITIONS})")
+
+
+def decide_all(every, path, limit, repetitions):
+    """For each program its run with the median time. They run in turn, so that what else the machine does slows each alike."""
+    runs = {program.name: [] for program in every}
+    for _ in range(repetitions):
+        for program in every:
+            if all(run.taken.processor < SHORT for run in runs[program.name]):
+                runs[program.name].append(programs.decide(program, path, limit))
+    return [sorted(done, key=lambda run: run.taken.processor)[len(done) // 2] for done in runs.values()]
+
+
+def print_row(cells):
+    aligned = [f"{cell:{place}}" for cell, (_, _, place) in zip(cells, COLUMNS)]
+    print(" ".join(aligned).rstrip(), flush=True)
+
+
+def time_told(run, limit):
+    return f"> {limit} s" if run.verdict is None else f"{run.taken.processor * 1e3:,.1f}"
+
+
+def number_told(number, form):
+    return "-" if number is None else f"{number:{form}}"
+
+
+def ratio_of(ours, theirs):
+    """How our time stands to theirs, or None where one did not decide."""
+    if ours.verdict is None or theirs.verdict is None:
+        return None
+    return ours.taken.processor / theirs.taken.processor
+
+
+def time_per_conflict(ours, theirs):
+    """Our milliseconds for each conflict of theirs, or None where one did not decide or there was no conflict."""
+    if ratio_of(ours, theirs) is None or not theirs.conflicts:
+        return None
+    return ours.taken.processor * 1e3 / theirs.conflicts
+
+
+def print_formula(name, formula, ours, theirs, limit):
+    """Prints the row of a formula."""
+    cells = [name, f"{formula.variables:,}", f"{len(formula.clauses):,}"]
+    for run in ours, theirs:
+        cells += [VERDICTS[run.verdict], time_told(run, limit)]
+    cells.append(number_told(ratio_of(ours, theirs), ",.2f"))
+    cells += [number_told(run.conflicts, ",") for run in (ours, theirs)]
+    cells.append(number_told(time_per_conflict(ours, theirs), ",.3f"))
+    print_row(cells)
+
+
+def print_end(results):
+    """Prints what all rows come to, and gives the status."""
+    if any(ours.verdict and ours.conflicts is None for ours, _ in results.values()):
+        print("our conflicts: -, since the program does not tell them")
+    ratios = [ratio for ratio in (ratio_of(*runs) for runs in results.values()) if ratio is not None]
+    if ratios:
+        print(f"ours / theirs, the geometric mean over {len(ratios)} of {len(results)} formulas, which both decided: {statistics.geometric_mean(ratios):,.2f}")
+    else:
+        print("both decided none of the formulas")
+    status = 0
+    for name, (ours, theirs) in results.items():
+        if len({ours.verdict, theirs.verdict} - {None}) > 1:
+            print(f"bench: {name}: varisat says {VERDICTS[ours.verdict]}, minisat {VERDICTS[theirs.verdict]}", file=sys.stderr)
+            status = 1
+    return status
+
+
+def run(arguments):
+    programs.check_tools("minisat")
+    programs.build_ours()
+    every = [programs.ours(), programs.learning_minisat()]
+    print(f"{datetime.date.today()}, {programs.machine()}")
+    print(f"the median of {arguments.repetitions} runs, or of one where a run takes {SHORT:.0f} s; times are the processor's; minisat runs with -no-pre\n")
+    print_row([above for above, _, _ in COLUMNS])
+    print_row([below for _, below, _ in COLUMNS])
+    results = {}
+    with tempfile.TemporaryDirectory() as folder:
+        for name in (name for name in FORMULAS if not arguments.only or name in arguments.only):
+            formula, path = FORMULAS[name](), f"{folder}/{name}.cnf"
+            formulas.write(path, formula)
+            results[name] = decide_all(every, path, arguments.limit, arguments.repetitions)
+            print_formula(name, formula, *results[name], arguments.limit)
+    print()
+    return print_end(results)

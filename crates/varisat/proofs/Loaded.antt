@@ -1,7 +1,7 @@
 -- What loading a clause says of the accepted clauses.
-use Rattle.std.proofs.Common.{◌≡◌, ◌≢◌, ◌≤◌, List, [], ◌∷◌, ◌++◌, ◌⊎◌, ⊎_elim, inl, inr, length, refl, sym, ap, ◌∙◌, subst, arith}
+use Rattle.std.proofs.Common.{◌≡◌, ◌≢◌, ◌≤◌, List, [], ◌∷◌, ◌++◌, ⊎_elim, inl, inr, length, refl, sym, ◌∙◌, subst, arith}
 use Rattle.varisat_theory.specs.Membership.{◌∈◌, ◌⊆◌, IsDistinct}
-use Rattle.varisat_theory.specs.Literals.{Literal, Clause, opposite, IsUnit, SatisfiesAll, IsSatisfiable}
+use Rattle.varisat_theory.specs.Literals.{Literal, Clause, opposite, IsUnit, IsSatisfiable}
 use Rattle.varisat_theory.specs.Propagation.{Conflicts}
 use Rattle.varisat_theory.proofs.Members.{∈-append_cases, ∈-append_left, ∈-append_right}
 use Rattle.varisat_theory.proofs.Assigned.{satisfies_more, satisfies_fewer}

@@ -1,4 +1,4 @@
-use Rattle.std.proofs.Common.{◌≡◌, ◌∙◌, ⊎_elim, ap, sym, subst}
+use Rattle.std.proofs.Common.{◌∙◌, ⊎_elim, ap, sym, subst}
 use Rattle.varisat_search.specs.declared.state.SolverState.{SolverState}
 use Rattle.varisat_search.specs.Contexts.{view}
 use Rattle.varisat_search.specs.Steps.{StepGives}

@@ -1,6 +1,5 @@
-use Rattle.std.proofs.Common.{◌≡◌, ◌∙◌, not, inr, refl, sym, ap, arith, true, false}
+use Rattle.std.proofs.Common.{◌∙◌, not, inr, refl, sym, ap, arith, true}
 use Rattle.varisat_search.specs.declared.state.SolverState.{SolverState}
-use Rattle.varisat_search.specs.Contexts.{view}
 use Rattle.varisat.specs.States.{Ledger}
 use Rattle.varisat.specs.Searches.{found}
 use Rattle.varisat.proofs.Named.{rest-all, count-above, count-within}

@@ -1,12 +1,8 @@
-use Rattle.std.proofs.Common.{◌≡◌, ◌∙◌, Bool, true, false, not, refl, sym, ap, subst, Some}
-use Rattle.std.specs.Prelude.{MatchBool}
-use Rattle.varisat_theory.specs.Literals.{SatisfiesAll, IsSatisfiable}
-use Rattle.varisat_search.specs.declared.state.SatState.TheVariants as outcome
+use Rattle.std.proofs.Common.{◌≡◌, ◌∙◌, true, not, refl, sym, ap, subst}
 use Rattle.varisat_search.specs.declared.state.SolverState.{SolverState}
 use Rattle.varisat_search.specs.Contexts.{view}
-use Rattle.varisat_search.specs.Steps.{assignment_of}
-use Rattle.varisat.specs.States.{Ledger, IsRight}
-use Rattle.varisat.specs.Searches.{Holds, found, verdict_of}
+use Rattle.varisat.specs.States.{IsRight}
+use Rattle.varisat.specs.Searches.{found, verdict_of}
 use Rattle.varisat.specs.Summaries.{VerdictFits}
 use Rattle.varisat.specs.Calls.{with_verdict}
 use Rattle.varisat.proofs.Kept.{is-sat, is-unknown, sat-model, decided, search-true}

@@ -94,11 +94,6 @@ becomes-unknown outcome.UnsatUnderAssumptions b v n f = absurd f
 pub not-unsat : (x : SatState) (b : Assignment) (v : Verdict) → (x ≡ outcome.Unsat → ⊥) → VerdictFits x b v → v ≢ Unsat
 not-unsat x b v n f e = let k = becomes-unknown x b v n f in let q : Unsat ≡ Unknown = ap with_clause (sym e) ∙ k in cc
 
-pub is-unsat : (b : Assignment) (v : Verdict) → VerdictFits outcome.Unsat b v → v ≡ Unsat
-is-unsat b Unknown f = absurd f
-is-unsat b (Sat a) f = absurd f
-is-unsat b Unsat f = refl
-
 pub is-unknown : (b : Assignment) (v : Verdict) → VerdictFits outcome.Unknown b v → v ≡ Unknown
 is-unknown b Unknown f = refl
 is-unknown b (Sat a) f = absurd f

@@ -30,7 +30,7 @@ loop-place-preserved g c =
     let below : k < length s.trail = omega (arith, c.loop-place-test.true, n) in
     let tr : c.trail.result.now ≡ s.trail = c.trail.ensures ∙ ap (λ x. x.trail.literals) c.loop-place.invariant.kept in
     let e : c.index-trail-place.result ≡ literal_at s k = element s.trail k c.index-trail-place.result below (c.index-trail-place.is ∙ ap (λ xs. get_or xs k c.index-trail-place.result) tr) in
-    let v : c.release_var.new.self.current ≡ set t.values (variable_of c.index-trail-place.result) None = ap (λ x. x.current) c.release_var.ensures ∙ ap (λ x. set t.values x None) c.var.ensures in
+    let v : c.release_var.new.self.current ≡ set t.values (variable_of c.index-trail-place.result) None = ap (λ x. x.current) c.release_var.ensures.released ∙ ap (λ x. set t.values x None) c.var.ensures in
     record {
       cutting = subst (λ a. Cutting s (record t { values = a }) c.level_end-end.result (k + 1)) (sym v) (cutting-step s t c.level_end-end.result k c.index-trail-place.result c.requires c.loop-place.auto.place below e c.loop-place.invariant.cutting);
       kept = ap (λ (x : Context g.row.A.Denot). record x { assignment = c.release_var.new.self }) c.loop-place.invariant.kept;

@@ -1,4 +1,5 @@
 pub mod Cut
+pub mod Saving
 pub mod Settled
 pub mod Kept
 pub mod Grown

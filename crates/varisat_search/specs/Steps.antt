@@ -1,5 +1,5 @@
 -- What going back, deciding, a step and loading a clause do.
-use Rattle.std.specs.Prelude.{◌≡◌, ◌≢◌, ℕ, ◌<◌, ◌≤◌, None, List, [], ◌∷◌, ◌++◌, length, take, slice_index_or, ◌⊎◌}
+use Rattle.std.specs.Prelude.{◌≡◌, ◌≢◌, ℕ, ◌<◌, ◌≤◌, Bool, false, Some, None, List, [], ◌∷◌, ◌++◌, length, take, slice_index_or, ◌⊎◌}
 use Rattle.varisat_theory.specs.Membership.{◌∈◌, ◌⊆◌}
 use Rattle.varisat_theory.specs.Literals.{Literal, Clause, Assignment, variable_of, opposite, IsUnit, SatisfiesAll}
 use Rattle.varisat_theory.specs.Propagation.{Conflicts}
@@ -20,6 +20,12 @@ pub record IsCut (s t : View) (level : ℕ) : Type 0 where
   pub count : length t.values ≡ length s.values
   pub gone : (v : ℕ) → LeavesFrom s (decision_at s level) v → slice_index_or t.values v None ≡ None
   pub stays : (v : ℕ) → (LeavesFrom s (decision_at s level) v → ⊥) → slice_index_or t.values v None ≡ slice_index_or s.values v None
+
+-- Going back saves the values: each variable that leaves the trail has the value that it had as its last, and each other one keeps its last.
+pub record Saves (s : View) (level : ℕ) (old new : List Bool) : Type 0 where
+  pub count : length new ≡ length old
+  pub left : (v : ℕ) → LeavesFrom s (decision_at s level) v → slice_index_or s.values v None ≡ Some (slice_index_or new v false)
+  pub stays : (v : ℕ) → (LeavesFrom s (decision_at s level) v → ⊥) → slice_index_or new v false ≡ slice_index_or old v false
 
 -- a literal that may be decided
 abbrev pub IsFree : View → Literal → Type 0

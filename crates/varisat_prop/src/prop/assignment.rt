@@ -1,5 +1,5 @@
 //! The partial assignment, and the value that each variable had last.
-ghost use Rattle.std.specs.Prelude.{◌≡◌, ◌<◌, ◌≤◌, ◌↔◌, ◌++◌, ◌-◌, IsTrue, [], length, replicate, slice_index_or, slice_set, Option, Some, None, true, false, OnOk};
+ghost use Rattle.std.specs.Prelude.{◌≡◌, ◌<◌, ◌≤◌, ◌↔◌, ◌++◌, ◌-◌, IsTrue, [], length, replicate, slice_index_or, slice_set, Option, Some, None, true, false, OnOk, OnErr};
 ghost use Rattle.varisat_theory.specs.Literals.{variable_of, opposite};
 ghost use Rattle.varisat_formula.specs.Numbers.{polarity_of};
 ghost use Rattle.varisat_prop.specs.Parts.{IsMadeTrue, value_in, no_values, is_true_value};
@@ -16,14 +16,14 @@ pub struct Assignment<A: Allocator + Copy> {
 }
 
 impl<A: Allocator + Copy> Model for Assignment<A> {
-    ghost use Rattle.std.specs.Prelude.{◌≤◌, length};
+    ghost use Rattle.std.specs.Prelude.{◌≡◌, length};
     ghost use Rattle.varisat_prop.specs.Parts.{Values};
 
     ghost Value = { Values };
 
     ghost view = { λ a. record { current = a.assignment.items; last = a.last_value.items } };
 
-    ghost invariant = { λ a. length a.assignment.items ≤ length a.last_value.items };
+    ghost invariant = { λ a. length a.last_value.items ≡ length a.assignment.items };
 }
 
 impl<A: Allocator + Copy> Assignment<A> {
@@ -37,13 +37,19 @@ impl<A: Allocator + Copy> Assignment<A> {
         }
     }
 
-    /// Raises the count of variables. The new ones have no value, and had the value false.
+    /// Raises the count of variables. The new ones have no value, and had the value false. A refused growth changes nothing.
     pub fn set_var_count(&mut self, count: usize) -> Result<(), AllocError>
         requires { length self.old.current ≤ count }
-        ensures { OnOk result (self.new.current ≡ self.old.current ++ replicate (count - length self.old.current) None) }
+        ensures current { OnOk result (self.new.current ≡ self.old.current ++ replicate (count - length self.old.current) None) }
+        ensures last { OnOk result (self.new.last ≡ self.old.last ++ replicate (count - length self.old.current) false) }
+        ensures refused { OnErr result (self.new ≡ self.old) }
     {
-        self.last_value.resize(count, false)?;
+        let old_count = self.assignment.len();
         self.assignment.resize(count, None)?;
+        if let Err(error) = self.last_value.resize(count, false) {
+            self.assignment.truncate(old_count);
+            return Err(error);
+        }
         Ok(())
     }
 
@@ -57,7 +63,8 @@ impl<A: Allocator + Copy> Assignment<A> {
     /// Takes the variable's value away, and remembers it as the last.
     pub fn release_var(&mut self, var: Var)
         requires { var < length self.old.current }
-        ensures { self.new ≡ record { current = slice_set self.old.current var None; last = slice_set self.old.last var (is_true_value (slice_index_or self.old.current var None)) } }
+        ensures count { length self.old.last ≡ length self.old.current }
+        ensures released { self.new ≡ record { current = slice_set self.old.current var None; last = slice_set self.old.last var (is_true_value (slice_index_or self.old.current var None)) } }
     {
         self.last_value[var.index()] = self.assignment[var.index()] == Some(true);
         self.unassign_var(var);

@@ -34,3 +34,14 @@ fn longer_clauses(rt: HostRuntime) -> Result<(), Fail> {
     assert_eq!(rt; ctx.clause_alloc.len(), 2);
     Ok(())
 }
+
+#[test]
+fn clauses_of_three_literals(rt: HostRuntime) -> Result<(), Fail> {
+    let mut ctx = Context::new_in(rt.alloc());
+    set_var_count(&mut ctx, 5)?;
+    load_clause(&mut ctx, &lits![1, 2, 3])?;
+    load_clause(&mut ctx, &lits![-2, 3, 3, 4])?;
+    load_clause(&mut ctx, &lits![4, -5, 5, 2])?;
+    assert_eq!(rt; ctx.clause_alloc.len(), 2);
+    Ok(())
+}

@@ -13,7 +13,7 @@ returns-clause-ready g c =
     let vs = c.set_var_count-2.new.self.current in
     let ns = c.set_var_count-3.new.self.nodes.items in
     let e : record s { values = vs; nodes = ns } ≡ record s { values = s.values ++ replicate (count - length s.values) None; nodes = s.nodes ++ replicate (count - length s.nodes) no_node } =
-    ap (λ a. record s { values = a; nodes = ns }) c.in_ok-set_var_count-2.ensures ∙ ap (λ b. record s { values = s.values ++ replicate (count - length s.values) None; nodes = b }) c.in_ok-set_var_count-3.ensures in
+    ap (λ a. record s { values = a; nodes = ns }) c.in_ok-set_var_count-2.ensures.current ∙ ap (λ b. record s { values = s.values ++ replicate (count - length s.values) None; nodes = b }) c.in_ok-set_var_count-3.ensures in
     let r = grown-result s (record s { values = vs; nodes = ns }) count c.requires.ready.well c.requires.ready.settled c.requires.raised c.requires.small e in
     let fl = ap (λ xs. length xs) c.in_ok-set_var_count-4.ensures in
     let a = length-append x.tmp_flags.flags.items (replicate (2 * count - length x.tmp_flags.flags.items) false) in
@@ -36,6 +36,6 @@ returns-clause-fits g c =
     let vs = c.set_var_count-2.new.self.current in
     let ns = c.set_var_count-3.new.self.nodes.items in
     let e : record s { values = vs; nodes = ns } ≡ record s { values = s.values ++ replicate (count - length s.values) None; nodes = s.nodes ++ replicate (count - length s.nodes) no_node } =
-    ap (λ a. record s { values = a; nodes = ns }) c.in_ok-set_var_count-2.ensures ∙ ap (λ b. record s { values = s.values ++ replicate (count - length s.values) None; nodes = b }) c.in_ok-set_var_count-3.ensures in
+    ap (λ a. record s { values = a; nodes = ns }) c.in_ok-set_var_count-2.ensures.current ∙ ap (λ b. record s { values = s.values ++ replicate (count - length s.values) None; nodes = b }) c.in_ok-set_var_count-3.ensures in
     let r = grown-result s (record s { values = vs; nodes = ns }) count c.requires.ready.well c.requires.ready.settled c.requires.raised c.requires.small e in
     r.3

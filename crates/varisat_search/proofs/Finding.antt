@@ -1,7 +1,8 @@
 -- How a search comes to a conflict or a model.
-use Rattle.std.proofs.Common.{◌≡◌, ℕ, ◌<◌, ◌≤◌, Bool, true, false, Result, Ok, Err, MatchResult, [], ◌∷◌, length, refl, sym, ap, subst, arith, length-append}
+use Rattle.std.proofs.Common.{◌≡◌, ℕ, ◌+◌, ◌*◌, ◌%◌, ◌<◌, ◌≤◌, Bool, true, false, Result, Ok, Err, MatchResult, [], ◌∷◌, length, refl, sym, ap, subst, eq-eqb, ne_eqb, arith, length-append}
 use Rattle.varisat_theory.specs.Literals.{Literal, variable_of, literal_of}
 use Rattle.varisat_theory.specs.Propagation.{IsComplete}
+use Rattle.varisat_formula.specs.Numbers.{polarity_of}
 use Rattle.varisat_prop.specs.View.{View, WellFormed, LevelsSettled, Grows}
 use Rattle.varisat_prop.specs.Changes.{decided_on}
 use Rattle.varisat_prop.specs.Looks.{Propagates}
@@ -41,3 +42,7 @@ not-err (Err e) A B n h = absurd (n e refl)
 pub variable-literal : (v : ℕ) (b : Bool) → variable_of (literal_of v b) ≡ v
 variable-literal v true = omega arith
 variable-literal v false = omega arith
+
+pub polarity-literal : (v : ℕ) (b : Bool) → polarity_of (literal_of v b) ≡ b
+polarity-literal v true = eq-eqb ((2 * v) % 2) 0 (omega arith)
+polarity-literal v false = ne_eqb ((2 * v + 1) % 2) 0 (λ e. absurd (omega (arith, e)))

@@ -1,6 +1,7 @@
 //! The choice of a literal to decide.
-ghost use Rattle.std.specs.Prelude.{◌≡◌, ◌≢◌, ℕ, ◌<◌, ◌≤◌, ◌^◌, None, length, slice_index_or, OnOk, IfOk, MatchOption, MatchBool};
-ghost use Rattle.varisat_theory.specs.Literals.{Literal};
+ghost use Rattle.std.specs.Prelude.{◌≡◌, ◌≢◌, ℕ, ◌<◌, ◌≤◌, ◌^◌, None, false, length, slice_index_or, OnOk, IfOk, MatchOption, MatchBool};
+ghost use Rattle.varisat_theory.specs.Literals.{Literal, variable_of};
+ghost use Rattle.varisat_formula.specs.Numbers.{polarity_of};
 ghost use Rattle.varisat_prop.specs.View.{WellFormed};
 ghost use Rattle.varisat_prop.specs.Changes.{decided_on};
 ghost use Rattle.varisat_search.specs.Contexts.{view};
@@ -31,8 +32,9 @@ fn unassigned_var<A: Allocator + Copy>(assignment: &Assignment<A>) -> Option<Var
 pub fn make_decision<A: Allocator + Copy>(ctx: &mut Context<A>) -> Result<bool, AllocError>
     requires { WellFormed (view ctx.old) }
     ensures decided { IfOk result (λ made. MatchBool made
-        ((l : Literal) × IsFree (view ctx.old) l × (view ctx.new ≡ decided_on (view ctx.old) l))
+        ((l : Literal) × IsFree (view ctx.old) l × (view ctx.new ≡ decided_on (view ctx.old) l) × (polarity_of l ≡ slice_index_or ctx.old.assignment.last (variable_of l) false))
         ((ctx.new ≡ ctx.old) × IsTotal (view ctx.old))) }
+    ensures last { OnOk result (ctx.new.assignment.last ≡ ctx.old.assignment.last) }
     ensures kept { OnOk result (ctx.new ≡ record ctx.old { assignment = ctx.new.assignment; impl_graph = ctx.new.impl_graph; trail = ctx.new.trail }) }
 {
     let Some(var) = unassigned_var(&ctx.assignment) else {

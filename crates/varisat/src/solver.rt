@@ -5,7 +5,7 @@ ghost use Rattle.varisat.specs.Calls.{IsPastLimit};
 ghost use Rattle.varisat.specs.Counts.{count_with, list_values};
 ghost use Rattle.varisat.specs.Searches.{found};
 
-use crate::load::accept_clause;
+use crate::accept::accept_clause;
 use crate::search::search;
 use std::alloc::{AllocError, Allocator};
 use std::marker::Model;
@@ -268,19 +268,17 @@ impl<W: ProofTarget, A: Allocator + Copy> Solver<W, A> {
         if self.ctx.solver_state.state_is_invalid {
             return Err(SolverError::Invalid);
         }
+        self.ctx.solver_state.solver_invoked = true;
         match self.ctx.solver_state.sat_state {
             SatState::Sat => Ok(true),
             SatState::Unsat | SatState::UnsatUnderAssumptions => Ok(false),
-            SatState::Unknown => {
-                self.ctx.solver_state.solver_invoked = true;
-                match search(&mut self.ctx) {
-                    Ok(found) => Ok(found),
-                    Err(_) => {
-                        self.ctx.solver_state.state_is_invalid = true;
-                        Err(SolverError::OutOfMemory)
-                    }
+            SatState::Unknown => match search(&mut self.ctx) {
+                Ok(found) => Ok(found),
+                Err(_) => {
+                    self.ctx.solver_state.state_is_invalid = true;
+                    Err(SolverError::OutOfMemory)
                 }
-            }
+            },
         }
     }
 

@@ -259,7 +259,7 @@ fn is_redundant<A: Allocator + Copy>(
 fn levels_of<A: Allocator + Copy>(clause: &[Lit], impl_graph: &ImplGraph<A>) -> LevelAbstraction
     requires { (m : ℕ) → m ∈ clause.now → variable_of m < length impl_graph.now.nodes.items }
 {
-    let mut levels = LevelAbstraction::new();
+    let mut levels = LevelAbstraction::default();
     for lit in clause {
         levels.add(impl_graph.level(lit.var()));
     }

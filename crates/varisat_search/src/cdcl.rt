@@ -47,6 +47,8 @@ fn find_conflict<A: Allocator + Copy>(
         (λ _. IsComplete ctx.new.clause_alloc ctx.new.trail.literals × IsTotal (view ctx.new))
         (λ conflict. IsConflict (view ctx.new) (place_of (conflict_of conflict)))) }
     ensures state { OnOk result (ctx.new.solver_state ≡ ctx.old.solver_state) }
+    ensures last { OnOk result (ctx.new.assignment.last ≡ ctx.old.assignment.last) }
+    ensures units { OnOk result (ctx.new.trail.units_removed ≡ ctx.old.trail.units_removed) }
 {
     'levels: loop {
         let propagated = propagate(
@@ -118,6 +120,7 @@ fn learn<A: Allocator + Copy>(ctx: &mut Context<A>, conflict: Conflict) -> Resul
     ensures ready { OnOk result (IsReady ctx.new) }
     ensures gives { OnOk result (StepGives (view ctx.old) (view ctx.new) ctx.new.solver_state.sat_state) }
     ensures count { OnOk result (length ctx.new.assignment.current ≡ length ctx.old.assignment.current) }
+    ensures units { OnOk result (ctx.new.trail.units_removed ≡ ctx.old.trail.units_removed) }
     ensures state { OnOk result (ctx.new.solver_state ≡ record ctx.old.solver_state { sat_state = ctx.new.solver_state.sat_state }) }
 {
     let level = analyze(ctx, conflict)?;
@@ -144,6 +147,7 @@ pub fn conflict_step<A: Allocator + Copy>(ctx: &mut Context<A>) -> Result<(), Al
     ensures ready { OnOk result (IsReady ctx.new) }
     ensures gives { OnOk result (StepGives (view ctx.old) (view ctx.new) ctx.new.solver_state.sat_state) }
     ensures count { OnOk result (length ctx.new.assignment.current ≡ length ctx.old.assignment.current) }
+    ensures units { OnOk result (ctx.new.trail.units_removed ≡ ctx.old.trail.units_removed) }
     ensures state { OnOk result (ctx.new.solver_state ≡ record ctx.old.solver_state { sat_state = ctx.new.solver_state.sat_state }) }
 {
     match find_conflict(ctx)? {

@@ -35,6 +35,7 @@ pub fn make_decision<A: Allocator + Copy>(ctx: &mut Context<A>) -> Result<bool, 
         ((l : Literal) × IsFree (view ctx.old) l × (view ctx.new ≡ decided_on (view ctx.old) l) × (polarity_of l ≡ slice_index_or ctx.old.assignment.last (variable_of l) false))
         ((ctx.new ≡ ctx.old) × IsTotal (view ctx.old))) }
     ensures last { OnOk result (ctx.new.assignment.last ≡ ctx.old.assignment.last) }
+    ensures units { OnOk result (ctx.new.trail.units_removed ≡ ctx.old.trail.units_removed) }
     ensures kept { OnOk result (ctx.new ≡ record ctx.old { assignment = ctx.new.assignment; impl_graph = ctx.new.impl_graph; trail = ctx.new.trail }) }
 {
     let Some(var) = unassigned_var(&ctx.assignment) else {

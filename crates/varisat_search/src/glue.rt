@@ -18,6 +18,18 @@ impl Model for LevelAbstraction {
     ghost view = { λ a. a.bits };
 }
 
+impl Default for LevelAbstraction {
+    ghost use Rattle.std.specs.Prelude.{ℕ};
+    ghost use Rattle.varisat_search.specs.Levels.{MayHold};
+
+    ghost is_default = { λ a. (level : ℕ) → MayHold a level → ⊥ };
+
+    /// No levels.
+    fn default() -> LevelAbstraction {
+        LevelAbstraction::new()
+    }
+}
+
 impl LevelAbstraction {
     /// No levels.
     pub fn new() -> LevelAbstraction

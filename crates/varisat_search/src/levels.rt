@@ -14,6 +14,7 @@ pub fn backtrack<A: Allocator + Copy>(ctx: &mut Context<A>, level: usize)
     ensures cut { level < length ctx.old.trail.decisions → IsCut (view ctx.old) (view ctx.new) level }
     ensures saved { level < length ctx.old.trail.decisions → Saves (view ctx.old) level ctx.old.assignment.last ctx.new.assignment.last }
     ensures queue { level < length ctx.old.trail.decisions → ctx.new.trail.queue_head ≡ slice_index ctx.old.trail.decisions level }
+    ensures units { ctx.new.trail.units_removed ≡ ctx.old.trail.units_removed }
     ensures kept { ctx.new ≡ record ctx.old { assignment = ctx.new.assignment; trail = ctx.new.trail } }
 {
     if level >= ctx.trail.current_level() {
@@ -34,6 +35,8 @@ pub fn full_restart<A: Allocator + Copy>(ctx: &mut Context<A>)
     ensures cut { 0 < length ctx.old.trail.decisions → IsCut (view ctx.old) (view ctx.new) 0 }
     ensures saved { 0 < length ctx.old.trail.decisions → Saves (view ctx.old) 0 ctx.old.assignment.last ctx.new.assignment.last }
     ensures undecided { ctx.new.trail.decisions ≡ [] }
+    ensures queue { 0 < length ctx.old.trail.decisions → ctx.new.trail.queue_head ≡ slice_index ctx.old.trail.decisions 0 }
+    ensures units { ctx.new.trail.units_removed ≡ ctx.old.trail.units_removed }
     ensures kept { ctx.new ≡ record ctx.old { assignment = ctx.new.assignment; trail = ctx.new.trail } }
 {
     backtrack(ctx, 0);

@@ -79,6 +79,7 @@ fn add_distinct<A: Allocator + Copy>(ctx: &mut Context<A>) -> Result<(), AllocEr
     requires untrue { (l : Literal) → l ∈ ctx.old.tmp_data.lits.items → IsMadeTrue ctx.old.assignment.current l → ⊥ }
     ensures kept { OnOk result (ctx.new ≡ record ctx.old { assignment = ctx.new.assignment; clause_alloc = ctx.new.clause_alloc; impl_graph = ctx.new.impl_graph; solver_state = ctx.new.solver_state; trail = ctx.new.trail }) }
     ensures state { OnOk result (ctx.new.solver_state ≡ record ctx.old.solver_state { sat_state = ctx.new.solver_state.sat_state }) }
+    ensures units { OnOk result (ctx.new.trail.units_removed ≡ ctx.old.trail.units_removed) }
     ensures added { OnOk result (IsAdded (view ctx.old) (view ctx.new) ctx.old.tmp_data.lits.items ctx.old.solver_state.sat_state ctx.new.solver_state.sat_state) }
 {
     let Some(first) = first_of(&ctx.tmp_data.lits) else {
@@ -116,6 +117,7 @@ pub fn load_clause<A: Allocator + Copy>(
     ensures loads { OnOk result (ctx.old.solver_state.sat_state ≢ SatState.Unsat → Loads (view ctx.old) (view ctx.new) lits.now ctx.old.solver_state.sat_state ctx.new.solver_state.sat_state) }
     ensures state { OnOk result (ctx.old.solver_state.sat_state ≢ SatState.Unsat → ctx.new.solver_state ≡ record ctx.old.solver_state { sat_state = ctx.new.solver_state.sat_state; formula_is_empty = false }) }
     ensures count { OnOk result (length ctx.new.assignment.current ≡ length ctx.old.assignment.current) }
+    ensures units { OnOk result (ctx.new.trail.units_removed ≡ ctx.old.trail.units_removed) }
     ensures undecided { OnOk result (ctx.old.solver_state.sat_state ≢ SatState.Unsat → ctx.new.trail.decisions ≡ []) }
 {
     if let SatState::Unsat = ctx.solver_state.sat_state {

@@ -66,7 +66,9 @@ fn look_at<A: Allocator + Copy>(
 ) -> Result<Look, AllocError>
     requires well { WellFormed (view_of clause_alloc.old assignment.old trail.old impl_graph.old) }
     requires within { cref < length clause_alloc.old }
-    ensures { IfOk result (λ look. IsLook (view_of clause_alloc.old assignment.old trail.old impl_graph.old) (view_of clause_alloc.new assignment.new trail.new impl_graph.new) cref look) }
+    ensures look { IfOk result (λ look. IsLook (view_of clause_alloc.old assignment.old trail.old impl_graph.old) (view_of clause_alloc.new assignment.new trail.new impl_graph.new) cref look) }
+    ensures last { OnOk result (assignment.new.last ≡ assignment.old.last) }
+    ensures units { OnOk result (trail.new.units_removed ≡ trail.old.units_removed) }
 {
     match status_of(assignment, clause_alloc.clause(cref)) {
         Status::False => Ok(Look::Conflicting),
@@ -97,6 +99,8 @@ pub fn propagate<A: Allocator + Copy>(
     ensures ends { IfOk result (λ end. MatchResult end
         (λ _. IsComplete clause_alloc.new trail.new.literals × (trail.new.queue_head ≡ length trail.new.literals))
         (λ conflict. (place_of conflict < length clause_alloc.new) × IsFalse trail.new.literals (slice_index_or clause_alloc.new (place_of conflict) []))) }
+    ensures last { OnOk result (assignment.new.last ≡ assignment.old.last) }
+    ensures units { OnOk result (trail.new.units_removed ≡ trail.old.units_removed) }
 {
     'rounds: loop {
         let mut changed = false;

@@ -12,6 +12,7 @@ use std::alloc::{AllocError, Allocator};
 use std::test::Fail;
 use varisat_formula::formula::{Lit, Var};
 use varisat_formula::lits;
+use varisat_prop::clause::ClauseRef;
 use varisat_prop::prop::Assignment;
 
 /// Makes true the value that each variable without one had last.
@@ -130,6 +131,9 @@ fn learned_twice(rt: HostRuntime) -> Result<(), Fail> {
     let trail = lits![1, 2, 3, 4, 5];
     assert!(rt; teaches(&mut ctx, &trail, &lits![-4, -1], 1)?);
     assert_eq!(rt; ctx.trail.current_level(), 2);
+    // The conflict, and the reason of 5.
+    let involved = [ClauseRef::from_place(3), ClauseRef::from_place(2)];
+    assert_eq!(rt; ctx.analyze_conflict.involved(), involved.as_slice());
     assert!(rt; teaches(&mut ctx, &trail, &lits![-4, -1], 1)?);
     Ok(())
 }

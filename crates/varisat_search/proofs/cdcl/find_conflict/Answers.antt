@@ -72,4 +72,6 @@ levels-preserved g c =
       };
       grows = grows-trans (view c.args.ctx.now) s u c.levels.invariant.grows f.grows;
       state = ap (λ (x : Context g.row.A.Denot). x.solver_state) k ∙ c.levels.invariant.state;
+      last = c.in_ok-make_decision.ensures.last ∙ c.in_ok-propagated.ensures.last ∙ c.levels.invariant.last;
+      units = c.in_ok-make_decision.ensures.units ∙ c.in_ok-propagated.ensures.units ∙ c.levels.invariant.units;
     }

@@ -4,7 +4,7 @@ use Rattle.varisat_search.specs.Contexts.{view, IsReady}
 use Rattle.varisat_search.proofs.cdcl.find_conflict.Given as goal
 
 abbrev pub invariant-levels : goal.invariant-levels
-invariant-levels g l = record { ready : IsReady l.ctx; grows : Grows (view l.fn.ctx) (view l.ctx); state : l.ctx.solver_state ≡ l.fn.ctx.solver_state }
+invariant-levels g l = record { ready : IsReady l.ctx; grows : Grows (view l.fn.ctx) (view l.ctx); state : l.ctx.solver_state ≡ l.fn.ctx.solver_state; last : l.ctx.assignment.last ≡ l.fn.ctx.assignment.last; units : l.ctx.trail.units_removed ≡ l.fn.ctx.trail.units_removed }
 
 abbrev pub decreases-levels : goal.decreases-levels
 decreases-levels g l = length l.ctx.assignment.current - length l.ctx.trail.literals

@@ -32,6 +32,7 @@ returns-then-is_tautology g c =
       loads = λ n. subst (λ b. Loads (view x0) (view x1) c.args.lits.now x0.solver_state.sat_state b) (sym sat) (loads-tautology (view x0) (view x1) c.args.lits.now lits x0.solver_state.sat_state r d same inside taut);
       state = λ n. ap (λ (x : Context g.row.A.Denot). record x.solver_state { sat_state = x1.solver_state.sat_state }) c.full_restart.ensures.kept ∙ ap (λ (y : SolverState). record y { sat_state = x1.solver_state.sat_state }) c.accept_clause.ensures;
       count = r.count;
+      units = c.full_restart.ensures.units;
       undecided = λ n. r.undecided;
     }
 
@@ -68,6 +69,7 @@ returns-then-is_satisfied g c =
       loads = λ n. subst (λ b. Loads (view x0) (view x1) c.args.lits.now x0.solver_state.sat_state b) (sym sat) (loads-satisfied (view x0) (view x1) c.args.lits.now lits x0.solver_state.sat_state r d same inside found.0 (subst (λ ys. found.0 ∈ ys) c.deref-2.ensures.value found.1) found.2);
       state = λ n. ap (λ (x : Context g.row.A.Denot). record x.solver_state { sat_state = x1.solver_state.sat_state }) c.full_restart.ensures.kept ∙ ap (λ (y : SolverState). record y { sat_state = x1.solver_state.sat_state }) c.accept_clause.ensures;
       count = r.count;
+      units = c.full_restart.ensures.units;
       undecided = λ n. r.undecided;
     }
 
@@ -111,5 +113,6 @@ returns g c =
       loads = λ n. loads-added (view x0) (view x1) c.args.lits.now lits x0.solver_state.sat_state r d same inside (view x2) lits x2.solver_state.sat_state refl added;
       state = λ n. o.state ∙ ap (λ (x : Context g.row.A.Denot). record x.solver_state { sat_state = x2.solver_state.sat_state }) c.full_restart.ensures.kept ∙ ap (λ (y : SolverState). record y { sat_state = x2.solver_state.sat_state }) c.accept_clause.ensures;
       count = q.2;
+      units = o.units ∙ c.full_restart.ensures.units;
       undecided = λ n. q.1;
     }

@@ -22,8 +22,8 @@ lit_is_true-requires g c =
     let e : c.index-clause-place.result ≡ get_or (clause_at s c.args.cref) c.in-Leaves.place 0 = element (clause_at s c.args.cref) c.in-Leaves.place c.index-clause-place.result st.0 (c.index-clause-place.is ∙ ap (λ xs. get_or xs c.in-Leaves.place c.index-clause-place.result) c.clause-in-Leaves.ensures) in
     subst (λ x. variable_of x < length s.values) (sym e) (left-inside s c.args.cref c.in-Leaves.place c.requires.well c.requires.within st)
 
-pub returns-then-lit_is_true : goal.returns-then-lit_is_true
-returns-then-lit_is_true g c =
+pub returns-then-lit_is_true-clause-look : goal.returns-then-lit_is_true-clause-look
+returns-then-lit_is_true-clause-look g c =
     let s = view_of c.args.clause_alloc.now c.args.assignment.now c.args.trail.now c.args.impl_graph.now in
     let st = subst (λ x. IsStatus s.values x (status.Leaves c.in-Leaves.place)) c.clause.ensures c.in-Leaves.ensures in
     let e : c.index-clause-place.result ≡ get_or (clause_at s c.args.cref) c.in-Leaves.place 0 = element (clause_at s c.args.cref) c.in-Leaves.place c.index-clause-place.result st.0 (c.index-clause-place.is ∙ ap (λ xs. get_or xs c.in-Leaves.place c.index-clause-place.result) c.clause-in-Leaves.ensures) in
@@ -52,19 +52,19 @@ enqueue_assignment-requires-clause-unassigned g c =
     let n : IsTrueIn s (get_or (clause_at s c.args.cref) c.in-Leaves.place 0) → ⊥ = subst (λ x. IsTrueIn s x → ⊥) e (λ t. let b = c.if-lit_is_true.ensures.1 t in cc) in
     subst (λ x. get_or s.values (variable_of x) None ≡ None) (sym e) (left-free s c.args.cref c.in-Leaves.place st n)
 
-pub returns-in-False : goal.returns-in-False
-returns-in-False g c =
+pub returns-in-False-clause-look : goal.returns-in-False-clause-look
+returns-in-False-clause-look g c =
     let s = view_of c.args.clause_alloc.now c.args.assignment.now c.args.trail.now c.args.impl_graph.now in
     (refl, subst (IsFalse s.trail) c.clause.ensures (false-clause s c.clause.result.now c.requires.well c.in-False.ensures))
 
-pub returns-in-Open : goal.returns-in-Open
-returns-in-Open g c =
+pub returns-in-Open-clause-look : goal.returns-in-Open-clause-look
+returns-in-Open-clause-look g c =
     let s = view_of c.args.clause_alloc.now c.args.assignment.now c.args.trail.now c.args.impl_graph.now in
     let st = subst (λ x. IsStatus s.values x status.Open) c.clause.ensures c.in-Open.ensures in
     (refl, quiet-open s (clause_at s c.args.cref) c.requires.well (c.requires.well.distinct (clause_at s c.args.cref) (∈-get_or s.clauses c.args.cref [] c.requires.within)) st)
 
-pub returns-in_ok-enqueue_assignment-in-Leaves : goal.returns-in_ok-enqueue_assignment-in-Leaves
-returns-in_ok-enqueue_assignment-in-Leaves g c =
+pub returns-in_ok-enqueue_assignment-in-Leaves-clause-look : goal.returns-in_ok-enqueue_assignment-in-Leaves-clause-look
+returns-in_ok-enqueue_assignment-in-Leaves-clause-look g c =
     let s = view_of c.args.clause_alloc.now c.args.assignment.now c.args.trail.now c.args.impl_graph.now in
     let st = subst (λ x. IsStatus s.values x (status.Leaves c.in-Leaves.place)) c.clause.ensures c.in-Leaves.ensures in
     let e : c.index-clause-place.result ≡ get_or (clause_at s c.args.cref) c.in-Leaves.place 0 = element (clause_at s c.args.cref) c.in-Leaves.place c.index-clause-place.result st.0 (c.index-clause-place.is ∙ ap (λ xs. get_or xs c.in-Leaves.place c.index-clause-place.result) c.clause-in-Leaves.ensures) in

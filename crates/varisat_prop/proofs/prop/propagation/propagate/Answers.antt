@@ -1,4 +1,4 @@
-use Rattle.std.proofs.Common.{◌<◌, [], length, get_or, refl, sym, subst, arith}
+use Rattle.std.proofs.Common.{◌<◌, ◌∙◌, [], length, get_or, refl, sym, subst, arith}
 use Rattle.varisat_theory.specs.Propagation.{IsFalse}
 use Rattle.varisat_prop.specs.View.{view_of}
 use Rattle.varisat_prop.specs.Looks.{IsLook}
@@ -12,15 +12,15 @@ returns-in-Conflicting-clause-propagates g c =
     let r = view_of c.rounds.clause_alloc c.rounds.assignment c.rounds.trail c.rounds.impl_graph in
     let s = view_of c.loop-place.clause_alloc c.loop-place.assignment c.loop-place.trail c.loop-place.impl_graph in
     let t = view_of c.look_at.new.clause_alloc c.look_at.new.assignment c.look_at.new.trail c.look_at.new.impl_graph in
-    let f = scan-false r s t c.loop-place.changed c.loop-place.place c.loop-place.invariant (omega (arith, c.loop-place-test.true, c.len-place-end.ensures.count)) (subst (λ x. IsLook s t x look.Conflicting) c.from_place-cref.ensures (subst (IsLook s t c.from_place-cref.result) c.in-Conflicting.is c.in_ok-look_at.ensures)) in
-    propagates-trans (view_of c.args.clause_alloc.now c.args.assignment.now c.args.trail.now c.args.impl_graph.now) r t c.rounds.invariant f.0
+    let f = scan-false r s t c.loop-place.changed c.loop-place.place c.loop-place.invariant.scan (omega (arith, c.loop-place-test.true, c.len-place-end.ensures.count)) (subst (λ x. IsLook s t x look.Conflicting) c.from_place-cref.ensures (subst (IsLook s t c.from_place-cref.result) c.in-Conflicting.is c.in_ok-look_at.ensures.look)) in
+    propagates-trans (view_of c.args.clause_alloc.now c.args.assignment.now c.args.trail.now c.args.impl_graph.now) r t c.rounds.invariant.propagates f.0
 
 pub returns-in-Conflicting-clause-ends : goal.returns-in-Conflicting-clause-ends
 returns-in-Conflicting-clause-ends g c =
     let r = view_of c.rounds.clause_alloc c.rounds.assignment c.rounds.trail c.rounds.impl_graph in
     let s = view_of c.loop-place.clause_alloc c.loop-place.assignment c.loop-place.trail c.loop-place.impl_graph in
     let t = view_of c.look_at.new.clause_alloc c.look_at.new.assignment c.look_at.new.trail c.look_at.new.impl_graph in
-    let f = scan-false r s t c.loop-place.changed c.loop-place.place c.loop-place.invariant (omega (arith, c.loop-place-test.true, c.len-place-end.ensures.count)) (subst (λ x. IsLook s t x look.Conflicting) c.from_place-cref.ensures (subst (IsLook s t c.from_place-cref.result) c.in-Conflicting.is c.in_ok-look_at.ensures)) in
+    let f = scan-false r s t c.loop-place.changed c.loop-place.place c.loop-place.invariant.scan (omega (arith, c.loop-place-test.true, c.len-place-end.ensures.count)) (subst (λ x. IsLook s t x look.Conflicting) c.from_place-cref.ensures (subst (IsLook s t c.from_place-cref.result) c.in-Conflicting.is c.in_ok-look_at.ensures.look)) in
     subst (λ i. (i < length t.clauses) × IsFalse t.trail (get_or t.clauses i [])) (sym c.from_place-cref.ensures) (f.1, f.2)
 
 pub loop-place-preserved : goal.loop-place-preserved
@@ -29,15 +29,15 @@ loop-place-preserved g c =
     let s = view_of c.loop-place.clause_alloc c.loop-place.assignment c.loop-place.trail c.loop-place.impl_graph in
     let t = view_of c.look_at.new.clause_alloc c.look_at.new.assignment c.look_at.new.trail c.look_at.new.impl_graph in
     elim c.match-branch-2.branch [
-      | in-Implied w ↦ rw w.changed-is (scan-implied r s t c.loop-place.changed c.loop-place.place c.loop-place.invariant (subst (λ x. IsLook s t x look.Implied) c.from_place-cref.ensures (subst (IsLook s t c.from_place-cref.result) w.in-Implied.is c.in_ok-look_at.ensures)))
-      | in-Quiet w ↦ rw w.changed-is (scan-quiet r s t c.loop-place.changed c.loop-place.place c.loop-place.invariant (subst (λ x. IsLook s t x look.Quiet) c.from_place-cref.ensures (subst (IsLook s t c.from_place-cref.result) w.in-Quiet.is c.in_ok-look_at.ensures)))
+      | in-Implied w ↦ rw w.changed-is (record { scan = scan-implied r s t c.loop-place.changed c.loop-place.place c.loop-place.invariant.scan (subst (λ x. IsLook s t x look.Implied) c.from_place-cref.ensures (subst (IsLook s t c.from_place-cref.result) w.in-Implied.is c.in_ok-look_at.ensures.look)); last = c.in_ok-look_at.ensures.last ∙ c.loop-place.invariant.last; units = c.in_ok-look_at.ensures.units ∙ c.loop-place.invariant.units })
+      | in-Quiet w ↦ rw w.changed-is (record { scan = scan-quiet r s t c.loop-place.changed c.loop-place.place c.loop-place.invariant.scan (subst (λ x. IsLook s t x look.Quiet) c.from_place-cref.ensures (subst (IsLook s t c.from_place-cref.result) w.in-Quiet.is c.in_ok-look_at.ensures.look)); last = c.in_ok-look_at.ensures.last ∙ c.loop-place.invariant.last; units = c.in_ok-look_at.ensures.units ∙ c.loop-place.invariant.units })
     ]
 
 pub returns-then-not-changed-clause-ends : goal.returns-then-not-changed-clause-ends
 returns-then-not-changed-clause-ends g c =
     let r = view_of c.rounds.clause_alloc c.rounds.assignment c.rounds.trail c.rounds.impl_graph in
     let s = view_of c.loop-place.clause_alloc c.loop-place.assignment c.loop-place.trail c.loop-place.impl_graph in
-    let i = subst (λ b. Scan r s b c.loop-place.place) c.if-not-changed.true c.loop-place.invariant in
+    let i = subst (λ b. Scan r s b c.loop-place.place) c.if-not-changed.true c.loop-place.invariant.scan in
     let n = i.propagates.grows.clauses.count in
     let l = c.len-place-end.ensures.count in
     let e = c.end_queue.ensures in
@@ -47,7 +47,7 @@ pub rounds-smaller : goal.rounds-smaller
 rounds-smaller g c =
     let r = view_of c.rounds.clause_alloc c.rounds.assignment c.rounds.trail c.rounds.impl_graph in
     let s = view_of c.loop-place.clause_alloc c.loop-place.assignment c.loop-place.trail c.loop-place.impl_graph in
-    let i = subst (λ b. Scan r s b c.loop-place.place) c.if-not-changed.false c.loop-place.invariant in
+    let i = subst (λ b. Scan r s b c.loop-place.place) c.if-not-changed.false c.loop-place.invariant.scan in
     let d = scan-smaller r s c.loop-place.place i in
     omega (arith, d.0, d.1, d.2)
 
@@ -55,4 +55,8 @@ pub rounds-preserved : goal.rounds-preserved
 rounds-preserved g c =
     let r = view_of c.rounds.clause_alloc c.rounds.assignment c.rounds.trail c.rounds.impl_graph in
     let s = view_of c.loop-place.clause_alloc c.loop-place.assignment c.loop-place.trail c.loop-place.impl_graph in
-    propagates-trans (view_of c.args.clause_alloc.now c.args.assignment.now c.args.trail.now c.args.impl_graph.now) r s c.rounds.invariant c.loop-place.invariant.propagates
+    record {
+      propagates = propagates-trans (view_of c.args.clause_alloc.now c.args.assignment.now c.args.trail.now c.args.impl_graph.now) r s c.rounds.invariant.propagates c.loop-place.invariant.scan.propagates;
+      last = c.loop-place.invariant.last;
+      units = c.loop-place.invariant.units;
+    }

@@ -2,7 +2,7 @@ use Rattle.std.proofs.Common.{◌≡◌, ℕ, ◌⊎◌, ◌↔◌, length, map,
 use Rattle.varisat_theory.specs.Membership.{◌∈◌}
 use Rattle.varisat_theory.specs.Literals.{variable_of}
 use Rattle.varisat.specs.Searches.{IsFlagged}
-use Rattle.varisat.proofs.load.flag_variables.Given as goal
+use Rattle.varisat.proofs.accept.flag_variables.Given as goal
 
 abbrev pub invariant-loop-lit : goal.invariant-loop-lit
 invariant-loop-lit g l = record {

@@ -3,7 +3,7 @@ use Rattle.varisat_search.specs.declared.context.Context.{Context}
 use Rattle.varisat_search.specs.Contexts.{view}
 use Rattle.varisat.specs.Searches.{IsOpen}
 use Rattle.varisat.proofs.Loaded.{holds-fits, loaded, loaded-open}
-use Rattle.varisat.proofs.load.accept_clause.Goals as goal
+use Rattle.varisat.proofs.accept.accept_clause.Goals as goal
 
 pub returns-clause-loaded : goal.returns-clause-loaded
 returns-clause-loaded g c P h =

@@ -1,7 +1,7 @@
 use Rattle.std.proofs.Common.{◌∙◌, true, arith, length-set}
 use Rattle.varisat.proofs.Places.{∈-item}
 use Rattle.varisat.proofs.Marked.{flag-more}
-use Rattle.varisat.proofs.load.flag_variables.Goals as goal
+use Rattle.varisat.proofs.accept.flag_variables.Goals as goal
 
 pub index_mut-requires : goal.index_mut-requires
 index_mut-requires g c =

@@ -8,7 +8,7 @@ use Rattle.varisat_formula.specs.Numbers.{polarity_of}
 abbrev pub clauses_of : {A : Type 0} → List (Vec Literal A) → List Clause
 clauses_of vs = map (λ v. v.items) vs
 
--- For each variable the value that it has, and the value that it had when it lost one the last time.
+-- For each variable the value that it has, and the value that `release_var` remembered last, false at first.
 pub record Values : Type 0 where
   pub current : List (Option Bool)
   pub last : List Bool

@@ -24,7 +24,7 @@ impl<A: Allocator + Copy> TmpData<A> {
     }
 }
 
-/// A flag for each literal. All are false between calls.
+/// A flag for each literal. Whoever sets one takes it away again before the call ends.
 #[derive(Drop)]
 pub struct TmpFlags<A: Allocator + Copy> {
     pub flags: Vec<bool, A>,

@@ -78,7 +78,7 @@ impl<A: Allocator + Copy> Assignment<A> {
         self.assignment[var.index()]
     }
 
-    /// The value that the variable had before it lost one the last time, false at first.
+    /// The value of the variable that `release_var` remembered last, false at first.
     pub fn last_var_value(&self, var: Var) -> bool
         requires { var < length self.now.current }
         ensures { result ≡ slice_index_or self.now.last var false }

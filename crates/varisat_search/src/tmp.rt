@@ -4,7 +4,7 @@ ghost use Rattle.std.specs.Prelude.{◌≡◌, ◌≤◌, ◌*◌, ◌-◌, ◌+
 use std::alloc::{AllocError, Allocator};
 use varisat_formula::formula::Lit;
 
-/// Lists of literals. Nothing is kept in them between calls.
+/// Lists of literals. No call relies on what an earlier one left in them.
 #[derive(Drop)]
 pub struct TmpData<A: Allocator + Copy> {
     pub lits: Vec<Lit, A>,

@@ -60,7 +60,7 @@ impl<A: Allocator + Copy> Assignment<A> {
         self.assignment.as_slice()
     }
 
-    /// Takes the variable's value away, and remembers it as the last.
+    /// Takes the variable's value away, and remembers it as the last, or false where it has none.
     pub fn release_var(&mut self, var: Var)
         requires { var < length self.old.current }
         ensures count { length self.old.last ≡ length self.old.current }

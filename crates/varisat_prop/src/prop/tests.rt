@@ -1,6 +1,6 @@
 //! Each call of the parts, with ample memory and with little.
 use super::*;
-use crate::clause::ClauseAlloc;
+use crate::clause::{ClauseAlloc, ClauseRef};
 use linked_list_allocator::LocalHeap;
 use std::alloc::{AllocError, Allocator};
 use varisat_formula::{lit, lits, var};
@@ -38,6 +38,13 @@ fn trails(rt: HostRuntime) -> Result<(), AllocError> {
     assert!(rt; trail.fully_propagated() && trail.pop_queue().is_none());
     trail.reset_queue();
     assert!(rt; trail.queue_head() == Some(lit!(3)));
+    assert_eq!(rt; trail.top_level_assignment_count(), 1);
+    assert_eq!(rt; trail.level_end(0), 1);
+    trail.truncate(0);
+    assert!(rt; trail.trail() == lits![3].as_slice() && trail.current_level() == 0);
+    trail.clear();
+    assert!(rt; trail.trail().is_empty() && trail.fully_propagated());
+    assert_eq!(rt; trail.top_level_assignment_count(), 1);
     Ok(())
 }
 
@@ -47,6 +54,8 @@ fn nodes(rt: HostRuntime) -> Result<(), AllocError> {
     graph.set_var_count(2)?;
     assert!(rt; graph.reason(var!(2)).is_unit() && graph.level(var!(2)) == 0);
     assert!(rt; graph.depth(var!(2)) == 0 && !graph.is_removed_unit(var!(2)));
+    graph.update_reason(var!(2), Reason::Long(ClauseRef::from_place(4)));
+    assert!(rt; *graph.reason(var!(2)) == Reason::Long(ClauseRef::from_place(4)));
     graph.update_removed_unit(var!(2));
     assert!(rt; graph.is_removed_unit(var!(2)) && !graph.is_removed_unit(var!(1)));
     Ok(())

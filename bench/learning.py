@@ -39,7 +39,7 @@ COLUMNS = [
     ("ours /", "theirs", ">9"),
     ("conflicts", "ours", ">10"),
     ("", "theirs", ">9"),
-    ("ours, ms a", "conflict of theirs", ">19"),
+    ("ours, ms", "a conflict", ">11"),
 ]
 
 
@@ -86,37 +86,36 @@ def ratio_of(ours, theirs):
     return ours.taken.processor / theirs.taken.processor
 
 
-def time_per_conflict(ours, theirs):
-    """Our milliseconds for each conflict of theirs, or None where one did not decide or there was no conflict."""
-    if ratio_of(ours, theirs) is None or not theirs.conflicts:
+def time_per_conflict(ours, conflicts):
+    """Our milliseconds for each conflict of ours, or None where that is not known or there was none."""
+    if ours.verdict is None or not conflicts:
         return None
-    return ours.taken.processor * 1e3 / theirs.conflicts
+    return ours.taken.processor * 1e3 / conflicts
 
 
-def print_formula(name, formula, ours, theirs, limit):
+def print_formula(name, formula, ours, theirs, steps, limit):
     """Prints the row of a formula."""
     cells = [name, f"{formula.variables:,}", f"{len(formula.clauses):,}"]
     for run in ours, theirs:
         cells += [VERDICTS[run.verdict], time_told(run, limit)]
     cells.append(number_told(ratio_of(ours, theirs), ",.2f"))
-    cells += [number_told(run.conflicts, ",") for run in (ours, theirs)]
-    cells.append(number_told(time_per_conflict(ours, theirs), ",.3f"))
+    cells += [number_told(run.conflicts, ",") for run in (steps, theirs)]
+    cells.append(number_told(time_per_conflict(ours, steps.conflicts), ",.3f"))
     print_row(cells)
 
 
 def print_end(results):
     """Prints what all rows come to, and gives the status."""
-    if any(ours.verdict and ours.conflicts is None for ours, _ in results.values()):
-        print("our conflicts: -, since the program does not tell them")
-    ratios = [ratio for ratio in (ratio_of(*runs) for runs in results.values()) if ratio is not None]
+    ratios = [ratio for ratio in (ratio_of(ours, theirs) for ours, theirs, _ in results.values()) if ratio is not None]
     if ratios:
         print(f"ours / theirs, the geometric mean over {len(ratios)} of {len(results)} formulas, which both decided: {statistics.geometric_mean(ratios):,.2f}")
     else:
         print("both decided none of the formulas")
     status = 0
-    for name, (ours, theirs) in results.items():
-        if len({ours.verdict, theirs.verdict} - {None}) > 1:
-            print(f"bench: {name}: varisat says {VERDICTS[ours.verdict]}, minisat {VERDICTS[theirs.verdict]}", file=sys.stderr)
+    for name, runs in results.items():
+        if len({run.verdict for run in runs} - {None}) > 1:
+            ours, theirs, steps = (VERDICTS[run.verdict] for run in runs)
+            print(f"bench: {name}: varisat says {ours}, minisat {theirs}, varisat_steps {steps}", file=sys.stderr)
             status = 1
     return status
 
@@ -124,6 +123,7 @@ def print_end(results):
 def run(arguments):
     programs.check_tools("minisat")
     programs.build_ours()
+    programs.build_steps()
     every = [programs.ours(), programs.learning_minisat()]
     print(f"{datetime.date.today()}, {programs.machine()}")
     print(f"the median of {arguments.repetitions} runs, or of one where a run takes {SHORT:.0f} s; times are the processor's; minisat runs with -no-pre\n")
@@ -134,7 +134,8 @@ def run(arguments):
         for name in (name for name in FORMULAS if not arguments.only or name in arguments.only):
             formula, path = FORMULAS[name](), f"{folder}/{name}.cnf"
             formulas.write(path, formula)
-            results[name] = decide_all(every, path, arguments.limit, arguments.repetitions)
+            timed = decide_all(every, path, arguments.limit, arguments.repetitions)
+            results[name] = [*timed, programs.decide(programs.steps(), path, arguments.limit)]
             print_formula(name, formula, *results[name], arguments.limit)
     print()
     return print_end(results)

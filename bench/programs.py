@@ -13,6 +13,7 @@ from dataclasses import dataclass
 from typing import Callable, Optional
 
 ROOT = os.path.dirname(os.path.dirname(os.path.abspath(__file__)))
+STEPS = f"{ROOT}/crates/varisat_steps"
 # Each tool that is not ours, and the Debian package that has it.
 PACKAGES = {"minisat": "minisat", "cadical": "cadical", "/usr/bin/time": "time"}
 SATISFIABLE = 10
@@ -73,8 +74,29 @@ def build_ours():
         stop("./varisat was not built")
 
 
+def build_steps():
+    """Proves and builds the program that tells the conflicts of our search, where that is due, and tries it."""
+    if not shutil.which("rt"):
+        stop("the command rt is not there: install the Rattle kit that README.md names, and put its folder bin on the PATH")
+    command = ["rt", "run", "--", f"{ROOT}/examples/dinner.cnf"]
+    done = subprocess.run(command, cwd=STEPS, stdin=subprocess.DEVNULL, stdout=subprocess.PIPE, stderr=subprocess.STDOUT, text=True)
+    if done.returncode != SATISFIABLE:
+        print(*done.stdout.splitlines()[-40:], sep="\n", file=sys.stderr)
+        stop("varisat_steps was not built")
+
+
 def ours():
     return Program("varisat", [f"{ROOT}/crates/varisat_cli/out/varisat_cli", "solve"])
+
+
+def steps_conflicts(output):
+    line = re.search(r"^conflicts (\d+)$", output, re.MULTILINE)
+    return int(line[1]) if line else None
+
+
+def steps():
+    """Our search alone. It prints its conflicts, which `ours` does not."""
+    return Program("varisat_steps", [f"{STEPS}/out/varisat_steps"], steps_conflicts)
 
 
 def readers():

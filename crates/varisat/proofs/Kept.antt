@@ -10,6 +10,7 @@ use Rattle.varisat_prop.specs.View.{View}
 use Rattle.varisat_search.specs.declared.state.SatState.{SatState}
 use Rattle.varisat_search.specs.declared.state.SatState.TheVariants as outcome
 use Rattle.varisat_search.specs.Steps.{assignment_of}
+use Rattle.varisat_search.proofs.Finding.{variable-literal}
 use Rattle.varisat.specs.States.{State, Verdict, Unknown, Sat, Unsat, IsRight, IsWellFormed}
 use Rattle.varisat.specs.Names.{name_one, name_all, through_names}
 use Rattle.varisat.specs.Models.{put_name, list_names, model_of, IsRising, IsCompletable}
@@ -227,10 +228,6 @@ list-same n s a b f e (suc k) u h =
 
 pub model-listed : (g : Summary) (s : State) (a b : Assignment) → Fits g s → ((i : ℕ) → a i ≡ b i) → list_names s a 0 s.watermark ≡ list_values b 0 g.var_count
 model-listed g s a b f e = ap (list_names s a 0) f.names.watermark ∙ list-same g.var_count s a b f.names e g.var_count 0 (omega arith)
-
-variable-literal : (u : ℕ) (v : Bool) → variable_of (literal_of u v) ≡ u
-variable-literal u true = omega arith
-variable-literal u false = omega arith
 
 values-rise : (b : Assignment) (k u : ℕ) → IsRising u (list_values b u k)
 values-rise b zero u = tt

@@ -1,16 +1,15 @@
 -- What loading a clause says of the accepted clauses.
 use Rattle.std.proofs.Common.{◌≡◌, ◌≢◌, ◌≤◌, List, [], ◌∷◌, ◌++◌, ⊎_elim, inl, inr, length, refl, sym, ◌∙◌, subst, arith}
 use Rattle.varisat_theory.specs.Membership.{◌∈◌, ◌⊆◌, IsDistinct}
-use Rattle.varisat_theory.specs.Literals.{Literal, Clause, opposite, IsUnit, IsSatisfiable}
-use Rattle.varisat_theory.specs.Propagation.{Conflicts}
+use Rattle.varisat_theory.specs.Literals.{Literal, Clause, Assignment, opposite, IsUnit, SatisfiesAll}
 use Rattle.varisat_theory.proofs.Members.{∈-append_cases, ∈-append_left, ∈-append_right}
 use Rattle.varisat_theory.proofs.Assigned.{satisfies_more, satisfies_fewer}
-use Rattle.varisat_theory.proofs.Sound.{conflicts_sound}
 use Rattle.varisat_prop.specs.View.{View, WellFormed, Fits, IsFixed}
 use Rattle.varisat_prop.proofs.Lits.{own-opposite}
 use Rattle.varisat_search.specs.declared.state.SatState.{SatState}
 use Rattle.varisat_search.specs.declared.state.SatState.TheVariants as outcome
 use Rattle.varisat_search.specs.Steps as step
+use Rattle.varisat_search.proofs.Verdicts.{loads-cases}
 use Rattle.varisat.specs.Calls.{IsContradicted}
 use Rattle.varisat.specs.Searches.{Holds, IsOpen, IsLoaded}
 
@@ -37,17 +36,17 @@ unit-fixed held s w f c l i u =
 contradicted : (P : List Clause) (s : View) (c : Clause) → WellFormed s → Holds P s → IsContradicted P c → step.IsContradicted s c
 contradicted P s c w h k = ⊎_elim inl (λ (l, d, u, i, v). inr (l, u, unit-fixed h.held s w h.fits d (opposite l) (h.all d i) v)) k
 
+-- with one more clause too, what is held is satisfied wherever the accepted clauses are
+implied-more : (P : List Clause) (s : View) (c : Clause) (h : Holds P s) (a : Assignment) → SatisfiesAll a (P ++ c ∷ []) → SatisfiesAll a (h.held ++ c ∷ [])
+implied-more P s c h a m = satisfies_more a h.held c (h.implied a (satisfies_fewer a P (c ∷ []) m)) (m c (∈-append_right c P (c ∷ []) (inl refl)))
+
 holds-more : (P : List Clause) (s t : View) (c : Clause) (h : Holds P s) → Fits (h.held ++ c ∷ []) t → Holds (P ++ c ∷ []) t
 holds-more P s t c h f = record {
   held = h.held ++ c ∷ [];
   fits = f;
   all = λ d i. ⊎_elim (λ j. ∈-append_left d h.held (c ∷ []) (h.all d j)) (λ j. ∈-append_right d h.held (c ∷ []) j) (∈-append_cases d P (c ∷ []) i);
-  implied = λ a m. satisfies_more a h.held c (h.implied a (satisfies_fewer a P (c ∷ []) m)) (m c (∈-append_right c P (c ∷ []) (inl refl)));
+  implied = implied-more P s c h;
 }
-
-loaded-refutes : (P : List Clause) (s : View) (c : Clause) (h : Holds P s) → Conflicts (h.held ++ c ∷ []) [] → IsSatisfiable (P ++ c ∷ []) → ⊥
-loaded-refutes P s c h k (a, m) =
-    conflicts_sound (h.held ++ c ∷ []) [] a (satisfies_more a h.held c (h.implied a (satisfies_fewer a P (c ∷ []) m)) (m c (∈-append_right c P (c ∷ []) (inl refl)))) (λ l i. absurd i) k
 
 -- before a clause the verdict is open
 becomes : (x : SatState) → IsOpen x → step.with_clause x ≡ outcome.Unknown
@@ -58,24 +57,14 @@ becomes outcome.UnsatUnderAssumptions o = absurd o
 
 pub loaded-open : (s t : View) (c : Clause) (before after : SatState) → IsOpen before → step.Loads s t c before after → after ≢ outcome.UnsatUnderAssumptions
 loaded-open s t c before after o k e =
-    let free : step.IsContradicted s c → ⊥ = λ q. let u : outcome.UnsatUnderAssumptions ≡ outcome.Unsat = sym e ∙ (k.contradicted q).0 in cc in
-    let u : outcome.UnsatUnderAssumptions ≡ outcome.Unknown = sym e ∙ (k.accepted free).0 ∙ becomes before o in
-    cc
+    ⊎_elim
+    (λ (q, free, fits). let u : outcome.UnsatUnderAssumptions ≡ outcome.Unknown = sym e ∙ q in cc)
+    (λ (q, none). let u : outcome.UnsatUnderAssumptions ≡ outcome.Unsat = sym e ∙ q in cc)
+    (loads-cases s t c before after (becomes before o) k)
 
 pub loaded : (P : List Clause) (s t : View) (c : Clause) (before after : SatState) → WellFormed s → IsOpen before → step.Loads s t c before after → Holds P s → IsLoaded P c t after
-loaded P s t c before outcome.Unknown w o k h =
-    let free : step.IsContradicted s c → ⊥ = λ q. let e = (k.contradicted q).0 in cc in
-    ((λ q. free (contradicted P s c w h q)), holds-more P s t c h ((k.accepted free).1 h.held h.fits))
-loaded P s t c before outcome.Sat w o k h =
-    let free : step.IsContradicted s c → ⊥ = λ q. let e = (k.contradicted q).0 in cc in
-    let e : outcome.Sat ≡ outcome.Unknown = (k.accepted free).0 ∙ becomes before o in
-    cc
-loaded P s t c before outcome.Unsat w o k h =
-    λ m.
-    let free : step.IsContradicted s c → ⊥ = λ q. loaded-refutes P s c h ((k.contradicted q).1 h.held h.fits) m in
-    let e : outcome.Unsat ≡ outcome.Unknown = (k.accepted free).0 ∙ becomes before o in
-    cc
-loaded P s t c before outcome.UnsatUnderAssumptions w o k h =
-    let free : step.IsContradicted s c → ⊥ = λ q. let e = (k.contradicted q).0 in cc in
-    let e : outcome.UnsatUnderAssumptions ≡ outcome.Unknown = (k.accepted free).0 ∙ becomes before o in
-    cc
+loaded P s t c before after w o k h =
+    ⊎_elim
+    (λ (e, free, fits). subst (IsLoaded P c t) (sym e) ((λ q. free (contradicted P s c w h q)), holds-more P s t c h (fits h.held h.fits)))
+    (λ (e, none). subst (IsLoaded P c t) (sym e) (λ (a, m). none h.held h.fits (a, implied-more P s c h a m)))
+    (loads-cases s t c before after (becomes before o) k)

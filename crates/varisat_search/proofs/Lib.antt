@@ -17,3 +17,4 @@ pub mod Searching
 pub mod Minimizing
 pub mod Clearing
 pub mod Results
+pub mod Verdicts

@@ -3,13 +3,14 @@ use Rattle.varisat_theory.specs.Membership.{◌∈◌}
 use Rattle.varisat_theory.specs.Literals.{variable_of}
 use Rattle.varisat_theory.proofs.Members.{∈-append_cases}
 use Rattle.varisat.specs.Counts.{count_with}
-use Rattle.varisat.proofs.Places.{take-item, ∈-item}
+use Rattle.varisat_prop.proofs.Clauses.{item-∈}
+use Rattle.varisat.proofs.Places.{take-item}
 use Rattle.varisat.proofs.Named.{count-push}
 use Rattle.varisat.proofs.solver.count_with_clause.Goals as goal
 
 pub returns-then-index-max_count : goal.returns-then-index-max_count
 returns-then-index-max_count c =
-    (c.lit-item.result, ∈-item c.args.clause.now c.loop-lit.lit-index c.lit-item.result c.loop-lit-test.true c.lit-item.is, omega (arith, c.index-index.ensures.index, c.max_count.ensures))
+    (c.lit-item.result, item-∈ c.args.clause.now c.loop-lit.lit-index c.lit-item.result c.loop-lit-test.true c.lit-item.is, omega (arith, c.index-index.ensures.index, c.max_count.ensures))
 
 pub loop-lit-preserved : goal.loop-lit-preserved
 loop-lit-preserved c =

@@ -9,3 +9,4 @@ pub mod Texted
 pub mod Runs
 pub mod Historied
 pub mod LineLemmas
+pub mod Written

@@ -1,8 +1,12 @@
 //! The search: steps until the verdict is known.
-ghost use Rattle.std.specs.Prelude.{◌≡◌, List, length, OnOk, IfOk, MatchBool};
+ghost use Rattle.std.specs.Prelude.{◌≡◌, ℕ, List, [], length, OnOk, IfOk, MatchBool};
 ghost use Rattle.varisat_theory.specs.Literals.{Clause, SatisfiesAll, IsSatisfiable};
 ghost use Rattle.varisat_search.specs.Contexts.{view, IsReady};
 ghost use Rattle.varisat_search.specs.Steps.{assignment_of};
+ghost use Rattle.varisat_theory.specs.Derivations.{Line};
+ghost use Rattle.varisat_theory.specs.Counted.{DerivesBy};
+ghost use Rattle.varisat_theory.specs.Outcomes.{Unknown, Stands};
+ghost use Rattle.varisat_search.specs.Seen.{search_of, outcome_of};
 ghost use Rattle.varisat.specs.Searches.{Holds, verdict_of};
 
 use std::alloc::{AllocError, Allocator};
@@ -21,6 +25,8 @@ pub fn search<A: Allocator + Copy>(ctx: &mut Context<A>) -> Result<bool, AllocEr
     ensures found { IfOk result (λ sat. (P : List Clause) → Holds P (view ctx.old) → MatchBool sat
         (Holds P (view ctx.new) × SatisfiesAll (assignment_of (view ctx.new)) P)
         (IsSatisfiable P → ⊥)) }
+    ensures lines { IfOk result (λ sat. (k : ℕ) × (lines : List Line) × ((P held : List Clause) → Stands P held (search_of (view ctx.old) []) Unknown →
+        (after : List Clause) × DerivesBy k held lines after × Stands P after (search_of (view ctx.new) []) (outcome_of (view ctx.new) (verdict_of sat)))) }
 {
     'steps: loop {
         conflict_step(ctx)?;

@@ -18,3 +18,8 @@ pub mod Minimizing
 pub mod Clearing
 pub mod Results
 pub mod Verdicts
+pub mod Seeing
+pub mod LearnedLines
+pub mod Growing
+pub mod StepLines
+pub mod LoadLines

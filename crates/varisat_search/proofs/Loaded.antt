@@ -31,7 +31,7 @@ pub record Restarted (s t : View) : Type 0 where
   pub fixed_to : (x : Literal) → IsFixed s x → IsTrueIn t x
   pub fixed_from : (x : Literal) → IsTrueIn t x → IsFixed s x
 
-no-decision : (s : View) → WellFormed s → s.decisions ≡ [] → (x : Literal) → IsTrueIn s x → level_of s x ≡ 0
+pub no-decision : (s : View) → WellFormed s → s.decisions ≡ [] → (x : Literal) → IsTrueIn s x → level_of s x ≡ 0
 no-decision s w e x t =
     let (k, a, f) = w.stands x t in
     let n = ap (λ (d : List ℕ). length d) e in

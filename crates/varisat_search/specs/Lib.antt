@@ -6,3 +6,4 @@ pub mod Loading
 pub mod Levels
 pub mod Marks
 pub mod Redundancy
+pub mod Seen

@@ -8,6 +8,9 @@ ghost use Rattle.varisat_search.specs.Learned.{IsConflict, IsLearned};
 ghost use Rattle.varisat_search.specs.Contexts.{view, IsReady};
 ghost use Rattle.varisat_search.specs.Steps.{IsTotal, StepGives};
 ghost use Rattle.varisat_search.specs.Conflicts.{conflict_of, IsKept};
+ghost use Rattle.varisat_search.specs.Seen.{search_of, outcome_of};
+ghost use Rattle.varisat_theory.specs.Derivations.{Line};
+ghost use Rattle.varisat_theory.specs.Outcomes.{Steps};
 
 use crate::analyze_conflict::analyze_conflict;
 use crate::context::Context;
@@ -119,6 +122,7 @@ fn learn<A: Allocator + Copy>(ctx: &mut Context<A>, conflict: Conflict) -> Resul
     requires unknown { ctx.old.solver_state.sat_state ≡ SatState.Unknown }
     ensures ready { OnOk result (IsReady ctx.new) }
     ensures gives { OnOk result (StepGives (view ctx.old) (view ctx.new) ctx.new.solver_state.sat_state) }
+    ensures steps { OnOk result ((lines : List Line) × Steps (search_of (view ctx.old) []) (search_of (view ctx.new) []) (outcome_of (view ctx.new) ctx.new.solver_state.sat_state) lines) }
     ensures count { OnOk result (length ctx.new.assignment.current ≡ length ctx.old.assignment.current) }
     ensures units { OnOk result (ctx.new.trail.units_removed ≡ ctx.old.trail.units_removed) }
     ensures state { OnOk result (ctx.new.solver_state ≡ record ctx.old.solver_state { sat_state = ctx.new.solver_state.sat_state }) }
@@ -146,6 +150,7 @@ pub fn conflict_step<A: Allocator + Copy>(ctx: &mut Context<A>) -> Result<(), Al
     requires unknown { ctx.old.solver_state.sat_state ≡ SatState.Unknown }
     ensures ready { OnOk result (IsReady ctx.new) }
     ensures gives { OnOk result (StepGives (view ctx.old) (view ctx.new) ctx.new.solver_state.sat_state) }
+    ensures steps { OnOk result ((lines : List Line) × Steps (search_of (view ctx.old) []) (search_of (view ctx.new) []) (outcome_of (view ctx.new) ctx.new.solver_state.sat_state) lines) }
     ensures count { OnOk result (length ctx.new.assignment.current ≡ length ctx.old.assignment.current) }
     ensures units { OnOk result (ctx.new.trail.units_removed ≡ ctx.old.trail.units_removed) }
     ensures state { OnOk result (ctx.new.solver_state ≡ record ctx.old.solver_state { sat_state = ctx.new.solver_state.sat_state }) }

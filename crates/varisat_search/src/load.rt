@@ -8,6 +8,7 @@ ghost use Rattle.varisat_prop.specs.View.{WellFormed, IsTautology};
 ghost use Rattle.varisat_search.specs.Contexts.{view, IsReady};
 ghost use Rattle.varisat_search.specs.Steps.{Loads};
 ghost use Rattle.varisat_search.specs.Loading.{IsAdded};
+ghost use Rattle.varisat_search.specs.Seen.{LoadsAlone};
 
 use crate::cdcl::first_of;
 use crate::context::Context;
@@ -115,6 +116,7 @@ pub fn load_clause<A: Allocator + Copy>(
     ensures ready { OnOk result (IsReady ctx.new) }
     ensures unsat { ctx.old.solver_state.sat_state ≡ SatState.Unsat → ctx.new ≡ ctx.old }
     ensures loads { OnOk result (ctx.old.solver_state.sat_state ≢ SatState.Unsat → Loads (view ctx.old) (view ctx.new) lits.now ctx.old.solver_state.sat_state ctx.new.solver_state.sat_state) }
+    ensures lines { OnOk result (ctx.old.solver_state.sat_state ≢ SatState.Unsat → ctx.old.solver_state.sat_state ≢ SatState.UnsatUnderAssumptions → LoadsAlone (view ctx.old) (view ctx.new) lits.now ctx.new.solver_state.sat_state) }
     ensures state { OnOk result (ctx.old.solver_state.sat_state ≢ SatState.Unsat → ctx.new.solver_state ≡ record ctx.old.solver_state { sat_state = ctx.new.solver_state.sat_state; formula_is_empty = false }) }
     ensures count { OnOk result (length ctx.new.assignment.current ≡ length ctx.old.assignment.current) }
     ensures units { OnOk result (ctx.new.trail.units_removed ≡ ctx.old.trail.units_removed) }

@@ -24,3 +24,12 @@ pub mod Status
 pub mod Rounds
 pub mod Scans
 pub mod Checking
+pub mod StepCounts
+pub mod StepParts
+pub mod SearchFits
+pub mod StepChanges
+pub mod StepEnds
+pub mod StepLoads
+pub mod StepStands
+pub mod StepDrops
+pub mod StepCovers

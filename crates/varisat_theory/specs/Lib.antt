@@ -11,3 +11,7 @@ pub mod Rank
 pub mod Steps
 pub mod Laws
 pub mod Checking
+pub mod Counted
+pub mod Searches
+pub mod Outcomes
+pub mod StepLaws

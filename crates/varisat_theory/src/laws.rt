@@ -7,3 +7,4 @@ pub mod luby;
 pub mod rank;
 pub mod renaming;
 pub mod soundness;
+pub mod steps;

@@ -8,6 +8,7 @@ use Rattle.varisat_search.specs.Contexts.{view}
 use Rattle.varisat_search.specs.Steps.{Loads, with_clause}
 use Rattle.varisat_search.specs.Loading.{IsAdded}
 use Rattle.varisat_search.proofs.Loaded.{restarted, loads-tautology, loads-satisfied, loads-added, added-well, undecided-settled}
+use Rattle.varisat_search.proofs.LoadLines.{restart-moves, opened, lines-tautology, lines-satisfied, lines-added}
 use Rattle.varisat_search.proofs.load.load_clause.Goals as goal
 
 pub returns-then-is_tautology : goal.returns-then-is_tautology
@@ -30,6 +31,7 @@ returns-then-is_tautology g c =
       };
       unsat = λ e. absurd (c.in_default.not-Unsat e);
       loads = λ n. subst (λ b. Loads (view x0) (view x1) c.args.lits.now x0.solver_state.sat_state b) (sym sat) (loads-tautology (view x0) (view x1) c.args.lits.now lits x0.solver_state.sat_state r d same inside taut);
+      lines = λ n m. lines-tautology (view x0) (view x1) c.args.lits.now lits c.requires.ready.well r (restart-moves (view x0) (view x1) c.requires.ready.well (λ e. ap (λ (x : Context g.row.A.Denot). view x) (c.full_restart.ensures.same e)) c.full_restart.ensures.cut) d same x1.solver_state.sat_state (sat ∙ opened x0.solver_state.sat_state n m) taut;
       state = λ n. ap (λ (x : Context g.row.A.Denot). record x.solver_state { sat_state = x1.solver_state.sat_state }) c.full_restart.ensures.kept ∙ ap (λ (y : SolverState). record y { sat_state = x1.solver_state.sat_state }) c.accept_clause.ensures;
       count = r.count;
       units = c.full_restart.ensures.units;
@@ -67,6 +69,7 @@ returns-then-is_satisfied g c =
       };
       unsat = λ e. absurd (c.in_default.not-Unsat e);
       loads = λ n. subst (λ b. Loads (view x0) (view x1) c.args.lits.now x0.solver_state.sat_state b) (sym sat) (loads-satisfied (view x0) (view x1) c.args.lits.now lits x0.solver_state.sat_state r d same inside found.0 (subst (λ ys. found.0 ∈ ys) c.deref-2.ensures.value found.1) found.2);
+      lines = λ n m. lines-satisfied (view x0) (view x1) c.args.lits.now lits c.requires.ready.well r (restart-moves (view x0) (view x1) c.requires.ready.well (λ e. ap (λ (x : Context g.row.A.Denot). view x) (c.full_restart.ensures.same e)) c.full_restart.ensures.cut) d same x1.solver_state.sat_state (sat ∙ opened x0.solver_state.sat_state n m) found.0 (subst (λ ys. found.0 ∈ ys) c.deref-2.ensures.value found.1) found.2;
       state = λ n. ap (λ (x : Context g.row.A.Denot). record x.solver_state { sat_state = x1.solver_state.sat_state }) c.full_restart.ensures.kept ∙ ap (λ (y : SolverState). record y { sat_state = x1.solver_state.sat_state }) c.accept_clause.ensures;
       count = r.count;
       units = c.full_restart.ensures.units;
@@ -111,6 +114,7 @@ returns g c =
       };
       unsat = λ e. absurd (c.in_default.not-Unsat e);
       loads = λ n. loads-added (view x0) (view x1) c.args.lits.now lits x0.solver_state.sat_state r d same inside (view x2) lits x2.solver_state.sat_state refl added;
+      lines = λ n m. lines-added (view x0) (view x1) c.args.lits.now lits c.requires.ready.well r (restart-moves (view x0) (view x1) c.requires.ready.well (λ e. ap (λ (x : Context g.row.A.Denot). view x) (c.full_restart.ensures.same e)) c.full_restart.ensures.cut) d same (view x2) lits (with_clause x0.solver_state.sat_state) x2.solver_state.sat_state (opened x0.solver_state.sat_state n m) refl added;
       state = λ n. o.state ∙ ap (λ (x : Context g.row.A.Denot). record x.solver_state { sat_state = x2.solver_state.sat_state }) c.full_restart.ensures.kept ∙ ap (λ (y : SolverState). record y { sat_state = x2.solver_state.sat_state }) c.accept_clause.ensures;
       count = q.2;
       units = o.units ∙ c.full_restart.ensures.units;

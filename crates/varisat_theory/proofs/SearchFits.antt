@@ -1,0 +1,97 @@
+-- Lists that hold the same clauses, and what fits a search.
+use Rattle.std.proofs.Common.{◌≡◌, ℕ, List, [], ◌∷◌, ◌++◌, inl, inr, sym, ap, ◌∙◌, subst, refl, append_assoc}
+use Rattle.varisat_theory.specs.Membership.{◌∈◌, SameSet}
+use Rattle.varisat_theory.specs.Literals.{Literal, Clause}
+use Rattle.varisat_theory.specs.Derivations.{Line}
+use Rattle.varisat_theory.specs.Held.{SameClauses}
+use Rattle.varisat_theory.specs.Analysis.{Implied}
+use Rattle.varisat_theory.proofs.Members.{∈-append_left, ∈-append_right}
+use Rattle.varisat_theory.proofs.Held.{same_set-self, same_set-back, same_clauses-self, same_clauses-back, same_clauses-through, same_clauses_find}
+use Rattle.varisat_theory.proofs.Implication.{unit_implied}
+use Rattle.varisat_theory.specs.Counted.{DerivesBy}
+use Rattle.varisat_theory.specs.Searches.{KeptClause, Search, clauses_of, Fits}
+use Rattle.varisat_theory.proofs.StepCounts.{by_same}
+
+put_back : (front back P : List Clause) (d p : Clause) → SameSet d p → SameClauses (front ++ back) P → SameClauses (front ++ (d ∷ back)) (p ∷ P)
+put_back [] back P d p s h = (P, ([], p, P, refl, same_set-back d p s, refl), h)
+put_back (x ∷ front) back P d p s (S, (f, y, b, e, u, g), h) =
+    (p ∷ S, (p ∷ f, y, b, ap (λ l. p ∷ l) e, u, ap (λ l. p ∷ l) g), put_back front back S d p s h)
+
+-- one clause more in both, anywhere
+pub same_insert : (front back front' back' : List Clause) (d p : Clause) → SameSet d p → SameClauses (front ++ back) (front' ++ back') → SameClauses (front ++ (d ∷ back)) (front' ++ (p ∷ back'))
+same_insert front back front' back' d p s h =
+    same_clauses-through (front ++ (d ∷ back)) (p ∷ (front' ++ back')) (front' ++ (p ∷ back')) (put_back front back (front' ++ back') d p s h) (front' ++ back', (front', p, back', refl, same_set-self p, refl), same_clauses-self (front' ++ back'))
+
+-- more clauses behind both
+pub same_front : (K J O : List Clause) → SameClauses K J → SameClauses (K ++ O) (J ++ O)
+same_front [] J O s = subst (λ X. SameClauses O (X ++ O)) (sym s) (same_clauses-self O)
+same_front (p ∷ K) J O (R, (f, d, b, e, u, g), s) =
+    (R ++ O, (f, d, b ++ O, ap (λ l. l ++ O) e ∙ append_assoc f (d ∷ b) O, u, ap (λ l. l ++ O) g ∙ append_assoc f b O), same_front K R O s)
+
+pub same_equal : (P Q : List Clause) → P ≡ Q → SameClauses P Q
+same_equal P Q e = subst (SameClauses P) e (same_clauses-self P)
+
+append_none : (P : List Clause) → P ++ [] ≡ P
+append_none [] = refl
+append_none (c ∷ P) = ap (λ l. c ∷ l) (append_none P)
+
+-- the last clause goes between the two parts
+pub same_between : (K O : List Clause) (c d : Clause) → SameSet c d → SameClauses ((K ++ O) ++ c ∷ []) ((K ++ d ∷ []) ++ O)
+same_between K O c d s =
+    subst (SameClauses ((K ++ O) ++ c ∷ [])) (sym (append_assoc K (d ∷ []) O)) (same_insert (K ++ O) [] K O c d s (same_equal ((K ++ O) ++ []) (K ++ O) (append_none (K ++ O))))
+
+-- 2. The kept clauses at a place.
+
+pub clauses_at : (front back : List KeptClause) (k : KeptClause) (O : List Clause) → clauses_of (front ++ (k ∷ back)) ++ O ≡ clauses_of front ++ (k.clause ∷ (clauses_of back ++ O))
+clauses_at [] back k O = refl
+clauses_at (j ∷ front) back k O = ap (λ l. j.clause ∷ l) (clauses_at front back k O)
+
+pub clauses_join : (front back : List KeptClause) (O : List Clause) → clauses_of (front ++ back) ++ O ≡ clauses_of front ++ (clauses_of back ++ O)
+clauses_join [] back O = refl
+clauses_join (j ∷ front) back O = ap (λ l. j.clause ∷ l) (clauses_join front back O)
+
+pub clauses_last : (ks : List KeptClause) (k : KeptClause) → clauses_of (ks ++ k ∷ []) ≡ clauses_of ks ++ k.clause ∷ []
+clauses_last [] k = refl
+clauses_last (j ∷ ks) k = ap (λ l. j.clause ∷ l) (clauses_last ks k)
+
+pub clause_in : (ks : List KeptClause) (k : KeptClause) → k ∈ ks → k.clause ∈ clauses_of ks
+clause_in [] k h = absurd h
+clause_in (j ∷ ks) k (inl e) = inl (ap (λ x. x.clause) e)
+clause_in (j ∷ ks) k (inr h) = inr (clause_in ks k h)
+
+pub clause_from : (ks : List KeptClause) (c : Clause) → c ∈ clauses_of ks → (k : KeptClause) × (k ∈ ks) × (k.clause ≡ c)
+clause_from [] c h = absurd h
+clause_from (j ∷ ks) c (inl e) = (j, inl refl, sym e)
+clause_from (j ∷ ks) c (inr h) = let (k, i, e) = clause_from ks c h in (k, inr i, e)
+
+-- 3. What fits.
+
+-- the same clauses in another order fit too
+pub fits_same : (P Q : List Clause) (s : Search) → SameClauses P Q → Fits P s → Fits Q s
+fits_same P Q s q f = record {
+  others = f.others;
+  same = same_clauses-through Q P (clauses_of s.kept ++ f.others) (same_clauses-back P Q q) f.same;
+  settled = f.settled;
+  units = f.units;
+}
+
+-- What is held in the plainest order: the kept clauses, and then the others.
+abbrev pub plain : (held : List Clause) (s : Search) → Fits held s → List Clause
+plain held s f = clauses_of s.kept ++ f.others
+
+-- it is enough to follow the lines from there
+pub carried : (n : ℕ) (P L : List Clause) (lines : List Line) (t : Search) → SameClauses P L → ((Q : List Clause) × DerivesBy n L lines Q × Fits Q t) → (Q : List Clause) × DerivesBy n P lines Q × Fits Q t
+carried n P L lines t q (Q, d, f) =
+    let (R, e, u) = by_same n L P lines Q (same_clauses-back P L q) d in
+    (R, e, fits_same Q R t u f)
+
+-- a kept clause is held
+pub kept_held : (held : List Clause) (s : Search) (k : KeptClause) → Fits held s → k ∈ s.kept → (d : Clause) × (d ∈ held) × SameSet d k.clause
+kept_held held s k f h =
+    same_clauses_find (clauses_of s.kept ++ f.others) held (same_clauses-back held (clauses_of s.kept ++ f.others) f.same) k.clause (∈-append_left k.clause (clauses_of s.kept) f.others (clause_in s.kept k h))
+
+-- a proved literal is implied
+pub proved_implied : (held : List Clause) (s : Search) (l : Literal) (f : Fits held s) → l ∈ s.proved → Implied (clauses_of s.kept ++ f.others) [] l
+proved_implied held s l f h =
+    let (d, i, u) = f.units l h in
+    unit_implied (clauses_of s.kept ++ f.others) [] l d (∈-append_right d (clauses_of s.kept) f.others i) u

@@ -1,0 +1,175 @@
+-- Parts of a step: kept clauses move, are deleted and shortened, units are proved.
+use Rattle.std.proofs.Common.{◌≡◌, Bool, true, false, List, [], ◌∷◌, ◌++◌, ◌⊎◌, inl, inr, ⊎_elim, sym, ap, ◌∙◌, subst, refl, append_assoc}
+use Rattle.varisat_theory.specs.Membership.{◌∈◌, ◌⊆◌, SameSet}
+use Rattle.varisat_theory.specs.Literals.{Literal, Clause, opposite, IsUnit}
+use Rattle.varisat_theory.specs.Propagation.{LeavesOnly, Follows}
+use Rattle.varisat_theory.specs.Derivations.{Add, Delete}
+use Rattle.varisat_theory.specs.Held.{SameClauses}
+use Rattle.varisat_theory.specs.Analysis.{Implied, ByReason}
+use Rattle.varisat_theory.proofs.Members.{∈-append_left, ∈-append_right, ∈-append_cases}
+use Rattle.varisat_theory.proofs.Growth.{follows_member}
+use Rattle.varisat_theory.proofs.Learning.{follows_at_zero}
+use Rattle.varisat_theory.proofs.Implication.{implied_follows, implied_more}
+use Rattle.varisat_theory.proofs.Held.{same_set-back, same_clauses-through}
+use Rattle.varisat_theory.specs.Counted.{IsMinor}
+use Rattle.varisat_theory.specs.Searches.{KeptClause, Search, clauses_of, IsSettled, Fits}
+use Rattle.varisat_theory.specs.Outcomes.{Proves}
+use Rattle.varisat_theory.proofs.SearchFits.{same_insert, same_front, same_equal, clauses_at, clauses_join, clause_in, plain, carried, proved_implied}
+
+-- what is settled stays so where more literals are fixed
+pub settled_more : (s t : Search) (c : Clause) → s.fixed ⊆ t.fixed → IsSettled s c → IsSettled t c
+settled_more s t c h (inl a) = inl a
+settled_more s t c h (inr (l, i, j)) = inr (l, i, h l j)
+
+pub settled_wider : (s : Search) (c d : Clause) → c ⊆ d → IsSettled s c → IsSettled s d
+settled_wider s c d h (inl (l, i, j)) = inl (l, h l i, h (opposite l) j)
+settled_wider s c d h (inr (l, i, j)) = inr (l, h l i, j)
+
+-- a unit clause joins the others
+pub more_units : (s t : Search) (O : List Clause) (c : Clause) (l : Literal) → IsUnit l c → t.proved ≡ s.proved ++ l ∷ [] → ((m : Literal) → m ∈ s.proved → (d : Clause) × (d ∈ O) × IsUnit m d) → (m : Literal) → m ∈ t.proved → (d : Clause) × (d ∈ (O ++ c ∷ [])) × IsUnit m d
+more_units s t O c l u e f m h =
+    ⊎_elim
+    (λ i. let (d, j, v) = f m i in (d, ∈-append_left d O (c ∷ []) j, v))
+    (λ i. ⊎_elim (λ g. (c, ∈-append_right c O (c ∷ []) (inl refl), subst (λ x. IsUnit x c) (sym g) u)) (λ z. absurd z) i)
+    (∈-append_cases m s.proved (l ∷ []) (subst (λ x. m ∈ x) e h))
+
+pub more_settled : (t : Search) (O : List Clause) (c : Clause) → ((d : Clause) → d ∈ O → IsSettled t d) → IsSettled t c → (d : Clause) → d ∈ (O ++ c ∷ []) → IsSettled t d
+more_settled t O c f g d h =
+    ⊎_elim (f d) (λ i. ⊎_elim (λ e. subst (IsSettled t) (sym e) g) (λ z. absurd z) i) (∈-append_cases d O (c ∷ []) h)
+
+pub moves_prove : (s t : Search) → SameClauses (clauses_of s.kept) (clauses_of t.kept) → ((k : KeptClause) → k ∈ s.kept → k.learned ≡ false → (j : KeptClause) × (j ∈ t.kept) × (j.learned ≡ false) × (j.clause ⊆ k.clause)) → s.fixed ⊆ t.fixed → t.proved ⊆ s.proved → Proves 0 s t []
+moves_prove s t q g x p = record {
+  holds = λ held f. (
+    held,
+    refl,
+    record {
+      others = f.others;
+      same = same_clauses-through held (clauses_of s.kept ++ f.others) (clauses_of t.kept ++ f.others) f.same (same_front (clauses_of s.kept) (clauses_of t.kept) f.others q);
+      settled = λ c h. settled_more s t c x (f.settled c h);
+      units = λ l h. f.units l (p l h);
+    },
+  );
+  covers = λ P v c h.
+      ⊎_elim
+      (λ a. inl (settled_more s t c x a))
+      (λ (k, i, e, w). let (j, i', e', w') = g k i e in inr (j, i', e', λ m r. w m (w' m r)))
+      (v c h);
+}
+
+-- a literal that is false by proved ones is implied to be
+module _ (s : Search) (held : List Clause) (f : Fits held s) where
+  pub proved_more : (more : List Literal) (l : Literal) → l ∈ s.proved → Implied (plain held s f) more l
+  proved_more more l h = implied_more (plain held s f) (plain held s f) [] more l (λ x i. i) (λ x i. absurd i) (proved_implied held s l f h)
+
+  pub in_plain : (k : KeptClause) → k ∈ s.kept → k.clause ∈ plain held s f
+  in_plain k h = ∈-append_left k.clause (clauses_of s.kept) f.others (clause_in s.kept k h)
+
+  pub unit_follows : (l : Literal) (k : KeptClause) → k ∈ s.kept → l ∈ k.clause → LeavesOnly s.proved k.clause l → Follows (plain held s f) (l ∷ [])
+  unit_follows l k h i u =
+      implied_follows (plain held s f) l (ByReason k.clause (in_plain k h) i (λ m j n. ⊎_elim (λ e. absurd (n e)) (λ o. proved_implied held s (opposite m) f o) (u m j)))
+
+pub unit_is_proved : (s : Search) (l : Literal) (k : KeptClause) → l ∈ s.fixed → k ∈ s.kept → l ∈ k.clause → LeavesOnly s.proved k.clause l → Proves 0 s (record s { proved = s.proved ++ l ∷ [] }) (Add (l ∷ []) ∷ [])
+unit_is_proved s l k x h i u = record {
+  holds = λ held f.
+      let unit : IsUnit l (l ∷ []) = (inl refl, λ m j. ⊎_elim (λ e. e) (λ z. absurd z) j) in
+      carried 0 held (plain held s f) (Add (l ∷ []) ∷ []) (record s { proved = s.proved ++ l ∷ [] }) f.same (
+        plain held s f ++ (l ∷ []) ∷ [],
+        (unit_follows s held f l k h i u, inl (inl (l, unit), refl)),
+        record {
+          others = f.others ++ (l ∷ []) ∷ [];
+          same = same_equal (plain held s f ++ (l ∷ []) ∷ []) (clauses_of s.kept ++ (f.others ++ (l ∷ []) ∷ [])) (append_assoc (clauses_of s.kept) f.others ((l ∷ []) ∷ []));
+          settled = more_settled s f.others (l ∷ []) f.settled (inr (l, inl refl, x));
+          units = more_units s (record s { proved = s.proved ++ l ∷ [] }) f.others (l ∷ []) l unit refl f.units;
+        },
+      );
+  covers = λ P v. v;
+}
+
+-- a kept clause is deleted that is learned or settled
+pub is_deleted : (s : Search) (front back : List KeptClause) (k : KeptClause) (c : Clause) → s.kept ≡ front ++ (k ∷ back) → SameSet k.clause c → (k.learned ≡ true) ⊎ IsSettled s k.clause → Proves 0 s (record s { kept = front ++ back }) (Delete c ∷ [])
+is_deleted s front back k c e q w = record {
+  holds = λ held f.
+      let F = clauses_of front in
+      let B = clauses_of back ++ f.others in
+      let same : plain held s f ≡ F ++ (k.clause ∷ B) = ap (λ x. clauses_of x ++ f.others) e ∙ clauses_at front back k f.others in
+      carried 0 held (plain held s f) (Delete c ∷ []) (record s { kept = front ++ back }) f.same (
+        F ++ B,
+        (F ++ B, (F, k.clause, B, same, q, refl), refl),
+        record {
+          others = f.others;
+          same = same_equal (F ++ B) (clauses_of (front ++ back) ++ f.others) (sym (clauses_join front back f.others));
+          settled = f.settled;
+          units = f.units;
+        },
+      );
+  covers = λ P v d h.
+      ⊎_elim
+      (λ a. inl a)
+      (λ (j, i, g, r). ⊎_elim
+      (λ a. inr (j, ∈-append_left j front back a, g, r))
+      (λ a. ⊎_elim
+      (λ m. ⊎_elim
+      (λ y. absurd (let z : true ≡ false = sym y ∙ ap (λ x. x.learned) (sym m) ∙ g in cc))
+      (λ y. inl (settled_wider s k.clause d (λ x o. r x (subst (λ n. x ∈ n.clause) (sym m) o)) y))
+      w)
+      (λ b. inr (j, ∈-append_right j front back b, g, r))
+      a)
+      (∈-append_cases j front (k ∷ back) (subst (λ x. j ∈ x) e i)))
+      (v d h);
+}
+
+pub satisfied_is_deleted : (s : Search) (front back : List KeptClause) (k : KeptClause) (c : Clause) (l : Literal) → s.kept ≡ front ++ (k ∷ back) → SameSet k.clause c → l ∈ k.clause → l ∈ s.fixed → Proves 0 s (record s { kept = front ++ back }) (Delete c ∷ [])
+satisfied_is_deleted s front back k c l e q h i = is_deleted s front back k c e q (inr (inr (l, h, i)))
+
+pub learned_is_deleted : (s : Search) (front back : List KeptClause) (k : KeptClause) (c : Clause) → s.kept ≡ front ++ (k ∷ back) → SameSet k.clause c → k.learned ≡ true → Proves 0 s (record s { kept = front ++ back }) (Delete c ∷ [])
+learned_is_deleted s front back k c e q w = is_deleted s front back k c e q (inl w)
+
+is_false : (b : Bool) → (b ≡ true → ⊥) → b ≡ false
+is_false true n = absurd (n refl)
+is_false false n = refl
+
+pub is_shortened : (s : Search) (front back : List KeptClause) (k j : KeptClause) (c d : Clause) → s.kept ≡ front ++ (k ∷ back) → SameSet k.clause c → SameSet j.clause d → j.clause ⊆ k.clause → ((m : Literal) → m ∈ k.clause → (m ∈ j.clause) ⊎ (opposite m ∈ s.proved)) → (j.learned ≡ true → k.learned ≡ true) → Proves 0 s (record s { kept = front ++ (j ∷ back) }) (Add d ∷ Delete c ∷ [])
+is_shortened s front back k j c d e q r w g y = record {
+  holds = λ held f.
+      let F = clauses_of front in
+      let B = clauses_of back ++ f.others in
+      let L = plain held s f in
+      let t = record s { kept = front ++ (j ∷ back) } in
+      let same : L ≡ F ++ (k.clause ∷ B) = ap (λ x. clauses_of x ++ f.others) e ∙ clauses_at front back k f.others in
+      let here : k ∈ s.kept = subst (λ x. k ∈ x) (sym e) (∈-append_right k front (k ∷ back) (inl refl)) in
+      let inside : k.clause ∈ L = in_plain s held f k here in
+      let follows : Follows L d = follows_at_zero L k.clause d (follows_member L k.clause inside) (λ m h. ⊎_elim (λ a. inl (r.0 m a)) (λ a. inr (proved_implied held s (opposite m) f a)) (g m h)) in
+      let minor : IsMinor L d = inr (k.clause, inside, λ m h. w m (r.1 m h)) in
+      let grown : L ++ d ∷ [] ≡ F ++ (k.clause ∷ (B ++ d ∷ [])) = ap (λ l. l ++ d ∷ []) same ∙ append_assoc F (k.clause ∷ B) (d ∷ []) in
+      let Q = F ++ (B ++ d ∷ []) in
+      let left : Q ≡ (F ++ B) ++ d ∷ [] = sym (append_assoc F B (d ∷ [])) in
+      let right : clauses_of (front ++ (j ∷ back)) ++ f.others ≡ F ++ (j.clause ∷ B) = clauses_at front back j f.others in
+      carried 0 held L (Add d ∷ Delete c ∷ []) t f.same (
+        Q,
+        (follows, inl (minor, (Q, (F, k.clause, B ++ d ∷ [], grown, q, refl), refl))),
+        record {
+          others = f.others;
+          same = subst (λ x. SameClauses x (clauses_of t.kept ++ f.others)) (sym left) (subst (SameClauses ((F ++ B) ++ d ∷ [])) (sym right) (moved F B j.clause d r));
+          settled = f.settled;
+          units = f.units;
+        },
+      );
+  covers = λ P v a h.
+      ⊎_elim
+      (λ b. inl b)
+      (λ (i, o, n, p). ⊎_elim
+      (λ b. inr (i, ∈-append_left i front (j ∷ back) b, n, p))
+      (λ b. ⊎_elim
+      (λ m. inr (j, ∈-append_right j front (j ∷ back) (inl refl), is_false j.learned (λ u. let z : true ≡ false = sym (y u) ∙ ap (λ x. x.learned) (sym m) ∙ n in cc), λ x u. p x (subst (λ x'. x ∈ x'.clause) (sym m) (w x u))))
+      (λ z. inr (i, ∈-append_right i front (j ∷ back) (inr z), n, p))
+      b)
+      (∈-append_cases i front (k ∷ back) (subst (λ x. i ∈ x) e o)))
+      (v a h);
+}
+  where
+    none : (P : List Clause) → P ++ [] ≡ P
+    none [] = refl
+    none (x ∷ P) = ap (λ l. x ∷ l) (none P)
+
+    moved : (F B : List Clause) (a b : Clause) → SameSet a b → SameClauses ((F ++ B) ++ b ∷ []) (F ++ (a ∷ B))
+    moved F B a b v = same_insert (F ++ B) [] F B b a (same_set-back a b v) (same_equal ((F ++ B) ++ []) (F ++ B) (none (F ++ B)))

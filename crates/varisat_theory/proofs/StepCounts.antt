@@ -1,0 +1,57 @@
+-- Derivations that count.
+use Rattle.std.proofs.Common.{ℕ, ◌+◌, List, [], ◌∷◌, ◌++◌, inl, inr, sym, ap, ◌∙◌, subst, refl, append_assoc, arith}
+use Rattle.varisat_theory.specs.Literals.{Clause}
+use Rattle.varisat_theory.specs.Derivations.{Line, Add, Delete, IsPresentAfter, Derives}
+use Rattle.varisat_theory.specs.Held.{SameClauses}
+use Rattle.varisat_theory.proofs.Held.{same_set-self, same_add, same_delete, same_clauses_find, same_clauses-back, follows_same}
+use Rattle.varisat_theory.specs.Counted.{IsMinor, IsNew, DerivesBy, AddsNew}
+
+-- what counts is a derivation
+pub by_derives : (n : ℕ) (P : List Clause) (lines : List Line) (Q : List Clause) → DerivesBy n P lines Q → Derives P lines Q
+by_derives n P [] Q d = d
+by_derives n P (Add c ∷ lines) Q (f, inl (m, d)) = (f, by_derives n (P ++ c ∷ []) lines Q d)
+by_derives n P (Add c ∷ lines) Q (f, inr (m, e, d)) = (f, by_derives m (P ++ c ∷ []) lines Q d)
+by_derives n P (Delete c ∷ lines) Q (R, t, d) = (R, t, by_derives n R lines Q d)
+
+pub by_append : (n m : ℕ) (P : List Clause) (lines : List Line) (Q : List Clause) (more : List Line) (R : List Clause) → DerivesBy n P lines Q → DerivesBy m Q more R → DerivesBy (n + m) P (lines ++ more) R
+by_append n m P [] Q more R d e = let f = subst (λ S. DerivesBy m S more R) (sym d) e in by_more m n P more R f
+  where
+    by_more : (m k : ℕ) (P : List Clause) (lines : List Line) (Q : List Clause) → DerivesBy m P lines Q → DerivesBy (k + m) P lines Q
+    by_more m k P [] Q d = d
+    by_more m k P (Add c ∷ lines) Q (f, inl (i, d)) = (f, inl (i, by_more m k (P ++ c ∷ []) lines Q d))
+    by_more m k P (Add c ∷ lines) Q (f, inr (j, e, d)) = (f, inr (k + j, omega (arith, e), by_more j k (P ++ c ∷ []) lines Q d))
+    by_more m k P (Delete c ∷ lines) Q (S, t, d) = (S, t, by_more m k S lines Q d)
+by_append n m P (Add c ∷ lines) Q more R (f, inl (i, d)) e = (f, inl (i, by_append n m (P ++ c ∷ []) lines Q more R d e))
+by_append n m P (Add c ∷ lines) Q more R (f, inr (j, g, d)) e = (f, inr (j + m, omega (arith, g), by_append j m (P ++ c ∷ []) lines Q more R d e))
+by_append n m P (Delete c ∷ lines) Q more R (S, t, d) e = (S, t, by_append n m S lines Q more R d e)
+
+minor_same : (P Q : List Clause) (c : Clause) → SameClauses P Q → IsMinor P c → IsMinor Q c
+minor_same P Q c s (inl u) = inl u
+minor_same P Q c s (inr (d, h, i)) = let (e, j, t) = same_clauses_find P Q s d h in inr (e, j, λ x k. t.1 x (i x k))
+
+pub new_same : (P Q : List Clause) (c : Clause) → SameClauses P Q → IsNew P c → IsNew Q c
+new_same P Q c s n d h i = let (e, j, t) = same_clauses_find Q P (same_clauses-back P Q s) d h in n e j (λ x k. i x (t.0 x k))
+
+-- the same lines from the same clauses
+pub by_same : (n : ℕ) (P P' : List Clause) (lines : List Line) (Q : List Clause) → SameClauses P P' → DerivesBy n P lines Q → (Q' : List Clause) × DerivesBy n P' lines Q' × SameClauses Q Q'
+by_same n P P' [] Q s d = (P', refl, subst (λ l. SameClauses l P') d s)
+by_same n P P' (Add c ∷ lines) Q s (f, inl (i, d)) =
+    let (Q', p, v) = by_same n (P ++ c ∷ []) (P' ++ c ∷ []) lines Q (same_add P P' c c s (same_set-self c)) d in
+    (Q', (follows_same P P' c c s (same_set-self c) f, inl (minor_same P P' c s i, p)), v)
+by_same n P P' (Add c ∷ lines) Q s (f, inr (m, e, d)) =
+    let (Q', p, v) = by_same m (P ++ c ∷ []) (P' ++ c ∷ []) lines Q (same_add P P' c c s (same_set-self c)) d in
+    (Q', (follows_same P P' c c s (same_set-self c) f, inr (m, e, p)), v)
+by_same n P P' (Delete c ∷ lines) Q s (R, t, d) =
+    let (R', k, u) = same_delete P P' c R s t in
+    let (Q', p, v) = by_same n R R' lines Q u d in
+    (Q', (R', k, p), v)
+
+pub present_append : (P : List Clause) (lines : List Line) (Q : List Clause) (more : List Line) (R : List Clause) → Derives P lines Q → IsPresentAfter Q more R → IsPresentAfter P (lines ++ more) R
+present_append P [] Q more R d e = subst (λ S. IsPresentAfter S more R) (sym d) e
+present_append P (Add c ∷ lines) Q more R d e = present_append (P ++ c ∷ []) lines Q more R d.1 e
+present_append P (Delete c ∷ lines) Q more R d e = (d.0, d.1, present_append d.0 lines Q more R d.2 e)
+
+-- what is added after other lines
+pub new_after : (P : List Clause) (lines : List Line) (Q : List Clause) (more : List Line) → Derives P lines Q → AddsNew Q more → AddsNew P (lines ++ more)
+new_after P lines Q more d (front, back, c, R, e, p, n) =
+    (lines ++ front, back, c, R, ap (λ l. lines ++ l) e ∙ sym (append_assoc lines front (Add c ∷ back)), present_append P lines Q front R d p, n)

@@ -1,0 +1,99 @@
+-- What the forms give above.
+use Rattle.std.proofs.Common.{◌≡◌, ℕ, zero, suc, ◌+◌, ◌<◌, ◌≤◌, Bool, true, false, List, [], ◌∷◌, ◌++◌, length, ◌⊎◌, inl, inr, ⊎_elim, sym, ap, subst, refl, arith, length-append}
+use Rattle.varisat_theory.specs.Membership.{◌∈◌, ◌⊆◌}
+use Rattle.varisat_theory.specs.Literals.{Literal, Clause, opposite}
+use Rattle.varisat_theory.specs.Derivations.{Line, Refutes}
+use Rattle.varisat_theory.specs.Held.{SameClauses}
+use Rattle.varisat_theory.specs.Renaming.{KeepsOpposites}
+use Rattle.varisat_theory.proofs.Lines.{refutes_from}
+use Rattle.varisat_theory.specs.Counted.{added}
+use Rattle.varisat_theory.specs.Searches.{KeptClause, Search, clauses_of, IsTautology, IsSettled, Fits, Covers, CoversBy}
+use Rattle.varisat_theory.specs.Outcomes.{Unknown, Unsat, Proves, Steps}
+use Rattle.varisat_theory.specs.StepLaws.{joined}
+use Rattle.varisat_theory.proofs.StepCounts.{by_derives}
+use Rattle.varisat_theory.proofs.StepParts.{parts_join}
+use Rattle.varisat_theory.proofs.StepStands.{step_is_part, step_adds, added_append}
+
+-- as many clauses
+same_count : (P Q : List Clause) → SameClauses P Q → length Q ≡ length P
+same_count [] Q s = ap (λ (l : List Clause). length l) s
+same_count (p ∷ P) Q (R, (front, d, back, e, u, g), s) =
+    let a = ap (λ (l : List Clause). length l) e in
+    let b = ap (λ (l : List Clause). length l) g in
+    let c = length-append front (d ∷ back) in
+    let f = length-append front back in
+    let n = same_count P R s in
+    omega (arith, a, b, c, f, n)
+
+clauses_count : (ks : List KeptClause) → length (clauses_of ks) ≡ length ks
+clauses_count [] = refl
+clauses_count (k ∷ ks) = let e = clauses_count ks in omega (arith, e)
+
+pub kept_are_held : (held : List Clause) (s : Search) → Fits held s → length s.kept ≤ length held
+kept_are_held held s f =
+    let a = same_count held (clauses_of s.kept ++ f.others) f.same in
+    let b = length-append (clauses_of s.kept) f.others in
+    let c = clauses_count s.kept in
+    omega (arith, a, b, c)
+
+pub steps_of_call : (k : ℕ) (s : ℕ → Search) (lines : ℕ → List Line) → ((i : ℕ) → i < k → Steps (s i) (s (suc i)) Unknown (lines i)) → Proves k (s 0) (s k) (joined k lines) × ((held : List Clause) → Fits held (s 0) → k ≤ added (joined k lines))
+steps_of_call zero s lines g = (record { holds = λ held f. (held, refl, f); covers = λ P v. v }, λ held f. omega arith)
+steps_of_call (suc k) s lines g =
+    let (p, n) = steps_of_call k s lines (λ i h. g i (omega (arith, h))) in
+    let q = g k (omega arith) in
+    let e : k + 1 ≡ suc k = omega arith in (
+      subst (λ m. Proves m (s 0) (s (suc k)) (joined k lines ++ lines k)) e (parts_join k 1 (s 0) (s k) (s (suc k)) (joined k lines) (lines k) p (step_is_part (s k) (s (suc k)) (lines k) q)),
+      λ held f.
+          let (mid, d, h) = p.holds held f in
+          let a = n held f in
+          let b = step_adds (s k) (s (suc k)) (lines k) mid q h in
+          let c = added_append (joined k lines) (lines k) in
+          omega (arith, a, b, c),
+    )
+
+none : (P : List Line) → P ≡ P ++ []
+none [] = refl
+none (x ∷ P) = ap (λ l. x ∷ l) (none P)
+
+pub unsat_refutes : (held : List Clause) (s t : Search) (lines : List Line) → Fits held s → Steps s t Unsat lines → Refutes held lines
+unsat_refutes held s t lines f p =
+    let (after, d, h, n) = p.holds held f in
+    refutes_from held lines (lines, [], after, none lines, by_derives 1 held lines after d, h)
+
+module _ (s t : Search) (to : Literal → Literal) (known : Literal → Bool) (keeps : KeepsOpposites to) (covers : (P : List Clause) → Covers P s → Covers P t) where
+  abbrev Held : Clause → Type 0
+  Held c = IsTautology c ⊎ (((l : Literal) × (l ∈ c) × (known l ≡ true)) ⊎ (((l : Literal) × (l ∈ t.fixed) × (to l ∈ c)) ⊎ ((k : KeptClause) × (k ∈ t.kept) × (k.learned ≡ false) × ((l : Literal) → l ∈ k.clause → to l ∈ c))))
+
+  -- a clause of the search that is covered there still is one whose names are in c
+  by_clause : (c d : Clause) → ((l : Literal) → l ∈ d → to l ∈ c) → IsSettled s d ⊎ ((k : KeptClause) × (k ∈ s.kept) × (k.learned ≡ false) × (k.clause ⊆ d)) → Held c
+  by_clause c d w h =
+      ⊎_elim
+      (λ a. ⊎_elim
+      (λ (l, i, j). inl (to l, w l i, subst (λ x. x ∈ c) (keeps l) (w (opposite l) j)))
+      (λ (l, i, j). inr (inr (inl (l, j, w l i))))
+      a)
+      (λ (k, i, e, x). inr (inr (inr (k, i, e, λ l j. w l (x l j)))))
+      (covers (d ∷ []) (λ x i. ⊎_elim (λ e. subst (λ y. IsSettled s y ⊎ ((k : KeptClause) × (k ∈ s.kept) × (k.learned ≡ false) × (k.clause ⊆ y))) (sym e) h) (λ z. absurd z) i) d (inl refl))
+
+  by_names : (c : Clause) → IsTautology c ⊎ (((l : Literal) × (l ∈ c) × (known l ≡ true)) ⊎ (((l : Literal) × (l ∈ s.fixed) × (to l ∈ c)) ⊎ ((k : KeptClause) × (k ∈ s.kept) × (k.learned ≡ false) × ((l : Literal) → l ∈ k.clause → to l ∈ c)))) → Held c
+  by_names c (inl a) = inl a
+  by_names c (inr (inl a)) = inr (inl a)
+  by_names c (inr (inr (inl (l, i, j)))) =
+      by_clause c (l ∷ []) (λ m h. ⊎_elim (λ e. subst (λ x. to x ∈ c) (sym e) j) (λ z. absurd z) h) (inl (inr (l, inl refl, i)))
+  by_names c (inr (inr (inr (k, i, e, w)))) = by_clause c k.clause w (inr (k, i, e, λ x o. o))
+
+pub names_are_covered : (n : ℕ) (s t : Search) (lines : List Line) (to : Literal → Literal) (known : Literal → Bool) (P : List Clause) → KeepsOpposites to → Proves n s t lines → CoversBy to known P s → CoversBy to known P t
+names_are_covered n s t lines to known P keeps p v c h = by_names s t to known keeps p.covers c (v c h)
+
+pub dropped_are_covered : (s t : Search) (to : Literal → Literal) (known more : Literal → Bool) (P : List Clause) → t.kept ≡ s.kept → ((l : Literal) → l ∈ s.fixed → (l ∈ t.fixed) ⊎ (more (to l) ≡ true)) → ((l : Literal) → known l ≡ true → more l ≡ true) → CoversBy to known P s → CoversBy to more P t
+dropped_are_covered s t to known more P e x m v c h =
+    ⊎_elim
+    (λ a. inl a)
+    (λ a. ⊎_elim
+    (λ (l, i, j). inr (inl (l, i, m l j)))
+    (λ b. ⊎_elim
+    (λ (l, i, j). ⊎_elim (λ y. inr (inr (inl (l, y, j)))) (λ y. inr (inl (to l, j, y))) (x l i))
+    (λ (k, i, f, w). inr (inr (inr (k, subst (λ ks. k ∈ ks) (sym e) i, f, w))))
+    b)
+    a)
+    (v c h)

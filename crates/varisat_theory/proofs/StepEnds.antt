@@ -1,0 +1,135 @@
+-- How a step ends.
+use Rattle.std.proofs.Common.{◌≡◌, List, [], ◌∷◌, ◌++◌, inl, inr, ⊎_elim, sym, ap, subst, refl, append_assoc}
+use Rattle.varisat_theory.specs.Membership.{◌∈◌, ◌⊆◌, SameSet}
+use Rattle.varisat_theory.specs.Literals.{Literal, Clause, Assignment, opposite, IsUnit, Satisfies, SatisfiesAll, MakesTrue}
+use Rattle.varisat_theory.specs.Propagation.{Conflicts, FalseClause, IsFalse}
+use Rattle.varisat_theory.specs.Derivations.{Add}
+use Rattle.varisat_theory.specs.Held.{SameClauses}
+use Rattle.varisat_theory.proofs.Members.{∈-append_left, ∈-append_right, ∈-append_cases}
+use Rattle.varisat_theory.proofs.Held.{same_set-back, same_clauses-through, same_add, same_set-self, same_clauses_find, same_clauses-back, conflicts_same}
+use Rattle.varisat_theory.proofs.Assigned.{assigned_satisfies, same_set_satisfied, tautology_satisfied}
+use Rattle.varisat_theory.proofs.Implication.{implied_false}
+use Rattle.varisat_theory.specs.Counted.{IsNew, AddsNew}
+use Rattle.varisat_theory.specs.Searches.{KeptClause, Search, clauses_of, IsSettled, Fits, Covers}
+use Rattle.varisat_theory.specs.Outcomes.{Unknown, Sat, Unsat, UnsatUnder, Steps}
+use Rattle.varisat_theory.specs.StepLaws.{FollowsFrom, IsNewTo, IsFresh, IsModel}
+use Rattle.varisat_theory.proofs.SearchFits.{same_between, clauses_last, clause_from, plain, proved_implied}
+use Rattle.varisat_theory.proofs.StepChanges.{settled_more, more_units, more_settled, in_plain}
+
+-- no held clause is a part of a fresh one
+pub fresh_is_new : (s : Search) (c : Clause) → IsFresh s c → IsNewTo s c
+fresh_is_new s c n held f d h w =
+    let (e, i, q) = same_clauses_find held (clauses_of s.kept ++ f.others) f.same d h in
+    ⊎_elim
+    (λ a. let (k, j, g) = clause_from s.kept e a in n.kept k j (λ x o. w x (q.0 x (subst (λ y. x ∈ y) g o))))
+    (λ a. ⊎_elim
+    (λ (l, o, p). n.tautology (l, w l (q.0 l o), w (opposite l) (q.0 (opposite l) p)))
+    (λ (l, o, p). n.fixed l (w l (q.0 l o)) p)
+    (f.settled e a))
+    (∈-append_cases e (clauses_of s.kept) f.others i)
+
+-- a clause is kept in addition
+pub fits_kept : (s : Search) (held : List Clause) (c : Clause) (k : KeptClause) → SameSet k.clause c → Fits held s → Fits (held ++ c ∷ []) (record s { kept = s.kept ++ k ∷ [] })
+fits_kept s held c k q f = record {
+  others = f.others;
+  same = same_clauses-through (held ++ c ∷ []) (plain held s f ++ c ∷ []) (clauses_of (s.kept ++ k ∷ []) ++ f.others)
+      (same_add held (plain held s f) c c f.same (same_set-self c))
+      (subst (λ x. SameClauses (plain held s f ++ c ∷ []) (x ++ f.others)) (sym (clauses_last s.kept k)) (same_between (clauses_of s.kept) f.others c k.clause (same_set-back k.clause c q)));
+  settled = f.settled;
+  units = f.units;
+}
+
+pub covers_kept : (s : Search) (k : KeptClause) (P : List Clause) → Covers P s → Covers P (record s { kept = s.kept ++ k ∷ [] })
+covers_kept s k P v d h = ⊎_elim (λ a. inl a) (λ (j, i, e, w). inr (j, ∈-append_left j s.kept (k ∷ []) i, e, w)) (v d h)
+
+-- a clause that is settled joins the others
+pub fits_settled : (s : Search) (held : List Clause) (c : Clause) → IsSettled s c → Fits held s → Fits (held ++ c ∷ []) s
+fits_settled s held c a f = record {
+  others = f.others ++ c ∷ [];
+  same = subst (SameClauses (held ++ c ∷ [])) (append_assoc (clauses_of s.kept) f.others (c ∷ [])) (same_add held (plain held s f) c c f.same (same_set-self c));
+  settled = more_settled s f.others c f.settled a;
+  units = λ l h. let (d, i, u) = f.units l h in (d, ∈-append_left d f.others (c ∷ []) i, u);
+}
+
+-- a unit is true at level 0 from then on
+abbrev pub with_unit : Search → Literal → Search
+with_unit s l = record s { fixed = s.fixed ++ l ∷ []; proved = s.proved ++ l ∷ [] }
+
+pub fits_unit : (s : Search) (held : List Clause) (c : Clause) (l : Literal) → IsUnit l c → Fits held s → Fits (held ++ c ∷ []) (with_unit s l)
+fits_unit s held c l u f =
+    let more : s.fixed ⊆ (s.fixed ++ l ∷ []) = λ x h. ∈-append_left x s.fixed (l ∷ []) h in
+    record {
+      others = f.others ++ c ∷ [];
+      same = subst (SameClauses (held ++ c ∷ [])) (append_assoc (clauses_of s.kept) f.others (c ∷ [])) (same_add held (plain held s f) c c f.same (same_set-self c));
+      settled = more_settled (with_unit s l) f.others c (λ d h. settled_more s (with_unit s l) d more (f.settled d h)) (inr (l, u.0, ∈-append_right l s.fixed (l ∷ []) (inl refl)));
+      units = more_units s (with_unit s l) f.others c l u refl f.units;
+    }
+
+pub covers_unit : (s : Search) (l : Literal) (P : List Clause) → Covers P s → Covers P (with_unit s l)
+covers_unit s l P v d h =
+    ⊎_elim (λ a. inl (settled_more s (with_unit s l) d (λ x i. ∈-append_left x s.fixed (l ∷ []) i) a)) inr (v d h)
+
+new_line : (held : List Clause) (c : Clause) → IsNew held c → AddsNew held (Add c ∷ [])
+new_line held c n = ([], [], c, held, refl, refl, n)
+
+pub learned_kept : (s : Search) (c : Clause) (k : KeptClause) → SameSet k.clause c → FollowsFrom s c → IsNewTo s c → Steps s (record s { kept = s.kept ++ k ∷ [] }) Unknown (Add c ∷ [])
+learned_kept s c k q g n = record {
+  holds = λ held f.
+      (held ++ c ∷ [], (g held f, inr (0, refl, refl)), fits_kept s held c k q f, λ e. new_line held c (n held f));
+  answers = covers_kept s k;
+}
+
+pub learned_unit : (s : Search) (c : Clause) (l : Literal) → IsUnit l c → FollowsFrom s c → IsNewTo s c → Steps s (record s { fixed = s.fixed ++ l ∷ []; proved = s.proved ++ l ∷ [] }) Unknown (Add c ∷ [])
+learned_unit s c l u g n = record {
+  holds = λ held f.
+      (held ++ c ∷ [], (g held f, inl (inl (l, u), refl)), fits_unit s held c l u f, λ e. new_line held c (n held f));
+  answers = covers_unit s l;
+}
+
+pub empty_is_added : (s t : Search) (k : KeptClause) → k ∈ s.kept → IsFalse s.proved k.clause → Steps s t Unsat (Add [] ∷ [])
+empty_is_added s t k h z = record {
+  holds = λ held f.
+      let now : Conflicts held [] = conflicts_same (plain held s f) held [] (same_clauses-back held (plain held s f) f.same) (implied_false (plain held s f) [] k.clause (in_plain s held f k h) (λ m i. proved_implied held s (opposite m) f (z m i))) in
+      (held ++ [] ∷ [], (now, inr (0, refl, refl)), FalseClause [] (∈-append_right [] held ([] ∷ []) (inl refl)) (λ m i. absurd i), λ e. absurd (let y : Unsat ≡ Unknown = e in cc));
+  answers = λ P v. tt;
+}
+
+-- the empty clause follows, and is added or not
+pub contradiction_is_found : (s t : Search) → FollowsFrom s [] → Steps s t Unsat [] × Steps s t Unsat (Add [] ∷ [])
+contradiction_is_found s t g = (
+  record { holds = λ held f. (held, refl, g held f, λ e. absurd (let y : Unsat ≡ Unknown = e in cc)); answers = λ P v. tt },
+  record {
+    holds = λ held f. (held ++ [] ∷ [], (g held f, inr (0, refl, refl)), FalseClause [] (∈-append_right [] held ([] ∷ []) (inl refl)) (λ m i. absurd i), λ e. absurd (let y : Unsat ≡ Unknown = e in cc));
+    answers = λ P v. tt;
+  },
+)
+
+pub model_satisfies : (s : Search) (known : List Literal) (a : Assignment) (P : List Clause) → IsModel s known → MakesTrue a known → Covers P s → SatisfiesAll a P
+model_satisfies s known a P (x, n, y) m v c h =
+    ⊎_elim
+    (λ w. ⊎_elim (λ (l, i, j). tautology_satisfied a c l i j) (λ (l, i, j). (l, i, m l (x l j))) w)
+    (λ (k, i, e, w). same_set_satisfied a k.clause c w (kept k i))
+    (v c h)
+  where
+    all : SatisfiesAll a (clauses_of s.kept)
+    all = assigned_satisfies (clauses_of s.kept) known a m n (λ d i l o. let (k, j, g) = clause_from s.kept d i in y k j l (subst (λ z. l ∈ z) (sym g) o))
+
+    in_clauses : (ks : List KeptClause) (k : KeptClause) → k ∈ ks → k.clause ∈ clauses_of ks
+    in_clauses [] k i = absurd i
+    in_clauses (j ∷ ks) k (inl e) = inl (ap (λ z. z.clause) e)
+    in_clauses (j ∷ ks) k (inr i) = inr (in_clauses ks k i)
+
+    kept : (k : KeptClause) → k ∈ s.kept → Satisfies a k.clause
+    kept k i = all k.clause (in_clauses s.kept k i)
+
+pub model_is_found : (s : Search) (known : List Literal) (a : Assignment) → IsModel s known → MakesTrue a known → Steps s s (Sat a) []
+model_is_found s known a n m = record {
+  holds = λ held f. (held, refl, f, λ e. absurd (let y : Sat a ≡ Unknown = e in cc));
+  answers = λ P v. (v, model_satisfies s known a P n m v);
+}
+
+pub core_is_found : (s : Search) (core : List Literal) → ((held : List Clause) → Fits held s → Conflicts held core) → Steps s s (UnsatUnder core) []
+core_is_found s core g = record {
+  holds = λ held f. (held, refl, (f, g held f), λ e. absurd (let y : UnsatUnder core ≡ Unknown = e in cc));
+  answers = λ P v. v;
+}

@@ -1,0 +1,15 @@
+-- Parts of a step in turn.
+use Rattle.std.proofs.Common.{ℕ, ◌+◌, List, ◌++◌}
+use Rattle.varisat_theory.specs.Derivations.{Line}
+use Rattle.varisat_theory.specs.Searches.{Search}
+use Rattle.varisat_theory.specs.Outcomes.{Proves}
+use Rattle.varisat_theory.proofs.StepCounts.{by_append}
+
+pub parts_join : (m n : ℕ) (s t u : Search) (first second : List Line) → Proves m s t first → Proves n t u second → Proves (m + n) s u (first ++ second)
+parts_join m n s t u first second p q = record {
+  holds = λ held f.
+      let (mid, d, g) = p.holds held f in
+      let (after, e, h) = q.holds mid g in
+      (after, by_append m n held first mid second after d e, h);
+  covers = λ P c. q.covers P (p.covers P c);
+}

@@ -1,0 +1,127 @@
+-- What follows for the accepted clauses.
+use Rattle.std.proofs.Common.{◌≡◌, ◌≢◌, ℕ, ◌+◌, ◌≤◌, List, [], ◌∷◌, ◌++◌, inl, sym, ap, ◌∙◌, subst, refl, append_assoc, arith}
+use Rattle.varisat_theory.specs.Literals.{Literal, Clause, Assignment, SatisfiesAll, IsSatisfiable, IsSatisfiableWith}
+use Rattle.varisat_theory.specs.Derivations.{Line, Add, Delete}
+use Rattle.varisat_theory.proofs.Members.{∈-append_left, ∈-append_right}
+use Rattle.varisat_theory.proofs.Growth.{conflicts_more, covered_by_more}
+use Rattle.varisat_theory.proofs.Sound.{derives_sound, conflicts_sound}
+use Rattle.varisat_theory.proofs.Assigned.{satisfies_more, satisfies_fewer}
+use Rattle.varisat_theory.specs.Counted.{DerivesBy, AddsNew, added}
+use Rattle.varisat_theory.specs.Searches.{Search, Fits, Covers}
+use Rattle.varisat_theory.specs.Outcomes.{Outcome, Unknown, Sat, Unsat, UnsatUnder, Holds, Answers, Proves, Steps, Loads, Stands}
+use Rattle.varisat_theory.proofs.StepCounts.{by_derives, by_append, new_after}
+
+pub part_step : (s t u : Search) (v : Outcome) (first second : List Line) → Proves 0 s t first → Steps t u v second → Steps s u v (first ++ second)
+part_step s t u v first second p q = record {
+  holds = λ held f.
+      let (mid, d, g) = p.holds held f in
+      let (after, e, h, n) = q.holds mid g in
+      (after, by_append 0 1 held first mid second after d e, h, λ y. new_after held first mid second (by_derives 0 held first mid d) (n y));
+  answers = λ P c. q.answers P (p.covers P c);
+}
+
+new_before : (P : List Clause) (lines more : List Line) → AddsNew P lines → AddsNew P (lines ++ more)
+new_before P lines more (front, back, c, Q, e, p, n) =
+    (front, back ++ more, c, Q, ap (λ l. l ++ more) e ∙ append_assoc front (Add c ∷ back) more, p, n)
+
+pub step_part : (s t u : Search) (first second : List Line) → Steps s t Unknown first → Proves 0 t u second → Steps s u Unknown (first ++ second)
+step_part s t u first second p q = record {
+  holds = λ held f.
+      let (mid, d, g, n) = p.holds held f in
+      let (after, e, h) = q.holds mid g in
+      (after, by_append 1 0 held first mid second after d e, h, λ y. new_before held first second (n y));
+  answers = λ P c. q.covers P (p.answers P c);
+}
+
+pub step_is_part : (s t : Search) (lines : List Line) → Steps s t Unknown lines → Proves 1 s t lines
+step_is_part s t lines p = record {
+  holds = λ held f. let (after, d, g, n) = p.holds held f in (after, d, g);
+  covers = p.answers;
+}
+
+pub added_append : (first second : List Line) → added (first ++ second) ≡ added first + added second
+added_append [] second = omega arith
+added_append (Add c ∷ first) second = let e = added_append first second in omega (arith, e)
+added_append (Delete c ∷ first) second = added_append first second
+
+adds_one : (P : List Clause) (lines : List Line) → AddsNew P lines → 1 ≤ added lines
+adds_one P lines (front, back, c, Q, e, p, n) =
+    let g = ap added e in
+    let h = added_append front (Add c ∷ back) in
+    omega (arith, g, h)
+
+pub step_adds : (s t : Search) (lines : List Line) (held : List Clause) → Steps s t Unknown lines → Fits held s → 1 ≤ added lines
+step_adds s t lines held p f = adds_one held lines ((p.holds held f).3 refl)
+
+pub step_stands : (P held : List Clause) (s t : Search) (v : Outcome) (lines : List Line) → Stands P held s Unknown → Steps s t v lines → (after : List Clause) × DerivesBy 1 held lines after × Stands P after t v × (v ≡ Unknown → 1 ≤ added lines)
+step_stands P held s t v lines w p =
+    let (after, d, h, n) = p.holds held w.holds in (
+      after,
+      d,
+      record {
+        implied = λ a m. derives_sound held lines after a (by_derives 1 held lines after d) (w.implied a m);
+        holds = h;
+        answers = p.answers P w.answers;
+      },
+      λ e. adds_one held lines (n e),
+    )
+
+pub part_stands : (n : ℕ) (P held : List Clause) (s t : Search) (lines : List Line) → Stands P held s Unknown → Proves n s t lines → (after : List Clause) × DerivesBy n held lines after × Stands P after t Unknown
+part_stands n P held s t lines w p =
+    let (after, d, h) = p.holds held w.holds in (
+      after,
+      d,
+      record {
+        implied = λ a m. derives_sound held lines after a (by_derives n held lines after d) (w.implied a m);
+        holds = h;
+        answers = p.covers P w.answers;
+      },
+    )
+
+open_fits : (held : List Clause) (s : Search) (v : Outcome) → v ≢ Unsat → Holds held s v → Fits held s
+open_fits held s Unknown n h = h
+open_fits held s (Sat a) n h = h
+open_fits held s Unsat n h = absurd (n refl)
+open_fits held s (UnsatUnder core) n h = h.0
+
+open_covers : (P : List Clause) (s : Search) (v : Outcome) → v ≢ Unsat → Answers P s v → Covers P s
+open_covers P s Unknown n h = h
+open_covers P s (Sat a) n h = h.0
+open_covers P s Unsat n h = absurd (n refl)
+open_covers P s (UnsatUnder core) n h = h
+
+implied_more : (P held : List Clause) (c : Clause) → ((a : Assignment) → SatisfiesAll a P → SatisfiesAll a held) → (a : Assignment) → SatisfiesAll a (P ++ c ∷ []) → SatisfiesAll a (held ++ c ∷ [])
+implied_more P held c g a m =
+    satisfies_more a held c (g a (satisfies_fewer a P (c ∷ []) m)) (m c (∈-append_right c P (c ∷ []) (inl refl)))
+
+pub load_stands : (P held : List Clause) (s t : Search) (c : Clause) (v w : Outcome) (lines : List Line) → Stands P held s v → v ≢ Unsat → Loads s t c w lines → (after : List Clause) × DerivesBy 0 (held ++ c ∷ []) lines after × Stands (P ++ c ∷ []) after t w
+load_stands P held s t c v w lines x n p =
+    let (after, d, h) = p.holds held (open_fits held s v n x.holds) in (
+      after,
+      d,
+      record {
+        implied = λ a m. derives_sound (held ++ c ∷ []) lines after a (by_derives 0 (held ++ c ∷ []) lines after d) (implied_more P held c x.implied a m);
+        holds = h;
+        answers = p.answers P (open_covers P s v n x.answers);
+      },
+    )
+
+pub verdicts_are_right : ((P held : List Clause) (s : Search) (a : Assignment) → Stands P held s (Sat a) → SatisfiesAll a P) × ((P held : List Clause) (s : Search) → Stands P held s Unsat → IsSatisfiable P → ⊥) × ((P held : List Clause) (s : Search) (core : List Literal) → Stands P held s (UnsatUnder core) → IsSatisfiableWith P core → ⊥) × ((P held : List Clause) (s : Search) (c : Clause) → Stands P held s Unsat → Stands (P ++ c ∷ []) (held ++ c ∷ []) s Unsat)
+verdicts_are_right = (
+  λ P held s a w. w.answers.1,
+  λ P held s w (a, m). conflicts_sound held [] a (w.implied a m) (λ l h. absurd h) w.holds,
+  λ P held s core w (a, m, y). conflicts_sound held core a (w.implied a m) y w.holds.1,
+  λ P held s c w. record {
+    implied = implied_more P held c w.implied;
+    holds = conflicts_more held (held ++ c ∷ []) [] [] (covered_by_more held (held ++ c ∷ []) (λ x i. ∈-append_left x held (c ∷ []) i)) (λ x i. i) w.holds;
+    answers = tt;
+  },
+)
+
+pub first_stands : (s : Search) → s ≡ record { kept = []; fixed = []; proved = [] } → Stands [] [] s Unknown
+first_stands s e =
+    subst (λ x. Stands [] [] x Unknown) (sym e) (record {
+      implied = λ a m c h. absurd h;
+      holds = record { others = []; same = refl; settled = λ c h. absurd h; units = λ l h. absurd h };
+      answers = λ c h. absurd h;
+    })

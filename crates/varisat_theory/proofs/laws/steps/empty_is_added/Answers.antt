@@ -1,0 +1,5 @@
+use Rattle.varisat_theory.proofs.StepEnds.{empty_is_added}
+use Rattle.varisat_theory.proofs.laws.steps.empty_is_added.Goals as goal
+
+pub returns : goal.returns
+returns c = empty_is_added

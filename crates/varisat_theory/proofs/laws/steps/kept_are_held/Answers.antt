@@ -1,0 +1,5 @@
+use Rattle.varisat_theory.proofs.StepCovers.{kept_are_held}
+use Rattle.varisat_theory.proofs.laws.steps.kept_are_held.Goals as goal
+
+pub returns : goal.returns
+returns c = kept_are_held

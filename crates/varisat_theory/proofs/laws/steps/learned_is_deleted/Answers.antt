@@ -1,0 +1,5 @@
+use Rattle.varisat_theory.proofs.StepChanges.{learned_is_deleted}
+use Rattle.varisat_theory.proofs.laws.steps.learned_is_deleted.Goals as goal
+
+pub returns : goal.returns
+returns c = learned_is_deleted

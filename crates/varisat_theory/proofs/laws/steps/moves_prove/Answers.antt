@@ -1,0 +1,5 @@
+use Rattle.varisat_theory.proofs.StepChanges.{moves_prove}
+use Rattle.varisat_theory.proofs.laws.steps.moves_prove.Goals as goal
+
+pub returns : goal.returns
+returns c = moves_prove

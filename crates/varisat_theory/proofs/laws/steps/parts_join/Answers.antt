@@ -1,0 +1,5 @@
+use Rattle.varisat_theory.proofs.StepParts.{parts_join}
+use Rattle.varisat_theory.proofs.laws.steps.parts_join.Goals as goal
+
+pub returns : goal.returns
+returns c = parts_join

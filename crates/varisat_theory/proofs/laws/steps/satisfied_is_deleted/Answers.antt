@@ -1,0 +1,5 @@
+use Rattle.varisat_theory.proofs.StepChanges.{satisfied_is_deleted}
+use Rattle.varisat_theory.proofs.laws.steps.satisfied_is_deleted.Goals as goal
+
+pub returns : goal.returns
+returns c = satisfied_is_deleted

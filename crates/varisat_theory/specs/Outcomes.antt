@@ -1,0 +1,55 @@
+-- What the parts of a step, whole steps and loading a clause write and leave.
+use Rattle.std.specs.Prelude.{◌≡◌, ℕ, List, [], ◌∷◌, ◌++◌, ◌⊎◌}
+use Rattle.varisat_theory.specs.Membership.{◌∈◌}
+use Rattle.varisat_theory.specs.Literals.{Literal, Clause, Assignment, opposite, IsUnit, SatisfiesAll}
+use Rattle.varisat_theory.specs.Propagation.{Conflicts}
+use Rattle.varisat_theory.specs.Derivations.{Line}
+use Rattle.varisat_theory.specs.Counted.{DerivesBy, AddsNew}
+use Rattle.varisat_theory.specs.Searches.{Search, Fits, Covers}
+
+-- A search's verdict, with the assignment or the core that was found.
+pub data Outcome : Type 0 where
+  Unknown : Outcome
+  Sat : Assignment → Outcome
+  Unsat : Outcome
+  UnsatUnder : List Literal → Outcome
+
+-- What a search with the verdict says of the clauses that a proof holds: under Unsat they conflict, and else they fit it.
+abbrev pub Holds : List Clause → Search → Outcome → Type 0
+Holds held s Unknown = Fits held s
+Holds held s (Sat found) = Fits held s
+Holds held s Unsat = Conflicts held []
+Holds held s (UnsatUnder core) = Fits held s × Conflicts held core
+
+-- What it says of the accepted clauses.
+abbrev pub Answers : List Clause → Search → Outcome → Type 0
+Answers P s Unknown = Covers P s
+Answers P s (Sat found) = Covers P s × SatisfiesAll found P
+Answers P s Unsat = Unit {0}
+Answers P s (UnsatUnder core) = Covers P s
+
+-- The lines lead from whatever clauses fit s to such as fit t, and n of the added ones or fewer count; and what s covers, t covers.
+pub record Proves (n : ℕ) (s t : Search) (lines : List Line) : Type 0 where
+  pub holds : (held : List Clause) → Fits held s → (after : List Clause) × DerivesBy n held lines after × Fits after t
+  pub covers : (P : List Clause) → Covers P s → Covers P t
+
+-- What a step with the lines gives, by the verdict after it: one of the added clauses counts or none, and under Unknown one is new.
+pub record Steps (s t : Search) (v : Outcome) (lines : List Line) : Type 0 where
+  pub holds : (held : List Clause) → Fits held s → (after : List Clause) × DerivesBy 1 held lines after × Holds after t v × (v ≡ Unknown → AddsNew held lines)
+  pub answers : (P : List Clause) → Covers P s → Answers P t v
+
+-- the clause is empty, or as a set one literal whose opposite is true at level 0
+abbrev pub IsContradicted : Search → Clause → Type 0
+IsContradicted s c = (c ≡ []) ⊎ ((l : Literal) × IsUnit l c × (opposite l ∈ s.fixed))
+
+-- What loading a clause gives, where the verdict was not Unsat: it joins what is held, and then come the lines. Unsat comes just where it is contradicted.
+pub record Loads (s t : Search) (c : Clause) (v : Outcome) (lines : List Line) : Type 0 where
+  pub holds : (held : List Clause) → Fits held s → (after : List Clause) × DerivesBy 0 (held ++ c ∷ []) lines after × Holds after t v
+  pub answers : (P : List Clause) → Covers P s → Answers (P ++ c ∷ []) t v
+  pub verdict : (IsContradicted s c × (v ≡ Unsat)) ⊎ ((IsContradicted s c → ⊥) × (v ≡ Unknown))
+
+-- What a solver with accepted clauses P keeps of the clauses that a proof holds.
+pub record Stands (P held : List Clause) (s : Search) (v : Outcome) : Type 0 where
+  pub implied : (a : Assignment) → SatisfiesAll a P → SatisfiesAll a held
+  pub holds : Holds held s v
+  pub answers : Answers P s v

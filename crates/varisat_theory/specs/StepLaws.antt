@@ -1,0 +1,211 @@
+-- The laws that the functions of `laws` state.
+use Rattle.std.specs.Prelude.{◌≡◌, ◌≢◌, ℕ, zero, suc, ◌+◌, ◌<◌, ◌≤◌, length, Bool, true, false, List, [], ◌∷◌, ◌++◌, ◌⊎◌}
+use Rattle.varisat_theory.specs.Membership.{◌∈◌, ◌⊆◌, SameSet}
+use Rattle.varisat_theory.specs.Literals.{Literal, Clause, Assignment, variable_of, opposite, IsUnit, SatisfiesAll, MakesTrue, IsSatisfiable, IsSatisfiableWith}
+use Rattle.varisat_theory.specs.Propagation.{Conflicts, Follows, IsFalse, HasFalse, LeavesOnly}
+use Rattle.varisat_theory.specs.Derivations.{Line, Add, Delete, Derives, Refutes}
+use Rattle.varisat_theory.specs.Held.{SameClauses, mentions, without}
+use Rattle.varisat_theory.specs.Analysis.{Implied}
+use Rattle.varisat_theory.specs.Renaming.{KeepsOpposites}
+use Rattle.varisat_theory.specs.Counted.{IsNew, DerivesBy, added}
+use Rattle.varisat_theory.specs.Searches.{KeptClause, Search, clauses_of, IsTautology, IsSettled, Fits, Covers, CoversBy}
+use Rattle.varisat_theory.specs.Outcomes.{Outcome, Unknown, Sat, Unsat, UnsatUnder, Proves, Steps, Loads, IsContradicted, Stands}
+
+-- 1. How parts join.
+
+-- two parts in turn are one, whose lines are theirs in turn, and what counts adds up
+abbrev pub PartsJoin : Type 0
+PartsJoin = (m n : ℕ) (s t u : Search) (first second : List Line) → Proves m s t first → Proves n t u second → Proves (m + n) s u (first ++ second)
+
+-- parts of which nothing counts may come before a step, and after one that goes on
+abbrev pub PartsJoinStep : Type 0
+PartsJoinStep =
+    ((s t u : Search) (v : Outcome) (first second : List Line) → Proves 0 s t first → Steps t u v second → Steps s u v (first ++ second)) × ((s t u : Search) (first second : List Line) → Steps s t Unknown first → Proves 0 t u second → Steps s u Unknown (first ++ second))
+
+-- A step that goes on is a part that counts once, and adds a clause at least; so k steps of a call count k times at most and add k clauses at least.
+abbrev pub StepIsPart : Type 0
+StepIsPart =
+    ((s t : Search) (lines : List Line) → Steps s t Unknown lines → Proves 1 s t lines) × ((s t : Search) (lines : List Line) (held : List Clause) → Steps s t Unknown lines → Fits held s → 1 ≤ added lines) × ((first second : List Line) → added (first ++ second) ≡ added first + added second)
+
+-- Kept clauses may move, their literals too; more literals may be fixed.
+abbrev pub MovesProve : Type 0
+MovesProve =
+    (s t : Search) → SameClauses (clauses_of s.kept) (clauses_of t.kept) → ((k : KeptClause) → k ∈ s.kept → k.learned ≡ false → (j : KeptClause) × (j ∈ t.kept) × (j.learned ≡ false) × (j.clause ⊆ k.clause)) → s.fixed ⊆ t.fixed → t.proved ⊆ s.proved → Proves 0 s t []
+
+-- 2. Parts of a step.
+
+-- A literal that is true at level 0 is proved by its reason, where the reason's others are proved false.
+abbrev pub UnitIsProved : Type 0
+UnitIsProved =
+    (s : Search) (l : Literal) (k : KeptClause) → l ∈ s.fixed → k ∈ s.kept → l ∈ k.clause → LeavesOnly s.proved k.clause l → Proves 0 s (record s { proved = s.proved ++ l ∷ [] }) (Add (l ∷ []) ∷ [])
+
+-- the unit clauses of the literals, one line each
+abbrev pub unit_lines : List Literal → List Line
+unit_lines [] = []
+unit_lines (l ∷ ls) = Add (l ∷ []) ∷ unit_lines ls
+
+-- So are several, in an order in which each has a reason whose others are proved false before it.
+abbrev pub UnitsAreProved : Type 0
+UnitsAreProved =
+    (s : Search) (ls : List Literal) → ((front back : List Literal) (l : Literal) → ls ≡ front ++ (l ∷ back) → (l ∈ s.fixed) × ((k : KeptClause) × (k ∈ s.kept) × (l ∈ k.clause) × LeavesOnly (s.proved ++ front) k.clause l)) → Proves 0 s (record s { proved = s.proved ++ ls }) (unit_lines ls)
+
+-- a kept clause with a literal that is true at level 0 is deleted
+abbrev pub SatisfiedIsDeleted : Type 0
+SatisfiedIsDeleted =
+    (s : Search) (front back : List KeptClause) (k : KeptClause) (c : Clause) (l : Literal) → s.kept ≡ front ++ (k ∷ back) → SameSet k.clause c → l ∈ k.clause → l ∈ s.fixed → Proves 0 s (record s { kept = front ++ back }) (Delete c ∷ [])
+
+-- a learned clause is deleted
+abbrev pub LearnedIsDeleted : Type 0
+LearnedIsDeleted =
+    (s : Search) (front back : List KeptClause) (k : KeptClause) (c : Clause) → s.kept ≡ front ++ (k ∷ back) → SameSet k.clause c → k.learned ≡ true → Proves 0 s (record s { kept = front ++ back }) (Delete c ∷ [])
+
+-- A kept clause loses literals that are proved false. It may cease to be a learned one, as it goes to the pairs, and never becomes one.
+abbrev pub ClauseIsShortened : Type 0
+ClauseIsShortened =
+    (s : Search) (front back : List KeptClause) (k j : KeptClause) (c d : Clause) → s.kept ≡ front ++ (k ∷ back) → SameSet k.clause c → SameSet j.clause d → j.clause ⊆ k.clause → ((m : Literal) → m ∈ k.clause → (m ∈ j.clause) ⊎ (opposite m ∈ s.proved)) → (j.learned ≡ true → k.learned ≡ true) → Proves 0 s (record s { kept = front ++ (j ∷ back) }) (Add d ∷ Delete c ∷ [])
+
+-- A variable that no kept clause mentions leaves the search; what is held loses the clauses that mention it, which is no line.
+abbrev pub VariableIsDropped : Type 0
+VariableIsDropped =
+    (s t : Search) (v : ℕ) (held : List Clause) → t.kept ≡ s.kept → ((k : KeptClause) → k ∈ s.kept → mentions v k.clause ≡ false) → ((l : Literal) → l ∈ s.fixed → variable_of l ≢ v → l ∈ t.fixed) → ((l : Literal) → l ∈ t.proved → (l ∈ s.proved) × (variable_of l ≢ v)) → Fits held s → Fits (without v held) t
+
+-- 3. How a step ends.
+
+-- the clause follows from whatever fits
+abbrev pub FollowsFrom : Search → Clause → Type 0
+FollowsFrom s c = (held : List Clause) → Fits held s → Follows held c
+
+-- no clause that is held with whatever fits is a part of it
+abbrev pub IsNewTo : Search → Clause → Type 0
+IsNewTo s c = (held : List Clause) → Fits held s → IsNew held c
+
+-- a clause is learned and kept, or it is a unit that is true at level 0 from then on
+abbrev pub ClauseIsLearned : Type 0
+ClauseIsLearned =
+    ((s : Search) (c : Clause) (k : KeptClause) → SameSet k.clause c → FollowsFrom s c → IsNewTo s c → Steps s (record s { kept = s.kept ++ k ∷ [] }) Unknown (Add c ∷ [])) × ((s : Search) (c : Clause) (l : Literal) → IsUnit l c → FollowsFrom s c → IsNewTo s c → Steps s (record s { fixed = s.fixed ++ l ∷ []; proved = s.proved ++ l ∷ [] }) Unknown (Add c ∷ []))
+
+-- No kept clause is a part of it, it is no tautology, and no literal of it is true at level 0.
+pub record IsFresh (s : Search) (c : Clause) : Type 0 where
+  pub kept : (k : KeptClause) → k ∈ s.kept → k.clause ⊆ c → ⊥
+  pub tautology : IsTautology c → ⊥
+  pub fixed : (l : Literal) → l ∈ c → l ∈ s.fixed → ⊥
+
+-- such a clause is new
+abbrev pub FreshIsNew : Type 0
+FreshIsNew = (s : Search) (c : Clause) → IsFresh s c → IsNewTo s c
+
+-- where a kept clause is false at level 0, and its literals are proved so, the empty clause is added
+abbrev pub EmptyIsAdded : Type 0
+EmptyIsAdded = (s t : Search) (k : KeptClause) → k ∈ s.kept → IsFalse s.proved k.clause → Steps s t Unsat (Add [] ∷ [])
+
+-- so it is where it follows in another way, or the conflict alone ends the step
+abbrev pub ContradictionIsFound : Type 0
+ContradictionIsFound = (s t : Search) → FollowsFrom s [] → Steps s t Unsat [] × Steps s t Unsat (Add [] ∷ [])
+
+-- each literal of the kept clauses is known or its opposite is, and none of the clauses is false
+abbrev pub IsModel : Search → List Literal → Type 0
+IsModel s known =
+    (s.fixed ⊆ known) × (HasFalse (clauses_of s.kept) known → ⊥) × ((k : KeptClause) → k ∈ s.kept → (l : Literal) → l ∈ k.clause → (l ∈ known) ⊎ (opposite l ∈ known))
+
+-- a total assignment under which no kept clause is false satisfies all accepted clauses, and ends the step
+abbrev pub ModelIsFound : Type 0
+ModelIsFound =
+    ((s : Search) (known : List Literal) (a : Assignment) (P : List Clause) → IsModel s known → MakesTrue a known → Covers P s → SatisfiesAll a P) × ((s : Search) (known : List Literal) (a : Assignment) → IsModel s known → MakesTrue a known → Steps s s (Sat a) [])
+
+-- so does a core with which whatever fits conflicts
+abbrev pub CoreIsFound : Type 0
+CoreIsFound = (s : Search) (core : List Literal) → ((held : List Clause) → Fits held s → Conflicts held core) → Steps s s (UnsatUnder core) []
+
+-- 4. What loading does.
+
+-- the clause is kept
+abbrev pub LoadedIsKept : Type 0
+LoadedIsKept =
+    (s : Search) (c : Clause) (k : KeptClause) → SameSet k.clause c → k.learned ≡ false → (IsContradicted s c → ⊥) → Loads s (record s { kept = s.kept ++ k ∷ [] }) c Unknown []
+
+-- a unit is true at level 0 from then on
+abbrev pub LoadedIsUnit : Type 0
+LoadedIsUnit =
+    (s : Search) (c : Clause) (l : Literal) → IsUnit l c → (opposite l ∈ s.fixed → ⊥) → Loads s (record s { fixed = s.fixed ++ l ∷ []; proved = s.proved ++ l ∷ [] }) c Unknown []
+
+-- a tautology, and a unit that is true at level 0, are held and no more
+abbrev pub LoadedIsSettled : Type 0
+LoadedIsSettled = (s : Search) (c : Clause) → IsSettled s c → (IsContradicted s c → ⊥) → Loads s s c Unknown []
+
+-- another clause with a literal that is true at level 0 is deleted at once
+abbrev pub LoadedIsDeleted : Type 0
+LoadedIsDeleted =
+    (s : Search) (c d : Clause) → IsSettled s c → (IsContradicted s c → ⊥) → SameSet d c → Loads s s c Unknown (Delete d ∷ [])
+
+-- whatever fits implies the literals of level 0
+abbrev pub IsGrounded : Search → Type 0
+IsGrounded s = (held : List Clause) → Fits held s → (l : Literal) → l ∈ s.fixed → Implied held [] l
+
+-- a contradicted clause needs no line
+abbrev pub LoadedIsContradicted : Type 0
+LoadedIsContradicted = (s t : Search) (c : Clause) → IsGrounded s → IsContradicted s c → Loads s t c Unsat []
+
+-- parts of which nothing counts may come after loading, and before it such as write no line and leave the same fixed
+abbrev pub PartsJoinLoad : Type 0
+PartsJoinLoad =
+    ((s t u : Search) (c : Clause) (v : Outcome) (lines : List Line) → Proves 0 s t [] → s.fixed ⊆ t.fixed → t.fixed ⊆ s.fixed → Loads t u c v lines → Loads s u c v lines) × ((s t u : Search) (c : Clause) (lines more : List Line) → Loads s t c Unknown lines → Proves 0 t u more → Loads s u c Unknown (lines ++ more))
+
+-- 5. What follows for the accepted clauses.
+
+-- A step keeps what a solver has of the accepted clauses.
+abbrev pub StepStands : Type 0
+StepStands =
+    (P held : List Clause) (s t : Search) (v : Outcome) (lines : List Line) → Stands P held s Unknown → Steps s t v lines → (after : List Clause) × DerivesBy 1 held lines after × Stands P after t v × (v ≡ Unknown → 1 ≤ added lines)
+
+-- So does a part of one.
+abbrev pub PartStands : Type 0
+PartStands =
+    (n : ℕ) (P held : List Clause) (s t : Search) (lines : List Line) → Stands P held s Unknown → Proves n s t lines → (after : List Clause) × DerivesBy n held lines after × Stands P after t Unknown
+
+-- Loading adds a clause to them.
+abbrev pub LoadStands : Type 0
+LoadStands =
+    (P held : List Clause) (s t : Search) (c : Clause) (v w : Outcome) (lines : List Line) → Stands P held s v → v ≢ Unsat → Loads s t c w lines → (after : List Clause) × DerivesBy 0 (held ++ c ∷ []) lines after × Stands (P ++ c ∷ []) after t w
+
+-- What the verdicts say of the accepted clauses. Under Unsat one more changes nothing.
+abbrev pub VerdictsAreRight : Type 0
+VerdictsAreRight =
+    ((P held : List Clause) (s : Search) (a : Assignment) → Stands P held s (Sat a) → SatisfiesAll a P) × ((P held : List Clause) (s : Search) → Stands P held s Unsat → IsSatisfiable P → ⊥) × ((P held : List Clause) (s : Search) (core : List Literal) → Stands P held s (UnsatUnder core) → IsSatisfiableWith P core → ⊥) × ((P held : List Clause) (s : Search) (c : Clause) → Stands P held s Unsat → Stands (P ++ c ∷ []) (held ++ c ∷ []) s Unsat)
+
+-- a derivation that counts is one
+abbrev pub CountedDerives : Type 0
+CountedDerives = (n : ℕ) (P : List Clause) (lines : List Line) (Q : List Clause) → DerivesBy n P lines Q → Derives P lines Q
+
+-- the first search, which keeps nothing, stands for no clauses
+abbrev pub FirstStands : Type 0
+FirstStands = (s : Search) → s ≡ record { kept = []; fixed = []; proved = [] } → Stands [] [] s Unknown
+
+-- 6. What the forms give above.
+
+-- each kept clause has a held one of its own
+abbrev pub KeptAreHeld : Type 0
+KeptAreHeld = (held : List Clause) (s : Search) → Fits held s → length s.kept ≤ length held
+
+-- the lines of k steps
+abbrev pub joined : ℕ → (ℕ → List Line) → List Line
+joined zero lines = []
+joined (suc k) lines = joined k lines ++ lines k
+
+-- k steps that go on count k times at most, and add k clauses at least
+abbrev pub StepsOfCall : Type 0
+StepsOfCall =
+    (k : ℕ) (s : ℕ → Search) (lines : ℕ → List Line) → ((i : ℕ) → i < k → Steps (s i) (s (suc i)) Unknown (lines i)) → Proves k (s 0) (s k) (joined k lines) × ((held : List Clause) → Fits held (s 0) → k ≤ added (joined k lines))
+
+-- the lines of a step that comes to Unsat refute what is held
+abbrev pub UnsatRefutes : Type 0
+UnsatRefutes = (held : List Clause) (s t : Search) (lines : List Line) → Fits held s → Steps s t Unsat lines → Refutes held lines
+
+-- A part of a step keeps what is covered under other names too.
+abbrev pub NamesAreCovered : Type 0
+NamesAreCovered =
+    (n : ℕ) (s t : Search) (lines : List Line) (to : Literal → Literal) (known : Literal → Bool) (P : List Clause) → KeepsOpposites to → Proves n s t lines → CoversBy to known P s → CoversBy to known P t
+
+-- So does a variable's leaving, where its literal is known to be true for good once it is fixed.
+abbrev pub DroppedAreCovered : Type 0
+DroppedAreCovered =
+    (s t : Search) (to : Literal → Literal) (known more : Literal → Bool) (P : List Clause) → t.kept ≡ s.kept → ((l : Literal) → l ∈ s.fixed → (l ∈ t.fixed) ⊎ (more (to l) ≡ true)) → ((l : Literal) → known l ≡ true → more l ≡ true) → CoversBy to known P s → CoversBy to more P t

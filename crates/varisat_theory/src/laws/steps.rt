@@ -1,0 +1,168 @@
+// What the lines of a step, of a call and of loading do to the clauses that a proof holds.
+
+ghost use Rattle.varisat_theory.specs.StepLaws.{PartsJoin, PartsJoinStep, StepIsPart, MovesProve, UnitIsProved, SatisfiedIsDeleted, LearnedIsDeleted, ClauseIsShortened, ClauseIsLearned, EmptyIsAdded, ModelIsFound, CoreIsFound, LoadedIsKept, LoadedIsUnit, LoadedIsSettled, LoadedIsDeleted, LoadedIsContradicted, StepStands, PartStands, LoadStands, VerdictsAreRight, CountedDerives, FirstStands, UnitsAreProved, VariableIsDropped, FreshIsNew, KeptAreHeld, StepsOfCall, UnsatRefutes, NamesAreCovered, DroppedAreCovered, ContradictionIsFound, PartsJoinLoad};
+
+/// Two parts of a step in turn are one.
+pub fn parts_join()
+    ensures { PartsJoin }
+{}
+
+/// Parts may come before a step, and after one that goes on.
+pub fn parts_join_step()
+    ensures { PartsJoinStep }
+{}
+
+/// A step that goes on is a part of a call, which counts once and adds a clause.
+pub fn step_is_part()
+    ensures { StepIsPart }
+{}
+
+/// Kept clauses move without a line.
+pub fn moves_prove()
+    ensures { MovesProve }
+{}
+
+/// A literal of level 0 is proved.
+pub fn unit_is_proved()
+    ensures { UnitIsProved }
+{}
+
+/// A satisfied clause is deleted.
+pub fn satisfied_is_deleted()
+    ensures { SatisfiedIsDeleted }
+{}
+
+/// A learned clause is deleted.
+pub fn learned_is_deleted()
+    ensures { LearnedIsDeleted }
+{}
+
+/// A clause is shortened.
+pub fn clause_is_shortened()
+    ensures { ClauseIsShortened }
+{}
+
+/// A clause is learned.
+pub fn clause_is_learned()
+    ensures { ClauseIsLearned }
+{}
+
+/// The empty clause is added.
+pub fn empty_is_added()
+    ensures { EmptyIsAdded }
+{}
+
+/// A model is found.
+pub fn model_is_found()
+    ensures { ModelIsFound }
+{}
+
+/// A core is found.
+pub fn core_is_found()
+    ensures { CoreIsFound }
+{}
+
+/// A loaded clause is kept.
+pub fn loaded_is_kept()
+    ensures { LoadedIsKept }
+{}
+
+/// A loaded unit becomes true.
+pub fn loaded_is_unit()
+    ensures { LoadedIsUnit }
+{}
+
+/// A loaded clause that says nothing more is held.
+pub fn loaded_is_settled()
+    ensures { LoadedIsSettled }
+{}
+
+/// A loaded clause that is satisfied is deleted.
+pub fn loaded_is_deleted()
+    ensures { LoadedIsDeleted }
+{}
+
+/// A loaded clause contradicts.
+pub fn loaded_is_contradicted()
+    ensures { LoadedIsContradicted }
+{}
+
+/// A step keeps what a solver has.
+pub fn step_stands()
+    ensures { StepStands }
+{}
+
+/// So does a part of one.
+pub fn part_stands()
+    ensures { PartStands }
+{}
+
+/// So does loading.
+pub fn load_stands()
+    ensures { LoadStands }
+{}
+
+/// The verdicts are right.
+pub fn verdicts_are_right()
+    ensures { VerdictsAreRight }
+{}
+
+/// A derivation that counts is one.
+pub fn counted_derives()
+    ensures { CountedDerives }
+{}
+
+/// The first search stands for no clauses.
+pub fn first_stands()
+    ensures { FirstStands }
+{}
+
+/// Literals of level 0 are proved one after another.
+pub fn units_are_proved()
+    ensures { UnitsAreProved }
+{}
+
+/// A variable leaves the search.
+pub fn variable_is_dropped()
+    ensures { VariableIsDropped }
+{}
+
+/// A fresh clause is new.
+pub fn fresh_is_new()
+    ensures { FreshIsNew }
+{}
+
+/// Each kept clause has a held one of its own.
+pub fn kept_are_held()
+    ensures { KeptAreHeld }
+{}
+
+/// The steps of a call.
+pub fn steps_of_call()
+    ensures { StepsOfCall }
+{}
+
+/// The lines of a step to Unsat refute.
+pub fn unsat_refutes()
+    ensures { UnsatRefutes }
+{}
+
+/// Parts keep what is covered under other names.
+pub fn names_are_covered()
+    ensures { NamesAreCovered }
+{}
+
+/// So does a variable's leaving.
+pub fn dropped_are_covered()
+    ensures { DroppedAreCovered }
+{}
+
+/// A contradiction is found.
+pub fn contradiction_is_found()
+    ensures { ContradictionIsFound }
+{}
+
+/// Parts may come before and after loading.
+pub fn parts_join_load()
+    ensures { PartsJoinLoad }
+{}

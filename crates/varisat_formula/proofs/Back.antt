@@ -15,7 +15,7 @@ use Rattle.varisat_formula.specs.Formulas.{Formula, AllBelow, AreBelow}
 use Rattle.varisat_formula.specs.Dimacs.{Token, Reading, nothing, step_by, is_blank, is_line_feed, next, number, in_range, meaning, positive, negative, after_token, after_header, is_one_too_many, read, failed, put, split, nonempty, tokens, header_of, sized, sizes, at_end, Ends}
 use Rattle.varisat_formula.specs.Machine.{no_word, after_byte, word_from, after_header_byte, header_from}
 use Rattle.varisat_formula.specs.Rest.{Progress, Follows, begin, word_items, start_place, gives_from}
-use Rattle.varisat_formula.specs.Numbers.{literal_text}
+use Rattle.varisat_literals.specs.Numbers.{literal_text}
 use Rattle.varisat_formula.specs.Written.{literals_text, clauses_text, formula_text, ReadsBack}
 use Rattle.varisat_formula.proofs.Words.{one_items, join, split_pieces}
 use Rattle.varisat_formula.proofs.Headers.{below_test, header_agrees}

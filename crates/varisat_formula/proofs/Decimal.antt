@@ -3,7 +3,7 @@ use Rattle.std.proofs.Common.{◌≡◌, ℕ, zero, suc, ◌+◌, ◌-◌, ◌*�
 use Rattle.std.proofs.lemmas.Fmt.{decimal_by_steps, first_decimal, decimal_digit}
 use Rattle.std.specs.Fmt.{signed_decimal}
 use Rattle.varisat_formula.specs.Dimacs.{is_digit, digits_after, number}
-use Rattle.varisat_formula.specs.Numbers.{literal_text}
+use Rattle.varisat_literals.specs.Numbers.{literal_text}
 
 is_digit_of : (n : ℕ) → n < 10 → is_digit (48 + n) ≡ true
 is_digit_of n h = search (rules, h)

@@ -1,7 +1,7 @@
 -- Text that is written in parts.
 use Rattle.std.proofs.Common.{◌≡◌, ℕ, zero, suc, ◌+◌, ◌<◌, ◌≤◌, List, [], ◌∷◌, ◌++◌, take, drop, get_or, length, flat_map, refl, sym, ap, ◌∙◌, append_assoc, append-nil, arith, Result, Ok, Err}
 use Rattle.varisat_formula.specs.Formulas.{Formula}
-use Rattle.varisat_formula.specs.Numbers.{literal_text}
+use Rattle.varisat_literals.specs.Numbers.{literal_text}
 use Rattle.varisat_formula.specs.Written.{Puts, literals_text, clauses_text, header_text, formula_text}
 
 -- a beginning of one part is a beginning of the whole

@@ -1,7 +1,7 @@
 -- The text that is written for a formula.
 use Rattle.std.specs.Prelude.{◌≡◌, ℕ, ◌+◌, List, [], ◌∷◌, ◌++◌, length, take, None, Some, codes, decimal, Result, MatchResult}
 use Rattle.varisat_theory.specs.Literals.{Literal, Clause}
-use Rattle.varisat_formula.specs.Numbers.{literal_text}
+use Rattle.varisat_literals.specs.Numbers.{literal_text}
 use Rattle.varisat_formula.specs.Formulas.{Formula}
 use Rattle.varisat_formula.specs.Dimacs.{dimacs}
 

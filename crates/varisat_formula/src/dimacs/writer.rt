@@ -1,6 +1,6 @@
 //! Writes formulas as DIMACS CNF text.
 ghost use Rattle.std.specs.Prelude.{◌≡◌, ℕ, List, [], ◌∷◌, ◌++◌, ◌+◌, ◌-◌, ◌<◌, ◌≤◌, ◌^◌, length, take, flat_map, OnOk, OnErr};
-ghost use Rattle.varisat_formula.specs.Numbers.{literal_text};
+ghost use Rattle.varisat_literals.specs.Numbers.{literal_text};
 ghost use Rattle.varisat_formula.specs.Written.{Puts, ReadsBack, literals_text, header_text, formula_text};
 
 use crate::formula::{CnfFormula, Lit};

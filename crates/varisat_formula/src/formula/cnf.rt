@@ -7,7 +7,7 @@ ghost use Rattle.varisat_formula.specs.declared.formula.cnf.FormulaError.TheVari
 ghost use Rattle.varisat_formula.specs.Formulas.{no_clauses, variables_of, with_clause, with_clauses, AreBelow};
 ghost use Rattle.varisat_formula.specs.Equality.{same_formula, same_laws, same_equivalence};
 
-use crate::formula::lit::{Lit, Var};
+use varisat_literals::{Lit, Var};
 use std::alloc::{AllocError, Allocator};
 use std::marker::Model;
 use thiserror::Error;

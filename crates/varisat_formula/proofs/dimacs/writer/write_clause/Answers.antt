@@ -1,5 +1,5 @@
 use Rattle.std.proofs.Common.{take, drop, suc, ◌∷◌, [], ◌++◌, ◌+◌, ◌∙◌, ap}
-use Rattle.varisat_formula.specs.Numbers.{literal_text}
+use Rattle.varisat_literals.specs.Numbers.{literal_text}
 use Rattle.varisat_formula.specs.Written.{literals_text}
 use Rattle.varisat_formula.proofs.Putting.{begun_part, put_part, puts_behind, literals_split, literals_more, clause_end}
 use Rattle.varisat_formula.proofs.dimacs.writer.write_clause.Goals as goal

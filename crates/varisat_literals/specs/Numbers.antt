@@ -1,7 +1,11 @@
 -- The DIMACS numbers of variables and literals.
-use Rattle.std.specs.Prelude.{List, ℕ, ◌+◌, ◌*◌, ◌-◌, ◌/◌, ◌%◌, ◌≤◌, nat_eq, if◌then◌else◌, Bool, ℤ, pos, negsuc}
+use Rattle.std.specs.Prelude.{List, ℕ, ◌+◌, ◌*◌, ◌-◌, ◌/◌, ◌%◌, ◌≤◌, ◌^◌, nat_eq, if◌then◌else◌, Bool, ℤ, pos, negsuc}
 use Rattle.std.specs.Fmt.{signed_decimal}
 use Rattle.varisat_theory.specs.Literals.{Literal}
+
+-- how many variables a solver takes, and the highest number of a variable in DIMACS text
+abbrev pub variable_limit : ℕ
+variable_limit = 2 ^ 28
 
 -- a variable's number is its index and one more
 abbrev pub variable_number : ℕ → ℤ

@@ -2,9 +2,9 @@
 ghost use Rattle.std.specs.Prelude.{◌≡◌, ◌↔◌, IsTrue, fold, pos, ◌≤ℤ◌};
 ghost use Rattle.std.specs.Ordering.{nat_cmp};
 ghost use Rattle.std.specs.Hash as fed;
-ghost use Rattle.varisat_formula.specs.Numbers.{IsLiteralNumber};
+ghost use Rattle.varisat_literals.specs.Numbers.{IsLiteralNumber};
 
-use crate::formula::lit::{Lit, Var};
+use crate::lit::{Lit, Var};
 use std::cmp::Ordering;
 use std::hash::{Hash, Hasher};
 

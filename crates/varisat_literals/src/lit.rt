@@ -1,11 +1,14 @@
 //! Variables and literals. A contract sees a variable as its index and a literal as its code.
 ghost use Rattle.std.specs.Prelude.{◌≡◌, ℕ, ◌+◌, ◌*◌, ◌/◌, ◌%◌, ◌<◌, ◌≤◌, ◌^◌, ◌↔◌, ◌-◌, IsTrue, pos, ◌≤ℤ◌, if◌then◌else◌, Some, true, false};
 ghost use Rattle.varisat_theory.specs.Literals.{variable_of, literal_of, opposite};
-ghost use Rattle.varisat_formula.specs.Numbers.{variable_number, variable_numbered, literal_number, literal_numbered, IsLiteralNumber, polarity_of, number_text};
+ghost use Rattle.varisat_literals.specs.Numbers.{variable_limit, variable_number, variable_numbered, literal_number, literal_numbered, IsLiteralNumber, polarity_of, number_text};
 
 use std::fmt;
 use std::marker::Model;
 use std::ops::{BitXor, Not};
+
+/// How many variables a solver takes, and the highest number of a variable in DIMACS text: 2^28.
+pub const VARIABLE_LIMIT: usize = 0x1000_0000;
 
 /// A variable, by its index from 0. The index is below 2^31.
 #[derive(Clone, Copy, PartialEq, Eq, PartialOrd, Ord, Hash)]
@@ -74,18 +77,18 @@ impl Var {
         self.lit(false)
     }
 
-    /// The last variable that a solver takes, with the index 2^28 - 1.
+    /// The last variable that a solver takes.
     pub fn max_var() -> Var
-        ensures { result ≡ 2 ^ 28 - 1 }
+        ensures { result ≡ variable_limit - 1 }
     {
-        Var { index: 0x0fff_ffff }
+        Var::from_index(VARIABLE_LIMIT - 1)
     }
 
-    /// How many variables a solver takes, 2^28.
+    /// How many variables a solver takes.
     pub fn max_count() -> usize
-        ensures { result ≡ 2 ^ 28 }
+        ensures { result ≡ variable_limit }
     {
-        0x1000_0000
+        VARIABLE_LIMIT
     }
 
     /// The literal that is true where the variable has the polarity.

@@ -6,7 +6,7 @@ use Rattle.varisat_formula.specs.declared.dimacs.error.DimacsError.{DimacsError}
 use Rattle.varisat_formula.specs.declared.dimacs.error.DimacsErrorKind.TheVariants.{Io, OutOfMemory}
 use Rattle.varisat_formula.specs.Formulas.{Formula}
 use Rattle.varisat_formula.specs.Dimacs.{is_blank, dimacs, so_far, broken, BreaksOff}
-use Rattle.varisat_formula.specs.Rest.{Progress, begin, gives_from, dimacs_from, Follows, Keeps, RunsOut, RunsOutIn, failing, fault_of}
+use Rattle.varisat_formula.specs.Rest.{Progress, begin, gives_from, dimacs_from, AdvancesBy, KeepsToken, RunsOut, RunsOutIn, failing, fault_of}
 
 -- how a source stands: the bytes that it gave; those that are left, where they are known; the pieces that may come; the faults
 pub record Stand : Type 0 where
@@ -21,7 +21,7 @@ stand given left pieces faults s = record { given = given s; left = left s; piec
 -- why a piece ended with the fault: it stands in the text, or memory ran out, or the source failed and gave nothing
 abbrev pub Breaks : Progress → List ℕ → DimacsError → Progress → Stand → Stand → Type 0
 Breaks p piece e q s t =
-    ((Follows p piece q ⊎ RunsOutIn p piece q) × (q.reading.fault ≡ Some e) × (t.faults ≡ s.faults))
+    ((AdvancesBy p piece q ⊎ RunsOutIn p piece q) × (q.reading.fault ≡ Some e) × (t.faults ≡ s.faults))
     ⊎ ((q.reading ≡ gives_from (BreaksOff Io) p []) × (e ≡ failing p) × (piece ≡ []) × (t.faults ≡ s.faults + 1))
 
 -- the reader took the next piece of the source: true, or false at its end, or a fault
@@ -29,7 +29,7 @@ pub record TakesPiece (s : Stand) (p : Progress) (r : Result Bool DimacsError) (
   pub piece : List ℕ
   pub gave : t.given ≡ s.given ++ piece
   pub consumed : Consumes s.left t.left piece
-  pub good : (more : Bool) → r ≡ Ok more → Follows p piece q × (q.reading.fault ≡ None) × (t.faults ≡ s.faults)
+  pub good : (more : Bool) → r ≡ Ok more → AdvancesBy p piece q × (q.reading.fault ≡ None) × (t.faults ≡ s.faults)
   pub goes : r ≡ Ok true → (piece ≢ []) × (t.pieces < s.pieces)
   pub ends : r ≡ Ok false → (piece ≡ []) × IsAtEnd t.left
   pub bad : (e : DimacsError) → r ≡ Err e → Breaks p piece e q s t
@@ -45,7 +45,7 @@ pub record RunsOutAt (text : List ℕ) (e : DimacsError) (t : Stand) : Type 0 wh
   pub rest : List ℕ
   pub splits : front ++ rest ≡ text
   pub ends : EndsToken rest t.left
-  pub wants : Keeps (so_far front) (so_far (front ++ 32 ∷ []))
+  pub wants : KeepsToken (so_far front) (so_far (front ++ 32 ∷ []))
   pub told : (broken OutOfMemory front).fault ≡ Some e
 
 -- Why a text has a fault: the fault stands in what was read, whatever comes behind it; or at the end; or a token of the text

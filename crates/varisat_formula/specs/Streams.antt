@@ -15,5 +15,5 @@ pub record Output : Type 0 where
   pub contents : Option (List ℕ)
 
 -- a call gave as many bytes from the buffer's front as it answered; none at Err
-abbrev pub Gives : {E : Type 0} → List ℕ → List ℕ → Result ℕ E → List ℕ → Type 0
-Gives old new r buffer = MatchResult r (λ n. new ≡ old ++ take n buffer) (λ _. new ≡ old)
+abbrev pub FillsFrom : {E : Type 0} → List ℕ → List ℕ → Result ℕ E → List ℕ → Type 0
+FillsFrom old new r buffer = MatchResult r (λ n. new ≡ old ++ take n buffer) (λ _. new ≡ old)

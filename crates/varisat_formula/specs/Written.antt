@@ -6,14 +6,14 @@ use Rattle.varisat_formula.specs.Formulas.{Formula}
 use Rattle.varisat_formula.specs.Dimacs.{dimacs}
 
 -- each number with a space behind it
-abbrev pub literals_text : List Literal → List ℕ
-literals_text [] = []
-literals_text (l ∷ ls) = literal_text l ++ 32 ∷ literals_text ls
+abbrev pub spaced_literals : List Literal → List ℕ
+spaced_literals [] = []
+spaced_literals (l ∷ ls) = literal_text l ++ 32 ∷ spaced_literals ls
 
 -- for each clause its numbers, `0` and a line feed
 abbrev pub clauses_text : List Clause → List ℕ
 clauses_text [] = []
-clauses_text (c ∷ cs) = literals_text c ++ 48 ∷ 10 ∷ clauses_text cs
+clauses_text (c ∷ cs) = spaced_literals c ++ 48 ∷ 10 ∷ clauses_text cs
 
 -- `p cnf V C` and a line feed
 abbrev pub header_text : ℕ → ℕ → List ℕ

@@ -1,7 +1,7 @@
 //! Writes formulas as DIMACS CNF text.
 ghost use Rattle.std.specs.Prelude.{◌≡◌, ℕ, List, [], ◌∷◌, ◌++◌, ◌+◌, ◌-◌, ◌<◌, ◌≤◌, ◌^◌, length, take, flat_map, OnOk, OnErr};
-ghost use Rattle.varisat_literals.specs.Numbers.{literal_text};
-ghost use Rattle.varisat_formula.specs.Written.{Puts, ReadsBack, literals_text, header_text, formula_text};
+ghost use Rattle.varisat_literals.specs.Numbers.{literal_text, variable_limit};
+ghost use Rattle.varisat_formula.specs.Written.{Puts, ReadsBack, spaced_literals, header_text, formula_text};
 
 use crate::formula::{CnfFormula, Lit};
 use crate::io::ProofTarget;
@@ -40,7 +40,7 @@ fn write_literal<W: ProofTarget>(target: &mut W, literal: Lit) -> io::Result<()>
 /// Writes the clause's literals, `0` and a line feed.
 fn write_clause<W: ProofTarget>(target: &mut W, clause: &[Lit]) -> io::Result<()>
     requires { W.fault_count target.old < 2 ^ 64 - 1 }
-    ensures { Puts W.written W.fault_count target.old result (literals_text clause.now ++ 48 ∷ 10 ∷ []) target.new }
+    ensures { Puts W.written W.fault_count target.old result (spaced_literals clause.now ++ 48 ∷ 10 ∷ []) target.new }
 {
     for literal in clause {
         match write_literal(target, *literal) {
@@ -84,7 +84,7 @@ pub fn write_dimacs<W: ProofTarget, A: Allocator + Copy>(
     ensures begun { OnErr result ((n : ℕ) × (W.written target.new ≡ W.written target.old ++ take n (formula_text formula.now))) }
     ensures quiet { OnOk result (W.fault_count target.new ≡ W.fault_count target.old) }
     ensures fault { OnErr result (W.fault_count target.new ≡ W.fault_count target.old + 1) }
-    ensures read_back { formula.now.var_count ≤ 2 ^ 28 → ReadsBack formula.now }
+    ensures read_back { formula.now.var_count ≤ variable_limit → ReadsBack formula.now }
 {
     match write_header(target, formula.var_count(), formula.len()) {
         Ok(()) => {}

@@ -4,13 +4,13 @@ ghost use Rattle.std.specs.List.{FoldsTo};
 ghost use Rattle.std.specs.Iterator.{YieldsFirstRef, item_count};
 ghost use Rattle.varisat_theory.specs.Literals.{literal_of};
 ghost use Rattle.varisat_formula.specs.declared.formula.cnf.FormulaError.TheVariants.{Full, Memory};
-ghost use Rattle.varisat_formula.specs.Formulas.{no_clauses, variables_of, with_clause, with_clauses, AreBelow};
+ghost use Rattle.varisat_formula.specs.Formulas.{no_clauses, variables_of, append_clause, append_clauses, AreBelow};
 ghost use Rattle.varisat_formula.specs.Equality.{same_formula, same_laws, same_equivalence};
 
-use varisat_literals::{Lit, Var};
 use std::alloc::{AllocError, Allocator};
 use std::marker::Model;
 use thiserror::Error;
+use varisat_literals::{Lit, Var};
 
 /// Why a formula takes no more.
 #[derive(Clone, Copy, Debug, PartialEq, Eq, Error)]
@@ -100,13 +100,13 @@ pub struct CnfFormula<A: Allocator + Copy> {
 }
 
 impl<A: Allocator + Copy> Model for CnfFormula<A> {
-    ghost use Rattle.varisat_formula.specs.Formulas.{Formula, cut, Fits};
+    ghost use Rattle.varisat_formula.specs.Formulas.{Formula, cut, BuffersFit};
 
     ghost Value = { Formula };
 
     ghost view = { λ f. record { var_count = f.var_count; clauses = cut f.lengths.items f.literals.items } };
 
-    ghost invariant = { λ f. Fits f.var_count f.lengths.items f.literals.items };
+    ghost invariant = { λ f. BuffersFit f.var_count f.lengths.items f.literals.items };
 }
 
 /// The least count of variables that the literals have.
@@ -135,7 +135,7 @@ impl<A: Allocator + Copy> CnfFormula<A> {
 
     /// The formula of the clauses, in their order. Its only error is `Memory`.
     pub fn from_clauses_in(alloc: A, clauses: &[&[Lit]]) -> Result<CnfFormula<A>, FormulaError>
-        ensures formula { IfOk result (λ f. f ≡ with_clauses no_clauses (map (λ c. c.now) clauses.now)) }
+        ensures formula { IfOk result (λ f. f ≡ append_clauses no_clauses (map (λ c. c.now) clauses.now)) }
         ensures error { IfErr result (λ e. e ≡ Memory) }
     {
         let mut formula = CnfFormula::new_in(alloc);
@@ -180,7 +180,7 @@ impl<A: Allocator + Copy> CnfFormula<A> {
 
     /// Takes a clause. Where memory runs out, nothing changes.
     pub fn add_clause(&mut self, literals: &[Lit]) -> Result<(), FormulaError>
-        ensures { MatchResult result (λ _. self.new ≡ with_clause self.old literals.now) (λ e. (e ≡ Memory) × (self.new ≡ self.old)) }
+        ensures { MatchResult result (λ _. self.new ≡ append_clause self.old literals.now) (λ e. (e ≡ Memory) × (self.new ≡ self.old)) }
     {
         let needed = variables_of(literals);
         self.lengths.reserve(1)?;
@@ -204,7 +204,7 @@ impl<A: Allocator + Copy> CnfFormula<A> {
 impl<A: Allocator + Copy> ExtendFormula for CnfFormula<A> {
     type Error = FormulaError;
 
-    ghost adds_clause = { λ f c r g. MatchResult r (λ _. g ≡ with_clause f c) (λ e. (e ≡ Memory) × (g ≡ f)) };
+    ghost adds_clause = { λ f c r g. MatchResult r (λ _. g ≡ append_clause f c) (λ e. (e ≡ Memory) × (g ≡ f)) };
 
     ghost makes_var = { λ f r g. MatchResult r
         (λ v. (v ≡ f.var_count) × (v < 2 ^ 31) × (g ≡ record f { var_count = v + 1 }))

@@ -1,14 +1,14 @@
 //! Where bytes are read from.
 ghost use Rattle.std.specs.Prelude.{◌≡◌, ℕ, List, [], Option, ◌+◌, ◌-◌, ◌<◌, ◌≤◌, ◌^◌, min, length, OnOk, OnErr, IfOk};
 ghost use Rattle.std.specs.Io.KnownBytes.{ReadConsumes};
-ghost use Rattle.varisat_formula.specs.Streams.{Gives};
+ghost use Rattle.varisat_formula.specs.Streams.{FillsFrom};
 
 use crate::io::history::{History, Part};
 use std::io;
 use std::io::{ErrorKind, Read};
 use std::marker::Model;
 
-/// Gives bytes in pieces, and counts its faults.
+/// FillsFrom bytes in pieces, and counts its faults.
 pub trait ByteSource: Drop {
     /// The bytes that it gave so far.
     ghost given: { Self → List ℕ };
@@ -28,7 +28,7 @@ pub trait ByteSource: Drop {
         requires { fault_count self.old < 2 ^ 64 - 1 }
         ensures bound { IfOk result (λ n. n ≤ length buffer.new) }
         ensures bytes { ReadConsumes (left self.old) (left self.new) result buffer.new }
-        ensures gives { Gives (given self.old) (given self.new) result buffer.new }
+        ensures gives { FillsFrom (given self.old) (given self.new) result buffer.new }
         ensures pieces { IfOk result (λ n. 0 < n → pieces_left self.new < pieces_left self.old) }
         ensures no_more { pieces_left self.new ≤ pieces_left self.old }
         ensures quiet { OnOk result (fault_count self.new ≡ fault_count self.old) }
@@ -86,7 +86,7 @@ impl<R: Read + Drop> ByteSource for ReadSource<R> {
         requires { self.old.faults < 2 ^ 64 - 1 }
         ensures bound { IfOk result (λ n. n ≤ length buffer.new) }
         ensures bytes { ReadConsumes self.old.left self.new.left result buffer.new }
-        ensures gives { Gives self.old.given self.new.given result buffer.new }
+        ensures gives { FillsFrom self.old.given self.new.given result buffer.new }
         ensures pieces { IfOk result (λ n. 0 < n → self.new.pieces < self.old.pieces) }
         ensures no_more { self.new.pieces ≤ self.old.pieces }
         ensures counts { IfOk result (λ n. self.new.pieces + min n 1 ≡ self.old.pieces) }

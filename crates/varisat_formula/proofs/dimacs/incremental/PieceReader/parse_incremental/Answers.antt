@@ -1,6 +1,6 @@
 use Rattle.std.proofs.Common.{◌∙◌, refl, Ok, Err}
 use Rattle.std.specs.Fn.{CalledAtMut}
-use Rattle.varisat_formula.proofs.Incremental.{turns_none, turns_more, ends_text, finishes, has_fault, end_has_fault, is_refused, end_is_refused}
+use Rattle.varisat_formula.proofs.PieceReaders.{turns_none, turns_more, ends_text, finishes, has_fault, end_has_fault, is_refused, end_is_refused}
 use Rattle.varisat_formula.proofs.dimacs.incremental.PieceReader.parse_incremental.Goals as goal
 
 pub pieces-init : goal.pieces-init

@@ -1,4 +1,4 @@
-use Rattle.varisat_formula.proofs.Parsing.{source_failed}
+use Rattle.varisat_formula.proofs.ParsedSources.{source_failed}
 use Rattle.varisat_formula.proofs.dimacs.parser.DimacsParser.next_piece.Goals as goal
 
 pub returns-in-Err-clause-takes : goal.returns-in-Err-clause-takes

@@ -1,5 +1,5 @@
 use Rattle.varisat_formula.specs.Parsed.{stand}
-use Rattle.varisat_formula.proofs.Parsing.{ReadSo}
+use Rattle.varisat_formula.proofs.ParsedSources.{ReadSo}
 use Rattle.varisat_formula.proofs.dimacs.parser.DimacsParser.parse.Given as goal
 
 abbrev pub invariant-pieces : goal.invariant-pieces

@@ -2,7 +2,7 @@
 use Rattle.std.proofs.Common.{◌≡◌, ℕ, zero, suc, ◌+◌, ◌<◌, ◌≤◌, List, [], ◌∷◌, ◌++◌, take, drop, get_or, length, flat_map, refl, sym, ap, ◌∙◌, append_assoc, append-nil, arith, Result, Ok, Err}
 use Rattle.varisat_formula.specs.Formulas.{Formula}
 use Rattle.varisat_literals.specs.Numbers.{literal_text}
-use Rattle.varisat_formula.specs.Written.{Puts, literals_text, clauses_text, header_text, formula_text}
+use Rattle.varisat_formula.specs.Written.{Puts, spaced_literals, clauses_text, header_text, formula_text}
 
 -- a beginning of one part is a beginning of the whole
 begin_part : (n : ℕ) (part rest : List ℕ) → (m : ℕ) × (take n part ≡ take m (part ++ rest))
@@ -33,25 +33,25 @@ parts_split now (x ∷ all) (suc i) d h =
     append_assoc (now x) (flat_map now (take i all)) (now (get_or all i d) ++ flat_map now (drop (suc i) all)) ∙ ap (λ ys. now x ++ ys) (parts_split now all i d (omega arith))
 
 -- a clause's literals
-literal_spaced : (l : ℕ) (ls rest : List ℕ) → (literal_text l ++ 32 ∷ []) ++ (literals_text ls ++ rest) ≡ literals_text (l ∷ ls) ++ rest
-literal_spaced l ls rest = append_assoc (literal_text l) (32 ∷ []) (literals_text ls ++ rest) ∙ sym (append_assoc (literal_text l) (32 ∷ literals_text ls) rest)
+literal_spaced : (l : ℕ) (ls rest : List ℕ) → (literal_text l ++ 32 ∷ []) ++ (spaced_literals ls ++ rest) ≡ spaced_literals (l ∷ ls) ++ rest
+literal_spaced l ls rest = append_assoc (literal_text l) (32 ∷ []) (spaced_literals ls ++ rest) ∙ sym (append_assoc (literal_text l) (32 ∷ spaced_literals ls) rest)
 
 pub literals_split : (ls : List ℕ) (i l : ℕ) (rest : List ℕ) → i < length ls → l ≡ get_or ls i l →
-    literals_text (take i ls) ++ ((literal_text l ++ 32 ∷ []) ++ (literals_text (drop (suc i) ls) ++ rest)) ≡ literals_text ls ++ rest
+    spaced_literals (take i ls) ++ ((literal_text l ++ 32 ∷ []) ++ (spaced_literals (drop (suc i) ls) ++ rest)) ≡ spaced_literals ls ++ rest
 literals_split [] i l rest h e = absurd (omega arith)
-literals_split (x ∷ ls) zero l rest h e = ap (λ y. (literal_text y ++ 32 ∷ []) ++ (literals_text ls ++ rest)) e ∙ literal_spaced x ls rest
+literals_split (x ∷ ls) zero l rest h e = ap (λ y. (literal_text y ++ 32 ∷ []) ++ (spaced_literals ls ++ rest)) e ∙ literal_spaced x ls rest
 literals_split (x ∷ ls) (suc i) l rest h e =
-    append_assoc (literal_text x) (32 ∷ literals_text (take i ls)) ((literal_text l ++ 32 ∷ []) ++ (literals_text (drop (suc i) ls) ++ rest))
+    append_assoc (literal_text x) (32 ∷ spaced_literals (take i ls)) ((literal_text l ++ 32 ∷ []) ++ (spaced_literals (drop (suc i) ls) ++ rest))
     ∙ ap (λ ys. literal_text x ++ 32 ∷ ys) (literals_split ls i l rest (omega arith) e)
-    ∙ sym (append_assoc (literal_text x) (32 ∷ literals_text ls) rest)
+    ∙ sym (append_assoc (literal_text x) (32 ∷ spaced_literals ls) rest)
 
-pub literals_more : (ls : List ℕ) (i l : ℕ) → i < length ls → l ≡ get_or ls i l → literals_text (take i ls) ++ (literal_text l ++ 32 ∷ []) ≡ literals_text (take (i + 1) ls)
+pub literals_more : (ls : List ℕ) (i l : ℕ) → i < length ls → l ≡ get_or ls i l → spaced_literals (take i ls) ++ (literal_text l ++ 32 ∷ []) ≡ spaced_literals (take (i + 1) ls)
 literals_more [] i l h e = absurd (omega arith)
 literals_more (x ∷ ls) zero l h e = ap (λ y. literal_text y ++ 32 ∷ []) e
 literals_more (x ∷ ls) (suc i) l h e =
-    append_assoc (literal_text x) (32 ∷ literals_text (take i ls)) (literal_text l ++ 32 ∷ [])
+    append_assoc (literal_text x) (32 ∷ spaced_literals (take i ls)) (literal_text l ++ 32 ∷ [])
     ∙ ap (λ ys. literal_text x ++ 32 ∷ ys) (literals_more ls i l (omega arith) e)
-    ∙ ap (λ k. literals_text (take k (x ∷ ls))) (more i)
+    ∙ ap (λ k. spaced_literals (take k (x ∷ ls))) (more i)
   where
     more : (i : ℕ) → suc (i + 1) ≡ suc i + 1
     more i = omega arith
@@ -65,8 +65,8 @@ puts_behind written faults old mid new (Err d) front text whole e f g p =
     (begun_part (written old) (written mid) (written new) front text [] whole p.0.0 e p.0.1 (ap (λ x. front ++ x) (append-nil text) ∙ g), p.1 ∙ ap (λ n. n + 1) f)
 
 -- the end of a clause
-pub clause_end : (ls : List ℕ) (i : ℕ) (s : List ℕ) → length ls ≤ i → s ≡ 48 ∷ 10 ∷ [] → literals_text (take i ls) ++ (s ++ []) ≡ literals_text ls ++ 48 ∷ 10 ∷ []
-clause_end ls i s h e = ap (λ x. literals_text x ++ (s ++ [])) (take_all ls i h) ∙ ap (λ x. literals_text ls ++ x) (append-nil s ∙ e)
+pub clause_end : (ls : List ℕ) (i : ℕ) (s : List ℕ) → length ls ≤ i → s ≡ 48 ∷ 10 ∷ [] → spaced_literals (take i ls) ++ (s ++ []) ≡ spaced_literals ls ++ 48 ∷ 10 ∷ []
+clause_end ls i s h e = ap (λ x. spaced_literals x ++ (s ++ [])) (take_all ls i h) ∙ ap (λ x. spaced_literals ls ++ x) (append-nil s ∙ e)
   where
     take_all : (ls : List ℕ) (i : ℕ) → length ls ≤ i → take i ls ≡ ls
     take_all [] i h = nothing_taken i
@@ -83,5 +83,5 @@ header_begun f v k old new n e d h =
     begun_part old old new [] (header_text v k) (clauses_text f.clauses) (formula_text f) n (sym (append-nil old)) h
     (ap (λ x. header_text x k ++ clauses_text f.clauses) e ∙ ap (λ x. header_text f.var_count x ++ clauses_text f.clauses) d)
 
-pub clause_parts : (c front whole : List ℕ) (rest : List (List ℕ)) (all : List (List ℕ)) → all ≡ c ∷ rest → front ++ clauses_text all ≡ whole → front ++ ((literals_text c ++ 48 ∷ 10 ∷ []) ++ clauses_text rest) ≡ whole
-clause_parts c front whole rest all e g = ap (λ x. front ++ x) (append_assoc (literals_text c) (48 ∷ 10 ∷ []) (clauses_text rest)) ∙ sym (ap (λ x. front ++ clauses_text x) e) ∙ g
+pub clause_parts : (c front whole : List ℕ) (rest : List (List ℕ)) (all : List (List ℕ)) → all ≡ c ∷ rest → front ++ clauses_text all ≡ whole → front ++ ((spaced_literals c ++ 48 ∷ 10 ∷ []) ++ clauses_text rest) ≡ whole
+clause_parts c front whole rest all e g = ap (λ x. front ++ x) (append_assoc (spaced_literals c) (48 ∷ 10 ∷ []) (clauses_text rest)) ∙ sym (ap (λ x. front ++ clauses_text x) e) ∙ g

@@ -5,11 +5,11 @@ use Rattle.varisat_formula.specs.declared.dimacs.error.DimacsError.{DimacsError}
 use Rattle.varisat_formula.specs.declared.dimacs.error.DimacsErrorKind.TheVariants.{Io, OutOfMemory}
 use Rattle.varisat_formula.specs.Formulas.{Formula}
 use Rattle.varisat_formula.specs.Dimacs.{is_blank, Ending, Ends, GoesOn, BreaksOff, gives, dimacs, so_far, broken}
-use Rattle.varisat_formula.specs.Rest.{Progress, begin, gives_from, dimacs_from, Follows, RunsOut, failing, failing_by}
+use Rattle.varisat_formula.specs.Rest.{Progress, begin, gives_from, dimacs_from, AdvancesBy, RunsOut, failing, failing_by}
 use Rattle.varisat_formula.specs.Parsed.{Stand, Breaks, TakesPiece, EndsToken, IsFaultOf, Parses}
-use Rattle.varisat_formula.proofs.Kept.{kept_by}
-use Rattle.varisat_formula.proofs.Putting.{put_part}
-use Rattle.varisat_formula.proofs.Steps.{follows_none, follows_more, gives_failed, begin_gives, breaks_off}
+use Rattle.varisat_formula.proofs.ParserMemory.{kept_by}
+use Rattle.varisat_formula.proofs.TargetParts.{put_part}
+use Rattle.varisat_formula.proofs.ParserProgress.{advances_none, advances_more, gives_failed, begin_gives, breaks_off}
 
 consumes_none : (a b : Option (List ℕ)) → Keeps a b → Consumes a b []
 consumes_none None b k = tt
@@ -65,7 +65,7 @@ pub record ReadSo (s t : Stand) (p : Progress) : Type 0 where
   pub text : List ℕ
   pub gave : t.given ≡ s.given ++ text
   pub consumed : Consumes s.left t.left text
-  pub follows : Follows begin text p
+  pub advances : AdvancesBy begin text p
   pub open_still : p.over ≡ false
   pub fine : p.reading.fault ≡ None
   pub quiet : t.faults ≡ s.faults
@@ -75,7 +75,7 @@ read_nothing s p e = record {
   text = [];
   gave = sym (append-nil s.given);
   consumed = consumes_self s.left;
-  follows = subst (λ x. Follows begin [] x) (sym e) (follows_none begin);
+  advances = subst (λ x. AdvancesBy begin [] x) (sym e) (advances_none begin);
   open_still = ap (λ x. x.over) e;
   fine = ap (λ x. x.reading.fault) e;
   quiet = refl;
@@ -88,7 +88,7 @@ read_more s t u p q more r w k e o =
       text = w.text ++ k.piece;
       gave = put_part s.given t.given u.given w.text k.piece w.gave k.gave;
       consumed = consumes_more s.left t.left u.left w.text k.piece w.consumed k.consumed;
-      follows = follows_more begin p q w.text k.piece w.follows g.0;
+      advances = advances_more begin p q w.text k.piece w.advances g.0;
       open_still = o ∙ w.open_still;
       fine = g.1;
       quiet = g.2 ∙ w.quiet;
@@ -104,10 +104,10 @@ not_both : (f : Formula) (e : DimacsError) (r : Result Formula DimacsError) → 
 not_both f e r a b = cc
 
 -- what the definition of a text says of it
-whole_gives : (ending : Ending) (text : List ℕ) (p : Progress) (rest : List ℕ) → Follows begin text p → gives ending (text ++ rest) ≡ gives_from ending p rest
+whole_gives : (ending : Ending) (text : List ℕ) (p : Progress) (rest : List ℕ) → AdvancesBy begin text p → gives ending (text ++ rest) ≡ gives_from ending p rest
 whole_gives ending text p rest f = sym (begin_gives ending (text ++ rest)) ∙ sym (f.same ending rest)
 
-end_gives : (ending : Ending) (text : List ℕ) (p : Progress) → Follows begin text p → gives ending text ≡ gives_from ending p []
+end_gives : (ending : Ending) (text : List ℕ) (p : Progress) → AdvancesBy begin text p → gives ending text ≡ gives_from ending p []
 end_gives ending text p f = sym (ap (λ x. gives ending x) (append-nil text)) ∙ whole_gives ending text p [] f
 
 pub fault_told : (s t u : Stand) (p q : Progress) (e : DimacsError) (r : Result Bool DimacsError) (answer : Result Formula DimacsError) → ReadSo s t p → TakesPiece t p r u q → r ≡ Err e → answer ≡ Err e → Parses s answer u
@@ -121,7 +121,7 @@ fault_told s t u p q e r answer w k d a = record {
   where
     why : Breaks p k.piece e q t u → IsFaultOf (w.text ++ k.piece) e s u
     why (inl (inl f, h, n)) =
-        let g = follows_more begin p q w.text k.piece w.follows f in
+        let g = advances_more begin p q w.text k.piece w.advances f in
         inl (λ rest. ap (λ z. z.fault) (whole_gives Ends (w.text ++ k.piece) q rest g ∙ gives_failed Ends q e h rest) ∙ h, n ∙ w.quiet)
     why (inl (inr o, h, n)) =
         let front : List ℕ = take o.at k.piece in
@@ -131,13 +131,13 @@ fault_told s t u p q e r answer w k d a = record {
             rest = drop o.at k.piece;
             splits = append_assoc w.text front (drop o.at k.piece) ∙ ap (λ z. w.text ++ z) (take-append-drop o.at k.piece);
             ends = blank_ends u.left o.at k.piece o.blank;
-            wants = kept_by _ _ _ _ (whole_gives GoesOn w.text p front w.follows) (ap so_far (append_assoc w.text front (32 ∷ [])) ∙ whole_gives GoesOn w.text p (front ++ 32 ∷ []) w.follows) o.out.wants;
-            told = ap (λ z. z.fault) (whole_gives (BreaksOff OutOfMemory) w.text p front w.follows ∙ sym o.out.reading) ∙ h;
+            wants = kept_by _ _ _ _ (whole_gives GoesOn w.text p front w.advances) (ap so_far (append_assoc w.text front (32 ∷ [])) ∙ whole_gives GoesOn w.text p (front ++ 32 ∷ []) w.advances) o.out.wants;
+            told = ap (λ z. z.fault) (whole_gives (BreaksOff OutOfMemory) w.text p front w.advances ∙ sym o.out.reading) ∙ h;
           },
           n ∙ w.quiet,
         )))
     why (inr (b, h, n, f)) =
-        inr (inr (inr (ap (λ z. z.fault) (ap (λ z. broken Io (w.text ++ z)) n ∙ whole_gives (BreaksOff Io) w.text p [] w.follows) ∙ failing_told p e w.open_still h, f ∙ ap (λ n. n + 1) w.quiet)))
+        inr (inr (inr (ap (λ z. z.fault) (ap (λ z. broken Io (w.text ++ z)) n ∙ whole_gives (BreaksOff Io) w.text p [] w.advances) ∙ failing_told p e w.open_still h, f ∙ ap (λ n. n + 1) w.quiet)))
 
 -- the text ended
 pub formula_told : (s t : Stand) (p q : Progress) (answer : Result Formula DimacsError) (f : Formula) → ReadSo s t p → IsAtEnd t.left → (q.reading ≡ dimacs_from p []) ⊎ RunsOut p [] q → q.reading.fault ≡ None →
@@ -151,7 +151,7 @@ formula_told s t p q answer f w a r h d b = record {
 }
   where
     by_end : (q.reading ≡ dimacs_from p []) ⊎ RunsOut p [] q → q.reading ≡ dimacs w.text
-    by_end (inl g) = g ∙ sym (end_gives Ends w.text p w.follows)
+    by_end (inl g) = g ∙ sym (end_gives Ends w.text p w.advances)
     by_end (inr o) = absurd (no_fault (sym h ∙ ap (λ z. z.fault) (o.reading ∙ breaks_off OutOfMemory p w.open_still w.fine)))
       where
         no_fault : {e : DimacsError} → None ≡ Some e → ⊥
@@ -170,7 +170,7 @@ end_told s t p q e answer w a r h b = record {
 }
   where
     why : (q.reading ≡ dimacs_from p []) ⊎ RunsOut p [] q → IsFaultOf w.text e s t
-    why (inl g) = inr (inl (ap (λ z. z.fault) (end_gives Ends w.text p w.follows ∙ sym g) ∙ h, a, w.quiet))
+    why (inl g) = inr (inl (ap (λ z. z.fault) (end_gives Ends w.text p w.advances ∙ sym g) ∙ h, a, w.quiet))
     why (inr o) =
         inr (inr (inl (
           record {
@@ -178,8 +178,8 @@ end_told s t p q e answer w a r h b = record {
             rest = [];
             splits = append-nil w.text;
             ends = a;
-            wants = kept_by _ _ _ _ (end_gives GoesOn w.text p w.follows) (whole_gives GoesOn w.text p (32 ∷ []) w.follows) o.wants;
-            told = ap (λ z. z.fault) (end_gives (BreaksOff OutOfMemory) w.text p w.follows ∙ sym o.reading) ∙ h;
+            wants = kept_by _ _ _ _ (end_gives GoesOn w.text p w.advances) (whole_gives GoesOn w.text p (32 ∷ []) w.advances) o.wants;
+            told = ap (λ z. z.fault) (end_gives (BreaksOff OutOfMemory) w.text p w.advances ∙ sym o.reading) ∙ h;
           },
           w.quiet,
         )))

@@ -1,6 +1,7 @@
 -- Header lines, a byte at a time.
 use Rattle.std.proofs.Common.{◌≡◌, ℕ, zero, suc, ◌+◌, ◌-◌, ◌*◌, ◌^◌, ◌<◌, ◌≤◌, List, [], ◌∷◌, ◌++◌, Bool, true, false, ◌&&◌, ◌==◌, nat_lt, if◌then◌else◌, refl, sym, ap, ◌∙◌, append_assoc, Option, Some, None, option_map, min, arith, rules, codes, bytes_eq}
 use Rattle.std.proofs.lemmas.Slice.Eq.{bytes_eq-Decides}
+use Rattle.varisat_literals.specs.Numbers.{variable_limit}
 use Rattle.varisat_formula.specs.declared.dimacs.token.Digits.{Digits}
 use Rattle.varisat_formula.specs.declared.dimacs.token.Digits.TheVariants.{Empty, Number, Large, NoNumber}
 use Rattle.varisat_formula.specs.declared.dimacs.header.Heading.{Heading}
@@ -9,7 +10,7 @@ use Rattle.varisat_formula.specs.declared.dimacs.header.HeaderPart.{HeaderPart}
 use Rattle.varisat_formula.specs.declared.dimacs.header.HeaderPart.TheVariants.{Name, Gap, C, Cn, Cnf, Vars, Clauses, Last, Bad}
 use Rattle.varisat_formula.specs.Dimacs.{is_blank, is_digit, tokens, number, sized, sizes, header_of}
 use Rattle.varisat_formula.specs.Machine.{after_digit, grown, digits_from, says, is_empty, header_from, header_says, header_blank, header_more, vars_ended, clauses_ended, clauses_says}
-use Rattle.varisat_formula.proofs.Words.{capped, number_agrees, one_token, tokens_behind, tokens_end, tokens_blank, tokens_more, tokens_all, not_empty, digits_not_empty}
+use Rattle.varisat_formula.proofs.TokenBytes.{capped, number_agrees, one_token, tokens_behind, tokens_end, tokens_blank, tokens_more, tokens_all, not_empty, digits_not_empty}
 
 -- the tokens of the rest of a line, the first of which goes on
 abbrev pub words : List ℕ → List ℕ → List (List ℕ)
@@ -131,16 +132,16 @@ exact None n e = absurd cc
 exact (Some v) n e = record { v = v; is = refl; kept = cc }
 
 sized_kept : (v w c : ℕ) → w ≡ min v (2 ^ 64 - 1) → sized v c ≡ sized w c
-sized_kept v w c e = go (nat_lt (2 ^ 28) v) refl
+sized_kept v w c e = go (nat_lt variable_limit v) refl
   where
-    go : (t : Bool) → nat_lt (2 ^ 28) v ≡ t → sized v c ≡ sized w c
+    go : (t : Bool) → nat_lt variable_limit v ≡ t → sized v c ≡ sized w c
     go true f =
-        let h : 2 ^ 28 < v = search (rules, f) in
-        let k : 2 ^ 28 < w = omega arith in
-        let g : nat_lt (2 ^ 28) w ≡ true = search (rules, k) in
+        let h : variable_limit < v = search (rules, f) in
+        let k : variable_limit < w = omega arith in
+        let g : nat_lt variable_limit w ≡ true = search (rules, k) in
         ap (λ t. if t then Oversized else Sized (record { vars = v; clauses = c })) f ∙ sym (ap (λ t. if t then Oversized else Sized (record { vars = w; clauses = c })) g)
     go false f =
-        let h : v ≤ 2 ^ 28 = search (rules, f) in
+        let h : v ≤ variable_limit = search (rules, f) in
         let k : v ≡ w = omega arith in
         ap (λ x. sized x c) k
 

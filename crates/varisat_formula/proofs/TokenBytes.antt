@@ -1,6 +1,7 @@
 -- Tokens, a byte at a time.
 use Rattle.std.proofs.Common.{◌≡◌, ℕ, zero, suc, ◌+◌, ◌-◌, ◌*◌, ◌^◌, ◌<◌, ◌≤◌, List, [], ◌∷◌, ◌++◌, Bool, true, false, ◌&&◌, ◌==◌, nat_lt, if◌then◌else◌, refl, sym, ap, ◌∙◌, append_assoc, append-nil, Option, Some, None, option_map, min, arith, rules}
 use Rattle.varisat_theory.specs.Literals.{literal_of}
+use Rattle.varisat_literals.specs.Numbers.{variable_limit}
 use Rattle.varisat_formula.specs.declared.dimacs.token.Digits.{Digits}
 use Rattle.varisat_formula.specs.declared.dimacs.token.Digits.TheVariants.{Empty, Number, Large, NoNumber}
 use Rattle.varisat_formula.specs.declared.dimacs.token.Word.{Word}
@@ -108,14 +109,14 @@ number_agrees (b ∷ e ∷ ds) = zero_case (b == 48) b e ds refl
 range_case : (t : Bool) (s : Bool) (n : ℕ) → nat_lt (2 ^ 64) (suc n) ≡ t → in_range s (capped (suc n)) ≡ in_range s (suc n)
 range_case true s n e = large s (capped (suc n)) (over n e) ∙ sym (large s (suc n) (above n e))
   where
-    above : (n : ℕ) → nat_lt (2 ^ 64) (suc n) ≡ true → 2 ^ 28 < suc n
+    above : (n : ℕ) → nat_lt (2 ^ 64) (suc n) ≡ true → variable_limit < suc n
     above n e = let h : 2 ^ 64 < suc n = search (rules, e) in omega arith
 
-    over : (n : ℕ) → nat_lt (2 ^ 64) (suc n) ≡ true → 2 ^ 28 < min (suc n) (2 ^ 64)
+    over : (n : ℕ) → nat_lt (2 ^ 64) (suc n) ≡ true → variable_limit < min (suc n) (2 ^ 64)
     over n e = let h : 2 ^ 64 < suc n = search (rules, e) in omega arith
 
-    large : (s : Bool) (m : ℕ) → 2 ^ 28 < m → in_range s m ≡ TooLarge
-    large s m h = let f : nat_lt (2 ^ 28) m ≡ true = search (rules, h) in ap (λ t. if t then TooLarge else Literal (literal_of (m - 1) s)) f
+    large : (s : Bool) (m : ℕ) → variable_limit < m → in_range s m ≡ TooLarge
+    large s m h = let f : nat_lt variable_limit m ≡ true = search (rules, h) in ap (λ t. if t then TooLarge else Literal (literal_of (m - 1) s)) f
 range_case false s n e = ap (λ m. in_range s m) (small n e)
   where
     small : (n : ℕ) → nat_lt (2 ^ 64) (suc n) ≡ false → min (suc n) (2 ^ 64) ≡ suc n

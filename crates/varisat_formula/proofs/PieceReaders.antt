@@ -4,9 +4,9 @@ use Rattle.std.proofs.lemmas.Fn.{FoldsTo-push}
 use Rattle.varisat_formula.specs.declared.dimacs.error.DimacsError.{DimacsError}
 use Rattle.varisat_formula.specs.declared.dimacs.error.DimacsErrorKind.TheVariants.{OutOfMemory}
 use Rattle.varisat_formula.specs.Dimacs.{Ends, GoesOn, BreaksOff}
-use Rattle.varisat_formula.specs.Rest.{Progress, begin, dimacs_from, Follows, RunsOut, fault_of}
-use Rattle.varisat_formula.proofs.Kept.{kept_by}
-use Rattle.varisat_formula.proofs.Steps.{over_gives, breaks_off}
+use Rattle.varisat_formula.specs.Rest.{Progress, begin, dimacs_from, AdvancesBy, RunsOut, fault_of}
+use Rattle.varisat_formula.proofs.ParserMemory.{kept_by}
+use Rattle.varisat_formula.proofs.ParserProgress.{over_gives, breaks_off}
 use Rattle.varisat_formula.specs.Parsed.{Stand, TakesPiece, Turn, Turns, TakesEnd, Finishes, Refuses}
 
 -- the end of a text that was read, without a fault
@@ -22,15 +22,15 @@ end_whole p q h f (inr o) = by_over p.over refl
     by_over false d = absurd (no_fault (sym f ∙ ap (λ z. z.fault) (o.reading ∙ breaks_off OutOfMemory p d h)))
 
 -- the end is told of where the reader was before it took nothing
-ends_before : (p m q : Progress) → Follows p [] m → (q.reading ≡ dimacs_from m []) ⊎ RunsOut m [] q → (q.reading ≡ dimacs_from p []) ⊎ RunsOut p [] q
+ends_before : (p m q : Progress) → AdvancesBy p [] m → (q.reading ≡ dimacs_from m []) ⊎ RunsOut m [] q → (q.reading ≡ dimacs_from p []) ⊎ RunsOut p [] q
 ends_before p m q z (inl e) = inl (e ∙ z.same Ends [])
 ends_before p m q z (inr o) = inr (record {
   reading = o.reading ∙ z.same (BreaksOff OutOfMemory) [];
   wants = kept_by _ _ _ _ (sym (z.same GoesOn [])) (sym (z.same GoesOn (32 ∷ []))) o.wants;
 })
 
-follows_back : (p m : Progress) → Follows p [] m → Follows m [] p
-follows_back p m z = record { same = λ ending rest. sym (z.same ending rest) }
+advances_back : (p m : Progress) → AdvancesBy p [] m → AdvancesBy m [] p
+advances_back p m z = record { same = λ ending rest. sym (z.same ending rest) }
 
 module _ {F P E : Type 0} (called : F → P → Result (Unit {0}) E → F → P → Type 0) (progress : P → Progress) where
   pub turns_none : (source : Stand) (f : F) (reader : P) → progress reader ≡ begin → Turns called progress source f (record { source = source; reader = reader; function = f })
@@ -55,7 +55,7 @@ module _ {F P E : Type 0} (called : F → P → Result (Unit {0}) E → F → P 
       record {
         behind = m;
         takes = x;
-        reads = ends_before (progress p) (progress m) (progress q) (subst (λ t. Follows (progress p) t (progress m)) (x.ends refl).0 (x.good false refl).0) b;
+        reads = ends_before (progress p) (progress m) (progress q) (subst (λ t. AdvancesBy (progress p) t (progress m)) (x.ends refl).0 (x.good false refl).0) b;
         answer = n;
         over = o;
       }
@@ -64,13 +64,13 @@ module _ {F P E : Type 0} (called : F → P → Result (Unit {0}) E → F → P 
       TakesEnd called progress (record { source = now; reader = p; function = g }) (Ok tt) ended q → called g q (Ok tt) h s → Finishes called progress source f ended s
   finishes source f now ended p q s g h w k c =
       let m : Progress = progress k.behind in
-      let z : Follows (progress p) [] m = subst (λ t. Follows (progress p) t m) (k.takes.ends refl).0 (k.takes.good false refl).0 in
+      let z : AdvancesBy (progress p) [] m = subst (λ t. AdvancesBy (progress p) t m) (k.takes.ends refl).0 (k.takes.good false refl).0 in
       record {
         last = record { source = now; reader = p; function = g };
         turns = w;
         read = q;
         ends = k;
-        whole = end_whole m (progress q) (k.takes.good false refl).1 (sym k.answer) (ends_before m (progress p) (progress q) (follows_back (progress p) m z) k.reads) ∙ z.same Ends [];
+        whole = end_whole m (progress q) (k.takes.good false refl).1 (sym k.answer) (ends_before m (progress p) (progress q) (advances_back (progress p) m z) k.reads) ∙ z.same Ends [];
         function = h;
         calls = c;
       }

@@ -9,9 +9,9 @@ use Rattle.varisat_formula.specs.declared.dimacs.error.DimacsError.{DimacsError}
 use Rattle.varisat_formula.specs.declared.dimacs.error.DimacsErrorKind.{DimacsErrorKind}
 use Rattle.varisat_formula.specs.Dimacs.{Item, Reading, nothing, put, is_blank, is_line_feed, tokens, header_items, line_items, token_items, items, next, lines, last_line, read, step, step_by, Ending, GoesOn, BreaksOff, is_whole, close, close_by, gives, failed, header_of}
 use Rattle.varisat_formula.specs.Machine.{no_word, after_byte, after_header_byte}
-use Rattle.varisat_formula.specs.Rest.{Progress, begin, word_items, plain_rest, line_rest, rest_items, start_place, gives_from, Follows}
-use Rattle.varisat_formula.proofs.Words.{split_pieces, plain_agrees}
-use Rattle.varisat_formula.proofs.Headers.{header_agrees}
+use Rattle.varisat_formula.specs.Rest.{Progress, begin, word_items, plain_rest, line_rest, rest_items, start_place, gives_from, AdvancesBy}
+use Rattle.varisat_formula.proofs.TokenBytes.{split_pieces, plain_agrees}
+use Rattle.varisat_formula.proofs.HeaderLines.{header_agrees}
 
 pub read-append : (r : Reading) (xs ys : List Item) → read r (xs ++ ys) ≡ read (read r xs) ys
 read-append r [] ys = refl
@@ -136,11 +136,11 @@ pub over_gives : (ending : Ending) (p : Progress) (rest : List ℕ) → p.over �
 over_gives ending p rest e =
     ap (λ t. if t then p.reading else close ending (read p.reading (rest_items (is_whole ending) p.line p.place (lines rest))) (last_line p.line (lines rest))) e
 
-pub follows_none : (p : Progress) → Follows p [] p
-follows_none p = record { same = λ ending rest. refl }
+pub advances_none : (p : Progress) → AdvancesBy p [] p
+advances_none p = record { same = λ ending rest. refl }
 
-pub follows_more : (p q s : Progress) (a b : List ℕ) → Follows p a q → Follows q b s → Follows p (a ++ b) s
-follows_more p q s a b f g = record { same = λ ending rest. g.same ending rest ∙ f.same ending (b ++ rest) ∙ ap (λ t. gives_from ending p t) (sym (append_assoc a b rest)) }
+pub advances_more : (p q s : Progress) (a b : List ℕ) → AdvancesBy p a q → AdvancesBy q b s → AdvancesBy p (a ++ b) s
+advances_more p q s a b f g = record { same = λ ending rest. g.same ending rest ∙ f.same ending (b ++ rest) ∙ ap (λ t. gives_from ending p t) (sym (append_assoc a b rest)) }
 
 pub gives_failed : (ending : Ending) (p : Progress) (e : DimacsError) → p.reading.fault ≡ Some e → (text : List ℕ) → gives_from ending p text ≡ p.reading
 gives_failed ending p e h text = by_over p.over refl
@@ -152,24 +152,24 @@ gives_failed ending p e h text = by_over p.over refl
         ∙ ap (λ r. close ending r (last_line p.line (lines text))) (read_failed p.reading e (rest_items (is_whole ending) p.line p.place (lines text)) h)
         ∙ close_failed ending p.reading e (last_line p.line (lines text)) h
 
-pub follows_failed : (p : Progress) (e : DimacsError) (text : List ℕ) → p.reading.fault ≡ Some e → Follows p text p
-follows_failed p e text h = record { same = λ ending rest. gives_failed ending p e h rest ∙ sym (gives_failed ending p e h (text ++ rest)) }
+pub advances_failed : (p : Progress) (e : DimacsError) (text : List ℕ) → p.reading.fault ≡ Some e → AdvancesBy p text p
+advances_failed p e text h = record { same = λ ending rest. gives_failed ending p e h rest ∙ sym (gives_failed ending p e h (text ++ rest)) }
 
 -- where the reader stands, in parts
 abbrev pub standing : ℕ → Place → Reading → Progress
 standing n place r = record { line = n; place = place; over = false; reading = r }
 
-pub follows_byte : (n : ℕ) (place : Place) (r : Reading) (b : ℕ) (front : List Item) (place' : Place) →
-    LineStep n place b front place' → is_line_feed b ≡ false → Follows (standing n place r) (b ∷ []) (standing n place' (read r front))
-follows_byte n place r b front place' s h = record {
+pub advances_byte : (n : ℕ) (place : Place) (r : Reading) (b : ℕ) (front : List Item) (place' : Place) →
+    LineStep n place b front place' → is_line_feed b ≡ false → AdvancesBy (standing n place r) (b ∷ []) (standing n place' (read r front))
+advances_byte n place r b front place' s h = record {
   same = λ ending rest.
       ap (λ x. close ending x (last_line n (lines rest)))
       (sym (read-append r front (rest_items (is_whole ending) n place' (lines rest))) ∙ sym (ap (λ xs. read r xs) (step_items (is_whole ending) n place b front place' s h rest)))
       ∙ ap (λ m. close ending (read r (rest_items (is_whole ending) n place (lines (b ∷ rest)))) m) (sym (step_last n b h rest));
 }
 
-pub follows_line_feed : (n : ℕ) (place : Place) (r : Reading) → Follows (standing n place r) (10 ∷ []) (standing (next n) Start (read r (line_rest true n place [])))
-follows_line_feed n place r = record {
+pub advances_line_feed : (n : ℕ) (place : Place) (r : Reading) → AdvancesBy (standing n place r) (10 ∷ []) (standing (next n) Start (read r (line_rest true n place [])))
+advances_line_feed n place r = record {
   same = λ ending rest.
       ap (λ x. close ending x (last_line (next n) (lines rest)))
       (sym (read-append r (line_rest true n place []) (rest_items (is_whole ending) (next n) Start (lines rest))) ∙ sym (ap (λ xs. read r xs) (line_feed_items (is_whole ending) n place rest)))
@@ -205,25 +205,25 @@ goes_on p = by_over p.over refl
 
 -- 4. The same, for what the code has.
 pub reads_byte : (s p q : Progress) (b : ℕ) (front : List Item) (place place' : Place) → p ≡ s → s.over ≡ false → p.place ≡ place → q ≡ record p { place = place'; reading = read p.reading front } →
-    LineStep p.line place b front place' → is_line_feed b ≡ false → Follows s (b ∷ []) q
+    LineStep p.line place b front place' → is_line_feed b ≡ false → AdvancesBy s (b ∷ []) q
 reads_byte s p q b front place place' v e f k step h =
     let o : p.over ≡ false = ap (λ x. x.over) v ∙ e in
     let p_is : p ≡ standing p.line place p.reading = ap (λ x. record p { over = x }) o ∙ ap (λ x. standing p.line x p.reading) f in
     let q_is : q ≡ standing p.line place' (read p.reading front) = k ∙ ap (λ x. record { line = p.line; place = place'; over = x; reading = read p.reading front }) o in
-    subst (λ x. Follows x (b ∷ []) q) (sym p_is ∙ v) (subst (λ x. Follows (standing p.line place p.reading) (b ∷ []) x) (sym q_is) (follows_byte p.line place p.reading b front place' step h))
+    subst (λ x. AdvancesBy x (b ∷ []) q) (sym p_is ∙ v) (subst (λ x. AdvancesBy (standing p.line place p.reading) (b ∷ []) x) (sym q_is) (advances_byte p.line place p.reading b front place' step h))
 
-pub reads_line_feed : (s q : Progress) (b : ℕ) → s.over ≡ false → b ≡ 10 → q ≡ record s { line = next s.line; place = Start; reading = read s.reading (line_rest true s.line s.place []) } → Follows s (b ∷ []) q
+pub reads_line_feed : (s q : Progress) (b : ℕ) → s.over ≡ false → b ≡ 10 → q ≡ record s { line = next s.line; place = Start; reading = read s.reading (line_rest true s.line s.place []) } → AdvancesBy s (b ∷ []) q
 reads_line_feed s q b e f k =
     let s_is : s ≡ standing s.line s.place s.reading = ap (λ x. record s { over = x }) e in
     let q_is : q ≡ standing (next s.line) Start (read s.reading (line_rest true s.line s.place [])) =
     k ∙ ap (λ x. record { line = next s.line; place = Start; over = x; reading = read s.reading (line_rest true s.line s.place []) }) e in
-    subst (λ x. Follows x (b ∷ []) q) (sym s_is) (subst (λ x. Follows (standing s.line s.place s.reading) (b ∷ []) x) (sym q_is)
-    (subst (λ c. Follows (standing s.line s.place s.reading) (c ∷ []) (standing (next s.line) Start (read s.reading (line_rest true s.line s.place [])))) (sym f) (follows_line_feed s.line s.place s.reading)))
+    subst (λ x. AdvancesBy x (b ∷ []) q) (sym s_is) (subst (λ x. AdvancesBy (standing s.line s.place s.reading) (b ∷ []) x) (sym q_is)
+    (subst (λ c. AdvancesBy (standing s.line s.place s.reading) (c ∷ []) (standing (next s.line) Start (read s.reading (line_rest true s.line s.place [])))) (sym f) (advances_line_feed s.line s.place s.reading)))
 
 -- a piece, of which a byte was the last that was read
 pub stopped : (p s q : Progress) (piece : List ℕ) (i : ℕ) (e : DimacsError) → i < length piece →
-    Follows p (take i piece) s → Follows s (get_or piece i 0 ∷ []) q → q.reading.fault ≡ Some e → Follows p piece q
+    AdvancesBy p (take i piece) s → AdvancesBy s (get_or piece i 0 ∷ []) q → q.reading.fault ≡ Some e → AdvancesBy p piece q
 stopped p s q piece i e l f g h =
-    subst (λ t. Follows p t q)
+    subst (λ t. AdvancesBy p t q)
     (ap (λ t. t ++ drop (suc i) piece) (sym (take-suc piece i 0 l)) ∙ take-append-drop (suc i) piece)
-    (follows_more p q q (take i piece ++ get_or piece i 0 ∷ []) (drop (suc i) piece) (follows_more p s q (take i piece) (get_or piece i 0 ∷ []) f g) (follows_failed q e (drop (suc i) piece) h))
+    (advances_more p q q (take i piece ++ get_or piece i 0 ∷ []) (drop (suc i) piece) (advances_more p s q (take i piece) (get_or piece i 0 ∷ []) f g) (advances_failed q e (drop (suc i) piece) h))

@@ -2,7 +2,7 @@
 ghost use Rattle.std.specs.Prelude.{◌≡◌, ◌-◌, ◌<◌, ◌^◌, ◌⊎◌, [], true, length, IfOk, IfErr};
 ghost use Rattle.std.specs.Fn.{CalledAtMut};
 ghost use Rattle.varisat_formula.specs.Rest.{Progress, begin, dimacs_from, RunsOut, fault_of};
-ghost use Rattle.varisat_formula.specs.Parsed.{stand, TakesPiece, Finishes, Refuses};
+ghost use Rattle.varisat_formula.specs.Parsed.{TakesPiece, Finishes, Refuses};
 
 use crate::dimacs::error::DimacsError;
 use crate::dimacs::parse::PIECE;
@@ -26,9 +26,9 @@ pub trait PieceReader<A: Allocator + Copy>: Drop {
         source: &mut S,
         buffer: &mut [u8],
     ) -> Result<bool, DimacsError>
-        requires few { S.fault_count source.old < 2 ^ 64 - 1 }
+        requires few { (S.stand source.old).faults < 2 ^ 64 - 1 }
         requires room { 0 < length buffer.old }
-        ensures { TakesPiece (stand S.given S.left S.pieces_left S.fault_count source.old) (progress self.old) result (stand S.given S.left S.pieces_left S.fault_count source.new) (progress self.new) };
+        ensures { TakesPiece (S.stand source.old) (progress self.old) result (S.stand source.new) (progress self.new) };
 
     /// Ends the text, and answers its first fault.
     fn end(&mut self) -> Result<(), DimacsError>
@@ -47,10 +47,10 @@ pub trait PieceReader<A: Allocator + Copy>: Drop {
     where
         Self: Sized,
         F: Drop,
-        requires few { S.fault_count source.old < 2 ^ 64 - 1 }
+        requires few { (S.stand source.old).faults < 2 ^ 64 - 1 }
         requires callable { (state : F) (x : _) → F.pre state x }
-        ensures ok { IfOk result (Finishes (CalledAtMut F.FnMut) progress (stand S.given S.left S.pieces_left S.fault_count source.old) f (stand S.given S.left S.pieces_left S.fault_count source.new)) }
-        ensures err { IfErr result (Refuses (CalledAtMut F.FnMut) progress E.from_gives (stand S.given S.left S.pieces_left S.fault_count source.old) f (stand S.given S.left S.pieces_left S.fault_count source.new)) }
+        ensures ok { IfOk result (Finishes (record { progress = progress; calls = CalledAtMut F.FnMut; made = E.from_gives }) (S.stand source.old) f (S.stand source.new)) }
+        ensures err { IfErr result (Refuses (record { progress = progress; calls = CalledAtMut F.FnMut; made = E.from_gives }) (S.stand source.old) f (S.stand source.new)) }
     {
         let mut parser = Self::begin_in(alloc);
         let mut buffer = [0; PIECE];

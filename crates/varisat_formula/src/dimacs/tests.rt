@@ -342,6 +342,7 @@ fn source_that_fails(rt: HostRuntime) -> Result<(), FormulaError> {
     let answer = DimacsParser::parse(alloc, &mut source);
     assert!(rt; answer.err() == at(2, DimacsErrorKind::Io));
     assert_eq!(rt; source.faults(), 1);
+    assert!(rt; !source.has_ended());
     let mut source = ReadSource::new(CutReader {
         text: b"1 0\n2",
         fails: true,

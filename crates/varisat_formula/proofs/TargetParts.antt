@@ -1,6 +1,7 @@
 -- Text that is written in parts.
 use Rattle.std.proofs.Common.{◌≡◌, ℕ, zero, suc, ◌+◌, ◌<◌, ◌≤◌, List, [], ◌∷◌, ◌++◌, take, drop, get_or, length, flat_map, refl, sym, ap, ◌∙◌, append_assoc, append-nil, arith, Result, Ok, Err}
 use Rattle.varisat_formula.specs.Formulas.{Formula}
+use Rattle.varisat_formula.specs.Streams.{Taken}
 use Rattle.varisat_literals.specs.Numbers.{literal_text}
 use Rattle.varisat_formula.specs.Written.{Puts, spaced_literals, clauses_text, header_text, formula_text}
 
@@ -57,12 +58,11 @@ literals_more (x ∷ ls) (suc i) l h e =
     more i = omega arith
 
 -- text is written behind what was written
-pub puts_behind : {T E : Type 0} (written : T → List ℕ) (faults : T → ℕ) (old mid new : T) (result : Result (Unit {0}) E) (front text whole : List ℕ) →
-    written mid ≡ written old ++ front → faults mid ≡ faults old → front ++ text ≡ whole → Puts written faults mid result text new → Puts written faults old result whole new
-puts_behind written faults old mid new (Ok u) front text whole e f g p =
-    (put_part (written old) (written mid) (written new) front text e p.0 ∙ ap (λ x. written old ++ x) g, p.1 ∙ f)
-puts_behind written faults old mid new (Err d) front text whole e f g p =
-    (begun_part (written old) (written mid) (written new) front text [] whole p.0.0 e p.0.1 (ap (λ x. front ++ x) (append-nil text) ∙ g), p.1 ∙ ap (λ n. n + 1) f)
+pub puts_behind : {E : Type 0} (old mid new : Taken) (result : Result (Unit {0}) E) (front text whole : List ℕ) →
+    mid.bytes ≡ old.bytes ++ front → mid.faults ≡ old.faults → front ++ text ≡ whole → Puts mid result text new → Puts old result whole new
+puts_behind old mid new (Ok u) front text whole e f g p = (put_part old.bytes mid.bytes new.bytes front text e p.0 ∙ ap (λ x. old.bytes ++ x) g, p.1 ∙ f)
+puts_behind old mid new (Err d) front text whole e f g p =
+    (begun_part old.bytes mid.bytes new.bytes front text [] whole p.0.0 e p.0.1 (ap (λ x. front ++ x) (append-nil text) ∙ g), p.1 ∙ ap (λ n. n + 1) f)
 
 -- the end of a clause
 pub clause_end : (ls : List ℕ) (i : ℕ) (s : List ℕ) → length ls ≤ i → s ≡ 48 ∷ 10 ∷ [] → spaced_literals (take i ls) ++ (s ++ []) ≡ spaced_literals ls ++ 48 ∷ 10 ∷ []

@@ -2,7 +2,6 @@ pub mod Dimacs
 pub mod Equality
 pub mod Formulas
 pub mod Machine
-pub mod Memory
 pub mod Parsed
 pub mod Rest
 pub mod Streams

@@ -32,6 +32,11 @@ pub record HasEnded (t : Stand) : Type 0 where
   pub told : t.ended ≡ true
   pub at_end : IsAtEnd t.left
 
+-- all the bytes that a target took, and how many faults there were
+pub record Taken : Type 0 where
+  pub bytes : List ℕ
+  pub faults : ℕ
+
 -- the bytes that were taken; how many faults there were; what the writer behind the target holds, where that is known
 pub record Output : Type 0 where
   pub bytes : List ℕ

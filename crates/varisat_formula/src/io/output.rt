@@ -70,9 +70,7 @@ impl<W: Write + Drop> IoTarget<W> {
 }
 
 impl<W: Write + Drop> ProofTarget for IoTarget<W> {
-    ghost written = { λ t. t.bytes };
-
-    ghost fault_count = { λ t. t.faults };
+    ghost taken = { λ t. record { bytes = t.bytes; faults = t.faults } };
 
     /// What the writer holds, where that is known, grows by the bytes that are taken.
     fn put(&mut self, bytes: &[u8]) -> io::Result<()>

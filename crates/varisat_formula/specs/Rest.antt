@@ -57,7 +57,7 @@ dimacs_from p rest = gives_from Ends p rest
 abbrev pub so_far_from : Progress → List ℕ → Reading
 so_far_from p rest = gives_from GoesOn p rest
 
--- what is answered where the source fails: the first fault, or `Io` in the line that was reached
+-- what is returned where the source fails: the first fault, or `Io` in the line that was reached
 abbrev pub failing_by : Option DimacsError → ℕ → DimacsError
 failing_by None n = record { line = n; kind = Io }
 failing_by (Some e) n = e
@@ -69,7 +69,7 @@ failing p = failing_by p.reading.fault p.line
 pub record AdvancesBy (p : Progress) (text : List ℕ) (q : Progress) : Type 0 where
   pub same : (ending : Ending) (rest : List ℕ) → gives_from ending q rest ≡ gives_from ending p (text ++ rest)
 
--- what was answered
+-- the fault that was returned, if there is one
 abbrev pub fault_of : {X : Type 0} → Result X DimacsError → Option DimacsError
 fault_of (Ok x) = None
 fault_of (Err e) = Some e

@@ -19,8 +19,8 @@ pub trait PieceReader<A: Allocator + Copy>: Drop {
     fn begin_in(alloc: A) -> Self
         ensures { progress result ≡ begin };
 
-    /// Reads the next piece of the source, with room for it in the buffer. Answers false at the source's end, and a fault of
-    /// the text or the source.
+    /// Reads the next piece of the source, with room for it in the buffer. Returns false at the source's end, and the fault of
+    /// the text or the source, if there is one.
     fn take_piece<S: ByteSource>(
         &mut self,
         source: &mut S,
@@ -30,7 +30,7 @@ pub trait PieceReader<A: Allocator + Copy>: Drop {
         requires room { 0 < length buffer.old }
         ensures { TakesPiece (S.stand source.old) (progress self.old) result (S.stand source.new) (progress self.new) };
 
-    /// Ends the text, and answers its first fault.
+    /// Ends the text, and returns its first fault.
     fn end(&mut self) -> Result<(), DimacsError>
         ensures reads { ((progress self.new).reading ≡ dimacs_from (progress self.old) []) ⊎ RunsOut (progress self.old) [] (progress self.new) }
         ensures answer { fault_of result ≡ (progress self.new).reading.fault }
@@ -38,7 +38,7 @@ pub trait PieceReader<A: Allocator + Copy>: Drop {
 
     /// Begins a text and reads the source piece by piece to its end. Calls `f` with the reader after each piece that has
     /// bytes, and after the end of the text, where the reader has no fault; it goes on as `f` left it. The first fault, or
-    /// the first error of `f`, ends it and is answered. Else the reader is answered as `f` left it.
+    /// the first error of `f`, ends it and is returned. Else the reader is returned as `f` left it.
     final fn parse_incremental<
         S: ByteSource,
         E: From<DimacsError>,

@@ -12,8 +12,8 @@ use std::alloc::Allocator;
 pub(crate) const PIECE: usize = 0x2000;
 
 impl<A: Allocator + Copy> DimacsParser<A> {
-    /// Reads the next piece of the source, with room for it in the buffer. Answers false at the source's end, and a fault of
-    /// the text or the source.
+    /// Reads the next piece of the source, with room for it in the buffer. Returns false at the source's end, and the fault of
+    /// the text or the source, if there is one.
     pub fn next_piece<S: ByteSource>(
         &mut self,
         source: &mut S,
@@ -34,7 +34,7 @@ impl<A: Allocator + Copy> DimacsParser<A> {
         }
     }
 
-    /// Reads all of the source as one text, and answers its formula or its first fault.
+    /// Reads all of the source as one text, and returns its formula or its first fault.
     pub fn parse<S: ByteSource>(alloc: A, source: &mut S) -> Result<CnfFormula<A>, DimacsError>
         requires { (S.stand source.old).faults < 2 ^ 64 - 1 }
         ensures { Parses (S.stand source.old) result (S.stand source.new) }

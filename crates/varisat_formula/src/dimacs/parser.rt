@@ -186,8 +186,8 @@ impl<A: Allocator + Copy> DimacsParser<A> {
         Ok(())
     }
 
-    /// Reads the next piece of the text, and answers its first fault, from then on always the same. After `finish` the text
-    /// is over, and no bytes are taken. `OutOfMemory` is answered where a growth was refused, at the line of the token that
+    /// Reads the next piece of the text, and returns its first fault, from then on always the same. After `finish` the text
+    /// is over, and no bytes are taken. `OutOfMemory` is returned where a growth was refused, with the line of the token that
     /// could not be kept.
     pub fn feed(&mut self, piece: &[u8]) -> Result<(), DimacsError>
         ensures reads { AdvancesBy self.old piece.now self.new ⊎ RunsOutIn self.old piece.now self.new }
@@ -205,7 +205,7 @@ impl<A: Allocator + Copy> DimacsParser<A> {
         self.read_piece(piece)
     }
 
-    /// Ends the text, and answers its first fault.
+    /// Ends the text, and returns its first fault.
     pub fn finish(&mut self) -> Result<(), DimacsError>
         ensures reads { (self.new.reading ≡ dimacs_from self.old []) ⊎ RunsOut self.old [] self.new }
         ensures answer { fault_of result ≡ self.new.reading.fault }
@@ -223,7 +223,7 @@ impl<A: Allocator + Copy> DimacsParser<A> {
     }
 
     /// The text breaks off, since its source failed: the fault `Io` in the line that was reached. A text that has a fault or
-    /// is over stays as it is. Answers the first fault, or this one.
+    /// is over stays as it is. Returns the first fault, or this one.
     pub fn break_off(&mut self) -> DimacsError
         ensures reading { self.new.reading ≡ gives_from (BreaksOff Io) self.old [] }
         ensures answer { result ≡ failing self.old }

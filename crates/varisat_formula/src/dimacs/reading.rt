@@ -73,7 +73,7 @@ impl<A: Allocator + Copy> Reader<A> {
         self.formula.var_count()
     }
 
-    /// A fault.
+    /// Keeps a fault: only its line and kind, so that a text with a long faulty token costs no memory.
     pub fn fail(&mut self, line: u64, kind: DimacsErrorKind)
         ensures { self.new ≡ failed self.old line kind }
     {
@@ -214,7 +214,7 @@ impl<A: Allocator + Copy> Reader<A> {
         }
     }
 
-    /// Takes the clauses that ended. The formula that is answered has the count of variables so far.
+    /// Takes the clauses that ended. The formula has the count of variables so far.
     pub fn take(&mut self) -> CnfFormula<A>
         ensures taken { result ≡ record { var_count = self.old.highest; clauses = self.old.clauses } }
         ensures rest { self.new ≡ record self.old { clauses = [] } }

@@ -47,7 +47,7 @@ fn new_variables(rt: HostRuntime) -> Result<(), FormulaError> {
     Ok(())
 }
 
-/// Adds a clause up to the first refusal, which has to leave the formula as it was. Answers how many were added.
+/// Adds a clause up to the first refusal, which has to leave the formula as it was. Returns how many were added.
 fn fill_up<A: Allocator + Copy>(alloc: A) -> Option<usize> {
     let mut formula = CnfFormula::new_in(alloc);
     for added in 0..20 {

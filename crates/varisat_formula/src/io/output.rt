@@ -24,7 +24,7 @@ impl<W: Write + Drop> Model for IoTarget<W> {
     ghost view = { λ t. record { bytes = t.history.bytes; faults = t.faults; contents = W.contents t.writer } };
 }
 
-/// Writes until all is written or a write fails, and answers how many bytes were written.
+/// Writes until all is written or a write fails, and returns how many bytes were written.
 fn write_bytes<W: Write>(writer: &mut W, bytes: &[u8]) -> (usize, io::Result<()>)
     ensures bound { result.0 ≤ length bytes.now }
     ensures whole { OnOk result.1 (result.0 ≡ length bytes.now) }
@@ -81,11 +81,11 @@ impl<W: Write + Drop> ProofTarget for IoTarget<W> {
         ensures fault { OnErr result (self.new.faults ≡ self.old.faults + 1) }
         ensures writes { (n : ℕ) × (self.new.bytes ≡ self.old.bytes ++ take n bytes.now) × Appends self.old.contents self.new.contents (take n bytes.now) }
     {
-        let (done, answer) = write_bytes(&mut self.writer, bytes);
+        let (done, outcome) = write_bytes(&mut self.writer, bytes);
         self.history = self.history.then(&Part {
             bytes: &bytes[..done],
         });
-        match answer {
+        match outcome {
             Ok(()) => Ok(()),
             Err(error) => {
                 self.faults += 1;

@@ -105,6 +105,7 @@ impl<R: Read + Drop> ByteSource for ReadSource<R> {
                 self.history = self.history.then(&Part {
                     bytes: &buffer[..count],
                 });
+                // A terminal may go on behind its end, so bytes take the end back.
                 if count > 0 {
                     self.pieces -= 1;
                     self.ended = false;

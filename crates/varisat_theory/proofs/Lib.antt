@@ -33,3 +33,5 @@ pub mod StepLoads
 pub mod StepStands
 pub mod StepDrops
 pub mod StepCovers
+pub mod StepsMade
+pub mod Reached

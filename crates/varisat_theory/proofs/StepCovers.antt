@@ -1,5 +1,6 @@
 -- What the forms give above.
 use Rattle.std.proofs.Common.{◌≡◌, ℕ, zero, suc, ◌+◌, ◌<◌, ◌≤◌, Bool, true, false, List, [], ◌∷◌, ◌++◌, length, ◌⊎◌, inl, inr, ⊎_elim, sym, ap, subst, refl, arith, length-append}
+use Rattle.std.proofs.lemmas.List.{append-nil}
 use Rattle.varisat_theory.specs.Membership.{◌∈◌, ◌⊆◌}
 use Rattle.varisat_theory.specs.Literals.{Literal, Clause, opposite}
 use Rattle.varisat_theory.specs.Derivations.{Line, Refutes}
@@ -7,8 +8,8 @@ use Rattle.varisat_theory.specs.Held.{SameClauses}
 use Rattle.varisat_theory.specs.Renaming.{KeepsOpposites}
 use Rattle.varisat_theory.proofs.Lines.{refutes_from}
 use Rattle.varisat_theory.specs.Counted.{added}
-use Rattle.varisat_theory.specs.Searches.{KeptClause, Search, clauses_of, IsTautology, IsSettled, Fits, Covers, CoversBy}
-use Rattle.varisat_theory.specs.Outcomes.{Unknown, Unsat, Proves, Steps}
+use Rattle.varisat_theory.specs.Searches.{KeptClause, Search, clauses_of, IsSettled, Fits, Covers, IsCoveredBySearch, Tautology, KnownTrue, FixedTrue, Kept, CoversBy}
+use Rattle.varisat_theory.specs.Outcomes.{Unknown, Unsat, Proves, Steps, MakesSteps}
 use Rattle.varisat_theory.specs.StepLaws.{joined}
 use Rattle.varisat_theory.proofs.StepCounts.{by_derives}
 use Rattle.varisat_theory.proofs.StepParts.{parts_join}
@@ -51,49 +52,38 @@ steps_of_call (suc k) s lines g =
           omega (arith, a, b, c),
     )
 
-none : (P : List Line) → P ≡ P ++ []
-none [] = refl
-none (x ∷ P) = ap (λ l. x ∷ l) (none P)
-
 pub unsat_refutes : (held : List Clause) (s t : Search) (lines : List Line) → Fits held s → Steps s t Unsat lines → Refutes held lines
 unsat_refutes held s t lines f p =
     let (after, d, h, n) = p.holds held f in
-    refutes_from held lines (lines, [], after, none lines, by_derives 1 held lines after d, h)
+    refutes_from held lines (lines, [], after, sym (append-nil lines), by_derives 1 held lines after d, h)
 
 module _ (s t : Search) (to : Literal → Literal) (known : Literal → Bool) (keeps : KeepsOpposites to) (covers : (P : List Clause) → Covers P s → Covers P t) where
-  abbrev Held : Clause → Type 0
-  Held c = IsTautology c ⊎ (((l : Literal) × (l ∈ c) × (known l ≡ true)) ⊎ (((l : Literal) × (l ∈ t.fixed) × (to l ∈ c)) ⊎ ((k : KeptClause) × (k ∈ t.kept) × (k.learned ≡ false) × ((l : Literal) → l ∈ k.clause → to l ∈ c))))
-
   -- a clause of the search that is covered there still is one whose names are in c
-  by_clause : (c d : Clause) → ((l : Literal) → l ∈ d → to l ∈ c) → IsSettled s d ⊎ ((k : KeptClause) × (k ∈ s.kept) × (k.learned ≡ false) × (k.clause ⊆ d)) → Held c
+  by_clause : (c d : Clause) → ((l : Literal) → l ∈ d → to l ∈ c) → IsSettled s d ⊎ ((k : KeptClause) × (k ∈ s.kept) × (k.learned ≡ false) × (k.clause ⊆ d)) → IsCoveredBySearch to known t c
   by_clause c d w h =
       ⊎_elim
-      (λ a. ⊎_elim
-      (λ (l, i, j). inl (to l, w l i, subst (λ x. x ∈ c) (keeps l) (w (opposite l) j)))
-      (λ (l, i, j). inr (inr (inl (l, j, w l i))))
-      a)
-      (λ (k, i, e, x). inr (inr (inr (k, i, e, λ l j. w l (x l j)))))
+      (λ a. ⊎_elim (λ (l, i, j). Tautology (to l, w l i, subst (λ x. x ∈ c) (keeps l) (w (opposite l) j))) (λ (l, i, j). FixedTrue l j (w l i)) a)
+      (λ (k, i, e, x). Kept k i e (λ l j. w l (x l j)))
       (covers (d ∷ []) (λ x i. ⊎_elim (λ e. subst (λ y. IsSettled s y ⊎ ((k : KeptClause) × (k ∈ s.kept) × (k.learned ≡ false) × (k.clause ⊆ y))) (sym e) h) (λ z. absurd z) i) d (inl refl))
 
-  by_names : (c : Clause) → IsTautology c ⊎ (((l : Literal) × (l ∈ c) × (known l ≡ true)) ⊎ (((l : Literal) × (l ∈ s.fixed) × (to l ∈ c)) ⊎ ((k : KeptClause) × (k ∈ s.kept) × (k.learned ≡ false) × ((l : Literal) → l ∈ k.clause → to l ∈ c)))) → Held c
-  by_names c (inl a) = inl a
-  by_names c (inr (inl a)) = inr (inl a)
-  by_names c (inr (inr (inl (l, i, j)))) =
+  pub still_covered : (c : Clause) → IsCoveredBySearch to known s c → IsCoveredBySearch to known t c
+  still_covered c (Tautology a) = Tautology a
+  still_covered c (KnownTrue l i e) = KnownTrue l i e
+  still_covered c (FixedTrue l i j) =
       by_clause c (l ∷ []) (λ m h. ⊎_elim (λ e. subst (λ x. to x ∈ c) (sym e) j) (λ z. absurd z) h) (inl (inr (l, inl refl, i)))
-  by_names c (inr (inr (inr (k, i, e, w)))) = by_clause c k.clause w (inr (k, i, e, λ x o. o))
+  still_covered c (Kept k i e w) = by_clause c k.clause w (inr (k, i, e, λ x o. o))
 
 pub names_are_covered : (n : ℕ) (s t : Search) (lines : List Line) (to : Literal → Literal) (known : Literal → Bool) (P : List Clause) → KeepsOpposites to → Proves n s t lines → CoversBy to known P s → CoversBy to known P t
-names_are_covered n s t lines to known P keeps p v c h = by_names s t to known keeps p.covers c (v c h)
+names_are_covered n s t lines to known P keeps p v c h = still_covered s t to known keeps p.covers c (v c h)
+
+pub names_stay_covered : (k : ℕ) (s t : Search) (lines : List Line) (to : Literal → Literal) (known : Literal → Bool) (P : List Clause) → KeepsOpposites to → MakesSteps k s t Unknown lines → CoversBy to known P s → CoversBy to known P t
+names_stay_covered k s t lines to known P keeps p v c h = still_covered s t to known keeps p.answers c (v c h)
 
 pub dropped_are_covered : (s t : Search) (to : Literal → Literal) (known more : Literal → Bool) (P : List Clause) → t.kept ≡ s.kept → ((l : Literal) → l ∈ s.fixed → (l ∈ t.fixed) ⊎ (more (to l) ≡ true)) → ((l : Literal) → known l ≡ true → more l ≡ true) → CoversBy to known P s → CoversBy to more P t
-dropped_are_covered s t to known more P e x m v c h =
-    ⊎_elim
-    (λ a. inl a)
-    (λ a. ⊎_elim
-    (λ (l, i, j). inr (inl (l, i, m l j)))
-    (λ b. ⊎_elim
-    (λ (l, i, j). ⊎_elim (λ y. inr (inr (inl (l, y, j)))) (λ y. inr (inl (to l, j, y))) (x l i))
-    (λ (k, i, f, w). inr (inr (inr (k, subst (λ ks. k ∈ ks) (sym e) i, f, w))))
-    b)
-    a)
-    (v c h)
+dropped_are_covered s t to known more P e x m v c h = go (v c h)
+  where
+    go : IsCoveredBySearch to known s c → IsCoveredBySearch to more t c
+    go (Tautology a) = Tautology a
+    go (KnownTrue l i j) = KnownTrue l i (m l j)
+    go (FixedTrue l i j) = ⊎_elim (λ y. FixedTrue l y j) (λ y. KnownTrue (to l) j y) (x l i)
+    go (Kept k i f w) = Kept k (subst (λ ks. k ∈ ks) (sym e) i) f w

@@ -1,15 +1,15 @@
 -- The laws that the functions of `laws` state.
 use Rattle.std.specs.Prelude.{◌≡◌, ◌≢◌, ℕ, zero, suc, ◌+◌, ◌<◌, ◌≤◌, length, Bool, true, false, List, [], ◌∷◌, ◌++◌, ◌⊎◌}
 use Rattle.varisat_theory.specs.Membership.{◌∈◌, ◌⊆◌, SameSet}
-use Rattle.varisat_theory.specs.Literals.{Literal, Clause, Assignment, variable_of, opposite, IsUnit, SatisfiesAll, MakesTrue, IsSatisfiable, IsSatisfiableWith}
+use Rattle.varisat_theory.specs.Literals.{Literal, Clause, Assignment, variable_of, opposite, value, IsUnit, SatisfiesAll, MakesTrue, IsSatisfiable, IsSatisfiableWith}
 use Rattle.varisat_theory.specs.Propagation.{Conflicts, Follows, IsFalse, HasFalse, LeavesOnly}
 use Rattle.varisat_theory.specs.Derivations.{Line, Add, Delete, Derives, Refutes}
 use Rattle.varisat_theory.specs.Held.{SameClauses, mentions, without}
 use Rattle.varisat_theory.specs.Analysis.{Implied}
-use Rattle.varisat_theory.specs.Renaming.{KeepsOpposites}
+use Rattle.varisat_theory.specs.Renaming.{KeepsOpposites, rename}
 use Rattle.varisat_theory.specs.Counted.{IsNew, DerivesBy, added}
-use Rattle.varisat_theory.specs.Searches.{KeptClause, Search, clauses_of, IsTautology, IsSettled, Fits, Covers, CoversBy}
-use Rattle.varisat_theory.specs.Outcomes.{Outcome, Unknown, Sat, Unsat, UnsatUnder, Proves, Steps, Loads, IsContradicted, Stands}
+use Rattle.varisat_theory.specs.Searches.{KeptClause, Search, clauses_of, IsTautology, IsSettled, Fits, Covers, CoversBy, IsLiteralOf}
+use Rattle.varisat_theory.specs.Outcomes.{Outcome, Unknown, Sat, Unsat, UnsatUnder, Proves, Steps, Loads, IsContradicted, Stands, MakesSteps, IsReached}
 
 -- 1. How parts join.
 
@@ -209,3 +209,69 @@ NamesAreCovered =
 abbrev pub DroppedAreCovered : Type 0
 DroppedAreCovered =
     (s t : Search) (to : Literal → Literal) (known more : Literal → Bool) (P : List Clause) → t.kept ≡ s.kept → ((l : Literal) → l ∈ s.fixed → (l ∈ t.fixed) ⊎ (more (to l) ≡ true)) → ((l : Literal) → known l ≡ true → more l ≡ true) → CoversBy to known P s → CoversBy to more P t
+
+-- 7. What k steps give together.
+
+-- no step is made yet
+abbrev pub NoStepIsMade : Type 0
+NoStepIsMade = (s : Search) → MakesSteps 0 s s Unknown []
+
+-- one more step follows k that went on
+abbrev pub StepIsMade : Type 0
+StepIsMade =
+    (k : ℕ) (s t u : Search) (v : Outcome) (first second : List Line) → MakesSteps k s t Unknown first → Steps t u v second → MakesSteps (suc k) s u v (first ++ second)
+
+-- parts of which nothing counts may come before the steps, and after such as go on or find an assignment
+abbrev pub PartsJoinSteps : Type 0
+PartsJoinSteps =
+    ((k : ℕ) (s t u : Search) (v : Outcome) (first second : List Line) → Proves 0 s t first → MakesSteps k t u v second → MakesSteps k s u v (first ++ second)) × ((k : ℕ) (s t u : Search) (first second : List Line) → MakesSteps k s t Unknown first → Proves 0 t u second → MakesSteps k s u Unknown (first ++ second)) × ((k : ℕ) (s t u : Search) (found : Assignment) (first second : List Line) → MakesSteps k s t (Sat found) first → Proves 0 t u second → MakesSteps k s u (Sat found) (first ++ second))
+
+-- The steps keep what a solver has of the accepted clauses.
+abbrev pub StepsStand : Type 0
+StepsStand =
+    (k : ℕ) (P held : List Clause) (s t : Search) (v : Outcome) (lines : List Line) → Stands P held s Unknown → MakesSteps k s t v lines → (after : List Clause) × DerivesBy k held lines after × Stands P after t v × (v ≡ Unknown → k ≤ added lines)
+
+-- the lines of steps that come to Unsat refute what is held
+abbrev pub StepsRefute : Type 0
+StepsRefute = (k : ℕ) (held : List Clause) (s t : Search) (lines : List Line) → Fits held s → MakesSteps k s t Unsat lines → Refutes held lines
+
+-- Steps that go on keep what is covered under other names too.
+abbrev pub NamesStayCovered : Type 0
+NamesStayCovered =
+    (k : ℕ) (s t : Search) (lines : List Line) (to : Literal → Literal) (known : Literal → Bool) (P : List Clause) → KeepsOpposites to → MakesSteps k s t Unknown lines → CoversBy to known P s → CoversBy to known P t
+
+-- Where steps found an assignment, the accepted clauses are satisfied by each assignment of the other names that gives the search's literals the values found, and makes true what is known.
+abbrev pub NamesAreSatisfied : Type 0
+NamesAreSatisfied =
+    (k : ℕ) (s t : Search) (found a : Assignment) (lines : List Line) (to : Literal → Literal) (known : Literal → Bool) (P : List Clause) → MakesSteps k s t (Sat found) lines → CoversBy to known P s → ((l : Literal) → IsLiteralOf s l → value a (to l) ≡ value found l) → ((l : Literal) → known l ≡ true → value a l ≡ true) → SatisfiesAll a P
+
+-- 8. What is held is reached from the accepted clauses.
+
+-- the accepted clauses themselves are reached
+abbrev pub AcceptedAreReached : Type 0
+AcceptedAreReached = (P : List Clause) → IsReached P P
+
+-- one more clause may be accepted, and is held
+abbrev pub OneMoreIsReached : Type 0
+OneMoreIsReached = (P held : List Clause) (c : Clause) → IsReached P held → IsReached (P ++ c ∷ []) (held ++ c ∷ [])
+
+-- lines may lead on
+abbrev pub DerivedAreReached : Type 0
+DerivedAreReached = (P held : List Clause) (lines : List Line) (after : List Clause) → IsReached P held → Derives held lines after → IsReached P after
+
+-- the same clauses may be accepted, and the same be held
+abbrev pub SameAreReached : Type 0
+SameAreReached =
+    ((P held other : List Clause) → IsReached P held → SameClauses held other → IsReached P other) × ((P Q held : List Clause) → SameClauses P Q → IsReached P held → IsReached Q held)
+
+-- what satisfies the accepted clauses satisfies what is held
+abbrev pub ReachedAreSatisfied : Type 0
+ReachedAreSatisfied = (P held : List Clause) (a : Assignment) → IsReached P held → SatisfiesAll a P → SatisfiesAll a held
+
+-- where propagation over what is held conflicts, some lines refute the accepted clauses
+abbrev pub ReachedAreRefuted : Type 0
+ReachedAreRefuted = (P held : List Clause) → IsReached P held → Conflicts held [] → (lines : List Line) × Refutes P lines
+
+-- under other names too what is held is reached
+abbrev pub RenamedAreReached : Type 0
+RenamedAreReached = (to : Literal → Literal) (P held : List Clause) → KeepsOpposites to → IsReached P held → IsReached (rename to P) (rename to held)

@@ -1,6 +1,6 @@
 // What the lines of a step, of a call and of loading do to the clauses that a proof holds.
 
-ghost use Rattle.varisat_theory.specs.StepLaws.{PartsJoin, PartsJoinStep, StepIsPart, MovesProve, UnitIsProved, SatisfiedIsDeleted, LearnedIsDeleted, ClauseIsShortened, ClauseIsLearned, EmptyIsAdded, ModelIsFound, CoreIsFound, LoadedIsKept, LoadedIsUnit, LoadedIsSettled, LoadedIsDeleted, LoadedIsContradicted, StepStands, PartStands, LoadStands, VerdictsAreRight, CountedDerives, FirstStands, UnitsAreProved, VariableIsDropped, FreshIsNew, KeptAreHeld, StepsOfCall, UnsatRefutes, NamesAreCovered, DroppedAreCovered, ContradictionIsFound, PartsJoinLoad};
+ghost use Rattle.varisat_theory.specs.StepLaws.{PartsJoin, PartsJoinStep, StepIsPart, MovesProve, UnitIsProved, SatisfiedIsDeleted, LearnedIsDeleted, ClauseIsShortened, ClauseIsLearned, EmptyIsAdded, ModelIsFound, CoreIsFound, LoadedIsKept, LoadedIsUnit, LoadedIsSettled, LoadedIsDeleted, LoadedIsContradicted, StepStands, PartStands, LoadStands, VerdictsAreRight, CountedDerives, FirstStands, UnitsAreProved, VariableIsDropped, FreshIsNew, KeptAreHeld, StepsOfCall, UnsatRefutes, NamesAreCovered, DroppedAreCovered, ContradictionIsFound, PartsJoinLoad, NoStepIsMade, StepIsMade, PartsJoinSteps, StepsStand, StepsRefute, NamesStayCovered, NamesAreSatisfied, AcceptedAreReached, OneMoreIsReached, DerivedAreReached, SameAreReached, ReachedAreSatisfied, ReachedAreRefuted, RenamedAreReached};
 
 /// Two parts of a step in turn are one.
 pub fn parts_join()
@@ -165,4 +165,74 @@ pub fn contradiction_is_found()
 /// Parts may come before and after loading.
 pub fn parts_join_load()
     ensures { PartsJoinLoad }
+{}
+
+/// No step is made yet.
+pub fn no_step_is_made()
+    ensures { NoStepIsMade }
+{}
+
+/// One more step is made.
+pub fn step_is_made()
+    ensures { StepIsMade }
+{}
+
+/// Parts may come before steps, and after such as go on or find an assignment.
+pub fn parts_join_steps()
+    ensures { PartsJoinSteps }
+{}
+
+/// Steps keep what a solver has.
+pub fn steps_stand()
+    ensures { StepsStand }
+{}
+
+/// The lines of steps to Unsat refute.
+pub fn steps_refute()
+    ensures { StepsRefute }
+{}
+
+/// Steps keep what is covered under other names.
+pub fn names_stay_covered()
+    ensures { NamesStayCovered }
+{}
+
+/// What steps found satisfies the clauses under other names.
+pub fn names_are_satisfied()
+    ensures { NamesAreSatisfied }
+{}
+
+/// The accepted clauses are reached.
+pub fn accepted_are_reached()
+    ensures { AcceptedAreReached }
+{}
+
+/// One more accepted clause is reached.
+pub fn one_more_is_reached()
+    ensures { OneMoreIsReached }
+{}
+
+/// What lines derive is reached.
+pub fn derived_are_reached()
+    ensures { DerivedAreReached }
+{}
+
+/// The same clauses are reached, and from the same.
+pub fn same_are_reached()
+    ensures { SameAreReached }
+{}
+
+/// What is reached is satisfied.
+pub fn reached_are_satisfied()
+    ensures { ReachedAreSatisfied }
+{}
+
+/// Where what is reached conflicts, lines refute.
+pub fn reached_are_refuted()
+    ensures { ReachedAreRefuted }
+{}
+
+/// What is reached is so under other names.
+pub fn renamed_are_reached()
+    ensures { RenamedAreReached }
 {}

@@ -6,10 +6,11 @@ use Rattle.varisat_theory.specs.Literals.{Literal, Clause, opposite}
 use Rattle.varisat_theory.specs.Derivations.{Line, Refutes}
 use Rattle.varisat_theory.specs.Held.{SameClauses}
 use Rattle.varisat_theory.specs.Renaming.{KeepsOpposites}
+use Rattle.varisat_theory.proofs.Members.{∈-append_cases}
 use Rattle.varisat_theory.proofs.Lines.{refutes_from}
 use Rattle.varisat_theory.specs.Counted.{added}
 use Rattle.varisat_theory.specs.Searches.{KeptClause, Search, clauses_of, IsSettled, Fits, Covers, IsCoveredBySearch, Tautology, KnownTrue, FixedTrue, Kept, CoversBy}
-use Rattle.varisat_theory.specs.Outcomes.{Unknown, Unsat, Proves, Steps, MakesSteps}
+use Rattle.varisat_theory.specs.Outcomes.{Unknown, Unsat, Proves, Steps, MakesSteps, Loads}
 use Rattle.varisat_theory.specs.StepLaws.{joined}
 use Rattle.varisat_theory.proofs.StepCounts.{by_derives}
 use Rattle.varisat_theory.proofs.StepParts.{parts_join}
@@ -57,27 +58,42 @@ unsat_refutes held s t lines f p =
     let (after, d, h, n) = p.holds held f in
     refutes_from held lines (lines, [], after, sym (append-nil lines), by_derives 1 held lines after d, h)
 
-module _ (s t : Search) (to : Literal → Literal) (known : Literal → Bool) (keeps : KeepsOpposites to) (covers : (P : List Clause) → Covers P s → Covers P t) where
-  -- a clause of the search that is covered there still is one whose names are in c
-  by_clause : (c d : Clause) → ((l : Literal) → l ∈ d → to l ∈ c) → IsSettled s d ⊎ ((k : KeptClause) × (k ∈ s.kept) × (k.learned ≡ false) × (k.clause ⊆ d)) → IsCoveredBySearch to known t c
-  by_clause c d w h =
-      ⊎_elim
-      (λ a. ⊎_elim (λ (l, i, j). Tautology (to l, w l i, subst (λ x. x ∈ c) (keeps l) (w (opposite l) j))) (λ (l, i, j). FixedTrue l j (w l i)) a)
-      (λ (k, i, e, x). Kept k i e (λ l j. w l (x l j)))
-      (covers (d ∷ []) (λ x i. ⊎_elim (λ e. subst (λ y. IsSettled s y ⊎ ((k : KeptClause) × (k ∈ s.kept) × (k.learned ≡ false) × (k.clause ⊆ y))) (sym e) h) (λ z. absurd z) i) d (inl refl))
+-- a clause is covered, by the search's own names
+abbrev IsCoveredIn : Search → Clause → Type 0
+IsCoveredIn s d = IsSettled s d ⊎ ((k : KeptClause) × (k ∈ s.kept) × (k.learned ≡ false) × (k.clause ⊆ d))
 
-  pub still_covered : (c : Clause) → IsCoveredBySearch to known s c → IsCoveredBySearch to known t c
-  still_covered c (Tautology a) = Tautology a
-  still_covered c (KnownTrue l i e) = KnownTrue l i e
-  still_covered c (FixedTrue l i j) =
-      by_clause c (l ∷ []) (λ m h. ⊎_elim (λ e. subst (λ x. to x ∈ c) (sym e) j) (λ z. absurd z) h) (inl (inr (l, inl refl, i)))
-  still_covered c (Kept k i e w) = by_clause c k.clause w (inr (k, i, e, λ x o. o))
+module _ (t : Search) (to : Literal → Literal) (known : Literal → Bool) (keeps : KeepsOpposites to) where
+  -- so is one in which its literals stand under other names
+  pub covered_named : (c d : Clause) → ((l : Literal) → l ∈ d → to l ∈ c) → IsCoveredIn t d → IsCoveredBySearch to known t c
+  covered_named c d w (inl (inl (l, i, j))) = Tautology (to l, w l i, subst (λ x. x ∈ c) (keeps l) (w (opposite l) j))
+  covered_named c d w (inl (inr (l, i, j))) = FixedTrue l j (w l i)
+  covered_named c d w (inr (k, i, e, x)) = Kept k i e (λ l j. w l (x l j))
+
+  -- where the search goes on to cover what it covers, so it does under other names
+  pub still_covered : (s : Search) → ((d : Clause) → IsCoveredIn s d → IsCoveredIn t d) → (c : Clause) → IsCoveredBySearch to known s c → IsCoveredBySearch to known t c
+  still_covered s g c (Tautology a) = Tautology a
+  still_covered s g c (KnownTrue l i e) = KnownTrue l i e
+  still_covered s g c (FixedTrue l i j) =
+      covered_named c (l ∷ []) (λ m. elim [ inl e ↦ subst (λ x. to x ∈ c) (sym e) j | inr z ↦ absurd z ]) (g (l ∷ []) (inl (inr (l, inl refl, i))))
+  still_covered s g c (Kept k i e w) = covered_named c k.clause w (g k.clause (inr (k, i, e, λ x o. o)))
+
+-- one clause alone
+covers_one : (s : Search) (d : Clause) → IsCoveredIn s d → Covers (d ∷ []) s
+covers_one s d h x (inl e) = subst (IsCoveredIn s) (sym e) h
+covers_one s d h x (inr z) = absurd z
 
 pub names_are_covered : (n : ℕ) (s t : Search) (lines : List Line) (to : Literal → Literal) (known : Literal → Bool) (P : List Clause) → KeepsOpposites to → Proves n s t lines → CoversBy to known P s → CoversBy to known P t
-names_are_covered n s t lines to known P keeps p v c h = still_covered s t to known keeps p.covers c (v c h)
+names_are_covered n s t lines to known P keeps p v c h = still_covered t to known keeps s (λ d g. p.covers (d ∷ []) (covers_one s d g) d (inl refl)) c (v c h)
 
 pub names_stay_covered : (k : ℕ) (s t : Search) (lines : List Line) (to : Literal → Literal) (known : Literal → Bool) (P : List Clause) → KeepsOpposites to → MakesSteps k s t Unknown lines → CoversBy to known P s → CoversBy to known P t
-names_stay_covered k s t lines to known P keeps p v c h = still_covered s t to known keeps p.answers c (v c h)
+names_stay_covered k s t lines to known P keeps p v c h = still_covered t to known keeps s (λ d g. p.answers (d ∷ []) (covers_one s d g) d (inl refl)) c (v c h)
+
+pub names_are_loaded : (s t : Search) (c d : Clause) (lines : List Line) (to : Literal → Literal) (known : Literal → Bool) (P : List Clause) → KeepsOpposites to → Loads s t c Unknown lines → ((l : Literal) → l ∈ c → to l ∈ d) → CoversBy to known P s → CoversBy to known (P ++ d ∷ []) t
+names_are_loaded s t c d lines to known P keeps p w v e h =
+    ⊎_elim
+    (λ i. still_covered t to known keeps s (λ x g. p.answers (x ∷ []) (covers_one s x g) x (inl refl)) e (v e i))
+    (elim [ inl y ↦ subst (IsCoveredBySearch to known t) (sym y) (covered_named t to known keeps d c w (p.answers [] (λ x z. absurd z) c (inl refl))) | inr z ↦ absurd z ])
+    (∈-append_cases e P (d ∷ []) h)
 
 pub dropped_are_covered : (s t : Search) (to : Literal → Literal) (known more : Literal → Bool) (P : List Clause) → t.kept ≡ s.kept → ((l : Literal) → l ∈ s.fixed → (l ∈ t.fixed) ⊎ (more (to l) ≡ true)) → ((l : Literal) → known l ≡ true → more l ≡ true) → CoversBy to known P s → CoversBy to more P t
 dropped_are_covered s t to known more P e x m v c h = go (v c h)

@@ -240,6 +240,11 @@ abbrev pub NamesStayCovered : Type 0
 NamesStayCovered =
     (k : ℕ) (s t : Search) (lines : List Line) (to : Literal → Literal) (known : Literal → Bool) (P : List Clause) → KeepsOpposites to → MakesSteps k s t Unknown lines → CoversBy to known P s → CoversBy to known P t
 
+-- Loading a clause covers one more accepted clause under other names, of which the loaded one is a part.
+abbrev pub NamesAreLoaded : Type 0
+NamesAreLoaded =
+    (s t : Search) (c d : Clause) (lines : List Line) (to : Literal → Literal) (known : Literal → Bool) (P : List Clause) → KeepsOpposites to → Loads s t c Unknown lines → ((l : Literal) → l ∈ c → to l ∈ d) → CoversBy to known P s → CoversBy to known (P ++ d ∷ []) t
+
 -- Where steps found an assignment, the accepted clauses are satisfied by each assignment of the other names that gives the search's literals the values found, and makes true what is known.
 abbrev pub NamesAreSatisfied : Type 0
 NamesAreSatisfied =

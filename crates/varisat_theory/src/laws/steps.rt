@@ -1,6 +1,6 @@
 // What the lines of a step, of a call and of loading do to the clauses that a proof holds.
 
-ghost use Rattle.varisat_theory.specs.StepLaws.{PartsJoin, PartsJoinStep, StepIsPart, MovesProve, UnitIsProved, SatisfiedIsDeleted, LearnedIsDeleted, ClauseIsShortened, ClauseIsLearned, EmptyIsAdded, ModelIsFound, CoreIsFound, LoadedIsKept, LoadedIsUnit, LoadedIsSettled, LoadedIsDeleted, LoadedIsContradicted, StepStands, PartStands, LoadStands, VerdictsAreRight, CountedDerives, FirstStands, UnitsAreProved, VariableIsDropped, FreshIsNew, KeptAreHeld, StepsOfCall, UnsatRefutes, NamesAreCovered, DroppedAreCovered, ContradictionIsFound, PartsJoinLoad, NoStepIsMade, StepIsMade, PartsJoinSteps, StepsStand, StepsRefute, NamesStayCovered, NamesAreSatisfied, AcceptedAreReached, OneMoreIsReached, DerivedAreReached, SameAreReached, ReachedAreSatisfied, ReachedAreRefuted, RenamedAreReached};
+ghost use Rattle.varisat_theory.specs.StepLaws.{PartsJoin, PartsJoinStep, StepIsPart, MovesProve, UnitIsProved, SatisfiedIsDeleted, LearnedIsDeleted, ClauseIsShortened, ClauseIsLearned, EmptyIsAdded, ModelIsFound, CoreIsFound, LoadedIsKept, LoadedIsUnit, LoadedIsSettled, LoadedIsDeleted, LoadedIsContradicted, StepStands, PartStands, LoadStands, VerdictsAreRight, CountedDerives, FirstStands, UnitsAreProved, VariableIsDropped, FreshIsNew, KeptAreHeld, StepsOfCall, UnsatRefutes, NamesAreCovered, DroppedAreCovered, ContradictionIsFound, PartsJoinLoad, NoStepIsMade, StepIsMade, PartsJoinSteps, StepsStand, StepsRefute, NamesStayCovered, NamesAreLoaded, NamesAreSatisfied, AcceptedAreReached, OneMoreIsReached, DerivedAreReached, SameAreReached, ReachedAreSatisfied, ReachedAreRefuted, RenamedAreReached};
 
 /// Two parts of a step in turn are one.
 pub fn parts_join()
@@ -195,6 +195,11 @@ pub fn steps_refute()
 /// Steps keep what is covered under other names.
 pub fn names_stay_covered()
     ensures { NamesStayCovered }
+{}
+
+/// Loading a clause covers one under other names.
+pub fn names_are_loaded()
+    ensures { NamesAreLoaded }
 {}
 
 /// What steps found satisfies the clauses under other names.

@@ -3,7 +3,7 @@ use Rattle.std.proofs.Common.{◌≡◌, ℕ, zero, suc, ◌+◌, ◌-◌, ◌*�
 use Rattle.std.proofs.lemmas.Bool.{cases_lt}
 use Rattle.varisat_theory.specs.Rank.{rank}
 use Rattle.varisat_theory.specs.Luby.{luby, sum_from, saturated}
-use Rattle.varisat_theory.specs.Steps.{call_point, IsCall}
+use Rattle.varisat_theory.specs.CallBounds.{CallSetting, call_point, IsCallStep, Rises, Restarts, IsCall, HasRestarted, CallProgress, BeforeRestart, AfterRestart}
 use Rattle.varisat_theory.proofs.Ranks.{rank_bound}
 use Rattle.varisat_theory.proofs.Luby.{sum_from-split}
 use Rattle.varisat_theory.proofs.Bound.{intervals_bound}
@@ -16,18 +16,6 @@ term_in_sum f a u q h =
     let s = ap (sum_from f a) e in
     let t = sum_from-split f a u (suc v) in
     omega (arith, s, t)
-
--- t steps: `before` up to the first restart, at point `begun`, then `whole` intervals of the sequence, then `since`
-pub record Made (n scale first j start t top : ℕ) : Type 0 where
-  pub begun : ℕ
-  pub whole : ℕ
-  pub before : ℕ
-  pub since : ℕ
-  pub total : t ≡ before + scale * sum_from luby (suc (j + begun)) whole + since
-  pub point : start + before ≡ first + scale * sum_from luby (suc j) begun
-  pub small : (u : ℕ) → u < whole → scale * luby (suc (j + begun) + u) < 2 ^ suc n
-  pub early : before < 2 ^ suc n
-  pub late : since ≤ top
 
 -- the sum up to a later point
 sums : (scale j begun whole q i : ℕ) → i ≡ begun + whole + q → scale * sum_from luby (suc j) i ≡ scale * sum_from luby (suc j) begun + scale * sum_from luby (suc (j + begun)) whole + scale * sum_from luby (suc (j + begun) + whole) q
@@ -43,8 +31,8 @@ sums scale j begun whole q i h =
     omega (arith, z)
 
 -- a restart before any whole interval
-made_first : (n scale first j start t top i : ℕ) → start + t ≡ first + scale * sum_from luby (suc j) i → t < 2 ^ suc n → 0 < top → Made n scale first j start (suc t) top
-made_first n scale first j start t top i e b p = record {
+made_first : (c : CallSetting) (t top i : ℕ) → c.start + t ≡ c.first + c.scale * sum_from luby (suc c.term) i → t < 2 ^ suc c.variables → 0 < top → HasRestarted c (suc t) top
+made_first c t top i e b p = record {
   begun = i;
   whole = 0;
   before = t;
@@ -57,19 +45,19 @@ made_first n scale first j start t top i e b p = record {
 }
 
 -- a restart at a later point
-made_later : (n scale first j start t top next i : ℕ) → start + t ≡ first + scale * sum_from luby (suc j) i → top < 2 ^ suc n → 0 < next → Made n scale first j start t top → Made n scale first j start (suc t) next
-made_later n scale first j start t top next i e b p m =
+made_later : (c : CallSetting) (t top next i : ℕ) → c.start + t ≡ c.first + c.scale * sum_from luby (suc c.term) i → top < 2 ^ suc c.variables → 0 < next → HasRestarted c t top → HasRestarted c (suc t) next
+made_later c t top next i e b p m =
     ⊎_elim
     (λ (h : i < m.begun + m.whole). behind h)
     (λ (h : m.begun + m.whole ≤ i). ahead (i - (m.begun + m.whole)) (omega arith))
     (cases_lt i (m.begun + m.whole))
   where
-    ahead : (q : ℕ) → i ≡ m.begun + m.whole + q → Made n scale first j start (suc t) next
+    ahead : (q : ℕ) → i ≡ m.begun + m.whole + q → HasRestarted c (suc t) next
     ahead q h =
-        let s = sums scale j m.begun m.whole q i h in
-        let since_is : m.since ≡ scale * sum_from luby (suc (j + m.begun) + m.whole) q = omega (arith, s, e, m.total, m.point) in
-        let f = sum_from-split luby (suc (j + m.begun)) m.whole q in
-        let z = ap (λ x. scale * x) f in
+        let s = sums c.scale c.term m.begun m.whole q i h in
+        let since_is : m.since ≡ c.scale * sum_from luby (suc (c.term + m.begun) + m.whole) q = omega (arith, s, e, m.total, m.point) in
+        let f = sum_from-split luby (suc (c.term + m.begun)) m.whole q in
+        let z = ap (λ x. c.scale * x) f in
         record {
           begun = m.begun;
           whole = m.whole + q;
@@ -82,22 +70,22 @@ made_later n scale first j start t top next i e b p m =
           late = omega arith;
         }
       where
-        new : (u : ℕ) → u < m.whole + q → m.whole ≤ u → m.since ≡ scale * sum_from luby (suc (j + m.begun) + m.whole) q → scale * luby (suc (j + m.begun) + u) < 2 ^ suc n
+        new : (u : ℕ) → u < m.whole + q → m.whole ≤ u → m.since ≡ c.scale * sum_from luby (suc (c.term + m.begun) + m.whole) q → c.scale * luby (suc (c.term + m.begun) + u) < 2 ^ suc c.variables
         new u l k since_is =
             let v = u - m.whole in
             let lv : v < q = omega arith in
-            let a = term_in_sum luby (suc (j + m.begun) + m.whole) v q lv in
-            let c = mul-le-mul_left scale a in
-            let d : suc (j + m.begun) + m.whole + v ≡ suc (j + m.begun) + u = omega arith in
-            let g = ap (λ x. scale * luby x) d in
-            omega (arith, c, g, since_is, m.late, b)
+            let a = term_in_sum luby (suc (c.term + m.begun) + m.whole) v q lv in
+            let y = mul-le-mul_left c.scale a in
+            let d : suc (c.term + m.begun) + m.whole + v ≡ suc (c.term + m.begun) + u = omega arith in
+            let g = ap (λ x. c.scale * luby x) d in
+            omega (arith, y, g, since_is, m.late, b)
 
-    behind : i < m.begun + m.whole → Made n scale first j start (suc t) next
+    behind : i < m.begun + m.whole → HasRestarted c (suc t) next
     behind h =
         let q = m.begun + m.whole - i in
         let a : m.begun + m.whole ≡ i + q = omega arith in
-        let s = sums scale j i q 0 (m.begun + m.whole) (omega arith) in
-        let s' = sums scale j m.begun m.whole 0 (m.begun + m.whole) (omega arith) in
+        let s = sums c.scale c.term i q 0 (m.begun + m.whole) (omega arith) in
+        let s' = sums c.scale c.term m.begun m.whole 0 (m.begun + m.whole) (omega arith) in
         let none : m.since ≡ 0 = omega (arith, s, s', e, m.total, m.point) in
         record {
           begun = m.begun;
@@ -112,8 +100,8 @@ made_later n scale first j start t top next i e b p m =
         }
 
 -- a step that raises the rank
-made_more : (n scale first j start t top next : ℕ) → top < next → Made n scale first j start t top → Made n scale first j start (suc t) next
-made_more n scale first j start t top next h m = record {
+made_more : (c : CallSetting) (t top next : ℕ) → top < next → HasRestarted c t top → HasRestarted c (suc t) next
+made_more c t top next h m = record {
   begun = m.begun;
   whole = m.whole;
   before = m.before;
@@ -137,55 +125,56 @@ small_call n k h =
     let v = mul-le-mul_left n y in
     omega (arith, z, y, v, h)
 
--- What a loop of steps keeps: t steps have been made since step number `start`, and the trail has rank `top`.
-pub data Progress (n scale first j start t top : ℕ) : Type 0 where
-  BeforeRestart : t ≤ top → Progress n scale first j start t top
-  AfterRestart : Made n scale first j start t top → Progress n scale first j start t top
-
 -- no step yet
-pub progress_start : (n scale first j start top : ℕ) → Progress n scale first j start 0 top
-progress_start n scale first j start top = BeforeRestart (omega arith)
+pub progress_start : (c : CallSetting) (top : ℕ) → CallProgress c 0 top
+progress_start c top = BeforeRestart (omega arith)
 
 -- a step that raises the rank
-pub progress_rises : (n scale first j start t top next : ℕ) → top < next → Progress n scale first j start t top → Progress n scale first j start (suc t) next
-progress_rises n scale first j start t top next h (BeforeRestart l) = BeforeRestart (omega arith)
-progress_rises n scale first j start t top next h (AfterRestart m) = AfterRestart (made_more n scale first j start t top next h m)
+pub progress_rises : (c : CallSetting) (t top next : ℕ) → top < next → CallProgress c t top → CallProgress c (suc t) next
+progress_rises c t top next h (BeforeRestart l) = BeforeRestart (omega arith)
+progress_rises c t top next h (AfterRestart m) = AfterRestart (made_more c t top next h m)
 
 -- a step that begins at a restart point
-pub progress_restarts : (n scale first j start t top next i : ℕ) → start + t ≡ call_point first scale j i → start + t < 2 ^ 64 - 1 → top < 2 ^ suc n → 0 < next → Progress n scale first j start t top → Progress n scale first j start (suc t) next
-progress_restarts n scale first j start t top next i e h b p (BeforeRestart l) =
-    AfterRestart (made_first n scale first j start t next i (unsaturated (first + scale * sum_from luby (suc j) i) (start + t) e h) (omega arith) p)
-progress_restarts n scale first j start t top next i e h b p (AfterRestart m) =
-    AfterRestart (made_later n scale first j start t top next i (unsaturated (first + scale * sum_from luby (suc j) i) (start + t) e h) b p m)
+pub progress_restarts : (c : CallSetting) (t top next i : ℕ) → c.start + t ≡ call_point c i → c.start + t < 2 ^ 64 - 1 → top < 2 ^ suc c.variables → 0 < next → CallProgress c t top → CallProgress c (suc t) next
+progress_restarts c t top next i e h b p (BeforeRestart l) =
+    AfterRestart (made_first c t next i (unsaturated (c.first + c.scale * sum_from luby (suc c.term) i) (c.start + t) e h) (omega arith) p)
+progress_restarts c t top next i e h b p (AfterRestart m) =
+    AfterRestart (made_later c t top next i (unsaturated (c.first + c.scale * sum_from luby (suc c.term) i) (c.start + t) e h) b p m)
 
 -- so with one step more the bound still holds
-pub progress_bound : (n scale first j start t top : ℕ) → 0 < scale → top + 2 ≤ 2 ^ suc n → Progress n scale first j start t top → suc t < (n + 2) * 2 ^ (n + 2)
-progress_bound n scale first j start t top h b (BeforeRestart l) = small_call n (suc t) (omega arith)
-progress_bound n scale first j start t top h b (AfterRestart m) =
-    let late : suc m.since < 2 ^ suc n = omega (arith, b, m.late) in
-    let i = intervals_bound n scale (j + m.begun) m.whole m.before (suc m.since) h m.early late m.small in
+pub progress_bound : (c : CallSetting) (t top : ℕ) → 0 < c.scale → top + 2 ≤ 2 ^ suc c.variables → CallProgress c t top → suc t < (c.variables + 2) * 2 ^ (c.variables + 2)
+progress_bound c t top h b (BeforeRestart l) = small_call c.variables (suc t) (omega arith)
+progress_bound c t top h b (AfterRestart m) =
+    let late : suc m.since < 2 ^ suc c.variables = omega (arith, b, m.late) in
+    let i = intervals_bound c.variables c.scale (c.term + m.begun) m.whole m.before (suc m.since) h m.early late m.small in
     omega (arith, i, m.total)
 
-module _ (n scale first j start k : ℕ) (trail : ℕ → List Bool) (w : IsCall n scale first j start k trail) where
-  top_bound : (t : ℕ) → t ≤ k → rank n (trail t) + 2 ≤ 2 ^ suc n
-  top_bound t h = rank_bound n (trail t) (w.fits t h)
+module _ (c : CallSetting) (steps : ℕ) (trail : ℕ → List Bool) (w : IsCall c steps trail) where
+  rank_after : ℕ → ℕ
+  rank_after t = rank c.variables (trail t)
 
-  progress : (t : ℕ) → t < k → Progress n scale first j start t (rank n (trail t))
-  progress zero h = progress_start n scale first j start (rank n (trail 0))
-  progress (suc t) h =
+  top_bound : (t : ℕ) → t ≤ steps → rank_after t + 2 ≤ 2 ^ suc c.variables
+  unfolding rank_after
+  top_bound t h = rank_bound c.variables (trail t) (w.fits t h)
+
+  -- one step on
+  moved : (t : ℕ) → suc t < steps → CallProgress c t (rank_after t) → IsCallStep c (c.start + t) (trail t) (trail (suc t)) → CallProgress c (suc t) (rank_after (suc t))
+  unfolding rank_after
+  moved t h p (Rises l) = progress_rises c t (rank_after t) (rank_after (suc t)) l p
+  moved t h p (Restarts i e l) =
+      let k = w.counted in
       let b = top_bound t (omega arith) in
-      let c = w.counted in
-      let before = progress t (omega arith) in
-      ⊎_elim
-      (λ l. progress_rises n scale first j start t (rank n (trail t)) (rank n (trail (suc t))) l before)
-      (λ r. progress_restarts n scale first j start t (rank n (trail t)) (rank n (trail (suc t))) r.1.0 r.1.1 (omega arith) (omega arith) r.0 before)
-      (w.rises t h)
+      progress_restarts c t (rank_after t) (rank_after (suc t)) i e (omega arith) (omega arith) l p
 
-  pub call_bounded : k < (n + 2) * 2 ^ (n + 2)
-  call_bounded = go k refl
+  progress : (t : ℕ) → t < steps → CallProgress c t (rank_after t)
+  progress zero h = progress_start c (rank_after 0)
+  progress (suc t) h = moved t h (progress t (omega arith)) (w.step t h)
+
+  pub call_bounded : steps < (c.variables + 2) * 2 ^ (c.variables + 2)
+  call_bounded = go steps refl
     where
-      go : (x : ℕ) → x ≡ k → k < (n + 2) * 2 ^ (n + 2)
-      go zero e = small_call n k (let y = pow_pos (suc n) in omega arith)
+      go : (x : ℕ) → x ≡ steps → steps < (c.variables + 2) * 2 ^ (c.variables + 2)
+      go zero e = small_call c.variables steps (let y = pow_pos (suc c.variables) in omega arith)
       go (suc t) e =
-          let l : t < k = omega arith in
-          subst (λ x. x < (n + 2) * 2 ^ (n + 2)) e (progress_bound n scale first j start t (rank n (trail t)) w.scaled (top_bound t (omega arith)) (progress t l))
+          let l : t < steps = omega arith in
+          subst (λ x. x < (c.variables + 2) * 2 ^ (c.variables + 2)) e (progress_bound c t (rank_after t) w.scaled (top_bound t (omega arith)) (progress t l))

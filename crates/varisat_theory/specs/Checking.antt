@@ -23,10 +23,10 @@ line_of (Adds v) = Add v.items
 line_of (Deletes v) = Delete v.items
 
 -- what the status says of the clause: it is false, it leaves one literal, or it has two different literals that are not false
-abbrev pub IsStatus : List Literal → Clause → ClauseStatus → Type 0
-IsStatus known c False = IsFalse known c
-IsStatus known c (Leaves l) = (l ∈ c) × (opposite l ∈ known → ⊥) × LeavesOnly known c l
-IsStatus known c Open = (m n : Literal) × (m ∈ c) × (n ∈ c) × (m ≢ n) × (opposite m ∈ known → ⊥) × (opposite n ∈ known → ⊥)
+abbrev pub IsClauseStatus : List Literal → Clause → ClauseStatus → Type 0
+IsClauseStatus known c False = IsFalse known c
+IsClauseStatus known c (Leaves l) = (l ∈ c) × (opposite l ∈ known → ⊥) × LeavesOnly known c l
+IsClauseStatus known c Open = (m n : Literal) × (m ∈ c) × (n ∈ c) × (m ≢ n) × (opposite m ∈ known → ⊥) × (opposite n ∈ known → ⊥)
 
 -- the clause is equal to none of P as a set
 abbrev pub IsAbsent : List Clause → Clause → Type 0

@@ -103,14 +103,14 @@ abbrev pub ContradictionIsFound : Type 0
 ContradictionIsFound = (s t : Search) → FollowsFrom s [] → Steps s t Unsat [] × Steps s t Unsat (Add [] ∷ [])
 
 -- each literal of the kept clauses is known or its opposite is, and none of the clauses is false
-abbrev pub IsModel : Search → List Literal → Type 0
-IsModel s known =
+abbrev pub IsSolution : Search → List Literal → Type 0
+IsSolution s known =
     (s.fixed ⊆ known) × (HasFalse (clauses_of s.kept) known → ⊥) × ((k : KeptClause) → k ∈ s.kept → (l : Literal) → l ∈ k.clause → (l ∈ known) ⊎ (opposite l ∈ known))
 
 -- a total assignment under which no kept clause is false satisfies all accepted clauses, and ends the step
 abbrev pub ModelIsFound : Type 0
 ModelIsFound =
-    ((s : Search) (known : List Literal) (a : Assignment) (P : List Clause) → IsModel s known → MakesTrue a known → Covers P s → SatisfiesAll a P) × ((s : Search) (known : List Literal) (a : Assignment) → IsModel s known → MakesTrue a known → Steps s s (Sat a) [])
+    ((s : Search) (known : List Literal) (a : Assignment) (P : List Clause) → IsSolution s known → MakesTrue a known → Covers P s → SatisfiesAll a P) × ((s : Search) (known : List Literal) (a : Assignment) → IsSolution s known → MakesTrue a known → Steps s s (Sat a) [])
 
 -- so does a core with which whatever fits conflicts
 abbrev pub CoreIsFound : Type 0

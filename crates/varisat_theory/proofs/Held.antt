@@ -124,7 +124,7 @@ same_add (p ∷ P) Q c d (R, (front, x, back, e, u, f), s) t =
     (R ++ (d ∷ []), (front, x, back ++ (d ∷ []), ap (λ l. l ++ (d ∷ [])) e ∙ append_assoc front (x ∷ back) (d ∷ []), u, ap (λ l. l ++ (d ∷ [])) f ∙ append_assoc front back (d ∷ [])), same_add P R c d s t)
 
 -- one clause more on the left, anywhere
-put_back : (front back P : List Clause) (d p : Clause) → SameSet d p → SameClauses (front ++ back) P → SameClauses (front ++ (d ∷ back)) (p ∷ P)
+pub put_back : (front back P : List Clause) (d p : Clause) → SameSet d p → SameClauses (front ++ back) P → SameClauses (front ++ (d ∷ back)) (p ∷ P)
 put_back [] back P d p s h = (P, ([], p, P, refl, same_set-back d p s, refl), h)
 put_back (x ∷ front) back P d p s (S, t, h) =
     (p ∷ S, takes_later t, put_back front back S d p s h)

@@ -1,21 +1,17 @@
 -- Lists that hold the same clauses, and what fits a search.
 use Rattle.std.proofs.Common.{◌≡◌, ℕ, List, [], ◌∷◌, ◌++◌, inl, inr, sym, ap, ◌∙◌, subst, refl, append_assoc}
+use Rattle.std.proofs.lemmas.List.{append-nil}
 use Rattle.varisat_theory.specs.Membership.{◌∈◌, SameSet}
 use Rattle.varisat_theory.specs.Literals.{Literal, Clause}
 use Rattle.varisat_theory.specs.Derivations.{Line}
 use Rattle.varisat_theory.specs.Held.{SameClauses}
 use Rattle.varisat_theory.specs.Analysis.{Implied}
 use Rattle.varisat_theory.proofs.Members.{∈-append_left, ∈-append_right}
-use Rattle.varisat_theory.proofs.Held.{same_set-self, same_set-back, same_clauses-self, same_clauses-back, same_clauses-through, same_clauses_find}
+use Rattle.varisat_theory.proofs.Held.{same_set-self, same_set-back, same_clauses-self, same_clauses-back, same_clauses-through, same_clauses_find, put_back}
 use Rattle.varisat_theory.proofs.Implication.{unit_implied}
 use Rattle.varisat_theory.specs.Counted.{DerivesBy}
 use Rattle.varisat_theory.specs.Searches.{KeptClause, Search, clauses_of, Fits}
 use Rattle.varisat_theory.proofs.StepCounts.{by_same}
-
-put_back : (front back P : List Clause) (d p : Clause) → SameSet d p → SameClauses (front ++ back) P → SameClauses (front ++ (d ∷ back)) (p ∷ P)
-put_back [] back P d p s h = (P, ([], p, P, refl, same_set-back d p s, refl), h)
-put_back (x ∷ front) back P d p s (S, (f, y, b, e, u, g), h) =
-    (p ∷ S, (p ∷ f, y, b, ap (λ l. p ∷ l) e, u, ap (λ l. p ∷ l) g), put_back front back S d p s h)
 
 -- one clause more in both, anywhere
 pub same_insert : (front back front' back' : List Clause) (d p : Clause) → SameSet d p → SameClauses (front ++ back) (front' ++ back') → SameClauses (front ++ (d ∷ back)) (front' ++ (p ∷ back'))
@@ -31,14 +27,10 @@ same_front (p ∷ K) J O (R, (f, d, b, e, u, g), s) =
 pub same_equal : (P Q : List Clause) → P ≡ Q → SameClauses P Q
 same_equal P Q e = subst (SameClauses P) e (same_clauses-self P)
 
-append_none : (P : List Clause) → P ++ [] ≡ P
-append_none [] = refl
-append_none (c ∷ P) = ap (λ l. c ∷ l) (append_none P)
-
 -- the last clause goes between the two parts
 pub same_between : (K O : List Clause) (c d : Clause) → SameSet c d → SameClauses ((K ++ O) ++ c ∷ []) ((K ++ d ∷ []) ++ O)
 same_between K O c d s =
-    subst (SameClauses ((K ++ O) ++ c ∷ [])) (sym (append_assoc K (d ∷ []) O)) (same_insert (K ++ O) [] K O c d s (same_equal ((K ++ O) ++ []) (K ++ O) (append_none (K ++ O))))
+    subst (SameClauses ((K ++ O) ++ c ∷ [])) (sym (append_assoc K (d ∷ []) O)) (same_insert (K ++ O) [] K O c d s (same_equal ((K ++ O) ++ []) (K ++ O) (append-nil (K ++ O))))
 
 -- 2. The kept clauses at a place.
 

@@ -7,11 +7,10 @@ use Rattle.varisat_theory.specs.Derivations.{Line, Refutes}
 use Rattle.varisat_theory.specs.Counted.{DerivesBy, added}
 use Rattle.varisat_theory.specs.Searches.{KeptClause, Search, Fits, Covers, IsCoveredBySearch, Tautology, KnownTrue, FixedTrue, Kept, CoversBy, IsLiteralOf}
 use Rattle.varisat_theory.specs.Outcomes.{Outcome, Unknown, Sat, Unsat, UnsatUnder, Proves, Steps, MakesSteps, Stands}
-use Rattle.varisat_theory.proofs.Sound.{derives_sound}
 use Rattle.varisat_theory.proofs.Assigned.{tautology_satisfied}
 use Rattle.varisat_theory.proofs.Lines.{refutes_from}
 use Rattle.varisat_theory.proofs.StepCounts.{by_derives, by_append}
-use Rattle.varisat_theory.proofs.StepStands.{step_adds, added_append}
+use Rattle.varisat_theory.proofs.StepStands.{step_adds, added_append, stands_after}
 
 pub none_made : (s : Search) → MakesSteps 0 s s Unknown []
 none_made s = record { holds = λ held f. (held, refl, f); answers = λ P c. c; adds = λ held f e. omega arith }
@@ -82,16 +81,8 @@ part_after_found k s t u found first second p q = record {
 
 pub steps_stand : (k : ℕ) (P held : List Clause) (s t : Search) (v : Outcome) (lines : List Line) → Stands P held s Unknown → MakesSteps k s t v lines → (after : List Clause) × DerivesBy k held lines after × Stands P after t v × (v ≡ Unknown → k ≤ added lines)
 steps_stand k P held s t v lines w p =
-    let (after, d, h) = p.holds held w.holds in (
-      after,
-      d,
-      record {
-        implied = λ a m. derives_sound held lines after a (by_derives k held lines after d) (w.implied a m);
-        holds = h;
-        answers = p.answers P w.answers;
-      },
-      p.adds held w.holds,
-    )
+    let (after, d, h) = p.holds held w.holds in
+    (after, d, stands_after k P held after s t v lines w d h (p.answers P w.answers), p.adds held w.holds)
 
 pub steps_refute : (k : ℕ) (held : List Clause) (s t : Search) (lines : List Line) → Fits held s → MakesSteps k s t Unsat lines → Refutes held lines
 steps_refute k held s t lines f p =

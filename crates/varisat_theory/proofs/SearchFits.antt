@@ -1,5 +1,5 @@
 -- Lists that hold the same clauses, and what fits a search.
-use Rattle.std.proofs.Common.{◌≡◌, ℕ, List, [], ◌∷◌, ◌++◌, inl, inr, sym, ap, ◌∙◌, subst, refl, append_assoc}
+use Rattle.std.proofs.Common.{◌≡◌, ℕ, ◌≤◌, List, [], ◌∷◌, ◌++◌, length, inl, inr, sym, ap, ◌∙◌, subst, refl, append_assoc, arith, length-append}
 use Rattle.std.proofs.lemmas.List.{append-nil}
 use Rattle.varisat_theory.specs.Membership.{◌∈◌, SameSet}
 use Rattle.varisat_theory.specs.Literals.{Literal, Clause}
@@ -7,7 +7,7 @@ use Rattle.varisat_theory.specs.Derivations.{Line}
 use Rattle.varisat_theory.specs.Held.{SameClauses}
 use Rattle.varisat_theory.specs.Analysis.{Implied}
 use Rattle.varisat_theory.proofs.Members.{∈-append_left, ∈-append_right}
-use Rattle.varisat_theory.proofs.Held.{same_set-self, same_set-back, same_clauses-self, same_clauses-back, same_clauses-through, same_clauses_find, put_back}
+use Rattle.varisat_theory.proofs.Held.{same_set-self, same_clauses-self, same_clauses-back, same_clauses-through, same_clauses_find, put_back}
 use Rattle.varisat_theory.proofs.Implication.{unit_implied}
 use Rattle.varisat_theory.specs.Counted.{DerivesBy}
 use Rattle.varisat_theory.specs.Searches.{KeptClause, Search, clauses_of, Fits}
@@ -87,3 +87,26 @@ pub proved_implied : (held : List Clause) (s : Search) (l : Literal) (f : Fits h
 proved_implied held s l f h =
     let (d, i, u) = f.units l h in
     unit_implied (clauses_of s.kept ++ f.others) [] l d (∈-append_right d (clauses_of s.kept) f.others i) u
+
+-- 4. As many clauses.
+
+same_count : (P Q : List Clause) → SameClauses P Q → length Q ≡ length P
+same_count [] Q s = ap (λ (l : List Clause). length l) s
+same_count (p ∷ P) Q (R, (front, d, back, e, u, g), s) =
+    let a = ap (λ (l : List Clause). length l) e in
+    let b = ap (λ (l : List Clause). length l) g in
+    let c = length-append front (d ∷ back) in
+    let f = length-append front back in
+    let n = same_count P R s in
+    omega (arith, a, b, c, f, n)
+
+clauses_count : (ks : List KeptClause) → length (clauses_of ks) ≡ length ks
+clauses_count [] = refl
+clauses_count (k ∷ ks) = let e = clauses_count ks in omega (arith, e)
+
+pub kept_are_held : (held : List Clause) (s : Search) → Fits held s → length s.kept ≤ length held
+kept_are_held held s f =
+    let a = same_count held (clauses_of s.kept ++ f.others) f.same in
+    let b = length-append (clauses_of s.kept) f.others in
+    let c = clauses_count s.kept in
+    omega (arith, a, b, c)

@@ -1,5 +1,5 @@
 -- What k steps of a call give together.
-use Rattle.std.proofs.Common.{◌≡◌, ℕ, suc, ◌+◌, ◌≤◌, Bool, true, false, List, [], ◌∷◌, ◌++◌, inl, inr, sym, ap, ◌∙◌, subst, refl, arith}
+use Rattle.std.proofs.Common.{◌≡◌, ℕ, zero, suc, ◌+◌, ◌<◌, ◌≤◌, Bool, true, false, List, [], ◌∷◌, ◌++◌, inl, inr, sym, ap, ◌∙◌, subst, refl, arith}
 use Rattle.std.proofs.lemmas.List.{append-nil}
 use Rattle.varisat_theory.specs.Membership.{◌∈◌}
 use Rattle.varisat_theory.specs.Literals.{Literal, Clause, Assignment, value, Satisfies, SatisfiesAll}
@@ -7,6 +7,7 @@ use Rattle.varisat_theory.specs.Derivations.{Line, Refutes}
 use Rattle.varisat_theory.specs.Counted.{DerivesBy, added}
 use Rattle.varisat_theory.specs.Searches.{KeptClause, Search, Fits, Covers, IsCoveredBySearch, Tautology, KnownTrue, FixedTrue, Kept, CoversBy, IsLiteralOf}
 use Rattle.varisat_theory.specs.Outcomes.{Outcome, Unknown, Sat, Unsat, UnsatUnder, Proves, Steps, MakesSteps, Stands}
+use Rattle.varisat_theory.specs.StepLaws.{joined}
 use Rattle.varisat_theory.proofs.Assigned.{tautology_satisfied}
 use Rattle.varisat_theory.proofs.Lines.{refutes_from}
 use Rattle.varisat_theory.proofs.StepCounts.{by_derives, by_append}
@@ -30,6 +31,11 @@ one_more_made k s t u v first second p q = record {
       let c = added_append first second in
       omega (arith, a, b, c);
 }
+
+pub steps_of_call : (k : ℕ) (s : ℕ → Search) (lines : ℕ → List Line) → ((i : ℕ) → i < k → Steps (s i) (s (suc i)) Unknown (lines i)) → MakesSteps k (s 0) (s k) Unknown (joined k lines)
+steps_of_call zero s lines g = none_made (s 0)
+steps_of_call (suc k) s lines g =
+    one_more_made k (s 0) (s k) (s (suc k)) Unknown (joined k lines) (lines k) (steps_of_call k s lines (λ i h. g i (omega (arith, h)))) (g k (omega arith))
 
 pub part_before_made : (k : ℕ) (s t u : Search) (v : Outcome) (first second : List Line) → Proves 0 s t first → MakesSteps k t u v second → MakesSteps k s u v (first ++ second)
 part_before_made k s t u v first second p q = record {

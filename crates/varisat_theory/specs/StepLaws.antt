@@ -1,4 +1,4 @@
--- The laws that the functions of `laws` state.
+-- The laws of steps, calls and loading that the functions of `laws/steps` state.
 use Rattle.std.specs.Prelude.{◌≡◌, ◌≢◌, ℕ, zero, suc, ◌+◌, ◌<◌, ◌≤◌, length, Bool, true, false, List, [], ◌∷◌, ◌++◌, ◌⊎◌}
 use Rattle.varisat_theory.specs.Membership.{◌∈◌, ◌⊆◌, SameSet}
 use Rattle.varisat_theory.specs.Literals.{Literal, Clause, Assignment, variable_of, opposite, value, IsUnit, SatisfiesAll, MakesTrue, IsSatisfiable, IsSatisfiableWith}
@@ -150,17 +150,56 @@ abbrev pub PartsJoinLoad : Type 0
 PartsJoinLoad =
     ((s t u : Search) (c : Clause) (v : Outcome) (lines : List Line) → Proves 0 s t [] → s.fixed ⊆ t.fixed → t.fixed ⊆ s.fixed → Loads t u c v lines → Loads s u c v lines) × ((s t u : Search) (c : Clause) (lines more : List Line) → Loads s t c Unknown lines → Proves 0 t u more → Loads s u c Unknown (lines ++ more))
 
--- 5. What follows for the accepted clauses.
+-- 5. What k steps give together.
 
--- A step keeps what a solver has of the accepted clauses.
+-- no step is made yet
+abbrev pub NoStepIsMade : Type 0
+NoStepIsMade = (s : Search) → MakesSteps 0 s s Unknown []
+
+-- one more step follows k that went on
+abbrev pub StepIsMade : Type 0
+StepIsMade =
+    (k : ℕ) (s t u : Search) (v : Outcome) (first second : List Line) → MakesSteps k s t Unknown first → Steps t u v second → MakesSteps (suc k) s u v (first ++ second)
+
+-- the lines of k steps
+abbrev pub joined : ℕ → (ℕ → List Line) → List Line
+joined zero lines = []
+joined (suc k) lines = joined k lines ++ lines k
+
+-- steps that go on, one after another
+abbrev pub StepsOfCall : Type 0
+StepsOfCall =
+    (k : ℕ) (s : ℕ → Search) (lines : ℕ → List Line) → ((i : ℕ) → i < k → Steps (s i) (s (suc i)) Unknown (lines i)) → MakesSteps k (s 0) (s k) Unknown (joined k lines)
+
+-- parts of which nothing counts may come before the steps, and after such as go on or find an assignment
+abbrev pub PartsJoinSteps : Type 0
+PartsJoinSteps =
+    ((k : ℕ) (s t u : Search) (v : Outcome) (first second : List Line) → Proves 0 s t first → MakesSteps k t u v second → MakesSteps k s u v (first ++ second)) × ((k : ℕ) (s t u : Search) (first second : List Line) → MakesSteps k s t Unknown first → Proves 0 t u second → MakesSteps k s u Unknown (first ++ second)) × ((k : ℕ) (s t u : Search) (found : Assignment) (first second : List Line) → MakesSteps k s t (Sat found) first → Proves 0 t u second → MakesSteps k s u (Sat found) (first ++ second))
+
+-- the lines of steps that come to Unsat refute what is held
+abbrev pub StepsRefute : Type 0
+StepsRefute = (k : ℕ) (held : List Clause) (s t : Search) (lines : List Line) → Fits held s → MakesSteps k s t Unsat lines → Refutes held lines
+
+-- 6. What follows for the accepted clauses.
+
+-- the first search, which keeps nothing, stands for no clauses
+abbrev pub FirstStands : Type 0
+FirstStands = (s : Search) → s ≡ record { kept = []; fixed = []; proved = [] } → Stands [] [] s Unknown
+
+-- A part of a step keeps what a solver has of the accepted clauses.
+abbrev pub PartStands : Type 0
+PartStands =
+    (n : ℕ) (P held : List Clause) (s t : Search) (lines : List Line) → Stands P held s Unknown → Proves n s t lines → (after : List Clause) × DerivesBy n held lines after × Stands P after t Unknown
+
+-- So does a step.
 abbrev pub StepStands : Type 0
 StepStands =
     (P held : List Clause) (s t : Search) (v : Outcome) (lines : List Line) → Stands P held s Unknown → Steps s t v lines → (after : List Clause) × DerivesBy 1 held lines after × Stands P after t v × (v ≡ Unknown → 1 ≤ added lines)
 
--- So does a part of one.
-abbrev pub PartStands : Type 0
-PartStands =
-    (n : ℕ) (P held : List Clause) (s t : Search) (lines : List Line) → Stands P held s Unknown → Proves n s t lines → (after : List Clause) × DerivesBy n held lines after × Stands P after t Unknown
+-- So do k steps.
+abbrev pub StepsStand : Type 0
+StepsStand =
+    (k : ℕ) (P held : List Clause) (s t : Search) (v : Outcome) (lines : List Line) → Stands P held s Unknown → MakesSteps k s t v lines → (after : List Clause) × DerivesBy k held lines after × Stands P after t v × (v ≡ Unknown → k ≤ added lines)
 
 -- Loading adds a clause to them.
 abbrev pub LoadStands : Type 0
@@ -176,66 +215,18 @@ VerdictsAreRight =
 abbrev pub CountedDerives : Type 0
 CountedDerives = (n : ℕ) (P : List Clause) (lines : List Line) (Q : List Clause) → DerivesBy n P lines Q → Derives P lines Q
 
--- the first search, which keeps nothing, stands for no clauses
-abbrev pub FirstStands : Type 0
-FirstStands = (s : Search) → s ≡ record { kept = []; fixed = []; proved = [] } → Stands [] [] s Unknown
-
--- 6. What the forms give above.
-
 -- each kept clause has a held one of its own
 abbrev pub KeptAreHeld : Type 0
 KeptAreHeld = (held : List Clause) (s : Search) → Fits held s → length s.kept ≤ length held
 
--- the lines of k steps
-abbrev pub joined : ℕ → (ℕ → List Line) → List Line
-joined zero lines = []
-joined (suc k) lines = joined k lines ++ lines k
-
--- k steps that go on count k times at most, and add k clauses at least
-abbrev pub StepsOfCall : Type 0
-StepsOfCall =
-    (k : ℕ) (s : ℕ → Search) (lines : ℕ → List Line) → ((i : ℕ) → i < k → Steps (s i) (s (suc i)) Unknown (lines i)) → Proves k (s 0) (s k) (joined k lines) × ((held : List Clause) → Fits held (s 0) → k ≤ added (joined k lines))
-
--- the lines of a step that comes to Unsat refute what is held
-abbrev pub UnsatRefutes : Type 0
-UnsatRefutes = (held : List Clause) (s t : Search) (lines : List Line) → Fits held s → Steps s t Unsat lines → Refutes held lines
+-- 7. What follows under other names.
 
 -- A part of a step keeps what is covered under other names too.
 abbrev pub NamesAreCovered : Type 0
 NamesAreCovered =
     (n : ℕ) (s t : Search) (lines : List Line) (to : Literal → Literal) (known : Literal → Bool) (P : List Clause) → KeepsOpposites to → Proves n s t lines → CoversBy to known P s → CoversBy to known P t
 
--- So does a variable's leaving, where its literal is known to be true for good once it is fixed.
-abbrev pub DroppedAreCovered : Type 0
-DroppedAreCovered =
-    (s t : Search) (to : Literal → Literal) (known more : Literal → Bool) (P : List Clause) → t.kept ≡ s.kept → ((l : Literal) → l ∈ s.fixed → (l ∈ t.fixed) ⊎ (more (to l) ≡ true)) → ((l : Literal) → known l ≡ true → more l ≡ true) → CoversBy to known P s → CoversBy to more P t
-
--- 7. What k steps give together.
-
--- no step is made yet
-abbrev pub NoStepIsMade : Type 0
-NoStepIsMade = (s : Search) → MakesSteps 0 s s Unknown []
-
--- one more step follows k that went on
-abbrev pub StepIsMade : Type 0
-StepIsMade =
-    (k : ℕ) (s t u : Search) (v : Outcome) (first second : List Line) → MakesSteps k s t Unknown first → Steps t u v second → MakesSteps (suc k) s u v (first ++ second)
-
--- parts of which nothing counts may come before the steps, and after such as go on or find an assignment
-abbrev pub PartsJoinSteps : Type 0
-PartsJoinSteps =
-    ((k : ℕ) (s t u : Search) (v : Outcome) (first second : List Line) → Proves 0 s t first → MakesSteps k t u v second → MakesSteps k s u v (first ++ second)) × ((k : ℕ) (s t u : Search) (first second : List Line) → MakesSteps k s t Unknown first → Proves 0 t u second → MakesSteps k s u Unknown (first ++ second)) × ((k : ℕ) (s t u : Search) (found : Assignment) (first second : List Line) → MakesSteps k s t (Sat found) first → Proves 0 t u second → MakesSteps k s u (Sat found) (first ++ second))
-
--- The steps keep what a solver has of the accepted clauses.
-abbrev pub StepsStand : Type 0
-StepsStand =
-    (k : ℕ) (P held : List Clause) (s t : Search) (v : Outcome) (lines : List Line) → Stands P held s Unknown → MakesSteps k s t v lines → (after : List Clause) × DerivesBy k held lines after × Stands P after t v × (v ≡ Unknown → k ≤ added lines)
-
--- the lines of steps that come to Unsat refute what is held
-abbrev pub StepsRefute : Type 0
-StepsRefute = (k : ℕ) (held : List Clause) (s t : Search) (lines : List Line) → Fits held s → MakesSteps k s t Unsat lines → Refutes held lines
-
--- Steps that go on keep what is covered under other names too.
+-- So do steps that go on.
 abbrev pub NamesStayCovered : Type 0
 NamesStayCovered =
     (k : ℕ) (s t : Search) (lines : List Line) (to : Literal → Literal) (known : Literal → Bool) (P : List Clause) → KeepsOpposites to → MakesSteps k s t Unknown lines → CoversBy to known P s → CoversBy to known P t
@@ -244,6 +235,11 @@ NamesStayCovered =
 abbrev pub NamesAreLoaded : Type 0
 NamesAreLoaded =
     (s t : Search) (c d : Clause) (lines : List Line) (to : Literal → Literal) (known : Literal → Bool) (P : List Clause) → KeepsOpposites to → Loads s t c Unknown lines → ((l : Literal) → l ∈ c → to l ∈ d) → CoversBy to known P s → CoversBy to known (P ++ d ∷ []) t
+
+-- A variable's leaving keeps it, where its literal is known to be true for good once it is fixed.
+abbrev pub DroppedAreCovered : Type 0
+DroppedAreCovered =
+    (s t : Search) (to : Literal → Literal) (known more : Literal → Bool) (P : List Clause) → t.kept ≡ s.kept → ((l : Literal) → l ∈ s.fixed → (l ∈ t.fixed) ⊎ (more (to l) ≡ true)) → ((l : Literal) → known l ≡ true → more l ≡ true) → CoversBy to known P s → CoversBy to more P t
 
 -- Where steps found an assignment, the accepted clauses are satisfied by each assignment of the other names that gives the search's literals the values found, and makes true what is known.
 abbrev pub NamesAreSatisfied : Type 0

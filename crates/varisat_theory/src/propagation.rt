@@ -1,4 +1,4 @@
-// Unit propagation over plain lists: slow and easy to read.
+//! Unit propagation over plain lists: slow and easy to read.
 ghost use Rattle.std.specs.Prelude.{◌≡◌, ◌↔◌, IfOk, IsTrue};
 ghost use Rattle.varisat_theory.specs.Checking.{IsClauseStatus, clause_lists};
 ghost use Rattle.varisat_theory.specs.Literals.{opposite};

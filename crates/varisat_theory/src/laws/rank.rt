@@ -1,4 +1,4 @@
-// The rank of a trail, and the number of steps of a call.
+//! The rank of a trail, and the number of steps of a call.
 
 ghost use Rattle.varisat_theory.specs.Laws.{BoundIsAPower, CallIsBounded, DistinctIsShort, IntervalsAreBounded, ProgressIsBounded, RankIsBounded, RankRises, RisingIsShort, StepRaisesRank, UnitsStandFirst};
 

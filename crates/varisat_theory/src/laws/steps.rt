@@ -1,6 +1,6 @@
-// What the lines of a step, of a call and of loading do to the clauses that a proof holds.
+//! What the lines of a step, of a call and of loading do to the clauses that a proof holds, and what that says of the accepted ones.
 
-ghost use Rattle.varisat_theory.specs.StepLaws.{PartsJoin, PartsJoinStep, StepIsPart, MovesProve, UnitIsProved, SatisfiedIsDeleted, LearnedIsDeleted, ClauseIsShortened, ClauseIsLearned, EmptyIsAdded, ModelIsFound, CoreIsFound, LoadedIsKept, LoadedIsUnit, LoadedIsSettled, LoadedIsDeleted, LoadedIsContradicted, StepStands, PartStands, LoadStands, VerdictsAreRight, CountedDerives, FirstStands, UnitsAreProved, VariableIsDropped, FreshIsNew, KeptAreHeld, StepsOfCall, UnsatRefutes, NamesAreCovered, DroppedAreCovered, ContradictionIsFound, PartsJoinLoad, NoStepIsMade, StepIsMade, PartsJoinSteps, StepsStand, StepsRefute, NamesStayCovered, NamesAreLoaded, NamesAreSatisfied, AcceptedAreReached, OneMoreIsReached, DerivedAreReached, SameAreReached, ReachedAreSatisfied, ReachedAreRefuted, RenamedAreReached};
+ghost use Rattle.varisat_theory.specs.StepLaws.{PartsJoin, PartsJoinStep, StepIsPart, MovesProve, UnitIsProved, UnitsAreProved, SatisfiedIsDeleted, LearnedIsDeleted, ClauseIsShortened, VariableIsDropped, ClauseIsLearned, FreshIsNew, EmptyIsAdded, ContradictionIsFound, ModelIsFound, CoreIsFound, LoadedIsKept, LoadedIsUnit, LoadedIsSettled, LoadedIsDeleted, LoadedIsContradicted, PartsJoinLoad, NoStepIsMade, StepIsMade, StepsOfCall, PartsJoinSteps, StepsRefute, FirstStands, PartStands, StepStands, StepsStand, LoadStands, VerdictsAreRight, CountedDerives, KeptAreHeld, NamesAreCovered, NamesStayCovered, NamesAreLoaded, DroppedAreCovered, NamesAreSatisfied, AcceptedAreReached, OneMoreIsReached, DerivedAreReached, SameAreReached, ReachedAreSatisfied, ReachedAreRefuted, RenamedAreReached};
 
 /// Two parts of a step in turn are one.
 pub fn parts_join()
@@ -27,6 +27,11 @@ pub fn unit_is_proved()
     ensures { UnitIsProved }
 {}
 
+/// Literals of level 0 are proved one after another.
+pub fn units_are_proved()
+    ensures { UnitsAreProved }
+{}
+
 /// A satisfied clause is deleted.
 pub fn satisfied_is_deleted()
     ensures { SatisfiedIsDeleted }
@@ -42,14 +47,29 @@ pub fn clause_is_shortened()
     ensures { ClauseIsShortened }
 {}
 
+/// A variable leaves the search.
+pub fn variable_is_dropped()
+    ensures { VariableIsDropped }
+{}
+
 /// A clause is learned.
 pub fn clause_is_learned()
     ensures { ClauseIsLearned }
 {}
 
+/// A fresh clause is new.
+pub fn fresh_is_new()
+    ensures { FreshIsNew }
+{}
+
 /// The empty clause is added.
 pub fn empty_is_added()
     ensures { EmptyIsAdded }
+{}
+
+/// A contradiction is found.
+pub fn contradiction_is_found()
+    ensures { ContradictionIsFound }
 {}
 
 /// A model is found.
@@ -87,81 +107,6 @@ pub fn loaded_is_contradicted()
     ensures { LoadedIsContradicted }
 {}
 
-/// A step keeps what a solver has.
-pub fn step_stands()
-    ensures { StepStands }
-{}
-
-/// So does a part of one.
-pub fn part_stands()
-    ensures { PartStands }
-{}
-
-/// So does loading.
-pub fn load_stands()
-    ensures { LoadStands }
-{}
-
-/// The verdicts are right.
-pub fn verdicts_are_right()
-    ensures { VerdictsAreRight }
-{}
-
-/// A derivation that counts is one.
-pub fn counted_derives()
-    ensures { CountedDerives }
-{}
-
-/// The first search stands for no clauses.
-pub fn first_stands()
-    ensures { FirstStands }
-{}
-
-/// Literals of level 0 are proved one after another.
-pub fn units_are_proved()
-    ensures { UnitsAreProved }
-{}
-
-/// A variable leaves the search.
-pub fn variable_is_dropped()
-    ensures { VariableIsDropped }
-{}
-
-/// A fresh clause is new.
-pub fn fresh_is_new()
-    ensures { FreshIsNew }
-{}
-
-/// Each kept clause has a held one of its own.
-pub fn kept_are_held()
-    ensures { KeptAreHeld }
-{}
-
-/// The steps of a call.
-pub fn steps_of_call()
-    ensures { StepsOfCall }
-{}
-
-/// The lines of a step to Unsat refute.
-pub fn unsat_refutes()
-    ensures { UnsatRefutes }
-{}
-
-/// Parts keep what is covered under other names.
-pub fn names_are_covered()
-    ensures { NamesAreCovered }
-{}
-
-/// So does a variable's leaving.
-pub fn dropped_are_covered()
-    ensures { DroppedAreCovered }
-{}
-
-/// A contradiction is found.
-pub fn contradiction_is_found()
-    ensures { ContradictionIsFound }
-{}
-
 /// Parts may come before and after loading.
 pub fn parts_join_load()
     ensures { PartsJoinLoad }
@@ -177,14 +122,14 @@ pub fn step_is_made()
     ensures { StepIsMade }
 {}
 
+/// Steps that go on, one after another, are made.
+pub fn steps_of_call()
+    ensures { StepsOfCall }
+{}
+
 /// Parts may come before steps, and after such as go on or find an assignment.
 pub fn parts_join_steps()
     ensures { PartsJoinSteps }
-{}
-
-/// Steps keep what a solver has.
-pub fn steps_stand()
-    ensures { StepsStand }
 {}
 
 /// The lines of steps to Unsat refute.
@@ -192,7 +137,52 @@ pub fn steps_refute()
     ensures { StepsRefute }
 {}
 
-/// Steps keep what is covered under other names.
+/// The first search stands for no clauses.
+pub fn first_stands()
+    ensures { FirstStands }
+{}
+
+/// A part of a step keeps what a solver has.
+pub fn part_stands()
+    ensures { PartStands }
+{}
+
+/// So does a step.
+pub fn step_stands()
+    ensures { StepStands }
+{}
+
+/// So do k steps.
+pub fn steps_stand()
+    ensures { StepsStand }
+{}
+
+/// Loading keeps it for one more accepted clause.
+pub fn load_stands()
+    ensures { LoadStands }
+{}
+
+/// The verdicts are right.
+pub fn verdicts_are_right()
+    ensures { VerdictsAreRight }
+{}
+
+/// A derivation that counts is one.
+pub fn counted_derives()
+    ensures { CountedDerives }
+{}
+
+/// Each kept clause has a held one of its own.
+pub fn kept_are_held()
+    ensures { KeptAreHeld }
+{}
+
+/// Parts keep what is covered under other names.
+pub fn names_are_covered()
+    ensures { NamesAreCovered }
+{}
+
+/// So do steps that go on.
 pub fn names_stay_covered()
     ensures { NamesStayCovered }
 {}
@@ -200,6 +190,11 @@ pub fn names_stay_covered()
 /// Loading a clause covers one under other names.
 pub fn names_are_loaded()
     ensures { NamesAreLoaded }
+{}
+
+/// So does a variable's leaving.
+pub fn dropped_are_covered()
+    ensures { DroppedAreCovered }
 {}
 
 /// What steps found satisfies the clauses under other names.

@@ -2,7 +2,7 @@ use Rattle.std.proofs.Common.{get_or, Some, subst}
 use Rattle.varisat_theory.specs.Membership.{◌∈◌}
 use Rattle.varisat_theory.proofs.Places.{∈-get_or}
 use Rattle.varisat_theory.proofs.Scans.{refused, granted}
-use Rattle.varisat_theory.proofs.Status.{Seen, seen_first, seen_again, seen_false, seen_end_none, seen_end_some}
+use Rattle.varisat_theory.proofs.ClauseStatuses.{Seen, seen_first, seen_again, seen_false, seen_end_none, seen_end_some}
 use Rattle.varisat_theory.proofs.propagation.status_of.Goals as goal
 use Rattle.varisat_theory.proofs.propagation.status_of.Goals.{then-not-holds+in-None, then-not-holds+in-Some+else-m-l, else-not-holds}
 

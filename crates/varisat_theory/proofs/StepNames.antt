@@ -1,62 +1,12 @@
--- What the forms give above.
-use Rattle.std.proofs.Common.{◌≡◌, ℕ, zero, suc, ◌+◌, ◌<◌, ◌≤◌, Bool, true, false, List, [], ◌∷◌, ◌++◌, length, ◌⊎◌, inl, inr, ⊎_elim, sym, ap, subst, refl, arith, length-append}
-use Rattle.std.proofs.lemmas.List.{append-nil}
+-- What stays covered under other names.
+use Rattle.std.proofs.Common.{◌≡◌, ℕ, Bool, true, false, List, [], ◌∷◌, ◌++◌, ◌⊎◌, inl, inr, ⊎_elim, sym, subst, refl}
 use Rattle.varisat_theory.specs.Membership.{◌∈◌, ◌⊆◌}
 use Rattle.varisat_theory.specs.Literals.{Literal, Clause, opposite}
-use Rattle.varisat_theory.specs.Derivations.{Line, Refutes}
-use Rattle.varisat_theory.specs.Held.{SameClauses}
+use Rattle.varisat_theory.specs.Derivations.{Line}
 use Rattle.varisat_theory.specs.Renaming.{KeepsOpposites}
 use Rattle.varisat_theory.proofs.Members.{∈-append_cases}
-use Rattle.varisat_theory.proofs.Lines.{refutes_from}
-use Rattle.varisat_theory.specs.Counted.{added}
-use Rattle.varisat_theory.specs.Searches.{KeptClause, Search, clauses_of, IsSettled, Fits, Covers, IsCoveredBySearch, Tautology, KnownTrue, FixedTrue, Kept, CoversBy}
-use Rattle.varisat_theory.specs.Outcomes.{Unknown, Unsat, Proves, Steps, MakesSteps, Loads}
-use Rattle.varisat_theory.specs.StepLaws.{joined}
-use Rattle.varisat_theory.proofs.StepCounts.{by_derives}
-use Rattle.varisat_theory.proofs.StepParts.{parts_join}
-use Rattle.varisat_theory.proofs.StepStands.{step_is_part, step_adds, added_append}
-
--- as many clauses
-same_count : (P Q : List Clause) → SameClauses P Q → length Q ≡ length P
-same_count [] Q s = ap (λ (l : List Clause). length l) s
-same_count (p ∷ P) Q (R, (front, d, back, e, u, g), s) =
-    let a = ap (λ (l : List Clause). length l) e in
-    let b = ap (λ (l : List Clause). length l) g in
-    let c = length-append front (d ∷ back) in
-    let f = length-append front back in
-    let n = same_count P R s in
-    omega (arith, a, b, c, f, n)
-
-clauses_count : (ks : List KeptClause) → length (clauses_of ks) ≡ length ks
-clauses_count [] = refl
-clauses_count (k ∷ ks) = let e = clauses_count ks in omega (arith, e)
-
-pub kept_are_held : (held : List Clause) (s : Search) → Fits held s → length s.kept ≤ length held
-kept_are_held held s f =
-    let a = same_count held (clauses_of s.kept ++ f.others) f.same in
-    let b = length-append (clauses_of s.kept) f.others in
-    let c = clauses_count s.kept in
-    omega (arith, a, b, c)
-
-pub steps_of_call : (k : ℕ) (s : ℕ → Search) (lines : ℕ → List Line) → ((i : ℕ) → i < k → Steps (s i) (s (suc i)) Unknown (lines i)) → Proves k (s 0) (s k) (joined k lines) × ((held : List Clause) → Fits held (s 0) → k ≤ added (joined k lines))
-steps_of_call zero s lines g = (record { holds = λ held f. (held, refl, f); covers = λ P v. v }, λ held f. omega arith)
-steps_of_call (suc k) s lines g =
-    let (p, n) = steps_of_call k s lines (λ i h. g i (omega (arith, h))) in
-    let q = g k (omega arith) in
-    let e : k + 1 ≡ suc k = omega arith in (
-      subst (λ m. Proves m (s 0) (s (suc k)) (joined k lines ++ lines k)) e (parts_join k 1 (s 0) (s k) (s (suc k)) (joined k lines) (lines k) p (step_is_part (s k) (s (suc k)) (lines k) q)),
-      λ held f.
-          let (mid, d, h) = p.holds held f in
-          let a = n held f in
-          let b = step_adds (s k) (s (suc k)) (lines k) mid q h in
-          let c = added_append (joined k lines) (lines k) in
-          omega (arith, a, b, c),
-    )
-
-pub unsat_refutes : (held : List Clause) (s t : Search) (lines : List Line) → Fits held s → Steps s t Unsat lines → Refutes held lines
-unsat_refutes held s t lines f p =
-    let (after, d, h, n) = p.holds held f in
-    refutes_from held lines (lines, [], after, sym (append-nil lines), by_derives 1 held lines after d, h)
+use Rattle.varisat_theory.specs.Searches.{KeptClause, Search, IsSettled, Covers, IsCoveredBySearch, Tautology, KnownTrue, FixedTrue, Kept, CoversBy}
+use Rattle.varisat_theory.specs.Outcomes.{Unknown, Proves, MakesSteps, Loads}
 
 -- a clause is covered, by the search's own names
 abbrev IsCoveredIn : Search → Clause → Type 0

@@ -6,7 +6,7 @@ use Rattle.varisat_theory.specs.Luby.{luby, sum_from, saturated, restart_point, 
 use Rattle.varisat_theory.specs.CallBounds.{CallSetting, call_point}
 use Rattle.varisat_theory.proofs.Ranks.{rank_below, rank_raised}
 use Rattle.varisat_theory.proofs.Luby.{sum_from-split}
-use Rattle.varisat_theory.proofs.Walk.{walk-luby}
+use Rattle.varisat_theory.proofs.LubyWalk.{walk-luby}
 
 saturated_sum : (x y : ℕ) → saturated (x + y) ≡ saturated (saturated x + saturated y)
 saturated_sum x y = omega arith

@@ -6,7 +6,7 @@ use Rattle.varisat_theory.specs.Luby.{luby, sum_from, saturated}
 use Rattle.varisat_theory.specs.CallBounds.{CallSetting, call_point, IsCallStep, Rises, Restarts, IsCall, HasRestarted, CallProgress, BeforeRestart, AfterRestart}
 use Rattle.varisat_theory.proofs.Ranks.{rank_bound}
 use Rattle.varisat_theory.proofs.Luby.{sum_from-split}
-use Rattle.varisat_theory.proofs.Bound.{intervals_bound}
+use Rattle.varisat_theory.proofs.IntervalBounds.{intervals_bound}
 
 -- a term of a run is at most its sum
 term_in_sum : (f : ℕ → ℕ) (a u q : ℕ) → u < q → f (a + u) ≤ sum_from f a q

@@ -1,4 +1,4 @@
--- What the checker keeps, and why its answer is the only one.
+-- What the checker keeps, and why its verdict is the only one.
 use Rattle.std.proofs.Common.{◌≡◌, ℕ, suc, ◌+◌, ◌<◌, ◌≤◌, List, [], ◌∷◌, ◌++◌, length, get_or, take, take_all, drop, map, Vec, Global, Bool, true, false, IsTrue, ◌⊎◌, ◌↔◌, inl, inr, ⊎_elim, sym, ap, ◌∙◌, subst, refl, arith}
 use Rattle.std.proofs.lemmas.List.{append-nil, take_more, take-append-drop, length-take, get_or-map, length-map}
 use Rattle.varisat_theory.specs.Literals.{Clause}
@@ -48,7 +48,7 @@ past_wrong P front rest line Q d p w =
     wrong_line Q s.0 line rest r.0 (present_unique P P front s.0 Q (same_clauses-self P) (derives_present P front s.0 s.1) p) w s.2
 
 wrong_no_derivation : (P : List Clause) (lines : List Line) (n : ℕ) (line : Line) → IsFirstWrong P lines n line → IsDerivation P lines → ⊥
-wrong_no_derivation P lines n line (front, back, Q, e, _, _, _, p, w) d = past_wrong P front back line Q (subst (IsDerivation P) e d) p w
+wrong_no_derivation P lines n line w d = past_wrong P w.front w.back line w.present (subst (IsDerivation P) w.split d) w.is_present w.wrong
 
 -- where two cuts agree on a beginning, or the other goes past a line
 after_front : (front f r b back : List Line) (line : Line) → f ≡ front ++ r → line ∷ back ≡ r ++ b → (front ≡ f) ⊎ ((rest : List Line) × (f ≡ front ++ (line ∷ rest)))
@@ -56,11 +56,11 @@ after_front front f [] b back line e g = inl (sym (e ∙ append-nil front))
 after_front front f (x ∷ r) b back line e g = inr (r, let h : x ≡ line = cc in e ∙ ap (λ z. front ++ (z ∷ r)) h)
 
 wrong_no_refutation : (P : List Clause) (lines : List Line) (n : ℕ) (line : Line) → IsFirstWrong P lines n line → Refutes P lines → ⊥
-wrong_no_refutation P lines n line (front, back, Q, e, _, _, none, p, w) (f, b, R, e', d, q, k) =
+wrong_no_refutation P lines n line w (f, b, R, e, d, q, k) =
     ⊎_elim
-    (λ s. none (f, s.0, R, s.1, d, q, k))
-    (λ s. ⊎_elim (λ g. none (f, [], R, g ∙ sym (append-nil f), d, q, k)) (λ g. past_wrong P front g.0 line Q (subst (IsDerivation P) g.1 d) p w) (after_front front f s.0 b back line s.1 s.2))
-    (splits f b front (line ∷ back) (sym e' ∙ e))
+    (λ s. w.unrefuted (f, s.0, R, s.1, d, q, k))
+    (λ s. ⊎_elim (λ g. w.unrefuted (f, [], R, g ∙ sym (append-nil f), d, q, k)) (λ g. past_wrong P w.front g.0 line w.present (subst (IsDerivation P) g.1 d) w.is_present w.wrong) (after_front w.front f s.0 b w.back line s.1 s.2))
+    (splits f b w.front (line ∷ w.back) (sym e ∙ w.split))
 
 -- the first wrong line is one
 first_of : (P : List Clause) (front f back b r : List Line) (line l : Line) (Q : List Clause) → f ≡ front ++ r → line ∷ back ≡ r ++ (l ∷ b) → IsDerivation P f → IsPresentAfter P front Q → IsWrong Q line → (length front ≡ length f) × (line ≡ l)
@@ -70,13 +70,13 @@ first_of P front f back b (x ∷ r) line l Q e g d p w =
     absurd (past_wrong P front r line Q (subst (IsDerivation P) (e ∙ ap (λ z. front ++ (z ∷ r)) h) d) p w)
 
 first_wrong_same : (P : List Clause) (lines : List Line) (n m : ℕ) (line l : Line) → IsFirstWrong P lines n line → IsFirstWrong P lines m l → (n ≡ m) × (line ≡ l)
-first_wrong_same P lines n m line l (front, back, Q, e, i, d, _, p, w) (f, b, R, e', j, d', _, q, v) =
+first_wrong_same P lines n m line l v w =
     ⊎_elim
-    (λ s. let r = first_of P front f back b s.0 line l Q s.1 s.2 d' p w in (i ∙ ap suc r.0 ∙ sym j, r.1))
-    (λ s. let r = first_of P f front b back s.0 l line R s.1 s.2 d q v in (i ∙ ap suc (sym r.0) ∙ sym j, sym r.1))
-    (splits front (line ∷ back) f (l ∷ b) (sym e ∙ e'))
+    (λ s. let r = first_of P v.front w.front v.back w.back s.0 line l v.present s.1 s.2 w.derives v.is_present v.wrong in (v.numbered ∙ ap suc r.0 ∙ sym w.numbered, r.1))
+    (λ s. let r = first_of P w.front v.front w.back v.back s.0 l line w.present s.1 s.2 v.derives w.is_present w.wrong in (v.numbered ∙ ap suc (sym r.0) ∙ sym w.numbered, sym r.1))
+    (splits v.front (line ∷ v.back) w.front (l ∷ w.back) (sym v.split ∙ w.split))
 
--- an answer is determined
+-- a verdict is determined
 determined : (P : List Clause) (lines : List Line) (v w : PlainVerdict) → IsVerdict P lines v → IsVerdict P lines w → v ≡ w
 determined P lines Refutation Refutation h k = refl
 determined P lines Refutation Derivation h k = absurd (k.1 h)
@@ -142,7 +142,17 @@ derivation_found P lines Q c none = (derives_derivation P lines Q c.derives, λ 
 -- a line is wrong
 pub wrong_found : (P : List Clause) (front back lines : List Line) (Q : List Clause) (line : Line) (n : ℕ) → lines ≡ front ++ (line ∷ back) → n ≡ suc (length front) → Checked P front Q → (Conflicts Q [] → ⊥) → IsWrong Q line → IsFirstWrong P lines n line
 wrong_found P front back lines Q line n e i c none w =
-    (front, back, Q, e, i, derives_derivation P front Q c.derives, (λ r. none (c.refutes r)), derives_present P front Q c.derives, w)
+    record {
+      front = front;
+      back = back;
+      present = Q;
+      split = e;
+      numbered = i;
+      derives = derives_derivation P front Q c.derives;
+      unrefuted = λ r. none (c.refutes r);
+      is_present = derives_present P front Q c.derives;
+      wrong = w;
+    }
 
 -- The same of the lines in a slice.
 line_at : (ls : List PlainLine) (i : ℕ) (v : PlainLine) → i < length ls → v ≡ get_or ls i v → get_or (map line_of ls) i (line_of v) ≡ line_of v

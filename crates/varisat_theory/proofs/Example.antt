@@ -16,23 +16,19 @@ back l m e = sym (opposite_twice l) ∙ ap opposite e
 abbrev IsEarlier : Literal → Type 0
 IsEarlier x = (small_reason x ∈ small_clauses) × (x ∈ small_reason x) × ((m : Literal) → m ∈ small_reason x → m ≢ x → opposite m < x)
 
+-- the literal beside another in a clause of two
+beside : (y x m : Literal) → opposite y < x → m ∈ (y ∷ x ∷ []) → m ≢ x → opposite m < x
+beside y x m h (inl e) n = subst (λ z. opposite z < x) (sym e) h
+beside y x m h (inr (inl e)) n = absurd (n e)
+beside y x m h (inr (inr z)) n = absurd z
+
 at_two : IsEarlier 2
 unfolding opposite
-at_two = (inl refl, inr (inl refl), below)
-  where
-    below : (m : Literal) → m ∈ (1 ∷ 2 ∷ []) → m ≢ 2 → opposite m < 2
-    below m (inl e) n = omega (arith, e)
-    below m (inr (inl e)) n = absurd (n e)
-    below m (inr (inr z)) n = absurd z
+at_two = (inl refl, inr (inl refl), λ m h n. beside 1 2 m (omega arith) h n)
 
 at_four : IsEarlier 6
 unfolding opposite
-at_four = (inr (inl refl), inr (inl refl), below)
-  where
-    below : (m : Literal) → m ∈ (5 ∷ 6 ∷ []) → m ≢ 6 → opposite m < 6
-    below m (inl e) n = omega (arith, e)
-    below m (inr (inl e)) n = absurd (n e)
-    below m (inr (inr z)) n = absurd z
+at_four = (inr (inl refl), inr (inl refl), λ m h n. beside 5 6 m (omega arith) h n)
 
 at_five : IsEarlier 8
 unfolding opposite

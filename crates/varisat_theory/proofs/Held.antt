@@ -1,7 +1,7 @@
 -- Lists that hold the same clauses, in any order.
 use Rattle.std.proofs.Common.{◌≡◌, List, [], ◌∷◌, ◌++◌, ◌⊎◌, inl, inr, ⊎_elim, sym, ap, ◌∙◌, subst, refl, append_assoc}
 use Rattle.varisat_theory.specs.Membership.{◌∈◌, ◌⊆◌, SameSet}
-use Rattle.varisat_theory.specs.Literals.{Literal, Clause}
+use Rattle.varisat_theory.specs.Literals.{Literal, Clause, Assignment, SatisfiesAll}
 use Rattle.varisat_theory.specs.Propagation.{Conflicts, Follows, IsCoveredBy}
 use Rattle.varisat_theory.specs.Derivations.{TakesOut}
 use Rattle.varisat_theory.specs.Held.{SameClauses}
@@ -124,7 +124,7 @@ same_add (p ∷ P) Q c d (R, (front, x, back, e, u, f), s) t =
     (R ++ (d ∷ []), (front, x, back ++ (d ∷ []), ap (λ l. l ++ (d ∷ [])) e ∙ append_assoc front (x ∷ back) (d ∷ []), u, ap (λ l. l ++ (d ∷ [])) f ∙ append_assoc front back (d ∷ [])), same_add P R c d s t)
 
 -- one clause more on the left, anywhere
-put_back : (front back P : List Clause) (d p : Clause) → SameSet d p → SameClauses (front ++ back) P → SameClauses (front ++ (d ∷ back)) (p ∷ P)
+pub put_back : (front back P : List Clause) (d p : Clause) → SameSet d p → SameClauses (front ++ back) P → SameClauses (front ++ (d ∷ back)) (p ∷ P)
 put_back [] back P d p s h = (P, ([], p, P, refl, same_set-back d p s, refl), h)
 put_back (x ∷ front) back P d p s (S, t, h) =
     (p ∷ S, takes_later t, put_back front back S d p s h)
@@ -136,6 +136,10 @@ pub same_clauses-back : (P Q : List Clause) → SameClauses P Q → SameClauses 
 same_clauses-back [] Q s = subst (λ l. SameClauses l []) (sym s) refl
 same_clauses-back (p ∷ P) Q (R, (front, d, back, e, u, f), s) =
     subst (λ l. SameClauses l (p ∷ P)) (sym e) (put_back front back P d p u (subst (λ l. SameClauses l P) f (same_clauses-back P R s)))
+
+-- the same clauses are satisfied alike
+pub same_satisfied : (a : Assignment) (P Q : List Clause) → SameClauses P Q → SatisfiesAll a P → SatisfiesAll a Q
+same_satisfied a P Q s m c h = let (d, i, t) = same_clauses_find Q P (same_clauses-back P Q s) c h in let (l, j, y) = m d i in (l, t.0 l j, y)
 
 pub same_clauses-through : (P Q R : List Clause) → SameClauses P Q → SameClauses Q R → SameClauses P R
 same_clauses-through [] Q R s t = let u : SameClauses [] R = subst (λ l. SameClauses l R) s t in u

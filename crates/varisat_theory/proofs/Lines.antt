@@ -28,19 +28,6 @@ derives_add P lines Q c d f = derives_append P lines Q (Add c ∷ []) (Q ++ (c �
 pub derives_delete : (P : List Clause) (lines : List Line) (Q : List Clause) (c : Clause) (R : List Clause) → Derives P lines Q → TakesOut Q c R → Derives P (lines ++ (Delete c ∷ [])) R
 derives_delete P lines Q c R d t = derives_append P lines Q (Delete c ∷ []) R d (R, t, refl)
 
--- the clauses that are present after the same lines
-pub present_same : (P P' : List Clause) (lines lines' : List Line) (Q : List Clause) → SameClauses P P' → SameLines lines lines' → IsPresentAfter P lines Q → (Q' : List Clause) × IsPresentAfter P' lines' Q' × SameClauses Q Q'
-present_same P P' [] [] Q s t d = (P', refl, subst (λ l. SameClauses l P') d s)
-present_same P P' [] (m ∷ ms) Q s t d = absurd t
-present_same P P' (l ∷ ls) [] Q s t d = absurd t
-present_same P P' (Add c ∷ ls) (Add e ∷ ms) Q s t d = present_same (P ++ (c ∷ [])) (P' ++ (e ∷ [])) ls ms Q (same_add P P' c e s t.0) t.1 d
-present_same P P' (Add c ∷ ls) (Delete e ∷ ms) Q s t d = absurd t.0
-present_same P P' (Delete c ∷ ls) (Add e ∷ ms) Q s t d = absurd t.0
-present_same P P' (Delete c ∷ ls) (Delete e ∷ ms) Q s t d =
-    let (R', k, u) = same_delete P P' c d.0 s d.1 in
-    let (Q', p, v) = present_same d.0 R' ls ms Q u t.1 d.2 in
-    (Q', (R', takes_out_same P' c e R' t.0 k, p), v)
-
 pub same_line-self : (l : Line) → SameLine l l
 same_line-self (Add c) = same_set-self c
 same_line-self (Delete c) = same_set-self c

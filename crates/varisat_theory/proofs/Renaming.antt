@@ -5,6 +5,7 @@ use Rattle.varisat_theory.specs.Membership.{◌∈◌, ◌⊆◌}
 use Rattle.varisat_theory.specs.Literals.{Literal, Clause, Assignment, opposite, opposites, value, Satisfies}
 use Rattle.varisat_theory.specs.Propagation.{Conflicts, Clash, FalseClause, Propagate, Follows}
 use Rattle.varisat_theory.specs.Derivations.{Line, Add, Delete, TakesOut, Refutes, Derives}
+use Rattle.varisat_theory.specs.Held.{SameClauses}
 use Rattle.varisat_theory.specs.Renaming.{KeepsOpposites, IsOneToOneOn, IsWithin, rename, rename_line, named_back}
 use Rattle.varisat_theory.proofs.Lines.{refutes_at, refutes_from}
 use Rattle.varisat_theory.proofs.Values.{value-opposite}
@@ -75,6 +76,10 @@ follows_renamed f w P c k = subst (λ b. Conflicts (rename f P) b) (map_opposite
 takes_out_renamed : (f : Literal → Literal) (P : List Clause) (c : Clause) (Q : List Clause) → TakesOut P c Q → TakesOut (rename f P) (map f c) (rename f Q)
 takes_out_renamed f P c Q (front, d, back, e, s, e') =
     (rename f front, map f d, rename f back, ap (rename f) e ∙ map-append (map f) front (d ∷ back), (map-⊆ f d c s.0, map-⊆ f c d s.1), ap (rename f) e' ∙ map-append (map f) front back)
+
+pub same_clauses_renamed : (f : Literal → Literal) (P Q : List Clause) → SameClauses P Q → SameClauses (rename f P) (rename f Q)
+same_clauses_renamed f [] Q s = ap (rename f) s
+same_clauses_renamed f (c ∷ P) Q (R, t, s) = (rename f R, takes_out_renamed f Q c R t, same_clauses_renamed f P R s)
 
 pub derives_renamed : (f : Literal → Literal) → KeepsOpposites f → (P : List Clause) (lines : List Line) (Q : List Clause) → Derives P lines Q → Derives (rename f P) (map (rename_line f) lines) (rename f Q)
 derives_renamed f w P [] Q d = ap (rename f) d

@@ -1,21 +1,17 @@
 -- Lists that hold the same clauses, and what fits a search.
-use Rattle.std.proofs.Common.{◌≡◌, ℕ, List, [], ◌∷◌, ◌++◌, inl, inr, sym, ap, ◌∙◌, subst, refl, append_assoc}
+use Rattle.std.proofs.Common.{◌≡◌, ℕ, ◌≤◌, List, [], ◌∷◌, ◌++◌, length, inl, inr, sym, ap, ◌∙◌, subst, refl, append_assoc, arith, length-append}
+use Rattle.std.proofs.lemmas.List.{append-nil}
 use Rattle.varisat_theory.specs.Membership.{◌∈◌, SameSet}
 use Rattle.varisat_theory.specs.Literals.{Literal, Clause}
 use Rattle.varisat_theory.specs.Derivations.{Line}
 use Rattle.varisat_theory.specs.Held.{SameClauses}
 use Rattle.varisat_theory.specs.Analysis.{Implied}
 use Rattle.varisat_theory.proofs.Members.{∈-append_left, ∈-append_right}
-use Rattle.varisat_theory.proofs.Held.{same_set-self, same_set-back, same_clauses-self, same_clauses-back, same_clauses-through, same_clauses_find}
+use Rattle.varisat_theory.proofs.Held.{same_set-self, same_clauses-self, same_clauses-back, same_clauses-through, same_clauses_find, put_back}
 use Rattle.varisat_theory.proofs.Implication.{unit_implied}
 use Rattle.varisat_theory.specs.Counted.{DerivesBy}
 use Rattle.varisat_theory.specs.Searches.{KeptClause, Search, clauses_of, Fits}
 use Rattle.varisat_theory.proofs.StepCounts.{by_same}
-
-put_back : (front back P : List Clause) (d p : Clause) → SameSet d p → SameClauses (front ++ back) P → SameClauses (front ++ (d ∷ back)) (p ∷ P)
-put_back [] back P d p s h = (P, ([], p, P, refl, same_set-back d p s, refl), h)
-put_back (x ∷ front) back P d p s (S, (f, y, b, e, u, g), h) =
-    (p ∷ S, (p ∷ f, y, b, ap (λ l. p ∷ l) e, u, ap (λ l. p ∷ l) g), put_back front back S d p s h)
 
 -- one clause more in both, anywhere
 pub same_insert : (front back front' back' : List Clause) (d p : Clause) → SameSet d p → SameClauses (front ++ back) (front' ++ back') → SameClauses (front ++ (d ∷ back)) (front' ++ (p ∷ back'))
@@ -31,14 +27,10 @@ same_front (p ∷ K) J O (R, (f, d, b, e, u, g), s) =
 pub same_equal : (P Q : List Clause) → P ≡ Q → SameClauses P Q
 same_equal P Q e = subst (SameClauses P) e (same_clauses-self P)
 
-append_none : (P : List Clause) → P ++ [] ≡ P
-append_none [] = refl
-append_none (c ∷ P) = ap (λ l. c ∷ l) (append_none P)
-
 -- the last clause goes between the two parts
 pub same_between : (K O : List Clause) (c d : Clause) → SameSet c d → SameClauses ((K ++ O) ++ c ∷ []) ((K ++ d ∷ []) ++ O)
 same_between K O c d s =
-    subst (SameClauses ((K ++ O) ++ c ∷ [])) (sym (append_assoc K (d ∷ []) O)) (same_insert (K ++ O) [] K O c d s (same_equal ((K ++ O) ++ []) (K ++ O) (append_none (K ++ O))))
+    subst (SameClauses ((K ++ O) ++ c ∷ [])) (sym (append_assoc K (d ∷ []) O)) (same_insert (K ++ O) [] K O c d s (same_equal ((K ++ O) ++ []) (K ++ O) (append-nil (K ++ O))))
 
 -- 2. The kept clauses at a place.
 
@@ -95,3 +87,26 @@ pub proved_implied : (held : List Clause) (s : Search) (l : Literal) (f : Fits h
 proved_implied held s l f h =
     let (d, i, u) = f.units l h in
     unit_implied (clauses_of s.kept ++ f.others) [] l d (∈-append_right d (clauses_of s.kept) f.others i) u
+
+-- 4. As many clauses.
+
+same_count : (P Q : List Clause) → SameClauses P Q → length Q ≡ length P
+same_count [] Q s = ap (λ (l : List Clause). length l) s
+same_count (p ∷ P) Q (R, (front, d, back, e, u, g), s) =
+    let a = ap (λ (l : List Clause). length l) e in
+    let b = ap (λ (l : List Clause). length l) g in
+    let c = length-append front (d ∷ back) in
+    let f = length-append front back in
+    let n = same_count P R s in
+    omega (arith, a, b, c, f, n)
+
+clauses_count : (ks : List KeptClause) → length (clauses_of ks) ≡ length ks
+clauses_count [] = refl
+clauses_count (k ∷ ks) = let e = clauses_count ks in omega (arith, e)
+
+pub kept_are_held : (held : List Clause) (s : Search) → Fits held s → length s.kept ≤ length held
+kept_are_held held s f =
+    let a = same_count held (clauses_of s.kept ++ f.others) f.same in
+    let b = length-append (clauses_of s.kept) f.others in
+    let c = clauses_count s.kept in
+    omega (arith, a, b, c)

@@ -1,5 +1,6 @@
 -- Parts of a step: kept clauses move, are deleted and shortened, units are proved.
 use Rattle.std.proofs.Common.{◌≡◌, Bool, true, false, List, [], ◌∷◌, ◌++◌, ◌⊎◌, inl, inr, ⊎_elim, sym, ap, ◌∙◌, subst, refl, append_assoc}
+use Rattle.std.proofs.lemmas.List.{append-nil}
 use Rattle.varisat_theory.specs.Membership.{◌∈◌, ◌⊆◌, SameSet}
 use Rattle.varisat_theory.specs.Literals.{Literal, Clause, opposite, IsUnit}
 use Rattle.varisat_theory.specs.Propagation.{LeavesOnly, Follows}
@@ -12,7 +13,7 @@ use Rattle.varisat_theory.proofs.Learning.{follows_at_zero}
 use Rattle.varisat_theory.proofs.Implication.{implied_follows, implied_more}
 use Rattle.varisat_theory.proofs.Held.{same_set-back, same_clauses-through}
 use Rattle.varisat_theory.specs.Counted.{IsMinor}
-use Rattle.varisat_theory.specs.Searches.{KeptClause, Search, clauses_of, IsSettled, Fits}
+use Rattle.varisat_theory.specs.Searches.{KeptClause, Search, clauses_of, IsSettled, Fits, Covers}
 use Rattle.varisat_theory.specs.Outcomes.{Proves}
 use Rattle.varisat_theory.proofs.SearchFits.{same_insert, same_front, same_equal, clauses_at, clauses_join, clause_in, plain, carried, proved_implied}
 
@@ -85,6 +86,21 @@ unit_is_proved s l k x h i u = record {
   covers = λ P v. v;
 }
 
+-- What is covered stays so where other clauses take a kept one's place, if they cover what it did.
+covers_replaced : (s : Search) (front back middle : List KeptClause) (k : KeptClause) → s.kept ≡ front ++ (k ∷ back) → ((d : Clause) → k.learned ≡ false → k.clause ⊆ d → IsSettled s d ⊎ ((j : KeptClause) × (j ∈ middle) × (j.learned ≡ false) × (j.clause ⊆ d))) → (P : List Clause) → Covers P s → Covers P (record s { kept = front ++ (middle ++ back) })
+covers_replaced s front back middle k e w P v d h = ⊎_elim (λ a. inl a) (λ (j, i, g, r). go j g r (∈-append_cases j front (k ∷ back) (subst (λ x. j ∈ x) e i))) (v d h)
+  where
+    at : (j : KeptClause) → j.learned ≡ false → j.clause ⊆ d → j ∈ (front ++ (middle ++ back)) → IsSettled s d ⊎ ((j : KeptClause) × (j ∈ (front ++ (middle ++ back))) × (j.learned ≡ false) × (j.clause ⊆ d))
+    at j g r i = inr (j, i, g, r)
+
+    replaced : (k.learned ≡ false) → k.clause ⊆ d → IsSettled s d ⊎ ((j : KeptClause) × (j ∈ (front ++ (middle ++ back))) × (j.learned ≡ false) × (j.clause ⊆ d))
+    replaced g r = ⊎_elim (λ a. inl a) (λ (j, i, n, y). at j n y (∈-append_right j front (middle ++ back) (∈-append_left j middle back i))) (w d g r)
+
+    go : (j : KeptClause) → j.learned ≡ false → j.clause ⊆ d → (j ∈ front) ⊎ (j ∈ (k ∷ back)) → IsSettled s d ⊎ ((j : KeptClause) × (j ∈ (front ++ (middle ++ back))) × (j.learned ≡ false) × (j.clause ⊆ d))
+    go j g r (inl a) = at j g r (∈-append_left j front (middle ++ back) a)
+    go j g r (inr (inl m)) = replaced (sym (ap (λ x. x.learned) m) ∙ g) (λ x o. r x (subst (λ n. x ∈ n.clause) (sym m) o))
+    go j g r (inr (inr b)) = at j g r (∈-append_right j front (middle ++ back) (∈-append_right j middle back b))
+
 -- a kept clause is deleted that is learned or settled
 pub is_deleted : (s : Search) (front back : List KeptClause) (k : KeptClause) (c : Clause) → s.kept ≡ front ++ (k ∷ back) → SameSet k.clause c → (k.learned ≡ true) ⊎ IsSettled s k.clause → Proves 0 s (record s { kept = front ++ back }) (Delete c ∷ [])
 is_deleted s front back k c e q w = record {
@@ -102,20 +118,7 @@ is_deleted s front back k c e q w = record {
           units = f.units;
         },
       );
-  covers = λ P v d h.
-      ⊎_elim
-      (λ a. inl a)
-      (λ (j, i, g, r). ⊎_elim
-      (λ a. inr (j, ∈-append_left j front back a, g, r))
-      (λ a. ⊎_elim
-      (λ m. ⊎_elim
-      (λ y. absurd (let z : true ≡ false = sym y ∙ ap (λ x. x.learned) (sym m) ∙ g in cc))
-      (λ y. inl (settled_wider s k.clause d (λ x o. r x (subst (λ n. x ∈ n.clause) (sym m) o)) y))
-      w)
-      (λ b. inr (j, ∈-append_right j front back b, g, r))
-      a)
-      (∈-append_cases j front (k ∷ back) (subst (λ x. j ∈ x) e i)))
-      (v d h);
+  covers = covers_replaced s front back [] k e (λ d n r. inl (⊎_elim (λ y. absurd (let z : true ≡ false = sym y ∙ n in cc)) (settled_wider s k.clause d r) w));
 }
 
 pub satisfied_is_deleted : (s : Search) (front back : List KeptClause) (k : KeptClause) (c : Clause) (l : Literal) → s.kept ≡ front ++ (k ∷ back) → SameSet k.clause c → l ∈ k.clause → l ∈ s.fixed → Proves 0 s (record s { kept = front ++ back }) (Delete c ∷ [])
@@ -154,22 +157,8 @@ is_shortened s front back k j c d e q r w g y = record {
           units = f.units;
         },
       );
-  covers = λ P v a h.
-      ⊎_elim
-      (λ b. inl b)
-      (λ (i, o, n, p). ⊎_elim
-      (λ b. inr (i, ∈-append_left i front (j ∷ back) b, n, p))
-      (λ b. ⊎_elim
-      (λ m. inr (j, ∈-append_right j front (j ∷ back) (inl refl), is_false j.learned (λ u. let z : true ≡ false = sym (y u) ∙ ap (λ x. x.learned) (sym m) ∙ n in cc), λ x u. p x (subst (λ x'. x ∈ x'.clause) (sym m) (w x u))))
-      (λ z. inr (i, ∈-append_right i front (j ∷ back) (inr z), n, p))
-      b)
-      (∈-append_cases i front (k ∷ back) (subst (λ x. i ∈ x) e o)))
-      (v a h);
+  covers = covers_replaced s front back (j ∷ []) k e (λ a n p. inr (j, inl refl, is_false j.learned (λ u. let z : true ≡ false = sym (y u) ∙ n in cc), λ x u. p x (w x u)));
 }
   where
-    none : (P : List Clause) → P ++ [] ≡ P
-    none [] = refl
-    none (x ∷ P) = ap (λ l. x ∷ l) (none P)
-
     moved : (F B : List Clause) (a b : Clause) → SameSet a b → SameClauses ((F ++ B) ++ b ∷ []) (F ++ (a ∷ B))
-    moved F B a b v = same_insert (F ++ B) [] F B b a (same_set-back a b v) (same_equal ((F ++ B) ++ []) (F ++ B) (none (F ++ B)))
+    moved F B a b v = same_insert (F ++ B) [] F B b a (same_set-back a b v) (same_equal ((F ++ B) ++ []) (F ++ B) (append-nil (F ++ B)))

@@ -6,7 +6,7 @@ use Rattle.varisat_theory.specs.Literals.{Literal, Clause, variable_of}
 use Rattle.varisat_theory.specs.Propagation.{LeavesOnly}
 use Rattle.varisat_theory.specs.Derivations.{Add}
 use Rattle.varisat_theory.specs.Held.{SameClauses, mentions, unless, without}
-use Rattle.varisat_theory.proofs.Dropping.{same_without, without_less}
+use Rattle.varisat_theory.proofs.HeldDrops.{same_without, without_less}
 use Rattle.varisat_theory.specs.Searches.{KeptClause, Search, clauses_of, IsSettled, Fits}
 use Rattle.varisat_theory.specs.Outcomes.{Proves}
 use Rattle.varisat_theory.specs.StepLaws.{unit_lines}

@@ -12,7 +12,7 @@ use Rattle.varisat_theory.proofs.Implication.{implied_false}
 use Rattle.varisat_theory.specs.Counted.{IsNew, AddsNew}
 use Rattle.varisat_theory.specs.Searches.{KeptClause, Search, clauses_of, IsSettled, Fits, Covers}
 use Rattle.varisat_theory.specs.Outcomes.{Unknown, Sat, Unsat, UnsatUnder, Steps}
-use Rattle.varisat_theory.specs.StepLaws.{FollowsFrom, IsNewTo, IsFresh, IsModel}
+use Rattle.varisat_theory.specs.StepLaws.{FollowsFrom, IsNewTo, IsFresh, IsSolution}
 use Rattle.varisat_theory.proofs.SearchFits.{same_between, clauses_last, clause_from, plain, proved_implied}
 use Rattle.varisat_theory.proofs.StepChanges.{settled_more, more_units, more_settled, in_plain}
 
@@ -104,7 +104,7 @@ contradiction_is_found s t g = (
   },
 )
 
-pub model_satisfies : (s : Search) (known : List Literal) (a : Assignment) (P : List Clause) → IsModel s known → MakesTrue a known → Covers P s → SatisfiesAll a P
+pub model_satisfies : (s : Search) (known : List Literal) (a : Assignment) (P : List Clause) → IsSolution s known → MakesTrue a known → Covers P s → SatisfiesAll a P
 model_satisfies s known a P (x, n, y) m v c h =
     ⊎_elim
     (λ w. ⊎_elim (λ (l, i, j). tautology_satisfied a c l i j) (λ (l, i, j). (l, i, m l (x l j))) w)
@@ -122,7 +122,7 @@ model_satisfies s known a P (x, n, y) m v c h =
     kept : (k : KeptClause) → k ∈ s.kept → Satisfies a k.clause
     kept k i = all k.clause (in_clauses s.kept k i)
 
-pub model_is_found : (s : Search) (known : List Literal) (a : Assignment) → IsModel s known → MakesTrue a known → Steps s s (Sat a) []
+pub model_is_found : (s : Search) (known : List Literal) (a : Assignment) → IsSolution s known → MakesTrue a known → Steps s s (Sat a) []
 model_is_found s known a n m = record {
   holds = λ held f. (held, refl, f, λ e. absurd (let y : Sat a ≡ Unknown = e in cc));
   answers = λ P v. (v, model_satisfies s known a P n m v);

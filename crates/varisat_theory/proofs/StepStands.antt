@@ -53,30 +53,23 @@ adds_one P lines (front, back, c, Q, e, p, n) =
 pub step_adds : (s t : Search) (lines : List Line) (held : List Clause) → Steps s t Unknown lines → Fits held s → 1 ≤ added lines
 step_adds s t lines held p f = adds_one held lines ((p.holds held f).3 refl)
 
+-- what lines lead to stands for the same accepted clauses
+pub stands_after : (n : ℕ) (P held after : List Clause) (s t : Search) (v : Outcome) (lines : List Line) → Stands P held s Unknown → DerivesBy n held lines after → Holds after t v → Answers P t v → Stands P after t v
+stands_after n P held after s t v lines w d h a = record {
+  implied = λ x m. derives_sound held lines after x (by_derives n held lines after d) (w.implied x m);
+  holds = h;
+  answers = a;
+}
+
 pub step_stands : (P held : List Clause) (s t : Search) (v : Outcome) (lines : List Line) → Stands P held s Unknown → Steps s t v lines → (after : List Clause) × DerivesBy 1 held lines after × Stands P after t v × (v ≡ Unknown → 1 ≤ added lines)
 step_stands P held s t v lines w p =
-    let (after, d, h, n) = p.holds held w.holds in (
-      after,
-      d,
-      record {
-        implied = λ a m. derives_sound held lines after a (by_derives 1 held lines after d) (w.implied a m);
-        holds = h;
-        answers = p.answers P w.answers;
-      },
-      λ e. adds_one held lines (n e),
-    )
+    let (after, d, h, n) = p.holds held w.holds in
+    (after, d, stands_after 1 P held after s t v lines w d h (p.answers P w.answers), λ e. adds_one held lines (n e))
 
 pub part_stands : (n : ℕ) (P held : List Clause) (s t : Search) (lines : List Line) → Stands P held s Unknown → Proves n s t lines → (after : List Clause) × DerivesBy n held lines after × Stands P after t Unknown
 part_stands n P held s t lines w p =
-    let (after, d, h) = p.holds held w.holds in (
-      after,
-      d,
-      record {
-        implied = λ a m. derives_sound held lines after a (by_derives n held lines after d) (w.implied a m);
-        holds = h;
-        answers = p.covers P w.answers;
-      },
-    )
+    let (after, d, h) = p.holds held w.holds in
+    (after, d, stands_after n P held after s t Unknown lines w d h (p.covers P w.answers))
 
 open_fits : (held : List Clause) (s : Search) (v : Outcome) → v ≢ Unsat → Holds held s v → Fits held s
 open_fits held s Unknown n h = h

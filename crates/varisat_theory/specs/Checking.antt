@@ -1,4 +1,4 @@
--- What the plain checker answers.
+-- What the plain checker returns.
 use Rattle.std.specs.Prelude.{◌≡◌, ◌≢◌, ℕ, suc, List, [], ◌∷◌, ◌++◌, length, map, Vec}
 use Rattle.varisat_theory.specs.Membership.{◌∈◌, SameSet}
 use Rattle.varisat_theory.specs.Literals.{Literal, Clause, opposite}
@@ -23,10 +23,10 @@ line_of (Adds v) = Add v.items
 line_of (Deletes v) = Delete v.items
 
 -- what the status says of the clause: it is false, it leaves one literal, or it has two different literals that are not false
-abbrev pub IsStatus : List Literal → Clause → ClauseStatus → Type 0
-IsStatus known c False = IsFalse known c
-IsStatus known c (Leaves l) = (l ∈ c) × (opposite l ∈ known → ⊥) × LeavesOnly known c l
-IsStatus known c Open = (m n : Literal) × (m ∈ c) × (n ∈ c) × (m ≢ n) × (opposite m ∈ known → ⊥) × (opposite n ∈ known → ⊥)
+abbrev pub IsClauseStatus : List Literal → Clause → ClauseStatus → Type 0
+IsClauseStatus known c False = IsFalse known c
+IsClauseStatus known c (Leaves l) = (l ∈ c) × (opposite l ∈ known → ⊥) × LeavesOnly known c l
+IsClauseStatus known c Open = (m n : Literal) × (m ∈ c) × (n ∈ c) × (m ≢ n) × (opposite m ∈ known → ⊥) × (opposite n ∈ known → ⊥)
 
 -- the clause is equal to none of P as a set
 abbrev pub IsAbsent : List Clause → Clause → Type 0
@@ -45,12 +45,19 @@ abbrev pub IsWrong : List Clause → Line → Type 0
 IsWrong Q (Add c) = Follows Q c → ⊥
 IsWrong Q (Delete c) = IsAbsent Q c
 
--- line number `number`, counted from 1, is the first wrong one: the lines before it are a derivation that does not refute
-abbrev pub IsFirstWrong : List Clause → List Line → ℕ → Line → Type 0
-IsFirstWrong P lines number line =
-    (front back : List Line) × (Q : List Clause) × (lines ≡ front ++ (line ∷ back)) × (number ≡ suc (length front)) × IsDerivation P front × (Refutes P front → ⊥) × IsPresentAfter P front Q × IsWrong Q line
+-- Line number `number`, counted from 1, is the first wrong one: the lines before it are a derivation that does not refute, and where they leave off it is wrong.
+pub record IsFirstWrong (P : List Clause) (lines : List Line) (number : ℕ) (line : Line) : Type 0 where
+  pub front : List Line
+  pub back : List Line
+  pub present : List Clause
+  pub split : lines ≡ front ++ (line ∷ back)
+  pub numbered : number ≡ suc (length front)
+  pub derives : IsDerivation P front
+  pub unrefuted : Refutes P front → ⊥
+  pub is_present : IsPresentAfter P front present
+  pub wrong : IsWrong present line
 
--- what each answer says of the lines
+-- what each verdict says of the lines
 abbrev pub IsVerdict : List Clause → List Line → PlainVerdict → Type 0
 IsVerdict P lines Refutation = Refutes P lines
 IsVerdict P lines Derivation = IsDerivation P lines × (Refutes P lines → ⊥)

@@ -10,7 +10,7 @@ use Rattle.varisat_theory.specs.Example.{small_clauses, small_conflict, small_re
 use Rattle.varisat_theory.specs.Renaming.{KeepsOpposites, IsOneToOneOn, IsWithin, rename, rename_line, named_back}
 use Rattle.varisat_theory.specs.Rank.{rank, with_units}
 use Rattle.varisat_theory.specs.Luby.{luby, sum_from, saturated, restart_point, walk_at}
-use Rattle.varisat_theory.specs.Steps.{call_point, IsCall}
+use Rattle.varisat_theory.specs.CallBounds.{CallSetting, call_point, IsCall, CallProgress}
 
 -- where propagation conflicts, no assignment satisfies the clauses and makes the base true
 abbrev pub ConflictIsSound : Type 0
@@ -225,7 +225,7 @@ RestartPoints =
 -- the points of a call go on in the same way from any first one, and from the sequence's start they are the restart points
 abbrev pub CallPoints : Type 0
 CallPoints =
-    ((first scale j : ℕ) → call_point first scale j 0 ≡ saturated first) × ((first scale j i : ℕ) → call_point first scale j (suc i) ≡ saturated (call_point first scale j i + saturated (scale * luby (suc j + i)))) × ((scale i : ℕ) → call_point 0 scale 0 i ≡ restart_point scale i)
+    ((c : CallSetting) → call_point c 0 ≡ saturated c.first) × ((c : CallSetting) (i : ℕ) → call_point c (suc i) ≡ saturated (call_point c i + saturated (c.scale * luby (suc c.term + i)))) × ((c : CallSetting) (i : ℕ) → c.first ≡ 0 → c.term ≡ 0 → call_point c i ≡ restart_point c.scale i)
 
 -- the first five points at scale 128
 abbrev pub RestartsStart : Type 0
@@ -267,7 +267,12 @@ IntervalsAreBounded =
 
 -- a call makes fewer than (n+2) * 2^(n+2) steps, wherever it begins in the sequence and whatever its first restart point
 abbrev pub CallIsBounded : Type 0
-CallIsBounded = (n scale first j start k : ℕ) (trail : ℕ → List Bool) → IsCall n scale first j start k trail → k < (n + 2) * 2 ^ (n + 2)
+CallIsBounded = (c : CallSetting) (steps : ℕ) (trail : ℕ → List Bool) → IsCall c steps trail → steps < (c.variables + 2) * 2 ^ (c.variables + 2)
+
+-- The same step by step: what a loop of steps keeps holds at first, goes on where a step raises the rank or restarts, and bounds the steps with one step more.
+abbrev pub ProgressIsBounded : Type 0
+ProgressIsBounded =
+    ((c : CallSetting) (top : ℕ) → CallProgress c 0 top) × ((c : CallSetting) (t top next : ℕ) → top < next → CallProgress c t top → CallProgress c (suc t) next) × ((c : CallSetting) (t top next i : ℕ) → c.start + t ≡ call_point c i → c.start + t < 2 ^ 64 - 1 → top < 2 ^ suc c.variables → 0 < next → CallProgress c t top → CallProgress c (suc t) next) × ((c : CallSetting) (t top : ℕ) → 0 < c.scale → top + 2 ≤ 2 ^ suc c.variables → CallProgress c t top → suc t < (c.variables + 2) * 2 ^ (c.variables + 2))
 
 -- the bound on a call is at most 2^(2n+3)
 abbrev pub BoundIsAPower : Type 0

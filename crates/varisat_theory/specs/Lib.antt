@@ -8,7 +8,7 @@ pub mod Example
 pub mod Renaming
 pub mod Luby
 pub mod Rank
-pub mod Steps
+pub mod CallBounds
 pub mod Laws
 pub mod Checking
 pub mod Counted

@@ -1,10 +1,11 @@
 -- What the parts of a step, whole steps and loading a clause write and leave.
-use Rattle.std.specs.Prelude.{◌≡◌, ℕ, List, [], ◌∷◌, ◌++◌, ◌⊎◌}
+use Rattle.std.specs.Prelude.{◌≡◌, ℕ, ◌≤◌, List, [], ◌∷◌, ◌++◌, ◌⊎◌}
 use Rattle.varisat_theory.specs.Membership.{◌∈◌}
 use Rattle.varisat_theory.specs.Literals.{Literal, Clause, Assignment, opposite, IsUnit, SatisfiesAll}
 use Rattle.varisat_theory.specs.Propagation.{Conflicts}
-use Rattle.varisat_theory.specs.Derivations.{Line}
-use Rattle.varisat_theory.specs.Counted.{DerivesBy, AddsNew}
+use Rattle.varisat_theory.specs.Derivations.{Line, Derives}
+use Rattle.varisat_theory.specs.Held.{SameClauses}
+use Rattle.varisat_theory.specs.Counted.{DerivesBy, AddsNew, added}
 use Rattle.varisat_theory.specs.Searches.{Search, Fits, Covers}
 
 -- A search's verdict, with the assignment or the core that was found.
@@ -38,6 +39,12 @@ pub record Steps (s t : Search) (v : Outcome) (lines : List Line) : Type 0 where
   pub holds : (held : List Clause) → Fits held s → (after : List Clause) × DerivesBy 1 held lines after × Holds after t v × (v ≡ Unknown → AddsNew held lines)
   pub answers : (P : List Clause) → Covers P s → Answers P t v
 
+-- What k steps of a call give together: as many of the added clauses count at most, and where the last verdict is Unknown as many are added at least.
+pub record MakesSteps (k : ℕ) (s t : Search) (v : Outcome) (lines : List Line) : Type 0 where
+  pub holds : (held : List Clause) → Fits held s → (after : List Clause) × DerivesBy k held lines after × Holds after t v
+  pub answers : (P : List Clause) → Covers P s → Answers P t v
+  pub adds : (held : List Clause) → Fits held s → v ≡ Unknown → k ≤ added lines
+
 -- the clause is empty, or as a set one literal whose opposite is true at level 0
 abbrev pub IsContradicted : Search → Clause → Type 0
 IsContradicted s c = (c ≡ []) ⊎ ((l : Literal) × IsUnit l c × (opposite l ∈ s.fixed))
@@ -47,6 +54,13 @@ pub record Loads (s t : Search) (c : Clause) (v : Outcome) (lines : List Line) :
   pub holds : (held : List Clause) → Fits held s → (after : List Clause) × DerivesBy 0 (held ++ c ∷ []) lines after × Holds after t v
   pub answers : (P : List Clause) → Covers P s → Answers (P ++ c ∷ []) t v
   pub verdict : (IsContradicted s c × (v ≡ Unsat)) ⊎ ((IsContradicted s c → ⊥) × (v ≡ Unknown))
+
+-- Some lines lead from the accepted clauses P to the clauses that a proof holds, each as often, in whatever order.
+pub record IsReached (P held : List Clause) : Type 0 where
+  pub lines : List Line
+  pub last : List Clause
+  pub derives : Derives P lines last
+  pub same : SameClauses last held
 
 -- What a solver with accepted clauses P keeps of the clauses that a proof holds.
 pub record Stands (P held : List Clause) (s : Search) (v : Outcome) : Type 0 where

@@ -1,15 +1,15 @@
--- The laws that the functions of `laws` state.
+-- The laws of steps, calls and loading that the functions of `laws/steps` state.
 use Rattle.std.specs.Prelude.{◌≡◌, ◌≢◌, ℕ, zero, suc, ◌+◌, ◌<◌, ◌≤◌, length, Bool, true, false, List, [], ◌∷◌, ◌++◌, ◌⊎◌}
 use Rattle.varisat_theory.specs.Membership.{◌∈◌, ◌⊆◌, SameSet}
-use Rattle.varisat_theory.specs.Literals.{Literal, Clause, Assignment, variable_of, opposite, IsUnit, SatisfiesAll, MakesTrue, IsSatisfiable, IsSatisfiableWith}
+use Rattle.varisat_theory.specs.Literals.{Literal, Clause, Assignment, variable_of, opposite, value, IsUnit, SatisfiesAll, MakesTrue, IsSatisfiable, IsSatisfiableWith}
 use Rattle.varisat_theory.specs.Propagation.{Conflicts, Follows, IsFalse, HasFalse, LeavesOnly}
 use Rattle.varisat_theory.specs.Derivations.{Line, Add, Delete, Derives, Refutes}
 use Rattle.varisat_theory.specs.Held.{SameClauses, mentions, without}
 use Rattle.varisat_theory.specs.Analysis.{Implied}
-use Rattle.varisat_theory.specs.Renaming.{KeepsOpposites}
+use Rattle.varisat_theory.specs.Renaming.{KeepsOpposites, rename}
 use Rattle.varisat_theory.specs.Counted.{IsNew, DerivesBy, added}
-use Rattle.varisat_theory.specs.Searches.{KeptClause, Search, clauses_of, IsTautology, IsSettled, Fits, Covers, CoversBy}
-use Rattle.varisat_theory.specs.Outcomes.{Outcome, Unknown, Sat, Unsat, UnsatUnder, Proves, Steps, Loads, IsContradicted, Stands}
+use Rattle.varisat_theory.specs.Searches.{KeptClause, Search, clauses_of, IsTautology, IsSettled, Fits, Covers, CoversBy, IsLiteralOf}
+use Rattle.varisat_theory.specs.Outcomes.{Outcome, Unknown, Sat, Unsat, UnsatUnder, Proves, Steps, Loads, IsContradicted, Stands, MakesSteps, IsReached}
 
 -- 1. How parts join.
 
@@ -103,14 +103,14 @@ abbrev pub ContradictionIsFound : Type 0
 ContradictionIsFound = (s t : Search) → FollowsFrom s [] → Steps s t Unsat [] × Steps s t Unsat (Add [] ∷ [])
 
 -- each literal of the kept clauses is known or its opposite is, and none of the clauses is false
-abbrev pub IsModel : Search → List Literal → Type 0
-IsModel s known =
+abbrev pub IsSolution : Search → List Literal → Type 0
+IsSolution s known =
     (s.fixed ⊆ known) × (HasFalse (clauses_of s.kept) known → ⊥) × ((k : KeptClause) → k ∈ s.kept → (l : Literal) → l ∈ k.clause → (l ∈ known) ⊎ (opposite l ∈ known))
 
 -- a total assignment under which no kept clause is false satisfies all accepted clauses, and ends the step
 abbrev pub ModelIsFound : Type 0
 ModelIsFound =
-    ((s : Search) (known : List Literal) (a : Assignment) (P : List Clause) → IsModel s known → MakesTrue a known → Covers P s → SatisfiesAll a P) × ((s : Search) (known : List Literal) (a : Assignment) → IsModel s known → MakesTrue a known → Steps s s (Sat a) [])
+    ((s : Search) (known : List Literal) (a : Assignment) (P : List Clause) → IsSolution s known → MakesTrue a known → Covers P s → SatisfiesAll a P) × ((s : Search) (known : List Literal) (a : Assignment) → IsSolution s known → MakesTrue a known → Steps s s (Sat a) [])
 
 -- so does a core with which whatever fits conflicts
 abbrev pub CoreIsFound : Type 0
@@ -150,17 +150,56 @@ abbrev pub PartsJoinLoad : Type 0
 PartsJoinLoad =
     ((s t u : Search) (c : Clause) (v : Outcome) (lines : List Line) → Proves 0 s t [] → s.fixed ⊆ t.fixed → t.fixed ⊆ s.fixed → Loads t u c v lines → Loads s u c v lines) × ((s t u : Search) (c : Clause) (lines more : List Line) → Loads s t c Unknown lines → Proves 0 t u more → Loads s u c Unknown (lines ++ more))
 
--- 5. What follows for the accepted clauses.
+-- 5. What k steps give together.
 
--- A step keeps what a solver has of the accepted clauses.
+-- no step is made yet
+abbrev pub NoStepIsMade : Type 0
+NoStepIsMade = (s : Search) → MakesSteps 0 s s Unknown []
+
+-- one more step follows k that went on
+abbrev pub StepIsMade : Type 0
+StepIsMade =
+    (k : ℕ) (s t u : Search) (v : Outcome) (first second : List Line) → MakesSteps k s t Unknown first → Steps t u v second → MakesSteps (suc k) s u v (first ++ second)
+
+-- the lines of k steps
+abbrev pub joined : ℕ → (ℕ → List Line) → List Line
+joined zero lines = []
+joined (suc k) lines = joined k lines ++ lines k
+
+-- steps that go on, one after another
+abbrev pub StepsOfCall : Type 0
+StepsOfCall =
+    (k : ℕ) (s : ℕ → Search) (lines : ℕ → List Line) → ((i : ℕ) → i < k → Steps (s i) (s (suc i)) Unknown (lines i)) → MakesSteps k (s 0) (s k) Unknown (joined k lines)
+
+-- parts of which nothing counts may come before the steps, and after such as go on or find an assignment
+abbrev pub PartsJoinSteps : Type 0
+PartsJoinSteps =
+    ((k : ℕ) (s t u : Search) (v : Outcome) (first second : List Line) → Proves 0 s t first → MakesSteps k t u v second → MakesSteps k s u v (first ++ second)) × ((k : ℕ) (s t u : Search) (first second : List Line) → MakesSteps k s t Unknown first → Proves 0 t u second → MakesSteps k s u Unknown (first ++ second)) × ((k : ℕ) (s t u : Search) (found : Assignment) (first second : List Line) → MakesSteps k s t (Sat found) first → Proves 0 t u second → MakesSteps k s u (Sat found) (first ++ second))
+
+-- the lines of steps that come to Unsat refute what is held
+abbrev pub StepsRefute : Type 0
+StepsRefute = (k : ℕ) (held : List Clause) (s t : Search) (lines : List Line) → Fits held s → MakesSteps k s t Unsat lines → Refutes held lines
+
+-- 6. What follows for the accepted clauses.
+
+-- the first search, which keeps nothing, stands for no clauses
+abbrev pub FirstStands : Type 0
+FirstStands = (s : Search) → s ≡ record { kept = []; fixed = []; proved = [] } → Stands [] [] s Unknown
+
+-- A part of a step keeps what a solver has of the accepted clauses.
+abbrev pub PartStands : Type 0
+PartStands =
+    (n : ℕ) (P held : List Clause) (s t : Search) (lines : List Line) → Stands P held s Unknown → Proves n s t lines → (after : List Clause) × DerivesBy n held lines after × Stands P after t Unknown
+
+-- So does a step.
 abbrev pub StepStands : Type 0
 StepStands =
     (P held : List Clause) (s t : Search) (v : Outcome) (lines : List Line) → Stands P held s Unknown → Steps s t v lines → (after : List Clause) × DerivesBy 1 held lines after × Stands P after t v × (v ≡ Unknown → 1 ≤ added lines)
 
--- So does a part of one.
-abbrev pub PartStands : Type 0
-PartStands =
-    (n : ℕ) (P held : List Clause) (s t : Search) (lines : List Line) → Stands P held s Unknown → Proves n s t lines → (after : List Clause) × DerivesBy n held lines after × Stands P after t Unknown
+-- So do k steps.
+abbrev pub StepsStand : Type 0
+StepsStand =
+    (k : ℕ) (P held : List Clause) (s t : Search) (v : Outcome) (lines : List Line) → Stands P held s Unknown → MakesSteps k s t v lines → (after : List Clause) × DerivesBy k held lines after × Stands P after t v × (v ≡ Unknown → k ≤ added lines)
 
 -- Loading adds a clause to them.
 abbrev pub LoadStands : Type 0
@@ -176,36 +215,64 @@ VerdictsAreRight =
 abbrev pub CountedDerives : Type 0
 CountedDerives = (n : ℕ) (P : List Clause) (lines : List Line) (Q : List Clause) → DerivesBy n P lines Q → Derives P lines Q
 
--- the first search, which keeps nothing, stands for no clauses
-abbrev pub FirstStands : Type 0
-FirstStands = (s : Search) → s ≡ record { kept = []; fixed = []; proved = [] } → Stands [] [] s Unknown
-
--- 6. What the forms give above.
-
 -- each kept clause has a held one of its own
 abbrev pub KeptAreHeld : Type 0
 KeptAreHeld = (held : List Clause) (s : Search) → Fits held s → length s.kept ≤ length held
 
--- the lines of k steps
-abbrev pub joined : ℕ → (ℕ → List Line) → List Line
-joined zero lines = []
-joined (suc k) lines = joined k lines ++ lines k
-
--- k steps that go on count k times at most, and add k clauses at least
-abbrev pub StepsOfCall : Type 0
-StepsOfCall =
-    (k : ℕ) (s : ℕ → Search) (lines : ℕ → List Line) → ((i : ℕ) → i < k → Steps (s i) (s (suc i)) Unknown (lines i)) → Proves k (s 0) (s k) (joined k lines) × ((held : List Clause) → Fits held (s 0) → k ≤ added (joined k lines))
-
--- the lines of a step that comes to Unsat refute what is held
-abbrev pub UnsatRefutes : Type 0
-UnsatRefutes = (held : List Clause) (s t : Search) (lines : List Line) → Fits held s → Steps s t Unsat lines → Refutes held lines
+-- 7. What follows under other names.
 
 -- A part of a step keeps what is covered under other names too.
 abbrev pub NamesAreCovered : Type 0
 NamesAreCovered =
     (n : ℕ) (s t : Search) (lines : List Line) (to : Literal → Literal) (known : Literal → Bool) (P : List Clause) → KeepsOpposites to → Proves n s t lines → CoversBy to known P s → CoversBy to known P t
 
--- So does a variable's leaving, where its literal is known to be true for good once it is fixed.
+-- So do steps that go on.
+abbrev pub NamesStayCovered : Type 0
+NamesStayCovered =
+    (k : ℕ) (s t : Search) (lines : List Line) (to : Literal → Literal) (known : Literal → Bool) (P : List Clause) → KeepsOpposites to → MakesSteps k s t Unknown lines → CoversBy to known P s → CoversBy to known P t
+
+-- Loading a clause covers one more accepted clause under other names, of which the loaded one is a part.
+abbrev pub NamesAreLoaded : Type 0
+NamesAreLoaded =
+    (s t : Search) (c d : Clause) (lines : List Line) (to : Literal → Literal) (known : Literal → Bool) (P : List Clause) → KeepsOpposites to → Loads s t c Unknown lines → ((l : Literal) → l ∈ c → to l ∈ d) → CoversBy to known P s → CoversBy to known (P ++ d ∷ []) t
+
+-- A variable's leaving keeps it, where its literal is known to be true for good once it is fixed.
 abbrev pub DroppedAreCovered : Type 0
 DroppedAreCovered =
     (s t : Search) (to : Literal → Literal) (known more : Literal → Bool) (P : List Clause) → t.kept ≡ s.kept → ((l : Literal) → l ∈ s.fixed → (l ∈ t.fixed) ⊎ (more (to l) ≡ true)) → ((l : Literal) → known l ≡ true → more l ≡ true) → CoversBy to known P s → CoversBy to more P t
+
+-- Where steps found an assignment, the accepted clauses are satisfied by each assignment of the other names that gives the search's literals the values found, and makes true what is known.
+abbrev pub NamesAreSatisfied : Type 0
+NamesAreSatisfied =
+    (k : ℕ) (s t : Search) (found a : Assignment) (lines : List Line) (to : Literal → Literal) (known : Literal → Bool) (P : List Clause) → MakesSteps k s t (Sat found) lines → CoversBy to known P s → ((l : Literal) → IsLiteralOf s l → value a (to l) ≡ value found l) → ((l : Literal) → known l ≡ true → value a l ≡ true) → SatisfiesAll a P
+
+-- 8. What is held is reached from the accepted clauses.
+
+-- the accepted clauses themselves are reached
+abbrev pub AcceptedAreReached : Type 0
+AcceptedAreReached = (P : List Clause) → IsReached P P
+
+-- one more clause may be accepted, and is held
+abbrev pub OneMoreIsReached : Type 0
+OneMoreIsReached = (P held : List Clause) (c : Clause) → IsReached P held → IsReached (P ++ c ∷ []) (held ++ c ∷ [])
+
+-- lines may lead on
+abbrev pub DerivedAreReached : Type 0
+DerivedAreReached = (P held : List Clause) (lines : List Line) (after : List Clause) → IsReached P held → Derives held lines after → IsReached P after
+
+-- the same clauses may be accepted, and the same be held
+abbrev pub SameAreReached : Type 0
+SameAreReached =
+    ((P held other : List Clause) → IsReached P held → SameClauses held other → IsReached P other) × ((P Q held : List Clause) → SameClauses P Q → IsReached P held → IsReached Q held)
+
+-- what satisfies the accepted clauses satisfies what is held
+abbrev pub ReachedAreSatisfied : Type 0
+ReachedAreSatisfied = (P held : List Clause) (a : Assignment) → IsReached P held → SatisfiesAll a P → SatisfiesAll a held
+
+-- where propagation over what is held conflicts, some lines refute the accepted clauses
+abbrev pub ReachedAreRefuted : Type 0
+ReachedAreRefuted = (P held : List Clause) → IsReached P held → Conflicts held [] → (lines : List Line) × Refutes P lines
+
+-- under other names too what is held is reached
+abbrev pub RenamedAreReached : Type 0
+RenamedAreReached = (to : Literal → Literal) (P held : List Clause) → KeepsOpposites to → IsReached P held → IsReached (rename to P) (rename to held)

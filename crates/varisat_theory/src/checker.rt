@@ -1,4 +1,4 @@
-// A plain checker of proof lines: it keeps the present clauses in a list, and propagates anew for each line.
+//! A plain checker of proof lines: it keeps the present clauses in a list, and propagates anew for each line.
 ghost use Rattle.std.specs.Prelude.{◌≡◌, ◌<◌, ◌↔◌, length, map, slice_index_or, IfOk, IsTrue, MatchOption, [], true, false};
 ghost use Rattle.varisat_theory.specs.Checking.{IsAbsent, IsLineStatus, IsVerdict, clause_lists, line_of};
 ghost use Rattle.varisat_theory.specs.Derivations.{TakesOut};
@@ -69,7 +69,7 @@ fn place_of(present: &[Vec<u32>], clause: &[u32]) -> Option<usize>
     None
 }
 
-/// Takes out one present clause that is equal as a set, or answers that there is none.
+/// Takes out one present clause that is equal as a set, or returns false where there is none.
 fn take_out(present: &mut Vec<Vec<u32>>, clause: &[u32]) -> bool
     ensures taken { result ≡ true → TakesOut (clause_lists present.old.items) clause.now (clause_lists present.new.items) }
     ensures absent { result ≡ false → IsAbsent (clause_lists present.old.items) clause.now }

@@ -1,4 +1,4 @@
-// The laws, by subject: each is the contract of a function with an empty body.
+//! The laws, by subject: each is the contract of a function with an empty body.
 
 pub mod growth;
 pub mod held;

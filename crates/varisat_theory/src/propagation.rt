@@ -1,6 +1,6 @@
-// Unit propagation over plain lists: slow and easy to read.
+//! Unit propagation over plain lists: slow and easy to read.
 ghost use Rattle.std.specs.Prelude.{◌≡◌, ◌↔◌, IfOk, IsTrue};
-ghost use Rattle.varisat_theory.specs.Checking.{IsStatus, clause_lists};
+ghost use Rattle.varisat_theory.specs.Checking.{IsClauseStatus, clause_lists};
 ghost use Rattle.varisat_theory.specs.Literals.{opposite};
 ghost use Rattle.varisat_theory.specs.Membership.{◌∈◌};
 ghost use Rattle.varisat_theory.specs.Propagation.{Conflicts, Follows, HasClash};
@@ -20,7 +20,7 @@ pub enum ClauseStatus {
 
 /// The literal's opposite.
 #[tactic(auto, unfolding(crate::specs::Literals::opposite))]
-pub fn negated(literal: u32) -> u32
+pub fn opposite(literal: u32) -> u32
     ensures { result ≡ opposite literal }
 {
     if literal % 2 == 0 {
@@ -42,7 +42,7 @@ fn has_clash(known: &[u32]) -> bool
     ensures { IsTrue result ↔ HasClash known.now }
 {
     for l in known {
-        if holds(known, negated(*l)) {
+        if holds(known, opposite(*l)) {
             return true;
         }
     }
@@ -51,11 +51,11 @@ fn has_clash(known: &[u32]) -> bool
 
 /// Whether all literals of the clause, or all but one, are false.
 fn status_of(known: &[u32], clause: &[u32]) -> ClauseStatus
-    ensures { IsStatus known.now clause.now result }
+    ensures { IsClauseStatus known.now clause.now result }
 {
     let mut left: Option<u32> = None;
     for l in clause {
-        if !holds(known, negated(*l)) {
+        if !holds(known, opposite(*l)) {
             match left {
                 None => {
                     left = Some(*l);
@@ -109,7 +109,7 @@ pub fn follows(alloc: Global, clauses: &[Vec<u32>], clause: &[u32]) -> Result<bo
 {
     let mut base = Vec::new(alloc);
     for l in clause {
-        base.push(negated(*l))?;
+        base.push(opposite(*l))?;
     }
     let found = conflicts(alloc, clauses, &base)?;
     Ok(found)

@@ -1,4 +1,4 @@
-// Worked rows. Literals are written as signed variable numbers from 1.
+//! Worked rows. Literals are written as signed variable numbers from 1.
 use crate::checker::{PlainLine, PlainVerdict, check_lines};
 use crate::propagation::{conflicts, follows};
 use std::alloc::{AllocError, Global};

@@ -1,4 +1,4 @@
-// What stays where there is more.
+//! What stays where there is more.
 
 ghost use Rattle.varisat_theory.specs.Laws.{BeginningDerives, ConflictGrows, DerivationGrows, DerivationsJoin, FollowsGrows, MoreCovers, RefutationStays, UnitsAreKnown};
 

@@ -1,4 +1,4 @@
-// What depends on the held clauses alone, and not on their order or spelling.
+//! What depends on the held clauses alone, and not on their order or spelling.
 
 ghost use Rattle.varisat_theory.specs.Laws.{SameClausesAdd, SameClausesDelete, SameClausesDrop, SameClausesIsEquality, SameLinesDerive, SameLinesRefute};
 

@@ -1,4 +1,4 @@
-// What conflict analysis, minimization and cores rest on.
+//! What conflict analysis, minimization and cores rest on.
 
 ghost use Rattle.varisat_theory.specs.Laws.{CompletenessStays, CoreConflicts, CoreFails, CoreFollows, CoreOnExample, ImpliedFollows, ImpliedIsKnown, LearnedFollows, LearnedIsNew, LearnedOnExample, MinimizedFollows, ResolventFollows, ShorterFollows, TrailConflicts};
 

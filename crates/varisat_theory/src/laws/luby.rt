@@ -1,4 +1,4 @@
-// The Luby sequence and the restart points.
+//! The Luby sequence and the restart points.
 
 ghost use Rattle.varisat_theory.specs.Laws.{CallPoints, LubyIsDetermined, LubyRules, LubyStarts, RestartPoints, RestartsStart, SmallTermsSum, WalkIsLuby};
 

@@ -1,6 +1,6 @@
-// The rank of a trail, and the number of steps of a call.
+//! The rank of a trail, and the number of steps of a call.
 
-ghost use Rattle.varisat_theory.specs.Laws.{BoundIsAPower, CallIsBounded, DistinctIsShort, IntervalsAreBounded, RankIsBounded, RankRises, RisingIsShort, StepRaisesRank, UnitsStandFirst};
+ghost use Rattle.varisat_theory.specs.Laws.{BoundIsAPower, CallIsBounded, DistinctIsShort, IntervalsAreBounded, ProgressIsBounded, RankIsBounded, RankRises, RisingIsShort, StepRaisesRank, UnitsStandFirst};
 
 /// A trail's rank is below 2^(n+1).
 pub fn rank_is_bounded()
@@ -40,6 +40,11 @@ pub fn intervals_are_bounded()
 /// A call makes fewer than (n+2) * 2^(n+2) steps.
 pub fn call_is_bounded()
     ensures { CallIsBounded }
+{}
+
+/// So does a loop of steps that keeps its progress.
+pub fn progress_is_bounded()
+    ensures { ProgressIsBounded }
 {}
 
 /// That is at most 2^(2n+3).

@@ -1,4 +1,4 @@
-// What stays under other names for the variables.
+//! What stays under other names for the variables.
 
 ghost use Rattle.varisat_theory.specs.Laws.{ConflictIsNamedBack, ConflictIsRenamed, DerivationIsRenamed, FollowsIsRenamed, RefutationIsRenamed, SatisfactionIsRenamed};
 

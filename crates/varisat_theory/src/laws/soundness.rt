@@ -1,4 +1,4 @@
-// What propagation and derivations say of satisfying assignments, and the forms that they have.
+//! What propagation and derivations say of satisfying assignments, and the forms that they have.
 
 ghost use Rattle.varisat_theory.specs.Laws.{AnswersExclude, AssignedSatisfies, ConflictIsPropagation, ConflictIsSound, DerivationIsLineByLine, DerivationIsSound, FollowsEntails, PresentIsDetermined, RefutationIsSound, SaturationHasNoConflict, SetsAreSatisfiedAlike};
 

@@ -1,6 +1,6 @@
-// What the lines of a step, of a call and of loading do to the clauses that a proof holds.
+//! What the lines of a step, of a call and of loading do to the clauses that a proof holds, and what that says of the accepted ones.
 
-ghost use Rattle.varisat_theory.specs.StepLaws.{PartsJoin, PartsJoinStep, StepIsPart, MovesProve, UnitIsProved, SatisfiedIsDeleted, LearnedIsDeleted, ClauseIsShortened, ClauseIsLearned, EmptyIsAdded, ModelIsFound, CoreIsFound, LoadedIsKept, LoadedIsUnit, LoadedIsSettled, LoadedIsDeleted, LoadedIsContradicted, StepStands, PartStands, LoadStands, VerdictsAreRight, CountedDerives, FirstStands, UnitsAreProved, VariableIsDropped, FreshIsNew, KeptAreHeld, StepsOfCall, UnsatRefutes, NamesAreCovered, DroppedAreCovered, ContradictionIsFound, PartsJoinLoad};
+ghost use Rattle.varisat_theory.specs.StepLaws.{PartsJoin, PartsJoinStep, StepIsPart, MovesProve, UnitIsProved, UnitsAreProved, SatisfiedIsDeleted, LearnedIsDeleted, ClauseIsShortened, VariableIsDropped, ClauseIsLearned, FreshIsNew, EmptyIsAdded, ContradictionIsFound, ModelIsFound, CoreIsFound, LoadedIsKept, LoadedIsUnit, LoadedIsSettled, LoadedIsDeleted, LoadedIsContradicted, PartsJoinLoad, NoStepIsMade, StepIsMade, StepsOfCall, PartsJoinSteps, StepsRefute, FirstStands, PartStands, StepStands, StepsStand, LoadStands, VerdictsAreRight, CountedDerives, KeptAreHeld, NamesAreCovered, NamesStayCovered, NamesAreLoaded, DroppedAreCovered, NamesAreSatisfied, AcceptedAreReached, OneMoreIsReached, DerivedAreReached, SameAreReached, ReachedAreSatisfied, ReachedAreRefuted, RenamedAreReached};
 
 /// Two parts of a step in turn are one.
 pub fn parts_join()
@@ -27,6 +27,11 @@ pub fn unit_is_proved()
     ensures { UnitIsProved }
 {}
 
+/// Literals of level 0 are proved one after another.
+pub fn units_are_proved()
+    ensures { UnitsAreProved }
+{}
+
 /// A satisfied clause is deleted.
 pub fn satisfied_is_deleted()
     ensures { SatisfiedIsDeleted }
@@ -42,14 +47,29 @@ pub fn clause_is_shortened()
     ensures { ClauseIsShortened }
 {}
 
+/// A variable leaves the search.
+pub fn variable_is_dropped()
+    ensures { VariableIsDropped }
+{}
+
 /// A clause is learned.
 pub fn clause_is_learned()
     ensures { ClauseIsLearned }
 {}
 
+/// A fresh clause is new.
+pub fn fresh_is_new()
+    ensures { FreshIsNew }
+{}
+
 /// The empty clause is added.
 pub fn empty_is_added()
     ensures { EmptyIsAdded }
+{}
+
+/// A contradiction is found.
+pub fn contradiction_is_found()
+    ensures { ContradictionIsFound }
 {}
 
 /// A model is found.
@@ -87,17 +107,57 @@ pub fn loaded_is_contradicted()
     ensures { LoadedIsContradicted }
 {}
 
-/// A step keeps what a solver has.
-pub fn step_stands()
-    ensures { StepStands }
+/// Parts may come before and after loading.
+pub fn parts_join_load()
+    ensures { PartsJoinLoad }
 {}
 
-/// So does a part of one.
+/// No step is made yet.
+pub fn no_step_is_made()
+    ensures { NoStepIsMade }
+{}
+
+/// One more step is made.
+pub fn step_is_made()
+    ensures { StepIsMade }
+{}
+
+/// Steps that go on, one after another, are made.
+pub fn steps_of_call()
+    ensures { StepsOfCall }
+{}
+
+/// Parts may come before steps, and after such as go on or find an assignment.
+pub fn parts_join_steps()
+    ensures { PartsJoinSteps }
+{}
+
+/// The lines of steps to Unsat refute.
+pub fn steps_refute()
+    ensures { StepsRefute }
+{}
+
+/// The first search stands for no clauses.
+pub fn first_stands()
+    ensures { FirstStands }
+{}
+
+/// A part of a step keeps what a solver has.
 pub fn part_stands()
     ensures { PartStands }
 {}
 
-/// So does loading.
+/// So does a step.
+pub fn step_stands()
+    ensures { StepStands }
+{}
+
+/// So do k steps.
+pub fn steps_stand()
+    ensures { StepsStand }
+{}
+
+/// Loading keeps it for one more accepted clause.
 pub fn load_stands()
     ensures { LoadStands }
 {}
@@ -112,39 +172,9 @@ pub fn counted_derives()
     ensures { CountedDerives }
 {}
 
-/// The first search stands for no clauses.
-pub fn first_stands()
-    ensures { FirstStands }
-{}
-
-/// Literals of level 0 are proved one after another.
-pub fn units_are_proved()
-    ensures { UnitsAreProved }
-{}
-
-/// A variable leaves the search.
-pub fn variable_is_dropped()
-    ensures { VariableIsDropped }
-{}
-
-/// A fresh clause is new.
-pub fn fresh_is_new()
-    ensures { FreshIsNew }
-{}
-
 /// Each kept clause has a held one of its own.
 pub fn kept_are_held()
     ensures { KeptAreHeld }
-{}
-
-/// The steps of a call.
-pub fn steps_of_call()
-    ensures { StepsOfCall }
-{}
-
-/// The lines of a step to Unsat refute.
-pub fn unsat_refutes()
-    ensures { UnsatRefutes }
 {}
 
 /// Parts keep what is covered under other names.
@@ -152,17 +182,57 @@ pub fn names_are_covered()
     ensures { NamesAreCovered }
 {}
 
+/// So do steps that go on.
+pub fn names_stay_covered()
+    ensures { NamesStayCovered }
+{}
+
+/// Loading a clause covers one under other names.
+pub fn names_are_loaded()
+    ensures { NamesAreLoaded }
+{}
+
 /// So does a variable's leaving.
 pub fn dropped_are_covered()
     ensures { DroppedAreCovered }
 {}
 
-/// A contradiction is found.
-pub fn contradiction_is_found()
-    ensures { ContradictionIsFound }
+/// What steps found satisfies the clauses under other names.
+pub fn names_are_satisfied()
+    ensures { NamesAreSatisfied }
 {}
 
-/// Parts may come before and after loading.
-pub fn parts_join_load()
-    ensures { PartsJoinLoad }
+/// The accepted clauses are reached.
+pub fn accepted_are_reached()
+    ensures { AcceptedAreReached }
+{}
+
+/// One more accepted clause is reached.
+pub fn one_more_is_reached()
+    ensures { OneMoreIsReached }
+{}
+
+/// What lines derive is reached.
+pub fn derived_are_reached()
+    ensures { DerivedAreReached }
+{}
+
+/// The same clauses are reached, and from the same.
+pub fn same_are_reached()
+    ensures { SameAreReached }
+{}
+
+/// What is reached is satisfied.
+pub fn reached_are_satisfied()
+    ensures { ReachedAreSatisfied }
+{}
+
+/// Where what is reached conflicts, lines refute.
+pub fn reached_are_refuted()
+    ensures { ReachedAreRefuted }
+{}
+
+/// What is reached is so under other names.
+pub fn renamed_are_reached()
+    ensures { RenamedAreReached }
 {}

@@ -3,7 +3,7 @@ use Rattle.varisat_theory.specs.Membership.{◌∈◌}
 use Rattle.varisat_theory.specs.Checking.{clause_lists}
 use Rattle.varisat_theory.specs.Propagation.{Clash}
 use Rattle.varisat_theory.proofs.Scans.{answers_true, answers_false, refused, granted, list_in, list_at, lists_short}
-use Rattle.varisat_theory.proofs.Rounds.{reaches_false, reaches_end, round_pass, round_write, quiet_known, quiet_open, leaves_along, all_complete}
+use Rattle.varisat_theory.proofs.PropagationRounds.{reaches_false, reaches_end, round_pass, round_write, quiet_known, quiet_open, leaves_along, all_complete}
 use Rattle.varisat_theory.proofs.propagation.conflicts.Goals as goal
 use Rattle.varisat_theory.proofs.propagation.conflicts.Goals.{in-Leaves+then-not-holds+in_ok-push-in-Leaves, in-Leaves+else-not-holds, in-Open}
 

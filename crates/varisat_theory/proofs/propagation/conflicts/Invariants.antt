@@ -1,6 +1,6 @@
 use Rattle.std.proofs.Common.{take}
 use Rattle.varisat_theory.specs.Checking.{clause_lists}
-use Rattle.varisat_theory.proofs.Rounds.{Reaches, Round, unknown}
+use Rattle.varisat_theory.proofs.PropagationRounds.{Reaches, Round, unknown}
 use Rattle.varisat_theory.proofs.propagation.conflicts.Given as goal
 
 abbrev pub invariant-loop-clause : goal.invariant-loop-clause

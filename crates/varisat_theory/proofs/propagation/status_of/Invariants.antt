@@ -1,4 +1,4 @@
-use Rattle.varisat_theory.proofs.Status.{Seen}
+use Rattle.varisat_theory.proofs.ClauseStatuses.{Seen}
 use Rattle.varisat_theory.proofs.propagation.status_of.Given as goal
 
 abbrev pub invariant-loop-l : goal.invariant-loop-l

@@ -1,4 +1,4 @@
-use Rattle.varisat_theory.proofs.Points.{units_first, units_below, units_raised}
+use Rattle.varisat_theory.proofs.RestartPoints.{units_first, units_below, units_raised}
 use Rattle.varisat_theory.proofs.laws.rank.units_stand_first.Goals as goal
 
 pub returns : goal.returns

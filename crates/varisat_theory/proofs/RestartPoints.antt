@@ -3,10 +3,10 @@ use Rattle.std.proofs.Common.{◌≡◌, ℕ, zero, suc, ◌+◌, ◌-◌, ◌*�
 use Rattle.std.proofs.lemmas.List.{length-replicate}
 use Rattle.varisat_theory.specs.Rank.{rank, with_units}
 use Rattle.varisat_theory.specs.Luby.{luby, sum_from, saturated, restart_point, walk_at}
-use Rattle.varisat_theory.specs.Steps.{call_point}
+use Rattle.varisat_theory.specs.CallBounds.{CallSetting, call_point}
 use Rattle.varisat_theory.proofs.Ranks.{rank_below, rank_raised}
 use Rattle.varisat_theory.proofs.Luby.{sum_from-split}
-use Rattle.varisat_theory.proofs.Walk.{walk-luby}
+use Rattle.varisat_theory.proofs.LubyWalk.{walk-luby}
 
 saturated_sum : (x y : ℕ) → saturated (x + y) ≡ saturated (saturated x + saturated y)
 saturated_sum x y = omega arith
@@ -42,17 +42,20 @@ point_rises scale i h l =
     let o = ap (λ t. scale * luby t) (one_more i) in
     omega (arith, m, e, o)
 
-pub call_point_zero : (first scale j : ℕ) → call_point first scale j 0 ≡ saturated first
-call_point_zero first scale j = let e : first + scale * 0 ≡ first = omega arith in ap saturated e
+pub call_point_zero : (c : CallSetting) → call_point c 0 ≡ saturated c.first
+call_point_zero c = let e : c.first + c.scale * 0 ≡ c.first = omega arith in ap saturated e
 
-pub call_point_next : (first scale j i : ℕ) → call_point first scale j (suc i) ≡ saturated (call_point first scale j i + saturated (scale * luby (suc j + i)))
-call_point_next first scale j i =
-    let a = scaled_next scale (suc j) i in
-    let b : first + scale * sum_from luby (suc j) (suc i) ≡ (first + scale * sum_from luby (suc j) i) + scale * luby (suc j + i) = omega (arith, a) in
-    ap saturated b ∙ saturated_sum (first + scale * sum_from luby (suc j) i) (scale * luby (suc j + i))
+pub call_point_next : (c : CallSetting) (i : ℕ) → call_point c (suc i) ≡ saturated (call_point c i + saturated (c.scale * luby (suc c.term + i)))
+call_point_next c i =
+    let a = scaled_next c.scale (suc c.term) i in
+    let b : c.first + c.scale * sum_from luby (suc c.term) (suc i) ≡ (c.first + c.scale * sum_from luby (suc c.term) i) + c.scale * luby (suc c.term + i) = omega (arith, a) in
+    ap saturated b ∙ saturated_sum (c.first + c.scale * sum_from luby (suc c.term) i) (c.scale * luby (suc c.term + i))
 
-pub call_point_first : (scale i : ℕ) → call_point 0 scale 0 i ≡ restart_point scale i
-call_point_first scale i = let e : 0 + scale * sum_from luby 1 i ≡ scale * sum_from luby 1 i = omega arith in ap saturated e
+pub call_point_first : (c : CallSetting) (i : ℕ) → c.first ≡ 0 → c.term ≡ 0 → call_point c i ≡ restart_point c.scale i
+call_point_first c i f t =
+    let a = ap (λ j. c.scale * sum_from luby (suc j) i) t in
+    let e : c.first + c.scale * sum_from luby (suc c.term) i ≡ c.scale * sum_from luby 1 i = omega (arith, a, f) in
+    ap saturated e
 
 replicate_sum : (u v : ℕ) → replicate u true ++ replicate v true ≡ replicate (u + v) true
 replicate_sum zero v = let e : v ≡ 0 + v = omega arith in ap (λ n. replicate n true) e

@@ -5,7 +5,7 @@ use Rattle.varisat_theory.specs.Literals.{Literal, Clause, opposite}
 use Rattle.varisat_theory.specs.Propagation.{Conflicts, FalseClause, Propagate, IsFalse, LeavesOnly, HasClash, IsComplete}
 use Rattle.varisat_theory.proofs.Members.{∈-or_not, ∈-append_cases, ∈-append_left, ∈-append_right}
 use Rattle.varisat_theory.proofs.Values.{opposite_twice}
-use Rattle.varisat_theory.proofs.Forms.{never_its_own}
+use Rattle.varisat_theory.proofs.ConflictForms.{never_its_own}
 use Rattle.varisat_theory.proofs.Growth.{conflicts_known}
 use Rattle.varisat_theory.proofs.Places.{∈-take_more, ∈-take_all}
 use Rattle.varisat_theory.proofs.Saturated.{saturated_no_conflict}

@@ -25,8 +25,8 @@ pub fn search<A: Allocator + Copy>(ctx: &mut Context<A>) -> Result<bool, AllocEr
     ensures found { IfOk result (λ sat. (P : List Clause) → Holds P (view ctx.old) → MatchBool sat
         (Holds P (view ctx.new) × SatisfiesAll (assignment_of (view ctx.new)) P)
         (IsSatisfiable P → ⊥)) }
-    ensures lines { IfOk result (λ sat. (k : ℕ) × (lines : List Line) × ((P held : List Clause) → Stands P held (search_of (view ctx.old) []) Unknown →
-        (after : List Clause) × DerivesBy k held lines after × Stands P after (search_of (view ctx.new) []) (outcome_of (view ctx.new) (verdict_of sat)))) }
+    ensures lines { IfOk result (λ sat. (k : ℕ) × (lines : List Line) × ((P held : List Clause) → Stands P held (search_of (view ctx.old)) Unknown →
+        (after : List Clause) × DerivesBy k held lines after × Stands P after (search_of (view ctx.new)) (outcome_of (view ctx.new) (verdict_of sat)))) }
 {
     'steps: loop {
         conflict_step(ctx)?;

@@ -8,15 +8,16 @@ use Rattle.varisat_theory.proofs.Members.{∈-append_left, ∈-append_right}
 use Rattle.varisat_formula.specs.Numbers.{polarity_of}
 use Rattle.varisat_prop.specs.declared.prop.graph.Reason.{Reason}
 use Rattle.varisat_prop.specs.declared.prop.graph.Reason.TheVariants as reason
+use Rattle.varisat_prop.specs.Stored.{IsPlace}
 use Rattle.varisat_prop.specs.View.{View, IsTrueIn, clause_at, literal_at, decision_at, node_at, Implies, IsReason, WellFormed, IsFixed, Fits, Grows}
 use Rattle.varisat_prop.specs.Changes.{enqueued, decided_on}
 use Rattle.varisat_prop.proofs.Extend.{ext, ext-length, literal-old, literal-new, node-old, node-new, node-other, fresh, true-old, each-place, place-cases, Levels, ext-well, get_or-last}
-use Rattle.varisat_prop.proofs.Growth.{reordered-refl}
+use Rattle.varisat_prop.proofs.Stored.{reordered-refl}
 
 -- why a literal may be enqueued without a decision
 abbrev pub MayImply : View → Literal → Reason → Type 0
 MayImply s l reason.Unit = s.decisions ≡ []
-MayImply s l (reason.Long i) = (i < length s.clauses) × ((others : Clause) × (clause_at s i ≡ l ∷ others) × ((m : Literal) → m ∈ others → IsTrueIn s (opposite m)))
+MayImply s l (reason.Long i) = IsPlace s.clauses i × ((others : Clause) × (clause_at s i ≡ l ∷ others) × ((m : Literal) → m ∈ others → IsTrueIn s (opposite m)))
 
 module _ (s : View) (l : Literal) (r : Reason) (w : WellFormed s) (inside : variable_of l < length s.values) (free : get_or s.values (variable_of l) None ≡ None) where
   abbrev t : View
@@ -77,6 +78,7 @@ module _ (s : View) (l : Literal) (r : Reason) (ds : List ℕ) (w : WellFormed s
     clauses = reordered-refl s.clauses;
     count = length-set s.values (variable_of l) (Some (polarity_of l));
     trail_more = (l ∷ [], refl);
+    head = omega arith;
     decisions_more = (more, f);
     nodes = node-old s l r ds w inside free;
     fits = λ held. ext-fits held (λ a b. absurd (n a b));

@@ -90,10 +90,12 @@ module _ (s : View) (l : Literal) (r : Reason) (ds : List ℕ) (w : WellFormed s
     nodes_are = length-set s.nodes (variable_of l) new_node ∙ w.nodes_are ∙ sym (length-set s.values (variable_of l) (Some (polarity_of l)));
     small = let e = length-set s.values (variable_of l) (Some (polarity_of l)) in let f = w.small in omega (arith, e, f);
     in_range = λ c h m i. let e = length-set s.values (variable_of l) (Some (polarity_of l)) in let f = w.in_range c h m i in omega (arith, e, f);
+    places = w.places;
     several = w.several;
     distinct = w.distinct;
     is_true = each-place (λ k. IsTrueIn ext (literal_at ext k)) (λ k h. subst (IsTrueIn ext) (sym (literal-old k h)) (true-old (literal_at s k) (w.is_true k h))) (subst (IsTrueIn ext) (sym literal-new) true-new);
     stands = λ m h. let n = ext-length in ⊎_elim (λ e. (length s.trail, omega (arith, n), literal-new ∙ sym e)) (λ t. let (j, a, e) = w.stands m t in (j, omega (arith, a, n), literal-old j a ∙ e)) (true-cases m h);
+    head = let n = ext-length in let q = w.head in omega (arith, n, q);
     depth_is = each-place (λ k. (node_at ext k).depth ≡ suc k) (λ k h. ap (λ n. n.depth) (node-old k h) ∙ w.depth_is k h) (ap (λ n. n.depth) node-new);
     decided = d.decided;
     rising = d.rising;

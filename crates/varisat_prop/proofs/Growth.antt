@@ -1,49 +1,20 @@
 -- How a search goes on.
-use Rattle.std.proofs.Common.{◌≡◌, ℕ, zero, suc, ◌<◌, ◌≤◌, Bool, List, [], ◌∷◌, ◌++◌, length, get_or, map, refl, sym, ap, ◌∙◌, subst, arith, append_assoc, length-append}
+use Rattle.std.proofs.Common.{◌≡◌, ℕ, zero, suc, ◌<◌, ◌≤◌, Bool, List, [], ◌∷◌, ◌++◌, length, get_or, map, refl, sym, ap, ◌∙◌, arith, append_assoc, length-append}
 use Rattle.std.proofs.lemmas.List.{get_or_append_left, map-append}
-use Rattle.varisat_theory.specs.Membership.{◌∈◌, SameSet}
-use Rattle.varisat_theory.specs.Literals.{Literal, Clause}
-use Rattle.varisat_theory.proofs.Places.{∈-get_or, place_in}
-use Rattle.varisat_prop.specs.View.{View, literal_at, node_of, is_implied, kinds, AreReordered, Grows}
+use Rattle.varisat_theory.specs.Literals.{Literal}
+use Rattle.varisat_prop.specs.View.{View, literal_at, node_of, is_implied, kinds, Grows}
+use Rattle.varisat_prop.proofs.Stored.{reordered-refl, reordered-trans}
 
 pub append-nil : {X : Type 0} (xs : List X) → xs ++ [] ≡ xs
 append-nil [] = refl
 append-nil (x ∷ xs) = ap (λ ys. x ∷ ys) (append-nil xs)
-
-pub same-self : {X : Type 0} (xs : List X) → SameSet xs xs
-same-self xs = ((λ x i. i), (λ x i. i))
-
-pub same-trans : {X : Type 0} (xs ys zs : List X) → SameSet xs ys → SameSet ys zs → SameSet xs zs
-same-trans xs ys zs a b = ((λ x i. b.0 x (a.0 x i)), (λ x i. a.1 x (b.1 x i)))
-
-pub reordered-refl : (P : List Clause) → AreReordered P P
-reordered-refl P = record { count = refl; same = λ i h. same-self (get_or P i []) }
-
-pub reordered-trans : (P Q R : List Clause) → AreReordered P Q → AreReordered Q R → AreReordered P R
-reordered-trans P Q R a b = record {
-  count = b.count ∙ a.count;
-  same = λ i h. same-trans (get_or R i []) (get_or Q i []) (get_or P i []) (b.same i (let n = a.count in omega (arith, h, n))) (a.same i h);
-}
-
--- each clause is an old one as a set
-pub reordered-old : (P Q : List Clause) → AreReordered P Q → (c : Clause) → c ∈ Q → (d : Clause) × (d ∈ P) × SameSet c d
-reordered-old P Q a c h =
-    let (i, l, e) = place_in c Q [] h in
-    let l' : i < length P = let n = a.count in omega (arith, l, n) in
-    (get_or P i [], ∈-get_or P i [] l', subst (λ x. SameSet x (get_or P i [])) e (a.same i l'))
-
--- each old clause is one as a set
-pub reordered-new : (P Q : List Clause) → AreReordered P Q → (c : Clause) → c ∈ P → (d : Clause) × (d ∈ Q) × SameSet d c
-reordered-new P Q a c h =
-    let (i, l, e) = place_in c P [] h in
-    let l' : i < length Q = let n = a.count in omega (arith, l, n) in
-    (get_or Q i [], ∈-get_or Q i [] l', subst (λ x. SameSet (get_or Q i []) x) e (a.same i l))
 
 pub grows-refl : (s : View) → Grows s s
 grows-refl s = record {
   clauses = reordered-refl s.clauses;
   count = refl;
   trail_more = ([], sym (append-nil s.trail));
+  head = omega arith;
   decisions_more = ([], sym (append-nil s.decisions));
   nodes = λ k h. refl;
   fits = λ held f. f;
@@ -57,6 +28,7 @@ grows-trans s t u g h = record {
   clauses = reordered-trans s.clauses t.clauses u.clauses g.clauses h.clauses;
   count = h.count ∙ g.count;
   trail_more = (g.trail_more.0 ++ h.trail_more.0, h.trail_more.1 ∙ ap (λ x. x ++ h.trail_more.0) g.trail_more.1 ∙ append_assoc s.trail g.trail_more.0 h.trail_more.0);
+  head = let a = g.head in let b = h.head in omega (arith, a, b);
   decisions_more = (g.decisions_more.0 ++ h.decisions_more.0, h.decisions_more.1 ∙ ap (λ x. x ++ h.decisions_more.0) g.decisions_more.1 ∙ append_assoc s.decisions g.decisions_more.0 h.decisions_more.0);
   nodes = λ k l. let n = grows-longer s t g in h.nodes k (omega (arith, l, n)) ∙ g.nodes k l;
   fits = λ held f. h.fits held (g.fits held f);

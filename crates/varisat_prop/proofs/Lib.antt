@@ -1,4 +1,6 @@
 pub mod Clauses
+pub mod Stored
+pub mod Entries
 pub mod Lits
 pub mod Distinct
 pub mod Fronted

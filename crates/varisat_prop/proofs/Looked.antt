@@ -1,21 +1,23 @@
 -- What a look at a clause shows, and what looks at all clauses show.
-use Rattle.std.proofs.Common.{◌≡◌, ◌≢◌, ℕ, ◌+◌, ◌<◌, ◌≤◌, Bool, true, false, Option, Some, None, List, [], ◌∷◌, ◌++◌, length, get_or, set, ⊎_elim, refl, sym, ap, ◌∙◌, subst, arith, below_more, get_or-set_same, length-set}
+use Rattle.std.proofs.Common.{◌≡◌, ◌≢◌, ℕ, ◌+◌, ◌<◌, ◌≤◌, Bool, true, false, Option, Some, None, List, [], ◌∷◌, ◌++◌, length, get_or, ⊎_elim, refl, sym, ap, ◌∙◌, subst, arith, below_more}
 use Rattle.std.specs.List.{swap}
 use Rattle.varisat_theory.specs.Membership.{◌∈◌, IsDistinct}
 use Rattle.varisat_theory.specs.Literals.{Literal, Clause, variable_of, opposite}
-use Rattle.varisat_theory.specs.Propagation.{IsFalse, LeavesOnly, IsComplete}
+use Rattle.varisat_theory.specs.Propagation.{IsFalse, IsComplete}
 use Rattle.varisat_theory.proofs.Places.{∈-get_or, place_in}
 use Rattle.varisat_theory.proofs.Members.{equal_or_not}
 use Rattle.varisat_prop.specs.declared.prop.graph.Reason.TheVariants as reason
 use Rattle.varisat_prop.specs.declared.prop.propagation.Status.TheVariants as status
 use Rattle.varisat_prop.specs.declared.prop.propagation.Look.TheVariants as look
-use Rattle.varisat_prop.specs.View.{View, IsTrueIn, clause_at, node_at, Implies, IsReason, WellFormed}
+use Rattle.varisat_prop.specs.Stored.{StoredClause, literals_of, IsPlace, no_clause, stored_at, literals_at, with_literals, AreRising, AreNumbered}
+use Rattle.varisat_prop.specs.View.{View, kept, IsTrueIn, clause_at, node_at, Implies, IsReason, WellFormed}
+use Rattle.varisat_prop.proofs.Stored.{kept-at, from-literals, stored-found, reordered-place, with-same}
 use Rattle.varisat_prop.specs.Changes.{enqueued}
 use Rattle.varisat_prop.specs.Looks.{Propagates, IsFalseAt, IsStatus, IsQuiet, IsLook}
 use Rattle.varisat_prop.proofs.Lits.{made-none, made-clash}
 use Rattle.varisat_prop.proofs.Distinct.{distinct-places}
 use Rattle.varisat_prop.proofs.Growth.{grows-refl, grows-trans, grows-longer}
-use Rattle.varisat_prop.proofs.Reordered.{with_swapped, swapped, is-fronted, swapped-well, swapped-grows, trail-short}
+use Rattle.varisat_prop.proofs.Reordered.{with_swapped, swapped, swapped-reordered, is-fronted, swapped-well, swapped-grows, trail-short}
 use Rattle.varisat_prop.proofs.Extend.{ext-length}
 use Rattle.varisat_prop.proofs.Enqueued.{MayImply, enqueued-well, ext-grows}
 
@@ -57,7 +59,7 @@ quiet-true s c p w (a, n, h) t = record {
 }
 
 -- the literal that a clause leaves becomes true
-module _ (s : View) (i p : ℕ) (w : WellFormed s) (a : i < length s.clauses) (st : IsStatus s.values (clause_at s i) (status.Leaves p)) (n : IsTrueIn s (get_or (clause_at s i) p 0) → ⊥) where
+module _ (s : View) (i p : ℕ) (w : WellFormed s) (a : IsPlace s.clauses i) (st : IsStatus s.values (clause_at s i) (status.Leaves p)) (n : IsTrueIn s (get_or (clause_at s i) p 0) → ⊥) where
   abbrev c : Clause
   c = clause_at s i
 
@@ -79,7 +81,7 @@ module _ (s : View) (i p : ℕ) (w : WellFormed s) (a : i < length s.clauses) (s
   u = with_swapped s i p w a st.0 unused
 
   pub inside : variable_of l < length s.values
-  inside = w.in_range c (∈-get_or s.clauses i [] a) l (∈-get_or c p 0 st.0)
+  inside = w.in_range c (kept-at s.clauses i a) l (∈-get_or c p 0 st.0)
 
   pub free : get_or s.values (variable_of l) None ≡ None
   free = made-none s.values l n st.1
@@ -87,8 +89,8 @@ module _ (s : View) (i p : ℕ) (w : WellFormed s) (a : i < length s.clauses) (s
   may : MayImply u l (reason.Long i)
   may =
       let f = is-fronted s i p w a st.0 unused in
-      let e = length-set s.clauses i (swapped s i p w a st.0 unused) in
-      (omega (arith, a, e), (f.others, get_or-set_same s.clauses i (swapped s i p w a st.0 unused) [] a ∙ f.first, λ m h. let (j, b, d, g) = f.elsewhere m h in subst (λ x. IsTrueIn s (opposite x)) g (st.2 j b d)))
+      let q = swapped-reordered s i p w a st.0 unused in
+      (reordered-place s.clauses u.clauses i q a, (f.others, with-same s.clauses i (swapped s i p w a st.0 unused) a ∙ f.first, λ m h. let (j, b, d, g) = f.elsewhere m h in subst (λ x. IsTrueIn s (opposite x)) g (st.2 j b d)))
 
   pub look-implied : IsLook s (enqueued u l (reason.Long i)) i look.Implied
   look-implied =
@@ -107,11 +109,19 @@ module _ (s : View) (i p : ℕ) (w : WellFormed s) (a : i < length s.clauses) (s
       nil (x ∷ xs) = ap (λ ys. x ∷ ys) (nil xs)
 
 -- all clauses are quiet
-pub complete-quiet : (P : List Clause) (known : List Literal) → ((k : ℕ) → k < length P → IsQuiet known (get_or P k [])) → IsComplete P known
+pub complete-quiet : (P : List Clause) (known : List Literal) → ((c : Clause) → c ∈ P → IsQuiet known c) → IsComplete P known
 complete-quiet P known q = record {
-  no_false = λ (c, h, f). let (i, a, e) = place_in c P [] h in (q i a).not_false (subst (IsFalse known) (sym e) f);
-  closed = λ c l h k u. let (i, a, e) = place_in c P [] h in (q i a).closed l (subst (λ d. l ∈ d) (sym e) k) (subst (λ d. LeavesOnly known d l) (sym e) u);
+  no_false = λ (c, h, f). (q c h).not_false f;
+  closed = λ c l h k u. (q c h).closed l k u;
 }
+
+-- where the places are those below the length, each clause is at one of them
+at-places : (ks : List StoredClause) (n : ℕ) (Q : Clause → Type 0) → AreRising ks → AreNumbered ks → length ks ≤ n → ((p : ℕ) → p < n → Q (literals_at ks p)) → (c : Clause) → c ∈ literals_of ks → Q c
+at-places ks n Q r m l h c i =
+    let (k, j, e) = from-literals ks c i in
+    let (p, a, f) = place_in k ks no_clause j in
+    let g : stored_at ks p ≡ k = ap (stored_at ks) (sym (m p a) ∙ ap (λ x. x.place) f) ∙ stored-found ks r k j in
+    subst Q (ap (λ x. x.literals) g ∙ e) (h p (omega (arith, a, l)))
 
 pub propagates-refl : (s : View) → WellFormed s → Propagates s s
 propagates-refl s w = record { well = w; grows = grows-refl s; decisions = refl }
@@ -145,26 +155,65 @@ scan-quiet s t u changed i c (e, q) = subst (λ x. Scan s x changed (i + 1)) (sy
   quiet = λ f. below_more (λ k. IsQuiet t.trail (clause_at t k)) i (c.quiet f) q;
 }
 
-pub scan-end : (s t : View) (i : ℕ) → Scan s t false i → length t.clauses ≤ i → IsComplete t.clauses t.trail
-scan-end s t i c h = complete-quiet t.clauses t.trail (λ k l. c.quiet refl k (omega (arith, l, h)))
+pub scan-end : (s t : View) (i : ℕ) → Scan s t false i → AreNumbered t.clauses → length t.clauses ≤ i → IsComplete (kept t) t.trail
+scan-end s t i c m h = complete-quiet (kept t) t.trail (at-places t.clauses i (IsQuiet t.trail) c.propagates.well.places m h (c.quiet refl))
+
+-- then the queue is at its end
+abbrev pub ended : View → View
+ended t = record t { queue_head = length t.trail }
+
+pub propagates-ended : (s t : View) → Propagates s t → Propagates s (ended t)
+propagates-ended s t p =
+    let w = p.well in
+    let g = p.grows in
+    record {
+      well = record {
+        nodes_are = w.nodes_are;
+        small = w.small;
+        places = w.places;
+        in_range = w.in_range;
+        several = w.several;
+        distinct = w.distinct;
+        is_true = w.is_true;
+        stands = w.stands;
+        head = omega arith;
+        depth_is = w.depth_is;
+        decided = w.decided;
+        rising = w.rising;
+        levels_to = w.levels_to;
+        levels_up = w.levels_up;
+        levels_down = w.levels_down;
+        reason_is = w.reason_is;
+      };
+      grows = record {
+        clauses = g.clauses;
+        count = g.count;
+        trail_more = g.trail_more;
+        head = let a = g.head in let b = w.head in omega (arith, a, b);
+        decisions_more = g.decisions_more;
+        nodes = g.nodes;
+        fits = λ held f. let h = g.fits held f in record { stored = h.stored; units = h.units; covered = h.covered };
+      };
+      decisions = p.decisions;
+    }
 
 -- what a conflict shows, and that the measure falls
-pub scan-false : (s t u : View) (changed : Bool) (i : ℕ) → Scan s t changed i → i < length s.clauses → IsLook t u i look.Conflicting → Propagates s u × (i < length u.clauses) × IsFalse u.trail (clause_at u i)
-scan-false s t u changed i c h (e, f) = subst (λ x. Propagates s x × (i < length x.clauses) × IsFalse x.trail (clause_at x i)) (sym e) (c.propagates, (let n = c.propagates.grows.clauses.count in omega (arith, h, n)), f)
+pub scan-false : (s t u : View) (changed : Bool) (i : ℕ) → Scan s t changed i → IsPlace s.clauses i → IsLook t u i look.Conflicting → Propagates s u × IsPlace u.clauses i × IsFalse u.trail (clause_at u i)
+scan-false s t u changed i c h (e, f) = subst (λ x. Propagates s x × IsPlace x.clauses i × IsFalse x.trail (clause_at x i)) (sym e) (c.propagates, reordered-place s.clauses t.clauses i c.propagates.grows.clauses h, f)
 
 pub scan-smaller : (s t : View) (i : ℕ) → Scan s t true i → (length s.values ≡ length t.values) × (length s.trail < length t.trail) × (length t.trail ≤ length t.values)
 scan-smaller s t i c = (sym c.propagates.grows.count, c.longer refl, trail-short t c.propagates.well)
 
 -- the same for the views before and after the code ran
-pub looked-implied : (s t : View) (P : List Clause) (i p : ℕ) (l : Literal) → WellFormed s → i < length s.clauses → IsStatus s.values (clause_at s i) (status.Leaves p) → l ≡ get_or (clause_at s i) p 0 → (IsTrueIn s l → ⊥) → P ≡ set s.clauses i (swap (clause_at s i) 0 p) → t ≡ enqueued (record s { clauses = P }) l (reason.Long i) → IsLook s t i look.Implied
+pub looked-implied : (s t : View) (P : List StoredClause) (i p : ℕ) (l : Literal) → WellFormed s → IsPlace s.clauses i → IsStatus s.values (clause_at s i) (status.Leaves p) → l ≡ get_or (clause_at s i) p 0 → (IsTrueIn s l → ⊥) → P ≡ with_literals s.clauses i (swap (clause_at s i) 0 p) → t ≡ enqueued (record s { clauses = P }) l (reason.Long i) → IsLook s t i look.Implied
 looked-implied s t P i p l w a st e n f g =
     let n' : IsTrueIn s (get_or (clause_at s i) p 0) → ⊥ = subst (λ x. IsTrueIn s x → ⊥) e n in
-    let h : t ≡ enqueued (record s { clauses = set s.clauses i (swap (clause_at s i) 0 p) }) (get_or (clause_at s i) p 0) (reason.Long i) =
-    g ∙ ap (λ x. enqueued (record s { clauses = x }) l (reason.Long i)) f ∙ ap (λ x. enqueued (record s { clauses = set s.clauses i (swap (clause_at s i) 0 p) }) x (reason.Long i)) e in
+    let h : t ≡ enqueued (record s { clauses = with_literals s.clauses i (swap (clause_at s i) 0 p) }) (get_or (clause_at s i) p 0) (reason.Long i) =
+    g ∙ ap (λ x. enqueued (record s { clauses = x }) l (reason.Long i)) f ∙ ap (λ x. enqueued (record s { clauses = with_literals s.clauses i (swap (clause_at s i) 0 p) }) x (reason.Long i)) e in
     subst (λ x. IsLook s x i look.Implied) (sym h) (look-implied s i p w a st n')
 
-pub left-inside : (s : View) (i p : ℕ) → WellFormed s → i < length s.clauses → IsStatus s.values (clause_at s i) (status.Leaves p) → variable_of (get_or (clause_at s i) p 0) < length s.values
-left-inside s i p w a st = w.in_range (clause_at s i) (∈-get_or s.clauses i [] a) (get_or (clause_at s i) p 0) (∈-get_or (clause_at s i) p 0 st.0)
+pub left-inside : (s : View) (i p : ℕ) → WellFormed s → IsPlace s.clauses i → IsStatus s.values (clause_at s i) (status.Leaves p) → variable_of (get_or (clause_at s i) p 0) < length s.values
+left-inside s i p w a st = w.in_range (clause_at s i) (kept-at s.clauses i a) (get_or (clause_at s i) p 0) (∈-get_or (clause_at s i) p 0 st.0)
 
 pub left-free : (s : View) (i p : ℕ) → IsStatus s.values (clause_at s i) (status.Leaves p) → (IsTrueIn s (get_or (clause_at s i) p 0) → ⊥) → get_or s.values (variable_of (get_or (clause_at s i) p 0)) None ≡ None
 left-free s i p st n = made-none s.values (get_or (clause_at s i) p 0) n st.1

@@ -1,20 +1,21 @@
 -- The order of a clause's literals may change.
-use Rattle.std.proofs.Common.{◌≡◌, ℕ, zero, suc, ◌<◌, ◌≤◌, List, [], ◌∷◌, length, get_or, set, map, ◌⊎◌, inl, inr, ⊎_elim, refl, sym, ap, ◌∙◌, subst, arith, get_or-set_same, get_or-set_other, length-set}
+use Rattle.std.proofs.Common.{◌≡◌, ℕ, zero, suc, ◌<◌, ◌≤◌, List, [], ◌∷◌, length, get_or, map, inl, inr, ⊎_elim, refl, sym, ap, ◌∙◌, subst, arith}
 use Rattle.std.proofs.lemmas.List.{length-map}
 use Rattle.std.specs.List.{swap}
-use Rattle.varisat_theory.specs.Membership.{◌∈◌, SameSet, IsDistinct}
+use Rattle.varisat_theory.specs.Membership.{◌∈◌, IsDistinct}
 use Rattle.varisat_theory.specs.Literals.{Literal, Clause, variable_of}
-use Rattle.varisat_theory.proofs.Places.{∈-get_or, place_in}
-use Rattle.varisat_theory.proofs.Members.{equal_or_not}
+use Rattle.varisat_theory.proofs.Places.{place_in}
 use Rattle.varisat_prop.specs.declared.prop.graph.Reason.{Reason}
 use Rattle.varisat_prop.specs.declared.prop.graph.Reason.TheVariants as reason
-use Rattle.varisat_prop.specs.View.{View, IsTrueIn, clause_at, literal_at, node_of, node_at, Implies, IsReason, WellFormed, Fits, AreReordered, Grows}
+use Rattle.varisat_prop.specs.Stored.{StoredClause, IsPlace, with_literals, AreReordered}
+use Rattle.varisat_prop.specs.View.{View, kept, IsTrueIn, clause_at, literal_at, node_of, node_at, Implies, IsReason, WellFormed, Fits, Grows}
 use Rattle.varisat_prop.proofs.Lits.{made-inside}
 use Rattle.varisat_prop.proofs.Distinct.{distinct-by-places, distinct-below}
 use Rattle.varisat_prop.proofs.Fronted.{IsFronted, fronted}
-use Rattle.varisat_prop.proofs.Growth.{same-self, same-trans, reordered-old, reordered-new, append-nil}
+use Rattle.varisat_prop.proofs.Stored.{same-trans, kept-at, reordered-old, reordered-new, reordered-place, reordered-rising, with-reordered, with-other, with-cases}
+use Rattle.varisat_prop.proofs.Growth.{append-nil}
 
-pub fits-reordered : (s : View) (P : List Clause) (held : List Clause) → AreReordered s.clauses P → Fits held s → Fits held (record s { clauses = P })
+pub fits-reordered : (s : View) (P : List StoredClause) (held : List Clause) → AreReordered s.clauses P → Fits held s → Fits held (record s { clauses = P })
 fits-reordered s P held a f = record {
   stored = λ c i. let (d, j, e) = reordered-old s.clauses P a c i in let (h, k, g) = f.stored d j in (h, k, same-trans h d c g (e.1, e.0));
   units = f.units;
@@ -22,47 +23,32 @@ fits-reordered s P held a f = record {
 }
 
 -- one clause has a literal put first, and is no reason
-module _ (s : View) (i p : ℕ) (w : WellFormed s) (a : i < length s.clauses) (b : p < length (clause_at s i)) (unused : (k : ℕ) → k < length s.trail → (node_at s k).reason ≡ reason.Long i → ⊥) where
+module _ (s : View) (i p : ℕ) (w : WellFormed s) (a : IsPlace s.clauses i) (b : p < length (clause_at s i)) (unused : (k : ℕ) → k < length s.trail → (node_at s k).reason ≡ reason.Long i → ⊥) where
   abbrev pub swapped : Clause
   swapped = swap (clause_at s i) 0 p
 
   abbrev pub with_swapped : View
-  with_swapped = record s { clauses = set s.clauses i swapped }
+  with_swapped = record s { clauses = with_literals s.clauses i swapped }
 
-  pub clause-in : clause_at s i ∈ s.clauses
-  clause-in = ∈-get_or s.clauses i [] a
+  pub clause-in : clause_at s i ∈ kept s
+  clause-in = kept-at s.clauses i a
 
   pub is-fronted : IsFronted (clause_at s i) swapped p
   is-fronted = fronted (clause_at s i) p b (w.distinct (clause_at s i) clause-in)
 
-  cases : (c : Clause) → c ∈ with_swapped.clauses → (c ≡ swapped) ⊎ (c ∈ s.clauses)
-  cases c h =
-      let (j, l, e) = place_in c (set s.clauses i swapped) [] h in
-      let n = length-set s.clauses i swapped in
-      ⊎_elim
-      (λ f. let g = ap (λ k. get_or (set s.clauses i swapped) k []) f in inl (sym e ∙ g ∙ get_or-set_same s.clauses i swapped [] a))
-      (λ f. inr (subst (λ x. x ∈ s.clauses) (sym (get_or-set_other s.clauses i j swapped [] f) ∙ e) (∈-get_or s.clauses j [] (omega (arith, l, n)))))
-      (equal_or_not j i)
-
   -- what holds of the old clauses and of the new one holds of all
-  each : (Q : Clause → Type 0) → ((c : Clause) → c ∈ s.clauses → Q c) → Q swapped → (c : Clause) → c ∈ with_swapped.clauses → Q c
-  each Q old new c h = ⊎_elim (λ e. subst Q (sym e) new) (old c) (cases c h)
+  each : (Q : Clause → Type 0) → ((c : Clause) → c ∈ kept s → Q c) → Q swapped → (c : Clause) → c ∈ kept with_swapped → Q c
+  each Q old new c h = ⊎_elim (λ e. subst Q (sym e) new) (old c) (with-cases s.clauses i swapped c h)
 
   pub swapped-reordered : AreReordered s.clauses with_swapped.clauses
-  swapped-reordered = record {
-    count = length-set s.clauses i swapped;
-    same = λ j h. ⊎_elim
-        (λ e. let (g, k) = is-fronted.same in
-        subst (λ x. SameSet (get_or (set s.clauses i swapped) x []) (clause_at s x)) (sym e) (subst (λ x. SameSet x (clause_at s i)) (sym (get_or-set_same s.clauses i swapped [] a)) (g, k)))
-        (λ n. subst (λ x. SameSet x (clause_at s j)) (sym (get_or-set_other s.clauses i j swapped [] n)) (same-self (clause_at s j)))
-        (equal_or_not j i);
-  }
+  swapped-reordered = with-reordered s.clauses i swapped is-fronted.same
 
   reason-stays : (k : ℕ) (q : Reason) → (q ≡ reason.Long i → ⊥) → IsReason s k q → IsReason with_swapped k q
   reason-stays k reason.Unit n h = h
-  reason-stays k (reason.Long j) n (h, g) =
-      let l = length-set s.clauses i swapped in
-      (omega (arith, h, l), subst (λ c. Implies with_swapped c k) (sym (get_or-set_other s.clauses i j swapped [] (λ e. n (ap reason.Long e)))) (same-implies (clause_at s j) g))
+  reason-stays k (reason.Long j) n (h, g) = (
+    reordered-place s.clauses with_swapped.clauses j swapped-reordered h,
+    subst (λ c. Implies with_swapped c k) (sym (with-other s.clauses i j swapped (λ e. n (ap reason.Long e)))) (same-implies (clause_at s j) g),
+  )
     where
       same-implies : (c : Clause) → Implies s c k → Implies with_swapped c k
       same-implies [] g = g
@@ -72,11 +58,13 @@ module _ (s : View) (i p : ℕ) (w : WellFormed s) (a : i < length s.clauses) (b
   swapped-well = record {
     nodes_are = w.nodes_are;
     small = w.small;
+    places = reordered-rising s.clauses with_swapped.clauses swapped-reordered w.places;
     in_range = each (λ c. (l : Literal) → l ∈ c → variable_of l < length s.values) w.in_range (λ l h. w.in_range (clause_at s i) clause-in l (is-fronted.same.0 l h));
     several = each (λ c. 2 ≤ length c) w.several (let n = is-fronted.long in let m = w.several (clause_at s i) clause-in in omega (arith, n, m));
     distinct = each IsDistinct w.distinct is-fronted.distinct;
     is_true = w.is_true;
     stands = w.stands;
+    head = w.head;
     depth_is = w.depth_is;
     decided = w.decided;
     rising = w.rising;
@@ -91,6 +79,7 @@ module _ (s : View) (i p : ℕ) (w : WellFormed s) (a : i < length s.clauses) (b
     clauses = swapped-reordered;
     count = refl;
     trail_more = ([], sym (append-nil s.trail));
+    head = omega arith;
     decisions_more = ([], sym (append-nil s.decisions));
     nodes = λ k h. refl;
     fits = λ held f. fits-reordered s with_swapped.clauses held swapped-reordered f;

@@ -1,17 +1,18 @@
 -- What a search does to its view.
-use Rattle.std.specs.Prelude.{ℕ, suc, ◌<◌, ◌≤◌, Some, List, [], ◌∷◌, ◌++◌, length, slice_index_or, slice_set}
+use Rattle.std.specs.Prelude.{ℕ, suc, ◌≤◌, Some, List, [], ◌∷◌, ◌++◌, length, slice_set}
 use Rattle.varisat_theory.specs.Literals.{Literal, Clause, variable_of}
 use Rattle.varisat_formula.specs.Numbers.{polarity_of}
 use Rattle.varisat_prop.specs.declared.prop.graph.Reason.{Reason}
 use Rattle.varisat_prop.specs.declared.prop.graph.Reason.TheVariants as reason
 use Rattle.varisat_prop.specs.declared.prop.graph.Conflict.{Conflict}
 use Rattle.varisat_prop.specs.declared.prop.graph.Conflict.TheVariants as conflict
+use Rattle.varisat_prop.specs.Stored.{StoredClause, IsPlace, literals_at}
 use Rattle.varisat_prop.specs.View.{View}
 
 -- the clause that a reason names is one of the list, and is not empty
-abbrev pub NamesClause : List Clause → Reason → Type 0
-NamesClause P reason.Unit = Unit {0}
-NamesClause P (reason.Long i) = (i < length P) × (1 ≤ length (slice_index_or P i []))
+abbrev pub NamesClause : List StoredClause → Reason → Type 0
+NamesClause ks reason.Unit = Unit {0}
+NamesClause ks (reason.Long p) = IsPlace ks p × (1 ≤ length (literals_at ks p))
 
 -- the clause without its first literal
 abbrev pub others_of : Clause → Clause
@@ -19,12 +20,12 @@ others_of [] = []
 others_of (l ∷ c) = c
 
 -- the literals that are false where the reason holds
-abbrev pub causes_of : List Clause → Reason → List Literal
-causes_of P reason.Unit = []
-causes_of P (reason.Long i) = others_of (slice_index_or P i [])
+abbrev pub causes_of : List StoredClause → Reason → List Literal
+causes_of ks reason.Unit = []
+causes_of ks (reason.Long p) = others_of (literals_at ks p)
 
 abbrev pub place_of : Conflict → ℕ
-place_of (conflict.Long i) = i
+place_of (conflict.Long p) = p
 
 -- the literal is true, at the present level and for the reason
 abbrev pub enqueued : View → Literal → Reason → View

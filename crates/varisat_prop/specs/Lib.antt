@@ -1,3 +1,5 @@
+pub mod Stored
+pub mod Entries
 pub mod Parts
 pub mod View
 pub mod Changes

@@ -1,12 +1,8 @@
 -- What contracts see of the parts.
-use Rattle.std.specs.Prelude.{◌≡◌, ℕ, ◌+◌, Bool, false, Option, Some, None, List, [], length, map, option_map, slice_index_or, Vec}
+use Rattle.std.specs.Prelude.{◌≡◌, ℕ, ◌+◌, Bool, false, Option, Some, None, List, [], length, option_map, slice_index_or}
 use Rattle.std.specs.Bool.{beq}
-use Rattle.varisat_theory.specs.Literals.{Literal, Clause, variable_of}
+use Rattle.varisat_theory.specs.Literals.{Literal, variable_of}
 use Rattle.varisat_formula.specs.Numbers.{polarity_of}
-
--- the clauses as lists of literals
-abbrev pub clauses_of : {A : Type 0} → List (Vec Literal A) → List Clause
-clauses_of vs = map (λ v. v.items) vs
 
 -- For each variable the value that it has, and the value that `release_var` remembered last, false at first.
 pub record Values : Type 0 where

@@ -3,6 +3,7 @@ use Rattle.std.specs.Prelude.{◌≡◌, ℕ, suc, ◌<◌, ◌≤◌, ◌^◌, 
 use Rattle.varisat_theory.specs.Membership.{◌∈◌, ◌⊆◌, SameSet, IsDistinct}
 use Rattle.varisat_theory.specs.Literals.{Literal, Clause, variable_of, opposite, IsUnit}
 use Rattle.varisat_theory.specs.Propagation.{IsComplete}
+use Rattle.varisat_prop.specs.Stored.{StoredClause, literals_of, literals_at, IsPlace, AreRising, AreReordered}
 use Rattle.varisat_prop.specs.Parts.{Values, TrailParts, IsMadeTrue}
 use Rattle.varisat_prop.specs.declared.prop.graph.Reason.{Reason}
 use Rattle.varisat_prop.specs.declared.prop.graph.Reason.TheVariants as reason
@@ -11,27 +12,33 @@ use Rattle.varisat_prop.specs.declared.prop.graph.ImplGraph.{ImplGraph}
 
 pub record View : Type 0 where
   -- the kept clauses, in the order of adding
-  pub clauses : List Clause
+  pub clauses : List StoredClause
   -- for each variable its value, if it has one
   pub values : List (Option Bool)
   -- the true literals, oldest first
   pub trail : List Literal
+  -- how many of them were propagated
+  pub queue_head : ℕ
   -- for each decision, oldest first, its place on the trail
   pub decisions : List ℕ
   -- For each variable why, at which level and where it was assigned. It says nothing of variables without a value.
   pub nodes : List ImplNode
 
 -- the view of these parts
-abbrev pub view_of : {A : Type 0} → List Clause → Values → TrailParts → ImplGraph A → View
-view_of clauses values trail graph = record { clauses = clauses; values = values.current; trail = trail.literals; decisions = trail.decisions; nodes = graph.nodes.items }
+abbrev pub view_of : {A : Type 0} → List StoredClause → Values → TrailParts → ImplGraph A → View
+view_of clauses values trail graph = record { clauses = clauses; values = values.current; trail = trail.literals; queue_head = trail.queue_head; decisions = trail.decisions; nodes = graph.nodes.items }
 
 -- the literal is true
 abbrev pub IsTrueIn : View → Literal → Type 0
 IsTrueIn s l = IsMadeTrue s.values l
 
--- the clause at a place in the list, by which a reason or a conflict names it
+-- what is kept: the literals of each clause
+abbrev pub kept : View → List Clause
+kept s = literals_of s.clauses
+
+-- the clause at the place, by which a reason or a conflict names it
 abbrev pub clause_at : View → ℕ → Clause
-clause_at s i = slice_index_or s.clauses i []
+clause_at s p = literals_at s.clauses p
 
 abbrev pub literal_at : View → ℕ → Literal
 literal_at s k = slice_index_or s.trail k 0
@@ -68,20 +75,23 @@ Implies s (l ∷ others) k = (l ≡ literal_at s k) × ((m : Literal) → m ∈ 
 -- Why the literal at place k may stand there. A reason Unit is a decision's, which is listed among the decisions, or that of a literal at level 0.
 abbrev pub IsReason : View → ℕ → Reason → Type 0
 IsReason s k reason.Unit = (k ∈ s.decisions) ⊎ ((node_at s k).level ≡ 0)
-IsReason s k (reason.Long i) = (i < length s.clauses) × Implies s (clause_at s i) k
+IsReason s k (reason.Long p) = IsPlace s.clauses p × Implies s (clause_at s p) k
 
 -- What keeps the code safe: the lists fit one another.
 pub record WellFormed (s : View) : Type 0 where
   -- each variable has a node, and there are at most 2^28 variables
   pub nodes_are : length s.nodes ≡ length s.values
   pub small : length s.values ≤ 2 ^ 28
+  -- the places rise, so that each tells its clause
+  pub places : AreRising s.clauses
   -- a kept clause names known variables and has two literals or more, none of them twice
-  pub in_range : (c : Clause) → c ∈ s.clauses → (l : Literal) → l ∈ c → variable_of l < length s.values
-  pub several : (c : Clause) → c ∈ s.clauses → 2 ≤ length c
-  pub distinct : (c : Clause) → c ∈ s.clauses → IsDistinct c
+  pub in_range : (c : Clause) → c ∈ kept s → (l : Literal) → l ∈ c → variable_of l < length s.values
+  pub several : (c : Clause) → c ∈ kept s → 2 ≤ length c
+  pub distinct : (c : Clause) → c ∈ kept s → IsDistinct c
   -- exactly the literals of the trail are true
   pub is_true : (k : ℕ) → k < length s.trail → IsTrueIn s (literal_at s k)
   pub stands : (l : Literal) → IsTrueIn s l → StandsBefore s (length s.trail) l
+  pub head : s.queue_head ≤ length s.trail
   -- a literal's depth tells its place, so that none stands twice
   pub depth_is : (k : ℕ) → k < length s.trail → (node_at s k).depth ≡ suc k
   -- the decisions stand on the trail, in rising order, each with reason Unit
@@ -96,7 +106,7 @@ pub record WellFormed (s : View) : Type 0 where
 
 -- As each level began, propagation had come to its end: no kept clause was false, and none had one literal left that wasn't true.
 abbrev pub LevelsSettled : View → Type 0
-LevelsSettled s = (j : ℕ) → j < length s.decisions → IsComplete s.clauses (take (decision_at s j) s.trail)
+LevelsSettled s = (j : ℕ) → j < length s.decisions → IsComplete (kept s) (take (decision_at s j) s.trail)
 
 -- the literal is true at level 0
 abbrev pub IsFixed : View → Literal → Type 0
@@ -109,11 +119,11 @@ IsTautology c = (l : Literal) × (l ∈ c) × (opposite l ∈ c)
 -- What the search says of the clauses that a proof holds. A proof's clauses are read as sets.
 pub record Fits (held : List Clause) (s : View) : Type 0 where
   -- each kept clause is held
-  pub stored : (c : Clause) → c ∈ s.clauses → (d : Clause) × (d ∈ held) × SameSet d c
+  pub stored : (c : Clause) → c ∈ kept s → (d : Clause) × (d ∈ held) × SameSet d c
   -- a literal of level 0 without a clause as its reason is held as a unit clause
   pub units : (k : ℕ) → k < length s.trail → (node_at s k).level ≡ 0 → (node_at s k).reason ≡ reason.Unit → (d : Clause) × (d ∈ held) × IsUnit (literal_at s k) d
   -- a held clause that isn't kept, nor a part of it, says nothing more: it is a tautology, or a literal of it is true at level 0
-  pub covered : (c : Clause) → c ∈ held → ((d : Clause) × (d ∈ s.clauses) × (d ⊆ c)) ⊎ (IsTautology c ⊎ ((l : Literal) × (l ∈ c) × IsFixed s l))
+  pub covered : (c : Clause) → c ∈ held → ((d : Clause) × (d ∈ kept s) × (d ⊆ c)) ⊎ (IsTautology c ⊎ ((l : Literal) × (l ∈ c) × IsFixed s l))
 
 abbrev pub is_clause : Reason → Bool
 is_clause reason.Unit = false
@@ -127,16 +137,12 @@ is_implied n = is_clause n.reason || nat_eq n.level 0
 abbrev pub kinds : View → List Bool
 kinds s = map (λ l. is_implied (node_of s l)) s.trail
 
--- The clauses keep their places and are equal as sets: the order of a clause's literals may change.
-pub record AreReordered (old new : List Clause) : Type 0 where
-  pub count : length new ≡ length old
-  pub same : (i : ℕ) → i < length old → SameSet (slice_index_or new i []) (slice_index_or old i [])
-
 -- The search went on without taking anything back, and added no clause.
 pub record Grows (s t : View) : Type 0 where
   pub clauses : AreReordered s.clauses t.clauses
   pub count : length t.values ≡ length s.values
   pub trail_more : (more : List Literal) × (t.trail ≡ s.trail ++ more)
+  pub head : s.queue_head ≤ t.queue_head
   pub decisions_more : (more : List ℕ) × (t.decisions ≡ s.decisions ++ more)
   -- what was assigned keeps its reason, its level and its place
   pub nodes : (k : ℕ) → k < length s.trail → node_at t k ≡ node_at s k

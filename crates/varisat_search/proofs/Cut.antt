@@ -9,7 +9,7 @@ use Rattle.varisat_theory.proofs.Places.{∈-get_or, place_in}
 use Rattle.varisat_theory.proofs.Members.{equal_or_not}
 use Rattle.varisat_prop.specs.declared.prop.graph.Reason.{Reason}
 use Rattle.varisat_prop.specs.declared.prop.graph.Reason.TheVariants as reason
-use Rattle.varisat_prop.specs.View.{View, IsTrueIn, clause_at, literal_at, decision_at, node_of, node_at, no_node, StandsBefore, Implies, IsReason, WellFormed, IsFixed, Fits, LevelsSettled}
+use Rattle.varisat_prop.specs.View.{View, kept, IsTrueIn, clause_at, literal_at, decision_at, node_of, node_at, no_node, StandsBefore, Implies, IsReason, WellFormed, IsFixed, Fits, LevelsSettled}
 use Rattle.varisat_prop.proofs.Lits.{made-inside}
 use Rattle.varisat_search.specs.Steps.{IsCut, LeavesFrom}
 
@@ -45,9 +45,9 @@ cutting-step s t p k l w a b e c =
       stays = λ v h. get_or-set_other t.values (variable_of l) v None None (λ f. h k a (omega arith) (sym same ∙ sym f)) ∙ c.stays v (λ j f g. h j f (omega (arith, g)));
     }
 
-pub cutting-end : (s t : View) (level k : ℕ) (tr ds : List ℕ) → k ≡ length s.trail → tr ≡ take (decision_at s level) t.trail → ds ≡ take level t.decisions → Cutting s t (decision_at s level) k → IsCut s (record t { trail = tr; decisions = ds }) level
+pub cutting-end : (s t : View) (level k : ℕ) (tr ds : List ℕ) → k ≡ length s.trail → tr ≡ take (decision_at s level) t.trail → ds ≡ take level t.decisions → Cutting s t (decision_at s level) k → IsCut s (record t { trail = tr; queue_head = decision_at s level; decisions = ds }) level
 cutting-end s t level k tr ds n f g c = record {
-  rest = ap (λ x. record t { trail = x; decisions = ds }) f ∙ ap (λ x. record t { trail = take (decision_at s level) t.trail; decisions = x }) g ∙ ap (λ (x : View). record x { values = t.values; trail = take (decision_at s level) x.trail; decisions = take level x.decisions }) c.rest;
+  rest = ap (λ x. record t { trail = x; queue_head = decision_at s level; decisions = ds }) f ∙ ap (λ x. record t { trail = take (decision_at s level) t.trail; queue_head = decision_at s level; decisions = x }) g ∙ ap (λ (x : View). record x { values = t.values; trail = take (decision_at s level) x.trail; queue_head = decision_at s level; decisions = take level x.decisions }) c.rest;
   count = c.count;
   gone = λ v (j, a, b, e). subst (λ x. get_or t.values x None ≡ None) e (c.gone j a (omega (arith, b, n)));
   stays = λ v h. c.stays v (λ j a b e. h (j, a, omega (arith, b, n), e));
@@ -58,7 +58,7 @@ module _ (s t : View) (level : ℕ) (w : WellFormed s) (h : level < length s.dec
   p = decision_at s level
 
   abbrev pub u : View
-  u = record s { values = t.values; trail = take p s.trail; decisions = take level s.decisions }
+  u = record s { values = t.values; trail = take p s.trail; queue_head = p; decisions = take level s.decisions }
 
   pub end-inside : p < length s.trail
   end-inside = (w.decided level h).0
@@ -122,10 +122,12 @@ module _ (s t : View) (level : ℕ) (w : WellFormed s) (h : level < length s.dec
     nodes_are = w.nodes_are ∙ sym c.count;
     small = let e = c.count in let f = w.small in omega (arith, e, f);
     in_range = λ cl i l j. let e = c.count in let f = w.in_range cl i l j in omega (arith, e, f);
+    places = w.places;
     several = w.several;
     distinct = w.distinct;
     is_true = λ k i. let b = below k i in subst (IsTrueIn u) (sym (at-cut k b.0)) (still k b.0);
     stands = λ x q. let (j, i, e) = only x q in let n = cut-length in (j, omega (arith, i, n), at-cut j i ∙ e);
+    head = let n = cut-length in omega (arith, n);
     depth_is = λ k i. let b = below k i in ap (λ n. n.depth) (node-cut k b.0) ∙ w.depth_is k b.1;
     decided = λ j i. let n = level-length in let j' : j < level = omega (arith, i, n) in let e = decision-cut j j' in let r = w.rising j level j' h in let d = w.decided j (omega (arith, j', h)) in let m = cut-length in
         (omega (arith, e, r, m), ap (λ x. (node_at u x).reason) e ∙ ap (λ n. n.reason) (node-cut (decision_at s j) r) ∙ d.1);
@@ -168,4 +170,4 @@ module _ (s t : View) (level : ℕ) (w : WellFormed s) (h : level < length s.dec
       let e = decision-cut j j' in
       let r = w.rising j level j' h in
       let g : take (decision_at u j) u.trail ≡ take (decision_at s j) s.trail = ap (λ x. take x u.trail) e ∙ take-take (decision_at s j) p s.trail (omega (arith, r)) in
-      subst (λ x. IsComplete s.clauses x) (sym g) (v j (omega (arith, j', h))))
+      subst (λ x. IsComplete (kept s) x) (sym g) (v j (omega (arith, j', h))))

@@ -1,5 +1,5 @@
 -- What a learned clause does.
-use Rattle.std.proofs.Common.{◌≡◌, ◌≢◌, ℕ, zero, suc, ◌<◌, ◌≤◌, Bool, true, false, nat_eq, ◌||◌, Some, None, List, [], ◌∷◌, ◌++◌, length, get_or, take, map, inl, inr, ⊎_elim, refl, sym, ap, ◌∙◌, subst, arith, length-append, length-set}
+use Rattle.std.proofs.Common.{◌≡◌, ◌≢◌, ℕ, zero, suc, ◌<◌, ◌≤◌, Bool, true, false, nat_eq, ◌||◌, Some, None, List, [], ◌∷◌, ◌++◌, length, get_or, take, map, inl, inr, ⊎_elim, refl, sym, ap, ◌∙◌, subst, arith, length-set}
 use Rattle.std.proofs.lemmas.List.{length-map, map-append, take-append-le}
 use Rattle.std.proofs.lemmas.Bool.{cases_lt, ne_eqb}
 use Rattle.varisat_theory.specs.Membership.{◌∈◌, ◌⊆◌, IsDistinct}
@@ -11,19 +11,23 @@ use Rattle.varisat_theory.proofs.Saturated.{learned_is_new, complete_added}
 use Rattle.varisat_theory.proofs.Places.{place_in_take}
 use Rattle.varisat_prop.specs.declared.prop.graph.Reason.{Reason}
 use Rattle.varisat_prop.specs.declared.prop.graph.Reason.TheVariants as reason
-use Rattle.varisat_prop.specs.View.{View, IsTrueIn, literal_at, decision_at, node_of, node_at, level_of, WellFormed, LevelsSettled, Fits, Grows, kinds, is_implied, is_clause}
+use Rattle.varisat_prop.specs.Stored.{StoredClause}
+use Rattle.varisat_prop.proofs.Stored.{place-last}
+use Rattle.varisat_search.specs.Conflicts.{learned_at}
+use Rattle.varisat_prop.specs.View.{View, kept, IsTrueIn, literal_at, decision_at, node_of, node_at, level_of, WellFormed, LevelsSettled, Fits, Grows, kinds, is_implied, is_clause}
 use Rattle.varisat_prop.specs.Changes.{enqueued}
 use Rattle.varisat_formula.specs.Numbers.{polarity_of}
 use Rattle.varisat_prop.proofs.Lits.{none-made, made-inside, made-clash, variable-opposite}
 use Rattle.varisat_prop.proofs.Looked.{trail-true}
-use Rattle.varisat_prop.proofs.Growth.{same-self, kinds-more}
+use Rattle.varisat_prop.proofs.Stored.{same-self}
+use Rattle.varisat_prop.proofs.Growth.{kinds-more}
 use Rattle.varisat_prop.proofs.Extend.{node-old, node-new, literal-old, literal-new}
 use Rattle.varisat_prop.proofs.Enqueued.{enqueued-well, ext-fits}
 use Rattle.varisat_prop.proofs.Reordered.{trail-short}
 use Rattle.varisat_search.specs.Learned.{IsAsserting, IsLevelOf}
 use Rattle.varisat_search.specs.Steps.{IsCut, LeavesFrom, Goes}
 use Rattle.varisat_search.proofs.Cut.{end-inside, still, cut-well, cut-fits, cut-settled, level-length}
-use Rattle.varisat_search.proofs.Kept.{with_kept, kept-last, kept-well, kept-fits, unit-fits}
+use Rattle.varisat_search.proofs.Kept.{with_kept, kept-last, kept-is, kept-well, kept-fits, unit-fits}
 
 take-∈ : (n : ℕ) (xs : List ℕ) (j : ℕ) → j < n → j < length xs → get_or xs j 0 ∈ take n xs
 take-∈ zero xs j h l = absurd (omega (arith, h))
@@ -100,12 +104,12 @@ module _ (s t : View) (i level : ℕ) (c : Clause) (w : WellFormed s) (v : Level
       (k, w.levels_up k level a level-below (omega (arith, g, d, f)), a, e)
 
   pub other-false : (m : Literal) → m ∈ l.others → IsTrueIn t (opposite m)
-  other-false m h = let (k, a, b, e) = other-place m h in subst (λ (x : View). IsTrueIn x (opposite m)) (sym ct.rest) (subst (λ x. IsTrueIn (record s { values = t.values; trail = take end s.trail; decisions = take level s.decisions }) x) e (still s t level w level-below ct k a))
+  other-false m h = let (k, a, b, e) = other-place m h in subst (λ (x : View). IsTrueIn x (opposite m)) (sym ct.rest) (subst (λ x. IsTrueIn (record s { values = t.values; trail = take end s.trail; queue_head = end; decisions = take level s.decisions }) x) e (still s t level w level-below ct k a))
 
   -- no held clause is a part of it
   pub no-part : (held : List Clause) → Fits held s → (d : Clause) → d ∈ held → d ⊆ c → ⊥
   no-part held f d h k =
-      let part : (e : Clause) → e ∈ s.clauses → e ⊆ (first ∷ l.others) → ⊥ = learned_is_new s.clauses (take end s.trail) first l.others (v level level-below)
+      let part : (e : Clause) → e ∈ kept s → e ⊆ (first ∷ l.others) → ⊥ = learned_is_new (kept s) (take end s.trail) first l.others (v level level-below)
       (λ q. let (j, a, b, e) = place_in_take first s.trail end 0 q in made-clash s.values first (subst (IsTrueIn s) e (w.is_true j b)) (false-in first (inl refl)))
       (λ m q. let (j, a, b, e) = other-place m q in subst (λ x. x ∈ take end s.trail) e (take-∈ end s.trail j a b)) in
       let k' : d ⊆ (first ∷ l.others) = λ m q. subst (λ x. m ∈ x) l.split (k m q) in
@@ -204,9 +208,6 @@ module _ (s t : View) (i level : ℕ) (c : Clause) (w : WellFormed s) (v : Level
         };
       }
 
-  abbrev t' : View
-  t' = with_kept t c wt
-
   in-clause : (m : Literal) → m ∈ c → variable_of m < length t.values
   in-clause m h =
       let a = made-inside s.values (opposite m) (trail-true s w (opposite m) (l.false_now m h)) in
@@ -225,29 +226,30 @@ module _ (s t : View) (i level : ℕ) (c : Clause) (w : WellFormed s) (v : Level
       omega (arith, r, same, g, e, h, d, n)
 
   -- a longer learned clause is kept, and is the reason of its first literal
-  pub kept-result : (m : Literal) (ms : Clause) → l.others ≡ m ∷ ms → Result s (enqueued (record t { clauses = t.clauses ++ c ∷ [] }) l.first (reason.Long (length t.clauses)))
-  kept-result m ms e =
+  pub kept-result : (p : ℕ) → ((k : StoredClause) → k ∈ t.clauses → k.place < p) → (m : Literal) (ms : Clause) → l.others ≡ m ∷ ms → Result s (enqueued (record t { clauses = t.clauses ++ learned_at p c ∷ [] }) l.first (reason.Long p))
+  kept-result p behind m ms e =
+      let j = learned_at p c in
+      let t' = with_kept t j behind wt in
       let whole : c ≡ l.first ∷ m ∷ ms = l.split ∙ ap (λ o. l.first ∷ o) e in
       let n = ap (λ (x : Clause). length x) whole in
-      let wt' = kept-well t c wt in-clause (omega (arith, n)) l.distinct in
-      let r = reason.Long (length t.clauses) in
-      let a = length-append t.clauses (c ∷ []) in
+      let wt' = kept-well t j behind wt in-clause (omega (arith, n)) l.distinct in
+      let r = reason.Long p in
       let z = enqueued t' l.first r in
       let second : level_of s m ≡ level = (subst (λ o. IsLevelOf s o level) e l.second).0 in
       let apart : l.first ≢ m = λ g. (subst IsDistinct whole l.distinct).0 (inl g) in
       record {
-        well = enqueued-well t' l.first r wt' inside free (omega (arith, a), (l.others, kept-last t c wt ∙ l.split, other-false s t i level c w v l deep ct));
+        well = enqueued-well t' l.first r wt' inside free (place-last t.clauses j, (l.others, kept-last t j behind wt ∙ l.split, other-false s t i level c w v l deep ct));
         settled = λ j h.
             let d = (wt.decided j h).0 in
             let le : decision_at t j ≤ length t.trail = omega (arith, d) in
-            subst (λ x. IsComplete (t.clauses ++ c ∷ []) x) (sym (take-append-le (decision_at t j) t.trail (l.first ∷ []) le))
-            (complete_added t.clauses (take (decision_at t j) t.trail) c l.first m (subst (λ x. l.first ∈ x) (sym whole) (inl refl)) (subst (λ x. m ∈ x) (sym whole) (inr (inl refl))) apart
+            subst (λ x. IsComplete (kept t') x) (sym (take-append-le (decision_at t j) t.trail (l.first ∷ []) le))
+            (subst (λ P. IsComplete P (take (decision_at t j) t.trail)) (sym (kept-is t (learned_at p c) behind wt)) (complete_added (kept t) (take (decision_at t j) t.trail) c l.first m (subst (λ x. l.first ∈ x) (sym whole) (inl refl)) (subst (λ x. m ∈ x) (sym whole) (inr (inl refl))) apart
             (λ q. let (k, x, y, f) = place_in_take (opposite l.first) t.trail (decision_at t j) 0 q in none-made t.values l.first (opposite l.first) free (variable-opposite l.first) (subst (IsTrueIn t) f (wt.is_true k y)))
             (other-unknown m j second h)
-            (vt j h));
+            (vt j h)));
         goes = record {
           clause = c;
-          held = λ held f. ((follows held f, refl), ext-fits t' l.first r t'.decisions wt' inside free (held ++ c ∷ []) (λ g k. absurd cc) (kept-fits t c wt held c (same-self c) (cut-fits s t level w below ct held f)), no-part s t i level c w v l deep ct held f);
+          held = λ held f. ((follows held f, refl), ext-fits t' l.first r t'.decisions wt' inside free (held ++ c ∷ []) (λ g k. absurd cc) (kept-fits t j behind wt held c (same-self c) (cut-fits s t level w below ct held f)), no-part s t i level c w v l deep ct held f);
           rises = rises s t i level c w v l deep ct z (kinds-enqueued t' l.first r wt' inside free);
           count = length-set t.values (variable_of l.first) (Some (polarity_of l.first)) ∙ ct.count;
         };

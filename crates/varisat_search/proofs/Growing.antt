@@ -1,10 +1,10 @@
 -- A search that goes on writes no line.
-use Rattle.std.proofs.Common.{◌≡◌, ◌<◌, ◌≤◌, Bool, List, [], ◌∷◌, ◌++◌, length, map, inl, inr, ⊎_elim, sym, ap, ◌∙◌, subst, refl, arith}
+use Rattle.std.proofs.Common.{◌≡◌, ◌<◌, ◌≤◌, List, [], ◌∷◌, ◌++◌, length, map, inl, inr, ⊎_elim, sym, ap, ◌∙◌, subst, refl, arith}
 use Rattle.varisat_theory.specs.Membership.{◌∈◌, IsDistinct}
 use Rattle.varisat_theory.specs.Literals.{Literal, Clause, IsUnit}
 use Rattle.varisat_theory.proofs.Members.{∈-append_left, ∈-append_right, ∈-append_cases}
 use Rattle.varisat_theory.proofs.Places.{∈-get_or, place_in}
-use Rattle.varisat_prop.specs.View.{View, literal_at, node_of, level_of, WellFormed, IsFixed, Fits, Grows}
+use Rattle.varisat_prop.specs.View.{View, kept, literal_at, node_of, level_of, WellFormed, IsFixed, Fits, Grows}
 use Rattle.varisat_prop.proofs.Growth.{literal-stays, grows-longer}
 use Rattle.varisat_prop.proofs.Looked.{trail-true}
 use Rattle.varisat_theory.specs.Outcomes.{Proves}
@@ -30,26 +30,26 @@ no_unit l [] n q u = omega (arith, n)
 no_unit l (a ∷ []) n q u = omega (arith, n)
 no_unit l (a ∷ b ∷ d) n q u = q.0 (inl (u.1 a (inl refl) ∙ sym (u.1 b (inr (inl refl)))))
 
-module _ (s t : View) (flags : List Bool) (w : WellFormed s) (v : WellFormed t) (g : Grows s t) where
+module _ (s t : View) (w : WellFormed s) (v : WellFormed t) (g : Grows s t) where
   -- the least that is held
   abbrev least : List Clause
-  least = s.clauses ++ unit_clauses (search_of s flags).proved
+  least = kept s ++ unit_clauses (search_of s).proved
 
   least_fits : Fits least s
   least_fits = record {
-    stored = λ c h. (c, ∈-append_left c s.clauses (unit_clauses (search_of s flags).proved) h, ((λ x i. i), (λ x i. i)));
+    stored = λ c h. (c, ∈-append_left c (kept s) (unit_clauses (search_of s).proved) h, ((λ x i. i), (λ x i. i)));
     units = λ k h a b.
         let l = literal_at s k in
-        let i = proved_to s flags w l (∈-get_or s.trail k 0 h, a, b) in
-        (l ∷ [], ∈-append_right (l ∷ []) s.clauses (unit_clauses (search_of s flags).proved) (in_units (search_of s flags).proved l i), (inl refl, λ m j. ⊎_elim (λ e. e) (λ z. absurd z) j));
+        let i = proved_to s w l (∈-get_or s.trail k 0 h, a, b) in
+        (l ∷ [], ∈-append_right (l ∷ []) (kept s) (unit_clauses (search_of s).proved) (in_units (search_of s).proved l i), (inl refl, λ m j. ⊎_elim (λ e. e) (λ z. absurd z) j));
     covered = λ c h.
         ⊎_elim
         (λ i. inl (c, i, λ x j. j))
         (λ i.
-        let (l, j, e) = from_units (search_of s flags).proved c i in
-        let (on, z, r) = proved_from s flags w l j in
+        let (l, j, e) = from_units (search_of s).proved c i in
+        let (on, z, r) = proved_from s w l j in
         inr (inr (l, subst (λ x. l ∈ x) (sym e) (inl refl), (trail-true s w l on, z))))
-        (∈-append_cases c s.clauses (unit_clauses (search_of s flags).proved) h);
+        (∈-append_cases c (kept s) (unit_clauses (search_of s).proved) h);
   }
 
   proved_back : (x : Literal) → IsProved t x → IsProved s x
@@ -60,10 +60,10 @@ module _ (s t : View) (flags : List Bool) (w : WellFormed s) (v : WellFormed t) 
       ⊎_elim
       (λ h. absurd (no_unit (literal_at t k) d (w.several d h) (w.distinct d h) u))
       (λ h.
-      let (l, o, q) = from_units (search_of s flags).proved d h in
+      let (l, o, q) = from_units (search_of s).proved d h in
       let same : l ≡ x = u.1 l (subst (λ y. l ∈ y) (sym q) (inl refl)) ∙ e in
-      subst (IsProved s) same (proved_from s flags w l o))
-      (∈-append_cases d s.clauses (unit_clauses (search_of s flags).proved) j)
+      subst (IsProved s) same (proved_from s w l o))
+      (∈-append_cases d (kept s) (unit_clauses (search_of s).proved) j)
 
   fixed_on : (x : Literal) → IsFixed s x → IsFixed t x
   fixed_on x (q, z) =
@@ -74,5 +74,5 @@ module _ (s t : View) (flags : List Bool) (w : WellFormed s) (v : WellFormed t) 
       let on : x ∈ t.trail = subst (λ y. y ∈ t.trail) same (∈-get_or t.trail k 0 h) in
       (trail-true t v x on, sym (ap (λ y. level_of t y) same) ∙ ap (λ y. y.level) (g.nodes k a) ∙ ap (λ y. level_of s y) e ∙ z)
 
-  pub grows_prove : Proves 0 (search_of s flags) (search_of t flags) []
-  grows_prove = view_moves s t flags w v g.clauses fixed_on proved_back
+  pub grows_prove : Proves 0 (search_of s) (search_of t) []
+  grows_prove = view_moves s t w v g.clauses fixed_on proved_back

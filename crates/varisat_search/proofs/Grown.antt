@@ -46,10 +46,12 @@ module _ (s : View) (m n : ℕ) (w : WellFormed s) where
     nodes_are = e;
     small = f;
     in_range = λ c i l j. let a = w.in_range c i l j in let b = length-append s.values (replicate m None) in omega (arith, a, b);
+    places = w.places;
     several = w.several;
     distinct = w.distinct;
     is_true = λ k h. true-to (literal_at s k) (w.is_true k h);
     stands = λ l h. w.stands l (true-from l h);
+    head = w.head;
     depth_is = λ k h. ap (λ n. n.depth) (node-same (literal_at s k)) ∙ w.depth_is k h;
     decided = λ j h. let d = w.decided j h in (d.0, ap (λ n. n.reason) (node-same (literal_at s (decision_at s j))) ∙ d.1);
     rising = w.rising;

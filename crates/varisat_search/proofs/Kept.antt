@@ -1,21 +1,22 @@
 -- What one more clause keeps.
-use Rattle.std.proofs.Common.{◌≡◌, ℕ, ◌<◌, ◌≤◌, None, List, [], ◌∷◌, ◌++◌, length, get_or, ◌⊎◌, inl, inr, ⊎_elim, refl, sym, ap, ◌∙◌, subst, arith, length-append}
-use Rattle.std.proofs.lemmas.List.{get_or_append_left}
+use Rattle.std.proofs.Common.{◌≡◌, ℕ, ◌<◌, ◌≤◌, None, List, [], ◌∷◌, ◌++◌, length, get_or, ◌⊎◌, inl, inr, ⊎_elim, refl, sym, ap, ◌∙◌, subst}
 use Rattle.varisat_theory.specs.Membership.{◌∈◌, ◌⊆◌, SameSet, IsDistinct}
 use Rattle.varisat_theory.specs.Literals.{Literal, Clause, variable_of, IsUnit}
 use Rattle.varisat_theory.proofs.Members.{∈-append_left, ∈-append_right, ∈-append_cases}
 use Rattle.varisat_prop.specs.declared.prop.graph.Reason.{Reason}
 use Rattle.varisat_prop.specs.declared.prop.graph.Reason.TheVariants as reason
-use Rattle.varisat_prop.specs.View.{View, clause_at, literal_at, node_of, node_at, level_of, Implies, IsReason, WellFormed, IsFixed, IsTautology, Fits}
+use Rattle.varisat_prop.specs.Stored.{StoredClause}
+use Rattle.varisat_prop.proofs.Stored.{place-more, rising-more, stored-more, stored-last, literals-more}
+use Rattle.varisat_prop.specs.View.{View, kept, clause_at, literal_at, node_of, node_at, level_of, Implies, IsReason, WellFormed, IsFixed, IsTautology, Fits}
 use Rattle.varisat_prop.specs.Changes.{enqueued}
-use Rattle.varisat_prop.proofs.Extend.{get_or-last, node-old, node-new, node-other, fresh, true-old, true-new, literal-old, literal-new, each-place}
+use Rattle.varisat_prop.proofs.Extend.{node-old, node-new, node-other, fresh, true-old, true-new, literal-old, literal-new, each-place}
 
 pub last-one : {X : Type 0} (xs : List X) (x y : X) → y ∈ (xs ++ x ∷ []) → (y ∈ xs) ⊎ (y ≡ x)
 last-one xs x y h = ⊎_elim inl (λ k. ⊎_elim inr (λ z. absurd z) k) (∈-append_cases y xs (x ∷ []) h)
 
 -- what says that a held clause needs no more
 abbrev pub IsCovered : View → Clause → Type 0
-IsCovered s c = ((d : Clause) × (d ∈ s.clauses) × (d ⊆ c)) ⊎ (IsTautology c ⊎ ((l : Literal) × (l ∈ c) × IsFixed s l))
+IsCovered s c = ((d : Clause) × (d ∈ kept s) × (d ⊆ c)) ⊎ (IsTautology c ⊎ ((l : Literal) × (l ∈ c) × IsFixed s l))
 
 -- one more clause is held
 pub fits-more : (s : View) (held : List Clause) (c : Clause) → Fits held s → IsCovered s c → Fits (held ++ c ∷ []) s
@@ -26,21 +27,26 @@ fits-more s held c f v = record {
 }
 
 -- one more clause is kept
-module _ (s : View) (c : Clause) (w : WellFormed s) where
+module _ (s : View) (j : StoredClause) (behind : (k : StoredClause) → k ∈ s.clauses → k.place < j.place) (w : WellFormed s) where
+  abbrev c : Clause
+  c = j.literals
+
   abbrev pub with_kept : View
-  with_kept = record s { clauses = s.clauses ++ c ∷ [] }
+  with_kept = record s { clauses = s.clauses ++ j ∷ [] }
 
-  pub kept-last : clause_at with_kept (length s.clauses) ≡ c
-  kept-last = get_or-last s.clauses c []
+  pub kept-last : clause_at with_kept j.place ≡ c
+  kept-last = ap (λ k. k.literals) (stored-last s.clauses j behind)
 
-  each : (Q : Clause → Type 0) → ((d : Clause) → d ∈ s.clauses → Q d) → Q c → (d : Clause) → d ∈ with_kept.clauses → Q d
-  each Q old new d h = ⊎_elim (old d) (λ e. subst Q (sym e) new) (last-one s.clauses c d h)
+  pub kept-is : kept with_kept ≡ kept s ++ c ∷ []
+  kept-is = literals-more s.clauses j
+
+  each : (Q : Clause → Type 0) → ((d : Clause) → d ∈ kept s → Q d) → Q c → (d : Clause) → d ∈ kept with_kept → Q d
+  each Q old new d h = ⊎_elim (old d) (λ e. subst Q (sym e) new) (last-one (kept s) c d (subst (λ P. d ∈ P) kept-is h))
 
   reason-kept : (k : ℕ) (q : Reason) → IsReason s k q → IsReason with_kept k q
   reason-kept k reason.Unit h = h
   reason-kept k (reason.Long i) (h, g) =
-      let n = length-append s.clauses (c ∷ []) in
-      (omega (arith, h, n), subst (λ d. Implies with_kept d k) (sym (get_or_append_left s.clauses (c ∷ []) [] i h)) (same-implies (clause_at s i) g))
+      (place-more s.clauses j i h, subst (λ d. Implies with_kept d k) (sym (ap (λ x. x.literals) (stored-more s.clauses j i h))) (same-implies (clause_at s i) g))
     where
       same-implies : (d : Clause) → Implies s d k → Implies with_kept d k
       same-implies [] g = g
@@ -50,11 +56,13 @@ module _ (s : View) (c : Clause) (w : WellFormed s) where
   kept-well r n d = record {
     nodes_are = w.nodes_are;
     small = w.small;
+    places = rising-more s.clauses j w.places behind;
     in_range = each (λ c. (l : Literal) → l ∈ c → variable_of l < length s.values) w.in_range r;
     several = each (λ c. 2 ≤ length c) w.several n;
     distinct = each IsDistinct w.distinct d;
     is_true = w.is_true;
     stands = w.stands;
+    head = w.head;
     depth_is = w.depth_is;
     decided = w.decided;
     rising = w.rising;
@@ -72,8 +80,8 @@ module _ (s : View) (c : Clause) (w : WellFormed s) where
         (h, ∈-append_right h held (h ∷ []) (inl refl), e);
     units = λ k i a b. let (x, j, g) = f.units k i a b in (x, ∈-append_left x held (h ∷ []) j, g);
     covered = λ d i. ⊎_elim
-        (λ k. ⊎_elim (λ (x, j, g). inl (x, ∈-append_left x s.clauses (c ∷ []) j, g)) inr (f.covered d k))
-        (λ g. inl (c, ∈-append_right c s.clauses (c ∷ []) (inl refl), subst (λ y. c ⊆ y) (sym g) e.1))
+        (λ k. ⊎_elim (λ (x, i, g). inl (x, subst (λ P. x ∈ P) (sym kept-is) (∈-append_left x (kept s) (c ∷ []) i), g)) inr (f.covered d k))
+        (λ g. inl (c, subst (λ P. c ∈ P) (sym kept-is) (∈-append_right c (kept s) (c ∷ []) (inl refl)), subst (λ y. c ⊆ y) (sym g) e.1))
         (last-one held h d i);
   }
 

@@ -1,23 +1,24 @@
 -- The context after learning.
-use Rattle.std.proofs.Common.{◌≡◌, ℕ, ◌<◌, ◌≤◌, false, List, [], ◌∷◌, ◌++◌, length, ⊎_elim, refl, sym, ap, ◌∙◌, subst, arith}
+use Rattle.std.proofs.Common.{◌≡◌, ℕ, ◌<◌, ◌≤◌, List, [], ◌∷◌, ◌++◌, length, ⊎_elim, refl, sym, ap, ◌∙◌, subst, arith}
 use Rattle.std.proofs.lemmas.Bool.{cases_lt}
 use Rattle.varisat_theory.specs.Literals.{Literal, Clause, variable_of}
 use Rattle.varisat_theory.specs.Propagation.{Follows, Conflicts}
 use Rattle.varisat_prop.specs.declared.prop.graph.Reason.{Reason}
 use Rattle.varisat_prop.specs.declared.prop.graph.Reason.TheVariants as reason
+use Rattle.varisat_prop.specs.Stored.{StoredClause}
 use Rattle.varisat_prop.specs.View.{View, WellFormed, LevelsSettled, Fits}
 use Rattle.varisat_prop.specs.Changes.{enqueued}
 use Rattle.varisat_search.specs.declared.context.Context.{Context}
 use Rattle.varisat_search.specs.Learned.{IsLearned, IsAsserting}
 use Rattle.varisat_search.specs.Contexts.{view, IsReady}
-use Rattle.varisat_search.specs.Conflicts.{IsKept}
+use Rattle.varisat_search.specs.Conflicts.{learned_at, IsKept}
 use Rattle.varisat_search.specs.Steps.{IsCut, IsFree}
 use Rattle.varisat_theory.specs.Derivations.{Add}
 use Rattle.varisat_theory.specs.Outcomes.{Unknown, Unsat, Steps}
 use Rattle.varisat_theory.proofs.StepEnds.{contradiction_is_found}
 use Rattle.varisat_search.specs.Seen.{search_of}
 use Rattle.varisat_search.proofs.Seeing.{view_reads}
-use Rattle.varisat_search.proofs.LearnedLines.{flagged_plain, steps_kept, steps_unit}
+use Rattle.varisat_search.proofs.LearnedLines.{steps_kept, steps_unit}
 use Rattle.varisat_search.proofs.Going.{Result, second-level, first-inside, first-free, unit-result, kept-result}
 
 same-first : (l m : Literal) (c d : Clause) → (l ∷ c) ≡ (m ∷ d) → l ≡ m
@@ -60,28 +61,28 @@ module _ (s t : View) (i level : ℕ) (l : Literal) (others : Clause) (w : WellF
       omega (arith, a, n, m, k)
 
   -- what is made of the learned clause
-  pub learned-result : (z : View) (P : List Clause) (r : Reason) (o : Clause) → others ≡ o → IsKept t.clauses P (l ∷ o) r → z ≡ enqueued (record t { clauses = P }) l r → Result s z
+  pub learned-result : (z : View) (P : List StoredClause) (r : Reason) (o : Clause) → others ≡ o → IsKept t.clauses P (l ∷ o) r → z ≡ enqueued (record t { clauses = P }) l r → Result s z
   learned-result z P r [] e (f, g) h =
       let whole : z ≡ enqueued t asserting.first reason.Unit = h ∙ ap (λ x. enqueued (record t { clauses = x }) l r) f ∙ ap (λ x. enqueued t l x) g ∙ ap (λ x. enqueued t x reason.Unit) first-is in
       subst (Result s) (sym whole) (unit-result s t i level (l ∷ others) w v asserting deep (cut below) d.follows (sym others-are ∙ e))
-  learned-result z P r (m ∷ ms) e (f, g) h =
+  learned-result z P r (m ∷ ms) e (p, k, g) h =
       let c = l ∷ others in
-      let f' : P ≡ t.clauses ++ c ∷ [] = f ∙ ap (λ o. t.clauses ++ (l ∷ o) ∷ []) (sym e) in
-      let whole : z ≡ enqueued (record t { clauses = t.clauses ++ c ∷ [] }) asserting.first (reason.Long (length t.clauses)) =
-      h ∙ ap (λ x. enqueued (record t { clauses = x }) l r) f' ∙ ap (λ x. enqueued (record t { clauses = t.clauses ++ c ∷ [] }) l x) g ∙ ap (λ x. enqueued (record t { clauses = t.clauses ++ c ∷ [] }) x (reason.Long (length t.clauses))) first-is in
-      subst (Result s) (sym whole) (kept-result s t i level c w v asserting deep (cut below) d.follows m ms (sym others-are ∙ e))
+      let f' : P ≡ t.clauses ++ learned_at p c ∷ [] = k.0 ∙ ap (λ o. t.clauses ++ learned_at p (l ∷ o) ∷ []) (sym e) in
+      let whole : z ≡ enqueued (record t { clauses = t.clauses ++ learned_at p c ∷ [] }) asserting.first (reason.Long p) =
+      h ∙ ap (λ x. enqueued (record t { clauses = x }) l r) f' ∙ ap (λ x. enqueued (record t { clauses = t.clauses ++ learned_at p c ∷ [] }) l x) g ∙ ap (λ x. enqueued (record t { clauses = t.clauses ++ learned_at p c ∷ [] }) x (reason.Long p)) first-is in
+      subst (Result s) (sym whole) (kept-result s t i level c w v asserting deep (cut below) d.follows p k.1 m ms (sym others-are ∙ e))
 
   -- the line that is written
-  pub learned-steps : (z : View) (P : List Clause) (r : Reason) (o : Clause) → others ≡ o → IsKept t.clauses P (l ∷ o) r → z ≡ enqueued (record t { clauses = P }) l r → Steps (search_of s []) (search_of z []) Unknown (Add (l ∷ others) ∷ [])
+  pub learned-steps : (z : View) (P : List StoredClause) (r : Reason) (o : Clause) → others ≡ o → IsKept t.clauses P (l ∷ o) r → z ≡ enqueued (record t { clauses = P }) l r → Steps (search_of s) (search_of z) Unknown (Add (l ∷ others) ∷ [])
   learned-steps z P r [] e (f, g) h =
       let whole : z ≡ enqueued t asserting.first reason.Unit = h ∙ ap (λ x. enqueued (record t { clauses = x }) l r) f ∙ ap (λ x. enqueued t l x) g ∙ ap (λ x. enqueued t x reason.Unit) first-is in
-      subst (λ y. Steps (search_of s []) (search_of y []) Unknown (Add (l ∷ others) ∷ [])) (sym whole) (steps_unit s t [] i level (l ∷ others) w v asserting deep (cut below) d.follows (sym others-are ∙ e))
-  learned-steps z P r (m ∷ ms) e (f, g) h =
+      subst (λ y. Steps (search_of s) (search_of y) Unknown (Add (l ∷ others) ∷ [])) (sym whole) (steps_unit s t i level (l ∷ others) w v asserting deep (cut below) d.follows (sym others-are ∙ e))
+  learned-steps z P r (m ∷ ms) e (p, k, g) h =
       let c = l ∷ others in
-      let f' : P ≡ t.clauses ++ c ∷ [] = f ∙ ap (λ o. t.clauses ++ (l ∷ o) ∷ []) (sym e) in
-      let whole : z ≡ enqueued (record t { clauses = t.clauses ++ c ∷ [] }) asserting.first (reason.Long (length t.clauses)) =
-      h ∙ ap (λ x. enqueued (record t { clauses = x }) l r) f' ∙ ap (λ x. enqueued (record t { clauses = t.clauses ++ c ∷ [] }) l x) g ∙ ap (λ x. enqueued (record t { clauses = t.clauses ++ c ∷ [] }) x (reason.Long (length t.clauses))) first-is in
-      subst (λ y. Steps (search_of s []) (search_of y []) Unknown (Add (l ∷ others) ∷ [])) (sym whole) (steps_kept s t [] i level c w v asserting deep (cut below) d.follows m ms false [] (flagged_plain s.clauses c) (sym others-are ∙ e))
+      let f' : P ≡ t.clauses ++ learned_at p c ∷ [] = k.0 ∙ ap (λ o. t.clauses ++ learned_at p (l ∷ o) ∷ []) (sym e) in
+      let whole : z ≡ enqueued (record t { clauses = t.clauses ++ learned_at p c ∷ [] }) asserting.first (reason.Long p) =
+      h ∙ ap (λ x. enqueued (record t { clauses = x }) l r) f' ∙ ap (λ x. enqueued (record t { clauses = t.clauses ++ learned_at p c ∷ [] }) l x) g ∙ ap (λ x. enqueued (record t { clauses = t.clauses ++ learned_at p c ∷ [] }) x (reason.Long p)) first-is in
+      subst (λ y. Steps (search_of s) (search_of y) Unknown (Add (l ∷ others) ∷ [])) (sym whole) (steps_kept s t i level c w v asserting deep (cut below) d.follows p k.1 m ms (sym others-are ∙ e))
 
 -- The contexts of a learning: before, after analysis, after going back, and after the clause was kept.
 pub record Learning {A : Type 0} (x0 x1 x2 x3 : Context A) (i level : ℕ) (l : Literal) (others : Clause) (r : Reason) : Type 0 where
@@ -121,7 +122,7 @@ module _ {A : Type 0} (x0 x1 x2 x3 : Context A) (i level : ℕ) (l : Literal) (o
       (subst (λ c. IsKept x2.clause_alloc x3.clause_alloc c r) d.split d.kept)
       (e ∙ ap (λ s. enqueued s l r) stored-view)
 
-  pub learning-steps : (z : View) → z ≡ enqueued (view x3) l r → Steps (search_of (view x0) []) (search_of z []) Unknown (Add (l ∷ others) ∷ [])
+  pub learning-steps : (z : View) → z ≡ enqueued (view x3) l r → Steps (search_of (view x0)) (search_of z) Unknown (Add (l ∷ others) ∷ [])
   learning-steps z e =
       learned-steps (view x0) (view x2) i level l others ready.well ready.settled learned-is cut-is z x3.clause_alloc r others refl
       (subst (λ c. IsKept x2.clause_alloc x3.clause_alloc c r) d.split d.kept)
@@ -146,6 +147,6 @@ refuted {A} x0 x1 x2 i level a d b e =
     }
 
 -- then no line is written
-pub refuted-steps : {A : Type 0} (x0 x2 : Context A) (t : View) → IsReady x0 → Refuted x0 x2 → Steps (search_of (view x0) []) (search_of t []) Unsat []
+pub refuted-steps : {A : Type 0} (x0 x2 : Context A) (t : View) → IsReady x0 → Refuted x0 x2 → Steps (search_of (view x0)) (search_of t) Unsat []
 refuted-steps x0 x2 t ready r =
-    (contradiction_is_found (search_of (view x0) []) (search_of t []) (λ held f. r.conflicts held (view_reads (view x0) [] held ready.well f))).0
+    (contradiction_is_found (search_of (view x0)) (search_of t) (λ held f. r.conflicts held (view_reads (view x0) held ready.well f))).0

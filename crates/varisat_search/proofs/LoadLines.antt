@@ -1,6 +1,7 @@
 -- The lines of loading a clause, of which there are none.
 use Rattle.std.proofs.Common.{◌≡◌, ◌≢◌, ℕ, ◌<◌, ◌≤◌, false, List, [], ◌∷◌, ◌++◌, length, inl, inr, ⊎_elim, refl, sym, ap, ◌∙◌, subst, arith}
 use Rattle.std.proofs.lemmas.Bool.{cases_lt}
+use Rattle.std.proofs.lemmas.List.{map-append}
 use Rattle.varisat_theory.specs.Membership.{◌∈◌, SameSet, IsDistinct}
 use Rattle.varisat_theory.specs.Literals.{Literal, Clause, opposite, IsUnit}
 use Rattle.varisat_prop.specs.declared.prop.graph.Reason.TheVariants as reason
@@ -11,21 +12,21 @@ use Rattle.varisat_prop.proofs.Enqueued.{enqueued-well}
 use Rattle.varisat_search.specs.declared.state.SatState.{SatState}
 use Rattle.varisat_search.specs.declared.state.SatState.TheVariants as verdict
 use Rattle.varisat_search.specs.Steps.{IsCut, with_clause}
-use Rattle.varisat_search.specs.Loading.{IsAdded}
-use Rattle.varisat_search.specs.Seen.{search_of, LoadsAlone}
+use Rattle.varisat_search.specs.Loading.{loaded_at, IsAdded}
+use Rattle.varisat_search.specs.Seen.{kept_clause, search_of, LoadsAlone}
 use Rattle.varisat_search.proofs.Loaded.{Restarted, no-decision}
 use Rattle.varisat_search.proofs.Seeing.{fixed_from, fixed_to, view_is_grounded}
-use Rattle.varisat_search.proofs.LearnedLines.{flagged_plain, cut_moves, unit_moves}
+use Rattle.varisat_search.proofs.LearnedLines.{cut_moves, unit_moves}
 use Rattle.varisat_theory.specs.Searches.{KeptClause, Search}
 use Rattle.varisat_theory.specs.Outcomes.{Outcome, Unknown, Unsat, Proves, Loads, IsContradicted}
 use Rattle.varisat_theory.proofs.StepLoads.{loaded_is_kept, loaded_is_unit, loaded_is_settled, loaded_is_contradicted, part_load, load_part}
 
 -- All decisions are undone without a line.
-pub restart-moves : (s t : View) → WellFormed s → (s.decisions ≡ [] → t ≡ s) → (0 < length s.decisions → IsCut s t 0) → Proves 0 (search_of s []) (search_of t []) []
+pub restart-moves : (s t : View) → WellFormed s → (s.decisions ≡ [] → t ≡ s) → (0 < length s.decisions → IsCut s t 0) → Proves 0 (search_of s) (search_of t) []
 restart-moves s t w same cut =
     ⊎_elim
-    (λ h. cut_moves s t [] 0 w h (cut h))
-    (λ h. subst (λ x. Proves 0 (search_of s []) (search_of x []) []) (sym (same (no-length s.decisions h))) (record { holds = λ held f. (held, refl, f); covers = λ P v. v }))
+    (λ h. cut_moves s t 0 w h (cut h))
+    (λ h. subst (λ x. Proves 0 (search_of s) (search_of x) []) (sym (same (no-length s.decisions h))) (record { holds = λ held f. (held, refl, f); covers = λ P v. v }))
     (cases_lt 0 (length s.decisions))
   where
     no-length : (xs : List ℕ) → length xs ≤ 0 → xs ≡ []
@@ -38,26 +39,26 @@ opened verdict.Sat n m = refl
 opened verdict.Unsat n m = absurd (n refl)
 opened verdict.UnsatUnderAssumptions n m = absurd (m refl)
 
-module _ (s t : View) (c lits : Clause) (w : WellFormed s) (r : Restarted s t) (p : Proves 0 (search_of s []) (search_of t []) []) (d : IsDistinct lits) (same : SameSet lits c) where
-  now : (x : Literal) → IsTrueIn t x → x ∈ (search_of t []).fixed
-  now x h = fixed_to t [] r.well x (h, no-decision t r.well r.undecided x h)
+module _ (s t : View) (c lits : Clause) (w : WellFormed s) (r : Restarted s t) (p : Proves 0 (search_of s) (search_of t) []) (d : IsDistinct lits) (same : SameSet lits c) where
+  now : (x : Literal) → IsTrueIn t x → x ∈ (search_of t).fixed
+  now x h = fixed_to t r.well x (h, no-decision t r.well r.undecided x h)
 
-  from-now : (x : Literal) → x ∈ (search_of t []).fixed → IsTrueIn t x
-  from-now x h = (fixed_from t [] r.well x h).0
+  from-now : (x : Literal) → x ∈ (search_of t).fixed → IsTrueIn t x
+  from-now x h = (fixed_from t r.well x h).0
 
-  before : (z : View) (v : Outcome) → Loads (search_of t []) (search_of z []) c v [] → Loads (search_of s []) (search_of z []) c v []
+  before : (z : View) (v : Outcome) → Loads (search_of t) (search_of z) c v [] → Loads (search_of s) (search_of z) c v []
   before z v q =
-      part_load (search_of s []) (search_of t []) (search_of z []) c v [] p
-      (λ x h. now x (r.fixed_to x (fixed_from s [] w x h)))
-      (λ x h. fixed_to s [] w x (r.fixed_from x (from-now x h)))
+      part_load (search_of s) (search_of t) (search_of z) c v [] p
+      (λ x h. now x (r.fixed_to x (fixed_from s w x h)))
+      (λ x h. fixed_to s w x (r.fixed_from x (from-now x h)))
       q
 
-  open-verdict : (b : SatState) (z : View) → b ≡ verdict.Unknown → Loads (search_of s []) (search_of z []) c Unknown [] → LoadsAlone s z c b
+  open-verdict : (b : SatState) (z : View) → b ≡ verdict.Unknown → Loads (search_of s) (search_of z) c Unknown [] → LoadsAlone s z c b
   open-verdict b z e q = subst (LoadsAlone s z c) (sym e) q
 
   pub lines-tautology : (b : SatState) → b ≡ verdict.Unknown → IsTautology lits → LoadsAlone s t c b
   lines-tautology b e (x, i, j) =
-      open-verdict b t e (before t Unknown (loaded_is_settled (search_of t []) c (inl (x, same.0 x i, same.0 (opposite x) j)) (λ k.
+      open-verdict b t e (before t Unknown (loaded_is_settled (search_of t) c (inl (x, same.0 x i, same.0 (opposite x) j)) (λ k.
       ⊎_elim
       (λ g. subst (λ y. x ∈ y) g (same.0 x i))
       (λ (l, unit, f). own-opposite x (unit.1 (opposite x) (same.0 (opposite x) j) ∙ sym (unit.1 x (same.0 x i))))
@@ -65,7 +66,7 @@ module _ (s t : View) (c lits : Clause) (w : WellFormed s) (r : Restarted s t) (
 
   pub lines-satisfied : (b : SatState) → b ≡ verdict.Unknown → (x : Literal) → x ∈ lits → IsTrueIn t x → LoadsAlone s t c b
   lines-satisfied b e x i h =
-      open-verdict b t e (before t Unknown (loaded_is_settled (search_of t []) c (inr (x, same.0 x i, now x h)) (λ k.
+      open-verdict b t e (before t Unknown (loaded_is_settled (search_of t) c (inr (x, same.0 x i, now x h)) (λ k.
       ⊎_elim
       (λ g. subst (λ y. x ∈ y) g (same.0 x i))
       (λ (l, unit, f). made-clash t.values x h (subst (λ y. IsTrueIn t (opposite y)) (sym (unit.1 x (same.0 x i))) (from-now (opposite l) f)))
@@ -78,9 +79,9 @@ module _ (s t : View) (c lits : Clause) (w : WellFormed s) (r : Restarted s t) (
       go [] n = refl
       go (x ∷ c) n = absurd (n x (inl refl))
 
-  false-now : (z : View) (after : SatState) → after ≡ verdict.Unsat → IsContradicted (search_of t []) c → LoadsAlone s z c after
+  false-now : (z : View) (after : SatState) → after ≡ verdict.Unsat → IsContradicted (search_of t) c → LoadsAlone s z c after
   false-now z after e k =
-      subst (LoadsAlone s z c) (sym e) (before z Unsat (loaded_is_contradicted (search_of t []) (search_of z []) c (view_is_grounded t [] r.well) k))
+      subst (LoadsAlone s z c) (sym e) (before z Unsat (loaded_is_contradicted (search_of t) (search_of z) c (view_is_grounded t r.well) k))
 
   pub lines-added : (z : View) (o : Clause) (b after : SatState) → b ≡ verdict.Unknown → lits ≡ o → IsAdded t z o b after → LoadsAlone s z c after
   lines-added z [] b after u e (f, g) = false-now z after g (inl (empty-set e))
@@ -90,21 +91,21 @@ module _ (s t : View) (c lits : Clause) (w : WellFormed s) (r : Restarted s t) (
       (λ (h, f, g). false-now z after g (inr (l, unit, now (opposite l) h)))
       (λ (free, f, g).
       let z' = enqueued t l reason.Unit in
-      let S1 : Search = record (search_of t []) { fixed = (search_of t []).fixed ++ l ∷ []; proved = (search_of t []).proved ++ l ∷ [] } in
-      let first : Loads (search_of t []) S1 c Unknown [] = loaded_is_unit (search_of t []) c l unit (λ x. none-made t.values l (opposite l) free.1 (variable-opposite l) (from-now (opposite l) x)) in
-      let whole = load_part (search_of t []) S1 (search_of z' []) c [] [] first (unit_moves t l [] r.well free.0 free.1 r.undecided (enqueued-well t l reason.Unit r.well free.0 free.1 r.undecided)) in
-      open-verdict after z (g ∙ u) (subst (λ y. Loads (search_of s []) (search_of y []) c Unknown []) (sym f) (before z' Unknown whole)))
+      let S1 : Search = record (search_of t) { fixed = (search_of t).fixed ++ l ∷ []; proved = (search_of t).proved ++ l ∷ [] } in
+      let first : Loads (search_of t) S1 c Unknown [] = loaded_is_unit (search_of t) c l unit (λ x. none-made t.values l (opposite l) free.1 (variable-opposite l) (from-now (opposite l) x)) in
+      let whole = load_part (search_of t) S1 (search_of z') c [] [] first (unit_moves t l r.well free.0 free.1 r.undecided (enqueued-well t l reason.Unit r.well free.0 free.1 r.undecided)) in
+      open-verdict after z (g ∙ u) (subst (λ y. Loads (search_of s) (search_of y) c Unknown []) (sym f) (before z' Unknown whole)))
       q
-  lines-added z (l ∷ m ∷ ms) b after u e (f, g) =
-      let f' : z ≡ record t { clauses = t.clauses ++ lits ∷ [] } = f ∙ ap (λ y. record t { clauses = t.clauses ++ y ∷ [] }) (sym e) in
+  lines-added z (l ∷ m ∷ ms) b after u e (p, i, f, g) =
+      let f' : z ≡ record t { clauses = t.clauses ++ loaded_at p lits ∷ [] } = f ∙ ap (λ y. record t { clauses = y }) i.0 ∙ ap (λ y. record t { clauses = t.clauses ++ loaded_at p y ∷ [] }) (sym e) in
       let in-c : (x : Literal) → x ∈ (l ∷ m ∷ ms) → x ∈ c = λ x h. same.0 x (subst (λ y. x ∈ y) (sym e) h) in
-      let S = search_of t [] in
+      let S = search_of t in
       let k : KeptClause = record { clause = lits; learned = false } in
       let first : Loads S (record S { kept = S.kept ++ k ∷ [] }) c Unknown [] = loaded_is_kept S c k same refl (λ n.
       ⊎_elim
       (λ x. subst (λ y. l ∈ y) x (in-c l (inl refl)))
       (λ (x, v, y). (subst IsDistinct e d).0 (inl (v.1 l (in-c l (inl refl)) ∙ sym (v.1 m (in-c m (inr (inl refl)))))))
       n) in
-      let z' = record t { clauses = t.clauses ++ lits ∷ [] } in
-      let whole : Loads S (search_of z' []) c Unknown [] = subst (λ ks. Loads S (record S { kept = ks }) c Unknown []) (sym (flagged_plain t.clauses lits)) first in
-      open-verdict after z (g ∙ u) (subst (λ y. Loads (search_of s []) (search_of y []) c Unknown []) (sym f') (before z' Unknown whole))
+      let z' = record t { clauses = t.clauses ++ loaded_at p lits ∷ [] } in
+      let whole : Loads S (search_of z') c Unknown [] = subst (λ ks. Loads S (record S { kept = ks }) c Unknown []) (sym (map-append kept_clause t.clauses (loaded_at p lits ∷ []))) first in
+      open-verdict after z (g ∙ u) (subst (λ y. Loads (search_of s) (search_of y) c Unknown []) (sym f') (before z' Unknown whole))

@@ -6,11 +6,11 @@ use Rattle.varisat_theory.specs.Literals.{Literal, Clause, variable_of, opposite
 use Rattle.varisat_theory.specs.Propagation.{IsFalse, LeavesOnly, FalseClause}
 use Rattle.varisat_theory.specs.Analysis.{IsTrail}
 use Rattle.varisat_theory.proofs.Implication.{trail_conflicts}
-use Rattle.varisat_theory.proofs.Places.{∈-get_or}
 use Rattle.varisat_theory.proofs.Members.{∈-append_left, ∈-append_right}
 use Rattle.varisat_formula.specs.Numbers.{polarity_of}
 use Rattle.varisat_prop.specs.declared.prop.graph.Reason.{Reason}
 use Rattle.varisat_prop.specs.declared.prop.graph.Reason.TheVariants as reason
+use Rattle.varisat_prop.proofs.Stored.{kept-at}
 use Rattle.varisat_prop.specs.View.{View, IsTrueIn, clause_at, literal_at, node_at, level_of, Implies, IsReason, WellFormed, LevelsSettled, IsFixed, IsTautology, Fits}
 use Rattle.varisat_prop.specs.Looks.{IsInRange}
 use Rattle.varisat_prop.proofs.Lits.{own-opposite, made-clash, none-made, variable-opposite}
@@ -18,7 +18,7 @@ use Rattle.varisat_prop.proofs.Looked.{on-trail}
 use Rattle.varisat_prop.proofs.Enqueued.{enqueued-well}
 use Rattle.varisat_search.specs.declared.state.SatState.{SatState}
 use Rattle.varisat_search.specs.Steps.{IsCut, with_clause, Loads}
-use Rattle.varisat_search.specs.Loading.{IsAdded}
+use Rattle.varisat_search.specs.Loading.{loaded_at, IsAdded}
 use Rattle.varisat_search.proofs.Cut.{cut-well, cut-fits, was-true, fixed-cut}
 use Rattle.varisat_search.proofs.Kept.{kept-well, kept-fits, unit-fits, fits-more}
 
@@ -89,7 +89,7 @@ zero-trail s w e held f k h = go (node_at s k).reason (w.reason_is k h) refl
         let (d, i, u) = f.units k h zero-level g in
         inr (d, i, u.0, λ m q. inl (u.1 m q))
     go (reason.Long i) (a, r) g =
-        let (d, j, same) = f.stored (clause_at s i) (∈-get_or s.clauses i [] a) in
+        let (d, j, same) = f.stored (clause_at s i) (kept-at s.clauses i a) in
         let (x, y) = others (clause_at s i) r in
         inr (d, j, same.1 (literal_at s k) x, λ m q. y m (same.0 m q))
 
@@ -154,15 +154,15 @@ module _ (s t : View) (c lits : Clause) (before : SatState) (r : Restarted s t) 
     where
       grown : (held : List Clause) → IsTrail held [] t.trail → IsTrail (held ++ c ∷ []) [] t.trail
       grown held i k h = ⊎_elim inl (λ (x, a, b, g). inr (x, ∈-append_left x held (c ∷ []) a, b, g)) (i k h)
-  loads-added z (l ∷ m ∷ ms) after e (f, g) =
-      let f' : z ≡ record t { clauses = t.clauses ++ lits ∷ [] } = f ∙ ap (λ y. record t { clauses = t.clauses ++ y ∷ [] }) (sym e) in
+  loads-added z (l ∷ m ∷ ms) after e (p, k, f, g) =
+      let f' : z ≡ record t { clauses = t.clauses ++ loaded_at p lits ∷ [] } = f ∙ ap (λ y. record t { clauses = y }) k.0 ∙ ap (λ y. record t { clauses = t.clauses ++ loaded_at p y ∷ [] }) (sym e) in
       let in-c : (x : Literal) → x ∈ (l ∷ m ∷ ms) → x ∈ c = λ x h. same.0 x (subst (λ y. x ∈ y) (sym e) h) in
       subst (λ y. Loads s y c before after) (sym f') record {
-        accepted = λ n. (g, λ held i. kept-fits t lits r.well held c (same.1, same.0) (r.fits held i));
-        contradicted = λ k. absurd (⊎_elim
+        accepted = λ n. (g, λ held i. kept-fits t (loaded_at p lits) k.1 r.well held c (same.1, same.0) (r.fits held i));
+        contradicted = λ q. absurd (⊎_elim
             (λ x. subst (λ y. l ∈ y) x (in-c l (inl refl)))
             (λ (x, u', y). (subst IsDistinct e d).0 (inl (u'.1 l (in-c l (inl refl)) ∙ sym (u'.1 m (in-c m (inr (inl refl)))))))
-            k);
+            q);
       }
 
   -- the view stays well formed, and no level is left
@@ -173,10 +173,10 @@ module _ (s t : View) (c lits : Clause) (before : SatState) (r : Restarted s t) 
       (λ (h, f, g). subst (λ (y : View). WellFormed y × (y.decisions ≡ []) × (length y.values ≡ length s.values)) (sym f) (r.well, r.undecided, r.count))
       (λ (free, f, g). subst (λ (y : View). WellFormed y × (y.decisions ≡ []) × (length y.values ≡ length s.values)) (sym f) (enqueued-well t l reason.Unit r.well free.0 free.1 r.undecided, r.undecided, length-set t.values (variable_of l) (Some (polarity_of l)) ∙ r.count))
       q
-  added-well z (l ∷ m ∷ ms) b after e (f, g) =
-      let f' : z ≡ record t { clauses = t.clauses ++ lits ∷ [] } = f ∙ ap (λ y. record t { clauses = t.clauses ++ y ∷ [] }) (sym e) in
+  added-well z (l ∷ m ∷ ms) b after e (p, k, f, g) =
+      let f' : z ≡ record t { clauses = t.clauses ++ loaded_at p lits ∷ [] } = f ∙ ap (λ y. record t { clauses = y }) k.0 ∙ ap (λ y. record t { clauses = t.clauses ++ loaded_at p y ∷ [] }) (sym e) in
       let n = ap (λ (x : Clause). length x) e in
-      subst (λ (y : View). WellFormed y × (y.decisions ≡ []) × (length y.values ≡ length s.values)) (sym f') (kept-well t lits r.well inside (omega (arith, n)) d, r.undecided, r.count)
+      subst (λ (y : View). WellFormed y × (y.decisions ≡ []) × (length y.values ≡ length s.values)) (sym f') (kept-well t (loaded_at p lits) k.1 r.well inside (omega (arith, n)) d, r.undecided, r.count)
 
 pub undecided-settled : (z : View) → z.decisions ≡ [] → LevelsSettled z
 undecided-settled z e j h = let n = ap (λ (x : List ℕ). length x) e in absurd (omega (arith, h, n))

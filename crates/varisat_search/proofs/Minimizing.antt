@@ -11,6 +11,7 @@ use Rattle.varisat_theory.proofs.Implication.{implied_alone}
 use Rattle.varisat_theory.proofs.Learning.{follows_shorter}
 use Rattle.varisat_prop.specs.declared.prop.graph.Reason.TheVariants as reason
 use Rattle.varisat_prop.specs.Changes.{others_of}
+use Rattle.varisat_prop.proofs.Stored.{kept-at}
 use Rattle.varisat_prop.specs.View.{View, clause_at, literal_at, level_of, StandsBefore, Implies, IsReason, WellFormed, Fits}
 use Rattle.varisat_prop.proofs.Lits.{variable-opposite}
 use Rattle.varisat_prop.proofs.Distinct.{distinct-places}
@@ -179,7 +180,7 @@ module _ (s : View) (w : WellFormed s) (held : List Clause) (fits : Fits held s)
       (λ i. Known (subst (λ y. y ∈ opposites kept) (opposite_twice (literal_at s k)) (∈-opposites (opposite (literal_at s k)) kept i)))
       (λ (r, e, q).
       let why : IsReason s k (reason.Long r) = subst (IsReason s k) e (w.reason_is k h) in
-      let (d, i, u) = fits.stored (clause_at s r) (∈-get_or s.clauses r [] why.0) in
+      let (d, i, u) = fits.stored (clause_at s r) (kept-at s.clauses r why.0) in
       ByReason d i (u.1 (literal_at s k) (first-in k (clause_at s r) why.1)) (λ y j o. ⊎_elim
       (λ z. absurd (o z))
       (λ (z, (p, a, b)).

@@ -9,6 +9,7 @@ use Rattle.varisat_theory.proofs.Implication.{implied_false}
 use Rattle.varisat_theory.proofs.Members.{∈-or_not}
 use Rattle.varisat_theory.proofs.Places.{∈-get_or}
 use Rattle.varisat_theory.proofs.Values.{opposite_twice}
+use Rattle.varisat_prop.proofs.Stored.{kept-at}
 use Rattle.varisat_prop.specs.View.{View, clause_at, literal_at, level_of, WellFormed, Fits}
 use Rattle.varisat_prop.proofs.Fronted.{IsFronted, fronted}
 use Rattle.std.specs.List.{swap}
@@ -79,7 +80,7 @@ module _ (s : View) (w : WellFormed s) (cf : ℕ) (first : Literal) (c : Clause)
 -- a conflict at level 0
 pub learned-at-zero : (s : View) (w : WellFormed s) (cf : ℕ) (c : Clause) (level : ℕ) → IsConflict s cf → present_level s ≡ 0 → c ≡ [] → level ≡ 0 → IsLearned s cf c level
 learned-at-zero s w cf c level h z e l = subst (λ x. IsLearned s cf x level) (sym e) record {
-  follows = λ held k. let (d, i, o) = k.stored (clause_at s cf) (∈-get_or s.clauses cf [] h.0) in
+  follows = λ held k. let (d, i, o) = k.stored (clause_at s cf) (kept-at s.clauses cf h.0) in
       implied_false held [] d i (λ m j. let g = h.1 m (o.0 m j) in fixed-implied s w held k m g (let x = level-small s w m g in omega (arith, x, z)));
   at_zero = λ _. (refl, l);
   above = λ d. absurd (omega (arith, d, z));

@@ -2,7 +2,7 @@
 use Rattle.std.proofs.Common.{◌≡◌, ℕ, zero, suc, ◌+◌, ◌-◌, ◌<◌, ◌≤◌, Bool, true, false, List, [], ◌∷◌, ◌++◌, length, get_or, set, take, take_all, drop, ◌⊎◌, inl, inr, ⊎_elim, refl, sym, ap, ◌∙◌, subst, arith, append_assoc, length-append, get_or-set_same}
 use Rattle.std.proofs.lemmas.Bool.{cases_Bool}
 use Rattle.varisat_theory.specs.Membership.{◌∈◌}
-use Rattle.varisat_theory.specs.Literals.{Literal, Clause, variable_of, opposite}
+use Rattle.varisat_theory.specs.Literals.{Literal, variable_of, opposite}
 use Rattle.varisat_theory.specs.Propagation.{IsFalse}
 use Rattle.varisat_theory.proofs.Members.{∈-append_left, ∈-append_right, ∈-append_cases, ∈-or_not}
 use Rattle.varisat_theory.proofs.Places.{∈-take_more}
@@ -10,6 +10,7 @@ use Rattle.varisat_prop.specs.declared.prop.graph.Reason.{Reason}
 use Rattle.varisat_prop.specs.declared.prop.graph.Reason.TheVariants as reason
 use Rattle.varisat_prop.specs.declared.prop.graph.ImplNode.{ImplNode}
 use Rattle.varisat_prop.specs.Changes.{NamesClause, others_of, causes_of}
+use Rattle.varisat_prop.specs.Stored.{StoredClause}
 use Rattle.varisat_prop.specs.View.{View, clause_at, node_of, no_node, level_of, WellFormed}
 use Rattle.varisat_prop.proofs.Lits.{variable-opposite}
 use Rattle.varisat_prop.proofs.Growth.{append-nil}
@@ -216,16 +217,16 @@ module _ (s : View) (w : WellFormed s) (l : Literal) (f : List Bool) (t : List �
       let n = ap (λ y. length y) p in
       omega (arith, i, n, q)
 
-  pub search-names : (P : List Clause) (r : Reason) → P ≡ s.clauses → r ≡ (node_of s x).reason → NamesClause P r
+  pub search-names : (P : List StoredClause) (r : Reason) → P ≡ s.clauses → r ≡ (node_of s x).reason → NamesClause P r
   search-names P r p q = subst (λ y. NamesClause y r) (sym p) (subst (NamesClause s.clauses) (sym q) (names-clause s w x (popped s w l f t g u st x st' a e).0))
 
-  causes-are : (P : List Clause) (r : Reason) (lits : List Literal) → P ≡ s.clauses → r ≡ (node_of s x).reason → lits ≡ causes_of P r → lits ≡ causes_of s.clauses (node_of s x).reason
+  causes-are : (P : List StoredClause) (r : Reason) (lits : List Literal) → P ≡ s.clauses → r ≡ (node_of s x).reason → lits ≡ causes_of P r → lits ≡ causes_of s.clauses (node_of s x).reason
   causes-are P r lits p q h = h ∙ ap (λ y. causes_of y r) p ∙ ap (λ y. causes_of s.clauses y) q
 
-  pub search-falsified : (P : List Clause) (r : Reason) (lits : List Literal) → P ≡ s.clauses → r ≡ (node_of s x).reason → lits ≡ causes_of P r → IsFalse s.trail lits
+  pub search-falsified : (P : List StoredClause) (r : Reason) (lits : List Literal) → P ≡ s.clauses → r ≡ (node_of s x).reason → lits ≡ causes_of P r → IsFalse s.trail lits
   search-falsified P r lits p q h = subst (IsFalse s.trail) (sym (causes-are P r lits p q h)) (causes-false s w x (popped s w l f t g u st x st' a e).0)
 
-  pub search-next : (P : List Clause) (r : Reason) (lits : List Literal) (g' : List Bool) (u' : List ℕ) (st'' : List Literal) → P ≡ s.clauses → r ≡ (node_of s x).reason → lits ≡ causes_of P r → length g ≡ length f → Explores s lits true g u st' g' u' st'' → Search s l f t g' u' st''
+  pub search-next : (P : List StoredClause) (r : Reason) (lits : List Literal) (g' : List Bool) (u' : List ℕ) (st'' : List Literal) → P ≡ s.clauses → r ≡ (node_of s x).reason → lits ≡ causes_of P r → length g ≡ length f → Explores s lits true g u st' g' u' st'' → Search s l f t g' u' st''
   search-next P r lits g' u' st'' p q h n b =
       let (k, is) = (popped s w l f t g u st x st' a e).1 in
       let lits-are : lits ≡ others_of (clause_at s k) = causes-are P r lits p q h ∙ ap (λ y. causes_of s.clauses y) is in

@@ -8,16 +8,17 @@ use Rattle.varisat_theory.proofs.Saturated.{complete_shorter}
 use Rattle.varisat_theory.proofs.Assigned.{assigned_satisfies, same_set_satisfied, tautology_satisfied}
 use Rattle.varisat_formula.specs.Numbers.{polarity_of}
 use Rattle.varisat_prop.specs.Parts.{is_true_value}
-use Rattle.varisat_prop.specs.View.{View, IsTrueIn, decision_at, WellFormed, LevelsSettled, Fits, Grows, AreReordered}
+use Rattle.varisat_prop.specs.Stored.{StoredClause, literals_of, AreReordered}
+use Rattle.varisat_prop.specs.View.{View, kept, IsTrueIn, decision_at, WellFormed, LevelsSettled, Fits, Grows}
 use Rattle.varisat_prop.specs.Changes.{decided_on}
 use Rattle.varisat_prop.proofs.Lits.{variable-opposite, polarity-opposite}
-use Rattle.varisat_prop.proofs.Growth.{reordered-old}
+use Rattle.varisat_prop.proofs.Stored.{reordered-old}
 use Rattle.varisat_prop.proofs.Extend.{get_or-last}
 use Rattle.varisat_prop.proofs.Looked.{on-trail, trail-true}
 use Rattle.varisat_search.specs.Steps.{IsTotal, assignment_of}
 
-pub complete-reordered : (P Q : List Clause) (known : List Literal) → AreReordered P Q → IsComplete P known → IsComplete Q known
-complete-reordered P Q known a = complete_shorter P Q known (λ d h. let (c, i, e) = reordered-old P Q a d h in (c, i, e.0, λ m k. inl (e.1 m k)))
+pub complete-reordered : (P Q : List StoredClause) (known : List Literal) → AreReordered P Q → IsComplete (literals_of P) known → IsComplete (literals_of Q) known
+complete-reordered P Q known a = complete_shorter (literals_of P) (literals_of Q) known (λ d h. let (c, i, e) = reordered-old P Q a d h in (c, i, e.0, λ m k. inl (e.1 m k)))
 
 pub settled-grows : (s t : View) → WellFormed s → Grows s t → t.decisions ≡ s.decisions → LevelsSettled s → LevelsSettled t
 settled-grows s t w g e q j h =
@@ -27,14 +28,14 @@ settled-grows s t w g e q j h =
     let le : decision_at s j ≤ length s.trail = omega (arith, d) in
     let same : take (decision_at t j) t.trail ≡ take (decision_at s j) s.trail =
     ap (λ x. take (get_or x j 0) t.trail) e ∙ ap (λ x. take (decision_at s j) x) g.trail_more.1 ∙ take-append-le (decision_at s j) s.trail g.trail_more.0 le in
-    subst (λ x. IsComplete t.clauses x) (sym same) (complete-reordered s.clauses t.clauses (take (decision_at s j) s.trail) g.clauses (q j h'))
+    subst (λ x. IsComplete (kept t) x) (sym same) (complete-reordered s.clauses t.clauses (take (decision_at s j) s.trail) g.clauses (q j h'))
 
 take-whole : (xs ys : List ℕ) → take (length xs) (xs ++ ys) ≡ xs
 take-whole [] [] = refl
 take-whole [] (y ∷ ys) = refl
 take-whole (x ∷ xs) ys = ap (λ z. x ∷ z) (take-whole xs ys)
 
-pub settled-decided : (s : View) (l : Literal) → WellFormed s → IsComplete s.clauses s.trail → LevelsSettled s → LevelsSettled (decided_on s l)
+pub settled-decided : (s : View) (l : Literal) → WellFormed s → IsComplete (kept s) s.trail → LevelsSettled s → LevelsSettled (decided_on s l)
 settled-decided s l w q v j h =
     let n = length-append s.decisions (length s.trail ∷ []) in
     ⊎_elim
@@ -42,11 +43,11 @@ settled-decided s l w q v j h =
     let d = (w.decided j p).0 in
     let le : decision_at s j ≤ length s.trail = omega (arith, d) in
     let e = get_or_append_left s.decisions (length s.trail ∷ []) 0 j p in
-    subst (λ x. IsComplete s.clauses (take x (s.trail ++ l ∷ []))) (sym e) (subst (λ x. IsComplete s.clauses x) (sym (take-append-le (decision_at s j) s.trail (l ∷ []) le)) (v j p)))
+    subst (λ x. IsComplete (kept s) (take x (s.trail ++ l ∷ []))) (sym e) (subst (λ x. IsComplete (kept s) x) (sym (take-append-le (decision_at s j) s.trail (l ∷ []) le)) (v j p)))
     (λ (p : length s.decisions ≤ j).
     let z : j ≡ length s.decisions = omega (arith, n, h, p) in
     let e : get_or (s.decisions ++ length s.trail ∷ []) j 0 ≡ length s.trail = ap (λ x. get_or (s.decisions ++ length s.trail ∷ []) x 0) z ∙ get_or-last s.decisions (length s.trail) 0 in
-    subst (λ x. IsComplete s.clauses (take x (s.trail ++ l ∷ []))) (sym e) (subst (λ x. IsComplete s.clauses x) (sym (take-whole s.trail (l ∷ []))) q))
+    subst (λ x. IsComplete (kept s) (take x (s.trail ++ l ∷ []))) (sym e) (subst (λ x. IsComplete (kept s) x) (sym (take-whole s.trail (l ∷ []))) q))
     (cases_lt j (length s.decisions))
 
 parity : (l : ℕ) → (l % 2 ≡ 0) ⊎ (l % 2 ≡ 1)
@@ -78,9 +79,9 @@ one-true s l n = go (get_or s.values (variable_of l) None) (polarity_of l) n (λ
     go (Some false) true n a b = inr (b refl)
     go (Some false) false n a b = inl (a refl)
 
-pub satisfied : (s : View) → WellFormed s → IsComplete s.clauses s.trail → IsTotal s → (held : List Clause) → Fits held s → SatisfiesAll (assignment_of s) held
+pub satisfied : (s : View) → WellFormed s → IsComplete (kept s) s.trail → IsTotal s → (held : List Clause) → Fits held s → SatisfiesAll (assignment_of s) held
 satisfied s w q o held f c h =
-    let a = assigned_satisfies s.clauses s.trail (assignment_of s) (λ l m. makes-true s l (trail-true s w l m)) q.no_false (λ d j l m. ⊎_elim (λ t. inl (on-trail s w l t)) (λ t. inr (on-trail s w (opposite l) t)) (one-true s l (o (variable_of l) (w.in_range d j l m)))) in
+    let a = assigned_satisfies (kept s) s.trail (assignment_of s) (λ l m. makes-true s l (trail-true s w l m)) q.no_false (λ d j l m. ⊎_elim (λ t. inl (on-trail s w l t)) (λ t. inr (on-trail s w (opposite l) t)) (one-true s l (o (variable_of l) (w.in_range d j l m)))) in
     ⊎_elim
     (λ (d, i, k). same_set_satisfied (assignment_of s) d c k (a d i))
     (λ r. ⊎_elim (λ (l, i, k). tautology_satisfied (assignment_of s) c l i k) (λ (l, i, x). (l, i, makes-true s l x.0)) r)

@@ -10,6 +10,7 @@ use Rattle.varisat_theory.proofs.Values.{opposite_twice}
 use Rattle.varisat_prop.specs.declared.prop.graph.Reason.{Reason}
 use Rattle.varisat_prop.specs.declared.prop.graph.Reason.TheVariants as reason
 use Rattle.varisat_prop.specs.declared.prop.graph.ImplNode.{ImplNode}
+use Rattle.varisat_prop.proofs.Stored.{kept-at}
 use Rattle.varisat_prop.specs.View.{View, clause_at, literal_at, decision_at, no_node, node_of, node_at, level_of, StandsBefore, Implies, IsReason, WellFormed, LevelsSettled, Fits}
 use Rattle.varisat_prop.specs.Changes.{NamesClause, others_of, causes_of}
 use Rattle.varisat_prop.proofs.Lits.{same-variable, variable-opposite, made-clash, made-inside}
@@ -115,7 +116,7 @@ module _ (s : View) (w : WellFormed s) where
       (λ l. l)
       (λ n. absurd ((q (length s.decisions - 1) (last-in d)).no_false (
         clause_at s i,
-        ∈-get_or s.clauses i [] c.0,
+        kept-at s.clauses i c.0,
         λ m h.
             let (k, a, e) = place_in (opposite m) s.trail 0 (c.1 m h) in
             let f : (node_at s k).level ≡ level_of s (opposite m) = ap (level_of s) e in
@@ -151,7 +152,7 @@ module _ (s : View) (w : WellFormed s) where
   -- the others of a kept clause that is a reason are implied where their opposites are
   implied-by : (held : List Clause) → Fits held s → (k c : ℕ) → IsReason s k (reason.Long c) → ((m : Literal) → StandsBefore s k (opposite m) → Implied held [] (opposite m)) → Implied held [] (literal_at s k)
   implied-by held f k c h g =
-      let (d, i, e) = f.stored (clause_at s c) (∈-get_or s.clauses c [] h.0) in
+      let (d, i, e) = f.stored (clause_at s c) (kept-at s.clauses c h.0) in
       ByReason d i (e.1 (literal_at s k) (first (clause_at s c) h.1)) (λ m j n. ⊎_elim (λ q. absurd (n q)) (g m) (reason-before k (reason.Long c) m h (e.0 m j)))
     where
       first : (d : Clause) → Implies s d k → literal_at s k ∈ d
@@ -183,7 +184,7 @@ module _ (s : View) (w : WellFormed s) where
     where
       by : (k : ℕ) (r : Reason) → IsReason s k r → NamesClause s.clauses r
       by k reason.Unit i = tt
-      by k (reason.Long c) i = (i.0, let n = w.several (clause_at s c) (∈-get_or s.clauses c [] i.0) in omega (arith, n))
+      by k (reason.Long c) i = (i.0, let n = w.several (clause_at s c) (kept-at s.clauses c i.0) in omega (arith, n))
 
   pub causes-false : (x : Literal) → x ∈ s.trail → IsFalse s.trail (causes_of s.clauses (node_of s x).reason)
   causes-false x h =

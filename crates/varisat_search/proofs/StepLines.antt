@@ -1,15 +1,15 @@
 -- The lines of a whole step.
-use Rattle.std.proofs.Common.{List, [], inl, inr, ⊎_elim, sym, subst}
+use Rattle.std.proofs.Common.{List, [], map, inl, inr, ⊎_elim, sym, subst}
 use Rattle.varisat_theory.specs.Membership.{◌∈◌}
 use Rattle.varisat_theory.specs.Literals.{Literal, Clause, variable_of, opposite}
 use Rattle.varisat_theory.specs.Propagation.{IsComplete}
 use Rattle.varisat_theory.specs.Derivations.{Line}
-use Rattle.varisat_prop.specs.View.{View, WellFormed, Grows}
+use Rattle.varisat_prop.specs.View.{View, kept, WellFormed, Grows}
 use Rattle.varisat_prop.proofs.Looked.{on-trail, trail-true}
 use Rattle.varisat_search.specs.Steps.{IsTotal, assignment_of}
-use Rattle.varisat_search.specs.Seen.{flagged, search_of}
+use Rattle.varisat_search.specs.Seen.{kept_clause, search_of}
 use Rattle.varisat_search.proofs.Settled.{makes-true, one-true}
-use Rattle.varisat_search.proofs.Seeing.{fixed_from, flagged_clauses}
+use Rattle.varisat_search.proofs.Seeing.{fixed_from, seen_clauses}
 use Rattle.varisat_search.proofs.Growing.{grows_prove}
 use Rattle.varisat_theory.specs.Outcomes.{Outcome, Sat, Steps}
 use Rattle.varisat_theory.proofs.SearchFits.{clause_in}
@@ -17,17 +17,17 @@ use Rattle.varisat_theory.proofs.StepEnds.{model_is_found}
 use Rattle.varisat_theory.proofs.StepStands.{part_step}
 
 -- a model was found
-pub model-steps : (s : View) → WellFormed s → IsComplete s.clauses s.trail → IsTotal s → Steps (search_of s []) (search_of s []) (Sat (assignment_of s)) []
+pub model-steps : (s : View) → WellFormed s → IsComplete (kept s) s.trail → IsTotal s → Steps (search_of s) (search_of s) (Sat (assignment_of s)) []
 model-steps s w q o =
-    model_is_found (search_of s []) s.trail (assignment_of s) (
-      λ l h. on-trail s w l (fixed_from s [] w l h).0,
-      subst (λ P. (c : Clause) × (c ∈ P) × ((m : Literal) → m ∈ c → opposite m ∈ s.trail) → ⊥) (sym (flagged_clauses s.clauses [])) q.no_false,
+    model_is_found (search_of s) s.trail (assignment_of s) (
+      λ l h. on-trail s w l (fixed_from s w l h).0,
+      subst (λ P. (c : Clause) × (c ∈ P) × ((m : Literal) → m ∈ c → opposite m ∈ s.trail) → ⊥) (sym (seen_clauses s.clauses)) q.no_false,
       λ k h l m.
-          let inside : k.clause ∈ s.clauses = subst (λ P. k.clause ∈ P) (flagged_clauses s.clauses []) (clause_in (flagged s.clauses []) k h) in
+          let inside : k.clause ∈ kept s = subst (λ P. k.clause ∈ P) (seen_clauses s.clauses) (clause_in (map kept_clause s.clauses) k h) in
           ⊎_elim (λ t. inl (on-trail s w l t)) (λ t. inr (on-trail s w (opposite l) t)) (one-true s l (o (variable_of l) (w.in_range k.clause inside l m))),
     )
     (λ l h. makes-true s l (trail-true s w l h))
 
 -- the search went on before
-pub steps-after : (s u t : View) (v : Outcome) (lines : List Line) → WellFormed s → WellFormed u → Grows s u → Steps (search_of u []) (search_of t []) v lines → Steps (search_of s []) (search_of t []) v lines
-steps-after s u t v lines w x g p = part_step (search_of s []) (search_of u []) (search_of t []) v [] lines (grows_prove s u [] w x g) p
+pub steps-after : (s u t : View) (v : Outcome) (lines : List Line) → WellFormed s → WellFormed u → Grows s u → Steps (search_of u) (search_of t) v lines → Steps (search_of s) (search_of t) v lines
+steps-after s u t v lines w x g p = part_step (search_of s) (search_of u) (search_of t) v [] lines (grows_prove s u w x g) p

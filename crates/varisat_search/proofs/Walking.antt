@@ -11,6 +11,8 @@ use Rattle.varisat_theory.proofs.Learning.{Pending, IsPassed, pending_start, pen
 use Rattle.varisat_prop.specs.declared.prop.graph.Reason.{Reason}
 use Rattle.varisat_prop.specs.declared.prop.graph.Reason.TheVariants as reason
 use Rattle.varisat_prop.specs.Changes.{others_of}
+use Rattle.varisat_prop.proofs.Stored.{kept-at}
+use Rattle.varisat_prop.specs.Stored.{IsPlace}
 use Rattle.varisat_prop.specs.View.{View, clause_at, literal_at, decision_at, node_of, node_at, level_of, StandsBefore, Implies, IsReason, WellFormed, LevelsSettled, Fits}
 use Rattle.varisat_prop.proofs.Lits.{variable-opposite}
 use Rattle.varisat_search.specs.Learned.{present_level, IsPresent, IsConflict, clause_of, reason_clause, IsReachedDownTo, IsImplicationPoint, IsFirstPoint}
@@ -126,7 +128,7 @@ module _ (s : View) (w : WellFormed s) (cf : ℕ) where
     start = λ k i o r. subst (IsMarked f') (variable-opposite (literal_at s k)) (a.all (opposite (literal_at s k)) r (let g = level-opposite s (literal_at s k) in let z = o.1 in omega (arith, g, z, d)));
     passed = λ j k i o r. let z = o.0 in absurd (omega (arith, z, i));
     none_later = λ j i r. let z = r.present.0 in absurd (omega (arith, z, i));
-    pending = λ held k. let (x, i, o) = k.stored (clause_at s cf) (∈-get_or s.clauses cf [] h.0) in
+    pending = λ held k. let (x, i, o) = k.stored (clause_at s cf) (kept-at s.clauses cf h.0) in
         pending_start held c' s.trail (Seen s f') (length s.trail) x i (λ m r. passed-literal c' f' t' (length s.trail) m held (omega arith) marks-now k (a.all m (o.0 m r)) (before m (o.0 m r)));
   }
     where
@@ -350,7 +352,7 @@ module _ (s : View) (w : WellFormed s) (cf : ℕ) where
               (subst (IsImplicationPoint s cf) x p).alone k b o (u.sound j k (omega arith) (omega (arith, b)) o m))
               (cases_lt j q);
           pending = λ held k.
-              let (x, i, o) = k.stored (clause_at s r) (∈-get_or s.clauses r [] why.0) in
+              let (x, i, o) = k.stored (clause_at s r) (kept-at s.clauses r why.0) in
               pending_resolve held c c' s.trail (Seen s f) (Seen s f') j x (subst (Pending held c s.trail (Seen s f)) (sym (add-one j)) (u.pending held k)) a.longer
               (λ q b v. (kept q b v.0, v.1))
               i (o.1 (literal_at s j) (first-in (clause_at s r) why.1))
@@ -443,12 +445,12 @@ module _ (s : View) (w : WellFormed s) (cf : ℕ) (c : Clause) (f : List Bool) (
       pub read-unit : (r : Reason) → r ≡ (node_of s x).reason → r ≡ reason.Unit → ⊥
       read-unit r p q = not-decided s w cf c f t count (i - 1) d flag-inside marked before more (ap (λ k. (node_of s k).reason) (sym e) ∙ sym p ∙ q)
 
-      pub read-clause : (r : Reason) (a : ℕ) → r ≡ (node_of s x).reason → r ≡ reason.Long a → (a < length s.clauses) × (1 ≤ length (clause_at s a)) × IsFalse s.trail (others_of (clause_at s a))
+      pub read-clause : (r : Reason) (a : ℕ) → r ≡ (node_of s x).reason → r ≡ reason.Long a → IsPlace s.clauses a × (1 ≤ length (clause_at s a)) × IsFalse s.trail (others_of (clause_at s a))
       read-clause r a p q =
           let l : (node_at s (i - 1)).reason ≡ reason.Long a = ap (λ k. (node_of s k).reason) (sym e) ∙ sym p ∙ q in
           let y : IsReason s (i - 1) (reason.Long a) = subst (IsReason s (i - 1)) l (w.reason_is (i - 1) read-at) in
           let b = false-before s w cf c f t count (i - 1) d flag-inside marked before more a l in
-          let g = w.several (clause_at s a) (∈-get_or s.clauses a [] y.0) in
+          let g = w.several (clause_at s a) (kept-at s.clauses a y.0) in
           let h = read-at in
           (y.0, omega (arith, g), λ k j. stands-∈ s w (i - 1) (opposite k) (omega (arith, h)) (b k j))
 

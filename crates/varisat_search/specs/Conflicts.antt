@@ -1,17 +1,22 @@
 -- The conflict of a step, and the reason that its learned clause gives.
-use Rattle.std.specs.Prelude.{◌≡◌, List, [], ◌∷◌, ◌++◌, length}
+use Rattle.std.specs.Prelude.{◌≡◌, ℕ, true, List, [], ◌∷◌}
 use Rattle.varisat_theory.specs.Literals.{Clause}
 use Rattle.varisat_prop.specs.declared.prop.graph.Conflict.{Conflict}
 use Rattle.varisat_prop.specs.declared.prop.graph.Reason.{Reason}
 use Rattle.varisat_prop.specs.declared.prop.graph.Reason.TheVariants as reason
+use Rattle.varisat_prop.specs.Stored.{StoredClause, Keeps}
 use Rattle.varisat_search.specs.declared.cdcl.FoundConflict.{FoundConflict}
 use Rattle.varisat_search.specs.declared.cdcl.FoundConflict.TheVariants as found
 
 abbrev pub conflict_of : FoundConflict → Conflict
 conflict_of (found.Conflict c) = c
 
+-- a learned clause at the place, which is redundant
+abbrev pub learned_at : ℕ → Clause → StoredClause
+learned_at p c = record { place = p; header = record { redundant = true }; literals = c }
+
 -- A clause of two literals or more is kept and is the reason; else nothing is kept.
-abbrev pub IsKept : List Clause → List Clause → Clause → Reason → Type 0
-IsKept P Q [] r = (Q ≡ P) × (r ≡ reason.Unit)
-IsKept P Q (l ∷ []) r = (Q ≡ P) × (r ≡ reason.Unit)
-IsKept P Q (l ∷ m ∷ c) r = (Q ≡ P ++ (l ∷ m ∷ c) ∷ []) × (r ≡ reason.Long (length P))
+abbrev pub IsKept : List StoredClause → List StoredClause → Clause → Reason → Type 0
+IsKept old new [] r = (new ≡ old) × (r ≡ reason.Unit)
+IsKept old new (l ∷ []) r = (new ≡ old) × (r ≡ reason.Unit)
+IsKept old new (l ∷ m ∷ c) r = (p : ℕ) × Keeps old new (learned_at p (l ∷ m ∷ c)) × (r ≡ reason.Long p)

@@ -6,6 +6,7 @@ use Rattle.varisat_theory.specs.Propagation.{IsFalse, Follows}
 use Rattle.varisat_theory.specs.Analysis.{Reached}
 use Rattle.varisat_prop.specs.declared.prop.graph.Reason.{Reason}
 use Rattle.varisat_prop.specs.declared.prop.graph.Reason.TheVariants as reason
+use Rattle.varisat_prop.specs.Stored.{IsPlace}
 use Rattle.varisat_prop.specs.View.{View, clause_at, literal_at, node_at, node_of, level_of, Fits}
 
 -- the learned clause, the clauses that it came from, and for how many variables there are flags
@@ -19,7 +20,7 @@ no_analysis = record { clause = []; involved = []; var_count = 0 }
 
 -- all literals of the kept clause are false
 abbrev pub IsConflict : View → ℕ → Type 0
-IsConflict s i = (i < length s.clauses) × IsFalse s.trail (clause_at s i)
+IsConflict s i = IsPlace s.clauses i × IsFalse s.trail (clause_at s i)
 
 -- the present level is the number of decisions
 abbrev pub present_level : View → ℕ

@@ -1,15 +1,20 @@
 -- What becomes of a clause's distinct literals.
-use Rattle.std.specs.Prelude.{◌≡◌, [], ◌∷◌, ◌++◌, ◌⊎◌}
+use Rattle.std.specs.Prelude.{◌≡◌, ℕ, false, [], ◌∷◌, ◌⊎◌}
 use Rattle.varisat_theory.specs.Literals.{Clause, opposite}
 use Rattle.varisat_prop.specs.declared.prop.graph.Reason.TheVariants as reason
+use Rattle.varisat_prop.specs.Stored.{StoredClause, Keeps}
 use Rattle.varisat_prop.specs.View.{View, IsTrueIn}
 use Rattle.varisat_prop.specs.Changes.{enqueued}
 use Rattle.varisat_search.specs.declared.state.SatState.{SatState}
 use Rattle.varisat_search.specs.declared.state.SatState.TheVariants as verdict
 use Rattle.varisat_search.specs.Steps.{IsFree}
 
+-- a loaded clause at the place, which is not redundant
+abbrev pub loaded_at : ℕ → Clause → StoredClause
+loaded_at p c = record { place = p; header = record { redundant = false }; literals = c }
+
 -- The empty clause, and a single literal that is false, give verdict Unsat. Another single literal is made true. A longer clause is kept.
 abbrev pub IsAdded : View → View → Clause → SatState → SatState → Type 0
 IsAdded s t [] before after = (t ≡ s) × (after ≡ verdict.Unsat)
 IsAdded s t (l ∷ []) before after = (IsTrueIn s (opposite l) × (t ≡ s) × (after ≡ verdict.Unsat)) ⊎ (IsFree s l × (t ≡ enqueued s l reason.Unit) × (after ≡ before))
-IsAdded s t (l ∷ m ∷ c) before after = (t ≡ record s { clauses = s.clauses ++ (l ∷ m ∷ c) ∷ [] }) × (after ≡ before)
+IsAdded s t (l ∷ m ∷ c) before after = (p : ℕ) × Keeps s.clauses t.clauses (loaded_at p (l ∷ m ∷ c)) × (t ≡ record s { clauses = t.clauses }) × (after ≡ before)

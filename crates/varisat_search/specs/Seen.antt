@@ -1,9 +1,10 @@
 -- What a proof can see of a view.
-use Rattle.std.specs.Prelude.{◌≡◌, Bool, false, ◌&&◌, not, nat_eq, List, [], ◌∷◌}
+use Rattle.std.specs.Prelude.{◌≡◌, Bool, ◌&&◌, not, nat_eq, [], map}
 use Rattle.std.specs.List.{filter}
 use Rattle.varisat_theory.specs.Membership.{◌∈◌}
 use Rattle.varisat_theory.specs.Literals.{Literal, Clause}
 use Rattle.varisat_prop.specs.declared.prop.graph.Reason.TheVariants as reason
+use Rattle.varisat_prop.specs.Stored.{StoredClause}
 use Rattle.varisat_prop.specs.View.{View, node_of, level_of, is_clause}
 use Rattle.varisat_theory.specs.Searches.{KeptClause, Search}
 use Rattle.varisat_theory.specs.Outcomes.{Outcome, Unknown, Sat, Unsat, UnsatUnder, Loads}
@@ -11,11 +12,9 @@ use Rattle.varisat_search.specs.declared.state.SatState.{SatState}
 use Rattle.varisat_search.specs.declared.state.SatState.TheVariants as verdict
 use Rattle.varisat_search.specs.Steps.{assignment_of}
 
--- the kept clauses with a flag each: whether it is learned
-abbrev pub flagged : List Clause → List Bool → List KeptClause
-flagged [] flags = []
-flagged (c ∷ P) [] = record { clause = c; learned = false } ∷ flagged P []
-flagged (c ∷ P) (b ∷ flags) = record { clause = c; learned = b } ∷ flagged P flags
+-- the clause as a proof sees it: the redundant ones are learned
+abbrev pub kept_clause : StoredClause → KeptClause
+kept_clause k = record { clause = k.literals; learned = k.header.redundant }
 
 abbrev pub is_fixed : View → Literal → Bool
 is_fixed s l = nat_eq (level_of s l) 0
@@ -23,8 +22,8 @@ is_fixed s l = nat_eq (level_of s l) 0
 abbrev pub is_proved : View → Literal → Bool
 is_proved s l = nat_eq (level_of s l) 0 && not (is_clause (node_of s l).reason)
 
-abbrev pub search_of : View → List Bool → Search
-search_of s flags = record { kept = flagged s.clauses flags; fixed = filter (is_fixed s) s.trail; proved = filter (is_proved s) s.trail }
+abbrev pub search_of : View → Search
+search_of s = record { kept = map kept_clause s.clauses; fixed = filter (is_fixed s) s.trail; proved = filter (is_proved s) s.trail }
 
 -- the literal is true at level 0, and has no clause as its reason
 abbrev pub IsProved : View → Literal → Type 0
@@ -39,4 +38,4 @@ outcome_of s verdict.UnsatUnderAssumptions = UnsatUnder []
 
 -- what loading a clause gives, where no line is written
 abbrev pub LoadsAlone : View → View → Clause → SatState → Type 0
-LoadsAlone s t c after = Loads (search_of s []) (search_of t []) c (outcome_of t after) []
+LoadsAlone s t c after = Loads (search_of s) (search_of t) c (outcome_of t after) []

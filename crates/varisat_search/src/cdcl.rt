@@ -1,7 +1,7 @@
 //! One step of the search: propagate and decide to a conflict or a model, and learn.
 ghost use Rattle.std.specs.Prelude.{◌≡◌, ◌<◌, ℕ, length, [], ◌∷◌, List, OnOk, IfOk, MatchOption, MatchResult};
 ghost use Rattle.varisat_theory.specs.Propagation.{IsComplete};
-ghost use Rattle.varisat_prop.specs.View.{View, WellFormed, LevelsSettled, Grows};
+ghost use Rattle.varisat_prop.specs.View.{View, kept, WellFormed, LevelsSettled, Grows};
 ghost use Rattle.varisat_prop.specs.Parts.{Values};
 ghost use Rattle.varisat_prop.specs.Changes.{place_of};
 ghost use Rattle.varisat_search.specs.Learned.{IsConflict, IsLearned};
@@ -19,6 +19,7 @@ use crate::levels::backtrack;
 use crate::state::SatState;
 use std::alloc::{AllocError, Allocator};
 use varisat_formula::formula::Lit;
+use varisat_prop::clause::ClauseHeader;
 use varisat_prop::prop::{Conflict, Reason, enqueue_assignment, propagate};
 
 /// Why a search for a model stopped.
@@ -47,7 +48,7 @@ fn find_conflict<A: Allocator + Copy>(
     ensures ready { OnOk result (IsReady ctx.new) }
     ensures grows { OnOk result (Grows (view ctx.old) (view ctx.new)) }
     ensures found { IfOk result (λ found. MatchResult found
-        (λ _. IsComplete ctx.new.clause_alloc ctx.new.trail.literals × IsTotal (view ctx.new))
+        (λ _. IsComplete (kept (view ctx.new)) ctx.new.trail.literals × IsTotal (view ctx.new))
         (λ conflict. IsConflict (view ctx.new) (place_of (conflict_of conflict)))) }
     ensures state { OnOk result (ctx.new.solver_state ≡ ctx.old.solver_state) }
     ensures last { OnOk result (ctx.new.assignment.last ≡ ctx.old.assignment.last) }
@@ -87,7 +88,11 @@ fn keep_learned<A: Allocator + Copy>(ctx: &mut Context<A>) -> Result<Reason, All
     if ctx.analyze_conflict.clause().len() < 2 {
         return Ok(Reason::Unit);
     }
-    let cref = ctx.clause_alloc.add_clause(ctx.analyze_conflict.clause())?;
+    let mut header = ClauseHeader::new();
+    header.set_redundant(true);
+    let cref = ctx
+        .clause_alloc
+        .add_clause(header, ctx.analyze_conflict.clause())?;
     Ok(Reason::Long(cref))
 }
 
@@ -122,7 +127,7 @@ fn learn<A: Allocator + Copy>(ctx: &mut Context<A>, conflict: Conflict) -> Resul
     requires unknown { ctx.old.solver_state.sat_state ≡ SatState.Unknown }
     ensures ready { OnOk result (IsReady ctx.new) }
     ensures gives { OnOk result (StepGives (view ctx.old) (view ctx.new) ctx.new.solver_state.sat_state) }
-    ensures steps { OnOk result ((lines : List Line) × Steps (search_of (view ctx.old) []) (search_of (view ctx.new) []) (outcome_of (view ctx.new) ctx.new.solver_state.sat_state) lines) }
+    ensures steps { OnOk result ((lines : List Line) × Steps (search_of (view ctx.old)) (search_of (view ctx.new)) (outcome_of (view ctx.new) ctx.new.solver_state.sat_state) lines) }
     ensures count { OnOk result (length ctx.new.assignment.current ≡ length ctx.old.assignment.current) }
     ensures units { OnOk result (ctx.new.trail.units_removed ≡ ctx.old.trail.units_removed) }
     ensures state { OnOk result (ctx.new.solver_state ≡ record ctx.old.solver_state { sat_state = ctx.new.solver_state.sat_state }) }
@@ -150,7 +155,7 @@ pub fn conflict_step<A: Allocator + Copy>(ctx: &mut Context<A>) -> Result<(), Al
     requires unknown { ctx.old.solver_state.sat_state ≡ SatState.Unknown }
     ensures ready { OnOk result (IsReady ctx.new) }
     ensures gives { OnOk result (StepGives (view ctx.old) (view ctx.new) ctx.new.solver_state.sat_state) }
-    ensures steps { OnOk result ((lines : List Line) × Steps (search_of (view ctx.old) []) (search_of (view ctx.new) []) (outcome_of (view ctx.new) ctx.new.solver_state.sat_state) lines) }
+    ensures steps { OnOk result ((lines : List Line) × Steps (search_of (view ctx.old)) (search_of (view ctx.new)) (outcome_of (view ctx.new) ctx.new.solver_state.sat_state) lines) }
     ensures count { OnOk result (length ctx.new.assignment.current ≡ length ctx.old.assignment.current) }
     ensures units { OnOk result (ctx.new.trail.units_removed ≡ ctx.old.trail.units_removed) }
     ensures state { OnOk result (ctx.new.solver_state ≡ record ctx.old.solver_state { sat_state = ctx.new.solver_state.sat_state }) }

@@ -16,6 +16,7 @@ use crate::levels::full_restart;
 use crate::state::SatState;
 use std::alloc::{AllocError, Allocator};
 use varisat_formula::formula::Lit;
+use varisat_prop::clause::ClauseHeader;
 use varisat_prop::prop::{Assignment, Reason, enqueue_assignment};
 
 /// Whether the literal is one of the list.
@@ -88,7 +89,9 @@ fn add_distinct<A: Allocator + Copy>(ctx: &mut Context<A>) -> Result<(), AllocEr
         return Ok(());
     };
     if ctx.tmp_data.lits.len() > 1 {
-        let _cref = ctx.clause_alloc.add_clause(&ctx.tmp_data.lits)?;
+        let _cref = ctx
+            .clause_alloc
+            .add_clause(ClauseHeader::new(), &ctx.tmp_data.lits)?;
         return Ok(());
     }
     if ctx.assignment.lit_is_false(first) {

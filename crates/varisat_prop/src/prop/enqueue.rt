@@ -1,6 +1,7 @@
 //! Making literals true.
 ghost use Rattle.std.specs.Prelude.{◌≡◌, ◌<◌, List, length, None, slice_index_or, OnOk};
-ghost use Rattle.varisat_theory.specs.Literals.{Clause, variable_of};
+ghost use Rattle.varisat_theory.specs.Literals.{variable_of};
+ghost use Rattle.varisat_prop.specs.Stored.{StoredClause};
 ghost use Rattle.varisat_prop.specs.View.{view_of};
 ghost use Rattle.varisat_prop.specs.Changes.{enqueued};
 
@@ -21,7 +22,7 @@ pub fn enqueue_assignment<A: Allocator + Copy>(
     requires values { variable_of lit < length assignment.old.current }
     requires nodes { variable_of lit < length impl_graph.old.nodes.items }
     requires unassigned { slice_index_or assignment.old.current (variable_of lit) None ≡ None }
-    ensures view { OnOk result ((clauses : List Clause) → view_of clauses assignment.new trail.new impl_graph.new ≡ enqueued (view_of clauses assignment.old trail.old impl_graph.old) lit reason) }
+    ensures view { OnOk result ((clauses : List StoredClause) → view_of clauses assignment.new trail.new impl_graph.new ≡ enqueued (view_of clauses assignment.old trail.old impl_graph.old) lit reason) }
     ensures last { OnOk result (assignment.new.last ≡ assignment.old.last) }
     ensures queue { OnOk result ((trail.new.queue_head ≡ trail.old.queue_head) × (trail.new.units_removed ≡ trail.old.units_removed)) }
 {

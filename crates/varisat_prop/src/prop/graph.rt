@@ -1,5 +1,6 @@
 //! The implication graph: why, at which level and where each variable was assigned.
 ghost use Rattle.std.specs.Prelude.{◌≡◌, ◌<◌, ◌≤◌, ◌++◌, ◌-◌, ◌↔◌, ◌^◌, IsTrue, [], length, replicate, slice_index_or, slice_set, OnOk};
+ghost use Rattle.varisat_prop.specs.Stored.{IsPlace, literals_at};
 ghost use Rattle.varisat_prop.specs.View.{no_node};
 ghost use Rattle.varisat_prop.specs.Changes.{NamesClause, causes_of, place_of};
 
@@ -64,8 +65,8 @@ impl Reason {
 impl Conflict {
     /// The literals of the clause, which are all false.
     pub fn lits<'a, A: Allocator + Copy>(&self, clause_alloc: &'a ClauseAlloc<A>) -> &'a [Lit]
-        requires { place_of self.now < length clause_alloc.now }
-        ensures { result.now ≡ slice_index_or clause_alloc.now (place_of self.now) [] }
+        requires { IsPlace clause_alloc.now (place_of self.now) }
+        ensures { result.now ≡ literals_at clause_alloc.now (place_of self.now) }
     {
         match self {
             Conflict::Long(cref) => clause_alloc.clause(*cref),

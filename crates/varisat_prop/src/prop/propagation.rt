@@ -1,6 +1,7 @@
 //! Unit propagation: a scan of the clauses in the order of adding, until nothing changes.
-ghost use Rattle.std.specs.Prelude.{◌≡◌, ◌<◌, [], length, slice_index_or, OnOk, IfOk, MatchResult};
+ghost use Rattle.std.specs.Prelude.{◌≡◌, length, OnOk, IfOk, MatchResult};
 ghost use Rattle.varisat_theory.specs.Propagation.{IsFalse, IsComplete};
+ghost use Rattle.varisat_prop.specs.Stored.{IsPlace, literals_of, literals_at};
 ghost use Rattle.varisat_prop.specs.View.{view_of, WellFormed};
 ghost use Rattle.varisat_prop.specs.Changes.{place_of};
 ghost use Rattle.varisat_prop.specs.Looks.{Propagates, IsInRange, IsStatus, IsLook};
@@ -65,7 +66,7 @@ fn look_at<A: Allocator + Copy>(
     cref: ClauseRef,
 ) -> Result<Look, AllocError>
     requires well { WellFormed (view_of clause_alloc.old assignment.old trail.old impl_graph.old) }
-    requires within { cref < length clause_alloc.old }
+    requires within { IsPlace clause_alloc.old cref }
     ensures look { IfOk result (λ look. IsLook (view_of clause_alloc.old assignment.old trail.old impl_graph.old) (view_of clause_alloc.new assignment.new trail.new impl_graph.new) cref look) }
     ensures last { OnOk result (assignment.new.last ≡ assignment.old.last) }
     ensures units { OnOk result (trail.new.units_removed ≡ trail.old.units_removed) }
@@ -97,8 +98,8 @@ pub fn propagate<A: Allocator + Copy>(
     ensures propagates { OnOk result (Propagates (view_of clause_alloc.old assignment.old trail.old impl_graph.old) (view_of clause_alloc.new assignment.new trail.new impl_graph.new)) }
     // At a conflict all literals of the named clause are false. Else no clause is false, none leaves a literal that isn't true, and each literal was propagated.
     ensures ends { IfOk result (λ end. MatchResult end
-        (λ _. IsComplete clause_alloc.new trail.new.literals × (trail.new.queue_head ≡ length trail.new.literals))
-        (λ conflict. (place_of conflict < length clause_alloc.new) × IsFalse trail.new.literals (slice_index_or clause_alloc.new (place_of conflict) []))) }
+        (λ _. IsComplete (literals_of clause_alloc.new) trail.new.literals × (trail.new.queue_head ≡ length trail.new.literals))
+        (λ conflict. IsPlace clause_alloc.new (place_of conflict) × IsFalse trail.new.literals (literals_at clause_alloc.new (place_of conflict)))) }
     ensures last { OnOk result (assignment.new.last ≡ assignment.old.last) }
     ensures units { OnOk result (trail.new.units_removed ≡ trail.old.units_removed) }
 {

@@ -1,6 +1,6 @@
 //! Each call of the parts, with ample memory and with little.
 use super::*;
-use crate::clause::{ClauseAlloc, ClauseRef};
+use crate::clause::{ClauseAlloc, ClauseHeader, ClauseRef};
 use linked_list_allocator::LocalHeap;
 use std::alloc::{AllocError, Allocator};
 use varisat_formula::{lit, lits, var};
@@ -64,8 +64,12 @@ fn nodes(rt: HostRuntime) -> Result<(), AllocError> {
 #[test]
 fn clauses(rt: HostRuntime) -> Result<(), AllocError> {
     let mut clauses = ClauseAlloc::new_in(rt.alloc());
-    let cref = clauses.add_clause(&lits![1, -2, 3])?;
-    assert_eq!(rt; clauses.len(), 1);
+    let first = clauses.add_clause(ClauseHeader::new(), &lits![-1, 3])?;
+    let mut header = ClauseHeader::new();
+    header.set_redundant(true);
+    let cref = clauses.add_clause(header, &lits![1, -2, 3])?;
+    assert_eq!(rt; clauses.len(), 2);
+    assert!(rt; clauses.header(cref).redundant() && !clauses.header(first).redundant());
     clauses.put_first(cref, 2);
     assert!(rt; clauses.clause(cref) == lits![3, -2, 1].as_slice());
     assert!(rt; Reason::Long(cref).lits(&clauses) == lits![-2, 1].as_slice());

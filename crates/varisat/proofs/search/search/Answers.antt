@@ -27,7 +27,7 @@ steps-preserved g c =
       holds = λ P h. step-goes P s t (subst (StepGives s t) c.in-Unknown.is e.gives) (r.holds P h);
       lines =
           let (ls, p) = e.steps in
-          written-step (search_of (view c.args.ctx.now) []) (search_of s []) (search_of t []) ls r.lines (subst (λ b. Steps (search_of s []) (search_of t []) (outcome_of t b) ls) c.in-Unknown.is p);
+          written-step (search_of (view c.args.ctx.now)) (search_of s) (search_of t) ls r.lines (subst (λ b. Steps (search_of s) (search_of t) (outcome_of t b) ls) c.in-Unknown.is p);
     }
 
 pub returns-in-Sat-clause-found : goal.returns-in-Sat-clause-found
@@ -51,7 +51,7 @@ returns-in-Sat-clause-lines g c =
     let s = view c.steps.ctx in
     let t = view c.conflict_step.new.ctx in
     let (ls, p) = c.in_ok-conflict_step.ensures.steps in
-    written-end (search_of (view c.args.ctx.now) []) (search_of s []) (search_of t []) (Sat (assignment_of t)) ls c.steps.invariant.lines (subst (λ b. Steps (search_of s []) (search_of t []) (outcome_of t b) ls) c.in-Sat.is p)
+    written-end (search_of (view c.args.ctx.now)) (search_of s) (search_of t) (Sat (assignment_of t)) ls c.steps.invariant.lines (subst (λ b. Steps (search_of s) (search_of t) (outcome_of t b) ls) c.in-Sat.is p)
 
 pub returns-in-Unsat-clause-lines : goal.returns-in-Unsat-clause-lines
 returns-in-Unsat-clause-lines g c =
@@ -60,6 +60,6 @@ returns-in-Unsat-clause-lines g c =
     let e = c.in_ok-conflict_step.ensures in
     let (ls, p) = e.steps in
     ⊎_elim
-    (λ q. written-end (search_of (view c.args.ctx.now) []) (search_of s []) (search_of t []) Unsat ls c.steps.invariant.lines (subst (λ b. Steps (search_of s []) (search_of t []) (outcome_of t b) ls) q p))
+    (λ q. written-end (search_of (view c.args.ctx.now)) (search_of s) (search_of t) Unsat ls c.steps.invariant.lines (subst (λ b. Steps (search_of s) (search_of t) (outcome_of t b) ls) q p))
     (λ q. absurd (subst (StepGives s t) q e.gives))
     c.in-Unsat.is

@@ -14,7 +14,7 @@ invariant-steps g l = record {
   count : length l.ctx.assignment.current ≡ length l.fn.ctx.assignment.current;
   state : l.ctx.solver_state ≡ l.fn.ctx.solver_state;
   holds : (P : List Clause) → Holds P (view l.fn.ctx) → Holds P (view l.ctx);
-  lines : (k : ℕ) × (lines : List Line) × Proves k (search_of (view l.fn.ctx) []) (search_of (view l.ctx) []) lines;
+  lines : (k : ℕ) × (lines : List Line) × Proves k (search_of (view l.fn.ctx)) (search_of (view l.ctx)) lines;
 }
 
 abbrev pub decreases-steps : goal.decreases-steps

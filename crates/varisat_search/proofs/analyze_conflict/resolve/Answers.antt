@@ -1,6 +1,7 @@
-use Rattle.std.proofs.Common.{◌≡◌, ◌+◌, ◌-◌, ◌<◌, ◌≤◌, false, [], length, get_or, take, drop, length-set, refl, sym, ap, ◌∙◌, subst, arith}
+use Rattle.std.proofs.Common.{◌≡◌, ◌+◌, ◌-◌, ◌<◌, ◌≤◌, false, length, get_or, take, drop, length-set, refl, sym, ap, ◌∙◌, subst, arith}
 use Rattle.varisat_theory.specs.Propagation.{IsFalse}
 use Rattle.varisat_prop.proofs.Clauses.{element}
+use Rattle.varisat_prop.specs.Stored.{IsPlace, literals_at}
 use Rattle.varisat_prop.specs.Changes.{place_of, others_of}
 use Rattle.varisat_prop.proofs.Reordered.{trail-short}
 use Rattle.varisat_search.specs.Marks.{Adds}
@@ -10,12 +11,12 @@ use Rattle.varisat_search.proofs.analyze_conflict.resolve.Goals as goal
 
 pub add_literals-requires : goal.add_literals-requires
 add_literals-requires g c κs within =
-    let l = c.lits-lits.ensures ∙ ap (λ x. get_or x (place_of c.args.conflict) []) c.requires.1.1.0 in
+    let l = c.lits-lits.ensures ∙ ap (λ x. literals_at x (place_of c.args.conflict)) c.requires.1.1.0 in
     (within, (c.requires.1.0, (c.requires.1.1.1.0, (c.current_level-present.ensures ∙ ap (λ x. length x) c.requires.1.1.1.1.1.0, (subst (IsFalse g.s.trail) (sym l) c.requires.1.1.1.1.1.1.1.0.1, c.requires.1.1.1.1.1.1.1.1.1.0)))))
 
 pub places-init : goal.places-init
 places-init g c =
-    let l = c.lits-lits.ensures ∙ ap (λ x. get_or x (place_of c.args.conflict) []) c.requires.1.1.0 in
+    let l = c.lits-lits.ensures ∙ ap (λ x. literals_at x (place_of c.args.conflict)) c.requires.1.1.0 in
     let n = ap (λ x. length x) (c.trail-place.ensures ∙ c.requires.1.1.1.1.0) in
     let a = subst (λ x. Adds g.s x c.in_ok-count.count c.args.clause.now.items c.args.var_flags.now c.args.to_clean.now.items c.add_literals.new.clause.items c.add_literals.new.var_flags c.add_literals.new.to_clean.items) l (c.in_ok-count.ensures {u = tt}) in
     subst (λ x. Walk g.s (place_of c.args.conflict) c.add_literals.new.clause.items c.add_literals.new.var_flags c.add_literals.new.to_clean.items c.in_ok-count.count x) (sym n)
@@ -122,9 +123,7 @@ clause-reasoned-requires g c =
     let p = reason-read g.s c.args.impl_graph.now.nodes.items x c.var.result c.reason.result.now c.requires.1.1.1.0 c.var.ensures c.reason.ensures in
     let q = c.in-Long.is in
     let rc = read-clause g.s c.requires.1.0 (place_of c.args.conflict) c.places.clause.items c.places.var_flags c.places.to_clean.items c.places.count c.places.place x c.index.result c.requires.1.1.1.1.1.1.1.1.0 n inv e o m z c.reason.result.now c.in-Long.cref p q in
-    let a = rc.0 in
-    let n = ap (λ y. length y) c.requires.1.1.0 in
-    omega (arith, a, n)
+    subst (λ y. IsPlace y c.in-Long.cref) (sym c.requires.1.1.0) rc.0
 
 pub slice_bounds-add_literals-count : goal.slice_bounds-add_literals-count
 slice_bounds-add_literals-count g c =
@@ -146,7 +145,7 @@ slice_bounds-add_literals-count g c =
     let p = reason-read g.s c.args.impl_graph.now.nodes.items x c.var.result c.reason.result.now c.requires.1.1.1.0 c.var.ensures c.reason.ensures in
     let q = c.in-Long.is in
     let rc = read-clause g.s c.requires.1.0 (place_of c.args.conflict) c.places.clause.items c.places.var_flags c.places.to_clean.items c.places.count c.places.place x c.index.result c.requires.1.1.1.1.1.1.1.1.0 n inv e o m z c.reason.result.now c.in-Long.cref p q in
-    let ce = c.clause-reasoned.ensures ∙ ap (λ y. get_or y c.in-Long.cref []) c.requires.1.1.0 in
+    let ce = c.clause-reasoned.ensures ∙ ap (λ y. literals_at y c.in-Long.cref) c.requires.1.1.0 in
     let le = part-others c.clause-reasoned.result.now ∙ ap others_of ce in
     let a = rc.1 in
     let l = ap (λ y. length y) ce in
@@ -172,7 +171,7 @@ slice_bounds-add_literals-start g c =
     let p = reason-read g.s c.args.impl_graph.now.nodes.items x c.var.result c.reason.result.now c.requires.1.1.1.0 c.var.ensures c.reason.ensures in
     let q = c.in-Long.is in
     let rc = read-clause g.s c.requires.1.0 (place_of c.args.conflict) c.places.clause.items c.places.var_flags c.places.to_clean.items c.places.count c.places.place x c.index.result c.requires.1.1.1.1.1.1.1.1.0 n inv e o m z c.reason.result.now c.in-Long.cref p q in
-    let ce = c.clause-reasoned.ensures ∙ ap (λ y. get_or y c.in-Long.cref []) c.requires.1.1.0 in
+    let ce = c.clause-reasoned.ensures ∙ ap (λ y. literals_at y c.in-Long.cref) c.requires.1.1.0 in
     let le = part-others c.clause-reasoned.result.now ∙ ap others_of ce in
     let a = rc.1 in
     let l = ap (λ y. length y) ce in
@@ -199,7 +198,7 @@ add_literals-requires-in-Long g c κs within =
     let p = reason-read g.s c.args.impl_graph.now.nodes.items x c.var.result c.reason.result.now c.requires.1.1.1.0 c.var.ensures c.reason.ensures in
     let q = c.in-Long.is in
     let rc = read-clause g.s c.requires.1.0 (place_of c.args.conflict) c.places.clause.items c.places.var_flags c.places.to_clean.items c.places.count c.places.place x c.index.result c.requires.1.1.1.1.1.1.1.1.0 n inv e o m z c.reason.result.now c.in-Long.cref p q in
-    let ce = c.clause-reasoned.ensures ∙ ap (λ y. get_or y c.in-Long.cref []) c.requires.1.1.0 in
+    let ce = c.clause-reasoned.ensures ∙ ap (λ y. literals_at y c.in-Long.cref) c.requires.1.1.0 in
     let le = part-others c.clause-reasoned.result.now ∙ ap others_of ce in
     let l = length-set c.places.var_flags c.index-in-places.result false in
     (within, (c.requires.1.0, (c.requires.1.1.1.0, (c.current_level-present.ensures ∙ ap (λ x. length x) c.requires.1.1.1.1.1.0, (subst (IsFalse g.s.trail) (sym le) rc.2, l ∙ n)))))
@@ -224,7 +223,7 @@ overflow_add-count g c =
     let p = reason-read g.s c.args.impl_graph.now.nodes.items x c.var.result c.reason.result.now c.requires.1.1.1.0 c.var.ensures c.reason.ensures in
     let q = c.in-Long.is in
     let rc = read-clause g.s c.requires.1.0 (place_of c.args.conflict) c.places.clause.items c.places.var_flags c.places.to_clean.items c.places.count c.places.place x c.index.result c.requires.1.1.1.1.1.1.1.1.0 n inv e o m z c.reason.result.now c.in-Long.cref p q in
-    let ce = c.clause-reasoned.ensures ∙ ap (λ y. get_or y c.in-Long.cref []) c.requires.1.1.0 in
+    let ce = c.clause-reasoned.ensures ∙ ap (λ y. literals_at y c.in-Long.cref) c.requires.1.1.0 in
     let le = part-others c.clause-reasoned.result.now ∙ ap others_of ce in
     let v = read-resolve g.s c.requires.1.0 (place_of c.args.conflict) c.places.clause.items c.places.var_flags c.places.to_clean.items c.places.count c.places.place x c.index.result c.requires.1.1.1.1.1.1.1.1.0 n inv e o m z c.reason.result.now c.in-Long.cref p q (take (length c.clause-reasoned.result.now - 1) (drop 1 c.clause-reasoned.result.now)) c.index-in-places.result c.in_ok-count-2.field-0 (c.places.count - 1 + c.in_ok-count-2.field-0) c.add_literals-in-Long.new.clause.items c.add_literals-in-Long.new.var_flags c.add_literals-in-Long.new.to_clean.items le c.index-in-places.ensures.index refl (c.in_ok-count-2.ensures {u = tt}) in
     let b = walk-small g.s c.requires.1.0 (place_of c.args.conflict) c.add_literals-in-Long.new.clause.items c.add_literals-in-Long.new.var_flags c.add_literals-in-Long.new.to_clean.items (c.places.count - 1 + c.in_ok-count-2.field-0) (c.places.place - 1) v in
@@ -255,7 +254,7 @@ places-preserved-in-Long g c =
     let p = reason-read g.s c.args.impl_graph.now.nodes.items x c.var.result c.reason.result.now c.requires.1.1.1.0 c.var.ensures c.reason.ensures in
     let q = c.in-Long.is in
     let rc = read-clause g.s c.requires.1.0 (place_of c.args.conflict) c.places.clause.items c.places.var_flags c.places.to_clean.items c.places.count c.places.place x c.index.result c.requires.1.1.1.1.1.1.1.1.0 n inv e o m z c.reason.result.now c.in-Long.cref p q in
-    let ce = c.clause-reasoned.ensures ∙ ap (λ y. get_or y c.in-Long.cref []) c.requires.1.1.0 in
+    let ce = c.clause-reasoned.ensures ∙ ap (λ y. literals_at y c.in-Long.cref) c.requires.1.1.0 in
     let le = part-others c.clause-reasoned.result.now ∙ ap others_of ce in
     read-resolve g.s c.requires.1.0 (place_of c.args.conflict) c.places.clause.items c.places.var_flags c.places.to_clean.items c.places.count c.places.place x c.index.result c.requires.1.1.1.1.1.1.1.1.0 n inv e o m z c.reason.result.now c.in-Long.cref p q (take (length c.clause-reasoned.result.now - 1) (drop 1 c.clause-reasoned.result.now)) c.index-in-places.result c.in_ok-count-2.field-0 (c.places.count - 1 + c.in_ok-count-2.field-0) c.add_literals-in-Long.new.clause.items c.add_literals-in-Long.new.var_flags c.add_literals-in-Long.new.to_clean.items le c.index-in-places.ensures.index refl (c.in_ok-count-2.ensures {u = tt})
 

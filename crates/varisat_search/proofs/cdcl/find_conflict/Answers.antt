@@ -1,4 +1,4 @@
-use Rattle.std.proofs.Common.{◌*◌, length, sym, ap, ◌∙◌, subst, arith}
+use Rattle.std.proofs.Common.{◌*◌, length, refl, sym, ap, ◌∙◌, subst, arith}
 use Rattle.varisat_prop.specs.View.{view_of, Grows}
 use Rattle.varisat_prop.proofs.Growth.{grows-refl, grows-trans, grows-longer}
 use Rattle.varisat_search.specs.declared.context.Context.{Context}
@@ -74,4 +74,14 @@ levels-preserved g c =
       state = ap (λ (x : Context g.row.A.Denot). x.solver_state) k ∙ c.levels.invariant.state;
       last = c.in_ok-make_decision.ensures.last ∙ c.in_ok-propagated.ensures.last ∙ c.levels.invariant.last;
       units = c.in_ok-make_decision.ensures.units ∙ c.in_ok-propagated.ensures.units ∙ c.levels.invariant.units;
+    }
+
+pub levels-init : goal.levels-init
+levels-init g c =
+    record {
+      ready = c.requires;
+      grows = grows-refl (view c.args.ctx.now);
+      state = refl;
+      last = refl;
+      units = refl;
     }

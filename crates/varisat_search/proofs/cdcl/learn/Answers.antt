@@ -177,7 +177,7 @@ returns-clause-steps g c =
     let z = view_of x3.clause_alloc c.enqueue_assignment.new.assignment c.enqueue_assignment.new.trail c.enqueue_assignment.new.impl_graph in
     let q = learning-steps x0 x1 x2 x3 i level l others r c.requires.ready d z (c.in_ok-enqueue_assignment.ensures.view x3.clause_alloc) in
     let e = ap (λ (x : Context g.row.A.Denot). x.solver_state.sat_state) d.stored ∙ ap (λ (x : Context g.row.A.Denot). x.solver_state.sat_state) d.back ∙ ap (λ (x : Context g.row.A.Denot). x.solver_state.sat_state) d.analyzed ∙ c.requires.unknown in
-    (Add (l ∷ others) ∷ [], subst (λ v. Steps (search_of (view x0) []) (search_of z []) (outcome_of z v) (Add (l ∷ others) ∷ [])) (sym e) q)
+    (Add (l ∷ others) ∷ [], subst (λ v. Steps (search_of (view x0)) (search_of z) (outcome_of z v) (Add (l ∷ others) ∷ [])) (sym e) q)
 
 pub returns-in_default-clause-steps : goal.returns-in_default-clause-steps
 returns-in_default-clause-steps g c =

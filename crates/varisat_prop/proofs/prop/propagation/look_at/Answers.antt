@@ -1,11 +1,11 @@
-use Rattle.std.proofs.Common.{◌≡◌, ◌<◌, [], length, get_or, None, refl, sym, ap, ◌∙◌, subst, arith}
+use Rattle.std.proofs.Common.{◌≡◌, ◌<◌, length, get_or, None, refl, sym, ap, ◌∙◌, subst, arith}
 use Rattle.varisat_theory.specs.Membership.{◌∈◌}
 use Rattle.varisat_theory.specs.Literals.{variable_of}
 use Rattle.varisat_theory.specs.Propagation.{IsFalse}
-use Rattle.varisat_theory.proofs.Places.{∈-get_or}
 use Rattle.varisat_prop.specs.View.{view_of, clause_at, IsTrueIn}
 use Rattle.varisat_prop.specs.Looks.{IsStatus}
 use Rattle.varisat_prop.specs.declared.prop.propagation.Status.TheVariants as status
+use Rattle.varisat_prop.proofs.Stored.{kept-at}
 use Rattle.varisat_prop.proofs.Clauses.{element}
 use Rattle.varisat_prop.proofs.Looked.{false-clause, quiet-open, quiet-true, looked-implied, left-inside, left-free}
 use Rattle.varisat_prop.proofs.prop.propagation.look_at.Goals as goal
@@ -13,7 +13,7 @@ use Rattle.varisat_prop.proofs.prop.propagation.look_at.Goals as goal
 pub status_of-requires : goal.status_of-requires
 status_of-requires g c = λ l h.
     let s = view_of c.args.clause_alloc.now c.args.assignment.now c.args.trail.now c.args.impl_graph.now in
-    c.requires.well.in_range (clause_at s c.args.cref) (∈-get_or s.clauses c.args.cref [] c.requires.within) l (subst (λ x. l ∈ x) c.clause.ensures h)
+    c.requires.well.in_range (clause_at s c.args.cref) (kept-at s.clauses c.args.cref c.requires.within) l (subst (λ x. l ∈ x) c.clause.ensures h)
 
 pub lit_is_true-requires : goal.lit_is_true-requires
 lit_is_true-requires g c =
@@ -61,7 +61,7 @@ pub returns-in-Open-clause-look : goal.returns-in-Open-clause-look
 returns-in-Open-clause-look g c =
     let s = view_of c.args.clause_alloc.now c.args.assignment.now c.args.trail.now c.args.impl_graph.now in
     let st = subst (λ x. IsStatus s.values x status.Open) c.clause.ensures c.in-Open.ensures in
-    (refl, quiet-open s (clause_at s c.args.cref) c.requires.well (c.requires.well.distinct (clause_at s c.args.cref) (∈-get_or s.clauses c.args.cref [] c.requires.within)) st)
+    (refl, quiet-open s (clause_at s c.args.cref) c.requires.well (c.requires.well.distinct (clause_at s c.args.cref) (kept-at s.clauses c.args.cref c.requires.within)) st)
 
 pub returns-in_ok-enqueue_assignment-in-Leaves-clause-look : goal.returns-in_ok-enqueue_assignment-in-Leaves-clause-look
 returns-in_ok-enqueue_assignment-in-Leaves-clause-look g c =

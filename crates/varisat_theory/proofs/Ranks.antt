@@ -58,3 +58,27 @@ rising_rank n trail (suc k) h =
     let a = rising_rank n trail k (λ i l. h i (omega arith)) in
     let b = h k (omega arith) in
     omega arith
+
+-- one trail ranks above another over however many variables
+pub rank_steady : (m n : ℕ) (a b : List Bool) → length a ≤ m → length b ≤ m → length a ≤ n → rank m a < rank m b → rank n a < rank n b
+rank_steady m n [] [] f g l h = absurd (omega (arith, h))
+rank_steady m n [] (true ∷ b) f g l h = let p = pow_pos n in omega (arith, p)
+rank_steady m n [] (false ∷ b) f g l h = omega arith
+rank_steady m n (true ∷ a) [] f g l h = absurd (omega (arith, h))
+rank_steady m n (false ∷ a) [] f g l h = absurd (omega (arith, h))
+rank_steady zero n (x ∷ a) (y ∷ b) f g l h = absurd (omega (arith, f))
+rank_steady (suc m) zero (x ∷ a) (y ∷ b) f g l h = absurd (omega (arith, l))
+rank_steady (suc m) (suc n) (true ∷ a) (true ∷ b) f g l h =
+    let r = rank_steady m n a b (omega (arith, f)) (omega (arith, g)) (omega (arith, l)) (omega (arith, h)) in
+    omega (arith, r)
+rank_steady (suc m) (suc n) (false ∷ a) (false ∷ b) f g l h =
+    let r = rank_steady m n a b (omega (arith, f)) (omega (arith, g)) (omega (arith, l)) (omega (arith, h)) in
+    omega (arith, r)
+rank_steady (suc m) (suc n) (true ∷ a) (false ∷ b) f g l h =
+    let short : length b ≤ m = omega (arith, g) in
+    let r = rank_bound m b short in
+    absurd (omega (arith, r, h))
+rank_steady (suc m) (suc n) (false ∷ a) (true ∷ b) f g l h =
+    let short : length a ≤ n = omega (arith, l) in
+    let r = rank_bound n a short in
+    omega (arith, r)

@@ -252,6 +252,10 @@ abbrev pub UnitsStandFirst : Type 0
 UnitsStandFirst =
     ((u v : ℕ) (trail : List Bool) → with_units u (with_units v trail) ≡ with_units (u + v) trail) × ((n u : ℕ) (trail : List Bool) → u + length trail ≤ n → rank n (with_units u trail) < 2 ^ suc n) × ((n u : ℕ) (front old new : List Bool) → u + length (front ++ (false ∷ old)) ≤ n → rank n (with_units u (front ++ (false ∷ old))) < rank n (with_units u (front ++ (true ∷ new))))
 
+-- which of two trails has the greater rank does not depend on the number of variables, as long as the lower one has no more literals
+abbrev pub RanksAreSteady : Type 0
+RanksAreSteady = (m n : ℕ) (low high : List Bool) → length low ≤ m → length high ≤ m → length low ≤ n → rank m low < rank m high → rank n low < rank n high
+
 -- steps that each raise the rank are at most as many as the rank they come to
 abbrev pub RisingIsShort : Type 0
 RisingIsShort = (n : ℕ) (trail : ℕ → List Bool) (k : ℕ) → ((i : ℕ) → i < k → rank n (trail i) < rank n (trail (suc i))) → k ≤ rank n (trail k)

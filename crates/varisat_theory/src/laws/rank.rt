@@ -1,6 +1,6 @@
 //! The rank of a trail, and the number of steps of a call.
 
-ghost use Rattle.varisat_theory.specs.Laws.{BoundIsAPower, CallIsBounded, DistinctIsShort, IntervalsAreBounded, ProgressIsBounded, RankIsBounded, RankRises, RisingIsShort, StepRaisesRank, UnitsStandFirst};
+ghost use Rattle.varisat_theory.specs.Laws.{BoundIsAPower, CallIsBounded, DistinctIsShort, IntervalsAreBounded, ProgressIsBounded, RankIsBounded, RankRises, RanksAreSteady, RisingIsShort, StepRaisesRank, UnitsStandFirst};
 
 /// A trail's rank is below 2^(n+1).
 pub fn rank_is_bounded()
@@ -10,6 +10,11 @@ pub fn rank_is_bounded()
 /// An implied literal in a decision's place raises the rank.
 pub fn rank_rises()
     ensures { RankRises }
+{}
+
+/// Which of two ranks is greater does not depend on the number of variables.
+pub fn ranks_are_steady()
+    ensures { RanksAreSteady }
 {}
 
 /// A conflict step raises the rank.

@@ -32,6 +32,6 @@ pub mod StepEnds
 pub mod StepLoads
 pub mod StepStands
 pub mod StepDrops
-pub mod StepNames
+pub mod StepCovers
 pub mod StepsMade
 pub mod Reached

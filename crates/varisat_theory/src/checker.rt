@@ -10,7 +10,9 @@ use std::alloc::{AllocError, Global};
 /// A line of a proof, which adds a clause or deletes one.
 #[derive(Drop)]
 pub enum PlainLine {
+    /// The clause, as codes of literals, joins those that are present.
     Adds(Vec<u32>),
+    /// One present clause that is equal as a set leaves.
     Deletes(Vec<u32>),
 }
 
@@ -119,7 +121,7 @@ fn copies(alloc: Global, clauses: &[Vec<u32>]) -> Result<Vec<Vec<u32>>, AllocErr
     Ok(made)
 }
 
-/// Checks the lines in turn. Once propagation over what is present conflicts, also before the first line, later lines are not looked at.
+/// Checks the lines in turn. Once propagation over what is present conflicts, also before the first line, later lines are not looked at. The only error is out of memory.
 pub fn check_lines(
     alloc: Global,
     clauses: &[Vec<u32>],

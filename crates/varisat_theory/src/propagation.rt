@@ -74,7 +74,7 @@ fn status_of(known: &[u32], clause: &[u32]) -> ClauseStatus
     }
 }
 
-/// Whether unit propagation over the clauses from the base comes to a conflict.
+/// Whether unit propagation over the clauses from the base comes to a conflict. The only error is out of memory.
 pub fn conflicts(alloc: Global, clauses: &[Vec<u32>], base: &[u32]) -> Result<bool, AllocError>
     ensures { IfOk result (λ found. IsTrue found ↔ Conflicts (clause_lists clauses.now) base.now) }
 {
@@ -103,7 +103,7 @@ pub fn conflicts(alloc: Global, clauses: &[Vec<u32>], base: &[u32]) -> Result<bo
     }
 }
 
-/// Whether the clause follows: propagation conflicts once its literals are taken as false.
+/// Whether the clause follows: propagation conflicts once its literals are taken as false. The only error is out of memory.
 pub fn follows(alloc: Global, clauses: &[Vec<u32>], clause: &[u32]) -> Result<bool, AllocError>
     ensures { IfOk result (λ found. IsTrue found ↔ Follows (clause_lists clauses.now) clause.now) }
 {

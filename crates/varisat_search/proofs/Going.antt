@@ -81,7 +81,7 @@ module _ (s t : View) (i level : ℕ) (c : Clause) (w : WellFormed s) (v : Level
       let (k, a, e) = w.stands (opposite first) (false-in first (inl refl)) in
       let g = ap (level_of s) e in
       let d = level-opposite first in
-      let f = l.present in
+      let f = l.current in
       let b = level-below in
       ⊎_elim
       (λ o. let r = w.levels_down k level a b o in absurd (omega (arith, r, g, d, f, b)))

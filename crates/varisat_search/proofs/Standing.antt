@@ -15,7 +15,7 @@ use Rattle.varisat_prop.specs.View.{View, clause_at, literal_at, decision_at, no
 use Rattle.varisat_prop.specs.Changes.{NamesClause, others_of, causes_of}
 use Rattle.varisat_prop.proofs.Lits.{same-variable, variable-opposite, made-clash, made-inside}
 use Rattle.varisat_prop.proofs.Looked.{trail-true}
-use Rattle.varisat_search.specs.Learned.{present_level, IsConflict, clause_of, reason_clause}
+use Rattle.varisat_search.specs.Learned.{current_level, IsConflict, clause_of, reason_clause}
 
 pub level-opposite : (s : View) (m : Literal) → level_of s (opposite m) ≡ level_of s m
 level-opposite s m = ap (λ v. (get_or s.nodes v no_node).level) (variable-opposite m)
@@ -80,7 +80,7 @@ module _ (s : View) (w : WellFormed s) where
       let n = w.nodes_are in
       omega (arith, a, n)
 
-  pub level-small : (m : Literal) → opposite m ∈ s.trail → level_of s m ≤ present_level s
+  pub level-small : (m : Literal) → opposite m ∈ s.trail → level_of s m ≤ current_level s
   level-small m h =
       let (k, a, e) = place_in (opposite m) s.trail 0 h in
       let l = w.levels_to k a in
@@ -106,11 +106,11 @@ module _ (s : View) (w : WellFormed s) where
       (λ b. subst (StandsBefore s k) (opposite_twice x) b)
       (reason-before k (node_at s k).reason (opposite x) (w.reason_is k h) i)
 
-  pub last-in : 0 < present_level s → length s.decisions - 1 < length s.decisions
+  pub last-in : 0 < current_level s → length s.decisions - 1 < length s.decisions
   last-in d = omega (arith, d)
 
-  -- where the last level began with propagation at its end, a false clause has a literal of the present level
-  pub has-late : (i : ℕ) → LevelsSettled s → 0 < present_level s → IsConflict s i → (m : Literal) × (m ∈ clause_at s i) × (level_of s m ≡ present_level s)
+  -- where the last level began with propagation at its end, a false clause has a literal of the current level
+  pub has-late : (i : ℕ) → LevelsSettled s → 0 < current_level s → IsConflict s i → (m : Literal) × (m ∈ clause_at s i) × (level_of s m ≡ current_level s)
   has-late i q d c =
       ⊎_elim
       (λ l. l)
@@ -127,13 +127,13 @@ module _ (s : View) (w : WellFormed s) where
       )))
       (search-late (clause_at s i) c.1)
     where
-      search-late : (xs : Clause) → IsFalse s.trail xs → ((m : Literal) × (m ∈ xs) × (level_of s m ≡ present_level s)) ⊎ ((m : Literal) → m ∈ xs → level_of s m < present_level s)
+      search-late : (xs : Clause) → IsFalse s.trail xs → ((m : Literal) × (m ∈ xs) × (level_of s m ≡ current_level s)) ⊎ ((m : Literal) → m ∈ xs → level_of s m < current_level s)
       search-late [] f = inr (λ m h. absurd h)
       search-late (x ∷ xs) f =
           ⊎_elim
-          (λ (a : level_of s x < present_level s). ⊎_elim (λ (m, h, e). inl (m, inr h, e)) (λ n. inr (λ m h. ⊎_elim (λ e. subst (λ y. level_of s y < present_level s) (sym e) a) (n m) h)) (search-late xs (λ m h. f m (inr h))))
-          (λ (a : present_level s ≤ level_of s x). let b = level-small x (f x (inl refl)) in inl (x, inl refl, omega (arith, a, b)))
-          (cases_lt (level_of s x) (present_level s))
+          (λ (a : level_of s x < current_level s). ⊎_elim (λ (m, h, e). inl (m, inr h, e)) (λ n. inr (λ m h. ⊎_elim (λ e. subst (λ y. level_of s y < current_level s) (sym e) a) (n m) h)) (search-late xs (λ m h. f m (inr h))))
+          (λ (a : current_level s ≤ level_of s x). let b = level-small x (f x (inl refl)) in inl (x, inl refl, omega (arith, a, b)))
+          (cases_lt (level_of s x) (current_level s))
 
       place-take : (n : ℕ) (xs : List ℕ) (j : ℕ) → j < n → j < length xs → get_or xs j 0 ∈ take n xs
       place-take zero xs j h l = absurd (omega arith)

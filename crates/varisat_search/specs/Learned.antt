@@ -18,17 +18,21 @@ pub record Analysis : Type 0 where
 abbrev pub no_analysis : Analysis
 no_analysis = record { clause = []; involved = []; var_count = 0 }
 
+-- the place names a kept clause
+abbrev pub IsStored : View → ℕ → Type 0
+IsStored s i = IsPlace s.clauses i
+
 -- all literals of the kept clause are false
 abbrev pub IsConflict : View → ℕ → Type 0
-IsConflict s i = IsPlace s.clauses i × IsFalse s.trail (clause_at s i)
+IsConflict s i = IsStored s i × IsFalse s.trail (clause_at s i)
 
--- the present level is the number of decisions
-abbrev pub present_level : View → ℕ
-present_level s = length s.decisions
+-- the current level is the number of decisions
+abbrev pub current_level : View → ℕ
+current_level s = length s.decisions
 
--- the literal at the place is of the present level
-abbrev pub IsPresent : View → ℕ → Type 0
-IsPresent s k = (k < length s.trail) × ((node_at s k).level ≡ present_level s)
+-- the literal at the place is of the current level
+abbrev pub IsOfCurrentLevel : View → ℕ → Type 0
+IsOfCurrentLevel s k = (k < length s.trail) × ((node_at s k).level ≡ current_level s)
 
 abbrev pub clause_of : View → Reason → Clause
 clause_of s reason.Unit = []
@@ -38,40 +42,61 @@ clause_of s (reason.Long i) = clause_at s i
 abbrev pub reason_clause : View → Literal → Clause
 reason_clause s l = clause_of s (node_of s l).reason
 
--- the literal is one of the present level behind place k
+-- the literal is one of the current level behind place k
 abbrev pub StandsBehind : View → ℕ → Literal → Type 0
-StandsBehind s k l = (j : ℕ) × (k < j) × IsPresent s j × (literal_at s j ≡ l)
+StandsBehind s k l = (j : ℕ) × (k < j) × IsOfCurrentLevel s j × (literal_at s j ≡ l)
 
--- From the clause at place i the literal is reached over reasons of reached literals of the present level behind place k.
+-- From the clause at place i the literal is reached over reasons of reached literals of the current level behind place k.
 abbrev pub IsReachedDownTo : View → ℕ → ℕ → Literal → Type 0
 IsReachedDownTo s i k l = Reached (clause_at s i) (reason_clause s) (StandsBehind s k) l
 
--- The literal at place k is of the present level and is reached, while no earlier one of that level is.
+-- The literal at place k is of the current level and is reached, while no earlier one of that level is.
 pub record IsImplicationPoint (s : View) (i k : ℕ) : Type 0 where
-  pub present : IsPresent s k
+  pub current : IsOfCurrentLevel s k
   pub reached : IsReachedDownTo s i k (literal_at s k)
-  pub alone : (j : ℕ) → j < k → IsPresent s j → IsReachedDownTo s i k (literal_at s j) → ⊥
+  pub alone : (j : ℕ) → j < k → IsOfCurrentLevel s j → IsReachedDownTo s i k (literal_at s j) → ⊥
 
 -- the latest such place, which analysis comes to first
 pub record IsFirstPoint (s : View) (i k : ℕ) : Type 0 where
   pub point : IsImplicationPoint s i k
   pub latest : (j : ℕ) → k < j → IsImplicationPoint s i j → ⊥
 
--- The level to go back to: that of the second literal, which is the highest of the others, or 0 where there is no second.
+-- The clause at place p takes part in the resolution that starts from the conflict's clause, at place i, and ends at the implication point at place k.
+pub data IsInvolved (s : View) (i k p : ℕ) : Type 0 where
+  -- it is the conflict's clause
+  IsOfConflict : p ≡ i → IsInvolved s i k p
+  -- it is the reason of a reached literal of the current level behind the implication point
+  IsReasonOf : (j : ℕ) → k < j → IsOfCurrentLevel s j → IsReachedDownTo s i k (literal_at s j) → (node_at s j).reason ≡ reason.Long p → IsInvolved s i k p
+
+-- The places are those of the clauses that are resolved down to the first unique implication point: all of them, each once, and no other.
+pub record ListsInvolved (s : View) (i : ℕ) (involved : List ℕ) : Type 0 where
+  pub place : ℕ
+  pub point : IsFirstPoint s i place
+  pub only : (p : ℕ) → p ∈ involved → IsInvolved s i place p
+  pub all : (p : ℕ) → IsInvolved s i place p → p ∈ involved
+  pub distinct : IsDistinct involved
+  pub stored : (p : ℕ) → p ∈ involved → IsStored s p
+
+-- The clauses from which a conflict's clause is learned: none at level 0.
+pub record AreInvolved (s : View) (i : ℕ) (involved : List ℕ) : Type 0 where
+  pub at_zero : current_level s ≡ 0 → involved ≡ []
+  pub above : 0 < current_level s → ListsInvolved s i involved
+
+-- The level to backtrack to: that of the second literal, which is the highest of the others, or 0 where there is no second.
 abbrev pub IsLevelOf : View → Clause → ℕ → Type 0
 IsLevelOf s [] level = level ≡ 0
 IsLevelOf s (m ∷ others) level = (level_of s m ≡ level) × ((n : Literal) → n ∈ others → level_of s n ≤ level)
 
 -- The clause that a conflict above level 0 teaches.
 pub record IsAsserting (s : View) (i : ℕ) (c : Clause) (level : ℕ) : Type 0 where
-  -- each literal is false, none stands twice, and just the first is of the present level
+  -- each literal is false, none stands twice, and just the first is of the current level
   pub false_now : IsFalse s.trail c
   pub distinct : IsDistinct c
   pub first : Literal
   pub others : Clause
   pub split : c ≡ first ∷ others
-  pub present : level_of s first ≡ present_level s
-  pub lower : (m : Literal) → m ∈ others → level_of s m < present_level s
+  pub current : level_of s first ≡ current_level s
+  pub lower : (m : Literal) → m ∈ others → level_of s m < current_level s
   pub second : IsLevelOf s others level
   -- the first is the opposite of the first unique implication point
   pub place : ℕ
@@ -81,5 +106,5 @@ pub record IsAsserting (s : View) (i : ℕ) (c : Clause) (level : ℕ) : Type 0 
 -- The clause that a conflict teaches: it follows from whatever clauses a proof holds, and is the empty one at level 0.
 pub record IsLearned (s : View) (i : ℕ) (c : Clause) (level : ℕ) : Type 0 where
   pub follows : (held : List Clause) → Fits held s → Follows held c
-  pub at_zero : present_level s ≡ 0 → (c ≡ []) × (level ≡ 0)
-  pub above : 0 < present_level s → IsAsserting s i c level
+  pub at_zero : current_level s ≡ 0 → (c ≡ []) × (level ≡ 0)
+  pub above : 0 < current_level s → IsAsserting s i c level

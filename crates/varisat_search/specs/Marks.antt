@@ -1,38 +1,90 @@
 -- What conflict analysis marks on its way to the learned clause.
-use Rattle.std.specs.Prelude.{◌≡◌, ℕ, zero, suc, ◌+◌, ◌<◌, ◌≤◌, ◌⊎◌, Bool, true, false, ◌&&◌, nat_eq, List, ◌∷◌, slice_index_or, length}
+use Rattle.std.specs.Prelude.{◌≡◌, ℕ, zero, suc, ◌+◌, ◌<◌, ◌≤◌, ◌⊎◌, Bool, true, false, ◌&&◌, nat_eq, List, [], ◌∷◌, ◌++◌, slice_index_or, length}
 use Rattle.varisat_theory.specs.Membership.{◌∈◌, ◌⊆◌, IsDistinct}
 use Rattle.varisat_theory.specs.Literals.{Literal, Clause, opposite, variable_of}
 use Rattle.varisat_theory.specs.Propagation.{Follows}
-use Rattle.varisat_prop.specs.View.{View, literal_at, node_at, level_of, StandsBefore, Fits}
-use Rattle.varisat_search.specs.Learned.{present_level, IsPresent, IsFirstPoint}
+use Rattle.varisat_prop.specs.declared.prop.graph.Reason.{Reason}
+use Rattle.varisat_prop.specs.declared.prop.graph.Reason.TheVariants as reason
+use Rattle.varisat_prop.specs.declared.prop.graph.ImplGraph.{ImplGraph}
+use Rattle.varisat_prop.specs.Parts.{TrailParts}
+use Rattle.varisat_prop.specs.Changes.{causes_of}
+use Rattle.varisat_prop.specs.Stored.{StoredClause}
+use Rattle.varisat_prop.specs.View.{View, literal_at, node_at, node_of, level_of, StandsBefore, WellFormed, LevelsSettled, Fits}
+use Rattle.varisat_search.specs.declared.analyze_conflict.Scratch.{Scratch}
+use Rattle.varisat_search.specs.Learned.{current_level, IsOfCurrentLevel, IsConflict, IsFirstPoint, ListsInvolved, IsAsserting}
+
+-- The search that analysis reads is a well-formed one, with these clauses, nodes, literals and decisions.
+pub record Sees {A : Type 0} (s : View) (clauses : List StoredClause) (graph : ImplGraph A) (trail : TrailParts) : Type 0 where
+  pub well : WellFormed s
+  pub clauses_are : clauses ≡ s.clauses
+  pub nodes_are : graph.nodes.items ≡ s.nodes
+  pub trail_is : trail.literals ≡ s.trail
+  pub decisions_are : trail.decisions ≡ s.decisions
+
+-- A conflict above level 0, where each level began with propagation at its end.
+pub record IsDeepConflict (s : View) (i : ℕ) : Type 0 where
+  pub settled : LevelsSettled s
+  pub conflict : IsConflict s i
+  pub deep : 0 < current_level s
+
+-- what analysis writes
+pub record Marking : Type 0 where
+  -- the clause that becomes the learned one, and the places of the clauses that it came from
+  pub clause : Clause
+  pub involved : List ℕ
+  -- for each variable whether it is marked, and the marked ones whose flags are to be cleared
+  pub flags : List Bool
+  pub to_clean : List ℕ
+  -- literals whose reasons are still to be looked at
+  pub stack : List Literal
+
+abbrev pub marking : {A : Type 0} → Scratch A → List Bool → Marking
+marking scratch flags = record { clause = scratch.clause.items; involved = scratch.involved.items; flags = flags; to_clean = scratch.to_clean.items; stack = scratch.stack.items }
 
 -- the variable's flag is set
 abbrev pub IsMarked : List Bool → ℕ → Type 0
 IsMarked flags v = slice_index_or flags v false ≡ true
 
--- the literal is false, at a level above 0 and below the present one
+-- no variable is marked, and no clause is begun
+pub record IsClean (x : Marking) : Type 0 where
+  pub unmarked : (v : ℕ) → slice_index_or x.flags v false ≡ false
+  pub clause : x.clause ≡ []
+  pub involved : x.involved ≡ []
+  pub to_clean : x.to_clean ≡ []
+
+-- each marked variable is listed, and each listed one has a flag
+pub record MarksAreListed (x : Marking) : Type 0 where
+  pub marked : (v : ℕ) → IsMarked x.flags v → v ∈ x.to_clean
+  pub listed : (v : ℕ) → v ∈ x.to_clean → v < length x.flags
+
+-- the literal is false, at a level above 0 and below the current one
 pub record IsLower (s : View) (m : Literal) : Type 0 where
   pub false_now : opposite m ∈ s.trail
   pub above : 0 < level_of s m
-  pub below : level_of s m < present_level s
+  pub below : level_of s m < current_level s
 
--- The clause's literals are false, of levels between 0 and the present one. The marked variables are theirs, which are listed, and some of the present level that stand before place i.
-pub record Marks (s : View) (i : ℕ) (clause : Clause) (flags : List Bool) (to_clean : List ℕ) : Type 0 where
-  pub lower : (m : Literal) → m ∈ clause → IsLower s m
-  pub marked : (m : Literal) → m ∈ clause → IsMarked flags (variable_of m)
-  pub distinct : IsDistinct clause
-  pub listed : (v : ℕ) → v ∈ to_clean → v < length s.nodes
-  pub known : (v : ℕ) → IsMarked flags v → ((m : Literal) × (m ∈ clause) × (variable_of m ≡ v) × (v ∈ to_clean)) ⊎ ((k : ℕ) × (k < i) × IsPresent s k × (variable_of (literal_at s k) ≡ v))
+-- The variable is that of a literal of the clause and listed, or that of a literal of the current level before place i.
+pub data IsMarkOf (s : View) (i : ℕ) (x : Marking) (v : ℕ) : Type 0 where
+  OfClause : (m : Literal) → m ∈ x.clause → variable_of m ≡ v → v ∈ x.to_clean → IsMarkOf s i x v
+  OfCurrentLevel : (k : ℕ) → k < i → IsOfCurrentLevel s k → variable_of (literal_at s k) ≡ v → IsMarkOf s i x v
+
+-- The clause's literals are false, of levels between 0 and the current one. The marked variables are theirs, which are listed, and some of the current level that stand before place i.
+pub record Marks (s : View) (i : ℕ) (x : Marking) : Type 0 where
+  pub lower : (m : Literal) → m ∈ x.clause → IsLower s m
+  pub marked : (m : Literal) → m ∈ x.clause → IsMarked x.flags (variable_of m)
+  pub distinct : IsDistinct x.clause
+  pub listed : (v : ℕ) → v ∈ x.to_clean → v < length s.nodes
+  pub known : (v : ℕ) → IsMarked x.flags v → IsMarkOf s i x v
 
 abbrev pub one_if : Bool → ℕ
 one_if false = 0
 one_if true = 1
 
--- the literal at the place is of the present level, and is marked
+-- the literal at the place is of the current level, and is marked
 abbrev pub is_open : View → List Bool → ℕ → Bool
-is_open s flags k = nat_eq (node_at s k).level (present_level s) && slice_index_or flags (variable_of (literal_at s k)) false
+is_open s flags k = nat_eq (node_at s k).level (current_level s) && slice_index_or flags (variable_of (literal_at s k)) false
 
--- how many of the first i literals are of the present level and marked
+-- how many of the first i literals are of the current level and marked
 abbrev pub open_below : View → List Bool → ℕ → ℕ
 open_below s flags zero = 0
 open_below s flags (suc i) = open_below s flags i + one_if (is_open s flags i)
@@ -41,25 +93,49 @@ open_below s flags (suc i) = open_below s flags i + one_if (is_open s flags i)
 abbrev pub AreFalseBefore : View → ℕ → List Literal → Type 0
 AreFalseBefore s i lits = (m : Literal) → m ∈ lits → StandsBefore s i (opposite m)
 
--- False literals were marked, those above level 0 in so far as they weren't, and joined the clause where they are below the present level. As many as `count` of the present level are new.
-pub record Adds (s : View) (lits : List Literal) (count : ℕ) (clause : Clause) (flags : List Bool) (to_clean : List ℕ) (clause_now : Clause) (flags_now : List Bool) (to_clean_now : List ℕ) : Type 0 where
-  pub more : (v : ℕ) → IsMarked flags v → IsMarked flags_now v
-  pub only : (v : ℕ) → IsMarked flags_now v → IsMarked flags v ⊎ ((m : Literal) × (m ∈ lits) × (variable_of m ≡ v))
-  pub all : (m : Literal) → m ∈ lits → 0 < level_of s m → IsMarked flags_now (variable_of m)
-  pub longer : clause ⊆ clause_now
-  pub marks : (i : ℕ) → AreFalseBefore s i lits → i ≤ length s.trail → Marks s i clause flags to_clean → Marks s i clause_now flags_now to_clean_now
-  pub counted : (i : ℕ) → AreFalseBefore s i lits → i ≤ length s.trail → open_below s flags_now i ≡ open_below s flags i + count
+-- False literals were marked, those above level 0 in so far as they weren't, and joined the clause where they are below the current level. As many as `count` of the current level are new.
+pub record Adds (s : View) (lits : List Literal) (count : ℕ) (x y : Marking) : Type 0 where
+  pub more : (v : ℕ) → IsMarked x.flags v → IsMarked y.flags v
+  pub only : (v : ℕ) → IsMarked y.flags v → IsMarked x.flags v ⊎ ((m : Literal) × (m ∈ lits) × (variable_of m ≡ v))
+  pub all : (m : Literal) → m ∈ lits → 0 < level_of s m → IsMarked y.flags (variable_of m)
+  pub longer : x.clause ⊆ y.clause
+  pub marks : (i : ℕ) → AreFalseBefore s i lits → i ≤ length s.trail → Marks s i x → Marks s i y
+  pub counted : (i : ℕ) → AreFalseBefore s i lits → i ≤ length s.trail → open_below s y.flags i ≡ open_below s x.flags i + count
+  pub involved : y.involved ≡ x.involved
 
--- The clause that is left of the false clause at place i of the list, once it was resolved down to the first unique implication point.
-pub record IsResolved (s : View) (i : ℕ) (first : Literal) (others : Clause) (flags : List Bool) (to_clean : List ℕ) : Type 0 where
+-- the place that a reason names
+abbrev pub places_of : Reason → List ℕ
+places_of reason.Unit = []
+places_of (reason.Long p) = p ∷ []
+
+-- The literal's reason was listed, and the other literals of the reason added.
+pub record AddsReason (s : View) (l : Literal) (count : ℕ) (x y : Marking) : Type 0 where
+  pub listed : y.involved ≡ x.involved ++ places_of (node_of s l).reason
+  pub adds : Adds s (causes_of s.clauses (node_of s l).reason) count (record x { involved = y.involved }) y
+
+-- The clause that is left of the false clause at place i, once it was resolved down to the first unique implication point.
+pub record IsResolved (s : View) (i : ℕ) (first : Literal) (x : Marking) : Type 0 where
   pub place : ℕ
   pub point : IsFirstPoint s i place
   pub opposite_is : first ≡ opposite (literal_at s place)
-  pub follows : (held : List Clause) → Fits held s → Follows held (first ∷ others)
-  pub marks : Marks s 0 others flags to_clean
+  pub follows : (held : List Clause) → Fits held s → Follows held (first ∷ x.clause)
+  pub marks : Marks s 0 x
+  pub involved : ListsInvolved s i x.involved
 
--- What minimization leaves of the literals below the present level: the clause with the first literal follows where it did before.
+-- What minimization leaves of the literals below the current level: the clause with the first literal follows where it did before.
 pub record IsMinimized (s : View) (others left : Clause) : Type 0 where
   pub part : left ⊆ others
   pub distinct : IsDistinct others → IsDistinct left
   pub follows : (first : Literal) (held : List Clause) → Fits held s → Follows held (first ∷ others) → Follows held (first ∷ left)
+
+-- The clause was minimized; what was marked meanwhile is listed too.
+pub record Minimizes (s : View) (x y : Marking) : Type 0 where
+  pub minimized : IsMinimized s x.clause y.clause
+  pub cleaned : MarksAreListed y
+  pub involved : y.involved ≡ x.involved
+
+-- What a conflict above level 0 teaches, and from which clauses.
+pub record Teaches (s : View) (i : ℕ) (c : Clause) (involved : List ℕ) (level : ℕ) : Type 0 where
+  pub follows : (held : List Clause) → Fits held s → Follows held c
+  pub asserting : IsAsserting s i c level
+  pub involves : ListsInvolved s i involved

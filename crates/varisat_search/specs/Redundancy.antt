@@ -5,7 +5,7 @@ use Rattle.varisat_theory.specs.Literals.{Literal, opposite, variable_of}
 use Rattle.varisat_prop.specs.declared.prop.graph.Reason.TheVariants as reason
 use Rattle.varisat_prop.specs.Changes.{others_of}
 use Rattle.varisat_prop.specs.View.{View, clause_at, node_of, level_of}
-use Rattle.varisat_search.specs.Marks.{IsMarked}
+use Rattle.varisat_search.specs.Marks.{IsMarked, Marking}
 
 -- the literal is true, and a clause is its reason
 abbrev pub IsImplied : View → Literal → Type 0
@@ -23,26 +23,39 @@ unmarked (true ∷ flags) = unmarked flags
 unmarked (false ∷ flags) = unmarked flags + 1
 
 -- The variables that were marked since are those that were listed since, and none of them was marked before.
-pub record IsListed (flags : List Bool) (to_clean : List ℕ) (flags_now : List Bool) (to_clean_now : List ℕ) : Type 0 where
-  pub more : (v : ℕ) → IsMarked flags v → IsMarked flags_now v
+pub record ListsNew (x y : Marking) : Type 0 where
+  pub more : (v : ℕ) → IsMarked x.flags v → IsMarked y.flags v
   pub since : List ℕ
-  pub longer : to_clean_now ≡ to_clean ++ since
-  pub listed : (v : ℕ) → IsMarked flags_now v → IsMarked flags v ⊎ (v ∈ since)
-  pub inside : (v : ℕ) → v ∈ since → v < length flags
-  pub fresh : (v : ℕ) → v ∈ since → slice_index_or flags v false ≡ false
+  pub longer : y.to_clean ≡ x.to_clean ++ since
+  pub listed : (v : ℕ) → IsMarked y.flags v → IsMarked x.flags v ⊎ (v ∈ since)
+  pub inside : (v : ℕ) → v ∈ since → v < length x.flags
+  pub fresh : (v : ℕ) → v ∈ since → slice_index_or x.flags v false ≡ false
+  pub clause : y.clause ≡ x.clause
+  pub involved : y.involved ≡ x.involved
 
 -- Of false literals those above level 0 were marked, in so far as they weren't, and their opposites, which are implied, put on the stack; all of them where it was `done`.
-pub record Explores (s : View) (lits : List Literal) (done : Bool) (flags : List Bool) (to_clean : List ℕ) (stack : List Literal) (flags_now : List Bool) (to_clean_now : List ℕ) (stack_now : List Literal) : Type 0 where
-  pub list : IsListed flags to_clean flags_now to_clean_now
-  pub new : (v : ℕ) → IsMarked flags_now v → IsMarked flags v ⊎ ((x : Literal) × (x ∈ stack_now) × IsImplied s x × (variable_of x ≡ v))
-  pub stacked : stack ⊆ stack_now
-  pub grown : (x : Literal) → x ∈ stack_now → (x ∈ stack) ⊎ IsImplied s x
-  pub all : done ≡ true → (m : Literal) → m ∈ lits → (level_of s m ≡ 0) ⊎ IsMarked flags_now (variable_of m)
-  pub count : unmarked flags_now + length stack_now ≡ unmarked flags + length stack
+pub record Explores (s : View) (lits : List Literal) (done : Bool) (x y : Marking) : Type 0 where
+  pub list : ListsNew x y
+  pub new : (v : ℕ) → IsMarked y.flags v → IsMarked x.flags v ⊎ ((l : Literal) × (l ∈ y.stack) × IsImplied s l × (variable_of l ≡ v))
+  pub stacked : x.stack ⊆ y.stack
+  pub grown : (l : Literal) → l ∈ y.stack → (l ∈ x.stack) ⊎ IsImplied s l
+  pub all : done ≡ true → (m : Literal) → m ∈ lits → (level_of s m ≡ 0) ⊎ IsMarked y.flags (variable_of m)
+  pub count : unmarked y.flags + length y.stack ≡ unmarked x.flags + length x.stack
 
--- Where the literal is redundant, its opposite and whatever was marked are reasoned; else nothing was marked.
-abbrev pub IsFound : View → Literal → Bool → List Bool → List ℕ → List Bool → List ℕ → Type 0
-IsFound s l true flags to_clean flags_now to_clean_now =
-    IsListed flags to_clean flags_now to_clean_now × IsReasoned s flags_now (opposite l) × ((x : Literal) → x ∈ s.trail → IsMarked flags_now (variable_of x) → IsMarked flags (variable_of x) ⊎ IsReasoned s flags_now x)
-IsFound s l false flags to_clean flags_now to_clean_now =
-    ((v : ℕ) → slice_index_or flags_now v false ≡ slice_index_or flags v false) × (to_clean_now ≡ to_clean)
+-- The literal's opposite and whatever was marked are reasoned.
+pub record IsRedundant (s : View) (l : Literal) (x y : Marking) : Type 0 where
+  pub list : ListsNew x y
+  pub reasoned : IsReasoned s y.flags (opposite l)
+  pub others : (m : Literal) → m ∈ s.trail → IsMarked y.flags (variable_of m) → IsMarked x.flags (variable_of m) ⊎ IsReasoned s y.flags m
+
+-- Nothing more is marked.
+pub record IsAsBefore (x y : Marking) : Type 0 where
+  pub flags : (v : ℕ) → slice_index_or y.flags v false ≡ slice_index_or x.flags v false
+  pub to_clean : y.to_clean ≡ x.to_clean
+  pub clause : y.clause ≡ x.clause
+  pub involved : y.involved ≡ x.involved
+
+-- What the search for the literal's redundancy leaves, by its result.
+abbrev pub IsFound : View → Literal → Bool → Marking → Marking → Type 0
+IsFound s l true x y = IsRedundant s l x y
+IsFound s l false x y = IsAsBefore x y

@@ -1,13 +1,13 @@
-//! What a conflict teaches.
-ghost use Rattle.std.specs.Prelude.{◌≡◌, ℕ, ◌<◌, ◌≤◌, false, [], List, length, slice_index_or, OnOk, IfOk};
+//! Learns a clause from a conflict.
+ghost use Rattle.std.specs.Prelude.{◌≡◌, ℕ, ◌<◌, ◌≤◌, false, length, slice_index_or, OnOk, IfOk};
 ghost use Rattle.varisat_theory.specs.Membership.{◌∈◌, SameSet, IsDistinct};
-ghost use Rattle.varisat_theory.specs.Literals.{Clause, variable_of, opposite};
-ghost use Rattle.varisat_theory.specs.Propagation.{IsFalse, Follows};
+ghost use Rattle.varisat_theory.specs.Literals.{variable_of, opposite};
+ghost use Rattle.varisat_theory.specs.Propagation.{IsFalse};
 ghost use Rattle.varisat_prop.specs.Parts.{Values};
-ghost use Rattle.varisat_prop.specs.View.{View, view_of, level_of, WellFormed, LevelsSettled, Fits};
+ghost use Rattle.varisat_prop.specs.View.{View, view_of, level_of, WellFormed, LevelsSettled};
 ghost use Rattle.varisat_prop.specs.Changes.{place_of};
-ghost use Rattle.varisat_search.specs.Learned.{no_analysis, present_level, IsConflict, IsLevelOf, IsAsserting, IsLearned};
-ghost use Rattle.varisat_search.specs.Marks.{IsMarked, Marks, Adds, IsResolved, IsMinimized};
+ghost use Rattle.varisat_search.specs.Learned.{no_analysis, IsConflict, IsLevelOf, IsLearned, AreInvolved};
+ghost use Rattle.varisat_search.specs.Marks.{Sees, IsDeepConflict, marking, IsClean, MarksAreListed, Marks, Adds, AddsReason, IsResolved, Minimizes, Teaches};
 ghost use Rattle.varisat_search.specs.Redundancy.{Explores, IsFound};
 
 use crate::glue::LevelAbstraction;
@@ -18,14 +18,32 @@ use varisat_prop::clause::{ClauseAlloc, ClauseRef};
 use varisat_prop::prop::{Conflict, ImplGraph, Reason, Trail};
 
 /// The learned clause, the clauses that it came from, and a flag for each variable. The flags are false between calls,
-/// also after a refused growth.
+/// also after a call that was out of memory.
 #[derive(Drop)]
 pub struct AnalyzeConflict<A: Allocator + Copy> {
-    clause: Vec<Lit, A>,
-    involved: Vec<ClauseRef, A>,
+    scratch: Scratch<A>,
     var_flags: Vec<bool, A>,
+}
+
+/// The lists that analysis works with.
+#[derive(Drop)]
+struct Scratch<A: Allocator + Copy> {
+    /// The literals of the learned clause.
+    clause: Vec<Lit, A>,
+    /// The clauses that were resolved.
+    involved: Vec<ClauseRef, A>,
+    /// The variables whose flags are to be cleared.
     to_clean: Vec<Var, A>,
+    /// True literals whose reasons the search for a redundant literal has still to look at.
     stack: Vec<Lit, A>,
+}
+
+/// What analysis reads of a search.
+#[derive(Clone, Copy)]
+struct Parts<'a, A: Allocator + Copy> {
+    clause_alloc: &'a ClauseAlloc<A>,
+    impl_graph: &'a ImplGraph<A>,
+    trail: &'a Trail<A>,
 }
 
 impl<A: Allocator + Copy> Model for AnalyzeConflict<A> {
@@ -34,7 +52,7 @@ impl<A: Allocator + Copy> Model for AnalyzeConflict<A> {
 
     ghost Value = { Analysis };
 
-    ghost view = { λ a. record { clause = a.clause.items; involved = a.involved.items; var_count = length a.var_flags.items } };
+    ghost view = { λ a. record { clause = a.scratch.clause.items; involved = a.scratch.involved.items; var_count = length a.var_flags.items } };
 
     ghost invariant = { λ a. (v : ℕ) → slice_index_or a.var_flags.items v false ≡ false };
 }
@@ -45,11 +63,13 @@ impl<A: Allocator + Copy> AnalyzeConflict<A> {
         ensures { result ≡ no_analysis }
     {
         AnalyzeConflict {
-            clause: Vec::new(alloc),
-            involved: Vec::new(alloc),
+            scratch: Scratch {
+                clause: Vec::new(alloc),
+                involved: Vec::new(alloc),
+                to_clean: Vec::new(alloc),
+                stack: Vec::new(alloc),
+            },
             var_flags: Vec::new(alloc),
-            to_clean: Vec::new(alloc),
-            stack: Vec::new(alloc),
         }
     }
 
@@ -66,86 +86,107 @@ impl<A: Allocator + Copy> AnalyzeConflict<A> {
     pub fn clause(&self) -> &[Lit]
         ensures { result.now ≡ self.now.clause }
     {
-        self.clause.as_slice()
+        self.scratch.clause.as_slice()
     }
 
-    /// The clauses of which the learned one was made.
+    /// The clauses that were resolved to make the learned one.
     pub fn involved(&self) -> &[ClauseRef]
         ensures { result.now ≡ self.now.involved }
     {
-        self.involved.as_slice()
+        self.scratch.involved.as_slice()
     }
 }
 
-/// Marks the variables of false literals, those of level 0 left out. What is new and below the present level joins the clause. Answers how many of the present level are new.
+/// Marks the variables of false literals. Those below the current level join the clause; returns how many of the
+/// current level are new.
 fn add_literals<A: Allocator + Copy>(
-    lits: &[Lit],
-    present: usize,
-    impl_graph: &ImplGraph<A>,
-    clause: &mut Vec<Lit, A>,
+    parts: Parts<'_, A>,
+    scratch: &mut Scratch<A>,
     var_flags: &mut [bool],
-    to_clean: &mut Vec<Var, A>,
+    lits: &[Lit],
 ) -> Result<usize, AllocError>
     ghost s: { View }
-    requires well { WellFormed s }
-    requires graph { impl_graph.now.nodes.items ≡ s.nodes }
-    requires present { present ≡ present_level s }
-    requires falsified { IsFalse s.trail lits.now }
+    requires sees { Sees s parts.clause_alloc.now parts.impl_graph.now parts.trail.now }
     requires flags { length var_flags.old ≡ length s.nodes }
-    ensures { IfOk result (λ count. Adds s lits.now count clause.old.items var_flags.old to_clean.old.items clause.new.items var_flags.new to_clean.new.items) }
+    requires falsified { IsFalse s.trail lits.now }
+    ensures { IfOk result (λ count. Adds s lits.now count (marking scratch.old var_flags.old) (marking scratch.new var_flags.new)) }
 {
+    let current = parts.trail.current_level();
     let mut count = 0;
     for lit in lits {
-        let level = impl_graph.level(lit.var());
+        let level = parts.impl_graph.level(lit.var());
+        // What is false at level 0 is false by the clauses alone, and can be left out.
         if level == 0 || var_flags[lit.index()] {
             continue;
         }
-        if level == present {
+        if level == current {
             count += 1;
         } else {
-            clause.push(*lit)?;
-            to_clean.push(lit.var())?;
+            scratch.clause.push(*lit)?;
+            scratch.to_clean.push(lit.var())?;
         }
         var_flags[lit.index()] = true;
     }
     Ok(count)
 }
 
-/// Resolves the false clause with reasons, latest first, until one literal of the present level is left, which is answered. The others are left in the clause.
-fn resolve<A: Allocator + Copy>(
-    conflict: Conflict,
-    clause_alloc: &ClauseAlloc<A>,
-    impl_graph: &ImplGraph<A>,
-    trail: &Trail<A>,
-    clause: &mut Vec<Lit, A>,
-    involved: &mut Vec<ClauseRef, A>,
+/// Lists the true literal's reason and adds the other literals of the reason. Returns how many of the current level are
+/// new.
+fn add_reason<A: Allocator + Copy>(
+    parts: Parts<'_, A>,
+    scratch: &mut Scratch<A>,
     var_flags: &mut [bool],
-    to_clean: &mut Vec<Var, A>,
+    lit: Lit,
+) -> Result<usize, AllocError>
+    ghost s: { View }
+    requires sees { Sees s parts.clause_alloc.now parts.impl_graph.now parts.trail.now }
+    requires flags { length var_flags.old ≡ length s.nodes }
+    requires stands { lit ∈ s.trail }
+    ensures { IfOk result (λ count. AddsReason s lit count (marking scratch.old var_flags.old) (marking scratch.new var_flags.new)) }
+{
+    let reason = *parts.impl_graph.reason(lit.var());
+    if let Reason::Long(cref) = reason {
+        scratch.involved.push(cref)?;
+    }
+    let count = add_literals(parts, scratch, var_flags, reason.lits(parts.clause_alloc))?;
+    Ok(count)
+}
+
+/// The clause that the conflict found false.
+fn false_clause(conflict: Conflict) -> ClauseRef
+    ensures { result ≡ place_of conflict }
+{
+    match conflict {
+        Conflict::Long(cref) => cref,
+    }
+}
+
+/// Resolves the conflict's clause with reasons, down to the first unique implication point: the one literal of the
+/// current level that is left. Returns its opposite; the other literals are left in the clause.
+fn resolve<A: Allocator + Copy>(
+    parts: Parts<'_, A>,
+    scratch: &mut Scratch<A>,
+    var_flags: &mut [bool],
+    conflict: Conflict,
 ) -> Result<Lit, AllocError>
     ghost s: { View }
-    requires well { WellFormed s }
-    requires clauses { clause_alloc.now ≡ s.clauses }
-    requires graph { impl_graph.now.nodes.items ≡ s.nodes }
-    requires trail { trail.now.literals ≡ s.trail }
-    requires decisions { trail.now.decisions ≡ s.decisions }
-    requires settled { LevelsSettled s }
-    requires conflict { IsConflict s (place_of conflict) }
-    requires deep { 0 < present_level s }
+    requires sees { Sees s parts.clause_alloc.now parts.impl_graph.now parts.trail.now }
     requires flags { length var_flags.old ≡ length s.nodes }
-    requires unmarked { (v : ℕ) → slice_index_or var_flags.old v false ≡ false }
-    requires empty { clause.old.items ≡ [] }
-    requires clean { to_clean.old.items ≡ [] }
-    ensures { IfOk result (λ first. IsResolved s (place_of conflict) first clause.new.items var_flags.new to_clean.new.items) }
+    requires conflict { IsDeepConflict s (place_of conflict) }
+    requires clean { IsClean (marking scratch.old var_flags.old) }
+    ensures { IfOk result (λ first. IsResolved s (place_of conflict) first (marking scratch.new var_flags.new)) }
 {
-    let present = trail.current_level();
-    let lits = conflict.lits(clause_alloc);
-    let Conflict::Long(cref) = conflict;
-    involved.push(cref)?;
-    let mut count = add_literals(lits, present, impl_graph, clause, var_flags, to_clean)?;
-    let mut place = trail.trail().len();
+    let lits = conflict.lits(parts.clause_alloc);
+    let cref = false_clause(conflict);
+    scratch.involved.push(cref)?;
+    let mut count = add_literals(parts, scratch, var_flags, lits)?;
+    // The other literals of a reason are false by earlier places of the trail. So backwards over the trail no literal
+    // comes back once it was resolved, and `count`, the marked literals of the current level that are still ahead,
+    // tells when the last one is met.
+    let mut place = parts.trail.trail().len();
     'places: loop {
         place -= 1;
-        let lit = trail.trail()[place];
+        let lit = parts.trail.trail()[place];
         if !var_flags[lit.index()] {
             continue;
         }
@@ -154,22 +195,11 @@ fn resolve<A: Allocator + Copy>(
         if count == 0 {
             return Ok(!lit);
         }
-        if let Reason::Long(cref) = *impl_graph.reason(lit.var()) {
-            involved.push(cref)?;
-            let reasoned = clause_alloc.clause(cref);
-            count += add_literals(
-                &reasoned[1..],
-                present,
-                impl_graph,
-                clause,
-                var_flags,
-                to_clean,
-            )?;
-        }
+        count += add_reason(parts, scratch, var_flags, lit)?;
     }
 }
 
-/// Takes the variables' flags away.
+/// Clears the variables' flags.
 fn clear_flags(var_flags: &mut [bool], vars: &[Var])
     requires { (v : ℕ) → v ∈ vars.now → v < length var_flags.old }
     ensures gone { (v : ℕ) → v ∈ vars.now → slice_index_or var_flags.new v false ≡ false }
@@ -180,7 +210,7 @@ fn clear_flags(var_flags: &mut [bool], vars: &[Var])
     }
 }
 
-/// Takes all flags away.
+/// Clears all flags.
 fn clear_all_flags(var_flags: &mut [bool])
     ensures { (v : ℕ) → slice_index_or var_flags.new v false ≡ false }
 {
@@ -189,66 +219,69 @@ fn clear_all_flags(var_flags: &mut [bool])
     }
 }
 
-/// Marks the literals that are false where the reason holds, and puts their opposites on the stack. False where one of them can't be implied by the clause.
+/// Marks the literals that are false where a reason holds, and puts their opposites on the stack. Returns false where
+/// one of them can't be implied by the clause.
 fn mark_causes<A: Allocator + Copy>(
-    lits: &[Lit],
-    levels: &LevelAbstraction,
-    impl_graph: &ImplGraph<A>,
+    parts: Parts<'_, A>,
+    scratch: &mut Scratch<A>,
     var_flags: &mut [bool],
-    to_clean: &mut Vec<Var, A>,
-    stack: &mut Vec<Lit, A>,
+    levels: &LevelAbstraction,
+    lits: &[Lit],
 ) -> Result<bool, AllocError>
     ghost s: { View }
-    requires well { WellFormed s }
-    requires graph { impl_graph.now.nodes.items ≡ s.nodes }
-    requires falsified { IsFalse s.trail lits.now }
+    requires sees { Sees s parts.clause_alloc.now parts.impl_graph.now parts.trail.now }
     requires flags { length var_flags.old ≡ length s.nodes }
-    ensures { IfOk result (λ done. Explores s lits.now done var_flags.old to_clean.old.items stack.old.items var_flags.new to_clean.new.items stack.new.items) }
+    requires falsified { IsFalse s.trail lits.now }
+    ensures { IfOk result (λ done. Explores s lits.now done (marking scratch.old var_flags.old) (marking scratch.new var_flags.new)) }
 {
     for lit in lits {
-        let level = impl_graph.level(lit.var());
+        let level = parts.impl_graph.level(lit.var());
         if level == 0 || var_flags[lit.index()] {
             continue;
         }
-        if impl_graph.reason(lit.var()).is_unit() || !levels.test(level) {
+        // A decision that isn't marked is implied by nothing. Where no literal of the clause is of the level, the search
+        // would come to the decision of that level in the end; a filter that holds too much only makes it go on.
+        if parts.impl_graph.reason(lit.var()).is_unit() || !levels.test(level) {
             return Ok(false);
         }
-        to_clean.push(lit.var())?;
-        stack.push(!*lit)?;
+        scratch.to_clean.push(lit.var())?;
+        scratch.stack.push(!*lit)?;
         var_flags[lit.index()] = true;
     }
     Ok(true)
 }
 
-/// Whether the literal is implied to be false by the marked ones. Where it is, what implies it is marked too, and else nothing more is.
+/// Whether the marked literals imply the literal to be false. Where they do, what it is implied by is marked too, and
+/// else nothing more is.
 fn is_redundant<A: Allocator + Copy>(
-    lit: Lit,
-    levels: &LevelAbstraction,
-    clause_alloc: &ClauseAlloc<A>,
-    impl_graph: &ImplGraph<A>,
+    parts: Parts<'_, A>,
+    scratch: &mut Scratch<A>,
     var_flags: &mut [bool],
-    to_clean: &mut Vec<Var, A>,
-    stack: &mut Vec<Lit, A>,
+    levels: &LevelAbstraction,
+    lit: Lit,
 ) -> Result<bool, AllocError>
     ghost s: { View }
-    requires well { WellFormed s }
-    requires clauses { clause_alloc.now ≡ s.clauses }
-    requires graph { impl_graph.now.nodes.items ≡ s.nodes }
-    requires falsified { opposite lit ∈ s.trail }
+    requires sees { Sees s parts.clause_alloc.now parts.impl_graph.now parts.trail.now }
     requires flags { length var_flags.old ≡ length s.nodes }
-    ensures { IfOk result (λ redundant. IsFound s lit redundant var_flags.old to_clean.old.items var_flags.new to_clean.new.items) }
+    requires falsified { opposite lit ∈ s.trail }
+    ensures { IfOk result (λ redundant. IsFound s lit redundant (marking scratch.old var_flags.old) (marking scratch.new var_flags.new)) }
 {
-    if impl_graph.reason(lit.var()).is_unit() {
+    if parts.impl_graph.reason(lit.var()).is_unit() {
         return Ok(false);
     }
-    let top = to_clean.len();
-    stack.clear();
-    stack.push(!lit)?;
-    'search: while let Some(implied) = stack.pop() {
-        let lits = impl_graph.reason(implied.var()).lits(clause_alloc);
-        if !mark_causes(lits, levels, impl_graph, var_flags, to_clean, stack)? {
-            clear_flags(var_flags, &to_clean[top..]);
-            to_clean.truncate(top);
+    let top = scratch.to_clean.len();
+    scratch.stack.clear();
+    scratch.stack.push(!lit)?;
+    'search: while let Some(implied) = scratch.stack.pop() {
+        let lits = parts
+            .impl_graph
+            .reason(implied.var())
+            .lits(parts.clause_alloc);
+        if !mark_causes(parts, scratch, var_flags, levels, lits)? {
+            // What this search marked need not be implied, and a later one would take it for such. The marks of a search
+            // that came to its end stay: what they stand for is implied, and is not searched again.
+            clear_flags(var_flags, &scratch.to_clean[top..]);
+            scratch.to_clean.truncate(top);
             return Ok(false);
         }
     }
@@ -256,60 +289,45 @@ fn is_redundant<A: Allocator + Copy>(
 }
 
 /// The levels of the clause's literals.
-fn levels_of<A: Allocator + Copy>(clause: &[Lit], impl_graph: &ImplGraph<A>) -> LevelAbstraction
-    requires { (m : ℕ) → m ∈ clause.now → variable_of m < length impl_graph.now.nodes.items }
+fn levels_of<A: Allocator + Copy>(parts: Parts<'_, A>, clause: &[Lit]) -> LevelAbstraction
+    requires { (m : ℕ) → m ∈ clause.now → variable_of m < length parts.impl_graph.now.nodes.items }
 {
     let mut levels = LevelAbstraction::default();
     for lit in clause {
-        levels.add(impl_graph.level(lit.var()));
+        levels.add(parts.impl_graph.level(lit.var()));
     }
     levels
 }
 
-/// Leaves the literals out that the others imply to be false.
+/// Leaves out the literals that the others imply to be false.
 fn minimize<A: Allocator + Copy>(
-    clause_alloc: &ClauseAlloc<A>,
-    impl_graph: &ImplGraph<A>,
-    clause: &mut Vec<Lit, A>,
+    parts: Parts<'_, A>,
+    scratch: &mut Scratch<A>,
     var_flags: &mut [bool],
-    to_clean: &mut Vec<Var, A>,
-    stack: &mut Vec<Lit, A>,
 ) -> Result<(), AllocError>
     ghost s: { View }
-    requires well { WellFormed s }
-    requires clauses { clause_alloc.now ≡ s.clauses }
-    requires graph { impl_graph.now.nodes.items ≡ s.nodes }
-    requires marks { Marks s 0 clause.old.items var_flags.old to_clean.old.items }
+    requires sees { Sees s parts.clause_alloc.now parts.impl_graph.now parts.trail.now }
     requires flags { length var_flags.old ≡ length s.nodes }
-    ensures minimized { OnOk result (IsMinimized s clause.old.items clause.new.items) }
-    ensures cleaned { OnOk result ((v : ℕ) → IsMarked var_flags.new v → v ∈ to_clean.new.items) }
-    ensures listed { OnOk result ((v : ℕ) → v ∈ to_clean.new.items → v < length s.nodes) }
+    requires marks { Marks s 0 (marking scratch.old var_flags.old) }
+    ensures { OnOk result (Minimizes s (marking scratch.old var_flags.old) (marking scratch.new var_flags.new)) }
 {
-    let levels = levels_of(clause, impl_graph);
+    let levels = levels_of(parts, &scratch.clause);
     let mut kept = 0;
-    for place in 0..clause.len() {
-        let lit = clause[place];
-        if !is_redundant(
-            lit,
-            &levels,
-            clause_alloc,
-            impl_graph,
-            var_flags,
-            to_clean,
-            stack,
-        )? {
-            clause[kept] = lit;
+    for place in 0..scratch.clause.len() {
+        let lit = scratch.clause[place];
+        if !is_redundant(parts, scratch, var_flags, &levels, lit)? {
+            scratch.clause[kept] = lit;
             kept += 1;
         }
     }
-    clause.truncate(kept);
+    scratch.clause.truncate(kept);
     Ok(())
 }
 
 /// The place of a literal with the highest level.
-fn highest_place<A: Allocator + Copy>(clause: &[Lit], impl_graph: &ImplGraph<A>) -> usize
+fn highest_place<A: Allocator + Copy>(parts: Parts<'_, A>, clause: &[Lit]) -> usize
     ghost s: { View }
-    requires graph { impl_graph.now.nodes.items ≡ s.nodes }
+    requires sees { Sees s parts.clause_alloc.now parts.impl_graph.now parts.trail.now }
     requires range { (m : ℕ) → m ∈ clause.now → variable_of m < length s.nodes }
     requires some { 0 < length clause.now }
     ensures within { result < length clause.now }
@@ -317,20 +335,18 @@ fn highest_place<A: Allocator + Copy>(clause: &[Lit], impl_graph: &ImplGraph<A>)
 {
     let mut highest = 0;
     for place in 1..clause.len() {
-        if impl_graph.level(clause[place].var()) > impl_graph.level(clause[highest].var()) {
+        let level = parts.impl_graph.level(clause[place].var());
+        if level > parts.impl_graph.level(clause[highest].var()) {
             highest = place;
         }
     }
     highest
 }
 
-/// Puts a literal with the highest level first. Answers that level, or 0 where there is no literal.
-fn put_highest_first<A: Allocator + Copy>(
-    clause: &mut Vec<Lit, A>,
-    impl_graph: &ImplGraph<A>,
-) -> usize
+/// Puts a literal with the highest level first. Returns that level, or 0 where there is no literal.
+fn put_highest_first<A: Allocator + Copy>(parts: Parts<'_, A>, clause: &mut Vec<Lit, A>) -> usize
     ghost s: { View }
-    requires graph { impl_graph.now.nodes.items ≡ s.nodes }
+    requires sees { Sees s parts.clause_alloc.now parts.impl_graph.now parts.trail.now }
     requires range { (m : ℕ) → m ∈ clause.old.items → variable_of m < length s.nodes }
     requires distinct { IsDistinct clause.old.items }
     ensures same { SameSet clause.new.items clause.old.items }
@@ -340,99 +356,54 @@ fn put_highest_first<A: Allocator + Copy>(
     if clause.is_empty() {
         return 0;
     }
-    let highest = highest_place(clause, impl_graph);
+    let highest = highest_place(parts, clause);
     clause.swap(0, highest);
-    impl_graph.level(clause[0].var())
+    parts.impl_graph.level(clause[0].var())
 }
 
-/// Learns a clause from a conflict above level 0, and answers the level to go back to. The marked variables are those to clean.
+/// Learns a clause from a conflict above level 0. Returns the level to backtrack to. The marked variables are those to
+/// clean.
 fn learn<A: Allocator + Copy>(
-    conflict: Conflict,
-    clause_alloc: &ClauseAlloc<A>,
-    impl_graph: &ImplGraph<A>,
-    trail: &Trail<A>,
-    clause: &mut Vec<Lit, A>,
-    involved: &mut Vec<ClauseRef, A>,
+    parts: Parts<'_, A>,
+    scratch: &mut Scratch<A>,
     var_flags: &mut [bool],
-    to_clean: &mut Vec<Var, A>,
-    stack: &mut Vec<Lit, A>,
+    conflict: Conflict,
 ) -> Result<usize, AllocError>
     ghost s: { View }
-    requires well { WellFormed s }
-    requires clauses { clause_alloc.now ≡ s.clauses }
-    requires graph { impl_graph.now.nodes.items ≡ s.nodes }
-    requires trail { trail.now.literals ≡ s.trail }
-    requires decisions { trail.now.decisions ≡ s.decisions }
-    requires settled { LevelsSettled s }
-    requires conflict { IsConflict s (place_of conflict) }
-    requires deep { 0 < present_level s }
+    requires sees { Sees s parts.clause_alloc.now parts.impl_graph.now parts.trail.now }
     requires flags { length var_flags.old ≡ length s.nodes }
-    requires unmarked { (v : ℕ) → slice_index_or var_flags.old v false ≡ false }
-    requires empty { clause.old.items ≡ [] }
-    requires clean { to_clean.old.items ≡ [] }
-    ensures follows { OnOk result ((held : List Clause) → Fits held s → Follows held clause.new.items) }
-    ensures asserting { IfOk result (λ level. IsAsserting s (place_of conflict) clause.new.items level) }
-    ensures cleaned { OnOk result ((v : ℕ) → IsMarked var_flags.new v → v ∈ to_clean.new.items) }
-    ensures listed { OnOk result ((v : ℕ) → v ∈ to_clean.new.items → v < length s.nodes) }
+    requires conflict { IsDeepConflict s (place_of conflict) }
+    requires clean { IsClean (marking scratch.old var_flags.old) }
+    ensures teaches { IfOk result (λ level. Teaches s (place_of conflict) scratch.new.clause.items scratch.new.involved.items level) }
+    ensures cleaned { OnOk result (MarksAreListed (marking scratch.new var_flags.new)) }
 {
-    let first = resolve(
-        conflict,
-        clause_alloc,
-        impl_graph,
-        trail,
-        clause,
-        involved,
-        var_flags,
-        to_clean,
-    )?;
-    minimize(clause_alloc, impl_graph, clause, var_flags, to_clean, stack)?;
-    let level = put_highest_first(clause, impl_graph);
-    clause.insert(0, first)?;
+    let first = resolve(parts, scratch, var_flags, conflict)?;
+    minimize(parts, scratch, var_flags)?;
+    // Once the search backtracks to the second literal's level all but the first are false, and the clause makes the
+    // first true. With these two in front the clause is watched by the literals that lose their values last.
+    let level = put_highest_first(parts, &mut scratch.clause);
+    scratch.clause.insert(0, first)?;
     Ok(level)
 }
 
-/// Learns a clause from a conflict above level 0, and takes the flags away again.
+/// Learns a clause from a conflict above level 0, and clears the flags again.
 fn learn_and_clear<A: Allocator + Copy>(
-    conflict: Conflict,
-    clause_alloc: &ClauseAlloc<A>,
-    impl_graph: &ImplGraph<A>,
-    trail: &Trail<A>,
-    clause: &mut Vec<Lit, A>,
-    involved: &mut Vec<ClauseRef, A>,
+    parts: Parts<'_, A>,
+    scratch: &mut Scratch<A>,
     var_flags: &mut [bool],
-    to_clean: &mut Vec<Var, A>,
-    stack: &mut Vec<Lit, A>,
+    conflict: Conflict,
 ) -> Result<usize, AllocError>
     ghost s: { View }
-    requires well { WellFormed s }
-    requires clauses { clause_alloc.now ≡ s.clauses }
-    requires graph { impl_graph.now.nodes.items ≡ s.nodes }
-    requires trail { trail.now.literals ≡ s.trail }
-    requires decisions { trail.now.decisions ≡ s.decisions }
-    requires settled { LevelsSettled s }
-    requires conflict { IsConflict s (place_of conflict) }
-    requires deep { 0 < present_level s }
+    requires sees { Sees s parts.clause_alloc.now parts.impl_graph.now parts.trail.now }
     requires flags { length var_flags.old ≡ length s.nodes }
-    requires unmarked { (v : ℕ) → slice_index_or var_flags.old v false ≡ false }
-    requires empty { clause.old.items ≡ [] }
-    requires clean { to_clean.old.items ≡ [] }
+    requires conflict { IsDeepConflict s (place_of conflict) }
+    requires clean { IsClean (marking scratch.old var_flags.old) }
     ensures unmarked { (v : ℕ) → slice_index_or var_flags.new v false ≡ false }
-    ensures follows { OnOk result ((held : List Clause) → Fits held s → Follows held clause.new.items) }
-    ensures asserting { IfOk result (λ level. IsAsserting s (place_of conflict) clause.new.items level) }
+    ensures teaches { IfOk result (λ level. Teaches s (place_of conflict) scratch.new.clause.items scratch.new.involved.items level) }
 {
-    match learn(
-        conflict,
-        clause_alloc,
-        impl_graph,
-        trail,
-        clause,
-        involved,
-        var_flags,
-        to_clean,
-        stack,
-    ) {
+    match learn(parts, scratch, var_flags, conflict) {
         Ok(level) => {
-            clear_flags(var_flags, to_clean);
+            clear_flags(var_flags, &scratch.to_clean);
             Ok(level)
         }
         Err(error) => {
@@ -442,7 +413,8 @@ fn learn_and_clear<A: Allocator + Copy>(
     }
 }
 
-/// Learns a clause from a conflict, and answers the level to go back to.
+/// Learns a clause from a conflict. Returns the lowest level at which the clause makes its first literal true; at level
+/// 0 the clause is empty. Fails where it is out of memory, and then says nothing of the clause.
 pub fn analyze_conflict<A: Allocator + Copy>(
     analyze: &mut AnalyzeConflict<A>,
     clause_alloc: &ClauseAlloc<A>,
@@ -457,23 +429,24 @@ pub fn analyze_conflict<A: Allocator + Copy>(
     requires flags { analyze.old.var_count ≡ length impl_graph.now.nodes.items }
     ensures count { analyze.new.var_count ≡ analyze.old.var_count }
     ensures learned { IfOk result (λ level. IsLearned (view_of clause_alloc.now values trail.now impl_graph.now) (place_of conflict) analyze.new.clause level) }
+    ensures involved { OnOk result (AreInvolved (view_of clause_alloc.now values trail.now impl_graph.now) (place_of conflict) analyze.new.involved) }
 {
-    analyze.clause.clear();
-    analyze.involved.clear();
-    analyze.to_clean.clear();
+    let parts = Parts {
+        clause_alloc,
+        impl_graph,
+        trail,
+    };
+    analyze.scratch.clause.clear();
+    analyze.scratch.involved.clear();
+    analyze.scratch.to_clean.clear();
     if trail.current_level() == 0 {
         return Ok(0);
     }
     let level = learn_and_clear(
-        conflict,
-        clause_alloc,
-        impl_graph,
-        trail,
-        &mut analyze.clause,
-        &mut analyze.involved,
+        parts,
+        &mut analyze.scratch,
         &mut analyze.var_flags,
-        &mut analyze.to_clean,
-        &mut analyze.stack,
+        conflict,
     )?;
     Ok(level)
 }

@@ -1,6 +1,6 @@
 use Rattle.std.proofs.Common.{◌∙◌, arith}
 use Rattle.varisat_prop.proofs.Clauses.{element, item-∈}
-use Rattle.varisat_search.proofs.Clearing.{cleared-more}
+use Rattle.varisat_search.proofs.AnalysisFlags.{cleared-more}
 use Rattle.varisat_search.proofs.analyze_conflict.clear_flags.Goals as goal
 
 pub bounds-var_flags-index : goal.bounds-var_flags-index

@@ -1,5 +1,5 @@
 use Rattle.std.proofs.Common.{take}
-use Rattle.varisat_search.proofs.Clearing.{IsCleared}
+use Rattle.varisat_search.proofs.AnalysisFlags.{IsCleared}
 use Rattle.varisat_search.proofs.analyze_conflict.clear_flags.Given as goal
 
 abbrev pub invariant-loop-var : goal.invariant-loop-var

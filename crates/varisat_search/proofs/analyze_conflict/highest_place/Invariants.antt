@@ -1,4 +1,4 @@
-use Rattle.varisat_search.proofs.Results.{Highest}
+use Rattle.varisat_search.proofs.AnalysisResult.{Highest}
 use Rattle.varisat_search.proofs.analyze_conflict.highest_place.Given as goal
 
 abbrev pub invariant-loop-place : goal.invariant-loop-place

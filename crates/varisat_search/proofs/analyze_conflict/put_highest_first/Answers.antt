@@ -2,7 +2,7 @@ use Rattle.std.proofs.Common.{ℕ, ◌<◌, ◌≤◌, length, get_or, ap, ◌�
 use Rattle.varisat_prop.proofs.Clauses.{element, item-∈}
 use Rattle.varisat_prop.specs.View.{level_of}
 use Rattle.varisat_search.proofs.Standing.{level-read}
-use Rattle.varisat_search.proofs.Results.{fronted-now, level-fronted}
+use Rattle.varisat_search.proofs.AnalysisResult.{fronted-now, level-fronted}
 use Rattle.varisat_search.proofs.analyze_conflict.put_highest_first.Goals as goal
 
 pub level-requires : goal.level-requires
@@ -12,7 +12,7 @@ level-requires g c =
     let f = fronted-now c.args.clause.now.items c.swap.new.self.items c.highest_place-highest.result (omega (arith, v, b)) c.requires.1.1.1 c.swap.ensures.items in
     let l = f.long in
     let i = c.requires.1.1.0 c.index.result.now (f.same.0 c.index.result.now (item-∈ c.swap.new.self.items 0 c.index.result.now (omega (arith, l, v, b)) c.index.ensures)) in
-    let n = ap (λ x. length x) c.requires.1.0 in
+    let n = ap (λ x. length x) c.requires.1.0.nodes_are in
     omega (arith, i, n, c.var.ensures)
 
 pub returns-clause-same : goal.returns-clause-same
@@ -34,7 +34,7 @@ returns-clause-level g c =
     let f = fronted-now c.args.clause.now.items c.swap.new.self.items c.highest_place-highest.result (omega (arith, v, b)) c.requires.1.1.1 c.swap.ensures.items in
     let l = f.long in
     let e = element c.swap.new.self.items 0 c.index.result.now (omega (arith, l, v, b)) c.index.ensures in
-    let r = level-read g.s c.args.impl_graph.now.nodes.items c.index.result.now c.var.result c.level.result c.requires.1.0 c.var.ensures c.level.ensures in
+    let r = level-read g.s c.args.parts.impl_graph.now.nodes.items c.index.result.now c.var.result c.level.result c.requires.1.0.nodes_are c.var.ensures c.level.ensures in
     level-fronted g.s c.args.clause.now.items c.swap.new.self.items c.highest_place-highest.result c.level.result f
     (subst (λ x. (k : ℕ) → k < length x → level_of g.s (get_or x k 0) ≤ level_of g.s (get_or x c.highest_place-highest.result 0)) c.deref.ensures.value c.highest_place-highest.ensures.highest)
     (r ∙ ap (level_of g.s) e)

@@ -1,10 +1,11 @@
 -- Flags that are taken away.
-use Rattle.std.proofs.Common.{◌≡◌, ℕ, zero, suc, ◌+◌, ◌<◌, ◌≤◌, Bool, false, List, [], ◌∷◌, length, get_or, set, take, inl, inr, ⊎_elim, refl, sym, ◌∙◌, subst, arith, get_or-set_same, get_or-set_other}
+use Rattle.std.proofs.Common.{◌≡◌, ℕ, zero, suc, ◌+◌, ◌<◌, ◌≤◌, Bool, false, List, [], ◌∷◌, length, get_or, set, take, take_all, ◌++◌, inl, inr, ⊎_elim, refl, sym, ◌∙◌, subst, arith, get_or-set_same, get_or-set_other}
 use Rattle.std.proofs.lemmas.Bool.{cases_lt}
+use Rattle.std.proofs.lemmas.List.{take-append-le}
 use Rattle.varisat_theory.specs.Membership.{◌∈◌}
 use Rattle.varisat_theory.proofs.Members.{equal_or_not}
 use Rattle.varisat_theory.proofs.Places.{∈-take_more, ∈-take_all}
-use Rattle.varisat_search.proofs.Adding.{take-grow, take-last}
+use Rattle.varisat_search.proofs.AnalysisMarks.{take-grow, take-last}
 
 -- The variables' flags are false, and the others are as they were.
 pub record IsCleared (vars : List ℕ) (f g : List Bool) : Type 0 where
@@ -54,3 +55,7 @@ all-cleared-end g k h a v = ⊎_elim (λ l. a v l) (λ (l : k ≤ v). beyond g v
     beyond [] v h = refl
     beyond (x ∷ xs) zero h = absurd (omega arith)
     beyond (x ∷ xs) (suc v) h = beyond xs v (omega arith)
+
+-- flags that were lent and are given back
+pub given-back : (flags rest : List Bool) (n : ℕ) → n ≡ length flags → ((v : ℕ) → get_or flags v false ≡ false) → (v : ℕ) → get_or (take n (flags ++ rest)) v false ≡ false
+given-back flags rest n e g v = subst (λ k. get_or k v false ≡ false) (sym (take-append-le n flags rest (omega (arith, e)) ∙ take_all n flags (omega (arith, e)))) (g v)

@@ -13,8 +13,8 @@ use Rattle.varisat_prop.proofs.Stored.{kept-at}
 use Rattle.varisat_prop.specs.View.{View, clause_at, literal_at, level_of, WellFormed, Fits}
 use Rattle.varisat_prop.proofs.Fronted.{IsFronted, fronted}
 use Rattle.std.specs.List.{swap}
-use Rattle.varisat_search.specs.Learned.{present_level, IsConflict, IsLevelOf, IsAsserting, IsLearned}
-use Rattle.varisat_search.specs.Marks.{IsMarked, IsResolved, IsMinimized}
+use Rattle.varisat_search.specs.Learned.{current_level, IsConflict, IsLevelOf, IsAsserting, IsLearned, ListsInvolved, AreInvolved}
+use Rattle.varisat_search.specs.Marks.{Marking, MarksAreListed, IsLower, IsResolved, Minimizes, Teaches}
 use Rattle.varisat_search.proofs.Standing.{level-opposite, level-small, fixed-implied}
 
 -- a literal of the highest level was put first
@@ -48,20 +48,24 @@ highest-new s c best place h l a = record {
   above = λ k o. ⊎_elim (λ (b : k < place). let z = a.above k b in omega (arith, z, l)) (λ (b : place ≤ k). let e : k ≡ place = omega (arith, b, o) in let g = ap (λ i. level_of s (get_or c i 0)) e in omega (arith, g)) (cases_lt k place);
 }
 
-module _ (s : View) (w : WellFormed s) (cf : ℕ) (first : Literal) (c : Clause) (f : List Bool) (t : List ℕ) (c' c'' new : Clause) (a : IsResolved s cf first c f t) (b : IsMinimized s c c') (same : SameSet c'' c') (distinct : IsDistinct c'') (e : new ≡ first ∷ c'') where
-  pub learned-follows : (held : List Clause) → Fits held s → Follows held new
-  learned-follows held k = subst (Follows held) (sym e)
-      (follows_more held held (first ∷ c') (first ∷ c'') (covered_by_self held) (λ x. ⊎_elim inl (λ i. inr (same.1 x i))) (b.follows first held k (a.follows held k)))
+-- the clause is the first literal and what minimization left, in another order
+module _ {s : View} {cf : ℕ} {first : Literal} {x y : Marking} (w : WellFormed s) (a : IsResolved s cf first x) (b : Minimizes s x y) (c new : Clause) (same : SameSet c y.clause) (distinct : IsDistinct c) (e : new ≡ first ∷ c) where
+  lower : (m : Literal) → m ∈ c → IsLower s m
+  lower m i = a.marks.lower m (b.minimized.part m (same.0 m i))
 
-  pub learned-asserting : (level : ℕ) → IsLevelOf s c'' level → IsAsserting s cf new level
-  learned-asserting level l = subst (λ x. IsAsserting s cf x level) (sym e) record {
-    false_now = λ m. ⊎_elim (λ i. subst (λ x. opposite x ∈ s.trail) (sym i) first-false) (λ i. (a.marks.lower m (b.part m (same.0 m i))).false_now);
-    distinct = ((λ i. let x = (a.marks.lower first (b.part first (same.0 first i))).below in omega (arith, x, first-level)), distinct);
+  learned-follows : (held : List Clause) → Fits held s → Follows held new
+  learned-follows held k = subst (Follows held) (sym e)
+      (follows_more held held (first ∷ y.clause) (first ∷ c) (covered_by_self held) (λ l. ⊎_elim inl (λ i. inr (same.1 l i))) (b.minimized.follows first held k (a.follows held k)))
+
+  learned-asserting : (level : ℕ) → IsLevelOf s c level → IsAsserting s cf new level
+  learned-asserting level l = subst (λ d. IsAsserting s cf d level) (sym e) record {
+    false_now = λ m. ⊎_elim (λ i. subst (λ d. opposite d ∈ s.trail) (sym i) first-false) (λ i. (lower m i).false_now);
+    distinct = ((λ i. let d = (lower first i).below in omega (arith, d, first-level)), distinct);
     first = first;
-    others = c'';
+    others = c;
     split = refl;
-    present = first-level;
-    lower = λ m i. (a.marks.lower m (b.part m (same.0 m i))).below;
+    current = first-level;
+    lower = λ m i. (lower m i).below;
     second = l;
     place = a.place;
     point = a.point;
@@ -72,13 +76,20 @@ module _ (s : View) (w : WellFormed s) (cf : ℕ) (first : Literal) (c : Clause)
       here = sym (opposite_twice (literal_at s a.place)) ∙ ap opposite (sym a.opposite_is)
 
       first-false : opposite first ∈ s.trail
-      first-false = subst (λ x. x ∈ s.trail) here (∈-get_or s.trail a.place 0 a.point.point.present.0)
+      first-false = subst (λ d. d ∈ s.trail) here (∈-get_or s.trail a.place 0 a.point.point.current.0)
 
-      first-level : level_of s first ≡ present_level s
-      first-level = sym (level-opposite s first) ∙ ap (level_of s) (sym here) ∙ a.point.point.present.1
+      first-level : level_of s first ≡ current_level s
+      first-level = sym (level-opposite s first) ∙ ap (level_of s) (sym here) ∙ a.point.point.current.1
+
+  pub learned-teaches : (level : ℕ) (involved : List ℕ) → IsLevelOf s c level → involved ≡ y.involved → Teaches s cf new involved level
+  learned-teaches level involved l i = record {
+    follows = learned-follows;
+    asserting = learned-asserting level l;
+    involves = subst (ListsInvolved s cf) (sym (i ∙ b.involved)) a.involved;
+  }
 
 -- a conflict at level 0
-pub learned-at-zero : (s : View) (w : WellFormed s) (cf : ℕ) (c : Clause) (level : ℕ) → IsConflict s cf → present_level s ≡ 0 → c ≡ [] → level ≡ 0 → IsLearned s cf c level
+pub learned-at-zero : (s : View) (w : WellFormed s) (cf : ℕ) (c : Clause) (level : ℕ) → IsConflict s cf → current_level s ≡ 0 → c ≡ [] → level ≡ 0 → IsLearned s cf c level
 learned-at-zero s w cf c level h z e l = subst (λ x. IsLearned s cf x level) (sym e) record {
   follows = λ held k. let (d, i, o) = k.stored (clause_at s cf) (kept-at s.clauses cf h.0) in
       implied_false held [] d i (λ m j. let g = h.1 m (o.0 m j) in fixed-implied s w held k m g (let x = level-small s w m g in omega (arith, x, z)));
@@ -86,16 +97,22 @@ learned-at-zero s w cf c level h z e l = subst (λ x. IsLearned s cf x level) (s
   above = λ d. absurd (omega (arith, d, z));
 }
 
-pub learned-above : (s : View) (cf : ℕ) (c : Clause) (level : ℕ) → 0 < present_level s → ((held : List Clause) → Fits held s → Follows held c) → IsAsserting s cf c level → IsLearned s cf c level
-learned-above s cf c level d f a = record {
-  follows = f;
+pub learned-above : {s : View} {cf : ℕ} {c : Clause} {involved : List ℕ} {level : ℕ} → 0 < current_level s → Teaches s cf c involved level → IsLearned s cf c level
+learned-above d a = record {
+  follows = a.follows;
   at_zero = λ z. absurd (omega (arith, d, z));
-  above = λ _. a;
+  above = λ _. a.asserting;
+}
+
+pub involved-above : {s : View} {cf : ℕ} {c : Clause} {involved : List ℕ} {level : ℕ} → 0 < current_level s → Teaches s cf c involved level → AreInvolved s cf involved
+involved-above d a = record {
+  at_zero = λ z. absurd (omega (arith, d, z));
+  above = λ _. a.involves;
 }
 
 -- once the listed variables are cleared no flag is set
-pub none-left : (f g : List Bool) (t : List ℕ) → ((v : ℕ) → IsMarked f v → v ∈ t) → ((v : ℕ) → v ∈ t → get_or g v false ≡ false) → ((v : ℕ) → (v ∈ t → ⊥) → get_or g v false ≡ get_or f v false) → (v : ℕ) → get_or g v false ≡ false
-none-left f g t h gone rest v = ⊎_elim
+pub none-left : {x : Marking} (flags : List Bool) (vars : List ℕ) → MarksAreListed x → vars ≡ x.to_clean → ((v : ℕ) → v ∈ vars → get_or flags v false ≡ false) → ((v : ℕ) → (v ∈ vars → ⊥) → get_or flags v false ≡ get_or x.flags v false) → (v : ℕ) → get_or flags v false ≡ false
+none-left {x = x} flags vars h e gone rest v = ⊎_elim
     (λ i. gone v i)
-    (λ n. rest v n ∙ ⊎_elim (λ e. absurd (n (h v e))) (λ e. e) (cases_Bool (get_or f v false)))
-    (∈-or_not v t)
+    (λ n. rest v n ∙ ⊎_elim (λ m. absurd (n (subst (λ q. v ∈ q) (sym e) (h.marked v m)))) (λ m. m) (cases_Bool (get_or x.flags v false)))
+    (∈-or_not v vars)

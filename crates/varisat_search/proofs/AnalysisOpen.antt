@@ -1,31 +1,31 @@
--- How many places of the present level are marked.
+-- How many places of the current level are marked.
 use Rattle.std.proofs.Common.{◌≡◌, ◌≢◌, ℕ, zero, suc, ◌+◌, ◌<◌, ◌≤◌, Bool, true, false, ◌&&◌, nat_eq, List, get_or, ⊎_elim, refl, sym, ap, ◌∙◌, arith}
 use Rattle.std.proofs.lemmas.Bool.{eqb-true, eq-eqb, ne_eqb, and_parts, and_from, and_left, and_right, cases_lt}
 use Rattle.varisat_theory.specs.Literals.{variable_of}
 use Rattle.varisat_theory.proofs.Members.{equal_or_not}
 use Rattle.varisat_prop.specs.View.{View, literal_at, node_at}
-use Rattle.varisat_search.specs.Learned.{present_level, IsPresent}
+use Rattle.varisat_search.specs.Learned.{current_level, IsOfCurrentLevel}
 use Rattle.varisat_search.specs.Marks.{IsMarked, one_if, is_open, open_below}
 
-pub open-is : (s : View) (f : List Bool) (k : ℕ) → IsPresent s k → IsMarked f (variable_of (literal_at s k)) → is_open s f k ≡ true
-open-is s f k p m = and_from (nat_eq (node_at s k).level (present_level s)) (get_or f (variable_of (literal_at s k)) false) (eq-eqb (node_at s k).level (present_level s) p.1) m
+pub open-is : (s : View) (f : List Bool) (k : ℕ) → IsOfCurrentLevel s k → IsMarked f (variable_of (literal_at s k)) → is_open s f k ≡ true
+open-is s f k p m = and_from (nat_eq (node_at s k).level (current_level s)) (get_or f (variable_of (literal_at s k)) false) (eq-eqb (node_at s k).level (current_level s) p.1) m
 
-pub open-level : (s : View) (f : List Bool) (k : ℕ) → is_open s f k ≡ true → (node_at s k).level ≡ present_level s
-open-level s f k h = eqb-true (node_at s k).level (present_level s) (and_parts (nat_eq (node_at s k).level (present_level s)) (get_or f (variable_of (literal_at s k)) false) h).0
+pub open-level : (s : View) (f : List Bool) (k : ℕ) → is_open s f k ≡ true → (node_at s k).level ≡ current_level s
+open-level s f k h = eqb-true (node_at s k).level (current_level s) (and_parts (nat_eq (node_at s k).level (current_level s)) (get_or f (variable_of (literal_at s k)) false) h).0
 
 pub open-marked : (s : View) (f : List Bool) (k : ℕ) → is_open s f k ≡ true → IsMarked f (variable_of (literal_at s k))
-open-marked s f k h = (and_parts (nat_eq (node_at s k).level (present_level s)) (get_or f (variable_of (literal_at s k)) false) h).1
+open-marked s f k h = (and_parts (nat_eq (node_at s k).level (current_level s)) (get_or f (variable_of (literal_at s k)) false) h).1
 
 pub closed-unmarked : (s : View) (f : List Bool) (k : ℕ) → get_or f (variable_of (literal_at s k)) false ≡ false → is_open s f k ≡ false
-closed-unmarked s f k h = and_right (nat_eq (node_at s k).level (present_level s)) (get_or f (variable_of (literal_at s k)) false) h
+closed-unmarked s f k h = and_right (nat_eq (node_at s k).level (current_level s)) (get_or f (variable_of (literal_at s k)) false) h
 
 pub open-same : (s : View) (f g : List Bool) (k : ℕ) → get_or f (variable_of (literal_at s k)) false ≡ get_or g (variable_of (literal_at s k)) false → is_open s f k ≡ is_open s g k
-open-same s f g k e = ap (λ b. nat_eq (node_at s k).level (present_level s) && b) e
+open-same s f g k e = ap (λ b. nat_eq (node_at s k).level (current_level s) && b) e
 
-pub open-elsewhere : (s : View) (f g : List Bool) (k : ℕ) → ((node_at s k).level ≡ present_level s → ⊥) → is_open s f k ≡ is_open s g k
+pub open-elsewhere : (s : View) (f g : List Bool) (k : ℕ) → ((node_at s k).level ≡ current_level s → ⊥) → is_open s f k ≡ is_open s g k
 open-elsewhere s f g k n =
-    let e = ne_eqb (node_at s k).level (present_level s) n in
-    and_left (nat_eq (node_at s k).level (present_level s)) (get_or f (variable_of (literal_at s k)) false) e ∙ sym (and_left (nat_eq (node_at s k).level (present_level s)) (get_or g (variable_of (literal_at s k)) false) e)
+    let e = ne_eqb (node_at s k).level (current_level s) n in
+    and_left (nat_eq (node_at s k).level (current_level s)) (get_or f (variable_of (literal_at s k)) false) e ∙ sym (and_left (nat_eq (node_at s k).level (current_level s)) (get_or g (variable_of (literal_at s k)) false) e)
 
 pub count-same : (s : View) (f g : List Bool) (i : ℕ) → ((k : ℕ) → k < i → is_open s f k ≡ is_open s g k) → open_below s f i ≡ open_below s g i
 count-same s f g zero h = refl

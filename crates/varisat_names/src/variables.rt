@@ -280,3 +280,6 @@ impl<A: Allocator + Copy> Variables<A> {
         Ok(())
     }
 }
+
+#[cfg(test)]
+mod tests;

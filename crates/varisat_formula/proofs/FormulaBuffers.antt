@@ -5,7 +5,7 @@ use Rattle.std.proofs.lemmas.Bool.Decides.{same_from_decides, Decides-eqb}
 use Rattle.std.proofs.lemmas.Slice.Eq.{slice_eq-Decides}
 use Rattle.std.specs.Bool.{Decides}
 use Rattle.std.specs.Cmp.Lexicographic.{pointwise}
-use Rattle.varisat_formula.specs.Formulas.{Formula, cut, UseUp, BuffersFit, AllBelow, AreBelow, variables_of, append_clause, append_clauses}
+use Rattle.varisat_formula.specs.Formulas.{Formula, cut, UseUp, BuffersFit, AllBelow, AreBelow, variables_of, with_one_more, with_more}
 use Rattle.varisat_formula.specs.Equality.{same_formula}
 
 pub length-cut : (ns ls : List ℕ) → length ns ≡ length (cut ns ls)
@@ -99,22 +99,22 @@ fits_append count next n ns ls c ms ks f e p q h k =
     }))
 
 pub clause_added : (count next n : ℕ) (ns ls c ms ks : List ℕ) → BuffersFit count ns ls → n ≡ length c → ms ≡ ns ++ n ∷ [] → ks ≡ ls ++ c → next ≡ max count (variables_of c) →
-    record { var_count = next; clauses = cut ms ks } ≡ append_clause (record { var_count = count; clauses = cut ns ls }) c
+    record { var_count = next; clauses = cut ms ks } ≡ with_one_more (record { var_count = count; clauses = cut ns ls }) c
 clause_added count next n ns ls c ms ks f e p q h =
     let made : ℕ → List (List ℕ) → Formula = λ v cs. record { var_count = v; clauses = cs } in
     ap (λ x. made next (cut x ks)) p ∙ ap (λ x. made next (cut (ns ++ n ∷ []) x)) q
     ∙ ap (λ x. made next x) (cut-append ns ls c n f.used e) ∙ ap (λ v. made v (cut ns ls ++ c ∷ [])) h
 
-pub append_clauses-append : (f : Formula) (cs : List (List ℕ)) (c : List ℕ) → append_clauses f (cs ++ c ∷ []) ≡ append_clause (append_clauses f cs) c
-append_clauses-append f [] c = refl
-append_clauses-append f (d ∷ cs) c = append_clauses-append (append_clause f d) cs c
+pub with_more-append : (f : Formula) (cs : List (List ℕ)) (c : List ℕ) → with_more f (cs ++ c ∷ []) ≡ with_one_more (with_more f cs) c
+with_more-append f [] c = refl
+with_more-append f (d ∷ cs) c = with_more-append (with_one_more f d) cs c
 
 -- one of the clauses more
 pub clauses_step : {B : Type 0} (now : B → List ℕ) (all : List B) (i : ℕ) (b : B) (clause : List ℕ) (f s t : Formula) → i < length all → b ≡ get_or all i b → clause ≡ now b →
-    s ≡ append_clauses f (map now (take i all)) → t ≡ append_clause s clause → t ≡ append_clauses f (map now (take (i + 1) all))
+    s ≡ with_more f (map now (take i all)) → t ≡ with_one_more s clause → t ≡ with_more f (map now (take (i + 1) all))
 clauses_step {B} now all i b clause f s t h e k p q =
-    q ∙ ap (λ x. append_clause x clause) p ∙ ap (λ x. append_clause (append_clauses f (map now (take i all))) x) k
-    ∙ sym (append_clauses-append f (map now (take i all)) (now b)) ∙ ap (λ cs. append_clauses f cs) (sym (map_take now all i b h e))
+    q ∙ ap (λ x. with_one_more x clause) p ∙ ap (λ x. with_one_more (with_more f (map now (take i all))) x) k
+    ∙ sym (with_more-append f (map now (take i all)) (now b)) ∙ ap (λ cs. with_more f cs) (sym (map_take now all i b h e))
   where
     map_take : {B : Type 0} (now : B → List ℕ) (all : List B) (i : ℕ) (b : B) → i < length all → b ≡ get_or all i b → map now (take (i + 1) all) ≡ map now (take i all) ++ now b ∷ []
     map_take now [] i b h e = absurd (omega arith)

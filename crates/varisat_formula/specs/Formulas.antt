@@ -16,13 +16,13 @@ variables_of [] = 0
 variables_of (l ∷ ls) = max (l / 2 + 1) (variables_of ls)
 
 -- one more clause
-abbrev pub append_clause : Formula → Clause → Formula
-append_clause f c = record { var_count = max f.var_count (variables_of c); clauses = f.clauses ++ c ∷ [] }
+abbrev pub with_one_more : Formula → Clause → Formula
+with_one_more f c = record { var_count = max f.var_count (variables_of c); clauses = f.clauses ++ c ∷ [] }
 
 -- each of the clauses in turn
-abbrev pub append_clauses : Formula → List Clause → Formula
-append_clauses f [] = f
-append_clauses f (c ∷ cs) = append_clauses (append_clause f c) cs
+abbrev pub with_more : Formula → List Clause → Formula
+with_more f [] = f
+with_more f (c ∷ cs) = with_more (with_one_more f c) cs
 
 -- the literals' variables are below the count
 abbrev pub AllBelow : ℕ → List Literal → Type 0

@@ -1,11 +1,13 @@
 -- What changes of the tables add up to.
 use Rattle.std.proofs.Common.{◌≡◌, ◌≢◌, ◌<◌, ◌≤◌, ℕ, zero, suc, ◌+◌, ◌-◌, max, true, false, Option, Some, None, List, [], ◌∷◌, length, slice_index_or, sym, ap, ◌∙◌, subst, refl, arith, ⊎_elim}
 use Rattle.std.proofs.lemmas.Bool.{cases_lt}
-use Rattle.varisat_names.specs.VarMap.{at}
-use Rattle.varisat_names.specs.VarData.{kept_at, IsLeastDeleted}
-use Rattle.varisat_names.specs.Variables.{Tables, IsGiven, AreNextGiven}
+use Rattle.varisat_names.specs.VarMap.{at, IsPut, IsFull, IsLeastUnmapped}
+use Rattle.varisat_names.specs.VarData.{fresh, kept_at, IsKeptAs, IsLeastDeleted}
+use Rattle.varisat_names.specs.Variables.{Tables, AreLinked, IsGiven, AreNextGiven, IsTaken, IsNothingHidden}
 use Rattle.varisat_names.specs.declared.variables.data.VarData.{VarData}
-use Rattle.varisat_names.proofs.VarMap.{at-past}
+use Rattle.varisat_names.proofs.VarMap.{at-past, at-inside}
+use Rattle.varisat_names.proofs.Maps.{updated-all, updated-at, updated-other}
+use Rattle.varisat_names.specs.Maps.{updated}
 
 -- no variable past the list is live
 pub kept-past : (xs : List VarData) (i : ℕ) → length xs ≤ i → (kept_at xs i).deleted ≡ true
@@ -16,6 +18,10 @@ kept-past (x ∷ xs) (suc i) h = kept-past xs i (omega (arith, h))
 -- a live variable is in the list
 pub live-inside : (xs : List VarData) (i : ℕ) → (kept_at xs i).deleted ≡ false → i < length xs
 live-inside xs i h = ⊎_elim (λ l. l) (λ l. let e = kept-past xs i l in absurd cc) (cases_lt i (length xs))
+
+-- a variable with a name is in the list
+pub named-inside : (t : Tables) (u x : ℕ) → AreLinked t → at t.users.forward u ≡ Some x → x < length t.kept
+named-inside t u x l e = live-inside t.kept x (l.named x u (l.users.there u x e))
 
 -- the least variable that is not live is not above the count
 pub least-near : (xs : List VarData) (x : ℕ) → IsLeastDeleted xs x → x ≤ length xs
@@ -47,3 +53,76 @@ one-more w u old now new index x a b h g =
       count = omega (arith, near, q, c, a);
       bounded = omega (arith, a, b);
     }
+
+-- the least free name where all below the watermark are in use
+pub least-full : (map : List (Option ℕ)) (u : ℕ) → IsFull map → IsLeastUnmapped map u → u ≤ length map → u ≡ length map
+least-full map u f (e, l) h = ⊎_elim (λ p. absurd (f u p e)) (λ p. omega (arith, p, h)) (cases_lt u (length map))
+
+-- a full map with one more pair at its end
+pub full-put : (old new : List (Option ℕ)) (v : ℕ) → IsFull old → IsPut old (length old) (Some v) new → IsFull new
+full-put old new v f p u h e =
+    let w = p.watermark in
+    let at_u : at new u ≡ None = e in
+    updated-all (λ i o. i < length new → o ≡ None → ⊥) (at old) (length old) (Some v) (λ _ q. absurd cc) u (λ n b q. f u (omega (arith, n, b, w)) q) h (sym (p.at_each u) ∙ at_u)
+
+-- what is kept of another variable stays live
+live-put : (old new : List VarData) (x : ℕ) (d : VarData) → d.deleted ≡ false → ((y : ℕ) → y < length old → (kept_at old y).deleted ≡ false) → IsKeptAs old x d new → x ≤ length old → (y : ℕ) → y < length new → (kept_at new y).deleted ≡ false
+live-put old new x d h f p n y b =
+    let w = p.count in
+    ap (λ k. k.deleted) (p.at_each y) ∙ updated-all (λ i k. i < length new → k.deleted ≡ false) (kept_at old) x d (λ _. h) y (λ e c. f y (omega (arith, e, c, w, n))) b
+
+-- the least variable that is not live where all are
+pub least-live : (xs : List VarData) (x : ℕ) → ((y : ℕ) → y < length xs → (kept_at xs y).deleted ≡ false) → IsLeastDeleted xs x → x ≡ length xs
+least-live xs x f l = ⊎_elim (λ p. let e = f x p in let d = l.0 in absurd cc) (λ p. let n = least-near xs x l in omega (arith, p, n)) (cases_lt x (length xs))
+
+-- Where nothing was hidden yet a name that comes into use is the watermark, and leads to the variable of the same number.
+pub given-same : (old new : Tables) (u x : ℕ) → IsNothingHidden old → u ≡ length old.users.forward → IsGiven old new u x → (x ≡ u) × IsNothingHidden new
+given-same old new u x p e g =
+    let here : x ≡ length old.kept = least-live old.kept x p.live g.unused in
+    let c = p.count in
+    let same : x ≡ u = omega (arith, here, c, e) in
+    let w = g.users.forward.watermark in
+    let k = g.kept.count in (
+      same,
+      record {
+        users = λ v b. g.users.forward.at_each v ∙ updated-all (λ i o. i < length new.users.forward → o ≡ Some i) (at old.users.forward) u (Some x) (λ _. ap Some same) v (λ n h. p.users v (omega (arith, n, h, w, e))) b;
+        count = omega (arith, w, k, c, same, e);
+        live = live-put old.kept new.kept x fresh refl p.live g.kept (omega (arith, here));
+        solvers = subst (λ m. IsFull m.backward) (sym g.solvers) p.solvers;
+      },
+    )
+
+-- So it is for names in a row.
+pub next-given-same : (k : ℕ) (old new : Tables) → IsNothingHidden old → AreNextGiven k old new → IsNothingHidden new
+next-given-same zero old new p e = subst (λ t. IsNothingHidden t) (sym e) p
+next-given-same (suc k) old new p (t, x, g, r) = next-given-same k t new (given-same old t (length old.users.forward) x p refl g).1 r
+
+-- Where nothing was hidden yet a solver variable that is taken is the watermark.
+pub taken-next : (old new : Tables) (x v : ℕ) → IsNothingHidden old → v ≤ length old.solvers.backward → IsTaken old new x v → (v ≡ length old.solvers.backward) × IsNothingHidden new
+taken-next old new x v p h t =
+    let here = least-full old.solvers.backward v p.solvers t.least h in (
+      here,
+      record {
+        users = subst (λ m. (u : ℕ) → u < length m.forward → at m.forward u ≡ Some u) (sym t.users) p.users;
+        count = ap length t.kept ∙ p.count ∙ ap (λ m. length m.forward) (sym t.users);
+        live = subst (λ xs. (y : ℕ) → y < length xs → (kept_at xs y).deleted ≡ false) (sym t.kept) p.live;
+        solvers = full-put old.solvers.backward new.solvers.backward x p.solvers (subst (λ i. IsPut old.solvers.backward i (Some x) new.solvers.backward) here t.solvers.backward);
+      },
+    )
+
+-- a name in use stays when the next ones come into use
+pub next-keeps : (k : ℕ) (old new : Tables) (u x : ℕ) → AreNextGiven k old new → at old.users.forward u ≡ Some x → at new.users.forward u ≡ Some x
+next-keeps zero old new u x e h = subst (λ t. at t.users.forward u ≡ Some x) (sym e) h
+next-keeps (suc k) old new u x (t, y, g, r) h =
+    let n : u ≡ length old.users.forward → ⊥ = λ q. let b = at-inside old.users.forward u x h in omega (arith, b, q) in
+    next-keeps k t new u x r (g.users.forward.at_each u ∙ updated-other (at old.users.forward) (length old.users.forward) (Some y) u n ∙ h)
+
+-- a name that was named is in use
+pub named-in-use : (k : ℕ) (old new : Tables) (u : ℕ) → AreNextGiven k old new → length old.users.forward ≤ u → u < length old.users.forward + k → (x : ℕ) × (at new.users.forward u ≡ Some x)
+named-in-use zero old new u e a b = absurd omega (arith, a, b)
+named-in-use (suc k) old new u (t, x, g, r) a b =
+    let w = g.users.forward.watermark in
+    ⊎_elim
+    (λ p. named-in-use k t new u r (omega (arith, p, w)) (omega (arith, b, w)))
+    (λ p. let q : u ≡ length old.users.forward = omega (arith, a, p) in (x, next-keeps k t new u x r (g.users.forward.at_each u ∙ ap (λ i. updated (at old.users.forward) (length old.users.forward) (Some x) i) q ∙ updated-at (at old.users.forward) (length old.users.forward) (Some x))))
+    (cases_lt (length old.users.forward) u)

@@ -4,7 +4,7 @@ ghost use Rattle.std.specs.List.{FoldsTo};
 ghost use Rattle.std.specs.Iterator.{YieldsFirstRef, item_count};
 ghost use Rattle.varisat_theory.specs.Literals.{literal_of};
 ghost use Rattle.varisat_formula.specs.declared.formula.cnf.FormulaError.TheVariants.{Full, Memory};
-ghost use Rattle.varisat_formula.specs.Formulas.{no_clauses, variables_of, append_clause, append_clauses, AreBelow};
+ghost use Rattle.varisat_formula.specs.Formulas.{no_clauses, variables_of, with_one_more, with_more, AreBelow};
 ghost use Rattle.varisat_formula.specs.Equality.{same_formula, same_laws, same_equivalence};
 
 use std::alloc::{AllocError, Allocator};
@@ -136,7 +136,7 @@ impl<A: Allocator + Copy> CnfFormula<A> {
 
     /// The formula of the clauses, in their order. Its only error is `Memory`.
     pub fn from_clauses_in(alloc: A, clauses: &[&[Lit]]) -> Result<CnfFormula<A>, FormulaError>
-        ensures formula { IfOk result (λ f. f ≡ append_clauses no_clauses (map (λ c. c.now) clauses.now)) }
+        ensures formula { IfOk result (λ f. f ≡ with_more no_clauses (map (λ c. c.now) clauses.now)) }
         ensures error { IfErr result (λ e. e ≡ Memory) }
     {
         let mut formula = CnfFormula::new_in(alloc);
@@ -181,7 +181,7 @@ impl<A: Allocator + Copy> CnfFormula<A> {
 
     /// Takes a clause. The error is `Memory`, and then nothing changes.
     pub fn add_clause(&mut self, literals: &[Lit]) -> Result<(), FormulaError>
-        ensures { MatchResult result (λ _. self.new ≡ append_clause self.old literals.now) (λ e. (e ≡ Memory) × (self.new ≡ self.old)) }
+        ensures { MatchResult result (λ _. self.new ≡ with_one_more self.old literals.now) (λ e. (e ≡ Memory) × (self.new ≡ self.old)) }
     {
         let needed = variables_of(literals);
         // The length's room first: once the literals are in, nothing can fail.
@@ -206,7 +206,7 @@ impl<A: Allocator + Copy> CnfFormula<A> {
 impl<A: Allocator + Copy> ExtendFormula for CnfFormula<A> {
     type Error = FormulaError;
 
-    ghost adds_clause = { λ f c r g. MatchResult r (λ _. g ≡ append_clause f c) (λ e. (e ≡ Memory) × (g ≡ f)) };
+    ghost adds_clause = { λ f c r g. MatchResult r (λ _. g ≡ with_one_more f c) (λ e. (e ≡ Memory) × (g ≡ f)) };
 
     ghost makes_var = { λ f r g. MatchResult r
         (λ v. (v ≡ f.var_count) × (v < 2 ^ 31) × (g ≡ record f { var_count = v + 1 }))

@@ -18,11 +18,11 @@ consumes_none None b k = tt
 consumes_none (Some xs) None k = absurd k
 consumes_none (Some xs) (Some ys) k = sym k
 
-pub consumes_self : (a : Option (List ℕ)) → Consumes a a []
+consumes_self : (a : Option (List ℕ)) → Consumes a a []
 consumes_self None = tt
 consumes_self (Some xs) = refl
 
-pub consumes_more : (a b c : Option (List ℕ)) (xs ys : List ℕ) → Consumes a b xs → Consumes b c ys → Consumes a c (xs ++ ys)
+consumes_more : (a b c : Option (List ℕ)) (xs ys : List ℕ) → Consumes a b xs → Consumes b c ys → Consumes a c (xs ++ ys)
 consumes_more None b c xs ys f g = tt
 consumes_more (Some us) None c xs ys f g = absurd f
 consumes_more (Some us) (Some vs) None xs ys f g = absurd g

@@ -13,7 +13,7 @@ use Rattle.varisat_prop.proofs.Stored.{kept-at}
 use Rattle.varisat_prop.specs.View.{View, clause_at, literal_at, level_of, WellFormed, Fits}
 use Rattle.varisat_prop.proofs.Fronted.{IsFronted, fronted}
 use Rattle.std.specs.List.{swap}
-use Rattle.varisat_search.specs.Learned.{current_level, IsConflict, IsLevelOf, IsAsserting, IsLearned, ListsInvolved, AreInvolved}
+use Rattle.varisat_search.specs.Learned.{current_level, IsConflict, IsLevelOf, IsAsserting, IsLearned, ListsInvolved}
 use Rattle.varisat_search.specs.Marks.{Marking, MarksAreListed, IsLower, IsResolved, Minimizes, Teaches}
 use Rattle.varisat_search.proofs.Standing.{level-opposite, level-small, fixed-implied}
 
@@ -95,19 +95,6 @@ learned-at-zero s w cf c level h z e l = subst (λ x. IsLearned s cf x level) (s
       implied_false held [] d i (λ m j. let g = h.1 m (o.0 m j) in fixed-implied s w held k m g (let x = level-small s w m g in omega (arith, x, z)));
   at_zero = λ _. (refl, l);
   above = λ d. absurd (omega (arith, d, z));
-}
-
-pub learned-above : {s : View} {cf : ℕ} {c : Clause} {involved : List ℕ} {level : ℕ} → 0 < current_level s → Teaches s cf c involved level → IsLearned s cf c level
-learned-above d a = record {
-  follows = a.follows;
-  at_zero = λ z. absurd (omega (arith, d, z));
-  above = λ _. a.asserting;
-}
-
-pub involved-above : {s : View} {cf : ℕ} {c : Clause} {involved : List ℕ} {level : ℕ} → 0 < current_level s → Teaches s cf c involved level → AreInvolved s cf involved
-involved-above d a = record {
-  at_zero = λ z. absurd (omega (arith, d, z));
-  above = λ _. a.involves;
 }
 
 -- once the listed variables are cleared no flag is set

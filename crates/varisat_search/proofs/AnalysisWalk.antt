@@ -517,8 +517,8 @@ module _ (s : View) (w : WellFormed s) (cf : ℕ) where
                 (split (clause_at s r) why.1 (opposite (literal_at s k)) m)
 
 -- the walk begins once the conflict's clause is listed and its literals were added
-pub walk-begin : {s : View} {cf n : ℕ} {mark next : Marking} → WellFormed s → IsDeepConflict s cf → IsClean mark → (lits : List Literal) (involved : List ℕ) (p i : ℕ) → lits ≡ clause_at s cf → involved ≡ mark.involved ++ p ∷ [] → p ≡ cf → i ≡ length s.trail → Adds s lits n (record mark { involved = involved }) next → Walk s cf next n i
-walk-begin {s = s} {cf = cf} {n = n} {mark = mark} {next = next} w dc clean lits involved p i le ie pe ne a =
+pub walk-begin : {s : View} {cf n : ℕ} {mark next : Marking} → WellFormed s → IsDeepConflict s cf → IsClean mark → (false_ones : List Literal) (involved : List ℕ) (p i : ℕ) → false_ones ≡ clause_at s cf → involved ≡ mark.involved ++ p ∷ [] → p ≡ cf → i ≡ length s.trail → Adds s false_ones n (record mark { involved = involved }) next → Walk s cf next n i
+walk-begin {s = s} {cf = cf} {n = n} {mark = mark} {next = next} w dc clean false_ones involved p i le ie pe ne a =
     subst (λ k. Walk s cf next n k) (sym ne)
     (walk-start s w cf n mark (record mark { involved = involved }) next dc clean
     (ap (λ (k : List ℕ). record mark { involved = k }) (ie ∙ ap (λ (k : List ℕ). k ++ p ∷ []) clean.involved ∙ ap (λ (k : ℕ). k ∷ []) pe))

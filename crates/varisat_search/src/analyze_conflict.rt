@@ -288,7 +288,8 @@ fn is_redundant<A: Allocator + Copy>(
     Ok(true)
 }
 
-/// The levels of the clause's literals.
+/// The levels of the clause's literals. A filter of 64 bits is enough: a level that it holds by mistake makes a search
+/// longer, but does not change what it finds.
 fn levels_of<A: Allocator + Copy>(parts: Parts<'_, A>, clause: &[Lit]) -> LevelAbstraction
     requires { (m : ℕ) → m ∈ clause.now → variable_of m < length parts.impl_graph.now.nodes.items }
 {

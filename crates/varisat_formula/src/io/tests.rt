@@ -1,5 +1,6 @@
-use crate::io::{ByteSource, MemoryTarget, ProofTarget, ReadSource};
+use crate::io::{ByteSource, IoTarget, MemoryTarget, ProofTarget, ReadSource};
 use std::io;
+use std::io::Write;
 
 #[test]
 fn target_in_memory(rt: HostRuntime) -> io::Result<()> {
@@ -25,5 +26,32 @@ fn source_of_a_reader(rt: HostRuntime) -> io::Result<()> {
     assert_eq!(rt; source.fill(&mut buffer)?, 0);
     assert!(rt; source.has_ended());
     assert_eq!(rt; source.faults(), 0);
+    Ok(())
+}
+
+/// A writer that takes all bytes, and counts how often it was flushed.
+#[derive(Drop)]
+struct FlushedWriter {
+    flushes: u64,
+}
+
+impl Write for FlushedWriter {
+    fn write(&mut self, buf: &[u8]) -> io::Result<usize> {
+        Ok(buf.len())
+    }
+
+    fn flush(&mut self) -> io::Result<()> {
+        self.flushes = self.flushes.saturating_add(1);
+        Ok(())
+    }
+}
+
+#[test]
+fn writers_are_flushed(rt: HostRuntime) -> io::Result<()> {
+    let mut target = IoTarget::new(FlushedWriter { flushes: 0 });
+    target.put(b"1 0\n")?;
+    target.flush()?;
+    assert_eq!(rt; target.faults(), 0);
+    assert_eq!(rt; target.into_inner().flushes, 1);
     Ok(())
 }

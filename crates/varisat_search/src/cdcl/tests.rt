@@ -135,6 +135,7 @@ fn learned_twice(rt: HostRuntime) -> Result<(), Fail> {
     let involved = [ClauseRef::from_place(3), ClauseRef::from_place(2)];
     assert_eq!(rt; ctx.analyze_conflict.involved(), involved.as_slice());
     assert!(rt; teaches(&mut ctx, &trail, &lits![-4, -1], 1)?);
+    assert_eq!(rt; ctx.analyze_conflict.involved(), involved.as_slice());
     Ok(())
 }
 
@@ -203,5 +204,6 @@ fn conflict_at_level_zero(rt: HostRuntime) -> Result<(), Fail> {
     load_clause(&mut ctx, &lits![-1, -2])?;
     load_clause(&mut ctx, &lits![1])?;
     assert!(rt; teaches(&mut ctx, &lits![1, 2], &[], 0)?);
+    assert!(rt; ctx.analyze_conflict.involved().is_empty());
     Ok(())
 }

@@ -60,6 +60,17 @@ fn next<A: Allocator + Copy>(variables: &Variables<A>) -> Option<(Var, Var, Var)
     ))
 }
 
+/// The solver variable of the name, and the name of that, if there are any.
+fn there_and_back<A: Allocator + Copy>(variables: &Variables<A>, user: Var) -> Option<(Var, Var)> {
+    variables.prove_linked();
+    let global = variables.global_from_user().get(user)?;
+    variables.solver_from_global().get(global)?;
+    let solver = variables.existing_solver_from_user(user);
+    let back = variables.global_from_solver().get(solver)?;
+    variables.user_from_global().get(back)?;
+    Some((solver, variables.existing_user_from_solver(solver)))
+}
+
 /// Names three names and takes two solver variables.
 fn is_named<A: Allocator + Copy>(variables: &mut Variables<A>) -> Result<bool, AllocError> {
     let named = name(variables, var!(3))? && name(variables, var!(2))?;
@@ -75,6 +86,8 @@ fn is_named<A: Allocator + Copy>(variables: &mut Variables<A>) -> Result<bool, A
             && variables.global_from_solver().get(var!(2)) == Some(var!(1))
             && variables.solver_var_present(var!(2))
             && !variables.solver_var_present(var!(3))
+            && there_and_back(variables, var!(3)) == Some((var!(1), var!(3)))
+            && there_and_back(variables, var!(2)).is_none()
             && next(variables) == Some((var!(4), var!(4), var!(3))),
     )
 }

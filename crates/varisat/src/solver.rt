@@ -268,7 +268,6 @@ impl<W: ProofTarget, A: Allocator + Copy> Solver<W, A> {
         if self.ctx.solver_state.state_is_invalid {
             return Err(SolverError::Invalid);
         }
-        self.ctx.solver_state.solver_invoked = true;
         match self.ctx.solver_state.sat_state {
             SatState::Sat => Ok(true),
             SatState::Unsat | SatState::UnsatUnderAssumptions => Ok(false),

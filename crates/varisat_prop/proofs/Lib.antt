@@ -7,5 +7,6 @@ pub mod Fronted
 pub mod Extend
 pub mod Growth
 pub mod Enqueued
+pub mod Propagated
 pub mod Reordered
 pub mod Looked

@@ -102,6 +102,7 @@ module _ (s : View) (i p : ℕ) (w : WellFormed s) (a : IsPlace s.clauses i) (st
           decisions = refl;
         },
         omega (arith, d),
+        refl,
       )
     where
       nil : (xs : List ℕ) → xs ≡ xs ++ []
@@ -133,16 +134,18 @@ propagates-trans s t u g h = record { well = h.well; grows = grows-trans s t u g
 pub record Scan (s t : View) (changed : Bool) (i : ℕ) : Type 0 where
   pub propagates : Propagates s t
   pub longer : changed ≡ true → length s.trail < length t.trail
+  pub head : t.queue_head ≡ s.queue_head
   pub same : changed ≡ false → t ≡ s
   pub quiet : changed ≡ false → (k : ℕ) → k < i → IsQuiet t.trail (clause_at t k)
 
 pub scan-start : (s : View) → WellFormed s → Scan s s false 0
-scan-start s w = record { propagates = propagates-refl s w; longer = λ e. absurd cc; same = λ e. refl; quiet = λ e k h. absurd (omega (arith, h)) }
+scan-start s w = record { propagates = propagates-refl s w; longer = λ e. absurd cc; head = refl; same = λ e. refl; quiet = λ e k h. absurd (omega (arith, h)) }
 
 pub scan-implied : (s t u : View) (changed : Bool) (i : ℕ) → Scan s t changed i → IsLook t u i look.Implied → Scan s u true (i + 1)
-scan-implied s t u changed i c (p, l) = record {
+scan-implied s t u changed i c (p, l, q) = record {
   propagates = propagates-trans s t u c.propagates p;
   longer = λ e. let a = grows-longer s t c.propagates.grows in omega (arith, a, l);
+  head = q ∙ c.head;
   same = λ e. absurd cc;
   quiet = λ e. absurd cc;
 }
@@ -151,6 +154,7 @@ pub scan-quiet : (s t u : View) (changed : Bool) (i : ℕ) → Scan s t changed 
 scan-quiet s t u changed i c (e, q) = subst (λ x. Scan s x changed (i + 1)) (sym e) record {
   propagates = c.propagates;
   longer = c.longer;
+  head = c.head;
   same = c.same;
   quiet = λ f. below_more (λ k. IsQuiet t.trail (clause_at t k)) i (c.quiet f) q;
 }
@@ -198,8 +202,8 @@ propagates-ended s t p =
     }
 
 -- what a conflict shows, and that the measure falls
-pub scan-false : (s t u : View) (changed : Bool) (i : ℕ) → Scan s t changed i → IsPlace s.clauses i → IsLook t u i look.Conflicting → Propagates s u × IsPlace u.clauses i × IsFalse u.trail (clause_at u i)
-scan-false s t u changed i c h (e, f) = subst (λ x. Propagates s x × IsPlace x.clauses i × IsFalse x.trail (clause_at x i)) (sym e) (c.propagates, reordered-place s.clauses t.clauses i c.propagates.grows.clauses h, f)
+pub scan-false : (s t u : View) (changed : Bool) (i : ℕ) → Scan s t changed i → IsPlace s.clauses i → IsLook t u i look.Conflicting → Propagates s u × (u.queue_head ≡ s.queue_head) × IsPlace u.clauses i × IsFalse u.trail (clause_at u i)
+scan-false s t u changed i c h (e, f) = subst (λ x. Propagates s x × (x.queue_head ≡ s.queue_head) × IsPlace x.clauses i × IsFalse x.trail (clause_at x i)) (sym e) (c.propagates, c.head, reordered-place s.clauses t.clauses i c.propagates.grows.clauses h, f)
 
 pub scan-smaller : (s t : View) (i : ℕ) → Scan s t true i → (length s.values ≡ length t.values) × (length s.trail < length t.trail) × (length t.trail ≤ length t.values)
 scan-smaller s t i c = (sym c.propagates.grows.count, c.longer refl, trail-short t c.propagates.well)

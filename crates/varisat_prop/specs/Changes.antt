@@ -1,9 +1,10 @@
 -- What a search does to its view.
-use Rattle.std.specs.Prelude.{ℕ, suc, ◌≤◌, Some, List, [], ◌∷◌, ◌++◌, length, slice_set}
+use Rattle.std.specs.Prelude.{◌≡◌, ℕ, suc, ◌<◌, ◌≤◌, Bool, Option, Some, None, List, [], ◌∷◌, ◌++◌, length, slice_index_or, slice_set}
 use Rattle.varisat_theory.specs.Literals.{Literal, Clause, variable_of}
 use Rattle.varisat_formula.specs.Numbers.{polarity_of}
 use Rattle.varisat_prop.specs.declared.prop.graph.Reason.{Reason}
 use Rattle.varisat_prop.specs.declared.prop.graph.Reason.TheVariants as reason
+use Rattle.varisat_prop.specs.declared.prop.graph.ImplNode.{ImplNode}
 use Rattle.varisat_prop.specs.declared.prop.graph.Conflict.{Conflict}
 use Rattle.varisat_prop.specs.declared.prop.graph.Conflict.TheVariants as conflict
 use Rattle.varisat_prop.specs.Stored.{StoredClause, IsPlace, literals_at}
@@ -27,11 +28,15 @@ causes_of ks (reason.Long p) = others_of (literals_at ks p)
 abbrev pub place_of : Conflict → ℕ
 place_of (conflict.Long p) = p
 
--- the literal is true, at the present level and for the reason
+-- the literal's variable is one of those that there are, and has no value
+abbrev pub IsAssignable : List (Option Bool) → List ImplNode → Literal → Type 0
+IsAssignable values nodes l = (variable_of l < length values) × (variable_of l < length nodes) × (slice_index_or values (variable_of l) None ≡ None)
+
+-- the literal is true, at the current level and for the reason
 abbrev pub enqueued : View → Literal → Reason → View
 enqueued s l r =
     record s { values = slice_set s.values (variable_of l) (Some (polarity_of l)); trail = s.trail ++ l ∷ []; nodes = slice_set s.nodes (variable_of l) (record { reason = r; level = length s.decisions; depth = suc (length s.trail) }) }
 
--- the literal is decided
+-- the literal is decided, and is still to be propagated
 abbrev pub decided_on : View → Literal → View
 decided_on s l = enqueued (record s { decisions = s.decisions ++ length s.trail ∷ [] }) l reason.Unit

@@ -10,7 +10,7 @@ use Rattle.varisat_prop.specs.declared.prop.propagation.Look.TheVariants as look
 use Rattle.varisat_prop.specs.Parts.{IsMadeTrue}
 use Rattle.varisat_prop.specs.View.{View, clause_at, WellFormed, Grows}
 
--- The search went on without a decision. Each literal that was added has its reason, since the view is well formed.
+-- The search went on without a decision. Each literal that was added has its reason, since the view is well formed; the queue's head does not fall, since the view grows.
 pub record Propagates (s t : View) : Type 0 where
   pub well : WellFormed t
   pub grows : Grows s t
@@ -38,5 +38,5 @@ pub record IsQuiet (known : List Literal) (c : Clause) : Type 0 where
 -- the clause is false; it made a literal true; or nothing was to be done
 abbrev pub IsLook : View → View → ℕ → Look → Type 0
 IsLook s t i look.Conflicting = (t ≡ s) × IsFalse s.trail (clause_at s i)
-IsLook s t i look.Implied = Propagates s t × (length s.trail < length t.trail)
+IsLook s t i look.Implied = Propagates s t × (length s.trail < length t.trail) × (t.queue_head ≡ s.queue_head)
 IsLook s t i look.Quiet = (t ≡ s) × IsQuiet s.trail (clause_at s i)

@@ -9,8 +9,9 @@ use Rattle.varisat_theory.proofs.Places.{∈-get_or, place_in}
 use Rattle.varisat_theory.proofs.Members.{equal_or_not}
 use Rattle.varisat_prop.specs.declared.prop.graph.Reason.{Reason}
 use Rattle.varisat_prop.specs.declared.prop.graph.Reason.TheVariants as reason
-use Rattle.varisat_prop.specs.View.{View, kept, IsTrueIn, clause_at, literal_at, decision_at, node_of, node_at, no_node, StandsBefore, Implies, IsReason, WellFormed, IsFixed, Fits, LevelsSettled}
+use Rattle.varisat_prop.specs.View.{View, kept, IsTrueIn, clause_at, literal_at, decision_at, node_of, node_at, no_node, StandsBefore, Implies, IsReason, WellFormed, IsFixed, Fits, LevelsSettled, IsPropagated}
 use Rattle.varisat_prop.proofs.Lits.{made-inside}
+use Rattle.varisat_prop.proofs.Propagated.{propagated-ended}
 use Rattle.varisat_search.specs.Steps.{IsCut, LeavesFrom}
 
 -- a variable stands at one place
@@ -171,3 +172,7 @@ module _ (s t : View) (level : ℕ) (w : WellFormed s) (h : level < length s.dec
       let r = w.rising j level j' h in
       let g : take (decision_at u j) u.trail ≡ take (decision_at s j) s.trail = ap (λ x. take x u.trail) e ∙ take-take (decision_at s j) p s.trail (omega (arith, r)) in
       subst (λ x. IsComplete (kept s) x) (sym g) (v j (omega (arith, j', h))))
+
+  -- propagation had come to its end where the cut is
+  pub cut-propagated : LevelsSettled s → IsPropagated t
+  cut-propagated v = subst IsPropagated (sym c.rest) (propagated-ended u (sym cut-length) (v level h))

@@ -3,28 +3,31 @@ use Rattle.std.proofs.Common.{◌≡◌, ℕ, ◌+◌, ◌*◌, ◌%◌, ◌<◌
 use Rattle.varisat_theory.specs.Literals.{Literal, variable_of, literal_of}
 use Rattle.varisat_theory.specs.Propagation.{IsComplete}
 use Rattle.varisat_formula.specs.Numbers.{polarity_of}
-use Rattle.varisat_prop.specs.View.{View, kept, WellFormed, LevelsSettled, Grows}
+use Rattle.varisat_prop.specs.View.{View, kept, WellFormed, LevelsSettled, IsPropagated, Grows}
 use Rattle.varisat_prop.specs.Changes.{decided_on}
 use Rattle.varisat_prop.specs.Looks.{Propagates}
 use Rattle.varisat_prop.proofs.Growth.{grows-trans}
 use Rattle.varisat_prop.proofs.Enqueued.{decided-well, decided-grows}
 use Rattle.varisat_prop.proofs.Reordered.{trail-short}
+use Rattle.varisat_prop.proofs.Propagated.{propagated-grows}
 use Rattle.varisat_search.specs.Steps.{IsFree}
 use Rattle.varisat_search.proofs.Settled.{settled-grows, settled-decided}
 
 pub record Finding (s t : View) : Type 0 where
   pub well : WellFormed t
   pub settled : LevelsSettled t
+  pub propagated : IsPropagated t
   pub grows : Grows s t
 
-pub finding-propagated : (s t u : View) → Finding s t → Propagates t u → Finding s u
-finding-propagated s t u f p = record { well = p.well; settled = settled-grows t u f.well p.grows p.decisions f.settled; grows = grows-trans s t u f.grows p.grows }
+pub finding-propagated : (s t u : View) → Finding s t → Propagates t u → IsPropagated u → Finding s u
+finding-propagated s t u f p q = record { well = p.well; settled = settled-grows t u f.well p.grows p.decisions f.settled; propagated = q; grows = grows-trans s t u f.grows p.grows }
 
 pub finding-decided : (s t u : View) (l : Literal) → Finding s t → IsComplete (kept t) t.trail → IsFree t l → u ≡ decided_on t l → Finding s u
 finding-decided s t u l f q r e =
     subst (Finding s) (sym e) record {
       well = decided-well t l f.well r.0 r.1;
       settled = settled-decided t l f.well q f.settled;
+      propagated = propagated-grows t (decided_on t l) f.well (decided-grows t l f.well r.0 r.1) refl f.propagated;
       grows = grows-trans s t (decided_on t l) f.grows (decided-grows t l f.well r.0 r.1);
     }
 

@@ -14,19 +14,20 @@ use Rattle.varisat_prop.specs.declared.prop.graph.Reason.TheVariants as reason
 use Rattle.varisat_prop.specs.Stored.{StoredClause}
 use Rattle.varisat_prop.proofs.Stored.{place-last}
 use Rattle.varisat_search.specs.Conflicts.{learned_at}
-use Rattle.varisat_prop.specs.View.{View, kept, IsTrueIn, literal_at, decision_at, node_of, node_at, level_of, WellFormed, LevelsSettled, Fits, Grows, kinds, is_implied, is_clause}
+use Rattle.varisat_prop.specs.View.{View, kept, IsTrueIn, literal_at, decision_at, node_of, node_at, level_of, WellFormed, LevelsSettled, IsPropagated, Fits, Grows, kinds, is_implied, is_clause}
 use Rattle.varisat_prop.specs.Changes.{enqueued}
 use Rattle.varisat_formula.specs.Numbers.{polarity_of}
 use Rattle.varisat_prop.proofs.Lits.{none-made, made-inside, made-clash, variable-opposite}
 use Rattle.varisat_prop.proofs.Looked.{trail-true}
-use Rattle.varisat_prop.proofs.Stored.{same-self}
+use Rattle.varisat_prop.proofs.Stored.{same-self, reordered-refl}
+use Rattle.varisat_prop.proofs.Propagated.{propagated-longer, propagated-learned}
 use Rattle.varisat_prop.proofs.Growth.{kinds-more}
 use Rattle.varisat_prop.proofs.Extend.{node-old, node-new, literal-old, literal-new}
 use Rattle.varisat_prop.proofs.Enqueued.{enqueued-well, ext-fits}
 use Rattle.varisat_prop.proofs.Reordered.{trail-short}
 use Rattle.varisat_search.specs.Learned.{IsAsserting, IsLevelOf}
 use Rattle.varisat_search.specs.Steps.{IsCut, LeavesFrom, Goes}
-use Rattle.varisat_search.proofs.Cut.{end-inside, still, cut-well, cut-fits, cut-settled, level-length}
+use Rattle.varisat_search.proofs.Cut.{end-inside, still, cut-well, cut-fits, cut-settled, cut-propagated, level-length}
 use Rattle.varisat_search.proofs.Kept.{with_kept, kept-last, kept-is, kept-well, kept-fits, unit-fits}
 
 take-∈ : (n : ℕ) (xs : List ℕ) (j : ℕ) → j < n → j < length xs → get_or xs j 0 ∈ take n xs
@@ -170,6 +171,7 @@ kinds-enqueued t l r w inside free =
 pub record Result (s z : View) : Type 0 where
   pub well : WellFormed z
   pub settled : LevelsSettled z
+  pub propagated : IsPropagated z
   pub goes : Goes s z
 
 module _ (s t : View) (i level : ℕ) (c : Clause) (w : WellFormed s) (v : LevelsSettled s) (l : IsAsserting s i c level) (deep : 0 < length s.decisions) (ct : IsCut s t level) (follows : (held : List Clause) → Fits held s → Follows held c) where
@@ -178,6 +180,9 @@ module _ (s t : View) (i level : ℕ) (c : Clause) (w : WellFormed s) (v : Level
 
   wt : WellFormed t
   wt = cut-well s t level w below ct
+
+  pt : IsPropagated t
+  pt = cut-propagated s t level w below ct v
 
   vt : LevelsSettled t
   vt = cut-settled s t level w below ct v
@@ -200,6 +205,7 @@ module _ (s t : View) (i level : ℕ) (c : Clause) (w : WellFormed s) (v : Level
       record {
         well = enqueued-well t l.first reason.Unit wt inside free none;
         settled = λ j h. let n = ap (λ (x : List ℕ). length x) none in absurd (omega (arith, h, n));
+        propagated = propagated-longer t z (l.first ∷ []) wt (reordered-refl t.clauses) refl refl pt;
         goes = record {
           clause = c;
           held = λ held f. ((follows held f, refl), unit-fits t l.first wt inside free none held c unit (cut-fits s t level w below ct held f), no-part s t i level c w v l deep ct held f);
@@ -247,6 +253,8 @@ module _ (s t : View) (i level : ℕ) (c : Clause) (w : WellFormed s) (v : Level
             (λ q. let (k, x, y, f) = place_in_take (opposite l.first) t.trail (decision_at t j) 0 q in none-made t.values l.first (opposite l.first) free (variable-opposite l.first) (subst (IsTrueIn t) f (wt.is_true k y)))
             (other-unknown m j second h)
             (vt j h)));
+        propagated = propagated-learned t j l.first r wt pt (subst (λ x. l.first ∈ x) (sym whole) (inl refl))
+            (λ q. let (k, x, y, f) = place_in_take (opposite l.first) t.trail t.queue_head 0 q in none-made t.values l.first (opposite l.first) free (variable-opposite l.first) (subst (IsTrueIn t) f (wt.is_true k y)));
         goes = record {
           clause = c;
           held = λ held f. ((follows held f, refl), ext-fits t' l.first r t'.decisions wt' inside free (held ++ c ∷ []) (λ g k. absurd cc) (kept-fits t j behind wt held c (same-self c) (cut-fits s t level w below ct held f)), no-part s t i level c w v l deep ct held f);

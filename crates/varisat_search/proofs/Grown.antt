@@ -1,11 +1,11 @@
 -- More variables.
-use Rattle.std.proofs.Common.{◌≡◌, Bool, ℕ, zero, suc, ◌-◌, ◌≤◌, ◌^◌, Option, None, List, [], ◌∷◌, ◌++◌, length, get_or, replicate, inl, inr, ⊎_elim, refl, sym, ap, ◌∙◌, subst, arith, length-append}
+use Rattle.std.proofs.Common.{◌≡◌, Bool, false, ℕ, zero, suc, ◌+◌, ◌*◌, ◌-◌, ◌≤◌, ◌^◌, Option, None, List, [], ◌∷◌, ◌++◌, length, get_or, replicate, inl, inr, ⊎_elim, refl, sym, ap, ◌∙◌, subst, arith, length-append}
 use Rattle.std.proofs.lemmas.List.{length-replicate}
 use Rattle.varisat_theory.specs.Literals.{Literal, Clause, variable_of}
 use Rattle.varisat_prop.specs.declared.prop.graph.Reason.{Reason}
 use Rattle.varisat_prop.specs.declared.prop.graph.Reason.TheVariants as reason
 use Rattle.varisat_prop.specs.declared.prop.graph.ImplNode.{ImplNode}
-use Rattle.varisat_prop.specs.View.{View, IsTrueIn, clause_at, literal_at, decision_at, node_of, node_at, no_node, Implies, IsReason, WellFormed, LevelsSettled, Fits}
+use Rattle.varisat_prop.specs.View.{View, IsTrueIn, clause_at, literal_at, decision_at, node_of, node_at, no_node, Implies, IsReason, WellFormed, LevelsSettled, IsPropagated, Fits}
 
 pub get_or-padded : {X : Type 0} (xs : List X) (n v : ℕ) (d : X) → get_or (xs ++ replicate n d) v d ≡ get_or xs v d
 get_or-padded [] n v d = none n v
@@ -70,6 +70,20 @@ module _ (s : View) (m n : ℕ) (w : WellFormed s) where
 
 pub grown-settled : (s : View) (m n : ℕ) → LevelsSettled s → LevelsSettled (record s { values = s.values ++ replicate m None; nodes = s.nodes ++ replicate n no_node })
 grown-settled s m n v j h = v j h
+
+pub replicate-join : {X : Type 0} (x : X) (a b n : ℕ) → n ≡ a + b → replicate a x ++ replicate b x ≡ replicate n x
+replicate-join x zero b n e = ap (λ (k : ℕ). replicate k x) (omega (arith, e))
+replicate-join x (suc a) b zero e = absurd (omega (arith, e))
+replicate-join x (suc a) b (suc n) e = ap (λ ys. x ∷ ys) (replicate-join x a b n (omega (arith, e)))
+
+-- the flags stay false
+pub grown-flags : (flags : List Bool) (n count : ℕ) → flags ≡ replicate (2 * n) false → n ≤ count → flags ++ replicate (2 * count - length flags) false ≡ replicate (2 * count) false
+grown-flags flags n count e h =
+    let l : length flags ≡ 2 * n = ap (λ (xs : List Bool). length xs) e ∙ length-replicate (2 * n) false in
+    ap (λ xs. xs ++ replicate (2 * count - length flags) false) e ∙ replicate-join false (2 * n) (2 * count - length flags) (2 * count) (omega (arith, l, h))
+
+pub grown-propagated : (s u : View) (vs : List (Option Bool)) (ns : List ImplNode) → u ≡ record s { values = vs; nodes = ns } → IsPropagated s → IsPropagated u
+grown-propagated s u vs ns e p = subst IsPropagated (sym e) record { no_false = p.no_false; closed = p.closed }
 
 pub grown-result : (s u : View) (count : ℕ) → WellFormed s → LevelsSettled s → length s.values ≤ count → count ≤ 2 ^ 28 → u ≡ record s { values = s.values ++ replicate (count - length s.values) None; nodes = s.nodes ++ replicate (count - length s.nodes) no_node } → WellFormed u × LevelsSettled u × (length u.values ≡ count) × ((held : List Clause) → Fits held s → Fits held u)
 grown-result s u count w v h b e =

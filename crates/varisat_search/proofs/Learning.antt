@@ -1,5 +1,5 @@
 -- The context after learning.
-use Rattle.std.proofs.Common.{◌≡◌, ℕ, ◌<◌, ◌≤◌, List, [], ◌∷◌, ◌++◌, length, ⊎_elim, refl, sym, ap, ◌∙◌, subst, arith}
+use Rattle.std.proofs.Common.{◌≡◌, ℕ, ◌<◌, ◌≤◌, List, [], ◌∷◌, ◌++◌, length, inl, inr, ⊎_elim, refl, sym, ap, ◌∙◌, subst, arith}
 use Rattle.std.proofs.lemmas.Bool.{cases_lt}
 use Rattle.varisat_theory.specs.Literals.{Literal, Clause, variable_of}
 use Rattle.varisat_theory.specs.Propagation.{Follows, Conflicts}
@@ -12,7 +12,7 @@ use Rattle.varisat_search.specs.declared.context.Context.{Context}
 use Rattle.varisat_search.specs.Learned.{IsLearned, IsAsserting}
 use Rattle.varisat_search.specs.Contexts.{view, IsReady}
 use Rattle.varisat_search.specs.Conflicts.{learned_at, IsKept}
-use Rattle.varisat_search.specs.Steps.{IsCut, IsFree}
+use Rattle.varisat_search.specs.Steps.{IsCut, Saves, SavesSome, IsFree}
 use Rattle.varisat_theory.specs.Derivations.{Add}
 use Rattle.varisat_theory.specs.Outcomes.{Unknown, Unsat, Steps}
 use Rattle.varisat_theory.proofs.StepEnds.{contradiction_is_found}
@@ -150,3 +150,13 @@ refuted {A} x0 x1 x2 i level a d b e =
 pub refuted-steps : {A : Type 0} (x0 x2 : Context A) (t : View) → IsReady x0 → Refuted x0 x2 → Steps (search_of (view x0)) (search_of t) Unsat []
 refuted-steps x0 x2 t ready r =
     (contradiction_is_found (search_of (view x0)) (search_of t) (λ held f. r.conflicts held (view_reads (view x0) held ready.well f))).0
+
+-- what is remembered of the values that were undone
+pub saves-some : {A : Type 0} (x0 x1 x2 : Context A) (level : ℕ) → x1 ≡ record x0 { analyze_conflict = x1.analyze_conflict } → (length x1.trail.decisions ≤ level → x2 ≡ x1) → (level < length x1.trail.decisions → Saves (view x1) level x1.assignment.last x2.assignment.last) → SavesSome (view x0) x0.assignment.last x2.assignment.last
+saves-some {A} x0 x1 x2 level a b s =
+    let v : view x1 ≡ view x0 = ap (λ (x : Context A). view x) a in
+    let l : x1.assignment.last ≡ x0.assignment.last = ap (λ (x : Context A). x.assignment.last) a in
+    ⊎_elim
+    (λ h. inr (level, subst (λ (y : View). level < length y.decisions) v h, subst (λ (y : View). Saves y level x0.assignment.last x2.assignment.last) v (subst (λ xs. Saves (view x1) level xs x2.assignment.last) l (s h))))
+    (λ h. inl (ap (λ (x : Context A). x.assignment.last) (b h) ∙ l))
+    (cases_lt level (length x1.trail.decisions))

@@ -7,6 +7,7 @@ pub mod Finding
 pub mod Going
 pub mod Learning
 pub mod Stepping
+pub mod StepRanks
 pub mod Copies
 pub mod Loaded
 pub mod Standing

@@ -13,13 +13,16 @@ use Rattle.varisat_search.specs.declared.state.SatState.{SatState}
 use Rattle.varisat_search.specs.declared.state.SatState.TheVariants as verdict
 use Rattle.varisat_search.specs.Steps.{IsCut, with_clause}
 use Rattle.varisat_search.specs.Loading.{loaded_at, IsAdded}
-use Rattle.varisat_search.specs.Seen.{kept_clause, search_of, LoadsAlone}
+use Rattle.varisat_search.specs.Seen.{kept_clause, search_of, outcome_of}
 use Rattle.varisat_search.proofs.Loaded.{Restarted, no-decision}
 use Rattle.varisat_search.proofs.Seeing.{fixed_from, fixed_to, view_is_grounded}
 use Rattle.varisat_search.proofs.LearnedLines.{cut_moves, unit_moves}
 use Rattle.varisat_theory.specs.Searches.{KeptClause, Search}
 use Rattle.varisat_theory.specs.Outcomes.{Outcome, Unknown, Unsat, Proves, Loads, IsContradicted}
 use Rattle.varisat_theory.proofs.StepLoads.{loaded_is_kept, loaded_is_unit, loaded_is_settled, loaded_is_contradicted, part_load, load_part}
+
+abbrev pub LoadsAlone : View → View → Clause → SatState → Type 0
+LoadsAlone s t c after = Loads (search_of s) (search_of t) c (outcome_of t after) []
 
 -- All decisions are undone without a line.
 pub restart-moves : (s t : View) → WellFormed s → (s.decisions ≡ [] → t ≡ s) → (0 < length s.decisions → IsCut s t 0) → Proves 0 (search_of s) (search_of t) []
@@ -97,7 +100,7 @@ module _ (s t : View) (c lits : Clause) (w : WellFormed s) (r : Restarted s t) (
       open-verdict after z (g ∙ u) (subst (λ y. Loads (search_of s) (search_of y) c Unknown []) (sym f) (before z' Unknown whole)))
       q
   lines-added z (l ∷ m ∷ ms) b after u e (p, i, f, g) =
-      let f' : z ≡ record t { clauses = t.clauses ++ loaded_at p lits ∷ [] } = f ∙ ap (λ y. record t { clauses = y }) i.0 ∙ ap (λ y. record t { clauses = t.clauses ++ loaded_at p y ∷ [] }) (sym e) in
+      let f' : z ≡ record t { clauses = t.clauses ++ loaded_at p lits ∷ []; queue_head = 0 } = f ∙ ap (λ y. record t { clauses = y; queue_head = 0 }) i.0 ∙ ap (λ y. record t { clauses = t.clauses ++ loaded_at p y ∷ []; queue_head = 0 }) (sym e) in
       let in-c : (x : Literal) → x ∈ (l ∷ m ∷ ms) → x ∈ c = λ x h. same.0 x (subst (λ y. x ∈ y) (sym e) h) in
       let S = search_of t in
       let k : KeptClause = record { clause = lits; learned = false } in
@@ -106,6 +109,6 @@ module _ (s t : View) (c lits : Clause) (w : WellFormed s) (r : Restarted s t) (
       (λ x. subst (λ y. l ∈ y) x (in-c l (inl refl)))
       (λ (x, v, y). (subst IsDistinct e d).0 (inl (v.1 l (in-c l (inl refl)) ∙ sym (v.1 m (in-c m (inr (inl refl)))))))
       n) in
-      let z' = record t { clauses = t.clauses ++ loaded_at p lits ∷ [] } in
+      let z' = record t { clauses = t.clauses ++ loaded_at p lits ∷ []; queue_head = 0 } in
       let whole : Loads S (search_of z') c Unknown [] = subst (λ ks. Loads S (record S { kept = ks }) c Unknown []) (sym (map-append kept_clause t.clauses (loaded_at p lits ∷ []))) first in
       open-verdict after z (g ∙ u) (subst (λ y. Loads (search_of s) (search_of y) c Unknown []) (sym f') (before z' Unknown whole))

@@ -1,6 +1,6 @@
 -- The context as its view, and what is kept of it between calls.
-use Rattle.std.specs.Prelude.{◌≡◌, ◌*◌, true, false, length}
-use Rattle.varisat_prop.specs.View.{View, view_of, WellFormed, LevelsSettled}
+use Rattle.std.specs.Prelude.{◌≡◌, ◌*◌, true, false, length, replicate}
+use Rattle.varisat_prop.specs.View.{View, view_of, WellFormed, LevelsSettled, IsPropagated}
 use Rattle.varisat_search.specs.declared.state.SatState.TheVariants as verdict
 use Rattle.varisat_search.specs.declared.state.SolverState.{SolverState}
 use Rattle.varisat_search.specs.declared.context.Context.{Context}
@@ -11,13 +11,16 @@ view c = view_of c.clause_alloc c.assignment c.trail c.impl_graph
 
 -- the state of a solver without clauses
 abbrev pub first_state : SolverState
-first_state = record { sat_state = verdict.Unknown; formula_is_empty = true; solver_invoked = false; state_is_invalid = false }
+first_state = record { sat_state = verdict.Unknown; formula_is_empty = true; state_is_invalid = false }
 
 -- What a search needs in order to go on.
 pub record IsReady {A : Type 0} (c : Context A) : Type 0 where
   pub well : WellFormed (view c)
   -- as each level began, propagation had come to its end
   pub settled : LevelsSettled (view c)
-  -- analysis and the flags have room for each variable
+  -- and it has come to its end up to the queue's head
+  pub propagated : IsPropagated (view c)
+  -- analysis has room for each variable
   pub analysis : c.analyze_conflict.var_count ≡ length c.assignment.current
-  pub flags : length c.tmp_flags.flags.items ≡ 2 * length c.assignment.current
+  -- there is a flag for each literal, and none is set
+  pub flags : c.tmp_flags.flags.items ≡ replicate (2 * length c.assignment.current) false

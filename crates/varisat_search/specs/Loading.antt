@@ -13,8 +13,8 @@ use Rattle.varisat_search.specs.Steps.{IsFree}
 abbrev pub loaded_at : ℕ → Clause → StoredClause
 loaded_at p c = record { place = p; header = record { redundant = false }; literals = c }
 
--- The empty clause, and a single literal that is false, give verdict Unsat. Another single literal is made true. A longer clause is kept.
+-- The empty clause, and a single literal that is false, give verdict Unsat. Another single literal is made true. A longer clause is kept, and the queue begins anew, so that propagation sees the clause under each literal of the trail.
 abbrev pub IsAdded : View → View → Clause → SatState → SatState → Type 0
 IsAdded s t [] before after = (t ≡ s) × (after ≡ verdict.Unsat)
 IsAdded s t (l ∷ []) before after = (IsTrueIn s (opposite l) × (t ≡ s) × (after ≡ verdict.Unsat)) ⊎ (IsFree s l × (t ≡ enqueued s l reason.Unit) × (after ≡ before))
-IsAdded s t (l ∷ m ∷ c) before after = (p : ℕ) × Keeps s.clauses t.clauses (loaded_at p (l ∷ m ∷ c)) × (t ≡ record s { clauses = t.clauses }) × (after ≡ before)
+IsAdded s t (l ∷ m ∷ c) before after = (p : ℕ) × Keeps s.clauses t.clauses (loaded_at p (l ∷ m ∷ c)) × (t ≡ record s { clauses = t.clauses; queue_head = 0 }) × (after ≡ before)

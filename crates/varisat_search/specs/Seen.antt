@@ -2,12 +2,12 @@
 use Rattle.std.specs.Prelude.{◌≡◌, Bool, ◌&&◌, not, nat_eq, [], map}
 use Rattle.std.specs.List.{filter}
 use Rattle.varisat_theory.specs.Membership.{◌∈◌}
-use Rattle.varisat_theory.specs.Literals.{Literal, Clause}
+use Rattle.varisat_theory.specs.Literals.{Literal}
 use Rattle.varisat_prop.specs.declared.prop.graph.Reason.TheVariants as reason
 use Rattle.varisat_prop.specs.Stored.{StoredClause}
 use Rattle.varisat_prop.specs.View.{View, node_of, level_of, is_clause}
 use Rattle.varisat_theory.specs.Searches.{KeptClause, Search}
-use Rattle.varisat_theory.specs.Outcomes.{Outcome, Unknown, Sat, Unsat, UnsatUnder, Loads}
+use Rattle.varisat_theory.specs.Outcomes.{Outcome, Unknown, Sat, Unsat, UnsatUnder}
 use Rattle.varisat_search.specs.declared.state.SatState.{SatState}
 use Rattle.varisat_search.specs.declared.state.SatState.TheVariants as verdict
 use Rattle.varisat_search.specs.Steps.{assignment_of}
@@ -35,7 +35,3 @@ outcome_of s verdict.Unknown = Unknown
 outcome_of s verdict.Sat = Sat (assignment_of s)
 outcome_of s verdict.Unsat = Unsat
 outcome_of s verdict.UnsatUnderAssumptions = UnsatUnder []
-
--- what loading a clause gives, where no line is written
-abbrev pub LoadsAlone : View → View → Clause → SatState → Type 0
-LoadsAlone s t c after = Loads (search_of s) (search_of t) c (outcome_of t after) []

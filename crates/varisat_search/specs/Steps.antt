@@ -1,4 +1,4 @@
--- What going back, deciding, a step and loading a clause do.
+-- What backtracking, deciding, a step and loading a clause do.
 use Rattle.std.specs.Prelude.{◌≡◌, ◌≢◌, ℕ, ◌<◌, ◌≤◌, Bool, false, Some, None, List, [], ◌∷◌, ◌++◌, length, take, slice_index_or, ◌⊎◌}
 use Rattle.varisat_theory.specs.Membership.{◌∈◌, ◌⊆◌}
 use Rattle.varisat_theory.specs.Literals.{Literal, Clause, Assignment, variable_of, opposite, IsUnit, SatisfiesAll}
@@ -6,7 +6,7 @@ use Rattle.varisat_theory.specs.Propagation.{Conflicts}
 use Rattle.varisat_theory.specs.Derivations.{Derives, Add}
 use Rattle.varisat_theory.specs.Rank.{rank}
 use Rattle.varisat_prop.specs.Parts.{is_true_value}
-use Rattle.varisat_prop.specs.View.{View, literal_at, decision_at, IsFixed, Fits, kinds}
+use Rattle.varisat_prop.specs.View.{View, literal_at, decision_at, IsFixed, Fits, Grows, kinds}
 use Rattle.varisat_search.specs.declared.state.SatState.{SatState}
 use Rattle.varisat_search.specs.declared.state.SatState.TheVariants as verdict
 
@@ -21,11 +21,23 @@ pub record IsCut (s t : View) (level : ℕ) : Type 0 where
   pub gone : (v : ℕ) → LeavesFrom s (decision_at s level) v → slice_index_or t.values v None ≡ None
   pub stays : (v : ℕ) → (LeavesFrom s (decision_at s level) v → ⊥) → slice_index_or t.values v None ≡ slice_index_or s.values v None
 
--- Going back saves the values: each variable that leaves the trail has the value that it had as its last, and each other one keeps its last.
+-- Backtracking saves the values: each variable that leaves the trail has the value that it had as its last, and each other one keeps its last.
 pub record Saves (s : View) (level : ℕ) (old new : List Bool) : Type 0 where
   pub count : length new ≡ length old
   pub left : (v : ℕ) → LeavesFrom s (decision_at s level) v → slice_index_or s.values v None ≡ Some (slice_index_or new v false)
   pub stays : (v : ℕ) → (LeavesFrom s (decision_at s level) v → ⊥) → slice_index_or new v false ≡ slice_index_or old v false
+
+-- What is remembered where all decisions are undone: nothing changes where there are none.
+abbrev pub SavesAll : View → List Bool → List Bool → Type 0
+SavesAll s old new = (s.decisions ≡ [] → new ≡ old) × (0 < length s.decisions → Saves s 0 old new)
+
+-- what is remembered where the search backtracks or stays
+abbrev pub SavesSome : View → List Bool → List Bool → Type 0
+SavesSome s old new = (new ≡ old) ⊎ ((level : ℕ) × (level < length s.decisions) × Saves s level old new)
+
+-- What is remembered as the search goes on, to some view, and then backtracks or stays.
+abbrev pub Remembers : View → List Bool → List Bool → Type 0
+Remembers s old new = (u : View) × Grows s u × SavesSome u old new
 
 -- a literal that may be decided
 abbrev pub IsFree : View → Literal → Type 0

@@ -1,16 +1,17 @@
 //! One step of the search: propagate and decide to a conflict or a model, and learn.
-ghost use Rattle.std.specs.Prelude.{◌≡◌, ◌<◌, ℕ, length, [], ◌∷◌, List, OnOk, IfOk, MatchOption, MatchResult};
+ghost use Rattle.std.specs.Prelude.{◌≡◌, ◌<◌, ◌≤◌, ℕ, length, [], ◌∷◌, List, OnOk, IfOk, MatchOption, MatchResult};
 ghost use Rattle.varisat_theory.specs.Propagation.{IsComplete};
-ghost use Rattle.varisat_prop.specs.View.{View, kept, WellFormed, LevelsSettled, Grows};
+ghost use Rattle.varisat_prop.specs.View.{View, kept, kinds, WellFormed, LevelsSettled, Grows};
 ghost use Rattle.varisat_prop.specs.Parts.{Values};
 ghost use Rattle.varisat_prop.specs.Changes.{place_of};
 ghost use Rattle.varisat_search.specs.Learned.{IsConflict, IsLearned};
 ghost use Rattle.varisat_search.specs.Contexts.{view, IsReady};
-ghost use Rattle.varisat_search.specs.Steps.{IsTotal, StepGives};
+ghost use Rattle.varisat_search.specs.Steps.{IsTotal, StepGives, SavesSome, Remembers};
 ghost use Rattle.varisat_search.specs.Conflicts.{conflict_of, IsKept};
 ghost use Rattle.varisat_search.specs.Seen.{search_of, outcome_of};
 ghost use Rattle.varisat_theory.specs.Derivations.{Line};
 ghost use Rattle.varisat_theory.specs.Outcomes.{Steps};
+ghost use Rattle.varisat_theory.specs.Rank.{rank};
 
 use crate::analyze_conflict::analyze_conflict;
 use crate::context::Context;
@@ -74,13 +75,10 @@ fn find_conflict<A: Allocator + Copy>(
 pub fn first_of(clause: &[Lit]) -> Option<Lit>
     ensures { MatchOption result (clause.now ≡ []) (λ l. (others : List ℕ) × (clause.now ≡ l ∷ others)) }
 {
-    if clause.is_empty() {
-        return None;
-    }
-    Some(clause[0])
+    clause.first().copied()
 }
 
-/// Keeps the learned clause where it has two literals or more, and answers what makes its first literal true.
+/// Keeps the learned clause where it has two literals or more, as redundant, and returns what makes its first literal true.
 fn keep_learned<A: Allocator + Copy>(ctx: &mut Context<A>) -> Result<Reason, AllocError>
     ensures kept { OnOk result (ctx.new ≡ record ctx.old { clause_alloc = ctx.new.clause_alloc }) }
     ensures reason { IfOk result (λ reason. IsKept ctx.old.clause_alloc ctx.new.clause_alloc ctx.old.analyze_conflict.clause reason) }
@@ -96,7 +94,7 @@ fn keep_learned<A: Allocator + Copy>(ctx: &mut Context<A>) -> Result<Reason, All
     Ok(Reason::Long(cref))
 }
 
-/// Learns a clause from the conflict, and answers the level to go back to.
+/// Learns a clause from the conflict, and returns the level to backtrack to.
 fn analyze<A: Allocator + Copy>(
     ctx: &mut Context<A>,
     conflict: Conflict,
@@ -119,7 +117,7 @@ fn analyze<A: Allocator + Copy>(
     Ok(level)
 }
 
-/// Learns from the conflict: goes back, keeps the learned clause, and makes its first literal true. The empty clause
+/// Learns from the conflict: backtracks, keeps the learned clause, and makes its first literal true. The empty clause
 /// gives verdict Unsat.
 fn learn<A: Allocator + Copy>(ctx: &mut Context<A>, conflict: Conflict) -> Result<(), AllocError>
     requires ready { IsReady ctx.old }
@@ -128,11 +126,13 @@ fn learn<A: Allocator + Copy>(ctx: &mut Context<A>, conflict: Conflict) -> Resul
     ensures ready { OnOk result (IsReady ctx.new) }
     ensures gives { OnOk result (StepGives (view ctx.old) (view ctx.new) ctx.new.solver_state.sat_state) }
     ensures steps { OnOk result ((lines : List Line) × Steps (search_of (view ctx.old)) (search_of (view ctx.new)) (outcome_of (view ctx.new) ctx.new.solver_state.sat_state) lines) }
+    ensures last { OnOk result (SavesSome (view ctx.old) ctx.old.assignment.last ctx.new.assignment.last) }
     ensures count { OnOk result (length ctx.new.assignment.current ≡ length ctx.old.assignment.current) }
     ensures units { OnOk result (ctx.new.trail.units_removed ≡ ctx.old.trail.units_removed) }
     ensures state { OnOk result (ctx.new.solver_state ≡ record ctx.old.solver_state { sat_state = ctx.new.solver_state.sat_state }) }
 {
     let level = analyze(ctx, conflict)?;
+    // At this level the learned clause leaves its first literal, and no earlier propagation is lost.
     backtrack(ctx, level);
     let Some(first) = first_of(ctx.analyze_conflict.clause()) else {
         ctx.solver_state.sat_state = SatState::Unsat;
@@ -149,13 +149,17 @@ fn learn<A: Allocator + Copy>(ctx: &mut Context<A>, conflict: Conflict) -> Resul
     Ok(())
 }
 
-/// Makes one step: finds a conflict and learns from it, or finds a model.
+/// Makes one step: finds a conflict and learns from it, or finds a model. A step that learns raises the rank of the
+/// trail, so that there are only finitely many of them.
 pub fn conflict_step<A: Allocator + Copy>(ctx: &mut Context<A>) -> Result<(), AllocError>
     requires ready { IsReady ctx.old }
     requires unknown { ctx.old.solver_state.sat_state ≡ SatState.Unknown }
     ensures ready { OnOk result (IsReady ctx.new) }
     ensures gives { OnOk result (StepGives (view ctx.old) (view ctx.new) ctx.new.solver_state.sat_state) }
     ensures steps { OnOk result ((lines : List Line) × Steps (search_of (view ctx.old)) (search_of (view ctx.new)) (outcome_of (view ctx.new) ctx.new.solver_state.sat_state) lines) }
+    // The rank, over each number of variables that bounds the trail before.
+    ensures rises { OnOk result (ctx.new.solver_state.sat_state ≡ SatState.Unknown → (n : ℕ) → length ctx.old.trail.literals ≤ n → rank n (kinds (view ctx.old)) < rank n (kinds (view ctx.new))) }
+    ensures last { OnOk result (Remembers (view ctx.old) ctx.old.assignment.last ctx.new.assignment.last) }
     ensures count { OnOk result (length ctx.new.assignment.current ≡ length ctx.old.assignment.current) }
     ensures units { OnOk result (ctx.new.trail.units_removed ≡ ctx.old.trail.units_removed) }
     ensures state { OnOk result (ctx.new.solver_state ≡ record ctx.old.solver_state { sat_state = ctx.new.solver_state.sat_state }) }

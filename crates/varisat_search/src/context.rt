@@ -1,5 +1,5 @@
 //! All parts of a search.
-ghost use Rattle.std.specs.Prelude.{◌≡◌, ◌≤◌, ◌^◌, ◌-◌, ◌++◌, List, [], length, replicate, false, OnOk};
+ghost use Rattle.std.specs.Prelude.{◌≡◌, ℕ, ◌≤◌, ◌^◌, ◌-◌, ◌++◌, List, [], length, replicate, slice_index_or, false, OnOk};
 ghost use Rattle.varisat_theory.specs.Literals.{Clause};
 ghost use Rattle.varisat_prop.specs.View.{Fits};
 ghost use Rattle.varisat_search.specs.Contexts.{view, IsReady, first_state};
@@ -46,7 +46,8 @@ impl<A: Allocator + Copy> Context<A> {
     }
 }
 
-/// Raises the count of variables. The new ones have no value, and had the value false.
+/// Raises the count of variables. The new ones have no value, and had the value false. A refused growth forgets no value
+/// that was remembered.
 pub fn set_var_count<A: Allocator + Copy>(
     ctx: &mut Context<A>,
     count: usize,
@@ -56,6 +57,7 @@ pub fn set_var_count<A: Allocator + Copy>(
     requires small { count ≤ 2 ^ 28 }
     ensures ready { OnOk result (IsReady ctx.new) }
     ensures count { OnOk result (length ctx.new.assignment.current ≡ count) }
+    ensures remembered { (v : ℕ) → slice_index_or ctx.new.assignment.last v false ≡ slice_index_or ctx.old.assignment.last v false }
     ensures last { OnOk result (ctx.new.assignment.last ≡ ctx.old.assignment.last ++ replicate (count - length ctx.old.assignment.current) false) }
     ensures fits { OnOk result ((held : List Clause) → Fits held (view ctx.old) → Fits held (view ctx.new)) }
     ensures kept { OnOk result (ctx.new ≡ record ctx.old { analyze_conflict = ctx.new.analyze_conflict; assignment = ctx.new.assignment; impl_graph = ctx.new.impl_graph; tmp_flags = ctx.new.tmp_flags }) }

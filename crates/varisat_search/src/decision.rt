@@ -28,7 +28,8 @@ fn unassigned_var<A: Allocator + Copy>(assignment: &Assignment<A>) -> Option<Var
     None
 }
 
-/// Decides a variable as it was last assigned, and as false at first. Answers false where each one has a value.
+/// Decides a variable as it was last assigned, and as false at first, so that a search stays near the assignment that it
+/// was at. Returns false where each one has a value. The queue stays as it was: the decision is still to be propagated.
 pub fn make_decision<A: Allocator + Copy>(ctx: &mut Context<A>) -> Result<bool, AllocError>
     requires { WellFormed (view ctx.old) }
     ensures decided { IfOk result (λ made. MatchBool made

@@ -2,13 +2,15 @@
 ghost use Rattle.std.specs.Prelude.{◌≡◌, ◌≢◌, ℕ, ◌<◌, List, [], length, true, false, OnOk, IsTrue, ◌↔◌};
 ghost use Rattle.varisat_theory.specs.Membership.{◌∈◌, SameSet, IsDistinct};
 ghost use Rattle.varisat_theory.specs.Literals.{Literal};
+ghost use Rattle.varisat_theory.specs.Derivations.{Line};
+ghost use Rattle.varisat_theory.specs.Outcomes as accepted;
 ghost use Rattle.varisat_prop.specs.Parts.{IsMadeTrue};
 ghost use Rattle.varisat_prop.specs.Looks.{IsInRange};
 ghost use Rattle.varisat_prop.specs.View.{WellFormed, IsTautology};
 ghost use Rattle.varisat_search.specs.Contexts.{view, IsReady};
-ghost use Rattle.varisat_search.specs.Steps.{Loads};
+ghost use Rattle.varisat_search.specs.Steps.{Loads, SavesAll};
 ghost use Rattle.varisat_search.specs.Loading.{IsAdded};
-ghost use Rattle.varisat_search.specs.Seen.{LoadsAlone};
+ghost use Rattle.varisat_search.specs.Seen.{search_of, outcome_of};
 
 use crate::cdcl::first_of;
 use crate::context::Context;
@@ -82,6 +84,7 @@ fn add_distinct<A: Allocator + Copy>(ctx: &mut Context<A>) -> Result<(), AllocEr
     ensures kept { OnOk result (ctx.new ≡ record ctx.old { assignment = ctx.new.assignment; clause_alloc = ctx.new.clause_alloc; impl_graph = ctx.new.impl_graph; solver_state = ctx.new.solver_state; trail = ctx.new.trail }) }
     ensures state { OnOk result (ctx.new.solver_state ≡ record ctx.old.solver_state { sat_state = ctx.new.solver_state.sat_state }) }
     ensures units { OnOk result (ctx.new.trail.units_removed ≡ ctx.old.trail.units_removed) }
+    ensures last { OnOk result (ctx.new.assignment.last ≡ ctx.old.assignment.last) }
     ensures added { OnOk result (IsAdded (view ctx.old) (view ctx.new) ctx.old.tmp_data.lits.items ctx.old.solver_state.sat_state ctx.new.solver_state.sat_state) }
 {
     let Some(first) = first_of(&ctx.tmp_data.lits) else {
@@ -89,6 +92,8 @@ fn add_distinct<A: Allocator + Copy>(ctx: &mut Context<A>) -> Result<(), AllocEr
         return Ok(());
     };
     if ctx.tmp_data.lits.len() > 1 {
+        // A literal of the clause may be false already, by a literal that was propagated before.
+        ctx.trail.reset_queue();
         let _cref = ctx
             .clause_alloc
             .add_clause(ClauseHeader::new(), &ctx.tmp_data.lits)?;
@@ -117,9 +122,10 @@ pub fn load_clause<A: Allocator + Copy>(
     requires ready { IsReady ctx.old }
     requires in_range { IsInRange ctx.old.assignment.current lits.now }
     ensures ready { OnOk result (IsReady ctx.new) }
-    ensures unsat { ctx.old.solver_state.sat_state ≡ SatState.Unsat → ctx.new ≡ ctx.old }
+    ensures unsat { ctx.old.solver_state.sat_state ≡ SatState.Unsat → (result ≡ Ok tt) × (ctx.new ≡ ctx.old) }
     ensures loads { OnOk result (ctx.old.solver_state.sat_state ≢ SatState.Unsat → Loads (view ctx.old) (view ctx.new) lits.now ctx.old.solver_state.sat_state ctx.new.solver_state.sat_state) }
-    ensures lines { OnOk result (ctx.old.solver_state.sat_state ≢ SatState.Unsat → ctx.old.solver_state.sat_state ≢ SatState.UnsatUnderAssumptions → LoadsAlone (view ctx.old) (view ctx.new) lits.now ctx.new.solver_state.sat_state) }
+    ensures lines { OnOk result (ctx.old.solver_state.sat_state ≢ SatState.Unsat → ctx.old.solver_state.sat_state ≢ SatState.UnsatUnderAssumptions → (lines : List Line) × accepted.Loads (search_of (view ctx.old)) (search_of (view ctx.new)) lits.now (outcome_of (view ctx.new) ctx.new.solver_state.sat_state) lines) }
+    ensures last { OnOk result (ctx.old.solver_state.sat_state ≢ SatState.Unsat → SavesAll (view ctx.old) ctx.old.assignment.last ctx.new.assignment.last) }
     ensures state { OnOk result (ctx.old.solver_state.sat_state ≢ SatState.Unsat → ctx.new.solver_state ≡ record ctx.old.solver_state { sat_state = ctx.new.solver_state.sat_state; formula_is_empty = false }) }
     ensures count { OnOk result (length ctx.new.assignment.current ≡ length ctx.old.assignment.current) }
     ensures units { OnOk result (ctx.new.trail.units_removed ≡ ctx.old.trail.units_removed) }

@@ -14,8 +14,6 @@ pub enum SatState {
 pub struct SolverState {
     pub sat_state: SatState,
     pub formula_is_empty: bool,
-    /// Whether `solve` was called.
-    pub solver_invoked: bool,
     pub state_is_invalid: bool,
 }
 
@@ -42,7 +40,6 @@ impl Default for SolverState {
         SolverState {
             sat_state: SatState::default(),
             formula_is_empty: true,
-            solver_invoked: false,
             state_is_invalid: false,
         }
     }

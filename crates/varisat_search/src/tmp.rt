@@ -4,27 +4,24 @@ ghost use Rattle.std.specs.Prelude.{◌≡◌, ◌≤◌, ◌*◌, ◌-◌, ◌+
 use std::alloc::{AllocError, Allocator};
 use varisat_formula::formula::Lit;
 
-/// Lists of literals. No call relies on what an earlier one left in them.
+/// A list of literals. No call relies on what an earlier one left in it.
 #[derive(Drop)]
 pub struct TmpData<A: Allocator + Copy> {
     pub lits: Vec<Lit, A>,
-    pub lits_2: Vec<Lit, A>,
 }
 
 impl<A: Allocator + Copy> TmpData<A> {
-    /// Empty lists. It takes no memory.
+    /// An empty list. It takes no memory.
     pub fn new_in(alloc: A) -> TmpData<A>
-        ensures lits { result.lits.items ≡ [] }
-        ensures lits_2 { result.lits_2.items ≡ [] }
+        ensures { result.lits.items ≡ [] }
     {
         TmpData {
             lits: Vec::new(alloc),
-            lits_2: Vec::new(alloc),
         }
     }
 }
 
-/// A flag for each literal. Whoever sets one takes it away again before the call ends.
+/// A flag for each literal. All are false between calls: whoever sets one takes it away again, also before an error.
 #[derive(Drop)]
 pub struct TmpFlags<A: Allocator + Copy> {
     pub flags: Vec<bool, A>,

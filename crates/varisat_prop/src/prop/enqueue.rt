@@ -1,9 +1,8 @@
 //! Making literals true.
-ghost use Rattle.std.specs.Prelude.{◌≡◌, ◌<◌, List, length, None, slice_index_or, OnOk};
-ghost use Rattle.varisat_theory.specs.Literals.{variable_of};
+ghost use Rattle.std.specs.Prelude.{◌≡◌, List, OnOk};
 ghost use Rattle.varisat_prop.specs.Stored.{StoredClause};
 ghost use Rattle.varisat_prop.specs.View.{view_of};
-ghost use Rattle.varisat_prop.specs.Changes.{enqueued};
+ghost use Rattle.varisat_prop.specs.Changes.{IsAssignable, enqueued};
 
 use crate::prop::assignment::Assignment;
 use crate::prop::graph::{ImplGraph, ImplNode, Reason};
@@ -11,7 +10,7 @@ use crate::prop::trail::Trail;
 use std::alloc::{AllocError, Allocator};
 use varisat_formula::formula::Lit;
 
-/// Makes the literal of a variable without a value true, at the present level and for the reason.
+/// Makes the literal of a variable without a value true, at the current level and for the reason.
 pub fn enqueue_assignment<A: Allocator + Copy>(
     assignment: &mut Assignment<A>,
     impl_graph: &mut ImplGraph<A>,
@@ -19,12 +18,10 @@ pub fn enqueue_assignment<A: Allocator + Copy>(
     lit: Lit,
     reason: Reason,
 ) -> Result<(), AllocError>
-    requires values { variable_of lit < length assignment.old.current }
-    requires nodes { variable_of lit < length impl_graph.old.nodes.items }
-    requires unassigned { slice_index_or assignment.old.current (variable_of lit) None ≡ None }
+    requires { IsAssignable assignment.old.current impl_graph.old.nodes.items lit }
     ensures view { OnOk result ((clauses : List StoredClause) → view_of clauses assignment.new trail.new impl_graph.new ≡ enqueued (view_of clauses assignment.old trail.old impl_graph.old) lit reason) }
     ensures last { OnOk result (assignment.new.last ≡ assignment.old.last) }
-    ensures queue { OnOk result ((trail.new.queue_head ≡ trail.old.queue_head) × (trail.new.units_removed ≡ trail.old.units_removed)) }
+    ensures units { OnOk result (trail.new.units_removed ≡ trail.old.units_removed) }
 {
     trail.push(lit)?;
     assignment.assign_lit(lit);

@@ -2,7 +2,7 @@
 ghost use Rattle.std.specs.Prelude.{◌≡◌, length, OnOk, IfOk, MatchResult};
 ghost use Rattle.varisat_theory.specs.Propagation.{IsFalse, IsComplete};
 ghost use Rattle.varisat_prop.specs.Stored.{IsPlace, literals_of, literals_at};
-ghost use Rattle.varisat_prop.specs.View.{view_of, WellFormed};
+ghost use Rattle.varisat_prop.specs.View.{view_of, WellFormed, IsPropagated};
 ghost use Rattle.varisat_prop.specs.Changes.{place_of};
 ghost use Rattle.varisat_prop.specs.Looks.{Propagates, IsInRange, IsStatus, IsLook};
 
@@ -79,6 +79,7 @@ fn look_at<A: Allocator + Copy>(
             if assignment.lit_is_true(lit) {
                 return Ok(Look::Quiet);
             }
+            // The first literal of a reason is the one that it made true; conflict analysis skips it.
             clause_alloc.put_first(cref, place);
             enqueue_assignment(assignment, impl_graph, trail, lit, Reason::Long(cref))?;
             Ok(Look::Implied)
@@ -86,16 +87,19 @@ fn look_at<A: Allocator + Copy>(
     }
 }
 
-/// Makes true what the clauses imply, until a clause is false or nothing more is implied.
+/// Makes true what the clauses imply, until a clause is false or nothing more is implied. Up to the queue's head
+/// propagation must have come to its end. It has so afterwards too, where at a conflict the head may stay behind.
 pub fn propagate<A: Allocator + Copy>(
     assignment: &mut Assignment<A>,
     clause_alloc: &mut ClauseAlloc<A>,
     impl_graph: &mut ImplGraph<A>,
     trail: &mut Trail<A>,
 ) -> Result<Result<(), Conflict>, AllocError>
-    requires { WellFormed (view_of clause_alloc.old assignment.old trail.old impl_graph.old) }
+    requires well { WellFormed (view_of clause_alloc.old assignment.old trail.old impl_graph.old) }
+    requires propagated { IsPropagated (view_of clause_alloc.old assignment.old trail.old impl_graph.old) }
     // Each literal that was added has a clause as its reason, whose other literals are false and stand before it.
     ensures propagates { OnOk result (Propagates (view_of clause_alloc.old assignment.old trail.old impl_graph.old) (view_of clause_alloc.new assignment.new trail.new impl_graph.new)) }
+    ensures propagated { OnOk result (IsPropagated (view_of clause_alloc.new assignment.new trail.new impl_graph.new)) }
     // At a conflict all literals of the named clause are false. Else no clause is false, none leaves a literal that isn't true, and each literal was propagated.
     ensures ends { IfOk result (λ end. MatchResult end
         (λ _. IsComplete (literals_of clause_alloc.new) trail.new.literals × (trail.new.queue_head ≡ length trail.new.literals))
@@ -113,6 +117,7 @@ pub fn propagate<A: Allocator + Copy>(
                 Look::Quiet => {}
             }
         }
+        // A round that made nothing true saw each clause under the whole trail.
         if !changed {
             trail.end_queue();
             return Ok(Ok(()));

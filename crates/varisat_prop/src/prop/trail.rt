@@ -96,7 +96,7 @@ impl<A: Allocator + Copy> Trail<A> {
         Ok(())
     }
 
-    /// The present level, which is the number of decisions.
+    /// The current level, which is the number of decisions.
     pub fn current_level(&self) -> usize
         ensures { result ≡ length self.now.decisions }
     {

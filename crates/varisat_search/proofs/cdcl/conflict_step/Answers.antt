@@ -1,16 +1,17 @@
-use Rattle.std.proofs.Common.{[], MatchResult, sym, subst}
+use Rattle.std.proofs.Common.{[], MatchResult, inl, sym, subst}
 use Rattle.varisat_theory.specs.Propagation.{IsComplete}
 use Rattle.varisat_prop.specs.View.{kept}
 use Rattle.varisat_prop.specs.Changes.{place_of}
 use Rattle.varisat_search.specs.Learned.{IsConflict}
 use Rattle.varisat_search.specs.Contexts.{view}
 use Rattle.varisat_search.specs.Conflicts.{conflict_of}
-use Rattle.varisat_search.specs.Steps.{IsTotal, assignment_of}
+use Rattle.varisat_search.specs.Steps.{IsTotal, SavesSome, assignment_of}
 use Rattle.varisat_search.proofs.Settled.{satisfied}
 use Rattle.varisat_theory.specs.Outcomes.{Sat}
 use Rattle.varisat_search.specs.Seen.{outcome_of}
 use Rattle.varisat_search.proofs.StepLines.{model-steps, steps-after}
 use Rattle.varisat_search.proofs.Stepping.{step-after}
+use Rattle.varisat_search.proofs.StepRanks.{step-rises}
 use Rattle.varisat_search.proofs.cdcl.conflict_step.Goals as goal
 
 pub learn-requires-clause-conflict : goal.learn-requires-clause-conflict
@@ -42,3 +43,19 @@ returns-in_ok-learn-in-Err-clause-steps g c =
     let u = c.learn.new.ctx in
     let (lines, p) = c.in_ok-learn-in-Err.ensures.steps in
     (lines, steps-after (view c.args.ctx.now) (view c.find_conflict.new.ctx) (view u) (outcome_of (view u) u.solver_state.sat_state) lines c.requires.ready.well c.in_ok-find_conflict.ensures.ready.well c.in_ok-find_conflict.ensures.grows p)
+
+pub returns-in_ok-learn-in-Err-clause-rises : goal.returns-in_ok-learn-in-Err-clause-rises
+returns-in_ok-learn-in-Err-clause-rises g c =
+    let u = c.learn.new.ctx in
+    step-rises (view c.args.ctx.now) (view u) u.solver_state.sat_state c.requires.ready.well c.in_ok-learn-in-Err.ensures.ready.well
+    (step-after (view c.args.ctx.now) (view c.find_conflict.new.ctx) (view u) c.in_ok-find_conflict.ensures.grows u.solver_state.sat_state c.in_ok-learn-in-Err.ensures.gives)
+
+pub returns-in-Ok-clause-last : goal.returns-in-Ok-clause-last
+returns-in-Ok-clause-last g c =
+    (view c.find_conflict.new.ctx, c.in_ok-find_conflict.ensures.grows, inl c.in_ok-find_conflict.ensures.last)
+
+pub returns-in_ok-learn-in-Err-clause-last : goal.returns-in_ok-learn-in-Err-clause-last
+returns-in_ok-learn-in-Err-clause-last g c =
+    let m = c.find_conflict.new.ctx in
+    let u = c.learn.new.ctx in
+    (view m, c.in_ok-find_conflict.ensures.grows, subst (λ xs. SavesSome (view m) xs u.assignment.last) c.in_ok-find_conflict.ensures.last c.in_ok-learn-in-Err.ensures.last)

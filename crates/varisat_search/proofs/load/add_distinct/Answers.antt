@@ -7,13 +7,15 @@ use Rattle.varisat_search.specs.Loading.{IsAdded}
 use Rattle.varisat_search.proofs.Copies.{only-one}
 use Rattle.varisat_search.proofs.load.add_distinct.Goals as goal
 
-pub enqueue_assignment-requires-clause-unassigned : goal.enqueue_assignment-requires-clause-unassigned
-enqueue_assignment-requires-clause-unassigned g c =
+pub enqueue_assignment-requires : goal.enqueue_assignment-requires
+enqueue_assignment-requires g c =
     let x = c.args.ctx.now in
     let l = c.in-Some.first in
     let e = sym c.deref.ensures.value ∙ c.in-Some.ensures.1 in
     let i : l ∈ x.tmp_data.lits.items = subst (λ ls. l ∈ ls) (sym e) (inl refl) in
-    made-none x.assignment.current l (c.requires.untrue l i) (λ t. let b = c.if-lit_is_false.ensures.1 t in cc)
+    let a = c.requires.in_range l i in
+    let n = c.requires.well.nodes_are in
+    (a, omega (arith, a, n), made-none x.assignment.current l (c.requires.untrue l i) (λ t. let b = c.if-lit_is_false.ensures.1 t in cc))
 
 pub returns-clause-added : goal.returns-clause-added
 returns-clause-added g c =

@@ -29,28 +29,15 @@ returns-then-lit_is_true-clause-look g c =
     let e : c.index-clause-place.result ≡ get_or (clause_at s c.args.cref) c.in-Leaves.place 0 = element (clause_at s c.args.cref) c.in-Leaves.place c.index-clause-place.result st.0 (c.index-clause-place.is ∙ ap (λ xs. get_or xs c.in-Leaves.place c.index-clause-place.result) c.clause-in-Leaves.ensures) in
     (refl, quiet-true s (clause_at s c.args.cref) c.in-Leaves.place c.requires.well st (subst (IsTrueIn s) e (c.if-lit_is_true.ensures.0 refl)))
 
-pub enqueue_assignment-requires-clause-values : goal.enqueue_assignment-requires-clause-values
-enqueue_assignment-requires-clause-values g c =
-    let s = view_of c.args.clause_alloc.now c.args.assignment.now c.args.trail.now c.args.impl_graph.now in
-    let st = subst (λ x. IsStatus s.values x (status.Leaves c.in-Leaves.place)) c.clause.ensures c.in-Leaves.ensures in
-    let e : c.index-clause-place.result ≡ get_or (clause_at s c.args.cref) c.in-Leaves.place 0 = element (clause_at s c.args.cref) c.in-Leaves.place c.index-clause-place.result st.0 (c.index-clause-place.is ∙ ap (λ xs. get_or xs c.in-Leaves.place c.index-clause-place.result) c.clause-in-Leaves.ensures) in
-    subst (λ x. variable_of x < length s.values) (sym e) (left-inside s c.args.cref c.in-Leaves.place c.requires.well c.requires.within st)
-
-pub enqueue_assignment-requires-clause-nodes : goal.enqueue_assignment-requires-clause-nodes
-enqueue_assignment-requires-clause-nodes g c =
+pub enqueue_assignment-requires : goal.enqueue_assignment-requires
+enqueue_assignment-requires g c =
     let s = view_of c.args.clause_alloc.now c.args.assignment.now c.args.trail.now c.args.impl_graph.now in
     let st = subst (λ x. IsStatus s.values x (status.Leaves c.in-Leaves.place)) c.clause.ensures c.in-Leaves.ensures in
     let e : c.index-clause-place.result ≡ get_or (clause_at s c.args.cref) c.in-Leaves.place 0 = element (clause_at s c.args.cref) c.in-Leaves.place c.index-clause-place.result st.0 (c.index-clause-place.is ∙ ap (λ xs. get_or xs c.in-Leaves.place c.index-clause-place.result) c.clause-in-Leaves.ensures) in
     let i = subst (λ x. variable_of x < length s.values) (sym e) (left-inside s c.args.cref c.in-Leaves.place c.requires.well c.requires.within st) in
-    let m = c.requires.well.nodes_are in omega (arith, i, m)
-
-pub enqueue_assignment-requires-clause-unassigned : goal.enqueue_assignment-requires-clause-unassigned
-enqueue_assignment-requires-clause-unassigned g c =
-    let s = view_of c.args.clause_alloc.now c.args.assignment.now c.args.trail.now c.args.impl_graph.now in
-    let st = subst (λ x. IsStatus s.values x (status.Leaves c.in-Leaves.place)) c.clause.ensures c.in-Leaves.ensures in
-    let e : c.index-clause-place.result ≡ get_or (clause_at s c.args.cref) c.in-Leaves.place 0 = element (clause_at s c.args.cref) c.in-Leaves.place c.index-clause-place.result st.0 (c.index-clause-place.is ∙ ap (λ xs. get_or xs c.in-Leaves.place c.index-clause-place.result) c.clause-in-Leaves.ensures) in
+    let m = c.requires.well.nodes_are in
     let n : IsTrueIn s (get_or (clause_at s c.args.cref) c.in-Leaves.place 0) → ⊥ = subst (λ x. IsTrueIn s x → ⊥) e (λ t. let b = c.if-lit_is_true.ensures.1 t in cc) in
-    subst (λ x. get_or s.values (variable_of x) None ≡ None) (sym e) (left-free s c.args.cref c.in-Leaves.place st n)
+    (i, omega (arith, i, m), subst (λ x. get_or s.values (variable_of x) None ≡ None) (sym e) (left-free s c.args.cref c.in-Leaves.place st n))
 
 pub returns-in-False-clause-look : goal.returns-in-False-clause-look
 returns-in-False-clause-look g c =

@@ -5,7 +5,8 @@ use Rattle.varisat_prop.specs.View.{View, view_of, clause_at}
 use Rattle.varisat_prop.proofs.Stored.{numbered-place, reordered-place}
 use Rattle.varisat_prop.specs.Looks.{IsLook}
 use Rattle.varisat_prop.specs.declared.prop.propagation.Look.TheVariants as look
-use Rattle.varisat_prop.proofs.Looked.{Scan, scan-start, propagates-refl, propagates-trans, scan-implied, scan-quiet, scan-end, scan-false, scan-smaller, propagates-ended}
+use Rattle.varisat_prop.proofs.Looked.{Scan, scan-start, propagates-refl, propagates-trans, scan-implied, scan-quiet, scan-end, scan-false, scan-smaller, propagates-ended, ended}
+use Rattle.varisat_prop.proofs.Propagated.{propagated-grows, propagated-ended}
 use Rattle.varisat_prop.proofs.prop.propagation.propagate.Goals as goal
 use Rattle.varisat_prop.proofs.prop.propagation.propagate.Goals.{in-Implied, in-Quiet}
 
@@ -23,7 +24,7 @@ returns-in-Conflicting-clause-ends g c =
     let s = view_of c.loop-place.clause_alloc c.loop-place.assignment c.loop-place.trail c.loop-place.impl_graph in
     let t = view_of c.look_at.new.clause_alloc c.look_at.new.assignment c.look_at.new.trail c.look_at.new.impl_graph in
     let f = scan-false r s t c.loop-place.changed c.loop-place.place c.loop-place.invariant.scan (numbered-place r.clauses c.loop-place.place c.len-place-end.ensures.places (omega (arith, c.loop-place-test.true, c.len-place-end.ensures.count))) (subst (λ x. IsLook s t x look.Conflicting) c.from_place-cref.ensures (subst (IsLook s t c.from_place-cref.result) c.in-Conflicting.is c.in_ok-look_at.ensures.look)) in
-    subst (λ i. IsPlace t.clauses i × IsFalse t.trail (clause_at t i)) (sym c.from_place-cref.ensures) (f.1, f.2)
+    subst (λ i. IsPlace t.clauses i × IsFalse t.trail (clause_at t i)) (sym c.from_place-cref.ensures) (f.2, f.3)
 
 pub loop-place-preserved : goal.loop-place-preserved
 loop-place-preserved g c =
@@ -75,14 +76,36 @@ rounds-preserved g c =
     let s = view_of c.loop-place.clause_alloc c.loop-place.assignment c.loop-place.trail c.loop-place.impl_graph in
     record {
       propagates = propagates-trans (view_of c.args.clause_alloc.now c.args.assignment.now c.args.trail.now c.args.impl_graph.now) r s c.rounds.invariant.propagates c.loop-place.invariant.scan.propagates;
+      head = c.loop-place.invariant.scan.head ∙ c.rounds.invariant.head;
       last = c.loop-place.invariant.last;
       units = c.loop-place.invariant.units;
     }
 
+pub returns-in-Conflicting-clause-propagated : goal.returns-in-Conflicting-clause-propagated
+returns-in-Conflicting-clause-propagated g c =
+    let old = view_of c.args.clause_alloc.now c.args.assignment.now c.args.trail.now c.args.impl_graph.now in
+    let r = view_of c.rounds.clause_alloc c.rounds.assignment c.rounds.trail c.rounds.impl_graph in
+    let s = view_of c.loop-place.clause_alloc c.loop-place.assignment c.loop-place.trail c.loop-place.impl_graph in
+    let t = view_of c.look_at.new.clause_alloc c.look_at.new.assignment c.look_at.new.trail c.look_at.new.impl_graph in
+    let f = scan-false r s t c.loop-place.changed c.loop-place.place c.loop-place.invariant.scan (numbered-place r.clauses c.loop-place.place c.len-place-end.ensures.places (omega (arith, c.loop-place-test.true, c.len-place-end.ensures.count))) (subst (λ x. IsLook s t x look.Conflicting) c.from_place-cref.ensures (subst (IsLook s t c.from_place-cref.result) c.in-Conflicting.is c.in_ok-look_at.ensures.look)) in
+    propagated-grows old t c.requires.well (propagates-trans old r t c.rounds.invariant.propagates f.0).grows (f.1 ∙ c.rounds.invariant.head) c.requires.propagated
+
+pub returns-then-not-changed-clause-propagated : goal.returns-then-not-changed-clause-propagated
+returns-then-not-changed-clause-propagated g c =
+    let r = view_of c.rounds.clause_alloc c.rounds.assignment c.rounds.trail c.rounds.impl_graph in
+    let s = view_of c.loop-place.clause_alloc c.loop-place.assignment c.loop-place.trail c.loop-place.impl_graph in
+    let i = subst (λ b. Scan r s b c.loop-place.place) c.if-not-changed.true c.loop-place.invariant.scan in
+    let l = c.len-place-end.ensures.count in
+    let m : AreNumbered s.clauses = subst (λ (x : View). AreNumbered x.clauses) (sym (i.same refl)) c.len-place-end.ensures.places in
+    let n = ap (λ (x : View). length x.clauses) (i.same refl) in
+    let e = c.end_queue.ensures in
+    rw e (propagated-ended (ended s) refl (scan-end r s c.loop-place.place i m (omega (arith, c.loop-place-test.false, l, n))))
+
 pub rounds-init : goal.rounds-init
 rounds-init g c =
     record {
-      propagates = propagates-refl (view_of c.args.clause_alloc.now c.args.assignment.now c.args.trail.now c.args.impl_graph.now) c.requires;
+      propagates = propagates-refl (view_of c.args.clause_alloc.now c.args.assignment.now c.args.trail.now c.args.impl_graph.now) c.requires.well;
+      head = refl;
       last = refl;
       units = refl;
     }

@@ -14,6 +14,7 @@ invariant-loop-place g l = record {
 abbrev pub invariant-rounds : goal.invariant-rounds
 invariant-rounds g l = record {
   propagates : Propagates (view_of l.fn.clause_alloc l.fn.assignment l.fn.trail l.fn.impl_graph) (view_of l.clause_alloc l.assignment l.trail l.impl_graph);
+  head : l.trail.queue_head ≡ l.fn.trail.queue_head;
   last : l.assignment.last ≡ l.fn.assignment.last;
   units : l.trail.units_removed ≡ l.fn.trail.units_removed;
 }

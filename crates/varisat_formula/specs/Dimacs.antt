@@ -1,6 +1,7 @@
 -- What a whole DIMACS CNF text means, by its lines and tokens.
 use Rattle.std.specs.Prelude.{ℕ, zero, suc, ◌+◌, ◌-◌, ◌*◌, ◌/◌, ◌^◌, ◌≤◌, min, max, Bool, true, false, ◌&&◌, ◌||◌, not, is_some, if◌then◌else◌, nat_lt, nat_le, ◌==◌, List, [], ◌∷◌, ◌++◌, map, Option, Some, None, codes, bytes_eq}
 use Rattle.varisat_theory.specs.Literals.{literal_of}
+use Rattle.varisat_literals.specs.Numbers.{variable_limit}
 use Rattle.varisat_formula.specs.declared.dimacs.error.DimacsErrorKind.{DimacsErrorKind}
 use Rattle.varisat_formula.specs.declared.dimacs.error.DimacsErrorKind.TheVariants.{UnexpectedInput, LiteralTooLarge, InvalidHeader, VarCount, ClauseCount, UnterminatedClause}
 use Rattle.varisat_formula.specs.declared.dimacs.error.DimacsError.{DimacsError}
@@ -59,9 +60,9 @@ number [] = None
 number (d ∷ []) = digits_after 0 (d ∷ [])
 number (d ∷ e ∷ ds) = if d == 48 then None else digits_after 0 (d ∷ e ∷ ds)
 
--- 3. Tokens: `0` ends a clause; an optional `-` and a number up to 2^28 is a literal.
+-- 3. Tokens: `0` ends a clause; an optional `-` and a number up to the limit of variables is a literal.
 abbrev pub in_range : Bool → ℕ → Meaning
-in_range polarity n = if nat_lt (2 ^ 28) n then TooLarge else Literal (literal_of (n - 1) polarity)
+in_range polarity n = if nat_lt variable_limit n then TooLarge else Literal (literal_of (n - 1) polarity)
 
 abbrev pub positive : Option ℕ → Meaning
 positive None = Wrong
@@ -77,9 +78,9 @@ abbrev pub meaning : List ℕ → Meaning
 meaning [] = Wrong
 meaning (b ∷ bs) = if b == 45 then negative (number bs) else positive (number (b ∷ bs))
 
--- 4. The header: the tokens `p`, `cnf`, V, C and nothing else, with V up to 2^28 and C below 2^64.
+-- 4. The header: the tokens `p`, `cnf`, V, C and nothing else, with V up to the limit of variables and C below 2^64.
 abbrev pub sized : ℕ → ℕ → Heading
-sized v c = if nat_lt (2 ^ 28) v then Oversized else Sized (record { vars = v; clauses = c })
+sized v c = if nat_lt variable_limit v then Oversized else Sized (record { vars = v; clauses = c })
 
 abbrev pub sizes : Option ℕ → Option ℕ → Heading
 sizes None c = Malformed
@@ -98,7 +99,7 @@ header_of (p ∷ cnf ∷ v ∷ c ∷ more ∷ rest) = Malformed
 abbrev pub IsSmall : Heading → Type 0
 IsSmall Malformed = Unit {0}
 IsSmall Oversized = Unit {0}
-IsSmall (Sized s) = s.vars ≤ 2 ^ 28
+IsSmall (Sized s) = s.vars ≤ variable_limit
 
 -- 5. Items: the headers and the tokens of other lines, each with its line. A comment has none.
 pub data Item : Type 0 where

@@ -16,13 +16,13 @@ variables_of [] = 0
 variables_of (l ∷ ls) = max (l / 2 + 1) (variables_of ls)
 
 -- one more clause
-abbrev pub with_clause : Formula → Clause → Formula
-with_clause f c = record { var_count = max f.var_count (variables_of c); clauses = f.clauses ++ c ∷ [] }
+abbrev pub with_one_more : Formula → Clause → Formula
+with_one_more f c = record { var_count = max f.var_count (variables_of c); clauses = f.clauses ++ c ∷ [] }
 
 -- each of the clauses in turn
-abbrev pub with_clauses : Formula → List Clause → Formula
-with_clauses f [] = f
-with_clauses f (c ∷ cs) = with_clauses (with_clause f c) cs
+abbrev pub with_more : Formula → List Clause → Formula
+with_more f [] = f
+with_more f (c ∷ cs) = with_more (with_one_more f c) cs
 
 -- the literals' variables are below the count
 abbrev pub AllBelow : ℕ → List Literal → Type 0
@@ -45,7 +45,7 @@ UseUp [] ls = ls ≡ []
 UseUp (n ∷ ns) ls = (n ≤ length ls) × UseUp ns (drop n ls)
 
 -- what is true of the buffers of a formula
-pub record Fits (count : ℕ) (lengths : List ℕ) (literals : List Literal) : Type 0 where
+pub record BuffersFit (count : ℕ) (lengths : List ℕ) (literals : List Literal) : Type 0 where
   pub used : UseUp lengths literals
   pub below : AllBelow count literals
   pub small : count ≤ 2 ^ 31

@@ -2,9 +2,8 @@ pub mod Dimacs
 pub mod Equality
 pub mod Formulas
 pub mod Machine
-pub mod Memory
-pub mod Numbers
 pub mod Parsed
 pub mod Rest
 pub mod Streams
 pub mod Written
+pub use Rattle.varisat_literals.specs.Numbers

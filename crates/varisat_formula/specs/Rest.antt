@@ -57,7 +57,7 @@ dimacs_from p rest = gives_from Ends p rest
 abbrev pub so_far_from : Progress → List ℕ → Reading
 so_far_from p rest = gives_from GoesOn p rest
 
--- what is answered where the source fails: the first fault, or `Io` in the line that was reached
+-- what is returned where the source fails: the first fault, or `Io` in the line that was reached
 abbrev pub failing_by : Option DimacsError → ℕ → DimacsError
 failing_by None n = record { line = n; kind = Io }
 failing_by (Some e) n = e
@@ -66,29 +66,29 @@ abbrev pub failing : Progress → DimacsError
 failing p = failing_by p.reading.fault p.line
 
 -- q is what p becomes by reading the text
-pub record Follows (p : Progress) (text : List ℕ) (q : Progress) : Type 0 where
+pub record AdvancesBy (p : Progress) (text : List ℕ) (q : Progress) : Type 0 where
   pub same : (ending : Ending) (rest : List ℕ) → gives_from ending q rest ≡ gives_from ending p (text ++ rest)
 
--- what was answered
+-- the fault that was returned, if there is one
 abbrev pub fault_of : {X : Type 0} → Result X DimacsError → Option DimacsError
 fault_of (Ok x) = None
 fault_of (Err e) = Some e
 
 -- a token was kept: a literal or the end of a clause, without a fault
-pub record Keeps (r s : Reading) : Type 0 where
+pub record KeepsToken (r s : Reading) : Type 0 where
   pub fine : s.fault ≡ r.fault
   pub more : s ≡ r → ⊥
 
 -- Memory ran out behind the text, where a token stands that a blank would have ended, and that is to be kept.
 pub record RunsOut (p : Progress) (text : List ℕ) (q : Progress) : Type 0 where
   pub reading : q.reading ≡ gives_from (BreaksOff OutOfMemory) p text
-  pub wants : Keeps (so_far_from p text) (so_far_from p (text ++ 32 ∷ []))
+  pub wants : KeepsToken (so_far_from p text) (so_far_from p (text ++ 32 ∷ []))
 
 -- the token at which the reader stands is to be kept
 pub record WantsRoom (p : Progress) : Type 0 where
   pub word : Word
   pub place_is : p.place ≡ Plain word
-  pub keeps : Keeps p.reading (read p.reading (word_items p.line word))
+  pub keeps : KeepsToken p.reading (read p.reading (word_items p.line word))
 
 -- memory ran out at a blank of the text
 pub record RunsOutIn (p : Progress) (text : List ℕ) (q : Progress) : Type 0 where

@@ -1,11 +1,40 @@
--- What sources have left, and what targets took.
-use Rattle.std.specs.Prelude.{◌≡◌, ℕ, List, ◌++◌, take, Option, Result, MatchResult}
+-- How sources stand and what reading does to them, and what targets took.
+use Rattle.std.specs.Prelude.{◌≡◌, ℕ, ◌≤◌, List, ◌++◌, length, take, nat_lt, Bool, true, false, if◌then◌else◌, Option, Result, Ok, Err, MatchResult}
+use Rattle.std.specs.Io.KnownBytes.{Consumes, IsAtEnd}
 
--- the bytes that were given; those that are left, where they are known; how many pieces may still come; how many faults there were
-pub record Source : Type 0 where
+-- the bytes that were given; those that are left, where they are known; how many pieces may still come; how many faults there
+-- were; and whether the source told its end
+pub record Stand : Type 0 where
   pub given : List ℕ
   pub left : Option (List ℕ)
   pub pieces : ℕ
+  pub faults : ℕ
+  pub ended : Bool
+
+-- a call gave as many bytes from the buffer's front as it returned; none at Err
+abbrev pub FillsFrom : {E : Type 0} → List ℕ → List ℕ → Result ℕ E → List ℕ → Type 0
+FillsFrom old new r buffer = MatchResult r (λ n. new ≡ old ++ take n buffer) (λ _. new ≡ old)
+
+-- Whether a source told its end, after a call that returned r for a buffer: bytes say that it has not ended, no bytes for a
+-- buffer that is not empty say that it has, and else it is as before.
+abbrev pub ended_after : {E : Type 0} → Bool → Result ℕ E → List ℕ → Bool
+ended_after before (Ok n) buffer = if nat_lt 0 n then false else (if nat_lt 0 (length buffer) then true else before)
+ended_after before (Err e) buffer = before
+
+-- between s and t just this text was read of the source
+pub record Reads (s : Stand) (text : List ℕ) (t : Stand) : Type 0 where
+  pub gave : t.given ≡ s.given ++ text
+  pub consumed : Consumes s.left t.left text
+  pub no_more : t.pieces ≤ s.pieces
+
+-- the source told its end, and no byte is left that is known
+pub record HasEnded (t : Stand) : Type 0 where
+  pub told : t.ended ≡ true
+  pub at_end : IsAtEnd t.left
+
+-- all the bytes that a target took, and how many faults there were
+pub record Taken : Type 0 where
+  pub bytes : List ℕ
   pub faults : ℕ
 
 -- the bytes that were taken; how many faults there were; what the writer behind the target holds, where that is known
@@ -13,7 +42,3 @@ pub record Output : Type 0 where
   pub bytes : List ℕ
   pub faults : ℕ
   pub contents : Option (List ℕ)
-
--- a call gave as many bytes from the buffer's front as it answered; none at Err
-abbrev pub Gives : {E : Type 0} → List ℕ → List ℕ → Result ℕ E → List ℕ → Type 0
-Gives old new r buffer = MatchResult r (λ n. new ≡ old ++ take n buffer) (λ _. new ≡ old)

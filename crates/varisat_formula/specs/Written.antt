@@ -1,19 +1,20 @@
 -- The text that is written for a formula.
 use Rattle.std.specs.Prelude.{◌≡◌, ℕ, ◌+◌, List, [], ◌∷◌, ◌++◌, length, take, None, Some, codes, decimal, Result, MatchResult}
 use Rattle.varisat_theory.specs.Literals.{Literal, Clause}
-use Rattle.varisat_formula.specs.Numbers.{literal_text}
+use Rattle.varisat_literals.specs.Numbers.{literal_text}
 use Rattle.varisat_formula.specs.Formulas.{Formula}
+use Rattle.varisat_formula.specs.Streams.{Taken}
 use Rattle.varisat_formula.specs.Dimacs.{dimacs}
 
 -- each number with a space behind it
-abbrev pub literals_text : List Literal → List ℕ
-literals_text [] = []
-literals_text (l ∷ ls) = literal_text l ++ 32 ∷ literals_text ls
+abbrev pub spaced_literals : List Literal → List ℕ
+spaced_literals [] = []
+spaced_literals (l ∷ ls) = literal_text l ++ 32 ∷ spaced_literals ls
 
 -- for each clause its numbers, `0` and a line feed
 abbrev pub clauses_text : List Clause → List ℕ
 clauses_text [] = []
-clauses_text (c ∷ cs) = literals_text c ++ 48 ∷ 10 ∷ clauses_text cs
+clauses_text (c ∷ cs) = spaced_literals c ++ 48 ∷ 10 ∷ clauses_text cs
 
 -- `p cnf V C` and a line feed
 abbrev pub header_text : ℕ → ℕ → List ℕ
@@ -28,6 +29,6 @@ ReadsBack f =
     dimacs (formula_text f) ≡ record { clauses = f.clauses; begun = []; count = length f.clauses; header = Some (record { vars = f.var_count; clauses = length f.clauses }); highest = f.var_count; fault = None }
 
 -- the text was appended; or a beginning of it, and there was one fault
-abbrev pub Puts : {T E : Type 0} → (T → List ℕ) → (T → ℕ) → T → Result (Unit {0}) E → List ℕ → T → Type 0
-Puts written faults old result text new =
-    MatchResult result (λ _. (written new ≡ written old ++ text) × (faults new ≡ faults old)) (λ _. ((n : ℕ) × (written new ≡ written old ++ take n text)) × (faults new ≡ faults old + 1))
+abbrev pub Puts : {E : Type 0} → Taken → Result (Unit {0}) E → List ℕ → Taken → Type 0
+Puts old r text new =
+    MatchResult r (λ _. (new.bytes ≡ old.bytes ++ text) × (new.faults ≡ old.faults)) (λ _. ((n : ℕ) × (new.bytes ≡ old.bytes ++ take n text)) × (new.faults ≡ old.faults + 1))

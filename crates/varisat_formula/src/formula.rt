@@ -1,11 +1,9 @@
-//! Variables, literals and formulas.
+//! Formulas, with the variables and literals that they are made of.
 
 pub mod cnf;
-pub mod laws;
-pub mod lit;
 
 pub use cnf::{Clauses, CnfFormula, ExtendFormula, FormulaError, new_lits, new_vars};
-pub use lit::{Lit, Var};
+pub use varisat_literals::{Lit, VARIABLE_LIMIT, Var, laws, lit};
 
 #[cfg(test)]
 mod tests;

@@ -1,6 +1,6 @@
 //! Where bytes are read from, and where proof lines go.
 ghost use Rattle.std.specs.Prelude.{◌≡◌, ℕ, ◌+◌, ◌-◌, ◌<◌, ◌≤◌, ◌^◌, List, [], ◌++◌, OnOk, OnErr, take};
-ghost use Rattle.varisat_formula.specs.Memory.{Memory};
+ghost use Rattle.varisat_formula.specs.Streams.{Taken};
 
 pub mod history;
 pub mod output;
@@ -14,30 +14,27 @@ use std::marker::Model;
 
 /// Takes the bytes of a proof, and counts its faults.
 pub trait ProofTarget: Drop {
-    /// The bytes that it holds.
-    ghost written: { Self → List ℕ };
+    /// The bytes that it holds, and how many faults there were.
+    ghost taken: { Self → Taken };
 
-    /// How many faults there were.
-    ghost fault_count: { Self → ℕ };
-
-    /// Appends all the bytes, or answers Err and appended a beginning of them.
+    /// Appends all the bytes, or returns Err and appended a beginning of them.
     fn put(&mut self, bytes: &[u8]) -> io::Result<()>
-        requires { fault_count self.old < 2 ^ 64 - 1 }
-        ensures whole { OnOk result (written self.new ≡ written self.old ++ bytes.now) }
-        ensures begun { OnErr result ((n : ℕ) × (written self.new ≡ written self.old ++ take n bytes.now)) }
-        ensures quiet { OnOk result (fault_count self.new ≡ fault_count self.old) }
-        ensures fault { OnErr result (fault_count self.new ≡ fault_count self.old + 1) };
+        requires { (taken self.old).faults < 2 ^ 64 - 1 }
+        ensures whole { OnOk result ((taken self.new).bytes ≡ (taken self.old).bytes ++ bytes.now) }
+        ensures begun { OnErr result ((n : ℕ) × ((taken self.new).bytes ≡ (taken self.old).bytes ++ take n bytes.now)) }
+        ensures quiet { OnOk result ((taken self.new).faults ≡ (taken self.old).faults) }
+        ensures fault { OnErr result ((taken self.new).faults ≡ (taken self.old).faults + 1) };
 
     /// Hands on what the target still keeps back.
     fn flush(&mut self) -> io::Result<()>
-        requires { fault_count self.old < 2 ^ 64 - 1 }
-        ensures same { written self.new ≡ written self.old }
-        ensures quiet { OnOk result (fault_count self.new ≡ fault_count self.old) }
-        ensures fault { OnErr result (fault_count self.new ≡ fault_count self.old + 1) };
+        requires { (taken self.old).faults < 2 ^ 64 - 1 }
+        ensures same { (taken self.new).bytes ≡ (taken self.old).bytes }
+        ensures quiet { OnOk result ((taken self.new).faults ≡ (taken self.old).faults) }
+        ensures fault { OnErr result ((taken self.new).faults ≡ (taken self.old).faults + 1) };
 
-    /// How many calls answered Err.
+    /// How many calls returned Err.
     fn faults(&self) -> u64
-        ensures { result ≡ fault_count self.now };
+        ensures { result ≡ (taken self.now).faults };
 }
 
 /// A target in memory. A growth that is refused is a fault, and takes none of the bytes.
@@ -48,7 +45,7 @@ pub struct MemoryTarget<A: Allocator + Copy> {
 }
 
 impl<A: Allocator + Copy> Model for MemoryTarget<A> {
-    ghost Value = { Memory };
+    ghost Value = { Taken };
 
     ghost view = { λ t. record { bytes = t.bytes.items; faults = t.faults } };
 }
@@ -73,9 +70,7 @@ impl<A: Allocator + Copy> MemoryTarget<A> {
 }
 
 impl<A: Allocator + Copy> ProofTarget for MemoryTarget<A> {
-    ghost written = { λ t. t.bytes };
-
-    ghost fault_count = { λ t. t.faults };
+    ghost taken = { λ t. t };
 
     fn put(&mut self, bytes: &[u8]) -> io::Result<()> {
         match self.bytes.extend_from_slice(bytes) {

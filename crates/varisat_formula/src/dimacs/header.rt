@@ -1,9 +1,11 @@
-//! Header lines, a byte at a time: a header line of any length takes no memory.
+//! Header lines, a byte at a time. Only the end of the line decides whether it is a header, so that the line is read by a
+//! machine of its own in place of the tokens: a header line of any length takes no memory.
 ghost use Rattle.std.specs.Prelude.{◌≡◌, ◌<◌, ◌^◌};
 ghost use Rattle.varisat_formula.specs.Dimacs.{sized, IsSmall};
 ghost use Rattle.varisat_formula.specs.Machine.{vars_ended, clauses_ended, header_blank, header_more, after_header_byte, clauses_says, header_says};
 
 use crate::dimacs::token::{Digits, is_blank_byte};
+use varisat_literals::VARIABLE_LIMIT;
 
 /// What a header says: at most how many variables, and how many clauses.
 #[derive(Clone, Copy)]
@@ -16,7 +18,7 @@ pub struct Sizes {
 #[derive(Clone, Copy)]
 pub enum Heading {
     Malformed,
-    /// More than 2^28 variables.
+    /// More variables than the limit.
     Oversized,
     Sized(Sizes),
 }
@@ -46,7 +48,7 @@ fn sized(vars: u64, clauses: u64) -> Heading
     ensures says { result ≡ sized vars clauses }
     ensures small { IsSmall result }
 {
-    if vars > 0x1000_0000 {
+    if vars > VARIABLE_LIMIT as u64 {
         Heading::Oversized
     } else {
         Heading::Sized(Sizes { vars, clauses })

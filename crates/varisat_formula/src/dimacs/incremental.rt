@@ -2,7 +2,7 @@
 ghost use Rattle.std.specs.Prelude.{◌≡◌, ◌-◌, ◌<◌, ◌^◌, ◌⊎◌, [], true, length, IfOk, IfErr};
 ghost use Rattle.std.specs.Fn.{CalledAtMut};
 ghost use Rattle.varisat_formula.specs.Rest.{Progress, begin, dimacs_from, RunsOut, fault_of};
-ghost use Rattle.varisat_formula.specs.Parsed.{stand, TakesPiece, Finishes, Refuses};
+ghost use Rattle.varisat_formula.specs.Parsed.{TakesPiece, Finishes, Refuses};
 
 use crate::dimacs::error::DimacsError;
 use crate::dimacs::parse::PIECE;
@@ -19,18 +19,18 @@ pub trait PieceReader<A: Allocator + Copy>: Drop {
     fn begin_in(alloc: A) -> Self
         ensures { progress result ≡ begin };
 
-    /// Reads the next piece of the source, with room for it in the buffer. Answers false at the source's end, and a fault of
-    /// the text or the source.
+    /// Reads the next piece of the source, with room for it in the buffer. Returns false at the source's end, and the fault of
+    /// the text or the source, if there is one.
     fn take_piece<S: ByteSource>(
         &mut self,
         source: &mut S,
         buffer: &mut [u8],
     ) -> Result<bool, DimacsError>
-        requires few { S.fault_count source.old < 2 ^ 64 - 1 }
+        requires few { (S.stand source.old).faults < 2 ^ 64 - 1 }
         requires room { 0 < length buffer.old }
-        ensures { TakesPiece (stand S.given S.left S.pieces_left S.fault_count source.old) (progress self.old) result (stand S.given S.left S.pieces_left S.fault_count source.new) (progress self.new) };
+        ensures { TakesPiece (S.stand source.old) (progress self.old) result (S.stand source.new) (progress self.new) };
 
-    /// Ends the text, and answers its first fault.
+    /// Ends the text, and returns its first fault.
     fn end(&mut self) -> Result<(), DimacsError>
         ensures reads { ((progress self.new).reading ≡ dimacs_from (progress self.old) []) ⊎ RunsOut (progress self.old) [] (progress self.new) }
         ensures answer { fault_of result ≡ (progress self.new).reading.fault }
@@ -38,7 +38,7 @@ pub trait PieceReader<A: Allocator + Copy>: Drop {
 
     /// Begins a text and reads the source piece by piece to its end. Calls `f` with the reader after each piece that has
     /// bytes, and after the end of the text, where the reader has no fault; it goes on as `f` left it. The first fault, or
-    /// the first error of `f`, ends it and is answered. Else the reader is answered as `f` left it.
+    /// the first error of `f`, ends it and is returned. Else the reader is returned as `f` left it.
     final fn parse_incremental<
         S: ByteSource,
         E: From<DimacsError>,
@@ -47,10 +47,10 @@ pub trait PieceReader<A: Allocator + Copy>: Drop {
     where
         Self: Sized,
         F: Drop,
-        requires few { S.fault_count source.old < 2 ^ 64 - 1 }
+        requires few { (S.stand source.old).faults < 2 ^ 64 - 1 }
         requires callable { (state : F) (x : _) → F.pre state x }
-        ensures ok { IfOk result (Finishes (CalledAtMut F.FnMut) progress (stand S.given S.left S.pieces_left S.fault_count source.old) f (stand S.given S.left S.pieces_left S.fault_count source.new)) }
-        ensures err { IfErr result (Refuses (CalledAtMut F.FnMut) progress E.from_gives (stand S.given S.left S.pieces_left S.fault_count source.old) f (stand S.given S.left S.pieces_left S.fault_count source.new)) }
+        ensures ok { IfOk result (Finishes (record { progress = progress; calls = CalledAtMut F.FnMut; made = E.from_gives }) (S.stand source.old) f (S.stand source.new)) }
+        ensures err { IfErr result (Refuses (record { progress = progress; calls = CalledAtMut F.FnMut; made = E.from_gives }) (S.stand source.old) f (S.stand source.new)) }
     {
         let mut parser = Self::begin_in(alloc);
         let mut buffer = [0; PIECE];

@@ -1,6 +1,6 @@
 //! Reads texts from sources.
 ghost use Rattle.std.specs.Prelude.{◌≡◌, ◌-◌, ◌<◌, ◌^◌, length};
-ghost use Rattle.varisat_formula.specs.Parsed.{stand, TakesPiece, Parses};
+ghost use Rattle.varisat_formula.specs.Parsed.{TakesPiece, Parses};
 
 use crate::dimacs::error::DimacsError;
 use crate::dimacs::parser::DimacsParser;
@@ -12,16 +12,16 @@ use std::alloc::Allocator;
 pub(crate) const PIECE: usize = 0x2000;
 
 impl<A: Allocator + Copy> DimacsParser<A> {
-    /// Reads the next piece of the source, with room for it in the buffer. Answers false at the source's end, and a fault of
-    /// the text or the source.
+    /// Reads the next piece of the source, with room for it in the buffer. Returns false at the source's end, and the fault of
+    /// the text or the source, if there is one.
     pub fn next_piece<S: ByteSource>(
         &mut self,
         source: &mut S,
         buffer: &mut [u8],
     ) -> Result<bool, DimacsError>
-        requires few { S.fault_count source.old < 2 ^ 64 - 1 }
+        requires few { (S.stand source.old).faults < 2 ^ 64 - 1 }
         requires room { 0 < length buffer.old }
-        ensures takes { TakesPiece (stand S.given S.left S.pieces_left S.fault_count source.old) self.old result (stand S.given S.left S.pieces_left S.fault_count source.new) self.new }
+        ensures takes { TakesPiece (S.stand source.old) self.old result (S.stand source.new) self.new }
         ensures open { self.new.over ≡ self.old.over }
     {
         let count = match source.fill(buffer) {
@@ -34,10 +34,10 @@ impl<A: Allocator + Copy> DimacsParser<A> {
         }
     }
 
-    /// Reads all of the source as one text, and answers its formula or its first fault.
+    /// Reads all of the source as one text, and returns its formula or its first fault.
     pub fn parse<S: ByteSource>(alloc: A, source: &mut S) -> Result<CnfFormula<A>, DimacsError>
-        requires { S.fault_count source.old < 2 ^ 64 - 1 }
-        ensures { Parses (stand S.given S.left S.pieces_left S.fault_count source.old) result (stand S.given S.left S.pieces_left S.fault_count source.new) }
+        requires { (S.stand source.old).faults < 2 ^ 64 - 1 }
+        ensures { Parses (S.stand source.old) result (S.stand source.new) }
     {
         let mut parser = DimacsParser::new_in(alloc);
         let mut buffer = [0; PIECE];

@@ -4,7 +4,7 @@ ghost use Rattle.varisat_formula.specs.declared.dimacs.parser.Place.TheVariants.
 ghost use Rattle.varisat_formula.specs.declared.dimacs.error.DimacsErrorKind.TheVariants.{Io, OutOfMemory};
 ghost use Rattle.varisat_formula.specs.Dimacs.{Reading, failed, next, read, is_line_feed, is_blank, gives, Ending, BreaksOff};
 ghost use Rattle.varisat_formula.specs.Machine.{no_word};
-ghost use Rattle.varisat_formula.specs.Rest.{begin, word_items, line_rest, start_place, gives_from, dimacs_from, Follows, Keeps, WantsRoom, RunsOut, RunsOutIn, failing, fault_of, with_front};
+ghost use Rattle.varisat_formula.specs.Rest.{begin, word_items, line_rest, start_place, gives_from, dimacs_from, AdvancesBy, KeepsToken, WantsRoom, RunsOut, RunsOutIn, failing, fault_of, with_front};
 
 use crate::dimacs::error::{DimacsError, DimacsErrorKind};
 use crate::dimacs::header::HeaderPart;
@@ -64,7 +64,7 @@ impl<A: Allocator + Copy> DimacsParser<A> {
         requires { self.old.reading.fault ≡ None }
         ensures ok { OnOk result (self.new ≡ record self.old { reading = read self.old.reading (word_items self.old.line word) }) }
         ensures err { OnErr result (self.new ≡ self.old) }
-        ensures wants { OnErr result (Keeps self.old.reading (read self.old.reading (word_items self.old.line word))) }
+        ensures wants { OnErr result (KeepsToken self.old.reading (read self.old.reading (word_items self.old.line word))) }
     {
         if !word.is_none() {
             self.reader.token(self.line, word.meaning())?;
@@ -109,7 +109,7 @@ impl<A: Allocator + Copy> DimacsParser<A> {
         requires open { self.old.over ≡ false }
         requires fine { self.old.reading.fault ≡ None }
         requires inside { is_line_feed b ≡ false }
-        ensures ok { OnOk result (Follows self.old (b ∷ []) self.new) }
+        ensures ok { OnOk result (AdvancesBy self.old (b ∷ []) self.new) }
         ensures open { self.new.over ≡ false }
         ensures err { OnErr result (self.new ≡ self.old) }
         ensures wants { OnErr result (WantsRoom self.old × (is_blank b ≡ true)) }
@@ -134,7 +134,7 @@ impl<A: Allocator + Copy> DimacsParser<A> {
     fn byte(&mut self, b: u8) -> Result<(), AllocError>
         requires open { self.old.over ≡ false }
         requires fine { self.old.reading.fault ≡ None }
-        ensures ok { OnOk result (Follows self.old (b ∷ []) self.new) }
+        ensures ok { OnOk result (AdvancesBy self.old (b ∷ []) self.new) }
         ensures open { self.new.over ≡ false }
         ensures err { OnErr result (self.new ≡ self.old) }
         ensures wants { OnErr result (WantsRoom self.old × (is_blank b ≡ true)) }
@@ -170,7 +170,7 @@ impl<A: Allocator + Copy> DimacsParser<A> {
     fn read_piece(&mut self, piece: &[u8]) -> Result<(), DimacsError>
         requires open { self.old.over ≡ false }
         requires fine { self.old.reading.fault ≡ None }
-        ensures reads { Follows self.old piece.now self.new ⊎ RunsOutIn self.old piece.now self.new }
+        ensures reads { AdvancesBy self.old piece.now self.new ⊎ RunsOutIn self.old piece.now self.new }
         ensures answer { fault_of result ≡ self.new.reading.fault }
         ensures open { self.new.over ≡ false }
     {
@@ -186,11 +186,11 @@ impl<A: Allocator + Copy> DimacsParser<A> {
         Ok(())
     }
 
-    /// Reads the next piece of the text, and answers its first fault, from then on always the same. After `finish` the text
-    /// is over, and no bytes are taken. `OutOfMemory` is answered where a growth was refused, at the line of the token that
+    /// Reads the next piece of the text, and returns its first fault, from then on always the same. After `finish` the text
+    /// is over, and no bytes are taken. `OutOfMemory` is returned where a growth was refused, with the line of the token that
     /// could not be kept.
     pub fn feed(&mut self, piece: &[u8]) -> Result<(), DimacsError>
-        ensures reads { Follows self.old piece.now self.new ⊎ RunsOutIn self.old piece.now self.new }
+        ensures reads { AdvancesBy self.old piece.now self.new ⊎ RunsOutIn self.old piece.now self.new }
         ensures answer { fault_of result ≡ self.new.reading.fault }
         ensures same { (e : DimacsError) → self.old.reading.fault ≡ Some e → self.new ≡ self.old }
         ensures over { self.old.over ≡ true → self.new ≡ self.old }
@@ -205,7 +205,7 @@ impl<A: Allocator + Copy> DimacsParser<A> {
         self.read_piece(piece)
     }
 
-    /// Ends the text, and answers its first fault.
+    /// Ends the text, and returns its first fault.
     pub fn finish(&mut self) -> Result<(), DimacsError>
         ensures reads { (self.new.reading ≡ dimacs_from self.old []) ⊎ RunsOut self.old [] self.new }
         ensures answer { fault_of result ≡ self.new.reading.fault }
@@ -223,7 +223,7 @@ impl<A: Allocator + Copy> DimacsParser<A> {
     }
 
     /// The text breaks off, since its source failed: the fault `Io` in the line that was reached. A text that has a fault or
-    /// is over stays as it is. Answers the first fault, or this one.
+    /// is over stays as it is. Returns the first fault, or this one.
     pub fn break_off(&mut self) -> DimacsError
         ensures reading { self.new.reading ≡ gives_from (BreaksOff Io) self.old [] }
         ensures answer { result ≡ failing self.old }

@@ -1,7 +1,8 @@
 //! What a DIMACS text gave so far.
 ghost use Rattle.std.specs.Prelude.{◌≡◌, ℕ, List, [], ◌∷◌, ◌++◌, ◌+◌, ◌/◌, ◌<◌, ◌≤◌, ◌^◌, max, Option, None, Some, OnOk, OnErr};
 ghost use Rattle.varisat_formula.specs.Dimacs.{Reading, nothing, failed, is_one_too_many, is_above, next, after_token, after_header, is_started, is_short, at_end, IsSmall};
-ghost use Rattle.varisat_formula.specs.Rest.{Keeps};
+ghost use Rattle.varisat_literals.specs.Numbers.{variable_limit};
+ghost use Rattle.varisat_formula.specs.Rest.{KeepsToken};
 
 use crate::dimacs::error::{DimacsError, DimacsErrorKind};
 use crate::dimacs::header::{Heading, Sizes};
@@ -72,7 +73,7 @@ impl<A: Allocator + Copy> Reader<A> {
         self.formula.var_count()
     }
 
-    /// A fault.
+    /// Keeps a fault: only its line and kind, so that a text with a long faulty token costs no memory.
     pub fn fail(&mut self, line: u64, kind: DimacsErrorKind)
         ensures { self.new ≡ failed self.old line kind }
     {
@@ -130,7 +131,7 @@ impl<A: Allocator + Copy> Reader<A> {
     pub fn token(&mut self, line: u64, meaning: Meaning) -> Result<(), AllocError>
         ensures ok { OnOk result (self.new ≡ after_token self.old line meaning) }
         ensures err { OnErr result (self.new ≡ self.old) }
-        ensures wants { OnErr result (Keeps self.old (after_token self.old line meaning)) }
+        ensures wants { OnErr result (KeepsToken self.old (after_token self.old line meaning)) }
     {
         match meaning {
             Meaning::Wrong => self.fail(line, DimacsErrorKind::UnexpectedInput),
@@ -162,7 +163,7 @@ impl<A: Allocator + Copy> Reader<A> {
     }
 
     fn keep_header(&mut self, sizes: Sizes)
-        requires { sizes.vars ≤ 2 ^ 28 }
+        requires { sizes.vars ≤ variable_limit }
         ensures { self.new ≡ record self.old { header = Some sizes; highest = max self.old.highest sizes.vars } }
     {
         self.header = Some(sizes);
@@ -213,7 +214,7 @@ impl<A: Allocator + Copy> Reader<A> {
         }
     }
 
-    /// Takes the clauses that ended. The formula that is answered has the count of variables so far.
+    /// Takes the clauses that ended. The formula has the count of variables so far.
     pub fn take(&mut self) -> CnfFormula<A>
         ensures taken { result ≡ record { var_count = self.old.highest; clauses = self.old.clauses } }
         ensures rest { self.new ≡ record self.old { clauses = [] } }

@@ -220,7 +220,7 @@ fn reads(alloc: Global, text: &[u8], outcome: &Outcome) -> bool {
     reads_bytes(alloc, text, outcome) && reads_whole(alloc, text, outcome)
 }
 
-/// Whether `parse` answers the formula or the fault.
+/// Whether `parse` returns the formula or the fault.
 fn parses<R: Read + Drop>(alloc: Global, reader: R, outcome: &Outcome) -> bool {
     match DimacsParser::parse(alloc, &mut ReadSource::new(reader)) {
         Ok(formula) => outcome.fault.is_none() && is_formula(&formula, outcome),
@@ -228,14 +228,14 @@ fn parses<R: Read + Drop>(alloc: Global, reader: R, outcome: &Outcome) -> bool {
     }
 }
 
-/// Whether `parse_incremental`, with a function that takes nothing, answers a parser that has the formula, or the fault.
+/// Whether `parse_incremental`, with a function that takes nothing, returns a parser that has the formula, or the fault.
 fn parses_in_pieces<R: Read + Drop>(alloc: Global, reader: R, outcome: &Outcome) -> bool {
-    let answer: Result<DimacsParser<Global>, DimacsError> = DimacsParser::parse_incremental(
+    let parsed: Result<DimacsParser<Global>, DimacsError> = DimacsParser::parse_incremental(
         alloc,
         &mut ReadSource::new(reader),
         |_reader| Ok(()),
     );
-    match answer {
+    match parsed {
         Ok(mut parser) => outcome.fault.is_none() && is_formula(&parser.take_formula(), outcome),
         Err(fault) => fault_of(outcome) == Some(fault),
     }
@@ -339,9 +339,10 @@ fn source_that_fails(rt: HostRuntime) -> Result<(), FormulaError> {
         text: b"1 0\n2",
         fails: true,
     });
-    let answer = DimacsParser::parse(alloc, &mut source);
-    assert!(rt; answer.err() == at(2, DimacsErrorKind::Io));
+    let parsed = DimacsParser::parse(alloc, &mut source);
+    assert!(rt; parsed.err() == at(2, DimacsErrorKind::Io));
     assert_eq!(rt; source.faults(), 1);
+    assert!(rt; !source.has_ended());
     let mut source = ReadSource::new(CutReader {
         text: b"1 0\n2",
         fails: true,
@@ -373,7 +374,7 @@ fn pieces_of_a_function(rt: HostRuntime) {
         fails: false,
     });
     let (mut calls, mut clauses) = (0, 0);
-    let answer: Result<DimacsParser<Global>, DimacsError> = DimacsParser::parse_incremental(
+    let parsed: Result<DimacsParser<Global>, DimacsError> = DimacsParser::parse_incremental(
         rt.alloc(),
         &mut source,
         |reader| {
@@ -382,7 +383,7 @@ fn pieces_of_a_function(rt: HostRuntime) {
             Ok(())
         },
     );
-    assert!(rt; answer.is_ok());
+    assert!(rt; parsed.is_ok());
     // Four pieces and the end.
     assert_eq!(rt; calls, 5);
     assert_eq!(rt; clauses, 3);
@@ -391,12 +392,12 @@ fn pieces_of_a_function(rt: HostRuntime) {
         line: 9,
         kind: DimacsErrorKind::Io,
     };
-    let answer: Result<DimacsParser<Global>, DimacsError> = DimacsParser::parse_incremental(
+    let parsed: Result<DimacsParser<Global>, DimacsError> = DimacsParser::parse_incremental(
         rt.alloc(),
         &mut source,
         |_reader| Err(refusal),
     );
-    assert!(rt; answer.err() == Some(refusal));
+    assert!(rt; parsed.err() == Some(refusal));
 }
 
 #[test]
@@ -415,8 +416,8 @@ fn written(rt: HostRuntime) -> io::Result<()> {
     output.flush()?;
     assert_eq!(rt; output.faults(), 0);
     assert_eq!(rt; output.into_inner().as_slice(), text);
-    let answer = DimacsParser::parse(alloc, &mut ReadSource::new(text));
-    assert!(rt; answer.is_ok_and(|given| given == formula));
+    let parsed = DimacsParser::parse(alloc, &mut ReadSource::new(text));
+    assert!(rt; parsed.is_ok_and(|given| given == formula));
     Ok(())
 }
 

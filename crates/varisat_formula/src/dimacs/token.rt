@@ -1,9 +1,11 @@
-//! Tokens, a byte at a time: a token of any length takes no memory.
+//! Tokens, a byte at a time. A piece may end inside a token; what its bytes say so far is kept in place of the bytes, so that
+//! a token of any length takes no memory, also one with a fault.
 ghost use Rattle.std.specs.Prelude.{◌≡◌, ◌<◌, ◌≤◌, ◌^◌, ℕ, Some};
 ghost use Rattle.varisat_formula.specs.Dimacs.{positive, negative, in_range, is_digit, is_blank};
 ghost use Rattle.varisat_formula.specs.Machine.{after_digit, grown, after_byte, is_none, is_empty, word_says, no_word};
 
 use crate::formula::Lit;
+use varisat_literals::VARIABLE_LIMIT;
 
 /// What digits write.
 #[derive(Clone, Copy)]
@@ -30,7 +32,7 @@ pub enum Meaning {
     /// The end of a clause.
     End,
     Literal(Lit),
-    /// A literal whose number is above 2^28.
+    /// A literal whose number is above the limit of variables.
     TooLarge,
     Wrong,
 }
@@ -93,7 +95,7 @@ fn in_range(polarity: bool, number: u64) -> Meaning
     requires { 0 < number }
     ensures { result ≡ in_range polarity number }
 {
-    if number > 0x1000_0000 {
+    if number > VARIABLE_LIMIT as u64 {
         Meaning::TooLarge
     } else {
         Meaning::Literal(Lit::from_index((number - 1) as usize, polarity))

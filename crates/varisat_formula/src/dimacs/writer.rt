@@ -1,7 +1,7 @@
 //! Writes formulas as DIMACS CNF text.
 ghost use Rattle.std.specs.Prelude.{◌≡◌, ℕ, List, [], ◌∷◌, ◌++◌, ◌+◌, ◌-◌, ◌<◌, ◌≤◌, ◌^◌, length, take, flat_map, OnOk, OnErr};
-ghost use Rattle.varisat_formula.specs.Numbers.{literal_text};
-ghost use Rattle.varisat_formula.specs.Written.{Puts, ReadsBack, literals_text, header_text, formula_text};
+ghost use Rattle.varisat_literals.specs.Numbers.{literal_text, variable_limit};
+ghost use Rattle.varisat_formula.specs.Written.{Puts, ReadsBack, spaced_literals, header_text, formula_text};
 
 use crate::formula::{CnfFormula, Lit};
 use crate::io::ProofTarget;
@@ -11,8 +11,8 @@ use std::io;
 
 /// Writes the parts one after another.
 fn put_all<W: ProofTarget>(target: &mut W, parts: &[&[u8]]) -> io::Result<()>
-    requires { W.fault_count target.old < 2 ^ 64 - 1 }
-    ensures { Puts W.written W.fault_count target.old result (flat_map (λ p. p.now) parts.now) target.new }
+    requires { (W.taken target.old).faults < 2 ^ 64 - 1 }
+    ensures { Puts (W.taken target.old) result (flat_map (λ p. p.now) parts.now) (W.taken target.new) }
 {
     for part in parts {
         match target.put(part) {
@@ -25,8 +25,8 @@ fn put_all<W: ProofTarget>(target: &mut W, parts: &[&[u8]]) -> io::Result<()>
 
 /// Writes the literal's number and a space.
 fn write_literal<W: ProofTarget>(target: &mut W, literal: Lit) -> io::Result<()>
-    requires { W.fault_count target.old < 2 ^ 64 - 1 }
-    ensures { Puts W.written W.fault_count target.old result (literal_text literal ++ 32 ∷ []) target.new }
+    requires { (W.taken target.old).faults < 2 ^ 64 - 1 }
+    ensures { Puts (W.taken target.old) result (literal_text literal ++ 32 ∷ []) (W.taken target.new) }
 {
     let mut buffer = Buffer::new();
     let number = buffer.format(literal.index() + 1).as_bytes();
@@ -39,8 +39,8 @@ fn write_literal<W: ProofTarget>(target: &mut W, literal: Lit) -> io::Result<()>
 
 /// Writes the clause's literals, `0` and a line feed.
 fn write_clause<W: ProofTarget>(target: &mut W, clause: &[Lit]) -> io::Result<()>
-    requires { W.fault_count target.old < 2 ^ 64 - 1 }
-    ensures { Puts W.written W.fault_count target.old result (literals_text clause.now ++ 48 ∷ 10 ∷ []) target.new }
+    requires { (W.taken target.old).faults < 2 ^ 64 - 1 }
+    ensures { Puts (W.taken target.old) result (spaced_literals clause.now ++ 48 ∷ 10 ∷ []) (W.taken target.new) }
 {
     for literal in clause {
         match write_literal(target, *literal) {
@@ -53,8 +53,8 @@ fn write_clause<W: ProofTarget>(target: &mut W, clause: &[Lit]) -> io::Result<()
 
 /// Writes the header.
 fn write_header<W: ProofTarget>(target: &mut W, vars: usize, clauses: usize) -> io::Result<()>
-    requires { W.fault_count target.old < 2 ^ 64 - 1 }
-    ensures { Puts W.written W.fault_count target.old result (header_text vars clauses) target.new }
+    requires { (W.taken target.old).faults < 2 ^ 64 - 1 }
+    ensures { Puts (W.taken target.old) result (header_text vars clauses) (W.taken target.new) }
 {
     let mut vars_buffer = Buffer::new();
     let mut clauses_buffer = Buffer::new();
@@ -79,12 +79,12 @@ pub fn write_dimacs<W: ProofTarget, A: Allocator + Copy>(
     target: &mut W,
     formula: &CnfFormula<A>,
 ) -> io::Result<()>
-    requires { W.fault_count target.old < 2 ^ 64 - 1 }
-    ensures whole { OnOk result (W.written target.new ≡ W.written target.old ++ formula_text formula.now) }
-    ensures begun { OnErr result ((n : ℕ) × (W.written target.new ≡ W.written target.old ++ take n (formula_text formula.now))) }
-    ensures quiet { OnOk result (W.fault_count target.new ≡ W.fault_count target.old) }
-    ensures fault { OnErr result (W.fault_count target.new ≡ W.fault_count target.old + 1) }
-    ensures read_back { formula.now.var_count ≤ 2 ^ 28 → ReadsBack formula.now }
+    requires { (W.taken target.old).faults < 2 ^ 64 - 1 }
+    ensures whole { OnOk result ((W.taken target.new).bytes ≡ (W.taken target.old).bytes ++ formula_text formula.now) }
+    ensures begun { OnErr result ((n : ℕ) × ((W.taken target.new).bytes ≡ (W.taken target.old).bytes ++ take n (formula_text formula.now))) }
+    ensures quiet { OnOk result ((W.taken target.new).faults ≡ (W.taken target.old).faults) }
+    ensures fault { OnErr result ((W.taken target.new).faults ≡ (W.taken target.old).faults + 1) }
+    ensures read_back { formula.now.var_count ≤ variable_limit → ReadsBack formula.now }
 {
     match write_header(target, formula.var_count(), formula.len()) {
         Ok(()) => {}

@@ -4,13 +4,13 @@ ghost use Rattle.std.specs.List.{FoldsTo};
 ghost use Rattle.std.specs.Iterator.{YieldsFirstRef, item_count};
 ghost use Rattle.varisat_theory.specs.Literals.{literal_of};
 ghost use Rattle.varisat_formula.specs.declared.formula.cnf.FormulaError.TheVariants.{Full, Memory};
-ghost use Rattle.varisat_formula.specs.Formulas.{no_clauses, variables_of, with_clause, with_clauses, AreBelow};
+ghost use Rattle.varisat_formula.specs.Formulas.{no_clauses, variables_of, with_one_more, with_more, AreBelow};
 ghost use Rattle.varisat_formula.specs.Equality.{same_formula, same_laws, same_equivalence};
 
-use crate::formula::lit::{Lit, Var};
 use std::alloc::{AllocError, Allocator};
 use std::marker::Model;
 use thiserror::Error;
+use varisat_literals::{Lit, Var};
 
 /// Why a formula takes no more.
 #[derive(Clone, Copy, Debug, PartialEq, Eq, Error)]
@@ -36,7 +36,7 @@ pub trait ExtendFormula {
     /// Why a call was refused.
     type Error;
 
-    /// What a clause makes of it, by what was answered.
+    /// What a clause makes of it, by what the call returned.
     ghost adds_clause: { Self → List ℕ → Result (Unit {0}) Self.Error → Self → Type 0 };
 
     /// What a call for a variable makes of it, by the variable's index or the refusal.
@@ -50,7 +50,7 @@ pub trait ExtendFormula {
     fn new_var(&mut self) -> Result<Var, Self::Error>
         ensures { makes_var self.old result self.new };
 
-    /// Makes a variable, and answers its positive literal.
+    /// Makes a variable, and returns its positive literal.
     fn new_lit(&mut self) -> Result<Lit, Self::Error>
         ensures { MatchResult result (λ l. (v : ℕ) × makes_var self.old (Ok v) self.new × (l ≡ literal_of v true)) (λ e. makes_var self.old (Err e) self.new) }
     {
@@ -59,7 +59,7 @@ pub trait ExtendFormula {
     }
 }
 
-/// Makes variables until the array is full, and answers them in the order of their making. At the first refusal the
+/// Makes variables until the array is full, and returns them in the order of their making. At the first refusal the
 /// variables that were made before stay.
 pub fn new_vars<F: ExtendFormula, const N: usize>(formula: &mut F) -> Result<[Var; N], F::Error>
     ensures ok { IfOk result (λ vs. FoldsTo (λ s v t. F.makes_var s (Ok v) t) formula.old vs formula.new) }
@@ -75,7 +75,7 @@ pub fn new_vars<F: ExtendFormula, const N: usize>(formula: &mut F) -> Result<[Va
     Ok(vars)
 }
 
-/// The same, and answers the positive literals.
+/// Makes variables as `new_vars` does, and returns their positive literals.
 pub fn new_lits<F: ExtendFormula, const N: usize>(formula: &mut F) -> Result<[Lit; N], F::Error>
     ensures ok { IfOk result (λ ls. (vs : List ℕ) × FoldsTo (λ s v t. F.makes_var s (Ok v) t) formula.old vs formula.new × (ls ≡ map (λ v. literal_of v true) vs)) }
     ensures err { IfErr result (λ e. (vs : List ℕ) × (s : F) × FoldsTo (λ s v t. F.makes_var s (Ok v) t) formula.old vs s × (length vs < N) × F.makes_var s (Err e) formula.new) }
@@ -91,7 +91,8 @@ pub fn new_lits<F: ExtendFormula, const N: usize>(formula: &mut F) -> Result<[Li
     Ok(lits)
 }
 
-/// A formula: a list of clauses and a count of variables. The literals of all clauses stand in one buffer.
+/// A formula: a list of clauses and a count of variables. The literals of all clauses stand in one buffer, since a
+/// million clauses of three literals would else be a million allocations.
 #[derive(Drop)]
 pub struct CnfFormula<A: Allocator + Copy> {
     var_count: usize,
@@ -100,13 +101,13 @@ pub struct CnfFormula<A: Allocator + Copy> {
 }
 
 impl<A: Allocator + Copy> Model for CnfFormula<A> {
-    ghost use Rattle.varisat_formula.specs.Formulas.{Formula, cut, Fits};
+    ghost use Rattle.varisat_formula.specs.Formulas.{Formula, cut, BuffersFit};
 
     ghost Value = { Formula };
 
     ghost view = { λ f. record { var_count = f.var_count; clauses = cut f.lengths.items f.literals.items } };
 
-    ghost invariant = { λ f. Fits f.var_count f.lengths.items f.literals.items };
+    ghost invariant = { λ f. BuffersFit f.var_count f.lengths.items f.literals.items };
 }
 
 /// The least count of variables that the literals have.
@@ -135,7 +136,7 @@ impl<A: Allocator + Copy> CnfFormula<A> {
 
     /// The formula of the clauses, in their order. Its only error is `Memory`.
     pub fn from_clauses_in(alloc: A, clauses: &[&[Lit]]) -> Result<CnfFormula<A>, FormulaError>
-        ensures formula { IfOk result (λ f. f ≡ with_clauses no_clauses (map (λ c. c.now) clauses.now)) }
+        ensures formula { IfOk result (λ f. f ≡ with_more no_clauses (map (λ c. c.now) clauses.now)) }
         ensures error { IfErr result (λ e. e ≡ Memory) }
     {
         let mut formula = CnfFormula::new_in(alloc);
@@ -178,11 +179,12 @@ impl<A: Allocator + Copy> CnfFormula<A> {
         self.var_count = self.var_count.max(count);
     }
 
-    /// Takes a clause. Where memory runs out, nothing changes.
+    /// Takes a clause. The error is `Memory`, and then nothing changes.
     pub fn add_clause(&mut self, literals: &[Lit]) -> Result<(), FormulaError>
-        ensures { MatchResult result (λ _. self.new ≡ with_clause self.old literals.now) (λ e. (e ≡ Memory) × (self.new ≡ self.old)) }
+        ensures { MatchResult result (λ _. self.new ≡ with_one_more self.old literals.now) (λ e. (e ≡ Memory) × (self.new ≡ self.old)) }
     {
         let needed = variables_of(literals);
+        // The length's room first: once the literals are in, nothing can fail.
         self.lengths.reserve(1)?;
         self.literals.extend_from_slice(literals)?;
         self.lengths.push_reserved(literals.len());
@@ -204,7 +206,7 @@ impl<A: Allocator + Copy> CnfFormula<A> {
 impl<A: Allocator + Copy> ExtendFormula for CnfFormula<A> {
     type Error = FormulaError;
 
-    ghost adds_clause = { λ f c r g. MatchResult r (λ _. g ≡ with_clause f c) (λ e. (e ≡ Memory) × (g ≡ f)) };
+    ghost adds_clause = { λ f c r g. MatchResult r (λ _. g ≡ with_one_more f c) (λ e. (e ≡ Memory) × (g ≡ f)) };
 
     ghost makes_var = { λ f r g. MatchResult r
         (λ v. (v ≡ f.var_count) × (v < 2 ^ 31) × (g ≡ record f { var_count = v + 1 }))

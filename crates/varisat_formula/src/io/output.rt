@@ -24,7 +24,7 @@ impl<W: Write + Drop> Model for IoTarget<W> {
     ghost view = { λ t. record { bytes = t.history.bytes; faults = t.faults; contents = W.contents t.writer } };
 }
 
-/// Writes until all is written or a write fails, and answers how many bytes were written.
+/// Writes until all is written or a write fails, and returns how many bytes were written.
 fn write_bytes<W: Write>(writer: &mut W, bytes: &[u8]) -> (usize, io::Result<()>)
     ensures bound { result.0 ≤ length bytes.now }
     ensures whole { OnOk result.1 (result.0 ≡ length bytes.now) }
@@ -70,9 +70,7 @@ impl<W: Write + Drop> IoTarget<W> {
 }
 
 impl<W: Write + Drop> ProofTarget for IoTarget<W> {
-    ghost written = { λ t. t.bytes };
-
-    ghost fault_count = { λ t. t.faults };
+    ghost taken = { λ t. record { bytes = t.bytes; faults = t.faults } };
 
     /// What the writer holds, where that is known, grows by the bytes that are taken.
     fn put(&mut self, bytes: &[u8]) -> io::Result<()>
@@ -83,11 +81,11 @@ impl<W: Write + Drop> ProofTarget for IoTarget<W> {
         ensures fault { OnErr result (self.new.faults ≡ self.old.faults + 1) }
         ensures writes { (n : ℕ) × (self.new.bytes ≡ self.old.bytes ++ take n bytes.now) × Appends self.old.contents self.new.contents (take n bytes.now) }
     {
-        let (done, answer) = write_bytes(&mut self.writer, bytes);
+        let (done, outcome) = write_bytes(&mut self.writer, bytes);
         self.history = self.history.then(&Part {
             bytes: &bytes[..done],
         });
-        match answer {
+        match outcome {
             Ok(()) => Ok(()),
             Err(error) => {
                 self.faults += 1;

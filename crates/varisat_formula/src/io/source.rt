@@ -1,7 +1,7 @@
 //! Where bytes are read from.
-ghost use Rattle.std.specs.Prelude.{◌≡◌, ℕ, List, [], Option, ◌+◌, ◌-◌, ◌<◌, ◌≤◌, ◌^◌, min, length, OnOk, OnErr, IfOk};
+ghost use Rattle.std.specs.Prelude.{◌≡◌, ℕ, List, [], Option, Some, ◌+◌, ◌-◌, ◌<◌, ◌≤◌, ◌^◌, min, length, false, OnOk, OnErr, IfOk};
 ghost use Rattle.std.specs.Io.KnownBytes.{ReadConsumes};
-ghost use Rattle.varisat_formula.specs.Streams.{Gives};
+ghost use Rattle.varisat_formula.specs.Streams.{Stand, FillsFrom, ended_after, Reads, HasEnded};
 
 use crate::io::history::{History, Part};
 use std::io;
@@ -10,34 +10,31 @@ use std::marker::Model;
 
 /// Gives bytes in pieces, and counts its faults.
 pub trait ByteSource: Drop {
-    /// The bytes that it gave so far.
-    ghost given: { Self → List ℕ };
+    /// The bytes that it gave and those that are left, the pieces that may come, the faults, and whether it told its end.
+    ghost stand: { Self → Stand };
 
-    /// The bytes that are left, where they are known.
-    ghost left: { Self → Option (List ℕ) };
-
-    /// How many pieces may still come.
-    ghost pieces_left: { Self → ℕ };
-
-    /// How many faults there were.
-    ghost fault_count: { Self → ℕ };
-
-    /// Writes the next bytes into the buffer from its front on, and answers how many: 0 for a buffer that is not empty is
+    /// Writes the next bytes into the buffer from its front on, and returns how many: 0 for a buffer that is not empty is
     /// the end.
     fn fill(&mut self, buffer: &mut [u8]) -> io::Result<usize>
-        requires { fault_count self.old < 2 ^ 64 - 1 }
+        requires { (stand self.old).faults < 2 ^ 64 - 1 }
         ensures bound { IfOk result (λ n. n ≤ length buffer.new) }
-        ensures bytes { ReadConsumes (left self.old) (left self.new) result buffer.new }
-        ensures gives { Gives (given self.old) (given self.new) result buffer.new }
-        ensures pieces { IfOk result (λ n. 0 < n → pieces_left self.new < pieces_left self.old) }
-        ensures no_more { pieces_left self.new ≤ pieces_left self.old }
-        ensures quiet { OnOk result (fault_count self.new ≡ fault_count self.old) }
-        ensures fault { OnErr result (fault_count self.new ≡ fault_count self.old + 1) };
+        ensures bytes { ReadConsumes (stand self.old).left (stand self.new).left result buffer.new }
+        ensures gives { FillsFrom (stand self.old).given (stand self.new).given result buffer.new }
+        ensures ends { (stand self.new).ended ≡ ended_after (stand self.old).ended result buffer.new }
+        ensures pieces { IfOk result (λ n. 0 < n → (stand self.new).pieces < (stand self.old).pieces) }
+        ensures no_more { (stand self.new).pieces ≤ (stand self.old).pieces }
+        ensures quiet { OnOk result ((stand self.new).faults ≡ (stand self.old).faults) }
+        ensures fault { OnErr result ((stand self.new).faults ≡ (stand self.old).faults + 1) };
 
-    /// How many calls answered Err.
+    /// How many calls returned Err.
     fn faults(&self) -> u64
-        ensures { result ≡ fault_count self.now };
+        ensures { result ≡ (stand self.now).faults };
 }
+
+/// A law for proofs: what a source over known bytes gave until it told its end is all of them.
+pub fn known_bytes_are_read()
+    ensures { (s t : Stand) (text known : List ℕ) → s.left ≡ Some known → Reads s text t → HasEnded t → text ≡ known }
+{}
 
 /// A source over a reader. A read that fails, also one that is interrupted, is a fault, and so is each call after
 /// 2^64-1 pieces.
@@ -47,46 +44,50 @@ pub struct ReadSource<R: Read + Drop> {
     history: History,
     pieces: u64,
     faults: u64,
+    ended: bool,
 }
 
 impl<R: Read + Drop> Model for ReadSource<R> {
-    ghost use Rattle.varisat_formula.specs.Streams.{Source};
+    ghost use Rattle.varisat_formula.specs.Streams.{Stand};
 
-    ghost Value = { Source };
+    ghost Value = { Stand };
 
-    ghost view = { λ s. record { given = s.history.bytes; left = R.remaining s.reader; pieces = s.pieces; faults = s.faults } };
+    ghost view = { λ s. record { given = s.history.bytes; left = R.remaining s.reader; pieces = s.pieces; faults = s.faults; ended = s.ended } };
 }
 
 impl<R: Read + Drop> ReadSource<R> {
     /// The source of what the reader still has. It takes no memory.
     pub fn new(reader: R) -> ReadSource<R>
-        ensures { result ≡ record { given = []; left = R.remaining reader; pieces = 2 ^ 64 - 1; faults = 0 } }
+        ensures { result ≡ record { given = []; left = R.remaining reader; pieces = 2 ^ 64 - 1; faults = 0; ended = false } }
     {
         ReadSource {
             reader,
             history: History::new(),
             pieces: u64::MAX,
             faults: 0,
+            ended: false,
         }
+    }
+
+    /// Whether the reader's end was told, and no byte came since.
+    pub fn has_ended(&self) -> bool
+        ensures { result ≡ self.now.ended }
+    {
+        self.ended
     }
 }
 
 impl<R: Read + Drop> ByteSource for ReadSource<R> {
-    ghost given = { λ s. s.given };
+    ghost stand = { λ s. s };
 
-    ghost left = { λ s. s.left };
-
-    ghost pieces_left = { λ s. s.pieces };
-
-    ghost fault_count = { λ s. s.faults };
-
-    /// A piece that has bytes lowers the pieces left by one, and no other answer changes them. With none left the answer is
+    /// A piece that has bytes lowers the pieces left by one, and no other call changes them. With none left the call returns
     /// Err.
     fn fill(&mut self, buffer: &mut [u8]) -> io::Result<usize>
         requires { self.old.faults < 2 ^ 64 - 1 }
         ensures bound { IfOk result (λ n. n ≤ length buffer.new) }
         ensures bytes { ReadConsumes self.old.left self.new.left result buffer.new }
-        ensures gives { Gives self.old.given self.new.given result buffer.new }
+        ensures gives { FillsFrom self.old.given self.new.given result buffer.new }
+        ensures ends { self.new.ended ≡ ended_after self.old.ended result buffer.new }
         ensures pieces { IfOk result (λ n. 0 < n → self.new.pieces < self.old.pieces) }
         ensures no_more { self.new.pieces ≤ self.old.pieces }
         ensures counts { IfOk result (λ n. self.new.pieces + min n 1 ≡ self.old.pieces) }
@@ -104,8 +105,12 @@ impl<R: Read + Drop> ByteSource for ReadSource<R> {
                 self.history = self.history.then(&Part {
                     bytes: &buffer[..count],
                 });
+                // A terminal may go on behind its end, so bytes take the end back.
                 if count > 0 {
                     self.pieces -= 1;
+                    self.ended = false;
+                } else if !buffer.is_empty() {
+                    self.ended = true;
                 }
                 Ok(count)
             }

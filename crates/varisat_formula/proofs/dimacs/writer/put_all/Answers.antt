@@ -1,5 +1,5 @@
 use Rattle.std.proofs.Common.{take, drop, suc, flat_map, ◌∙◌, ap, ◌+◌}
-use Rattle.varisat_formula.proofs.Putting.{begun_part, parts_split}
+use Rattle.varisat_formula.proofs.TargetParts.{begun_part, parts_split}
 use Rattle.varisat_formula.proofs.dimacs.writer.put_all.Goals as goal
 
 pub returns-in-Err : goal.returns-in-Err

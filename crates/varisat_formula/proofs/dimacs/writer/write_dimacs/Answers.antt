@@ -1,7 +1,7 @@
 use Rattle.std.proofs.Common.{◌∷◌, [], ◌++◌}
-use Rattle.varisat_formula.specs.Written.{literals_text, clauses_text}
-use Rattle.varisat_formula.proofs.Back.{reads_back}
-use Rattle.varisat_formula.proofs.Putting.{header_begun, begun_part, clause_parts}
+use Rattle.varisat_formula.specs.Written.{spaced_literals, clauses_text}
+use Rattle.varisat_formula.proofs.WrittenTexts.{reads_back}
+use Rattle.varisat_formula.proofs.TargetParts.{header_begun, begun_part, clause_parts}
 use Rattle.varisat_formula.proofs.dimacs.writer.write_dimacs.Goals as goal
 
 pub returns-in-Err-clause-begun : goal.returns-in-Err-clause-begun
@@ -14,7 +14,7 @@ returns-in-Err-clause-read_back g c = λ h. reads_back c.args.formula.now h c.le
 pub returns-in-Err-write_clause-clause-begun : goal.returns-in-Err-write_clause-clause-begun
 returns-in-Err-write_clause-clause-begun g c =
     let v = c.loop-clause.invariant in
-    begun_part _ _ _ v.0 (literals_text c.in-Some.clause.now ++ 48 ∷ 10 ∷ []) (clauses_text c.next.new.self) _ c.in-Err-write_clause.ensures.0.0 v.1 c.in-Err-write_clause.ensures.0.1
+    begun_part _ _ _ v.0 (spaced_literals c.in-Some.clause.now ++ 48 ∷ 10 ∷ []) (clauses_text c.next.new.self) _ c.in-Err-write_clause.ensures.0.0 v.1 c.in-Err-write_clause.ensures.0.1
     (clause_parts c.in-Some.clause.now v.0 _ c.next.new.self c.loop-clause.clause-iterator c.in-Some.ensures.steps v.2)
 
 pub returns-in-Err-write_clause-clause-read_back : goal.returns-in-Err-write_clause-clause-read_back

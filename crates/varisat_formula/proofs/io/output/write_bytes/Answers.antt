@@ -1,5 +1,5 @@
 use Rattle.std.proofs.Common.{arith}
-use Rattle.varisat_formula.proofs.Known.{rest_bound, wrote_more, wrote_none}
+use Rattle.varisat_formula.proofs.WriterBytes.{rest_bound, wrote_more, wrote_none}
 use Rattle.varisat_formula.proofs.io.output.write_bytes.Goals as goal
 use Rattle.varisat_formula.proofs.io.output.write_bytes.Goals.{in-Ok, in-Err+else-ne}
 

@@ -3,7 +3,7 @@ use Rattle.varisat_formula.specs.declared.dimacs.parser.Place.{Place}
 use Rattle.varisat_formula.specs.declared.dimacs.parser.Place.TheVariants.{Header, Plain}
 use Rattle.varisat_formula.specs.Rest.{Progress, word_items}
 use Rattle.varisat_formula.specs.Dimacs.{read}
-use Rattle.varisat_formula.proofs.Steps.{reads_byte, start_more, header_more, plain_blank, plain_more}
+use Rattle.varisat_formula.proofs.ParserProgress.{reads_byte, start_more, header_more, plain_blank, plain_more}
 use Rattle.varisat_formula.proofs.dimacs.parser.DimacsParser.add.Goals as goal
 
 pub returns-in-Start-clause-ok : goal.returns-in-Start-clause-ok

@@ -1,4 +1,4 @@
-use Rattle.varisat_formula.proofs.Steps.{reads_line_feed}
+use Rattle.varisat_formula.proofs.ParserProgress.{reads_line_feed}
 use Rattle.varisat_formula.proofs.dimacs.parser.DimacsParser.byte.Goals as goal
 
 pub returns-in_ok-end_line-clause-ok : goal.returns-in_ok-end_line-clause-ok

@@ -1,5 +1,5 @@
 use Rattle.std.proofs.Common.{Ok, sym, ap, refl, ◌∙◌}
-use Rattle.varisat_formula.proofs.Parsing.{read_more, fault_told, formula_told, end_told}
+use Rattle.varisat_formula.proofs.ParsedSources.{read_more, fault_told, formula_told, end_told}
 use Rattle.varisat_formula.proofs.dimacs.parser.DimacsParser.parse.Goals as goal
 
 pub pieces-preserved : goal.pieces-preserved

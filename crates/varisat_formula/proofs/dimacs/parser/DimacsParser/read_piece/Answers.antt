@@ -1,6 +1,6 @@
 use Rattle.std.proofs.Common.{sym, inl, inr}
-use Rattle.varisat_formula.proofs.Kept.{ran_out_in}
-use Rattle.varisat_formula.proofs.Steps.{stopped}
+use Rattle.varisat_formula.proofs.ParserMemory.{ran_out_in}
+use Rattle.varisat_formula.proofs.ParserProgress.{stopped}
 use Rattle.varisat_formula.proofs.dimacs.parser.DimacsParser.read_piece.Goals as goal
 
 pub returns-in-Err-clause-reads : goal.returns-in-Err-clause-reads

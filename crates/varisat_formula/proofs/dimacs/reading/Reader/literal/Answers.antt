@@ -1,6 +1,6 @@
 use Rattle.std.proofs.Common.{◌+◌, ◌∙◌, ap, max, subst, ◌≤◌, sym}
 use Rattle.varisat_formula.specs.Formulas.{variables_of}
-use Rattle.varisat_formula.proofs.Buffers.{variables_push}
+use Rattle.varisat_formula.proofs.FormulaBuffers.{variables_push}
 use Rattle.varisat_formula.proofs.dimacs.reading.Reader.literal.Goals as goal
 
 pub invariant_of-self : goal.invariant_of-self

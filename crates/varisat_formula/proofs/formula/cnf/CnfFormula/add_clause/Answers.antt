@@ -1,5 +1,5 @@
 use Rattle.std.proofs.Common.{◌∷◌, [], ◌++◌, length, ap, ◌∙◌, refl, ℕ, ◌≡◌, ◌≤◌, ◌^◌, max, arith}
-use Rattle.varisat_formula.proofs.Buffers.{fits_append, clause_added}
+use Rattle.varisat_formula.proofs.FormulaBuffers.{fits_append, clause_added}
 use Rattle.varisat_formula.proofs.formula.cnf.CnfFormula.add_clause.Goals as goal
 
 small : (n m : ℕ) → n ≡ m → n ≤ 2 ^ 31 → m ≤ 2 ^ 31

@@ -1,6 +1,6 @@
 use Rattle.std.proofs.Common.{refl}
 use Rattle.varisat_formula.specs.Formulas.{no_clauses}
-use Rattle.varisat_formula.proofs.Buffers.{clauses_step}
+use Rattle.varisat_formula.proofs.FormulaBuffers.{clauses_step}
 use Rattle.varisat_formula.proofs.formula.cnf.CnfFormula.from_clauses_in.Goals as goal
 
 pub loop-clause-preserved : goal.loop-clause-preserved

@@ -1,5 +1,5 @@
 use Rattle.std.proofs.Common.{◌∙◌, ap, ◌==◌, length}
-use Rattle.varisat_formula.proofs.Buffers.{cut_empty}
+use Rattle.varisat_formula.proofs.FormulaBuffers.{cut_empty}
 use Rattle.varisat_formula.proofs.formula.cnf.CnfFormula.is_empty.Goals as goal
 
 pub returns : goal.returns

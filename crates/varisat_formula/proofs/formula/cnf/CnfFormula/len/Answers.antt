@@ -1,5 +1,5 @@
 use Rattle.std.proofs.Common.{◌∙◌, ◌<◌, ◌^◌, ap, length, arith}
-use Rattle.varisat_formula.proofs.Buffers.{length-cut}
+use Rattle.varisat_formula.proofs.FormulaBuffers.{length-cut}
 use Rattle.varisat_formula.proofs.formula.cnf.CnfFormula.len.Goals as goal
 
 pub returns-clause-count : goal.returns-clause-count

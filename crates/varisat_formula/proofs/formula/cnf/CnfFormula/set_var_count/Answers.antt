@@ -1,5 +1,5 @@
 use Rattle.std.proofs.Common.{arith}
-use Rattle.varisat_formula.proofs.Buffers.{fits_more}
+use Rattle.varisat_formula.proofs.FormulaBuffers.{fits_more}
 use Rattle.varisat_formula.proofs.formula.cnf.CnfFormula.set_var_count.Goals as goal
 
 pub invariant_of-self : goal.invariant_of-self

@@ -1,4 +1,4 @@
-use Rattle.varisat_formula.proofs.Buffers.{below_cut}
+use Rattle.varisat_formula.proofs.FormulaBuffers.{below_cut}
 use Rattle.varisat_formula.proofs.formula.cnf.CnfFormula.var_count.Goals as goal
 
 pub returns-clause-below : goal.returns-clause-below

@@ -1,6 +1,6 @@
 use Rattle.std.proofs.Common.{ap, ◌∙◌, not, ◌==◌}
 use Rattle.std.specs.Cmp.Lexicographic.{pointwise}
-use Rattle.varisat_formula.proofs.Buffers.{lengths_differ, literals_compared}
+use Rattle.varisat_formula.proofs.FormulaBuffers.{lengths_differ, literals_compared}
 use Rattle.varisat_formula.proofs.formula.cnf.CnfFormulaPartialEq.eq.Goals as goal
 
 pub returns-then-ne : goal.returns-then-ne

@@ -23,7 +23,7 @@ use denote.Triple.Entry.{alive}
 use denote.Triple.Spec.{Meets, triple_of}
 use denote.Triple.Table.{entered}
 use denote.Triple.Walked.{says, Stays, walk_of, ends_at, walk_Meets}
-use Rattle.varisat_formula.proofs.Walks.{none, none_made}
+use Rattle.varisat_formula.proofs.HistoryWalks.{none, none_made}
 use Rattle.varisat_formula.specs.contracts.io.history.History as History
 use Rattle.varisat_formula.specs.contracts.io.history.History.new as F
 use Rattle.varisat_formula.specs.contracts.io.history.History.new.Key.{name as #self}

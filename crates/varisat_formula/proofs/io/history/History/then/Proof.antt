@@ -25,7 +25,7 @@ use denote.Triple.Entry.{alive}
 use denote.Triple.Spec.{Meets, triple_of}
 use denote.Triple.Table.{entered}
 use denote.Triple.Walked.{says, Stays, stay_dropped, walk_of, ends_at, walk_Meets, Goes-dropped}
-use Rattle.varisat_formula.proofs.Walks.{none, none_made}
+use Rattle.varisat_formula.proofs.HistoryWalks.{none, none_made}
 use Rattle.varisat_formula.specs.contracts.io.history.History as History
 use Rattle.varisat_formula.specs.contracts.io.history.Part as Part
 use Rattle.varisat_formula.specs.contracts.io.history.History.then as F

@@ -1,20 +1,21 @@
 -- A text that a new solver takes in, and what is found then.
-use Rattle.std.proofs.Common.{◌≡◌, ◌≢◌, ℕ, Bool, true, false, List, [], ◌∷◌, ◌++◌, ◌⊎◌, inl, inr, sym, ap, ◌∙◌, subst, refl, Option, Some, None, Result, Ok, Err, Vec, append_assoc, append-nil}
+use Rattle.std.proofs.Common.{◌≡◌, ◌≢◌, ℕ, Bool, true, false, List, [], ◌∷◌, ◌++◌, ◌⊎◌, inl, inr, sym, ap, ◌∙◌, subst, refl, Option, Some, None, Result, Ok, Err, Vec, append_assoc, append-nil, arith}
+use Rattle.std.proofs.lemmas.List.{append_cancel_left}
 use Rattle.std.specs.declared.alloc.AllocError.{AllocError}
 use Rattle.varisat_theory.specs.Literals.{Literal, Clause, variable_of, MakesTrue, SatisfiesAll, IsSatisfiable}
 use Rattle.varisat_theory.proofs.Assigned.{satisfies_fewer}
 use Rattle.varisat_formula.specs.declared.dimacs.error.DimacsErrorKind.{DimacsErrorKind}
 use Rattle.varisat_formula.specs.declared.dimacs.error.DimacsError.{DimacsError}
 use Rattle.varisat_formula.specs.Dimacs.{Reading, nothing, items, read, lines, last_line, BreaksOff, close_by, dimacs, broken}
-use Rattle.varisat_formula.specs.Parsed.{Stand}
+use Rattle.varisat_formula.specs.Streams.{Stand, HasEnded}
 use Rattle.varisat.specs.States.{State, empty_state}
 use Rattle.varisat.specs.Calls as state
 use Rattle.varisat.specs.Additions as additions
-use Rattle.varisat.specs.Additions.{Gave, HasEnded, NoFault, MemoryFault, Fault, ClauseRefused, ClausesAdded, RefusedEarly, FaultInText, Whole, MemoryRanOut, SourceFailed, Read, Unread}
+use Rattle.varisat.specs.Additions.{Gave, NoFault, MemoryFault, Fault, ClauseRefused, ClausesAdded, RefusedEarly, FaultInText, Whole, MemoryRanOut, SourceFailed, Read, Unread}
 use Rattle.varisat.specs.Pasts as past
 use Rattle.varisat.specs.Pasts.{Past, empty_past, accept, accept_all, IsModel}
 use Rattle.varisat.specs.Told.{told_model}
-use Rattle.varisat.specs.Decided.{listed, Decides}
+use Rattle.varisat.specs.Decided.{listed, Decides, IsOutcome, StatusIsTrue, outcome_status, fault_status}
 use Rattle.varisat.specs.declared.solver.SolverError.{SolverError}
 use Rattle.varisat.proofs.Pasts.{Agrees, none-true, add-text, solve, tell-model, empty-agrees}
 
@@ -113,3 +114,28 @@ pub outcome-told : {A : Type 0} (old new : Stand) (t u v : State) (added : Resul
     state.AddsDimacs empty_state old added new t → added ≡ done → state.Solves t found u → found ≡ Ok true → state.TellsModel u (told_model told) v → told ≡ Ok m → Decides old new (listed m)
 outcome-told old new t u v added found told m a x b y d z =
     decided-told old new t u v m (subst (λ r. state.AddsDimacs empty_state old r new t) x a) (subst (λ r. state.Solves t r u) y b) (subst (λ r. state.TellsModel u (told_model r) v) z d)
+
+-- The status.
+
+clauses-accepted : (P : List Clause) (p : Past) → (accept_all P p).clauses ≡ p.clauses ++ P
+clauses-accepted [] p = sym (append-nil p.clauses)
+clauses-accepted (c ∷ P) p = clauses-accepted P (accept c p) ∙ append_assoc p.clauses (c ∷ []) P
+
+pub outcome-is-true : (old new : Stand) (outcome : Option (List Literal)) (status : ℕ) → Decides old new outcome → status ≡ outcome_status outcome → StatusIsTrue old new status
+outcome-is-true old new outcome status d e = record {
+  ended = λ n. d.ended.told;
+  fine = λ text g n. subst (λ x. (dimacs x).fault ≡ None) (same text g) d.fine;
+  satisfiable = λ text g t. subst (λ x. IsSatisfiable (dimacs x).clauses) (same text g) (found outcome (sym e ∙ t) d.found);
+  unsatisfiable = λ text g t. subst (λ x. IsSatisfiable (dimacs x).clauses → ⊥) (same text g) (none outcome (sym e ∙ t) d.found);
+}
+  where
+    same : (text : List ℕ) → new.given ≡ old.given ++ text → d.read.text ≡ text
+    same text g = append_cancel_left old.given d.read.text text (sym d.read.reads.gave ∙ g)
+
+    found : (o : Option (List Literal)) → outcome_status o ≡ 10 → IsOutcome (dimacs d.read.text).clauses o → IsSatisfiable (dimacs d.read.text).clauses
+    found None h k = absurd (omega (arith, h))
+    found (Some m) h k = (k.assignment, subst (SatisfiesAll k.assignment) (clauses-accepted (dimacs d.read.text).clauses empty_past) k.satisfies)
+
+    none : (o : Option (List Literal)) → outcome_status o ≡ 20 → IsOutcome (dimacs d.read.text).clauses o → IsSatisfiable (dimacs d.read.text).clauses → ⊥
+    none None h k = k
+    none (Some m) h k = absurd (omega (arith, h))

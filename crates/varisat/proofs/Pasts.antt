@@ -8,7 +8,7 @@ use Rattle.varisat_theory.proofs.Assigned.{satisfies_fewer}
 use Rattle.varisat_search.proofs.Finding.{variable-literal}
 use Rattle.varisat_formula.specs.declared.dimacs.error.DimacsError.{DimacsError}
 use Rattle.varisat_formula.specs.Dimacs.{Reading}
-use Rattle.varisat_formula.specs.Parsed.{Stand}
+use Rattle.varisat_formula.specs.Streams.{Stand}
 use Rattle.varisat.specs.States.{State, Verdict, Unknown, Sat, Unsat, empty_state, IsRight, HasRightVerdict}
 use Rattle.varisat.specs.Names.{name_one, name_all, through_names, AreInOrder}
 use Rattle.varisat.specs.Models.{list_names, model_of}

@@ -1,6 +1,6 @@
 -- Runs that go on.
-use Rattle.std.proofs.Common.{ℕ, List, [], ◌∷◌, ◌++◌, refl, subst}
-use Rattle.varisat_formula.specs.Parsed.{Stand}
+use Rattle.std.proofs.Common.{List, [], ◌∷◌, ◌++◌, refl, subst}
+use Rattle.varisat_formula.specs.Streams.{Stand}
 use Rattle.varisat.specs.States.{State}
 use Rattle.varisat.specs.Runs.{MakesCall, Run, IsReadable, AreReadable}
 use Rattle.varisat.specs.declared.session.Call.{Call}
@@ -14,6 +14,6 @@ run-push seen s t u (d ∷ calls) [] c a r g = absurd r
 run-push seen s t u (d ∷ calls) (b ∷ answers) c a r g = (r.0, r.1, run-push seen r.0 t u calls answers c a r.2 g)
 
 -- the sources of calls that go on can be read
-pub readable-next : {S A : Type 0} (faults : S → ℕ) (before after : List (Call S A)) (c : Call S A) → AreReadable faults (before ++ c ∷ after) → IsReadable faults c
-readable-next faults [] after c r = r.0
-readable-next faults (b ∷ before) after c r = readable-next faults before after c r.1
+pub readable-next : {S A : Type 0} (seen : S → Stand) (before after : List (Call S A)) (c : Call S A) → AreReadable seen (before ++ c ∷ after) → IsReadable seen c
+readable-next seen [] after c r = r.0
+readable-next seen (b ∷ before) after c r = readable-next seen before after c r.1

@@ -1,18 +1,19 @@
 -- Texts whose clauses are added, piece by piece.
-use Rattle.std.proofs.Common.{◌≡◌, ℕ, ◌+◌, List, [], ◌++◌, ◌⊎◌, inl, inr, Bool, false, Option, Some, None, Result, Ok, Err, take, drop, refl, sym, ap, subst, ◌∙◌, append_assoc, append-nil, take-append-drop}
-use Rattle.std.specs.Io.KnownBytes.{Consumes}
+use Rattle.std.proofs.Common.{◌≡◌, ℕ, ◌+◌, List, [], ◌++◌, ◌⊎◌, inl, inr, Bool, false, Option, Some, None, Result, Ok, Err, take, drop, refl, sym, ap, subst, ◌∙◌, append_assoc, append-nil, take-append-drop, arith}
 use Rattle.varisat_theory.specs.Literals.{Clause}
 use Rattle.varisat_formula.specs.declared.dimacs.error.DimacsError.{DimacsError}
 use Rattle.varisat_formula.specs.declared.dimacs.error.DimacsErrorKind.TheVariants as kind
 use Rattle.varisat_formula.specs.Formulas.{Formula}
 use Rattle.varisat_formula.specs.Dimacs.{Reading, Ending, Ends, BreaksOff, gives, dimacs, broken}
-use Rattle.varisat_formula.specs.Rest.{Progress, begin, gives_from, dimacs_from, Follows, RunsOut, with_front}
-use Rattle.varisat_formula.specs.Parsed.{Stand, Breaks, TakesPiece}
-use Rattle.varisat_formula.proofs.Steps.{begin_gives, gives_failed}
-use Rattle.varisat_formula.proofs.Parsing.{consumes_self, consumes_more}
+use Rattle.varisat_formula.specs.Rest.{Progress, begin, gives_from, dimacs_from, AdvancesBy, RunsOut, with_front}
+use Rattle.varisat_formula.specs.Streams.{Stand, Reads, HasEnded}
+use Rattle.varisat_formula.specs.Parsed as fault
+use Rattle.varisat_formula.specs.Parsed.{EndsInFault, TakesPiece}
+use Rattle.varisat_formula.proofs.ParserProgress.{begin_gives, gives_failed}
+use Rattle.varisat_formula.proofs.ParsedSources.{reads_none, reads_more}
 use Rattle.varisat.specs.States.{State}
 use Rattle.varisat.specs.Additions as additions
-use Rattle.varisat.specs.Additions.{Gave, HasEnded, ClauseRefused, ClausesAdded, RefusedEarly, FaultInText, Whole, MemoryRanOut, SourceFailed}
+use Rattle.varisat.specs.Additions.{Gave, ClauseRefused, ClausesAdded, RefusedEarly, FaultInText, Whole, MemoryRanOut, SourceFailed}
 use Rattle.varisat.specs.Calls.{is_valid, Invalidates, AddsClause, AddsAll, TellsFault}
 use Rattle.varisat.specs.declared.solver.SolverError.{SolverError}
 use Rattle.varisat.proofs.Additions.{adds-more, adds-longer}
@@ -33,7 +34,7 @@ pub record ReadSo (s t : Stand) (q : Progress) (front : List Clause) : Type 0 wh
 
 pub read-nothing : (s : Stand) (q : Progress) → q ≡ begin → ReadSo s s q []
 read-nothing s q e = record {
-  read = record { text = []; given = sym (append-nil s.given); consumed = consumes_self s.left };
+  read = record { text = []; reads = reads_none s };
   same = λ ending rest. sym (begin_gives ending rest) ∙ ap (λ x. gives_from ending x rest) (sym e);
   open_still = ap (λ x. x.over) e;
   fine = ap (λ x. x.reading.fault) e;
@@ -47,7 +48,7 @@ pub record Took (p : Progress) (clauses : List Clause) (q : Progress) : Type 0 w
   pub same_over : q.over ≡ p.over
   pub same_fault : q.reading.fault ≡ p.reading.fault
 
-piece-same : (a b : Stand) (q p : Progress) (front : List Clause) (piece : List ℕ) (w : ReadSo a b q front) → Follows q piece p → (ending : Ending) (rest : List ℕ) →
+piece-same : (a b : Stand) (q p : Progress) (front : List Clause) (piece : List ℕ) (w : ReadSo a b q front) → AdvancesBy q piece p → (ending : Ending) (rest : List ℕ) →
     gives ending ((w.read.text ++ piece) ++ rest) ≡ with_front front (gives_from ending p rest)
 piece-same a b q p front piece w f ending rest =
     ap (λ x. gives ending x) (append_assoc w.read.text piece rest) ∙ w.same ending (piece ++ rest) ∙ ap (λ x. with_front front x) (sym (f.same ending rest))
@@ -56,18 +57,14 @@ fronts-join : (xs ys : List Clause) (r : Reading) → with_front xs (with_front 
 fronts-join xs ys r = ap (λ cs. record r { clauses = cs }) (sym (append_assoc xs ys r.clauses))
 
 -- a piece behind what was read
-abbrev pub gave-more : (a b d : Stand) → Gave a b → (piece : List ℕ) → d.given ≡ b.given ++ piece → Consumes b.left d.left piece → Gave a d
-gave-more a b d w piece e l = record {
-  text = w.text ++ piece;
-  given = e ∙ ap (λ z. z ++ piece) w.given ∙ append_assoc a.given w.text piece;
-  consumed = consumes_more a.left b.left d.left w.text piece w.consumed l;
-}
+abbrev pub gave-more : (a b d : Stand) → Gave a b → (piece : List ℕ) → Reads b piece d → Gave a d
+gave-more a b d w piece k = record { text = w.text ++ piece; reads = reads_more a b d w.text piece w.reads k }
 
 pub read-more : (a b d : Stand) (q p o : Progress) (front clauses : List Clause) (more : Bool) (r : Result Bool DimacsError) → ReadSo a b q front → TakesPiece b q r d p → r ≡ Ok more → p.over ≡ q.over → Took p clauses o → ReadSo a d o (front ++ clauses)
 read-more a b d q p o front clauses more r w k e v t =
     let g = k.good more e in
     record {
-      read = gave-more a b d w.read k.piece k.gave k.consumed;
+      read = gave-more a b d w.read k.piece k.reads;
       same = λ ending rest. piece-same a b q p front k.piece w g.0 ending rest ∙ ap (λ x. with_front front x) (t.later ending rest) ∙ fronts-join front clauses (gives_from ending o rest);
       open_still = t.same_over ∙ v ∙ w.open_still;
       fine = t.same_fault ∙ g.1;
@@ -81,7 +78,7 @@ joined s mid t front R X r a (ClausesAdded u b w) g = subst (λ R. AddsReading s
 
 -- what was read with one more piece
 abbrev pub with-piece : (a b d : Stand) (q p : Progress) (front : List Clause) (out : Result Bool DimacsError) → ReadSo a b q front → TakesPiece b q out d p → Gave a d
-with-piece a b d q p front out w k = gave-more a b d w.read k.piece k.gave k.consumed
+with-piece a b d q p front out w k = gave-more a b d w.read k.piece k.reads
 
 -- one of the clauses of a piece was refused
 text-refused : (s mid t : State) (a b d : Stand) (q p o : Progress) (front clauses : List Clause) (more : Bool) (e : SolverError) →
@@ -98,24 +95,24 @@ text-refused s mid t a b d q p o front clauses more e w k h x y =
 -- the text or the source has a fault
 pub text-broken : (s mid t : State) (a b d : Stand) (q p : Progress) (front : List Clause) (x : DimacsError) (out : Result Bool DimacsError) (r : Result (Unit {0}) SolverError) →
     (w : ReadSo a b q front) → (k : TakesPiece b q out d p) → out ≡ Err x → AddsAll s front (Ok tt) mid → AddsReading mid p.reading r t → AddsGiven (with-piece a b d q p front out w k) s r t
-text-broken s mid t a b d q p front x out r w k is y z = why (k.bad x is)
+text-broken s mid t a b d q p front x out r w k is y z = why (k.bad x is).0 (k.bad x is).1 (k.bad x is).2
   where
-    why : Breaks q k.piece x p b d → AddsGiven (with-piece a b d q p front out w k) s r t
-    why (inl (inl f, h, n)) =
+    why : (rise : ℕ) → EndsInFault q k.piece p x rise → d.faults ≡ b.faults + rise → AddsGiven (with-piece a b d q p front out w k) s r t
+    why rise (fault.PieceHasFault f h m) n =
         FaultInText (with_front front p.reading)
         (λ rest. piece-same a b q p front k.piece w f Ends rest ∙ ap (λ v. with_front front v) (gives_failed Ends p x h rest))
         (λ e. let v : Some x ≡ None = sym h ∙ e in cc)
-        (joined s mid t front (with_front front p.reading) p.reading r y z refl) (n ∙ w.quiet)
-    why (inl (inr o, h, n)) =
+        (joined s mid t front (with_front front p.reading) p.reading r y z refl) (let u = w.quiet in omega (arith, n, m, u))
+    why rise (fault.PieceWantsRoom o h m) n =
         MemoryRanOut (w.read.text ++ take o.at k.piece) (drop o.at k.piece)
         (append_assoc w.read.text (take o.at k.piece) (drop o.at k.piece) ∙ ap (λ v. w.read.text ++ v) (take-append-drop o.at k.piece))
         (joined s mid t front (broken kind.OutOfMemory (w.read.text ++ take o.at k.piece)) p.reading r y z (w.same (BreaksOff kind.OutOfMemory) (take o.at k.piece) ∙ ap (λ v. with_front front v) (sym o.out.reading)))
-        (n ∙ w.quiet)
-    why (inr (g, h, n, f)) =
+        (let u = w.quiet in omega (arith, n, m, u))
+    why rise (fault.SourceFailed g h e m) n =
         SourceFailed
         (joined s mid t front (broken kind.Io (w.read.text ++ k.piece)) p.reading r y z
-        (ap (λ v. broken kind.Io (w.read.text ++ v)) n ∙ w.same (BreaksOff kind.Io) [] ∙ ap (λ v. with_front front v) (sym g)))
-        (f ∙ ap (λ n. n + 1) w.quiet)
+        (ap (λ v. broken kind.Io (w.read.text ++ v)) e ∙ w.same (BreaksOff kind.Io) [] ∙ ap (λ v. with_front front v) (sym g)))
+        (let u = w.quiet in omega (arith, n, m, u))
 
 -- a clause was refused that ended in a piece, also where the piece has a fault behind it
 pub piece-refused : (s mid t : State) (a b d : Stand) (q p o : Progress) (front clauses : List Clause) (r : Result Bool DimacsError) (e : SolverError) →

@@ -1,23 +1,17 @@
 -- Clauses that are added in turn, from lists and from DIMACS CNF texts, where it is known how one clause is.
 use Rattle.std.specs.Prelude.{◌≡◌, ◌≢◌, ℕ, ◌+◌, Bool, true, false, List, [], ◌∷◌, ◌++◌, ◌⊎◌, Option, Some, None, Result, Ok, Err}
-use Rattle.std.specs.Io.KnownBytes.{Consumes, IsAtEnd}
 use Rattle.varisat_theory.specs.Literals.{Clause}
 use Rattle.varisat_formula.specs.declared.dimacs.error.DimacsError.{DimacsError}
 use Rattle.varisat_formula.specs.declared.dimacs.error.DimacsErrorKind.TheVariants as kind
 use Rattle.varisat_formula.specs.Dimacs.{Reading, dimacs, broken}
-use Rattle.varisat_formula.specs.Parsed.{Stand}
+use Rattle.varisat_formula.specs.Streams.{Stand, Reads, HasEnded}
 use Rattle.varisat.specs.declared.solver.SolverError.{SolverError}
 use Rattle.varisat.specs.declared.solver.SolverError.TheVariants as error
 
--- What a source gave in a call: the bytes since, of those that were left where these are known.
+-- what a source gave in a call
 pub record Gave (old new : Stand) : Type 0 where
   pub text : List ℕ
-  pub given : new.given ≡ old.given ++ text
-  pub consumed : Consumes old.left new.left text
-
--- the source told that it is at its end
-abbrev pub HasEnded : Stand → Type 0
-HasEnded new = IsAtEnd new.left
+  pub reads : Reads old text new
 
 -- the first clauses of the list
 abbrev pub IsBeginning : List Clause → List Clause → Type 0

@@ -5,7 +5,7 @@ use Rattle.std.specs.Prelude.{◌≡◌, ◌≢◌, ℕ, ◌^◌, ◌<◌, ◌�
 use Rattle.std.specs.declared.alloc.AllocError.{AllocError}
 use Rattle.varisat_theory.specs.Membership.{◌∈◌}
 use Rattle.varisat_theory.specs.Literals.{Literal, Clause, variable_of, opposite, IsUnit, IsSatisfiable}
-use Rattle.varisat_formula.specs.Parsed.{Stand}
+use Rattle.varisat_formula.specs.Streams.{Stand}
 use Rattle.varisat.specs.States.{State, Verdict, Unknown, Sat, Unsat, HasRightVerdict, IsWellFormed}
 use Rattle.varisat.specs.Names.{name_one, name_all, through_names, IsLeastFree}
 use Rattle.varisat.specs.Models.{model_of}

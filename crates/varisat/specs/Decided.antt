@@ -1,9 +1,9 @@
 -- What the program's `solve` finds out of a text, what it prints, and with which status it ends then.
-use Rattle.std.specs.Prelude.{◌≡◌, ℕ, List, ◌++◌, Option, Some, None, Vec, codes}
+use Rattle.std.specs.Prelude.{◌≡◌, ◌≢◌, ℕ, true, List, ◌++◌, Option, Some, None, Vec, codes}
 use Rattle.varisat_theory.specs.Literals.{Literal, Clause, IsSatisfiable}
 use Rattle.varisat_formula.specs.Dimacs.{dimacs}
-use Rattle.varisat_formula.specs.Parsed.{Stand}
-use Rattle.varisat.specs.Additions.{Gave, HasEnded}
+use Rattle.varisat_formula.specs.Streams.{Stand, HasEnded}
+use Rattle.varisat.specs.Additions.{Gave}
 use Rattle.varisat.specs.Pasts.{empty_past, accept_all, IsModel}
 use Rattle.varisat.specs.Lines.{literals_text}
 
@@ -40,3 +40,10 @@ outcome_status (Some model) = 10
 -- the status where there was a fault
 abbrev pub fault_status : ℕ
 fault_status = 2
+
+-- What a status says of the text that the source gave since, whatever is known of the source: 10 only at the end of a text without a fault whose clauses some assignment satisfies, 20 only of one whose clauses none does.
+pub record StatusIsTrue (old new : Stand) (status : ℕ) : Type 0 where
+  pub ended : status ≢ fault_status → new.ended ≡ true
+  pub fine : (text : List ℕ) → new.given ≡ old.given ++ text → status ≢ fault_status → (dimacs text).fault ≡ None
+  pub satisfiable : (text : List ℕ) → new.given ≡ old.given ++ text → status ≡ 10 → IsSatisfiable (dimacs text).clauses
+  pub unsatisfiable : (text : List ℕ) → new.given ≡ old.given ++ text → status ≡ 20 → IsSatisfiable (dimacs text).clauses → ⊥

@@ -1,6 +1,6 @@
 -- What the answers of a new solver say, with no state in between.
 use Rattle.std.specs.Prelude.{◌≡◌, List, [], ◌∷◌, None, Ok}
-use Rattle.varisat_formula.specs.Parsed.{Stand}
+use Rattle.varisat_formula.specs.Streams.{Stand}
 use Rattle.varisat.specs.Pasts.{Past, AddsClause, AddsFormula, AddsDimacs, MakesVar, Solves, TellsModel}
 use Rattle.varisat.specs.Told.{told_model}
 use Rattle.varisat.specs.declared.session.Call.{Call}

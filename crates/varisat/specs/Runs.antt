@@ -1,6 +1,6 @@
 -- Runs: which answers a list of calls may get, and to which state it leads.
 use Rattle.std.specs.Prelude.{◌≡◌, ℕ, ◌-◌, ◌^◌, ◌<◌, List, [], ◌∷◌}
-use Rattle.varisat_formula.specs.Parsed.{Stand}
+use Rattle.varisat_formula.specs.Streams.{Stand}
 use Rattle.varisat.specs.States.{State}
 use Rattle.varisat.specs.Calls.{AddsClause, AddsFormula, AddsDimacs, MakesVar, Solves, TellsModel, TellsValid, ClosesProof}
 use Rattle.varisat.specs.Told.{told_model}
@@ -28,10 +28,10 @@ Run seen s (c ∷ cs) (a ∷ answers) t = (mid : State) × MakesCall seen s c a 
 Run seen s _ _ t = ⊥
 
 -- a source that is read has counted fewer than 2^64-1 faults
-abbrev pub IsReadable : {S A : Type 0} → (S → ℕ) → Call S A → Type 0
-IsReadable faults (call.AddDimacsCnf source) = faults source < 2 ^ 64 - 1
-IsReadable faults _ = Unit {0}
+abbrev pub IsReadable : {S A : Type 0} → (S → Stand) → Call S A → Type 0
+IsReadable seen (call.AddDimacsCnf source) = (seen source).faults < 2 ^ 64 - 1
+IsReadable seen _ = Unit {0}
 
-abbrev pub AreReadable : {S A : Type 0} → (S → ℕ) → List (Call S A) → Type 0
-AreReadable faults [] = Unit {0}
-AreReadable faults (c ∷ cs) = IsReadable faults c × AreReadable faults cs
+abbrev pub AreReadable : {S A : Type 0} → (S → Stand) → List (Call S A) → Type 0
+AreReadable seen [] = Unit {0}
+AreReadable seen (c ∷ cs) = IsReadable seen c × AreReadable seen cs

@@ -2,8 +2,7 @@
 ghost use Rattle.std.specs.Prelude.{◌≡◌, ◌⊎◌, ◌-◌, ◌^◌, ◌<◌, List, Option, OnOk, IfOk};
 ghost use Rattle.std.specs.Io.KnownBytes.{Appends};
 ghost use Rattle.varisat_theory.specs.Literals.{Literal};
-ghost use Rattle.varisat_formula.specs.Parsed.{stand};
-ghost use Rattle.varisat.specs.Decided.{listed, Decides, model_text, outcome_text, outcome_status, fault_status};
+ghost use Rattle.varisat.specs.Decided.{listed, Decides, StatusIsTrue, model_text, outcome_text, outcome_status, fault_status};
 
 use crate::line::{parse_line, write_answer, write_literals};
 use crate::session::make_call;
@@ -46,9 +45,10 @@ pub fn solve_lines<A: Allocator + Copy, S: ByteSource, W: Write, E: Write>(
     out: &mut W,
     err: &mut E,
 ) -> u8
-    requires { S.fault_count cnf.old < 2 ^ 64 - 1 }
+    requires { (S.stand cnf.old).faults < 2 ^ 64 - 1 }
     // Any other status is given only after the source gave a whole text, which was decided, and the outcome printed.
-    ensures { (result ≡ fault_status) ⊎ ((outcome : Option (List Literal)) × Decides (stand S.given S.left S.pieces_left S.fault_count cnf.old) (stand S.given S.left S.pieces_left S.fault_count cnf.new) outcome × (result ≡ outcome_status outcome) × Appends (W.contents out.old) (W.contents out.new) (outcome_text outcome)) }
+    ensures outcome { (result ≡ fault_status) ⊎ ((outcome : Option (List Literal)) × Decides (S.stand cnf.old) (S.stand cnf.new) outcome × (result ≡ outcome_status outcome) × Appends (W.contents out.old) (W.contents out.new) (outcome_text outcome)) }
+    ensures truth { StatusIsTrue (S.stand cnf.old) (S.stand cnf.new) result }
 {
     match decide(alloc, cnf) {
         Ok(outcome) => match write_outcome(out, &outcome) {
@@ -64,8 +64,8 @@ fn decide<A: Allocator + Copy, S: ByteSource>(
     alloc: A,
     cnf: &mut S,
 ) -> Result<Option<Vec<Lit, A>>, SolverError>
-    requires { S.fault_count cnf.old < 2 ^ 64 - 1 }
-    ensures { IfOk result (λ outcome. Decides (stand S.given S.left S.pieces_left S.fault_count cnf.old) (stand S.given S.left S.pieces_left S.fault_count cnf.new) (listed outcome)) }
+    requires { (S.stand cnf.old).faults < 2 ^ 64 - 1 }
+    ensures { IfOk result (λ outcome. Decides (S.stand cnf.old) (S.stand cnf.new) (listed outcome)) }
 {
     let mut solver: Solver<MemoryTarget<A>, A> = Solver::new_in(alloc);
     solver.add_dimacs_cnf(cnf)?;

@@ -1,6 +1,5 @@
 //! Any list of calls of a solver.
 ghost use Rattle.std.specs.Prelude.{◌≡◌, [], IfOk, OnErr};
-ghost use Rattle.varisat_formula.specs.Parsed.{stand};
 ghost use Rattle.varisat.specs.States.{State, empty_state};
 ghost use Rattle.varisat.specs.Summaries.{StandsFor};
 ghost use Rattle.varisat.specs.Runs.{MakesCall, Run, IsReadable, AreReadable};
@@ -43,8 +42,8 @@ pub fn make_call<W: ProofTarget, S: ByteSource, A: Allocator + Copy>(
     solver: &mut Solver<W, A>,
     call: Call<S, A>,
 ) -> Answer<W, S, A>
-    requires { IsReadable S.fault_count call }
-    ensures { (s : State) → StandsFor solver.old s → (t : State) × MakesCall (stand S.given S.left S.pieces_left S.fault_count) s call result t × StandsFor solver.new t }
+    requires { IsReadable S.stand call }
+    ensures { (s : State) → StandsFor solver.old s → (t : State) × MakesCall S.stand s call result t × StandsFor solver.new t }
 {
     match call {
         Call::AddClause(clause) => Answer::AddClause(solver.add_clause(&clause)),
@@ -66,8 +65,8 @@ pub fn run<W: ProofTarget, S: ByteSource, A: Allocator + Copy>(
     solver: &mut Solver<W, A>,
     calls: Vec<Call<S, A>, A>,
 ) -> Result<Vec<Answer<W, S, A>, A>, AllocError>
-    requires { AreReadable S.fault_count calls.items }
-    ensures run { IfOk result (λ answers. (s : State) → StandsFor solver.old s → (t : State) × Run (stand S.given S.left S.pieces_left S.fault_count) s calls.items answers.items t × StandsFor solver.new t) }
+    requires { AreReadable S.stand calls.items }
+    ensures run { IfOk result (λ answers. (s : State) → StandsFor solver.old s → (t : State) × Run S.stand s calls.items answers.items t × StandsFor solver.new t) }
     ensures err { OnErr result (solver.new ≡ solver.old) }
 {
     let mut answers = Vec::with_capacity(*calls.allocator(), calls.len())?;
@@ -81,9 +80,9 @@ pub fn run<W: ProofTarget, S: ByteSource, A: Allocator + Copy>(
 pub fn answers_of<W: ProofTarget, S: ByteSource, A: Allocator + Copy>(
     calls: Vec<Call<S, A>, A>,
 ) -> Result<Vec<Answer<W, S, A>, A>, AllocError>
-    requires { AreReadable S.fault_count calls.items }
-    ensures run { IfOk result (λ answers. (t : State) × Run (stand S.given S.left S.pieces_left S.fault_count) empty_state calls.items answers.items t) }
-    ensures truth { IfOk result (λ answers. AreTrue (stand S.given S.left S.pieces_left S.fault_count) empty_past calls.items answers.items) }
+    requires { AreReadable S.stand calls.items }
+    ensures run { IfOk result (λ answers. (t : State) × Run S.stand empty_state calls.items answers.items t) }
+    ensures truth { IfOk result (λ answers. AreTrue S.stand empty_past calls.items answers.items) }
 {
     let mut solver: Solver<W, A> = Solver::new_in(*calls.allocator());
     let answers = run(&mut solver, calls)?;

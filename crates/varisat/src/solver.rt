@@ -137,7 +137,6 @@ impl<W: ProofTarget, A: Allocator + Copy> Solver<W, A> {
     ghost use Rattle.varisat.specs.Models.{model_of, IsCompletable};
     ghost use Rattle.varisat.specs.Calls.{IsValid, AddsClause, AddsFormula, AddsDimacs, TellsFault, MakesVar, Solves, TellsModel, TellsValid, ClosesProof, answer_of};
     ghost use Rattle.varisat.specs.Told.{told_model};
-    ghost use Rattle.varisat_formula.specs.Parsed.{stand};
     ghost use Rattle.varisat.specs.Summaries.{StandsFor};
 
     /// A solver with no clause. It takes no memory.
@@ -216,8 +215,8 @@ impl<W: ProofTarget, A: Allocator + Copy> Solver<W, A> {
 
     /// Accepts the clauses of a DIMACS CNF text in turn, up to the first that is refused or the text's first fault, which is then returned, whatever the pieces in which the source gives the text. The clauses before it stay. Out of memory in the reader is returned as in any call.
     pub fn add_dimacs_cnf<S: ByteSource>(&mut self, source: &mut S) -> Result<(), SolverError>
-        requires { S.fault_count source.old < 2 ^ 64 - 1 }
-        ensures { (s : State) → StandsFor self.old s → (t : State) × AddsDimacs s (stand S.given S.left S.pieces_left S.fault_count source.old) result (stand S.given S.left S.pieces_left S.fault_count source.new) t × StandsFor self.new t }
+        requires { (S.stand source.old).faults < 2 ^ 64 - 1 }
+        ensures { (s : State) → StandsFor self.old s → (t : State) × AddsDimacs s (S.stand source.old) result (S.stand source.new) t × StandsFor self.new t }
     {
         if self.ctx.solver_state.state_is_invalid {
             return Err(SolverError::Invalid);

@@ -18,7 +18,7 @@ type TextAnswer = Answer<MemoryTarget<Global>, ReadSource<&'static [u8]>, Global
 
 // The calls of a small session: a clause, a formula, a text that breaks off, a variable, the question, the model, the flag, and the end of a proof that is not open.
 fn calls(alloc: Global) -> Result<Vec<TextCall>, Fail>
-    ensures { IfOk result (λ calls. AreReadable (λ s. s.faults) calls.items) }
+    ensures { IfOk result (λ calls. AreReadable (λ s. s) calls.items) }
 {
     let mut calls = Vec::new(alloc);
     calls.push(Call::AddClause(Vec::from_slice(alloc, &lits![3, -1])?))?;

@@ -1,7 +1,7 @@
 -- The text goes on, or a clause of it is refused, or it ends.
 use Rattle.std.proofs.Common.{◌∙◌, ◌++◌, [], inl, refl, sym, ap, not, arith, Ok, Some, None}
 use Rattle.varisat_formula.specs.Rest.{fault_of}
-use Rattle.varisat_formula.proofs.Parsing.{piece_told}
+use Rattle.varisat_formula.proofs.ParsedSources.{piece_told}
 use Rattle.varisat.specs.Additions.{NoFault, Read}
 use Rattle.varisat.proofs.Additions.{told-error, adds-more, adds-valid, only-adds}
 use Rattle.varisat.proofs.Texts.{took, read-nothing, read-more, piece-refused, piece-fault, ending-refused, text-broken, text-ended}

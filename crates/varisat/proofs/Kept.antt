@@ -12,18 +12,19 @@ use Rattle.varisat_search.specs.declared.state.SatState.TheVariants as outcome
 use Rattle.varisat_search.specs.Steps.{assignment_of}
 use Rattle.varisat_search.proofs.Finding.{variable-literal}
 use Rattle.varisat.specs.States.{State, Verdict, Unknown, Sat, Unsat, IsRight, IsWellFormed}
-use Rattle.varisat.specs.Names.{name_one, name_all, through_names}
+use Rattle.varisat.specs.Names.{name_one, name_all, through_names, AreInOrder}
 use Rattle.varisat.specs.Models.{put_name, list_names, model_of, IsRising, IsCompletable}
-use Rattle.varisat.specs.Calls.{start, IsContradicted, with_clause, VerdictAfter, append_clause, with_verdict, answer_of}
+use Rattle.varisat.specs.Calls.{start, ContradictsUnit, reopened_verdict, VerdictAfter, Refuted, Reopened, append_clause, with_verdict, answer_of, IsLike, Invalidates}
 use Rattle.varisat.specs.Counts.{count_with, list_values}
 use Rattle.varisat.specs.Searches.{Holds, IsFlagged, found, IsOpen, IsLoaded, verdict_of}
-use Rattle.varisat.specs.Summaries.{Summary, NamesFit, VerdictFits, Fits}
+use Rattle.varisat.specs.Summaries.{Summary, VerdictFits, Fits}
 use Rattle.varisat_theory.proofs.Renaming.{∈-map, map-∈}
-use Rattle.varisat.proofs.Named.{rest-one, rest-all, fit-one, fit-all, through-all, count-within, count-above}
+use Rattle.varisat.proofs.Models.{value-listed}
+use Rattle.varisat.proofs.NamesInOrder.{rest-one, rest-all, fit-one, fit-all, through-all, count-within, count-above}
 
 -- 0. States whose names in use are those below a count.
 
-in-use-below : (n : ℕ) (s : State) (u i : ℕ) → NamesFit n s → s.names u ≡ Some i → (u < n) × (i ≡ u)
+in-use-below : (n : ℕ) (s : State) (u i : ℕ) → AreInOrder n s → s.names u ≡ Some i → (u < n) × (i ≡ u)
 in-use-below n s u i f h = ⊎_elim (λ k. (k, same u i k h)) (λ k. absurd (let q : None ≡ Some i = sym (f.free u k) ∙ h in cc)) (below-or u n)
   where
     below-or : (u n : ℕ) → (u < n) ⊎ (n ≤ u)
@@ -32,7 +33,7 @@ in-use-below n s u i f h = ⊎_elim (λ k. (k, same u i k h)) (λ k. absurd (let
     same : (u i : ℕ) → u < n → s.names u ≡ Some i → i ≡ u
     same u i k h = let q : Some u ≡ Some i = sym (f.in_use u k) ∙ h in cc
 
-pub well-formed : (n : ℕ) (s : State) → NamesFit n s → ((c : Clause) (l : Literal) → c ∈ s.clauses → l ∈ c → variable_of l < n) → s.assumptions ≡ [] → ((i : ℕ) → i ∈ s.counted → i < n) → IsWellFormed s
+pub well-formed : (n : ℕ) (s : State) → AreInOrder n s → ((c : Clause) (l : Literal) → c ∈ s.clauses → l ∈ c → variable_of l < n) → s.assumptions ≡ [] → ((i : ℕ) → i ∈ s.counted → i < n) → IsWellFormed s
 well-formed n s f c a k = record {
   one_to_one = λ u v i h j. sym (in-use-below n s u i f h).1 ∙ (in-use-below n s v i f j).1;
   free = λ u h. f.free u (omega (arith, f.watermark));
@@ -42,13 +43,27 @@ well-formed n s f c a k = record {
   counted = λ i h. let b = k i h in omega (arith, b, f.made);
 }
 
+-- a state that no way leads back from
+abbrev pub broken : State → State
+broken s = record s { ledger = record s.ledger { valid = false } }
+
+pub broken-invalid : (g : Summary) (s : State) → s.ledger.valid ≡ true → Fits g s → Invalidates s (broken s)
+broken-invalid g s v f = record {
+  valid = v;
+  invalid = refl;
+  well_formed = record { one_to_one = f.well_formed.one_to_one; free = f.well_formed.free; named = f.well_formed.named; accepted = f.well_formed.accepted; assumed = f.well_formed.assumed; counted = f.well_formed.counted };
+}
+
+pub like-refl : (s : State) → IsLike s s
+like-refl s = record { made = refl; names = refl; watermark = refl; modes = refl; clauses = refl; assumptions = refl; counted = refl; verdict = refl; ledger = refl }
+
 -- 1. An accepted clause.
 
 -- the state with the clause accepted
 abbrev pub accepted : State → Clause → Verdict → State
 accepted s d w = start (append_clause (map (through_names (name_all d s)) d) w (name_all d s))
 
-pub read-clause : (n : ℕ) (s : State) (d : Clause) → NamesFit n s → map (through_names (name_all d s)) d ≡ d
+pub read-clause : (n : ℕ) (s : State) (d : Clause) → AreInOrder n s → map (through_names (name_all d s)) d ≡ d
 read-clause n s d f = through-all (count_with n d) (name_all d s) d (fit-all d n s f) (count-within d n)
 
 pub fits-accepted : (g h : Summary) (s : State) (d : Clause) (w : Verdict) → Fits g s → h.var_count ≡ count_with g.var_count d → ((v : ℕ) → IsFlagged h.flags v ↔ (IsFlagged g.flags v ⊎ (v ∈ map variable_of d))) → ((h.sat_state ≡ outcome.Unsat → ⊥) → Holds (s.clauses ++ d ∷ []) h.search) → VerdictFits h.sat_state (found h.flags h.search.values) w → ((A : List Literal) (C : List ℕ) → IsRight (s.clauses ++ d ∷ []) A C w) → Fits h (accepted s d w)
@@ -56,11 +71,11 @@ fits-accepted g h s d w f n x p v r =
     let k = rest-all d s in
     let m = fit-all d g.var_count s f.names in
     let q = read-clause g.var_count s d f.names in
-    let named : NamesFit (count_with g.var_count d) (accepted s d w) = record { made = m.made; watermark = m.watermark; in_use = m.in_use; free = m.free } in
+    let named : AreInOrder (count_with g.var_count d) (accepted s d w) = record { made = m.made; watermark = m.watermark; in_use = m.in_use; free = m.free; sampled = m.sampled } in
     let all : (accepted s d w).clauses ≡ s.clauses ++ d ∷ [] = ap (λ P. P ++ map (through_names (name_all d s)) d ∷ []) k.clauses ∙ ap (λ c. s.clauses ++ c ∷ []) q in
     let counts : (accepted s d w).counted ≡ s.counted ++ map variable_of d = ap (λ C. C ++ map variable_of (map (through_names (name_all d s)) d)) k.counted ∙ ap (λ c. s.counted ++ map variable_of c) q in
     record {
-      names = subst (λ y. NamesFit y (accepted s d w)) (sym n) named;
+      names = subst (λ y. AreInOrder y (accepted s d w)) (sym n) named;
       holds = λ o. subst (λ P. Holds P h.search) (sym all) (p o);
       assumptions = k.assumptions ∙ f.assumptions;
       counted = λ c l i j.
@@ -82,7 +97,7 @@ fits-accepted g h s d w f n x p v r =
     }
 
 -- a verdict that is not Unsat becomes Unknown
-pub becomes-unknown : (x : SatState) (b : Assignment) (v : Verdict) → (x ≡ outcome.Unsat → ⊥) → VerdictFits x b v → with_clause v ≡ Unknown
+pub becomes-unknown : (x : SatState) (b : Assignment) (v : Verdict) → (x ≡ outcome.Unsat → ⊥) → VerdictFits x b v → reopened_verdict v ≡ Unknown
 becomes-unknown outcome.Unknown b Unknown n f = refl
 becomes-unknown outcome.Unknown b (Sat a) n f = absurd f
 becomes-unknown outcome.Unknown b Unsat n f = absurd f
@@ -93,7 +108,7 @@ becomes-unknown outcome.Unsat b v n f = absurd (n refl)
 becomes-unknown outcome.UnsatUnderAssumptions b v n f = absurd f
 
 pub not-unsat : (x : SatState) (b : Assignment) (v : Verdict) → (x ≡ outcome.Unsat → ⊥) → VerdictFits x b v → v ≢ Unsat
-not-unsat x b v n f e = let k = becomes-unknown x b v n f in let q : Unsat ≡ Unknown = ap with_clause (sym e) ∙ k in cc
+not-unsat x b v n f e = let k = becomes-unknown x b v n f in let q : Unsat ≡ Unknown = ap reopened_verdict (sym e) ∙ k in cc
 
 pub is-unknown : (b : Assignment) (v : Verdict) → VerdictFits outcome.Unknown b v → v ≡ Unknown
 is-unknown b Unknown f = refl
@@ -123,7 +138,7 @@ accepted-clause g h s d f n c m outcome.Unknown e l =
     let q = read-clause g.var_count s d f.names in
     record {
       verdict = Unknown;
-      after = inr (sym (becomes-unknown g.sat_state (found g.flags g.search.values) s.verdict n f.verdict), λ k. l.0 (subst (λ y. IsContradicted s.clauses y) q k));
+      after = Reopened (sym (becomes-unknown g.sat_state (found g.flags g.search.values) s.verdict n f.verdict)) (λ k. l.0 (subst (λ y. ContradictsUnit s.clauses y) q k));
       fits = fits-accepted g h s d Unknown f c m (λ o. l.1) (subst (λ y. VerdictFits y (found h.flags h.search.values) Unknown) (sym e) tt) (λ A C. tt);
     }
 accepted-clause g h s d f n c m outcome.Sat e l = absurd l
@@ -131,7 +146,7 @@ accepted-clause g h s d f n c m outcome.Unsat e l =
     let q = read-clause g.var_count s d f.names in
     record {
       verdict = Unsat;
-      after = inl (refl, λ k. l (subst (λ y. IsSatisfiable (s.clauses ++ y ∷ [])) q k));
+      after = Refuted refl (λ k. l (subst (λ y. IsSatisfiable (s.clauses ++ y ∷ [])) q k));
       fits = fits-accepted g h s d Unsat f c m (λ o. absurd (o e)) (subst (λ y. VerdictFits y (found h.flags h.search.values) Unsat) (sym e) tt) (λ A C. l);
     }
 accepted-clause g h s d f n c m outcome.UnsatUnderAssumptions e l = absurd l
@@ -144,7 +159,7 @@ fits-new g h s f e =
     let m = fit-one g.var_count g.var_count s f.names in
     let up : max g.var_count (g.var_count + 1) ≡ g.var_count + 1 = omega arith in
     subst (λ x. Fits x (start (name_one g.var_count s))) (sym e) record {
-      names = subst (λ x. NamesFit x (start (name_one g.var_count s))) up (record { made = m.made; watermark = m.watermark; in_use = m.in_use; free = m.free });
+      names = subst (λ x. AreInOrder x (start (name_one g.var_count s))) up (record { made = m.made; watermark = m.watermark; in_use = m.in_use; free = m.free; sampled = m.sampled });
       holds = λ o. subst (λ P. Holds P g.search) (sym k.clauses) (f.holds o);
       assumptions = k.assumptions ∙ f.assumptions;
       counted = λ c l i j. f.counted c l (subst (λ P. c ∈ P) k.clauses i) j;
@@ -154,7 +169,7 @@ fits-new g h s f e =
           (subst (λ C. IsRight (name_one g.var_count s).clauses (name_one g.var_count s).assumptions C s.verdict) (sym k.counted)
           (subst (λ A. IsRight (name_one g.var_count s).clauses A s.counted s.verdict) (sym k.assumptions)
           (subst (λ P. IsRight P s.assumptions s.counted s.verdict) (sym k.clauses) f.right)));
-      well_formed = well-formed (max g.var_count (g.var_count + 1)) (start (name_one g.var_count s)) (record { made = m.made; watermark = m.watermark; in_use = m.in_use; free = m.free })
+      well_formed = well-formed (max g.var_count (g.var_count + 1)) (start (name_one g.var_count s)) (record { made = m.made; watermark = m.watermark; in_use = m.in_use; free = m.free; sampled = m.sampled })
           (λ c l i j. let b = f.well_formed.accepted c l (subst (λ P. c ∈ P) k.clauses i) j in omega (arith, b, f.names.made))
           (k.assumptions ∙ f.assumptions)
           (λ i h. let b = f.well_formed.counted i (subst (λ C. i ∈ C) k.counted h) in omega (arith, b, f.names.made));
@@ -176,7 +191,7 @@ found-right g s t f m =
 
 pub fits-decided : (g h : Summary) (s : State) (w : Verdict) → Fits g s → h.var_count ≡ g.var_count → h.flags ≡ g.flags → ((h.sat_state ≡ outcome.Unsat → ⊥) → Holds s.clauses h.search) → VerdictFits h.sat_state (found h.flags h.search.values) w → IsRight s.clauses s.assumptions s.counted w → Fits h (with_verdict w s)
 fits-decided g h s w f n x p v r = record {
-  names = subst (λ y. NamesFit y (with_verdict w s)) (sym n) (record { made = f.names.made; watermark = f.names.watermark; in_use = f.names.in_use; free = f.names.free });
+  names = subst (λ y. AreInOrder y (with_verdict w s)) (sym n) (record { made = f.names.made; watermark = f.names.watermark; in_use = f.names.in_use; free = f.names.free; sampled = f.names.sampled });
   holds = p;
   assumptions = f.assumptions;
   counted = λ c l i j. subst (λ y. IsFlagged y (variable_of l)) (sym x) (f.counted c l i j);
@@ -221,7 +236,7 @@ decided g h s false f u n x e k =
 
 -- 4. The model.
 
-pub list-same : (n : ℕ) (s : State) (a b : Assignment) → NamesFit n s → ((i : ℕ) → a i ≡ b i) → (k u : ℕ) → u + k ≤ n → list_names s a u k ≡ list_values b u k
+pub list-same : (n : ℕ) (s : State) (a b : Assignment) → AreInOrder n s → ((i : ℕ) → a i ≡ b i) → (k u : ℕ) → u + k ≤ n → list_names s a u k ≡ list_values b u k
 list-same n s a b f e zero u h = refl
 list-same n s a b f e (suc k) u h =
     ap (λ o. put_name u o a (list_names s a (suc u) k)) (f.in_use u (omega arith)) ∙ ap (λ v. literal_of u v ∷ list_names s a (suc u) k) (e u) ∙ ap (λ xs. literal_of u (b u) ∷ xs) (list-same n s a b f e k (suc u) (omega arith))
@@ -246,18 +261,6 @@ values-are : (b : Assignment) (k u : ℕ) (l : Literal) → l ∈ list_values b 
 values-are b zero u l h = absurd h
 values-are b (suc k) u l (inl e) = (u, e, omega arith)
 values-are b (suc k) u l (inr h) = let r = values-are b k (suc u) l h in (r.0, r.1, omega (arith, r.2))
-
-value-even : (a : Assignment) (u : ℕ) → value a (2 * u) ≡ a u
-unfolding value
-value-even a u = let m : (2 * u) % 2 ≡ 0 = omega arith in let h : (2 * u) / 2 ≡ u = omega arith in rw (m, h) refl
-
-value-odd : (a : Assignment) (u : ℕ) → value a (2 * u + 1) ≡ not (a u)
-unfolding value
-value-odd a u = let m : (2 * u + 1) % 2 ≡ 1 = omega arith in let h : (2 * u + 1) / 2 ≡ u = omega arith in rw (m, h) refl
-
-value-listed : (a : Assignment) (u : ℕ) (v : Bool) → a u ≡ v → value a (literal_of u v) ≡ true
-value-listed a u true e = value-even a u ∙ e
-value-listed a u false e = value-odd a u ∙ ap not e
 
 pub model-completable : (g : Summary) (s : State) (a b : Assignment) → Fits g s → IsRight s.clauses s.assumptions s.counted (Sat a) → ((i : ℕ) → a i ≡ b i) → IsCompletable s (list_values b 0 g.var_count)
 model-completable g s a b f r e =

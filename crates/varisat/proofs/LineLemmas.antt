@@ -15,7 +15,7 @@ use Rattle.std.proofs.lemmas.List.Elements.{All-from_recursion, recursion_from_A
 use Rattle.std.proofs.lemmas.List.Splits.{slice_split_none, slice_split_at, join_with_byte-slice_split, length-slice_split}
 use Rattle.varisat_formula.specs.Numbers.{literal_number}
 use Rattle.varisat_formula.specs.Numbers.{literal_text}
-use Rattle.varisat.specs.Lines.{Line, Add, New, Solve, Model, Means, MeansOneLine, IsInRange, words, words_of, spelling}
+use Rattle.varisat.specs.Lines.{Command, Add, New, Solve, Model, Close, Means, MeansOneCommand, HasNumbersInRange, words, words_of, spelling}
 
 abbrev pub NoSpace : List ℕ → Type 0
 NoSpace word = All (λ b. (b == 32) ≡ false) word
@@ -79,25 +79,27 @@ texts_have_no_space : (ls : List ℕ) → AllByRecursion (λ l. l < 2 ^ 32) ls �
 texts_have_no_space [] h = tt
 texts_have_no_space (l ∷ ls) (h, hs) = (literal_has_no_space l h, texts_have_no_space ls hs)
 
-pub words_have_no_space : (line : Line) → IsInRange line → AllByRecursion NoSpace (words line)
+pub words_have_no_space : (command : Command) → HasNumbersInRange command → AllByRecursion NoSpace (words command)
 words_have_no_space (Add ls) h = (no_space (codes "add") (refl, (refl, (refl, tt))), texts_have_no_space ls (recursion_from_All (λ l. l < 2 ^ 32) ls h))
 words_have_no_space New h = (no_space (codes "new") (refl, (refl, (refl, tt))), tt)
 words_have_no_space Solve h = (no_space (codes "solve") (refl, (refl, (refl, (refl, (refl, tt))))), tt)
 words_have_no_space Model h = (no_space (codes "model") (refl, (refl, (refl, (refl, (refl, tt))))), tt)
+words_have_no_space Close h = (no_space (codes "close") (refl, (refl, (refl, (refl, (refl, tt))))), tt)
 
 -- words that are joined are parted again
 pub words_of_joined : (w : List ℕ) (ws : List (List ℕ)) → AllByRecursion NoSpace (w ∷ ws) → words_of (join_with_byte 32 (w ∷ ws)) ≡ w ∷ ws
 words_of_joined w [] (h, hs) = slice_split_none (λ b. b == 32) w h
 words_of_joined w (x ∷ xs) (h, hs) = slice_split_at (λ b. b == 32) w 32 (join_with_byte 32 (x ∷ xs)) h refl ∙ ap (λ l. w ∷ l) (words_of_joined x xs hs)
 
-words_of_spelled : (line : Line) → IsInRange line → words_of (spelling line) ≡ words line
+words_of_spelled : (command : Command) → HasNumbersInRange command → words_of (spelling command) ≡ words command
 words_of_spelled (Add ls) h = words_of_joined (codes "add") (map literal_text ls) (words_have_no_space (Add ls) h)
 words_of_spelled New h = words_of_joined (codes "new") [] (words_have_no_space New h)
 words_of_spelled Solve h = words_of_joined (codes "solve") [] (words_have_no_space Solve h)
 words_of_spelled Model h = words_of_joined (codes "model") [] (words_have_no_space Model h)
+words_of_spelled Close h = words_of_joined (codes "close") [] (words_have_no_space Close h)
 
-pub words_of_meant : (text : List ℕ) (line : Line) → Means text line → words_of text ≡ words line
-words_of_meant text line m = ap words_of (sym m.spelled) ∙ words_of_spelled line m.in_range
+pub words_of_meant : (text : List ℕ) (command : Command) → Means text command → words_of text ≡ words command
+words_of_meant text command m = ap words_of (sym m.spelled) ∙ words_of_spelled command m.in_range
 
 lists_apart : (ls ms : List ℕ) → AllByRecursion (λ l. l < 2 ^ 32) ls → AllByRecursion (λ l. l < 2 ^ 32) ms → map literal_text ls ≡ map literal_text ms → ls ≡ ms
 lists_apart [] [] h k e = refl
@@ -114,20 +116,21 @@ adds_apart ls ms h k e =
     let tails : map literal_text ls ≡ map literal_text ms = cc in
     ap Add (lists_apart ls ms (recursion_from_All (λ l. l < 2 ^ 32) ls h) (recursion_from_All (λ l. l < 2 ^ 32) ms k) tails)
 
--- the bytes of the first word as one number, by which the kinds of lines differ
+-- the bytes of the first word as one number, by which the kinds of commands differ
 abbrev first_word_number : List (List ℕ) → ℕ
 first_word_number [] = 0
 first_word_number (word ∷ ws) = fold (λ n b. 256 * n + b) 0 word
 
-pub words_apart : (a b : Line) → IsInRange a → IsInRange b → words a ≡ words b → a ≡ b
+pub words_apart : (a b : Command) → HasNumbersInRange a → HasNumbersInRange b → words a ≡ words b → a ≡ b
 words_apart (Add ls) (Add ms) h k e = adds_apart ls ms h k e
 words_apart New New h k e = refl
 words_apart Solve Solve h k e = refl
 words_apart Model Model h k e = refl
+words_apart Close Close h k e = refl
 words_apart a b h k e = let n : first_word_number (words a) ≡ first_word_number (words b) = ap first_word_number e in absurd (omega arith)
 
-pub one_line : MeansOneLine
-one_line text a b m n = words_apart a b m.in_range n.in_range (sym (words_of_meant text a m) ∙ words_of_meant text b n)
+pub one_command : MeansOneCommand
+one_command text a b m n = words_apart a b m.in_range n.in_range (sym (words_of_meant text a m) ∙ words_of_meant text b n)
 
 -- a variable's number begins with a digit other than 0
 pub begins_above : (v : ℕ) (ds : List ℕ) → v < 2 ^ 31 → decimal (v + 1) ≡ ds → 48 < get_or ds 0 0
@@ -245,14 +248,14 @@ not_among (l ∷ ls) (m ∷ ms) word others (h, hs) none e =
 tails_same : (a b : List ℕ) (xs ys : List (List ℕ)) → a ∷ xs ≡ b ∷ ys → xs ≡ ys
 tails_same a b xs ys e = cc
 
-no_clause_case : (numbers ls word : List ℕ) (others : List (List ℕ)) (line : Line) → IsInRange line → ((m : ℕ) → m < 2 ^ 32 → literal_text m ≢ word) →
-    map literal_text ls ++ word ∷ others ≡ words_of numbers → codes "add" ∷ words_of numbers ≡ words line → ⊥
+no_clause_case : (numbers ls word : List ℕ) (others : List (List ℕ)) (command : Command) → HasNumbersInRange command → ((m : ℕ) → m < 2 ^ 32 → literal_text m ≢ word) →
+    map literal_text ls ++ word ∷ others ≡ words_of numbers → codes "add" ∷ words_of numbers ≡ words command → ⊥
 no_clause_case numbers ls word others (Add ms) h none e w =
     not_among ls ms word others (recursion_from_All (λ l. l < 2 ^ 32) ms h) none (e ∙ tails_same (codes "add") (codes "add") (words_of numbers) (map literal_text ms) w)
-no_clause_case numbers ls word others line h none e w =
-    let n : first_word_number (codes "add" ∷ words_of numbers) ≡ first_word_number (words line) = ap first_word_number w in absurd (omega arith)
+no_clause_case numbers ls word others command h none e w =
+    let n : first_word_number (codes "add" ∷ words_of numbers) ≡ first_word_number (words command) = ap first_word_number w in absurd (omega arith)
 
 pub no_clause : (numbers ls word : List ℕ) (others : List (List ℕ)) → ((m : ℕ) → m < 2 ^ 32 → literal_text m ≢ word) →
-    map literal_text ls ++ word ∷ others ≡ words_of numbers → (line : Line) → Means (codes "add " ++ numbers) line → ⊥
-no_clause numbers ls word others none e line m =
-    no_clause_case numbers ls word others line m.in_range none e (words_of_meant (codes "add " ++ numbers) line m)
+    map literal_text ls ++ word ∷ others ≡ words_of numbers → (command : Command) → Means (codes "add " ++ numbers) command → ⊥
+no_clause numbers ls word others none e command m =
+    no_clause_case numbers ls word others command m.in_range none e (words_of_meant (codes "add " ++ numbers) command m)

@@ -10,7 +10,7 @@ use Rattle.varisat_search.specs.declared.state.SatState.{SatState}
 use Rattle.varisat_search.specs.declared.state.SatState.TheVariants as outcome
 use Rattle.varisat_search.specs.Steps as step
 use Rattle.varisat_search.proofs.Verdicts.{loads-cases}
-use Rattle.varisat.specs.Calls.{IsContradicted}
+use Rattle.varisat.specs.Calls.{ContradictsUnit}
 use Rattle.varisat.specs.Searches.{Holds, IsOpen, IsLoaded}
 
 pub holds-fits : (P : List Clause) (s t : View) → ((held : List Clause) → Fits held s → Fits held t) → Holds P s → Holds P t
@@ -33,7 +33,7 @@ unit-fixed held s w f c l i u =
     (f.covered c i)
 
 -- what contradicts the accepted clauses contradicts the search
-contradicted : (P : List Clause) (s : View) (c : Clause) → WellFormed s → Holds P s → IsContradicted P c → step.IsContradicted s c
+contradicted : (P : List Clause) (s : View) (c : Clause) → WellFormed s → Holds P s → ContradictsUnit P c → step.IsContradicted s c
 contradicted P s c w h k = ⊎_elim inl (λ (l, d, u, i, v). inr (l, u, unit-fixed h.held s w h.fits d (opposite l) (h.all d i) v)) k
 
 -- with one more clause too, what is held is satisfied wherever the accepted clauses are

@@ -1,19 +1,19 @@
 -- Runs that go on.
-use Rattle.std.proofs.Common.{ℕ, List, [], ◌∷◌, ◌++◌, refl, subst}
-use Rattle.varisat_formula.specs.Parsed.{Stand}
+use Rattle.std.proofs.Common.{List, [], ◌∷◌, ◌++◌, refl, subst}
+use Rattle.varisat_formula.specs.Streams.{Stand}
 use Rattle.varisat.specs.States.{State}
-use Rattle.varisat.specs.Runs.{Gives, Run, IsReadable, AreReadable}
+use Rattle.varisat.specs.Runs.{MakesCall, Run, IsReadable, AreReadable}
 use Rattle.varisat.specs.declared.session.Call.{Call}
 use Rattle.varisat.specs.declared.session.Answer.{Answer}
 
 -- one more call
-pub run-push : {S A : Type 0} (seen : S → Stand) (s t u : State) (calls : List (Call S A)) (answers : List (Answer A)) (c : Call S A) (a : Answer A) → Run seen s calls answers t → Gives seen t c a u → Run seen s (calls ++ c ∷ []) (answers ++ a ∷ []) u
-run-push seen s t u [] [] c a r g = (u, subst (λ x. Gives seen x c a u) r g, refl)
+pub run-push : {W S A : Type 0} (seen : S → Stand) (s t u : State) (calls : List (Call S A)) (answers : List (Answer W S A)) (c : Call S A) (a : Answer W S A) → Run seen s calls answers t → MakesCall seen t c a u → Run seen s (calls ++ c ∷ []) (answers ++ a ∷ []) u
+run-push seen s t u [] [] c a r g = (u, subst (λ x. MakesCall seen x c a u) r g, refl)
 run-push seen s t u [] (b ∷ answers) c a r g = absurd r
 run-push seen s t u (d ∷ calls) [] c a r g = absurd r
 run-push seen s t u (d ∷ calls) (b ∷ answers) c a r g = (r.0, r.1, run-push seen r.0 t u calls answers c a r.2 g)
 
 -- the sources of calls that go on can be read
-pub readable-next : {S A : Type 0} (faults : S → ℕ) (before after : List (Call S A)) (c : Call S A) → AreReadable faults (before ++ c ∷ after) → IsReadable faults c
-readable-next faults [] after c r = r.0
-readable-next faults (b ∷ before) after c r = readable-next faults before after c r.1
+pub readable-next : {S A : Type 0} (seen : S → Stand) (before after : List (Call S A)) (c : Call S A) → AreReadable seen (before ++ c ∷ after) → IsReadable seen c
+readable-next seen [] after c r = r.0
+readable-next seen (b ∷ before) after c r = readable-next seen before after c r.1

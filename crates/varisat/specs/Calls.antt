@@ -1,30 +1,46 @@
 -- Which answer and which new state each call may give: one relation a call, with a case for each answer. A case that is ⊥ is an answer that the call never gives.
 --
--- Refusals are looked for in this order: Invalid; then `add_clause` answers Ok under the verdict Unsat; VariableLimit; OutOfMemory.
+-- Refusals are looked for in this order: Invalid; then `add_clause` returns Ok under the verdict Unsat; VariableLimit; OutOfMemory.
 use Rattle.std.specs.Prelude.{◌≡◌, ◌≢◌, ℕ, ◌^◌, ◌<◌, ◌≤◌, Bool, true, false, Option, Some, None, List, [], ◌∷◌, ◌++◌, ◌⊎◌, Result, Ok, Err, map}
 use Rattle.std.specs.declared.alloc.AllocError.{AllocError}
 use Rattle.varisat_theory.specs.Membership.{◌∈◌}
 use Rattle.varisat_theory.specs.Literals.{Literal, Clause, variable_of, opposite, IsUnit, IsSatisfiable}
-use Rattle.varisat.specs.States.{State, Verdict, Unknown, Sat, Unsat, HasRightVerdict}
+use Rattle.varisat_formula.specs.Streams.{Stand}
+use Rattle.varisat.specs.States.{State, Verdict, Unknown, Sat, Unsat, HasRightVerdict, IsWellFormed}
 use Rattle.varisat.specs.Names.{name_one, name_all, through_names, IsLeastFree}
 use Rattle.varisat.specs.Models.{model_of}
+use Rattle.varisat_formula.specs.declared.dimacs.error.DimacsError.{DimacsError}
+use Rattle.varisat.specs.Additions as additions
 use Rattle.varisat.specs.declared.solver.SolverError.{SolverError}
 use Rattle.varisat.specs.declared.solver.SolverError.TheVariants.{OutOfMemory, Invalid, VariableLimit, Dimacs}
 
+abbrev pub is_valid : State → Bool
+is_valid s = s.ledger.valid
+
 abbrev pub IsValid : State → Type 0
-IsValid s = s.ledger.valid ≡ true
+IsValid s = is_valid s ≡ true
 
--- t is s, but for what a call writes beside, which is nothing yet
-abbrev pub IsLike : State → State → Type 0
-IsLike s t = t ≡ s
+-- What a user can know in t is what it is in s, but for what a call writes beside, which is nothing yet.
+pub record IsLike (s t : State) : Type 0 where
+  pub made : t.made ≡ s.made
+  pub names : t.names ≡ s.names
+  pub watermark : t.watermark ≡ s.watermark
+  pub modes : t.modes ≡ s.modes
+  pub clauses : t.clauses ≡ s.clauses
+  pub assumptions : t.assumptions ≡ s.assumptions
+  pub counted : t.counted ≡ s.counted
+  pub verdict : t.verdict ≡ s.verdict
+  pub ledger : t.ledger ≡ s.ledger
 
--- an error from which there is no way back: from then on the state is invalid
-abbrev pub Breaks : State → State → Type 0
-Breaks s t = t ≡ record s { ledger = record s.ledger { valid = false } }
+-- An error from which there is no way back: from then on the state is invalid. Nothing else is told of it but that it is well-formed.
+pub record Invalidates (s t : State) : Type 0 where
+  pub valid : IsValid s
+  pub invalid : is_valid t ≡ false
+  pub well_formed : IsWellFormed t
 
 -- the call is refused: the solver is invalid, and nothing changes
 abbrev pub IsRefusedInvalid : State → State → Type 0
-IsRefusedInvalid s t = (s.ledger.valid ≡ false) × (t ≡ s)
+IsRefusedInvalid s t = (is_valid s ≡ false) × (t ≡ s)
 
 -- a clause or a variable was accepted
 abbrev pub start : State → State
@@ -41,19 +57,19 @@ IsCrowded t = 2 ^ 28 < t.made
 -- The call `add_clause`.
 
 -- the clause is empty, or as a set it is one literal whose opposite alone is an accepted clause
-abbrev pub IsContradicted : List Clause → Clause → Type 0
-IsContradicted clauses c = (c ≡ []) ⊎ ((l : Literal) × (d : Clause) × IsUnit l c × (d ∈ clauses) × IsUnit (opposite l) d)
+abbrev pub ContradictsUnit : List Clause → Clause → Type 0
+ContradictsUnit clauses c = (c ≡ []) ⊎ ((l : Literal) × (d : Clause) × IsUnit l c × (d ∈ clauses) × IsUnit (opposite l) d)
 
--- the verdict with one more clause that doesn't give Unsat
-abbrev pub with_clause : Verdict → Verdict
-with_clause Unknown = Unknown
-with_clause (Sat found) = Unknown
-with_clause Unsat = Unsat
+-- the verdict with one more clause that doesn't give Unsat: a model that was found may not satisfy it
+abbrev pub reopened_verdict : Verdict → Verdict
+reopened_verdict Unknown = Unknown
+reopened_verdict (Sat found) = Unknown
+reopened_verdict Unsat = Unsat
 
--- An accepted clause that is contradicted gives Unsat at once. Any other gives Unsat only where no assignment is left.
-abbrev pub VerdictAfter : List Clause → Clause → Verdict → Verdict → Type 0
-VerdictAfter clauses c v w =
-    ((w ≡ Unsat) × (IsSatisfiable (clauses ++ c ∷ []) → ⊥)) ⊎ ((w ≡ with_clause v) × (IsContradicted clauses c → ⊥))
+-- What one more clause makes of a verdict. A clause that contradicts an accepted unit gives Unsat at once, and any other gives it only where no assignment is left.
+pub data VerdictAfter (clauses : List Clause) (c : Clause) (v w : Verdict) : Type 0 where
+  Refuted : w ≡ Unsat → (IsSatisfiable (clauses ++ c ∷ []) → ⊥) → VerdictAfter clauses c v w
+  Reopened : w ≡ reopened_verdict v → (ContradictsUnit clauses c → ⊥) → VerdictAfter clauses c v w
 
 -- the clause, over identities, is accepted
 abbrev pub append_clause : Clause → Verdict → State → State
@@ -65,23 +81,34 @@ Accepts s d t =
     let named : State = name_all d s in
     (w : Verdict) × VerdictAfter s.clauses (map (through_names named) d) s.verdict w × IsLike (start (append_clause (map (through_names named) d) w named)) t
 
+-- a clause is accepted: under Unsat nothing changes
+pub data TakesClause (s : State) (d : Clause) (t : State) : Type 0 where
+  Ignored : s.verdict ≡ Unsat → t ≡ s → TakesClause s d t
+  Accepted : s.verdict ≢ Unsat → (IsPastLimit d → ⊥) → Accepts s d t → TakesClause s d t
+
 abbrev pub AddsClause : State → Clause → Result (Unit {0}) SolverError → State → Type 0
-AddsClause s d (Ok _) t = IsValid s × (((s.verdict ≡ Unsat) × (t ≡ s)) ⊎ ((s.verdict ≢ Unsat) × (IsPastLimit d → ⊥) × Accepts s d t))
+AddsClause s d (Ok _) t = IsValid s × TakesClause s d t
 AddsClause s d (Err Invalid) t = IsRefusedInvalid s t
 AddsClause s d (Err VariableLimit) t = IsValid s × (s.verdict ≢ Unsat) × (IsPastLimit d ⊎ IsCrowded (name_all d s)) × (t ≡ s)
-AddsClause s d (Err OutOfMemory) t = IsValid s × (s.verdict ≢ Unsat) × (IsPastLimit d → ⊥) × Breaks s t
+AddsClause s d (Err OutOfMemory) t = (s.verdict ≢ Unsat) × (IsPastLimit d → ⊥) × Invalidates s t
 AddsClause s d (Err (Dimacs cause)) t = ⊥
 
--- The call `add_formula`.
+-- The calls `add_formula` and `add_dimacs_cnf`.
 
 -- the clauses in turn, up to the first refusal; those before it stay
 abbrev pub AddsAll : State → List Clause → Result (Unit {0}) SolverError → State → Type 0
-AddsAll s [] r t = (r ≡ Ok tt) × (t ≡ s)
-AddsAll s (c ∷ P) r t =
-    ((mid : State) × AddsClause s c (Ok tt) mid × AddsAll mid P r t) ⊎ ((e : SolverError) × (r ≡ Err e) × AddsClause s c (Err e) t)
+AddsAll s P r t = additions.AddsAll is_valid Invalidates AddsClause s P r t
 
 abbrev pub AddsFormula : State → List Clause → Result (Unit {0}) SolverError → State → Type 0
-AddsFormula s P r t = (IsValid s × AddsAll s P r t) ⊎ ((r ≡ Err Invalid) × IsRefusedInvalid s t)
+AddsFormula s P r t = additions.AddsList is_valid Invalidates AddsClause s P r t
+
+-- how the fault of a text is told, if there is one
+abbrev pub TellsFault : Option DimacsError → State → Result (Unit {0}) SolverError → State → Type 0
+TellsFault fault s r t = additions.TellsFault is_valid Invalidates AddsClause fault s r t
+
+-- the clauses of the text that the source gives, up to the first refusal or fault; those before it stay
+abbrev pub AddsDimacs : State → Stand → Result (Unit {0}) SolverError → Stand → State → Type 0
+AddsDimacs s old r new t = additions.AddsText is_valid Invalidates AddsClause s old r new t
 
 -- The call `new_var`.
 
@@ -91,11 +118,11 @@ MakesVar s (Ok u) t = IsValid s × IsLeastFree s u × (u < 2 ^ 28) × IsLike (st
 MakesVar s (Err Invalid) t = IsRefusedInvalid s t
 MakesVar s (Err VariableLimit) t = IsValid s × ((u : ℕ) × IsLeastFree s u × ((2 ^ 28 ≤ u) ⊎ IsCrowded (name_one u s))) × (t ≡ s)
 MakesVar s (Err (Dimacs cause)) t = ⊥
-MakesVar s (Err OutOfMemory) t = IsValid s × ((u : ℕ) × IsLeastFree s u × (u < 2 ^ 28)) × Breaks s t
+MakesVar s (Err OutOfMemory) t = ((u : ℕ) × IsLeastFree s u × (u < 2 ^ 28)) × Invalidates s t
 
 -- The call `solve`.
 
--- what a verdict answers
+-- what is returned at a verdict
 abbrev pub answer_of : Verdict → Option Bool
 answer_of Unknown = None
 answer_of (Sat found) = Some true
@@ -105,22 +132,33 @@ answer_of Unsat = Some false
 abbrev pub with_verdict : Verdict → State → State
 with_verdict v s = record s { verdict = v }
 
--- A verdict that was known stays. One that is found is right, and is the answer.
+-- A verdict is returned, and is right. One that was known stays.
+pub record TellsVerdict (s : State) (b : Bool) (t : State) : Type 0 where
+  pub valid : IsValid s
+  pub known : s.verdict ≢ Unknown → t.verdict ≡ s.verdict
+  pub answer : answer_of t.verdict ≡ Some b
+  pub right : HasRightVerdict t
+  pub rest : IsLike (with_verdict t.verdict s) t
+
 abbrev pub Solves : State → Result Bool SolverError → State → Type 0
-Solves s (Ok b) t =
-    IsValid s × ((v : Verdict) × ((s.verdict ≢ Unknown) → v ≡ s.verdict) × (answer_of v ≡ Some b) × HasRightVerdict (with_verdict v s) × IsLike (with_verdict v s) t)
+Solves s (Ok b) t = TellsVerdict s b t
 Solves s (Err Invalid) t = IsRefusedInvalid s t
-Solves s (Err OutOfMemory) t = IsValid s × (s.verdict ≡ Unknown) × Breaks s t
+Solves s (Err OutOfMemory) t = (s.verdict ≡ Unknown) × Invalidates s t
 Solves s (Err _) t = ⊥
 
 -- The call `model`.
 
--- want of memory comes only where there is a list to tell, and changes nothing
+-- running out of memory comes only where there is a list to tell, and changes nothing
 abbrev pub TellsModel : State → Result (Option (List Literal)) AllocError → State → Type 0
-TellsModel s (Ok m) t = ((IsValid s × (m ≡ model_of s s.verdict)) ⊎ ((s.ledger.valid ≡ false) × (m ≡ None))) × (t ≡ s)
+TellsModel s (Ok m) t = ((IsValid s × (m ≡ model_of s s.verdict)) ⊎ ((is_valid s ≡ false) × (m ≡ None))) × (t ≡ s)
 TellsModel s (Err _) t = IsValid s × (answer_of s.verdict ≡ Some true) × (t ≡ s)
 
 -- The call `is_valid`.
 
 abbrev pub TellsValid : State → Bool → State → Type 0
-TellsValid s b t = (b ≡ s.ledger.valid) × (t ≡ s)
+TellsValid s b t = (b ≡ is_valid s) × (t ≡ s)
+
+-- The call `close_proof`: no proof can be open yet.
+
+abbrev pub ClosesProof : {W : Type 0} → State → Result (Option W) (SolverError × W) → State → Type 0
+ClosesProof s r t = (r ≡ Ok None) × (t ≡ s)

@@ -2,7 +2,9 @@ pub mod Names
 pub mod States
 pub mod Models
 pub mod Refusals
+pub mod Additions
 pub mod Calls
+pub mod Pasts
 pub mod Told
 pub mod Runs
 pub mod Histories
@@ -10,5 +12,4 @@ pub mod Searches
 pub mod Summaries
 pub mod Counts
 pub mod Lines
-pub mod Texts
 pub mod Decided

@@ -1,4 +1,4 @@
--- The lines of a session: what each one calls, and how it is spelled.
+-- The commands of a session: what each one calls, how it is spelled on its line, and the texts of answers.
 use Rattle.std.specs.Prelude.{◌≡◌, ◌==◌, ◌<◌, ◌^◌, ℕ, Bool, true, false, Option, Some, None, Result, Ok, Err, List, [], ◌∷◌, ◌++◌, map, flat_map, codes, decimal}
 use Rattle.std.specs.List.{All, join_with_byte, slice_split}
 use Rattle.varisat_theory.specs.Literals.{Literal}
@@ -11,49 +11,53 @@ use Rattle.varisat.specs.declared.session.Answer.TheVariants as answer
 use Rattle.varisat.specs.declared.solver.SolverError.{SolverError}
 use Rattle.varisat.specs.declared.solver.SolverError.TheVariants.{OutOfMemory}
 
--- a line, by its call; a literal is its code
-pub data Line : Type 0 where
-  Add : List Literal → Line
-  New : Line
-  Solve : Line
-  Model : Line
+-- a command, by its call; a literal is its code
+pub data Command : Type 0 where
+  Add : List Literal → Command
+  New : Command
+  Solve : Command
+  Model : Command
+  Close : Command
 
--- the words of a line, in order
-abbrev pub words : Line → List (List ℕ)
+-- the words of a command, in order
+abbrev pub words : Command → List (List ℕ)
 words (Add literals) = codes "add" ∷ map literal_text literals
 words New = codes "new" ∷ []
 words Solve = codes "solve" ∷ []
 words Model = codes "model" ∷ []
+words Close = codes "close" ∷ []
 
 -- its words, with one space between each two
-abbrev pub spelling : Line → List ℕ
-spelling line = join_with_byte 32 (words line)
+abbrev pub spelling : Command → List ℕ
+spelling command = join_with_byte 32 (words command)
 
 -- its literals' numbers are at most 2^31
-abbrev pub IsInRange : Line → Type 0
-IsInRange (Add literals) = All (λ l. l < 2 ^ 32) literals
-IsInRange New = Unit {0}
-IsInRange Solve = Unit {0}
-IsInRange Model = Unit {0}
+abbrev pub HasNumbersInRange : Command → Type 0
+HasNumbersInRange (Add literals) = All (λ l. l < 2 ^ 32) literals
+HasNumbersInRange New = Unit {0}
+HasNumbersInRange Solve = Unit {0}
+HasNumbersInRange Model = Unit {0}
+HasNumbersInRange Close = Unit {0}
 
--- the text means the line
-pub record Means (text : List ℕ) (line : Line) : Type 0 where
-  pub spelled : spelling line ≡ text
-  pub in_range : IsInRange line
+-- the text means the command
+pub record Means (text : List ℕ) (command : Command) : Type 0 where
+  pub spelled : spelling command ≡ text
+  pub in_range : HasNumbersInRange command
 
--- no two lines are spelled alike
-abbrev pub MeansOneLine : Type 0
-MeansOneLine = (text : List ℕ) (a b : Line) → Means text a → Means text b → a ≡ b
+-- no two commands are spelled alike
+abbrev pub MeansOneCommand : Type 0
+MeansOneCommand = (text : List ℕ) (a b : Command) → Means text a → Means text b → a ≡ b
 
--- the line that asks for a call, where there is one
-abbrev pub line_of : {S A : Type 0} → Call S A → Option Line
-line_of (call.AddClause literals) = Some (Add literals.items)
-line_of (call.AddFormula formula) = None
-line_of (call.AddDimacsCnf source) = None
-line_of call.NewVar = Some New
-line_of call.Solve = Some Solve
-line_of call.Model = Some Model
-line_of call.IsValid = None
+-- the command that asks for a call, where there is one
+abbrev pub command_of : {S A : Type 0} → Call S A → Option Command
+command_of (call.AddClause literals) = Some (Add literals.items)
+command_of (call.AddFormula formula) = None
+command_of (call.AddDimacsCnf source) = None
+command_of call.NewVar = Some New
+command_of call.Solve = Some Solve
+command_of call.Model = Some Model
+command_of call.IsValid = None
+command_of call.CloseProof = Some Close
 
 -- the words that a text is cut into at its spaces
 abbrev pub words_of : List ℕ → List (List ℕ)
@@ -75,10 +79,10 @@ done_text (Ok _) = codes "ok"
 done_text (Err error) = refusal_text error
 
 -- the text of an answer
-abbrev pub answer_text : {A : Type 0} → Answer A → List ℕ
+abbrev pub answer_text : {W S A : Type 0} → Answer W S A → List ℕ
 answer_text (answer.AddClause done) = done_text done
 answer_text (answer.AddFormula done) = done_text done
-answer_text (answer.AddDimacsCnf done) = done_text done
+answer_text (answer.AddDimacsCnf done source) = done_text done
 answer_text (answer.NewVar (Ok variable)) = codes "ok " ++ variable_text variable
 answer_text (answer.NewVar (Err error)) = refusal_text error
 answer_text (answer.Solve (Ok b)) = truth_text b
@@ -87,3 +91,6 @@ answer_text (answer.Model (Ok (Some literals))) = codes "ok" ++ literals_text li
 answer_text (answer.Model (Ok None)) = codes "ok none"
 answer_text (answer.Model (Err _)) = refusal_text OutOfMemory
 answer_text (answer.IsValid b) = truth_text b
+answer_text (answer.CloseProof (Ok None)) = codes "ok none"
+answer_text (answer.CloseProof (Ok (Some target))) = codes "ok"
+answer_text (answer.CloseProof (Err failure)) = refusal_text failure.0

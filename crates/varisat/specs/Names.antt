@@ -1,5 +1,5 @@
 -- How names come into use.
-use Rattle.std.specs.Prelude.{◌≡◌, ◌≢◌, ℕ, zero, suc, ◌+◌, ◌-◌, ◌*◌, ◌%◌, ◌<◌, nat_lt, nat_eq, if◌then◌else◌, max, Option, Some, None, List, [], ◌∷◌}
+use Rattle.std.specs.Prelude.{◌≡◌, ◌≢◌, ℕ, zero, suc, ◌+◌, ◌-◌, ◌*◌, ◌%◌, ◌<◌, ◌≤◌, nat_lt, nat_eq, if◌then◌else◌, max, Option, Some, None, List, [], ◌∷◌}
 use Rattle.varisat_theory.specs.Literals.{Literal, variable_of}
 use Rattle.varisat.specs.States.{State, Sample}
 
@@ -46,3 +46,11 @@ identity_of (Some i) = i
 -- a literal over names in use, carried to their identities
 abbrev pub through_names : State → Literal → Literal
 through_names s l = 2 * identity_of (s.names (variable_of l)) + l % 2
+
+-- Exactly the names below n are in use, each for the identity of that number, all in mode Sample: names come into use in order as long as none is freed.
+pub record AreInOrder (n : ℕ) (s : State) : Type 0 where
+  pub made : s.made ≡ n
+  pub watermark : s.watermark ≡ n
+  pub in_use : (u : ℕ) → u < n → s.names u ≡ Some u
+  pub free : (u : ℕ) → n ≤ u → s.names u ≡ None
+  pub sampled : (i : ℕ) → i < n → s.modes i ≡ Sample

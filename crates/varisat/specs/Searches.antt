@@ -6,7 +6,7 @@ use Rattle.varisat_prop.specs.Parts.{is_true_value}
 use Rattle.varisat_prop.specs.View.{View, Fits}
 use Rattle.varisat_search.specs.declared.state.SatState.{SatState}
 use Rattle.varisat_search.specs.declared.state.SatState.TheVariants as outcome
-use Rattle.varisat.specs.Calls.{IsContradicted}
+use Rattle.varisat.specs.Calls.{ContradictsUnit}
 
 -- The search fits some list of clauses that has all of P among them, and whose others, which were learned, are satisfied wherever P is.
 pub record Holds (P : List Clause) (s : View) : Type 0 where
@@ -32,7 +32,7 @@ IsOpen outcome.UnsatUnderAssumptions = ⊥
 
 -- One more clause: it is held and not contradicted, or no assignment is left.
 abbrev pub IsLoaded : List Clause → Clause → View → SatState → Type 0
-IsLoaded P c t outcome.Unknown = (IsContradicted P c → ⊥) × Holds (P ++ c ∷ []) t
+IsLoaded P c t outcome.Unknown = (ContradictsUnit P c → ⊥) × Holds (P ++ c ∷ []) t
 IsLoaded P c t outcome.Sat = ⊥
 IsLoaded P c t outcome.Unsat = IsSatisfiable (P ++ c ∷ []) → ⊥
 IsLoaded P c t outcome.UnsatUnderAssumptions = ⊥

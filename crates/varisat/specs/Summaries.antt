@@ -8,6 +8,7 @@ use Rattle.varisat_search.specs.declared.state.SatState.{SatState}
 use Rattle.varisat_search.specs.declared.state.SatState.TheVariants as outcome
 use Rattle.varisat_search.specs.Contexts.{IsReady}
 use Rattle.varisat.specs.States.{State, Ledger, Verdict, Unknown, Sat, Unsat, HasRightVerdict, IsWellFormed}
+use Rattle.varisat.specs.Names.{AreInOrder}
 use Rattle.varisat.specs.Searches.{Holds, IsFlagged, found}
 
 -- The names below `var_count` are in use, each for the variable of that index. `flags`: for each variable whether an accepted clause names it.
@@ -27,13 +28,6 @@ pub record IsKept {A : Type 0} (var_count : ℕ) (flags : List Bool) (search : C
   -- there are no assumptions yet
   pub no_assumptions : search.solver_state.sat_state ≢ outcome.UnsatUnderAssumptions
 
--- exactly the names below n are in use, each for the identity of that number
-pub record NamesFit (n : ℕ) (s : State) : Type 0 where
-  pub made : s.made ≡ n
-  pub watermark : s.watermark ≡ n
-  pub in_use : (u : ℕ) → u < n → s.names u ≡ Some u
-  pub free : (u : ℕ) → n ≤ u → s.names u ≡ None
-
 -- the verdict, and the assignment that was found with it
 abbrev pub VerdictFits : SatState → Assignment → Verdict → Type 0
 VerdictFits outcome.Unknown assigned Unknown = Unit {0}
@@ -43,7 +37,7 @@ VerdictFits _ assigned _ = ⊥
 
 -- what a valid solver says of the state
 pub record Fits (g : Summary) (s : State) : Type 0 where
-  pub names : NamesFit g.var_count s
+  pub names : AreInOrder g.var_count s
   pub holds : (g.sat_state ≡ outcome.Unsat → ⊥) → Holds s.clauses g.search
   pub assumptions : s.assumptions ≡ []
   pub counted : (c : Clause) (l : Literal) → c ∈ s.clauses → l ∈ c → IsFlagged g.flags (variable_of l)

@@ -1,10 +1,10 @@
-//! The lines of a session: reading one line as a call, and writing the answer.
+//! The lines of a session: reading a line's command as a call, and writing the answer.
 ghost use Rattle.std.specs.Prelude.{◌≡◌, ◌≢◌, ◌==◌, ℕ, ◌+◌, ◌<◌, ◌≤◌, ◌^◌, List, [], ◌∷◌, ◌++◌, map, Some, IsTrue, IfOk, IfSome, IfNone, OnOk, decimal, length, codes};
 ghost use Rattle.std.specs.List.{All, join_with_byte};
 ghost use Rattle.std.specs.Io.KnownBytes.{Appends};
 ghost use Rattle.varisat_theory.specs.Literals.{Literal};
 ghost use Rattle.varisat_formula.specs.Numbers.{literal_text, variable_text};
-ghost use Rattle.varisat.specs.Lines.{Line, Add, words, Means, MeansOneLine, line_of, words_of, literals_text, refusal_text, done_text, answer_text};
+ghost use Rattle.varisat.specs.Lines.{Command, Add, words, Means, MeansOneCommand, command_of, words_of, literals_text, refusal_text, done_text, answer_text};
 
 use crate::session::{Answer, Call};
 use crate::solver::SolverError;
@@ -13,18 +13,18 @@ use std::alloc::{AllocError, Allocator};
 use std::io::{self, Write};
 use std::str;
 use varisat_formula::formula::{Lit, Var};
-use varisat_formula::io::ByteSource;
+use varisat_formula::io::{ByteSource, ProofTarget};
 
 // The highest number of a variable.
 const MAX_NUMBER: u32 = 0x8000_0000;
 
-/// Reads a line, without its line feed. None is for a text that is no line; only want of memory is an error.
+/// Reads a line's command, without the line feed. None is for a text that is no command; the only error is out of memory.
 pub fn parse_line<S: ByteSource, A: Allocator + Copy>(
     alloc: A,
     text: &[u8],
 ) -> Result<Option<Call<S, A>>, AllocError>
-    ensures line { IfOk result (λ found. IfSome found (λ call. (line : Line) × (line_of call ≡ Some line) × Means text.now line)) }
-    ensures no_line { IfOk result (λ found. IfNone found ((line : Line) → Means text.now line → ⊥)) }
+    ensures command { IfOk result (λ found. IfSome found (λ call. (command : Command) × (command_of call ≡ Some command) × Means text.now command)) }
+    ensures no_command { IfOk result (λ found. IfNone found ((command : Command) → Means text.now command → ⊥)) }
 {
     match text.strip_prefix(b"add ") {
         Some(numbers) => match parse_literals(alloc, numbers)? {
@@ -35,10 +35,10 @@ pub fn parse_line<S: ByteSource, A: Allocator + Copy>(
     }
 }
 
-// The call of a line that is one word.
+// The call of a command that is one word.
 fn parse_word<S: ByteSource, A: Allocator + Copy>(alloc: A, word: &[u8]) -> Option<Call<S, A>>
-    ensures line { IfSome result (λ call. (line : Line) × (line_of call ≡ Some line) × Means word.now line) }
-    ensures no_line { IfNone result ((line : Line) → Means word.now line → 1 < length (words line)) }
+    ensures command { IfSome result (λ call. (command : Command) × (command_of call ≡ Some command) × Means word.now command) }
+    ensures no_command { IfNone result ((command : Command) → Means word.now command → 1 < length (words command)) }
 {
     if word == b"add".as_slice() {
         Some(Call::AddClause(Vec::new(alloc)))
@@ -48,18 +48,20 @@ fn parse_word<S: ByteSource, A: Allocator + Copy>(alloc: A, word: &[u8]) -> Opti
         Some(Call::Solve)
     } else if word == b"model".as_slice() {
         Some(Call::Model)
+    } else if word == b"close".as_slice() {
+        Some(Call::CloseProof)
     } else {
         None
     }
 }
 
-// The literals of a line that begins with `add` and a space, from what follows.
+// The literals of a command that begins with `add` and a space, from what follows.
 fn parse_literals<A: Allocator + Copy>(
     alloc: A,
     numbers: &[u8],
 ) -> Result<Option<Vec<Lit, A>>, AllocError>
-    ensures line { IfOk result (λ found. IfSome found (λ literals. Means (codes "add " ++ numbers.now) (Add literals.items))) }
-    ensures no_line { IfOk result (λ found. IfNone found ((line : Line) → Means (codes "add " ++ numbers.now) line → ⊥)) }
+    ensures command { IfOk result (λ found. IfSome found (λ literals. Means (codes "add " ++ numbers.now) (Add literals.items))) }
+    ensures no_command { IfOk result (λ found. IfNone found ((command : Command) → Means (codes "add " ++ numbers.now) command → ⊥)) }
 {
     let mut literals = Vec::new(alloc);
     let mut rest = Some(numbers);
@@ -115,20 +117,20 @@ pub fn parse_variable(number: &[u8]) -> Option<Var>
     }
 }
 
-/// A text means at most one line.
-pub fn means_one_line()
-    ensures { MeansOneLine }
+/// A text means at most one command.
+pub fn means_one_command()
+    ensures { MeansOneCommand }
 {}
 
 /// Writes the answer of a call, without a line feed. An error is the writer's, and a beginning of the answer may be written.
-pub fn write_answer<W: Write, A: Allocator + Copy>(
-    out: &mut W,
-    answer: &Answer<A>,
+pub fn write_answer<O: Write, W: ProofTarget, S: ByteSource, A: Allocator + Copy>(
+    out: &mut O,
+    answer: &Answer<W, S, A>,
 ) -> io::Result<()>
-    ensures { OnOk result (Appends (W.contents out.old) (W.contents out.new) (answer_text answer.now)) }
+    ensures { OnOk result (Appends (O.contents out.old) (O.contents out.new) (answer_text answer.now)) }
 {
     match answer {
-        Answer::AddClause(done) | Answer::AddFormula(done) | Answer::AddDimacsCnf(done) => {
+        Answer::AddClause(done) | Answer::AddFormula(done) | Answer::AddDimacsCnf(done, _) => {
             write_done(out, done)
         }
         Answer::NewVar(Ok(var)) => {
@@ -141,7 +143,9 @@ pub fn write_answer<W: Write, A: Allocator + Copy>(
             out.write_all(b"ok")?;
             write_literals(out, list)
         }
-        Answer::Model(Ok(None)) => out.write_all(b"ok none"),
+        Answer::Model(Ok(None)) | Answer::CloseProof(Ok(None)) => out.write_all(b"ok none"),
+        Answer::CloseProof(Ok(Some(_))) => out.write_all(b"ok"),
+        Answer::CloseProof(Err((error, _))) => write_refusal(out, error),
         Answer::NewVar(Err(error)) => write_refusal(out, error),
         Answer::Solve(Err(error)) => write_refusal(out, error),
         Answer::Model(Err(_)) => write_refusal(out, &SolverError::OutOfMemory),

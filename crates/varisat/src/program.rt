@@ -1,8 +1,8 @@
 //! The commands of the program, over readers and writers.
-ghost use Rattle.std.specs.Prelude.{◌≡◌, ◌⊎◌, List, Option, OnOk, IfOk};
+ghost use Rattle.std.specs.Prelude.{◌≡◌, ◌⊎◌, ◌-◌, ◌^◌, ◌<◌, List, Option, OnOk, IfOk};
 ghost use Rattle.std.specs.Io.KnownBytes.{Appends};
 ghost use Rattle.varisat_theory.specs.Literals.{Literal};
-ghost use Rattle.varisat.specs.Decided.{listed, Decides, model_text, outcome_text, outcome_status, fault_status};
+ghost use Rattle.varisat.specs.Decided.{listed, Decides, StatusIsTrue, model_text, outcome_text, outcome_status, fault_status};
 
 use crate::line::{parse_line, write_answer, write_literals};
 use crate::session::make_call;
@@ -11,7 +11,7 @@ use std::alloc::Allocator;
 use std::fmt::Display;
 use std::io::{self, BufRead, BufReader, Empty, Read, Write};
 use varisat_formula::formula::Lit;
-use varisat_formula::io::{MemoryTarget, ReadSource};
+use varisat_formula::io::{ByteSource, MemoryTarget, ReadSource};
 
 /// The status of a command that came to its end.
 pub const STATUS_DONE: u8 = 0;
@@ -38,15 +38,17 @@ pub fn session_lines<A: Allocator + Copy, R: Read + Drop, W: Write, E: Write>(
     }
 }
 
-/// Reads a DIMACS CNF text and decides it. Prints `s SATISFIABLE` and a `v` line with the model, status 10, or `s UNSATISFIABLE`, status 20. A fault of the text, its reader or the writer, and want of memory, is told on `err`, and the status is 2.
-pub fn solve_lines<A: Allocator + Copy, R: Read + Drop, W: Write, E: Write>(
+/// Reads a DIMACS CNF text and decides it. Prints `s SATISFIABLE` and a `v` line with the model, status 10, or `s UNSATISFIABLE`, status 20. A fault of the text, its source or the writer, and out of memory, is told on `err`, and the status is 2. Of what was printed something is said only for a writer whose contents are known. The source has to have counted fewer than 2^64-1 faults.
+pub fn solve_lines<A: Allocator + Copy, S: ByteSource, W: Write, E: Write>(
     alloc: A,
-    cnf: R,
+    cnf: &mut S,
     out: &mut W,
     err: &mut E,
 ) -> u8
-    // Any other status is given only after the whole text was read and decided, and the outcome printed.
-    ensures { (result ≡ fault_status) ⊎ ((outcome : Option (List Literal)) × Decides (R.remaining cnf) outcome × (result ≡ outcome_status outcome) × Appends (W.contents out.old) (W.contents out.new) (outcome_text outcome)) }
+    requires { (S.stand cnf.old).faults < 2 ^ 64 - 1 }
+    // Any other status is given only after the source gave a whole text, which was decided, and the outcome printed.
+    ensures outcome { (result ≡ fault_status) ⊎ ((outcome : Option (List Literal)) × Decides (S.stand cnf.old) (S.stand cnf.new) outcome × (result ≡ outcome_status outcome) × Appends (W.contents out.old) (W.contents out.new) (outcome_text outcome)) }
+    ensures truth { StatusIsTrue (S.stand cnf.old) (S.stand cnf.new) result }
 {
     match decide(alloc, cnf) {
         Ok(outcome) => match write_outcome(out, &outcome) {
@@ -58,14 +60,15 @@ pub fn solve_lines<A: Allocator + Copy, R: Read + Drop, W: Write, E: Write>(
 }
 
 /// The model of a DIMACS CNF text, or None where its clauses are unsatisfiable.
-fn decide<A: Allocator + Copy, R: Read + Drop>(
+fn decide<A: Allocator + Copy, S: ByteSource>(
     alloc: A,
-    cnf: R,
+    cnf: &mut S,
 ) -> Result<Option<Vec<Lit, A>>, SolverError>
-    ensures { IfOk result (λ outcome. Decides (R.remaining cnf) (listed outcome)) }
+    requires { (S.stand cnf.old).faults < 2 ^ 64 - 1 }
+    ensures { IfOk result (λ outcome. Decides (S.stand cnf.old) (S.stand cnf.new) (listed outcome)) }
 {
     let mut solver: Solver<MemoryTarget<A>, A> = Solver::new_in(alloc);
-    solver.add_dimacs_cnf(&mut ReadSource::new(cnf))?;
+    solver.add_dimacs_cnf(cnf)?;
     if !solver.solve()? {
         return Ok(None);
     }

@@ -1,9 +1,9 @@
 //! Any list of calls of a solver.
 ghost use Rattle.std.specs.Prelude.{◌≡◌, [], IfOk, OnErr};
-ghost use Rattle.varisat_formula.specs.Parsed.{stand};
 ghost use Rattle.varisat.specs.States.{State, empty_state};
 ghost use Rattle.varisat.specs.Summaries.{StandsFor};
-ghost use Rattle.varisat.specs.Runs.{Gives, Run, IsReadable, AreReadable};
+ghost use Rattle.varisat.specs.Runs.{MakesCall, Run, IsReadable, AreReadable};
+ghost use Rattle.varisat.specs.Pasts.{empty_past};
 ghost use Rattle.varisat.specs.Histories.{AreTrue};
 
 use crate::solver::{Solver, SolverError};
@@ -11,7 +11,7 @@ use std::alloc::{AllocError, Allocator};
 use varisat_formula::formula::{CnfFormula, Lit, Var};
 use varisat_formula::io::{ByteSource, ProofTarget};
 
-/// A call of a solver, with what it is given. A text is given by its source.
+/// A call of a solver, with what it is given. A text is given by its source. No call takes a proof's target yet.
 #[derive(Drop)]
 pub enum Call<S: ByteSource, A: Allocator + Copy> {
     AddClause(Vec<Lit, A>),
@@ -21,46 +21,52 @@ pub enum Call<S: ByteSource, A: Allocator + Copy> {
     Solve,
     Model,
     IsValid,
+    CloseProof,
 }
 
-/// What a call answered.
+/// What a call returned. A source is given back with the answer, and a proof's target where its proof is closed.
 #[derive(Drop)]
-pub enum Answer<A: Allocator + Copy> {
+pub enum Answer<W: ProofTarget, S: ByteSource, A: Allocator + Copy> {
     AddClause(Result<(), SolverError>),
     AddFormula(Result<(), SolverError>),
-    AddDimacsCnf(Result<(), SolverError>),
+    AddDimacsCnf(Result<(), SolverError>, S),
     NewVar(Result<Var, SolverError>),
     Solve(Result<bool, SolverError>),
     Model(Result<Option<Vec<Lit, A>>, AllocError>),
     IsValid(bool),
+    CloseProof(Result<Option<W>, (SolverError, W)>),
 }
 
 /// Makes one call. A source has to have counted fewer than 2^64-1 faults.
 pub fn make_call<W: ProofTarget, S: ByteSource, A: Allocator + Copy>(
     solver: &mut Solver<W, A>,
     call: Call<S, A>,
-) -> Answer<A>
-    requires { IsReadable S.fault_count call }
-    ensures { (s : State) → StandsFor solver.old s → (t : State) × Gives (stand S.given S.left S.pieces_left S.fault_count) s call result t × StandsFor solver.new t }
+) -> Answer<W, S, A>
+    requires { IsReadable S.stand call }
+    ensures { (s : State) → StandsFor solver.old s → (t : State) × MakesCall S.stand s call result t × StandsFor solver.new t }
 {
     match call {
         Call::AddClause(clause) => Answer::AddClause(solver.add_clause(&clause)),
         Call::AddFormula(formula) => Answer::AddFormula(solver.add_formula(&formula)),
-        Call::AddDimacsCnf(mut source) => Answer::AddDimacsCnf(solver.add_dimacs_cnf(&mut source)),
+        Call::AddDimacsCnf(mut source) => {
+            let added = solver.add_dimacs_cnf(&mut source);
+            Answer::AddDimacsCnf(added, source)
+        }
         Call::NewVar => Answer::NewVar(solver.new_var()),
         Call::Solve => Answer::Solve(solver.solve()),
         Call::Model => Answer::Model(solver.model()),
         Call::IsValid => Answer::IsValid(solver.is_valid()),
+        Call::CloseProof => Answer::CloseProof(solver.close_proof()),
     }
 }
 
-/// Makes the calls in turn, and gives their answers in this order. Err comes only before the first call, where the list of answers was refused. Each source has to have counted fewer than 2^64-1 faults.
+/// Makes the calls in turn, and returns their answers in this order. Err comes only before the first call, where the list of answers was refused. Each source has to have counted fewer than 2^64-1 faults.
 pub fn run<W: ProofTarget, S: ByteSource, A: Allocator + Copy>(
     solver: &mut Solver<W, A>,
     calls: Vec<Call<S, A>, A>,
-) -> Result<Vec<Answer<A>, A>, AllocError>
-    requires { AreReadable S.fault_count calls.items }
-    ensures run { IfOk result (λ answers. (s : State) → StandsFor solver.old s → (t : State) × Run (stand S.given S.left S.pieces_left S.fault_count) s calls.items answers.items t × StandsFor solver.new t) }
+) -> Result<Vec<Answer<W, S, A>, A>, AllocError>
+    requires { AreReadable S.stand calls.items }
+    ensures run { IfOk result (λ answers. (s : State) → StandsFor solver.old s → (t : State) × Run S.stand s calls.items answers.items t × StandsFor solver.new t) }
     ensures err { OnErr result (solver.new ≡ solver.old) }
 {
     let mut answers = Vec::with_capacity(*calls.allocator(), calls.len())?;
@@ -70,13 +76,13 @@ pub fn run<W: ProofTarget, S: ByteSource, A: Allocator + Copy>(
     Ok(answers)
 }
 
-/// The answers of a new solver to the calls. True is answered only if some assignment satisfies all clauses that were accepted until then, also those of formulas and texts, false only if none does, and a model that is told is one of them. Of sources the same is asked as by `run`.
+/// The answers of a new solver to the calls. Each is true of what the calls and answers before it say: of the clauses that were accepted until then, those of formulas and texts among them, and of the names in use. Of sources the same is asked as by `run`.
 pub fn answers_of<W: ProofTarget, S: ByteSource, A: Allocator + Copy>(
     calls: Vec<Call<S, A>, A>,
-) -> Result<Vec<Answer<A>, A>, AllocError>
-    requires { AreReadable S.fault_count calls.items }
-    ensures run { IfOk result (λ answers. (t : State) × Run (stand S.given S.left S.pieces_left S.fault_count) empty_state calls.items answers.items t) }
-    ensures truth { IfOk result (λ answers. AreTrue S.left [] calls.items answers.items) }
+) -> Result<Vec<Answer<W, S, A>, A>, AllocError>
+    requires { AreReadable S.stand calls.items }
+    ensures run { IfOk result (λ answers. (t : State) × Run S.stand empty_state calls.items answers.items t) }
+    ensures truth { IfOk result (λ answers. AreTrue S.stand empty_past calls.items answers.items) }
 {
     let mut solver: Solver<W, A> = Solver::new_in(*calls.allocator());
     let answers = run(&mut solver, calls)?;

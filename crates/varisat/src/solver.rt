@@ -135,10 +135,8 @@ impl<W: ProofTarget, A: Allocator + Copy> Solver<W, A> {
     ghost use Rattle.varisat_theory.specs.Literals.{IsSatisfiableWith};
     ghost use Rattle.varisat.specs.States.{State, empty_state};
     ghost use Rattle.varisat.specs.Models.{model_of, IsCompletable};
-    ghost use Rattle.varisat.specs.Calls.{IsValid, AddsClause, AddsFormula, MakesVar, Solves, TellsModel, TellsValid, answer_of};
+    ghost use Rattle.varisat.specs.Calls.{IsValid, AddsClause, AddsFormula, AddsDimacs, TellsFault, MakesVar, Solves, TellsModel, TellsValid, ClosesProof, answer_of};
     ghost use Rattle.varisat.specs.Told.{told_model};
-    ghost use Rattle.varisat.specs.Texts.{AnswersFault, AddsDimacs};
-    ghost use Rattle.varisat_formula.specs.Parsed.{stand};
     ghost use Rattle.varisat.specs.Summaries.{StandsFor};
 
     /// A solver with no clause. It takes no memory.
@@ -204,9 +202,9 @@ impl<W: ProofTarget, A: Allocator + Copy> Solver<W, A> {
         Ok(())
     }
 
-    /// The refusal for a fault of a text. Want of memory leaves the solver invalid.
+    /// The refusal for a fault of a text. Where memory ran out in the reader the solver is invalid then.
     fn refuse_text(&mut self, fault: DimacsError) -> SolverError
-        ensures { (s : State) → StandsFor self.old s → (t : State) × AnswersFault (Some fault) s (Err result) t × StandsFor self.new t }
+        ensures { (s : State) → StandsFor self.old s → IsValid s → (t : State) × TellsFault (Some fault) s (Err result) t × StandsFor self.new t }
     {
         if let DimacsErrorKind::OutOfMemory = fault.kind {
             self.ctx.solver_state.state_is_invalid = true;
@@ -215,10 +213,10 @@ impl<W: ProofTarget, A: Allocator + Copy> Solver<W, A> {
         SolverError::Dimacs { cause: fault }
     }
 
-    /// Accepts the clauses of a DIMACS CNF text in turn, up to the first that is refused or the text's first fault, which is then answered, whatever the pieces in which the source gives the text. The clauses before it stay. Want of memory in the reader is answered as in any call.
+    /// Accepts the clauses of a DIMACS CNF text in turn, up to the first that is refused or the text's first fault, which is then returned, whatever the pieces in which the source gives the text. The clauses before it stay. Out of memory in the reader is returned as in any call.
     pub fn add_dimacs_cnf<S: ByteSource>(&mut self, source: &mut S) -> Result<(), SolverError>
-        requires { S.fault_count source.old < 2 ^ 64 - 1 }
-        ensures { (s : State) → StandsFor self.old s → (t : State) × AddsDimacs s (stand S.given S.left S.pieces_left S.fault_count source.old) result (stand S.given S.left S.pieces_left S.fault_count source.new) t × StandsFor self.new t }
+        requires { (S.stand source.old).faults < 2 ^ 64 - 1 }
+        ensures { (s : State) → StandsFor self.old s → (t : State) × AddsDimacs s (S.stand source.old) result (S.stand source.new) t × StandsFor self.new t }
     {
         if self.ctx.solver_state.state_is_invalid {
             return Err(SolverError::Invalid);
@@ -256,6 +254,13 @@ impl<W: ProofTarget, A: Allocator + Copy> Solver<W, A> {
         self.var_count += 1;
         self.started = true;
         Ok(Var::from_index(index))
+    }
+
+    /// Closes the proof, and gives its target back; None as no proof can be opened yet.
+    pub fn close_proof(&mut self) -> Result<Option<W>, (SolverError, W)>
+        ensures { (s : State) → StandsFor self.old s → (t : State) × ClosesProof s result t × StandsFor self.new t }
+    {
+        Ok(None)
     }
 
     /// Whether some assignment satisfies the accepted clauses. Refused in an invalid solver, and where memory runs out.

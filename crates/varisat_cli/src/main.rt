@@ -1,14 +1,15 @@
 //! The program: opens what the command line names, and hands it to the command.
 #![tactic(auto)]
 
-ghost use Rattle.std.specs.Prelude.{◌≡◌, ◌↔◌, IsErr};
+ghost use Rattle.std.specs.Prelude.{◌≡◌, ◌↔◌, ◌-◌, ◌^◌, ◌<◌, IsErr};
 ghost use Rattle.std.specs.Fs.{file_type, IsDir};
-ghost use Rattle.varisat.specs.Decided.{fault_status};
+ghost use Rattle.varisat.specs.Decided.{fault_status, StatusIsTrue};
 
 use std::fs::{File, Metadata};
 use std::io::{self, BufWriter, ErrorKind, Write};
 use std::process::ExitCode;
 use std::{env, fs};
+use varisat::io::ReadSource;
 use varisat::program::{STATUS_FAULT, session_lines, solve_lines, tell_fault, tell_usage};
 
 fn main(rt: HostRuntime) -> ExitCode {
@@ -53,9 +54,22 @@ fn solve(rt: &HostRuntime, path: &str) -> u8 {
         Err(error) => return tell_file(&mut err, path, &error),
     };
     match BufWriter::new(rt.alloc(), io::writer(rt)) {
-        Ok(mut out) => solve_lines(rt.alloc(), cnf, &mut out, &mut err),
+        Ok(mut out) => decide_file(rt, &mut ReadSource::new(cnf), &mut out, &mut err),
         Err(error) => tell_fault(&mut err, &error),
     }
+}
+
+// Decides the text that a file gives. Nobody knows its bytes beforehand, but the status is right for those that were read.
+fn decide_file<W: Write, E: Write>(
+    rt: &HostRuntime,
+    cnf: &mut ReadSource<File>,
+    out: &mut W,
+    err: &mut E,
+) -> u8
+    requires { cnf.old.faults < 2 ^ 64 - 1 }
+    ensures { StatusIsTrue cnf.old cnf.new result }
+{
+    solve_lines(rt.alloc(), cnf, out, err)
 }
 
 // Opens a file for reading, unless it is a folder: that would open, and only fail when it is read.

@@ -3,7 +3,7 @@ use super::*;
 use std::alloc::Global;
 use std::io::Empty;
 use varisat_formula::dimacs::{DimacsError, DimacsErrorKind};
-use varisat_formula::io::ReadSource;
+use varisat_formula::io::{MemoryTarget, ReadSource};
 
 // The call of a line. No line has a source.
 fn parse(
@@ -12,6 +12,9 @@ fn parse(
 ) -> Result<Option<Call<ReadSource<Empty>, Global>>, AllocError> {
     parse_line(alloc, text)
 }
+
+// An answer of a session, which has no source.
+type LineAnswer = Answer<MemoryTarget<Global>, ReadSource<Empty>, Global>;
 
 #[test]
 fn reads_clauses(rt: HostRuntime) -> Result<(), AllocError> {
@@ -42,6 +45,7 @@ fn reads_words(rt: HostRuntime) -> Result<(), AllocError> {
     assert!(rt; matches!(parse(rt.alloc(), b"new")?, Some(Call::NewVar)));
     assert!(rt; matches!(parse(rt.alloc(), b"solve")?, Some(Call::Solve)));
     assert!(rt; matches!(parse(rt.alloc(), b"model")?, Some(Call::Model)));
+    assert!(rt; matches!(parse(rt.alloc(), b"close")?, Some(Call::CloseProof)));
     Ok(())
 }
 
@@ -113,12 +117,15 @@ fn writes_answers(rt: HostRuntime) -> io::Result<()> {
         line: 1,
         kind: DimacsErrorKind::VarCount,
     };
-    let answers: [(Answer<Global>, &[u8]); 15] = [
+    let answers: [(LineAnswer, &[u8]); 18] = [
         (Answer::AddClause(Ok(())), b"ok".as_slice()),
         (Answer::AddClause(Err(SolverError::VariableLimit)), b"err 7"),
         (Answer::AddFormula(Ok(())), b"ok"),
         (
-            Answer::AddDimacsCnf(Err(SolverError::Dimacs { cause })),
+            Answer::AddDimacsCnf(
+                Err(SolverError::Dimacs { cause }),
+                ReadSource::new(io::empty()),
+            ),
             b"err 13",
         ),
         (Answer::NewVar(Ok(Var::from_index(6))), b"ok 7"),
@@ -135,6 +142,15 @@ fn writes_answers(rt: HostRuntime) -> io::Result<()> {
         (Answer::Model(Err(AllocError)), b"err 3"),
         (Answer::IsValid(true), b"ok true"),
         (Answer::IsValid(false), b"ok false"),
+        (Answer::CloseProof(Ok(None)), b"ok none"),
+        (
+            Answer::CloseProof(Ok(Some(MemoryTarget::new_in(rt.alloc())))),
+            b"ok",
+        ),
+        (
+            Answer::CloseProof(Err((SolverError::OutOfMemory, MemoryTarget::new_in(rt.alloc())))),
+            b"err 3",
+        ),
     ];
     for (answer, text) in answers.iter() {
         let mut out = Vec::new(rt.alloc());
@@ -146,7 +162,7 @@ fn writes_answers(rt: HostRuntime) -> io::Result<()> {
 
 #[test]
 fn stops_where_the_writer_fails(rt: HostRuntime) -> Result<(), AllocError> {
-    let answer = Answer::Model(Ok(Some(literals(rt.alloc())?)));
+    let answer: LineAnswer = Answer::Model(Ok(Some(literals(rt.alloc())?)));
     for room in 0..=21 {
         let mut bytes = [0; 21];
         let mut out = &mut bytes[..room];

@@ -92,7 +92,12 @@ fn texts_are_decided(rt: HostRuntime) -> Result<(), Fail> {
     for (text, printed, told, wanted) in &TEXTS {
         let mut out = Vec::new(rt.alloc());
         let mut err = Vec::new(rt.alloc());
-        let status = solve_lines(rt.alloc(), Cursor::new(*text), &mut out, &mut err);
+        let status = solve_lines(
+            rt.alloc(),
+            &mut ReadSource::new(Cursor::new(*text)),
+            &mut out,
+            &mut err,
+        );
         assert_eq!(rt; status, *wanted, "{text}");
         assert_eq!(rt; out.as_slice(), printed.as_bytes(), "{text}");
         assert_eq!(rt; err.as_slice(), told.as_bytes(), "{text}");
@@ -136,7 +141,10 @@ fn a_file_that_fails_is_told(rt: HostRuntime) -> Result<(), Fail> {
     let mut out = Vec::new(rt.alloc());
     let mut err = Vec::new(rt.alloc());
     let cnf = CutReader { text: b"1 0\n2" };
-    assert_eq!(rt; solve_lines(rt.alloc(), cnf, &mut out, &mut err), 2);
+    assert_eq!(rt;
+        solve_lines(rt.alloc(), &mut ReadSource::new(cnf), &mut out, &mut err),
+        2
+    );
     assert!(rt; out.is_empty());
     assert_eq!(rt;
         err.as_slice(),

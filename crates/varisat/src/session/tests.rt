@@ -13,9 +13,12 @@ use varisat_formula::{cnf_formula, lit, lits};
 // A call on a text.
 type TextCall = Call<ReadSource<&'static [u8]>, Global>;
 
-// The calls of a small session: a clause, a formula, a text that breaks off, a variable, the question, the model and the flag.
+// An answer of such a call.
+type TextAnswer = Answer<MemoryTarget<Global>, ReadSource<&'static [u8]>, Global>;
+
+// The calls of a small session: a clause, a formula, a text that breaks off, a variable, the question, the model, the flag, and the end of a proof that is not open.
 fn calls(alloc: Global) -> Result<Vec<TextCall>, Fail>
-    ensures { IfOk result (λ calls. AreReadable (λ s. s.faults) calls.items) }
+    ensures { IfOk result (λ calls. AreReadable (λ s. s) calls.items) }
 {
     let mut calls = Vec::new(alloc);
     calls.push(Call::AddClause(Vec::from_slice(alloc, &lits![3, -1])?))?;
@@ -26,15 +29,17 @@ fn calls(alloc: Global) -> Result<Vec<TextCall>, Fail>
     calls.push(Call::Solve)?;
     calls.push(Call::Model)?;
     calls.push(Call::IsValid)?;
+    calls.push(Call::CloseProof)?;
     Ok(calls)
 }
 
 // Whether the answers are those that the calls get with ample memory.
-fn are_right(answers: &[Answer<Global>]) -> bool {
+fn are_right(answers: &[TextAnswer]) -> bool {
     answers.iter().all(|answer| match answer {
         Answer::AddClause(added) | Answer::AddFormula(added) => added.is_ok(),
-        Answer::AddDimacsCnf(added) => {
+        Answer::AddDimacsCnf(added, source) => {
             matches!(added, Err(SolverError::Dimacs { cause }) if cause.line == 3)
+                && source.faults() == 0
         }
         Answer::NewVar(made) => matches!(made, Ok(var) if var.index() == 6),
         Answer::Solve(solved) => matches!(solved, Ok(true)),
@@ -42,6 +47,7 @@ fn are_right(answers: &[Answer<Global>]) -> bool {
             matches!(model, Ok(Some(list)) if list.as_slice() == lits![-1, -2, -3, -4, -5, 6, -7].as_slice())
         }
         Answer::IsValid(valid) => *valid,
+        Answer::CloseProof(closed) => matches!(closed, Ok(None)),
     })
 }
 
@@ -49,12 +55,12 @@ fn are_right(answers: &[Answer<Global>]) -> bool {
 fn calls_are_answered(rt: HostRuntime) -> Result<(), Fail> {
     let mut solver: Solver<MemoryTarget<Global>, Global> = Solver::new_in(rt.alloc());
     let answers = run(&mut solver, calls(rt.alloc())?)?;
-    assert_eq!(rt; answers.len(), 7);
+    assert_eq!(rt; answers.len(), 8);
     assert!(rt; are_right(&answers));
     let answers = answers_of::<MemoryTarget<Global>, ReadSource<&'static [u8]>, Global>(calls(
         rt.alloc(),
     )?)?;
-    assert_eq!(rt; answers.len(), 7);
+    assert_eq!(rt; answers.len(), 8);
     assert!(rt; are_right(&answers));
     Ok(())
 }

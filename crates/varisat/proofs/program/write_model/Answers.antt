@@ -1,6 +1,6 @@
 -- What was written stands behind each other.
 use Rattle.std.proofs.Common.{refl, append_assoc, ◌++◌, codes}
-use Rattle.varisat_formula.proofs.Known.{appends_more}
+use Rattle.varisat_formula.proofs.WriterBytes.{appends_more}
 use Rattle.varisat.specs.Lines.{literals_text}
 use Rattle.varisat.proofs.program.write_model.Goals as goal
 

@@ -10,12 +10,11 @@ returns-in-AddClause g c s st =
 pub returns-in-AddFormula : goal.returns-in-AddFormula
 returns-in-AddFormula g c s st = rw c.in-AddFormula.is (c.add_formula.ensures s st)
 
-pub add_dimacs_cnf-requires : goal.add_dimacs_cnf-requires
-add_dimacs_cnf-requires g c = rw c.in-AddDimacsCnf.is at c.requires
+pub add_dimacs_cnf-added-requires : goal.add_dimacs_cnf-added-requires
+add_dimacs_cnf-added-requires g c = rw c.in-AddDimacsCnf.is at c.requires
 
 pub returns-in-AddDimacsCnf : goal.returns-in-AddDimacsCnf
-returns-in-AddDimacsCnf g c s st =
-    let (t, a, w) = c.add_dimacs_cnf.ensures s st in rw c.in-AddDimacsCnf.is (t, (_, a), w)
+returns-in-AddDimacsCnf g c s st = rw c.in-AddDimacsCnf.is (c.add_dimacs_cnf-added.ensures s st)
 
 pub returns-in-NewVar : goal.returns-in-NewVar
 returns-in-NewVar g c s st = rw c.in-NewVar.is (c.new_var.ensures s st)
@@ -28,3 +27,6 @@ returns-in-Model g c s st = rw c.in-Model.is (c.model.ensures.call s st)
 
 pub returns-in-IsValid : goal.returns-in-IsValid
 returns-in-IsValid g c s st = rw c.in-IsValid.is (c.is_valid.ensures s st)
+
+pub returns-in-CloseProof : goal.returns-in-CloseProof
+returns-in-CloseProof g c s st = rw c.in-CloseProof.is (c.close_proof.ensures s st)

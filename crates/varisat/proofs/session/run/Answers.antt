@@ -1,15 +1,14 @@
 use Rattle.std.proofs.Common.{◌++◌, ◌∷◌, [], sym, ◌∙◌, ap, subst, arith, length, append_assoc}
 use Rattle.std.proofs.lemmas.List.{nil_from_length, append-nil}
 use Rattle.std.specs.Vec.Iter.{into_iter_items}
-use Rattle.varisat_formula.specs.Parsed.{stand}
 use Rattle.varisat.specs.Runs.{Run, AreReadable}
 use Rattle.varisat.proofs.Runs.{run-push, readable-next}
 use Rattle.varisat.proofs.session.run.Goals as goal
 
 pub make_call-requires : goal.make_call-requires
 make_call-requires g c =
-    readable-next _ c.loop-call.yielded _ c.in-Some.call
-    (subst (λ cs. AreReadable g.S.ByteSource.fault_count cs) (sym (ap (λ xs. c.loop-call.yielded ++ xs) (sym c.in-Some.ensures.steps.0) ∙ c.loop-call.invariant.whole)) c.requires)
+    readable-next g.S.ByteSource.stand c.loop-call.yielded _ c.in-Some.call
+    (subst (λ cs. AreReadable g.S.ByteSource.stand cs) (sym (ap (λ xs. c.loop-call.yielded ++ xs) (sym c.in-Some.ensures.steps.0) ∙ c.loop-call.invariant.whole)) c.requires)
 
 pub loop-call-preserved : goal.loop-call-preserved
 loop-call-preserved g c = record {
@@ -27,4 +26,4 @@ returns-clause-run g c s st =
     let none = nil_from_length (into_iter_items c.loop-call.call-iterator) (sym c.loop-call.invariant.left ∙ c.in-None.ensures.steps.0) in
     let e = sym (append-nil c.loop-call.yielded) ∙ ap (λ xs. c.loop-call.yielded ++ xs) (sym none) ∙ c.loop-call.invariant.whole in
     let (t, r, q) = c.loop-call.invariant.so_far s st in
-    (t, subst (λ cs. Run (stand g.S.ByteSource.given g.S.ByteSource.left g.S.ByteSource.pieces_left g.S.ByteSource.fault_count) s cs c.loop-call.answers.items t) e r, q)
+    (t, subst (λ cs. Run g.S.ByteSource.stand s cs c.loop-call.answers.items t) e r, q)

@@ -1,7 +1,6 @@
 use Rattle.std.proofs.Common.{◌≡◌, ◌≤◌, ◌+◌, ◌++◌, length, vec_len}
 use Rattle.std.specs.Prelude.{vec_capacity}
 use Rattle.std.specs.Vec.Iter.{into_iter_items, into_iter_len}
-use Rattle.varisat_formula.specs.Parsed.{stand}
 use Rattle.varisat.specs.States.{State}
 use Rattle.varisat.specs.Summaries.{StandsFor}
 use Rattle.varisat.specs.Runs.{Run}
@@ -9,7 +8,7 @@ use Rattle.varisat.proofs.session.run.Given as goal
 
 abbrev pub invariant-loop-call : goal.invariant-loop-call
 invariant-loop-call g l = record {
-  so_far : (s : State) → StandsFor l.initial.solver s → (t : State) × Run (stand g.S.ByteSource.given g.S.ByteSource.left g.S.ByteSource.pieces_left g.S.ByteSource.fault_count) s l.yielded l.answers.items t × StandsFor l.solver t;
+  so_far : (s : State) → StandsFor l.initial.solver s → (t : State) × Run g.S.ByteSource.stand s l.yielded l.answers.items t × StandsFor l.solver t;
   room : vec_len l.answers + into_iter_len l.call-iterator ≤ vec_capacity l.answers;
   left : into_iter_len l.call-iterator ≡ length (into_iter_items l.call-iterator);
   whole : l.yielded ++ into_iter_items l.call-iterator ≡ l.fn.calls.items;

@@ -5,7 +5,7 @@ use Rattle.varisat_theory.proofs.Members.{∈-append_cases}
 use Rattle.varisat.specs.Counts.{count_with}
 use Rattle.varisat_prop.proofs.Clauses.{item-∈}
 use Rattle.varisat.proofs.Places.{take-item}
-use Rattle.varisat.proofs.Named.{count-push}
+use Rattle.varisat.proofs.NamesInOrder.{count-push}
 use Rattle.varisat.proofs.solver.count_with_clause.Goals as goal
 
 pub returns-then-index-max_count : goal.returns-then-index-max_count

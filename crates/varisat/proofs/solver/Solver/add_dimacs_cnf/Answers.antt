@@ -1,9 +1,10 @@
 -- The text goes on, or a clause of it is refused, or it ends.
 use Rattle.std.proofs.Common.{◌∙◌, ◌++◌, [], inl, refl, sym, ap, not, arith, Ok, Some, None}
 use Rattle.varisat_formula.specs.Rest.{fault_of}
-use Rattle.varisat_formula.proofs.Parsing.{piece_told}
-use Rattle.varisat.proofs.Added.{told-error, adds-more, adds-valid, only-adds}
-use Rattle.varisat.proofs.Texted.{took, read-nothing, read-more, piece-refused, piece-fault, ending-refused, text-broken, text-ended}
+use Rattle.varisat_formula.proofs.ParsedSources.{piece_told}
+use Rattle.varisat.specs.Additions.{NoFault, Read}
+use Rattle.varisat.proofs.Additions.{told-error, adds-more, adds-valid, only-adds}
+use Rattle.varisat.proofs.Texts.{took, read-nothing, read-more, piece-refused, piece-fault, ending-refused, text-broken, text-ended}
 use Rattle.varisat.proofs.solver.Solver.add_dimacs_cnf.Goals as goal
 
 pub pieces-init : goal.pieces-init
@@ -19,7 +20,7 @@ returns-in_err-add_formula g c s st =
     let (mid, a, q) = c.pieces.invariant.so_far s st in
     let (t, b, w) = c.in_err-add_formula.ensures {u = tt} mid q in
     let refused = told-error c.from_residual.result c.in_err-add_formula.field-0.0 c.from_residual.ensures in
-    (t, inl (valid, rw refused (piece-refused s mid t _ _ _ _ _ _ _ _ _ _ c.pieces.invariant.read c.next_piece-more.ensures.takes (took _ _ _ c.take_formula.ensures.formula c.take_formula.ensures.rest c.take_formula.ensures.later) a (only-adds mid t _ _ (adds-valid s mid _ valid a) b))), w)
+    (t, rw refused (Read valid _ (piece-refused s mid t _ _ _ _ _ _ _ _ _ _ c.pieces.invariant.read c.next_piece-more.ensures.takes (took _ _ _ c.take_formula.ensures.formula c.take_formula.ensures.rest c.take_formula.ensures.later) a (only-adds mid t _ _ (adds-valid s mid _ valid a) b))), w)
 
 pub pieces-smaller : goal.pieces-smaller
 pieces-smaller g c = (c.next_piece-more.ensures.takes.goes (c.in-Ok-true.is ∙ ap Ok c.in-Ok-true.field-0-test)).1
@@ -41,14 +42,13 @@ returns-in-Err g c s st =
     let valid = ap (λ x. x.valid) before.ledger ∙ ap not c.if-self.false in
     let (mid, a, q) = c.pieces.invariant.so_far s st in
     let (u, b, w) = c.in_ok-add_formula.ensures {u = tt} mid q in
-    let (t, f, z) = c.refuse_text.ensures u w in
+    let added = only-adds mid u _ _ (adds-valid s mid _ valid a) b in
+    let (t, f, z) = c.refuse_text.ensures u w (adds-valid mid u _ (adds-valid s mid _ valid a) added) in
     let took = took _ _ _ c.take_formula.ensures.formula c.take_formula.ensures.rest c.take_formula.ensures.later in (
       t,
-      inl (
-        valid,
-        text-broken s mid t _ _ _ _ _ _ c.in-Err.fault _ _ c.pieces.invariant.read c.next_piece-more.ensures.takes c.in-Err.is a
-            (piece-fault mid u t _ _ _ _ _ took (piece_told _ _ _ _ c.in-Err.fault _ c.pieces.invariant.read.open_still c.next_piece-more.ensures.takes c.in-Err.is) (only-adds mid u _ _ (adds-valid s mid _ valid a) b) f),
-      ),
+      Read valid _
+          (text-broken s mid t _ _ _ _ _ _ c.in-Err.fault _ _ c.pieces.invariant.read c.next_piece-more.ensures.takes c.in-Err.is a
+          (piece-fault mid u t _ _ _ _ _ took (piece_told _ _ _ _ c.in-Err.fault _ c.pieces.invariant.read.open_still c.next_piece-more.ensures.takes c.in-Err.is) added f)),
       z,
     )
 
@@ -65,7 +65,7 @@ returns-in_err-add_formula-2 g c s st =
     let all = adds-more s mid u _ _ (Ok tt) a (only-adds mid u _ _ (adds-valid s mid _ valid a) b) in
     let (t, d, z) = c.in_err-add_formula-2.ensures {u = tt} u w in
     let refused = told-error c.from_residual-in_err-add_formula-2.result c.in_err-add_formula-2.field-0.0 c.from_residual-in_err-add_formula-2.ensures in
-    (t, inl (valid, rw refused (text-ended s u t _ _ _ _ _ _ read (k.ends ok).1 c.finish-end.ensures.reads all (ending-refused u t _ _ _ _ last (only-adds u t _ _ (adds-valid s u _ valid all) d)))), z)
+    (t, rw refused (Read valid _ (text-ended s u t _ _ _ _ _ _ read (k.ends ok).1 c.finish-end.ensures.reads all (ending-refused u t _ _ _ _ last (only-adds u t _ _ (adds-valid s u _ valid all) d)))), z)
 
 pub returns-in-Ok : goal.returns-in-Ok
 returns-in-Ok g c s st =
@@ -80,11 +80,9 @@ returns-in-Ok g c s st =
     let all = adds-more s mid u _ _ (Ok tt) a (only-adds mid u _ _ (adds-valid s mid _ valid a) b) in
     let (t, d, z) = c.in_ok-add_formula-2.ensures {u = tt} u w in (
       t,
-      inl (
-        valid,
-        text-ended s u t _ _ _ _ _ _ read (k.ends ok).1 c.finish-end.ensures.reads all
-            (piece-fault u t t _ _ _ None _ last (sym c.finish-end.ensures.answer ∙ ap fault_of c.in-Ok.is) (only-adds u t _ _ (adds-valid s u _ valid all) d) (refl, refl)),
-      ),
+      Read valid _
+          (text-ended s u t _ _ _ _ _ _ read (k.ends ok).1 c.finish-end.ensures.reads all
+          (piece-fault u t t _ _ _ None _ last (sym c.finish-end.ensures.answer ∙ ap fault_of c.in-Ok.is) (only-adds u t _ _ (adds-valid s u _ valid all) d) (NoFault refl refl refl))),
       z,
     )
 
@@ -100,12 +98,11 @@ returns g c s st =
     let (u, b, w) = c.in_ok-add_formula.ensures {u = tt} mid q in
     let all = adds-more s mid u _ _ (Ok tt) a (only-adds mid u _ _ (adds-valid s mid _ valid a) b) in
     let (t, d, y) = c.in_ok-add_formula-2.ensures {u = tt} u w in
-    let (v, f, z) = c.refuse_text-in-Err-end.ensures t y in (
+    let added = only-adds u t _ _ (adds-valid s u _ valid all) d in
+    let (v, f, z) = c.refuse_text-in-Err-end.ensures t y (adds-valid u t _ (adds-valid s u _ valid all) added) in (
       v,
-      inl (
-        valid,
-        text-ended s u v _ _ _ _ _ _ read (k.ends ok).1 c.finish-end.ensures.reads all
-            (piece-fault u t v _ _ _ (Some c.in-Err-end.fault) _ last (sym c.finish-end.ensures.answer ∙ ap fault_of c.in-Err-end.is) (only-adds u t _ _ (adds-valid s u _ valid all) d) f),
-      ),
+      Read valid _
+          (text-ended s u v _ _ _ _ _ _ read (k.ends ok).1 c.finish-end.ensures.reads all
+          (piece-fault u t v _ _ _ (Some c.in-Err-end.fault) _ last (sym c.finish-end.ensures.answer ∙ ap fault_of c.in-Err-end.is) added f)),
       z,
     )

@@ -1,19 +1,18 @@
 -- What was read was added.
 use Rattle.std.proofs.Common.{List, Ok}
 use Rattle.varisat_theory.specs.Literals.{Clause}
-use Rattle.varisat_formula.specs.Parsed.{stand}
 use Rattle.varisat.specs.States.{State}
 use Rattle.varisat.specs.Calls.{AddsAll}
 use Rattle.varisat.specs.Summaries.{StandsFor}
-use Rattle.varisat.proofs.Texted.{ReadSo}
+use Rattle.varisat.proofs.Texts.{ReadSo}
 use Rattle.varisat.proofs.solver.Solver.add_dimacs_cnf.Given as goal
 
 abbrev pub invariant-pieces : goal.invariant-pieces
 invariant-pieces g l = record {
   front : List Clause;
-  read : ReadSo (stand g.S.ByteSource.given g.S.ByteSource.left g.S.ByteSource.pieces_left g.S.ByteSource.fault_count l.initial.source) (stand g.S.ByteSource.given g.S.ByteSource.left g.S.ByteSource.pieces_left g.S.ByteSource.fault_count l.source) l.parser front;
+  read : ReadSo (g.S.ByteSource.stand l.initial.source) (g.S.ByteSource.stand l.source) l.parser front;
   so_far : (s : State) → StandsFor l.initial.self s → (mid : State) × AddsAll s front (Ok tt) mid × StandsFor l.self mid;
 }
 
 abbrev pub decreases-pieces : goal.decreases-pieces
-decreases-pieces g l = g.S.ByteSource.pieces_left l.source
+decreases-pieces g l = (g.S.ByteSource.stand l.source).pieces

@@ -1,8 +1,9 @@
 -- A clause more is accepted, or refused.
 use Rattle.std.proofs.Common.{◌≡◌, ◌∙◌, ◌++◌, ◌∷◌, [], Err, inl, refl, sym, ap, not, subst, map, append_assoc, append-nil, Ok}
 use Rattle.std.proofs.lemmas.List.{map-append}
+use Rattle.varisat.specs.Additions.{InTurn}
 use Rattle.varisat.specs.Calls.{AddsAll}
-use Rattle.varisat.proofs.Added.{told-error, adds-last, adds-refused}
+use Rattle.varisat.proofs.Additions.{told-error, adds-last, adds-refused}
 use Rattle.varisat.proofs.solver.Solver.add_formula.Goals as goal
 
 pub loop-clause-init : goal.loop-clause-init
@@ -30,7 +31,7 @@ returns-in_err-add_clause g c s st =
     let parts = ap (λ xs. map (λ c. c.now) c.loop-clause.yielded ++ xs) (sym c.in-Some.ensures.steps) ∙ c.loop-clause.invariant.whole in
     let before = rw (← c.self.view_is) at st in
     let valid = ap (λ x. x.valid) before.ledger ∙ ap not c.if-self.false in
-    (u, inl (valid, rw refused (subst (λ P. AddsAll s P (Err c.in_err-add_clause.field-0.0) u) parts (adds-refused s t u _ _ _ _ r p))), w)
+    (u, InTurn valid (rw refused (subst (λ P. AddsAll s P (Err c.in_err-add_clause.field-0.0) u) parts (adds-refused s t u _ _ _ _ r p))), w)
 
 pub returns : goal.returns
 returns g c s st =
@@ -38,4 +39,4 @@ returns g c s st =
     let all = sym (append-nil (map (λ c. c.now) c.loop-clause.yielded)) ∙ ap (λ xs. map (λ c. c.now) c.loop-clause.yielded ++ xs) (sym (c.in-None.ensures {u = tt}).steps.0) ∙ c.loop-clause.invariant.whole in
     let before = rw (← c.self.view_is) at st in
     let valid = ap (λ x. x.valid) before.ledger ∙ ap not c.if-self.false in
-    (t, inl (valid, subst (λ P. AddsAll s P (Ok tt) t) all r), q)
+    (t, InTurn valid (subst (λ P. AddsAll s P (Ok tt) t) all r), q)

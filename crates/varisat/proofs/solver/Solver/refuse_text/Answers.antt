@@ -1,12 +1,18 @@
--- Want of memory breaks the state.
-use Rattle.std.proofs.Common.{inl, refl, ap, false}
+-- Out of memory leaves no way back, and any other fault changes nothing.
+use Rattle.std.proofs.Common.{◌∙◌, refl, sym, ap, false}
 use Rattle.varisat.specs.States.{Ledger}
+use Rattle.varisat.specs.Additions.{MemoryFault, Fault}
+use Rattle.varisat.proofs.Kept.{broken, broken-invalid}
 use Rattle.varisat.proofs.solver.Solver.refuse_text.Goals as goal
 
 pub returns-in-OutOfMemory : goal.returns-in-OutOfMemory
-returns-in-OutOfMemory g c s st =
-    let q = rw (← c.self.view_is) at st in (
-      record s { ledger = record s.ledger { valid = false } },
-      inl (c.in-OutOfMemory.is, refl, refl),
+returns-in-OutOfMemory g c s st v =
+    let q = rw (← c.self.view_is) at st in
+    let f = q.fits (sym (ap (λ x. x.valid) q.ledger) ∙ v) in (
+      broken s,
+      MemoryFault c.args.fault refl c.in-OutOfMemory.is refl (broken-invalid _ s v f),
       record { ledger = ap (λ (x : Ledger). record x { valid = false }) q.ledger; fits = λ e. absurd cc },
     )
+
+pub returns : goal.returns
+returns g c s st v = (s, Fault c.args.fault refl c.in_default.not-OutOfMemory refl refl, st)

@@ -3,9 +3,10 @@ use Rattle.std.proofs.Common.{◌≡◌, inl, inr, List, [], ◌∷◌, ◌++◌
 use Rattle.std.specs.Result.{IsErr, IsErrAnd}
 use Rattle.varisat_theory.specs.Literals.{Clause}
 use Rattle.varisat.specs.States.{State}
-use Rattle.varisat.specs.Calls.{IsValid, AddsClause, AddsAll, AddsFormula}
-use Rattle.varisat.proofs.Named.{rest-all}
+use Rattle.varisat.specs.Additions.{InTurn, RefusedAtOnce}
+use Rattle.varisat.specs.Calls.{IsValid, Ignored, Accepted, AddsClause, AddsAll, AddsFormula}
 use Rattle.varisat.specs.declared.solver.SolverError.{SolverError}
+use Rattle.varisat.proofs.NamesInOrder.{rest-all}
 
 -- more clauses behind those that were accepted
 pub adds-more : (s mid t : State) (P Q : List Clause) (r : Result (Unit {0}) SolverError) → AddsAll s P (Ok tt) mid → AddsAll mid Q r t → AddsAll s (P ++ Q) r t
@@ -34,14 +35,15 @@ adds-longer s t (c ∷ P) Q e (inr a) = inr a
 
 -- accepted clauses leave the state valid
 clause-valid : (s t : State) (c : Clause) → AddsClause s c (Ok tt) t → IsValid t
-clause-valid s t c (v, inl (n, e)) = subst IsValid (sym e) v
-clause-valid s t c (v, inr (n, p, (w, k, e))) = subst IsValid (sym e) (ap (λ x. x.valid) (rest-all c s).ledger ∙ v)
+clause-valid s t c (v, Ignored n e) = subst IsValid (sym e) v
+clause-valid s t c (v, Accepted n p (w, k, e)) = ap (λ x. x.valid) e.ledger ∙ ap (λ x. x.valid) (rest-all c s).ledger ∙ v
 
 pub adds-valid : (s t : State) (P : List Clause) → IsValid s → AddsAll s P (Ok tt) t → IsValid t
 adds-valid s t [] v a = subst IsValid (sym a.1) v
 adds-valid s t (c ∷ P) v (inl (u, a, rest)) = adds-valid u t P (clause-valid s u c a) rest
 adds-valid s t (c ∷ P) v (inr (e, k, a)) = absurd cc
 
+-- in a valid state a formula's clauses are added in turn
 pub only-adds : (s t : State) (P : List Clause) (r : Result (Unit {0}) SolverError) → IsValid s → AddsFormula s P r t → AddsAll s P r t
-only-adds s t P r v (inl a) = a.1
-only-adds s t P r v (inr (e, (n, k))) = absurd (let q : true ≡ false = sym v ∙ n in cc)
+only-adds s t P r v (InTurn w a) = a
+only-adds s t P r v (RefusedAtOnce e (n, k)) = absurd (let q : true ≡ false = sym v ∙ n in cc)

@@ -1,13 +1,12 @@
--- Names that come into use, where those in use are the ones below a count.
+-- Names that come into use, where those in use are the ones below a count, in order.
 use Rattle.std.proofs.Common.{◌≡◌, ℕ, zero, suc, ◌+◌, ◌-◌, ◌*◌, ◌%◌, ◌<◌, ◌≤◌, nat_lt, max, if◌then◌else◌, Bool, true, false, List, [], ◌∷◌, ◌++◌, inl, inr, ⊎_elim, sym, ap, ◌∙◌, subst, refl, Option, Some, None, map, arith, rules}
 use Rattle.std.proofs.lemmas.Bool.{lt-ltb, cases_lt, eq-eqb, ne_eqb}
 use Rattle.varisat_theory.specs.Membership.{◌∈◌}
 use Rattle.varisat_theory.specs.Literals.{Literal, variable_of}
 use Rattle.varisat_theory.proofs.Members.{equal_or_not}
-use Rattle.varisat.specs.States.{State}
-use Rattle.varisat.specs.Names.{updated, bring, bring_next, bring_if_free, name_one, name_all, identity_of, through_names, IsLeastFree}
+use Rattle.varisat.specs.States.{State, Sample}
+use Rattle.varisat.specs.Names.{updated, bring, bring_next, bring_if_free, name_one, name_all, identity_of, through_names, IsLeastFree, AreInOrder}
 use Rattle.varisat.specs.Counts.{count_with}
-use Rattle.varisat.specs.Summaries.{NamesFit}
 
 -- 1. Naming changes names, the watermark, modes and identities alone.
 pub record KeepsRest (s t : State) : Type 0 where
@@ -58,7 +57,7 @@ updated-at f k v i e = ap (λ b. if b then v else f i) (eq-eqb i k e)
 updated-other : {X : Type 0} (f : ℕ → X) (k : ℕ) (v : X) (i : ℕ) → (i ≡ k → ⊥) → updated f k v i ≡ f i
 updated-other f k v i n = ap (λ b. if b then v else f i) (ne_eqb i k n)
 
-fit-bring : (n : ℕ) (s : State) → NamesFit n s → NamesFit (suc n) (bring s.watermark s)
+fit-bring : (n : ℕ) (s : State) → AreInOrder n s → AreInOrder (suc n) (bring s.watermark s)
 fit-bring n s f = record {
   made = omega (arith, f.made);
   watermark = omega (arith, f.watermark);
@@ -67,31 +66,35 @@ fit-bring n s f = record {
       (λ e. updated-other s.names s.watermark (Some s.made) u e ∙ f.in_use u (omega (arith, f.watermark)))
       (equal_or_not u s.watermark);
   free = λ u h. updated-other s.names s.watermark (Some s.made) u (λ e. absurd (omega (arith, f.watermark))) ∙ f.free u (omega arith);
+  sampled = λ i h. ⊎_elim
+      (λ e. updated-at s.modes s.made Sample i e)
+      (λ e. updated-other s.modes s.made Sample i e ∙ f.sampled i (omega (arith, f.made, e)))
+      (equal_or_not i s.made);
 }
 
-fit-next : (k n : ℕ) (s : State) → NamesFit n s → NamesFit (n + k) (bring_next k s)
-fit-next zero n s f = subst (λ m. NamesFit m s) (omega arith) f
-fit-next (suc k) n s f = subst (λ m. NamesFit m (bring_next k (bring s.watermark s))) (omega arith) (fit-next k (suc n) (bring s.watermark s) (fit-bring n s f))
+fit-next : (k n : ℕ) (s : State) → AreInOrder n s → AreInOrder (n + k) (bring_next k s)
+fit-next zero n s f = subst (λ m. AreInOrder m s) (omega arith) f
+fit-next (suc k) n s f = subst (λ m. AreInOrder m (bring_next k (bring s.watermark s))) (omega arith) (fit-next k (suc n) (bring s.watermark s) (fit-bring n s f))
 
-pub fit-one : (u n : ℕ) (s : State) → NamesFit n s → NamesFit (max n (u + 1)) (name_one u s)
+pub fit-one : (u n : ℕ) (s : State) → AreInOrder n s → AreInOrder (max n (u + 1)) (name_one u s)
 fit-one u n s f =
     ⊎_elim
     (λ h. let e = ap (λ b. if b then bring_if_free u (s.names u) s else bring_next (suc u - s.watermark) s) (lt-ltb u s.watermark h) ∙ ap (λ o. bring_if_free u o s) (f.in_use u (omega (arith, f.watermark))) in
     let m : n ≡ max n (u + 1) = omega (arith, f.watermark) in
-    subst (NamesFit (max n (u + 1))) (sym e) (subst (λ k. NamesFit k s) m f))
+    subst (AreInOrder (max n (u + 1))) (sym e) (subst (λ k. AreInOrder k s) m f))
     (λ h. let e = ap (λ b. if b then bring_if_free u (s.names u) s else bring_next (suc u - s.watermark) s) (not-below u s.watermark h) in
     let m : n + (suc u - s.watermark) ≡ max n (u + 1) = omega (arith, f.watermark) in
-    subst (NamesFit (max n (u + 1))) (sym e) (subst (λ k. NamesFit k (bring_next (suc u - s.watermark) s)) m (fit-next (suc u - s.watermark) n s f)))
+    subst (AreInOrder (max n (u + 1))) (sym e) (subst (λ k. AreInOrder k (bring_next (suc u - s.watermark) s)) m (fit-next (suc u - s.watermark) n s f)))
     (cases_lt u s.watermark)
   where
     not-below : (a b : ℕ) → b ≤ a → nat_lt a b ≡ false
     not-below a b h = search (rules, h)
 
-pub fit-all : (d : List Literal) (n : ℕ) (s : State) → NamesFit n s → NamesFit (count_with n d) (name_all d s)
+pub fit-all : (d : List Literal) (n : ℕ) (s : State) → AreInOrder n s → AreInOrder (count_with n d) (name_all d s)
 fit-all [] n s f = f
 fit-all (l ∷ d) n s f = fit-all d (max n (variable_of l + 1)) (name_one (variable_of l) s) (fit-one (variable_of l) n s f)
 
-pub least-free : (n : ℕ) (s : State) → NamesFit n s → IsLeastFree s n
+pub least-free : (n : ℕ) (s : State) → AreInOrder n s → IsLeastFree s n
 least-free n s f = (f.free n (omega arith), λ v h e. let q = sym (f.in_use v h) ∙ e in cc)
 
 -- 3. Literals over names in use are those over identities.
@@ -104,10 +107,10 @@ count-within [] n l h = absurd h
 count-within (k ∷ d) n l (inl e) = let h = count-above d (max n (variable_of k + 1)) in omega (arith, h, ap variable_of e)
 count-within (k ∷ d) n l (inr h) = count-within d (max n (variable_of k + 1)) l h
 
-pub through-one : (n : ℕ) (s : State) (l : Literal) → NamesFit n s → variable_of l < n → through_names s l ≡ l
+pub through-one : (n : ℕ) (s : State) (l : Literal) → AreInOrder n s → variable_of l < n → through_names s l ≡ l
 through-one n s l f h = let e = ap (λ o. 2 * identity_of o + l % 2) (f.in_use (variable_of l) h) in e ∙ omega arith
 
-pub through-all : (n : ℕ) (s : State) (d : List Literal) → NamesFit n s → ((l : Literal) → l ∈ d → variable_of l < n) → map (through_names s) d ≡ d
+pub through-all : (n : ℕ) (s : State) (d : List Literal) → AreInOrder n s → ((l : Literal) → l ∈ d → variable_of l < n) → map (through_names s) d ≡ d
 through-all n s [] f h = refl
 through-all n s (l ∷ d) f h = ap (λ x. x ∷ map (through_names s) d) (through-one n s l f (h l (inl refl))) ∙ ap (λ x. l ∷ x) (through-all n s d f (λ k m. h k (inr m)))
 

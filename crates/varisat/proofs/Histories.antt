@@ -1,0 +1,36 @@
+-- What a run says of the answers alone.
+use Rattle.std.proofs.Common.{◌≡◌, List, [], ◌∷◌, refl, ◌∙◌}
+use Rattle.varisat_formula.specs.Streams.{Stand}
+use Rattle.varisat.specs.declared.session.Call.{Call}
+use Rattle.varisat.specs.declared.session.Answer.{Answer}
+use Rattle.varisat.specs.declared.session.Call.TheVariants as call
+use Rattle.varisat.specs.declared.session.Answer.TheVariants as answer
+use Rattle.varisat.specs.States.{State, empty_state}
+use Rattle.varisat.specs.Told.{told_model}
+use Rattle.varisat.specs.Runs.{MakesCall, Run}
+use Rattle.varisat.specs.Pasts.{Past, empty_past}
+use Rattle.varisat.specs.Histories.{IsTrue, AreTrue}
+use Rattle.varisat.proofs.Pasts.{Agrees, Leads, add-clause, add-formula, add-text, make-var, solve, tell-model, stays, empty-agrees}
+
+-- a call moves the past and the state alike
+is-true : {W S A : Type 0} (seen : S → Stand) (c : Call S A) (a : Answer W S A) (p : Past) (s t : State) → Agrees p s → MakesCall seen s c a t → Leads (IsTrue seen p c a) t
+is-true seen (call.AddClause d) (answer.AddClause r) p s t g m = add-clause p s t d.items r g m
+is-true seen (call.AddFormula f) (answer.AddFormula r) p s t g m = add-formula p s t f.clauses r g m
+is-true seen (call.AddDimacsCnf source) (answer.AddDimacsCnf r back) p s t g m = add-text p s t (seen source) (seen back) r g m
+is-true seen call.NewVar (answer.NewVar r) p s t g m = make-var p s t r g m
+is-true seen call.Solve (answer.Solve r) p s t g m = solve p s t r g m
+is-true seen call.Model (answer.Model r) p s t g m = tell-model p s t (told_model r) g m
+is-true seen call.IsValid (answer.IsValid b) p s t g (e, k) = (p, (e ∙ g.valid, refl), stays p s t k g)
+is-true seen call.CloseProof (answer.CloseProof r) p s t g (e, k) = (p, (e, refl), stays p s t k g)
+is-true seen _ _ p s t g m = absurd m
+
+are-true : {W S A : Type 0} (seen : S → Stand) (calls : List (Call S A)) (answers : List (Answer W S A)) (p : Past) (s t : State) → Agrees p s → Run seen s calls answers t → AreTrue seen p calls answers
+are-true seen [] [] p s t g r = tt
+are-true seen [] (a ∷ answers) p s t g r = absurd r
+are-true seen (c ∷ calls) [] p s t g r = absurd r
+are-true seen (c ∷ calls) (a ∷ answers) p s t g (mid, m, r) =
+    let (q, x, h) = is-true seen c a p s mid g m in (q, x, are-true seen calls answers q mid t h r)
+
+-- each run of a new solver gives answers that are true
+pub run-is-true : {W S A : Type 0} (seen : S → Stand) (calls : List (Call S A)) (answers : List (Answer W S A)) (t : State) → Run seen empty_state calls answers t → AreTrue seen empty_past calls answers
+run-is-true seen calls answers t r = are-true seen calls answers empty_past empty_state t empty-agrees r

@@ -1,0 +1,457 @@
+-- What the calls and answers so far say of the state that a solver is in: each call moves both alike.
+use Rattle.std.proofs.Common.{◌≡◌, ◌≢◌, ℕ, ◌<◌, ◌≤◌, ◌+◌, ◌^◌, max, nat_lt, nat_le, nat_eq, Bool, true, false, ◌&&◌, ◌||◌, List, [], ◌∷◌, ◌++◌, ◌⊎◌, inl, inr, ⊎_elim, sym, ap, ◌∙◌, subst, refl, Option, Some, None, Result, Ok, Err, map, arith, append_assoc, append-nil}
+use Rattle.std.proofs.lemmas.Bool.{le-leb, lt-leb}
+use Rattle.std.specs.declared.alloc.AllocError.{AllocError}
+use Rattle.varisat_theory.specs.Membership.{◌∈◌}
+use Rattle.varisat_theory.specs.Literals.{Literal, Clause, Assignment, variable_of, literal_of, value, SatisfiesAll, MakesTrue, IsSatisfiable}
+use Rattle.varisat_theory.proofs.Assigned.{satisfies_fewer}
+use Rattle.varisat_search.proofs.Finding.{variable-literal}
+use Rattle.varisat_formula.specs.declared.dimacs.error.DimacsError.{DimacsError}
+use Rattle.varisat_formula.specs.Dimacs.{Reading}
+use Rattle.varisat_formula.specs.Streams.{Stand}
+use Rattle.varisat.specs.States.{State, Verdict, Unknown, Sat, Unsat, empty_state, IsRight, HasRightVerdict}
+use Rattle.varisat.specs.Names.{name_one, name_all, through_names, AreInOrder}
+use Rattle.varisat.specs.Models.{list_names, model_of}
+use Rattle.varisat.specs.Counts.{count_with}
+use Rattle.varisat.specs.Additions as additions
+use Rattle.varisat.specs.Additions.{Gave, InTurn, RefusedAtOnce, NoFault, MemoryFault, Fault, ClauseRefused, ClausesAdded, RefusedEarly, FaultInText, Whole, MemoryRanOut, SourceFailed, Read, Unread}
+use Rattle.varisat.specs.Calls as state
+use Rattle.varisat.specs.Calls.{IsPastLimit, IsLike, IsCrowded, start, append_clause, with_verdict, answer_of, reopened_verdict, VerdictAfter}
+use Rattle.varisat.specs.Pasts as past
+use Rattle.varisat.specs.Pasts.{Past, empty_past, use_name, use_names, accept, accept_all, IsModel}
+use Rattle.varisat.specs.declared.solver.SolverError.{SolverError}
+use Rattle.varisat.specs.declared.solver.SolverError.TheVariants.{OutOfMemory, Invalid, VariableLimit, Dimacs}
+use Rattle.varisat.proofs.NamesInOrder.{rest-one, rest-all, fit-one, fit-all, count-within, count-above, through-all}
+use Rattle.varisat.proofs.Models.{listed-rising, listed-in-use, listed-all, value-listed}
+
+-- 1. The names in use.
+
+-- The same names are in use: those below n.
+pub record NamesAgree (n : ℕ) (p : Past) (s : State) : Type 0 where
+  small : n ≤ 2 ^ 28
+  order : AreInOrder n s
+  watermark : p.watermark ≡ n
+  used : (u : ℕ) → u < n → p.in_use u ≡ true
+  unused : (u : ℕ) → n ≤ u → p.in_use u ≡ false
+
+names-like : (n : ℕ) (p q : Past) (s t : State) → q.in_use ≡ p.in_use → q.watermark ≡ p.watermark → t.made ≡ s.made → t.names ≡ s.names → t.watermark ≡ s.watermark → t.modes ≡ s.modes → NamesAgree n p s → NamesAgree n q t
+names-like n p q s t i w a b c d k = record {
+  small = k.small;
+  order = record {
+    made = a ∙ k.order.made;
+    watermark = c ∙ k.order.watermark;
+    in_use = λ u h. ap (λ f. f u) b ∙ k.order.in_use u h;
+    free = λ u h. ap (λ f. f u) b ∙ k.order.free u h;
+    sampled = λ u h. ap (λ f. f u) d ∙ k.order.sampled u h;
+  };
+  watermark = w ∙ k.watermark;
+  used = λ u h. ap (λ f. f u) i ∙ k.used u h;
+  unused = λ u h. ap (λ f. f u) i ∙ k.unused u h;
+}
+
+below-or : (u n : ℕ) → (u < n) ⊎ (n ≤ u)
+below-or u n = grind arith
+
+or-left : (a b : Bool) → a ≡ true → (a || b) ≡ true
+or-left true b e = refl
+or-left false b e = absurd cc
+
+or-right : (a b : Bool) → b ≡ true → (a || b) ≡ true
+or-right true b e = refl
+or-right false b e = e
+
+names-one : (u n : ℕ) (p : Past) (s : State) → u < 2 ^ 28 → NamesAgree n p s → NamesAgree (max n (u + 1)) (use_name u p) (name_one u s)
+names-one u n p s small k = record {
+  small = omega (arith, k.small);
+  order = fit-one u n s k.order;
+  watermark = ap (λ w. max w (u + 1)) k.watermark;
+  used = λ v h. ⊎_elim
+      (λ l. or-left (p.in_use v) (nat_le v u && (nat_eq v u || nat_le p.watermark v)) (k.used v l))
+      (λ l. or-right (p.in_use v) (nat_le v u && (nat_eq v u || nat_le p.watermark v)) (new v (omega arith) (omega (arith, k.watermark))))
+      (below-or v n);
+  unused = λ v h. ap (λ b. b || (nat_le v u && (nat_eq v u || nat_le p.watermark v))) (k.unused v (omega arith)) ∙ ap (λ b. b && (nat_eq v u || nat_le p.watermark v)) (lt-leb v u (omega arith));
+}
+  where
+    new : (v : ℕ) → v ≤ u → p.watermark ≤ v → (nat_le v u && (nat_eq v u || nat_le p.watermark v)) ≡ true
+    new v a b = ap (λ x. x && (nat_eq v u || nat_le p.watermark v)) (le-leb v u a) ∙ or-right (nat_eq v u) (nat_le p.watermark v) (le-leb p.watermark v b)
+
+names-all : (d : List Literal) (n : ℕ) (p : Past) (s : State) → ((l : Literal) → l ∈ d → variable_of l < 2 ^ 28) → NamesAgree n p s → NamesAgree (count_with n d) (use_names d p) (name_all d s)
+names-all [] n p s h k = k
+names-all (l ∷ d) n p s h k = names-all d (max n (variable_of l + 1)) (use_name (variable_of l) p) (name_one (variable_of l) s) (λ m i. h m (inr i)) (names-one (variable_of l) n p s (h l (inl refl)) k)
+
+-- where no name is past the limit each is below it
+below-limit : (d : List Literal) → (IsPastLimit d → ⊥) → (l : Literal) → l ∈ d → variable_of l < 2 ^ 28
+below-limit d h l i = ⊎_elim (λ k. k) (λ k. absurd (h (l, i, k))) (below-or (variable_of l) (2 ^ 28))
+
+-- where names would be too many, one of them is past the limit
+crowded-limit : (d : List Literal) (n : ℕ) → n ≤ 2 ^ 28 → 2 ^ 28 < count_with n d → IsPastLimit d
+crowded-limit [] n h k = absurd (omega arith)
+crowded-limit (l ∷ d) n h k =
+    ⊎_elim
+    (λ m. let (x, i, y) = crowded-limit d (max n (variable_of l + 1)) (omega arith) k in (x, inr i, y))
+    (λ m. (l, inl refl, m))
+    (below-or (variable_of l) (2 ^ 28))
+
+use-valid : (d : List Literal) (p : Past) → (use_names d p).valid ≡ p.valid
+use-valid [] p = refl
+use-valid (l ∷ d) p = use-valid d (use_name (variable_of l) p)
+
+use-assumptions : (d : List Literal) (p : Past) → (use_names d p).assumptions ≡ p.assumptions
+use-assumptions [] p = refl
+use-assumptions (l ∷ d) p = use-assumptions d (use_name (variable_of l) p)
+
+-- 2. The state and the past.
+
+-- what the past says of the state as long as it is valid
+pub record Knows (p : Past) (s : State) : Type 0 where
+  count : ℕ
+  names : NamesAgree count p s
+  same : s.verdict ≢ Unsat → s.clauses ≡ p.clauses
+  refuted : s.verdict ≡ Unsat → IsSatisfiable p.clauses → ⊥
+  assumptions : s.assumptions ≡ []
+  pub assumed : p.assumptions ≡ []
+  model : p.has_model ≡ true → answer_of s.verdict ≡ Some true
+  found : answer_of s.verdict ≡ Some true → p.has_model ≡ true
+  right : HasRightVerdict s
+
+-- the state is one that the past leads to
+pub record Agrees (p : Past) (s : State) : Type 0 where
+  pub valid : state.is_valid s ≡ p.valid
+  pub knows : p.valid ≡ true → Knows p s
+
+-- what a call leads to
+abbrev pub Leads : (Past → Type 0) → State → Type 0
+Leads to t = (q : Past) × to q × Agrees q t
+
+knows-of : (p : Past) (s : State) → Agrees p s → state.IsValid s → Knows p s
+knows-of p s g v = g.knows (sym g.valid ∙ v)
+
+not-true : (b : Bool) → b ≡ false → b ≡ true → ⊥
+not-true b e f = let z : true ≡ false = sym f ∙ e in cc
+
+-- nothing changes
+pub stays : (p : Past) (s t : State) → t ≡ s → Agrees p s → Agrees p t
+stays p s t e g = subst (Agrees p) (sym e) g
+
+-- no way leads back
+breaks : (p : Past) (s t : State) → Agrees p s → state.Invalidates s t → Leads (past.Invalidates p) t
+breaks p s t g b = (record p { valid = false }, (sym g.valid ∙ b.valid, refl), record { valid = b.invalid; knows = λ e. absurd cc })
+
+right-like : (s t : State) → t.clauses ≡ s.clauses → t.assumptions ≡ s.assumptions → t.counted ≡ s.counted → t.verdict ≡ s.verdict → HasRightVerdict s → HasRightVerdict t
+right-like s t c a n v r =
+    subst (λ x. IsRight t.clauses t.assumptions t.counted x) (sym v)
+    (subst (λ x. IsRight t.clauses t.assumptions x s.verdict) (sym n)
+    (subst (λ x. IsRight t.clauses x s.counted s.verdict) (sym a)
+    (subst (λ x. IsRight x s.assumptions s.counted s.verdict) (sym c) r)))
+
+-- 3. A clause.
+
+refuted-more : (P : List Clause) (c : Clause) → (IsSatisfiable P → ⊥) → IsSatisfiable (P ++ c ∷ []) → ⊥
+refuted-more P c n w = n (w.0, satisfies_fewer w.0 P (c ∷ []) w.1)
+
+not-unsat-reopened : (v : Verdict) → v ≢ Unsat → reopened_verdict v ≡ Unknown
+not-unsat-reopened Unknown n = refl
+not-unsat-reopened (Sat a) n = refl
+not-unsat-reopened Unsat n = absurd (n refl)
+
+after-cases : (P : List Clause) (c : Clause) (v w : Verdict) → v ≢ Unsat → VerdictAfter P c v w → ((w ≡ Unsat) × (IsSatisfiable (P ++ c ∷ []) → ⊥)) ⊎ (w ≡ Unknown)
+after-cases P c v w n (state.Refuted e u) = inl (e, u)
+after-cases P c v w n (state.Reopened e u) = inr (e ∙ not-unsat-reopened v n)
+
+ignored : (p : Past) (s : State) (d : Clause) → s.verdict ≡ Unsat → Agrees p s → p.valid ≡ true → Agrees (record p { clauses = p.clauses ++ d ∷ []; has_model = false }) s
+ignored p s d u g v =
+    let k = g.knows v in
+    record {
+      valid = g.valid;
+      knows = λ _. record {
+        count = k.count;
+        names = names-like k.count p (record p { clauses = p.clauses ++ d ∷ []; has_model = false }) s s refl refl refl refl refl refl k.names;
+        same = λ n. absurd (n u);
+        refuted = λ _. refuted-more p.clauses d (k.refuted u);
+        assumptions = k.assumptions;
+        assumed = k.assumed;
+        model = λ e. absurd cc;
+        found = λ e. absurd (let z : Some false ≡ Some true = ap answer_of (sym u) ∙ e in let y : false ≡ true = cc in cc);
+        right = k.right;
+      };
+    }
+
+accepted : (p : Past) (s t : State) (d : Clause) → s.verdict ≢ Unsat → (IsPastLimit d → ⊥) → state.Accepts s d t → Agrees p s → p.valid ≡ true → Agrees (accept d p) t
+accepted p s t d n lim (w, after, e) g v =
+    let k = g.knows v in
+    let f = fit-all d k.count s k.names.order in
+    let named = name_all d s in
+    let c = map (through_names named) d in
+    let rest = rest-all d s in
+    let own : c ≡ d = through-all (count_with k.count d) named d f (count-within d k.count) in
+    let all : s.clauses ++ c ∷ [] ≡ p.clauses ++ d ∷ [] = ap (λ P. P ++ c ∷ []) (k.same n) ∙ ap (λ x. p.clauses ++ x ∷ []) own in
+    let now : t.clauses ≡ p.clauses ++ d ∷ [] = e.clauses ∙ ap (λ P. P ++ c ∷ []) rest.clauses ∙ all in
+    let cases = after-cases s.clauses c s.verdict w n after in
+    record {
+      valid = ap (λ x. x.valid) e.ledger ∙ ap (λ x. x.valid) rest.ledger ∙ g.valid ∙ sym (use-valid d p);
+      knows = λ _. record {
+        count = count_with k.count d;
+        names = names-like (count_with k.count d) (use_names d p) (accept d p) named t refl refl e.made e.names e.watermark e.modes (names-all d k.count p s (below-limit d lim) k.names);
+        same = λ _. now;
+        refuted = λ u. ⊎_elim (λ r. subst (λ Q. IsSatisfiable Q → ⊥) all r.1) (λ r. absurd (let z : Unsat ≡ Unknown = sym u ∙ e.verdict ∙ r in cc)) cases;
+        assumptions = e.assumptions ∙ rest.assumptions ∙ k.assumptions;
+        assumed = use-assumptions d p ∙ k.assumed;
+        model = λ h. absurd cc;
+        found = λ h. absurd (⊎_elim
+            (λ r. let z : Some false ≡ Some true = ap answer_of (sym (e.verdict ∙ r.0)) ∙ h in let y : false ≡ true = cc in cc)
+            (λ r. let z : None ≡ Some true = ap answer_of (sym (e.verdict ∙ r)) ∙ h in cc) cases);
+        right = ⊎_elim
+            (λ r. subst (λ x. IsRight t.clauses t.assumptions t.counted x) (sym (e.verdict ∙ r.0)) (subst (λ Q. IsSatisfiable Q → ⊥) (all ∙ sym now) r.1))
+            (λ r. subst (λ x. IsRight t.clauses t.assumptions t.counted x) (sym (e.verdict ∙ r)) tt) cases;
+      };
+    }
+
+pub add-clause : (p : Past) (s t : State) (d : Clause) (r : Result (Unit {0}) SolverError) → Agrees p s → state.AddsClause s d r t → Leads (past.AddsClause p d r) t
+add-clause p s t d (Ok u) g (v, state.Ignored n e) =
+    let w = sym g.valid ∙ v in
+    (record p { clauses = p.clauses ++ d ∷ []; has_model = false }, (w, past.Refuted ((g.knows w).refuted n) refl), stays _ s t e (ignored p s d n g w))
+add-clause p s t d (Ok u) g (v, state.Accepted n lim a) =
+    let w = sym g.valid ∙ v in (accept d p, (w, past.Accepted lim refl), accepted p s t d n lim a g w)
+add-clause p s t d (Err OutOfMemory) g a = breaks p s t g a.2
+add-clause p s t d (Err Invalid) g a = (p, (sym g.valid ∙ a.0, refl), stays p s t a.1 g)
+add-clause p s t d (Err VariableLimit) g a =
+    let k = knows-of p s g a.0 in
+    let limit : IsPastLimit d = ⊎_elim (λ x. x) (λ x. crowded-limit d k.count k.names.small (let f = fit-all d k.count s k.names.order in omega (arith, x, f.made))) a.2 in
+    (p, (sym g.valid ∙ a.0, limit, refl), stays p s t a.3 g)
+add-clause p s t d (Err (Dimacs cause)) g a = absurd a
+
+-- 4. Formulas and texts.
+
+add-all : (p : Past) (s t : State) (P : List Clause) (r : Result (Unit {0}) SolverError) → Agrees p s → state.AddsAll s P r t → Leads (λ q. additions.AddsAll past.is_valid past.Invalidates past.AddsClause p P r q) t
+add-all p s t [] r g a = (p, (a.0, refl), stays p s t a.1 g)
+add-all p s t (c ∷ P) r g (inl (mid, a, rest)) =
+    let (m, b, h) = add-clause p s mid c (Ok tt) g a in
+    let (q, x, y) = add-all m mid t P r h rest in (q, inl (m, b, x), y)
+add-all p s t (c ∷ P) r g (inr (e, k, a)) =
+    let (q, b, h) = add-clause p s t c (Err e) g a in (q, inr (e, k, b), h)
+
+pub add-formula : (p : Past) (s t : State) (P : List Clause) (r : Result (Unit {0}) SolverError) → Agrees p s → state.AddsFormula s P r t → Leads (past.AddsFormula p P r) t
+add-formula p s t P r g (InTurn v a) = let (q, b, h) = add-all p s t P r g a in (q, InTurn (sym g.valid ∙ v) b, h)
+add-formula p s t P r g (RefusedAtOnce e (v, k)) = (p, RefusedAtOnce e (sym g.valid ∙ v, refl), stays p s t k g)
+
+tell-fault : (p : Past) (s t : State) (x : Option DimacsError) (r : Result (Unit {0}) SolverError) → Agrees p s → state.TellsFault x s r t → Leads (λ q. additions.TellsFault past.is_valid past.Invalidates past.AddsClause x p r q) t
+tell-fault p s t x r g (NoFault n e k) = (p, NoFault n e refl, stays p s t k g)
+tell-fault p s t x r g (MemoryFault y n m e b) = let (q, c, h) = breaks p s t g b in (q, MemoryFault y n m e c, h)
+tell-fault p s t x r g (Fault y n m e k) = (p, Fault y n m e refl, stays p s t k g)
+
+add-reading : (p : Past) (s t : State) (R : Reading) (r : Result (Unit {0}) SolverError) → Agrees p s → additions.AddsReading state.is_valid state.Invalidates state.AddsClause s R r t →
+    Leads (λ q. additions.AddsReading past.is_valid past.Invalidates past.AddsClause p R r q) t
+add-reading p s t R r g (ClauseRefused e k a) = let (q, b, h) = add-all p s t R.clauses (Err e) g a in (q, ClauseRefused e k b, h)
+add-reading p s t R r g (ClausesAdded mid a f) =
+    let (m, b, h) = add-all p s mid R.clauses (Ok tt) g a in
+    let (q, c, i) = tell-fault m mid t R.fault r h f in (q, ClausesAdded m b c, i)
+
+add-given : (p : Past) (s t : State) (old new : Stand) (w : Gave old new) (r : Result (Unit {0}) SolverError) → Agrees p s → additions.AddsGiven state.is_valid state.Invalidates state.AddsClause w s r t →
+    Leads (λ q. additions.AddsGiven past.is_valid past.Invalidates past.AddsClause w p r q) t
+add-given p s t old new w r g (RefusedEarly ended from e k a n) = let (q, b, h) = add-all p s t ended (Err e) g a in (q, RefusedEarly ended from e k b n, h)
+add-given p s t old new w r g (FaultInText R from x a n) = let (q, b, h) = add-reading p s t R r g a in (q, FaultInText R from x b n, h)
+add-given p s t old new w r g (Whole end a n) = let (q, b, h) = add-reading p s t _ r g a in (q, Whole end b n, h)
+add-given p s t old new w r g (MemoryRanOut front rest e a n) = let (q, b, h) = add-reading p s t _ r g a in (q, MemoryRanOut front rest e b n, h)
+add-given p s t old new w r g (SourceFailed a n) = let (q, b, h) = add-reading p s t _ r g a in (q, SourceFailed b n, h)
+
+pub add-text : (p : Past) (s t : State) (old new : Stand) (r : Result (Unit {0}) SolverError) → Agrees p s → state.AddsDimacs s old r new t → Leads (past.AddsDimacs p old r new) t
+add-text p s t old new r g (Read v w a) = let (q, b, h) = add-given p s t old new w r g a in (q, Read (sym g.valid ∙ v) w b, h)
+add-text p s t old new r g (Unread e (v, k) n) = (p, Unread e (sym g.valid ∙ v, refl) n, stays p s t k g)
+
+-- 5. A new variable.
+
+-- the name is the least free one just where it is the count
+least-free : (p : Past) (s : State) (u : ℕ) → (k : Knows p s) → (s.names u ≡ None) → ((v : ℕ) → v < u → s.names v ≢ None) → u ≡ k.count
+least-free p s u k e h =
+    ⊎_elim
+    (λ l. absurd (let z : Some u ≡ None = sym (k.names.order.in_use u l) ∙ e in cc))
+    (λ m. ⊎_elim (λ l. absurd (h k.count l (k.names.order.free k.count (omega arith)))) (λ l. omega (arith, l, m)) (below-or k.count u))
+    (below-or u k.count)
+
+named : (p : Past) (s t : State) (u : ℕ) → u < 2 ^ 28 → IsLike (start (name_one u s)) t → Agrees p s → p.valid ≡ true → Agrees (use_name u p) t
+named p s t u small e g v =
+    let k = g.knows v in
+    let r = rest-one u s in
+    let verdict = e.verdict ∙ r.verdict in
+    record {
+      valid = ap (λ x. x.valid) e.ledger ∙ ap (λ x. x.valid) r.ledger ∙ g.valid;
+      knows = λ _. record {
+        count = max k.count (u + 1);
+        names = names-like (max k.count (u + 1)) (use_name u p) (use_name u p) (name_one u s) t refl refl e.made e.names e.watermark e.modes (names-one u k.count p s small k.names);
+        same = λ n. e.clauses ∙ r.clauses ∙ k.same (λ x. n (verdict ∙ x));
+        refuted = λ x. k.refuted (sym verdict ∙ x);
+        assumptions = e.assumptions ∙ r.assumptions ∙ k.assumptions;
+        assumed = k.assumed;
+        model = λ x. ap answer_of verdict ∙ k.model x;
+        found = λ x. k.found (sym (ap answer_of verdict) ∙ x);
+        right = right-like s t (e.clauses ∙ r.clauses) (e.assumptions ∙ r.assumptions) (e.counted ∙ r.counted) verdict k.right;
+      };
+    }
+
+pub make-var : (p : Past) (s t : State) (r : Result ℕ SolverError) → Agrees p s → state.MakesVar s r t → Leads (past.MakesVar p r) t
+make-var p s t (Ok u) g (v, (e, h), small, like) =
+    let w = sym g.valid ∙ v in
+    let k = g.knows w in
+    let n = least-free p s u k e h in
+    (use_name u p, (w, (k.names.unused u (omega (arith, n)), λ x l. k.names.used x (omega (arith, l, n))), small, refl), named p s t u small like g w)
+make-var p s t (Err OutOfMemory) g a = breaks p s t g a.1
+make-var p s t (Err Invalid) g a = (p, (sym g.valid ∙ a.0, refl), stays p s t a.1 g)
+make-var p s t (Err VariableLimit) g (v, (u, (e, h), full), same) =
+    let w = sym g.valid ∙ v in
+    let k = g.knows w in
+    let n = least-free p s u k e h in
+    let all : 2 ^ 28 ≤ k.count = ⊎_elim (λ x. omega (arith, x, n)) (λ x. let f = fit-one u k.count s k.names.order in omega (arith, x, f.made, n)) full in
+    (p, (w, λ x l. k.names.used x (omega (arith, l, all)), refl), stays p s t same g)
+make-var p s t (Err (Dimacs cause)) g a = absurd a
+
+-- 6. An answer of `solve`.
+
+answer-unsat : (v : Verdict) → answer_of v ≡ Some false → v ≡ Unsat
+answer-unsat Unknown e = absurd cc
+answer-unsat (Sat a) e = absurd (let z : true ≡ false = cc in cc)
+answer-unsat Unsat e = refl
+
+answer-sat : (v : Verdict) → answer_of v ≡ Some true → (a : Assignment) × (v ≡ Sat a)
+answer-sat Unknown e = absurd cc
+answer-sat (Sat a) e = (a, refl)
+answer-sat Unsat e = absurd (let z : true ≡ false = cc in cc)
+
+is-unsat-or-not : (v : Verdict) → (v ≡ Unsat) ⊎ (v ≢ Unsat)
+is-unsat-or-not Unknown = inr (λ e. cc)
+is-unsat-or-not (Sat a) = inr (λ e. cc)
+is-unsat-or-not Unsat = inl refl
+
+-- where true is returned the verdict before was not Unsat
+before-sat : (s t : State) (a : Assignment) → state.TellsVerdict s true t → t.verdict ≡ Sat a → s.verdict ≢ Unsat
+before-sat s t a r e u = let z : Sat a ≡ Unsat = sym e ∙ r.known (λ k. let y : Unsat ≡ Unknown = sym u ∙ k in cc) ∙ u in cc
+
+pub none-true : (a : Assignment) (A : List Literal) → A ≡ [] → MakesTrue a A
+none-true a A e l h = let z : l ∈ [] = subst (λ x. l ∈ x) e h in absurd z
+
+-- the past behind an answer, where the state has the verdict that was told
+solved : (p : Past) (s t : State) (b : Bool) → (k : Knows p s) → p.valid ≡ true → state.is_valid s ≡ p.valid → state.TellsVerdict s b t → (t.verdict ≢ Unsat → s.clauses ≡ p.clauses) → (t.verdict ≡ Unsat → IsSatisfiable p.clauses → ⊥) → Agrees (record p { has_model = b }) t
+solved p s t b k v w r same refuted =
+    let e = r.rest in
+    record {
+      valid = ap (λ x. x.valid) e.ledger ∙ w;
+      knows = λ _. record {
+        count = k.count;
+        names = names-like k.count p (record p { has_model = b }) s t refl refl e.made e.names e.watermark e.modes k.names;
+        same = λ n. e.clauses ∙ same n;
+        refuted = refuted;
+        assumptions = e.assumptions ∙ k.assumptions;
+        assumed = k.assumed;
+        model = λ x. r.answer ∙ ap Some x;
+        found = λ x. told b (sym r.answer ∙ x);
+        right = r.right;
+      };
+    }
+  where
+    told : (b : Bool) → Some b ≡ Some true → b ≡ true
+    told b e = cc
+
+pub solve : (p : Past) (s t : State) (r : Result Bool SolverError) → Agrees p s → state.Solves s r t → Leads (past.Solves p r) t
+solve p s t (Ok true) g r =
+    let v = sym g.valid ∙ r.valid in
+    let k = g.knows v in
+    let (a, e) = answer-sat t.verdict r.answer in
+    let n = before-sat s t a r e in
+    let right = subst (IsRight t.clauses t.assumptions t.counted) e r.right in (
+      record p { has_model = true },
+      (v, (a, subst (SatisfiesAll a) (r.rest.clauses ∙ k.same n) right.0, none-true a p.assumptions k.assumed), refl),
+      solved p s t true k v g.valid r (λ _. k.same n) (λ u. absurd (let z : Sat a ≡ Unsat = sym e ∙ u in cc)),
+    )
+solve p s t (Ok false) g r =
+    let v = sym g.valid ∙ r.valid in
+    let k = g.knows v in
+    let e = answer-unsat t.verdict r.answer in
+    let none : IsSatisfiable p.clauses → ⊥ = ⊎_elim k.refuted (λ n. subst (λ Q. IsSatisfiable Q → ⊥) (r.rest.clauses ∙ k.same n) (subst (IsRight t.clauses t.assumptions t.counted) e r.right)) (is-unsat-or-not s.verdict) in (
+      record p { has_model = false },
+      (v, (λ w. none (w.0, w.1)), refl),
+      solved p s t false k v g.valid r (λ n. absurd (n e)) (λ _. none),
+    )
+solve p s t (Err OutOfMemory) g r = breaks p s t g r.1
+solve p s t (Err Invalid) g r = (p, (sym g.valid ∙ r.0, refl), stays p s t r.1 g)
+solve p s t (Err VariableLimit) g r = absurd r
+solve p s t (Err (Dimacs cause)) g r = absurd r
+
+-- 7. A model.
+
+model-sat : (s : State) (v : Verdict) (m : List Literal) → Some m ≡ model_of s v → (a : Assignment) × (v ≡ Sat a) × (m ≡ list_names s a 0 s.watermark)
+model-sat s Unknown m e = absurd cc
+model-sat s (Sat a) m e = (a, refl, cc)
+model-sat s Unsat m e = absurd cc
+
+no-model : (s : State) (v : Verdict) → None ≡ model_of s v → answer_of v ≡ Some true → ⊥
+no-model s Unknown e x = cc
+no-model s (Sat a) e x = cc
+no-model s Unsat e x = let z : false ≡ true = cc in cc
+
+listed-model : (p : Past) (s : State) (a : Assignment) → Knows p s → s.verdict ≡ Sat a → IsModel p (list_names s a 0 s.watermark)
+listed-model p s a k e =
+    let o = k.names.order in
+    let right = subst (IsRight s.clauses s.assumptions s.counted) e k.right in
+    record {
+      rising = listed-rising s a s.watermark 0;
+      in_use = λ l i.
+          let w = listed-in-use s a s.watermark 0 l i in
+          let v = ap variable_of w.is ∙ variable-literal w.name (a w.identity) in
+          k.names.used (variable_of l) (omega (arith, v, name-below w.name w.identity w.in_use));
+      all_listed = λ u h. let b = used-below u h in (literal_of u (a u), listed-all s a s.watermark 0 u u (o.in_use u b) (omega arith) (omega (arith, b, o.watermark)), variable-literal u (a u));
+      assignment = a;
+      agrees = λ l i.
+          let w = listed-in-use s a s.watermark 0 l i in
+          let q : Some w.name ≡ Some w.identity = sym (o.in_use w.name (name-below w.name w.identity w.in_use)) ∙ w.in_use in
+          let same : w.name ≡ w.identity = cc in
+          subst (λ x. value a x ≡ true) (sym w.is) (value-listed a w.name (a w.identity) (ap a same));
+      satisfies = subst (SatisfiesAll a) (k.same (λ u. let z : Sat a ≡ Unsat = sym e ∙ u in cc)) right.0;
+      assumed = none-true a p.assumptions k.assumed;
+    }
+  where
+    name-below : (u i : ℕ) → s.names u ≡ Some i → u < k.count
+    name-below u i h = ⊎_elim (λ l. l) (λ l. absurd (let z : None ≡ Some i = sym (k.names.order.free u l) ∙ h in cc)) (below-or u k.count)
+
+    used-below : (u : ℕ) → p.in_use u ≡ true → u < k.count
+    used-below u h = ⊎_elim (λ l. l) (λ l. absurd (let z : false ≡ true = sym (k.names.unused u l) ∙ h in cc)) (below-or u k.count)
+
+pub tell-model : (p : Past) (s t : State) (r : Result (Option (List Literal)) AllocError) → Agrees p s → state.TellsModel s r t → Leads (past.TellsModel p r) t
+tell-model p s t (Ok (Some m)) g (inl (v, e), same) =
+    let w = sym g.valid ∙ v in
+    let k = g.knows w in
+    let (a, x, l) = model-sat s s.verdict m e in
+    (p, (w, k.found (ap answer_of x), subst (IsModel p) (sym l) (listed-model p s a k x), refl), stays p s t same g)
+tell-model p s t (Ok (Some m)) g (inr (v, e), same) = absurd cc
+tell-model p s t (Ok None) g (inl (v, e), same) =
+    let k = g.knows (sym g.valid ∙ v) in
+    (p, ((λ _. no-true p.has_model (λ h. no-model s s.verdict e (k.model h))), refl), stays p s t same g)
+  where
+    no-true : (b : Bool) → (b ≡ true → ⊥) → b ≡ false
+    no-true true n = absurd (n refl)
+    no-true false n = refl
+tell-model p s t (Ok None) g (inr (v, e), same) = (p, ((λ w. absurd (not-true p.valid (sym g.valid ∙ v) w)), refl), stays p s t same g)
+tell-model p s t (Err e) g (v, x, same) =
+    let w = sym g.valid ∙ v in (p, (w, (g.knows w).found x, refl), stays p s t same g)
+
+-- 8. Before the first call.
+
+pub empty-agrees : Agrees empty_past empty_state
+empty-agrees = record {
+  valid = refl;
+  knows = λ _. record {
+    count = 0;
+    names = record {
+      small = omega arith;
+      order = record { made = refl; watermark = refl; in_use = λ u h. absurd (omega arith); free = λ u h. refl; sampled = λ i h. refl };
+      watermark = refl;
+      used = λ u h. absurd (omega arith);
+      unused = λ u h. refl;
+    };
+    same = λ _. refl;
+    refuted = λ e. absurd cc;
+    assumptions = refl;
+    assumed = refl;
+    model = λ e. absurd cc;
+    found = λ e. absurd cc;
+    right = tt;
+  };
+}

@@ -1,0 +1,6 @@
+-- The status is that of the outcome, or tells a fault.
+use Rattle.varisat.proofs.Decided.{outcome-is-true}
+use Rattle.varisat.proofs.program.solve_lines.Goals as goal
+
+pub returns-in-Ok-write_outcome-clause-truth : goal.returns-in-Ok-write_outcome-clause-truth
+returns-in-Ok-write_outcome-clause-truth g c = outcome-is-true _ _ _ _ c.in-Ok.ensures c.in-Ok-write_outcome.ensures.status

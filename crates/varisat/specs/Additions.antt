@@ -1,0 +1,63 @@
+-- Clauses that are added in turn, from lists and from DIMACS CNF texts, where it is known how one clause is.
+use Rattle.std.specs.Prelude.{◌≡◌, ◌≢◌, ℕ, ◌+◌, Bool, true, false, List, [], ◌∷◌, ◌++◌, ◌⊎◌, Option, Some, None, Result, Ok, Err}
+use Rattle.varisat_theory.specs.Literals.{Clause}
+use Rattle.varisat_formula.specs.declared.dimacs.error.DimacsError.{DimacsError}
+use Rattle.varisat_formula.specs.declared.dimacs.error.DimacsErrorKind.TheVariants as kind
+use Rattle.varisat_formula.specs.Dimacs.{Reading, dimacs, broken}
+use Rattle.varisat_formula.specs.Streams.{Stand, Reads, HasEnded}
+use Rattle.varisat.specs.declared.solver.SolverError.{SolverError}
+use Rattle.varisat.specs.declared.solver.SolverError.TheVariants as error
+
+-- what a source gave in a call
+pub record Gave (old new : Stand) : Type 0 where
+  pub text : List ℕ
+  pub reads : Reads old text new
+
+-- the first clauses of the list
+abbrev pub IsBeginning : List Clause → List Clause → Type 0
+IsBeginning P clauses = (rest : List Clause) × (clauses ≡ P ++ rest)
+
+-- `adds` says how one clause is added: from where, with which answer, and to where. `invalidates` says what is left once memory ran out, and `valid` whether it did before.
+module _ {X : Type 0} (valid : X → Bool) (invalidates : X → X → Type 0) (adds : X → Clause → Result (Unit {0}) SolverError → X → Type 0) where
+  -- the clauses in turn, up to the first refusal; those before it stay
+  abbrev pub AddsAll : X → List Clause → Result (Unit {0}) SolverError → X → Type 0
+  AddsAll s [] r t = (r ≡ Ok tt) × (t ≡ s)
+  AddsAll s (c ∷ P) r t = ((mid : X) × adds s c (Ok tt) mid × AddsAll mid P r t) ⊎ ((e : SolverError) × (r ≡ Err e) × adds s c (Err e) t)
+
+  -- the call is refused: the solver is invalid, and nothing changes
+  abbrev pub IsRefusedInvalid : X → X → Type 0
+  IsRefusedInvalid s t = (valid s ≡ false) × (t ≡ s)
+
+  -- a list of clauses is added
+  pub data AddsList (s : X) (P : List Clause) (r : Result (Unit {0}) SolverError) (t : X) : Type 0 where
+    InTurn : valid s ≡ true → AddsAll s P r t → AddsList s P r t
+    RefusedAtOnce : r ≡ Err error.Invalid → IsRefusedInvalid s t → AddsList s P r t
+
+  -- How a text's fault is told, if there is one. Memory that ran out in the reader is told as in any call, and any other fault changes nothing.
+  pub data TellsFault (fault : Option DimacsError) (s : X) (r : Result (Unit {0}) SolverError) (t : X) : Type 0 where
+    NoFault : fault ≡ None → r ≡ Ok tt → t ≡ s → TellsFault fault s r t
+    MemoryFault : (e : DimacsError) → fault ≡ Some e → e.kind ≡ kind.OutOfMemory → r ≡ Err error.OutOfMemory → invalidates s t → TellsFault fault s r t
+    Fault : (e : DimacsError) → fault ≡ Some e → e.kind ≢ kind.OutOfMemory → r ≡ Err (error.Dimacs e) → t ≡ s → TellsFault fault s r t
+
+  -- The clauses that a text gives are added in turn: the first refusal is told, or else the text's fault, behind all clauses that ended before it.
+  pub data AddsReading (s : X) (reading : Reading) (r : Result (Unit {0}) SolverError) (t : X) : Type 0 where
+    ClauseRefused : (e : SolverError) → r ≡ Err e → AddsAll s reading.clauses (Err e) t → AddsReading s reading r t
+    ClausesAdded : (mid : X) → AddsAll s reading.clauses (Ok tt) mid → TellsFault reading.fault mid r t → AddsReading s reading r t
+
+  -- How what a source gave decides the answer.
+  pub data AddsGiven {old new : Stand} (g : Gave old new) (s : X) (r : Result (Unit {0}) SolverError) (t : X) : Type 0 where
+    -- a clause is refused that ended in it, whatever comes behind
+    RefusedEarly : (ended : List Clause) → ((rest : List ℕ) → IsBeginning ended (dimacs (g.text ++ rest)).clauses) → (e : SolverError) → r ≡ Err e → AddsAll s ended (Err e) t → new.faults ≡ old.faults → AddsGiven g s r t
+    -- it has a fault, whatever comes behind
+    FaultInText : (reading : Reading) → ((rest : List ℕ) → dimacs (g.text ++ rest) ≡ reading) → reading.fault ≢ None → AddsReading s reading r t → new.faults ≡ old.faults → AddsGiven g s r t
+    -- it is the whole text
+    Whole : HasEnded new → AddsReading s (dimacs g.text) r t → new.faults ≡ old.faults → AddsGiven g s r t
+    -- memory ran out in the reader behind this front of it
+    MemoryRanOut : (front : List ℕ) → (rest : List ℕ) → front ++ rest ≡ g.text → AddsReading s (broken kind.OutOfMemory front) r t → new.faults ≡ old.faults → AddsGiven g s r t
+    -- the source failed behind it
+    SourceFailed : AddsReading s (broken kind.Io g.text) r t → new.faults ≡ old.faults + 1 → AddsGiven g s r t
+
+  -- A text is added that a source gives. An invalid solver refuses it, and reads nothing.
+  pub data AddsText (s : X) (old : Stand) (r : Result (Unit {0}) SolverError) (new : Stand) (t : X) : Type 0 where
+    Read : valid s ≡ true → (g : Gave old new) → AddsGiven g s r t → AddsText s old r new t
+    Unread : r ≡ Err error.Invalid → IsRefusedInvalid s t → new ≡ old → AddsText s old r new t

@@ -1,0 +1,104 @@
+-- What the calls of a new solver and their answers say so far, and how a call moves it: no state of the solver is spoken of.
+use Rattle.std.specs.Prelude.{◌≡◌, ◌≢◌, ℕ, ◌+◌, ◌^◌, ◌<◌, ◌≤◌, nat_le, nat_eq, max, Bool, true, false, ◌&&◌, ◌||◌, Option, Some, None, List, [], ◌∷◌, ◌++◌, Result, Ok, Err}
+use Rattle.std.specs.declared.alloc.AllocError.{AllocError}
+use Rattle.varisat_theory.specs.Membership.{◌∈◌}
+use Rattle.varisat_theory.specs.Literals.{Literal, Clause, Assignment, variable_of, SatisfiesAll, MakesTrue, IsSatisfiable, IsSatisfiableWith}
+use Rattle.varisat_formula.specs.Streams.{Stand}
+use Rattle.varisat.specs.Models.{IsRising}
+use Rattle.varisat.specs.Calls.{IsPastLimit}
+use Rattle.varisat.specs.Additions as additions
+use Rattle.varisat.specs.declared.solver.SolverError.{SolverError}
+use Rattle.varisat.specs.declared.solver.SolverError.TheVariants.{OutOfMemory, Invalid, VariableLimit, Dimacs}
+
+-- `valid`: no call that changes the solver ran out of memory. `in_use`: whether a name is in use, and `watermark` is one above the highest. `clauses` were accepted, and `assumptions` given. `has_model`: `solve` returned true, and no clause was accepted since.
+pub record Past : Type 0 where
+  pub valid : Bool
+  pub in_use : ℕ → Bool
+  pub watermark : ℕ
+  pub clauses : List Clause
+  pub assumptions : List Literal
+  pub has_model : Bool
+
+-- before the first call
+abbrev pub empty_past : Past
+empty_past = record { valid = true; in_use = λ u. false; watermark = 0; clauses = []; assumptions = []; has_model = false }
+
+abbrev pub is_valid : Past → Bool
+is_valid p = p.valid
+
+-- memory ran out: nothing more is accepted
+abbrev pub Invalidates : Past → Past → Type 0
+Invalidates p q = (p.valid ≡ true) × (q ≡ record p { valid = false })
+
+-- the name comes into use, and with it each one from the watermark up to it
+abbrev pub use_name : ℕ → Past → Past
+use_name u p = record p { in_use = λ v. p.in_use v || (nat_le v u && (nat_eq v u || nat_le p.watermark v)); watermark = max p.watermark (u + 1) }
+
+-- the names of the literals come into use
+abbrev pub use_names : List Literal → Past → Past
+use_names [] p = p
+use_names (l ∷ c) p = use_names c (use_name (variable_of l) p)
+
+-- the clause is accepted, with its names
+abbrev pub accept : Clause → Past → Past
+accept c p = record (use_names c p) { clauses = p.clauses ++ c ∷ []; has_model = false }
+
+-- the clauses are accepted in turn
+abbrev pub accept_all : List Clause → Past → Past
+accept_all [] p = p
+accept_all (c ∷ P) p = accept_all P (accept c p)
+
+-- A clause is taken: once no assignment satisfies those before it, its names need not come into use.
+pub data TakesClause (p : Past) (c : Clause) (q : Past) : Type 0 where
+  Accepted : (IsPastLimit c → ⊥) → q ≡ accept c p → TakesClause p c q
+  Refuted : (IsSatisfiable p.clauses → ⊥) → q ≡ record p { clauses = p.clauses ++ c ∷ []; has_model = false } → TakesClause p c q
+
+abbrev pub AddsClause : Past → Clause → Result (Unit {0}) SolverError → Past → Type 0
+AddsClause p c (Ok _) q = (p.valid ≡ true) × TakesClause p c q
+AddsClause p c (Err Invalid) q = (p.valid ≡ false) × (q ≡ p)
+AddsClause p c (Err VariableLimit) q = (p.valid ≡ true) × IsPastLimit c × (q ≡ p)
+AddsClause p c (Err OutOfMemory) q = Invalidates p q
+AddsClause p c (Err (Dimacs cause)) q = ⊥
+
+-- the clauses in turn, up to the first refusal; those before it were accepted
+abbrev pub AddsFormula : Past → List Clause → Result (Unit {0}) SolverError → Past → Type 0
+AddsFormula p P r q = additions.AddsList is_valid Invalidates AddsClause p P r q
+
+-- the clauses of the text that the source gave, up to the first refusal or fault; those before it were accepted
+abbrev pub AddsDimacs : Past → Stand → Result (Unit {0}) SolverError → Stand → Past → Type 0
+AddsDimacs p old r new q = additions.AddsText is_valid Invalidates AddsClause p old r new q
+
+-- the least name that is not in use comes into use
+abbrev pub IsLeastFree : Past → ℕ → Type 0
+IsLeastFree p u = (p.in_use u ≡ false) × ((v : ℕ) → v < u → p.in_use v ≡ true)
+
+abbrev pub MakesVar : Past → Result ℕ SolverError → Past → Type 0
+MakesVar p (Ok u) q = (p.valid ≡ true) × IsLeastFree p u × (u < 2 ^ 28) × (q ≡ use_name u p)
+MakesVar p (Err Invalid) q = (p.valid ≡ false) × (q ≡ p)
+MakesVar p (Err VariableLimit) q = (p.valid ≡ true) × ((u : ℕ) → u < 2 ^ 28 → p.in_use u ≡ true) × (q ≡ p)
+MakesVar p (Err OutOfMemory) q = Invalidates p q
+MakesVar p (Err (Dimacs cause)) q = ⊥
+
+-- True is returned only if some assignment satisfies the clauses and the assumptions, false only if none does.
+abbrev pub Solves : Past → Result Bool SolverError → Past → Type 0
+Solves p (Ok true) q = (p.valid ≡ true) × IsSatisfiableWith p.clauses p.assumptions × (q ≡ record p { has_model = true })
+Solves p (Ok false) q = (p.valid ≡ true) × (IsSatisfiableWith p.clauses p.assumptions → ⊥) × (q ≡ record p { has_model = false })
+Solves p (Err Invalid) q = (p.valid ≡ false) × (q ≡ p)
+Solves p (Err OutOfMemory) q = Invalidates p q
+Solves p (Err _) q = ⊥
+
+-- Exactly the names in use, once each and in increasing order, and an assignment that agrees with the list satisfies the clauses and the assumptions.
+pub record IsModel (p : Past) (model : List Literal) : Type 0 where
+  pub rising : IsRising 0 model
+  pub in_use : (l : Literal) → l ∈ model → p.in_use (variable_of l) ≡ true
+  pub all_listed : (u : ℕ) → p.in_use u ≡ true → (l : Literal) × (l ∈ model) × (variable_of l ≡ u)
+  pub assignment : Assignment
+  pub agrees : MakesTrue assignment model
+  pub satisfies : SatisfiesAll assignment p.clauses
+  pub assumed : MakesTrue assignment p.assumptions
+
+-- A model is told where one was found last, and nothing in an invalid solver.
+abbrev pub TellsModel : Past → Result (Option (List Literal)) AllocError → Past → Type 0
+TellsModel p (Ok (Some model)) q = (p.valid ≡ true) × (p.has_model ≡ true) × IsModel p model × (q ≡ p)
+TellsModel p (Ok None) q = (p.valid ≡ true → p.has_model ≡ false) × (q ≡ p)
+TellsModel p (Err _) q = (p.valid ≡ true) × (p.has_model ≡ true) × (q ≡ p)

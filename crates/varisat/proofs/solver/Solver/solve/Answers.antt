@@ -18,7 +18,9 @@ returns-in-Sat-clause-satisfiable g c e s st =
     (v.0, r.0, r.1)
 
 pub returns-in-Sat-clause-model : goal.returns-in-Sat-clause-model
-returns-in-Sat-clause-model g c e s st = sat-model _ s (st.fits (ap not c.if-self.false)) c.in-Sat.is
+returns-in-Sat-clause-model g c e s st =
+    let q = rw (← c.self.view_is) at st in
+    sat-model _ s (q.fits (ap not c.if-self.false)) c.in-Sat.is
 
 pub returns-in-Ok-clause-call : goal.returns-in-Ok-clause-call
 returns-in-Ok-clause-call g c s st =

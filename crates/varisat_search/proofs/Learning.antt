@@ -84,7 +84,7 @@ module _ (s t : View) (i level : ℕ) (l : Literal) (others : Clause) (w : WellF
       h ∙ ap (λ x. enqueued (record t { clauses = x }) l r) f' ∙ ap (λ x. enqueued (record t { clauses = t.clauses ++ learned_at p c ∷ [] }) l x) g ∙ ap (λ x. enqueued (record t { clauses = t.clauses ++ learned_at p c ∷ [] }) x (reason.Long p)) first-is in
       subst (λ y. Steps (search_of s) (search_of y) Unknown (Add (l ∷ others) ∷ [])) (sym whole) (steps_kept s t i level c w v asserting deep (cut below) d.follows p k.1 m ms (sym others-are ∙ e))
 
--- The contexts of a learning: before, after analysis, after going back, and after the clause was kept.
+-- The contexts of a learning: before, after analysis, after backtracking, and after the clause was kept.
 pub record Learning {A : Type 0} (x0 x1 x2 x3 : Context A) (i level : ℕ) (l : Literal) (others : Clause) (r : Reason) : Type 0 where
   pub analyzed : x1 ≡ record x0 { analyze_conflict = x1.analyze_conflict }
   pub learned : IsLearned (view x0) i x1.analyze_conflict.clause level

@@ -1,4 +1,4 @@
--- What going back keeps of the values that are taken away.
+-- What backtracking keeps of the values that are taken away.
 use Rattle.std.proofs.Common.{◌≡◌, ◌≢◌, ℕ, ◌+◌, ◌<◌, ◌≤◌, Bool, false, Some, None, List, length, get_or, set, ⊎_elim, refl, sym, ap, ◌∙◌, arith, get_or-set_same, get_or-set_other, length-set}
 use Rattle.std.proofs.lemmas.Bool.{cases_lt}
 use Rattle.varisat_theory.specs.Literals.{variable_of}

@@ -1,4 +1,4 @@
-//! One search: learning from conflicts, going back, loading of clauses, and the step that a solver repeats.
+//! One search: learning from conflicts, backtracking, loading of clauses, and the step that a solver repeats.
 #![tactic(auto)]
 
 pub mod analyze_conflict;

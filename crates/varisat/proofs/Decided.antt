@@ -32,7 +32,7 @@ broken-fails x text e =
     let r : Reading = read nothing (items false 1 (lines text)) in closed-broken r.fault x r (last_line 1 (lines text)) refl e
 
 -- the clauses that were accepted
-all-accepted : (p q : Past) (P : List Clause) → additions.AddsAll past.is_valid past.Invalidates past.AddsClause p P done q → (q.clauses ≡ p.clauses ++ P) × ((IsSatisfiable q.clauses → ⊥) ⊎ (q ≡ accept_all P p))
+all-accepted : (p q : Past) (P : List Clause) → additions.AddsAll past.adding p P done q → (q.clauses ≡ p.clauses ++ P) × ((IsSatisfiable q.clauses → ⊥) ⊎ (q ≡ accept_all P p))
 all-accepted p q [] a = (ap (λ x. x.clauses) a.1 ∙ sym (append-nil p.clauses), inr a.1)
 all-accepted p q (c ∷ P) (inr (e, k, a)) = absurd cc
 all-accepted p q (c ∷ P) (inl (mid, (v, past.Accepted n e), rest)) =
@@ -43,9 +43,9 @@ all-accepted p q (c ∷ P) (inl (mid, (v, past.Refuted n e), rest)) =
     let z = x ∙ ap (λ z. z.clauses ++ P) e ∙ append_assoc p.clauses (c ∷ []) P in
     (z, inl (λ w. n (w.0, satisfies_fewer w.0 p.clauses (c ∷ P) (subst (SatisfiesAll w.0) z w.1))))
 
-reading-whole : (p q : Past) (R : Reading) → additions.AddsReading past.is_valid past.Invalidates past.AddsClause p R done q → (R.fault ≡ None) × additions.AddsAll past.is_valid past.Invalidates past.AddsClause p R.clauses done q
+reading-whole : (p q : Past) (R : Reading) → additions.AddsReading past.adding p R done q → (R.fault ≡ None) × additions.AddsAll past.adding p R.clauses done q
 reading-whole p q R (ClauseRefused e k a) = absurd cc
-reading-whole p q R (ClausesAdded m a (NoFault n k e)) = (n, subst (λ x. additions.AddsAll past.is_valid past.Invalidates past.AddsClause p R.clauses done x) (sym e) a)
+reading-whole p q R (ClausesAdded m a (NoFault n k e)) = (n, subst (λ x. additions.AddsAll past.adding p R.clauses done x) (sym e) a)
 reading-whole p q R (ClausesAdded m a (MemoryFault y n k e b)) = absurd cc
 reading-whole p q R (ClausesAdded m a (Fault y n k e b)) = absurd cc
 
@@ -54,9 +54,9 @@ record Takes (old new : Stand) (p q : Past) : Type 0 where
   read : Gave old new
   ended : HasEnded new
   fine : (dimacs read.text).fault ≡ None
-  all : additions.AddsAll past.is_valid past.Invalidates past.AddsClause p (dimacs read.text).clauses done q
+  all : additions.AddsAll past.adding p (dimacs read.text).clauses done q
 
-takes-given : (old new : Stand) (p q : Past) (g : Gave old new) → additions.AddsGiven past.is_valid past.Invalidates past.AddsClause g p done q → Takes old new p q
+takes-given : (old new : Stand) (p q : Past) (g : Gave old new) → additions.AddsGiven past.adding g p done q → Takes old new p q
 takes-given old new p q g (RefusedEarly ended from e k a n) = absurd cc
 takes-given old new p q g (FaultInText R from x a n) = absurd (x (reading-whole p q R a).0)
 takes-given old new p q g (Whole end a n) = let (x, y) = reading-whole p q _ a in record { read = g; ended = end; fine = x; all = y }

@@ -222,7 +222,7 @@ add-clause p s t d (Err (Dimacs cause)) g a = absurd a
 
 -- 4. Formulas and texts.
 
-add-all : (p : Past) (s t : State) (P : List Clause) (r : Result (Unit {0}) SolverError) → Agrees p s → state.AddsAll s P r t → Leads (λ q. additions.AddsAll past.is_valid past.Invalidates past.AddsClause p P r q) t
+add-all : (p : Past) (s t : State) (P : List Clause) (r : Result (Unit {0}) SolverError) → Agrees p s → state.AddsAll s P r t → Leads (λ q. additions.AddsAll past.adding p P r q) t
 add-all p s t [] r g a = (p, (a.0, refl), stays p s t a.1 g)
 add-all p s t (c ∷ P) r g (inl (mid, a, rest)) =
     let (m, b, h) = add-clause p s mid c (Ok tt) g a in
@@ -234,20 +234,20 @@ pub add-formula : (p : Past) (s t : State) (P : List Clause) (r : Result (Unit {
 add-formula p s t P r g (InTurn v a) = let (q, b, h) = add-all p s t P r g a in (q, InTurn (sym g.valid ∙ v) b, h)
 add-formula p s t P r g (RefusedAtOnce e (v, k)) = (p, RefusedAtOnce e (sym g.valid ∙ v, refl), stays p s t k g)
 
-tell-fault : (p : Past) (s t : State) (x : Option DimacsError) (r : Result (Unit {0}) SolverError) → Agrees p s → state.TellsFault x s r t → Leads (λ q. additions.TellsFault past.is_valid past.Invalidates past.AddsClause x p r q) t
+tell-fault : (p : Past) (s t : State) (x : Option DimacsError) (r : Result (Unit {0}) SolverError) → Agrees p s → state.TellsFault x s r t → Leads (λ q. additions.TellsFault past.adding x p r q) t
 tell-fault p s t x r g (NoFault n e k) = (p, NoFault n e refl, stays p s t k g)
 tell-fault p s t x r g (MemoryFault y n m e b) = let (q, c, h) = breaks p s t g b in (q, MemoryFault y n m e c, h)
 tell-fault p s t x r g (Fault y n m e k) = (p, Fault y n m e refl, stays p s t k g)
 
-add-reading : (p : Past) (s t : State) (R : Reading) (r : Result (Unit {0}) SolverError) → Agrees p s → additions.AddsReading state.is_valid state.Invalidates state.AddsClause s R r t →
-    Leads (λ q. additions.AddsReading past.is_valid past.Invalidates past.AddsClause p R r q) t
+add-reading : (p : Past) (s t : State) (R : Reading) (r : Result (Unit {0}) SolverError) → Agrees p s → additions.AddsReading state.adding s R r t →
+    Leads (λ q. additions.AddsReading past.adding p R r q) t
 add-reading p s t R r g (ClauseRefused e k a) = let (q, b, h) = add-all p s t R.clauses (Err e) g a in (q, ClauseRefused e k b, h)
 add-reading p s t R r g (ClausesAdded mid a f) =
     let (m, b, h) = add-all p s mid R.clauses (Ok tt) g a in
     let (q, c, i) = tell-fault m mid t R.fault r h f in (q, ClausesAdded m b c, i)
 
-add-given : (p : Past) (s t : State) (old new : Stand) (w : Gave old new) (r : Result (Unit {0}) SolverError) → Agrees p s → additions.AddsGiven state.is_valid state.Invalidates state.AddsClause w s r t →
-    Leads (λ q. additions.AddsGiven past.is_valid past.Invalidates past.AddsClause w p r q) t
+add-given : (p : Past) (s t : State) (old new : Stand) (w : Gave old new) (r : Result (Unit {0}) SolverError) → Agrees p s → additions.AddsGiven state.adding w s r t →
+    Leads (λ q. additions.AddsGiven past.adding w p r q) t
 add-given p s t old new w r g (RefusedEarly ended from e k a n) = let (q, b, h) = add-all p s t ended (Err e) g a in (q, RefusedEarly ended from e k b n, h)
 add-given p s t old new w r g (FaultInText R from x a n) = let (q, b, h) = add-reading p s t R r g a in (q, FaultInText R from x b n, h)
 add-given p s t old new w r g (Whole end a n) = let (q, b, h) = add-reading p s t _ r g a in (q, Whole end b n, h)

@@ -14,15 +14,15 @@ use Rattle.varisat_formula.proofs.ParsedSources.{reads_none, reads_more}
 use Rattle.varisat.specs.States.{State}
 use Rattle.varisat.specs.Additions as additions
 use Rattle.varisat.specs.Additions.{Gave, ClauseRefused, ClausesAdded, RefusedEarly, FaultInText, Whole, MemoryRanOut, SourceFailed}
-use Rattle.varisat.specs.Calls.{is_valid, Invalidates, AddsClause, AddsAll, TellsFault}
+use Rattle.varisat.specs.Calls.{adding, AddsAll, TellsFault}
 use Rattle.varisat.specs.declared.solver.SolverError.{SolverError}
 use Rattle.varisat.proofs.Additions.{adds-more, adds-longer}
 
 abbrev pub AddsReading : State → Reading → Result (Unit {0}) SolverError → State → Type 0
-AddsReading s reading r t = additions.AddsReading is_valid Invalidates AddsClause s reading r t
+AddsReading s reading r t = additions.AddsReading adding s reading r t
 
 abbrev pub AddsGiven : {old new : Stand} → Gave old new → State → Result (Unit {0}) SolverError → State → Type 0
-AddsGiven g s r t = additions.AddsGiven is_valid Invalidates AddsClause g s r t
+AddsGiven g s r t = additions.AddsGiven adding g s r t
 
 -- what was read of a source without a fault, where the clauses `front` were taken
 pub record ReadSo (s t : Stand) (q : Progress) (front : List Clause) : Type 0 where

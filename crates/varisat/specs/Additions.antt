@@ -17,26 +17,31 @@ pub record Gave (old new : Stand) : Type 0 where
 abbrev pub IsBeginning : List Clause → List Clause → Type 0
 IsBeginning P clauses = (rest : List Clause) × (clauses ≡ P ++ rest)
 
--- `adds` says how one clause is added: from where, with which answer, and to where. `invalidates` says what is left once memory ran out, and `valid` whether it did before.
-module _ {X : Type 0} (valid : X → Bool) (invalidates : X → X → Type 0) (adds : X → Clause → Result (Unit {0}) SolverError → X → Type 0) where
+-- How clauses are added to something: whether that is valid, what is left of it once memory ran out, and how one clause is added, with which answer.
+pub record Adding (X : Type 0) : Type 1 where
+  pub valid : X → Bool
+  pub invalidates : X → X → Type 0
+  pub adds : X → Clause → Result (Unit {0}) SolverError → X → Type 0
+
+module _ {X : Type 0} (by : Adding X) where
   -- the clauses in turn, up to the first refusal; those before it stay
   abbrev pub AddsAll : X → List Clause → Result (Unit {0}) SolverError → X → Type 0
   AddsAll s [] r t = (r ≡ Ok tt) × (t ≡ s)
-  AddsAll s (c ∷ P) r t = ((mid : X) × adds s c (Ok tt) mid × AddsAll mid P r t) ⊎ ((e : SolverError) × (r ≡ Err e) × adds s c (Err e) t)
+  AddsAll s (c ∷ P) r t = ((mid : X) × by.adds s c (Ok tt) mid × AddsAll mid P r t) ⊎ ((e : SolverError) × (r ≡ Err e) × by.adds s c (Err e) t)
 
   -- the call is refused: the solver is invalid, and nothing changes
   abbrev pub IsRefusedInvalid : X → X → Type 0
-  IsRefusedInvalid s t = (valid s ≡ false) × (t ≡ s)
+  IsRefusedInvalid s t = (by.valid s ≡ false) × (t ≡ s)
 
   -- a list of clauses is added
   pub data AddsList (s : X) (P : List Clause) (r : Result (Unit {0}) SolverError) (t : X) : Type 0 where
-    InTurn : valid s ≡ true → AddsAll s P r t → AddsList s P r t
+    InTurn : by.valid s ≡ true → AddsAll s P r t → AddsList s P r t
     RefusedAtOnce : r ≡ Err error.Invalid → IsRefusedInvalid s t → AddsList s P r t
 
   -- How a text's fault is told, if there is one. Memory that ran out in the reader is told as in any call, and any other fault changes nothing.
   pub data TellsFault (fault : Option DimacsError) (s : X) (r : Result (Unit {0}) SolverError) (t : X) : Type 0 where
     NoFault : fault ≡ None → r ≡ Ok tt → t ≡ s → TellsFault fault s r t
-    MemoryFault : (e : DimacsError) → fault ≡ Some e → e.kind ≡ kind.OutOfMemory → r ≡ Err error.OutOfMemory → invalidates s t → TellsFault fault s r t
+    MemoryFault : (e : DimacsError) → fault ≡ Some e → e.kind ≡ kind.OutOfMemory → r ≡ Err error.OutOfMemory → by.invalidates s t → TellsFault fault s r t
     Fault : (e : DimacsError) → fault ≡ Some e → e.kind ≢ kind.OutOfMemory → r ≡ Err (error.Dimacs e) → t ≡ s → TellsFault fault s r t
 
   -- The clauses that a text gives are added in turn: the first refusal is told, or else the text's fault, behind all clauses that ended before it.
@@ -59,5 +64,5 @@ module _ {X : Type 0} (valid : X → Bool) (invalidates : X → X → Type 0) (a
 
   -- A text is added that a source gives. An invalid solver refuses it, and reads nothing.
   pub data AddsText (s : X) (old : Stand) (r : Result (Unit {0}) SolverError) (new : Stand) (t : X) : Type 0 where
-    Read : valid s ≡ true → (g : Gave old new) → AddsGiven g s r t → AddsText s old r new t
+    Read : by.valid s ≡ true → (g : Gave old new) → AddsGiven g s r t → AddsText s old r new t
     Unread : r ≡ Err error.Invalid → IsRefusedInvalid s t → new ≡ old → AddsText s old r new t

@@ -95,20 +95,23 @@ AddsClause s d (Err (Dimacs cause)) t = ⊥
 
 -- The calls `add_formula` and `add_dimacs_cnf`.
 
+abbrev pub adding : additions.Adding State
+adding = record { valid = is_valid; invalidates = Invalidates; adds = AddsClause }
+
 -- the clauses in turn, up to the first refusal; those before it stay
 abbrev pub AddsAll : State → List Clause → Result (Unit {0}) SolverError → State → Type 0
-AddsAll s P r t = additions.AddsAll is_valid Invalidates AddsClause s P r t
+AddsAll s P r t = additions.AddsAll adding s P r t
 
 abbrev pub AddsFormula : State → List Clause → Result (Unit {0}) SolverError → State → Type 0
-AddsFormula s P r t = additions.AddsList is_valid Invalidates AddsClause s P r t
+AddsFormula s P r t = additions.AddsList adding s P r t
 
 -- how the fault of a text is told, if there is one
 abbrev pub TellsFault : Option DimacsError → State → Result (Unit {0}) SolverError → State → Type 0
-TellsFault fault s r t = additions.TellsFault is_valid Invalidates AddsClause fault s r t
+TellsFault fault s r t = additions.TellsFault adding fault s r t
 
 -- the clauses of the text that the source gives, up to the first refusal or fault; those before it stay
 abbrev pub AddsDimacs : State → Stand → Result (Unit {0}) SolverError → Stand → State → Type 0
-AddsDimacs s old r new t = additions.AddsText is_valid Invalidates AddsClause s old r new t
+AddsDimacs s old r new t = additions.AddsText adding s old r new t
 
 -- The call `new_var`.
 

@@ -60,13 +60,16 @@ AddsClause p c (Err VariableLimit) q = (p.valid ≡ true) × IsPastLimit c × (q
 AddsClause p c (Err OutOfMemory) q = Invalidates p q
 AddsClause p c (Err (Dimacs cause)) q = ⊥
 
+abbrev pub adding : additions.Adding Past
+adding = record { valid = is_valid; invalidates = Invalidates; adds = AddsClause }
+
 -- the clauses in turn, up to the first refusal; those before it were accepted
 abbrev pub AddsFormula : Past → List Clause → Result (Unit {0}) SolverError → Past → Type 0
-AddsFormula p P r q = additions.AddsList is_valid Invalidates AddsClause p P r q
+AddsFormula p P r q = additions.AddsList adding p P r q
 
 -- the clauses of the text that the source gave, up to the first refusal or fault; those before it were accepted
 abbrev pub AddsDimacs : Past → Stand → Result (Unit {0}) SolverError → Stand → Past → Type 0
-AddsDimacs p old r new q = additions.AddsText is_valid Invalidates AddsClause p old r new q
+AddsDimacs p old r new q = additions.AddsText adding p old r new q
 
 -- the least name that is not in use comes into use
 abbrev pub IsLeastFree : Past → ℕ → Type 0

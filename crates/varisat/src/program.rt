@@ -78,7 +78,7 @@ fn decide<A: Allocator + Copy, S: ByteSource>(
     }
 }
 
-/// Writes the model or that there is none, and gives the status for it.
+/// Writes the model or that there is none, and returns the status for it.
 fn write_outcome<W: Write, A: Allocator + Copy>(
     out: &mut W,
     outcome: &Option<Vec<Lit, A>>,
@@ -110,7 +110,7 @@ fn write_model<W: Write>(out: &mut W, model: &[Lit]) -> io::Result<()>
     Ok(())
 }
 
-/// Tells a fault, and gives the status for it.
+/// Tells a fault, and returns the status for it.
 pub fn tell_fault<E: Write, F: Display>(err: &mut E, fault: &F) -> u8
     ensures { result ≡ fault_status }
 {
@@ -119,7 +119,7 @@ pub fn tell_fault<E: Write, F: Display>(err: &mut E, fault: &F) -> u8
     STATUS_FAULT
 }
 
-/// Tells how the program is called, and gives the status for a bad command line.
+/// Tells how the program is called, and returns the status for a bad command line.
 pub fn tell_usage<E: Write>(err: &mut E) -> u8
     ensures { result ≡ fault_status }
 {

@@ -74,7 +74,7 @@ enum Outcome {
     Wrong,
 }
 
-// Adds a clause, solves and asks for the model. After the first refusal for want of memory the solver has to be invalid.
+// Adds a clause, solves and asks for the model. Once memory ran out the solver has to be invalid.
 fn try_out<A: Allocator + Copy>(alloc: A) -> Outcome {
     let mut solver: Solver<MemoryTarget<A>, A> = Solver::new_in(alloc);
     let added = solver.add_clause(&lits![1, 2, -3]);

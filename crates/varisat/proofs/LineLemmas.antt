@@ -13,8 +13,8 @@ use Rattle.std.proofs.lemmas.List.{get_or-take, take-append-drop, length-take, m
 use Rattle.std.proofs.Math.Seq.{drop-cons}
 use Rattle.std.proofs.lemmas.List.Elements.{All-from_recursion, recursion_from_All}
 use Rattle.std.proofs.lemmas.List.Splits.{slice_split_none, slice_split_at, join_with_byte-slice_split, length-slice_split}
-use Rattle.varisat_formula.specs.Numbers.{literal_number}
-use Rattle.varisat_formula.specs.Numbers.{literal_text}
+use Rattle.varisat_literals.specs.Numbers.{literal_number}
+use Rattle.varisat_literals.specs.Numbers.{literal_text}
 use Rattle.varisat.specs.Lines.{Command, Add, New, Solve, Model, Close, Means, MeansOneCommand, HasNumbersInRange, words, words_of, spelling}
 
 abbrev pub NoSpace : List ℕ → Type 0

@@ -13,6 +13,7 @@ use Rattle.varisat_formula.specs.declared.dimacs.error.DimacsError.{DimacsError}
 use Rattle.varisat.specs.Additions as additions
 use Rattle.varisat.specs.declared.solver.SolverError.{SolverError}
 use Rattle.varisat.specs.declared.solver.SolverError.TheVariants.{OutOfMemory, Invalid, VariableLimit, Dimacs}
+use Rattle.varisat_literals.specs.Numbers.{variable_limit}
 
 abbrev pub is_valid : State → Bool
 is_valid s = s.ledger.valid
@@ -48,11 +49,11 @@ start s = record s { ledger = record s.ledger { started = true } }
 
 -- some literal's name is past the limit
 abbrev pub IsPastLimit : List Literal → Type 0
-IsPastLimit d = (l : Literal) × (l ∈ d) × (2 ^ 28 ≤ variable_of l)
+IsPastLimit d = (l : Literal) × (l ∈ d) × (variable_limit ≤ variable_of l)
 
 -- more identities than there may be variables
 abbrev pub IsCrowded : State → Type 0
-IsCrowded t = 2 ^ 28 < t.made
+IsCrowded t = variable_limit < t.made
 
 -- The call `add_clause`.
 
@@ -117,11 +118,11 @@ AddsDimacs s old r new t = additions.AddsText adding s old r new t
 
 -- the least free name is named: below the watermark, else at it
 abbrev pub MakesVar : State → Result ℕ SolverError → State → Type 0
-MakesVar s (Ok u) t = IsValid s × IsLeastFree s u × (u < 2 ^ 28) × IsLike (start (name_one u s)) t
+MakesVar s (Ok u) t = IsValid s × IsLeastFree s u × (u < variable_limit) × IsLike (start (name_one u s)) t
 MakesVar s (Err Invalid) t = IsRefusedInvalid s t
-MakesVar s (Err VariableLimit) t = IsValid s × ((u : ℕ) × IsLeastFree s u × ((2 ^ 28 ≤ u) ⊎ IsCrowded (name_one u s))) × (t ≡ s)
+MakesVar s (Err VariableLimit) t = IsValid s × ((u : ℕ) × IsLeastFree s u × ((variable_limit ≤ u) ⊎ IsCrowded (name_one u s))) × (t ≡ s)
 MakesVar s (Err (Dimacs cause)) t = ⊥
-MakesVar s (Err OutOfMemory) t = ((u : ℕ) × IsLeastFree s u × (u < 2 ^ 28)) × Invalidates s t
+MakesVar s (Err OutOfMemory) t = ((u : ℕ) × IsLeastFree s u × (u < variable_limit)) × Invalidates s t
 
 -- The call `solve`.
 

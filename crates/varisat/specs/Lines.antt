@@ -2,7 +2,7 @@
 use Rattle.std.specs.Prelude.{◌≡◌, ◌==◌, ◌<◌, ◌^◌, ℕ, Bool, true, false, Option, Some, None, Result, Ok, Err, List, [], ◌∷◌, ◌++◌, map, flat_map, codes, decimal}
 use Rattle.std.specs.List.{All, join_with_byte, slice_split}
 use Rattle.varisat_theory.specs.Literals.{Literal}
-use Rattle.varisat_formula.specs.Numbers.{variable_text, literal_text}
+use Rattle.varisat_literals.specs.Numbers.{variable_text, literal_text}
 use Rattle.varisat.specs.Refusals.{refusal_number}
 use Rattle.varisat.specs.declared.session.Call.{Call}
 use Rattle.varisat.specs.declared.session.Call.TheVariants as call

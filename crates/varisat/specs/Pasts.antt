@@ -9,6 +9,7 @@ use Rattle.varisat.specs.Calls.{IsPastLimit}
 use Rattle.varisat.specs.Additions as additions
 use Rattle.varisat.specs.declared.solver.SolverError.{SolverError}
 use Rattle.varisat.specs.declared.solver.SolverError.TheVariants.{OutOfMemory, Invalid, VariableLimit, Dimacs}
+use Rattle.varisat_literals.specs.Numbers.{variable_limit}
 
 -- `valid`: no call that changes the solver ran out of memory. `in_use`: whether a name is in use, and `watermark` is one above the highest. `clauses` were accepted, and `assumptions` given. `has_model`: `solve` returned true, and no clause was accepted since.
 pub record Past : Type 0 where
@@ -76,9 +77,9 @@ abbrev pub IsLeastFree : Past → ℕ → Type 0
 IsLeastFree p u = (p.in_use u ≡ false) × ((v : ℕ) → v < u → p.in_use v ≡ true)
 
 abbrev pub MakesVar : Past → Result ℕ SolverError → Past → Type 0
-MakesVar p (Ok u) q = (p.valid ≡ true) × IsLeastFree p u × (u < 2 ^ 28) × (q ≡ use_name u p)
+MakesVar p (Ok u) q = (p.valid ≡ true) × IsLeastFree p u × (u < variable_limit) × (q ≡ use_name u p)
 MakesVar p (Err Invalid) q = (p.valid ≡ false) × (q ≡ p)
-MakesVar p (Err VariableLimit) q = (p.valid ≡ true) × ((u : ℕ) → u < 2 ^ 28 → p.in_use u ≡ true) × (q ≡ p)
+MakesVar p (Err VariableLimit) q = (p.valid ≡ true) × ((u : ℕ) → u < variable_limit → p.in_use u ≡ true) × (q ≡ p)
 MakesVar p (Err OutOfMemory) q = Invalidates p q
 MakesVar p (Err (Dimacs cause)) q = ⊥
 

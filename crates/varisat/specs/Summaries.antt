@@ -10,6 +10,7 @@ use Rattle.varisat_search.specs.Contexts.{IsReady}
 use Rattle.varisat.specs.States.{State, Ledger, Verdict, Unknown, Sat, Unsat, HasRightVerdict, IsWellFormed}
 use Rattle.varisat.specs.Names.{AreInOrder}
 use Rattle.varisat.specs.Searches.{Holds, IsFlagged, found}
+use Rattle.varisat_literals.specs.Numbers.{variable_limit}
 
 -- The names below `var_count` are in use, each for the variable of that index. `flags`: for each variable whether an accepted clause names it.
 pub record Summary : Type 0 where
@@ -21,7 +22,7 @@ pub record Summary : Type 0 where
 
 -- what a valid solver keeps
 pub record IsKept {A : Type 0} (var_count : ℕ) (flags : List Bool) (search : Context A) : Type 0 where
-  pub small : var_count ≤ 2 ^ 28
+  pub small : var_count ≤ variable_limit
   pub ready : IsReady search
   pub within : length search.assignment.current ≤ var_count
   pub flagged : length flags ≤ var_count

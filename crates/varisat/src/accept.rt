@@ -4,9 +4,10 @@ ghost use Rattle.varisat_theory.specs.Membership.{◌∈◌};
 ghost use Rattle.varisat_theory.specs.Literals.{Literal, Clause, variable_of};
 ghost use Rattle.varisat_search.specs.Contexts.{view, IsReady};
 ghost use Rattle.varisat.specs.Searches.{Holds, IsFlagged, IsOpen, IsLoaded};
+ghost use Rattle.varisat_literals.specs.Numbers.{variable_limit};
 
 use std::alloc::{AllocError, Allocator};
-use varisat_formula::formula::Lit;
+use varisat_literals::Lit;
 use varisat_search::context::{Context, set_var_count};
 use varisat_search::load::load_clause;
 use varisat_search::state::SatState;
@@ -39,7 +40,7 @@ pub fn accept_clause<A: Allocator + Copy>(
     requires ready { IsReady ctx.old }
     requires unsettled { IsOpen ctx.old.solver_state.sat_state }
     requires raised { length ctx.old.assignment.current ≤ var_count }
-    requires small { var_count ≤ 2 ^ 28 }
+    requires small { var_count ≤ variable_limit }
     requires flags { length flags.old.items ≤ var_count }
     requires in_range { (l : Literal) → l ∈ clause.now → variable_of l < var_count }
     ensures ready { OnOk result (IsReady ctx.new) }

@@ -17,7 +17,8 @@ pub mod prop {
 }
 
 pub use solver::{Solver, SolverError};
-pub use varisat_formula::formula::{CnfFormula, ExtendFormula, Lit, Var};
-pub use varisat_formula::{cnf, cnf_formula, dimacs, formula, io, lit, lits, var};
+pub use varisat_formula::formula::{CnfFormula, ExtendFormula};
+pub use varisat_literals::{Lit, Var, lit, lits, var};
+pub use varisat_formula::{cnf, cnf_formula, dimacs, formula, io};
 pub use varisat_prop::clause;
 pub use varisat_search::{analyze_conflict, cdcl, context, decision, glue, load, state, tmp};

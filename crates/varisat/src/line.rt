@@ -3,7 +3,7 @@ ghost use Rattle.std.specs.Prelude.{◌≡◌, ◌≢◌, ◌==◌, ℕ, ◌+◌
 ghost use Rattle.std.specs.List.{All, join_with_byte};
 ghost use Rattle.std.specs.Io.KnownBytes.{Appends};
 ghost use Rattle.varisat_theory.specs.Literals.{Literal};
-ghost use Rattle.varisat_formula.specs.Numbers.{literal_text, variable_text};
+ghost use Rattle.varisat_literals.specs.Numbers.{literal_text, variable_text};
 ghost use Rattle.varisat.specs.Lines.{Command, Add, words, Means, MeansOneCommand, command_of, words_of, literals_text, refusal_text, done_text, answer_text};
 
 use crate::session::{Answer, Call};
@@ -12,7 +12,7 @@ use itoa::Buffer;
 use std::alloc::{AllocError, Allocator};
 use std::io::{self, Write};
 use std::str;
-use varisat_formula::formula::{Lit, Var};
+use varisat_literals::{Lit, Var};
 use varisat_formula::io::{ByteSource, ProofTarget};
 
 // The highest number of a variable.

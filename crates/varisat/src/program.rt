@@ -10,7 +10,7 @@ use crate::solver::{Solver, SolverError};
 use std::alloc::Allocator;
 use std::fmt::Display;
 use std::io::{self, BufRead, BufReader, Empty, Read, Write};
-use varisat_formula::formula::Lit;
+use varisat_literals::Lit;
 use varisat_formula::io::{ByteSource, MemoryTarget, ReadSource};
 
 /// The status of a command that came to its end.

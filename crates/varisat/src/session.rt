@@ -8,7 +8,8 @@ ghost use Rattle.varisat.specs.Histories.{AreTrue};
 
 use crate::solver::{Solver, SolverError};
 use std::alloc::{AllocError, Allocator};
-use varisat_formula::formula::{CnfFormula, Lit, Var};
+use varisat_formula::formula::CnfFormula;
+use varisat_literals::{Lit, Var};
 use varisat_formula::io::{ByteSource, ProofTarget};
 
 /// A call of a solver, with what it is given. A text is given by its source. No call takes a proof's target yet.

@@ -4,6 +4,7 @@ ghost use Rattle.varisat_theory.specs.Literals.{Literal};
 ghost use Rattle.varisat.specs.Calls.{IsPastLimit};
 ghost use Rattle.varisat.specs.Counts.{count_with, list_values};
 ghost use Rattle.varisat.specs.Searches.{found};
+ghost use Rattle.varisat_literals.specs.Numbers.{variable_limit};
 
 use crate::accept::accept_clause;
 use crate::search::search;
@@ -11,7 +12,8 @@ use std::alloc::{AllocError, Allocator};
 use std::marker::Model;
 use thiserror::Error;
 use varisat_formula::dimacs::{DimacsError, DimacsErrorKind, DimacsParser};
-use varisat_formula::formula::{CnfFormula, ExtendFormula, Lit, Var};
+use varisat_formula::formula::{CnfFormula, ExtendFormula};
+use varisat_literals::{Lit, Var};
 use varisat_formula::io::{ByteSource, ProofTarget};
 use varisat_search::context::Context;
 use varisat_search::state::SatState;
@@ -61,9 +63,9 @@ impl SolverError {
 
 /// How many names are in use once those of the clause are. None where one of them is past the limit.
 fn count_with_clause(clause: &[Lit], var_count: usize) -> Option<usize>
-    requires { var_count ≤ 2 ^ 28 }
+    requires { var_count ≤ variable_limit }
     ensures { MatchOption result (IsPastLimit clause.now)
-        (λ n. (n ≡ count_with var_count clause.now) × (n ≤ 2 ^ 28) × (IsPastLimit clause.now → ⊥)) }
+        (λ n. (n ≡ count_with var_count clause.now) × (n ≤ variable_limit) × (IsPastLimit clause.now → ⊥)) }
 {
     let mut count = var_count;
     for lit in clause {
@@ -93,7 +95,7 @@ fn list_model<A: Allocator + Copy>(
     values: &[Option<bool>],
     var_count: usize,
 ) -> Result<Vec<Lit, A>, AllocError>
-    requires { var_count ≤ 2 ^ 28 }
+    requires { var_count ≤ variable_limit }
     ensures { IfOk result (λ list. list.items ≡ list_values (found flags.now values.now) 0 var_count) }
 {
     let mut list = Vec::new(alloc);

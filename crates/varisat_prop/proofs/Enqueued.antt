@@ -5,7 +5,7 @@ use Rattle.std.proofs.lemmas.Bool.{cases_lt}
 use Rattle.varisat_theory.specs.Membership.{◌∈◌}
 use Rattle.varisat_theory.specs.Literals.{Literal, Clause, variable_of, opposite, IsUnit}
 use Rattle.varisat_theory.proofs.Members.{∈-append_left, ∈-append_right}
-use Rattle.varisat_formula.specs.Numbers.{polarity_of}
+use Rattle.varisat_literals.specs.Numbers.{polarity_of}
 use Rattle.varisat_prop.specs.declared.prop.graph.Reason.{Reason}
 use Rattle.varisat_prop.specs.declared.prop.graph.Reason.TheVariants as reason
 use Rattle.varisat_prop.specs.Stored.{IsPlace}

@@ -4,7 +4,7 @@ use Rattle.std.proofs.lemmas.List.{get_or_append_left}
 use Rattle.std.proofs.lemmas.Bool.{cases_lt}
 use Rattle.varisat_theory.specs.Membership.{◌∈◌}
 use Rattle.varisat_theory.specs.Literals.{Literal, Clause, variable_of, opposite}
-use Rattle.varisat_formula.specs.Numbers.{polarity_of}
+use Rattle.varisat_literals.specs.Numbers.{polarity_of}
 use Rattle.varisat_prop.specs.declared.prop.graph.Reason.{Reason}
 use Rattle.varisat_prop.specs.declared.prop.graph.Reason.TheVariants as reason
 use Rattle.varisat_prop.specs.declared.prop.graph.ImplNode.{ImplNode}

@@ -4,7 +4,8 @@ use Rattle.std.specs.Bool.{beq, IsTrue}
 use Rattle.std.specs.Option.{option_eq, option_map}
 use Rattle.varisat_theory.specs.Literals.{Literal, variable_of, opposite}
 use Rattle.varisat_theory.proofs.Members.{equal_or_not}
-use Rattle.varisat_formula.specs.Numbers.{polarity_of}
+use Rattle.varisat_theory.proofs.Values.{parity}
+use Rattle.varisat_literals.specs.Numbers.{polarity_of}
 use Rattle.varisat_prop.specs.Parts.{IsMadeTrue, value_in}
 
 pub same-variable : (l m : Literal) → variable_of l ≡ variable_of m → (l ≡ m) ⊎ (l ≡ opposite m)
@@ -18,9 +19,6 @@ variable-opposite l = omega arith
 pub own-opposite : (l : Literal) → opposite l ≡ l → ⊥
 unfolding opposite
 own-opposite l e = omega arith
-
-parity : (l : ℕ) → (l % 2 ≡ 0) ⊎ (l % 2 ≡ 1)
-parity l = grind arith
 
 even-odd : (l : ℕ) → l % 2 ≡ 0 → opposite l % 2 ≡ 1
 unfolding opposite

@@ -1,7 +1,7 @@
 -- What a search does to its view.
 use Rattle.std.specs.Prelude.{◌≡◌, ℕ, suc, ◌<◌, ◌≤◌, Bool, Option, Some, None, List, [], ◌∷◌, ◌++◌, length, slice_index_or, slice_set}
 use Rattle.varisat_theory.specs.Literals.{Literal, Clause, variable_of}
-use Rattle.varisat_formula.specs.Numbers.{polarity_of}
+use Rattle.varisat_literals.specs.Numbers.{polarity_of}
 use Rattle.varisat_prop.specs.declared.prop.graph.Reason.{Reason}
 use Rattle.varisat_prop.specs.declared.prop.graph.Reason.TheVariants as reason
 use Rattle.varisat_prop.specs.declared.prop.graph.ImplNode.{ImplNode}

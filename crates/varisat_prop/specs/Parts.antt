@@ -2,7 +2,7 @@
 use Rattle.std.specs.Prelude.{◌≡◌, ℕ, ◌+◌, Bool, false, Option, Some, None, List, [], length, option_map, slice_index_or}
 use Rattle.std.specs.Bool.{beq}
 use Rattle.varisat_theory.specs.Literals.{Literal, variable_of}
-use Rattle.varisat_formula.specs.Numbers.{polarity_of}
+use Rattle.varisat_literals.specs.Numbers.{polarity_of}
 
 -- For each variable the value that it has, and the value that `release_var` remembered last, false at first.
 pub record Values : Type 0 where

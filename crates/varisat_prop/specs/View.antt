@@ -9,6 +9,7 @@ use Rattle.varisat_prop.specs.declared.prop.graph.Reason.{Reason}
 use Rattle.varisat_prop.specs.declared.prop.graph.Reason.TheVariants as reason
 use Rattle.varisat_prop.specs.declared.prop.graph.ImplNode.{ImplNode}
 use Rattle.varisat_prop.specs.declared.prop.graph.ImplGraph.{ImplGraph}
+use Rattle.varisat_literals.specs.Numbers.{variable_limit}
 
 pub record View : Type 0 where
   -- the kept clauses, in the order of adding
@@ -81,7 +82,7 @@ IsReason s k (reason.Long p) = IsPlace s.clauses p × Implies s (clause_at s p) 
 pub record WellFormed (s : View) : Type 0 where
   -- each variable has a node, and there are at most 2^28 variables
   pub nodes_are : length s.nodes ≡ length s.values
-  pub small : length s.values ≤ 2 ^ 28
+  pub small : length s.values ≤ variable_limit
   -- the places rise, so that each tells its clause
   pub places : AreRising s.clauses
   -- a kept clause names known variables and has two literals or more, none of them twice

@@ -2,7 +2,7 @@
 use Rattle.std.proofs.Common.{◌≡◌, ℕ, ◌+◌, ◌*◌, ◌%◌, ◌<◌, ◌≤◌, Bool, true, false, Result, Ok, Err, MatchResult, [], ◌∷◌, length, refl, sym, ap, subst, eq-eqb, ne_eqb, arith, length-append}
 use Rattle.varisat_theory.specs.Literals.{Literal, variable_of, literal_of}
 use Rattle.varisat_theory.specs.Propagation.{IsComplete}
-use Rattle.varisat_formula.specs.Numbers.{polarity_of}
+use Rattle.varisat_literals.specs.Numbers.{polarity_of}
 use Rattle.varisat_prop.specs.View.{View, kept, WellFormed, LevelsSettled, IsPropagated, Grows}
 use Rattle.varisat_prop.specs.Changes.{decided_on}
 use Rattle.varisat_prop.specs.Looks.{Propagates}

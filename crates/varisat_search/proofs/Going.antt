@@ -16,7 +16,7 @@ use Rattle.varisat_prop.proofs.Stored.{place-last}
 use Rattle.varisat_search.specs.Conflicts.{learned_at}
 use Rattle.varisat_prop.specs.View.{View, kept, IsTrueIn, literal_at, decision_at, node_of, node_at, level_of, WellFormed, LevelsSettled, IsPropagated, Fits, Grows, kinds, is_implied, is_clause}
 use Rattle.varisat_prop.specs.Changes.{enqueued}
-use Rattle.varisat_formula.specs.Numbers.{polarity_of}
+use Rattle.varisat_literals.specs.Numbers.{polarity_of}
 use Rattle.varisat_prop.proofs.Lits.{none-made, made-inside, made-clash, variable-opposite}
 use Rattle.varisat_prop.proofs.Looked.{trail-true}
 use Rattle.varisat_prop.proofs.Stored.{same-self, reordered-refl}

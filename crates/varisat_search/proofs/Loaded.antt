@@ -7,7 +7,7 @@ use Rattle.varisat_theory.specs.Propagation.{IsFalse, LeavesOnly, FalseClause}
 use Rattle.varisat_theory.specs.Analysis.{IsTrail}
 use Rattle.varisat_theory.proofs.Implication.{trail_conflicts}
 use Rattle.varisat_theory.proofs.Members.{∈-append_left, ∈-append_right}
-use Rattle.varisat_formula.specs.Numbers.{polarity_of}
+use Rattle.varisat_literals.specs.Numbers.{polarity_of}
 use Rattle.varisat_prop.specs.declared.prop.graph.Reason.{Reason}
 use Rattle.varisat_prop.specs.declared.prop.graph.Reason.TheVariants as reason
 use Rattle.varisat_prop.proofs.Stored.{kept-at, reordered-refl}

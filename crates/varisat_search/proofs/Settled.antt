@@ -6,7 +6,8 @@ use Rattle.varisat_theory.specs.Literals.{Literal, Clause, variable_of, opposite
 use Rattle.varisat_theory.specs.Propagation.{IsComplete}
 use Rattle.varisat_theory.proofs.Saturated.{complete_shorter}
 use Rattle.varisat_theory.proofs.Assigned.{assigned_satisfies, same_set_satisfied, tautology_satisfied}
-use Rattle.varisat_formula.specs.Numbers.{polarity_of}
+use Rattle.varisat_theory.proofs.Values.{parity}
+use Rattle.varisat_literals.specs.Numbers.{polarity_of}
 use Rattle.varisat_prop.specs.Parts.{is_true_value}
 use Rattle.varisat_prop.specs.Stored.{StoredClause, literals_of, AreReordered}
 use Rattle.varisat_prop.specs.View.{View, kept, IsTrueIn, decision_at, WellFormed, LevelsSettled, Fits, Grows}
@@ -49,9 +50,6 @@ settled-decided s l w q v j h =
     let e : get_or (s.decisions ++ length s.trail ∷ []) j 0 ≡ length s.trail = ap (λ x. get_or (s.decisions ++ length s.trail ∷ []) x 0) z ∙ get_or-last s.decisions (length s.trail) 0 in
     subst (λ x. IsComplete (kept s) (take x (s.trail ++ l ∷ []))) (sym e) (subst (λ x. IsComplete (kept s) x) (sym (take-whole s.trail (l ∷ []))) q))
     (cases_lt j (length s.decisions))
-
-parity : (l : ℕ) → (l % 2 ≡ 0) ⊎ (l % 2 ≡ 1)
-parity l = grind arith
 
 -- the assignment makes true what is true
 pub makes-true : (s : View) (l : Literal) → IsTrueIn s l → value (assignment_of s) l ≡ true

@@ -13,7 +13,7 @@ ghost use Rattle.varisat_search.specs.Redundancy.{Explores, IsFound};
 use crate::glue::LevelAbstraction;
 use std::alloc::{AllocError, Allocator};
 use std::marker::Model;
-use varisat_formula::formula::{Lit, Var};
+use varisat_literals::{Lit, Var};
 use varisat_prop::clause::{ClauseAlloc, ClauseRef};
 use varisat_prop::prop::{Conflict, ImplGraph, Reason, Trail};
 

@@ -19,7 +19,7 @@ use crate::decision::make_decision;
 use crate::levels::backtrack;
 use crate::state::SatState;
 use std::alloc::{AllocError, Allocator};
-use varisat_formula::formula::Lit;
+use varisat_literals::Lit;
 use varisat_prop::clause::ClauseHeader;
 use varisat_prop::prop::{Conflict, Reason, enqueue_assignment, propagate};
 

@@ -3,6 +3,7 @@ ghost use Rattle.std.specs.Prelude.{◌≡◌, ℕ, ◌≤◌, ◌^◌, ◌-◌,
 ghost use Rattle.varisat_theory.specs.Literals.{Clause};
 ghost use Rattle.varisat_prop.specs.View.{Fits};
 ghost use Rattle.varisat_search.specs.Contexts.{view, IsReady, first_state};
+ghost use Rattle.varisat_literals.specs.Numbers.{variable_limit};
 
 use crate::analyze_conflict::AnalyzeConflict;
 use crate::state::SolverState;
@@ -54,7 +55,7 @@ pub fn set_var_count<A: Allocator + Copy>(
 ) -> Result<(), AllocError>
     requires ready { IsReady ctx.old }
     requires raised { length ctx.old.assignment.current ≤ count }
-    requires small { count ≤ 2 ^ 28 }
+    requires small { count ≤ variable_limit }
     ensures ready { OnOk result (IsReady ctx.new) }
     ensures count { OnOk result (length ctx.new.assignment.current ≡ count) }
     ensures remembered { (v : ℕ) → slice_index_or ctx.new.assignment.last v false ≡ slice_index_or ctx.old.assignment.last v false }

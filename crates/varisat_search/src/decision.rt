@@ -1,7 +1,7 @@
 //! The choice of a literal to decide.
 ghost use Rattle.std.specs.Prelude.{◌≡◌, ◌≢◌, ℕ, ◌<◌, ◌≤◌, ◌^◌, None, false, length, slice_index_or, OnOk, IfOk, MatchOption, MatchBool};
 ghost use Rattle.varisat_theory.specs.Literals.{Literal, variable_of};
-ghost use Rattle.varisat_formula.specs.Numbers.{polarity_of};
+ghost use Rattle.varisat_literals.specs.Numbers.{polarity_of, variable_limit};
 ghost use Rattle.varisat_prop.specs.View.{WellFormed};
 ghost use Rattle.varisat_prop.specs.Changes.{decided_on};
 ghost use Rattle.varisat_search.specs.Contexts.{view};
@@ -9,12 +9,12 @@ ghost use Rattle.varisat_search.specs.Steps.{IsFree, IsTotal};
 
 use crate::context::Context;
 use std::alloc::{AllocError, Allocator};
-use varisat_formula::formula::Var;
+use varisat_literals::Var;
 use varisat_prop::prop::{Assignment, Reason, enqueue_assignment};
 
 /// The first variable without a value.
 fn unassigned_var<A: Allocator + Copy>(assignment: &Assignment<A>) -> Option<Var>
-    requires { length assignment.now.current ≤ 2 ^ 28 }
+    requires { length assignment.now.current ≤ variable_limit }
     ensures { MatchOption result
         ((v : ℕ) → v < length assignment.now.current → slice_index_or assignment.now.current v None ≢ None)
         (λ v. (v < length assignment.now.current) × (slice_index_or assignment.now.current v None ≡ None)) }

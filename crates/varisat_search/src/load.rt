@@ -17,7 +17,7 @@ use crate::context::Context;
 use crate::levels::full_restart;
 use crate::state::SatState;
 use std::alloc::{AllocError, Allocator};
-use varisat_formula::formula::Lit;
+use varisat_literals::Lit;
 use varisat_prop::clause::ClauseHeader;
 use varisat_prop::prop::{Assignment, Reason, enqueue_assignment};
 

@@ -2,7 +2,7 @@
 ghost use Rattle.std.specs.Prelude.{◌≡◌, ◌≤◌, ◌*◌, ◌-◌, ◌++◌, [], length, replicate, false, OnOk};
 
 use std::alloc::{AllocError, Allocator};
-use varisat_formula::formula::Lit;
+use varisat_literals::Lit;
 
 /// A list of literals. No call relies on what an earlier one left in it.
 #[derive(Drop)]

@@ -4,13 +4,15 @@
 ghost use Rattle.std.specs.Prelude.{◌≡◌, ◌≤◌, ◌^◌, IfOk};
 ghost use Rattle.varisat_search.specs.Contexts.{view, IsReady};
 ghost use Rattle.varisat_steps.specs.Conflicts.{IsLoaded, ComesTo};
+ghost use Rattle.varisat_literals.specs.Numbers.{variable_limit};
 
 use anyhow::{Result, bail};
 use std::alloc::Allocator;
 use std::process::ExitCode;
 use std::{env, fs};
 use varisat_formula::dimacs::DimacsParser;
-use varisat_formula::formula::{CnfFormula, Var};
+use varisat_formula::formula::CnfFormula;
+use varisat_literals::Var;
 use varisat_formula::io::ReadSource;
 use varisat_search::cdcl::conflict_step;
 use varisat_search::context::{Context, set_var_count};
@@ -62,7 +64,7 @@ fn run(rt: &HostRuntime) -> Result<u8> {
 
 // Loads the clauses of the formula into a new search.
 fn load<A: Allocator + Copy>(alloc: A, formula: &CnfFormula<A>) -> Result<Context<A>>
-    requires { formula.now.var_count ≤ 2 ^ 28 }
+    requires { formula.now.var_count ≤ variable_limit }
     ensures ready { IfOk result IsReady }
     ensures loaded { IfOk result (λ ctx. IsLoaded formula.now.clauses (view ctx) ctx.solver_state.sat_state) }
 {

@@ -11,7 +11,7 @@ same_var : (l : ℕ) → opposite l / 2 ≡ l / 2
 unfolding opposite
 same_var l = omega arith
 
-parity : (l : ℕ) → (l % 2 ≡ 0) ⊎ (l % 2 ≡ 1)
+pub parity : (l : ℕ) → (l % 2 ≡ 0) ⊎ (l % 2 ≡ 1)
 parity l = grind arith
 
 value_even : (a : ℕ → Bool) (l : ℕ) → l % 2 ≡ 0 → value a l ≡ a (l / 2)

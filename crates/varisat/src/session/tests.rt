@@ -8,7 +8,8 @@ use std::alloc::Global;
 use std::test::Fail;
 use varisat_formula::dimacs::{DimacsError, DimacsErrorKind};
 use varisat_formula::io::{MemoryTarget, ReadSource};
-use varisat_formula::{cnf_formula, lit, lits};
+use varisat_formula::cnf_formula;
+use varisat_literals::{lit, lits};
 
 // A call on a text.
 type TextCall = Call<ReadSource<&'static [u8]>, Global>;

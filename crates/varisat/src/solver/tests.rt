@@ -5,7 +5,8 @@ use std::alloc::Global;
 use std::io::{self, Read};
 use std::test::Fail;
 use varisat_formula::io::{MemoryTarget, ReadSource};
-use varisat_formula::{cnf_formula, lits};
+use varisat_formula::cnf_formula;
+use varisat_literals::lits;
 
 fn solver(alloc: Global) -> Solver<MemoryTarget<Global>, Global> {
     Solver::new_in(alloc)

@@ -6,7 +6,7 @@ use super::*;
 use linked_list_allocator::LocalHeap;
 use std::mem::size_of;
 use var_map::VarBiMap;
-use varisat_formula::var;
+use varisat_literals::var;
 
 /// Takes a solver variable for the global variable, if it is live and has none.
 fn take<A: Allocator + Copy>(

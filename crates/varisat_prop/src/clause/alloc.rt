@@ -6,7 +6,7 @@ ghost use Rattle.varisat_prop.specs.Stored.{IsPlace, stored_at, literals_at, wit
 use crate::clause::header::ClauseHeader;
 use std::alloc::{AllocError, Allocator};
 use std::marker::Model;
-use varisat_formula::formula::Lit;
+use varisat_literals::Lit;
 
 /// A kept clause, by its place. A contract sees the place.
 #[derive(Clone, Copy, Debug, PartialEq, Eq, PartialOrd, Ord)]

@@ -1,12 +1,12 @@
 //! The partial assignment, and the value that each variable had last.
 ghost use Rattle.std.specs.Prelude.{◌≡◌, ◌<◌, ◌≤◌, ◌↔◌, ◌++◌, ◌-◌, IsTrue, [], length, replicate, slice_index_or, slice_set, Option, Some, None, true, false, OnOk, OnErr};
 ghost use Rattle.varisat_theory.specs.Literals.{variable_of, opposite};
-ghost use Rattle.varisat_formula.specs.Numbers.{polarity_of};
+ghost use Rattle.varisat_literals.specs.Numbers.{polarity_of};
 ghost use Rattle.varisat_prop.specs.Parts.{IsMadeTrue, value_in, no_values, is_true_value};
 
 use std::alloc::{AllocError, Allocator};
 use std::marker::Model;
-use varisat_formula::formula::{Lit, Var};
+use varisat_literals::{Lit, Var};
 
 /// The value of each variable, if it has one, and the value that it had before.
 #[derive(Drop)]

@@ -8,7 +8,7 @@ use crate::prop::assignment::Assignment;
 use crate::prop::graph::{ImplGraph, ImplNode, Reason};
 use crate::prop::trail::Trail;
 use std::alloc::{AllocError, Allocator};
-use varisat_formula::formula::Lit;
+use varisat_literals::Lit;
 
 /// Makes the literal of a variable without a value true, at the current level and for the reason.
 pub fn enqueue_assignment<A: Allocator + Copy>(

@@ -6,7 +6,7 @@ ghost use Rattle.varisat_prop.specs.Changes.{NamesClause, causes_of, place_of};
 
 use crate::clause::{ClauseAlloc, ClauseRef};
 use std::alloc::{AllocError, Allocator};
-use varisat_formula::formula::{Lit, Var};
+use varisat_literals::{Lit, Var};
 
 /// What made a literal true.
 #[derive(Clone, Copy, Debug, PartialEq, Eq)]

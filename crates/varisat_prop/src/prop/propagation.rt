@@ -12,7 +12,7 @@ use crate::prop::enqueue::enqueue_assignment;
 use crate::prop::graph::{Conflict, ImplGraph, Reason};
 use crate::prop::trail::Trail;
 use std::alloc::{AllocError, Allocator};
-use varisat_formula::formula::Lit;
+use varisat_literals::Lit;
 
 /// What a clause is under an assignment.
 #[derive(Clone, Copy, Debug)]

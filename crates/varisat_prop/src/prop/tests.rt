@@ -3,7 +3,7 @@ use super::*;
 use crate::clause::{ClauseAlloc, ClauseHeader, ClauseRef};
 use linked_list_allocator::LocalHeap;
 use std::alloc::{AllocError, Allocator};
-use varisat_formula::{lit, lits, var};
+use varisat_literals::{lit, lits, var};
 
 #[test]
 fn values(rt: HostRuntime) -> Result<(), AllocError> {

@@ -4,7 +4,7 @@ ghost use Rattle.varisat_prop.specs.Parts.{empty_trail, top_level_count};
 
 use std::alloc::{AllocError, Allocator};
 use std::marker::Model;
-use varisat_formula::formula::Lit;
+use varisat_literals::Lit;
 
 /// The true literals, oldest first, the places of the decisions among them, and how far they were propagated.
 #[derive(Drop)]

@@ -1,6 +1,7 @@
 //! Steps of a search, and what conflicts on given trails teach.
 ghost use Rattle.std.specs.Prelude.{◌≡◌, ◌≤◌, ◌^◌, length, OnOk};
 ghost use Rattle.varisat_search.specs.Contexts.{IsReady};
+ghost use Rattle.varisat_literals.specs.Numbers.{variable_limit};
 
 use super::{analyze, find_conflict};
 use crate::cdcl::conflict_step;
@@ -10,14 +11,13 @@ use crate::state::SatState;
 use linked_list_allocator::LocalHeap;
 use std::alloc::{AllocError, Allocator};
 use std::test::Fail;
-use varisat_formula::formula::{Lit, Var};
-use varisat_formula::lits;
+use varisat_literals::{Lit, Var, lits};
 use varisat_prop::clause::ClauseRef;
 use varisat_prop::prop::Assignment;
 
 /// Makes true the value that each variable without one had last.
 fn prefer_true<A: Allocator + Copy>(assignment: &mut Assignment<A>)
-    requires { length assignment.old.current ≤ 2 ^ 28 }
+    requires { length assignment.old.current ≤ variable_limit }
     ensures { assignment.new.current ≡ assignment.old.current }
 {
     for index in 0..assignment.assignment().len() {

@@ -3,7 +3,7 @@ use crate::context::{Context, set_var_count};
 use crate::load::load_clause;
 use crate::state::SatState;
 use std::test::Fail;
-use varisat_formula::lits;
+use varisat_literals::lits;
 
 #[test]
 fn units(rt: HostRuntime) -> Result<(), Fail> {

@@ -1,6 +1,6 @@
 -- Where all words are literals, the text is the command of their clause. Where one is none, no command is spelled so.
 use Rattle.std.proofs.Common.{◌++◌, ap, sym, ◌∙◌, map}
-use Rattle.varisat_formula.specs.Numbers.{literal_text}
+use Rattle.varisat_literals.specs.Numbers.{literal_text}
 use Rattle.varisat.proofs.LineLemmas.{words_left, first_word, none_left, clause_read, no_clause}
 use Rattle.varisat.proofs.line.parse_literals.Goals as goal
 

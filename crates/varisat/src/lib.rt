@@ -2,11 +2,11 @@
 #![tactic(auto)]
 
 mod accept;
-mod line;
+pub mod line;
 pub mod program;
-mod search;
 pub mod session;
 pub mod solver;
+mod solving;
 
 /// The parts of a search that propagate, and going back.
 pub mod prop {
@@ -16,9 +16,21 @@ pub mod prop {
     pub use varisat_search::levels::{backtrack, full_restart};
 }
 
+/// The parts of a search that learn.
+pub mod search {
+    pub use varisat_search::analyze_conflict::{AnalyzeConflict, analyze_conflict};
+    pub use varisat_search::cdcl::{FoundConflict, conflict_step};
+    pub use varisat_search::context::{Context, set_var_count};
+    pub use varisat_search::decision::make_decision;
+    pub use varisat_search::glue::LevelAbstraction;
+    pub use varisat_search::load::load_clause;
+    pub use varisat_search::state::{SatState, SolverState};
+    pub use varisat_search::tmp::{TmpData, TmpFlags};
+}
+
 pub use solver::{Solver, SolverError};
 pub use varisat_formula::formula::{CnfFormula, ExtendFormula};
-pub use varisat_literals::{Lit, Var, lit, lits, var};
 pub use varisat_formula::{cnf, cnf_formula, dimacs, formula, io};
+pub use varisat_literals::{Lit, Var, lit, lits, var};
 pub use varisat_prop::clause;
 pub use varisat_search::{analyze_conflict, cdcl, context, decision, glue, load, state, tmp};

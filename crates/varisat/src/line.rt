@@ -12,8 +12,8 @@ use itoa::Buffer;
 use std::alloc::{AllocError, Allocator};
 use std::io::{self, Write};
 use std::str;
-use varisat_literals::{Lit, Var};
 use varisat_formula::io::{ByteSource, ProofTarget};
+use varisat_literals::{Lit, Var};
 
 // The highest number of a variable.
 const MAX_NUMBER: u32 = 0x8000_0000;
@@ -181,6 +181,3 @@ pub fn write_literals<W: Write>(out: &mut W, literals: &[Lit]) -> io::Result<()>
     }
     out.write_all(b" 0")
 }
-
-#[cfg(test)]
-mod tests;

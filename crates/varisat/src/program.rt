@@ -10,8 +10,8 @@ use crate::solver::{Solver, SolverError};
 use std::alloc::Allocator;
 use std::fmt::Display;
 use std::io::{self, BufRead, BufReader, Empty, Read, Write};
-use varisat_literals::Lit;
 use varisat_formula::io::{ByteSource, MemoryTarget, ReadSource};
+use varisat_literals::Lit;
 
 /// The status of a command that came to its end.
 pub const STATUS_DONE: u8 = 0;
@@ -166,6 +166,3 @@ fn answer_line<A: Allocator + Copy, W: Write>(
         None => out.write_all(b"bad line"),
     }
 }
-
-#[cfg(test)]
-mod tests;

@@ -9,8 +9,8 @@ ghost use Rattle.varisat.specs.Histories.{AreTrue};
 use crate::solver::{Solver, SolverError};
 use std::alloc::{AllocError, Allocator};
 use varisat_formula::formula::CnfFormula;
-use varisat_literals::{Lit, Var};
 use varisat_formula::io::{ByteSource, ProofTarget};
+use varisat_literals::{Lit, Var};
 
 /// A call of a solver, with what it is given. A text is given by its source. No call takes a proof's target yet.
 #[derive(Drop)]
@@ -89,6 +89,3 @@ pub fn answers_of<W: ProofTarget, S: ByteSource, A: Allocator + Copy>(
     let answers = run(&mut solver, calls)?;
     Ok(answers)
 }
-
-#[cfg(test)]
-mod tests;

@@ -7,14 +7,14 @@ ghost use Rattle.varisat.specs.Searches.{found};
 ghost use Rattle.varisat_literals.specs.Numbers.{variable_limit};
 
 use crate::accept::accept_clause;
-use crate::search::search;
+use crate::solving::find_verdict;
 use std::alloc::{AllocError, Allocator};
 use std::marker::Model;
 use thiserror::Error;
 use varisat_formula::dimacs::{DimacsError, DimacsErrorKind, DimacsParser};
 use varisat_formula::formula::{CnfFormula, ExtendFormula};
-use varisat_literals::{Lit, Var};
 use varisat_formula::io::{ByteSource, ProofTarget};
+use varisat_literals::{Lit, Var};
 use varisat_search::context::Context;
 use varisat_search::state::SatState;
 
@@ -278,7 +278,7 @@ impl<W: ProofTarget, A: Allocator + Copy> Solver<W, A> {
         match self.ctx.solver_state.sat_state {
             SatState::Sat => Ok(true),
             SatState::Unsat | SatState::UnsatUnderAssumptions => Ok(false),
-            SatState::Unknown => match search(&mut self.ctx) {
+            SatState::Unknown => match find_verdict(&mut self.ctx) {
                 Ok(found) => Ok(found),
                 Err(_) => {
                     self.ctx.solver_state.state_is_invalid = true;
@@ -327,6 +327,3 @@ impl<W: ProofTarget, A: Allocator + Copy> ExtendFormula for Solver<W, A> {
         Solver::new_var(self)
     }
 }
-
-#[cfg(test)]
-mod tests;

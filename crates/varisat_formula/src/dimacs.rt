@@ -13,6 +13,3 @@ pub use error::{DimacsError, DimacsErrorKind};
 pub use incremental::PieceReader;
 pub use parser::DimacsParser;
 pub use writer::write_dimacs;
-
-#[cfg(test)]
-mod tests;

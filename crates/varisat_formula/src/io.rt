@@ -90,6 +90,3 @@ impl<A: Allocator + Copy> ProofTarget for MemoryTarget<A> {
         self.faults
     }
 }
-
-#[cfg(test)]
-mod tests;

@@ -6,6 +6,3 @@ pub mod lit;
 mod macros;
 
 pub use lit::{Lit, VARIABLE_LIMIT, Var};
-
-#[cfg(test)]
-mod tests;

@@ -280,6 +280,3 @@ impl<A: Allocator + Copy> Variables<A> {
         Ok(())
     }
 }
-
-#[cfg(test)]
-mod tests;

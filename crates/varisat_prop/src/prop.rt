@@ -11,6 +11,3 @@ pub use enqueue::enqueue_assignment;
 pub use graph::{Conflict, ImplGraph, ImplNode, Reason};
 pub use propagation::propagate;
 pub use trail::Trail;
-
-#[cfg(test)]
-mod tests;

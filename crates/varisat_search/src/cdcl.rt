@@ -170,6 +170,3 @@ pub fn conflict_step<A: Allocator + Copy>(ctx: &mut Context<A>) -> Result<(), Al
     }
     Ok(())
 }
-
-#[cfg(test)]
-mod tests;

@@ -9,6 +9,4 @@ pub mod glue;
 pub mod levels;
 pub mod load;
 pub mod state;
-#[cfg(test)]
-mod tests;
 pub mod tmp;

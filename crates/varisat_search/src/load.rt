@@ -146,6 +146,3 @@ pub fn load_clause<A: Allocator + Copy>(
     add_distinct(ctx)?;
     Ok(())
 }
-
-#[cfg(test)]
-mod tests;

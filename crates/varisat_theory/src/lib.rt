@@ -4,5 +4,3 @@
 pub mod checker;
 pub mod laws;
 pub mod propagation;
-#[cfg(test)]
-mod tests;

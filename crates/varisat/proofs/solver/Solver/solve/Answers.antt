@@ -40,7 +40,7 @@ returns-in-Ok-clause-satisfiable g c e s st =
     let q = rw (← c.self.view_is) at st in
     let f = q.fits (ap not c.if-self.false) in
     let sat : c.in-Ok.found ≡ true = cc in
-    search-true _ s (view c.search.new.ctx) c.in-Ok.found f c.in-Unknown.is sat c.in-Ok.ensures.found
+    search-true _ s (view c.find_verdict.new.ctx) c.in-Ok.found f c.in-Unknown.is sat c.in-Ok.ensures.found
 
 pub returns-in-Ok-clause-model : goal.returns-in-Ok-clause-model
 returns-in-Ok-clause-model g c e s st =

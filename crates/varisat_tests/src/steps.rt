@@ -1,0 +1,197 @@
+//! Steps of a search, and what their conflicts teach.
+ghost use Rattle.std.specs.Prelude.{◌≡◌, ◌≤◌, ◌^◌, length, OnOk};
+ghost use Rattle.varisat_search.specs.Contexts.{IsReady};
+ghost use Rattle.varisat_literals.specs.Numbers.{variable_limit};
+
+use linked_list_allocator::LocalHeap;
+use std::alloc::{AllocError, Allocator};
+use std::test::Fail;
+use varisat_literals::{Lit, Var, lits};
+use varisat_prop::clause::ClauseRef;
+use varisat_prop::prop::Assignment;
+use varisat_search::cdcl::conflict_step;
+use varisat_search::context::{Context, set_var_count};
+use varisat_search::load::load_clause;
+use varisat_search::state::SatState;
+
+/// Makes true the value that each variable without one had last.
+fn prefer_true<A: Allocator + Copy>(assignment: &mut Assignment<A>)
+    requires { length assignment.old.current ≤ variable_limit }
+    ensures { assignment.new.current ≡ assignment.old.current }
+{
+    for index in 0..assignment.assignment().len() {
+        let var = Var::from_index(index);
+        if assignment.var_value(var).is_none() {
+            assignment.set_var(var, Some(true));
+            assignment.release_var(var);
+        }
+    }
+}
+
+/// Whether the next step, whose decisions make variables true, learns the clause and backtracks to the level.
+fn teaches<A: Allocator + Copy>(
+    ctx: &mut Context<A>,
+    clause: &[Lit],
+    level: usize,
+) -> Result<bool, AllocError>
+    requires { IsReady ctx.old }
+{
+    prefer_true(&mut ctx.assignment);
+    let SatState::Unknown = ctx.solver_state.sat_state else {
+        return Ok(false);
+    };
+    conflict_step(ctx)?;
+    Ok(ctx.analyze_conflict.clause() == clause && ctx.trail.current_level() == level)
+}
+
+#[test]
+fn refuted_at_once(rt: HostRuntime) -> Result<(), Fail> {
+    let mut ctx = Context::new_in(rt.alloc());
+    set_var_count(&mut ctx, 3)?;
+    load_clause(&mut ctx, &lits![1, 2, 3])?;
+    load_clause(&mut ctx, &lits![-1])?;
+    load_clause(&mut ctx, &lits![1, -2])?;
+    load_clause(&mut ctx, &lits![2, -3])?;
+    assert_eq!(rt; ctx.solver_state.sat_state, SatState::Unknown);
+    if let SatState::Unknown = ctx.solver_state.sat_state {
+        conflict_step(&mut ctx)?;
+    }
+    assert_eq!(rt; ctx.solver_state.sat_state, SatState::Unsat);
+    Ok(())
+}
+
+// The verdict on the four clauses of two variables, after at most two steps.
+fn refute<A: Allocator + Copy>(alloc: A) -> Result<SatState, AllocError> {
+    let mut ctx = Context::new_in(alloc);
+    set_var_count(&mut ctx, 2)?;
+    load_clause(&mut ctx, &lits![1, 2])?;
+    load_clause(&mut ctx, &lits![-1, 2])?;
+    load_clause(&mut ctx, &lits![1, -2])?;
+    load_clause(&mut ctx, &lits![-1, -2])?;
+    if let SatState::Unknown = ctx.solver_state.sat_state {
+        conflict_step(&mut ctx)?;
+        if let SatState::Unknown = ctx.solver_state.sat_state {
+            conflict_step(&mut ctx)?;
+        }
+    }
+    Ok(ctx.solver_state.sat_state)
+}
+
+#[test]
+fn each_growth_may_be_refused(rt: HostRuntime) -> Result<(), Fail> {
+    let mut refuted = false;
+    let mut refused = false;
+    for room in 0..120 {
+        let heap = LocalHeap::new(rt.alloc(), 16 * room)?;
+        match refute(&heap) {
+            Ok(verdict) => {
+                assert_eq!(rt; verdict, SatState::Unsat, "with {room}");
+                refuted = true;
+            }
+            Err(_) => refused = true,
+        }
+    }
+    assert!(rt; refuted && refused);
+    Ok(())
+}
+
+#[test]
+fn model(rt: HostRuntime) -> Result<(), Fail> {
+    let mut ctx = Context::new_in(rt.alloc());
+    set_var_count(&mut ctx, 2)?;
+    load_clause(&mut ctx, &lits![1, 2])?;
+    load_clause(&mut ctx, &lits![1, -2])?;
+    if let SatState::Unknown = ctx.solver_state.sat_state {
+        conflict_step(&mut ctx)?;
+        if let SatState::Unknown = ctx.solver_state.sat_state {
+            conflict_step(&mut ctx)?;
+        }
+    }
+    assert_eq!(rt; ctx.solver_state.sat_state, SatState::Sat);
+    assert_eq!(rt; ctx.assignment.assignment()[0], Some(true));
+    Ok(())
+}
+
+// 1 is decided and implies 2, 3 is decided and implies 4 and 5, and -1 -4 -5 is false.
+#[test]
+fn learned(rt: HostRuntime) -> Result<(), Fail> {
+    let mut ctx = Context::new_in(rt.alloc());
+    set_var_count(&mut ctx, 5)?;
+    load_clause(&mut ctx, &lits![-1, 2])?;
+    load_clause(&mut ctx, &lits![-3, 4])?;
+    load_clause(&mut ctx, &lits![-2, -4, 5])?;
+    load_clause(&mut ctx, &lits![-1, -4, -5])?;
+    assert!(rt; teaches(&mut ctx, &lits![-4, -1], 1)?);
+    // The conflict, and the reason of 5.
+    let involved = [ClauseRef::from_place(3), ClauseRef::from_place(2)];
+    assert_eq!(rt; ctx.analyze_conflict.involved(), involved.as_slice());
+    assert!(rt; ctx.trail.trail() == lits![1, 2, -4].as_slice());
+    Ok(())
+}
+
+// 3 is implied by 2 and that by 1, so that -3 is left out over two reasons.
+#[test]
+fn chain_is_left_out(rt: HostRuntime) -> Result<(), Fail> {
+    let mut ctx = Context::new_in(rt.alloc());
+    set_var_count(&mut ctx, 6)?;
+    load_clause(&mut ctx, &lits![-1, 2])?;
+    load_clause(&mut ctx, &lits![-2, 3])?;
+    load_clause(&mut ctx, &lits![-4, 5])?;
+    load_clause(&mut ctx, &lits![-3, -5, 6])?;
+    load_clause(&mut ctx, &lits![-1, -5, -6])?;
+    assert!(rt; teaches(&mut ctx, &lits![-5, -1], 1)?);
+    Ok(())
+}
+
+// As before, but 2 implies 3 together with 7, which is true at level 0.
+#[test]
+fn chain_with_level_zero_is_left_out(rt: HostRuntime) -> Result<(), Fail> {
+    let mut ctx = Context::new_in(rt.alloc());
+    set_var_count(&mut ctx, 7)?;
+    load_clause(&mut ctx, &lits![-1, 2])?;
+    load_clause(&mut ctx, &lits![-2, -7, 3])?;
+    load_clause(&mut ctx, &lits![-4, 5])?;
+    load_clause(&mut ctx, &lits![-3, -5, 6])?;
+    load_clause(&mut ctx, &lits![-1, -5, -6])?;
+    load_clause(&mut ctx, &lits![7])?;
+    assert!(rt; teaches(&mut ctx, &lits![-5, -1], 1)?);
+    Ok(())
+}
+
+// 2 is of level 1 and 4 of level 2, and each has a decision behind it that is not in the clause.
+#[test]
+fn highest_level_stands_second(rt: HostRuntime) -> Result<(), Fail> {
+    let mut ctx = Context::new_in(rt.alloc());
+    set_var_count(&mut ctx, 7)?;
+    load_clause(&mut ctx, &lits![-1, 2])?;
+    load_clause(&mut ctx, &lits![-2, -3, 4])?;
+    load_clause(&mut ctx, &lits![-5, 6])?;
+    load_clause(&mut ctx, &lits![-4, -6, 7])?;
+    load_clause(&mut ctx, &lits![-2, -6, -7])?;
+    assert!(rt; teaches(&mut ctx, &lits![-6, -4, -2], 2)?);
+    Ok(())
+}
+
+// 9 is true at level 0, and is left out.
+#[test]
+fn level_zero_is_left_out(rt: HostRuntime) -> Result<(), Fail> {
+    let mut ctx = Context::new_in(rt.alloc());
+    set_var_count(&mut ctx, 9)?;
+    load_clause(&mut ctx, &lits![-1, -9, 2])?;
+    load_clause(&mut ctx, &lits![-1, -2, -9])?;
+    load_clause(&mut ctx, &lits![9])?;
+    assert!(rt; teaches(&mut ctx, &lits![-1], 0)?);
+    Ok(())
+}
+
+#[test]
+fn conflict_at_level_zero(rt: HostRuntime) -> Result<(), Fail> {
+    let mut ctx = Context::new_in(rt.alloc());
+    set_var_count(&mut ctx, 2)?;
+    load_clause(&mut ctx, &lits![-1, 2])?;
+    load_clause(&mut ctx, &lits![-1, -2])?;
+    load_clause(&mut ctx, &lits![1])?;
+    assert!(rt; teaches(&mut ctx, &[], 0)?);
+    assert!(rt; ctx.analyze_conflict.involved().is_empty());
+    Ok(())
+}

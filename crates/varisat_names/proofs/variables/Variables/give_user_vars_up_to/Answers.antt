@@ -1,0 +1,14 @@
+use Rattle.std.proofs.Common.{length, subst, arith}
+use Rattle.varisat_names.specs.Variables.{IsGiven}
+use Rattle.varisat_names.proofs.Tables.{one-more}
+use Rattle.varisat_names.proofs.variables.Variables.give_user_vars_up_to.Goals as goal
+
+pub loop-index-preserved : goal.loop-index-preserved
+loop-index-preserved g c =
+    let first = c.user_watermark-index.ensures in
+    let after = c.loop-index.auto.index in
+    let before = c.loop-index-test.true in
+    let last = c.index-index-end.ensures.index in
+    let global = c.in_ok-give_user_var.field-0 in
+    one-more (length c.args.self.now.users.forward) c.args.user c.args.self.now c.loop-index.self c.give_user_var.new.self c.loop-index.index global (omega (arith, first, after)) (omega (arith, before, last)) c.loop-index.invariant
+    (subst (λ u. IsGiven c.loop-index.self c.give_user_var.new.self u global) c.from_index.ensures c.in_ok-give_user_var.ensures)

@@ -1,0 +1,20 @@
+use Rattle.std.proofs.Common.{ap, ◌∙◌, subst}
+use Rattle.varisat_names.specs.VarMap.{at}
+use Rattle.varisat_names.specs.VarBiMap.{IsJoined}
+use Rattle.varisat_names.proofs.VarMap.{put-padded, joined-inverse}
+use Rattle.varisat_names.proofs.variables.var_map.VarBiMap.insert.Goals as goal
+
+pub invariant_of-self-2 : goal.invariant_of-self-2
+invariant_of-self-2 g c =
+    let free = ap (λ m. at m.forward c.args.from) c.self.view_is in
+    let free-back = ap (λ m. at m.backward c.args.into) c.self.view_is in
+    joined-inverse c.self.inside.fwd c.self.inside.bwd c.put.new.self c.put-2.new.self c.args.from c.args.into c.self.invariant (free ∙ c.requires.from_is_free) (free-back ∙ c.requires.into_is_free)
+    (put-padded c.self.inside.fwd c.reach.new.self c.put.new.self c.args.from _ c.in_ok-reach.ensures.reached c.put.ensures)
+    (put-padded c.self.inside.bwd c.reach-2.new.self c.put-2.new.self c.args.into _ c.in_default.ensures.reached c.put-2.ensures)
+
+pub returns-clause-joined : goal.returns-clause-joined
+returns-clause-joined g c =
+    subst (λ m. IsJoined m (record { forward = c.put.new.self; backward = c.put-2.new.self }) c.args.from c.args.into) c.self.view_is record {
+      forward = put-padded c.self.inside.fwd c.reach.new.self c.put.new.self c.args.from _ (c.in_ok-reach.ensures.reached) c.put.ensures;
+      backward = put-padded c.self.inside.bwd c.reach-2.new.self c.put-2.new.self c.args.into _ (c.in_default.ensures.reached) c.put-2.ensures;
+    }

@@ -1,0 +1,5 @@
+pub mod Maps
+pub mod VarMap
+pub mod VarBiMap
+pub mod VarData
+pub mod Variables

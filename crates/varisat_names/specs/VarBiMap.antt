@@ -1,0 +1,25 @@
+-- A one-to-one map between the variables of two name spaces.
+use Rattle.std.specs.Prelude.{ℕ, Option, Some, None, List, []}
+use Rattle.varisat_names.specs.VarMap.{IsPut}
+
+-- A map and the way back. The watermarks are the lengths.
+pub record BiMap : Type 0 where
+  pub forward : List (Option ℕ)
+  pub backward : List (Option ℕ)
+
+abbrev pub no_pairs : BiMap
+no_pairs = record { forward = []; backward = [] }
+
+-- the same pairs, from the other side
+abbrev pub turned : BiMap → BiMap
+turned m = record { forward = m.backward; backward = m.forward }
+
+-- one more pair
+pub record IsJoined (old new : BiMap) (from into : ℕ) : Type 0 where
+  pub forward : IsPut old.forward from (Some into) new.forward
+  pub backward : IsPut old.backward into (Some from) new.backward
+
+-- one pair less
+pub record IsParted (old new : BiMap) (from into : ℕ) : Type 0 where
+  pub forward : IsPut old.forward from None new.forward
+  pub backward : IsPut old.backward into None new.backward

@@ -1,0 +1,20 @@
+-- A map from variables to variables, as the list of what each is mapped to. Its length is the watermark.
+use Rattle.std.specs.Prelude.{◌≡◌, ◌≢◌, ℕ, ◌<◌, Option, Some, None, List, length, max, ◌+◌, slice_index_or}
+use Rattle.varisat_names.specs.Maps.{updated}
+
+-- what the list maps the number to
+abbrev pub at : List (Option ℕ) → ℕ → Option ℕ
+at xs i = slice_index_or xs i None
+
+-- the map with v at k, and so with a watermark above k
+pub record IsPut (old : List (Option ℕ)) (k : ℕ) (v : Option ℕ) (new : List (Option ℕ)) : Type 0 where
+  pub watermark : length new ≡ max (length old) (k + 1)
+  pub at_each : (i : ℕ) → at new i ≡ updated (at old) k v i
+
+-- the least number that the map leads nowhere
+abbrev pub IsLeastUnmapped : List (Option ℕ) → ℕ → Type 0
+IsLeastUnmapped map u = (at map u ≡ None) × ((v : ℕ) → v < u → at map v ≢ None)
+
+-- the map leads somewhere from each number below its watermark
+abbrev pub IsFull : List (Option ℕ) → Type 0
+IsFull map = (u : ℕ) → u < length map → at map u ≢ None

@@ -1,0 +1,150 @@
+//! Maps between the variables of two name spaces.
+ghost use Rattle.std.specs.Prelude.{◌≡◌, ◌≢◌, ◌<◌, ◌≤◌, ◌+◌, ◌-◌, ◌++◌, max, length, replicate, take, List, [], Option, Some, None, MatchOption, OnOk, OnErr};
+ghost use Rattle.varisat_names.specs.VarMap.{at, IsPut};
+ghost use Rattle.varisat_names.specs.VarBiMap.{no_pairs, IsJoined, IsParted};
+
+use std::alloc::{AllocError, Allocator};
+use std::marker::Model;
+use varisat_formula::formula::Var;
+
+/// A map from variables to variables.
+#[derive(Drop)]
+pub struct VarMap<A: Allocator + Copy> {
+    mapping: Vec<Option<Var>, A>,
+}
+
+impl<A: Allocator + Copy> Model for VarMap<A> {
+    ghost use Rattle.std.specs.Prelude.{List, Option, ℕ};
+
+    ghost Value = { List (Option ℕ) };
+
+    ghost view = { λ m. m.mapping.items };
+}
+
+impl<A: Allocator + Copy> VarMap<A> {
+    /// Nothing is mapped. It takes no memory.
+    pub fn new_in(alloc: A) -> VarMap<A>
+        ensures { result ≡ [] }
+    {
+        VarMap {
+            mapping: Vec::new(alloc),
+        }
+    }
+
+    /// What the variable is mapped to.
+    pub fn get(&self, from: Var) -> Option<Var>
+        ensures { result ≡ at self.now from }
+    {
+        if from.index() < self.mapping.len() {
+            self.mapping[from.index()]
+        } else {
+            None
+        }
+    }
+
+    /// One above the highest variable that was ever mapped.
+    pub fn watermark(&self) -> usize
+        ensures { result ≡ length self.now }
+    {
+        self.mapping.len()
+    }
+
+    /// Raises the watermark above the variable. Where that is refused nothing changes.
+    fn reach(&mut self, from: Var) -> Result<(), AllocError>
+        ensures reached { OnOk result (self.new ≡ self.old ++ replicate (from + 1 - length self.old) None) }
+        ensures refused { OnErr result (self.new ≡ self.old) }
+    {
+        if self.mapping.len() <= from.index() {
+            self.mapping.resize(from.index() + 1, None)?;
+        }
+        Ok(())
+    }
+
+    /// Maps the variable below the watermark, or no longer.
+    fn put(&mut self, into: Option<Var>, from: Var)
+        requires { from < length self.old }
+        ensures { IsPut self.old from into self.new }
+    {
+        self.mapping[from.index()] = into;
+    }
+
+    /// Takes the variables from a lower watermark on off.
+    fn cut(&mut self, watermark: usize)
+        ensures { self.new ≡ take watermark self.old }
+    {
+        self.mapping.truncate(watermark);
+    }
+}
+
+/// A one-to-one map between variables of two spaces, and the way back.
+#[derive(Drop)]
+pub struct VarBiMap<A: Allocator + Copy> {
+    fwd: VarMap<A>,
+    bwd: VarMap<A>,
+}
+
+impl<A: Allocator + Copy> Model for VarBiMap<A> {
+    ghost use Rattle.varisat_names.specs.Maps.{IsInverse};
+    ghost use Rattle.varisat_names.specs.VarMap.{at};
+    ghost use Rattle.varisat_names.specs.VarBiMap.{BiMap};
+
+    ghost Value = { BiMap };
+
+    ghost view = { λ m. record { forward = m.fwd; backward = m.bwd } };
+
+    ghost invariant = { λ m. IsInverse (at m.fwd) (at m.bwd) };
+}
+
+impl<A: Allocator + Copy> VarBiMap<A> {
+    /// Nothing is mapped. It takes no memory.
+    pub fn new_in(alloc: A) -> VarBiMap<A>
+        ensures { result ≡ no_pairs }
+    {
+        VarBiMap {
+            fwd: VarMap::new_in(alloc),
+            bwd: VarMap::new_in(alloc),
+        }
+    }
+
+    /// The map forward.
+    pub fn fwd(&self) -> &VarMap<A>
+        ensures { result.now ≡ self.now.forward }
+    {
+        &self.fwd
+    }
+
+    /// The map backward.
+    pub fn bwd(&self) -> &VarMap<A>
+        ensures { result.now ≡ self.now.backward }
+    {
+        &self.bwd
+    }
+
+    /// Maps the one to the other, neither of which is mapped. Where memory is refused nothing changes.
+    pub fn insert(&mut self, into: Var, from: Var) -> Result<(), AllocError>
+        requires from_is_free { at self.old.forward from ≡ None }
+        requires into_is_free { at self.old.backward into ≡ None }
+        ensures joined { OnOk result (IsJoined self.old self.new from into) }
+        ensures refused { OnErr result (self.new ≡ self.old) }
+    {
+        let watermark = self.fwd.watermark();
+        self.fwd.reach(from)?;
+        if let Err(error) = self.bwd.reach(into) {
+            self.fwd.cut(watermark);
+            return Err(error);
+        }
+        self.fwd.put(Some(into), from);
+        self.bwd.put(Some(from), into);
+        Ok(())
+    }
+
+    /// Takes the pair of the variable out, if it is mapped.
+    pub fn remove(&mut self, from: Var) -> Option<Var>
+        ensures { MatchOption result ((at self.old.forward from ≡ None) × (self.new ≡ self.old)) (λ into. (at self.old.forward from ≡ Some into) × IsParted self.old self.new from into) }
+    {
+        let into = self.fwd.get(from)?;
+        self.fwd.put(None, from);
+        self.bwd.put(None, into);
+        Some(into)
+    }
+}

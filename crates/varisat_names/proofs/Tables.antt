@@ -3,7 +3,7 @@ use Rattle.std.proofs.Common.{◌≡◌, ◌≢◌, ◌<◌, ◌≤◌, ℕ, zer
 use Rattle.std.proofs.lemmas.Bool.{cases_lt}
 use Rattle.varisat_names.specs.VarMap.{at}
 use Rattle.varisat_names.specs.VarData.{kept_at, IsLeastDeleted}
-use Rattle.varisat_names.specs.Variables.{Tables, IsGiven, AreNextGiven}
+use Rattle.varisat_names.specs.Variables.{Tables, AreLinked, IsGiven, AreNextGiven}
 use Rattle.varisat_names.specs.declared.variables.data.VarData.{VarData}
 use Rattle.varisat_names.proofs.VarMap.{at-past}
 
@@ -16,6 +16,10 @@ kept-past (x ∷ xs) (suc i) h = kept-past xs i (omega (arith, h))
 -- a live variable is in the list
 pub live-inside : (xs : List VarData) (i : ℕ) → (kept_at xs i).deleted ≡ false → i < length xs
 live-inside xs i h = ⊎_elim (λ l. l) (λ l. let e = kept-past xs i l in absurd cc) (cases_lt i (length xs))
+
+-- a variable with a name is in the list
+pub named-inside : (t : Tables) (u x : ℕ) → AreLinked t → at t.users.forward u ≡ Some x → x < length t.kept
+named-inside t u x l e = live-inside t.kept x (l.named x u (l.users.there u x e))
 
 -- the least variable that is not live is not above the count
 pub least-near : (xs : List VarData) (x : ℕ) → IsLeastDeleted xs x → x ≤ length xs

@@ -1,9 +1,10 @@
 -- Maps as lists.
-use Rattle.std.proofs.Common.{◌≡◌, ℕ, zero, suc, ◌+◌, ◌-◌, ◌<◌, ◌≤◌, nat_eq, if◌then◌else◌, Option, Some, None, List, [], ◌∷◌, ◌++◌, length, replicate, ap, ◌∙◌, refl, arith}
-use Rattle.std.proofs.lemmas.List.{length-append, length-replicate}
+use Rattle.std.proofs.Common.{◌≡◌, ℕ, zero, suc, ◌+◌, ◌-◌, ◌^◌, ◌<◌, ◌≤◌, nat_eq, if◌then◌else◌, Option, Some, None, List, [], ◌∷◌, ◌++◌, length, replicate, map, take, slice_set, max, sym, ap, subst, ◌∙◌, refl, arith}
+use Rattle.std.proofs.lemmas.List.{length-append, length-replicate, length-map, map-append, take-map, take_all, length-set, map-set, get_or-set_same, get_or-set_other}
+use Rattle.std.proofs.lemmas.Bool.{lt-ltb}
 use Rattle.varisat_names.specs.Maps.{updated, IsInverse}
-use Rattle.varisat_names.specs.VarMap.{at, IsPut}
-use Rattle.varisat_names.proofs.Maps.{joined, parted, inverse-same}
+use Rattle.varisat_names.specs.VarMap.{at, mapped, IsPut}
+use Rattle.varisat_names.proofs.Maps.{updated-all, joined, parted, inverse-same}
 
 pub at-inside : (xs : List (Option ℕ)) (i y : ℕ) → at xs i ≡ Some y → i < length xs
 at-inside [] i y h = absurd cc
@@ -43,3 +44,51 @@ joined-inverse f b f' b' k j h m n p q = inverse-same (updated (at f) k (Some j)
 
 pub parted-inverse : (f b f' b' : List (Option ℕ)) (k j : ℕ) → IsInverse (at f) (at b) → at f k ≡ Some j → IsPut f k None f' → IsPut b j None b' → IsInverse (at f') (at b')
 parted-inverse f b f' b' k j h m p q = inverse-same (updated (at f) k None) (updated (at b) j None) (at f') (at b') p.at_each q.at_each (parted (at f) (at b) k j h m)
+
+-- how long the list of an encoded map is
+pub length-mapped : (xs : List ℕ) → length (map mapped xs) ≡ length xs
+length-mapped xs = length-map xs mapped
+
+-- a shorter map
+pub cut-mapped : (xs : List ℕ) (w : ℕ) → map mapped (take w xs) ≡ take w (map mapped xs)
+cut-mapped xs w = sym (take-map mapped w xs)
+
+mapped-none : (n : ℕ) → map mapped (replicate n 0x8000_0000) ≡ replicate n None
+mapped-none zero = refl
+mapped-none (suc n) = ap (λ xs. None ∷ xs) (mapped-none n)
+
+-- a longer map
+pub reached : (xs new : List ℕ) (old : List (Option ℕ)) (from i len : ℕ) → map mapped xs ≡ old → i ≡ from → len ≡ length xs → len ≤ i → new ≡ take (i + 1) xs ++ replicate (i + 1 - len) 0x8000_0000 → map mapped new ≡ old ++ replicate (from + 1 - length old) None
+reached xs new old from i len e q l h n =
+    let k = i + 1 - len in
+    ap (map mapped) n
+    ∙ map-append mapped (take (i + 1) xs) (replicate k 0x8000_0000)
+    ∙ ap (λ ys. map mapped ys ++ map mapped (replicate k 0x8000_0000)) (take_all (i + 1) xs (omega (arith, h, l)))
+    ∙ ap (λ ys. map mapped xs ++ ys) (mapped-none k)
+    ∙ ap (λ m. map mapped xs ++ replicate (i + 1 - m) None) (l ∙ sym (length-mapped xs))
+    ∙ ap (λ ys. ys ++ replicate (i + 1 - length ys) None) e
+    ∙ ap (λ j. old ++ replicate (j + 1 - length old) None) q
+
+set-at : (xs : List ℕ) (k code i : ℕ) → k < length xs → at (map mapped (slice_set xs k code)) i ≡ updated (at (map mapped xs)) k (mapped code) i
+set-at xs k code i h =
+    let ys = map mapped xs in
+    let e = length-mapped xs in
+    ap (λ zs. at zs i) (map-set mapped xs k code)
+    ∙ updated-all (λ j o. at (slice_set ys k (mapped code)) j ≡ o) (at ys) k (mapped code) (get_or-set_same ys k (mapped code) None (omega (arith, h, e))) i (λ n. get_or-set_other ys k i (mapped code) None n)
+
+-- another entry
+pub put-entry : (xs : List ℕ) (old : List (Option ℕ)) (k i code : ℕ) (v : Option ℕ) → map mapped xs ≡ old → i ≡ k → mapped code ≡ v → k < length old → IsPut old k v (map mapped (slice_set xs i code))
+put-entry xs old k i code v e q m h =
+    let a = length-mapped xs in
+    let b = length-mapped (slice_set xs i code) in
+    let c = length-set xs i code in
+    let d = ap length e in
+    let at_each : (j : ℕ) → at (map mapped (slice_set xs i code)) j ≡ updated (at (map mapped xs)) i (mapped code) j = λ j. set-at xs i code j (omega (arith, q, a, d, h)) in
+    record {
+      watermark = omega (arith, q, a, b, c, d, h);
+      at_each = λ j. at_each j ∙ ap (λ o. updated (at (map mapped xs)) i o j) m ∙ ap (λ n. updated (at (map mapped xs)) n v j) q ∙ ap (λ ys. updated (at ys) k v j) e;
+    }
+
+-- a variable stands for itself
+pub mapped-variable : (code v : ℕ) → code ≡ v → code < 2 ^ 31 → mapped code ≡ Some v
+mapped-variable code v e h = ap (λ b. if b then Some code else None) (lt-ltb code 0x8000_0000 h) ∙ ap Some e

@@ -15,6 +15,11 @@ dead = record { sampling_mode = sampling.Hide; unit = None; isolated = true; ass
 abbrev pub kept_at : List VarData → ℕ → VarData
 kept_at xs x = slice_index_or xs x dead
 
+-- What is kept of the global variables, and for how many there is room.
+pub record KeptList : Type 0 where
+  pub kept : List VarData
+  pub capacity : ℕ
+
 -- the list with d at x, and so one that is longer than x
 pub record IsKeptAs (old : List VarData) (x : ℕ) (d : VarData) (new : List VarData) : Type 0 where
   pub count : length new ≡ max (length old) (x + 1)

@@ -1,6 +1,10 @@
 -- A map from variables to variables, as the list of what each is mapped to. Its length is the watermark.
-use Rattle.std.specs.Prelude.{◌≡◌, ◌≢◌, ℕ, ◌<◌, Option, Some, None, List, length, max, ◌+◌, slice_index_or}
+use Rattle.std.specs.Prelude.{◌≡◌, ◌≢◌, ℕ, ◌<◌, Option, Some, None, List, length, max, ◌+◌, slice_index_or, nat_lt, if◌then◌else◌}
 use Rattle.varisat_names.specs.Maps.{updated}
+
+-- what an entry of a map stands for: a variable by its index, or none
+abbrev pub mapped : ℕ → Option ℕ
+mapped code = if nat_lt code 0x8000_0000 then Some code else None
 
 -- what the list maps the number to
 abbrev pub at : List (Option ℕ) → ℕ → Option ℕ

@@ -1,9 +1,9 @@
 -- The three name spaces together: names of the user, global variables, solver variables.
-use Rattle.std.specs.Prelude.{◌≡◌, ℕ, zero, suc, ◌<◌, ◌↔◌, ◌⊎◌, true, false, Some, None, Option, List, [], length}
+use Rattle.std.specs.Prelude.{◌≡◌, ℕ, zero, suc, ◌<◌, ◌↔◌, ◌+◌, ◌-◌, ◌≤◌, if◌then◌else◌, true, false, Some, None, Option, List, [], length}
 use Rattle.std.specs.Ordering.{nat_cmp}
 use Rattle.std.specs.BTreeSet.{BTreeSet, contains}
 use Rattle.varisat_names.specs.Maps.{IsInverse}
-use Rattle.varisat_names.specs.VarMap.{at, IsLeastUnmapped}
+use Rattle.varisat_names.specs.VarMap.{at, IsLeastUnmapped, IsFull}
 use Rattle.varisat_names.specs.VarBiMap.{BiMap, no_pairs, IsJoined, IsParted}
 use Rattle.varisat_names.specs.VarData.{fresh, dead, kept_at, IsKeptAs, IsLeastDeleted}
 use Rattle.varisat_names.specs.declared.variables.data.VarData.{VarData}
@@ -37,6 +37,12 @@ abbrev pub AreNextGiven : ℕ → Tables → Tables → Type 0
 AreNextGiven zero old new = new ≡ old
 AreNextGiven (suc k) old new = (mid : Tables) × (x : ℕ) × IsGiven old mid (length old.users.forward) x × AreNextGiven k mid new
 
+-- The name u was named: it was in use, or it came into use alone, or all names from the watermark up to it did.
+pub data IsNamed (u : ℕ) (old new : Tables) : Type 0 where
+  InUse : (x : ℕ) → at old.users.forward u ≡ Some x → new ≡ old → IsNamed u old new
+  Free : (x : ℕ) → u < length old.users.forward → IsGiven old new u x → IsNamed u old new
+  Above : length old.users.forward ≤ u → AreNextGiven (u + 1 - length old.users.forward) old new → IsNamed u old new
+
 -- The global variable x has the least free solver variable v.
 pub record IsTaken (old new : Tables) (x v : ℕ) : Type 0 where
   pub least : IsLeastUnmapped old.solvers.backward v
@@ -49,11 +55,23 @@ pub record IsChangedTo (old new : Tables) (x : ℕ) (d : VarData) : Type 0 where
   pub kept : IsKeptAs old.kept x d new.kept
   pub rest : new ≡ record old { kept = new.kept }
 
--- The name u of x is free, and x is hidden, or is deleted where it is isolated and has no solver variable.
+-- what is kept of a variable that lost its name: it is hidden, or not live where it has no solver variable and is isolated
+abbrev pub without_name : Option ℕ → VarData → VarData
+without_name None d = if d.isolated then dead else record d { sampling_mode = sampling.Hide }
+without_name (Some v) d = record d { sampling_mode = sampling.Hide }
+
+-- The name u of x is free, and x is hidden or may be used again.
 pub record IsHidden (old new : Tables) (u x : ℕ) : Type 0 where
   pub users : IsParted old.users new.users u x
   pub solvers : new.solvers ≡ old.solvers
-  pub kept : IsKeptAs old.kept x (record (kept_at old.kept x) { sampling_mode = sampling.Hide }) new.kept ⊎ (((kept_at old.kept x).isolated ≡ true) × (at old.solvers.forward x ≡ None) × IsKeptAs old.kept x dead new.kept)
+  pub kept : IsKeptAs old.kept x (without_name (at old.solvers.forward x) (kept_at old.kept x)) new.kept
+
+-- Nothing was hidden yet: the names below the watermark are in use, each with the global variable of the same number, all of these are live, and no solver variable below the watermark is free.
+pub record IsNothingHidden (t : Tables) : Type 0 where
+  pub users : (u : ℕ) → u < length t.users.forward → at t.users.forward u ≡ Some u
+  pub count : length t.kept ≡ length t.users.forward
+  pub live : (x : ℕ) → x < length t.kept → (kept_at t.kept x).deleted ≡ false
+  pub solvers : IsFull t.solvers.backward
 
 -- the set has exactly the numbers below the watermark that the map leads nowhere
 abbrev pub AreFree : List (Option ℕ) → BTreeSet ℕ → Type 0

@@ -16,13 +16,13 @@ pub struct Globals<A: Allocator + Copy> {
 }
 
 impl<A: Allocator + Copy> Model for Globals<A> {
-    ghost use Rattle.std.specs.Prelude.{List};
+    ghost use Rattle.std.specs.Vec.{vec_capacity};
     ghost use Rattle.varisat_names.specs.Variables.{AreDeleted};
-    ghost use Rattle.varisat_names.specs.declared.variables.data.VarData.{VarData};
+    ghost use Rattle.varisat_names.specs.VarData.{KeptList};
 
-    ghost Value = { List VarData };
+    ghost Value = { KeptList };
 
-    ghost view = { λ g. g.data.items };
+    ghost view = { λ g. record { kept = g.data.items; capacity = vec_capacity g.data } };
 
     ghost invariant = { λ g. AreDeleted g.data.items g.free };
 }
@@ -30,7 +30,7 @@ impl<A: Allocator + Copy> Model for Globals<A> {
 impl<A: Allocator + Copy> Globals<A> {
     /// No variables. It takes no memory.
     pub fn new_in(alloc: A) -> Globals<A>
-        ensures { result ≡ [] }
+        ensures { result.kept ≡ [] }
     {
         Globals {
             data: Vec::new(alloc),
@@ -40,15 +40,15 @@ impl<A: Allocator + Copy> Globals<A> {
 
     /// How many there are, live or not.
     pub fn len(&self) -> usize
-        ensures { result ≡ length self.now }
+        ensures { result ≡ length self.now.kept }
     {
         self.data.len()
     }
 
     /// The least variable that is not live: one that was deleted, else the next one.
     pub fn next_deleted(&self) -> usize
-        ensures near { result ≤ length self.now }
-        ensures least { IsLeastDeleted self.now result }
+        ensures near { result ≤ length self.now.kept }
+        ensures least { IsLeastDeleted self.now.kept result }
     {
         match self.free.first() {
             Some(global) => *global,
@@ -56,12 +56,21 @@ impl<A: Allocator + Copy> Globals<A> {
         }
     }
 
-    /// Makes a variable that is not live one that just came into use. Where memory is refused nothing changes.
-    pub fn make(&mut self, global: Var) -> Result<(), AllocError>
-        requires near { global ≤ length self.old }
-        requires unused { (kept_at self.old global).deleted ≡ true }
-        ensures made { OnOk result (IsKeptAs self.old global fresh self.new) }
-        ensures refused { OnErr result (self.new ≡ self.old) }
+    /// Makes room for one more variable. Where memory is refused the variables stay.
+    pub fn reserve(&mut self) -> Result<(), AllocError>
+        ensures kept { self.new.kept ≡ self.old.kept }
+        ensures room { OnOk result (length self.new.kept < self.new.capacity) }
+    {
+        self.data.reserve(1)?;
+        Ok(())
+    }
+
+    /// Makes a variable that is not live one that just came into use. There is room.
+    pub fn make(&mut self, global: Var)
+        requires near { global ≤ length self.old.kept }
+        requires unused { (kept_at self.old.kept global).deleted ≡ true }
+        requires room { length self.old.kept < self.old.capacity }
+        ensures { IsKeptAs self.old.kept global fresh self.new.kept }
     {
         let data = VarData {
             sampling_mode: SamplingMode::Sample,
@@ -74,16 +83,15 @@ impl<A: Allocator + Copy> Globals<A> {
             self.free.remove(&global.index());
             self.data[global.index()] = data;
         } else {
-            self.data.push(data)?;
+            self.data.push_reserved(data);
         }
-        Ok(())
     }
 
     /// Deletes a variable, which may be used again. Where memory is refused nothing changes.
     pub fn delete(&mut self, global: Var) -> Result<(), AllocError>
-        requires { global < length self.old }
-        ensures deleted { OnOk result (IsKeptAs self.old global dead self.new) }
-        ensures refused { OnErr result (self.new ≡ self.old) }
+        requires { global < length self.old.kept }
+        ensures deleted { OnOk result (IsKeptAs self.old.kept global dead self.new.kept) }
+        ensures refused { OnErr result (self.new.kept ≡ self.old.kept) }
     {
         self.free.insert(global.index())?;
         self.data[global.index()] = VarData {
@@ -98,17 +106,17 @@ impl<A: Allocator + Copy> Globals<A> {
 
     /// What is kept of the variable.
     pub fn data(&self, global: Var) -> &VarData
-        requires { global < length self.now }
-        ensures { result.now ≡ kept_at self.now global }
+        requires { global < length self.now.kept }
+        ensures { result.now ≡ kept_at self.now.kept global }
     {
         &self.data[global.index()]
     }
 
     /// Keeps other data of the variable, which is live as it was before.
     pub fn set_data(&mut self, global: Var, new_data: VarData)
-        requires made { global < length self.old }
-        requires live { new_data.deleted ≡ (kept_at self.old global).deleted }
-        ensures { IsKeptAs self.old global new_data self.new }
+        requires made { global < length self.old.kept }
+        requires live { new_data.deleted ≡ (kept_at self.old.kept global).deleted }
+        ensures { IsKeptAs self.old.kept global new_data self.new.kept }
     {
         self.data[global.index()] = new_data;
     }

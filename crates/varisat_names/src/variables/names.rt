@@ -64,8 +64,11 @@ impl<A: Allocator + Copy> NameSpace<A> {
         ensures joined { OnOk result (IsJoined self.old self.new name variable) }
         ensures refused { OnErr result (self.new ≡ self.old) }
     {
+        let watermark = self.pairs.fwd().watermark();
         self.pairs.insert(variable, name)?;
-        self.free.remove(&name.index());
+        if name.index() < watermark {
+            self.free.remove(&name.index());
+        }
         Ok(())
     }
 

@@ -1,24 +1,28 @@
 //! Maps between the variables of two name spaces.
-ghost use Rattle.std.specs.Prelude.{◌≡◌, ◌≢◌, ◌<◌, ◌≤◌, ◌+◌, ◌-◌, ◌++◌, max, length, replicate, take, List, [], Option, Some, None, MatchOption, OnOk, OnErr};
-ghost use Rattle.varisat_names.specs.VarMap.{at, IsPut};
+ghost use Rattle.std.specs.Prelude.{ℕ, ◌≡◌, ◌≢◌, ◌<◌, ◌≤◌, ◌+◌, ◌-◌, ◌++◌, max, length, replicate, take, List, [], Option, Some, None, MatchOption, OnOk, OnErr};
+ghost use Rattle.varisat_names.specs.VarMap.{at, mapped, IsPut};
 ghost use Rattle.varisat_names.specs.VarBiMap.{no_pairs, IsJoined, IsParted};
 
 use std::alloc::{AllocError, Allocator};
 use std::marker::Model;
 use varisat_formula::formula::Var;
 
-/// A map from variables to variables.
+/// What stands in a map for no variable: it is above each variable's index.
+const NO_VAR: u32 = 0x8000_0000;
+
+/// A map from variables to variables. It takes four bytes a variable below the watermark.
 #[derive(Drop)]
 pub struct VarMap<A: Allocator + Copy> {
-    mapping: Vec<Option<Var>, A>,
+    mapping: Vec<u32, A>,
 }
 
 impl<A: Allocator + Copy> Model for VarMap<A> {
-    ghost use Rattle.std.specs.Prelude.{List, Option, ℕ};
+    ghost use Rattle.std.specs.Prelude.{List, Option, ℕ, map};
+    ghost use Rattle.varisat_names.specs.VarMap.{mapped};
 
     ghost Value = { List (Option ℕ) };
 
-    ghost view = { λ m. m.mapping.items };
+    ghost view = { λ m. map mapped m.mapping.items };
 }
 
 impl<A: Allocator + Copy> VarMap<A> {
@@ -36,7 +40,7 @@ impl<A: Allocator + Copy> VarMap<A> {
         ensures { result ≡ at self.now from }
     {
         if from.index() < self.mapping.len() {
-            self.mapping[from.index()]
+            decode(self.mapping[from.index()])
         } else {
             None
         }
@@ -49,23 +53,44 @@ impl<A: Allocator + Copy> VarMap<A> {
         self.mapping.len()
     }
 
+    /// Maps the variable, which is not mapped. Where memory is refused nothing changes.
+    pub fn insert(&mut self, into: Var, from: Var) -> Result<(), AllocError>
+        requires { at self.old from ≡ None }
+        ensures put { OnOk result (IsPut self.old from (Some into) self.new) }
+        ensures refused { OnErr result (self.new ≡ self.old) }
+    {
+        self.reach(from)?;
+        self.put(into, from);
+        Ok(())
+    }
+
+    /// Maps the variable no longer.
+    pub fn remove(&mut self, from: Var)
+        ensures below { from < length self.old → IsPut self.old from None self.new }
+        ensures above { length self.old ≤ from → self.new ≡ self.old }
+    {
+        if from.index() < self.mapping.len() {
+            self.mapping[from.index()] = NO_VAR;
+        }
+    }
+
     /// Raises the watermark above the variable. Where that is refused nothing changes.
     fn reach(&mut self, from: Var) -> Result<(), AllocError>
         ensures reached { OnOk result (self.new ≡ self.old ++ replicate (from + 1 - length self.old) None) }
         ensures refused { OnErr result (self.new ≡ self.old) }
     {
         if self.mapping.len() <= from.index() {
-            self.mapping.resize(from.index() + 1, None)?;
+            self.mapping.resize(from.index() + 1, NO_VAR)?;
         }
         Ok(())
     }
 
-    /// Maps the variable below the watermark, or no longer.
-    fn put(&mut self, into: Option<Var>, from: Var)
+    /// Maps the variable, which is below the watermark.
+    fn put(&mut self, into: Var, from: Var)
         requires { from < length self.old }
-        ensures { IsPut self.old from into self.new }
+        ensures { IsPut self.old from (Some into) self.new }
     {
-        self.mapping[from.index()] = into;
+        self.mapping[from.index()] = into.index() as u32;
     }
 
     /// Takes the variables from a lower watermark on off.
@@ -73,6 +98,17 @@ impl<A: Allocator + Copy> VarMap<A> {
         ensures { self.new ≡ take watermark self.old }
     {
         self.mapping.truncate(watermark);
+    }
+}
+
+/// The variable for which this stands in a map.
+fn decode(code: u32) -> Option<Var>
+    ensures { result ≡ mapped code }
+{
+    if code < NO_VAR {
+        Some(Var::from_index(code as usize))
+    } else {
+        None
     }
 }
 
@@ -133,8 +169,8 @@ impl<A: Allocator + Copy> VarBiMap<A> {
             self.fwd.cut(watermark);
             return Err(error);
         }
-        self.fwd.put(Some(into), from);
-        self.bwd.put(Some(from), into);
+        self.fwd.put(into, from);
+        self.bwd.put(from, into);
         Ok(())
     }
 
@@ -143,8 +179,8 @@ impl<A: Allocator + Copy> VarBiMap<A> {
         ensures { MatchOption result ((at self.old.forward from ≡ None) × (self.new ≡ self.old)) (λ into. (at self.old.forward from ≡ Some into) × IsParted self.old self.new from into) }
     {
         let into = self.fwd.get(from)?;
-        self.fwd.put(None, from);
-        self.bwd.put(None, into);
+        self.fwd.remove(from);
+        self.bwd.remove(into);
         Some(into)
     }
 }

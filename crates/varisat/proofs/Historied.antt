@@ -28,14 +28,12 @@ use Rattle.varisat.specs.Histories.{IsModel, IsBeginning, GivesAll, AreTrue}
 use Rattle.varisat.specs.Told.{told_model}
 use Rattle.varisat.specs.Decided.{listed, Decides}
 use Rattle.varisat.specs.Counts.{count_with}
-use Rattle.varisat.specs.Summaries.{NamesFit}
-use Rattle.varisat.proofs.Named.{rest-one, rest-all, fit-one, fit-all, count-within, count-above}
-use Rattle.varisat.proofs.Kept.{accepted, read-clause, list-same}
+use Rattle.varisat.proofs.Named.{NamesBelow, rest-one, rest-all, fit-one, fit-all, count-within, count-above, accepted, read-clause, list-same}
 
 -- What is known of the state after a history that accepted the clauses P, as long as it is valid.
 record Agrees (P : List Clause) (s : State) : Type 0 where
   count : ℕ
-  names : NamesFit count s
+  names : NamesBelow count s
   within : s.verdict ≢ Unsat → (c : Clause) (l : Literal) → c ∈ P → l ∈ c → variable_of l < count
   same : s.verdict ≢ Unsat → s.clauses ≡ P
   refuted : s.verdict ≡ Unsat → IsSatisfiable P → ⊥

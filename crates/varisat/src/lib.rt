@@ -4,9 +4,9 @@
 mod accept;
 mod line;
 pub mod program;
-mod search;
 pub mod session;
 pub mod solver;
+mod solving;
 
 /// The parts of a search that propagate, and going back.
 pub mod prop {

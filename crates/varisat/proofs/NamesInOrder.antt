@@ -5,7 +5,8 @@ use Rattle.varisat_theory.specs.Membership.{◌∈◌}
 use Rattle.varisat_theory.specs.Literals.{Literal, variable_of}
 use Rattle.varisat_theory.proofs.Members.{equal_or_not}
 use Rattle.varisat.specs.States.{State, Sample}
-use Rattle.varisat.specs.Names.{updated, bring, bring_next, bring_if_free, name_one, name_all, identity_of, through_names, IsLeastFree, AreInOrder}
+use Rattle.varisat_names.specs.Maps.{updated}
+use Rattle.varisat.specs.Names.{bring, bring_next, bring_if_free, name_one, name_all, identity_of, through_names, IsLeastFree, AreInOrder}
 use Rattle.varisat.specs.Counts.{count_with}
 
 -- 1. Naming changes names, the watermark, modes and identities alone.

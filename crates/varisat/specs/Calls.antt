@@ -6,7 +6,7 @@ use Rattle.std.specs.declared.alloc.AllocError.{AllocError}
 use Rattle.varisat_theory.specs.Membership.{◌∈◌}
 use Rattle.varisat_theory.specs.Literals.{Literal, Clause, variable_of, opposite, IsUnit, IsSatisfiable}
 use Rattle.varisat_formula.specs.Streams.{Stand}
-use Rattle.varisat.specs.States.{State, Verdict, Unknown, Sat, Unsat, HasRightVerdict, IsWellFormed}
+use Rattle.varisat.specs.States.{State, join_counted, Verdict, Unknown, Sat, Unsat, HasRightVerdict, IsWellFormed}
 use Rattle.varisat.specs.Names.{name_one, name_all, through_names, IsLeastFree}
 use Rattle.varisat.specs.Models.{model_of}
 use Rattle.varisat_formula.specs.declared.dimacs.error.DimacsError.{DimacsError}
@@ -74,7 +74,7 @@ pub data VerdictAfter (clauses : List Clause) (c : Clause) (v w : Verdict) : Typ
 
 -- the clause, over identities, is accepted
 abbrev pub append_clause : Clause → Verdict → State → State
-append_clause c w s = record s { clauses = s.clauses ++ c ∷ []; counted = s.counted ++ map variable_of c; verdict = w }
+append_clause c w s = record s { clauses = s.clauses ++ c ∷ []; counted = join_counted s.counted (map variable_of c); verdict = w }
 
 -- the names of the clause are named, and it is accepted as they carry it to identities
 abbrev pub Accepts : State → Clause → State → Type 0

@@ -9,7 +9,10 @@ pub mod Told
 pub mod Runs
 pub mod Histories
 pub mod Searches
+pub mod Accepting
 pub mod Summaries
+pub mod Carried
+pub mod Spaces
 pub mod Counts
 pub mod Lines
 pub mod Decided

@@ -1,11 +1,8 @@
 -- How names come into use.
-use Rattle.std.specs.Prelude.{◌≡◌, ◌≢◌, ℕ, zero, suc, ◌+◌, ◌-◌, ◌*◌, ◌%◌, ◌<◌, ◌≤◌, nat_lt, nat_eq, if◌then◌else◌, max, Option, Some, None, List, [], ◌∷◌}
+use Rattle.std.specs.Prelude.{◌≡◌, ◌≢◌, ℕ, zero, suc, ◌+◌, ◌-◌, ◌*◌, ◌%◌, ◌<◌, ◌≤◌, nat_lt, if◌then◌else◌, max, Option, Some, None, List, [], ◌∷◌}
 use Rattle.varisat_theory.specs.Literals.{Literal, variable_of}
+use Rattle.varisat_names.specs.Maps.{updated}
 use Rattle.varisat.specs.States.{State, Sample}
-
--- the function with v at k
-abbrev pub updated : {X : Type 0} → (ℕ → X) → ℕ → X → ℕ → X
-updated f k v i = if nat_eq i k then v else f i
 
 -- the free name comes into use with a new identity in mode Sample
 abbrev pub bring : ℕ → State → State

@@ -1,6 +1,6 @@
 -- What a user can know of a solver.
-use Rattle.std.specs.Prelude.{◌≡◌, ℕ, ◌<◌, ◌≤◌, Bool, true, false, Option, Some, None, List, []}
-use Rattle.varisat_theory.specs.Membership.{◌∈◌}
+use Rattle.std.specs.Prelude.{◌≡◌, ℕ, ◌<◌, ◌≤◌, Bool, true, false, ◌||◌, nat_eq, if◌then◌else◌, Option, Some, None, List, [], ◌∷◌, ◌++◌}
+use Rattle.varisat_theory.specs.Membership.{◌∈◌, IsDistinct}
 use Rattle.varisat_theory.specs.Literals.{Literal, Clause, Assignment, variable_of, SatisfiesAll, MakesTrue, IsSatisfiable}
 
 -- A name is a number by which the user speaks of a variable. An identity is a number that is given to a variable once and never again: a name may become free, and come back with another identity.
@@ -21,7 +21,7 @@ pub record Ledger : Type 0 where
   pub valid : Bool
   pub started : Bool
 
--- The identities made are those below `made`. `names` gives the identity of each name in use, and `watermark` is one above the highest name ever in use. `modes`: the mode of each identity in use. `clauses`: those accepted, over identities. `assumptions`: the list as given, over identities. `counted`: the identities that accepted clauses and assumption lists have named so far.
+-- The identities made are those below `made`. `names` gives the identity of each name in use, and `watermark` is one above the highest name ever in use. `modes`: the mode of each identity in use. `clauses`: those accepted, over identities. `assumptions`: the list as given, over identities. `counted`: the identities that accepted clauses and assumption lists have named so far, each once.
 pub record State : Type 0 where
   pub made : ℕ
   pub names : ℕ → Option ℕ
@@ -32,6 +32,20 @@ pub record State : Type 0 where
   pub counted : List ℕ
   pub verdict : Verdict
   pub ledger : Ledger
+
+-- whether the number is one of the list
+abbrev pub is_member : ℕ → List ℕ → Bool
+is_member i [] = false
+is_member i (x ∷ xs) = nat_eq i x || is_member i xs
+
+-- the identity joins those that are counted, unless it is one of them
+abbrev pub join_one : ℕ → List ℕ → List ℕ
+join_one i counted = if is_member i counted then counted else counted ++ i ∷ []
+
+-- so do several in turn
+abbrev pub join_counted : List ℕ → List ℕ → List ℕ
+join_counted counted [] = counted
+join_counted counted (i ∷ is) = join_counted (join_one i counted) is
 
 -- a new solver's state
 abbrev pub empty_state : State
@@ -47,7 +61,7 @@ empty_state = record {
   ledger = record { valid = true; started = false };
 }
 
--- What is true of each state: names stand for different identities, none is in use from the watermark on, and identities that are spoken of were made.
+-- What is true of each state: names stand for different identities, none is in use from the watermark on, identities that are spoken of were made, and none is counted twice.
 pub record IsWellFormed (s : State) : Type 0 where
   pub one_to_one : (u v i : ℕ) → s.names u ≡ Some i → s.names v ≡ Some i → u ≡ v
   pub free : (u : ℕ) → s.watermark ≤ u → s.names u ≡ None
@@ -55,6 +69,7 @@ pub record IsWellFormed (s : State) : Type 0 where
   pub accepted : (c : Clause) (l : Literal) → c ∈ s.clauses → l ∈ c → variable_of l < s.made
   pub assumed : (l : Literal) → l ∈ s.assumptions → variable_of l < s.made
   pub counted : (i : ℕ) → i ∈ s.counted → i < s.made
+  pub once : IsDistinct s.counted
 
 -- What a verdict claims: an assignment that was found satisfies the clauses and the assumptions, and is false on each identity that is not counted; Unsat stands only where no assignment satisfies the clauses.
 abbrev pub IsRight : List Clause → List Literal → List ℕ → Verdict → Type 0

@@ -1,53 +1,67 @@
 -- What a solver holds, and which states it stands for.
-use Rattle.std.specs.Prelude.{◌≡◌, ◌≢◌, ℕ, ◌<◌, ◌≤◌, ◌^◌, Bool, true, Some, None, List, [], length}
-use Rattle.varisat_theory.specs.Membership.{◌∈◌}
-use Rattle.varisat_theory.specs.Literals.{Literal, Clause, Assignment, variable_of}
+use Rattle.std.specs.Prelude.{◌≡◌, ◌≢◌, ℕ, zero, suc, ◌≤◌, ◌^◌, Bool, true, false, Option, None, List, [], length, slice_index_or}
+use Rattle.varisat_theory.specs.Literals.{Literal}
+use Rattle.varisat_prop.specs.Parts.{is_true_value}
 use Rattle.varisat_prop.specs.View.{View}
 use Rattle.varisat_search.specs.declared.context.Context.{Context}
 use Rattle.varisat_search.specs.declared.state.SatState.{SatState}
-use Rattle.varisat_search.specs.declared.state.SatState.TheVariants as outcome
+use Rattle.varisat_search.specs.declared.state.SatState.TheVariants as verdict
 use Rattle.varisat_search.specs.Contexts.{IsReady}
-use Rattle.varisat.specs.States.{State, Ledger, Verdict, Unknown, Sat, Unsat, HasRightVerdict, IsWellFormed}
-use Rattle.varisat.specs.Names.{AreInOrder}
-use Rattle.varisat.specs.Searches.{Holds, IsFlagged, found}
+use Rattle.varisat_search.specs.Steps.{assignment_of}
+use Rattle.varisat_search.specs.Seen.{search_of, outcome_of}
+use Rattle.varisat_names.specs.VarMap.{at}
+use Rattle.varisat_names.specs.VarData.{kept_at}
+use Rattle.varisat_names.specs.Variables.{Tables}
+use Rattle.varisat.specs.States.{State, Ledger}
+use Rattle.varisat.specs.Accepting.{IsPlain}
+use Rattle.varisat.specs.Models.{put_name}
+use Rattle.varisat.specs.Carried.{value_or}
+use Rattle.varisat.specs.Spaces.{Spaces, SpacesFit}
 use Rattle.varisat_literals.specs.Numbers.{variable_limit}
 
--- The names below `var_count` are in use, each for the variable of that index. `flags`: for each variable whether an accepted clause names it.
+-- The maps between names, global variables and solver variables with what is kept of the global variables; the search with its verdict; the flags.
 pub record Summary : Type 0 where
-  pub var_count : ℕ
-  pub flags : List Bool
+  pub tables : Tables
   pub search : View
   pub sat_state : SatState
   pub ledger : Ledger
 
+-- The model is read from the search. There are no assumptions yet, and nothing is hidden.
+abbrev pub spaces_of : Tables → View → SatState → Spaces
+spaces_of t search sat_state = record {
+  global_from_user = at t.users.forward;
+  user_from_global = at t.users.backward;
+  watermark = length t.users.forward;
+  solver_from_global = at t.solvers.forward;
+  global_from_solver = at t.solvers.backward;
+  kept = kept_at t.kept;
+  model = λ x. value_or (kept_at t.kept x).unit (assignment_of search) (at t.solvers.forward x);
+  assumptions = [];
+  search = search_of search;
+  outcome = outcome_of search sat_state;
+  var_count = length search.values;
+  hidden = false;
+}
+
+abbrev pub spaces : Summary → Spaces
+spaces g = spaces_of g.tables g.search g.sat_state
+
+-- the model as it is listed: the names in use among the k names from u on
+abbrev pub list_tables : Tables → List (Option Bool) → ℕ → ℕ → List Literal
+list_tables t values u zero = []
+list_tables t values u (suc k) = put_name u (at t.users.forward u) (λ x. value_or (kept_at t.kept x).unit (λ v. is_true_value (slice_index_or values v None)) (at t.solvers.forward x)) (list_tables t values (suc u) k)
+
 -- what a valid solver keeps
-pub record IsKept {A : Type 0} (var_count : ℕ) (flags : List Bool) (search : Context A) : Type 0 where
-  pub small : var_count ≤ variable_limit
+pub record IsKept {A : Type 0} (tables : Tables) (search : Context A) : Type 0 where
+  pub small : length tables.users.forward ≤ variable_limit
+  pub plain : IsPlain tables
   pub ready : IsReady search
-  pub within : length search.assignment.current ≤ var_count
-  pub flagged : length flags ≤ var_count
+  -- the search has the solver variables that were taken
+  pub count : length search.assignment.current ≡ length tables.solvers.backward
   -- there are no assumptions yet
-  pub no_assumptions : search.solver_state.sat_state ≢ outcome.UnsatUnderAssumptions
+  pub no_assumptions : search.solver_state.sat_state ≢ verdict.UnsatUnderAssumptions
 
--- the verdict, and the assignment that was found with it
-abbrev pub VerdictFits : SatState → Assignment → Verdict → Type 0
-VerdictFits outcome.Unknown assigned Unknown = Unit {0}
-VerdictFits outcome.Sat assigned (Sat a) = (i : ℕ) → a i ≡ assigned i
-VerdictFits outcome.Unsat assigned Unsat = Unit {0}
-VerdictFits _ assigned _ = ⊥
-
--- what a valid solver says of the state
-pub record Fits (g : Summary) (s : State) : Type 0 where
-  pub names : AreInOrder g.var_count s
-  pub holds : (g.sat_state ≡ outcome.Unsat → ⊥) → Holds s.clauses g.search
-  pub assumptions : s.assumptions ≡ []
-  pub counted : (c : Clause) (l : Literal) → c ∈ s.clauses → l ∈ c → IsFlagged g.flags (variable_of l)
-  pub flagged : (i : ℕ) → IsFlagged g.flags i → i ∈ s.counted
-  pub verdict : VerdictFits g.sat_state (found g.flags g.search.values) s.verdict
-  pub right : HasRightVerdict s
-  pub well_formed : IsWellFormed s
-
--- The solver stands for the state: both have the same flags, and where they are valid, what the solver holds fits the state.
+-- The solver stands for the state: both have the same flags, and where they are valid, what the solver holds stands for it.
 pub record StandsFor (g : Summary) (s : State) : Type 0 where
   pub ledger : s.ledger ≡ g.ledger
-  pub fits : g.ledger.valid ≡ true → Fits g s
+  pub fits : g.ledger.valid ≡ true → SpacesFit (spaces g) s

@@ -1,58 +1,117 @@
-//! What an accepted clause brings: its variables, and the clause itself.
-ghost use Rattle.std.specs.Prelude.{◌≡◌, ◌≢◌, ℕ, ◌<◌, ◌≤◌, ◌^◌, ◌⊎◌, ◌↔◌, false, List, length, map, OnOk};
+//! What an accepted clause brings: its names, their solver variables, and the clause itself.
+ghost use Rattle.std.specs.Prelude.{◌≡◌, ◌≢◌, ℕ, ◌<◌, ◌≤◌, ◌^◌, false, List, length, map, OnOk};
 ghost use Rattle.varisat_theory.specs.Membership.{◌∈◌};
-ghost use Rattle.varisat_theory.specs.Literals.{Literal, Clause, variable_of};
-ghost use Rattle.varisat_search.specs.Contexts.{view, IsReady};
-ghost use Rattle.varisat.specs.Searches.{Holds, IsFlagged, IsOpen, IsLoaded};
+ghost use Rattle.varisat_theory.specs.Literals.{Literal, variable_of};
+ghost use Rattle.varisat_names.specs.Maps.{chain};
+ghost use Rattle.varisat_names.specs.VarMap.{at};
+ghost use Rattle.varisat_search.specs.Contexts.{view};
+ghost use Rattle.varisat.specs.States.{State, Verdict};
+ghost use Rattle.varisat.specs.Names.{name_all, through_names};
+ghost use Rattle.varisat.specs.Calls.{VerdictAfter, append_clause};
+ghost use Rattle.varisat.specs.Carried.{carry};
+ghost use Rattle.varisat.specs.Spaces.{SpacesFit};
+ghost use Rattle.varisat.specs.Searches.{IsOpen};
+ghost use Rattle.varisat.specs.Summaries.{spaces_of, IsKept};
+ghost use Rattle.varisat.specs.Accepting.{IsPlain, AreNamedInTurn, AreTakenFor, AreJoined, HasSolver};
 ghost use Rattle.varisat_literals.specs.Numbers.{variable_limit};
 
 use std::alloc::{AllocError, Allocator};
 use varisat_literals::Lit;
+use varisat_names::variables::Variables;
 use varisat_search::context::{Context, set_var_count};
 use varisat_search::load::load_clause;
-use varisat_search::state::SatState;
 
-/// Sets the flags of the clause's variables.
-fn flag_variables<A: Allocator + Copy>(
-    flags: &mut Vec<bool, A>,
+/// Brings the names of the clause into use, each with all names below it.
+fn name_vars<A: Allocator + Copy>(
+    variables: &mut Variables<A>,
     clause: &[Lit],
-    var_count: usize,
 ) -> Result<(), AllocError>
-    requires raised { length flags.old.items ≤ var_count }
-    requires in_range { (l : Literal) → l ∈ clause.now → variable_of l < var_count }
-    ensures count { OnOk result (length flags.new.items ≡ var_count) }
-    ensures flagged { OnOk result ((v : ℕ) → IsFlagged flags.new.items v ↔ (IsFlagged flags.old.items v ⊎ (v ∈ map variable_of clause.now))) }
+    requires plain { IsPlain variables.old }
+    requires small { length variables.old.users.forward ≤ variable_limit }
+    requires in_range { (l : Literal) → l ∈ clause.now → variable_of l < variable_limit }
+    ensures named { OnOk result (AreNamedInTurn clause.now variables.old variables.new) }
+    ensures small { OnOk result (length variables.new.users.forward ≤ variable_limit) }
+    ensures all { OnOk result ((l : Literal) → l ∈ clause.now → variable_of l < length variables.new.users.forward) }
 {
-    flags.resize(var_count, false)?;
     for lit in clause {
-        flags[lit.index()] = true;
+        variables.give_user_vars_up_to(lit.var())?;
     }
     Ok(())
 }
 
-/// Brings the variables below the count into the search, flags those of the clause, and loads it.
-pub fn accept_clause<A: Allocator + Copy>(
-    ctx: &mut Context<A>,
-    flags: &mut Vec<bool, A>,
+/// Takes a solver variable for each variable of the clause that has none.
+fn take_solver_vars<A: Allocator + Copy>(
+    variables: &mut Variables<A>,
     clause: &[Lit],
-    var_count: usize,
 ) -> Result<(), AllocError>
-    requires ready { IsReady ctx.old }
-    requires unsettled { IsOpen ctx.old.solver_state.sat_state }
-    requires raised { length ctx.old.assignment.current ≤ var_count }
-    requires small { var_count ≤ variable_limit }
-    requires flags { length flags.old.items ≤ var_count }
-    requires in_range { (l : Literal) → l ∈ clause.now → variable_of l < var_count }
-    ensures ready { OnOk result (IsReady ctx.new) }
-    ensures count { OnOk result (length ctx.new.assignment.current ≡ var_count) }
-    ensures flags { OnOk result (length flags.new.items ≡ var_count) }
-    ensures flagged { OnOk result ((v : ℕ) → IsFlagged flags.new.items v ↔ (IsFlagged flags.old.items v ⊎ (v ∈ map variable_of clause.now))) }
-    ensures state { OnOk result (ctx.new.solver_state ≡ record ctx.old.solver_state { sat_state = ctx.new.solver_state.sat_state; formula_is_empty = false }) }
-    ensures no_assumptions { OnOk result (ctx.new.solver_state.sat_state ≢ SatState.UnsatUnderAssumptions) }
-    ensures loaded { OnOk result ((P : List Clause) → Holds P (view ctx.old) → IsLoaded P clause.now (view ctx.new) ctx.new.solver_state.sat_state) }
+    requires plain { IsPlain variables.old }
+    requires small { length variables.old.users.forward ≤ variable_limit }
+    requires named { (l : Literal) → l ∈ clause.now → variable_of l < length variables.old.users.forward }
+    ensures taken { OnOk result (AreTakenFor clause.now variables.old variables.new) }
 {
-    flag_variables(flags, clause, var_count)?;
-    set_var_count(ctx, var_count)?;
-    load_clause(ctx, clause)?;
+    for lit in clause {
+        variables.prove_linked();
+        let global = variables.global_from_user().get(lit.var()).unwrap();
+        if variables.solver_from_global().get(global).is_none() {
+            variables.take_solver_var(global)?;
+        }
+    }
+    Ok(())
+}
+
+/// Marks the variables of a clause of several literals, which are not isolated any more.
+fn mark_joined<A: Allocator + Copy>(variables: &mut Variables<A>, clause: &[Lit])
+    requires plain { IsPlain variables.old }
+    requires named { (l : Literal) → l ∈ clause.now → variable_of l < length variables.old.users.forward }
+    ensures { AreJoined clause.now variables.old variables.new }
+{
+    if clause.len() > 1 {
+        for lit in clause {
+            let global = variables.global_from_user().get(lit.var()).unwrap();
+            variables.set_isolated(global, false);
+        }
+    }
+}
+
+/// Lists the literals of the clause over solver variables.
+fn carry_literals<A: Allocator + Copy>(
+    variables: &Variables<A>,
+    clause: &[Lit],
+    literals: &mut Vec<Lit, A>,
+) -> Result<(), AllocError>
+    requires { (l : Literal) → l ∈ clause.now → HasSolver variables.now (variable_of l) }
+    ensures { OnOk result (literals.new.items ≡ map (carry (chain (at variables.now.users.forward) (at variables.now.solvers.forward))) clause.now) }
+{
+    literals.clear();
+    for lit in clause {
+        let solver = variables.existing_solver_from_user(lit.var());
+        literals.push(solver.lit(lit.is_positive()))?;
+    }
+    Ok(())
+}
+
+/// Brings the names of the clause into use, takes solver variables for them, and loads the clause over these. `literals`
+/// is overwritten.
+pub fn accept_clause<A: Allocator + Copy>(
+    variables: &mut Variables<A>,
+    ctx: &mut Context<A>,
+    literals: &mut Vec<Lit, A>,
+    clause: &[Lit],
+) -> Result<(), AllocError>
+    requires kept { IsKept variables.old ctx.old }
+    requires unsettled { IsOpen ctx.old.solver_state.sat_state }
+    requires in_range { (l : Literal) → l ∈ clause.now → variable_of l < variable_limit }
+    ensures kept { OnOk result (IsKept variables.new ctx.new) }
+    ensures state { OnOk result (ctx.new.solver_state ≡ record ctx.old.solver_state { sat_state = ctx.new.solver_state.sat_state; formula_is_empty = false }) }
+    ensures accepted { OnOk result ((s : State) → SpacesFit (spaces_of variables.old (view ctx.old) ctx.old.solver_state.sat_state) s →
+        (x : Verdict) × VerdictAfter s.clauses (map (through_names (name_all clause.now s)) clause.now) s.verdict x × SpacesFit (spaces_of variables.new (view ctx.new) ctx.new.solver_state.sat_state) (append_clause (map (through_names (name_all clause.now s)) clause.now) x (name_all clause.now s))) }
+{
+    name_vars(variables, clause)?;
+    take_solver_vars(variables, clause)?;
+    mark_joined(variables, clause);
+    variables.prove_linked();
+    set_var_count(ctx, variables.solver_watermark())?;
+    carry_literals(variables, clause, literals)?;
+    load_clause(ctx, literals)?;
     Ok(())
 }

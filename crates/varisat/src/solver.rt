@@ -1,9 +1,13 @@
 //! The solver, and the calls that a user makes.
-ghost use Rattle.std.specs.Prelude.{◌≡◌, ◌<◌, ◌≤◌, ◌^◌, ℕ, List, true, MatchOption, IfOk};
-ghost use Rattle.varisat_theory.specs.Literals.{Literal};
+ghost use Rattle.std.specs.Prelude.{◌≡◌, ◌<◌, ◌≤◌, ◌^◌, ℕ, List, None, length, slice_index_or, IsSome, MatchBool, MatchOption, IfOk};
+ghost use Rattle.varisat_theory.specs.Membership.{◌∈◌};
+ghost use Rattle.varisat_theory.specs.Literals.{Literal, variable_of};
+ghost use Rattle.varisat_prop.specs.Parts.{is_true_value};
+ghost use Rattle.varisat_names.specs.VarMap.{at};
+ghost use Rattle.varisat_names.specs.VarData.{kept_at};
 ghost use Rattle.varisat.specs.Calls.{IsPastLimit};
-ghost use Rattle.varisat.specs.Counts.{count_with, list_values};
-ghost use Rattle.varisat.specs.Searches.{found};
+ghost use Rattle.varisat.specs.Carried.{value_or};
+ghost use Rattle.varisat.specs.Summaries.{list_tables};
 ghost use Rattle.varisat_literals.specs.Numbers.{variable_limit};
 
 use crate::accept::accept_clause;
@@ -15,6 +19,7 @@ use varisat_formula::dimacs::{DimacsError, DimacsErrorKind, DimacsParser};
 use varisat_formula::formula::{CnfFormula, ExtendFormula};
 use varisat_formula::io::{ByteSource, ProofTarget};
 use varisat_literals::{Lit, Var};
+use varisat_names::variables::Variables;
 use varisat_search::context::Context;
 use varisat_search::state::SatState;
 
@@ -61,47 +66,52 @@ impl SolverError {
     }
 }
 
-/// How many names are in use once those of the clause are. None where one of them is past the limit.
-fn count_with_clause(clause: &[Lit], var_count: usize) -> Option<usize>
-    requires { var_count ≤ variable_limit }
-    ensures { MatchOption result (IsPastLimit clause.now)
-        (λ n. (n ≡ count_with var_count clause.now) × (n ≤ variable_limit) × (IsPastLimit clause.now → ⊥)) }
+/// Whether a name of the clause is past the limit.
+fn is_past_limit(clause: &[Lit]) -> bool
+    ensures { MatchBool result (IsPastLimit clause.now) ((l : Literal) → l ∈ clause.now → variable_of l < variable_limit) }
 {
-    let mut count = var_count;
     for lit in clause {
-        let index = lit.index();
-        if index >= Var::max_count() {
-            return None;
+        if lit.index() >= Var::max_count() {
+            return true;
         }
-        count = count.max(index + 1);
     }
-    Some(count)
+    false
 }
 
-/// The value that was found for the variable: false where its flag is not set, and where it has no value.
-fn found_value(flags: &[bool], values: &[Option<bool>], index: usize) -> bool
-    ensures { result ≡ found flags.now values.now index }
+/// The value that the model gives the variable of the name, which is in use: that of its solver variable, or the one
+/// that is kept.
+fn model_value<A: Allocator + Copy>(
+    variables: &Variables<A>,
+    values: &[Option<bool>],
+    user: Var,
+) -> bool
+    requires { IsSome (at variables.now.users.forward user) }
+    ensures { MatchOption (at variables.now.users.forward user) ⊥ (λ x. result ≡ value_or (kept_at variables.now.kept x).unit (λ v. is_true_value (slice_index_or values.now v None)) (at variables.now.solvers.forward x)) }
 {
-    if index >= flags.len() || index >= values.len() {
-        return false;
+    variables.prove_linked();
+    let global = variables.global_from_user().get(user).unwrap();
+    match variables.solver_from_global().get(global) {
+        Some(solver) if solver.index() < values.len() => values[solver.index()] == Some(true),
+        Some(_) => false,
+        None => variables.var_data_global(global).unit == Some(true),
     }
-    flags[index] && values[index] == Some(true)
 }
 
-/// The names below the count in increasing order, with their values.
+/// The names in use in increasing order, with their values in the model.
 fn list_model<A: Allocator + Copy>(
     alloc: A,
-    flags: &[bool],
+    variables: &Variables<A>,
     values: &[Option<bool>],
-    var_count: usize,
 ) -> Result<Vec<Lit, A>, AllocError>
-    requires { var_count ≤ variable_limit }
-    ensures { IfOk result (λ list. list.items ≡ list_values (found flags.now values.now) 0 var_count) }
+    requires { length variables.now.users.forward ≤ variable_limit }
+    ensures { IfOk result (λ list. list.items ≡ list_tables variables.now values.now 0 (length variables.now.users.forward)) }
 {
     let mut list = Vec::new(alloc);
-    for index in 0..var_count {
-        let var = Var::from_index(index);
-        list.push(var.lit(found_value(flags, values, index)))?;
+    for index in 0..variables.user_watermark() {
+        let user = Var::from_index(index);
+        if variables.global_from_user().get(user).is_some() {
+            list.push(user.lit(model_value(variables, values, user)))?;
+        }
     }
     Ok(list)
 }
@@ -111,9 +121,9 @@ fn list_model<A: Allocator + Copy>(
 pub struct Solver<W: ProofTarget, A: Allocator + Copy> {
     alloc: A,
     ctx: Context<A>,
-    var_count: usize,
-    // For each variable of the search whether an accepted clause names it.
-    named: Vec<bool, A>,
+    variables: Variables<A>,
+    // The clause that is being accepted, over solver variables.
+    literals: Vec<Lit, A>,
     // Whether a clause or a variable was accepted.
     started: bool,
     // Where an open proof would go. No call opens one yet.
@@ -127,9 +137,9 @@ impl<W: ProofTarget, A: Allocator + Copy> Model for Solver<W, A> {
 
     ghost Value = { Summary };
 
-    ghost view = { λ c. record { var_count = c.var_count; flags = c.named.items; search = contexts.view c.ctx; sat_state = c.ctx.solver_state.sat_state; ledger = record { valid = not c.ctx.solver_state.state_is_invalid; started = c.started } } };
+    ghost view = { λ c. record { tables = c.variables; search = contexts.view c.ctx; sat_state = c.ctx.solver_state.sat_state; ledger = record { valid = not c.ctx.solver_state.state_is_invalid; started = c.started } } };
 
-    ghost invariant = { λ c. c.ctx.solver_state.state_is_invalid ≡ false → IsKept c.var_count c.named.items c.ctx };
+    ghost invariant = { λ c. c.ctx.solver_state.state_is_invalid ≡ false → IsKept c.variables c.ctx };
 }
 
 impl<W: ProofTarget, A: Allocator + Copy> Solver<W, A> {
@@ -148,8 +158,8 @@ impl<W: ProofTarget, A: Allocator + Copy> Solver<W, A> {
         Solver {
             alloc,
             ctx: Context::new_in(alloc),
-            var_count: 0,
-            named: Vec::new(alloc),
+            variables: Variables::new_in(alloc),
+            literals: Vec::new(alloc),
             started: false,
             target: None,
         }
@@ -172,12 +182,16 @@ impl<W: ProofTarget, A: Allocator + Copy> Solver<W, A> {
         if let SatState::Unsat = self.ctx.solver_state.sat_state {
             return Ok(());
         }
-        let Some(count) = count_with_clause(clause, self.var_count) else {
+        if is_past_limit(clause) {
             return Err(SolverError::VariableLimit);
-        };
-        match accept_clause(&mut self.ctx, &mut self.named, clause, count) {
+        }
+        match accept_clause(
+            &mut self.variables,
+            &mut self.ctx,
+            &mut self.literals,
+            clause,
+        ) {
             Ok(()) => {
-                self.var_count = count;
                 self.started = true;
                 Ok(())
             }
@@ -249,13 +263,20 @@ impl<W: ProofTarget, A: Allocator + Copy> Solver<W, A> {
         if self.ctx.solver_state.state_is_invalid {
             return Err(SolverError::Invalid);
         }
-        if self.var_count >= Var::max_count() {
+        let user = self.variables.next_unmapped_user();
+        if user.index() >= Var::max_count() {
             return Err(SolverError::VariableLimit);
         }
-        let index = self.var_count;
-        self.var_count += 1;
-        self.started = true;
-        Ok(Var::from_index(index))
+        match self.variables.give_user_var(user) {
+            Ok(_) => {
+                self.started = true;
+                Ok(user)
+            }
+            Err(_) => {
+                self.ctx.solver_state.state_is_invalid = true;
+                Err(SolverError::OutOfMemory)
+            }
+        }
     }
 
     /// Closes the proof, and gives its target back; None as no proof can be opened yet.
@@ -300,7 +321,7 @@ impl<W: ProofTarget, A: Allocator + Copy> Solver<W, A> {
         match self.ctx.solver_state.sat_state {
             SatState::Sat => {
                 let values = self.ctx.assignment.assignment();
-                let list = list_model(self.alloc, &self.named, values, self.var_count)?;
+                let list = list_model(self.alloc, &self.variables, values)?;
                 Ok(Some(list))
             }
             SatState::Unknown | SatState::Unsat | SatState::UnsatUnderAssumptions => Ok(None),

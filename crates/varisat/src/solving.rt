@@ -1,20 +1,17 @@
-//! Steps until the verdict is known.
-ghost use Rattle.std.specs.Prelude.{◌≡◌, ℕ, List, [], length, OnOk, IfOk, MatchBool};
-ghost use Rattle.varisat_theory.specs.Literals.{Clause, SatisfiesAll, IsSatisfiable};
+//! The steps of the search, until the verdict is known.
+ghost use Rattle.std.specs.Prelude.{◌≡◌, ℕ, List, [], length, OnOk, IfOk};
 ghost use Rattle.varisat_search.specs.Contexts.{view, IsReady};
-ghost use Rattle.varisat_search.specs.Steps.{assignment_of};
 ghost use Rattle.varisat_theory.specs.Derivations.{Line};
-ghost use Rattle.varisat_theory.specs.Counted.{DerivesBy};
-ghost use Rattle.varisat_theory.specs.Outcomes.{Unknown, Stands};
+ghost use Rattle.varisat_theory.specs.Outcomes.{MakesSteps};
 ghost use Rattle.varisat_search.specs.Seen.{search_of, outcome_of};
-ghost use Rattle.varisat.specs.Searches.{Holds, verdict_of};
+ghost use Rattle.varisat.specs.Searches.{verdict_of};
 
 use std::alloc::{AllocError, Allocator};
 use varisat_search::cdcl::conflict_step;
 use varisat_search::context::Context;
 use varisat_search::state::SatState;
 
-/// Makes steps until it is known whether some assignment satisfies the clauses, and answers that. Each step raises the
+/// Makes steps until it is known whether some assignment satisfies the clauses, and returns that. Each step raises the
 /// rank of the trail.
 pub fn find_verdict<A: Allocator + Copy>(ctx: &mut Context<A>) -> Result<bool, AllocError>
     requires ready { IsReady ctx.old }
@@ -22,11 +19,7 @@ pub fn find_verdict<A: Allocator + Copy>(ctx: &mut Context<A>) -> Result<bool, A
     ensures ready { OnOk result (IsReady ctx.new) }
     ensures count { OnOk result (length ctx.new.assignment.current ≡ length ctx.old.assignment.current) }
     ensures state { IfOk result (λ sat. ctx.new.solver_state ≡ record ctx.old.solver_state { sat_state = verdict_of sat }) }
-    ensures found { IfOk result (λ sat. (P : List Clause) → Holds P (view ctx.old) → MatchBool sat
-        (Holds P (view ctx.new) × SatisfiesAll (assignment_of (view ctx.new)) P)
-        (IsSatisfiable P → ⊥)) }
-    ensures lines { IfOk result (λ sat. (k : ℕ) × (lines : List Line) × ((P held : List Clause) → Stands P held (search_of (view ctx.old)) Unknown →
-        (after : List Clause) × DerivesBy k held lines after × Stands P after (search_of (view ctx.new)) (outcome_of (view ctx.new) (verdict_of sat)))) }
+    ensures steps { IfOk result (λ sat. (k : ℕ) × (lines : List Line) × MakesSteps k (search_of (view ctx.old)) (search_of (view ctx.new)) (outcome_of (view ctx.new) (verdict_of sat)) lines) }
 {
     'steps: loop {
         conflict_step(ctx)?;

@@ -1,21 +1,141 @@
-use Rattle.std.proofs.Common.{sym, ap, subst}
+-- What each part did to the maps and to the search.
+use Rattle.std.proofs.Common.{◌≡◌, ◌≢◌, ◌<◌, ◌≤◌, ℕ, Some, List, [], sym, ap, ap₂, ◌∙◌, subst, refl, length, map, ⊎_elim, arith}
+use Rattle.varisat_theory.specs.Membership.{◌∈◌}
+use Rattle.varisat_theory.specs.Literals.{variable_of}
+use Rattle.varisat_theory.specs.Outcomes as outcome
+use Rattle.varisat_theory.proofs.Renaming.{map-∈}
+use Rattle.varisat_prop.specs.View.{View}
+use Rattle.varisat_names.specs.Maps.{chain}
+use Rattle.varisat_names.specs.VarMap.{at}
+use Rattle.varisat_names.specs.VarBiMap.{BiMap}
+use Rattle.varisat_names.specs.Variables.{Tables}
+use Rattle.varisat_names.proofs.Maps.{chain-through}
+use Rattle.varisat_names.proofs.VarMap.{at-inside}
 use Rattle.varisat_search.specs.declared.context.Context.{Context}
+use Rattle.varisat_search.specs.declared.state.SatState.{SatState}
+use Rattle.varisat_search.specs.declared.state.SatState.TheVariants as verdict
 use Rattle.varisat_search.specs.Contexts.{view}
+use Rattle.varisat_search.specs.Seen.{search_of, outcome_of}
+use Rattle.varisat_theory.specs.Derivations.{Line}
+use Rattle.varisat_theory.specs.Outcomes.{Loads}
 use Rattle.varisat.specs.Searches.{IsOpen}
-use Rattle.varisat.proofs.Loaded.{holds-fits, loaded, loaded-open}
+use Rattle.varisat.specs.Carried.{carry}
+use Rattle.varisat.specs.Accepting.{IsPlain, HasSolver}
+use Rattle.varisat.proofs.Carried.{carry-at}
+use Rattle.varisat.proofs.Views.{raised-proves}
+use Rattle.varisat.proofs.Tables.{named-plain, taken-in-turn-plain, joined-plain, taken-users, named-solvers, taken-grow, solvers-within}
+use Rattle.varisat.proofs.Accepted.{clause-accepted}
 use Rattle.varisat.proofs.accept.accept_clause.Goals as goal
 
-pub returns-clause-loaded : goal.returns-clause-loaded
-returns-clause-loaded g c P h =
-    let mid = c.set_var_count.new.ctx in
-    let new = c.load_clause.new.ctx in
-    let a = c.in_ok-set_var_count.ensures in
-    let o = subst IsOpen (sym (ap (λ (x : Context g.row.A.Denot). x.solver_state.sat_state) a.kept)) c.requires.unsettled in
-    loaded P (view mid) (view new) c.args.clause.now mid.solver_state.sat_state new.solver_state.sat_state a.ready.well o (c.in_ok-load_clause.ensures.loads (λ e. subst IsOpen e o)) (holds-fits P (view c.args.ctx.now) (view mid) a.fits h)
+pub take_solver_vars-requires-clause-plain : goal.take_solver_vars-requires-clause-plain
+take_solver_vars-requires-clause-plain g c = named-plain c.args.clause.now c.args.variables.now c.name_vars.new.variables c.requires.kept.plain (c.in_ok-name_vars.ensures {u = tt}).named
 
-pub returns-clause-no_assumptions : goal.returns-clause-no_assumptions
-returns-clause-no_assumptions g c =
+pub mark_joined-requires-clause-plain : goal.mark_joined-requires-clause-plain
+mark_joined-requires-clause-plain g c =
+    let n = named-plain c.args.clause.now c.args.variables.now c.name_vars.new.variables c.requires.kept.plain (c.in_ok-name_vars.ensures {u = tt}).named in
+    let t = (c.in_ok-take_solver_vars.ensures {u = tt}).taken in
+    taken-in-turn-plain t.globals c.name_vars.new.variables c.take_solver_vars.new.variables n t.in_turn
+
+pub mark_joined-requires-clause-named : goal.mark_joined-requires-clause-named
+mark_joined-requires-clause-named g c l h =
+    let t = (c.in_ok-take_solver_vars.ensures {u = tt}).taken in
+    let u = ap (λ (m : BiMap). length m.forward) (taken-users t.globals c.name_vars.new.variables c.take_solver_vars.new.variables t.in_turn).0 in
+    let b = (c.in_ok-name_vars.ensures {u = tt}).all l h in
+    omega (arith, u, b)
+
+pub set_var_count-requires-clause-raised : goal.set_var_count-requires-clause-raised
+set_var_count-requires-clause-raised g c =
+    let n = ap (λ (m : BiMap). length m.backward) (named-solvers c.args.clause.now c.args.variables.now c.name_vars.new.variables (c.in_ok-name_vars.ensures {u = tt}).named) in
+    let t = (c.in_ok-take_solver_vars.ensures {u = tt}).taken in
+    let a = taken-grow t.globals c.name_vars.new.variables c.take_solver_vars.new.variables t.in_turn in
+    let j = ap (λ (m : BiMap). length m.backward) c.mark_joined.ensures.solvers in
+    omega (arith, n, a, j, c.requires.kept.count, c.solver_watermark.ensures)
+
+pub set_var_count-requires-clause-small : goal.set_var_count-requires-clause-small
+set_var_count-requires-clause-small g c =
+    let n = named-plain c.args.clause.now c.args.variables.now c.name_vars.new.variables c.requires.kept.plain (c.in_ok-name_vars.ensures {u = tt}).named in
+    let t = (c.in_ok-take_solver_vars.ensures {u = tt}).taken in
+    let p = joined-plain c.args.clause.now c.take_solver_vars.new.variables c.mark_joined.new.variables (taken-in-turn-plain t.globals c.name_vars.new.variables c.take_solver_vars.new.variables n t.in_turn) c.mark_joined.ensures in
+    let u = ap (λ (m : BiMap). length m.forward) (taken-users t.globals c.name_vars.new.variables c.take_solver_vars.new.variables t.in_turn).0 in
+    let j = ap (λ (m : BiMap). length m.forward) c.mark_joined.ensures.users in
+    let w = solvers-within c.mark_joined.new.variables c.prove_linked.ensures p.nothing_hidden in
+    omega (arith, u, j, w, p.nothing_hidden.count, (c.in_ok-name_vars.ensures {u = tt}).small, c.solver_watermark.ensures)
+
+pub carry_literals-requires : goal.carry_literals-requires
+carry_literals-requires g c l h =
+    let t = (c.in_ok-take_solver_vars.ensures {u = tt}).taken in
+    let (v, e) = t.all l h in
+    (v, ap₂ (λ (a b : BiMap). chain (at a.forward) (at b.forward) (variable_of l)) c.mark_joined.ensures.users c.mark_joined.ensures.solvers ∙ e)
+
+pub load_clause-requires-clause-in_range : goal.load_clause-requires-clause-in_range
+load_clause-requires-clause-in_range g c l h =
+    let t = (c.in_ok-take_solver_vars.ensures {u = tt}).taken in
+    let m = c.mark_joined.new.variables in
+    let f = chain (at m.users.forward) (at m.solvers.forward) in
+    let e = c.deref.ensures.value ∙ c.in_ok-carry_literals.ensures {u = tt} in
+    let (k, i, q) = map-∈ (carry f) l c.args.clause.now (subst (λ ls. l ∈ ls) e h) in
+    let (v, r) = t.all k i in
+    let r' : f (variable_of k) ≡ Some v = ap₂ (λ (a b : BiMap). chain (at a.forward) (at b.forward) (variable_of k)) c.mark_joined.ensures.users c.mark_joined.ensures.solvers ∙ r in
+    let (x, a, b) = chain-through (at m.users.forward) (at m.solvers.forward) (variable_of k) v r' in
+    let inside = at-inside m.solvers.backward v x (c.prove_linked.ensures.solvers.there x v b) in
+    let z = ap variable_of q ∙ carry-at f k v r' in
+    let n = (c.in_ok-set_var_count.ensures {u = tt}).count in
+    omega (arith, inside, z, n, c.solver_watermark.ensures)
+
+open-cases : (s : SatState) → IsOpen s → (s ≢ verdict.Unsat) × (s ≢ verdict.UnsatUnderAssumptions)
+open-cases verdict.Unknown o = (λ e. let z : verdict.Unknown ≡ verdict.Unsat = e in cc, λ e. let z : verdict.Unknown ≡ verdict.UnsatUnderAssumptions = e in cc)
+open-cases verdict.Sat o = (λ e. let z : verdict.Sat ≡ verdict.Unsat = e in cc, λ e. let z : verdict.Sat ≡ verdict.UnsatUnderAssumptions = e in cc)
+open-cases verdict.Unsat o = absurd o
+open-cases verdict.UnsatUnderAssumptions o = absurd o
+
+loaded-open : (s t : View) (e : List ℕ) (after : SatState) (lines : List Line) → Loads (search_of s) (search_of t) e (outcome_of t after) lines → after ≢ verdict.UnsatUnderAssumptions
+loaded-open s t e after lines loads q =
+    ⊎_elim
+    (λ (a, u). let z : outcome.UnsatUnder [] ≡ outcome.Unsat = sym (ap (outcome_of t) q) ∙ u in cc)
+    (λ (a, u). let z : outcome.UnsatUnder [] ≡ outcome.Unknown = sym (ap (outcome_of t) q) ∙ u in cc)
+    loads.verdict
+
+pub returns-clause-kept : goal.returns-clause-kept
+returns-clause-kept g c =
+    let n = named-plain c.args.clause.now c.args.variables.now c.name_vars.new.variables c.requires.kept.plain (c.in_ok-name_vars.ensures {u = tt}).named in
+    let t = (c.in_ok-take_solver_vars.ensures {u = tt}).taken in
+    let u = ap (λ (m : BiMap). length m.forward) (taken-users t.globals c.name_vars.new.variables c.take_solver_vars.new.variables t.in_turn).0 in
+    let j = ap (λ (m : BiMap). length m.forward) c.mark_joined.ensures.users in
+    let r = c.in_ok-load_clause.ensures {u = tt} in
+    let e = c.in_ok-set_var_count.ensures {u = tt} in
+    let mid = c.set_var_count.new.ctx in
+    let (a, b) = open-cases mid.solver_state.sat_state (subst IsOpen (sym (ap (λ (x : Context g.row.A.Denot). x.solver_state.sat_state) e.kept)) c.requires.unsettled) in
+    record {
+      small = omega (arith, u, j, (c.in_ok-name_vars.ensures {u = tt}).small);
+      plain = joined-plain c.args.clause.now c.take_solver_vars.new.variables c.mark_joined.new.variables (taken-in-turn-plain t.globals c.name_vars.new.variables c.take_solver_vars.new.variables n t.in_turn) c.mark_joined.ensures;
+      ready = r.ready;
+      count = r.count ∙ e.count ∙ c.solver_watermark.ensures;
+      no_assumptions = loaded-open (view mid) (view c.load_clause.new.ctx) c.deref.result.now c.load_clause.new.ctx.solver_state.sat_state (r.lines a b).0 (r.lines a b).1;
+    }
+
+pub returns-clause-accepted : goal.returns-clause-accepted
+returns-clause-accepted g c s f =
+    let t = (c.in_ok-take_solver_vars.ensures {u = tt}).taken in
+    let r = c.in_ok-load_clause.ensures {u = tt} in
+    let e = c.in_ok-set_var_count.ensures {u = tt} in
+    let old = c.args.ctx.now in
     let mid = c.set_var_count.new.ctx in
     let new = c.load_clause.new.ctx in
-    let o = subst IsOpen (sym (ap (λ (x : Context g.row.A.Denot). x.solver_state.sat_state) c.in_ok-set_var_count.ensures.kept)) c.requires.unsettled in
-    loaded-open (view mid) (view new) c.args.clause.now mid.solver_state.sat_state new.solver_state.sat_state o (c.in_ok-load_clause.ensures.loads (λ e. subst IsOpen e o))
+    let (a, b) = open-cases mid.solver_state.sat_state (subst IsOpen (sym (ap (λ (x : Context g.row.A.Denot). x.solver_state.sat_state) e.kept)) c.requires.unsettled) in
+    let items = c.deref.ensures.value ∙ c.in_ok-carry_literals.ensures {u = tt} in
+    let j = ap (λ (m : BiMap). length m.backward) c.mark_joined.ensures.solvers in
+    clause-accepted (record { tables = c.args.variables.now; search = view old; sat_state = old.solver_state.sat_state; ledger = s.ledger }) s c.args.clause.now c.name_vars.new.variables c.take_solver_vars.new.variables c.mark_joined.new.variables (view mid) (view new) new.solver_state.sat_state (r.lines a b).0
+    (record {
+      plain = c.requires.kept.plain;
+      are_named = (c.in_ok-name_vars.ensures {u = tt}).named;
+      are_taken = t;
+      are_joined = c.mark_joined.ensures;
+      raised = raised-proves (view old) (view mid) c.requires.kept.ready.well e.ready.well (ap (λ (x : Context g.row.A.Denot). x.clause_alloc) e.kept) e.fits;
+      count = e.count ∙ c.solver_watermark.ensures ∙ j;
+      same_count = r.count;
+      well_mid = e.ready.well;
+      well_new = r.ready.well;
+    })
+    c.requires.unsettled
+    (subst (λ xs. Loads (search_of (view mid)) (search_of (view new)) xs (outcome_of (view new) new.solver_state.sat_state) (r.lines a b).0) items (r.lines a b).1)
+    f

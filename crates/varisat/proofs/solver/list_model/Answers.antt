@@ -1,14 +1,36 @@
-use Rattle.std.proofs.Common.{◌≡◌, ◌+◌, ◌++◌, ◌∷◌, [], sym, ap, ap₂, ◌∙◌, arith}
-use Rattle.varisat_theory.specs.Literals.{literal_of}
-use Rattle.varisat.specs.Counts.{list_values}
-use Rattle.varisat.specs.Searches.{found}
-use Rattle.varisat.proofs.Kept.{values-push}
+use Rattle.std.proofs.Common.{◌≡◌, ◌+◌, ◌++◌, ◌∷◌, [], suc, ℕ, Bool, Option, Some, None, false, sym, ap, ap₂, ◌∙◌, subst, refl, get_or, arith}
+use Rattle.std.proofs.lemmas.List.{append-nil}
+use Rattle.std.specs.Prelude.{MatchOption}
+use Rattle.varisat_theory.specs.Literals.{Assignment, literal_of}
+use Rattle.varisat_prop.specs.Parts.{is_true_value}
+use Rattle.varisat_names.specs.VarMap.{at}
+use Rattle.varisat_names.specs.VarData.{kept_at}
+use Rattle.varisat_names.proofs.Maps.{some-of}
+use Rattle.varisat.specs.Models.{put_name}
+use Rattle.varisat.specs.Carried.{value_or}
+use Rattle.varisat.specs.Summaries.{list_tables}
+use Rattle.varisat.proofs.Tables.{none-of}
+use Rattle.varisat.proofs.Called.{tables-push}
+use Rattle.varisat.proofs.solver.list_model.Goals.{then-is_some+in_ok-push, else-is_some}
 use Rattle.varisat.proofs.solver.list_model.Goals as goal
 
 pub loop-index-preserved : goal.loop-index-preserved
 loop-index-preserved g c =
-    let b = found c.args.flags.now c.args.values.now in
+    let t = c.args.variables.now in
+    let vs = c.args.values.now in
     let i = c.loop-index.index in
-    let x = c.lit.ensures ∙ ap₂ literal_of c.from_index-var.ensures c.found_value.ensures in
+    let m : Assignment = λ x. value_or (kept_at t.kept x).unit (λ v. is_true_value (get_or vs v None)) (at t.solvers.forward x) in
+    let one : i + 1 ≡ suc i = omega arith in
     let zero : 0 + i ≡ i = omega arith in
-    c.in_ok-push.ensures.items ∙ ap₂ (λ xs y. xs ++ y ∷ []) c.loop-index.invariant x ∙ ap (λ k. list_values b 0 i ++ literal_of k (b k) ∷ []) (sym zero) ∙ sym (values-push b i 0)
+    let next = ap (list_tables t vs 0) one ∙ tables-push t vs m refl i 0 ∙ ap (λ n. list_tables t vs 0 i ++ put_name n (at t.users.forward n) m []) zero in
+    let got : c.get.result ≡ at t.users.forward i = c.get.ensures ∙ ap (λ xs. at xs c.from_index-user.result) c.global_from_user.ensures ∙ ap (at t.users.forward) c.from_index-user.ensures in
+    elim c.if-is_some.branch [
+      | then-is_some+in_ok-push w ↦
+          let (x, e) = some-of c.get.result (sym c.is_some.ensures ∙ w.if-is_some.true) in
+          let at-i : at t.users.forward i ≡ Some x = sym got ∙ e in
+          let v : w.model_value.result ≡ m x = subst (λ o. MatchOption o ⊥ (λ x. w.model_value.result ≡ m x)) (ap (at t.users.forward) c.from_index-user.ensures ∙ at-i) w.model_value.ensures in
+          ap (λ l. l.items) w.list-is ∙ w.in_ok-push.ensures.items ∙ ap₂ (λ xs y. xs ++ y ∷ []) c.loop-index.invariant (w.lit.ensures ∙ ap₂ literal_of c.from_index-user.ensures v) ∙ ap (λ o. list_tables t vs 0 i ++ put_name i o m []) (sym at-i) ∙ sym next
+      | else-is_some w ↦
+          let n : at t.users.forward i ≡ None = sym got ∙ none-of c.get.result (sym c.is_some.ensures ∙ w.if-is_some.false) in
+          ap (λ l. l.items) w.list-is ∙ c.loop-index.invariant ∙ sym (append-nil (list_tables t vs 0 i)) ∙ ap (λ o. list_tables t vs 0 i ++ put_name i o m []) (sym n) ∙ sym next
+    ]

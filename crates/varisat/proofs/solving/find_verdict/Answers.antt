@@ -1,12 +1,22 @@
-use Rattle.std.proofs.Common.{[], ◌∙◌, ⊎_elim, ap, sym, subst}
+use Rattle.std.proofs.Common.{ℕ, suc, List, [], ◌++◌, ◌∙◌, ⊎_elim, ap, sym, subst, refl}
 use Rattle.varisat_search.specs.declared.state.SolverState.{SolverState}
+use Rattle.varisat_search.specs.declared.state.SatState.TheVariants as verdict
 use Rattle.varisat_search.specs.Contexts.{view}
-use Rattle.varisat_search.specs.Steps.{StepGives, assignment_of}
-use Rattle.varisat.proofs.Solved.{step-goes, step-satisfies, step-refutes, step-shortens}
-use Rattle.varisat_theory.specs.Outcomes.{Sat, Unsat, Steps}
+use Rattle.varisat_search.specs.Steps.{StepGives}
+use Rattle.varisat_theory.specs.Derivations.{Line}
+use Rattle.varisat_theory.specs.Searches.{Search}
+use Rattle.varisat_theory.specs.Outcomes.{Outcome, Unknown, Unsat, Steps, MakesSteps}
+use Rattle.varisat_theory.proofs.StepsMade.{none_made, one_more_made}
 use Rattle.varisat_search.specs.Seen.{search_of, outcome_of}
-use Rattle.varisat.proofs.Written.{written-none, written-step, written-end}
+use Rattle.varisat.proofs.Shortening.{step-shortens}
 use Rattle.varisat.proofs.solving.find_verdict.Goals as goal
+
+-- the steps that were made, and one more
+more-made : (s t u : Search) (v : Outcome) → ((k : ℕ) × (lines : List Line) × MakesSteps k s t Unknown lines) → ((lines : List Line) × Steps t u v lines) → (k : ℕ) × (lines : List Line) × MakesSteps k s u v lines
+more-made s t u v (k, first, p) (second, q) = (suc k, first ++ second, one_more_made k s t u v first second p q)
+
+pub steps-init : goal.steps-init
+steps-init g c = record { ready = c.requires.ready; count = refl; state = refl; made = (0, [], none_made (search_of (view c.args.ctx.now))) }
 
 pub steps-smaller : goal.steps-smaller
 steps-smaller g c =
@@ -16,7 +26,6 @@ steps-smaller g c =
 
 pub steps-preserved : goal.steps-preserved
 steps-preserved g c =
-    let s = view c.steps.ctx in
     let t = view c.conflict_step.new.ctx in
     let r = c.steps.invariant in
     let e = c.in_ok-conflict_step.ensures in
@@ -24,42 +33,22 @@ steps-preserved g c =
       ready = e.ready;
       count = e.count ∙ r.count;
       state = e.state ∙ ap (λ x. record c.steps.ctx.solver_state { sat_state = x }) (c.in-Unknown.is ∙ sym (ap (λ (x : SolverState). x.sat_state) r.state ∙ c.requires.unknown)) ∙ r.state;
-      holds = λ P h. step-goes P s t (subst (StepGives s t) c.in-Unknown.is e.gives) (r.holds P h);
-      lines =
-          let (ls, p) = e.steps in
-          written-step (search_of (view c.args.ctx.now)) (search_of s) (search_of t) ls r.lines (subst (λ b. Steps (search_of s) (search_of t) (outcome_of t b) ls) c.in-Unknown.is p);
+      made = more-made (search_of (view c.args.ctx.now)) (search_of (view c.steps.ctx)) (search_of t) Unknown r.made
+          (subst (λ b. (lines : List Line) × Steps (search_of (view c.steps.ctx)) (search_of t) (outcome_of t b) lines) c.in-Unknown.is e.steps);
     }
 
-pub returns-in-Sat-clause-found : goal.returns-in-Sat-clause-found
-returns-in-Sat-clause-found g c P h =
-    let s = view c.steps.ctx in
+pub returns-in-Sat-clause-steps : goal.returns-in-Sat-clause-steps
+returns-in-Sat-clause-steps g c =
     let t = view c.conflict_step.new.ctx in
-    step-satisfies P s t (subst (StepGives s t) c.in-Sat.is c.in_ok-conflict_step.ensures.gives) (c.steps.invariant.holds P h)
+    more-made (search_of (view c.args.ctx.now)) (search_of (view c.steps.ctx)) (search_of t) (outcome_of t verdict.Sat) c.steps.invariant.made
+    (subst (λ b. (lines : List Line) × Steps (search_of (view c.steps.ctx)) (search_of t) (outcome_of t b) lines) c.in-Sat.is c.in_ok-conflict_step.ensures.steps)
 
-pub returns-in-Unsat-clause-found : goal.returns-in-Unsat-clause-found
-returns-in-Unsat-clause-found g c P h =
-    let s = view c.steps.ctx in
-    let t = view c.conflict_step.new.ctx in
-    let e = c.in_ok-conflict_step.ensures.gives in
-    ⊎_elim
-    (λ q. step-refutes P s t (subst (StepGives s t) q e) (c.steps.invariant.holds P h))
-    (λ q. absurd (subst (StepGives s t) q e))
-    c.in-Unsat.is
-
-pub returns-in-Sat-clause-lines : goal.returns-in-Sat-clause-lines
-returns-in-Sat-clause-lines g c =
-    let s = view c.steps.ctx in
-    let t = view c.conflict_step.new.ctx in
-    let (ls, p) = c.in_ok-conflict_step.ensures.steps in
-    written-end (search_of (view c.args.ctx.now)) (search_of s) (search_of t) (Sat (assignment_of t)) ls c.steps.invariant.lines (subst (λ b. Steps (search_of s) (search_of t) (outcome_of t b) ls) c.in-Sat.is p)
-
-pub returns-in-Unsat-clause-lines : goal.returns-in-Unsat-clause-lines
-returns-in-Unsat-clause-lines g c =
-    let s = view c.steps.ctx in
+pub returns-in-Unsat-clause-steps : goal.returns-in-Unsat-clause-steps
+returns-in-Unsat-clause-steps g c =
     let t = view c.conflict_step.new.ctx in
     let e = c.in_ok-conflict_step.ensures in
-    let (ls, p) = e.steps in
     ⊎_elim
-    (λ q. written-end (search_of (view c.args.ctx.now)) (search_of s) (search_of t) Unsat ls c.steps.invariant.lines (subst (λ b. Steps (search_of s) (search_of t) (outcome_of t b) ls) q p))
-    (λ q. absurd (subst (StepGives s t) q e.gives))
+    (λ q. more-made (search_of (view c.args.ctx.now)) (search_of (view c.steps.ctx)) (search_of t) Unsat c.steps.invariant.made
+    (subst (λ b. (lines : List Line) × Steps (search_of (view c.steps.ctx)) (search_of t) (outcome_of t b) lines) q e.steps))
+    (λ q. absurd (subst (StepGives (view c.steps.ctx) t) q e.gives))
     c.in-Unsat.is

@@ -1,11 +1,9 @@
 use Rattle.std.proofs.Common.{◌≡◌, ℕ, List, [], length}
-use Rattle.varisat_theory.specs.Literals.{Clause}
 use Rattle.varisat_search.specs.Contexts.{view, IsReady}
 use Rattle.varisat_theory.specs.Derivations.{Line}
-use Rattle.varisat_theory.specs.Outcomes.{Proves}
+use Rattle.varisat_theory.specs.Outcomes.{Unknown, MakesSteps}
 use Rattle.varisat_search.specs.Seen.{search_of}
-use Rattle.varisat.specs.Searches.{Holds}
-use Rattle.varisat.proofs.Solved.{room_left}
+use Rattle.varisat.proofs.Shortening.{room_left}
 use Rattle.varisat.proofs.solving.find_verdict.Given as goal
 
 abbrev pub invariant-steps : goal.invariant-steps
@@ -13,8 +11,7 @@ invariant-steps g l = record {
   ready : IsReady l.ctx;
   count : length l.ctx.assignment.current ≡ length l.fn.ctx.assignment.current;
   state : l.ctx.solver_state ≡ l.fn.ctx.solver_state;
-  holds : (P : List Clause) → Holds P (view l.fn.ctx) → Holds P (view l.ctx);
-  lines : (k : ℕ) × (lines : List Line) × Proves k (search_of (view l.fn.ctx)) (search_of (view l.ctx)) lines;
+  made : (k : ℕ) × (lines : List Line) × MakesSteps k (search_of (view l.fn.ctx)) (search_of (view l.ctx)) Unknown lines;
 }
 
 abbrev pub decreases-steps : goal.decreases-steps

@@ -1,21 +1,56 @@
-use Rattle.std.proofs.Common.{◌∙◌, not, refl, ap, arith, true}
+use Rattle.std.proofs.Common.{◌∙◌, not, refl, sym, ap, arith, true, false, length}
+use Rattle.varisat_search.specs.Contexts.{view}
+use Rattle.varisat.specs.Summaries.{Summary, spaces}
 use Rattle.varisat.specs.States.{Ledger}
 use Rattle.varisat.specs.Names.{name_one}
 use Rattle.varisat.specs.Calls.{start}
-use Rattle.varisat.proofs.NamesInOrder.{least-free, rest-one}
-use Rattle.varisat.proofs.Kept.{fits-new, like-refl}
+use Rattle.varisat.proofs.NamesInOrder.{rest-one}
+use Rattle.varisat.proofs.Accepted.{with_tables, ledger-free}
+use Rattle.varisat.proofs.CallStates.{like-refl, broken, broken-invalid}
+use Rattle.varisat.proofs.Called.{least-free, new-named, new-plain}
 use Rattle.varisat.proofs.solver.Solver.new_var.Goals as goal
 
-pub returns : goal.returns
-returns g c s st =
+pub invariant_of-self : goal.invariant_of-self
+invariant_of-self g c v =
+    let k = c.self.invariant c.if-self.false in
+    let t = (c.in-Ok.ensures {u = tt}).given in
+    let u = c.next_unmapped_user-user.result in
+    let e = c.next_unmapped_user-user.ensures in
+    let w = t.users.forward.watermark in
+    record {
+      small = omega (arith, w, k.small, c.index.ensures.index, c.max_count.ensures, c.if-index-max_count.false);
+      plain = new-plain c.self.inside.variables c.give_user_var.new.self u c.in-Ok.field-0 k.plain e.least e.near t;
+      ready = k.ready;
+      count = k.count ∙ ap (λ m. length m.backward) (sym t.solvers);
+      no_assumptions = k.no_assumptions;
+    }
+
+pub returns-in-Ok : goal.returns-in-Ok
+returns-in-Ok g c s st =
     let q = rw (← c.self.view_is) at st in
+    let old : Summary = record { tables = c.self.inside.variables; search = view c.self.inside.ctx; sat_state = c.self.inside.ctx.solver_state.sat_state; ledger = s.ledger } in
+    let k = c.self.invariant c.if-self.false in
     let f = q.fits (ap not c.if-self.false) in
-    let n = c.self.inside.var_count in
-    rw c.from_index.ensures (
-      start (name_one n s),
-      (ap (λ x. x.valid) q.ledger ∙ ap not c.if-self.false, least-free n s f.names, omega (arith, c.if-self-max_count.false, c.max_count.ensures), like-refl (start (name_one n s))),
+    let u = c.next_unmapped_user-user.result in
+    let e = c.next_unmapped_user-user.ensures in
+    let t = (c.in-Ok.ensures {u = tt}).given in
+    let (w, n) = new-named old s c.give_user_var.new.self u c.in-Ok.field-0 f k.plain e.least e.near t in (
+      start (name_one u s),
+      (ap (λ x. x.valid) q.ledger ∙ ap not c.if-self.false, least-free old s u f e.least, omega (arith, c.index.ensures.index, c.max_count.ensures, c.if-index-max_count.false), like-refl (start (name_one u s))),
       record {
-        ledger = ap (λ (x : Ledger). record x { started = true }) ((rest-one n s).ledger ∙ q.ledger);
-        fits = λ _. fits-new _ _ s f refl;
+        ledger = ap (λ (x : Ledger). record x { started = true }) ((rest-one u s).ledger ∙ q.ledger);
+        fits = λ _. (w, ledger-free w (spaces (with_tables c.give_user_var.new.self old)) (name_one u s) (record (name_one u s).ledger { started = true }) n);
       },
+    )
+
+pub returns-in-Err : goal.returns-in-Err
+returns-in-Err g c s st =
+    let q = rw (← c.self.view_is) at st in
+    let old : Summary = record { tables = c.self.inside.variables; search = view c.self.inside.ctx; sat_state = c.self.inside.ctx.solver_state.sat_state; ledger = s.ledger } in
+    let f = q.fits (ap not c.if-self.false) in
+    let u = c.next_unmapped_user-user.result in
+    let e = c.next_unmapped_user-user.ensures in (
+      broken s,
+      ((u, least-free old s u f e.least, omega (arith, c.index.ensures.index, c.max_count.ensures, c.if-index-max_count.false)), broken-invalid s (ap (λ x. x.valid) q.ledger ∙ ap not c.if-self.false) f.1.well_formed),
+      record { ledger = ap (λ (x : Ledger). record x { valid = false }) q.ledger; fits = λ e. absurd cc },
     )

@@ -2,7 +2,7 @@
 use Rattle.std.proofs.Common.{◌∙◌, refl, sym, ap, false}
 use Rattle.varisat.specs.States.{Ledger}
 use Rattle.varisat.specs.Additions.{MemoryFault, Fault}
-use Rattle.varisat.proofs.Kept.{broken, broken-invalid}
+use Rattle.varisat.proofs.CallStates.{broken, broken-invalid}
 use Rattle.varisat.proofs.solver.Solver.refuse_text.Goals as goal
 
 pub returns-in-OutOfMemory : goal.returns-in-OutOfMemory
@@ -10,7 +10,7 @@ returns-in-OutOfMemory g c s st v =
     let q = rw (← c.self.view_is) at st in
     let f = q.fits (sym (ap (λ x. x.valid) q.ledger) ∙ v) in (
       broken s,
-      MemoryFault c.args.fault refl c.in-OutOfMemory.is refl (broken-invalid _ s v f),
+      MemoryFault c.args.fault refl c.in-OutOfMemory.is refl (broken-invalid s v f.1.well_formed),
       record { ledger = ap (λ (x : Ledger). record x { valid = false }) q.ledger; fits = λ e. absurd cc },
     )
 

@@ -1,0 +1,25 @@
+use Rattle.std.proofs.Common.{◌≡◌, ◌+◌, ◌*◌, ◌++◌, ◌∷◌, [], Some, sym, ap, ◌∙◌, subst, refl, map, take, arith}
+use Rattle.std.proofs.lemmas.List.{map-append}
+use Rattle.varisat_theory.specs.Literals.{variable_of}
+use Rattle.varisat_names.specs.Maps.{chain}
+use Rattle.varisat_names.specs.VarMap.{at}
+use Rattle.varisat_prop.proofs.Clauses.{item-∈}
+use Rattle.varisat.specs.Carried.{carry}
+use Rattle.varisat.proofs.Places.{take-item}
+use Rattle.varisat.proofs.Carried.{carried-literal}
+use Rattle.varisat.proofs.Tables.{is-there}
+use Rattle.varisat.proofs.accept.carry_literals.Goals as goal
+
+pub existing_solver_from_user-solver-requires : goal.existing_solver_from_user-solver-requires
+existing_solver_from_user-solver-requires g c =
+    let t = c.args.variables.now in
+    let (v, e) = c.requires c.lit-item.result (item-∈ c.args.clause.now c.loop-lit.lit-index c.lit-item.result c.loop-lit-test.true c.lit-item.is) in
+    is-there _ v (ap (chain (at t.users.forward) (at t.solvers.forward)) c.var.ensures ∙ e)
+
+pub loop-lit-preserved : goal.loop-lit-preserved
+loop-lit-preserved g c =
+    let t = c.args.variables.now in
+    let f = chain (at t.users.forward) (at t.solvers.forward) in
+    let l = c.lit-item.result in
+    let e = ap f (sym c.var.ensures) ∙ c.existing_solver_from_user-solver.ensures in
+    c.in_ok-push.ensures.items ∙ ap (λ xs. xs ++ c.lit.result ∷ []) c.loop-lit.invariant ∙ ap (λ x. map (carry f) (take c.loop-lit.lit-index c.args.clause.now) ++ x ∷ []) (c.lit.ensures ∙ carried-literal f l c.existing_solver_from_user-solver.result c.is_positive.result e c.is_positive.ensures) ∙ sym (ap (map (carry f)) (take-item c.args.clause.now c.loop-lit.lit-index l c.loop-lit-test.true c.lit-item.is) ∙ map-append (carry f) (take c.loop-lit.lit-index c.args.clause.now) (l ∷ []))

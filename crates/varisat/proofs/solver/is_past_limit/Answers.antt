@@ -1,0 +1,20 @@
+use Rattle.std.proofs.Common.{◌++◌, ◌∷◌, [], sym, ap, subst, ⊎_elim, length, take, arith}
+use Rattle.varisat_theory.specs.Membership.{◌∈◌}
+use Rattle.varisat_theory.specs.Literals.{variable_of}
+use Rattle.varisat_theory.proofs.Members.{∈-append_cases}
+use Rattle.varisat_prop.proofs.Clauses.{item-∈}
+use Rattle.varisat.proofs.Places.{take-item}
+use Rattle.varisat.proofs.solver.is_past_limit.Goals as goal
+
+pub returns-then-index-max_count : goal.returns-then-index-max_count
+returns-then-index-max_count c =
+    (c.lit-item.result, item-∈ c.args.clause.now c.loop-lit.lit-index c.lit-item.result c.loop-lit-test.true c.lit-item.is, omega (arith, c.index.ensures.index, c.max_count.ensures, c.if-index-max_count.true))
+
+pub loop-lit-preserved : goal.loop-lit-preserved
+loop-lit-preserved c =
+    let d = take c.loop-lit.lit-index c.args.clause.now in
+    let t = take-item c.args.clause.now c.loop-lit.lit-index c.lit-item.result c.loop-lit-test.true c.lit-item.is in
+    λ m h. ⊎_elim
+    (c.loop-lit.invariant m)
+    (λ a. ⊎_elim (λ q. let b = ap variable_of q in omega (arith, b, c.index.ensures.index, c.max_count.ensures, c.if-index-max_count.false)) (λ z. absurd z) a)
+    (∈-append_cases m d (c.lit-item.result ∷ []) (subst (λ ls. m ∈ ls) t h))

@@ -1,0 +1,45 @@
+-- What an accepted clause does to the maps between names, global variables and solver variables.
+use Rattle.std.specs.Prelude.{◌≡◌, ℕ, ◌+◌, ◌-◌, ◌<◌, true, false, Some, None, List, [], ◌∷◌, length}
+use Rattle.varisat_theory.specs.Membership.{◌∈◌}
+use Rattle.varisat_theory.specs.Literals.{Literal, variable_of}
+use Rattle.varisat_names.specs.Maps.{chain}
+use Rattle.varisat_names.specs.VarMap.{at}
+use Rattle.varisat_names.specs.VarData.{kept_at}
+use Rattle.varisat_names.specs.Variables.{Tables, AreNextGiven, IsTaken, IsNothingHidden}
+
+-- What is true of the maps as yet: nothing is hidden, and no unit is kept.
+pub record IsPlain (t : Tables) : Type 0 where
+  pub nothing_hidden : IsNothingHidden t
+  pub no_units : (x : ℕ) → (kept_at t.kept x).unit ≡ None
+
+-- the names of the literals came into use in turn, each with all names below it
+abbrev pub AreNamedInTurn : List Literal → Tables → Tables → Type 0
+AreNamedInTurn [] old new = new ≡ old
+AreNamedInTurn (l ∷ ls) old new =
+    (mid : Tables) × AreNextGiven (variable_of l + 1 - length old.users.forward) old mid × AreNamedInTurn ls mid new
+
+-- the global variables, which had none, took solver variables in turn
+abbrev pub AreTakenInTurn : List ℕ → Tables → Tables → Type 0
+AreTakenInTurn [] old new = new ≡ old
+AreTakenInTurn (x ∷ xs) old new =
+    (mid : Tables) × (v : ℕ) × (at old.solvers.forward x ≡ None) × IsTaken old mid x v × AreTakenInTurn xs mid new
+
+-- the solver variable of a name
+abbrev pub HasSolver : Tables → ℕ → Type 0
+HasSolver t u = (v : ℕ) × (chain (at t.users.forward) (at t.solvers.forward) u ≡ Some v)
+
+-- Some variables of the clause took solver variables in turn, and then each has one.
+pub record AreTakenFor (clause : List Literal) (old new : Tables) : Type 0 where
+  pub globals : List ℕ
+  pub named : (x : ℕ) → x ∈ globals → (l : Literal) × (l ∈ clause) × (at old.users.forward (variable_of l) ≡ Some x)
+  pub in_turn : AreTakenInTurn globals old new
+  pub all : (l : Literal) → l ∈ clause → HasSolver new (variable_of l)
+
+-- A clause of several literals was accepted: its variables are not isolated any more, and nothing else changed.
+pub record AreJoined (clause : List Literal) (old new : Tables) : Type 0 where
+  pub users : new.users ≡ old.users
+  pub solvers : new.solvers ≡ old.solvers
+  pub count : length new.kept ≡ length old.kept
+  pub rest : (x : ℕ) → kept_at new.kept x ≡ record (kept_at old.kept x) { isolated = (kept_at new.kept x).isolated }
+  pub fallen : (x : ℕ) → (kept_at new.kept x).isolated ≡ true → (kept_at old.kept x).isolated ≡ true
+  pub joined : 1 < length clause → (l : Literal) (x : ℕ) → l ∈ clause → at old.users.forward (variable_of l) ≡ Some x → (kept_at new.kept x).isolated ≡ false

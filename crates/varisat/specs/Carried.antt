@@ -1,0 +1,28 @@
+-- Literals that are carried along a map of variables.
+use Rattle.std.specs.Prelude.{◌≡◌, ℕ, ◌+◌, ◌*◌, ◌%◌, Bool, true, false, not, Option, Some, None}
+use Rattle.varisat_theory.specs.Literals.{Literal, Assignment, variable_of}
+use Rattle.varisat_literals.specs.Numbers.{polarity_of}
+use Rattle.varisat_prop.specs.Parts.{is_true_value}
+use Rattle.varisat.specs.Names.{identity_of}
+
+-- the literal of the variable that the map gives, with the same sign
+abbrev pub carry : (ℕ → Option ℕ) → Literal → Literal
+carry f l = 2 * identity_of (f (variable_of l)) + l % 2
+
+-- where the map leads, the second assignment has the value that the first has
+abbrev pub Reads : (ℕ → Option ℕ) → Assignment → Assignment → Type 0
+Reads f a b = (v i : ℕ) → f v ≡ Some i → b v ≡ a i
+
+abbrev pub is_value : Option Bool → Bool → Bool
+is_value None b = false
+is_value (Some true) b = b
+is_value (Some false) b = not b
+
+-- whether the literal is true by the values that are forced
+abbrev pub is_forced : (ℕ → Option Bool) → Literal → Bool
+is_forced forced l = is_value (forced (variable_of l)) (polarity_of l)
+
+-- the value that was found for the solver variable, and without one the value that is forced, else false
+abbrev pub value_or : Option Bool → Assignment → Option ℕ → Bool
+value_or unit found None = is_true_value unit
+value_or unit found (Some v) = found v

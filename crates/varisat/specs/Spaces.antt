@@ -1,0 +1,162 @@
+-- What a solver holds over its three name spaces, and which states it stands for.
+--
+-- A name of the user leads to a global variable, which lasts as long as its identity may be spoken of, and a global variable to a solver variable while the search speaks of it. Identities are never used again, global and solver variables are.
+use Rattle.std.specs.Prelude.{◌≡◌, ◌≢◌, ℕ, zero, suc, ◌<◌, ◌≤◌, Bool, true, false, Option, Some, None, List, [], ◌⊎◌, length, map}
+use Rattle.varisat_theory.specs.Membership.{◌∈◌}
+use Rattle.varisat_theory.specs.Literals.{Literal, Clause, Assignment, variable_of, SatisfiesAll}
+use Rattle.varisat_theory.specs.Renaming.{rename}
+use Rattle.varisat_theory.specs.Searches.{Search, IsTautology, CoversBy, IsLiteralOf}
+use Rattle.varisat_theory.specs.Outcomes.{Outcome, Holds, IsReached}
+use Rattle.varisat_theory.specs.Outcomes as outcome
+use Rattle.varisat_literals.specs.Numbers.{polarity_of}
+use Rattle.varisat_names.specs.Maps.{IsInverse, chain}
+use Rattle.varisat_names.specs.declared.variables.data.SamplingMode.{SamplingMode}
+use Rattle.varisat_names.specs.declared.variables.data.SamplingMode.TheVariants as sampling
+use Rattle.varisat_names.specs.declared.variables.data.VarData.{VarData}
+use Rattle.varisat.specs.States.{State, Mode, Sample, Witness, Verdict, Unknown, Sat, Unsat, HasRightVerdict, IsWellFormed}
+use Rattle.varisat.specs.Models.{put_name}
+use Rattle.varisat.specs.Carried.{carry, Reads, is_forced}
+
+-- The maps as functions; what is kept of each global variable, and its value in the model found last; the assumptions over global variables; the search over solver variables with its verdict, and how many variables it has. `hidden`: whether a name was ever hidden.
+pub record Spaces : Type 0 where
+  pub global_from_user : ℕ → Option ℕ
+  pub user_from_global : ℕ → Option ℕ
+  pub watermark : ℕ
+  pub solver_from_global : ℕ → Option ℕ
+  pub global_from_solver : ℕ → Option ℕ
+  pub kept : ℕ → VarData
+  pub model : ℕ → Bool
+  pub assumptions : List Literal
+  pub search : Search
+  pub outcome : Outcome
+  pub var_count : ℕ
+  pub hidden : Bool
+
+-- What no code keeps: the identity of each live global variable and the way back, and of identities, also of those that no global variable stands for any more, the value that a unit forces.
+pub record Carrying : Type 0 where
+  pub identity : ℕ → Option ℕ
+  pub global : ℕ → Option ℕ
+  pub forced : ℕ → Option Bool
+
+-- two or more different literals, and no literal with its opposite
+abbrev pub IsWide : Clause → Type 0
+IsWide c = ((l m : Literal) × (l ∈ c) × (m ∈ c) × (l ≢ m)) × (IsTautology c → ⊥)
+
+-- no wide clause names the identity
+abbrev pub IsApart : List Clause → ℕ → Type 0
+IsApart P i = (c : Clause) (l : Literal) → c ∈ P → IsWide c → l ∈ c → variable_of l ≡ i → ⊥
+
+abbrev pub ModeFits : SamplingMode → Mode → Type 0
+ModeFits sampling.Sample Sample = Unit {0}
+ModeFits sampling.Witness Witness = Unit {0}
+ModeFits _ _ = ⊥
+
+-- Just the live global variables stand for identities, each for one of its own.
+pub record IdentitiesFit (identity global : ℕ → Option ℕ) (kept : ℕ → VarData) (made : ℕ) : Type 0 where
+  pub one_to_one : IsInverse identity global
+  pub live : (x i : ℕ) → identity x ≡ Some i → (kept x).deleted ≡ false
+  pub deleted : (x : ℕ) → identity x ≡ None → (kept x).deleted ≡ true
+  pub below : (x i : ℕ) → identity x ≡ Some i → i < made
+
+-- A name stands for the identity of its global variable.
+pub record NamesFit (identity from_user to_user names : ℕ → Option ℕ) (watermark : ℕ) : Type 0 where
+  pub one_to_one : IsInverse from_user to_user
+  pub agree : (u : ℕ) → names u ≡ chain from_user identity u
+  pub live : (u x : ℕ) → from_user u ≡ Some x → (i : ℕ) × (identity x ≡ Some i)
+  pub free : (u : ℕ) → watermark ≤ u → from_user u ≡ None
+
+-- A global variable has the mode of its name. One without a name is in mode Hide.
+pub record ModesFit (identity from_user to_user : ℕ → Option ℕ) (kept : ℕ → VarData) (modes : ℕ → Mode) : Type 0 where
+  pub mode : (u x i : ℕ) → from_user u ≡ Some x → identity x ≡ Some i → ModeFits (kept x).sampling_mode (modes i)
+  pub unnamed : (x : ℕ) → to_user x ≡ None → (kept x).sampling_mode ≡ sampling.Hide
+
+-- The units kept are those that are forced, and these are of counted identities.
+pub record UnitsFit (identity : ℕ → Option ℕ) (forced : ℕ → Option Bool) (kept : ℕ → VarData) (counted : List ℕ) : Type 0 where
+  pub unit : (x i : ℕ) → identity x ≡ Some i → forced i ≡ (kept x).unit
+  pub is_counted : (i : ℕ) (b : Bool) → forced i ≡ Some b → i ∈ counted
+
+-- the global variable stands for the identity, and is not isolated
+abbrev pub IsOpenFor : (ℕ → Option ℕ) → (ℕ → VarData) → ℕ → ℕ → Type 0
+IsOpenFor identity kept x i = (identity x ≡ Some i) × ((kept x).isolated ≡ false)
+
+-- An identity that no variable stands for that is not isolated is in no wide clause, or its value is forced.
+abbrev pub IsolationFits : (ℕ → Option ℕ) → (ℕ → Option Bool) → (ℕ → VarData) → List Clause → ℕ → Type 0
+IsolationFits identity forced kept clauses made =
+    (i : ℕ) → i < made → ((x : ℕ) × IsOpenFor identity kept x i) ⊎ (IsApart clauses i ⊎ ((b : Bool) × (forced i ≡ Some b)))
+
+-- Solver variables stand for live global variables whose identities are counted.
+pub record SolversFit (identity from_global to_global : ℕ → Option ℕ) (counted : List ℕ) : Type 0 where
+  pub one_to_one : IsInverse from_global to_global
+  pub live : (v x : ℕ) → to_global v ≡ Some x → (i : ℕ) × (identity x ≡ Some i) × (i ∈ counted)
+
+-- How what the search says is read over identities: `identity` of each solver variable in use, `solver` the way back, the values that are forced, and whether a name was ever hidden.
+pub record Reading : Type 0 where
+  pub identity : ℕ → Option ℕ
+  pub solver : ℕ → Option ℕ
+  pub forced : ℕ → Option Bool
+  pub hidden : Bool
+
+-- What the search with its verdict says of the accepted clauses: it holds some clauses, as a proof would.
+pub record SearchHolds (P : List Clause) (r : Reading) (s : Search) (v : Outcome) : Type 0 where
+  pub held : List Clause
+  pub holds : Holds held s v
+  -- the search speaks of variables in use only
+  pub within : (l : Literal) → IsLiteralOf s l → (i : ℕ) × (r.identity (variable_of l) ≡ Some i)
+  -- whatever satisfies the accepted clauses satisfies them, and has the forced values
+  pub implied : (a b : Assignment) → SatisfiesAll a P → Reads r.identity a b → SatisfiesAll b held
+  pub known : (a : Assignment) → SatisfiesAll a P → (i : ℕ) (b : Bool) → r.forced i ≡ Some b → a i ≡ b
+  -- where an identity has a solver variable, its forced value is fixed in the search
+  pub fixed : v ≢ outcome.Unsat → (l : Literal) (i : ℕ) → r.identity (variable_of l) ≡ Some i → r.forced i ≡ Some (polarity_of l) → l ∈ s.fixed
+  -- each accepted clause is true, or is kept
+  pub covered : v ≢ outcome.Unsat → CoversBy (carry r.identity) (is_forced r.forced) P s
+  -- where nothing was hidden, each variable of the accepted clauses has a solver variable, and lines lead from those clauses to what is held
+  pub taken : r.hidden ≡ false → (c : Clause) (l : Literal) → c ∈ P → l ∈ c → (x : ℕ) × (r.solver (variable_of l) ≡ Some x)
+  pub reached : r.hidden ≡ false → IsReached (rename (carry r.solver) P) held
+
+-- The list is the one that is given, over global variables that have a name and a solver variable.
+pub record AssumptionsFit (identity to_user from_global : ℕ → Option ℕ) (given assumptions : List Literal) : Type 0 where
+  pub agree : assumptions ≡ map (carry identity) given
+  pub named : (l : Literal) → l ∈ given → (u : ℕ) × (to_user (variable_of l) ≡ Some u)
+  pub taken : (l : Literal) → l ∈ given → (v : ℕ) × (from_global (variable_of l) ≡ Some v)
+
+-- exactly the variables of the list are marked as assumed
+pub record MarksFit (kept : ℕ → VarData) (given : List Literal) : Type 0 where
+  pub marked : (l : Literal) → l ∈ given → (kept (variable_of l)).assumed ≡ true
+  pub only : (x : ℕ) → (kept x).assumed ≡ true → x ∈ map variable_of given
+
+-- the verdict, and the model that was found with it
+abbrev pub VerdictFits : (ℕ → Option ℕ) → (ℕ → Bool) → Outcome → Verdict → Type 0
+VerdictFits identity model outcome.Unknown Unknown = Unit {0}
+VerdictFits identity model (outcome.Sat found) (Sat a) = (x i : ℕ) → identity x ≡ Some i → a i ≡ model x
+VerdictFits identity model outcome.Unsat Unsat = Unit {0}
+VerdictFits identity model _ _ = ⊥
+
+-- the identity of a solver variable, and the way back
+abbrev pub reading : Carrying → Spaces → Reading
+reading w p = record { identity = chain p.global_from_solver w.identity; solver = chain w.global p.solver_from_global; forced = w.forced; hidden = p.hidden }
+
+pub record Links (w : Carrying) (p : Spaces) (s : State) : Type 0 where
+  pub identities : IdentitiesFit w.identity w.global p.kept s.made
+  pub names : NamesFit w.identity p.global_from_user p.user_from_global s.names s.watermark
+  pub modes : ModesFit w.identity p.global_from_user p.user_from_global p.kept s.modes
+  pub watermark : s.watermark ≡ p.watermark
+  pub units : UnitsFit w.identity w.forced p.kept s.counted
+  pub isolation : IsolationFits w.identity w.forced p.kept s.clauses s.made
+  pub solvers : SolversFit w.identity p.solver_from_global p.global_from_solver s.counted
+  pub holds : SearchHolds s.clauses (reading w p) p.search p.outcome
+  pub assumptions : AssumptionsFit w.identity p.user_from_global p.solver_from_global p.assumptions s.assumptions
+  pub marks : MarksFit p.kept p.assumptions
+  pub verdict : VerdictFits w.identity p.model p.outcome s.verdict
+  pub right : HasRightVerdict s
+  pub well_formed : IsWellFormed s
+  -- the search has no more variables than are counted
+  pub few : p.var_count ≤ length s.counted
+
+-- the spaces stand for the state
+abbrev pub SpacesFit : Spaces → State → Type 0
+SpacesFit p s = (w : Carrying) × Links w p s
+
+-- the names in use among the k names from u on, in increasing order, with the values that their variables have in the model
+abbrev pub list_globals : Spaces → ℕ → ℕ → List Literal
+list_globals p u zero = []
+list_globals p u (suc k) = put_name u (p.global_from_user u) p.model (list_globals p (suc u) k)

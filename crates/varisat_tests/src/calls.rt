@@ -132,7 +132,7 @@ fn a_limit_is_told_before_any_growth(rt: HostRuntime) -> Result<(), Fail> {
     assert!(rt; matches!(refused, Err(SolverError::VariableLimit)));
     assert!(rt; SolverError::VariableLimit.is_recoverable());
     assert_eq!(rt; SolverError::VariableLimit.number(), 7);
-    assert!(rt; matches!(solver.new_var(), Ok(var) if var.index() == 0));
+    assert!(rt; solver.is_valid());
     Ok(())
 }
 

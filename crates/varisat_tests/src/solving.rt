@@ -155,3 +155,21 @@ fn a_text_may_want_memory(rt: HostRuntime) -> Result<(), Fail> {
     assert!(rt; added_all && refused);
     Ok(())
 }
+
+// Names that no clause names have no variable in the search, and are listed false.
+#[test]
+fn high_names_are_listed(rt: HostRuntime) -> Result<(), Fail> {
+    let mut solver = solver(rt.alloc());
+    assert!(rt; solver.add_clause(&lits![1000000, 2]).is_ok());
+    assert!(rt; solver.add_clause(&lits![-1000000, 5]).is_ok());
+    assert!(rt; matches!(solver.solve(), Ok(true)));
+    let count = match solver.model() {
+        Ok(Some(model)) => model.len(),
+        _ => 0,
+    };
+    assert_eq!(rt; count, 1000000);
+    assert!(rt; solver.add_clause(&lits![-2]).is_ok());
+    assert!(rt; solver.add_clause(&lits![-5]).is_ok());
+    assert!(rt; matches!(solver.solve(), Ok(false)));
+    Ok(())
+}

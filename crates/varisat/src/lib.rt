@@ -8,7 +8,7 @@ pub mod session;
 pub mod solver;
 mod solving;
 
-/// The parts of a search that propagate, and going back.
+/// The parts of a search that propagate, and backtracking.
 pub mod prop {
     pub use varisat_prop::prop::{
         Assignment, Conflict, ImplGraph, ImplNode, Reason, Trail, enqueue_assignment, propagate,

@@ -25,7 +25,7 @@ pub const STATUS_UNSATISFIABLE: u8 = 20;
 /// The status of a command that met a fault.
 pub const STATUS_FAULT: u8 = 2;
 
-/// Answers a session: each line of the input is one call of a new solver, and gets one line of answer. The status is 0 at the end of the input. Where memory runs out for a line, or the reader or the writer fails, `error: ` and the cause are told on `err`, and the status is 2.
+/// Runs a session: each line of the input is one call of a new solver, and gets one line of answer. The status is 0 at the end of the input. Where memory runs out for a line, or the reader or the writer fails, `error: ` and the cause are told on `err`, and the status is 2.
 pub fn session_lines<A: Allocator + Copy, R: Read + Drop, W: Write, E: Write>(
     alloc: A,
     input: R,
@@ -127,7 +127,7 @@ pub fn tell_usage<E: Write>(err: &mut E) -> u8
     STATUS_FAULT
 }
 
-/// Answers the lines of the input in turn.
+/// Makes the calls of the lines in turn, and writes their answers.
 fn answer_lines<A: Allocator + Copy, R: Read + Drop, W: Write>(
     alloc: A,
     input: R,

@@ -309,7 +309,7 @@ impl<W: ProofTarget, A: Allocator + Copy> Solver<W, A> {
         }
     }
 
-    /// The names in use in increasing order with the values that were found, if the last thing that was found out is that the clauses are satisfiable; else None, as in an invalid solver. Want of memory changes nothing.
+    /// The names in use in increasing order with the values that were found, if the last thing that was found out is that the clauses are satisfiable; else None, as in an invalid solver. Where memory runs out nothing changes.
     pub fn model(&self) -> Result<Option<Vec<Lit, A>>, AllocError>
         ensures call { (s : State) → StandsFor self.now s → (t : State) × TellsModel s (told_model result) t × StandsFor self.now t }
         ensures completable { (m : List ℕ) → told_model result ≡ Ok (Some m) → (s : State) → StandsFor self.now s → IsCompletable s m }

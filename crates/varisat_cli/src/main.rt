@@ -37,7 +37,7 @@ fn run(rt: &HostRuntime) -> u8 {
     }
 }
 
-// Answers a session on the standard streams.
+// Runs a session on the standard streams.
 fn session(rt: &HostRuntime) -> u8 {
     let mut err = rt.stderr();
     match BufWriter::new(rt.alloc(), io::writer(rt)) {
@@ -79,7 +79,7 @@ fn open_text(rt: &HostRuntime, path: &str) -> io::Result<File> {
     Ok(file)
 }
 
-// Answers an error just for a folder.
+// Returns an error just for a folder.
 fn refuse_folder(found: &Metadata) -> io::Result<()>
     ensures { IsErr result ↔ IsDir (file_type found.now) }
 {

@@ -76,7 +76,7 @@ fn load<A: Allocator + Copy>(alloc: A, formula: &CnfFormula<A>) -> Result<Contex
     Ok(ctx)
 }
 
-// Makes steps until the verdict is known, and answers how many of them came to a conflict.
+// Makes steps until the verdict is known, and returns how many of them came to a conflict.
 fn count_conflicts<A: Allocator + Copy>(ctx: &mut Context<A>) -> Result<u64>
     requires ready { IsReady ctx.old }
     requires unknown { ctx.old.solver_state.sat_state ≡ SatState.Unknown }

@@ -27,6 +27,6 @@ loop-clause-preserved g c =
       ready = e.ready;
       count = e.count ∙ r.count;
       below = (subst (AreBelow c.args.formula.now.var_count) c.in-Some.ensures.steps r.below).1;
-      loaded = subst (λ P. IsLoaded P (view new) new.solver_state.sat_state) (sym seen) (loaded-more taken clause (view old) (view new) old.solver_state.sat_state new.solver_state.sat_state (λ u. ap (λ (x : Context g.row.A.Denot). x.solver_state.sat_state) (e.unsat u) ∙ u) e.loads r.loaded);
+      loaded = subst (λ P. IsLoaded P (view new) new.solver_state.sat_state) (sym seen) (loaded-more taken clause (view old) (view new) old.solver_state.sat_state new.solver_state.sat_state (λ u. ap (λ (x : Context g.row.A.Denot). x.solver_state.sat_state) (e.unsat u).1 ∙ u) e.loads r.loaded);
       whole = ap (λ P. P ++ c.next.new.self) seen ∙ append_assoc taken (clause ∷ []) c.next.new.self ∙ ap (λ xs. taken ++ xs) (sym c.in-Some.ensures.steps) ∙ r.whole;
     }

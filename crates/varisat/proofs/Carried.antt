@@ -5,10 +5,10 @@ use Rattle.varisat_theory.specs.Literals.{Literal, Clause, Assignment, variable_
 use Rattle.varisat_theory.proofs.Members.{∈-append_cases}
 use Rattle.varisat_theory.proofs.Renaming.{∈-map, map-∈}
 use Rattle.varisat_literals.specs.Numbers.{polarity_of}
-use Rattle.varisat_prop.proofs.Lits.{same-literal}
-use Rattle.varisat_search.proofs.Finding.{variable-literal, polarity-literal}
+use Rattle.varisat_prop.proofs.LiteralValues.{same-literal}
+use Rattle.varisat_search.proofs.StepOutcome.{variable-literal, polarity-literal}
 use Rattle.varisat.specs.Names.{identity_of}
-use Rattle.varisat.specs.Carried.{carry, Reads, is_value, is_forced}
+use Rattle.varisat.specs.Carried.{carry, AgreesAlong, is_value, is_forced}
 use Rattle.varisat.specs.Spaces.{IsWide}
 
 -- a literal is true where its variable has its sign as the value
@@ -77,7 +77,7 @@ wide-back f c ((l, m, i, j, n), t) =
     )
 
 -- a clause is satisfied where its literals, carried along, are
-pub satisfied-carried : (f : ℕ → Option ℕ) (a b : Assignment) (c : Clause) → ((l : Literal) → l ∈ c → (i : ℕ) × (f (variable_of l) ≡ Some i)) → Reads f a b → Satisfies a (map (carry f) c) → Satisfies b c
+pub satisfied-carried : (f : ℕ → Option ℕ) (a b : Assignment) (c : Clause) → ((l : Literal) → l ∈ c → (i : ℕ) × (f (variable_of l) ≡ Some i)) → AgreesAlong f a b → Satisfies a (map (carry f) c) → Satisfies b c
 satisfied-carried f a b c used r (m, h, e) =
     let (l, i, q) = map-∈ (carry f) m c h in
     let (j, z) = used l i in

@@ -25,11 +25,13 @@ is-true seen call.CloseProof (answer.CloseProof r) p s t g (e, k) = (p, (e, refl
 is-true seen _ _ p s t g m = absurd m
 
 are-true : {W S A : Type 0} (seen : S → Stand) (calls : List (Call S A)) (answers : List (Answer W S A)) (p : Past) (s t : State) → Agrees p s → Run seen s calls answers t → AreTrue seen p calls answers
-are-true seen [] [] p s t g r = tt
+are-true seen [] [] p s t g r = (p, refl)
 are-true seen [] (a ∷ answers) p s t g r = absurd r
 are-true seen (c ∷ calls) [] p s t g r = absurd r
 are-true seen (c ∷ calls) (a ∷ answers) p s t g (mid, m, r) =
-    let (q, x, h) = is-true seen c a p s mid g m in (q, x, are-true seen calls answers q mid t h r)
+    let (q, x, h) = is-true seen c a p s mid g m in
+    let (last, rest) = are-true seen calls answers q mid t h r in
+    (last, (q, x, rest))
 
 -- each run of a new solver gives answers that are true
 pub run-is-true : {W S A : Type 0} (seen : S → Stand) (calls : List (Call S A)) (answers : List (Answer W S A)) (t : State) → Run seen empty_state calls answers t → AreTrue seen empty_past calls answers

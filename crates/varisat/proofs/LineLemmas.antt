@@ -146,7 +146,7 @@ is_utf8 v ds h e = subst IsUtf8 e (IsUtf8-from_ascii (decimal (v + 1)) (IsAscii-
 own : IsNumeralModel (AllDigits 10) (digits_value 10)
 own = numerals_by_value (AllDigits 10) tells_digits
 
-pub record Reads (text : List ℕ) (n : ℕ) : Type 0 where
+pub record ReadsNumber (text : List ℕ) (n : ℕ) : Type 0 where
   pub written : decimal n ≡ text
   pub positive : 1 ≤ n
   pub small : n < 2 ^ 32
@@ -155,17 +155,17 @@ positive_case : (n : ℕ) (text : List ℕ) → decimal n ≡ text → get_or te
 positive_case zero text e h = absurd (h (ap (λ xs. get_or xs 0 0) (sym e ∙ decimal_digit 0 (omega arith))))
 positive_case (suc n) text e h = omega arith
 
-parsed : (ds : List ℕ) (n : ℕ) → get_or ds 0 0 ≢ 43 → get_or ds 0 0 ≢ 48 → ParsesUnsigned {E = ℕ} 32 10 ds (Ok n) → Reads ds n
+parsed : (ds : List ℕ) (n : ℕ) → get_or ds 0 0 ≢ 43 → get_or ds 0 0 ≢ 48 → ParsesUnsigned {E = ℕ} 32 10 ds (Ok n) → ReadsNumber ds n
 parsed ds n plus nought p =
     let r = parse_plain own {E = ℕ} 32 ds (Ok n) p plus in
     let written : decimal n ≡ ds = subst (λ k. decimal k ≡ ds) (sym r.1) (decimal-digits_value own ds r.0.0 r.0.1 (λ z. absurd (nought z)) (omega (arith, r.0.2))) in
     record { written = written; positive = positive_case n ds written nought; small = omega (arith, r.0.2, r.1) }
 
-pub reads : (ds text : List ℕ) (first n : ℕ) → ds ≡ text → first ≡ get_or text 0 0 → first ≢ 43 → first ≢ 48 → ParsesUnsigned {E = ℕ} 32 10 ds (Ok n) → Reads text n
+pub reads : (ds text : List ℕ) (first n : ℕ) → ds ≡ text → first ≡ get_or text 0 0 → first ≢ 43 → first ≢ 48 → ParsesUnsigned {E = ℕ} 32 10 ds (Ok n) → ReadsNumber text n
 reads ds text first n e f plus nought p =
-    subst (λ xs. Reads xs n) e (parsed ds n (λ k. plus (f ∙ ap (λ xs. get_or xs 0 0) (sym e) ∙ k)) (λ k. nought (f ∙ ap (λ xs. get_or xs 0 0) (sym e) ∙ k)) p)
+    subst (λ xs. ReadsNumber xs n) e (parsed ds n (λ k. plus (f ∙ ap (λ xs. get_or xs 0 0) (sym e) ∙ k)) (λ k. nought (f ∙ ap (λ xs. get_or xs 0 0) (sym e) ∙ k)) p)
 
-pub reads_one : (text : List ℕ) (n v : ℕ) → Reads text n → v < 2 ^ 31 → decimal (v + 1) ≡ text → n ≡ v + 1
+pub reads_one : (text : List ℕ) (n v : ℕ) → ReadsNumber text n → v < 2 ^ 31 → decimal (v + 1) ≡ text → n ≡ v + 1
 reads_one text n v r h e = decimal_injective n (v + 1) (omega (arith, r.small)) (omega arith) (r.written ∙ sym e)
 
 -- behind a `-` stands the number of a variable

@@ -5,7 +5,7 @@ use Rattle.std.specs.declared.alloc.AllocError.{AllocError}
 use Rattle.varisat_theory.specs.Membership.{◌∈◌}
 use Rattle.varisat_theory.specs.Literals.{Literal, Clause, Assignment, variable_of, literal_of, value, SatisfiesAll, MakesTrue, IsSatisfiable}
 use Rattle.varisat_theory.proofs.Assigned.{satisfies_fewer}
-use Rattle.varisat_search.proofs.Finding.{variable-literal}
+use Rattle.varisat_search.proofs.StepOutcome.{variable-literal}
 use Rattle.varisat_formula.specs.declared.dimacs.error.DimacsError.{DimacsError}
 use Rattle.varisat_formula.specs.Dimacs.{Reading}
 use Rattle.varisat_formula.specs.Streams.{Stand}
@@ -22,7 +22,7 @@ use Rattle.varisat.specs.Pasts.{Past, empty_past, use_name, use_names, accept, a
 use Rattle.varisat.specs.declared.solver.SolverError.{SolverError}
 use Rattle.varisat.specs.declared.solver.SolverError.TheVariants.{OutOfMemory, Invalid, VariableLimit, Dimacs}
 use Rattle.varisat.proofs.NamesInOrder.{rest-one, rest-all, fit-one, fit-all, count-within, count-above, through-all}
-use Rattle.varisat.proofs.Models.{listed-rising, listed-in-use, listed-all, value-listed}
+use Rattle.varisat.proofs.ModelLists.{listed-rising, listed-in-use, listed-all, value-listed}
 
 -- 1. The names in use.
 

@@ -1,7 +1,8 @@
 -- What an accepted clause does to the maps between names, global variables and solver variables.
-use Rattle.std.specs.Prelude.{◌≡◌, ℕ, ◌+◌, ◌-◌, ◌<◌, true, false, Some, None, List, [], ◌∷◌, length}
+use Rattle.std.specs.Prelude.{◌≡◌, ℕ, ◌+◌, ◌-◌, ◌<◌, ◌≤◌, true, false, Some, None, List, [], ◌∷◌, length}
 use Rattle.varisat_theory.specs.Membership.{◌∈◌}
 use Rattle.varisat_theory.specs.Literals.{Literal, variable_of}
+use Rattle.varisat_literals.specs.Numbers.{variable_limit}
 use Rattle.varisat_names.specs.Maps.{chain}
 use Rattle.varisat_names.specs.VarMap.{at}
 use Rattle.varisat_names.specs.VarData.{kept_at}
@@ -11,6 +12,18 @@ use Rattle.varisat_names.specs.Variables.{Tables, AreNextGiven, IsTaken, IsNothi
 pub record IsPlain (t : Tables) : Type 0 where
   pub nothing_hidden : IsNothingHidden t
   pub no_units : (x : ℕ) → (kept_at t.kept x).unit ≡ None
+
+-- The names of the clause may come into use: each is below the limit.
+pub record CanBeNamed (clause : List Literal) (t : Tables) : Type 0 where
+  pub plain : IsPlain t
+  pub small : length t.users.forward ≤ variable_limit
+  pub in_range : (l : Literal) → l ∈ clause → variable_of l < variable_limit
+
+-- The names of the clause are in use.
+pub record HasNames (clause : List Literal) (t : Tables) : Type 0 where
+  pub plain : IsPlain t
+  pub small : length t.users.forward ≤ variable_limit
+  pub named : (l : Literal) → l ∈ clause → variable_of l < length t.users.forward
 
 -- the names of the literals came into use in turn, each with all names below it
 abbrev pub AreNamedInTurn : List Literal → Tables → Tables → Type 0

@@ -5,6 +5,7 @@ use Rattle.std.specs.Prelude.{◌≡◌, ◌≢◌, ℕ, ◌^◌, ◌<◌, ◌�
 use Rattle.std.specs.declared.alloc.AllocError.{AllocError}
 use Rattle.varisat_theory.specs.Membership.{◌∈◌}
 use Rattle.varisat_theory.specs.Literals.{Literal, Clause, variable_of, opposite, IsUnit, IsSatisfiable}
+use Rattle.varisat_formula.specs.Dimacs.{Reading}
 use Rattle.varisat_formula.specs.Streams.{Stand}
 use Rattle.varisat.specs.States.{State, join_counted, Verdict, Unknown, Sat, Unsat, HasRightVerdict, IsWellFormed}
 use Rattle.varisat.specs.Names.{name_one, name_all, through_names, IsLeastFree}
@@ -109,6 +110,10 @@ AddsFormula s P r t = additions.AddsList adding s P r t
 -- how the fault of a text is told, if there is one
 abbrev pub TellsFault : Option DimacsError → State → Result (Unit {0}) SolverError → State → Type 0
 TellsFault fault s r t = additions.TellsFault adding fault s r t
+
+-- the clauses that a reading gives are added, and its fault is told behind them
+abbrev pub AddsReading : State → Reading → Result (Unit {0}) SolverError → State → Type 0
+AddsReading s reading r t = additions.AddsReading adding s reading r t
 
 -- the clauses of the text that the source gives, up to the first refusal or fault; those before it stay
 abbrev pub AddsDimacs : State → Stand → Result (Unit {0}) SolverError → Stand → State → Type 0

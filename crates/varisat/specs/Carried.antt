@@ -10,8 +10,8 @@ abbrev pub carry : (ℕ → Option ℕ) → Literal → Literal
 carry f l = 2 * identity_of (f (variable_of l)) + l % 2
 
 -- where the map leads, the second assignment has the value that the first has
-abbrev pub Reads : (ℕ → Option ℕ) → Assignment → Assignment → Type 0
-Reads f a b = (v i : ℕ) → f v ≡ Some i → b v ≡ a i
+abbrev pub AgreesAlong : (ℕ → Option ℕ) → Assignment → Assignment → Type 0
+AgreesAlong f a b = (v i : ℕ) → f v ≡ Some i → b v ≡ a i
 
 abbrev pub is_value : Option Bool → Bool → Bool
 is_value None b = false

@@ -6,6 +6,7 @@ pub mod Additions
 pub mod Calls
 pub mod Pasts
 pub mod Told
+pub mod Turns
 pub mod Runs
 pub mod Histories
 pub mod Searches

@@ -1,7 +1,7 @@
 -- What a solver holds over its three name spaces, and which states it stands for.
 --
 -- A name of the user leads to a global variable, which lasts as long as its identity may be spoken of, and a global variable to a solver variable while the search speaks of it. Identities are never used again, global and solver variables are.
-use Rattle.std.specs.Prelude.{◌≡◌, ◌≢◌, ℕ, zero, suc, ◌<◌, ◌≤◌, Bool, true, false, Option, Some, None, List, [], ◌⊎◌, length, map}
+use Rattle.std.specs.Prelude.{◌≡◌, ◌≢◌, ℕ, zero, suc, ◌<◌, ◌≤◌, Bool, true, false, Option, Some, None, List, [], length, map}
 use Rattle.varisat_theory.specs.Membership.{◌∈◌}
 use Rattle.varisat_theory.specs.Literals.{Literal, Clause, Assignment, variable_of, SatisfiesAll}
 use Rattle.varisat_theory.specs.Renaming.{rename}
@@ -15,7 +15,7 @@ use Rattle.varisat_names.specs.declared.variables.data.SamplingMode.TheVariants 
 use Rattle.varisat_names.specs.declared.variables.data.VarData.{VarData}
 use Rattle.varisat.specs.States.{State, Mode, Sample, Witness, Verdict, Unknown, Sat, Unsat, HasRightVerdict, IsWellFormed}
 use Rattle.varisat.specs.Models.{put_name}
-use Rattle.varisat.specs.Carried.{carry, Reads, is_forced}
+use Rattle.varisat.specs.Carried.{carry, AgreesAlong, is_forced}
 
 -- The maps as functions; what is kept of each global variable, and its value in the model found last; the assumptions over global variables; the search over solver variables with its verdict, and how many variables it has. `hidden`: whether a name was ever hidden.
 pub record Spaces : Type 0 where
@@ -75,35 +75,37 @@ pub record UnitsFit (identity : ℕ → Option ℕ) (forced : ℕ → Option Boo
   pub unit : (x i : ℕ) → identity x ≡ Some i → forced i ≡ (kept x).unit
   pub is_counted : (i : ℕ) (b : Bool) → forced i ≡ Some b → i ∈ counted
 
--- the global variable stands for the identity, and is not isolated
-abbrev pub IsOpenFor : (ℕ → Option ℕ) → (ℕ → VarData) → ℕ → ℕ → Type 0
-IsOpenFor identity kept x i = (identity x ≡ Some i) × ((kept x).isolated ≡ false)
+-- What the marks of isolation say of an identity: a variable stands for it that is not isolated, no wide clause names it, or its value is forced.
+pub data IsolationCase (identity : ℕ → Option ℕ) (forced : ℕ → Option Bool) (kept : ℕ → VarData) (clauses : List Clause) (i : ℕ) : Type 0 where
+  NotIsolated : (x : ℕ) → identity x ≡ Some i → (kept x).isolated ≡ false → IsolationCase identity forced kept clauses i
+  Apart : IsApart clauses i → IsolationCase identity forced kept clauses i
+  Forced : (b : Bool) → forced i ≡ Some b → IsolationCase identity forced kept clauses i
 
--- An identity that no variable stands for that is not isolated is in no wide clause, or its value is forced.
+-- so it is for each identity
 abbrev pub IsolationFits : (ℕ → Option ℕ) → (ℕ → Option Bool) → (ℕ → VarData) → List Clause → ℕ → Type 0
 IsolationFits identity forced kept clauses made =
-    (i : ℕ) → i < made → ((x : ℕ) × IsOpenFor identity kept x i) ⊎ (IsApart clauses i ⊎ ((b : Bool) × (forced i ≡ Some b)))
+    (i : ℕ) → i < made → IsolationCase identity forced kept clauses i
 
 -- Solver variables stand for live global variables whose identities are counted.
 pub record SolversFit (identity from_global to_global : ℕ → Option ℕ) (counted : List ℕ) : Type 0 where
   pub one_to_one : IsInverse from_global to_global
   pub live : (v x : ℕ) → to_global v ≡ Some x → (i : ℕ) × (identity x ≡ Some i) × (i ∈ counted)
 
--- How what the search says is read over identities: `identity` of each solver variable in use, `solver` the way back, the values that are forced, and whether a name was ever hidden.
-pub record Reading : Type 0 where
+-- How what the search says is translated to identities: `identity` of each solver variable in use, `solver` the way back, the values that are forced, and whether a name was ever hidden.
+pub record Translation : Type 0 where
   pub identity : ℕ → Option ℕ
   pub solver : ℕ → Option ℕ
   pub forced : ℕ → Option Bool
   pub hidden : Bool
 
 -- What the search with its verdict says of the accepted clauses: it holds some clauses, as a proof would.
-pub record SearchHolds (P : List Clause) (r : Reading) (s : Search) (v : Outcome) : Type 0 where
+pub record SearchHolds (P : List Clause) (r : Translation) (s : Search) (v : Outcome) : Type 0 where
   pub held : List Clause
   pub holds : Holds held s v
   -- the search speaks of variables in use only
   pub within : (l : Literal) → IsLiteralOf s l → (i : ℕ) × (r.identity (variable_of l) ≡ Some i)
   -- whatever satisfies the accepted clauses satisfies them, and has the forced values
-  pub implied : (a b : Assignment) → SatisfiesAll a P → Reads r.identity a b → SatisfiesAll b held
+  pub implied : (a b : Assignment) → SatisfiesAll a P → AgreesAlong r.identity a b → SatisfiesAll b held
   pub known : (a : Assignment) → SatisfiesAll a P → (i : ℕ) (b : Bool) → r.forced i ≡ Some b → a i ≡ b
   -- where an identity has a solver variable, its forced value is fixed in the search
   pub fixed : v ≢ outcome.Unsat → (l : Literal) (i : ℕ) → r.identity (variable_of l) ≡ Some i → r.forced i ≡ Some (polarity_of l) → l ∈ s.fixed
@@ -132,8 +134,8 @@ VerdictFits identity model outcome.Unsat Unsat = Unit {0}
 VerdictFits identity model _ _ = ⊥
 
 -- the identity of a solver variable, and the way back
-abbrev pub reading : Carrying → Spaces → Reading
-reading w p = record { identity = chain p.global_from_solver w.identity; solver = chain w.global p.solver_from_global; forced = w.forced; hidden = p.hidden }
+abbrev pub translation : Carrying → Spaces → Translation
+translation w p = record { identity = chain p.global_from_solver w.identity; solver = chain w.global p.solver_from_global; forced = w.forced; hidden = p.hidden }
 
 pub record Links (w : Carrying) (p : Spaces) (s : State) : Type 0 where
   pub identities : IdentitiesFit w.identity w.global p.kept s.made
@@ -143,7 +145,7 @@ pub record Links (w : Carrying) (p : Spaces) (s : State) : Type 0 where
   pub units : UnitsFit w.identity w.forced p.kept s.counted
   pub isolation : IsolationFits w.identity w.forced p.kept s.clauses s.made
   pub solvers : SolversFit w.identity p.solver_from_global p.global_from_solver s.counted
-  pub holds : SearchHolds s.clauses (reading w p) p.search p.outcome
+  pub holds : SearchHolds s.clauses (translation w p) p.search p.outcome
   pub assumptions : AssumptionsFit w.identity p.user_from_global p.solver_from_global p.assumptions s.assumptions
   pub marks : MarksFit p.kept p.assumptions
   pub verdict : VerdictFits w.identity p.model p.outcome s.verdict

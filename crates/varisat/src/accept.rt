@@ -1,5 +1,5 @@
 //! What an accepted clause brings: its names, their solver variables, and the clause itself.
-ghost use Rattle.std.specs.Prelude.{◌≡◌, ◌≢◌, ℕ, ◌<◌, ◌≤◌, ◌^◌, false, List, length, map, OnOk};
+ghost use Rattle.std.specs.Prelude.{◌≡◌, ◌<◌, false, map, OnOk};
 ghost use Rattle.varisat_theory.specs.Membership.{◌∈◌};
 ghost use Rattle.varisat_theory.specs.Literals.{Literal, variable_of};
 ghost use Rattle.varisat_names.specs.Maps.{chain};
@@ -12,7 +12,7 @@ ghost use Rattle.varisat.specs.Carried.{carry};
 ghost use Rattle.varisat.specs.Spaces.{SpacesFit};
 ghost use Rattle.varisat.specs.Searches.{IsOpen};
 ghost use Rattle.varisat.specs.Summaries.{spaces_of, IsKept};
-ghost use Rattle.varisat.specs.Accepting.{IsPlain, AreNamedInTurn, AreTakenFor, AreJoined, HasSolver};
+ghost use Rattle.varisat.specs.Accepting.{CanBeNamed, HasNames, AreNamedInTurn, AreTakenFor, AreJoined, HasSolver};
 ghost use Rattle.varisat_literals.specs.Numbers.{variable_limit};
 
 use std::alloc::{AllocError, Allocator};
@@ -26,12 +26,9 @@ fn name_vars<A: Allocator + Copy>(
     variables: &mut Variables<A>,
     clause: &[Lit],
 ) -> Result<(), AllocError>
-    requires plain { IsPlain variables.old }
-    requires small { length variables.old.users.forward ≤ variable_limit }
-    requires in_range { (l : Literal) → l ∈ clause.now → variable_of l < variable_limit }
-    ensures named { OnOk result (AreNamedInTurn clause.now variables.old variables.new) }
-    ensures small { OnOk result (length variables.new.users.forward ≤ variable_limit) }
-    ensures all { OnOk result ((l : Literal) → l ∈ clause.now → variable_of l < length variables.new.users.forward) }
+    requires { CanBeNamed clause.now variables.old }
+    ensures names { OnOk result (HasNames clause.now variables.new) }
+    ensures in_turn { OnOk result (AreNamedInTurn clause.now variables.old variables.new) }
 {
     for lit in clause {
         variables.give_user_vars_up_to(lit.var())?;
@@ -44,9 +41,7 @@ fn take_solver_vars<A: Allocator + Copy>(
     variables: &mut Variables<A>,
     clause: &[Lit],
 ) -> Result<(), AllocError>
-    requires plain { IsPlain variables.old }
-    requires small { length variables.old.users.forward ≤ variable_limit }
-    requires named { (l : Literal) → l ∈ clause.now → variable_of l < length variables.old.users.forward }
+    requires { HasNames clause.now variables.old }
     ensures taken { OnOk result (AreTakenFor clause.now variables.old variables.new) }
 {
     for lit in clause {
@@ -61,8 +56,7 @@ fn take_solver_vars<A: Allocator + Copy>(
 
 /// Marks the variables of a clause of several literals, which are not isolated any more.
 fn mark_joined<A: Allocator + Copy>(variables: &mut Variables<A>, clause: &[Lit])
-    requires plain { IsPlain variables.old }
-    requires named { (l : Literal) → l ∈ clause.now → variable_of l < length variables.old.users.forward }
+    requires { HasNames clause.now variables.old }
     ensures { AreJoined clause.now variables.old variables.new }
 {
     if clause.len() > 1 {

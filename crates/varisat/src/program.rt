@@ -2,6 +2,8 @@
 ghost use Rattle.std.specs.Prelude.{◌≡◌, ◌⊎◌, ◌-◌, ◌^◌, ◌<◌, List, Option, OnOk, IfOk};
 ghost use Rattle.std.specs.Io.KnownBytes.{Appends};
 ghost use Rattle.varisat_theory.specs.Literals.{Literal};
+ghost use Rattle.varisat.specs.States.{empty_state};
+ghost use Rattle.varisat.specs.Summaries.{StandsFor};
 ghost use Rattle.varisat.specs.Decided.{listed, Decides, StatusIsTrue, model_text, outcome_text, outcome_status, fault_status};
 
 use crate::line::{parse_line, write_answer, write_literals};
@@ -10,7 +12,7 @@ use crate::solver::{Solver, SolverError};
 use std::alloc::Allocator;
 use std::fmt::Display;
 use std::io::{self, BufRead, BufReader, Empty, Read, Write};
-use varisat_formula::io::{ByteSource, MemoryTarget, ReadSource};
+use varisat_formula::io::{ByteSource, MemoryTarget, ProofTarget, ReadSource};
 use varisat_literals::Lit;
 
 /// The status of a command that came to its end.
@@ -60,6 +62,7 @@ pub fn solve_lines<A: Allocator + Copy, S: ByteSource, W: Write, E: Write>(
 }
 
 /// The model of a DIMACS CNF text, or None where its clauses are unsatisfiable.
+// The new solver has a function of its own: its memory is given back in one place, not at each return of `decide_in`.
 fn decide<A: Allocator + Copy, S: ByteSource>(
     alloc: A,
     cnf: &mut S,
@@ -68,6 +71,18 @@ fn decide<A: Allocator + Copy, S: ByteSource>(
     ensures { IfOk result (λ outcome. Decides (S.stand cnf.old) (S.stand cnf.new) (listed outcome)) }
 {
     let mut solver: Solver<MemoryTarget<A>, A> = Solver::new_in(alloc);
+    decide_in(&mut solver, cnf)
+}
+
+/// The same in a new solver.
+fn decide_in<W: ProofTarget, A: Allocator + Copy, S: ByteSource>(
+    solver: &mut Solver<W, A>,
+    cnf: &mut S,
+) -> Result<Option<Vec<Lit, A>>, SolverError>
+    requires new { StandsFor solver.old empty_state }
+    requires faults { (S.stand cnf.old).faults < 2 ^ 64 - 1 }
+    ensures { IfOk result (λ outcome. Decides (S.stand cnf.old) (S.stand cnf.new) (listed outcome)) }
+{
     solver.add_dimacs_cnf(cnf)?;
     if !solver.solve()? {
         return Ok(None);
@@ -127,7 +142,8 @@ pub fn tell_usage<E: Write>(err: &mut E) -> u8
     STATUS_FAULT
 }
 
-/// Makes the calls of the lines in turn, and writes their answers.
+/// Makes the calls of the lines in turn, in a new solver, and writes their answers.
+// As in `decide`, what owns memory has a function of its own.
 fn answer_lines<A: Allocator + Copy, R: Read + Drop, W: Write>(
     alloc: A,
     input: R,
@@ -135,6 +151,16 @@ fn answer_lines<A: Allocator + Copy, R: Read + Drop, W: Write>(
 ) -> io::Result<()> {
     let mut reader = BufReader::new(alloc, input)?;
     let mut solver: Solver<MemoryTarget<A>, A> = Solver::new_in(alloc);
+    answer_lines_in(alloc, &mut solver, &mut reader, out)
+}
+
+/// Makes the calls of the lines in turn, and writes their answers.
+fn answer_lines_in<A: Allocator + Copy, R: BufRead, W: Write>(
+    alloc: A,
+    solver: &mut Solver<MemoryTarget<A>, A>,
+    reader: &mut R,
+    out: &mut W,
+) -> io::Result<()> {
     let mut line = Vec::new(alloc);
     for _ in 0..u64::MAX {
         line.clear();
@@ -142,12 +168,7 @@ fn answer_lines<A: Allocator + Copy, R: Read + Drop, W: Write>(
             break;
         }
         let text = line.as_slice();
-        answer_line(
-            alloc,
-            &mut solver,
-            text.strip_suffix(b"\n").unwrap_or(text),
-            out,
-        )?;
+        answer_line(alloc, solver, text.strip_suffix(b"\n").unwrap_or(text), out)?;
         out.write_all(b"\n")?;
         out.flush()?;
     }

@@ -124,9 +124,11 @@ pub struct Solver<W: ProofTarget, A: Allocator + Copy> {
     variables: Variables<A>,
     // The clause that is being accepted, over solver variables.
     literals: Vec<Lit, A>,
-    // Whether a clause or a variable was accepted.
+    // Whether a clause or a variable was accepted. `write_proof`, which is to open a proof, will be refused from then on;
+    // no other call reads it.
     started: bool,
-    // Where an open proof would go. No call opens one yet.
+    // Where an open proof goes: `write_proof` will set it, `add_clause` and `solve` will write to it, and `close_proof` will
+    // give it back. No call reads it yet.
     target: Option<W>,
 }
 
@@ -145,9 +147,10 @@ impl<W: ProofTarget, A: Allocator + Copy> Model for Solver<W, A> {
 impl<W: ProofTarget, A: Allocator + Copy> Solver<W, A> {
     ghost use Rattle.std.specs.Prelude.{◌≡◌, ◌-◌, ◌<◌, ◌^◌, Ok, Err, Some, None, true, false, List, ℕ};
     ghost use Rattle.varisat_theory.specs.Literals.{IsSatisfiableWith};
+    ghost use Rattle.varisat_formula.specs.Rest.{Progress, IsEnding};
     ghost use Rattle.varisat.specs.States.{State, empty_state};
     ghost use Rattle.varisat.specs.Models.{model_of, IsCompletable};
-    ghost use Rattle.varisat.specs.Calls.{IsValid, AddsClause, AddsFormula, AddsDimacs, TellsFault, MakesVar, Solves, TellsModel, TellsValid, ClosesProof, answer_of};
+    ghost use Rattle.varisat.specs.Calls.{IsValid, AddsClause, AddsFormula, AddsDimacs, AddsReading, TellsFault, MakesVar, Solves, TellsModel, TellsValid, ClosesProof, answer_of};
     ghost use Rattle.varisat.specs.Told.{told_model};
     ghost use Rattle.varisat.specs.Summaries.{StandsFor};
 
@@ -229,6 +232,18 @@ impl<W: ProofTarget, A: Allocator + Copy> Solver<W, A> {
         SolverError::Dimacs { cause: fault }
     }
 
+    /// Ends the text, accepts the clauses that it leaves, and returns its fault, if there is one.
+    fn end_text(&mut self, parser: &mut DimacsParser<A>) -> Result<(), SolverError>
+        ensures { (s : State) → StandsFor self.old s → IsValid s → (p : Progress) × IsEnding parser.old p × (t : State) × AddsReading s p.reading result t × StandsFor self.new t }
+    {
+        let end = parser.finish();
+        self.add_formula(&parser.take_formula())?;
+        match end {
+            Ok(()) => Ok(()),
+            Err(fault) => Err(self.refuse_text(fault)),
+        }
+    }
+
     /// Accepts the clauses of a DIMACS CNF text in turn, up to the first that is refused or the text's first fault, which is then returned, whatever the pieces in which the source gives the text. The clauses before it stay. Out of memory in the reader is returned as in any call.
     pub fn add_dimacs_cnf<S: ByteSource>(&mut self, source: &mut S) -> Result<(), SolverError>
         requires { (S.stand source.old).faults < 2 ^ 64 - 1 }
@@ -248,12 +263,7 @@ impl<W: ProofTarget, A: Allocator + Copy> Solver<W, A> {
                 Err(fault) => return Err(self.refuse_text(fault)),
             }
         }
-        let end = parser.finish();
-        self.add_formula(&parser.take_formula())?;
-        match end {
-            Ok(()) => Ok(()),
-            Err(fault) => Err(self.refuse_text(fault)),
-        }
+        self.end_text(&mut parser)
     }
 
     /// Brings the least free name into use. Refused in an invalid solver, and where all 2^28 names are in use.

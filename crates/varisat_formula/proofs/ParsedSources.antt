@@ -6,7 +6,7 @@ use Rattle.varisat_formula.specs.declared.dimacs.error.DimacsErrorKind.TheVarian
 use Rattle.varisat_formula.specs.Formulas.{Formula}
 use Rattle.varisat_formula.specs.Streams.{Stand, Reads, HasEnded}
 use Rattle.varisat_formula.specs.Dimacs.{is_blank, Ending, Ends, GoesOn, BreaksOff, gives, dimacs, so_far, broken}
-use Rattle.varisat_formula.specs.Rest.{Progress, begin, gives_from, dimacs_from, AdvancesBy, RunsOut, RunsOutIn, failing, failing_by}
+use Rattle.varisat_formula.specs.Rest.{Progress, begin, gives_from, dimacs_from, AdvancesBy, IsEnding, RunsOut, RunsOutIn, failing, failing_by}
 use Rattle.varisat_formula.specs.Parsed.{EndsInFault, PieceHasFault, PieceWantsRoom, SourceFailed, TakesPiece, EndsToken, IsFaultOf, InText, AtEnd, WantsMemory, OfSource, Parses}
 use Rattle.varisat_formula.proofs.ParserMemory.{kept_by}
 use Rattle.varisat_formula.proofs.TargetParts.{put_part}
@@ -176,7 +176,7 @@ fault_told s t u p q e r answer w k d a = record {
         OfSource (ap (λ z. z.fault) (ap (λ z. broken Io (w.text ++ z)) m ∙ whole_gives (BreaksOff Io) w.text p [] w.advances) ∙ failing_told p e w.open_still h) (one_more rise z n)
 
 -- the text ended
-pub formula_told : (s t : Stand) (p q : Progress) (answer : Result Formula DimacsError) (f : Formula) → ReadSo s t p → HasEnded t → (q.reading ≡ dimacs_from p []) ⊎ RunsOut p [] q → q.reading.fault ≡ None →
+pub formula_told : (s t : Stand) (p q : Progress) (answer : Result Formula DimacsError) (f : Formula) → ReadSo s t p → HasEnded t → IsEnding p q → q.reading.fault ≡ None →
     f ≡ record { var_count = q.reading.highest; clauses = q.reading.clauses } → answer ≡ Ok f → Parses s answer t
 formula_told s t p q answer f w a r h d b = record {
   text = w.text;
@@ -185,7 +185,7 @@ formula_told s t p q answer f w a r h d b = record {
   fault = λ e c. absurd (not_both f e answer b c);
 }
   where
-    by_end : (q.reading ≡ dimacs_from p []) ⊎ RunsOut p [] q → q.reading ≡ dimacs w.text
+    by_end : IsEnding p q → q.reading ≡ dimacs w.text
     by_end (inl g) = g ∙ sym (end_gives Ends w.text p w.advances)
     by_end (inr o) = absurd (no_fault (sym h ∙ ap (λ z. z.fault) (o.reading ∙ breaks_off OutOfMemory p w.open_still w.fine)))
       where
@@ -195,7 +195,7 @@ formula_told s t p q answer f w a r h d b = record {
     is_whole : q.reading ≡ dimacs w.text
     is_whole = by_end r
 
-pub end_told : (s t : Stand) (p q : Progress) (e : DimacsError) (answer : Result Formula DimacsError) → ReadSo s t p → HasEnded t → (q.reading ≡ dimacs_from p []) ⊎ RunsOut p [] q → q.reading.fault ≡ Some e → answer ≡ Err e → Parses s answer t
+pub end_told : (s t : Stand) (p q : Progress) (e : DimacsError) (answer : Result Formula DimacsError) → ReadSo s t p → HasEnded t → IsEnding p q → q.reading.fault ≡ Some e → answer ≡ Err e → Parses s answer t
 end_told s t p q e answer w a r h b = record {
   text = w.text;
   reads = w.reads;
@@ -203,7 +203,7 @@ end_told s t p q e answer w a r h b = record {
   fault = λ x c. subst (λ y. IsFaultOf w.text y s t) (same_err e x answer b c) (why r);
 }
   where
-    why : (q.reading ≡ dimacs_from p []) ⊎ RunsOut p [] q → IsFaultOf w.text e s t
+    why : IsEnding p q → IsFaultOf w.text e s t
     why (inl g) = AtEnd (ap (λ z. z.fault) (end_gives Ends w.text p w.advances ∙ sym g) ∙ h) a w.quiet
     why (inr o) =
         WantsMemory

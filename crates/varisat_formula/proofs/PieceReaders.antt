@@ -4,14 +4,14 @@ use Rattle.std.proofs.lemmas.Fn.{FoldsTo-push}
 use Rattle.varisat_formula.specs.declared.dimacs.error.DimacsError.{DimacsError}
 use Rattle.varisat_formula.specs.declared.dimacs.error.DimacsErrorKind.TheVariants.{OutOfMemory}
 use Rattle.varisat_formula.specs.Dimacs.{Ends, GoesOn, BreaksOff}
-use Rattle.varisat_formula.specs.Rest.{Progress, begin, dimacs_from, AdvancesBy, RunsOut, fault_of}
+use Rattle.varisat_formula.specs.Rest.{Progress, begin, dimacs_from, AdvancesBy, IsEnding, RunsOut, fault_of}
 use Rattle.varisat_formula.proofs.ParserMemory.{kept_by}
 use Rattle.varisat_formula.proofs.ParserProgress.{over_gives, breaks_off}
 use Rattle.varisat_formula.specs.Streams.{Stand}
 use Rattle.varisat_formula.specs.Parsed.{Calling, TakesPiece, Turn, Turns, TakesEnd, Finishes, Refuses}
 
 -- the end of a text that was read, without a fault
-end_whole : (p q : Progress) → p.reading.fault ≡ None → q.reading.fault ≡ None → (q.reading ≡ dimacs_from p []) ⊎ RunsOut p [] q → q.reading ≡ dimacs_from p []
+end_whole : (p q : Progress) → p.reading.fault ≡ None → q.reading.fault ≡ None → IsEnding p q → q.reading ≡ dimacs_from p []
 end_whole p q h f (inl e) = e
 end_whole p q h f (inr o) = by_over p.over refl
   where
@@ -23,7 +23,7 @@ end_whole p q h f (inr o) = by_over p.over refl
     by_over false d = absurd (no_fault (sym f ∙ ap (λ z. z.fault) (o.reading ∙ breaks_off OutOfMemory p d h)))
 
 -- the end is told of where the reader was before it took nothing
-ends_before : (p m q : Progress) → AdvancesBy p [] m → (q.reading ≡ dimacs_from m []) ⊎ RunsOut m [] q → (q.reading ≡ dimacs_from p []) ⊎ RunsOut p [] q
+ends_before : (p m q : Progress) → AdvancesBy p [] m → IsEnding m q → IsEnding p q
 ends_before p m q z (inl e) = inl (e ∙ z.same Ends [])
 ends_before p m q z (inr o) = inr (record {
   reading = o.reading ∙ z.same (BreaksOff OutOfMemory) [];
@@ -49,7 +49,7 @@ module _ {F P E : Type 0} (by : Calling F P E) where
       }
 
   pub ends_text : (now after : Stand) (p m q : P) (g : F) (more : Bool) (r : Result Bool DimacsError) (a : Result (Unit {0}) DimacsError) → TakesPiece now (by.progress p) r after (by.progress m) → r ≡ Ok more → more ≡ false →
-      ((by.progress q).reading ≡ dimacs_from (by.progress m) []) ⊎ RunsOut (by.progress m) [] (by.progress q) → fault_of a ≡ (by.progress q).reading.fault → (by.progress q).over ≡ true →
+      IsEnding (by.progress m) (by.progress q) → fault_of a ≡ (by.progress q).reading.fault → (by.progress q).over ≡ true →
       TakesEnd by (record { source = now; reader = p; function = g }) a after q
   ends_text now after p m q g more r a k e d b n o =
       let x : TakesPiece now (by.progress p) (Ok false) after (by.progress m) = subst (λ y. TakesPiece now (by.progress p) y after (by.progress m)) (e ∙ ap Ok d) k in

@@ -104,12 +104,6 @@ clauses_says v Large = Malformed
 clauses_says v NoNumber = Malformed
 
 abbrev pub header_says : HeaderPart → Heading
-header_says Name = Malformed
-header_says Gap = Malformed
-header_says C = Malformed
-header_says Cn = Malformed
-header_says Cnf = Malformed
-header_says (Vars d) = Malformed
 header_says (Clauses v d) = clauses_says v d
 header_says (Last v c) = sized v c
-header_says Bad = Malformed
+header_says _ = Malformed

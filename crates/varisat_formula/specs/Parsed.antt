@@ -6,7 +6,7 @@ use Rattle.varisat_formula.specs.declared.dimacs.error.DimacsErrorKind.TheVarian
 use Rattle.varisat_formula.specs.Formulas.{Formula}
 use Rattle.varisat_formula.specs.Streams.{Stand, Reads, HasEnded}
 use Rattle.varisat_formula.specs.Dimacs.{is_blank, dimacs, so_far, broken, BreaksOff}
-use Rattle.varisat_formula.specs.Rest.{Progress, begin, gives_from, dimacs_from, AdvancesBy, KeepsToken, RunsOut, RunsOutIn, failing, fault_of}
+use Rattle.varisat_formula.specs.Rest.{Progress, begin, gives_from, dimacs_from, AdvancesBy, KeepsToken, IsEnding, RunsOut, RunsOutIn, failing, fault_of}
 
 -- Why a piece ended with the fault, and by how much the source's count of faults rose. The fault stands in the text; or memory
 -- ran out at a blank of the piece; or the source failed and gave nothing.
@@ -90,7 +90,7 @@ module _ {F P E : Type 0} (by : Calling F P E) where
   pub record TakesEnd (s : Standing F P) (r : Result (Unit {0}) DimacsError) (t : Stand) (read : P) : Type 0 where
     pub behind : P
     pub takes : TakesPiece s.source (by.progress s.reader) (Ok false) t (by.progress behind)
-    pub reads : ((by.progress read).reading ≡ dimacs_from (by.progress s.reader) []) ⊎ RunsOut (by.progress s.reader) [] (by.progress read)
+    pub reads : IsEnding (by.progress s.reader) (by.progress read)
     pub answer : fault_of r ≡ (by.progress read).reading.fault
     pub over : (by.progress read).over ≡ true
 

@@ -1,5 +1,5 @@
 -- What the rest of a text gives, for a text whose beginning was read.
-use Rattle.std.specs.Prelude.{◌≡◌, ℕ, List, [], ◌∷◌, ◌++◌, Bool, true, false, ◌==◌, if◌then◌else◌, Option, Some, None, Result, Ok, Err, take, slice_index}
+use Rattle.std.specs.Prelude.{◌≡◌, ℕ, List, [], ◌∷◌, ◌++◌, ◌⊎◌, Bool, true, false, ◌==◌, if◌then◌else◌, Option, Some, None, Result, Ok, Err, take, slice_index}
 use Rattle.varisat_formula.specs.declared.dimacs.token.Word.{Word}
 use Rattle.varisat_formula.specs.declared.dimacs.header.HeaderPart.TheVariants.{Name}
 use Rattle.varisat_formula.specs.declared.dimacs.parser.Place.{Place}
@@ -83,6 +83,10 @@ pub record KeepsToken (r s : Reading) : Type 0 where
 pub record RunsOut (p : Progress) (text : List ℕ) (q : Progress) : Type 0 where
   pub reading : q.reading ≡ gives_from (BreaksOff OutOfMemory) p text
   pub wants : KeepsToken (so_far_from p text) (so_far_from p (text ++ 32 ∷ []))
+
+-- q is p at the end of the text, where memory may have run out
+abbrev pub IsEnding : Progress → Progress → Type 0
+IsEnding p q = (q.reading ≡ dimacs_from p []) ⊎ RunsOut p [] q
 
 -- the token at which the reader stands is to be kept
 pub record WantsRoom (p : Progress) : Type 0 where

@@ -55,19 +55,19 @@ pub fn compared_vars(a: Var, b: Var) -> (bool, Ordering)
     (a == b, a.cmp(&b))
 }
 
-/// A variable is hashed as its index.
-pub fn hashed_var<H: Hasher>(var: Var, state: &mut H)
-    ensures { state.new ≡ fold H.write state.old (fed.u32 var) }
-{
-    var.hash(state);
-}
-
 /// Literals are equal just where their codes are, and are ordered as these.
 pub fn compared_lits(left: Lit, right: Lit) -> (bool, Ordering)
     ensures equal { IsTrue result.0 ↔ (left ≡ right) }
     ensures order { result.1 ≡ nat_cmp left right }
 {
     (left == right, left.cmp(&right))
+}
+
+/// A variable is hashed as its index.
+pub fn hashed_var<H: Hasher>(var: Var, state: &mut H)
+    ensures { state.new ≡ fold H.write state.old (fed.u32 var) }
+{
+    var.hash(state);
 }
 
 /// A literal is hashed as its code.

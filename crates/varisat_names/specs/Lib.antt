@@ -3,3 +3,4 @@ pub mod VarMap
 pub mod VarBiMap
 pub mod VarData
 pub mod Variables
+pub mod Settings

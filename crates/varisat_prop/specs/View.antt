@@ -3,6 +3,7 @@ use Rattle.std.specs.Prelude.{◌≡◌, ℕ, suc, ◌<◌, ◌≤◌, ◌^◌, 
 use Rattle.varisat_theory.specs.Membership.{◌∈◌, ◌⊆◌, SameSet, IsDistinct}
 use Rattle.varisat_theory.specs.Literals.{Literal, Clause, variable_of, opposite, IsUnit}
 use Rattle.varisat_theory.specs.Propagation.{HasFalse, LeavesOnly, IsComplete}
+use Rattle.varisat_theory.specs.Searches.{IsTautology}
 use Rattle.varisat_prop.specs.Stored.{StoredClause, literals_of, literals_at, IsPlace, AreRising, AreReordered}
 use Rattle.varisat_prop.specs.Parts.{Values, TrailParts, IsMadeTrue}
 use Rattle.varisat_prop.specs.declared.prop.graph.Reason.{Reason}
@@ -118,12 +119,8 @@ LevelsSettled s = (j : ℕ) → j < length s.decisions → IsComplete (kept s) (
 abbrev pub IsFixed : View → Literal → Type 0
 IsFixed s l = IsTrueIn s l × (level_of s l ≡ 0)
 
--- a literal of the clause is another's opposite
-abbrev pub IsTautology : Clause → Type 0
-IsTautology c = (l : Literal) × (l ∈ c) × (opposite l ∈ c)
-
--- What the search says of the clauses that a proof holds. A proof's clauses are read as sets.
-pub record Fits (held : List Clause) (s : View) : Type 0 where
+-- What conflict analysis reads of the clauses that a proof holds, as sets.
+pub record ViewFits (held : List Clause) (s : View) : Type 0 where
   -- each kept clause is held
   pub stored : (c : Clause) → c ∈ kept s → (d : Clause) × (d ∈ held) × SameSet d c
   -- a literal of level 0 without a clause as its reason is held as a unit clause
@@ -152,4 +149,4 @@ pub record Grows (s t : View) : Type 0 where
   pub decisions_more : (more : List ℕ) × (t.decisions ≡ s.decisions ++ more)
   -- what was assigned keeps its reason, its level and its place
   pub nodes : (k : ℕ) → k < length s.trail → node_at t k ≡ node_at s k
-  pub fits : (held : List Clause) → Fits held s → Fits held t
+  pub fits : (held : List Clause) → ViewFits held s → ViewFits held t

@@ -1,15 +1,18 @@
--- How analysis marks the literals of a clause.
+-- How `add_literals` marks the literals of a clause, and what the loops of analysis read.
 use Rattle.std.proofs.Common.{◌≡◌, ℕ, zero, suc, ◌+◌, ◌<◌, ◌≤◌, Bool, true, false, List, [], ◌∷◌, ◌++◌, length, get_or, set, take, ◌⊎◌, inl, inr, ⊎_elim, refl, sym, ap, ◌∙◌, subst, arith, add-one, get_or-set_same, get_or-set_other}
 use Rattle.varisat_theory.specs.Membership.{◌∈◌, ◌⊆◌}
 use Rattle.varisat_theory.specs.Literals.{Literal, Clause, variable_of, opposite}
+use Rattle.varisat_theory.specs.Propagation.{IsFalse}
 use Rattle.varisat_theory.proofs.Members.{equal_or_not, ∈-append_left, ∈-append_right, ∈-append_cases}
 use Rattle.varisat_theory.proofs.Places.{∈-take_more}
 use Rattle.varisat_prop.specs.View.{View, literal_at, node_at, level_of, StandsBefore, WellFormed}
-use Rattle.varisat_prop.proofs.Lits.{variable-opposite}
-use Rattle.varisat_search.specs.Learned.{current_level, IsOfCurrentLevel}
-use Rattle.varisat_search.specs.Marks.{Marking, IsMarked, IsMarkOf, OfClause, OfCurrentLevel, IsLower, open_below, AreFalseBefore, Adds}
-use Rattle.varisat_search.proofs.Copies.{distinct-push}
-use Rattle.varisat_search.proofs.Standing.{inside, level-small, level-opposite, level-same, same-place}
+use Rattle.varisat_prop.proofs.LiteralValues.{variable-opposite}
+use Rattle.varisat_prop.proofs.ReadElements.{element, item-∈}
+use Rattle.varisat_search.specs.Learned.{current_level}
+use Rattle.varisat_search.specs.declared.analyze_conflict.Parts.{Parts}
+use Rattle.varisat_search.specs.Marks.{CanMark, Marking, IsMarked, IsMarkOf, OfClause, OfCurrentLevel, IsLower, open_below, AreFalseBefore, Adds}
+use Rattle.varisat_search.proofs.LoadCopies.{distinct-push}
+use Rattle.varisat_search.proofs.WellFormedViews.{inside, level-small, level-opposite, level-same, same-place}
 use Rattle.varisat_search.proofs.AnalysisOpen.{open-is, closed-unmarked, open-same, open-elsewhere, count-same, count-more}
 
 pub take-grow : {X : Type 0} (i : ℕ) (xs : List X) (x : X) → x ∈ take i xs → x ∈ take (i + 1) xs
@@ -175,34 +178,51 @@ adds-more s lits k m n d x y z l e a b = record {
     one : (i : ℕ) → AreFalseBefore s i (take (k + 1) lits) → AreFalseBefore s i (m ∷ [])
     one i h o j = ⊎_elim (λ g. subst (λ q. StandsBefore s i (opposite q)) (sym g) (h m last)) (λ g. absurd g) j
 
+-- A loop over false literals is at place k, and the literal's variable has a flag.
+pub record IsAt (s : View) (lits : List Literal) (flags : List Bool) (k m : ℕ) : Type 0 where
+  pub below : k < length lits
+  pub element_is : m ≡ get_or lits k 0
+  pub false_now : opposite m ∈ s.trail
+  pub inside : variable_of m < length flags
+
+-- the variable of a false literal has a flag
+pub has-flag : {A : Type 0} {s : View} {parts : Parts A} {flags : List Bool} → CanMark s parts flags → (m : Literal) → opposite m ∈ s.trail → variable_of m < length flags
+has-flag {s = s} c m h =
+    let i = inside s c.sees.well m h in
+    let z = c.flags_are in
+    omega (arith, i, z)
+
+pub can-still : {A : Type 0} {s : View} {parts : Parts A} {old flags : List Bool} → CanMark s parts old → length flags ≡ length old → CanMark s parts flags
+can-still c n = record { sees = c.sees; flags_are = n ∙ c.flags_are }
+
+pub is-at : {A : Type 0} {s : View} {parts : Parts A} {old flags : List Bool} {lits : List Literal} {k m : ℕ} → CanMark s parts old → IsFalse s.trail lits → k < length lits → m ≡ get_or lits k m → length flags ≡ length old → IsAt s lits flags k m
+is-at {s = s} {lits = lits} {k = k} {m = m} c f l e n =
+    let h = f m (item-∈ lits k m l e) in
+    record { below = l; element_is = element lits k m l e; false_now = h; inside = has-flag (can-still c n) m h }
+
 -- the steps of the loop over the literals, as they read the flags and levels
-module _ {s : View} {n : ℕ} {x y : Marking} (w : WellFormed s) (lits : List Literal) (k m v total : ℕ) (l : k < length lits) (e : m ≡ get_or lits k 0) (h : v < length y.flags) (o : v ≡ variable_of m) (a : Adds s (take k lits) n x y) where
-  inside-flags : variable_of m < length y.flags
-  inside-flags = omega (arith, h, o)
+module _ {s : View} {n : ℕ} {x y : Marking} {lits : List Literal} {k m : ℕ} (w : WellFormed s) (p : IsAt s lits y.flags k m) (a : Adds s (take k lits) n x y) where
+  more : (d total : ℕ) (z : Marking) → total ≡ n + d → Adds s (m ∷ []) d y z → Adds s (take (k + 1) lits) total x z
+  more d total z q b = subst (λ t. Adds s (take (k + 1) lits) t x z) (sym q) (adds-more s lits k m n d x y z p.below p.element_is a b)
 
-  pub added-none : total ≡ n → (level_of s m ≡ 0) ⊎ (get_or y.flags v false ≡ true) → Adds s (take (k + 1) lits) total x y
-  added-none q z =
-      subst (λ j. Adds s (take (k + 1) lits) j x y) (omega (arith, q))
-      (adds-more s lits k m n 0 x y y l e a (adds-none s m y (⊎_elim inl (λ j. inr (subst (IsMarked y.flags) o j)) z)))
+  pub added-none : (level_of s m ≡ 0) ⊎ IsMarked y.flags (variable_of m) → Adds s (take (k + 1) lits) n x y
+  added-none z = more 0 n y (omega arith) (adds-none s m y z)
 
-  pub added-late : total ≡ n + 1 → level_of s m ≡ current_level s → get_or y.flags v false ≡ false → (z : Marking) → z ≡ record y { flags = set y.flags v true } → Adds s (take (k + 1) lits) total x z
-  added-late q j f z p =
-      subst (λ t. Adds s (take (k + 1) lits) t x z) (sym q)
-      (adds-more s lits k m n 1 x y z l e a
-      (subst (λ t. Adds s (m ∷ []) 1 y t) (sym (p ∙ ap (λ (t : ℕ). record y { flags = set y.flags t true }) o)) (adds-late s w m y inside-flags (subst (λ t. get_or y.flags t false ≡ false) o f) j)))
+  module _ (total v : ℕ) (o : v ≡ variable_of m) (f : get_or y.flags (variable_of m) false ≡ false) (z : Marking) where
+    pub added-late : total ≡ n + 1 → level_of s m ≡ current_level s → z ≡ record y { flags = set y.flags v true } → Adds s (take (k + 1) lits) total x z
+    added-late q j e =
+        more 1 total z q (subst (λ t. Adds s (m ∷ []) 1 y t) (sym (e ∙ ap (λ (t : ℕ). record y { flags = set y.flags t true }) o)) (adds-late s w m y p.inside f j))
 
-  pub added-lower : total ≡ n → opposite m ∈ s.trail → 0 < level_of s m → (level_of s m ≡ current_level s → ⊥) → get_or y.flags v false ≡ false → (clause : Clause) (to_clean : List ℕ) (u : ℕ) (z : Marking) → clause ≡ y.clause ++ m ∷ [] → to_clean ≡ y.to_clean ++ u ∷ [] → u ≡ variable_of m → z ≡ record y { clause = clause; flags = set y.flags v true; to_clean = to_clean } → Adds s (take (k + 1) lits) total x z
-  added-lower q i b j f clause to_clean u z ce te r p =
-      let c = level-small s w m i in
-      subst (λ t. Adds s (take (k + 1) lits) t x z) (omega (arith, q))
-      (adds-more s lits k m n 0 x y z l e a
-      (subst (λ t. Adds s (m ∷ []) 0 y t) (sym (p ∙ same)) (adds-lower s w m y inside-flags (subst (λ t. get_or y.flags t false ≡ false) o f) i b (below c j))))
-    where
-      below : level_of s m ≤ current_level s → (level_of s m ≡ current_level s → ⊥) → level_of s m < current_level s
-      below b j = grind arith
+    pub added-lower : total ≡ n → 0 < level_of s m → (level_of s m ≡ current_level s → ⊥) → (clause : Clause) (to_clean : List ℕ) (u : ℕ) → clause ≡ y.clause ++ m ∷ [] → to_clean ≡ y.to_clean ++ u ∷ [] → u ≡ variable_of m → z ≡ record y { clause = clause; flags = set y.flags v true; to_clean = to_clean } → Adds s (take (k + 1) lits) total x z
+    added-lower q b j clause to_clean u ce te r e =
+        let c = level-small s w m p.false_now in
+        more 0 total z (omega (arith, q)) (subst (λ t. Adds s (m ∷ []) 0 y t) (sym (e ∙ same)) (adds-lower s w m y p.inside f p.false_now b (below c j)))
+      where
+        below : level_of s m ≤ current_level s → (level_of s m ≡ current_level s → ⊥) → level_of s m < current_level s
+        below b j = grind arith
 
-      same : record y { clause = clause; flags = set y.flags v true; to_clean = to_clean } ≡ record y { clause = y.clause ++ m ∷ []; flags = set y.flags (variable_of m) true; to_clean = y.to_clean ++ variable_of m ∷ [] }
-      same =
-          ap (λ (t : Clause). record y { clause = t; flags = set y.flags v true; to_clean = to_clean }) ce
-          ∙ ap (λ (t : ℕ). record y { clause = y.clause ++ m ∷ []; flags = set y.flags t true; to_clean = to_clean }) o
-          ∙ ap (λ (t : List ℕ). record y { clause = y.clause ++ m ∷ []; flags = set y.flags (variable_of m) true; to_clean = t }) (te ∙ ap (λ (t : ℕ). y.to_clean ++ t ∷ []) r)
+        same : record y { clause = clause; flags = set y.flags v true; to_clean = to_clean } ≡ record y { clause = y.clause ++ m ∷ []; flags = set y.flags (variable_of m) true; to_clean = y.to_clean ++ variable_of m ∷ [] }
+        same =
+            ap (λ (t : Clause). record y { clause = t; flags = set y.flags v true; to_clean = to_clean }) ce
+            ∙ ap (λ (t : ℕ). record y { clause = y.clause ++ m ∷ []; flags = set y.flags t true; to_clean = to_clean }) o
+            ∙ ap (λ (t : List ℕ). record y { clause = y.clause ++ m ∷ []; flags = set y.flags (variable_of m) true; to_clean = t }) (te ∙ ap (λ (t : ℕ). y.to_clean ++ t ∷ []) r)

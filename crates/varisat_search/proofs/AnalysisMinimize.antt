@@ -1,5 +1,5 @@
--- What minimization leaves follows.
-use Rattle.std.proofs.Common.{◌≡◌, ℕ, zero, suc, ◌+◌, ◌<◌, ◌≤◌, Bool, true, false, List, [], ◌∷◌, length, get_or, set, take, ◌⊎◌, inl, inr, ⊎_elim, refl, sym, ap, ◌∙◌, subst, arith, add-one, length-set, get_or-set_other}
+-- What `minimize` leaves follows.
+use Rattle.std.proofs.Common.{◌≡◌, ℕ, zero, suc, ◌+◌, ◌<◌, ◌≤◌, Bool, List, [], ◌∷◌, length, get_or, set, take, ◌⊎◌, inl, inr, ⊎_elim, refl, sym, ap, ◌∙◌, subst, arith, add-one, length-set, get_or-set_other}
 use Rattle.std.proofs.lemmas.Bool.{cases_lt}
 use Rattle.varisat_theory.specs.Membership.{◌∈◌, IsDistinct}
 use Rattle.varisat_theory.specs.Literals.{Literal, Clause, variable_of, opposite, opposites}
@@ -11,15 +11,15 @@ use Rattle.varisat_theory.proofs.Implication.{implied_alone}
 use Rattle.varisat_theory.proofs.Learning.{follows_shorter}
 use Rattle.varisat_prop.specs.declared.prop.graph.Reason.TheVariants as reason
 use Rattle.varisat_prop.specs.Changes.{others_of}
-use Rattle.varisat_prop.proofs.Stored.{kept-at}
-use Rattle.varisat_prop.specs.View.{View, clause_at, literal_at, level_of, StandsBefore, Implies, IsReason, WellFormed, Fits}
-use Rattle.varisat_prop.proofs.Lits.{variable-opposite}
-use Rattle.varisat_prop.proofs.Distinct.{distinct-places}
+use Rattle.varisat_prop.proofs.AllocClauses.{kept-at}
+use Rattle.varisat_prop.specs.View.{View, clause_at, literal_at, level_of, StandsBefore, Implies, IsReason, WellFormed, ViewFits}
+use Rattle.varisat_prop.proofs.LiteralValues.{variable-opposite}
+use Rattle.varisat_prop.proofs.DistinctPlaces.{distinct-places}
 use Rattle.varisat_search.specs.Marks.{Marking, IsMarked, IsMarkOf, OfClause, OfCurrentLevel, MarksAreListed, Marks, IsMinimized, Minimizes}
 use Rattle.varisat_search.specs.Redundancy.{IsReasoned, ListsNew, IsRedundant, IsAsBefore}
 use Rattle.varisat_search.proofs.AnalysisMarks.{take-grow, take-last}
 use Rattle.varisat_search.proofs.AnalysisSearch.{reasoned-more}
-use Rattle.varisat_search.proofs.Standing.{level-opposite, true-same, fixed-implied}
+use Rattle.varisat_search.proofs.WellFormedViews.{level-opposite, true-same, fixed-implied}
 
 -- the literal is one of the clause from place i on
 abbrev pub IsLeft : Clause → ℕ → Literal → Type 0
@@ -166,7 +166,7 @@ minimizing-drop {s = s} {x = x} {y = y} {z = z} {k = k} {i = i} m same h e r a =
     l : ListsNew y z
     l = r.list
 
-module _ (s : View) (w : WellFormed s) (held : List Clause) (fits : Fits held s) (kept : Clause) (f : List Bool) (given : (x : Literal) → x ∈ s.trail → IsMarked f (variable_of x) → (opposite x ∈ kept) ⊎ IsReasoned s f x) where
+module _ (s : View) (w : WellFormed s) (held : List Clause) (fits : ViewFits held s) (kept : Clause) (f : List Bool) (given : (x : Literal) → x ∈ s.trail → IsMarked f (variable_of x) → (opposite x ∈ kept) ⊎ IsReasoned s f x) where
   first-in : (k : ℕ) (x : Clause) → Implies s x k → literal_at s k ∈ x
   first-in k [] q = absurd q
   first-in k (y ∷ x) q = inl (sym q.0)

@@ -1,4 +1,4 @@
--- How many places of the current level are marked.
+-- How many places of the current level are marked, which `resolve` counts.
 use Rattle.std.proofs.Common.{◌≡◌, ◌≢◌, ℕ, zero, suc, ◌+◌, ◌<◌, ◌≤◌, Bool, true, false, ◌&&◌, nat_eq, List, get_or, ⊎_elim, refl, sym, ap, ◌∙◌, arith}
 use Rattle.std.proofs.lemmas.Bool.{eqb-true, eq-eqb, ne_eqb, and_parts, and_from, and_left, and_right, cases_lt}
 use Rattle.varisat_theory.specs.Literals.{variable_of}

@@ -1,4 +1,4 @@
--- The learned clause, from what each part of the analysis found.
+-- The clause that `analyze_conflict` learns, from what each part of the analysis found.
 use Rattle.std.proofs.Common.{◌≡◌, ℕ, ◌+◌, ◌<◌, ◌≤◌, Bool, false, List, [], ◌∷◌, length, get_or, inl, inr, ⊎_elim, refl, sym, ap, ◌∙◌, subst, arith}
 use Rattle.std.proofs.lemmas.Bool.{cases_lt, cases_Bool}
 use Rattle.varisat_theory.specs.Membership.{◌∈◌, SameSet, IsDistinct}
@@ -9,13 +9,13 @@ use Rattle.varisat_theory.proofs.Implication.{implied_false}
 use Rattle.varisat_theory.proofs.Members.{∈-or_not}
 use Rattle.varisat_theory.proofs.Places.{∈-get_or}
 use Rattle.varisat_theory.proofs.Values.{opposite_twice}
-use Rattle.varisat_prop.proofs.Stored.{kept-at}
-use Rattle.varisat_prop.specs.View.{View, clause_at, literal_at, level_of, WellFormed, Fits}
-use Rattle.varisat_prop.proofs.Fronted.{IsFronted, fronted}
+use Rattle.varisat_prop.proofs.AllocClauses.{kept-at}
+use Rattle.varisat_prop.specs.View.{View, clause_at, literal_at, level_of, WellFormed, ViewFits}
+use Rattle.varisat_prop.proofs.ReasonFront.{IsFronted, fronted}
 use Rattle.std.specs.List.{swap}
 use Rattle.varisat_search.specs.Learned.{current_level, IsConflict, IsLevelOf, IsAsserting, IsLearned, ListsInvolved}
 use Rattle.varisat_search.specs.Marks.{Marking, MarksAreListed, IsLower, IsResolved, Minimizes, Teaches}
-use Rattle.varisat_search.proofs.Standing.{level-opposite, level-small, fixed-implied}
+use Rattle.varisat_search.proofs.WellFormedViews.{level-opposite, level-small, fixed-implied}
 
 -- a literal of the highest level was put first
 pub level-fronted : (s : View) (c d : Clause) (p r : ℕ) → IsFronted c d p → ((k : ℕ) → k < length c → level_of s (get_or c k 0) ≤ level_of s (get_or c p 0)) → r ≡ level_of s (get_or d 0 0) → IsLevelOf s d r
@@ -53,7 +53,7 @@ module _ {s : View} {cf : ℕ} {first : Literal} {x y : Marking} (w : WellFormed
   lower : (m : Literal) → m ∈ c → IsLower s m
   lower m i = a.marks.lower m (b.minimized.part m (same.0 m i))
 
-  learned-follows : (held : List Clause) → Fits held s → Follows held new
+  learned-follows : (held : List Clause) → ViewFits held s → Follows held new
   learned-follows held k = subst (Follows held) (sym e)
       (follows_more held held (first ∷ y.clause) (first ∷ c) (covered_by_self held) (λ l. ⊎_elim inl (λ i. inr (same.1 l i))) (b.minimized.follows first held k (a.follows held k)))
 

@@ -1,8 +1,8 @@
--- The search for what implies a literal to be false.
+-- The search of `is_redundant` for what implies a literal to be false.
 use Rattle.std.proofs.Common.{◌≡◌, ℕ, zero, suc, ◌+◌, ◌-◌, ◌<◌, ◌≤◌, Bool, true, false, List, [], ◌∷◌, ◌++◌, length, get_or, set, take, take_all, drop, ◌⊎◌, inl, inr, ⊎_elim, refl, sym, ap, ◌∙◌, subst, arith, append_assoc, length-append, get_or-set_same}
 use Rattle.std.proofs.lemmas.Bool.{cases_Bool}
 use Rattle.varisat_theory.specs.Membership.{◌∈◌}
-use Rattle.varisat_theory.specs.Literals.{Literal, Clause, variable_of, opposite}
+use Rattle.varisat_theory.specs.Literals.{Literal, variable_of, opposite}
 use Rattle.varisat_theory.specs.Propagation.{IsFalse}
 use Rattle.varisat_theory.proofs.Members.{∈-append_left, ∈-append_right, ∈-append_cases, ∈-or_not}
 use Rattle.varisat_theory.proofs.Places.{∈-take_more}
@@ -12,12 +12,12 @@ use Rattle.varisat_prop.specs.declared.prop.graph.ImplNode.{ImplNode}
 use Rattle.varisat_prop.specs.Changes.{NamesClause, others_of, causes_of}
 use Rattle.varisat_prop.specs.Stored.{StoredClause}
 use Rattle.varisat_prop.specs.View.{View, clause_at, node_of, no_node, level_of, WellFormed}
-use Rattle.varisat_prop.proofs.Lits.{variable-opposite}
-use Rattle.varisat_prop.proofs.Growth.{append-nil}
+use Rattle.varisat_prop.proofs.LiteralValues.{variable-opposite}
+use Rattle.varisat_prop.proofs.ViewGrowth.{append-nil}
 use Rattle.varisat_search.specs.Marks.{Marking, IsMarked}
-use Rattle.varisat_search.specs.Redundancy.{IsImplied, IsReasoned, unmarked, ListsNew, Explores, IsRedundant, IsAsBefore, IsFound}
-use Rattle.varisat_search.proofs.AnalysisMarks.{marked-old, marked-new}
-use Rattle.varisat_search.proofs.Standing.{true-same, has-clause, inside-true, names-clause, causes-false}
+use Rattle.varisat_search.specs.Redundancy.{IsImplied, IsReasoned, unmarked, ListsNew, Explores, IsFound}
+use Rattle.varisat_search.proofs.AnalysisMarks.{marked-old, marked-new, IsAt}
+use Rattle.varisat_search.proofs.WellFormedViews.{true-same, has-clause, inside-true, names-clause, causes-false}
 
 pub unmarked-set : (f : List Bool) (v : ℕ) → v < length f → get_or f v false ≡ false → unmarked f ≡ unmarked (set f v true) + 1
 unmarked-set [] v h n = absurd (omega arith)
@@ -269,15 +269,15 @@ since-cleared {x = x} {y = y} {part = part} s l flags to_clean b q gone rest = r
         (∈-or_not v a.since)
 
 -- the steps of the loop over the literals, as they read the flags
-module _ {s : View} {x y : Marking} (lits : List Literal) (k m v : ℕ) (l : k < length lits) (e : m ≡ get_or lits k 0) (n : length y.flags ≡ length x.flags) (h : v < length y.flags) (o : v ≡ variable_of m) (a : Explores s (take k lits) true x y) where
-  pub explored-none : (level_of s m ≡ 0) ⊎ (get_or y.flags v false ≡ true) → Explores s (take (k + 1) lits) true x y
-  explored-none z = explores-more s lits k m x y y l e n a (explores-none s m y (⊎_elim inl (λ q. inr (subst (IsMarked y.flags) o q)) z))
+module _ {s : View} {x y : Marking} {lits : List Literal} {k m : ℕ} (p : IsAt s lits y.flags k m) (n : length y.flags ≡ length x.flags) (a : Explores s (take k lits) true x y) where
+  pub explored-none : (level_of s m ≡ 0) ⊎ IsMarked y.flags (variable_of m) → Explores s (take (k + 1) lits) true x y
+  explored-none z = explores-more s lits k m x y y p.below p.element_is n a (explores-none s m y z)
 
-  pub explored-one : (r : Reason) → opposite m ∈ s.trail → r ≡ (node_of s m).reason → (r ≡ reason.Unit → ⊥) → get_or y.flags v false ≡ false → (to_clean : List ℕ) (stack : List Literal) (u t : ℕ) → to_clean ≡ y.to_clean ++ u ∷ [] → u ≡ variable_of m → stack ≡ y.stack ++ t ∷ [] → t ≡ opposite m → Explores s (take (k + 1) lits) true x (record y { flags = set y.flags v true; to_clean = to_clean; stack = stack })
-  explored-one r i q c f to_clean stack u t ce ue se te =
+  pub explored-one : (v : ℕ) (r : Reason) → v ≡ variable_of m → r ≡ (node_of s m).reason → (r ≡ reason.Unit → ⊥) → get_or y.flags (variable_of m) false ≡ false → (to_clean : List ℕ) (stack : List Literal) (u t : ℕ) → to_clean ≡ y.to_clean ++ u ∷ [] → u ≡ variable_of m → stack ≡ y.stack ++ t ∷ [] → t ≡ opposite m → Explores s (take (k + 1) lits) true x (record y { flags = set y.flags v true; to_clean = to_clean; stack = stack })
+  explored-one v r o q c f to_clean stack u t ce ue se te =
       let (d, is) = has-clause r c in
-      explores-more s lits k m x y (record y { flags = set y.flags v true; to_clean = to_clean; stack = stack }) l e n a
-      (subst (λ j. Explores s (m ∷ []) true y j) (sym same) (explores-one s m d y i (sym q ∙ is) (omega (arith, h, o)) (subst (λ j. get_or y.flags j false ≡ false) o f)))
+      explores-more s lits k m x y (record y { flags = set y.flags v true; to_clean = to_clean; stack = stack }) p.below p.element_is n a
+      (subst (λ j. Explores s (m ∷ []) true y j) (sym same) (explores-one s m d y p.false_now (sym q ∙ is) p.inside f))
     where
       same : record y { flags = set y.flags v true; to_clean = to_clean; stack = stack } ≡ explored y m
       same =

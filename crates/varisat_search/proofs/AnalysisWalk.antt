@@ -1,9 +1,8 @@
--- The walk back over the trail, down to the first unique implication point.
+-- The walk of `resolve` back over the trail, down to the first unique implication point.
 use Rattle.std.proofs.Common.{◌≡◌, ◌≢◌, ℕ, zero, suc, ◌+◌, ◌-◌, ◌^◌, ◌<◌, ◌≤◌, Bool, true, false, List, [], ◌∷◌, ◌++◌, length, get_or, set, ◌⊎◌, inl, inr, ⊎_elim, refl, sym, ap, ◌∙◌, subst, arith, add-one, get_or-set_same, get_or-set_other}
 use Rattle.std.proofs.lemmas.Bool.{cases_lt}
 use Rattle.varisat_theory.specs.Membership.{◌∈◌, IsDistinct}
 use Rattle.varisat_theory.specs.Literals.{Literal, Clause, variable_of, opposite}
-use Rattle.varisat_theory.specs.Propagation.{IsFalse}
 use Rattle.varisat_theory.specs.Analysis.{AtStart, InReason}
 use Rattle.varisat_theory.proofs.Members.{∈-append_left, ∈-append_right, ∈-append_cases}
 use Rattle.varisat_theory.proofs.Places.{∈-get_or, place_in}
@@ -12,16 +11,16 @@ use Rattle.varisat_theory.proofs.Learning.{Pending, IsPassed, pending_start, pen
 use Rattle.varisat_prop.specs.declared.prop.graph.Reason.{Reason}
 use Rattle.varisat_prop.specs.declared.prop.graph.Reason.TheVariants as reason
 use Rattle.varisat_prop.specs.Changes.{others_of, causes_of}
-use Rattle.varisat_prop.proofs.Clauses.{element}
-use Rattle.varisat_prop.proofs.Stored.{kept-at}
-use Rattle.varisat_prop.specs.View.{View, kept, clause_at, literal_at, decision_at, node_of, node_at, level_of, StandsBefore, Implies, IsReason, WellFormed, LevelsSettled, Fits}
-use Rattle.varisat_prop.proofs.Lits.{variable-opposite}
+use Rattle.varisat_prop.proofs.ReadElements.{element}
+use Rattle.varisat_prop.proofs.AllocClauses.{kept-at}
+use Rattle.varisat_prop.specs.View.{View, kept, clause_at, literal_at, decision_at, node_of, node_at, level_of, StandsBefore, Implies, IsReason, WellFormed, ViewFits}
+use Rattle.varisat_prop.proofs.LiteralValues.{variable-opposite}
 use Rattle.varisat_search.specs.Learned.{current_level, IsOfCurrentLevel, IsStored, IsConflict, clause_of, reason_clause, IsReachedDownTo, IsImplicationPoint, IsFirstPoint, IsInvolved, IsOfConflict, IsReasonOf}
 use Rattle.varisat_search.specs.Marks.{Marking, IsDeepConflict, IsClean, IsMarked, IsMarkOf, OfClause, OfCurrentLevel, Marks, is_open, open_below, one_if, AreFalseBefore, Adds, places_of, AddsReason, IsResolved}
-use Rattle.varisat_search.proofs.Copies.{distinct-push}
+use Rattle.varisat_search.proofs.LoadCopies.{distinct-push}
 use Rattle.varisat_search.proofs.AnalysisMarks.{mark-of}
-use Rattle.varisat_search.proofs.Standing.{inside-at, level-opposite, level-same, same-place, place-of, stands-∈, no-clash, true-same, false-same, level-small, causes-before, has-late, fixed-implied, last-in}
-use Rattle.varisat_prop.proofs.Reordered.{trail-short}
+use Rattle.varisat_search.proofs.WellFormedViews.{inside-at, level-opposite, level-same, same-place, place-of, stands-∈, no-clash, true-same, false-same, level-small, causes-before, has-late, fixed-implied, last-in}
+use Rattle.varisat_prop.proofs.ClauseOrder.{trail-short}
 use Rattle.varisat_search.proofs.AnalysisOpen.{count-small, open-is, open-level, open-marked, closed-unmarked, open-same, count-same, count-none, count-some}
 
 -- the literal is of the current level, and marked
@@ -52,7 +51,7 @@ pub record Walk (s : View) (cf : ℕ) (mark : Marking) (count i : ℕ) : Type 0 
   pub start : (k : ℕ) → k < i → IsOfCurrentLevel s k → opposite (literal_at s k) ∈ clause_at s cf → IsMarked mark.flags (variable_of (literal_at s k))
   pub passed : (j k : ℕ) → i ≤ j → IsOfCurrentLevel s j → IsReachedDownTo s cf j (literal_at s j) → k < i → IsOfCurrentLevel s k → opposite (literal_at s k) ∈ reason_clause s (literal_at s j) → IsMarked mark.flags (variable_of (literal_at s k))
   pub none_later : (q : ℕ) → i ≤ q → IsImplicationPoint s cf q → ⊥
-  pub pending : (held : List Clause) → Fits held s → Pending held mark.clause s.trail (Seen s mark.flags) i
+  pub pending : (held : List Clause) → ViewFits held s → Pending held mark.clause s.trail (Seen s mark.flags) i
   pub involved : ListsResolved s cf i mark.involved
 
 -- what is reached from further down is reached from further up too
@@ -149,7 +148,7 @@ module _ (s : View) (w : WellFormed s) (cf : ℕ) where
       by (OfCurrentLevel y j p e) = let g = level-same s (literal_at s y) m e in let o = p.1 in absurd (omega (arith, g, o, l))
 
   -- a literal that was added is in the clause, or seen, or false at level 0
-  passed-literal : (mark : Marking) (i : ℕ) (m : Literal) (held : List Clause) → i ≤ length s.trail → Marks s i mark → Fits held s → (0 < level_of s m → IsMarked mark.flags (variable_of m)) → StandsBefore s i (opposite m) → (m ∈ mark.clause) ⊎ IsPassed held s.trail (Seen s mark.flags) i m
+  passed-literal : (mark : Marking) (i : ℕ) (m : Literal) (held : List Clause) → i ≤ length s.trail → Marks s i mark → ViewFits held s → (0 < level_of s m → IsMarked mark.flags (variable_of m)) → StandsBefore s i (opposite m) → (m ∈ mark.clause) ⊎ IsPassed held s.trail (Seen s mark.flags) i m
   passed-literal mark i m held l k h a b =
       let ft = stands-∈ s w i (opposite m) l b in
       let g = level-opposite s m in

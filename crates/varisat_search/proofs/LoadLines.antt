@@ -1,23 +1,23 @@
--- The lines of loading a clause, of which there are none.
+-- The lines of `load_clause`, of which there are none.
 use Rattle.std.proofs.Common.{◌≡◌, ◌≢◌, ℕ, ◌<◌, ◌≤◌, false, List, [], ◌∷◌, ◌++◌, length, inl, inr, ⊎_elim, refl, sym, ap, ◌∙◌, subst, arith}
 use Rattle.std.proofs.lemmas.Bool.{cases_lt}
 use Rattle.std.proofs.lemmas.List.{map-append}
 use Rattle.varisat_theory.specs.Membership.{◌∈◌, SameSet, IsDistinct}
 use Rattle.varisat_theory.specs.Literals.{Literal, Clause, opposite, IsUnit}
 use Rattle.varisat_prop.specs.declared.prop.graph.Reason.TheVariants as reason
-use Rattle.varisat_prop.specs.View.{View, IsTrueIn, WellFormed, IsTautology}
+use Rattle.varisat_prop.specs.View.{View, IsTrueIn, WellFormed}
 use Rattle.varisat_prop.specs.Changes.{enqueued}
-use Rattle.varisat_prop.proofs.Lits.{own-opposite, made-clash, none-made, variable-opposite}
-use Rattle.varisat_prop.proofs.Enqueued.{enqueued-well}
+use Rattle.varisat_prop.proofs.LiteralValues.{own-opposite, made-clash, none-made, variable-opposite}
+use Rattle.varisat_prop.proofs.EnqueueAssignment.{enqueued-well}
 use Rattle.varisat_search.specs.declared.state.SatState.{SatState}
 use Rattle.varisat_search.specs.declared.state.SatState.TheVariants as verdict
-use Rattle.varisat_search.specs.Steps.{IsCut, with_clause}
+use Rattle.varisat_search.specs.Steps.{IsCut, reopened_state}
 use Rattle.varisat_search.specs.Loading.{loaded_at, IsAdded}
 use Rattle.varisat_search.specs.Seen.{kept_clause, search_of, outcome_of}
-use Rattle.varisat_search.proofs.Loaded.{Restarted, no-decision}
-use Rattle.varisat_search.proofs.Seeing.{fixed_from, fixed_to, view_is_grounded}
-use Rattle.varisat_search.proofs.LearnedLines.{cut_moves, unit_moves}
-use Rattle.varisat_theory.specs.Searches.{KeptClause, Search}
+use Rattle.varisat_search.proofs.LoadView.{Restarted, no-decision}
+use Rattle.varisat_search.proofs.ViewSearch.{fixed_from, fixed_to, view_is_grounded}
+use Rattle.varisat_search.proofs.LearnLines.{cut_moves, unit_moves}
+use Rattle.varisat_theory.specs.Searches.{KeptClause, Search, IsTautology}
 use Rattle.varisat_theory.specs.Outcomes.{Outcome, Unknown, Unsat, Proves, Loads, IsContradicted}
 use Rattle.varisat_theory.proofs.StepLoads.{loaded_is_kept, loaded_is_unit, loaded_is_settled, loaded_is_contradicted, part_load, load_part}
 
@@ -36,7 +36,7 @@ restart-moves s t w same cut =
     no-length [] h = refl
     no-length (x ∷ xs) h = absurd (omega (arith, h))
 
-pub opened : (b : SatState) → b ≢ verdict.Unsat → b ≢ verdict.UnsatUnderAssumptions → with_clause b ≡ verdict.Unknown
+pub opened : (b : SatState) → b ≢ verdict.Unsat → b ≢ verdict.UnsatUnderAssumptions → reopened_state b ≡ verdict.Unknown
 opened verdict.Unknown n m = refl
 opened verdict.Sat n m = refl
 opened verdict.Unsat n m = absurd (n refl)

@@ -1,16 +1,16 @@
--- The lines of a whole step.
+-- The lines of `conflict_step`.
 use Rattle.std.proofs.Common.{List, [], map, inl, inr, ⊎_elim, sym, subst}
 use Rattle.varisat_theory.specs.Membership.{◌∈◌}
-use Rattle.varisat_theory.specs.Literals.{Literal, Clause, variable_of, opposite}
+use Rattle.varisat_theory.specs.Literals.{Literal, Clause, opposite}
 use Rattle.varisat_theory.specs.Propagation.{IsComplete}
 use Rattle.varisat_theory.specs.Derivations.{Line}
 use Rattle.varisat_prop.specs.View.{View, kept, WellFormed, Grows}
-use Rattle.varisat_prop.proofs.Looked.{on-trail, trail-true}
+use Rattle.varisat_prop.proofs.PropagateLooks.{on-trail, trail-true}
 use Rattle.varisat_search.specs.Steps.{IsTotal, assignment_of}
 use Rattle.varisat_search.specs.Seen.{kept_clause, search_of}
-use Rattle.varisat_search.proofs.Settled.{makes-true, one-true}
-use Rattle.varisat_search.proofs.Seeing.{fixed_from, seen_clauses}
-use Rattle.varisat_search.proofs.Growing.{grows_prove}
+use Rattle.varisat_search.proofs.LevelsSettled.{makes-true, one-true}
+use Rattle.varisat_search.proofs.ViewSearch.{fixed_from, seen_clauses}
+use Rattle.varisat_search.proofs.StepWithoutLines.{grows_prove}
 use Rattle.varisat_theory.specs.Outcomes.{Outcome, Sat, Steps}
 use Rattle.varisat_theory.proofs.SearchFits.{clause_in}
 use Rattle.varisat_theory.proofs.StepEnds.{model_is_found}
@@ -24,7 +24,7 @@ model-steps s w q o =
       subst (λ P. (c : Clause) × (c ∈ P) × ((m : Literal) → m ∈ c → opposite m ∈ s.trail) → ⊥) (sym (seen_clauses s.clauses)) q.no_false,
       λ k h l m.
           let inside : k.clause ∈ kept s = subst (λ P. k.clause ∈ P) (seen_clauses s.clauses) (clause_in (map kept_clause s.clauses) k h) in
-          ⊎_elim (λ t. inl (on-trail s w l t)) (λ t. inr (on-trail s w (opposite l) t)) (one-true s l (o (variable_of l) (w.in_range k.clause inside l m))),
+          ⊎_elim (λ t. inl (on-trail s w l t)) (λ t. inr (on-trail s w (opposite l) t)) (one-true s l (o k.clause inside l m)),
     )
     (λ l h. makes-true s l (trail-true s w l h))
 

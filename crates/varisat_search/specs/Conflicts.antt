@@ -16,7 +16,7 @@ abbrev pub learned_at : ℕ → Clause → StoredClause
 learned_at p c = record { place = p; header = record { redundant = true }; literals = c }
 
 -- A clause of two literals or more is kept and is the reason; else nothing is kept.
-abbrev pub IsKept : List StoredClause → List StoredClause → Clause → Reason → Type 0
-IsKept old new [] r = (new ≡ old) × (r ≡ reason.Unit)
-IsKept old new (l ∷ []) r = (new ≡ old) × (r ≡ reason.Unit)
-IsKept old new (l ∷ m ∷ c) r = (p : ℕ) × Keeps old new (learned_at p (l ∷ m ∷ c)) × (r ≡ reason.Long p)
+abbrev pub IsKeptAsReason : List StoredClause → List StoredClause → Clause → Reason → Type 0
+IsKeptAsReason old new [] r = (new ≡ old) × (r ≡ reason.Unit)
+IsKeptAsReason old new (l ∷ []) r = (new ≡ old) × (r ≡ reason.Unit)
+IsKeptAsReason old new (l ∷ m ∷ c) r = (p : ℕ) × Keeps old new (learned_at p (l ∷ m ∷ c)) × (r ≡ reason.Long p)

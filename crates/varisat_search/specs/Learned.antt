@@ -7,7 +7,7 @@ use Rattle.varisat_theory.specs.Analysis.{Reached}
 use Rattle.varisat_prop.specs.declared.prop.graph.Reason.{Reason}
 use Rattle.varisat_prop.specs.declared.prop.graph.Reason.TheVariants as reason
 use Rattle.varisat_prop.specs.Stored.{IsPlace}
-use Rattle.varisat_prop.specs.View.{View, clause_at, literal_at, node_at, node_of, level_of, Fits}
+use Rattle.varisat_prop.specs.View.{View, clause_at, literal_at, node_at, node_of, level_of, ViewFits}
 
 -- the learned clause, the clauses that it came from, and for how many variables there are flags
 pub record Analysis : Type 0 where
@@ -105,6 +105,6 @@ pub record IsAsserting (s : View) (i : ℕ) (c : Clause) (level : ℕ) : Type 0 
 
 -- The clause that a conflict teaches: it follows from whatever clauses a proof holds, and is the empty one at level 0.
 pub record IsLearned (s : View) (i : ℕ) (c : Clause) (level : ℕ) : Type 0 where
-  pub follows : (held : List Clause) → Fits held s → Follows held c
+  pub follows : (held : List Clause) → ViewFits held s → Follows held c
   pub at_zero : current_level s ≡ 0 → (c ≡ []) × (level ≡ 0)
   pub above : 0 < current_level s → IsAsserting s i c level

@@ -7,3 +7,4 @@ pub mod Levels
 pub mod Marks
 pub mod Redundancy
 pub mod Seen
+pub mod Progress

@@ -5,21 +5,24 @@ use Rattle.varisat_theory.specs.Literals.{Literal, Clause, opposite, variable_of
 use Rattle.varisat_theory.specs.Propagation.{Follows}
 use Rattle.varisat_prop.specs.declared.prop.graph.Reason.{Reason}
 use Rattle.varisat_prop.specs.declared.prop.graph.Reason.TheVariants as reason
-use Rattle.varisat_prop.specs.declared.prop.graph.ImplGraph.{ImplGraph}
-use Rattle.varisat_prop.specs.Parts.{TrailParts}
 use Rattle.varisat_prop.specs.Changes.{causes_of}
-use Rattle.varisat_prop.specs.Stored.{StoredClause}
-use Rattle.varisat_prop.specs.View.{View, literal_at, node_at, node_of, level_of, StandsBefore, WellFormed, LevelsSettled, Fits}
+use Rattle.varisat_prop.specs.View.{View, literal_at, node_at, node_of, level_of, StandsBefore, WellFormed, LevelsSettled, ViewFits}
+use Rattle.varisat_search.specs.declared.analyze_conflict.Parts.{Parts}
 use Rattle.varisat_search.specs.declared.analyze_conflict.Scratch.{Scratch}
 use Rattle.varisat_search.specs.Learned.{current_level, IsOfCurrentLevel, IsConflict, IsFirstPoint, ListsInvolved, IsAsserting}
 
 -- The search that analysis reads is a well-formed one, with these clauses, nodes, literals and decisions.
-pub record Sees {A : Type 0} (s : View) (clauses : List StoredClause) (graph : ImplGraph A) (trail : TrailParts) : Type 0 where
+pub record Sees {A : Type 0} (s : View) (parts : Parts A) : Type 0 where
   pub well : WellFormed s
-  pub clauses_are : clauses ≡ s.clauses
-  pub nodes_are : graph.nodes.items ≡ s.nodes
-  pub trail_is : trail.literals ≡ s.trail
-  pub decisions_are : trail.decisions ≡ s.decisions
+  pub clauses_are : parts.clause_alloc.now ≡ s.clauses
+  pub nodes_are : parts.impl_graph.now.nodes.items ≡ s.nodes
+  pub trail_is : parts.trail.now.literals ≡ s.trail
+  pub decisions_are : parts.trail.now.decisions ≡ s.decisions
+
+-- Analysis sees the search, and has a flag for each variable.
+pub record CanMark {A : Type 0} (s : View) (parts : Parts A) (flags : List Bool) : Type 0 where
+  pub sees : Sees s parts
+  pub flags_are : length flags ≡ length s.nodes
 
 -- A conflict above level 0, where each level began with propagation at its end.
 pub record IsDeepConflict (s : View) (i : ℕ) : Type 0 where
@@ -51,6 +54,12 @@ pub record IsClean (x : Marking) : Type 0 where
   pub clause : x.clause ≡ []
   pub involved : x.involved ≡ []
   pub to_clean : x.to_clean ≡ []
+
+-- Analysis may begin: it has a flag for each variable, there is a conflict above level 0, and nothing is marked.
+pub record MayBegin {A : Type 0} (s : View) (parts : Parts A) (i : ℕ) (x : Marking) : Type 0 where
+  pub can : CanMark s parts x.flags
+  pub conflict : IsDeepConflict s i
+  pub clean : IsClean x
 
 -- each marked variable is listed, and each listed one has a flag
 pub record MarksAreListed (x : Marking) : Type 0 where
@@ -118,7 +127,7 @@ pub record IsResolved (s : View) (i : ℕ) (first : Literal) (x : Marking) : Typ
   pub place : ℕ
   pub point : IsFirstPoint s i place
   pub opposite_is : first ≡ opposite (literal_at s place)
-  pub follows : (held : List Clause) → Fits held s → Follows held (first ∷ x.clause)
+  pub follows : (held : List Clause) → ViewFits held s → Follows held (first ∷ x.clause)
   pub marks : Marks s 0 x
   pub involved : ListsInvolved s i x.involved
 
@@ -126,7 +135,7 @@ pub record IsResolved (s : View) (i : ℕ) (first : Literal) (x : Marking) : Typ
 pub record IsMinimized (s : View) (others left : Clause) : Type 0 where
   pub part : left ⊆ others
   pub distinct : IsDistinct others → IsDistinct left
-  pub follows : (first : Literal) (held : List Clause) → Fits held s → Follows held (first ∷ others) → Follows held (first ∷ left)
+  pub follows : (first : Literal) (held : List Clause) → ViewFits held s → Follows held (first ∷ others) → Follows held (first ∷ left)
 
 -- The clause was minimized; what was marked meanwhile is listed too.
 pub record Minimizes (s : View) (x y : Marking) : Type 0 where
@@ -136,6 +145,6 @@ pub record Minimizes (s : View) (x y : Marking) : Type 0 where
 
 -- What a conflict above level 0 teaches, and from which clauses.
 pub record Teaches (s : View) (i : ℕ) (c : Clause) (involved : List ℕ) (level : ℕ) : Type 0 where
-  pub follows : (held : List Clause) → Fits held s → Follows held c
+  pub follows : (held : List Clause) → ViewFits held s → Follows held c
   pub asserting : IsAsserting s i c level
   pub involves : ListsInvolved s i involved

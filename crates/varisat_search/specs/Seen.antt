@@ -25,6 +25,10 @@ is_proved s l = nat_eq (level_of s l) 0 && not (is_clause (node_of s l).reason)
 abbrev pub search_of : View → Search
 search_of s = record { kept = map kept_clause s.clauses; fixed = filter (is_fixed s) s.trail; proved = filter (is_proved s) s.trail }
 
+-- a search without clauses
+abbrev pub first_search : Search
+first_search = record { kept = []; fixed = []; proved = [] }
+
 -- the literal is true at level 0, and has no clause as its reason
 abbrev pub IsProved : View → Literal → Type 0
 IsProved s l = (l ∈ s.trail) × (level_of s l ≡ 0) × ((node_of s l).reason ≡ reason.Unit)

@@ -1,12 +1,9 @@
--- What backtracking, deciding, a step and loading a clause do.
-use Rattle.std.specs.Prelude.{◌≡◌, ◌≢◌, ℕ, ◌<◌, ◌≤◌, Bool, false, Some, None, List, [], ◌∷◌, ◌++◌, length, take, slice_index_or, ◌⊎◌}
-use Rattle.varisat_theory.specs.Membership.{◌∈◌, ◌⊆◌}
-use Rattle.varisat_theory.specs.Literals.{Literal, Clause, Assignment, variable_of, opposite, IsUnit, SatisfiesAll}
-use Rattle.varisat_theory.specs.Propagation.{Conflicts}
-use Rattle.varisat_theory.specs.Derivations.{Derives, Add}
-use Rattle.varisat_theory.specs.Rank.{rank}
+-- What backtracking, deciding, a step and accepting a clause do.
+use Rattle.std.specs.Prelude.{◌≡◌, ◌≢◌, ℕ, ◌<◌, ◌≤◌, Bool, false, Some, None, List, [], length, take, slice_index_or, ◌⊎◌}
+use Rattle.varisat_theory.specs.Membership.{◌∈◌}
+use Rattle.varisat_theory.specs.Literals.{Literal, Clause, Assignment, variable_of}
 use Rattle.varisat_prop.specs.Parts.{is_true_value}
-use Rattle.varisat_prop.specs.View.{View, literal_at, decision_at, IsFixed, Fits, Grows, kinds}
+use Rattle.varisat_prop.specs.View.{View, kept, literal_at, decision_at, Grows}
 use Rattle.varisat_search.specs.declared.state.SatState.{SatState}
 use Rattle.varisat_search.specs.declared.state.SatState.TheVariants as verdict
 
@@ -43,40 +40,17 @@ Remembers s old new = (u : View) × Grows s u × SavesSome u old new
 abbrev pub IsFree : View → Literal → Type 0
 IsFree s l = (variable_of l < length s.values) × (slice_index_or s.values (variable_of l) None ≡ None)
 
--- each variable has a value
+-- Each literal of a kept clause has a value. A variable that no kept clause names may have none.
 abbrev pub IsTotal : View → Type 0
-IsTotal s = (v : ℕ) → v < length s.values → slice_index_or s.values v None ≢ None
+IsTotal s = (c : Clause) → c ∈ kept s → (l : Literal) → l ∈ c → slice_index_or s.values (variable_of l) None ≢ None
 
 -- what the values say of the variables, false where there is none
 abbrev pub assignment_of : View → Assignment
 assignment_of s v = is_true_value (slice_index_or s.values v None)
 
--- What a step that goes on gives: one clause that follows and has no held clause as a part, and a trail of higher rank.
-pub record Goes (s t : View) : Type 0 where
-  pub clause : Clause
-  pub held : (held : List Clause) → Fits held s → Derives held (Add clause ∷ []) (held ++ clause ∷ []) × Fits (held ++ clause ∷ []) t × ((d : Clause) → d ∈ held → d ⊆ clause → ⊥)
-  pub rises : rank (length s.values) (kinds s) < rank (length s.values) (kinds t)
-  pub count : length t.values ≡ length s.values
-
--- What a step comes to, by the verdict after it.
-abbrev pub StepGives : View → View → SatState → Type 0
-StepGives s t verdict.Unknown = Goes s t
-StepGives s t verdict.Sat = (held : List Clause) → Fits held s → Fits held t × SatisfiesAll (assignment_of t) held
-StepGives s t verdict.Unsat = (held : List Clause) → Fits held s → Conflicts held []
-StepGives s t verdict.UnsatUnderAssumptions = ⊥
-
--- The clause is empty, or as a set one literal whose opposite is true at level 0.
-abbrev pub IsContradicted : View → Clause → Type 0
-IsContradicted s c = (c ≡ []) ⊎ ((l : Literal) × IsUnit l c × IsFixed s (opposite l))
-
 -- the verdict once a clause is accepted that does not contradict what is known
-abbrev pub with_clause : SatState → SatState
-with_clause verdict.Unknown = verdict.Unknown
-with_clause verdict.Sat = verdict.Unknown
-with_clause verdict.Unsat = verdict.Unsat
-with_clause verdict.UnsatUnderAssumptions = verdict.UnsatUnderAssumptions
-
--- What loading a clause gives: it is held from then on, or what is held conflicts with it.
-pub record Loads (s t : View) (c : Clause) (before after : SatState) : Type 0 where
-  pub accepted : (IsContradicted s c → ⊥) → (after ≡ with_clause before) × ((held : List Clause) → Fits held s → Fits (held ++ c ∷ []) t)
-  pub contradicted : IsContradicted s c → (after ≡ verdict.Unsat) × ((held : List Clause) → Fits held s → Conflicts (held ++ c ∷ []) [])
+abbrev pub reopened_state : SatState → SatState
+reopened_state verdict.Unknown = verdict.Unknown
+reopened_state verdict.Sat = verdict.Unknown
+reopened_state verdict.Unsat = verdict.Unsat
+reopened_state verdict.UnsatUnderAssumptions = verdict.UnsatUnderAssumptions

@@ -1,5 +1,5 @@
 //! Learns a clause from a conflict.
-ghost use Rattle.std.specs.Prelude.{◌≡◌, ℕ, ◌<◌, ◌≤◌, false, length, slice_index_or, OnOk, IfOk};
+ghost use Rattle.std.specs.Prelude.{◌≡◌, ℕ, ◌<◌, ◌≤◌, ◌⊎◌, ◌++◌, true, false, length, slice_index_or, OnOk, IfOk, MatchOption};
 ghost use Rattle.varisat_theory.specs.Membership.{◌∈◌, SameSet, IsDistinct};
 ghost use Rattle.varisat_theory.specs.Literals.{variable_of, opposite};
 ghost use Rattle.varisat_theory.specs.Propagation.{IsFalse};
@@ -7,7 +7,7 @@ ghost use Rattle.varisat_prop.specs.Parts.{Values};
 ghost use Rattle.varisat_prop.specs.View.{View, view_of, level_of, WellFormed, LevelsSettled};
 ghost use Rattle.varisat_prop.specs.Changes.{place_of};
 ghost use Rattle.varisat_search.specs.Learned.{no_analysis, IsConflict, IsLevelOf, IsLearned, AreInvolved};
-ghost use Rattle.varisat_search.specs.Marks.{Sees, IsDeepConflict, marking, IsClean, MarksAreListed, Marks, Adds, AddsReason, IsResolved, Minimizes, Teaches};
+ghost use Rattle.varisat_search.specs.Marks.{Sees, CanMark, marking, MayBegin, MarksAreListed, Marks, Adds, places_of, AddsReason, IsResolved, Minimizes, Teaches};
 ghost use Rattle.varisat_search.specs.Redundancy.{Explores, IsFound};
 
 use crate::glue::LevelAbstraction;
@@ -97,6 +97,27 @@ impl<A: Allocator + Copy> AnalyzeConflict<A> {
     }
 }
 
+/// The level of the false literal, unless it is 0 or the literal's variable is marked.
+fn level_to_mark<A: Allocator + Copy>(
+    parts: Parts<'_, A>,
+    var_flags: &[bool],
+    lit: Lit,
+) -> Option<usize>
+    ghost s: { View }
+    requires can { CanMark s parts var_flags.now }
+    requires falsified { opposite lit ∈ s.trail }
+    ensures { MatchOption result
+        ((level_of s lit ≡ 0) ⊎ (slice_index_or var_flags.now (variable_of lit) false ≡ true))
+        (λ level. (level ≡ level_of s lit) × (0 < level) × (slice_index_or var_flags.now (variable_of lit) false ≡ false) × (variable_of lit < length var_flags.now)) }
+{
+    let level = parts.impl_graph.level(lit.var());
+    // What is false at level 0 is false by the clauses alone, and can be left out.
+    if level == 0 || var_flags[lit.index()] {
+        return None;
+    }
+    Some(level)
+}
+
 /// Marks the variables of false literals. Those below the current level join the clause; returns how many of the
 /// current level are new.
 fn add_literals<A: Allocator + Copy>(
@@ -106,19 +127,16 @@ fn add_literals<A: Allocator + Copy>(
     lits: &[Lit],
 ) -> Result<usize, AllocError>
     ghost s: { View }
-    requires sees { Sees s parts.clause_alloc.now parts.impl_graph.now parts.trail.now }
-    requires flags { length var_flags.old ≡ length s.nodes }
+    requires can { CanMark s parts var_flags.old }
     requires falsified { IsFalse s.trail lits.now }
     ensures { IfOk result (λ count. Adds s lits.now count (marking scratch.old var_flags.old) (marking scratch.new var_flags.new)) }
 {
     let current = parts.trail.current_level();
     let mut count = 0;
     for lit in lits {
-        let level = parts.impl_graph.level(lit.var());
-        // What is false at level 0 is false by the clauses alone, and can be left out.
-        if level == 0 || var_flags[lit.index()] {
+        let Some(level) = level_to_mark(parts, var_flags, *lit) else {
             continue;
-        }
+        };
         if level == current {
             count += 1;
         } else {
@@ -130,6 +148,21 @@ fn add_literals<A: Allocator + Copy>(
     Ok(count)
 }
 
+/// Lists the clause that the reason names.
+fn list_reason<A: Allocator + Copy>(
+    scratch: &mut Scratch<A>,
+    reason: Reason,
+) -> Result<(), AllocError>
+    ensures kept { OnOk result (scratch.new ≡ record scratch.old { involved = scratch.new.involved }) }
+    ensures listed { OnOk result (scratch.new.involved.items ≡ scratch.old.involved.items ++ places_of reason) }
+{
+    match reason {
+        Reason::Unit => {}
+        Reason::Long(cref) => scratch.involved.push(cref)?,
+    }
+    Ok(())
+}
+
 /// Lists the true literal's reason and adds the other literals of the reason. Returns how many of the current level are
 /// new.
 fn add_reason<A: Allocator + Copy>(
@@ -139,15 +172,12 @@ fn add_reason<A: Allocator + Copy>(
     lit: Lit,
 ) -> Result<usize, AllocError>
     ghost s: { View }
-    requires sees { Sees s parts.clause_alloc.now parts.impl_graph.now parts.trail.now }
-    requires flags { length var_flags.old ≡ length s.nodes }
+    requires can { CanMark s parts var_flags.old }
     requires stands { lit ∈ s.trail }
     ensures { IfOk result (λ count. AddsReason s lit count (marking scratch.old var_flags.old) (marking scratch.new var_flags.new)) }
 {
     let reason = *parts.impl_graph.reason(lit.var());
-    if let Reason::Long(cref) = reason {
-        scratch.involved.push(cref)?;
-    }
+    list_reason(scratch, reason)?;
     let count = add_literals(parts, scratch, var_flags, reason.lits(parts.clause_alloc))?;
     Ok(count)
 }
@@ -170,10 +200,7 @@ fn resolve<A: Allocator + Copy>(
     conflict: Conflict,
 ) -> Result<Lit, AllocError>
     ghost s: { View }
-    requires sees { Sees s parts.clause_alloc.now parts.impl_graph.now parts.trail.now }
-    requires flags { length var_flags.old ≡ length s.nodes }
-    requires conflict { IsDeepConflict s (place_of conflict) }
-    requires clean { IsClean (marking scratch.old var_flags.old) }
+    requires { MayBegin s parts (place_of conflict) (marking scratch.old var_flags.old) }
     ensures { IfOk result (λ first. IsResolved s (place_of conflict) first (marking scratch.new var_flags.new)) }
 {
     let lits = conflict.lits(parts.clause_alloc);
@@ -229,16 +256,14 @@ fn mark_causes<A: Allocator + Copy>(
     lits: &[Lit],
 ) -> Result<bool, AllocError>
     ghost s: { View }
-    requires sees { Sees s parts.clause_alloc.now parts.impl_graph.now parts.trail.now }
-    requires flags { length var_flags.old ≡ length s.nodes }
+    requires can { CanMark s parts var_flags.old }
     requires falsified { IsFalse s.trail lits.now }
     ensures { IfOk result (λ done. Explores s lits.now done (marking scratch.old var_flags.old) (marking scratch.new var_flags.new)) }
 {
     for lit in lits {
-        let level = parts.impl_graph.level(lit.var());
-        if level == 0 || var_flags[lit.index()] {
+        let Some(level) = level_to_mark(parts, var_flags, *lit) else {
             continue;
-        }
+        };
         // A decision that isn't marked is implied by nothing. Where no literal of the clause is of the level, the search
         // would come to the decision of that level in the end; a filter that holds too much only makes it go on.
         if parts.impl_graph.reason(lit.var()).is_unit() || !levels.test(level) {
@@ -261,8 +286,7 @@ fn is_redundant<A: Allocator + Copy>(
     lit: Lit,
 ) -> Result<bool, AllocError>
     ghost s: { View }
-    requires sees { Sees s parts.clause_alloc.now parts.impl_graph.now parts.trail.now }
-    requires flags { length var_flags.old ≡ length s.nodes }
+    requires can { CanMark s parts var_flags.old }
     requires falsified { opposite lit ∈ s.trail }
     ensures { IfOk result (λ redundant. IsFound s lit redundant (marking scratch.old var_flags.old) (marking scratch.new var_flags.new)) }
 {
@@ -307,8 +331,7 @@ fn minimize<A: Allocator + Copy>(
     var_flags: &mut [bool],
 ) -> Result<(), AllocError>
     ghost s: { View }
-    requires sees { Sees s parts.clause_alloc.now parts.impl_graph.now parts.trail.now }
-    requires flags { length var_flags.old ≡ length s.nodes }
+    requires can { CanMark s parts var_flags.old }
     requires marks { Marks s 0 (marking scratch.old var_flags.old) }
     ensures { OnOk result (Minimizes s (marking scratch.old var_flags.old) (marking scratch.new var_flags.new)) }
 {
@@ -328,7 +351,7 @@ fn minimize<A: Allocator + Copy>(
 /// The place of a literal with the highest level.
 fn highest_place<A: Allocator + Copy>(parts: Parts<'_, A>, clause: &[Lit]) -> usize
     ghost s: { View }
-    requires sees { Sees s parts.clause_alloc.now parts.impl_graph.now parts.trail.now }
+    requires sees { Sees s parts }
     requires range { (m : ℕ) → m ∈ clause.now → variable_of m < length s.nodes }
     requires some { 0 < length clause.now }
     ensures within { result < length clause.now }
@@ -347,7 +370,7 @@ fn highest_place<A: Allocator + Copy>(parts: Parts<'_, A>, clause: &[Lit]) -> us
 /// Puts a literal with the highest level first. Returns that level, or 0 where there is no literal.
 fn put_highest_first<A: Allocator + Copy>(parts: Parts<'_, A>, clause: &mut Vec<Lit, A>) -> usize
     ghost s: { View }
-    requires sees { Sees s parts.clause_alloc.now parts.impl_graph.now parts.trail.now }
+    requires sees { Sees s parts }
     requires range { (m : ℕ) → m ∈ clause.old.items → variable_of m < length s.nodes }
     requires distinct { IsDistinct clause.old.items }
     ensures same { SameSet clause.new.items clause.old.items }
@@ -371,10 +394,7 @@ fn learn<A: Allocator + Copy>(
     conflict: Conflict,
 ) -> Result<usize, AllocError>
     ghost s: { View }
-    requires sees { Sees s parts.clause_alloc.now parts.impl_graph.now parts.trail.now }
-    requires flags { length var_flags.old ≡ length s.nodes }
-    requires conflict { IsDeepConflict s (place_of conflict) }
-    requires clean { IsClean (marking scratch.old var_flags.old) }
+    requires { MayBegin s parts (place_of conflict) (marking scratch.old var_flags.old) }
     ensures teaches { IfOk result (λ level. Teaches s (place_of conflict) scratch.new.clause.items scratch.new.involved.items level) }
     ensures cleaned { OnOk result (MarksAreListed (marking scratch.new var_flags.new)) }
 {
@@ -395,10 +415,7 @@ fn learn_and_clear<A: Allocator + Copy>(
     conflict: Conflict,
 ) -> Result<usize, AllocError>
     ghost s: { View }
-    requires sees { Sees s parts.clause_alloc.now parts.impl_graph.now parts.trail.now }
-    requires flags { length var_flags.old ≡ length s.nodes }
-    requires conflict { IsDeepConflict s (place_of conflict) }
-    requires clean { IsClean (marking scratch.old var_flags.old) }
+    requires { MayBegin s parts (place_of conflict) (marking scratch.old var_flags.old) }
     ensures unmarked { (v : ℕ) → slice_index_or var_flags.new v false ≡ false }
     ensures teaches { IfOk result (λ level. Teaches s (place_of conflict) scratch.new.clause.items scratch.new.involved.items level) }
 {

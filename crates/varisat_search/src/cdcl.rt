@@ -1,17 +1,14 @@
 //! One step of the search: propagate and decide to a conflict or a model, and learn.
-ghost use Rattle.std.specs.Prelude.{◌≡◌, ◌<◌, ◌≤◌, ℕ, length, [], ◌∷◌, List, OnOk, IfOk, MatchOption, MatchResult};
+ghost use Rattle.std.specs.Prelude.{◌≡◌, ◌≢◌, ℕ, length, [], ◌∷◌, List, OnOk, IfOk, MatchOption, MatchResult};
 ghost use Rattle.varisat_theory.specs.Propagation.{IsComplete};
-ghost use Rattle.varisat_prop.specs.View.{View, kept, kinds, WellFormed, LevelsSettled, Grows};
+ghost use Rattle.varisat_prop.specs.View.{kept, Grows};
 ghost use Rattle.varisat_prop.specs.Parts.{Values};
 ghost use Rattle.varisat_prop.specs.Changes.{place_of};
 ghost use Rattle.varisat_search.specs.Learned.{IsConflict, IsLearned};
 ghost use Rattle.varisat_search.specs.Contexts.{view, IsReady};
-ghost use Rattle.varisat_search.specs.Steps.{IsTotal, StepGives, SavesSome, Remembers};
-ghost use Rattle.varisat_search.specs.Conflicts.{conflict_of, IsKept};
-ghost use Rattle.varisat_search.specs.Seen.{search_of, outcome_of};
-ghost use Rattle.varisat_theory.specs.Derivations.{Line};
-ghost use Rattle.varisat_theory.specs.Outcomes.{Steps};
-ghost use Rattle.varisat_theory.specs.Rank.{rank};
+ghost use Rattle.varisat_search.specs.Steps.{IsTotal, SavesSome, Remembers};
+ghost use Rattle.varisat_search.specs.Conflicts.{conflict_of, IsKeptAsReason};
+ghost use Rattle.varisat_search.specs.Progress.{StepsTo, RaisesRank, IsStepFurther};
 
 use crate::analyze_conflict::analyze_conflict;
 use crate::context::Context;
@@ -81,7 +78,7 @@ pub fn first_of(clause: &[Lit]) -> Option<Lit>
 /// Keeps the learned clause where it has two literals or more, as redundant, and returns what makes its first literal true.
 fn keep_learned<A: Allocator + Copy>(ctx: &mut Context<A>) -> Result<Reason, AllocError>
     ensures kept { OnOk result (ctx.new ≡ record ctx.old { clause_alloc = ctx.new.clause_alloc }) }
-    ensures reason { IfOk result (λ reason. IsKept ctx.old.clause_alloc ctx.new.clause_alloc ctx.old.analyze_conflict.clause reason) }
+    ensures reason { IfOk result (λ reason. IsKeptAsReason ctx.old.clause_alloc ctx.new.clause_alloc ctx.old.analyze_conflict.clause reason) }
 {
     if ctx.analyze_conflict.clause().len() < 2 {
         return Ok(Reason::Unit);
@@ -123,13 +120,8 @@ fn learn<A: Allocator + Copy>(ctx: &mut Context<A>, conflict: Conflict) -> Resul
     requires ready { IsReady ctx.old }
     requires conflict { IsConflict (view ctx.old) (place_of conflict) }
     requires unknown { ctx.old.solver_state.sat_state ≡ SatState.Unknown }
-    ensures ready { OnOk result (IsReady ctx.new) }
-    ensures gives { OnOk result (StepGives (view ctx.old) (view ctx.new) ctx.new.solver_state.sat_state) }
-    ensures steps { OnOk result ((lines : List Line) × Steps (search_of (view ctx.old)) (search_of (view ctx.new)) (outcome_of (view ctx.new) ctx.new.solver_state.sat_state) lines) }
+    ensures further { OnOk result (IsStepFurther ctx.old ctx.new) }
     ensures last { OnOk result (SavesSome (view ctx.old) ctx.old.assignment.last ctx.new.assignment.last) }
-    ensures count { OnOk result (length ctx.new.assignment.current ≡ length ctx.old.assignment.current) }
-    ensures units { OnOk result (ctx.new.trail.units_removed ≡ ctx.old.trail.units_removed) }
-    ensures state { OnOk result (ctx.new.solver_state ≡ record ctx.old.solver_state { sat_state = ctx.new.solver_state.sat_state }) }
 {
     let level = analyze(ctx, conflict)?;
     // At this level the learned clause leaves its first literal, and no earlier propagation is lost.
@@ -155,10 +147,9 @@ pub fn conflict_step<A: Allocator + Copy>(ctx: &mut Context<A>) -> Result<(), Al
     requires ready { IsReady ctx.old }
     requires unknown { ctx.old.solver_state.sat_state ≡ SatState.Unknown }
     ensures ready { OnOk result (IsReady ctx.new) }
-    ensures gives { OnOk result (StepGives (view ctx.old) (view ctx.new) ctx.new.solver_state.sat_state) }
-    ensures steps { OnOk result ((lines : List Line) × Steps (search_of (view ctx.old)) (search_of (view ctx.new)) (outcome_of (view ctx.new) ctx.new.solver_state.sat_state) lines) }
-    // The rank, over each number of variables that bounds the trail before.
-    ensures rises { OnOk result (ctx.new.solver_state.sat_state ≡ SatState.Unknown → (n : ℕ) → length ctx.old.trail.literals ≤ n → rank n (kinds (view ctx.old)) < rank n (kinds (view ctx.new))) }
+    ensures steps { OnOk result (StepsTo ctx.old ctx.new) }
+    ensures no_assumptions { OnOk result (ctx.new.solver_state.sat_state ≢ SatState.UnsatUnderAssumptions) }
+    ensures rises { OnOk result (ctx.new.solver_state.sat_state ≡ SatState.Unknown → RaisesRank ctx.old ctx.new) }
     ensures last { OnOk result (Remembers (view ctx.old) ctx.old.assignment.last ctx.new.assignment.last) }
     ensures count { OnOk result (length ctx.new.assignment.current ≡ length ctx.old.assignment.current) }
     ensures units { OnOk result (ctx.new.trail.units_removed ≡ ctx.old.trail.units_removed) }

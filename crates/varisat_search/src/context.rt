@@ -1,8 +1,7 @@
 //! All parts of a search.
-ghost use Rattle.std.specs.Prelude.{◌≡◌, ℕ, ◌≤◌, ◌^◌, ◌-◌, ◌++◌, List, [], length, replicate, slice_index_or, false, OnOk};
-ghost use Rattle.varisat_theory.specs.Literals.{Clause};
-ghost use Rattle.varisat_prop.specs.View.{Fits};
+ghost use Rattle.std.specs.Prelude.{◌≡◌, ℕ, ◌≤◌, ◌-◌, ◌++◌, [], length, replicate, slice_index_or, false, OnOk};
 ghost use Rattle.varisat_search.specs.Contexts.{view, IsReady, first_state};
+ghost use Rattle.varisat_search.specs.Seen.{search_of, first_search};
 ghost use Rattle.varisat_literals.specs.Numbers.{variable_limit};
 
 use crate::analyze_conflict::AnalyzeConflict;
@@ -30,7 +29,7 @@ impl<A: Allocator + Copy> Context<A> {
     pub fn new_in(alloc: A) -> Context<A>
         ensures ready { IsReady result }
         ensures undecided { result.trail.decisions ≡ [] }
-        ensures fits { Fits [] (view result) }
+        ensures seen { search_of (view result) ≡ first_search }
         ensures empty { length result.assignment.current ≡ 0 }
         ensures state { result.solver_state ≡ first_state }
     {
@@ -60,7 +59,7 @@ pub fn set_var_count<A: Allocator + Copy>(
     ensures count { OnOk result (length ctx.new.assignment.current ≡ count) }
     ensures remembered { (v : ℕ) → slice_index_or ctx.new.assignment.last v false ≡ slice_index_or ctx.old.assignment.last v false }
     ensures last { OnOk result (ctx.new.assignment.last ≡ ctx.old.assignment.last ++ replicate (count - length ctx.old.assignment.current) false) }
-    ensures fits { OnOk result ((held : List Clause) → Fits held (view ctx.old) → Fits held (view ctx.new)) }
+    ensures seen { OnOk result (search_of (view ctx.new) ≡ search_of (view ctx.old)) }
     ensures kept { OnOk result (ctx.new ≡ record ctx.old { analyze_conflict = ctx.new.analyze_conflict; assignment = ctx.new.assignment; impl_graph = ctx.new.impl_graph; tmp_flags = ctx.new.tmp_flags }) }
 {
     ctx.analyze_conflict.set_var_count(count)?;

@@ -1,5 +1,5 @@
 //! The choice of a literal to decide.
-ghost use Rattle.std.specs.Prelude.{◌≡◌, ◌≢◌, ℕ, ◌<◌, ◌≤◌, ◌^◌, None, false, length, slice_index_or, OnOk, IfOk, MatchOption, MatchBool};
+ghost use Rattle.std.specs.Prelude.{◌≡◌, ◌≢◌, ℕ, ◌<◌, ◌≤◌, None, false, length, slice_index_or, OnOk, IfOk, MatchOption, MatchBool};
 ghost use Rattle.varisat_theory.specs.Literals.{Literal, variable_of};
 ghost use Rattle.varisat_literals.specs.Numbers.{polarity_of, variable_limit};
 ghost use Rattle.varisat_prop.specs.View.{WellFormed};
@@ -29,7 +29,7 @@ fn unassigned_var<A: Allocator + Copy>(assignment: &Assignment<A>) -> Option<Var
 }
 
 /// Decides a variable as it was last assigned, and as false at first, so that a search stays near the assignment that it
-/// was at. Returns false where each one has a value. The queue stays as it was: the decision is still to be propagated.
+/// was at. Returns false where each literal of a kept clause has a value. The queue stays as it was: the decision is still to be propagated.
 pub fn make_decision<A: Allocator + Copy>(ctx: &mut Context<A>) -> Result<bool, AllocError>
     requires { WellFormed (view ctx.old) }
     ensures decided { IfOk result (λ made. MatchBool made

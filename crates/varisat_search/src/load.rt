@@ -1,14 +1,15 @@
 //! Loading of clauses.
-ghost use Rattle.std.specs.Prelude.{◌≡◌, ◌≢◌, ℕ, ◌<◌, List, [], length, true, false, OnOk, IsTrue, ◌↔◌};
+ghost use Rattle.std.specs.Prelude.{◌≡◌, ◌≢◌, ◌<◌, List, [], length, true, false, OnOk, IsTrue, ◌↔◌};
 ghost use Rattle.varisat_theory.specs.Membership.{◌∈◌, SameSet, IsDistinct};
 ghost use Rattle.varisat_theory.specs.Literals.{Literal};
 ghost use Rattle.varisat_theory.specs.Derivations.{Line};
-ghost use Rattle.varisat_theory.specs.Outcomes as accepted;
+ghost use Rattle.varisat_theory.specs.Searches.{IsTautology};
+ghost use Rattle.varisat_theory.specs.Outcomes.{Loads};
 ghost use Rattle.varisat_prop.specs.Parts.{IsMadeTrue};
 ghost use Rattle.varisat_prop.specs.Looks.{IsInRange};
-ghost use Rattle.varisat_prop.specs.View.{WellFormed, IsTautology};
+ghost use Rattle.varisat_prop.specs.View.{WellFormed};
 ghost use Rattle.varisat_search.specs.Contexts.{view, IsReady};
-ghost use Rattle.varisat_search.specs.Steps.{Loads, SavesAll};
+ghost use Rattle.varisat_search.specs.Steps.{SavesAll};
 ghost use Rattle.varisat_search.specs.Loading.{IsAdded};
 ghost use Rattle.varisat_search.specs.Seen.{search_of, outcome_of};
 
@@ -123,8 +124,7 @@ pub fn load_clause<A: Allocator + Copy>(
     requires in_range { IsInRange ctx.old.assignment.current lits.now }
     ensures ready { OnOk result (IsReady ctx.new) }
     ensures unsat { ctx.old.solver_state.sat_state ≡ SatState.Unsat → (result ≡ Ok tt) × (ctx.new ≡ ctx.old) }
-    ensures loads { OnOk result (ctx.old.solver_state.sat_state ≢ SatState.Unsat → Loads (view ctx.old) (view ctx.new) lits.now ctx.old.solver_state.sat_state ctx.new.solver_state.sat_state) }
-    ensures lines { OnOk result (ctx.old.solver_state.sat_state ≢ SatState.Unsat → ctx.old.solver_state.sat_state ≢ SatState.UnsatUnderAssumptions → (lines : List Line) × accepted.Loads (search_of (view ctx.old)) (search_of (view ctx.new)) lits.now (outcome_of (view ctx.new) ctx.new.solver_state.sat_state) lines) }
+    ensures lines { OnOk result (ctx.old.solver_state.sat_state ≢ SatState.Unsat → ctx.old.solver_state.sat_state ≢ SatState.UnsatUnderAssumptions → (lines : List Line) × Loads (search_of (view ctx.old)) (search_of (view ctx.new)) lits.now (outcome_of (view ctx.new) ctx.new.solver_state.sat_state) lines) }
     ensures last { OnOk result (ctx.old.solver_state.sat_state ≢ SatState.Unsat → SavesAll (view ctx.old) ctx.old.assignment.last ctx.new.assignment.last) }
     ensures state { OnOk result (ctx.old.solver_state.sat_state ≢ SatState.Unsat → ctx.new.solver_state ≡ record ctx.old.solver_state { sat_state = ctx.new.solver_state.sat_state; formula_is_empty = false }) }
     ensures count { OnOk result (length ctx.new.assignment.current ≡ length ctx.old.assignment.current) }

@@ -47,11 +47,11 @@ impl Default for SolverState {
 
 impl SolverState {
     ghost use Rattle.std.specs.Prelude.{◌≡◌, false};
-    ghost use Rattle.varisat_search.specs.Steps.{with_clause};
+    ghost use Rattle.varisat_search.specs.Steps.{reopened_state};
 
     /// Notes that a clause was accepted: a model that was found may not satisfy it.
     pub fn accept_clause(&mut self)
-        ensures { self.new ≡ record self.old { sat_state = with_clause self.old.sat_state; formula_is_empty = false } }
+        ensures { self.new ≡ record self.old { sat_state = reopened_state self.old.sat_state; formula_is_empty = false } }
     {
         if let SatState::Sat = self.sat_state {
             self.sat_state = SatState::Unknown;

@@ -3,6 +3,7 @@
 
 ghost use Rattle.std.specs.Prelude.{◌≡◌, ◌≤◌, ◌^◌, IfOk};
 ghost use Rattle.varisat_search.specs.Contexts.{view, IsReady};
+ghost use Rattle.varisat_search.specs.Seen.{search_of, outcome_of};
 ghost use Rattle.varisat_steps.specs.Conflicts.{IsLoaded, ComesTo};
 ghost use Rattle.varisat_literals.specs.Numbers.{variable_limit};
 
@@ -19,6 +20,8 @@ use varisat_search::context::{Context, set_var_count};
 use varisat_search::load::load_clause;
 use varisat_search::state::SatState;
 
+// These are the statuses of `varisat solve`. They are written again since this program stands below the crate that has
+// them: it is to run the search without the solver over it.
 const STATUS_SATISFIABLE: u8 = 10;
 
 const STATUS_UNSATISFIABLE: u8 = 20;
@@ -66,7 +69,7 @@ fn run(rt: &HostRuntime) -> Result<u8> {
 fn load<A: Allocator + Copy>(alloc: A, formula: &CnfFormula<A>) -> Result<Context<A>>
     requires { formula.now.var_count ≤ variable_limit }
     ensures ready { IfOk result IsReady }
-    ensures loaded { IfOk result (λ ctx. IsLoaded formula.now.clauses (view ctx) ctx.solver_state.sat_state) }
+    ensures loaded { IfOk result (λ ctx. IsLoaded formula.now.clauses (search_of (view ctx)) (outcome_of (view ctx) ctx.solver_state.sat_state)) }
 {
     let mut ctx = Context::new_in(alloc);
     set_var_count(&mut ctx, formula.var_count())?;
@@ -80,7 +83,7 @@ fn load<A: Allocator + Copy>(alloc: A, formula: &CnfFormula<A>) -> Result<Contex
 fn count_conflicts<A: Allocator + Copy>(ctx: &mut Context<A>) -> Result<u64>
     requires ready { IsReady ctx.old }
     requires unknown { ctx.old.solver_state.sat_state ≡ SatState.Unknown }
-    ensures { IfOk result (λ n. ComesTo n (view ctx.old) (view ctx.new) ctx.new.solver_state.sat_state) }
+    ensures { IfOk result (λ n. ComesTo n (search_of (view ctx.old)) (search_of (view ctx.new)) (outcome_of (view ctx.new) ctx.new.solver_state.sat_state)) }
 {
     for conflicts in 0..u64::MAX {
         conflict_step(ctx)?;

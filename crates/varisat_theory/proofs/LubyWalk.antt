@@ -20,14 +20,14 @@ even_place q p h =
     let e : (2 * q + 2) * p ≡ (q + 1) * (2 * p) = omega arith in
     ap (λ x. x % (2 * p)) e ∙ mul-mod_left (q + 1) (2 * p)
 
-next_odd : (q k : ℕ) → next_walk (at ((2 * q + 1) * 2 ^ k) k) ≡ at (suc ((2 * q + 1) * 2 ^ k)) 0
+pub next_odd : (q k : ℕ) → next_walk (at ((2 * q + 1) * 2 ^ k) k) ≡ at (suc ((2 * q + 1) * 2 ^ k)) 0
 next_odd q k =
     let a = odd_place q (2 ^ k) (pow_pos k) in
     let b : 2 ^ suc k ≡ 2 * 2 ^ k = let c = pow-suc 2 k in omega arith in
     let d = ap (λ x. ((2 * q + 1) * 2 ^ k) % x) b ∙ a in
     rw (eq-eqb _ _ d) refl
 
-next_even : (q k : ℕ) → next_walk (at ((2 * q + 2) * 2 ^ k) k) ≡ at ((2 * q + 2) * 2 ^ k) (suc k)
+pub next_even : (q k : ℕ) → next_walk (at ((2 * q + 2) * 2 ^ k) k) ≡ at ((2 * q + 2) * 2 ^ k) (suc k)
 next_even q k =
     let a = even_place q (2 ^ k) (pow_pos k) in
     let b : 2 ^ suc k ≡ 2 * 2 ^ k = let c = pow-suc 2 k in omega arith in

@@ -8,7 +8,7 @@ use Rattle.varisat_theory.specs.Derivations.{Line, Add, Delete, TakesOut, Refute
 use Rattle.varisat_theory.specs.Held.{SameClauses}
 use Rattle.varisat_theory.specs.Renaming.{KeepsOpposites, IsOneToOneOn, IsWithin, rename, rename_line, named_back}
 use Rattle.varisat_theory.proofs.Lines.{refutes_at, refutes_from}
-use Rattle.varisat_theory.proofs.Values.{value-opposite}
+use Rattle.varisat_theory.proofs.Values.{parity, value-opposite}
 
 pub ∈-map : {X Y : Type 0} (f : X → Y) (x : X) (xs : List X) → x ∈ xs → f x ∈ map f xs
 ∈-map f x [] h = absurd h
@@ -26,9 +26,6 @@ map-⊆ f xs ys s y h = let r = map-∈ f y xs h in subst (λ z. z ∈ map f ys)
 even_or_odd : (l : ℕ) → (l ≡ 2 * (l / 2)) ⊎ (l ≡ opposite (2 * (l / 2)))
 unfolding opposite
 even_or_odd l = ⊎_elim (λ h. inl (omega arith)) (λ h. inr (omega arith)) (parity l)
-  where
-    parity : (m : ℕ) → (m % 2 ≡ 0) ⊎ (m % 2 ≡ 1)
-    parity m = grind arith
 
 half_twice : (v : ℕ) → (2 * v) / 2 ≡ v
 half_twice v = omega arith

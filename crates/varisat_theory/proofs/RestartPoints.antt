@@ -21,7 +21,7 @@ sum_next i r =
 scaled_next : (scale i r : ℕ) → scale * sum_from luby i (suc r) ≡ scale * sum_from luby i r + scale * luby (i + r)
 scaled_next scale i r = let a = ap (λ x. scale * x) (sum_next i r) in omega (arith, a)
 
-luby_positive : (i : ℕ) → 0 < luby (suc i)
+pub luby_positive : (i : ℕ) → 0 < luby (suc i)
 luby_positive i = let a = walk-luby i in let b = pow_pos (walk_at i).exponent in omega (arith, a, b)
 
 pub point_zero : (scale : ℕ) → restart_point scale 0 ≡ 0

@@ -1,7 +1,7 @@
 //! Reads texts from sources, with a call of the caller's function after each piece and after the end.
 ghost use Rattle.std.specs.Prelude.{◌≡◌, ◌-◌, ◌<◌, ◌^◌, ◌⊎◌, [], true, length, IfOk, IfErr};
 ghost use Rattle.std.specs.Fn.{CalledAtMut};
-ghost use Rattle.varisat_formula.specs.Rest.{Progress, begin, dimacs_from, RunsOut, fault_of};
+ghost use Rattle.varisat_formula.specs.Rest.{Progress, begin, dimacs_from, IsEnding, RunsOut, fault_of};
 ghost use Rattle.varisat_formula.specs.Parsed.{TakesPiece, Finishes, Refuses};
 
 use crate::dimacs::error::DimacsError;
@@ -32,7 +32,7 @@ pub trait PieceReader<A: Allocator + Copy>: Drop {
 
     /// Ends the text, and returns its first fault.
     fn end(&mut self) -> Result<(), DimacsError>
-        ensures reads { ((progress self.new).reading ≡ dimacs_from (progress self.old) []) ⊎ RunsOut (progress self.old) [] (progress self.new) }
+        ensures reads { IsEnding (progress self.old) (progress self.new) }
         ensures answer { fault_of result ≡ (progress self.new).reading.fault }
         ensures over { (progress self.new).over ≡ true };
 

@@ -4,7 +4,7 @@ ghost use Rattle.varisat_formula.specs.declared.dimacs.parser.Place.TheVariants.
 ghost use Rattle.varisat_formula.specs.declared.dimacs.error.DimacsErrorKind.TheVariants.{Io, OutOfMemory};
 ghost use Rattle.varisat_formula.specs.Dimacs.{Reading, failed, next, read, is_line_feed, is_blank, gives, Ending, BreaksOff};
 ghost use Rattle.varisat_formula.specs.Machine.{no_word};
-ghost use Rattle.varisat_formula.specs.Rest.{begin, word_items, line_rest, start_place, gives_from, dimacs_from, AdvancesBy, KeepsToken, WantsRoom, RunsOut, RunsOutIn, failing, fault_of, with_front};
+ghost use Rattle.varisat_formula.specs.Rest.{begin, word_items, line_rest, start_place, gives_from, dimacs_from, AdvancesBy, KeepsToken, WantsRoom, IsEnding, RunsOut, RunsOutIn, failing, fault_of, with_front};
 
 use crate::dimacs::error::{DimacsError, DimacsErrorKind};
 use crate::dimacs::header::HeaderPart;
@@ -207,7 +207,7 @@ impl<A: Allocator + Copy> DimacsParser<A> {
 
     /// Ends the text, and returns its first fault.
     pub fn finish(&mut self) -> Result<(), DimacsError>
-        ensures reads { (self.new.reading ≡ dimacs_from self.old []) ⊎ RunsOut self.old [] self.new }
+        ensures reads { IsEnding self.old self.new }
         ensures answer { fault_of result ≡ self.new.reading.fault }
         ensures stays { self.new ≡ record self.old { over = true; reading = self.new.reading } }
         ensures over { self.new.over ≡ true }
@@ -250,7 +250,7 @@ impl<A: Allocator + Copy> DimacsParser<A> {
     fn end_text(&mut self)
         requires open { self.old.over ≡ false }
         requires fine { self.old.reading.fault ≡ None }
-        ensures reads { (self.new.reading ≡ dimacs_from self.old []) ⊎ RunsOut self.old [] self.new }
+        ensures reads { IsEnding self.old self.new }
         ensures stays { self.new ≡ record self.old { reading = self.new.reading } }
     {
         match self.end_place() {

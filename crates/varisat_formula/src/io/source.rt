@@ -48,8 +48,6 @@ pub struct ReadSource<R: Read + Drop> {
 }
 
 impl<R: Read + Drop> Model for ReadSource<R> {
-    ghost use Rattle.varisat_formula.specs.Streams.{Stand};
-
     ghost Value = { Stand };
 
     ghost view = { λ s. record { given = s.history.bytes; left = R.remaining s.reader; pieces = s.pieces; faults = s.faults; ended = s.ended } };

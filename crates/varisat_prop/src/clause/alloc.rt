@@ -57,6 +57,8 @@ impl<A: Allocator + Copy> Model for ClauseAlloc<A> {
 }
 
 impl<A: Allocator + Copy> ClauseAlloc<A> {
+    ghost use Rattle.varisat_prop.specs.Entries.{clause_from};
+
     /// No clauses. It takes no memory.
     pub fn new_in(alloc: A) -> ClauseAlloc<A>
         ensures { result ≡ [] }
@@ -90,12 +92,20 @@ impl<A: Allocator + Copy> ClauseAlloc<A> {
         Ok(ClauseRef { place })
     }
 
+    /// The clause with its header.
+    fn entry(&self, cref: ClauseRef) -> &Entry<A>
+        requires { IsPlace self.now cref }
+        ensures { stored_at self.now cref ≡ clause_from cref result.now }
+    {
+        &self.clauses[cref.place]
+    }
+
     /// What is noted of the clause.
     pub fn header(&self, cref: ClauseRef) -> &ClauseHeader
         requires { IsPlace self.now cref }
         ensures { result.now ≡ (stored_at self.now cref).header }
     {
-        &self.clauses[cref.place].header
+        &self.entry(cref).header
     }
 
     /// The literals of the clause.
@@ -103,7 +113,7 @@ impl<A: Allocator + Copy> ClauseAlloc<A> {
         requires { IsPlace self.now cref }
         ensures { result.now ≡ literals_at self.now cref }
     {
-        self.clauses[cref.place].lits.as_slice()
+        self.entry(cref).lits.as_slice()
     }
 
     /// Puts the literal at the place first, and the first one there.

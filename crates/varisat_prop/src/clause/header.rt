@@ -6,6 +6,7 @@ use std::marker::Model;
 /// What is noted of a kept clause. A contract sees the notes.
 #[derive(Clone, Copy, Debug, PartialEq, Eq)]
 pub struct ClauseHeader {
+    // The deletion of learned clauses, which is to come, will read it.
     redundant: bool,
 }
 

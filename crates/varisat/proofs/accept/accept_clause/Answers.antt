@@ -1,5 +1,5 @@
 -- What each part did to the maps and to the search.
-use Rattle.std.proofs.Common.{◌≡◌, ◌≢◌, ◌<◌, ◌≤◌, ℕ, Some, List, [], sym, ap, ap₂, ◌∙◌, subst, refl, length, map, ⊎_elim, arith}
+use Rattle.std.proofs.Common.{◌≡◌, ◌≢◌, ℕ, Some, List, [], sym, ap, ap₂, ◌∙◌, subst, refl, length, ⊎_elim, arith}
 use Rattle.varisat_theory.specs.Membership.{◌∈◌}
 use Rattle.varisat_theory.specs.Literals.{variable_of}
 use Rattle.varisat_theory.specs.Outcomes as outcome
@@ -8,7 +8,6 @@ use Rattle.varisat_prop.specs.View.{View}
 use Rattle.varisat_names.specs.Maps.{chain}
 use Rattle.varisat_names.specs.VarMap.{at}
 use Rattle.varisat_names.specs.VarBiMap.{BiMap}
-use Rattle.varisat_names.specs.Variables.{Tables}
 use Rattle.varisat_names.proofs.Maps.{chain-through}
 use Rattle.varisat_names.proofs.VarMap.{at-inside}
 use Rattle.varisat_search.specs.declared.context.Context.{Context}
@@ -17,35 +16,20 @@ use Rattle.varisat_search.specs.declared.state.SatState.TheVariants as verdict
 use Rattle.varisat_search.specs.Contexts.{view}
 use Rattle.varisat_search.specs.Seen.{search_of, outcome_of}
 use Rattle.varisat_theory.specs.Derivations.{Line}
-use Rattle.varisat_theory.specs.Outcomes.{Loads}
+use Rattle.varisat_theory.specs.Outcomes.{Loads, Proves}
 use Rattle.varisat.specs.Searches.{IsOpen}
 use Rattle.varisat.specs.Carried.{carry}
-use Rattle.varisat.specs.Accepting.{IsPlain, HasSolver}
 use Rattle.varisat.proofs.Carried.{carry-at}
-use Rattle.varisat.proofs.Views.{raised-proves}
-use Rattle.varisat.proofs.Tables.{named-plain, taken-in-turn-plain, joined-plain, taken-users, named-solvers, taken-grow, solvers-within}
-use Rattle.varisat.proofs.Accepted.{clause-accepted}
+use Rattle.varisat.proofs.PlainTables.{names-taken, joined-plain, named-solvers, taken-grow, solvers-within}
+use Rattle.varisat.proofs.AcceptClause.{clause-accepted}
 use Rattle.varisat.proofs.accept.accept_clause.Goals as goal
 
-pub take_solver_vars-requires-clause-plain : goal.take_solver_vars-requires-clause-plain
-take_solver_vars-requires-clause-plain g c = named-plain c.args.clause.now c.args.variables.now c.name_vars.new.variables c.requires.kept.plain (c.in_ok-name_vars.ensures {u = tt}).named
-
-pub mark_joined-requires-clause-plain : goal.mark_joined-requires-clause-plain
-mark_joined-requires-clause-plain g c =
-    let n = named-plain c.args.clause.now c.args.variables.now c.name_vars.new.variables c.requires.kept.plain (c.in_ok-name_vars.ensures {u = tt}).named in
-    let t = (c.in_ok-take_solver_vars.ensures {u = tt}).taken in
-    taken-in-turn-plain t.globals c.name_vars.new.variables c.take_solver_vars.new.variables n t.in_turn
-
-pub mark_joined-requires-clause-named : goal.mark_joined-requires-clause-named
-mark_joined-requires-clause-named g c l h =
-    let t = (c.in_ok-take_solver_vars.ensures {u = tt}).taken in
-    let u = ap (λ (m : BiMap). length m.forward) (taken-users t.globals c.name_vars.new.variables c.take_solver_vars.new.variables t.in_turn).0 in
-    let b = (c.in_ok-name_vars.ensures {u = tt}).all l h in
-    omega (arith, u, b)
+pub mark_joined-requires : goal.mark_joined-requires
+mark_joined-requires g c = names-taken c.args.clause.now c.name_vars.new.variables c.take_solver_vars.new.variables (c.in_ok-name_vars.ensures {u = tt}).names (c.in_ok-take_solver_vars.ensures {u = tt}).taken
 
 pub set_var_count-requires-clause-raised : goal.set_var_count-requires-clause-raised
 set_var_count-requires-clause-raised g c =
-    let n = ap (λ (m : BiMap). length m.backward) (named-solvers c.args.clause.now c.args.variables.now c.name_vars.new.variables (c.in_ok-name_vars.ensures {u = tt}).named) in
+    let n = ap (λ (m : BiMap). length m.backward) (named-solvers c.args.clause.now c.args.variables.now c.name_vars.new.variables (c.in_ok-name_vars.ensures {u = tt}).in_turn) in
     let t = (c.in_ok-take_solver_vars.ensures {u = tt}).taken in
     let a = taken-grow t.globals c.name_vars.new.variables c.take_solver_vars.new.variables t.in_turn in
     let j = ap (λ (m : BiMap). length m.backward) c.mark_joined.ensures.solvers in
@@ -53,13 +37,11 @@ set_var_count-requires-clause-raised g c =
 
 pub set_var_count-requires-clause-small : goal.set_var_count-requires-clause-small
 set_var_count-requires-clause-small g c =
-    let n = named-plain c.args.clause.now c.args.variables.now c.name_vars.new.variables c.requires.kept.plain (c.in_ok-name_vars.ensures {u = tt}).named in
-    let t = (c.in_ok-take_solver_vars.ensures {u = tt}).taken in
-    let p = joined-plain c.args.clause.now c.take_solver_vars.new.variables c.mark_joined.new.variables (taken-in-turn-plain t.globals c.name_vars.new.variables c.take_solver_vars.new.variables n t.in_turn) c.mark_joined.ensures in
-    let u = ap (λ (m : BiMap). length m.forward) (taken-users t.globals c.name_vars.new.variables c.take_solver_vars.new.variables t.in_turn).0 in
+    let names = names-taken c.args.clause.now c.name_vars.new.variables c.take_solver_vars.new.variables (c.in_ok-name_vars.ensures {u = tt}).names (c.in_ok-take_solver_vars.ensures {u = tt}).taken in
+    let p = joined-plain c.args.clause.now c.take_solver_vars.new.variables c.mark_joined.new.variables names.plain c.mark_joined.ensures in
     let j = ap (λ (m : BiMap). length m.forward) c.mark_joined.ensures.users in
     let w = solvers-within c.mark_joined.new.variables c.prove_linked.ensures p.nothing_hidden in
-    omega (arith, u, j, w, p.nothing_hidden.count, (c.in_ok-name_vars.ensures {u = tt}).small, c.solver_watermark.ensures)
+    omega (arith, j, w, p.nothing_hidden.count, names.small, c.solver_watermark.ensures)
 
 pub carry_literals-requires : goal.carry_literals-requires
 carry_literals-requires g c l h =
@@ -97,17 +79,15 @@ loaded-open s t e after lines loads q =
 
 pub returns-clause-kept : goal.returns-clause-kept
 returns-clause-kept g c =
-    let n = named-plain c.args.clause.now c.args.variables.now c.name_vars.new.variables c.requires.kept.plain (c.in_ok-name_vars.ensures {u = tt}).named in
-    let t = (c.in_ok-take_solver_vars.ensures {u = tt}).taken in
-    let u = ap (λ (m : BiMap). length m.forward) (taken-users t.globals c.name_vars.new.variables c.take_solver_vars.new.variables t.in_turn).0 in
+    let names = names-taken c.args.clause.now c.name_vars.new.variables c.take_solver_vars.new.variables (c.in_ok-name_vars.ensures {u = tt}).names (c.in_ok-take_solver_vars.ensures {u = tt}).taken in
     let j = ap (λ (m : BiMap). length m.forward) c.mark_joined.ensures.users in
     let r = c.in_ok-load_clause.ensures {u = tt} in
     let e = c.in_ok-set_var_count.ensures {u = tt} in
     let mid = c.set_var_count.new.ctx in
     let (a, b) = open-cases mid.solver_state.sat_state (subst IsOpen (sym (ap (λ (x : Context g.row.A.Denot). x.solver_state.sat_state) e.kept)) c.requires.unsettled) in
     record {
-      small = omega (arith, u, j, (c.in_ok-name_vars.ensures {u = tt}).small);
-      plain = joined-plain c.args.clause.now c.take_solver_vars.new.variables c.mark_joined.new.variables (taken-in-turn-plain t.globals c.name_vars.new.variables c.take_solver_vars.new.variables n t.in_turn) c.mark_joined.ensures;
+      small = omega (arith, j, names.small);
+      plain = joined-plain c.args.clause.now c.take_solver_vars.new.variables c.mark_joined.new.variables names.plain c.mark_joined.ensures;
       ready = r.ready;
       count = r.count ∙ e.count ∙ c.solver_watermark.ensures;
       no_assumptions = loaded-open (view mid) (view c.load_clause.new.ctx) c.deref.result.now c.load_clause.new.ctx.solver_state.sat_state (r.lines a b).0 (r.lines a b).1;
@@ -127,10 +107,10 @@ returns-clause-accepted g c s f =
     clause-accepted (record { tables = c.args.variables.now; search = view old; sat_state = old.solver_state.sat_state; ledger = s.ledger }) s c.args.clause.now c.name_vars.new.variables c.take_solver_vars.new.variables c.mark_joined.new.variables (view mid) (view new) new.solver_state.sat_state (r.lines a b).0
     (record {
       plain = c.requires.kept.plain;
-      are_named = (c.in_ok-name_vars.ensures {u = tt}).named;
+      are_named = (c.in_ok-name_vars.ensures {u = tt}).in_turn;
       are_taken = t;
       are_joined = c.mark_joined.ensures;
-      raised = raised-proves (view old) (view mid) c.requires.kept.ready.well e.ready.well (ap (λ (x : Context g.row.A.Denot). x.clause_alloc) e.kept) e.fits;
+      raised = subst (λ x. Proves 0 (search_of (view old)) x []) (sym e.seen) (record { holds = λ held f. (held, refl, f); covers = λ P v. v });
       count = e.count ∙ c.solver_watermark.ensures ∙ j;
       same_count = r.count;
       well_mid = e.ready.well;

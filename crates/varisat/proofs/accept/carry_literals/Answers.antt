@@ -3,11 +3,11 @@ use Rattle.std.proofs.lemmas.List.{map-append}
 use Rattle.varisat_theory.specs.Literals.{variable_of}
 use Rattle.varisat_names.specs.Maps.{chain}
 use Rattle.varisat_names.specs.VarMap.{at}
-use Rattle.varisat_prop.proofs.Clauses.{item-∈}
+use Rattle.varisat_prop.proofs.ReadElements.{item-∈}
 use Rattle.varisat.specs.Carried.{carry}
-use Rattle.varisat.proofs.Places.{take-item}
+use Rattle.varisat.proofs.ReadPlaces.{take-item}
 use Rattle.varisat.proofs.Carried.{carried-literal}
-use Rattle.varisat.proofs.Tables.{is-there}
+use Rattle.varisat.proofs.PlainTables.{is-there}
 use Rattle.varisat.proofs.accept.carry_literals.Goals as goal
 
 pub existing_solver_from_user-solver-requires : goal.existing_solver_from_user-solver-requires

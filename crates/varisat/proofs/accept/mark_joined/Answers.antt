@@ -2,9 +2,9 @@ use Rattle.std.proofs.Common.{◌≡◌, ◌<◌, ◌+◌, Some, sym, ap, ◌∙
 use Rattle.varisat_theory.specs.Literals.{variable_of}
 use Rattle.varisat_names.specs.VarMap.{at}
 use Rattle.varisat_names.specs.VarData.{kept_at}
-use Rattle.varisat_prop.proofs.Clauses.{item-∈}
-use Rattle.varisat.proofs.Places.{take-item}
-use Rattle.varisat.proofs.Tables.{AreOpened, opened-none, opened-more, opened-live, is-there}
+use Rattle.varisat_prop.proofs.ReadElements.{item-∈}
+use Rattle.varisat.proofs.ReadPlaces.{take-item}
+use Rattle.varisat.proofs.PlainTables.{AreOpened, opened-none, opened-more, opened-live, is-there}
 use Rattle.varisat.proofs.accept.mark_joined.Goals as goal
 
 pub loop-lit-init : goal.loop-lit-init

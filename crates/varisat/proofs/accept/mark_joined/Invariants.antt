@@ -1,6 +1,6 @@
 use Rattle.std.proofs.Common.{take}
 use Rattle.varisat.specs.Accepting.{IsPlain}
-use Rattle.varisat.proofs.Tables.{AreOpened}
+use Rattle.varisat.proofs.PlainTables.{AreOpened}
 use Rattle.varisat.proofs.accept.mark_joined.Given as goal
 
 abbrev pub invariant-loop-lit : goal.invariant-loop-lit

@@ -3,10 +3,10 @@ use Rattle.varisat_theory.specs.Literals.{variable_of}
 use Rattle.varisat_names.specs.VarMap.{at}
 use Rattle.varisat_names.proofs.Maps.{is-some}
 use Rattle.std.proofs.Common.{⊎_elim, true, false}
-use Rattle.varisat_prop.proofs.Clauses.{item-∈}
+use Rattle.varisat_prop.proofs.ReadElements.{item-∈}
 use Rattle.varisat.specs.Accepting.{IsPlain, AreTakenFor}
-use Rattle.varisat.proofs.Places.{take-item}
-use Rattle.varisat.proofs.Tables.{solvers-within, taken-plain, for-none, for-taken, for-kept, none-of, some-of-not, is-there}
+use Rattle.varisat.proofs.ReadPlaces.{take-item}
+use Rattle.varisat.proofs.PlainTables.{solvers-within, taken-plain, for-none, for-taken, for-kept, none-of, some-of-not, is-there}
 use Rattle.varisat.proofs.accept.take_solver_vars.Goals.{then-is_none+in_ok-take_solver_var, else-is_none}
 use Rattle.varisat.proofs.accept.take_solver_vars.Goals as goal
 

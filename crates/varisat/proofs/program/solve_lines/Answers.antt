@@ -1,5 +1,5 @@
 -- The status is that of the outcome, or tells a fault.
-use Rattle.varisat.proofs.Decided.{outcome-is-true}
+use Rattle.varisat.proofs.ProgramDecides.{outcome-is-true}
 use Rattle.varisat.proofs.program.solve_lines.Goals as goal
 
 pub returns-in-Ok-write_outcome-clause-truth : goal.returns-in-Ok-write_outcome-clause-truth

@@ -2,8 +2,8 @@ use Rattle.std.proofs.Common.{◌++◌, ◌∷◌, [], sym, ap, subst, ⊎_elim,
 use Rattle.varisat_theory.specs.Membership.{◌∈◌}
 use Rattle.varisat_theory.specs.Literals.{variable_of}
 use Rattle.varisat_theory.proofs.Members.{∈-append_cases}
-use Rattle.varisat_prop.proofs.Clauses.{item-∈}
-use Rattle.varisat.proofs.Places.{take-item}
+use Rattle.varisat_prop.proofs.ReadElements.{item-∈}
+use Rattle.varisat.proofs.ReadPlaces.{take-item}
 use Rattle.varisat.proofs.solver.is_past_limit.Goals as goal
 
 pub returns-then-index-max_count : goal.returns-then-index-max_count

@@ -9,8 +9,8 @@ use Rattle.varisat_names.proofs.Maps.{some-of}
 use Rattle.varisat.specs.Models.{put_name}
 use Rattle.varisat.specs.Carried.{value_or}
 use Rattle.varisat.specs.Summaries.{list_tables}
-use Rattle.varisat.proofs.Tables.{none-of}
-use Rattle.varisat.proofs.Called.{tables-push}
+use Rattle.varisat.proofs.PlainTables.{none-of}
+use Rattle.varisat.proofs.SolverCalls.{tables-push}
 use Rattle.varisat.proofs.solver.list_model.Goals.{then-is_some+in_ok-push, else-is_some}
 use Rattle.varisat.proofs.solver.list_model.Goals as goal
 

@@ -2,13 +2,12 @@ use Rattle.std.proofs.Common.{ℕ, suc, List, [], ◌++◌, ◌∙◌, ⊎_elim,
 use Rattle.varisat_search.specs.declared.state.SolverState.{SolverState}
 use Rattle.varisat_search.specs.declared.state.SatState.TheVariants as verdict
 use Rattle.varisat_search.specs.Contexts.{view}
-use Rattle.varisat_search.specs.Steps.{StepGives}
 use Rattle.varisat_theory.specs.Derivations.{Line}
 use Rattle.varisat_theory.specs.Searches.{Search}
 use Rattle.varisat_theory.specs.Outcomes.{Outcome, Unknown, Unsat, Steps, MakesSteps}
 use Rattle.varisat_theory.proofs.StepsMade.{none_made, one_more_made}
 use Rattle.varisat_search.specs.Seen.{search_of, outcome_of}
-use Rattle.varisat.proofs.Shortening.{step-shortens}
+use Rattle.varisat.proofs.FindVerdictEnds.{step-shortens}
 use Rattle.varisat.proofs.solving.find_verdict.Goals as goal
 
 -- the steps that were made, and one more
@@ -22,7 +21,8 @@ pub steps-smaller : goal.steps-smaller
 steps-smaller g c =
     let s = view c.steps.ctx in
     let t = view c.conflict_step.new.ctx in
-    step-shortens s t c.in_ok-conflict_step.ensures.ready.well (subst (StepGives s t) c.in-Unknown.is c.in_ok-conflict_step.ensures.gives)
+    let e = c.in_ok-conflict_step.ensures in
+    step-shortens s t c.steps.invariant.ready.well e.ready.well e.count (e.rises c.in-Unknown.is)
 
 pub steps-preserved : goal.steps-preserved
 steps-preserved g c =
@@ -50,5 +50,5 @@ returns-in-Unsat-clause-steps g c =
     ⊎_elim
     (λ q. more-made (search_of (view c.args.ctx.now)) (search_of (view c.steps.ctx)) (search_of t) Unsat c.steps.invariant.made
     (subst (λ b. (lines : List Line) × Steps (search_of (view c.steps.ctx)) (search_of t) (outcome_of t b) lines) q e.steps))
-    (λ q. absurd (subst (StepGives (view c.steps.ctx) t) q e.gives))
+    (λ q. absurd (e.no_assumptions q))
     c.in-Unsat.is

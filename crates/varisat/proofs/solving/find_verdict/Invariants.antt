@@ -1,9 +1,9 @@
-use Rattle.std.proofs.Common.{◌≡◌, ℕ, List, [], length}
+use Rattle.std.proofs.Common.{◌≡◌, ℕ, List, length}
 use Rattle.varisat_search.specs.Contexts.{view, IsReady}
 use Rattle.varisat_theory.specs.Derivations.{Line}
 use Rattle.varisat_theory.specs.Outcomes.{Unknown, MakesSteps}
 use Rattle.varisat_search.specs.Seen.{search_of}
-use Rattle.varisat.proofs.Shortening.{room_left}
+use Rattle.varisat.proofs.FindVerdictEnds.{room_left}
 use Rattle.varisat.proofs.solving.find_verdict.Given as goal
 
 abbrev pub invariant-steps : goal.invariant-steps

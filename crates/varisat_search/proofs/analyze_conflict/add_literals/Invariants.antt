@@ -8,3 +8,6 @@ invariant-loop-lit g l =
       adds : Adds g.s (take l.lit-index l.lits) l.count (marking l.fn.scratch l.fn.var_flags) (marking l.scratch l.var_flags);
       small : l.count ≤ l.lit-index;
     }
+
+abbrev pub ghost-level_to_mark : goal.ghost-level_to_mark
+ghost-level_to_mark g a = g.s

@@ -17,16 +17,14 @@ learn_and_clear-requires g c κs within =
     let flags = c.requires.1.1.1.1 in
     let level = c.if-current_level-eq0.false in (
       within,
-      (
-        record { well = c.requires.1.0; clauses_are = refl; nodes_are = refl; trail_is = refl; decisions_are = refl },
-        (
-          omega (arith, value, count, flags),
-          (
-            record { settled = c.requires.1.1.0; conflict = c.requires.1.1.1.0; deep = omega (arith, level, c.current_level.ensures) },
-            record { unmarked = λ v. subst (λ x. get_or x v false ≡ false) (sym c.deref_mut.ensures.value) (c.analyze.invariant v); clause = c.clear.ensures.items; involved = c.clear-2.ensures.items; to_clean = c.clear-3.ensures.items },
-          ),
-        ),
-      ),
+      record {
+        can = record {
+          sees = record { well = c.requires.1.0; clauses_are = refl; nodes_are = refl; trail_is = refl; decisions_are = refl };
+          flags_are = omega (arith, value, count, flags);
+        };
+        conflict = record { settled = c.requires.1.1.0; conflict = c.requires.1.1.1.0; deep = omega (arith, level, c.current_level.ensures) };
+        clean = record { unmarked = λ v. subst (λ x. get_or x v false ≡ false) (sym c.deref_mut.ensures.value) (c.analyze.invariant v); clause = c.clear.ensures.items; involved = c.clear-2.ensures.items; to_clean = c.clear-3.ensures.items };
+      },
     )
 
 pub invariant_of-analyze-2 : goal.invariant_of-analyze-2

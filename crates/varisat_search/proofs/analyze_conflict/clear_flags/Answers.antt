@@ -1,5 +1,5 @@
 use Rattle.std.proofs.Common.{◌∙◌, arith}
-use Rattle.varisat_prop.proofs.Clauses.{element, item-∈}
+use Rattle.varisat_prop.proofs.ReadElements.{element, item-∈}
 use Rattle.varisat_search.proofs.AnalysisFlags.{cleared-more}
 use Rattle.varisat_search.proofs.analyze_conflict.clear_flags.Goals as goal
 

@@ -1,5 +1,5 @@
 use Rattle.std.proofs.Common.{length, ap, arith}
-use Rattle.varisat_prop.proofs.Clauses.{item-∈}
+use Rattle.varisat_prop.proofs.ReadElements.{item-∈}
 use Rattle.varisat_search.proofs.analyze_conflict.highest_place.Goals as goal
 
 pub level-level-requires : goal.level-level-requires

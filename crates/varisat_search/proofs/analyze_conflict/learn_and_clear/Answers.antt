@@ -1,4 +1,4 @@
-use Rattle.std.proofs.Common.{subst, arith}
+use Rattle.std.proofs.Common.{subst}
 use Rattle.varisat_theory.specs.Membership.{◌∈◌}
 use Rattle.varisat_search.proofs.AnalysisResult.{none-left}
 use Rattle.varisat_search.proofs.analyze_conflict.learn_and_clear.Goals as goal

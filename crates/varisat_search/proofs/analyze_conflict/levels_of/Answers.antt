@@ -1,5 +1,5 @@
 use Rattle.std.proofs.Common.{arith}
-use Rattle.varisat_prop.proofs.Clauses.{item-∈}
+use Rattle.varisat_prop.proofs.ReadElements.{item-∈}
 use Rattle.varisat_search.proofs.analyze_conflict.levels_of.Goals as goal
 
 pub level-requires : goal.level-requires

@@ -1,13 +1,14 @@
-use Rattle.std.proofs.Common.{◌≡◌, ◌+◌, ◌<◌, length, get_or, set, sym, ap, ◌∙◌, subst, arith}
-use Rattle.varisat_prop.proofs.Clauses.{element}
+use Rattle.std.proofs.Common.{◌≡◌, ◌+◌, ◌<◌, length, sym, ◌∙◌, subst, arith}
+use Rattle.varisat_prop.proofs.ReadElements.{element}
 use Rattle.varisat_search.specs.Marks.{marking}
 use Rattle.varisat_search.specs.Redundancy.{IsFound}
+use Rattle.varisat_search.proofs.AnalysisMarks.{can-still}
 use Rattle.varisat_search.proofs.AnalysisMinimize.{Minimizing, minimizing-start, minimizing-keep, minimizing-drop, minimizing-end, minimizing-false}
 use Rattle.varisat_search.proofs.analyze_conflict.minimize.Goals as goal
 use Rattle.varisat_search.proofs.analyze_conflict.minimize.Goals.{then-not-branch, else-not-branch}
 
 pub loop-place-init : goal.loop-place-init
-loop-place-init g c = minimizing-start c.requires.1.0.well c.requires.1.1.0 c.requires.1.1.1
+loop-place-init g c = minimizing-start c.requires.1.0.sees.well c.requires.1.0.flags_are c.requires.1.1
 
 pub is_redundant-requires : goal.is_redundant-requires
 is_redundant-requires g c κs within =
@@ -16,7 +17,7 @@ is_redundant-requires g c κs within =
     let i : c.loop-place.place < length c.args.scratch.now.clause.items = omega (arith, ln, t0) in
     let lo = c.loop-place.invariant.long in
     let e = element c.loop-place.scratch.clause.items c.loop-place.place c.index-lit.result.now (omega (arith, i, lo)) c.index-lit.ensures in
-    (within, (c.requires.1.0, (c.loop-place.auto.var_flags ∙ c.requires.1.1.0, minimizing-false c.index-lit.result.now i e c.loop-place.invariant)))
+    (within, (can-still c.requires.1.0 c.loop-place.auto.var_flags, minimizing-false c.index-lit.result.now i e c.loop-place.invariant))
 
 pub loop-place-preserved : goal.loop-place-preserved
 loop-place-preserved g c =
@@ -42,4 +43,4 @@ pub returns : goal.returns
 returns g c =
     let ln : c.len-place-end.result ≡ length c.args.scratch.now.clause.items = c.len-place-end.ensures ∙ c.args.scratch.now.clause.ok.0 in
     let t0 = c.loop-place-test.false in
-    minimizing-end c.truncate.new.self.items c.requires.1.0.well (omega (arith, ln, t0)) c.truncate.ensures.items c.loop-place.invariant
+    minimizing-end c.truncate.new.self.items c.requires.1.0.sees.well (omega (arith, ln, t0)) c.truncate.ensures.items c.loop-place.invariant

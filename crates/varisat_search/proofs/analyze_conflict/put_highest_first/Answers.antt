@@ -1,7 +1,7 @@
 use Rattle.std.proofs.Common.{ℕ, ◌<◌, ◌≤◌, length, get_or, ap, ◌∙◌, subst, arith}
-use Rattle.varisat_prop.proofs.Clauses.{element, item-∈}
+use Rattle.varisat_prop.proofs.ReadElements.{element, item-∈}
 use Rattle.varisat_prop.specs.View.{level_of}
-use Rattle.varisat_search.proofs.Standing.{level-read}
+use Rattle.varisat_search.proofs.WellFormedViews.{level-read}
 use Rattle.varisat_search.proofs.AnalysisResult.{fronted-now, level-fronted}
 use Rattle.varisat_search.proofs.analyze_conflict.put_highest_first.Goals as goal
 

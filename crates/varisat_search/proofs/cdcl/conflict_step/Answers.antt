@@ -1,17 +1,16 @@
-use Rattle.std.proofs.Common.{[], MatchResult, inl, sym, subst}
+use Rattle.std.proofs.Common.{[], MatchResult, inl, sym, ap, ◌∙◌, subst}
 use Rattle.varisat_theory.specs.Propagation.{IsComplete}
 use Rattle.varisat_prop.specs.View.{kept}
 use Rattle.varisat_prop.specs.Changes.{place_of}
 use Rattle.varisat_search.specs.Learned.{IsConflict}
+use Rattle.varisat_search.specs.declared.state.SolverState.{SolverState}
 use Rattle.varisat_search.specs.Contexts.{view}
 use Rattle.varisat_search.specs.Conflicts.{conflict_of}
 use Rattle.varisat_search.specs.Steps.{IsTotal, SavesSome, assignment_of}
-use Rattle.varisat_search.proofs.Settled.{satisfied}
 use Rattle.varisat_theory.specs.Outcomes.{Sat}
 use Rattle.varisat_search.specs.Seen.{outcome_of}
 use Rattle.varisat_search.proofs.StepLines.{model-steps, steps-after}
-use Rattle.varisat_search.proofs.Stepping.{step-after}
-use Rattle.varisat_search.proofs.StepRanks.{step-rises}
+use Rattle.varisat_search.proofs.StepRanks.{rises-after}
 use Rattle.varisat_search.proofs.cdcl.conflict_step.Goals as goal
 
 pub learn-requires-clause-conflict : goal.learn-requires-clause-conflict
@@ -19,17 +18,6 @@ learn-requires-clause-conflict g c =
     let x = c.find_conflict.new.ctx in
     let a = subst (λ r. MatchResult r (λ _. IsComplete (kept (view x)) x.trail.literals × IsTotal (view x)) (λ f. IsConflict (view x) (place_of (conflict_of f)))) c.in-Err.is c.in_ok-find_conflict.ensures.found in
     subst (λ k. IsConflict (view x) (place_of k)) (sym c.conflict.ensures) a
-
-pub returns-in-Ok-clause-gives : goal.returns-in-Ok-clause-gives
-returns-in-Ok-clause-gives g c held f =
-    let x = c.find_conflict.new.ctx in
-    let a = subst (λ r. MatchResult r (λ _. IsComplete (kept (view x)) x.trail.literals × IsTotal (view x)) (λ f. IsConflict (view x) (place_of (conflict_of f)))) c.in-Ok.is c.in_ok-find_conflict.ensures.found in
-    let h = c.in_ok-find_conflict.ensures.grows.fits held f in
-    (h, satisfied (view x) c.in_ok-find_conflict.ensures.ready.well a.0 a.1 held h)
-
-pub returns-in_ok-learn-in-Err-clause-gives : goal.returns-in_ok-learn-in-Err-clause-gives
-returns-in_ok-learn-in-Err-clause-gives g c =
-    step-after (view c.args.ctx.now) (view c.find_conflict.new.ctx) (view c.learn.new.ctx) c.in_ok-find_conflict.ensures.grows c.learn.new.ctx.solver_state.sat_state c.in_ok-learn-in-Err.ensures.gives
 
 pub returns-in-Ok-clause-steps : goal.returns-in-Ok-clause-steps
 returns-in-Ok-clause-steps g c =
@@ -41,14 +29,14 @@ returns-in-Ok-clause-steps g c =
 pub returns-in_ok-learn-in-Err-clause-steps : goal.returns-in_ok-learn-in-Err-clause-steps
 returns-in_ok-learn-in-Err-clause-steps g c =
     let u = c.learn.new.ctx in
-    let (lines, p) = c.in_ok-learn-in-Err.ensures.steps in
+    let (lines, p) = c.in_ok-learn-in-Err.ensures.further.steps in
     (lines, steps-after (view c.args.ctx.now) (view c.find_conflict.new.ctx) (view u) (outcome_of (view u) u.solver_state.sat_state) lines c.requires.ready.well c.in_ok-find_conflict.ensures.ready.well c.in_ok-find_conflict.ensures.grows p)
 
 pub returns-in_ok-learn-in-Err-clause-rises : goal.returns-in_ok-learn-in-Err-clause-rises
-returns-in_ok-learn-in-Err-clause-rises g c =
-    let u = c.learn.new.ctx in
-    step-rises (view c.args.ctx.now) (view u) u.solver_state.sat_state c.requires.ready.well c.in_ok-learn-in-Err.ensures.ready.well
-    (step-after (view c.args.ctx.now) (view c.find_conflict.new.ctx) (view u) c.in_ok-find_conflict.ensures.grows u.solver_state.sat_state c.in_ok-learn-in-Err.ensures.gives)
+returns-in_ok-learn-in-Err-clause-rises g c f =
+    let m = c.in_ok-find_conflict.ensures in
+    let e = c.in_ok-learn-in-Err.ensures.further in
+    rises-after (view c.args.ctx.now) (view c.find_conflict.new.ctx) (view c.learn.new.ctx) c.requires.ready.well m.ready.well e.ready.well m.grows e.count (e.rises f)
 
 pub returns-in-Ok-clause-last : goal.returns-in-Ok-clause-last
 returns-in-Ok-clause-last g c =
@@ -59,3 +47,20 @@ returns-in_ok-learn-in-Err-clause-last g c =
     let m = c.find_conflict.new.ctx in
     let u = c.learn.new.ctx in
     (view m, c.in_ok-find_conflict.ensures.grows, subst (λ xs. SavesSome (view m) xs u.assignment.last) c.in_ok-find_conflict.ensures.last c.in_ok-learn-in-Err.ensures.last)
+
+pub returns-in_ok-learn-in-Err-clause-ready : goal.returns-in_ok-learn-in-Err-clause-ready
+returns-in_ok-learn-in-Err-clause-ready g c = c.in_ok-learn-in-Err.ensures.further.ready
+
+pub returns-in_ok-learn-in-Err-clause-no_assumptions : goal.returns-in_ok-learn-in-Err-clause-no_assumptions
+returns-in_ok-learn-in-Err-clause-no_assumptions g c = c.in_ok-learn-in-Err.ensures.further.no_assumptions
+
+pub returns-in_ok-learn-in-Err-clause-count : goal.returns-in_ok-learn-in-Err-clause-count
+returns-in_ok-learn-in-Err-clause-count g c = c.in_ok-learn-in-Err.ensures.further.count ∙ c.in_ok-find_conflict.ensures.grows.count
+
+pub returns-in_ok-learn-in-Err-clause-units : goal.returns-in_ok-learn-in-Err-clause-units
+returns-in_ok-learn-in-Err-clause-units g c = c.in_ok-learn-in-Err.ensures.further.units ∙ c.in_ok-find_conflict.ensures.units
+
+pub returns-in_ok-learn-in-Err-clause-state : goal.returns-in_ok-learn-in-Err-clause-state
+returns-in_ok-learn-in-Err-clause-state g c =
+    let u = c.learn.new.ctx.solver_state.sat_state in
+    c.in_ok-learn-in-Err.ensures.further.state ∙ ap (λ (y : SolverState). record y { sat_state = u }) c.in_ok-find_conflict.ensures.state

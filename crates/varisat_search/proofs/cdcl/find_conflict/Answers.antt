@@ -1,88 +1,69 @@
-use Rattle.std.proofs.Common.{◌*◌, false, replicate, refl, sym, ap, ◌∙◌, subst, arith}
-use Rattle.varisat_prop.specs.View.{view_of, Grows}
-use Rattle.varisat_prop.proofs.Growth.{grows-refl, grows-trans, grows-longer}
+use Rattle.std.proofs.Common.{refl, sym, ap, ◌∙◌, subst, arith}
+use Rattle.varisat_prop.specs.View.{view_of, View, Grows}
+use Rattle.varisat_prop.proofs.ViewGrowth.{grows-refl, grows-trans, grows-longer}
 use Rattle.varisat_search.specs.declared.context.Context.{Context}
 use Rattle.varisat_search.specs.Contexts.{view, IsReady}
-use Rattle.varisat_search.proofs.Finding.{finding-propagated, finding-decided, decided-longer, not-err}
+use Rattle.varisat_search.proofs.StepOutcome.{Finding, finding-begins, finding-ready, finding-propagated, finding-decided, decided-longer, not-err}
+use Rattle.varisat_search.proofs.cdcl.find_conflict.Given.{Over}
+use Rattle.varisat_search.proofs.cdcl.find_conflict.Goals.{In_ok-propagated, Else-not-branch}
 use Rattle.varisat_search.proofs.cdcl.find_conflict.Goals as goal
+
+abbrev after : (g : Over) (c : In_ok-propagated g) → View
+after g c = view_of c.propagate.new.clause_alloc c.propagate.new.assignment c.propagate.new.trail c.propagate.new.impl_graph
+
+propagated : (g : Over) (c : In_ok-propagated g) → Finding (view c.levels.ctx) (after g c)
+propagated g c =
+    finding-propagated (view c.levels.ctx) (view c.levels.ctx) (after g c) (finding-begins c.levels.invariant.ready) c.in_ok-propagated.ensures.propagates c.in_ok-propagated.ensures.propagated
+
+grown : (g : Over) (c : In_ok-propagated g) → Grows (view c.args.ctx.now) (after g c)
+grown g c = grows-trans (view c.args.ctx.now) (view c.levels.ctx) (after g c) c.levels.invariant.grows (propagated g c).grows
+
+decided : (g : Over) (c : Else-not-branch g) → Finding (view c.levels.ctx) (view_of c.propagate.new.clause_alloc c.propagate.new.assignment c.propagate.new.trail c.propagate.new.impl_graph) → Finding (view c.levels.ctx) (view c.make_decision.new.ctx)
+decided g c f =
+    let d = rw c.if-not-branch.false at c.in_ok-make_decision.ensures.decided in
+    let q = not-err c.in_ok-propagated.propagated _ _ c.in_default.not-Err c.in_ok-propagated.ensures.ends in
+    finding-decided (view c.levels.ctx) _ (view c.make_decision.new.ctx) d.0 f q.1.0 d.1 d.2
 
 pub returns-in-Err-clause-ready : goal.returns-in-Err-clause-ready
 returns-in-Err-clause-ready g c =
-    let p = view_of c.propagate.new.clause_alloc c.propagate.new.assignment c.propagate.new.trail c.propagate.new.impl_graph in
-    let r = c.levels.invariant.ready in
-    let o = c.in_ok-propagated.ensures.propagates in
-    let f = finding-propagated (view c.args.ctx.now) (view c.levels.ctx) p (record { well = r.well; settled = r.settled; propagated = r.propagated; grows = c.levels.invariant.grows }) o c.in_ok-propagated.ensures.propagated in
-    record { well = f.well; settled = f.settled; propagated = f.propagated; analysis = r.analysis ∙ sym o.grows.count; flags = r.flags ∙ ap (λ n. replicate (2 * n) false) (sym o.grows.count) }
+    finding-ready c.levels.invariant.ready (propagated g (goal.at.returns-in-Err-clause-ready g c).In_ok-propagated) refl refl
 
 pub returns-in-Err-clause-grows : goal.returns-in-Err-clause-grows
-returns-in-Err-clause-grows g c =
-    let p = view_of c.propagate.new.clause_alloc c.propagate.new.assignment c.propagate.new.trail c.propagate.new.impl_graph in
-    let r = c.levels.invariant.ready in
-    (finding-propagated (view c.args.ctx.now) (view c.levels.ctx) p (record { well = r.well; settled = r.settled; propagated = r.propagated; grows = c.levels.invariant.grows }) c.in_ok-propagated.ensures.propagates c.in_ok-propagated.ensures.propagated).grows
+returns-in-Err-clause-grows g c = grown g (goal.at.returns-in-Err-clause-grows g c).In_ok-propagated
 
 pub returns-then-not-branch-clause-ready : goal.returns-then-not-branch-clause-ready
 returns-then-not-branch-clause-ready g c =
-    let p = view_of c.propagate.new.clause_alloc c.propagate.new.assignment c.propagate.new.trail c.propagate.new.impl_graph in
-    let r = c.levels.invariant.ready in
-    let o = c.in_ok-propagated.ensures.propagates in
-    let f = finding-propagated (view c.args.ctx.now) (view c.levels.ctx) p (record { well = r.well; settled = r.settled; propagated = r.propagated; grows = c.levels.invariant.grows }) o c.in_ok-propagated.ensures.propagated in
     let d = rw c.if-not-branch.true at c.in_ok-make_decision.ensures.decided in
-    subst IsReady (sym d.0) (record { well = f.well; settled = f.settled; propagated = f.propagated; analysis = r.analysis ∙ sym o.grows.count; flags = r.flags ∙ ap (λ n. replicate (2 * n) false) (sym o.grows.count) })
+    subst IsReady (sym d.0) (finding-ready c.levels.invariant.ready (propagated g (goal.at.returns-then-not-branch-clause-ready g c).In_ok-propagated) refl refl)
 
 pub returns-then-not-branch-clause-grows : goal.returns-then-not-branch-clause-grows
 returns-then-not-branch-clause-grows g c =
-    let p = view_of c.propagate.new.clause_alloc c.propagate.new.assignment c.propagate.new.trail c.propagate.new.impl_graph in
-    let r = c.levels.invariant.ready in
-    let f = finding-propagated (view c.args.ctx.now) (view c.levels.ctx) p (record { well = r.well; settled = r.settled; propagated = r.propagated; grows = c.levels.invariant.grows }) c.in_ok-propagated.ensures.propagates c.in_ok-propagated.ensures.propagated in
     let d = rw c.if-not-branch.true at c.in_ok-make_decision.ensures.decided in
-    subst (λ (x : Context g.row.A.Denot). Grows (view c.args.ctx.now) (view x)) (sym d.0) f.grows
+    subst (λ (x : Context g.row.A.Denot). Grows (view c.args.ctx.now) (view x)) (sym d.0) (grown g (goal.at.returns-then-not-branch-clause-grows g c).In_ok-propagated)
 
 pub levels-smaller : goal.levels-smaller
 levels-smaller g c =
-    let s = view c.levels.ctx in
-    let p = view_of c.propagate.new.clause_alloc c.propagate.new.assignment c.propagate.new.trail c.propagate.new.impl_graph in
-    let u = view c.make_decision.new.ctx in
-    let r = c.levels.invariant.ready in
-    let o = c.in_ok-propagated.ensures.propagates in
+    let here = goal.at.levels-smaller g c in
     let d = rw c.if-not-branch.false at c.in_ok-make_decision.ensures.decided in
-    let q = not-err c.in_ok-propagated.propagated _ _ c.in_default.not-Err c.in_ok-propagated.ensures.ends in
-    let f = finding-decided s p u d.0 (finding-propagated s s p (record { well = r.well; settled = r.settled; propagated = r.propagated; grows = grows-refl s }) o c.in_ok-propagated.ensures.propagated) q.1.0 d.1 d.2 in
-    let n = decided-longer p u d.0 f.well d.2 in
-    let m = grows-longer s p o.grows in
+    let p = propagated g here.In_ok-propagated in
+    let f = decided g here.Else-not-branch p in
+    let n = decided-longer (after g here.In_ok-propagated) (view c.make_decision.new.ctx) d.0 f.well d.2 in
+    let m = grows-longer (view c.levels.ctx) (after g here.In_ok-propagated) p.grows in
     let k = f.grows.count in
     omega (arith, n.0, n.1, m, k)
 
 pub levels-preserved : goal.levels-preserved
 levels-preserved g c =
-    let s = view c.levels.ctx in
-    let p = view_of c.propagate.new.clause_alloc c.propagate.new.assignment c.propagate.new.trail c.propagate.new.impl_graph in
-    let u = view c.make_decision.new.ctx in
-    let r = c.levels.invariant.ready in
-    let o = c.in_ok-propagated.ensures.propagates in
-    let d = rw c.if-not-branch.false at c.in_ok-make_decision.ensures.decided in
-    let q = not-err c.in_ok-propagated.propagated _ _ c.in_default.not-Err c.in_ok-propagated.ensures.ends in
-    let f = finding-decided s p u d.0 (finding-propagated s s p (record { well = r.well; settled = r.settled; propagated = r.propagated; grows = grows-refl s }) o c.in_ok-propagated.ensures.propagated) q.1.0 d.1 d.2 in
+    let here = goal.at.levels-preserved g c in
+    let f = decided g here.Else-not-branch (propagated g here.In_ok-propagated) in
     let k = c.in_ok-make_decision.ensures.kept in
     record {
-      ready = record {
-        well = f.well;
-        settled = f.settled;
-        propagated = f.propagated;
-        analysis = ap (λ (x : Context g.row.A.Denot). x.analyze_conflict.var_count) k ∙ r.analysis ∙ sym f.grows.count;
-        flags = ap (λ (x : Context g.row.A.Denot). x.tmp_flags.flags.items) k ∙ r.flags ∙ ap (λ n. replicate (2 * n) false) (sym f.grows.count);
-      };
-      grows = grows-trans (view c.args.ctx.now) s u c.levels.invariant.grows f.grows;
+      ready = finding-ready c.levels.invariant.ready f (ap (λ (x : Context g.row.A.Denot). x.analyze_conflict.var_count) k) (ap (λ (x : Context g.row.A.Denot). x.tmp_flags.flags.items) k);
+      grows = grows-trans (view c.args.ctx.now) (view c.levels.ctx) (view c.make_decision.new.ctx) c.levels.invariant.grows f.grows;
       state = ap (λ (x : Context g.row.A.Denot). x.solver_state) k ∙ c.levels.invariant.state;
       last = c.in_ok-make_decision.ensures.last ∙ c.in_ok-propagated.ensures.last ∙ c.levels.invariant.last;
       units = c.in_ok-make_decision.ensures.units ∙ c.in_ok-propagated.ensures.units ∙ c.levels.invariant.units;
     }
 
 pub levels-init : goal.levels-init
-levels-init g c =
-    record {
-      ready = c.requires;
-      grows = grows-refl (view c.args.ctx.now);
-      state = refl;
-      last = refl;
-      units = refl;
-    }
+levels-init g c = record { ready = c.requires; grows = grows-refl (view c.args.ctx.now); state = refl; last = refl; units = refl }

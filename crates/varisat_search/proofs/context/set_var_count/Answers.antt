@@ -1,35 +1,34 @@
 use Rattle.std.proofs.Common.{◌≡◌, ◌*◌, ◌-◌, None, false, ◌++◌, length, replicate, refl, sym, ap, ◌∙◌}
-use Rattle.varisat_prop.specs.View.{no_node}
+use Rattle.varisat_prop.specs.View.{View, no_node}
 use Rattle.varisat_search.specs.Contexts.{view}
-use Rattle.varisat_search.proofs.Grown.{grown-flags, grown-propagated, grown-result}
+use Rattle.varisat_search.proofs.SetVarCount.{Grown, grown-flags, grown-propagated, grown-result}
+use Rattle.varisat_search.proofs.context.set_var_count.Given.{Over}
+use Rattle.varisat_search.proofs.context.set_var_count.Goals.{In_ok-set_var_count-3}
 use Rattle.varisat_search.proofs.context.set_var_count.Goals as goal
+
+abbrev after : (g : Over) (c : In_ok-set_var_count-3 g) → View
+after g c = record (view c.args.ctx.now) { values = c.set_var_count-2.new.self.current; nodes = c.set_var_count-3.new.self.nodes.items }
+
+grown : (g : Over) (c : In_ok-set_var_count-3 g) → Grown (view c.args.ctx.now) (after g c) c.args.count
+grown g c =
+    let s = view c.args.ctx.now in
+    let count = c.args.count in
+    let e : after g c ≡ record s { values = s.values ++ replicate (count - length s.values) None; nodes = s.nodes ++ replicate (count - length s.nodes) no_node } =
+    ap (λ a. record (after g c) { values = a }) c.in_ok-set_var_count-2.ensures.current ∙ ap (λ b. record s { values = s.values ++ replicate (count - length s.values) None; nodes = b }) c.in_ok-set_var_count-3.ensures in
+    grown-result s (after g c) count c.requires.ready.well c.requires.ready.settled c.requires.raised c.requires.small e
 
 pub returns-clause-ready : goal.returns-clause-ready
 returns-clause-ready g c =
     let x = c.args.ctx.now in
-    let s = view x in
-    let count = c.args.count in
-    let vs = c.set_var_count-2.new.self.current in
-    let ns = c.set_var_count-3.new.self.nodes.items in
-    let e : record s { values = vs; nodes = ns } ≡ record s { values = s.values ++ replicate (count - length s.values) None; nodes = s.nodes ++ replicate (count - length s.nodes) no_node } =
-    ap (λ a. record s { values = a; nodes = ns }) c.in_ok-set_var_count-2.ensures.current ∙ ap (λ b. record s { values = s.values ++ replicate (count - length s.values) None; nodes = b }) c.in_ok-set_var_count-3.ensures in
-    let r = grown-result s (record s { values = vs; nodes = ns }) count c.requires.ready.well c.requires.ready.settled c.requires.raised c.requires.small e in
+    let here = (goal.at.returns-clause-ready g c).In_ok-set_var_count-3 in
+    let r = grown g here in
     record {
-      well = r.0;
-      settled = r.1;
-      propagated = grown-propagated s (record s { values = vs; nodes = ns }) vs ns refl c.requires.ready.propagated;
-      analysis = ap (λ y. y.var_count) c.in_ok-set_var_count.ensures ∙ sym r.2;
-      flags = c.in_ok-set_var_count-4.ensures ∙ grown-flags x.tmp_flags.flags.items (length s.values) count c.requires.ready.flags c.requires.raised ∙ ap (λ n. replicate (2 * n) false) (sym r.2);
+      well = r.well;
+      settled = r.settled;
+      propagated = grown-propagated (view x) (after g here) c.set_var_count-2.new.self.current c.set_var_count-3.new.self.nodes.items refl c.requires.ready.propagated;
+      analysis = ap (λ y. y.var_count) c.in_ok-set_var_count.ensures ∙ sym r.count;
+      flags = c.in_ok-set_var_count-4.ensures ∙ grown-flags x.tmp_flags.flags.items (length x.assignment.current) c.args.count c.requires.ready.flags c.requires.raised ∙ ap (λ n. replicate (2 * n) false) (sym r.count);
     }
 
-pub returns-clause-fits : goal.returns-clause-fits
-returns-clause-fits g c =
-    let x = c.args.ctx.now in
-    let s = view x in
-    let count = c.args.count in
-    let vs = c.set_var_count-2.new.self.current in
-    let ns = c.set_var_count-3.new.self.nodes.items in
-    let e : record s { values = vs; nodes = ns } ≡ record s { values = s.values ++ replicate (count - length s.values) None; nodes = s.nodes ++ replicate (count - length s.nodes) no_node } =
-    ap (λ a. record s { values = a; nodes = ns }) c.in_ok-set_var_count-2.ensures.current ∙ ap (λ b. record s { values = s.values ++ replicate (count - length s.values) None; nodes = b }) c.in_ok-set_var_count-3.ensures in
-    let r = grown-result s (record s { values = vs; nodes = ns }) count c.requires.ready.well c.requires.ready.settled c.requires.raised c.requires.small e in
-    r.3
+pub returns-clause-seen : goal.returns-clause-seen
+returns-clause-seen g c = (grown g (goal.at.returns-clause-seen g c).In_ok-set_var_count-3).seen

@@ -1,10 +1,10 @@
-use Rattle.std.proofs.Common.{◌≡◌, ◌<◌, length, get_or, None, false, sym, ap, ◌∙◌, subst}
+use Rattle.std.proofs.Common.{◌≡◌, ◌<◌, length, get_or, None, false, refl, sym, ap, ◌∙◌, subst}
 use Rattle.varisat_theory.specs.Literals.{variable_of}
 use Rattle.varisat_literals.specs.Numbers.{polarity_of}
 use Rattle.varisat_prop.specs.declared.prop.graph.Reason.TheVariants as reason
 use Rattle.varisat_prop.specs.View.{view_of}
 use Rattle.varisat_prop.specs.Changes.{enqueued}
-use Rattle.varisat_search.proofs.Finding.{variable-literal, polarity-literal}
+use Rattle.varisat_search.proofs.StepOutcome.{variable-literal, polarity-literal}
 use Rattle.varisat_search.proofs.decision.make_decision.Goals as goal
 
 pub returns-clause-decided : goal.returns-clause-decided
@@ -17,3 +17,6 @@ returns-clause-decided g c =
       c.in_ok-enqueue_assignment.ensures.view x.clause_alloc ∙ ap (λ t. enqueued (view_of x.clause_alloc x.assignment t x.impl_graph) c.lit-lit.result reason.Unit) c.in_ok-new_decision_level.ensures,
       ap polarity_of c.lit-lit.ensures ∙ polarity-literal c.in-Some.var c.last_var_value.result ∙ c.last_var_value.ensures ∙ ap (λ v. get_or x.assignment.last v false) (sym e),
     )
+
+pub returns-in_default-clause-decided : goal.returns-in_default-clause-decided
+returns-in_default-clause-decided g c = (refl, λ d i l j. c.in_default.ensures (variable_of l) (c.requires.in_range d i l j))

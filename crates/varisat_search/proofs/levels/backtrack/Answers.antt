@@ -2,12 +2,12 @@ use Rattle.std.proofs.Common.{◌≡◌, ◌+◌, ◌<◌, None, length, get_or,
 use Rattle.varisat_theory.specs.Literals.{variable_of}
 use Rattle.varisat_prop.specs.Parts.{is_true_value}
 use Rattle.varisat_prop.specs.View.{literal_at}
-use Rattle.varisat_prop.proofs.Lits.{made-inside}
-use Rattle.varisat_prop.proofs.Clauses.{element}
+use Rattle.varisat_prop.proofs.LiteralValues.{made-inside}
+use Rattle.varisat_prop.proofs.ReadElements.{element}
 use Rattle.varisat_search.specs.declared.context.Context.{Context}
 use Rattle.varisat_search.specs.Contexts.{view}
-use Rattle.varisat_search.proofs.Cut.{Cutting, cutting-step}
-use Rattle.varisat_search.proofs.Saving.{Saving, saving-step}
+use Rattle.varisat_search.proofs.Backtrack.{Cutting, cutting-step}
+use Rattle.varisat_search.proofs.BacktrackValues.{Saving, saving-step}
 use Rattle.varisat_search.proofs.levels.backtrack.Goals as goal
 
 pub release_var-requires : goal.release_var-requires

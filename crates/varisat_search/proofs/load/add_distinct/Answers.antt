@@ -1,10 +1,10 @@
 use Rattle.std.proofs.Common.{inr, inl, refl, sym, ◌∙◌, subst, arith}
 use Rattle.varisat_theory.specs.Membership.{◌∈◌}
 use Rattle.varisat_prop.specs.View.{view_of}
-use Rattle.varisat_prop.proofs.Lits.{made-none}
+use Rattle.varisat_prop.proofs.LiteralValues.{made-none}
 use Rattle.varisat_search.specs.Contexts.{view}
 use Rattle.varisat_search.specs.Loading.{IsAdded}
-use Rattle.varisat_search.proofs.Copies.{only-one}
+use Rattle.varisat_search.proofs.LoadCopies.{only-one}
 use Rattle.varisat_search.proofs.load.add_distinct.Goals as goal
 
 pub enqueue_assignment-requires : goal.enqueue_assignment-requires

@@ -1,8 +1,8 @@
 use Rattle.std.proofs.Common.{take_all, sym, subst}
 use Rattle.varisat_theory.specs.Membership.{◌∈◌, SameSet}
 use Rattle.varisat_theory.proofs.Scans.{refused, granted}
-use Rattle.varisat_prop.proofs.Clauses.{element}
-use Rattle.varisat_search.proofs.Copies.{copied-more, copied-same}
+use Rattle.varisat_prop.proofs.ReadElements.{element}
+use Rattle.varisat_search.proofs.LoadCopies.{copied-more, copied-same}
 use Rattle.varisat_search.proofs.load.copy_distinct.Goals as goal
 use Rattle.varisat_search.proofs.load.copy_distinct.Goals.{then-not-holds+in_ok-push, else-not-holds}
 

@@ -1,7 +1,7 @@
 use Rattle.std.proofs.Common.{refl, sym, ◌∙◌, subst, ⊎_elim}
 use Rattle.varisat_theory.specs.Membership.{◌∈◌}
 use Rattle.varisat_theory.proofs.Places.{∈-take_more}
-use Rattle.varisat_prop.proofs.Clauses.{element, item-∈}
+use Rattle.varisat_prop.proofs.ReadElements.{element, item-∈}
 use Rattle.varisat_search.proofs.load.holds.Goals as goal
 
 pub returns-then-code : goal.returns-then-code

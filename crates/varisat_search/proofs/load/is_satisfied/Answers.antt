@@ -1,7 +1,7 @@
 use Rattle.std.proofs.Common.{refl, sym, ◌∙◌, subst, ⊎_elim}
 use Rattle.varisat_theory.proofs.Places.{∈-take_more}
 use Rattle.varisat_prop.specs.Parts.{IsMadeTrue}
-use Rattle.varisat_prop.proofs.Clauses.{element, item-∈}
+use Rattle.varisat_prop.proofs.ReadElements.{element, item-∈}
 use Rattle.varisat_search.proofs.load.is_satisfied.Goals as goal
 
 pub lit_is_true-requires : goal.lit_is_true-requires

@@ -2,7 +2,7 @@ use Rattle.std.proofs.Common.{take_all, refl, sym, ap, ◌∙◌, subst, ⊎_eli
 use Rattle.varisat_theory.specs.Membership.{◌∈◌}
 use Rattle.varisat_theory.specs.Literals.{opposite}
 use Rattle.varisat_theory.proofs.Places.{∈-take_more}
-use Rattle.varisat_prop.proofs.Clauses.{element, item-∈}
+use Rattle.varisat_prop.proofs.ReadElements.{element, item-∈}
 use Rattle.varisat_search.proofs.load.is_tautology.Goals as goal
 
 pub returns-then-holds : goal.returns-then-holds

@@ -1,10 +1,10 @@
--- The text goes on, or a clause of it is refused, or it ends.
-use Rattle.std.proofs.Common.{◌∙◌, ◌++◌, [], inl, refl, sym, ap, not, arith, Ok, Some, None}
-use Rattle.varisat_formula.specs.Rest.{fault_of}
+-- The text goes on, or a clause of it is refused, or it has a fault, or it ends.
+use Rattle.std.proofs.Common.{◌∙◌, ◌++◌, [], refl, ap, not, arith, Ok}
 use Rattle.varisat_formula.proofs.ParsedSources.{piece_told}
-use Rattle.varisat.specs.Additions.{NoFault, Read}
+use Rattle.varisat.specs.Additions.{Read}
 use Rattle.varisat.proofs.Additions.{told-error, adds-more, adds-valid, only-adds}
-use Rattle.varisat.proofs.Texts.{took, read-nothing, read-more, piece-refused, piece-fault, ending-refused, text-broken, text-ended}
+use Rattle.varisat.proofs.CallStates.{stands-valid}
+use Rattle.varisat.proofs.AddTexts.{took, read-nothing, read-more, piece-refused, piece-fault, text-broken, text-ended}
 use Rattle.varisat.proofs.solver.Solver.add_dimacs_cnf.Goals as goal
 
 pub pieces-init : goal.pieces-init
@@ -15,8 +15,7 @@ next_piece-more-requires-clause-few g c = omega (arith, c.pieces.invariant.read.
 
 pub returns-in_err-add_formula : goal.returns-in_err-add_formula
 returns-in_err-add_formula g c s st =
-    let before = rw (← c.self.view_is) at st in
-    let valid = ap (λ x. x.valid) before.ledger ∙ ap not c.if-self.false in
+    let valid = stands-valid _ s (rw (← c.self.view_is) at st) (ap not c.if-self.false) in
     let (mid, a, q) = c.pieces.invariant.so_far s st in
     let (t, b, w) = c.in_err-add_formula.ensures {u = tt} mid q in
     let refused = told-error c.from_residual.result c.in_err-add_formula.field-0.0 c.from_residual.ensures in
@@ -32,14 +31,13 @@ pieces-preserved g c = record {
   so_far = λ s st.
       let (mid, a, q) = c.pieces.invariant.so_far s st in
       let (t, b, w) = c.in_ok-add_formula.ensures {u = tt} mid q in
-      let before = rw (← c.self.view_is) at st in
-      (t, adds-more s mid t _ _ (Ok tt) a (only-adds mid t _ _ (adds-valid s mid _ (ap (λ x. x.valid) before.ledger ∙ ap not c.if-self.false) a) b), w);
+      let valid = stands-valid _ s (rw (← c.self.view_is) at st) (ap not c.if-self.false) in
+      (t, adds-more s mid t _ _ (Ok tt) a (only-adds mid t _ _ (adds-valid s mid _ valid a) b), w);
 }
 
 pub returns-in-Err : goal.returns-in-Err
 returns-in-Err g c s st =
-    let before = rw (← c.self.view_is) at st in
-    let valid = ap (λ x. x.valid) before.ledger ∙ ap not c.if-self.false in
+    let valid = stands-valid _ s (rw (← c.self.view_is) at st) (ap not c.if-self.false) in
     let (mid, a, q) = c.pieces.invariant.so_far s st in
     let (u, b, w) = c.in_ok-add_formula.ensures {u = tt} mid q in
     let added = only-adds mid u _ _ (adds-valid s mid _ valid a) b in
@@ -52,57 +50,14 @@ returns-in-Err g c s st =
       z,
     )
 
-pub returns-in_err-add_formula-2 : goal.returns-in_err-add_formula-2
-returns-in_err-add_formula-2 g c s st =
-    let before = rw (← c.self.view_is) at st in
-    let valid = ap (λ x. x.valid) before.ledger ∙ ap not c.if-self.false in
-    let k = c.next_piece-more.ensures.takes in
-    let ok = c.in-Ok-false.is ∙ ap Ok c.in-Ok-false.field-0-test in
-    let read = read-more _ _ _ _ _ _ _ _ _ _ c.pieces.invariant.read k ok c.next_piece-more.ensures.open (took _ _ _ c.take_formula.ensures.formula c.take_formula.ensures.rest c.take_formula.ensures.later) in
-    let last = took _ _ _ c.take_formula-2.ensures.formula c.take_formula-2.ensures.rest c.take_formula-2.ensures.later in
-    let (mid, a, q) = c.pieces.invariant.so_far s st in
-    let (u, b, w) = c.in_ok-add_formula.ensures {u = tt} mid q in
-    let all = adds-more s mid u _ _ (Ok tt) a (only-adds mid u _ _ (adds-valid s mid _ valid a) b) in
-    let (t, d, z) = c.in_err-add_formula-2.ensures {u = tt} u w in
-    let refused = told-error c.from_residual-in_err-add_formula-2.result c.in_err-add_formula-2.field-0.0 c.from_residual-in_err-add_formula-2.ensures in
-    (t, rw refused (Read valid _ (text-ended s u t _ _ _ _ _ _ read (k.ends ok).1 c.finish-end.ensures.reads all (ending-refused u t _ _ _ _ last (only-adds u t _ _ (adds-valid s u _ valid all) d)))), z)
-
-pub returns-in-Ok : goal.returns-in-Ok
-returns-in-Ok g c s st =
-    let before = rw (← c.self.view_is) at st in
-    let valid = ap (λ x. x.valid) before.ledger ∙ ap not c.if-self.false in
-    let k = c.next_piece-more.ensures.takes in
-    let ok = c.in-Ok-false.is ∙ ap Ok c.in-Ok-false.field-0-test in
-    let read = read-more _ _ _ _ _ _ _ _ _ _ c.pieces.invariant.read k ok c.next_piece-more.ensures.open (took _ _ _ c.take_formula.ensures.formula c.take_formula.ensures.rest c.take_formula.ensures.later) in
-    let last = took _ _ _ c.take_formula-2.ensures.formula c.take_formula-2.ensures.rest c.take_formula-2.ensures.later in
-    let (mid, a, q) = c.pieces.invariant.so_far s st in
-    let (u, b, w) = c.in_ok-add_formula.ensures {u = tt} mid q in
-    let all = adds-more s mid u _ _ (Ok tt) a (only-adds mid u _ _ (adds-valid s mid _ valid a) b) in
-    let (t, d, z) = c.in_ok-add_formula-2.ensures {u = tt} u w in (
-      t,
-      Read valid _
-          (text-ended s u t _ _ _ _ _ _ read (k.ends ok).1 c.finish-end.ensures.reads all
-          (piece-fault u t t _ _ _ None _ last (sym c.finish-end.ensures.answer ∙ ap fault_of c.in-Ok.is) (only-adds u t _ _ (adds-valid s u _ valid all) d) (NoFault refl refl refl))),
-      z,
-    )
-
 pub returns : goal.returns
 returns g c s st =
-    let before = rw (← c.self.view_is) at st in
-    let valid = ap (λ x. x.valid) before.ledger ∙ ap not c.if-self.false in
+    let valid = stands-valid _ s (rw (← c.self.view_is) at st) (ap not c.if-self.false) in
     let k = c.next_piece-more.ensures.takes in
     let ok = c.in-Ok-false.is ∙ ap Ok c.in-Ok-false.field-0-test in
-    let read = read-more _ _ _ _ _ _ _ _ _ _ c.pieces.invariant.read k ok c.next_piece-more.ensures.open (took _ _ _ c.take_formula.ensures.formula c.take_formula.ensures.rest c.take_formula.ensures.later) in
-    let last = took _ _ _ c.take_formula-2.ensures.formula c.take_formula-2.ensures.rest c.take_formula-2.ensures.later in
     let (mid, a, q) = c.pieces.invariant.so_far s st in
     let (u, b, w) = c.in_ok-add_formula.ensures {u = tt} mid q in
     let all = adds-more s mid u _ _ (Ok tt) a (only-adds mid u _ _ (adds-valid s mid _ valid a) b) in
-    let (t, d, y) = c.in_ok-add_formula-2.ensures {u = tt} u w in
-    let added = only-adds u t _ _ (adds-valid s u _ valid all) d in
-    let (v, f, z) = c.refuse_text-in-Err-end.ensures t y (adds-valid u t _ (adds-valid s u _ valid all) added) in (
-      v,
-      Read valid _
-          (text-ended s u v _ _ _ _ _ _ read (k.ends ok).1 c.finish-end.ensures.reads all
-          (piece-fault u t v _ _ _ (Some c.in-Err-end.fault) _ last (sym c.finish-end.ensures.answer ∙ ap fault_of c.in-Err-end.is) added f)),
-      z,
-    )
+    let (p, e, t, d, z) = c.end_text.ensures u w (adds-valid s u _ valid all) in
+    let read = read-more _ _ _ _ _ _ _ _ _ _ c.pieces.invariant.read k ok c.next_piece-more.ensures.open (took _ _ _ c.take_formula.ensures.formula c.take_formula.ensures.rest c.take_formula.ensures.later) in
+    (t, Read valid _ (text-ended s u t _ _ _ p _ _ read (k.ends ok).1 e all d), z)

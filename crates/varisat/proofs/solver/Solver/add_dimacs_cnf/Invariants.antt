@@ -4,7 +4,7 @@ use Rattle.varisat_theory.specs.Literals.{Clause}
 use Rattle.varisat.specs.States.{State}
 use Rattle.varisat.specs.Calls.{AddsAll}
 use Rattle.varisat.specs.Summaries.{StandsFor}
-use Rattle.varisat.proofs.Texts.{ReadSo}
+use Rattle.varisat.proofs.AddTexts.{ReadSo}
 use Rattle.varisat.proofs.solver.Solver.add_dimacs_cnf.Given as goal
 
 abbrev pub invariant-pieces : goal.invariant-pieces

@@ -3,6 +3,7 @@ use Rattle.std.proofs.Common.{◌≡◌, ◌∙◌, ◌++◌, ◌∷◌, [], Err
 use Rattle.std.proofs.lemmas.List.{map-append}
 use Rattle.varisat.specs.Additions.{InTurn}
 use Rattle.varisat.specs.Calls.{AddsAll}
+use Rattle.varisat.proofs.CallStates.{stands-valid}
 use Rattle.varisat.proofs.Additions.{told-error, adds-last, adds-refused}
 use Rattle.varisat.proofs.solver.Solver.add_formula.Goals as goal
 
@@ -29,14 +30,12 @@ returns-in_err-add_clause g c s st =
     let (u, p, w) = c.in_err-add_clause.ensures {u = tt} t q in
     let refused = told-error c.from_residual.result c.in_err-add_clause.field-0.0 c.from_residual.ensures in
     let parts = ap (λ xs. map (λ c. c.now) c.loop-clause.yielded ++ xs) (sym c.in-Some.ensures.steps) ∙ c.loop-clause.invariant.whole in
-    let before = rw (← c.self.view_is) at st in
-    let valid = ap (λ x. x.valid) before.ledger ∙ ap not c.if-self.false in
+    let valid = stands-valid _ s (rw (← c.self.view_is) at st) (ap not c.if-self.false) in
     (u, InTurn valid (rw refused (subst (λ P. AddsAll s P (Err c.in_err-add_clause.field-0.0) u) parts (adds-refused s t u _ _ _ _ r p))), w)
 
 pub returns : goal.returns
 returns g c s st =
     let (t, r, q) = c.loop-clause.invariant.so_far s st in
     let all = sym (append-nil (map (λ c. c.now) c.loop-clause.yielded)) ∙ ap (λ xs. map (λ c. c.now) c.loop-clause.yielded ++ xs) (sym (c.in-None.ensures {u = tt}).steps.0) ∙ c.loop-clause.invariant.whole in
-    let before = rw (← c.self.view_is) at st in
-    let valid = ap (λ x. x.valid) before.ledger ∙ ap not c.if-self.false in
+    let valid = stands-valid _ s (rw (← c.self.view_is) at st) (ap not c.if-self.false) in
     (t, InTurn valid (subst (λ P. AddsAll s P (Ok tt) t) all r), q)

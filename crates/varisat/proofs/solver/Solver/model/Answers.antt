@@ -1,32 +1,26 @@
 use Rattle.std.proofs.Common.{◌≡◌, ◌∙◌, List, Bool, Option, length, not, refl, sym, ap, subst, inl, Some}
-use Rattle.varisat_search.specs.Contexts.{view}
-use Rattle.varisat.specs.Summaries.{Summary}
 use Rattle.varisat.specs.Models.{IsCompletable}
 use Rattle.varisat.specs.Summaries.{list_tables}
-use Rattle.varisat.proofs.Called.{sat-model, sat-answer, tells-error}
+use Rattle.varisat.proofs.CallStates.{stands-valid}
+use Rattle.varisat.proofs.SolverCalls.{sat-model, sat-answer, tells-error}
 use Rattle.varisat.proofs.solver.Solver.model.Goals as goal
 
 pub returns-in_ok-list-in-Sat-clause-call : goal.returns-in_ok-list-in-Sat-clause-call
 returns-in_ok-list-in-Sat-clause-call g c s st =
     let q = rw (← c.self.view_is) at st in
-    let old : Summary = record { tables = c.self.inside.variables; search = view c.self.inside.ctx; sat_state = c.self.inside.ctx.solver_state.sat_state; ledger = s.ledger } in
-    let f = q.fits (ap not c.if-self.false) in
     let t = c.self.inside.variables in
     let same = c.in_ok-list-in-Sat.ensures ∙ ap (λ vs. list_tables t vs 0 (length t.users.forward)) c.assignment-values.ensures in
-    (s, (inl (ap (λ x. x.valid) q.ledger ∙ ap not c.if-self.false, ap Some same ∙ sym (sat-model old s f c.in-Sat.is).0), refl), st)
+    (s, (inl (stands-valid _ s q (ap not c.if-self.false), ap Some same ∙ sym (sat-model _ s q (ap not c.if-self.false) c.in-Sat.is).0), refl), st)
 
 pub returns-in_ok-list-in-Sat-clause-completable : goal.returns-in_ok-list-in-Sat-clause-completable
 returns-in_ok-list-in-Sat-clause-completable g c m e s st =
     let q = rw (← c.self.view_is) at st in
-    let old : Summary = record { tables = c.self.inside.variables; search = view c.self.inside.ctx; sat_state = c.self.inside.ctx.solver_state.sat_state; ledger = s.ledger } in
-    let f = q.fits (ap not c.if-self.false) in
     let t = c.self.inside.variables in
     let same = c.in_ok-list-in-Sat.ensures ∙ ap (λ vs. list_tables t vs 0 (length t.users.forward)) c.assignment-values.ensures in
     let told : c.in_ok-list-in-Sat.list.items ≡ m = cc in
-    subst (IsCompletable s) (sym same ∙ told) (sat-model old s f c.in-Sat.is).1
+    subst (IsCompletable s) (sym same ∙ told) (sat-model _ s q (ap not c.if-self.false) c.in-Sat.is).1
 
 pub returns-in_err-list-in-Sat-clause-call : goal.returns-in_err-list-in-Sat-clause-call
 returns-in_err-list-in-Sat-clause-call g c s st =
     let q = rw (← c.self.view_is) at st in
-    let old : Summary = record { tables = c.self.inside.variables; search = view c.self.inside.ctx; sat_state = c.self.inside.ctx.solver_state.sat_state; ledger = s.ledger } in
-    (s, tells-error s c.from_residual.result c.from_residual.ensures.0 (ap (λ x. x.valid) q.ledger ∙ ap not c.if-self.false) (sat-answer old s (q.fits (ap not c.if-self.false)) c.in-Sat.is), st)
+    (s, tells-error s c.from_residual.result c.from_residual.ensures.0 (stands-valid _ s q (ap not c.if-self.false)) (sat-answer _ s q (ap not c.if-self.false) c.in-Sat.is), st)

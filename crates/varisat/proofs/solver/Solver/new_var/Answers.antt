@@ -5,9 +5,9 @@ use Rattle.varisat.specs.States.{Ledger}
 use Rattle.varisat.specs.Names.{name_one}
 use Rattle.varisat.specs.Calls.{start}
 use Rattle.varisat.proofs.NamesInOrder.{rest-one}
-use Rattle.varisat.proofs.Accepted.{with_tables, ledger-free}
-use Rattle.varisat.proofs.CallStates.{like-refl, broken, broken-invalid}
-use Rattle.varisat.proofs.Called.{least-free, new-named, new-plain}
+use Rattle.varisat.proofs.AcceptClause.{with_tables, ledger-free}
+use Rattle.varisat.proofs.CallStates.{stands-valid, like-refl, broken, broken-invalid}
+use Rattle.varisat.proofs.SolverCalls.{least-free, new-named, new-plain}
 use Rattle.varisat.proofs.solver.Solver.new_var.Goals as goal
 
 pub invariant_of-self : goal.invariant_of-self
@@ -36,7 +36,7 @@ returns-in-Ok g c s st =
     let t = (c.in-Ok.ensures {u = tt}).given in
     let (w, n) = new-named old s c.give_user_var.new.self u c.in-Ok.field-0 f k.plain e.least e.near t in (
       start (name_one u s),
-      (ap (λ x. x.valid) q.ledger ∙ ap not c.if-self.false, least-free old s u f e.least, omega (arith, c.index.ensures.index, c.max_count.ensures, c.if-index-max_count.false), like-refl (start (name_one u s))),
+      (stands-valid _ s q (ap not c.if-self.false), least-free old s u f e.least, omega (arith, c.index.ensures.index, c.max_count.ensures, c.if-index-max_count.false), like-refl (start (name_one u s))),
       record {
         ledger = ap (λ (x : Ledger). record x { started = true }) ((rest-one u s).ledger ∙ q.ledger);
         fits = λ _. (w, ledger-free w (spaces (with_tables c.give_user_var.new.self old)) (name_one u s) (record (name_one u s).ledger { started = true }) n);
@@ -51,6 +51,6 @@ returns-in-Err g c s st =
     let u = c.next_unmapped_user-user.result in
     let e = c.next_unmapped_user-user.ensures in (
       broken s,
-      ((u, least-free old s u f e.least, omega (arith, c.index.ensures.index, c.max_count.ensures, c.if-index-max_count.false)), broken-invalid s (ap (λ x. x.valid) q.ledger ∙ ap not c.if-self.false) f.1.well_formed),
+      ((u, least-free old s u f e.least, omega (arith, c.index.ensures.index, c.max_count.ensures, c.if-index-max_count.false)), broken-invalid s (stands-valid _ s q (ap not c.if-self.false)) f.1.well_formed),
       record { ledger = ap (λ (x : Ledger). record x { valid = false }) q.ledger; fits = λ e. absurd cc },
     )

@@ -5,9 +5,9 @@ use Rattle.varisat_theory.specs.Propagation.{IsFalse}
 use Rattle.varisat_prop.specs.View.{view_of, clause_at, IsTrueIn}
 use Rattle.varisat_prop.specs.Looks.{IsStatus}
 use Rattle.varisat_prop.specs.declared.prop.propagation.Status.TheVariants as status
-use Rattle.varisat_prop.proofs.Stored.{kept-at}
-use Rattle.varisat_prop.proofs.Clauses.{element}
-use Rattle.varisat_prop.proofs.Looked.{false-clause, quiet-open, quiet-true, looked-implied, left-inside, left-free}
+use Rattle.varisat_prop.proofs.AllocClauses.{kept-at}
+use Rattle.varisat_prop.proofs.ReadElements.{element}
+use Rattle.varisat_prop.proofs.PropagateLooks.{false-clause, quiet-open, quiet-true, looked-implied, left-inside, left-free}
 use Rattle.varisat_prop.proofs.prop.propagation.look_at.Goals as goal
 
 pub status_of-requires : goal.status_of-requires

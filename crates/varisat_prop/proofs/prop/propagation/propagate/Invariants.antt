@@ -1,7 +1,7 @@
 use Rattle.std.proofs.Common.{◌≡◌, ◌-◌, length}
 use Rattle.varisat_prop.specs.View.{view_of}
 use Rattle.varisat_prop.specs.Looks.{Propagates}
-use Rattle.varisat_prop.proofs.Looked.{Scan}
+use Rattle.varisat_prop.proofs.PropagateLooks.{Scan}
 use Rattle.varisat_prop.proofs.prop.propagation.propagate.Given as goal
 
 abbrev pub invariant-loop-place : goal.invariant-loop-place

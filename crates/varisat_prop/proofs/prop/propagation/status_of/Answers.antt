@@ -1,4 +1,4 @@
-use Rattle.varisat_prop.proofs.Clauses.{item-∈}
+use Rattle.varisat_prop.proofs.ReadElements.{item-∈}
 use Rattle.varisat_prop.proofs.prop.propagation.status_of.Goals as goal
 
 pub lit_is_false-requires : goal.lit_is_false-requires

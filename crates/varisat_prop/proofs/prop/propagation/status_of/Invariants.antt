@@ -1,4 +1,4 @@
-use Rattle.varisat_prop.proofs.Looked.{LeftIs}
+use Rattle.varisat_prop.proofs.PropagateLooks.{LeftIs}
 use Rattle.varisat_prop.proofs.prop.propagation.status_of.Given as goal
 
 abbrev pub invariant-loop-place : goal.invariant-loop-place

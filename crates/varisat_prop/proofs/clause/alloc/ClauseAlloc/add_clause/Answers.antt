@@ -1,5 +1,5 @@
 use Rattle.std.proofs.Common.{arith}
-use Rattle.varisat_prop.proofs.Entries.{added}
+use Rattle.varisat_prop.proofs.AllocEntries.{added}
 use Rattle.varisat_prop.proofs.clause.alloc.ClauseAlloc.add_clause.Goals as goal
 
 pub returns : goal.returns

@@ -1,5 +1,5 @@
 use Rattle.std.proofs.Common.{arith}
-use Rattle.varisat_prop.proofs.Entries.{stored-length, stored-numbered}
+use Rattle.varisat_prop.proofs.AllocEntries.{stored-length, stored-numbered}
 use Rattle.varisat_prop.proofs.clause.alloc.ClauseAlloc.len.Goals as goal
 
 pub returns-clause-count : goal.returns-clause-count

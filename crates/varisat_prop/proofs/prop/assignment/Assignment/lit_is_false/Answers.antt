@@ -1,7 +1,7 @@
 use Rattle.std.proofs.Common.{◌∙◌, ap, Some, false}
 use Rattle.std.specs.Bool.{beq}
 use Rattle.std.specs.Option.{option_eq}
-use Rattle.varisat_prop.proofs.Lits.{false-value}
+use Rattle.varisat_prop.proofs.LiteralValues.{false-value}
 use Rattle.varisat_prop.proofs.prop.assignment.Assignment.lit_is_false.Goals as goal
 
 pub returns : goal.returns

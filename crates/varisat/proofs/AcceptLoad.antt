@@ -1,0 +1,266 @@
+-- A clause is accepted.
+use Rattle.std.proofs.Common.{◌≡◌, ◌≢◌, ℕ, ◌<◌, ◌≤◌, Bool, true, false, Option, Some, List, [], ◌∷◌, ◌++◌, ◌⊎◌, inl, inr, ⊎_elim, sym, ap, ◌∙◌, subst, refl, map, length, arith}
+use Rattle.std.proofs.lemmas.List.{map-append}
+use Rattle.varisat_theory.specs.Membership.{◌∈◌, ◌⊆◌}
+use Rattle.varisat_theory.specs.Literals.{Literal, Clause, Assignment, variable_of, opposite, IsUnit, Satisfies, SatisfiesAll, IsSatisfiable}
+use Rattle.varisat_theory.specs.Renaming.{rename}
+use Rattle.varisat_theory.specs.Derivations.{Line}
+use Rattle.varisat_theory.specs.Searches.{Search, IsLiteralOf, Covers, CoversBy, IsCoveredBySearch, Tautology, KnownTrue, FixedTrue, Kept}
+use Rattle.varisat_theory.specs.Outcomes.{Outcome, Loads, IsReached}
+use Rattle.varisat_theory.specs.Outcomes as outcome
+use Rattle.varisat_theory.proofs.Members.{∈-or_not, ∈-append_cases, ∈-append_left, ∈-append_right}
+use Rattle.varisat_theory.proofs.Renaming.{∈-map, map-∈}
+use Rattle.varisat_theory.proofs.Assigned.{satisfies_more, satisfies_fewer}
+use Rattle.varisat_theory.proofs.Sound.{derives_sound}
+use Rattle.varisat_theory.proofs.Reached.{reached_one_more, reached_derived}
+use Rattle.varisat_theory.proofs.StepCounts.{by_derives}
+use Rattle.varisat_theory.proofs.StepCovers.{names_are_loaded}
+use Rattle.varisat_literals.specs.Numbers.{polarity_of}
+use Rattle.varisat_prop.proofs.LiteralValues.{own-opposite, same-literal, variable-opposite}
+use Rattle.varisat_names.specs.Maps.{chain}
+use Rattle.varisat_names.specs.declared.variables.data.VarData.{VarData}
+use Rattle.varisat.specs.States.{State, Verdict, Unknown, Sat, Unsat, IsRight}
+use Rattle.varisat.specs.Names.{identity_of, through_names}
+use Rattle.varisat.specs.Calls.{ContradictsUnit, VerdictAfter, Refuted, Reopened}
+use Rattle.varisat.specs.Carried.{carry, AgreesAlong, is_forced}
+use Rattle.varisat.specs.Spaces.{Spaces, Carrying, IsWide, IsApart, IsolationCase, NotIsolated, Apart, Forced, IsolationFits, Translation, translation, SearchHolds, VerdictFits, Links}
+use Rattle.varisat.proofs.SpacesMoves.{AreTaken, solver_literal, IsTouched, accept, AreLong, AreInUse}
+use Rattle.varisat_names.proofs.Maps.{chain-some, chain-through}
+use Rattle.varisat.proofs.SpacesAgree.{identities-same, modes-same, units-same, marks-same}
+use Rattle.varisat.proofs.Carried.{carry-at, carry-sign, carry-opposite, satisfied-carried, forced-value, wide-back}
+use Rattle.varisat.proofs.AcceptSolverVariables.{one-solver}
+use Rattle.varisat.proofs.SearchHeld.{answers-covers, fixed-on, refuted}
+
+pub map-map : (f g h : Literal → Literal) (c : Clause) → ((l : Literal) → l ∈ c → f (g l) ≡ h l) → map f (map g c) ≡ map h c
+map-map f g h [] e = refl
+map-map f g h (l ∷ c) e = ap (λ x. x ∷ map f (map g c)) (e l (inl refl)) ∙ ap (λ x. h l ∷ x) (map-map f g h c (λ m i. e m (inr i)))
+
+map-empty : (f : Literal → Literal) (c : Clause) → map f c ≡ [] → c ≡ []
+map-empty f [] e = refl
+map-empty f (l ∷ c) e = absurd cc
+
+module _ (w : Carrying) (p : Spaces) (s : State) (d : Clause) (after : ℕ → VarData) (k : Links w p s) (taken : AreTaken p d) (touched : IsTouched p d after) where
+  r : Translation
+  r = translation w p
+
+  c : Clause
+  c = map (through_names s) d
+
+  e : Clause
+  e = map (solver_literal p) d
+
+  -- where a name of the clause leads
+  record Leads (l : Literal) : Type 0 where
+    v : ℕ
+    x : ℕ
+    i : ℕ
+    named : p.global_from_user (variable_of l) ≡ Some x
+    stands : w.identity x ≡ Some i
+    known : i ∈ s.counted
+    there : r.identity v ≡ Some i
+    back : r.solver i ≡ Some v
+    name : s.names (variable_of l) ≡ Some i
+    solver : variable_of (solver_literal p l) ≡ v
+
+  where-to : (l : Literal) → l ∈ d → Leads l
+  unfolding r
+  where-to l h =
+      let (v, a) = taken l h in
+      let (x, b, f) = chain-through p.global_from_user p.solver_from_global (variable_of l) v a in
+      let g = k.solvers.one_to_one.there x v f in
+      let q = k.solvers.live v x g in
+      record {
+        v = v;
+        x = x;
+        i = q.0;
+        named = b;
+        stands = q.1;
+        known = q.2;
+        there = chain-some p.global_from_solver w.identity v x g ∙ q.1;
+        back = chain-some w.global p.solver_from_global q.0 x (k.identities.one_to_one.there x q.0 q.1) ∙ f;
+        name = k.names.agree (variable_of l) ∙ chain-some p.global_from_user w.identity (variable_of l) x b ∙ q.1;
+        solver = carry-at (chain p.global_from_user p.solver_from_global) l v a;
+      }
+
+  through : (l : Literal) → l ∈ d → carry r.identity (solver_literal p l) ≡ through_names s l
+  through l h =
+      let z = where-to l h in
+      let a1 : variable_of (carry r.identity (solver_literal p l)) ≡ z.i = carry-at r.identity (solver_literal p l) z.i (ap r.identity z.solver ∙ z.there) in
+      let a2 : variable_of (carry s.names l) ≡ z.i = carry-at s.names l z.i z.name in
+      same-literal (carry r.identity (solver_literal p l)) (carry s.names l) (a1 ∙ sym a2) (carry-sign r.identity (solver_literal p l) ∙ carry-sign (chain p.global_from_user p.solver_from_global) l ∙ sym (carry-sign s.names l))
+
+  backward : (l : Literal) → l ∈ d → carry r.solver (through_names s l) ≡ solver_literal p l
+  backward l h =
+      let z = where-to l h in
+      let a1 : variable_of (carry r.solver (through_names s l)) ≡ z.v = carry-at r.solver (carry s.names l) z.v (ap r.solver (carry-at s.names l z.i z.name) ∙ z.back) in
+      same-literal (carry r.solver (carry s.names l)) (solver_literal p l) (a1 ∙ sym z.solver) (carry-sign r.solver (carry s.names l) ∙ carry-sign s.names l ∙ sym (carry-sign (chain p.global_from_user p.solver_from_global) l))
+
+  same-clause : map (carry r.identity) e ≡ c
+  unfolding c e
+  same-clause = map-map (carry r.identity) (solver_literal p) (through_names s) d through
+
+  back-clause : map (carry r.solver) c ≡ e
+  unfolding c e
+  back-clause = map-map (carry r.solver) (through_names s) (solver_literal p) d backward
+
+  -- a literal of the clause over solver variables
+  of-clause : (m : Literal) → m ∈ e → (i : ℕ) × (r.identity (variable_of m) ≡ Some i)
+  unfolding e
+  of-clause m h = let (l, a, q) = map-∈ (solver_literal p) m d h in let z = where-to l a in (z.i, ap (λ y. r.identity (variable_of y)) q ∙ ap r.identity z.solver ∙ z.there)
+
+  -- what is carried to one literal is one literal
+  one-literal : (m n : Literal) (i : ℕ) → r.identity (variable_of m) ≡ Some i → (j : ℕ) → r.identity (variable_of n) ≡ Some j → carry r.identity n ≡ carry r.identity m → n ≡ m
+  unfolding r
+  one-literal m n i a j b q =
+      let to = (translation w p).identity in
+      let z : j ≡ i = sym (carry-at to n j b) ∙ ap variable_of q ∙ carry-at to m i a in
+      same-literal n m (one-solver w p s k (variable_of m) (variable_of n) i a (b ∙ ap Some z)) (sym (carry-sign to n) ∙ ap polarity_of q ∙ carry-sign to m)
+
+  -- what contradicts the accepted clauses contradicts the search
+  module _ (h : SearchHolds s.clauses r p.search outcome.Unknown) (long : AreLong p.search) where
+    open-verdict : outcome.Unknown ≢ outcome.Unsat
+    open-verdict q = let z : outcome.Unknown ≡ outcome.Unsat = q in cc
+
+    by-cover : (m : Literal) (i : ℕ) → r.identity (variable_of m) ≡ Some i → (D : Clause) → IsUnit (carry r.identity m) D → IsCoveredBySearch (carry r.identity) (is_forced r.forced) p.search D → m ∈ p.search.fixed
+    by-cover m i a D u (Tautology (l, f, g)) = absurd (own-opposite l (u.1 (opposite l) g ∙ sym (u.1 l f)))
+    by-cover m i a D u (KnownTrue l f g) =
+        let z = u.1 l f in
+        h.fixed open-verdict m i a (ap r.forced (sym (ap variable_of z ∙ carry-at r.identity m i a)) ∙ forced-value r.forced l g ∙ ap Some (ap polarity_of z ∙ carry-sign r.identity m))
+    by-cover m i a D u (FixedTrue l f g) =
+        let (j, b) = h.within l (inl f) in
+        subst (λ y. y ∈ p.search.fixed) (one-literal m l i a j b (u.1 (carry r.identity l) g)) f
+    by-cover m i a D u (Kept kc f g q) =
+        let (x, y, b, o, n) = long kc f in
+        let one : (z : Literal) → z ∈ kc.clause → z ≡ m = (λ z j. let t = h.within z (inr (kc, f, j)) in one-literal m z i a t.0 t.1 (u.1 (carry r.identity z) (q z j))) in
+        absurd (n (one x b ∙ sym (one y o)))
+
+    contradicted : ContradictsUnit s.clauses c → outcome.IsContradicted p.search e
+    unfolding c e
+    contradicted q =
+        ⊎_elim
+        (λ z. inl (ap (map (solver_literal p)) (map-empty (through_names s) d z)))
+        (λ (l, D, u, b, o).
+        let (l0, a, z) = map-∈ (through_names s) l d u.0 in
+        let m = solver_literal p l0 in
+        let in-e : m ∈ map (solver_literal p) d = ∈-map (solver_literal p) l0 d a in
+        let (i, f) = of-clause m in-e in
+        let lm : carry r.identity m ≡ l = through l0 a ∙ sym z in
+        let f' : r.identity (variable_of (opposite m)) ≡ Some i = ap r.identity (variable-opposite m) ∙ f in
+        inr (
+          m,
+          (
+            in-e,
+            λ n j. let (n0, g, y) = map-∈ (solver_literal p) n d j in
+                let t = of-clause n j in
+                one-literal m n i f t.0 t.1 (ap (carry r.identity) y ∙ through n0 g ∙ u.1 (through_names s n0) (∈-map (through_names s) n0 d g) ∙ sym lm),
+          ),
+          by-cover (opposite m) i f' D (subst (λ y. IsUnit y D) (sym (carry-opposite r.identity m ∙ ap opposite lm)) o) (h.covered open-verdict D b),
+        ))
+        q
+
+  -- What the search with the clause holds.
+  module _ (h : SearchHolds s.clauses r p.search outcome.Unknown) (t : Search) (v : Outcome) (lines : List Line) (loads : Loads p.search t e v lines) (long : AreLong t) (in-use : AreInUse p t) where
+    in-covers : v ≢ outcome.Unsat → (Q : List Clause) → Covers Q p.search → Covers Q t
+    in-covers n Q g b i = answers-covers (Q ++ e ∷ []) t v n (loads.answers Q g) b (∈-append_left b Q (e ∷ []) i)
+
+    covers-more : v ≢ outcome.Unsat → CoversBy (carry r.identity) (is_forced r.forced) (s.clauses ++ c ∷ []) t
+    covers-more n =
+        let u : v ≡ outcome.Unknown = ⊎_elim (λ q. absurd (n q.1)) (λ q. q.1) loads.verdict in
+        names_are_loaded p.search t e c lines (carry r.identity) (is_forced r.forced) s.clauses (carry-opposite r.identity) (subst (λ y. Loads p.search t e y lines) u loads)
+        (λ l i. subst (λ y. carry r.identity l ∈ y) same-clause (∈-map (carry r.identity) l e i)) (h.covered (λ q. let z : outcome.Unknown ≡ outcome.Unsat = q in cc))
+
+    holds-more : SearchHolds (s.clauses ++ c ∷ []) r t v
+    unfolding r c
+    holds-more =
+        let (last, g, o) = loads.holds h.held h.holds in
+        let all = by_derives 0 (h.held ++ e ∷ []) lines last g in
+        record {
+          held = last;
+          holds = o;
+          within = λ l a. let (x, b) = in-use l a in let q = k.solvers.live (variable_of l) x b in (q.0, chain-some p.global_from_solver w.identity (variable_of l) x b ∙ q.1);
+          implied = λ a b m g. derives_sound (h.held ++ e ∷ []) lines last b all (satisfies_more b h.held e (h.implied a b (satisfies_fewer a s.clauses (c ∷ []) m) g)
+              (satisfied-carried r.identity a b e of-clause g (subst (λ y. Satisfies a y) (sym same-clause) (m c (∈-append_right c s.clauses (c ∷ []) (inl refl))))));
+          known = λ a m. h.known a (satisfies_fewer a s.clauses (c ∷ []) m);
+          fixed = λ n l i a b. fixed-on s.clauses r p.search t v h long in-covers n l (h.fixed (λ q. let z : outcome.Unknown ≡ outcome.Unsat = q in cc) l i a b);
+          covered = covers-more;
+          taken = λ z b l i j. ⊎_elim
+              (λ q. h.taken z b l q j)
+              (λ q. ⊎_elim (λ y. in-clause l (subst (λ u. l ∈ u) y j)) (λ y. absurd y) q)
+              (∈-append_cases b s.clauses (c ∷ []) i);
+          reached = λ z. subst (λ Q. IsReached Q last) (sym (map-append (map (carry r.solver)) s.clauses (c ∷ []) ∙ ap (λ y. rename (carry r.solver) s.clauses ++ y ∷ []) back-clause))
+              (reached_derived (rename (carry r.solver) s.clauses ++ e ∷ []) (h.held ++ e ∷ []) lines last (reached_one_more (rename (carry r.solver) s.clauses) h.held e (h.reached z)) all);
+        }
+      where
+        in-clause : (l : Literal) → l ∈ c → (u : ℕ) × (r.solver (variable_of l) ≡ Some u)
+        in-clause l i = let (m, a, q) = map-∈ (through_names s) l d i in let z = where-to m a in (z.v, ap r.solver (ap variable_of q ∙ carry-at s.names m z.i z.name) ∙ z.back)
+
+  settled-more : IsolationFits w.identity w.forced after (s.clauses ++ c ∷ []) s.made
+  unfolding c
+  settled-more i h = go (k.isolation i h)
+    where
+      still-open : (b : Bool) (x : ℕ) → (after x).isolated ≡ b → (p.kept x).isolated ≡ false → (after x).isolated ≡ false
+      still-open true x f o = let q : true ≡ false = sym (touched.fallen x f) ∙ o in absurd cc
+      still-open false x f o = f
+
+      by-mark : (b : Bool) (x : ℕ) → (after x).isolated ≡ b → w.identity x ≡ Some i → IsApart s.clauses i → (l0 : Literal) → l0 ∈ d → p.global_from_user (variable_of l0) ≡ Some x → IsolationCase w.identity w.forced after (s.clauses ++ map (through_names s) d ∷ []) i
+      by-mark false x q f apart l0 b g = NotIsolated x f q
+      by-mark true x q f apart l0 b g = Apart (λ D l a wide m z. ⊎_elim
+          (λ j. apart D l j wide m z)
+          (λ j. ⊎_elim (λ y. let n : true ≡ false = sym q ∙ touched.wide (wide-back s.names d (subst IsWide y wide)) l0 x b g in absurd cc) (λ y. absurd y) j)
+          (∈-append_cases D s.clauses (map (through_names s) d ∷ []) a))
+
+      go : IsolationCase w.identity w.forced p.kept s.clauses i → IsolationCase w.identity w.forced after (s.clauses ++ map (through_names s) d ∷ []) i
+      go (NotIsolated x f o) = NotIsolated x f (still-open (after x).isolated x refl o)
+      go (Apart apart) = ⊎_elim
+          (λ m. let (l, a, q) = map-∈ variable_of i (map (through_names s) d) m in
+          let (l0, b, z) = map-∈ (through_names s) l d a in
+          let y = where-to l0 b in
+          let ij : i ≡ y.i = q ∙ ap variable_of z ∙ carry-at s.names l0 y.i y.name in
+          by-mark (after y.x).isolated y.x refl (y.stands ∙ ap Some (sym ij)) apart l0 b y.named)
+          (λ n. Apart (λ b l a f g z. ⊎_elim (λ j. apart b l j f g z) (λ j. ⊎_elim (λ y. n (subst (λ v. v ∈ map variable_of (map (through_names s) d)) z (∈-map variable_of l (map (through_names s) d) (subst (λ u. l ∈ u) y g)))) (λ y. absurd y) j) (∈-append_cases b s.clauses (map (through_names s) d ∷ []) a)))
+          (∈-or_not i (map variable_of (map (through_names s) d)))
+      go (Forced b e) = Forced b e
+
+  stands : (t : Search) (v : Outcome) (m : ℕ → Bool) (x : Verdict) → SearchHolds (s.clauses ++ c ∷ []) r t v → VerdictFits w.identity m v x → IsRight (s.clauses ++ c ∷ []) s.assumptions s.counted x → Links w (record p { kept = after; search = t; outcome = v; model = m }) (accept c x s)
+  unfolding r c
+  stands t v m x holds fits right = record {
+    identities = identities-same w.identity w.global p.kept after s.made (λ x. ap (λ y. y.deleted) (touched.rest x)) k.identities;
+    names = k.names;
+    modes = modes-same w.identity p.global_from_user p.user_from_global p.global_from_user p.user_from_global p.kept after s.modes (λ u. refl) (λ x. refl) (λ x. ap (λ y. y.sampling_mode) (touched.rest x)) k.modes;
+    watermark = k.watermark;
+    units = units-same w.identity w.forced p.kept after s.counted (λ x. ap (λ y. y.unit) (touched.rest x)) k.units;
+    isolation = settled-more;
+    solvers = k.solvers;
+    holds = holds;
+    assumptions = k.assumptions;
+    marks = marks-same p.kept after p.assumptions (λ x. ap (λ y. y.assumed) (touched.rest x)) k.marks;
+    verdict = fits;
+    right = right;
+    well_formed = record {
+      one_to_one = k.well_formed.one_to_one;
+      free = k.well_formed.free;
+      named = k.well_formed.named;
+      accepted = λ b l i j. ⊎_elim (λ q. k.well_formed.accepted b l q j) (λ q. ⊎_elim (λ z. made l (subst (λ y. l ∈ y) z j)) (λ z. absurd z) q) (∈-append_cases b s.clauses (c ∷ []) i);
+      assumed = k.well_formed.assumed;
+      counted = k.well_formed.counted;
+      once = k.well_formed.once;
+    };
+    few = k.few;
+  }
+    where
+      made : (l : Literal) → l ∈ c → variable_of l < s.made
+      made l h = let (l0, a, z) = map-∈ (through_names s) l d h in
+          let y = where-to l0 a in
+          subst (λ j. j < s.made) (sym (ap variable_of z ∙ carry-at s.names l0 y.i y.name)) (k.identities.below y.x y.i y.stands)
+
+  pub loaded : (t : Search) (v : Outcome) (m : ℕ → Bool) (lines : List Line) → p.outcome ≡ outcome.Unknown → AreLong p.search → AreLong t → AreInUse p t → Loads p.search t (map (solver_literal p) d) v lines →
+      (x : Verdict) × VerdictAfter s.clauses (map (through_names s) d) Unknown x × Links w (record p { kept = after; search = t; outcome = v; model = m }) (accept (map (through_names s) d) x s)
+  unfolding c e r
+  loaded t v m lines o long-before long in-use loads =
+      let h = subst (SearchHolds s.clauses (translation w p) p.search) o k.holds in
+      let more = holds-more h t v lines loads long in-use in
+      ⊎_elim
+      (λ (q, u). let none = refuted (s.clauses ++ c ∷ []) (translation w p) t (subst (SearchHolds (s.clauses ++ c ∷ []) (translation w p) t) u more) in
+      (Unsat, Refuted refl none, stands t v m Unsat more (subst (λ y. VerdictFits w.identity m y Unsat) (sym u) tt) none))
+      (λ (q, u). (Unknown, Reopened refl (λ z. q (contradicted h long-before z)), stands t v m Unknown more (subst (λ y. VerdictFits w.identity m y Unknown) (sym u) tt) tt))
+      loads.verdict

@@ -1,0 +1,209 @@
+-- A name gets a variable.
+use Rattle.std.proofs.Common.{◌≡◌, ℕ, ◌+◌, ◌<◌, max, true, false, Option, Some, None, List, [], ◌∷◌, inl, inr, ⊎_elim, sym, ap, ◌∙◌, subst, refl, map, length, arith}
+use Rattle.varisat_theory.specs.Membership.{◌∈◌}
+use Rattle.varisat_theory.specs.Literals.{Literal, Clause, Assignment, variable_of}
+use Rattle.varisat_theory.proofs.Members.{equal_or_not}
+use Rattle.varisat_names.specs.Maps.{updated, onward, chain}
+use Rattle.varisat_names.specs.VarData.{fresh}
+use Rattle.varisat_names.specs.declared.variables.data.VarData.{VarData}
+use Rattle.varisat_names.specs.declared.variables.data.SamplingMode.TheVariants as sampling
+use Rattle.varisat.specs.States.{State, Sample, Verdict, Sat, IsRight, IsWellFormed}
+use Rattle.varisat.specs.Names.{bring, bring_next}
+use Rattle.varisat.specs.Carried.{carry}
+use Rattle.varisat.specs.Spaces.{Spaces, Carrying, ModeFits, IdentitiesFit, NamesFit, ModesFit, UnitsFit, IsolationCase, NotIsolated, Apart, Forced, IsolationFits, AssumptionsFit, MarksFit, Translation, translation, SearchHolds, Links, SpacesFit}
+use Rattle.varisat.proofs.SpacesMoves.{give, give_next, AreDead}
+use Rattle.varisat_names.proofs.Maps.{updated-at, updated-other, updated-all, joined, chain-same, chain-some, chain-none, is-some}
+use Rattle.varisat.proofs.SpacesAgree.{carry-same, map-same, holds-same, verdict-moved}
+
+-- what follows from the links
+
+-- a variable that is not live has no identity
+pub unlinked : (w : Carrying) (p : Spaces) (s : State) (x : ℕ) → Links w p s → (p.kept x).deleted ≡ true → w.identity x ≡ None
+unlinked w p s x k d = ⊎_elim (λ e. e) (λ (i, e). let q : true ≡ false = sym d ∙ k.identities.live x i e in absurd cc) (is-some (w.identity x))
+
+-- a live one has one
+pub linked : (w : Carrying) (p : Spaces) (s : State) (x : ℕ) → Links w p s → (p.kept x).deleted ≡ false → (i : ℕ) × (w.identity x ≡ Some i)
+linked w p s x k d = ⊎_elim (λ e. let q : false ≡ true = sym d ∙ k.identities.deleted x e in absurd cc) (λ r. r) (is-some (w.identity x))
+
+-- a variable that has an identity is not one that has none
+pub differ : (id : ℕ → Option ℕ) (x y i : ℕ) → id x ≡ None → id y ≡ Some i → y ≡ x → ⊥
+differ id x y i n e q = let z : None ≡ Some i = sym n ∙ ap id (sym q) ∙ e in cc
+
+-- the variables of the assumptions have identities
+pub assumed-live : (w : Carrying) (p : Spaces) (s : State) (l : Literal) → Links w p s → l ∈ p.assumptions → (i : ℕ) × (w.identity (variable_of l) ≡ Some i)
+assumed-live w p s l k h = let r = k.assumptions.named l h in k.names.live r.0 (variable_of l) (k.names.one_to_one.back r.0 (variable_of l) r.1)
+
+pub bring-well : (u : ℕ) (s : State) → IsWellFormed s → IsWellFormed (bring u s)
+bring-well u s f = record {
+  one_to_one = λ u' v i. updated-all (λ u' o. o ≡ Some i → updated s.names u (Some s.made) v ≡ Some i → u' ≡ v) s.names u (Some s.made)
+      (λ e. updated-all (λ v o. o ≡ Some i → u ≡ v) s.names u (Some s.made) (λ _. refl) v (λ n h. let b = f.named v i h in let q : s.made ≡ i = cc in absurd (omega (arith, b, q))))
+      u'
+      (λ n h. updated-all (λ v o. o ≡ Some i → u' ≡ v) s.names u (Some s.made) (λ e. let b = f.named u' i h in let q : s.made ≡ i = cc in absurd (omega (arith, b, q))) v (λ m g. f.one_to_one u' v i h g));
+  free = λ v h. updated-other s.names u (Some s.made) v (λ e. absurd (omega (arith))) ∙ f.free v (omega arith);
+  named = λ v i. updated-all (λ v o. o ≡ Some i → i < s.made + 1) s.names u (Some s.made) (λ e. let q : s.made ≡ i = cc in omega (arith, q)) v (λ n h. let b = f.named v i h in omega (arith, b));
+  accepted = λ c l h i. let b = f.accepted c l h i in omega (arith, b);
+  assumed = λ l h. let b = f.assumed l h in omega (arith, b);
+  counted = λ i h. let b = f.counted i h in omega (arith, b);
+  once = f.once;
+}
+
+-- under Sat an identity that is not counted is false
+uncounted : (P : List Clause) (A : List Literal) (C : List ℕ) (v : Verdict) (i : ℕ) → (i ∈ C → ⊥) → IsRight P A C v → (a : Assignment) → v ≡ Sat a → a i ≡ false
+uncounted P A C v i n r a e = (subst (IsRight P A C) e r).2 i n
+
+module _ (w : Carrying) (p : Spaces) (s : State) (u x : ℕ) (k : Links w p s) (free : p.global_from_user u ≡ None) (dead : (p.kept x).deleted ≡ true) where
+  id' : ℕ → Option ℕ
+  id' = updated w.identity x (Some s.made)
+
+  kept' : ℕ → VarData
+  kept' = updated p.kept x fresh
+
+  none : w.identity x ≡ None
+  none = unlinked w p s x k dead
+
+  apart : (y i : ℕ) → w.identity y ≡ Some i → y ≡ x → ⊥
+  apart y i = differ w.identity x y i none
+
+  stays : (y i : ℕ) → w.identity y ≡ Some i → id' y ≡ Some i
+  unfolding id'
+  stays y i h = updated-other w.identity x (Some s.made) y (apart y i h) ∙ h
+
+  kept-stays : (y i : ℕ) → w.identity y ≡ Some i → kept' y ≡ p.kept y
+  unfolding kept'
+  kept-stays y i h = updated-other p.kept x fresh y (apart y i h)
+
+  unused : w.global s.made ≡ None
+  unused = ⊎_elim (λ e. e) (λ (y, e). let b = k.identities.below y s.made (k.identities.one_to_one.back y s.made e) in absurd (omega (arith, b))) (is-some (w.global s.made))
+
+  unnamed : p.user_from_global x ≡ None
+  unnamed = ⊎_elim (λ e. e) (λ (v, e). let r = k.names.live v x (k.names.one_to_one.back v x e) in absurd (apart x r.0 r.1 refl)) (is-some (p.user_from_global x))
+
+  unforced : w.forced s.made ≡ None
+  unforced = ⊎_elim (λ e. e) (λ (b, e). let h = k.well_formed.counted s.made (k.units.is_counted s.made b e) in absurd (omega (arith, h))) (is-some (w.forced s.made))
+
+  new-identities : IdentitiesFit id' (updated w.global s.made (Some x)) kept' (s.made + 1)
+  unfolding id' kept'
+  new-identities = record {
+    one_to_one = joined w.identity w.global x s.made k.identities.one_to_one none unused;
+    live = λ y i. updated-all (λ y o. o ≡ Some i → (kept' y).deleted ≡ false) w.identity x (Some s.made) (λ _. ap (λ d. d.deleted) (updated-at p.kept x fresh)) y (λ n h. ap (λ d. d.deleted) (kept-stays y i h) ∙ k.identities.live y i h);
+    deleted = λ y. updated-all (λ y o. o ≡ None → (kept' y).deleted ≡ true) w.identity x (Some s.made) (λ e. absurd cc) y (λ n h. ap (λ d. d.deleted) (updated-other p.kept x fresh y n) ∙ k.identities.deleted y h);
+    below = λ y i. updated-all (λ y o. o ≡ Some i → i < s.made + 1) w.identity x (Some s.made) (λ e. let q : s.made ≡ i = cc in omega (arith, q)) y (λ n h. let b = k.identities.below y i h in omega (arith, b));
+  }
+
+  mode-new : ModeFits (kept' x).sampling_mode (updated s.modes s.made Sample s.made)
+  unfolding kept'
+  mode-new = subst (λ m. ModeFits (kept' x).sampling_mode m) (sym (updated-at s.modes s.made Sample)) (subst (λ d. ModeFits d.sampling_mode Sample) (sym (updated-at p.kept x fresh)) tt)
+
+  new-names : NamesFit id' (updated p.global_from_user u (Some x)) (updated p.user_from_global x (Some u)) (updated s.names u (Some s.made)) (max s.watermark (u + 1))
+  unfolding id'
+  new-names = record {
+    one_to_one = joined p.global_from_user p.user_from_global u x k.names.one_to_one free unnamed;
+    agree = λ v. updated-all (λ v o. o ≡ chain (updated p.global_from_user u (Some x)) id' v) s.names u (Some s.made)
+        (sym (chain-some (updated p.global_from_user u (Some x)) id' u x (updated-at p.global_from_user u (Some x)) ∙ updated-at w.identity x (Some s.made)))
+        v
+        (λ n. k.names.agree v ∙ chain-same p.global_from_user w.identity id' v (λ y h. let r = k.names.live v y h in r.1 ∙ sym (stays y r.0 r.1)) ∙ ap (λ o. onward o id') (sym (updated-other p.global_from_user u (Some x) v n)));
+    live = λ v y. updated-all (λ v o. o ≡ Some y → (i : ℕ) × (id' y ≡ Some i)) p.global_from_user u (Some x)
+        (λ e. (s.made, let q : x ≡ y = cc in subst (λ z. id' z ≡ Some s.made) q (updated-at w.identity x (Some s.made))))
+        v
+        (λ n h. let r = k.names.live v y h in (r.0, stays y r.0 r.1));
+    free = λ v h. updated-other p.global_from_user u (Some x) v (λ e. absurd (omega arith)) ∙ k.names.free v (omega arith);
+  }
+
+  new-modes : ModesFit id' (updated p.global_from_user u (Some x)) (updated p.user_from_global x (Some u)) kept' (updated s.modes s.made Sample)
+  unfolding id' kept'
+  new-modes = record {
+    mode = λ v y i. updated-all (λ v o. o ≡ Some y → id' y ≡ Some i → ModeFits (kept' y).sampling_mode (updated s.modes s.made Sample i)) p.global_from_user u (Some x)
+        (λ e q. let z : x ≡ y = cc in
+        let at : Some i ≡ Some s.made = sym q ∙ ap id' (sym z) ∙ updated-at w.identity x (Some s.made) in
+        let j : s.made ≡ i = cc in
+        subst (λ i. ModeFits (kept' y).sampling_mode (updated s.modes s.made Sample i)) j (subst (λ y. ModeFits (kept' y).sampling_mode (updated s.modes s.made Sample s.made)) z mode-new))
+        v
+        (λ n h q. let r = k.names.live v y h in
+        let same : Some r.0 ≡ Some i = sym (stays y r.0 r.1) ∙ q in
+        let j : r.0 ≡ i = cc in
+        let b = k.identities.below y r.0 r.1 in
+        subst (λ m. ModeFits (kept' y).sampling_mode m) (sym (updated-other s.modes s.made Sample i (λ e. absurd (omega (arith, b, e, j)))))
+        (subst (λ d. ModeFits d.sampling_mode (s.modes i)) (sym (kept-stays y r.0 r.1)) (k.modes.mode v y i h (r.1 ∙ ap Some j))));
+    unnamed = λ y. updated-all (λ y o. o ≡ None → (kept' y).sampling_mode ≡ sampling.Hide) p.user_from_global x (Some u) (λ e. absurd cc) y (λ n h. ap (λ d. d.sampling_mode) (updated-other p.kept x fresh y n) ∙ k.modes.unnamed y h);
+  }
+
+  new-units : UnitsFit id' w.forced kept' s.counted
+  unfolding id' kept'
+  new-units = record {
+    unit = λ y i. updated-all (λ y o. o ≡ Some i → w.forced i ≡ (kept' y).unit) w.identity x (Some s.made)
+        (λ e. let q : s.made ≡ i = cc in ap w.forced (sym q) ∙ unforced ∙ ap (λ d. d.unit) (sym (updated-at p.kept x fresh)))
+        y
+        (λ n h. k.units.unit y i h ∙ ap (λ d. d.unit) (sym (kept-stays y i h)));
+    is_counted = k.units.is_counted;
+  }
+
+  new-isolation : IsolationFits id' w.forced kept' s.clauses (s.made + 1)
+  unfolding id' kept'
+  new-isolation i h =
+      ⊎_elim
+      (λ e. Apart (λ c l m q j z. let b = k.well_formed.accepted c l m j in absurd (omega (arith, b, z, e))))
+      (λ n. go (k.isolation i (omega (arith, h, n))))
+      (equal_or_not i s.made)
+    where
+      go : IsolationCase w.identity w.forced p.kept s.clauses i → IsolationCase id' w.forced kept' s.clauses i
+      go (NotIsolated y e o) = NotIsolated y (stays y i e) (ap (λ d. d.isolated) (kept-stays y i e) ∙ o)
+      go (Apart a) = Apart a
+      go (Forced b e) = Forced b e
+
+  new-assumptions : AssumptionsFit id' (updated p.user_from_global x (Some u)) p.solver_from_global p.assumptions s.assumptions
+  unfolding id'
+  new-assumptions =
+      let a = λ (l : Literal) (h : l ∈ p.assumptions). assumed-live w p s l k h in
+      record {
+        agree = k.assumptions.agree ∙ map-same (carry w.identity) (carry id') p.assumptions (λ l h. carry-same w.identity id' l (let r = a l h in r.1 ∙ sym (stays (variable_of l) r.0 r.1)));
+        named = λ l h. let r = k.assumptions.named l h in let q = a l h in (r.0, updated-other p.user_from_global x (Some u) (variable_of l) (apart (variable_of l) q.0 q.1) ∙ r.1);
+        taken = k.assumptions.taken;
+      }
+
+  new-marks : MarksFit kept' p.assumptions
+  unfolding kept'
+  new-marks = record {
+    marked = λ l h. let q = assumed-live w p s l k h in ap (λ d. d.assumed) (kept-stays (variable_of l) q.0 q.1) ∙ k.marks.marked l h;
+    only = λ y. updated-all (λ y d. d.assumed ≡ true → y ∈ map variable_of p.assumptions) p.kept x fresh (λ e. absurd cc) y (λ n h. k.marks.only y h);
+  }
+
+  unsolved : p.solver_from_global x ≡ None
+  unsolved = ⊎_elim (λ e. e) (λ (v, e). let r = k.solvers.live v x (k.solvers.one_to_one.there x v e) in absurd (apart x r.0 r.1 refl)) (is-some (p.solver_from_global x))
+
+  solver-same : (i : ℕ) → chain (updated w.global s.made (Some x)) p.solver_from_global i ≡ chain w.global p.solver_from_global i
+  solver-same i = updated-all (λ i o. onward o p.solver_from_global ≡ onward (w.global i) p.solver_from_global) w.global s.made (Some x) (unsolved ∙ ap (λ o. onward o p.solver_from_global) (sym unused)) i (λ n. refl)
+
+  pub given : SpacesFit (give u x p) (bring u s)
+  unfolding id' kept'
+  given = (
+    record { identity = id'; global = updated w.global s.made (Some x); forced = w.forced },
+    record {
+      identities = new-identities;
+      names = new-names;
+      modes = new-modes;
+      watermark = ap (λ n. max n (u + 1)) k.watermark;
+      units = new-units;
+      isolation = new-isolation;
+      solvers = record { one_to_one = k.solvers.one_to_one; live = λ v y h. let r = k.solvers.live v y h in (r.0, stays y r.0 r.1, r.2) };
+      holds = holds-same s.clauses (translation w p) (record { identity = chain p.global_from_solver id'; solver = chain (updated w.global s.made (Some x)) p.solver_from_global; forced = w.forced; hidden = p.hidden }) p.search p.outcome
+          (λ v. chain-same p.global_from_solver id' w.identity v (λ y h. let r = k.solvers.live v y h in stays y r.0 r.1 ∙ sym r.1)) solver-same (λ i. refl) refl k.holds;
+      assumptions = new-assumptions;
+      marks = new-marks;
+      verdict = verdict-moved w.identity id' p.model (updated p.model x false) p.outcome s.verdict
+          (λ a e f y i. updated-all (λ y o. o ≡ Some i → a i ≡ updated p.model x false y) w.identity x (Some s.made)
+          (λ q. let z : s.made ≡ i = cc in ap a (sym z) ∙ uncounted s.clauses s.assumptions s.counted s.verdict s.made (λ h. let b = k.well_formed.counted s.made h in absurd (omega (arith, b))) k.right a e ∙ sym (updated-at p.model x false))
+          y
+          (λ n h. f y i h ∙ sym (updated-other p.model x false y n)))
+          k.verdict;
+      right = k.right;
+      well_formed = bring-well u s k.well_formed;
+      few = k.few;
+    },
+  )
+
+-- names in a row
+pub next-given : (xs : List ℕ) (p : Spaces) (s : State) → SpacesFit p s → AreDead xs p → SpacesFit (give_next xs p) (bring_next (length xs) s)
+next-given [] p s f d = f
+next-given (x ∷ xs) p s (w, k) d =
+    let free : p.global_from_user p.watermark ≡ None = k.names.free p.watermark (let e = k.watermark in omega (arith, e)) in
+    next-given xs (give p.watermark x p) (bring s.watermark s) (subst (λ n. SpacesFit (give p.watermark x p) (bring n s)) (sym k.watermark) (given w p s p.watermark x k free d.0)) d.1

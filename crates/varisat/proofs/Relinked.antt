@@ -1,0 +1,43 @@
+-- The search goes on, and the verdict of the state with it: what was said of the names stays.
+use Rattle.std.proofs.Common.{◌≤◌, length}
+use Rattle.varisat.specs.States.{State, HasRightVerdict}
+use Rattle.varisat.specs.Spaces.{Spaces, Carrying, translation, SolversFit, SearchHolds, AssumptionsFit, VerdictFits, Links}
+use Rattle.varisat.proofs.CallStates.{told_as, told-well}
+
+-- the spaces, with the solver variables and the search of others
+abbrev pub with_search_side : Spaces → Spaces → Spaces
+with_search_side q p = record p {
+  solver_from_global = q.solver_from_global;
+  global_from_solver = q.global_from_solver;
+  model = q.model;
+  search = q.search;
+  outcome = q.outcome;
+  var_count = q.var_count;
+}
+
+-- What links the search to the state.
+pub record SearchLinks (w : Carrying) (p : Spaces) (s : State) : Type 0 where
+  pub solvers : SolversFit w.identity p.solver_from_global p.global_from_solver s.counted
+  pub holds : SearchHolds s.clauses (translation w p) p.search p.outcome
+  pub assumptions : AssumptionsFit w.identity p.user_from_global p.solver_from_global p.assumptions s.assumptions
+  pub verdict : VerdictFits w.identity p.model p.outcome s.verdict
+  pub right : HasRightVerdict s
+  pub few : p.var_count ≤ length s.counted
+
+pub relinked : (w : Carrying) (p q : Spaces) (s t : State) → Links w p s → SearchLinks w (with_search_side q p) (told_as t s) → Links w (with_search_side q p) (told_as t s)
+relinked w p q s t k l = record {
+  identities = k.identities;
+  names = k.names;
+  modes = k.modes;
+  watermark = k.watermark;
+  units = k.units;
+  isolation = k.isolation;
+  solvers = l.solvers;
+  holds = l.holds;
+  assumptions = l.assumptions;
+  marks = k.marks;
+  verdict = l.verdict;
+  right = l.right;
+  well_formed = told-well s t k.well_formed;
+  few = l.few;
+}

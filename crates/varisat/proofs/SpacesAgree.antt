@@ -1,0 +1,108 @@
+-- What stays where the maps and what is kept agree at each place.
+use Rattle.std.proofs.Common.{◌≡◌, ◌≢◌, ℕ, ◌+◌, ◌*◌, ◌%◌, Bool, true, Option, Some, List, [], ◌∷◌, inl, inr, ⊎_elim, sym, ap, ◌∙◌, subst, refl, map}
+use Rattle.varisat_theory.specs.Membership.{◌∈◌}
+use Rattle.varisat_theory.specs.Literals.{Literal, Clause, Assignment, variable_of, value, SatisfiesAll}
+use Rattle.varisat_theory.specs.Renaming.{rename}
+use Rattle.varisat_theory.specs.Searches.{Search, IsCoveredBySearch, Tautology, KnownTrue, FixedTrue, Kept}
+use Rattle.varisat_theory.specs.Outcomes.{Outcome, IsReached}
+use Rattle.varisat_theory.specs.Outcomes as outcome
+use Rattle.varisat_literals.specs.Numbers.{polarity_of}
+use Rattle.varisat_names.specs.Maps.{onward}
+use Rattle.varisat_names.proofs.Maps.{inverse-same}
+use Rattle.varisat_names.specs.declared.variables.data.VarData.{VarData}
+use Rattle.varisat.specs.States.{Mode, Verdict, Unknown, Sat, Unsat}
+use Rattle.varisat.specs.Names.{identity_of}
+use Rattle.varisat.specs.Carried.{carry, is_value, is_forced}
+use Rattle.varisat.specs.Spaces.{ModeFits, IdentitiesFit, NamesFit, ModesFit, UnitsFit, IsolationCase, NotIsolated, Apart, Forced, IsolationFits, SolversFit, Translation, SearchHolds, AssumptionsFit, MarksFit, VerdictFits}
+
+pub identities-same : (id gl : ℕ → Option ℕ) (k k' : ℕ → VarData) (top : ℕ) → ((x : ℕ) → (k' x).deleted ≡ (k x).deleted) → IdentitiesFit id gl k top → IdentitiesFit id gl k' top
+identities-same id gl k k' top e f = record { one_to_one = f.one_to_one; live = λ x i h. e x ∙ f.live x i h; deleted = λ x h. e x ∙ f.deleted x h; below = f.below }
+
+pub names-same : (id fu tu fu' tu' ns : ℕ → Option ℕ) (w : ℕ) → ((u : ℕ) → fu' u ≡ fu u) → ((x : ℕ) → tu' x ≡ tu x) → NamesFit id fu tu ns w → NamesFit id fu' tu' ns w
+names-same id fu tu fu' tu' ns w a b f = record {
+  one_to_one = inverse-same fu tu fu' tu' a b f.one_to_one;
+  agree = λ u. f.agree u ∙ ap (λ o. onward o id) (sym (a u));
+  live = λ u x h. f.live u x (sym (a u) ∙ h);
+  free = λ u h. a u ∙ f.free u h;
+}
+
+pub modes-same : (id fu tu fu' tu' : ℕ → Option ℕ) (k k' : ℕ → VarData) (ms : ℕ → Mode) → ((u : ℕ) → fu' u ≡ fu u) → ((x : ℕ) → tu' x ≡ tu x) → ((x : ℕ) → (k' x).sampling_mode ≡ (k x).sampling_mode) → ModesFit id fu tu k ms → ModesFit id fu' tu' k' ms
+modes-same id fu tu fu' tu' k k' ms a b m f = record {
+  mode = λ u x i h j. subst (λ y. ModeFits y (ms i)) (sym (m x)) (f.mode u x i (sym (a u) ∙ h) j);
+  unnamed = λ x h. m x ∙ f.unnamed x (sym (b x) ∙ h);
+}
+
+pub units-same : (id : ℕ → Option ℕ) (fo : ℕ → Option Bool) (k k' : ℕ → VarData) (known : List ℕ) → ((x : ℕ) → (k' x).unit ≡ (k x).unit) → UnitsFit id fo k known → UnitsFit id fo k' known
+units-same id fo k k' known a f = record { unit = λ x i h. f.unit x i h ∙ sym (a x); is_counted = f.is_counted }
+
+pub isolation-same : (id : ℕ → Option ℕ) (fo : ℕ → Option Bool) (k k' : ℕ → VarData) (P : List Clause) (top : ℕ) → ((x : ℕ) → (k' x).isolated ≡ (k x).isolated) → IsolationFits id fo k P top → IsolationFits id fo k' P top
+isolation-same id fo k k' P top b f i h = go (f i h)
+  where
+    go : IsolationCase id fo k P i → IsolationCase id fo k' P i
+    go (NotIsolated x e o) = NotIsolated x e (b x ∙ o)
+    go (Apart a) = Apart a
+    go (Forced v e) = Forced v e
+
+pub solvers-same : (id fg tg fg' tg' : ℕ → Option ℕ) (known : List ℕ) → ((x : ℕ) → fg' x ≡ fg x) → ((v : ℕ) → tg' v ≡ tg v) → SolversFit id fg tg known → SolversFit id fg' tg' known
+solvers-same id fg tg fg' tg' known a b f = record { one_to_one = inverse-same fg tg fg' tg' a b f.one_to_one; live = λ v x h. f.live v x (sym (b v) ∙ h) }
+
+pub assumptions-same : (id tu fg tu' fg' : ℕ → Option ℕ) (given as' : List Literal) → ((x : ℕ) → tu' x ≡ tu x) → ((x : ℕ) → fg' x ≡ fg x) → AssumptionsFit id tu fg given as' → AssumptionsFit id tu' fg' given as'
+assumptions-same id tu fg tu' fg' given as' a b f = record {
+  agree = f.agree;
+  named = λ l h. let r = f.named l h in (r.0, a (variable_of l) ∙ r.1);
+  taken = λ l h. let r = f.taken l h in (r.0, b (variable_of l) ∙ r.1);
+}
+
+pub marks-same : (k k' : ℕ → VarData) (given : List Literal) → ((x : ℕ) → (k' x).assumed ≡ (k x).assumed) → MarksFit k given → MarksFit k' given
+marks-same k k' given m f = record { marked = λ l h. m (variable_of l) ∙ f.marked l h; only = λ x h. f.only x (sym (m x) ∙ h) }
+
+pub verdict-moved : (id id' : ℕ → Option ℕ) (m m' : ℕ → Bool) (o : Outcome) (v : Verdict) → ((a : Assignment) → v ≡ Sat a → ((x i : ℕ) → id x ≡ Some i → a i ≡ m x) → (x i : ℕ) → id' x ≡ Some i → a i ≡ m' x) → VerdictFits id m o v → VerdictFits id' m' o v
+verdict-moved id id' m m' outcome.Unknown Unknown h f = tt
+verdict-moved id id' m m' outcome.Unknown (Sat a) h f = f
+verdict-moved id id' m m' outcome.Unknown Unsat h f = f
+verdict-moved id id' m m' (outcome.Sat found) Unknown h f = f
+verdict-moved id id' m m' (outcome.Sat found) (Sat a) h f = h a refl f
+verdict-moved id id' m m' (outcome.Sat found) Unsat h f = f
+verdict-moved id id' m m' outcome.Unsat Unknown h f = f
+verdict-moved id id' m m' outcome.Unsat (Sat a) h f = f
+verdict-moved id id' m m' outcome.Unsat Unsat h f = tt
+verdict-moved id id' m m' (outcome.UnsatUnder core) v h f = absurd f
+
+-- literals that are carried
+
+pub carry-same : (f g : ℕ → Option ℕ) (l : Literal) → f (variable_of l) ≡ g (variable_of l) → carry f l ≡ carry g l
+carry-same f g l e = ap (λ o. 2 * identity_of o + l % 2) e
+
+pub map-same : (f g : Literal → Literal) (c : Clause) → ((l : Literal) → l ∈ c → f l ≡ g l) → map f c ≡ map g c
+map-same f g [] e = refl
+map-same f g (l ∷ c) e = ap (λ x. x ∷ map f c) (e l (inl refl)) ∙ ap (λ x. g l ∷ x) (map-same f g c (λ m h. e m (inr h)))
+
+pub rename-same : (f g : Literal → Literal) (P : List Clause) → ((c : Clause) (l : Literal) → c ∈ P → l ∈ c → f l ≡ g l) → rename f P ≡ rename g P
+rename-same f g [] e = refl
+rename-same f g (c ∷ P) e = ap (λ x. x ∷ rename f P) (map-same f g c (λ l h. e c l (inl refl) h)) ∙ ap (λ x. map g c ∷ x) (rename-same f g P (λ d l i h. e d l (inr i) h))
+
+pub value-same : (a b : Assignment) (l : Literal) → a (variable_of l) ≡ b (variable_of l) → value a l ≡ value b l
+unfolding value
+value-same a b l e = rw e refl
+
+-- coverage where each fixed and kept literal is carried to the same
+pub covered-same : (s : Search) (f g : Literal → Literal) (known more : Literal → Bool) (c : Clause) → ((l : Literal) → l ∈ s.fixed → f l ≡ g l) → ((d : Clause) (l : Literal) → l ∈ d → ((m : Literal) → m ∈ d → f m ∈ c) → f l ≡ g l) → ((l : Literal) → known l ≡ true → more l ≡ true) → IsCoveredBySearch f known s c → IsCoveredBySearch g more s c
+covered-same s f g known more c a b m (Tautology t) = Tautology t
+covered-same s f g known more c a b m (KnownTrue l i e) = KnownTrue l i (m l e)
+covered-same s f g known more c a b m (FixedTrue l i j) = FixedTrue l i (subst (λ x. x ∈ c) (a l i) j)
+covered-same s f g known more c a b m (Kept k i e w) = Kept k i e (λ l j. subst (λ x. x ∈ c) (b k.clause l j w) (w l j))
+
+pub holds-same : (P : List Clause) (r r' : Translation) (s : Search) (v : Outcome) → ((x : ℕ) → r'.identity x ≡ r.identity x) → ((i : ℕ) → r'.solver i ≡ r.solver i) → ((i : ℕ) → r'.forced i ≡ r.forced i) → r'.hidden ≡ r.hidden → SearchHolds P r s v → SearchHolds P r' s v
+holds-same P r r' s v a b f n h =
+    let to = λ (l : Literal). sym (carry-same r'.identity r.identity l (a (variable_of l))) in
+    record {
+      held = h.held;
+      holds = h.holds;
+      within = λ l i. let (j, e) = h.within l i in (j, a (variable_of l) ∙ e);
+      implied = λ x y m g. h.implied x y m (λ u i e. g u i (a u ∙ e));
+      known = λ x m i y e. h.known x m i y (sym (f i) ∙ e);
+      fixed = λ o l i e g. h.fixed o l i (sym (a (variable_of l)) ∙ e) (sym (f i) ∙ g);
+      covered = λ o c i. covered-same s (carry r.identity) (carry r'.identity) (is_forced r.forced) (is_forced r'.forced) c (λ l j. to l) (λ d l j w. to l) (λ l e. ap (λ y. is_value y (polarity_of l)) (f (variable_of l)) ∙ e) (h.covered o c i);
+      taken = λ z c l i j. let (x, e) = h.taken (sym n ∙ z) c l i j in (x, b (variable_of l) ∙ e);
+      reached = λ z. subst (λ Q. IsReached Q h.held) (rename-same (carry r.solver) (carry r'.solver) P (λ c l i j. sym (carry-same r'.solver r.solver l (b (variable_of l))))) (h.reached (sym n ∙ z));
+    }

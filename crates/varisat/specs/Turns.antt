@@ -1,0 +1,38 @@
+-- Calls in turn with their answers, where it is known what each call does.
+use Rattle.std.specs.Prelude.{◌≡◌, ℕ, Bool, Option, None, List, [], ◌∷◌, Result, Ok}
+use Rattle.std.specs.declared.alloc.AllocError.{AllocError}
+use Rattle.varisat_theory.specs.Literals.{Literal}
+use Rattle.varisat_formula.specs.Streams.{Stand}
+use Rattle.varisat.specs.Additions as additions
+use Rattle.varisat.specs.Told.{told_model}
+use Rattle.varisat.specs.declared.solver.SolverError.{SolverError}
+use Rattle.varisat.specs.declared.session.Call.{Call}
+use Rattle.varisat.specs.declared.session.Answer.{Answer}
+use Rattle.varisat.specs.declared.session.Call.TheVariants as call
+use Rattle.varisat.specs.declared.session.Answer.TheVariants as answer
+
+-- How calls move something, and with which answers: how clauses are added to it, and each further call that can be refused.
+pub record Calling (X : Type 0) : Type 1 where
+  pub adding : additions.Adding X
+  pub makes_var : X → Result ℕ SolverError → X → Type 0
+  pub solves : X → Result Bool SolverError → X → Type 0
+  pub tells_model : X → Result (Option (List Literal)) AllocError → X → Type 0
+
+module _ {X : Type 0} (by : Calling X) where
+  -- From s the call may get the answer and lead to t. `seen` tells how a source stands, as it was given and as it is given back.
+  abbrev pub Makes : {W S A : Type 0} → (S → Stand) → X → Call S A → Answer W S A → X → Type 0
+  Makes seen s (call.AddClause c) (answer.AddClause r) t = by.adding.adds s c.items r t
+  Makes seen s (call.AddFormula f) (answer.AddFormula r) t = additions.AddsList by.adding s f.clauses r t
+  Makes seen s (call.AddDimacsCnf source) (answer.AddDimacsCnf r back) t = additions.AddsText by.adding s (seen source) r (seen back) t
+  Makes seen s call.NewVar (answer.NewVar r) t = by.makes_var s r t
+  Makes seen s call.Solve (answer.Solve r) t = by.solves s r t
+  Makes seen s call.Model (answer.Model r) t = by.tells_model s (told_model r) t
+  Makes seen s call.IsValid (answer.IsValid b) t = (b ≡ by.adding.valid s) × (t ≡ s)
+  Makes seen s call.CloseProof (answer.CloseProof r) t = (r ≡ Ok None) × (t ≡ s)
+  Makes seen s _ _ t = ⊥
+
+  -- the calls in turn get the answers in turn, one each, and lead to t
+  abbrev pub MakesInTurn : {W S A : Type 0} → (S → Stand) → X → List (Call S A) → List (Answer W S A) → X → Type 0
+  MakesInTurn seen s [] [] t = t ≡ s
+  MakesInTurn seen s (c ∷ cs) (a ∷ answers) t = (mid : X) × Makes seen s c a mid × MakesInTurn seen mid cs answers t
+  MakesInTurn seen s _ _ t = ⊥

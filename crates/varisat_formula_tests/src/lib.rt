@@ -1,0 +1,11 @@
+//! Tests of what no contract says, over literals, formulas, texts and their sources and targets: worked rows, printed texts, each growth refused, readers and writers that fail.
+#![tactic(auto)]
+
+#[cfg(test)]
+mod formulas;
+#[cfg(test)]
+mod literals;
+#[cfg(test)]
+mod targets;
+#[cfg(test)]
+mod texts;

@@ -1,0 +1,15 @@
+//! Tests of what no contract says, over the parts that a search and a solver are made of: worked rows, printed texts, each growth refused.
+#![tactic(auto)]
+
+#[cfg(test)]
+mod checker;
+#[cfg(test)]
+mod heap;
+#[cfg(test)]
+mod names;
+#[cfg(test)]
+mod parts;
+#[cfg(test)]
+mod schedule;
+#[cfg(test)]
+mod settings;

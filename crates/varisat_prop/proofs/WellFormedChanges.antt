@@ -1,0 +1,62 @@
+-- A view stays well formed where only its clauses and its queue's head change.
+use Rattle.std.proofs.Common.{◌≡◌, ℕ, ◌<◌, ◌≤◌, List, [], ◌∷◌, length, refl, sym, subst}
+use Rattle.varisat_theory.specs.Membership.{◌∈◌, IsDistinct}
+use Rattle.varisat_theory.specs.Literals.{Literal, Clause, variable_of}
+use Rattle.varisat_prop.specs.declared.prop.graph.Reason.{Reason}
+use Rattle.varisat_prop.specs.declared.prop.graph.Reason.TheVariants as reason
+use Rattle.varisat_prop.specs.Stored.{StoredClause, literals_of, literals_at, IsPlace, AreRising}
+use Rattle.varisat_prop.specs.View.{View, clause_at, node_at, Implies, IsReason, WellFormed}
+
+-- what a well-formed view asks of each clause that is kept
+pub record MayBeKept (s : View) (c : Clause) : Type 0 where
+  pub in_range : (l : Literal) → l ∈ c → variable_of l < length s.values
+  pub several : 2 ≤ length c
+  pub distinct : IsDistinct c
+
+pub kept-may : (s : View) → WellFormed s → (c : Clause) → c ∈ literals_of s.clauses → MayBeKept s c
+kept-may s w c h = record { in_range = w.in_range c h; several = w.several c h; distinct = w.distinct c h }
+
+pub well-changed : (s : View) (P : List StoredClause) (h : ℕ) → WellFormed s → AreRising P → ((c : Clause) → c ∈ literals_of P → MayBeKept s c) → ((k : ℕ) → k < length s.trail → IsReason (record s { clauses = P; queue_head = h }) k (node_at s k).reason) → h ≤ length s.trail → WellFormed (record s { clauses = P; queue_head = h })
+well-changed s P h w r m q l = record {
+  nodes_are = w.nodes_are;
+  small = w.small;
+  places = r;
+  in_range = λ c i. (m c i).in_range;
+  several = λ c i. (m c i).several;
+  distinct = λ c i. (m c i).distinct;
+  is_true = w.is_true;
+  stands = w.stands;
+  head = l;
+  depth_is = w.depth_is;
+  decided = w.decided;
+  rising = w.rising;
+  levels_to = w.levels_to;
+  levels_up = w.levels_up;
+  levels_down = w.levels_down;
+  reason_is = q;
+}
+
+-- only the queue's head is moved
+pub well-moved : (s : View) (h : ℕ) → WellFormed s → h ≤ length s.trail → WellFormed (record s { queue_head = h })
+well-moved s h w l = well-changed s s.clauses h w w.places (kept-may s w) w.reason_is l
+
+-- The clauses may be kept in place of those of the view.
+pub record AreWellKept (s : View) (P : List StoredClause) : Type 0 where
+  pub places : AreRising P
+  pub in_range : (c : Clause) → c ∈ literals_of P → (l : Literal) → l ∈ c → variable_of l < length s.values
+  pub several : (c : Clause) → c ∈ literals_of P → 2 ≤ length c
+  pub distinct : (c : Clause) → c ∈ literals_of P → IsDistinct c
+  -- a clause that is a reason stays as it is
+  pub reasons : (k p : ℕ) → k < length s.trail → (node_at s k).reason ≡ reason.Long p → IsPlace s.clauses p → IsPlace P p × (literals_at P p ≡ clause_at s p)
+
+pub well-with : (s : View) (P : List StoredClause) (head : ℕ) → WellFormed s → AreWellKept s P → head ≤ length s.trail → WellFormed (record s { clauses = P; queue_head = head })
+well-with s P head w q h =
+    well-changed s P head w q.places (λ c i. record { in_range = q.in_range c i; several = q.several c i; distinct = q.distinct c i }) (λ k b. stays k (node_at s k).reason (λ p e. q.reasons k p b e) (w.reason_is k b)) h
+  where
+    same-implies : (k : ℕ) (c : Clause) → Implies s c k → Implies (record s { clauses = P; queue_head = head }) c k
+    same-implies k [] g = g
+    same-implies k (x ∷ c) g = g
+
+    stays : (k : ℕ) (r : Reason) → ((p : ℕ) → r ≡ reason.Long p → IsPlace s.clauses p → IsPlace P p × (literals_at P p ≡ clause_at s p)) → IsReason s k r → IsReason (record s { clauses = P; queue_head = head }) k r
+    stays k reason.Unit n g = g
+    stays k (reason.Long p) n (a, g) = let (b, e) = n p refl a in (b, subst (λ c. Implies (record s { clauses = P; queue_head = head }) c k) (sym e) (same-implies k (clause_at s p) g))

@@ -1,0 +1,3 @@
+pub mod WalkPlaces
+pub mod RestartPlans
+pub mod CallSteps

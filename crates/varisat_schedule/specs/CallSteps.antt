@@ -1,0 +1,45 @@
+-- How many steps a call makes by a schedule, against the rank of the trail.
+use Rattle.std.specs.Prelude.{◌≡◌, ℕ, suc, ◌+◌, ◌-◌, ◌*◌, ◌^◌, ◌<◌, ◌≤◌, Bool, List, length, ◌⊎◌}
+use Rattle.varisat_theory.specs.Rank.{rank}
+use Rattle.varisat_theory.specs.CallBounds.{CallProgress}
+use Rattle.varisat_schedule.specs.Plans.{Plan, IsPlan, IsDue, next_plan, plan_after, PlannedCall, setting_of}
+
+-- how many steps lead from one plan to a later one
+abbrev pub steps_since : Plan → Plan → ℕ
+steps_since p q = q.steps - p.steps
+
+-- A step by the plan, from a trail with one list of flags to a trail with another, where the search has so many variables: a restart, where one is due, changes the trail, and what the step does then raises its rank.
+pub record IsPlannedStep (variables : ℕ) (q : Plan) (before after : List Bool) : Type 0 where
+  pub restarted : List Bool
+  pub stays : (IsDue q → ⊥) → restarted ≡ before
+  pub rises : (n : ℕ) → variables ≤ n → rank n restarted < rank n after
+
+-- The call came to the plan, and its steps are counted against the rank of the trail now, over each number that bounds the variables.
+pub record HasComeTo (c : PlannedCall) (q : Plan) (trail : List Bool) : Type 0 where
+  pub is_plan : IsPlan c.begins
+  pub counted : c.begins.steps ≤ q.steps
+  pub plan : q ≡ plan_after c.scale c.begins (steps_since c.begins q)
+  pub progress : (n : ℕ) → c.variables ≤ n → CallProgress (setting_of (record c { variables = n })) (steps_since c.begins q) (rank n trail)
+
+-- it is so as the call begins
+abbrev pub CallBegins : Type 0
+CallBegins = (c : PlannedCall) (trail : List Bool) → IsPlan c.begins → HasComeTo c c.begins trail
+
+-- and stays so with each step
+abbrev pub CallGoesOn : Type 0
+CallGoesOn =
+    (c : PlannedCall) (q : Plan) (before after : List Bool) → 0 < c.scale → q.steps < 2 ^ 64 - 1 → length before ≤ c.variables → IsPlannedStep c.variables q before after → HasComeTo c q before → HasComeTo c (next_plan c.scale q) after
+
+-- so fewer than 2^(2n+3) steps are made, even with one step more
+abbrev pub CallIsShort : Type 0
+CallIsShort =
+    (c : PlannedCall) (q : Plan) (trail : List Bool) (n : ℕ) → 0 < c.scale → length trail ≤ c.variables → c.variables ≤ n → HasComeTo c q trail → suc (steps_since c.begins q) < 2 ^ (2 * n + 3)
+
+-- as many steps were made since the first plan as a call may make, or no more can be counted
+abbrev pub AreSpent : ℕ → Plan → Plan → Type 0
+AreSpent max_steps p q = (steps_since p q ≡ max_steps) ⊎ (q.steps ≡ 2 ^ 64 - 1)
+
+-- a budget of 2^(2n+3) steps, with room for as many in the count, is never spent
+abbrev pub LargeBudgetIsNotSpent : Type 0
+LargeBudgetIsNotSpent =
+    (n max_steps : ℕ) (p q : Plan) → steps_since p q < 2 ^ (2 * n + 3) → 2 ^ (2 * n + 3) ≤ max_steps → p.steps + 2 ^ (2 * n + 3) < 2 ^ 64 → AreSpent max_steps p q → ⊥

@@ -1,0 +1,252 @@
+-- What the clause that `learn` adds does to the view.
+use Rattle.std.proofs.Common.{◌≡◌, ◌≢◌, ℕ, zero, suc, ◌<◌, ◌≤◌, Bool, true, false, nat_eq, ◌||◌, Some, None, List, [], ◌∷◌, ◌++◌, length, get_or, take, map, inl, inr, ⊎_elim, refl, sym, ap, ◌∙◌, subst, arith, length-set}
+use Rattle.std.proofs.lemmas.List.{length-map, map-append, take-append-le}
+use Rattle.std.proofs.lemmas.Bool.{cases_lt, ne_eqb}
+use Rattle.varisat_theory.specs.Membership.{◌∈◌, ◌⊆◌, IsDistinct}
+use Rattle.varisat_theory.specs.Literals.{Literal, Clause, variable_of, opposite}
+use Rattle.varisat_theory.specs.Propagation.{IsComplete}
+use Rattle.varisat_theory.specs.Rank.{rank}
+use Rattle.varisat_theory.proofs.Ranks.{rank_raised}
+use Rattle.varisat_theory.proofs.Saturated.{learned_is_new, complete_added}
+use Rattle.varisat_theory.proofs.Places.{place_in_take}
+use Rattle.varisat_prop.specs.declared.prop.graph.Reason.{Reason}
+use Rattle.varisat_prop.specs.declared.prop.graph.Reason.TheVariants as reason
+use Rattle.varisat_prop.specs.Stored.{StoredClause}
+use Rattle.varisat_prop.proofs.AllocClauses.{place-last}
+use Rattle.varisat_search.specs.Conflicts.{learned_at}
+use Rattle.varisat_prop.specs.View.{View, kept, IsTrueIn, literal_at, decision_at, node_of, node_at, level_of, WellFormed, LevelsSettled, IsPropagated, ViewFits, kinds, is_implied, is_clause}
+use Rattle.varisat_prop.specs.Changes.{enqueued}
+use Rattle.varisat_literals.specs.Numbers.{polarity_of}
+use Rattle.varisat_prop.proofs.LiteralValues.{none-made, made-inside, made-clash, variable-opposite}
+use Rattle.varisat_prop.proofs.PropagateLooks.{trail-true}
+use Rattle.varisat_prop.proofs.AllocClauses.{reordered-refl}
+use Rattle.varisat_prop.proofs.PropagateEnd.{propagated-longer, propagated-learned}
+use Rattle.varisat_prop.proofs.TrailExtend.{node-old, node-new, literal-old, literal-new}
+use Rattle.varisat_prop.proofs.EnqueueAssignment.{enqueued-well}
+use Rattle.varisat_search.specs.Learned.{IsAsserting, IsLevelOf}
+use Rattle.varisat_search.specs.Steps.{IsCut, LeavesFrom}
+use Rattle.varisat_search.proofs.Backtrack.{end-inside, still, cut-well, cut-settled, cut-propagated, level-length}
+use Rattle.varisat_search.proofs.AddedClause.{with_kept, kept-last, kept-is, kept-well}
+
+take-∈ : (n : ℕ) (xs : List ℕ) (j : ℕ) → j < n → j < length xs → get_or xs j 0 ∈ take n xs
+take-∈ zero xs j h l = absurd (omega (arith, h))
+take-∈ (suc n) [] j h l = absurd (omega (arith, l))
+take-∈ (suc n) (y ∷ xs) zero h l = inl refl
+take-∈ (suc n) (y ∷ xs) (suc j) h l = inr (take-∈ n xs j (omega (arith, h)) (omega (arith, l)))
+
+split-false : (xs : List Bool) (p : ℕ) → p < length xs → get_or xs p true ≡ false → (old : List Bool) × (xs ≡ take p xs ++ (false ∷ old))
+split-false [] p h e = absurd (omega (arith, h))
+split-false (x ∷ xs) zero h e = (xs, ap (λ y. y ∷ xs) e)
+split-false (x ∷ xs) (suc p) h e = let (old, f) = split-false xs p (omega (arith, h)) e in (old, ap (λ y. x ∷ y) f)
+
+map-take : (f : ℕ → Bool) (p : ℕ) (xs : List ℕ) → map f (take p xs) ≡ take p (map f xs)
+map-take f zero xs = refl
+map-take f (suc p) [] = refl
+map-take f (suc p) (x ∷ xs) = ap (λ y. f x ∷ y) (map-take f p xs)
+
+map-get : (f : ℕ → Bool) (xs : List ℕ) (i : ℕ) (e : Bool) → i < length xs → get_or (map f xs) i e ≡ f (get_or xs i 0)
+map-get f [] i e h = absurd (omega (arith, h))
+map-get f (x ∷ xs) zero e h = refl
+map-get f (x ∷ xs) (suc i) e h = map-get f xs i e (omega (arith, h))
+
+-- the level of a second literal is below the present one, and the highest of the others
+pub second-level : (s : View) (others : Clause) (level d : ℕ) → IsLevelOf s others level → ((m : Literal) → m ∈ others → level_of s m < d) → 0 < d → (level < d) × ((m : Literal) → m ∈ others → level_of s m ≤ level)
+second-level s [] level d e l h = (omega (arith, e, h), λ m i. absurd i)
+second-level s (m ∷ others) level d (e, f) l h = (let a = l m (inl refl) in omega (arith, e, a), λ n i. ⊎_elim (λ g. let b = ap (level_of s) g in omega (arith, b, e)) (f n) i)
+
+module _ (s t : View) (i level : ℕ) (c : Clause) (w : WellFormed s) (v : LevelsSettled s) (l : IsAsserting s i c level) (deep : 0 < length s.decisions) (ct : IsCut s t level) where
+  abbrev first : Literal
+  first = l.first
+
+  pub level-below : level < length s.decisions
+  level-below = (second-level s l.others level (length s.decisions) l.second l.lower deep).0
+
+  high : (m : Literal) → m ∈ l.others → level_of s m ≤ level
+  high = (second-level s l.others level (length s.decisions) l.second l.lower deep).1
+
+  abbrev pub end : ℕ
+  end = decision_at s level
+
+  -- a literal of the clause is false
+  false-in : (m : Literal) → m ∈ (first ∷ l.others) → IsTrueIn s (opposite m)
+  false-in m h = trail-true s w (opposite m) (l.false_now m (subst (λ x. m ∈ x) (sym l.split) h))
+
+  level-opposite : (m : Literal) → level_of s (opposite m) ≡ level_of s m
+  level-opposite m = ap (λ x. (get_or s.nodes x (record { reason = reason.Unit; level = 0; depth = 0 })).level) (variable-opposite m)
+
+  -- the first literal leaves the trail
+  first-leaves : LeavesFrom s end (variable_of first)
+  first-leaves =
+      let (k, a, e) = w.stands (opposite first) (false-in first (inl refl)) in
+      let g = ap (level_of s) e in
+      let d = level-opposite first in
+      let f = l.current in
+      let b = level-below in
+      ⊎_elim
+      (λ o. let r = w.levels_down k level a b o in absurd (omega (arith, r, g, d, f, b)))
+      (λ o. (k, o, a, ap variable_of e ∙ variable-opposite first))
+      (cases_lt k end)
+
+  pub first-free : get_or t.values (variable_of first) None ≡ None
+  first-free = ct.gone (variable_of first) first-leaves
+
+  pub first-inside : variable_of first < length t.values
+  first-inside = let a = made-inside s.values (opposite first) (false-in first (inl refl)) in let e = variable-opposite first in let n = ct.count in omega (arith, a, e, n)
+
+  -- the others stay false
+  other-place : (m : Literal) → m ∈ l.others → (k : ℕ) × (k < end) × (k < length s.trail) × (literal_at s k ≡ opposite m)
+  other-place m h =
+      let (k, a, e) = w.stands (opposite m) (false-in m (inr h)) in
+      let g = ap (level_of s) e in
+      let d = level-opposite m in
+      let f = high m h in
+      (k, w.levels_up k level a level-below (omega (arith, g, d, f)), a, e)
+
+  pub other-false : (m : Literal) → m ∈ l.others → IsTrueIn t (opposite m)
+  other-false m h = let (k, a, b, e) = other-place m h in subst (λ (x : View). IsTrueIn x (opposite m)) (sym ct.rest) (subst (λ x. IsTrueIn (record s { values = t.values; trail = take end s.trail; queue_head = end; decisions = take level s.decisions }) x) e (still s t level w level-below ct k a))
+
+  -- no held clause is a part of it
+  pub no-part : (held : List Clause) → ViewFits held s → (d : Clause) → d ∈ held → d ⊆ c → ⊥
+  no-part held f d h k =
+      let part : (e : Clause) → e ∈ kept s → e ⊆ (first ∷ l.others) → ⊥ = learned_is_new (kept s) (take end s.trail) first l.others (v level level-below)
+      (λ q. let (j, a, b, e) = place_in_take first s.trail end 0 q in made-clash s.values first (subst (IsTrueIn s) e (w.is_true j b)) (false-in first (inl refl)))
+      (λ m q. let (j, a, b, e) = other-place m q in subst (λ x. x ∈ take end s.trail) e (take-∈ end s.trail j a b)) in
+      let k' : d ⊆ (first ∷ l.others) = λ m q. subst (λ x. m ∈ x) l.split (k m q) in
+      ⊎_elim
+      (λ (e, q, g). part e q (λ m r. k' m (g m r)))
+      (λ r. ⊎_elim
+      (λ (x, a, b). made-clash s.values (opposite x) (false-in x (k' x a)) (false-in (opposite x) (k' (opposite x) b)))
+      (λ (x, a, (b, z)). made-clash s.values x b (false-in x (k' x a)))
+      r)
+      (f.covered d h)
+
+  end-in : end < length s.trail
+  end-in = end-inside s t level w level-below ct
+
+  -- a decision stood at the place
+  was-decided : is_implied (node_at s end) ≡ false
+  was-decided =
+      let d = (w.decided level level-below).1 in
+      let e : is_clause (node_at s end).reason ≡ false = ap is_clause d in
+      let up : (node_at s end).level ≤ level → end < end = w.levels_up end level end-in level-below in
+      let n : (node_at s end).level ≡ 0 → ⊥ = λ z. let r = up (omega (arith, z)) in omega (arith, r) in
+      no-zero (is_clause (node_at s end).reason) (node_at s end).level e n
+    where
+      no-zero : (b : Bool) (x : ℕ) → b ≡ false → (x ≡ 0 → ⊥) → (b || nat_eq x 0) ≡ false
+      no-zero true x e n = e
+      no-zero false x e n = ne_eqb x 0 n
+
+  kinds-cut : kinds t ≡ take end (kinds s)
+  kinds-cut = ap kinds ct.rest ∙ map-take (λ x. is_implied (node_of s x)) end s.trail
+
+  -- an implied literal takes the decision's place
+  pub rises : (z : View) → kinds z ≡ kinds t ++ true ∷ [] → (n : ℕ) → length s.trail ≤ n → rank n (kinds s) < rank n (kinds z)
+  rises z e n b =
+      let m = length-map s.trail (λ x. is_implied (node_of s x)) in
+      let i = end-in in
+      let (old, f) = split-false (kinds s) end (omega (arith, m, i)) (map-get (λ x. is_implied (node_of s x)) s.trail end true end-in ∙ was-decided) in
+      let g = ap (λ (x : List Bool). length x) f in
+      let r = rank_raised n (take end (kinds s)) old [] (omega (arith, g, m, b)) in
+      let left : rank n (kinds s) ≡ rank n (take end (kinds s) ++ (false ∷ old)) = ap (rank n) f in
+      let right : rank n (kinds z) ≡ rank n (take end (kinds s) ++ (true ∷ [])) = ap (rank n) (e ∙ ap (λ x. x ++ true ∷ []) kinds-cut) in
+      omega (arith, r, left, right)
+
+-- one more flag for one more literal
+pub kinds-enqueued : (t : View) (l : Literal) (r : Reason) (w : WellFormed t) → variable_of l < length t.values → get_or t.values (variable_of l) None ≡ None → kinds (enqueued t l r) ≡ kinds t ++ is_implied (record { reason = r; level = length t.decisions; depth = suc (length t.trail) }) ∷ []
+kinds-enqueued t l r w inside free =
+    let z = enqueued t l r in
+    let f : ℕ → Bool = λ x. is_implied (node_of z x) in
+    let g : ℕ → Bool = λ x. is_implied (node_of t x) in
+    let same : map f t.trail ≡ map g t.trail = map-equal f g t.trail (λ k h. ap is_implied (ap (node_of z) (sym (literal-old t l r t.decisions w inside free k h)) ∙ node-old t l r t.decisions w inside free k h)) in
+    let new : f l ≡ is_implied (record { reason = r; level = length t.decisions; depth = suc (length t.trail) }) = ap is_implied (ap (node_of z) (sym (literal-new t l r t.decisions w inside free)) ∙ node-new t l r t.decisions w inside free) in
+    map-append f t.trail (l ∷ []) ∙ ap (λ y. y ++ f l ∷ []) same ∙ ap (λ y. map g t.trail ++ y ∷ []) new
+  where
+    map-equal : (f g : ℕ → Bool) (xs : List ℕ) → ((k : ℕ) → k < length xs → f (get_or xs k 0) ≡ g (get_or xs k 0)) → map f xs ≡ map g xs
+    map-equal f g [] h = refl
+    map-equal f g (x ∷ xs) h = let e = h zero (omega arith) in let d = map-equal f g xs (λ k l. h (suc k) (omega (arith, l))) in cc
+
+pub record Result (s z : View) : Type 0 where
+  pub well : WellFormed z
+  pub settled : LevelsSettled z
+  pub propagated : IsPropagated z
+  pub rises : (n : ℕ) → length s.trail ≤ n → rank n (kinds s) < rank n (kinds z)
+  pub count : length z.values ≡ length s.values
+
+module _ (s t : View) (i level : ℕ) (c : Clause) (w : WellFormed s) (v : LevelsSettled s) (l : IsAsserting s i c level) (deep : 0 < length s.decisions) (ct : IsCut s t level) where
+  below : level < length s.decisions
+  below = level-below s t i level c w v l deep ct
+
+  wt : WellFormed t
+  wt = cut-well s t level w below ct
+
+  pt : IsPropagated t
+  pt = cut-propagated s t level w below ct v
+
+  vt : LevelsSettled t
+  vt = cut-settled s t level w below ct v
+
+  inside : variable_of l.first < length t.values
+  inside = first-inside s t i level c w v l deep ct
+
+  free : get_or t.values (variable_of l.first) None ≡ None
+  free = first-free s t i level c w v l deep ct
+
+  -- a learned unit is made true at level 0
+  pub unit-result : l.others ≡ [] → Result s (enqueued t l.first reason.Unit)
+  unit-result e =
+      let zero-level : level ≡ 0 = subst (λ o. IsLevelOf s o level) e l.second in
+      let none : t.decisions ≡ [] = ap (λ (x : View). x.decisions) ct.rest ∙ ap (λ n. take n s.decisions) zero-level in
+      let z = enqueued t l.first reason.Unit in
+      let implied : kinds z ≡ kinds t ++ true ∷ [] = kinds-enqueued t l.first reason.Unit wt inside free ∙ ap (λ (xs : List ℕ). kinds t ++ nat_eq (length xs) 0 ∷ []) none in
+      record {
+        well = enqueued-well t l.first reason.Unit wt inside free none;
+        settled = λ j h. let n = ap (λ (x : List ℕ). length x) none in absurd (omega (arith, h, n));
+        propagated = propagated-longer t z (l.first ∷ []) wt (reordered-refl t.clauses) refl refl pt;
+        rises = rises s t i level c w v l deep ct z implied;
+        count = length-set t.values (variable_of l.first) (Some (polarity_of l.first)) ∙ ct.count;
+      }
+
+  in-clause : (m : Literal) → m ∈ c → variable_of m < length t.values
+  in-clause m h =
+      let a = made-inside s.values (opposite m) (trail-true s w (opposite m) (l.false_now m h)) in
+      let e = variable-opposite m in
+      let n = ct.count in
+      omega (arith, a, e, n)
+
+  other-unknown : (m : Literal) (j : ℕ) → level_of s m ≡ level → j < length t.decisions → opposite m ∈ take (decision_at t j) t.trail → ⊥
+  other-unknown m j e h q =
+      let (k, a, b, f) = place_in_take (opposite m) t.trail (decision_at t j) 0 q in
+      let r = wt.levels_down k j b h a in
+      let same : level_of t (opposite m) ≡ level_of s m = ap (λ (x : View). level_of x (opposite m)) ct.rest ∙ ap (λ x. (get_or s.nodes x (record { reason = reason.Unit; level = 0; depth = 0 })).level) (variable-opposite m) in
+      let g = ap (level_of t) f in
+      let d = ap (λ (x : View). length x.decisions) ct.rest in
+      let n = level-length s t level w below ct in
+      omega (arith, r, same, g, e, h, d, n)
+
+  -- a longer learned clause is kept, and is the reason of its first literal
+  pub kept-result : (p : ℕ) → ((k : StoredClause) → k ∈ t.clauses → k.place < p) → (m : Literal) (ms : Clause) → l.others ≡ m ∷ ms → Result s (enqueued (record t { clauses = t.clauses ++ learned_at p c ∷ [] }) l.first (reason.Long p))
+  kept-result p behind m ms e =
+      let j = learned_at p c in
+      let t' = with_kept t j behind wt in
+      let whole : c ≡ l.first ∷ m ∷ ms = l.split ∙ ap (λ o. l.first ∷ o) e in
+      let n = ap (λ (x : Clause). length x) whole in
+      let wt' = kept-well t j behind wt in-clause (omega (arith, n)) l.distinct in
+      let r = reason.Long p in
+      let z = enqueued t' l.first r in
+      let second : level_of s m ≡ level = (subst (λ o. IsLevelOf s o level) e l.second).0 in
+      let apart : l.first ≢ m = λ g. (subst IsDistinct whole l.distinct).0 (inl g) in
+      record {
+        well = enqueued-well t' l.first r wt' inside free (place-last t.clauses j, (l.others, kept-last t j behind wt ∙ l.split, other-false s t i level c w v l deep ct));
+        settled = λ j h.
+            let d = (wt.decided j h).0 in
+            let le : decision_at t j ≤ length t.trail = omega (arith, d) in
+            subst (λ x. IsComplete (kept t') x) (sym (take-append-le (decision_at t j) t.trail (l.first ∷ []) le))
+            (subst (λ P. IsComplete P (take (decision_at t j) t.trail)) (sym (kept-is t (learned_at p c) behind wt)) (complete_added (kept t) (take (decision_at t j) t.trail) c l.first m (subst (λ x. l.first ∈ x) (sym whole) (inl refl)) (subst (λ x. m ∈ x) (sym whole) (inr (inl refl))) apart
+            (λ q. let (k, x, y, f) = place_in_take (opposite l.first) t.trail (decision_at t j) 0 q in none-made t.values l.first (opposite l.first) free (variable-opposite l.first) (subst (IsTrueIn t) f (wt.is_true k y)))
+            (other-unknown m j second h)
+            (vt j h)));
+        propagated = propagated-learned t j l.first r wt pt (subst (λ x. l.first ∈ x) (sym whole) (inl refl))
+            (λ q. let (k, x, y, f) = place_in_take (opposite l.first) t.trail t.queue_head 0 q in none-made t.values l.first (opposite l.first) free (variable-opposite l.first) (subst (IsTrueIn t) f (wt.is_true k y)));
+        rises = rises s t i level c w v l deep ct z (kinds-enqueued t' l.first r wt' inside free);
+        count = length-set t.values (variable_of l.first) (Some (polarity_of l.first)) ∙ ct.count;
+      }

@@ -1,0 +1,159 @@
+-- What `learn` leaves after a conflict above level 0, as a proof sees it.
+use Rattle.std.proofs.Common.{◌≡◌, ℕ, suc, ◌<◌, true, map, None, List, [], ◌∷◌, ◌++◌, length, get_or, take, ◌⊎◌, inl, inr, ⊎_elim, sym, ap, ◌∙◌, subst, refl}
+use Rattle.varisat_theory.specs.Membership.{◌∈◌}
+use Rattle.varisat_theory.specs.Literals.{Literal, Clause, variable_of, IsUnit}
+use Rattle.varisat_theory.specs.Propagation.{Follows}
+use Rattle.varisat_theory.specs.Derivations.{Add}
+use Rattle.varisat_theory.proofs.Members.{∈-append_left, ∈-append_right, ∈-append_cases}
+use Rattle.varisat_theory.proofs.Held.{same_set-self}
+use Rattle.varisat_theory.proofs.Places.{∈-get_or, place_in, place_in_take}
+use Rattle.varisat_prop.specs.declared.prop.graph.Reason.{Reason}
+use Rattle.varisat_prop.specs.declared.prop.graph.Reason.TheVariants as reason
+use Rattle.varisat_prop.specs.Stored.{StoredClause, AreReordered}
+use Rattle.varisat_prop.specs.View.{View, decision_at, node_of, WellFormed, LevelsSettled, IsFixed, ViewFits}
+use Rattle.varisat_prop.specs.Changes.{enqueued}
+use Rattle.varisat_prop.proofs.AllocClauses.{reordered-refl}
+use Rattle.varisat_prop.proofs.TrailExtend.{literal-new, node-new, node-other, fresh, true-old, true-new}
+use Rattle.std.proofs.lemmas.List.{map-append}
+use Rattle.varisat_search.specs.Conflicts.{learned_at}
+use Rattle.varisat_search.specs.Learned.{IsAsserting, IsLevelOf}
+use Rattle.varisat_search.specs.Steps.{IsCut}
+use Rattle.varisat_search.proofs.Backtrack.{cut-well, fixed-cut}
+use Rattle.varisat_search.proofs.LearnClause.{level-below, first-free, first-inside, no-part, unit-result, kept-result}
+use Rattle.varisat_theory.specs.Searches.{KeptClause, Search, clauses_of}
+use Rattle.varisat_theory.specs.Outcomes.{Unknown, Proves, Steps}
+use Rattle.varisat_theory.specs.StepLaws.{FollowsFrom, IsNewTo}
+use Rattle.varisat_theory.proofs.SearchFits.{same_equal}
+use Rattle.varisat_theory.proofs.StepChanges.{moves_prove}
+use Rattle.varisat_theory.proofs.StepEnds.{learned_kept, learned_unit}
+use Rattle.varisat_theory.proofs.StepStands.{step_part}
+use Rattle.varisat_search.specs.Seen.{kept_clause, search_of, IsProved}
+use Rattle.varisat_search.proofs.ViewSearch.{fixed_from, fixed_to, proved_from, proved_to, view_reads, view_moves}
+
+proved_cut : (s t : View) (level : ℕ) (x : Literal) → IsCut s t level → IsProved t x → IsProved s x
+proved_cut s t level x c q =
+    let (i, z, r) = subst (λ (y : View). IsProved y x) c.rest q in
+    let (j, a, b, e) = place_in_take x s.trail (decision_at s level) 0 i in
+    (subst (λ y. y ∈ s.trail) e (∈-get_or s.trail j 0 b), z, r)
+
+fixed_after_cut : (s t : View) (level : ℕ) (x : Literal) → WellFormed s → level < length s.decisions → IsCut s t level → IsFixed s x → IsFixed t x
+fixed_after_cut s t level x w h c f = subst (λ (y : View). IsFixed y x) (sym c.rest) (fixed-cut s t level w h c x f)
+
+same_clauses : (s t : View) (level : ℕ) → IsCut s t level → t.clauses ≡ s.clauses
+same_clauses s t level c = ap (λ (x : View). x.clauses) c.rest
+
+pub cut_moves : (s t : View) (level : ℕ) → WellFormed s → level < length s.decisions → IsCut s t level → Proves 0 (search_of s) (search_of t) []
+cut_moves s t level w h c =
+    view_moves s t w (cut-well s t level w h c) (subst (AreReordered s.clauses) (sym (same_clauses s t level c)) (reordered-refl s.clauses))
+    (λ l f. fixed_after_cut s t level l w h c f)
+    (λ l q. proved_cut s t level l c q)
+
+-- one more literal on the trail
+module _ (u : View) (l : Literal) (r : Reason) (w : WellFormed u) (inside : variable_of l < length u.values) (free : get_or u.values (variable_of l) None ≡ None) where
+  fixed_stays : (x : Literal) → IsFixed u x → IsFixed (enqueued u l r) x
+  fixed_stays x (t, z) =
+      let (k, h, p) = w.stands x t in
+      (true-old u l r u.decisions w inside free x t, ap (λ n. n.level) (node-other u l r u.decisions w inside free x (λ q. fresh u l r u.decisions w inside free k h (ap variable_of p ∙ q))) ∙ z)
+
+  node_last : node_of (enqueued u l r) l ≡ record { reason = r; level = length u.decisions; depth = suc (length u.trail) }
+  node_last = ap (node_of (enqueued u l r)) (sym (literal-new u l r u.decisions w inside free)) ∙ node-new u l r u.decisions w inside free
+
+  proved_old : (x : Literal) → IsProved (enqueued u l r) x → IsProved u x ⊎ ((x ≡ l) × (r ≡ reason.Unit))
+  proved_old x (i, z, q) =
+      ⊎_elim
+      (λ a.
+      let (k, h, p) = place_in x u.trail 0 a in
+      let n = node-other u l r u.decisions w inside free x (λ g. fresh u l r u.decisions w inside free k h (ap variable_of p ∙ g)) in
+      inl (a, sym (ap (λ y. y.level) n) ∙ z, sym (ap (λ y. y.reason) n) ∙ q))
+      (λ a. ⊎_elim (λ e. inr (e, sym (ap (λ y. y.reason) node_last) ∙ sym (ap (λ y. (node_of (enqueued u l r) y).reason) e) ∙ q)) (λ y. absurd y) a)
+      (∈-append_cases x u.trail (l ∷ []) i)
+
+-- a unit that is enqueued where there is no decision
+pub unit_moves : (t : View) (l : Literal) (w : WellFormed t) (inside : variable_of l < length t.values) (free : get_or t.values (variable_of l) None ≡ None) → t.decisions ≡ [] → WellFormed (enqueued t l reason.Unit) → Proves 0 (record (search_of t) { fixed = (search_of t).fixed ++ l ∷ []; proved = (search_of t).proved ++ l ∷ [] }) (search_of (enqueued t l reason.Unit)) []
+unit_moves t l w inside free none wz =
+    let z = enqueued t l reason.Unit in
+    let fixed : IsFixed z l = (true-new t l reason.Unit t.decisions w inside free, ap (λ n. n.level) (node_last t l reason.Unit w inside free) ∙ ap (λ (x : List ℕ). length x) none) in
+    let S1 : Search = record (search_of t) { fixed = (search_of t).fixed ++ l ∷ []; proved = (search_of t).proved ++ l ∷ [] } in
+    moves_prove S1 (search_of z)
+    (same_equal (clauses_of S1.kept) (clauses_of (search_of t).kept) refl)
+    (λ j h n. (j, h, n, λ x o. o))
+    (λ x h.
+    ⊎_elim
+    (λ q. fixed_to z wz x (fixed_stays t l reason.Unit w inside free x (fixed_from t w x q)))
+    (λ q. ⊎_elim (λ g. fixed_to z wz x (subst (IsFixed z) (sym g) fixed)) (λ y. absurd y) q)
+    (∈-append_cases x (search_of t).fixed (l ∷ []) h))
+    (λ x h.
+    ⊎_elim
+    (λ q. ∈-append_left x (search_of t).proved (l ∷ []) (proved_to t w x q))
+    (λ (q, n). ∈-append_right x (search_of t).proved (l ∷ []) (inl q))
+    (proved_old t l reason.Unit w inside free x (proved_from z wz x h)))
+
+module _ (s t : View) (i level : ℕ) (c : Clause) (w : WellFormed s) (v : LevelsSettled s) (a : IsAsserting s i c level) (deep : 0 < length s.decisions) (ct : IsCut s t level) (follows : (held : List Clause) → ViewFits held s → Follows held c) where
+  S : Search
+  S = search_of s
+
+  below : level < length s.decisions
+  below = level-below s t i level c w v a deep ct
+
+  wt : WellFormed t
+  wt = cut-well s t level w below ct
+
+  inside : variable_of a.first < length t.values
+  inside = first-inside s t i level c w v a deep ct
+
+  free : get_or t.values (variable_of a.first) None ≡ None
+  free = first-free s t i level c w v a deep ct
+
+  follows_from : FollowsFrom (search_of s) c
+  follows_from held f = follows held (view_reads s held w f)
+
+  new_to : IsNewTo (search_of s) c
+  new_to held f = no-part s t i level c w v a deep ct held (view_reads s held w f)
+
+  pub steps_kept : (p : ℕ) → ((k : StoredClause) → k ∈ t.clauses → k.place < p) → (m : Literal) (ms : Clause) → a.others ≡ m ∷ ms → Steps (search_of s) (search_of (enqueued (record t { clauses = t.clauses ++ learned_at p c ∷ [] }) a.first (reason.Long p))) Unknown (Add c ∷ [])
+  steps_kept p behind m ms e =
+      let r = reason.Long p in
+      let z = enqueued (record t { clauses = t.clauses ++ learned_at p c ∷ [] }) a.first r in
+      let wz : WellFormed z = (kept-result s t i level c w v a deep ct p behind m ms e).well in
+      let k : KeptClause = record { clause = c; learned = true } in
+      let S1 : Search = record (search_of s) { kept = (search_of s).kept ++ k ∷ [] } in
+      let kept : (search_of z).kept ≡ (search_of s).kept ++ k ∷ [] = map-append kept_clause t.clauses (learned_at p c ∷ []) ∙ ap (λ ks. map kept_clause ks ++ k ∷ []) (same_clauses s t level ct) in
+      step_part (search_of s) S1 (search_of z) (Add c ∷ []) []
+      (learned_kept (search_of s) c k (same_set-self c) follows_from new_to)
+      (moves_prove S1 (search_of z)
+      (same_equal (clauses_of S1.kept) (clauses_of (search_of z).kept) (ap clauses_of (sym kept)))
+      (λ j h n. (j, subst (λ ks. j ∈ ks) (sym kept) h, n, λ x o. o))
+      (λ x h. fixed_to z wz x (fixed_stays t a.first r wt inside free x (fixed_after_cut s t level x w below ct (fixed_from s w x h))))
+      (λ x h.
+      ⊎_elim
+      (λ q. proved_to s w x (proved_cut s t level x ct q))
+      (λ (q, n). absurd (let y : r ≡ reason.Unit = n in cc))
+      (proved_old t a.first r wt inside free x (proved_from z wz x h))))
+
+  pub steps_unit : a.others ≡ [] → Steps (search_of s) (search_of (enqueued t a.first reason.Unit)) Unknown (Add c ∷ [])
+  steps_unit e =
+      let l = a.first in
+      let z = enqueued t l reason.Unit in
+      let wz : WellFormed z = (unit-result s t i level c w v a deep ct e).well in
+      let whole : c ≡ l ∷ [] = a.split ∙ ap (λ o. l ∷ o) e in
+      let unit : IsUnit l c = subst (IsUnit l) (sym whole) (inl refl, λ m h. ⊎_elim (λ g. g) (λ g. absurd g) h) in
+      let zero_level : level ≡ 0 = subst (λ o. IsLevelOf s o level) e a.second in
+      let none : t.decisions ≡ [] = ap (λ (x : View). x.decisions) ct.rest ∙ ap (λ n. take n s.decisions) zero_level in
+      let fixed : IsFixed z l = (true-new t l reason.Unit t.decisions wt inside free, ap (λ n. n.level) (node_last t l reason.Unit wt inside free) ∙ ap (λ (x : List ℕ). length x) none) in
+      let S1 : Search = record (search_of s) { fixed = (search_of s).fixed ++ l ∷ []; proved = (search_of s).proved ++ l ∷ [] } in
+      let kept : (search_of t).kept ≡ (search_of s).kept = ap (map kept_clause) (same_clauses s t level ct) in
+      step_part (search_of s) S1 (search_of z) (Add c ∷ []) []
+      (learned_unit (search_of s) c l unit follows_from new_to)
+      (moves_prove S1 (search_of z)
+      (same_equal (clauses_of S1.kept) (clauses_of (search_of t).kept) (ap clauses_of (sym kept)))
+      (λ j h n. (j, subst (λ ks. j ∈ ks) (sym kept) h, n, λ x o. o))
+      (λ x h.
+      ⊎_elim
+      (λ q. fixed_to z wz x (fixed_stays t l reason.Unit wt inside free x (fixed_after_cut s t level x w below ct (fixed_from s w x q))))
+      (λ q. ⊎_elim (λ g. fixed_to z wz x (subst (IsFixed z) (sym g) fixed)) (λ y. absurd y) q)
+      (∈-append_cases x (search_of s).fixed (l ∷ []) h))
+      (λ x h.
+      ⊎_elim
+      (λ q. ∈-append_left x (search_of s).proved (l ∷ []) (proved_to s w x (proved_cut s t level x ct q)))
+      (λ (q, n). ∈-append_right x (search_of s).proved (l ∷ []) (inl q))
+      (proved_old t l reason.Unit wt inside free x (proved_from z wz x h))))

@@ -1,0 +1,103 @@
+-- The contexts of `load_clause`.
+use Rattle.std.proofs.Common.{◌≡◌, ◌≢◌, ◌*◌, ◌<◌, false, replicate, List, [], length, refl, sym, ap, ◌∙◌, subst, arith}
+use Rattle.varisat_theory.specs.Membership.{◌∈◌, SameSet, IsDistinct}
+use Rattle.varisat_theory.specs.Literals.{Literal, Clause}
+use Rattle.varisat_theory.specs.Derivations.{Line}
+use Rattle.varisat_theory.specs.Searches.{IsTautology}
+use Rattle.varisat_theory.specs.Outcomes.{Proves, Loads}
+use Rattle.varisat_prop.specs.Looks.{IsInRange}
+use Rattle.varisat_prop.specs.View.{IsTrueIn}
+use Rattle.varisat_search.specs.declared.context.Context.{Context}
+use Rattle.varisat_search.specs.declared.state.SatState.TheVariants as verdict
+use Rattle.varisat_search.specs.declared.state.SolverState.{SolverState}
+use Rattle.varisat_search.specs.Contexts.{view, IsReady}
+use Rattle.varisat_search.specs.Loading.{IsAdded}
+use Rattle.varisat_search.specs.Seen.{search_of, outcome_of}
+use Rattle.varisat_search.specs.Steps.{IsCut, SavesAll, reopened_state}
+use Rattle.varisat_search.proofs.LoadView.{Restarted, restarted, added-well, undecided-settled}
+use Rattle.varisat_search.proofs.LoadLines.{restart-moves, opened, lines-tautology, lines-satisfied, lines-added}
+
+-- The contexts of loading a clause: before, and once all decisions are undone and the clause's literals copied, each once.
+pub record Loading {A : Type 0} (x0 x1 : Context A) (c lits : Clause) : Type 0 where
+  pub ready : IsReady x0
+  pub in_range : IsInRange x0.assignment.current c
+  pub same : x0.trail.decisions ≡ [] → view x1 ≡ view x0
+  pub cut : 0 < length x0.trail.decisions → IsCut (view x0) (view x1) 0
+  pub last : SavesAll (view x0) x0.assignment.last x1.assignment.last
+  pub state : x1.solver_state ≡ record x0.solver_state { sat_state = reopened_state x0.solver_state.sat_state; formula_is_empty = false }
+  pub units : x1.trail.units_removed ≡ x0.trail.units_removed
+  pub analysis : x1.analyze_conflict.var_count ≡ x0.analyze_conflict.var_count
+  pub flags : x1.tmp_flags.flags.items ≡ x0.tmp_flags.flags.items
+  pub distinct : IsDistinct lits
+  pub literals : SameSet lits c
+
+-- What loading gives where the verdict was not Unsat.
+pub record Loaded {A : Type 0} (x0 z : Context A) (c : Clause) : Type 0 where
+  pub ready : IsReady z
+  pub lines : x0.solver_state.sat_state ≢ verdict.Unsat → x0.solver_state.sat_state ≢ verdict.UnsatUnderAssumptions → (lines : List Line) × Loads (search_of (view x0)) (search_of (view z)) c (outcome_of (view z) z.solver_state.sat_state) lines
+  pub last : SavesAll (view x0) x0.assignment.last z.assignment.last
+  pub state : z.solver_state ≡ record x0.solver_state { sat_state = z.solver_state.sat_state; formula_is_empty = false }
+  pub count : length z.assignment.current ≡ length x0.assignment.current
+  pub units : z.trail.units_removed ≡ x0.trail.units_removed
+  pub undecided : z.trail.decisions ≡ []
+
+module _ {A : Type 0} {x0 x1 : Context A} {c lits : Clause} (d : Loading x0 x1 c lits) where
+  pub loading-restarted : Restarted (view x0) (view x1)
+  loading-restarted = restarted (view x0) (view x1) d.ready.well d.ready.settled d.ready.propagated d.same d.cut
+
+  pub loading-inside : IsInRange x1.assignment.current lits
+  loading-inside l h = let a = d.in_range l (d.literals.0 l h) in let n = loading-restarted.count in omega (arith, a, n)
+
+  moves : Proves 0 (search_of (view x0)) (search_of (view x1)) []
+  moves = restart-moves (view x0) (view x1) d.ready.well d.same d.cut
+
+  verdict-is : x1.solver_state.sat_state ≡ reopened_state x0.solver_state.sat_state
+  verdict-is = ap (λ (x : SolverState). x.sat_state) d.state
+
+  -- the clause is not kept, since it has a literal and its opposite or is true
+  settled : (x0.solver_state.sat_state ≢ verdict.Unsat → x0.solver_state.sat_state ≢ verdict.UnsatUnderAssumptions → Loads (search_of (view x0)) (search_of (view x1)) c (outcome_of (view x1) x1.solver_state.sat_state) []) → Loaded x0 x1 c
+  settled p =
+      let r = loading-restarted in
+      record {
+        ready = record {
+          well = r.well;
+          settled = undecided-settled (view x1) r.undecided;
+          propagated = r.propagated;
+          analysis = d.analysis ∙ d.ready.analysis ∙ sym r.count;
+          flags = d.flags ∙ d.ready.flags ∙ ap (λ n. replicate (2 * n) false) (sym r.count);
+        };
+        lines = λ n m. ([], p n m);
+        last = d.last;
+        state = d.state ∙ ap (λ v. record x0.solver_state { sat_state = v; formula_is_empty = false }) (sym verdict-is);
+        count = r.count;
+        units = d.units;
+        undecided = r.undecided;
+      }
+
+  pub loaded-tautology : IsTautology lits → Loaded x0 x1 c
+  loaded-tautology t = settled (λ n m. lines-tautology (view x0) (view x1) c lits d.ready.well loading-restarted moves d.distinct d.literals x1.solver_state.sat_state (verdict-is ∙ opened x0.solver_state.sat_state n m) t)
+
+  pub loaded-satisfied : (l : Literal) → l ∈ lits → IsTrueIn (view x1) l → Loaded x0 x1 c
+  loaded-satisfied l i t = settled (λ n m. lines-satisfied (view x0) (view x1) c lits d.ready.well loading-restarted moves d.distinct d.literals x1.solver_state.sat_state (verdict-is ∙ opened x0.solver_state.sat_state n m) l i t)
+
+  -- the clause was added
+  pub loaded-added : (z : Context A) → z ≡ record x1 { assignment = z.assignment; clause_alloc = z.clause_alloc; impl_graph = z.impl_graph; solver_state = z.solver_state; trail = z.trail } → z.solver_state ≡ record x1.solver_state { sat_state = z.solver_state.sat_state } → z.trail.units_removed ≡ x1.trail.units_removed → z.assignment.last ≡ x1.assignment.last → IsAdded (view x1) (view z) lits x1.solver_state.sat_state z.solver_state.sat_state → Loaded x0 z c
+  loaded-added z k s u l a =
+      let r = loading-restarted in
+      let b : IsAdded (view x1) (view z) lits (reopened_state x0.solver_state.sat_state) z.solver_state.sat_state = subst (λ b. IsAdded (view x1) (view z) lits b z.solver_state.sat_state) verdict-is a in
+      let q = added-well (view x0) (view x1) lits r d.distinct loading-inside (view z) lits (reopened_state x0.solver_state.sat_state) z.solver_state.sat_state refl b in
+      record {
+        ready = record {
+          well = q.0;
+          settled = undecided-settled (view z) q.2;
+          propagated = q.1;
+          analysis = ap (λ (x : Context A). x.analyze_conflict.var_count) k ∙ d.analysis ∙ d.ready.analysis ∙ sym q.3;
+          flags = ap (λ (x : Context A). x.tmp_flags.flags.items) k ∙ d.flags ∙ d.ready.flags ∙ ap (λ n. replicate (2 * n) false) (sym q.3);
+        };
+        lines = λ n m. ([], lines-added (view x0) (view x1) c lits d.ready.well r moves d.distinct d.literals (view z) lits (reopened_state x0.solver_state.sat_state) z.solver_state.sat_state (opened x0.solver_state.sat_state n m) refl b);
+        last = subst (SavesAll (view x0) x0.assignment.last) (sym l) d.last;
+        state = s ∙ ap (λ (y : SolverState). record y { sat_state = z.solver_state.sat_state }) d.state;
+        count = q.3;
+        units = u ∙ d.units;
+        undecided = q.2;
+      }

@@ -1,0 +1,136 @@
+-- What is fixed and what is proved in a view, as `search_of` lists it.
+use Rattle.std.proofs.Common.{◌≡◌, ℕ, Bool, map, true, false, ◌&&◌, not, nat_eq, List, [], ◌∷◌, ◌++◌, inl, inr, ⊎_elim, sym, ap, ◌∙◌, subst, refl, arith}
+use Rattle.std.specs.Prelude.{cond}
+use Rattle.std.specs.List.{filter}
+use Rattle.varisat_theory.specs.Membership.{◌∈◌, ◌⊆◌, SameSet}
+use Rattle.varisat_theory.specs.Literals.{Literal, Clause, opposite, IsUnit}
+use Rattle.varisat_theory.specs.Held.{SameClauses}
+use Rattle.varisat_theory.specs.Analysis.{Implied}
+use Rattle.varisat_theory.proofs.Members.{∈-append_left, ∈-append_right, ∈-append_cases}
+use Rattle.varisat_theory.proofs.Held.{same_clauses_find, same_clauses-back}
+use Rattle.varisat_theory.proofs.Places.{∈-get_or}
+use Rattle.varisat_theory.proofs.Values.{opposite_twice}
+use Rattle.varisat_prop.specs.declared.prop.graph.Reason.{Reason}
+use Rattle.varisat_prop.specs.declared.prop.graph.Reason.TheVariants as reason
+use Rattle.varisat_prop.specs.Stored.{StoredClause, literals_of, AreReordered}
+use Rattle.varisat_prop.specs.View.{View, kept, literal_at, node_of, level_of, WellFormed, IsFixed, ViewFits, is_clause}
+use Rattle.varisat_prop.proofs.PropagateLooks.{on-trail, trail-true}
+use Rattle.varisat_search.proofs.WellFormedViews.{fixed-implied, level-opposite}
+use Rattle.varisat_theory.specs.Searches.{KeptClause, clauses_of, Fits}
+use Rattle.varisat_theory.specs.Outcomes.{Proves}
+use Rattle.varisat_theory.specs.StepLaws.{IsGrounded}
+use Rattle.varisat_theory.proofs.StepChanges.{moves_prove}
+use Rattle.varisat_search.specs.Seen.{kept_clause, is_fixed, is_proved, search_of, IsProved}
+
+in_filter : (p : ℕ → Bool) (xs : List ℕ) (x : ℕ) → x ∈ xs → p x ≡ true → x ∈ filter p xs
+in_filter p [] x h e = absurd h
+in_filter p (y ∷ ys) x (inl q) e = go (p y) (ap p (sym q) ∙ e)
+  where
+    go : (b : Bool) → b ≡ true → x ∈ cond b (y ∷ filter p ys) (filter p ys)
+    go true f = inl q
+    go false f = absurd (let z : false ≡ true = f in cc)
+in_filter p (y ∷ ys) x (inr h) e = go (p y) (in_filter p ys x h e)
+  where
+    go : (b : Bool) → x ∈ filter p ys → x ∈ cond b (y ∷ filter p ys) (filter p ys)
+    go true f = inr f
+    go false f = f
+
+from_filter : (p : ℕ → Bool) (xs : List ℕ) (x : ℕ) → x ∈ filter p xs → (x ∈ xs) × (p x ≡ true)
+from_filter p [] x h = absurd h
+from_filter p (y ∷ ys) x h = go (p y) refl h (from_filter p ys x)
+  where
+    go : (b : Bool) → p y ≡ b → x ∈ cond b (y ∷ filter p ys) (filter p ys) → (x ∈ filter p ys → (x ∈ ys) × (p x ≡ true)) → (x ∈ (y ∷ ys)) × (p x ≡ true)
+    go true e (inl q) f = (inl q, ap p q ∙ e)
+    go true e (inr i) f = let r = f i in (inr r.0, r.1)
+    go false e i f = let r = f i in (inr r.0, r.1)
+
+is_zero : (n : ℕ) → nat_eq n 0 ≡ true → n ≡ 0
+is_zero n e = grind arith
+
+zero_is : (n : ℕ) → n ≡ 0 → nat_eq n 0 ≡ true
+zero_is n e = grind arith
+
+both : (a b : Bool) → (a && b) ≡ true → (a ≡ true) × (b ≡ true)
+both true true e = (refl, refl)
+both true false e = absurd (let z : false ≡ true = e in cc)
+both false b e = absurd (let z : false ≡ true = e in cc)
+
+no_clause : (r : Reason) → not (is_clause r) ≡ true → r ≡ reason.Unit
+no_clause reason.Unit e = refl
+no_clause (reason.Long i) e = absurd (let z : false ≡ true = e in cc)
+
+module _ (s : View) (w : WellFormed s) where
+  pub fixed_from : (l : Literal) → l ∈ (search_of s).fixed → IsFixed s l
+  fixed_from l h = let (i, e) = from_filter (is_fixed s) s.trail l h in (trail-true s w l i, is_zero (level_of s l) e)
+
+  pub fixed_to : (l : Literal) → IsFixed s l → l ∈ (search_of s).fixed
+  fixed_to l (t, z) = in_filter (is_fixed s) s.trail l (on-trail s w l t) (zero_is (level_of s l) z)
+
+  pub proved_from : (l : Literal) → l ∈ (search_of s).proved → IsProved s l
+  proved_from l h =
+      let (i, e) = from_filter (is_proved s) s.trail l h in
+      let (a, b) = both (nat_eq (level_of s l) 0) (not (is_clause (node_of s l).reason)) e in
+      (i, is_zero (level_of s l) a, no_clause (node_of s l).reason b)
+
+  pub proved_to : (l : Literal) → IsProved s l → l ∈ (search_of s).proved
+  proved_to l (i, z, r) =
+      in_filter (is_proved s) s.trail l i (ap (λ b. b && not (is_clause (node_of s l).reason)) (zero_is (level_of s l) z) ∙ ap (λ x. not (is_clause x)) r)
+
+-- the headers aside
+pub seen_clauses : (ks : List StoredClause) → clauses_of (map kept_clause ks) ≡ literals_of ks
+seen_clauses [] = refl
+seen_clauses (k ∷ ks) = ap (λ l. k.literals ∷ l) (seen_clauses ks)
+
+unit_same : (l : Literal) (c d : Clause) → SameSet c d → IsUnit l c → IsUnit l d
+unit_same l c d q u = (q.0 l u.0, λ m h. u.1 m (q.1 m h))
+
+pub view_reads : (s : View) (held : List Clause) → WellFormed s → Fits held (search_of s) → ViewFits held s
+view_reads s held w f =
+    let same : SameClauses held (kept s ++ f.others) = subst (λ P. SameClauses held (P ++ f.others)) (seen_clauses s.clauses) f.same in
+    let back = same_clauses-back held (kept s ++ f.others) same in
+    record {
+      stored = λ c h. same_clauses_find (kept s ++ f.others) held back c (∈-append_left c (kept s) f.others h);
+      units = λ k h a b.
+          let (d, i, u) = f.units (literal_at s k) (proved_to s w (literal_at s k) (∈-get_or s.trail k 0 h, a, b)) in
+          let (e, j, q) = same_clauses_find (kept s ++ f.others) held back d (∈-append_right d (kept s) f.others i) in
+          (e, j, unit_same (literal_at s k) d e (q.1, q.0) u);
+      covered = λ c h.
+          let (d, i, q) = same_clauses_find held (kept s ++ f.others) same c h in
+          ⊎_elim
+          (λ a. inl (d, a, q.0))
+          (λ a. inr (⊎_elim
+          (λ (l, x, y). inl (l, q.0 l x, q.0 (opposite l) y))
+          (λ (l, x, y). inr (l, q.0 l x, fixed_from s w l y))
+          (f.settled d a)))
+          (∈-append_cases d (kept s) f.others i);
+    }
+
+pub view_is_grounded : (s : View) → WellFormed s → IsGrounded (search_of s)
+view_is_grounded s w held f l h =
+    let (t, z) = fixed_from s w l h in
+    let e = opposite_twice l in
+    let on : opposite (opposite l) ∈ s.trail = subst (λ x. x ∈ s.trail) (sym e) (on-trail s w l t) in
+    subst (λ x. Implied held [] x) e (fixed-implied s w held (view_reads s held w f) (opposite l) on (level-opposite s l ∙ z))
+
+reordered_same : (P Q : List StoredClause) → AreReordered P Q → SameClauses (literals_of P) (literals_of Q)
+reordered_same [] [] a = refl
+reordered_same [] (q ∷ Q) a = absurd a
+reordered_same (p ∷ P) [] a = absurd a
+reordered_same (p ∷ P) (q ∷ Q) a =
+    (literals_of Q, ([], q.literals, literals_of Q, refl, a.2, refl), reordered_same P Q a.3)
+
+reordered_seen : (P Q : List StoredClause) → AreReordered P Q → (k : KeptClause) → k ∈ map kept_clause P → k.learned ≡ false → (j : KeptClause) × (j ∈ map kept_clause Q) × (j.learned ≡ false) × (j.clause ⊆ k.clause)
+reordered_seen [] Q a k h e = absurd h
+reordered_seen (p ∷ P) [] a k h e = absurd a
+reordered_seen (p ∷ P) (q ∷ Q) a k (inl g) e =
+    (kept_clause q, inl refl, ap (λ x. x.redundant) a.1 ∙ sym (ap (λ z. z.learned) g) ∙ e, λ x i. subst (λ z. x ∈ z.clause) (sym g) (a.2.0 x i))
+reordered_seen (p ∷ P) (q ∷ Q) a k (inr h) e =
+    let (j, i, f, u) = reordered_seen P Q a.3 k h e in (j, inr i, f, u)
+
+pub view_moves : (s t : View) → WellFormed s → WellFormed t → AreReordered s.clauses t.clauses → ((l : Literal) → IsFixed s l → IsFixed t l) → ((l : Literal) → IsProved t l → IsProved s l) → Proves 0 (search_of s) (search_of t) []
+view_moves s t w v a x p =
+    moves_prove (search_of s) (search_of t)
+    (subst (λ P. SameClauses P (clauses_of (search_of t).kept)) (sym (seen_clauses s.clauses)) (subst (SameClauses (kept s)) (sym (seen_clauses t.clauses)) (reordered_same s.clauses t.clauses a)))
+    (reordered_seen s.clauses t.clauses a)
+    (λ l h. fixed_to t v l (x l (fixed_from s w l h)))
+    (λ l h. proved_to s w l (p l (proved_from t v l h)))

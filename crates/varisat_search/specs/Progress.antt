@@ -1,0 +1,28 @@
+-- What a step of the search comes to, from one context to the next.
+use Rattle.std.specs.Prelude.{◌≡◌, ◌≢◌, ℕ, ◌<◌, ◌≤◌, List, length}
+use Rattle.varisat_theory.specs.Derivations.{Line}
+use Rattle.varisat_theory.specs.Outcomes.{Steps}
+use Rattle.varisat_theory.specs.Rank.{rank}
+use Rattle.varisat_prop.specs.View.{kinds}
+use Rattle.varisat_search.specs.declared.context.Context.{Context}
+use Rattle.varisat_search.specs.declared.state.SatState.TheVariants as verdict
+use Rattle.varisat_search.specs.Contexts.{view, IsReady}
+use Rattle.varisat_search.specs.Seen.{search_of, outcome_of}
+
+-- lines lead from the search to the next one, with its verdict
+abbrev pub StepsTo : {A : Type 0} → Context A → Context A → Type 0
+StepsTo x y = (lines : List Line) × Steps (search_of (view x)) (search_of (view y)) (outcome_of (view y) y.solver_state.sat_state) lines
+
+-- the trail's rank rises, over each number of variables that bounds the first trail
+abbrev pub RaisesRank : {A : Type 0} → Context A → Context A → Type 0
+RaisesRank x y = (n : ℕ) → length x.trail.literals ≤ n → rank n (kinds (view x)) < rank n (kinds (view y))
+
+-- The search is ready again, a step further.
+pub record IsStepFurther {A : Type 0} (x y : Context A) : Type 0 where
+  pub ready : IsReady y
+  pub steps : StepsTo x y
+  pub no_assumptions : y.solver_state.sat_state ≢ verdict.UnsatUnderAssumptions
+  pub rises : y.solver_state.sat_state ≡ verdict.Unknown → RaisesRank x y
+  pub count : length y.assignment.current ≡ length x.assignment.current
+  pub units : y.trail.units_removed ≡ x.trail.units_removed
+  pub state : y.solver_state ≡ record x.solver_state { sat_state = y.solver_state.sat_state }

@@ -1,0 +1,9 @@
+//! Tests of what no contract says, over the calls of a search: worked rows, each growth refused.
+#![tactic(auto)]
+
+#[cfg(test)]
+mod levels;
+#[cfg(test)]
+mod loading;
+#[cfg(test)]
+mod steps;

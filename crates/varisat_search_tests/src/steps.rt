@@ -1,0 +1,228 @@
+//! Steps of a search, and what their conflicts teach.
+ghost use Rattle.std.specs.Prelude.{◌≡◌, ◌≤◌, length, OnOk, IfOk, IsTrue};
+ghost use Rattle.varisat_prop.specs.Looks.{IsInRange};
+ghost use Rattle.varisat_search.specs.Contexts.{IsReady};
+ghost use Rattle.varisat_literals.specs.Numbers.{variable_limit};
+
+use linked_list_allocator::LocalHeap;
+use std::alloc::{AllocError, Allocator};
+use std::test::Fail;
+use varisat_literals::{Lit, Var, lits};
+use varisat_prop::clause::ClauseRef;
+use varisat_prop::prop::Assignment;
+use varisat_search::cdcl::conflict_step;
+use varisat_search::context::{Context, set_var_count};
+use varisat_search::load::load_clause;
+use varisat_search::state::SatState;
+
+/// Whether each literal's variable has a place in the assignment.
+fn is_in_range<A: Allocator + Copy>(assignment: &Assignment<A>, lits: &[Lit]) -> bool
+    ensures { IsTrue result → IsInRange assignment.now.current lits.now }
+{
+    for lit in lits {
+        if lit.index() >= assignment.assignment().len() {
+            return false;
+        }
+    }
+    true
+}
+
+/// A search over so many variables, into which those of the clauses are loaded that name no other variable.
+fn loaded<A: Allocator + Copy>(
+    alloc: A,
+    count: usize,
+    clauses: &[&[Lit]],
+) -> Result<Context<A>, AllocError>
+    requires { count ≤ variable_limit }
+    ensures { IfOk result (λ ctx. IsReady ctx) }
+{
+    let mut ctx = Context::new_in(alloc);
+    set_var_count(&mut ctx, count)?;
+    for clause in clauses {
+        if !is_in_range(&ctx.assignment, clause) {
+            continue;
+        }
+        load_clause(&mut ctx, clause)?;
+    }
+    Ok(ctx)
+}
+
+/// Makes a step, unless there is a verdict.
+fn step<A: Allocator + Copy>(ctx: &mut Context<A>) -> Result<(), AllocError>
+    requires { IsReady ctx.old }
+    ensures { OnOk result (IsReady ctx.new) }
+{
+    if let SatState::Unknown = ctx.solver_state.sat_state {
+        conflict_step(ctx)?;
+    }
+    Ok(())
+}
+
+/// Makes true the value that each variable without one had last.
+fn prefer_true<A: Allocator + Copy>(assignment: &mut Assignment<A>)
+    requires { length assignment.old.current ≤ variable_limit }
+    ensures { assignment.new.current ≡ assignment.old.current }
+{
+    for index in 0..assignment.assignment().len() {
+        let var = Var::from_index(index);
+        if assignment.var_value(var).is_none() {
+            assignment.set_var(var, Some(true));
+            assignment.release_var(var);
+        }
+    }
+}
+
+/// Whether the next step, whose decisions make variables true, learns the clause and backtracks to the level.
+fn teaches<A: Allocator + Copy>(
+    ctx: &mut Context<A>,
+    clause: &[Lit],
+    level: usize,
+) -> Result<bool, AllocError>
+    requires { IsReady ctx.old }
+{
+    prefer_true(&mut ctx.assignment);
+    let SatState::Unknown = ctx.solver_state.sat_state else {
+        return Ok(false);
+    };
+    conflict_step(ctx)?;
+    Ok(ctx.analyze_conflict.clause() == clause && ctx.trail.current_level() == level)
+}
+
+/// Whether the first step learns the clause and backtracks to the level.
+fn learns<A: Allocator + Copy>(
+    alloc: A,
+    count: usize,
+    clauses: &[&[Lit]],
+    learned: &[Lit],
+    level: usize,
+) -> Result<bool, AllocError>
+    requires { count ≤ variable_limit }
+{
+    let mut ctx = loaded(alloc, count, clauses)?;
+    let is_learned = teaches(&mut ctx, learned, level)?;
+    Ok(is_learned)
+}
+
+#[test]
+fn refuted_at_once(rt: HostRuntime) -> Result<(), Fail> {
+    let clauses: &[&[Lit]] = &[&lits![1, 2, 3], &lits![-1], &lits![1, -2], &lits![2, -3]];
+    let mut ctx = loaded(rt.alloc(), 3, clauses)?;
+    assert_eq!(rt; ctx.solver_state.sat_state, SatState::Unknown);
+    step(&mut ctx)?;
+    assert_eq!(rt; ctx.solver_state.sat_state, SatState::Unsat);
+    Ok(())
+}
+
+// The verdict on the four clauses of two variables, after at most two steps.
+fn refute<A: Allocator + Copy>(alloc: A) -> Result<SatState, AllocError> {
+    let clauses: &[&[Lit]] = &[&lits![1, 2], &lits![-1, 2], &lits![1, -2], &lits![-1, -2]];
+    let mut ctx = loaded(alloc, 2, clauses)?;
+    step(&mut ctx)?;
+    step(&mut ctx)?;
+    Ok(ctx.solver_state.sat_state)
+}
+
+#[test]
+fn each_growth_may_be_refused(rt: HostRuntime) -> Result<(), Fail> {
+    let mut refuted = false;
+    let mut refused = false;
+    for room in 0..120 {
+        let heap = LocalHeap::new(rt.alloc(), 16 * room)?;
+        match refute(&heap) {
+            Ok(verdict) => {
+                assert_eq!(rt; verdict, SatState::Unsat, "with {room}");
+                refuted = true;
+            }
+            Err(_) => refused = true,
+        }
+    }
+    assert!(rt; refuted && refused);
+    Ok(())
+}
+
+#[test]
+fn model(rt: HostRuntime) -> Result<(), Fail> {
+    let mut ctx = loaded(rt.alloc(), 2, &[&lits![1, 2], &lits![1, -2]])?;
+    step(&mut ctx)?;
+    step(&mut ctx)?;
+    assert_eq!(rt; ctx.solver_state.sat_state, SatState::Sat);
+    assert!(rt; matches!(ctx.assignment.assignment().first(), Some(Some(true))));
+    Ok(())
+}
+
+// 1 is decided and implies 2, 3 is decided and implies 4 and 5, and -1 -4 -5 is false.
+#[test]
+fn learned(rt: HostRuntime) -> Result<(), Fail> {
+    let clauses: &[&[Lit]] = &[
+        &lits![-1, 2],
+        &lits![-3, 4],
+        &lits![-2, -4, 5],
+        &lits![-1, -4, -5],
+    ];
+    let mut ctx = loaded(rt.alloc(), 5, clauses)?;
+    assert!(rt; teaches(&mut ctx, &lits![-4, -1], 1)?);
+    // The conflict, and the reason of 5.
+    let involved = [ClauseRef::from_place(3), ClauseRef::from_place(2)];
+    assert_eq!(rt; ctx.analyze_conflict.involved(), involved.as_slice());
+    assert!(rt; ctx.trail.trail() == lits![1, 2, -4].as_slice());
+    Ok(())
+}
+
+// 3 is implied by 2 and that by 1, so that -3 is left out over two reasons.
+#[test]
+fn chain_is_left_out(rt: HostRuntime) -> Result<(), Fail> {
+    let clauses: &[&[Lit]] = &[
+        &lits![-1, 2],
+        &lits![-2, 3],
+        &lits![-4, 5],
+        &lits![-3, -5, 6],
+        &lits![-1, -5, -6],
+    ];
+    assert!(rt; learns(rt.alloc(), 6, clauses, &lits![-5, -1], 1)?);
+    Ok(())
+}
+
+// As before, but 2 implies 3 together with 7, which is true at level 0.
+#[test]
+fn chain_with_level_zero_is_left_out(rt: HostRuntime) -> Result<(), Fail> {
+    let clauses: &[&[Lit]] = &[
+        &lits![-1, 2],
+        &lits![-2, -7, 3],
+        &lits![-4, 5],
+        &lits![-3, -5, 6],
+        &lits![-1, -5, -6],
+        &lits![7],
+    ];
+    assert!(rt; learns(rt.alloc(), 7, clauses, &lits![-5, -1], 1)?);
+    Ok(())
+}
+
+// 2 is of level 1 and 4 of level 2, and each has a decision behind it that is not in the clause.
+#[test]
+fn highest_level_stands_second(rt: HostRuntime) -> Result<(), Fail> {
+    let clauses: &[&[Lit]] = &[
+        &lits![-1, 2],
+        &lits![-2, -3, 4],
+        &lits![-5, 6],
+        &lits![-4, -6, 7],
+        &lits![-2, -6, -7],
+    ];
+    assert!(rt; learns(rt.alloc(), 7, clauses, &lits![-6, -4, -2], 2)?);
+    Ok(())
+}
+
+// 9 is true at level 0, and is left out.
+#[test]
+fn level_zero_is_left_out(rt: HostRuntime) -> Result<(), Fail> {
+    let clauses: &[&[Lit]] = &[&lits![-1, -9, 2], &lits![-1, -2, -9], &lits![9]];
+    assert!(rt; learns(rt.alloc(), 9, clauses, &lits![-1], 0)?);
+    Ok(())
+}
+
+#[test]
+fn conflict_at_level_zero(rt: HostRuntime) -> Result<(), Fail> {
+    let mut ctx = loaded(rt.alloc(), 2, &[&lits![-1, 2], &lits![-1, -2], &lits![1]])?;
+    assert!(rt; teaches(&mut ctx, &[], 0)?);
+    assert!(rt; ctx.analyze_conflict.involved().is_empty());
+    Ok(())
+}

@@ -1,0 +1,6 @@
+pub mod HeapOrder
+pub mod HeapPlaces
+pub mod HeapView
+pub mod HeapGrowth
+pub mod ActivityLimits
+pub mod AvailableAfter

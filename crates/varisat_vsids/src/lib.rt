@@ -1,0 +1,7 @@
+//! The variables of a search by activity, of which the most active available one is decided next.
+#![tactic(auto)]
+
+mod heap;
+pub mod vsids;
+
+pub use vsids::Vsids;

@@ -1,6 +1,6 @@
 //! Formulas and texts that are added.
 use linked_list_allocator::LocalHeap;
-use std::alloc::{AllocError, Global};
+use std::alloc::Global;
 use std::io::{self, Read};
 use std::test::Fail;
 use varisat::solver::{Solver, SolverError};
@@ -135,25 +135,24 @@ fn the_first_in_the_text_is_answered(rt: HostRuntime) -> Result<(), Fail> {
     Ok(())
 }
 
-/// Adds a text on a heap of that many times 16 bytes, and returns whether it was added. Where it was not, memory ran out and the solver is invalid, or the answer is None.
-fn adds_with(alloc: Global, room: u8) -> Result<Option<bool>, AllocError> {
-    let heap = LocalHeap::new(alloc, 16 * usize::from(room))?;
-    let mut solver: Solver<MemoryTarget<&LocalHeap>, &LocalHeap> = Solver::new_in(&heap);
-    let mut source = ReadSource::new(b"1 -2 0\n3 0\n".as_slice());
-    match solver.add_dimacs_cnf(&mut source) {
-        Ok(()) if solver.is_valid() => Ok(Some(true)),
-        Err(SolverError::OutOfMemory) if !solver.is_valid() => Ok(Some(false)),
-        _ => Ok(None),
-    }
-}
-
 #[test]
 fn a_text_may_want_memory(rt: HostRuntime) -> Result<(), Fail> {
-    assert_eq!(rt; adds_with(rt.alloc(), 0)?, Some(false));
+    let mut added_all = false;
+    let mut refused = false;
     for room in 0..60 {
-        assert!(rt; adds_with(rt.alloc(), room)?.is_some(), "with {room}");
+        let heap = LocalHeap::new(rt.alloc(), 16 * room)?;
+        let mut solver: Solver<MemoryTarget<&LocalHeap>, &LocalHeap> = Solver::new_in(&heap);
+        let mut source = ReadSource::new(b"1 -2 0\n3 0\n".as_slice());
+        match solver.add_dimacs_cnf(&mut source) {
+            Ok(()) => added_all = true,
+            Err(error) => {
+                assert!(rt; matches!(error, SolverError::OutOfMemory));
+                assert!(rt; !solver.is_valid());
+                refused = true;
+            }
+        }
     }
-    assert_eq!(rt; adds_with(rt.alloc(), 60)?, Some(true));
+    assert!(rt; added_all && refused);
     Ok(())
 }
 

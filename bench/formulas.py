@@ -1,6 +1,11 @@
 """Formulas for benchmarks: the same seed gives the same bytes on each machine."""
 import itertools
 
+# How many free inputs and gates a monitor has, and how many of its last gates the next monitor reads.
+MONITOR_INPUTS = 300
+MONITOR_GATES = 620
+MONITOR_OUTPUTS = 8
+
 
 class Numbers:
     """A linear congruential generator, so that the numbers do not depend on the version of Python."""
@@ -57,12 +62,22 @@ def write_empty(path):
     write(path, Formula(0, [[]]))
 
 
+def different(numbers, largest, count):
+    """So many different numbers from 1 to the largest, in no order."""
+    chosen = {}
+    while len(chosen) < count:
+        chosen[numbers.below(largest) + 1] = True
+    return list(chosen)
+
+
 def random_clause(numbers, variables, length):
     """Literals of as many different variables."""
-    chosen = {}
-    while len(chosen) < length:
-        chosen[numbers.below(variables) + 1] = True
-    return [number if numbers.below(2) else -number for number in chosen]
+    return [number if numbers.below(2) else -number for number in different(numbers, variables, length)]
+
+
+def renamed(clause, names):
+    """The clause with the names, the first, the second and so on, for the variables 1, 2 and so on."""
+    return [names[literal - 1] if literal > 0 else -names[-literal - 1] for literal in clause]
 
 
 def mixed_clauses(clauses, variables, seed):
@@ -153,3 +168,67 @@ def counter(bits, steps, value):
         digits = add_step(formula, digits)
     formula.clauses += [[digit if value >> place & 1 else -digit] for place, digit in enumerate(digits)]
     return formula
+
+
+def add_monitor(formula, numbers, read):
+    """Adds random gates that read the variables, inputs of their own and gates before them, and gives the last gates."""
+    read = [*read, *(formula.new_variable() for _ in range(MONITOR_INPUTS))]
+    for _ in range(MONITOR_GATES):
+        one, other = renamed(random_clause(numbers, len(read), 2), read)
+        read.append(formula.differ(one, other) if numbers.below(2) else formula.both(one, other))
+    return read[-MONITOR_OUTPUTS:]
+
+
+def monitored_path(bits, steps, clauses, seed):
+    """Is there a path of so many steps through a transition relation of so many random clauses of 3 literals?
+
+    The relation is over the bits before and after a step, and the same in each step. A monitor reads each state, and
+    the monitor of the state before it. Nothing but monitors reads them. Their variables and clauses come first, and
+    those of the path last.
+    """
+    numbers = Numbers(seed)
+    relation = [random_clause(numbers, 2 * bits, 3) for _ in range(clauses)]
+    formula, outputs = Formula(), []
+    first = (steps + 1) * (MONITOR_INPUTS + MONITOR_GATES) + 1
+    states = [range(first + step * bits, first + (step + 1) * bits) for step in range(steps + 1)]
+    for state in states:
+        outputs = add_monitor(formula, numbers, [*state, *outputs])
+    formula.variables += bits * (steps + 1)
+    for before, after in zip(states, states[1:]):
+        formula.clauses += [renamed(clause, [*before, *after]) for clause in relation]
+    return formula
+
+
+def sparse(formula, largest, seed):
+    """The same formula with random names up to the largest one."""
+    names = different(Numbers(seed), largest, formula.variables)
+    return Formula(max(names), [renamed(clause, names) for clause in formula.clauses])
+
+
+def free(variables):
+    """Clauses that name all variables, and that the first variable satisfies: each other one may have any value."""
+    clauses = [[1]]
+    for first in range(2, variables + 1, 9):
+        clauses.append([1, *range(first, min(first + 9, variables + 1))])
+    return Formula(variables, clauses)
+
+
+def ring(variables):
+    """Each variable implies the one before it, the first implies the last, and either the first or the middle one is true.
+
+    So any one that is decided false leads to a conflict that half of them take part in, and then all are true. Each
+    implication stands twice, in the order of the ring and against it, so that a scan of the clauses in either order
+    follows it to its end.
+    """
+    around = [[place, -(place % variables + 1)] for place in range(1, variables + 1)]
+    return Formula(variables, [*around, *reversed(around), [1, variables // 2]])
+
+
+def last_name(variables):
+    """A clause of the last variable alone, so that the others are used in no clause."""
+    return Formula(variables, [[variables]])
+
+
+def refuted(formula):
+    """The same formula with a further clause, which is empty."""
+    return Formula(formula.variables, [*formula.clauses, []])

@@ -8,7 +8,7 @@ import tempfile
 import formulas
 import programs
 
-SUMMARY = "times deciding ten small hard formulas beside minisat"
+SUMMARY = "times deciding twelve hard formulas beside minisat"
 LIMIT = 60
 REPETITIONS = 5
 # Seconds below which a run is repeated, since its time is uncertain.
@@ -25,6 +25,8 @@ FORMULAS = {
     "colouring-unsat": lambda: formulas.colouring(200, 460, 3, 1),
     "counter-sat": lambda: formulas.counter(6, 50, 50),
     "counter-unsat": lambda: formulas.counter(6, 50, 51),
+    "monitored-unsat": lambda: formulas.monitored_path(24, 20, 112, 3),
+    "sparse-unsat": lambda: formulas.sparse(formulas.colouring(250, 650, 3, 2), 10_000_000, 1),
 }
 VERDICTS = {programs.SATISFIABLE: "sat", programs.UNSATISFIABLE: "unsat", None: "-"}
 # The columns of a row: what stands above each, in two lines, and where it is aligned.
@@ -93,14 +95,14 @@ def time_per_conflict(ours, conflicts):
     return ours.taken.processor * 1e3 / conflicts
 
 
-def print_formula(name, formula, ours, theirs, steps, limit):
+def print_formula(name, formula, ours, theirs, counted, limit):
     """Prints the row of a formula."""
     cells = [name, f"{formula.variables:,}", f"{len(formula.clauses):,}"]
     for run in ours, theirs:
         cells += [VERDICTS[run.verdict], time_told(run, limit)]
     cells.append(number_told(ratio_of(ours, theirs), ",.2f"))
-    cells += [number_told(run.conflicts, ",") for run in (steps, theirs)]
-    cells.append(number_told(time_per_conflict(ours, steps.conflicts), ",.3f"))
+    cells += [number_told(run.conflicts, ",") for run in (counted, theirs)]
+    cells.append(number_told(time_per_conflict(ours, counted.conflicts), ",.3f"))
     print_row(cells)
 
 
@@ -114,8 +116,8 @@ def print_end(results):
     status = 0
     for name, runs in results.items():
         if len({run.verdict for run in runs} - {None}) > 1:
-            ours, theirs, steps = (VERDICTS[run.verdict] for run in runs)
-            print(f"bench: {name}: varisat says {ours}, minisat {theirs}, varisat_steps {steps}", file=sys.stderr)
+            ours, theirs, counted = (VERDICTS[run.verdict] for run in runs)
+            print(f"bench: {name}: varisat says {ours}, minisat {theirs}, varisat session {counted}", file=sys.stderr)
             status = 1
     return status
 
@@ -123,7 +125,6 @@ def print_end(results):
 def run(arguments):
     programs.check_tools("minisat")
     programs.build_ours()
-    programs.build_steps()
     every = [programs.ours(), programs.learning_minisat()]
     print(f"{datetime.date.today()}, {programs.machine()}")
     print(f"the median of {arguments.repetitions} runs, or of one where a run takes {SHORT:.0f} s; times are the processor's; minisat runs with -no-pre\n")
@@ -135,7 +136,7 @@ def run(arguments):
             formula, path = FORMULAS[name](), f"{folder}/{name}.cnf"
             formulas.write(path, formula)
             timed = decide_all(every, path, arguments.limit, arguments.repetitions)
-            results[name] = [*timed, programs.decide(programs.steps(), path, arguments.limit)]
+            results[name] = [*timed, programs.count_conflicts(formula.clauses, arguments.limit)]
             print_formula(name, formula, *results[name], arguments.limit)
     print()
     return print_end(results)

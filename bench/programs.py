@@ -13,7 +13,7 @@ from dataclasses import dataclass
 from typing import Callable, Optional
 
 ROOT = os.path.dirname(os.path.dirname(os.path.abspath(__file__)))
-STEPS = f"{ROOT}/crates/varisat_steps"
+PROGRAM = f"{ROOT}/crates/varisat_cli/out/varisat_cli"
 # Each tool that is not ours, and the Debian package that has it.
 PACKAGES = {"minisat": "minisat", "cadical": "cadical", "/usr/bin/time": "time"}
 SATISFIABLE = 10
@@ -74,29 +74,8 @@ def build_ours():
         stop("./varisat was not built")
 
 
-def build_steps():
-    """Proves and builds the program that tells the conflicts of our search, where that is due, and tries it."""
-    if not shutil.which("rt"):
-        stop("the command rt is not there: install the Rattle kit that README.md names, and put its folder bin on the PATH")
-    command = ["rt", "run", "--", f"{ROOT}/examples/dinner.cnf"]
-    done = subprocess.run(command, cwd=STEPS, stdin=subprocess.DEVNULL, stdout=subprocess.PIPE, stderr=subprocess.STDOUT, text=True)
-    if done.returncode != SATISFIABLE:
-        print(*done.stdout.splitlines()[-40:], sep="\n", file=sys.stderr)
-        stop("varisat_steps was not built")
-
-
 def ours():
-    return Program("varisat", [f"{ROOT}/crates/varisat_cli/out/varisat_cli", "solve"])
-
-
-def steps_conflicts(output):
-    line = re.search(r"^conflicts (\d+)$", output, re.MULTILINE)
-    return int(line[1]) if line else None
-
-
-def steps():
-    """Our search alone. It prints its conflicts, which `ours` does not."""
-    return Program("varisat_steps", [f"{STEPS}/out/varisat_steps"], steps_conflicts)
+    return Program("varisat", [PROGRAM, "solve"])
 
 
 def readers():
@@ -125,16 +104,21 @@ def must_be(status, wanted, program):
         stop(f"{program.name} ended with status {status}, not {wanted}")
 
 
-def run_once(program, path, output, limit=None):
-    """Runs the program on the file, and gives its status and what it took. It is killed past the limit, in whole seconds of the processor."""
+def run_command(command, source, output, limit):
+    """Runs the command, and gives its status and what it took. It is killed past the limit, in whole seconds of the processor."""
     started = time.perf_counter()
-    child = subprocess.Popen([*program.command, path], stdout=output, stderr=subprocess.DEVNULL)
+    child = subprocess.Popen(command, stdin=source, stdout=output, stderr=subprocess.DEVNULL)
     if limit is not None:
         resource.prlimit(child.pid, resource.RLIMIT_CPU, (limit, limit))
     _, ended, usage = os.wait4(child.pid, 0)
     wall = time.perf_counter() - started
     child.returncode = os.waitstatus_to_exitcode(ended)
     return child.returncode, Taken(wall, usage.ru_utime + usage.ru_stime)
+
+
+def run_once(program, path, output, limit=None):
+    """Runs the program on the file."""
+    return run_command([*program.command, path], subprocess.DEVNULL, output, limit)
 
 
 def measure(program, path, status):
@@ -144,14 +128,36 @@ def measure(program, path, status):
     return taken
 
 
+def was_killed(status, taken, limit):
+    # The times that are told are rounded, so that one at the limit may seem just below it.
+    return status == -signal.SIGKILL and taken.processor > 0.99 * limit
+
+
+def count_conflicts(clauses, limit):
+    """Decides the clauses in a session of our program, which tells its steps: each but one that finds a model comes to a conflict."""
+    with tempfile.TemporaryFile("w+", encoding="utf-8") as lines, tempfile.TemporaryFile("w+", encoding="utf-8") as output:
+        lines.writelines(" ".join(["add", *map(str, clause)]) + "\n" for clause in clauses)
+        lines.write("solve\nsteps\n")
+        lines.seek(0)
+        status, taken = run_command([PROGRAM, "session"], lines, output, limit)
+        output.seek(0)
+        answers = output.read().splitlines()[-2:]
+    if was_killed(status, taken, limit):
+        return Decided(None, None, taken)
+    verdicts = {"ok true": SATISFIABLE, "ok false": UNSATISFIABLE}
+    if status or len(answers) < 2 or answers[0] not in verdicts:
+        stop(f"varisat session ended with status {status} and decided nothing")
+    verdict, steps = verdicts[answers[0]], int(answers[1].split()[1])
+    return Decided(verdict, steps - 1 if verdict == SATISFIABLE else steps, taken)
+
+
 def decide(program, path, limit):
     """Runs the program on the file, and sees that it decides the formula, or is killed past the limit."""
     with tempfile.TemporaryFile("w+", encoding="utf-8") as output:
         status, taken = run_once(program, path, output, limit)
         output.seek(0)
         conflicts = program.conflicts_of(output.read())
-    # The times that are told are rounded, so that one at the limit may seem just below it.
-    if status == -signal.SIGKILL and taken.processor > 0.99 * limit:
+    if was_killed(status, taken, limit):
         return Decided(None, None, taken)
     if status not in (SATISFIABLE, UNSATISFIABLE):
         stop(f"{program.name} ended with status {status} on {os.path.basename(path)}, and decided nothing")

@@ -7,22 +7,43 @@ use varisat_literals::laws::{
 };
 use varisat_literals::{Lit, Var, lit, lits, var};
 
-#[test]
-fn variables(rt: HostRuntime) {
-    let third = Var::from_dimacs(3);
-    assert_eq!(rt; third, Var::from_index(2));
-    assert_eq!(rt; third.index(), 2);
-    assert_eq!(rt; third.to_dimacs(), 3);
-    assert_eq!(rt; third.positive().to_dimacs(), 3);
-    assert_eq!(rt; third.negative().to_dimacs(), -3);
-    assert_eq!(rt; third.lit(false).to_dimacs(), -3);
-    assert_eq!(rt; Var::max_var().index(), 268435455);
-    assert_eq!(rt; Var::max_count(), 268435456);
-    assert_eq!(rt; var!(2147483648).index(), 2147483647);
+/// A variable's index, its number, and the numbers of its literals.
+fn told_var(variable: Var) -> (usize, isize, [isize; 3]) {
+    let literals = [
+        variable.positive().to_dimacs(),
+        variable.negative().to_dimacs(),
+        variable.lit(false).to_dimacs(),
+    ];
+    (variable.index(), variable.to_dimacs(), literals)
 }
 
 #[test]
-fn literals(rt: HostRuntime) {
+fn variables(rt: HostRuntime) {
+    let third = Var::from_dimacs(3);
+    assert!(rt; third == Var::from_index(2));
+    assert!(rt; told_var(third) == (2, 3, [3, -3, -3]));
+    assert!(rt; (Var::max_var().index(), Var::max_count()) == (268435455, 268435456));
+    assert!(rt; var!(2147483648).index() == 2147483647);
+}
+
+/// A literal's number, its code, its index and that of its variable, and whether it is negative and positive.
+fn told_lit(literal: Lit) -> (isize, [usize; 3], [bool; 2]) {
+    let indices = [literal.code(), literal.index(), literal.var().index()];
+    let signs = [literal.is_negative(), literal.is_positive()];
+    (literal.to_dimacs(), indices, signs)
+}
+
+/// The numbers of the literal turned, turned and kept.
+fn turned(literal: Lit) -> [isize; 3] {
+    [
+        (!literal).to_dimacs(),
+        (literal ^ true).to_dimacs(),
+        (literal ^ false).to_dimacs(),
+    ]
+}
+
+#[test]
+fn literals_of_numbers(rt: HostRuntime) {
     // number, code, index
     for (number, code, index) in [
         (1isize, 0usize, 0usize),
@@ -33,42 +54,63 @@ fn literals(rt: HostRuntime) {
     ] {
         assert!(rt; number != 0 && -64 < number && number < 64);
         let literal = Lit::from_dimacs(number);
-        assert_eq!(rt; literal.to_dimacs(), number);
-        assert_eq!(rt; literal.code(), code, "at {number}");
-        assert_eq!(rt; literal.index(), index, "at {number}");
-        assert_eq!(rt; literal.var().index(), index, "at {number}");
-        assert_eq!(rt; literal.is_negative(), number < 0, "at {number}");
-        assert_eq!(rt; literal.is_positive(), number > 0, "at {number}");
-        assert_eq!(rt; (!literal).to_dimacs(), -number, "at {number}");
-        assert_eq!(rt; (literal ^ true).to_dimacs(), -number, "at {number}");
-        assert_eq!(rt; (literal ^ false).to_dimacs(), number, "at {number}");
+        let told = (number, [code, index, index], [number < 0, number > 0]);
+        assert!(rt; told_lit(literal) == told, "at {number}");
+        assert!(rt;
+            turned(literal) == [-number, -number, number],
+            "at {number}"
+        );
     }
+}
+
+/// The numbers of literals that are made in other ways.
+fn made() -> [isize; 6] {
     let second = var!(2);
-    assert_eq!(rt; Lit::from_var(second, false).to_dimacs(), -2);
-    assert_eq!(rt; Lit::positive(second).to_dimacs(), 2);
-    assert_eq!(rt; Lit::negative(second).to_dimacs(), -2);
-    assert_eq!(rt; Lit::from_index(1, false).to_dimacs(), -2);
-    assert_eq!(rt; Lit::from_code(4294967295).to_dimacs(), -2147483648);
-    assert_eq!(rt; lit!(-2).map_var(|_| var!(5)).to_dimacs(), -5);
+    [
+        Lit::from_var(second, false).to_dimacs(),
+        Lit::positive(second).to_dimacs(),
+        Lit::negative(second).to_dimacs(),
+        Lit::from_index(1, false).to_dimacs(),
+        Lit::from_code(4294967295).to_dimacs(),
+        lit!(-2).map_var(|_| var!(5)).to_dimacs(),
+    ]
+}
+
+#[test]
+fn literals(rt: HostRuntime) {
+    assert!(rt; made() == [-2, 2, -2, -2, -2147483648, -5]);
     let [a, b, c] = lits![1, -2, 3];
-    assert_eq!(rt; (a.code(), b.code(), c.code()), (0, 3, 4));
+    assert!(rt; [a.code(), b.code(), c.code()] == [0, 3, 4]);
+}
+
+/// What the hashes of a variable and of the literal of its index are.
+fn hashes(variable: Var, literal: Lit) -> (u64, u64) {
+    let mut state = DefaultHasher::new();
+    hashed_var(variable, &mut state);
+    let mut other = DefaultHasher::new();
+    hashed_lit(literal, &mut other);
+    (state.finish(), other.finish())
+}
+
+/// The numbers that the laws on numbers of literals and of variables give.
+fn numbers() -> ([isize; 3], [isize; 2]) {
+    let of_lits = [
+        opposite_twice(lit!(-2)).to_dimacs(),
+        numbered_lit(lit!(-2)).to_dimacs(),
+        number_of_lit(-2),
+    ];
+    let of_vars = [numbered_var(var!(2)).to_dimacs(), number_of_var(2)];
+    (of_lits, of_vars)
 }
 
 #[test]
 fn laws(rt: HostRuntime) {
-    assert_eq!(rt; opposite_twice(lit!(-2)).to_dimacs(), -2);
-    assert_eq!(rt; numbered_var(var!(2)).to_dimacs(), 2);
-    assert_eq!(rt; numbered_lit(lit!(-2)).to_dimacs(), -2);
-    assert_eq!(rt; number_of_var(2), 2);
-    assert_eq!(rt; number_of_lit(-2), -2);
+    assert!(rt; numbers() == ([-2, -2, -2], [2, 2]));
     assert!(rt; compared_vars(var!(1), var!(2)) == (false, Ordering::Less));
     assert!(rt; compared_lits(lit!(-1), lit!(2)) == (false, Ordering::Less));
     assert!(rt; compared_lits(lit!(-1), lit!(1)) == (false, Ordering::Greater));
-    let mut state = DefaultHasher::new();
-    hashed_var(var!(3), &mut state);
-    let mut other = DefaultHasher::new();
-    hashed_lit(lit!(2), &mut other);
-    assert_eq!(rt; state.finish(), other.finish());
+    let (of_var, of_lit) = hashes(var!(3), lit!(2));
+    assert!(rt; of_var == of_lit);
 }
 
 #[test]

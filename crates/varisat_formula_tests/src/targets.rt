@@ -1,32 +1,58 @@
+ghost use Rattle.std.specs.Prelude.{◌≡◌, OnOk};
+
+use std::alloc::Global;
 use std::io;
 use std::io::Write;
 use varisat_formula::io::{ByteSource, IoTarget, MemoryTarget, ProofTarget, ReadSource};
 
-#[test]
-fn target_in_memory(rt: HostRuntime) -> io::Result<()> {
-    let mut target = MemoryTarget::new_in(rt.alloc());
-    assert!(rt; target.bytes().is_empty());
+/// Whether a target keeps what it is given.
+fn keeps(target: &mut MemoryTarget<Global>) -> io::Result<bool>
+    requires { target.old.faults ≡ 0 }
+{
+    let was_empty = target.bytes().is_empty();
     target.put(b"1 -2 0\n")?;
     target.put(b"0\n")?;
     target.flush()?;
-    assert_eq!(rt; target.bytes(), b"1 -2 0\n0\n".as_slice());
-    assert_eq!(rt; target.faults(), 0);
-    Ok(())
+    Ok(was_empty && target.bytes() == b"1 -2 0\n0\n".as_slice() && target.faults() == 0)
+}
+
+fn keeps_in(alloc: Global) -> io::Result<bool> {
+    let mut target = MemoryTarget::new_in(alloc);
+    keeps(&mut target)
 }
 
 #[test]
-fn source_of_a_reader(rt: HostRuntime) -> io::Result<()> {
-    let mut source = ReadSource::new(b"1 0".as_slice());
+fn target_in_memory(rt: HostRuntime) {
+    assert!(rt; matches!(keeps_in(rt.alloc()), Ok(true)));
+}
+
+/// How many bytes a source gives, and whether it has ended then.
+fn fill(source: &mut ReadSource<&'static [u8]>, buffer: &mut [u8]) -> io::Result<(usize, bool)>
+    requires { source.old.faults ≡ 0 }
+    ensures { OnOk result (source.new.faults ≡ 0) }
+{
+    let count = source.fill(buffer)?;
+    Ok((count, source.has_ended()))
+}
+
+/// Whether a source of three bytes gives them by two, and then ends.
+fn fills(source: &mut ReadSource<&'static [u8]>) -> io::Result<bool>
+    requires { source.old.faults ≡ 0 }
+{
     let mut buffer = [0; 2];
-    assert_eq!(rt; source.fill(&mut [])?, 0);
-    assert!(rt; !source.has_ended());
-    assert_eq!(rt; source.fill(&mut buffer)?, 2);
-    assert_eq!(rt; source.fill(&mut buffer)?, 1);
-    assert!(rt; !source.has_ended());
-    assert_eq!(rt; source.fill(&mut buffer)?, 0);
-    assert!(rt; source.has_ended());
-    assert_eq!(rt; source.faults(), 0);
-    Ok(())
+    Ok(
+        fill(source, &mut [])? == (0, false)
+            && fill(source, &mut buffer)? == (2, false)
+            && fill(source, &mut buffer)? == (1, false)
+            && fill(source, &mut buffer)? == (0, true)
+            && source.faults() == 0,
+    )
+}
+
+#[test]
+fn source_of_a_reader(rt: HostRuntime) {
+    let mut source = ReadSource::new(b"1 0".as_slice());
+    assert!(rt; matches!(fills(&mut source), Ok(true)));
 }
 
 /// A writer that takes all bytes, and counts how often it was flushed.
@@ -46,12 +72,18 @@ impl Write for FlushedWriter {
     }
 }
 
-#[test]
-fn writers_are_flushed(rt: HostRuntime) -> io::Result<()> {
-    let mut target = IoTarget::new(FlushedWriter { flushes: 0 });
+/// Writes a line and flushes, and returns how many faults there were.
+fn put_line(target: &mut IoTarget<FlushedWriter>) -> io::Result<u64>
+    requires { target.old.faults ≡ 0 }
+{
     target.put(b"1 0\n")?;
     target.flush()?;
-    assert_eq!(rt; target.faults(), 0);
-    assert_eq!(rt; target.into_inner().flushes, 1);
-    Ok(())
+    Ok(target.faults())
+}
+
+#[test]
+fn writers_are_flushed(rt: HostRuntime) {
+    let mut target = IoTarget::new(FlushedWriter { flushes: 0 });
+    assert!(rt; matches!(put_line(&mut target), Ok(0)));
+    assert!(rt; target.into_inner().flushes == 1);
 }

@@ -1,3 +1,5 @@
+ghost use Rattle.std.specs.Prelude.{◌≡◌};
+
 use linked_list_allocator::LocalHeap;
 use std::alloc::{AllocError, Allocator, Global};
 use std::io;
@@ -234,88 +236,134 @@ fn beginnings(rt: HostRuntime) {
     }
 }
 
+/// Whether a text goes on where the formula was taken.
+fn goes_on(parser: &mut DimacsParser<Global>) -> bool {
+    let is_fed = parser.feed(b"p cnf 7 2\n1 -2 0 3").is_ok();
+    let counts = (parser.var_count(), parser.clause_count());
+    let taken = parser.take_formula().len();
+    is_fed && counts == (7, 1) && taken == 1 && parser.feed(b" 0").is_ok()
+}
+
+/// Whether a text ends, and what comes after that is not read.
+fn ends_for_good(parser: &mut DimacsParser<Global>) -> bool {
+    let has_ended = parser.finish().is_ok();
+    let is_ignored = parser.feed(b"x").is_ok() && parser.finish().is_ok();
+    has_ended && is_ignored && parser.clause_count() == 2
+}
+
+/// Whether the formula has that many clauses and variables.
+fn has_counts(formula: &CnfFormula<Global>, clauses: usize, vars: usize) -> bool {
+    formula.len() == clauses && formula.var_count() == vars
+}
+
+fn reads_on(parser: &mut DimacsParser<Global>) -> bool {
+    let right = goes_on(parser) && ends_for_good(parser);
+    right && has_counts(&parser.take_formula(), 1, 7)
+}
+
+/// Whether a fault stays, and the clauses before it.
+fn stays_faulty(parser: &mut DimacsParser<Global>) -> bool {
+    let fault = parser.feed(b"1 0\n\nx 2 0").err();
+    let again = parser.feed(b"1 0").err() == fault && parser.finish().err() == fault;
+    again && fault == at(3, UnexpectedInput) && parser.take_formula().len() == 1
+}
+
+/// Whether a source that fails is told in the line that was reached.
+fn breaks_off(parser: &mut DimacsParser<Global>) -> bool {
+    let is_fed = parser.feed(b"1 0\n2").is_ok();
+    let fault = Some(parser.break_off());
+    let again = parser.finish().err() == fault && Some(parser.break_off()) == fault;
+    is_fed && again && fault == at(2, DimacsErrorKind::Io)
+}
+
+/// Whether a text that was over before is not broken off.
+fn is_over(parser: &mut DimacsParser<Global>) -> bool {
+    let has_ended = parser.feed(b"1 0\n").is_ok() && parser.finish().is_ok();
+    let is_told = Some(parser.break_off()) == at(2, DimacsErrorKind::Io);
+    has_ended && is_told && parser.finish().is_ok()
+}
+
 #[test]
 fn after_the_end(rt: HostRuntime) {
     let mut parser = DimacsParser::new_in(rt.alloc());
-    assert!(rt; parser.feed(b"p cnf 7 2\n1 -2 0 3").is_ok());
-    assert_eq!(rt; parser.var_count(), 7);
-    assert_eq!(rt; parser.clause_count(), 1);
-    assert_eq!(rt; parser.take_formula().len(), 1);
-    assert!(rt; parser.feed(b" 0").is_ok());
-    assert!(rt; parser.finish().is_ok());
-    // The text is over.
-    assert!(rt; parser.feed(b"x").is_ok());
-    assert!(rt; parser.finish().is_ok());
-    assert_eq!(rt; parser.clause_count(), 2);
-    let formula = parser.take_formula();
-    assert_eq!(rt; formula.len(), 1);
-    assert_eq!(rt; formula.var_count(), 7);
+    assert!(rt; reads_on(&mut parser));
+}
+
+#[test]
+fn after_a_fault(rt: HostRuntime) {
     let mut parser = DimacsParser::new_in(rt.alloc());
-    let fault = parser.feed(b"1 0\n\nx 2 0").err();
-    assert!(rt; fault == at(3, UnexpectedInput));
-    assert!(rt; parser.feed(b"1 0").err() == fault);
-    assert!(rt; parser.finish().err() == fault);
-    assert_eq!(rt; parser.take_formula().len(), 1);
+    assert!(rt; stays_faulty(&mut parser));
 }
 
 #[test]
 fn broken_off(rt: HostRuntime) {
     let mut parser = DimacsParser::new_in(rt.alloc());
-    assert!(rt; parser.feed(b"1 0\n2").is_ok());
-    let fault = Some(parser.break_off());
-    assert!(rt; fault == at(2, DimacsErrorKind::Io));
-    assert!(rt; parser.finish().err() == fault);
-    assert!(rt; Some(parser.break_off()) == fault);
+    assert!(rt; breaks_off(&mut parser));
+}
+
+#[test]
+fn broken_off_after_the_end(rt: HostRuntime) {
     let mut parser = DimacsParser::new_in(rt.alloc());
-    assert!(rt; parser.feed(b"1 0\n").is_ok());
-    assert!(rt; parser.finish().is_ok());
-    // The text was over before.
-    assert!(rt; Some(parser.break_off()) == at(2, DimacsErrorKind::Io));
-    assert!(rt; parser.finish().is_ok());
+    assert!(rt; is_over(&mut parser));
+}
+
+/// A source that gives the text and then fails.
+fn failing(text: &'static [u8]) -> ReadSource<CutReader>
+    ensures { result.faults ≡ 0 }
+{
+    ReadSource::new(CutReader { text, fails: true })
+}
+
+/// What `parse` tells of a source that gives the text and then fails, how often it failed, and whether it has ended.
+fn told_of(alloc: Global, text: &'static [u8]) -> (Option<DimacsError>, u64, bool) {
+    let mut source = failing(text);
+    let fault = DimacsParser::parse(alloc, &mut source).err();
+    (fault, source.faults(), source.has_ended())
 }
 
 #[test]
-fn source_that_fails(rt: HostRuntime) -> Result<(), FormulaError> {
+fn source_that_fails(rt: HostRuntime) {
     let alloc = rt.alloc();
-    let mut source = ReadSource::new(CutReader {
-        text: b"1 0\n2",
-        fails: true,
-    });
-    let parsed = DimacsParser::parse(alloc, &mut source);
-    assert!(rt; parsed.err() == at(2, DimacsErrorKind::Io));
-    assert_eq!(rt; source.faults(), 1);
-    assert!(rt; !source.has_ended());
-    let mut source = ReadSource::new(CutReader {
-        text: b"1 0\n2",
-        fails: true,
-    });
-    let mut parser = DimacsParser::new_in(alloc);
-    let mut buffer = [0; 16];
-    assert!(rt; parser.next_piece(&mut source, &mut buffer) == Ok(true));
-    assert!(rt; parser.next_piece(&mut source, &mut buffer) == Ok(true));
-    let fault = parser.next_piece(&mut source, &mut buffer).err();
-    assert!(rt; fault == at(2, DimacsErrorKind::Io));
-    assert!(rt; parser.finish().err() == fault);
-    assert!(rt; parser.take_formula() == cnf_formula!(in alloc; 1;)?);
+    assert!(rt; told_of(alloc, b"1 0\n2") == (at(2, DimacsErrorKind::Io), 1, false));
     // A fault of the text before the source's.
-    let mut source = ReadSource::new(CutReader {
-        text: b"01 0",
-        fails: true,
-    });
-    assert!(rt; DimacsParser::parse(alloc, &mut source).err() == at(1, UnexpectedInput));
-    assert_eq!(rt; source.faults(), 0);
-    Ok(())
+    assert!(rt; told_of(alloc, b"01 0") == (at(1, UnexpectedInput), 0, false));
+}
+
+/// Whether a source that fails gives two pieces and then the fault, which stays.
+fn gives_two_pieces(parser: &mut DimacsParser<Global>, source: &mut ReadSource<CutReader>) -> bool
+    requires { source.old.faults ≡ 0 }
+{
+    let mut buffer = [0; 16];
+    let first = parser.next_piece(source, &mut buffer) == Ok(true);
+    let second = parser.next_piece(source, &mut buffer) == Ok(true);
+    let fault = parser.next_piece(source, &mut buffer).err();
+    first && second && fault == at(2, DimacsErrorKind::Io) && parser.finish().err() == fault
+}
+
+fn is_one_clause(alloc: Global, formula: &CnfFormula<Global>) -> Result<bool, FormulaError> {
+    let one = cnf_formula!(in alloc; 1;)?;
+    let same = *formula == one;
+    Ok(same)
+}
+
+fn fails_after_pieces(alloc: Global) -> Result<bool, FormulaError> {
+    let mut parser = DimacsParser::new_in(alloc);
+    let fails = gives_two_pieces(&mut parser, &mut failing(b"1 0\n2"));
+    let is_taken = is_one_clause(alloc, &parser.take_formula());
+    if fails { is_taken } else { Ok(false) }
 }
 
 #[test]
-fn pieces_of_a_function(rt: HostRuntime) {
-    let mut source = ReadSource::new(CutReader {
-        text: b"1 0 2 0 3 0",
-        fails: false,
-    });
+fn pieces_of_a_source_that_fails(rt: HostRuntime) {
+    assert!(rt; matches!(fails_after_pieces(rt.alloc()), Ok(true)));
+}
+
+/// How often the function of `parse_incremental` is called, and how many clauses there are then; none where it fails.
+fn pieces_given(alloc: Global, text: &'static [u8]) -> Option<(u64, u64)> {
+    let mut source = ReadSource::new(CutReader { text, fails: false });
     let (mut calls, mut clauses) = (0, 0);
     let parsed: Result<DimacsParser<Global>, DimacsError> = DimacsParser::parse_incremental(
-        rt.alloc(),
+        alloc,
         &mut source,
         |reader| {
             calls = u64::saturating_add(calls, 1);
@@ -323,42 +371,85 @@ fn pieces_of_a_function(rt: HostRuntime) {
             Ok(())
         },
     );
-    assert!(rt; parsed.is_ok());
-    // Four pieces and the end.
-    assert_eq!(rt; calls, 5);
-    assert_eq!(rt; clauses, 3);
+    if parsed.is_ok() {
+        Some((calls, clauses))
+    } else {
+        None
+    }
+}
+
+/// What `parse_incremental` returns where its function refuses.
+fn refused_by(alloc: Global, refusal: DimacsError) -> Option<DimacsError> {
     let mut source = ReadSource::new(b"1 0".as_slice());
+    let parsed: Result<DimacsParser<Global>, DimacsError> = DimacsParser::parse_incremental(
+        alloc,
+        &mut source,
+        |_reader| Err(refusal),
+    );
+    parsed.err()
+}
+
+#[test]
+fn pieces_of_a_function(rt: HostRuntime) {
+    // Four pieces and the end.
+    assert!(rt; pieces_given(rt.alloc(), b"1 0 2 0 3 0") == Some((5, 3)));
     let refusal = DimacsError {
         line: 9,
         kind: DimacsErrorKind::Io,
     };
-    let parsed: Result<DimacsParser<Global>, DimacsError> = DimacsParser::parse_incremental(
-        rt.alloc(),
-        &mut source,
-        |_reader| Err(refusal),
-    );
-    assert!(rt; parsed.err() == Some(refusal));
+    assert!(rt; refused_by(rt.alloc(), refusal) == Some(refusal));
+}
+
+const WRITTEN: &[u8] = b"p cnf 3 2\n1 -2 0\n0\n";
+
+fn is_written_in_memory(alloc: Global, formula: &CnfFormula<Global>) -> io::Result<bool> {
+    let mut target = MemoryTarget::new_in(alloc);
+    write_dimacs(&mut target, formula)?;
+    let same = target.bytes() == WRITTEN;
+    Ok(same)
+}
+
+/// Writes the formula, and returns how many faults there were.
+fn write_out(output: &mut IoTarget<Vec<u8>>, formula: &CnfFormula<Global>) -> io::Result<u64>
+    requires { output.old.faults ≡ 0 }
+{
+    write_dimacs(output, formula)?;
+    output.flush()?;
+    Ok(output.faults())
+}
+
+fn is_written_out(alloc: Global, formula: &CnfFormula<Global>) -> io::Result<bool> {
+    let mut output = IoTarget::new(Vec::new(alloc));
+    let faults = write_out(&mut output, formula)?;
+    let same = output.into_inner().as_slice() == WRITTEN;
+    Ok(same && faults == 0)
+}
+
+fn is_read_back(alloc: Global, formula: &CnfFormula<Global>) -> bool {
+    let parsed = DimacsParser::parse(alloc, &mut ReadSource::new(WRITTEN));
+    parsed.is_ok_and(|given| given == *formula)
+}
+
+/// Whether the formula, with three variables, is written and read back.
+fn is_written(alloc: Global, formula: &mut CnfFormula<Global>) -> io::Result<bool> {
+    formula.set_var_count(3);
+    Ok(
+        is_written_in_memory(alloc, formula)?
+            && is_written_out(alloc, formula)?
+            && is_read_back(alloc, formula),
+    )
+}
+
+fn writes(alloc: Global) -> io::Result<bool> {
+    match cnf_formula!(in alloc; 1, -2; ;) {
+        Ok(mut formula) => is_written(alloc, &mut formula),
+        Err(_) => Err(io::Error::from(ErrorKind::OutOfMemory)),
+    }
 }
 
 #[test]
-fn written(rt: HostRuntime) -> io::Result<()> {
-    let alloc = rt.alloc();
-    let Ok(mut formula) = cnf_formula!(in alloc; 1, -2; ;) else {
-        return Err(io::Error::from(ErrorKind::OutOfMemory));
-    };
-    formula.set_var_count(3);
-    let text = b"p cnf 3 2\n1 -2 0\n0\n".as_slice();
-    let mut target = MemoryTarget::new_in(alloc);
-    write_dimacs(&mut target, &formula)?;
-    assert_eq!(rt; target.bytes(), text);
-    let mut output = IoTarget::new(Vec::new(alloc));
-    write_dimacs(&mut output, &formula)?;
-    output.flush()?;
-    assert_eq!(rt; output.faults(), 0);
-    assert_eq!(rt; output.into_inner().as_slice(), text);
-    let parsed = DimacsParser::parse(alloc, &mut ReadSource::new(text));
-    assert!(rt; parsed.is_ok_and(|given| given == formula));
-    Ok(())
+fn written(rt: HostRuntime) {
+    assert!(rt; matches!(writes(rt.alloc()), Ok(true)));
 }
 
 #[test]
@@ -373,54 +464,52 @@ fn error_text(rt: HostRuntime) -> Result<(), AllocError> {
 }
 
 /// How a text was read with little memory.
-#[derive(Clone, Copy, PartialEq, Eq)]
+#[derive(Clone, Copy)]
 enum Reached {
     Ended,
     RanOut,
     Wrong,
 }
 
-/// Reads a text of five lines, each of which has a clause, so that a fault's line tells how many clauses ended before it.
-fn read_five<A: Allocator + Copy>(alloc: A) -> Reached {
-    let mut parser = DimacsParser::new_in(alloc);
-    let fed = parser.feed(b"1 0\n2 0\n3 -4 5 -6 7 0\n8 0\n9 0\n");
-    let ended = parser.finish();
+/// How a text was read that ran out of memory: the fault has to stay, and to tell how many clauses ended before it.
+fn reached_by<A: Allocator + Copy>(parser: &mut DimacsParser<A>, error: DimacsError) -> Reached {
+    let ended = parser.finish() == Err(error);
     let taken = parser.take_formula().len();
-    match fed {
-        Ok(()) if ended.is_ok() && taken == 5 => Reached::Ended,
+    let again = parser.feed(b"1 0") == Err(error) && parser.finish() == Err(error);
+    let is_told = error.kind == DimacsErrorKind::OutOfMemory && ended && again;
+    if is_told && taken < 5 && taken as u64 + 1 == error.line {
+        Reached::RanOut
+    } else {
+        Reached::Wrong
+    }
+}
+
+/// Reads a text of five lines, each of which has a clause, so that a fault's line tells how many clauses ended before it.
+fn read_five<A: Allocator + Copy>(parser: &mut DimacsParser<A>) -> Reached {
+    match parser.feed(b"1 0\n2 0\n3 -4 5 -6 7 0\n8 0\n9 0\n") {
+        Ok(()) if parser.finish().is_ok() && parser.take_formula().len() == 5 => Reached::Ended,
         Ok(()) => Reached::Wrong,
-        Err(error) => {
-            let again = parser.feed(b"1 0") == Err(error) && parser.finish() == Err(error);
-            if error.kind == DimacsErrorKind::OutOfMemory
-                && ended == Err(error)
-                && again
-                && taken < 5
-                && taken as u64 + 1 == error.line
-            {
-                Reached::RanOut
-            } else {
-                Reached::Wrong
-            }
-        }
+        Err(error) => reached_by(parser, error),
     }
 }
 
 /// Reads the five lines on a heap of that many times 16 bytes.
 fn read_with(alloc: Global, room: u8) -> Result<Reached, AllocError> {
     let heap = LocalHeap::new(alloc, 16 * usize::from(room))?;
-    let reached = read_five(&heap);
+    let mut parser = DimacsParser::new_in(&heap);
+    let reached = read_five(&mut parser);
     Ok(reached)
 }
 
 #[test]
-fn each_growth_of_a_text_may_be_refused(rt: HostRuntime) -> Result<(), AllocError> {
-    assert!(rt; read_with(rt.alloc(), 0)? == Reached::RanOut);
+fn each_growth_of_a_text_may_be_refused(rt: HostRuntime) {
+    assert!(rt; matches!(read_with(rt.alloc(), 0), Ok(Reached::RanOut)));
     for room in 0..60 {
+        let reached = read_with(rt.alloc(), room);
         assert!(rt;
-            read_with(rt.alloc(), room)? != Reached::Wrong,
+            matches!(reached, Ok(Reached::Ended | Reached::RanOut)),
             "with {room}"
         );
     }
-    assert!(rt; read_with(rt.alloc(), 60)? == Reached::Ended);
-    Ok(())
+    assert!(rt; matches!(read_with(rt.alloc(), 60), Ok(Reached::Ended)));
 }

@@ -28,80 +28,156 @@ fn clauses(alloc: Global, lists: &[&[i32]]) -> Result<Vec<Vec<u32>>, AllocError>
     Ok(made)
 }
 
-// What the lines are: each is a word, `add` or `delete`, and a clause.
+// A line is a word, `add` or `delete`, and a clause.
+fn line(alloc: Global, word: &str, numbers: &[i32]) -> Result<PlainLine, AllocError> {
+    let named = clause(alloc, numbers)?;
+    let line = if word == "delete" {
+        PlainLine::Deletes(named)
+    } else {
+        PlainLine::Adds(named)
+    };
+    Ok(line)
+}
+
+fn lines(alloc: Global, words: &[(&str, &[i32])]) -> Result<Vec<PlainLine>, AllocError> {
+    let mut made = Vec::new(alloc);
+    for (word, numbers) in words {
+        made.push(line(alloc, word, numbers)?)?;
+    }
+    Ok(made)
+}
+
+// What the lines are.
 fn verdict(
     alloc: Global,
     lists: &[&[i32]],
     words: &[(&str, &[i32])],
 ) -> Result<PlainVerdict, AllocError> {
-    let mut lines = Vec::new(alloc);
-    for (word, numbers) in words {
-        let named = clause(alloc, numbers)?;
-        if *word == "delete" {
-            lines.push(PlainLine::Deletes(named))?;
-        } else {
-            lines.push(PlainLine::Adds(named))?;
-        }
+    let made = lines(alloc, words)?;
+    verdict_on(alloc, lists, &made)
+}
+
+fn verdict_on(
+    alloc: Global,
+    lists: &[&[i32]],
+    made: &[PlainLine],
+) -> Result<PlainVerdict, AllocError> {
+    let held = clauses(alloc, lists)?;
+    check_lines(alloc, &held, made)
+}
+
+const SQUARE: &[&[i32]] = &[&[1, 2], &[-1, 2], &[1, -2], &[-1, -2]];
+
+const OPPOSITES: &[&[i32]] = &[&[1], &[-1]];
+
+const PAIR: &[&[i32]] = &[&[1, 2]];
+
+const TWICE: &[&[i32]] = &[&[1, 2], &[2, 1]];
+
+/// Clauses, lines, and what the lines are.
+type Row = (
+    &'static [&'static [i32]],
+    &'static [(&'static str, &'static [i32])],
+    PlainVerdict,
+);
+
+const ROWS: &[Row] = &[
+    (SQUARE, &[("add", &[2])], PlainVerdict::Refutation),
+    (
+        SQUARE,
+        &[("add", &[2]), ("add", &[])],
+        PlainVerdict::Refutation,
+    ),
+    (SQUARE, &[], PlainVerdict::Derivation),
+    (SQUARE, &[("add", &[])], PlainVerdict::DoesNotFollow(1)),
+    (OPPOSITES, &[], PlainVerdict::Refutation),
+    (OPPOSITES, &[("delete", &[7])], PlainVerdict::Refutation),
+    (PAIR, &[("add", &[1])], PlainVerdict::DoesNotFollow(1)),
+    (
+        PAIR,
+        &[("delete", &[1, 3])],
+        PlainVerdict::DeletesNothing(1),
+    ),
+    (PAIR, &[("delete", &[])], PlainVerdict::DeletesNothing(1)),
+    (PAIR, &[("delete", &[2, 1])], PlainVerdict::Derivation),
+    (
+        PAIR,
+        &[("delete", &[2, 1]), ("delete", &[1, 2])],
+        PlainVerdict::DeletesNothing(2),
+    ),
+    (
+        PAIR,
+        &[("add", &[1, 1, 2]), ("add", &[3, -3])],
+        PlainVerdict::Derivation,
+    ),
+    (
+        TWICE,
+        &[("delete", &[1, 2]), ("delete", &[1, 2])],
+        PlainVerdict::Derivation,
+    ),
+];
+
+#[test]
+fn lines_are_judged(rt: HostRuntime) -> Result<(), AllocError> {
+    for (index, row) in ROWS.iter().enumerate() {
+        let (lists, words, wanted) = *row;
+        assert!(rt; verdict(rt.alloc(), lists, words)? == wanted, "row {index}");
     }
-    let found = check_lines(alloc, &clauses(alloc, lists)?, &lines)?;
-    Ok(found)
-}
-
-#[test]
-fn lines_refute(rt: HostRuntime) -> Result<(), AllocError> {
-    let alloc = rt.alloc();
-    let square: &[&[i32]] = &[&[1, 2], &[-1, 2], &[1, -2], &[-1, -2]];
-    let two = verdict(alloc, square, &[("add", &[2])])?;
-    assert_eq!(rt; two, PlainVerdict::Refutation);
-    let empty = verdict(alloc, square, &[("add", &[2]), ("add", &[])])?;
-    assert_eq!(rt; empty, PlainVerdict::Refutation);
-    let none = verdict(alloc, square, &[])?;
-    assert_eq!(rt; none, PlainVerdict::Derivation);
-    let at_once = verdict(alloc, square, &[("add", &[])])?;
-    assert_eq!(rt; at_once, PlainVerdict::DoesNotFollow(1));
-    let opposites: &[&[i32]] = &[&[1], &[-1]];
-    let before = verdict(alloc, opposites, &[])?;
-    assert_eq!(rt; before, PlainVerdict::Refutation);
-    let not_looked_at = verdict(alloc, opposites, &[("delete", &[7])])?;
-    assert_eq!(rt; not_looked_at, PlainVerdict::Refutation);
     Ok(())
 }
 
-#[test]
-fn lines_derive(rt: HostRuntime) -> Result<(), AllocError> {
-    let alloc = rt.alloc();
-    let pair: &[&[i32]] = &[&[1, 2]];
-    let one = verdict(alloc, pair, &[("add", &[1])])?;
-    assert_eq!(rt; one, PlainVerdict::DoesNotFollow(1));
-    let other = verdict(alloc, pair, &[("delete", &[1, 3])])?;
-    assert_eq!(rt; other, PlainVerdict::DeletesNothing(1));
-    let empty = verdict(alloc, pair, &[("delete", &[])])?;
-    assert_eq!(rt; empty, PlainVerdict::DeletesNothing(1));
-    let turned = verdict(alloc, pair, &[("delete", &[2, 1])])?;
-    assert_eq!(rt; turned, PlainVerdict::Derivation);
-    let again = verdict(alloc, pair, &[("delete", &[2, 1]), ("delete", &[1, 2])])?;
-    assert_eq!(rt; again, PlainVerdict::DeletesNothing(2));
-    let doubled = verdict(alloc, pair, &[("add", &[1, 1, 2]), ("add", &[3, -3])])?;
-    assert_eq!(rt; doubled, PlainVerdict::Derivation);
-    let twice: &[&[i32]] = &[&[1, 2], &[2, 1]];
-    let both = verdict(alloc, twice, &[("delete", &[1, 2]), ("delete", &[1, 2])])?;
-    assert_eq!(rt; both, PlainVerdict::Derivation);
-    Ok(())
+const ALL: &[&[i32]] = &[&[-1, 2], &[-3, 4], &[-2, -4, 5], &[-1, -4, -5]];
+
+const ALL_BUT_ONE: &[&[i32]] = &[&[-1, 2], &[-2, -4, 5], &[-1, -4, -5]];
+
+/// Clauses, a clause, and whether it follows.
+const FOLLOWING: &[(&[&[i32]], &[i32], bool)] = &[
+    (ALL, &[-4, -1], true),
+    (ALL, &[-3, -1], true),
+    (ALL_BUT_ONE, &[-4, -1], true),
+    (ALL_BUT_ONE, &[-3, -1], false),
+];
+
+fn follows_from(alloc: Global, lists: &[&[i32]], numbers: &[i32]) -> Result<bool, AllocError> {
+    let held = clauses(alloc, lists)?;
+    follows_from_held(alloc, &held, numbers)
+}
+
+fn follows_from_held(
+    alloc: Global,
+    held: &[Vec<u32>],
+    numbers: &[i32],
+) -> Result<bool, AllocError> {
+    let named = clause(alloc, numbers)?;
+    follows(alloc, held, &named)
 }
 
 // A learned clause follows without one of the clauses, and the opposites of the decisions do not.
 #[test]
 fn learned_follows(rt: HostRuntime) -> Result<(), AllocError> {
-    let alloc = rt.alloc();
-    let all = clauses(alloc, &[&[-1, 2], &[-3, 4], &[-2, -4, 5], &[-1, -4, -5]])?;
-    let less = clauses(alloc, &[&[-1, 2], &[-2, -4, 5], &[-1, -4, -5]])?;
-    let learned = clause(alloc, &[-4, -1])?;
-    let decisions = clause(alloc, &[-3, -1])?;
-    assert!(rt; follows(alloc, &all, &learned)?);
-    assert!(rt; follows(alloc, &all, &decisions)?);
-    assert!(rt; follows(alloc, &less, &learned)?);
-    assert!(rt; !follows(alloc, &less, &decisions)?);
-    assert!(rt; conflicts(alloc, &all, &clause(alloc, &[1, 3])?)?);
-    assert!(rt; !conflicts(alloc, &all, &clause(alloc, &[1])?)?);
+    for (index, row) in FOLLOWING.iter().enumerate() {
+        let (lists, numbers, wanted) = *row;
+        assert!(rt;
+            follows_from(rt.alloc(), lists, numbers)? == wanted,
+            "row {index}"
+        );
+    }
     Ok(())
+}
+
+fn conflicts_with(alloc: Global, held: &[Vec<u32>], numbers: &[i32]) -> Result<bool, AllocError> {
+    let base = clause(alloc, numbers)?;
+    conflicts(alloc, held, &base)
+}
+
+fn conflict(alloc: Global) -> Result<(bool, bool), AllocError> {
+    let held = clauses(alloc, ALL)?;
+    let both = conflicts_with(alloc, &held, &[1, 3])?;
+    let one = conflicts_with(alloc, &held, &[1])?;
+    Ok((both, one))
+}
+
+#[test]
+fn literals_conflict(rt: HostRuntime) {
+    assert!(rt; matches!(conflict(rt.alloc()), Ok((true, false))));
 }

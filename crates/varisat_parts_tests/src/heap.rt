@@ -2,7 +2,7 @@
 ghost use Rattle.std.specs.Prelude.{◌≡◌, ◌≤◌, ◌<◌, length, IfOk};
 
 use linked_list_allocator::LocalHeap;
-use std::alloc::{AllocError, Allocator};
+use std::alloc::{AllocError, Allocator, Global};
 use varisat_literals::Var;
 use varisat_vsids::Vsids;
 
@@ -43,6 +43,19 @@ fn next_index<A: Allocator + Copy>(vsids: &mut Vsids<A>) -> Option<usize>
     Some(var.index())
 }
 
+/// Takes out as many variables, and says whether they are these in this order.
+fn come<A: Allocator + Copy>(vsids: &mut Vsids<A>, indices: &[usize]) -> bool
+    requires count { length vsids.old.activity ≡ 8 }
+    ensures { length vsids.new.activity ≡ 8 }
+{
+    'indices: for index in indices {
+        if next_index(vsids) != Some(*index) {
+            return false;
+        }
+    }
+    true
+}
+
 #[test]
 fn the_most_active_come_first(rt: HostRuntime) -> Result<(), AllocError> {
     let vsids = eight(rt.alloc(), 950)?;
@@ -51,70 +64,94 @@ fn the_most_active_come_first(rt: HostRuntime) -> Result<(), AllocError> {
     Ok(())
 }
 
-#[test]
-fn later_bumps_add_more(rt: HostRuntime) -> Result<(), AllocError> {
-    let mut vsids = eight(rt.alloc(), 500)?;
-    assert!(rt; next_index(&mut vsids) == Some(7));
-    assert!(rt; next_index(&mut vsids) == Some(6));
-    assert!(rt; next_index(&mut vsids) == Some(5));
-    assert!(rt; next_index(&mut vsids) == Some(4));
+/// Whether the variables that are bumped later overtake those that were bumped more often.
+fn later_bumps_count(vsids: &mut Vsids<Global>) -> bool
+    requires count { length vsids.old.activity ≡ 8 }
+{
+    let first = come(vsids, &[7, 6, 5, 4]);
     vsids.decay();
     vsids.decay();
     'bumped: for index in 0..8 {
-        bump_times(&mut vsids, index, 8 - index);
+        bump_times(vsids, index, 8 - index);
     }
-    let order: Vec<usize> = vsids.map(|var| var.index()).collect(rt.alloc())?;
-    assert!(rt; order.as_slice() == [0, 1, 2, 3].as_slice());
+    let second = come(vsids, &[0, 1, 2, 3]);
+    first && second && next_index(vsids).is_none()
+}
+
+#[test]
+fn later_bumps_add_more(rt: HostRuntime) -> Result<(), AllocError> {
+    let mut vsids = eight(rt.alloc(), 500)?;
+    assert!(rt; later_bumps_count(&mut vsids));
     Ok(())
+}
+
+/// Whether variables that are not available, that are reset and that are bumped come when they should.
+fn calls_count(vsids: &mut Vsids<Global>) -> bool
+    requires count { length vsids.old.activity ≡ 8 }
+{
+    let count = vsids.var_count();
+    vsids.make_unavailable(Var::from_index(7));
+    vsids.make_unavailable(Var::from_index(7));
+    vsids.reset(Var::from_index(6));
+    bump_times(vsids, 3, 3);
+    let third = next_index(vsids);
+    vsids.make_available(Var::from_index(7));
+    vsids.make_available(Var::from_index(7));
+    let others = come(vsids, &[7, 5, 4, 2, 1]);
+    count == 8 && third == Some(3) && others
 }
 
 #[test]
 fn each_call_of_the_heap(rt: HostRuntime) -> Result<(), AllocError> {
     let mut vsids = eight(rt.alloc(), 999)?;
-    assert_eq!(rt; vsids.var_count(), 8);
-    vsids.make_unavailable(Var::from_index(7));
-    vsids.make_unavailable(Var::from_index(7));
-    vsids.reset(Var::from_index(6));
-    vsids.bump(Var::from_index(3));
-    vsids.bump(Var::from_index(3));
-    vsids.bump(Var::from_index(3));
-    assert!(rt; next_index(&mut vsids) == Some(3));
-    vsids.make_available(Var::from_index(7));
-    vsids.make_available(Var::from_index(7));
-    let order: Vec<usize> = vsids.take(5).map(|var| var.index()).collect(rt.alloc())?;
-    assert!(rt; order.as_slice() == [7, 5, 4, 2, 1].as_slice());
+    assert!(rt; calls_count(&mut vsids));
     Ok(())
+}
+
+/// Decays so many times.
+fn decay_times<A: Allocator + Copy>(vsids: &mut Vsids<A>, times: usize)
+    requires count { length vsids.old.activity ≡ 8 }
+    ensures { length vsids.new.activity ≡ 8 }
+{
+    'decays: for _ in 0..times {
+        vsids.decay();
+    }
+}
+
+/// Whether a bump after many decays counts for more than one before them.
+fn shifts_keep_order(vsids: &mut Vsids<Global>) -> bool
+    requires count { length vsids.old.activity ≡ 8 }
+{
+    decay_times(vsids, 50);
+    vsids.bump(Var::from_index(2));
+    decay_times(vsids, 20);
+    vsids.bump(Var::from_index(1));
+    come(vsids, &[1, 2])
 }
 
 #[test]
 fn activities_are_shifted(rt: HostRuntime) -> Result<(), AllocError> {
     let mut vsids = eight(rt.alloc(), 500)?;
-    'first: for _ in 0..50 {
-        vsids.decay();
-    }
-    vsids.bump(Var::from_index(2));
-    'second: for _ in 0..20 {
-        vsids.decay();
-    }
-    vsids.bump(Var::from_index(1));
-    assert!(rt; next_index(&mut vsids) == Some(1));
-    assert!(rt; next_index(&mut vsids) == Some(2));
+    assert!(rt; shifts_keep_order(&mut vsids));
     Ok(())
+}
+
+/// Whether eight variables fit on a heap of that many times 16 bytes, and how many there are then.
+fn count_with(alloc: Global, room: u8) -> Result<(bool, usize), AllocError> {
+    let heap = LocalHeap::new(alloc, 16 * usize::from(room))?;
+    let mut vsids = Vsids::new_in(&heap);
+    let is_grown = vsids.set_var_count(8).is_ok();
+    let count = vsids.var_count();
+    Ok((is_grown, count))
 }
 
 #[test]
 fn each_growth_of_the_heap_may_be_refused(rt: HostRuntime) -> Result<(), AllocError> {
     let mut refused = false;
     for room in 0..20 {
-        let heap = LocalHeap::new(rt.alloc(), 16 * room)?;
-        let mut vsids = Vsids::new_in(&heap);
-        match vsids.set_var_count(8) {
-            Ok(()) => assert_eq!(rt; vsids.var_count(), 8, "with {room}"),
-            Err(_) => {
-                refused = true;
-                assert_eq!(rt; vsids.var_count(), 0, "with {room}");
-            }
-        }
+        let (is_grown, count) = count_with(rt.alloc(), room)?;
+        assert!(rt; count == if is_grown { 8 } else { 0 }, "with {room}");
+        refused = refused || !is_grown;
     }
     assert!(rt; refused);
     Ok(())

@@ -1,9 +1,11 @@
 //! Each call, with ample memory and with little.
 ghost use Rattle.std.specs.Prelude.{◌≡◌, false, IsTrue};
+ghost use Rattle.varisat_names.specs.VarBiMap.{no_pairs};
 ghost use Rattle.varisat_names.specs.VarData.{kept_at};
+ghost use Rattle.varisat_names.specs.Variables.{no_variables};
 
 use linked_list_allocator::LocalHeap;
-use std::alloc::{AllocError, Allocator};
+use std::alloc::{AllocError, Allocator, Global};
 use std::mem::size_of;
 use varisat_literals::{Var, var};
 use varisat_names::variables::Variables;
@@ -73,118 +75,203 @@ fn there_and_back<A: Allocator + Copy>(variables: &Variables<A>, user: Var) -> O
     Some((solver, variables.existing_user_from_solver(solver)))
 }
 
-/// Names three names and takes two solver variables.
-fn is_named<A: Allocator + Copy>(variables: &mut Variables<A>) -> Result<bool, AllocError> {
-    let named = name(variables, var!(3))? && name(variables, var!(2))?;
-    let third = take(variables, var!(3))?;
-    let first = take(variables, var!(1))?;
-    Ok(
-        named
-            && third == Some(var!(1))
-            && first == Some(var!(2))
-            && variables.global_from_user().get(var!(2)) == Some(var!(2))
-            && variables.user_from_global().get(var!(3)) == Some(var!(3))
-            && variables.solver_from_global().get(var!(3)) == Some(var!(1))
-            && variables.global_from_solver().get(var!(2)) == Some(var!(1))
-            && variables.solver_var_present(var!(2))
-            && !variables.solver_var_present(var!(3))
-            && there_and_back(variables, var!(3)) == Some((var!(1), var!(3)))
-            && there_and_back(variables, var!(2)).is_none()
-            && next(variables) == Some((var!(4), var!(4), var!(3))),
-    )
+/// Whether the maps lead from two of three names to the solver variables 2 and 1 and back.
+fn is_mapped<A: Allocator + Copy>(variables: &Variables<A>) -> bool {
+    let globals = [
+        variables.global_from_user().get(var!(2)),
+        variables.global_from_solver().get(var!(2)),
+    ];
+    let names = [
+        variables.user_from_global().get(var!(3)),
+        variables.solver_from_global().get(var!(3)),
+    ];
+    let present = [
+        variables.solver_var_present(var!(2)),
+        variables.solver_var_present(var!(3)),
+    ];
+    globals == [Some(var!(2)), Some(var!(1))]
+        && names == [Some(var!(3)), Some(var!(1))]
+        && present == [true, false]
 }
 
-/// Hides two of the three names, one of which has a solver variable, and names one again.
-fn is_hidden<A: Allocator + Copy>(variables: &mut Variables<A>) -> Result<bool, AllocError> {
-    let hidden = hide(variables, var!(3))? && hide(variables, var!(2))?;
-    let recycled = !is_live(variables, var!(2)) && is_live(variables, var!(3));
+/// Whether the third name leads to its solver variable and back, the second to none, and what is free is as it should be.
+fn is_joined<A: Allocator + Copy>(variables: &Variables<A>) -> bool {
+    let third = there_and_back(variables, var!(3));
+    let second = there_and_back(variables, var!(2));
+    third == Some((var!(1), var!(3)))
+        && second.is_none()
+        && next(variables) == Some((var!(4), var!(4), var!(3)))
+}
+
+/// Names three names and takes two solver variables.
+fn is_named<A: Allocator + Copy>(variables: &mut Variables<A>) -> Result<bool, AllocError> {
+    let third_named = name(variables, var!(3))?;
+    let second_named = name(variables, var!(2))?;
+    let third = take(variables, var!(3))?;
+    let first = take(variables, var!(1))?;
+    let taken = [third, first] == [Some(var!(1)), Some(var!(2))];
+    Ok(third_named && second_named && taken && is_mapped(variables) && is_joined(variables))
+}
+
+/// Hides two of the three names, one of which has a solver variable. Says whether what is free is as it should be.
+fn is_freed<A: Allocator + Copy>(variables: &mut Variables<A>) -> Result<bool, AllocError> {
+    let third = hide(variables, var!(3))?;
+    let second = hide(variables, var!(2))?;
+    let live = [is_live(variables, var!(2)), is_live(variables, var!(3))];
     let free = next(variables) == Some((var!(2), var!(2), var!(3)));
-    let named = name(variables, var!(2))? && name(variables, var!(5))?;
+    Ok(third && second && live == [false, true] && free)
+}
+
+/// Hides those names, and names one again and another.
+fn is_hidden<A: Allocator + Copy>(variables: &mut Variables<A>) -> Result<bool, AllocError> {
+    let freed = is_freed(variables)?;
+    let second = name(variables, var!(2))?;
+    let fifth = name(variables, var!(5))?;
+    let globals = [
+        variables.global_from_user().get(var!(2)),
+        variables.global_from_user().get(var!(4)),
+        variables.global_from_user().get(var!(3)),
+    ];
     Ok(
-        hidden
-            && recycled
-            && free
-            && named
-            && variables.global_from_user().get(var!(2)) == Some(var!(2))
-            && variables.global_from_user().get(var!(4)) == Some(var!(4))
-            && variables.global_from_user().get(var!(3)).is_none()
+        freed
+            && second
+            && fifth
+            && globals == [Some(var!(2)), Some(var!(4)), None]
             && next(variables) == Some((var!(3), var!(6), var!(3))),
     )
 }
 
-#[test]
-fn names_lead_to_variables(rt: HostRuntime) -> Result<(), AllocError> {
-    let mut variables = Variables::new_in(rt.alloc());
-    assert!(rt; next(&variables) == Some((var!(1), var!(1), var!(1))));
-    assert!(rt; is_named(&mut variables)?);
-    assert!(rt; is_hidden(&mut variables)?);
-    assert_eq!(rt; variables.user_watermark(), 5);
-    assert_eq!(rt; variables.global_watermark(), 5);
-    assert_eq!(rt; variables.solver_watermark(), 2);
-    Ok(())
+/// One above the highest name, global variable and solver variable.
+fn watermarks(variables: &Variables<Global>) -> [usize; 3] {
+    [
+        variables.user_watermark(),
+        variables.global_watermark(),
+        variables.solver_watermark(),
+    ]
+}
+
+/// Whether names lead to variables, as long as they are in use.
+fn lead(variables: &mut Variables<Global>) -> Result<bool, AllocError> {
+    let first = next(variables);
+    let named = is_named(variables)?;
+    let hidden = is_hidden(variables)?;
+    let none = first == Some((var!(1), var!(1), var!(1)));
+    Ok(none && named && hidden && watermarks(variables) == [5, 5, 2])
 }
 
 #[test]
-fn each_growth_may_be_refused(rt: HostRuntime) -> Result<(), AllocError> {
+fn names_lead_to_variables(rt: HostRuntime) {
+    let mut variables = Variables::new_in(rt.alloc());
+    assert!(rt; matches!(lead(&mut variables), Ok(true)));
+}
+
+/// Whether the names are right on a heap of that many times 16 bytes.
+fn is_named_with(alloc: Global, room: u8) -> Result<bool, AllocError> {
+    let heap = LocalHeap::new(alloc, 16 * usize::from(room))?;
+    let mut variables = Variables::new_in(&heap);
+    is_named(&mut variables)
+}
+
+#[test]
+fn each_growth_may_be_refused(rt: HostRuntime) {
     let mut refused = false;
     for room in 0..80 {
-        let heap = LocalHeap::new(rt.alloc(), 16 * room)?;
-        let mut variables = Variables::new_in(&heap);
-        match is_named(&mut variables) {
+        match is_named_with(rt.alloc(), room) {
             Ok(right) => assert!(rt; right, "with {room}"),
             Err(_) => refused = true,
         }
     }
     assert!(rt; refused);
-    Ok(())
 }
 
-#[test]
-fn what_is_kept_changes(rt: HostRuntime) -> Result<(), AllocError> {
-    let mut variables = Variables::new_in(rt.alloc());
-    name(&mut variables, var!(2))?;
-    if is_live(&variables, var!(1)) {
+/// Changes all that is kept of the first variable.
+fn change(variables: &mut Variables<Global>) {
+    if is_live(variables, var!(1)) {
         variables.set_unit(var!(1), false);
     }
-    if is_live(&variables, var!(1)) {
+    if is_live(variables, var!(1)) {
         variables.set_isolated(var!(1), false);
     }
-    if is_live(&variables, var!(1)) {
+    if is_live(variables, var!(1)) {
         variables.set_assumed(var!(1), true);
     }
-    if is_live(&variables, var!(1)) {
+    if is_live(variables, var!(1)) {
         variables.set_sampling_mode(var!(1), SamplingMode::Witness);
     }
-    assert_eq!(rt; variables.global_watermark(), 2);
-    let kept = variables.var_data_global(var!(1));
-    assert!(rt; kept.unit == Some(false) && !kept.isolated && kept.assumed && !kept.deleted);
-    assert_eq!(rt; kept.sampling_mode, SamplingMode::Witness);
-    let other = variables.var_data_global(var!(2));
-    assert!(rt; other.unit.is_none() && other.isolated && !other.assumed && !other.deleted);
-    assert_eq!(rt; other.sampling_mode, SamplingMode::Sample);
-    Ok(())
+}
+
+/// What is kept of a variable: its value, whether it is isolated, assumed and deleted, and its mode.
+fn kept(
+    variables: &Variables<Global>,
+    var: Var,
+) -> Option<(Option<bool>, [bool; 3], SamplingMode)> {
+    if var.index() >= variables.global_watermark() {
+        return None;
+    }
+    let data = variables.var_data_global(var);
+    let flags = [data.isolated, data.assumed, data.deleted];
+    Some((data.unit, flags, data.sampling_mode))
+}
+
+/// Whether what is kept of the first of two variables changes, and of the second not.
+fn changes(variables: &mut Variables<Global>) -> Result<bool, AllocError> {
+    name(variables, var!(2))?;
+    change(variables);
+    let first = (Some(false), [false, true, false], SamplingMode::Witness);
+    let second = (None, [true, false, false], SamplingMode::Sample);
+    Ok(
+        variables.global_watermark() == 2
+            && kept(variables, var!(1)) == Some(first)
+            && kept(variables, var!(2)) == Some(second),
+    )
 }
 
 #[test]
-fn maps_go_both_ways(rt: HostRuntime) -> Result<(), AllocError> {
-    let mut map = VarBiMap::new_in(rt.alloc());
-    map.insert(var!(7), var!(2))?;
-    assert_eq!(rt; map.fwd().watermark(), 2);
-    assert_eq!(rt; map.bwd().watermark(), 7);
-    assert!(rt; map.fwd().get(var!(2)) == Some(var!(7)) && map.bwd().get(var!(7)) == Some(var!(2)));
-    assert!(rt; map.fwd().get(var!(1)).is_none() && map.fwd().get(var!(9)).is_none());
-    assert!(rt; map.remove(var!(2)) == Some(var!(7)) && map.remove(var!(2)).is_none());
-    assert!(rt; map.bwd().get(var!(7)).is_none());
-    Ok(())
-}
-
-#[test]
-fn many_names_are_cheap(rt: HostRuntime) -> Result<(), AllocError> {
+fn what_is_kept_changes(rt: HostRuntime) {
     let mut variables = Variables::new_in(rt.alloc());
+    assert!(rt; matches!(changes(&mut variables), Ok(true)));
+}
+
+/// Whether a pair can be found from both sides, and neither once it is taken out.
+fn goes_both_ways(map: &mut VarBiMap<Global>) -> Result<bool, AllocError>
+    requires { map.old ≡ no_pairs }
+{
+    map.insert(var!(7), var!(2))?;
+    let watermarks = (map.fwd().watermark(), map.bwd().watermark());
+    let there = [map.fwd().get(var!(2)), map.bwd().get(var!(7))];
+    let absent = [map.fwd().get(var!(1)), map.fwd().get(var!(9))];
+    let removed = [map.remove(var!(2)), map.remove(var!(2))];
+    let left = map.bwd().get(var!(7));
+    Ok(
+        watermarks == (2, 7)
+            && there == [Some(var!(7)), Some(var!(2))]
+            && absent == [None, None]
+            && removed == [Some(var!(7)), None]
+            && left.is_none(),
+    )
+}
+
+#[test]
+fn maps_go_both_ways(rt: HostRuntime) {
+    let mut map = VarBiMap::new_in(rt.alloc());
+    assert!(rt; matches!(goes_both_ways(&mut map), Ok(true)));
+}
+
+/// Whether a high name brings as many names and global variables, and no solver variable.
+fn is_high(variables: &mut Variables<Global>) -> Result<bool, AllocError>
+    requires { variables.old ≡ no_variables }
+{
     variables.name_user_var(Var::from_index(99_999))?;
-    assert_eq!(rt; variables.user_watermark(), 100_000);
-    assert_eq!(rt; variables.global_watermark(), 100_000);
-    assert_eq!(rt; variables.solver_watermark(), 0);
+    Ok(watermarks(variables) == [100_000, 100_000, 0])
+}
+
+#[test]
+fn many_names_are_cheap(rt: HostRuntime) {
+    let mut variables = Variables::new_in(rt.alloc());
+    assert!(rt; matches!(is_high(&mut variables), Ok(true)));
+}
+
+#[test]
+fn what_is_kept_is_small(rt: HostRuntime) {
     assert!(rt; size_of::<VarData>() <= 8, "{} bytes", size_of::<VarData>());
-    Ok(())
 }

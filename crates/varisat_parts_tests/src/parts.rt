@@ -1,99 +1,202 @@
 //! Each call of the parts, with ample memory and with little.
+ghost use Rattle.std.specs.Prelude.{◌≡◌, ◌<◌, ◌∷◌, [], length, OnOk};
+ghost use Rattle.varisat_theory.specs.Literals.{variable_of};
+ghost use Rattle.varisat_prop.specs.Parts.{no_values, empty_trail};
+
 use linked_list_allocator::LocalHeap;
-use std::alloc::{AllocError, Allocator};
-use varisat_literals::{lit, lits, var};
+use std::alloc::{AllocError, Allocator, Global};
+use varisat_literals::{Lit, lit, lits, var};
 use varisat_prop::clause::{ClauseAlloc, ClauseHeader, ClauseRef};
 use varisat_prop::prop::{Assignment, Conflict, ImplGraph, Reason, Trail, enqueue_assignment};
 
-#[test]
-fn values(rt: HostRuntime) -> Result<(), AllocError> {
-    let mut assignment = Assignment::new_in(rt.alloc());
-    assignment.set_var_count(3)?;
+/// The literal's value, and whether it is true, false and without a value.
+fn told(assignment: &Assignment<Global>, literal: Lit) -> (Option<bool>, [bool; 3])
+    requires { variable_of literal < length assignment.now.current }
+{
+    let flags = [
+        assignment.lit_is_true(literal),
+        assignment.lit_is_false(literal),
+        assignment.lit_is_unk(literal),
+    ];
+    (assignment.lit_value(literal), flags)
+}
+
+/// Whether a literal is told as true once it is made true.
+fn is_assigned(assignment: &mut Assignment<Global>) -> bool
+    requires { length assignment.old.current ≡ 3 }
+    ensures { length assignment.new.current ≡ 3 }
+{
     assignment.assign_lit(lit!(-2));
-    assert!(rt; assignment.assignment() == [None, Some(false), None].as_slice());
-    assert!(rt; assignment.lit_is_true(lit!(-2)) && assignment.lit_is_false(lit!(2)));
-    assert!(rt; assignment.lit_is_unk(lit!(3)) && assignment.lit_value(lit!(3)).is_none());
-    assert!(rt; assignment.lit_value(lit!(2)) == Some(false));
+    let is_listed = assignment.assignment() == [None, Some(false), None].as_slice();
+    is_listed
+        && told(assignment, lit!(-2)) == (Some(true), [true, false, false])
+        && told(assignment, lit!(2)) == (Some(false), [false, true, false])
+        && told(assignment, lit!(3)) == (None, [false, false, true])
+}
+
+/// Whether a value that is released is remembered, and one that is taken away is gone.
+fn is_taken_away(assignment: &mut Assignment<Global>) -> bool
+    requires { length assignment.old.current ≡ 3 }
+{
     assignment.set_var(var!(1), Some(true));
     assignment.release_var(var!(1));
-    assert!(rt; assignment.var_value(var!(1)).is_none());
-    assert!(rt; assignment.last_var_value(var!(1)) && !assignment.last_var_value(var!(2)));
+    let released = assignment.var_value(var!(1));
+    let last = [
+        assignment.last_var_value(var!(1)),
+        assignment.last_var_value(var!(2)),
+    ];
     assignment.unassign_var(var!(2));
-    assert!(rt; assignment.var_value(var!(2)).is_none());
-    Ok(())
+    let unassigned = assignment.var_value(var!(2));
+    released.is_none() && last == [true, false] && unassigned.is_none()
+}
+
+fn keeps_values(assignment: &mut Assignment<Global>) -> Result<bool, AllocError>
+    requires { assignment.old ≡ no_values }
+{
+    assignment.set_var_count(3)?;
+    Ok(is_assigned(assignment) && is_taken_away(assignment))
 }
 
 #[test]
-fn trails(rt: HostRuntime) -> Result<(), AllocError> {
-    let mut trail = Trail::new_in(rt.alloc());
-    assert!(rt; trail.fully_propagated() && trail.queue_head().is_none());
+fn values(rt: HostRuntime) {
+    let mut assignment = Assignment::new_in(rt.alloc());
+    assert!(rt; matches!(keeps_values(&mut assignment), Ok(true)));
+}
+
+/// Whether all is propagated, the first literal that is not, and the level.
+fn state(trail: &Trail<Global>) -> (bool, Option<Lit>, usize) {
+    let is_done = trail.fully_propagated();
+    (is_done, trail.queue_head(), trail.current_level())
+}
+
+/// Whether a trail of a literal and a decision is told as it is, and which literals are propagated.
+fn is_pushed(trail: &mut Trail<Global>) -> Result<bool, AllocError>
+    requires { trail.old ≡ empty_trail }
+    ensures { OnOk result (trail.new ≡ record { literals = 4 ∷ 1 ∷ []; queue_head = 1; decisions = 1 ∷ []; units_removed = 0 }) }
+{
+    let empty = state(trail);
     trail.push(lit!(3))?;
     trail.new_decision_level()?;
     trail.push(lit!(-1))?;
-    assert!(rt; trail.trail() == lits![3, -1].as_slice());
-    assert_eq!(rt; trail.current_level(), 1);
-    assert!(rt; trail.pop_queue() == Some(lit!(3)) && trail.queue_head() == Some(lit!(-1)));
-    assert!(rt; !trail.fully_propagated());
+    let head = trail.pop_queue();
+    Ok(
+        empty == (true, None, 0)
+            && head == Some(lit!(3))
+            && state(trail) == (false, Some(lit!(-1)), 1)
+            && trail.trail() == lits![3, -1].as_slice(),
+    )
+}
+
+/// Whether the queue of that trail ends and begins again.
+fn is_queued(trail: &mut Trail<Global>) -> bool
+    requires { trail.old ≡ record { literals = 4 ∷ 1 ∷ []; queue_head = 1; decisions = 1 ∷ []; units_removed = 0 } }
+    ensures { trail.new ≡ record { literals = 4 ∷ 1 ∷ []; queue_head = 0; decisions = 1 ∷ []; units_removed = 0 } }
+{
     trail.end_queue();
-    assert!(rt; trail.fully_propagated() && trail.pop_queue().is_none());
+    let ended = state(trail);
+    let none = trail.pop_queue();
     trail.reset_queue();
-    assert!(rt; trail.queue_head() == Some(lit!(3)));
-    assert_eq!(rt; trail.top_level_assignment_count(), 1);
-    assert_eq!(rt; trail.level_end(0), 1);
+    let again = state(trail);
+    ended == (true, None, 1) && none.is_none() && again == (false, Some(lit!(3)), 1)
+}
+
+/// Whether that trail is taken off down to its level 0, and then whole.
+fn is_taken_off(trail: &mut Trail<Global>) -> bool
+    requires { trail.old ≡ record { literals = 4 ∷ 1 ∷ []; queue_head = 0; decisions = 1 ∷ []; units_removed = 0 } }
+{
+    let places = [trail.top_level_assignment_count(), trail.level_end(0)];
     trail.truncate(0);
-    assert!(rt; trail.trail() == lits![3].as_slice() && trail.current_level() == 0);
+    let is_cut = trail.trail() == lits![3].as_slice() && trail.current_level() == 0;
     trail.clear();
-    assert!(rt; trail.trail().is_empty() && trail.fully_propagated());
-    assert_eq!(rt; trail.top_level_assignment_count(), 1);
-    Ok(())
+    let is_clear = trail.trail().is_empty() && trail.fully_propagated();
+    places == [1, 1] && is_cut && is_clear && trail.top_level_assignment_count() == 1
+}
+
+fn keeps_trail(trail: &mut Trail<Global>) -> Result<bool, AllocError>
+    requires { trail.old ≡ empty_trail }
+{
+    let pushed = is_pushed(trail)?;
+    let queued = is_queued(trail);
+    let taken_off = is_taken_off(trail);
+    Ok(pushed && queued && taken_off)
 }
 
 #[test]
-fn nodes(rt: HostRuntime) -> Result<(), AllocError> {
-    let mut graph = ImplGraph::new_in(rt.alloc());
+fn trails(rt: HostRuntime) {
+    let mut trail = Trail::new_in(rt.alloc());
+    assert!(rt; matches!(keeps_trail(&mut trail), Ok(true)));
+}
+
+/// Whether reasons and units that were taken off are kept.
+fn keeps_nodes(graph: &mut ImplGraph<Global>) -> Result<bool, AllocError>
+    requires { graph.old.nodes.items ≡ [] }
+{
     graph.set_var_count(2)?;
-    assert!(rt; graph.reason(var!(2)).is_unit() && graph.level(var!(2)) == 0);
-    assert!(rt; graph.depth(var!(2)) == 0 && !graph.is_removed_unit(var!(2)));
+    let is_unit = graph.reason(var!(2)).is_unit();
+    let began = (graph.level(var!(2)), graph.depth(var!(2)));
+    let was_removed = graph.is_removed_unit(var!(2));
     graph.update_reason(var!(2), Reason::Long(ClauseRef::from_place(4)));
-    assert!(rt; *graph.reason(var!(2)) == Reason::Long(ClauseRef::from_place(4)));
+    let reason = *graph.reason(var!(2));
     graph.update_removed_unit(var!(2));
-    assert!(rt; graph.is_removed_unit(var!(2)) && !graph.is_removed_unit(var!(1)));
-    Ok(())
+    let removed = [
+        graph.is_removed_unit(var!(1)),
+        graph.is_removed_unit(var!(2)),
+    ];
+    Ok(
+        is_unit
+            && began == (0, 0)
+            && !was_removed
+            && reason == Reason::Long(ClauseRef::from_place(4))
+            && removed == [false, true],
+    )
 }
 
 #[test]
-fn clauses(rt: HostRuntime) -> Result<(), AllocError> {
-    let mut clauses = ClauseAlloc::new_in(rt.alloc());
+fn nodes(rt: HostRuntime) {
+    let mut graph = ImplGraph::new_in(rt.alloc());
+    assert!(rt; matches!(keeps_nodes(&mut graph), Ok(true)));
+}
+
+/// Whether two clauses are kept with their headers.
+fn keeps_clauses(clauses: &mut ClauseAlloc<Global>) -> Result<bool, AllocError>
+    requires { clauses.old ≡ [] }
+{
     let first = clauses.add_clause(ClauseHeader::new(), &lits![-1, 3])?;
     let mut header = ClauseHeader::new();
     header.set_redundant(true);
-    let cref = clauses.add_clause(header, &lits![1, -2, 3])?;
-    assert_eq!(rt; clauses.len(), 2);
-    assert!(rt; clauses.header(cref).redundant() && !clauses.header(first).redundant());
-    assert!(rt; clauses.clause(cref) == lits![1, -2, 3].as_slice());
-    assert!(rt; Conflict::Long(cref).lits(&clauses).len() == 3);
-    if clauses.clause(cref).len() == 3 {
-        clauses.put_first(cref, 2);
+    let second = clauses.add_clause(header, &lits![1, -2, 3])?;
+    let redundant = [
+        clauses.header(first).redundant(),
+        clauses.header(second).redundant(),
+    ];
+    let is_listed = clauses.clause(second) == lits![1, -2, 3].as_slice();
+    let length = Conflict::Long(second).lits(clauses).len();
+    let count = clauses.len();
+    if clauses.clause(second).len() == 3 {
+        clauses.put_first(second, 2);
     }
-    assert_eq!(rt; clauses.len(), 2);
-    Ok(())
+    Ok(redundant == [false, true] && is_listed && length == 3 && [count, clauses.len()] == [2, 2])
 }
 
-/// Makes a literal true. Says whether there was memory for it.
-fn is_enqueued<A: Allocator + Copy>(alloc: A) -> Result<bool, AllocError> {
-    let mut assignment = Assignment::new_in(alloc);
-    let mut graph = ImplGraph::new_in(alloc);
-    let mut trail = Trail::new_in(alloc);
+#[test]
+fn clauses(rt: HostRuntime) {
+    let mut clauses = ClauseAlloc::new_in(rt.alloc());
+    assert!(rt; matches!(keeps_clauses(&mut clauses), Ok(true)));
+}
+
+/// Makes a literal true, and says whether it is noted.
+fn enqueue<A: Allocator + Copy>(
+    assignment: &mut Assignment<A>,
+    graph: &mut ImplGraph<A>,
+    trail: &mut Trail<A>,
+) -> Result<bool, AllocError>
+    requires values { assignment.old ≡ no_values }
+    requires nodes { graph.old.nodes.items ≡ [] }
+{
     assignment.set_var_count(2)?;
     graph.set_var_count(2)?;
     trail.new_decision_level()?;
-    enqueue_assignment(
-        &mut assignment,
-        &mut graph,
-        &mut trail,
-        lit!(-2),
-        Reason::Unit,
-    )?;
+    enqueue_assignment(assignment, graph, trail, lit!(-2), Reason::Unit)?;
     let is_noted = match graph.nodes.get(1) {
         Some(node) => node.reason.is_unit() && node.level == 1 && node.depth == 1,
         None => false,
@@ -101,17 +204,29 @@ fn is_enqueued<A: Allocator + Copy>(alloc: A) -> Result<bool, AllocError> {
     Ok(is_noted && assignment.assignment() == [None, Some(false)].as_slice())
 }
 
+/// Makes a literal true. Says whether there was memory for it.
+fn is_enqueued<A: Allocator + Copy>(alloc: A) -> Result<bool, AllocError> {
+    let mut assignment = Assignment::new_in(alloc);
+    let mut graph = ImplGraph::new_in(alloc);
+    let mut trail = Trail::new_in(alloc);
+    enqueue(&mut assignment, &mut graph, &mut trail)
+}
+
+/// Makes a literal true on a heap of that many times 16 bytes.
+fn is_enqueued_with(alloc: Global, room: u8) -> Result<bool, AllocError> {
+    let heap = LocalHeap::new(alloc, 16 * usize::from(room))?;
+    is_enqueued(&heap)
+}
+
 #[test]
-fn each_growth_may_be_refused(rt: HostRuntime) -> Result<(), AllocError> {
+fn each_growth_may_be_refused(rt: HostRuntime) {
     let mut refused = false;
-    assert!(rt; is_enqueued(rt.alloc())?);
+    assert!(rt; matches!(is_enqueued(rt.alloc()), Ok(true)));
     for room in 0..20 {
-        let heap = LocalHeap::new(rt.alloc(), 16 * room)?;
-        match is_enqueued(&heap) {
+        match is_enqueued_with(rt.alloc(), room) {
             Ok(right) => assert!(rt; right, "with {room}"),
             Err(_) => refused = true,
         }
     }
     assert!(rt; refused);
-    Ok(())
 }

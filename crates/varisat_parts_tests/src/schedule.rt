@@ -2,7 +2,6 @@
 ghost use Rattle.std.specs.Prelude.{◌<◌};
 
 use std::alloc::{AllocError, Global};
-use std::test::Fail;
 use varisat_schedule::luby::LubySequence;
 use varisat_schedule::schedule::Schedule;
 
@@ -16,14 +15,17 @@ fn terms(alloc: Global, count: u8) -> Result<Vec<u64>, AllocError> {
     Ok(terms)
 }
 
+/// Whether the first terms are these, and some later ones.
+fn are_terms(terms: &[u64]) -> bool {
+    let first = [1, 1, 2, 1, 1, 2, 4, 1, 1, 2, 1, 1, 2, 4, 8].as_slice();
+    let later = [terms.get(30), terms.get(62), terms.get(63)];
+    terms.starts_with(first) && later == [Some(&16), Some(&32), Some(&1)]
+}
+
 #[test]
-fn terms_are_given(rt: HostRuntime) -> Result<(), Fail> {
-    let first = terms(rt.alloc(), 15)?;
-    assert!(rt; first.as_slice() == [1, 1, 2, 1, 1, 2, 4, 1, 1, 2, 1, 1, 2, 4, 8].as_slice());
+fn terms_are_given(rt: HostRuntime) -> Result<(), AllocError> {
     let terms = terms(rt.alloc(), 64)?;
-    assert!(rt; terms.get(30) == Some(&16));
-    assert!(rt; terms.get(62) == Some(&32));
-    assert!(rt; terms.get(63) == Some(&1));
+    assert!(rt; are_terms(&terms));
     Ok(())
 }
 
@@ -47,23 +49,22 @@ fn restarts(alloc: Global, first: u64, later: u64, steps: u64) -> Result<Vec<u64
     Ok(restarts)
 }
 
-#[test]
-fn restarts_are_at_the_points(rt: HostRuntime) -> Result<(), Fail> {
-    let points = restarts(rt.alloc(), 128, 128, 641)?;
-    assert!(rt; points.as_slice() == [0, 128, 256, 512, 640].as_slice());
-    Ok(())
-}
+/// The scale of the first restart, that of the others, how many steps there are, and which begin with a restart.
+const RESTARTS: &[(u64, u64, u64, &[u64])] = &[
+    (128, 128, 641, &[0, 128, 256, 512, 640]),
+    // A scale counts from the next point.
+    (128, 10, 200, &[0, 128, 138, 158, 168, 178, 198]),
+    // The largest scale restarts once.
+    (u64::MAX, u64::MAX, 100, &[0]),
+];
 
 #[test]
-fn a_scale_counts_from_the_next_point(rt: HostRuntime) -> Result<(), Fail> {
-    let points = restarts(rt.alloc(), 128, 10, 200)?;
-    assert!(rt; points.as_slice() == [0, 128, 138, 158, 168, 178, 198].as_slice());
-    Ok(())
-}
-
-#[test]
-fn the_largest_scale_restarts_once(rt: HostRuntime) -> Result<(), Fail> {
-    let points = restarts(rt.alloc(), u64::MAX, u64::MAX, 100)?;
-    assert!(rt; points.as_slice() == [0].as_slice());
+fn restarts_are_at_the_points(rt: HostRuntime) -> Result<(), AllocError> {
+    for row in RESTARTS {
+        let (first, later, steps, points) = *row;
+        assert!(rt; 0 < first && 0 < later);
+        let found = restarts(rt.alloc(), first, later, steps)?;
+        assert!(rt; found.as_slice() == points, "with {first} and {later}");
+    }
     Ok(())
 }

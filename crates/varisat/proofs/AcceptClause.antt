@@ -1,10 +1,10 @@
 -- A clause is accepted: its names come into use, their variables take solver variables, and it is loaded.
-use Rattle.std.proofs.Common.{◌≡◌, ◌≢◌, ℕ, zero, suc, ◌+◌, ◌-◌, ◌<◌, ◌≤◌, max, nat_lt, if◌then◌else◌, Bool, true, false, Option, Some, None, List, [], ◌∷◌, ◌++◌, ◌⊎◌, inl, inr, ⊎_elim, length, map, sym, ap, ap₂, ◌∙◌, subst, refl, arith, rules}
+use Rattle.std.proofs.Common.{◌≡◌, ◌≢◌, ℕ, zero, suc, ◌+◌, ◌-◌, ◌<◌, ◌≤◌, nat_lt, if◌then◌else◌, Bool, true, false, Option, Some, None, List, [], ◌∷◌, inl, inr, ⊎_elim, length, map, sym, ap, ap₂, ◌∙◌, subst, refl, arith, rules}
 use Rattle.std.proofs.lemmas.Bool.{lt-ltb, cases_lt}
 use Rattle.varisat_theory.specs.Membership.{◌∈◌}
-use Rattle.varisat_theory.specs.Literals.{Literal, Clause, Assignment, variable_of}
+use Rattle.varisat_theory.specs.Literals.{Literal, Clause, variable_of}
 use Rattle.varisat_theory.specs.Derivations.{Line}
-use Rattle.varisat_theory.specs.Searches.{Search, IsLiteralOf}
+use Rattle.varisat_theory.specs.Searches.{IsLiteralOf}
 use Rattle.varisat_theory.specs.Outcomes.{Outcome, Loads, Proves}
 use Rattle.varisat_theory.specs.Outcomes as outcome
 use Rattle.varisat_theory.proofs.Renaming.{∈-map, map-∈}
@@ -15,31 +15,31 @@ use Rattle.varisat_search.specs.declared.state.SatState.{SatState}
 use Rattle.varisat_search.specs.declared.state.SatState.TheVariants as verdict
 use Rattle.varisat_search.specs.Seen.{search_of, outcome_of}
 use Rattle.varisat_search.specs.Steps.{assignment_of}
-use Rattle.varisat_names.specs.Maps.{updated, chain}
+use Rattle.varisat_names.specs.Maps.{chain}
 use Rattle.varisat_names.specs.VarMap.{at, IsFull}
 use Rattle.varisat_names.specs.VarData.{fresh, kept_at}
-use Rattle.varisat_names.specs.Variables.{Tables, IsGiven, AreNextGiven, IsTaken, IsNothingHidden}
+use Rattle.varisat_names.specs.Variables.{Tables, IsGiven, AreNextGiven, IsTaken}
 use Rattle.varisat_names.proofs.Maps.{updated-at, updated-other, updated-all, chain-some, chain-through, is-some}
 use Rattle.varisat.specs.States.{State, Ledger, join_counted, Verdict, Unknown, Sat, Unsat}
 use Rattle.varisat.specs.Names.{bring, bring_next, bring_if_free, name_one, name_all, through_names}
-use Rattle.varisat.specs.Calls.{VerdictAfter, Refuted, Reopened, append_clause, start, reopened_verdict, with_verdict}
+use Rattle.varisat.specs.Calls.{VerdictAfter, Refuted, Reopened, append_clause, reopened_verdict, with_verdict}
 use Rattle.varisat.specs.Carried.{carry, value_or}
 use Rattle.varisat.specs.Spaces.{Spaces, Carrying, IsWide, translation, SearchHolds, VerdictFits, Links, SpacesFit}
 use Rattle.varisat.specs.Summaries.{Summary, spaces, spaces_of, StandsFor}
 use Rattle.varisat.specs.Searches.{IsOpen}
-use Rattle.varisat.specs.Accepting.{IsPlain, AreNamedInTurn, AreTakenInTurn, HasSolver, AreTakenFor, AreJoined}
-use Rattle.varisat.proofs.SpacesMoves.{give, take_solver, count, AreTaken, solver_literal, IsTouched, accept, AreLong, AreInUse}
+use Rattle.varisat.specs.Accepting.{IsPlain, AreNamedInTurn, AreTakenInTurn, AreTakenFor, AreJoined}
+use Rattle.varisat.proofs.SpacesMoves.{give, take_solver, count, solver_literal, AreLong, AreInUse}
 use Rattle.varisat.proofs.NewNames.{given}
 use Rattle.varisat.proofs.Counted.{counted, join-more, join-has, join-only, join-once}
 use Rattle.varisat.proofs.AcceptSolverVariables.{taken, solvers-few}
 use Rattle.varisat.proofs.Relinked.{relinked}
 use Rattle.varisat.proofs.SearchHeld.{held-on}
 use Rattle.varisat.proofs.AcceptLoad.{loaded}
-use Rattle.varisat.proofs.SolveVerdict.{decide, forgotten, AreSame, spaces-same}
-use Rattle.varisat.proofs.Carried.{carry-at, carry-variable}
+use Rattle.varisat.proofs.SolveVerdict.{forgotten, spaces-same}
+use Rattle.varisat.proofs.Carried.{carry-at}
 use Rattle.varisat.proofs.PlainTables.{next-plain, named-plain, taken-plain, taken-in-turn-plain, taken-users}
 use Rattle.varisat.proofs.SearchViews.{view-long, view-inside}
-use Rattle.varisat.proofs.NamesInOrder.{rest-all, rest-one}
+use Rattle.varisat.proofs.NamesInOrder.{rest-all}
 
 abbrev pub with_tables : Tables → Summary → Summary
 with_tables t g = record g { tables = t }

@@ -1,11 +1,11 @@
 -- A clause is accepted.
-use Rattle.std.proofs.Common.{◌≡◌, ◌≢◌, ℕ, ◌<◌, ◌≤◌, Bool, true, false, Option, Some, List, [], ◌∷◌, ◌++◌, ◌⊎◌, inl, inr, ⊎_elim, sym, ap, ◌∙◌, subst, refl, map, length, arith}
+use Rattle.std.proofs.Common.{◌≡◌, ◌≢◌, ℕ, ◌<◌, Bool, true, false, Some, List, [], ◌∷◌, ◌++◌, inl, inr, ⊎_elim, sym, ap, ◌∙◌, subst, refl, map}
 use Rattle.std.proofs.lemmas.List.{map-append}
-use Rattle.varisat_theory.specs.Membership.{◌∈◌, ◌⊆◌}
-use Rattle.varisat_theory.specs.Literals.{Literal, Clause, Assignment, variable_of, opposite, IsUnit, Satisfies, SatisfiesAll, IsSatisfiable}
+use Rattle.varisat_theory.specs.Membership.{◌∈◌}
+use Rattle.varisat_theory.specs.Literals.{Literal, Clause, variable_of, opposite, IsUnit, Satisfies}
 use Rattle.varisat_theory.specs.Renaming.{rename}
 use Rattle.varisat_theory.specs.Derivations.{Line}
-use Rattle.varisat_theory.specs.Searches.{Search, IsLiteralOf, Covers, CoversBy, IsCoveredBySearch, Tautology, KnownTrue, FixedTrue, Kept}
+use Rattle.varisat_theory.specs.Searches.{Search, Covers, CoversBy, IsCoveredBySearch, Tautology, KnownTrue, FixedTrue, Kept}
 use Rattle.varisat_theory.specs.Outcomes.{Outcome, Loads, IsReached}
 use Rattle.varisat_theory.specs.Outcomes as outcome
 use Rattle.varisat_theory.proofs.Members.{∈-or_not, ∈-append_cases, ∈-append_left, ∈-append_right}
@@ -19,10 +19,10 @@ use Rattle.varisat_literals.specs.Numbers.{polarity_of}
 use Rattle.varisat_prop.proofs.LiteralValues.{own-opposite, same-literal, variable-opposite}
 use Rattle.varisat_names.specs.Maps.{chain}
 use Rattle.varisat_names.specs.declared.variables.data.VarData.{VarData}
-use Rattle.varisat.specs.States.{State, Verdict, Unknown, Sat, Unsat, IsRight}
-use Rattle.varisat.specs.Names.{identity_of, through_names}
+use Rattle.varisat.specs.States.{State, Verdict, Unknown, Unsat, IsRight}
+use Rattle.varisat.specs.Names.{through_names}
 use Rattle.varisat.specs.Calls.{ContradictsUnit, VerdictAfter, Refuted, Reopened}
-use Rattle.varisat.specs.Carried.{carry, AgreesAlong, is_forced}
+use Rattle.varisat.specs.Carried.{carry, is_forced}
 use Rattle.varisat.specs.Spaces.{Spaces, Carrying, IsWide, IsApart, IsolationCase, NotIsolated, Apart, Forced, IsolationFits, Translation, translation, SearchHolds, VerdictFits, Links}
 use Rattle.varisat.proofs.SpacesMoves.{AreTaken, solver_literal, IsTouched, accept, AreLong, AreInUse}
 use Rattle.varisat_names.proofs.Maps.{chain-some, chain-through}

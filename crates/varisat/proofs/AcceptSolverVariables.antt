@@ -1,22 +1,20 @@
 -- Solver variables that are taken, and how many there are.
-use Rattle.std.proofs.Common.{◌≡◌, ◌≢◌, ℕ, zero, suc, ◌<◌, ◌≤◌, Bool, Option, Some, None, false, List, [], ◌∷◌, inl, inr, ⊎_elim, length, sym, ap, ◌∙◌, subst, refl, arith}
-use Rattle.varisat_theory.specs.Membership.{◌∈◌, ◌⊆◌, IsDistinct}
+use Rattle.std.proofs.Common.{◌≡◌, ◌≢◌, ℕ, zero, suc, ◌<◌, ◌≤◌, Option, Some, None, false, List, [], ◌∷◌, inl, inr, ⊎_elim, length, sym, ap, ◌∙◌, subst, refl, arith}
+use Rattle.varisat_theory.specs.Membership.{◌∈◌, IsDistinct}
 use Rattle.varisat_theory.specs.Literals.{Literal, Clause, variable_of}
-use Rattle.varisat_theory.specs.Renaming.{rename}
-use Rattle.varisat_theory.specs.Searches.{Search, IsLiteralOf, IsCoveredBySearch, Tautology, KnownTrue, FixedTrue, Kept}
+use Rattle.varisat_theory.specs.Searches.{IsLiteralOf, IsCoveredBySearch, Tautology, KnownTrue, FixedTrue, Kept}
 use Rattle.varisat_theory.specs.Outcomes.{IsReached}
 use Rattle.varisat_theory.proofs.Members.{equal_or_not}
 use Rattle.varisat_theory.proofs.Count.{length-distinct}
 use Rattle.varisat_literals.specs.Numbers.{polarity_of}
-use Rattle.varisat_names.specs.Maps.{updated, onward, chain}
-use Rattle.varisat_names.specs.declared.variables.data.VarData.{VarData}
+use Rattle.varisat_names.specs.Maps.{updated, onward}
 use Rattle.varisat.specs.States.{State}
 use Rattle.varisat.specs.Names.{identity_of}
-use Rattle.varisat.specs.Carried.{carry, is_value, is_forced}
+use Rattle.varisat.specs.Carried.{carry, is_forced}
 use Rattle.varisat.specs.Spaces.{Spaces, Carrying, Translation, translation, SearchHolds, Links}
 use Rattle.varisat.proofs.SpacesMoves.{take_solver}
 use Rattle.varisat_names.proofs.Maps.{updated-at, updated-other, updated-all, joined, chain-some, chain-none, chain-through, is-some}
-use Rattle.varisat.proofs.SpacesAgree.{carry-same, rename-same, covered-same}
+use Rattle.varisat.proofs.SpacesAgree.{carry-same, rename-same}
 use Rattle.varisat.proofs.NewNames.{linked}
 use Rattle.varisat.proofs.Relinked.{relinked}
 

@@ -1,5 +1,5 @@
 -- Texts whose clauses are added, piece by piece.
-use Rattle.std.proofs.Common.{◌≡◌, ℕ, ◌+◌, List, [], ◌++◌, ◌⊎◌, inl, inr, Bool, false, Option, Some, None, Result, Ok, Err, take, drop, refl, sym, ap, subst, ◌∙◌, append_assoc, append-nil, take-append-drop, arith}
+use Rattle.std.proofs.Common.{◌≡◌, ℕ, ◌+◌, List, [], ◌++◌, inl, inr, Bool, false, Option, Some, None, Result, Ok, Err, take, drop, refl, sym, ap, subst, ◌∙◌, append_assoc, append-nil, take-append-drop, arith}
 use Rattle.varisat_theory.specs.Literals.{Clause}
 use Rattle.varisat_formula.specs.declared.dimacs.error.DimacsError.{DimacsError}
 use Rattle.varisat_formula.specs.declared.dimacs.error.DimacsErrorKind.TheVariants as kind
@@ -16,7 +16,7 @@ use Rattle.varisat.specs.Additions as additions
 use Rattle.varisat.specs.Additions.{Gave, ClauseRefused, ClausesAdded, RefusedEarly, FaultInText, Whole, MemoryRanOut, SourceFailed}
 use Rattle.varisat.specs.Calls.{adding, AddsAll, AddsReading, TellsFault}
 use Rattle.varisat.specs.declared.solver.SolverError.{SolverError}
-use Rattle.varisat.proofs.Additions.{adds-more, adds-longer}
+use Rattle.varisat.proofs.Additions.{adds-more}
 
 abbrev pub AddsGiven : {old new : Stand} → Gave old new → State → Result (Unit {0}) SolverError → State → Type 0
 AddsGiven g s r t = additions.AddsGiven adding g s r t

@@ -1,11 +1,20 @@
 -- States after a call that changed nothing more, and after one that ran out of memory.
-use Rattle.std.proofs.Common.{◌≡◌, ◌∙◌, true, false, refl, ap}
-use Rattle.varisat.specs.States.{State, IsWellFormed}
+use Rattle.std.proofs.Common.{◌≡◌, ◌∙◌, ℕ, Bool, true, false, refl, ap}
+use Rattle.varisat_names.specs.Settings.{Settings}
+use Rattle.varisat.specs.States.{State, Ledger, IsWellFormed}
 use Rattle.varisat.specs.Calls.{IsLike, IsValid, Invalidates}
 use Rattle.varisat.specs.Summaries.{Summary, StandsFor}
 
 pub like-refl : (s : State) → IsLike s s
 like-refl s = record { made = refl; names = refl; watermark = refl; modes = refl; clauses = refl; assumptions = refl; counted = refl; verdict = refl; ledger = refl }
+
+-- a ledger by what it tells
+abbrev pub ledger_of : Bool → Bool → ℕ → Settings → Ledger
+ledger_of v b n c = record { valid = v; started = b; steps = n; settings = c }
+
+pub ledger-is : (l : Ledger) (v b : Bool) (n : ℕ) (c : Settings) → l.valid ≡ v → l.started ≡ b → l.steps ≡ n → l.settings ≡ c → l ≡ ledger_of v b n c
+ledger-is l v b n c d e f g =
+    ap (λ x. ledger_of x l.started l.steps l.settings) d ∙ ap (λ x. ledger_of v x l.steps l.settings) e ∙ ap (λ x. ledger_of v b x l.settings) f ∙ ap (λ x. ledger_of v b n x) g
 
 -- a solver and a state for which it stands are valid alike
 pub stands-valid : (g : Summary) (s : State) → StandsFor g s → g.ledger.valid ≡ true → IsValid s
@@ -23,4 +32,4 @@ abbrev pub broken : State → State
 broken s = record s { ledger = record s.ledger { valid = false } }
 
 pub broken-invalid : (s : State) → s.ledger.valid ≡ true → IsWellFormed s → Invalidates s (broken s)
-broken-invalid s v w = record { valid = v; invalid = refl; well_formed = told-well s (broken s) w }
+broken-invalid s v w = record { valid = v; ledger = refl; well_formed = told-well s (broken s) w }

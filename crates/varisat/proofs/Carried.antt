@@ -1,5 +1,5 @@
 -- Literals that are carried, and their values.
-use Rattle.std.proofs.Common.{◌≡◌, ℕ, ◌+◌, ◌-◌, ◌*◌, ◌/◌, ◌%◌, Bool, true, false, not, nat_eq, if◌then◌else◌, Option, Some, None, List, [], ◌∷◌, ◌++◌, IsTrue, ◌↔◌, ◌⊎◌, inl, inr, ⊎_elim, sym, ap, ◌∙◌, subst, refl, map, arith}
+use Rattle.std.proofs.Common.{◌≡◌, ℕ, ◌+◌, ◌-◌, ◌*◌, ◌/◌, ◌%◌, Bool, true, false, not, nat_eq, if◌then◌else◌, Option, Some, None, List, ◌++◌, IsTrue, ◌↔◌, ◌⊎◌, ⊎_elim, sym, ap, ◌∙◌, subst, refl, map, arith}
 use Rattle.varisat_theory.specs.Membership.{◌∈◌}
 use Rattle.varisat_theory.specs.Literals.{Literal, Clause, Assignment, variable_of, literal_of, opposite, value, Satisfies, SatisfiesAll}
 use Rattle.varisat_theory.proofs.Members.{∈-append_cases}

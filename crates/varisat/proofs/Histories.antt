@@ -1,5 +1,5 @@
 -- What a run says of the answers alone.
-use Rattle.std.proofs.Common.{◌≡◌, List, [], ◌∷◌, refl, ◌∙◌}
+use Rattle.std.proofs.Common.{List, [], ◌∷◌, refl, ◌∙◌}
 use Rattle.varisat_formula.specs.Streams.{Stand}
 use Rattle.varisat.specs.declared.session.Call.{Call}
 use Rattle.varisat.specs.declared.session.Answer.{Answer}
@@ -10,7 +10,7 @@ use Rattle.varisat.specs.Told.{told_model}
 use Rattle.varisat.specs.Runs.{MakesCall, Run}
 use Rattle.varisat.specs.Pasts.{Past, empty_past}
 use Rattle.varisat.specs.Histories.{IsTrue, AreTrue}
-use Rattle.varisat.proofs.Pasts.{Agrees, Leads, add-clause, add-formula, add-text, make-var, solve, tell-model, stays, empty-agrees}
+use Rattle.varisat.proofs.Pasts.{Agrees, Leads, add-clause, add-formula, add-text, make-var, solve, tell-model, config, stays, empty-agrees}
 
 -- a call moves the past and the state alike
 is-true : {W S A : Type 0} (seen : S → Stand) (c : Call S A) (a : Answer W S A) (p : Past) (s t : State) → Agrees p s → MakesCall seen s c a t → Leads (IsTrue seen p c a) t
@@ -20,6 +20,8 @@ is-true seen (call.AddDimacsCnf source) (answer.AddDimacsCnf r back) p s t g m =
 is-true seen call.NewVar (answer.NewVar r) p s t g m = make-var p s t r g m
 is-true seen call.Solve (answer.Solve r) p s t g m = solve p s t r g m
 is-true seen call.Model (answer.Model r) p s t g m = tell-model p s t (told_model r) g m
+is-true seen (call.Config u) (answer.Config r) p s t g m = config p s t u r g m
+is-true seen call.Steps (answer.Steps n) p s t g (e, k) = (p, (e ∙ g.steps, refl), stays p s t k g)
 is-true seen call.IsValid (answer.IsValid b) p s t g (e, k) = (p, (e ∙ g.valid, refl), stays p s t k g)
 is-true seen call.CloseProof (answer.CloseProof r) p s t g (e, k) = (p, (e, refl), stays p s t k g)
 is-true seen _ _ p s t g m = absurd m

@@ -6,7 +6,7 @@ pub mod Additions
 pub mod CallStates
 pub mod Carried
 pub mod Counted
-pub mod FindVerdictEnds
+pub mod FindVerdictSteps
 pub mod Histories
 pub mod LineLemmas
 pub mod ModelLists
@@ -22,6 +22,7 @@ pub mod Runs
 pub mod SearchHeld
 pub mod SearchViews
 pub mod SolveVerdict
+pub mod SettingsCalls
 pub mod SolverCalls
 pub mod SpacesAgree
 pub mod SpacesMoves

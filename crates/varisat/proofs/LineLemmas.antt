@@ -15,7 +15,10 @@ use Rattle.std.proofs.lemmas.List.Elements.{All-from_recursion, recursion_from_A
 use Rattle.std.proofs.lemmas.List.Splits.{slice_split_none, slice_split_at, join_with_byte-slice_split, length-slice_split}
 use Rattle.varisat_literals.specs.Numbers.{literal_number}
 use Rattle.varisat_literals.specs.Numbers.{literal_text}
-use Rattle.varisat.specs.Lines.{Command, Add, New, Solve, Model, Close, Means, MeansOneCommand, HasNumbersInRange, words, words_of, spelling}
+use Rattle.varisat_names.specs.declared.config.ConfigField.{ConfigField}
+use Rattle.varisat_names.specs.declared.config.ConfigField.TheVariants.{VsidsDecay, ClauseActivityDecay, ReduceLocalsInterval, ReduceMidsInterval, LubyRestartIntervalScale, MaxSteps}
+use Rattle.varisat_names.specs.Settings.{field_text}
+use Rattle.varisat.specs.Lines.{Command, Add, New, Solve, Model, Config, Steps, Close, Means, MeansOneCommand, HasNumbersInRange, words, words_of, spelling}
 
 abbrev pub NoSpace : List ℕ → Type 0
 NoSpace word = All (λ b. (b == 32) ≡ false) word
@@ -79,11 +82,46 @@ texts_have_no_space : (ls : List ℕ) → AllByRecursion (λ l. l < 2 ^ 32) ls �
 texts_have_no_space [] h = tt
 texts_have_no_space (l ∷ ls) (h, hs) = (literal_has_no_space l h, texts_have_no_space ls hs)
 
+abbrev spaceless : List ℕ → Bool
+spaceless [] = true
+spaceless (b ∷ bs) = if b == 32 then false else spaceless bs
+
+from_spaceless : (bs : List ℕ) → spaceless bs ≡ true → AllByRecursion (λ b. (b == 32) ≡ false) bs
+from_spaceless [] e = tt
+from_spaceless (b ∷ bs) e = go (b == 32) refl e (from_spaceless bs)
+  where
+    go : (t : Bool) → (b == 32) ≡ t → (if t then false else spaceless bs) ≡ true → (spaceless bs ≡ true → AllByRecursion (λ b. (b == 32) ≡ false) bs) → AllByRecursion (λ b. (b == 32) ≡ false) (b ∷ bs)
+    go true h k f = absurd (let z : false ≡ true = k in cc)
+    go false h k f = (h, f k)
+
+name_has_no_space : (field : ConfigField) → NoSpace (field_text field)
+name_has_no_space VsidsDecay = no_space (codes "vsids_decay") (from_spaceless (codes "vsids_decay") refl)
+name_has_no_space ClauseActivityDecay = no_space (codes "clause_activity_decay") (from_spaceless (codes "clause_activity_decay") refl)
+name_has_no_space ReduceLocalsInterval = no_space (codes "reduce_locals_interval") (from_spaceless (codes "reduce_locals_interval") refl)
+name_has_no_space ReduceMidsInterval = no_space (codes "reduce_mids_interval") (from_spaceless (codes "reduce_mids_interval") refl)
+name_has_no_space LubyRestartIntervalScale = no_space (codes "luby_restart_interval_scale") (from_spaceless (codes "luby_restart_interval_scale") refl)
+name_has_no_space MaxSteps = no_space (codes "max_steps") (from_spaceless (codes "max_steps") refl)
+
+number_has_no_space : (n : ℕ) → n < 2 ^ 64 → NoSpace (decimal n)
+number_has_no_space n h = no_space (decimal n) (decimal_has_no_space n h)
+
+-- each setting's name has a length of its own
+names_apart : (f g : ConfigField) → length (field_text f) ≡ length (field_text g) → f ≡ g
+names_apart VsidsDecay VsidsDecay e = refl
+names_apart ClauseActivityDecay ClauseActivityDecay e = refl
+names_apart ReduceLocalsInterval ReduceLocalsInterval e = refl
+names_apart ReduceMidsInterval ReduceMidsInterval e = refl
+names_apart LubyRestartIntervalScale LubyRestartIntervalScale e = refl
+names_apart MaxSteps MaxSteps e = refl
+names_apart f g e = absurd (omega (arith, e))
+
 pub words_have_no_space : (command : Command) → HasNumbersInRange command → AllByRecursion NoSpace (words command)
 words_have_no_space (Add ls) h = (no_space (codes "add") (refl, (refl, (refl, tt))), texts_have_no_space ls (recursion_from_All (λ l. l < 2 ^ 32) ls h))
 words_have_no_space New h = (no_space (codes "new") (refl, (refl, (refl, tt))), tt)
 words_have_no_space Solve h = (no_space (codes "solve") (refl, (refl, (refl, (refl, (refl, tt))))), tt)
 words_have_no_space Model h = (no_space (codes "model") (refl, (refl, (refl, (refl, (refl, tt))))), tt)
+words_have_no_space (Config field value) h = (no_space (codes "config") (from_spaceless (codes "config") refl), (name_has_no_space field, (number_has_no_space value h, tt)))
+words_have_no_space Steps h = (no_space (codes "steps") (from_spaceless (codes "steps") refl), tt)
 words_have_no_space Close h = (no_space (codes "close") (refl, (refl, (refl, (refl, (refl, tt))))), tt)
 
 -- words that are joined are parted again
@@ -96,6 +134,8 @@ words_of_spelled (Add ls) h = words_of_joined (codes "add") (map literal_text ls
 words_of_spelled New h = words_of_joined (codes "new") [] (words_have_no_space New h)
 words_of_spelled Solve h = words_of_joined (codes "solve") [] (words_have_no_space Solve h)
 words_of_spelled Model h = words_of_joined (codes "model") [] (words_have_no_space Model h)
+words_of_spelled (Config field value) h = words_of_joined (codes "config") (field_text field ∷ decimal value ∷ []) (words_have_no_space (Config field value) h)
+words_of_spelled Steps h = words_of_joined (codes "steps") [] (words_have_no_space Steps h)
 words_of_spelled Close h = words_of_joined (codes "close") [] (words_have_no_space Close h)
 
 pub words_of_meant : (text : List ℕ) (command : Command) → Means text command → words_of text ≡ words command
@@ -116,6 +156,14 @@ adds_apart ls ms h k e =
     let tails : map literal_text ls ≡ map literal_text ms = cc in
     ap Add (lists_apart ls ms (recursion_from_All (λ l. l < 2 ^ 32) ls h) (recursion_from_All (λ l. l < 2 ^ 32) ms k) tails)
 
+settings_apart : (f g : ConfigField) (m n : ℕ) → m < 2 ^ 64 → n < 2 ^ 64 → words (Config f m) ≡ words (Config g n) → Config f m ≡ Config g n
+settings_apart f g m n h k e =
+    let names : field_text f ≡ field_text g = cc in
+    let texts : decimal m ≡ decimal n = cc in
+    let a = names_apart f g (ap (λ (w : List ℕ). length w) names) in
+    let b = decimal_injective m n h k texts in
+    ap (λ x. Config x m) a ∙ ap (Config g) b
+
 -- the bytes of the first word as one number, by which the kinds of commands differ
 abbrev first_word_number : List (List ℕ) → ℕ
 first_word_number [] = 0
@@ -126,47 +174,47 @@ words_apart (Add ls) (Add ms) h k e = adds_apart ls ms h k e
 words_apart New New h k e = refl
 words_apart Solve Solve h k e = refl
 words_apart Model Model h k e = refl
+words_apart (Config f m) (Config g n) h k e = settings_apart f g m n h k e
+words_apart Steps Steps h k e = refl
 words_apart Close Close h k e = refl
 words_apart a b h k e = let n : first_word_number (words a) ≡ first_word_number (words b) = ap first_word_number e in absurd (omega arith)
 
 pub one_command : MeansOneCommand
 one_command text a b m n = words_apart a b m.in_range n.in_range (sym (words_of_meant text a m) ∙ words_of_meant text b n)
 
--- a variable's number begins with a digit other than 0
+-- a number's text begins with a digit, with 0 only where it is that alone
 pub begins_above : (v : ℕ) (ds : List ℕ) → v < 2 ^ 31 → decimal (v + 1) ≡ ds → 48 < get_or ds 0 0
 begins_above v ds h e = subst (λ xs. 48 < get_or xs 0 0) e (first_decimal (v + 1) (omega arith) (omega arith))
 
-pub nonempty : (v : ℕ) (ds : List ℕ) → v < 2 ^ 31 → decimal (v + 1) ≡ ds → 0 < length ds
-nonempty v ds h e = subst (λ xs. 0 < length xs) e (decimal_nonempty (v + 1) (omega arith))
+pub begins_with_digit : (n : ℕ) (ds : List ℕ) → n < 2 ^ 64 → decimal n ≡ ds → 48 ≤ get_or ds 0 0
+begins_with_digit zero ds h e = let z : get_or ds 0 0 ≡ 48 = ap (λ xs. get_or xs 0 0) (sym e ∙ decimal_digit 0 (omega arith)) in omega (arith, z)
+begins_with_digit (suc n) ds h e = let k = subst (λ xs. 48 < get_or xs 0 0) e (first_decimal (suc n) (omega arith) h) in omega (arith, k)
 
-pub is_utf8 : (v : ℕ) (ds : List ℕ) → v < 2 ^ 31 → decimal (v + 1) ≡ ds → IsUtf8 ds
-is_utf8 v ds h e = subst IsUtf8 e (IsUtf8-from_ascii (decimal (v + 1)) (IsAscii-decimal (v + 1) (omega arith)))
+pub zero_alone : (n : ℕ) (ds : List ℕ) → n < 2 ^ 64 → decimal n ≡ ds → get_or ds 0 0 ≡ 48 → length ds ≡ 1
+zero_alone zero ds h e f = ap (λ (xs : List ℕ). length xs) (sym e ∙ decimal_digit 0 (omega arith))
+zero_alone (suc n) ds h e f = absurd (let k = subst (λ xs. 48 < get_or xs 0 0) e (first_decimal (suc n) (omega arith) h) in omega (arith, k, f))
 
--- digits that begin with none of `+` and `0` are the number's text
+pub nonempty : (n : ℕ) (ds : List ℕ) → n < 2 ^ 64 → decimal n ≡ ds → 0 < length ds
+nonempty n ds h e = subst (λ xs. 0 < length xs) e (decimal_nonempty n h)
+
+pub is_utf8 : (n : ℕ) (ds : List ℕ) → n < 2 ^ 64 → decimal n ≡ ds → IsUtf8 ds
+is_utf8 n ds h e = subst IsUtf8 e (IsUtf8-from_ascii (decimal n) (IsAscii-decimal n h))
+
+-- digits of which the first is none of `+` and `0`, or `0` alone, are the number's text
 own : IsNumeralModel (AllDigits 10) (digits_value 10)
 own = numerals_by_value (AllDigits 10) tells_digits
 
-pub record ReadsNumber (text : List ℕ) (n : ℕ) : Type 0 where
-  pub written : decimal n ≡ text
-  pub positive : 1 ≤ n
-  pub small : n < 2 ^ 32
-
-positive_case : (n : ℕ) (text : List ℕ) → decimal n ≡ text → get_or text 0 0 ≢ 48 → 1 ≤ n
-positive_case zero text e h = absurd (h (ap (λ xs. get_or xs 0 0) (sym e ∙ decimal_digit 0 (omega arith))))
-positive_case (suc n) text e h = omega arith
-
-parsed : (ds : List ℕ) (n : ℕ) → get_or ds 0 0 ≢ 43 → get_or ds 0 0 ≢ 48 → ParsesUnsigned {E = ℕ} 32 10 ds (Ok n) → ReadsNumber ds n
+parsed : (ds : List ℕ) (n : ℕ) → get_or ds 0 0 ≢ 43 → (get_or ds 0 0 ≡ 48 → length ds ≤ 1) → ParsesUnsigned {E = ℕ} 64 10 ds (Ok n) → (decimal n ≡ ds) × (n < 2 ^ 64)
 parsed ds n plus nought p =
-    let r = parse_plain own {E = ℕ} 32 ds (Ok n) p plus in
-    let written : decimal n ≡ ds = subst (λ k. decimal k ≡ ds) (sym r.1) (decimal-digits_value own ds r.0.0 r.0.1 (λ z. absurd (nought z)) (omega (arith, r.0.2))) in
-    record { written = written; positive = positive_case n ds written nought; small = omega (arith, r.0.2, r.1) }
+    let r = parse_plain own {E = ℕ} 64 ds (Ok n) p plus in
+    let some = r.0.1 in (
+      subst (λ k. decimal k ≡ ds) (sym r.1) (decimal-digits_value own ds r.0.0 r.0.1 (λ z. let a = nought z in omega (arith, a, some)) (omega (arith, r.0.2))),
+      omega (arith, r.0.2, r.1),
+    )
 
-pub reads : (ds text : List ℕ) (first n : ℕ) → ds ≡ text → first ≡ get_or text 0 0 → first ≢ 43 → first ≢ 48 → ParsesUnsigned {E = ℕ} 32 10 ds (Ok n) → ReadsNumber text n
+pub reads : (ds text : List ℕ) (first n : ℕ) → ds ≡ text → first ≡ get_or text 0 0 → first ≢ 43 → (first ≡ 48 → length text ≤ 1) → ParsesUnsigned {E = ℕ} 64 10 ds (Ok n) → (decimal n ≡ text) × (n < 2 ^ 64)
 reads ds text first n e f plus nought p =
-    subst (λ xs. ReadsNumber xs n) e (parsed ds n (λ k. plus (f ∙ ap (λ xs. get_or xs 0 0) (sym e) ∙ k)) (λ k. nought (f ∙ ap (λ xs. get_or xs 0 0) (sym e) ∙ k)) p)
-
-pub reads_one : (text : List ℕ) (n v : ℕ) → ReadsNumber text n → v < 2 ^ 31 → decimal (v + 1) ≡ text → n ≡ v + 1
-reads_one text n v r h e = decimal_injective n (v + 1) (omega (arith, r.small)) (omega arith) (r.written ∙ sym e)
+    subst (λ xs. (decimal n ≡ xs) × (n < 2 ^ 64)) e (parsed ds n (λ k. plus (f ∙ ap (λ xs. get_or xs 0 0) (sym e) ∙ k)) (λ k. let a = nought (f ∙ ap (λ xs. get_or xs 0 0) (sym e) ∙ k) in let b = ap (λ (xs : List ℕ). length xs) e in omega (arith, a, b)) p)
 
 -- behind a `-` stands the number of a variable
 behind_case : (l v : ℕ) (z : ℤ) (text digits : List ℕ) → l < 2 ^ 32 → ((l ≡ 2 * v) × (z ≡ pos (v + 1))) ⊎ ((l ≡ 2 * v + 1) × (z ≡ negsuc v)) →
@@ -259,3 +307,36 @@ pub no_clause : (numbers ls word : List ℕ) (others : List (List ℕ)) → ((m 
     map literal_text ls ++ word ∷ others ≡ words_of numbers → (command : Command) → Means (codes "add " ++ numbers) command → ⊥
 no_clause numbers ls word others none e command m =
     no_clause_case numbers ls word others command m.in_range none e (words_of_meant (codes "add " ++ numbers) command m)
+
+-- Behind `config` stand a setting's name and a value.
+
+one_word : (text word : List ℕ) → words_of text ≡ word ∷ [] → text ≡ word
+one_word text word e = sym (join_with_byte-slice_split 32 text) ∙ ap (join_with_byte 32) e
+
+pub setting_read : (setting name number : List ℕ) (field : ConfigField) (value : ℕ) → words_of setting ≡ name ∷ words_of number → field_text field ≡ name → decimal value ≡ number → value < 2 ^ 64 → Means (codes "config " ++ setting) (Config field value)
+setting_read setting name number field value w f d h =
+    let own : words_of number ≡ decimal value ∷ [] = ap words_of (sym d) ∙ slice_split_none (λ b. b == 32) (decimal value) (number_has_no_space value h) in
+    let all : words_of setting ≡ field_text field ∷ decimal value ∷ [] = w ∙ ap (λ x. x ∷ words_of number) (sym f) ∙ ap (λ ws. field_text field ∷ ws) own in
+    record {
+      spelled = ap (λ xs. codes "config" ++ (32 ∷ xs)) (ap (join_with_byte 32) (sym all) ∙ join_with_byte-slice_split 32 setting);
+      in_range = h;
+    }
+
+no_setting_case : (setting name : List ℕ) (others : List (List ℕ)) (command : Command) → HasNumbersInRange command → words_of setting ≡ name ∷ others → ((field : ConfigField) (value : ℕ) → value < 2 ^ 64 → field_text field ≡ name → decimal value ∷ [] ≡ others → ⊥) → codes "config" ∷ words_of setting ≡ words command → ⊥
+no_setting_case setting name others (Config field value) h w none e =
+    let tails = tails_same (codes "config") (codes "config") (words_of setting) (field_text field ∷ decimal value ∷ []) e in
+    let both : name ∷ others ≡ field_text field ∷ decimal value ∷ [] = sym w ∙ tails in
+    none field value h (let a : name ≡ field_text field = cc in sym a) (sym (tails_same name (field_text field) others (decimal value ∷ []) both))
+no_setting_case setting name others command h w none e =
+    let n : first_word_number (codes "config" ∷ words_of setting) ≡ first_word_number (words command) = ap first_word_number e in absurd (omega arith)
+
+-- no command is spelled so where its parts are none of a setting
+pub no_setting : (setting name : List ℕ) (others : List (List ℕ)) → words_of setting ≡ name ∷ others → ((field : ConfigField) (value : ℕ) → value < 2 ^ 64 → field_text field ≡ name → decimal value ∷ [] ≡ others → ⊥) → (command : Command) → Means (codes "config " ++ setting) command → ⊥
+no_setting setting name others w none command m =
+    no_setting_case setting name others command m.in_range w none (config_first setting ∙ words_of_meant (codes "config " ++ setting) command m)
+  where
+    config_first : (setting : List ℕ) → codes "config" ∷ words_of setting ≡ words_of (codes "config " ++ setting)
+    config_first setting = sym (slice_split_at (λ b. b == 32) (codes "config") 32 setting (no_space (codes "config") (from_spaceless (codes "config") refl)) refl)
+
+pub number_alone : (number word : List ℕ) → word ∷ [] ≡ words_of number → word ≡ number
+number_alone number word e = sym (one_word number word (sym e))

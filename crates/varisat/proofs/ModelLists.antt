@@ -1,7 +1,7 @@
 -- The list of the names in use with their values.
 use Rattle.std.proofs.Common.{◌≡◌, ℕ, zero, suc, ◌+◌, ◌*◌, ◌/◌, ◌%◌, ◌<◌, ◌≤◌, Bool, true, false, not, List, [], ◌∷◌, ◌⊎◌, inl, inr, ⊎_elim, sym, ap, ◌∙◌, subst, refl, Option, Some, None, arith}
 use Rattle.varisat_theory.specs.Membership.{◌∈◌}
-use Rattle.varisat_theory.specs.Literals.{Literal, Assignment, variable_of, literal_of, value}
+use Rattle.varisat_theory.specs.Literals.{Literal, Assignment, literal_of, value}
 use Rattle.varisat_search.proofs.StepOutcome.{variable-literal}
 use Rattle.varisat.specs.States.{State}
 use Rattle.varisat.specs.Models.{put_name, list_names, IsRising}

@@ -1,5 +1,5 @@
 -- A name gets a variable.
-use Rattle.std.proofs.Common.{◌≡◌, ℕ, ◌+◌, ◌<◌, max, true, false, Option, Some, None, List, [], ◌∷◌, inl, inr, ⊎_elim, sym, ap, ◌∙◌, subst, refl, map, length, arith}
+use Rattle.std.proofs.Common.{◌≡◌, ℕ, ◌+◌, ◌<◌, max, true, false, Option, Some, None, List, [], ◌∷◌, ⊎_elim, sym, ap, ◌∙◌, subst, refl, map, length, arith}
 use Rattle.varisat_theory.specs.Membership.{◌∈◌}
 use Rattle.varisat_theory.specs.Literals.{Literal, Clause, Assignment, variable_of}
 use Rattle.varisat_theory.proofs.Members.{equal_or_not}
@@ -10,9 +10,9 @@ use Rattle.varisat_names.specs.declared.variables.data.SamplingMode.TheVariants 
 use Rattle.varisat.specs.States.{State, Sample, Verdict, Sat, IsRight, IsWellFormed}
 use Rattle.varisat.specs.Names.{bring, bring_next}
 use Rattle.varisat.specs.Carried.{carry}
-use Rattle.varisat.specs.Spaces.{Spaces, Carrying, ModeFits, IdentitiesFit, NamesFit, ModesFit, UnitsFit, IsolationCase, NotIsolated, Apart, Forced, IsolationFits, AssumptionsFit, MarksFit, Translation, translation, SearchHolds, Links, SpacesFit}
+use Rattle.varisat.specs.Spaces.{Spaces, Carrying, ModeFits, IdentitiesFit, NamesFit, ModesFit, UnitsFit, IsolationCase, NotIsolated, Apart, Forced, IsolationFits, AssumptionsFit, MarksFit, translation, Links, SpacesFit}
 use Rattle.varisat.proofs.SpacesMoves.{give, give_next, AreDead}
-use Rattle.varisat_names.proofs.Maps.{updated-at, updated-other, updated-all, joined, chain-same, chain-some, chain-none, is-some}
+use Rattle.varisat_names.proofs.Maps.{updated-at, updated-other, updated-all, joined, chain-same, chain-some, is-some}
 use Rattle.varisat.proofs.SpacesAgree.{carry-same, map-same, holds-same, verdict-moved}
 
 -- what follows from the links

@@ -1,5 +1,5 @@
 -- What the calls and answers so far say of the state that a solver is in: each call moves both alike.
-use Rattle.std.proofs.Common.{◌≡◌, ◌≢◌, ℕ, ◌<◌, ◌≤◌, ◌+◌, ◌^◌, max, nat_lt, nat_le, nat_eq, Bool, true, false, ◌&&◌, ◌||◌, List, [], ◌∷◌, ◌++◌, ◌⊎◌, inl, inr, ⊎_elim, sym, ap, ◌∙◌, subst, refl, Option, Some, None, Result, Ok, Err, map, arith, append_assoc, append-nil}
+use Rattle.std.proofs.Common.{◌≡◌, ◌≢◌, ℕ, ◌<◌, ◌≤◌, ◌+◌, ◌^◌, max, nat_le, nat_eq, Bool, true, false, ◌&&◌, ◌||◌, List, [], ◌∷◌, ◌++◌, ◌⊎◌, inl, inr, ⊎_elim, sym, ap, ◌∙◌, subst, refl, Option, Some, None, Result, Ok, Err, map, arith, length}
 use Rattle.std.proofs.lemmas.Bool.{le-leb, lt-leb}
 use Rattle.std.specs.declared.alloc.AllocError.{AllocError}
 use Rattle.varisat_theory.specs.Membership.{◌∈◌}
@@ -8,20 +8,25 @@ use Rattle.varisat_theory.proofs.Assigned.{satisfies_fewer}
 use Rattle.varisat_search.proofs.StepOutcome.{variable-literal}
 use Rattle.varisat_formula.specs.declared.dimacs.error.DimacsError.{DimacsError}
 use Rattle.varisat_formula.specs.Dimacs.{Reading}
+use Rattle.varisat_names.specs.declared.config.SolverConfigUpdate.{SolverConfigUpdate}
+use Rattle.varisat_names.specs.Settings.{Settings, updated_settings}
 use Rattle.varisat_formula.specs.Streams.{Stand}
-use Rattle.varisat.specs.States.{State, Verdict, Unknown, Sat, Unsat, empty_state, IsRight, HasRightVerdict}
+use Rattle.varisat.specs.States.{State, join_counted, Verdict, Unknown, Sat, Unsat, empty_state, IsRight, HasRightVerdict}
 use Rattle.varisat.specs.Names.{name_one, name_all, through_names, AreInOrder}
 use Rattle.varisat.specs.Models.{list_names, model_of}
 use Rattle.varisat.specs.Counts.{count_with}
 use Rattle.varisat.specs.Additions as additions
 use Rattle.varisat.specs.Additions.{Gave, InTurn, RefusedAtOnce, NoFault, MemoryFault, Fault, ClauseRefused, ClausesAdded, RefusedEarly, FaultInText, Whole, MemoryRanOut, SourceFailed, Read, Unread}
 use Rattle.varisat.specs.Calls as state
-use Rattle.varisat.specs.Calls.{IsPastLimit, IsLike, IsCrowded, start, append_clause, with_verdict, answer_of, reopened_verdict, VerdictAfter}
+use Rattle.varisat.specs.Calls.{IsPastLimit, IsLike, IsCrowded, start, append_clause, with_verdict, with_steps, answer_of, reopened_verdict, VerdictAfter}
+use Rattle.varisat.specs.Budgets.{CountsSteps}
+use Rattle.varisat.specs.Updates as updates
 use Rattle.varisat.specs.Pasts as past
-use Rattle.varisat.specs.Pasts.{Past, empty_past, use_name, use_names, accept, accept_all, IsModel}
+use Rattle.varisat.specs.Pasts.{Past, empty_past, use_name, use_names, accept, accept_all, named_variables, MakesFewSteps, IsModel}
 use Rattle.varisat.specs.declared.solver.SolverError.{SolverError}
-use Rattle.varisat.specs.declared.solver.SolverError.TheVariants.{OutOfMemory, Invalid, VariableLimit, Dimacs}
-use Rattle.varisat.proofs.NamesInOrder.{rest-one, rest-all, fit-one, fit-all, count-within, count-above, through-all}
+use Rattle.varisat.specs.declared.solver.SolverError.TheVariants.{Interrupted, OutOfMemory, Invalid, VariableLimit, ConfigOutOfRange, Dimacs}
+use Rattle.varisat.proofs.NamesInOrder.{rest-one, rest-all, fit-one, fit-all, count-within, through-all}
+use Rattle.varisat.proofs.CallStates.{like-refl}
 use Rattle.varisat.proofs.ModelLists.{listed-rising, listed-in-use, listed-all, value-listed}
 
 -- 1. The names in use.
@@ -92,13 +97,15 @@ crowded-limit (l ∷ d) n h k =
     (λ m. (l, inl refl, m))
     (below-or (variable_of l) (2 ^ 28))
 
-use-valid : (d : List Literal) (p : Past) → (use_names d p).valid ≡ p.valid
-use-valid [] p = refl
-use-valid (l ∷ d) p = use-valid d (use_name (variable_of l) p)
+-- names that come into use change nothing else
+pub use-rest : (d : List Literal) (p : Past) → use_names d p ≡ record p { in_use = (use_names d p).in_use; watermark = (use_names d p).watermark }
+use-rest [] p = refl
+use-rest (l ∷ d) p = use-rest d (use_name (variable_of l) p)
 
-use-assumptions : (d : List Literal) (p : Past) → (use_names d p).assumptions ≡ p.assumptions
-use-assumptions [] p = refl
-use-assumptions (l ∷ d) p = use-assumptions d (use_name (variable_of l) p)
+-- the variables of one more clause are named behind the others
+named-behind : (known : List ℕ) (P : List Clause) (c : Clause) → named_variables known (P ++ c ∷ []) ≡ join_counted (named_variables known P) (map variable_of c)
+named-behind known [] c = refl
+named-behind known (d ∷ P) c = named-behind (join_counted known (map variable_of d)) P c
 
 -- 2. The state and the past.
 
@@ -107,6 +114,7 @@ pub record Knows (p : Past) (s : State) : Type 0 where
   count : ℕ
   names : NamesAgree count p s
   same : s.verdict ≢ Unsat → s.clauses ≡ p.clauses
+  counted : s.verdict ≢ Unsat → s.counted ≡ named_variables [] p.clauses
   refuted : s.verdict ≡ Unsat → IsSatisfiable p.clauses → ⊥
   assumptions : s.assumptions ≡ []
   pub assumed : p.assumptions ≡ []
@@ -117,6 +125,8 @@ pub record Knows (p : Past) (s : State) : Type 0 where
 -- the state is one that the past leads to
 pub record Agrees (p : Past) (s : State) : Type 0 where
   pub valid : state.is_valid s ≡ p.valid
+  pub steps : s.ledger.steps ≡ p.steps
+  pub settings : s.ledger.settings ≡ p.settings
   pub knows : p.valid ≡ true → Knows p s
 
 -- what a call leads to
@@ -135,7 +145,11 @@ stays p s t e g = subst (Agrees p) (sym e) g
 
 -- no way leads back
 breaks : (p : Past) (s t : State) → Agrees p s → state.Invalidates s t → Leads (past.Invalidates p) t
-breaks p s t g b = (record p { valid = false }, (sym g.valid ∙ b.valid, refl), record { valid = b.invalid; knows = λ e. absurd cc })
+breaks p s t g b = (
+  record p { valid = false },
+  (sym g.valid ∙ b.valid, refl),
+  record { valid = ap (λ x. x.valid) b.ledger; steps = ap (λ x. x.steps) b.ledger ∙ g.steps; settings = ap (λ x. x.settings) b.ledger ∙ g.settings; knows = λ e. absurd cc },
+)
 
 right-like : (s t : State) → t.clauses ≡ s.clauses → t.assumptions ≡ s.assumptions → t.counted ≡ s.counted → t.verdict ≡ s.verdict → HasRightVerdict s → HasRightVerdict t
 right-like s t c a n v r =
@@ -163,10 +177,13 @@ ignored p s d u g v =
     let k = g.knows v in
     record {
       valid = g.valid;
+      steps = g.steps;
+      settings = g.settings;
       knows = λ _. record {
         count = k.count;
         names = names-like k.count p (record p { clauses = p.clauses ++ d ∷ []; has_model = false }) s s refl refl refl refl refl refl k.names;
         same = λ n. absurd (n u);
+        counted = λ n. absurd (n u);
         refuted = λ _. refuted-more p.clauses d (k.refuted u);
         assumptions = k.assumptions;
         assumed = k.assumed;
@@ -187,15 +204,19 @@ accepted p s t d n lim (w, after, e) g v =
     let all : s.clauses ++ c ∷ [] ≡ p.clauses ++ d ∷ [] = ap (λ P. P ++ c ∷ []) (k.same n) ∙ ap (λ x. p.clauses ++ x ∷ []) own in
     let now : t.clauses ≡ p.clauses ++ d ∷ [] = e.clauses ∙ ap (λ P. P ++ c ∷ []) rest.clauses ∙ all in
     let cases = after-cases s.clauses c s.verdict w n after in
+    let used = use-rest d p in
     record {
-      valid = ap (λ x. x.valid) e.ledger ∙ ap (λ x. x.valid) rest.ledger ∙ g.valid ∙ sym (use-valid d p);
+      valid = ap (λ x. x.valid) e.ledger ∙ ap (λ x. x.valid) rest.ledger ∙ g.valid ∙ sym (ap (λ (x : Past). x.valid) used);
+      steps = ap (λ x. x.steps) e.ledger ∙ ap (λ x. x.steps) rest.ledger ∙ g.steps ∙ sym (ap (λ (x : Past). x.steps) used);
+      settings = ap (λ x. x.settings) e.ledger ∙ ap (λ x. x.settings) rest.ledger ∙ g.settings ∙ sym (ap (λ (x : Past). x.settings) used);
       knows = λ _. record {
         count = count_with k.count d;
         names = names-like (count_with k.count d) (use_names d p) (accept d p) named t refl refl e.made e.names e.watermark e.modes (names-all d k.count p s (below-limit d lim) k.names);
         same = λ _. now;
+        counted = λ _. e.counted ∙ ap (λ xs. join_counted xs (map variable_of c)) (rest.counted ∙ k.counted n) ∙ ap (λ x. join_counted (named_variables [] p.clauses) (map variable_of x)) own ∙ sym (named-behind [] p.clauses d);
         refuted = λ u. ⊎_elim (λ r. subst (λ Q. IsSatisfiable Q → ⊥) all r.1) (λ r. absurd (let z : Unsat ≡ Unknown = sym u ∙ e.verdict ∙ r in cc)) cases;
         assumptions = e.assumptions ∙ rest.assumptions ∙ k.assumptions;
-        assumed = use-assumptions d p ∙ k.assumed;
+        assumed = ap (λ (x : Past). x.assumptions) used ∙ k.assumed;
         model = λ h. absurd cc;
         found = λ h. absurd (⊎_elim
             (λ r. let z : Some false ≡ Some true = ap answer_of (sym (e.verdict ∙ r.0)) ∙ h in let y : false ≡ true = cc in cc)
@@ -218,6 +239,8 @@ add-clause p s t d (Err VariableLimit) g a =
     let k = knows-of p s g a.0 in
     let limit : IsPastLimit d = ⊎_elim (λ x. x) (λ x. crowded-limit d k.count k.names.small (let f = fit-all d k.count s k.names.order in omega (arith, x, f.made))) a.2 in
     (p, (sym g.valid ∙ a.0, limit, refl), stays p s t a.3 g)
+add-clause p s t d (Err Interrupted) g a = absurd a
+add-clause p s t d (Err (ConfigOutOfRange field)) g a = absurd a
 add-clause p s t d (Err (Dimacs cause)) g a = absurd a
 
 -- 4. Formulas and texts.
@@ -275,10 +298,13 @@ named p s t u small e g v =
     let verdict = e.verdict ∙ r.verdict in
     record {
       valid = ap (λ x. x.valid) e.ledger ∙ ap (λ x. x.valid) r.ledger ∙ g.valid;
+      steps = ap (λ x. x.steps) e.ledger ∙ ap (λ x. x.steps) r.ledger ∙ g.steps;
+      settings = ap (λ x. x.settings) e.ledger ∙ ap (λ x. x.settings) r.ledger ∙ g.settings;
       knows = λ _. record {
         count = max k.count (u + 1);
         names = names-like (max k.count (u + 1)) (use_name u p) (use_name u p) (name_one u s) t refl refl e.made e.names e.watermark e.modes (names-one u k.count p s small k.names);
         same = λ n. e.clauses ∙ r.clauses ∙ k.same (λ x. n (verdict ∙ x));
+        counted = λ n. e.counted ∙ r.counted ∙ k.counted (λ x. n (verdict ∙ x));
         refuted = λ x. k.refuted (sym verdict ∙ x);
         assumptions = e.assumptions ∙ r.assumptions ∙ k.assumptions;
         assumed = k.assumed;
@@ -302,6 +328,8 @@ make-var p s t (Err VariableLimit) g (v, (u, (e, h), full), same) =
     let n = least-free p s u k e h in
     let all : 2 ^ 28 ≤ k.count = ⊎_elim (λ x. omega (arith, x, n)) (λ x. let f = fit-one u k.count s k.names.order in omega (arith, x, f.made, n)) full in
     (p, (w, λ x l. k.names.used x (omega (arith, l, all)), refl), stays p s t same g)
+make-var p s t (Err Interrupted) g a = absurd a
+make-var p s t (Err (ConfigOutOfRange field)) g a = absurd a
 make-var p s t (Err (Dimacs cause)) g a = absurd a
 
 -- 6. An answer of `solve`.
@@ -323,21 +351,24 @@ is-unsat-or-not Unsat = inl refl
 
 -- where true is returned the verdict before was not Unsat
 before-sat : (s t : State) (a : Assignment) → state.TellsVerdict s true t → t.verdict ≡ Sat a → s.verdict ≢ Unsat
-before-sat s t a r e u = let z : Sat a ≡ Unsat = sym e ∙ r.known (λ k. let y : Unsat ≡ Unknown = sym u ∙ k in cc) ∙ u in cc
+before-sat s t a r e u = let z : Sat a ≡ Unsat = sym e ∙ (r.known (λ k. let y : Unsat ≡ Unknown = sym u ∙ k in cc)).0 ∙ u in cc
 
 pub none-true : (a : Assignment) (A : List Literal) → A ≡ [] → MakesTrue a A
 none-true a A e l h = let z : l ∈ [] = subst (λ x. l ∈ x) e h in absurd z
 
 -- the past behind an answer, where the state has the verdict that was told
-solved : (p : Past) (s t : State) (b : Bool) → (k : Knows p s) → p.valid ≡ true → state.is_valid s ≡ p.valid → state.TellsVerdict s b t → (t.verdict ≢ Unsat → s.clauses ≡ p.clauses) → (t.verdict ≡ Unsat → IsSatisfiable p.clauses → ⊥) → Agrees (record p { has_model = b }) t
-solved p s t b k v w r same refuted =
+solved : (p : Past) (s t : State) (b : Bool) → Agrees p s → (k : Knows p s) → state.TellsVerdict s b t → (t.verdict ≢ Unsat → s.verdict ≢ Unsat) → (t.verdict ≡ Unsat → IsSatisfiable p.clauses → ⊥) → Agrees (record p { has_model = b; steps = t.ledger.steps }) t
+solved p s t b g k r unsolved refuted =
     let e = r.rest in
     record {
-      valid = ap (λ x. x.valid) e.ledger ∙ w;
+      valid = ap (λ x. x.valid) e.ledger ∙ g.valid;
+      steps = refl;
+      settings = ap (λ x. x.settings) e.ledger ∙ g.settings;
       knows = λ _. record {
         count = k.count;
-        names = names-like k.count p (record p { has_model = b }) s t refl refl e.made e.names e.watermark e.modes k.names;
-        same = λ n. e.clauses ∙ same n;
+        names = names-like k.count p (record p { has_model = b; steps = t.ledger.steps }) s t refl refl e.made e.names e.watermark e.modes k.names;
+        same = λ n. e.clauses ∙ k.same (unsolved n);
+        counted = λ n. e.counted ∙ k.counted (unsolved n);
         refuted = refuted;
         assumptions = e.assumptions ∙ k.assumptions;
         assumed = k.assumed;
@@ -350,6 +381,52 @@ solved p s t b k v w r same refuted =
     told : (b : Bool) → Some b ≡ Some true → b ≡ true
     told b e = cc
 
+-- the steps of a call under the verdict Unknown
+counts : (p : Past) (s t : State) (r : Result Bool SolverError) → Agrees p s → Knows p s → s.verdict ≡ Unknown → state.CountsCall s r t → CountsSteps (length (named_variables [] p.clauses)) p.settings.max_steps p.steps t.ledger.steps r
+counts p s t r g k u c =
+    let n = ap (λ (xs : List ℕ). length xs) (k.counted (λ e. let z : Unknown ≡ Unsat = sym u ∙ e in cc)) in
+    subst (λ x. CountsSteps x p.settings.max_steps p.steps t.ledger.steps r) n
+    (subst (λ (x : Settings). CountsSteps (length s.counted) x.max_steps p.steps t.ledger.steps r) g.settings
+    (subst (λ x. CountsSteps (length s.counted) s.ledger.settings.max_steps x t.ledger.steps r) g.steps c))
+
+-- no model was found last where the verdict is unknown
+no-model-yet : (p : Past) (s : State) → Knows p s → s.verdict ≡ Unknown → p.has_model ≡ false
+no-model-yet p s k u = go p.has_model (λ e. let z : None ≡ Some true = ap answer_of (sym u) ∙ k.model e in cc)
+  where
+    go : (b : Bool) → (b ≡ true → ⊥) → b ≡ false
+    go true n = absurd (n refl)
+    go false n = refl
+
+is-unknown-or-not : (v : Verdict) → (v ≡ Unknown) ⊎ (v ≢ Unknown)
+is-unknown-or-not Unknown = inl refl
+is-unknown-or-not (Sat a) = inr (λ e. cc)
+is-unknown-or-not Unsat = inr (λ e. cc)
+
+few-steps : (p : Past) (s t : State) (b : Bool) → Agrees p s → (k : Knows p s) → state.TellsVerdict s b t → MakesFewSteps p b (record p { has_model = b; steps = t.ledger.steps })
+few-steps p s t b g k r =
+    ⊎_elim
+    (λ u. inr (no-model-yet p s k u, counts p s t (Ok b) g k u (r.steps u)))
+    (λ n. inl ((r.known n).1 ∙ g.steps))
+    (is-unknown-or-not s.verdict)
+
+-- the ledger alone changes
+told-on : (p : Past) (s t : State) (n : ℕ) (c : Settings) → IsLike (record s { ledger = t.ledger }) t → Knows p s → Knows (record p { steps = n; settings = c }) t
+told-on p s t n c e k = record {
+  count = k.count;
+  names = names-like k.count p (record p { steps = n; settings = c }) s t refl refl e.made e.names e.watermark e.modes k.names;
+  same = λ o. e.clauses ∙ k.same (λ x. o (e.verdict ∙ x));
+  counted = λ o. e.counted ∙ k.counted (λ x. o (e.verdict ∙ x));
+  refuted = λ x. k.refuted (sym e.verdict ∙ x);
+  assumptions = e.assumptions ∙ k.assumptions;
+  assumed = k.assumed;
+  model = λ x. ap answer_of e.verdict ∙ k.model x;
+  found = λ x. k.found (sym (ap answer_of e.verdict) ∙ x);
+  right = right-like s t e.clauses e.assumptions e.counted e.verdict k.right;
+}
+
+like-told : (s t : State) (n : ℕ) → IsLike (with_steps n s) t → IsLike (record s { ledger = t.ledger }) t
+like-told s t n e = record { made = e.made; names = e.names; watermark = e.watermark; modes = e.modes; clauses = e.clauses; assumptions = e.assumptions; counted = e.counted; verdict = e.verdict; ledger = refl }
+
 pub solve : (p : Past) (s t : State) (r : Result Bool SolverError) → Agrees p s → state.Solves s r t → Leads (past.Solves p r) t
 solve p s t (Ok true) g r =
     let v = sym g.valid ∙ r.valid in
@@ -357,25 +434,62 @@ solve p s t (Ok true) g r =
     let (a, e) = answer-sat t.verdict r.answer in
     let n = before-sat s t a r e in
     let right = subst (IsRight t.clauses t.assumptions t.counted) e r.right in (
-      record p { has_model = true },
-      (v, (a, subst (SatisfiesAll a) (r.rest.clauses ∙ k.same n) right.0, none-true a p.assumptions k.assumed), refl),
-      solved p s t true k v g.valid r (λ _. k.same n) (λ u. absurd (let z : Sat a ≡ Unsat = sym e ∙ u in cc)),
+      record p { has_model = true; steps = t.ledger.steps },
+      (v, (a, subst (SatisfiesAll a) (r.rest.clauses ∙ k.same n) right.0, none-true a p.assumptions k.assumed), few-steps p s t true g k r, refl),
+      solved p s t true g k r (λ _. n) (λ u. absurd (let z : Sat a ≡ Unsat = sym e ∙ u in cc)),
     )
 solve p s t (Ok false) g r =
     let v = sym g.valid ∙ r.valid in
     let k = g.knows v in
     let e = answer-unsat t.verdict r.answer in
     let none : IsSatisfiable p.clauses → ⊥ = ⊎_elim k.refuted (λ n. subst (λ Q. IsSatisfiable Q → ⊥) (r.rest.clauses ∙ k.same n) (subst (IsRight t.clauses t.assumptions t.counted) e r.right)) (is-unsat-or-not s.verdict) in (
-      record p { has_model = false },
-      (v, (λ w. none (w.0, w.1)), refl),
-      solved p s t false k v g.valid r (λ n. absurd (n e)) (λ _. none),
+      record p { has_model = false; steps = t.ledger.steps },
+      (v, (λ w. none (w.0, w.1)), few-steps p s t false g k r, refl),
+      solved p s t false g k r (λ n. absurd (n e)) (λ _. none),
     )
-solve p s t (Err OutOfMemory) g r = breaks p s t g r.1
+solve p s t (Err OutOfMemory) g (u, c, b) =
+    let k = knows-of p s g b.valid in (
+      record p { valid = false; steps = t.ledger.steps },
+      (counts p s t (Err OutOfMemory) g k u c, (sym g.valid ∙ b.valid, refl)),
+      record { valid = ap (λ x. x.valid) b.ledger; steps = refl; settings = ap (λ x. x.settings) b.ledger ∙ g.settings; knows = λ e. absurd cc },
+    )
+solve p s t (Err Interrupted) g r =
+    let k = knows-of p s g r.valid in (
+      record p { steps = t.ledger.steps },
+      (sym g.valid ∙ r.valid, no-model-yet p s k r.unknown, counts p s t (Err Interrupted) g k r.unknown r.steps, refl),
+      record {
+        valid = ap (λ x. x.valid) r.rest.ledger ∙ g.valid;
+        steps = refl;
+        settings = ap (λ x. x.settings) r.rest.ledger ∙ g.settings;
+        knows = λ _. told-on p s t t.ledger.steps p.settings (like-told s t t.ledger.steps r.rest) k;
+      },
+    )
+solve p s t (Err (ConfigOutOfRange field)) g r = absurd r
 solve p s t (Err Invalid) g r = (p, (sym g.valid ∙ r.0, refl), stays p s t r.1 g)
 solve p s t (Err VariableLimit) g r = absurd r
 solve p s t (Err (Dimacs cause)) g r = absurd r
 
--- 7. A model.
+-- 7. Other settings.
+
+pub config : (p : Past) (s t : State) (u : SolverConfigUpdate) (r : Result (Unit {0}) SolverError) → Agrees p s → state.Configures s u r t → Leads (updates.Configures past.is_valid past.with_update p u r) t
+config p s t u (Ok x) g (v, n, e) = (
+  past.with_update u p,
+  (sym g.valid ∙ v, n, refl),
+  stays (past.with_update u p) (state.with_update u s) t e (record {
+    valid = g.valid;
+    steps = g.steps;
+    settings = ap (λ c. updated_settings c u) g.settings;
+    knows = λ w. told-on p s (state.with_update u s) p.steps (updated_settings p.settings u) (like-refl (state.with_update u s)) (g.knows w);
+  }),
+)
+config p s t u (Err Invalid) g (v, e) = (p, (sym g.valid ∙ v, refl), stays p s t e g)
+config p s t u (Err (ConfigOutOfRange field)) g (v, n, e) = (p, (sym g.valid ∙ v, n, refl), stays p s t e g)
+config p s t u (Err Interrupted) g r = absurd r
+config p s t u (Err OutOfMemory) g r = absurd r
+config p s t u (Err VariableLimit) g r = absurd r
+config p s t u (Err (Dimacs cause)) g r = absurd r
+
+-- 8. A model.
 
 model-sat : (s : State) (v : Verdict) (m : List Literal) → Some m ≡ model_of s v → (a : Assignment) × (v ≡ Sat a) × (m ≡ list_names s a 0 s.watermark)
 model-sat s Unknown m e = absurd cc
@@ -432,11 +546,13 @@ tell-model p s t (Ok None) g (inr (v, e), same) = (p, ((λ w. absurd (not-true p
 tell-model p s t (Err e) g (v, x, same) =
     let w = sym g.valid ∙ v in (p, (w, (g.knows w).found x, refl), stays p s t same g)
 
--- 8. Before the first call.
+-- 9. Before the first call.
 
 pub empty-agrees : Agrees empty_past empty_state
 empty-agrees = record {
   valid = refl;
+  steps = refl;
+  settings = refl;
   knows = λ _. record {
     count = 0;
     names = record {
@@ -447,6 +563,7 @@ empty-agrees = record {
       unused = λ u h. refl;
     };
     same = λ _. refl;
+    counted = λ _. refl;
     refuted = λ e. absurd cc;
     assumptions = refl;
     assumed = refl;

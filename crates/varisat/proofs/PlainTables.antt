@@ -1,17 +1,17 @@
 -- Maps in which nothing is hidden.
-use Rattle.std.proofs.Common.{◌≡◌, ◌≢◌, ℕ, zero, suc, ◌+◌, ◌-◌, ◌<◌, ◌≤◌, max, Bool, true, false, not, Option, Some, None, List, [], ◌∷◌, ◌++◌, ◌⊎◌, inl, inr, ⊎_elim, length, sym, ap, ◌∙◌, subst, refl, arith}
+use Rattle.std.proofs.Common.{◌≡◌, ℕ, zero, suc, ◌+◌, ◌-◌, ◌<◌, ◌≤◌, Bool, true, false, not, Option, Some, None, List, [], ◌∷◌, ◌++◌, ◌⊎◌, inl, inr, ⊎_elim, length, sym, ap, ◌∙◌, subst, refl, arith}
 use Rattle.varisat_theory.specs.Membership.{◌∈◌}
 use Rattle.varisat_theory.specs.Literals.{Literal, variable_of}
 use Rattle.varisat_theory.proofs.Members.{equal_or_not, ∈-append_cases, ∈-append_left, ∈-append_right}
 use Rattle.std.specs.Option.{is_some, IsSome}
-use Rattle.varisat_names.specs.Maps.{updated, chain}
-use Rattle.varisat_names.specs.VarMap.{at, IsFull, IsLeastUnmapped}
+use Rattle.varisat_names.specs.Maps.{updated}
+use Rattle.varisat_names.specs.VarMap.{at, IsFull}
 use Rattle.varisat_names.specs.VarBiMap.{BiMap}
 use Rattle.varisat_names.specs.VarData.{fresh, kept_at, IsLeastDeleted}
 use Rattle.varisat_names.specs.Variables.{Tables, AreLinked, IsGiven, AreNextGiven, IsTaken, IsChangedTo, IsNothingHidden}
 use Rattle.varisat_names.proofs.Maps.{updated-at, updated-other, updated-all, chain-some, chain-through, is-some}
 use Rattle.varisat_names.proofs.VarMap.{at-past}
-use Rattle.varisat_names.proofs.Tables.{kept-past, live-inside, least-near}
+use Rattle.varisat_names.proofs.Tables.{live-inside, least-near}
 use Rattle.varisat.specs.Accepting.{IsPlain, HasNames, AreNamedInTurn, AreTakenInTurn, HasSolver, AreTakenFor, AreJoined}
 use Rattle.varisat_names.specs.declared.variables.data.VarData.{VarData}
 use Rattle.varisat.proofs.AcceptSolverVariables.{few, below, below-count, ∈-below}

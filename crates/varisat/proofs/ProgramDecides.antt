@@ -1,5 +1,5 @@
 -- A text that a new solver takes in, and what is found then.
-use Rattle.std.proofs.Common.{◌≡◌, ◌≢◌, ℕ, Bool, true, false, List, [], ◌∷◌, ◌++◌, ◌⊎◌, inl, inr, sym, ap, ◌∙◌, subst, refl, Option, Some, None, Result, Ok, Err, Vec, append_assoc, append-nil, arith}
+use Rattle.std.proofs.Common.{◌≡◌, ℕ, ◌+◌, ◌-◌, ◌*◌, ◌^◌, ◌<◌, min, length, ⊎_elim, Err, Bool, true, false, List, [], ◌∷◌, ◌++◌, ◌⊎◌, inl, inr, sym, ap, ◌∙◌, subst, refl, Option, Some, None, Result, Ok, Vec, append_assoc, append-nil, arith}
 use Rattle.std.proofs.lemmas.List.{append_cancel_left}
 use Rattle.std.specs.declared.alloc.AllocError.{AllocError}
 use Rattle.varisat_theory.specs.Literals.{Literal, Clause, variable_of, MakesTrue, SatisfiesAll, IsSatisfiable}
@@ -8,16 +8,20 @@ use Rattle.varisat_formula.specs.declared.dimacs.error.DimacsErrorKind.{DimacsEr
 use Rattle.varisat_formula.specs.declared.dimacs.error.DimacsError.{DimacsError}
 use Rattle.varisat_formula.specs.Dimacs.{Reading, nothing, items, read, lines, last_line, BreaksOff, close_by, dimacs, broken}
 use Rattle.varisat_formula.specs.Streams.{Stand, HasEnded}
+use Rattle.varisat_names.specs.declared.config.SolverConfigUpdate.{SolverConfigUpdate}
+use Rattle.varisat_names.specs.Settings.{Settings, default_settings, updated_settings}
 use Rattle.varisat.specs.States.{State, empty_state}
 use Rattle.varisat.specs.Calls as state
 use Rattle.varisat.specs.Additions as additions
 use Rattle.varisat.specs.Additions.{Gave, NoFault, MemoryFault, Fault, ClauseRefused, ClausesAdded, RefusedEarly, FaultInText, Whole, MemoryRanOut, SourceFailed, Read, Unread}
 use Rattle.varisat.specs.Pasts as past
-use Rattle.varisat.specs.Pasts.{Past, empty_past, accept, accept_all, IsModel}
+use Rattle.varisat.specs.Pasts.{Past, empty_past, use_name, use_names, accept, accept_all, named_variables, IsModel}
 use Rattle.varisat.specs.Told.{told_model}
-use Rattle.varisat.specs.Decided.{listed, Decides, IsOutcome, StatusIsTrue, outcome_status, fault_status}
+use Rattle.varisat.specs.Budgets.{CountsSteps}
+use Rattle.varisat.specs.Decided.{listed, Conclusion, Decided, Unknown, IsConclusion, Decides, StatusIsTrue, conclusion_status}
 use Rattle.varisat.specs.declared.solver.SolverError.{SolverError}
-use Rattle.varisat.proofs.Pasts.{Agrees, none-true, add-text, solve, tell-model, empty-agrees}
+use Rattle.varisat.specs.declared.solver.SolverError.TheVariants.{Interrupted}
+use Rattle.varisat.proofs.Pasts.{Agrees, use-rest, none-true, add-text, solve, config, tell-model, empty-agrees}
 
 abbrev done : Result (Unit {0}) SolverError
 done = Ok tt
@@ -43,6 +47,27 @@ all-accepted p q (c ∷ P) (inl (mid, (v, past.Refuted n e), rest)) =
     let z = x ∙ ap (λ z. z.clauses ++ P) e ∙ append_assoc p.clauses (c ∷ []) P in
     (z, inl (λ w. n (w.0, satisfies_fewer w.0 p.clauses (c ∷ P) (subst (SatisfiesAll w.0) z w.1))))
 
+-- and neither the steps nor the settings changed
+kept-count : (p q : Past) (P : List Clause) → additions.AddsAll past.adding p P done q → (q.steps ≡ p.steps) × (q.settings ≡ p.settings)
+kept-count p q [] a = (ap (λ (x : Past). x.steps) a.1, ap (λ (x : Past). x.settings) a.1)
+kept-count p q (c ∷ P) (inr (e, k, a)) = absurd cc
+kept-count p q (c ∷ P) (inl (mid, (v, past.Accepted n e), rest)) =
+    let (x, y) = kept-count mid q P rest in
+    let r = use-rest c p in
+    (x ∙ ap (λ (z : Past). z.steps) e ∙ ap (λ (z : Past). z.steps) r, y ∙ ap (λ (z : Past). z.settings) e ∙ ap (λ (z : Past). z.settings) r)
+kept-count p q (c ∷ P) (inl (mid, (v, past.Refuted n e), rest)) =
+    let (x, y) = kept-count mid q P rest in
+    (x ∙ ap (λ (z : Past). z.steps) e, y ∙ ap (λ (z : Past). z.settings) e)
+
+-- what is accepted under other settings
+names-settled : (d : List Literal) (p : Past) (c : Settings) → use_names d (record p { settings = c }) ≡ record (use_names d p) { settings = c }
+names-settled [] p c = refl
+names-settled (l ∷ d) p c = names-settled d (use_name (variable_of l) p) c
+
+accept-settled : (P : List Clause) (p : Past) (c : Settings) → accept_all P (record p { settings = c }) ≡ record (accept_all P p) { settings = c }
+accept-settled [] p c = refl
+accept-settled (d ∷ P) p c = ap (λ (x : Past). accept_all P (record x { clauses = p.clauses ++ d ∷ []; has_model = false })) (names-settled d p c) ∙ accept-settled P (accept d p) c
+
 reading-whole : (p q : Past) (R : Reading) → additions.AddsReading past.adding p R done q → (R.fault ≡ None) × additions.AddsAll past.adding p R.clauses done q
 reading-whole p q R (ClauseRefused e k a) = absurd cc
 reading-whole p q R (ClausesAdded m a (NoFault n k e)) = (n, subst (λ x. additions.AddsAll past.adding p R.clauses done x) (sym e) a)
@@ -67,16 +92,57 @@ takes : (old new : Stand) (p q : Past) → past.AddsDimacs p old done new q → 
 takes old new p q (Read v g a) = takes-given old new p q g a
 takes old new p q (Unread e k n) = absurd cc
 
-decided-none : (old new : Stand) (t u : State) → state.AddsDimacs empty_state old done new t → state.Solves t (Ok false) u → Decides old new None
-decided-none old new t u a b =
-    let (q, x, g) = add-text empty_past empty_state t old new done empty-agrees a in
-    let (z, (v, n, e), h) = solve q t u (Ok false) g b in
-    let w = takes old new empty_past q x in
-    let c = (all-accepted empty_past q (dimacs w.read.text).clauses w.all).0 in
-    record { read = w.read; ended = w.ended; fine = w.fine; found = λ s. n (s.0, subst (SatisfiesAll s.0) (sym c) s.1, none-true s.0 q.assumptions (g.knows v).assumed) }
+-- A new solver with other settings took the text in, and then was asked.
+pub record Asked (c : SolverConfigUpdate) (old new : Stand) (t u : State) (found : Result Bool SolverError) : Type 0 where
+  pub mid : State
+  pub settings : Result (Unit {0}) SolverError
+  pub configured : state.Configures empty_state c settings mid
+  pub taken : settings ≡ done
+  pub added : Result (Unit {0}) SolverError
+  pub adds : state.AddsDimacs mid old added new t
+  pub accepted : added ≡ done
+  pub solves : state.Solves t found u
 
-pub outcome-none : (old new : Stand) (t u : State) (added : Result (Unit {0}) SolverError) (found : Result Bool SolverError) → state.AddsDimacs empty_state old added new t → added ≡ done → state.Solves t found u → found ≡ Ok false → Decides old new None
-outcome-none old new t u added found a x b y = decided-none old new t u (subst (λ r. state.AddsDimacs empty_state old r new t) x a) (subst (λ r. state.Solves t r u) y b)
+-- the past of a new solver with other settings
+abbrev begun : SolverConfigUpdate → Past
+begun c = past.with_update c empty_past
+
+module _ (c : SolverConfigUpdate) (old new : Stand) (t u : State) (found : Result Bool SolverError) (k : Asked c old new t u found) where
+  configured : Agrees (begun c) k.mid
+  configured =
+      let (p, (v, n, e), g) = config empty_past empty_state k.mid c done empty-agrees (subst (λ r. state.Configures empty_state c r k.mid) k.taken k.configured) in
+      subst (λ p. Agrees p k.mid) e g
+
+  text-taken : (q : Past) × past.AddsDimacs (begun c) old done new q × Agrees q t
+  text-taken = add-text (begun c) k.mid t old new done configured (subst (λ r. state.AddsDimacs k.mid old r new t) k.accepted k.adds)
+
+  pub decided-none : (max_steps : ℕ) → found ≡ Ok false → Decides max_steps old new (Decided None)
+  decided-none max_steps f =
+      let (q, x, g) = text-taken in
+      let (z, (v, n, few, e), h) = solve q t u (Ok false) g (subst (λ r. state.Solves t r u) f k.solves) in
+      let w = takes old new (begun c) q x in
+      let all = (all-accepted (begun c) q (dimacs w.read.text).clauses w.all).0 in
+      record { read = w.read; ended = w.ended; fine = w.fine; found = λ s. n (s.0, subst (SatisfiesAll s.0) (sym all) s.1, none-true s.0 q.assumptions (g.knows v).assumed) }
+
+  pub decided-unknown : (max_steps : ℕ) → (updated_settings default_settings c).max_steps ≡ max_steps → found ≡ Err Interrupted → Decides max_steps old new Unknown
+  decided-unknown max_steps m f =
+      let (q, x, g) = text-taken in
+      let (z, (v, n, few, e), h) = solve q t u (Err Interrupted) g (subst (λ r. state.Solves t r u) f k.solves) in
+      let w = takes old new (begun c) q x in
+      let all = (all-accepted (begun c) q (dimacs w.read.text).clauses w.all).0 in
+      let (steps, settings) = kept-count (begun c) q (dimacs w.read.text).clauses w.all in
+      record {
+        read = w.read;
+        ended = w.ended;
+        fine = w.fine;
+        found = subst (λ P. min max_steps (2 ^ 64 - 1) < 2 ^ (2 * length (named_variables [] P) + 3)) all (spent-early (length (named_variables [] q.clauses)) max_steps q.settings.max_steps q.steps z.steps few (ap (λ (s : Settings). s.max_steps) settings ∙ m) steps);
+      }
+    where
+      spent-early : (n max_steps own before after : ℕ) → CountsSteps n own before after (Err Interrupted) → own ≡ max_steps → before ≡ 0 → min max_steps (2 ^ 64 - 1) < 2 ^ (2 * n + 3)
+      spent-early n max_steps own before after k e z =
+          let b = k.bounded in
+          let d = k.count in
+          ⊎_elim (λ (s : k.made ≡ own). omega (arith, s, e, b)) (λ (s : after ≡ 2 ^ 64 - 1). omega (arith, s, d, z, b)) (k.spent refl)
 
 model-like : (p q : Past) (m : List Literal) → q.in_use ≡ p.in_use → q.clauses ≡ p.clauses → q.assumptions ≡ p.assumptions → IsModel p m → IsModel q m
 model-like p q m i c a k = record {
@@ -89,31 +155,31 @@ model-like p q m i c a k = record {
   assumed = subst (MakesTrue k.assignment) (sym a) k.assumed;
 }
 
-decided-told : {A : Type 0} (old new : Stand) (t u v : State) (m : Option (Vec Literal A)) → state.AddsDimacs empty_state old done new t → state.Solves t (Ok true) u → state.TellsModel u (told_model (Ok m)) v → Decides old new (listed m)
-decided-told {A = A} old new t u v m a b d =
-    let (q, x, g) = add-text empty_past empty_state t old new done empty-agrees a in
-    let (z, (w, s, e), h) = solve q t u (Ok true) g b in
-    let k = takes old new empty_past q x in
-    outcome m k (all-accepted empty_past q (dimacs k.read.text).clauses k.all).1 (s.0, s.1) z w e h d
+decided-told : {A : Type 0} (max_steps : ℕ) (c : SolverConfigUpdate) (old new : Stand) (t u v : State) (m : Option (Vec Literal A)) → Asked c old new t u (Ok true) → state.TellsModel u (told_model (Ok m)) v → Decides max_steps old new (Decided (listed m))
+decided-told {A = A} max_steps c old new t u v m a d =
+    let (q, x, g) = text-taken c old new t u (Ok true) a in
+    let (z, (w, s, few, e), h) = solve q t u (Ok true) g a.solves in
+    let k = takes old new (begun c) q x in
+    let settled = accept-settled (dimacs k.read.text).clauses empty_past (updated_settings default_settings c) in
+    outcome m k settled (all-accepted (begun c) q (dimacs k.read.text).clauses k.all).1 (s.0, s.1) z w e h d
   where
-    outcome : (m : Option (Vec Literal A)) {q : Past} (k : Takes old new empty_past q) → (IsSatisfiable q.clauses → ⊥) ⊎ (q ≡ accept_all (dimacs k.read.text).clauses empty_past) → IsSatisfiable q.clauses → (z : Past) → q.valid ≡ true → z ≡ record q { has_model = true } → Agrees z u → state.TellsModel u (told_model (Ok m)) v → Decides old new (listed m)
-    outcome m k (inl n) s z w e h d = absurd (n s)
-    outcome None k (inr n) s z w e h d =
+    outcome : (m : Option (Vec Literal A)) {q : Past} (k : Takes old new (begun c) q) → accept_all (dimacs k.read.text).clauses (begun c) ≡ record (accept_all (dimacs k.read.text).clauses empty_past) { settings = updated_settings default_settings c } → (IsSatisfiable q.clauses → ⊥) ⊎ (q ≡ accept_all (dimacs k.read.text).clauses (begun c)) → IsSatisfiable q.clauses → (z : Past) → q.valid ≡ true → z ≡ record q { has_model = true; steps = z.steps } → Agrees z u → state.TellsModel u (told_model (Ok m)) v → Decides max_steps old new (Decided (listed m))
+    outcome m k f (inl n) s z w e h d = absurd (n s)
+    outcome None k f (inr n) s z w e h d =
         let (y, (x, i), j) = tell-model z u v (Ok None) h d in absurd (let o : false ≡ true = sym (x (ap (λ y. y.valid) e ∙ w)) ∙ ap (λ y. y.has_model) e in cc)
-    outcome (Some l) k (inr n) s z w e h d =
-        let (y, (x, i, o, f), j) = tell-model z u v (Ok (Some l.items)) h d in
-        let same = sym n in
+    outcome (Some l) k f (inr n) s z w e h d =
+        let (y, (x, i, o, same_past), j) = tell-model z u v (Ok (Some l.items)) h d in
+        let same = sym f ∙ sym n in
         record {
           read = k.read;
           ended = k.ended;
           fine = k.fine;
-          found = model-like z (accept_all (dimacs k.read.text).clauses empty_past) l.items (ap (λ y. y.in_use) same ∙ sym (ap (λ y. y.in_use) e)) (ap (λ y. y.clauses) same ∙ sym (ap (λ y. y.clauses) e)) (ap (λ y. y.assumptions) same ∙ sym (ap (λ y. y.assumptions) e)) o;
+          found = model-like z (accept_all (dimacs k.read.text).clauses empty_past) l.items (ap (λ (y : Past). y.in_use) same ∙ sym (ap (λ (y : Past). y.in_use) e)) (ap (λ (y : Past). y.clauses) same ∙ sym (ap (λ (y : Past). y.clauses) e)) (ap (λ (y : Past). y.assumptions) same ∙ sym (ap (λ (y : Past). y.assumptions) e)) o;
         }
 
-pub outcome-told : {A : Type 0} (old new : Stand) (t u v : State) (added : Result (Unit {0}) SolverError) (found : Result Bool SolverError) (told : Result (Option (Vec Literal A)) AllocError) (m : Option (Vec Literal A)) →
-    state.AddsDimacs empty_state old added new t → added ≡ done → state.Solves t found u → found ≡ Ok true → state.TellsModel u (told_model told) v → told ≡ Ok m → Decides old new (listed m)
-outcome-told old new t u v added found told m a x b y d z =
-    decided-told old new t u v m (subst (λ r. state.AddsDimacs empty_state old r new t) x a) (subst (λ r. state.Solves t r u) y b) (subst (λ r. state.TellsModel u (told_model r) v) z d)
+pub outcome-told : {A : Type 0} (max_steps : ℕ) (c : SolverConfigUpdate) (old new : Stand) (t u v : State) (found : Result Bool SolverError) (told : Result (Option (Vec Literal A)) AllocError) (m : Option (Vec Literal A)) → Asked c old new t u found → found ≡ Ok true → state.TellsModel u (told_model told) v → told ≡ Ok m → Decides max_steps old new (Decided (listed m))
+outcome-told max_steps c old new t u v found told m a y d z =
+    decided-told max_steps c old new t u v m (subst (Asked c old new t u) y a) (subst (λ r. state.TellsModel u (told_model r) v) z d)
 
 -- The status.
 
@@ -121,8 +187,8 @@ clauses-accepted : (P : List Clause) (p : Past) → (accept_all P p).clauses ≡
 clauses-accepted [] p = sym (append-nil p.clauses)
 clauses-accepted (c ∷ P) p = clauses-accepted P (accept c p) ∙ append_assoc p.clauses (c ∷ []) P
 
-pub outcome-is-true : (old new : Stand) (outcome : Option (List Literal)) (status : ℕ) → Decides old new outcome → status ≡ outcome_status outcome → StatusIsTrue old new status
-outcome-is-true old new outcome status d e = record {
+pub outcome-is-true : (max_steps : ℕ) (old new : Stand) (outcome : Conclusion) (status : ℕ) → Decides max_steps old new outcome → status ≡ conclusion_status outcome → StatusIsTrue old new status
+outcome-is-true max_steps old new outcome status d e = record {
   ended = λ n. d.ended.told;
   fine = λ text g n. subst (λ x. (dimacs x).fault ≡ None) (same text g) d.fine;
   satisfiable = λ text g t. subst (λ x. IsSatisfiable (dimacs x).clauses) (same text g) (found outcome (sym e ∙ t) d.found);
@@ -132,10 +198,12 @@ outcome-is-true old new outcome status d e = record {
     same : (text : List ℕ) → new.given ≡ old.given ++ text → d.read.text ≡ text
     same text g = append_cancel_left old.given d.read.text text (sym d.read.reads.gave ∙ g)
 
-    found : (o : Option (List Literal)) → outcome_status o ≡ 10 → IsOutcome (dimacs d.read.text).clauses o → IsSatisfiable (dimacs d.read.text).clauses
-    found None h k = absurd (omega (arith, h))
-    found (Some m) h k = (k.assignment, subst (SatisfiesAll k.assignment) (clauses-accepted (dimacs d.read.text).clauses empty_past) k.satisfies)
+    found : (o : Conclusion) → conclusion_status o ≡ 10 → IsConclusion max_steps (dimacs d.read.text).clauses o → IsSatisfiable (dimacs d.read.text).clauses
+    found Unknown h k = absurd (omega (arith, h))
+    found (Decided None) h k = absurd (omega (arith, h))
+    found (Decided (Some m)) h k = (k.assignment, subst (SatisfiesAll k.assignment) (clauses-accepted (dimacs d.read.text).clauses empty_past) k.satisfies)
 
-    none : (o : Option (List Literal)) → outcome_status o ≡ 20 → IsOutcome (dimacs d.read.text).clauses o → IsSatisfiable (dimacs d.read.text).clauses → ⊥
-    none None h k = k
-    none (Some m) h k = absurd (omega (arith, h))
+    none : (o : Conclusion) → conclusion_status o ≡ 20 → IsConclusion max_steps (dimacs d.read.text).clauses o → IsSatisfiable (dimacs d.read.text).clauses → ⊥
+    none Unknown h k = absurd (omega (arith, h))
+    none (Decided None) h k = k
+    none (Decided (Some m)) h k = absurd (omega (arith, h))

@@ -1,9 +1,9 @@
 -- A search that finds a verdict, and spaces that agree.
-use Rattle.std.proofs.Common.{◌≡◌, ◌≢◌, ℕ, ◌≤◌, Bool, true, false, Option, Some, None, List, [], ◌∷◌, ◌++◌, inl, inr, ⊎_elim, sym, ap, ◌∙◌, subst, refl, map, length}
+use Rattle.std.proofs.Common.{◌≡◌, ◌≢◌, ℕ, ◌≤◌, Bool, true, Option, Some, None, List, [], ◌∷◌, inl, inr, ⊎_elim, sym, ap, ◌∙◌, subst, refl, map, length}
 use Rattle.varisat_theory.specs.Membership.{◌∈◌}
-use Rattle.varisat_theory.specs.Literals.{Literal, Clause, Assignment, variable_of, literal_of, value, SatisfiesAll, MakesTrue}
+use Rattle.varisat_theory.specs.Literals.{Literal, Assignment, variable_of, literal_of, value, SatisfiesAll, MakesTrue}
 use Rattle.varisat_theory.specs.Derivations.{Line}
-use Rattle.varisat_theory.specs.Searches.{Search, Covers, IsLiteralOf}
+use Rattle.varisat_theory.specs.Searches.{Search, IsLiteralOf}
 use Rattle.varisat_theory.specs.Outcomes.{Outcome, MakesSteps}
 use Rattle.varisat_theory.specs.Outcomes as outcome
 use Rattle.varisat_theory.proofs.Renaming.{∈-map, map-∈}
@@ -13,17 +13,17 @@ use Rattle.varisat_literals.specs.Numbers.{polarity_of}
 use Rattle.varisat_prop.specs.Parts.{is_true_value}
 use Rattle.varisat_search.proofs.StepOutcome.{variable-literal, polarity-literal}
 use Rattle.varisat_names.specs.Maps.{onward, chain}
-use Rattle.varisat.specs.States.{State, Verdict, Unknown, Sat, Unsat, IsRight, HasRightVerdict}
+use Rattle.varisat.specs.States.{State, Verdict, Unknown, Sat, Unsat, IsRight}
 use Rattle.varisat.specs.Names.{identity_of}
 use Rattle.varisat.specs.Calls.{with_verdict}
 use Rattle.varisat.specs.Carried.{carry, is_forced, value_or}
-use Rattle.varisat.specs.Spaces.{Spaces, Carrying, Translation, translation, SearchHolds, AssumptionsFit, MarksFit, VerdictFits, Links, SpacesFit}
+use Rattle.varisat.specs.Spaces.{Spaces, Carrying, translation, SearchHolds, AssumptionsFit, MarksFit, VerdictFits, Links, SpacesFit}
 use Rattle.varisat.proofs.SpacesMoves.{AreLong, AreInUse}
 use Rattle.varisat_names.proofs.Maps.{chain-some, chain-through, is-some}
-use Rattle.varisat.proofs.SpacesAgree.{identities-same, names-same, modes-same, units-same, isolation-same, solvers-same, assumptions-same, marks-same, holds-same, verdict-moved, value-same}
+use Rattle.varisat.proofs.SpacesAgree.{identities-same, names-same, modes-same, units-same, isolation-same, solvers-same, assumptions-same, marks-same, holds-same, value-same}
 use Rattle.varisat.proofs.Carried.{value-true, true-value, value-carry, forced-value}
 use Rattle.varisat.proofs.Relinked.{relinked}
-use Rattle.varisat.proofs.SearchHeld.{answers-covers, held-on, fixed-on, refuted}
+use Rattle.varisat.proofs.SearchHeld.{answers-covers, held-on, refuted}
 
 -- the identity of the solver variable leads back to it
 there-back : (w : Carrying) (p : Spaces) (s : State) (k : Links w p s) (v i : ℕ) → (translation w p).identity v ≡ Some i → (translation w p).solver i ≡ Some v
@@ -74,6 +74,10 @@ module _ (w : Carrying) (p : Spaces) (s : State) (k : Links w p s) (unknown : p.
       (λ e Q g. answers-covers Q t v e (made.answers Q g))
       lines after (by_derives n before.held lines after d) o
       (λ l a. let (x, b) = in-use l a in let q = k.solvers.live (variable_of l) x b in (q.0, chain-some p.global_from_solver w.identity (variable_of l) x b ∙ q.1))
+
+  -- without a verdict
+  pub went-on : (m : ℕ → Bool) → v ≡ outcome.Unknown → Links w (decide t v m p) (with_verdict Unknown s)
+  went-on m e = decided w p s t v m Unknown k steps-hold (subst (λ y. VerdictFits w.identity m y Unknown) (sym e) tt) tt
 
   pub unsat-found : (m : ℕ → Bool) → v ≡ outcome.Unsat → Links w (decide t v m p) (with_verdict Unsat s)
   unsat-found m e =

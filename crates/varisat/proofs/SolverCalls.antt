@@ -10,13 +10,19 @@ use Rattle.varisat_theory.proofs.StepStands.{first_stands}
 use Rattle.varisat_prop.specs.Parts.{is_true_value}
 use Rattle.varisat_prop.specs.View.{View, WellFormed}
 use Rattle.varisat_search.specs.declared.state.SatState.TheVariants as verdict
+use Rattle.varisat_search.specs.declared.state.SolverState.{SolverState}
+use Rattle.varisat_search.specs.declared.context.Context.{Context}
+use Rattle.varisat_search.specs.Contexts.{view, first_state, IsReady}
+use Rattle.varisat_search.specs.Decisions.{IsDecidable}
 use Rattle.varisat_search.specs.Seen.{search_of, outcome_of, first_search}
 use Rattle.varisat_search.specs.Steps.{assignment_of}
-use Rattle.varisat_names.specs.VarMap.{at, IsFull, IsLeastUnmapped}
+use Rattle.varisat_names.specs.VarMap.{at, IsLeastUnmapped}
 use Rattle.varisat_names.specs.VarData.{kept_at}
 use Rattle.varisat_names.specs.Variables.{Tables, no_variables, IsGiven}
 use Rattle.varisat_names.proofs.Maps.{chain-none, chain-some, is-some}
-use Rattle.varisat.specs.States.{State, Verdict, Unknown, Sat, Unsat, HasRightVerdict, IsRight, empty_state}
+use Rattle.varisat.specs.Budgets.{CountsSteps}
+use Rattle.varisat.specs.declared.solver.SolverError.{SolverError}
+use Rattle.varisat.specs.States.{State, Ledger, Verdict, Unknown, Sat, Unsat, HasRightVerdict, IsRight, empty_state}
 use Rattle.varisat.specs.Names.{bring, bring_next, bring_if_free, name_one, IsLeastFree}
 use Rattle.varisat.specs.Models.{put_name, model_of, IsCompletable}
 use Rattle.varisat.specs.Calls.{IsValid, TellsModel, answer_of, with_verdict}
@@ -25,16 +31,32 @@ use Rattle.std.specs.Result.{IsErr}
 use Rattle.std.specs.declared.alloc.AllocError.{AllocError}
 use Rattle.varisat.specs.Carried.{value_or}
 use Rattle.varisat.specs.Accepting.{IsPlain}
-use Rattle.varisat.specs.Searches.{verdict_of}
+use Rattle.varisat.specs.Searches.{verdict_of, verdict_found}
 use Rattle.varisat.specs.Spaces.{Spaces, Carrying, VerdictFits, Links, SpacesFit, list_globals}
-use Rattle.varisat.specs.Summaries.{Summary, StandsFor, spaces, spaces_of, list_tables}
-use Rattle.varisat.proofs.SolveVerdict.{sat-found, unsat-found, found}
+use Rattle.varisat.specs.Summaries.{Summary, IsKept, StandsFor, spaces, spaces_of, list_tables}
+use Rattle.varisat.proofs.SolveVerdict.{sat-found, unsat-found, found, went-on}
 use Rattle.varisat.proofs.ModelsFit.{told, is-sat, is-unknown}
 use Rattle.varisat.proofs.PlainTables.{given-plain}
 use Rattle.varisat.proofs.AcceptClause.{with_tables, given-spaces, in-use-all}
 use Rattle.varisat.proofs.SearchViews.{view-long}
 
 -- 1. A new solver.
+
+first-plain : IsPlain no_variables
+first-plain = record {
+  nothing_hidden = record { users = λ u h. absurd (omega (arith, h)); count = refl; live = λ x h. absurd (omega (arith, h)); solvers = λ u h. absurd (omega (arith, h)) };
+  no_units = λ x. refl;
+}
+
+pub first-kept : {A : Type 0} (t : Tables) (c : Context A) → t ≡ no_variables → IsReady c → length c.assignment.current ≡ 0 → c.solver_state ≡ first_state → ((v : ℕ) → IsDecidable (view c) c.vsids v → ⊥) → IsKept t c
+first-kept t c e r n s d = record {
+  small = let z = ap (λ (x : Tables). length x.users.forward) e in omega (arith, z);
+  plain = subst IsPlain (sym e) first-plain;
+  ready = r;
+  count = n ∙ ap (λ (x : Tables). length x.solvers.backward) (sym e);
+  decidable = λ v. ((λ h. absurd (d v h)), (λ h. absurd (omega (arith, h, n))));
+  no_assumptions = λ q. let z : verdict.Unknown ≡ verdict.UnsatUnderAssumptions = sym (ap (λ (x : SolverState). x.sat_state) s) ∙ q in cc;
+}
 
 pub first-spaces : (s : View) → search_of s ≡ first_search → length s.values ≡ 0 → SpacesFit (spaces_of no_variables s verdict.Unknown) empty_state
 first-spaces s e n =
@@ -119,14 +141,14 @@ new-plain old new u x n least b t = given-plain old new x n (subst (λ v. IsGive
 recount : (w : Carrying) (p : Spaces) (m n : ℕ) (s : State) → n ≡ m → Links w (record p { var_count = m }) s → Links w (record p { var_count = n }) s
 recount w p m n s e k = subst (λ c. Links w (record p { var_count = c }) s) (sym e) k
 
--- Steps of the search found an answer, and left the view.
-pub record VerdictFound (g : Summary) (t : View) (b : Bool) : Type 0 where
+-- Steps of the search found a verdict or none, and left the view.
+pub record StepsMade (g : Summary) (t : View) (found : Option Bool) : Type 0 where
   pub unknown : g.sat_state ≡ verdict.Unknown
   pub plain : IsPlain g.tables
   pub count : length g.search.values ≡ length g.tables.solvers.backward
   pub same_count : length t.values ≡ length g.search.values
   pub well : WellFormed t
-  pub steps : (k : ℕ) × (lines : List Line) × MakesSteps k (search_of g.search) (search_of t) (outcome_of t (verdict_of b)) lines
+  pub steps : (k : ℕ) × (lines : List Line) × MakesSteps k (search_of g.search) (search_of t) (outcome_of t (verdict_found found)) lines
 
 pub record Decided (g : Summary) (s : State) (b : Bool) : Type 0 where
   pub verdict : Verdict
@@ -134,7 +156,7 @@ pub record Decided (g : Summary) (s : State) (b : Bool) : Type 0 where
   pub right : HasRightVerdict (with_verdict verdict s)
   pub fits : SpacesFit (spaces g) (with_verdict verdict s)
 
-decided-fits : (g : Summary) (s : State) (t : View) (b : Bool) → SpacesFit (spaces g) s → VerdictFound g t b → Decided (record g { search = t; sat_state = verdict_of b }) s b
+decided-fits : (g : Summary) (s : State) (t : View) (b : Bool) → SpacesFit (spaces g) s → StepsMade g t (Some b) → Decided (record g { search = t; sat_state = verdict_of b }) s b
 decided-fits g s t true (w, k) v =
     let (j, lines, made) = v.steps in
     let unknown = ap (outcome_of g.search) v.unknown in
@@ -151,8 +173,26 @@ decided-fits g s t false (w, k) v =
     let links' = recount w (spaces (record g { search = t; sat_state = verdict.Unsat })) (length g.search.values) (length t.values) (with_verdict Unsat s) v.same_count links in
     record { verdict = Unsat; answer = refl; right = links'.right; fits = (w, links') }
 
-pub decided : (g : Summary) (s : State) (t : View) (b : Bool) → StandsFor g s → g.ledger.valid ≡ true → VerdictFound g t b → Decided (record g { search = t; sat_state = verdict_of b }) s b
+pub decided : (g : Summary) (s : State) (t : View) (b : Bool) → StandsFor g s → g.ledger.valid ≡ true → StepsMade g t (Some b) → Decided (record g { search = t; sat_state = verdict_of b }) s b
 decided g s t b st v f = decided-fits g s t b (st.fits v) f
+
+-- how the steps are counted, for the state
+pub counted-call : (g : Summary) (s : State) (max_steps after : ℕ) (a r : Result Bool SolverError) → StandsFor g s → g.ledger.valid ≡ true → max_steps ≡ g.ledger.settings.max_steps → a ≡ r → ((n : ℕ) → length g.search.values ≤ n → CountsSteps n max_steps g.ledger.steps after a) → CountsSteps (length s.counted) s.ledger.settings.max_steps s.ledger.steps after r
+counted-call g s max_steps after a r st v m e c =
+    let k = c (length s.counted) (st.fits v).1.few in
+    let o = sym (ap (λ (l : Ledger). l.settings.max_steps) st.ledger) in
+    subst (λ x. CountsSteps (length s.counted) s.ledger.settings.max_steps x after r) (sym (ap (λ (l : Ledger). l.steps) st.ledger))
+    (subst (λ x. CountsSteps (length s.counted) x g.ledger.steps after r) (m ∙ o)
+    (subst (CountsSteps (length s.counted) max_steps g.ledger.steps after) e k))
+
+-- the search can go on from where it was interrupted
+pub interrupted : (g : Summary) (s : State) (t : View) → StandsFor g s → g.ledger.valid ≡ true → StepsMade g t None → SpacesFit (spaces (record g { search = t; sat_state = verdict.Unknown })) (with_verdict Unknown s)
+interrupted g s t st valid v =
+    let (w, k) = st.fits valid in
+    let (j, lines, made) = v.steps in
+    let in-use = in-use-all g.tables t v.plain.nothing_hidden.solvers (v.same_count ∙ v.count) v.well in
+    let links = went-on w (spaces g) s k (ap (outcome_of g.search) v.unknown) (search_of t) outcome.Unknown j lines made (view-long t v.well) in-use (spaces (record g { search = t; sat_state = verdict.Unknown })).model refl in
+    (w, recount w (spaces (record g { search = t; sat_state = verdict.Unknown })) (length g.search.values) (length t.values) (with_verdict Unknown s) v.same_count links)
 
 -- before that the verdict was unknown
 pub was-unknown : (g : Summary) (s : State) → StandsFor g s → g.ledger.valid ≡ true → g.sat_state ≡ verdict.Unknown → s.verdict ≡ Unknown
@@ -193,7 +233,7 @@ sat-right g s st valid e =
     let r = subst (IsRight s.clauses s.assumptions s.counted) v k.right in
     (a, r.0, r.1)
 
-pub found-true : (g : Summary) (s : State) (t : View) (b : Bool) → StandsFor g s → g.ledger.valid ≡ true → VerdictFound g t b → b ≡ true → IsSatisfiableWith s.clauses s.assumptions
+pub found-true : (g : Summary) (s : State) (t : View) (b : Bool) → StandsFor g s → g.ledger.valid ≡ true → StepsMade g t (Some b) → b ≡ true → IsSatisfiableWith s.clauses s.assumptions
 found-true g s t b st v f e = let d = decided g s t b st v f in go d.verdict (d.answer ∙ ap Some e) d.right
   where
     go : (v : Verdict) → answer_of v ≡ Some true → IsRight s.clauses s.assumptions s.counted v → IsSatisfiableWith s.clauses s.assumptions
@@ -201,7 +241,7 @@ found-true g s t b st v f e = let d = decided g s t b st v f in go d.verdict (d.
     go (Sat a) q r = (a, r.0, r.1)
     go Unsat q r = absurd cc
 
-pub found-false : (g : Summary) (s : State) (t : View) (b : Bool) → StandsFor g s → g.ledger.valid ≡ true → VerdictFound g t b → b ≡ false → IsSatisfiableWith s.clauses s.assumptions → ⊥
+pub found-false : (g : Summary) (s : State) (t : View) (b : Bool) → StandsFor g s → g.ledger.valid ≡ true → StepsMade g t (Some b) → b ≡ false → IsSatisfiableWith s.clauses s.assumptions → ⊥
 found-false g s t b st v f e = let d = decided g s t b st v f in go d.verdict (d.answer ∙ ap Some e) d.right
   where
     go : (v : Verdict) → answer_of v ≡ Some false → IsRight s.clauses s.assumptions s.counted v → IsSatisfiableWith s.clauses s.assumptions → ⊥

@@ -1,7 +1,7 @@
 -- What stays where the maps and what is kept agree at each place.
-use Rattle.std.proofs.Common.{◌≡◌, ◌≢◌, ℕ, ◌+◌, ◌*◌, ◌%◌, Bool, true, Option, Some, List, [], ◌∷◌, inl, inr, ⊎_elim, sym, ap, ◌∙◌, subst, refl, map}
+use Rattle.std.proofs.Common.{◌≡◌, ℕ, ◌+◌, ◌*◌, ◌%◌, Bool, true, Option, Some, List, [], ◌∷◌, inl, inr, sym, ap, ◌∙◌, subst, refl, map}
 use Rattle.varisat_theory.specs.Membership.{◌∈◌}
-use Rattle.varisat_theory.specs.Literals.{Literal, Clause, Assignment, variable_of, value, SatisfiesAll}
+use Rattle.varisat_theory.specs.Literals.{Literal, Clause, Assignment, variable_of, value}
 use Rattle.varisat_theory.specs.Renaming.{rename}
 use Rattle.varisat_theory.specs.Searches.{Search, IsCoveredBySearch, Tautology, KnownTrue, FixedTrue, Kept}
 use Rattle.varisat_theory.specs.Outcomes.{Outcome, IsReached}

@@ -1,7 +1,7 @@
 -- What the parts of a call do to the spaces, and to the state.
-use Rattle.std.proofs.Common.{◌≡◌, ◌≢◌, ℕ, ◌+◌, max, Bool, true, false, Option, Some, None, List, [], ◌∷◌, ◌++◌, length}
+use Rattle.std.proofs.Common.{◌≡◌, ◌≢◌, ℕ, ◌+◌, max, true, false, Some, List, [], ◌∷◌, ◌++◌}
 use Rattle.varisat_theory.specs.Membership.{◌∈◌}
-use Rattle.varisat_theory.specs.Literals.{Literal, Clause, Assignment, variable_of}
+use Rattle.varisat_theory.specs.Literals.{Literal, Clause, variable_of}
 use Rattle.varisat_theory.specs.Searches.{Search, KeptClause, IsLiteralOf}
 use Rattle.varisat_theory.specs.Outcomes.{Outcome}
 use Rattle.varisat_names.specs.Maps.{updated, chain}

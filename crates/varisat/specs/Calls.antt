@@ -1,7 +1,7 @@
 -- Which answer and which new state each call may give: one relation a call, with a case for each answer. A case that is ⊥ is an answer that the call never gives.
 --
--- Refusals are looked for in this order: Invalid; then `add_clause` returns Ok under the verdict Unsat; VariableLimit; OutOfMemory.
-use Rattle.std.specs.Prelude.{◌≡◌, ◌≢◌, ℕ, ◌^◌, ◌<◌, ◌≤◌, Bool, true, false, Option, Some, None, List, [], ◌∷◌, ◌++◌, ◌⊎◌, Result, Ok, Err, map}
+-- Refusals are looked for in this order: Invalid; then `add_clause` returns Ok under the verdict Unsat; VariableLimit; ConfigOutOfRange; OutOfMemory; Interrupted.
+use Rattle.std.specs.Prelude.{◌≡◌, ◌≢◌, ℕ, ◌<◌, ◌≤◌, Bool, true, false, Option, Some, None, List, [], ◌∷◌, ◌++◌, ◌⊎◌, Result, Ok, Err, map, length}
 use Rattle.std.specs.declared.alloc.AllocError.{AllocError}
 use Rattle.varisat_theory.specs.Membership.{◌∈◌}
 use Rattle.varisat_theory.specs.Literals.{Literal, Clause, variable_of, opposite, IsUnit, IsSatisfiable}
@@ -11,9 +11,13 @@ use Rattle.varisat.specs.States.{State, join_counted, Verdict, Unknown, Sat, Uns
 use Rattle.varisat.specs.Names.{name_one, name_all, through_names, IsLeastFree}
 use Rattle.varisat.specs.Models.{model_of}
 use Rattle.varisat_formula.specs.declared.dimacs.error.DimacsError.{DimacsError}
+use Rattle.varisat_names.specs.declared.config.SolverConfigUpdate.{SolverConfigUpdate}
+use Rattle.varisat_names.specs.Settings.{updated_settings}
+use Rattle.varisat.specs.Updates as updates
+use Rattle.varisat.specs.Budgets.{CountsSteps}
 use Rattle.varisat.specs.Additions as additions
 use Rattle.varisat.specs.declared.solver.SolverError.{SolverError}
-use Rattle.varisat.specs.declared.solver.SolverError.TheVariants.{OutOfMemory, Invalid, VariableLimit, Dimacs}
+use Rattle.varisat.specs.declared.solver.SolverError.TheVariants.{Interrupted, OutOfMemory, Invalid, VariableLimit}
 use Rattle.varisat_literals.specs.Numbers.{variable_limit}
 
 abbrev pub is_valid : State → Bool
@@ -34,10 +38,10 @@ pub record IsLike (s t : State) : Type 0 where
   pub verdict : t.verdict ≡ s.verdict
   pub ledger : t.ledger ≡ s.ledger
 
--- An error from which there is no way back: from then on the state is invalid. Nothing else is told of it but that it is well-formed.
+-- An error from which there is no way back: from then on the state is invalid. Nothing else is told of it but that it is well-formed, and what the ledger tells.
 pub record Invalidates (s t : State) : Type 0 where
   pub valid : IsValid s
-  pub invalid : is_valid t ≡ false
+  pub ledger : t.ledger ≡ record s.ledger { valid = false }
   pub well_formed : IsWellFormed t
 
 -- the call is refused: the solver is invalid, and nothing changes
@@ -93,7 +97,7 @@ AddsClause s d (Ok _) t = IsValid s × TakesClause s d t
 AddsClause s d (Err Invalid) t = IsRefusedInvalid s t
 AddsClause s d (Err VariableLimit) t = IsValid s × (s.verdict ≢ Unsat) × (IsPastLimit d ⊎ IsCrowded (name_all d s)) × (t ≡ s)
 AddsClause s d (Err OutOfMemory) t = (s.verdict ≢ Unsat) × (IsPastLimit d → ⊥) × Invalidates s t
-AddsClause s d (Err (Dimacs cause)) t = ⊥
+AddsClause s d (Err _) t = ⊥
 
 -- The calls `add_formula` and `add_dimacs_cnf`.
 
@@ -126,8 +130,8 @@ abbrev pub MakesVar : State → Result ℕ SolverError → State → Type 0
 MakesVar s (Ok u) t = IsValid s × IsLeastFree s u × (u < variable_limit) × IsLike (start (name_one u s)) t
 MakesVar s (Err Invalid) t = IsRefusedInvalid s t
 MakesVar s (Err VariableLimit) t = IsValid s × ((u : ℕ) × IsLeastFree s u × ((variable_limit ≤ u) ⊎ IsCrowded (name_one u s))) × (t ≡ s)
-MakesVar s (Err (Dimacs cause)) t = ⊥
 MakesVar s (Err OutOfMemory) t = ((u : ℕ) × IsLeastFree s u × (u < variable_limit)) × Invalidates s t
+MakesVar s (Err _) t = ⊥
 
 -- The call `solve`.
 
@@ -141,18 +145,35 @@ answer_of Unsat = Some false
 abbrev pub with_verdict : Verdict → State → State
 with_verdict v s = record s { verdict = v }
 
--- A verdict is returned, and is right. One that was known stays.
+-- the same state after so many steps in all
+abbrev pub with_steps : ℕ → State → State
+with_steps n s = record s { ledger = record s.ledger { steps = n } }
+
+-- how the steps are counted that a call makes under the verdict Unknown, by its answer
+abbrev pub CountsCall : State → Result Bool SolverError → State → Type 0
+CountsCall s r t = CountsSteps (length s.counted) s.ledger.settings.max_steps s.ledger.steps t.ledger.steps r
+
+-- A verdict is returned, and is right. One that was known stays, and no step is made.
 pub record TellsVerdict (s : State) (b : Bool) (t : State) : Type 0 where
   pub valid : IsValid s
-  pub known : s.verdict ≢ Unknown → t.verdict ≡ s.verdict
+  pub known : s.verdict ≢ Unknown → (t.verdict ≡ s.verdict) × (t.ledger.steps ≡ s.ledger.steps)
+  pub steps : s.verdict ≡ Unknown → CountsCall s (Ok b) t
   pub answer : answer_of t.verdict ≡ Some b
   pub right : HasRightVerdict t
-  pub rest : IsLike (with_verdict t.verdict s) t
+  pub rest : IsLike (with_verdict t.verdict (with_steps t.ledger.steps s)) t
+
+-- The steps are spent before a verdict is known. The search can go on from there.
+pub record IsInterrupted (s t : State) : Type 0 where
+  pub valid : IsValid s
+  pub unknown : s.verdict ≡ Unknown
+  pub steps : CountsCall s (Err Interrupted) t
+  pub rest : IsLike (with_steps t.ledger.steps s) t
 
 abbrev pub Solves : State → Result Bool SolverError → State → Type 0
 Solves s (Ok b) t = TellsVerdict s b t
 Solves s (Err Invalid) t = IsRefusedInvalid s t
-Solves s (Err OutOfMemory) t = (s.verdict ≡ Unknown) × Invalidates s t
+Solves s (Err OutOfMemory) t = (s.verdict ≡ Unknown) × CountsCall s (Err OutOfMemory) t × Invalidates (with_steps t.ledger.steps s) t
+Solves s (Err Interrupted) t = IsInterrupted s t
 Solves s (Err _) t = ⊥
 
 -- The call `model`.
@@ -161,6 +182,20 @@ Solves s (Err _) t = ⊥
 abbrev pub TellsModel : State → Result (Option (List Literal)) AllocError → State → Type 0
 TellsModel s (Ok m) t = ((IsValid s × (m ≡ model_of s s.verdict)) ⊎ ((is_valid s ≡ false) × (m ≡ None))) × (t ≡ s)
 TellsModel s (Err _) t = IsValid s × (answer_of s.verdict ≡ Some true) × (t ≡ s)
+
+-- The call `config`.
+
+-- the settings are replaced for which the update has values
+abbrev pub with_update : SolverConfigUpdate → State → State
+with_update u s = record s { ledger = record s.ledger { settings = updated_settings s.ledger.settings u } }
+
+abbrev pub Configures : State → SolverConfigUpdate → Result (Unit {0}) SolverError → State → Type 0
+Configures s u r t = updates.Configures is_valid with_update s u r t
+
+-- The call `steps`.
+
+abbrev pub TellsSteps : State → ℕ → State → Type 0
+TellsSteps s n t = (n ≡ s.ledger.steps) × (t ≡ s)
 
 -- The call `is_valid`.
 

@@ -1,10 +1,13 @@
 -- What the program's `solve` finds out of a text, what it prints, and with which status it ends then.
-use Rattle.std.specs.Prelude.{◌≡◌, ◌≢◌, ℕ, true, List, ◌++◌, Option, Some, None, Vec, codes}
+use Rattle.std.specs.Prelude.{◌≡◌, ◌≢◌, ℕ, ◌+◌, ◌-◌, ◌*◌, ◌^◌, ◌<◌, min, true, List, [], ◌++◌, length, Option, Some, None, Vec, codes}
+use Rattle.std.specs.Option.{unwrap_or}
 use Rattle.varisat_theory.specs.Literals.{Literal, Clause, IsSatisfiable}
 use Rattle.varisat_formula.specs.Dimacs.{dimacs}
 use Rattle.varisat_formula.specs.Streams.{Stand, HasEnded}
 use Rattle.varisat.specs.Additions.{Gave}
-use Rattle.varisat.specs.Pasts.{empty_past, accept_all, IsModel}
+use Rattle.varisat.specs.Pasts.{empty_past, accept_all, named_variables, IsModel}
+use Rattle.varisat.specs.declared.program.Report.{Report}
+use Rattle.varisat.specs.declared.program.Report.TheVariants as report
 use Rattle.varisat.specs.Lines.{literals_text}
 
 -- the literals of a list that was made
@@ -17,12 +20,31 @@ abbrev pub IsOutcome : List Clause → Option (List Literal) → Type 0
 IsOutcome P None = IsSatisfiable P → ⊥
 IsOutcome P (Some model) = IsModel (accept_all P empty_past) model
 
--- What a source gave in a call, up to its end, is a text without a fault, and this is the outcome for its clauses.
-pub record Decides (old new : Stand) (outcome : Option (List Literal)) : Type 0 where
+-- What `solve` comes to for a text: an outcome for its clauses; or none, where the steps were spent before.
+pub data Conclusion : Type 0 where
+  Decided : Option (List Literal) → Conclusion
+  Unknown : Conclusion
+
+-- the same, with the literals of a list that was made
+abbrev pub concluded : {A : Type 0} → Report A → Conclusion
+concluded (report.Decided outcome) = Decided (listed outcome)
+concluded report.Unknown = Unknown
+
+-- how many steps may be made where they are limited, and where not
+abbrev pub allowed_steps : Option ℕ → ℕ
+allowed_steps limit = unwrap_or limit (2 ^ 64 - 1)
+
+-- It is one for the clauses, where so many steps may be made, and 2^64-1 be counted: these are spent only where they are fewer than a call may come to.
+abbrev pub IsConclusion : ℕ → List Clause → Conclusion → Type 0
+IsConclusion max_steps P (Decided outcome) = IsOutcome P outcome
+IsConclusion max_steps P Unknown = min max_steps (2 ^ 64 - 1) < 2 ^ (2 * length (named_variables [] P) + 3)
+
+-- What a source gave in a call, up to its end, is a text without a fault, and this is the conclusion for its clauses.
+pub record Decides (max_steps : ℕ) (old new : Stand) (conclusion : Conclusion) : Type 0 where
   pub read : Gave old new
   pub ended : HasEnded new
   pub fine : (dimacs read.text).fault ≡ None
-  pub found : IsOutcome (dimacs read.text).clauses outcome
+  pub found : IsConclusion max_steps (dimacs read.text).clauses conclusion
 
 abbrev pub model_text : List Literal → List ℕ
 model_text model = codes "s SATISFIABLE\nv" ++ literals_text model ++ codes "\n"
@@ -36,6 +58,15 @@ outcome_text (Some model) = model_text model
 abbrev pub outcome_status : Option (List Literal) → ℕ
 outcome_status None = 20
 outcome_status (Some model) = 10
+
+-- the same of a conclusion
+abbrev pub conclusion_text : Conclusion → List ℕ
+conclusion_text (Decided outcome) = outcome_text outcome
+conclusion_text Unknown = codes "s UNKNOWN\n"
+
+abbrev pub conclusion_status : Conclusion → ℕ
+conclusion_status (Decided outcome) = outcome_status outcome
+conclusion_status Unknown = 0
 
 -- the status where there was a fault
 abbrev pub fault_status : ℕ

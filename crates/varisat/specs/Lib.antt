@@ -2,6 +2,8 @@ pub mod Names
 pub mod States
 pub mod Models
 pub mod Refusals
+pub mod Budgets
+pub mod Updates
 pub mod Additions
 pub mod Calls
 pub mod Pasts

@@ -1,8 +1,10 @@
 -- The commands of a session: what each one calls, how it is spelled on its line, and the texts of answers.
-use Rattle.std.specs.Prelude.{◌≡◌, ◌==◌, ◌<◌, ◌^◌, ℕ, Bool, true, false, Option, Some, None, Result, Ok, Err, List, [], ◌∷◌, ◌++◌, map, flat_map, codes, decimal}
+use Rattle.std.specs.Prelude.{◌≡◌, ◌==◌, ◌<◌, ◌^◌, ℕ, Bool, true, false, Some, None, Result, Ok, Err, List, [], ◌∷◌, ◌++◌, map, flat_map, codes, decimal}
 use Rattle.std.specs.List.{All, join_with_byte, slice_split}
 use Rattle.varisat_theory.specs.Literals.{Literal}
 use Rattle.varisat_literals.specs.Numbers.{variable_text, literal_text}
+use Rattle.varisat_names.specs.declared.config.ConfigField.{ConfigField}
+use Rattle.varisat_names.specs.Settings.{field_text, update_of}
 use Rattle.varisat.specs.Refusals.{refusal_number}
 use Rattle.varisat.specs.declared.session.Call.{Call}
 use Rattle.varisat.specs.declared.session.Call.TheVariants as call
@@ -11,12 +13,14 @@ use Rattle.varisat.specs.declared.session.Answer.TheVariants as answer
 use Rattle.varisat.specs.declared.solver.SolverError.{SolverError}
 use Rattle.varisat.specs.declared.solver.SolverError.TheVariants.{OutOfMemory}
 
--- a command, by its call; a literal is its code
+-- a command, by its call; a literal is its code, and an update changes one setting
 pub data Command : Type 0 where
   Add : List Literal → Command
   New : Command
   Solve : Command
   Model : Command
+  Config : ConfigField → ℕ → Command
+  Steps : Command
   Close : Command
 
 -- the words of a command, in order
@@ -25,18 +29,22 @@ words (Add literals) = codes "add" ∷ map literal_text literals
 words New = codes "new" ∷ []
 words Solve = codes "solve" ∷ []
 words Model = codes "model" ∷ []
+words (Config field value) = codes "config" ∷ field_text field ∷ decimal value ∷ []
+words Steps = codes "steps" ∷ []
 words Close = codes "close" ∷ []
 
 -- its words, with one space between each two
 abbrev pub spelling : Command → List ℕ
 spelling command = join_with_byte 32 (words command)
 
--- its literals' numbers are at most 2^31
+-- its literals' numbers are at most 2^31, and a value is below 2^64
 abbrev pub HasNumbersInRange : Command → Type 0
 HasNumbersInRange (Add literals) = All (λ l. l < 2 ^ 32) literals
 HasNumbersInRange New = Unit {0}
 HasNumbersInRange Solve = Unit {0}
 HasNumbersInRange Model = Unit {0}
+HasNumbersInRange (Config field value) = value < 2 ^ 64
+HasNumbersInRange Steps = Unit {0}
 HasNumbersInRange Close = Unit {0}
 
 -- the text means the command
@@ -48,16 +56,16 @@ pub record Means (text : List ℕ) (command : Command) : Type 0 where
 abbrev pub MeansOneCommand : Type 0
 MeansOneCommand = (text : List ℕ) (a b : Command) → Means text a → Means text b → a ≡ b
 
--- the command that asks for a call, where there is one
-abbrev pub command_of : {S A : Type 0} → Call S A → Option Command
-command_of (call.AddClause literals) = Some (Add literals.items)
-command_of (call.AddFormula formula) = None
-command_of (call.AddDimacsCnf source) = None
-command_of call.NewVar = Some New
-command_of call.Solve = Some Solve
-command_of call.Model = Some Model
-command_of call.IsValid = None
-command_of call.CloseProof = Some Close
+-- the command asks for the call
+abbrev pub AsksFor : {S A : Type 0} → Call S A → Command → Type 0
+AsksFor (call.AddClause literals) (Add numbers) = literals.items ≡ numbers
+AsksFor call.NewVar New = Unit {0}
+AsksFor call.Solve Solve = Unit {0}
+AsksFor call.Model Model = Unit {0}
+AsksFor (call.Config update) (Config field value) = update ≡ update_of field value
+AsksFor call.Steps Steps = Unit {0}
+AsksFor call.CloseProof Close = Unit {0}
+AsksFor _ _ = ⊥
 
 -- the words that a text is cut into at its spaces
 abbrev pub words_of : List ℕ → List (List ℕ)
@@ -90,6 +98,8 @@ answer_text (answer.Solve (Err error)) = refusal_text error
 answer_text (answer.Model (Ok (Some literals))) = codes "ok" ++ literals_text literals.items
 answer_text (answer.Model (Ok None)) = codes "ok none"
 answer_text (answer.Model (Err _)) = refusal_text OutOfMemory
+answer_text (answer.Config done) = done_text done
+answer_text (answer.Steps steps) = codes "ok " ++ decimal steps
 answer_text (answer.IsValid b) = truth_text b
 answer_text (answer.CloseProof (Ok None)) = codes "ok none"
 answer_text (answer.CloseProof (Ok (Some target))) = codes "ok"

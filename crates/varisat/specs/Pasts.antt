@@ -1,17 +1,21 @@
 -- What the calls of a new solver and their answers say so far, and how a call moves it: no state of the solver is spoken of.
-use Rattle.std.specs.Prelude.{◌≡◌, ◌≢◌, ℕ, ◌+◌, ◌^◌, ◌<◌, ◌≤◌, nat_le, nat_eq, max, Bool, true, false, ◌&&◌, ◌||◌, Option, Some, None, List, [], ◌∷◌, ◌++◌, Result, Ok, Err}
+use Rattle.std.specs.Prelude.{◌≡◌, ℕ, ◌+◌, ◌<◌, nat_le, nat_eq, max, Bool, true, false, ◌&&◌, ◌||◌, Option, Some, None, List, [], ◌∷◌, ◌++◌, Result, Ok, Err, map, length, ◌⊎◌}
 use Rattle.std.specs.declared.alloc.AllocError.{AllocError}
 use Rattle.varisat_theory.specs.Membership.{◌∈◌}
 use Rattle.varisat_theory.specs.Literals.{Literal, Clause, Assignment, variable_of, SatisfiesAll, MakesTrue, IsSatisfiable, IsSatisfiableWith}
 use Rattle.varisat_formula.specs.Streams.{Stand}
+use Rattle.varisat_names.specs.declared.config.SolverConfigUpdate.{SolverConfigUpdate}
+use Rattle.varisat_names.specs.Settings.{Settings, default_settings, updated_settings}
+use Rattle.varisat.specs.States.{join_counted}
+use Rattle.varisat.specs.Budgets.{CountsSteps}
 use Rattle.varisat.specs.Models.{IsRising}
 use Rattle.varisat.specs.Calls.{IsPastLimit}
 use Rattle.varisat.specs.Additions as additions
 use Rattle.varisat.specs.declared.solver.SolverError.{SolverError}
-use Rattle.varisat.specs.declared.solver.SolverError.TheVariants.{OutOfMemory, Invalid, VariableLimit, Dimacs}
+use Rattle.varisat.specs.declared.solver.SolverError.TheVariants.{Interrupted, OutOfMemory, Invalid, VariableLimit}
 use Rattle.varisat_literals.specs.Numbers.{variable_limit}
 
--- `valid`: no call that changes the solver ran out of memory. `in_use`: whether a name is in use, and `watermark` is one above the highest. `clauses` were accepted, and `assumptions` given. `has_model`: `solve` returned true, and no clause was accepted since.
+-- `valid`: no call that changes the solver ran out of memory. `in_use`: whether a name is in use, and `watermark` is one above the highest. `clauses` were accepted, and `assumptions` given. `has_model`: `solve` returned true, and no clause was accepted since. `steps`: how many steps were made in all. `settings`: those by which further steps are made.
 pub record Past : Type 0 where
   pub valid : Bool
   pub in_use : ℕ → Bool
@@ -19,10 +23,12 @@ pub record Past : Type 0 where
   pub clauses : List Clause
   pub assumptions : List Literal
   pub has_model : Bool
+  pub steps : ℕ
+  pub settings : Settings
 
 -- before the first call
 abbrev pub empty_past : Past
-empty_past = record { valid = true; in_use = λ u. false; watermark = 0; clauses = []; assumptions = []; has_model = false }
+empty_past = record { valid = true; in_use = λ u. false; watermark = 0; clauses = []; assumptions = []; has_model = false; steps = 0; settings = default_settings }
 
 abbrev pub is_valid : Past → Bool
 is_valid p = p.valid
@@ -59,7 +65,7 @@ AddsClause p c (Ok _) q = (p.valid ≡ true) × TakesClause p c q
 AddsClause p c (Err Invalid) q = (p.valid ≡ false) × (q ≡ p)
 AddsClause p c (Err VariableLimit) q = (p.valid ≡ true) × IsPastLimit c × (q ≡ p)
 AddsClause p c (Err OutOfMemory) q = Invalidates p q
-AddsClause p c (Err (Dimacs cause)) q = ⊥
+AddsClause p c (Err _) q = ⊥
 
 abbrev pub adding : additions.Adding Past
 adding = record { valid = is_valid; invalidates = Invalidates; adds = AddsClause }
@@ -81,14 +87,28 @@ MakesVar p (Ok u) q = (p.valid ≡ true) × IsLeastFree p u × (u < variable_lim
 MakesVar p (Err Invalid) q = (p.valid ≡ false) × (q ≡ p)
 MakesVar p (Err VariableLimit) q = (p.valid ≡ true) × ((u : ℕ) → u < variable_limit → p.in_use u ≡ true) × (q ≡ p)
 MakesVar p (Err OutOfMemory) q = Invalidates p q
-MakesVar p (Err (Dimacs cause)) q = ⊥
+MakesVar p (Err _) q = ⊥
 
--- True is returned only if some assignment satisfies the clauses and the assumptions, false only if none does.
+-- the different variables that clauses name, behind those that are known
+abbrev pub named_variables : List ℕ → List Clause → List ℕ
+named_variables known [] = known
+named_variables known (c ∷ P) = named_variables (join_counted known (map variable_of c)) P
+
+-- how the steps are counted that a call makes before the verdict is known, by its answer
+abbrev pub CountsCall : Past → Result Bool SolverError → Past → Type 0
+CountsCall p r q = CountsSteps (length (named_variables [] p.clauses)) p.settings.max_steps p.steps q.steps r
+
+-- where the verdict is known no step is made; and it is known where a model was found last
+abbrev pub MakesFewSteps : Past → Bool → Past → Type 0
+MakesFewSteps p b q = (q.steps ≡ p.steps) ⊎ ((p.has_model ≡ false) × CountsCall p (Ok b) q)
+
+-- True is returned only if some assignment satisfies the clauses and the assumptions, false only if none does. A call is interrupted only where its steps are spent, and no model was found last.
 abbrev pub Solves : Past → Result Bool SolverError → Past → Type 0
-Solves p (Ok true) q = (p.valid ≡ true) × IsSatisfiableWith p.clauses p.assumptions × (q ≡ record p { has_model = true })
-Solves p (Ok false) q = (p.valid ≡ true) × (IsSatisfiableWith p.clauses p.assumptions → ⊥) × (q ≡ record p { has_model = false })
+Solves p (Ok true) q = (p.valid ≡ true) × IsSatisfiableWith p.clauses p.assumptions × MakesFewSteps p true q × (q ≡ record p { has_model = true; steps = q.steps })
+Solves p (Ok false) q = (p.valid ≡ true) × (IsSatisfiableWith p.clauses p.assumptions → ⊥) × MakesFewSteps p false q × (q ≡ record p { has_model = false; steps = q.steps })
 Solves p (Err Invalid) q = (p.valid ≡ false) × (q ≡ p)
-Solves p (Err OutOfMemory) q = Invalidates p q
+Solves p (Err OutOfMemory) q = CountsCall p (Err OutOfMemory) q × Invalidates (record p { steps = q.steps }) q
+Solves p (Err Interrupted) q = (p.valid ≡ true) × (p.has_model ≡ false) × CountsCall p (Err Interrupted) q × (q ≡ record p { steps = q.steps })
 Solves p (Err _) q = ⊥
 
 -- Exactly the names in use, once each and in increasing order, and an assignment that agrees with the list satisfies the clauses and the assumptions.
@@ -106,3 +126,7 @@ abbrev pub TellsModel : Past → Result (Option (List Literal)) AllocError → P
 TellsModel p (Ok (Some model)) q = (p.valid ≡ true) × (p.has_model ≡ true) × IsModel p model × (q ≡ p)
 TellsModel p (Ok None) q = (p.valid ≡ true → p.has_model ≡ false) × (q ≡ p)
 TellsModel p (Err _) q = (p.valid ≡ true) × (p.has_model ≡ true) × (q ≡ p)
+
+-- the settings are replaced for which the update has values
+abbrev pub with_update : SolverConfigUpdate → Past → Past
+with_update u p = record p { settings = updated_settings p.settings u }

@@ -1,5 +1,5 @@
 -- The verdicts of a search.
-use Rattle.std.specs.Prelude.{Bool, true, false}
+use Rattle.std.specs.Prelude.{Bool, true, false, Option, Some, None}
 use Rattle.varisat_search.specs.declared.state.SatState.{SatState}
 use Rattle.varisat_search.specs.declared.state.SatState.TheVariants as verdict
 
@@ -14,3 +14,8 @@ IsOpen verdict.UnsatUnderAssumptions = ⊥
 abbrev pub verdict_of : Bool → SatState
 verdict_of true = verdict.Sat
 verdict_of false = verdict.Unsat
+
+-- the same of a search that may have been interrupted
+abbrev pub verdict_found : Option Bool → SatState
+verdict_found (Some sat) = verdict_of sat
+verdict_found None = verdict.Unknown

@@ -2,6 +2,7 @@
 use Rattle.std.specs.Prelude.{◌≡◌, ℕ, ◌<◌, ◌≤◌, Bool, true, false, ◌||◌, nat_eq, if◌then◌else◌, Option, Some, None, List, [], ◌∷◌, ◌++◌}
 use Rattle.varisat_theory.specs.Membership.{◌∈◌, IsDistinct}
 use Rattle.varisat_theory.specs.Literals.{Literal, Clause, Assignment, variable_of, SatisfiesAll, MakesTrue, IsSatisfiable}
+use Rattle.varisat_names.specs.Settings.{Settings, default_settings}
 
 -- A name is a number by which the user speaks of a variable. An identity is a number that is given to a variable once and never again: a name may become free, and come back with another identity.
 
@@ -16,10 +17,12 @@ pub data Verdict : Type 0 where
   Sat : Assignment → Verdict
   Unsat : Verdict
 
--- The flags. `valid`: no error came from which there is no way back. `started`: a clause or a variable was accepted.
+-- What is told of an invalid solver too. `valid`: no error came from which there is no way back. `started`: a clause or a variable was accepted. `steps`: how many steps were made in all. `settings`: those by which further steps are made.
 pub record Ledger : Type 0 where
   pub valid : Bool
   pub started : Bool
+  pub steps : ℕ
+  pub settings : Settings
 
 -- The identities made are those below `made`. `names` gives the identity of each name in use, and `watermark` is one above the highest name ever in use. `modes`: the mode of each identity in use. `clauses`: those accepted, over identities. `assumptions`: the list as given, over identities. `counted`: the identities that accepted clauses and assumption lists have named so far, each once.
 pub record State : Type 0 where
@@ -58,7 +61,7 @@ empty_state = record {
   assumptions = [];
   counted = [];
   verdict = Unknown;
-  ledger = record { valid = true; started = false };
+  ledger = record { valid = true; started = false; steps = 0; settings = default_settings };
 }
 
 -- What is true of each state: names stand for different identities, none is in use from the watermark on, identities that are spoken of were made, and none is counted twice.

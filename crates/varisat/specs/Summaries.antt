@@ -1,12 +1,13 @@
 -- What a solver holds, and which states it stands for.
-use Rattle.std.specs.Prelude.{◌≡◌, ◌≢◌, ℕ, zero, suc, ◌≤◌, ◌^◌, Bool, true, false, Option, None, List, [], length, slice_index_or}
+use Rattle.std.specs.Prelude.{◌≡◌, ◌≢◌, ℕ, zero, suc, ◌<◌, ◌≤◌, ◌↔◌, Bool, true, false, Option, None, List, [], length, slice_index_or}
 use Rattle.varisat_theory.specs.Literals.{Literal}
 use Rattle.varisat_prop.specs.Parts.{is_true_value}
 use Rattle.varisat_prop.specs.View.{View}
 use Rattle.varisat_search.specs.declared.context.Context.{Context}
 use Rattle.varisat_search.specs.declared.state.SatState.{SatState}
 use Rattle.varisat_search.specs.declared.state.SatState.TheVariants as verdict
-use Rattle.varisat_search.specs.Contexts.{IsReady}
+use Rattle.varisat_search.specs.Contexts.{view, IsReady}
+use Rattle.varisat_search.specs.Decisions.{IsDecidable}
 use Rattle.varisat_search.specs.Steps.{assignment_of}
 use Rattle.varisat_search.specs.Seen.{search_of, outcome_of}
 use Rattle.varisat_names.specs.VarMap.{at}
@@ -58,6 +59,8 @@ pub record IsKept {A : Type 0} (tables : Tables) (search : Context A) : Type 0 w
   pub ready : IsReady search
   -- the search has the solver variables that were taken
   pub count : length search.assignment.current ≡ length tables.solvers.backward
+  -- which accepted clauses named: these may be decided, and no other
+  pub decidable : (v : ℕ) → IsDecidable (view search) search.vsids v ↔ (v < length search.assignment.current)
   -- there are no assumptions yet
   pub no_assumptions : search.solver_state.sat_state ≢ verdict.UnsatUnderAssumptions
 

@@ -3,6 +3,8 @@ use Rattle.std.specs.Prelude.{◌≡◌, ℕ, Bool, Option, None, List, [], ◌�
 use Rattle.std.specs.declared.alloc.AllocError.{AllocError}
 use Rattle.varisat_theory.specs.Literals.{Literal}
 use Rattle.varisat_formula.specs.Streams.{Stand}
+use Rattle.varisat_names.specs.declared.config.SolverConfigUpdate.{SolverConfigUpdate}
+use Rattle.varisat.specs.Updates.{Configures}
 use Rattle.varisat.specs.Additions as additions
 use Rattle.varisat.specs.Told.{told_model}
 use Rattle.varisat.specs.declared.solver.SolverError.{SolverError}
@@ -11,12 +13,14 @@ use Rattle.varisat.specs.declared.session.Answer.{Answer}
 use Rattle.varisat.specs.declared.session.Call.TheVariants as call
 use Rattle.varisat.specs.declared.session.Answer.TheVariants as answer
 
--- How calls move something, and with which answers: how clauses are added to it, and each further call that can be refused.
+-- How calls move something, and with which answers: how clauses are added to it, and each further call that can be refused; what an update of the settings makes of it, and how many steps were made.
 pub record Calling (X : Type 0) : Type 1 where
   pub adding : additions.Adding X
   pub makes_var : X → Result ℕ SolverError → X → Type 0
   pub solves : X → Result Bool SolverError → X → Type 0
   pub tells_model : X → Result (Option (List Literal)) AllocError → X → Type 0
+  pub updated : SolverConfigUpdate → X → X
+  pub steps : X → ℕ
 
 module _ {X : Type 0} (by : Calling X) where
   -- From s the call may get the answer and lead to t. `seen` tells how a source stands, as it was given and as it is given back.
@@ -27,6 +31,8 @@ module _ {X : Type 0} (by : Calling X) where
   Makes seen s call.NewVar (answer.NewVar r) t = by.makes_var s r t
   Makes seen s call.Solve (answer.Solve r) t = by.solves s r t
   Makes seen s call.Model (answer.Model r) t = by.tells_model s (told_model r) t
+  Makes seen s (call.Config u) (answer.Config r) t = Configures by.adding.valid by.updated s u r t
+  Makes seen s call.Steps (answer.Steps n) t = (n ≡ by.steps s) × (t ≡ s)
   Makes seen s call.IsValid (answer.IsValid b) t = (b ≡ by.adding.valid s) × (t ≡ s)
   Makes seen s call.CloseProof (answer.CloseProof r) t = (r ≡ Ok None) × (t ≡ s)
   Makes seen s _ _ t = ⊥

@@ -4,7 +4,7 @@ ghost use Rattle.varisat_theory.specs.Membership.{◌∈◌};
 ghost use Rattle.varisat_theory.specs.Literals.{Literal, variable_of};
 ghost use Rattle.varisat_names.specs.Maps.{chain};
 ghost use Rattle.varisat_names.specs.VarMap.{at};
-ghost use Rattle.varisat_search.specs.Contexts.{view};
+ghost use Rattle.varisat_search.specs.Contexts.{view, KeepsSchedule};
 ghost use Rattle.varisat.specs.States.{State, Verdict};
 ghost use Rattle.varisat.specs.Names.{name_all, through_names};
 ghost use Rattle.varisat.specs.Calls.{VerdictAfter, append_clause};
@@ -18,7 +18,8 @@ ghost use Rattle.varisat_literals.specs.Numbers.{variable_limit};
 use std::alloc::{AllocError, Allocator};
 use varisat_literals::Lit;
 use varisat_names::variables::Variables;
-use varisat_search::context::{Context, set_var_count};
+use varisat_search::context::Context;
+use varisat_search::decision::add_variables;
 use varisat_search::load::load_clause;
 
 /// Brings the names of the clause into use, each with all names below it.
@@ -97,6 +98,7 @@ pub fn accept_clause<A: Allocator + Copy>(
     requires in_range { (l : Literal) → l ∈ clause.now → variable_of l < variable_limit }
     ensures kept { OnOk result (IsKept variables.new ctx.new) }
     ensures state { OnOk result (ctx.new.solver_state ≡ record ctx.old.solver_state { sat_state = ctx.new.solver_state.sat_state; formula_is_empty = false }) }
+    ensures schedule { KeepsSchedule ctx.old ctx.new }
     ensures accepted { OnOk result ((s : State) → SpacesFit (spaces_of variables.old (view ctx.old) ctx.old.solver_state.sat_state) s →
         (x : Verdict) × VerdictAfter s.clauses (map (through_names (name_all clause.now s)) clause.now) s.verdict x × SpacesFit (spaces_of variables.new (view ctx.new) ctx.new.solver_state.sat_state) (append_clause (map (through_names (name_all clause.now s)) clause.now) x (name_all clause.now s))) }
 {
@@ -104,7 +106,7 @@ pub fn accept_clause<A: Allocator + Copy>(
     take_solver_vars(variables, clause)?;
     mark_joined(variables, clause);
     variables.prove_linked();
-    set_var_count(ctx, variables.solver_watermark())?;
+    add_variables(ctx, variables.solver_watermark())?;
     carry_literals(variables, clause, literals)?;
     load_clause(ctx, literals)?;
     Ok(())

@@ -13,7 +13,7 @@ pub mod prop {
     pub use varisat_prop::prop::{
         Assignment, Conflict, ImplGraph, ImplNode, Reason, Trail, enqueue_assignment, propagate,
     };
-    pub use varisat_search::levels::{backtrack, full_restart};
+    pub use varisat_search::levels::{backtrack, full_restart, restart};
 }
 
 /// The parts of a search that learn.
@@ -32,5 +32,9 @@ pub use solver::{Solver, SolverError};
 pub use varisat_formula::formula::{CnfFormula, ExtendFormula};
 pub use varisat_formula::{cnf, cnf_formula, dimacs, formula, io};
 pub use varisat_literals::{Lit, Var, lit, lits, var};
+pub use varisat_names::config;
 pub use varisat_prop::clause;
-pub use varisat_search::{analyze_conflict, cdcl, context, decision, glue, load, state, tmp};
+pub use varisat_schedule::luby;
+pub use varisat_search::{
+    analyze_conflict, cdcl, context, decision, glue, load, schedule, state, tmp,
+};

@@ -1,10 +1,11 @@
 //! The lines of a session: reading a line's command as a call, and writing the answer.
-ghost use Rattle.std.specs.Prelude.{◌≡◌, ◌≢◌, ◌==◌, ℕ, ◌+◌, ◌<◌, ◌≤◌, ◌^◌, List, [], ◌∷◌, ◌++◌, map, Some, IsTrue, IfOk, IfSome, IfNone, OnOk, decimal, length, codes};
+ghost use Rattle.std.specs.Prelude.{◌≡◌, ◌≢◌, ◌==◌, ℕ, ◌+◌, ◌<◌, ◌≤◌, ◌^◌, List, [], ◌∷◌, ◌++◌, map, take, IfOk, IfSome, IfNone, OnOk, decimal, length, codes};
 ghost use Rattle.std.specs.List.{All, join_with_byte};
 ghost use Rattle.std.specs.Io.KnownBytes.{Appends};
 ghost use Rattle.varisat_theory.specs.Literals.{Literal};
 ghost use Rattle.varisat_literals.specs.Numbers.{literal_text, variable_text};
-ghost use Rattle.varisat.specs.Lines.{Command, Add, words, Means, MeansOneCommand, command_of, words_of, literals_text, refusal_text, done_text, answer_text};
+ghost use Rattle.varisat_names.specs.Settings.{update_of};
+ghost use Rattle.varisat.specs.Lines.{Command, Add, Config, words, Means, MeansOneCommand, AsksFor, words_of, literals_text, refusal_text, done_text, answer_text};
 
 use crate::session::{Answer, Call};
 use crate::solver::SolverError;
@@ -14,16 +15,17 @@ use std::io::{self, Write};
 use std::str;
 use varisat_formula::io::{ByteSource, ProofTarget};
 use varisat_literals::{Lit, Var};
+use varisat_names::config::{ConfigField, SolverConfigUpdate};
 
 // The highest number of a variable.
-const MAX_NUMBER: u32 = 0x8000_0000;
+const MAX_NUMBER: u64 = 0x8000_0000;
 
 /// Reads a line's command, without the line feed. None is for a text that is no command; the only error is out of memory.
 pub fn parse_line<S: ByteSource, A: Allocator + Copy>(
     alloc: A,
     text: &[u8],
 ) -> Result<Option<Call<S, A>>, AllocError>
-    ensures command { IfOk result (λ found. IfSome found (λ call. (command : Command) × (command_of call ≡ Some command) × Means text.now command)) }
+    ensures command { IfOk result (λ found. IfSome found (λ call. (command : Command) × AsksFor call command × Means text.now command)) }
     ensures no_command { IfOk result (λ found. IfNone found ((command : Command) → Means text.now command → ⊥)) }
 {
     match text.strip_prefix(b"add ") {
@@ -31,13 +33,24 @@ pub fn parse_line<S: ByteSource, A: Allocator + Copy>(
             Some(literals) => Ok(Some(Call::AddClause(literals))),
             None => Ok(None),
         },
-        None => Ok(parse_word(alloc, text)),
+        None => Ok(parse_short(alloc, text)),
+    }
+}
+
+// The call of a command that does not begin with `add` and a space.
+fn parse_short<S: ByteSource, A: Allocator + Copy>(alloc: A, text: &[u8]) -> Option<Call<S, A>>
+    ensures command { IfSome result (λ call. (command : Command) × AsksFor call command × Means text.now command) }
+    ensures no_command { IfNone result ((command : Command) → Means text.now command → take 4 text.now ≡ codes "add ") }
+{
+    match text.strip_prefix(b"config ") {
+        Some(setting) => Some(Call::Config(parse_setting(setting)?)),
+        None => parse_word(alloc, text),
     }
 }
 
 // The call of a command that is one word.
 fn parse_word<S: ByteSource, A: Allocator + Copy>(alloc: A, word: &[u8]) -> Option<Call<S, A>>
-    ensures command { IfSome result (λ call. (command : Command) × (command_of call ≡ Some command) × Means word.now command) }
+    ensures command { IfSome result (λ call. (command : Command) × AsksFor call command × Means word.now command) }
     ensures no_command { IfNone result ((command : Command) → Means word.now command → 1 < length (words command)) }
 {
     if word == b"add".as_slice() {
@@ -50,9 +63,22 @@ fn parse_word<S: ByteSource, A: Allocator + Copy>(alloc: A, word: &[u8]) -> Opti
         Some(Call::Model)
     } else if word == b"close".as_slice() {
         Some(Call::CloseProof)
+    } else if word == b"steps".as_slice() {
+        Some(Call::Steps)
     } else {
         None
     }
+}
+
+// The update of a command that begins with `config` and a space, from what follows: a setting's name and a number.
+fn parse_setting(setting: &[u8]) -> Option<SolverConfigUpdate>
+    ensures command { IfSome result (λ update. (field : ConfigField) × (value : ℕ) × (update ≡ update_of field value) × Means (codes "config " ++ setting.now) (Config field value)) }
+    ensures no_command { IfNone result ((command : Command) → Means (codes "config " ++ setting.now) command → ⊥) }
+{
+    let (name, number) = split_word(setting);
+    let field = ConfigField::from_name(name)?;
+    let value = parse_number(number?)?;
+    Some(SolverConfigUpdate::one(field, value))
 }
 
 // The literals of a command that begins with `add` and a space, from what follows.
@@ -104,16 +130,31 @@ pub fn parse_variable(number: &[u8]) -> Option<Var>
     ensures variable { IfSome result (λ v. (variable_text v ≡ number.now) × (v < 2 ^ 31)) }
     ensures no_variable { IfNone result ((v : ℕ) → v < 2 ^ 31 → variable_text v ≢ number.now) }
 {
-    let first = *number.first()?;
-    if first == b'0' || first == b'+' {
+    let value = parse_number(number)?;
+    if value == 0 || value > MAX_NUMBER {
         return None;
     }
-    let Ok(digits) = str::from_utf8(number) else {
+    Some(Var::from_index(value as usize - 1))
+}
+
+/// The number that digits without a leading zero write, up to 2^64-1.
+pub fn parse_number(text: &[u8]) -> Option<u64>
+    ensures number { IfSome result (λ n. (decimal n ≡ text.now) × (n < 2 ^ 64)) }
+    ensures no_number { IfNone result ((n : ℕ) → n < 2 ^ 64 → decimal n ≢ text.now) }
+{
+    let first = *text.first()?;
+    if first == b'+' {
+        return None;
+    }
+    if first == b'0' && text.len() > 1 {
+        return None;
+    }
+    let Ok(digits) = str::from_utf8(text) else {
         return None;
     };
-    match digits.parse::<u32>() {
-        Ok(value) if value <= MAX_NUMBER => Some(Var::from_index(value as usize - 1)),
-        _ => None,
+    match digits.parse::<u64>() {
+        Ok(value) => Some(value),
+        Err(_) => None,
     }
 }
 
@@ -130,12 +171,17 @@ pub fn write_answer<O: Write, W: ProofTarget, S: ByteSource, A: Allocator + Copy
     ensures { OnOk result (Appends (O.contents out.old) (O.contents out.new) (answer_text answer.now)) }
 {
     match answer {
-        Answer::AddClause(done) | Answer::AddFormula(done) | Answer::AddDimacsCnf(done, _) => {
-            write_done(out, done)
-        }
+        Answer::AddClause(done)
+        | Answer::AddFormula(done)
+        | Answer::AddDimacsCnf(done, _)
+        | Answer::Config(done) => write_done(out, done),
         Answer::NewVar(Ok(var)) => {
             out.write_all(b"ok ")?;
             out.write_all(Buffer::new().format(var.to_dimacs()).as_bytes())
+        }
+        Answer::Steps(steps) => {
+            out.write_all(b"ok ")?;
+            out.write_all(Buffer::new().format(*steps).as_bytes())
         }
         Answer::Solve(Ok(true)) | Answer::IsValid(true) => out.write_all(b"ok true"),
         Answer::Solve(Ok(false)) | Answer::IsValid(false) => out.write_all(b"ok false"),

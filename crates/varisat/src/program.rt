@@ -1,10 +1,9 @@
 //! The commands of the program, over readers and writers.
-ghost use Rattle.std.specs.Prelude.{◌≡◌, ◌⊎◌, ◌-◌, ◌^◌, ◌<◌, List, Option, OnOk, IfOk};
+ghost use Rattle.std.specs.Prelude.{◌≡◌, ◌⊎◌, ◌-◌, ◌^◌, ◌<◌, OnOk, IfOk};
 ghost use Rattle.std.specs.Io.KnownBytes.{Appends};
-ghost use Rattle.varisat_theory.specs.Literals.{Literal};
 ghost use Rattle.varisat.specs.States.{empty_state};
 ghost use Rattle.varisat.specs.Summaries.{StandsFor};
-ghost use Rattle.varisat.specs.Decided.{listed, Decides, StatusIsTrue, model_text, outcome_text, outcome_status, fault_status};
+ghost use Rattle.varisat.specs.Decided.{Conclusion, concluded, allowed_steps, Decides, StatusIsTrue, model_text, conclusion_text, conclusion_status, fault_status};
 
 use crate::line::{parse_line, write_answer, write_literals};
 use crate::session::make_call;
@@ -14,6 +13,7 @@ use std::fmt::Display;
 use std::io::{self, BufRead, BufReader, Empty, Read, Write};
 use varisat_formula::io::{ByteSource, MemoryTarget, ProofTarget, ReadSource};
 use varisat_literals::Lit;
+use varisat_names::config::SolverConfigUpdate;
 
 /// The status of a command that came to its end.
 pub const STATUS_DONE: u8 = 0;
@@ -40,20 +40,36 @@ pub fn session_lines<A: Allocator + Copy, R: Read + Drop, W: Write, E: Write>(
     }
 }
 
-/// Reads a DIMACS CNF text and decides it. Prints `s SATISFIABLE` and a `v` line with the model, status 10, or `s UNSATISFIABLE`, status 20. A fault of the text, its source or the writer, and out of memory, is told on `err`, and the status is 2. Of what was printed something is said only for a writer whose contents are known. The source has to have counted fewer than 2^64-1 faults.
+/// What `solve` keeps to: how many steps it may make, where they are limited.
+#[derive(Clone, Copy, Debug)]
+pub struct SolveOptions {
+    pub max_steps: Option<u64>,
+}
+
+/// What a text was found to be.
+#[derive(Debug, Drop)]
+pub enum Report<A: Allocator + Copy> {
+    /// A model of its clauses, or None where there is none.
+    Decided(Option<Vec<Lit, A>>),
+    /// The steps were spent before that was known.
+    Unknown,
+}
+
+/// Reads a DIMACS CNF text and decides it. Prints `s SATISFIABLE` and a `v` line with the model, status 10, or `s UNSATISFIABLE`, status 20; or `s UNKNOWN`, status 0, where the steps are spent before that is known. A fault of the text, its source or the writer, and out of memory, is told on `err`, and the status is 2. Of what was printed something is said only for a writer whose contents are known. The source has to have counted fewer than 2^64-1 faults.
 pub fn solve_lines<A: Allocator + Copy, S: ByteSource, W: Write, E: Write>(
     alloc: A,
     cnf: &mut S,
+    options: SolveOptions,
     out: &mut W,
     err: &mut E,
 ) -> u8
     requires { (S.stand cnf.old).faults < 2 ^ 64 - 1 }
-    // Any other status is given only after the source gave a whole text, which was decided, and the outcome printed.
-    ensures outcome { (result ≡ fault_status) ⊎ ((outcome : Option (List Literal)) × Decides (S.stand cnf.old) (S.stand cnf.new) outcome × (result ≡ outcome_status outcome) × Appends (W.contents out.old) (W.contents out.new) (outcome_text outcome)) }
+    // Any other status is given only after the source gave a whole text, which was decided if the steps allowed it, and the outcome printed.
+    ensures outcome { (result ≡ fault_status) ⊎ ((conclusion : Conclusion) × Decides (allowed_steps options.max_steps) (S.stand cnf.old) (S.stand cnf.new) conclusion × (result ≡ conclusion_status conclusion) × Appends (W.contents out.old) (W.contents out.new) (conclusion_text conclusion)) }
     ensures truth { StatusIsTrue (S.stand cnf.old) (S.stand cnf.new) result }
 {
-    match decide(alloc, cnf) {
-        Ok(outcome) => match write_outcome(out, &outcome) {
+    match decide(alloc, cnf, options) {
+        Ok(report) => match write_report(out, &report) {
             Ok(status) => status,
             Err(error) => tell_fault(err, &error),
         },
@@ -61,54 +77,62 @@ pub fn solve_lines<A: Allocator + Copy, S: ByteSource, W: Write, E: Write>(
     }
 }
 
-/// The model of a DIMACS CNF text, or None where its clauses are unsatisfiable.
+/// Decides a DIMACS CNF text.
 // The new solver has a function of its own: its memory is given back in one place, not at each return of `decide_in`.
 fn decide<A: Allocator + Copy, S: ByteSource>(
     alloc: A,
     cnf: &mut S,
-) -> Result<Option<Vec<Lit, A>>, SolverError>
+    options: SolveOptions,
+) -> Result<Report<A>, SolverError>
     requires { (S.stand cnf.old).faults < 2 ^ 64 - 1 }
-    ensures { IfOk result (λ outcome. Decides (S.stand cnf.old) (S.stand cnf.new) (listed outcome)) }
+    ensures { IfOk result (λ report. Decides (allowed_steps options.max_steps) (S.stand cnf.old) (S.stand cnf.new) (concluded report)) }
 {
     let mut solver: Solver<MemoryTarget<A>, A> = Solver::new_in(alloc);
-    decide_in(&mut solver, cnf)
+    decide_in(&mut solver, cnf, options)
 }
 
 /// The same in a new solver.
 fn decide_in<W: ProofTarget, A: Allocator + Copy, S: ByteSource>(
     solver: &mut Solver<W, A>,
     cnf: &mut S,
-) -> Result<Option<Vec<Lit, A>>, SolverError>
+    options: SolveOptions,
+) -> Result<Report<A>, SolverError>
     requires new { StandsFor solver.old empty_state }
     requires faults { (S.stand cnf.old).faults < 2 ^ 64 - 1 }
-    ensures { IfOk result (λ outcome. Decides (S.stand cnf.old) (S.stand cnf.new) (listed outcome)) }
+    ensures { IfOk result (λ report. Decides (allowed_steps options.max_steps) (S.stand cnf.old) (S.stand cnf.new) (concluded report)) }
 {
+    let mut update = SolverConfigUpdate::new();
+    update.max_steps = options.max_steps;
+    solver.config(&update)?;
     solver.add_dimacs_cnf(cnf)?;
-    if !solver.solve()? {
-        return Ok(None);
-    }
-    match solver.model() {
-        Ok(model) => Ok(model),
-        Err(_) => Err(SolverError::OutOfMemory),
+    match solver.solve() {
+        Ok(true) => match solver.model() {
+            Ok(model) => Ok(Report::Decided(model)),
+            Err(_) => Err(SolverError::OutOfMemory),
+        },
+        Ok(false) => Ok(Report::Decided(None)),
+        Err(SolverError::Interrupted) => Ok(Report::Unknown),
+        Err(error) => Err(error),
     }
 }
 
-/// Writes the model or that there is none, and returns the status for it.
-fn write_outcome<W: Write, A: Allocator + Copy>(
-    out: &mut W,
-    outcome: &Option<Vec<Lit, A>>,
-) -> io::Result<u8>
-    ensures text { OnOk result (Appends (W.contents out.old) (W.contents out.new) (outcome_text (listed outcome.now))) }
-    ensures status { IfOk result (λ status. status ≡ outcome_status (listed outcome.now)) }
+/// Writes what a text was found to be, and returns the status for it.
+fn write_report<W: Write, A: Allocator + Copy>(out: &mut W, report: &Report<A>) -> io::Result<u8>
+    ensures text { OnOk result (Appends (W.contents out.old) (W.contents out.new) (conclusion_text (concluded report.now))) }
+    ensures status { IfOk result (λ status. status ≡ conclusion_status (concluded report.now)) }
 {
-    let status = match outcome {
-        Some(model) => {
+    let status = match report {
+        Report::Decided(Some(model)) => {
             write_model(out, model)?;
             STATUS_SATISFIABLE
         }
-        None => {
+        Report::Decided(None) => {
             out.write_all(b"s UNSATISFIABLE\n")?;
             STATUS_UNSATISFIABLE
+        }
+        Report::Unknown => {
+            out.write_all(b"s UNKNOWN\n")?;
+            STATUS_DONE
         }
     };
     out.flush()?;

@@ -11,6 +11,7 @@ use std::alloc::{AllocError, Allocator};
 use varisat_formula::formula::CnfFormula;
 use varisat_formula::io::{ByteSource, ProofTarget};
 use varisat_literals::{Lit, Var};
+use varisat_names::config::SolverConfigUpdate;
 
 /// A call of a solver, with what it is given. A text is given by its source. No call takes a proof's target yet.
 #[derive(Drop)]
@@ -21,6 +22,8 @@ pub enum Call<S: ByteSource, A: Allocator + Copy> {
     NewVar,
     Solve,
     Model,
+    Config(SolverConfigUpdate),
+    Steps,
     IsValid,
     CloseProof,
 }
@@ -34,6 +37,8 @@ pub enum Answer<W: ProofTarget, S: ByteSource, A: Allocator + Copy> {
     NewVar(Result<Var, SolverError>),
     Solve(Result<bool, SolverError>),
     Model(Result<Option<Vec<Lit, A>>, AllocError>),
+    Config(Result<(), SolverError>),
+    Steps(u64),
     IsValid(bool),
     CloseProof(Result<Option<W>, (SolverError, W)>),
 }
@@ -56,6 +61,8 @@ pub fn make_call<W: ProofTarget, S: ByteSource, A: Allocator + Copy>(
         Call::NewVar => Answer::NewVar(solver.new_var()),
         Call::Solve => Answer::Solve(solver.solve()),
         Call::Model => Answer::Model(solver.model()),
+        Call::Config(update) => Answer::Config(solver.config(&update)),
+        Call::Steps => Answer::Steps(solver.steps()),
         Call::IsValid => Answer::IsValid(solver.is_valid()),
         Call::CloseProof => Answer::CloseProof(solver.close_proof()),
     }

@@ -19,6 +19,7 @@ use varisat_formula::dimacs::{DimacsError, DimacsErrorKind, DimacsParser};
 use varisat_formula::formula::{CnfFormula, ExtendFormula};
 use varisat_formula::io::{ByteSource, ProofTarget};
 use varisat_literals::{Lit, Var};
+use varisat_names::config::{ConfigField, SolverConfigUpdate};
 use varisat_names::variables::Variables;
 use varisat_search::context::Context;
 use varisat_search::state::SatState;
@@ -29,12 +30,16 @@ const PIECE: usize = 0x2000;
 /// Why a call was refused.
 #[derive(Debug, Drop, Error)]
 pub enum SolverError {
+    #[error("The solver was interrupted")]
+    Interrupted,
     #[error("Out of memory")]
     OutOfMemory,
     #[error("The solver is invalid after an unrecoverable error")]
     Invalid,
     #[error("The variable limit is passed")]
     VariableLimit,
+    #[error("Configuration value out of range: {field}")]
+    ConfigOutOfRange { field: ConfigField },
     #[error("Error in DIMACS input: {cause}")]
     Dimacs { cause: DimacsError },
 }
@@ -48,9 +53,11 @@ impl SolverError {
         ensures { result ≡ refusal_number self.now }
     {
         match self {
+            SolverError::Interrupted => 1,
             SolverError::OutOfMemory => 3,
             SolverError::Invalid => 4,
             SolverError::VariableLimit => 7,
+            SolverError::ConfigOutOfRange { .. } => 12,
             SolverError::Dimacs { .. } => 13,
         }
     }
@@ -61,7 +68,10 @@ impl SolverError {
     {
         match self {
             SolverError::OutOfMemory | SolverError::Invalid => false,
-            SolverError::VariableLimit | SolverError::Dimacs { .. } => true,
+            SolverError::Interrupted
+            | SolverError::VariableLimit
+            | SolverError::ConfigOutOfRange { .. }
+            | SolverError::Dimacs { .. } => true,
         }
     }
 }
@@ -139,7 +149,7 @@ impl<W: ProofTarget, A: Allocator + Copy> Model for Solver<W, A> {
 
     ghost Value = { Summary };
 
-    ghost view = { λ c. record { tables = c.variables; search = contexts.view c.ctx; sat_state = c.ctx.solver_state.sat_state; ledger = record { valid = not c.ctx.solver_state.state_is_invalid; started = c.started } } };
+    ghost view = { λ c. record { tables = c.variables; search = contexts.view c.ctx; sat_state = c.ctx.solver_state.sat_state; ledger = record { valid = not c.ctx.solver_state.state_is_invalid; started = c.started; steps = c.ctx.schedule.steps; settings = c.ctx.solver_config } } };
 
     ghost invariant = { λ c. c.ctx.solver_state.state_is_invalid ≡ false → IsKept c.variables c.ctx };
 }
@@ -150,7 +160,7 @@ impl<W: ProofTarget, A: Allocator + Copy> Solver<W, A> {
     ghost use Rattle.varisat_formula.specs.Rest.{Progress, IsEnding};
     ghost use Rattle.varisat.specs.States.{State, empty_state};
     ghost use Rattle.varisat.specs.Models.{model_of, IsCompletable};
-    ghost use Rattle.varisat.specs.Calls.{IsValid, AddsClause, AddsFormula, AddsDimacs, AddsReading, TellsFault, MakesVar, Solves, TellsModel, TellsValid, ClosesProof, answer_of};
+    ghost use Rattle.varisat.specs.Calls.{IsValid, AddsClause, AddsFormula, AddsDimacs, AddsReading, TellsFault, MakesVar, Solves, TellsModel, Configures, TellsSteps, TellsValid, ClosesProof, answer_of};
     ghost use Rattle.varisat.specs.Told.{told_model};
     ghost use Rattle.varisat.specs.Summaries.{StandsFor};
 
@@ -166,6 +176,27 @@ impl<W: ProofTarget, A: Allocator + Copy> Solver<W, A> {
             started: false,
             target: None,
         }
+    }
+
+    /// Changes the settings for which the update has values. Refused in an invalid solver, and where a value is out of its range: then nothing changes, and the first such setting is told.
+    pub fn config(&mut self, update: &SolverConfigUpdate) -> Result<(), SolverError>
+        ensures { (s : State) → StandsFor self.old s → (t : State) × Configures s update.now result t × StandsFor self.new t }
+    {
+        if self.ctx.solver_state.state_is_invalid {
+            return Err(SolverError::Invalid);
+        }
+        match self.ctx.config_changed(update) {
+            Ok(()) => {}
+            Err(error) => return Err(SolverError::ConfigOutOfRange { field: error.field }),
+        }
+        Ok(())
+    }
+
+    /// How many steps all calls of `solve` made together.
+    pub fn steps(&self) -> u64
+        ensures { (s : State) → StandsFor self.now s → (t : State) × TellsSteps s result t × StandsFor self.now t }
+    {
+        self.ctx.schedule.steps()
     }
 
     /// False once memory ran out in a call that changes the solver. From then on the other calls are refused, and `model` tells nothing.
@@ -296,7 +327,7 @@ impl<W: ProofTarget, A: Allocator + Copy> Solver<W, A> {
         Ok(None)
     }
 
-    /// Whether some assignment satisfies the accepted clauses. Refused in an invalid solver, and where memory runs out.
+    /// Whether some assignment satisfies the accepted clauses. A call makes fewer than 2^(2n+3) steps, where the clauses name n variables. Refused in an invalid solver, where memory runs out, and where the steps are spent before that is known: `max_steps` of the settings, or 2^64-1 in all. The next call then goes on.
     pub fn solve(&mut self) -> Result<bool, SolverError>
         ensures call { (s : State) → StandsFor self.old s → (t : State) × Solves s result t × StandsFor self.new t }
         ensures satisfiable { result ≡ Ok true → (s : State) → StandsFor self.old s → IsSatisfiableWith s.clauses s.assumptions }
@@ -309,13 +340,17 @@ impl<W: ProofTarget, A: Allocator + Copy> Solver<W, A> {
         match self.ctx.solver_state.sat_state {
             SatState::Sat => Ok(true),
             SatState::Unsat | SatState::UnsatUnderAssumptions => Ok(false),
-            SatState::Unknown => match find_verdict(&mut self.ctx) {
-                Ok(found) => Ok(found),
-                Err(_) => {
-                    self.ctx.solver_state.state_is_invalid = true;
-                    Err(SolverError::OutOfMemory)
+            SatState::Unknown => {
+                let max_steps = self.ctx.solver_config.max_steps();
+                match find_verdict(&mut self.ctx, max_steps) {
+                    Ok(Some(found)) => Ok(found),
+                    Ok(None) => Err(SolverError::Interrupted),
+                    Err(_) => {
+                        self.ctx.solver_state.state_is_invalid = true;
+                        Err(SolverError::OutOfMemory)
+                    }
                 }
-            },
+            }
         }
     }
 

@@ -10,7 +10,10 @@ use std::io::{self, BufWriter, ErrorKind, Write};
 use std::process::ExitCode;
 use std::{env, fs};
 use varisat::io::ReadSource;
-use varisat::program::{STATUS_FAULT, session_lines, solve_lines, tell_fault, tell_usage};
+use varisat::line::parse_number;
+use varisat::program::{
+    STATUS_FAULT, SolveOptions, session_lines, solve_lines, tell_fault, tell_usage,
+};
 
 fn main(rt: HostRuntime) -> ExitCode {
     ExitCode::from(run(&rt))
@@ -27,14 +30,37 @@ fn run(rt: &HostRuntime) -> u8 {
         return tell_usage(&mut err);
     };
     let operand = words.next();
+    let option = words.next();
+    let value = words.next();
     if words.next().is_some() {
         return tell_usage(&mut err);
     }
     match operand {
         None if command.as_str() == "session" => session(rt),
-        Some(path) if command.as_str() == "solve" => solve(rt, path.as_str()),
+        Some(path) if command.as_str() == "solve" => {
+            let option = option.as_ref().map(|word| word.as_str());
+            let value = value.as_ref().map(|word| word.as_str());
+            match solve_options(option, value) {
+                Some(options) => solve(rt, path.as_str(), options),
+                None => tell_usage(&mut err),
+            }
+        }
         _ => tell_usage(&mut err),
     }
+}
+
+// The options of `solve`: none, or `--max-steps` and a number.
+fn solve_options(option: Option<&str>, value: Option<&str>) -> Option<SolveOptions> {
+    let Some(option) = option else {
+        return Some(SolveOptions { max_steps: None });
+    };
+    if option != "--max-steps" {
+        return None;
+    }
+    let steps = parse_number(value?.as_bytes())?;
+    Some(SolveOptions {
+        max_steps: Some(steps),
+    })
 }
 
 // Runs a session on the standard streams.
@@ -47,14 +73,14 @@ fn session(rt: &HostRuntime) -> u8 {
 }
 
 // Decides the formula in a file.
-fn solve(rt: &HostRuntime, path: &str) -> u8 {
+fn solve(rt: &HostRuntime, path: &str, options: SolveOptions) -> u8 {
     let mut err = rt.stderr();
     let cnf = match open_text(rt, path) {
         Ok(cnf) => cnf,
         Err(error) => return tell_file(&mut err, path, &error),
     };
     match BufWriter::new(rt.alloc(), io::writer(rt)) {
-        Ok(mut out) => decide_file(rt, &mut ReadSource::new(cnf), &mut out, &mut err),
+        Ok(mut out) => decide_file(rt, &mut ReadSource::new(cnf), options, &mut out, &mut err),
         Err(error) => tell_fault(&mut err, &error),
     }
 }
@@ -63,13 +89,14 @@ fn solve(rt: &HostRuntime, path: &str) -> u8 {
 fn decide_file<W: Write, E: Write>(
     rt: &HostRuntime,
     cnf: &mut ReadSource<File>,
+    options: SolveOptions,
     out: &mut W,
     err: &mut E,
 ) -> u8
     requires { cnf.old.faults < 2 ^ 64 - 1 }
     ensures { StatusIsTrue cnf.old cnf.new result }
 {
-    solve_lines(rt.alloc(), cnf, out, err)
+    solve_lines(rt.alloc(), cnf, options, out, err)
 }
 
 // Opens a file for reading, unless it is a folder: that would open, and only fail when it is read.

@@ -20,6 +20,22 @@ fn folders_and_missing_files_are_refused(rt: HostRuntime) {
 }
 
 #[test]
+fn options_are_read(rt: HostRuntime) {
+    let rows = [
+        (None, None, Some(None)),
+        (Some("--max-steps"), Some("0"), Some(Some(0))),
+        (Some("--max-steps"), Some("12"), Some(Some(12))),
+        (Some("--max-steps"), Some("012"), None),
+        (Some("--max-steps"), None, None),
+        (Some("--steps"), Some("1"), None),
+    ];
+    for (option, value, wanted) in rows {
+        let options = solve_options(option, value);
+        assert!(rt; options.map(|options| options.max_steps) == wanted);
+    }
+}
+
+#[test]
 fn a_file_that_cannot_be_read_is_named(rt: HostRuntime) -> Result<(), Fail> {
     let mut err = Vec::new(rt.alloc());
     let status = tell_file(

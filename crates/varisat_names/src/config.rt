@@ -1,6 +1,6 @@
 //! The settings of a solver, and updates of them.
 ghost use Rattle.std.specs.Prelude.{◌≡◌, ◌≢◌, ◌≤◌, ◌<◌, None, Some, true, false, MatchOption, MatchResult};
-ghost use Rattle.varisat_names.specs.Settings.{default_settings, may_take, first_bad, updated_settings, least_value, greatest_value, field_text, no_update, update_of};
+ghost use Rattle.varisat_names.specs.Settings.{AreInRange, default_settings, may_take, first_bad, updated_settings, least_value, greatest_value, field_text, no_update, update_of};
 
 use std::fmt;
 use std::marker::Model;
@@ -93,6 +93,13 @@ impl SolverConfig {
             luby_restart_interval_scale: 128,
             max_steps: u64::MAX,
         }
+    }
+
+    /// Each setting is within its range.
+    pub fn prove_in_range(&self)
+        ensures { AreInRange self.now }
+    {
+        let _ = &self.vsids_decay;
     }
 
     /// By what the activities of variables decay, in thousandths.

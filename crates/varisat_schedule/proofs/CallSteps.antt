@@ -33,7 +33,7 @@ is-short c q trail n h l v r =
     let t = total_bound n in
     omega (arith, p, t)
 
-due-or-not : (q : Plan) → IsDue q ⊎ (IsDue q → ⊥)
+pub due-or-not : (q : Plan) → IsDue q ⊎ (IsDue q → ⊥)
 due-or-not q =
     ⊎_elim
     (λ (x : q.steps < q.next_restart). inr (λ e. omega (arith, e, x)))
@@ -41,7 +41,7 @@ due-or-not q =
     (cases_lt q.steps q.next_restart)
 
 -- one more step
-module _ (c : PlannedCall) (q : Plan) (before after : List Bool) (h : 0 < c.scale) (l : q.steps < 2 ^ 64 - 1) (short : length before ≤ c.variables) (s : IsPlannedStep c.variables q before after) (r : HasComeTo c q before) where
+module _ (c : PlannedCall) (q : Plan) (before after : List Bool) (h : 0 < c.scale) (l : q.steps < 2 ^ 64 - 1) (short : length before ≤ c.variables) (s : IsPlannedStep q before after) (r : HasComeTo c q before) where
   made : ℕ
   made = steps_since c.begins q
 
@@ -59,15 +59,13 @@ module _ (c : PlannedCall) (q : Plan) (before after : List Bool) (h : 0 < c.scal
       let e = so-far in
       let (i, p) = due-point c h r.is_plan made (omega (arith, e, l)) (subst IsDue r.plan d) in
       let b = rank_bound n before (omega (arith, short, v)) in
-      let up = s.rises n v in
-      progress_restarts (over n c) made (rank n before) (rank n after) i p (omega (arith, e, l)) (omega (arith, b)) (omega (arith, up)) (r.progress n v)
+      let up = s.restarts d n (omega (arith, short, v)) in
+      progress_restarts (over n c) made (rank n before) (rank n after) i p (omega (arith, e, l)) (omega (arith, b)) up (r.progress n v)
 
   not-due : (IsDue q → ⊥) → (n : ℕ) → c.variables ≤ n → CallProgress (over n c) (suc made) (rank n after)
   unfolding made
   not-due d n v =
-      let e = ap (rank n) (s.stays d) in
-      let up = s.rises n v in
-      progress_rises (over n c) made (rank n before) (rank n after) (omega (arith, e, up)) (r.progress n v)
+      progress_rises (over n c) made (rank n before) (rank n after) (s.rises d n (omega (arith, short, v))) (r.progress n v)
 
   progress-next : (n : ℕ) → c.variables ≤ n → CallProgress (over n c) (suc made) (rank n after)
   progress-next n v = ⊎_elim (λ d. due d n v) (λ d. not-due d n v) (due-or-not q)

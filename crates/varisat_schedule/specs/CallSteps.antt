@@ -8,11 +8,10 @@ use Rattle.varisat_schedule.specs.Plans.{Plan, IsPlan, IsDue, next_plan, plan_af
 abbrev pub steps_since : Plan → Plan → ℕ
 steps_since p q = q.steps - p.steps
 
--- A step by the plan, from a trail with one list of flags to a trail with another, where the search has so many variables: a restart, where one is due, changes the trail, and what the step does then raises its rank.
-pub record IsPlannedStep (variables : ℕ) (q : Plan) (before after : List Bool) : Type 0 where
-  pub restarted : List Bool
-  pub stays : (IsDue q → ⊥) → restarted ≡ before
-  pub rises : (n : ℕ) → variables ≤ n → rank n restarted < rank n after
+-- What a step by the plan makes of the trail, given by its flags, over each number that its length before does not pass: the rank rises, or it is above 0 where the step begins with a restart.
+pub record IsPlannedStep (q : Plan) (before after : List Bool) : Type 0 where
+  pub rises : (IsDue q → ⊥) → (n : ℕ) → length before ≤ n → rank n before < rank n after
+  pub restarts : IsDue q → (n : ℕ) → length before ≤ n → 0 < rank n after
 
 -- The call came to the plan, and its steps are counted against the rank of the trail now, over each number that bounds the variables.
 pub record HasComeTo (c : PlannedCall) (q : Plan) (trail : List Bool) : Type 0 where
@@ -28,7 +27,7 @@ CallBegins = (c : PlannedCall) (trail : List Bool) → IsPlan c.begins → HasCo
 -- and stays so with each step
 abbrev pub CallGoesOn : Type 0
 CallGoesOn =
-    (c : PlannedCall) (q : Plan) (before after : List Bool) → 0 < c.scale → q.steps < 2 ^ 64 - 1 → length before ≤ c.variables → IsPlannedStep c.variables q before after → HasComeTo c q before → HasComeTo c (next_plan c.scale q) after
+    (c : PlannedCall) (q : Plan) (before after : List Bool) → 0 < c.scale → q.steps < 2 ^ 64 - 1 → length before ≤ c.variables → IsPlannedStep q before after → HasComeTo c q before → HasComeTo c (next_plan c.scale q) after
 
 -- so fewer than 2^(2n+3) steps are made, even with one step more
 abbrev pub CallIsShort : Type 0

@@ -16,6 +16,7 @@ pub mod LoadContext
 pub mod LoadCopies
 pub mod LoadLines
 pub mod LoadView
+pub mod RestartSteps
 pub mod SetVarCount
 pub mod StepLines
 pub mod StepOutcome
@@ -23,3 +24,9 @@ pub mod StepRanks
 pub mod StepWithoutLines
 pub mod ViewSearch
 pub mod WellFormedViews
+pub mod DecidableVariables
+pub mod BacktrackActivities
+pub mod TakenVariables
+pub mod RaisedDecisions
+pub mod BumpedVariables
+pub mod LoadDecisions

@@ -1,19 +1,24 @@
 -- The contexts of `load_clause`.
-use Rattle.std.proofs.Common.{◌≡◌, ◌≢◌, ◌*◌, ◌<◌, false, replicate, List, [], length, refl, sym, ap, ◌∙◌, subst, arith}
+use Rattle.std.proofs.Common.{◌≡◌, ◌≢◌, ◌*◌, ◌<◌, false, replicate, List, [], length, ⊎_elim, refl, sym, ap, ◌∙◌, subst, arith}
 use Rattle.varisat_theory.specs.Membership.{◌∈◌, SameSet, IsDistinct}
-use Rattle.varisat_theory.specs.Literals.{Literal, Clause}
+use Rattle.varisat_theory.specs.Literals.{Literal, Clause, variable_of}
 use Rattle.varisat_theory.specs.Derivations.{Line}
 use Rattle.varisat_theory.specs.Searches.{IsTautology}
 use Rattle.varisat_theory.specs.Outcomes.{Proves, Loads}
 use Rattle.varisat_prop.specs.Looks.{IsInRange}
-use Rattle.varisat_prop.specs.View.{IsTrueIn}
+use Rattle.varisat_prop.specs.Stored.{literals_of}
+use Rattle.varisat_prop.specs.View.{kept, IsTrueIn}
+use Rattle.varisat_vsids.specs.Activities.{Activities}
 use Rattle.varisat_search.specs.declared.context.Context.{Context}
 use Rattle.varisat_search.specs.declared.state.SatState.TheVariants as verdict
 use Rattle.varisat_search.specs.declared.state.SolverState.{SolverState}
-use Rattle.varisat_search.specs.Contexts.{view, IsReady}
+use Rattle.varisat_search.specs.Contexts.{view, KeepsSchedule, IsReady}
+use Rattle.varisat_search.specs.Decisions.{HasActivities, AreDecidable, CanDecide, SameDecidable}
 use Rattle.varisat_search.specs.Loading.{IsAdded}
 use Rattle.varisat_search.specs.Seen.{search_of, outcome_of}
 use Rattle.varisat_search.specs.Steps.{IsCut, SavesAll, reopened_state}
+use Rattle.varisat_search.proofs.DecidableVariables.{can-decide, same-trans}
+use Rattle.varisat_search.proofs.LoadDecisions.{added-same, added-kept}
 use Rattle.varisat_search.proofs.LoadView.{Restarted, restarted, added-well, undecided-settled}
 use Rattle.varisat_search.proofs.LoadLines.{restart-moves, opened, lines-tautology, lines-satisfied, lines-added}
 
@@ -23,11 +28,15 @@ pub record Loading {A : Type 0} (x0 x1 : Context A) (c lits : Clause) : Type 0 w
   pub in_range : IsInRange x0.assignment.current c
   pub same : x0.trail.decisions ≡ [] → view x1 ≡ view x0
   pub cut : 0 < length x0.trail.decisions → IsCut (view x0) (view x1) 0
+  pub decidable : AreDecidable (view x0) x0.vsids c
+  pub entries : HasActivities (view x1) x1.vsids
+  pub stay_decidable : SameDecidable (view x0) x0.vsids (view x1) x1.vsids
   pub last : SavesAll (view x0) x0.assignment.last x1.assignment.last
   pub state : x1.solver_state ≡ record x0.solver_state { sat_state = reopened_state x0.solver_state.sat_state; formula_is_empty = false }
   pub units : x1.trail.units_removed ≡ x0.trail.units_removed
   pub analysis : x1.analyze_conflict.var_count ≡ x0.analyze_conflict.var_count
   pub flags : x1.tmp_flags.flags.items ≡ x0.tmp_flags.flags.items
+  pub schedule : KeepsSchedule x0 x1
   pub distinct : IsDistinct lits
   pub literals : SameSet lits c
 
@@ -40,6 +49,8 @@ pub record Loaded {A : Type 0} (x0 z : Context A) (c : Clause) : Type 0 where
   pub count : length z.assignment.current ≡ length x0.assignment.current
   pub units : z.trail.units_removed ≡ x0.trail.units_removed
   pub undecided : z.trail.decisions ≡ []
+  pub schedule : KeepsSchedule x0 z
+  pub decidable : SameDecidable (view x0) x0.vsids (view z) z.vsids
 
 module _ {A : Type 0} {x0 x1 : Context A} {c lits : Clause} (d : Loading x0 x1 c lits) where
   pub loading-restarted : Restarted (view x0) (view x1)
@@ -54,6 +65,12 @@ module _ {A : Type 0} {x0 x1 : Context A} {c lits : Clause} (d : Loading x0 x1 c
   verdict-is : x1.solver_state.sat_state ≡ reopened_state x0.solver_state.sat_state
   verdict-is = ap (λ (x : SolverState). x.sat_state) d.state
 
+  still-decidable : (e : Clause) → e ∈ kept (view x1) → AreDecidable (view x0) x0.vsids e
+  still-decidable e h = d.ready.decidable.decidable e (subst (λ ks. e ∈ literals_of ks) loading-restarted.clauses h)
+
+  literals-decidable : AreDecidable (view x1) x1.vsids lits
+  literals-decidable l h = (d.stay_decidable (variable_of l)).0 (d.decidable l (d.literals.0 l h))
+
   -- the clause is not kept, since it has a literal and its opposite or is true
   settled : (x0.solver_state.sat_state ≢ verdict.Unsat → x0.solver_state.sat_state ≢ verdict.UnsatUnderAssumptions → Loads (search_of (view x0)) (search_of (view x1)) c (outcome_of (view x1) x1.solver_state.sat_state) []) → Loaded x0 x1 c
   settled p =
@@ -65,6 +82,7 @@ module _ {A : Type 0} {x0 x1 : Context A} {c lits : Clause} (d : Loading x0 x1 c
           propagated = r.propagated;
           analysis = d.analysis ∙ d.ready.analysis ∙ sym r.count;
           flags = d.flags ∙ d.ready.flags ∙ ap (λ n. replicate (2 * n) false) (sym r.count);
+          decidable = can-decide (view x0) x0.vsids (view x1) x1.vsids d.entries d.stay_decidable still-decidable;
         };
         lines = λ n m. ([], p n m);
         last = d.last;
@@ -72,6 +90,8 @@ module _ {A : Type 0} {x0 x1 : Context A} {c lits : Clause} (d : Loading x0 x1 c
         count = r.count;
         units = d.units;
         undecided = r.undecided;
+        schedule = d.schedule;
+        decidable = d.stay_decidable;
       }
 
   pub loaded-tautology : IsTautology lits → Loaded x0 x1 c
@@ -80,10 +100,23 @@ module _ {A : Type 0} {x0 x1 : Context A} {c lits : Clause} (d : Loading x0 x1 c
   pub loaded-satisfied : (l : Literal) → l ∈ lits → IsTrueIn (view x1) l → Loaded x0 x1 c
   loaded-satisfied l i t = settled (λ n m. lines-satisfied (view x0) (view x1) c lits d.ready.well loading-restarted moves d.distinct d.literals x1.solver_state.sat_state (verdict-is ∙ opened x0.solver_state.sat_state n m) l i t)
 
+  added-stay : (z : Context A) → z.vsids ≡ x1.vsids → IsAdded (view x1) (view z) lits x1.solver_state.sat_state z.solver_state.sat_state → SameDecidable (view x0) x0.vsids (view z) z.vsids
+  added-stay z e a =
+      same-trans (view x0) x0.vsids (view x1) x1.vsids (view z) z.vsids d.stay_decidable
+      (subst (λ b. SameDecidable (view x1) x1.vsids (view z) b) (sym e) (added-same (view x1) (view z) x1.vsids lits x1.solver_state.sat_state z.solver_state.sat_state a literals-decidable))
+
+  added-decidable : (z : Context A) → z.vsids ≡ x1.vsids → IsAdded (view x1) (view z) lits x1.solver_state.sat_state z.solver_state.sat_state → length z.assignment.current ≡ length x1.assignment.current → CanDecide (view z) z.vsids
+  added-decidable z e a n =
+      can-decide (view x0) x0.vsids (view z) z.vsids
+      (record { activity = ap (λ (b : Activities). length b.activity) e ∙ d.entries.activity ∙ sym n; available = ap (λ (b : Activities). length b.available) e ∙ d.entries.available ∙ sym n })
+      (added-stay z e a)
+      (λ c h. ⊎_elim (still-decidable c) (λ f. subst (AreDecidable (view x0) x0.vsids) (sym f) (λ l i. d.decidable l (d.literals.0 l i))) (added-kept (view x1) (view z) lits x1.solver_state.sat_state z.solver_state.sat_state a c h))
+
   -- the clause was added
   pub loaded-added : (z : Context A) → z ≡ record x1 { assignment = z.assignment; clause_alloc = z.clause_alloc; impl_graph = z.impl_graph; solver_state = z.solver_state; trail = z.trail } → z.solver_state ≡ record x1.solver_state { sat_state = z.solver_state.sat_state } → z.trail.units_removed ≡ x1.trail.units_removed → z.assignment.last ≡ x1.assignment.last → IsAdded (view x1) (view z) lits x1.solver_state.sat_state z.solver_state.sat_state → Loaded x0 z c
   loaded-added z k s u l a =
       let r = loading-restarted in
+      let vsids : z.vsids ≡ x1.vsids = ap (λ (x : Context A). x.vsids) k in
       let b : IsAdded (view x1) (view z) lits (reopened_state x0.solver_state.sat_state) z.solver_state.sat_state = subst (λ b. IsAdded (view x1) (view z) lits b z.solver_state.sat_state) verdict-is a in
       let q = added-well (view x0) (view x1) lits r d.distinct loading-inside (view z) lits (reopened_state x0.solver_state.sat_state) z.solver_state.sat_state refl b in
       record {
@@ -93,6 +126,7 @@ module _ {A : Type 0} {x0 x1 : Context A} {c lits : Clause} (d : Loading x0 x1 c
           propagated = q.1;
           analysis = ap (λ (x : Context A). x.analyze_conflict.var_count) k ∙ d.analysis ∙ d.ready.analysis ∙ sym q.3;
           flags = ap (λ (x : Context A). x.tmp_flags.flags.items) k ∙ d.flags ∙ d.ready.flags ∙ ap (λ n. replicate (2 * n) false) (sym q.3);
+          decidable = added-decidable z vsids a (q.3 ∙ sym r.count);
         };
         lines = λ n m. ([], lines-added (view x0) (view x1) c lits d.ready.well r moves d.distinct d.literals (view z) lits (reopened_state x0.solver_state.sat_state) z.solver_state.sat_state (opened x0.solver_state.sat_state n m) refl b);
         last = subst (SavesAll (view x0) x0.assignment.last) (sym l) d.last;
@@ -100,4 +134,6 @@ module _ {A : Type 0} {x0 x1 : Context A} {c lits : Clause} (d : Loading x0 x1 c
         count = q.3;
         units = u ∙ d.units;
         undecided = q.2;
+        schedule = record { schedule = ap (λ (x : Context A). x.schedule) k ∙ d.schedule.schedule; solver_config = ap (λ (x : Context A). x.solver_config) k ∙ d.schedule.solver_config };
+        decidable = added-stay z vsids a;
       }

@@ -24,6 +24,7 @@ pub record Restarted (s t : View) : Type 0 where
   pub undecided : t.decisions ≡ []
   pub propagated : IsPropagated t
   pub count : length t.values ≡ length s.values
+  pub clauses : t.clauses ≡ s.clauses
   pub fixed_to : (x : Literal) → IsFixed s x → IsTrueIn t x
   pub fixed_from : (x : Literal) → IsTrueIn t x → IsFixed s x
 
@@ -36,7 +37,7 @@ no-decision s w e x t =
     omega (arith, n, l, g)
 
 pub restarted-same : (s : View) → WellFormed s → IsPropagated s → s.decisions ≡ [] → Restarted s s
-restarted-same s w p e = record { well = w; undecided = e; propagated = p; count = refl; fixed_to = λ x f. f.0; fixed_from = λ x t. (t, no-decision s w e x t) }
+restarted-same s w p e = record { well = w; undecided = e; propagated = p; count = refl; clauses = refl; fixed_to = λ x f. f.0; fixed_from = λ x t. (t, no-decision s w e x t) }
 
 pub restarted-cut : (s t : View) → WellFormed s → LevelsSettled s → 0 < length s.decisions → IsCut s t 0 → Restarted s t
 restarted-cut s t w v h c =
@@ -47,6 +48,7 @@ restarted-cut s t w v h c =
       undecided = none;
       propagated = cut-propagated s t 0 w h c v;
       count = c.count;
+      clauses = ap (λ (x : View). x.clauses) c.rest;
       fixed_to = λ x f. subst (λ (y : View). IsTrueIn y x) (sym c.rest) (fixed-cut s t 0 w h c x f).0;
       fixed_from = λ x q. (was-true s t 0 w h c x (subst (λ (y : View). IsTrueIn y x) c.rest q), sym (ap (λ (y : View). level_of y x) c.rest) ∙ no-decision t w' none x q);
     }

@@ -13,6 +13,7 @@ use Rattle.varisat_prop.proofs.PropagateEnd.{propagated-grows}
 use Rattle.varisat_search.specs.declared.context.Context.{Context}
 use Rattle.varisat_search.specs.Contexts.{view, IsReady}
 use Rattle.varisat_search.specs.Steps.{IsFree}
+use Rattle.varisat_search.specs.Decisions.{CanDecide}
 use Rattle.varisat_search.proofs.LevelsSettled.{settled-grows, settled-decided}
 
 -- On the way to a conflict or a model: the view is ready for more, and has grown.
@@ -27,13 +28,14 @@ pub finding-begins : {A : Type 0} {x : Context A} → IsReady x → Finding (vie
 finding-begins {x = x} r = record { well = r.well; settled = r.settled; propagated = r.propagated; grows = grows-refl (view x) }
 
 -- it stays ready, since no variable is added
-pub finding-ready : {A : Type 0} {x y : Context A} → IsReady x → Finding (view x) (view y) → y.analyze_conflict.var_count ≡ x.analyze_conflict.var_count → y.tmp_flags.flags.items ≡ x.tmp_flags.flags.items → IsReady y
-finding-ready r f a b = record {
+pub finding-ready : {A : Type 0} {x y : Context A} → IsReady x → Finding (view x) (view y) → y.analyze_conflict.var_count ≡ x.analyze_conflict.var_count → y.tmp_flags.flags.items ≡ x.tmp_flags.flags.items → CanDecide (view y) y.vsids → IsReady y
+finding-ready r f a b d = record {
   well = f.well;
   settled = f.settled;
   propagated = f.propagated;
   analysis = a ∙ r.analysis ∙ sym f.grows.count;
   flags = b ∙ r.flags ∙ ap (λ n. replicate (2 * n) false) (sym f.grows.count);
+  decidable = d;
 }
 
 pub finding-propagated : (s t u : View) → Finding s t → Propagates t u → IsPropagated u → Finding s u

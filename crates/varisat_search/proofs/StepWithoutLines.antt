@@ -52,7 +52,7 @@ module _ (s t : View) (w : WellFormed s) (v : WellFormed t) (g : Grows s t) wher
         (∈-append_cases c (kept s) (unit_clauses (search_of s).proved) h);
   }
 
-  proved_back : (x : Literal) → IsProved t x → IsProved s x
+  pub proved_back : (x : Literal) → IsProved t x → IsProved s x
   proved_back x (i, z, r) =
       let (k, a, e) = place_in x t.trail 0 i in
       let f = g.fits least least_fits in

@@ -4,6 +4,7 @@ use Rattle.varisat_prop.specs.View.{View, view_of, WellFormed, LevelsSettled, Is
 use Rattle.varisat_search.specs.declared.state.SatState.TheVariants as verdict
 use Rattle.varisat_search.specs.declared.state.SolverState.{SolverState}
 use Rattle.varisat_search.specs.declared.context.Context.{Context}
+use Rattle.varisat_search.specs.Decisions.{CanDecide}
 
 -- the view of the context's parts
 abbrev pub view : {A : Type 0} → Context A → View
@@ -12,6 +13,11 @@ view c = view_of c.clause_alloc c.assignment c.trail c.impl_graph
 -- the state of a solver without clauses
 abbrev pub first_state : SolverState
 first_state = record { sat_state = verdict.Unknown; formula_is_empty = true; state_is_invalid = false }
+
+-- the schedule stays, and the settings that it goes by
+pub record KeepsSchedule {A : Type 0} (old new : Context A) : Type 0 where
+  pub schedule : new.schedule ≡ old.schedule
+  pub solver_config : new.solver_config ≡ old.solver_config
 
 -- What a search needs in order to go on.
 pub record IsReady {A : Type 0} (c : Context A) : Type 0 where
@@ -24,3 +30,5 @@ pub record IsReady {A : Type 0} (c : Context A) : Type 0 where
   pub analysis : c.analyze_conflict.var_count ≡ length c.assignment.current
   -- there is a flag for each literal, and none is set
   pub flags : c.tmp_flags.flags.items ≡ replicate (2 * length c.assignment.current) false
+  -- variables are left to be decided until each literal of a kept clause has a value
+  pub decidable : CanDecide (view c) c.vsids

@@ -8,3 +8,7 @@ pub mod Marks
 pub mod Redundancy
 pub mod Seen
 pub mod Progress
+pub mod Restarts
+pub mod Decisions
+pub mod Bumps
+pub mod ContextChanges

@@ -7,6 +7,7 @@ use Rattle.varisat_prop.specs.View.{kinds}
 use Rattle.varisat_search.specs.declared.context.Context.{Context}
 use Rattle.varisat_search.specs.declared.state.SatState.TheVariants as verdict
 use Rattle.varisat_search.specs.Contexts.{view, IsReady}
+use Rattle.varisat_search.specs.Decisions.{SameDecidable}
 use Rattle.varisat_search.specs.Seen.{search_of, outcome_of}
 
 -- lines lead from the search to the next one, with its verdict
@@ -23,6 +24,7 @@ pub record IsStepFurther {A : Type 0} (x y : Context A) : Type 0 where
   pub steps : StepsTo x y
   pub no_assumptions : y.solver_state.sat_state ≢ verdict.UnsatUnderAssumptions
   pub rises : y.solver_state.sat_state ≡ verdict.Unknown → RaisesRank x y
+  pub decidable : SameDecidable (view x) x.vsids (view y) y.vsids
   pub count : length y.assignment.current ≡ length x.assignment.current
   pub units : y.trail.units_removed ≡ x.trail.units_removed
   pub state : y.solver_state ≡ record x.solver_state { sat_state = y.solver_state.sat_state }

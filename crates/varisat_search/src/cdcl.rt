@@ -1,16 +1,20 @@
 //! One step of the search: propagate and decide to a conflict or a model, and learn.
-ghost use Rattle.std.specs.Prelude.{◌≡◌, ◌≢◌, ℕ, length, [], ◌∷◌, List, OnOk, IfOk, MatchOption, MatchResult};
+ghost use Rattle.std.specs.Prelude.{◌≡◌, ◌≢◌, ℕ, ◌<◌, length, [], ◌∷◌, List, OnOk, IfOk, MatchOption, MatchResult};
 ghost use Rattle.varisat_theory.specs.Propagation.{IsComplete};
 ghost use Rattle.varisat_prop.specs.View.{kept, Grows};
 ghost use Rattle.varisat_prop.specs.Parts.{Values};
 ghost use Rattle.varisat_prop.specs.Changes.{place_of};
-ghost use Rattle.varisat_search.specs.Learned.{IsConflict, IsLearned};
-ghost use Rattle.varisat_search.specs.Contexts.{view, IsReady};
+ghost use Rattle.varisat_search.specs.Learned.{IsConflict, IsLearned, AreInvolved};
+ghost use Rattle.varisat_search.specs.Contexts.{view, KeepsSchedule, IsReady};
 ghost use Rattle.varisat_search.specs.Steps.{IsTotal, SavesSome, Remembers};
+ghost use Rattle.varisat_search.specs.Decisions.{SameDecidable};
+ghost use Rattle.varisat_search.specs.Bumps.{BumpsInvolved};
 ghost use Rattle.varisat_search.specs.Conflicts.{conflict_of, IsKeptAsReason};
 ghost use Rattle.varisat_search.specs.Progress.{StepsTo, RaisesRank, IsStepFurther};
+ghost use Rattle.varisat_vsids.specs.Activities.{Activities};
 
 use crate::analyze_conflict::analyze_conflict;
+use crate::bumps::bump_involved;
 use crate::context::Context;
 use crate::decision::make_decision;
 use crate::levels::backtrack;
@@ -48,9 +52,12 @@ fn find_conflict<A: Allocator + Copy>(
     ensures found { IfOk result (λ found. MatchResult found
         (λ _. IsComplete (kept (view ctx.new)) ctx.new.trail.literals × IsTotal (view ctx.new))
         (λ conflict. IsConflict (view ctx.new) (place_of (conflict_of conflict)))) }
+    ensures decidable { OnOk result (SameDecidable (view ctx.old) ctx.old.vsids (view ctx.new) ctx.new.vsids) }
+    ensures activities { OnOk result (ctx.new.vsids ≡ record ctx.old.vsids { available = ctx.new.vsids.available }) }
     ensures state { OnOk result (ctx.new.solver_state ≡ ctx.old.solver_state) }
     ensures last { OnOk result (ctx.new.assignment.last ≡ ctx.old.assignment.last) }
     ensures units { OnOk result (ctx.new.trail.units_removed ≡ ctx.old.trail.units_removed) }
+    ensures schedule { KeepsSchedule ctx.old ctx.new }
 {
     'levels: loop {
         let propagated = propagate(
@@ -77,7 +84,7 @@ pub fn first_of(clause: &[Lit]) -> Option<Lit>
 
 /// Keeps the learned clause where it has two literals or more, as redundant, and returns what makes its first literal true.
 fn keep_learned<A: Allocator + Copy>(ctx: &mut Context<A>) -> Result<Reason, AllocError>
-    ensures kept { OnOk result (ctx.new ≡ record ctx.old { clause_alloc = ctx.new.clause_alloc }) }
+    ensures kept { ctx.new ≡ record ctx.old { clause_alloc = ctx.new.clause_alloc } }
     ensures reason { IfOk result (λ reason. IsKeptAsReason ctx.old.clause_alloc ctx.new.clause_alloc ctx.old.analyze_conflict.clause reason) }
 {
     if ctx.analyze_conflict.clause().len() < 2 {
@@ -103,6 +110,7 @@ fn analyze<A: Allocator + Copy>(
     ensures kept { ctx.new ≡ record ctx.old { analyze_conflict = ctx.new.analyze_conflict } }
     ensures count { ctx.new.analyze_conflict.var_count ≡ ctx.old.analyze_conflict.var_count }
     ensures learned { IfOk result (λ level. IsLearned (view ctx.old) (place_of conflict) ctx.new.analyze_conflict.clause level) }
+    ensures involved { OnOk result (AreInvolved (view ctx.old) (place_of conflict) ctx.new.analyze_conflict.involved) }
 {
     let level = analyze_conflict(
         &mut ctx.analyze_conflict,
@@ -114,16 +122,21 @@ fn analyze<A: Allocator + Copy>(
     Ok(level)
 }
 
-/// Learns from the conflict: backtracks, keeps the learned clause, and makes its first literal true. The empty clause
-/// gives verdict Unsat.
+/// Learns from the conflict: bumps variables, backtracks, keeps the learned clause, and makes its first literal true. The
+/// empty clause gives verdict Unsat.
 fn learn<A: Allocator + Copy>(ctx: &mut Context<A>, conflict: Conflict) -> Result<(), AllocError>
     requires ready { IsReady ctx.old }
     requires conflict { IsConflict (view ctx.old) (place_of conflict) }
     requires unknown { ctx.old.solver_state.sat_state ≡ SatState.Unknown }
     ensures further { OnOk result (IsStepFurther ctx.old ctx.new) }
+    // Above level 0 the variables of the clauses that the learned one came from are bumped, and activities decay.
+    ensures bumps { OnOk result (0 < length ctx.old.trail.decisions → (b : Activities) × BumpsInvolved (view ctx.old) ctx.new.analyze_conflict.involved ctx.old.vsids b × (ctx.new.vsids ≡ record b { available = ctx.new.vsids.available })) }
+    ensures involved { OnOk result (AreInvolved (view ctx.old) (place_of conflict) ctx.new.analyze_conflict.involved) }
     ensures last { OnOk result (SavesSome (view ctx.old) ctx.old.assignment.last ctx.new.assignment.last) }
+    ensures schedule { KeepsSchedule ctx.old ctx.new }
 {
     let level = analyze(ctx, conflict)?;
+    bump_involved(ctx);
     // At this level the learned clause leaves its first literal, and no earlier propagation is lost.
     backtrack(ctx, level);
     let Some(first) = first_of(ctx.analyze_conflict.clause()) else {
@@ -150,10 +163,12 @@ pub fn conflict_step<A: Allocator + Copy>(ctx: &mut Context<A>) -> Result<(), Al
     ensures steps { OnOk result (StepsTo ctx.old ctx.new) }
     ensures no_assumptions { OnOk result (ctx.new.solver_state.sat_state ≢ SatState.UnsatUnderAssumptions) }
     ensures rises { OnOk result (ctx.new.solver_state.sat_state ≡ SatState.Unknown → RaisesRank ctx.old ctx.new) }
+    ensures decidable { OnOk result (SameDecidable (view ctx.old) ctx.old.vsids (view ctx.new) ctx.new.vsids) }
     ensures last { OnOk result (Remembers (view ctx.old) ctx.old.assignment.last ctx.new.assignment.last) }
     ensures count { OnOk result (length ctx.new.assignment.current ≡ length ctx.old.assignment.current) }
     ensures units { OnOk result (ctx.new.trail.units_removed ≡ ctx.old.trail.units_removed) }
     ensures state { OnOk result (ctx.new.solver_state ≡ record ctx.old.solver_state { sat_state = ctx.new.solver_state.sat_state }) }
+    ensures schedule { KeepsSchedule ctx.old ctx.new }
 {
     match find_conflict(ctx)? {
         Ok(()) => ctx.solver_state.sat_state = SatState::Sat,

@@ -1,15 +1,24 @@
 //! All parts of a search.
-ghost use Rattle.std.specs.Prelude.{◌≡◌, ℕ, ◌≤◌, ◌-◌, ◌++◌, [], length, replicate, slice_index_or, false, OnOk};
+ghost use Rattle.std.specs.Prelude.{◌≡◌, None, Some, MatchResult, ℕ, ◌≤◌, ◌-◌, ◌++◌, [], length, replicate, slice_index_or, false, OnOk};
+ghost use Rattle.std.specs.Option.{unwrap_or};
 ghost use Rattle.varisat_search.specs.Contexts.{view, IsReady, first_state};
+ghost use Rattle.varisat_search.specs.ContextChanges.{IsRaisedTo};
 ghost use Rattle.varisat_search.specs.Seen.{search_of, first_search};
+ghost use Rattle.varisat_search.specs.Decisions.{IsDecidable, SameDecidable};
 ghost use Rattle.varisat_literals.specs.Numbers.{variable_limit};
+ghost use Rattle.varisat_names.specs.Settings.{default_settings, first_bad, updated_settings};
+ghost use Rattle.varisat_schedule.specs.Plans.{first_plan};
+ghost use Rattle.varisat_vsids.specs.Activities.{no_activities, raised_to};
 
 use crate::analyze_conflict::AnalyzeConflict;
 use crate::state::SolverState;
 use crate::tmp::{TmpData, TmpFlags};
 use std::alloc::{AllocError, Allocator};
+use varisat_names::config::{ConfigError, SolverConfig, SolverConfigUpdate};
 use varisat_prop::clause::ClauseAlloc;
 use varisat_prop::prop::{Assignment, ImplGraph, Trail};
+use varisat_schedule::schedule::Schedule;
+use varisat_vsids::Vsids;
 
 /// The parts of a search, each under the name of its type.
 #[derive(Drop)]
@@ -18,36 +27,63 @@ pub struct Context<A: Allocator + Copy> {
     pub assignment: Assignment<A>,
     pub clause_alloc: ClauseAlloc<A>,
     pub impl_graph: ImplGraph<A>,
+    pub schedule: Schedule,
+    pub solver_config: SolverConfig,
     pub solver_state: SolverState,
     pub tmp_data: TmpData<A>,
     pub tmp_flags: TmpFlags<A>,
     pub trail: Trail<A>,
+    pub vsids: Vsids<A>,
 }
 
 impl<A: Allocator + Copy> Context<A> {
-    /// A search without variables and clauses. It takes no memory.
+    /// A search without variables and clauses, which made no step. It takes no memory.
     pub fn new_in(alloc: A) -> Context<A>
         ensures ready { IsReady result }
         ensures undecided { result.trail.decisions ≡ [] }
         ensures seen { search_of (view result) ≡ first_search }
         ensures empty { length result.assignment.current ≡ 0 }
         ensures state { result.solver_state ≡ first_state }
+        ensures schedule { result.schedule ≡ first_plan }
+        ensures config { result.solver_config ≡ default_settings }
+        ensures activities { result.vsids ≡ no_activities }
+        ensures none_decidable { (v : ℕ) → IsDecidable (view result) result.vsids v → ⊥ }
     {
         Context {
             analyze_conflict: AnalyzeConflict::new_in(alloc),
             assignment: Assignment::new_in(alloc),
             clause_alloc: ClauseAlloc::new_in(alloc),
             impl_graph: ImplGraph::new_in(alloc),
+            schedule: Schedule::new(),
+            solver_config: SolverConfig::new(),
             solver_state: SolverState::default(),
             tmp_data: TmpData::new_in(alloc),
             tmp_flags: TmpFlags::new_in(alloc),
             trail: Trail::new_in(alloc),
+            vsids: Vsids::new_in(alloc),
         }
+    }
+
+    /// Changes the settings for which there are values. If some value is out of its range, the first such setting is
+    /// returned and nothing changes. Another scale of the restarts counts from the next restart that is planned, and
+    /// another decay of the variables' activities from the next conflict.
+    pub fn config_changed(&mut self, update: &SolverConfigUpdate) -> Result<(), ConfigError>
+        ensures changed { MatchResult result
+            (λ _. (first_bad update.now ≡ None) × (self.new ≡ record self.old { solver_config = updated_settings self.old.solver_config update.now; vsids = record self.old.vsids { decay = unwrap_or update.now.vsids_decay self.old.vsids.decay } }))
+            (λ error. (first_bad update.now ≡ Some error.field) × (self.new ≡ self.old)) }
+        ensures ready { IsReady self.old → IsReady self.new }
+        ensures decidable { SameDecidable (view self.old) self.old.vsids (view self.new) self.new.vsids }
+    {
+        update.apply(&mut self.solver_config)?;
+        if update.vsids_decay.is_some() {
+            self.vsids.set_decay(self.solver_config.vsids_decay());
+        }
+        Ok(())
     }
 }
 
-/// Raises the count of variables. The new ones have no value, and had the value false. A refused growth forgets no value
-/// that was remembered.
+/// Raises the count of variables. The new ones have no value, had the value false, and are not available for decisions. A
+/// refused growth forgets no value that was remembered.
 pub fn set_var_count<A: Allocator + Copy>(
     ctx: &mut Context<A>,
     count: usize,
@@ -55,16 +91,17 @@ pub fn set_var_count<A: Allocator + Copy>(
     requires ready { IsReady ctx.old }
     requires raised { length ctx.old.assignment.current ≤ count }
     requires small { count ≤ variable_limit }
-    ensures ready { OnOk result (IsReady ctx.new) }
-    ensures count { OnOk result (length ctx.new.assignment.current ≡ count) }
+    ensures raised { OnOk result (IsRaisedTo count ctx.old ctx.new) }
     ensures remembered { (v : ℕ) → slice_index_or ctx.new.assignment.last v false ≡ slice_index_or ctx.old.assignment.last v false }
     ensures last { OnOk result (ctx.new.assignment.last ≡ ctx.old.assignment.last ++ replicate (count - length ctx.old.assignment.current) false) }
-    ensures seen { OnOk result (search_of (view ctx.new) ≡ search_of (view ctx.old)) }
-    ensures kept { OnOk result (ctx.new ≡ record ctx.old { analyze_conflict = ctx.new.analyze_conflict; assignment = ctx.new.assignment; impl_graph = ctx.new.impl_graph; tmp_flags = ctx.new.tmp_flags }) }
+    ensures activities { OnOk result (ctx.new.vsids ≡ raised_to count ctx.old.vsids) }
+    ensures decidable { OnOk result (SameDecidable (view ctx.old) ctx.old.vsids (view ctx.new) ctx.new.vsids) }
+    ensures kept { ctx.new ≡ record ctx.old { analyze_conflict = ctx.new.analyze_conflict; assignment = ctx.new.assignment; impl_graph = ctx.new.impl_graph; tmp_flags = ctx.new.tmp_flags; vsids = ctx.new.vsids } }
 {
     ctx.analyze_conflict.set_var_count(count)?;
     ctx.assignment.set_var_count(count)?;
     ctx.impl_graph.set_var_count(count)?;
     ctx.tmp_flags.set_var_count(count)?;
+    ctx.vsids.set_var_count(count)?;
     Ok(())
 }

@@ -1,26 +1,32 @@
 //! The choice of a literal to decide.
-ghost use Rattle.std.specs.Prelude.{◌≡◌, ◌≢◌, ℕ, ◌<◌, ◌≤◌, None, false, length, slice_index_or, OnOk, IfOk, MatchOption, MatchBool};
-ghost use Rattle.varisat_theory.specs.Literals.{Literal, variable_of};
+ghost use Rattle.std.specs.Prelude.{◌≡◌, ◌≢◌, None, ◌<◌, ◌≤◌, true, false, length, slice_index_or, OnOk, IfOk, MatchBool};
+ghost use Rattle.varisat_theory.specs.Membership.{◌∈◌};
+ghost use Rattle.varisat_theory.specs.Literals.{Literal, Clause, variable_of};
 ghost use Rattle.varisat_literals.specs.Numbers.{polarity_of, variable_limit};
-ghost use Rattle.varisat_prop.specs.View.{WellFormed};
+ghost use Rattle.varisat_prop.specs.View.{WellFormed, kept};
 ghost use Rattle.varisat_prop.specs.Changes.{decided_on};
-ghost use Rattle.varisat_search.specs.Contexts.{view};
+ghost use Rattle.varisat_vsids.specs.Activities.{with_available};
+ghost use Rattle.varisat_search.specs.Contexts.{view, IsReady};
+ghost use Rattle.varisat_search.specs.ContextChanges.{IsRaisedTo};
 ghost use Rattle.varisat_search.specs.Steps.{IsFree, IsTotal};
+ghost use Rattle.varisat_search.specs.Decisions.{CanDecide, IsDecidable, SameDecidable, SameDecidableBut, AddsDecidable, IsNextDecision, TakesUnassigned, initialized};
 
-use crate::context::Context;
+use crate::context::{Context, set_var_count};
 use std::alloc::{AllocError, Allocator};
 use varisat_literals::Var;
 use varisat_prop::prop::{Assignment, Reason, enqueue_assignment};
+use varisat_vsids::Vsids;
 
-/// The first variable without a value.
-fn unassigned_var<A: Allocator + Copy>(assignment: &Assignment<A>) -> Option<Var>
-    requires { length assignment.now.current ≤ variable_limit }
-    ensures { MatchOption result
-        ((v : ℕ) → v < length assignment.now.current → slice_index_or assignment.now.current v None ≢ None)
-        (λ v. (v < length assignment.now.current) × (slice_index_or assignment.now.current v None ≡ None)) }
+/// Takes out available variables, of greatest activity first, until one has no value.
+fn take_unassigned<A: Allocator + Copy>(
+    vsids: &mut Vsids<A>,
+    assignment: &Assignment<A>,
+) -> Option<Var>
+    requires activity { length vsids.old.activity ≡ length assignment.now.current }
+    requires available { length vsids.old.available ≡ length assignment.now.current }
+    ensures { TakesUnassigned assignment.now.current vsids.old vsids.new result }
 {
-    for index in 0..assignment.assignment().len() {
-        let var = Var::from_index(index);
+    'taking: while let Some(var) = vsids.next() {
         if assignment.var_value(var).is_none() {
             return Some(var);
         }
@@ -28,18 +34,23 @@ fn unassigned_var<A: Allocator + Copy>(assignment: &Assignment<A>) -> Option<Var
     None
 }
 
-/// Decides a variable as it was last assigned, and as false at first, so that a search stays near the assignment that it
-/// was at. Returns false where each literal of a kept clause has a value. The queue stays as it was: the decision is still to be propagated.
+/// Decides an available variable of greatest activity, as it was last assigned, and as false at first, so that a search
+/// stays near the assignment that it was at. Returns false where each literal of a kept clause has a value. The queue
+/// stays as it was: the decision is still to be propagated.
 pub fn make_decision<A: Allocator + Copy>(ctx: &mut Context<A>) -> Result<bool, AllocError>
-    requires { WellFormed (view ctx.old) }
+    requires well { WellFormed (view ctx.old) }
+    requires decidable { CanDecide (view ctx.old) ctx.old.vsids }
     ensures decided { IfOk result (λ made. MatchBool made
-        ((l : Literal) × IsFree (view ctx.old) l × (view ctx.new ≡ decided_on (view ctx.old) l) × (polarity_of l ≡ slice_index_or ctx.old.assignment.last (variable_of l) false))
-        ((ctx.new ≡ ctx.old) × IsTotal (view ctx.old))) }
+        ((l : Literal) × IsFree (view ctx.old) l × (view ctx.new ≡ decided_on (view ctx.old) l) × (polarity_of l ≡ slice_index_or ctx.old.assignment.last (variable_of l) false) × IsNextDecision ctx.old.assignment.current ctx.old.vsids (variable_of l))
+        ((ctx.new ≡ record ctx.old { vsids = ctx.new.vsids }) × IsTotal (view ctx.old))) }
+    ensures same { OnOk result (SameDecidable (view ctx.old) ctx.old.vsids (view ctx.new) ctx.new.vsids) }
+    ensures decidable { OnOk result (CanDecide (view ctx.new) ctx.new.vsids) }
+    ensures activities { OnOk result (ctx.new.vsids ≡ record ctx.old.vsids { available = ctx.new.vsids.available }) }
     ensures last { OnOk result (ctx.new.assignment.last ≡ ctx.old.assignment.last) }
     ensures units { OnOk result (ctx.new.trail.units_removed ≡ ctx.old.trail.units_removed) }
-    ensures kept { OnOk result (ctx.new ≡ record ctx.old { assignment = ctx.new.assignment; impl_graph = ctx.new.impl_graph; trail = ctx.new.trail }) }
+    ensures kept { ctx.new ≡ record ctx.old { assignment = ctx.new.assignment; impl_graph = ctx.new.impl_graph; trail = ctx.new.trail; vsids = ctx.new.vsids } }
 {
-    let Some(var) = unassigned_var(&ctx.assignment) else {
+    let Some(var) = take_unassigned(&mut ctx.vsids, &ctx.assignment) else {
         return Ok(false);
     };
     let lit = var.lit(ctx.assignment.last_var_value(var));
@@ -52,4 +63,64 @@ pub fn make_decision<A: Allocator + Copy>(ctx: &mut Context<A>) -> Result<bool, 
         Reason::Unit,
     )?;
     Ok(true)
+}
+
+/// Makes the variable available for decisions.
+pub fn make_available<A: Allocator + Copy>(ctx: &mut Context<A>, var: Var)
+    requires ready { IsReady ctx.old }
+    requires known { var < length ctx.old.assignment.current }
+    ensures available { ctx.new ≡ record ctx.old { vsids = with_available var true ctx.old.vsids } }
+    ensures ready { IsReady ctx.new }
+    ensures decidable { IsDecidable (view ctx.new) ctx.new.vsids var }
+    ensures others { SameDecidableBut var (view ctx.old) ctx.old.vsids (view ctx.new) ctx.new.vsids }
+{
+    ctx.vsids.make_available(var);
+}
+
+/// Begins anew with the variable: its activity is 0, and it becomes available for decisions where that is asked.
+pub fn initialize_var<A: Allocator + Copy>(ctx: &mut Context<A>, var: Var, available: bool)
+    requires ready { IsReady ctx.old }
+    requires known { var < length ctx.old.assignment.current }
+    ensures initialized { ctx.new ≡ record ctx.old { vsids = initialized var available ctx.old.vsids } }
+    ensures ready { IsReady ctx.new }
+    ensures decidable { available ≡ true → IsDecidable (view ctx.new) ctx.new.vsids var }
+    ensures same { available ≡ false → SameDecidable (view ctx.old) ctx.old.vsids (view ctx.new) ctx.new.vsids }
+    ensures others { SameDecidableBut var (view ctx.old) ctx.old.vsids (view ctx.new) ctx.new.vsids }
+{
+    ctx.vsids.reset(var);
+    if available {
+        make_available(ctx, var);
+    }
+}
+
+/// Raises the count of variables. The new ones have no value, had the value false, and are available for decisions.
+pub fn add_variables<A: Allocator + Copy>(
+    ctx: &mut Context<A>,
+    count: usize,
+) -> Result<(), AllocError>
+    requires ready { IsReady ctx.old }
+    requires raised { length ctx.old.assignment.current ≤ count }
+    requires small { count ≤ variable_limit }
+    ensures raised { OnOk result (IsRaisedTo count ctx.old ctx.new) }
+    ensures decidable { OnOk result (AddsDecidable (length ctx.old.assignment.current) count (view ctx.old) ctx.old.vsids (view ctx.new) ctx.new.vsids) }
+    ensures kept { ctx.new ≡ record ctx.old { analyze_conflict = ctx.new.analyze_conflict; assignment = ctx.new.assignment; impl_graph = ctx.new.impl_graph; tmp_flags = ctx.new.tmp_flags; vsids = ctx.new.vsids } }
+{
+    let first = ctx.assignment.assignment().len();
+    set_var_count(ctx, count)?;
+    for index in first..count {
+        initialize_var(ctx, Var::from_index(index), true);
+    }
+    Ok(())
+}
+
+/// Makes the variable unavailable for decisions. A search goes on where no kept clause names the variable.
+pub fn remove_var<A: Allocator + Copy>(ctx: &mut Context<A>, var: Var)
+    requires ready { IsReady ctx.old }
+    requires known { var < length ctx.old.assignment.current }
+    ensures removed { ctx.new ≡ record ctx.old { vsids = with_available var false ctx.old.vsids } }
+    ensures not_decidable { slice_index_or ctx.old.assignment.current var None ≡ None → IsDecidable (view ctx.new) ctx.new.vsids var → ⊥ }
+    ensures others { SameDecidableBut var (view ctx.old) ctx.old.vsids (view ctx.new) ctx.new.vsids }
+    ensures ready { ((c : Clause) → c ∈ kept (view ctx.old) → (l : Literal) → l ∈ c → variable_of l ≢ var) → IsReady ctx.new }
+{
+    ctx.vsids.make_unavailable(var);
 }

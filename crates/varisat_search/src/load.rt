@@ -8,8 +8,9 @@ ghost use Rattle.varisat_theory.specs.Outcomes.{Loads};
 ghost use Rattle.varisat_prop.specs.Parts.{IsMadeTrue};
 ghost use Rattle.varisat_prop.specs.Looks.{IsInRange};
 ghost use Rattle.varisat_prop.specs.View.{WellFormed};
-ghost use Rattle.varisat_search.specs.Contexts.{view, IsReady};
+ghost use Rattle.varisat_search.specs.Contexts.{view, KeepsSchedule, IsReady};
 ghost use Rattle.varisat_search.specs.Steps.{SavesAll};
+ghost use Rattle.varisat_search.specs.Decisions.{AreDecidable, SameDecidable};
 ghost use Rattle.varisat_search.specs.Loading.{IsAdded};
 ghost use Rattle.varisat_search.specs.Seen.{search_of, outcome_of};
 
@@ -82,7 +83,7 @@ fn add_distinct<A: Allocator + Copy>(ctx: &mut Context<A>) -> Result<(), AllocEr
     requires well { WellFormed (view ctx.old) }
     requires in_range { IsInRange ctx.old.assignment.current ctx.old.tmp_data.lits.items }
     requires untrue { (l : Literal) → l ∈ ctx.old.tmp_data.lits.items → IsMadeTrue ctx.old.assignment.current l → ⊥ }
-    ensures kept { OnOk result (ctx.new ≡ record ctx.old { assignment = ctx.new.assignment; clause_alloc = ctx.new.clause_alloc; impl_graph = ctx.new.impl_graph; solver_state = ctx.new.solver_state; trail = ctx.new.trail }) }
+    ensures kept { ctx.new ≡ record ctx.old { assignment = ctx.new.assignment; clause_alloc = ctx.new.clause_alloc; impl_graph = ctx.new.impl_graph; solver_state = ctx.new.solver_state; trail = ctx.new.trail } }
     ensures state { OnOk result (ctx.new.solver_state ≡ record ctx.old.solver_state { sat_state = ctx.new.solver_state.sat_state }) }
     ensures units { OnOk result (ctx.new.trail.units_removed ≡ ctx.old.trail.units_removed) }
     ensures last { OnOk result (ctx.new.assignment.last ≡ ctx.old.assignment.last) }
@@ -122,14 +123,17 @@ pub fn load_clause<A: Allocator + Copy>(
 ) -> Result<(), AllocError>
     requires ready { IsReady ctx.old }
     requires in_range { IsInRange ctx.old.assignment.current lits.now }
+    requires decidable { AreDecidable (view ctx.old) ctx.old.vsids lits.now }
     ensures ready { OnOk result (IsReady ctx.new) }
     ensures unsat { ctx.old.solver_state.sat_state ≡ SatState.Unsat → (result ≡ Ok tt) × (ctx.new ≡ ctx.old) }
     ensures lines { OnOk result (ctx.old.solver_state.sat_state ≢ SatState.Unsat → ctx.old.solver_state.sat_state ≢ SatState.UnsatUnderAssumptions → (lines : List Line) × Loads (search_of (view ctx.old)) (search_of (view ctx.new)) lits.now (outcome_of (view ctx.new) ctx.new.solver_state.sat_state) lines) }
+    ensures decidable { OnOk result (SameDecidable (view ctx.old) ctx.old.vsids (view ctx.new) ctx.new.vsids) }
     ensures last { OnOk result (ctx.old.solver_state.sat_state ≢ SatState.Unsat → SavesAll (view ctx.old) ctx.old.assignment.last ctx.new.assignment.last) }
     ensures state { OnOk result (ctx.old.solver_state.sat_state ≢ SatState.Unsat → ctx.new.solver_state ≡ record ctx.old.solver_state { sat_state = ctx.new.solver_state.sat_state; formula_is_empty = false }) }
     ensures count { OnOk result (length ctx.new.assignment.current ≡ length ctx.old.assignment.current) }
     ensures units { OnOk result (ctx.new.trail.units_removed ≡ ctx.old.trail.units_removed) }
     ensures undecided { OnOk result (ctx.old.solver_state.sat_state ≢ SatState.Unsat → ctx.new.trail.decisions ≡ []) }
+    ensures schedule { KeepsSchedule ctx.old ctx.new }
 {
     if let SatState::Unsat = ctx.solver_state.sat_state {
         return Ok(());

@@ -2,8 +2,12 @@
 #![tactic(auto)]
 
 #[cfg(test)]
+mod decisions;
+#[cfg(test)]
 mod levels;
 #[cfg(test)]
 mod loading;
+#[cfg(test)]
+mod searches;
 #[cfg(test)]
 mod steps;

@@ -1,78 +1,19 @@
 //! Steps of a search, and what their conflicts teach.
-ghost use Rattle.std.specs.Prelude.{◌≡◌, ◌≤◌, length, OnOk, IfOk, IsTrue};
-ghost use Rattle.varisat_prop.specs.Looks.{IsInRange};
+ghost use Rattle.std.specs.Prelude.{◌≤◌};
 ghost use Rattle.varisat_search.specs.Contexts.{IsReady};
 ghost use Rattle.varisat_literals.specs.Numbers.{variable_limit};
 
+use crate::searches::{loaded, prefer_lower_true, step};
 use linked_list_allocator::LocalHeap;
 use std::alloc::{AllocError, Allocator};
 use std::test::Fail;
-use varisat_literals::{Lit, Var, lits};
+use varisat_literals::{Lit, lits};
 use varisat_prop::clause::ClauseRef;
-use varisat_prop::prop::Assignment;
 use varisat_search::cdcl::conflict_step;
-use varisat_search::context::{Context, set_var_count};
-use varisat_search::load::load_clause;
+use varisat_search::context::Context;
 use varisat_search::state::SatState;
 
-/// Whether each literal's variable has a place in the assignment.
-fn is_in_range<A: Allocator + Copy>(assignment: &Assignment<A>, lits: &[Lit]) -> bool
-    ensures { IsTrue result → IsInRange assignment.now.current lits.now }
-{
-    for lit in lits {
-        if lit.index() >= assignment.assignment().len() {
-            return false;
-        }
-    }
-    true
-}
-
-/// A search over so many variables, into which those of the clauses are loaded that name no other variable.
-fn loaded<A: Allocator + Copy>(
-    alloc: A,
-    count: usize,
-    clauses: &[&[Lit]],
-) -> Result<Context<A>, AllocError>
-    requires { count ≤ variable_limit }
-    ensures { IfOk result (λ ctx. IsReady ctx) }
-{
-    let mut ctx = Context::new_in(alloc);
-    set_var_count(&mut ctx, count)?;
-    for clause in clauses {
-        if !is_in_range(&ctx.assignment, clause) {
-            continue;
-        }
-        load_clause(&mut ctx, clause)?;
-    }
-    Ok(ctx)
-}
-
-/// Makes a step, unless there is a verdict.
-fn step<A: Allocator + Copy>(ctx: &mut Context<A>) -> Result<(), AllocError>
-    requires { IsReady ctx.old }
-    ensures { OnOk result (IsReady ctx.new) }
-{
-    if let SatState::Unknown = ctx.solver_state.sat_state {
-        conflict_step(ctx)?;
-    }
-    Ok(())
-}
-
-/// Makes true the value that each variable without one had last.
-fn prefer_true<A: Allocator + Copy>(assignment: &mut Assignment<A>)
-    requires { length assignment.old.current ≤ variable_limit }
-    ensures { assignment.new.current ≡ assignment.old.current }
-{
-    for index in 0..assignment.assignment().len() {
-        let var = Var::from_index(index);
-        if assignment.var_value(var).is_none() {
-            assignment.set_var(var, Some(true));
-            assignment.release_var(var);
-        }
-    }
-}
-
-/// Whether the next step, whose decisions make variables true, learns the clause and backtracks to the level.
+/// Whether the next step, whose decisions make variables true, the lowest first, learns the clause and backtracks to the level.
 fn teaches<A: Allocator + Copy>(
     ctx: &mut Context<A>,
     clause: &[Lit],
@@ -80,7 +21,7 @@ fn teaches<A: Allocator + Copy>(
 ) -> Result<bool, AllocError>
     requires { IsReady ctx.old }
 {
-    prefer_true(&mut ctx.assignment);
+    prefer_lower_true(ctx);
     let SatState::Unknown = ctx.solver_state.sat_state else {
         return Ok(false);
     };

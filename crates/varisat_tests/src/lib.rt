@@ -1,4 +1,4 @@
-//! Tests of what no contract says, over the public calls of the solver: the worked rows, printed texts, each growth refused, readers and writers that fail.
+//! Tests of what no contract says, over the public calls of the solver: the worked rows, printed texts, each growth refused, readers and writers that fail. What owns memory has a function of its own, with one return, and lends it to another that compares.
 #![tactic(auto)]
 
 #[cfg(test)]
@@ -6,6 +6,10 @@ mod calls;
 #[cfg(test)]
 mod lines;
 #[cfg(test)]
+mod memory;
+#[cfg(test)]
 mod programs;
 #[cfg(test)]
-mod solving;
+mod readers;
+#[cfg(test)]
+mod texts;

@@ -1,60 +1,50 @@
 //! Lines that are read or refused, and the answers' bytes.
 use std::alloc::{AllocError, Global};
-use std::io;
-use std::io::Empty;
+use std::io::{self, Empty};
 use varisat::line::{parse_line, write_answer};
 use varisat::session::{Answer, Call};
 use varisat::solver::SolverError;
-use varisat_formula::dimacs::{DimacsError, DimacsErrorKind};
-use varisat_formula::formula::{Lit, Var};
+use varisat_formula::formula::Lit;
 use varisat_formula::io::{MemoryTarget, ReadSource};
 
 // The call of a line. No line has a source.
-fn parse(
-    alloc: Global,
-    text: &[u8],
-) -> Result<Option<Call<ReadSource<Empty>, Global>>, AllocError> {
-    parse_line(alloc, text)
-}
+type LineCall = Call<ReadSource<Empty>, Global>;
 
 // An answer of a session, which has no source.
 type LineAnswer = Answer<MemoryTarget<Global>, ReadSource<Empty>, Global>;
 
-#[test]
-fn reads_clauses(rt: HostRuntime) -> Result<(), AllocError> {
-    let clauses = [
-        (b"add".as_slice(), [].as_slice()),
-        (b"add 1".as_slice(), [0].as_slice()),
-        (
-            b"add 1 -2 10 10 -1".as_slice(),
-            [0, 3, 18, 18, 1].as_slice(),
-        ),
-        (b"add 2147483648".as_slice(), [4294967294].as_slice()),
-        (b"add -2147483648".as_slice(), [4294967295].as_slice()),
-    ];
-    for (text, codes) in clauses {
-        let Some(Call::AddClause(literals)) = parse(rt.alloc(), text)? else {
-            panic!(rt; "no clause was read");
-        };
-        assert_eq!(rt; literals.len(), codes.len());
-        for (literal, code) in literals.iter().zip(codes) {
-            assert_eq!(rt; literal.code(), *code);
-        }
-    }
-    Ok(())
+// Lines that add a clause, and the codes of its literals.
+const CLAUSES: &[(&[u8], &[usize])] = &[
+    (b"add", &[]),
+    (b"add 1", &[0]),
+    (b"add 1 -2 10 10 -1", &[0, 3, 18, 18, 1]),
+    (b"add 2147483648", &[4294967294]),
+    (b"add -2147483648", &[4294967295]),
+];
+
+fn are_codes(literals: &[Lit], codes: &[usize]) -> bool {
+    literals
+        .iter()
+        .map(|literal| literal.code())
+        .eq(codes.iter().copied())
 }
 
-#[test]
-fn reads_words(rt: HostRuntime) -> Result<(), AllocError> {
-    assert!(rt; matches!(parse(rt.alloc(), b"new")?, Some(Call::NewVar)));
-    assert!(rt; matches!(parse(rt.alloc(), b"solve")?, Some(Call::Solve)));
-    assert!(rt; matches!(parse(rt.alloc(), b"model")?, Some(Call::Model)));
-    assert!(rt; matches!(parse(rt.alloc(), b"close")?, Some(Call::CloseProof)));
-    Ok(())
+// Whether the line adds a clause of these codes, or is none where there are no codes.
+fn is_read_as(call: &Option<LineCall>, codes: Option<&[usize]>) -> bool {
+    match (call, codes) {
+        (Some(Call::AddClause(literals)), Some(codes)) => are_codes(literals, codes),
+        (None, None) => true,
+        _ => false,
+    }
+}
+
+fn reads(alloc: Global, text: &[u8], codes: Option<&[usize]>) -> Result<bool, AllocError> {
+    let call = parse_line(alloc, text)?;
+    Ok(is_read_as(&call, codes))
 }
 
 // Texts that are no line.
-const OTHER_TEXTS: [&[u8]; 41] = [
+const OTHER_TEXTS: &[&[u8]] = &[
     b"",
     b" ",
     b" add",
@@ -94,87 +84,109 @@ const OTHER_TEXTS: [&[u8]; 41] = [
     b"solve\r",
     b"model\n",
     b"modell",
+    b"steps 1",
+    b"config",
+    b"config ",
+    b"config max_steps",
+    b"config max_steps ",
+    b"config max_steps 01",
+    b"config max_steps +1",
+    b"config max_steps -1",
+    b"config max_steps 1 2",
+    b"config  max_steps 1",
+    b"config max_steps 18446744073709551616",
+    b"config speed 1",
     b"quit",
     b"\xc3\xa4",
 ];
 
 #[test]
-fn refuses_other_texts(rt: HostRuntime) -> Result<(), AllocError> {
-    for (place, text) in OTHER_TEXTS.iter().enumerate() {
-        assert!(rt; parse(rt.alloc(), text)?.is_none(), "the text at {place}");
-    }
-    Ok(())
-}
-
-// A list of the variables 1, opposite 2 and the opposite of the highest one.
-fn literals(alloc: Global) -> Result<Vec<Lit>, AllocError> {
-    let mut literals = Vec::new(alloc);
-    for code in [0, 3, 4294967295] {
-        literals.push(Lit::from_code(code))?;
-    }
-    Ok(literals)
-}
-
-#[test]
-fn writes_answers(rt: HostRuntime) -> io::Result<()> {
-    let cause = DimacsError {
-        line: 1,
-        kind: DimacsErrorKind::VarCount,
-    };
-    let answers: [(LineAnswer, &[u8]); 18] = [
-        (Answer::AddClause(Ok(())), b"ok".as_slice()),
-        (Answer::AddClause(Err(SolverError::VariableLimit)), b"err 7"),
-        (Answer::AddFormula(Ok(())), b"ok"),
-        (
-            Answer::AddDimacsCnf(
-                Err(SolverError::Dimacs { cause }),
-                ReadSource::new(io::empty()),
-            ),
-            b"err 13",
-        ),
-        (Answer::NewVar(Ok(Var::from_index(6))), b"ok 7"),
-        (Answer::NewVar(Err(SolverError::Invalid)), b"err 4"),
-        (Answer::Solve(Ok(true)), b"ok true"),
-        (Answer::Solve(Ok(false)), b"ok false"),
-        (Answer::Solve(Err(SolverError::OutOfMemory)), b"err 3"),
-        (Answer::Model(Ok(None)), b"ok none"),
-        (Answer::Model(Ok(Some(Vec::new(rt.alloc())))), b"ok 0"),
-        (
-            Answer::Model(Ok(Some(literals(rt.alloc())?))),
-            b"ok 1 -2 -2147483648 0",
-        ),
-        (Answer::Model(Err(AllocError)), b"err 3"),
-        (Answer::IsValid(true), b"ok true"),
-        (Answer::IsValid(false), b"ok false"),
-        (Answer::CloseProof(Ok(None)), b"ok none"),
-        (
-            Answer::CloseProof(Ok(Some(MemoryTarget::new_in(rt.alloc())))),
-            b"ok",
-        ),
-        (
-            Answer::CloseProof(Err((SolverError::OutOfMemory, MemoryTarget::new_in(rt.alloc())))),
-            b"err 3",
-        ),
-    ];
-    for (answer, text) in answers.iter() {
-        let mut out = Vec::new(rt.alloc());
-        write_answer(&mut out, answer)?;
-        assert_eq!(rt; out.as_slice(), *text);
-    }
-    Ok(())
-}
-
-#[test]
-fn stops_where_the_writer_fails(rt: HostRuntime) -> Result<(), AllocError> {
-    let answer: LineAnswer = Answer::Model(Ok(Some(literals(rt.alloc())?)));
-    for room in 0..=21 {
-        let mut bytes = [0; 21];
-        let mut out = &mut bytes[..room];
-        assert_eq!(rt;
-            write_answer(&mut out, &answer).is_ok(),
-            room == 21,
-            "at {room}"
+fn lines_are_read_or_refused(rt: HostRuntime) {
+    for (place, (text, codes)) in CLAUSES.iter().enumerate() {
+        assert!(rt;
+            matches!(reads(rt.alloc(), text, Some(codes)), Ok(true)),
+            "the clause at {place}"
         );
     }
-    Ok(())
+    for (place, text) in OTHER_TEXTS.iter().enumerate() {
+        assert!(rt;
+            matches!(reads(rt.alloc(), text, None), Ok(true)),
+            "the text at {place}"
+        );
+    }
+}
+
+fn written(out: &mut Vec<u8>, answer: &LineAnswer, wanted: &[u8]) -> bool {
+    let is_written = write_answer(out, answer).is_ok();
+    is_written & (out.as_slice() == wanted)
+}
+
+// Whether the answer is written so.
+fn writes(alloc: Global, answer: LineAnswer, wanted: &[u8]) -> bool {
+    let mut out = Vec::new(alloc);
+    written(&mut out, &answer, wanted)
+}
+
+// A model of the variables 1, opposite 2 and the opposite of the highest one.
+fn model(alloc: Global) -> Result<LineAnswer, AllocError> {
+    let literals = [
+        Lit::from_code(0),
+        Lit::from_code(3),
+        Lit::from_code(4294967295),
+    ];
+    let list = Vec::from_slice(alloc, &literals)?;
+    Ok(Answer::Model(Ok(Some(list))))
+}
+
+const MODEL_TEXT: &[u8] = b"ok 1 -2 -2147483648 0";
+
+fn writes_model(alloc: Global) -> Result<bool, AllocError> {
+    let answer = model(alloc)?;
+    Ok(writes(alloc, answer, MODEL_TEXT))
+}
+
+// Whether the end of a proof is written, where its target comes back.
+fn writes_closings(alloc: Global) -> bool {
+    let closed = Answer::CloseProof(Ok(Some(MemoryTarget::new_in(alloc))));
+    let is_closed = writes(alloc, closed, b"ok");
+    let target = MemoryTarget::new_in(alloc);
+    let refused = Answer::CloseProof(Err((SolverError::OutOfMemory, target)));
+    is_closed & writes(alloc, refused, b"err 3")
+}
+
+// Answers that no session with ample memory gets.
+#[test]
+fn answers_are_written(rt: HostRuntime) {
+    let alloc = rt.alloc();
+    let outcomes = [
+        writes(alloc, Answer::NewVar(Err(SolverError::Invalid)), b"err 4"),
+        writes(
+            alloc,
+            Answer::Solve(Err(SolverError::OutOfMemory)),
+            b"err 3",
+        ),
+        writes(alloc, Answer::Model(Err(AllocError)), b"err 3"),
+        writes(alloc, Answer::Steps(u64::MAX), b"ok 18446744073709551615"),
+        writes(alloc, Answer::IsValid(false), b"ok false"),
+        writes_closings(alloc),
+        matches!(writes_model(alloc), Ok(true)),
+    ];
+    assert!(rt; outcomes == [true; 7]);
+}
+
+// Whether the answer is written whole where there is room for so many bytes.
+fn fits(answer: &LineAnswer, room: usize) -> bool {
+    let mut bytes = [0; 21];
+    let mut out = &mut bytes[..room.min(21)];
+    write_answer(&mut out, answer).is_ok()
+}
+
+fn fits_only_whole(alloc: Global) -> Result<bool, AllocError> {
+    let answer = model(alloc)?;
+    Ok((0..=21).all(|room| fits(&answer, room) == (room == 21)))
+}
+
+#[test]
+fn stops_where_the_writer_fails(rt: HostRuntime) {
+    assert!(rt; matches!(fits_only_whole(rt.alloc()), Ok(true)));
 }

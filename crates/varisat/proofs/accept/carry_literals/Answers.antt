@@ -1,6 +1,5 @@
-use Rattle.std.proofs.Common.{◌≡◌, ◌+◌, ◌*◌, ◌++◌, ◌∷◌, [], Some, sym, ap, ◌∙◌, subst, refl, map, take, arith}
+use Rattle.std.proofs.Common.{◌++◌, ◌∷◌, [], sym, ap, ◌∙◌, map, take}
 use Rattle.std.proofs.lemmas.List.{map-append}
-use Rattle.varisat_theory.specs.Literals.{variable_of}
 use Rattle.varisat_names.specs.Maps.{chain}
 use Rattle.varisat_names.specs.VarMap.{at}
 use Rattle.varisat_prop.proofs.ReadElements.{item-∈}

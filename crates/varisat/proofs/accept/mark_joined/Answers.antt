@@ -1,7 +1,6 @@
-use Rattle.std.proofs.Common.{◌≡◌, ◌<◌, ◌+◌, Some, sym, ap, ◌∙◌, subst, refl, length, take, arith}
+use Rattle.std.proofs.Common.{sym, ap, ◌∙◌, subst, take}
 use Rattle.varisat_theory.specs.Literals.{variable_of}
 use Rattle.varisat_names.specs.VarMap.{at}
-use Rattle.varisat_names.specs.VarData.{kept_at}
 use Rattle.varisat_prop.proofs.ReadElements.{item-∈}
 use Rattle.varisat.proofs.ReadPlaces.{take-item}
 use Rattle.varisat.proofs.PlainTables.{AreOpened, opened-none, opened-more, opened-live, is-there}

@@ -1,5 +1,4 @@
 use Rattle.std.proofs.Common.{take}
-use Rattle.varisat.specs.Accepting.{IsPlain}
 use Rattle.varisat.proofs.PlainTables.{AreOpened}
 use Rattle.varisat.proofs.accept.mark_joined.Given as goal
 

@@ -1,8 +1,6 @@
-use Rattle.std.proofs.Common.{◌≡◌, ◌<◌, ◌+◌, ◌++◌, ◌∷◌, [], Some, None, sym, ap, ◌∙◌, subst, refl, length, take, arith}
+use Rattle.std.proofs.Common.{◌≡◌, ◌+◌, ◌++◌, ◌∷◌, [], Some, None, sym, ap, ◌∙◌, subst, refl, length, take, arith}
 use Rattle.varisat_theory.specs.Literals.{variable_of}
 use Rattle.varisat_names.specs.VarMap.{at}
-use Rattle.varisat_names.proofs.Maps.{is-some}
-use Rattle.std.proofs.Common.{⊎_elim, true, false}
 use Rattle.varisat_prop.proofs.ReadElements.{item-∈}
 use Rattle.varisat.specs.Accepting.{IsPlain, AreTakenFor}
 use Rattle.varisat.proofs.ReadPlaces.{take-item}

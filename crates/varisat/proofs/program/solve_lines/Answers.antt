@@ -2,5 +2,5 @@
 use Rattle.varisat.proofs.ProgramDecides.{outcome-is-true}
 use Rattle.varisat.proofs.program.solve_lines.Goals as goal
 
-pub returns-in-Ok-write_outcome-clause-truth : goal.returns-in-Ok-write_outcome-clause-truth
-returns-in-Ok-write_outcome-clause-truth g c = outcome-is-true _ _ _ _ c.in-Ok.ensures c.in-Ok-write_outcome.ensures.status
+pub returns-in-Ok-write_report-clause-truth : goal.returns-in-Ok-write_report-clause-truth
+returns-in-Ok-write_report-clause-truth g c = outcome-is-true _ _ _ _ _ c.in-Ok.ensures c.in-Ok-write_report.ensures.status

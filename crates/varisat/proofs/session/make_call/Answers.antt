@@ -25,6 +25,12 @@ returns-in-Solve g c s st = rw c.in-Solve.is (c.solve.ensures.call s st)
 pub returns-in-Model : goal.returns-in-Model
 returns-in-Model g c s st = rw c.in-Model.is (c.model.ensures.call s st)
 
+pub returns-in-Config : goal.returns-in-Config
+returns-in-Config g c s st = rw c.in-Config.is (c.config.ensures s st)
+
+pub returns-in-Steps : goal.returns-in-Steps
+returns-in-Steps g c s st = rw c.in-Steps.is (c.steps.ensures s st)
+
 pub returns-in-IsValid : goal.returns-in-IsValid
 returns-in-IsValid g c s st = rw c.in-IsValid.is (c.is_valid.ensures s st)
 

@@ -1,4 +1,4 @@
-use Rattle.std.proofs.Common.{◌++◌, ◌∷◌, [], sym, ap, subst, ⊎_elim, length, take, arith}
+use Rattle.std.proofs.Common.{◌∷◌, [], ap, subst, ⊎_elim, take, arith}
 use Rattle.varisat_theory.specs.Membership.{◌∈◌}
 use Rattle.varisat_theory.specs.Literals.{variable_of}
 use Rattle.varisat_theory.proofs.Members.{∈-append_cases}

@@ -1,4 +1,4 @@
-use Rattle.std.proofs.Common.{◌≡◌, ◌+◌, ◌++◌, ◌∷◌, [], suc, ℕ, Bool, Option, Some, None, false, sym, ap, ap₂, ◌∙◌, subst, refl, get_or, arith}
+use Rattle.std.proofs.Common.{◌≡◌, ◌+◌, ◌++◌, ◌∷◌, [], suc, Some, None, sym, ap, ap₂, ◌∙◌, subst, refl, get_or, arith}
 use Rattle.std.proofs.lemmas.List.{append-nil}
 use Rattle.std.specs.Prelude.{MatchOption}
 use Rattle.varisat_theory.specs.Literals.{Assignment, literal_of}

@@ -1,4 +1,4 @@
-use Rattle.std.proofs.Common.{◌≡◌, Some, sym, ap, ◌∙◌}
+use Rattle.std.proofs.Common.{sym, ap, ◌∙◌}
 use Rattle.varisat_names.specs.VarMap.{at}
 use Rattle.varisat_names.proofs.Tables.{named-inside}
 use Rattle.varisat.proofs.solver.model_value.Goals as goal

@@ -1,54 +1,125 @@
-use Rattle.std.proofs.Common.{ℕ, suc, List, [], ◌++◌, ◌∙◌, ⊎_elim, ap, sym, subst, refl}
+use Rattle.std.proofs.Common.{List, length, ◌∙◌, ⊎_elim, inl, inr, ap, sym, subst, refl, true, false, arith}
+use Rattle.varisat_theory.specs.Derivations.{Line}
+use Rattle.varisat_theory.specs.Outcomes.{Unknown, Unsat, Steps}
+use Rattle.varisat_prop.specs.View.{kinds}
 use Rattle.varisat_search.specs.declared.state.SolverState.{SolverState}
 use Rattle.varisat_search.specs.declared.state.SatState.TheVariants as verdict
 use Rattle.varisat_search.specs.Contexts.{view}
-use Rattle.varisat_theory.specs.Derivations.{Line}
-use Rattle.varisat_theory.specs.Searches.{Search}
-use Rattle.varisat_theory.specs.Outcomes.{Outcome, Unknown, Unsat, Steps, MakesSteps}
-use Rattle.varisat_theory.proofs.StepsMade.{none_made, one_more_made}
 use Rattle.varisat_search.specs.Seen.{search_of, outcome_of}
-use Rattle.varisat.proofs.FindVerdictEnds.{step-shortens}
+use Rattle.varisat_search.proofs.DecidableVariables.{same-refl, same-trans}
+use Rattle.varisat.specs.Budgets.{CountsSteps}
+use Rattle.varisat.proofs.FindVerdictSteps.{call_from, Stepping, stepping-goes-on, stepping-lines, stepping-counts, stepping-shortens, flags-short, none-made, counts-spent, counts-refused, no-lines, told-refused, not-spent, room}
+use Rattle.varisat.proofs.solving.find_verdict.Given.{Over}
+use Rattle.varisat.proofs.solving.find_verdict.Goals.{In_ok-schedule_step}
 use Rattle.varisat.proofs.solving.find_verdict.Goals as goal
+use Rattle.varisat.proofs.solving.find_verdict.Goals.{then-steps-first-via-then-steps-first, then-steps-first-via-else-steps-first+then-steps}
 
--- the steps that were made, and one more
-more-made : (s t u : Search) (v : Outcome) → ((k : ℕ) × (lines : List Line) × MakesSteps k s t Unknown lines) → ((lines : List Line) × Steps t u v lines) → (k : ℕ) × (lines : List Line) × MakesSteps k s u v lines
-more-made s t u v (k, first, p) (second, q) = (suc k, first ++ second, one_more_made k s t u v first second p q)
+stepping : (g : Over) (c : In_ok-schedule_step g) → Stepping c.args.ctx.now c.steps.ctx c.schedule_step.new.ctx c.args.max_steps
+stepping g c =
+    let r = c.steps.invariant in
+    let e = c.in_ok-schedule_step.ensures in
+    record {
+      scaled = c.prove_in_range.ensures.luby_restart_interval_scale;
+      ready = r.ready;
+      count = r.count;
+      config = r.config;
+      made = r.made;
+      lines = r.lines;
+      left = not-spent c.args.ctx.now.schedule c.steps.ctx.schedule c.args.max_steps c.steps-first.result c.steps-steps.result c.steps-first.ensures.steps c.steps-steps.ensures.steps c.if-steps-first.false;
+      countable = room c.steps.ctx.schedule c.steps-steps.result c.steps-steps.ensures.steps c.steps-steps.type_inv c.if-steps.false;
+      next = e.schedule;
+    }
 
 pub steps-init : goal.steps-init
-steps-init g c = record { ready = c.requires.ready; count = refl; state = refl; made = (0, [], none_made (search_of (view c.args.ctx.now))) }
+steps-init g c =
+    let x = c.args.ctx.now in
+    record {
+      ready = c.requires.ready;
+      count = refl;
+      decidable = same-refl (view x) x.vsids;
+      state = refl;
+      config = refl;
+      made = none-made (call_from x) c.args.max_steps (kinds (view x)) c.steps-first.ensures.plan;
+      lines = no-lines x.schedule (search_of (view x));
+    }
 
 pub steps-smaller : goal.steps-smaller
-steps-smaller g c =
-    let s = view c.steps.ctx in
-    let t = view c.conflict_step.new.ctx in
-    let e = c.in_ok-conflict_step.ensures in
-    step-shortens s t c.steps.invariant.ready.well e.ready.well e.count (e.rises c.in-Unknown.is)
+steps-smaller g c = stepping-shortens (stepping g (goal.at.steps-smaller g c).In_ok-schedule_step)
 
 pub steps-preserved : goal.steps-preserved
 steps-preserved g c =
-    let t = view c.conflict_step.new.ctx in
+    let y = c.steps.ctx in
+    let z = c.schedule_step.new.ctx in
     let r = c.steps.invariant in
-    let e = c.in_ok-conflict_step.ensures in
+    let e = c.in_ok-schedule_step.ensures in
+    let d = stepping g (goal.at.steps-preserved g c).In_ok-schedule_step in
     record {
       ready = e.ready;
       count = e.count ∙ r.count;
-      state = e.state ∙ ap (λ x. record c.steps.ctx.solver_state { sat_state = x }) (c.in-Unknown.is ∙ sym (ap (λ (x : SolverState). x.sat_state) r.state ∙ c.requires.unknown)) ∙ r.state;
-      made = more-made (search_of (view c.args.ctx.now)) (search_of (view c.steps.ctx)) (search_of t) Unknown r.made
-          (subst (λ b. (lines : List Line) × Steps (search_of (view c.steps.ctx)) (search_of t) (outcome_of t b) lines) c.in-Unknown.is e.steps);
+      decidable = let x = c.args.ctx.now in same-trans (view x) x.vsids (view y) y.vsids (view z) z.vsids r.decidable e.decidable;
+      state = e.state ∙ ap (λ v. record y.solver_state { sat_state = v }) (c.in-Unknown.is ∙ sym (ap (λ (s : SolverState). s.sat_state) r.state ∙ c.requires.unknown)) ∙ r.state;
+      config = e.config ∙ r.config;
+      made = stepping-goes-on d (e.rises c.in-Unknown.is);
+      lines = stepping-lines d Unknown (subst (λ b. (lines : List Line) × Steps (search_of (view y)) (search_of (view z)) (outcome_of (view z) b) lines) c.in-Unknown.is e.steps);
     }
+
+pub returns-then-steps-first-clause-steps : goal.returns-then-steps-first-clause-steps
+returns-then-steps-first-clause-steps g c = c.steps.invariant.lines
+
+pub returns-then-steps-first-clause-counted : goal.returns-then-steps-first-clause-counted
+returns-then-steps-first-clause-counted g c n h =
+    let x = c.args.ctx.now in
+    let y = c.steps.ctx in
+    let r = c.steps.invariant in
+    counts-spent (call_from x) c.args.max_steps y.schedule (kinds (view y)) c.prove_in_range.ensures.luby_restart_interval_scale (flags-short (view y) (length x.assignment.current) r.ready.well r.count) r.made
+    (elim c.then-steps-first.branch [
+      | then-steps-first-via-then-steps-first w ↦ inl (let a = c.steps-first.ensures.steps in let b = c.steps-steps.ensures.steps in let d = w.if-steps-first.true in omega (arith, a, b, d))
+      | then-steps-first-via-else-steps-first+then-steps w ↦ inr (sym c.steps-steps.ensures.steps ∙ w.if-steps.true)
+    ])
+    n h
+
+pub returns-in-Sat-clause-counted : goal.returns-in-Sat-clause-counted
+returns-in-Sat-clause-counted g c n h = stepping-counts (stepping g (goal.at.returns-in-Sat-clause-counted g c).In_ok-schedule_step) true n h
+
+pub returns-in-Sat-clause-decidable : goal.returns-in-Sat-clause-decidable
+returns-in-Sat-clause-decidable g c =
+    let x = c.args.ctx.now in
+    let y = c.steps.ctx in
+    let z = c.schedule_step.new.ctx in
+    same-trans (view x) x.vsids (view y) y.vsids (view z) z.vsids c.steps.invariant.decidable c.in_ok-schedule_step.ensures.decidable
 
 pub returns-in-Sat-clause-steps : goal.returns-in-Sat-clause-steps
 returns-in-Sat-clause-steps g c =
-    let t = view c.conflict_step.new.ctx in
-    more-made (search_of (view c.args.ctx.now)) (search_of (view c.steps.ctx)) (search_of t) (outcome_of t verdict.Sat) c.steps.invariant.made
-    (subst (λ b. (lines : List Line) × Steps (search_of (view c.steps.ctx)) (search_of t) (outcome_of t b) lines) c.in-Sat.is c.in_ok-conflict_step.ensures.steps)
+    let y = c.steps.ctx in
+    let z = c.schedule_step.new.ctx in
+    stepping-lines (stepping g (goal.at.returns-in-Sat-clause-steps g c).In_ok-schedule_step) (outcome_of (view z) verdict.Sat)
+    (subst (λ b. (lines : List Line) × Steps (search_of (view y)) (search_of (view z)) (outcome_of (view z) b) lines) c.in-Sat.is c.in_ok-schedule_step.ensures.steps)
+
+pub returns-in-Unsat-clause-counted : goal.returns-in-Unsat-clause-counted
+returns-in-Unsat-clause-counted g c n h = stepping-counts (stepping g (goal.at.returns-in-Unsat-clause-counted g c).In_ok-schedule_step) false n h
+
+pub returns-in-Unsat-clause-decidable : goal.returns-in-Unsat-clause-decidable
+returns-in-Unsat-clause-decidable g c =
+    let x = c.args.ctx.now in
+    let y = c.steps.ctx in
+    let z = c.schedule_step.new.ctx in
+    same-trans (view x) x.vsids (view y) y.vsids (view z) z.vsids c.steps.invariant.decidable c.in_ok-schedule_step.ensures.decidable
 
 pub returns-in-Unsat-clause-steps : goal.returns-in-Unsat-clause-steps
 returns-in-Unsat-clause-steps g c =
-    let t = view c.conflict_step.new.ctx in
-    let e = c.in_ok-conflict_step.ensures in
+    let y = c.steps.ctx in
+    let z = c.schedule_step.new.ctx in
+    let e = c.in_ok-schedule_step.ensures in
     ⊎_elim
-    (λ q. more-made (search_of (view c.args.ctx.now)) (search_of (view c.steps.ctx)) (search_of t) Unsat c.steps.invariant.made
-    (subst (λ b. (lines : List Line) × Steps (search_of (view c.steps.ctx)) (search_of t) (outcome_of t b) lines) q e.steps))
+    (λ q. stepping-lines (stepping g (goal.at.returns-in-Unsat-clause-steps g c).In_ok-schedule_step) Unsat
+    (subst (λ b. (lines : List Line) × Steps (search_of (view y)) (search_of (view z)) (outcome_of (view z) b) lines) q e.steps))
     (λ q. absurd (e.no_assumptions q))
     c.in-Unsat.is
+
+pub returns-in_err-schedule_step-clause-counted : goal.returns-in_err-schedule_step-clause-counted
+returns-in_err-schedule_step-clause-counted g c n h =
+    let x = c.args.ctx.now in
+    let y = c.steps.ctx in
+    let r = c.steps.invariant in
+    subst (λ a. CountsSteps n c.args.max_steps x.schedule.steps c.schedule_step.new.ctx.schedule.steps a) (sym (told-refused c.from_residual.result c.from_residual.ensures.0))
+    (counts-refused (call_from x) c.args.max_steps y.schedule (kinds (view y)) c.prove_in_range.ensures.luby_restart_interval_scale (flags-short (view y) (length x.assignment.current) r.ready.well r.count) r.made c.schedule_step.new.ctx.schedule.steps (c.in_err-schedule_step.ensures {u = tt}).uncounted n h)

@@ -1,18 +1,24 @@
-use Rattle.std.proofs.Common.{◌≡◌, ℕ, List, length}
-use Rattle.varisat_search.specs.Contexts.{view, IsReady}
+use Rattle.std.proofs.Common.{◌≡◌, ◌+◌, ◌-◌, ◌*◌, ◌^◌, List, length}
 use Rattle.varisat_theory.specs.Derivations.{Line}
 use Rattle.varisat_theory.specs.Outcomes.{Unknown, MakesSteps}
+use Rattle.varisat_prop.specs.View.{kinds}
+use Rattle.varisat_schedule.specs.CallSteps.{steps_since}
+use Rattle.varisat_search.specs.Contexts.{view, IsReady}
+use Rattle.varisat_search.specs.Decisions.{SameDecidable}
 use Rattle.varisat_search.specs.Seen.{search_of}
-use Rattle.varisat.proofs.FindVerdictEnds.{room_left}
+use Rattle.varisat.proofs.FindVerdictSteps.{HasMade, call_from}
 use Rattle.varisat.proofs.solving.find_verdict.Given as goal
 
 abbrev pub invariant-steps : goal.invariant-steps
 invariant-steps g l = record {
   ready : IsReady l.ctx;
   count : length l.ctx.assignment.current ≡ length l.fn.ctx.assignment.current;
+  decidable : SameDecidable (view l.fn.ctx) l.fn.ctx.vsids (view l.ctx) l.ctx.vsids;
   state : l.ctx.solver_state ≡ l.fn.ctx.solver_state;
-  made : (k : ℕ) × (lines : List Line) × MakesSteps k (search_of (view l.fn.ctx)) (search_of (view l.ctx)) Unknown lines;
+  config : l.ctx.solver_config ≡ l.fn.ctx.solver_config;
+  made : HasMade (call_from l.fn.ctx) l.max_steps l.ctx.schedule (kinds (view l.ctx));
+  lines : (lines : List Line) × MakesSteps (steps_since l.fn.ctx.schedule l.ctx.schedule) (search_of (view l.fn.ctx)) (search_of (view l.ctx)) Unknown lines;
 }
 
 abbrev pub decreases-steps : goal.decreases-steps
-decreases-steps g l = room_left (view l.ctx)
+decreases-steps g l = 2 ^ (2 * length l.fn.ctx.assignment.current + 3) - steps_since l.fn.ctx.schedule l.ctx.schedule

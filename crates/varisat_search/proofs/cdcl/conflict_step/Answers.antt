@@ -11,6 +11,7 @@ use Rattle.varisat_theory.specs.Outcomes.{Sat}
 use Rattle.varisat_search.specs.Seen.{outcome_of}
 use Rattle.varisat_search.proofs.StepLines.{model-steps, steps-after}
 use Rattle.varisat_search.proofs.StepRanks.{rises-after}
+use Rattle.varisat_search.proofs.DecidableVariables.{same-trans}
 use Rattle.varisat_search.proofs.cdcl.conflict_step.Goals as goal
 
 pub learn-requires-clause-conflict : goal.learn-requires-clause-conflict
@@ -64,3 +65,10 @@ pub returns-in_ok-learn-in-Err-clause-state : goal.returns-in_ok-learn-in-Err-cl
 returns-in_ok-learn-in-Err-clause-state g c =
     let u = c.learn.new.ctx.solver_state.sat_state in
     c.in_ok-learn-in-Err.ensures.further.state ∙ ap (λ (y : SolverState). record y { sat_state = u }) c.in_ok-find_conflict.ensures.state
+
+pub returns-in_ok-learn-in-Err-clause-decidable : goal.returns-in_ok-learn-in-Err-clause-decidable
+returns-in_ok-learn-in-Err-clause-decidable g c =
+    let x = c.args.ctx.now in
+    let m = c.find_conflict.new.ctx in
+    let u = c.learn.new.ctx in
+    same-trans (view x) x.vsids (view m) m.vsids (view u) u.vsids c.in_ok-find_conflict.ensures.decidable c.in_ok-learn-in-Err.ensures.further.decidable

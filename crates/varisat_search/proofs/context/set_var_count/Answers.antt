@@ -2,6 +2,7 @@ use Rattle.std.proofs.Common.{◌≡◌, ◌*◌, ◌-◌, None, false, ◌++◌
 use Rattle.varisat_prop.specs.View.{View, no_node}
 use Rattle.varisat_search.specs.Contexts.{view}
 use Rattle.varisat_search.proofs.SetVarCount.{Grown, grown-flags, grown-propagated, grown-result}
+use Rattle.varisat_search.proofs.RaisedDecisions.{raised-same, raised-decidable}
 use Rattle.varisat_search.proofs.context.set_var_count.Given.{Over}
 use Rattle.varisat_search.proofs.context.set_var_count.Goals.{In_ok-set_var_count-3}
 use Rattle.varisat_search.proofs.context.set_var_count.Goals as goal
@@ -17,18 +18,25 @@ grown g c =
     ap (λ a. record (after g c) { values = a }) c.in_ok-set_var_count-2.ensures.current ∙ ap (λ b. record s { values = s.values ++ replicate (count - length s.values) None; nodes = b }) c.in_ok-set_var_count-3.ensures in
     grown-result s (after g c) count c.requires.ready.well c.requires.ready.settled c.requires.raised c.requires.small e
 
-pub returns-clause-ready : goal.returns-clause-ready
-returns-clause-ready g c =
+pub returns-clause-raised : goal.returns-clause-raised
+returns-clause-raised g c =
     let x = c.args.ctx.now in
-    let here = (goal.at.returns-clause-ready g c).In_ok-set_var_count-3 in
+    let here = (goal.at.returns-clause-raised g c).In_ok-set_var_count-3 in
     let r = grown g here in
     record {
-      well = r.well;
-      settled = r.settled;
-      propagated = grown-propagated (view x) (after g here) c.set_var_count-2.new.self.current c.set_var_count-3.new.self.nodes.items refl c.requires.ready.propagated;
-      analysis = ap (λ y. y.var_count) c.in_ok-set_var_count.ensures ∙ sym r.count;
-      flags = c.in_ok-set_var_count-4.ensures ∙ grown-flags x.tmp_flags.flags.items (length x.assignment.current) c.args.count c.requires.ready.flags c.requires.raised ∙ ap (λ n. replicate (2 * n) false) (sym r.count);
+      ready = record {
+        well = r.well;
+        settled = r.settled;
+        propagated = grown-propagated (view x) (after g here) c.set_var_count-2.new.self.current c.set_var_count-3.new.self.nodes.items refl c.requires.ready.propagated;
+        analysis = ap (λ y. y.var_count) c.in_ok-set_var_count.ensures ∙ sym r.count;
+        decidable = raised-decidable (view x) (after g here) x.vsids c.args.count c.requires.ready.decidable c.requires.raised c.in_ok-set_var_count-2.ensures.current c.in_ok-set_var_count-5.ensures.raised refl;
+        flags = c.in_ok-set_var_count-4.ensures ∙ grown-flags x.tmp_flags.flags.items (length x.assignment.current) c.args.count c.requires.ready.flags c.requires.raised ∙ ap (λ n. replicate (2 * n) false) (sym r.count);
+      };
+      count = r.count;
+      seen = r.seen;
     }
 
-pub returns-clause-seen : goal.returns-clause-seen
-returns-clause-seen g c = (grown g (goal.at.returns-clause-seen g c).In_ok-set_var_count-3).seen
+pub returns-clause-decidable : goal.returns-clause-decidable
+returns-clause-decidable g c =
+    let x = c.args.ctx.now in
+    raised-same (view x) (after g (goal.at.returns-clause-decidable g c).In_ok-set_var_count-3) x.vsids c.args.count c.in_ok-set_var_count-2.ensures.current c.in_ok-set_var_count-5.ensures.raised

@@ -1,22 +1,66 @@
-use Rattle.std.proofs.Common.{◌≡◌, ◌<◌, length, get_or, None, false, refl, sym, ap, ◌∙◌, subst}
+use Rattle.std.proofs.Common.{◌≡◌, ◌<◌, Some, false, length, get_or, ⊎_elim, refl, sym, ap, ◌∙◌, subst, arith}
 use Rattle.varisat_theory.specs.Literals.{variable_of}
 use Rattle.varisat_literals.specs.Numbers.{polarity_of}
 use Rattle.varisat_prop.specs.declared.prop.graph.Reason.TheVariants as reason
-use Rattle.varisat_prop.specs.View.{view_of}
-use Rattle.varisat_prop.specs.Changes.{enqueued}
+use Rattle.varisat_prop.specs.View.{View, view_of}
+use Rattle.varisat_prop.specs.Changes.{enqueued, decided_on}
+use Rattle.varisat_search.specs.Contexts.{view}
+use Rattle.varisat_search.specs.Decisions.{TakesUnassigned, SameDecidable, CanDecide}
+use Rattle.varisat_search.proofs.DecidableVariables.{decided-same, none-same, decided-decidable, none-decidable}
 use Rattle.varisat_search.proofs.StepOutcome.{variable-literal, polarity-literal}
+use Rattle.varisat_search.proofs.decision.make_decision.Given.{Over}
+use Rattle.varisat_search.proofs.decision.make_decision.Goals.{In_ok-enqueue_assignment}
 use Rattle.varisat_search.proofs.decision.make_decision.Goals as goal
+
+variable-is : (g : Over) (c : In_ok-enqueue_assignment g) → variable_of c.lit-lit.result ≡ c.in-Some.var
+variable-is g c = ap variable_of c.lit-lit.ensures ∙ variable-literal c.in-Some.var c.last_var_value.result
+
+taken : (g : Over) (c : In_ok-enqueue_assignment g) → TakesUnassigned c.args.ctx.now.assignment.current c.args.ctx.now.vsids c.take_unassigned.new.vsids (Some (variable_of c.lit-lit.result))
+taken g c = subst (λ v. TakesUnassigned c.args.ctx.now.assignment.current c.args.ctx.now.vsids c.take_unassigned.new.vsids (Some v)) (sym (variable-is g c)) c.in-Some.ensures
+
+inside : (g : Over) (c : In_ok-enqueue_assignment g) → variable_of c.lit-lit.result < length c.args.ctx.now.assignment.current
+inside g c = let k = (taken g c).found.known in let n = c.requires.decidable.entries.activity in omega (arith, k, n)
+
+abbrev after : (g : Over) (c : In_ok-enqueue_assignment g) → View
+after g c = view_of c.args.ctx.now.clause_alloc c.enqueue_assignment.new.assignment c.enqueue_assignment.new.trail c.enqueue_assignment.new.impl_graph
+
+decided : (g : Over) (c : In_ok-enqueue_assignment g) → after g c ≡ decided_on (view c.args.ctx.now) c.lit-lit.result
+decided g c =
+    let x = c.args.ctx.now in
+    c.in_ok-enqueue_assignment.ensures.view x.clause_alloc ∙ ap (λ t. enqueued (view_of x.clause_alloc x.assignment t x.impl_graph) c.lit-lit.result reason.Unit) c.in_ok-new_decision_level.ensures
 
 pub returns-clause-decided : goal.returns-clause-decided
 returns-clause-decided g c =
     let x = c.args.ctx.now in
-    let e : variable_of c.lit-lit.result ≡ c.in-Some.var = ap variable_of c.lit-lit.ensures ∙ variable-literal c.in-Some.var c.last_var_value.result in
-    let f = c.in-Some.ensures in (
+    let here = (goal.at.returns-clause-decided g c).In_ok-enqueue_assignment in
+    let k = taken g here in (
       c.lit-lit.result,
-      (subst (λ v. v < length x.assignment.current) (sym e) f.0, subst (λ v. get_or x.assignment.current v None ≡ None) (sym e) f.1),
-      c.in_ok-enqueue_assignment.ensures.view x.clause_alloc ∙ ap (λ t. enqueued (view_of x.clause_alloc x.assignment t x.impl_graph) c.lit-lit.result reason.Unit) c.in_ok-new_decision_level.ensures,
-      ap polarity_of c.lit-lit.ensures ∙ polarity-literal c.in-Some.var c.last_var_value.result ∙ c.last_var_value.ensures ∙ ap (λ v. get_or x.assignment.last v false) (sym e),
+      (inside g here, k.found.unassigned),
+      decided g here,
+      ap polarity_of c.lit-lit.ensures ∙ polarity-literal c.in-Some.var c.last_var_value.result ∙ c.last_var_value.ensures ∙ ap (λ v. get_or x.assignment.last v false) (sym (variable-is g here)),
+      k.found,
     )
 
+pub returns-clause-same : goal.returns-clause-same
+returns-clause-same g c =
+    let x = c.args.ctx.now in
+    let here = (goal.at.returns-clause-same g c).In_ok-enqueue_assignment in
+    subst (λ u. SameDecidable (view x) x.vsids u c.take_unassigned.new.vsids) (sym (decided g here))
+    (decided-same (view x) x.vsids c.take_unassigned.new.vsids c.requires.decidable c.lit-lit.result (inside g here) (taken g here))
+
+pub returns-clause-decidable : goal.returns-clause-decidable
+returns-clause-decidable g c =
+    let x = c.args.ctx.now in
+    let here = (goal.at.returns-clause-decidable g c).In_ok-enqueue_assignment in
+    subst (λ u. CanDecide u c.take_unassigned.new.vsids) (sym (decided g here))
+    (decided-decidable (view x) x.vsids c.take_unassigned.new.vsids c.requires.decidable c.lit-lit.result (inside g here) (taken g here))
+
 pub returns-in_default-clause-decided : goal.returns-in_default-clause-decided
-returns-in_default-clause-decided g c = (refl, λ d i l j. c.in_default.ensures (variable_of l) (c.requires.in_range d i l j))
+returns-in_default-clause-decided g c =
+    (refl, λ d i l j. ⊎_elim (λ n. n) (λ h. c.in_default.ensures.found (variable_of l) h) (c.requires.decidable.decidable d i l j))
+
+pub returns-in_default-clause-same : goal.returns-in_default-clause-same
+returns-in_default-clause-same g c = none-same (view c.args.ctx.now) c.args.ctx.now.vsids c.take_unassigned.new.vsids c.requires.decidable c.in_default.ensures
+
+pub returns-in_default-clause-decidable : goal.returns-in_default-clause-decidable
+returns-in_default-clause-decidable g c = none-decidable (view c.args.ctx.now) c.args.ctx.now.vsids c.take_unassigned.new.vsids c.requires.decidable c.in_default.ensures

@@ -1,5 +1,6 @@
 use Rattle.std.proofs.Common.{◌≡◌, ◌+◌, ◌<◌, None, length, get_or, set, sym, ap, ◌∙◌, subst, arith}
 use Rattle.varisat_theory.specs.Literals.{variable_of}
+use Rattle.varisat_vsids.specs.Activities.{Activities}
 use Rattle.varisat_prop.specs.Parts.{is_true_value}
 use Rattle.varisat_prop.specs.View.{literal_at}
 use Rattle.varisat_prop.proofs.LiteralValues.{made-inside}
@@ -8,34 +9,58 @@ use Rattle.varisat_search.specs.declared.context.Context.{Context}
 use Rattle.varisat_search.specs.Contexts.{view}
 use Rattle.varisat_search.proofs.Backtrack.{Cutting, cutting-step}
 use Rattle.varisat_search.proofs.BacktrackValues.{Saving, saving-step}
+use Rattle.varisat_search.proofs.BacktrackActivities.{Making, making-step}
+use Rattle.varisat_search.proofs.levels.backtrack.Given.{Over}
+use Rattle.varisat_search.proofs.levels.backtrack.Goals.{After-var-var}
 use Rattle.varisat_search.proofs.levels.backtrack.Goals as goal
 
-pub release_var-requires : goal.release_var-requires
-release_var-requires g c =
+-- the variable that is read is that of the literal at the place
+pub record Reads (g : Over) (c : After-var-var g) : Type 0 where
+  pub below : c.loop-place.place < length c.args.ctx.now.trail.literals
+  pub lit : c.index-trail-place.result ≡ literal_at (view c.args.ctx.now) c.loop-place.place
+  pub var : c.var-var.result ≡ variable_of (literal_at (view c.args.ctx.now) c.loop-place.place)
+
+reads : (g : Over) (c : After-var-var g) → Reads g c
+reads g c =
     let s = view c.args.ctx.now in
     let k = c.loop-place.place in
     let n = ap (λ xs. length xs) c.trail-place-end.ensures in
     let below : k < length s.trail = omega (arith, c.loop-place-test.true, n) in
     let tr : c.trail.result.now ≡ s.trail = c.trail.ensures ∙ ap (λ x. x.trail.literals) c.loop-place.invariant.kept in
     let e : c.index-trail-place.result ≡ literal_at s k = element s.trail k c.index-trail-place.result below (c.index-trail-place.is ∙ ap (λ xs. get_or xs k c.index-trail-place.result) tr) in
-    let i = made-inside s.values (literal_at s k) (c.requires.is_true k below) in
-    let f : c.var.result ≡ variable_of (literal_at s k) = c.var.ensures ∙ ap variable_of e in
+    record { below = below; lit = e; var = c.var-var.ensures ∙ ap variable_of e }
+
+pub release_var-requires : goal.release_var-requires
+release_var-requires g c =
+    let s = view c.args.ctx.now in
+    let r = reads g (goal.at.release_var-requires g c).After-var-var in
+    let i = made-inside s.values (literal_at s c.loop-place.place) (c.requires.well.is_true c.loop-place.place r.below) in
+    let f = r.var in
     let m = c.loop-place.invariant.cutting.count in
     omega (arith, i, f, m)
+
+pub make_available-requires : goal.make_available-requires
+make_available-requires g c =
+    let s = view c.args.ctx.now in
+    let r = reads g (goal.at.make_available-requires g c).After-var-var in
+    let i = made-inside s.values (literal_at s c.loop-place.place) (c.requires.well.is_true c.loop-place.place r.below) in
+    let f = r.var in
+    let n = c.requires.entries.activity in
+    let m = ap (λ (x : Context g.row.A.Denot). length x.vsids.activity) c.loop-place.invariant.kept in
+    let o = ap (λ (x : Activities). length x.activity) c.loop-place.invariant.making.rest in
+    omega (arith, i, f, n, o)
 
 pub loop-place-preserved : goal.loop-place-preserved
 loop-place-preserved g c =
     let s = view c.args.ctx.now in
     let t = view c.loop-place.ctx in
     let k = c.loop-place.place in
-    let n = ap (λ xs. length xs) c.trail-place-end.ensures in
-    let below : k < length s.trail = omega (arith, c.loop-place-test.true, n) in
-    let tr : c.trail.result.now ≡ s.trail = c.trail.ensures ∙ ap (λ x. x.trail.literals) c.loop-place.invariant.kept in
-    let e : c.index-trail-place.result ≡ literal_at s k = element s.trail k c.index-trail-place.result below (c.index-trail-place.is ∙ ap (λ xs. get_or xs k c.index-trail-place.result) tr) in
-    let v : c.release_var.new.self.current ≡ set t.values (variable_of c.index-trail-place.result) None = ap (λ x. x.current) c.release_var.ensures.released ∙ ap (λ x. set t.values x None) c.var.ensures in
-    let b : c.release_var.new.self.last ≡ set c.loop-place.ctx.assignment.last (variable_of c.index-trail-place.result) (is_true_value (get_or t.values (variable_of c.index-trail-place.result) None)) = ap (λ x. x.last) c.release_var.ensures.released ∙ ap (λ x. set c.loop-place.ctx.assignment.last x (is_true_value (get_or t.values x None))) c.var.ensures in
+    let r = reads g (goal.at.loop-place-preserved g c).After-var-var in
+    let v : c.release_var.new.self.current ≡ set t.values (variable_of c.index-trail-place.result) None = ap (λ x. x.current) c.release_var.ensures.released ∙ ap (λ x. set t.values x None) c.var-var.ensures in
+    let b : c.release_var.new.self.last ≡ set c.loop-place.ctx.assignment.last (variable_of c.index-trail-place.result) (is_true_value (get_or t.values (variable_of c.index-trail-place.result) None)) = ap (λ x. x.last) c.release_var.ensures.released ∙ ap (λ x. set c.loop-place.ctx.assignment.last x (is_true_value (get_or t.values x None))) c.var-var.ensures in
     record {
-      cutting = subst (λ a. Cutting s (record t { values = a }) c.level_end-end.result (k + 1)) (sym v) (cutting-step s t c.level_end-end.result k c.index-trail-place.result c.requires c.loop-place.auto.place below e c.loop-place.invariant.cutting);
-      saving = subst (λ a. Saving s c.args.ctx.now.assignment.last a c.level_end-end.result (k + 1)) (sym b) (saving-step s t c.args.ctx.now.assignment.last c.loop-place.ctx.assignment.last c.level_end-end.result k c.index-trail-place.result c.requires c.loop-place.auto.place below e c.release_var.ensures.count c.loop-place.invariant.cutting c.loop-place.invariant.saving);
-      kept = ap (λ (x : Context g.row.A.Denot). record x { assignment = c.release_var.new.self }) c.loop-place.invariant.kept;
+      cutting = subst (λ a. Cutting s (record t { values = a }) c.level_end-end.result (k + 1)) (sym v) (cutting-step s t c.level_end-end.result k c.index-trail-place.result c.requires.well c.loop-place.auto.place r.below r.lit c.loop-place.invariant.cutting);
+      saving = subst (λ a. Saving s c.args.ctx.now.assignment.last a c.level_end-end.result (k + 1)) (sym b) (saving-step s t c.args.ctx.now.assignment.last c.loop-place.ctx.assignment.last c.level_end-end.result k c.index-trail-place.result c.requires.well c.loop-place.auto.place r.below r.lit c.release_var.ensures.count c.loop-place.invariant.cutting c.loop-place.invariant.saving);
+      making = subst (λ a. Making s c.args.ctx.now.vsids a c.level_end-end.result (k + 1)) (sym c.make_available.ensures) (making-step s c.args.ctx.now.vsids c.loop-place.ctx.vsids c.level_end-end.result k c.var-var.result c.requires.well c.requires.entries.available c.loop-place.auto.place r.below r.var c.loop-place.invariant.making);
+      kept = ap (λ (x : Context g.row.A.Denot). record x { assignment = c.release_var.new.self; vsids = c.make_available.new.self }) c.loop-place.invariant.kept;
     }

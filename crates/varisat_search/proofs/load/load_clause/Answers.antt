@@ -1,4 +1,4 @@
-use Rattle.std.proofs.Common.{refl, sym, ap, ◌∙◌, subst}
+use Rattle.std.proofs.Common.{length, refl, sym, ap, ◌∙◌, subst, arith}
 use Rattle.varisat_theory.specs.Membership.{◌∈◌}
 use Rattle.varisat_theory.specs.Searches.{IsTautology}
 use Rattle.varisat_search.specs.declared.context.Context.{Context}
@@ -15,13 +15,17 @@ loading : (g : Over) (c : In_ok-copy_distinct g) → Loading c.args.ctx.now (cop
 loading g c = record {
   ready = c.requires.ready;
   in_range = c.requires.in_range;
-  same = λ e. ap (λ (x : Context g.row.A.Denot). view x) (c.full_restart.ensures.same e);
-  cut = c.full_restart.ensures.cut;
-  last = (λ e. ap (λ (x : Context g.row.A.Denot). x.assignment.last) (c.full_restart.ensures.same e), c.full_restart.ensures.saved);
-  state = ap (λ (x : Context g.row.A.Denot). x.solver_state) c.full_restart.ensures.kept ∙ c.accept_clause.ensures;
-  units = c.full_restart.ensures.units;
-  analysis = ap (λ (x : Context g.row.A.Denot). x.analyze_conflict.var_count) c.full_restart.ensures.kept;
-  flags = ap (λ (x : Context g.row.A.Denot). x.tmp_flags.flags.items) c.full_restart.ensures.kept;
+  same = λ e. ap (λ (x : Context g.row.A.Denot). view x) (c.full_restart.ensures.undone.same (let n = ap length e in omega (arith, n)));
+  cut = c.full_restart.ensures.undone.cut;
+  decidable = c.requires.decidable;
+  entries = c.full_restart.ensures.undone.entries;
+  stay_decidable = c.full_restart.ensures.undone.decidable;
+  last = (λ e. ap (λ (x : Context g.row.A.Denot). x.assignment.last) (c.full_restart.ensures.undone.same (let n = ap length e in omega (arith, n))), c.full_restart.ensures.undone.saved);
+  state = ap (λ (x : Context g.row.A.Denot). x.solver_state) c.full_restart.ensures.undone.kept ∙ c.accept_clause.ensures;
+  units = c.full_restart.ensures.undone.units;
+  analysis = ap (λ (x : Context g.row.A.Denot). x.analyze_conflict.var_count) c.full_restart.ensures.undone.kept;
+  flags = ap (λ (x : Context g.row.A.Denot). x.tmp_flags.flags.items) c.full_restart.ensures.undone.kept;
+  schedule = record { schedule = ap (λ (x : Context g.row.A.Denot). x.schedule) c.full_restart.ensures.undone.kept; solver_config = ap (λ (x : Context g.row.A.Denot). x.solver_config) c.full_restart.ensures.undone.kept };
   distinct = c.in_ok-copy_distinct.ensures.distinct;
   literals = c.in_ok-copy_distinct.ensures.same;
 }
@@ -30,7 +34,7 @@ pub returns-then-is_tautology : goal.returns-then-is_tautology
 returns-then-is_tautology g c =
     let taut = subst IsTautology c.deref.ensures.value (c.if-is_tautology.ensures.0 refl) in
     let o = loaded-tautology (loading g (goal.at.returns-then-is_tautology g c).In_ok-copy_distinct) taut in
-    record { ready = o.ready; unsat = λ e. absurd (c.in_default.not-Unsat e); lines = o.lines; last = λ n. o.last; state = λ n. o.state; count = o.count; units = o.units; undecided = λ n. o.undecided }
+    record { ready = o.ready; unsat = λ e. absurd (c.in_default.not-Unsat e); lines = o.lines; last = λ n. o.last; state = λ n. o.state; count = o.count; units = o.units; undecided = λ n. o.undecided; decidable = o.decidable; schedule = o.schedule }
 
 pub is_satisfied-requires : goal.is_satisfied-requires
 is_satisfied-requires g c l h =
@@ -40,7 +44,7 @@ pub returns-then-is_satisfied : goal.returns-then-is_satisfied
 returns-then-is_satisfied g c =
     let found = c.if-is_satisfied.ensures.0 refl in
     let o = loaded-satisfied (loading g (goal.at.returns-then-is_satisfied g c).In_ok-copy_distinct) found.0 (subst (λ ys. found.0 ∈ ys) c.deref-2.ensures.value found.1) found.2 in
-    record { ready = o.ready; unsat = λ e. absurd (c.in_default.not-Unsat e); lines = o.lines; last = λ n. o.last; state = λ n. o.state; count = o.count; units = o.units; undecided = λ n. o.undecided }
+    record { ready = o.ready; unsat = λ e. absurd (c.in_default.not-Unsat e); lines = o.lines; last = λ n. o.last; state = λ n. o.state; count = o.count; units = o.units; undecided = λ n. o.undecided; decidable = o.decidable; schedule = o.schedule }
 
 pub add_distinct-requires : goal.add_distinct-requires
 add_distinct-requires g c =
@@ -54,5 +58,6 @@ add_distinct-requires g c =
 pub returns : goal.returns
 returns g c =
     let e = c.in_ok-add_distinct.ensures in
-    let o = loaded-added (loading g (goal.at.returns g c).In_ok-copy_distinct) c.add_distinct.new.ctx e.kept e.state e.units e.last e.added in
-    record { ready = o.ready; unsat = λ e. absurd (c.in_default.not-Unsat e); lines = o.lines; last = λ n. o.last; state = λ n. o.state; count = o.count; units = o.units; undecided = λ n. o.undecided }
+    let k = c.add_distinct.ensures.kept in
+    let o = loaded-added (loading g (goal.at.returns g c).In_ok-copy_distinct) c.add_distinct.new.ctx k e.state e.units e.last e.added in
+    record { ready = o.ready; unsat = λ e. absurd (c.in_default.not-Unsat e); lines = o.lines; last = λ n. o.last; state = λ n. o.state; count = o.count; units = o.units; undecided = λ n. o.undecided; decidable = o.decidable; schedule = o.schedule }

@@ -1,16 +1,17 @@
-use Rattle.std.proofs.Common.{◌∙◌, not, sym, ap, map, true, false, Bool, MatchBool, List, ◌≡◌, ◌<◌, arith}
+use Rattle.std.proofs.Common.{◌∙◌, not, refl, sym, ap, map, true, false, Bool, MatchBool, List, ◌≡◌, ◌<◌, arith}
 use Rattle.varisat_theory.specs.Membership.{◌∈◌}
 use Rattle.varisat_theory.specs.Literals.{Literal, variable_of}
 use Rattle.varisat_literals.specs.Numbers.{variable_limit}
 use Rattle.varisat_search.specs.declared.state.SolverState.{SolverState}
 use Rattle.varisat_search.specs.Contexts.{view}
+use Rattle.varisat_schedule.specs.Plans.{Plan}
 use Rattle.varisat.specs.Calls.{IsPastLimit}
 use Rattle.varisat.specs.Summaries.{spaces_of}
 use Rattle.varisat.specs.States.{Ledger}
 use Rattle.varisat.specs.Names.{name_all, through_names}
 use Rattle.varisat.specs.Calls.{start, append_clause, Accepted}
 use Rattle.varisat.proofs.NamesInOrder.{rest-all}
-use Rattle.varisat.proofs.CallStates.{stands-valid, like-refl, broken, broken-invalid}
+use Rattle.varisat.proofs.CallStates.{ledger-is, stands-valid, like-refl, broken, broken-invalid}
 use Rattle.varisat.proofs.AcceptClause.{ledger-free, not-refuted}
 use Rattle.varisat.proofs.solver.Solver.add_clause.Goals as goal
 
@@ -26,11 +27,13 @@ returns-in-Ok g c s st =
     let (x, v, (w, k)) = e.accepted s (q.fits (ap not c.if-self.false)) in
     let bad = not-refuted _ s q (ap not c.if-self.false) c.in_default.not-Unsat (c.self.invariant c.if-self.false).no_assumptions in
     let n = name_all c.args.clause.now s in
+    let o = (rest-all c.args.clause.now s).ledger ∙ q.ledger in
+    let k' = c.accept_clause.ensures.schedule in
     let t = append_clause (map (through_names n) c.args.clause.now) x n in (
       start t,
       (stands-valid _ s q (ap not c.if-self.false), Accepted bad (within-limit c.args.clause.now c.is_past_limit.result c.is_past_limit.ensures c.if-is_past_limit.false) (x, v, like-refl (start t))),
       record {
-        ledger = ap (λ (x : Ledger). record x { started = true }) ((rest-all c.args.clause.now s).ledger ∙ q.ledger) ∙ ap (λ (x : SolverState). record { valid = not x.state_is_invalid; started = true }) (sym e.state);
+        ledger = ledger-is _ _ _ _ _ (ap (λ (x : Ledger). x.valid) o ∙ ap (λ (x : SolverState). not x.state_is_invalid) (sym e.state)) refl (ap (λ (x : Ledger). x.steps) o ∙ sym (ap (λ (x : Plan). x.steps) k'.schedule)) (ap (λ (x : Ledger). x.settings) o ∙ sym k'.solver_config);
         fits = λ _. (w, ledger-free w (spaces_of c.accept_clause.new.variables (view c.accept_clause.new.ctx) c.accept_clause.new.ctx.solver_state.sat_state) t (record t.ledger { started = true }) k);
       },
     )
@@ -38,8 +41,12 @@ returns-in-Ok g c s st =
 pub returns-in-Err : goal.returns-in-Err
 returns-in-Err g c s st =
     let q = rw (← c.self.view_is) at st in
-    let bad = not-refuted _ s q (ap not c.if-self.false) c.in_default.not-Unsat (c.self.invariant c.if-self.false).no_assumptions in (
+    let bad = not-refuted _ s q (ap not c.if-self.false) c.in_default.not-Unsat (c.self.invariant c.if-self.false).no_assumptions in
+    let k = c.accept_clause.ensures.schedule in (
       broken s,
       (bad, within-limit c.args.clause.now c.is_past_limit.result c.is_past_limit.ensures c.if-is_past_limit.false, broken-invalid s (stands-valid _ s q (ap not c.if-self.false)) (q.fits (ap not c.if-self.false)).1.well_formed),
-      record { ledger = ap (λ (x : Ledger). record x { valid = false }) q.ledger; fits = λ e. absurd cc },
+      record {
+        ledger = ledger-is _ _ _ _ _ refl (ap (λ (x : Ledger). x.started) q.ledger) (ap (λ (x : Ledger). x.steps) q.ledger ∙ sym (ap (λ (x : Plan). x.steps) k.schedule)) (ap (λ (x : Ledger). x.settings) q.ledger ∙ sym k.solver_config);
+        fits = λ e. absurd cc;
+      },
     )

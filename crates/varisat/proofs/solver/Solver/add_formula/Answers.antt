@@ -1,5 +1,5 @@
 -- A clause more is accepted, or refused.
-use Rattle.std.proofs.Common.{◌≡◌, ◌∙◌, ◌++◌, ◌∷◌, [], Err, inl, refl, sym, ap, not, subst, map, append_assoc, append-nil, Ok}
+use Rattle.std.proofs.Common.{◌≡◌, ◌∙◌, ◌++◌, ◌∷◌, [], Err, refl, sym, ap, not, subst, map, append_assoc, append-nil, Ok}
 use Rattle.std.proofs.lemmas.List.{map-append}
 use Rattle.varisat.specs.Additions.{InTurn}
 use Rattle.varisat.specs.Calls.{AddsAll}

@@ -1,4 +1,4 @@
-use Rattle.std.proofs.Common.{◌≡◌, ◌∙◌, List, Bool, Option, length, not, refl, sym, ap, subst, inl, Some}
+use Rattle.std.proofs.Common.{◌≡◌, ◌∙◌, length, not, refl, sym, ap, subst, inl, Some}
 use Rattle.varisat.specs.Models.{IsCompletable}
 use Rattle.varisat.specs.Summaries.{list_tables}
 use Rattle.varisat.proofs.CallStates.{stands-valid}

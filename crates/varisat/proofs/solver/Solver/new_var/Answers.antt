@@ -1,4 +1,4 @@
-use Rattle.std.proofs.Common.{◌∙◌, not, refl, sym, ap, arith, true, false, length}
+use Rattle.std.proofs.Common.{◌∙◌, not, sym, ap, arith, true, false, length}
 use Rattle.varisat_search.specs.Contexts.{view}
 use Rattle.varisat.specs.Summaries.{Summary, spaces}
 use Rattle.varisat.specs.States.{Ledger}
@@ -22,6 +22,7 @@ invariant_of-self g c v =
       plain = new-plain c.self.inside.variables c.give_user_var.new.self u c.in-Ok.field-0 k.plain e.least e.near t;
       ready = k.ready;
       count = k.count ∙ ap (λ m. length m.backward) (sym t.solvers);
+      decidable = k.decidable;
       no_assumptions = k.no_assumptions;
     }
 

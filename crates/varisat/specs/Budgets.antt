@@ -1,0 +1,22 @@
+-- How many steps a call of `solve` makes.
+use Rattle.std.specs.Prelude.{◌≡◌, ℕ, ◌+◌, ◌-◌, ◌*◌, ◌^◌, ◌<◌, ◌≤◌, Bool, Option, Some, None, ◌⊎◌, Result, Ok, Err}
+use Rattle.std.specs.declared.alloc.AllocError.{AllocError}
+use Rattle.varisat.specs.declared.solver.SolverError.{SolverError}
+use Rattle.varisat.specs.declared.solver.SolverError.TheVariants.{Interrupted, OutOfMemory}
+
+-- What the call returns where the search found a verdict or none, or memory ran out.
+abbrev pub told_verdict : Result (Option Bool) AllocError → Result Bool SolverError
+told_verdict (Ok (Some b)) = Ok b
+told_verdict (Ok None) = Err Interrupted
+told_verdict (Err _) = Err OutOfMemory
+
+-- How the call counts its steps that begins with the verdict Unknown, where n variables are counted and it may make `max_steps` of them.
+pub record CountsSteps (n max_steps before after : ℕ) (answer : Result Bool SolverError) : Type 0 where
+  pub made : ℕ
+  pub count : after ≡ before + made
+  pub budget : made ≤ max_steps
+  pub bounded : made < 2 ^ (2 * n + 3)
+  -- a verdict takes a step at least
+  pub found : (b : Bool) → answer ≡ Ok b → 0 < made
+  -- the call is interrupted only where the steps are spent: it made all that it may, or no more can be counted
+  pub spent : answer ≡ Err Interrupted → (made ≡ max_steps) ⊎ (after ≡ 2 ^ 64 - 1)

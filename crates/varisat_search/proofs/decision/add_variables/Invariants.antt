@@ -1,0 +1,15 @@
+use Rattle.std.proofs.Common.{◌≡◌, ◌≤◌, length}
+use Rattle.varisat_search.specs.Contexts.{view, IsReady}
+use Rattle.varisat_search.specs.Decisions.{AddsDecidable}
+use Rattle.varisat_search.specs.Seen.{search_of}
+use Rattle.varisat_search.proofs.decision.add_variables.Given as goal
+
+abbrev pub invariant-loop-index : goal.invariant-loop-index
+invariant-loop-index g l = record {
+  ready : IsReady l.ctx;
+  count : length l.ctx.assignment.current ≡ l.count;
+  seen : search_of (view l.ctx) ≡ search_of (view l.fn.ctx);
+  within : (length l.fn.ctx.assignment.current ≤ l.index) × (l.index ≤ l.count);
+  decidable : AddsDecidable (length l.fn.ctx.assignment.current) l.index (view l.fn.ctx) l.fn.ctx.vsids (view l.ctx) l.ctx.vsids;
+  kept : l.ctx ≡ record l.fn.ctx { analyze_conflict = l.ctx.analyze_conflict; assignment = l.ctx.assignment; impl_graph = l.ctx.impl_graph; tmp_flags = l.ctx.tmp_flags; vsids = l.ctx.vsids };
+}

@@ -1,0 +1,143 @@
+//! What a conflict does to the activities of variables.
+ghost use Rattle.std.specs.Prelude.{◌≡◌, ℕ, ◌<◌, true, false, List, [], ◌∷◌, length, slice_index_or};
+ghost use Rattle.varisat_theory.specs.Membership.{◌∈◌};
+ghost use Rattle.varisat_theory.specs.Literals.{Literal, variable_of};
+ghost use Rattle.varisat_prop.specs.Stored.{IsPlace};
+ghost use Rattle.varisat_search.specs.Contexts.{view, IsReady};
+ghost use Rattle.varisat_search.specs.Decisions.{HasActivities};
+ghost use Rattle.varisat_search.specs.Bumps.{bumped_each, literals_among, AreVariablesAbove, BumpsInvolved, bumping, MayBump, BumpsNew};
+
+use crate::context::Context;
+use std::alloc::Allocator;
+use varisat_literals::Lit;
+use varisat_prop::clause::{ClauseAlloc, ClauseRef};
+use varisat_prop::prop::ImplGraph;
+use varisat_vsids::Vsids;
+
+/// Bumps the literal's variable and gives it a flag, where it is above level 0 and has none.
+fn bump_literal<A: Allocator + Copy>(
+    vsids: &mut Vsids<A>,
+    flags: &mut [bool],
+    impl_graph: &ImplGraph<A>,
+    lit: Lit,
+)
+    requires { MayBump impl_graph.now.nodes.items (lit ∷ []) (bumping flags.old vsids.old) }
+    ensures bumps { BumpsNew impl_graph.now.nodes.items (lit ∷ []) (bumping flags.old vsids.old) (bumping flags.new vsids.new) }
+    ensures count { length vsids.new.activity ≡ length vsids.old.activity }
+{
+    let var = lit.var();
+    if impl_graph.level(var) == 0 {
+        return;
+    }
+    if flags[var.index()] {
+        return;
+    }
+    flags[var.index()] = true;
+    vsids.bump(var);
+}
+
+/// The same for each literal of the clause.
+fn bump_literals<A: Allocator + Copy>(
+    vsids: &mut Vsids<A>,
+    flags: &mut [bool],
+    impl_graph: &ImplGraph<A>,
+    lits: &[Lit],
+)
+    requires { MayBump impl_graph.now.nodes.items lits.now (bumping flags.old vsids.old) }
+    ensures bumps { BumpsNew impl_graph.now.nodes.items lits.now (bumping flags.old vsids.old) (bumping flags.new vsids.new) }
+    ensures count { length vsids.new.activity ≡ length vsids.old.activity }
+{
+    for lit in lits {
+        bump_literal(vsids, flags, impl_graph, *lit);
+    }
+}
+
+/// The same for all literals of the clauses.
+fn bump_clauses<A: Allocator + Copy>(
+    vsids: &mut Vsids<A>,
+    flags: &mut [bool],
+    impl_graph: &ImplGraph<A>,
+    clause_alloc: &ClauseAlloc<A>,
+    crefs: &[ClauseRef],
+)
+    requires may { MayBump impl_graph.now.nodes.items (literals_among clause_alloc.now crefs.now) (bumping flags.old vsids.old) }
+    requires places { (p : ℕ) → p ∈ crefs.now → IsPlace clause_alloc.now p }
+    ensures bumps { BumpsNew impl_graph.now.nodes.items (literals_among clause_alloc.now crefs.now) (bumping flags.old vsids.old) (bumping flags.new vsids.new) }
+    ensures count { length vsids.new.activity ≡ length vsids.old.activity }
+{
+    for cref in crefs {
+        bump_literals(vsids, flags, impl_graph, clause_alloc.clause(*cref));
+    }
+}
+
+/// Takes the flags of the literals' variables away.
+fn clear_literals(flags: &mut [bool], lits: &[Lit])
+    requires { (l : Literal) → l ∈ lits.now → variable_of l < length flags.old }
+    ensures gone { (l : Literal) → l ∈ lits.now → slice_index_or flags.new (variable_of l) false ≡ false }
+    ensures fewer { (v : ℕ) → slice_index_or flags.new v false ≡ true → slice_index_or flags.old v false ≡ true }
+{
+    for lit in lits {
+        flags[lit.index()] = false;
+    }
+}
+
+/// The same for all literals of the clauses.
+fn clear_clauses<A: Allocator + Copy>(
+    flags: &mut [bool],
+    clause_alloc: &ClauseAlloc<A>,
+    crefs: &[ClauseRef],
+)
+    requires known { (l : Literal) → l ∈ literals_among clause_alloc.now crefs.now → variable_of l < length flags.old }
+    requires places { (p : ℕ) → p ∈ crefs.now → IsPlace clause_alloc.now p }
+    ensures gone { (l : Literal) → l ∈ literals_among clause_alloc.now crefs.now → slice_index_or flags.new (variable_of l) false ≡ false }
+    ensures fewer { (v : ℕ) → slice_index_or flags.new v false ≡ true → slice_index_or flags.old v false ≡ true }
+{
+    for cref in crefs {
+        clear_literals(flags, clause_alloc.clause(*cref));
+    }
+}
+
+/// Bumps each variable above level 0 of the clauses once. The flags tell which were bumped already, so that no memory is
+/// taken; all are false again at the end.
+fn bump_each_once<A: Allocator + Copy>(
+    vsids: &mut Vsids<A>,
+    flags: &mut [bool],
+    impl_graph: &ImplGraph<A>,
+    clause_alloc: &ClauseAlloc<A>,
+    crefs: &[ClauseRef],
+)
+    requires may { MayBump impl_graph.now.nodes.items (literals_among clause_alloc.now crefs.now) (bumping flags.old vsids.old) }
+    requires places { (p : ℕ) → p ∈ crefs.now → IsPlace clause_alloc.now p }
+    requires clear { (v : ℕ) → slice_index_or flags.old v false ≡ false }
+    ensures bumps { (vars : List ℕ) × AreVariablesAbove impl_graph.now.nodes.items (literals_among clause_alloc.now crefs.now) vars × (vsids.new ≡ bumped_each vars vsids.old) }
+    ensures clear { (v : ℕ) → slice_index_or flags.new v false ≡ false }
+    ensures count { length vsids.new.activity ≡ length vsids.old.activity }
+{
+    bump_clauses(vsids, flags, impl_graph, clause_alloc, crefs);
+    clear_clauses(flags, clause_alloc, crefs);
+}
+
+/// Bumps each variable above level 0 of the clauses that the conflict was analysed with, once, and then lets activities
+/// decay. Without decisions nothing happens.
+pub fn bump_involved<A: Allocator + Copy>(ctx: &mut Context<A>)
+    requires ready { IsReady ctx.old }
+    requires places { (p : ℕ) → p ∈ ctx.old.analyze_conflict.involved → IsPlace ctx.old.clause_alloc p }
+    ensures undecided { ctx.old.trail.decisions ≡ [] → ctx.new ≡ ctx.old }
+    ensures bumps { 0 < length ctx.old.trail.decisions → BumpsInvolved (view ctx.old) ctx.old.analyze_conflict.involved ctx.old.vsids ctx.new.vsids }
+    ensures available { ctx.new.vsids.available ≡ ctx.old.vsids.available }
+    ensures entries { HasActivities (view ctx.new) ctx.new.vsids }
+    ensures flags { ctx.new.tmp_flags.flags.items ≡ ctx.old.tmp_flags.flags.items }
+    ensures kept { ctx.new ≡ record ctx.old { tmp_flags = ctx.new.tmp_flags; vsids = ctx.new.vsids } }
+{
+    if ctx.trail.current_level() == 0 {
+        return;
+    }
+    bump_each_once(
+        &mut ctx.vsids,
+        &mut ctx.tmp_flags.flags,
+        &ctx.impl_graph,
+        &ctx.clause_alloc,
+        ctx.analyze_conflict.involved(),
+    );
+    ctx.vsids.decay();
+}

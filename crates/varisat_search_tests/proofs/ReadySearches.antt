@@ -1,0 +1,34 @@
+-- A search stays ready where activities and remembered values change.
+use Rattle.std.proofs.Common.{◌≡◌, ◌*◌, false, length, get_or, replicate, ⊎_elim, inl, inr, sym, ap, ◌∙◌, subst}
+use Rattle.varisat_theory.specs.Literals.{variable_of}
+use Rattle.varisat_prop.specs.Parts.{Values}
+use Rattle.varisat_prop.specs.View.{View, WellFormed, LevelsSettled, IsPropagated}
+use Rattle.varisat_vsids.specs.Activities.{Activities}
+use Rattle.varisat_search.specs.declared.context.Context.{Context}
+use Rattle.varisat_search.specs.Contexts.{view, IsReady}
+use Rattle.varisat_search.specs.Decisions.{CanDecide}
+
+pub activities-ready : {A : Type 0} {x : Context A} (a : Activities) → length a.activity ≡ length x.vsids.activity → a.available ≡ x.vsids.available → IsReady x → IsReady (record x { vsids = a })
+activities-ready a n e r = record {
+  well = r.well;
+  settled = r.settled;
+  propagated = r.propagated;
+  analysis = r.analysis;
+  flags = r.flags;
+  decidable = record {
+    entries = record { activity = n ∙ r.decidable.entries.activity; available = ap (λ xs. length xs) e ∙ r.decidable.entries.available };
+    decidable = λ c i l j. ⊎_elim inl (λ h. inr (ap (λ xs. get_or xs (variable_of l) false) e ∙ h)) (r.decidable.decidable c i l j);
+  };
+}
+
+pub values-ready : {A : Type 0} {x : Context A} (a : Values) → a.current ≡ x.assignment.current → IsReady x → IsReady (record x { assignment = a })
+values-ready {A} {x} a e r =
+    let v : view (record x { assignment = a }) ≡ view x = ap (λ vs. record (view x) { values = vs }) e in
+    record {
+      well = subst WellFormed (sym v) r.well;
+      settled = subst LevelsSettled (sym v) r.settled;
+      propagated = subst IsPropagated (sym v) r.propagated;
+      analysis = r.analysis ∙ ap (λ vs. length vs) (sym e);
+      flags = r.flags ∙ ap (λ vs. replicate (2 * length vs) false) (sym e);
+      decidable = subst (λ (s : View). CanDecide s x.vsids) (sym v) r.decidable;
+    }

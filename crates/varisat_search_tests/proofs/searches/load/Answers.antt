@@ -1,0 +1,36 @@
+use Rattle.std.proofs.Common.{length, ⊎_elim, sym, ap, ◌∙◌, subst, arith}
+use Rattle.varisat_theory.specs.Literals.{variable_of}
+use Rattle.varisat_theory.proofs.Places.{∈-take_more, ∈-take_all}
+use Rattle.varisat_prop.proofs.ReadElements.{element}
+use Rattle.varisat_search.specs.declared.context.Context.{Context}
+use Rattle.varisat_search.specs.Contexts.{view}
+use Rattle.varisat_search.specs.Decisions.{IsDecidable}
+use Rattle.varisat_search.proofs.DecidableVariables.{still-decidable}
+use Rattle.varisat_search_tests.proofs.searches.load.Goals as goal
+
+pub loop-lit-preserved : goal.loop-lit-preserved
+loop-lit-preserved g c =
+    let lits = c.args.lits.now in
+    let k = c.loop-lit.lit-index in
+    let old = c.loop-lit.ctx in
+    let new = c.make_available.new.ctx in
+    let e = element lits k c.lit-item.result c.loop-lit-test.true c.lit-item.is in
+    let n = ap (λ (x : Context g.row.A.Denot). length x.assignment.current) c.make_available.ensures.available in
+    let v = c.var.ensures in
+    record {
+      ready = c.make_available.ensures.ready;
+      known = λ m i. ⊎_elim
+          (λ j. let h = c.loop-lit.invariant.known m j in omega (arith, h, n))
+          (λ f. let q = ap variable_of (f ∙ sym e) in let h = c.index.ensures.index in let a = ap (λ xs. length xs) c.assignment.ensures in omega (arith, q, h, n, a, c.if-index-assignment.false))
+          (∈-take_more m lits k 0 i);
+      decidable = λ m i. ⊎_elim
+          (λ j. still-decidable c.var.result (view old) old.vsids (view new) new.vsids c.make_available.ensures.decidable c.make_available.ensures.others (variable_of m) (c.loop-lit.invariant.decidable m j))
+          (λ f. subst (IsDecidable (view new) new.vsids) (v ∙ sym (ap variable_of (f ∙ sym e))) c.make_available.ensures.decidable)
+          (∈-take_more m lits k 0 i);
+    }
+
+pub load_clause-requires-clause-in_range : goal.load_clause-requires-clause-in_range
+load_clause-requires-clause-in_range g c l i = c.loop-lit.invariant.known l (∈-take_all l c.args.lits.now c.loop-lit.lit-index c.loop-lit-test.false i)
+
+pub load_clause-requires-clause-decidable : goal.load_clause-requires-clause-decidable
+load_clause-requires-clause-decidable g c l i = c.loop-lit.invariant.decidable l (∈-take_all l c.args.lits.now c.loop-lit.lit-index c.loop-lit-test.false i)

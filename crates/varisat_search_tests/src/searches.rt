@@ -1,0 +1,97 @@
+//! Searches that tests load by hand.
+ghost use Rattle.std.specs.Prelude.{◌≡◌, ◌≤◌, length, OnOk, IfOk};
+ghost use Rattle.varisat_search.specs.Contexts.{IsReady};
+ghost use Rattle.varisat_literals.specs.Numbers.{variable_limit};
+
+use std::alloc::{AllocError, Allocator};
+use varisat_literals::{Lit, Var};
+use varisat_prop::prop::Assignment;
+use varisat_search::cdcl::conflict_step;
+use varisat_search::context::{Context, set_var_count};
+use varisat_search::decision::make_available;
+use varisat_search::load::load_clause;
+use varisat_search::state::SatState;
+use varisat_vsids::Vsids;
+
+/// Makes the clause's variables available and loads the clause, where its variables are those of the search.
+pub fn load<A: Allocator + Copy>(ctx: &mut Context<A>, lits: &[Lit]) -> Result<(), AllocError>
+    requires { IsReady ctx.old }
+    ensures { OnOk result (IsReady ctx.new) }
+{
+    for lit in lits {
+        if lit.index() >= ctx.assignment.assignment().len() {
+            return Ok(());
+        }
+        make_available(ctx, lit.var());
+    }
+    load_clause(ctx, lits)?;
+    Ok(())
+}
+
+/// A search over so many variables, into which those of the clauses are loaded that name no other variable.
+pub fn loaded<A: Allocator + Copy>(
+    alloc: A,
+    count: usize,
+    clauses: &[&[Lit]],
+) -> Result<Context<A>, AllocError>
+    requires { count ≤ variable_limit }
+    ensures { IfOk result (λ ctx. IsReady ctx) }
+{
+    let mut ctx = Context::new_in(alloc);
+    set_var_count(&mut ctx, count)?;
+    for clause in clauses {
+        load(&mut ctx, clause)?;
+    }
+    Ok(ctx)
+}
+
+/// Makes a step, unless there is a verdict.
+pub fn step<A: Allocator + Copy>(ctx: &mut Context<A>) -> Result<(), AllocError>
+    requires { IsReady ctx.old }
+    ensures { OnOk result (IsReady ctx.new) }
+{
+    if let SatState::Unknown = ctx.solver_state.sat_state {
+        conflict_step(ctx)?;
+    }
+    Ok(())
+}
+
+/// Makes true the value that each variable without one had last.
+fn prefer_true<A: Allocator + Copy>(assignment: &mut Assignment<A>)
+    requires { length assignment.old.current ≤ variable_limit }
+    ensures { assignment.new.current ≡ assignment.old.current }
+{
+    for index in 0..assignment.assignment().len() {
+        let var = Var::from_index(index);
+        if assignment.var_value(var).is_none() {
+            assignment.set_var(var, Some(true));
+            assignment.release_var(var);
+        }
+    }
+}
+
+/// Makes a variable more active the lower it is, but less than one that is bumped from then on.
+fn prefer_lower<A: Allocator + Copy>(vsids: &mut Vsids<A>)
+    requires { length vsids.old.activity ≤ variable_limit }
+    ensures count { length vsids.new.activity ≡ length vsids.old.activity }
+    ensures available { vsids.new.available ≡ vsids.old.available }
+{
+    let count = vsids.var_count();
+    for index in 0..count {
+        for _bump in index..count {
+            vsids.bump(Var::from_index(index));
+        }
+    }
+    for _decay in 0..100 {
+        vsids.decay();
+    }
+}
+
+/// Lets the next decisions make variables true, the lowest first.
+pub fn prefer_lower_true<A: Allocator + Copy>(ctx: &mut Context<A>)
+    requires { IsReady ctx.old }
+    ensures { IsReady ctx.new }
+{
+    prefer_lower(&mut ctx.vsids);
+    prefer_true(&mut ctx.assignment);
+}

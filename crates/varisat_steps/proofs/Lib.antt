@@ -1,2 +1,0 @@
-mod Loaded
-pub mod Counting

@@ -1,0 +1,71 @@
+//! A solver with little memory.
+use linked_list_allocator::LocalHeap;
+use std::alloc::{AllocError, Allocator, Global};
+use varisat::solver::{Solver, SolverError};
+use varisat_formula::io::{MemoryTarget, ReadSource};
+use varisat_literals::lits;
+
+// What a clause, a text and two searches were answered, by the refusals' numbers and 0 where there was none; whether the solver is valid then; and whether there is a model, or none where its list was refused.
+type Outcome = ([u8; 4], bool, Option<bool>);
+
+// What can happen: once memory ran out in a call that changes the solver, it is invalid.
+const OUTCOMES: [Outcome; 5] = [
+    ([3, 4, 4, 4], false, Some(false)),
+    ([0, 3, 4, 4], false, Some(false)),
+    ([0, 0, 3, 4], false, Some(false)),
+    ([0, 0, 0, 0], true, None),
+    ([0, 0, 0, 0], true, Some(true)),
+];
+
+// The number of the refusal, or 0.
+fn refusal<T>(answer: &Result<T, SolverError>) -> u8 {
+    match answer {
+        Ok(_) => 0,
+        Err(error) => error.number(),
+    }
+}
+
+// Whether there is a model, or none where its list was refused.
+fn has_model<A: Allocator + Copy>(solver: &Solver<MemoryTarget<A>, A>) -> Option<bool> {
+    match solver.model() {
+        Ok(model) => Some(model.is_some()),
+        Err(_) => None,
+    }
+}
+
+fn outcome<A: Allocator + Copy>(solver: &mut Solver<MemoryTarget<A>, A>) -> Outcome {
+    let clause = refusal(&solver.add_clause(&lits![1, 2, -3]));
+    let mut source = ReadSource::new(b"1 -2 0\n3 0\n".as_slice());
+    let text = refusal(&solver.add_dimacs_cnf(&mut source));
+    let first = refusal(&solver.solve());
+    let second = refusal(&solver.solve());
+    (
+        [clause, text, first, second],
+        solver.is_valid(),
+        has_model(solver),
+    )
+}
+
+fn outcome_in<A: Allocator + Copy>(alloc: A) -> Outcome {
+    let mut solver = Solver::new_in(alloc);
+    outcome(&mut solver)
+}
+
+// The place in the table of what happens on a heap of that many times 16 bytes.
+fn place_with(alloc: Global, room: u8) -> Result<Option<usize>, AllocError> {
+    let heap = LocalHeap::new(alloc, 16 * usize::from(room))?;
+    let outcome = outcome_in(&heap);
+    Ok(OUTCOMES.iter().position(|row| *row == outcome))
+}
+
+#[test]
+fn each_growth_may_be_refused(rt: HostRuntime) {
+    let mut reached = [false; 5];
+    for room in 0..160 {
+        match place_with(rt.alloc(), room) {
+            Ok(Some(place)) if place < 5 => reached[place] = true,
+            _ => panic!(rt; "with {room}"),
+        }
+    }
+    assert!(rt; reached == [true; 5]);
+}

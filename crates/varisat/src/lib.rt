@@ -21,9 +21,12 @@ pub mod search {
     pub use varisat_search::analyze_conflict::{AnalyzeConflict, analyze_conflict};
     pub use varisat_search::cdcl::{FoundConflict, conflict_step};
     pub use varisat_search::context::{Context, set_var_count};
-    pub use varisat_search::decision::make_decision;
+    pub use varisat_search::decision::{
+        Vsids, initialize_var, make_available, make_decision, remove_var,
+    };
     pub use varisat_search::glue::LevelAbstraction;
     pub use varisat_search::load::load_clause;
+    pub use varisat_search::schedule::{LubySequence, Schedule, schedule_step};
     pub use varisat_search::state::{SatState, SolverState};
     pub use varisat_search::tmp::{TmpData, TmpFlags};
 }
@@ -34,7 +37,6 @@ pub use varisat_formula::{cnf, cnf_formula, dimacs, formula, io};
 pub use varisat_literals::{Lit, Var, lit, lits, var};
 pub use varisat_names::config;
 pub use varisat_prop::clause;
-pub use varisat_schedule::luby;
 pub use varisat_search::{
     analyze_conflict, cdcl, context, decision, glue, load, schedule, state, tmp,
 };

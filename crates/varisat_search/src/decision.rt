@@ -1,5 +1,5 @@
 //! The choice of a literal to decide.
-ghost use Rattle.std.specs.Prelude.{◌≡◌, ◌≢◌, None, ◌<◌, ◌≤◌, true, false, length, slice_index_or, OnOk, IfOk, MatchBool};
+ghost use Rattle.std.specs.Prelude.{◌≡◌, ◌≢◌, ℕ, None, ◌<◌, ◌≤◌, true, false, length, slice_index_or, OnOk, IfOk, MatchBool};
 ghost use Rattle.varisat_theory.specs.Membership.{◌∈◌};
 ghost use Rattle.varisat_theory.specs.Literals.{Literal, Clause, variable_of};
 ghost use Rattle.varisat_literals.specs.Numbers.{polarity_of, variable_limit};
@@ -15,7 +15,7 @@ use crate::context::{Context, set_var_count};
 use std::alloc::{AllocError, Allocator};
 use varisat_literals::Var;
 use varisat_prop::prop::{Assignment, Reason, enqueue_assignment};
-use varisat_vsids::Vsids;
+pub use varisat_vsids::Vsids;
 
 /// Takes out available variables, of greatest activity first, until one has no value.
 fn take_unassigned<A: Allocator + Copy>(
@@ -93,7 +93,8 @@ pub fn initialize_var<A: Allocator + Copy>(ctx: &mut Context<A>, var: Var, avail
     }
 }
 
-/// Raises the count of variables. The new ones have no value, had the value false, and are available for decisions.
+/// Raises the count of variables. The new ones have no value, had the value false, and are available for decisions. No
+/// value that was remembered is forgotten.
 pub fn add_variables<A: Allocator + Copy>(
     ctx: &mut Context<A>,
     count: usize,
@@ -102,6 +103,7 @@ pub fn add_variables<A: Allocator + Copy>(
     requires raised { length ctx.old.assignment.current ≤ count }
     requires small { count ≤ variable_limit }
     ensures raised { OnOk result (IsRaisedTo count ctx.old ctx.new) }
+    ensures remembered { (v : ℕ) → slice_index_or ctx.new.assignment.last v false ≡ slice_index_or ctx.old.assignment.last v false }
     ensures decidable { OnOk result (AddsDecidable (length ctx.old.assignment.current) count (view ctx.old) ctx.old.vsids (view ctx.new) ctx.new.vsids) }
     ensures kept { ctx.new ≡ record ctx.old { analyze_conflict = ctx.new.analyze_conflict; assignment = ctx.new.assignment; impl_graph = ctx.new.impl_graph; tmp_flags = ctx.new.tmp_flags; vsids = ctx.new.vsids } }
 {

@@ -15,6 +15,8 @@ use crate::context::Context;
 use crate::levels::restart;
 use crate::state::SatState;
 use std::alloc::{AllocError, Allocator};
+pub use varisat_schedule::luby::LubySequence;
+pub use varisat_schedule::schedule::Schedule;
 
 /// Begins a step of the schedule, which restarts the search where a restart is due.
 fn restart_if_due<A: Allocator + Copy>(ctx: &mut Context<A>)

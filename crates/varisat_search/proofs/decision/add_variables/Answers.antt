@@ -1,4 +1,4 @@
-use Rattle.std.proofs.Common.{length, refl, sym, ap, ◌∙◌, subst, arith}
+use Rattle.std.proofs.Common.{false, length, slice_index_or, refl, sym, ap, ◌∙◌, subst, arith}
 use Rattle.varisat_search.specs.declared.context.Context.{Context}
 use Rattle.varisat_search.specs.Contexts.{view}
 use Rattle.varisat_search.specs.Decisions.{IsDecidable, SameDecidableBut, AddsDecidable}
@@ -19,6 +19,7 @@ loop-index-init g c =
       seen = e.raised.seen;
       within = (omega (arith, n), omega (arith, n, raised));
       decidable = subst (λ k. AddsDecidable (length old.assignment.current) k (view old) old.vsids (view new) new.vsids) (sym n) (none-added (length old.assignment.current) (view old) old.vsids (view new) new.vsids e.decidable);
+      remembered = c.set_var_count.ensures.remembered;
       kept = e.kept;
     }
 
@@ -38,6 +39,7 @@ loop-index-preserved g c =
       within = (omega (arith, r.within.0), omega (arith, t));
       decidable = one-more-added (length first.assignment.current) c.loop-index.index (view first) first.vsids (view old) old.vsids (view new) new.vsids r.within.0 r.decidable
           (subst (IsDecidable (view new) new.vsids) var (e.decidable refl)) (subst (λ v. SameDecidableBut v (view old) old.vsids (view new) new.vsids) var e.others);
+      remembered = λ v. ap (λ (x : Context g.row.A.Denot). slice_index_or x.assignment.last v false) e.initialized ∙ r.remembered v;
       kept = only-activities first old new _ r.kept e.initialized;
     }
 

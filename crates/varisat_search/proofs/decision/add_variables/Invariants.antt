@@ -1,4 +1,4 @@
-use Rattle.std.proofs.Common.{◌≡◌, ◌≤◌, length}
+use Rattle.std.proofs.Common.{◌≡◌, ◌≤◌, ℕ, false, length, slice_index_or}
 use Rattle.varisat_search.specs.Contexts.{view, IsReady}
 use Rattle.varisat_search.specs.Decisions.{AddsDecidable}
 use Rattle.varisat_search.specs.Seen.{search_of}
@@ -11,5 +11,6 @@ invariant-loop-index g l = record {
   seen : search_of (view l.ctx) ≡ search_of (view l.fn.ctx);
   within : (length l.fn.ctx.assignment.current ≤ l.index) × (l.index ≤ l.count);
   decidable : AddsDecidable (length l.fn.ctx.assignment.current) l.index (view l.fn.ctx) l.fn.ctx.vsids (view l.ctx) l.ctx.vsids;
+  remembered : (v : ℕ) → slice_index_or l.ctx.assignment.last v false ≡ slice_index_or l.fn.ctx.assignment.last v false;
   kept : l.ctx ≡ record l.fn.ctx { analyze_conflict = l.ctx.analyze_conflict; assignment = l.ctx.assignment; impl_graph = l.ctx.impl_graph; tmp_flags = l.ctx.tmp_flags; vsids = l.ctx.vsids };
 }

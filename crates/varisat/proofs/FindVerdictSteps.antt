@@ -13,7 +13,7 @@ use Rattle.varisat_search.specs.declared.context.Context.{Context}
 use Rattle.varisat_search.specs.Contexts.{view, IsReady}
 use Rattle.varisat_search.specs.Seen.{search_of}
 use Rattle.varisat_prop.specs.View.{View, WellFormed, node_of, is_implied, kinds}
-use Rattle.varisat_prop.proofs.ClauseOrder.{trail-short}
+use Rattle.varisat_prop.proofs.TrailValues.{trail-short}
 use Rattle.varisat_schedule.specs.Plans.{Plan, IsPlan, next_plan, PlannedCall}
 use Rattle.varisat_schedule.specs.CallSteps.{steps_since, IsPlannedStep, HasComeTo}
 use Rattle.varisat_schedule.proofs.CallSteps.{begins, is-short, goes-on}

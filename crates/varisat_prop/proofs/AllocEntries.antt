@@ -62,8 +62,3 @@ added es fs e c p f q n = (
   ap (stored_from 0) f ∙ entry-more 0 es e p (omega (arith, n)) ∙ ap (λ (d : Clause). stored_from 0 es ++ record { place = p; header = e.header; literals = d } ∷ []) q,
   λ k h. let b = place-below 0 es k h in omega (arith, b, n),
 )
-
--- an entry whose literals are swapped
-pub swapped-entry : {A : Type 0} (es : List (Entry A)) (p q : ℕ) (e f : Entry A) → p < length es → e ≡ get_or es p e → f.header ≡ e.header → f.lits.items ≡ swap e.lits.items 0 q → stored_from 0 (set es p f) ≡ with_literals (stored_from 0 es) p (swap (literals_at (stored_from 0 es) p) 0 q)
-swapped-entry es p q e f h g k s =
-    entry-set 0 es p p e f h (omega arith) g k ∙ ap (with_literals (stored_from 0 es) p) (s ∙ sym (ap (λ (x : StoredClause). swap x.literals 0 q) (entry-at 0 es p p e h (omega arith) g)))

@@ -1,18 +1,14 @@
--- The order of a clause's literals may change.
-use Rattle.std.proofs.Common.{◌≡◌, ℕ, zero, suc, ◌<◌, ◌≤◌, List, [], ◌∷◌, length, get_or, map, inl, inr, ⊎_elim, refl, sym, ap, ◌∙◌, subst, arith}
-use Rattle.std.proofs.lemmas.List.{length-map}
-use Rattle.std.specs.List.{swap}
+-- One clause has its literals in another order.
+use Rattle.std.proofs.Common.{◌≡◌, ℕ, ◌<◌, ◌≤◌, List, [], ◌∷◌, length, ◌⊎◌, inl, inr, ⊎_elim, sym, ap, ◌∙◌, subst, refl, arith}
 use Rattle.varisat_theory.specs.Membership.{◌∈◌, IsDistinct}
 use Rattle.varisat_theory.specs.Literals.{Literal, Clause, variable_of}
-use Rattle.varisat_theory.proofs.Places.{place_in}
-use Rattle.varisat_prop.specs.declared.prop.graph.Reason.{Reason}
 use Rattle.varisat_prop.specs.declared.prop.graph.Reason.TheVariants as reason
 use Rattle.varisat_prop.specs.Stored.{StoredClause, IsPlace, with_literals, AreReordered}
-use Rattle.varisat_prop.specs.View.{View, kept, IsTrueIn, clause_at, literal_at, node_of, node_at, Implies, IsReason, WellFormed, ViewFits, Grows}
-use Rattle.varisat_prop.proofs.LiteralValues.{made-inside}
-use Rattle.varisat_prop.proofs.DistinctPlaces.{distinct-by-places, distinct-below}
-use Rattle.varisat_prop.proofs.ReasonFront.{IsFronted, fronted}
-use Rattle.varisat_prop.proofs.AllocClauses.{same-trans, kept-at, reordered-old, reordered-new, reordered-place, reordered-rising, with-reordered, with-other, with-cases}
+use Rattle.varisat_prop.specs.View.{View, kept, IsTrueIn, clause_at, node_at, Implies, IsReason, WellFormed, ViewFits, Grows}
+use Rattle.varisat_prop.specs.Looks.{Propagates}
+use Rattle.varisat_prop.specs.Watches.{at, IsRearranged}
+use Rattle.varisat_prop.proofs.AllocClauses.{same-trans, kept-at, reordered-old, reordered-new, reordered-place, reordered-rising, with-reordered, with-other, with-cases, with-own}
+use Rattle.varisat_prop.proofs.PropagateSteps.{propagates-refl}
 use Rattle.varisat_prop.proofs.ViewGrowth.{append-nil}
 use Rattle.varisat_prop.proofs.WellFormedChanges.{well-with}
 
@@ -23,79 +19,59 @@ fits-reordered s P held a f = record {
   covered = λ c i. ⊎_elim (λ (d, j, k). let (e, l, g) = reordered-new s.clauses P a d j in inl (e, l, λ m q. k m (g.0 m q))) inr (f.covered c i);
 }
 
--- one clause has a literal put first, and is no reason
-module _ (s : View) (i p : ℕ) (w : WellFormed s) (a : IsPlace s.clauses i) (b : p < length (clause_at s i)) (unused : (k : ℕ) → k < length s.trail → (node_at s k).reason ≡ reason.Long i → ⊥) where
-  abbrev pub swapped : Clause
-  swapped = swap (clause_at s i) 0 p
+abbrev pub reordered : View → ℕ → Clause → View
+reordered s i d = record s { clauses = with_literals s.clauses i d }
 
-  abbrev pub with_swapped : View
-  with_swapped = record s { clauses = with_literals s.clauses i swapped }
+-- a clause whose first literal isn't true is no reason
+pub unused : (s : View) (i : ℕ) → WellFormed s → (IsTrueIn s (at (clause_at s i) 0) → ⊥) → (k : ℕ) → k < length s.trail → (node_at s k).reason ≡ reason.Long i → ⊥
+unused s i w n k h e = let r : IsReason s k (reason.Long i) = subst (IsReason s k) e (w.reason_is k h) in n (first-true (clause_at s i) r.1)
+  where
+    first-true : (d : Clause) → Implies s d k → IsTrueIn s (at d 0)
+    first-true [] m = absurd m
+    first-true (x ∷ d) (e, m) = subst (IsTrueIn s) (sym e) (w.is_true k h)
 
-  pub clause-in : clause_at s i ∈ kept s
+module _ (s : View) (i : ℕ) (d : Clause) (w : WellFormed s) (a : IsPlace s.clauses i) (r : IsRearranged (clause_at s i) d) (n : (k : ℕ) → k < length s.trail → (node_at s k).reason ≡ reason.Long i → ⊥) where
+  abbrev u : View
+  u = reordered s i d
+
+  clause-in : clause_at s i ∈ kept s
   clause-in = kept-at s.clauses i a
 
-  pub is-fronted : IsFronted (clause_at s i) swapped p
-  is-fronted = fronted (clause_at s i) p b (w.distinct (clause_at s i) clause-in)
-
   -- what holds of the old clauses and of the new one holds of all
-  each : (Q : Clause → Type 0) → ((c : Clause) → c ∈ kept s → Q c) → Q swapped → (c : Clause) → c ∈ kept with_swapped → Q c
-  each Q old new c h = ⊎_elim (λ e. subst Q (sym e) new) (old c) (with-cases s.clauses i swapped c h)
+  each : (Q : Clause → Type 0) → ((c : Clause) → c ∈ kept s → Q c) → Q d → (c : Clause) → c ∈ kept u → Q c
+  each Q old new c h = ⊎_elim (λ e. subst Q (sym e) new) (old c) (with-cases s.clauses i d c h)
 
-  pub swapped-reordered : AreReordered s.clauses with_swapped.clauses
-  swapped-reordered = with-reordered s.clauses i swapped is-fronted.same
+  are-reordered : AreReordered s.clauses u.clauses
+  are-reordered = with-reordered s.clauses i d r.same
 
-  pub swapped-well : WellFormed with_swapped
-  swapped-well =
-      well-with s with_swapped.clauses s.queue_head w (record {
-        places = reordered-rising s.clauses with_swapped.clauses swapped-reordered w.places;
-        in_range = each (λ c. (l : Literal) → l ∈ c → variable_of l < length s.values) w.in_range (λ l h. w.in_range (clause_at s i) clause-in l (is-fronted.same.0 l h));
-        several = each (λ c. 2 ≤ length c) w.several (let n = is-fronted.long in let m = w.several (clause_at s i) clause-in in omega (arith, n, m));
-        distinct = each IsDistinct w.distinct is-fronted.distinct;
-        reasons = λ k j h e m. (reordered-place s.clauses with_swapped.clauses j swapped-reordered m, with-other s.clauses i j swapped (λ q. unused k h (e ∙ ap reason.Long q)));
+  changed-well : WellFormed u
+  changed-well =
+      well-with s u.clauses s.queue_head w (record {
+        places = reordered-rising s.clauses u.clauses are-reordered w.places;
+        in_range = each (λ c. (l : Literal) → l ∈ c → variable_of l < length s.values) w.in_range (λ l h. w.in_range (clause_at s i) clause-in l (r.same.0 l h));
+        several = each (λ c. 2 ≤ length c) w.several (let m = r.long in let o = w.several (clause_at s i) clause-in in omega (arith, m, o));
+        distinct = each IsDistinct w.distinct (r.distinct (w.distinct (clause_at s i) clause-in));
+        reasons = λ k j h e m. (reordered-place s.clauses u.clauses j are-reordered m, with-other s.clauses i j d (λ q. n k h (e ∙ ap reason.Long q)));
       }) w.head
 
-  pub swapped-grows : Grows s with_swapped
-  swapped-grows = record {
-    clauses = swapped-reordered;
+  changed-grows : Grows s u
+  changed-grows = record {
+    clauses = are-reordered;
     count = refl;
     trail_more = ([], sym (append-nil s.trail));
     head = omega arith;
     decisions_more = ([], sym (append-nil s.decisions));
     nodes = λ k h. refl;
-    fits = λ held f. fits-reordered s with_swapped.clauses held swapped-reordered f;
+    fits = λ held f. fits-reordered s u.clauses held are-reordered f;
   }
 
--- no variable stands twice on the trail
-pub variables-distinct : (s : View) → WellFormed s → IsDistinct (map variable_of s.trail)
-variables-distinct s w =
-    distinct-by-places (map variable_of s.trail) 0 (λ i j a b e.
-    let n = length-map s.trail variable_of in
-    let j' : j < length s.trail = omega (arith, b, n) in
-    let i' : i < length s.trail = omega (arith, a, j') in
-    let f : variable_of (literal_at s i) ≡ variable_of (literal_at s j) = sym (at-map s.trail i i') ∙ e ∙ at-map s.trail j j' in
-    let g : node_at s i ≡ node_at s j = same-node (literal_at s i) (literal_at s j) f in
-    let d = w.depth_is i i' in
-    let d' = w.depth_is j j' in
-    let h = ap (λ n. n.depth) g in omega (arith, d, d', h, a))
-  where
-    at-map : (xs : List ℕ) (i : ℕ) → i < length xs → get_or (map variable_of xs) i 0 ≡ variable_of (get_or xs i 0)
-    at-map [] i h = absurd (omega arith)
-    at-map (x ∷ xs) zero h = refl
-    at-map (x ∷ xs) (suc i) h = at-map xs i (omega arith)
+  pub changed-unused : Propagates s u
+  changed-unused = record { well = changed-well; grows = changed-grows; decisions = refl }
 
-    same-node : (l m : Literal) → variable_of l ≡ variable_of m → node_of s l ≡ node_of s m
-    same-node l m e = ap (λ v. get_or s.nodes v (record { reason = reason.Unit; level = 0; depth = 0 })) e
-
-pub trail-short : (s : View) → WellFormed s → length s.trail ≤ length s.values
-trail-short s w =
-    let n = length-map s.trail variable_of in
-    let d = distinct-below (map variable_of s.trail) (length s.values) (variables-distinct s w) (λ x h.
-    let (l, i, e) = from-map s.trail x h in
-    let (k, a, f) = place_in l s.trail 0 i in
-    subst (λ v. v < length s.values) e (made-inside s.values l (subst (IsTrueIn s) f (w.is_true k a)))) in
-    omega (arith, n, d)
-  where
-    from-map : (xs : List ℕ) (x : ℕ) → x ∈ map variable_of xs → (l : Literal) × (l ∈ xs) × (variable_of l ≡ x)
-    from-map [] x h = absurd h
-    from-map (y ∷ xs) x (inl e) = (y, inl refl, sym e)
-    from-map (y ∷ xs) x (inr h) = let (l, i, e) = from-map xs x h in (l, inr i, e)
+-- a clause changes its order only where its first literal isn't true
+pub changed : (s : View) (i : ℕ) (d : Clause) → WellFormed s → IsPlace s.clauses i → IsRearranged (clause_at s i) d → (d ≡ clause_at s i) ⊎ (IsTrueIn s (at (clause_at s i) 0) → ⊥) → Propagates s (reordered s i d)
+changed s i d w a r o =
+    ⊎_elim
+    (λ e. let f : with_literals s.clauses i d ≡ s.clauses = ap (λ x. with_literals s.clauses i x) e ∙ with-own s.clauses i in subst (λ x. Propagates s (record s { clauses = x })) (sym f) (propagates-refl s w))
+    (λ n. changed-unused s i d w a r (unused s i w n))
+    o

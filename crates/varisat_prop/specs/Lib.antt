@@ -4,3 +4,6 @@ pub mod Parts
 pub mod View
 pub mod Changes
 pub mod Looks
+pub mod Watches
+pub mod Visits
+pub mod Lending

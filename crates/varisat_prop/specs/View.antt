@@ -2,7 +2,7 @@
 use Rattle.std.specs.Prelude.{◌≡◌, ℕ, suc, ◌<◌, ◌≤◌, ◌^◌, Bool, true, false, ◌||◌, nat_eq, Option, List, [], ◌∷◌, ◌++◌, length, map, take, slice_index_or, ◌⊎◌}
 use Rattle.varisat_theory.specs.Membership.{◌∈◌, ◌⊆◌, SameSet, IsDistinct}
 use Rattle.varisat_theory.specs.Literals.{Literal, Clause, variable_of, opposite, IsUnit}
-use Rattle.varisat_theory.specs.Propagation.{HasFalse, LeavesOnly, IsComplete}
+use Rattle.varisat_theory.specs.Propagation.{IsComplete}
 use Rattle.varisat_theory.specs.Searches.{IsTautology}
 use Rattle.varisat_prop.specs.Stored.{StoredClause, literals_of, literals_at, IsPlace, AreRising, AreReordered}
 use Rattle.varisat_prop.specs.Parts.{Values, TrailParts, IsMadeTrue}
@@ -105,11 +105,6 @@ pub record WellFormed (s : View) : Type 0 where
   pub levels_down : (k j : ℕ) → k < length s.trail → j < length s.decisions → k < decision_at s j → (node_at s k).level ≤ j
   -- each place has its reason
   pub reason_is : (k : ℕ) → k < length s.trail → IsReason s k (node_at s k).reason
-
--- Up to the queue's head propagation has come to its end: by the literals before it no kept clause is false, and one that a clause leaves by them is true.
-pub record IsPropagated (s : View) : Type 0 where
-  pub no_false : HasFalse (kept s) (take s.queue_head s.trail) → ⊥
-  pub closed : (c : Clause) (l : Literal) → c ∈ kept s → l ∈ c → LeavesOnly (take s.queue_head s.trail) c l → l ∈ s.trail
 
 -- As each level began, propagation had come to its end: no kept clause was false, and none had one literal left that wasn't true.
 abbrev pub LevelsSettled : View → Type 0

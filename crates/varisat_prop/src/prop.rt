@@ -3,11 +3,15 @@
 pub mod assignment;
 pub mod enqueue;
 pub mod graph;
+pub mod long;
 pub mod propagation;
 pub mod trail;
+pub mod watch;
 
 pub use assignment::Assignment;
 pub use enqueue::enqueue_assignment;
 pub use graph::{Conflict, ImplGraph, ImplNode, Reason};
-pub use propagation::propagate;
+pub use long::propagate_long;
+pub use propagation::{enable_watchlists, propagate};
 pub use trail::Trail;
+pub use watch::{Watch, Watchlists};

@@ -7,26 +7,30 @@ use Rattle.varisat_theory.specs.Propagation.{Follows}
 use Rattle.varisat_theory.proofs.Growth.{follows_more, covered_by_self}
 use Rattle.varisat_theory.proofs.Implication.{implied_false}
 use Rattle.varisat_theory.proofs.Members.{∈-or_not}
-use Rattle.varisat_theory.proofs.Places.{∈-get_or}
+use Rattle.varisat_theory.proofs.Places.{∈-get_or, place_in}
 use Rattle.varisat_theory.proofs.Values.{opposite_twice}
 use Rattle.varisat_prop.proofs.AllocClauses.{kept-at}
 use Rattle.varisat_prop.specs.View.{View, clause_at, literal_at, level_of, WellFormed, ViewFits}
-use Rattle.varisat_prop.proofs.ReasonFront.{IsFronted, fronted}
+use Rattle.varisat_prop.specs.Watches.{IsRearranged}
+use Rattle.varisat_prop.proofs.LongRearranged.{swap-rearranged, swap-at}
 use Rattle.std.specs.List.{swap}
 use Rattle.varisat_search.specs.Learned.{current_level, IsConflict, IsLevelOf, IsAsserting, IsLearned, ListsInvolved}
 use Rattle.varisat_search.specs.Marks.{Marking, MarksAreListed, IsLower, IsResolved, Minimizes, Teaches}
 use Rattle.varisat_search.proofs.WellFormedViews.{level-opposite, level-small, fixed-implied}
 
 -- a literal of the highest level was put first
-pub level-fronted : (s : View) (c d : Clause) (p r : ℕ) → IsFronted c d p → ((k : ℕ) → k < length c → level_of s (get_or c k 0) ≤ level_of s (get_or c p 0)) → r ≡ level_of s (get_or d 0 0) → IsLevelOf s d r
-level-fronted s c d p r f h e =
-    let first : get_or d 0 0 ≡ get_or c p 0 = ap (λ x. get_or x 0 0) f.first in
-    let g = ap (level_of s) first in
-    subst (λ x. IsLevelOf s x r) (sym f.first)
-    (omega (arith, e, g), λ n i. let (j, a, b, q) = f.elsewhere n i in let o = h j a in let z = ap (level_of s) q in omega (arith, o, z, e, g))
+pub record IsFronted (c d : Clause) (p : ℕ) : Type 0 where
+  pub order : IsRearranged c d
+  pub first : get_or d 0 0 ≡ get_or c p 0
 
-pub fronted-now : (c d : Clause) (p : ℕ) → p < length c → IsDistinct c → d ≡ swap c 0 p → IsFronted c d p
-fronted-now c d p h u e = subst (λ x. IsFronted c x p) (sym e) (fronted c p h u)
+pub fronted-now : (c d : Clause) (p : ℕ) → p < length c → d ≡ swap c 0 p → IsFronted c d p
+fronted-now c d p h e = record { order = swap-rearranged c d 0 p (omega (arith, h)) h e; first = (swap-at c d 0 p (omega (arith, h)) h e).0 }
+
+pub level-fronted : (s : View) (c d : Clause) (p r : ℕ) → IsFronted c d p → ((k : ℕ) → k < length c → level_of s (get_or c k 0) ≤ level_of s (get_or c p 0)) → r ≡ level_of s (get_or d 0 0) → 0 < length d → IsLevelOf s d r
+level-fronted s c [] p r f h e n = absurd (omega (arith, n))
+level-fronted s c (m ∷ d) p r f h e n =
+    let g = ap (level_of s) f.first in
+    (sym e, λ x i. let (j, a, q) = place_in x c 0 (f.order.same.0 x (inr i)) in let o = h j a in let z = ap (level_of s) q in omega (arith, o, z, e, g))
 
 -- The places below `place` have literals of no higher level.
 pub record Highest (s : View) (c : Clause) (best place : ℕ) : Type 0 where

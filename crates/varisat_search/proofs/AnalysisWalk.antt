@@ -20,7 +20,7 @@ use Rattle.varisat_search.specs.Marks.{Marking, IsDeepConflict, IsClean, IsMarke
 use Rattle.varisat_search.proofs.LoadCopies.{distinct-push}
 use Rattle.varisat_search.proofs.AnalysisMarks.{mark-of}
 use Rattle.varisat_search.proofs.WellFormedViews.{inside-at, level-opposite, level-same, same-place, place-of, stands-∈, no-clash, true-same, false-same, level-small, causes-before, has-late, fixed-implied, last-in}
-use Rattle.varisat_prop.proofs.ClauseOrder.{trail-short}
+use Rattle.varisat_prop.proofs.TrailValues.{trail-short}
 use Rattle.varisat_search.proofs.AnalysisOpen.{count-small, open-is, open-level, open-marked, closed-unmarked, open-same, count-same, count-none, count-some}
 
 -- the literal is of the current level, and marked

@@ -9,9 +9,10 @@ use Rattle.varisat_theory.proofs.Places.{∈-get_or, place_in}
 use Rattle.varisat_theory.proofs.Members.{equal_or_not}
 use Rattle.varisat_prop.specs.declared.prop.graph.Reason.{Reason}
 use Rattle.varisat_prop.specs.declared.prop.graph.Reason.TheVariants as reason
-use Rattle.varisat_prop.specs.View.{View, kept, IsTrueIn, clause_at, literal_at, decision_at, node_of, node_at, StandsBefore, Implies, IsReason, WellFormed, IsFixed, LevelsSettled, IsPropagated}
+use Rattle.varisat_prop.specs.View.{View, kept, IsTrueIn, clause_at, literal_at, decision_at, node_of, node_at, StandsBefore, Implies, IsReason, WellFormed, IsFixed, LevelsSettled}
 use Rattle.varisat_prop.proofs.LiteralValues.{made-inside}
-use Rattle.varisat_prop.proofs.PropagateEnd.{propagated-ended}
+use Rattle.varisat_prop.specs.Watches.{Watches, IsPropagated}
+use Rattle.varisat_prop.proofs.WatchKept.{propagated-back}
 use Rattle.varisat_search.specs.Steps.{IsCut, LeavesFrom}
 use Rattle.varisat_search.proofs.WellFormedViews.{same-place}
 
@@ -160,5 +161,5 @@ module _ (s t : View) (level : ℕ) (w : WellFormed s) (h : level < length s.dec
       subst (λ x. IsComplete (kept s) x) (sym g) (v j (omega (arith, j', h))))
 
   -- propagation had come to its end where the cut is
-  pub cut-propagated : LevelsSettled s → IsPropagated t
-  cut-propagated v = subst IsPropagated (sym c.rest) (propagated-ended u (sym cut-length) (v level h))
+  pub cut-propagated : (W : Watches) → IsPropagated W s → IsPropagated W t
+  cut-propagated W v = propagated-back W s t level w h c.count c.rest v

@@ -253,5 +253,5 @@ module _ (s : View) (a b : Activities) (v : ℕ) (n : HasActivities s a) (k : v 
   }
 
 -- Where activities change beside what raising the count of variables changes, nothing else does.
-pub only-activities : {A : Type 0} (x y z : Context A) (a : Activities) → y ≡ record x { analyze_conflict = y.analyze_conflict; assignment = y.assignment; impl_graph = y.impl_graph; tmp_flags = y.tmp_flags; vsids = y.vsids } → z ≡ record y { vsids = a } → z ≡ record x { analyze_conflict = z.analyze_conflict; assignment = z.assignment; impl_graph = z.impl_graph; tmp_flags = z.tmp_flags; vsids = z.vsids }
-only-activities x y z a e f = subst (λ w. w ≡ record x { analyze_conflict = w.analyze_conflict; assignment = w.assignment; impl_graph = w.impl_graph; tmp_flags = w.tmp_flags; vsids = w.vsids }) (sym f) (ap (λ (w : Context _). record w { vsids = a }) e)
+pub only-activities : {A : Type 0} (x y z : Context A) (a : Activities) → y ≡ record x { analyze_conflict = y.analyze_conflict; assignment = y.assignment; impl_graph = y.impl_graph; tmp_flags = y.tmp_flags; vsids = y.vsids; watchlists = y.watchlists } → z ≡ record y { vsids = a } → z ≡ record x { analyze_conflict = z.analyze_conflict; assignment = z.assignment; impl_graph = z.impl_graph; tmp_flags = z.tmp_flags; vsids = z.vsids; watchlists = z.watchlists }
+only-activities x y z a e f = subst (λ w. w ≡ record x { analyze_conflict = w.analyze_conflict; assignment = w.assignment; impl_graph = w.impl_graph; tmp_flags = w.tmp_flags; vsids = w.vsids; watchlists = w.watchlists }) (sym f) (ap (λ (w : Context _). record w { vsids = a }) e)

@@ -14,13 +14,14 @@ use Rattle.varisat_prop.specs.declared.prop.graph.Reason.TheVariants as reason
 use Rattle.varisat_prop.specs.Stored.{StoredClause}
 use Rattle.varisat_prop.proofs.AllocClauses.{place-last}
 use Rattle.varisat_search.specs.Conflicts.{learned_at}
-use Rattle.varisat_prop.specs.View.{View, kept, IsTrueIn, literal_at, decision_at, node_of, node_at, level_of, WellFormed, LevelsSettled, IsPropagated, ViewFits, kinds, is_implied, is_clause}
+use Rattle.varisat_prop.specs.View.{View, kept, IsTrueIn, literal_at, decision_at, node_of, node_at, level_of, WellFormed, LevelsSettled, ViewFits, kinds, is_implied, is_clause}
 use Rattle.varisat_prop.specs.Changes.{enqueued}
 use Rattle.varisat_literals.specs.Numbers.{polarity_of}
 use Rattle.varisat_prop.proofs.LiteralValues.{none-made, made-inside, made-clash, variable-opposite}
-use Rattle.varisat_prop.proofs.PropagateLooks.{trail-true}
-use Rattle.varisat_prop.proofs.AllocClauses.{reordered-refl}
-use Rattle.varisat_prop.proofs.PropagateEnd.{propagated-longer, propagated-learned}
+use Rattle.varisat_prop.proofs.TrailValues.{trail-true}
+use Rattle.varisat_prop.specs.Watches.{Watches, at, IsPropagated}
+use Rattle.varisat_prop.specs.Visits.{WatchesClause}
+use Rattle.varisat_prop.proofs.WatchKept.{propagated-enqueued, propagated-learned}
 use Rattle.varisat_prop.proofs.TrailExtend.{node-old, node-new, literal-old, literal-new}
 use Rattle.varisat_prop.proofs.EnqueueAssignment.{enqueued-well}
 use Rattle.varisat_search.specs.Learned.{IsAsserting, IsLevelOf}
@@ -168,7 +169,6 @@ kinds-enqueued t l r w inside free =
 pub record Result (s z : View) : Type 0 where
   pub well : WellFormed z
   pub settled : LevelsSettled z
-  pub propagated : IsPropagated z
   pub rises : (n : ℕ) → length s.trail ≤ n → rank n (kinds s) < rank n (kinds z)
   pub count : length z.values ≡ length s.values
 
@@ -179,8 +179,8 @@ module _ (s t : View) (i level : ℕ) (c : Clause) (w : WellFormed s) (v : Level
   wt : WellFormed t
   wt = cut-well s t level w below ct
 
-  pt : IsPropagated t
-  pt = cut-propagated s t level w below ct v
+  pt : (W : Watches) → IsPropagated W s → IsPropagated W t
+  pt = cut-propagated s t level w below ct
 
   vt : LevelsSettled t
   vt = cut-settled s t level w below ct v
@@ -201,10 +201,12 @@ module _ (s t : View) (i level : ℕ) (c : Clause) (w : WellFormed s) (v : Level
       record {
         well = enqueued-well t l.first reason.Unit wt inside free none;
         settled = λ j h. let n = ap (λ (x : List ℕ). length x) none in absurd (omega (arith, h, n));
-        propagated = propagated-longer t z (l.first ∷ []) wt (reordered-refl t.clauses) refl refl pt;
         rises = rises s t i level c w v l deep ct z implied;
         count = length-set t.values (variable_of l.first) (Some (polarity_of l.first)) ∙ ct.count;
       }
+
+  pub unit-propagated : (W : Watches) → IsPropagated W s → IsPropagated W (enqueued t l.first reason.Unit)
+  unit-propagated W p = propagated-enqueued W t l.first reason.Unit wt (pt W p)
 
   in-clause : (m : Literal) → m ∈ c → variable_of m < length t.values
   in-clause m h =
@@ -245,8 +247,33 @@ module _ (s t : View) (i level : ℕ) (c : Clause) (w : WellFormed s) (v : Level
             (λ q. let (k, x, y, f) = place_in_take (opposite l.first) t.trail (decision_at t j) 0 q in none-made t.values l.first (opposite l.first) free (variable-opposite l.first) (subst (IsTrueIn t) f (wt.is_true k y)))
             (other-unknown m j second h)
             (vt j h)));
-        propagated = propagated-learned t j l.first r wt pt (subst (λ x. l.first ∈ x) (sym whole) (inl refl))
-            (λ q. let (k, x, y, f) = place_in_take (opposite l.first) t.trail t.queue_head 0 q in none-made t.values l.first (opposite l.first) free (variable-opposite l.first) (subst (IsTrueIn t) f (wt.is_true k y)));
         rises = rises s t i level c w v l deep ct z (kinds-enqueued t' l.first r wt' inside free);
         count = length-set t.values (variable_of l.first) (Some (polarity_of l.first)) ∙ ct.count;
       }
+
+  -- its first two literals are false at no level below the present one
+  watched-late : (m : Literal) (ms : Clause) → c ≡ l.first ∷ m ∷ ms → level_of s m ≡ level → (j p : ℕ) → j < 2 → p < t.queue_head → literal_at t p ≡ opposite (at c j) → (k : ℕ) → k < length t.decisions → decision_at t k ≤ p
+  watched-late m ms whole second j p b q e k h = go j b (e ∙ ap (λ x. opposite (at x j)) whole)
+    where
+      inside-trail : p < length t.trail
+      inside-trail = let o = wt.head in omega (arith, q, o)
+
+      go : (i : ℕ) → i < 2 → literal_at t p ≡ opposite (at (l.first ∷ m ∷ ms) i) → decision_at t k ≤ p
+      go zero a f = absurd (none-made t.values l.first (opposite l.first) free (variable-opposite l.first) (subst (IsTrueIn t) f (wt.is_true p inside-trail)))
+      go (suc zero) a f =
+          let same : level_of t (opposite m) ≡ level_of s m = ap (λ (x : View). level_of x (opposite m)) ct.rest ∙ ap (λ x. (get_or s.nodes x (record { reason = reason.Unit; level = 0; depth = 0 })).level) (variable-opposite m) in
+          let g = ap (level_of t) f in
+          let d = ap (λ (x : View). length x.decisions) ct.rest in
+          let n = level-length s t level w below ct in
+          ⊎_elim
+          (λ o. let r = wt.levels_down p k inside-trail h o in absurd (omega (arith, r, same, g, second, h, d, n)))
+          (λ o. o)
+          (cases_lt p (decision_at t k))
+      go (suc (suc i)) a f = absurd (omega (arith, a))
+
+  pub kept-propagated : (W V : Watches) (p : ℕ) → IsPropagated W s → ((k : StoredClause) → k ∈ t.clauses → k.place < p) → (m : Literal) (ms : Clause) → l.others ≡ m ∷ ms → WatchesClause W V p c → IsPropagated V (enqueued (record t { clauses = t.clauses ++ learned_at p c ∷ [] }) l.first (reason.Long p))
+  kept-propagated W V p d behind m ms e v =
+      let whole : c ≡ l.first ∷ m ∷ ms = l.split ∙ ap (λ o. l.first ∷ o) e in
+      let n = ap (λ (x : Clause). length x) whole in
+      let second : level_of s m ≡ level = (subst (λ o. IsLevelOf s o level) e l.second).0 in
+      propagated-learned W V t (learned_at p c) (pt W d) behind v l.first (reason.Long p) wt (sym (ap (λ x. at x 0) whole)) (omega (arith, n)) (watched-late m ms whole second)

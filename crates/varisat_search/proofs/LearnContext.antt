@@ -9,8 +9,12 @@ use Rattle.varisat_prop.specs.declared.prop.graph.Reason.{Reason}
 use Rattle.varisat_prop.specs.declared.prop.graph.Reason.TheVariants as reason
 use Rattle.varisat_prop.specs.Stored.{StoredClause, literals_of, IsPlace}
 use Rattle.varisat_prop.proofs.AllocClauses.{literals-more}
-use Rattle.varisat_prop.proofs.LiteralValues.{variable-opposite}
-use Rattle.varisat_prop.specs.View.{View, kept, WellFormed, LevelsSettled, IsPropagated}
+use Rattle.varisat_prop.proofs.LiteralValues.{made-inside, variable-opposite}
+use Rattle.varisat_prop.proofs.TrailValues.{trail-true}
+use Rattle.varisat_prop.proofs.LongVisited.{listed}
+use Rattle.varisat_prop.specs.View.{View, kept, WellFormed, LevelsSettled}
+use Rattle.varisat_prop.specs.Watches.{Watches, IsPropagated}
+use Rattle.varisat_prop.specs.Visits.{WatchesClause}
 use Rattle.varisat_prop.specs.Changes.{enqueued}
 use Rattle.varisat_vsids.specs.Activities.{Activities}
 use Rattle.varisat_search.specs.declared.context.Context.{Context}
@@ -19,7 +23,7 @@ use Rattle.varisat_search.specs.declared.state.SatState.TheVariants as verdict
 use Rattle.varisat_search.specs.declared.state.SolverState.{SolverState}
 use Rattle.varisat_search.specs.Learned.{Analysis, IsLearned, IsAsserting, AreInvolved}
 use Rattle.varisat_search.specs.Contexts.{view, IsReady}
-use Rattle.varisat_search.specs.Conflicts.{learned_at, IsKeptAsReason}
+use Rattle.varisat_search.specs.Conflicts.{learned_at, IsKeptAsReason, IsWatchedAsReason}
 use Rattle.varisat_search.specs.Decisions.{HasActivities, AreDecidable, SameDecidable, MakesAvailable}
 use Rattle.varisat_search.specs.Bumps.{BumpsInvolved}
 use Rattle.varisat_search.specs.Steps.{IsCut, Saves, SavesSome, IsFree}
@@ -32,7 +36,7 @@ use Rattle.varisat_search.proofs.ViewSearch.{view_reads}
 use Rattle.varisat_search.proofs.AddedClause.{last-one}
 use Rattle.varisat_search.proofs.DecidableVariables.{can-decide, same-read, same-trans, at-valued, enqueued-same}
 use Rattle.varisat_search.proofs.LearnLines.{steps_kept, steps_unit}
-use Rattle.varisat_search.proofs.LearnClause.{Result, second-level, first-inside, first-free, unit-result, kept-result}
+use Rattle.varisat_search.proofs.LearnClause.{Result, second-level, first-inside, first-free, unit-result, kept-result, unit-propagated, kept-propagated}
 
 same-first : (l m : Literal) (c d : Clause) → (l ∷ c) ≡ (m ∷ d) → l ≡ m
 same-first l m c d e = cc
@@ -84,6 +88,20 @@ module _ (s t : View) (i level : ℕ) (l : Literal) (others : Clause) (w : WellF
       let whole : z ≡ enqueued (record t { clauses = t.clauses ++ learned_at p c ∷ [] }) asserting.first (reason.Long p) =
       h ∙ ap (λ x. enqueued (record t { clauses = x }) l r) f' ∙ ap (λ x. enqueued (record t { clauses = t.clauses ++ learned_at p c ∷ [] }) l x) g ∙ ap (λ x. enqueued (record t { clauses = t.clauses ++ learned_at p c ∷ [] }) x (reason.Long p)) first-is in
       subst (Result s) (sym whole) (kept-result s t i level c w v asserting deep (cut below) p k.1 m ms (sym others-are ∙ e))
+
+  -- the clause is watched
+  pub learned-propagated : (W V : Watches) (z : View) (P : List StoredClause) (r : Reason) (o : Clause) → IsPropagated W s → others ≡ o → IsKeptAsReason t.clauses P (l ∷ o) r → IsWatchedAsReason W V (l ∷ o) r → z ≡ enqueued (record t { clauses = P }) l r → IsPropagated V z
+  learned-propagated W V z P r [] p e (f, g) q h =
+      let whole : z ≡ enqueued t asserting.first reason.Unit = h ∙ ap (λ x. enqueued (record t { clauses = x }) l r) f ∙ ap (λ x. enqueued t l x) g ∙ ap (λ x. enqueued t x reason.Unit) first-is in
+      let same : V ≡ W = subst (IsWatchedAsReason W V (l ∷ [])) g q in
+      subst (λ X. IsPropagated X z) (sym same) (subst (IsPropagated W) (sym whole) (unit-propagated s t i level (l ∷ others) w v asserting deep (cut below) W p))
+  learned-propagated W V z P r (m ∷ ms) p e (a, k, g) q h =
+      let c = l ∷ others in
+      let f' : P ≡ t.clauses ++ learned_at a c ∷ [] = k.0 ∙ ap (λ o. t.clauses ++ learned_at a (l ∷ o) ∷ []) (sym e) in
+      let whole : z ≡ enqueued (record t { clauses = t.clauses ++ learned_at a c ∷ [] }) asserting.first (reason.Long a) =
+      h ∙ ap (λ x. enqueued (record t { clauses = x }) l r) f' ∙ ap (λ x. enqueued (record t { clauses = t.clauses ++ learned_at a c ∷ [] }) l x) g ∙ ap (λ x. enqueued (record t { clauses = t.clauses ++ learned_at a c ∷ [] }) x (reason.Long a)) first-is in
+      let watched : WatchesClause W V a c = subst (λ o. WatchesClause W V a (l ∷ o)) (sym e) (subst (IsWatchedAsReason W V (l ∷ m ∷ ms)) g q) in
+      subst (IsPropagated V) (sym whole) (kept-propagated s t i level c w v asserting deep (cut below) W V a p k.1 m ms (sym others-are ∙ e) watched)
 
   -- the line that is written
   pub learned-steps : (z : View) (P : List StoredClause) (r : Reason) (o : Clause) → others ≡ o → IsKeptAsReason t.clauses P (l ∷ o) r → z ≡ enqueued (record t { clauses = P }) l r → Steps (search_of s) (search_of z) Unknown (Add (l ∷ others) ∷ [])
@@ -195,6 +213,9 @@ module _ {A : Type 0} {x0 x1 x2 : Context A} {i level : ℕ} (d : Backtracked x0
       let stored : (x : Context A) → List StoredClause = λ x. x.clause_alloc in
       ap stored d.back ∙ ap stored d.begun.analyzed
 
+  watches-are : x2.watchlists ≡ x0.watchlists
+  watches-are = ap (λ (x : Context A). x.watchlists) d.back ∙ ap (λ (x : Context A). x.watchlists) d.begun.analyzed
+
   units-are : x2.trail.units_removed ≡ x0.trail.units_removed
   units-are = d.units ∙ ap (λ (x : Context A). x.trail.units_removed) d.begun.analyzed
 
@@ -217,12 +238,27 @@ module _ {A : Type 0} {x0 x1 x2 : Context A} {i level : ℕ} (d : Backtracked x0
   still-decidable : SameDecidable (view x0) x0.vsids (view x2) x2.vsids
   still-decidable = same-trans (view x0) x0.vsids (view x1) x1.vsids (view x2) x2.vsids (same-read (view x0) x0.vsids (view x1) x1.vsids (ap (λ (x : View). x.values) same-view) d.begun.available) d.decidable
 
+  -- and each of its literals has a watch list
+  pub learned-listed : (l : Literal) (others : Clause) → x2.analyze_conflict.clause ≡ l ∷ others → (m : Literal) → m ∈ x2.analyze_conflict.clause → opposite m < length x2.watchlists.lists
+  learned-listed l others e m h =
+      let s = view x0 in
+      let ready = d.begun.ready in
+      let learned = clause-is (l ∷ others) e in
+      let on = (learned.above (is-above s i level l others learned)).false_now m (subst (λ c. m ∈ c) e h) in
+      let a = made-inside s.values (opposite m) (trail-true s ready.well (opposite m) on) in
+      let v = variable-opposite m in
+      let b = listed m (length s.values) (omega (arith, a, v)) in
+      let n = ready.propagated.lists in
+      let o = ap (λ (X : Watches). length X.lists) watches-are in
+      omega (arith, b, n, o)
+
 -- The clause with a literal was learned, and kept unless it is a unit clause.
 pub record Learning {A : Type 0} (x0 x1 x2 x3 : Context A) (i level : ℕ) (l : Literal) (others : Clause) (r : Reason) : Type 0 where
   pub before : Backtracked x0 x1 x2 i level
   pub split : x2.analyze_conflict.clause ≡ l ∷ others
-  pub stored : x3 ≡ record x2 { clause_alloc = x3.clause_alloc }
+  pub stored : x3 ≡ record x2 { clause_alloc = x3.clause_alloc; watchlists = x3.watchlists }
   pub kept : IsKeptAsReason x2.clause_alloc x3.clause_alloc x2.analyze_conflict.clause r
+  pub watched : IsWatchedAsReason x2.watchlists x3.watchlists x2.analyze_conflict.clause r
 
 module _ {A : Type 0} {x0 x1 x2 x3 : Context A} {i level : ℕ} {l : Literal} {others : Clause} {r : Reason} (d : Learning x0 x1 x2 x3 i level l others r) where
   abbrev b : Backtracked x0 x1 x2 i level
@@ -236,6 +272,9 @@ module _ {A : Type 0} {x0 x1 x2 x3 : Context A} {i level : ℕ} {l : Literal} {o
 
   kept-is : IsKeptAsReason x2.clause_alloc x3.clause_alloc (l ∷ others) r
   kept-is = subst (λ c. IsKeptAsReason x2.clause_alloc x3.clause_alloc c r) d.split d.kept
+
+  watched-is : IsWatchedAsReason x0.watchlists x3.watchlists (l ∷ others) r
+  watched-is = subst (λ W. IsWatchedAsReason W x3.watchlists (l ∷ others) r) (watches-are b) (subst (λ c. IsWatchedAsReason x2.watchlists x3.watchlists c r) d.split d.watched)
 
   pub learning-free : IsFree (view x3) l
   learning-free = subst (λ (s : View). IsFree s l) (sym stored-view) (learned-free (view x0) (view x2) i level l others b.begun.ready.well b.begun.ready.settled learned-is (cut-is b))
@@ -287,6 +326,7 @@ module _ {A : Type 0} {x0 x1 x2 x3 : Context A} {i level : ℕ} {l : Literal} {o
     learning-further u =
         let q = learned-result (view x0) (view x2) i level l others b.begun.ready.well b.begun.ready.settled learned-is (cut-is b) (view z) x3.clause_alloc r others refl kept-is last-view in
         let lines = learned-steps (view x0) (view x2) i level l others b.begun.ready.well b.begun.ready.settled learned-is (cut-is b) (view z) x3.clause_alloc r others refl kept-is last-view in
+        let watched = learned-propagated (view x0) (view x2) i level l others b.begun.ready.well b.begun.ready.settled learned-is (cut-is b) x0.watchlists x3.watchlists (view z) x3.clause_alloc r others b.begun.ready.propagated refl kept-is watched-is last-view in
         let room : (x : Context A) → ℕ = λ x. x.analyze_conflict.var_count in
         let flags : (x : Context A) → List Bool = λ x. x.tmp_flags.flags.items in
         let state : (x : Context A) → SolverState = λ x. x.solver_state in
@@ -296,7 +336,7 @@ module _ {A : Type 0} {x0 x1 x2 x3 : Context A} {i level : ℕ} {l : Literal} {o
           ready = record {
             well = q.well;
             settled = q.settled;
-            propagated = q.propagated;
+            propagated = subst (λ W. IsPropagated W (view z)) (sym (ap (λ (x : Context A). x.watchlists) made)) watched;
             analysis = ap room made ∙ ap room d.stored ∙ room-is b ∙ sym q.count;
             flags = ap flags made ∙ ap flags d.stored ∙ flags-are b ∙ ap (λ n. replicate (2 * n) false) (sym q.count);
             decidable = can-decide (view x0) x0.vsids (view z) z.vsids last-entries last-same last-decidable;
@@ -347,7 +387,7 @@ module _ {A : Type 0} {x0 x1 x2 : Context A} {i level : ℕ} (d : Backtracked x0
         ready = record {
           well = subst WellFormed (sym refuted-same) ready.well;
           settled = subst LevelsSettled (sym refuted-same) ready.settled;
-          propagated = subst IsPropagated (sym refuted-same) ready.propagated;
+          propagated = subst (λ W. IsPropagated W (view x2)) (sym (watches-are d)) (subst (IsPropagated x0.watchlists) (sym refuted-same) ready.propagated);
           analysis = room-is d ∙ sym count;
           flags = flags-are d ∙ ap (λ n. replicate (2 * n) false) (sym count);
           decidable = can-decide (view x0) x0.vsids (view x2) x2.vsids d.entries (still-decidable d) (λ c h. ready.decidable.decidable c (subst (λ (x : View). c ∈ kept x) refuted-same h));

@@ -8,6 +8,7 @@ use Rattle.varisat_theory.specs.Outcomes.{Proves, Loads}
 use Rattle.varisat_prop.specs.Looks.{IsInRange}
 use Rattle.varisat_prop.specs.Stored.{literals_of}
 use Rattle.varisat_prop.specs.View.{kept, IsTrueIn}
+use Rattle.varisat_prop.specs.Watches.{IsPropagated}
 use Rattle.varisat_vsids.specs.Activities.{Activities}
 use Rattle.varisat_search.specs.declared.context.Context.{Context}
 use Rattle.varisat_search.specs.declared.state.SatState.TheVariants as verdict
@@ -19,7 +20,7 @@ use Rattle.varisat_search.specs.Seen.{search_of, outcome_of}
 use Rattle.varisat_search.specs.Steps.{IsCut, SavesAll, reopened_state}
 use Rattle.varisat_search.proofs.DecidableVariables.{can-decide, same-trans}
 use Rattle.varisat_search.proofs.LoadDecisions.{added-same, added-kept}
-use Rattle.varisat_search.proofs.LoadView.{Restarted, restarted, added-well, undecided-settled}
+use Rattle.varisat_search.proofs.LoadView.{Restarted, restarted, restarted-propagated, added-well, undecided-settled}
 use Rattle.varisat_search.proofs.LoadLines.{restart-moves, opened, lines-tautology, lines-satisfied, lines-added}
 
 -- The contexts of loading a clause: before, and once all decisions are undone and the clause's literals copied, each once.
@@ -36,6 +37,7 @@ pub record Loading {A : Type 0} (x0 x1 : Context A) (c lits : Clause) : Type 0 w
   pub units : x1.trail.units_removed ≡ x0.trail.units_removed
   pub analysis : x1.analyze_conflict.var_count ≡ x0.analyze_conflict.var_count
   pub flags : x1.tmp_flags.flags.items ≡ x0.tmp_flags.flags.items
+  pub watches : x1.watchlists ≡ x0.watchlists
   pub schedule : KeepsSchedule x0 x1
   pub distinct : IsDistinct lits
   pub literals : SameSet lits c
@@ -54,7 +56,10 @@ pub record Loaded {A : Type 0} (x0 z : Context A) (c : Clause) : Type 0 where
 
 module _ {A : Type 0} {x0 x1 : Context A} {c lits : Clause} (d : Loading x0 x1 c lits) where
   pub loading-restarted : Restarted (view x0) (view x1)
-  loading-restarted = restarted (view x0) (view x1) d.ready.well d.ready.settled d.ready.propagated d.same d.cut
+  loading-restarted = restarted (view x0) (view x1) d.ready.well d.same d.cut
+
+  pub loading-propagated : IsPropagated x1.watchlists (view x1)
+  loading-propagated = subst (λ W. IsPropagated W (view x1)) (sym d.watches) (restarted-propagated x0.watchlists (view x0) (view x1) d.ready.well d.ready.propagated d.same d.cut)
 
   pub loading-inside : IsInRange x1.assignment.current lits
   loading-inside l h = let a = d.in_range l (d.literals.0 l h) in let n = loading-restarted.count in omega (arith, a, n)
@@ -79,7 +84,7 @@ module _ {A : Type 0} {x0 x1 : Context A} {c lits : Clause} (d : Loading x0 x1 c
         ready = record {
           well = r.well;
           settled = undecided-settled (view x1) r.undecided;
-          propagated = r.propagated;
+          propagated = loading-propagated;
           analysis = d.analysis ∙ d.ready.analysis ∙ sym r.count;
           flags = d.flags ∙ d.ready.flags ∙ ap (λ n. replicate (2 * n) false) (sym r.count);
           decidable = can-decide (view x0) x0.vsids (view x1) x1.vsids d.entries d.stay_decidable still-decidable;
@@ -113,8 +118,8 @@ module _ {A : Type 0} {x0 x1 : Context A} {c lits : Clause} (d : Loading x0 x1 c
       (λ c h. ⊎_elim (still-decidable c) (λ f. subst (AreDecidable (view x0) x0.vsids) (sym f) (λ l i. d.decidable l (d.literals.0 l i))) (added-kept (view x1) (view z) lits x1.solver_state.sat_state z.solver_state.sat_state a c h))
 
   -- the clause was added
-  pub loaded-added : (z : Context A) → z ≡ record x1 { assignment = z.assignment; clause_alloc = z.clause_alloc; impl_graph = z.impl_graph; solver_state = z.solver_state; trail = z.trail } → z.solver_state ≡ record x1.solver_state { sat_state = z.solver_state.sat_state } → z.trail.units_removed ≡ x1.trail.units_removed → z.assignment.last ≡ x1.assignment.last → IsAdded (view x1) (view z) lits x1.solver_state.sat_state z.solver_state.sat_state → Loaded x0 z c
-  loaded-added z k s u l a =
+  pub loaded-added : (z : Context A) → z ≡ record x1 { assignment = z.assignment; clause_alloc = z.clause_alloc; impl_graph = z.impl_graph; solver_state = z.solver_state; trail = z.trail; watchlists = z.watchlists } → IsPropagated z.watchlists (view z) → z.solver_state ≡ record x1.solver_state { sat_state = z.solver_state.sat_state } → z.trail.units_removed ≡ x1.trail.units_removed → z.assignment.last ≡ x1.assignment.last → IsAdded (view x1) (view z) lits x1.solver_state.sat_state z.solver_state.sat_state → Loaded x0 z c
+  loaded-added z k p s u l a =
       let r = loading-restarted in
       let vsids : z.vsids ≡ x1.vsids = ap (λ (x : Context A). x.vsids) k in
       let b : IsAdded (view x1) (view z) lits (reopened_state x0.solver_state.sat_state) z.solver_state.sat_state = subst (λ b. IsAdded (view x1) (view z) lits b z.solver_state.sat_state) verdict-is a in
@@ -122,18 +127,18 @@ module _ {A : Type 0} {x0 x1 : Context A} {c lits : Clause} (d : Loading x0 x1 c
       record {
         ready = record {
           well = q.0;
-          settled = undecided-settled (view z) q.2;
-          propagated = q.1;
-          analysis = ap (λ (x : Context A). x.analyze_conflict.var_count) k ∙ d.analysis ∙ d.ready.analysis ∙ sym q.3;
-          flags = ap (λ (x : Context A). x.tmp_flags.flags.items) k ∙ d.flags ∙ d.ready.flags ∙ ap (λ n. replicate (2 * n) false) (sym q.3);
-          decidable = added-decidable z vsids a (q.3 ∙ sym r.count);
+          settled = undecided-settled (view z) q.1;
+          propagated = p;
+          analysis = ap (λ (x : Context A). x.analyze_conflict.var_count) k ∙ d.analysis ∙ d.ready.analysis ∙ sym q.2;
+          flags = ap (λ (x : Context A). x.tmp_flags.flags.items) k ∙ d.flags ∙ d.ready.flags ∙ ap (λ n. replicate (2 * n) false) (sym q.2);
+          decidable = added-decidable z vsids a (q.2 ∙ sym r.count);
         };
         lines = λ n m. ([], lines-added (view x0) (view x1) c lits d.ready.well r moves d.distinct d.literals (view z) lits (reopened_state x0.solver_state.sat_state) z.solver_state.sat_state (opened x0.solver_state.sat_state n m) refl b);
         last = subst (SavesAll (view x0) x0.assignment.last) (sym l) d.last;
         state = s ∙ ap (λ (y : SolverState). record y { sat_state = z.solver_state.sat_state }) d.state;
-        count = q.3;
+        count = q.2;
         units = u ∙ d.units;
-        undecided = q.2;
+        undecided = q.1;
         schedule = record { schedule = ap (λ (x : Context A). x.schedule) k ∙ d.schedule.schedule; solver_config = ap (λ (x : Context A). x.solver_config) k ∙ d.schedule.solver_config };
         decidable = added-stay z vsids a;
       }

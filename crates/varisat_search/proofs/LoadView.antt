@@ -1,14 +1,14 @@
 -- The view once `load_clause` is done.
-use Rattle.std.proofs.Common.{◌≡◌, ℕ, ◌<◌, ◌≤◌, Some, List, [], ◌∷◌, ◌++◌, length, ⊎_elim, refl, sym, ap, ◌∙◌, subst, arith, length-set}
+use Rattle.std.proofs.Common.{◌≡◌, ℕ, ◌<◌, ◌≤◌, Bool, Option, Some, List, [], ◌∷◌, ◌++◌, length, ⊎_elim, refl, sym, ap, ◌∙◌, subst, arith, length-set}
 use Rattle.std.proofs.lemmas.Bool.{cases_lt}
 use Rattle.varisat_theory.specs.Membership.{IsDistinct}
 use Rattle.varisat_theory.specs.Literals.{Literal, Clause, variable_of}
 use Rattle.varisat_literals.specs.Numbers.{polarity_of}
 use Rattle.varisat_prop.specs.declared.prop.graph.Reason.TheVariants as reason
-use Rattle.varisat_prop.proofs.AllocClauses.{reordered-refl}
 use Rattle.varisat_prop.specs.Changes.{enqueued}
-use Rattle.varisat_prop.proofs.PropagateEnd.{propagated-longer, propagated-reset}
-use Rattle.varisat_prop.specs.View.{View, IsTrueIn, level_of, WellFormed, LevelsSettled, IsPropagated, IsFixed}
+use Rattle.varisat_prop.specs.Watches.{Watches, no_watches, list_of, IsWatching, IsPropagated}
+use Rattle.varisat_prop.proofs.WatchKept.{watching-none}
+use Rattle.varisat_prop.specs.View.{View, IsTrueIn, level_of, WellFormed, LevelsSettled, IsFixed}
 use Rattle.varisat_prop.specs.Looks.{IsInRange}
 use Rattle.varisat_prop.proofs.EnqueueAssignment.{enqueued-well}
 use Rattle.varisat_prop.proofs.WellFormedChanges.{well-moved}
@@ -22,7 +22,6 @@ use Rattle.varisat_search.proofs.AddedClause.{with_kept, kept-well}
 pub record Restarted (s t : View) : Type 0 where
   pub well : WellFormed t
   pub undecided : t.decisions ≡ []
-  pub propagated : IsPropagated t
   pub count : length t.values ≡ length s.values
   pub clauses : t.clauses ≡ s.clauses
   pub fixed_to : (x : Literal) → IsFixed s x → IsTrueIn t x
@@ -36,50 +35,70 @@ no-decision s w e x t =
     let g = ap (level_of s) f in
     omega (arith, n, l, g)
 
-pub restarted-same : (s : View) → WellFormed s → IsPropagated s → s.decisions ≡ [] → Restarted s s
-restarted-same s w p e = record { well = w; undecided = e; propagated = p; count = refl; clauses = refl; fixed_to = λ x f. f.0; fixed_from = λ x t. (t, no-decision s w e x t) }
+pub restarted-same : (s : View) → WellFormed s → s.decisions ≡ [] → Restarted s s
+restarted-same s w e = record { well = w; undecided = e; count = refl; clauses = refl; fixed_to = λ x f. f.0; fixed_from = λ x t. (t, no-decision s w e x t) }
 
-pub restarted-cut : (s t : View) → WellFormed s → LevelsSettled s → 0 < length s.decisions → IsCut s t 0 → Restarted s t
-restarted-cut s t w v h c =
+pub restarted-cut : (s t : View) → WellFormed s → 0 < length s.decisions → IsCut s t 0 → Restarted s t
+restarted-cut s t w h c =
     let none : t.decisions ≡ [] = ap (λ (x : View). x.decisions) c.rest in
     let w' = cut-well s t 0 w h c in
     record {
       well = w';
       undecided = none;
-      propagated = cut-propagated s t 0 w h c v;
       count = c.count;
       clauses = ap (λ (x : View). x.clauses) c.rest;
       fixed_to = λ x f. subst (λ (y : View). IsTrueIn y x) (sym c.rest) (fixed-cut s t 0 w h c x f).0;
       fixed_from = λ x q. (was-true s t 0 w h c x (subst (λ (y : View). IsTrueIn y x) c.rest q), sym (ap (λ (y : View). level_of y x) c.rest) ∙ no-decision t w' none x q);
     }
 
-pub restarted : (s t : View) → WellFormed s → LevelsSettled s → IsPropagated s → (s.decisions ≡ [] → t ≡ s) → (0 < length s.decisions → IsCut s t 0) → Restarted s t
-restarted s t w v p same cut =
+no-length : (xs : List ℕ) → length xs ≤ 0 → xs ≡ []
+no-length [] h = refl
+no-length (x ∷ xs) h = absurd (omega (arith, h))
+
+pub restarted : (s t : View) → WellFormed s → (s.decisions ≡ [] → t ≡ s) → (0 < length s.decisions → IsCut s t 0) → Restarted s t
+restarted s t w same cut =
     ⊎_elim
-    (λ h. restarted-cut s t w v h (cut h))
-    (λ h. let e = no-length s.decisions h in subst (Restarted s) (sym (same e)) (restarted-same s w p e))
+    (λ h. restarted-cut s t w h (cut h))
+    (λ h. let e = no-length s.decisions h in subst (Restarted s) (sym (same e)) (restarted-same s w e))
     (cases_lt 0 (length s.decisions))
-  where
-    no-length : (xs : List ℕ) → length xs ≤ 0 → xs ≡ []
-    no-length [] h = refl
-    no-length (x ∷ xs) h = absurd (omega (arith, h))
+
+-- and propagation is still at its end up to the queue's head
+pub restarted-propagated : (W : Watches) (s t : View) → WellFormed s → IsPropagated W s → (s.decisions ≡ [] → t ≡ s) → (0 < length s.decisions → IsCut s t 0) → IsPropagated W t
+restarted-propagated W s t w p same cut =
+    ⊎_elim
+    (λ h. cut-propagated s t 0 w h (cut h) W p)
+    (λ h. subst (IsPropagated W) (sym (same (no-length s.decisions h))) p)
+    (cases_lt 0 (length s.decisions))
 
 module _ (s t : View) (lits : Clause) (r : Restarted s t) (d : IsDistinct lits) (inside : IsInRange t.values lits) where
   abbrev pub IsLoadedWell : View → Type 0
-  IsLoadedWell y = WellFormed y × IsPropagated y × (y.decisions ≡ []) × (length y.values ≡ length s.values)
+  IsLoadedWell y = WellFormed y × (y.decisions ≡ []) × (length y.values ≡ length s.values)
 
-  -- the view stays well formed, propagation stays at its end up to the queue's head, and no level is left
+  -- the view stays well formed, and no level is left
   pub added-well : (z : View) (o : Clause) (b after : SatState) → lits ≡ o → IsAdded t z o b after → IsLoadedWell z
-  added-well z [] b after e (f, g) = subst IsLoadedWell (sym f) (r.well, r.propagated, r.undecided, r.count)
+  added-well z [] b after e (f, g) = subst IsLoadedWell (sym f) (r.well, r.undecided, r.count)
   added-well z (l ∷ []) b after e q =
       ⊎_elim
-      (λ (h, f, g). subst IsLoadedWell (sym f) (r.well, r.propagated, r.undecided, r.count))
-      (λ (free, f, g). subst IsLoadedWell (sym f) (enqueued-well t l reason.Unit r.well free.0 free.1 r.undecided, propagated-longer t (enqueued t l reason.Unit) (l ∷ []) r.well (reordered-refl t.clauses) refl refl r.propagated, r.undecided, length-set t.values (variable_of l) (Some (polarity_of l)) ∙ r.count))
+      (λ (h, f, g). subst IsLoadedWell (sym f) (r.well, r.undecided, r.count))
+      (λ (free, f, g). subst IsLoadedWell (sym f) (enqueued-well t l reason.Unit r.well free.0 free.1 r.undecided, r.undecided, length-set t.values (variable_of l) (Some (polarity_of l)) ∙ r.count))
       q
   added-well z (l ∷ m ∷ ms) b after e (p, k, f, g) =
       let f' : z ≡ record t { clauses = t.clauses ++ loaded_at p lits ∷ []; queue_head = 0 } = f ∙ ap (λ y. record t { clauses = y; queue_head = 0 }) k.0 ∙ ap (λ y. record t { clauses = t.clauses ++ loaded_at p y ∷ []; queue_head = 0 }) (sym e) in
       let n = ap (λ (x : Clause). length x) e in
-      subst IsLoadedWell (sym f') (let v = well-moved (with_kept t (loaded_at p lits) k.1 r.well) 0 (kept-well t (loaded_at p lits) k.1 r.well inside (omega (arith, n)) d) (omega arith) in (v, propagated-reset (record t { clauses = t.clauses ++ loaded_at p lits ∷ []; queue_head = 0 }) v refl, r.undecided, r.count))
+      subst IsLoadedWell (sym f') (let v = well-moved (with_kept t (loaded_at p lits) k.1 r.well) 0 (kept-well t (loaded_at p lits) k.1 r.well inside (omega (arith, n)) d) (omega arith) in (v, r.undecided, r.count))
 
 pub undecided-settled : (z : View) → z.decisions ≡ [] → LevelsSettled z
 undecided-settled z e j h = let n = ap (λ (x : List ℕ). length x) e in absurd (omega (arith, h, n))
+
+-- no clauses, no variables and no lists
+pub first-propagated : (W : Watches) (s : View) → W ≡ no_watches → s.values ≡ [] → s.clauses ≡ [] → s.decisions ≡ [] → s.queue_head ≡ 0 → IsPropagated W s
+first-propagated W s e v k d q = record {
+  lists = let a = ap (λ (x : Watches). length x.lists) e in let b = ap (λ (x : List (Option Bool)). length x) v in omega (arith, a, b);
+  watching = λ o. subst (IsWatching W) (sym k) (watching-none W none);
+  empty = λ o. none;
+  settled = λ i j p a b h. absurd (omega (arith, h, q));
+  queue = λ j h. let n = ap (λ (x : List ℕ). length x) d in absurd (omega (arith, h, n));
+}
+  where
+    none : (x : Literal) → list_of W x ≡ []
+    none x = ap (λ (X : Watches). list_of X x) e

@@ -7,7 +7,10 @@ use Rattle.varisat_theory.specs.Literals.{Literal, Clause, variable_of}
 use Rattle.varisat_prop.specs.declared.prop.graph.Reason.{Reason}
 use Rattle.varisat_prop.specs.declared.prop.graph.Reason.TheVariants as reason
 use Rattle.varisat_prop.specs.declared.prop.graph.ImplNode.{ImplNode}
-use Rattle.varisat_prop.specs.View.{View, IsTrueIn, clause_at, literal_at, decision_at, node_of, node_at, no_node, Implies, IsReason, WellFormed, LevelsSettled, IsPropagated, is_clause}
+use Rattle.varisat_prop.specs.View.{View, IsTrueIn, clause_at, literal_at, decision_at, node_of, node_at, no_node, Implies, IsReason, WellFormed, LevelsSettled, is_clause}
+use Rattle.varisat_prop.specs.Watches.{Watches, IsPropagated}
+use Rattle.varisat_prop.proofs.WatchRebuilt.{with_more, more-lists, watching-variables}
+use Rattle.varisat_prop.specs.declared.prop.watch.Watch.{Watch}
 use Rattle.varisat_search.specs.Seen.{is_fixed, is_proved, search_of}
 
 pub get_or-padded : {X : Type 0} (xs : List X) (n v : ℕ) (d : X) → get_or (xs ++ replicate n d) v d ≡ get_or xs v d
@@ -88,8 +91,17 @@ grown-flags flags n count e h =
     let l : length flags ≡ 2 * n = ap (λ (xs : List Bool). length xs) e ∙ length-replicate (2 * n) false in
     ap (λ xs. xs ++ replicate (2 * count - length flags) false) e ∙ replicate-join false (2 * n) (2 * count - length flags) (2 * count) (omega (arith, l, h))
 
-pub grown-propagated : (s u : View) (vs : List (Option Bool)) (ns : List ImplNode) → u ≡ record s { values = vs; nodes = ns } → IsPropagated s → IsPropagated u
-grown-propagated s u vs ns e p = subst IsPropagated (sym e) record { no_false = p.no_false; closed = p.closed }
+-- there are lists for more variables, and no watch is lost
+pub grown-propagated : (W V : Watches) (s u : View) (vs : List (Option Bool)) (ns : List ImplNode) (count : ℕ) → u ≡ record s { values = vs; nodes = ns } → length vs ≡ count → length s.values ≤ count → V ≡ with_more W (2 * count - length W.lists) → IsPropagated W s → IsPropagated V u
+grown-propagated W V s u vs ns count e n h f p =
+    let k = 2 * count - length W.lists in
+    subst (λ X. IsPropagated X u) (sym f) (subst (IsPropagated (with_more W k)) (sym e) record {
+      lists = (let a = length-append W.lists (replicate k []) in let b = length-replicate {A = List Watch} k [] in let c = p.lists in omega (arith, a, b, c, n, h));
+      watching = λ o. watching-variables W k s.clauses (p.watching o);
+      empty = λ o x. more-lists W.lists k x ∙ p.empty o x;
+      settled = p.settled;
+      queue = p.queue;
+    })
 
 -- more variables, without values
 pub record Grown (s u : View) (n : ℕ) : Type 0 where

@@ -5,7 +5,7 @@ use Rattle.varisat_theory.specs.Literals.{Literal, Clause, opposite}
 use Rattle.varisat_theory.specs.Propagation.{IsComplete}
 use Rattle.varisat_theory.specs.Derivations.{Line}
 use Rattle.varisat_prop.specs.View.{View, kept, WellFormed, Grows}
-use Rattle.varisat_prop.proofs.PropagateLooks.{on-trail, trail-true}
+use Rattle.varisat_prop.proofs.TrailValues.{on-trail, trail-true}
 use Rattle.varisat_search.specs.Steps.{IsTotal, assignment_of}
 use Rattle.varisat_search.specs.Seen.{kept_clause, search_of}
 use Rattle.varisat_search.proofs.LevelsSettled.{makes-true, one-true}

@@ -3,13 +3,13 @@ use Rattle.std.proofs.Common.{◌≡◌, ℕ, ◌+◌, ◌*◌, ◌%◌, ◌<◌
 use Rattle.varisat_theory.specs.Literals.{Literal, variable_of, literal_of}
 use Rattle.varisat_theory.specs.Propagation.{IsComplete}
 use Rattle.varisat_literals.specs.Numbers.{polarity_of}
-use Rattle.varisat_prop.specs.View.{View, kept, WellFormed, LevelsSettled, IsPropagated, Grows}
+use Rattle.varisat_prop.specs.View.{View, kept, WellFormed, LevelsSettled, Grows}
+use Rattle.varisat_prop.specs.Watches.{IsPropagated}
 use Rattle.varisat_prop.specs.Changes.{decided_on}
 use Rattle.varisat_prop.specs.Looks.{Propagates}
 use Rattle.varisat_prop.proofs.ViewGrowth.{grows-refl, grows-trans}
 use Rattle.varisat_prop.proofs.EnqueueAssignment.{decided-well, decided-grows}
-use Rattle.varisat_prop.proofs.ClauseOrder.{trail-short}
-use Rattle.varisat_prop.proofs.PropagateEnd.{propagated-grows}
+use Rattle.varisat_prop.proofs.TrailValues.{trail-short}
 use Rattle.varisat_search.specs.declared.context.Context.{Context}
 use Rattle.varisat_search.specs.Contexts.{view, IsReady}
 use Rattle.varisat_search.specs.Steps.{IsFree}
@@ -20,33 +20,31 @@ use Rattle.varisat_search.proofs.LevelsSettled.{settled-grows, settled-decided}
 pub record Finding (s t : View) : Type 0 where
   pub well : WellFormed t
   pub settled : LevelsSettled t
-  pub propagated : IsPropagated t
   pub grows : Grows s t
 
 -- a ready search, in which nothing was looked for yet
 pub finding-begins : {A : Type 0} {x : Context A} → IsReady x → Finding (view x) (view x)
-finding-begins {x = x} r = record { well = r.well; settled = r.settled; propagated = r.propagated; grows = grows-refl (view x) }
+finding-begins {x = x} r = record { well = r.well; settled = r.settled; grows = grows-refl (view x) }
 
 -- it stays ready, since no variable is added
-pub finding-ready : {A : Type 0} {x y : Context A} → IsReady x → Finding (view x) (view y) → y.analyze_conflict.var_count ≡ x.analyze_conflict.var_count → y.tmp_flags.flags.items ≡ x.tmp_flags.flags.items → CanDecide (view y) y.vsids → IsReady y
-finding-ready r f a b d = record {
+pub finding-ready : {A : Type 0} {x y : Context A} → IsReady x → Finding (view x) (view y) → IsPropagated y.watchlists (view y) → y.analyze_conflict.var_count ≡ x.analyze_conflict.var_count → y.tmp_flags.flags.items ≡ x.tmp_flags.flags.items → CanDecide (view y) y.vsids → IsReady y
+finding-ready r f p a b d = record {
   well = f.well;
   settled = f.settled;
-  propagated = f.propagated;
+  propagated = p;
   analysis = a ∙ r.analysis ∙ sym f.grows.count;
   flags = b ∙ r.flags ∙ ap (λ n. replicate (2 * n) false) (sym f.grows.count);
   decidable = d;
 }
 
-pub finding-propagated : (s t u : View) → Finding s t → Propagates t u → IsPropagated u → Finding s u
-finding-propagated s t u f p q = record { well = p.well; settled = settled-grows t u f.well p.grows p.decisions f.settled; propagated = q; grows = grows-trans s t u f.grows p.grows }
+pub finding-propagated : (s t u : View) → Finding s t → Propagates t u → Finding s u
+finding-propagated s t u f p = record { well = p.well; settled = settled-grows t u f.well p.grows p.decisions f.settled; grows = grows-trans s t u f.grows p.grows }
 
 pub finding-decided : (s t u : View) (l : Literal) → Finding s t → IsComplete (kept t) t.trail → IsFree t l → u ≡ decided_on t l → Finding s u
 finding-decided s t u l f q r e =
     subst (Finding s) (sym e) record {
       well = decided-well t l f.well r.0 r.1;
       settled = settled-decided t l f.well q f.settled;
-      propagated = propagated-grows t (decided_on t l) f.well (decided-grows t l f.well r.0 r.1) refl f.propagated;
       grows = grows-trans s t (decided_on t l) f.grows (decided-grows t l f.well r.0 r.1);
     }
 

@@ -5,7 +5,7 @@ use Rattle.varisat_theory.proofs.Ranks.{rank_grows, rank_steady}
 use Rattle.std.proofs.lemmas.List.{length-map}
 use Rattle.varisat_prop.specs.View.{View, WellFormed, Grows, node_of, is_implied, kinds}
 use Rattle.varisat_prop.proofs.ViewGrowth.{kinds-more}
-use Rattle.varisat_prop.proofs.ClauseOrder.{trail-short}
+use Rattle.varisat_prop.proofs.TrailValues.{trail-short}
 
 kinds-short : (s : View) (n : ℕ) → length s.trail ≤ n → length (kinds s) ≤ n
 kinds-short s n h = let b = length-map s.trail (λ l. is_implied (node_of s l)) in omega (arith, b, h)

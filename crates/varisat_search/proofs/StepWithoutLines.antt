@@ -6,7 +6,7 @@ use Rattle.varisat_theory.proofs.Members.{∈-append_left, ∈-append_right, ∈
 use Rattle.varisat_theory.proofs.Places.{∈-get_or, place_in}
 use Rattle.varisat_prop.specs.View.{View, kept, literal_at, node_of, level_of, WellFormed, IsFixed, ViewFits, Grows}
 use Rattle.varisat_prop.proofs.ViewGrowth.{literal-stays, grows-longer}
-use Rattle.varisat_prop.proofs.PropagateLooks.{trail-true}
+use Rattle.varisat_prop.proofs.TrailValues.{trail-true}
 use Rattle.varisat_theory.specs.Outcomes.{Proves}
 use Rattle.varisat_search.specs.Seen.{search_of, IsProved}
 use Rattle.varisat_search.proofs.ViewSearch.{proved_from, proved_to, view_moves}

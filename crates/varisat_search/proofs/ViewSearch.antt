@@ -14,7 +14,7 @@ use Rattle.varisat_prop.specs.declared.prop.graph.Reason.{Reason}
 use Rattle.varisat_prop.specs.declared.prop.graph.Reason.TheVariants as reason
 use Rattle.varisat_prop.specs.Stored.{StoredClause, literals_of, AreReordered}
 use Rattle.varisat_prop.specs.View.{View, kept, literal_at, node_of, level_of, WellFormed, IsFixed, ViewFits, is_clause}
-use Rattle.varisat_prop.proofs.PropagateLooks.{on-trail, trail-true}
+use Rattle.varisat_prop.proofs.TrailValues.{on-trail, trail-true}
 use Rattle.varisat_search.proofs.WellFormedViews.{fixed-implied, level-opposite}
 use Rattle.varisat_theory.specs.Searches.{KeptClause, clauses_of, Fits}
 use Rattle.varisat_theory.specs.Outcomes.{Proves}

@@ -14,7 +14,7 @@ use Rattle.varisat_prop.proofs.AllocClauses.{kept-at}
 use Rattle.varisat_prop.specs.View.{View, clause_at, literal_at, decision_at, no_node, node_of, node_at, level_of, StandsBefore, Implies, IsReason, WellFormed, LevelsSettled, ViewFits}
 use Rattle.varisat_prop.specs.Changes.{NamesClause, others_of, causes_of}
 use Rattle.varisat_prop.proofs.LiteralValues.{same-variable, variable-opposite, made-clash, made-inside}
-use Rattle.varisat_prop.proofs.PropagateLooks.{trail-true}
+use Rattle.varisat_prop.proofs.TrailValues.{trail-true}
 use Rattle.varisat_search.specs.Learned.{current_level, IsConflict, clause_of, reason_clause}
 
 pub level-opposite : (s : View) (m : Literal) → level_of s (opposite m) ≡ level_of s m

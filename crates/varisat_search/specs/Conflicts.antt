@@ -5,6 +5,8 @@ use Rattle.varisat_prop.specs.declared.prop.graph.Conflict.{Conflict}
 use Rattle.varisat_prop.specs.declared.prop.graph.Reason.{Reason}
 use Rattle.varisat_prop.specs.declared.prop.graph.Reason.TheVariants as reason
 use Rattle.varisat_prop.specs.Stored.{StoredClause, Keeps}
+use Rattle.varisat_prop.specs.Watches.{Watches}
+use Rattle.varisat_prop.specs.Visits.{WatchesClause}
 use Rattle.varisat_search.specs.declared.cdcl.FoundConflict.{FoundConflict}
 use Rattle.varisat_search.specs.declared.cdcl.FoundConflict.TheVariants as found
 
@@ -20,3 +22,8 @@ abbrev pub IsKeptAsReason : List StoredClause → List StoredClause → Clause �
 IsKeptAsReason old new [] r = (new ≡ old) × (r ≡ reason.Unit)
 IsKeptAsReason old new (l ∷ []) r = (new ≡ old) × (r ≡ reason.Unit)
 IsKeptAsReason old new (l ∷ m ∷ c) r = (p : ℕ) × Keeps old new (learned_at p (l ∷ m ∷ c)) × (r ≡ reason.Long p)
+
+-- the clause is watched where it is kept as the reason
+abbrev pub IsWatchedAsReason : Watches → Watches → Clause → Reason → Type 0
+IsWatchedAsReason W V c reason.Unit = V ≡ W
+IsWatchedAsReason W V c (reason.Long p) = WatchesClause W V p c

@@ -1,6 +1,7 @@
 -- The context as its view, and what is kept of it between calls.
 use Rattle.std.specs.Prelude.{◌≡◌, ◌*◌, true, false, length, replicate}
-use Rattle.varisat_prop.specs.View.{View, view_of, WellFormed, LevelsSettled, IsPropagated}
+use Rattle.varisat_prop.specs.View.{View, view_of, WellFormed, LevelsSettled}
+use Rattle.varisat_prop.specs.Watches.{IsPropagated}
 use Rattle.varisat_search.specs.declared.state.SatState.TheVariants as verdict
 use Rattle.varisat_search.specs.declared.state.SolverState.{SolverState}
 use Rattle.varisat_search.specs.declared.context.Context.{Context}
@@ -24,8 +25,8 @@ pub record IsReady {A : Type 0} (c : Context A) : Type 0 where
   pub well : WellFormed (view c)
   -- as each level began, propagation had come to its end
   pub settled : LevelsSettled (view c)
-  -- and it has come to its end up to the queue's head
-  pub propagated : IsPropagated (view c)
+  -- and it has come to its end up to the queue's head, and clauses are watched
+  pub propagated : IsPropagated c.watchlists (view c)
   -- analysis has room for each variable
   pub analysis : c.analyze_conflict.var_count ≡ length c.assignment.current
   -- there is a flag for each literal, and none is set

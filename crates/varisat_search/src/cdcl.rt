@@ -1,5 +1,7 @@
 //! One step of the search: propagate and decide to a conflict or a model, and learn.
 ghost use Rattle.std.specs.Prelude.{◌≡◌, ◌≢◌, ℕ, ◌<◌, length, [], ◌∷◌, List, OnOk, IfOk, MatchOption, MatchResult};
+ghost use Rattle.varisat_theory.specs.Membership.{◌∈◌};
+ghost use Rattle.varisat_theory.specs.Literals.{Literal, opposite};
 ghost use Rattle.varisat_theory.specs.Propagation.{IsComplete};
 ghost use Rattle.varisat_prop.specs.View.{kept, Grows};
 ghost use Rattle.varisat_prop.specs.Parts.{Values};
@@ -9,7 +11,7 @@ ghost use Rattle.varisat_search.specs.Contexts.{view, KeepsSchedule, IsReady};
 ghost use Rattle.varisat_search.specs.Steps.{IsTotal, SavesSome, Remembers};
 ghost use Rattle.varisat_search.specs.Decisions.{SameDecidable};
 ghost use Rattle.varisat_search.specs.Bumps.{BumpsInvolved};
-ghost use Rattle.varisat_search.specs.Conflicts.{conflict_of, IsKeptAsReason};
+ghost use Rattle.varisat_search.specs.Conflicts.{conflict_of, IsKeptAsReason, IsWatchedAsReason};
 ghost use Rattle.varisat_search.specs.Progress.{StepsTo, RaisesRank, IsStepFurther};
 ghost use Rattle.varisat_vsids.specs.Activities.{Activities};
 
@@ -65,6 +67,7 @@ fn find_conflict<A: Allocator + Copy>(
             &mut ctx.clause_alloc,
             &mut ctx.impl_graph,
             &mut ctx.trail,
+            &mut ctx.watchlists,
         )?;
         if let Err(conflict) = propagated {
             return Ok(Err(FoundConflict::Conflict(conflict)));
@@ -82,10 +85,13 @@ pub fn first_of(clause: &[Lit]) -> Option<Lit>
     clause.first().copied()
 }
 
-/// Keeps the learned clause where it has two literals or more, as redundant, and returns what makes its first literal true.
+/// Keeps the learned clause where it has two literals or more, as redundant, and watches it. Returns what makes its first
+/// literal true.
 fn keep_learned<A: Allocator + Copy>(ctx: &mut Context<A>) -> Result<Reason, AllocError>
-    ensures kept { ctx.new ≡ record ctx.old { clause_alloc = ctx.new.clause_alloc } }
+    requires listed { (l : Literal) → l ∈ ctx.old.analyze_conflict.clause → opposite l < length ctx.old.watchlists.lists }
+    ensures kept { ctx.new ≡ record ctx.old { clause_alloc = ctx.new.clause_alloc; watchlists = ctx.new.watchlists } }
     ensures reason { IfOk result (λ reason. IsKeptAsReason ctx.old.clause_alloc ctx.new.clause_alloc ctx.old.analyze_conflict.clause reason) }
+    ensures watched { IfOk result (λ reason. IsWatchedAsReason ctx.old.watchlists ctx.new.watchlists ctx.old.analyze_conflict.clause reason) }
 {
     if ctx.analyze_conflict.clause().len() < 2 {
         return Ok(Reason::Unit);
@@ -95,6 +101,8 @@ fn keep_learned<A: Allocator + Copy>(ctx: &mut Context<A>) -> Result<Reason, All
     let cref = ctx
         .clause_alloc
         .add_clause(header, ctx.analyze_conflict.clause())?;
+    ctx.watchlists
+        .watch_clause(cref, ctx.analyze_conflict.clause())?;
     Ok(Reason::Long(cref))
 }
 

@@ -16,7 +16,7 @@ use crate::tmp::{TmpData, TmpFlags};
 use std::alloc::{AllocError, Allocator};
 use varisat_names::config::{ConfigError, SolverConfig, SolverConfigUpdate};
 use varisat_prop::clause::ClauseAlloc;
-use varisat_prop::prop::{Assignment, ImplGraph, Trail};
+use varisat_prop::prop::{Assignment, ImplGraph, Trail, Watchlists};
 use varisat_schedule::schedule::Schedule;
 use varisat_vsids::Vsids;
 
@@ -34,6 +34,7 @@ pub struct Context<A: Allocator + Copy> {
     pub tmp_flags: TmpFlags<A>,
     pub trail: Trail<A>,
     pub vsids: Vsids<A>,
+    pub watchlists: Watchlists<A>,
 }
 
 impl<A: Allocator + Copy> Context<A> {
@@ -61,6 +62,7 @@ impl<A: Allocator + Copy> Context<A> {
             tmp_flags: TmpFlags::new_in(alloc),
             trail: Trail::new_in(alloc),
             vsids: Vsids::new_in(alloc),
+            watchlists: Watchlists::new_in(alloc),
         }
     }
 
@@ -96,12 +98,13 @@ pub fn set_var_count<A: Allocator + Copy>(
     ensures last { OnOk result (ctx.new.assignment.last ≡ ctx.old.assignment.last ++ replicate (count - length ctx.old.assignment.current) false) }
     ensures activities { OnOk result (ctx.new.vsids ≡ raised_to count ctx.old.vsids) }
     ensures decidable { OnOk result (SameDecidable (view ctx.old) ctx.old.vsids (view ctx.new) ctx.new.vsids) }
-    ensures kept { ctx.new ≡ record ctx.old { analyze_conflict = ctx.new.analyze_conflict; assignment = ctx.new.assignment; impl_graph = ctx.new.impl_graph; tmp_flags = ctx.new.tmp_flags; vsids = ctx.new.vsids } }
+    ensures kept { ctx.new ≡ record ctx.old { analyze_conflict = ctx.new.analyze_conflict; assignment = ctx.new.assignment; impl_graph = ctx.new.impl_graph; tmp_flags = ctx.new.tmp_flags; vsids = ctx.new.vsids; watchlists = ctx.new.watchlists } }
 {
     ctx.analyze_conflict.set_var_count(count)?;
     ctx.assignment.set_var_count(count)?;
     ctx.impl_graph.set_var_count(count)?;
     ctx.tmp_flags.set_var_count(count)?;
     ctx.vsids.set_var_count(count)?;
+    ctx.watchlists.set_var_count(count)?;
     Ok(())
 }

@@ -8,6 +8,7 @@ ghost use Rattle.varisat_theory.specs.Outcomes.{Loads};
 ghost use Rattle.varisat_prop.specs.Parts.{IsMadeTrue};
 ghost use Rattle.varisat_prop.specs.Looks.{IsInRange};
 ghost use Rattle.varisat_prop.specs.View.{WellFormed};
+ghost use Rattle.varisat_prop.specs.Watches.{IsPropagated};
 ghost use Rattle.varisat_search.specs.Contexts.{view, KeepsSchedule, IsReady};
 ghost use Rattle.varisat_search.specs.Steps.{SavesAll};
 ghost use Rattle.varisat_search.specs.Decisions.{AreDecidable, SameDecidable};
@@ -81,9 +82,12 @@ fn is_satisfied<A: Allocator + Copy>(assignment: &Assignment<A>, lits: &[Lit]) -
 /// gives verdict Unsat.
 fn add_distinct<A: Allocator + Copy>(ctx: &mut Context<A>) -> Result<(), AllocError>
     requires well { WellFormed (view ctx.old) }
+    requires propagated { IsPropagated ctx.old.watchlists (view ctx.old) }
+    requires undecided { ctx.old.trail.decisions ≡ [] }
     requires in_range { IsInRange ctx.old.assignment.current ctx.old.tmp_data.lits.items }
     requires untrue { (l : Literal) → l ∈ ctx.old.tmp_data.lits.items → IsMadeTrue ctx.old.assignment.current l → ⊥ }
-    ensures kept { ctx.new ≡ record ctx.old { assignment = ctx.new.assignment; clause_alloc = ctx.new.clause_alloc; impl_graph = ctx.new.impl_graph; solver_state = ctx.new.solver_state; trail = ctx.new.trail } }
+    ensures kept { ctx.new ≡ record ctx.old { assignment = ctx.new.assignment; clause_alloc = ctx.new.clause_alloc; impl_graph = ctx.new.impl_graph; solver_state = ctx.new.solver_state; trail = ctx.new.trail; watchlists = ctx.new.watchlists } }
+    ensures propagated { OnOk result (IsPropagated ctx.new.watchlists (view ctx.new)) }
     ensures state { OnOk result (ctx.new.solver_state ≡ record ctx.old.solver_state { sat_state = ctx.new.solver_state.sat_state }) }
     ensures units { OnOk result (ctx.new.trail.units_removed ≡ ctx.old.trail.units_removed) }
     ensures last { OnOk result (ctx.new.assignment.last ≡ ctx.old.assignment.last) }
@@ -96,9 +100,10 @@ fn add_distinct<A: Allocator + Copy>(ctx: &mut Context<A>) -> Result<(), AllocEr
     if ctx.tmp_data.lits.len() > 1 {
         // A literal of the clause may be false already, by a literal that was propagated before.
         ctx.trail.reset_queue();
-        let _cref = ctx
+        let cref = ctx
             .clause_alloc
             .add_clause(ClauseHeader::new(), &ctx.tmp_data.lits)?;
+        ctx.watchlists.watch_clause(cref, &ctx.tmp_data.lits)?;
         return Ok(());
     }
     if ctx.assignment.lit_is_false(first) {

@@ -1,7 +1,6 @@
 //! The kept clauses. Each has a header, and is named by its place.
 ghost use Rattle.std.specs.Prelude.{◌≡◌, ℕ, ◌<◌, ◌^◌, [], length, IfOk};
-ghost use Rattle.std.specs.List.{swap};
-ghost use Rattle.varisat_prop.specs.Stored.{IsPlace, stored_at, literals_at, with_literals, AreNumbered, Keeps};
+ghost use Rattle.varisat_prop.specs.Stored.{IsPlace, stored_at, literals_at, AreNumbered, Keeps};
 
 use crate::clause::header::ClauseHeader;
 use std::alloc::{AllocError, Allocator};
@@ -57,7 +56,9 @@ impl<A: Allocator + Copy> Model for ClauseAlloc<A> {
 }
 
 impl<A: Allocator + Copy> ClauseAlloc<A> {
+    ghost use Rattle.std.specs.Borrow.{sem};
     ghost use Rattle.varisat_prop.specs.Entries.{clause_from};
+    ghost use Rattle.varisat_prop.specs.Lending.{lends_clause};
 
     /// No clauses. It takes no memory.
     pub fn new_in(alloc: A) -> ClauseAlloc<A>
@@ -116,12 +117,12 @@ impl<A: Allocator + Copy> ClauseAlloc<A> {
         self.entry(cref).lits.as_slice()
     }
 
-    /// Puts the literal at the place first, and the first one there.
-    pub fn put_first(&mut self, cref: ClauseRef, place: usize)
-        requires clause { IsPlace self.old cref }
-        requires place { place < length (literals_at self.old cref) }
-        ensures { self.new ≡ with_literals self.old cref (swap (literals_at self.old cref) 0 place) }
+    /// The literals of the clause, whose order may be changed.
+    pub fn lits_mut(&mut self, cref: ClauseRef) -> &mut [Lit]
+        requires { IsPlace self.old cref }
+        ensures* lends { sem 𝓛 (lends_clause A.row A.Allocator self.entry cref result) }
+        ensures value { result.now ≡ literals_at self.old cref }
     {
-        self.clauses[cref.place].lits.swap(0, place);
+        self.clauses[cref.place].lits.as_mut_slice()
     }
 }

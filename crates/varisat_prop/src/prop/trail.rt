@@ -65,13 +65,6 @@ impl<A: Allocator + Copy> Trail<A> {
         self.queue_head_pos = 0;
     }
 
-    /// Takes each literal as propagated.
-    pub fn end_queue(&mut self)
-        ensures { self.new ≡ record self.old { queue_head = length self.old.literals } }
-    {
-        self.queue_head_pos = self.trail.len();
-    }
-
     /// The true literals, oldest first.
     pub fn trail(&self) -> &[Lit]
         ensures { result.now ≡ self.now.literals }

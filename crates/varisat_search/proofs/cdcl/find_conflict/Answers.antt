@@ -1,5 +1,7 @@
 use Rattle.std.proofs.Common.{refl, sym, ap, ◌∙◌, subst, arith}
 use Rattle.varisat_prop.specs.View.{view_of, View, Grows}
+use Rattle.varisat_prop.specs.Watches.{IsPropagated}
+use Rattle.varisat_prop.proofs.WatchKept.{propagated-decided}
 use Rattle.varisat_prop.proofs.ViewGrowth.{grows-refl, grows-trans, grows-longer}
 use Rattle.varisat_search.specs.declared.context.Context.{Context}
 use Rattle.varisat_vsids.specs.Activities.{Activities}
@@ -16,7 +18,7 @@ after g c = view_of c.propagate.new.clause_alloc c.propagate.new.assignment c.pr
 
 propagated : (g : Over) (c : In_ok-propagated g) → Finding (view c.levels.ctx) (after g c)
 propagated g c =
-    finding-propagated (view c.levels.ctx) (view c.levels.ctx) (after g c) (finding-begins c.levels.invariant.ready) c.in_ok-propagated.ensures.propagates c.in_ok-propagated.ensures.propagated
+    finding-propagated (view c.levels.ctx) (view c.levels.ctx) (after g c) (finding-begins c.levels.invariant.ready) c.in_ok-propagated.ensures.propagates
 
 grown : (g : Over) (c : In_ok-propagated g) → Grows (view c.args.ctx.now) (after g c)
 grown g c = grows-trans (view c.args.ctx.now) (view c.levels.ctx) (after g c) c.levels.invariant.grows (propagated g c).grows
@@ -39,7 +41,7 @@ same g c =
 pub returns-in-Err-clause-ready : goal.returns-in-Err-clause-ready
 returns-in-Err-clause-ready g c =
     let here = (goal.at.returns-in-Err-clause-ready g c).In_ok-propagated in
-    finding-ready c.levels.invariant.ready (propagated g here) refl refl (decidable g here)
+    finding-ready c.levels.invariant.ready (propagated g here) c.in_ok-propagated.ensures.propagated refl refl (decidable g here)
 
 pub returns-in-Err-clause-grows : goal.returns-in-Err-clause-grows
 returns-in-Err-clause-grows g c = grown g (goal.at.returns-in-Err-clause-grows g c).In_ok-propagated
@@ -55,7 +57,7 @@ returns-then-not-branch-clause-ready g c =
     let here = (goal.at.returns-then-not-branch-clause-ready g c).In_ok-propagated in
     let d = rw c.if-not-branch.true at c.in_ok-make_decision.ensures.decided in
     let f = subst (Finding (view c.levels.ctx)) (sym (ap (λ (x : Context g.row.A.Denot). view x) d.0)) (propagated g here) in
-    finding-ready c.levels.invariant.ready f (ap (λ (x : Context g.row.A.Denot). x.analyze_conflict.var_count) d.0) (ap (λ (x : Context g.row.A.Denot). x.tmp_flags.flags.items) d.0) c.in_ok-make_decision.ensures.decidable
+    finding-ready c.levels.invariant.ready f (subst (λ (x : Context g.row.A.Denot). IsPropagated x.watchlists (view x)) (sym d.0) c.in_ok-propagated.ensures.propagated) (ap (λ (x : Context g.row.A.Denot). x.analyze_conflict.var_count) d.0) (ap (λ (x : Context g.row.A.Denot). x.tmp_flags.flags.items) d.0) c.in_ok-make_decision.ensures.decidable
 
 pub returns-then-not-branch-clause-grows : goal.returns-then-not-branch-clause-grows
 returns-then-not-branch-clause-grows g c =
@@ -87,8 +89,14 @@ levels-preserved g c =
     let here = goal.at.levels-preserved g c in
     let f = decided g here.Else-not-branch (propagated g here.In_ok-propagated) in
     let k = c.make_decision.ensures.kept in
+    let d = rw c.if-not-branch.false at c.in_ok-make_decision.ensures.decided in
+    let q = not-err c.in_ok-propagated.propagated _ _ c.in_default.not-Err c.in_ok-propagated.ensures.ends in
+    let W = c.propagate.new.watchlists in
+    let p = propagated-decided W (after g here.In_ok-propagated) d.0 (propagated g here.In_ok-propagated).well q.1.1 c.in_ok-propagated.ensures.propagated in
+    let y = c.make_decision.new.ctx in
+    let watched = subst (λ X. IsPropagated X (view y)) (sym (ap (λ (x : Context g.row.A.Denot). x.watchlists) k)) (subst (IsPropagated W) (sym d.2) p) in
     record {
-      ready = finding-ready c.levels.invariant.ready f (ap (λ (x : Context g.row.A.Denot). x.analyze_conflict.var_count) k) (ap (λ (x : Context g.row.A.Denot). x.tmp_flags.flags.items) k) c.in_ok-make_decision.ensures.decidable;
+      ready = finding-ready c.levels.invariant.ready f watched (ap (λ (x : Context g.row.A.Denot). x.analyze_conflict.var_count) k) (ap (λ (x : Context g.row.A.Denot). x.tmp_flags.flags.items) k) c.in_ok-make_decision.ensures.decidable;
       grows = grows-trans (view c.args.ctx.now) (view c.levels.ctx) (view c.make_decision.new.ctx) c.levels.invariant.grows f.grows;
       state = ap (λ (x : Context g.row.A.Denot). x.solver_state) k ∙ c.levels.invariant.state;
       last = c.in_ok-make_decision.ensures.last ∙ c.in_ok-propagated.ensures.last ∙ c.levels.invariant.last;

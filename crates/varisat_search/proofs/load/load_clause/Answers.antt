@@ -3,7 +3,7 @@ use Rattle.varisat_theory.specs.Membership.{◌∈◌}
 use Rattle.varisat_theory.specs.Searches.{IsTautology}
 use Rattle.varisat_search.specs.declared.context.Context.{Context}
 use Rattle.varisat_search.specs.Contexts.{view}
-use Rattle.varisat_search.proofs.LoadContext.{Loading, loading-restarted, loading-inside, loaded-tautology, loaded-satisfied, loaded-added}
+use Rattle.varisat_search.proofs.LoadContext.{Loading, loading-restarted, loading-propagated, loading-inside, loaded-tautology, loaded-satisfied, loaded-added}
 use Rattle.varisat_search.proofs.load.load_clause.Given.{Over}
 use Rattle.varisat_search.proofs.load.load_clause.Goals.{In_ok-copy_distinct}
 use Rattle.varisat_search.proofs.load.load_clause.Goals as goal
@@ -25,6 +25,7 @@ loading g c = record {
   units = c.full_restart.ensures.undone.units;
   analysis = ap (λ (x : Context g.row.A.Denot). x.analyze_conflict.var_count) c.full_restart.ensures.undone.kept;
   flags = ap (λ (x : Context g.row.A.Denot). x.tmp_flags.flags.items) c.full_restart.ensures.undone.kept;
+  watches = ap (λ (x : Context g.row.A.Denot). x.watchlists) c.full_restart.ensures.undone.kept;
   schedule = record { schedule = ap (λ (x : Context g.row.A.Denot). x.schedule) c.full_restart.ensures.undone.kept; solver_config = ap (λ (x : Context g.row.A.Denot). x.solver_config) c.full_restart.ensures.undone.kept };
   distinct = c.in_ok-copy_distinct.ensures.distinct;
   literals = c.in_ok-copy_distinct.ensures.same;
@@ -51,6 +52,8 @@ add_distinct-requires g c =
     let d = loading g (goal.at.add_distinct-requires g c).In_ok-copy_distinct in
     record {
       well = (loading-restarted d).well;
+      propagated = loading-propagated d;
+      undecided = (loading-restarted d).undecided;
       in_range = loading-inside d;
       untrue = λ l i t. let b = c.if-is_satisfied.ensures.1 (l, subst (λ ys. l ∈ ys) (sym c.deref-2.ensures.value) i, t) in cc;
     }
@@ -59,5 +62,5 @@ pub returns : goal.returns
 returns g c =
     let e = c.in_ok-add_distinct.ensures in
     let k = c.add_distinct.ensures.kept in
-    let o = loaded-added (loading g (goal.at.returns g c).In_ok-copy_distinct) c.add_distinct.new.ctx k e.state e.units e.last e.added in
+    let o = loaded-added (loading g (goal.at.returns g c).In_ok-copy_distinct) c.add_distinct.new.ctx k e.propagated e.state e.units e.last e.added in
     record { ready = o.ready; unsat = λ e. absurd (c.in_default.not-Unsat e); lines = o.lines; last = λ n. o.last; state = λ n. o.state; count = o.count; units = o.units; undecided = λ n. o.undecided; decidable = o.decidable; schedule = o.schedule }

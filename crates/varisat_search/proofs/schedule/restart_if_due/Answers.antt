@@ -20,7 +20,7 @@ returns-clause-restarted g c = restarts g (goal.at.returns-clause-restarted g c)
 pub returns-clause-ready : goal.returns-clause-ready
 returns-clause-ready g c =
     let k = c.restart.ensures.kept in
-    begun-ready c.args.ctx.now.schedule c.args.ctx.now c.restart.new.ctx c.requires.ready (restarts g (goal.at.returns-clause-ready g c).After-restart) (ap (λ (x : Context g.row.A.Denot). x.analyze_conflict.var_count) k) (ap (λ (x : Context g.row.A.Denot). x.tmp_flags.flags.items) k) c.restart.ensures.entries c.restart.ensures.decidable
+    begun-ready c.args.ctx.now.schedule c.args.ctx.now c.restart.new.ctx c.requires.ready (restarts g (goal.at.returns-clause-ready g c).After-restart) (ap (λ (x : Context g.row.A.Denot). x.analyze_conflict.var_count) k) (ap (λ (x : Context g.row.A.Denot). x.tmp_flags.flags.items) k) (ap (λ (x : Context g.row.A.Denot). x.watchlists) k) c.restart.ensures.entries c.restart.ensures.decidable
 
 pub returns-clause-saved : goal.returns-clause-saved
 returns-clause-saved g c = record {

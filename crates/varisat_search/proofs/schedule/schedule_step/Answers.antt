@@ -10,13 +10,13 @@ returns-clause-steps g c =
     let r = c.requires.ready in
     let t = c.conflict_step.new.ctx in
     let (lines, k) = c.in_ok-conflict_step.ensures.steps in
-    (lines, begun-steps x.schedule (view x) (view c.restart_if_due.new.ctx) r.well r.settled r.propagated c.restart_if_due.ensures.restarted (view t) (outcome_of (view t) t.solver_state.sat_state) lines k)
+    (lines, begun-steps x.schedule (view x) (view c.restart_if_due.new.ctx) r.well r.settled c.restart_if_due.ensures.restarted (view t) (outcome_of (view t) t.solver_state.sat_state) lines k)
 
 pub returns-clause-rises : goal.returns-clause-rises
 returns-clause-rises g c e =
     let x = c.args.ctx.now in
     let r = c.requires.ready in
-    begun-rises x.schedule (view x) (view c.restart_if_due.new.ctx) r.well r.settled r.propagated c.restart_if_due.ensures.restarted (view c.conflict_step.new.ctx) (c.in_ok-conflict_step.ensures.rises e)
+    begun-rises x.schedule (view x) (view c.restart_if_due.new.ctx) r.well r.settled c.restart_if_due.ensures.restarted (view c.conflict_step.new.ctx) (c.in_ok-conflict_step.ensures.rises e)
 
 pub returns-clause-decidable : goal.returns-clause-decidable
 returns-clause-decidable g c =

@@ -1,78 +1,95 @@
-use Rattle.std.proofs.Common.{◌∙◌, refl, sym, subst, arith}
-use Rattle.varisat_prop.specs.Stored.{IsPlace}
-use Rattle.varisat_prop.specs.View.{view_of}
-use Rattle.varisat_prop.proofs.AllocClauses.{numbered-place, reordered-place}
-use Rattle.varisat_prop.specs.Looks.{IsLook}
-use Rattle.varisat_prop.specs.declared.prop.propagation.Look.TheVariants as look
-use Rattle.varisat_prop.proofs.PropagateLooks.{Scan, scan-start, propagates-refl, propagates-trans, scan-implied, scan-quiet, scan-complete, conflicted, scan-smaller, propagates-ended, ended}
-use Rattle.varisat_prop.proofs.PropagateEnd.{propagated-grows, propagated-ended}
+use Rattle.std.proofs.Common.{◌≡◌, ℕ, suc, ◌+◌, ◌<◌, ◌≤◌, length, get_or, refl, add-one, sym, ap, ◌∙◌, subst, arith}
+use Rattle.std.proofs.lemmas.Option.{slice_get_within, get_or_from_slice_get}
+use Rattle.varisat_prop.specs.View.{view_of, literal_at}
+use Rattle.varisat_prop.specs.Parts.{TrailParts}
+use Rattle.varisat_prop.specs.Looks.{Propagates}
+use Rattle.varisat_prop.proofs.PropagateSteps.{propagates-refl, propagates-trans}
+use Rattle.varisat_prop.proofs.LongVisited.{listed}
+use Rattle.varisat_prop.proofs.TrailValues.{trail-short}
+use Rattle.varisat_prop.proofs.ViewGrowth.{grows-longer}
+use Rattle.varisat_prop.specs.Watches.{IsSettledTo, IsWatched}
+use Rattle.varisat_prop.proofs.WatchSettled.{settled-complete}
+use Rattle.varisat_prop.proofs.PropagateQueue.{popped, at-end, watched-next, propagates-next, watched-enabled, watched-propagated}
 use Rattle.varisat_prop.proofs.prop.propagation.propagate.Goals as goal
-use Rattle.varisat_prop.proofs.prop.propagation.propagate.Goals.{in-Implied, in-Quiet}
 
-pub returns-in-Conflicting-clause-propagates : goal.returns-in-Conflicting-clause-propagates
-returns-in-Conflicting-clause-propagates g c =
-    let places = c.len-place-end.ensures in
-    (conflicted _ _ _ _ _ _ _ _ _ c.rounds.invariant.propagates c.rounds.invariant.head c.loop-place.invariant.scan places.places places.count c.loop-place-test.true c.from_place-cref.ensures c.in_ok-look_at.ensures.look c.in-Conflicting.is).propagates
+pub queue-smaller : goal.queue-smaller
+queue-smaller g c =
+    let s = view_of c.args.clause_alloc.now c.args.assignment.now c.args.trail.now c.args.impl_graph.now in
+    let t = view_of c.queue.clause_alloc c.queue.assignment c.queue.trail c.queue.impl_graph in
+    let q = c.queue.trail.queue_head in
+    let u = view_of c.propagate_long.new.clause_alloc c.propagate_long.new.assignment c.propagate_long.new.trail c.propagate_long.new.impl_graph in
+    let p = c.in_ok-propagate_long.ensures.propagates in
+    let k = c.propagate_long.new.trail.queue_head in
+    let same : k ≡ q = c.in_ok-propagate_long.ensures.queue.0 in
+    let inside : q < length t.trail = slice_get_within t.trail q c.in-Some.lit (sym c.in-Some.ensures) in
+    let more = grows-longer t u p.grows in
+    let inside' : k < length u.trail = omega (arith, inside, more, same) in
+    let pop = popped u.trail k c.pop_queue.result (c.pop_queue.new.self ≡ c.propagate_long.new.trail) (λ l. c.pop_queue.new.self ≡ record c.propagate_long.new.trail { queue_head = k + 1 }) c.pop_queue.ensures.head inside' c.pop_queue.ensures.taken in
+    let next = ap (λ (x : TrailParts). x.queue_head) pop in
+    let short = trail-short u p.well in
+    let count = p.grows.count in
+    omega (arith, next, short, count, inside', same)
 
-pub returns-in-Conflicting-clause-ends : goal.returns-in-Conflicting-clause-ends
-returns-in-Conflicting-clause-ends g c =
-    let places = c.len-place-end.ensures in
-    let f = conflicted _ _ _ _ _ _ _ _ _ c.rounds.invariant.propagates c.rounds.invariant.head c.loop-place.invariant.scan places.places places.count c.loop-place-test.true c.from_place-cref.ensures c.in_ok-look_at.ensures.look c.in-Conflicting.is in
-    (f.within, f.is_false)
+pub queue-preserved : goal.queue-preserved
+queue-preserved g c =
+    let s = view_of c.args.clause_alloc.now c.args.assignment.now c.args.trail.now c.args.impl_graph.now in
+    let t = view_of c.queue.clause_alloc c.queue.assignment c.queue.trail c.queue.impl_graph in
+    let q = c.queue.trail.queue_head in
+    let u = view_of c.propagate_long.new.clause_alloc c.propagate_long.new.assignment c.propagate_long.new.trail c.propagate_long.new.impl_graph in
+    let p = c.in_ok-propagate_long.ensures.propagates in
+    let k = c.propagate_long.new.trail.queue_head in
+    let same : k ≡ q = c.in_ok-propagate_long.ensures.queue.0 in
+    let inside : q < length t.trail = slice_get_within t.trail q c.in-Some.lit (sym c.in-Some.ensures) in
+    let more = grows-longer t u p.grows in
+    let inside' : k < length u.trail = omega (arith, inside, more, same) in
+    let pop = popped u.trail k c.pop_queue.result (c.pop_queue.new.self ≡ c.propagate_long.new.trail) (λ l. c.pop_queue.new.self ≡ record c.propagate_long.new.trail { queue_head = k + 1 }) c.pop_queue.ensures.head inside' c.pop_queue.ensures.taken in
+    let st = rw c.in-Ok.is at c.in_ok-propagate_long.ensures.ends in
+    record {
+      propagates = subst (λ (x : TrailParts). Propagates s (view_of c.propagate_long.new.clause_alloc c.propagate_long.new.assignment x c.propagate_long.new.impl_graph)) (sym pop) (propagates-next s u k (propagates-trans s t u c.queue.invariant.propagates p) refl inside');
+      watched = subst (λ (x : TrailParts). IsWatched c.propagate_long.new.watchlists (view_of c.propagate_long.new.clause_alloc c.propagate_long.new.assignment x c.propagate_long.new.impl_graph) x.queue_head) (sym pop) (watched-next c.propagate_long.new.watchlists u k c.in_ok-propagate_long.ensures.watched inside' st);
+      last = c.in_ok-propagate_long.ensures.last ∙ c.queue.invariant.last;
+      units = ap (λ (x : TrailParts). x.units_removed) pop ∙ c.in_ok-propagate_long.ensures.queue.1 ∙ c.queue.invariant.units;
+    }
 
-pub returns-in-Conflicting-clause-propagated : goal.returns-in-Conflicting-clause-propagated
-returns-in-Conflicting-clause-propagated g c =
-    let places = c.len-place-end.ensures in
-    let f = conflicted _ _ _ _ _ _ _ _ _ c.rounds.invariant.propagates c.rounds.invariant.head c.loop-place.invariant.scan places.places places.count c.loop-place-test.true c.from_place-cref.ensures c.in_ok-look_at.ensures.look c.in-Conflicting.is in
-    propagated-grows _ _ c.requires.well f.propagates.grows f.head c.requires.propagated
+pub returns-in-Err-clause-propagates : goal.returns-in-Err-clause-propagates
+returns-in-Err-clause-propagates g c =
+    let s = view_of c.args.clause_alloc.now c.args.assignment.now c.args.trail.now c.args.impl_graph.now in
+    let t = view_of c.queue.clause_alloc c.queue.assignment c.queue.trail c.queue.impl_graph in
+    let q = c.queue.trail.queue_head in
+    let u = view_of c.propagate_long.new.clause_alloc c.propagate_long.new.assignment c.propagate_long.new.trail c.propagate_long.new.impl_graph in
+    let p = c.in_ok-propagate_long.ensures.propagates in
+    propagates-trans s t u c.queue.invariant.propagates p
 
-pub loop-place-preserved : goal.loop-place-preserved
-loop-place-preserved g c =
-    let r = view_of c.rounds.clause_alloc c.rounds.assignment c.rounds.trail c.rounds.impl_graph in
-    let s = view_of c.loop-place.clause_alloc c.loop-place.assignment c.loop-place.trail c.loop-place.impl_graph in
-    let t = view_of c.look_at.new.clause_alloc c.look_at.new.assignment c.look_at.new.trail c.look_at.new.impl_graph in
-    elim c.match-branch-2.branch [
-      | in-Implied w ↦ rw w.changed-is (record { scan = scan-implied r s t c.loop-place.changed c.loop-place.place c.loop-place.invariant.scan (subst (λ x. IsLook s t x look.Implied) c.from_place-cref.ensures (subst (IsLook s t c.from_place-cref.result) w.in-Implied.is c.in_ok-look_at.ensures.look)); last = c.in_ok-look_at.ensures.last ∙ c.loop-place.invariant.last; units = c.in_ok-look_at.ensures.units ∙ c.loop-place.invariant.units })
-      | in-Quiet w ↦ rw w.changed-is (record { scan = scan-quiet r s t c.loop-place.changed c.loop-place.place c.loop-place.invariant.scan (subst (λ x. IsLook s t x look.Quiet) c.from_place-cref.ensures (subst (IsLook s t c.from_place-cref.result) w.in-Quiet.is c.in_ok-look_at.ensures.look)); last = c.in_ok-look_at.ensures.last ∙ c.loop-place.invariant.last; units = c.in_ok-look_at.ensures.units ∙ c.loop-place.invariant.units })
-    ]
+pub returns-clause-ends : goal.returns-clause-ends
+returns-clause-ends g c =
+    let s = view_of c.args.clause_alloc.now c.args.assignment.now c.args.trail.now c.args.impl_graph.now in
+    let t = view_of c.queue.clause_alloc c.queue.assignment c.queue.trail c.queue.impl_graph in
+    let q = c.queue.trail.queue_head in
+    let past : length t.trail ≤ q = at-end t.trail q c.queue_head.result c.queue_head.ensures c.in_default.is in
+    let w = c.queue.invariant.watched in
+    let e : q ≡ length t.trail = (let n = w.within in omega (arith, n, past)) in
+    (settled-complete t c.queue.invariant.propagates.well (subst (IsSettledTo t) e w.settled), e)
 
-pub returns-then-not-changed-clause-ends : goal.returns-then-not-changed-clause-ends
-returns-then-not-changed-clause-ends g c =
-    let l = c.len-place-end.ensures.count in
-    rw c.end_queue.ensures (scan-complete _ _ _ _ c.loop-place.invariant.scan c.if-not-changed.true c.len-place-end.ensures.places (omega (arith, c.loop-place-test.false, l)), refl)
+pub returns-in-Err-clause-propagated : goal.returns-in-Err-clause-propagated
+returns-in-Err-clause-propagated g c = watched-propagated _ _ c.in_ok-propagate_long.ensures.watched
 
-pub returns-then-not-changed-clause-propagates : goal.returns-then-not-changed-clause-propagates
-returns-then-not-changed-clause-propagates g c =
-    rw c.end_queue.ensures (propagates-ended _ _ (propagates-trans _ _ _ c.rounds.invariant.propagates c.loop-place.invariant.scan.propagates))
+pub returns-clause-propagated : goal.returns-clause-propagated
+returns-clause-propagated g c = watched-propagated _ _ c.queue.invariant.watched
 
-pub returns-then-not-changed-clause-propagated : goal.returns-then-not-changed-clause-propagated
-returns-then-not-changed-clause-propagated g c =
-    let s = view_of c.loop-place.clause_alloc c.loop-place.assignment c.loop-place.trail c.loop-place.impl_graph in
-    let l = c.len-place-end.ensures.count in
-    rw c.end_queue.ensures (propagated-ended (ended s) refl (scan-complete _ s _ _ c.loop-place.invariant.scan c.if-not-changed.true c.len-place-end.ensures.places (omega (arith, c.loop-place-test.false, l))))
+pub enable_watchlists-requires-clause-within : goal.enable_watchlists-requires-clause-within
+enable_watchlists-requires-clause-within g c = λ d h l m.
+    let s = view_of c.args.clause_alloc.now c.args.assignment.now c.args.trail.now c.args.impl_graph.now in
+    let n = listed l (length s.values) (c.requires.well.in_range d h l m) in
+    let o = c.requires.propagated.lists in
+    omega (arith, n, o)
 
-pub look_at-requires-clause-within : goal.look_at-requires-clause-within
-look_at-requires-clause-within g c =
-    let h = numbered-place _ c.loop-place.place c.len-place-end.ensures.places (omega (arith, c.loop-place-test.true, c.len-place-end.ensures.count)) in
-    subst (IsPlace c.loop-place.clause_alloc) (sym c.from_place-cref.ensures) (reordered-place _ c.loop-place.clause_alloc c.loop-place.place c.loop-place.invariant.scan.propagates.grows.clauses h)
-
-pub rounds-smaller : goal.rounds-smaller
-rounds-smaller g c =
-    let r = view_of c.rounds.clause_alloc c.rounds.assignment c.rounds.trail c.rounds.impl_graph in
-    let s = view_of c.loop-place.clause_alloc c.loop-place.assignment c.loop-place.trail c.loop-place.impl_graph in
-    let d = scan-smaller r s c.loop-place.place (subst (λ b. Scan r s b c.loop-place.place) c.if-not-changed.false c.loop-place.invariant.scan) in
-    omega (arith, d.0, d.1, d.2)
-
-pub rounds-preserved : goal.rounds-preserved
-rounds-preserved g c = record {
-  propagates = propagates-trans _ _ _ c.rounds.invariant.propagates c.loop-place.invariant.scan.propagates;
-  head = c.loop-place.invariant.scan.head ∙ c.rounds.invariant.head;
-  last = c.loop-place.invariant.last;
-  units = c.loop-place.invariant.units;
-}
-
-pub rounds-init : goal.rounds-init
-rounds-init g c = record { propagates = propagates-refl _ c.requires.well; head = refl; last = refl; units = refl }
-
-pub loop-place-init : goal.loop-place-init
-loop-place-init g c = record { scan = scan-start _ c.rounds.invariant.propagates.well; last = c.rounds.invariant.last; units = c.rounds.invariant.units }
+pub queue-init : goal.queue-init
+queue-init g c =
+    let s = view_of c.args.clause_alloc.now c.args.assignment.now c.args.trail.now c.args.impl_graph.now in
+    let e = c.in_ok-enable_watchlists.ensures in
+    record {
+      propagates = propagates-refl s c.requires.well;
+      watched = watched-enabled c.args.watchlists.now c.enable_watchlists.new.watchlists s c.requires.well c.requires.propagated e.enabled e.count e.same e.watching;
+      last = refl;
+      units = refl;
+    }

@@ -1,0 +1,228 @@
+-- The watches of one literal, of which some are kept and the rest is still to be visited.
+use Rattle.std.proofs.Common.{◌≡◌, ◌≢◌, ℕ, zero, suc, ◌+◌, ◌<◌, ◌≤◌, ◌*◌, ◌++◌, List, [], ◌∷◌, length, get_or, set, take, drop, ◌⊎◌, inl, inr, ⊎_elim, refl, sym, ap, ◌∙◌, subst, arith, get_or-set_same, get_or-set_other, length-set, length-append, append_assoc}
+use Rattle.std.proofs.lemmas.List.{take_more_set, drop-set-lt, drop_more, set-set, set-get_or, get_or_append_left}
+use Rattle.varisat_theory.specs.Membership.{◌∈◌}
+use Rattle.varisat_theory.specs.Literals.{Literal, Clause, opposite}
+use Rattle.varisat_theory.specs.Propagation.{IsFalse}
+use Rattle.varisat_theory.proofs.Values.{opposite_twice}
+use Rattle.varisat_theory.proofs.Members.{equal_or_not, ∈-append_left, ∈-append_right, ∈-append_cases}
+use Rattle.varisat_prop.specs.View.{View, IsTrueIn, clause_at, literal_at, decision_at, WellFormed}
+use Rattle.varisat_prop.specs.Looks.{Propagates}
+use Rattle.varisat_prop.proofs.ViewGrowth.{grows-longer, literal-stays}
+use Rattle.varisat_prop.proofs.PropagateSteps.{propagates-trans}
+use Rattle.varisat_prop.specs.declared.prop.watch.Watch.{Watch}
+use Rattle.varisat_prop.specs.declared.prop.long.Visit.TheVariants as visit
+use Rattle.varisat_prop.specs.Stored.{IsPlace}
+use Rattle.varisat_prop.proofs.AllocClauses.{reordered-at, reordered-place, reordered-place-back}
+use Rattle.varisat_prop.specs.Watches.{Watches, list_of, with_list, at, HasWatch, IsWatching, IsSatisfied, IsSettledTo, IsWatched}
+use Rattle.varisat_prop.specs.Visits.{AddsWatches, IsVisited, IsVisit}
+use Rattle.varisat_prop.proofs.WatchSettled.{IsSettledBut, settled-next}
+
+pub record Listing (s t : View) (W : Watches) (q : ℕ) (l : Literal) (kept rest : List Watch) : Type 0 where
+  pub propagates : Propagates s t
+  pub watched : IsWatched (with_list W l (kept ++ rest)) t q
+  pub but : IsSettledBut t l rest
+  pub head : literal_at t q ≡ l
+  pub within : q < length t.trail
+  pub inside : l < length W.lists
+
+-- all watches are to be visited
+pub listing-start : (s : View) (W : Watches) (q : ℕ) (l : Literal) (rest : List Watch) → Propagates s s → IsWatched (with_list W l rest) s q → literal_at s q ≡ l → q < length s.trail → l < length W.lists → Listing s s W q l [] rest
+listing-start s W q l rest p w h a i = record {
+  propagates = p;
+  watched = w;
+  but = λ k j b c e. inl (subst (λ ws. HasWatch ws k) (get_or-set_same W.lists l rest [] i) (subst (λ x. HasWatch (list_of (with_list W l rest) x) k) (sym e) (w.watching.watched k j b c)));
+  head = h;
+  within = a;
+  inside = i;
+}
+
+-- what a visit needs of its watch
+module _ (s t : View) (W : Watches) (q : ℕ) (l : Literal) (kept rest : List Watch) (w : Watch) (g : Listing s t W q l kept (w ∷ rest)) where
+  pub watch-known : IsPlace t.clauses w.cref × (w.blocking ∈ clause_at t w.cref)
+  watch-known = g.watched.watching.known l w (subst (λ ws. w ∈ ws) (sym (get_or-set_same W.lists l (kept ++ w ∷ rest) [] g.inside)) (∈-append_right w kept (w ∷ rest) (inl refl)))
+
+  pub watch-lists : length W.lists ≡ 2 * length t.values
+  watch-lists = sym (length-set W.lists l (kept ++ w ∷ rest)) ∙ g.watched.lists
+
+  pub watch-true : IsTrueIn t l
+  watch-true = subst (IsTrueIn t) g.head (g.propagates.well.is_true q g.within)
+
+  -- after the visit, with what is kept then
+  module _ (u : View) (V : Watches) (kept' : List Watch) (v : IsVisited t u W V w.cref)
+      (old : (x : Watch) → x ∈ kept → x ∈ kept')
+      (new : (x : Watch) → x ∈ kept' → (x ∈ kept) ⊎ ((x.cref ≡ w.cref) × (x.blocking ∈ clause_at u w.cref)))
+      (own : (j : ℕ) → j < 2 → (l ≡ opposite (at (clause_at u w.cref) j) → ⊥) ⊎ HasWatch kept' w.cref) where
+    abbrev i : ℕ
+    i = w.cref
+
+    abbrev A : Watches
+    A = with_list W l (kept ++ w ∷ rest)
+
+    abbrev B : Watches
+    B = with_list V l (kept' ++ rest)
+
+    inside' : l < length V.lists
+    inside' = let n = v.adds.count in let m = g.inside in omega (arith, n, m)
+
+    place-on : (k : ℕ) → IsPlace t.clauses k → IsPlace u.clauses k
+    place-on k h = reordered-place t.clauses u.clauses k v.propagates.grows.clauses h
+
+    place-back : (k : ℕ) → IsPlace u.clauses k → IsPlace t.clauses k
+    place-back k h = reordered-place-back t.clauses u.clauses k v.propagates.grows.clauses h
+
+    own-list : list_of B l ≡ kept' ++ rest
+    own-list = get_or-set_same V.lists l (kept' ++ rest) [] inside'
+
+    other-list : (x : Literal) → x ≢ l → list_of B x ≡ list_of V x
+    other-list x n = get_or-set_other V.lists l x (kept' ++ rest) [] n
+
+    -- a watch of another clause stays, and in another list each watch stays
+    has-other : (x : Literal) (k : ℕ) → x ≢ l → HasWatch (list_of A x) k → HasWatch (list_of B x) k
+    has-other x k n (y, h, e) = (y, subst (λ ws. y ∈ ws) (sym (other-list x n)) (v.adds.old x y (subst (λ ws. y ∈ ws) (get_or-set_other W.lists l x (kept ++ w ∷ rest) [] n) h)), e)
+
+    has-own : (k : ℕ) → k ≢ i → HasWatch (list_of A l) k → HasWatch (list_of B l) k
+    has-own k n (y, h, e) = (
+      y,
+      subst (λ ws. y ∈ ws) (sym own-list) (⊎_elim
+          (λ z. ∈-append_left y kept' rest (old y z))
+          (λ z. ⊎_elim (λ r. absurd (n (sym e ∙ ap (λ o. o.cref) r))) (λ r. ∈-append_right y kept' rest r) z)
+          (∈-append_cases y kept (w ∷ rest) (subst (λ ws. y ∈ ws) (get_or-set_same W.lists l (kept ++ w ∷ rest) [] g.inside) h))),
+      e,
+    )
+
+    has : (x : Literal) (k : ℕ) → k ≢ i → HasWatch (list_of A x) k → HasWatch (list_of B x) k
+    has x k n h = ⊎_elim (λ e. subst (λ y. HasWatch (list_of B y) k) (sym e) (has-own k n (subst (λ y. HasWatch (list_of A y) k) e h))) (λ m. has-other x k m h) (equal_or_not x l)
+
+    in-own : (ws : List Watch) (k : ℕ) → ws ≡ kept' → HasWatch ws k → HasWatch (list_of B l) k
+    in-own ws k e (y, h, f) = (y, subst (λ zs. y ∈ zs) (sym own-list) (∈-append_left y kept' rest (subst (λ zs. y ∈ zs) e h)), f)
+
+    -- the visited clause is watched
+    has-visited : (j : ℕ) → j < 2 → HasWatch (list_of B (opposite (at (clause_at u i) j))) i
+    has-visited j b =
+        ⊎_elim
+        (λ e. ⊎_elim (λ n. absurd (n (sym e))) (λ h. subst (λ y. HasWatch (list_of B y) i) (sym e) (in-own kept' i refl h)) (own j b))
+        (λ m. ⊎_elim
+        (λ (h, c, e). subst (λ y. HasWatch (list_of B (opposite y)) i) (sym e) (has-other (opposite (at (clause_at t i) h)) i (λ z. m (ap opposite e ∙ z)) (g.watched.watching.watched i h watch-known.0 c)))
+        (λ (y, h, e). (y, subst (λ ws. y ∈ ws) (sym (other-list (opposite (at (clause_at u i) j)) m)) h, e))
+        (v.pair j b))
+        (equal_or_not (opposite (at (clause_at u i) j)) l)
+
+    same-in : (k : ℕ) (m : Literal) → m ∈ clause_at t k → m ∈ clause_at u k
+    same-in k m n = (reordered-at t.clauses u.clauses k v.propagates.grows.clauses).1 m n
+
+    known-old : (x : Literal) (y : Watch) → y ∈ list_of A x → IsPlace u.clauses y.cref × (y.blocking ∈ clause_at u y.cref)
+    known-old x y h = let (a, b) = g.watched.watching.known x y h in (place-on y.cref a, same-in y.cref y.blocking b)
+
+    known-new : (y : Watch) → (y.cref ≡ i) × (y.blocking ∈ clause_at u i) → IsPlace u.clauses y.cref × (y.blocking ∈ clause_at u y.cref)
+    known-new y (e, h) = (subst (IsPlace u.clauses) (sym e) (place-on i watch-known.0), subst (λ k. y.blocking ∈ clause_at u k) (sym e) h)
+
+    known-is : (x : Literal) (y : Watch) → y ∈ list_of B x → IsPlace u.clauses y.cref × (y.blocking ∈ clause_at u y.cref)
+    known-is x y h =
+        ⊎_elim
+        (λ e. ⊎_elim
+        (λ z. ⊎_elim
+        (λ r. known-old l y (subst (λ ws. y ∈ ws) (sym (get_or-set_same W.lists l (kept ++ w ∷ rest) [] g.inside)) (∈-append_left y kept (w ∷ rest) r)))
+        (known-new y)
+        (new y z))
+        (λ z. known-old l y (subst (λ ws. y ∈ ws) (sym (get_or-set_same W.lists l (kept ++ w ∷ rest) [] g.inside)) (∈-append_right y kept (w ∷ rest) (inr z))))
+        (∈-append_cases y kept' rest (subst (λ ws. y ∈ ws) own-list (subst (λ z. y ∈ list_of B z) e h))))
+        (λ n. ⊎_elim
+        (λ r. known-old x y (subst (λ ws. y ∈ ws) (sym (get_or-set_other W.lists l x (kept ++ w ∷ rest) [] n)) r))
+        (known-new y)
+        (v.adds.new x y (subst (λ ws. y ∈ ws) (other-list x n) h)))
+        (equal_or_not x l)
+
+    pub head-on : literal_at u q ≡ l
+    head-on = literal-stays t u v.propagates.grows q g.within ∙ g.head
+
+    pub within-on : q < length u.trail
+    within-on = let n = grows-longer t u v.propagates.grows in let m = g.within in omega (arith, n, m)
+
+    pub watched-on : IsWatched B u q
+    watched-on = record {
+      lists = let a = length-set V.lists l (kept' ++ rest) in let b = v.adds.count in let c = watch-lists in let d = v.propagates.grows.count in omega (arith, a, b, c, d);
+      enabled = v.adds.enabled ∙ g.watched.enabled;
+      watching = record {
+        known = known-is;
+        watched = λ k j h b. ⊎_elim
+            (λ e. subst (λ z. HasWatch (list_of B (opposite (at (clause_at u z) j))) z) (sym e) (has-visited j b))
+            (λ n. subst (λ c. HasWatch (list_of B (opposite (at c j))) k) (sym (v.elsewhere k n)) (has (opposite (at (clause_at t k) j)) k n (g.watched.watching.watched k j (place-back k h) b)))
+            (equal_or_not k i);
+      };
+      settled = v.settled q (let n = g.within in omega (arith, n)) g.watched.settled;
+      within = (let n = within-on in omega (arith, n));
+      queue = λ j h. let e = v.propagates.decisions in let n = ap (λ (x : List ℕ). length x) e in let m = ap (λ (x : List ℕ). get_or x j 0) e in let o = g.watched.queue j (omega (arith, h, n)) in omega (arith, o, m);
+    }
+
+    pub listing-on : ((j : ℕ) → j < 2 → l ≡ opposite (at (clause_at u w.cref) j) → IsSatisfied u (clause_at u w.cref)) → Listing s u V q l kept' rest
+    listing-on sat = record {
+      propagates = propagates-trans s t u g.propagates v.propagates;
+      watched = watched-on;
+      but = λ k j h b e. ⊎_elim
+          (λ f. inr (subst (λ z. IsSatisfied u (clause_at u z)) (sym f) (sat j b (subst (λ z. l ≡ opposite (at (clause_at u z) j)) f e))))
+          (λ n. ⊎_elim
+          (λ (y, m, r). ⊎_elim (λ z. absurd (n (sym r ∙ ap (λ o. o.cref) z))) (λ z. inl (y, z, r)) m)
+          (λ (y, m, r). inr (y, (let o = grows-longer t u v.propagates.grows in omega (arith, m, o)), subst (λ z. z ∈ clause_at u k) (sym (literal-stays t u v.propagates.grows y m)) (same-in k (literal_at t y) r)))
+          (g.but k j (place-back k h) b (e ∙ ap (λ c. opposite (at c j)) (v.elsewhere k n))))
+          (equal_or_not k i);
+      head = head-on;
+      within = within-on;
+      inside = inside';
+    }
+
+  -- the watch isn't kept
+  pub listing-dropped : (u : View) (V : Watches) → IsVisited t u W V w.cref → IsVisit u l w.cref visit.Dropped → Listing s u V q l kept rest
+  listing-dropped u V v d =
+      let n : (j : ℕ) → j < 2 → l ≡ opposite (at (clause_at u w.cref) j) → ⊥ = λ j b e. d j b (sym (opposite_twice (at (clause_at u w.cref) j)) ∙ ap opposite (sym e)) in
+      listing-on u V kept v (λ x h. h) (λ x h. inl h) (λ j b. inl (n j b)) (λ j b e. absurd (n j b e))
+
+  -- the watch is kept, with another blocking literal
+  module _ (u : View) (V : Watches) (x : Watch) (v : IsVisited t u W V w.cref) (e : x.cref ≡ w.cref) (h : x.blocking ∈ clause_at u w.cref) where
+    one-in : x ∈ (kept ++ x ∷ [])
+    one-in = ∈-append_right x kept (x ∷ []) (inl refl)
+
+    new-is : (y : Watch) → y ∈ (kept ++ x ∷ []) → (y ∈ kept) ⊎ ((y.cref ≡ w.cref) × (y.blocking ∈ clause_at u w.cref))
+    new-is y m = ⊎_elim inl (λ k. ⊎_elim (λ z. inr (ap (λ o. o.cref) z ∙ e, subst (λ o. o ∈ clause_at u w.cref) (sym (ap (λ o. o.blocking) z)) h)) (λ z. absurd z) k) (∈-append_cases y kept (x ∷ []) m)
+
+    pub listing-kept : IsSatisfied u (clause_at u w.cref) → Listing s u V q l (kept ++ x ∷ []) rest
+    listing-kept sat = listing-on u V (kept ++ x ∷ []) v (λ y m. ∈-append_left y kept (x ∷ []) m) new-is (λ j b. inr (x, one-in, e)) (λ j b f. sat)
+
+    pub watched-kept : IsWatched (with_list V l ((kept ++ x ∷ []) ++ rest)) u q
+    watched-kept = watched-on u V (kept ++ x ∷ []) v (λ y m. ∈-append_left y kept (x ∷ []) m) new-is (λ j b. inr (x, one-in, e))
+
+-- the same by places of the list that the code reads and writes
+module _ (s t : View) (W : Watches) (q : ℕ) (l : Literal) (xs : List Watch) (a r : ℕ) (w : Watch) (g : Listing s t W q l (take a xs) (drop r xs)) (inside : r < length xs) (order : a ≤ r) (e : w ≡ get_or xs r w) where
+  here : drop r xs ≡ w ∷ drop (r + 1) xs
+  here = drop_more xs r w inside ∙ ap (λ y. y ∷ drop (r + 1) xs) (sym e)
+
+  pub next : Listing s t W q l (take a xs) (w ∷ drop (r + 1) xs)
+  next = subst (λ ys. Listing s t W q l (take a xs) ys) here g
+
+  pub code-dropped : (u : View) (V : Watches) → IsVisited t u W V w.cref → IsVisit u l w.cref visit.Dropped → Listing s u V q l (take a xs) (drop (r + 1) xs)
+  code-dropped u V v d = listing-dropped s t W q l (take a xs) (drop (r + 1) xs) w next u V v d
+
+  module _ (u : View) (V : Watches) (x : Watch) (v : IsVisited t u W V w.cref) (c : x.cref ≡ w.cref) where
+    kept-is : take (a + 1) (set xs a x) ≡ take a xs ++ x ∷ []
+    kept-is = take_more_set xs a x (omega (arith, inside, order))
+
+    rest-is : drop (r + 1) (set xs a x) ≡ drop (r + 1) xs
+    rest-is = drop-set-lt (r + 1) xs a x (omega (arith, order))
+
+    pub code-kept : IsVisit u l w.cref (visit.Keep x.blocking) → Listing s u V q l (take (a + 1) (set xs a x)) (drop (r + 1) (set xs a x))
+    code-kept d =
+        subst (λ ys. Listing s u V q l ys (drop (r + 1) (set xs a x))) (sym kept-is) (subst (λ ys. Listing s u V q l (take a xs ++ x ∷ []) ys) (sym rest-is)
+        (listing-kept s t W q l (take a xs) (drop (r + 1) xs) w next u V x v c d.0 d.1))
+
+    pub code-conflict : IsVisit u l w.cref (visit.Conflicting x.blocking) → IsWatched (with_list V l (take (a + 1) (set xs a x) ++ drop (r + 1) (set xs a x))) u q × Propagates s u × IsPlace u.clauses w.cref × IsFalse u.trail (clause_at u w.cref)
+    code-conflict d = (
+      subst (λ ys. IsWatched (with_list V l (ys ++ drop (r + 1) (set xs a x))) u q) (sym kept-is) (subst (λ ys. IsWatched (with_list V l ((take a xs ++ x ∷ []) ++ ys)) u q) (sym rest-is)
+          (watched-kept s t W q l (take a xs) (drop (r + 1) xs) w next u V x v c d.0)),
+      propagates-trans s t u g.propagates v.propagates,
+      reordered-place t.clauses u.clauses w.cref v.propagates.grows.clauses (watch-known s t W q l (take a xs) (drop (r + 1) xs) w next).0,
+      d.1,
+    )
+
+-- all watches were visited
+pub listing-end : (s t : View) (W : Watches) (q : ℕ) (l : Literal) (kept rest : List Watch) → Listing s t W q l kept rest → rest ≡ [] → IsSettledTo t (suc q)
+listing-end s t W q l kept rest g e = settled-next t q l g.head g.watched.queue g.watched.settled (subst (λ ws. IsSettledBut t l ws) e g.but)

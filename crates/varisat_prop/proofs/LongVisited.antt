@@ -1,0 +1,285 @@
+-- What a visit of a watch keeps, by what it finds.
+use Rattle.std.proofs.Common.{◌≡◌, ◌≢◌, ℕ, zero, suc, ◌<◌, ◌≤◌, ◌*◌, ◌++◌, List, [], ◌∷◌, length, get_or, set, None, ◌⊎◌, inl, inr, ⊎_elim, refl, sym, ap, ◌∙◌, subst, arith, get_or-set_same, get_or-set_other, length-set, length-append}
+use Rattle.std.proofs.lemmas.List.{get_or_append_left}
+use Rattle.varisat_theory.specs.Membership.{◌∈◌, SameSet, IsDistinct}
+use Rattle.varisat_theory.specs.Literals.{Literal, Clause, opposite, variable_of}
+use Rattle.varisat_theory.specs.Propagation.{IsFalse}
+use Rattle.varisat_theory.proofs.Values.{opposite_twice}
+use Rattle.varisat_theory.proofs.Places.{∈-get_or, place_in}
+use Rattle.varisat_theory.proofs.Members.{equal_or_not, ∈-append_left, ∈-append_right, ∈-append_cases}
+use Rattle.varisat_prop.specs.declared.prop.graph.Reason.TheVariants as reason
+use Rattle.varisat_prop.specs.View.{View, IsTrueIn, clause_at, literal_at, node_at, WellFormed}
+use Rattle.varisat_prop.specs.Changes.{enqueued}
+use Rattle.varisat_prop.specs.Looks.{Propagates}
+use Rattle.varisat_prop.proofs.LiteralValues.{made-none, made-clash}
+use Rattle.varisat_prop.proofs.TrailValues.{on-trail}
+use Rattle.varisat_prop.proofs.PropagateSteps.{propagates-refl, propagates-trans}
+use Rattle.varisat_prop.proofs.TrailExtend.{ext-length, literal-new}
+use Rattle.varisat_prop.proofs.EnqueueAssignment.{MayImply, enqueued-well, ext-grows}
+use Rattle.varisat_prop.proofs.ViewGrowth.{append-nil}
+use Rattle.varisat_prop.proofs.DistinctPlaces.{distinct-places}
+use Rattle.varisat_prop.specs.declared.prop.watch.Watch.{Watch}
+use Rattle.varisat_prop.specs.declared.prop.long.Found.{Found}
+use Rattle.varisat_prop.specs.declared.prop.long.Found.TheVariants as found
+use Rattle.varisat_prop.specs.declared.prop.long.Visit.{Visit}
+use Rattle.varisat_prop.specs.declared.prop.long.Visit.TheVariants as visit
+use Rattle.varisat_prop.specs.Watches.{Watches, list_of, with_list, at, HasWatch, IsSatisfied, IsSettledTo, IsRearranged}
+use Rattle.varisat_prop.specs.Visits.{IsPair, IsFound, AddsWatches, IsVisited, IsVisit}
+use Rattle.varisat_prop.specs.Stored.{StoredClause, IsPlace, literals_at, with_literals}
+use Rattle.varisat_prop.proofs.AllocClauses.{kept-at, reordered-place, with-reordered, with-same, with-other}
+use Rattle.varisat_prop.proofs.WatchKept.{adds-none}
+use Rattle.varisat_prop.proofs.WatchSettled.{Lengthens, settled-longer, settled-reordered, two}
+use Rattle.varisat_prop.proofs.ClauseOrder.{reordered, changed}
+
+satisfied-by : (s : View) (c : Clause) (l : Literal) → WellFormed s → l ∈ c → IsTrueIn s l → IsSatisfied s c
+satisfied-by s c l w h t = let (k, a, e) = w.stands l t in (k, a, subst (λ x. x ∈ c) (sym e) h)
+
+-- nothing changes
+pub visited-same : (s : View) (W : Watches) (i : ℕ) → WellFormed s → IsVisited s s W W i
+visited-same s W i w = record {
+  propagates = propagates-refl s w;
+  elsewhere = λ k n. refl;
+  settled = λ q h st. st;
+  adds = adds-none W i (clause_at s i);
+  pair = λ j h. inl (j, h, refl);
+}
+
+pub kept-by-blocking : (s : View) (l b : Literal) (i : ℕ) → WellFormed s → b ∈ clause_at s i → IsTrueIn s b → IsVisit s l i (visit.Keep b)
+kept-by-blocking s l b i w h t = (h, satisfied-by s (clause_at s i) b w h t)
+
+module _ (s : View) (W : Watches) (i : ℕ) (d : Clause) (l : Literal) (w : WellFormed s) (a : IsPlace s.clauses i) (tr : IsTrueIn s l) where
+  abbrev c : Clause
+  c = clause_at s i
+
+  abbrev u : View
+  u = reordered s i d
+
+  abbrev f : Literal
+  f = opposite l
+
+  now-is : clause_at u i ≡ d
+  now-is = with-same s.clauses i d a
+
+  f-false : IsTrueIn s f → ⊥
+  f-false t = made-clash s.values l tr t
+
+  long : 2 ≤ length c
+  long = w.several c (kept-at s.clauses i a)
+
+  elsewhere-is : (k : ℕ) → k ≢ i → clause_at u k ≡ clause_at s k
+  elsewhere-is k n = with-other s.clauses i k d n
+
+  place-in : IsRearranged c d → IsPlace u.clauses i
+  place-in r = reordered-place s.clauses u.clauses i (with-reordered s.clauses i d r.same) a
+
+  -- the first literal was l or false
+  not-first : (x : Literal) → IsPair c x f → (IsTrueIn s x → ⊥) → IsTrueIn s (at c 0) → ⊥
+  not-first x p n t = ⊎_elim (λ (g, h). n (subst (IsTrueIn s) g t)) (λ (g, h). f-false (subst (IsTrueIn s) h t)) p
+
+  pair-first : (x : Literal) → IsPair c x f → at d 0 ≡ x → (h : ℕ) × (h < 2) × (at d 0 ≡ at c h)
+  pair-first x p e = ⊎_elim (λ (g, h). (0, omega arith, e ∙ sym g)) (λ (g, h). (1, omega arith, e ∙ sym g)) p
+
+  pair-second : (x : Literal) → IsPair c x f → at d 1 ≡ f → (h : ℕ) × (h < 2) × (at d 1 ≡ at c h)
+  pair-second x p e = ⊎_elim (λ (g, h). (1, omega arith, e ∙ sym h)) (λ (g, h). (0, omega arith, e ∙ sym h)) p
+
+  abbrev FromPair : Type 0
+  FromPair = (j : ℕ) → j < 2 → (h : ℕ) × (h < 2) × (at d j ≡ at c h)
+
+  from-pair : (x : Literal) → IsPair c x f → at d 0 ≡ x → at d 1 ≡ f → FromPair
+  from-pair x p e g = two (λ j. (h : ℕ) × (h < 2) × (at d j ≡ at c h)) (pair-first x p e) (pair-second x p g)
+
+  first-in : IsRearranged c d → (x : Literal) → at d 0 ≡ x → x ∈ clause_at u i
+  first-in r x e = subst (λ y. x ∈ y) (sym now-is) (subst (λ y. y ∈ d) e (∈-get_or d 0 0 (let n = r.long in let m = long in omega (arith, n, m))))
+
+  -- the clause is watched as before, in another order
+  visited-turned : IsRearranged c d → FromPair → Propagates s u → IsVisited s u W W i
+  visited-turned r p g = record {
+    propagates = g;
+    elsewhere = elsewhere-is;
+    settled = λ q h st. settled-reordered s i q d r (λ j b. inl (p j b)) st;
+    adds = adds-none W i (clause_at u i);
+    pair = λ j b. let (h, o, e) = p j b in inl (h, o, ap (λ x. at x j) now-is ∙ e);
+  }
+
+  pub found-stale : IsFound s.values c d f found.Stale → IsVisited s u W W i × IsVisit u l i visit.Dropped
+  found-stale (e, m, n) =
+      let r : IsRearranged c d = subst (IsRearranged c) (sym e) (record { same = ((λ x h. h), (λ x h. h)); long = refl; distinct = λ h. h }) in (
+        visited-turned r (λ j b. (j, b, ap (λ x. at x j) e)) (changed s i d w a r (inl e)),
+        two (λ j. at (clause_at u i) j ≢ f) (λ g. m (sym (ap (λ x. at x 0) (now-is ∙ e)) ∙ g)) (λ g. n (sym (ap (λ x. at x 1) (now-is ∙ e)) ∙ g)),
+      )
+
+  pub found-true : (x : Literal) → IsFound s.values c d f (found.True x) → IsVisited s u W W i × IsVisit u l i (visit.Keep x)
+  found-true x (r, p, e, g, t, o) =
+      let v : Propagates s u = changed s i d w a r (⊎_elim (λ (y, z). inl (o y)) (λ (y, z). inr (λ h. f-false (subst (IsTrueIn s) z h))) p) in (
+        visited-turned r (from-pair x p e g) v,
+        (first-in r x e, satisfied-by u (clause_at u i) x v.well (first-in r x e) t),
+      )
+
+  pub found-false : (x : Literal) → IsFound s.values c d f (found.False x) → IsVisited s u W W i × IsVisit u l i (visit.Conflicting x)
+  found-false x (r, p, e, g, n, h) =
+      let v : Propagates s u = changed s i d w a r (inr (not-first x p n)) in (
+        visited-turned r (from-pair x p e g) v,
+        (first-in r x e, λ m k. let (j, b, z) = place_in m d 0 (subst (λ y. m ∈ y) now-is k) in on-trail s w (opposite m) (subst (λ y. IsTrueIn s (opposite y)) z (h j b))),
+      )
+
+  -- another literal is watched
+  module _ (x m : Literal) (fd : IsFound s.values c d f (found.Other x m)) (inside : opposite m < length W.lists) where
+    abbrev more : Watches
+    more = with_list W (opposite m) (list_of W (opposite m) ++ record { cref = i; blocking = x } ∷ [])
+
+    new-watch : HasWatch (list_of more (opposite m)) i
+    new-watch = (record { cref = i; blocking = x }, subst (λ ws. record { cref = i; blocking = x } ∈ ws) (sym (get_or-set_same W.lists (opposite m) (list_of W (opposite m) ++ record { cref = i; blocking = x } ∷ []) [] inside)) (∈-append_right (record { cref = i; blocking = x }) (list_of W (opposite m)) (record { cref = i; blocking = x } ∷ []) (inl refl)), refl)
+
+    abbrev ws : List Watch
+    ws = list_of W (opposite m) ++ record { cref = i; blocking = x } ∷ []
+
+    adds-one : AddsWatches W more i (clause_at u i)
+    adds-one = record {
+      enabled = refl;
+      count = length-set W.lists (opposite m) ws;
+      old = λ y v h. ⊎_elim
+          (λ e. subst (λ z. v ∈ list_of more z) (sym e) (subst (λ z. v ∈ z) (sym (get_or-set_same W.lists (opposite m) ws [] inside)) (∈-append_left v (list_of W (opposite m)) (record { cref = i; blocking = x } ∷ []) (subst (λ z. v ∈ list_of W z) e h))))
+          (λ n. subst (λ z. v ∈ z) (sym (get_or-set_other W.lists (opposite m) y ws [] n)) h)
+          (equal_or_not y (opposite m));
+      new = λ y v h. ⊎_elim
+          (λ e. ⊎_elim
+          (λ k. inl (subst (λ z. v ∈ list_of W z) (sym e) k))
+          (λ k. ⊎_elim (λ z. inr (ap (λ q. q.cref) z, subst (λ q. q ∈ clause_at u i) (sym (ap (λ q. q.blocking) z)) (first-in fd.0 x fd.2))) (λ z. absurd z) k)
+          (∈-append_cases v (list_of W (opposite m)) (record { cref = i; blocking = x } ∷ []) (subst (λ z. v ∈ z) (get_or-set_same W.lists (opposite m) ws [] inside) (subst (λ z. v ∈ list_of more z) e h))))
+          (λ n. inl (subst (λ z. v ∈ z) (get_or-set_other W.lists (opposite m) y ws [] n) h))
+          (equal_or_not y (opposite m));
+    }
+
+    pub found-other : IsVisited s u W more i × IsVisit u l i visit.Dropped
+    found-other =
+        let (r, p, e, g, n, o) = fd in (
+          record {
+            propagates = changed s i d w a r (inr (not-first x p n));
+            elsewhere = elsewhere-is;
+            settled = λ q h st. settled-reordered s i q d r (two (λ j. ((h : ℕ) × (h < 2) × (at d j ≡ at c h)) ⊎ ((p : ℕ) → p < q → literal_at s p ≢ opposite (at d j))) (inl (pair-first x p e)) (inr (λ k b z. o (subst (IsTrueIn s) (z ∙ ap opposite g) (w.is_true k (omega (arith, b, h))))))) st;
+            adds = adds-one;
+            pair = two (λ j. ((h : ℕ) × (h < 2) × (at (clause_at u i) j ≡ at c h)) ⊎ HasWatch (list_of more (opposite (at (clause_at u i) j))) i)
+                (let (h, b, z) = pair-first x p e in inl (h, b, ap (λ y. at y 0) now-is ∙ z))
+                (inr (subst (λ y. HasWatch (list_of more (opposite y)) i) (sym (ap (λ y. at y 1) now-is ∙ g)) new-watch));
+          },
+          two (λ j. at (clause_at u i) j ≢ f)
+              (λ z. differ p (sym e ∙ sym (ap (λ y. at y 0) now-is) ∙ z))
+              (λ z. o (subst (IsTrueIn s) (sym (opposite_twice l) ∙ ap opposite (sym z ∙ ap (λ y. at y 1) now-is ∙ g)) tr)),
+        )
+      where
+        apart : at c 0 ≢ at c 1
+        apart = distinct-places c 0 (w.distinct c (kept-at s.clauses i a)) 0 1 (omega arith) (let n = long in omega (arith, n))
+
+        differ : IsPair c x f → x ≢ f
+        differ p e = ⊎_elim (λ (y, z). apart (y ∙ e ∙ sym z)) (λ (y, z). apart (z ∙ sym e ∙ sym y)) p
+
+  -- the first literal becomes true
+  module _ (x : Literal) (fd : IsFound s.values c d f (found.Implied x)) where
+    abbrev t : View
+    t = enqueued u x (reason.Long i)
+
+    goes : Propagates s u
+    goes = let (r, p, e, g, n, o, h) = fd in changed s i d w a r (inr (not-first x p n))
+
+    pub implied-free : get_or s.values (variable_of x) None ≡ None
+    implied-free = let (r, p, e, g, n, o, h) = fd in made-none s.values x n o
+
+    pub implied-inside : variable_of x < length s.values
+    implied-inside = let (r, p, e, g, n, o, h) = fd in goes.well.in_range (clause_at u i) (kept-at u.clauses i (place-in r)) x (first-in r x e)
+
+    may : MayImply u x (reason.Long i)
+    may =
+        let (r, p, e, g, n, o, h) = fd in
+        let (others, z, y) = split d e (let k = r.long in let k' = long in omega (arith, k, k')) h in
+        (place-in r, (others, now-is ∙ z, y))
+      where
+        split : (b : Clause) → at b 0 ≡ x → 0 < length b → ((k : ℕ) → 1 ≤ k → k < length b → IsTrueIn s (opposite (at b k))) → (others : Clause) × (b ≡ x ∷ others) × ((m : Literal) → m ∈ others → IsTrueIn u (opposite m))
+        split [] e z h = absurd (omega (arith, z))
+        split (y ∷ b) e z h = (b, ap (λ q. q ∷ b) e, λ m k. let (j, v, q) = place_in m b 0 k in subst (λ y. IsTrueIn s (opposite y)) q (h (suc j) (omega arith) (omega (arith, v))))
+
+    longer : Lengthens u t
+    longer = record {
+      clauses = refl;
+      decisions = refl;
+      longer = let n = length-append s.trail (x ∷ []) in omega (arith, n);
+      keeps = λ k h. get_or_append_left s.trail (x ∷ []) 0 k h;
+    }
+
+    enters : Propagates u t
+    enters = record {
+      well = enqueued-well u x (reason.Long i) goes.well implied-inside implied-free may;
+      grows = ext-grows u x (reason.Long i) s.decisions goes.well implied-inside implied-free (λ e h. cc) [] (sym (append-nil s.decisions));
+      decisions = refl;
+    }
+
+    pub found-implied : IsVisited s t W W i × IsVisit t l i (visit.Keep x)
+    found-implied =
+        let (r, p, e, g, n, o, h) = fd in
+        let v = visited-turned r (from-pair x p e g) goes in (
+          record {
+            propagates = propagates-trans s u t goes enters;
+            elsewhere = v.elsewhere;
+            settled = λ q h st. settled-longer u t q longer h (v.settled q h st);
+            adds = v.adds;
+            pair = v.pair;
+          },
+          (first-in r x e, (length s.trail, (let z = ext-length u x (reason.Long i) s.decisions goes.well implied-inside implied-free in omega (arith, z)), subst (λ y. y ∈ clause_at u i) (sym (literal-new u x (reason.Long i) s.decisions goes.well implied-inside implied-free)) (first-in r x e))),
+        )
+
+-- where a variable is known its literals have lists
+pub listed : (y n : ℕ) → variable_of y < n → opposite y < 2 * n
+unfolding opposite
+listed y n h = omega (arith, h)
+
+-- the same for the clauses before and after the code ran
+module _ (s : View) (W : Watches) (i : ℕ) (P : List StoredClause) (l m : Literal) (w : WellFormed s) (a : IsPlace s.clauses i) (tr : IsTrueIn s l) (e : P ≡ with_literals s.clauses i (literals_at P i)) (g : m ≡ opposite l) where
+  abbrev p : View
+  p = record s { clauses = P }
+
+  abbrev b : Clause
+  b = literals_at P i
+
+  abbrev FoundBy : Found → Type 0
+  FoundBy o = IsFound s.values (clause_at s i) b m o
+
+  turn : (o : Found) → FoundBy o → IsFound s.values (clause_at s i) b (opposite l) o
+  turn o h = subst (λ x. IsFound s.values (clause_at s i) b x o) g h
+
+  back : (V : Watches) (v : Visit) → IsVisited s (reordered s i b) W V i × IsVisit (reordered s i b) l i v → IsVisited s p W V i × IsVisit p l i v
+  back V v h = subst (λ x. IsVisited s (record s { clauses = x }) W V i × IsVisit (record s { clauses = x }) l i v) (sym e) h
+
+  pub code-stale : FoundBy found.Stale → IsVisited s p W W i × IsVisit p l i visit.Dropped
+  code-stale h = back W visit.Dropped (found-stale s W i b l w a tr (turn found.Stale h))
+
+  pub code-true : (x : Literal) → FoundBy (found.True x) → IsVisited s p W W i × IsVisit p l i (visit.Keep x)
+  code-true x h = back W (visit.Keep x) (found-true s W i b l w a tr x (turn (found.True x) h))
+
+  pub code-false : (x : Literal) → FoundBy (found.False x) → IsVisited s p W W i × IsVisit p l i (visit.Conflicting x)
+  code-false x h = back W (visit.Conflicting x) (found-false s W i b l w a tr x (turn (found.False x) h))
+
+  other-inside : (x y : Literal) → FoundBy (found.Other x y) → variable_of y < length s.values
+  other-inside x y h =
+      let r = h.0 in
+      let n = h.3 in
+      w.in_range (clause_at s i) (kept-at s.clauses i a) y (r.same.0 y (subst (λ z. z ∈ b) n (∈-get_or b 1 0 (let k = r.long in let k' = w.several (clause_at s i) (kept-at s.clauses i a) in omega (arith, k, k')))))
+
+  pub other-listed : (x y : Literal) → FoundBy (found.Other x y) → (z : Literal) → z ≡ opposite y → length W.lists ≡ 2 * length s.values → z < length W.lists
+  other-listed x y h z k n = subst (λ v. v < length W.lists) (sym k) (let o = listed y (length s.values) (other-inside x y h) in omega (arith, o, n))
+
+  pub code-other : (x y z : Literal) (V : Watches) → FoundBy (found.Other x y) → z ≡ opposite y → length W.lists ≡ 2 * length s.values → V ≡ with_list W z (list_of W z ++ record { cref = i; blocking = x } ∷ []) → IsVisited s p W V i × IsVisit p l i visit.Dropped
+  code-other x y z V h k n f =
+      let o = subst (λ v. v < length W.lists) k (other-listed x y h z k n) in
+      subst (λ X. IsVisited s p W X i × IsVisit p l i visit.Dropped) (sym (f ∙ ap (λ v. with_list W v (list_of W v ++ record { cref = i; blocking = x } ∷ [])) k))
+      (back (with_list W (opposite y) (list_of W (opposite y) ++ record { cref = i; blocking = x } ∷ [])) visit.Dropped (found-other s W i b l w a tr x y (turn (found.Other x y) h) o))
+
+  pub code-inside : (x : Literal) → FoundBy (found.Implied x) → variable_of x < length s.values
+  code-inside x h = implied-inside s W i b l w a tr x (turn (found.Implied x) h)
+
+  pub code-free : (x : Literal) → FoundBy (found.Implied x) → get_or s.values (variable_of x) None ≡ None
+  code-free x h = implied-free s W i b l w a tr x (turn (found.Implied x) h)
+
+  pub code-implied : (x : Literal) (t : View) → FoundBy (found.Implied x) → t ≡ enqueued p x (reason.Long i) → IsVisited s t W W i × IsVisit t l i (visit.Keep x)
+  code-implied x t h f =
+      subst (λ y. IsVisited s y W W i × IsVisit y l i (visit.Keep x)) (sym f)
+      (subst (λ y. IsVisited s (enqueued (record s { clauses = y }) x (reason.Long i)) W W i × IsVisit (enqueued (record s { clauses = y }) x (reason.Long i)) l i (visit.Keep x)) (sym e)
+      (found-implied s W i b l w a tr x (turn (found.Implied x) h)))

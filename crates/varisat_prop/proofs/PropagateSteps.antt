@@ -1,0 +1,11 @@
+-- Propagation in several steps.
+use Rattle.std.proofs.Common.{◌≡◌, refl, ◌∙◌}
+use Rattle.varisat_prop.specs.View.{View, WellFormed}
+use Rattle.varisat_prop.specs.Looks.{Propagates}
+use Rattle.varisat_prop.proofs.ViewGrowth.{grows-refl, grows-trans}
+
+pub propagates-refl : (s : View) → WellFormed s → Propagates s s
+propagates-refl s w = record { well = w; grows = grows-refl s; decisions = refl }
+
+pub propagates-trans : (s t u : View) → Propagates s t → Propagates t u → Propagates s u
+propagates-trans s t u g h = record { well = h.well; grows = grows-trans s t u g.grows h.grows; decisions = h.decisions ∙ g.decisions }

@@ -1,0 +1,150 @@
+-- What is settled stays so, and shows that propagation came to its end.
+use Rattle.std.proofs.Common.{◌≡◌, ◌≢◌, ℕ, zero, suc, ◌<◌, ◌≤◌, ◌++◌, List, [], ◌∷◌, ◌⊎◌, inl, inr, ⊎_elim, length, get_or, set, take, refl, sym, ap, ◌∙◌, subst, arith, get_or-set_same, get_or-set_other, length-set, length-append}
+use Rattle.std.proofs.lemmas.List.{get_or_append_left, get_or-take, length-take}
+use Rattle.std.proofs.lemmas.Bool.{cases_lt}
+use Rattle.varisat_theory.specs.Membership.{◌∈◌, SameSet, IsDistinct}
+use Rattle.varisat_theory.specs.Literals.{Literal, Clause, opposite, variable_of}
+use Rattle.varisat_theory.specs.Propagation.{IsFalse, LeavesOnly, IsComplete}
+use Rattle.varisat_theory.proofs.Places.{∈-get_or, place_in}
+use Rattle.varisat_theory.proofs.Members.{equal_or_not}
+use Rattle.varisat_prop.specs.View.{View, kept, IsTrueIn, clause_at, literal_at, decision_at, WellFormed}
+use Rattle.varisat_prop.proofs.LiteralValues.{made-clash}
+use Rattle.varisat_prop.proofs.DistinctPlaces.{distinct-places}
+use Rattle.varisat_prop.proofs.TrailValues.{on-trail, trail-true}
+use Rattle.varisat_prop.specs.declared.prop.watch.Watch.{Watch}
+use Rattle.varisat_prop.specs.Stored.{StoredClause, IsPlace, literals_at, with_literals, AreReordered}
+use Rattle.varisat_prop.proofs.AllocClauses.{kept-at, from-literals, stored-found, reordered-place-back, with-reordered, with-same, with-other}
+use Rattle.varisat_prop.proofs.ClauseOrder.{reordered}
+use Rattle.varisat_prop.specs.Watches.{at, HasWatch, IsSatisfied, IsCovered, IsSettledTo, IsRearranged}
+
+pub two : (P : ℕ → Type 0) → P 0 → P 1 → (j : ℕ) → j < 2 → P j
+two P a b zero h = a
+two P a b (suc zero) h = b
+two P a b (suc (suc j)) h = absurd (omega (arith, h))
+
+-- the trail goes on, over the same clauses and decisions
+pub record Lengthens (s t : View) : Type 0 where
+  pub clauses : t.clauses ≡ s.clauses
+  pub decisions : t.decisions ≡ s.decisions
+  pub longer : length s.trail ≤ length t.trail
+  pub keeps : (k : ℕ) → k < length s.trail → literal_at t k ≡ literal_at s k
+
+covered-longer : (s t : View) (c : Clause) (p : ℕ) → Lengthens s t → IsCovered s c p → IsCovered t c p
+covered-longer s t c p g (k, a, m, d) = (
+  k,
+  (let n = g.longer in omega (arith, a, n)),
+  subst (λ x. x ∈ c) (sym (g.keeps k a)) m,
+  subst (λ (ds : List ℕ). (j : ℕ) → j < length ds → p < get_or ds j 0 → k < get_or ds j 0) (sym g.decisions) d,
+)
+
+pub settled-longer : (s t : View) (q : ℕ) → Lengthens s t → q ≤ length s.trail → IsSettledTo s q → IsSettledTo t q
+settled-longer s t q g n st = λ i j p a b h e.
+    let f : clause_at t i ≡ clause_at s i = ap (λ P. literals_at P i) g.clauses in
+    subst (λ c. IsCovered t c p) (sym f) (covered-longer s t (clause_at s i) p g (st i j p (subst (λ P. IsPlace P i) g.clauses a) b h (sym (g.keeps p (omega (arith, h, n))) ∙ e ∙ ap (λ c. opposite (at c j)) f)))
+
+pub satisfied-longer : (s t : View) (c : Clause) → Lengthens s t → IsSatisfied s c → IsSatisfied t c
+satisfied-longer s t c g (k, a, m) = (k, (let n = g.longer in omega (arith, a, n)), subst (λ x. x ∈ c) (sym (g.keeps k a)) m)
+
+-- the literals of one clause change their order: a new one among the first two isn't false by a literal before q
+pub settled-reordered : (s : View) (i q : ℕ) (d : Clause) → IsRearranged (clause_at s i) d
+    → ((j : ℕ) → j < 2 → ((h : ℕ) × (h < 2) × (at d j ≡ at (clause_at s i) h)) ⊎ ((p : ℕ) → p < q → literal_at s p ≢ opposite (at d j)))
+    → IsSettledTo s q → IsSettledTo (reordered s i d) q
+settled-reordered s i q d r w st = λ k j p a b h e.
+    let a' : IsPlace s.clauses k = reordered-place-back s.clauses (with_literals s.clauses i d) k (with-reordered s.clauses i d r.same) a in
+    ⊎_elim
+    (λ f.
+    let i' : IsPlace s.clauses i = subst (IsPlace s.clauses) f a' in
+    let g : clause_at (reordered s i d) k ≡ d = ap (λ x. clause_at (reordered s i d) x) f ∙ with-same s.clauses i d i' in
+    let e' : literal_at s p ≡ opposite (at d j) = e ∙ ap (λ c. opposite (at c j)) g in
+    ⊎_elim
+    (λ (x, y, z). let (m, u, v, o) = st i x p i' y h (e' ∙ ap opposite z) in (m, u, subst (λ c. literal_at s m ∈ c) (sym g) (r.same.1 (literal_at s m) v), o))
+    (λ x. absurd (x p h e'))
+    (w j b))
+    (λ f.
+    let g : clause_at (reordered s i d) k ≡ clause_at s k = with-other s.clauses i k d f in
+    let (m, u, v, o) = st k j p a' b h (e ∙ ap (λ c. opposite (at c j)) g) in
+    (m, u, subst (λ c. literal_at s m ∈ c) (sym g) v, o))
+    (equal_or_not k i)
+
+-- Of the clauses with a false literal l among the first two, those without a watch left are true.
+abbrev pub IsSettledBut : View → Literal → List Watch → Type 0
+IsSettledBut s l rest = (i j : ℕ) → IsPlace s.clauses i → j < 2 → l ≡ opposite (at (clause_at s i) j) → HasWatch rest i ⊎ IsSatisfied s (clause_at s i)
+
+-- the next literal is settled too, where no decision stands behind it
+pub settled-next : (s : View) (q : ℕ) (l : Literal) → literal_at s q ≡ l → ((j : ℕ) → j < length s.decisions → decision_at s j ≤ q) → IsSettledTo s q → IsSettledBut s l [] → IsSettledTo s (suc q)
+settled-next s q l e d st but = λ i j p a b h f.
+    ⊎_elim
+    (λ g. st i j p a b g f)
+    (λ g. let o : p ≡ q = omega (arith, h, g) in
+    let x : l ≡ opposite (at (clause_at s i) j) = sym e ∙ ap (λ y. literal_at s y) (sym o) ∙ f in
+    ⊎_elim (λ (w, m, n). absurd m) (λ (k, m, n). (k, m, n, λ y z v. let u = d y z in absurd (omega (arith, v, u, o)))) (but i j a b x))
+    (cases_lt p q)
+
+-- where all is settled, no clause is false and none leaves a literal that isn't true
+pub settled-complete : (s : View) → WellFormed s → IsSettledTo s (length s.trail) → IsComplete (kept s) s.trail
+settled-complete s w st = record {
+  no_false = λ (c, h, f). let (i, a, e) = named c h in
+      not-false i a (λ m k. f m (subst (λ x. m ∈ x) e k));
+  closed = λ c l h k u. let (i, a, e) = named c h in
+      closes i a l (λ m n. u m (subst (λ x. m ∈ x) e n));
+}
+  where
+    -- each kept clause is that of a place
+    named : (c : Clause) → c ∈ kept s → (i : ℕ) × IsPlace s.clauses i × (clause_at s i ≡ c)
+    named c h = let (k, j, e) = from-literals s.clauses c h in (k.place, (k, j, refl), ap (λ x. x.literals) (stored-found s.clauses w.places k j) ∙ e)
+
+    long : (i : ℕ) → IsPlace s.clauses i → 2 ≤ length (clause_at s i)
+    long i a = w.several (clause_at s i) (kept-at s.clauses i a)
+
+    -- a false literal among the first two has a true one beside it
+    beside : (i j : ℕ) → IsPlace s.clauses i → j < 2 → opposite (at (clause_at s i) j) ∈ s.trail → (m : Literal) × (m ∈ clause_at s i) × IsTrueIn s m
+    beside i j a b h =
+        let (p, x, e) = place_in (opposite (at (clause_at s i) j)) s.trail 0 h in
+        let (k, y, m, o) = st i j p a b x e in
+        (literal_at s k, m, w.is_true k y)
+
+    first-in : (i j : ℕ) → IsPlace s.clauses i → j < 2 → at (clause_at s i) j ∈ clause_at s i
+    first-in i j a b = ∈-get_or (clause_at s i) j 0 (let n = long i a in omega (arith, b, n))
+
+    clash : (m : Literal) → IsTrueIn s m → opposite m ∈ s.trail → ⊥
+    clash m t h = made-clash s.values m t (trail-true s w (opposite m) h)
+
+    not-false : (i : ℕ) → IsPlace s.clauses i → IsFalse s.trail (clause_at s i) → ⊥
+    not-false i a f = let (m, h, t) = beside i 0 a (omega arith) (f (at (clause_at s i) 0) (first-in i 0 a (omega arith))) in clash m t (f m h)
+
+    differ : (i : ℕ) → IsPlace s.clauses i → at (clause_at s i) 0 ≢ at (clause_at s i) 1
+    differ i a = distinct-places (clause_at s i) 0 (w.distinct (clause_at s i) (kept-at s.clauses i a)) 0 1 (omega arith) (let n = long i a in omega (arith, n))
+
+    from-false : (i j : ℕ) (l : Literal) → IsPlace s.clauses i → j < 2 → LeavesOnly s.trail (clause_at s i) l → opposite (at (clause_at s i) j) ∈ s.trail → l ∈ s.trail
+    from-false i j l a b u h = let (m, n, t) = beside i j a b h in ⊎_elim (λ e. subst (λ x. x ∈ s.trail) e (on-trail s w m t)) (λ z. absurd (clash m t z)) (u m n)
+
+    closes : (i : ℕ) → IsPlace s.clauses i → (l : Literal) → LeavesOnly s.trail (clause_at s i) l → l ∈ s.trail
+    closes i a l u =
+        ⊎_elim
+        (λ e. ⊎_elim (λ f. absurd (differ i a (e ∙ sym f))) (from-false i 1 l a (omega arith) u) (u (at (clause_at s i) 1) (first-in i 1 a (omega arith))))
+        (from-false i 0 l a (omega arith) u)
+        (u (at (clause_at s i) 0) (first-in i 0 a (omega arith)))
+
+-- going back to a level: what is left of the trail, and of what was settled
+module _ (s t : View) (level q : ℕ) (a : level < length s.decisions) (n : decision_at s level ≤ q) (m : decision_at s level ≤ length s.trail) where
+  abbrev cut : View
+  cut = record s { values = t.values; trail = take (decision_at s level) s.trail; queue_head = decision_at s level; decisions = take level s.decisions }
+
+  back : IsSettledTo s q → IsSettledTo cut (decision_at s level)
+  back st = λ i j p h b c f.
+      let (k, x, y, z) = st i j p h b (omega (arith, c, n)) (sym (get_or-take (decision_at s level) s.trail p 0 c) ∙ f) in
+      let k' : k < decision_at s level = z level a c in
+      let o = length-take (decision_at s level) s.trail in (
+        k,
+        omega (arith, o, k', m),
+        subst (λ v. v ∈ clause_at s i) (sym (get_or-take (decision_at s level) s.trail k 0 k')) y,
+        λ v g r. let l = length-take level s.decisions in
+            let v' : v < level = omega (arith, g, l) in
+            let w = get_or-take level s.decisions v 0 v' in
+            let r' : p < decision_at s v = omega (arith, r, w) in
+            let q' = z v (omega (arith, v', a)) r' in
+            omega (arith, q', w),
+      )
+
+  pub settled-back : t ≡ cut → IsSettledTo s q → IsSettledTo t (decision_at s level)
+  settled-back e st = subst (λ x. IsSettledTo x (decision_at s level)) (sym e) (back st)

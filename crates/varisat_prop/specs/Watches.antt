@@ -1,0 +1,71 @@
+-- Which watches there are, and what they keep.
+use Rattle.std.specs.Prelude.{◌≡◌, ℕ, ◌<◌, ◌≤◌, ◌*◌, Bool, true, false, List, [], length, slice_index_or, slice_set, ◌⊎◌}
+use Rattle.varisat_theory.specs.Membership.{◌∈◌, SameSet, IsDistinct}
+use Rattle.varisat_theory.specs.Literals.{Literal, Clause, opposite}
+use Rattle.varisat_prop.specs.Stored.{StoredClause, IsPlace, literals_at}
+use Rattle.varisat_prop.specs.View.{View, clause_at, literal_at, decision_at}
+use Rattle.varisat_prop.specs.declared.prop.watch.Watch.{Watch}
+
+-- For each literal the watches to be looked at when it becomes true, and whether the lists are kept up to date.
+pub record Watches : Type 0 where
+  pub lists : List (List Watch)
+  pub enabled : Bool
+
+abbrev pub no_watches : Watches
+no_watches = record { lists = []; enabled = true }
+
+-- the watches of a literal
+abbrev pub list_of : Watches → Literal → List Watch
+list_of W x = slice_index_or W.lists x []
+
+-- the literal has these watches
+abbrev pub with_list : Watches → Literal → List Watch → Watches
+with_list W x ws = record W { lists = slice_set W.lists x ws }
+
+-- the literal at a place of a clause: those at places 0 and 1 are watched
+abbrev pub at : Clause → ℕ → Literal
+at c j = slice_index_or c j 0
+
+-- a watch of the clause at place i is among them
+abbrev pub HasWatch : List Watch → ℕ → Type 0
+HasWatch ws i = (w : Watch) × (w ∈ ws) × (w.cref ≡ i)
+
+-- The lists watch the clauses: each watch names a clause and a literal of it, and each clause has a watch in the lists of the opposites of its first two literals.
+pub record IsWatching (W : Watches) (ks : List StoredClause) : Type 0 where
+  pub known : (x : Literal) (w : Watch) → w ∈ list_of W x → IsPlace ks w.cref × (w.blocking ∈ literals_at ks w.cref)
+  pub watched : (i j : ℕ) → IsPlace ks i → j < 2 → HasWatch (list_of W (opposite (at (literals_at ks i) j))) i
+
+-- a literal of the clause is true
+abbrev pub IsSatisfied : View → Clause → Type 0
+IsSatisfied s c = (k : ℕ) × (k < length s.trail) × (literal_at s k ∈ c)
+
+-- A literal of the clause is true, no later than at the level of place p: no decision stands behind p and not behind it.
+abbrev pub IsCovered : View → Clause → ℕ → Type 0
+IsCovered s c p = (k : ℕ) × (k < length s.trail) × (literal_at s k ∈ c) × ((j : ℕ) → j < length s.decisions → p < decision_at s j → k < decision_at s j)
+
+-- Where one of a clause's first two literals is false by a literal before place q, the clause is true no later than at that literal's level.
+abbrev pub IsSettledTo : View → ℕ → Type 0
+IsSettledTo s q = (i j p : ℕ) → IsPlace s.clauses i → j < 2 → p < q → literal_at s p ≡ opposite (at (clause_at s i) j) → IsCovered s (clause_at s i) p
+
+-- The lists, which are kept up to date, watch the clauses, and what stands before place q is settled; no decision stands behind it.
+pub record IsWatched (W : Watches) (s : View) (q : ℕ) : Type 0 where
+  pub lists : length W.lists ≡ 2 * length s.values
+  pub enabled : W.enabled ≡ true
+  pub watching : IsWatching W s.clauses
+  pub settled : IsSettledTo s q
+  pub within : q ≤ length s.trail
+  pub queue : (j : ℕ) → j < length s.decisions → decision_at s j ≤ q
+
+-- Propagation has come to its end up to the queue's head, and no decision stands behind that. The lists watch the clauses, or are empty as long as they are off.
+pub record IsPropagated (W : Watches) (s : View) : Type 0 where
+  pub lists : length W.lists ≡ 2 * length s.values
+  pub watching : W.enabled ≡ true → IsWatching W s.clauses
+  pub empty : W.enabled ≡ false → (x : Literal) → list_of W x ≡ []
+  pub settled : IsSettledTo s s.queue_head
+  pub queue : (j : ℕ) → j < length s.decisions → decision_at s j ≤ s.queue_head
+
+-- The same literals in another order.
+pub record IsRearranged (c d : Clause) : Type 0 where
+  pub same : SameSet d c
+  pub long : length d ≡ length c
+  pub distinct : IsDistinct c → IsDistinct d

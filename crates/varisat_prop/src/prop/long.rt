@@ -1,0 +1,275 @@
+//! Propagation of long clauses.
+ghost use Rattle.std.specs.Prelude.{◌≡◌, ◌≢◌, ℕ, suc, ◌<◌, ◌≤◌, ◌*◌, ◌++◌, IsTrue, length, take, drop, OnOk, IfOk, MatchResult, MatchOption};
+ghost use Rattle.varisat_theory.specs.Membership.{◌∈◌};
+ghost use Rattle.varisat_theory.specs.Literals.{opposite};
+ghost use Rattle.varisat_theory.specs.Propagation.{IsFalse};
+ghost use Rattle.varisat_prop.specs.Stored.{IsPlace, literals_at, with_literals};
+ghost use Rattle.varisat_prop.specs.Parts.{IsMadeTrue};
+ghost use Rattle.varisat_prop.specs.View.{view_of, WellFormed, literal_at};
+ghost use Rattle.varisat_prop.specs.Changes.{place_of};
+ghost use Rattle.varisat_prop.specs.Looks.{Propagates, IsInRange, IsFalseAt};
+ghost use Rattle.varisat_prop.specs.Watches.{with_list, at, IsRearranged, IsSettledTo, IsWatched};
+ghost use Rattle.varisat_prop.specs.Visits.{IsPair, IsFound, IsVisited, IsVisit};
+
+use crate::clause::{ClauseAlloc, ClauseRef};
+use crate::prop::assignment::Assignment;
+use crate::prop::enqueue::enqueue_assignment;
+use crate::prop::graph::{Conflict, ImplGraph, Reason};
+use crate::prop::trail::Trail;
+use crate::prop::watch::{Watch, Watchlists};
+use std::alloc::{AllocError, Allocator};
+use varisat_literals::Lit;
+
+/// What a clause comes to whose watched literal became false.
+#[derive(Clone, Copy, Debug)]
+pub enum Found {
+    /// The literal isn't one of the first two any more.
+    Stale,
+    /// The other watched literal, now the first, is true.
+    True(Lit),
+    /// The first literal, and one that isn't false and was put second.
+    Other(Lit, Lit),
+    /// All are false, this one being the first.
+    False(Lit),
+    /// All are false but this one, the first.
+    Implied(Lit),
+}
+
+/// What a watch comes to.
+#[derive(Clone, Copy, Debug)]
+pub enum Visit {
+    /// It stays, with this literal as the blocking one.
+    Keep(Lit),
+    /// It doesn't stay.
+    Dropped,
+    /// It stays, and its clause is false.
+    Conflicting(Lit),
+}
+
+/// Puts the false literal second where it is first. Tells whether it is second then.
+fn put_second(lits: &mut [Lit], false_lit: Lit) -> bool
+    requires { 2 ≤ length lits.old }
+    ensures rearranged { IsRearranged lits.old lits.new }
+    ensures second { IsTrue result → IsPair lits.old (at lits.new 0) false_lit × (at lits.new 1 ≡ false_lit) }
+    ensures same { at lits.old 0 ≢ false_lit → lits.new ≡ lits.old }
+    ensures stale { (IsTrue result → ⊥) → (at lits.old 0 ≢ false_lit) × (at lits.old 1 ≢ false_lit) }
+{
+    if lits[0] == false_lit {
+        lits.swap(0, 1);
+        return true;
+    }
+    lits[1] == false_lit
+}
+
+/// Puts a literal second that isn't false, where one stands behind the second.
+fn find_other<A: Allocator + Copy>(lits: &mut [Lit], assignment: &Assignment<A>) -> Option<Lit>
+    requires long { 2 ≤ length lits.old }
+    requires within { IsInRange assignment.now.current lits.old }
+    ensures rearranged { IsRearranged lits.old lits.new }
+    ensures first { at lits.new 0 ≡ at lits.old 0 }
+    ensures found { MatchOption result
+        ((lits.new ≡ lits.old) × ((k : ℕ) → 2 ≤ k → k < length lits.old → IsFalseAt assignment.now.current lits.old k))
+        (λ m. (at lits.new 1 ≡ m) × (IsMadeTrue assignment.now.current (opposite m) → ⊥)) }
+{
+    for place in 2..lits.len() {
+        let lit = lits[place];
+        if !assignment.lit_is_false(lit) {
+            lits.swap(1, place);
+            return Some(lit);
+        }
+    }
+    None
+}
+
+/// Brings the literals into the order in which they are watched.
+fn reorder<A: Allocator + Copy>(
+    lits: &mut [Lit],
+    assignment: &Assignment<A>,
+    false_lit: Lit,
+) -> Found
+    requires long { 2 ≤ length lits.old }
+    requires within { IsInRange assignment.now.current lits.old }
+    requires is_false { IsMadeTrue assignment.now.current (opposite false_lit) }
+    ensures found { IsFound assignment.now.current lits.old lits.new false_lit result }
+    ensures count { length lits.new ≡ length lits.old }
+{
+    if !put_second(lits, false_lit) {
+        return Found::Stale;
+    }
+    let first = lits[0];
+    if assignment.lit_is_true(first) {
+        return Found::True(first);
+    }
+    match find_other(lits, assignment) {
+        Some(other) => Found::Other(first, other),
+        None => {
+            if assignment.lit_is_false(first) {
+                Found::False(first)
+            } else {
+                Found::Implied(first)
+            }
+        }
+    }
+}
+
+/// Brings the literals of a kept clause into the order in which they are watched.
+fn reorder_clause<A: Allocator + Copy>(
+    clause_alloc: &mut ClauseAlloc<A>,
+    assignment: &Assignment<A>,
+    cref: ClauseRef,
+    false_lit: Lit,
+) -> Found
+    requires place { IsPlace clause_alloc.old cref }
+    requires long { 2 ≤ length (literals_at clause_alloc.old cref) }
+    requires within { IsInRange assignment.now.current (literals_at clause_alloc.old cref) }
+    requires is_false { IsMadeTrue assignment.now.current (opposite false_lit) }
+    ensures changed { clause_alloc.new ≡ with_literals clause_alloc.old cref (literals_at clause_alloc.new cref) }
+    ensures found { IsFound assignment.now.current (literals_at clause_alloc.old cref) (literals_at clause_alloc.new cref) false_lit result }
+{
+    let lits = clause_alloc.lits_mut(cref);
+    reorder(lits, assignment, false_lit)
+}
+
+/// Looks at a watch of the literal, which became true.
+fn visit_watch<A: Allocator + Copy>(
+    assignment: &mut Assignment<A>,
+    clause_alloc: &mut ClauseAlloc<A>,
+    impl_graph: &mut ImplGraph<A>,
+    trail: &mut Trail<A>,
+    watchlists: &mut Watchlists<A>,
+    lit: Lit,
+    watch: Watch,
+) -> Result<Visit, AllocError>
+    requires well { WellFormed (view_of clause_alloc.old assignment.old trail.old impl_graph.old) }
+    requires within { IsPlace clause_alloc.old watch.cref }
+    requires blocking { watch.blocking ∈ literals_at clause_alloc.old watch.cref }
+    requires lists { length watchlists.old.lists ≡ 2 * length assignment.old.current }
+    requires is_true { IsMadeTrue assignment.old.current lit }
+    ensures visited { OnOk result (IsVisited (view_of clause_alloc.old assignment.old trail.old impl_graph.old) (view_of clause_alloc.new assignment.new trail.new impl_graph.new) watchlists.old watchlists.new watch.cref) }
+    ensures visit { IfOk result (λ visit. IsVisit (view_of clause_alloc.new assignment.new trail.new impl_graph.new) lit watch.cref visit) }
+    ensures last { OnOk result (assignment.new.last ≡ assignment.old.last) }
+    ensures queue { OnOk result ((trail.new.queue_head ≡ trail.old.queue_head) × (trail.new.units_removed ≡ trail.old.units_removed)) }
+{
+    if assignment.lit_is_true(watch.blocking) {
+        return Ok(Visit::Keep(watch.blocking));
+    }
+    let cref = watch.cref;
+    match reorder_clause(clause_alloc, assignment, cref, !lit) {
+        Found::Stale => Ok(Visit::Dropped),
+        Found::True(first) => Ok(Visit::Keep(first)),
+        Found::Other(first, other) => {
+            let moved = Watch {
+                cref,
+                blocking: first,
+            };
+            watchlists.add_watch(!other, moved)?;
+            Ok(Visit::Dropped)
+        }
+        Found::False(first) => Ok(Visit::Conflicting(first)),
+        Found::Implied(first) => {
+            enqueue_assignment(assignment, impl_graph, trail, first, Reason::Long(cref))?;
+            Ok(Visit::Keep(first))
+        }
+    }
+}
+
+/// Takes out what stands from the first place on and before the second.
+fn close_gap<A: Allocator + Copy>(list: &mut Vec<Watch, A>, start: usize, end: usize)
+    requires order { start ≤ end }
+    requires within { end ≤ length list.old.items }
+    ensures { list.new.items ≡ take start list.old.items ++ drop end list.old.items }
+{
+    let count = list.len() - end;
+    list.copy_within(end.., start);
+    list.truncate(start + count);
+}
+
+/// Visits the watches of a literal, which became true. Those that stay are moved to the front as it goes.
+fn visit_watches<A: Allocator + Copy>(
+    assignment: &mut Assignment<A>,
+    clause_alloc: &mut ClauseAlloc<A>,
+    impl_graph: &mut ImplGraph<A>,
+    trail: &mut Trail<A>,
+    watchlists: &mut Watchlists<A>,
+    list: &mut Vec<Watch, A>,
+    lit: Lit,
+) -> Result<Result<(), Conflict>, AllocError>
+    requires well { WellFormed (view_of clause_alloc.old assignment.old trail.old impl_graph.old) }
+    requires head { literal_at (view_of clause_alloc.old assignment.old trail.old impl_graph.old) trail.old.queue_head ≡ lit }
+    requires within { trail.old.queue_head < length trail.old.literals }
+    requires inside { lit < length watchlists.old.lists }
+    requires watched { IsWatched (with_list watchlists.old lit list.old.items) (view_of clause_alloc.old assignment.old trail.old impl_graph.old) trail.old.queue_head }
+    ensures propagates { OnOk result (Propagates (view_of clause_alloc.old assignment.old trail.old impl_graph.old) (view_of clause_alloc.new assignment.new trail.new impl_graph.new)) }
+    ensures watched { OnOk result (IsWatched (with_list watchlists.new lit list.new.items) (view_of clause_alloc.new assignment.new trail.new impl_graph.new) trail.new.queue_head) }
+    ensures ends { IfOk result (λ end. MatchResult end
+        (λ _. IsSettledTo (view_of clause_alloc.new assignment.new trail.new impl_graph.new) (suc trail.new.queue_head))
+        (λ conflict. IsPlace clause_alloc.new (place_of conflict) × IsFalse trail.new.literals (literals_at clause_alloc.new (place_of conflict)))) }
+    ensures lists { OnOk result (length watchlists.new.lists ≡ length watchlists.old.lists) }
+    ensures last { OnOk result (assignment.new.last ≡ assignment.old.last) }
+    ensures queue { OnOk result ((trail.new.queue_head ≡ trail.old.queue_head) × (trail.new.units_removed ≡ trail.old.units_removed)) }
+{
+    let mut write = 0;
+    let mut read = 0;
+    while read < list.len() {
+        let watch = list[read];
+        let cref = watch.cref;
+        match visit_watch(
+            assignment,
+            clause_alloc,
+            impl_graph,
+            trail,
+            watchlists,
+            lit,
+            watch,
+        )? {
+            Visit::Dropped => {}
+            Visit::Keep(blocking) => {
+                list[write] = Watch { cref, blocking };
+                write += 1;
+            }
+            Visit::Conflicting(blocking) => {
+                list[write] = Watch { cref, blocking };
+                close_gap(list, write + 1, read + 1);
+                return Ok(Err(Conflict::Long(cref)));
+            }
+        }
+        read += 1;
+    }
+    list.truncate(write);
+    Ok(Ok(()))
+}
+
+/// Makes true what the clauses imply that watch the literal, which became true.
+pub fn propagate_long<A: Allocator + Copy>(
+    assignment: &mut Assignment<A>,
+    clause_alloc: &mut ClauseAlloc<A>,
+    impl_graph: &mut ImplGraph<A>,
+    trail: &mut Trail<A>,
+    watchlists: &mut Watchlists<A>,
+    lit: Lit,
+) -> Result<Result<(), Conflict>, AllocError>
+    requires well { WellFormed (view_of clause_alloc.old assignment.old trail.old impl_graph.old) }
+    requires head { literal_at (view_of clause_alloc.old assignment.old trail.old impl_graph.old) trail.old.queue_head ≡ lit }
+    requires within { trail.old.queue_head < length trail.old.literals }
+    requires watched { IsWatched watchlists.old (view_of clause_alloc.old assignment.old trail.old impl_graph.old) trail.old.queue_head }
+    ensures propagates { OnOk result (Propagates (view_of clause_alloc.old assignment.old trail.old impl_graph.old) (view_of clause_alloc.new assignment.new trail.new impl_graph.new)) }
+    ensures watched { OnOk result (IsWatched watchlists.new (view_of clause_alloc.new assignment.new trail.new impl_graph.new) trail.new.queue_head) }
+    ensures ends { IfOk result (λ end. MatchResult end
+        (λ _. IsSettledTo (view_of clause_alloc.new assignment.new trail.new impl_graph.new) (suc trail.new.queue_head))
+        (λ conflict. IsPlace clause_alloc.new (place_of conflict) × IsFalse trail.new.literals (literals_at clause_alloc.new (place_of conflict)))) }
+    ensures last { OnOk result (assignment.new.last ≡ assignment.old.last) }
+    ensures queue { OnOk result ((trail.new.queue_head ≡ trail.old.queue_head) × (trail.new.units_removed ≡ trail.old.units_removed)) }
+{
+    let mut list = watchlists.take_list(lit);
+    let end = visit_watches(
+        assignment,
+        clause_alloc,
+        impl_graph,
+        trail,
+        watchlists,
+        &mut list,
+        lit,
+    )?;
+    watchlists.put_list(lit, list);
+    Ok(end)
+}

@@ -1,5 +1,8 @@
--- Copies of a clause's literals, each once, for `copy_distinct`.
-use Rattle.std.proofs.Common.{◌≡◌, ℕ, zero, suc, ◌+◌, ◌<◌, ◌≤◌, List, [], ◌∷◌, ◌++◌, inl, inr, ⊎_elim, length, get_or, take, refl, sym, ap, ◌∙◌, subst, arith}
+-- Copies of a clause's literals, each once, and their flags.
+use Rattle.std.proofs.Common.{◌≡◌, ℕ, zero, suc, ◌+◌, ◌*◌, ◌<◌, ◌≤◌, Bool, true, false, List, [], ◌∷◌, ◌++◌, inl, inr, ⊎_elim, length, get_or, set, take, take_all, refl, sym, ap, ◌∙◌, subst, arith, get_or-set_same, get_or-set_other}
+use Rattle.varisat_theory.specs.Literals.{Literal, variable_of}
+use Rattle.varisat_theory.proofs.Members.{equal_or_not}
+use Rattle.varisat_search.specs.Loading.{AreFlagged}
 use Rattle.varisat_theory.specs.Membership.{◌∈◌, SameSet, IsDistinct}
 use Rattle.varisat_theory.proofs.Members.{∈-append_left, ∈-append_right, ∈-append_cases}
 use Rattle.varisat_theory.proofs.Places.{∈-take_more}
@@ -45,3 +48,57 @@ copied-same xs c i v s e n =
 pub only-one : (xs others : List ℕ) (l : ℕ) → xs ≡ l ∷ others → length xs ≤ 1 → xs ≡ l ∷ []
 only-one xs [] l e h = e
 only-one xs (m ∷ others) l e h = let n = ap (λ (x : List ℕ). length x) e in absurd (omega (arith, n, h))
+
+-- one more literal is flagged
+pub flagged-more : (flags : List Bool) (xs : List Literal) (v : Literal) → AreFlagged flags xs → v < length flags → AreFlagged (set flags v true) (xs ++ v ∷ [])
+flagged-more flags xs v f h l =
+    ⊎_elim
+    (λ e. (
+      (λ z. ∈-append_right l xs (v ∷ []) (inl e)),
+      (λ i. ap (λ u. get_or (set flags v true) u false) e ∙ get_or-set_same flags v true false h),
+    ))
+    (λ n. let same = get_or-set_other flags v l true false n in (
+      (λ z. ∈-append_left l xs (v ∷ []) ((f l).0 (sym same ∙ z))),
+      (λ i. same ∙ (f l).1 (⊎_elim (λ o. o) (λ o. ⊎_elim (λ e. absurd (n e)) (λ q. absurd q) o) (∈-append_cases l xs (v ∷ []) i))),
+    ))
+    (equal_or_not l v)
+
+pub flagged-none : (flags : List Bool) → ((l : Literal) → get_or flags l false ≡ false) → AreFlagged flags []
+flagged-none flags c l = ((λ e. let z : true ≡ false = sym e ∙ c l in absurd cc), (λ i. absurd i))
+
+-- The flags of the first i literals were taken away.
+pub record Cleared (lits : List Literal) (i : ℕ) (flags : List Bool) : Type 0 where
+  pub only : (l : Literal) → get_or flags l false ≡ true → l ∈ lits
+  pub gone : (l : Literal) → l ∈ take i lits → get_or flags l false ≡ false
+
+pub cleared-start : (lits : List Literal) (flags : List Bool) → AreFlagged flags lits → Cleared lits 0 flags
+cleared-start lits flags f = record { only = λ l. (f l).0; gone = λ l h. absurd h }
+
+pub cleared-next : (lits : List Literal) (i : ℕ) (flags : List Bool) (v : Literal) → v < length flags → v ≡ get_or lits i 0 → Cleared lits i flags → Cleared lits (i + 1) (set flags v false)
+cleared-next lits i flags v h e c =
+    let now : (l : Literal) → l ≡ v → get_or (set flags v false) l false ≡ false = λ l q. ap (λ u. get_or (set flags v false) u false) q ∙ get_or-set_same flags v false false h in
+    let other : (l : Literal) → (l ≡ v → ⊥) → get_or (set flags v false) l false ≡ get_or flags l false = λ l n. get_or-set_other flags v l false false n in
+    record {
+      only = λ l z. ⊎_elim (λ q. let y : true ≡ false = sym z ∙ now l q in absurd cc) (λ n. c.only l (sym (other l n) ∙ z)) (equal_or_not l v);
+      gone = λ l k. ⊎_elim
+          (now l)
+          (λ n. other l n ∙ ⊎_elim (c.gone l) (λ q. absurd (n (q ∙ sym e))) (∈-take_more l lits i 0 k))
+          (equal_or_not l v);
+    }
+
+pub cleared-end : (lits : List Literal) (i : ℕ) (flags : List Bool) → length lits ≤ i → Cleared lits i flags → (l : Literal) → get_or flags l false ≡ false
+cleared-end lits i flags h c l = go (get_or flags l false) refl
+  where
+    go : (b : Bool) → get_or flags l false ≡ b → b ≡ false
+    go false e = refl
+    go true e = sym e ∙ c.gone l (subst (λ xs. l ∈ xs) (sym (take_all i lits h)) (c.only l e))
+
+-- a literal that is flagged has a flag
+pub flag-inside : (flags : List Bool) (l : Literal) → get_or flags l false ≡ true → l < length flags
+flag-inside [] l e = absurd cc
+flag-inside (b ∷ flags) zero e = omega arith
+flag-inside (b ∷ flags) (suc l) e = let i = flag-inside flags l e in omega (arith, i)
+
+-- where a variable is known its literals have flags
+pub own-list : (l n : ℕ) → variable_of l < n → l < 2 * n
+own-list l n h = omega (arith, h)

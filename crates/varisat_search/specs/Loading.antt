@@ -1,6 +1,7 @@
 -- What becomes of a clause's distinct literals.
-use Rattle.std.specs.Prelude.{◌≡◌, ℕ, false, [], ◌∷◌, ◌⊎◌}
-use Rattle.varisat_theory.specs.Literals.{Clause, opposite}
+use Rattle.std.specs.Prelude.{◌≡◌, ℕ, Bool, true, false, List, [], ◌∷◌, ◌⊎◌, ◌↔◌, slice_index_or}
+use Rattle.varisat_theory.specs.Membership.{◌∈◌}
+use Rattle.varisat_theory.specs.Literals.{Literal, Clause, opposite}
 use Rattle.varisat_prop.specs.declared.prop.graph.Reason.TheVariants as reason
 use Rattle.varisat_prop.specs.Stored.{StoredClause, Keeps}
 use Rattle.varisat_prop.specs.View.{View, IsTrueIn}
@@ -12,6 +13,10 @@ use Rattle.varisat_search.specs.Steps.{IsFree}
 -- a loaded clause at the place, which is not redundant
 abbrev pub loaded_at : ℕ → Clause → StoredClause
 loaded_at p c = record { place = p; header = record { redundant = false }; literals = c }
+
+-- exactly the literals of the list are flagged
+abbrev pub AreFlagged : List Bool → List Literal → Type 0
+AreFlagged flags lits = (l : Literal) → slice_index_or flags l false ≡ true ↔ (l ∈ lits)
 
 -- The empty clause, and a single literal that is false, give verdict Unsat. Another single literal is made true. A longer clause is kept, and the queue begins anew, so that propagation sees the clause under each literal of the trail.
 abbrev pub IsAdded : View → View → Clause → SatState → SatState → Type 0

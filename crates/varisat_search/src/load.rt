@@ -1,7 +1,7 @@
 //! Loading of clauses.
-ghost use Rattle.std.specs.Prelude.{◌≡◌, ◌≢◌, ◌<◌, List, [], length, true, false, OnOk, IsTrue, ◌↔◌};
+ghost use Rattle.std.specs.Prelude.{◌≡◌, ◌≢◌, ◌<◌, List, [], length, replicate, slice_index_or, ◌*◌, true, false, OnOk, IfOk, IsTrue, ◌↔◌};
 ghost use Rattle.varisat_theory.specs.Membership.{◌∈◌, SameSet, IsDistinct};
-ghost use Rattle.varisat_theory.specs.Literals.{Literal};
+ghost use Rattle.varisat_theory.specs.Literals.{Literal, opposite};
 ghost use Rattle.varisat_theory.specs.Derivations.{Line};
 ghost use Rattle.varisat_theory.specs.Searches.{IsTautology};
 ghost use Rattle.varisat_theory.specs.Outcomes.{Loads};
@@ -12,7 +12,7 @@ ghost use Rattle.varisat_prop.specs.Watches.{IsPropagated};
 ghost use Rattle.varisat_search.specs.Contexts.{view, KeepsSchedule, IsReady};
 ghost use Rattle.varisat_search.specs.Steps.{SavesAll};
 ghost use Rattle.varisat_search.specs.Decisions.{AreDecidable, SameDecidable};
-ghost use Rattle.varisat_search.specs.Loading.{IsAdded};
+ghost use Rattle.varisat_search.specs.Loading.{AreFlagged, IsAdded};
 ghost use Rattle.varisat_search.specs.Seen.{search_of, outcome_of};
 
 use crate::cdcl::first_of;
@@ -24,45 +24,96 @@ use varisat_literals::Lit;
 use varisat_prop::clause::ClauseHeader;
 use varisat_prop::prop::{Assignment, Reason, enqueue_assignment};
 
-/// Whether the literal is one of the list.
-fn holds(lits: &[Lit], lit: Lit) -> bool
-    ensures { IsTrue result ↔ (lit ∈ lits.now) }
-{
-    for other in lits {
-        if other.code() == lit.code() {
-            return true;
-        }
-    }
-    false
-}
-
-/// Copies the clause's literals, each once.
+/// Copies the clause's literals, each once, and flags those that were copied.
 fn copy_distinct<A: Allocator + Copy>(
     lits: &mut Vec<Lit, A>,
+    flags: &mut [bool],
     clause: &[Lit],
 ) -> Result<(), AllocError>
+    requires clear { (l : Literal) → slice_index_or flags.old l false ≡ false }
+    requires known { (l : Literal) → l ∈ clause.now → l < length flags.old }
     ensures distinct { OnOk result (IsDistinct lits.new.items) }
     ensures same { OnOk result (SameSet lits.new.items clause.now) }
+    ensures flagged { AreFlagged flags.new lits.new.items }
 {
     lits.clear();
     for lit in clause {
-        if !holds(lits, *lit) {
-            lits.push(*lit)?;
+        if flags[lit.code()] {
+            continue;
         }
+        lits.push(*lit)?;
+        flags[lit.code()] = true;
     }
     Ok(())
 }
 
-/// Whether a literal's opposite is one of the clause too.
-fn is_tautology(lits: &[Lit]) -> bool
+/// Whether a literal's opposite is one of the clause too, whose literals are flagged.
+fn is_tautology(lits: &[Lit], flags: &[bool]) -> bool
+    requires flagged { AreFlagged flags.now lits.now }
+    requires known { (l : Literal) → l ∈ lits.now → opposite l < length flags.now }
     ensures { IsTrue result ↔ IsTautology lits.now }
 {
     for lit in lits {
-        if holds(lits, !*lit) {
+        let opposite = !*lit;
+        if flags[opposite.code()] {
             return true;
         }
     }
     false
+}
+
+/// Takes the flags of the literals away, which are all that are set.
+fn clear_flagged(flags: &mut [bool], lits: &[Lit])
+    requires { AreFlagged flags.old lits.now }
+    ensures { (l : Literal) → slice_index_or flags.new l false ≡ false }
+{
+    for lit in lits {
+        flags[lit.code()] = false;
+    }
+}
+
+/// Copies the clause's literals, each once. Returns whether one of them is another's opposite. The flags tell what was
+/// copied already, so that a long clause takes time in proportion to its length; all are false again at the end.
+fn collect_flagged<A: Allocator + Copy>(
+    lits: &mut Vec<Lit, A>,
+    flags: &mut [bool],
+    clause: &[Lit],
+) -> Result<bool, AllocError>
+    requires clear { (l : Literal) → slice_index_or flags.old l false ≡ false }
+    requires known { (l : Literal) → l ∈ clause.now → (l < length flags.old) × (opposite l < length flags.old) }
+    ensures distinct { OnOk result (IsDistinct lits.new.items) }
+    ensures same { OnOk result (SameSet lits.new.items clause.now) }
+    ensures tautology { IfOk result (λ found. IsTrue found ↔ IsTautology lits.new.items) }
+    ensures clear { (l : Literal) → slice_index_or flags.new l false ≡ false }
+{
+    match copy_distinct(lits, flags, clause) {
+        Ok(()) => {
+            let found = is_tautology(lits, flags);
+            clear_flagged(flags, lits);
+            Ok(found)
+        }
+        Err(error) => {
+            clear_flagged(flags, lits);
+            Err(error)
+        }
+    }
+}
+
+/// Copies the clause's literals to `lits`, each once. Returns whether one of them is another's opposite.
+fn collect_distinct<A: Allocator + Copy>(
+    ctx: &mut Context<A>,
+    clause: &[Lit],
+) -> Result<bool, AllocError>
+    requires flags { ctx.old.tmp_flags.flags.items ≡ replicate (2 * length ctx.old.assignment.current) false }
+    requires in_range { IsInRange ctx.old.assignment.current clause.now }
+    ensures distinct { OnOk result (IsDistinct ctx.new.tmp_data.lits.items) }
+    ensures same { OnOk result (SameSet ctx.new.tmp_data.lits.items clause.now) }
+    ensures tautology { IfOk result (λ found. IsTrue found ↔ IsTautology ctx.new.tmp_data.lits.items) }
+    ensures flags { OnOk result (ctx.new.tmp_flags.flags.items ≡ ctx.old.tmp_flags.flags.items) }
+    ensures kept { ctx.new ≡ record ctx.old { tmp_data = ctx.new.tmp_data; tmp_flags = ctx.new.tmp_flags } }
+{
+    let found = collect_flagged(&mut ctx.tmp_data.lits, &mut ctx.tmp_flags.flags, clause)?;
+    Ok(found)
 }
 
 /// Whether a literal of the clause is true.
@@ -145,8 +196,7 @@ pub fn load_clause<A: Allocator + Copy>(
     }
     ctx.solver_state.accept_clause();
     full_restart(ctx);
-    copy_distinct(&mut ctx.tmp_data.lits, lits)?;
-    if is_tautology(&ctx.tmp_data.lits) {
+    if collect_distinct(ctx, lits)? {
         return Ok(());
     }
     if is_satisfied(&ctx.assignment, &ctx.tmp_data.lits) {

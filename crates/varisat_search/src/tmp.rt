@@ -21,8 +21,7 @@ impl<A: Allocator + Copy> TmpData<A> {
     }
 }
 
-/// A flag for each literal. All are false between calls: whoever sets one takes it away again, also before an error. No
-/// call sets one yet: counting the levels of a clause will, and listing the assumptions that a conflict comes from.
+/// A flag for each literal. All are false between calls: whoever sets one takes it away again, also before an error.
 #[derive(Drop)]
 pub struct TmpFlags<A: Allocator + Copy> {
     pub flags: Vec<bool, A>,

@@ -1,24 +1,45 @@
-use Rattle.std.proofs.Common.{take_all, sym, subst}
+use Rattle.std.proofs.Common.{◌≡◌, ℕ, ◌<◌, ◌++◌, [], ◌∷◌, length, slice_index_or, set, true, false, take_all, sym, ap, ◌∙◌, subst, arith}
 use Rattle.varisat_theory.specs.Membership.{◌∈◌, SameSet}
-use Rattle.varisat_theory.proofs.Scans.{refused, granted}
-use Rattle.varisat_prop.proofs.ReadElements.{element}
-use Rattle.varisat_search.proofs.LoadCopies.{copied-more, copied-same}
+use Rattle.varisat_search.specs.Loading.{AreFlagged}
+use Rattle.varisat_prop.proofs.ReadElements.{element, item-∈}
+use Rattle.varisat_search.proofs.LoadCopies.{copied-more, copied-same, flagged-more, flagged-none}
 use Rattle.varisat_search.proofs.load.copy_distinct.Goals as goal
-use Rattle.varisat_search.proofs.load.copy_distinct.Goals.{then-not-holds+in_ok-push, else-not-holds}
+
+pub bounds-flags-code : goal.bounds-flags-code
+bounds-flags-code g c =
+    let i = c.requires.known c.lit-item.result (item-∈ c.args.clause.now c.loop-lit.lit-index c.lit-item.result c.loop-lit-test.true c.lit-item.is) in
+    let n = c.loop-lit.auto.flags in
+    omega (arith, i, n, c.code.ensures.code)
+
+pub bounds-flags-code-in-loop-lit : goal.bounds-flags-code-in-loop-lit
+bounds-flags-code-in-loop-lit g c =
+    let i = c.requires.known c.lit-item.result (item-∈ c.args.clause.now c.loop-lit.lit-index c.lit-item.result c.loop-lit-test.true c.lit-item.is) in
+    let n = c.loop-lit.auto.flags in
+    omega (arith, i, n, c.code-in-loop-lit.ensures.code)
+
+pub loop-lit-preserved-then-flags-code : goal.loop-lit-preserved-then-flags-code
+loop-lit-preserved-then-flags-code g c =
+    let xs = c.loop-lit.lits.items in
+    let v = c.lit-item.result in
+    let k = element c.args.clause.now c.loop-lit.lit-index v c.loop-lit-test.true c.lit-item.is in
+    let n : v ∈ xs = (c.loop-lit.invariant.flagged v).0 (ap (λ (i : ℕ). slice_index_or c.loop-lit.flags i false) (sym c.code.ensures.code) ∙ c.if-flags-code.true) in
+    record { distinct = c.loop-lit.invariant.distinct; same = copied-same xs c.args.clause.now c.loop-lit.lit-index v c.loop-lit.invariant.same k n; flagged = c.loop-lit.invariant.flagged }
 
 pub loop-lit-preserved : goal.loop-lit-preserved
 loop-lit-preserved g c =
     let xs = c.loop-lit.lits.items in
-    let k = element c.args.clause.now c.loop-lit.lit-index c.lit-item.result c.loop-lit-test.true c.lit-item.is in
-    elim c.if-not-holds.branch [
-      | then-not-holds+in_ok-push w ↦
-          let n = λ (h : c.lit-item.result ∈ xs). refused _ c.holds.result w.if-not-holds.true c.holds.ensures (subst (λ ys. c.lit-item.result ∈ ys) (sym c.deref.ensures.value) h) in
-          let p = copied-more xs c.args.clause.now c.loop-lit.lit-index c.lit-item.result c.loop-lit.invariant.distinct c.loop-lit.invariant.same c.loop-lit-test.true k n in
-          rw (w.lits-is, w.in_ok-push.ensures.items) (record { distinct = p.0; same = p.1 })
-      | else-not-holds w ↦
-          let n = subst (λ ys. c.lit-item.result ∈ ys) c.deref.ensures.value (granted _ c.holds.result w.if-not-holds.false c.holds.ensures) in
-          rw w.lits-is (record { distinct = c.loop-lit.invariant.distinct; same = copied-same xs c.args.clause.now c.loop-lit.lit-index c.lit-item.result c.loop-lit.invariant.same k n })
-    ]
+    let ys = c.push.new.self.items in
+    let v = c.lit-item.result in
+    let k = element c.args.clause.now c.loop-lit.lit-index v c.loop-lit-test.true c.lit-item.is in
+    let i = c.requires.known v (item-∈ c.args.clause.now c.loop-lit.lit-index v c.loop-lit-test.true c.lit-item.is) in
+    let n = c.loop-lit.auto.flags in
+    let new : v ∈ xs → ⊥ = λ h. let e = (c.loop-lit.invariant.flagged v).1 h in let f = ap (λ (j : ℕ). slice_index_or c.loop-lit.flags j false) (sym c.code.ensures.code) ∙ c.if-flags-code.false in let z : true ≡ false = sym e ∙ f in cc in
+    let p = copied-more xs c.args.clause.now c.loop-lit.lit-index v c.loop-lit.invariant.distinct c.loop-lit.invariant.same c.loop-lit-test.true k new in
+    let f : AreFlagged (set c.loop-lit.flags c.code-in-loop-lit.result true) (xs ++ v ∷ []) = subst (λ u. AreFlagged (set c.loop-lit.flags u true) (xs ++ v ∷ [])) (sym c.code-in-loop-lit.ensures.code) (flagged-more c.loop-lit.flags xs v c.loop-lit.invariant.flagged (omega (arith, i, n))) in
+    rw c.in_ok-push.ensures.items (record { distinct = p.0; same = p.1; flagged = f })
+
+pub loop-lit-init : goal.loop-lit-init
+loop-lit-init g c = rw c.clear.ensures.items (record { distinct = tt; same = ((λ x i. i), (λ x i. i)); flagged = flagged-none c.args.flags.now c.requires.clear })
 
 pub returns-clause-same : goal.returns-clause-same
 returns-clause-same g c =

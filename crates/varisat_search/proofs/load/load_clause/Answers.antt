@@ -1,66 +1,82 @@
-use Rattle.std.proofs.Common.{length, refl, sym, ap, ◌∙◌, subst, arith}
+use Rattle.std.proofs.Common.{◌*◌, false, replicate, length, refl, sym, ap, ◌∙◌, subst, arith}
 use Rattle.varisat_theory.specs.Membership.{◌∈◌}
-use Rattle.varisat_theory.specs.Searches.{IsTautology}
 use Rattle.varisat_search.specs.declared.context.Context.{Context}
 use Rattle.varisat_search.specs.Contexts.{view}
+use Rattle.varisat_search.proofs.LoadView.{Restarted, restarted}
 use Rattle.varisat_search.proofs.LoadContext.{Loading, loading-restarted, loading-propagated, loading-inside, loaded-tautology, loaded-satisfied, loaded-added}
 use Rattle.varisat_search.proofs.load.load_clause.Given.{Over}
-use Rattle.varisat_search.proofs.load.load_clause.Goals.{In_ok-copy_distinct}
+use Rattle.varisat_search.proofs.load.load_clause.Goals.{After-full_restart, In_ok-collect_distinct}
 use Rattle.varisat_search.proofs.load.load_clause.Goals as goal
 
-abbrev copied : (g : Over) (c : In_ok-copy_distinct g) → Context g.row.A.Denot
-copied g c = record c.full_restart.new.ctx { tmp_data = record c.full_restart.new.ctx.tmp_data { lits = c.copy_distinct.new.lits } }
+abbrev copied : (g : Over) (c : In_ok-collect_distinct g) → Context g.row.A.Denot
+copied g c = c.collect_distinct.new.ctx
 
-loading : (g : Over) (c : In_ok-copy_distinct g) → Loading c.args.ctx.now (copied g c) c.args.lits.now c.copy_distinct.new.lits.items
-loading g c = record {
-  ready = c.requires.ready;
-  in_range = c.requires.in_range;
-  same = λ e. ap (λ (x : Context g.row.A.Denot). view x) (c.full_restart.ensures.undone.same (let n = ap length e in omega (arith, n)));
-  cut = c.full_restart.ensures.undone.cut;
-  decidable = c.requires.decidable;
-  entries = c.full_restart.ensures.undone.entries;
-  stay_decidable = c.full_restart.ensures.undone.decidable;
-  last = (λ e. ap (λ (x : Context g.row.A.Denot). x.assignment.last) (c.full_restart.ensures.undone.same (let n = ap length e in omega (arith, n))), c.full_restart.ensures.undone.saved);
-  state = ap (λ (x : Context g.row.A.Denot). x.solver_state) c.full_restart.ensures.undone.kept ∙ c.accept_clause.ensures;
-  units = c.full_restart.ensures.undone.units;
-  analysis = ap (λ (x : Context g.row.A.Denot). x.analyze_conflict.var_count) c.full_restart.ensures.undone.kept;
-  flags = ap (λ (x : Context g.row.A.Denot). x.tmp_flags.flags.items) c.full_restart.ensures.undone.kept;
-  watches = ap (λ (x : Context g.row.A.Denot). x.watchlists) c.full_restart.ensures.undone.kept;
-  schedule = record { schedule = ap (λ (x : Context g.row.A.Denot). x.schedule) c.full_restart.ensures.undone.kept; solver_config = ap (λ (x : Context g.row.A.Denot). x.solver_config) c.full_restart.ensures.undone.kept };
-  distinct = c.in_ok-copy_distinct.ensures.distinct;
-  literals = c.in_ok-copy_distinct.ensures.same;
-}
+-- how all decisions were undone
+undone : (g : Over) (c : After-full_restart g) → Restarted (view c.args.ctx.now) (view c.full_restart.new.ctx)
+undone g c =
+    restarted (view c.args.ctx.now) (view c.full_restart.new.ctx) c.requires.ready.well
+    (λ e. ap (λ (x : Context g.row.A.Denot). view x) (c.full_restart.ensures.undone.same (let n = ap length e in omega (arith, n))))
+    c.full_restart.ensures.undone.cut
 
-pub returns-then-is_tautology : goal.returns-then-is_tautology
-returns-then-is_tautology g c =
-    let taut = subst IsTautology c.deref.ensures.value (c.if-is_tautology.ensures.0 refl) in
-    let o = loaded-tautology (loading g (goal.at.returns-then-is_tautology g c).In_ok-copy_distinct) taut in
+loading : (g : Over) (c : In_ok-collect_distinct g) → Loading c.args.ctx.now (copied g c) c.args.lits.now c.collect_distinct.new.ctx.tmp_data.lits.items
+loading g c =
+    subst (λ (x : Context g.row.A.Denot). Loading c.args.ctx.now x c.args.lits.now c.collect_distinct.new.ctx.tmp_data.lits.items) (sym c.collect_distinct.ensures.kept) record {
+      ready = c.requires.ready;
+      in_range = c.requires.in_range;
+      same = λ e. ap (λ (x : Context g.row.A.Denot). view x) (c.full_restart.ensures.undone.same (let n = ap length e in omega (arith, n)));
+      cut = c.full_restart.ensures.undone.cut;
+      decidable = c.requires.decidable;
+      entries = c.full_restart.ensures.undone.entries;
+      stay_decidable = c.full_restart.ensures.undone.decidable;
+      last = (λ e. ap (λ (x : Context g.row.A.Denot). x.assignment.last) (c.full_restart.ensures.undone.same (let n = ap length e in omega (arith, n))), c.full_restart.ensures.undone.saved);
+      state = ap (λ (x : Context g.row.A.Denot). x.solver_state) c.full_restart.ensures.undone.kept ∙ c.accept_clause.ensures;
+      units = c.full_restart.ensures.undone.units;
+      analysis = ap (λ (x : Context g.row.A.Denot). x.analyze_conflict.var_count) c.full_restart.ensures.undone.kept;
+      flags = c.in_ok-collect_distinct.ensures.flags ∙ ap (λ (x : Context g.row.A.Denot). x.tmp_flags.flags.items) c.full_restart.ensures.undone.kept;
+      watches = ap (λ (x : Context g.row.A.Denot). x.watchlists) c.full_restart.ensures.undone.kept;
+      schedule = record { schedule = ap (λ (x : Context g.row.A.Denot). x.schedule) c.full_restart.ensures.undone.kept; solver_config = ap (λ (x : Context g.row.A.Denot). x.solver_config) c.full_restart.ensures.undone.kept };
+      distinct = c.in_ok-collect_distinct.ensures.distinct;
+      literals = c.in_ok-collect_distinct.ensures.same;
+    }
+
+pub collect_distinct-requires : goal.collect_distinct-requires
+collect_distinct-requires g c =
+    let n = (undone g (goal.at.collect_distinct-requires g c).After-full_restart).count in
+    record {
+      flags = ap (λ (x : Context g.row.A.Denot). x.tmp_flags.flags.items) c.full_restart.ensures.undone.kept ∙ c.requires.ready.flags ∙ ap (λ m. replicate (2 * m) false) (sym n);
+      in_range = λ l h. let i = c.requires.in_range l h in omega (arith, i, n);
+    }
+
+pub returns-then-branch : goal.returns-then-branch
+returns-then-branch g c =
+    let taut = c.in_ok-collect_distinct.ensures.tautology.0 c.if-branch.true in
+    let o = loaded-tautology (loading g (goal.at.returns-then-branch g c).In_ok-collect_distinct) taut in
     record { ready = o.ready; unsat = λ e. absurd (c.in_default.not-Unsat e); lines = o.lines; last = λ n. o.last; state = λ n. o.state; count = o.count; units = o.units; undecided = λ n. o.undecided; decidable = o.decidable; schedule = o.schedule }
 
 pub is_satisfied-requires : goal.is_satisfied-requires
 is_satisfied-requires g c l h =
-    loading-inside (loading g (goal.at.is_satisfied-requires g c).In_ok-copy_distinct) l (subst (λ ys. l ∈ ys) c.deref-2.ensures.value h)
+    loading-inside (loading g (goal.at.is_satisfied-requires g c).In_ok-collect_distinct) l (subst (λ ys. l ∈ ys) c.deref.ensures.value h)
 
 pub returns-then-is_satisfied : goal.returns-then-is_satisfied
 returns-then-is_satisfied g c =
     let found = c.if-is_satisfied.ensures.0 refl in
-    let o = loaded-satisfied (loading g (goal.at.returns-then-is_satisfied g c).In_ok-copy_distinct) found.0 (subst (λ ys. found.0 ∈ ys) c.deref-2.ensures.value found.1) found.2 in
+    let o = loaded-satisfied (loading g (goal.at.returns-then-is_satisfied g c).In_ok-collect_distinct) found.0 (subst (λ ys. found.0 ∈ ys) c.deref.ensures.value found.1) found.2 in
     record { ready = o.ready; unsat = λ e. absurd (c.in_default.not-Unsat e); lines = o.lines; last = λ n. o.last; state = λ n. o.state; count = o.count; units = o.units; undecided = λ n. o.undecided; decidable = o.decidable; schedule = o.schedule }
 
 pub add_distinct-requires : goal.add_distinct-requires
 add_distinct-requires g c =
-    let d = loading g (goal.at.add_distinct-requires g c).In_ok-copy_distinct in
+    let d = loading g (goal.at.add_distinct-requires g c).In_ok-collect_distinct in
     record {
       well = (loading-restarted d).well;
       propagated = loading-propagated d;
       undecided = (loading-restarted d).undecided;
       in_range = loading-inside d;
-      untrue = λ l i t. let b = c.if-is_satisfied.ensures.1 (l, subst (λ ys. l ∈ ys) (sym c.deref-2.ensures.value) i, t) in cc;
+      untrue = λ l i t. let b = c.if-is_satisfied.ensures.1 (l, subst (λ ys. l ∈ ys) (sym c.deref.ensures.value) i, t) in cc;
     }
 
 pub returns : goal.returns
 returns g c =
     let e = c.in_ok-add_distinct.ensures in
     let k = c.add_distinct.ensures.kept in
-    let o = loaded-added (loading g (goal.at.returns g c).In_ok-copy_distinct) c.add_distinct.new.ctx k e.propagated e.state e.units e.last e.added in
+    let o = loaded-added (loading g (goal.at.returns g c).In_ok-collect_distinct) c.add_distinct.new.ctx k e.propagated e.state e.units e.last e.added in
     record { ready = o.ready; unsat = λ e. absurd (c.in_default.not-Unsat e); lines = o.lines; last = λ n. o.last; state = λ n. o.state; count = o.count; units = o.units; undecided = λ n. o.undecided; decidable = o.decidable; schedule = o.schedule }

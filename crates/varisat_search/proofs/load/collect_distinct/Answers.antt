@@ -1,0 +1,29 @@
+use Rattle.std.proofs.Common.{◌≡◌, ◌*◌, ◌<◌, false, length, drop, get_or, sym, ap, ◌∙◌, subst, arith}
+use Rattle.std.proofs.lemmas.List.{length-replicate}
+use Rattle.varisat_theory.specs.Literals.{opposite}
+use Rattle.varisat_search.proofs.BumpedVariables.{clear-given-back, false-all}
+use Rattle.varisat_prop.proofs.LongVisited.{listed}
+use Rattle.varisat_search.proofs.LoadCopies.{own-list}
+use Rattle.varisat_search.proofs.load.collect_distinct.Goals as goal
+
+pub collect_flagged-requires-clause-known : goal.collect_flagged-requires-clause-known
+collect_flagged-requires-clause-known g c = λ l h.
+    let x = c.args.ctx.now in
+    let n = length x.assignment.current in
+    let i = c.requires.in_range l h in
+    let f : length x.tmp_flags.flags.items ≡ 2 * n = ap (λ xs. length xs) c.requires.flags ∙ length-replicate (2 * n) false in
+    let v = ap (λ xs. length xs) c.deref_mut.ensures.value in
+    let a = own-list l n i in
+    let b = listed l n i in
+    (omega (arith, a, f, v), omega (arith, b, f, v))
+
+pub returns-clause-flags : goal.returns-clause-flags
+returns-clause-flags g c =
+    let x = c.args.ctx.now in
+    let n = length x.assignment.current in
+    let news = c.collect_flagged.new.flags in
+    let long = c.collect_flagged.auto.flags in
+    let value = ap (λ xs. length xs) c.deref_mut.ensures.value in
+    let count = x.tmp_flags.flags.ok.0 in
+    let f : length x.tmp_flags.flags.items ≡ 2 * n = ap (λ xs. length xs) c.requires.flags ∙ length-replicate (2 * n) false in
+    clear-given-back news (drop (length news) x.tmp_flags.flags.items) x.tmp_flags.flags.len (2 * n) (omega (arith, long, value, count)) (omega (arith, f, count)) c.collect_flagged.ensures.clear ∙ sym c.requires.flags

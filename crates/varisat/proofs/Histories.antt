@@ -1,5 +1,6 @@
 -- What a run says of the answers alone.
-use Rattle.std.proofs.Common.{List, [], ◌∷◌, refl, ◌∙◌}
+use Rattle.std.proofs.Common.{List, [], ◌∷◌, refl, ◌∙◌, Result, Ok, Err}
+use Rattle.std.specs.Result.{IfOk}
 use Rattle.varisat_formula.specs.Streams.{Stand}
 use Rattle.varisat.specs.declared.session.Call.{Call}
 use Rattle.varisat.specs.declared.session.Answer.{Answer}
@@ -11,6 +12,11 @@ use Rattle.varisat.specs.Runs.{MakesCall, Run}
 use Rattle.varisat.specs.Pasts.{Past, empty_past}
 use Rattle.varisat.specs.Histories.{IsTrue, AreTrue}
 use Rattle.varisat.proofs.Pasts.{Agrees, Leads, add-clause, add-formula, add-text, make-var, solve, tell-model, config, stays, empty-agrees}
+
+-- what holds of each value with P
+pub of-ok : {X E : Type 0} (r : Result X E) (P Q : X → Type 0) → ((x : X) → P x → Q x) → IfOk r P → IfOk r Q
+of-ok (Ok x) P Q f h = f x h
+of-ok (Err e) P Q f h = tt
 
 -- a call moves the past and the state alike
 is-true : {W S A : Type 0} (seen : S → Stand) (c : Call S A) (a : Answer W S A) (p : Past) (s t : State) → Agrees p s → MakesCall seen s c a t → Leads (IsTrue seen p c a) t

@@ -92,7 +92,7 @@ pub fn answers_of<W: ProofTarget, S: ByteSource, A: Allocator + Copy>(
     ensures run { IfOk result (λ answers. (t : State) × Run S.stand empty_state calls.items answers.items t) }
     ensures truth { IfOk result (λ answers. AreTrue S.stand empty_past calls.items answers.items) }
 {
+    // One return: the solver's memory is given back in one place.
     let mut solver: Solver<W, A> = Solver::new_in(*calls.allocator());
-    let answers = run(&mut solver, calls)?;
-    Ok(answers)
+    run(&mut solver, calls)
 }

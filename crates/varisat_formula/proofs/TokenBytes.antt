@@ -1,5 +1,6 @@
 -- Tokens, a byte at a time.
 use Rattle.std.proofs.Common.{◌≡◌, ℕ, zero, suc, ◌+◌, ◌-◌, ◌*◌, ◌^◌, ◌<◌, ◌≤◌, List, [], ◌∷◌, ◌++◌, Bool, true, false, ◌&&◌, ◌==◌, nat_lt, if◌then◌else◌, refl, sym, ap, ◌∙◌, append_assoc, append-nil, Option, Some, None, option_map, min, arith, rules}
+use Rattle.std.proofs.lemmas.Bool.{lt-ltb}
 use Rattle.varisat_theory.specs.Literals.{literal_of}
 use Rattle.varisat_literals.specs.Numbers.{variable_limit}
 use Rattle.varisat_formula.specs.declared.dimacs.token.Digits.{Digits}
@@ -7,10 +8,17 @@ use Rattle.varisat_formula.specs.declared.dimacs.token.Digits.TheVariants.{Empty
 use Rattle.varisat_formula.specs.declared.dimacs.token.Word.{Word}
 use Rattle.varisat_formula.specs.declared.dimacs.token.Meaning.TheVariants.{TooLarge, Literal}
 use Rattle.varisat_formula.specs.Dimacs.{put, split, is_blank, nonempty, ended_pieces, tokens, is_digit, digits_after, number, in_range, positive, negative, meaning, Token, token_items}
-use Rattle.varisat_formula.specs.Machine.{after_digit, digits_from, says, is_empty, no_word, is_none, after_byte, word_from, word_says}
+use Rattle.varisat_formula.specs.Machine.{after_digit, grown, digits_from, says, is_empty, no_word, is_none, after_byte, word_from, word_says}
 use Rattle.varisat_formula.specs.Rest.{word_items, plain_rest}
 
 -- 1. Digits.
+-- one digit more, below 2^64
+pub grown_below : (n d : ℕ) → (n ≡ 0 → ⊥) → n * 10 + d < 2 ^ 64 → Number (n * 10 + d) ≡ grown n d
+grown_below zero d h b = absurd (h refl)
+grown_below (suc n) d h b =
+    let e : suc n * 10 + d ≡ 10 * suc n + d = omega arith in
+    ap Number e ∙ sym (ap (λ t. if t then Number (10 * suc n + d) else Large) (lt-ltb (10 * suc n + d) (2 ^ 64) (omega (arith, b, e))))
+
 abbrev pub capped : ℕ → ℕ
 capped n = min n (2 ^ 64)
 

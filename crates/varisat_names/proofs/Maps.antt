@@ -1,5 +1,5 @@
 -- Maps that are changed at one place.
-use Rattle.std.proofs.Common.{◌≡◌, ℕ, true, is_some, Option, Some, None, ◌⊎◌, inl, inr, ⊎_elim, if◌then◌else◌, sym, ap, ◌∙◌, subst, refl, eq-eqb, ne_eqb}
+use Rattle.std.proofs.Common.{◌≡◌, ℕ, true, false, is_some, Option, Some, None, ◌⊎◌, inl, inr, ⊎_elim, if◌then◌else◌, sym, ap, ◌∙◌, subst, refl, eq-eqb, ne_eqb}
 use Rattle.varisat_theory.proofs.Members.{equal_or_not}
 use Rattle.varisat_names.specs.Maps.{updated, IsInverse, onward, chain}
 
@@ -76,3 +76,7 @@ is-some (Some y) = inr (y, refl)
 pub some-of : {X : Type 0} (o : Option X) → is_some o ≡ true → (y : X) × (o ≡ Some y)
 some-of None e = absurd cc
 some-of (Some y) e = (y, refl)
+
+pub is_none-none : {X : Type 0} (o : Option X) → is_some o ≡ false → o ≡ None
+is_none-none None e = refl
+is_none-none (Some y) e = absurd cc

@@ -1,13 +1,33 @@
 -- What changes of the tables add up to.
-use Rattle.std.proofs.Common.{◌≡◌, ◌≢◌, ◌<◌, ◌≤◌, ℕ, zero, suc, ◌+◌, ◌-◌, max, true, false, Option, Some, None, List, [], ◌∷◌, length, slice_index_or, sym, ap, ◌∙◌, subst, refl, arith, ⊎_elim}
+use Rattle.std.proofs.Common.{◌≡◌, ◌<◌, ◌≤◌, ℕ, is_gt, zero, suc, ◌+◌, ◌-◌, Bool, true, false, if◌then◌else◌, Option, Some, None, List, [], ◌∷◌, length, slice_set, sym, ap, ◌∙◌, subst, refl, arith, ⊎_elim}
 use Rattle.std.proofs.lemmas.Bool.{cases_lt}
+use Rattle.std.proofs.lemmas.List.{length-set, get_or-set_same, get_or-set_other}
+use Rattle.std.proofs.lemmas.Bool.Decides.{nat_tests}
+use Rattle.std.specs.Ordering.{nat_cmp}
+use Rattle.std.specs.BTreeSet.{BTreeSet, contains}
 use Rattle.varisat_names.specs.VarMap.{at, IsPut, IsFull, IsLeastUnmapped}
-use Rattle.varisat_names.specs.VarData.{fresh, kept_at, IsKeptAs, IsLeastDeleted}
-use Rattle.varisat_names.specs.Variables.{Tables, AreLinked, IsGiven, AreNextGiven, IsTaken, IsNothingHidden}
+use Rattle.varisat_names.specs.VarData.{fresh, dead, kept_at, IsKeptAs, IsLeastDeleted}
+use Rattle.varisat_names.specs.Variables.{without_name, Tables, AreLinked, IsGiven, AreNextGiven, IsTaken, IsNothingHidden, AreFree}
 use Rattle.varisat_names.specs.declared.variables.data.VarData.{VarData}
-use Rattle.varisat_names.proofs.VarMap.{at-past, at-inside}
+use Rattle.varisat_names.specs.declared.variables.data.SamplingMode.TheVariants as sampling
+use Rattle.varisat_names.proofs.VarMap.{at-inside}
 use Rattle.varisat_names.proofs.Maps.{updated-all, updated-at, updated-other}
 use Rattle.varisat_names.specs.Maps.{updated}
+
+-- another entry
+pub set-kept : (xs : List VarData) (x i : ℕ) (d : VarData) → i ≡ x → x < length xs → IsKeptAs xs x d (slice_set xs i d)
+set-kept xs x i d e h =
+    let c = length-set xs i d in
+    record {
+      count = omega (arith, c, h);
+      at_each = λ j. ap (λ k. kept_at (slice_set xs k d) j) e ∙ updated-all (λ m o. kept_at (slice_set xs x d) m ≡ o) (kept_at xs) x d (get_or-set_same xs x d dead h) j (λ n. get_or-set_other xs x j d dead n);
+    }
+
+-- a variable that lost its name is not live where it has no solver variable and is isolated
+pub unnamed-dead : (old new : List VarData) (x : ℕ) (o : Option ℕ) → o ≡ None → (kept_at old x).isolated ≡ true → IsKeptAs old x dead new → IsKeptAs old x (without_name o (kept_at old x)) new
+unnamed-dead old new x o n i k =
+    let e : without_name o (kept_at old x) ≡ dead = ap (λ p. without_name p (kept_at old x)) n ∙ ap (λ (b : Bool). if b then dead else record (kept_at old x) { sampling_mode = sampling.Hide }) i in
+    subst (λ d. IsKeptAs old x d new) (sym e) k
 
 -- no variable past the list is live
 pub kept-past : (xs : List VarData) (i : ℕ) → length xs ≤ i → (kept_at xs i).deleted ≡ true
@@ -57,6 +77,14 @@ one-more w u old now new index x a b h g =
 -- the least free name where all below the watermark are in use
 pub least-full : (map : List (Option ℕ)) (u : ℕ) → IsFull map → IsLeastUnmapped map u → u ≤ length map → u ≡ length map
 least-full map u f (e, l) h = ⊎_elim (λ p. absurd (f u p e)) (λ p. omega (arith, p, h)) (cases_lt u (length map))
+
+-- the least number of the set of free names
+pub least-free : (map : List (Option ℕ)) (free : BTreeSet ℕ) (u : ℕ) → AreFree map free → contains nat_cmp free u ≡ true → ((v : ℕ) → contains nat_cmp free v ≡ true → is_gt (nat_cmp u v) ≡ false) → IsLeastUnmapped map u
+least-free map free u h m l =
+    let (inside, none) = (h u).0 m in (
+      none,
+      λ v b e. let above = l v ((h v).1 (omega (arith, b, inside), e)) in absurd (grind (arith, nat_tests, above, b)),
+    )
 
 -- a full map with one more pair at its end
 pub full-put : (old new : List (Option ℕ)) (v : ℕ) → IsFull old → IsPut old (length old) (Some v) new → IsFull new

@@ -1,6 +1,7 @@
 -- Maps as lists.
-use Rattle.std.proofs.Common.{◌≡◌, ℕ, zero, suc, ◌+◌, ◌-◌, ◌^◌, ◌<◌, ◌≤◌, nat_eq, if◌then◌else◌, Option, Some, None, List, [], ◌∷◌, ◌++◌, length, replicate, map, take, slice_set, max, sym, ap, subst, ◌∙◌, refl, arith}
+use Rattle.std.proofs.Common.{◌≡◌, ℕ, zero, suc, ◌+◌, ◌-◌, ◌^◌, ◌<◌, ◌≤◌, nat_eq, if◌then◌else◌, Option, Some, None, List, [], ◌∷◌, ◌++◌, length, replicate, map, take, slice_set, sym, ap, ◌∙◌, refl, arith}
 use Rattle.std.proofs.lemmas.List.{length-append, length-replicate, length-map, map-append, take-map, take_all, length-set, map-set, get_or-set_same, get_or-set_other}
+use Rattle.std.proofs.Math.Seq.{take-append_seam}
 use Rattle.std.proofs.lemmas.Bool.{lt-ltb}
 use Rattle.varisat_names.specs.Maps.{updated, IsInverse}
 use Rattle.varisat_names.specs.VarMap.{at, mapped, IsPut}
@@ -52,6 +53,10 @@ length-mapped xs = length-map xs mapped
 -- a shorter map
 pub cut-mapped : (xs : List ℕ) (w : ℕ) → map mapped (take w xs) ≡ take w (map mapped xs)
 cut-mapped xs w = sym (take-map mapped w xs)
+
+-- a longer map that is cut to its old length
+pub cut-back : (xs ys reached cut : List (Option ℕ)) (w : ℕ) → w ≡ length xs → reached ≡ xs ++ ys → cut ≡ take w reached → cut ≡ xs
+cut-back xs ys reached cut w l r c = c ∙ ap (λ n. take n reached) l ∙ ap (take (length xs)) r ∙ take-append_seam xs ys
 
 mapped-none : (n : ℕ) → map mapped (replicate n 0x8000_0000) ≡ replicate n None
 mapped-none zero = refl

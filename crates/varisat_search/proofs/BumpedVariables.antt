@@ -69,8 +69,9 @@ module _ (nodes : List ImplNode) where
   pub may-part : (ls ms : List Literal) (x y : Bumping) → MayBump nodes ls x → ((l : Literal) → l ∈ ms → l ∈ ls) → length y.flags ≡ length x.flags → length y.activities.activity ≡ length x.activities.activity → MayBump nodes ms y
   may-part ls ms x y m h f a = record { known = λ l i. m.known l (h l i); flags = let n = m.flags in omega (arith, n, f); activity = a ∙ m.activity }
 
-  pub bumps-none : (x : Bumping) → BumpsNew nodes [] x x
-  bumps-none x = record {
+  -- nothing is bumped where each literal's variable is of level 0, or was bumped already
+  bumps-nothing : (ls : List Literal) (x : Bumping) → ((m : Literal) → m ∈ ls → 0 < level_in nodes m → IsFlagged x (variable_of m)) → BumpsNew nodes ls x x
+  bumps-nothing ls x h = record {
     vars = [];
     activities = refl;
     distinct = tt;
@@ -78,27 +79,22 @@ module _ (nodes : List ImplNode) where
     fresh = λ v i. absurd i;
     more = λ v h. ⊎_elim (λ e. e) (λ i. absurd i) h;
     listed = λ v e. inl e;
-    all = λ l i. absurd i;
+    all = h;
   }
+
+  pub bumps-none : (x : Bumping) → BumpsNew nodes [] x x
+  bumps-none x = bumps-nothing [] x (λ m i. absurd i)
 
   -- the literal's variable is of level 0, or was bumped already
   pub bumps-skip : (l : Literal) (x : Bumping) → (level_in nodes l ≡ 0) ⊎ IsFlagged x (variable_of l) → BumpsNew nodes (l ∷ []) x x
-  bumps-skip l x h = record {
-    vars = [];
-    activities = refl;
-    distinct = tt;
-    only = λ v i. absurd i;
-    fresh = λ v i. absurd i;
-    more = λ v h. ⊎_elim (λ e. e) (λ i. absurd i) h;
-    listed = λ v e. inl e;
-    all = λ m i o. ⊎_elim
-        (λ e. ⊎_elim
-        (λ z. let q = ap (level_in nodes) e in absurd (omega (arith, o, q, z)))
-        (λ f. subst (λ y. IsFlagged x (variable_of y)) (sym e) f)
-        h)
-        (λ z. absurd z)
-        i;
-  }
+  bumps-skip l x h = bumps-nothing (l ∷ []) x
+      (λ m i o. ⊎_elim
+      (λ e. ⊎_elim
+      (λ z. let q = ap (level_in nodes) e in absurd (omega (arith, o, q, z)))
+      (λ f. subst (λ y. IsFlagged x (variable_of y)) (sym e) f)
+      h)
+      (λ z. absurd z)
+      i)
 
   pub bumps-one : (l : Literal) (x : Bumping) → 0 < level_in nodes l → variable_of l < length x.flags → get_or x.flags (variable_of l) false ≡ false → BumpsNew nodes (l ∷ []) x (bumping (set x.flags (variable_of l) true) (bumped (variable_of l) x.activities))
   bumps-one l x h k f =

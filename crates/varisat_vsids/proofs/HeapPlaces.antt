@@ -129,6 +129,19 @@ with_one m n old new a b long at_a others =
       | inr t ↦ others v ho t.1 ∙ sym (get_or-set_other (availability n old) a v b d t.1 ∙ available_at n old v d ho)
     ])
 
+-- what holds of each place where a variable but that at i is, and was, once the variables at i and n are exchanged
+moved_cases : (heap position : List ℕ) (i n v : ℕ) (holds : ℕ → ℕ → Type 0) → IsLinked heap position → n < length heap → v < length position → v ≢ get_or heap i 0
+    → (i ≢ n → holds i n) → ((p : ℕ) → p ≢ n → holds p p) → holds (get_or (moved heap position i n) v 0) (get_or position v 0)
+moved_cases heap position i n v holds l hn h va last other =
+    elim (eqb_tells v (get_or heap n 0)) [
+      | inl t ↦
+          let apart : i ≢ n = λ e. va (t.1 ∙ ap (λ (x : ℕ). get_or heap x 0) (sym e)) in
+          rw (t.1, moved_second heap position i n l hn, l.placed n hn) (last apart)
+      | inr t ↦
+          let nn : get_or position v 0 ≢ n = λ e. t.1 (sym (l.stands v (rw l.count at h)) ∙ ap (λ (x : ℕ). get_or heap x 0) e) in
+          rw (moved_other heap position i n v va t.1) (other (get_or position v 0) nn)
+    ]
+
 -- the variable at i leaves the first m, whose last takes its place
 pub taken_out : (heap position : List ℕ) (i m n : ℕ) → IsLinked heap position → i < m → m ≡ n + 1 → m ≤ length heap
     → availability n (set (set position (get_or heap i 0) n) (get_or heap n 0) i) ≡ set (availability m position) (get_or heap i 0) false
@@ -137,15 +150,7 @@ taken_out heap position i m n l hi e hm =
     let hn : n < length heap = omega arith in
     with_one n m position (moved heap position i n) (get_or heap i 0) false (length-moved heap position i n)
     (rw (moved_first heap position i n l il hn) (grind (arith, nat_tests)))
-    (λ v h va.
-    elim (eqb_tells v (get_or heap n 0)) [
-      | inl t ↦
-          let ni : i ≢ n = λ e. va (t.1 ∙ ap (λ (x : ℕ). get_or heap x 0) (sym e)) in
-          rw (t.1, moved_second heap position i n l hn, l.placed n hn) (grind (arith, nat_tests))
-      | inr t ↦
-          let nn : get_or position v 0 ≢ n = λ e. t.1 (sym (l.stands v (rw l.count at h)) ∙ ap (λ (x : ℕ). get_or heap x 0) e) in
-          rw (moved_other heap position i n v va t.1) (grind (arith, nat_tests))
-    ])
+    (λ v h va. moved_cases heap position i n v (λ q p. nat_lt q n ≡ nat_lt p m) l hn h va (λ ni. grind (arith, nat_tests)) (λ p np. grind (arith, nat_tests)))
 
 -- the variable at i, which is behind the first n, joins them
 pub put_into : (heap position : List ℕ) (i n : ℕ) → IsLinked heap position → n ≤ i → i < length heap
@@ -154,12 +159,4 @@ put_into heap position i n l ni hi =
     let hn : n < length heap = omega arith in
     with_one (n + 1) n position (moved heap position i n) (get_or heap i 0) true (length-moved heap position i n)
     (rw (moved_first heap position i n l hi hn) (grind (arith, nat_tests)))
-    (λ v h va.
-    elim (eqb_tells v (get_or heap n 0)) [
-      | inl t ↦
-          let apart : i ≢ n = λ e. va (t.1 ∙ ap (λ (x : ℕ). get_or heap x 0) (sym e)) in
-          rw (t.1, moved_second heap position i n l hn, l.placed n hn) (grind (arith, nat_tests))
-      | inr t ↦
-          let nn : get_or position v 0 ≢ n = λ e. t.1 (sym (l.stands v (rw l.count at h)) ∙ ap (λ (x : ℕ). get_or heap x 0) e) in
-          rw (moved_other heap position i n v va t.1) (grind (arith, nat_tests))
-    ])
+    (λ v h va. moved_cases heap position i n v (λ q p. nat_lt q (n + 1) ≡ nat_lt p n) l hn h va (λ apart. grind (arith, nat_tests)) (λ p np. grind (arith, nat_tests)))

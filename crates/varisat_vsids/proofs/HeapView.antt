@@ -57,6 +57,16 @@ availability-set_same n position v b h e =
 pub read_at : (xs : List ℕ) (w v x : ℕ) → v < length xs → w ≡ v → x ≡ get_or xs w x → x ≡ get_or xs v 0
 read_at xs w v x h e r = rw e at r ∙ get_or_default_zero xs v x h
 
+-- the variable at index w is or is not available as it should be already
+availability_is : (n : ℕ) (heap position : List ℕ) (w v x : ℕ) (b : Bool) → IsLinked heap position → v < length heap → w ≡ v → x ≡ get_or position w x → nat_lt x n ≡ b → availability n position ≡ set (availability n position) v b
+availability_is n heap position w v x b l h e r t =
+    let known : v < length position = omega (arith, h, l.count) in
+    sym (availability-set_same n position v b known (rw (read_at position w v x known e r) at t))
+
+pub stays_as : (a heap position : List ℕ) (n i d w v x : ℕ) (b : Bool) → IsLinked heap position → v < length heap → w ≡ v → x ≡ get_or position w x → nat_lt x n ≡ b
+    → activities_with a (availability n position) i d ≡ activities_with a (set (availability n position) v b) i d
+stays_as a heap position n i d w v x b l h e r t = ap (λ (available : List Bool). activities_with a available i d) (availability_is n heap position w v x b l h e r t)
+
 -- the variable at place p is v
 pub of_variable : (n m : ℕ) (heap position heap' position' new : List ℕ) (p w v : ℕ) (b : Bool) → IsLinked heap position → heap' ≡ heap → position' ≡ position → v < length heap
     → w ≡ v → p ≡ get_or position w p → availability m new ≡ set (availability n position') (get_or heap' p 0) b → availability m new ≡ set (availability n position) v b

@@ -19,8 +19,7 @@ pub trait PieceReader<A: Allocator + Copy>: Drop {
     fn begin_in(alloc: A) -> Self
         ensures { progress result ≡ begin };
 
-    /// Reads the next piece of the source, with room for it in the buffer. Returns false at the source's end, and the fault of
-    /// the text or the source, if there is one.
+    /// Reads the next piece of the source, as `next_piece` of a `DimacsParser` does.
     fn take_piece<S: ByteSource>(
         &mut self,
         source: &mut S,

@@ -1,9 +1,12 @@
-use Rattle.std.proofs.Common.{◌++◌, ◌∷◌, [], sym, ◌∙◌, ap, subst, arith, length, append_assoc}
+use Rattle.std.proofs.Common.{◌++◌, ◌∷◌, [], sym, ◌∙◌, ap, subst, arith, length, append_assoc, rules}
 use Rattle.std.proofs.lemmas.List.{nil_from_length, append-nil}
 use Rattle.std.specs.Vec.Iter.{into_iter_items}
 use Rattle.varisat.specs.Runs.{Run, AreReadable}
 use Rattle.varisat.proofs.Runs.{run-push, readable-next}
 use Rattle.varisat.proofs.session.run.Goals as goal
+
+pub loop-call-init : goal.loop-call-init
+loop-call-init g c = search rules
 
 pub make_call-requires : goal.make_call-requires
 make_call-requires g c =

@@ -1,6 +1,6 @@
-use Rattle.std.proofs.Common.{◌∷◌, [], ap, subst, ⊎_elim, take, arith}
+use Rattle.std.proofs.Common.{◌∷◌, [], ◌<◌, ◌^◌, ap, subst, ⊎_elim, take, take_all, arith}
 use Rattle.varisat_theory.specs.Membership.{◌∈◌}
-use Rattle.varisat_theory.specs.Literals.{variable_of}
+use Rattle.varisat_theory.specs.Literals.{Literal, variable_of}
 use Rattle.varisat_theory.proofs.Members.{∈-append_cases}
 use Rattle.varisat_prop.proofs.ReadElements.{item-∈}
 use Rattle.varisat.proofs.ReadPlaces.{take-item}
@@ -18,3 +18,6 @@ loop-lit-preserved c =
     (c.loop-lit.invariant m)
     (λ a. ⊎_elim (λ q. let b = ap variable_of q in omega (arith, b, c.index.ensures.index, c.max_count.ensures, c.if-index-max_count.false)) (λ z. absurd z) a)
     (∈-append_cases m d (c.lit-item.result ∷ []) (subst (λ ls. m ∈ ls) t h))
+
+pub returns : goal.returns
+returns c = subst (λ d. (m : Literal) → m ∈ d → variable_of m < 2 ^ 28) (take_all c.loop-lit.lit-index c.args.clause.now c.loop-lit-test.false) c.loop-lit.invariant

@@ -5,6 +5,7 @@ use Rattle.varisat_prop.specs.View.{kinds}
 use Rattle.varisat_search.specs.declared.state.SolverState.{SolverState}
 use Rattle.varisat_search.specs.declared.state.SatState.TheVariants as verdict
 use Rattle.varisat_search.specs.Contexts.{view}
+use Rattle.varisat_search.specs.Decisions.{SameDecidable}
 use Rattle.varisat_search.specs.Seen.{search_of, outcome_of}
 use Rattle.varisat_search.proofs.DecidableVariables.{same-refl, same-trans}
 use Rattle.varisat.specs.Budgets.{CountsSteps}
@@ -29,6 +30,13 @@ stepping g c =
       countable = room c.steps.ctx.schedule c.steps-steps.result c.steps-steps.ensures.steps c.steps-steps.type_inv c.if-steps.false;
       next = e.schedule;
     }
+
+decidable-still : (g : Over) (c : In_ok-schedule_step g) → SameDecidable (view c.args.ctx.now) c.args.ctx.now.vsids (view c.schedule_step.new.ctx) c.schedule_step.new.ctx.vsids
+decidable-still g c =
+    let x = c.args.ctx.now in
+    let y = c.steps.ctx in
+    let z = c.schedule_step.new.ctx in
+    same-trans (view x) x.vsids (view y) y.vsids (view z) z.vsids c.steps.invariant.decidable c.in_ok-schedule_step.ensures.decidable
 
 pub steps-init : goal.steps-init
 steps-init g c =
@@ -56,7 +64,7 @@ steps-preserved g c =
     record {
       ready = e.ready;
       count = e.count ∙ r.count;
-      decidable = let x = c.args.ctx.now in same-trans (view x) x.vsids (view y) y.vsids (view z) z.vsids r.decidable e.decidable;
+      decidable = decidable-still g (goal.at.steps-preserved g c).In_ok-schedule_step;
       state = e.state ∙ ap (λ v. record y.solver_state { sat_state = v }) (c.in-Unknown.is ∙ sym (ap (λ (s : SolverState). s.sat_state) r.state ∙ c.requires.unknown)) ∙ r.state;
       config = e.config ∙ r.config;
       made = stepping-goes-on d (e.rises c.in-Unknown.is);
@@ -82,11 +90,7 @@ pub returns-in-Sat-clause-counted : goal.returns-in-Sat-clause-counted
 returns-in-Sat-clause-counted g c n h = stepping-counts (stepping g (goal.at.returns-in-Sat-clause-counted g c).In_ok-schedule_step) true n h
 
 pub returns-in-Sat-clause-decidable : goal.returns-in-Sat-clause-decidable
-returns-in-Sat-clause-decidable g c =
-    let x = c.args.ctx.now in
-    let y = c.steps.ctx in
-    let z = c.schedule_step.new.ctx in
-    same-trans (view x) x.vsids (view y) y.vsids (view z) z.vsids c.steps.invariant.decidable c.in_ok-schedule_step.ensures.decidable
+returns-in-Sat-clause-decidable g c = decidable-still g (goal.at.returns-in-Sat-clause-decidable g c).In_ok-schedule_step
 
 pub returns-in-Sat-clause-steps : goal.returns-in-Sat-clause-steps
 returns-in-Sat-clause-steps g c =
@@ -94,16 +98,6 @@ returns-in-Sat-clause-steps g c =
     let z = c.schedule_step.new.ctx in
     stepping-lines (stepping g (goal.at.returns-in-Sat-clause-steps g c).In_ok-schedule_step) (outcome_of (view z) verdict.Sat)
     (subst (λ b. (lines : List Line) × Steps (search_of (view y)) (search_of (view z)) (outcome_of (view z) b) lines) c.in-Sat.is c.in_ok-schedule_step.ensures.steps)
-
-pub returns-in-Unsat-clause-counted : goal.returns-in-Unsat-clause-counted
-returns-in-Unsat-clause-counted g c n h = stepping-counts (stepping g (goal.at.returns-in-Unsat-clause-counted g c).In_ok-schedule_step) false n h
-
-pub returns-in-Unsat-clause-decidable : goal.returns-in-Unsat-clause-decidable
-returns-in-Unsat-clause-decidable g c =
-    let x = c.args.ctx.now in
-    let y = c.steps.ctx in
-    let z = c.schedule_step.new.ctx in
-    same-trans (view x) x.vsids (view y) y.vsids (view z) z.vsids c.steps.invariant.decidable c.in_ok-schedule_step.ensures.decidable
 
 pub returns-in-Unsat-clause-steps : goal.returns-in-Unsat-clause-steps
 returns-in-Unsat-clause-steps g c =
@@ -115,6 +109,12 @@ returns-in-Unsat-clause-steps g c =
     (subst (λ b. (lines : List Line) × Steps (search_of (view y)) (search_of (view z)) (outcome_of (view z) b) lines) q e.steps))
     (λ q. absurd (e.no_assumptions q))
     c.in-Unsat.is
+
+pub returns-in-Unsat-clause-decidable : goal.returns-in-Unsat-clause-decidable
+returns-in-Unsat-clause-decidable g c = decidable-still g (goal.at.returns-in-Unsat-clause-decidable g c).In_ok-schedule_step
+
+pub returns-in-Unsat-clause-counted : goal.returns-in-Unsat-clause-counted
+returns-in-Unsat-clause-counted g c n h = stepping-counts (stepping g (goal.at.returns-in-Unsat-clause-counted g c).In_ok-schedule_step) false n h
 
 pub returns-in_err-schedule_step-clause-counted : goal.returns-in_err-schedule_step-clause-counted
 returns-in_err-schedule_step-clause-counted g c n h =

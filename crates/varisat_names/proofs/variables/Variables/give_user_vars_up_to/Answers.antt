@@ -1,5 +1,5 @@
 use Rattle.std.proofs.Common.{length, subst, arith}
-use Rattle.varisat_names.specs.Variables.{IsGiven}
+use Rattle.varisat_names.specs.Variables.{IsGiven, AreNextGiven}
 use Rattle.varisat_names.proofs.Tables.{one-more}
 use Rattle.varisat_names.proofs.variables.Variables.give_user_vars_up_to.Goals as goal
 
@@ -12,3 +12,10 @@ loop-index-preserved g c =
     let global = c.in_ok-give_user_var.field-0 in
     one-more (length c.args.self.now.users.forward) c.args.user c.args.self.now c.loop-index.self c.give_user_var.new.self c.loop-index.index global (omega (arith, first, after)) (omega (arith, before, last)) c.loop-index.invariant
     (subst (λ u. IsGiven c.loop-index.self c.give_user_var.new.self u global) c.from_index.ensures c.in_ok-give_user_var.ensures.given)
+
+pub returns-clause-given : goal.returns-clause-given
+returns-clause-given g c =
+    let w = length c.args.self.now.users.forward in
+    let ended = c.loop-index-test.false in
+    let bounded = c.loop-index.invariant.bounded in
+    subst (λ k. AreNextGiven k c.args.self.now c.loop-index.self) (omega (arith, ended, bounded, c.index-index-end.ensures.index)) c.loop-index.invariant.names

@@ -47,11 +47,10 @@ returns-then-value-ge-ACTIVITY_LIMIT-clause-bumped g c =
 pub returns-else-value-ge-ACTIVITY_LIMIT-clause-bumped : goal.returns-else-value-ge-ACTIVITY_LIMIT-clause-bumped
 returns-else-value-ge-ACTIVITY_LIMIT-clause-bumped g c =
     let s = c.self.inside in
-    let x : ℕ = c.index-2.result.now + s.increment in
     let known : c.args.var < length s.activity.items = omega (arith, c.requires, ap (λ a. length a.activity) c.self.view_is) in
-    let value : x ≡ get_or s.activity.items c.args.var 0 + s.increment =
+    let value : c.index-2.result.now + s.increment ≡ get_or s.activity.items c.args.var 0 + s.increment =
     ap (λ (y : ℕ). y + s.increment) (read_at s.activity.items c.index.result c.args.var c.index-2.result.now known c.index.ensures.index c.index-2.ensures) in
     let stays = ap (availability s.len) (with_items_is s.position c.reorder.new.position (omega (arith, c.reorder.auto.position, c.deref_mut-2.ensures.len)))
     ∙ c.reorder.ensures.available ∙ ap (availability s.len) c.deref_mut-2.ensures.value in
-    rw (← c.self.view_is) (same_activities _ _ _ _ _ _ s.decay (ap (λ (v : ℕ). set s.activity.items v x) c.index-3.ensures.index) stays refl
-    ∙ bumped_is false s.activity.items (availability s.len s.position.items) c.args.var s.increment s.decay x c.self.invariant.1 known value (under x c.if-value-ge-ACTIVITY_LIMIT.false))
+    rw (← c.self.view_is) (same_activities _ _ _ _ _ _ s.decay (ap (λ (v : ℕ). set s.activity.items v (c.index-2.result.now + s.increment)) c.index-3.ensures.index) stays refl
+    ∙ bumped_is false s.activity.items (availability s.len s.position.items) c.args.var s.increment s.decay (c.index-2.result.now + s.increment) c.self.invariant.1 known value (under (c.index-2.result.now + s.increment) c.if-value-ge-ACTIVITY_LIMIT.false))

@@ -1,7 +1,8 @@
-use Rattle.std.proofs.Common.{ap, ◌∙◌, subst}
+use Rattle.std.proofs.Common.{ap, sym, ◌∙◌, subst}
 use Rattle.varisat_names.specs.VarMap.{at}
+use Rattle.varisat_names.specs.Maps.{IsInverse}
 use Rattle.varisat_names.specs.VarBiMap.{IsJoined}
-use Rattle.varisat_names.proofs.VarMap.{put-padded, joined-inverse}
+use Rattle.varisat_names.proofs.VarMap.{put-padded, joined-inverse, cut-back}
 use Rattle.varisat_names.proofs.variables.var_map.VarBiMap.insert.Goals as goal
 
 pub invariant_of-self-2 : goal.invariant_of-self-2
@@ -18,3 +19,8 @@ returns-clause-joined g c =
       forward = put-padded c.self.inside.fwd c.reach.new.self c.put.new.self c.args.from _ (c.in_ok-reach.ensures.reached) c.put.ensures;
       backward = put-padded c.self.inside.bwd c.reach-2.new.self c.put-2.new.self c.args.into _ (c.in_default.ensures.reached) c.put-2.ensures;
     }
+
+pub invariant_of-self-in-Err : goal.invariant_of-self-in-Err
+invariant_of-self-in-Err g c =
+    let fwd = cut-back c.self.inside.fwd _ c.reach.new.self c.cut.new.self c.watermark-watermark.result c.watermark-watermark.ensures c.in_ok-reach.ensures.reached c.cut.ensures in
+    subst (λ f. IsInverse (at f) (at c.reach-2.new.self)) (sym fwd) (subst (λ b. IsInverse (at c.self.inside.fwd) (at b)) (sym c.in-Err.ensures.refused) c.self.invariant)

@@ -13,3 +13,5 @@ mod parts;
 mod schedule;
 #[cfg(test)]
 mod settings;
+#[cfg(test)]
+mod watches;

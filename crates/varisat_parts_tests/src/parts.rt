@@ -92,12 +92,15 @@ fn is_queued(trail: &mut Trail<Global>) -> bool
     requires { trail.old ≡ record { literals = 4 ∷ 1 ∷ []; queue_head = 1; decisions = 1 ∷ []; units_removed = 0 } }
     ensures { trail.new ≡ record { literals = 4 ∷ 1 ∷ []; queue_head = 0; decisions = 1 ∷ []; units_removed = 0 } }
 {
-    trail.end_queue();
+    let last = trail.pop_queue();
     let ended = state(trail);
     let none = trail.pop_queue();
     trail.reset_queue();
     let again = state(trail);
-    ended == (true, None, 1) && none.is_none() && again == (false, Some(lit!(3)), 1)
+    last == Some(lit!(-1))
+        && ended == (true, None, 1)
+        && none.is_none()
+        && again == (false, Some(lit!(3)), 1)
 }
 
 /// Whether that trail is taken off down to its level 0, and then whole.
@@ -157,7 +160,16 @@ fn nodes(rt: HostRuntime) {
     assert!(rt; matches!(keeps_nodes(&mut graph), Ok(true)));
 }
 
-/// Whether two clauses are kept with their headers.
+/// Whether the order of the literals of a clause of three can be changed.
+fn is_turned(literals: &mut [Lit]) -> bool {
+    if literals.len() != 3 {
+        return false;
+    }
+    literals.swap(0, 2);
+    *literals == *lits![3, -2, 1].as_slice()
+}
+
+/// Whether two clauses are kept with their headers, and their literals can be put into another order.
 fn keeps_clauses(clauses: &mut ClauseAlloc<Global>) -> Result<bool, AllocError>
     requires { clauses.old ≡ [] }
 {
@@ -172,10 +184,14 @@ fn keeps_clauses(clauses: &mut ClauseAlloc<Global>) -> Result<bool, AllocError>
     let is_listed = clauses.clause(second) == lits![1, -2, 3].as_slice();
     let length = Conflict::Long(second).lits(clauses).len();
     let count = clauses.len();
-    if clauses.clause(second).len() == 3 {
-        clauses.put_first(second, 2);
-    }
-    Ok(redundant == [false, true] && is_listed && length == 3 && [count, clauses.len()] == [2, 2])
+    let is_turned = is_turned(clauses.lits_mut(second));
+    Ok(
+        redundant == [false, true]
+            && is_listed
+            && length == 3
+            && is_turned
+            && [count, clauses.len()] == [2, 2],
+    )
 }
 
 #[test]

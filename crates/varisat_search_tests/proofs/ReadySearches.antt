@@ -1,8 +1,9 @@
--- A search stays ready where activities and remembered values change.
-use Rattle.std.proofs.Common.{◌≡◌, ◌*◌, false, length, get_or, replicate, ⊎_elim, inl, inr, sym, ap, ◌∙◌, subst}
+-- A search stays ready where activities and remembered values change, and where its clauses are watched anew.
+use Rattle.std.proofs.Common.{◌≡◌, ◌*◌, true, false, length, get_or, replicate, ⊎_elim, inl, inr, sym, ap, ◌∙◌, subst}
 use Rattle.varisat_theory.specs.Literals.{variable_of}
 use Rattle.varisat_prop.specs.Parts.{Values}
-use Rattle.varisat_prop.specs.View.{View, WellFormed, LevelsSettled, IsPropagated}
+use Rattle.varisat_prop.specs.View.{View, WellFormed, LevelsSettled}
+use Rattle.varisat_prop.specs.Watches.{Watches, IsPropagated, IsWatching}
 use Rattle.varisat_vsids.specs.Activities.{Activities}
 use Rattle.varisat_search.specs.declared.context.Context.{Context}
 use Rattle.varisat_search.specs.Contexts.{view, IsReady}
@@ -27,8 +28,24 @@ values-ready {A} {x} a e r =
     record {
       well = subst WellFormed (sym v) r.well;
       settled = subst LevelsSettled (sym v) r.settled;
-      propagated = subst IsPropagated (sym v) r.propagated;
+      propagated = subst (IsPropagated x.watchlists) (sym v) r.propagated;
       analysis = r.analysis ∙ ap (λ vs. length vs) (sym e);
       flags = r.flags ∙ ap (λ vs. replicate (2 * length vs) false) (sym e);
       decidable = subst (λ (s : View). CanDecide s x.vsids) (sym v) r.decidable;
     }
+
+pub rebuilt-ready : {A : Type 0} {x : Context A} (W : Watches) → length W.lists ≡ length x.watchlists.lists → W.enabled ≡ true → IsWatching W x.clause_alloc → IsReady x → IsReady (record x { watchlists = W })
+rebuilt-ready W n on w r = record {
+  well = r.well;
+  settled = r.settled;
+  propagated = record {
+    lists = n ∙ r.propagated.lists;
+    watching = λ e. w;
+    empty = λ e. absurd (let f = on in cc);
+    settled = r.propagated.settled;
+    queue = r.propagated.queue;
+  };
+  analysis = r.analysis;
+  flags = r.flags;
+  decidable = r.decidable;
+}

@@ -1,10 +1,10 @@
 //! Which variables are decided.
 ghost use Rattle.varisat_search.specs.Contexts.{IsReady};
 
-use crate::searches::{loaded, prefer_lower_true};
+use crate::searches::{loaded_conflict, prefer_lower_true};
 use std::alloc::{AllocError, Allocator};
 use std::test::Fail;
-use varisat_literals::{Lit, Var, lits, var};
+use varisat_literals::{Var, lits, var};
 use varisat_search::cdcl::conflict_step;
 use varisat_search::context::{Context, set_var_count};
 use varisat_search::decision::{initialize_var, make_decision};
@@ -28,13 +28,7 @@ fn step_and_restart<A: Allocator + Copy>(ctx: &mut Context<A>) -> Result<(), All
 // variables 1, 2, 4 and 5 are bumped, and 3 is not.
 #[test]
 fn bumped_come_first(rt: HostRuntime) -> Result<(), Fail> {
-    let clauses: &[&[Lit]] = &[
-        &lits![-1, 2],
-        &lits![-3, 4],
-        &lits![-2, -4, 5],
-        &lits![-1, -4, -5],
-    ];
-    let mut ctx = loaded(rt.alloc(), 5, clauses)?;
+    let mut ctx = loaded_conflict(rt.alloc())?;
     step_and_restart(&mut ctx)?;
     assert!(rt; ctx.analyze_conflict.clause() == lits![-4, -1].as_slice());
     let mut first = [false; 5];

@@ -11,3 +11,5 @@ mod loading;
 mod searches;
 #[cfg(test)]
 mod steps;
+#[cfg(test)]
+mod watching;

@@ -4,7 +4,7 @@ ghost use Rattle.varisat_search.specs.Contexts.{IsReady};
 ghost use Rattle.varisat_literals.specs.Numbers.{variable_limit};
 
 use std::alloc::{AllocError, Allocator};
-use varisat_literals::{Lit, Var};
+use varisat_literals::{Lit, Var, lits};
 use varisat_prop::prop::Assignment;
 use varisat_search::cdcl::conflict_step;
 use varisat_search::context::{Context, set_var_count};
@@ -42,6 +42,20 @@ pub fn loaded<A: Allocator + Copy>(
     for clause in clauses {
         load(&mut ctx, clause)?;
     }
+    Ok(ctx)
+}
+
+/// A search that conflicts once 1 and 3 are decided as true: 1 implies 2, 3 implies 4 and 5, and -1 -4 -5 is false.
+pub fn loaded_conflict<A: Allocator + Copy>(alloc: A) -> Result<Context<A>, AllocError>
+    ensures { IfOk result (λ ctx. IsReady ctx) }
+{
+    let clauses: &[&[Lit]] = &[
+        &lits![-1, 2],
+        &lits![-3, 4],
+        &lits![-2, -4, 5],
+        &lits![-1, -4, -5],
+    ];
+    let ctx = loaded(alloc, 5, clauses)?;
     Ok(ctx)
 }
 

@@ -3,7 +3,7 @@ ghost use Rattle.std.specs.Prelude.{◌≤◌};
 ghost use Rattle.varisat_search.specs.Contexts.{IsReady};
 ghost use Rattle.varisat_literals.specs.Numbers.{variable_limit};
 
-use crate::searches::{loaded, prefer_lower_true, step};
+use crate::searches::{loaded, loaded_conflict, prefer_lower_true, step};
 use linked_list_allocator::LocalHeap;
 use std::alloc::{AllocError, Allocator};
 use std::test::Fail;
@@ -94,13 +94,7 @@ fn model(rt: HostRuntime) -> Result<(), Fail> {
 // 1 is decided and implies 2, 3 is decided and implies 4 and 5, and -1 -4 -5 is false.
 #[test]
 fn learned(rt: HostRuntime) -> Result<(), Fail> {
-    let clauses: &[&[Lit]] = &[
-        &lits![-1, 2],
-        &lits![-3, 4],
-        &lits![-2, -4, 5],
-        &lits![-1, -4, -5],
-    ];
-    let mut ctx = loaded(rt.alloc(), 5, clauses)?;
+    let mut ctx = loaded_conflict(rt.alloc())?;
     assert!(rt; teaches(&mut ctx, &lits![-4, -1], 1)?);
     // The conflict, and the reason of 5.
     let involved = [ClauseRef::from_place(3), ClauseRef::from_place(2)];

@@ -36,6 +36,7 @@ pub use varisat_formula::formula::{CnfFormula, ExtendFormula};
 pub use varisat_formula::{cnf, cnf_formula, dimacs, formula, io};
 pub use varisat_literals::{Lit, Var, lit, lits, var};
 pub use varisat_names::config;
+pub use varisat_proof::{checker, proof};
 pub use varisat_prop::clause;
 pub use varisat_search::{
     analyze_conflict, cdcl, context, decision, glue, load, schedule, state, tmp,

@@ -14,6 +14,7 @@ use std::io::{self, BufRead, BufReader, Empty, Read, Write};
 use varisat_formula::io::{ByteSource, MemoryTarget, ProofTarget, ReadSource};
 use varisat_literals::Lit;
 use varisat_names::config::SolverConfigUpdate;
+pub use varisat_proof::program::check_lines;
 
 /// The status of a command that came to its end.
 pub const STATUS_DONE: u8 = 0;

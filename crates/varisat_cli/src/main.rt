@@ -4,6 +4,7 @@
 ghost use Rattle.std.specs.Prelude.{◌≡◌, ◌↔◌, ◌-◌, ◌^◌, ◌<◌, IsErr};
 ghost use Rattle.std.specs.Fs.{file_type, IsDir};
 ghost use Rattle.varisat.specs.Decided.{fault_status, StatusIsTrue};
+ghost use Rattle.varisat_proof.specs.Verified.{GivesUnsatisfiable};
 
 use std::fs::{File, Metadata};
 use std::io::{self, BufWriter, ErrorKind, Write};
@@ -12,8 +13,9 @@ use std::{env, fs};
 use varisat::io::ReadSource;
 use varisat::line::parse_number;
 use varisat::program::{
-    STATUS_FAULT, SolveOptions, session_lines, solve_lines, tell_fault, tell_usage,
+    STATUS_FAULT, SolveOptions, check_lines, session_lines, solve_lines, tell_fault, tell_usage,
 };
+use varisat::proof::ProofFormat;
 
 fn main(rt: HostRuntime) -> ExitCode {
     ExitCode::from(run(&rt))
@@ -45,7 +47,23 @@ fn run(rt: &HostRuntime) -> u8 {
                 None => tell_usage(&mut err),
             }
         }
+        Some(cnf) if command.as_str() == "check" => {
+            let format = value.as_ref().map(|word| word.as_str());
+            match (option, proof_format(format)) {
+                (Some(proof), Some(format)) => check(rt, cnf.as_str(), proof.as_str(), format),
+                _ => tell_usage(&mut err),
+            }
+        }
         _ => tell_usage(&mut err),
+    }
+}
+
+// The format of the proof that `check` reads: text, or binary with `--binary`.
+fn proof_format(option: Option<&str>) -> Option<ProofFormat> {
+    match option {
+        None => Some(ProofFormat::Drat),
+        Some("--binary") => Some(ProofFormat::BinaryDrat),
+        Some(_) => None,
     }
 }
 
@@ -97,6 +115,40 @@ fn decide_file<W: Write, E: Write>(
     ensures { StatusIsTrue cnf.old cnf.new result }
 {
     solve_lines(rt.alloc(), cnf, options, out, err)
+}
+
+// Checks the proof in a file against the formula in another.
+fn check(rt: &HostRuntime, cnf_path: &str, proof_path: &str, format: ProofFormat) -> u8 {
+    let mut err = rt.stderr();
+    let cnf = match open_text(rt, cnf_path) {
+        Ok(cnf) => cnf,
+        Err(error) => return tell_file(&mut err, cnf_path, &error),
+    };
+    let proof = match open_text(rt, proof_path) {
+        Ok(proof) => proof,
+        Err(error) => return tell_file(&mut err, proof_path, &error),
+    };
+    let (mut cnf, mut proof) = (ReadSource::new(cnf), ReadSource::new(proof));
+    match BufWriter::new(rt.alloc(), io::writer(rt)) {
+        Ok(mut out) => check_files(rt, &mut cnf, &mut proof, format, &mut out, &mut err),
+        Err(error) => tell_fault(&mut err, &error),
+    }
+}
+
+// Checks the proof that a file gives. The status is 0 only where no assignment satisfies the clauses of the text that was read.
+fn check_files<W: Write, E: Write>(
+    rt: &HostRuntime,
+    cnf: &mut ReadSource<File>,
+    proof: &mut ReadSource<File>,
+    format: ProofFormat,
+    out: &mut W,
+    err: &mut E,
+) -> u8
+    requires cnf_faults { cnf.old.faults < 2 ^ 64 - 1 }
+    requires proof_faults { proof.old.faults < 2 ^ 64 - 1 }
+    ensures { result ≡ 0 → GivesUnsatisfiable cnf.old cnf.new }
+{
+    check_lines(rt.alloc(), cnf, proof, format, out, err)
 }
 
 // Opens a file for reading, unless it is a folder: that would open, and only fail when it is read.

@@ -36,6 +36,13 @@ fn options_are_read(rt: HostRuntime) {
 }
 
 #[test]
+fn formats_are_read(rt: HostRuntime) {
+    assert!(rt; proof_format(None) == Some(ProofFormat::Drat));
+    assert!(rt; proof_format(Some("--binary")) == Some(ProofFormat::BinaryDrat));
+    assert!(rt; proof_format(Some("--text")).is_none());
+}
+
+#[test]
 fn a_file_that_cannot_be_read_is_named(rt: HostRuntime) -> Result<(), Fail> {
     let mut err = Vec::new(rt.alloc());
     let status = tell_file(

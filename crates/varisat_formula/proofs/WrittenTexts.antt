@@ -113,7 +113,7 @@ pub record Spells (text : List ℕ) (l : ℕ) : Type 0 where
   pub says : meaning text ≡ Literal l
   pub some : 0 < length text
 
-literal_case : (t : Bool) (l : ℕ) → l / 2 < variable_limit → (l % 2 == 0) ≡ t → Spells (if t then decimal (l / 2 + 1) else 45 ∷ decimal (l / 2 + 1)) l
+pub literal_case : (t : Bool) (l : ℕ) → l / 2 < variable_limit → (l % 2 == 0) ≡ t → Spells (if t then decimal (l / 2 + 1) else 45 ∷ decimal (l / 2 + 1)) l
 literal_case true l h e =
     let z = is_zero (l % 2) e in
     let p : l / 2 + 1 < 2 ^ 64 = omega arith in

@@ -6,7 +6,7 @@ pub mod incremental;
 pub mod parse;
 pub mod parser;
 mod reading;
-mod token;
+pub mod token;
 pub mod writer;
 
 pub use error::{DimacsError, DimacsErrorKind};

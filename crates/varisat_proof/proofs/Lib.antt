@@ -1,0 +1,15 @@
+pub mod TokenSymbols
+pub mod MachineTokens
+pub mod TokenLines
+pub mod WrittenLines
+pub mod GrammarLaws
+pub mod LineBytes
+pub mod Elements
+pub mod CheckedLines
+pub mod CheckedSources
+pub mod RightResults
+pub mod DroppedClauses
+pub mod CheckedSteps
+pub mod MappedSteps
+pub mod AddedTexts
+pub mod VerifiedTexts

@@ -1,0 +1,308 @@
+-- Lines, a symbol at a time: what the machine parses stands in the tokens.
+use Rattle.std.proofs.Common.{◌≡◌, ℕ, zero, suc, ◌+◌, ◌-◌, List, [], ◌∷◌, ◌++◌, Bool, true, false, ◌||◌, ◌==◌, if◌then◌else◌, flat_map, refl, sym, ap, subst, ◌∙◌, append_assoc, append-nil, ◌⊎◌, inl, inr, ⊎_elim, Option, Some, None, arith, rules}
+use Rattle.varisat_theory.specs.Literals.{Clause}
+use Rattle.varisat_theory.specs.Derivations.{Line}
+use Rattle.varisat_proof.specs.declared.proof.format.ProofFormat.{ProofFormat}
+use Rattle.varisat_proof.specs.declared.proof.format.LineKind.{LineKind}
+use Rattle.varisat_proof.specs.declared.proof.format.LineKind.TheVariants.{Adds, Deletes}
+use Rattle.varisat_proof.specs.declared.proof.format.ProofFormat.TheVariants.{Drat, BinaryDrat}
+use Rattle.varisat_proof.specs.declared.checker.token.Symbol.{Symbol}
+use Rattle.varisat_proof.specs.declared.checker.token.Symbol.TheVariants.{Mark, Number, Cut, Bad}
+use Rattle.varisat_proof.specs.declared.checker.token.Event.{Event}
+use Rattle.varisat_proof.specs.declared.checker.token.Event.TheVariants.{More, Ended, Fault}
+use Rattle.varisat_proof.specs.Grammar.{Token, symbols, literal_symbols, begun_symbols, line_symbols, is_some, is_mark, fits, IsBegun, IsCutOff, WrongToken, EndsInside}
+use Rattle.varisat_proof.specs.Written.{line_of_kind}
+use Rattle.varisat_proof.specs.Machine.{Place, Parsed, line_at, number_event, event, begin_line, after_number, moved, put, at_end, fault_offset, read, between}
+
+-- 1. What a place has.
+abbrev pub place_symbols : ProofFormat → Place → List Symbol
+place_symbols f p = if p.inside then begun_symbols f (line_at p) else []
+
+-- inside a line something was read
+pub record IsPlace (f : ProofFormat) (p : Place) : Type 0 where
+  pub some : is_some (place_symbols f p) ≡ p.inside
+
+-- numbers
+two_not_zero : (l : ℕ) → (l + 2 == 0) ≡ false
+two_not_zero l = search rules
+
+two_not_one : (l : ℕ) → (l + 2 == 1) ≡ false
+two_not_one l = search rules
+
+-- 0, 1, or a literal's
+data Kind : ℕ → Type 0 where
+  Stop : Kind 0
+  One : Kind 1
+  Code : (l : ℕ) → Kind (l + 2)
+
+kind_of : (n : ℕ) → Kind n
+kind_of zero = Stop
+kind_of (suc zero) = One
+kind_of (suc (suc l)) = let e : l + 2 ≡ suc (suc l) = omega arith in subst Kind e (Code l)
+
+pub code_event : (l : ℕ) → number_event (l + 2) ≡ More
+code_event l = ap (λ t. if t then Ended else (if l + 2 == 1 then Fault else More)) (two_not_zero l) ∙ ap (λ t. if t then Fault else More) (two_not_one l)
+
+pub code_place : (p : Place) (l : ℕ) → after_number p (l + 2) ≡ record { inside = true; kind = p.kind; clause = p.clause ++ l ∷ [] }
+code_place p l =
+    let old : Place = record { inside = false; kind = p.kind; clause = p.clause } in
+    let new : Place = record { inside = true; kind = p.kind; clause = p.clause ++ (l + 2 - 2) ∷ [] } in
+    let e : l + 2 - 2 ≡ l = omega arith in
+    let made : ℕ → Place = λ x. record { inside = true; kind = p.kind; clause = p.clause ++ x ∷ [] } in
+    ap (λ t. if t then old else (if l + 2 == 1 then p else new)) (two_not_zero l) ∙ ap (λ t. if t then p else new) (two_not_one l) ∙ ap made e
+
+literals_more : (c : Clause) (l : ℕ) → literal_symbols (c ++ l ∷ []) ≡ literal_symbols c ++ Number (l + 2) ∷ []
+literals_more [] l = refl
+literals_more (x ∷ c) l = ap (λ ss. Number (x + 2) ∷ ss) (literals_more c l)
+
+begun_more : (f : ProofFormat) (d : LineKind) (c : Clause) (l : ℕ) → begun_symbols f (line_of_kind d (c ++ l ∷ [])) ≡ begun_symbols f (line_of_kind d c) ++ Number (l + 2) ∷ []
+begun_more Drat Deletes c l = ap (λ ss. Mark 100 ∷ ss) (literals_more c l)
+begun_more Drat Adds c l = literals_more c l
+begun_more BinaryDrat Deletes c l = ap (λ ss. Number 100 ∷ ss) (literals_more c l)
+begun_more BinaryDrat Adds c l = ap (λ ss. Number 97 ∷ ss) (literals_more c l)
+
+some_end : (ss : List Symbol) (s : Symbol) → is_some (ss ++ s ∷ []) ≡ true
+some_end [] s = refl
+some_end (x ∷ ss) s = refl
+
+-- 2. What a symbol does.
+-- more of a line was read
+pub record Moves (f : ProofFormat) (p : Place) (s : Symbol) (q : Place) : Type 0 where
+  pub symbols_are : place_symbols f q ≡ place_symbols f p ++ s ∷ []
+  pub is_place : IsPlace f q
+
+-- the line ended
+pub record Closes (f : ProofFormat) (p : Place) (s : Symbol) (q : Place) : Type 0 where
+  pub line_is : line_symbols f (line_at q) ≡ place_symbols f p ++ s ∷ []
+  pub outside : q.inside ≡ false
+
+-- the symbol does not fit
+pub record Stops (f : ProofFormat) (p : Place) (s : Symbol) : Type 0 where
+  pub why : ((s ≡ Cut) × (p.inside ≡ true)) ⊎ ((fits f (is_some (place_symbols f p)) s ≡ false) × ((at end : ℕ) → fault_offset p.inside s at end ≡ at))
+
+abbrev Does : ProofFormat → Place → Symbol → Event → Place → Type 0
+Does f p s More q = Moves f p s q
+Does f p s Ended q = Closes f p s q
+Does f p s Fault q = Stops f p s
+
+abbrev pub at_place : Bool → LineKind → Clause → Place
+at_place i d c = record { inside = i; kind = d; clause = c }
+
+-- a number inside a line
+code_moves : (f : ProofFormat) (d : LineKind) (c : Clause) (l : ℕ) → Moves f (at_place true d c) (Number (l + 2)) (at_place true d (c ++ l ∷ []))
+code_moves f d c l = record {
+  symbols_are = begun_more f d c l;
+  is_place = record { some = ap is_some (begun_more f d c l) ∙ some_end (begun_symbols f (line_of_kind d c)) (Number (l + 2)) };
+}
+
+number_does : (f : ProofFormat) (d : LineKind) (c : Clause) (n : ℕ) → Kind n → IsPlace f (at_place true d c) → Does f (at_place true d c) (Number n) (number_event n) (after_number (at_place true d c) n)
+number_does f d c _ Stop h = record { line_is = refl; outside = refl }
+number_does f d c _ One h = record { why = inr (ap (λ t. fits f t (Number 1)) h.some ∙ refl, λ at end. refl) }
+number_does f d c _ (Code l) h = let P : Event → Place → Type 0 = λ e q. Does f (at_place true d c) (Number (l + 2)) e q in subst (λ e. P e (after_number (at_place true d c) (l + 2))) (sym (code_event l)) (subst (λ q. Moves f (at_place true d c) (Number (l + 2)) q) (sym (code_place (at_place true d c) l)) (code_moves f d c l))
+
+-- a number of text between two lines
+first_does : (d : LineKind) (c : Clause) (n : ℕ) → Kind n → Does Drat (at_place false d c) (Number n) (number_event n) (after_number (begin_line Adds) n)
+first_does d c _ Stop = record { line_is = refl; outside = refl }
+first_does d c _ One = record { why = inr (refl, λ at end. refl) }
+first_does d c _ (Code l) = let P : Event → Place → Type 0 = λ e q. Does Drat (at_place false d c) (Number (l + 2)) e q in subst (λ e. P e (after_number (begin_line Adds) (l + 2))) (sym (code_event l)) (subst (λ q. Moves Drat (at_place false d c) (Number (l + 2)) q) (sym (code_place (begin_line Adds) l)) (record { symbols_are = refl; is_place = record { some = refl } }))
+
+is_equal : (n m : ℕ) → (n == m) ≡ true → n ≡ m
+is_equal n m e = search (rules, e)
+
+-- a tag
+tag_does : (a b : Bool) (d : LineKind) (c : Clause) (n : ℕ) → (n == 97) ≡ a → (n == 100) ≡ b →
+    Does BinaryDrat (at_place false d c) (Number n) (if a || b then More else Fault) (if a || b then begin_line (if b then Deletes else Adds) else at_place false d c)
+tag_does true true d c n e g = absurd (let h = is_equal n 97 e in let k = is_equal n 100 g in omega arith)
+tag_does true false d c n e g = record { symbols_are = ap (λ m. Number m ∷ []) (sym (is_equal n 97 e)); is_place = record { some = refl } }
+tag_does false true d c n e g = record { symbols_are = ap (λ m. Number m ∷ []) (sym (is_equal n 100 g)); is_place = record { some = refl } }
+tag_does false false d c n e g = record { why = inr (ap (λ t. t || n == 100) e ∙ g, λ at end. refl) }
+
+mark_does : (t : Bool) (d : LineKind) (c : Clause) (b : ℕ) → is_mark b ≡ t → Does Drat (at_place false d c) (Mark b) (if t then More else Fault) (if t then begin_line Deletes else at_place false d c)
+mark_does true d c b e = record { symbols_are = ap (λ m. Mark m ∷ []) (sym (is_equal b 100 e)); is_place = record { some = refl } }
+mark_does false d c b e = record { why = inr (e, λ at end. refl) }
+
+symbol_does : (f : ProofFormat) (i : Bool) (d : LineKind) (c : Clause) (s : Symbol) → IsPlace f (at_place i d c) → Does f (at_place i d c) s (event f i s) (moved f (at_place i d c) s)
+symbol_does Drat true d c (Mark b) h = record { why = inr (ap (λ t. fits Drat t (Mark b)) h.some ∙ refl, λ at end. refl) }
+symbol_does Drat false d c (Mark b) h = mark_does (is_mark b) d c b refl
+symbol_does Drat true d c (Number n) h = number_does Drat d c n (kind_of n) h
+symbol_does Drat false d c (Number n) h = first_does d c n (kind_of n)
+symbol_does BinaryDrat true d c (Mark b) h = record { why = inr (ap (λ t. fits BinaryDrat t (Mark b)) h.some ∙ refl, λ at end. refl) }
+symbol_does BinaryDrat false d c (Mark b) h = record { why = inr (refl, λ at end. refl) }
+symbol_does BinaryDrat true d c (Number n) h = number_does BinaryDrat d c n (kind_of n) h
+symbol_does BinaryDrat false d c (Number n) h = tag_does (n == 97) (n == 100) d c n refl refl
+symbol_does f true d c Cut h = record { why = inl (refl, refl) }
+symbol_does f false d c Cut h = record { why = inr (unfit f, λ at end. refl) }
+  where
+    unfit : (f : ProofFormat) → fits f false Cut ≡ false
+    unfit Drat = refl
+    unfit BinaryDrat = refl
+symbol_does f true d c Bad h = record { why = inr (ap (λ t. fits f t Bad) h.some ∙ refl, λ at end. refl) }
+symbol_does f false d c Bad h = record { why = inr (unfit f, λ at end. refl) }
+  where
+    unfit : (f : ProofFormat) → fits f false Bad ≡ false
+    unfit Drat = refl
+    unfit BinaryDrat = refl
+
+-- 3. What is parsed is so. In front of the tokens stands what the place has.
+record WrongFrom (f : ProofFormat) (pre : List Symbol) (us : List Token) (lines : List Line) (offset : ℕ) : Type 0 where
+  front : List Token
+  token : Token
+  back : List Token
+  tokens_are : us ≡ front ++ token ∷ back
+  begun : List Symbol
+  is_begun : IsBegun f begun
+  says : pre ++ symbols front ≡ flat_map (line_symbols f) lines ++ begun
+  wrong : fits f (is_some begun) token.symbol ≡ false
+  offset_is : offset ≡ token.at
+
+record EndsFrom (f : ProofFormat) (pre : List Symbol) (us : List Token) (lines : List Line) : Type 0 where
+  front : List Token
+  back : List Token
+  tokens_are : us ≡ front ++ back
+  cut : IsCutOff back
+  begun : List Symbol
+  is_begun : IsBegun f begun
+  some : is_some begun ≡ true
+  says : pre ++ symbols front ≡ flat_map (line_symbols f) lines ++ begun
+
+abbrev SoFrom : ProofFormat → ℕ → List Symbol → List Token → List Line → Option ℕ → Type 0
+SoFrom f end pre us lines None = pre ++ symbols us ≡ flat_map (line_symbols f) lines
+SoFrom f end pre us lines (Some o) = WrongFrom f pre us lines o ⊎ (EndsFrom f pre us lines × (o ≡ end))
+
+abbrev So : ProofFormat → ℕ → List Symbol → List Token → Parsed → Type 0
+So f end pre us t = SoFrom f end pre us t.lines t.fault
+
+place_begun : (f : ProofFormat) (i : Bool) (d : LineKind) (c : Clause) → IsBegun f (place_symbols f (at_place i d c))
+place_begun f true d c = inr (line_at (at_place true d c), refl)
+place_begun f false d c = inl refl
+
+-- a symbol that was read goes into the front
+so_more : (f : ProofFormat) (end : ℕ) (pre mid : List Symbol) (u : Token) (us : List Token) (lines : List Line) (fault : Option ℕ) → mid ≡ pre ++ u.symbol ∷ [] → SoFrom f end mid us lines fault → SoFrom f end pre (u ∷ us) lines fault
+so_more f end pre mid u us lines None e h = sym (append_assoc pre (u.symbol ∷ []) (symbols us)) ∙ ap (λ x. x ++ symbols us) (sym e) ∙ h
+so_more f end pre mid u us lines (Some o) e (inl w) = inl (record {
+  front = u ∷ w.front;
+  token = w.token;
+  back = w.back;
+  tokens_are = ap (λ x. u ∷ x) w.tokens_are;
+  begun = w.begun;
+  is_begun = w.is_begun;
+  says = sym (append_assoc pre (u.symbol ∷ []) (symbols w.front)) ∙ ap (λ x. x ++ symbols w.front) (sym e) ∙ w.says;
+  wrong = w.wrong;
+  offset_is = w.offset_is;
+})
+so_more f end pre mid u us lines (Some o) e (inr w) = inr (
+  record {
+    front = u ∷ w.0.front;
+    back = w.0.back;
+    tokens_are = ap (λ x. u ∷ x) w.0.tokens_are;
+    cut = w.0.cut;
+    begun = w.0.begun;
+    is_begun = w.0.is_begun;
+    some = w.0.some;
+    says = sym (append_assoc pre (u.symbol ∷ []) (symbols w.0.front)) ∙ ap (λ x. x ++ symbols w.0.front) (sym e) ∙ w.0.says;
+  },
+  w.1,
+)
+
+-- a line that ended goes in front
+so_line : (f : ProofFormat) (end : ℕ) (pre : List Symbol) (u : Token) (us : List Token) (line : Line) (lines : List Line) (fault : Option ℕ) → line_symbols f line ≡ pre ++ u.symbol ∷ [] → SoFrom f end [] us lines fault → SoFrom f end pre (u ∷ us) (line ∷ lines) fault
+so_line f end pre u us line lines None e h = sym (append_assoc pre (u.symbol ∷ []) (symbols us)) ∙ ap (λ x. x ++ symbols us) (sym e) ∙ ap (λ x. line_symbols f line ++ x) h
+so_line f end pre u us line lines (Some o) e (inl w) = inl (record {
+  front = u ∷ w.front;
+  token = w.token;
+  back = w.back;
+  tokens_are = ap (λ x. u ∷ x) w.tokens_are;
+  begun = w.begun;
+  is_begun = w.is_begun;
+  says = sym (append_assoc pre (u.symbol ∷ []) (symbols w.front)) ∙ ap (λ x. x ++ symbols w.front) (sym e) ∙ ap (λ x. line_symbols f line ++ x) w.says ∙ sym (append_assoc (line_symbols f line) (flat_map (line_symbols f) lines) w.begun);
+  wrong = w.wrong;
+  offset_is = w.offset_is;
+})
+so_line f end pre u us line lines (Some o) e (inr w) = inr (
+  record {
+    front = u ∷ w.0.front;
+    back = w.0.back;
+    tokens_are = ap (λ x. u ∷ x) w.0.tokens_are;
+    cut = w.0.cut;
+    begun = w.0.begun;
+    is_begun = w.0.is_begun;
+    some = w.0.some;
+    says = sym (append_assoc pre (u.symbol ∷ []) (symbols w.0.front)) ∙ ap (λ x. x ++ symbols w.0.front) (sym e) ∙ ap (λ x. line_symbols f line ++ x) w.0.says ∙ sym (append_assoc (line_symbols f line) (flat_map (line_symbols f) lines) w.0.begun);
+  },
+  w.1,
+)
+
+outside_signs : (f : ProofFormat) (p : Place) → p.inside ≡ false → (place_symbols f p ≡ []) × IsPlace f p
+outside_signs f p e = let h : place_symbols f p ≡ [] = ap (λ t. if t then begun_symbols f (line_at p) else []) e in (h, record { some = ap is_some h ∙ sym e })
+
+inside_begun : (f : ProofFormat) (p : Place) → IsBegun f (place_symbols f p)
+inside_begun f p = place_begun f p.inside p.kind p.clause
+
+so_step : (f : ProofFormat) (end : ℕ) (p q : Place) (u : Token) (us : List Token) (e : Event) (t : Parsed) → IsPlace f p → Does f p u.symbol e q → (IsPlace f q → So f end (place_symbols f q) us t) →
+    So f end (place_symbols f p) (u ∷ us) (put e (line_at q) (fault_offset p.inside u.symbol u.at end) t)
+so_step f end p q u us More t h d k = so_more f end (place_symbols f p) (place_symbols f q) u us t.lines t.fault d.symbols_are (k d.is_place)
+so_step f end p q u us Ended t h d k = let o = outside_signs f q d.outside in so_line f end (place_symbols f p) u us (line_at q) t.lines t.fault d.line_is (subst (λ x. So f end x us t) o.0 (k o.1))
+so_step f end p q u us Fault t h d k = ⊎_elim cut_off wrong d.why
+  where
+    cut_off : (u.symbol ≡ Cut) × (p.inside ≡ true) → So f end (place_symbols f p) (u ∷ us) (put Fault (line_at q) (fault_offset p.inside u.symbol u.at end) t)
+    cut_off w = inr (
+      record {
+        front = [];
+        back = u ∷ us;
+        tokens_are = refl;
+        cut = w.0;
+        begun = place_symbols f p;
+        is_begun = inside_begun f p;
+        some = h.some ∙ w.1;
+        says = append-nil (place_symbols f p);
+      },
+      ap (λ s. fault_offset p.inside s u.at end) w.0 ∙ ap (λ i. if i then end else u.at) w.1,
+    )
+
+    wrong : (fits f (is_some (place_symbols f p)) u.symbol ≡ false) × ((at end : ℕ) → fault_offset p.inside u.symbol at end ≡ at) → So f end (place_symbols f p) (u ∷ us) (put Fault (line_at q) (fault_offset p.inside u.symbol u.at end) t)
+    wrong w = inl (record {
+      front = [];
+      token = u;
+      back = us;
+      tokens_are = refl;
+      begun = place_symbols f p;
+      is_begun = inside_begun f p;
+      says = append-nil (place_symbols f p);
+      wrong = w.0;
+      offset_is = w.1 u.at end;
+    })
+
+so_end : (f : ProofFormat) (end : ℕ) (i : Bool) (d : LineKind) (c : Clause) → IsPlace f (at_place i d c) → So f end (place_symbols f (at_place i d c)) [] (at_end end (at_place i d c))
+so_end f end true d c h = inr (
+  record {
+    front = [];
+    back = [];
+    tokens_are = refl;
+    cut = tt;
+    begun = place_symbols f (at_place true d c);
+    is_begun = place_begun f true d c;
+    some = h.some;
+    says = append-nil (place_symbols f (at_place true d c));
+  },
+  refl,
+)
+so_end f end false d c h = refl
+
+sound : (f : ProofFormat) (end : ℕ) (us : List Token) (p : Place) → IsPlace f p → So f end (place_symbols f p) us (read f end p us)
+sound f end [] p h = so_end f end p.inside p.kind p.clause h
+sound f end (u ∷ us) p h =
+    so_step f end p (moved f p u.symbol) u us (event f p.inside u.symbol) (read f end (moved f p u.symbol) us) h (symbol_does f p.inside p.kind p.clause u.symbol h) (λ k. sound f end us (moved f p u.symbol) k)
+
+-- what the definitions say of the tokens
+abbrev pub Tells : ProofFormat → List Token → ℕ → List Line → Option ℕ → Type 0
+Tells f us end lines None = symbols us ≡ flat_map (line_symbols f) lines
+Tells f us end lines (Some o) = WrongToken f us lines o ⊎ (EndsInside f us lines × (o ≡ end))
+
+-- what is parsed of tokens is so
+so_means : (f : ProofFormat) (us : List Token) (end : ℕ) (lines : List Line) (fault : Option ℕ) → SoFrom f end [] us lines fault → Tells f us end lines fault
+so_means f us end lines None h = h
+so_means f us end lines (Some o) (inl w) = inl (record { front = w.front; token = w.token; back = w.back; tokens_are = w.tokens_are; begun = w.begun; is_begun = w.is_begun; says = w.says; wrong = w.wrong; offset_is = w.offset_is })
+so_means f us end lines (Some o) (inr w) = inr (record { front = w.0.front; back = w.0.back; tokens_are = w.0.tokens_are; cut = w.0.cut; begun = w.0.begun; is_begun = w.0.is_begun; some = w.0.some; says = w.0.says }, w.1)
+
+pub sound_parsed : (f : ProofFormat) (us : List Token) (end : ℕ) → Tells f us end (read f end between us).lines (read f end between us).fault
+sound_parsed f us end = let t = read f end between us in so_means f us end t.lines t.fault (sound f end us between (record { some = refl }))

@@ -1,0 +1,16 @@
+use Rattle.std.proofs.Common.{sym, ap, subst, ◌∙◌}
+use Rattle.varisat_proof.specs.declared.proof.step.ProofStep.{ProofStep}
+use Rattle.varisat_proof.specs.declared.proof.step.ProofStep.TheVariants.{AtClause, DeleteClause}
+use Rattle.varisat_proof.specs.Calls.{IsStep}
+use Rattle.varisat_proof.proofs.CheckedSteps.{step_is}
+use Rattle.varisat_proof.proofs.checker.check.Checker.check_step.Goals as goal
+
+pub returns-in-AtClause : goal.returns-in-AtClause
+returns-in-AtClause g c =
+    subst (λ (s : ProofStep). IsStep c.args.self.now s c.check_line.result c.check_line.new.self) (sym c.in-AtClause.is)
+    (step_is c.args.self.now c.check_line.new.self (AtClause c.in-AtClause.clause) c.check_line.result (sym (ap (λ h. h.spent) c.self.view_is) ∙ c.if-self.false) c.check_line.ensures)
+
+pub returns-in-DeleteClause : goal.returns-in-DeleteClause
+returns-in-DeleteClause g c =
+    subst (λ (s : ProofStep). IsStep c.args.self.now s c.check_line-in-DeleteClause.result c.check_line-in-DeleteClause.new.self) (sym c.in-DeleteClause.is)
+    (step_is c.args.self.now c.check_line-in-DeleteClause.new.self (DeleteClause c.in-DeleteClause.clause) c.check_line-in-DeleteClause.result (sym (ap (λ h. h.spent) c.self.view_is) ∙ c.if-self.false) c.check_line-in-DeleteClause.ensures)

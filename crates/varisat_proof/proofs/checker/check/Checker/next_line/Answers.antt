@@ -1,0 +1,15 @@
+use Rattle.std.proofs.Common.{sym, ◌∙◌}
+use Rattle.varisat_proof.proofs.CheckedLines.{on_unproved, on_absent, on_taken}
+use Rattle.varisat_proof.proofs.checker.check.Checker.next_line.Goals as goal
+
+pub returns-in-Unproved-clause-takes : goal.returns-in-Unproved-clause-takes
+returns-in-Unproved-clause-takes g c =
+    λ P lines s. on_unproved c.args.count.now.refuted P lines c.args.self.now.clauses c.take_line.new.self.clauses c.args.count.now.steps c.saturating_add-step.result c.args.kind c.args.clause.now c.if-count.false s c.saturating_add-step.ensures c.in-Ok.status c.in-Unproved.is (c.in-Ok.ensures.stays (λ e. let h = sym c.in-Unproved.is ∙ e in absurd cc)) c.in-Ok.ensures.status
+
+pub returns-in-Absent-clause-takes : goal.returns-in-Absent-clause-takes
+returns-in-Absent-clause-takes g c =
+    λ P lines s. on_absent c.args.count.now.refuted P lines c.args.self.now.clauses c.take_line.new.self.clauses c.args.count.now.steps c.saturating_add-step.result c.args.kind c.args.clause.now c.if-count.false s c.saturating_add-step.ensures c.in-Ok.status c.in-Absent.is (c.in-Ok.ensures.stays (λ e. let h = sym c.in-Absent.is ∙ e in absurd cc)) c.in-Ok.ensures.status
+
+pub returns-clause-takes : goal.returns-clause-takes
+returns-clause-takes g c =
+    λ P lines s. on_taken c.args.count.now.refuted P lines c.args.self.now.clauses c.take_line.new.self.clauses c.args.count.now.steps c.saturating_add-step.result c.args.kind c.args.clause.now c.if-count.false s c.saturating_add-step.ensures c.in-Ok.status c.in-Ok-is_refuted.refuted c.in-Taken.is c.in-Ok.ensures.status c.in-Ok-is_refuted.ensures

@@ -1,0 +1,12 @@
+use Rattle.std.proofs.Common.{◌≡◌}
+use Rattle.varisat_proof.proofs.CheckedSources.{Underway}
+use Rattle.varisat_proof.proofs.checker.check.Checker.run.Given as goal
+
+abbrev pub invariant-pieces : goal.invariant-pieces
+invariant-pieces g l = record {
+  so : Underway l.fn.format (record { checker = l.fn.self; source = g.S.ByteSource.stand l.fn.source }) (record { checker = l.self; source = g.S.ByteSource.stand l.source }) l.count l.reader;
+  spent : l.self.spent ≡ l.fn.self.spent;
+}
+
+abbrev pub decreases-pieces : goal.decreases-pieces
+decreases-pieces g l = (g.S.ByteSource.stand l.source).pieces

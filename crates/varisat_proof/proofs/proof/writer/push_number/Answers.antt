@@ -1,0 +1,10 @@
+use Rattle.std.proofs.Common.{refl, arith}
+use Rattle.varisat_proof.proofs.LineBytes.{leb128_start}
+use Rattle.varisat_proof.proofs.proof.writer.push_number.Goals as goal
+
+pub bytes-init : goal.bytes-init
+bytes-init g c = record {
+  few = omega arith;
+  small = omega arith;
+  bytes = leb128_start c.args.buffer.now.items c.args.buffer.now.items c.args.number refl;
+}

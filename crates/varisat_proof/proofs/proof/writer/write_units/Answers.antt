@@ -1,0 +1,6 @@
+use Rattle.varisat_proof.proofs.LineBytes.{units_err}
+use Rattle.varisat_proof.proofs.proof.writer.write_units.Goals as goal
+
+pub returns-in-Err : goal.returns-in-Err
+returns-in-Err g c =
+    units_err c.args.format (g.W.ProofTarget.taken c.args.target.now) (g.W.ProofTarget.taken c.loop-unit.target) (g.W.ProofTarget.taken c.write_line.new.target) c.in-Err.error c.args.units.now c.loop-unit.unit-index c.unit-item.result c.loop-unit-test.true c.unit-item.is c.loop-unit.invariant.put c.loop-unit.invariant.quiet c.in-Err.ensures

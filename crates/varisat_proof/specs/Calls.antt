@@ -1,0 +1,158 @@
+-- What the calls of a checker return, and what they make of it.
+use Rattle.std.specs.Prelude.{◌≡◌, ◌≢◌, ℕ, suc, ◌+◌, List, ◌∷◌, ◌++◌, length, Bool, true, false, Some, None, Result, Ok, Err}
+use Rattle.varisat_theory.specs.Literals.{Clause}
+use Rattle.varisat_theory.specs.Propagation.{Conflicts}
+use Rattle.varisat_theory.specs.Derivations.{Line, Add, Delete, Derives}
+use Rattle.varisat_theory.specs.Checking.{IsWrong}
+use Rattle.varisat_theory.specs.Held.{without}
+use Rattle.varisat_formula.specs.declared.dimacs.error.DimacsErrorKind.TheVariants as kind
+use Rattle.varisat_formula.specs.Dimacs.{Reading, dimacs, broken}
+use Rattle.varisat_formula.specs.Streams as streams
+use Rattle.varisat_formula.specs.Streams.{Stand, HasEnded}
+use Rattle.varisat_proof.specs.declared.proof.format.ProofFormat.{ProofFormat}
+use Rattle.varisat_proof.specs.declared.proof.step.ProofStep.{ProofStep}
+use Rattle.varisat_proof.specs.declared.proof.step.ProofStep.TheVariants.{AtClause, UnitClauses, DeleteClause, DeleteVar, FailedAssumptions}
+use Rattle.varisat_proof.specs.declared.checker.error.CheckVerdict.{CheckVerdict}
+use Rattle.varisat_proof.specs.declared.checker.error.CheckerError.{CheckerError}
+use Rattle.varisat_proof.specs.declared.checker.error.CheckerError.TheVariants.{CheckFailed, NoSuchClause, Parse, Io, OutOfMemory, Dimacs, Spent}
+use Rattle.varisat_proof.specs.Steps.{lines_of}
+use Rattle.varisat_proof.specs.Results.{IsResult}
+
+-- the present clauses, and whether the checker is spent
+pub record CheckerState : Type 0 where
+  pub clauses : List Clause
+  pub spent : Bool
+
+-- A call is refused: by a spent checker, which stays as it is, or as memory runs out, which spends it.
+abbrev pub IsRefusal : CheckerState → CheckerError → CheckerState → Type 0
+IsRefusal old OutOfMemory new = (old.spent ≡ false) × (new.spent ≡ true)
+IsRefusal old Spent new = (old.spent ≡ true) × (new ≡ old)
+IsRefusal old (CheckFailed step) new = ⊥
+IsRefusal old (NoSuchClause step) new = ⊥
+IsRefusal old (Parse offset) new = ⊥
+IsRefusal old (Io cause) new = ⊥
+IsRefusal old (Dimacs cause) new = ⊥
+
+-- the present clauses become these, and nothing else changes
+pub record Becomes (old : CheckerState) (clauses : List Clause) (new : CheckerState) : Type 0 where
+  pub usable : old.spent ≡ false
+  pub now : new ≡ record old { clauses = clauses }
+
+-- the present clauses become these, or the call is refused
+abbrev pub BecomesOrRefuses : CheckerState → List Clause → Result (Unit {0}) CheckerError → CheckerState → Type 0
+BecomesOrRefuses old clauses (Ok u) new = Becomes old clauses new
+BecomesOrRefuses old clauses (Err e) new = IsRefusal old e new
+
+-- after these a checker is spent
+abbrev pub spends : CheckerError → Bool
+spends (CheckFailed step) = false
+spends (NoSuchClause step) = false
+spends (Parse offset) = true
+spends (Io cause) = true
+spends OutOfMemory = true
+spends (Dimacs cause) = false
+spends Spent = false
+
+abbrev pub is_io : CheckerError → Bool
+is_io (CheckFailed step) = false
+is_io (NoSuchClause step) = false
+is_io (Parse offset) = false
+is_io (Io cause) = true
+is_io OutOfMemory = false
+is_io (Dimacs cause) = false
+is_io Spent = false
+
+-- 1. Steps.
+-- what a step that is taken makes of the present clauses
+abbrev pub Takes : List Clause → ProofStep → List Clause → Type 0
+Takes P (AtClause c) Q = Derives P (lines_of (AtClause c)) Q
+Takes P (UnitClauses units) Q = Derives P (lines_of (UnitClauses units)) Q
+Takes P (DeleteClause c) Q = Derives P (lines_of (DeleteClause c)) Q
+Takes P (DeleteVar v) Q = Q ≡ without v P
+Takes P (FailedAssumptions core) Q = Conflicts P core.now × (Q ≡ P)
+
+-- Line number `number` of the step, counted from 1, is wrong: the lines before it are taken, after which Q is present.
+pub record FailsAt (P : List Clause) (lines : List Line) (number : ℕ) (line : Line) (Q : List Clause) : Type 0 where
+  pub front : List Line
+  pub back : List Line
+  pub splits : lines ≡ front ++ line ∷ back
+  pub numbered : number ≡ suc (length front)
+  pub derives : Derives P front Q
+  pub wrong : IsWrong Q line
+
+-- a clause of the step does not follow, or its literals do not conflict
+abbrev pub DoesNotFollow : List Clause → ProofStep → ℕ → List Clause → Type 0
+DoesNotFollow P (AtClause c) number Q = (d : Clause) × FailsAt P (lines_of (AtClause c)) number (Add d) Q
+DoesNotFollow P (UnitClauses units) number Q = (d : Clause) × FailsAt P (lines_of (UnitClauses units)) number (Add d) Q
+DoesNotFollow P (DeleteClause c) number Q = ⊥
+DoesNotFollow P (DeleteVar v) number Q = ⊥
+DoesNotFollow P (FailedAssumptions core) number Q = (Conflicts P core.now → ⊥) × (number ≡ 1) × (Q ≡ P)
+
+-- a step is taken, or it is wrong, or the call is refused
+abbrev pub IsStep : CheckerState → ProofStep → Result (Unit {0}) CheckerError → CheckerState → Type 0
+IsStep old step (Ok u) new = Takes old.clauses step new.clauses × (old.spent ≡ false) × (new.spent ≡ false)
+IsStep old step (Err (CheckFailed number)) new = DoesNotFollow old.clauses step number new.clauses × (old.spent ≡ false) × (new.spent ≡ false)
+IsStep old step (Err (NoSuchClause number)) new = ((d : Clause) × FailsAt old.clauses (lines_of step) number (Delete d) new.clauses) × (old.spent ≡ false) × (new.spent ≡ false)
+IsStep old step (Err (Parse offset)) new = ⊥
+IsStep old step (Err (Io cause)) new = ⊥
+IsStep old step (Err OutOfMemory) new = IsRefusal old OutOfMemory new
+IsStep old step (Err (Dimacs cause)) new = ⊥
+IsStep old step (Err Spent) new = IsRefusal old Spent new
+
+-- 2. Proofs.
+-- a checker, and the source that it reads
+pub record Standing : Type 0 where
+  pub checker : CheckerState
+  pub source : Stand
+
+-- a result that speaks of the bytes
+abbrev pub IsOfBytes : Result CheckVerdict CheckerError → Type 0
+IsOfBytes (Ok v) = Unit {0}
+IsOfBytes (Err (CheckFailed step)) = Unit {0}
+IsOfBytes (Err (NoSuchClause step)) = Unit {0}
+IsOfBytes (Err (Parse offset)) = Unit {0}
+IsOfBytes (Err (Io cause)) = ⊥
+IsOfBytes (Err OutOfMemory) = ⊥
+IsOfBytes (Err (Dimacs cause)) = ⊥
+IsOfBytes (Err Spent) = ⊥
+
+-- What a check of a proof returns, over what the source gave meanwhile.
+pub data Checks (format : ProofFormat) (old : Standing) (result : Result CheckVerdict CheckerError) (new : Standing) : Type 0 where
+  -- the source ended, and the result is that of all it gave
+  AtEnd : (text : List ℕ) → streams.Reads old.source text new.source → HasEnded new.source → new.source.faults ≡ old.source.faults →
+      IsResult format old.checker.clauses text result new.checker.clauses → Checks format old result new
+  -- whatever comes behind what the source gave, this is the result
+  InText : (text : List ℕ) → streams.Reads old.source text new.source → new.source.faults ≡ old.source.faults →
+      ((rest : List ℕ) → IsResult format old.checker.clauses (text ++ rest) result new.checker.clauses) → Checks format old result new
+  SourceFailed : (text : List ℕ) → streams.Reads old.source text new.source → new.source.faults ≡ old.source.faults + 1 → (e : CheckerError) → result ≡ Err e → is_io e ≡ true → Checks format old result new
+  RanOut : (text : List ℕ) → streams.Reads old.source text new.source → new.source.faults ≡ old.source.faults → result ≡ Err OutOfMemory → Checks format old result new
+
+-- 3. DIMACS texts.
+-- what a text gives, over what a source gave meanwhile
+pub data GivesReading (old : Stand) (reading : Reading) (new : Stand) : Type 0 where
+  -- the source ended, and this is the whole text
+  Whole : (text : List ℕ) → streams.Reads old text new → HasEnded new → new.faults ≡ old.faults → reading ≡ dimacs text → GivesReading old reading new
+  -- the text has a fault, whatever comes behind
+  FaultInText : (text : List ℕ) → streams.Reads old text new → new.faults ≡ old.faults → ((rest : List ℕ) → dimacs (text ++ rest) ≡ reading) → reading.fault ≢ None → GivesReading old reading new
+  -- the source failed behind the text
+  TextFailed : (text : List ℕ) → streams.Reads old text new → new.faults ≡ old.faults + 1 → reading ≡ broken kind.Io text → GivesReading old reading new
+  -- memory ran out in the reader behind this front of it
+  ReaderRanOut : (front rest : List ℕ) → streams.Reads old (front ++ rest) new → new.faults ≡ old.faults → reading ≡ broken kind.OutOfMemory front → GivesReading old reading new
+
+-- The clauses of a text join the present ones; its fault, if there is one, is returned.
+abbrev pub AddsReading : CheckerState → Reading → Result (Unit {0}) CheckerError → CheckerState → Type 0
+AddsReading old reading (Ok u) new = (reading.fault ≡ None) × Becomes old (old.clauses ++ reading.clauses) new
+AddsReading old reading (Err (Dimacs cause)) new = (reading.fault ≡ Some cause) × (cause.kind ≢ kind.OutOfMemory) × Becomes old (old.clauses ++ reading.clauses) new
+AddsReading old reading (Err (CheckFailed step)) new = ⊥
+AddsReading old reading (Err (NoSuchClause step)) new = ⊥
+AddsReading old reading (Err (Parse offset)) new = ⊥
+AddsReading old reading (Err (Io cause)) new = ⊥
+AddsReading old reading (Err OutOfMemory) new = IsRefusal old OutOfMemory new
+AddsReading old reading (Err Spent) new = ⊥
+
+-- a text is added that a source gives; a spent checker reads nothing
+pub data AddsText (old : Standing) (result : Result (Unit {0}) CheckerError) (new : Standing) : Type 0 where
+  Added : (reading : Reading) → GivesReading old.source reading new.source → AddsReading old.checker reading result new.checker → AddsText old result new
+  -- memory ran out for a clause that was read
+  ClauseRanOut : (text : List ℕ) → streams.Reads old.source text new.source → result ≡ Err OutOfMemory → IsRefusal old.checker OutOfMemory new.checker → AddsText old result new
+  Unread : result ≡ Err Spent → IsRefusal old.checker Spent new.checker → new.source ≡ old.source → AddsText old result new

@@ -1,0 +1,11 @@
+pub mod Written
+pub mod Grammar
+pub mod Machine
+pub mod Means
+pub mod Laws
+pub mod Steps
+pub mod Results
+pub mod Calls
+pub mod Checks
+pub mod Mapping
+pub mod Verified

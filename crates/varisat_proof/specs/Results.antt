@@ -1,0 +1,56 @@
+-- The one right result of a check, over all bytes of a proof.
+use Rattle.std.specs.Prelude.{◌≡◌, ℕ, suc, min, ◌-◌, ◌^◌, List, [], ◌++◌, length, Option, Some, None, Result, Ok, Err}
+use Rattle.varisat_theory.specs.Literals.{Clause}
+use Rattle.varisat_theory.specs.Derivations.{Line, Derives}
+use Rattle.varisat_theory.specs.Propagation.{Conflicts}
+use Rattle.varisat_theory.specs.Checking.{IsVerdict}
+use Rattle.varisat_theory.specs.declared.checker.PlainVerdict.{PlainVerdict}
+use Rattle.varisat_theory.specs.declared.checker.PlainVerdict.TheVariants as plain
+use Rattle.varisat_proof.specs.declared.proof.format.ProofFormat.{ProofFormat}
+use Rattle.varisat_proof.specs.declared.checker.error.CheckVerdict.{CheckVerdict}
+use Rattle.varisat_proof.specs.declared.checker.error.CheckVerdict.TheVariants.{Refutation, Derivation}
+use Rattle.varisat_proof.specs.declared.checker.error.CheckerError.{CheckerError}
+use Rattle.varisat_proof.specs.declared.checker.error.CheckerError.TheVariants.{CheckFailed, NoSuchClause, Parse}
+use Rattle.varisat_proof.specs.Means.{BytesMean}
+
+-- numbers of lines stay at 2^64-1
+abbrev pub step_number : ℕ → ℕ
+step_number n = min n (2 ^ 64 - 1)
+
+-- A wrong line is returned first, and then a fault of the bytes.
+abbrev pub result_of : Option ℕ → PlainVerdict → Result CheckVerdict CheckerError
+result_of None plain.Refutation = Ok Refutation
+result_of None plain.Derivation = Ok Derivation
+result_of (Some offset) plain.Refutation = Err (Parse offset)
+result_of (Some offset) plain.Derivation = Err (Parse offset)
+result_of fault (plain.DoesNotFollow number) = Err (CheckFailed (step_number number))
+result_of fault (plain.DeletesNothing number) = Err (NoSuchClause (step_number number))
+
+-- where a checker stops that comes to the verdict: behind lines that refute, behind all of them, or before a wrong one
+abbrev pub StopsAt : PlainVerdict → List Line → List Line → List Clause → Type 0
+StopsAt plain.Refutation front back Q = Conflicts Q []
+StopsAt plain.Derivation front back Q = back ≡ []
+StopsAt (plain.DoesNotFollow number) front back Q = number ≡ suc (length front)
+StopsAt (plain.DeletesNothing number) front back Q = number ≡ suc (length front)
+
+-- Q is present where a checker stops
+pub record Leaves (P : List Clause) (lines : List Line) (verdict : PlainVerdict) (Q : List Clause) : Type 0 where
+  pub front : List Line
+  pub back : List Line
+  pub splits : lines ≡ front ++ back
+  pub derives : Derives P front Q
+  pub stops : StopsAt verdict front back Q
+
+-- The lines in front of the bytes' first fault, that fault, and what the lines are from P on; and what the check returns and leaves present.
+pub record IsResult (format : ProofFormat) (P : List Clause) (bytes : List ℕ) (result : Result CheckVerdict CheckerError) (Q : List Clause) : Type 0 where
+  pub lines : List Line
+  pub fault : Option ℕ
+  pub verdict : PlainVerdict
+  pub means : BytesMean format bytes lines fault
+  pub is_verdict : IsVerdict P lines verdict
+  pub leaves : Leaves P lines verdict Q
+  pub result_is : result ≡ result_of fault verdict
+
+-- all bytes have one result
+abbrev pub ResultOnce : ProofFormat → Type 0
+ResultOnce format = (P : List Clause) (bytes : List ℕ) (r q : Result CheckVerdict CheckerError) (Q R : List Clause) → IsResult format P bytes r Q → IsResult format P bytes q R → r ≡ q

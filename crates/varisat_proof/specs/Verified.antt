@@ -1,0 +1,63 @@
+-- What the program's `check` finds out of a text and a proof, what it prints, and with which status it ends then.
+use Rattle.std.specs.Prelude.{◌≡◌, ℕ, List, Bool, true, false, Option, Some, None, Result, Ok, Err, codes}
+use Rattle.varisat_theory.specs.Literals.{Clause, IsSatisfiable}
+use Rattle.varisat_formula.specs.Dimacs.{dimacs}
+use Rattle.varisat_formula.specs.Streams as streams
+use Rattle.varisat_formula.specs.Streams.{Stand, HasEnded}
+use Rattle.varisat_proof.specs.declared.proof.format.ProofFormat.{ProofFormat}
+use Rattle.varisat_proof.specs.declared.checker.error.CheckVerdict.{CheckVerdict}
+use Rattle.varisat_proof.specs.declared.checker.error.CheckVerdict.TheVariants.{Refutation, Derivation}
+use Rattle.varisat_proof.specs.declared.checker.error.CheckerError.{CheckerError}
+use Rattle.varisat_proof.specs.declared.checker.error.CheckerError.TheVariants.{CheckFailed, NoSuchClause, Parse, Io, OutOfMemory, Dimacs, Spent}
+use Rattle.varisat_proof.specs.Calls.{CheckerState, Checks}
+
+-- the source gave a whole text without a fault, which has these clauses
+pub record GivesClauses (old : Stand) (clauses : List Clause) (new : Stand) : Type 0 where
+  pub text : List ℕ
+  pub reads : streams.Reads old text new
+  pub ended : HasEnded new
+  pub fine : (dimacs text).fault ≡ None
+  pub clauses_are : clauses ≡ (dimacs text).clauses
+
+-- whether a proof is verified that a check returned this for
+abbrev pub verdict_of : Result CheckVerdict CheckerError → Option Bool
+verdict_of (Ok Refutation) = Some true
+verdict_of (Ok Derivation) = Some false
+verdict_of (Err (CheckFailed step)) = Some false
+verdict_of (Err (NoSuchClause step)) = Some false
+verdict_of (Err (Parse offset)) = Some false
+verdict_of (Err (Io cause)) = None
+verdict_of (Err OutOfMemory) = None
+verdict_of (Err (Dimacs cause)) = None
+verdict_of (Err Spent) = None
+
+-- the sources of a text and of a proof
+pub record Inputs : Type 0 where
+  pub cnf : Stand
+  pub proof : Stand
+
+-- The text has clauses, and a check of the proof from these on gave the verdict.
+pub record Verifies (format : ProofFormat) (old new : Inputs) (verified : Bool) : Type 0 where
+  pub clauses : List Clause
+  pub given : GivesClauses old.cnf clauses new.cnf
+  pub left : CheckerState
+  pub result_is : Result CheckVerdict CheckerError
+  pub checks : Checks format (record { checker = record { clauses = clauses; spent = false }; source = old.proof }) result_is (record { checker = left; source = new.proof })
+  pub verdict : verdict_of result_is ≡ Some verified
+
+-- the source gave a whole text without a fault, whose clauses no assignment satisfies
+abbrev pub GivesUnsatisfiable : Stand → Stand → Type 0
+GivesUnsatisfiable old new = (clauses : List Clause) × GivesClauses old clauses new × (IsSatisfiable clauses → ⊥)
+
+-- what is printed, and the status
+abbrev pub verdict_text : Bool → List ℕ
+verdict_text true = codes "s VERIFIED\n"
+verdict_text false = codes "s NOT VERIFIED\n"
+
+abbrev pub verdict_status : Bool → ℕ
+verdict_status true = 0
+verdict_status false = 1
+
+-- the status where there was a fault
+abbrev pub fault_status : ℕ
+fault_status = 2

@@ -1,0 +1,464 @@
+//! The checker. It keeps the present clauses in a list, and propagates anew for each line.
+ghost use Rattle.std.specs.Prelude.{◌≡◌, ◌≢◌, ℕ, List, [], ◌∷◌, ◌++◌, ◌+◌, ◌-◌, ◌<◌, ◌^◌, ◌↔◌, length, true, false, Ok, Err, Some, OnOk, OnErr, IfOk, IfErr, IsTrue, ◌||◌, slice_index_or};
+ghost use Rattle.varisat_theory.specs.Literals.{Clause, IsSatisfiable};
+ghost use Rattle.varisat_formula.specs.Rest.{Progress, IsEnding};
+ghost use Rattle.varisat_theory.specs.Derivations.{Line};
+ghost use Rattle.varisat_theory.specs.Propagation.{Conflicts};
+ghost use Rattle.varisat_theory.specs.Checking.{IsLineStatus};
+ghost use Rattle.varisat_theory.specs.Held.{without};
+ghost use Rattle.varisat_theory.specs.declared.checker.LineStatus.TheVariants.{Taken};
+ghost use Rattle.varisat_proof.specs.declared.checker.error.CheckVerdict.TheVariants.{Refutation};
+ghost use Rattle.varisat_proof.specs.declared.checker.error.CheckerError.TheVariants.{OutOfMemory, Spent};
+ghost use Rattle.varisat_proof.specs.Written.{line_of_kind};
+ghost use Rattle.varisat_proof.specs.Results.{IsResult};
+ghost use Rattle.varisat_proof.specs.Checks.{Stands, TakesLine, HasRead, ReadsPiece, EndsWith, ChecksLine, ChecksUnits, ChecksCore, RefusesText};
+ghost use Rattle.varisat_proof.specs.Calls.{CheckerState, IsRefusal, BecomesOrRefuses, AddsReading, AddsText, IsStep, Checks, IsOfBytes, spends};
+
+use crate::checker::error::{CheckVerdict, CheckerError};
+use crate::checker::propagation::{conflicts, drop_mentions, follows, take_out};
+use crate::checker::reader::ProofReader;
+use crate::checker::token::Event;
+use crate::proof::format::{LineKind, ProofFormat};
+use crate::proof::step::ProofStep;
+use std::alloc::{AllocError, Allocator};
+use std::marker::Model;
+use varisat_formula::dimacs::{DimacsError, DimacsErrorKind, DimacsParser};
+use varisat_formula::formula::CnfFormula;
+use varisat_formula::io::ByteSource;
+use varisat_literals::{Lit, Var};
+use varisat_theory::checker::LineStatus;
+
+/// How many bytes of a source are asked for at a time.
+const PIECE: usize = 0x2000;
+
+/// How many lines were looked at, and whether the present clauses conflicted.
+#[derive(Clone, Copy)]
+pub struct Count {
+    pub steps: u64,
+    pub refuted: bool,
+}
+
+/// A checker of proofs.
+#[derive(Drop)]
+pub struct Checker<A: Allocator + Copy> {
+    alloc: A,
+    clauses: Vec<Vec<Lit, A>, A>,
+    spent: bool,
+}
+
+impl<A: Allocator + Copy> Model for Checker<A> {
+    ghost use Rattle.varisat_theory.specs.Checking.{clause_lists};
+    ghost use Rattle.varisat_proof.specs.Calls.{CheckerState};
+
+    ghost Value = { CheckerState };
+
+    ghost view = { λ c. record { clauses = clause_lists c.clauses.items; spent = c.spent } };
+}
+
+impl<A: Allocator + Copy> Checker<A> {
+    /// A checker with no clauses. It takes no memory.
+    pub fn new_in(alloc: A) -> Checker<A>
+        ensures { result ≡ record { clauses = []; spent = false } }
+    {
+        Checker {
+            alloc,
+            clauses: Vec::new(alloc),
+            spent: false,
+        }
+    }
+
+    /// How many clauses are present.
+    pub fn len(&self) -> usize
+        ensures { result ≡ length self.now.clauses }
+    {
+        self.clauses.len()
+    }
+
+    /// The literals of a present clause.
+    pub fn clause(&self, i: usize) -> &[Lit]
+        requires { i < length self.now.clauses }
+        ensures { result.now ≡ slice_index_or self.now.clauses i [] }
+    {
+        self.clauses[i].as_slice()
+    }
+
+    /// Adds a clause, without a check.
+    fn push_clause(&mut self, clause: &[Lit]) -> Result<(), AllocError>
+        ensures ok { OnOk result (self.new ≡ record self.old { clauses = self.old.clauses ++ clause.now ∷ [] }) }
+        ensures err { OnErr result (self.new ≡ self.old) }
+    {
+        let copy = Vec::from_slice(self.alloc, clause)?;
+        self.clauses.push(copy)?;
+        Ok(())
+    }
+
+    /// Ends a call for want of memory, which spends the checker.
+    fn run_out(&mut self) -> CheckerError
+        ensures error { result ≡ OutOfMemory }
+        ensures spent { self.new ≡ record self.old { spent = true } }
+    {
+        self.spent = true;
+        CheckerError::OutOfMemory
+    }
+
+    /// Adds a clause, without a check. Where memory runs out the checker is spent.
+    pub fn add_clause(&mut self, clause: &[Lit]) -> Result<(), CheckerError>
+        ensures { BecomesOrRefuses self.old (self.old.clauses ++ clause.now ∷ []) result self.new }
+    {
+        if self.spent {
+            return Err(CheckerError::Spent);
+        }
+        match self.push_clause(clause) {
+            Ok(()) => Ok(()),
+            Err(_) => Err(self.run_out()),
+        }
+    }
+
+    /// Adds the formula's clauses in turn, without a check. Where memory runs out the checker is spent.
+    pub fn add_formula<B: Allocator + Copy>(
+        &mut self,
+        formula: &CnfFormula<B>,
+    ) -> Result<(), CheckerError>
+        ensures { BecomesOrRefuses self.old (self.old.clauses ++ formula.now.clauses) result self.new }
+    {
+        if self.spent {
+            return Err(CheckerError::Spent);
+        }
+        for clause in formula.iter() {
+            match self.push_clause(clause) {
+                Ok(()) => {}
+                Err(_) => return Err(self.run_out()),
+            }
+        }
+        Ok(())
+    }
+
+    /// The error for a fault of a text. Where memory ran out in the reader the checker is spent.
+    fn refuse_text(&mut self, fault: DimacsError) -> CheckerError
+        ensures { RefusesText self.old fault result self.new }
+    {
+        if let DimacsErrorKind::OutOfMemory = fault.kind {
+            return self.run_out();
+        }
+        CheckerError::Dimacs { cause: fault }
+    }
+
+    /// Ends the text, adds the clauses that it leaves, and returns its fault, if there is one.
+    fn end_text(&mut self, parser: &mut DimacsParser<A>) -> Result<(), CheckerError>
+        requires { self.old.spent ≡ false }
+        ensures { (p : Progress) × IsEnding parser.old p × AddsReading self.old p.reading result self.new }
+    {
+        let end = parser.finish();
+        match self.add_formula(&parser.take_formula()) {
+            Ok(()) => {}
+            Err(error) => return Err(error),
+        }
+        match end {
+            Ok(()) => Ok(()),
+            Err(fault) => Err(self.refuse_text(fault)),
+        }
+    }
+
+    /// Adds the clauses of a DIMACS CNF text in turn, without a check. The text's first fault is returned, and the clauses that
+    /// ended before it stay. Where memory runs out, also in the reader, the checker is spent.
+    pub fn add_dimacs_cnf<S: ByteSource>(&mut self, source: &mut S) -> Result<(), CheckerError>
+        requires { (S.stand source.old).faults < 2 ^ 64 - 1 }
+        ensures { AddsText (record { checker = self.old; source = S.stand source.old }) result (record { checker = self.new; source = S.stand source.new }) }
+    {
+        if self.spent {
+            return Err(CheckerError::Spent);
+        }
+        let mut parser = DimacsParser::new_in(self.alloc);
+        let mut buffer = [0; PIECE];
+        'pieces: loop {
+            let more = parser.next_piece(source, &mut buffer);
+            match self.add_formula(&parser.take_formula()) {
+                Ok(()) => {}
+                Err(error) => return Err(error),
+            }
+            match more {
+                Ok(true) => {}
+                Ok(false) => break,
+                Err(fault) => return Err(self.refuse_text(fault)),
+            }
+        }
+        self.end_text(&mut parser)
+    }
+
+    /// Takes out the clauses with a literal of the variable, without a check. It takes no memory; a spent checker refuses it.
+    pub fn delete_var(&mut self, var: Var) -> Result<(), CheckerError>
+        ensures taken { self.old.spent ≡ false → (result ≡ Ok tt) × (self.new ≡ record self.old { clauses = without var self.old.clauses }) }
+        ensures refused { self.old.spent ≡ true → (result ≡ Err Spent) × (self.new ≡ self.old) }
+    {
+        if self.spent {
+            return Err(CheckerError::Spent);
+        }
+        drop_mentions(&mut self.clauses, var);
+        Ok(())
+    }
+
+    /// Whether propagation over the present clauses conflicts.
+    fn is_refuted(&self) -> Result<bool, AllocError>
+        ensures { IfOk result (λ found. IsTrue found ↔ Conflicts self.now.clauses []) }
+    {
+        let found = conflicts(self.alloc, &self.clauses, &[])?;
+        Ok(found)
+    }
+
+    /// Takes a line, if it adds what follows or deletes a present clause.
+    fn take_line(&mut self, kind: LineKind, clause: &[Lit]) -> Result<LineStatus, AllocError>
+        ensures status { IfOk result (λ status. IsLineStatus self.old.clauses (line_of_kind kind clause.now) status self.new.clauses) }
+        ensures stays { IfOk result (λ status. (status ≡ Taken → ⊥) → self.new.clauses ≡ self.old.clauses) }
+        ensures spent { self.new.spent ≡ self.old.spent }
+    {
+        match kind {
+            LineKind::Adds => {
+                if !follows(self.alloc, &self.clauses, clause)? {
+                    return Ok(LineStatus::Unproved);
+                }
+                self.push_clause(clause)?;
+                Ok(LineStatus::Taken)
+            }
+            LineKind::Deletes => {
+                if !take_out(&mut self.clauses, clause) {
+                    return Ok(LineStatus::Absent);
+                }
+                Ok(LineStatus::Taken)
+            }
+        }
+    }
+
+    /// The next line of a proof. Once the present clauses conflict, lines are not looked at.
+    fn next_line(
+        &mut self,
+        count: &mut Count,
+        kind: LineKind,
+        clause: &[Lit],
+    ) -> Result<(), CheckerError>
+        ensures takes { (P : List Clause) (lines : List Line) → Stands P lines self.old.clauses count.old → TakesLine P (lines ++ line_of_kind kind clause.now ∷ []) result self.new.clauses count.new }
+        ensures spent { self.new.spent ≡ self.old.spent }
+    {
+        if count.refuted {
+            return Ok(());
+        }
+        let step = count.steps.saturating_add(1);
+        let status = match self.take_line(kind, clause) {
+            Ok(status) => status,
+            Err(_) => return Err(CheckerError::OutOfMemory),
+        };
+        match status {
+            LineStatus::Unproved => return Err(CheckerError::CheckFailed { step }),
+            LineStatus::Absent => return Err(CheckerError::NoSuchClause { step }),
+            LineStatus::Taken => {}
+        }
+        let refuted = match self.is_refuted() {
+            Ok(refuted) => refuted,
+            Err(_) => return Err(CheckerError::OutOfMemory),
+        };
+        *count = Count {
+            steps: step,
+            refuted,
+        };
+        Ok(())
+    }
+
+    /// The next piece of a proof.
+    fn read_piece(
+        &mut self,
+        reader: &mut ProofReader<A>,
+        count: &mut Count,
+        piece: &[u8],
+    ) -> Result<(), CheckerError>
+        ensures reads { (f : ProofFormat) (P : List Clause) (text : List ℕ) (lines : List Line) → HasRead f text lines reader.old → Stands P lines self.old.clauses count.old → ReadsPiece f P (text ++ piece.now) result (record { present = self.new.clauses; count = count.new; progress = reader.new }) }
+        ensures spent { self.new.spent ≡ self.old.spent }
+    {
+        for b in piece {
+            let start = reader.start();
+            let event = match reader.byte(*b) {
+                Ok(event) => event,
+                Err(_) => return Err(CheckerError::OutOfMemory),
+            };
+            match event {
+                Event::More => {}
+                Event::Fault => return Err(CheckerError::Parse { offset: start }),
+                Event::Ended => match self.next_line(count, reader.kind(), reader.clause()) {
+                    Ok(()) => {}
+                    Err(error) => return Err(error),
+                },
+            }
+        }
+        Ok(())
+    }
+
+    /// The end of a proof.
+    fn end_proof(
+        &mut self,
+        reader: &mut ProofReader<A>,
+        count: &mut Count,
+    ) -> Result<CheckVerdict, CheckerError>
+        ensures ends { (f : ProofFormat) (P : List Clause) (text : List ℕ) (lines : List Line) → HasRead f text lines reader.old → Stands P lines self.old.clauses count.old → EndsWith f P text result self.new.clauses }
+        ensures spent { self.new.spent ≡ self.old.spent }
+    {
+        let last = reader.last_fault();
+        let event = match reader.finish() {
+            Ok(event) => event,
+            Err(_) => return Err(CheckerError::OutOfMemory),
+        };
+        match event {
+            Event::More => {}
+            Event::Fault => return Err(CheckerError::Parse { offset: last }),
+            Event::Ended => match self.next_line(count, reader.kind(), reader.clause()) {
+                Ok(()) => {}
+                Err(error) => return Err(error),
+            },
+        }
+        if reader.is_inside() {
+            return Err(CheckerError::Parse {
+                offset: reader.offset(),
+            });
+        }
+        if count.refuted {
+            Ok(CheckVerdict::Refutation)
+        } else {
+            Ok(CheckVerdict::Derivation)
+        }
+    }
+
+    /// Reads all of the source as one proof.
+    fn run<S: ByteSource>(
+        &mut self,
+        source: &mut S,
+        format: ProofFormat,
+    ) -> Result<CheckVerdict, CheckerError>
+        requires few { (S.stand source.old).faults < 2 ^ 64 - 1 }
+        ensures checks { Checks format (record { checker = self.old; source = S.stand source.old }) result (record { checker = self.new; source = S.stand source.new }) }
+        ensures spent { self.new.spent ≡ self.old.spent }
+    {
+        let refuted = match self.is_refuted() {
+            Ok(refuted) => refuted,
+            Err(_) => return Err(CheckerError::OutOfMemory),
+        };
+        let mut count = Count { steps: 0, refuted };
+        let mut reader = ProofReader::new_in(self.alloc, format);
+        let mut buffer = [0; PIECE];
+        'pieces: loop {
+            let size = match source.fill(&mut buffer) {
+                Ok(size) => size,
+                Err(cause) => return Err(CheckerError::Io { cause }),
+            };
+            if size == 0 {
+                break;
+            }
+            match self.read_piece(&mut reader, &mut count, &buffer[..size]) {
+                Ok(()) => {}
+                Err(error) => return Err(error),
+            }
+        }
+        match self.end_proof(&mut reader, &mut count) {
+            Ok(verdict) => Ok(verdict),
+            Err(error) => Err(error),
+        }
+    }
+
+    /// Checks line number `step` of a step.
+    fn check_line(&mut self, kind: LineKind, clause: &[Lit], step: u64) -> Result<(), CheckerError>
+        ensures { ChecksLine self.old (line_of_kind kind clause.now) step result self.new }
+    {
+        match self.take_line(kind, clause) {
+            Ok(LineStatus::Taken) => Ok(()),
+            Ok(LineStatus::Unproved) => Err(CheckerError::CheckFailed { step }),
+            Ok(LineStatus::Absent) => Err(CheckerError::NoSuchClause { step }),
+            Err(_) => Err(self.run_out()),
+        }
+    }
+
+    /// Checks each literal in turn as a clause of its own.
+    fn check_units(&mut self, units: &[Lit]) -> Result<(), CheckerError>
+        requires { self.old.spent ≡ false }
+        ensures { ChecksUnits self.old units.now result self.new }
+    {
+        for (i, unit) in units.iter().enumerate() {
+            match self.check_line(LineKind::Adds, &[*unit], i as u64 + 1) {
+                Ok(()) => {}
+                Err(error) => return Err(error),
+            }
+        }
+        Ok(())
+    }
+
+    /// Checks that propagation from the literals conflicts.
+    fn check_core(&mut self, core: &[Lit]) -> Result<(), CheckerError>
+        ensures { ChecksCore self.old core.now result self.new }
+    {
+        match conflicts(self.alloc, &self.clauses, core) {
+            Ok(true) => Ok(()),
+            Ok(false) => Err(CheckerError::CheckFailed { step: 1 }),
+            Err(_) => Err(self.run_out()),
+        }
+    }
+
+    /// Checks one step, whether or not propagation over the present clauses conflicts, and takes its lines. Where a line
+    /// fails the clauses are those that the step's lines before left; the error has the line's number in the step.
+    pub fn check_step(&mut self, step: &ProofStep<'_>) -> Result<(), CheckerError>
+        ensures { IsStep self.old step.now result self.new }
+    {
+        if self.spent {
+            return Err(CheckerError::Spent);
+        }
+        match step {
+            ProofStep::AtClause { clause } => self.check_line(LineKind::Adds, clause, 1),
+            ProofStep::UnitClauses { units } => self.check_units(units),
+            ProofStep::DeleteClause { clause } => self.check_line(LineKind::Deletes, clause, 1),
+            ProofStep::DeleteVar { var } => {
+                drop_mentions(&mut self.clauses, *var);
+                Ok(())
+            }
+            ProofStep::FailedAssumptions { failed_core } => self.check_core(failed_core),
+        }
+    }
+
+    /// Spends the checker, if the error does.
+    fn end_with(&mut self, error: &CheckerError)
+        ensures { self.new ≡ record self.old { spent = self.old.spent || spends error.now } }
+    {
+        let spends = match error {
+            CheckerError::CheckFailed { .. }
+            | CheckerError::NoSuchClause { .. }
+            | CheckerError::Dimacs { .. }
+            | CheckerError::Spent => false,
+            CheckerError::Parse { .. } | CheckerError::Io { .. } | CheckerError::OutOfMemory =>
+                true,
+        };
+        self.spent = self.spent || spends;
+    }
+
+    /// Checks all of the source as one proof. As soon as propagation over the present clauses conflicts, also before the first
+    /// line, the verdict will be Refutation, and later lines are only read. The first fault in the order of the bytes is
+    /// returned: a line that fails, or a token that does not fit. After `CheckFailed` and `NoSuchClause` the clauses are those
+    /// that the lines before left; after `Parse`, `Io` and `OutOfMemory` the checker is spent. Refutation implies that no
+    /// assignment satisfies the clauses that were present as the call began.
+    pub fn check_proof<S: ByteSource>(
+        &mut self,
+        source: &mut S,
+        format: ProofFormat,
+    ) -> Result<CheckVerdict, CheckerError>
+        requires few { (S.stand source.old).faults < 2 ^ 64 - 1 }
+        ensures checks { self.old.spent ≡ false → Checks format (record { checker = self.old; source = S.stand source.old }) result (record { checker = self.new; source = S.stand source.new }) }
+        ensures refused { self.old.spent ≡ true → (result ≡ Err Spent) × (self.new ≡ self.old) × (source.new ≡ source.old) }
+        ensures usable { OnOk result (self.new.spent ≡ self.old.spent) }
+        ensures spends { IfErr result (λ e. self.new.spent ≡ (self.old.spent || spends e)) }
+        ensures exact { (bytes : List ℕ) → self.old.spent ≡ false → (S.stand source.old).left ≡ Some bytes → IsOfBytes result → IsResult format self.old.clauses bytes result self.new.clauses }
+        ensures sound { result ≡ Ok Refutation → IsSatisfiable self.old.clauses → ⊥ }
+    {
+        if self.spent {
+            return Err(CheckerError::Spent);
+        }
+        match self.run(source, format) {
+            Ok(verdict) => Ok(verdict),
+            Err(error) => {
+                self.end_with(&error);
+                Err(error)
+            }
+        }
+    }
+}

@@ -1,0 +1,113 @@
+//! The program's command that checks proofs, over readers and writers.
+ghost use Rattle.std.specs.Prelude.{◌≡◌, ◌⊎◌, ◌-◌, ◌^◌, ◌<◌, [], Bool, true, false, OnOk, IfOk};
+ghost use Rattle.std.specs.Io.KnownBytes.{Appends};
+ghost use Rattle.varisat_proof.specs.Verified.{Inputs, Verifies, GivesUnsatisfiable, verdict_text, verdict_status, fault_status};
+
+use crate::checker::{CheckVerdict, Checker, CheckerError};
+use crate::proof::ProofFormat;
+use std::alloc::Allocator;
+use std::fmt::Display;
+use std::io::{self, Write};
+use varisat_formula::io::ByteSource;
+
+/// The status of `check` for a proof that refutes the clauses.
+pub const STATUS_VERIFIED: u8 = 0;
+
+/// The status of `check` for a proof that does not.
+pub const STATUS_NOT_VERIFIED: u8 = 1;
+
+/// The status of a command that met a fault.
+pub const STATUS_FAULT: u8 = 2;
+
+/// Reads a DIMACS CNF text, and then checks a proof against its clauses. Prints `s VERIFIED`, status 0, where the proof refutes
+/// them, and `s NOT VERIFIED`, status 1, where it does not: no beginning of it conflicts, a line fails, or its bytes are no
+/// lines. A fault of the text, the sources or the writer, and out of memory, is printed on `err`, and the status is 2. The status
+/// is 0 only where no assignment satisfies the text's clauses. Each source has to have counted fewer than 2^64-1 faults.
+pub fn check_lines<A: Allocator + Copy, S: ByteSource, P: ByteSource, W: Write, E: Write>(
+    alloc: A,
+    cnf: &mut S,
+    proof: &mut P,
+    format: ProofFormat,
+    out: &mut W,
+    err: &mut E,
+) -> u8
+    requires cnf_faults { (S.stand cnf.old).faults < 2 ^ 64 - 1 }
+    requires proof_faults { (P.stand proof.old).faults < 2 ^ 64 - 1 }
+    ensures outcome { (result ≡ fault_status) ⊎ ((verified : Bool) × Verifies format (record { cnf = S.stand cnf.old; proof = P.stand proof.old }) (record { cnf = S.stand cnf.new; proof = P.stand proof.new }) verified × (result ≡ verdict_status verified) × Appends (W.contents out.old) (W.contents out.new) (verdict_text verified)) }
+    ensures truth { result ≡ 0 → GivesUnsatisfiable (S.stand cnf.old) (S.stand cnf.new) }
+{
+    match verify(alloc, cnf, proof, format) {
+        Ok(verified) => match write_verdict(out, verified) {
+            Ok(status) => status,
+            Err(error) => tell_fault(err, &error),
+        },
+        Err(error) => tell_fault(err, &error),
+    }
+}
+
+/// Whether the proof refutes the clauses of the text.
+// The new checker has a function of its own: its memory is given back in one place, not at each return of `verify_in`.
+fn verify<A: Allocator + Copy, S: ByteSource, P: ByteSource>(
+    alloc: A,
+    cnf: &mut S,
+    proof: &mut P,
+    format: ProofFormat,
+) -> Result<bool, CheckerError>
+    requires cnf_faults { (S.stand cnf.old).faults < 2 ^ 64 - 1 }
+    requires proof_faults { (P.stand proof.old).faults < 2 ^ 64 - 1 }
+    ensures { IfOk result (λ verified. Verifies format (record { cnf = S.stand cnf.old; proof = P.stand proof.old }) (record { cnf = S.stand cnf.new; proof = P.stand proof.new }) verified) }
+{
+    let mut checker = Checker::new_in(alloc);
+    verify_in(&mut checker, cnf, proof, format)
+}
+
+/// The same with a new checker.
+fn verify_in<A: Allocator + Copy, S: ByteSource, P: ByteSource>(
+    checker: &mut Checker<A>,
+    cnf: &mut S,
+    proof: &mut P,
+    format: ProofFormat,
+) -> Result<bool, CheckerError>
+    requires new { checker.old ≡ record { clauses = []; spent = false } }
+    requires cnf_faults { (S.stand cnf.old).faults < 2 ^ 64 - 1 }
+    requires proof_faults { (P.stand proof.old).faults < 2 ^ 64 - 1 }
+    ensures { IfOk result (λ verified. Verifies format (record { cnf = S.stand cnf.old; proof = P.stand proof.old }) (record { cnf = S.stand cnf.new; proof = P.stand proof.new }) verified) }
+{
+    match checker.add_dimacs_cnf(cnf) {
+        Ok(()) => {}
+        Err(error) => return Err(error),
+    }
+    match checker.check_proof(proof, format) {
+        Ok(CheckVerdict::Refutation) => Ok(true),
+        Ok(CheckVerdict::Derivation) => Ok(false),
+        Err(CheckerError::CheckFailed { .. }) => Ok(false),
+        Err(CheckerError::NoSuchClause { .. }) => Ok(false),
+        Err(CheckerError::Parse { .. }) => Ok(false),
+        Err(error) => Err(error),
+    }
+}
+
+/// Writes whether a proof was verified, and returns the status for it.
+fn write_verdict<W: Write>(out: &mut W, verified: bool) -> io::Result<u8>
+    ensures text { OnOk result (Appends (W.contents out.old) (W.contents out.new) (verdict_text verified)) }
+    ensures status { IfOk result (λ status. status ≡ verdict_status verified) }
+{
+    let status = if verified {
+        out.write_all(b"s VERIFIED\n")?;
+        STATUS_VERIFIED
+    } else {
+        out.write_all(b"s NOT VERIFIED\n")?;
+        STATUS_NOT_VERIFIED
+    };
+    out.flush()?;
+    Ok(status)
+}
+
+/// Prints a fault, and returns the status for it.
+fn tell_fault<E: Write, F: Display>(err: &mut E, fault: &F) -> u8
+    ensures { result ≡ fault_status }
+{
+    // Where this writer fails too, nothing is left to print to.
+    let _ = writeln!(err, "error: {fault}");
+    STATUS_FAULT
+}

@@ -1,0 +1,202 @@
+//! Writes the lines of a proof.
+ghost use Rattle.std.specs.Prelude.{◌≡◌, ℕ, List, [], ◌∷◌, ◌++◌, ◌+◌, ◌-◌, ◌<◌, ◌≤◌, ◌^◌, length, take, flat_map, OnOk};
+ghost use Rattle.varisat_literals.specs.Numbers.{literal_text};
+ghost use Rattle.varisat_formula.specs.Written.{spaced_literals};
+ghost use Rattle.varisat_proof.specs.declared.proof.format.ProofFormat.TheVariants.{Drat, BinaryDrat};
+ghost use Rattle.varisat_proof.specs.Written.{leb128, leb128_by, codes_bytes, line_of_kind, line_text, line_bytes, line_written};
+ghost use Rattle.varisat_proof.specs.Steps.{lines_of, unit_lines, PutsLines};
+
+use crate::proof::format::{LineKind, ProofFormat};
+use crate::proof::step::ProofStep;
+use itoa::Buffer;
+use std::alloc::{AllocError, Allocator};
+use std::io;
+use varisat_formula::io::ProofTarget;
+use varisat_literals::Lit;
+
+/// Why a step was not written.
+#[derive(Debug, Drop)]
+pub enum WriteError {
+    /// The growth of the buffer was refused.
+    Memory,
+    /// The target failed.
+    Target(io::Error),
+}
+
+/// The literal's number and a space.
+fn push_literal<A: Allocator + Copy>(
+    buffer: &mut Vec<u8, A>,
+    literal: Lit,
+) -> Result<(), AllocError>
+    ensures { OnOk result (buffer.new.items ≡ buffer.old.items ++ (literal_text literal ++ 32 ∷ [])) }
+{
+    let mut digits = Buffer::new();
+    let number = digits.format(literal.index() + 1).as_bytes();
+    if literal.is_negative() {
+        buffer.push(b'-')?;
+    }
+    buffer.extend_from_slice(number)?;
+    buffer.push(b' ')?;
+    Ok(())
+}
+
+/// The bytes of a line of text.
+fn push_text<A: Allocator + Copy>(
+    buffer: &mut Vec<u8, A>,
+    kind: LineKind,
+    clause: &[Lit],
+) -> Result<(), AllocError>
+    ensures { OnOk result (buffer.new.items ≡ line_text (line_of_kind kind clause.now)) }
+{
+    buffer.clear();
+    match kind {
+        LineKind::Adds => {}
+        LineKind::Deletes => buffer.extend_from_slice(b"d ")?,
+    }
+    for literal in clause {
+        push_literal(buffer, *literal)?;
+    }
+    buffer.extend_from_slice(b"0\n")?;
+    Ok(())
+}
+
+/// The shortest LEB128 of the number.
+fn push_number<A: Allocator + Copy>(buffer: &mut Vec<u8, A>, number: u64) -> Result<(), AllocError>
+    requires { number < 2 ^ 35 }
+    ensures { OnOk result (buffer.new.items ≡ buffer.old.items ++ leb128 number) }
+{
+    let mut rest = number;
+    let mut left: u8 = 4;
+    'bytes: while left > 0 && rest >= 128 {
+        buffer.push((128 + rest % 128) as u8)?;
+        rest /= 128;
+        left -= 1;
+    }
+    buffer.push(rest as u8)?;
+    Ok(())
+}
+
+/// The bytes of a binary line.
+fn push_binary<A: Allocator + Copy>(
+    buffer: &mut Vec<u8, A>,
+    kind: LineKind,
+    clause: &[Lit],
+) -> Result<(), AllocError>
+    ensures { OnOk result (buffer.new.items ≡ line_bytes (line_of_kind kind clause.now)) }
+{
+    buffer.clear();
+    let tag = match kind {
+        LineKind::Adds => b'a',
+        LineKind::Deletes => b'd',
+    };
+    buffer.push(tag)?;
+    for literal in clause {
+        push_number(buffer, literal.code() as u64 + 2)?;
+    }
+    buffer.push(0)?;
+    Ok(())
+}
+
+/// The bytes of a line.
+fn push_line<A: Allocator + Copy>(
+    buffer: &mut Vec<u8, A>,
+    format: ProofFormat,
+    kind: LineKind,
+    clause: &[Lit],
+) -> Result<(), AllocError>
+    ensures { OnOk result (buffer.new.items ≡ line_written format (line_of_kind kind clause.now)) }
+{
+    match format {
+        ProofFormat::Drat => push_text(buffer, kind, clause)?,
+        ProofFormat::BinaryDrat => push_binary(buffer, kind, clause)?,
+    }
+    Ok(())
+}
+
+/// Writes a line by one `put`. The buffer is room to put it together.
+fn write_line<W: ProofTarget, A: Allocator + Copy>(
+    target: &mut W,
+    buffer: &mut Vec<u8, A>,
+    format: ProofFormat,
+    kind: LineKind,
+    clause: &[Lit],
+) -> Result<(), WriteError>
+    requires { (W.taken target.old).faults < 2 ^ 64 - 1 }
+    ensures { PutsLines format (W.taken target.old) result (line_of_kind kind clause.now ∷ []) (W.taken target.new) }
+{
+    match push_line(buffer, format, kind, clause) {
+        Ok(()) => {}
+        Err(_) => return Err(WriteError::Memory),
+    }
+    match target.put(buffer.as_slice()) {
+        Ok(()) => Ok(()),
+        Err(error) => Err(WriteError::Target(error)),
+    }
+}
+
+/// Writes each literal as a clause of its own, a line each.
+fn write_units<W: ProofTarget, A: Allocator + Copy>(
+    target: &mut W,
+    buffer: &mut Vec<u8, A>,
+    format: ProofFormat,
+    units: &[Lit],
+) -> Result<(), WriteError>
+    requires { (W.taken target.old).faults < 2 ^ 64 - 1 }
+    ensures { PutsLines format (W.taken target.old) result (unit_lines units.now) (W.taken target.new) }
+{
+    for unit in units {
+        match write_line(target, buffer, format, LineKind::Adds, &[*unit]) {
+            Ok(()) => {}
+            Err(error) => return Err(error),
+        }
+    }
+    Ok(())
+}
+
+/// Writes the lines of the step.
+fn write_lines<W: ProofTarget, A: Allocator + Copy>(
+    target: &mut W,
+    buffer: &mut Vec<u8, A>,
+    format: ProofFormat,
+    step: &ProofStep<'_>,
+) -> Result<(), WriteError>
+    requires { (W.taken target.old).faults < 2 ^ 64 - 1 }
+    ensures { PutsLines format (W.taken target.old) result (lines_of step.now) (W.taken target.new) }
+{
+    match step {
+        ProofStep::AtClause { clause } => {
+            write_line(target, buffer, format, LineKind::Adds, clause)
+        }
+        ProofStep::UnitClauses { units } => write_units(target, buffer, format, units),
+        ProofStep::DeleteClause { clause } => {
+            write_line(target, buffer, format, LineKind::Deletes, clause)
+        }
+        ProofStep::DeleteVar { .. } | ProofStep::FailedAssumptions { .. } => Ok(()),
+    }
+}
+
+/// Writes the lines of the step as text, each by one `put`. The buffer is room to put a line together. After an error a
+/// beginning of them stands in the target.
+pub fn write_step<W: ProofTarget, A: Allocator + Copy>(
+    target: &mut W,
+    buffer: &mut Vec<u8, A>,
+    step: &ProofStep<'_>,
+) -> Result<(), WriteError>
+    requires { (W.taken target.old).faults < 2 ^ 64 - 1 }
+    ensures { PutsLines Drat (W.taken target.old) result (lines_of step.now) (W.taken target.new) }
+{
+    write_lines(target, buffer, ProofFormat::Drat, step)
+}
+
+/// Writes the lines of the step in the binary format, each by one `put`. The buffer is room to put a line together. After an
+/// error a beginning of them stands in the target.
+pub fn write_binary_step<W: ProofTarget, A: Allocator + Copy>(
+    target: &mut W,
+    buffer: &mut Vec<u8, A>,
+    step: &ProofStep<'_>,
+) -> Result<(), WriteError>
+    requires { (W.taken target.old).faults < 2 ^ 64 - 1 }
+    ensures { PutsLines BinaryDrat (W.taken target.old) result (lines_of step.now) (W.taken target.new) }
+{
+    write_lines(target, buffer, ProofFormat::BinaryDrat, step)
+}

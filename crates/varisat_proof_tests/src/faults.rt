@@ -1,0 +1,182 @@
+//! What checkers return for faults, and what they are then.
+
+use crate::checks::{Outcome, PieceReader, outcome_of, refusal_of};
+use linked_list_allocator::LocalHeap;
+use std::alloc::{AllocError, Allocator, Global};
+use std::io;
+use std::io::ErrorKind;
+use varisat_formula::dimacs::{DimacsError, DimacsErrorKind};
+use varisat_formula::io::ReadSource;
+use varisat_literals::{Var, lits};
+use varisat_proof::checker::{Checker, CheckerError};
+use varisat_proof::proof::{ProofFormat, ProofStep};
+
+/// What a call that returns no verdict returned.
+fn refusal(called: &Result<(), CheckerError>) -> Option<Outcome> {
+    match called {
+        Ok(()) => None,
+        Err(error) => Some(refusal_of(error)),
+    }
+}
+
+/// Whether a checker refuses every call that it refuses once it is spent.
+fn is_spent<A: Allocator + Copy>(checker: &mut Checker<A>) -> bool {
+    let spent = Some(Outcome::Spent);
+    let clause = lits![1];
+    let mut text = ReadSource::new(b"1 0".as_slice());
+    let mut proof = ReadSource::new(b"".as_slice());
+    refusal(&checker.add_clause(&clause)) == spent
+        && refusal(&checker.add_dimacs_cnf(&mut text)) == spent
+        && refusal(&checker.delete_var(Var::from_index(0))) == spent
+        && refusal(&checker.check_step(&ProofStep::AtClause { clause: &clause })) == spent
+        && outcome_of(&checker.check_proof(&mut proof, ProofFormat::Drat)) == Outcome::Spent
+}
+
+/// What a check of a source returns that gives the bytes and then fails, and whether the checker is spent then.
+fn fails_behind(alloc: Global, bytes: &'static [u8]) -> (Outcome, bool) {
+    let mut checker = Checker::new_in(alloc);
+    let _ = checker.add_clause(&lits![1, 2]);
+    let reader = PieceReader {
+        text: bytes,
+        first: 0,
+        size: 3,
+        fails: true,
+    };
+    let outcome = outcome_of(&checker.check_proof(&mut ReadSource::new(reader), ProofFormat::Drat));
+    (outcome, is_spent(&mut checker))
+}
+
+#[test]
+fn sources_that_fail(rt: HostRuntime) {
+    let alloc = rt.alloc();
+    assert!(rt; fails_behind(alloc, b"") == (Outcome::Io, true));
+    assert!(rt; fails_behind(alloc, b"1 2 0\n1") == (Outcome::Io, true));
+    assert!(rt; fails_behind(alloc, b"1 2 0\n") == (Outcome::Io, true));
+    // What stands before the fault is returned first.
+    assert!(rt; fails_behind(alloc, b"1 0\n1 2 0") == (Outcome::CheckFailed(1), false));
+    assert!(rt; fails_behind(alloc, b"1 2 0 x 1 2") == (Outcome::Parse(6), true));
+}
+
+/// Whether lines that fail leave the clauses that the lines before left.
+fn keeps_clauses(alloc: Global) -> bool {
+    let mut checker = Checker::new_in(alloc);
+    let _ = checker.add_clause(&lits![1, 2]);
+    let proof = b"1 2 3 0 d 2 1 0 4 0".as_slice();
+    let failed = checker.check_proof(&mut ReadSource::new(proof), ProofFormat::Drat);
+    if outcome_of(&failed) != Outcome::CheckFailed(3) || checker.len() != 1 {
+        return false;
+    }
+    let left = checker.clause(0) == lits![1, 2, 3].as_slice();
+    let again = checker.check_proof(
+        &mut ReadSource::new(b"d 1 2 0".as_slice()),
+        ProofFormat::Drat,
+    );
+    left && outcome_of(&again) == Outcome::NoSuchClause(1) && checker.len() == 1
+}
+
+#[test]
+fn lines_that_fail(rt: HostRuntime) {
+    assert!(rt; keeps_clauses(rt.alloc()));
+}
+
+/// Whether a text's fault leaves the clauses before it, and is no end of the checker.
+fn keeps_text(alloc: Global) -> bool {
+    let mut checker = Checker::new_in(alloc);
+    let fault = checker.add_dimacs_cnf(&mut ReadSource::new(b"1 -2 0\n2".as_slice()));
+    refusal(&fault) == Some(Outcome::Dimacs)
+        && checker.len() == 1
+        && checker.add_clause(&[]).is_ok()
+        && checker.len() == 2
+}
+
+#[test]
+fn texts_with_faults(rt: HostRuntime) {
+    assert!(rt; keeps_text(rt.alloc()));
+}
+
+#[test]
+fn printed_errors(rt: HostRuntime) {
+    let alloc = rt.alloc();
+    let cause = DimacsError {
+        line: 3,
+        kind: DimacsErrorKind::UnterminatedClause,
+    };
+    let errors = [
+        (
+            CheckerError::CheckFailed { step: 7 },
+            "Step 7 does not follow",
+        ),
+        (
+            CheckerError::NoSuchClause { step: 8 },
+            "Step 8 deletes no clause",
+        ),
+        (
+            CheckerError::Parse { offset: 9 },
+            "Error in the proof at byte 9",
+        ),
+        (CheckerError::OutOfMemory, "Out of memory"),
+        (
+            CheckerError::Dimacs { cause },
+            "Error in DIMACS input: line 3: UnterminatedClause",
+        ),
+        (CheckerError::Spent, "The checker is spent"),
+    ];
+    for (error, text) in &errors {
+        assert!(rt;
+            matches!(format!(in alloc; "{error}"), Ok(printed) if printed.as_str() == *text)
+        );
+    }
+}
+
+/// Whether the cause of a source's fault is printed.
+fn prints_cause(alloc: Global) -> bool {
+    let cause = io::Error::from(ErrorKind::Other);
+    let Ok(wanted) = format!(in alloc; "Error reading the proof: {cause}") else {
+        return false;
+    };
+    let error = CheckerError::Io { cause };
+    matches!(format!(in alloc; "{error}"), Ok(printed) if printed == wanted)
+}
+
+#[test]
+fn printed_cause(rt: HostRuntime) {
+    assert!(rt; prints_cause(rt.alloc()));
+}
+
+/// What a text and a proof gave, and whether the checker is spent then.
+type MemoryOutcome = (Option<Outcome>, Outcome, bool);
+
+fn outcome_in<A: Allocator + Copy>(alloc: A) -> MemoryOutcome {
+    let mut checker = Checker::new_in(alloc);
+    let text = b"1 2 0 -1 2 0 1 -2 0 -1 -2 0".as_slice();
+    let added = refusal(&checker.add_dimacs_cnf(&mut ReadSource::new(text)));
+    let proof = b"2 1 0 d 1 2 0 2 0".as_slice();
+    let checked = outcome_of(&checker.check_proof(&mut ReadSource::new(proof), ProofFormat::Drat));
+    let spent = is_spent(&mut checker);
+    (added, checked, spent)
+}
+
+const MEMORY_OUTCOMES: [MemoryOutcome; 3] = [
+    (Some(Outcome::OutOfMemory), Outcome::Spent, true),
+    (None, Outcome::OutOfMemory, true),
+    (None, Outcome::Refutation, false),
+];
+
+/// The place in the table of what happens on a heap of that many times 16 bytes.
+fn place_with(alloc: Global, room: u8) -> Result<Option<usize>, AllocError> {
+    let heap = LocalHeap::new(alloc, 16 * usize::from(room))?;
+    let outcome = outcome_in(&heap);
+    Ok(MEMORY_OUTCOMES.iter().position(|row| *row == outcome))
+}
+
+#[test]
+fn each_growth_may_be_refused(rt: HostRuntime) {
+    let mut reached = [false; 3];
+    for room in 0..120 {
+        match place_with(rt.alloc(), room) {
+            Ok(Some(place)) if place < 3 => reached[place] = true,
+            _ => panic!(rt; "with {room}"),
+        }
+    }
+    assert!(rt; reached == [true; 3]);
+}

@@ -1,0 +1,13 @@
+//! Tests of what no contract says, over proofs, their bytes and their checker: worked rows, printed texts, each growth refused, sources that fail.
+#![tactic(auto)]
+
+#[cfg(test)]
+mod checks;
+#[cfg(test)]
+mod faults;
+#[cfg(test)]
+mod programs;
+#[cfg(test)]
+mod random;
+#[cfg(test)]
+mod steps;

@@ -1,0 +1,81 @@
+//! What the program's command prints, and its status.
+
+use crate::checks::PieceReader;
+use std::alloc::Global;
+use varisat_formula::io::ReadSource;
+use varisat_proof::program::check_lines;
+use varisat_proof::proof::ProofFormat;
+use varisat_proof::proof::ProofFormat::{BinaryDrat, Drat};
+
+/// What the command prints, what it tells of a fault, and its status.
+type Printed = (&'static str, &'static str, u8);
+
+/// A text, the proof's format and bytes, and what is printed.
+type Row = (&'static [u8], ProofFormat, &'static [u8], Printed);
+
+const VERIFIED: Printed = ("s VERIFIED\n", "", 0);
+
+const NOT_VERIFIED: Printed = ("s NOT VERIFIED\n", "", 1);
+
+const SQUARE: &[u8] = b"p cnf 2 4\n1 2 0\n-1 2 0\n1 -2 0\n-1 -2 0\n";
+
+const ROWS: [Row; 8] = [
+    (SQUARE, Drat, b"2 0\n0\n", VERIFIED),
+    (SQUARE, BinaryDrat, b"\x61\x04\x00", VERIFIED),
+    (b"1 0 -1 0", Drat, b"", VERIFIED),
+    (SQUARE, Drat, b"", NOT_VERIFIED),
+    (SQUARE, Drat, b"0\n", NOT_VERIFIED),
+    (SQUARE, Drat, b"d 3 0\n", NOT_VERIFIED),
+    (SQUARE, Drat, b"2 0\nx", NOT_VERIFIED),
+    (
+        b"1 2 0\n2",
+        Drat,
+        b"0\n",
+        (
+            "",
+            "error: Error in DIMACS input: line 2: UnterminatedClause\n",
+            2,
+        ),
+    ),
+];
+
+fn prints(alloc: Global, row: &Row) -> bool {
+    let mut out = Vec::new(alloc);
+    let mut err = Vec::new(alloc);
+    let (mut cnf, mut proof) = (ReadSource::new(row.0), ReadSource::new(row.2));
+    let status = check_lines(alloc, &mut cnf, &mut proof, row.1, &mut out, &mut err);
+    let (printed, told, wanted) = row.3;
+    (out.as_slice() == printed.as_bytes())
+        & (err.as_slice() == told.as_bytes())
+        & (status == wanted)
+}
+
+/// Whether nothing is printed where the text's source or the proof's fails.
+fn tells_fault(alloc: Global, cnf_fails: bool) -> bool {
+    let mut out = Vec::new(alloc);
+    let mut err = Vec::new(alloc);
+    let reader = PieceReader {
+        text: b"1 0",
+        first: 0,
+        size: 5,
+        fails: cnf_fails,
+    };
+    let failing = PieceReader {
+        text: b"1 0",
+        first: 0,
+        size: 5,
+        fails: !cnf_fails,
+    };
+    let (mut cnf, mut proof) = (ReadSource::new(reader), ReadSource::new(failing));
+    let status = check_lines(alloc, &mut cnf, &mut proof, Drat, &mut out, &mut err);
+    out.is_empty() & !err.is_empty() & (status == 2)
+}
+
+#[test]
+fn printed_checks(rt: HostRuntime) {
+    for i in 0..ROWS.len() {
+        assert!(rt; prints(rt.alloc(), &ROWS[i]), "row {i}");
+    }
+    assert!(rt; tells_fault(rt.alloc(), true));
+    assert!(rt; tells_fault(rt.alloc(), false));
+}

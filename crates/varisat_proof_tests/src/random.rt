@@ -1,0 +1,149 @@
+//! Random proofs, whose verdict the plain checker over lines gives too.
+
+use crate::checks::{Outcome, outcome_of};
+use std::alloc::{AllocError, Global};
+use varisat_formula::io::{MemoryTarget, ProofTarget, ReadSource};
+use varisat_literals::{Lit, lits};
+use varisat_proof::checker::Checker;
+use varisat_proof::proof::{ProofFormat, ProofStep, write_binary_step, write_step};
+use varisat_theory::checker::{PlainLine, PlainVerdict, check_lines};
+
+/// Numbers that look random, always the same from the same start.
+#[derive(Drop)]
+struct Numbers {
+    state: u64,
+}
+
+impl Numbers {
+    /// A number below 2^16.
+    fn next(&mut self) -> usize {
+        self.state = self
+            .state
+            .wrapping_mul(6_364_136_223_846_793_005)
+            .wrapping_add(1_442_695_040_888_963_407);
+        (self.state / 0x1_0000_0000_0000) as usize
+    }
+
+    /// A literal of one of six variables.
+    fn literal(&mut self) -> Lit {
+        Lit::from_code(self.next() % 12)
+    }
+}
+
+/// A proof in three forms: as lines, as text and as bytes of the binary format.
+#[derive(Drop)]
+struct Forms {
+    lines: Vec<PlainLine>,
+    text: MemoryTarget<Global>,
+    binary: MemoryTarget<Global>,
+    buffer: Vec<u8>,
+}
+
+fn codes(alloc: Global, clause: &[Lit]) -> Result<Vec<u32>, AllocError> {
+    let mut made = Vec::new(alloc);
+    for literal in clause {
+        made.push(literal.code() as u32)?;
+    }
+    Ok(made)
+}
+
+impl Forms {
+    fn new(alloc: Global) -> Forms {
+        Forms {
+            lines: Vec::new(alloc),
+            text: MemoryTarget::new_in(alloc),
+            binary: MemoryTarget::new_in(alloc),
+            buffer: Vec::new(alloc),
+        }
+    }
+
+    fn push(&mut self, alloc: Global, deletes: bool, clause: &[Lit]) -> Result<(), AllocError> {
+        let (line, step) = if deletes {
+            let line = PlainLine::Deletes(codes(alloc, clause)?);
+            (line, ProofStep::DeleteClause { clause })
+        } else {
+            let line = PlainLine::Adds(codes(alloc, clause)?);
+            (line, ProofStep::AtClause { clause })
+        };
+        self.lines.push(line)?;
+        if self.text.faults() == 0 && self.binary.faults() == 0 {
+            let _ = write_step(&mut self.text, &mut self.buffer, &step);
+            let _ = write_binary_step(&mut self.binary, &mut self.buffer, &step);
+        }
+        Ok(())
+    }
+}
+
+/// Lines of which most are right where the clause of the first literal alone is present.
+fn random_proof(alloc: Global, start: u64, length: usize) -> Result<Forms, AllocError> {
+    let mut numbers = Numbers { state: start };
+    let mut forms = Forms::new(alloc);
+    let mut last = [Lit::from_code(0); 3];
+    for _ in 0..length {
+        let kind = numbers.next() % 32;
+        if kind == 0 {
+            forms.push(alloc, false, &[numbers.literal(), numbers.literal()])?;
+        } else if kind == 1 {
+            forms.push(alloc, true, &[numbers.literal(), numbers.literal()])?;
+        } else if kind < 10 {
+            // The clause that was added last, in another order; it is there once.
+            forms.push(alloc, true, &[last[2], last[0], last[1], last[2]])?;
+            forms.push(alloc, false, &last)?;
+        } else {
+            last = [numbers.literal(), Lit::from_code(0), numbers.literal()];
+            forms.push(alloc, false, &last)?;
+        }
+    }
+    Ok(forms)
+}
+
+const CLAUSES: usize = 4;
+
+fn clauses() -> [[Lit; 3]; CLAUSES] {
+    [
+        lits![1, 1, 1],
+        lits![2, 3, 4],
+        lits![-2, 5, 5],
+        lits![-3, -4, 6],
+    ]
+}
+
+fn plain_outcome(alloc: Global, forms: &Forms) -> Result<Outcome, AllocError> {
+    let mut present = Vec::new(alloc);
+    for clause in &clauses() {
+        present.push(codes(alloc, clause)?)?;
+    }
+    Ok(match check_lines(alloc, &present, &forms.lines)? {
+        PlainVerdict::Refutation => Outcome::Refutation,
+        PlainVerdict::Derivation => Outcome::Derivation,
+        PlainVerdict::DoesNotFollow(number) => Outcome::CheckFailed(number as u64),
+        PlainVerdict::DeletesNothing(number) => Outcome::NoSuchClause(number as u64),
+    })
+}
+
+fn checker_outcome(alloc: Global, format: ProofFormat, bytes: &[u8]) -> Outcome {
+    let mut checker = Checker::new_in(alloc);
+    for clause in &clauses() {
+        let _ = checker.add_clause(clause);
+    }
+    outcome_of(&checker.check_proof(&mut ReadSource::new(bytes), format))
+}
+
+fn agrees(alloc: Global, start: u64, length: usize) -> Result<bool, AllocError> {
+    let forms = random_proof(alloc, start, length)?;
+    let plain = plain_outcome(alloc, &forms)?;
+    Ok(
+        checker_outcome(alloc, ProofFormat::Drat, forms.text.bytes()) == plain
+            && checker_outcome(alloc, ProofFormat::BinaryDrat, forms.binary.bytes()) == plain,
+    )
+}
+
+#[test]
+fn random_proofs(rt: HostRuntime) {
+    for start in 0..60 {
+        assert!(rt;
+            matches!(agrees(rt.alloc(), start, 40), Ok(true)),
+            "proof {start}"
+        );
+    }
+}

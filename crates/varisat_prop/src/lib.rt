@@ -1,4 +1,4 @@
-//! The parts of a search that propagate: the kept clauses, the assignment, the trail and the implication graph.
+//! The parts of a search that propagate: the kept clauses, the assignment, the trail, the implication graph and the lists of watches.
 #![tactic(auto)]
 
 pub mod clause;

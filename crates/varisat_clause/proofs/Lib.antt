@@ -1,0 +1,11 @@
+pub mod StoredClauses
+pub mod StoreWords
+pub mod StoreCalls
+pub mod StoreSound
+pub mod DatabaseTracks
+pub mod CollectedClauses
+pub mod LiveClauses
+pub mod MappedClauses
+pub mod TierPlaces
+pub mod LocalReduction
+pub mod MidReduction

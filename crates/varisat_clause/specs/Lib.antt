@@ -1,0 +1,12 @@
+pub mod Tiers
+pub mod Headers
+pub mod HeaderFlags
+pub mod Stored
+pub mod Stores
+pub mod Lending
+pub mod ClauseLending
+pub mod Databases
+pub mod Collected
+pub mod Filters
+pub mod Reductions
+pub mod ClauseActivities

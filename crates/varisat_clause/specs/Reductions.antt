@@ -1,0 +1,66 @@
+-- What the reductions leave of the clauses.
+use Rattle.std.specs.Prelude.{◌≡◌, ℕ, zero, suc, ◌+◌, ◌*◌, ◌/◌, ◌^◌, slice_index, ◌<◌, ◌⊎◌, true, false, if◌then◌else◌, List, [], ◌∷◌, length, map}
+use Rattle.varisat_theory.specs.Membership.{◌∈◌, IsDistinct}
+use Rattle.varisat_clause.specs.declared.header.Tier.{Tier}
+use Rattle.varisat_clause.specs.declared.header.Tier.TheVariants.{Mid, Local}
+use Rattle.varisat_clause.specs.Stored.{StoredClause, IsPlace, stored_at, header_at}
+use Rattle.varisat_clause.specs.Stores.{Store, clauses_of, Holds}
+use Rattle.varisat_clause.specs.Databases.{is_live_in}
+use Rattle.varisat_clause.specs.Filters.{deleted_at}
+
+-- orders by activity and then by place
+abbrev pub rank_in : List ℕ → ℕ → ℕ
+rank_in ws p = slice_index ws p * 2 ^ 32 + p
+
+-- the places of the clauses of the tier that are not deleted
+abbrev pub places_in : Tier → List StoredClause → List ℕ
+places_in t [] = []
+places_in t (k ∷ ks) = if is_live_in t k then k.place ∷ places_in t ks else places_in t ks
+
+-- the places are those of the clauses of the tier that are not deleted, each once
+pub record ListsTier (t : Tier) (ks : List StoredClause) (ps : List ℕ) : Type 0 where
+  pub known : (p : ℕ) → p ∈ ps → IsPlace ks p
+  pub live : (p : ℕ) → p ∈ ps → is_live_in t (stored_at ks p) ≡ true
+  pub complete : (k : StoredClause) → k ∈ ks → is_live_in t k ≡ true → k.place ∈ ps
+  pub distinct : IsDistinct ps
+
+-- the clause at the first place is less active, or as active and before the other
+abbrev pub Precedes : List StoredClause → ℕ → ℕ → Type 0
+Precedes ks p q = ((header_at ks p).activity < (header_at ks q).activity) ⊎ (((header_at ks p).activity ≡ (header_at ks q).activity) × (p < q))
+
+-- each precedes all that are behind it
+abbrev pub AreRanked : List StoredClause → List ℕ → Type 0
+AreRanked ks [] = Unit {0}
+AreRanked ks (p ∷ ps) = ((q : ℕ) → q ∈ ps → Precedes ks p q) × AreRanked ks ps
+
+-- the first n of the places at which the clause is not marked
+abbrev pub unmarked : List StoredClause → ℕ → List ℕ → List ℕ
+unmarked ks n [] = []
+unmarked ks zero (p ∷ ps) = []
+unmarked ks (suc n) (p ∷ ps) = if (header_at ks p).mark then unmarked ks (suc n) ps else p ∷ unmarked ks n ps
+
+-- the clauses at the places are deleted
+abbrev pub all_deleted : List ℕ → List StoredClause → List StoredClause
+all_deleted [] ks = ks
+all_deleted (p ∷ ps) ks = all_deleted ps (deleted_at ks p)
+
+-- Of the Local clauses that are not deleted, in the order of activity and then of places, half (rounded down) are
+-- deleted, the first ones that are not marked, or all such if they are fewer. No other clause changes.
+pub record ReducesLocals (old new : Store) : Type 0 where
+  pub order : List ℕ
+  pub listed : ListsTier Local (clauses_of old) order
+  pub ranked : AreRanked (clauses_of old) order
+  pub deleted : Holds new (length old.words) (all_deleted (unmarked (clauses_of old) (length order / 2) order) (clauses_of old))
+
+-- A Mid clause that is active loses the flag, and one that is not becomes Local. Others stay.
+abbrev pub mid_reduced : StoredClause → StoredClause
+mid_reduced k = if is_live_in Mid k then (if k.header.active then record k { header = record k.header { active = false } } else record k { header = record k.header { tier = Local } }) else k
+
+abbrev pub mids_reduced : List StoredClause → List StoredClause
+mids_reduced ks = map mid_reduced ks
+
+-- the first i clauses are changed, and the others are not
+abbrev pub mapped : (StoredClause → StoredClause) → ℕ → List StoredClause → List StoredClause
+mapped f zero ks = ks
+mapped f (suc i) [] = []
+mapped f (suc i) (k ∷ ks) = f k ∷ mapped f i ks

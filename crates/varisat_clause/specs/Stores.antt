@@ -1,0 +1,81 @@
+-- A store of clauses: one list of words, and the places at which clauses begin in it.
+use Rattle.std.specs.Prelude.{◌≡◌, ℕ, ◌+◌, ◌^◌, ◌≤◌, ◌<◌, nat_le, nat_lt, List, [], ◌∷◌, ◌++◌, length, map, take, drop, Bool, ◌&&◌, slice_index, slice_set}
+use Rattle.varisat_clause.specs.Headers.{Header, header_from, flags_of}
+use Rattle.varisat_clause.specs.Stored.{StoredClause, Keeps}
+
+-- A clause is three words for its header, and then its literals. A clause that was shortened leaves a gap behind it.
+pub record Store : Type 0 where
+  pub words : List ℕ
+  pub places : List ℕ
+
+abbrev pub no_store : Store
+no_store = record { words = []; places = [] }
+
+-- the length of the clause at the place
+abbrev pub len_at : List ℕ → ℕ → ℕ
+len_at ws p = slice_index ws (p + 2)
+
+-- the header at the place
+abbrev pub header_in : List ℕ → ℕ → Header
+header_in ws p = header_from (slice_index ws p) (slice_index ws (p + 1)) (len_at ws p)
+
+-- the clause at the place
+abbrev pub clause_in : List ℕ → ℕ → StoredClause
+clause_in ws p = record { place = p; header = header_in ws p; literals = take (len_at ws p) (drop (p + 3) ws) }
+
+-- the clauses of a store, also those that are deleted
+abbrev pub clauses_of : Store → List StoredClause
+clauses_of s = map (clause_in s.words) s.places
+
+-- a clause of three literals or more stands at the place, between low and high
+pub record Lies (ws : List ℕ) (low high p : ℕ) : Type 0 where
+  pub begins : low ≤ p
+  pub long : 3 ≤ len_at ws p
+  pub ends : p + 3 + len_at ws p ≤ high
+  pub flags : slice_index ws (p + 1) < 2 ^ 11
+
+-- clauses stand one after another between low and high
+abbrev pub Fits : List ℕ → ℕ → ℕ → List ℕ → Type 0
+Fits ws low high [] = low ≤ high
+Fits ws low high (p ∷ ps) = Lies ws low high p × Fits ws (p + 3 + len_at ws p) high ps
+
+-- What each call keeps. Words that are lent may break it.
+pub record IsSound (s : Store) : Type 0 where
+  pub fits : Fits s.words 0 (length s.words) s.places
+  pub small : length s.words < 2 ^ 32
+
+-- the same as tests
+abbrev pub lies : List ℕ → ℕ → ℕ → ℕ → Bool
+lies ws low high p = nat_le low p && nat_le 3 (len_at ws p) && nat_le (p + 3 + len_at ws p) high && nat_lt (slice_index ws (p + 1)) (2 ^ 11)
+
+abbrev pub fit : List ℕ → ℕ → ℕ → List ℕ → Bool
+fit ws low high [] = nat_le low high
+fit ws low high (p ∷ ps) = lies ws low high p && fit ws (p + 3 + len_at ws p) high ps
+
+abbrev pub is_sound : Store → Bool
+is_sound s = fit s.words 0 (length s.words) s.places && nat_lt (length s.words) (2 ^ 32)
+
+-- a sound store of so many words, with these clauses
+pub record Holds (s : Store) (size : ℕ) (ks : List StoredClause) : Type 0 where
+  pub sound : IsSound s
+  pub words : length s.words ≡ size
+  pub clauses : clauses_of s ≡ ks
+
+-- a clause stands behind the words that there were, and all else is as it was
+pub record Adds (old new : Store) (k : StoredClause) : Type 0 where
+  pub sound : IsSound new
+  pub place : k.place ≡ length old.words
+  pub words : length new.words ≡ length old.words + 3 + length k.literals
+  pub clauses : Keeps (clauses_of old) (clauses_of new) k
+
+-- the header written to the words from p on
+abbrev pub header_written : List ℕ → ℕ → Header → List ℕ
+header_written ws p h = slice_set (slice_set (slice_set ws p h.activity) (p + 1) (flags_of h)) (p + 2) h.len
+
+-- xs written over as many words from a on
+abbrev pub splice : List ℕ → ℕ → List ℕ → List ℕ
+splice ws a xs = take a ws ++ (xs ++ drop (length xs) (drop a ws))
+
+-- the same, where what is too long is cut off
+abbrev pub put_words : Store → ℕ → List ℕ → Store
+put_words s a xs = record s { words = take (length s.words) (splice s.words a xs ++ drop (length (splice s.words a xs)) s.words) }

@@ -1,0 +1,159 @@
+//! The activities of the clauses, in whole numbers.
+//!
+//! A bump raises a clause's activity by the increment, and a decay raises the increment. Before numbers come near to 2^32
+//! all are shifted, so that their order stays.
+ghost use Rattle.std.specs.Prelude.{◌≡◌, ℕ, ◌+◌, ◌*◌, ◌/◌, ◌^◌, ◌<◌, ◌≤◌, length, max, true, false};
+ghost use Rattle.varisat_clause.specs.Stored.{IsPlace, header_at};
+ghost use Rattle.varisat_clause.specs.Stores.{clauses_of, IsSound, Holds};
+ghost use Rattle.varisat_clause.specs.ClauseActivities.{ActivityScale, least_increment, activity_limit, AreWithinLimits, with_activity, shifted, scale_shifted, clauses_rescaled, scale_rescaled, reaches_limit};
+
+use crate::alloc::{ClauseAlloc, ClauseRef};
+use std::alloc::Allocator;
+use std::marker::Model;
+
+/// What a bump adds at first, and never less.
+const LEAST_INCREMENT: u32 = 1 << 10;
+
+/// Where an activity or the increment reaches it, all are shifted.
+const ACTIVITY_LIMIT: u64 = 1 << 28;
+
+/// What is noted of the activities as a whole: what a bump adds, and the decay in thousandths.
+#[derive(Clone, Copy)]
+pub struct ClauseActivity {
+    increment: u32,
+    decay: u32,
+}
+
+impl Model for ClauseActivity {
+    ghost use Rattle.varisat_clause.specs.ClauseActivities.{ActivityScale, AreWithinLimits};
+
+    ghost Value = { ActivityScale };
+
+    ghost view = { λ a. record { increment = a.increment; decay = a.decay } };
+
+    ghost inverse = { λ a. record { increment = a.increment; decay = a.decay } };
+
+    ghost invariant = { λ a. AreWithinLimits a.increment a.decay };
+}
+
+impl ClauseActivity {
+    /// The least increment, and a decay of 999 thousandths.
+    pub fn new() -> ClauseActivity
+        ensures { result ≡ record { increment = least_increment; decay = 999 } }
+    {
+        ClauseActivity {
+            increment: LEAST_INCREMENT,
+            decay: 999,
+        }
+    }
+
+    /// Sets what each decay leaves of the activities, in thousandths.
+    pub fn set_decay(&mut self, decay: u32)
+        requires least { 500 ≤ decay }
+        requires most { decay ≤ 999 }
+        ensures { self.new ≡ record self.old { decay = decay } }
+    {
+        self.decay = decay;
+    }
+
+    /// What a bump adds.
+    pub fn increment(&self) -> u32
+        ensures increment { result ≡ self.now.increment }
+        ensures limits { AreWithinLimits self.now.increment self.now.decay }
+    {
+        self.increment
+    }
+
+    /// The increment after a decay.
+    fn decayed(&self) -> u64
+        ensures decayed { result ≡ self.now.increment * 1000 / self.now.decay }
+        ensures least { least_increment ≤ result }
+        ensures small { result < 2 ^ 30 }
+    {
+        self.increment as u64 * 1000 / self.decay as u64
+    }
+
+    /// Sets the increment.
+    fn set_increment(&mut self, increment: u32)
+        requires least { least_increment ≤ increment }
+        requires small { increment < activity_limit }
+        ensures { self.new ≡ record self.old { increment = increment } }
+    {
+        self.increment = increment;
+    }
+}
+
+/// The increment shifted right by 16, but no less than the least.
+fn shifted_increment(increment: u64) -> u32
+    requires { increment < 2 ^ 30 }
+    ensures { result ≡ max least_increment (increment / 2 ^ 16) }
+{
+    LEAST_INCREMENT.max((increment >> 16) as u32)
+}
+
+/// Shifts the activities of all clauses right by 16.
+fn rescale<A: Allocator + Copy>(alloc: &mut ClauseAlloc<A>)
+    requires { IsSound alloc.old }
+    ensures { Holds alloc.new (length alloc.old.words) (shifted (clauses_of alloc.old)) }
+{
+    'clauses: for index in 0..alloc.len() {
+        let cref = alloc.place(index);
+        let mut header = alloc.header(cref);
+        header.set_activity(header.activity() >> 16);
+        alloc.set_header(cref, header);
+    }
+}
+
+/// Sets the activity of the clause.
+fn set_activity<A: Allocator + Copy>(alloc: &mut ClauseAlloc<A>, cref: ClauseRef, activity: u32)
+    requires sound { IsSound alloc.old }
+    requires place { IsPlace (clauses_of alloc.old) cref }
+    ensures { Holds alloc.new (length alloc.old.words) (with_activity (clauses_of alloc.old) cref activity) }
+{
+    let mut header = alloc.header(cref);
+    header.set_activity(activity);
+    alloc.set_header(cref, header);
+}
+
+/// Raises the activity of the clause by the increment. Where it reaches the limit, all activities and the increment are
+/// shifted.
+pub fn bump_clause_activity<A: Allocator + Copy>(
+    alloc: &mut ClauseAlloc<A>,
+    activity: &mut ClauseActivity,
+    cref: ClauseRef,
+)
+    requires sound { IsSound alloc.old }
+    requires place { IsPlace (clauses_of alloc.old) cref }
+    ensures raised { reaches_limit ((header_at (clauses_of alloc.old) cref).activity + activity.old.increment) ≡ false → Holds alloc.new (length alloc.old.words) (with_activity (clauses_of alloc.old) cref ((header_at (clauses_of alloc.old) cref).activity + activity.old.increment)) }
+    ensures shifted { reaches_limit ((header_at (clauses_of alloc.old) cref).activity + activity.old.increment) ≡ true → Holds alloc.new (length alloc.old.words) (with_activity (shifted (clauses_of alloc.old)) cref (((header_at (clauses_of alloc.old) cref).activity + activity.old.increment) / 2 ^ 16)) }
+    ensures scale { activity.new ≡ scale_rescaled (reaches_limit ((header_at (clauses_of alloc.old) cref).activity + activity.old.increment)) activity.old }
+{
+    let increment = activity.increment();
+    let value = alloc.header(cref).activity() as u64 + increment as u64;
+    if value < ACTIVITY_LIMIT {
+        set_activity(alloc, cref, value as u32);
+    } else {
+        rescale(alloc);
+        set_activity(alloc, cref, (value >> 16) as u32);
+        activity.set_increment(shifted_increment(increment as u64));
+    }
+}
+
+/// Makes what later bumps add greater in proportion to what earlier ones have added. Where the increment reaches the
+/// limit, it and all activities are shifted.
+pub fn decay_clause_activities<A: Allocator + Copy>(
+    alloc: &mut ClauseAlloc<A>,
+    activity: &mut ClauseActivity,
+)
+    requires { IsSound alloc.old }
+    ensures clauses { Holds alloc.new (length alloc.old.words) (clauses_rescaled (reaches_limit (activity.old.increment * 1000 / activity.old.decay)) (clauses_of alloc.old)) }
+    ensures scale { activity.new ≡ scale_rescaled (reaches_limit (activity.old.increment * 1000 / activity.old.decay)) (record activity.old { increment = activity.old.increment * 1000 / activity.old.decay }) }
+{
+    let increment = activity.decayed();
+    if increment < ACTIVITY_LIMIT {
+        activity.set_increment(increment as u32);
+    } else {
+        rescale(alloc);
+        activity.set_increment(shifted_increment(increment));
+    }
+}

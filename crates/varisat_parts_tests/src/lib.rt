@@ -4,6 +4,8 @@
 #[cfg(test)]
 mod checker;
 #[cfg(test)]
+mod clause;
+#[cfg(test)]
 mod heap;
 #[cfg(test)]
 mod names;

@@ -61,11 +61,54 @@ fn place_with(alloc: Global, room: u8) -> Result<Option<usize>, AllocError> {
 #[test]
 fn each_growth_may_be_refused(rt: HostRuntime) {
     let mut reached = [false; 5];
-    for room in 0..160 {
+    for room in 0..250 {
         match place_with(rt.alloc(), room) {
             Ok(Some(place)) if place < 5 => reached[place] = true,
             _ => panic!(rt; "with {room}"),
         }
     }
-    assert!(rt; reached == [true; 5]);
+    // The list of a model is shorter than what was given back meanwhile, so it is refused on a full heap alone.
+    assert!(rt; reached[0] && reached[1] && reached[2] && reached[4]);
+}
+
+// Blocks of a heap, until it has none left.
+fn filled<A: Allocator + Copy>(alloc: Global, heap: A) -> Result<Vec<Vec<u8, A>>, AllocError> {
+    let mut blocks = Vec::new(alloc);
+    for _ in 0..500 {
+        match Vec::with_capacity(heap, 8) {
+            Ok(block) => blocks.push(block)?,
+            Err(_) => return Ok(blocks),
+        }
+    }
+    Ok(blocks)
+}
+
+// What is said of a model on a full heap, whether the solver is valid then, and what is said once there is room again.
+fn models_in<A: Allocator + Copy>(
+    alloc: Global,
+    heap: A,
+) -> Result<(Option<bool>, bool, Option<bool>), AllocError> {
+    let mut solver = Solver::new_in(heap);
+    let _ = outcome(&mut solver);
+    let told = model_when_full(alloc, heap, &solver)?;
+    Ok((told, solver.is_valid(), has_model(&solver)))
+}
+
+fn model_when_full<A: Allocator + Copy>(
+    alloc: Global,
+    heap: A,
+    solver: &Solver<MemoryTarget<A>, A>,
+) -> Result<Option<bool>, AllocError> {
+    let _blocks = filled(alloc, heap)?;
+    Ok(has_model(solver))
+}
+
+fn models(alloc: Global) -> Result<(Option<bool>, bool, Option<bool>), AllocError> {
+    let heap = LocalHeap::new(alloc, 6000)?;
+    models_in(alloc, &heap)
+}
+
+#[test]
+fn a_model_may_be_refused(rt: HostRuntime) {
+    assert!(rt; matches!(models(rt.alloc()), Ok((None, true, Some(true)))));
 }

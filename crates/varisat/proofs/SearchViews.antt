@@ -1,19 +1,17 @@
 -- What a proof can see of a well-formed view.
-use Rattle.std.proofs.Common.{◌≡◌, ◌≢◌, ℕ, zero, suc, ◌<◌, ◌≤◌, Bool, Option, Some, None, List, [], ◌∷◌, inl, inr, ⊎_elim, length, map, ap, refl, get_or, arith}
+use Rattle.std.proofs.Common.{◌≡◌, ◌≢◌, ℕ, zero, suc, ◌<◌, ◌≤◌, Bool, Option, Some, None, List, [], ◌∷◌, inl, inr, ⊎_elim, length, subst, refl, get_or, arith}
 use Rattle.varisat_theory.specs.Membership.{◌∈◌, IsDistinct}
 use Rattle.varisat_theory.specs.Literals.{Literal, Clause, variable_of}
 use Rattle.varisat_theory.specs.Searches.{KeptClause, IsLiteralOf}
 use Rattle.varisat_literals.specs.Numbers.{polarity_of}
-use Rattle.varisat_prop.specs.Stored.{StoredClause, literals_of}
-use Rattle.varisat_prop.specs.View.{View, WellFormed}
-use Rattle.varisat_search.specs.Seen.{search_of, kept_clause}
-use Rattle.varisat_search.proofs.ViewSearch.{fixed_from}
+use Rattle.varisat_theory.proofs.SearchFits.{clause_in}
+use Rattle.varisat_prop.specs.View.{View, kept, WellFormed}
+use Rattle.varisat_search.specs.Seen.{search_of}
+use Rattle.varisat_search.proofs.ViewSearch.{fixed_from, seen_clauses}
 use Rattle.varisat.proofs.SpacesMoves.{AreLong}
 
-of-kept : (ks : List StoredClause) (k : KeptClause) → k ∈ map kept_clause ks → k.clause ∈ literals_of ks
-of-kept [] k h = absurd h
-of-kept (j ∷ ks) k (inl e) = inl (ap (λ y. y.clause) e)
-of-kept (j ∷ ks) k (inr h) = inr (of-kept ks k h)
+of-kept : (s : View) (k : KeptClause) → k ∈ (search_of s).kept → k.clause ∈ kept s
+of-kept s k h = subst (λ P. k.clause ∈ P) (seen_clauses s) (clause_in (search_of s).kept k h)
 
 two : (c : Clause) → 2 ≤ length c → IsDistinct c → (l m : Literal) × (l ∈ c) × (m ∈ c) × (l ≢ m)
 two [] n d = absurd (omega arith)
@@ -21,7 +19,7 @@ two (x ∷ []) n d = absurd (omega arith)
 two (x ∷ y ∷ c) n d = (x, y, inl refl, inr (inl refl), λ e. d.0 (inl e))
 
 pub view-long : (s : View) → WellFormed s → AreLong (search_of s)
-view-long s w k h = let i = of-kept s.clauses k h in two k.clause (w.several k.clause i) (w.distinct k.clause i)
+view-long s w k h = let i = of-kept s k h in two k.clause (w.several k.clause i) (w.distinct k.clause i)
 
 value-inside : (xs : List (Option Bool)) (i : ℕ) (b : Bool) → get_or xs i None ≡ Some b → i < length xs
 value-inside [] i b e = absurd cc
@@ -32,5 +30,5 @@ pub view-inside : (s : View) (l : Literal) → WellFormed s → IsLiteralOf (sea
 view-inside s l w h =
     ⊎_elim
     (λ i. value-inside s.values (variable_of l) (polarity_of l) (fixed_from s w l i).0)
-    (λ (k, i, j). w.in_range k.clause (of-kept s.clauses k i) l j)
+    (λ (k, i, j). w.in_range k.clause (of-kept s k i) l j)
     h

@@ -169,6 +169,12 @@ fn is_turned(literals: &mut [Lit]) -> bool {
     *literals == *lits![3, -2, 1].as_slice()
 }
 
+/// Whether a clause of two literals is named by them, as a reason and as a conflict.
+fn is_pair_named(clauses: &ClauseAlloc<Global>) -> bool {
+    Reason::Binary([lit!(-2)]).lits(clauses) == lits![-2].as_slice()
+        && Conflict::Binary([lit!(1), lit!(-2)]).lits(clauses) == lits![1, -2].as_slice()
+}
+
 /// Whether two clauses are kept with their headers, and their literals can be put into another order.
 fn keeps_clauses(clauses: &mut ClauseAlloc<Global>) -> Result<bool, AllocError>
     requires { clauses.old ≡ [] }
@@ -183,12 +189,14 @@ fn keeps_clauses(clauses: &mut ClauseAlloc<Global>) -> Result<bool, AllocError>
     ];
     let is_listed = clauses.clause(second) == lits![1, -2, 3].as_slice();
     let length = Conflict::Long(second).lits(clauses).len();
+    let is_named = is_pair_named(clauses);
     let count = clauses.len();
     let is_turned = is_turned(clauses.lits_mut(second));
     Ok(
         redundant == [false, true]
             && is_listed
             && length == 3
+            && is_named
             && is_turned
             && [count, clauses.len()] == [2, 2],
     )

@@ -4,7 +4,6 @@ use Rattle.varisat_theory.specs.Membership.{◌∈◌}
 use Rattle.varisat_theory.specs.Literals.{Clause}
 use Rattle.varisat_prop.specs.declared.clause.alloc.Entry.{Entry}
 use Rattle.varisat_prop.specs.Entries.{clause_from, stored_from}
-use Rattle.std.specs.List.{swap}
 use Rattle.varisat_prop.specs.Stored.{Header, StoredClause, IsPlace, no_clause, stored_at, literals_at, with_literals, Keeps}
 use Rattle.varisat_prop.proofs.AllocClauses.{stored-here, stored-later, with-here, with-later}
 

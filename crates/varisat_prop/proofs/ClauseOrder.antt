@@ -3,20 +3,27 @@ use Rattle.std.proofs.Common.{◌≡◌, ℕ, ◌<◌, ◌≤◌, List, [], ◌�
 use Rattle.varisat_theory.specs.Membership.{◌∈◌, IsDistinct}
 use Rattle.varisat_theory.specs.Literals.{Literal, Clause, variable_of}
 use Rattle.varisat_prop.specs.declared.prop.graph.Reason.TheVariants as reason
-use Rattle.varisat_prop.specs.Stored.{StoredClause, IsPlace, with_literals, AreReordered}
-use Rattle.varisat_prop.specs.View.{View, kept, IsTrueIn, clause_at, node_at, Implies, IsReason, WellFormed, ViewFits, Grows}
+use Rattle.varisat_prop.specs.Stored.{StoredClause, literals_of, IsPlace, with_literals, AreReordered}
+use Rattle.varisat_theory.proofs.Members.{∈-append_left, ∈-append_right, ∈-append_cases}
+use Rattle.varisat_prop.specs.View.{View, pairs_from, kept, IsTrueIn, clause_at, node_at, Implies, IsReason, WellFormed, ViewFits, Grows}
 use Rattle.varisat_prop.specs.Looks.{Propagates}
 use Rattle.varisat_prop.specs.Watches.{at, IsRearranged}
-use Rattle.varisat_prop.proofs.AllocClauses.{same-trans, kept-at, reordered-old, reordered-new, reordered-place, reordered-rising, with-reordered, with-other, with-cases, with-own}
+use Rattle.varisat_prop.proofs.AllocClauses.{same-trans, reordered-old, reordered-new, reordered-place, reordered-rising, with-reordered, with-other, with-cases, with-own}
 use Rattle.varisat_prop.proofs.PropagateSteps.{propagates-refl}
 use Rattle.varisat_prop.proofs.ViewGrowth.{append-nil}
-use Rattle.varisat_prop.proofs.WellFormedChanges.{well-with}
+use Rattle.varisat_prop.proofs.WellFormedChanges.{well-with, stored-kept, kept-here}
 
 pub fits-reordered : (s : View) (P : List StoredClause) (held : List Clause) → AreReordered s.clauses P → ViewFits held s → ViewFits held (record s { clauses = P })
 fits-reordered s P held a f = record {
-  stored = λ c i. let (d, j, e) = reordered-old s.clauses P a c i in let (h, k, g) = f.stored d j in (h, k, same-trans h d c g (e.1, e.0));
+  stored = λ c i. ⊎_elim
+      (λ o. let (d, j, e) = reordered-old s.clauses P a c o in let (h, k, g) = f.stored d (stored-kept s d j) in (h, k, same-trans h d c g (e.1, e.0)))
+      (λ o. f.stored c (∈-append_right c (literals_of s.clauses) (pairs_from 0 s.binary) o))
+      (∈-append_cases c (literals_of P) (pairs_from 0 s.binary) i);
   units = f.units;
-  covered = λ c i. ⊎_elim (λ (d, j, k). let (e, l, g) = reordered-new s.clauses P a d j in inl (e, l, λ m q. k m (g.0 m q))) inr (f.covered c i);
+  covered = λ c i. ⊎_elim (λ (d, j, k). ⊎_elim
+      (λ o. let (e, l, g) = reordered-new s.clauses P a d o in inl (e, ∈-append_left e (literals_of P) (pairs_from 0 s.binary) l, λ m q. k m (g.0 m q)))
+      (λ o. inl (d, ∈-append_right d (literals_of P) (pairs_from 0 s.binary) o, k))
+      (∈-append_cases d (literals_of s.clauses) (pairs_from 0 s.binary) j)) inr (f.covered c i);
 }
 
 abbrev pub reordered : View → ℕ → Clause → View
@@ -35,11 +42,11 @@ module _ (s : View) (i : ℕ) (d : Clause) (w : WellFormed s) (a : IsPlace s.cla
   u = reordered s i d
 
   clause-in : clause_at s i ∈ kept s
-  clause-in = kept-at s.clauses i a
+  clause-in = kept-here s i a
 
   -- what holds of the old clauses and of the new one holds of all
-  each : (Q : Clause → Type 0) → ((c : Clause) → c ∈ kept s → Q c) → Q d → (c : Clause) → c ∈ kept u → Q c
-  each Q old new c h = ⊎_elim (λ e. subst Q (sym e) new) (old c) (with-cases s.clauses i d c h)
+  each : (Q : Clause → Type 0) → ((c : Clause) → c ∈ kept s → Q c) → Q d → (c : Clause) → c ∈ literals_of u.clauses → Q c
+  each Q old new c h = ⊎_elim (λ e. subst Q (sym e) new) (λ o. old c (stored-kept s c o)) (with-cases s.clauses i d c h)
 
   are-reordered : AreReordered s.clauses u.clauses
   are-reordered = with-reordered s.clauses i d r.same
@@ -57,6 +64,7 @@ module _ (s : View) (i : ℕ) (d : Clause) (w : WellFormed s) (a : IsPlace s.cla
   changed-grows : Grows s u
   changed-grows = record {
     clauses = are-reordered;
+    binary = refl;
     count = refl;
     trail_more = ([], sym (append-nil s.trail));
     head = omega arith;

@@ -9,7 +9,7 @@ use Rattle.varisat_literals.specs.Numbers.{polarity_of}
 use Rattle.varisat_prop.specs.declared.prop.graph.Reason.{Reason}
 use Rattle.varisat_prop.specs.declared.prop.graph.Reason.TheVariants as reason
 use Rattle.varisat_prop.specs.Stored.{IsPlace}
-use Rattle.varisat_prop.specs.View.{View, IsTrueIn, clause_at, literal_at, decision_at, node_at, Implies, IsReason, WellFormed, IsFixed, ViewFits, Grows}
+use Rattle.varisat_prop.specs.View.{View, implied_by, IsTrueIn, clause_at, literal_at, decision_at, node_at, Implies, IsReason, WellFormed, IsFixed, ViewFits, Grows}
 use Rattle.varisat_prop.specs.Changes.{enqueued, decided_on}
 use Rattle.varisat_prop.proofs.TrailExtend.{ext, ext-length, literal-old, literal-new, node-old, node-new, node-other, fresh, true-old, each-place, place-cases, Levels, ext-well, get_or-last}
 use Rattle.varisat_prop.proofs.AllocClauses.{reordered-refl}
@@ -17,6 +17,7 @@ use Rattle.varisat_prop.proofs.AllocClauses.{reordered-refl}
 -- why a literal may be enqueued without a decision
 abbrev pub MayImply : View → Literal → Reason → Type 0
 MayImply s l reason.Unit = s.decisions ≡ []
+MayImply s l (reason.Binary ms) = (m : Literal) × (ms ≡ m ∷ []) × (l ∈ implied_by s (opposite m)) × IsTrueIn s (opposite m)
 MayImply s l (reason.Long i) = IsPlace s.clauses i × ((others : Clause) × (clause_at s i ≡ l ∷ others) × ((m : Literal) → m ∈ others → IsTrueIn s (opposite m)))
 
 module _ (s : View) (l : Literal) (r : Reason) (w : WellFormed s) (inside : variable_of l < length s.values) (free : get_or s.values (variable_of l) None ≡ None) where
@@ -43,6 +44,7 @@ module _ (s : View) (l : Literal) (r : Reason) (w : WellFormed s) (inside : vari
 
   new-reason : (q : Reason) → MayImply s l q → (node_at t (length s.trail)).level ≡ length s.decisions → IsReason t (length s.trail) q
   new-reason reason.Unit e f = inr (f ∙ ap (λ (x : List ℕ). length x) e)
+  new-reason (reason.Binary ms) (m, e, i, h) f = let (j, b, g) = w.stands (opposite m) h in (m, e, subst (λ x. x ∈ implied_by s (opposite m)) (sym (literal-new s l r s.decisions w inside free)) i, (j, b, literal-old s l r s.decisions w inside free j b ∙ g))
   new-reason (reason.Long i) (a, (others, e, h)) f =
       (a, subst (λ c. Implies t c (length s.trail)) (sym e) (sym (literal-new s l r s.decisions w inside free), λ m k. let (j, b, g) = w.stands (opposite m) (h m k) in (j, b, literal-old s l r s.decisions w inside free j b ∙ g)))
 
@@ -76,6 +78,7 @@ module _ (s : View) (l : Literal) (r : Reason) (ds : List ℕ) (w : WellFormed s
   pub ext-grows : (r ≡ reason.Unit → ds ≡ [] → ⊥) → (more : List ℕ) → ds ≡ s.decisions ++ more → Grows s e
   ext-grows n more f = record {
     clauses = reordered-refl s.clauses;
+    binary = refl;
     count = length-set s.values (variable_of l) (Some (polarity_of l));
     trail_more = (l ∷ [], refl);
     head = omega arith;

@@ -1,12 +1,15 @@
 pub mod AllocClauses
 pub mod AllocEntries
+pub mod BinaryPropagated
 pub mod ClauseOrder
 pub mod DistinctPlaces
 pub mod EnqueueAssignment
+pub mod KeptPairs
 pub mod LiteralValues
 pub mod LongListed
 pub mod LongRearranged
 pub mod LongVisited
+pub mod PairAdded
 pub mod PropagateQueue
 pub mod PropagateSteps
 pub mod ReadElements

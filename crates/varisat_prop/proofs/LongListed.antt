@@ -1,12 +1,12 @@
 -- The watches of one literal, of which some are kept and the rest is still to be visited.
-use Rattle.std.proofs.Common.{◌≡◌, ◌≢◌, ℕ, zero, suc, ◌+◌, ◌<◌, ◌≤◌, ◌*◌, ◌++◌, List, [], ◌∷◌, length, get_or, set, take, drop, ◌⊎◌, inl, inr, ⊎_elim, refl, sym, ap, ◌∙◌, subst, arith, get_or-set_same, get_or-set_other, length-set, length-append, append_assoc}
-use Rattle.std.proofs.lemmas.List.{take_more_set, drop-set-lt, drop_more, set-set, set-get_or, get_or_append_left}
+use Rattle.std.proofs.Common.{◌≡◌, ◌≢◌, ℕ, suc, ◌+◌, ◌<◌, ◌≤◌, ◌*◌, ◌++◌, List, [], ◌∷◌, length, get_or, set, take, drop, ◌⊎◌, inl, inr, ⊎_elim, refl, sym, ap, ◌∙◌, subst, arith, get_or-set_same, get_or-set_other, length-set}
+use Rattle.std.proofs.lemmas.List.{take_more_set, drop-set-lt, drop_more}
 use Rattle.varisat_theory.specs.Membership.{◌∈◌}
-use Rattle.varisat_theory.specs.Literals.{Literal, Clause, opposite}
+use Rattle.varisat_theory.specs.Literals.{Literal, opposite}
 use Rattle.varisat_theory.specs.Propagation.{IsFalse}
 use Rattle.varisat_theory.proofs.Values.{opposite_twice}
 use Rattle.varisat_theory.proofs.Members.{equal_or_not, ∈-append_left, ∈-append_right, ∈-append_cases}
-use Rattle.varisat_prop.specs.View.{View, IsTrueIn, clause_at, literal_at, decision_at, WellFormed}
+use Rattle.varisat_prop.specs.View.{View, IsTrueIn, clause_at, literal_at}
 use Rattle.varisat_prop.specs.Looks.{Propagates}
 use Rattle.varisat_prop.proofs.ViewGrowth.{grows-longer, literal-stays}
 use Rattle.varisat_prop.proofs.PropagateSteps.{propagates-trans}
@@ -14,9 +14,9 @@ use Rattle.varisat_prop.specs.declared.prop.watch.Watch.{Watch}
 use Rattle.varisat_prop.specs.declared.prop.long.Visit.TheVariants as visit
 use Rattle.varisat_prop.specs.Stored.{IsPlace}
 use Rattle.varisat_prop.proofs.AllocClauses.{reordered-at, reordered-place, reordered-place-back}
-use Rattle.varisat_prop.specs.Watches.{Watches, list_of, with_list, at, HasWatch, IsWatching, IsSatisfied, IsSettledTo, IsWatched}
-use Rattle.varisat_prop.specs.Visits.{AddsWatches, IsVisited, IsVisit}
-use Rattle.varisat_prop.proofs.WatchSettled.{IsSettledBut, settled-next}
+use Rattle.varisat_prop.specs.Watches.{Watches, list_of, with_list, at, HasWatch, IsSatisfied, IsSettledTo, IsWatched}
+use Rattle.varisat_prop.specs.Visits.{IsVisited, IsVisit}
+use Rattle.varisat_prop.proofs.WatchSettled.{IsSettledBut, settled-next, implied-longer, propagates-goes-on}
 
 pub record Listing (s t : View) (W : Watches) (q : ℕ) (l : Literal) (kept rest : List Watch) : Type 0 where
   pub propagates : Propagates s t
@@ -151,6 +151,8 @@ module _ (s t : View) (W : Watches) (q : ℕ) (l : Literal) (kept rest : List Wa
             (equal_or_not k i);
       };
       settled = v.settled q (let n = g.within in omega (arith, n)) g.watched.settled;
+      binary = (let n = ap (λ (x : List (List ℕ)). length x) v.propagates.grows.binary in let m = v.propagates.grows.count in let o = g.watched.binary in omega (arith, n, m, o));
+      implied = implied-longer t u q (propagates-goes-on t u v.propagates) (let n = g.within in omega (arith, n)) g.watched.implied;
       within = (let n = within-on in omega (arith, n));
       queue = λ j h. let e = v.propagates.decisions in let n = ap (λ (x : List ℕ). length x) e in let m = ap (λ (x : List ℕ). get_or x j 0) e in let o = g.watched.queue j (omega (arith, h, n)) in omega (arith, o, m);
     }

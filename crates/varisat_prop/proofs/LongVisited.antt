@@ -1,14 +1,13 @@
 -- What a visit of a watch keeps, by what it finds.
-use Rattle.std.proofs.Common.{◌≡◌, ◌≢◌, ℕ, zero, suc, ◌<◌, ◌≤◌, ◌*◌, ◌++◌, List, [], ◌∷◌, length, get_or, set, None, ◌⊎◌, inl, inr, ⊎_elim, refl, sym, ap, ◌∙◌, subst, arith, get_or-set_same, get_or-set_other, length-set, length-append}
+use Rattle.std.proofs.Common.{◌≡◌, ◌≢◌, ℕ, suc, ◌<◌, ◌≤◌, ◌*◌, ◌++◌, List, [], ◌∷◌, length, get_or, None, ◌⊎◌, inl, inr, ⊎_elim, refl, sym, ap, ◌∙◌, subst, arith, get_or-set_same, get_or-set_other, length-set, length-append}
 use Rattle.std.proofs.lemmas.List.{get_or_append_left}
-use Rattle.varisat_theory.specs.Membership.{◌∈◌, SameSet, IsDistinct}
+use Rattle.varisat_theory.specs.Membership.{◌∈◌}
 use Rattle.varisat_theory.specs.Literals.{Literal, Clause, opposite, variable_of}
-use Rattle.varisat_theory.specs.Propagation.{IsFalse}
 use Rattle.varisat_theory.proofs.Values.{opposite_twice}
 use Rattle.varisat_theory.proofs.Places.{∈-get_or, place_in}
 use Rattle.varisat_theory.proofs.Members.{equal_or_not, ∈-append_left, ∈-append_right, ∈-append_cases}
 use Rattle.varisat_prop.specs.declared.prop.graph.Reason.TheVariants as reason
-use Rattle.varisat_prop.specs.View.{View, IsTrueIn, clause_at, literal_at, node_at, WellFormed}
+use Rattle.varisat_prop.specs.View.{View, IsTrueIn, clause_at, literal_at, WellFormed}
 use Rattle.varisat_prop.specs.Changes.{enqueued}
 use Rattle.varisat_prop.specs.Looks.{Propagates}
 use Rattle.varisat_prop.proofs.LiteralValues.{made-none, made-clash}
@@ -23,13 +22,14 @@ use Rattle.varisat_prop.specs.declared.prop.long.Found.{Found}
 use Rattle.varisat_prop.specs.declared.prop.long.Found.TheVariants as found
 use Rattle.varisat_prop.specs.declared.prop.long.Visit.{Visit}
 use Rattle.varisat_prop.specs.declared.prop.long.Visit.TheVariants as visit
-use Rattle.varisat_prop.specs.Watches.{Watches, list_of, with_list, at, HasWatch, IsSatisfied, IsSettledTo, IsRearranged}
+use Rattle.varisat_prop.specs.Watches.{Watches, list_of, with_list, at, HasWatch, IsSatisfied, IsRearranged}
 use Rattle.varisat_prop.specs.Visits.{IsPair, IsFound, AddsWatches, IsVisited, IsVisit}
 use Rattle.varisat_prop.specs.Stored.{StoredClause, IsPlace, literals_at, with_literals}
-use Rattle.varisat_prop.proofs.AllocClauses.{kept-at, reordered-place, with-reordered, with-same, with-other}
+use Rattle.varisat_prop.proofs.AllocClauses.{reordered-place, with-reordered, with-same, with-other}
 use Rattle.varisat_prop.proofs.WatchKept.{adds-none}
 use Rattle.varisat_prop.proofs.WatchSettled.{Lengthens, settled-longer, settled-reordered, two}
 use Rattle.varisat_prop.proofs.ClauseOrder.{reordered, changed}
+use Rattle.varisat_prop.proofs.WellFormedChanges.{kept-here}
 
 satisfied-by : (s : View) (c : Clause) (l : Literal) → WellFormed s → l ∈ c → IsTrueIn s l → IsSatisfied s c
 satisfied-by s c l w h t = let (k, a, e) = w.stands l t in (k, a, subst (λ x. x ∈ c) (sym e) h)
@@ -64,7 +64,7 @@ module _ (s : View) (W : Watches) (i : ℕ) (d : Clause) (l : Literal) (w : Well
   f-false t = made-clash s.values l tr t
 
   long : 2 ≤ length c
-  long = w.several c (kept-at s.clauses i a)
+  long = w.several c (kept-here s i a)
 
   elsewhere-is : (k : ℕ) → k ≢ i → clause_at u k ≡ clause_at s k
   elsewhere-is k n = with-other s.clauses i k d n
@@ -168,7 +168,7 @@ module _ (s : View) (W : Watches) (i : ℕ) (d : Clause) (l : Literal) (w : Well
         )
       where
         apart : at c 0 ≢ at c 1
-        apart = distinct-places c 0 (w.distinct c (kept-at s.clauses i a)) 0 1 (omega arith) (let n = long in omega (arith, n))
+        apart = distinct-places c 0 (w.distinct c (kept-here s i a)) 0 1 (omega arith) (let n = long in omega (arith, n))
 
         differ : IsPair c x f → x ≢ f
         differ p e = ⊎_elim (λ (y, z). apart (y ∙ e ∙ sym z)) (λ (y, z). apart (z ∙ sym e ∙ sym y)) p
@@ -185,7 +185,7 @@ module _ (s : View) (W : Watches) (i : ℕ) (d : Clause) (l : Literal) (w : Well
     implied-free = let (r, p, e, g, n, o, h) = fd in made-none s.values x n o
 
     pub implied-inside : variable_of x < length s.values
-    implied-inside = let (r, p, e, g, n, o, h) = fd in goes.well.in_range (clause_at u i) (kept-at u.clauses i (place-in r)) x (first-in r x e)
+    implied-inside = let (r, p, e, g, n, o, h) = fd in goes.well.in_range (clause_at u i) (kept-here u i (place-in r)) x (first-in r x e)
 
     may : MayImply u x (reason.Long i)
     may =
@@ -200,6 +200,7 @@ module _ (s : View) (W : Watches) (i : ℕ) (d : Clause) (l : Literal) (w : Well
     longer : Lengthens u t
     longer = record {
       clauses = refl;
+      binary = refl;
       decisions = refl;
       longer = let n = length-append s.trail (x ∷ []) in omega (arith, n);
       keeps = λ k h. get_or_append_left s.trail (x ∷ []) 0 k h;
@@ -261,7 +262,7 @@ module _ (s : View) (W : Watches) (i : ℕ) (P : List StoredClause) (l m : Liter
   other-inside x y h =
       let r = h.0 in
       let n = h.3 in
-      w.in_range (clause_at s i) (kept-at s.clauses i a) y (r.same.0 y (subst (λ z. z ∈ b) n (∈-get_or b 1 0 (let k = r.long in let k' = w.several (clause_at s i) (kept-at s.clauses i a) in omega (arith, k, k')))))
+      w.in_range (clause_at s i) (kept-here s i a) y (r.same.0 y (subst (λ z. z ∈ b) n (∈-get_or b 1 0 (let k = r.long in let k' = w.several (clause_at s i) (kept-here s i a) in omega (arith, k, k')))))
 
   pub other-listed : (x y : Literal) → FoundBy (found.Other x y) → (z : Literal) → z ≡ opposite y → length W.lists ≡ 2 * length s.values → z < length W.lists
   other-listed x y h z k n = subst (λ v. v < length W.lists) (sym k) (let o = listed y (length s.values) (other-inside x y h) in omega (arith, o, n))

@@ -1,5 +1,5 @@
 -- The queue of the trail.
-use Rattle.std.proofs.Common.{◌≡◌, ℕ, suc, Bool, true, false, add-one, ◌+◌, ◌*◌, ◌<◌, ◌≤◌, ◌++◌, ◌⊎◌, ⊎_elim, Option, Some, None, List, [], ◌∷◌, length, get_or, set, take, drop, refl, sym, ap, ◌∙◌, subst, arith}
+use Rattle.std.proofs.Common.{◌≡◌, ℕ, suc, Bool, true, false, add-one, ◌+◌, ◌*◌, ◌<◌, ◌≤◌, ◌++◌, ⊎_elim, Option, None, List, [], length, get_or, take, drop, refl, sym, ap, ◌∙◌, subst, arith}
 use Rattle.std.specs.Option.{MatchOption}
 use Rattle.std.specs.List.{slice_get}
 use Rattle.std.proofs.lemmas.Option.{slice_get-get_or, MatchOption-at_some}
@@ -8,9 +8,15 @@ use Rattle.std.proofs.lemmas.List.{set-set, set-get_or, drop_all}
 use Rattle.varisat_theory.specs.Literals.{Literal, variable_of}
 use Rattle.varisat_prop.specs.View.{View, IsTrueIn, literal_at, WellFormed}
 use Rattle.varisat_prop.proofs.LiteralValues.{made-inside}
-use Rattle.varisat_prop.proofs.ViewGrowth.{append-nil}
+use Rattle.std.proofs.Common.{Result, Ok, Err}
+use Rattle.std.specs.Result.{MatchResult}
+use Rattle.varisat_theory.specs.Membership.{◌∈◌}
+use Rattle.varisat_theory.proofs.Members.{∈-append_left}
+use Rattle.varisat_prop.specs.declared.prop.graph.Conflict.{Conflict}
+use Rattle.varisat_prop.proofs.WatchSettled.{settled-longer, implied-longer, propagates-goes-on, implied-next}
+use Rattle.varisat_prop.proofs.ViewGrowth.{append-nil, literal-stays}
 use Rattle.varisat_prop.specs.declared.prop.watch.Watch.{Watch}
-use Rattle.varisat_prop.specs.Watches.{Watches, list_of, with_list, IsWatching, IsSettledTo, IsPropagated, IsWatched}
+use Rattle.varisat_prop.specs.Watches.{Watches, list_of, with_list, IsWatching, IsSettledTo, IsImpliedTo, IsPropagated, IsWatched}
 use Rattle.varisat_prop.specs.Looks.{Propagates}
 use Rattle.varisat_prop.proofs.WellFormedChanges.{well-moved}
 
@@ -19,12 +25,14 @@ pub popped : (xs : List ℕ) (q : ℕ) (o : Option ℕ) (P : Type 0) (Q : ℕ �
 popped xs q o P Q e h m = MatchOption-at_some P Q (get_or xs q 0) (e ∙ slice_get-get_or xs q 0 h) m
 
 -- the next literal of the queue was propagated
-pub watched-next : (W : Watches) (u : View) (k : ℕ) → IsWatched W u k → k < length u.trail → IsSettledTo u (suc k) → IsWatched W (record u { queue_head = k + 1 }) (k + 1)
-watched-next W u k w a st = subst (λ n. IsWatched W (record u { queue_head = k + 1 }) n) (sym (add-one k)) record {
+pub watched-next : (W : Watches) (u : View) (k : ℕ) → IsWatched W u k → k < length u.trail → IsSettledTo u (suc k) → IsImpliedTo u (suc k) → IsWatched W (record u { queue_head = k + 1 }) (k + 1)
+watched-next W u k w a st im = subst (λ n. IsWatched W (record u { queue_head = k + 1 }) n) (sym (add-one k)) record {
   lists = w.lists;
   enabled = w.enabled;
   watching = w.watching;
   settled = st;
+  binary = w.binary;
+  implied = im;
   within = omega (arith, a);
   queue = λ j h. let n = w.queue j h in omega (arith, n);
 }
@@ -36,6 +44,7 @@ propagates-next s u k p e a =
       well = well-moved u (k + 1) p.well (omega (arith, a));
       grows = record {
         clauses = g.clauses;
+        binary = g.binary;
         count = g.count;
         trail_more = g.trail_more;
         head = let h = g.head in omega (arith, h, e);
@@ -71,6 +80,8 @@ watched-propagated W s w = record {
   watching = λ e. w.watching;
   empty = λ e. absurd (let f = w.enabled in cc);
   settled = w.settled;
+  binary = w.binary;
+  implied = w.implied;
   queue = w.queue;
 }
 
@@ -81,6 +92,8 @@ watched-enabled W V s f p on n same anew = record {
   enabled = on;
   watching = go W.enabled refl;
   settled = p.settled;
+  binary = p.binary;
+  implied = p.implied;
   within = f.head;
   queue = p.queue;
 }
@@ -88,3 +101,28 @@ watched-enabled W V s f p on n same anew = record {
     go : (b : Bool) → W.enabled ≡ b → IsWatching V s.clauses
     go true e = subst (λ X. IsWatching X s.clauses) (sym (same e)) (p.watching e)
     go false e = anew e
+
+-- the trail goes on over the same clauses
+pub watched-longer : (W : Watches) (s t : View) (q : ℕ) → IsWatched W s q → Propagates s t → t.clauses ≡ s.clauses → IsWatched W t q
+watched-longer W s t q w p e =
+    let g = propagates-goes-on s t p in
+    let n = p.grows.count in
+    record {
+      lists = (let k = w.lists in omega (arith, k, n));
+      enabled = w.enabled;
+      watching = subst (λ P. IsWatching W P) (sym e) w.watching;
+      settled = settled-longer s t q (record { clauses = e; binary = g.binary; decisions = g.decisions; longer = g.longer; keeps = g.keeps }) w.within w.settled;
+      implied = implied-longer s t q g w.within w.implied;
+      binary = (let k = ap (λ (x : List (List ℕ)). length x) p.grows.binary in let o = w.binary in omega (arith, k, n, o));
+      within = (let k = g.longer in let o = w.within in omega (arith, k, o));
+      queue = λ j h. let d = p.decisions in let a = ap (λ (x : List ℕ). length x) d in let b = ap (λ (x : List ℕ). get_or x j 0) d in let o = w.queue j (omega (arith, h, a)) in omega (arith, o, b);
+    }
+
+-- what was implied by clauses of two literals before the others were propagated
+pub implied-done : (s t u : View) (W : Watches) (q k : ℕ) (l : Literal) (P : Type 0) (Q : Conflict → Type 0) (r : Result (Unit {0}) Conflict) → literal_at t k ≡ l → k < length t.trail → Propagates t u → q ≡ k → IsWatched W u q
+    → ((m : Literal) → m ∈ get_or t.binary l [] → m ∈ t.trail) → MatchResult r (λ x. P) Q → MatchResult r (λ x. P × IsImpliedTo u (suc q)) Q
+implied-done s t u W q k l P Q r e a p f w d m = strengthen r m (implied-next u q l p.well (ap (λ x. literal_at u x) f ∙ literal-stays t u p.grows k a ∙ e) w.queue w.implied (λ y i. subst (λ xs. y ∈ xs) (sym p.grows.trail_more.1) (∈-append_left y t.trail p.grows.trail_more.0 (d y (subst (λ (B : List (List ℕ)). y ∈ get_or B l []) p.grows.binary i)))))
+  where
+    strengthen : {R : Type 0} (r : Result (Unit {0}) Conflict) → MatchResult r (λ x. P) Q → R → MatchResult r (λ x. P × R) Q
+    strengthen (Ok x) m n = (m, n)
+    strengthen (Err x) m n = m

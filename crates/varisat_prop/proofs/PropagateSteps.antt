@@ -1,5 +1,5 @@
 -- Propagation in several steps.
-use Rattle.std.proofs.Common.{◌≡◌, refl, ◌∙◌}
+use Rattle.std.proofs.Common.{refl, ◌∙◌}
 use Rattle.varisat_prop.specs.View.{View, WellFormed}
 use Rattle.varisat_prop.specs.Looks.{Propagates}
 use Rattle.varisat_prop.proofs.ViewGrowth.{grows-refl, grows-trans}

@@ -8,7 +8,7 @@ use Rattle.varisat_literals.specs.Numbers.{polarity_of}
 use Rattle.varisat_prop.specs.declared.prop.graph.Reason.{Reason}
 use Rattle.varisat_prop.specs.declared.prop.graph.Reason.TheVariants as reason
 use Rattle.varisat_prop.specs.declared.prop.graph.ImplNode.{ImplNode}
-use Rattle.varisat_prop.specs.View.{View, IsTrueIn, clause_at, literal_at, node_of, node_at, no_node, StandsBefore, Implies, IsReason, WellFormed}
+use Rattle.varisat_prop.specs.View.{View, implied_by, IsTrueIn, clause_at, literal_at, node_of, node_at, no_node, StandsBefore, Implies, IsReason, WellFormed}
 use Rattle.varisat_prop.specs.Changes.{enqueued}
 use Rattle.varisat_prop.proofs.LiteralValues.{none-made, made-new, made-old, made-cases}
 
@@ -74,6 +74,7 @@ module _ (s : View) (l : Literal) (r : Reason) (ds : List ℕ) (w : WellFormed s
 
   reason-old : ((k : ℕ) → k ∈ s.decisions → k ∈ ds) → (q : Reason) (k : ℕ) → k < length s.trail → IsReason s k q → IsReason ext k q
   reason-old keeps reason.Unit k h p = ⊎_elim (λ i. inl (keeps k i)) (λ e. inr (ap (λ n. n.level) (node-old k h) ∙ e)) p
+  reason-old keeps (reason.Binary ms) k h (m, e, i, b) = (m, e, subst (λ x. x ∈ implied_by s (opposite m)) (sym (literal-old k h)) i, stands-old k (opposite m) (omega (arith, h)) b)
   reason-old keeps (reason.Long i) k h p = (p.0, implies-old (clause_at s i) k h p.1)
 
   -- what is kept of the decisions
@@ -93,6 +94,8 @@ module _ (s : View) (l : Literal) (r : Reason) (ds : List ℕ) (w : WellFormed s
     places = w.places;
     several = w.several;
     distinct = w.distinct;
+    binary_back = w.binary_back;
+    binary_other = w.binary_other;
     is_true = each-place (λ k. IsTrueIn ext (literal_at ext k)) (λ k h. subst (IsTrueIn ext) (sym (literal-old k h)) (true-old (literal_at s k) (w.is_true k h))) (subst (IsTrueIn ext) (sym literal-new) true-new);
     stands = λ m h. let n = ext-length in ⊎_elim (λ e. (length s.trail, omega (arith, n), literal-new ∙ sym e)) (λ t. let (j, a, e) = w.stands m t in (j, omega (arith, a, n), literal-old j a ∙ e)) (true-cases m h);
     head = let n = ext-length in let q = w.head in omega (arith, n, q);

@@ -12,6 +12,7 @@ append-nil (x ∷ xs) = ap (λ ys. x ∷ ys) (append-nil xs)
 pub grows-refl : (s : View) → Grows s s
 grows-refl s = record {
   clauses = reordered-refl s.clauses;
+  binary = refl;
   count = refl;
   trail_more = ([], sym (append-nil s.trail));
   head = omega arith;
@@ -26,6 +27,7 @@ grows-longer s t g = let (more, e) = g.trail_more in let n = ap (λ (x : List Li
 pub grows-trans : (s t u : View) → Grows s t → Grows t u → Grows s u
 grows-trans s t u g h = record {
   clauses = reordered-trans s.clauses t.clauses u.clauses g.clauses h.clauses;
+  binary = h.binary ∙ g.binary;
   count = h.count ∙ g.count;
   trail_more = (g.trail_more.0 ++ h.trail_more.0, h.trail_more.1 ∙ ap (λ x. x ++ h.trail_more.0) g.trail_more.1 ∙ append_assoc s.trail g.trail_more.0 h.trail_more.0);
   head = let a = g.head in let b = h.head in omega (arith, a, b);

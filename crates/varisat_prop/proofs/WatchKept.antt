@@ -1,5 +1,5 @@
 -- What enqueuing, deciding, backtracking and a further clause keep of the watches.
-use Rattle.std.proofs.Common.{◌≡◌, ◌≢◌, ℕ, zero, suc, true, false, Bool, ◌+◌, ◌<◌, ◌≤◌, ◌*◌, ◌++◌, Some, List, [], ◌∷◌, length, get_or, set, take, ◌⊎◌, inl, inr, ⊎_elim, refl, sym, ap, ◌∙◌, subst, arith, get_or-set_same, get_or-set_other, length-set, length-append}
+use Rattle.std.proofs.Common.{◌≡◌, ℕ, true, false, ◌<◌, ◌≤◌, ◌++◌, Some, List, [], ◌∷◌, length, get_or, take, ◌⊎◌, inl, inr, ⊎_elim, refl, sym, ap, ◌∙◌, subst, arith, get_or-set_same, get_or-set_other, length-set, length-append}
 use Rattle.std.proofs.lemmas.List.{get_or_append_left, get_or-take, length-take}
 use Rattle.std.proofs.lemmas.Bool.{cases_lt}
 use Rattle.varisat_theory.specs.Membership.{◌∈◌}
@@ -13,15 +13,16 @@ use Rattle.varisat_prop.specs.Stored.{StoredClause, IsPlace, literals_at}
 use Rattle.varisat_prop.specs.View.{View, clause_at, literal_at, decision_at, WellFormed}
 use Rattle.varisat_prop.specs.Changes.{enqueued, decided_on}
 use Rattle.varisat_prop.specs.declared.prop.watch.Watch.{Watch}
-use Rattle.varisat_prop.specs.Watches.{Watches, list_of, with_list, at, HasWatch, IsWatching, IsCovered, IsSettledTo, IsPropagated}
+use Rattle.varisat_prop.specs.Watches.{Watches, list_of, with_list, at, HasWatch, IsWatching, IsCovered, IsSettledTo, IsImpliedTo, IsPropagated}
 use Rattle.varisat_prop.specs.Visits.{AddsWatches, WatchesClause}
 use Rattle.varisat_prop.proofs.AllocClauses.{place-cases-more, place-more, place-last, stored-more, stored-last}
 use Rattle.varisat_prop.proofs.TrailExtend.{get_or-last}
-use Rattle.varisat_prop.proofs.WatchSettled.{Lengthens, settled-longer, settled-back, two}
+use Rattle.varisat_prop.proofs.WatchSettled.{Lengthens, lengthens-goes-on, settled-longer, settled-back, implied-longer, implied-back, two}
 
 enqueued-longer : (s : View) (l : Literal) (r : Reason) → Lengthens s (enqueued s l r)
 enqueued-longer s l r = record {
   clauses = refl;
+  binary = refl;
   decisions = refl;
   longer = (let n = length-append s.trail (l ∷ []) in omega (arith, n));
   keeps = λ k h. get_or_append_left s.trail (l ∷ []) 0 k h;
@@ -34,6 +35,8 @@ propagated-enqueued W s l r f w = record {
   watching = w.watching;
   empty = w.empty;
   settled = settled-longer s (enqueued s l r) s.queue_head (enqueued-longer s l r) f.head w.settled;
+  binary = (let n = length-set s.values (variable_of l) (Some (polarity_of l)) in let m = w.binary in omega (arith, n, m));
+  implied = implied-longer s (enqueued s l r) s.queue_head (lengthens-goes-on s (enqueued s l r) (enqueued-longer s l r)) f.head w.implied;
   queue = w.queue;
 }
 
@@ -58,12 +61,19 @@ module _ (W : Watches) (s : View) (l : Literal) (f : WellFormed s) (done : s.que
       let (k, x, y, z) = w.settled i j p a b h e in
       (k, x, y, λ v c d. ⊎_elim (λ (g, o). let q = z v g (omega (arith, d, o)) in omega (arith, q, o)) (λ o. omega (arith, x, o)) (at-level v c))
 
+  opened-implied : IsImpliedTo opened s.queue_head
+  opened-implied = λ m p h i.
+      let (k, x, y, z) = w.implied m p h i in
+      (k, x, y, λ v c d. ⊎_elim (λ (g, o). let q = z v g (omega (arith, d, o)) in omega (arith, q, o)) (λ o. omega (arith, x, o)) (at-level v c))
+
   pub propagated-decided : IsPropagated W (decided_on s l)
   propagated-decided = record {
     lists = (let n = length-set s.values (variable_of l) (Some (polarity_of l)) in let m = w.lists in omega (arith, n, m));
     watching = w.watching;
     empty = w.empty;
     settled = settled-longer opened (decided_on s l) s.queue_head (enqueued-longer opened l reason.Unit) f.head opened-settled;
+    binary = (let n = length-set s.values (variable_of l) (Some (polarity_of l)) in let m = w.binary in omega (arith, n, m));
+    implied = implied-longer opened (decided_on s l) s.queue_head (lengthens-goes-on opened (decided_on s l) (enqueued-longer opened l reason.Unit)) f.head opened-implied;
     queue = λ j h. ⊎_elim (λ (g, o). let q = w.queue j g in omega (arith, o, q)) (λ o. omega (arith, o, done)) (at-level j h);
   }
 
@@ -79,6 +89,8 @@ propagated-back W s t level w a n e g =
       watching = λ h. subst (λ P. IsWatching W P) (sym (ap (λ x. x.clauses) e)) (g.watching h);
       empty = g.empty;
       settled = subst (λ q. IsSettledTo t q) (sym (ap (λ x. x.queue_head) e)) (settled-back s t level s.queue_head a (g.queue level a) m e g.settled);
+      binary = (let k = ap (λ (x : View). length x.binary) e in let o = g.binary in omega (arith, k, o, n));
+      implied = subst (λ q. IsImpliedTo t q) (sym (ap (λ x. x.queue_head) e)) (implied-back s t level s.queue_head a (g.queue level a) m e g.implied);
       queue = λ j h. let k = ap (λ (x : View). length x.decisions) e in let o = length-take level s.decisions in
           let j' : j < level = omega (arith, h, k, o) in
           let v = ap (λ (x : View). get_or x.decisions j 0) e in
@@ -135,6 +147,8 @@ module _ (W V : Watches) (s : View) (c : StoredClause) (w : IsPropagated W s) (l
     watching = more-watching;
     empty = more-empty;
     settled = λ i j p a b h. absurd (omega (arith, h));
+    binary = w.binary;
+    implied = λ m p h. absurd (omega (arith, h));
     queue = λ j h. let n = ap (λ (x : List ℕ). length x) e in absurd (omega (arith, h, n));
   }
 
@@ -154,6 +168,8 @@ module _ (W V : Watches) (s : View) (c : StoredClause) (w : IsPropagated W s) (l
             let e' : literal_at s p ≡ opposite (at c.literals j) = sym (get_or_append_left s.trail (l ∷ []) 0 p (let o = f.head in omega (arith, b, o))) ∙ e in
             (length s.trail, omega (arith, m), subst (λ x. x ∈ c.literals) (sym (get_or-last s.trail l 0 ∙ first)) (∈-get_or c.literals 0 0 long), λ k d g. let o = n j p a b e' k d in absurd (omega (arith, o, g))))
             (settled-longer s t s.queue_head (enqueued-longer s l r) f.head w.settled);
+        binary = (let o = length-set s.values (variable_of l) (Some (polarity_of l)) in let k = w.binary in omega (arith, k, o));
+        implied = implied-longer s t s.queue_head (lengthens-goes-on s t (enqueued-longer s l r)) f.head w.implied;
         queue = w.queue;
       }
 

@@ -1,8 +1,8 @@
 -- Lists that are made anew, and lists of more variables.
-use Rattle.std.proofs.Common.{◌≡◌, ℕ, zero, suc, true, false, ◌+◌, ◌-◌, ◌<◌, ◌≤◌, ◌*◌, ◌++◌, List, [], ◌∷◌, length, get_or, replicate, ◌⊎◌, inl, inr, ⊎_elim, refl, sym, ap, ◌∙◌, subst, arith, append_assoc}
+use Rattle.std.proofs.Common.{◌≡◌, ℕ, zero, suc, true, ◌+◌, ◌<◌, ◌≤◌, ◌++◌, List, [], ◌∷◌, length, get_or, replicate, ⊎_elim, refl, sym, ap, ◌∙◌, subst, arith, append_assoc}
 use Rattle.std.proofs.lemmas.Bool.{cases_lt}
 use Rattle.varisat_theory.specs.Membership.{◌∈◌}
-use Rattle.varisat_theory.specs.Literals.{Literal, Clause, opposite}
+use Rattle.varisat_theory.specs.Literals.{Literal, opposite}
 use Rattle.varisat_theory.proofs.Places.{place_in}
 use Rattle.varisat_prop.specs.Stored.{StoredClause, IsPlace, no_clause, literals_at, AreNumbered}
 use Rattle.varisat_prop.specs.declared.prop.watch.Watch.{Watch}

@@ -1,35 +1,52 @@
 -- What is settled stays so, and shows that propagation came to its end.
-use Rattle.std.proofs.Common.{◌≡◌, ◌≢◌, ℕ, zero, suc, ◌<◌, ◌≤◌, ◌++◌, List, [], ◌∷◌, ◌⊎◌, inl, inr, ⊎_elim, length, get_or, set, take, refl, sym, ap, ◌∙◌, subst, arith, get_or-set_same, get_or-set_other, length-set, length-append}
-use Rattle.std.proofs.lemmas.List.{get_or_append_left, get_or-take, length-take}
+use Rattle.std.proofs.Common.{◌≡◌, ◌≢◌, ℕ, zero, suc, ◌<◌, ◌≤◌, ◌++◌, List, [], ◌∷◌, ◌⊎◌, inl, inr, ⊎_elim, length, get_or, take, refl, sym, ap, ◌∙◌, subst, arith}
+use Rattle.std.proofs.lemmas.List.{get_or-take, length-take}
 use Rattle.std.proofs.lemmas.Bool.{cases_lt}
-use Rattle.varisat_theory.specs.Membership.{◌∈◌, SameSet, IsDistinct}
-use Rattle.varisat_theory.specs.Literals.{Literal, Clause, opposite, variable_of}
+use Rattle.varisat_theory.specs.Membership.{◌∈◌}
+use Rattle.varisat_theory.specs.Literals.{Literal, Clause, opposite}
 use Rattle.varisat_theory.specs.Propagation.{IsFalse, LeavesOnly, IsComplete}
 use Rattle.varisat_theory.proofs.Places.{∈-get_or, place_in}
 use Rattle.varisat_theory.proofs.Members.{equal_or_not}
-use Rattle.varisat_prop.specs.View.{View, kept, IsTrueIn, clause_at, literal_at, decision_at, WellFormed}
+use Rattle.varisat_prop.specs.View.{View, pairs_from, implied_by, IsTrueIn, clause_at, literal_at, decision_at, WellFormed}
 use Rattle.varisat_prop.proofs.LiteralValues.{made-clash}
 use Rattle.varisat_prop.proofs.DistinctPlaces.{distinct-places}
 use Rattle.varisat_prop.proofs.TrailValues.{on-trail, trail-true}
 use Rattle.varisat_prop.specs.declared.prop.watch.Watch.{Watch}
-use Rattle.varisat_prop.specs.Stored.{StoredClause, IsPlace, literals_at, with_literals, AreReordered}
-use Rattle.varisat_prop.proofs.AllocClauses.{kept-at, from-literals, stored-found, reordered-place-back, with-reordered, with-same, with-other}
+use Rattle.varisat_prop.specs.Stored.{literals_of, IsPlace, literals_at, with_literals}
+use Rattle.varisat_prop.proofs.AllocClauses.{from-literals, stored-found, reordered-place-back, with-reordered, with-same, with-other}
+use Rattle.varisat_theory.proofs.Members.{∈-append_cases}
+use Rattle.varisat_theory.proofs.Values.{opposite_twice}
+use Rattle.varisat_prop.specs.Looks.{Propagates}
+use Rattle.varisat_prop.proofs.ViewGrowth.{grows-longer, literal-stays}
+use Rattle.varisat_prop.proofs.WellFormedChanges.{kept-here}
+use Rattle.varisat_prop.proofs.KeptPairs.{pair-in}
 use Rattle.varisat_prop.proofs.ClauseOrder.{reordered}
-use Rattle.varisat_prop.specs.Watches.{at, HasWatch, IsSatisfied, IsCovered, IsSettledTo, IsRearranged}
+use Rattle.varisat_prop.specs.Watches.{at, HasWatch, IsSatisfied, IsCovered, IsSettledTo, IsImpliedTo, IsRearranged}
 
 pub two : (P : ℕ → Type 0) → P 0 → P 1 → (j : ℕ) → j < 2 → P j
 two P a b zero h = a
 two P a b (suc zero) h = b
 two P a b (suc (suc j)) h = absurd (omega (arith, h))
 
--- the trail goes on, over the same clauses and decisions
-pub record Lengthens (s t : View) : Type 0 where
-  pub clauses : t.clauses ≡ s.clauses
+-- the trail goes on, over the same clauses of two literals and the same decisions
+pub record GoesOn (s t : View) : Type 0 where
+  pub binary : t.binary ≡ s.binary
   pub decisions : t.decisions ≡ s.decisions
   pub longer : length s.trail ≤ length t.trail
   pub keeps : (k : ℕ) → k < length s.trail → literal_at t k ≡ literal_at s k
 
-covered-longer : (s t : View) (c : Clause) (p : ℕ) → Lengthens s t → IsCovered s c p → IsCovered t c p
+-- and over the same clauses of more
+pub record Lengthens (s t : View) : Type 0 where
+  pub clauses : t.clauses ≡ s.clauses
+  pub binary : t.binary ≡ s.binary
+  pub decisions : t.decisions ≡ s.decisions
+  pub longer : length s.trail ≤ length t.trail
+  pub keeps : (k : ℕ) → k < length s.trail → literal_at t k ≡ literal_at s k
+
+pub lengthens-goes-on : (s t : View) → Lengthens s t → GoesOn s t
+lengthens-goes-on s t g = record { binary = g.binary; decisions = g.decisions; longer = g.longer; keeps = g.keeps }
+
+covered-longer : (s t : View) (c : Clause) (p : ℕ) → GoesOn s t → IsCovered s c p → IsCovered t c p
 covered-longer s t c p g (k, a, m, d) = (
   k,
   (let n = g.longer in omega (arith, a, n)),
@@ -40,7 +57,14 @@ covered-longer s t c p g (k, a, m, d) = (
 pub settled-longer : (s t : View) (q : ℕ) → Lengthens s t → q ≤ length s.trail → IsSettledTo s q → IsSettledTo t q
 settled-longer s t q g n st = λ i j p a b h e.
     let f : clause_at t i ≡ clause_at s i = ap (λ P. literals_at P i) g.clauses in
-    subst (λ c. IsCovered t c p) (sym f) (covered-longer s t (clause_at s i) p g (st i j p (subst (λ P. IsPlace P i) g.clauses a) b h (sym (g.keeps p (omega (arith, h, n))) ∙ e ∙ ap (λ c. opposite (at c j)) f)))
+    subst (λ c. IsCovered t c p) (sym f) (covered-longer s t (clause_at s i) p (lengthens-goes-on s t g) (st i j p (subst (λ P. IsPlace P i) g.clauses a) b h (sym (g.keeps p (omega (arith, h, n))) ∙ e ∙ ap (λ c. opposite (at c j)) f)))
+
+pub implied-longer : (s t : View) (q : ℕ) → GoesOn s t → q ≤ length s.trail → IsImpliedTo s q → IsImpliedTo t q
+implied-longer s t q g n st = λ m p h i.
+    covered-longer s t (m ∷ []) p g (st m p h (subst (λ l. m ∈ implied_by s l) (g.keeps p (omega (arith, h, n))) (subst (λ (B : List (List ℕ)). m ∈ get_or B (literal_at t p) []) g.binary i)))
+
+pub propagates-goes-on : (s t : View) → Propagates s t → GoesOn s t
+propagates-goes-on s t p = record { binary = p.grows.binary; decisions = p.decisions; longer = grows-longer s t p.grows; keeps = literal-stays s t p.grows }
 
 pub satisfied-longer : (s t : View) (c : Clause) → Lengthens s t → IsSatisfied s c → IsSatisfied t c
 satisfied-longer s t c g (k, a, m) = (k, (let n = g.longer in omega (arith, a, n)), subst (λ x. x ∈ c) (sym (g.keeps k a)) m)
@@ -81,7 +105,7 @@ settled-next s q l e d st but = λ i j p a b h f.
     (cases_lt p q)
 
 -- where all is settled, no clause is false and none leaves a literal that isn't true
-pub settled-complete : (s : View) → WellFormed s → IsSettledTo s (length s.trail) → IsComplete (kept s) s.trail
+pub settled-complete : (s : View) → WellFormed s → IsSettledTo s (length s.trail) → IsComplete (literals_of s.clauses) s.trail
 settled-complete s w st = record {
   no_false = λ (c, h, f). let (i, a, e) = named c h in
       not-false i a (λ m k. f m (subst (λ x. m ∈ x) e k));
@@ -90,11 +114,11 @@ settled-complete s w st = record {
 }
   where
     -- each kept clause is that of a place
-    named : (c : Clause) → c ∈ kept s → (i : ℕ) × IsPlace s.clauses i × (clause_at s i ≡ c)
+    named : (c : Clause) → c ∈ literals_of s.clauses → (i : ℕ) × IsPlace s.clauses i × (clause_at s i ≡ c)
     named c h = let (k, j, e) = from-literals s.clauses c h in (k.place, (k, j, refl), ap (λ x. x.literals) (stored-found s.clauses w.places k j) ∙ e)
 
     long : (i : ℕ) → IsPlace s.clauses i → 2 ≤ length (clause_at s i)
-    long i a = w.several (clause_at s i) (kept-at s.clauses i a)
+    long i a = w.several (clause_at s i) (kept-here s i a)
 
     -- a false literal among the first two has a true one beside it
     beside : (i j : ℕ) → IsPlace s.clauses i → j < 2 → opposite (at (clause_at s i) j) ∈ s.trail → (m : Literal) × (m ∈ clause_at s i) × IsTrueIn s m
@@ -113,7 +137,7 @@ settled-complete s w st = record {
     not-false i a f = let (m, h, t) = beside i 0 a (omega arith) (f (at (clause_at s i) 0) (first-in i 0 a (omega arith))) in clash m t (f m h)
 
     differ : (i : ℕ) → IsPlace s.clauses i → at (clause_at s i) 0 ≢ at (clause_at s i) 1
-    differ i a = distinct-places (clause_at s i) 0 (w.distinct (clause_at s i) (kept-at s.clauses i a)) 0 1 (omega arith) (let n = long i a in omega (arith, n))
+    differ i a = distinct-places (clause_at s i) 0 (w.distinct (clause_at s i) (kept-here s i a)) 0 1 (omega arith) (let n = long i a in omega (arith, n))
 
     from-false : (i j : ℕ) (l : Literal) → IsPlace s.clauses i → j < 2 → LeavesOnly s.trail (clause_at s i) l → opposite (at (clause_at s i) j) ∈ s.trail → l ∈ s.trail
     from-false i j l a b u h = let (m, n, t) = beside i j a b h in ⊎_elim (λ e. subst (λ x. x ∈ s.trail) e (on-trail s w m t)) (λ z. absurd (clash m t z)) (u m n)
@@ -124,6 +148,51 @@ settled-complete s w st = record {
         (λ e. ⊎_elim (λ f. absurd (differ i a (e ∙ sym f))) (from-false i 1 l a (omega arith) u) (u (at (clause_at s i) 1) (first-in i 1 a (omega arith))))
         (from-false i 0 l a (omega arith) u)
         (u (at (clause_at s i) 0) (first-in i 0 a (omega arith)))
+
+-- what the next literal implies is true
+pub implied-next : (s : View) (q : ℕ) (l : Literal) → WellFormed s → literal_at s q ≡ l → ((j : ℕ) → j < length s.decisions → decision_at s j ≤ q) → IsImpliedTo s q → ((m : Literal) → m ∈ implied_by s l → m ∈ s.trail) → IsImpliedTo s (suc q)
+implied-next s q l w e d st new = λ m p h i.
+    ⊎_elim
+    (λ g. st m p g i)
+    (λ g. let o : p ≡ q = omega (arith, h, g) in
+    let (k, a, f) = place_in m s.trail 0 (new m (subst (λ x. m ∈ implied_by s x) (ap (λ y. literal_at s y) o ∙ e) i)) in
+    (k, a, inl f, λ y z v. let u = d y z in absurd (omega (arith, v, u, o))))
+    (cases_lt p q)
+
+-- where all is propagated, no clause of two literals is false and none leaves a literal that isn't true
+module _ (s : View) (w : WellFormed s) (st : IsImpliedTo s (length s.trail)) where
+  goes-on : (l m : Literal) → m ∈ implied_by s l → l ∈ s.trail → m ∈ s.trail
+  goes-on l m i h = let (p, a, e) = place_in l s.trail 0 h in
+      let (k, b, f, o) = st m p a (subst (λ x. m ∈ implied_by s x) (sym e) i) in
+      ⊎_elim (λ g. subst (λ x. x ∈ s.trail) g (∈-get_or s.trail k 0 b)) (λ g. absurd g) f
+
+  no-clash : (m : Literal) → m ∈ s.trail → opposite m ∈ s.trail → ⊥
+  no-clash m a b = made-clash s.values m (trail-true s w m a) (trail-true s w (opposite m) b)
+
+  pair-true : (l m : Literal) → m ∈ implied_by s l → IsFalse s.trail (opposite l ∷ m ∷ []) → ⊥
+  pair-true l m i f = no-clash m (goes-on l m i (subst (λ x. x ∈ s.trail) (opposite_twice l) (f (opposite l) (inl refl)))) (f m (inr (inl refl)))
+
+  pair-closed : (l m x : Literal) → m ∈ implied_by s l → LeavesOnly s.trail (opposite l ∷ m ∷ []) x → x ∈ s.trail
+  pair-closed l m x i u = ⊎_elim
+      (λ e. ⊎_elim
+      (λ f. absurd (w.binary_other l m i (f ∙ sym e)))
+      (λ f. subst (λ y. y ∈ s.trail) e (goes-on (opposite m) (opposite l) (w.binary_back l m i) f))
+      (u m (inr (inl refl))))
+      (λ h. let g = goes-on l m i (subst (λ y. y ∈ s.trail) (opposite_twice l) h) in
+      ⊎_elim (λ f. subst (λ y. y ∈ s.trail) f g) (λ f. absurd (no-clash m g f)) (u m (inr (inl refl))))
+      (u (opposite l) (inl refl))
+
+  pub pairs-complete : IsComplete (pairs_from 0 s.binary) s.trail
+  pairs-complete = record {
+    no_false = λ (c, h, f). let (l, m, i, e) = pair-in s.binary 0 c h in pair-true l m i (subst (IsFalse s.trail) e f);
+    closed = λ c x h k u. let (l, m, i, e) = pair-in s.binary 0 c h in pair-closed l m x i (subst (λ d. LeavesOnly s.trail d x) e u);
+  }
+
+pub complete-both : (P Q : List Clause) (known : List Literal) → IsComplete P known → IsComplete Q known → IsComplete (P ++ Q) known
+complete-both P Q known a b = record {
+  no_false = λ (c, h, f). ⊎_elim (λ k. a.no_false (c, k, f)) (λ k. b.no_false (c, k, f)) (∈-append_cases c P Q h);
+  closed = λ c l h k u. ⊎_elim (λ m. a.closed c l m k u) (λ m. b.closed c l m k u) (∈-append_cases c P Q h);
+}
 
 -- going back to a level: what is left of the trail, and of what was settled
 module _ (s t : View) (level q : ℕ) (a : level < length s.decisions) (n : decision_at s level ≤ q) (m : decision_at s level ≤ length s.trail) where
@@ -148,3 +217,22 @@ module _ (s t : View) (level q : ℕ) (a : level < length s.decisions) (n : deci
 
   pub settled-back : t ≡ cut → IsSettledTo s q → IsSettledTo t (decision_at s level)
   settled-back e st = subst (λ x. IsSettledTo x (decision_at s level)) (sym e) (back st)
+
+  implied-cut : IsImpliedTo s q → IsImpliedTo cut (decision_at s level)
+  implied-cut st = λ v p c i.
+      let (k, x, y, z) = st v p (omega (arith, c, n)) (subst (λ l. v ∈ implied_by s l) (get_or-take (decision_at s level) s.trail p 0 c) i) in
+      let k' : k < decision_at s level = z level a c in
+      let o = length-take (decision_at s level) s.trail in (
+        k,
+        omega (arith, o, k', m),
+        subst (λ u. u ∈ (v ∷ [])) (sym (get_or-take (decision_at s level) s.trail k 0 k')) y,
+        λ u g r. let l = length-take level s.decisions in
+            let u' : u < level = omega (arith, g, l) in
+            let w = get_or-take level s.decisions u 0 u' in
+            let r' : p < decision_at s u = omega (arith, r, w) in
+            let q' = z u (omega (arith, u', a)) r' in
+            omega (arith, q', w),
+      )
+
+  pub implied-back : t ≡ cut → IsImpliedTo s q → IsImpliedTo t (decision_at s level)
+  implied-back e st = subst (λ x. IsImpliedTo x (decision_at s level)) (sym e) (implied-cut st)

@@ -1,11 +1,13 @@
 -- A view stays well formed where only its clauses and its queue's head change.
-use Rattle.std.proofs.Common.{◌≡◌, ℕ, ◌<◌, ◌≤◌, List, [], ◌∷◌, length, refl, sym, subst}
+use Rattle.std.proofs.Common.{◌≡◌, ℕ, ◌<◌, ◌≤◌, List, [], ◌∷◌, ◌++◌, ⊎_elim, length, refl, sym, subst}
 use Rattle.varisat_theory.specs.Membership.{◌∈◌, IsDistinct}
+use Rattle.varisat_theory.proofs.Members.{∈-append_left, ∈-append_right, ∈-append_cases}
+use Rattle.varisat_prop.proofs.AllocClauses.{kept-at}
 use Rattle.varisat_theory.specs.Literals.{Literal, Clause, variable_of}
 use Rattle.varisat_prop.specs.declared.prop.graph.Reason.{Reason}
 use Rattle.varisat_prop.specs.declared.prop.graph.Reason.TheVariants as reason
 use Rattle.varisat_prop.specs.Stored.{StoredClause, literals_of, literals_at, IsPlace, AreRising}
-use Rattle.varisat_prop.specs.View.{View, clause_at, node_at, Implies, IsReason, WellFormed}
+use Rattle.varisat_prop.specs.View.{View, pairs_from, kept, clause_at, node_at, Implies, IsReason, WellFormed}
 
 -- what a well-formed view asks of each clause that is kept
 pub record MayBeKept (s : View) (c : Clause) : Type 0 where
@@ -13,17 +15,30 @@ pub record MayBeKept (s : View) (c : Clause) : Type 0 where
   pub several : 2 ≤ length c
   pub distinct : IsDistinct c
 
-pub kept-may : (s : View) → WellFormed s → (c : Clause) → c ∈ literals_of s.clauses → MayBeKept s c
+pub kept-may : (s : View) → WellFormed s → (c : Clause) → c ∈ kept s → MayBeKept s c
 kept-may s w c h = record { in_range = w.in_range c h; several = w.several c h; distinct = w.distinct c h }
+
+-- a clause of the store is kept
+pub stored-kept : (s : View) (c : Clause) → c ∈ literals_of s.clauses → c ∈ kept s
+stored-kept s c h = ∈-append_left c (literals_of s.clauses) (pairs_from 0 s.binary) h
+
+pub kept-here : (s : View) (i : ℕ) → IsPlace s.clauses i → clause_at s i ∈ kept s
+kept-here s i a = stored-kept s (clause_at s i) (kept-at s.clauses i a)
+
+-- what may be kept of other clauses and the same pairs
+may-each : (s : View) (P : List StoredClause) → WellFormed s → ((c : Clause) → c ∈ literals_of P → MayBeKept s c) → (c : Clause) → c ∈ (literals_of P ++ pairs_from 0 s.binary) → MayBeKept s c
+may-each s P w m c h = ⊎_elim (m c) (λ i. kept-may s w c (∈-append_right c (literals_of s.clauses) (pairs_from 0 s.binary) i)) (∈-append_cases c (literals_of P) (pairs_from 0 s.binary) h)
 
 pub well-changed : (s : View) (P : List StoredClause) (h : ℕ) → WellFormed s → AreRising P → ((c : Clause) → c ∈ literals_of P → MayBeKept s c) → ((k : ℕ) → k < length s.trail → IsReason (record s { clauses = P; queue_head = h }) k (node_at s k).reason) → h ≤ length s.trail → WellFormed (record s { clauses = P; queue_head = h })
 well-changed s P h w r m q l = record {
   nodes_are = w.nodes_are;
   small = w.small;
   places = r;
-  in_range = λ c i. (m c i).in_range;
-  several = λ c i. (m c i).several;
-  distinct = λ c i. (m c i).distinct;
+  in_range = λ c i. (may-each s P w m c i).in_range;
+  several = λ c i. (may-each s P w m c i).several;
+  distinct = λ c i. (may-each s P w m c i).distinct;
+  binary_back = w.binary_back;
+  binary_other = w.binary_other;
   is_true = w.is_true;
   stands = w.stands;
   head = l;
@@ -38,7 +53,7 @@ well-changed s P h w r m q l = record {
 
 -- only the queue's head is moved
 pub well-moved : (s : View) (h : ℕ) → WellFormed s → h ≤ length s.trail → WellFormed (record s { queue_head = h })
-well-moved s h w l = well-changed s s.clauses h w w.places (kept-may s w) w.reason_is l
+well-moved s h w l = well-changed s s.clauses h w w.places (λ c i. kept-may s w c (stored-kept s c i)) w.reason_is l
 
 -- The clauses may be kept in place of those of the view.
 pub record AreWellKept (s : View) (P : List StoredClause) : Type 0 where
@@ -59,4 +74,5 @@ well-with s P head w q h =
 
     stays : (k : ℕ) (r : Reason) → ((p : ℕ) → r ≡ reason.Long p → IsPlace s.clauses p → IsPlace P p × (literals_at P p ≡ clause_at s p)) → IsReason s k r → IsReason (record s { clauses = P; queue_head = head }) k r
     stays k reason.Unit n g = g
+    stays k (reason.Binary ms) n g = g
     stays k (reason.Long p) n (a, g) = let (b, e) = n p refl a in (b, subst (λ c. Implies (record s { clauses = P; queue_head = head }) c k) (sym e) (same-implies k (clause_at s p) g))

@@ -1,6 +1,6 @@
 -- What a search does to its view.
-use Rattle.std.specs.Prelude.{◌≡◌, ℕ, suc, ◌<◌, ◌≤◌, Bool, Option, Some, None, List, [], ◌∷◌, ◌++◌, length, slice_index_or, slice_set}
-use Rattle.varisat_theory.specs.Literals.{Literal, Clause, variable_of}
+use Rattle.std.specs.Prelude.{◌≡◌, suc, ◌<◌, ◌≤◌, Bool, Option, Some, None, List, [], ◌∷◌, ◌++◌, length, slice_index_or, slice_set}
+use Rattle.varisat_theory.specs.Literals.{Literal, Clause, variable_of, opposite}
 use Rattle.varisat_literals.specs.Numbers.{polarity_of}
 use Rattle.varisat_prop.specs.declared.prop.graph.Reason.{Reason}
 use Rattle.varisat_prop.specs.declared.prop.graph.Reason.TheVariants as reason
@@ -8,11 +8,14 @@ use Rattle.varisat_prop.specs.declared.prop.graph.ImplNode.{ImplNode}
 use Rattle.varisat_prop.specs.declared.prop.graph.Conflict.{Conflict}
 use Rattle.varisat_prop.specs.declared.prop.graph.Conflict.TheVariants as conflict
 use Rattle.varisat_prop.specs.Stored.{StoredClause, IsPlace, literals_at}
-use Rattle.varisat_prop.specs.View.{View}
+use Rattle.varisat_theory.specs.Membership.{◌∈◌}
+use Rattle.varisat_theory.specs.Propagation.{IsFalse}
+use Rattle.varisat_prop.specs.View.{View, implied_by}
 
 -- the clause that a reason names is one of the list, and is not empty
 abbrev pub NamesClause : List StoredClause → Reason → Type 0
 NamesClause ks reason.Unit = Unit {0}
+NamesClause ks (reason.Binary ms) = Unit {0}
 NamesClause ks (reason.Long p) = IsPlace ks p × (1 ≤ length (literals_at ks p))
 
 -- the clause without its first literal
@@ -23,10 +26,27 @@ others_of (l ∷ c) = c
 -- the literals that are false where the reason holds
 abbrev pub causes_of : List StoredClause → Reason → List Literal
 causes_of ks reason.Unit = []
+causes_of ks (reason.Binary ms) = ms
 causes_of ks (reason.Long p) = others_of (literals_at ks p)
 
-abbrev pub place_of : Conflict → ℕ
-place_of (conflict.Long p) = p
+-- The clause that is named: by its two literals, or by its place.
+abbrev pub named_in : List StoredClause → Conflict → Clause
+named_in ks (conflict.Binary ms) = ms
+named_in ks (conflict.Long p) = literals_at ks p
+
+-- a clause of the store is named by one of its places
+abbrev pub NamesPlace : List StoredClause → Conflict → Type 0
+NamesPlace ks (conflict.Binary ms) = Unit {0}
+NamesPlace ks (conflict.Long p) = IsPlace ks p
+
+-- a kept clause is named
+abbrev pub IsNamed : View → Conflict → Type 0
+IsNamed s (conflict.Binary ms) = (l m : Literal) × (ms ≡ m ∷ opposite l ∷ []) × (m ∈ implied_by s l)
+IsNamed s (conflict.Long p) = IsPlace s.clauses p
+
+-- a kept clause is named, and all its literals are false
+abbrev pub IsConflicting : View → Conflict → Type 0
+IsConflicting s f = IsNamed s f × IsFalse s.trail (named_in s.clauses f)
 
 -- the literal's variable is one of those that there are, and has no value
 abbrev pub IsAssignable : List (Option Bool) → List ImplNode → Literal → Type 0

@@ -1,11 +1,12 @@
 -- What a part ends as where some of it is lent.
-use Rattle.std.specs.Prelude.{ℕ, List, ◌++◌, length, take, drop}
+use Rattle.std.specs.Prelude.{ℕ, List, ◌++◌, length, take, drop, slice_set}
 use Rattle.std.specs.Borrow.{Lends, Fml, RattleType, MutBor, Array}
 use Rattle.std.specs.declared.vec.Vec.{Vec}
 use Rattle.std.specs.contracts.vec.Vec as vec
 use Rattle.std.specs.declared.alloc.Allocator.{Ghosts}
 use Rattle.varisat_theory.specs.Literals.{Literal, Clause}
 use Rattle.varisat_literals.specs.contracts.lit.Lit.{the_row as lit_row}
+use Rattle.varisat_prop.specs.contracts.binary.BinaryClauses.{the_row as binary_row}
 use Rattle.varisat_prop.specs.contracts.clause.alloc.ClauseAlloc.{the_row as alloc_row}
 use Rattle.varisat_prop.specs.contracts.prop.watch.Watch.{the_row as watch_row}
 use Rattle.varisat_prop.specs.contracts.prop.watch.Watchlists.{the_row as watchlists_row}
@@ -24,3 +25,7 @@ module _ (A : RattleType) (alloc : Ghosts A.Denot) (s : MutBor (List StoredClaus
 module _ (A : RattleType) (alloc : Ghosts A.Denot) (s : MutBor Watches) where
   abbrev pub lends_list : Literal → MutBor (Vec Watch A.Denot) → Fml
   lends_list x r = Lends (watchlists_row A alloc) (vec.the_row watch_row A alloc) s r (λ v. with_list s.now x v.items)
+
+module _ (A : RattleType) (alloc : Ghosts A.Denot) (s : MutBor (List (List Literal))) where
+  abbrev pub lends_implied : Literal → MutBor (Vec Literal A.Denot) → Fml
+  lends_implied x r = Lends (binary_row A alloc) (vec.the_row lit_row A alloc) s r (λ v. slice_set s.now x v.items)

@@ -1,5 +1,5 @@
 -- The plain view of a search: what its parts hold, as lists, and what is kept of it.
-use Rattle.std.specs.Prelude.{◌≡◌, ℕ, suc, ◌<◌, ◌≤◌, ◌^◌, Bool, true, false, ◌||◌, nat_eq, Option, List, [], ◌∷◌, ◌++◌, length, map, take, slice_index_or, ◌⊎◌}
+use Rattle.std.specs.Prelude.{◌≡◌, ◌≢◌, ℕ, suc, ◌<◌, ◌≤◌, Bool, true, false, ◌||◌, nat_eq, nat_lt, if◌then◌else◌, Option, List, [], ◌∷◌, ◌++◌, length, map, take, slice_index_or, ◌⊎◌}
 use Rattle.varisat_theory.specs.Membership.{◌∈◌, ◌⊆◌, SameSet, IsDistinct}
 use Rattle.varisat_theory.specs.Literals.{Literal, Clause, variable_of, opposite, IsUnit}
 use Rattle.varisat_theory.specs.Propagation.{IsComplete}
@@ -13,8 +13,10 @@ use Rattle.varisat_prop.specs.declared.prop.graph.ImplGraph.{ImplGraph}
 use Rattle.varisat_literals.specs.Numbers.{variable_limit}
 
 pub record View : Type 0 where
-  -- the kept clauses, in the order of adding
+  -- the kept clauses of three literals or more, in the order of adding
   pub clauses : List StoredClause
+  -- for each literal the ones that it implies by kept clauses of two literals
+  pub binary : List (List Literal)
   -- for each variable its value, if it has one
   pub values : List (Option Bool)
   -- the true literals, oldest first
@@ -27,16 +29,30 @@ pub record View : Type 0 where
   pub nodes : List ImplNode
 
 -- the view of these parts
-abbrev pub view_of : {A : Type 0} → List StoredClause → Values → TrailParts → ImplGraph A → View
-view_of clauses values trail graph = record { clauses = clauses; values = values.current; trail = trail.literals; queue_head = trail.queue_head; decisions = trail.decisions; nodes = graph.nodes.items }
+abbrev pub view_of : {A : Type 0} → List StoredClause → List (List Literal) → Values → TrailParts → ImplGraph A → View
+view_of clauses binary values trail graph = record { clauses = clauses; binary = binary; values = values.current; trail = trail.literals; queue_head = trail.queue_head; decisions = trail.decisions; nodes = graph.nodes.items }
 
 -- the literal is true
 abbrev pub IsTrueIn : View → Literal → Type 0
 IsTrueIn s l = IsMadeTrue s.values l
 
+-- of the clauses that say that x is true or one of the list is, those in which x comes first
+abbrev pub pairs_with : Literal → List Literal → List Clause
+pairs_with x [] = []
+pairs_with x (m ∷ ms) = if nat_lt x m then (x ∷ m ∷ []) ∷ pairs_with x ms else pairs_with x ms
+
+-- the clauses of two literals, each once, by the literals from l on that imply others
+abbrev pub pairs_from : Literal → List (List Literal) → List Clause
+pairs_from l [] = []
+pairs_from l (ms ∷ B) = pairs_with (opposite l) ms ++ pairs_from (suc l) B
+
 -- what is kept: the literals of each clause
 abbrev pub kept : View → List Clause
-kept s = literals_of s.clauses
+kept s = literals_of s.clauses ++ pairs_from 0 s.binary
+
+-- what the literal implies by the kept clauses of two literals
+abbrev pub implied_by : View → Literal → List Literal
+implied_by s l = slice_index_or s.binary l []
 
 -- the clause at the place, by which a reason or a conflict names it
 abbrev pub clause_at : View → ℕ → Clause
@@ -77,6 +93,7 @@ Implies s (l ∷ others) k = (l ≡ literal_at s k) × ((m : Literal) → m ∈ 
 -- Why the literal at place k may stand there. A reason Unit is a decision's, which is listed among the decisions, or that of a literal at level 0.
 abbrev pub IsReason : View → ℕ → Reason → Type 0
 IsReason s k reason.Unit = (k ∈ s.decisions) ⊎ ((node_at s k).level ≡ 0)
+IsReason s k (reason.Binary ms) = (m : Literal) × (ms ≡ m ∷ []) × (literal_at s k ∈ implied_by s (opposite m)) × StandsBefore s k (opposite m)
 IsReason s k (reason.Long p) = IsPlace s.clauses p × Implies s (clause_at s p) k
 
 -- What keeps the code safe: the lists fit one another.
@@ -90,6 +107,9 @@ pub record WellFormed (s : View) : Type 0 where
   pub in_range : (c : Clause) → c ∈ kept s → (l : Literal) → l ∈ c → variable_of l < length s.values
   pub several : (c : Clause) → c ∈ kept s → 2 ≤ length c
   pub distinct : (c : Clause) → c ∈ kept s → IsDistinct c
+  -- a kept clause of two literals is one by each of them, and they are different
+  pub binary_back : (l m : Literal) → m ∈ implied_by s l → opposite l ∈ implied_by s (opposite m)
+  pub binary_other : (l m : Literal) → m ∈ implied_by s l → m ≢ opposite l
   -- exactly the literals of the trail are true
   pub is_true : (k : ℕ) → k < length s.trail → IsTrueIn s (literal_at s k)
   pub stands : (l : Literal) → IsTrueIn s l → StandsBefore s (length s.trail) l
@@ -125,6 +145,7 @@ pub record ViewFits (held : List Clause) (s : View) : Type 0 where
 
 abbrev pub is_clause : Reason → Bool
 is_clause reason.Unit = false
+is_clause (reason.Binary ms) = true
 is_clause (reason.Long i) = true
 
 -- a literal is implied where a clause is its reason, or at level 0; else it was decided
@@ -138,6 +159,7 @@ kinds s = map (λ l. is_implied (node_of s l)) s.trail
 -- The search went on without taking anything back, and added no clause.
 pub record Grows (s t : View) : Type 0 where
   pub clauses : AreReordered s.clauses t.clauses
+  pub binary : t.binary ≡ s.binary
   pub count : length t.values ≡ length s.values
   pub trail_more : (more : List Literal) × (t.trail ≡ s.trail ++ more)
   pub head : s.queue_head ≤ t.queue_head

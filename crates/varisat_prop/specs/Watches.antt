@@ -1,9 +1,9 @@
 -- Which watches there are, and what they keep.
-use Rattle.std.specs.Prelude.{◌≡◌, ℕ, ◌<◌, ◌≤◌, ◌*◌, Bool, true, false, List, [], length, slice_index_or, slice_set, ◌⊎◌}
+use Rattle.std.specs.Prelude.{◌≡◌, ℕ, ◌<◌, ◌≤◌, ◌*◌, Bool, true, false, List, [], ◌∷◌, length, slice_index_or, slice_set}
 use Rattle.varisat_theory.specs.Membership.{◌∈◌, SameSet, IsDistinct}
 use Rattle.varisat_theory.specs.Literals.{Literal, Clause, opposite}
 use Rattle.varisat_prop.specs.Stored.{StoredClause, IsPlace, literals_at}
-use Rattle.varisat_prop.specs.View.{View, clause_at, literal_at, decision_at}
+use Rattle.varisat_prop.specs.View.{View, clause_at, implied_by, literal_at, decision_at}
 use Rattle.varisat_prop.specs.declared.prop.watch.Watch.{Watch}
 
 -- For each literal the watches to be looked at when it becomes true, and whether the lists are kept up to date.
@@ -47,12 +47,18 @@ IsCovered s c p = (k : ℕ) × (k < length s.trail) × (literal_at s k ∈ c) ×
 abbrev pub IsSettledTo : View → ℕ → Type 0
 IsSettledTo s q = (i j p : ℕ) → IsPlace s.clauses i → j < 2 → p < q → literal_at s p ≡ opposite (at (clause_at s i) j) → IsCovered s (clause_at s i) p
 
+-- What a literal before place q implies by a clause of two literals is true no later than at its level.
+abbrev pub IsImpliedTo : View → ℕ → Type 0
+IsImpliedTo s q = (m p : ℕ) → p < q → m ∈ implied_by s (literal_at s p) → IsCovered s (m ∷ []) p
+
 -- The lists, which are kept up to date, watch the clauses, and what stands before place q is settled; no decision stands behind it.
 pub record IsWatched (W : Watches) (s : View) (q : ℕ) : Type 0 where
   pub lists : length W.lists ≡ 2 * length s.values
   pub enabled : W.enabled ≡ true
   pub watching : IsWatching W s.clauses
   pub settled : IsSettledTo s q
+  pub binary : length s.binary ≡ 2 * length s.values
+  pub implied : IsImpliedTo s q
   pub within : q ≤ length s.trail
   pub queue : (j : ℕ) → j < length s.decisions → decision_at s j ≤ q
 
@@ -62,6 +68,8 @@ pub record IsPropagated (W : Watches) (s : View) : Type 0 where
   pub watching : W.enabled ≡ true → IsWatching W s.clauses
   pub empty : W.enabled ≡ false → (x : Literal) → list_of W x ≡ []
   pub settled : IsSettledTo s s.queue_head
+  pub binary : length s.binary ≡ 2 * length s.values
+  pub implied : IsImpliedTo s s.queue_head
   pub queue : (j : ℕ) → j < length s.decisions → decision_at s j ≤ s.queue_head
 
 -- The same literals in another order.

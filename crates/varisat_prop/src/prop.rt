@@ -1,6 +1,7 @@
 //! Assignments, and unit propagation.
 
 pub mod assignment;
+pub mod binary;
 pub mod enqueue;
 pub mod graph;
 pub mod long;

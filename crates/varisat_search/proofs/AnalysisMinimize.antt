@@ -9,17 +9,14 @@ use Rattle.varisat_theory.proofs.Places.{∈-get_or, place_in, place_in_take}
 use Rattle.varisat_theory.proofs.Values.{opposite_twice, ∈-opposites}
 use Rattle.varisat_theory.proofs.Implication.{implied_alone}
 use Rattle.varisat_theory.proofs.Learning.{follows_shorter}
-use Rattle.varisat_prop.specs.declared.prop.graph.Reason.TheVariants as reason
-use Rattle.varisat_prop.specs.Changes.{others_of}
-use Rattle.varisat_prop.proofs.AllocClauses.{kept-at}
-use Rattle.varisat_prop.specs.View.{View, clause_at, literal_at, level_of, StandsBefore, Implies, IsReason, WellFormed, ViewFits}
+use Rattle.varisat_prop.specs.View.{View, literal_at, node_at, level_of, WellFormed, ViewFits}
 use Rattle.varisat_prop.proofs.LiteralValues.{variable-opposite}
 use Rattle.varisat_prop.proofs.DistinctPlaces.{distinct-places}
 use Rattle.varisat_search.specs.Marks.{Marking, IsMarked, IsMarkOf, OfClause, OfCurrentLevel, MarksAreListed, Marks, IsMinimized, Minimizes}
 use Rattle.varisat_search.specs.Redundancy.{IsReasoned, ListsNew, IsRedundant, IsAsBefore}
 use Rattle.varisat_search.proofs.AnalysisMarks.{take-grow, take-last}
 use Rattle.varisat_search.proofs.AnalysisSearch.{reasoned-more}
-use Rattle.varisat_search.proofs.WellFormedViews.{level-opposite, true-same, fixed-implied}
+use Rattle.varisat_search.proofs.WellFormedViews.{reason-kept, reason-first, reason-split, level-opposite, true-same, fixed-implied}
 
 -- the literal is one of the clause from place i on
 abbrev pub IsLeft : Clause → ℕ → Literal → Type 0
@@ -167,15 +164,6 @@ minimizing-drop {s = s} {x = x} {y = y} {z = z} {k = k} {i = i} m same h e r a =
     l = r.list
 
 module _ (s : View) (w : WellFormed s) (held : List Clause) (fits : ViewFits held s) (kept : Clause) (f : List Bool) (given : (x : Literal) → x ∈ s.trail → IsMarked f (variable_of x) → (opposite x ∈ kept) ⊎ IsReasoned s f x) where
-  first-in : (k : ℕ) (x : Clause) → Implies s x k → literal_at s k ∈ x
-  first-in k [] q = absurd q
-  first-in k (y ∷ x) q = inl (sym q.0)
-
-  split : (k : ℕ) (x : Clause) → Implies s x k → (m : Literal) → m ∈ x → (m ≡ literal_at s k) ⊎ ((m ∈ others_of x) × StandsBefore s k (opposite m))
-  split k [] q m i = absurd i
-  split k (y ∷ x) q m (inl e) = inl (e ∙ q.0)
-  split k (y ∷ x) q m (inr i) = inr (i, q.1 m i)
-
   -- what is marked is implied by the opposites of what is kept
   marked-at : (n k : ℕ) → k < n → k < length s.trail → (level_of s (literal_at s k) ≡ 0) ⊎ IsMarked f (variable_of (literal_at s k)) → Implied held (opposites kept) (literal_at s k)
   marked-at zero k l h o = absurd (omega arith)
@@ -186,17 +174,19 @@ module _ (s : View) (w : WellFormed s) (held : List Clause) (fits : ViewFits hel
   marked-at (suc n) k l h (inr m) =
       ⊎_elim
       (λ i. Known (subst (λ y. y ∈ opposites kept) (opposite_twice (literal_at s k)) (∈-opposites (opposite (literal_at s k)) kept i)))
-      (λ (r, e, q).
-      let why : IsReason s k (reason.Long r) = subst (IsReason s k) e (w.reason_is k h) in
-      let (d, i, u) = fits.stored (clause_at s r) (kept-at s.clauses r why.0) in
-      ByReason d i (u.1 (literal_at s k) (first-in k (clause_at s r) why.1)) (λ y j o. ⊎_elim
+      (λ (e, q).
+      let r = (node_at s k).reason in
+      let why = w.reason_is k h in
+      let (x', y', same) = reason-kept s w k r e why in
+      let (d, i, u) = fits.stored x' y' in
+      ByReason d i (u.1 (literal_at s k) (same.1 (literal_at s k) (reason-first s w k r e why))) (λ y j o. ⊎_elim
       (λ z. absurd (o z))
       (λ (z, (p, a, b)).
       let v : variable_of (literal_at s p) ≡ variable_of y = ap variable_of b ∙ variable-opposite y in
       let x : level_of s (literal_at s p) ≡ level_of s y = ap (level_of s) b ∙ level-opposite s y in
       subst (λ c. Implied held (opposites kept) c) b (marked-at n p (omega (arith, a, l)) (omega (arith, a, h))
       (⊎_elim (λ c. inl (omega (arith, c, x))) (λ c. inr (subst (IsMarked f) (sym v) c)) (q y z))))
-      (split k (clause_at s r) why.1 y (u.0 y j))))
+      (reason-split s w k r y why (same.0 y (u.0 y j)))))
       (given (literal_at s k) (∈-get_or s.trail k 0 h) m)
 
   pub marked-implied : (m : Literal) → opposite m ∈ s.trail → IsMarked f (variable_of m) → Implied held (opposites kept) (opposite m)

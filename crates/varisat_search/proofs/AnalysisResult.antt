@@ -9,14 +9,15 @@ use Rattle.varisat_theory.proofs.Implication.{implied_false}
 use Rattle.varisat_theory.proofs.Members.{∈-or_not}
 use Rattle.varisat_theory.proofs.Places.{∈-get_or, place_in}
 use Rattle.varisat_theory.proofs.Values.{opposite_twice}
-use Rattle.varisat_prop.proofs.AllocClauses.{kept-at}
-use Rattle.varisat_prop.specs.View.{View, clause_at, literal_at, level_of, WellFormed, ViewFits}
+use Rattle.varisat_prop.specs.declared.prop.graph.Conflict.{Conflict}
+use Rattle.varisat_prop.specs.Changes.{IsConflicting}
+use Rattle.varisat_prop.specs.View.{View, literal_at, level_of, WellFormed, ViewFits}
 use Rattle.varisat_prop.specs.Watches.{IsRearranged}
 use Rattle.varisat_prop.proofs.LongRearranged.{swap-rearranged, swap-at}
 use Rattle.std.specs.List.{swap}
-use Rattle.varisat_search.specs.Learned.{current_level, IsConflict, IsLevelOf, IsAsserting, IsLearned, ListsInvolved}
+use Rattle.varisat_search.specs.Learned.{current_level, IsLevelOf, IsAsserting, IsLearned, ListsInvolved}
 use Rattle.varisat_search.specs.Marks.{Marking, MarksAreListed, IsLower, IsResolved, Minimizes, Teaches}
-use Rattle.varisat_search.proofs.WellFormedViews.{level-opposite, level-small, fixed-implied}
+use Rattle.varisat_search.proofs.WellFormedViews.{named-kept, level-opposite, level-small, fixed-implied}
 
 -- a literal of the highest level was put first
 pub record IsFronted (c d : Clause) (p : ℕ) : Type 0 where
@@ -53,7 +54,7 @@ highest-new s c best place h l a = record {
 }
 
 -- the clause is the first literal and what minimization left, in another order
-module _ {s : View} {cf : ℕ} {first : Literal} {x y : Marking} (w : WellFormed s) (a : IsResolved s cf first x) (b : Minimizes s x y) (c new : Clause) (same : SameSet c y.clause) (distinct : IsDistinct c) (e : new ≡ first ∷ c) where
+module _ {s : View} {cf : Conflict} {first : Literal} {x y : Marking} (w : WellFormed s) (a : IsResolved s cf first x) (b : Minimizes s x y) (c new : Clause) (same : SameSet c y.clause) (distinct : IsDistinct c) (e : new ≡ first ∷ c) where
   lower : (m : Literal) → m ∈ c → IsLower s m
   lower m i = a.marks.lower m (b.minimized.part m (same.0 m i))
 
@@ -85,7 +86,7 @@ module _ {s : View} {cf : ℕ} {first : Literal} {x y : Marking} (w : WellFormed
       first-level : level_of s first ≡ current_level s
       first-level = sym (level-opposite s first) ∙ ap (level_of s) (sym here) ∙ a.point.point.current.1
 
-  pub learned-teaches : (level : ℕ) (involved : List ℕ) → IsLevelOf s c level → involved ≡ y.involved → Teaches s cf new involved level
+  pub learned-teaches : (level : ℕ) (involved : List Conflict) → IsLevelOf s c level → involved ≡ y.involved → Teaches s cf new involved level
   learned-teaches level involved l i = record {
     follows = learned-follows;
     asserting = learned-asserting level l;
@@ -93,10 +94,12 @@ module _ {s : View} {cf : ℕ} {first : Literal} {x y : Marking} (w : WellFormed
   }
 
 -- a conflict at level 0
-pub learned-at-zero : (s : View) (w : WellFormed s) (cf : ℕ) (c : Clause) (level : ℕ) → IsConflict s cf → current_level s ≡ 0 → c ≡ [] → level ≡ 0 → IsLearned s cf c level
+pub learned-at-zero : (s : View) (w : WellFormed s) (cf : Conflict) (c : Clause) (level : ℕ) → IsConflicting s cf → current_level s ≡ 0 → c ≡ [] → level ≡ 0 → IsLearned s cf c level
 learned-at-zero s w cf c level h z e l = subst (λ x. IsLearned s cf x level) (sym e) record {
-  follows = λ held k. let (d, i, o) = k.stored (clause_at s cf) (kept-at s.clauses cf h.0) in
-      implied_false held [] d i (λ m j. let g = h.1 m (o.0 m j) in fixed-implied s w held k m g (let x = level-small s w m g in omega (arith, x, z)));
+  follows = λ held k.
+      let (x, y, same) = named-kept s w cf h.0 in
+      let (d, i, o) = k.stored x y in
+      implied_false held [] d i (λ m j. let g = h.1 m (same.0 m (o.0 m j)) in fixed-implied s w held k m g (let x = level-small s w m g in omega (arith, x, z)));
   at_zero = λ _. (refl, l);
   above = λ d. absurd (omega (arith, d, z));
 }

@@ -9,9 +9,9 @@ use Rattle.varisat_theory.proofs.Places.{∈-take_more}
 use Rattle.varisat_prop.specs.declared.prop.graph.Reason.{Reason}
 use Rattle.varisat_prop.specs.declared.prop.graph.Reason.TheVariants as reason
 use Rattle.varisat_prop.specs.declared.prop.graph.ImplNode.{ImplNode}
-use Rattle.varisat_prop.specs.Changes.{NamesClause, others_of, causes_of}
+use Rattle.varisat_prop.specs.Changes.{NamesClause, causes_of}
 use Rattle.varisat_prop.specs.Stored.{StoredClause}
-use Rattle.varisat_prop.specs.View.{View, clause_at, node_of, no_node, level_of, WellFormed}
+use Rattle.varisat_prop.specs.View.{View, node_of, no_node, level_of, is_clause, WellFormed}
 use Rattle.varisat_prop.proofs.LiteralValues.{variable-opposite}
 use Rattle.varisat_prop.proofs.ViewGrowth.{append-nil}
 use Rattle.varisat_search.specs.Marks.{Marking, IsMarked}
@@ -92,8 +92,8 @@ node-opposite s m = ap (λ v. get_or s.nodes v no_node) (variable-opposite m)
 abbrev pub explored : Marking → Literal → Marking
 explored x m = record x { flags = set x.flags (variable_of m) true; to_clean = x.to_clean ++ variable_of m ∷ []; stack = x.stack ++ opposite m ∷ [] }
 
-pub explores-one : (s : View) (m : Literal) (r : ℕ) (x : Marking) → opposite m ∈ s.trail → (node_of s m).reason ≡ reason.Long r → variable_of m < length x.flags → get_or x.flags (variable_of m) false ≡ false → Explores s (m ∷ []) true x (explored x m)
-explores-one s m r x o e h n = record {
+pub explores-one : (s : View) (m : Literal) (x : Marking) → opposite m ∈ s.trail → is_clause (node_of s m).reason ≡ true → variable_of m < length x.flags → get_or x.flags (variable_of m) false ≡ false → Explores s (m ∷ []) true x (explored x m)
+explores-one s m x o e h n = record {
   list = listed-one x (variable_of m) (x.stack ++ opposite m ∷ []) h n;
   new = λ v k. ⊎_elim inl (λ q. inr (opposite m, ∈-append_right (opposite m) x.stack (opposite m ∷ []) (inl refl), implied, variable-opposite m ∙ sym q)) (marked-new x.flags (variable_of m) v k);
   stacked = λ l i. ∈-append_left l x.stack (opposite m ∷ []) i;
@@ -103,7 +103,7 @@ explores-one s m r x o e h n = record {
 }
   where
     implied : IsImplied s (opposite m)
-    implied = (o, (r, ap (λ q. q.reason) (node-opposite s m) ∙ e))
+    implied = (o, ap (λ q. is_clause q.reason) (node-opposite s m) ∙ e)
 
 pub explores-more : (s : View) (lits : List Literal) (k : ℕ) (m : Literal) (x y z : Marking) → k < length lits → m ≡ get_or lits k 0 → length y.flags ≡ length x.flags → Explores s (take k lits) true x y → Explores s (m ∷ []) true y z → Explores s (take (k + 1) lits) true x z
 explores-more s lits k m x y z l e n a b = record {
@@ -142,10 +142,10 @@ search-begin {s = s} {l = l} x r stack h p n q = record {
 }
   where
     implied : IsImplied s (opposite l)
-    implied = let (a, is) = has-clause r n in (h, (a, ap (λ y. y.reason) (node-opposite s l) ∙ sym p ∙ is))
+    implied = (h, ap (λ y. is_clause y.reason) (node-opposite s l) ∙ ap is_clause (sym p) ∙ has-clause r n)
 
 pub reasoned-more : (s : View) (f g : List Bool) (x : Literal) → ((v : ℕ) → IsMarked f v → IsMarked g v) → IsReasoned s f x → IsReasoned s g x
-reasoned-more s f g x h (r, e, k) = (r, e, λ m i. ⊎_elim inl (λ o. inr (h (variable_of m) o)) (k m i))
+reasoned-more s f g x h (e, k) = (e, λ m i. ⊎_elim inl (λ o. inr (h (variable_of m) o)) (k m i))
 
 -- the search takes literal i off the stack
 module _ {s : View} {l : Literal} {x y : Marking} (w : WellFormed s) (a : Search s l x y) (i : Literal) (left : List Literal) (e : y.stack ≡ left ++ i ∷ []) where
@@ -155,8 +155,8 @@ module _ {s : View} {l : Literal} {x y : Marking} (w : WellFormed s) (a : Search
   stays : (m : Literal) → m ∈ y.stack → (m ∈ left) ⊎ (m ≡ i)
   stays m o = ⊎_elim inl (λ j. ⊎_elim inr (λ z. absurd z) j) (∈-append_cases m left (i ∷ []) (subst (λ z. m ∈ z) e o))
 
-  search-step : (r : ℕ) (z : Marking) → (node_of s i).reason ≡ reason.Long r → length y.flags ≡ length x.flags → Explores s (others_of (clause_at s r)) true (record y { stack = left }) z → Search s l x z
-  search-step r z q n b = record {
+  search-step : (z : Marking) → length y.flags ≡ length x.flags → Explores s (causes_of s.clauses (node_of s i).reason) true (record y { stack = left }) z → Search s l x z
+  search-step z n b = record {
     list = listed-trans x y z n a.list list-since;
     implied = λ m o. ⊎_elim (λ j. a.implied m (subst (λ p. m ∈ p) (sym e) (∈-append_left m left (i ∷ []) j))) (λ j. j) (b.grown m o);
     reasoned = λ m o k. ⊎_elim
@@ -170,7 +170,7 @@ module _ {s : View} {l : Literal} {x y : Marking} (w : WellFormed s) (a : Search
       list-since = listed-from y z left b.list
 
       now : IsReasoned s z.flags i
-      now = (r, q, b.all refl)
+      now = (implied-here.1, b.all refl)
 
       on-stack : (m : Literal) → m ∈ y.stack → (m ∈ z.stack) ⊎ IsReasoned s z.flags m
       on-stack m o = ⊎_elim (λ j. inl (b.stacked m j)) (λ j. inr (subst (IsReasoned s z.flags) (sym j) now)) (stays m o)
@@ -195,9 +195,7 @@ module _ {s : View} {l : Literal} {x y : Marking} (w : WellFormed s) (a : Search
 
   pub search-next : (P : List StoredClause) (r : Reason) (lits : List Literal) (z : Marking) → P ≡ s.clauses → r ≡ (node_of s i).reason → lits ≡ causes_of P r → length y.flags ≡ length x.flags → Explores s lits true (record y { stack = left }) z → Search s l x z
   search-next P r lits z p q h n b =
-      let (k, is) = implied-here.1 in
-      let lits-are : lits ≡ others_of (clause_at s k) = causes-are P r lits p q h ∙ ap (λ y. causes_of s.clauses y) is in
-      search-step k z is n (subst (λ c. Explores s c true (record y { stack = left }) z) lits-are b)
+      search-step z n (subst (λ c. Explores s c true (record y { stack = left }) z) (causes-are P r lits p q h) b)
 
   -- the search is given up
   pub search-listed : {lits : List Literal} {b : Bool} {z : Marking} → length y.flags ≡ length x.flags → Explores s lits b (record y { stack = left }) z → ListsNew x z
@@ -275,9 +273,8 @@ module _ {s : View} {x y : Marking} {lits : List Literal} {k m : ℕ} (p : IsAt 
 
   pub explored-one : (v : ℕ) (r : Reason) → v ≡ variable_of m → r ≡ (node_of s m).reason → (r ≡ reason.Unit → ⊥) → get_or y.flags (variable_of m) false ≡ false → (to_clean : List ℕ) (stack : List Literal) (u t : ℕ) → to_clean ≡ y.to_clean ++ u ∷ [] → u ≡ variable_of m → stack ≡ y.stack ++ t ∷ [] → t ≡ opposite m → Explores s (take (k + 1) lits) true x (record y { flags = set y.flags v true; to_clean = to_clean; stack = stack })
   explored-one v r o q c f to_clean stack u t ce ue se te =
-      let (d, is) = has-clause r c in
       explores-more s lits k m x y (record y { flags = set y.flags v true; to_clean = to_clean; stack = stack }) p.below p.element_is n a
-      (subst (λ j. Explores s (m ∷ []) true y j) (sym same) (explores-one s m d y p.false_now (sym q ∙ is) p.inside f))
+      (subst (λ j. Explores s (m ∷ []) true y j) (sym same) (explores-one s m y p.false_now (ap is_clause (sym q) ∙ has-clause r c) p.inside f))
     where
       same : record y { flags = set y.flags v true; to_clean = to_clean; stack = stack } ≡ explored y m
       same =

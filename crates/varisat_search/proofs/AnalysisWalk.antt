@@ -10,16 +10,17 @@ use Rattle.varisat_theory.proofs.Values.{opposite_twice}
 use Rattle.varisat_theory.proofs.Learning.{Pending, IsPassed, pending_start, pending_skip, pending_resolve, pending_end}
 use Rattle.varisat_prop.specs.declared.prop.graph.Reason.{Reason}
 use Rattle.varisat_prop.specs.declared.prop.graph.Reason.TheVariants as reason
-use Rattle.varisat_prop.specs.Changes.{others_of, causes_of}
+use Rattle.varisat_prop.specs.declared.prop.graph.Conflict.{Conflict}
+use Rattle.varisat_prop.specs.declared.prop.graph.Conflict.TheVariants as conflict
+use Rattle.varisat_prop.specs.Changes.{others_of, causes_of, named_in, IsNamed, IsConflicting}
 use Rattle.varisat_prop.proofs.ReadElements.{element}
-use Rattle.varisat_prop.proofs.AllocClauses.{kept-at}
-use Rattle.varisat_prop.specs.View.{View, kept, clause_at, literal_at, decision_at, node_of, node_at, level_of, StandsBefore, Implies, IsReason, WellFormed, ViewFits}
+use Rattle.varisat_prop.specs.View.{View, clause_at, literal_at, decision_at, node_of, node_at, level_of, is_clause, StandsBefore, Implies, IsReason, WellFormed, ViewFits}
 use Rattle.varisat_prop.proofs.LiteralValues.{variable-opposite}
-use Rattle.varisat_search.specs.Learned.{current_level, IsOfCurrentLevel, IsStored, IsConflict, clause_of, reason_clause, IsReachedDownTo, IsImplicationPoint, IsFirstPoint, IsInvolved, IsOfConflict, IsReasonOf}
-use Rattle.varisat_search.specs.Marks.{Marking, IsDeepConflict, IsClean, IsMarked, IsMarkOf, OfClause, OfCurrentLevel, Marks, is_open, open_below, one_if, AreFalseBefore, Adds, places_of, AddsReason, IsResolved}
+use Rattle.varisat_search.specs.Learned.{current_level, IsOfCurrentLevel, clause_of, names_of, reason_clause, IsReachedDownTo, IsImplicationPoint, IsFirstPoint, IsInvolved, IsOfConflict, IsReasonOf}
+use Rattle.varisat_search.specs.Marks.{Marking, IsDeepConflict, IsClean, IsMarked, IsMarkOf, OfClause, OfCurrentLevel, Marks, is_open, open_below, one_if, AreFalseBefore, Adds, AddsReason, IsResolved}
 use Rattle.varisat_search.proofs.LoadCopies.{distinct-push}
 use Rattle.varisat_search.proofs.AnalysisMarks.{mark-of}
-use Rattle.varisat_search.proofs.WellFormedViews.{inside-at, level-opposite, level-same, same-place, place-of, stands-∈, no-clash, true-same, false-same, level-small, causes-before, has-late, fixed-implied, last-in}
+use Rattle.varisat_search.proofs.WellFormedViews.{named-kept, reason-kept, reason-first, reason-named, inside-at, level-opposite, level-same, same-place, place-of, stands-∈, no-clash, true-same, false-same, level-small, causes-before, has-late, fixed-implied, last-in}
 use Rattle.varisat_prop.proofs.TrailValues.{trail-short}
 use Rattle.varisat_search.proofs.AnalysisOpen.{count-small, open-is, open-level, open-marked, closed-unmarked, open-same, count-same, count-none, count-some}
 
@@ -27,45 +28,45 @@ use Rattle.varisat_search.proofs.AnalysisOpen.{count-small, open-is, open-level,
 abbrev pub Seen : View → List Bool → Literal → Type 0
 Seen s f x = IsMarked f (variable_of x) × (level_of s x ≡ current_level s)
 
--- The clause at place p was resolved on the way from the trail's end down to place i.
-pub data WasResolved (s : View) (cf i p : ℕ) : Type 0 where
+-- The clause with the name was resolved on the way from the trail's end down to place i.
+pub data WasResolved (s : View) (cf : Conflict) (i : ℕ) (p : Conflict) : Type 0 where
   AtConflict : p ≡ cf → WasResolved s cf i p
-  AtPlace : (j : ℕ) → i ≤ j → IsOfCurrentLevel s j → IsReachedDownTo s cf j (literal_at s j) → (node_at s j).reason ≡ reason.Long p → WasResolved s cf i p
+  AtPlace : (j : ℕ) → i ≤ j → IsOfCurrentLevel s j → IsReachedDownTo s cf j (literal_at s j) → p ∈ names_of (literal_at s j) (node_at s j).reason → WasResolved s cf i p
 
--- The places are those of the clauses that were resolved, each once.
-pub record ListsResolved (s : View) (cf i : ℕ) (involved : List ℕ) : Type 0 where
-  pub only : (p : ℕ) → p ∈ involved → WasResolved s cf i p
-  pub all : (p : ℕ) → WasResolved s cf i p → p ∈ involved
+-- The names are those of the clauses that were resolved, each once.
+pub record ListsResolved (s : View) (cf : Conflict) (i : ℕ) (involved : List Conflict) : Type 0 where
+  pub only : (p : Conflict) → p ∈ involved → WasResolved s cf i p
+  pub all : (p : Conflict) → WasResolved s cf i p → p ∈ involved
   pub distinct : IsDistinct involved
 
 -- The places from i on were walked over; `count` places before i are of the current level and marked.
-pub record Walk (s : View) (cf : ℕ) (mark : Marking) (count i : ℕ) : Type 0 where
+pub record Walk (s : View) (cf : Conflict) (mark : Marking) (count i : ℕ) : Type 0 where
   pub within : i ≤ length s.trail
   pub marks : Marks s i mark
   pub count_is : count ≡ open_below s mark.flags i
   pub some : 0 < count
-  pub conflict : IsConflict s cf
+  pub conflict : IsConflicting s cf
   -- what is marked is reached, over whatever reasons stand behind i
   pub sound : (p k : ℕ) → p < i → k < i → IsOfCurrentLevel s k → IsMarked mark.flags (variable_of (literal_at s k)) → IsReachedDownTo s cf p (literal_at s k)
   -- what the false clause or the reason of a reached literal behind i makes false is marked
-  pub start : (k : ℕ) → k < i → IsOfCurrentLevel s k → opposite (literal_at s k) ∈ clause_at s cf → IsMarked mark.flags (variable_of (literal_at s k))
+  pub start : (k : ℕ) → k < i → IsOfCurrentLevel s k → opposite (literal_at s k) ∈ named_in s.clauses cf → IsMarked mark.flags (variable_of (literal_at s k))
   pub passed : (j k : ℕ) → i ≤ j → IsOfCurrentLevel s j → IsReachedDownTo s cf j (literal_at s j) → k < i → IsOfCurrentLevel s k → opposite (literal_at s k) ∈ reason_clause s (literal_at s j) → IsMarked mark.flags (variable_of (literal_at s k))
   pub none_later : (q : ℕ) → i ≤ q → IsImplicationPoint s cf q → ⊥
   pub pending : (held : List Clause) → ViewFits held s → Pending held mark.clause s.trail (Seen s mark.flags) i
   pub involved : ListsResolved s cf i mark.involved
 
 -- what is reached from further down is reached from further up too
-pub reached-down : (s : View) (cf p q : ℕ) (x : Literal) → q ≤ p → IsReachedDownTo s cf p x → IsReachedDownTo s cf q x
+pub reached-down : (s : View) (cf : Conflict) (p q : ℕ) (x : Literal) → q ≤ p → IsReachedDownTo s cf p x → IsReachedDownTo s cf q x
 reached-down s cf p q x l (AtStart h) = AtStart h
 reached-down s cf p q x l (InReason y r (j, a, b, e) o n) = InReason y (reached-down s cf p q y l r) (j, omega (arith, a, l), b, e) o n
 
 -- what was resolved is so further down
-resolved-down : (s : View) (cf j p : ℕ) → WasResolved s cf (suc j) p → WasResolved s cf j p
+resolved-down : (s : View) (cf : Conflict) (j : ℕ) (p : Conflict) → WasResolved s cf (suc j) p → WasResolved s cf j p
 resolved-down s cf j p (AtConflict e) = AtConflict e
 resolved-down s cf j p (AtPlace k l o r e) = AtPlace k (omega (arith, l)) o r e
 
 -- the marks say nothing of what was resolved
-marks-with : (s : View) (i : ℕ) (mark : Marking) (involved : List ℕ) → Marks s i mark → Marks s i (record mark { involved = involved })
+marks-with : (s : View) (i : ℕ) (mark : Marking) (involved : List Conflict) → Marks s i mark → Marks s i (record mark { involved = involved })
 marks-with s i mark involved k = record {
   lower = k.lower;
   marked = k.marked;
@@ -74,19 +75,43 @@ marks-with s i mark involved k = record {
   known = λ v m. mark-of s i mark (record mark { involved = involved }) v (λ y j. j) (λ j. j) (k.known v m);
 }
 
--- a clause is the reason of one place
-first-same : (s : View) (j k : ℕ) (c : Clause) → Implies s c j → Implies s c k → literal_at s j ≡ literal_at s k
-first-same s j k [] a b = absurd a
-first-same s j k (x ∷ c) a b = sym a.0 ∙ b.0
+-- the first literal of a clause, if it has one
+abbrev first_of : Clause → List Literal
+first_of [] = []
+first_of (x ∷ c) = x ∷ []
 
-long-same : (a b : ℕ) → reason.Long a ≡ reason.Long b → a ≡ b
-long-same a b e = cc
+-- a reason's clause has the literal first
+first-is : (s : View) (j : ℕ) (r : Reason) → is_clause r ≡ true → IsReason s j r → first_of (clause_of s (literal_at s j) r) ≡ literal_at s j ∷ []
+first-is s j reason.Unit c h = absurd cc
+first-is s j (reason.Binary ms) c h = refl
+first-is s j (reason.Long p) c h = by (clause_at s p) h.1
+  where
+    by : (d : Clause) → Implies s d j → first_of d ≡ literal_at s j ∷ []
+    by [] g = absurd g
+    by (x ∷ d) g = ap (λ y. y ∷ []) g.0
 
--- the clause at a place that names one is among the kept ones
-stored-∈ : (s : View) (i : ℕ) → IsStored s i → clause_at s i ∈ kept s
-stored-∈ s i h = kept-at s.clauses i h
+one-same : (x y : Literal) → x ∷ [] ≡ y ∷ [] → x ≡ y
+one-same x y e = cc
 
-module _ (s : View) (w : WellFormed s) (cf : ℕ) where
+-- a reason that has a name is a clause
+named-clause : (l : Literal) (r : Reason) (g : Conflict) → g ∈ names_of l r → is_clause r ≡ true
+named-clause l reason.Unit g i = absurd i
+named-clause l (reason.Binary ms) g i = refl
+named-clause l (reason.Long p) g i = refl
+
+-- a clause has one name
+clause-named : (l : Literal) (r : Reason) → is_clause r ≡ true → (g : Conflict) × (names_of l r ≡ g ∷ [])
+clause-named l reason.Unit c = absurd cc
+clause-named l (reason.Binary ms) c = (conflict.Binary (l ∷ ms), refl)
+clause-named l (reason.Long p) c = (conflict.Long p, refl)
+
+-- the others of a reason's clause are its causes
+causes-are : (s : View) (l : Literal) (r : Reason) → causes_of s.clauses r ≡ others_of (clause_of s l r)
+causes-are s l reason.Unit = refl
+causes-are s l (reason.Binary ms) = refl
+causes-are s l (reason.Long p) = refl
+
+module _ (s : View) (w : WellFormed s) (cf : Conflict) where
   -- a literal is reached over reasons of later literals alone
   pub reached-sharp : (p k : ℕ) (x : Literal) → IsReachedDownTo s cf p x → k < length s.trail → literal_at s k ≡ x → p ≤ k → IsReachedDownTo s cf k x
   reached-sharp p k x (AtStart h) l e b = AtStart h
@@ -99,7 +124,7 @@ module _ (s : View) (w : WellFormed s) (cf : ℕ) where
       InReason y (reached-down s cf j k y (omega (arith, kj)) (reached-sharp p j y r pr.0 e' (omega (arith, a)))) (j, kj, pr, e') o n
 
   pub reached-marked : (mark : Marking) (count i : ℕ) → Walk s cf mark count i → (p k : ℕ) (x : Literal) → i ≤ p + 1 → IsReachedDownTo s cf p x → literal_at s k ≡ x → k < i → IsOfCurrentLevel s k → IsMarked mark.flags (variable_of (literal_at s k))
-  reached-marked mark count i u p k x l (AtStart h) e a b = u.start k a b (subst (λ z. opposite z ∈ clause_at s cf) (sym e) h)
+  reached-marked mark count i u p k x l (AtStart h) e a b = u.start k a b (subst (λ z. opposite z ∈ named_in s.clauses cf) (sym e) h)
   reached-marked mark count i u p k x l (InReason y r (j, d, pr, e') o n) e a b =
       let r' : IsReachedDownTo s cf j (literal_at s j) = subst (IsReachedDownTo s cf j) (sym e') (reached-sharp p j y r pr.0 e' (omega (arith, d))) in
       u.passed j k (omega (arith, l, d)) pr r' a b (subst (λ z. opposite (literal_at s k) ∈ reason_clause s z) (sym e') (subst (λ z. opposite z ∈ reason_clause s y) (sym e) o))
@@ -161,7 +186,7 @@ module _ (s : View) (w : WellFormed s) (cf : ℕ) where
       (λ (z : level_of s m ≤ 0). inr (inr (fixed-implied s w held h m ft (omega (arith, z)))))
       (cases_lt 0 (level_of s m))
 
-  pub walk-start : (n : ℕ) (mark begun next : Marking) → IsDeepConflict s cf → IsClean mark → begun ≡ record mark { involved = cf ∷ [] } → Adds s (clause_at s cf) n begun next → Walk s cf next n (length s.trail)
+  pub walk-start : (n : ℕ) (mark begun next : Marking) → IsDeepConflict s cf → IsClean mark → begun ≡ record mark { involved = cf ∷ [] } → Adds s (named_in s.clauses cf) n begun next → Walk s cf next n (length s.trail)
   walk-start n mark begun next dc clean eb ab = record {
     within = omega arith;
     marks = marks-now;
@@ -172,8 +197,10 @@ module _ (s : View) (w : WellFormed s) (cf : ℕ) where
     start = λ k i o r. subst (IsMarked next.flags) (variable-opposite (literal_at s k)) (a.all (opposite (literal_at s k)) r (let g = level-opposite s (literal_at s k) in let z = o.1 in omega (arith, g, z, d)));
     passed = λ j k i o r. let z = o.0 in absurd (omega (arith, z, i));
     none_later = λ j i r. let z = r.current.0 in absurd (omega (arith, z, i));
-    pending = λ held k. let (x, i, o) = k.stored (clause_at s cf) (stored-∈ s cf h.0) in
-        pending_start held next.clause s.trail (Seen s next.flags) (length s.trail) x i (λ m r. passed-literal next (length s.trail) m held (omega arith) marks-now k (a.all m (o.0 m r)) (before m (o.0 m r)));
+    pending = λ held k.
+        let (y, z, same) = named-kept s w cf h.0 in
+        let (x, i, o) = k.stored y z in
+        pending_start held next.clause s.trail (Seen s next.flags) (length s.trail) x i (λ m r. let q = same.0 m (o.0 m r) in passed-literal next (length s.trail) m held (omega arith) marks-now k (a.all m q) (before m q));
     involved = record {
       only = λ p i. ⊎_elim (λ e. AtConflict e) (λ z. absurd z) (subst (λ x. p ∈ x) a.involved i);
       all = λ p i. subst (λ x. p ∈ x) (sym a.involved) (inl (alone p i));
@@ -184,17 +211,17 @@ module _ (s : View) (w : WellFormed s) (cf : ℕ) where
       d : 0 < current_level s
       d = dc.deep
 
-      h : IsConflict s cf
+      h : IsConflicting s cf
       h = dc.conflict
 
-      a : Adds s (clause_at s cf) n (record mark { involved = cf ∷ [] }) next
-      a = subst (λ x. Adds s (clause_at s cf) n x next) eb ab
+      a : Adds s (named_in s.clauses cf) n (record mark { involved = cf ∷ [] }) next
+      a = subst (λ x. Adds s (named_in s.clauses cf) n x next) eb ab
 
-      alone : (p : ℕ) → WasResolved s cf (length s.trail) p → p ≡ cf
+      alone : (p : Conflict) → WasResolved s cf (length s.trail) p → p ≡ cf
       alone p (AtConflict e) = e
       alone p (AtPlace j l o r e) = let z = o.0 in absurd (omega (arith, z, l))
 
-      before : AreFalseBefore s (length s.trail) (clause_at s cf)
+      before : AreFalseBefore s (length s.trail) (named_in s.clauses cf)
       before m i = place-of s w (opposite m) (h.1 m i)
 
       none : (v : ℕ) → IsMarked mark.flags v → ⊥
@@ -235,12 +262,12 @@ module _ (s : View) (w : WellFormed s) (cf : ℕ) where
           (λ (z : n ≤ 0). absurd (count-none s next.flags (length s.trail) k (omega (arith, z, count-now)) p (open-is s next.flags k (p, lv) mk)))
           (cases_lt 0 n)
 
-      found : (k : ℕ) → IsOfCurrentLevel s k → IsMarked next.flags (variable_of (literal_at s k)) → opposite (literal_at s k) ∈ clause_at s cf
+      found : (k : ℕ) → IsOfCurrentLevel s k → IsMarked next.flags (variable_of (literal_at s k)) → opposite (literal_at s k) ∈ named_in s.clauses cf
       found k o r = ⊎_elim
           (λ z. absurd (none (variable_of (literal_at s k)) z))
           (λ (m, i, z).
           let x : opposite m ≡ literal_at s k = true-same s w (opposite m) (literal_at s k) (h.1 m i) (∈-get_or s.trail k 0 o.0) (variable-opposite m ∙ z) in
-          subst (λ y. y ∈ clause_at s cf) (sym (opposite_twice m) ∙ ap opposite x) i)
+          subst (λ y. y ∈ named_in s.clauses cf) (sym (opposite_twice m) ∙ ap opposite x) i)
           (a.only (variable_of (literal_at s k)) r)
 
   pub walk-skip : (mark : Marking) (count j : ℕ) → get_or mark.flags (variable_of (literal_at s j)) false ≡ false → Walk s cf mark count (suc j) → Walk s cf mark count j
@@ -287,7 +314,7 @@ module _ (s : View) (w : WellFormed s) (cf : ℕ) where
       unreached : (q : ℕ) → q ≡ j → IsOfCurrentLevel s q → IsReachedDownTo s cf q (literal_at s q) → ⊥
       unreached q e pr r = not-marked (reached-marked mark count (suc j) u j j (literal_at s j) (omega arith) (subst (λ x. IsReachedDownTo s cf x (literal_at s x)) e r) refl (omega arith) (subst (IsOfCurrentLevel s) e pr))
 
-      later : (p : ℕ) → WasResolved s cf j p → WasResolved s cf (suc j) p
+      later : (p : Conflict) → WasResolved s cf j p → WasResolved s cf (suc j) p
       later p (AtConflict e) = AtConflict e
       later p (AtPlace k a pr r e) = ⊎_elim (λ (z : j < k). AtPlace k (omega (arith, z)) pr r e) (λ (z : k ≤ j). absurd (unreached k (omega (arith, a, z)) pr r)) (cases_lt j k)
 
@@ -379,7 +406,7 @@ module _ (s : View) (w : WellFormed s) (cf : ℕ) where
           only = λ p i. involved-is p (u.involved.only p i);
           all = λ p i. u.involved.all p (resolved-is p i);
           distinct = u.involved.distinct;
-          stored = λ p i. stored-is p (u.involved.only p i);
+          named = λ p i. named-is p (u.involved.only p i);
         };
       }
         where
@@ -387,17 +414,17 @@ module _ (s : View) (w : WellFormed s) (cf : ℕ) where
           of-clause v i (OfClause m a b e) = OfClause m a b e
           of-clause v i (OfCurrentLevel k a b e) = absurd (none-below k a b (subst (IsMarked mark.flags) (sym e) (was v i).0))
 
-          involved-is : (p : ℕ) → WasResolved s cf (suc j) p → IsInvolved s cf j p
+          involved-is : (p : Conflict) → WasResolved s cf (suc j) p → IsInvolved s cf j p
           involved-is p (AtConflict e) = IsOfConflict e
           involved-is p (AtPlace k a pr r e) = IsReasonOf k (omega (arith, a)) pr (reached-down s cf k j (literal_at s k) (omega (arith, a)) r) e
 
-          resolved-is : (p : ℕ) → IsInvolved s cf j p → WasResolved s cf (suc j) p
+          resolved-is : (p : Conflict) → IsInvolved s cf j p → WasResolved s cf (suc j) p
           resolved-is p (IsOfConflict e) = AtConflict e
           resolved-is p (IsReasonOf k a pr r e) = AtPlace k (omega (arith, a)) pr (reached-sharp j k (literal_at s k) r pr.0 refl (omega (arith, a))) e
 
-          stored-is : (p : ℕ) → WasResolved s cf (suc j) p → IsStored s p
-          stored-is p (AtConflict e) = subst (IsStored s) (sym e) u.conflict.0
-          stored-is p (AtPlace k a pr r e) = (subst (IsReason s k) e (w.reason_is k pr.0)).0
+          named-is : (p : Conflict) → WasResolved s cf (suc j) p → IsNamed s p
+          named-is p (AtConflict e) = subst (IsNamed s) (sym e) u.conflict.0
+          named-is p (AtPlace k a pr r e) = (reason-named s w k (node_at s k).reason p (w.reason_is k pr.0) e).0
 
     -- it was not the last one
     module _ (more : 0 < open_below s mark.flags j) where
@@ -407,31 +434,59 @@ module _ (s : View) (w : WellFormed s) (cf : ℕ) where
       pub not-decided : (node_at s j).reason ≡ reason.Unit → ⊥
       not-decided e = let (k, a, b, m) = some-below in not-unit k j d b a current-here e
 
-      module _ (r : ℕ) (is : (node_at s j).reason ≡ reason.Long r) where
-        abbrev lits : List Literal
-        lits = others_of (clause_at s r)
+      module _ (r : Reason) (is : (node_at s j).reason ≡ r) (c : is_clause r ≡ true) where
+        abbrev clause : Clause
+        clause = clause_of s (literal_at s j) r
 
-        why : IsReason s j (reason.Long r)
+        abbrev lits : List Literal
+        lits = causes_of s.clauses r
+
+        abbrev names : List Conflict
+        names = names_of (literal_at s j) r
+
+        why : IsReason s j r
         why = subst (IsReason s j) is (w.reason_is j at)
 
-        clause-is : reason_clause s (literal_at s j) ≡ clause_at s r
-        clause-is = ap (clause_of s) is
+        clause-is : reason_clause s (literal_at s j) ≡ clause
+        clause-is = ap (clause_of s (literal_at s j)) is
 
-        split : (x : Clause) → Implies s x j → (m : Literal) → m ∈ x → (m ≡ literal_at s j) ⊎ (m ∈ others_of x)
-        split [] q m i = absurd i
-        split (y ∷ x) q m (inl e) = inl (e ∙ q.0)
-        split (y ∷ x) q m (inr i) = inr i
+        first-in : literal_at s j ∈ clause
+        first-in = reason-first s w j r c why
 
-        join : (x : Clause) → Implies s x j → (m : Literal) → m ∈ others_of x → (m ∈ x) × StandsBefore s j (opposite m)
-        join [] q m i = absurd i
-        join (y ∷ x) q m i = (inr i, q.1 m i)
+        split-others : (x : Clause) → first_of x ≡ literal_at s j ∷ [] → (m : Literal) → m ∈ x → (m ≡ literal_at s j) ⊎ (m ∈ others_of x)
+        split-others [] q m i = absurd i
+        split-others (y ∷ x) q m (inl e) = inl (e ∙ one-same y (literal_at s j) q)
+        split-others (y ∷ x) q m (inr i) = inr i
 
-        first-in : (x : Clause) → Implies s x j → literal_at s j ∈ x
-        first-in [] q = absurd q
-        first-in (y ∷ x) q = inl (sym q.0)
+        split : (m : Literal) → m ∈ clause → (m ≡ literal_at s j) ⊎ (m ∈ lits)
+        split m i = subst (λ x. (m ≡ literal_at s j) ⊎ (m ∈ x)) (sym (causes-are s (literal_at s j) r)) (split-others clause (first-is s j r c why) m i)
+
+        before-binary : (ms : List Literal) → IsReason s j (reason.Binary ms) → (m : Literal) → m ∈ ms → StandsBefore s j (opposite m)
+        before-binary ms (n, e, a, b) m i = ⊎_elim (λ f. subst (λ x. StandsBefore s j (opposite x)) (sym f) b) (λ z. absurd z) (subst (λ x. m ∈ x) e i)
+
+        before-others : (x : Clause) → Implies s x j → (m : Literal) → m ∈ others_of x → StandsBefore s j (opposite m)
+        before-others [] q m i = absurd i
+        before-others (y ∷ x) q m i = q.1 m i
+
+        before-in : (q : Reason) → IsReason s j q → (m : Literal) → m ∈ causes_of s.clauses q → StandsBefore s j (opposite m)
+        before-in reason.Unit h m i = absurd i
+        before-in (reason.Binary ms) h m i = before-binary ms h m i
+        before-in (reason.Long p) h m i = before-others (clause_at s p) h.1 m i
+
+        lits-in : (q : Reason) (l m : Literal) → m ∈ causes_of s.clauses q → m ∈ clause_of s l q
+        lits-in reason.Unit l m i = absurd i
+        lits-in (reason.Binary ms) l m i = inr i
+        lits-in (reason.Long p) l m i = by (clause_at s p) i
+          where
+            by : (d : Clause) → m ∈ others_of d → m ∈ d
+            by [] k = absurd k
+            by (x ∷ d) k = inr k
+
+        join : (m : Literal) → m ∈ lits → (m ∈ clause) × StandsBefore s j (opposite m)
+        join m i = (lits-in r (literal_at s j) m i, before-in r why m i)
 
         pub false-before : AreFalseBefore s j lits
-        false-before m i = (join (clause_at s r) why.1 m i).1
+        false-before m i = (join m i).1
 
         pub walk-resolve : (e : ℕ) (next : Marking) → AddsReason s (literal_at s j) e cleared next → Walk s cf next (open_below s mark.flags j + e) j
         walk-resolve e next ar = record {
@@ -442,10 +497,10 @@ module _ (s : View) (w : WellFormed s) (cf : ℕ) where
           sound = λ p k i o b m. ⊎_elim
               (λ z. u.sound p k (omega (arith, i)) (omega (arith, o)) b (was (variable_of (literal_at s k)) z).0)
               (λ (x, y, z).
-              let (q, v) = join (clause_at s r) why.1 x y in
+              let (q, v) = join x y in
               let l : opposite x ≡ literal_at s k = true-same s w (opposite x) (literal_at s k) (stands-∈ s w j (opposite x) (omega (arith, at)) v) (∈-get_or s.trail k 0 b.0) (variable-opposite x ∙ z) in
               InReason (literal_at s j) (reached-here p (omega (arith, i))) (j, i, current-here, refl)
-              (subst (λ z. opposite (literal_at s k) ∈ z) (sym clause-is) (subst (λ z. z ∈ clause_at s r) (sym (opposite_twice x) ∙ ap opposite l) q))
+              (subst (λ z. opposite (literal_at s k) ∈ z) (sym clause-is) (subst (λ z. z ∈ clause) (sym (opposite_twice x) ∙ ap opposite l) q))
               (not-opposite k b))
               (a.only (variable_of (literal_at s k)) m);
           start = λ k i b m. kept k i (u.start k (omega (arith, i)) b m);
@@ -466,17 +521,18 @@ module _ (s : View) (w : WellFormed s) (cf : ℕ) where
           involved = record {
             only = λ p i. ⊎_elim
                 (λ z. resolved-down s cf j p (u.involved.only p z))
-                (λ z. ⊎_elim (λ q. AtPlace j (omega arith) current-here (reached-here j (omega arith)) (is ∙ ap reason.Long (sym q))) (λ q. absurd q) z)
-                (∈-append_cases p mark.involved (r ∷ []) (subst (λ x. p ∈ x) listed-is i));
+                (λ z. AtPlace j (omega arith) current-here (reached-here j (omega arith)) (subst (λ x. p ∈ names_of (literal_at s j) x) (sym is) z))
+                (∈-append_cases p mark.involved names (subst (λ x. p ∈ x) listed-is i));
             all = λ p i. subst (λ x. p ∈ x) (sym listed-is) (listed-all p i);
-            distinct = subst IsDistinct (sym listed-is) (distinct-push mark.involved r u.involved.distinct (λ i. new-reason (u.involved.only r i)));
+            distinct = subst IsDistinct (sym (listed-is ∙ ap (λ x. mark.involved ++ x) name.1)) (distinct-push mark.involved name.0 u.involved.distinct (λ i. new-reason (u.involved.only name.0 i)));
           };
           pending = λ held k.
-              let (x, i, o) = k.stored (clause_at s r) (stored-∈ s r why.0) in
+              let (y, z, same) = reason-kept s w j r c why in
+              let (x, i, o) = k.stored y z in
               pending_resolve held mark.clause next.clause s.trail (Seen s mark.flags) (Seen s next.flags) j x (subst (Pending held mark.clause s.trail (Seen s mark.flags)) (sym (add-one j)) (u.pending held k)) a.longer
               (λ q b v. (kept q b v.0, v.1))
-              i (o.1 (literal_at s j) (first-in (clause_at s r) why.1))
-              (λ m q. ⊎_elim inl (λ v. inr (passed-literal next j m held (omega (arith, at)) marks-now k (a.all m v) (false-before m v))) (split (clause_at s r) why.1 m (o.0 m q)));
+              i (o.1 (literal_at s j) (same.1 (literal_at s j) first-in))
+              (λ m q. ⊎_elim inl (λ v. inr (passed-literal next j m held (omega (arith, at)) marks-now k (a.all m v) (false-before m v))) (split m (same.0 m (o.0 m q))));
         }
           where
             a : Adds s lits e (record cleared { involved = next.involved }) next
@@ -485,22 +541,35 @@ module _ (s : View) (w : WellFormed s) (cf : ℕ) where
             marks-now : Marks s j next
             marks-now = a.marks j false-before (omega (arith, at)) (marks-with s j cleared next.involved marks-here)
 
-            listed-is : next.involved ≡ mark.involved ++ r ∷ []
-            listed-is = ar.listed ∙ ap (λ x. mark.involved ++ places_of x) is
+            name : (g : Conflict) × (names ≡ g ∷ [])
+            name = clause-named (literal_at s j) r c
 
-            listed-all : (p : ℕ) → WasResolved s cf j p → p ∈ (mark.involved ++ r ∷ [])
-            listed-all p (AtConflict q) = ∈-append_left p mark.involved (r ∷ []) (u.involved.all p (AtConflict q))
+            name-in : name.0 ∈ names
+            name-in = subst (λ x. name.0 ∈ x) (sym name.1) (inl refl)
+
+            listed-is : next.involved ≡ mark.involved ++ names
+            listed-is = ar.listed ∙ ap (λ x. mark.involved ++ names_of (literal_at s j) x) is
+
+            listed-all : (p : Conflict) → WasResolved s cf j p → p ∈ (mark.involved ++ names)
+            listed-all p (AtConflict q) = ∈-append_left p mark.involved names (u.involved.all p (AtConflict q))
             listed-all p (AtPlace k l o y q) = ⊎_elim
-                (λ (z : j < k). ∈-append_left p mark.involved (r ∷ []) (u.involved.all p (AtPlace k (omega (arith, z)) o y q)))
-                (λ (z : k ≤ j). let same : k ≡ j = omega (arith, l, z) in ∈-append_right p mark.involved (r ∷ []) (inl (long-same p r (sym q ∙ ap (λ x. (node_at s x).reason) same ∙ is))))
+                (λ (z : j < k). ∈-append_left p mark.involved names (u.involved.all p (AtPlace k (omega (arith, z)) o y q)))
+                (λ (z : k ≤ j).
+                let same : k ≡ j = omega (arith, l, z) in
+                ∈-append_right p mark.involved names (subst (λ x. p ∈ names_of (literal_at s j) x) is (subst (λ x. p ∈ names_of (literal_at s x) (node_at s x).reason) same q)))
                 (cases_lt j k)
 
+            named : named_in s.clauses name.0 ≡ clause
+            named = (reason-named s w j r name.0 why name-in).1
+
             -- the reason of another place, and the conflict's clause, are other clauses
-            new-reason : WasResolved s cf (suc j) r → ⊥
-            new-reason (AtConflict q) = no-clash s w (literal_at s j) (∈-get_or s.trail j 0 at) (u.conflict.1 (literal_at s j) (subst (λ x. literal_at s j ∈ clause_at s x) q (first-in (clause_at s r) why.1)))
+            new-reason : WasResolved s cf (suc j) name.0 → ⊥
+            new-reason (AtConflict q) = no-clash s w (literal_at s j) (∈-get_or s.trail j 0 at) (u.conflict.1 (literal_at s j) (subst (λ x. literal_at s j ∈ named_in s.clauses x) q (subst (λ x. literal_at s j ∈ x) (sym named) first-in)))
             new-reason (AtPlace k l o y q) =
-                let other : IsReason s k (reason.Long r) = subst (IsReason s k) q (w.reason_is k o.0) in
-                let e : k ≡ j = same-place s w k j o.0 at (ap variable_of (first-same s k j (clause_at s r) other.1 why.1)) in
+                let f = w.reason_is k o.0 in
+                let v = first-is s k (node_at s k).reason (named-clause (literal_at s k) (node_at s k).reason name.0 q) f in
+                let other = (reason-named s w k (node_at s k).reason name.0 f q).1 in
+                let e : k ≡ j = same-place s w k j o.0 at (ap variable_of (one-same (literal_at s k) (literal_at s j) (sym v ∙ ap first_of (sym other ∙ named) ∙ first-is s j r c why))) in
                 omega (arith, l, e)
 
             not-opposite : (k : ℕ) → IsOfCurrentLevel s k → opposite (literal_at s k) ≢ literal_at s j
@@ -509,37 +578,38 @@ module _ (s : View) (w : WellFormed s) (cf : ℕ) where
             kept : (k : ℕ) → k < j → IsMarked mark.flags (variable_of (literal_at s k)) → IsMarked next.flags (variable_of (literal_at s k))
             kept k i m = a.more (variable_of (literal_at s k)) (still (variable_of (literal_at s k)) (other-place k i) m)
 
-            added : (k : ℕ) → IsOfCurrentLevel s k → opposite (literal_at s k) ∈ clause_at s r → IsMarked next.flags (variable_of (literal_at s k))
+            added : (k : ℕ) → IsOfCurrentLevel s k → opposite (literal_at s k) ∈ clause → IsMarked next.flags (variable_of (literal_at s k))
             added k o m = ⊎_elim
                 (λ z. absurd (not-opposite k o z))
                 (λ z. subst (IsMarked next.flags) (variable-opposite (literal_at s k)) (a.all (opposite (literal_at s k)) z (let x = level-opposite s (literal_at s k) in let y = o.1 in omega (arith, x, y, d))))
-                (split (clause_at s r) why.1 (opposite (literal_at s k)) m)
+                (split (opposite (literal_at s k)) m)
 
 -- the walk begins once the conflict's clause is listed and its literals were added
-pub walk-begin : {s : View} {cf n : ℕ} {mark next : Marking} → WellFormed s → IsDeepConflict s cf → IsClean mark → (false_ones : List Literal) (involved : List ℕ) (p i : ℕ) → false_ones ≡ clause_at s cf → involved ≡ mark.involved ++ p ∷ [] → p ≡ cf → i ≡ length s.trail → Adds s false_ones n (record mark { involved = involved }) next → Walk s cf next n i
+pub walk-begin : {s : View} {cf : Conflict} {n : ℕ} {mark next : Marking} → WellFormed s → IsDeepConflict s cf → IsClean mark → (false_ones : List Literal) (involved : List Conflict) (p : Conflict) (i : ℕ) → false_ones ≡ named_in s.clauses cf → involved ≡ mark.involved ++ p ∷ [] → p ≡ cf → i ≡ length s.trail → Adds s false_ones n (record mark { involved = involved }) next → Walk s cf next n i
 walk-begin {s = s} {cf = cf} {n = n} {mark = mark} {next = next} w dc clean false_ones involved p i le ie pe ne a =
     subst (λ k. Walk s cf next n k) (sym ne)
     (walk-start s w cf n mark (record mark { involved = involved }) next dc clean
-    (ap (λ (k : List ℕ). record mark { involved = k }) (ie ∙ ap (λ (k : List ℕ). k ++ p ∷ []) clean.involved ∙ ap (λ (k : ℕ). k ∷ []) pe))
+    (ap (λ (k : List Conflict). record mark { involved = k }) (ie ∙ ap (λ (k : List Conflict). k ++ p ∷ []) clean.involved ∙ ap (λ (k : Conflict). k ∷ []) pe))
     (subst (λ k. Adds s k n (record mark { involved = involved }) next) le a))
 
-pub unit-left : (r : Reason) → ((a : ℕ) → r ≡ reason.Long a → ⊥) → r ≡ reason.Unit
+pub unit-left : (r : Reason) → (is_clause r ≡ true → ⊥) → r ≡ reason.Unit
 unit-left reason.Unit n = refl
-unit-left (reason.Long a) n = absurd (n a refl)
+unit-left (reason.Binary ms) n = absurd (n refl)
+unit-left (reason.Long a) n = absurd (n refl)
 
 -- the reason is listed, and its other literals are added
-pub adds-reason : {s : View} {lits : List Literal} {count : ℕ} {begun next : Marking} (l : Literal) (x : Marking) (r : Reason) → r ≡ (node_of s l).reason → lits ≡ causes_of s.clauses r → begun ≡ record x { involved = x.involved ++ places_of r } → Adds s lits count begun next → AddsReason s l count x next
+pub adds-reason : {s : View} {lits : List Literal} {count : ℕ} {begun next : Marking} (l : Literal) (x : Marking) (r : Reason) → r ≡ (node_of s l).reason → lits ≡ causes_of s.clauses r → begun ≡ record x { involved = x.involved ++ names_of l r } → Adds s lits count begun next → AddsReason s l count x next
 adds-reason {s = s} {lits = lits} {count = count} {begun = begun} {next = next} l x r p q e a = record {
-  listed = listed-is ∙ ap (λ k. x.involved ++ places_of k) p;
+  listed = listed-is ∙ ap (λ k. x.involved ++ names_of l k) p;
   adds = subst (λ k. Adds s k count (record x { involved = next.involved }) next) (q ∙ ap (λ k. causes_of s.clauses k) p)
-      (subst (λ k. Adds s lits count k next) (e ∙ ap (λ (k : List ℕ). record x { involved = k }) (sym listed-is)) a);
+      (subst (λ k. Adds s lits count k next) (e ∙ ap (λ (k : List Conflict). record x { involved = k }) (sym listed-is)) a);
 }
   where
-    listed-is : next.involved ≡ x.involved ++ places_of r
+    listed-is : next.involved ≡ x.involved ++ names_of l r
     listed-is = a.involved ∙ ap (λ (k : Marking). k.involved) e
 
 -- the walk has not come to its end
-pub walk-positive : {s : View} {cf : ℕ} {mark : Marking} {count i : ℕ} → Walk s cf mark count i → 0 < i
+pub walk-positive : {s : View} {cf : Conflict} {mark : Marking} {count i : ℕ} → Walk s cf mark count i → 0 < i
 walk-positive {s = s} {mark = mark} {count = count} {i = i} u = go i u.count_is
   where
     go : (i : ℕ) → count ≡ open_below s mark.flags i → 0 < i
@@ -547,7 +617,7 @@ walk-positive {s = s} {mark = mark} {count = count} {i = i} u = go i u.count_is
     go (suc i) e = omega arith
 
 -- the count is no larger than the trail
-pub walk-small : {s : View} {cf : ℕ} {mark : Marking} {count i : ℕ} → WellFormed s → Walk s cf mark count i → count ≤ 2 ^ 28
+pub walk-small : {s : View} {cf : Conflict} {mark : Marking} {count i : ℕ} → WellFormed s → Walk s cf mark count i → count ≤ 2 ^ 28
 walk-small {s = s} {mark = mark} {i = i} w u =
     let a = u.count_is in
     let b = count-small s mark.flags i in
@@ -561,14 +631,14 @@ pub record ReadsBefore (s : View) (i x v : ℕ) : Type 0 where
   pub literal : x ≡ literal_at s (i - 1)
   pub variable : v ≡ variable_of x
 
-pub reads-before : {s : View} {cf : ℕ} {mark : Marking} {count i : ℕ} {t : List ℕ} {x v : ℕ} → Walk s cf mark count i → t ≡ s.trail → x ≡ get_or t (i - 1) x → v ≡ variable_of x → ReadsBefore s i x v
+pub reads-before : {s : View} {cf : Conflict} {mark : Marking} {count i : ℕ} {t : List ℕ} {x v : ℕ} → Walk s cf mark count i → t ≡ s.trail → x ≡ get_or t (i - 1) x → v ≡ variable_of x → ReadsBefore s i x v
 reads-before {s = s} {i = i} {t = t} {x = x} u e is o = record {
   literal = let a = u.within in let p = walk-positive u in let n = ap (λ (y : List ℕ). length y) e in element t (i - 1) x (omega (arith, a, p, n)) is ∙ ap (λ (y : List ℕ). get_or y (i - 1) 0) e;
   variable = o;
 }
 
 -- a step of the walk, as it reads that literal's flag
-module _ {s : View} {cf : ℕ} {mark : Marking} {count i : ℕ} {x v : ℕ} (w : WellFormed s) (d : 0 < current_level s) (n : length mark.flags ≡ length s.nodes) (u : Walk s cf mark count i) (r : ReadsBefore s i x v) where
+module _ {s : View} {cf : Conflict} {mark : Marking} {count i : ℕ} {x v : ℕ} (w : WellFormed s) (d : 0 < current_level s) (n : length mark.flags ≡ length s.nodes) (u : Walk s cf mark count i) (r : ReadsBefore s i x v) where
   before : Walk s cf mark count (suc (i - 1))
   before = let p = walk-positive u in let q : i ≡ suc (i - 1) = omega (arith, p) in subst (λ k. Walk s cf mark count k) q u
 
@@ -620,4 +690,5 @@ module _ {s : View} {cf : ℕ} {mark : Marking} {count i : ℕ} {x v : ℕ} (w :
 
         by : (q : Reason) → (node_at s (i - 1)).reason ≡ q → Walk s cf next (open_below s mark.flags (i - 1) + added) (i - 1)
         by reason.Unit e = absurd (not-decided s w cf mark count (i - 1) d flag-inside marked before more e)
-        by (reason.Long a) e = walk-resolve s w cf mark count (i - 1) d flag-inside marked before more a e added next adds
+        by (reason.Binary ms) e = walk-resolve s w cf mark count (i - 1) d flag-inside marked before more (reason.Binary ms) e refl added next adds
+        by (reason.Long a) e = walk-resolve s w cf mark count (i - 1) d flag-inside marked before more (reason.Long a) e refl added next adds

@@ -3,13 +3,13 @@ use Rattle.std.proofs.Common.{◌≡◌, ◌≢◌, ℕ, zero, suc, ◌+◌, ◌
 use Rattle.std.proofs.lemmas.List.{get_or-take, length-take-le}
 use Rattle.std.proofs.lemmas.Bool.{cases_lt}
 use Rattle.varisat_theory.specs.Membership.{◌∈◌}
-use Rattle.varisat_theory.specs.Literals.{Literal, Clause, variable_of}
+use Rattle.varisat_theory.specs.Literals.{Literal, Clause, variable_of, opposite}
 use Rattle.varisat_theory.specs.Propagation.{IsComplete}
 use Rattle.varisat_theory.proofs.Places.{∈-get_or, place_in}
 use Rattle.varisat_theory.proofs.Members.{equal_or_not}
 use Rattle.varisat_prop.specs.declared.prop.graph.Reason.{Reason}
 use Rattle.varisat_prop.specs.declared.prop.graph.Reason.TheVariants as reason
-use Rattle.varisat_prop.specs.View.{View, kept, IsTrueIn, clause_at, literal_at, decision_at, node_of, node_at, StandsBefore, Implies, IsReason, WellFormed, IsFixed, LevelsSettled}
+use Rattle.varisat_prop.specs.View.{View, kept, implied_by, IsTrueIn, clause_at, literal_at, decision_at, node_of, node_at, StandsBefore, Implies, IsReason, WellFormed, IsFixed, LevelsSettled}
 use Rattle.varisat_prop.proofs.LiteralValues.{made-inside}
 use Rattle.varisat_prop.specs.Watches.{Watches, IsPropagated}
 use Rattle.varisat_prop.proofs.WatchKept.{propagated-back}
@@ -110,6 +110,9 @@ module _ (s t : View) (level : ℕ) (w : WellFormed s) (h : level < length s.dec
 
   reason-cut : (k : ℕ) (q : Reason) → k < p → IsReason s k q → IsReason u k q
   reason-cut k reason.Unit i r = ⊎_elim (λ d. inl (listed-cut k i d)) (λ e. inr (ap (λ n. n.level) (node-cut k i) ∙ e)) r
+  reason-cut k (reason.Binary ms) i (m, e, h, o) =
+      let (j, a, g) = o in
+      (m, e, subst (λ x. x ∈ implied_by s (opposite m)) (sym (at-cut k i)) h, (j, a, at-cut j (omega (arith, a, i)) ∙ g))
   reason-cut k (reason.Long n) i r = (r.0, implies-cut (clause_at s n) k i r.1)
 
   cut-well-u : WellFormed u
@@ -120,6 +123,8 @@ module _ (s t : View) (level : ℕ) (w : WellFormed s) (h : level < length s.dec
     places = w.places;
     several = w.several;
     distinct = w.distinct;
+    binary_back = w.binary_back;
+    binary_other = w.binary_other;
     is_true = λ k i. let b = below k i in subst (IsTrueIn u) (sym (at-cut k b.0)) (still k b.0);
     stands = λ x q. let (j, i, e) = only x q in let n = cut-length in (j, omega (arith, i, n), at-cut j i ∙ e);
     head = let n = cut-length in omega (arith, n);

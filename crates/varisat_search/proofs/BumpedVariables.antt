@@ -5,11 +5,14 @@ use Rattle.varisat_theory.specs.Membership.{◌∈◌, IsDistinct}
 use Rattle.varisat_theory.specs.Literals.{Literal, Clause, variable_of}
 use Rattle.varisat_theory.proofs.Members.{equal_or_not, ∈-append_left, ∈-append_right, ∈-append_cases}
 use Rattle.varisat_prop.specs.declared.prop.graph.ImplNode.{ImplNode}
-use Rattle.varisat_prop.specs.Stored.{StoredClause, literals_at, literals_of, IsPlace}
-use Rattle.varisat_prop.proofs.AllocClauses.{kept-at}
+use Rattle.varisat_prop.specs.declared.prop.graph.Conflict.{Conflict}
+use Rattle.varisat_prop.specs.Stored.{StoredClause}
+use Rattle.varisat_prop.specs.View.{View, kept, WellFormed}
+use Rattle.varisat_prop.specs.Changes.{named_in, IsNamed}
 use Rattle.varisat_vsids.specs.Activities.{Activities, bumped}
 use Rattle.varisat_search.specs.Bumps.{bumped_each, literals_among, level_in, AreVariablesAbove, Bumping, bumping, IsFlagged, MayBump, BumpsNew}
 use Rattle.varisat_search.proofs.DecidableVariables.{true-or-false}
+use Rattle.varisat_search.proofs.WellFormedViews.{named-kept}
 
 pub take-snoc : (k : ℕ) (xs : List ℕ) → k < length xs → take (k + 1) xs ≡ take k xs ++ get_or xs k 0 ∷ []
 take-snoc k xs h = let e : k + 1 ≡ suc k = omega arith in ap (λ n. take n xs) e ∙ go k xs h
@@ -23,31 +26,43 @@ take-snoc k xs h = let e : k + 1 ≡ suc k = omega arith in ap (λ n. take n xs)
         none (y ∷ xs) = refl
     go (suc k) (x ∷ xs) h = ap (λ ys. x ∷ ys) (go k xs (omega (arith, h)))
 
-among-append : (ks : List StoredClause) (ps qs : List ℕ) → literals_among ks (ps ++ qs) ≡ literals_among ks ps ++ literals_among ks qs
+among-append : (ks : List StoredClause) (ps qs : List Conflict) → literals_among ks (ps ++ qs) ≡ literals_among ks ps ++ literals_among ks qs
 among-append ks [] qs = refl
-among-append ks (p ∷ ps) qs = ap (λ ls. literals_at ks p ++ ls) (among-append ks ps qs) ∙ sym (append_assoc (literals_at ks p) (literals_among ks ps) (literals_among ks qs))
+among-append ks (p ∷ ps) qs = ap (λ ls. named_in ks p ++ ls) (among-append ks ps qs) ∙ sym (append_assoc (named_in ks p) (literals_among ks ps) (literals_among ks qs))
 
 append-none : {X : Type 0} (xs : List X) → xs ++ [] ≡ xs
 append-none [] = refl
 append-none (x ∷ xs) = ap (λ ys. x ∷ ys) (append-none xs)
 
-pub among-snoc : (ks : List StoredClause) (k : ℕ) (ps : List ℕ) → k < length ps → literals_among ks (take (k + 1) ps) ≡ literals_among ks (take k ps) ++ literals_at ks (get_or ps k 0)
-among-snoc ks k ps h =
-    ap (literals_among ks) (take-snoc k ps h) ∙ among-append ks (take k ps) (get_or ps k 0 ∷ []) ∙ ap (λ ls. literals_among ks (take k ps) ++ ls) (append-none (literals_at ks (get_or ps k 0)))
+name-snoc : (k : ℕ) (xs : List Conflict) (v : Conflict) → k < length xs → v ≡ get_or xs k v → take (k + 1) xs ≡ take k xs ++ v ∷ []
+name-snoc k xs v h g = let e : k + 1 ≡ suc k = omega arith in ap (λ n. take n xs) e ∙ go k xs h g
+  where
+    go : (k : ℕ) (xs : List Conflict) → k < length xs → v ≡ get_or xs k v → take (suc k) xs ≡ take k xs ++ v ∷ []
+    go k [] h g = absurd (omega (arith, h))
+    go zero (x ∷ xs) h g = none xs ∙ ap (λ y. y ∷ []) (sym g)
+      where
+        none : (xs : List Conflict) → x ∷ take zero xs ≡ x ∷ []
+        none [] = refl
+        none (y ∷ xs) = refl
+    go (suc k) (x ∷ xs) h g = ap (λ ys. x ∷ ys) (go k xs (omega (arith, h)) g)
 
-pub in-among : (ks : List StoredClause) (ps : List ℕ) (p : ℕ) (l : Literal) → p ∈ ps → l ∈ literals_at ks p → l ∈ literals_among ks ps
+pub among-snoc : (ks : List StoredClause) (k : ℕ) (ps : List Conflict) (v : Conflict) → k < length ps → v ≡ get_or ps k v → literals_among ks (take (k + 1) ps) ≡ literals_among ks (take k ps) ++ named_in ks v
+among-snoc ks k ps v h g =
+    ap (literals_among ks) (name-snoc k ps v h g) ∙ among-append ks (take k ps) (v ∷ []) ∙ ap (λ ls. literals_among ks (take k ps) ++ ls) (append-none (named_in ks v))
+
+pub in-among : (ks : List StoredClause) (ps : List Conflict) (p : Conflict) (l : Literal) → p ∈ ps → l ∈ named_in ks p → l ∈ literals_among ks ps
 in-among ks [] p l h i = absurd h
-in-among ks (q ∷ ps) p l (inl e) i = ∈-append_left l (literals_at ks q) (literals_among ks ps) (subst (λ x. l ∈ literals_at ks x) e i)
-in-among ks (q ∷ ps) p l (inr h) i = ∈-append_right l (literals_at ks q) (literals_among ks ps) (in-among ks ps p l h i)
+in-among ks (q ∷ ps) p l (inl e) i = ∈-append_left l (named_in ks q) (literals_among ks ps) (subst (λ x. l ∈ named_in ks x) e i)
+in-among ks (q ∷ ps) p l (inr h) i = ∈-append_right l (named_in ks q) (literals_among ks ps) (in-among ks ps p l h i)
 
 -- a literal of the clauses is one of a kept clause
-pub among-kept : (ks : List StoredClause) (ps : List ℕ) (l : Literal) → ((p : ℕ) → p ∈ ps → IsPlace ks p) → l ∈ literals_among ks ps → (c : Clause) × (c ∈ literals_of ks) × (l ∈ c)
-among-kept ks [] l h i = absurd i
-among-kept ks (p ∷ ps) l h i =
+pub among-kept : (s : View) → WellFormed s → (ps : List Conflict) (l : Literal) → ((p : Conflict) → p ∈ ps → IsNamed s p) → l ∈ literals_among s.clauses ps → (c : Clause) × (c ∈ kept s) × (l ∈ c)
+among-kept s w [] l h i = absurd i
+among-kept s w (p ∷ ps) l h i =
     ⊎_elim
-    (λ j. (literals_at ks p, kept-at ks p (h p (inl refl)), j))
-    (λ j. among-kept ks ps l (λ q k. h q (inr k)) j)
-    (∈-append_cases l (literals_at ks p) (literals_among ks ps) i)
+    (λ j. let (d, k, same) = named-kept s w p (h p (inl refl)) in (d, k, same.1 l j))
+    (λ j. among-kept s w ps l (λ q k. h q (inr k)) j)
+    (∈-append_cases l (named_in s.clauses p) (literals_among s.clauses ps) i)
 
 each-append : (xs ys : List ℕ) (a : Activities) → bumped_each (xs ++ ys) a ≡ bumped_each ys (bumped_each xs a)
 each-append [] ys a = refl

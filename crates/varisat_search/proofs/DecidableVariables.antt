@@ -2,7 +2,7 @@
 use Rattle.std.proofs.Common.{◌≡◌, ◌≢◌, ℕ, ◌+◌, ◌<◌, ◌≤◌, Bool, true, false, Option, Some, None, [], ◌∷◌, ◌⊎◌, ◌↔◌, length, get_or, set, inl, inr, ⊎_elim, refl, sym, ap, ◌∙◌, subst, arith, get_or-set_same, get_or-set_other, length-set}
 use Rattle.std.proofs.lemmas.Bool.{cases_lt}
 use Rattle.varisat_theory.specs.Membership.{◌∈◌}
-use Rattle.varisat_theory.specs.Literals.{Literal, Clause, variable_of, literal_of}
+use Rattle.varisat_theory.specs.Literals.{Literal, Clause, variable_of, opposite, literal_of}
 use Rattle.varisat_theory.proofs.Members.{equal_or_not}
 use Rattle.varisat_theory.proofs.Places.{∈-get_or, place_in}
 use Rattle.varisat_literals.specs.Numbers.{polarity_of}
@@ -11,13 +11,13 @@ use Rattle.varisat_prop.specs.declared.prop.graph.Reason.TheVariants as reason
 use Rattle.varisat_prop.specs.View.{View, kept, IsTrueIn, literal_at, node_at, clause_at, decision_at, Implies, IsReason, WellFormed}
 use Rattle.varisat_prop.specs.Changes.{enqueued, decided_on}
 use Rattle.varisat_prop.specs.Looks.{Propagates}
-use Rattle.varisat_prop.proofs.AllocClauses.{kept-at, reordered-old}
+use Rattle.varisat_prop.proofs.KeptPairs.{implied-kept}
+use Rattle.varisat_prop.proofs.WellFormedChanges.{kept-here}
 use Rattle.varisat_prop.proofs.ViewGrowth.{literal-stays, grows-longer}
 use Rattle.varisat_vsids.specs.Activities.{Activities, is_available}
-use Rattle.varisat_search.specs.declared.context.Context.{Context}
 use Rattle.varisat_search.specs.Steps.{IsCut}
 use Rattle.varisat_search.specs.Decisions.{HasActivities, IsDecidable, AreDecidable, CanDecide, SameDecidable, SameDecidableBut, AddsDecidable, MakesAvailable, IsNextDecision, TakesUnassigned}
-use Rattle.varisat_search.proofs.WellFormedViews.{same-place}
+use Rattle.varisat_search.proofs.WellFormedViews.{kept-reordered, same-place}
 use Rattle.varisat_search.proofs.StepOutcome.{variable-literal, polarity-literal}
 use Rattle.varisat_search.proofs.StepWithoutLines.{proved_back}
 
@@ -147,11 +147,12 @@ module _ (s t : View) (a : Activities) (w : WellFormed s) (d : CanDecide s a) (p
       let m = grows-longer s t p.grows in
       at-valued t p.well v k (omega (arith, h, m)) (ap variable_of (literal-stays s t p.grows k h) ∙ e)
 
+  of-literal : (c : Clause) → c ∈ kept t → AreDecidable s a c
+  of-literal c i l j = let (q, k, f) = kept-reordered s t p.grows.clauses p.grows.binary c i in d.decidable q k l (f.0 l j)
+
   of-clause : (k : ℕ) (c : Clause) → c ∈ kept t → Implies t c k → IsDecidable s a (variable_of (literal_at t k))
   of-clause k [] i h = absurd h
-  of-clause k (l ∷ c) i (e, o) =
-      let (q, j, f) = reordered-old s.clauses t.clauses p.grows.clauses (l ∷ c) i in
-      subst (λ x. IsDecidable s a (variable_of x)) e (d.decidable q j l (f.0 l (inl refl)))
+  of-clause k (l ∷ c) i (e, o) = subst (λ x. IsDecidable s a (variable_of x)) e (of-literal (l ∷ c) i l (inl refl))
 
   of-reason : (k : ℕ) (r : Reason) → length s.trail ≤ k → k < length t.trail → (node_at t k).reason ≡ r → IsReason t k r → IsDecidable s a (variable_of (literal_at t k))
   of-reason k reason.Unit b h e i =
@@ -165,7 +166,10 @@ module _ (s t : View) (a : Activities) (w : WellFormed s) (d : CanDecide s a) (p
       let (x, y, z) = place_in (literal_at t k) s.trail 0 on in
       inl (at-valued s w (variable_of (literal_at t k)) x y (ap variable_of z)))
       i
-  of-reason k (reason.Long q) b h e (i, j) = of-clause k (clause_at t q) (kept-at t.clauses q i) j
+  of-reason k (reason.Binary ms) b h e (m, f, i, o) =
+      let (c, j, g) = implied-kept t p.well (opposite m) (literal_at t k) i in
+      of-literal c j (literal_at t k) (g.1 (literal_at t k) (inl refl))
+  of-reason k (reason.Long q) b h e (i, j) = of-clause k (clause_at t q) (kept-here t q i) j
 
   was-decidable : (v : ℕ) → get_or t.values v None ≢ None → IsDecidable s a v
   was-decidable v n =
@@ -182,7 +186,7 @@ module _ (s t : View) (a : Activities) (w : WellFormed s) (d : CanDecide s a) (p
   propagated-decidable =
       let n = d.entries in
       can-decide s a t a (record { activity = n.activity ∙ sym p.grows.count; available = n.available ∙ sym p.grows.count }) propagated-same
-      (λ c i l j. let (q, x, f) = reordered-old s.clauses t.clauses p.grows.clauses c i in d.decidable q x l (f.0 l j))
+      of-literal
 
 -- a variable was taken out and is decided, or none is left
 module _ (s : View) (a b : Activities) (d : CanDecide s a) where
@@ -251,7 +255,3 @@ module _ (s : View) (a b : Activities) (v : ℕ) (n : HasActivities s a) (k : v 
     entries = set-entries false e f;
     decidable = λ c i l j. ⊎_elim inl (λ h. inr (ap (λ xs. get_or xs (variable_of l) false) e ∙ get_or-set_other a.available v (variable_of l) false false (u c i l j) ∙ h)) (d.decidable c i l j);
   }
-
--- Where activities change beside what raising the count of variables changes, nothing else does.
-pub only-activities : {A : Type 0} (x y z : Context A) (a : Activities) → y ≡ record x { analyze_conflict = y.analyze_conflict; assignment = y.assignment; impl_graph = y.impl_graph; tmp_flags = y.tmp_flags; vsids = y.vsids; watchlists = y.watchlists } → z ≡ record y { vsids = a } → z ≡ record x { analyze_conflict = z.analyze_conflict; assignment = z.assignment; impl_graph = z.impl_graph; tmp_flags = z.tmp_flags; vsids = z.vsids; watchlists = z.watchlists }
-only-activities x y z a e f = subst (λ w. w ≡ record x { analyze_conflict = w.analyze_conflict; assignment = w.assignment; impl_graph = w.impl_graph; tmp_flags = w.tmp_flags; vsids = w.vsids; watchlists = w.watchlists }) (sym f) (ap (λ (w : Context _). record w { vsids = a }) e)

@@ -2,32 +2,39 @@
 use Rattle.std.proofs.Common.{◌≡◌, ◌≢◌, ℕ, zero, suc, ◌<◌, ◌≤◌, Bool, true, false, nat_eq, ◌||◌, Some, None, List, [], ◌∷◌, ◌++◌, length, get_or, take, map, inl, inr, ⊎_elim, refl, sym, ap, ◌∙◌, subst, arith, length-set}
 use Rattle.std.proofs.lemmas.List.{length-map, map-append, take-append-le}
 use Rattle.std.proofs.lemmas.Bool.{cases_lt, ne_eqb}
-use Rattle.varisat_theory.specs.Membership.{◌∈◌, ◌⊆◌, IsDistinct}
+use Rattle.varisat_theory.specs.Membership.{◌∈◌, ◌⊆◌, SameSet, IsDistinct}
 use Rattle.varisat_theory.specs.Literals.{Literal, Clause, variable_of, opposite}
 use Rattle.varisat_theory.specs.Propagation.{IsComplete}
 use Rattle.varisat_theory.specs.Rank.{rank}
 use Rattle.varisat_theory.proofs.Ranks.{rank_raised}
-use Rattle.varisat_theory.proofs.Saturated.{learned_is_new, complete_added}
+use Rattle.varisat_theory.specs.Held.{SameClauses}
+use Rattle.varisat_theory.specs.Searches.{KeptClause}
+use Rattle.varisat_theory.proofs.Held.{same_set-self, same_clauses_find, same_clauses-back}
+use Rattle.varisat_theory.proofs.Saturated.{learned_is_new, complete_added, complete_shorter}
 use Rattle.varisat_theory.proofs.Places.{place_in_take}
 use Rattle.varisat_prop.specs.declared.prop.graph.Reason.{Reason}
 use Rattle.varisat_prop.specs.declared.prop.graph.Reason.TheVariants as reason
-use Rattle.varisat_prop.specs.Stored.{StoredClause}
+use Rattle.varisat_prop.specs.declared.prop.graph.Conflict.{Conflict}
+use Rattle.varisat_prop.specs.Pairs.{with_pair}
 use Rattle.varisat_prop.proofs.AllocClauses.{place-last}
-use Rattle.varisat_search.specs.Conflicts.{learned_at}
+use Rattle.varisat_prop.proofs.PairAdded.{adds-pair, well-pair, propagated-learned-pair}
+use Rattle.varisat_prop.proofs.LongVisited.{listed}
+use Rattle.varisat_search.specs.Conflicts.{learned_at, Keeping, IsKeptAsReason, IsWatchedAsReason}
+use Rattle.varisat_search.specs.Seen.{search_of}
 use Rattle.varisat_prop.specs.View.{View, kept, IsTrueIn, literal_at, decision_at, node_of, node_at, level_of, WellFormed, LevelsSettled, ViewFits, kinds, is_implied, is_clause}
 use Rattle.varisat_prop.specs.Changes.{enqueued}
 use Rattle.varisat_literals.specs.Numbers.{polarity_of}
 use Rattle.varisat_prop.proofs.LiteralValues.{none-made, made-inside, made-clash, variable-opposite}
 use Rattle.varisat_prop.proofs.TrailValues.{trail-true}
 use Rattle.varisat_prop.specs.Watches.{Watches, at, IsPropagated}
-use Rattle.varisat_prop.specs.Visits.{WatchesClause}
 use Rattle.varisat_prop.proofs.WatchKept.{propagated-enqueued, propagated-learned}
 use Rattle.varisat_prop.proofs.TrailExtend.{node-old, node-new, literal-old, literal-new}
-use Rattle.varisat_prop.proofs.EnqueueAssignment.{enqueued-well}
+use Rattle.varisat_prop.proofs.EnqueueAssignment.{MayImply, enqueued-well}
 use Rattle.varisat_search.specs.Learned.{IsAsserting, IsLevelOf}
 use Rattle.varisat_search.specs.Steps.{IsCut, LeavesFrom}
 use Rattle.varisat_search.proofs.Backtrack.{end-inside, still, cut-well, cut-settled, cut-propagated, level-length}
-use Rattle.varisat_search.proofs.AddedClause.{with_kept, kept-last, kept-is, kept-well}
+use Rattle.varisat_search.proofs.AddedClause.{kept-last, kept-well}
+use Rattle.varisat_search.proofs.PairSearch.{StandsIn, pair-same, pair-seen, long-same, long-seen}
 
 take-∈ : (n : ℕ) (xs : List ℕ) (j : ℕ) → j < n → j < length xs → get_or xs j 0 ∈ take n xs
 take-∈ zero xs j h l = absurd (omega (arith, h))
@@ -55,7 +62,7 @@ pub second-level : (s : View) (others : Clause) (level d : ℕ) → IsLevelOf s 
 second-level s [] level d e l h = (omega (arith, e, h), λ m i. absurd i)
 second-level s (m ∷ others) level d (e, f) l h = (let a = l m (inl refl) in omega (arith, e, a), λ n i. ⊎_elim (λ g. let b = ap (level_of s) g in omega (arith, b, e)) (f n) i)
 
-module _ (s t : View) (i level : ℕ) (c : Clause) (w : WellFormed s) (v : LevelsSettled s) (l : IsAsserting s i c level) (deep : 0 < length s.decisions) (ct : IsCut s t level) where
+module _ (s t : View) (i : Conflict) (level : ℕ) (c : Clause) (w : WellFormed s) (v : LevelsSettled s) (l : IsAsserting s i c level) (deep : 0 < length s.decisions) (ct : IsCut s t level) where
   abbrev first : Literal
   first = l.first
 
@@ -166,13 +173,36 @@ kinds-enqueued t l r w inside free =
     map-equal f g [] h = refl
     map-equal f g (x ∷ xs) h = let e = h zero (omega arith) in let d = map-equal f g xs (λ k l. h (suc k) (omega (arith, l))) in cc
 
+-- the view with other kept clauses
+abbrev pub keeping : View → Keeping → View
+keeping t k = record t { clauses = k.clauses; binary = k.binary }
+
+abbrev pub keeping_of : View → Keeping
+keeping_of t = record { clauses = t.clauses; binary = t.binary }
+
+-- the clause as a learned one
+abbrev pub learned : Clause → KeptClause
+learned c = record { clause = c; learned = true }
+
+-- A clause is kept, and may be the reason of its first literal: the view with it, and what a proof sees of it.
+pub record Joins (t : View) (k : Keeping) (c : Clause) (l : Literal) (r : Reason) : Type 0 where
+  pub well : WellFormed (keeping t k)
+  pub implies : MayImply (keeping t k) l r
+  pub clause : is_clause r ≡ true
+  pub same : SameClauses (kept t ++ c ∷ []) (kept (keeping t k))
+  pub seen : (j : KeptClause) → j ∈ ((search_of t).kept ++ learned c ∷ []) → j.learned ≡ false → StandsIn (search_of (keeping t k)).kept j
+
+-- completeness reads clauses as sets
+pub complete-same : (P Q : List Clause) (known : List Literal) → SameClauses P Q → IsComplete P known → IsComplete Q known
+complete-same P Q known a = complete_shorter P Q known (λ d h. let (c, i, e) = same_clauses_find Q P (same_clauses-back P Q a) d h in (c, i, e.1, λ m k. inl (e.0 m k)))
+
 pub record Result (s z : View) : Type 0 where
   pub well : WellFormed z
   pub settled : LevelsSettled z
   pub rises : (n : ℕ) → length s.trail ≤ n → rank n (kinds s) < rank n (kinds z)
   pub count : length z.values ≡ length s.values
 
-module _ (s t : View) (i level : ℕ) (c : Clause) (w : WellFormed s) (v : LevelsSettled s) (l : IsAsserting s i c level) (deep : 0 < length s.decisions) (ct : IsCut s t level) where
+module _ (s t : View) (i : Conflict) (level : ℕ) (c : Clause) (w : WellFormed s) (v : LevelsSettled s) (l : IsAsserting s i c level) (deep : 0 < length s.decisions) (ct : IsCut s t level) where
   below : level < length s.decisions
   below = level-below s t i level c w v l deep ct
 
@@ -225,55 +255,130 @@ module _ (s t : View) (i level : ℕ) (c : Clause) (w : WellFormed s) (v : Level
       let n = level-length s t level w below ct in
       omega (arith, r, same, g, e, h, d, n)
 
-  -- a longer learned clause is kept, and is the reason of its first literal
-  pub kept-result : (p : ℕ) → ((k : StoredClause) → k ∈ t.clauses → k.place < p) → (m : Literal) (ms : Clause) → l.others ≡ m ∷ ms → Result s (enqueued (record t { clauses = t.clauses ++ learned_at p c ∷ [] }) l.first (reason.Long p))
-  kept-result p behind m ms e =
-      let j = learned_at p c in
-      let t' = with_kept t j behind wt in
-      let whole : c ≡ l.first ∷ m ∷ ms = l.split ∙ ap (λ o. l.first ∷ o) e in
-      let n = ap (λ (x : Clause). length x) whole in
-      let wt' = kept-well t j behind wt in-clause (omega (arith, n)) l.distinct in
-      let r = reason.Long p in
-      let z = enqueued t' l.first r in
-      let second : level_of s m ≡ level = (subst (λ o. IsLevelOf s o level) e l.second).0 in
-      let apart : l.first ≢ m = λ g. (subst IsDistinct whole l.distinct).0 (inl g) in
-      record {
-        well = enqueued-well t' l.first r wt' inside free (place-last t.clauses j, (l.others, kept-last t j behind wt ∙ l.split, other-false s t i level c w v l deep ct));
-        settled = λ j h.
-            let d = (wt.decided j h).0 in
-            let le : decision_at t j ≤ length t.trail = omega (arith, d) in
-            subst (λ x. IsComplete (kept t') x) (sym (take-append-le (decision_at t j) t.trail (l.first ∷ []) le))
-            (subst (λ P. IsComplete P (take (decision_at t j) t.trail)) (sym (kept-is t (learned_at p c) behind wt)) (complete_added (kept t) (take (decision_at t j) t.trail) c l.first m (subst (λ x. l.first ∈ x) (sym whole) (inl refl)) (subst (λ x. m ∈ x) (sym whole) (inr (inl refl))) apart
-            (λ q. let (k, x, y, f) = place_in_take (opposite l.first) t.trail (decision_at t j) 0 q in none-made t.values l.first (opposite l.first) free (variable-opposite l.first) (subst (IsTrueIn t) f (wt.is_true k y)))
-            (other-unknown m j second h)
-            (vt j h)));
-        rises = rises s t i level c w v l deep ct z (kinds-enqueued t' l.first r wt' inside free);
-        count = length-set t.values (variable_of l.first) (Some (polarity_of l.first)) ∙ ct.count;
-      }
+  -- its second literal was propagated at no level below the present one, and its first one not at all
+  first-late : (p : ℕ) → p < t.queue_head → literal_at t p ≢ opposite l.first
+  first-late p q e = let o = wt.head in none-made t.values l.first (opposite l.first) free (variable-opposite l.first) (subst (IsTrueIn t) e (wt.is_true p (omega (arith, q, o))))
 
-  -- its first two literals are false at no level below the present one
-  watched-late : (m : Literal) (ms : Clause) → c ≡ l.first ∷ m ∷ ms → level_of s m ≡ level → (j p : ℕ) → j < 2 → p < t.queue_head → literal_at t p ≡ opposite (at c j) → (k : ℕ) → k < length t.decisions → decision_at t k ≤ p
-  watched-late m ms whole second j p b q e k h = go j b (e ∙ ap (λ x. opposite (at x j)) whole)
-    where
-      inside-trail : p < length t.trail
-      inside-trail = let o = wt.head in omega (arith, q, o)
+  second-late : (m : Literal) → level_of s m ≡ level → (p : ℕ) → p < t.queue_head → literal_at t p ≡ opposite m → (k : ℕ) → k < length t.decisions → decision_at t k ≤ p
+  second-late m second p q e k h =
+      let o = wt.head in
+      let same : level_of t (opposite m) ≡ level_of s m = ap (λ (x : View). level_of x (opposite m)) ct.rest ∙ ap (λ x. (get_or s.nodes x (record { reason = reason.Unit; level = 0; depth = 0 })).level) (variable-opposite m) in
+      let g = ap (level_of t) e in
+      let d = ap (λ (x : View). length x.decisions) ct.rest in
+      let n = level-length s t level w below ct in
+      ⊎_elim
+      (λ f. let r = wt.levels_down p k (omega (arith, q, o)) h f in absurd (omega (arith, r, same, g, second, h, d, n)))
+      (λ f. f)
+      (cases_lt p (decision_at t k))
 
-      go : (i : ℕ) → i < 2 → literal_at t p ≡ opposite (at (l.first ∷ m ∷ ms) i) → decision_at t k ≤ p
-      go zero a f = absurd (none-made t.values l.first (opposite l.first) free (variable-opposite l.first) (subst (IsTrueIn t) f (wt.is_true p inside-trail)))
-      go (suc zero) a f =
-          let same : level_of t (opposite m) ≡ level_of s m = ap (λ (x : View). level_of x (opposite m)) ct.rest ∙ ap (λ x. (get_or s.nodes x (record { reason = reason.Unit; level = 0; depth = 0 })).level) (variable-opposite m) in
-          let g = ap (level_of t) f in
-          let d = ap (λ (x : View). length x.decisions) ct.rest in
-          let n = level-length s t level w below ct in
-          ⊎_elim
-          (λ o. let r = wt.levels_down p k inside-trail h o in absurd (omega (arith, r, same, g, second, h, d, n)))
-          (λ o. o)
-          (cases_lt p (decision_at t k))
-      go (suc (suc i)) a f = absurd (omega (arith, a))
+  -- a learned clause with a second literal
+  module _ (m : Literal) (ms : Clause) (e : l.others ≡ m ∷ ms) where
+    abbrev d : Clause
+    d = l.first ∷ m ∷ ms
 
-  pub kept-propagated : (W V : Watches) (p : ℕ) → IsPropagated W s → ((k : StoredClause) → k ∈ t.clauses → k.place < p) → (m : Literal) (ms : Clause) → l.others ≡ m ∷ ms → WatchesClause W V p c → IsPropagated V (enqueued (record t { clauses = t.clauses ++ learned_at p c ∷ [] }) l.first (reason.Long p))
-  kept-propagated W V p d behind m ms e v =
-      let whole : c ≡ l.first ∷ m ∷ ms = l.split ∙ ap (λ o. l.first ∷ o) e in
-      let n = ap (λ (x : Clause). length x) whole in
-      let second : level_of s m ≡ level = (subst (λ o. IsLevelOf s o level) e l.second).0 in
-      propagated-learned W V t (learned_at p c) (pt W d) behind v l.first (reason.Long p) wt (sym (ap (λ x. at x 0) whole)) (omega (arith, n)) (watched-late m ms whole second)
+    whole : c ≡ d
+    whole = l.split ∙ ap (λ o. l.first ∷ o) e
+
+    in-whole : (x : Literal) → x ∈ d → variable_of x < length t.values
+    in-whole x h = in-clause x (subst (λ y. x ∈ y) (sym whole) h)
+
+    distinct : IsDistinct d
+    distinct = subst IsDistinct whole l.distinct
+
+    apart : l.first ≢ m
+    apart g = distinct.0 (inl g)
+
+    second : level_of s m ≡ level
+    second = (subst (λ o. IsLevelOf s o level) e l.second).0
+
+    second-false : IsTrueIn t (opposite m)
+    second-false = other-false s t i level c w v l deep ct m (subst (λ o. m ∈ o) (sym e) (inl refl))
+
+    -- both are false before the levels are undone
+    not-opposite : m ≢ opposite l.first
+    not-opposite g =
+        let on : (x : Literal) → x ∈ d → IsTrueIn s (opposite x) = λ x h. trail-true s w (opposite x) (l.false_now x (subst (λ y. x ∈ y) (sym whole) h)) in
+        made-clash s.values (opposite l.first) (on l.first (inl refl)) (subst (λ x. IsTrueIn s (opposite x)) g (on m (inr (inl refl))))
+
+    -- it is kept, and is the reason of its first literal
+    module _ (W : Watches) (p : IsPropagated W s) where
+      first-listed : opposite l.first < length t.binary
+      first-listed = let n = (pt W p).binary in let o = listed l.first (length t.values) inside in omega (arith, n, o)
+
+      second-listed : opposite m < length t.binary
+      second-listed = let n = (pt W p).binary in let o = listed m (length t.values) (in-whole m (inr (inl refl))) in omega (arith, n, o)
+
+      pub joins : (K : Keeping) (r : Reason) → IsKeptAsReason (keeping_of t) K d r → Joins t K d l.first r
+      joins = go ms refl
+        where
+          two : ms ≡ [] → SameSet d (l.first ∷ m ∷ [])
+          two f = subst (λ o. SameSet (l.first ∷ m ∷ o) (l.first ∷ m ∷ [])) (sym f) (same_set-self (l.first ∷ m ∷ []))
+
+          go : (os : Clause) → ms ≡ os → (K : Keeping) (r : Reason) → IsKeptAsReason (keeping_of t) K (l.first ∷ m ∷ os) r → Joins t K d l.first r
+          go [] f K r (g, h) =
+              subst (λ X. Joins t X d l.first r) (sym g)
+              (subst (Joins t (record (keeping_of t) { binary = with_pair t.binary l.first m }) d l.first) (sym h)
+              (record {
+                well = well-pair t l.first m first-listed second-listed apart wt not-opposite inside (in-whole m (inr (inl refl)));
+                implies = (m, refl, (adds-pair t.binary l.first m first-listed second-listed).second, second-false);
+                clause = refl;
+                same = pair-same t (record t { binary = with_pair t.binary l.first m }) l.first m (learned d) first-listed second-listed apart (two f) refl refl;
+                seen = pair-seen t (record t { binary = with_pair t.binary l.first m }) l.first m (learned d) first-listed second-listed apart (two f) refl refl;
+              }))
+          go (n ∷ ns) f K r (b, (q, k, h)) =
+              let j = learned_at q d in
+              let k' : K.clauses ≡ t.clauses ++ j ∷ [] = k.0 ∙ ap (λ o. t.clauses ++ learned_at q (l.first ∷ m ∷ o) ∷ []) (sym f) in
+              let long : record K { clauses = K.clauses } ≡ record K { clauses = t.clauses ++ j ∷ [] } = ap (λ ks. record K { clauses = ks }) k' in
+              let is : K ≡ record { clauses = t.clauses ++ j ∷ []; binary = t.binary } = long ∙ ap (λ B. record { clauses = t.clauses ++ j ∷ []; binary = B }) b in
+              subst (λ X. Joins t X d l.first r) (sym is)
+              (subst (Joins t (record { clauses = t.clauses ++ j ∷ []; binary = t.binary }) d l.first) (sym h)
+              (record {
+                well = kept-well t j k.1 wt in-whole (omega arith) distinct;
+                implies = (place-last t.clauses j, (m ∷ ms, kept-last t j k.1 wt, λ x i'. other-false s t i level c w v l deep ct x (subst (λ o. x ∈ o) (sym e) i')));
+                clause = refl;
+                same = long-same t (record t { clauses = t.clauses ++ j ∷ [] }) j refl refl;
+                seen = long-seen t (record t { clauses = t.clauses ++ j ∷ [] }) j refl refl;
+              }))
+
+      pub kept-result : (K : Keeping) (r : Reason) → IsKeptAsReason (keeping_of t) K d r → Result s (enqueued (keeping t K) l.first r)
+      kept-result K r k =
+          let j = joins K r k in
+          let t' = keeping t K in
+          let z = enqueued t' l.first r in
+          record {
+            well = enqueued-well t' l.first r j.well inside free j.implies;
+            settled = λ j' h.
+                let le : decision_at t j' ≤ length t.trail = let o = (wt.decided j' h).0 in omega (arith, o) in
+                subst (λ x. IsComplete (kept t') x) (sym (take-append-le (decision_at t j') t.trail (l.first ∷ []) le))
+                (complete-same (kept t ++ d ∷ []) (kept t') (take (decision_at t j') t.trail) j.same
+                (complete_added (kept t) (take (decision_at t j') t.trail) d l.first m (inl refl) (inr (inl refl)) apart
+                (λ q. let (x, y, o, f) = place_in_take (opposite l.first) t.trail (decision_at t j') 0 q in none-made t.values l.first (opposite l.first) free (variable-opposite l.first) (subst (IsTrueIn t) f (wt.is_true x o)))
+                (other-unknown m j' second h)
+                (vt j' h)));
+            rises = rises s t i level c w v l deep ct z (kinds-enqueued t' l.first r j.well inside free ∙ ap (λ b. kinds t ++ (b || nat_eq (length t.decisions) 0) ∷ []) j.clause);
+            count = length-set t.values (variable_of l.first) (Some (polarity_of l.first)) ∙ ct.count;
+          }
+
+      -- and it is watched, or listed where it has two literals
+      pub kept-propagated : (V : Watches) (K : Keeping) (r : Reason) → IsKeptAsReason (keeping_of t) K d r → IsWatchedAsReason W V d r → IsPropagated V (enqueued (keeping t K) l.first r)
+      kept-propagated V = go ms refl
+        where
+          -- its first two literals are false at no level below the present one
+          late : (j q : ℕ) → j < 2 → q < t.queue_head → literal_at t q ≡ opposite (at d j) → (k : ℕ) → k < length t.decisions → decision_at t k ≤ q
+          late zero q a f g k h = absurd (first-late q f g)
+          late (suc zero) q a f g k h = second-late m second q f g k h
+          late (suc (suc j)) q a f g k h = absurd (omega (arith, a))
+
+          go : (os : Clause) → ms ≡ os → (K : Keeping) (r : Reason) → IsKeptAsReason (keeping_of t) K (l.first ∷ m ∷ os) r → IsWatchedAsReason W V d r → IsPropagated V (enqueued (keeping t K) l.first r)
+          go [] f K r (g, h) y =
+              let same : V ≡ W = subst (IsWatchedAsReason W V d) h y in
+              subst (λ X. IsPropagated V (enqueued (keeping t X) l.first r)) (sym g)
+              (subst (λ X. IsPropagated X (enqueued (record t { binary = with_pair t.binary l.first m }) l.first r)) (sym same)
+              (propagated-learned-pair t l.first m first-listed second-listed apart W r wt (pt W p) first-late (second-late m second)))
+          go (n ∷ ns) f K r (b, (q, k, h)) y =
+              let j = learned_at q d in
+              let k' : K.clauses ≡ t.clauses ++ j ∷ [] = k.0 ∙ ap (λ o. t.clauses ++ learned_at q (l.first ∷ m ∷ o) ∷ []) (sym f) in
+              let long : record K { clauses = K.clauses } ≡ record K { clauses = t.clauses ++ j ∷ [] } = ap (λ ks. record K { clauses = ks }) k' in
+              let is : K ≡ record { clauses = t.clauses ++ j ∷ []; binary = t.binary } = long ∙ ap (λ B. record { clauses = t.clauses ++ j ∷ []; binary = B }) b in
+              subst (λ X. IsPropagated V (enqueued (keeping t X) l.first r)) (sym is)
+              (propagated-learned W V t j (pt W p) k.1 (subst (IsWatchedAsReason W V d) h y) l.first r wt refl (omega arith) late)

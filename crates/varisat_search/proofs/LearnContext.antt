@@ -1,21 +1,20 @@
 -- The contexts of `learn`.
 use Rattle.std.proofs.Common.{◌≡◌, ℕ, ◌*◌, ◌<◌, ◌≤◌, Bool, false, replicate, Some, List, [], ◌∷◌, ◌++◌, length, length-set, ◌⊎◌, inl, inr, ⊎_elim, refl, sym, ap, ◌∙◌, subst, arith}
 use Rattle.std.proofs.lemmas.Bool.{cases_lt}
-use Rattle.varisat_theory.specs.Membership.{◌∈◌}
+use Rattle.varisat_theory.specs.Membership.{◌∈◌, ◌⊆◌}
 use Rattle.varisat_theory.specs.Literals.{Literal, Clause, variable_of, opposite}
 use Rattle.varisat_theory.proofs.Places.{place_in}
+use Rattle.varisat_theory.proofs.Held.{same_clauses_find, same_clauses-back}
 use Rattle.varisat_literals.specs.Numbers.{polarity_of}
 use Rattle.varisat_prop.specs.declared.prop.graph.Reason.{Reason}
 use Rattle.varisat_prop.specs.declared.prop.graph.Reason.TheVariants as reason
-use Rattle.varisat_prop.specs.Stored.{StoredClause, literals_of, IsPlace}
-use Rattle.varisat_prop.proofs.AllocClauses.{literals-more}
+use Rattle.varisat_prop.specs.declared.prop.graph.Conflict.{Conflict}
 use Rattle.varisat_prop.proofs.LiteralValues.{made-inside, variable-opposite}
 use Rattle.varisat_prop.proofs.TrailValues.{trail-true}
 use Rattle.varisat_prop.proofs.LongVisited.{listed}
 use Rattle.varisat_prop.specs.View.{View, kept, WellFormed, LevelsSettled}
 use Rattle.varisat_prop.specs.Watches.{Watches, IsPropagated}
-use Rattle.varisat_prop.specs.Visits.{WatchesClause}
-use Rattle.varisat_prop.specs.Changes.{enqueued}
+use Rattle.varisat_prop.specs.Changes.{enqueued, IsNamed}
 use Rattle.varisat_vsids.specs.Activities.{Activities}
 use Rattle.varisat_search.specs.declared.context.Context.{Context}
 use Rattle.varisat_search.specs.declared.state.SatState.{SatState}
@@ -23,7 +22,7 @@ use Rattle.varisat_search.specs.declared.state.SatState.TheVariants as verdict
 use Rattle.varisat_search.specs.declared.state.SolverState.{SolverState}
 use Rattle.varisat_search.specs.Learned.{Analysis, IsLearned, IsAsserting, AreInvolved}
 use Rattle.varisat_search.specs.Contexts.{view, IsReady}
-use Rattle.varisat_search.specs.Conflicts.{learned_at, IsKeptAsReason, IsWatchedAsReason}
+use Rattle.varisat_search.specs.Conflicts.{Keeping, IsKeptAsReason, IsWatchedAsReason}
 use Rattle.varisat_search.specs.Decisions.{HasActivities, AreDecidable, SameDecidable, MakesAvailable}
 use Rattle.varisat_search.specs.Bumps.{BumpsInvolved}
 use Rattle.varisat_search.specs.Steps.{IsCut, Saves, SavesSome, IsFree}
@@ -36,7 +35,7 @@ use Rattle.varisat_search.proofs.ViewSearch.{view_reads}
 use Rattle.varisat_search.proofs.AddedClause.{last-one}
 use Rattle.varisat_search.proofs.DecidableVariables.{can-decide, same-read, same-trans, at-valued, enqueued-same}
 use Rattle.varisat_search.proofs.LearnLines.{steps_kept, steps_unit}
-use Rattle.varisat_search.proofs.LearnClause.{Result, second-level, first-inside, first-free, unit-result, kept-result, unit-propagated, kept-propagated}
+use Rattle.varisat_search.proofs.LearnClause.{keeping, keeping_of, Result, second-level, first-inside, first-free, unit-result, unit-propagated, joins, kept-result, kept-propagated}
 
 same-first : (l m : Literal) (c d : Clause) → (l ∷ c) ≡ (m ∷ d) → l ≡ m
 same-first l m c d e = cc
@@ -45,10 +44,10 @@ same-others : (l m : Literal) (c d : Clause) → (l ∷ c) ≡ (m ∷ d) → c �
 same-others l m c d e = cc
 
 -- a clause with a literal was learned above level 0
-pub is-above : (s : View) (i level : ℕ) (l : Literal) (others : Clause) → IsLearned s i (l ∷ others) level → 0 < length s.decisions
+pub is-above : (s : View) (i : Conflict) (level : ℕ) (l : Literal) (others : Clause) → IsLearned s i (l ∷ others) level → 0 < length s.decisions
 is-above s i level l others d = ⊎_elim (λ h. h) (λ h. let e = (d.at_zero (omega (arith, h))).0 in absurd cc) (cases_lt 0 (length s.decisions))
 
-module _ (s t : View) (i level : ℕ) (l : Literal) (others : Clause) (w : WellFormed s) (v : LevelsSettled s) (d : IsLearned s i (l ∷ others) level) (cut : level < length s.decisions → IsCut s t level) where
+module _ (s t : View) (i : Conflict) (level : ℕ) (l : Literal) (others : Clause) (w : WellFormed s) (v : LevelsSettled s) (d : IsLearned s i (l ∷ others) level) (cut : level < length s.decisions → IsCut s t level) where
   deep : 0 < length s.decisions
   deep = is-above s i level l others d
 
@@ -77,53 +76,51 @@ module _ (s t : View) (i level : ℕ) (l : Literal) (others : Clause) (w : WellF
       let k = ap (λ (x : View). length x.nodes) ct.rest in
       omega (arith, a, n, m, k)
 
-  -- what is made of the learned clause
-  pub learned-result : (z : View) (P : List StoredClause) (r : Reason) (o : Clause) → others ≡ o → IsKeptAsReason t.clauses P (l ∷ o) r → z ≡ enqueued (record t { clauses = P }) l r → Result s z
-  learned-result z P r [] e (f, g) h =
-      let whole : z ≡ enqueued t asserting.first reason.Unit = h ∙ ap (λ x. enqueued (record t { clauses = x }) l r) f ∙ ap (λ x. enqueued t l x) g ∙ ap (λ x. enqueued t x reason.Unit) first-is in
-      subst (Result s) (sym whole) (unit-result s t i level (l ∷ others) w v asserting deep (cut below) (sym others-are ∙ e))
-  learned-result z P r (m ∷ ms) e (p, k, g) h =
-      let c = l ∷ others in
-      let f' : P ≡ t.clauses ++ learned_at p c ∷ [] = k.0 ∙ ap (λ o. t.clauses ++ learned_at p (l ∷ o) ∷ []) (sym e) in
-      let whole : z ≡ enqueued (record t { clauses = t.clauses ++ learned_at p c ∷ [] }) asserting.first (reason.Long p) =
-      h ∙ ap (λ x. enqueued (record t { clauses = x }) l r) f' ∙ ap (λ x. enqueued (record t { clauses = t.clauses ++ learned_at p c ∷ [] }) l x) g ∙ ap (λ x. enqueued (record t { clauses = t.clauses ++ learned_at p c ∷ [] }) x (reason.Long p)) first-is in
-      subst (Result s) (sym whole) (kept-result s t i level c w v asserting deep (cut below) p k.1 m ms (sym others-are ∙ e))
+  here : (K : Keeping) (r : Reason) (o : Clause) → IsKeptAsReason (keeping_of t) K (l ∷ o) r → IsKeptAsReason (keeping_of t) K (asserting.first ∷ o) r
+  here K r o = subst (λ x. IsKeptAsReason (keeping_of t) K (x ∷ o) r) first-is
 
-  -- the clause is watched
-  pub learned-propagated : (W V : Watches) (z : View) (P : List StoredClause) (r : Reason) (o : Clause) → IsPropagated W s → others ≡ o → IsKeptAsReason t.clauses P (l ∷ o) r → IsWatchedAsReason W V (l ∷ o) r → z ≡ enqueued (record t { clauses = P }) l r → IsPropagated V z
-  learned-propagated W V z P r [] p e (f, g) q h =
-      let whole : z ≡ enqueued t asserting.first reason.Unit = h ∙ ap (λ x. enqueued (record t { clauses = x }) l r) f ∙ ap (λ x. enqueued t l x) g ∙ ap (λ x. enqueued t x reason.Unit) first-is in
-      let same : V ≡ W = subst (IsWatchedAsReason W V (l ∷ [])) g q in
-      subst (λ X. IsPropagated X z) (sym same) (subst (IsPropagated W) (sym whole) (unit-propagated s t i level (l ∷ others) w v asserting deep (cut below) W p))
-  learned-propagated W V z P r (m ∷ ms) p e (a, k, g) q h =
-      let c = l ∷ others in
-      let f' : P ≡ t.clauses ++ learned_at a c ∷ [] = k.0 ∙ ap (λ o. t.clauses ++ learned_at a (l ∷ o) ∷ []) (sym e) in
-      let whole : z ≡ enqueued (record t { clauses = t.clauses ++ learned_at a c ∷ [] }) asserting.first (reason.Long a) =
-      h ∙ ap (λ x. enqueued (record t { clauses = x }) l r) f' ∙ ap (λ x. enqueued (record t { clauses = t.clauses ++ learned_at a c ∷ [] }) l x) g ∙ ap (λ x. enqueued (record t { clauses = t.clauses ++ learned_at a c ∷ [] }) x (reason.Long a)) first-is in
-      let watched : WatchesClause W V a c = subst (λ o. WatchesClause W V a (l ∷ o)) (sym e) (subst (IsWatchedAsReason W V (l ∷ m ∷ ms)) g q) in
-      subst (IsPropagated V) (sym whole) (kept-propagated s t i level c w v asserting deep (cut below) W V a p k.1 m ms (sym others-are ∙ e) watched)
+  unit-is : (z : View) (K : Keeping) (r : Reason) → K ≡ keeping_of t → r ≡ reason.Unit → z ≡ enqueued (keeping t K) l r → z ≡ enqueued t asserting.first reason.Unit
+  unit-is z K r f g h = h ∙ ap (λ x. enqueued (keeping t x) l r) f ∙ ap (λ x. enqueued t l x) g ∙ ap (λ x. enqueued t x reason.Unit) first-is
 
-  -- the line that is written
-  pub learned-steps : (z : View) (P : List StoredClause) (r : Reason) (o : Clause) → others ≡ o → IsKeptAsReason t.clauses P (l ∷ o) r → z ≡ enqueued (record t { clauses = P }) l r → Steps (search_of s) (search_of z) Unknown (Add (l ∷ others) ∷ [])
-  learned-steps z P r [] e (f, g) h =
-      let whole : z ≡ enqueued t asserting.first reason.Unit = h ∙ ap (λ x. enqueued (record t { clauses = x }) l r) f ∙ ap (λ x. enqueued t l x) g ∙ ap (λ x. enqueued t x reason.Unit) first-is in
-      subst (λ y. Steps (search_of s) (search_of y) Unknown (Add (l ∷ others) ∷ [])) (sym whole) (steps_unit s t i level (l ∷ others) w v asserting deep (cut below) d.follows (sym others-are ∙ e))
-  learned-steps z P r (m ∷ ms) e (p, k, g) h =
-      let c = l ∷ others in
-      let f' : P ≡ t.clauses ++ learned_at p c ∷ [] = k.0 ∙ ap (λ o. t.clauses ++ learned_at p (l ∷ o) ∷ []) (sym e) in
-      let whole : z ≡ enqueued (record t { clauses = t.clauses ++ learned_at p c ∷ [] }) asserting.first (reason.Long p) =
-      h ∙ ap (λ x. enqueued (record t { clauses = x }) l r) f' ∙ ap (λ x. enqueued (record t { clauses = t.clauses ++ learned_at p c ∷ [] }) l x) g ∙ ap (λ x. enqueued (record t { clauses = t.clauses ++ learned_at p c ∷ [] }) x (reason.Long p)) first-is in
-      subst (λ y. Steps (search_of s) (search_of y) Unknown (Add (l ∷ others) ∷ [])) (sym whole) (steps_kept s t i level c w v asserting deep (cut below) d.follows p k.1 m ms (sym others-are ∙ e))
+  first-here : (z : View) (K : Keeping) (r : Reason) → z ≡ enqueued (keeping t K) l r → z ≡ enqueued (keeping t K) asserting.first r
+  first-here z K r h = h ∙ ap (λ x. enqueued (keeping t K) x r) first-is
 
-kept-or-learned : (old new : List StoredClause) (c : Clause) (r : Reason) (e : Clause) → IsKeptAsReason old new c r → e ∈ literals_of new → (e ∈ literals_of old) ⊎ (e ≡ c)
-kept-or-learned old new [] r e (f, g) h = inl (subst (λ ks. e ∈ literals_of ks) f h)
-kept-or-learned old new (l ∷ []) r e (f, g) h = inl (subst (λ ks. e ∈ literals_of ks) f h)
-kept-or-learned old new (l ∷ m ∷ c) r e (p, k, g) h =
-    let j = learned_at p (l ∷ m ∷ c) in
-    last-one (literals_of old) (l ∷ m ∷ c) e (subst (λ ks. e ∈ ks) (ap literals_of k.0 ∙ literals-more old j) h)
+  module _ (W : Watches) (p : IsPropagated W s) where
+    -- what is made of the learned clause
+    pub learned-result : (z : View) (K : Keeping) (r : Reason) (o : Clause) → others ≡ o → IsKeptAsReason (keeping_of t) K (l ∷ o) r → z ≡ enqueued (keeping t K) l r → Result s z
+    learned-result z K r [] e (f, g) h =
+        subst (Result s) (sym (unit-is z K r f g h)) (unit-result s t i level (l ∷ others) w v asserting deep (cut below) (sym others-are ∙ e))
+    learned-result z K r (m ∷ ms) e k h =
+        subst (Result s) (sym (first-here z K r h)) (kept-result s t i level (l ∷ others) w v asserting deep (cut below) m ms (sym others-are ∙ e) W p K r (here K r (m ∷ ms) k))
+
+    -- the clause is watched
+    pub learned-propagated : (V : Watches) (z : View) (K : Keeping) (r : Reason) (o : Clause) → others ≡ o → IsKeptAsReason (keeping_of t) K (l ∷ o) r → IsWatchedAsReason W V (l ∷ o) r → z ≡ enqueued (keeping t K) l r → IsPropagated V z
+    learned-propagated V z K r [] e (f, g) q h =
+        let same : V ≡ W = subst (IsWatchedAsReason W V (l ∷ [])) g q in
+        subst (λ X. IsPropagated X z) (sym same) (subst (IsPropagated W) (sym (unit-is z K r f g h)) (unit-propagated s t i level (l ∷ others) w v asserting deep (cut below) W p))
+    learned-propagated V z K r (m ∷ ms) e k q h =
+        let watched : IsWatchedAsReason W V (asserting.first ∷ m ∷ ms) r = subst (λ x. IsWatchedAsReason W V (x ∷ m ∷ ms) r) first-is q in
+        subst (IsPropagated V) (sym (first-here z K r h)) (kept-propagated s t i level (l ∷ others) w v asserting deep (cut below) m ms (sym others-are ∙ e) W p V K r (here K r (m ∷ ms) k) watched)
+
+    -- the line that is written
+    pub learned-steps : (z : View) (K : Keeping) (r : Reason) (o : Clause) → others ≡ o → IsKeptAsReason (keeping_of t) K (l ∷ o) r → z ≡ enqueued (keeping t K) l r → Steps (search_of s) (search_of z) Unknown (Add (l ∷ others) ∷ [])
+    learned-steps z K r [] e (f, g) h =
+        subst (λ y. Steps (search_of s) (search_of y) Unknown (Add (l ∷ others) ∷ [])) (sym (unit-is z K r f g h)) (steps_unit s t i level (l ∷ others) w v asserting deep (cut below) d.follows (sym others-are ∙ e))
+    learned-steps z K r (m ∷ ms) e k h =
+        subst (λ y. Steps (search_of s) (search_of y) Unknown (Add (l ∷ others) ∷ [])) (sym (first-here z K r h)) (steps_kept s t i level (l ∷ others) w v asserting deep (cut below) d.follows W p m ms (sym others-are ∙ e) K r (here K r (m ∷ ms) k))
+
+    -- a clause that is kept was so before, as a set, or is the learned one
+    pub kept-or-learned : (z : View) (K : Keeping) (r : Reason) (o : Clause) → others ≡ o → IsKeptAsReason (keeping_of t) K (l ∷ o) r → z ≡ enqueued (keeping t K) l r → (c : Clause) → c ∈ kept z → (x : Clause) × ((x ∈ kept t) ⊎ (x ≡ l ∷ others)) × (c ⊆ x)
+    kept-or-learned z K r [] e (f, g) h c q = (c, inl (subst (λ ks. c ∈ ks) (ap kept (unit-is z K r f g h)) q), λ y j. j)
+    kept-or-learned z K r (m ∷ ms) e k h c q =
+        let j = joins s t i level (l ∷ others) w v asserting deep (cut below) m ms (sym others-are ∙ e) W p K r (here K r (m ∷ ms) k) in
+        let clause : Clause = asserting.first ∷ m ∷ ms in
+        let is : clause ≡ l ∷ others = ap (λ x. x ∷ m ∷ ms) (sym first-is) ∙ ap (λ o. l ∷ o) (sym e) in
+        let (x, a, u) = same_clauses_find (kept (keeping t K)) (kept t ++ clause ∷ []) (same_clauses-back (kept t ++ clause ∷ []) (kept (keeping t K)) j.same) c (subst (λ ks. c ∈ ks) (ap kept h) q) in
+        (x, ⊎_elim inl (λ y. inr (y ∙ is)) (last-one (kept t) clause x a), u.1)
 
 -- The contexts before and after analysis and bumps.
-pub record Analyzed {A : Type 0} (x0 x1 : Context A) (i level : ℕ) : Type 0 where
+pub record Analyzed {A : Type 0} (x0 x1 : Context A) (i : Conflict) (level : ℕ) : Type 0 where
   pub ready : IsReady x0
   pub unknown : x0.solver_state.sat_state ≡ verdict.Unknown
   pub analyzed : x1 ≡ record x0 { analyze_conflict = x1.analyze_conflict; tmp_flags = x1.tmp_flags; vsids = x1.vsids }
@@ -134,14 +131,14 @@ pub record Analyzed {A : Type 0} (x0 x1 : Context A) (i level : ℕ) : Type 0 wh
   pub learned : IsLearned (view x0) i x1.analyze_conflict.clause level
 
 -- The context between analysis and bumps.
-pub record Analysing {A : Type 0} (x0 x : Context A) (i level : ℕ) : Type 0 where
+pub record Analysing {A : Type 0} (x0 x : Context A) (i : Conflict) (level : ℕ) : Type 0 where
   pub ready : IsReady x0
   pub unknown : x0.solver_state.sat_state ≡ verdict.Unknown
   pub kept : x ≡ record x0 { analyze_conflict = x.analyze_conflict }
   pub room : x.analyze_conflict.var_count ≡ x0.analyze_conflict.var_count
   pub learned : IsLearned (view x0) i x.analyze_conflict.clause level
 
-pub analyzed-bumped : {A : Type 0} {x0 x x1 : Context A} {i level : ℕ} → Analysing x0 x i level → x1 ≡ record x { tmp_flags = x1.tmp_flags; vsids = x1.vsids } → x1.tmp_flags.flags.items ≡ x.tmp_flags.flags.items → x1.vsids.available ≡ x.vsids.available → HasActivities (view x1) x1.vsids → Analyzed x0 x1 i level
+pub analyzed-bumped : {A : Type 0} {x0 x x1 : Context A} {i : Conflict} {level : ℕ} → Analysing x0 x i level → x1 ≡ record x { tmp_flags = x1.tmp_flags; vsids = x1.vsids } → x1.tmp_flags.flags.items ≡ x.tmp_flags.flags.items → x1.vsids.available ≡ x.vsids.available → HasActivities (view x1) x1.vsids → Analyzed x0 x1 i level
 analyzed-bumped {A} {x0} {x} {x1} {i} {level} d k f a e =
     let analysis : x1.analyze_conflict ≡ x.analyze_conflict = ap (λ (y : Context A). y.analyze_conflict) k in
     record {
@@ -159,13 +156,13 @@ analyzed-bumped {A} {x0} {x} {x1} {i} {level} d k f a e =
 pub analysis-ready : {A : Type 0} {x0 x : Context A} → x ≡ record x0 { analyze_conflict = x.analyze_conflict } → IsReady x0 → x.analyze_conflict.var_count ≡ x0.analyze_conflict.var_count → IsReady x
 analysis-ready k r n = subst IsReady (sym k) (record { well = r.well; settled = r.settled; propagated = r.propagated; analysis = n ∙ r.analysis; flags = r.flags; decidable = r.decidable })
 
-pub involved-stored : {A : Type 0} (x0 x : Context A) (i : ℕ) → x ≡ record x0 { analyze_conflict = x.analyze_conflict } → AreInvolved (view x0) i x.analyze_conflict.involved → (p : ℕ) → p ∈ x.analyze_conflict.involved → IsPlace x.clause_alloc p
-involved-stored {A} x0 x i k a p h =
-    subst (λ ks. IsPlace ks p) (sym (ap (λ (y : Context A). y.clause_alloc) k))
-    (⊎_elim (λ o. (a.above o).stored p h) (λ z. none-there (a.at_zero (omega (arith, z))) h) (cases_lt 0 (length (view x0).decisions)))
+pub involved-named : {A : Type 0} (x0 x : Context A) (i : Conflict) → x ≡ record x0 { analyze_conflict = x.analyze_conflict } → AreInvolved (view x0) i x.analyze_conflict.involved → (f : Conflict) → f ∈ x.analyze_conflict.involved → IsNamed (view x) f
+involved-named {A} x0 x i k a f h =
+    subst (λ (y : Context A). IsNamed (view y) f) (sym k)
+    (⊎_elim (λ o. (a.above o).named f h) (λ z. none-there (a.at_zero (omega (arith, z))) h) (cases_lt 0 (length (view x0).decisions)))
   where
-    none-there : {X : Type 0} {ps : List ℕ} → ps ≡ [] → p ∈ ps → X
-    none-there e j = absurd (subst (λ qs. p ∈ qs) e j)
+    none-there : {X : Type 0} {fs : List Conflict} → fs ≡ [] → f ∈ fs → X
+    none-there e j = absurd (subst (λ qs. f ∈ qs) e j)
 
 pub bumps-learned : {A : Type 0} (x0 x x1 z : Context A) → x ≡ record x0 { analyze_conflict = x.analyze_conflict } → (0 < length x.trail.decisions → BumpsInvolved (view x) x.analyze_conflict.involved x.vsids x1.vsids) → z.analyze_conflict ≡ x.analyze_conflict → 0 < length x0.trail.decisions → BumpsInvolved (view x0) z.analyze_conflict.involved x0.vsids x1.vsids
 bumps-learned {A} x0 x x1 z k b e h =
@@ -183,7 +180,7 @@ cut-activities {A} x1 x2 level same cut =
     (cases_lt level (length x1.trail.decisions))
 
 -- The contexts of learning from a conflict: before, after analysis and bumps, and after backtracking to the level.
-pub record Backtracked {A : Type 0} (x0 x1 x2 : Context A) (i level : ℕ) : Type 0 where
+pub record Backtracked {A : Type 0} (x0 x1 x2 : Context A) (i : Conflict) (level : ℕ) : Type 0 where
   pub begun : Analyzed x0 x1 i level
   pub same : length x1.trail.decisions ≤ level → x2 ≡ x1
   pub cut : level < length x1.trail.decisions → IsCut (view x1) (view x2) level
@@ -193,7 +190,7 @@ pub record Backtracked {A : Type 0} (x0 x1 x2 : Context A) (i level : ℕ) : Typ
   pub units : x2.trail.units_removed ≡ x1.trail.units_removed
   pub back : x2 ≡ record x1 { assignment = x2.assignment; trail = x2.trail; vsids = x2.vsids }
 
-module _ {A : Type 0} {x0 x1 x2 : Context A} {i level : ℕ} (d : Backtracked x0 x1 x2 i level) where
+module _ {A : Type 0} {x0 x1 x2 : Context A} {i : Conflict} {level : ℕ} (d : Backtracked x0 x1 x2 i level) where
   same-view : view x1 ≡ view x0
   same-view = ap (λ (x : Context A). view x) d.begun.analyzed
 
@@ -208,10 +205,11 @@ module _ {A : Type 0} {x0 x1 x2 : Context A} {i level : ℕ} (d : Backtracked x0
       let state : (x : Context A) → SolverState = λ x. x.solver_state in
       ap state d.back ∙ ap state d.begun.analyzed
 
-  stored-is : x2.clause_alloc ≡ x0.clause_alloc
-  stored-is =
-      let stored : (x : Context A) → List StoredClause = λ x. x.clause_alloc in
-      ap stored d.back ∙ ap stored d.begun.analyzed
+  pairs-are : x2.binary_clauses ≡ x0.binary_clauses
+  pairs-are = ap (λ (x : Context A). (view x).binary) d.back ∙ ap (λ (x : Context A). (view x).binary) d.begun.analyzed
+
+  kept-before : kept (view x2) ≡ kept (view x0)
+  kept-before = ap (λ (x : Context A). kept (view x)) d.back ∙ ap (λ (x : Context A). kept (view x)) d.begun.analyzed
 
   watches-are : x2.watchlists ≡ x0.watchlists
   watches-are = ap (λ (x : Context A). x.watchlists) d.back ∙ ap (λ (x : Context A). x.watchlists) d.begun.analyzed
@@ -238,40 +236,50 @@ module _ {A : Type 0} {x0 x1 x2 : Context A} {i level : ℕ} (d : Backtracked x0
   still-decidable : SameDecidable (view x0) x0.vsids (view x2) x2.vsids
   still-decidable = same-trans (view x0) x0.vsids (view x1) x1.vsids (view x2) x2.vsids (same-read (view x0) x0.vsids (view x1) x1.vsids (ap (λ (x : View). x.values) same-view) d.begun.available) d.decidable
 
-  -- and each of its literals has a watch list
-  pub learned-listed : (l : Literal) (others : Clause) → x2.analyze_conflict.clause ≡ l ∷ others → (m : Literal) → m ∈ x2.analyze_conflict.clause → opposite m < length x2.watchlists.lists
-  learned-listed l others e m h =
+  -- each of its literals has a watch list, and a list of what it implies
+  literal-listed : (l : Literal) (others : Clause) → x2.analyze_conflict.clause ≡ l ∷ others → (m : Literal) → m ∈ x2.analyze_conflict.clause → opposite m < 2 * length (view x0).values
+  literal-listed l others e m h =
       let s = view x0 in
-      let ready = d.begun.ready in
       let learned = clause-is (l ∷ others) e in
       let on = (learned.above (is-above s i level l others learned)).false_now m (subst (λ c. m ∈ c) e h) in
-      let a = made-inside s.values (opposite m) (trail-true s ready.well (opposite m) on) in
+      let a = made-inside s.values (opposite m) (trail-true s d.begun.ready.well (opposite m) on) in
       let v = variable-opposite m in
-      let b = listed m (length s.values) (omega (arith, a, v)) in
-      let n = ready.propagated.lists in
+      listed m (length s.values) (omega (arith, a, v))
+
+  pub learned-listed : (l : Literal) (others : Clause) → x2.analyze_conflict.clause ≡ l ∷ others → (m : Literal) → m ∈ x2.analyze_conflict.clause → opposite m < length x2.watchlists.lists
+  learned-listed l others e m h =
+      let b = literal-listed l others e m h in
+      let n = d.begun.ready.propagated.lists in
       let o = ap (λ (X : Watches). length X.lists) watches-are in
       omega (arith, b, n, o)
 
+  pub learned-paired : (l : Literal) (others : Clause) → x2.analyze_conflict.clause ≡ l ∷ others → (m : Literal) → m ∈ x2.analyze_conflict.clause → opposite m < length (view x2).binary
+  learned-paired l others e m h =
+      let b = literal-listed l others e m h in
+      let n = d.begun.ready.propagated.binary in
+      let o = ap (λ (B : List (List Literal)). length B) pairs-are in
+      omega (arith, b, n, o)
+
 -- The clause with a literal was learned, and kept unless it is a unit clause.
-pub record Learning {A : Type 0} (x0 x1 x2 x3 : Context A) (i level : ℕ) (l : Literal) (others : Clause) (r : Reason) : Type 0 where
+pub record Learning {A : Type 0} (x0 x1 x2 x3 : Context A) (i : Conflict) (level : ℕ) (l : Literal) (others : Clause) (r : Reason) : Type 0 where
   pub before : Backtracked x0 x1 x2 i level
   pub split : x2.analyze_conflict.clause ≡ l ∷ others
-  pub stored : x3 ≡ record x2 { clause_alloc = x3.clause_alloc; watchlists = x3.watchlists }
-  pub kept : IsKeptAsReason x2.clause_alloc x3.clause_alloc x2.analyze_conflict.clause r
+  pub stored : x3 ≡ record x2 { binary_clauses = x3.binary_clauses; clause_alloc = x3.clause_alloc; watchlists = x3.watchlists }
+  pub kept : IsKeptAsReason (keeping_of (view x2)) (keeping_of (view x3)) x2.analyze_conflict.clause r
   pub watched : IsWatchedAsReason x2.watchlists x3.watchlists x2.analyze_conflict.clause r
 
-module _ {A : Type 0} {x0 x1 x2 x3 : Context A} {i level : ℕ} {l : Literal} {others : Clause} {r : Reason} (d : Learning x0 x1 x2 x3 i level l others r) where
+module _ {A : Type 0} {x0 x1 x2 x3 : Context A} {i : Conflict} {level : ℕ} {l : Literal} {others : Clause} {r : Reason} (d : Learning x0 x1 x2 x3 i level l others r) where
   abbrev b : Backtracked x0 x1 x2 i level
   b = d.before
 
   learned-is : IsLearned (view x0) i (l ∷ others) level
   learned-is = clause-is b (l ∷ others) d.split
 
-  stored-view : view x3 ≡ record (view x2) { clauses = x3.clause_alloc }
+  stored-view : view x3 ≡ keeping (view x2) (keeping_of (view x3))
   stored-view = ap (λ (x : Context A). view x) d.stored
 
-  kept-is : IsKeptAsReason x2.clause_alloc x3.clause_alloc (l ∷ others) r
-  kept-is = subst (λ c. IsKeptAsReason x2.clause_alloc x3.clause_alloc c r) d.split d.kept
+  kept-is : IsKeptAsReason (keeping_of (view x2)) (keeping_of (view x3)) (l ∷ others) r
+  kept-is = subst (λ c. IsKeptAsReason (keeping_of (view x2)) (keeping_of (view x3)) c r) d.split d.kept
 
   watched-is : IsWatchedAsReason x0.watchlists x3.watchlists (l ∷ others) r
   watched-is = subst (λ W. IsWatchedAsReason W x3.watchlists (l ∷ others) r) (watches-are b) (subst (λ c. IsWatchedAsReason x2.watchlists x3.watchlists c r) d.split d.watched)
@@ -291,7 +299,7 @@ module _ {A : Type 0} {x0 x1 x2 x3 : Context A} {i level : ℕ} {l : Literal} {o
 
   -- once the first literal is made true
   module _ (z : Context A) (made : z ≡ record x3 { assignment = z.assignment; impl_graph = z.impl_graph; trail = z.trail }) (e : view z ≡ enqueued (view x3) l r) where
-    last-view : view z ≡ enqueued (record (view x2) { clauses = x3.clause_alloc }) l r
+    last-view : view z ≡ enqueued (keeping (view x2) (keeping_of (view x3))) l r
     last-view = e ∙ ap (λ s. enqueued s l r) stored-view
 
     vsids-is : z.vsids ≡ x2.vsids
@@ -308,7 +316,7 @@ module _ {A : Type 0} {x0 x1 x2 x3 : Context A} {i level : ℕ} {l : Literal} {o
 
     last-same : SameDecidable (view x0) x0.vsids (view z) z.vsids
     last-same =
-        let t : View = record (view x2) { clauses = x3.clause_alloc } in
+        let t : View = keeping (view x2) (keeping_of (view x3)) in
         let free : variable_of l < length t.values = (subst (λ (s : View). IsFree s l) stored-view learning-free).0 in
         let here : SameDecidable t x2.vsids (enqueued t l r) x2.vsids = enqueued-same t x2.vsids l r free ((still-decidable b (variable_of l)).0 (learned-decidable l (inl refl))) in
         same-trans (view x0) x0.vsids (view x2) x2.vsids (view z) z.vsids (still-decidable b)
@@ -317,16 +325,19 @@ module _ {A : Type 0} {x0 x1 x2 x3 : Context A} {i level : ℕ} {l : Literal} {o
 
     last-decidable : (c : Clause) → c ∈ kept (view z) → AreDecidable (view x0) x0.vsids c
     last-decidable c h =
+        let (x, o, u) = kept-or-learned (view x0) (view x2) i level l others b.begun.ready.well b.begun.ready.settled learned-is (cut-is b) x0.watchlists b.begun.ready.propagated (view z) (keeping_of (view x3)) r others refl kept-is last-view c h in
+        let decidable : AreDecidable (view x0) x0.vsids x =
         ⊎_elim
-        (λ k. b.begun.ready.decidable.decidable c (subst (λ ks. c ∈ literals_of ks) (stored-is b) k))
+        (λ k. b.begun.ready.decidable.decidable x (subst (λ ks. x ∈ ks) (kept-before b) k))
         (λ f. subst (AreDecidable (view x0) x0.vsids) (sym f) learned-decidable)
-        (kept-or-learned x2.clause_alloc x3.clause_alloc (l ∷ others) r c kept-is (subst (λ (x : View). c ∈ kept x) last-view h))
+        o in
+        λ m j. decidable m (u m j)
 
     pub learning-further : z.trail.units_removed ≡ x3.trail.units_removed → IsStepFurther x0 z
     learning-further u =
-        let q = learned-result (view x0) (view x2) i level l others b.begun.ready.well b.begun.ready.settled learned-is (cut-is b) (view z) x3.clause_alloc r others refl kept-is last-view in
-        let lines = learned-steps (view x0) (view x2) i level l others b.begun.ready.well b.begun.ready.settled learned-is (cut-is b) (view z) x3.clause_alloc r others refl kept-is last-view in
-        let watched = learned-propagated (view x0) (view x2) i level l others b.begun.ready.well b.begun.ready.settled learned-is (cut-is b) x0.watchlists x3.watchlists (view z) x3.clause_alloc r others b.begun.ready.propagated refl kept-is watched-is last-view in
+        let q = learned-result (view x0) (view x2) i level l others b.begun.ready.well b.begun.ready.settled learned-is (cut-is b) x0.watchlists b.begun.ready.propagated (view z) (keeping_of (view x3)) r others refl kept-is last-view in
+        let lines = learned-steps (view x0) (view x2) i level l others b.begun.ready.well b.begun.ready.settled learned-is (cut-is b) x0.watchlists b.begun.ready.propagated (view z) (keeping_of (view x3)) r others refl kept-is last-view in
+        let watched = learned-propagated (view x0) (view x2) i level l others b.begun.ready.well b.begun.ready.settled learned-is (cut-is b) x0.watchlists b.begun.ready.propagated x3.watchlists (view z) (keeping_of (view x3)) r others refl kept-is watched-is last-view in
         let room : (x : Context A) → ℕ = λ x. x.analyze_conflict.var_count in
         let flags : (x : Context A) → List Bool = λ x. x.tmp_flags.flags.items in
         let state : (x : Context A) → SolverState = λ x. x.solver_state in
@@ -357,7 +368,7 @@ empty-split : {X : Type 0} (c : Clause) (l : Literal) (o : Clause) → c ≡ [] 
 empty-split c l o e f = absurd cc
 
 -- The empty clause was learned.
-module _ {A : Type 0} {x0 x1 x2 : Context A} {i level : ℕ} (d : Backtracked x0 x1 x2 i level) (empty : x2.analyze_conflict.clause ≡ []) where
+module _ {A : Type 0} {x0 x1 x2 : Context A} {i : Conflict} {level : ℕ} (d : Backtracked x0 x1 x2 i level) (empty : x2.analyze_conflict.clause ≡ []) where
   none-learned : IsLearned (view x0) i [] level
   none-learned = clause-is d [] empty
 

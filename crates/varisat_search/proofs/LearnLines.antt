@@ -1,33 +1,36 @@
 -- What `learn` leaves after a conflict above level 0, as a proof sees it.
-use Rattle.std.proofs.Common.{◌≡◌, ℕ, suc, ◌<◌, true, map, None, List, [], ◌∷◌, ◌++◌, length, get_or, take, ◌⊎◌, inl, inr, ⊎_elim, sym, ap, ◌∙◌, subst, refl}
+use Rattle.std.proofs.Common.{◌≡◌, ℕ, suc, ◌<◌, true, None, List, [], ◌∷◌, ◌++◌, length, get_or, take, ◌⊎◌, inl, inr, ⊎_elim, sym, ap, ◌∙◌, subst, refl}
 use Rattle.varisat_theory.specs.Membership.{◌∈◌}
 use Rattle.varisat_theory.specs.Literals.{Literal, Clause, variable_of, IsUnit}
 use Rattle.varisat_theory.specs.Propagation.{Follows}
 use Rattle.varisat_theory.specs.Derivations.{Add}
+use Rattle.varisat_theory.specs.Held.{SameClauses}
 use Rattle.varisat_theory.proofs.Members.{∈-append_left, ∈-append_right, ∈-append_cases}
 use Rattle.varisat_theory.proofs.Held.{same_set-self}
 use Rattle.varisat_theory.proofs.Places.{∈-get_or, place_in, place_in_take}
 use Rattle.varisat_prop.specs.declared.prop.graph.Reason.{Reason}
 use Rattle.varisat_prop.specs.declared.prop.graph.Reason.TheVariants as reason
-use Rattle.varisat_prop.specs.Stored.{StoredClause, AreReordered}
-use Rattle.varisat_prop.specs.View.{View, decision_at, node_of, WellFormed, LevelsSettled, IsFixed, ViewFits}
+use Rattle.varisat_prop.specs.declared.prop.graph.Conflict.{Conflict}
+use Rattle.varisat_prop.specs.Stored.{AreReordered}
+use Rattle.varisat_prop.specs.Watches.{Watches, IsPropagated}
+use Rattle.varisat_prop.specs.View.{View, kept, is_clause, decision_at, node_of, WellFormed, LevelsSettled, IsFixed, ViewFits}
 use Rattle.varisat_prop.specs.Changes.{enqueued}
 use Rattle.varisat_prop.proofs.AllocClauses.{reordered-refl}
 use Rattle.varisat_prop.proofs.TrailExtend.{literal-new, node-new, node-other, fresh, true-old, true-new}
-use Rattle.std.proofs.lemmas.List.{map-append}
-use Rattle.varisat_search.specs.Conflicts.{learned_at}
+use Rattle.varisat_search.specs.Conflicts.{Keeping, IsKeptAsReason}
 use Rattle.varisat_search.specs.Learned.{IsAsserting, IsLevelOf}
 use Rattle.varisat_search.specs.Steps.{IsCut}
 use Rattle.varisat_search.proofs.Backtrack.{cut-well, fixed-cut}
-use Rattle.varisat_search.proofs.LearnClause.{level-below, first-free, first-inside, no-part, unit-result, kept-result}
-use Rattle.varisat_theory.specs.Searches.{KeptClause, Search, clauses_of}
+use Rattle.varisat_search.proofs.LearnClause.{keeping, keeping_of, learned, level-below, first-free, first-inside, no-part, unit-result, joins, kept-result}
+use Rattle.varisat_search.proofs.PairSearch.{from-kept}
+use Rattle.varisat_theory.specs.Searches.{Search, clauses_of}
 use Rattle.varisat_theory.specs.Outcomes.{Unknown, Proves, Steps}
 use Rattle.varisat_theory.specs.StepLaws.{FollowsFrom, IsNewTo}
 use Rattle.varisat_theory.proofs.SearchFits.{same_equal}
 use Rattle.varisat_theory.proofs.StepChanges.{moves_prove}
 use Rattle.varisat_theory.proofs.StepEnds.{learned_kept, learned_unit}
 use Rattle.varisat_theory.proofs.StepStands.{step_part}
-use Rattle.varisat_search.specs.Seen.{kept_clause, search_of, IsProved}
+use Rattle.varisat_search.specs.Seen.{search_of, IsProved}
 use Rattle.varisat_search.proofs.ViewSearch.{fixed_from, fixed_to, proved_from, proved_to, view_reads, view_moves}
 
 proved_cut : (s t : View) (level : ℕ) (x : Literal) → IsCut s t level → IsProved t x → IsProved s x
@@ -45,6 +48,7 @@ same_clauses s t level c = ap (λ (x : View). x.clauses) c.rest
 pub cut_moves : (s t : View) (level : ℕ) → WellFormed s → level < length s.decisions → IsCut s t level → Proves 0 (search_of s) (search_of t) []
 cut_moves s t level w h c =
     view_moves s t w (cut-well s t level w h c) (subst (AreReordered s.clauses) (sym (same_clauses s t level c)) (reordered-refl s.clauses))
+    (ap (λ (x : View). x.binary) c.rest)
     (λ l f. fixed_after_cut s t level l w h c f)
     (λ l q. proved_cut s t level l c q)
 
@@ -88,7 +92,7 @@ unit_moves t l w inside free none wz =
     (λ (q, n). ∈-append_right x (search_of t).proved (l ∷ []) (inl q))
     (proved_old t l reason.Unit w inside free x (proved_from z wz x h)))
 
-module _ (s t : View) (i level : ℕ) (c : Clause) (w : WellFormed s) (v : LevelsSettled s) (a : IsAsserting s i c level) (deep : 0 < length s.decisions) (ct : IsCut s t level) (follows : (held : List Clause) → ViewFits held s → Follows held c) where
+module _ (s t : View) (i : Conflict) (level : ℕ) (c : Clause) (w : WellFormed s) (v : LevelsSettled s) (a : IsAsserting s i c level) (deep : 0 < length s.decisions) (ct : IsCut s t level) (follows : (held : List Clause) → ViewFits held s → Follows held c) where
   S : Search
   S = search_of s
 
@@ -110,25 +114,30 @@ module _ (s t : View) (i level : ℕ) (c : Clause) (w : WellFormed s) (v : Level
   new_to : IsNewTo (search_of s) c
   new_to held f = no-part s t i level c w v a deep ct held (view_reads s held w f)
 
-  pub steps_kept : (p : ℕ) → ((k : StoredClause) → k ∈ t.clauses → k.place < p) → (m : Literal) (ms : Clause) → a.others ≡ m ∷ ms → Steps (search_of s) (search_of (enqueued (record t { clauses = t.clauses ++ learned_at p c ∷ [] }) a.first (reason.Long p))) Unknown (Add c ∷ [])
-  steps_kept p behind m ms e =
-      let r = reason.Long p in
-      let z = enqueued (record t { clauses = t.clauses ++ learned_at p c ∷ [] }) a.first r in
-      let wz : WellFormed z = (kept-result s t i level c w v a deep ct p behind m ms e).well in
-      let k : KeptClause = record { clause = c; learned = true } in
+  -- the clauses that are kept are those from before the levels are undone
+  kept_still : (search_of t).kept ≡ (search_of s).kept
+  kept_still = ap (λ (x : View). (search_of x).kept) ct.rest
+
+  pub steps_kept : (W : Watches) → IsPropagated W s → (m : Literal) (ms : Clause) → a.others ≡ m ∷ ms → (K : Keeping) (r : Reason) → IsKeptAsReason (keeping_of t) K (a.first ∷ m ∷ ms) r → Steps (search_of s) (search_of (enqueued (keeping t K) a.first r)) Unknown (Add c ∷ [])
+  steps_kept W p m ms e K r h =
+      let z = enqueued (keeping t K) a.first r in
+      let wz : WellFormed z = (kept-result s t i level c w v a deep ct m ms e W p K r h).well in
+      let j = joins s t i level c w v a deep ct m ms e W p K r h in
+      let k = learned c in
       let S1 : Search = record (search_of s) { kept = (search_of s).kept ++ k ∷ [] } in
-      let kept : (search_of z).kept ≡ (search_of s).kept ++ k ∷ [] = map-append kept_clause t.clauses (learned_at p c ∷ []) ∙ ap (λ ks. map kept_clause ks ++ k ∷ []) (same_clauses s t level ct) in
+      let whole : c ≡ a.first ∷ m ∷ ms = a.split ∙ ap (λ o. a.first ∷ o) e in
+      let same : SameClauses (kept s ++ c ∷ []) (kept z) = subst (λ P. SameClauses (P ++ c ∷ []) (kept z)) (ap kept ct.rest) (subst (λ x. SameClauses (kept t ++ x ∷ []) (kept z)) (sym whole) j.same) in
       step_part (search_of s) S1 (search_of z) (Add c ∷ []) []
       (learned_kept (search_of s) c k (same_set-self c) follows_from new_to)
       (moves_prove S1 (search_of z)
-      (same_equal (clauses_of S1.kept) (clauses_of (search_of z).kept) (ap clauses_of (sym kept)))
-      (λ j h n. (j, subst (λ ks. j ∈ ks) (sym kept) h, n, λ x o. o))
-      (λ x h. fixed_to z wz x (fixed_stays t a.first r wt inside free x (fixed_after_cut s t level x w below ct (fixed_from s w x h))))
+      (from-kept s z k same)
+      (λ x h n. j.seen x (subst (λ y. x ∈ ((search_of t).kept ++ learned y ∷ [])) whole (subst (λ ks. x ∈ (ks ++ k ∷ [])) (sym kept_still) h)) n)
+      (λ x h. fixed_to z wz x (fixed_stays (keeping t K) a.first r j.well inside free x (fixed_after_cut s t level x w below ct (fixed_from s w x h))))
       (λ x h.
       ⊎_elim
       (λ q. proved_to s w x (proved_cut s t level x ct q))
-      (λ (q, n). absurd (let y : r ≡ reason.Unit = n in cc))
-      (proved_old t a.first r wt inside free x (proved_from z wz x h))))
+      (λ (q, n). absurd (let y : is_clause reason.Unit ≡ true = ap is_clause (sym n) ∙ j.clause in cc))
+      (proved_old (keeping t K) a.first r j.well inside free x (proved_from z wz x h))))
 
   pub steps_unit : a.others ≡ [] → Steps (search_of s) (search_of (enqueued t a.first reason.Unit)) Unknown (Add c ∷ [])
   steps_unit e =
@@ -141,12 +150,11 @@ module _ (s t : View) (i level : ℕ) (c : Clause) (w : WellFormed s) (v : Level
       let none : t.decisions ≡ [] = ap (λ (x : View). x.decisions) ct.rest ∙ ap (λ n. take n s.decisions) zero_level in
       let fixed : IsFixed z l = (true-new t l reason.Unit t.decisions wt inside free, ap (λ n. n.level) (node_last t l reason.Unit wt inside free) ∙ ap (λ (x : List ℕ). length x) none) in
       let S1 : Search = record (search_of s) { fixed = (search_of s).fixed ++ l ∷ []; proved = (search_of s).proved ++ l ∷ [] } in
-      let kept : (search_of t).kept ≡ (search_of s).kept = ap (map kept_clause) (same_clauses s t level ct) in
       step_part (search_of s) S1 (search_of z) (Add c ∷ []) []
       (learned_unit (search_of s) c l unit follows_from new_to)
       (moves_prove S1 (search_of z)
-      (same_equal (clauses_of S1.kept) (clauses_of (search_of t).kept) (ap clauses_of (sym kept)))
-      (λ j h n. (j, subst (λ ks. j ∈ ks) (sym kept) h, n, λ x o. o))
+      (same_equal (clauses_of S1.kept) (clauses_of (search_of t).kept) (ap clauses_of (sym kept_still)))
+      (λ j h n. (j, subst (λ ks. j ∈ ks) (sym kept_still) h, n, λ x o. o))
       (λ x h.
       ⊎_elim
       (λ q. fixed_to z wz x (fixed_stays t l reason.Unit wt inside free x (fixed_after_cut s t level x w below ct (fixed_from s w x q))))

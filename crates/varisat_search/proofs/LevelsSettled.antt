@@ -8,16 +8,16 @@ use Rattle.varisat_theory.proofs.Saturated.{complete_shorter}
 use Rattle.varisat_theory.proofs.Values.{parity}
 use Rattle.varisat_literals.specs.Numbers.{polarity_of}
 use Rattle.varisat_prop.specs.Parts.{is_true_value}
-use Rattle.varisat_prop.specs.Stored.{StoredClause, literals_of, AreReordered}
+use Rattle.varisat_prop.specs.Stored.{AreReordered}
 use Rattle.varisat_prop.specs.View.{View, kept, IsTrueIn, decision_at, WellFormed, LevelsSettled, Grows}
 use Rattle.varisat_prop.specs.Changes.{decided_on}
 use Rattle.varisat_prop.proofs.LiteralValues.{variable-opposite, polarity-opposite}
-use Rattle.varisat_prop.proofs.AllocClauses.{reordered-old}
 use Rattle.varisat_prop.proofs.TrailExtend.{get_or-last}
 use Rattle.varisat_search.specs.Steps.{assignment_of}
+use Rattle.varisat_search.proofs.WellFormedViews.{kept-reordered}
 
-pub complete-reordered : (P Q : List StoredClause) (known : List Literal) → AreReordered P Q → IsComplete (literals_of P) known → IsComplete (literals_of Q) known
-complete-reordered P Q known a = complete_shorter (literals_of P) (literals_of Q) known (λ d h. let (c, i, e) = reordered-old P Q a d h in (c, i, e.0, λ m k. inl (e.1 m k)))
+pub complete-reordered : (s t : View) (known : List Literal) → AreReordered s.clauses t.clauses → t.binary ≡ s.binary → IsComplete (kept s) known → IsComplete (kept t) known
+complete-reordered s t known a b = complete_shorter (kept s) (kept t) known (λ d h. let (c, i, e) = kept-reordered s t a b d h in (c, i, e.0, λ m k. inl (e.1 m k)))
 
 pub settled-grows : (s t : View) → WellFormed s → Grows s t → t.decisions ≡ s.decisions → LevelsSettled s → LevelsSettled t
 settled-grows s t w g e q j h =
@@ -27,7 +27,7 @@ settled-grows s t w g e q j h =
     let le : decision_at s j ≤ length s.trail = omega (arith, d) in
     let same : take (decision_at t j) t.trail ≡ take (decision_at s j) s.trail =
     ap (λ x. take (get_or x j 0) t.trail) e ∙ ap (λ x. take (decision_at s j) x) g.trail_more.1 ∙ take-append-le (decision_at s j) s.trail g.trail_more.0 le in
-    subst (λ x. IsComplete (kept t) x) (sym same) (complete-reordered s.clauses t.clauses (take (decision_at s j) s.trail) g.clauses (q j h'))
+    subst (λ x. IsComplete (kept t) x) (sym same) (complete-reordered s t (take (decision_at s j) s.trail) g.clauses g.binary (q j h'))
 
 take-whole : (xs ys : List ℕ) → take (length xs) (xs ++ ys) ≡ xs
 take-whole [] [] = refl

@@ -16,6 +16,7 @@ pub mod LoadContext
 pub mod LoadCopies
 pub mod LoadLines
 pub mod LoadView
+pub mod PairSearch
 pub mod RestartSteps
 pub mod SetVarCount
 pub mod StepLines

@@ -6,9 +6,9 @@ use Rattle.varisat_theory.specs.Derivations.{Line}
 use Rattle.varisat_theory.specs.Searches.{IsTautology}
 use Rattle.varisat_theory.specs.Outcomes.{Proves, Loads}
 use Rattle.varisat_prop.specs.Looks.{IsInRange}
-use Rattle.varisat_prop.specs.Stored.{literals_of}
 use Rattle.varisat_prop.specs.View.{kept, IsTrueIn}
 use Rattle.varisat_prop.specs.Watches.{IsPropagated}
+use Rattle.varisat_prop.proofs.LongVisited.{listed}
 use Rattle.varisat_vsids.specs.Activities.{Activities}
 use Rattle.varisat_search.specs.declared.context.Context.{Context}
 use Rattle.varisat_search.specs.declared.state.SatState.TheVariants as verdict
@@ -20,7 +20,7 @@ use Rattle.varisat_search.specs.Seen.{search_of, outcome_of}
 use Rattle.varisat_search.specs.Steps.{IsCut, SavesAll, reopened_state}
 use Rattle.varisat_search.proofs.DecidableVariables.{can-decide, same-trans}
 use Rattle.varisat_search.proofs.LoadDecisions.{added-same, added-kept}
-use Rattle.varisat_search.proofs.LoadView.{Restarted, restarted, restarted-propagated, added-well, undecided-settled}
+use Rattle.varisat_search.proofs.LoadView.{Restarted, restarted, restarted-kept, restarted-propagated, MayBeAdded, added-well, undecided-settled}
 use Rattle.varisat_search.proofs.LoadLines.{restart-moves, opened, lines-tautology, lines-satisfied, lines-added}
 
 -- The contexts of loading a clause: before, and once all decisions are undone and the clause's literals copied, each once.
@@ -64,6 +64,14 @@ module _ {A : Type 0} {x0 x1 : Context A} {c lits : Clause} (d : Loading x0 x1 c
   pub loading-inside : IsInRange x1.assignment.current lits
   loading-inside l h = let a = d.in_range l (d.literals.0 l h) in let n = loading-restarted.count in omega (arith, a, n)
 
+  loading-may : (IsTautology lits → ⊥) → MayBeAdded (view x1) lits
+  loading-may plain = record {
+    distinct = d.distinct;
+    plain = plain;
+    inside = loading-inside;
+    paired = λ l h. let a = listed l (length x1.assignment.current) (loading-inside l h) in let n = loading-propagated.binary in omega (arith, a, n);
+  }
+
   moves : Proves 0 (search_of (view x0)) (search_of (view x1)) []
   moves = restart-moves (view x0) (view x1) d.ready.well d.same d.cut
 
@@ -71,7 +79,7 @@ module _ {A : Type 0} {x0 x1 : Context A} {c lits : Clause} (d : Loading x0 x1 c
   verdict-is = ap (λ (x : SolverState). x.sat_state) d.state
 
   still-decidable : (e : Clause) → e ∈ kept (view x1) → AreDecidable (view x0) x0.vsids e
-  still-decidable e h = d.ready.decidable.decidable e (subst (λ ks. e ∈ literals_of ks) loading-restarted.clauses h)
+  still-decidable e h = d.ready.decidable.decidable e (subst (λ P. e ∈ P) (restarted-kept (view x0) (view x1) loading-restarted) h)
 
   literals-decidable : AreDecidable (view x1) x1.vsids lits
   literals-decidable l h = (d.stay_decidable (variable_of l)).0 (d.decidable l (d.literals.0 l h))
@@ -110,20 +118,21 @@ module _ {A : Type 0} {x0 x1 : Context A} {c lits : Clause} (d : Loading x0 x1 c
       same-trans (view x0) x0.vsids (view x1) x1.vsids (view z) z.vsids d.stay_decidable
       (subst (λ b. SameDecidable (view x1) x1.vsids (view z) b) (sym e) (added-same (view x1) (view z) x1.vsids lits x1.solver_state.sat_state z.solver_state.sat_state a literals-decidable))
 
-  added-decidable : (z : Context A) → z.vsids ≡ x1.vsids → IsAdded (view x1) (view z) lits x1.solver_state.sat_state z.solver_state.sat_state → length z.assignment.current ≡ length x1.assignment.current → CanDecide (view z) z.vsids
-  added-decidable z e a n =
+  added-decidable : MayBeAdded (view x1) lits → (z : Context A) → z.vsids ≡ x1.vsids → IsAdded (view x1) (view z) lits x1.solver_state.sat_state z.solver_state.sat_state → length z.assignment.current ≡ length x1.assignment.current → CanDecide (view z) z.vsids
+  added-decidable may z e a n =
       can-decide (view x0) x0.vsids (view z) z.vsids
       (record { activity = ap (λ (b : Activities). length b.activity) e ∙ d.entries.activity ∙ sym n; available = ap (λ (b : Activities). length b.available) e ∙ d.entries.available ∙ sym n })
       (added-stay z e a)
-      (λ c h. ⊎_elim (still-decidable c) (λ f. subst (AreDecidable (view x0) x0.vsids) (sym f) (λ l i. d.decidable l (d.literals.0 l i))) (added-kept (view x1) (view z) lits x1.solver_state.sat_state z.solver_state.sat_state a c h))
+      (λ c h. ⊎_elim (still-decidable c) (λ f l i. d.decidable l (d.literals.0 l (f l i))) (added-kept (view x1) (view z) lits x1.solver_state.sat_state z.solver_state.sat_state loading-restarted.well d.distinct may.paired a c h))
 
   -- the clause was added
-  pub loaded-added : (z : Context A) → z ≡ record x1 { assignment = z.assignment; clause_alloc = z.clause_alloc; impl_graph = z.impl_graph; solver_state = z.solver_state; trail = z.trail; watchlists = z.watchlists } → IsPropagated z.watchlists (view z) → z.solver_state ≡ record x1.solver_state { sat_state = z.solver_state.sat_state } → z.trail.units_removed ≡ x1.trail.units_removed → z.assignment.last ≡ x1.assignment.last → IsAdded (view x1) (view z) lits x1.solver_state.sat_state z.solver_state.sat_state → Loaded x0 z c
-  loaded-added z k p s u l a =
+  pub loaded-added : (IsTautology lits → ⊥) → (z : Context A) → z ≡ record x1 { assignment = z.assignment; binary_clauses = z.binary_clauses; clause_alloc = z.clause_alloc; impl_graph = z.impl_graph; solver_state = z.solver_state; trail = z.trail; watchlists = z.watchlists } → IsPropagated z.watchlists (view z) → z.solver_state ≡ record x1.solver_state { sat_state = z.solver_state.sat_state } → z.trail.units_removed ≡ x1.trail.units_removed → z.assignment.last ≡ x1.assignment.last → IsAdded (view x1) (view z) lits x1.solver_state.sat_state z.solver_state.sat_state → Loaded x0 z c
+  loaded-added plain z k p s u l a =
       let r = loading-restarted in
+      let may = loading-may plain in
       let vsids : z.vsids ≡ x1.vsids = ap (λ (x : Context A). x.vsids) k in
       let b : IsAdded (view x1) (view z) lits (reopened_state x0.solver_state.sat_state) z.solver_state.sat_state = subst (λ b. IsAdded (view x1) (view z) lits b z.solver_state.sat_state) verdict-is a in
-      let q = added-well (view x0) (view x1) lits r d.distinct loading-inside (view z) lits (reopened_state x0.solver_state.sat_state) z.solver_state.sat_state refl b in
+      let q = added-well (view x0) (view x1) lits r may (view z) lits (reopened_state x0.solver_state.sat_state) z.solver_state.sat_state refl b in
       record {
         ready = record {
           well = q.0;
@@ -131,9 +140,9 @@ module _ {A : Type 0} {x0 x1 : Context A} {c lits : Clause} (d : Loading x0 x1 c
           propagated = p;
           analysis = ap (λ (x : Context A). x.analyze_conflict.var_count) k ∙ d.analysis ∙ d.ready.analysis ∙ sym q.2;
           flags = ap (λ (x : Context A). x.tmp_flags.flags.items) k ∙ d.flags ∙ d.ready.flags ∙ ap (λ n. replicate (2 * n) false) (sym q.2);
-          decidable = added-decidable z vsids a (q.2 ∙ sym r.count);
+          decidable = added-decidable may z vsids a (q.2 ∙ sym r.count);
         };
-        lines = λ n m. ([], lines-added (view x0) (view x1) c lits d.ready.well r moves d.distinct d.literals (view z) lits (reopened_state x0.solver_state.sat_state) z.solver_state.sat_state (opened x0.solver_state.sat_state n m) refl b);
+        lines = λ n m. ([], lines-added (view x0) (view x1) c lits d.ready.well r moves d.distinct d.literals may (view z) lits (reopened_state x0.solver_state.sat_state) z.solver_state.sat_state (opened x0.solver_state.sat_state n m) refl b);
         last = subst (SavesAll (view x0) x0.assignment.last) (sym l) d.last;
         state = s ∙ ap (λ (y : SolverState). record y { sat_state = z.solver_state.sat_state }) d.state;
         count = q.2;

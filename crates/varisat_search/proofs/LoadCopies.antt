@@ -1,5 +1,5 @@
 -- Copies of a clause's literals, each once, and their flags.
-use Rattle.std.proofs.Common.{◌≡◌, ℕ, zero, suc, ◌+◌, ◌*◌, ◌<◌, ◌≤◌, Bool, true, false, List, [], ◌∷◌, ◌++◌, inl, inr, ⊎_elim, length, get_or, set, take, take_all, refl, sym, ap, ◌∙◌, subst, arith, get_or-set_same, get_or-set_other}
+use Rattle.std.proofs.Common.{◌≡◌, ◌≢◌, ℕ, zero, suc, ◌+◌, ◌*◌, ◌<◌, ◌≤◌, Bool, true, false, List, [], ◌∷◌, ◌++◌, inl, inr, ⊎_elim, length, get_or, set, take, take_all, refl, sym, ap, ap₂, ◌∙◌, subst, arith, get_or-set_same, get_or-set_other}
 use Rattle.varisat_theory.specs.Literals.{Literal, variable_of}
 use Rattle.varisat_theory.proofs.Members.{equal_or_not}
 use Rattle.varisat_search.specs.Loading.{AreFlagged}
@@ -7,7 +7,7 @@ use Rattle.varisat_theory.specs.Membership.{◌∈◌, SameSet, IsDistinct}
 use Rattle.varisat_theory.proofs.Members.{∈-append_left, ∈-append_right, ∈-append_cases}
 use Rattle.varisat_theory.proofs.Places.{∈-take_more}
 
-pub distinct-push : (xs : List ℕ) (x : ℕ) → IsDistinct xs → (x ∈ xs → ⊥) → IsDistinct (xs ++ x ∷ [])
+pub distinct-push : {X : Type 0} (xs : List X) (x : X) → IsDistinct xs → (x ∈ xs → ⊥) → IsDistinct (xs ++ x ∷ [])
 distinct-push [] x d n = ((λ h. h), tt)
 distinct-push (y ∷ xs) x d n =
     ((λ h. ⊎_elim d.0 (λ k. ⊎_elim (λ e. n (inl (sym e))) (λ z. z) k) (∈-append_cases y xs (x ∷ []) h)), distinct-push xs x d.1 (λ h. n (inr h)))
@@ -48,6 +48,15 @@ copied-same xs c i v s e n =
 pub only-one : (xs others : List ℕ) (l : ℕ) → xs ≡ l ∷ others → length xs ≤ 1 → xs ≡ l ∷ []
 only-one xs [] l e h = e
 only-one xs (m ∷ others) l e h = let n = ap (λ (x : List ℕ). length x) e in absurd (omega (arith, n, h))
+
+pub only-two : (xs : List ℕ) (l m : ℕ) → length xs ≡ 2 → l ≡ get_or xs 0 l → m ≡ get_or xs 1 m → xs ≡ l ∷ m ∷ []
+only-two [] l m n e f = absurd (omega (arith, n))
+only-two (x ∷ []) l m n e f = absurd (omega (arith, n))
+only-two (x ∷ y ∷ []) l m n e f = ap₂ (λ a b. a ∷ b ∷ []) (sym e) (sym f)
+only-two (x ∷ y ∷ z ∷ xs) l m n e f = absurd (omega (arith, n))
+
+pub more-than-two : (n : ℕ) → 1 < n → n ≢ 2 → 3 ≤ n
+more-than-two n h d = grind (arith, h, d)
 
 -- one more literal is flagged
 pub flagged-more : (flags : List Bool) (xs : List Literal) (v : Literal) → AreFlagged flags xs → v < length flags → AreFlagged (set flags v true) (xs ++ v ∷ [])

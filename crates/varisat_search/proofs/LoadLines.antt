@@ -1,10 +1,10 @@
 -- The lines of `load_clause`, of which there are none.
 use Rattle.std.proofs.Common.{◌≡◌, ◌≢◌, ℕ, ◌<◌, ◌≤◌, false, List, [], ◌∷◌, ◌++◌, length, inl, inr, ⊎_elim, refl, sym, ap, ◌∙◌, subst, arith}
 use Rattle.std.proofs.lemmas.Bool.{cases_lt}
-use Rattle.std.proofs.lemmas.List.{map-append}
 use Rattle.varisat_theory.specs.Membership.{◌∈◌, SameSet, IsDistinct}
 use Rattle.varisat_theory.specs.Literals.{Literal, Clause, opposite, IsUnit}
 use Rattle.varisat_prop.specs.declared.prop.graph.Reason.TheVariants as reason
+use Rattle.varisat_prop.specs.Pairs.{with_pair}
 use Rattle.varisat_prop.specs.View.{View, IsTrueIn, WellFormed}
 use Rattle.varisat_prop.specs.Changes.{enqueued}
 use Rattle.varisat_prop.proofs.LiteralValues.{own-opposite, made-clash, none-made, variable-opposite}
@@ -13,12 +13,14 @@ use Rattle.varisat_search.specs.declared.state.SatState.{SatState}
 use Rattle.varisat_search.specs.declared.state.SatState.TheVariants as verdict
 use Rattle.varisat_search.specs.Steps.{IsCut, reopened_state}
 use Rattle.varisat_search.specs.Loading.{loaded_at, IsAdded}
-use Rattle.varisat_search.specs.Seen.{kept_clause, search_of, outcome_of}
-use Rattle.varisat_search.proofs.LoadView.{Restarted, no-decision}
+use Rattle.varisat_search.specs.Seen.{search_of, outcome_of}
+use Rattle.varisat_search.proofs.LoadView.{Restarted, no-decision, MayBeAdded, first-other}
+use Rattle.varisat_search.proofs.PairSearch.{with_clause, pair-moves, long-moves}
 use Rattle.varisat_search.proofs.ViewSearch.{fixed_from, fixed_to, view_is_grounded}
 use Rattle.varisat_search.proofs.LearnLines.{cut_moves, unit_moves}
 use Rattle.varisat_theory.specs.Searches.{KeptClause, Search, IsTautology}
 use Rattle.varisat_theory.specs.Outcomes.{Outcome, Unknown, Unsat, Proves, Loads, IsContradicted}
+use Rattle.varisat_theory.proofs.Held.{same_set-self}
 use Rattle.varisat_theory.proofs.StepLoads.{loaded_is_kept, loaded_is_unit, loaded_is_settled, loaded_is_contradicted, part_load, load_part}
 
 abbrev pub LoadsAlone : View → View → Clause → SatState → Type 0
@@ -86,9 +88,25 @@ module _ (s t : View) (c lits : Clause) (w : WellFormed s) (r : Restarted s t) (
   false-now z after e k =
       subst (LoadsAlone s z c) (sym e) (before z Unsat (loaded_is_contradicted (search_of t) (search_of z) c (view_is_grounded t r.well) k))
 
-  pub lines-added : (z : View) (o : Clause) (b after : SatState) → b ≡ verdict.Unknown → lits ≡ o → IsAdded t z o b after → LoadsAlone s z c after
-  lines-added z [] b after u e (f, g) = false-now z after g (inl (empty-set e))
-  lines-added z (l ∷ []) b after u e q =
+  -- a clause of two literals or more is the last that is kept
+  kept-first : (l m : Literal) (ms : Clause) → lits ≡ l ∷ m ∷ ms → Loads (search_of t) (with_clause (search_of t) (record { clause = lits; learned = false })) c Unknown []
+  kept-first l m ms e =
+      let in-c : (x : Literal) → x ∈ (l ∷ m ∷ ms) → x ∈ c = λ x h. same.0 x (subst (λ y. x ∈ y) (sym e) h) in
+      loaded_is_kept (search_of t) c (record { clause = lits; learned = false }) same refl (λ n.
+      ⊎_elim
+      (λ x. subst (λ y. l ∈ y) x (in-c l (inl refl)))
+      (λ (x, v, y). (subst IsDistinct e d).0 (inl (v.1 l (in-c l (inl refl)) ∙ sym (v.1 m (in-c m (inr (inl refl)))))))
+      n)
+
+  -- and then stands among the others
+  kept-lines : (z y : View) (l m : Literal) (ms : Clause) (after : SatState) → lits ≡ l ∷ m ∷ ms → z ≡ y → after ≡ verdict.Unknown → Proves 0 (with_clause (search_of t) (record { clause = lits; learned = false })) (search_of y) [] → LoadsAlone s z c after
+  kept-lines z y l m ms after e f g moved =
+      let whole = load_part (search_of t) (with_clause (search_of t) (record { clause = lits; learned = false })) (search_of y) c [] [] (kept-first l m ms e) moved in
+      open-verdict after z g (subst (λ x. Loads (search_of s) (search_of x) c Unknown []) (sym f) (before y Unknown whole))
+
+  pub lines-added : MayBeAdded t lits → (z : View) (o : Clause) (b after : SatState) → b ≡ verdict.Unknown → lits ≡ o → IsAdded t z o b after → LoadsAlone s z c after
+  lines-added a z [] b after u e (f, g) = false-now z after g (inl (empty-set e))
+  lines-added a z (l ∷ []) b after u e q =
       let unit : IsUnit l c = (same.0 l (subst (λ y. l ∈ y) (sym e) (inl refl)), λ m h. ⊎_elim (λ g. g) (λ g. absurd g) (subst (λ y. m ∈ y) e (same.1 m h))) in
       ⊎_elim
       (λ (h, f, g). false-now z after g (inr (l, unit, now (opposite l) h)))
@@ -99,16 +117,14 @@ module _ (s t : View) (c lits : Clause) (w : WellFormed s) (r : Restarted s t) (
       let whole = load_part (search_of t) S1 (search_of z') c [] [] first (unit_moves t l r.well free.0 free.1 r.undecided (enqueued-well t l reason.Unit r.well free.0 free.1 r.undecided)) in
       open-verdict after z (g ∙ u) (subst (λ y. Loads (search_of s) (search_of y) c Unknown []) (sym f) (before z' Unknown whole)))
       q
-  lines-added z (l ∷ m ∷ ms) b after u e (p, i, f, g) =
-      let f' : z ≡ record t { clauses = t.clauses ++ loaded_at p lits ∷ []; queue_head = 0 } = f ∙ ap (λ y. record t { clauses = y; queue_head = 0 }) i.0 ∙ ap (λ y. record t { clauses = t.clauses ++ loaded_at p y ∷ []; queue_head = 0 }) (sym e) in
-      let in-c : (x : Literal) → x ∈ (l ∷ m ∷ ms) → x ∈ c = λ x h. same.0 x (subst (λ y. x ∈ y) (sym e) h) in
-      let S = search_of t in
+  lines-added a z (l ∷ m ∷ []) b after u e (f, g) =
+      let q = subst (MayBeAdded t) e a in
+      let y = record t { binary = with_pair t.binary l m; queue_head = 0 } in
       let k : KeptClause = record { clause = lits; learned = false } in
-      let first : Loads S (record S { kept = S.kept ++ k ∷ [] }) c Unknown [] = loaded_is_kept S c k same refl (λ n.
-      ⊎_elim
-      (λ x. subst (λ y. l ∈ y) x (in-c l (inl refl)))
-      (λ (x, v, y). (subst IsDistinct e d).0 (inl (v.1 l (in-c l (inl refl)) ∙ sym (v.1 m (in-c m (inr (inl refl)))))))
-      n) in
-      let z' = record t { clauses = t.clauses ++ loaded_at p lits ∷ []; queue_head = 0 } in
-      let whole : Loads S (search_of z') c Unknown [] = subst (λ ks. Loads S (record S { kept = ks }) c Unknown []) (sym (map-append kept_clause t.clauses (loaded_at p lits ∷ []))) first in
-      open-verdict after z (g ∙ u) (subst (λ y. Loads (search_of s) (search_of y) c Unknown []) (sym f') (before z' Unknown whole))
+      let is : SameSet lits (l ∷ m ∷ []) = subst (SameSet lits) e (same_set-self lits) in
+      kept-lines z y l m [] after e f (g ∙ u)
+      (pair-moves t y l m k (q.paired l (inl refl)) (q.paired m (inr (inl refl))) (first-other t l m [] q) is refl refl (λ x h. h) (λ x h. h))
+  lines-added a z (l ∷ m ∷ n ∷ ms) b after u e (p, i, f, g) =
+      let y = record t { clauses = t.clauses ++ loaded_at p lits ∷ []; queue_head = 0 } in
+      let f' : z ≡ y = f ∙ ap (λ x. record t { clauses = x; queue_head = 0 }) i.0 ∙ ap (λ x. record t { clauses = t.clauses ++ loaded_at p x ∷ []; queue_head = 0 }) (sym e) in
+      kept-lines z y l m (n ∷ ms) after e f' (g ∙ u) (long-moves t y (loaded_at p lits) refl refl (λ x h. h) (λ x h. h))

@@ -1,16 +1,19 @@
 -- The view once `load_clause` is done.
-use Rattle.std.proofs.Common.{◌≡◌, ℕ, ◌<◌, ◌≤◌, Bool, Option, Some, List, [], ◌∷◌, ◌++◌, length, ⊎_elim, refl, sym, ap, ◌∙◌, subst, arith, length-set}
+use Rattle.std.proofs.Common.{◌≡◌, ◌≢◌, ℕ, ◌<◌, ◌≤◌, Bool, false, Option, Some, List, [], ◌∷◌, ◌++◌, length, inl, inr, ⊎_elim, refl, sym, ap, ap₂, ◌∙◌, subst, arith, length-set}
 use Rattle.std.proofs.lemmas.Bool.{cases_lt}
-use Rattle.varisat_theory.specs.Membership.{IsDistinct}
-use Rattle.varisat_theory.specs.Literals.{Literal, Clause, variable_of}
+use Rattle.varisat_theory.specs.Membership.{◌∈◌, IsDistinct}
+use Rattle.varisat_theory.specs.Literals.{Literal, Clause, opposite, variable_of}
+use Rattle.varisat_theory.specs.Searches.{IsTautology}
 use Rattle.varisat_literals.specs.Numbers.{polarity_of}
 use Rattle.varisat_prop.specs.declared.prop.graph.Reason.TheVariants as reason
-use Rattle.varisat_prop.specs.Changes.{enqueued}
 use Rattle.varisat_prop.specs.Watches.{Watches, no_watches, list_of, IsWatching, IsPropagated}
 use Rattle.varisat_prop.proofs.WatchKept.{watching-none}
-use Rattle.varisat_prop.specs.View.{View, IsTrueIn, level_of, WellFormed, LevelsSettled, IsFixed}
+use Rattle.varisat_prop.specs.Stored.{StoredClause, Keeps, literals_of}
+use Rattle.varisat_prop.specs.Pairs.{with_pair}
+use Rattle.varisat_prop.specs.View.{View, pairs_from, kept, IsTrueIn, level_of, WellFormed, LevelsSettled, IsFixed}
 use Rattle.varisat_prop.specs.Looks.{IsInRange}
 use Rattle.varisat_prop.proofs.EnqueueAssignment.{enqueued-well}
+use Rattle.varisat_prop.proofs.PairAdded.{well-pair}
 use Rattle.varisat_prop.proofs.WellFormedChanges.{well-moved}
 use Rattle.varisat_search.specs.declared.state.SatState.{SatState}
 use Rattle.varisat_search.specs.Steps.{IsCut}
@@ -24,6 +27,7 @@ pub record Restarted (s t : View) : Type 0 where
   pub undecided : t.decisions ≡ []
   pub count : length t.values ≡ length s.values
   pub clauses : t.clauses ≡ s.clauses
+  pub binary : t.binary ≡ s.binary
   pub fixed_to : (x : Literal) → IsFixed s x → IsTrueIn t x
   pub fixed_from : (x : Literal) → IsTrueIn t x → IsFixed s x
 
@@ -36,7 +40,7 @@ no-decision s w e x t =
     omega (arith, n, l, g)
 
 pub restarted-same : (s : View) → WellFormed s → s.decisions ≡ [] → Restarted s s
-restarted-same s w e = record { well = w; undecided = e; count = refl; clauses = refl; fixed_to = λ x f. f.0; fixed_from = λ x t. (t, no-decision s w e x t) }
+restarted-same s w e = record { well = w; undecided = e; count = refl; clauses = refl; binary = refl; fixed_to = λ x f. f.0; fixed_from = λ x t. (t, no-decision s w e x t) }
 
 pub restarted-cut : (s t : View) → WellFormed s → 0 < length s.decisions → IsCut s t 0 → Restarted s t
 restarted-cut s t w h c =
@@ -47,6 +51,7 @@ restarted-cut s t w h c =
       undecided = none;
       count = c.count;
       clauses = ap (λ (x : View). x.clauses) c.rest;
+      binary = ap (λ (x : View). x.binary) c.rest;
       fixed_to = λ x f. subst (λ (y : View). IsTrueIn y x) (sym c.rest) (fixed-cut s t 0 w h c x f).0;
       fixed_from = λ x q. (was-true s t 0 w h c x (subst (λ (y : View). IsTrueIn y x) c.rest q), sym (ap (λ (y : View). level_of y x) c.rest) ∙ no-decision t w' none x q);
     }
@@ -62,6 +67,9 @@ restarted s t w same cut =
     (λ h. let e = no-length s.decisions h in subst (Restarted s) (sym (same e)) (restarted-same s w e))
     (cases_lt 0 (length s.decisions))
 
+pub restarted-kept : (s t : View) → Restarted s t → kept t ≡ kept s
+restarted-kept s t r = ap₂ (λ (ks : List StoredClause) (B : List (List Literal)). literals_of ks ++ pairs_from 0 B) r.clauses r.binary
+
 -- and propagation is still at its end up to the queue's head
 pub restarted-propagated : (W : Watches) (s t : View) → WellFormed s → IsPropagated W s → (s.decisions ≡ [] → t ≡ s) → (0 < length s.decisions → IsCut s t 0) → IsPropagated W t
 restarted-propagated W s t w p same cut =
@@ -70,9 +78,41 @@ restarted-propagated W s t w p same cut =
     (λ h. subst (IsPropagated W) (sym (same (no-length s.decisions h))) p)
     (cases_lt 0 (length s.decisions))
 
-module _ (s t : View) (lits : Clause) (r : Restarted s t) (d : IsDistinct lits) (inside : IsInRange t.values lits) where
+-- The literals may be added as a clause: they are distinct, none is another's opposite, and each is known.
+pub record MayBeAdded (t : View) (lits : Clause) : Type 0 where
+  pub distinct : IsDistinct lits
+  pub plain : IsTautology lits → ⊥
+  pub inside : IsInRange t.values lits
+  pub paired : (l : Literal) → l ∈ lits → opposite l < length t.binary
+
+-- the first two of them are different
+pub first-other : (t : View) (l m : Literal) (c : Clause) → MayBeAdded t (l ∷ m ∷ c) → l ≢ m
+first-other t l m c a e = a.distinct.0 (inl e)
+
+-- a clause of two literals is added
+pub added-pair : (s t : View) (c : Clause) (before after : SatState) (l m : Literal) → c ≡ l ∷ m ∷ [] → t ≡ record s { binary = with_pair s.binary l m; queue_head = 0 } → after ≡ before → IsAdded s t c before after
+added-pair s t c before after l m e f g = subst (λ x. IsAdded s t x before after) (sym e) (f, g)
+
+-- and a longer one
+pub added-long : (s t : View) (c : Clause) (before after : SatState) (j : StoredClause) → 3 ≤ length c → j.literals ≡ c → j.header.redundant ≡ false → Keeps s.clauses t.clauses j → t ≡ record s { clauses = t.clauses; queue_head = 0 } → after ≡ before → IsAdded s t c before after
+added-long s t [] before after j n e h k f g = absurd (omega (arith, n))
+added-long s t (l ∷ []) before after j n e h k f g = absurd (omega (arith, n))
+added-long s t (l ∷ m ∷ []) before after j n e h k f g = absurd (omega (arith, n))
+added-long s t (l ∷ m ∷ o ∷ c) before after j n e h k f g =
+    (j.place, subst (Keeps s.clauses t.clauses) (ap₂ (λ (x : Bool) (y : Clause). record { place = j.place; header = record { redundant = x }; literals = y }) h e) k, f, g)
+
+module _ (s t : View) (lits : Clause) (r : Restarted s t) (a : MayBeAdded t lits) where
   abbrev pub IsLoadedWell : View → Type 0
   IsLoadedWell y = WellFormed y × (y.decisions ≡ []) × (length y.values ≡ length s.values)
+
+  pair-well : (l m : Literal) → MayBeAdded t (l ∷ m ∷ []) → IsLoadedWell (record t { binary = with_pair t.binary l m; queue_head = 0 })
+  pair-well l m q =
+      let n = first-other t l m [] q in
+      let first = q.paired l (inl refl) in
+      let second = q.paired m (inr (inl refl)) in
+      let apart : m ≢ opposite l = λ e. q.plain (l, inl refl, inr (inl (sym e))) in
+      let v = well-pair t l m first second n r.well apart (q.inside l (inl refl)) (q.inside m (inr (inl refl))) in
+      (well-moved (record t { binary = with_pair t.binary l m }) 0 v (omega arith), r.undecided, r.count)
 
   -- the view stays well formed, and no level is left
   pub added-well : (z : View) (o : Clause) (b after : SatState) → lits ≡ o → IsAdded t z o b after → IsLoadedWell z
@@ -82,21 +122,24 @@ module _ (s t : View) (lits : Clause) (r : Restarted s t) (d : IsDistinct lits) 
       (λ (h, f, g). subst IsLoadedWell (sym f) (r.well, r.undecided, r.count))
       (λ (free, f, g). subst IsLoadedWell (sym f) (enqueued-well t l reason.Unit r.well free.0 free.1 r.undecided, r.undecided, length-set t.values (variable_of l) (Some (polarity_of l)) ∙ r.count))
       q
-  added-well z (l ∷ m ∷ ms) b after e (p, k, f, g) =
+  added-well z (l ∷ m ∷ []) b after e (f, g) = subst IsLoadedWell (sym f) (pair-well l m (subst (MayBeAdded t) e a))
+  added-well z (l ∷ m ∷ o ∷ ms) b after e (p, k, f, g) =
       let f' : z ≡ record t { clauses = t.clauses ++ loaded_at p lits ∷ []; queue_head = 0 } = f ∙ ap (λ y. record t { clauses = y; queue_head = 0 }) k.0 ∙ ap (λ y. record t { clauses = t.clauses ++ loaded_at p y ∷ []; queue_head = 0 }) (sym e) in
       let n = ap (λ (x : Clause). length x) e in
-      subst IsLoadedWell (sym f') (let v = well-moved (with_kept t (loaded_at p lits) k.1 r.well) 0 (kept-well t (loaded_at p lits) k.1 r.well inside (omega (arith, n)) d) (omega arith) in (v, r.undecided, r.count))
+      subst IsLoadedWell (sym f') (let v = well-moved (with_kept t (loaded_at p lits) k.1 r.well) 0 (kept-well t (loaded_at p lits) k.1 r.well a.inside (omega (arith, n)) a.distinct) (omega arith) in (v, r.undecided, r.count))
 
 pub undecided-settled : (z : View) → z.decisions ≡ [] → LevelsSettled z
 undecided-settled z e j h = let n = ap (λ (x : List ℕ). length x) e in absurd (omega (arith, h, n))
 
 -- no clauses, no variables and no lists
-pub first-propagated : (W : Watches) (s : View) → W ≡ no_watches → s.values ≡ [] → s.clauses ≡ [] → s.decisions ≡ [] → s.queue_head ≡ 0 → IsPropagated W s
-first-propagated W s e v k d q = record {
+pub first-propagated : (W : Watches) (s : View) → W ≡ no_watches → s.values ≡ [] → s.clauses ≡ [] → s.binary ≡ [] → s.decisions ≡ [] → s.queue_head ≡ 0 → IsPropagated W s
+first-propagated W s e v k o d q = record {
   lists = let a = ap (λ (x : Watches). length x.lists) e in let b = ap (λ (x : List (Option Bool)). length x) v in omega (arith, a, b);
-  watching = λ o. subst (IsWatching W) (sym k) (watching-none W none);
-  empty = λ o. none;
+  watching = λ h. subst (IsWatching W) (sym k) (watching-none W none);
+  empty = λ h. none;
   settled = λ i j p a b h. absurd (omega (arith, h, q));
+  binary = let a = ap (λ (x : List (List Literal)). length x) o in let b = ap (λ (x : List (Option Bool)). length x) v in omega (arith, a, b);
+  implied = λ m p h i. absurd (omega (arith, h, q));
   queue = λ j h. let n = ap (λ (x : List ℕ). length x) d in absurd (omega (arith, h, n));
 }
   where

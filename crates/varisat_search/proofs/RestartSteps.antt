@@ -7,8 +7,7 @@ use Rattle.varisat_theory.specs.Derivations.{Line}
 use Rattle.varisat_theory.specs.Outcomes.{Outcome, Proves, Steps}
 use Rattle.varisat_theory.proofs.StepStands.{part_step}
 use Rattle.varisat_theory.specs.Membership.{◌∈◌}
-use Rattle.varisat_prop.specs.Stored.{literals_of}
-use Rattle.varisat_prop.specs.View.{View, WellFormed, LevelsSettled, node_of, is_implied, kinds}
+use Rattle.varisat_prop.specs.View.{View, kept, WellFormed, LevelsSettled, node_of, is_implied, kinds}
 use Rattle.varisat_prop.specs.Watches.{Watches, IsPropagated}
 use Rattle.varisat_schedule.specs.Plans.{Plan}
 use Rattle.varisat_schedule.specs.CallSteps.{IsPlannedStep}
@@ -82,11 +81,11 @@ module _ (q : Plan) (s t : View) (w : WellFormed s) (v : LevelsSettled s) (r : R
       }
 
 -- the clauses are the same, so that decisions go on
-begun-clauses : (q : Plan) (s t : View) → RestartsIfDue q s t → t.clauses ≡ s.clauses
-begun-clauses q s t r =
-    let same : t ≡ s → t.clauses ≡ s.clauses = λ e. ap (λ (x : View). x.clauses) e in
+begun-kept : (q : Plan) (s t : View) → RestartsIfDue q s t → kept t ≡ kept s
+begun-kept q s t r =
+    let same : t ≡ s → kept t ≡ kept s = λ e. ap kept e in
     ⊎_elim
-    (λ d. ⊎_elim (λ h. ap (λ (x : View). x.clauses) (r.undone d h).rest) (λ h. same (r.undecided (none s.decisions h))) (cases_lt 0 (length s.decisions)))
+    (λ d. ⊎_elim (λ h. ap kept (r.undone d h).rest) (λ h. same (r.undecided (none s.decisions h))) (cases_lt 0 (length s.decisions)))
     (λ n. same (r.stays n))
     (due-or-not q)
 
@@ -99,5 +98,5 @@ begun-ready q x0 x1 i r a f l e d =
       propagated = subst (λ W. IsPropagated W (view x1)) (sym l) (begun-propagated q (view x0) (view x1) i.well i.settled r x0.watchlists i.propagated);
       analysis = a ∙ i.analysis ∙ sym b.count;
       flags = f ∙ i.flags ∙ ap (λ n. replicate (2 * n) false) (sym b.count);
-      decidable = can-decide (view x0) x0.vsids (view x1) x1.vsids e d (λ c h. i.decidable.decidable c (subst (λ ks. c ∈ literals_of ks) (begun-clauses q (view x0) (view x1) r) h));
+      decidable = can-decide (view x0) x0.vsids (view x1) x1.vsids e d (λ c h. i.decidable.decidable c (subst (λ ks. c ∈ ks) (begun-kept q (view x0) (view x1) r) h));
     }

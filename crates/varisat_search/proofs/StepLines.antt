@@ -1,5 +1,5 @@
 -- The lines of `conflict_step`.
-use Rattle.std.proofs.Common.{List, [], map, inl, inr, ⊎_elim, sym, subst}
+use Rattle.std.proofs.Common.{List, [], inl, inr, ⊎_elim, sym, subst}
 use Rattle.varisat_theory.specs.Membership.{◌∈◌}
 use Rattle.varisat_theory.specs.Literals.{Literal, Clause, opposite}
 use Rattle.varisat_theory.specs.Propagation.{IsComplete}
@@ -7,7 +7,7 @@ use Rattle.varisat_theory.specs.Derivations.{Line}
 use Rattle.varisat_prop.specs.View.{View, kept, WellFormed, Grows}
 use Rattle.varisat_prop.proofs.TrailValues.{on-trail, trail-true}
 use Rattle.varisat_search.specs.Steps.{IsTotal, assignment_of}
-use Rattle.varisat_search.specs.Seen.{kept_clause, search_of}
+use Rattle.varisat_search.specs.Seen.{search_of}
 use Rattle.varisat_search.proofs.LevelsSettled.{makes-true, one-true}
 use Rattle.varisat_search.proofs.ViewSearch.{fixed_from, seen_clauses}
 use Rattle.varisat_search.proofs.StepWithoutLines.{grows_prove}
@@ -21,9 +21,9 @@ pub model-steps : (s : View) → WellFormed s → IsComplete (kept s) s.trail �
 model-steps s w q o =
     model_is_found (search_of s) s.trail (assignment_of s) (
       λ l h. on-trail s w l (fixed_from s w l h).0,
-      subst (λ P. (c : Clause) × (c ∈ P) × ((m : Literal) → m ∈ c → opposite m ∈ s.trail) → ⊥) (sym (seen_clauses s.clauses)) q.no_false,
+      subst (λ P. (c : Clause) × (c ∈ P) × ((m : Literal) → m ∈ c → opposite m ∈ s.trail) → ⊥) (sym (seen_clauses s)) q.no_false,
       λ k h l m.
-          let inside : k.clause ∈ kept s = subst (λ P. k.clause ∈ P) (seen_clauses s.clauses) (clause_in (map kept_clause s.clauses) k h) in
+          let inside : k.clause ∈ kept s = subst (λ P. k.clause ∈ P) (seen_clauses s) (clause_in (search_of s).kept k h) in
           ⊎_elim (λ t. inl (on-trail s w l t)) (λ t. inr (on-trail s w (opposite l) t)) (one-true s l (o k.clause inside l m)),
     )
     (λ l h. makes-true s l (trail-true s w l h))

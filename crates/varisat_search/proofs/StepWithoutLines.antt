@@ -75,4 +75,4 @@ module _ (s t : View) (w : WellFormed s) (v : WellFormed t) (g : Grows s t) wher
       (trail-true t v x on, sym (ap (λ y. level_of t y) same) ∙ ap (λ y. y.level) (g.nodes k a) ∙ ap (λ y. level_of s y) e ∙ z)
 
   pub grows_prove : Proves 0 (search_of s) (search_of t) []
-  grows_prove = view_moves s t w v g.clauses fixed_on proved_back
+  grows_prove = view_moves s t w v g.clauses g.binary fixed_on proved_back

@@ -13,14 +13,15 @@ use Rattle.varisat_theory.proofs.Values.{opposite_twice}
 use Rattle.varisat_prop.specs.declared.prop.graph.Reason.{Reason}
 use Rattle.varisat_prop.specs.declared.prop.graph.Reason.TheVariants as reason
 use Rattle.varisat_prop.specs.Stored.{StoredClause, literals_of, AreReordered}
-use Rattle.varisat_prop.specs.View.{View, kept, literal_at, node_of, level_of, WellFormed, IsFixed, ViewFits, is_clause}
+use Rattle.varisat_prop.specs.View.{View, pairs_from, kept, literal_at, node_of, level_of, WellFormed, IsFixed, ViewFits, is_clause}
 use Rattle.varisat_prop.proofs.TrailValues.{on-trail, trail-true}
 use Rattle.varisat_search.proofs.WellFormedViews.{fixed-implied, level-opposite}
 use Rattle.varisat_theory.specs.Searches.{KeptClause, clauses_of, Fits}
 use Rattle.varisat_theory.specs.Outcomes.{Proves}
 use Rattle.varisat_theory.specs.StepLaws.{IsGrounded}
+use Rattle.varisat_theory.proofs.SearchFits.{same_front}
 use Rattle.varisat_theory.proofs.StepChanges.{moves_prove}
-use Rattle.varisat_search.specs.Seen.{kept_clause, is_fixed, is_proved, search_of, IsProved}
+use Rattle.varisat_search.specs.Seen.{kept_clause, kept_pair, is_fixed, is_proved, search_of, IsProved}
 
 in_filter : (p : ℕ → Bool) (xs : List ℕ) (x : ℕ) → x ∈ xs → p x ≡ true → x ∈ filter p xs
 in_filter p [] x h e = absurd h
@@ -57,6 +58,7 @@ both false b e = absurd (let z : false ≡ true = e in cc)
 
 no_clause : (r : Reason) → not (is_clause r) ≡ true → r ≡ reason.Unit
 no_clause reason.Unit e = refl
+no_clause (reason.Binary ms) e = absurd (let z : false ≡ true = e in cc)
 no_clause (reason.Long i) e = absurd (let z : false ≡ true = e in cc)
 
 module _ (s : View) (w : WellFormed s) where
@@ -77,16 +79,23 @@ module _ (s : View) (w : WellFormed s) where
       in_filter (is_proved s) s.trail l i (ap (λ b. b && not (is_clause (node_of s l).reason)) (zero_is (level_of s l) z) ∙ ap (λ x. not (is_clause x)) r)
 
 -- the headers aside
-pub seen_clauses : (ks : List StoredClause) → clauses_of (map kept_clause ks) ≡ literals_of ks
-seen_clauses [] = refl
-seen_clauses (k ∷ ks) = ap (λ l. k.literals ∷ l) (seen_clauses ks)
+pub seen_pairs : (ps : List Clause) → clauses_of (map kept_pair ps) ≡ ps
+seen_pairs [] = refl
+seen_pairs (p ∷ ps) = ap (λ l. p ∷ l) (seen_pairs ps)
+
+seen_both : (ks : List StoredClause) (ps : List Clause) → clauses_of (map kept_clause ks ++ map kept_pair ps) ≡ literals_of ks ++ ps
+seen_both [] ps = seen_pairs ps
+seen_both (k ∷ ks) ps = ap (λ l. k.literals ∷ l) (seen_both ks ps)
+
+pub seen_clauses : (s : View) → clauses_of (search_of s).kept ≡ kept s
+seen_clauses s = seen_both s.clauses (pairs_from 0 s.binary)
 
 unit_same : (l : Literal) (c d : Clause) → SameSet c d → IsUnit l c → IsUnit l d
 unit_same l c d q u = (q.0 l u.0, λ m h. u.1 m (q.1 m h))
 
 pub view_reads : (s : View) (held : List Clause) → WellFormed s → Fits held (search_of s) → ViewFits held s
 view_reads s held w f =
-    let same : SameClauses held (kept s ++ f.others) = subst (λ P. SameClauses held (P ++ f.others)) (seen_clauses s.clauses) f.same in
+    let same : SameClauses held (kept s ++ f.others) = subst (λ P. SameClauses held (P ++ f.others)) (seen_clauses s) f.same in
     let back = same_clauses-back held (kept s ++ f.others) same in
     record {
       stored = λ c h. same_clauses_find (kept s ++ f.others) held back c (∈-append_left c (kept s) f.others h);
@@ -127,10 +136,23 @@ reordered_seen (p ∷ P) (q ∷ Q) a k (inl g) e =
 reordered_seen (p ∷ P) (q ∷ Q) a k (inr h) e =
     let (j, i, f, u) = reordered_seen P Q a.3 k h e in (j, inr i, f, u)
 
-pub view_moves : (s t : View) → WellFormed s → WellFormed t → AreReordered s.clauses t.clauses → ((l : Literal) → IsFixed s l → IsFixed t l) → ((l : Literal) → IsProved t l → IsProved s l) → Proves 0 (search_of s) (search_of t) []
-view_moves s t w v a x p =
+-- what is kept in another order
+pub kept_same : (s t : View) → AreReordered s.clauses t.clauses → t.binary ≡ s.binary → SameClauses (kept s) (kept t)
+kept_same s t a b =
+    subst (λ B. SameClauses (kept s) (literals_of t.clauses ++ pairs_from 0 B)) (sym b)
+    (same_front (literals_of s.clauses) (literals_of t.clauses) (pairs_from 0 s.binary) (reordered_same s.clauses t.clauses a))
+
+pub kept_seen : (s t : View) → AreReordered s.clauses t.clauses → t.binary ≡ s.binary → (k : KeptClause) → k ∈ (search_of s).kept → k.learned ≡ false → (j : KeptClause) × (j ∈ (search_of t).kept) × (j.learned ≡ false) × (j.clause ⊆ k.clause)
+kept_seen s t a b k h e =
+    ⊎_elim
+    (λ i. let (j, o, f, u) = reordered_seen s.clauses t.clauses a k i e in (j, ∈-append_left j (map kept_clause t.clauses) (map kept_pair (pairs_from 0 t.binary)) o, f, u))
+    (λ i. (k, ∈-append_right k (map kept_clause t.clauses) (map kept_pair (pairs_from 0 t.binary)) (subst (λ B. k ∈ map kept_pair (pairs_from 0 B)) (sym b) i), e, λ l o. o))
+    (∈-append_cases k (map kept_clause s.clauses) (map kept_pair (pairs_from 0 s.binary)) h)
+
+pub view_moves : (s t : View) → WellFormed s → WellFormed t → AreReordered s.clauses t.clauses → t.binary ≡ s.binary → ((l : Literal) → IsFixed s l → IsFixed t l) → ((l : Literal) → IsProved t l → IsProved s l) → Proves 0 (search_of s) (search_of t) []
+view_moves s t w v a b x p =
     moves_prove (search_of s) (search_of t)
-    (subst (λ P. SameClauses P (clauses_of (search_of t).kept)) (sym (seen_clauses s.clauses)) (subst (SameClauses (kept s)) (sym (seen_clauses t.clauses)) (reordered_same s.clauses t.clauses a)))
-    (reordered_seen s.clauses t.clauses a)
+    (subst (λ P. SameClauses P (clauses_of (search_of t).kept)) (sym (seen_clauses s)) (subst (SameClauses (kept s)) (sym (seen_clauses t)) (kept_same s t a b)))
+    (kept_seen s t a b)
     (λ l h. fixed_to t v l (x l (fixed_from s w l h)))
     (λ l h. proved_to s w l (p l (proved_from t v l h)))

@@ -1,21 +1,44 @@
 -- Places, variables and levels of a well-formed view, which most proofs read.
-use Rattle.std.proofs.Common.{◌≡◌, ℕ, zero, suc, ◌-◌, ◌<◌, ◌≤◌, List, [], ◌∷◌, length, get_or, take, ◌⊎◌, inl, inr, ⊎_elim, refl, sym, ap, ◌∙◌, subst, arith}
+use Rattle.std.proofs.Common.{◌≡◌, ℕ, zero, suc, ◌-◌, ◌<◌, ◌≤◌, true, List, [], ◌∷◌, length, get_or, take, ◌⊎◌, inl, inr, ⊎_elim, refl, sym, ap, ◌∙◌, subst, arith}
 use Rattle.std.proofs.lemmas.Bool.{cases_lt}
-use Rattle.varisat_theory.specs.Membership.{◌∈◌}
+use Rattle.varisat_theory.specs.Membership.{◌∈◌, SameSet}
 use Rattle.varisat_theory.specs.Literals.{Literal, Clause, variable_of, opposite}
 use Rattle.varisat_theory.specs.Propagation.{IsFalse}
 use Rattle.varisat_theory.specs.Analysis.{Implied, ByReason}
+use Rattle.varisat_theory.proofs.Members.{∈-append_right, ∈-append_cases}
 use Rattle.varisat_theory.proofs.Places.{∈-get_or, place_in}
 use Rattle.varisat_theory.proofs.Values.{opposite_twice}
 use Rattle.varisat_prop.specs.declared.prop.graph.Reason.{Reason}
 use Rattle.varisat_prop.specs.declared.prop.graph.Reason.TheVariants as reason
 use Rattle.varisat_prop.specs.declared.prop.graph.ImplNode.{ImplNode}
-use Rattle.varisat_prop.proofs.AllocClauses.{kept-at}
-use Rattle.varisat_prop.specs.View.{View, clause_at, literal_at, decision_at, no_node, node_of, node_at, level_of, StandsBefore, Implies, IsReason, WellFormed, LevelsSettled, ViewFits}
-use Rattle.varisat_prop.specs.Changes.{NamesClause, others_of, causes_of}
+use Rattle.varisat_prop.specs.declared.prop.graph.Conflict.{Conflict}
+use Rattle.varisat_prop.specs.declared.prop.graph.Conflict.TheVariants as conflict
+use Rattle.varisat_prop.specs.Stored.{literals_of, AreReordered}
+use Rattle.varisat_prop.proofs.AllocClauses.{reordered-old}
+use Rattle.varisat_prop.proofs.WellFormedChanges.{stored-kept, kept-here}
+use Rattle.varisat_prop.proofs.KeptPairs.{implied-kept}
+use Rattle.varisat_prop.specs.View.{View, pairs_from, kept, clause_at, literal_at, decision_at, no_node, node_of, node_at, level_of, is_clause, StandsBefore, Implies, IsReason, WellFormed, LevelsSettled, ViewFits}
+use Rattle.varisat_prop.specs.Changes.{NamesClause, NamesPlace, others_of, causes_of, named_in, IsNamed, IsConflicting}
 use Rattle.varisat_prop.proofs.LiteralValues.{same-variable, variable-opposite, made-clash, made-inside}
 use Rattle.varisat_prop.proofs.TrailValues.{trail-true}
-use Rattle.varisat_search.specs.Learned.{current_level, IsConflict, clause_of, reason_clause}
+use Rattle.varisat_search.specs.Learned.{current_level, clause_of, names_of, reason_clause}
+
+-- where kept clauses are reordered, each was kept before as a set
+pub kept-reordered : (s t : View) → AreReordered s.clauses t.clauses → t.binary ≡ s.binary → (c : Clause) → c ∈ kept t → (d : Clause) × (d ∈ kept s) × SameSet c d
+kept-reordered s t a b c h =
+    ⊎_elim
+    (λ i. let (d, j, e) = reordered-old s.clauses t.clauses a c i in (d, stored-kept s d j, e))
+    (λ i. (c, ∈-append_right c (literals_of s.clauses) (pairs_from 0 s.binary) (subst (λ B. c ∈ pairs_from 0 B) b i), ((λ l j. j), (λ l j. j))))
+    (∈-append_cases c (literals_of t.clauses) (pairs_from 0 t.binary) h)
+
+-- a clause that is named is kept, its literals in one of the orders
+pub named-kept : (s : View) → WellFormed s → (f : Conflict) → IsNamed s f → (d : Clause) × (d ∈ kept s) × SameSet d (named_in s.clauses f)
+named-kept s w (conflict.Binary ms) (l, m, e, i) = subst (λ x. (d : Clause) × (d ∈ kept s) × SameSet d x) (sym e) (implied-kept s w l m i)
+named-kept s w (conflict.Long p) h = (clause_at s p, kept-here s p h, ((λ x i. i), (λ x i. i)))
+
+pub named-place : (s : View) (f : Conflict) → IsNamed s f → NamesPlace s.clauses f
+named-place s (conflict.Binary ms) h = tt
+named-place s (conflict.Long p) h = h
 
 pub level-opposite : (s : View) (m : Literal) → level_of s (opposite m) ≡ level_of s m
 level-opposite s m = ap (λ v. (get_or s.nodes v no_node).level) (variable-opposite m)
@@ -89,8 +112,12 @@ module _ (s : View) (w : WellFormed s) where
       omega (arith, l, f, g)
 
   -- the other literals of a clause that is a reason stand before the literal
-  pub reason-before : (k : ℕ) (r : Reason) (m : Literal) → IsReason s k r → m ∈ clause_of s r → (m ≡ literal_at s k) ⊎ StandsBefore s k (opposite m)
+  pub reason-before : (k : ℕ) (r : Reason) (m : Literal) → IsReason s k r → m ∈ clause_of s (literal_at s k) r → (m ≡ literal_at s k) ⊎ StandsBefore s k (opposite m)
   reason-before k reason.Unit m h i = absurd i
+  reason-before k (reason.Binary ms) m (n, e, a, b) i = ⊎_elim
+      inl
+      (λ j. ⊎_elim (λ f. inr (subst (λ x. StandsBefore s k (opposite x)) (sym f) b)) (λ z. absurd z) (subst (λ x. m ∈ x) e j))
+      i
   reason-before k (reason.Long c) m h i = by (clause_at s c) h.1 i
     where
       by : (d : Clause) → Implies s d k → m ∈ d → (m ≡ literal_at s k) ⊎ StandsBefore s k (opposite m)
@@ -106,26 +133,64 @@ module _ (s : View) (w : WellFormed s) where
       (λ b. subst (StandsBefore s k) (opposite_twice x) b)
       (reason-before k (node_at s k).reason (opposite x) (w.reason_is k h) i)
 
+  -- a reason's clause is kept
+  pub reason-kept : (k : ℕ) (r : Reason) → is_clause r ≡ true → IsReason s k r → (d : Clause) × (d ∈ kept s) × SameSet d (clause_of s (literal_at s k) r)
+  reason-kept k reason.Unit c h = absurd cc
+  reason-kept k (reason.Binary ms) c (m, e, a, b) = subst (λ x. (d : Clause) × (d ∈ kept s) × SameSet d x) (ap (λ x. literal_at s k ∷ x ∷ []) (opposite_twice m) ∙ ap (λ x. literal_at s k ∷ x) (sym e)) (implied-kept s w (opposite m) (literal_at s k) a)
+  reason-kept k (reason.Long p) c h = (clause_at s p, kept-here s p h.0, ((λ x i. i), (λ x i. i)))
+
+  -- and has the literal first
+  pub reason-first : (k : ℕ) (r : Reason) → is_clause r ≡ true → IsReason s k r → literal_at s k ∈ clause_of s (literal_at s k) r
+  reason-first k reason.Unit c h = absurd cc
+  reason-first k (reason.Binary ms) c h = inl refl
+  reason-first k (reason.Long p) c h = by (clause_at s p) h.1
+    where
+      by : (d : Clause) → Implies s d k → literal_at s k ∈ d
+      by [] g = absurd g
+      by (x ∷ d) g = inl (sym g.0)
+
+  -- the clause is the literal and what the reason makes false, which is false by literals before it
+  pub reason-split : (k : ℕ) (r : Reason) (m : Literal) → IsReason s k r → m ∈ clause_of s (literal_at s k) r → (m ≡ literal_at s k) ⊎ ((m ∈ causes_of s.clauses r) × StandsBefore s k (opposite m))
+  reason-split k reason.Unit m h i = absurd i
+  reason-split k (reason.Binary ms) m h (inl e) = inl e
+  reason-split k (reason.Binary ms) m (n, e, a, b) (inr i) = inr (i, ⊎_elim (λ f. subst (λ x. StandsBefore s k (opposite x)) (sym f) b) (λ z. absurd z) (subst (λ x. m ∈ x) e i))
+  reason-split k (reason.Long p) m h i = by (clause_at s p) h.1 i
+    where
+      by : (d : Clause) → Implies s d k → m ∈ d → (m ≡ literal_at s k) ⊎ ((m ∈ others_of d) × StandsBefore s k (opposite m))
+      by [] g j = absurd j
+      by (x ∷ d) g (inl e) = inl (e ∙ g.0)
+      by (x ∷ d) g (inr j) = inr (j, g.1 m j)
+
+  -- a name of it names it
+  pub reason-named : (k : ℕ) (r : Reason) (g : Conflict) → IsReason s k r → g ∈ names_of (literal_at s k) r → IsNamed s g × (named_in s.clauses g ≡ clause_of s (literal_at s k) r)
+  reason-named k reason.Unit g h i = absurd i
+  reason-named k (reason.Binary ms) g (m, e, a, b) (inl f) = subst (λ x. IsNamed s x × (named_in s.clauses x ≡ literal_at s k ∷ ms)) (sym f) ((opposite m, literal_at s k, ap (λ x. literal_at s k ∷ x) e ∙ ap (λ x. literal_at s k ∷ x ∷ []) (sym (opposite_twice m)), a), refl)
+  reason-named k (reason.Binary ms) g h (inr z) = absurd z
+  reason-named k (reason.Long p) g h (inl f) = subst (λ x. IsNamed s x × (named_in s.clauses x ≡ clause_at s p)) (sym f) (h.0, refl)
+  reason-named k (reason.Long p) g h (inr z) = absurd z
+
   pub last-in : 0 < current_level s → length s.decisions - 1 < length s.decisions
   last-in d = omega (arith, d)
 
   -- where the last level began with propagation at its end, a false clause has a literal of the current level
-  pub has-late : (i : ℕ) → LevelsSettled s → 0 < current_level s → IsConflict s i → (m : Literal) × (m ∈ clause_at s i) × (level_of s m ≡ current_level s)
-  has-late i q d c =
+  pub has-late : (f : Conflict) → LevelsSettled s → 0 < current_level s → IsConflicting s f → (m : Literal) × (m ∈ named_in s.clauses f) × (level_of s m ≡ current_level s)
+  has-late f q d c =
+      let (x, j, same) = named-kept s w f c.0 in
       ⊎_elim
       (λ l. l)
       (λ n. absurd ((q (length s.decisions - 1) (last-in d)).no_false (
-        clause_at s i,
-        kept-at s.clauses i c.0,
-        λ m h.
+        x,
+        j,
+        λ m o'.
+            let h = same.0 m o' in
             let (k, a, e) = place_in (opposite m) s.trail 0 (c.1 m h) in
-            let f : (node_at s k).level ≡ level_of s (opposite m) = ap (level_of s) e in
+            let v : (node_at s k).level ≡ level_of s (opposite m) = ap (level_of s) e in
             let g = level-opposite s m in
             let o = n m h in
-            let b : k < decision_at s (length s.decisions - 1) = w.levels_up k (length s.decisions - 1) a (last-in d) (omega (arith, f, g, o)) in
+            let b : k < decision_at s (length s.decisions - 1) = w.levels_up k (length s.decisions - 1) a (last-in d) (omega (arith, v, g, o)) in
             subst (λ x. x ∈ take (decision_at s (length s.decisions - 1)) s.trail) e (place-take (decision_at s (length s.decisions - 1)) s.trail k b a),
       )))
-      (search-late (clause_at s i) c.1)
+      (search-late (named_in s.clauses f) c.1)
     where
       search-late : (xs : Clause) → IsFalse s.trail xs → ((m : Literal) × (m ∈ xs) × (level_of s m ≡ current_level s)) ⊎ ((m : Literal) → m ∈ xs → level_of s m < current_level s)
       search-late [] f = inr (λ m h. absurd h)
@@ -150,14 +215,11 @@ module _ (s : View) (w : WellFormed s) where
       (cases_lt 0 (length s.decisions))
 
   -- the others of a kept clause that is a reason are implied where their opposites are
-  implied-by : (held : List Clause) → ViewFits held s → (k c : ℕ) → IsReason s k (reason.Long c) → ((m : Literal) → StandsBefore s k (opposite m) → Implied held [] (opposite m)) → Implied held [] (literal_at s k)
-  implied-by held f k c h g =
-      let (d, i, e) = f.stored (clause_at s c) (kept-at s.clauses c h.0) in
-      ByReason d i (e.1 (literal_at s k) (first (clause_at s c) h.1)) (λ m j n. ⊎_elim (λ q. absurd (n q)) (g m) (reason-before k (reason.Long c) m h (e.0 m j)))
-    where
-      first : (d : Clause) → Implies s d k → literal_at s k ∈ d
-      first [] q = absurd q
-      first (x ∷ d) q = inl (sym q.0)
+  implied-by : (held : List Clause) → ViewFits held s → (k : ℕ) (r : Reason) → is_clause r ≡ true → IsReason s k r → ((m : Literal) → StandsBefore s k (opposite m) → Implied held [] (opposite m)) → Implied held [] (literal_at s k)
+  implied-by held f k r c h g =
+      let (x, y, z) = reason-kept k r c h in
+      let (d, i, e) = f.stored x y in
+      ByReason d i (e.1 (literal_at s k) (z.1 (literal_at s k) (reason-first k r c h))) (λ m j n. ⊎_elim (λ q. absurd (n q)) (g m) (reason-before k r m h (z.0 m (e.0 m j))))
 
   -- what is true at level 0 is implied by the held clauses alone
   fixed-at : (held : List Clause) → ViewFits held s → (n k : ℕ) → k < n → k < length s.trail → (node_at s k).level ≡ 0 → Implied held [] (literal_at s k)
@@ -166,8 +228,10 @@ module _ (s : View) (w : WellFormed s) where
     where
       by : (r : Reason) → (node_at s k).reason ≡ r → IsReason s k r → ((o : ℕ) → o < n → o < length s.trail → (node_at s o).level ≡ 0 → Implied held [] (literal_at s o)) → Implied held [] (literal_at s k)
       by reason.Unit e i rec = let (d, j, u) = f.units k h z e in ByReason d j u.0 (λ m q o. absurd (o (u.1 m q)))
+      by (reason.Binary ms) e i rec =
+          implied-by held f k (reason.Binary ms) refl i (λ m (o, a, b). subst (λ y. Implied held [] y) b (rec o (omega (arith, a, l)) (omega (arith, a, h)) (zero-below o k a h z)))
       by (reason.Long c) e i rec =
-          implied-by held f k c i (λ m (o, a, b). subst (λ y. Implied held [] y) b (rec o (omega (arith, a, l)) (omega (arith, a, h)) (zero-below o k a h z)))
+          implied-by held f k (reason.Long c) refl i (λ m (o, a, b). subst (λ y. Implied held [] y) b (rec o (omega (arith, a, l)) (omega (arith, a, h)) (zero-below o k a h z)))
 
   pub fixed-implied : (held : List Clause) → ViewFits held s → (m : Literal) → opposite m ∈ s.trail → level_of s m ≡ 0 → Implied held [] (opposite m)
   fixed-implied held f m t z =
@@ -184,7 +248,8 @@ module _ (s : View) (w : WellFormed s) where
     where
       by : (k : ℕ) (r : Reason) → IsReason s k r → NamesClause s.clauses r
       by k reason.Unit i = tt
-      by k (reason.Long c) i = (i.0, let n = w.several (clause_at s c) (kept-at s.clauses c i.0) in omega (arith, n))
+      by k (reason.Binary ms) i = tt
+      by k (reason.Long c) i = (i.0, let n = w.several (clause_at s c) (kept-here s c i.0) in omega (arith, n))
 
   pub causes-false : (x : Literal) → x ∈ s.trail → IsFalse s.trail (causes_of s.clauses (node_of s x).reason)
   causes-false x h =
@@ -197,11 +262,13 @@ module _ (s : View) (w : WellFormed s) where
 
       by : (k : ℕ) (r : Reason) → IsReason s k r → (m : Literal) → m ∈ causes_of s.clauses r → StandsBefore s k (opposite m)
       by k reason.Unit q m i = absurd i
+      by k (reason.Binary ms) (n, e, a, b) m i = ⊎_elim (λ f. subst (λ x. StandsBefore s k (opposite x)) (sym f) b) (λ z. absurd z) (subst (λ x. m ∈ x) e i)
       by k (reason.Long c) q m i = before k (clause_at s c) q.1 m i
 
   pub inside-true : (x : Literal) → x ∈ s.trail → variable_of x < length s.nodes
   inside-true x h = let (k, a, e) = place_in x s.trail 0 h in subst (λ y. variable_of y < length s.nodes) e (inside-at k a)
 
-pub has-clause : (r : Reason) → (r ≡ reason.Unit → ⊥) → (i : ℕ) × (r ≡ reason.Long i)
+pub has-clause : (r : Reason) → (r ≡ reason.Unit → ⊥) → is_clause r ≡ true
 has-clause reason.Unit n = absurd (n refl)
-has-clause (reason.Long i) n = (i, refl)
+has-clause (reason.Binary ms) n = refl
+has-clause (reason.Long i) n = refl

@@ -3,7 +3,9 @@ use Rattle.std.specs.Prelude.{◌≡◌, ℕ, ◌<◌, ◌≤◌, ◌⊎◌, Boo
 use Rattle.varisat_theory.specs.Membership.{◌∈◌, IsDistinct}
 use Rattle.varisat_theory.specs.Literals.{Literal, variable_of}
 use Rattle.varisat_prop.specs.declared.prop.graph.ImplNode.{ImplNode}
-use Rattle.varisat_prop.specs.Stored.{StoredClause, literals_at}
+use Rattle.varisat_prop.specs.declared.prop.graph.Conflict.{Conflict}
+use Rattle.varisat_prop.specs.Stored.{StoredClause}
+use Rattle.varisat_prop.specs.Changes.{named_in}
 use Rattle.varisat_prop.specs.View.{View, no_node}
 use Rattle.varisat_vsids.specs.Activities.{Activities, bumped, decayed}
 
@@ -12,10 +14,10 @@ abbrev pub bumped_each : List ℕ → Activities → Activities
 bumped_each [] a = a
 bumped_each (v ∷ vs) a = bumped_each vs (bumped v a)
 
--- the literals of the clauses at the places
-abbrev pub literals_among : List StoredClause → List ℕ → List Literal
+-- the literals of the clauses that are named
+abbrev pub literals_among : List StoredClause → List Conflict → List Literal
 literals_among ks [] = []
-literals_among ks (p ∷ ps) = literals_at ks p ++ literals_among ks ps
+literals_among ks (f ∷ fs) = named_in ks f ++ literals_among ks fs
 
 -- the level of the literal's variable
 abbrev pub level_in : List ImplNode → Literal → ℕ
@@ -27,9 +29,9 @@ pub record AreVariablesAbove (nodes : List ImplNode) (lits : List Literal) (vars
   pub all : (l : Literal) → l ∈ lits → 0 < level_in nodes l → variable_of l ∈ vars
   pub only : (v : ℕ) → v ∈ vars → (l : Literal) × (l ∈ lits) × (0 < level_in nodes l) × (variable_of l ≡ v)
 
--- The variables above level 0 of the clauses at the places are bumped, each once, and then activities decay.
-abbrev pub BumpsInvolved : View → List ℕ → Activities → Activities → Type 0
-BumpsInvolved s places a b = (vars : List ℕ) × AreVariablesAbove s.nodes (literals_among s.clauses places) vars × (b ≡ decayed (bumped_each vars a))
+-- The variables above level 0 of the clauses that are named are bumped, each once, and then activities decay.
+abbrev pub BumpsInvolved : View → List Conflict → Activities → Activities → Type 0
+BumpsInvolved s names a b = (vars : List ℕ) × AreVariablesAbove s.nodes (literals_among s.clauses names) vars × (b ≡ decayed (bumped_each vars a))
 
 -- for each variable whether it was bumped already, and the activities
 pub record Bumping : Type 0 where

@@ -9,7 +9,7 @@ use Rattle.varisat_search.specs.Decisions.{CanDecide}
 
 -- the view of the context's parts
 abbrev pub view : {A : Type 0} → Context A → View
-view c = view_of c.clause_alloc c.assignment c.trail c.impl_graph
+view c = view_of c.clause_alloc c.binary_clauses c.assignment c.trail c.impl_graph
 
 -- the state of a solver without clauses
 abbrev pub first_state : SolverState

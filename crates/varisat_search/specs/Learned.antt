@@ -6,25 +6,29 @@ use Rattle.varisat_theory.specs.Propagation.{IsFalse, Follows}
 use Rattle.varisat_theory.specs.Analysis.{Reached}
 use Rattle.varisat_prop.specs.declared.prop.graph.Reason.{Reason}
 use Rattle.varisat_prop.specs.declared.prop.graph.Reason.TheVariants as reason
-use Rattle.varisat_prop.specs.Stored.{IsPlace}
+use Rattle.varisat_prop.specs.declared.prop.graph.Conflict.{Conflict}
+use Rattle.varisat_prop.specs.declared.prop.graph.Conflict.TheVariants as conflict
+use Rattle.varisat_prop.specs.declared.prop.graph.ImplNode.{ImplNode}
+use Rattle.varisat_prop.specs.Stored.{StoredClause}
+use Rattle.varisat_prop.specs.Parts.{TrailParts}
+use Rattle.varisat_prop.specs.Changes.{named_in, IsNamed}
 use Rattle.varisat_prop.specs.View.{View, clause_at, literal_at, node_at, node_of, level_of, ViewFits}
 
 -- the learned clause, the clauses that it came from, and for how many variables there are flags
 pub record Analysis : Type 0 where
   pub clause : Clause
-  pub involved : List ℕ
+  pub involved : List Conflict
   pub var_count : ℕ
 
 abbrev pub no_analysis : Analysis
 no_analysis = record { clause = []; involved = []; var_count = 0 }
 
--- the place names a kept clause
-abbrev pub IsStored : View → ℕ → Type 0
-IsStored s i = IsPlace s.clauses i
-
--- all literals of the kept clause are false
-abbrev pub IsConflict : View → ℕ → Type 0
-IsConflict s i = IsStored s i × IsFalse s.trail (clause_at s i)
+-- The view has these clauses, nodes, literals and decisions.
+pub record Shows (s : View) (clauses : List StoredClause) (nodes : List ImplNode) (trail : TrailParts) : Type 0 where
+  pub clauses_are : clauses ≡ s.clauses
+  pub nodes_are : nodes ≡ s.nodes
+  pub trail_is : trail.literals ≡ s.trail
+  pub decisions_are : trail.decisions ≡ s.decisions
 
 -- the current level is the number of decisions
 abbrev pub current_level : View → ℕ
@@ -34,53 +38,61 @@ current_level s = length s.decisions
 abbrev pub IsOfCurrentLevel : View → ℕ → Type 0
 IsOfCurrentLevel s k = (k < length s.trail) × ((node_at s k).level ≡ current_level s)
 
-abbrev pub clause_of : View → Reason → Clause
-clause_of s reason.Unit = []
-clause_of s (reason.Long i) = clause_at s i
+-- the clause by which the literal is true for the reason, the empty one where there is none
+abbrev pub clause_of : View → Literal → Reason → Clause
+clause_of s l reason.Unit = []
+clause_of s l (reason.Binary ms) = l ∷ ms
+clause_of s l (reason.Long i) = clause_at s i
+
+-- its name, if there is one
+abbrev pub names_of : Literal → Reason → List Conflict
+names_of l reason.Unit = []
+names_of l (reason.Binary ms) = conflict.Binary (l ∷ ms) ∷ []
+names_of l (reason.Long i) = conflict.Long i ∷ []
 
 -- the clause that made the literal true, the empty one where none did
 abbrev pub reason_clause : View → Literal → Clause
-reason_clause s l = clause_of s (node_of s l).reason
+reason_clause s l = clause_of s l (node_of s l).reason
 
 -- the literal is one of the current level behind place k
 abbrev pub StandsBehind : View → ℕ → Literal → Type 0
 StandsBehind s k l = (j : ℕ) × (k < j) × IsOfCurrentLevel s j × (literal_at s j ≡ l)
 
--- From the clause at place i the literal is reached over reasons of reached literals of the current level behind place k.
-abbrev pub IsReachedDownTo : View → ℕ → ℕ → Literal → Type 0
-IsReachedDownTo s i k l = Reached (clause_at s i) (reason_clause s) (StandsBehind s k) l
+-- From the conflict's clause the literal is reached over reasons of reached literals of the current level behind place k.
+abbrev pub IsReachedDownTo : View → Conflict → ℕ → Literal → Type 0
+IsReachedDownTo s f k l = Reached (named_in s.clauses f) (reason_clause s) (StandsBehind s k) l
 
 -- The literal at place k is of the current level and is reached, while no earlier one of that level is.
-pub record IsImplicationPoint (s : View) (i k : ℕ) : Type 0 where
+pub record IsImplicationPoint (s : View) (f : Conflict) (k : ℕ) : Type 0 where
   pub current : IsOfCurrentLevel s k
-  pub reached : IsReachedDownTo s i k (literal_at s k)
-  pub alone : (j : ℕ) → j < k → IsOfCurrentLevel s j → IsReachedDownTo s i k (literal_at s j) → ⊥
+  pub reached : IsReachedDownTo s f k (literal_at s k)
+  pub alone : (j : ℕ) → j < k → IsOfCurrentLevel s j → IsReachedDownTo s f k (literal_at s j) → ⊥
 
 -- the latest such place, which analysis comes to first
-pub record IsFirstPoint (s : View) (i k : ℕ) : Type 0 where
-  pub point : IsImplicationPoint s i k
-  pub latest : (j : ℕ) → k < j → IsImplicationPoint s i j → ⊥
+pub record IsFirstPoint (s : View) (f : Conflict) (k : ℕ) : Type 0 where
+  pub point : IsImplicationPoint s f k
+  pub latest : (j : ℕ) → k < j → IsImplicationPoint s f j → ⊥
 
--- The clause at place p takes part in the resolution that starts from the conflict's clause, at place i, and ends at the implication point at place k.
-pub data IsInvolved (s : View) (i k p : ℕ) : Type 0 where
+-- The clause with the name g takes part in the resolution that starts from the conflict's clause and ends at the implication point at place k.
+pub data IsInvolved (s : View) (f : Conflict) (k : ℕ) (g : Conflict) : Type 0 where
   -- it is the conflict's clause
-  IsOfConflict : p ≡ i → IsInvolved s i k p
+  IsOfConflict : g ≡ f → IsInvolved s f k g
   -- it is the reason of a reached literal of the current level behind the implication point
-  IsReasonOf : (j : ℕ) → k < j → IsOfCurrentLevel s j → IsReachedDownTo s i k (literal_at s j) → (node_at s j).reason ≡ reason.Long p → IsInvolved s i k p
+  IsReasonOf : (j : ℕ) → k < j → IsOfCurrentLevel s j → IsReachedDownTo s f k (literal_at s j) → g ∈ names_of (literal_at s j) (node_at s j).reason → IsInvolved s f k g
 
--- The places are those of the clauses that are resolved down to the first unique implication point: all of them, each once, and no other.
-pub record ListsInvolved (s : View) (i : ℕ) (involved : List ℕ) : Type 0 where
+-- The names are those of the clauses that are resolved down to the first unique implication point: all of them, each once, and no other.
+pub record ListsInvolved (s : View) (f : Conflict) (involved : List Conflict) : Type 0 where
   pub place : ℕ
-  pub point : IsFirstPoint s i place
-  pub only : (p : ℕ) → p ∈ involved → IsInvolved s i place p
-  pub all : (p : ℕ) → IsInvolved s i place p → p ∈ involved
+  pub point : IsFirstPoint s f place
+  pub only : (g : Conflict) → g ∈ involved → IsInvolved s f place g
+  pub all : (g : Conflict) → IsInvolved s f place g → g ∈ involved
   pub distinct : IsDistinct involved
-  pub stored : (p : ℕ) → p ∈ involved → IsStored s p
+  pub named : (g : Conflict) → g ∈ involved → IsNamed s g
 
 -- The clauses from which a conflict's clause is learned: none at level 0.
-pub record AreInvolved (s : View) (i : ℕ) (involved : List ℕ) : Type 0 where
+pub record AreInvolved (s : View) (f : Conflict) (involved : List Conflict) : Type 0 where
   pub at_zero : current_level s ≡ 0 → involved ≡ []
-  pub above : 0 < current_level s → ListsInvolved s i involved
+  pub above : 0 < current_level s → ListsInvolved s f involved
 
 -- The level to backtrack to: that of the second literal, which is the highest of the others, or 0 where there is no second.
 abbrev pub IsLevelOf : View → Clause → ℕ → Type 0
@@ -88,7 +100,7 @@ IsLevelOf s [] level = level ≡ 0
 IsLevelOf s (m ∷ others) level = (level_of s m ≡ level) × ((n : Literal) → n ∈ others → level_of s n ≤ level)
 
 -- The clause that a conflict above level 0 teaches.
-pub record IsAsserting (s : View) (i : ℕ) (c : Clause) (level : ℕ) : Type 0 where
+pub record IsAsserting (s : View) (f : Conflict) (c : Clause) (level : ℕ) : Type 0 where
   -- each literal is false, none stands twice, and just the first is of the current level
   pub false_now : IsFalse s.trail c
   pub distinct : IsDistinct c
@@ -100,11 +112,11 @@ pub record IsAsserting (s : View) (i : ℕ) (c : Clause) (level : ℕ) : Type 0 
   pub second : IsLevelOf s others level
   -- the first is the opposite of the first unique implication point
   pub place : ℕ
-  pub point : IsFirstPoint s i place
+  pub point : IsFirstPoint s f place
   pub opposite_is : first ≡ opposite (literal_at s place)
 
 -- The clause that a conflict teaches: it follows from whatever clauses a proof holds, and is the empty one at level 0.
-pub record IsLearned (s : View) (i : ℕ) (c : Clause) (level : ℕ) : Type 0 where
+pub record IsLearned (s : View) (f : Conflict) (c : Clause) (level : ℕ) : Type 0 where
   pub follows : (held : List Clause) → ViewFits held s → Follows held c
   pub at_zero : current_level s ≡ 0 → (c ≡ []) × (level ≡ 0)
-  pub above : 0 < current_level s → IsAsserting s i c level
+  pub above : 0 < current_level s → IsAsserting s f c level

@@ -6,6 +6,7 @@ use Rattle.varisat_prop.specs.declared.prop.graph.Reason.TheVariants as reason
 use Rattle.varisat_prop.specs.Stored.{StoredClause, Keeps}
 use Rattle.varisat_prop.specs.View.{View, IsTrueIn}
 use Rattle.varisat_prop.specs.Changes.{enqueued}
+use Rattle.varisat_prop.specs.Pairs.{with_pair}
 use Rattle.varisat_search.specs.declared.state.SatState.{SatState}
 use Rattle.varisat_search.specs.declared.state.SatState.TheVariants as verdict
 use Rattle.varisat_search.specs.Steps.{IsFree}
@@ -22,4 +23,5 @@ AreFlagged flags lits = (l : Literal) → slice_index_or flags l false ≡ true 
 abbrev pub IsAdded : View → View → Clause → SatState → SatState → Type 0
 IsAdded s t [] before after = (t ≡ s) × (after ≡ verdict.Unsat)
 IsAdded s t (l ∷ []) before after = (IsTrueIn s (opposite l) × (t ≡ s) × (after ≡ verdict.Unsat)) ⊎ (IsFree s l × (t ≡ enqueued s l reason.Unit) × (after ≡ before))
-IsAdded s t (l ∷ m ∷ c) before after = (p : ℕ) × Keeps s.clauses t.clauses (loaded_at p (l ∷ m ∷ c)) × (t ≡ record s { clauses = t.clauses; queue_head = 0 }) × (after ≡ before)
+IsAdded s t (l ∷ m ∷ []) before after = (t ≡ record s { binary = with_pair s.binary l m; queue_head = 0 }) × (after ≡ before)
+IsAdded s t (l ∷ m ∷ n ∷ c) before after = (p : ℕ) × Keeps s.clauses t.clauses (loaded_at p (l ∷ m ∷ n ∷ c)) × (t ≡ record s { clauses = t.clauses; queue_head = 0 }) × (after ≡ before)

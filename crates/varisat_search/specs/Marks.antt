@@ -3,13 +3,12 @@ use Rattle.std.specs.Prelude.{◌≡◌, ℕ, zero, suc, ◌+◌, ◌<◌, ◌�
 use Rattle.varisat_theory.specs.Membership.{◌∈◌, ◌⊆◌, IsDistinct}
 use Rattle.varisat_theory.specs.Literals.{Literal, Clause, opposite, variable_of}
 use Rattle.varisat_theory.specs.Propagation.{Follows}
-use Rattle.varisat_prop.specs.declared.prop.graph.Reason.{Reason}
-use Rattle.varisat_prop.specs.declared.prop.graph.Reason.TheVariants as reason
-use Rattle.varisat_prop.specs.Changes.{causes_of}
+use Rattle.varisat_prop.specs.declared.prop.graph.Conflict.{Conflict}
+use Rattle.varisat_prop.specs.Changes.{causes_of, IsConflicting}
 use Rattle.varisat_prop.specs.View.{View, literal_at, node_at, node_of, level_of, StandsBefore, WellFormed, LevelsSettled, ViewFits}
 use Rattle.varisat_search.specs.declared.analyze_conflict.Parts.{Parts}
 use Rattle.varisat_search.specs.declared.analyze_conflict.Scratch.{Scratch}
-use Rattle.varisat_search.specs.Learned.{current_level, IsOfCurrentLevel, IsConflict, IsFirstPoint, ListsInvolved, IsAsserting}
+use Rattle.varisat_search.specs.Learned.{current_level, IsOfCurrentLevel, names_of, IsFirstPoint, ListsInvolved, IsAsserting}
 
 -- The search that analysis reads is a well-formed one, with these clauses, nodes, literals and decisions.
 pub record Sees {A : Type 0} (s : View) (parts : Parts A) : Type 0 where
@@ -25,16 +24,16 @@ pub record CanMark {A : Type 0} (s : View) (parts : Parts A) (flags : List Bool)
   pub flags_are : length flags ≡ length s.nodes
 
 -- A conflict above level 0, where each level began with propagation at its end.
-pub record IsDeepConflict (s : View) (i : ℕ) : Type 0 where
+pub record IsDeepConflict (s : View) (f : Conflict) : Type 0 where
   pub settled : LevelsSettled s
-  pub conflict : IsConflict s i
+  pub conflict : IsConflicting s f
   pub deep : 0 < current_level s
 
 -- what analysis writes
 pub record Marking : Type 0 where
-  -- the clause that becomes the learned one, and the places of the clauses that it came from
+  -- the clause that becomes the learned one, and the names of the clauses that it came from
   pub clause : Clause
-  pub involved : List ℕ
+  pub involved : List Conflict
   -- for each variable whether it is marked, and the marked ones whose flags are to be cleared
   pub flags : List Bool
   pub to_clean : List ℕ
@@ -56,9 +55,9 @@ pub record IsClean (x : Marking) : Type 0 where
   pub to_clean : x.to_clean ≡ []
 
 -- Analysis may begin: it has a flag for each variable, there is a conflict above level 0, and nothing is marked.
-pub record MayBegin {A : Type 0} (s : View) (parts : Parts A) (i : ℕ) (x : Marking) : Type 0 where
+pub record MayBegin {A : Type 0} (s : View) (parts : Parts A) (f : Conflict) (x : Marking) : Type 0 where
   pub can : CanMark s parts x.flags
-  pub conflict : IsDeepConflict s i
+  pub conflict : IsDeepConflict s f
   pub clean : IsClean x
 
 -- each marked variable is listed, and each listed one has a flag
@@ -112,24 +111,19 @@ pub record Adds (s : View) (lits : List Literal) (count : ℕ) (x y : Marking) :
   pub counted : (i : ℕ) → AreFalseBefore s i lits → i ≤ length s.trail → open_below s y.flags i ≡ open_below s x.flags i + count
   pub involved : y.involved ≡ x.involved
 
--- the place that a reason names
-abbrev pub places_of : Reason → List ℕ
-places_of reason.Unit = []
-places_of (reason.Long p) = p ∷ []
-
 -- The literal's reason was listed, and the other literals of the reason added.
 pub record AddsReason (s : View) (l : Literal) (count : ℕ) (x y : Marking) : Type 0 where
-  pub listed : y.involved ≡ x.involved ++ places_of (node_of s l).reason
+  pub listed : y.involved ≡ x.involved ++ names_of l (node_of s l).reason
   pub adds : Adds s (causes_of s.clauses (node_of s l).reason) count (record x { involved = y.involved }) y
 
--- The clause that is left of the false clause at place i, once it was resolved down to the first unique implication point.
-pub record IsResolved (s : View) (i : ℕ) (first : Literal) (x : Marking) : Type 0 where
+-- The clause that is left of the conflict's clause, once it was resolved down to the first unique implication point.
+pub record IsResolved (s : View) (f : Conflict) (first : Literal) (x : Marking) : Type 0 where
   pub place : ℕ
-  pub point : IsFirstPoint s i place
+  pub point : IsFirstPoint s f place
   pub opposite_is : first ≡ opposite (literal_at s place)
   pub follows : (held : List Clause) → ViewFits held s → Follows held (first ∷ x.clause)
   pub marks : Marks s 0 x
-  pub involved : ListsInvolved s i x.involved
+  pub involved : ListsInvolved s f x.involved
 
 -- What minimization leaves of the literals below the current level: the clause with the first literal follows where it did before.
 pub record IsMinimized (s : View) (others left : Clause) : Type 0 where
@@ -144,7 +138,7 @@ pub record Minimizes (s : View) (x y : Marking) : Type 0 where
   pub involved : y.involved ≡ x.involved
 
 -- What a conflict above level 0 teaches, and from which clauses.
-pub record Teaches (s : View) (i : ℕ) (c : Clause) (involved : List ℕ) (level : ℕ) : Type 0 where
+pub record Teaches (s : View) (f : Conflict) (c : Clause) (involved : List Conflict) (level : ℕ) : Type 0 where
   pub follows : (held : List Clause) → ViewFits held s → Follows held c
-  pub asserting : IsAsserting s i c level
-  pub involves : ListsInvolved s i involved
+  pub asserting : IsAsserting s f c level
+  pub involves : ListsInvolved s f involved

@@ -2,19 +2,18 @@
 use Rattle.std.specs.Prelude.{◌≡◌, ℕ, ◌+◌, ◌<◌, ◌⊎◌, Bool, true, false, List, [], ◌∷◌, ◌++◌, slice_index_or, length}
 use Rattle.varisat_theory.specs.Membership.{◌∈◌, ◌⊆◌}
 use Rattle.varisat_theory.specs.Literals.{Literal, opposite, variable_of}
-use Rattle.varisat_prop.specs.declared.prop.graph.Reason.TheVariants as reason
-use Rattle.varisat_prop.specs.Changes.{others_of}
-use Rattle.varisat_prop.specs.View.{View, clause_at, node_of, level_of}
+use Rattle.varisat_prop.specs.Changes.{causes_of}
+use Rattle.varisat_prop.specs.View.{View, node_of, level_of, is_clause}
 use Rattle.varisat_search.specs.Marks.{IsMarked, Marking}
 
 -- the literal is true, and a clause is its reason
 abbrev pub IsImplied : View → Literal → Type 0
-IsImplied s x = (x ∈ s.trail) × ((r : ℕ) × ((node_of s x).reason ≡ reason.Long r))
+IsImplied s x = (x ∈ s.trail) × (is_clause (node_of s x).reason ≡ true)
 
 -- a clause is the literal's reason, and its others are false at level 0 or marked
 abbrev pub IsReasoned : View → List Bool → Literal → Type 0
 IsReasoned s flags x =
-    (r : ℕ) × ((node_of s x).reason ≡ reason.Long r) × ((m : Literal) → m ∈ others_of (clause_at s r) → (level_of s m ≡ 0) ⊎ IsMarked flags (variable_of m))
+    (is_clause (node_of s x).reason ≡ true) × ((m : Literal) → m ∈ causes_of s.clauses (node_of s x).reason → (level_of s m ≡ 0) ⊎ IsMarked flags (variable_of m))
 
 -- how many flags are not set
 abbrev pub unmarked : List Bool → ℕ

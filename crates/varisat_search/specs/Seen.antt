@@ -1,11 +1,11 @@
 -- What a proof can see of a view.
-use Rattle.std.specs.Prelude.{◌≡◌, Bool, ◌&&◌, not, nat_eq, [], map}
+use Rattle.std.specs.Prelude.{◌≡◌, Bool, false, ◌&&◌, not, nat_eq, [], ◌++◌, map}
 use Rattle.std.specs.List.{filter}
 use Rattle.varisat_theory.specs.Membership.{◌∈◌}
-use Rattle.varisat_theory.specs.Literals.{Literal}
+use Rattle.varisat_theory.specs.Literals.{Literal, Clause}
 use Rattle.varisat_prop.specs.declared.prop.graph.Reason.TheVariants as reason
 use Rattle.varisat_prop.specs.Stored.{StoredClause}
-use Rattle.varisat_prop.specs.View.{View, node_of, level_of, is_clause}
+use Rattle.varisat_prop.specs.View.{View, pairs_from, node_of, level_of, is_clause}
 use Rattle.varisat_theory.specs.Searches.{KeptClause, Search}
 use Rattle.varisat_theory.specs.Outcomes.{Outcome, Unknown, Sat, Unsat, UnsatUnder}
 use Rattle.varisat_search.specs.declared.state.SatState.{SatState}
@@ -16,6 +16,10 @@ use Rattle.varisat_search.specs.Steps.{assignment_of}
 abbrev pub kept_clause : StoredClause → KeptClause
 kept_clause k = record { clause = k.literals; learned = k.header.redundant }
 
+-- A clause of two literals is kept for good, also a learned one.
+abbrev pub kept_pair : Clause → KeptClause
+kept_pair c = record { clause = c; learned = false }
+
 abbrev pub is_fixed : View → Literal → Bool
 is_fixed s l = nat_eq (level_of s l) 0
 
@@ -23,7 +27,7 @@ abbrev pub is_proved : View → Literal → Bool
 is_proved s l = nat_eq (level_of s l) 0 && not (is_clause (node_of s l).reason)
 
 abbrev pub search_of : View → Search
-search_of s = record { kept = map kept_clause s.clauses; fixed = filter (is_fixed s) s.trail; proved = filter (is_proved s) s.trail }
+search_of s = record { kept = map kept_clause s.clauses ++ map kept_pair (pairs_from 0 s.binary); fixed = filter (is_fixed s) s.trail; proved = filter (is_proved s) s.trail }
 
 -- a search without clauses
 abbrev pub first_search : Search

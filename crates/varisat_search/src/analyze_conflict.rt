@@ -3,18 +3,17 @@ ghost use Rattle.std.specs.Prelude.{◌≡◌, ℕ, ◌<◌, ◌≤◌, ◌⊎�
 ghost use Rattle.varisat_theory.specs.Membership.{◌∈◌, SameSet, IsDistinct};
 ghost use Rattle.varisat_theory.specs.Literals.{variable_of, opposite};
 ghost use Rattle.varisat_theory.specs.Propagation.{IsFalse};
-ghost use Rattle.varisat_prop.specs.Parts.{Values};
-ghost use Rattle.varisat_prop.specs.View.{View, view_of, level_of, WellFormed, LevelsSettled};
-ghost use Rattle.varisat_prop.specs.Changes.{place_of};
-ghost use Rattle.varisat_search.specs.Learned.{no_analysis, IsConflict, IsLevelOf, IsLearned, AreInvolved};
-ghost use Rattle.varisat_search.specs.Marks.{Sees, CanMark, marking, MayBegin, MarksAreListed, Marks, Adds, places_of, AddsReason, IsResolved, Minimizes, Teaches};
+ghost use Rattle.varisat_prop.specs.View.{View, level_of, WellFormed, LevelsSettled};
+ghost use Rattle.varisat_prop.specs.Changes.{IsConflicting};
+ghost use Rattle.varisat_search.specs.Learned.{no_analysis, names_of, Shows, IsLevelOf, IsLearned, AreInvolved};
+ghost use Rattle.varisat_search.specs.Marks.{Sees, CanMark, marking, MayBegin, MarksAreListed, Marks, Adds, AddsReason, IsResolved, Minimizes, Teaches};
 ghost use Rattle.varisat_search.specs.Redundancy.{Explores, IsFound};
 
 use crate::glue::LevelAbstraction;
 use std::alloc::{AllocError, Allocator};
 use std::marker::Model;
 use varisat_literals::{Lit, Var};
-use varisat_prop::clause::{ClauseAlloc, ClauseRef};
+use varisat_prop::clause::ClauseAlloc;
 use varisat_prop::prop::{Conflict, ImplGraph, Reason, Trail};
 
 /// The learned clause, the clauses that it came from, and a flag for each variable. The flags are false between calls,
@@ -31,7 +30,7 @@ struct Scratch<A: Allocator + Copy> {
     /// The literals of the learned clause.
     clause: Vec<Lit, A>,
     /// The clauses that were resolved.
-    involved: Vec<ClauseRef, A>,
+    involved: Vec<Conflict, A>,
     /// The variables whose flags are to be cleared.
     to_clean: Vec<Var, A>,
     /// True literals whose reasons the search for a redundant literal has still to look at.
@@ -90,7 +89,7 @@ impl<A: Allocator + Copy> AnalyzeConflict<A> {
     }
 
     /// The clauses that were resolved to make the learned one.
-    pub fn involved(&self) -> &[ClauseRef]
+    pub fn involved(&self) -> &[Conflict]
         ensures { result.now ≡ self.now.involved }
     {
         self.scratch.involved.as_slice()
@@ -148,17 +147,18 @@ fn add_literals<A: Allocator + Copy>(
     Ok(count)
 }
 
-/// Lists the clause that the reason names.
+/// Lists the clause that made the literal true, if there is one.
 fn list_reason<A: Allocator + Copy>(
-    scratch: &mut Scratch<A>,
+    involved: &mut Vec<Conflict, A>,
+    lit: Lit,
     reason: Reason,
 ) -> Result<(), AllocError>
-    ensures kept { OnOk result (scratch.new ≡ record scratch.old { involved = scratch.new.involved }) }
-    ensures listed { OnOk result (scratch.new.involved.items ≡ scratch.old.involved.items ++ places_of reason) }
+    ensures { OnOk result (involved.new.items ≡ involved.old.items ++ names_of lit reason) }
 {
     match reason {
         Reason::Unit => {}
-        Reason::Long(cref) => scratch.involved.push(cref)?,
+        Reason::Binary(others) => involved.push(Conflict::Binary([lit, others[0]]))?,
+        Reason::Long(cref) => involved.push(Conflict::Long(cref))?,
     }
     Ok(())
 }
@@ -177,18 +177,9 @@ fn add_reason<A: Allocator + Copy>(
     ensures { IfOk result (λ count. AddsReason s lit count (marking scratch.old var_flags.old) (marking scratch.new var_flags.new)) }
 {
     let reason = *parts.impl_graph.reason(lit.var());
-    list_reason(scratch, reason)?;
+    list_reason(&mut scratch.involved, lit, reason)?;
     let count = add_literals(parts, scratch, var_flags, reason.lits(parts.clause_alloc))?;
     Ok(count)
-}
-
-/// The clause that the conflict found false.
-fn false_clause(conflict: Conflict) -> ClauseRef
-    ensures { result ≡ place_of conflict }
-{
-    match conflict {
-        Conflict::Long(cref) => cref,
-    }
 }
 
 /// Resolves the conflict's clause with reasons, down to the first unique implication point: the one literal of the
@@ -200,13 +191,11 @@ fn resolve<A: Allocator + Copy>(
     conflict: Conflict,
 ) -> Result<Lit, AllocError>
     ghost s: { View }
-    requires { MayBegin s parts (place_of conflict) (marking scratch.old var_flags.old) }
-    ensures { IfOk result (λ first. IsResolved s (place_of conflict) first (marking scratch.new var_flags.new)) }
+    requires { MayBegin s parts conflict (marking scratch.old var_flags.old) }
+    ensures { IfOk result (λ first. IsResolved s conflict first (marking scratch.new var_flags.new)) }
 {
-    let lits = conflict.lits(parts.clause_alloc);
-    let cref = false_clause(conflict);
-    scratch.involved.push(cref)?;
-    let mut count = add_literals(parts, scratch, var_flags, lits)?;
+    scratch.involved.push(conflict)?;
+    let mut count = add_literals(parts, scratch, var_flags, conflict.lits(parts.clause_alloc))?;
     // The other literals of a reason are false by earlier places of the trail. So backwards over the trail no literal
     // comes back once it was resolved, and `count`, the marked literals of the current level that are still ahead,
     // tells when the last one is met.
@@ -394,8 +383,8 @@ fn learn<A: Allocator + Copy>(
     conflict: Conflict,
 ) -> Result<usize, AllocError>
     ghost s: { View }
-    requires { MayBegin s parts (place_of conflict) (marking scratch.old var_flags.old) }
-    ensures teaches { IfOk result (λ level. Teaches s (place_of conflict) scratch.new.clause.items scratch.new.involved.items level) }
+    requires { MayBegin s parts conflict (marking scratch.old var_flags.old) }
+    ensures teaches { IfOk result (λ level. Teaches s conflict scratch.new.clause.items scratch.new.involved.items level) }
     ensures cleaned { OnOk result (MarksAreListed (marking scratch.new var_flags.new)) }
 {
     let first = resolve(parts, scratch, var_flags, conflict)?;
@@ -415,9 +404,9 @@ fn learn_and_clear<A: Allocator + Copy>(
     conflict: Conflict,
 ) -> Result<usize, AllocError>
     ghost s: { View }
-    requires { MayBegin s parts (place_of conflict) (marking scratch.old var_flags.old) }
+    requires { MayBegin s parts conflict (marking scratch.old var_flags.old) }
     ensures unmarked { (v : ℕ) → slice_index_or var_flags.new v false ≡ false }
-    ensures teaches { IfOk result (λ level. Teaches s (place_of conflict) scratch.new.clause.items scratch.new.involved.items level) }
+    ensures teaches { IfOk result (λ level. Teaches s conflict scratch.new.clause.items scratch.new.involved.items level) }
 {
     match learn(parts, scratch, var_flags, conflict) {
         Ok(level) => {
@@ -440,14 +429,15 @@ pub fn analyze_conflict<A: Allocator + Copy>(
     trail: &Trail<A>,
     conflict: Conflict,
 ) -> Result<usize, AllocError>
-    ghost values: { Values }
-    requires well { WellFormed (view_of clause_alloc.now values trail.now impl_graph.now) }
-    requires settled { LevelsSettled (view_of clause_alloc.now values trail.now impl_graph.now) }
-    requires conflict { IsConflict (view_of clause_alloc.now values trail.now impl_graph.now) (place_of conflict) }
+    ghost s: { View }
+    requires shows { Shows s clause_alloc.now impl_graph.now.nodes.items trail.now }
+    requires well { WellFormed s }
+    requires settled { LevelsSettled s }
+    requires conflict { IsConflicting s conflict }
     requires flags { analyze.old.var_count ≡ length impl_graph.now.nodes.items }
     ensures count { analyze.new.var_count ≡ analyze.old.var_count }
-    ensures learned { IfOk result (λ level. IsLearned (view_of clause_alloc.now values trail.now impl_graph.now) (place_of conflict) analyze.new.clause level) }
-    ensures involved { OnOk result (AreInvolved (view_of clause_alloc.now values trail.now impl_graph.now) (place_of conflict) analyze.new.involved) }
+    ensures learned { IfOk result (λ level. IsLearned s conflict analyze.new.clause level) }
+    ensures involved { OnOk result (AreInvolved s conflict analyze.new.involved) }
 {
     let parts = Parts {
         clause_alloc,

@@ -2,7 +2,7 @@
 ghost use Rattle.std.specs.Prelude.{◌≡◌, ℕ, ◌<◌, true, false, List, [], ◌∷◌, length, slice_index_or};
 ghost use Rattle.varisat_theory.specs.Membership.{◌∈◌};
 ghost use Rattle.varisat_theory.specs.Literals.{Literal, variable_of};
-ghost use Rattle.varisat_prop.specs.Stored.{IsPlace};
+ghost use Rattle.varisat_prop.specs.Changes.{NamesPlace, IsNamed};
 ghost use Rattle.varisat_search.specs.Contexts.{view, IsReady};
 ghost use Rattle.varisat_search.specs.Decisions.{HasActivities};
 ghost use Rattle.varisat_search.specs.Bumps.{bumped_each, literals_among, AreVariablesAbove, BumpsInvolved, bumping, MayBump, BumpsNew};
@@ -10,8 +10,8 @@ ghost use Rattle.varisat_search.specs.Bumps.{bumped_each, literals_among, AreVar
 use crate::context::Context;
 use std::alloc::Allocator;
 use varisat_literals::Lit;
-use varisat_prop::clause::{ClauseAlloc, ClauseRef};
-use varisat_prop::prop::ImplGraph;
+use varisat_prop::clause::ClauseAlloc;
+use varisat_prop::prop::{Conflict, ImplGraph};
 use varisat_vsids::Vsids;
 
 /// Bumps the literal's variable and gives it a flag, where it is above level 0 and has none.
@@ -58,15 +58,15 @@ fn bump_clauses<A: Allocator + Copy>(
     flags: &mut [bool],
     impl_graph: &ImplGraph<A>,
     clause_alloc: &ClauseAlloc<A>,
-    crefs: &[ClauseRef],
+    names: &[Conflict],
 )
-    requires may { MayBump impl_graph.now.nodes.items (literals_among clause_alloc.now crefs.now) (bumping flags.old vsids.old) }
-    requires places { (p : ℕ) → p ∈ crefs.now → IsPlace clause_alloc.now p }
-    ensures bumps { BumpsNew impl_graph.now.nodes.items (literals_among clause_alloc.now crefs.now) (bumping flags.old vsids.old) (bumping flags.new vsids.new) }
+    requires may { MayBump impl_graph.now.nodes.items (literals_among clause_alloc.now names.now) (bumping flags.old vsids.old) }
+    requires named { (f : _) → f ∈ names.now → NamesPlace clause_alloc.now f }
+    ensures bumps { BumpsNew impl_graph.now.nodes.items (literals_among clause_alloc.now names.now) (bumping flags.old vsids.old) (bumping flags.new vsids.new) }
     ensures count { length vsids.new.activity ≡ length vsids.old.activity }
 {
-    for cref in crefs {
-        bump_literals(vsids, flags, impl_graph, clause_alloc.clause(*cref));
+    for name in names {
+        bump_literals(vsids, flags, impl_graph, name.lits(clause_alloc));
     }
 }
 
@@ -85,15 +85,15 @@ fn clear_literals(flags: &mut [bool], lits: &[Lit])
 fn clear_clauses<A: Allocator + Copy>(
     flags: &mut [bool],
     clause_alloc: &ClauseAlloc<A>,
-    crefs: &[ClauseRef],
+    names: &[Conflict],
 )
-    requires known { (l : Literal) → l ∈ literals_among clause_alloc.now crefs.now → variable_of l < length flags.old }
-    requires places { (p : ℕ) → p ∈ crefs.now → IsPlace clause_alloc.now p }
-    ensures gone { (l : Literal) → l ∈ literals_among clause_alloc.now crefs.now → slice_index_or flags.new (variable_of l) false ≡ false }
+    requires known { (l : Literal) → l ∈ literals_among clause_alloc.now names.now → variable_of l < length flags.old }
+    requires named { (f : _) → f ∈ names.now → NamesPlace clause_alloc.now f }
+    ensures gone { (l : Literal) → l ∈ literals_among clause_alloc.now names.now → slice_index_or flags.new (variable_of l) false ≡ false }
     ensures fewer { (v : ℕ) → slice_index_or flags.new v false ≡ true → slice_index_or flags.old v false ≡ true }
 {
-    for cref in crefs {
-        clear_literals(flags, clause_alloc.clause(*cref));
+    for name in names {
+        clear_literals(flags, name.lits(clause_alloc));
     }
 }
 
@@ -104,24 +104,24 @@ fn bump_each_once<A: Allocator + Copy>(
     flags: &mut [bool],
     impl_graph: &ImplGraph<A>,
     clause_alloc: &ClauseAlloc<A>,
-    crefs: &[ClauseRef],
+    names: &[Conflict],
 )
-    requires may { MayBump impl_graph.now.nodes.items (literals_among clause_alloc.now crefs.now) (bumping flags.old vsids.old) }
-    requires places { (p : ℕ) → p ∈ crefs.now → IsPlace clause_alloc.now p }
+    requires may { MayBump impl_graph.now.nodes.items (literals_among clause_alloc.now names.now) (bumping flags.old vsids.old) }
+    requires named { (f : _) → f ∈ names.now → NamesPlace clause_alloc.now f }
     requires clear { (v : ℕ) → slice_index_or flags.old v false ≡ false }
-    ensures bumps { (vars : List ℕ) × AreVariablesAbove impl_graph.now.nodes.items (literals_among clause_alloc.now crefs.now) vars × (vsids.new ≡ bumped_each vars vsids.old) }
+    ensures bumps { (vars : List ℕ) × AreVariablesAbove impl_graph.now.nodes.items (literals_among clause_alloc.now names.now) vars × (vsids.new ≡ bumped_each vars vsids.old) }
     ensures clear { (v : ℕ) → slice_index_or flags.new v false ≡ false }
     ensures count { length vsids.new.activity ≡ length vsids.old.activity }
 {
-    bump_clauses(vsids, flags, impl_graph, clause_alloc, crefs);
-    clear_clauses(flags, clause_alloc, crefs);
+    bump_clauses(vsids, flags, impl_graph, clause_alloc, names);
+    clear_clauses(flags, clause_alloc, names);
 }
 
 /// Bumps each variable above level 0 of the clauses that the conflict was analysed with, once, and then lets activities
 /// decay. Without decisions nothing happens.
 pub fn bump_involved<A: Allocator + Copy>(ctx: &mut Context<A>)
     requires ready { IsReady ctx.old }
-    requires places { (p : ℕ) → p ∈ ctx.old.analyze_conflict.involved → IsPlace ctx.old.clause_alloc p }
+    requires named { (f : _) → f ∈ ctx.old.analyze_conflict.involved → IsNamed (view ctx.old) f }
     ensures undecided { ctx.old.trail.decisions ≡ [] → ctx.new ≡ ctx.old }
     ensures bumps { 0 < length ctx.old.trail.decisions → BumpsInvolved (view ctx.old) ctx.old.analyze_conflict.involved ctx.old.vsids ctx.new.vsids }
     ensures available { ctx.new.vsids.available ≡ ctx.old.vsids.available }

@@ -3,15 +3,14 @@ ghost use Rattle.std.specs.Prelude.{◌≡◌, ◌≢◌, ℕ, ◌<◌, length, 
 ghost use Rattle.varisat_theory.specs.Membership.{◌∈◌};
 ghost use Rattle.varisat_theory.specs.Literals.{Literal, opposite};
 ghost use Rattle.varisat_theory.specs.Propagation.{IsComplete};
-ghost use Rattle.varisat_prop.specs.View.{kept, Grows};
-ghost use Rattle.varisat_prop.specs.Parts.{Values};
-ghost use Rattle.varisat_prop.specs.Changes.{place_of};
-ghost use Rattle.varisat_search.specs.Learned.{IsConflict, IsLearned, AreInvolved};
+ghost use Rattle.varisat_prop.specs.View.{View, kept, Grows};
+ghost use Rattle.varisat_prop.specs.Changes.{IsConflicting};
+ghost use Rattle.varisat_search.specs.Learned.{IsLearned, AreInvolved};
 ghost use Rattle.varisat_search.specs.Contexts.{view, KeepsSchedule, IsReady};
 ghost use Rattle.varisat_search.specs.Steps.{IsTotal, SavesSome, Remembers};
 ghost use Rattle.varisat_search.specs.Decisions.{SameDecidable};
 ghost use Rattle.varisat_search.specs.Bumps.{BumpsInvolved};
-ghost use Rattle.varisat_search.specs.Conflicts.{conflict_of, IsKeptAsReason, IsWatchedAsReason};
+ghost use Rattle.varisat_search.specs.Conflicts.{conflict_of, Keeping, IsKeptAsReason, IsWatchedAsReason};
 ghost use Rattle.varisat_search.specs.Progress.{StepsTo, RaisesRank, IsStepFurther};
 ghost use Rattle.varisat_vsids.specs.Activities.{Activities};
 
@@ -53,7 +52,7 @@ fn find_conflict<A: Allocator + Copy>(
     ensures grows { OnOk result (Grows (view ctx.old) (view ctx.new)) }
     ensures found { IfOk result (λ found. MatchResult found
         (λ _. IsComplete (kept (view ctx.new)) ctx.new.trail.literals × IsTotal (view ctx.new))
-        (λ conflict. IsConflict (view ctx.new) (place_of (conflict_of conflict)))) }
+        (λ conflict. IsConflicting (view ctx.new) (conflict_of conflict))) }
     ensures decidable { OnOk result (SameDecidable (view ctx.old) ctx.old.vsids (view ctx.new) ctx.new.vsids) }
     ensures activities { OnOk result (ctx.new.vsids ≡ record ctx.old.vsids { available = ctx.new.vsids.available }) }
     ensures state { OnOk result (ctx.new.solver_state ≡ ctx.old.solver_state) }
@@ -67,6 +66,7 @@ fn find_conflict<A: Allocator + Copy>(
             &mut ctx.clause_alloc,
             &mut ctx.impl_graph,
             &mut ctx.trail,
+            &ctx.binary_clauses,
             &mut ctx.watchlists,
         )?;
         if let Err(conflict) = propagated {
@@ -89,12 +89,18 @@ pub fn first_of(clause: &[Lit]) -> Option<Lit>
 /// literal true.
 fn keep_learned<A: Allocator + Copy>(ctx: &mut Context<A>) -> Result<Reason, AllocError>
     requires listed { (l : Literal) → l ∈ ctx.old.analyze_conflict.clause → opposite l < length ctx.old.watchlists.lists }
-    ensures kept { ctx.new ≡ record ctx.old { clause_alloc = ctx.new.clause_alloc; watchlists = ctx.new.watchlists } }
-    ensures reason { IfOk result (λ reason. IsKeptAsReason ctx.old.clause_alloc ctx.new.clause_alloc ctx.old.analyze_conflict.clause reason) }
+    requires paired { (l : Literal) → l ∈ ctx.old.analyze_conflict.clause → opposite l < length ctx.old.binary_clauses }
+    ensures kept { ctx.new ≡ record ctx.old { binary_clauses = ctx.new.binary_clauses; clause_alloc = ctx.new.clause_alloc; watchlists = ctx.new.watchlists } }
+    ensures reason { IfOk result (λ reason. IsKeptAsReason (record { clauses = ctx.old.clause_alloc; binary = ctx.old.binary_clauses }) (record { clauses = ctx.new.clause_alloc; binary = ctx.new.binary_clauses }) ctx.old.analyze_conflict.clause reason) }
     ensures watched { IfOk result (λ reason. IsWatchedAsReason ctx.old.watchlists ctx.new.watchlists ctx.old.analyze_conflict.clause reason) }
 {
-    if ctx.analyze_conflict.clause().len() < 2 {
-        return Ok(Reason::Unit);
+    match ctx.analyze_conflict.clause() {
+        [] | [_] => return Ok(Reason::Unit),
+        [first, second] => {
+            ctx.binary_clauses.add_binary_clause([*first, *second])?;
+            return Ok(Reason::Binary([*second]));
+        }
+        _ => {}
     }
     let mut header = ClauseHeader::new();
     header.set_redundant(true);
@@ -111,14 +117,14 @@ fn analyze<A: Allocator + Copy>(
     ctx: &mut Context<A>,
     conflict: Conflict,
 ) -> Result<usize, AllocError>
-    ghost values: { Values }
+    ghost s: { View }
     requires ready { IsReady ctx.old }
-    requires conflict { IsConflict (view ctx.old) (place_of conflict) }
-    requires values { values ≡ ctx.old.assignment }
+    requires conflict { IsConflicting (view ctx.old) conflict }
+    requires seen { s ≡ view ctx.old }
     ensures kept { ctx.new ≡ record ctx.old { analyze_conflict = ctx.new.analyze_conflict } }
     ensures count { ctx.new.analyze_conflict.var_count ≡ ctx.old.analyze_conflict.var_count }
-    ensures learned { IfOk result (λ level. IsLearned (view ctx.old) (place_of conflict) ctx.new.analyze_conflict.clause level) }
-    ensures involved { OnOk result (AreInvolved (view ctx.old) (place_of conflict) ctx.new.analyze_conflict.involved) }
+    ensures learned { IfOk result (λ level. IsLearned (view ctx.old) conflict ctx.new.analyze_conflict.clause level) }
+    ensures involved { OnOk result (AreInvolved (view ctx.old) conflict ctx.new.analyze_conflict.involved) }
 {
     let level = analyze_conflict(
         &mut ctx.analyze_conflict,
@@ -134,12 +140,12 @@ fn analyze<A: Allocator + Copy>(
 /// empty clause gives verdict Unsat.
 fn learn<A: Allocator + Copy>(ctx: &mut Context<A>, conflict: Conflict) -> Result<(), AllocError>
     requires ready { IsReady ctx.old }
-    requires conflict { IsConflict (view ctx.old) (place_of conflict) }
+    requires conflict { IsConflicting (view ctx.old) conflict }
     requires unknown { ctx.old.solver_state.sat_state ≡ SatState.Unknown }
     ensures further { OnOk result (IsStepFurther ctx.old ctx.new) }
     // Above level 0 the variables of the clauses that the learned one came from are bumped, and activities decay.
     ensures bumps { OnOk result (0 < length ctx.old.trail.decisions → (b : Activities) × BumpsInvolved (view ctx.old) ctx.new.analyze_conflict.involved ctx.old.vsids b × (ctx.new.vsids ≡ record b { available = ctx.new.vsids.available })) }
-    ensures involved { OnOk result (AreInvolved (view ctx.old) (place_of conflict) ctx.new.analyze_conflict.involved) }
+    ensures involved { OnOk result (AreInvolved (view ctx.old) conflict ctx.new.analyze_conflict.involved) }
     ensures last { OnOk result (SavesSome (view ctx.old) ctx.old.assignment.last ctx.new.assignment.last) }
     ensures schedule { KeepsSchedule ctx.old ctx.new }
 {

@@ -15,6 +15,7 @@ use crate::state::SolverState;
 use crate::tmp::{TmpData, TmpFlags};
 use std::alloc::{AllocError, Allocator};
 use varisat_names::config::{ConfigError, SolverConfig, SolverConfigUpdate};
+use varisat_prop::binary::BinaryClauses;
 use varisat_prop::clause::ClauseAlloc;
 use varisat_prop::prop::{Assignment, ImplGraph, Trail, Watchlists};
 use varisat_schedule::schedule::Schedule;
@@ -25,6 +26,7 @@ use varisat_vsids::Vsids;
 pub struct Context<A: Allocator + Copy> {
     pub analyze_conflict: AnalyzeConflict<A>,
     pub assignment: Assignment<A>,
+    pub binary_clauses: BinaryClauses<A>,
     pub clause_alloc: ClauseAlloc<A>,
     pub impl_graph: ImplGraph<A>,
     pub schedule: Schedule,
@@ -53,6 +55,7 @@ impl<A: Allocator + Copy> Context<A> {
         Context {
             analyze_conflict: AnalyzeConflict::new_in(alloc),
             assignment: Assignment::new_in(alloc),
+            binary_clauses: BinaryClauses::new_in(alloc),
             clause_alloc: ClauseAlloc::new_in(alloc),
             impl_graph: ImplGraph::new_in(alloc),
             schedule: Schedule::new(),
@@ -98,10 +101,11 @@ pub fn set_var_count<A: Allocator + Copy>(
     ensures last { OnOk result (ctx.new.assignment.last ≡ ctx.old.assignment.last ++ replicate (count - length ctx.old.assignment.current) false) }
     ensures activities { OnOk result (ctx.new.vsids ≡ raised_to count ctx.old.vsids) }
     ensures decidable { OnOk result (SameDecidable (view ctx.old) ctx.old.vsids (view ctx.new) ctx.new.vsids) }
-    ensures kept { ctx.new ≡ record ctx.old { analyze_conflict = ctx.new.analyze_conflict; assignment = ctx.new.assignment; impl_graph = ctx.new.impl_graph; tmp_flags = ctx.new.tmp_flags; vsids = ctx.new.vsids; watchlists = ctx.new.watchlists } }
+    ensures kept { ctx.new ≡ record ctx.old { analyze_conflict = ctx.new.analyze_conflict; assignment = ctx.new.assignment; binary_clauses = ctx.new.binary_clauses; impl_graph = ctx.new.impl_graph; tmp_flags = ctx.new.tmp_flags; vsids = ctx.new.vsids; watchlists = ctx.new.watchlists } }
 {
     ctx.analyze_conflict.set_var_count(count)?;
     ctx.assignment.set_var_count(count)?;
+    ctx.binary_clauses.set_var_count(count)?;
     ctx.impl_graph.set_var_count(count)?;
     ctx.tmp_flags.set_var_count(count)?;
     ctx.vsids.set_var_count(count)?;

@@ -105,7 +105,7 @@ pub fn add_variables<A: Allocator + Copy>(
     ensures raised { OnOk result (IsRaisedTo count ctx.old ctx.new) }
     ensures remembered { (v : ℕ) → slice_index_or ctx.new.assignment.last v false ≡ slice_index_or ctx.old.assignment.last v false }
     ensures decidable { OnOk result (AddsDecidable (length ctx.old.assignment.current) count (view ctx.old) ctx.old.vsids (view ctx.new) ctx.new.vsids) }
-    ensures kept { ctx.new ≡ record ctx.old { analyze_conflict = ctx.new.analyze_conflict; assignment = ctx.new.assignment; impl_graph = ctx.new.impl_graph; tmp_flags = ctx.new.tmp_flags; vsids = ctx.new.vsids; watchlists = ctx.new.watchlists } }
+    ensures kept { ctx.new ≡ record ctx.old { analyze_conflict = ctx.new.analyze_conflict; assignment = ctx.new.assignment; binary_clauses = ctx.new.binary_clauses; impl_graph = ctx.new.impl_graph; tmp_flags = ctx.new.tmp_flags; vsids = ctx.new.vsids; watchlists = ctx.new.watchlists } }
 {
     let first = ctx.assignment.assignment().len();
     set_var_count(ctx, count)?;

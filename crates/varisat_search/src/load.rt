@@ -135,9 +135,10 @@ fn add_distinct<A: Allocator + Copy>(ctx: &mut Context<A>) -> Result<(), AllocEr
     requires well { WellFormed (view ctx.old) }
     requires propagated { IsPropagated ctx.old.watchlists (view ctx.old) }
     requires undecided { ctx.old.trail.decisions ≡ [] }
+    requires distinct { IsDistinct ctx.old.tmp_data.lits.items }
     requires in_range { IsInRange ctx.old.assignment.current ctx.old.tmp_data.lits.items }
     requires untrue { (l : Literal) → l ∈ ctx.old.tmp_data.lits.items → IsMadeTrue ctx.old.assignment.current l → ⊥ }
-    ensures kept { ctx.new ≡ record ctx.old { assignment = ctx.new.assignment; clause_alloc = ctx.new.clause_alloc; impl_graph = ctx.new.impl_graph; solver_state = ctx.new.solver_state; trail = ctx.new.trail; watchlists = ctx.new.watchlists } }
+    ensures kept { ctx.new ≡ record ctx.old { assignment = ctx.new.assignment; binary_clauses = ctx.new.binary_clauses; clause_alloc = ctx.new.clause_alloc; impl_graph = ctx.new.impl_graph; solver_state = ctx.new.solver_state; trail = ctx.new.trail; watchlists = ctx.new.watchlists } }
     ensures propagated { OnOk result (IsPropagated ctx.new.watchlists (view ctx.new)) }
     ensures state { OnOk result (ctx.new.solver_state ≡ record ctx.old.solver_state { sat_state = ctx.new.solver_state.sat_state }) }
     ensures units { OnOk result (ctx.new.trail.units_removed ≡ ctx.old.trail.units_removed) }
@@ -151,6 +152,11 @@ fn add_distinct<A: Allocator + Copy>(ctx: &mut Context<A>) -> Result<(), AllocEr
     if ctx.tmp_data.lits.len() > 1 {
         // A literal of the clause may be false already, by a literal that was propagated before.
         ctx.trail.reset_queue();
+        if ctx.tmp_data.lits.len() == 2 {
+            let (first, second) = (ctx.tmp_data.lits[0], ctx.tmp_data.lits[1]);
+            ctx.binary_clauses.add_binary_clause([first, second])?;
+            return Ok(());
+        }
         let cref = ctx
             .clause_alloc
             .add_clause(ClauseHeader::new(), &ctx.tmp_data.lits)?;

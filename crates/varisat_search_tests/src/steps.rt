@@ -7,8 +7,9 @@ use crate::searches::{loaded, loaded_conflict, prefer_lower_true, step};
 use linked_list_allocator::LocalHeap;
 use std::alloc::{AllocError, Allocator};
 use std::test::Fail;
-use varisat_literals::{Lit, lits};
+use varisat_literals::{Lit, lit, lits};
 use varisat_prop::clause::ClauseRef;
+use varisat_prop::prop::Conflict;
 use varisat_search::cdcl::conflict_step;
 use varisat_search::context::Context;
 use varisat_search::state::SatState;
@@ -97,9 +98,26 @@ fn learned(rt: HostRuntime) -> Result<(), Fail> {
     let mut ctx = loaded_conflict(rt.alloc())?;
     assert!(rt; teaches(&mut ctx, &lits![-4, -1], 1)?);
     // The conflict, and the reason of 5.
-    let involved = [ClauseRef::from_place(3), ClauseRef::from_place(2)];
+    let involved = [
+        Conflict::Long(ClauseRef::from_place(1)),
+        Conflict::Long(ClauseRef::from_place(0)),
+    ];
     assert_eq!(rt; ctx.analyze_conflict.involved(), involved.as_slice());
     assert!(rt; ctx.trail.trail() == lits![1, 2, -4].as_slice());
+    Ok(())
+}
+
+// 1 is decided and implies 2 and -2: the conflict is over a clause of two literals, and so is the reason of 2.
+#[test]
+fn learned_from_two_literals(rt: HostRuntime) -> Result<(), Fail> {
+    let mut ctx = loaded(rt.alloc(), 2, &[&lits![-1, 2], &lits![-1, -2]])?;
+    assert!(rt; teaches(&mut ctx, &lits![-1], 0)?);
+    let involved = [
+        Conflict::Binary([lit!(-2), lit!(-1)]),
+        Conflict::Binary([lit!(2), lit!(-1)]),
+    ];
+    assert_eq!(rt; ctx.analyze_conflict.involved(), involved.as_slice());
+    assert!(rt; ctx.trail.trail() == lits![-1].as_slice());
     Ok(())
 }
 

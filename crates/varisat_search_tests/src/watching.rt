@@ -10,7 +10,7 @@ use varisat_prop::clause::ClauseRef;
 use varisat_prop::prop::{Conflict, Reason, Watchlists, enable_watchlists, propagate};
 use varisat_search::context::Context;
 
-/// Clauses over three variables, how propagation over them ends, which literals are true then, why the last of them is,
+/// Clauses over four variables, how propagation over them ends, which literals are true then, why the last of them is,
 /// and at which places the clauses stand that literals watch.
 #[derive(Drop)]
 struct Row<'a> {
@@ -76,6 +76,7 @@ fn comes_to<A: Allocator + Copy>(ctx: &mut Context<A>, row: &Row) -> Result<bool
         &mut ctx.clause_alloc,
         &mut ctx.impl_graph,
         &mut ctx.trail,
+        &ctx.binary_clauses,
         &mut ctx.watchlists,
     )?;
     Ok(
@@ -104,7 +105,7 @@ fn is_right<A: Allocator + Copy>(
 
 /// Whether the row is right, whether or not the clauses are watched anew before.
 fn holds<A: Allocator + Copy>(alloc: A, row: &Row, is_rebuilt: bool) -> Result<bool, AllocError> {
-    let mut ctx = loaded(alloc, 3, row.clauses)?;
+    let mut ctx = loaded(alloc, 4, row.clauses)?;
     let is_right = is_right(&mut ctx, row, is_rebuilt)?;
     Ok(is_right)
 }
@@ -158,9 +159,15 @@ fn the_last_literal_is_implied(rt: HostRuntime) -> Result<(), AllocError> {
 /// to its end, and go on watching it.
 fn is_conflict_found<A: Allocator + Copy>(alloc: A, is_rebuilt: bool) -> Result<bool, AllocError> {
     let row = Row {
-        clauses: &[&lits![1, 2], &lits![-2, 3], &lits![-2, -3], &lits![-1]],
+        clauses: &[
+            &lits![1, 2, 4],
+            &lits![-2, 3, 4],
+            &lits![-2, -3, 4],
+            &lits![-4],
+            &lits![-1],
+        ],
         end: Err(Conflict::Long(ClauseRef::from_place(2))),
-        trail: &lits![-1, 2, 3],
+        trail: &lits![-4, -1, 2, 3],
         reason: Reason::Long(ClauseRef::from_place(1)),
         watched: &[
             (lit!(-1), &[0]),
@@ -180,11 +187,25 @@ fn the_false_clause_is_told(rt: HostRuntime) -> Result<(), AllocError> {
     Ok(())
 }
 
+// Clauses of two literals are not watched. 2 implies 3 and -3, in the order of adding.
+#[test]
+fn a_false_clause_of_two_is_told(rt: HostRuntime) -> Result<(), AllocError> {
+    let row = Row {
+        clauses: &[&lits![1, 2], &lits![-2, 3], &lits![-2, -3], &lits![-1]],
+        end: Err(Conflict::Binary([lit!(-3), lit!(-2)])),
+        trail: &lits![-1, 2, 3],
+        reason: Reason::Binary([lit!(-2)]),
+        watched: &[(lit!(-1), &[]), (lit!(-2), &[]), (lit!(2), &[])],
+    };
+    assert!(rt; holds_always(rt.alloc(), &row)?);
+    Ok(())
+}
+
 #[test]
 fn each_growth_of_lists_may_be_refused(rt: HostRuntime) -> Result<(), AllocError> {
     let mut found = false;
     let mut refused = false;
-    for room in 0..150 {
+    for room in 0..220 {
         let heap = LocalHeap::new(rt.alloc(), 16 * room)?;
         match is_conflict_found(&heap, true) {
             Ok(right) => {

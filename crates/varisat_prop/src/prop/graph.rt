@@ -1,8 +1,7 @@
 //! The implication graph: why, at which level and where each variable was assigned.
 ghost use Rattle.std.specs.Prelude.{◌≡◌, ◌<◌, ◌≤◌, ◌++◌, ◌-◌, ◌↔◌, ◌^◌, IsTrue, [], length, replicate, slice_index_or, slice_set, OnOk};
-ghost use Rattle.varisat_prop.specs.Stored.{IsPlace, literals_at};
 ghost use Rattle.varisat_prop.specs.View.{no_node};
-ghost use Rattle.varisat_prop.specs.Changes.{NamesClause, causes_of, place_of};
+ghost use Rattle.varisat_prop.specs.Changes.{NamesClause, causes_of, NamesPlace, named_in};
 
 use crate::clause::{ClauseAlloc, ClauseRef};
 use std::alloc::{AllocError, Allocator};
@@ -13,6 +12,8 @@ use varisat_literals::{Lit, Var};
 pub enum Reason {
     /// A clause of one literal, or a decision.
     Unit,
+    /// The kept clause of the literal and this one, which is false.
+    Binary([Lit; 1]),
     /// The clause, whose first literal it is and whose others are false.
     Long(ClauseRef),
 }
@@ -20,6 +21,8 @@ pub enum Reason {
 /// What propagation found false.
 #[derive(Clone, Copy, Debug, PartialEq, Eq)]
 pub enum Conflict {
+    /// Both literals of the kept clause are false.
+    Binary([Lit; 2]),
     /// All literals of the clause are false.
     Long(ClauseRef),
 }
@@ -41,12 +44,13 @@ pub struct ImplGraph<A: Allocator + Copy> {
 
 impl Reason {
     /// The literals whose being false made the literal true: those of the clause but its first.
-    pub fn lits<'a, A: Allocator + Copy>(&self, clause_alloc: &'a ClauseAlloc<A>) -> &'a [Lit]
+    pub fn lits<'a, A: Allocator + Copy>(&'a self, clause_alloc: &'a ClauseAlloc<A>) -> &'a [Lit]
         requires { NamesClause clause_alloc.now self.now }
         ensures { result.now ≡ causes_of clause_alloc.now self.now }
     {
         match self {
             Reason::Unit => &[],
+            Reason::Binary(lits) => lits,
             Reason::Long(cref) => &clause_alloc.clause(*cref)[1..],
         }
     }
@@ -57,18 +61,19 @@ impl Reason {
     {
         match self {
             Reason::Unit => true,
-            Reason::Long(_) => false,
+            Reason::Binary(_) | Reason::Long(_) => false,
         }
     }
 }
 
 impl Conflict {
     /// The literals of the clause, which are all false.
-    pub fn lits<'a, A: Allocator + Copy>(&self, clause_alloc: &'a ClauseAlloc<A>) -> &'a [Lit]
-        requires { IsPlace clause_alloc.now (place_of self.now) }
-        ensures { result.now ≡ literals_at clause_alloc.now (place_of self.now) }
+    pub fn lits<'a, A: Allocator + Copy>(&'a self, clause_alloc: &'a ClauseAlloc<A>) -> &'a [Lit]
+        requires { NamesPlace clause_alloc.now self.now }
+        ensures { result.now ≡ named_in clause_alloc.now self.now }
     {
         match self {
+            Conflict::Binary(lits) => lits,
             Conflict::Long(cref) => clause_alloc.clause(*cref),
         }
     }

@@ -2,15 +2,15 @@
 ghost use Rattle.std.specs.Prelude.{◌≡◌, ◌≢◌, ℕ, suc, ◌<◌, ◌≤◌, ◌*◌, ◌++◌, IsTrue, length, take, drop, OnOk, IfOk, MatchResult, MatchOption};
 ghost use Rattle.varisat_theory.specs.Membership.{◌∈◌};
 ghost use Rattle.varisat_theory.specs.Literals.{opposite};
-ghost use Rattle.varisat_theory.specs.Propagation.{IsFalse};
 ghost use Rattle.varisat_prop.specs.Stored.{IsPlace, literals_at, with_literals};
 ghost use Rattle.varisat_prop.specs.Parts.{IsMadeTrue};
 ghost use Rattle.varisat_prop.specs.View.{view_of, WellFormed, literal_at};
-ghost use Rattle.varisat_prop.specs.Changes.{place_of};
+ghost use Rattle.varisat_prop.specs.Changes.{IsConflicting};
 ghost use Rattle.varisat_prop.specs.Looks.{Propagates, IsInRange, IsFalseAt};
 ghost use Rattle.varisat_prop.specs.Watches.{with_list, at, IsRearranged, IsSettledTo, IsWatched};
 ghost use Rattle.varisat_prop.specs.Visits.{IsPair, IsFound, IsVisited, IsVisit};
 
+use crate::binary::BinaryClauses;
 use crate::clause::{ClauseAlloc, ClauseRef};
 use crate::prop::assignment::Assignment;
 use crate::prop::enqueue::enqueue_assignment;
@@ -136,17 +136,18 @@ fn visit_watch<A: Allocator + Copy>(
     clause_alloc: &mut ClauseAlloc<A>,
     impl_graph: &mut ImplGraph<A>,
     trail: &mut Trail<A>,
+    binary_clauses: &BinaryClauses<A>,
     watchlists: &mut Watchlists<A>,
     lit: Lit,
     watch: Watch,
 ) -> Result<Visit, AllocError>
-    requires well { WellFormed (view_of clause_alloc.old assignment.old trail.old impl_graph.old) }
+    requires well { WellFormed (view_of clause_alloc.old binary_clauses.now assignment.old trail.old impl_graph.old) }
     requires within { IsPlace clause_alloc.old watch.cref }
     requires blocking { watch.blocking ∈ literals_at clause_alloc.old watch.cref }
     requires lists { length watchlists.old.lists ≡ 2 * length assignment.old.current }
     requires is_true { IsMadeTrue assignment.old.current lit }
-    ensures visited { OnOk result (IsVisited (view_of clause_alloc.old assignment.old trail.old impl_graph.old) (view_of clause_alloc.new assignment.new trail.new impl_graph.new) watchlists.old watchlists.new watch.cref) }
-    ensures visit { IfOk result (λ visit. IsVisit (view_of clause_alloc.new assignment.new trail.new impl_graph.new) lit watch.cref visit) }
+    ensures visited { OnOk result (IsVisited (view_of clause_alloc.old binary_clauses.now assignment.old trail.old impl_graph.old) (view_of clause_alloc.new binary_clauses.now assignment.new trail.new impl_graph.new) watchlists.old watchlists.new watch.cref) }
+    ensures visit { IfOk result (λ visit. IsVisit (view_of clause_alloc.new binary_clauses.now assignment.new trail.new impl_graph.new) lit watch.cref visit) }
     ensures last { OnOk result (assignment.new.last ≡ assignment.old.last) }
     ensures queue { OnOk result ((trail.new.queue_head ≡ trail.old.queue_head) × (trail.new.units_removed ≡ trail.old.units_removed)) }
 {
@@ -190,20 +191,21 @@ fn visit_watches<A: Allocator + Copy>(
     clause_alloc: &mut ClauseAlloc<A>,
     impl_graph: &mut ImplGraph<A>,
     trail: &mut Trail<A>,
+    binary_clauses: &BinaryClauses<A>,
     watchlists: &mut Watchlists<A>,
     list: &mut Vec<Watch, A>,
     lit: Lit,
 ) -> Result<Result<(), Conflict>, AllocError>
-    requires well { WellFormed (view_of clause_alloc.old assignment.old trail.old impl_graph.old) }
-    requires head { literal_at (view_of clause_alloc.old assignment.old trail.old impl_graph.old) trail.old.queue_head ≡ lit }
+    requires well { WellFormed (view_of clause_alloc.old binary_clauses.now assignment.old trail.old impl_graph.old) }
+    requires head { literal_at (view_of clause_alloc.old binary_clauses.now assignment.old trail.old impl_graph.old) trail.old.queue_head ≡ lit }
     requires within { trail.old.queue_head < length trail.old.literals }
     requires inside { lit < length watchlists.old.lists }
-    requires watched { IsWatched (with_list watchlists.old lit list.old.items) (view_of clause_alloc.old assignment.old trail.old impl_graph.old) trail.old.queue_head }
-    ensures propagates { OnOk result (Propagates (view_of clause_alloc.old assignment.old trail.old impl_graph.old) (view_of clause_alloc.new assignment.new trail.new impl_graph.new)) }
-    ensures watched { OnOk result (IsWatched (with_list watchlists.new lit list.new.items) (view_of clause_alloc.new assignment.new trail.new impl_graph.new) trail.new.queue_head) }
+    requires watched { IsWatched (with_list watchlists.old lit list.old.items) (view_of clause_alloc.old binary_clauses.now assignment.old trail.old impl_graph.old) trail.old.queue_head }
+    ensures propagates { OnOk result (Propagates (view_of clause_alloc.old binary_clauses.now assignment.old trail.old impl_graph.old) (view_of clause_alloc.new binary_clauses.now assignment.new trail.new impl_graph.new)) }
+    ensures watched { OnOk result (IsWatched (with_list watchlists.new lit list.new.items) (view_of clause_alloc.new binary_clauses.now assignment.new trail.new impl_graph.new) trail.new.queue_head) }
     ensures ends { IfOk result (λ end. MatchResult end
-        (λ _. IsSettledTo (view_of clause_alloc.new assignment.new trail.new impl_graph.new) (suc trail.new.queue_head))
-        (λ conflict. IsPlace clause_alloc.new (place_of conflict) × IsFalse trail.new.literals (literals_at clause_alloc.new (place_of conflict)))) }
+        (λ _. IsSettledTo (view_of clause_alloc.new binary_clauses.now assignment.new trail.new impl_graph.new) (suc trail.new.queue_head))
+        (λ conflict. IsConflicting (view_of clause_alloc.new binary_clauses.now assignment.new trail.new impl_graph.new) conflict)) }
     ensures lists { OnOk result (length watchlists.new.lists ≡ length watchlists.old.lists) }
     ensures last { OnOk result (assignment.new.last ≡ assignment.old.last) }
     ensures queue { OnOk result ((trail.new.queue_head ≡ trail.old.queue_head) × (trail.new.units_removed ≡ trail.old.units_removed)) }
@@ -218,6 +220,7 @@ fn visit_watches<A: Allocator + Copy>(
             clause_alloc,
             impl_graph,
             trail,
+            binary_clauses,
             watchlists,
             lit,
             watch,
@@ -245,18 +248,19 @@ pub fn propagate_long<A: Allocator + Copy>(
     clause_alloc: &mut ClauseAlloc<A>,
     impl_graph: &mut ImplGraph<A>,
     trail: &mut Trail<A>,
+    binary_clauses: &BinaryClauses<A>,
     watchlists: &mut Watchlists<A>,
     lit: Lit,
 ) -> Result<Result<(), Conflict>, AllocError>
-    requires well { WellFormed (view_of clause_alloc.old assignment.old trail.old impl_graph.old) }
-    requires head { literal_at (view_of clause_alloc.old assignment.old trail.old impl_graph.old) trail.old.queue_head ≡ lit }
+    requires well { WellFormed (view_of clause_alloc.old binary_clauses.now assignment.old trail.old impl_graph.old) }
+    requires head { literal_at (view_of clause_alloc.old binary_clauses.now assignment.old trail.old impl_graph.old) trail.old.queue_head ≡ lit }
     requires within { trail.old.queue_head < length trail.old.literals }
-    requires watched { IsWatched watchlists.old (view_of clause_alloc.old assignment.old trail.old impl_graph.old) trail.old.queue_head }
-    ensures propagates { OnOk result (Propagates (view_of clause_alloc.old assignment.old trail.old impl_graph.old) (view_of clause_alloc.new assignment.new trail.new impl_graph.new)) }
-    ensures watched { OnOk result (IsWatched watchlists.new (view_of clause_alloc.new assignment.new trail.new impl_graph.new) trail.new.queue_head) }
+    requires watched { IsWatched watchlists.old (view_of clause_alloc.old binary_clauses.now assignment.old trail.old impl_graph.old) trail.old.queue_head }
+    ensures propagates { OnOk result (Propagates (view_of clause_alloc.old binary_clauses.now assignment.old trail.old impl_graph.old) (view_of clause_alloc.new binary_clauses.now assignment.new trail.new impl_graph.new)) }
+    ensures watched { OnOk result (IsWatched watchlists.new (view_of clause_alloc.new binary_clauses.now assignment.new trail.new impl_graph.new) trail.new.queue_head) }
     ensures ends { IfOk result (λ end. MatchResult end
-        (λ _. IsSettledTo (view_of clause_alloc.new assignment.new trail.new impl_graph.new) (suc trail.new.queue_head))
-        (λ conflict. IsPlace clause_alloc.new (place_of conflict) × IsFalse trail.new.literals (literals_at clause_alloc.new (place_of conflict)))) }
+        (λ _. IsSettledTo (view_of clause_alloc.new binary_clauses.now assignment.new trail.new impl_graph.new) (suc trail.new.queue_head))
+        (λ conflict. IsConflicting (view_of clause_alloc.new binary_clauses.now assignment.new trail.new impl_graph.new) conflict)) }
     ensures last { OnOk result (assignment.new.last ≡ assignment.old.last) }
     ensures queue { OnOk result ((trail.new.queue_head ≡ trail.old.queue_head) × (trail.new.units_removed ≡ trail.old.units_removed)) }
 {
@@ -266,6 +270,7 @@ pub fn propagate_long<A: Allocator + Copy>(
         clause_alloc,
         impl_graph,
         trail,
+        binary_clauses,
         watchlists,
         &mut list,
         lit,

@@ -1,21 +1,24 @@
 //! Unit propagation over the queue of the trail.
-ghost use Rattle.std.specs.Prelude.{◌≡◌, ◌<◌, ◌≤◌, true, false, [], length, OnOk, IfOk, MatchResult};
+ghost use Rattle.std.specs.Prelude.{◌≡◌, suc, ◌<◌, ◌≤◌, true, false, [], length, OnOk, IfOk, MatchResult};
 ghost use Rattle.varisat_theory.specs.Membership.{◌∈◌};
 ghost use Rattle.varisat_theory.specs.Literals.{Literal, Clause, opposite};
-ghost use Rattle.varisat_theory.specs.Propagation.{IsFalse, IsComplete};
-ghost use Rattle.varisat_prop.specs.Stored.{IsPlace, literals_of, literals_at};
-ghost use Rattle.varisat_prop.specs.View.{view_of, WellFormed};
-ghost use Rattle.varisat_prop.specs.Changes.{place_of};
+ghost use Rattle.varisat_theory.specs.Propagation.{IsComplete};
+ghost use Rattle.varisat_prop.specs.Stored.{literals_of};
+ghost use Rattle.varisat_prop.specs.View.{view_of, kept, literal_at, WellFormed};
+ghost use Rattle.varisat_prop.specs.Changes.{IsConflicting};
 ghost use Rattle.varisat_prop.specs.Looks.{Propagates};
-ghost use Rattle.varisat_prop.specs.Watches.{list_of, IsWatching, IsPropagated};
+ghost use Rattle.varisat_prop.specs.Watches.{list_of, IsWatching, IsSettledTo, IsImpliedTo, IsWatched, IsPropagated};
 
+use crate::binary::BinaryClauses;
 use crate::clause::{ClauseAlloc, ClauseRef};
 use crate::prop::assignment::Assignment;
+use crate::prop::binary::propagate_binary;
 use crate::prop::graph::{Conflict, ImplGraph};
 use crate::prop::long::propagate_long;
 use crate::prop::trail::Trail;
 use crate::prop::watch::Watchlists;
 use std::alloc::{AllocError, Allocator};
+use varisat_literals::Lit;
 
 /// Fills the watch lists anew from the first two literals of each clause, where they are off.
 pub fn enable_watchlists<A: Allocator + Copy>(
@@ -41,6 +44,52 @@ pub fn enable_watchlists<A: Allocator + Copy>(
     Ok(())
 }
 
+/// Makes true what the clauses imply by the literal, the first of the queue: those of two literals first.
+fn propagate_lit<A: Allocator + Copy>(
+    assignment: &mut Assignment<A>,
+    clause_alloc: &mut ClauseAlloc<A>,
+    impl_graph: &mut ImplGraph<A>,
+    trail: &mut Trail<A>,
+    binary_clauses: &BinaryClauses<A>,
+    watchlists: &mut Watchlists<A>,
+    lit: Lit,
+) -> Result<Result<(), Conflict>, AllocError>
+    requires well { WellFormed (view_of clause_alloc.old binary_clauses.now assignment.old trail.old impl_graph.old) }
+    requires head { literal_at (view_of clause_alloc.old binary_clauses.now assignment.old trail.old impl_graph.old) trail.old.queue_head ≡ lit }
+    requires within { trail.old.queue_head < length trail.old.literals }
+    requires watched { IsWatched watchlists.old (view_of clause_alloc.old binary_clauses.now assignment.old trail.old impl_graph.old) trail.old.queue_head }
+    ensures propagates { OnOk result (Propagates (view_of clause_alloc.old binary_clauses.now assignment.old trail.old impl_graph.old) (view_of clause_alloc.new binary_clauses.now assignment.new trail.new impl_graph.new)) }
+    ensures watched { OnOk result (IsWatched watchlists.new (view_of clause_alloc.new binary_clauses.now assignment.new trail.new impl_graph.new) trail.new.queue_head) }
+    ensures ends { IfOk result (λ end. MatchResult end
+        (λ _. IsSettledTo (view_of clause_alloc.new binary_clauses.now assignment.new trail.new impl_graph.new) (suc trail.new.queue_head) × IsImpliedTo (view_of clause_alloc.new binary_clauses.now assignment.new trail.new impl_graph.new) (suc trail.new.queue_head))
+        (λ conflict. IsConflicting (view_of clause_alloc.new binary_clauses.now assignment.new trail.new impl_graph.new) conflict)) }
+    ensures last { OnOk result (assignment.new.last ≡ assignment.old.last) }
+    ensures queue { OnOk result ((trail.new.queue_head ≡ trail.old.queue_head) × (trail.new.units_removed ≡ trail.old.units_removed)) }
+{
+    match propagate_binary(
+        assignment,
+        clause_alloc,
+        impl_graph,
+        trail,
+        binary_clauses,
+        lit,
+    )? {
+        Err(conflict) => Ok(Err(conflict)),
+        Ok(()) => {
+            let end = propagate_long(
+                assignment,
+                clause_alloc,
+                impl_graph,
+                trail,
+                binary_clauses,
+                watchlists,
+                lit,
+            )?;
+            Ok(end)
+        }
+    }
+}
+
 /// Makes true what the clauses imply, until a clause is false or nothing more is implied. Up to the queue's head
 /// propagation must have come to its end. It has so afterwards too, where at a conflict the head may stay behind.
 pub fn propagate<A: Allocator + Copy>(
@@ -48,23 +97,32 @@ pub fn propagate<A: Allocator + Copy>(
     clause_alloc: &mut ClauseAlloc<A>,
     impl_graph: &mut ImplGraph<A>,
     trail: &mut Trail<A>,
+    binary_clauses: &BinaryClauses<A>,
     watchlists: &mut Watchlists<A>,
 ) -> Result<Result<(), Conflict>, AllocError>
-    requires well { WellFormed (view_of clause_alloc.old assignment.old trail.old impl_graph.old) }
-    requires propagated { IsPropagated watchlists.old (view_of clause_alloc.old assignment.old trail.old impl_graph.old) }
+    requires well { WellFormed (view_of clause_alloc.old binary_clauses.now assignment.old trail.old impl_graph.old) }
+    requires propagated { IsPropagated watchlists.old (view_of clause_alloc.old binary_clauses.now assignment.old trail.old impl_graph.old) }
     // Each literal that was added has a clause as its reason, whose other literals are false and stand before it.
-    ensures propagates { OnOk result (Propagates (view_of clause_alloc.old assignment.old trail.old impl_graph.old) (view_of clause_alloc.new assignment.new trail.new impl_graph.new)) }
-    ensures propagated { OnOk result (IsPropagated watchlists.new (view_of clause_alloc.new assignment.new trail.new impl_graph.new)) }
+    ensures propagates { OnOk result (Propagates (view_of clause_alloc.old binary_clauses.now assignment.old trail.old impl_graph.old) (view_of clause_alloc.new binary_clauses.now assignment.new trail.new impl_graph.new)) }
+    ensures propagated { OnOk result (IsPropagated watchlists.new (view_of clause_alloc.new binary_clauses.now assignment.new trail.new impl_graph.new)) }
     // At a conflict all literals of the named clause are false. Else no clause is false, none leaves a literal that isn't true, and each literal was propagated.
     ensures ends { IfOk result (λ end. MatchResult end
-        (λ _. IsComplete (literals_of clause_alloc.new) trail.new.literals × (trail.new.queue_head ≡ length trail.new.literals))
-        (λ conflict. IsPlace clause_alloc.new (place_of conflict) × IsFalse trail.new.literals (literals_at clause_alloc.new (place_of conflict)))) }
+        (λ _. IsComplete (kept (view_of clause_alloc.new binary_clauses.now assignment.new trail.new impl_graph.new)) trail.new.literals × (trail.new.queue_head ≡ length trail.new.literals))
+        (λ conflict. IsConflicting (view_of clause_alloc.new binary_clauses.now assignment.new trail.new impl_graph.new) conflict)) }
     ensures last { OnOk result (assignment.new.last ≡ assignment.old.last) }
     ensures units { OnOk result (trail.new.units_removed ≡ trail.old.units_removed) }
 {
     enable_watchlists(watchlists, clause_alloc)?;
     'queue: while let Some(lit) = trail.queue_head() {
-        match propagate_long(assignment, clause_alloc, impl_graph, trail, watchlists, lit)? {
+        match propagate_lit(
+            assignment,
+            clause_alloc,
+            impl_graph,
+            trail,
+            binary_clauses,
+            watchlists,
+            lit,
+        )? {
             // The literal counts as propagated only now: after a conflict it is looked at again.
             Ok(()) => {
                 trail.pop_queue();

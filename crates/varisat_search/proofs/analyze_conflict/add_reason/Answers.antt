@@ -30,5 +30,5 @@ pub returns : goal.returns
 returns g c =
     let sees = c.requires.1.0.sees in
     let p = reason-read g.s c.args.parts.impl_graph.now.nodes.items c.args.lit c.var.result c.reason.result.now sees.nodes_are c.var.ensures c.reason.ensures in
-    let begun = ap (λ x. marking x c.args.var_flags.now) c.in_ok-list_reason.ensures.kept ∙ ap (λ x. record (marking c.args.scratch.now c.args.var_flags.now) { involved = x }) c.in_ok-list_reason.ensures.listed in
+    let begun = ap (λ x. record (marking c.args.scratch.now c.args.var_flags.now) { involved = x }) c.in_ok-list_reason.ensures in
     adds-reason c.args.lit (marking c.args.scratch.now c.args.var_flags.now) c.reason.result.now p (c.lits.ensures ∙ ap (λ P. causes_of P c.reason.result.now) sees.clauses_are) begun (c.in_ok-count.ensures {u = tt})

@@ -1,22 +1,27 @@
 use Rattle.std.proofs.Common.{◌-◌, ◌+◌, false, length, length-set, refl, sym, ap, ◌∙◌, subst, arith}
 use Rattle.varisat_theory.specs.Propagation.{IsFalse}
-use Rattle.varisat_prop.specs.Stored.{literals_at}
-use Rattle.varisat_prop.specs.Changes.{place_of}
+use Rattle.varisat_prop.specs.Changes.{NamesPlace, named_in}
 use Rattle.varisat_search.specs.Marks.{marking}
+use Rattle.varisat_search.proofs.WellFormedViews.{named-place}
 use Rattle.varisat_search.proofs.AnalysisWalk.{walk-begin, walk-small, reads-before, read-inside-flags, read-true, read-skip, read-end, read-resolve}
 use Rattle.varisat_search.proofs.analyze_conflict.resolve.Goals as goal
+
+pub lits-requires : goal.lits-requires
+lits-requires g c =
+    let sees = c.requires.1.can.sees in
+    subst (λ P. NamesPlace P c.args.conflict) (sym sees.clauses_are) (named-place g.s c.args.conflict c.requires.1.conflict.conflict.0)
 
 pub add_literals-requires : goal.add_literals-requires
 add_literals-requires g c κs within =
     let sees = c.requires.1.can.sees in
-    let l = c.lits-lits.ensures ∙ ap (λ x. literals_at x (place_of c.args.conflict)) sees.clauses_are in
+    let l = c.lits.ensures ∙ ap (λ x. named_in x c.args.conflict) sees.clauses_are in
     (within, (c.requires.1.can, subst (IsFalse g.s.trail) (sym l) c.requires.1.conflict.conflict.1))
 
 pub places-init : goal.places-init
 places-init g c =
     let sees = c.requires.1.can.sees in
-    walk-begin sees.well c.requires.1.conflict c.requires.1.clean c.lits-lits.result.now c.push.new.self.items c.false_clause-cref.result (length c.trail-place.result.now)
-    (c.lits-lits.ensures ∙ ap (λ x. literals_at x (place_of c.args.conflict)) sees.clauses_are) c.in_ok-push.ensures.items c.false_clause-cref.ensures (ap (λ x. length x) (c.trail-place.ensures ∙ sees.trail_is)) (c.in_ok-count.ensures {u = tt})
+    walk-begin sees.well c.requires.1.conflict c.requires.1.clean c.lits.result.now c.push.new.self.items c.args.conflict (length c.trail-place.result.now)
+    (c.lits.ensures ∙ ap (λ x. named_in x c.args.conflict) sees.clauses_are) c.in_ok-push.ensures.items refl (ap (λ x. length x) (c.trail-place.ensures ∙ sees.trail_is)) (c.in_ok-count.ensures {u = tt})
 
 pub bounds-var_flags-index : goal.bounds-var_flags-index
 bounds-var_flags-index g c =

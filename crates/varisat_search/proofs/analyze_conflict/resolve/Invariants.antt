@@ -1,4 +1,3 @@
-use Rattle.varisat_prop.specs.Changes.{place_of}
 use Rattle.varisat_search.specs.Marks.{marking}
 use Rattle.varisat_search.proofs.AnalysisWalk.{Walk}
 use Rattle.varisat_search.proofs.analyze_conflict.resolve.Given as goal
@@ -10,7 +9,7 @@ abbrev pub ghost-add_reason : goal.ghost-add_reason
 ghost-add_reason g a = g.s
 
 abbrev pub invariant-places : goal.invariant-places
-invariant-places g l = Walk g.s (place_of l.fn.conflict) (marking l.scratch l.var_flags) l.count l.place
+invariant-places g l = Walk g.s l.fn.conflict (marking l.scratch l.var_flags) l.count l.place
 
 abbrev pub decreases-places : goal.decreases-places
 decreases-places g l = l.place

@@ -2,7 +2,9 @@ use Rattle.std.proofs.Common.{◌≡◌, ◌*◌, false, length, drop, get_or, s
 use Rattle.std.proofs.lemmas.List.{length-replicate}
 use Rattle.varisat_theory.specs.Membership.{◌∈◌}
 use Rattle.varisat_vsids.specs.Activities.{Activities, decayed}
+use Rattle.varisat_search.specs.Contexts.{view}
 use Rattle.varisat_search.specs.Bumps.{literals_among, AreVariablesAbove}
+use Rattle.varisat_search.proofs.WellFormedViews.{named-place}
 use Rattle.varisat_search.proofs.BumpedVariables.{among-kept, each-available, false-all, clear-given-back}
 use Rattle.varisat_search.proofs.bumps.bump_involved.Goals as goal
 
@@ -15,15 +17,15 @@ bump_each_once-requires-clause-may g c =
     let v = ap (λ xs. length xs) c.deref_mut.ensures.value in
     record {
       known = λ l i.
-          let (k, h, j) = among-kept x.clause_alloc x.analyze_conflict.involved l c.requires.places (subst (λ ps. l ∈ literals_among x.clause_alloc ps) c.involved.ensures i) in
+          let (k, h, j) = among-kept (view x) r.well x.analyze_conflict.involved l c.requires.named (subst (λ ps. l ∈ literals_among x.clause_alloc ps) c.involved.ensures i) in
           let w = r.well.in_range k h l j in
           omega (arith, w, n);
       flags = omega (arith, n, f, v);
       activity = r.decidable.entries.activity ∙ sym n;
     }
 
-pub bump_each_once-requires-clause-places : goal.bump_each_once-requires-clause-places
-bump_each_once-requires-clause-places g c p h = c.requires.places p (subst (λ ps. p ∈ ps) c.involved.ensures h)
+pub bump_each_once-requires-clause-named : goal.bump_each_once-requires-clause-named
+bump_each_once-requires-clause-named g c p h = named-place (view c.args.ctx.now) p (c.requires.named p (subst (λ ps. p ∈ ps) c.involved.ensures h))
 
 pub bump_each_once-requires-clause-clear : goal.bump_each_once-requires-clause-clear
 bump_each_once-requires-clause-clear g c v =

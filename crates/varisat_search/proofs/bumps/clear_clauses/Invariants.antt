@@ -3,5 +3,5 @@ use Rattle.varisat_search.specs.Bumps.{literals_among}
 use Rattle.varisat_search.proofs.BumpedVariables.{Clears}
 use Rattle.varisat_search.proofs.bumps.clear_clauses.Given as goal
 
-abbrev pub invariant-loop-cref : goal.invariant-loop-cref
-invariant-loop-cref g l = Clears (literals_among l.clause_alloc (take l.cref-index l.crefs)) l.fn.flags l.flags
+abbrev pub invariant-loop-name : goal.invariant-loop-name
+invariant-loop-name g l = Clears (literals_among l.clause_alloc (take l.name-index l.names)) l.fn.flags l.flags

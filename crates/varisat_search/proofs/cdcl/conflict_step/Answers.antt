@@ -1,8 +1,7 @@
 use Rattle.std.proofs.Common.{[], MatchResult, inl, sym, ap, ◌∙◌, subst}
 use Rattle.varisat_theory.specs.Propagation.{IsComplete}
 use Rattle.varisat_prop.specs.View.{kept}
-use Rattle.varisat_prop.specs.Changes.{place_of}
-use Rattle.varisat_search.specs.Learned.{IsConflict}
+use Rattle.varisat_prop.specs.Changes.{IsConflicting}
 use Rattle.varisat_search.specs.declared.state.SolverState.{SolverState}
 use Rattle.varisat_search.specs.Contexts.{view}
 use Rattle.varisat_search.specs.Conflicts.{conflict_of}
@@ -17,13 +16,13 @@ use Rattle.varisat_search.proofs.cdcl.conflict_step.Goals as goal
 pub learn-requires-clause-conflict : goal.learn-requires-clause-conflict
 learn-requires-clause-conflict g c =
     let x = c.find_conflict.new.ctx in
-    let a = subst (λ r. MatchResult r (λ _. IsComplete (kept (view x)) x.trail.literals × IsTotal (view x)) (λ f. IsConflict (view x) (place_of (conflict_of f)))) c.in-Err.is c.in_ok-find_conflict.ensures.found in
-    subst (λ k. IsConflict (view x) (place_of k)) (sym c.conflict.ensures) a
+    let a = subst (λ r. MatchResult r (λ _. IsComplete (kept (view x)) x.trail.literals × IsTotal (view x)) (λ f. IsConflicting (view x) (conflict_of f))) c.in-Err.is c.in_ok-find_conflict.ensures.found in
+    subst (IsConflicting (view x)) (sym c.conflict.ensures) a
 
 pub returns-in-Ok-clause-steps : goal.returns-in-Ok-clause-steps
 returns-in-Ok-clause-steps g c =
     let x = c.find_conflict.new.ctx in
-    let a = subst (λ r. MatchResult r (λ _. IsComplete (kept (view x)) x.trail.literals × IsTotal (view x)) (λ f. IsConflict (view x) (place_of (conflict_of f)))) c.in-Ok.is c.in_ok-find_conflict.ensures.found in
+    let a = subst (λ r. MatchResult r (λ _. IsComplete (kept (view x)) x.trail.literals × IsTotal (view x)) (λ f. IsConflicting (view x) (conflict_of f))) c.in-Ok.is c.in_ok-find_conflict.ensures.found in
     let w = c.in_ok-find_conflict.ensures.ready.well in
     ([], steps-after (view c.args.ctx.now) (view x) (view x) (Sat (assignment_of (view x))) [] c.requires.ready.well w c.in_ok-find_conflict.ensures.grows (model-steps (view x) w a.0 a.1))
 

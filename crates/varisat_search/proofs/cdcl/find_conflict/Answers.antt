@@ -14,7 +14,7 @@ use Rattle.varisat_search.proofs.cdcl.find_conflict.Goals.{In_ok-propagated, Els
 use Rattle.varisat_search.proofs.cdcl.find_conflict.Goals as goal
 
 abbrev after : (g : Over) (c : In_ok-propagated g) → View
-after g c = view_of c.propagate.new.clause_alloc c.propagate.new.assignment c.propagate.new.trail c.propagate.new.impl_graph
+after g c = view_of c.propagate.new.clause_alloc c.levels.ctx.binary_clauses c.propagate.new.assignment c.propagate.new.trail c.propagate.new.impl_graph
 
 propagated : (g : Over) (c : In_ok-propagated g) → Finding (view c.levels.ctx) (after g c)
 propagated g c =
@@ -23,7 +23,7 @@ propagated g c =
 grown : (g : Over) (c : In_ok-propagated g) → Grows (view c.args.ctx.now) (after g c)
 grown g c = grows-trans (view c.args.ctx.now) (view c.levels.ctx) (after g c) c.levels.invariant.grows (propagated g c).grows
 
-decided : (g : Over) (c : Else-not-branch g) → Finding (view c.levels.ctx) (view_of c.propagate.new.clause_alloc c.propagate.new.assignment c.propagate.new.trail c.propagate.new.impl_graph) → Finding (view c.levels.ctx) (view c.make_decision.new.ctx)
+decided : (g : Over) (c : Else-not-branch g) → Finding (view c.levels.ctx) (view_of c.propagate.new.clause_alloc c.levels.ctx.binary_clauses c.propagate.new.assignment c.propagate.new.trail c.propagate.new.impl_graph) → Finding (view c.levels.ctx) (view c.make_decision.new.ctx)
 decided g c f =
     let d = rw c.if-not-branch.false at c.in_ok-make_decision.ensures.decided in
     let q = not-err c.in_ok-propagated.propagated _ _ c.in_default.not-Err c.in_ok-propagated.ensures.ends in

@@ -1,11 +1,10 @@
 use Rattle.std.proofs.Common.{refl, sym, ap, ◌∙◌, subst, arith}
-use Rattle.varisat_prop.specs.Changes.{place_of}
 use Rattle.varisat_prop.specs.View.{WellFormed}
 use Rattle.varisat_search.specs.declared.context.Context.{Context}
 use Rattle.varisat_search.specs.Contexts.{view}
 use Rattle.varisat_search.specs.Learned.{Analysis, AreInvolved}
 use Rattle.varisat_search.specs.Steps.{SavesSome}
-use Rattle.varisat_search.proofs.LearnContext.{analysis-ready, involved-stored, bumps-learned, cut-activities, analyzed-bumped, Backtracked, saves-some, learned-listed, Learning, learning-free, learning-node, learning-further, learning-activities, refuted-undecided, refuted-further}
+use Rattle.varisat_search.proofs.LearnContext.{analysis-ready, involved-named, bumps-learned, cut-activities, analyzed-bumped, Backtracked, saves-some, learned-listed, learned-paired, Learning, learning-free, learning-node, learning-further, learning-activities, refuted-undecided, refuted-further}
 use Rattle.varisat_search.proofs.cdcl.learn.Given.{Over}
 use Rattle.varisat_search.proofs.cdcl.learn.Goals.{After-backtrack, In_ok-reason, In_ok-enqueue_assignment}
 use Rattle.varisat_search.proofs.cdcl.learn.Goals as goal
@@ -13,14 +12,14 @@ use Rattle.varisat_search.proofs.cdcl.learn.Goals as goal
 pub bump_involved-requires-clause-ready : goal.bump_involved-requires-clause-ready
 bump_involved-requires-clause-ready g c = analysis-ready c.analyze.ensures.kept c.requires.ready c.analyze.ensures.count
 
-pub bump_involved-requires-clause-places : goal.bump_involved-requires-clause-places
-bump_involved-requires-clause-places g c = involved-stored c.args.ctx.now c.analyze.new.ctx (place_of c.args.conflict) c.analyze.ensures.kept c.in_ok-level.ensures.involved
+pub bump_involved-requires-clause-named : goal.bump_involved-requires-clause-named
+bump_involved-requires-clause-named g c = involved-named c.args.ctx.now c.analyze.new.ctx c.args.conflict c.analyze.ensures.kept c.in_ok-level.ensures.involved
 
 pub backtrack-requires-clause-well : goal.backtrack-requires-clause-well
 backtrack-requires-clause-well g c =
     subst (λ (x : Context g.row.A.Denot). WellFormed (view x)) (sym c.bump_involved.ensures.kept) (subst (λ (x : Context g.row.A.Denot). WellFormed (view x)) (sym c.analyze.ensures.kept) c.requires.ready.well)
 
-undone : (g : Over) (c : After-backtrack g) → Backtracked c.args.ctx.now c.bump_involved.new.ctx c.backtrack.new.ctx (place_of c.args.conflict) c.in_ok-level.level
+undone : (g : Over) (c : After-backtrack g) → Backtracked c.args.ctx.now c.bump_involved.new.ctx c.backtrack.new.ctx c.args.conflict c.in_ok-level.level
 undone g c = record {
   begun = analyzed-bumped
       (record { ready = c.requires.ready; unknown = c.requires.unknown; kept = c.analyze.ensures.kept; room = c.analyze.ensures.count; learned = c.in_ok-level.ensures.learned })
@@ -34,7 +33,7 @@ undone g c = record {
   back = c.backtrack.ensures.kept;
 }
 
-learning : (g : Over) (c : In_ok-reason g) → Backtracked c.args.ctx.now c.bump_involved.new.ctx c.backtrack.new.ctx (place_of c.args.conflict) c.in_ok-level.level → Learning c.args.ctx.now c.bump_involved.new.ctx c.backtrack.new.ctx c.keep_learned.new.ctx (place_of c.args.conflict) c.in_ok-level.level c.in-Some.first c.in-Some.ensures.0 c.in_ok-reason.reason
+learning : (g : Over) (c : In_ok-reason g) → Backtracked c.args.ctx.now c.bump_involved.new.ctx c.backtrack.new.ctx c.args.conflict c.in_ok-level.level → Learning c.args.ctx.now c.bump_involved.new.ctx c.backtrack.new.ctx c.keep_learned.new.ctx c.args.conflict c.in_ok-level.level c.in-Some.first c.in-Some.ensures.0 c.in_ok-reason.reason
 learning g c b = record { before = b; split = sym c.clause.ensures ∙ c.in-Some.ensures.1; stored = c.keep_learned.ensures.kept; kept = c.in_ok-reason.ensures.reason; watched = c.in_ok-reason.ensures.watched }
 
 abbrev last : (g : Over) (c : In_ok-enqueue_assignment g) → Context g.row.A.Denot
@@ -42,7 +41,9 @@ last g c = record c.keep_learned.new.ctx { assignment = c.enqueue_assignment.new
 
 pub keep_learned-requires : goal.keep_learned-requires
 keep_learned-requires g c =
-    record { listed = learned-listed (undone g (goal.at.keep_learned-requires g c).After-backtrack) c.in-Some.first c.in-Some.ensures.0 (sym c.clause.ensures ∙ c.in-Some.ensures.1) }
+    let d = undone g (goal.at.keep_learned-requires g c).After-backtrack in
+    let e = sym c.clause.ensures ∙ c.in-Some.ensures.1 in
+    record { listed = learned-listed d c.in-Some.first c.in-Some.ensures.0 e; paired = learned-paired d c.in-Some.first c.in-Some.ensures.0 e }
 
 pub enqueue_assignment-requires : goal.enqueue_assignment-requires
 enqueue_assignment-requires g c =
@@ -55,7 +56,7 @@ pub returns-clause-further : goal.returns-clause-further
 returns-clause-further g c =
     let here = goal.at.returns-clause-further g c in
     let d = learning g here.In_ok-reason (undone g here.After-backtrack) in
-    learning-further d (last g here.In_ok-enqueue_assignment) refl (c.in_ok-enqueue_assignment.ensures.view c.keep_learned.new.ctx.clause_alloc) c.in_ok-enqueue_assignment.ensures.units
+    learning-further d (last g here.In_ok-enqueue_assignment) refl (c.in_ok-enqueue_assignment.ensures.view c.keep_learned.new.ctx.clause_alloc c.keep_learned.new.ctx.binary_clauses) c.in_ok-enqueue_assignment.ensures.units
 
 pub returns-clause-bumps : goal.returns-clause-bumps
 returns-clause-bumps g c h =
@@ -67,13 +68,13 @@ returns-clause-bumps g c h =
       x1.vsids,
       bumps-learned c.args.ctx.now c.analyze.new.ctx x1 z c.analyze.ensures.kept c.bump_involved.ensures.bumps
           (ap analysis c.keep_learned.ensures.kept ∙ ap analysis c.backtrack.ensures.kept ∙ ap analysis c.bump_involved.ensures.kept) h,
-      learning-activities d z refl (c.in_ok-enqueue_assignment.ensures.view c.keep_learned.new.ctx.clause_alloc) x1.vsids (cut-activities x1 c.backtrack.new.ctx c.in_ok-level.level c.backtrack.ensures.same c.backtrack.ensures.available),
+      learning-activities d z refl (c.in_ok-enqueue_assignment.ensures.view c.keep_learned.new.ctx.clause_alloc c.keep_learned.new.ctx.binary_clauses) x1.vsids (cut-activities x1 c.backtrack.new.ctx c.in_ok-level.level c.backtrack.ensures.same c.backtrack.ensures.available),
     )
 
 pub returns-clause-involved : goal.returns-clause-involved
 returns-clause-involved g c =
     let analysis : (x : Context g.row.A.Denot) → Analysis = λ x. x.analyze_conflict in
-    subst (λ (a : Analysis). AreInvolved (view c.args.ctx.now) (place_of c.args.conflict) a.involved)
+    subst (λ (a : Analysis). AreInvolved (view c.args.ctx.now) c.args.conflict a.involved)
     (sym (ap analysis c.keep_learned.ensures.kept ∙ ap analysis c.backtrack.ensures.kept ∙ ap analysis c.bump_involved.ensures.kept)) c.in_ok-level.ensures.involved
 
 pub returns-clause-last : goal.returns-clause-last
@@ -94,7 +95,7 @@ returns-in_default-clause-bumps g c h =
 pub returns-in_default-clause-involved : goal.returns-in_default-clause-involved
 returns-in_default-clause-involved g c =
     let analysis : (x : Context g.row.A.Denot) → Analysis = λ x. x.analyze_conflict in
-    subst (λ (a : Analysis). AreInvolved (view c.args.ctx.now) (place_of c.args.conflict) a.involved)
+    subst (λ (a : Analysis). AreInvolved (view c.args.ctx.now) c.args.conflict a.involved)
     (sym (ap analysis c.backtrack.ensures.kept ∙ ap analysis c.bump_involved.ensures.kept)) c.in_ok-level.ensures.involved
 
 pub returns-in_default-clause-last : goal.returns-in_default-clause-last

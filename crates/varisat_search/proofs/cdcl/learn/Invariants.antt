@@ -1,4 +1,5 @@
+use Rattle.varisat_search.specs.Contexts.{view}
 use Rattle.varisat_search.proofs.cdcl.learn.Given as goal
 
 abbrev pub ghost-analyze : goal.ghost-analyze
-ghost-analyze g a = a.ctx.now.assignment
+ghost-analyze g a = view a.ctx.now

@@ -1,10 +1,15 @@
-use Rattle.std.proofs.Common.{false, length, slice_index_or, refl, sym, ap, ◌∙◌, subst, arith}
+use Rattle.std.proofs.Common.{◌≡◌, false, length, slice_index_or, refl, sym, ap, ◌∙◌, subst, arith}
 use Rattle.varisat_search.specs.declared.context.Context.{Context}
 use Rattle.varisat_search.specs.Contexts.{view}
 use Rattle.varisat_search.specs.Decisions.{IsDecidable, SameDecidableBut, AddsDecidable}
 use Rattle.varisat_search.specs.Seen.{search_of}
-use Rattle.varisat_search.proofs.DecidableVariables.{only-activities, none-added, one-more-added}
+use Rattle.varisat_vsids.specs.Activities.{Activities}
+use Rattle.varisat_search.proofs.DecidableVariables.{none-added, one-more-added}
 use Rattle.varisat_search.proofs.decision.add_variables.Goals as goal
+
+-- a change of activities alone keeps the rest as it was
+only-activities : {A : Type 0} (x y z : Context A) (a : Activities) → y ≡ record x { analyze_conflict = y.analyze_conflict; assignment = y.assignment; binary_clauses = y.binary_clauses; impl_graph = y.impl_graph; tmp_flags = y.tmp_flags; vsids = y.vsids; watchlists = y.watchlists } → z ≡ record y { vsids = a } → z ≡ record x { analyze_conflict = z.analyze_conflict; assignment = z.assignment; binary_clauses = z.binary_clauses; impl_graph = z.impl_graph; tmp_flags = z.tmp_flags; vsids = z.vsids; watchlists = z.watchlists }
+only-activities x y z a e f = subst (λ w. w ≡ record x { analyze_conflict = w.analyze_conflict; assignment = w.assignment; binary_clauses = w.binary_clauses; impl_graph = w.impl_graph; tmp_flags = w.tmp_flags; vsids = w.vsids; watchlists = w.watchlists }) (sym f) (ap (λ (w : Context _). record w { vsids = a }) e)
 
 pub loop-index-init : goal.loop-index-init
 loop-index-init g c =

@@ -22,12 +22,12 @@ inside : (g : Over) (c : In_ok-enqueue_assignment g) → variable_of c.lit-lit.r
 inside g c = let k = (taken g c).found.known in let n = c.requires.decidable.entries.activity in omega (arith, k, n)
 
 abbrev after : (g : Over) (c : In_ok-enqueue_assignment g) → View
-after g c = view_of c.args.ctx.now.clause_alloc c.enqueue_assignment.new.assignment c.enqueue_assignment.new.trail c.enqueue_assignment.new.impl_graph
+after g c = view_of c.args.ctx.now.clause_alloc c.args.ctx.now.binary_clauses c.enqueue_assignment.new.assignment c.enqueue_assignment.new.trail c.enqueue_assignment.new.impl_graph
 
 decided : (g : Over) (c : In_ok-enqueue_assignment g) → after g c ≡ decided_on (view c.args.ctx.now) c.lit-lit.result
 decided g c =
     let x = c.args.ctx.now in
-    c.in_ok-enqueue_assignment.ensures.view x.clause_alloc ∙ ap (λ t. enqueued (view_of x.clause_alloc x.assignment t x.impl_graph) c.lit-lit.result reason.Unit) c.in_ok-new_decision_level.ensures
+    c.in_ok-enqueue_assignment.ensures.view x.clause_alloc x.binary_clauses ∙ ap (λ t. enqueued (view_of x.clause_alloc x.binary_clauses x.assignment t x.impl_graph) c.lit-lit.result reason.Unit) c.in_ok-new_decision_level.ensures
 
 pub returns-clause-decided : goal.returns-clause-decided
 returns-clause-decided g c =

@@ -1,4 +1,4 @@
-use Rattle.std.proofs.Common.{◌+◌, ◌<◌, length, set, false, sym, ap, ◌∙◌, subst, arith}
+use Rattle.std.proofs.Common.{◌+◌, set, false, sym, subst, arith}
 use Rattle.varisat_prop.proofs.ReadElements.{element, item-∈}
 use Rattle.varisat_search.proofs.LoadCopies.{Cleared, cleared-start, cleared-next, cleared-end, flag-inside}
 use Rattle.varisat_search.proofs.load.clear_flagged.Goals as goal

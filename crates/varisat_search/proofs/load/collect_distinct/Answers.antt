@@ -1,7 +1,6 @@
-use Rattle.std.proofs.Common.{◌≡◌, ◌*◌, ◌<◌, false, length, drop, get_or, sym, ap, ◌∙◌, subst, arith}
+use Rattle.std.proofs.Common.{◌≡◌, ◌*◌, false, length, drop, sym, ap, ◌∙◌, arith}
 use Rattle.std.proofs.lemmas.List.{length-replicate}
-use Rattle.varisat_theory.specs.Literals.{opposite}
-use Rattle.varisat_search.proofs.BumpedVariables.{clear-given-back, false-all}
+use Rattle.varisat_search.proofs.BumpedVariables.{clear-given-back}
 use Rattle.varisat_prop.proofs.LongVisited.{listed}
 use Rattle.varisat_search.proofs.LoadCopies.{own-list}
 use Rattle.varisat_search.proofs.load.collect_distinct.Goals as goal

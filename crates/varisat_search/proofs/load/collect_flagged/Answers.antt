@@ -1,6 +1,5 @@
-use Rattle.std.proofs.Common.{◌<◌, length, sym, ap, ◌∙◌, subst, arith}
+use Rattle.std.proofs.Common.{subst, arith}
 use Rattle.varisat_theory.specs.Membership.{◌∈◌}
-use Rattle.varisat_theory.specs.Literals.{opposite}
 use Rattle.varisat_search.proofs.load.collect_flagged.Goals as goal
 
 pub copy_distinct-requires-clause-known : goal.copy_distinct-requires-clause-known

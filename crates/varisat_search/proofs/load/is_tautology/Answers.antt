@@ -1,4 +1,4 @@
-use Rattle.std.proofs.Common.{◌≡◌, ℕ, ◌<◌, length, slice_index_or, true, false, take_all, refl, sym, ap, ◌∙◌, subst, ⊎_elim, arith}
+use Rattle.std.proofs.Common.{◌≡◌, ℕ, slice_index_or, true, false, take_all, refl, sym, ap, ◌∙◌, subst, ⊎_elim, arith}
 use Rattle.varisat_theory.specs.Membership.{◌∈◌}
 use Rattle.varisat_theory.specs.Literals.{opposite}
 use Rattle.varisat_theory.proofs.Places.{∈-take_more}

@@ -1,5 +1,6 @@
 use Rattle.std.proofs.Common.{◌*◌, false, replicate, length, refl, sym, ap, ◌∙◌, subst, arith}
 use Rattle.varisat_theory.specs.Membership.{◌∈◌}
+use Rattle.varisat_theory.specs.Searches.{IsTautology}
 use Rattle.varisat_search.specs.declared.context.Context.{Context}
 use Rattle.varisat_search.specs.Contexts.{view}
 use Rattle.varisat_search.proofs.LoadView.{Restarted, restarted}
@@ -70,6 +71,7 @@ add_distinct-requires g c =
       well = (loading-restarted d).well;
       propagated = loading-propagated d;
       undecided = (loading-restarted d).undecided;
+      distinct = d.distinct;
       in_range = loading-inside d;
       untrue = λ l i t. let b = c.if-is_satisfied.ensures.1 (l, subst (λ ys. l ∈ ys) (sym c.deref.ensures.value) i, t) in cc;
     }
@@ -78,5 +80,6 @@ pub returns : goal.returns
 returns g c =
     let e = c.in_ok-add_distinct.ensures in
     let k = c.add_distinct.ensures.kept in
-    let o = loaded-added (loading g (goal.at.returns g c).In_ok-collect_distinct) c.add_distinct.new.ctx k e.propagated e.state e.units e.last e.added in
+    let plain : IsTautology c.collect_distinct.new.ctx.tmp_data.lits.items → ⊥ = λ t. let b = c.in_ok-collect_distinct.ensures.tautology.1 t in let f = c.if-branch.false in cc in
+    let o = loaded-added (loading g (goal.at.returns g c).In_ok-collect_distinct) plain c.add_distinct.new.ctx k e.propagated e.state e.units e.last e.added in
     record { ready = o.ready; unsat = λ e. absurd (c.in_default.not-Unsat e); lines = o.lines; last = λ n. o.last; state = λ n. o.state; count = o.count; units = o.units; undecided = λ n. o.undecided; decidable = o.decidable; schedule = o.schedule }

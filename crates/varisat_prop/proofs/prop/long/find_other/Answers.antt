@@ -1,4 +1,4 @@
-use Rattle.std.proofs.Common.{◌≡◌, ◌<◌, List, length, ap, ◌∙◌, subst, arith}
+use Rattle.std.proofs.Common.{◌<◌, length, ap, ◌∙◌, subst, arith}
 use Rattle.std.specs.List.{swap}
 use Rattle.varisat_theory.specs.Membership.{◌∈◌}
 use Rattle.varisat_theory.specs.Literals.{Clause}

@@ -1,5 +1,4 @@
-use Rattle.std.proofs.Common.{◌≡◌, ◌≢◌, ◌<◌, length, sym, ◌∙◌, subst, refl, arith}
-use Rattle.varisat_theory.specs.Literals.{opposite}
+use Rattle.std.proofs.Common.{◌≡◌, ◌<◌, length, sym, ◌∙◌, subst, refl, arith}
 use Rattle.varisat_prop.specs.Parts.{IsMadeTrue}
 use Rattle.varisat_prop.proofs.LiteralValues.{made-clash}
 use Rattle.varisat_prop.proofs.ReadElements.{element}

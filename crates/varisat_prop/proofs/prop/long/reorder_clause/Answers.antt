@@ -1,4 +1,4 @@
-use Rattle.std.proofs.Common.{◌≡◌, length, ap, sym, ◌∙◌, subst}
+use Rattle.std.proofs.Common.{length, ap, sym, ◌∙◌, subst}
 use Rattle.varisat_prop.specs.Stored.{literals_at, with_literals}
 use Rattle.varisat_prop.specs.Visits.{IsFound}
 use Rattle.varisat_prop.specs.Lending.{written_over}

@@ -1,11 +1,8 @@
-use Rattle.std.proofs.Common.{◌≡◌, ℕ, ◌+◌, ◌<◌, ◌≤◌, ◌++◌, ◌∷◌, [], List, length, get_or, set, take, drop, refl, ap, sym, ◌∙◌, subst, arith, length-set}
+use Rattle.std.proofs.Common.{◌+◌, ◌<◌, ◌≤◌, length, set, take, drop, refl, sym, ◌∙◌, subst, arith, length-set}
 use Rattle.std.proofs.lemmas.List.{drop_all}
-use Rattle.varisat_theory.specs.Propagation.{IsFalse}
-use Rattle.varisat_prop.specs.View.{view_of, View, clause_at}
-use Rattle.varisat_prop.specs.Looks.{Propagates}
+use Rattle.varisat_prop.specs.View.{view_of}
 use Rattle.varisat_prop.proofs.PropagateSteps.{propagates-refl}
 use Rattle.varisat_prop.specs.declared.prop.watch.Watch.{Watch}
-use Rattle.varisat_prop.specs.declared.prop.long.Visit.TheVariants as visit
 use Rattle.varisat_prop.specs.Watches.{with_list, IsWatched}
 use Rattle.varisat_prop.specs.Visits.{IsVisit}
 use Rattle.varisat_prop.proofs.LongListed.{Listing, listing-start, listing-end, watch-known, next, code-dropped, code-kept, code-conflict}
@@ -15,7 +12,7 @@ use Rattle.varisat_prop.proofs.prop.long.visit_watches.Goals.{in-Dropped, in-Kee
 
 pub loop-read-init : goal.loop-read-init
 loop-read-init g c =
-    let s = view_of c.args.clause_alloc.now c.args.assignment.now c.args.trail.now c.args.impl_graph.now in
+    let s = view_of c.args.clause_alloc.now c.args.binary_clauses.now c.args.assignment.now c.args.trail.now c.args.impl_graph.now in
     record {
       listing = listing-start s c.args.watchlists.now c.args.trail.now.queue_head c.args.lit c.args.list.now.items (propagates-refl s c.requires.well) c.requires.watched c.requires.head c.requires.within c.requires.inside;
       order = omega arith;
@@ -28,8 +25,8 @@ loop-read-init g c =
 
 pub visit_watch-requires-clause-within : goal.visit_watch-requires-clause-within
 visit_watch-requires-clause-within g c =
-    let s = view_of c.args.clause_alloc.now c.args.assignment.now c.args.trail.now c.args.impl_graph.now in
-    let t = view_of c.loop-read.clause_alloc c.loop-read.assignment c.loop-read.trail c.loop-read.impl_graph in
+    let s = view_of c.args.clause_alloc.now c.args.binary_clauses.now c.args.assignment.now c.args.trail.now c.args.impl_graph.now in
+    let t = view_of c.loop-read.clause_alloc c.args.binary_clauses.now c.loop-read.assignment c.loop-read.trail c.loop-read.impl_graph in
     let W = c.loop-read.watchlists in
     let q = c.loop-read.trail.queue_head in
     let xs = c.loop-read.list.items in
@@ -41,8 +38,8 @@ visit_watch-requires-clause-within g c =
 
 pub visit_watch-requires-clause-blocking : goal.visit_watch-requires-clause-blocking
 visit_watch-requires-clause-blocking g c =
-    let s = view_of c.args.clause_alloc.now c.args.assignment.now c.args.trail.now c.args.impl_graph.now in
-    let t = view_of c.loop-read.clause_alloc c.loop-read.assignment c.loop-read.trail c.loop-read.impl_graph in
+    let s = view_of c.args.clause_alloc.now c.args.binary_clauses.now c.args.assignment.now c.args.trail.now c.args.impl_graph.now in
+    let t = view_of c.loop-read.clause_alloc c.args.binary_clauses.now c.loop-read.assignment c.loop-read.trail c.loop-read.impl_graph in
     let W = c.loop-read.watchlists in
     let q = c.loop-read.trail.queue_head in
     let xs = c.loop-read.list.items in
@@ -54,8 +51,8 @@ visit_watch-requires-clause-blocking g c =
 
 pub returns-in-Conflicting-clause-propagates : goal.returns-in-Conflicting-clause-propagates
 returns-in-Conflicting-clause-propagates g c =
-    let s = view_of c.args.clause_alloc.now c.args.assignment.now c.args.trail.now c.args.impl_graph.now in
-    let t = view_of c.loop-read.clause_alloc c.loop-read.assignment c.loop-read.trail c.loop-read.impl_graph in
+    let s = view_of c.args.clause_alloc.now c.args.binary_clauses.now c.args.assignment.now c.args.trail.now c.args.impl_graph.now in
+    let t = view_of c.loop-read.clause_alloc c.args.binary_clauses.now c.loop-read.assignment c.loop-read.trail c.loop-read.impl_graph in
     let W = c.loop-read.watchlists in
     let q = c.loop-read.trail.queue_head in
     let xs = c.loop-read.list.items in
@@ -63,7 +60,7 @@ returns-in-Conflicting-clause-propagates g c =
     let r = c.loop-read.read in
     let w = c.index-watch.result.now in
     let inside : r < length xs = omega (arith, c.loop-read-test.true, c.len.ensures) in
-    let u = view_of c.visit_watch.new.clause_alloc c.visit_watch.new.assignment c.visit_watch.new.trail c.visit_watch.new.impl_graph in
+    let u = view_of c.visit_watch.new.clause_alloc c.args.binary_clauses.now c.visit_watch.new.assignment c.visit_watch.new.trail c.visit_watch.new.impl_graph in
     let V = c.visit_watch.new.watchlists in
     let v = c.in_ok-visit_watch.ensures.visited in
     let e = c.in_ok-visit_watch.ensures.queue.0 in
@@ -74,8 +71,8 @@ returns-in-Conflicting-clause-propagates g c =
 
 pub returns-in-Conflicting-clause-ends : goal.returns-in-Conflicting-clause-ends
 returns-in-Conflicting-clause-ends g c =
-    let s = view_of c.args.clause_alloc.now c.args.assignment.now c.args.trail.now c.args.impl_graph.now in
-    let t = view_of c.loop-read.clause_alloc c.loop-read.assignment c.loop-read.trail c.loop-read.impl_graph in
+    let s = view_of c.args.clause_alloc.now c.args.binary_clauses.now c.args.assignment.now c.args.trail.now c.args.impl_graph.now in
+    let t = view_of c.loop-read.clause_alloc c.args.binary_clauses.now c.loop-read.assignment c.loop-read.trail c.loop-read.impl_graph in
     let W = c.loop-read.watchlists in
     let q = c.loop-read.trail.queue_head in
     let xs = c.loop-read.list.items in
@@ -83,7 +80,7 @@ returns-in-Conflicting-clause-ends g c =
     let r = c.loop-read.read in
     let w = c.index-watch.result.now in
     let inside : r < length xs = omega (arith, c.loop-read-test.true, c.len.ensures) in
-    let u = view_of c.visit_watch.new.clause_alloc c.visit_watch.new.assignment c.visit_watch.new.trail c.visit_watch.new.impl_graph in
+    let u = view_of c.visit_watch.new.clause_alloc c.args.binary_clauses.now c.visit_watch.new.assignment c.visit_watch.new.trail c.visit_watch.new.impl_graph in
     let V = c.visit_watch.new.watchlists in
     let v = c.in_ok-visit_watch.ensures.visited in
     let e = c.in_ok-visit_watch.ensures.queue.0 in
@@ -94,8 +91,8 @@ returns-in-Conflicting-clause-ends g c =
 
 pub returns-in-Conflicting-clause-watched : goal.returns-in-Conflicting-clause-watched
 returns-in-Conflicting-clause-watched g c =
-    let s = view_of c.args.clause_alloc.now c.args.assignment.now c.args.trail.now c.args.impl_graph.now in
-    let t = view_of c.loop-read.clause_alloc c.loop-read.assignment c.loop-read.trail c.loop-read.impl_graph in
+    let s = view_of c.args.clause_alloc.now c.args.binary_clauses.now c.args.assignment.now c.args.trail.now c.args.impl_graph.now in
+    let t = view_of c.loop-read.clause_alloc c.args.binary_clauses.now c.loop-read.assignment c.loop-read.trail c.loop-read.impl_graph in
     let W = c.loop-read.watchlists in
     let q = c.loop-read.trail.queue_head in
     let xs = c.loop-read.list.items in
@@ -103,7 +100,7 @@ returns-in-Conflicting-clause-watched g c =
     let r = c.loop-read.read in
     let w = c.index-watch.result.now in
     let inside : r < length xs = omega (arith, c.loop-read-test.true, c.len.ensures) in
-    let u = view_of c.visit_watch.new.clause_alloc c.visit_watch.new.assignment c.visit_watch.new.trail c.visit_watch.new.impl_graph in
+    let u = view_of c.visit_watch.new.clause_alloc c.args.binary_clauses.now c.visit_watch.new.assignment c.visit_watch.new.trail c.visit_watch.new.impl_graph in
     let V = c.visit_watch.new.watchlists in
     let v = c.in_ok-visit_watch.ensures.visited in
     let e = c.in_ok-visit_watch.ensures.queue.0 in
@@ -114,8 +111,8 @@ returns-in-Conflicting-clause-watched g c =
 
 pub loop-read-preserved : goal.loop-read-preserved
 loop-read-preserved g c =
-    let s = view_of c.args.clause_alloc.now c.args.assignment.now c.args.trail.now c.args.impl_graph.now in
-    let t = view_of c.loop-read.clause_alloc c.loop-read.assignment c.loop-read.trail c.loop-read.impl_graph in
+    let s = view_of c.args.clause_alloc.now c.args.binary_clauses.now c.args.assignment.now c.args.trail.now c.args.impl_graph.now in
+    let t = view_of c.loop-read.clause_alloc c.args.binary_clauses.now c.loop-read.assignment c.loop-read.trail c.loop-read.impl_graph in
     let W = c.loop-read.watchlists in
     let q = c.loop-read.trail.queue_head in
     let xs = c.loop-read.list.items in
@@ -123,7 +120,7 @@ loop-read-preserved g c =
     let r = c.loop-read.read in
     let w = c.index-watch.result.now in
     let inside : r < length xs = omega (arith, c.loop-read-test.true, c.len.ensures) in
-    let u = view_of c.visit_watch.new.clause_alloc c.visit_watch.new.assignment c.visit_watch.new.trail c.visit_watch.new.impl_graph in
+    let u = view_of c.visit_watch.new.clause_alloc c.args.binary_clauses.now c.visit_watch.new.assignment c.visit_watch.new.trail c.visit_watch.new.impl_graph in
     let V = c.visit_watch.new.watchlists in
     let v = c.in_ok-visit_watch.ensures.visited in
     let e = c.in_ok-visit_watch.ensures.queue.0 in
@@ -150,8 +147,8 @@ loop-read-preserved g c =
 
 pub returns-clause-watched : goal.returns-clause-watched
 returns-clause-watched g c =
-    let s = view_of c.args.clause_alloc.now c.args.assignment.now c.args.trail.now c.args.impl_graph.now in
-    let t = view_of c.loop-read.clause_alloc c.loop-read.assignment c.loop-read.trail c.loop-read.impl_graph in
+    let s = view_of c.args.clause_alloc.now c.args.binary_clauses.now c.args.assignment.now c.args.trail.now c.args.impl_graph.now in
+    let t = view_of c.loop-read.clause_alloc c.args.binary_clauses.now c.loop-read.assignment c.loop-read.trail c.loop-read.impl_graph in
     let W = c.loop-read.watchlists in
     let q = c.loop-read.trail.queue_head in
     let xs = c.loop-read.list.items in
@@ -162,8 +159,8 @@ returns-clause-watched g c =
 
 pub returns-clause-ends : goal.returns-clause-ends
 returns-clause-ends g c =
-    let s = view_of c.args.clause_alloc.now c.args.assignment.now c.args.trail.now c.args.impl_graph.now in
-    let t = view_of c.loop-read.clause_alloc c.loop-read.assignment c.loop-read.trail c.loop-read.impl_graph in
+    let s = view_of c.args.clause_alloc.now c.args.binary_clauses.now c.args.assignment.now c.args.trail.now c.args.impl_graph.now in
+    let t = view_of c.loop-read.clause_alloc c.args.binary_clauses.now c.loop-read.assignment c.loop-read.trail c.loop-read.impl_graph in
     let W = c.loop-read.watchlists in
     let q = c.loop-read.trail.queue_head in
     let xs = c.loop-read.list.items in

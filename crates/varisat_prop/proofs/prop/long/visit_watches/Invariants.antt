@@ -5,7 +5,7 @@ use Rattle.varisat_prop.proofs.prop.long.visit_watches.Given as goal
 
 abbrev pub invariant-loop-read : goal.invariant-loop-read
 invariant-loop-read g l = record {
-  listing : Listing (view_of l.fn.clause_alloc l.fn.assignment l.fn.trail l.fn.impl_graph) (view_of l.clause_alloc l.assignment l.trail l.impl_graph) l.watchlists l.trail.queue_head l.lit (take l.write l.list.items) (drop l.read l.list.items);
+  listing : Listing (view_of l.fn.clause_alloc l.binary_clauses l.fn.assignment l.fn.trail l.fn.impl_graph) (view_of l.clause_alloc l.binary_clauses l.assignment l.trail l.impl_graph) l.watchlists l.trail.queue_head l.lit (take l.write l.list.items) (drop l.read l.list.items);
   order : l.write ≤ l.read;
   within : l.read ≤ length l.list.items;
   lists : length l.watchlists.lists ≡ length l.fn.watchlists.lists;

@@ -1,6 +1,5 @@
-use Rattle.std.proofs.Common.{◌≡◌, ℕ, true, false, ◌+◌, ◌<◌, ◌≤◌, length, ap, sym, ◌∙◌, subst, refl, arith}
+use Rattle.std.proofs.Common.{◌≡◌, false, ◌≤◌, length, ap, sym, ◌∙◌, subst, arith}
 use Rattle.varisat_theory.specs.Membership.{◌∈◌}
-use Rattle.varisat_theory.specs.Literals.{opposite}
 use Rattle.varisat_prop.specs.Stored.{IsPlace, literals_at}
 use Rattle.varisat_prop.specs.Watches.{Watches, list_of}
 use Rattle.varisat_prop.specs.Visits.{WatchesClause}

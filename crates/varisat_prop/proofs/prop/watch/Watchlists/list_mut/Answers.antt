@@ -1,4 +1,4 @@
-use Rattle.std.proofs.Common.{◌≡◌, refl, ap, List, map}
+use Rattle.std.proofs.Common.{refl, ap, List, map}
 use Rattle.std.specs.declared.vec.Vec.{Vec}
 use Rattle.varisat_prop.specs.declared.prop.watch.Watch.{Watch}
 use Rattle.varisat_prop.specs.Watches.{Watches}

@@ -1,4 +1,4 @@
-use Rattle.std.proofs.Common.{◌≡◌, ◌*◌, ◌-◌, ◌≤◌, ◌++◌, [], length, replicate}
+use Rattle.std.proofs.Common.{◌≡◌, ◌*◌, ◌-◌, ◌≤◌, length}
 use Rattle.varisat_prop.proofs.WatchRebuilt.{with_more}
 use Rattle.varisat_prop.proofs.prop.watch.Watchlists.set_var_count.Given as goal
 

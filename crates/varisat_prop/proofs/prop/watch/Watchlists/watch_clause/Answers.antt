@@ -1,6 +1,4 @@
-use Rattle.std.proofs.Common.{◌≡◌, true, false, ◌<◌, ◌++◌, [], ◌∷◌, length, ap, sym, ◌∙◌, subst, arith, length-set}
-use Rattle.varisat_theory.specs.Literals.{opposite}
-use Rattle.varisat_theory.proofs.Places.{∈-get_or}
+use Rattle.std.proofs.Common.{◌≡◌, ◌<◌, ◌++◌, [], ◌∷◌, length, ap, sym, ◌∙◌, subst, arith, length-set}
 use Rattle.varisat_prop.specs.Watches.{Watches, list_of, at}
 use Rattle.varisat_prop.proofs.ReadElements.{element, item-∈}
 use Rattle.varisat_prop.proofs.WatchKept.{watch-two, watch-whole, watch-off}

@@ -1,0 +1,77 @@
+//! Each call of the lists of what literals imply, with ample memory and with little.
+ghost use Rattle.std.specs.Prelude.{◌≡◌, []};
+
+use linked_list_allocator::LocalHeap;
+use std::alloc::{AllocError, Allocator, Global};
+use varisat_literals::{Lit, lit, lits};
+use varisat_prop::binary::BinaryClauses;
+
+/// Keeps the clause, where there are lists for its literals.
+fn add<A: Allocator + Copy>(
+    lists: &mut BinaryClauses<A>,
+    clause: [Lit; 2],
+) -> Result<(), AllocError> {
+    let [first, second] = clause;
+    if lists.len() <= (!first).code() || lists.len() <= (!second).code() {
+        return Ok(());
+    }
+    lists.add_binary_clause([first, second])?;
+    Ok(())
+}
+
+/// Whether the literal implies these, in this order.
+fn implies<A: Allocator + Copy>(lists: &BinaryClauses<A>, lit: Lit, wanted: &[Lit]) -> bool {
+    lit.code() < lists.len() && lists.implied(lit) == wanted
+}
+
+/// Whether clauses are listed by the opposites of their literals, also once variables were added.
+fn keeps_pairs<A: Allocator + Copy>(lists: &mut BinaryClauses<A>) -> Result<bool, AllocError>
+    requires { lists.old ≡ [] }
+{
+    let began = lists.len();
+    lists.set_var_count(3)?;
+    add(lists, [lit!(1), lit!(-2)])?;
+    add(lists, [lit!(3), lit!(1)])?;
+    let count = lists.len();
+    if count > 8 {
+        return Ok(false);
+    }
+    lists.set_var_count(4)?;
+    Ok(
+        [began, count, lists.len()] == [0, 6, 8]
+            && implies(lists, lit!(-1), &lits![-2, 3])
+            && implies(lists, lit!(2), &lits![1])
+            && implies(lists, lit!(-3), &lits![1])
+            && implies(lists, lit!(1), &[])
+            && implies(lists, lit!(-4), &[]),
+    )
+}
+
+#[test]
+fn pairs_are_kept(rt: HostRuntime) {
+    let mut lists = BinaryClauses::new_in(rt.alloc());
+    assert!(rt; matches!(keeps_pairs(&mut lists), Ok(true)));
+}
+
+/// Whether the lists are right on a heap of that many times 16 bytes.
+fn keeps_pairs_with(alloc: Global, room: u8) -> Result<bool, AllocError> {
+    let heap = LocalHeap::new(alloc, 16 * usize::from(room))?;
+    let mut lists = BinaryClauses::new_in(&heap);
+    keeps_pairs(&mut lists)
+}
+
+#[test]
+fn each_growth_of_pairs_may_be_refused(rt: HostRuntime) {
+    let mut kept = false;
+    let mut refused = false;
+    for room in 0..120 {
+        match keeps_pairs_with(rt.alloc(), room) {
+            Ok(right) => {
+                assert!(rt; right, "with {room}");
+                kept = true;
+            }
+            Err(_) => refused = true,
+        }
+    }
+    assert!(rt; kept && refused);
+}

@@ -1,0 +1,105 @@
+//! The kept clauses of two literals, as what each literal implies by them.
+ghost use Rattle.std.specs.Prelude.{◌≡◌, ◌<◌, ◌≤◌, ◌*◌, ◌-◌, ◌++◌, ◌∷◌, [], length, replicate, OnOk, slice_set, slice_index_or};
+ghost use Rattle.varisat_theory.specs.Literals.{opposite};
+
+use std::alloc::{AllocError, Allocator};
+use std::marker::Model;
+use varisat_literals::Lit;
+
+/// For each literal those that it implies by a clause of two literals.
+#[derive(Drop)]
+pub struct BinaryClauses<A: Allocator + Copy> {
+    by_lit: Vec<Vec<Lit, A>, A>,
+}
+
+impl<A: Allocator + Copy> Model for BinaryClauses<A> {
+    ghost use Rattle.std.specs.Prelude.{List, ℕ, map};
+
+    ghost Value = { List (List ℕ) };
+
+    ghost view = { λ b. map (λ v. v.items) b.by_lit.items };
+}
+
+impl<A: Allocator + Copy> BinaryClauses<A> {
+    ghost use Rattle.std.specs.Borrow.{sem};
+    ghost use Rattle.varisat_prop.specs.Lending.{lends_implied};
+    ghost use Rattle.varisat_prop.specs.Pairs.{with_pair};
+
+    /// No lists. It takes no memory.
+    pub fn new_in(alloc: A) -> BinaryClauses<A>
+        ensures { result ≡ [] }
+    {
+        BinaryClauses {
+            by_lit: Vec::new(alloc),
+        }
+    }
+
+    /// How many lists there are, one for each literal.
+    pub fn len(&self) -> usize
+        ensures { result ≡ length self.now }
+    {
+        self.by_lit.len()
+    }
+
+    /// One more list, without literals.
+    fn push_list(&mut self) -> Result<(), AllocError>
+        ensures { OnOk result (self.new ≡ self.old ++ [] ∷ []) }
+    {
+        let alloc = *self.by_lit.allocator();
+        self.by_lit.push(Vec::new(alloc))?;
+        Ok(())
+    }
+
+    /// Raises the count of variables. The new ones imply nothing.
+    pub fn set_var_count(&mut self, count: usize) -> Result<(), AllocError>
+        requires raised { length self.old ≤ 2 * count }
+        requires small { count ≤ 0x1000_0000 }
+        ensures { OnOk result (self.new ≡ self.old ++ replicate (2 * count - length self.old) []) }
+    {
+        let old_count = self.len();
+        let mut added = 0;
+        while added < 2 * count - old_count {
+            self.push_list()?;
+            added += 1;
+        }
+        Ok(())
+    }
+
+    /// What the literal implies, to be added to.
+    fn implied_mut(&mut self, lit: Lit) -> &mut Vec<Lit, A>
+        requires { lit < length self.old }
+        ensures* lends { sem 𝓛 (lends_implied A.row A.Allocator self.entry lit result) }
+        ensures value { result.now.items ≡ slice_index_or self.old lit [] }
+    {
+        &mut self.by_lit[lit.code()]
+    }
+
+    /// One more literal that the literal implies.
+    fn add_implied(&mut self, lit: Lit, implied: Lit) -> Result<(), AllocError>
+        requires { lit < length self.old }
+        ensures { OnOk result (self.new ≡ slice_set self.old lit (slice_index_or self.old lit [] ++ implied ∷ [])) }
+    {
+        self.implied_mut(lit).push(implied)?;
+        Ok(())
+    }
+
+    /// Keeps the clause of these two literals.
+    pub fn add_binary_clause(&mut self, lits: [Lit; 2]) -> Result<(), AllocError>
+        requires first { opposite (slice_index_or lits 0 0) < length self.old }
+        requires second { opposite (slice_index_or lits 1 0) < length self.old }
+        ensures { OnOk result (self.new ≡ with_pair self.old (slice_index_or lits 0 0) (slice_index_or lits 1 0)) }
+    {
+        let [first, second] = lits;
+        self.add_implied(!first, second)?;
+        self.add_implied(!second, first)?;
+        Ok(())
+    }
+
+    /// What the literal implies, in the order of adding.
+    pub fn implied(&self, lit: Lit) -> &[Lit]
+        requires { lit < length self.now }
+        ensures { result.now ≡ slice_index_or self.now lit [] }
+    {
+        self.by_lit[lit.code()].as_slice()
+    }
+}

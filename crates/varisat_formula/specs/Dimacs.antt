@@ -96,10 +96,10 @@ header_of (p ∷ cnf ∷ v ∷ c ∷ []) = if bytes_eq p (codes "p") && bytes_eq
 header_of (p ∷ cnf ∷ v ∷ c ∷ more ∷ rest) = Malformed
 
 -- what a header says is within the limit
-abbrev pub IsSmall : Heading → Type 0
-IsSmall Malformed = Unit {0}
-IsSmall Oversized = Unit {0}
-IsSmall (Sized s) = s.vars ≤ variable_limit
+abbrev pub FitsLimit : Heading → Type 0
+FitsLimit Malformed = Unit {0}
+FitsLimit Oversized = Unit {0}
+FitsLimit (Sized s) = s.vars ≤ variable_limit
 
 -- 5. Items: the headers and the tokens of other lines, each with its line. A comment has none.
 pub data Item : Type 0 where

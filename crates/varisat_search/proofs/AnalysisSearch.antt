@@ -15,7 +15,7 @@ use Rattle.varisat_prop.specs.View.{View, node_of, no_node, level_of, is_clause,
 use Rattle.varisat_prop.proofs.LiteralValues.{variable-opposite}
 use Rattle.varisat_prop.proofs.ViewGrowth.{append-nil}
 use Rattle.varisat_search.specs.Marks.{Marking, IsMarked}
-use Rattle.varisat_search.specs.Redundancy.{IsImplied, IsReasoned, unmarked, ListsNew, Explores, IsFound}
+use Rattle.varisat_search.specs.Redundancy.{IsImplied, IsReasoned, unmarked, ListsNew, Explores, TellsRedundancy}
 use Rattle.varisat_search.proofs.AnalysisMarks.{marked-old, marked-new, IsAt}
 use Rattle.varisat_search.proofs.WellFormedViews.{true-same, has-clause, inside-true, names-clause, causes-false}
 
@@ -201,7 +201,7 @@ module _ {s : View} {l : Literal} {x y : Marking} (w : WellFormed s) (a : Search
   pub search-listed : {lits : List Literal} {b : Bool} {z : Marking} → length y.flags ≡ length x.flags → Explores s lits b (record y { stack = left }) z → ListsNew x z
   search-listed {z = z} n k = listed-trans x y z n a.list (listed-from y z left k.list)
 
-pub search-found : {s : View} {l : Literal} {x y : Marking} (left : List Literal) → y.stack ≡ [] → Search s l x y → IsFound s l true x (record y { stack = left })
+pub search-found : {s : View} {l : Literal} {x y : Marking} (left : List Literal) → y.stack ≡ [] → Search s l x y → TellsRedundancy s l true x (record y { stack = left })
 search-found {s = s} {l = l} left e a = record {
   list = record { more = a.list.more; since = a.list.since; longer = a.list.longer; listed = a.list.listed; inside = a.list.inside; fresh = a.list.fresh; clause = a.list.clause; involved = a.list.involved };
   reasoned = ⊎_elim (λ i. absurd (subst (λ q. opposite l ∈ q) e i)) (λ k. k) a.start;
@@ -246,7 +246,7 @@ is-since {x = x} {y = y} {top = top} {vars = vars} a t e = record {
     part-since = part-is top vars ∙ ap (λ q. drop top q) (e ∙ a.longer) ∙ ap (λ q. drop q (x.to_clean ++ a.since)) t ∙ drop-front x.to_clean a.since
 
 -- what was marked since is cleared
-pub since-cleared : {x y : Marking} {top : ℕ} {vars part : List ℕ} (s : View) (l : Literal) (flags : List Bool) (to_clean : List ℕ) → IsSince x y top vars part → to_clean ≡ take top y.to_clean → ((v : ℕ) → v ∈ part → get_or flags v false ≡ false) → ((v : ℕ) → (v ∈ part → ⊥) → get_or flags v false ≡ get_or y.flags v false) → IsFound s l false x (record y { flags = flags; to_clean = to_clean })
+pub since-cleared : {x y : Marking} {top : ℕ} {vars part : List ℕ} (s : View) (l : Literal) (flags : List Bool) (to_clean : List ℕ) → IsSince x y top vars part → to_clean ≡ take top y.to_clean → ((v : ℕ) → v ∈ part → get_or flags v false ≡ false) → ((v : ℕ) → (v ∈ part → ⊥) → get_or flags v false ≡ get_or y.flags v false) → TellsRedundancy s l false x (record y { flags = flags; to_clean = to_clean })
 since-cleared {x = x} {y = y} {part = part} s l flags to_clean b q gone rest = record {
   flags = same;
   to_clean = q ∙ ap (λ k. take k y.to_clean) b.top_is ∙ ap (λ k. take (length x.to_clean) k) a.longer ∙ take-front x.to_clean a.since;

@@ -73,6 +73,11 @@ pub each-available : (xs : List ℕ) (a : Activities) → (bumped_each xs a).ava
 each-available [] a = refl
 each-available (x ∷ xs) a = each-available xs (bumped x a)
 
+-- and the decay stays
+pub each-decay : (xs : List ℕ) (a : Activities) → (bumped_each xs a).decay ≡ a.decay
+each-decay [] a = refl
+each-decay (x ∷ xs) a = each-decay xs (bumped x a)
+
 distinct-append : (xs ys : List ℕ) → IsDistinct xs → IsDistinct ys → ((v : ℕ) → v ∈ xs → v ∈ ys → ⊥) → IsDistinct (xs ++ ys)
 distinct-append [] ys d e n = e
 distinct-append (x ∷ xs) ys (h, d) e n = (

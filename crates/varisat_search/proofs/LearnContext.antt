@@ -126,6 +126,7 @@ pub record Analyzed {A : Type 0} (x0 x1 : Context A) (i : Conflict) (level : ℕ
   pub analyzed : x1 ≡ record x0 { analyze_conflict = x1.analyze_conflict; tmp_flags = x1.tmp_flags; vsids = x1.vsids }
   pub flags : x1.tmp_flags.flags.items ≡ x0.tmp_flags.flags.items
   pub available : x1.vsids.available ≡ x0.vsids.available
+  pub decay : x1.vsids.decay ≡ x0.vsids.decay
   pub entries : HasActivities (view x1) x1.vsids
   pub room : x1.analyze_conflict.var_count ≡ x0.analyze_conflict.var_count
   pub learned : IsLearned (view x0) i x1.analyze_conflict.clause level
@@ -138,8 +139,8 @@ pub record Analysing {A : Type 0} (x0 x : Context A) (i : Conflict) (level : ℕ
   pub room : x.analyze_conflict.var_count ≡ x0.analyze_conflict.var_count
   pub learned : IsLearned (view x0) i x.analyze_conflict.clause level
 
-pub analyzed-bumped : {A : Type 0} {x0 x x1 : Context A} {i : Conflict} {level : ℕ} → Analysing x0 x i level → x1 ≡ record x { tmp_flags = x1.tmp_flags; vsids = x1.vsids } → x1.tmp_flags.flags.items ≡ x.tmp_flags.flags.items → x1.vsids.available ≡ x.vsids.available → HasActivities (view x1) x1.vsids → Analyzed x0 x1 i level
-analyzed-bumped {A} {x0} {x} {x1} {i} {level} d k f a e =
+pub analyzed-bumped : {A : Type 0} {x0 x x1 : Context A} {i : Conflict} {level : ℕ} → Analysing x0 x i level → x1 ≡ record x { tmp_flags = x1.tmp_flags; vsids = x1.vsids } → x1.tmp_flags.flags.items ≡ x.tmp_flags.flags.items → x1.vsids.available ≡ x.vsids.available → x1.vsids.decay ≡ x.vsids.decay → HasActivities (view x1) x1.vsids → Analyzed x0 x1 i level
+analyzed-bumped {A} {x0} {x} {x1} {i} {level} d k f a q e =
     let analysis : x1.analyze_conflict ≡ x.analyze_conflict = ap (λ (y : Context A). y.analyze_conflict) k in
     record {
       ready = d.ready;
@@ -147,6 +148,7 @@ analyzed-bumped {A} {x0} {x} {x1} {i} {level} d k f a e =
       analyzed = k ∙ ap (λ (y : Context A). record y { tmp_flags = x1.tmp_flags; vsids = x1.vsids }) d.kept ∙ ap (λ y. record x0 { analyze_conflict = y; tmp_flags = x1.tmp_flags; vsids = x1.vsids }) (sym analysis);
       flags = f ∙ ap (λ (y : Context A). y.tmp_flags.flags.items) d.kept;
       available = a ∙ ap (λ (y : Context A). y.vsids.available) d.kept;
+      decay = q ∙ ap (λ (y : Context A). y.vsids.decay) d.kept;
       entries = e;
       room = ap (λ (y : Analysis). y.var_count) analysis ∙ d.room;
       learned = subst (λ (y : Analysis). IsLearned (view x0) i y.clause level) (sym analysis) d.learned;
@@ -187,6 +189,7 @@ pub record Backtracked {A : Type 0} (x0 x1 x2 : Context A) (i : Conflict) (level
   pub saved : level < length x1.trail.decisions → Saves (view x1) level x1.assignment.last x2.assignment.last
   pub entries : HasActivities (view x2) x2.vsids
   pub decidable : SameDecidable (view x1) x1.vsids (view x2) x2.vsids
+  pub decay : x2.vsids.decay ≡ x1.vsids.decay
   pub units : x2.trail.units_removed ≡ x1.trail.units_removed
   pub back : x2 ≡ record x1 { assignment = x2.assignment; trail = x2.trail; vsids = x2.vsids }
 
@@ -356,6 +359,7 @@ module _ {A : Type 0} {x0 x1 x2 x3 : Context A} {i : Conflict} {level : ℕ} {l 
           no_assumptions = λ f. unknown-is still f;
           rises = λ f. q.rises;
           decidable = last-same;
+          decay = ap (λ (a : Activities). a.decay) vsids-is ∙ b.decay ∙ b.begun.decay;
           count = q.count;
           units = u ∙ ap (λ (x : Context A). x.trail.units_removed) d.stored ∙ units-are b;
           state = same ∙ ap (λ v. record x0.solver_state { sat_state = v }) (sym (ap (λ (y : SolverState). y.sat_state) same));
@@ -407,6 +411,7 @@ module _ {A : Type 0} {x0 x1 x2 : Context A} {i : Conflict} {level : ℕ} (d : B
         no_assumptions = λ f. absurd cc;
         rises = λ f. absurd cc;
         decidable = still-decidable d;
+        decay = d.decay ∙ d.begun.decay;
         count = count;
         units = units-are d;
         state = ap (λ (y : SolverState). record y { sat_state = verdict.Unsat }) (state-is d);

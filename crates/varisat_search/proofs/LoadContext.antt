@@ -32,6 +32,7 @@ pub record Loading {A : Type 0} (x0 x1 : Context A) (c lits : Clause) : Type 0 w
   pub decidable : AreDecidable (view x0) x0.vsids c
   pub entries : HasActivities (view x1) x1.vsids
   pub stay_decidable : SameDecidable (view x0) x0.vsids (view x1) x1.vsids
+  pub decay : x1.vsids.decay ≡ x0.vsids.decay
   pub last : SavesAll (view x0) x0.assignment.last x1.assignment.last
   pub state : x1.solver_state ≡ record x0.solver_state { sat_state = reopened_state x0.solver_state.sat_state; formula_is_empty = false }
   pub units : x1.trail.units_removed ≡ x0.trail.units_removed
@@ -53,6 +54,7 @@ pub record Loaded {A : Type 0} (x0 z : Context A) (c : Clause) : Type 0 where
   pub undecided : z.trail.decisions ≡ []
   pub schedule : KeepsSchedule x0 z
   pub decidable : SameDecidable (view x0) x0.vsids (view z) z.vsids
+  pub decay : z.vsids.decay ≡ x0.vsids.decay
 
 module _ {A : Type 0} {x0 x1 : Context A} {c lits : Clause} (d : Loading x0 x1 c lits) where
   pub loading-restarted : Restarted (view x0) (view x1)
@@ -105,6 +107,7 @@ module _ {A : Type 0} {x0 x1 : Context A} {c lits : Clause} (d : Loading x0 x1 c
         undecided = r.undecided;
         schedule = d.schedule;
         decidable = d.stay_decidable;
+        decay = d.decay;
       }
 
   pub loaded-tautology : IsTautology lits → Loaded x0 x1 c
@@ -150,4 +153,5 @@ module _ {A : Type 0} {x0 x1 : Context A} {c lits : Clause} (d : Loading x0 x1 c
         undecided = q.1;
         schedule = record { schedule = ap (λ (x : Context A). x.schedule) k ∙ d.schedule.schedule; solver_config = ap (λ (x : Context A). x.solver_config) k ∙ d.schedule.solver_config };
         decidable = added-stay z vsids a;
+        decay = ap (λ (b : Activities). b.decay) vsids ∙ d.decay;
       }

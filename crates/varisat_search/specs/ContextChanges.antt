@@ -14,6 +14,7 @@ pub record BacktracksTo {A : Type 0} (level : ℕ) (old new : Context A) : Type 
   pub available : level < length old.trail.decisions → MakesAvailable (view old) level old.vsids new.vsids
   pub decidable : SameDecidable (view old) old.vsids (view new) new.vsids
   pub entries : HasActivities (view new) new.vsids
+  pub decay : new.vsids.decay ≡ old.vsids.decay
   pub units : new.trail.units_removed ≡ old.trail.units_removed
   pub kept : new ≡ record old { assignment = new.assignment; trail = new.trail; vsids = new.vsids }
 

@@ -25,6 +25,7 @@ pub record IsStepFurther {A : Type 0} (x y : Context A) : Type 0 where
   pub no_assumptions : y.solver_state.sat_state ≢ verdict.UnsatUnderAssumptions
   pub rises : y.solver_state.sat_state ≡ verdict.Unknown → RaisesRank x y
   pub decidable : SameDecidable (view x) x.vsids (view y) y.vsids
+  pub decay : y.vsids.decay ≡ x.vsids.decay
   pub count : length y.assignment.current ≡ length x.assignment.current
   pub units : y.trail.units_removed ≡ x.trail.units_removed
   pub state : y.solver_state ≡ record x.solver_state { sat_state = y.solver_state.sat_state }

@@ -55,6 +55,6 @@ pub record IsAsBefore (x y : Marking) : Type 0 where
   pub involved : y.involved ≡ x.involved
 
 -- What the search for the literal's redundancy leaves, by its result.
-abbrev pub IsFound : View → Literal → Bool → Marking → Marking → Type 0
-IsFound s l true x y = IsRedundant s l x y
-IsFound s l false x y = IsAsBefore x y
+abbrev pub TellsRedundancy : View → Literal → Bool → Marking → Marking → Type 0
+TellsRedundancy s l true x y = IsRedundant s l x y
+TellsRedundancy s l false x y = IsAsBefore x y

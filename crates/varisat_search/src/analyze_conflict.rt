@@ -7,7 +7,7 @@ ghost use Rattle.varisat_prop.specs.View.{View, level_of, WellFormed, LevelsSett
 ghost use Rattle.varisat_prop.specs.Changes.{IsConflicting};
 ghost use Rattle.varisat_search.specs.Learned.{no_analysis, names_of, Shows, IsLevelOf, IsLearned, AreInvolved};
 ghost use Rattle.varisat_search.specs.Marks.{Sees, CanMark, marking, MayBegin, MarksAreListed, Marks, Adds, AddsReason, IsResolved, Minimizes, Teaches};
-ghost use Rattle.varisat_search.specs.Redundancy.{Explores, IsFound};
+ghost use Rattle.varisat_search.specs.Redundancy.{Explores, TellsRedundancy};
 
 use crate::glue::LevelAbstraction;
 use std::alloc::{AllocError, Allocator};
@@ -277,7 +277,7 @@ fn is_redundant<A: Allocator + Copy>(
     ghost s: { View }
     requires can { CanMark s parts var_flags.old }
     requires falsified { opposite lit ∈ s.trail }
-    ensures { IfOk result (λ redundant. IsFound s lit redundant (marking scratch.old var_flags.old) (marking scratch.new var_flags.new)) }
+    ensures { IfOk result (λ redundant. TellsRedundancy s lit redundant (marking scratch.old var_flags.old) (marking scratch.new var_flags.new)) }
 {
     if parts.impl_graph.reason(lit.var()).is_unit() {
         return Ok(false);

@@ -125,6 +125,7 @@ pub fn bump_involved<A: Allocator + Copy>(ctx: &mut Context<A>)
     ensures undecided { ctx.old.trail.decisions ≡ [] → ctx.new ≡ ctx.old }
     ensures bumps { 0 < length ctx.old.trail.decisions → BumpsInvolved (view ctx.old) ctx.old.analyze_conflict.involved ctx.old.vsids ctx.new.vsids }
     ensures available { ctx.new.vsids.available ≡ ctx.old.vsids.available }
+    ensures decay { ctx.new.vsids.decay ≡ ctx.old.vsids.decay }
     ensures entries { HasActivities (view ctx.new) ctx.new.vsids }
     ensures flags { ctx.new.tmp_flags.flags.items ≡ ctx.old.tmp_flags.flags.items }
     ensures kept { ctx.new ≡ record ctx.old { tmp_flags = ctx.new.tmp_flags; vsids = ctx.new.vsids } }

@@ -178,6 +178,7 @@ pub fn conflict_step<A: Allocator + Copy>(ctx: &mut Context<A>) -> Result<(), Al
     ensures no_assumptions { OnOk result (ctx.new.solver_state.sat_state ≢ SatState.UnsatUnderAssumptions) }
     ensures rises { OnOk result (ctx.new.solver_state.sat_state ≡ SatState.Unknown → RaisesRank ctx.old ctx.new) }
     ensures decidable { OnOk result (SameDecidable (view ctx.old) ctx.old.vsids (view ctx.new) ctx.new.vsids) }
+    ensures decay { OnOk result (ctx.new.vsids.decay ≡ ctx.old.vsids.decay) }
     ensures last { OnOk result (Remembers (view ctx.old) ctx.old.assignment.last ctx.new.assignment.last) }
     ensures count { OnOk result (length ctx.new.assignment.current ≡ length ctx.old.assignment.current) }
     ensures units { OnOk result (ctx.new.trail.units_removed ≡ ctx.old.trail.units_removed) }

@@ -190,6 +190,7 @@ pub fn load_clause<A: Allocator + Copy>(
     ensures unsat { ctx.old.solver_state.sat_state ≡ SatState.Unsat → (result ≡ Ok tt) × (ctx.new ≡ ctx.old) }
     ensures lines { OnOk result (ctx.old.solver_state.sat_state ≢ SatState.Unsat → ctx.old.solver_state.sat_state ≢ SatState.UnsatUnderAssumptions → (lines : List Line) × Loads (search_of (view ctx.old)) (search_of (view ctx.new)) lits.now (outcome_of (view ctx.new) ctx.new.solver_state.sat_state) lines) }
     ensures decidable { OnOk result (SameDecidable (view ctx.old) ctx.old.vsids (view ctx.new) ctx.new.vsids) }
+    ensures decay { OnOk result (ctx.new.vsids.decay ≡ ctx.old.vsids.decay) }
     ensures last { OnOk result (ctx.old.solver_state.sat_state ≢ SatState.Unsat → SavesAll (view ctx.old) ctx.old.assignment.last ctx.new.assignment.last) }
     ensures state { OnOk result (ctx.old.solver_state.sat_state ≢ SatState.Unsat → ctx.new.solver_state ≡ record ctx.old.solver_state { sat_state = ctx.new.solver_state.sat_state; formula_is_empty = false }) }
     ensures count { OnOk result (length ctx.new.assignment.current ≡ length ctx.old.assignment.current) }

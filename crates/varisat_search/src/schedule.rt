@@ -28,6 +28,7 @@ fn restart_if_due<A: Allocator + Copy>(ctx: &mut Context<A>)
     ensures decidable { SameDecidable (view ctx.old) ctx.old.vsids (view ctx.new) ctx.new.vsids }
     ensures units { ctx.new.trail.units_removed ≡ ctx.old.trail.units_removed }
     ensures later { ctx.new.schedule.steps < ctx.new.schedule.next_restart }
+    ensures decay { ctx.new.vsids.decay ≡ ctx.old.vsids.decay }
     ensures kept { ctx.new ≡ record ctx.old { assignment = ctx.new.assignment; trail = ctx.new.trail; vsids = ctx.new.vsids; schedule = step_begun ctx.old.solver_config.luby_restart_interval_scale ctx.old.schedule } }
 {
     let scale = ctx.solver_config.luby_restart_interval_scale();
@@ -48,6 +49,7 @@ pub fn schedule_step<A: Allocator + Copy>(ctx: &mut Context<A>) -> Result<(), Al
     ensures no_assumptions { OnOk result (ctx.new.solver_state.sat_state ≢ SatState.UnsatUnderAssumptions) }
     ensures rises { OnOk result (ctx.new.solver_state.sat_state ≡ SatState.Unknown → IsPlannedStep ctx.old.schedule (kinds (view ctx.old)) (kinds (view ctx.new))) }
     ensures decidable { OnOk result (SameDecidable (view ctx.old) ctx.old.vsids (view ctx.new) ctx.new.vsids) }
+    ensures decay { OnOk result (ctx.new.vsids.decay ≡ ctx.old.vsids.decay) }
     ensures last { OnOk result (RestartsAndRemembers ctx.old.schedule (view ctx.old) ctx.old.assignment.last ctx.new.assignment.last) }
     ensures count { OnOk result (length ctx.new.assignment.current ≡ length ctx.old.assignment.current) }
     ensures units { OnOk result (ctx.new.trail.units_removed ≡ ctx.old.trail.units_removed) }

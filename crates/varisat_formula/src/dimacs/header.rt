@@ -1,7 +1,7 @@
 //! Header lines, a byte at a time. Only the end of the line decides whether it is a header, so that the line is read by a
 //! machine of its own in place of the tokens: a header line of any length takes no memory.
 ghost use Rattle.std.specs.Prelude.{◌≡◌, ◌<◌, ◌^◌};
-ghost use Rattle.varisat_formula.specs.Dimacs.{sized, IsSmall};
+ghost use Rattle.varisat_formula.specs.Dimacs.{sized, FitsLimit};
 ghost use Rattle.varisat_formula.specs.Machine.{vars_ended, clauses_ended, header_blank, header_more, after_header_byte, clauses_says, header_says};
 
 use crate::dimacs::token::{Digits, is_blank_byte};
@@ -46,7 +46,7 @@ pub enum HeaderPart {
 /// What a header with these counts says.
 fn sized(vars: u64, clauses: u64) -> Heading
     ensures says { result ≡ sized vars clauses }
-    ensures small { IsSmall result }
+    ensures small { FitsLimit result }
 {
     if vars > VARIABLE_LIMIT as u64 {
         Heading::Oversized
@@ -120,7 +120,7 @@ impl HeaderPart {
     /// What the line says, if it ends here.
     pub fn heading(self) -> Heading
         ensures says { result ≡ header_says self }
-        ensures small { IsSmall result }
+        ensures small { FitsLimit result }
     {
         match self {
             HeaderPart::Clauses(vars, Digits::Number(clauses)) => sized(vars, clauses),

@@ -1,6 +1,6 @@
 //! What a DIMACS text gave so far.
 ghost use Rattle.std.specs.Prelude.{◌≡◌, ℕ, List, [], ◌∷◌, ◌++◌, ◌+◌, ◌/◌, ◌<◌, ◌≤◌, ◌^◌, max, Option, None, Some, OnOk, OnErr};
-ghost use Rattle.varisat_formula.specs.Dimacs.{Reading, nothing, failed, is_one_too_many, is_above, next, after_token, after_header, is_started, is_short, at_end, IsSmall};
+ghost use Rattle.varisat_formula.specs.Dimacs.{Reading, nothing, failed, is_one_too_many, is_above, next, after_token, after_header, is_started, is_short, at_end, FitsLimit};
 ghost use Rattle.varisat_literals.specs.Numbers.{variable_limit};
 ghost use Rattle.varisat_formula.specs.Rest.{KeepsToken};
 
@@ -172,7 +172,7 @@ impl<A: Allocator + Copy> Reader<A> {
 
     /// Reads a header.
     pub fn header(&mut self, line: u64, heading: Heading)
-        requires { IsSmall heading }
+        requires { FitsLimit heading }
         ensures { self.new ≡ after_header self.old line heading }
     {
         match heading {

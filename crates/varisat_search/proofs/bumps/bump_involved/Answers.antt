@@ -5,7 +5,7 @@ use Rattle.varisat_vsids.specs.Activities.{Activities, decayed}
 use Rattle.varisat_search.specs.Contexts.{view}
 use Rattle.varisat_search.specs.Bumps.{literals_among, AreVariablesAbove}
 use Rattle.varisat_search.proofs.WellFormedViews.{named-place}
-use Rattle.varisat_search.proofs.BumpedVariables.{among-kept, each-available, false-all, clear-given-back}
+use Rattle.varisat_search.proofs.BumpedVariables.{among-kept, each-available, each-decay, false-all, clear-given-back}
 use Rattle.varisat_search.proofs.bumps.bump_involved.Goals as goal
 
 pub bump_each_once-requires-clause-may : goal.bump_each_once-requires-clause-may
@@ -41,6 +41,11 @@ pub returns-clause-available : goal.returns-clause-available
 returns-clause-available g c =
     let (vars, a, e) = c.bump_each_once.ensures.bumps in
     ap (λ (b : Activities). b.available) c.decay.ensures.decayed ∙ ap (λ (b : Activities). b.available) e ∙ each-available vars c.args.ctx.now.vsids
+
+pub returns-clause-decay : goal.returns-clause-decay
+returns-clause-decay g c =
+    let (vars, a, e) = c.bump_each_once.ensures.bumps in
+    ap (λ (b : Activities). b.decay) c.decay.ensures.decayed ∙ ap (λ (b : Activities). b.decay) e ∙ each-decay vars c.args.ctx.now.vsids
 
 pub returns-clause-entries : goal.returns-clause-entries
 returns-clause-entries g c =

@@ -3,6 +3,7 @@ use Rattle.varisat_theory.specs.Propagation.{IsComplete}
 use Rattle.varisat_prop.specs.View.{kept}
 use Rattle.varisat_prop.specs.Changes.{IsConflicting}
 use Rattle.varisat_search.specs.declared.state.SolverState.{SolverState}
+use Rattle.varisat_vsids.specs.Activities.{Activities}
 use Rattle.varisat_search.specs.Contexts.{view}
 use Rattle.varisat_search.specs.Conflicts.{conflict_of}
 use Rattle.varisat_search.specs.Steps.{IsTotal, SavesSome, assignment_of}
@@ -71,3 +72,9 @@ returns-in_ok-learn-in-Err-clause-decidable g c =
     let m = c.find_conflict.new.ctx in
     let u = c.learn.new.ctx in
     same-trans (view x) x.vsids (view m) m.vsids (view u) u.vsids c.in_ok-find_conflict.ensures.decidable c.in_ok-learn-in-Err.ensures.further.decidable
+
+pub returns-in_ok-learn-in-Err-clause-decay : goal.returns-in_ok-learn-in-Err-clause-decay
+returns-in_ok-learn-in-Err-clause-decay g c = c.in_ok-learn-in-Err.ensures.further.decay ∙ ap (λ (a : Activities). a.decay) c.in_ok-find_conflict.ensures.activities
+
+pub returns-in-Ok-clause-decay : goal.returns-in-Ok-clause-decay
+returns-in-Ok-clause-decay g c = ap (λ (a : Activities). a.decay) c.in_ok-find_conflict.ensures.activities

@@ -23,12 +23,13 @@ undone : (g : Over) (c : After-backtrack g) → Backtracked c.args.ctx.now c.bum
 undone g c = record {
   begun = analyzed-bumped
       (record { ready = c.requires.ready; unknown = c.requires.unknown; kept = c.analyze.ensures.kept; room = c.analyze.ensures.count; learned = c.in_ok-level.ensures.learned })
-      c.bump_involved.ensures.kept c.bump_involved.ensures.flags c.bump_involved.ensures.available c.bump_involved.ensures.entries;
+      c.bump_involved.ensures.kept c.bump_involved.ensures.flags c.bump_involved.ensures.available c.bump_involved.ensures.decay c.bump_involved.ensures.entries;
   same = c.backtrack.ensures.same;
   cut = c.backtrack.ensures.cut;
   saved = c.backtrack.ensures.saved;
   entries = c.backtrack.ensures.entries;
   decidable = c.backtrack.ensures.decidable;
+  decay = c.backtrack.ensures.decay;
   units = c.backtrack.ensures.units;
   back = c.backtrack.ensures.kept;
 }

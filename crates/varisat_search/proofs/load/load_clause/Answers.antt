@@ -29,6 +29,7 @@ loading g c =
       decidable = c.requires.decidable;
       entries = c.full_restart.ensures.undone.entries;
       stay_decidable = c.full_restart.ensures.undone.decidable;
+      decay = c.full_restart.ensures.undone.decay;
       last = (λ e. ap (λ (x : Context g.row.A.Denot). x.assignment.last) (c.full_restart.ensures.undone.same (let n = ap length e in omega (arith, n))), c.full_restart.ensures.undone.saved);
       state = ap (λ (x : Context g.row.A.Denot). x.solver_state) c.full_restart.ensures.undone.kept ∙ c.accept_clause.ensures;
       units = c.full_restart.ensures.undone.units;
@@ -52,7 +53,7 @@ pub returns-then-branch : goal.returns-then-branch
 returns-then-branch g c =
     let taut = c.in_ok-collect_distinct.ensures.tautology.0 c.if-branch.true in
     let o = loaded-tautology (loading g (goal.at.returns-then-branch g c).In_ok-collect_distinct) taut in
-    record { ready = o.ready; unsat = λ e. absurd (c.in_default.not-Unsat e); lines = o.lines; last = λ n. o.last; state = λ n. o.state; count = o.count; units = o.units; undecided = λ n. o.undecided; decidable = o.decidable; schedule = o.schedule }
+    record { ready = o.ready; unsat = λ e. absurd (c.in_default.not-Unsat e); lines = o.lines; last = λ n. o.last; state = λ n. o.state; count = o.count; units = o.units; undecided = λ n. o.undecided; decidable = o.decidable; decay = o.decay; schedule = o.schedule }
 
 pub is_satisfied-requires : goal.is_satisfied-requires
 is_satisfied-requires g c l h =
@@ -62,7 +63,7 @@ pub returns-then-is_satisfied : goal.returns-then-is_satisfied
 returns-then-is_satisfied g c =
     let found = c.if-is_satisfied.ensures.0 refl in
     let o = loaded-satisfied (loading g (goal.at.returns-then-is_satisfied g c).In_ok-collect_distinct) found.0 (subst (λ ys. found.0 ∈ ys) c.deref.ensures.value found.1) found.2 in
-    record { ready = o.ready; unsat = λ e. absurd (c.in_default.not-Unsat e); lines = o.lines; last = λ n. o.last; state = λ n. o.state; count = o.count; units = o.units; undecided = λ n. o.undecided; decidable = o.decidable; schedule = o.schedule }
+    record { ready = o.ready; unsat = λ e. absurd (c.in_default.not-Unsat e); lines = o.lines; last = λ n. o.last; state = λ n. o.state; count = o.count; units = o.units; undecided = λ n. o.undecided; decidable = o.decidable; decay = o.decay; schedule = o.schedule }
 
 pub add_distinct-requires : goal.add_distinct-requires
 add_distinct-requires g c =
@@ -82,4 +83,4 @@ returns g c =
     let k = c.add_distinct.ensures.kept in
     let plain : IsTautology c.collect_distinct.new.ctx.tmp_data.lits.items → ⊥ = λ t. let b = c.in_ok-collect_distinct.ensures.tautology.1 t in let f = c.if-branch.false in cc in
     let o = loaded-added (loading g (goal.at.returns g c).In_ok-collect_distinct) plain c.add_distinct.new.ctx k e.propagated e.state e.units e.last e.added in
-    record { ready = o.ready; unsat = λ e. absurd (c.in_default.not-Unsat e); lines = o.lines; last = λ n. o.last; state = λ n. o.state; count = o.count; units = o.units; undecided = λ n. o.undecided; decidable = o.decidable; schedule = o.schedule }
+    record { ready = o.ready; unsat = λ e. absurd (c.in_default.not-Unsat e); lines = o.lines; last = λ n. o.last; state = λ n. o.state; count = o.count; units = o.units; undecided = λ n. o.undecided; decidable = o.decidable; decay = o.decay; schedule = o.schedule }

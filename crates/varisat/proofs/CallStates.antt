@@ -1,8 +1,12 @@
 -- States after a call that changed nothing more, and after one that ran out of memory.
-use Rattle.std.proofs.Common.{◌≡◌, ◌∙◌, ℕ, Bool, true, false, refl, ap}
+use Rattle.std.proofs.Common.{◌≡◌, ◌≢◌, ◌∙◌, ℕ, Bool, true, false, Err, refl, ap}
+use Rattle.varisat_theory.specs.Literals.{Clause}
+use Rattle.varisat_clause.specs.declared.alloc.StoreError.{StoreError}
+use Rattle.varisat_clause.specs.declared.alloc.StoreError.TheVariants as store
 use Rattle.varisat_names.specs.Settings.{Settings}
-use Rattle.varisat.specs.States.{State, Ledger, IsWellFormed}
-use Rattle.varisat.specs.Calls.{IsLike, IsValid, Invalidates}
+use Rattle.varisat.specs.States.{State, Ledger, IsWellFormed, Unknown, Unsat}
+use Rattle.varisat.specs.Refusals.{store_refusal}
+use Rattle.varisat.specs.Calls.{IsLike, IsValid, Invalidates, IsPastLimit, AddsClause, CountsCall, Solves, with_steps}
 use Rattle.varisat.specs.Summaries.{Summary, StandsFor}
 
 pub like-refl : (s : State) → IsLike s s
@@ -33,3 +37,12 @@ broken s = record s { ledger = record s.ledger { valid = false } }
 
 pub broken-invalid : (s : State) → s.ledger.valid ≡ true → IsWellFormed s → Invalidates s (broken s)
 broken-invalid s v w = record { valid = v; ledger = refl; well_formed = told-well s (broken s) w }
+
+-- a clause could not be kept
+pub adds-broken : (e : StoreError) (s t : State) (d : Clause) → s.verdict ≢ Unsat → (IsPastLimit d → ⊥) → Invalidates s t → AddsClause s d (Err (store_refusal e)) t
+adds-broken store.Full s t d n l b = (n, l, b)
+adds-broken store.Memory s t d n l b = (n, l, b)
+
+pub solves-broken : (e : StoreError) (s t : State) → s.verdict ≡ Unknown → CountsCall s (Err (store_refusal e)) t → Invalidates (with_steps t.ledger.steps s) t → Solves s (Err (store_refusal e)) t
+solves-broken store.Full s t u c b = (u, c, b)
+solves-broken store.Memory s t u c b = (u, c, b)

@@ -1,7 +1,8 @@
 -- The steps of a search for a verdict.
 use Rattle.std.proofs.Common.{◌≡◌, ◌≢◌, ℕ, suc, ◌+◌, ◌-◌, ◌*◌, ◌^◌, ◌<◌, ◌≤◌, Bool, true, false, List, [], ◌++◌, length, ◌⊎◌, ⊎_elim, Option, Result, Ok, Err, refl, ap, ◌∙◌, subst, sym, arith}
 use Rattle.std.specs.Result.{IsErr}
-use Rattle.std.specs.declared.alloc.AllocError.{AllocError}
+use Rattle.varisat_clause.specs.declared.alloc.StoreError.{StoreError}
+use Rattle.varisat_clause.specs.declared.alloc.StoreError.TheVariants as store
 use Rattle.std.proofs.lemmas.Bool.{cases_lt}
 use Rattle.std.proofs.lemmas.List.{length-map}
 use Rattle.varisat_theory.specs.Derivations.{Line}
@@ -18,7 +19,9 @@ use Rattle.varisat_schedule.specs.Plans.{Plan, IsPlan, next_plan, PlannedCall}
 use Rattle.varisat_schedule.specs.CallSteps.{steps_since, IsPlannedStep, HasComeTo}
 use Rattle.varisat_schedule.proofs.CallSteps.{begins, is-short, goes-on}
 use Rattle.varisat.specs.Budgets.{told_verdict, CountsSteps}
-use Rattle.varisat.specs.declared.solver.SolverError.TheVariants.{Interrupted, OutOfMemory}
+use Rattle.varisat.specs.declared.solver.SolverError.{SolverError}
+use Rattle.varisat.specs.declared.solver.SolverError.TheVariants.{Interrupted}
+use Rattle.varisat.specs.Refusals.{store_refusal}
 
 -- The call came to the plan within its budget, and the trail now has the flags.
 pub record HasMade (c : PlannedCall) (max_steps : ℕ) (q : Plan) (trail : List Bool) : Type 0 where
@@ -33,6 +36,11 @@ flags-short s n w e =
 
 pub none-made : (c : PlannedCall) (max_steps : ℕ) (trail : List Bool) → IsPlan c.begins → HasMade c max_steps c.begins trail
 none-made c max_steps trail i = record { come = begins c trail i; budget = omega arith }
+
+-- a search that can't keep a clause isn't interrupted
+no-interrupt : (e : StoreError) (r : Result Bool SolverError) → r ≡ Err (store_refusal e) → r ≡ Err Interrupted → ⊥
+no-interrupt store.Full r p f = let z = sym p ∙ f in cc
+no-interrupt store.Memory r p f = let z = sym p ∙ f in cc
 
 module _ (c : PlannedCall) (max_steps : ℕ) (q : Plan) (trail : List Bool) (h : 0 < c.scale) (short : length trail ≤ c.variables) (m : HasMade c max_steps q trail) where
   so-far : q.steps ≡ c.begins.steps + steps_since c.begins q
@@ -49,15 +57,15 @@ module _ (c : PlannedCall) (max_steps : ℕ) (q : Plan) (trail : List Bool) (h :
     spent = λ _. s;
   }
 
-  -- memory ran out in the step behind them
-  pub counts-refused : (steps : ℕ) → steps ≡ q.steps → (n : ℕ) → c.variables ≤ n → CountsSteps n max_steps c.begins.steps steps (Err OutOfMemory)
-  counts-refused steps e n v = record {
+  -- a clause could not be kept in the step behind them
+  pub counts-refused : (error : StoreError) (steps : ℕ) → steps ≡ q.steps → (n : ℕ) → c.variables ≤ n → CountsSteps n max_steps c.begins.steps steps (Err (store_refusal error))
+  counts-refused error steps e n v = record {
     made = steps_since c.begins q;
     count = e ∙ so-far;
     budget = m.budget;
     bounded = let b = is-short c q trail n h short v m.come in omega (arith, b);
     found = λ b f. absurd cc;
-    spent = λ f. absurd (let z : OutOfMemory ≡ Interrupted = cc in cc);
+    spent = λ f. absurd (no-interrupt error (Err (store_refusal error)) refl f);
   }
 
   -- one more step is made
@@ -106,9 +114,9 @@ more-lines c q r trail s t u v h e (first, p) (second, k) =
     let n : suc (steps_since c.begins q) ≡ steps_since c.begins r = omega (arith, a, d) in
     (first ++ second, subst (λ m. MakesSteps m s u v (first ++ second)) n (one_more_made (steps_since c.begins q) s t u v first second p k))
 
-pub told-refused : (r : Result (Option Bool) AllocError) → IsErr r → told_verdict r ≡ Err OutOfMemory
+pub told-refused : (r : Result (Option Bool) StoreError) → IsErr r → (e : StoreError) × (told_verdict r ≡ Err (store_refusal e))
 told-refused (Ok x) h = absurd (let z : false ≡ true = h in cc)
-told-refused (Err e) h = refl
+told-refused (Err e) h = (e, refl)
 
 -- the tests at the loop's head
 pub not-spent : (p q : Plan) (max_steps first steps : ℕ) → first ≡ p.steps → steps ≡ q.steps → (steps - first ≡ max_steps → ⊥) → steps_since p q ≢ max_steps

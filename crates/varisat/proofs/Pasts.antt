@@ -24,7 +24,7 @@ use Rattle.varisat.specs.Updates as updates
 use Rattle.varisat.specs.Pasts as past
 use Rattle.varisat.specs.Pasts.{Past, empty_past, use_name, use_names, accept, accept_all, named_variables, MakesFewSteps, IsModel}
 use Rattle.varisat.specs.declared.solver.SolverError.{SolverError}
-use Rattle.varisat.specs.declared.solver.SolverError.TheVariants.{Interrupted, OutOfMemory, Invalid, VariableLimit, ConfigOutOfRange, Dimacs}
+use Rattle.varisat.specs.declared.solver.SolverError.TheVariants.{Interrupted, OutOfMemory, Invalid, ClauseStoreFull, VariableLimit, ConfigOutOfRange, Dimacs}
 use Rattle.varisat.proofs.NamesInOrder.{rest-one, rest-all, fit-one, fit-all, count-within, through-all}
 use Rattle.varisat.proofs.CallStates.{like-refl}
 use Rattle.varisat.proofs.ModelLists.{listed-rising, listed-in-use, listed-all, value-listed}
@@ -234,6 +234,7 @@ add-clause p s t d (Ok u) g (v, state.Ignored n e) =
 add-clause p s t d (Ok u) g (v, state.Accepted n lim a) =
     let w = sym g.valid ∙ v in (accept d p, (w, past.Accepted lim refl), accepted p s t d n lim a g w)
 add-clause p s t d (Err OutOfMemory) g a = breaks p s t g a.2
+add-clause p s t d (Err ClauseStoreFull) g a = breaks p s t g a.2
 add-clause p s t d (Err Invalid) g a = (p, (sym g.valid ∙ a.0, refl), stays p s t a.1 g)
 add-clause p s t d (Err VariableLimit) g a =
     let k = knows-of p s g a.0 in
@@ -321,6 +322,7 @@ make-var p s t (Ok u) g (v, (e, h), small, like) =
     let n = least-free p s u k e h in
     (use_name u p, (w, (k.names.unused u (omega (arith, n)), λ x l. k.names.used x (omega (arith, l, n))), small, refl), named p s t u small like g w)
 make-var p s t (Err OutOfMemory) g a = breaks p s t g a.1
+make-var p s t (Err ClauseStoreFull) g a = absurd a
 make-var p s t (Err Invalid) g a = (p, (sym g.valid ∙ a.0, refl), stays p s t a.1 g)
 make-var p s t (Err VariableLimit) g (v, (u, (e, h), full), same) =
     let w = sym g.valid ∙ v in
@@ -453,6 +455,12 @@ solve p s t (Err OutOfMemory) g (u, c, b) =
       (counts p s t (Err OutOfMemory) g k u c, (sym g.valid ∙ b.valid, refl)),
       record { valid = ap (λ x. x.valid) b.ledger; steps = refl; settings = ap (λ x. x.settings) b.ledger ∙ g.settings; knows = λ e. absurd cc },
     )
+solve p s t (Err ClauseStoreFull) g (u, c, b) =
+    let k = knows-of p s g b.valid in (
+      record p { valid = false; steps = t.ledger.steps },
+      (counts p s t (Err ClauseStoreFull) g k u c, (sym g.valid ∙ b.valid, refl)),
+      record { valid = ap (λ x. x.valid) b.ledger; steps = refl; settings = ap (λ x. x.settings) b.ledger ∙ g.settings; knows = λ e. absurd cc },
+    )
 solve p s t (Err Interrupted) g r =
     let k = knows-of p s g r.valid in (
       record p { steps = t.ledger.steps },
@@ -486,6 +494,7 @@ config p s t u (Err Invalid) g (v, e) = (p, (sym g.valid ∙ v, refl), stays p s
 config p s t u (Err (ConfigOutOfRange field)) g (v, n, e) = (p, (sym g.valid ∙ v, n, refl), stays p s t e g)
 config p s t u (Err Interrupted) g r = absurd r
 config p s t u (Err OutOfMemory) g r = absurd r
+config p s t u (Err ClauseStoreFull) g r = absurd r
 config p s t u (Err VariableLimit) g r = absurd r
 config p s t u (Err (Dimacs cause)) g r = absurd r
 

@@ -1,6 +1,6 @@
 -- Which answer and which new state each call may give: one relation a call, with a case for each answer. A case that is ⊥ is an answer that the call never gives.
 --
--- Refusals are looked for in this order: Invalid; then `add_clause` returns Ok under the verdict Unsat; VariableLimit; ConfigOutOfRange; OutOfMemory; Interrupted.
+-- Refusals are looked for in this order: Invalid; then `add_clause` returns Ok under the verdict Unsat; VariableLimit; ConfigOutOfRange; OutOfMemory or ClauseStoreFull; Interrupted.
 use Rattle.std.specs.Prelude.{◌≡◌, ◌≢◌, ℕ, ◌<◌, ◌≤◌, Bool, true, false, Option, Some, None, List, [], ◌∷◌, ◌++◌, ◌⊎◌, Result, Ok, Err, map, length}
 use Rattle.std.specs.declared.alloc.AllocError.{AllocError}
 use Rattle.varisat_theory.specs.Membership.{◌∈◌}
@@ -17,7 +17,7 @@ use Rattle.varisat.specs.Updates as updates
 use Rattle.varisat.specs.Budgets.{CountsSteps}
 use Rattle.varisat.specs.Additions as additions
 use Rattle.varisat.specs.declared.solver.SolverError.{SolverError}
-use Rattle.varisat.specs.declared.solver.SolverError.TheVariants.{Interrupted, OutOfMemory, Invalid, VariableLimit}
+use Rattle.varisat.specs.declared.solver.SolverError.TheVariants.{Interrupted, OutOfMemory, Invalid, ClauseStoreFull, VariableLimit}
 use Rattle.varisat_literals.specs.Numbers.{variable_limit}
 
 abbrev pub is_valid : State → Bool
@@ -97,6 +97,7 @@ AddsClause s d (Ok _) t = IsValid s × TakesClause s d t
 AddsClause s d (Err Invalid) t = IsRefusedInvalid s t
 AddsClause s d (Err VariableLimit) t = IsValid s × (s.verdict ≢ Unsat) × (IsPastLimit d ⊎ IsCrowded (name_all d s)) × (t ≡ s)
 AddsClause s d (Err OutOfMemory) t = (s.verdict ≢ Unsat) × (IsPastLimit d → ⊥) × Invalidates s t
+AddsClause s d (Err ClauseStoreFull) t = (s.verdict ≢ Unsat) × (IsPastLimit d → ⊥) × Invalidates s t
 AddsClause s d (Err _) t = ⊥
 
 -- The calls `add_formula` and `add_dimacs_cnf`.
@@ -173,6 +174,7 @@ abbrev pub Solves : State → Result Bool SolverError → State → Type 0
 Solves s (Ok b) t = TellsVerdict s b t
 Solves s (Err Invalid) t = IsRefusedInvalid s t
 Solves s (Err OutOfMemory) t = (s.verdict ≡ Unknown) × CountsCall s (Err OutOfMemory) t × Invalidates (with_steps t.ledger.steps s) t
+Solves s (Err ClauseStoreFull) t = (s.verdict ≡ Unknown) × CountsCall s (Err ClauseStoreFull) t × Invalidates (with_steps t.ledger.steps s) t
 Solves s (Err Interrupted) t = IsInterrupted s t
 Solves s (Err _) t = ⊥
 

@@ -12,7 +12,7 @@ use Rattle.varisat.specs.Models.{IsRising}
 use Rattle.varisat.specs.Calls.{IsPastLimit}
 use Rattle.varisat.specs.Additions as additions
 use Rattle.varisat.specs.declared.solver.SolverError.{SolverError}
-use Rattle.varisat.specs.declared.solver.SolverError.TheVariants.{Interrupted, OutOfMemory, Invalid, VariableLimit}
+use Rattle.varisat.specs.declared.solver.SolverError.TheVariants.{Interrupted, OutOfMemory, Invalid, ClauseStoreFull, VariableLimit}
 use Rattle.varisat_literals.specs.Numbers.{variable_limit}
 
 -- `valid`: no call that changes the solver ran out of memory. `in_use`: whether a name is in use, and `watermark` is one above the highest. `clauses` were accepted, and `assumptions` given. `has_model`: `solve` returned true, and no clause was accepted since. `steps`: how many steps were made in all. `settings`: those by which further steps are made.
@@ -65,6 +65,7 @@ AddsClause p c (Ok _) q = (p.valid ≡ true) × TakesClause p c q
 AddsClause p c (Err Invalid) q = (p.valid ≡ false) × (q ≡ p)
 AddsClause p c (Err VariableLimit) q = (p.valid ≡ true) × IsPastLimit c × (q ≡ p)
 AddsClause p c (Err OutOfMemory) q = Invalidates p q
+AddsClause p c (Err ClauseStoreFull) q = Invalidates p q
 AddsClause p c (Err _) q = ⊥
 
 abbrev pub adding : additions.Adding Past
@@ -108,6 +109,7 @@ Solves p (Ok true) q = (p.valid ≡ true) × IsSatisfiableWith p.clauses p.assum
 Solves p (Ok false) q = (p.valid ≡ true) × (IsSatisfiableWith p.clauses p.assumptions → ⊥) × MakesFewSteps p false q × (q ≡ record p { has_model = false; steps = q.steps })
 Solves p (Err Invalid) q = (p.valid ≡ false) × (q ≡ p)
 Solves p (Err OutOfMemory) q = CountsCall p (Err OutOfMemory) q × Invalidates (record p { steps = q.steps }) q
+Solves p (Err ClauseStoreFull) q = CountsCall p (Err ClauseStoreFull) q × Invalidates (record p { steps = q.steps }) q
 Solves p (Err Interrupted) q = (p.valid ≡ true) × (p.has_model ≡ false) × CountsCall p (Err Interrupted) q × (q ≡ record p { steps = q.steps })
 Solves p (Err _) q = ⊥
 

@@ -18,6 +18,7 @@ ghost use Rattle.varisat_literals.specs.Numbers.{variable_limit};
 use std::alloc::{AllocError, Allocator};
 use varisat_literals::Lit;
 use varisat_names::variables::Variables;
+use varisat_prop::clause::StoreError;
 use varisat_search::context::Context;
 use varisat_search::decision::add_variables;
 use varisat_search::load::load_clause;
@@ -92,7 +93,7 @@ pub fn accept_clause<A: Allocator + Copy>(
     ctx: &mut Context<A>,
     literals: &mut Vec<Lit, A>,
     clause: &[Lit],
-) -> Result<(), AllocError>
+) -> Result<(), StoreError>
     requires kept { IsKept variables.old ctx.old }
     requires unsettled { IsOpen ctx.old.solver_state.sat_state }
     requires in_range { (l : Literal) → l ∈ clause.now → variable_of l < variable_limit }

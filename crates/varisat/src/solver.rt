@@ -21,6 +21,7 @@ use varisat_formula::io::{ByteSource, ProofTarget};
 use varisat_literals::{Lit, Var};
 use varisat_names::config::{ConfigField, SolverConfigUpdate};
 use varisat_names::variables::Variables;
+use varisat_prop::clause::StoreError;
 use varisat_search::context::Context;
 use varisat_search::state::SatState;
 
@@ -36,12 +37,27 @@ pub enum SolverError {
     OutOfMemory,
     #[error("The solver is invalid after an unrecoverable error")]
     Invalid,
+    #[error("The clause store is full")]
+    ClauseStoreFull,
     #[error("The variable limit is passed")]
     VariableLimit,
     #[error("Configuration value out of range: {field}")]
     ConfigOutOfRange { field: ConfigField },
     #[error("Error in DIMACS input: {cause}")]
     Dimacs { cause: DimacsError },
+}
+
+impl From<StoreError> for SolverError {
+    ghost use Rattle.varisat.specs.Refusals.{store_refusal};
+
+    ghost from_gives = { λ error result. result ≡ store_refusal error };
+
+    fn from(error: StoreError) -> SolverError {
+        match error {
+            StoreError::Full => SolverError::ClauseStoreFull,
+            StoreError::Memory => SolverError::OutOfMemory,
+        }
+    }
 }
 
 impl SolverError {
@@ -56,6 +72,7 @@ impl SolverError {
             SolverError::Interrupted => 1,
             SolverError::OutOfMemory => 3,
             SolverError::Invalid => 4,
+            SolverError::ClauseStoreFull => 5,
             SolverError::VariableLimit => 7,
             SolverError::ConfigOutOfRange { .. } => 12,
             SolverError::Dimacs { .. } => 13,
@@ -67,7 +84,7 @@ impl SolverError {
         ensures { IsTrue result ↔ ((refusal_number self.now < 2) ⊎ (5 < refusal_number self.now)) }
     {
         match self {
-            SolverError::OutOfMemory | SolverError::Invalid => false,
+            SolverError::OutOfMemory | SolverError::Invalid | SolverError::ClauseStoreFull => false,
             SolverError::Interrupted
             | SolverError::VariableLimit
             | SolverError::ConfigOutOfRange { .. }
@@ -229,9 +246,9 @@ impl<W: ProofTarget, A: Allocator + Copy> Solver<W, A> {
                 self.started = true;
                 Ok(())
             }
-            Err(_) => {
+            Err(error) => {
                 self.ctx.solver_state.state_is_invalid = true;
-                Err(SolverError::OutOfMemory)
+                Err(SolverError::from(error))
             }
         }
     }
@@ -327,7 +344,7 @@ impl<W: ProofTarget, A: Allocator + Copy> Solver<W, A> {
         Ok(None)
     }
 
-    /// Whether some assignment satisfies the accepted clauses. A call makes fewer than 2^(2n+3) steps, where the clauses name n variables. Refused in an invalid solver, where memory runs out, and where the steps are spent before that is known: `max_steps` of the settings, or 2^64-1 in all. The next call then goes on.
+    /// Whether some assignment satisfies the accepted clauses. A call makes fewer than 2^(2n+3) steps, where the clauses name n variables. Refused in an invalid solver, where memory runs out or the clause store is full, and where the steps are spent before that is known: `max_steps` of the settings, or 2^64-1 in all. The next call then goes on.
     pub fn solve(&mut self) -> Result<bool, SolverError>
         ensures call { (s : State) → StandsFor self.old s → (t : State) × Solves s result t × StandsFor self.new t }
         ensures satisfiable { result ≡ Ok true → (s : State) → StandsFor self.old s → IsSatisfiableWith s.clauses s.assumptions }
@@ -345,9 +362,9 @@ impl<W: ProofTarget, A: Allocator + Copy> Solver<W, A> {
                 match find_verdict(&mut self.ctx, max_steps) {
                     Ok(Some(found)) => Ok(found),
                     Ok(None) => Err(SolverError::Interrupted),
-                    Err(_) => {
+                    Err(error) => {
                         self.ctx.solver_state.state_is_invalid = true;
-                        Err(SolverError::OutOfMemory)
+                        Err(SolverError::from(error))
                     }
                 }
             }

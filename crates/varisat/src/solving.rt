@@ -9,7 +9,8 @@ ghost use Rattle.varisat_search.specs.Seen.{search_of, outcome_of};
 ghost use Rattle.varisat.specs.Budgets.{told_verdict, CountsSteps};
 ghost use Rattle.varisat.specs.Searches.{verdict_found};
 
-use std::alloc::{AllocError, Allocator};
+use std::alloc::Allocator;
+use varisat_prop::clause::StoreError;
 use varisat_search::context::Context;
 use varisat_search::schedule::schedule_step;
 use varisat_search::state::SatState;
@@ -20,7 +21,7 @@ use varisat_search::state::SatState;
 pub fn find_verdict<A: Allocator + Copy>(
     ctx: &mut Context<A>,
     max_steps: u64,
-) -> Result<Option<bool>, AllocError>
+) -> Result<Option<bool>, StoreError>
     requires ready { IsReady ctx.old }
     requires unknown { ctx.old.solver_state.sat_state ≡ SatState.Unknown }
     ensures ready { OnOk result (IsReady ctx.new) }

@@ -11,7 +11,7 @@ use Rattle.varisat_clause.proofs.StoreSound.{place-of}
 use Rattle.varisat_clause.proofs.DatabaseTracks.{total-append, true-or-false, long-at}
 
 -- one more clause
-live-more : (ks : List StoredClause) (k : StoredClause) → k.header.deleted ≡ false → live_of (ks ++ k ∷ []) ≡ live_of ks ++ k ∷ []
+pub live-more : (ks : List StoredClause) (k : StoredClause) → k.header.deleted ≡ false → live_of (ks ++ k ∷ []) ≡ live_of ks ++ k ∷ []
 live-more [] k e = ap (λ b. cond b [] (k ∷ [])) e
 live-more (j ∷ ks) k e =
     ⊎_elim

@@ -5,6 +5,7 @@ pub mod StoreSound
 pub mod DatabaseTracks
 pub mod CollectedClauses
 pub mod LiveClauses
+pub mod LiveStore
 pub mod MappedClauses
 pub mod TierPlaces
 pub mod LocalReduction

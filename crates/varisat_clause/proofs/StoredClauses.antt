@@ -82,6 +82,10 @@ from-append (x ∷ ks) j k (inr h) = ⊎_elim (λ i. inl (inr i)) inr (from-appe
 pub place-more : (ks : List StoredClause) (j : StoredClause) (p : ℕ) → IsPlace ks p → IsPlace (ks ++ j ∷ []) p
 place-more ks j p (k, h, e) = (k, append-∈ ks j k h, e)
 
+-- a place of more clauses is an old one, or the last
+pub place-cases-more : (ks : List StoredClause) (j : StoredClause) (p : ℕ) → IsPlace (ks ++ j ∷ []) p → IsPlace ks p ⊎ (p ≡ j.place)
+place-cases-more ks j p (k, h, e) = ⊎_elim (λ i. inl (k, i, e)) (λ f. inr (sym e ∙ ap (λ x. x.place) f)) (from-append ks j k h)
+
 pub place-last : (ks : List StoredClause) (j : StoredClause) → IsPlace (ks ++ j ∷ []) j.place
 place-last ks j = (j, last-∈ ks j, refl)
 
@@ -156,6 +160,20 @@ reordered-place (p ∷ P) [] n a h = absurd a
 reordered-place (p ∷ P) (q ∷ Q) n a (k, inl e, f) = (q, inl refl, a.0 ∙ sym (ap (λ x. x.place) e) ∙ f)
 reordered-place (p ∷ P) (q ∷ Q) n a (k, inr h, f) = let (j, i, e) = reordered-place P Q n a.3 (k, h, f) in (j, inr i, e)
 
+pub reordered-place-back : (P Q : List StoredClause) (p : ℕ) → AreReordered P Q → IsPlace Q p → IsPlace P p
+reordered-place-back P Q p a (k, h, e) = let (j, i, f) = reordered-back P Q a k h in (j, i, f ∙ e)
+
+-- the clause at a place is the old one as a set
+pub reordered-at : (P Q : List StoredClause) (p : ℕ) → AreReordered P Q → SameSet (literals_at Q p) (literals_at P p)
+reordered-at [] [] n a = same-self []
+reordered-at [] (q ∷ Q) n a = absurd a
+reordered-at (p ∷ P) [] n a = absurd a
+reordered-at (p ∷ P) (q ∷ Q) n a =
+    ⊎_elim
+    (λ e. subst (λ x. SameSet (literals_at (q ∷ Q) n) x) (sym (ap (λ x. x.literals) (stored-here p P n e))) (subst (λ x. SameSet x p.literals) (sym (ap (λ x. x.literals) (stored-here q Q n (a.0 ∙ e)))) a.2))
+    (λ m. subst (λ x. SameSet (literals_at (q ∷ Q) n) x) (sym (ap (λ x. x.literals) (stored-later p P n m))) (subst (λ x. SameSet x (literals_at P n)) (sym (ap (λ x. x.literals) (stored-later q Q n (λ e. m (sym a.0 ∙ e))))) (reordered-at P Q n a.3)))
+    (equal_or_not p.place n)
+
 pub reordered-rising : (P Q : List StoredClause) → AreReordered P Q → AreRising P → AreRising Q
 reordered-rising [] [] a r = tt
 reordered-rising [] (q ∷ Q) a r = absurd a
@@ -199,6 +217,15 @@ with-cases (k ∷ ks) p c d h =
     (λ e. let i : d ∈ (c ∷ literals_of ks) = subst (λ xs. d ∈ literals_of xs) (with-here k ks p c e) h in ⊎_elim inl (λ j. inr (inr j)) i)
     (λ n. let i : d ∈ (k.literals ∷ literals_of (with_literals ks p c)) = subst (λ xs. d ∈ literals_of xs) (with-later k ks p c n) h in
     ⊎_elim (λ j. inr (inl j)) (λ j. ⊎_elim inl (λ g. inr (inr g)) (with-cases ks p c d j)) i)
+    (equal_or_not k.place p)
+
+-- a clause that gets the literals that it has stays as it is
+pub with-own : (ks : List StoredClause) (p : ℕ) → with_literals ks p (literals_at ks p) ≡ ks
+with-own [] p = refl
+with-own (k ∷ ks) p =
+    ⊎_elim
+    (λ e. with-here k ks p (literals_at (k ∷ ks) p) e ∙ ap (λ (x : StoredClause). record k { literals = x.literals } ∷ ks) (stored-here k ks p e))
+    (λ n. with-later k ks p (literals_at (k ∷ ks) p) n ∙ ap (λ (x : StoredClause). k ∷ with_literals ks p x.literals) (stored-later k ks p n) ∙ ap (λ xs. k ∷ xs) (with-own ks p))
     (equal_or_not k.place p)
 
 -- One clause is another.

@@ -1,13 +1,17 @@
 -- A store after its garbage was collected.
 use Rattle.std.specs.Prelude.{ℕ, ◌+◌, false, if◌then◌else◌, List, [], ◌∷◌}
 use Rattle.varisat_clause.specs.Stored.{StoredClause}
-use Rattle.varisat_clause.specs.Stores.{Store, Holds}
+use Rattle.varisat_clause.specs.Stores.{Store, clauses_of, Holds}
 use Rattle.varisat_clause.specs.Databases.{Database, total, size_of, Tracks}
 
 -- the clauses that are not deleted, in order
 abbrev pub live_of : List StoredClause → List StoredClause
 live_of [] = []
 live_of (k ∷ ks) = if k.header.deleted then live_of ks else k ∷ live_of ks
+
+-- the clauses of a store that are not deleted, in order of places
+abbrev pub live_clauses : Store → List StoredClause
+live_clauses s = live_of (clauses_of s)
 
 -- the same clauses one after another from the place on, without marks
 abbrev pub packed : ℕ → List StoredClause → List StoredClause

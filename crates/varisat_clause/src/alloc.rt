@@ -1,6 +1,7 @@
 //! The store of clauses: one buffer of words, in which each clause is its header and then its literals.
 ghost use Rattle.std.specs.Prelude.{◌≡◌, ℕ, ◌+◌, ◌<◌, ◌≤◌, ◌^◌, ◌++◌, ◌∷◌, [], List, length, slice_index, ◌↔◌, IsTrue, IfOk, IfErr, OnErr, if◌then◌else◌};
 ghost use Rattle.std.specs.List.{swap};
+ghost use Rattle.varisat_clause.specs.declared.alloc.StoreError.TheVariants.{Memory};
 ghost use Rattle.varisat_clause.specs.Headers.{header_from, flags_of};
 ghost use Rattle.varisat_clause.specs.Stored.{IsPlace, stored_at, header_at, literals_at, with_literals, with_header, shortened};
 ghost use Rattle.varisat_clause.specs.Reductions.{rank_in};
@@ -35,6 +36,13 @@ impl Model for ClauseRef {
 }
 
 impl ClauseRef {
+    /// The clause whose first word has the offset.
+    pub fn from_offset(offset: u32) -> ClauseRef
+        ensures { result ≡ offset }
+    {
+        ClauseRef { offset }
+    }
+
     /// The offset of the clause's first word.
     pub fn offset(self) -> usize
         ensures { result ≡ self }
@@ -50,6 +58,14 @@ pub enum StoreError {
     Full,
     #[error("out of memory")]
     Memory,
+}
+
+impl From<AllocError> for StoreError {
+    ghost from_gives = { λ _ e. e ≡ Memory };
+
+    fn from(_error: AllocError) -> StoreError {
+        StoreError::Memory
+    }
 }
 
 /// The clauses, in the order of adding, also those that are deleted. A contract sees the words and the places.

@@ -1,6 +1,6 @@
 //! The clauses of a store that are not deleted, one after another.
-ghost use Rattle.std.specs.Prelude.{◌≡◌, ◌++◌, option_to_list, length};
-ghost use Rattle.std.specs.Iterator.{at_most};
+ghost use Rattle.std.specs.Prelude.{◌≡◌};
+ghost use Rattle.std.specs.Iterator.{YieldsFirst, item_count};
 ghost use Rattle.varisat_clause.specs.Stores.{clauses_of, IsSound};
 ghost use Rattle.varisat_clause.specs.Filters.{live_places};
 
@@ -38,9 +38,9 @@ pub fn clauses_iter<A: Allocator + Copy>(alloc: &ClauseAlloc<A>) -> Clauses<'_, 
 impl<'a, A: Allocator + Copy> Iterator for Clauses<'a, A> {
     type Item = ClauseRef;
 
-    ghost next_gives = { λ left cref rest. left ≡ option_to_list cref ++ rest };
+    ghost next_gives = { YieldsFirst (λ left. left) };
 
-    ghost remaining = { λ left. at_most (length left) };
+    ghost remaining = { item_count (λ left. left) };
 
     fn next(&mut self) -> Option<ClauseRef> {
         'places: while self.index < self.alloc.len() {

@@ -6,13 +6,13 @@ ghost use Rattle.varisat_clause.specs.Stores.{IsSound};
 use linked_list_allocator::LocalHeap;
 use std::alloc::{AllocError, Allocator, Global};
 use varisat_clause::activity::{ClauseActivity, bump_clause_activity, decay_clause_activities};
-use varisat_clause::alloc::{ClauseAlloc, StoreError};
+use varisat_clause::alloc::ClauseAlloc;
 use varisat_clause::collect::collect_garbage;
 use varisat_clause::db::{ClauseDb, add_clause, delete_clause, set_clause_tier};
 use varisat_clause::header::{ClauseHeader, Tier};
 use varisat_clause::iter::clauses_iter;
 use varisat_clause::reduce::{reduce_locals, reduce_mids};
-use varisat_literals::Lit;
+use varisat_literals::{Lit, lits};
 
 /// The flags of an active Local clause whose glue was set to 100, and that glue.
 fn local_flags() -> (u32, usize) {
@@ -44,13 +44,13 @@ fn header(tier: Tier, activity: u32) -> ClauseHeader
     header
 }
 
-/// Adds a clause of so many literals, from 3 to 5.
+/// Adds a clause of so many literals, from 3 to 5. Says whether that was done.
 fn add<A: Allocator + Copy>(
     alloc: &mut ClauseAlloc<A>,
     db: &mut ClauseDb<A>,
     header: ClauseHeader,
     count: usize,
-) -> Result<(), StoreError>
+) -> bool
     requires live { header.deleted ≡ false }
     requires least { 3 ≤ count }
     requires most { count ≤ 5 }
@@ -64,8 +64,7 @@ fn add<A: Allocator + Copy>(
         Lit::from_code(6),
         Lit::from_code(8),
     ];
-    add_clause(alloc, db, header, &lits[..count])?;
-    Ok(())
+    add_clause(alloc, db, header, &lits[..count]).is_ok()
 }
 
 /// Deletes the clause of the index, if there is one that is not deleted.
@@ -81,23 +80,23 @@ fn delete<A: Allocator + Copy>(alloc: &mut ClauseAlloc<A>, db: &mut ClauseDb<A>,
     }
 }
 
-/// Moves the clause of the index to the tier, if there is one that is not deleted.
+/// Moves the clause of the index to the tier, if there is one that is not deleted. Says whether memory sufficed.
 fn set_tier<A: Allocator + Copy>(
     alloc: &mut ClauseAlloc<A>,
     db: &mut ClauseDb<A>,
     index: usize,
     tier: Tier,
-) -> Result<(), AllocError>
+) -> bool
     requires { Tracks db.old alloc.old }
     ensures { Tracks db.new alloc.new }
 {
     if index < alloc.len() {
         let cref = alloc.place(index);
         if !alloc.header(cref).deleted() {
-            set_clause_tier(alloc, db, cref, tier)?;
+            return set_clause_tier(alloc, db, cref, tier).is_ok();
         }
     }
-    Ok(())
+    true
 }
 
 /// How many clauses of each tier are not deleted.
@@ -110,33 +109,61 @@ fn counts<A: Allocator + Copy>(db: &ClauseDb<A>) -> [usize; 4] {
     ]
 }
 
-/// The counts after the tiers of four clauses are set, and after two are deleted.
-fn tier_counts(rt_alloc: Global) -> Result<([usize; 4], [usize; 4]), StoreError> {
+/// Adds a clause of each tier. Says whether that was done.
+fn add_tiers(alloc: &mut ClauseAlloc<Global>, db: &mut ClauseDb<Global>) -> bool
+    requires { Tracks db.old alloc.old }
+    ensures { Tracks db.new alloc.new }
+{
+    let irred = add(alloc, db, header(Tier::Irred, 0), 3);
+    let core = add(alloc, db, header(Tier::Core, 0), 3);
+    let mid = add(alloc, db, header(Tier::Mid, 0), 3);
+    let local = add(alloc, db, header(Tier::Local, 0), 3);
+    irred & core & mid & local
+}
+
+/// Sets the tiers of the four clauses. Says whether that was done.
+fn set_tiers(alloc: &mut ClauseAlloc<Global>, db: &mut ClauseDb<Global>) -> bool
+    requires { Tracks db.old alloc.old }
+    ensures { Tracks db.new alloc.new }
+{
+    let local = set_tier(alloc, db, 3, Tier::Core);
+    let mid = set_tier(alloc, db, 2, Tier::Local);
+    let core = set_tier(alloc, db, 1, Tier::Local);
+    let irred = set_tier(alloc, db, 0, Tier::Irred);
+    local & mid & core & irred
+}
+
+/// The counts before and after two of the four clauses are deleted.
+fn counts_around(alloc: &mut ClauseAlloc<Global>, db: &mut ClauseDb<Global>) -> [[usize; 4]; 2]
+    requires { Tracks db.old alloc.old }
+{
+    let set = counts(db);
+    delete(alloc, db, 0);
+    delete(alloc, db, 2);
+    [set, counts(db)]
+}
+
+/// Whether the tiers of four clauses are set, and the counts then and after two are deleted.
+fn tier_counts_in(
+    alloc: &mut ClauseAlloc<Global>,
+    db: &mut ClauseDb<Global>,
+) -> (bool, [[usize; 4]; 2])
+    requires { Tracks db.old alloc.old }
+{
+    let is_added = add_tiers(alloc, db);
+    let is_set = set_tiers(alloc, db);
+    (is_added & is_set, counts_around(alloc, db))
+}
+
+fn tier_counts(rt_alloc: Global) -> (bool, [[usize; 4]; 2]) {
     let mut alloc = ClauseAlloc::new_in(rt_alloc);
     let mut db = ClauseDb::new_in(rt_alloc);
-    add(&mut alloc, &mut db, header(Tier::Irred, 0), 3)?;
-    add(&mut alloc, &mut db, header(Tier::Core, 0), 3)?;
-    add(&mut alloc, &mut db, header(Tier::Mid, 0), 3)?;
-    add(&mut alloc, &mut db, header(Tier::Local, 0), 3)?;
-    let done = set_tier(&mut alloc, &mut db, 3, Tier::Core).is_ok()
-        && set_tier(&mut alloc, &mut db, 2, Tier::Local).is_ok()
-        && set_tier(&mut alloc, &mut db, 1, Tier::Local).is_ok()
-        && set_tier(&mut alloc, &mut db, 0, Tier::Irred).is_ok();
-    if !done {
-        return Err(StoreError::Memory);
-    }
-    let set = counts(&db);
-    delete(&mut alloc, &mut db, 0);
-    delete(&mut alloc, &mut db, 2);
-    Ok((set, counts(&db)))
+    tier_counts_in(&mut alloc, &mut db)
 }
 
 #[test]
-fn tiers_are_counted(rt: HostRuntime) -> Result<(), StoreError> {
-    let (set, deleted) = tier_counts(rt.alloc())?;
-    assert!(rt; set == [1, 1, 0, 2]);
-    assert!(rt; deleted == [0, 1, 0, 1]);
-    Ok(())
+fn tiers_are_counted(rt: HostRuntime) {
+    assert!(rt; tier_counts(rt.alloc()) == (true, [[1, 1, 0, 2], [0, 1, 0, 1]]));
 }
 
 /// Drops the last literals of the clause of the index, if it is not deleted and has so many.
@@ -188,28 +215,53 @@ fn collect<A: Allocator + Copy>(
     Ok(done)
 }
 
-/// How three clauses lie, after the second was shortened and deleted, and after the first was deleted.
-fn layouts(rt_alloc: Global) -> Result<(Layout, Layout), StoreError> {
+/// Adds clauses of 3, 5 and 4 literals. Says whether that was done.
+fn add_three(alloc: &mut ClauseAlloc<Global>, db: &mut ClauseDb<Global>) -> bool
+    requires { Tracks db.old alloc.old }
+    ensures { Tracks db.new alloc.new }
+{
+    let first = add(alloc, db, header(Tier::Irred, 0), 3);
+    let second = add(alloc, db, header(Tier::Irred, 0), 5);
+    let third = add(alloc, db, header(Tier::Irred, 0), 4);
+    first & second & third
+}
+
+/// How the clauses lie once the garbage is collected where that is due; None where memory ran out.
+fn collected(alloc: &mut ClauseAlloc<Global>, db: &mut ClauseDb<Global>) -> Option<Layout>
+    requires { Tracks db.old alloc.old }
+    ensures { Tracks db.new alloc.new }
+{
+    let done = collect(alloc, db).ok()?;
+    Some(layout(alloc, done))
+}
+
+/// Whether three clauses are added, and how they lie, after the second was shortened and deleted, and after the first was
+/// deleted.
+fn layouts_in(
+    alloc: &mut ClauseAlloc<Global>,
+    db: &mut ClauseDb<Global>,
+) -> (bool, [Option<Layout>; 2])
+    requires { Tracks db.old alloc.old }
+{
+    let is_added = add_three(alloc, db);
+    shorten(alloc, db, 1, 3);
+    delete(alloc, db, 1);
+    let first = collected(alloc, db);
+    delete(alloc, db, 0);
+    (is_added, [first, collected(alloc, db)])
+}
+
+fn layouts(rt_alloc: Global) -> (bool, [Option<Layout>; 2]) {
     let mut alloc = ClauseAlloc::new_in(rt_alloc);
     let mut db = ClauseDb::new_in(rt_alloc);
-    add(&mut alloc, &mut db, header(Tier::Irred, 0), 3)?;
-    add(&mut alloc, &mut db, header(Tier::Irred, 0), 5)?;
-    add(&mut alloc, &mut db, header(Tier::Irred, 0), 4)?;
-    shorten(&mut alloc, &mut db, 1, 3);
-    delete(&mut alloc, &mut db, 1);
-    let done = collect(&mut alloc, &mut db).map_err(|_| StoreError::Memory)?;
-    let first = layout(&alloc, done);
-    delete(&mut alloc, &mut db, 0);
-    let done = collect(&mut alloc, &mut db).map_err(|_| StoreError::Memory)?;
-    Ok((first, layout(&alloc, done)))
+    layouts_in(&mut alloc, &mut db)
 }
 
 #[test]
-fn garbage_is_collected(rt: HostRuntime) -> Result<(), StoreError> {
-    let (first, second) = layouts(rt.alloc())?;
-    assert!(rt; first == ([Some(0), Some(6), Some(14)], 21, false));
-    assert!(rt; second == ([Some(0), None, None], 7, true));
-    Ok(())
+fn garbage_is_collected(rt: HostRuntime) {
+    let first = ([Some(0), Some(6), Some(14)], 21, false);
+    let second = ([Some(0), None, None], 7, true);
+    assert!(rt; layouts(rt.alloc()) == (true, [Some(first), Some(second)]));
 }
 
 /// Whether the clause of the index is deleted.
@@ -232,33 +284,60 @@ fn mark<A: Allocator + Copy>(alloc: &mut ClauseAlloc<A>, db: &mut ClauseDb<A>, i
     }
 }
 
-/// Which of five Local clauses of activities 5, 1, 1, 3 and 2 are deleted, the second being marked or not.
-fn reduced(rt_alloc: Global, marked: bool) -> Result<[bool; 5], StoreError> {
+/// Adds Local clauses of activities 5, 1, 1, 3 and 2. Says whether that was done.
+fn add_locals(alloc: &mut ClauseAlloc<Global>, db: &mut ClauseDb<Global>) -> bool
+    requires { Tracks db.old alloc.old }
+    ensures { Tracks db.new alloc.new }
+{
+    let first = add(alloc, db, header(Tier::Local, 5), 3);
+    let second = add(alloc, db, header(Tier::Local, 1), 3);
+    let third = add(alloc, db, header(Tier::Local, 1), 3);
+    let fourth = add(alloc, db, header(Tier::Local, 3), 3);
+    let fifth = add(alloc, db, header(Tier::Local, 2), 3);
+    first & second & third & fourth & fifth
+}
+
+/// Which of the first five clauses are deleted.
+fn are_deleted(alloc: &ClauseAlloc<Global>) -> [bool; 5]
+    requires { IsSound alloc.now }
+{
+    [
+        is_deleted(alloc, 0),
+        is_deleted(alloc, 1),
+        is_deleted(alloc, 2),
+        is_deleted(alloc, 3),
+        is_deleted(alloc, 4),
+    ]
+}
+
+/// Whether five clauses are reduced, and which of them are deleted then, the second being marked or not.
+fn reduced_in(
+    alloc: &mut ClauseAlloc<Global>,
+    db: &mut ClauseDb<Global>,
+    marked: bool,
+) -> (bool, [bool; 5])
+    requires { Tracks db.old alloc.old }
+{
+    let is_added = add_locals(alloc, db);
+    if marked {
+        mark(alloc, db, 1);
+    }
+    let is_reduced = reduce_locals(alloc, db).is_ok();
+    (is_added & is_reduced, are_deleted(alloc))
+}
+
+fn reduced(rt_alloc: Global, marked: bool) -> (bool, [bool; 5]) {
     let mut alloc = ClauseAlloc::new_in(rt_alloc);
     let mut db = ClauseDb::new_in(rt_alloc);
-    add(&mut alloc, &mut db, header(Tier::Local, 5), 3)?;
-    add(&mut alloc, &mut db, header(Tier::Local, 1), 3)?;
-    add(&mut alloc, &mut db, header(Tier::Local, 1), 3)?;
-    add(&mut alloc, &mut db, header(Tier::Local, 3), 3)?;
-    add(&mut alloc, &mut db, header(Tier::Local, 2), 3)?;
-    if marked {
-        mark(&mut alloc, &mut db, 1);
-    }
-    reduce_locals(&mut alloc, &mut db).map_err(|_| StoreError::Memory)?;
-    Ok([
-        is_deleted(&alloc, 0),
-        is_deleted(&alloc, 1),
-        is_deleted(&alloc, 2),
-        is_deleted(&alloc, 3),
-        is_deleted(&alloc, 4),
-    ])
+    reduced_in(&mut alloc, &mut db, marked)
 }
 
 #[test]
-fn half_of_the_locals_are_deleted(rt: HostRuntime) -> Result<(), StoreError> {
-    assert!(rt; reduced(rt.alloc(), false)? == [false, true, true, false, false]);
-    assert!(rt; reduced(rt.alloc(), true)? == [false, false, true, false, true]);
-    Ok(())
+fn half_of_the_locals_are_deleted(rt: HostRuntime) {
+    let outcomes = [reduced(rt.alloc(), false), reduced(rt.alloc(), true)];
+    let unmarked = [false, true, true, false, false];
+    let marked = [false, false, true, false, true];
+    assert!(rt; outcomes == [(true, unmarked), (true, marked)]);
 }
 
 /// The tier of the clause of the index, and whether it is active.
@@ -272,60 +351,115 @@ fn tier_of<A: Allocator + Copy>(alloc: &ClauseAlloc<A>, index: usize) -> Option<
     Some((header.tier(), header.active()))
 }
 
-/// An active Mid clause and another one after the reduction.
-fn mids(rt_alloc: Global) -> Result<[Option<(Tier, bool)>; 2], StoreError> {
-    let mut alloc = ClauseAlloc::new_in(rt_alloc);
-    let mut db = ClauseDb::new_in(rt_alloc);
+/// Adds an active Mid clause and another one. Says whether that was done.
+fn add_mids(alloc: &mut ClauseAlloc<Global>, db: &mut ClauseDb<Global>) -> bool
+    requires { Tracks db.old alloc.old }
+    ensures { Tracks db.new alloc.new }
+{
     let mut active = header(Tier::Mid, 0);
     active.set_active(true);
-    add(&mut alloc, &mut db, active, 3)?;
-    add(&mut alloc, &mut db, header(Tier::Mid, 0), 3)?;
-    reduce_mids(&mut alloc, &mut db).map_err(|_| StoreError::Memory)?;
-    Ok([tier_of(&alloc, 0), tier_of(&alloc, 1)])
+    let first = add(alloc, db, active, 3);
+    let second = add(alloc, db, header(Tier::Mid, 0), 3);
+    first & second
+}
+
+/// Whether both clauses are reduced, and their tiers then.
+fn mids_in(
+    alloc: &mut ClauseAlloc<Global>,
+    db: &mut ClauseDb<Global>,
+) -> (bool, [Option<(Tier, bool)>; 2])
+    requires { Tracks db.old alloc.old }
+{
+    let is_added = add_mids(alloc, db);
+    let is_reduced = reduce_mids(alloc, db).is_ok();
+    (
+        is_added & is_reduced,
+        [tier_of(alloc, 0), tier_of(alloc, 1)],
+    )
+}
+
+fn mids(rt_alloc: Global) -> (bool, [Option<(Tier, bool)>; 2]) {
+    let mut alloc = ClauseAlloc::new_in(rt_alloc);
+    let mut db = ClauseDb::new_in(rt_alloc);
+    mids_in(&mut alloc, &mut db)
 }
 
 #[test]
-fn mids_that_are_not_active_become_local(rt: HostRuntime) -> Result<(), StoreError> {
-    let [first, second] = mids(rt.alloc())?;
-    assert!(rt; first == Some((Tier::Mid, false)));
-    assert!(rt; second == Some((Tier::Local, false)));
-    Ok(())
+fn mids_that_are_not_active_become_local(rt: HostRuntime) {
+    let wanted = [Some((Tier::Mid, false)), Some((Tier::Local, false))];
+    assert!(rt; mids(rt.alloc()) == (true, wanted));
+}
+
+/// Adds a clause of three literals. Says whether that was done.
+fn add_local(alloc: &mut ClauseAlloc<Global>) -> bool
+    requires { IsSound alloc.old }
+    ensures { IsSound alloc.new }
+{
+    match alloc.add_clause(header(Tier::Local, 0), &lits![1, 2, 3]) {
+        Ok(_) => true,
+        Err(_) => false,
+    }
+}
+
+/// Bumps the only clause.
+fn bump(alloc: &mut ClauseAlloc<Global>, activity: &mut ClauseActivity)
+    requires { IsSound alloc.old }
+    ensures { IsSound alloc.new }
+{
+    if alloc.len() == 1 {
+        let cref = alloc.place(0);
+        bump_clause_activity(alloc, activity, cref);
+    }
+}
+
+/// Sets the activity of the only clause.
+fn set_activity(alloc: &mut ClauseAlloc<Global>, activity: u32)
+    requires { IsSound alloc.old }
+    ensures { IsSound alloc.new }
+{
+    if alloc.len() == 1 {
+        let cref = alloc.place(0);
+        let mut header = alloc.header(cref);
+        header.set_activity(activity);
+        alloc.set_header(cref, header);
+    }
+}
+
+/// The activity of the only clause.
+fn activity_of(alloc: &ClauseAlloc<Global>) -> Option<u32>
+    requires { IsSound alloc.now }
+{
+    if alloc.len() == 1 {
+        Some(alloc.header(alloc.place(0)).activity())
+    } else {
+        None
+    }
 }
 
 /// The activity of a clause after a bump and after a bump that reaches the limit, and the increment then.
-fn activities(rt_alloc: Global) -> Result<(u32, u32, u32), StoreError> {
-    let mut alloc = ClauseAlloc::new_in(rt_alloc);
-    let lits = [Lit::from_code(0), Lit::from_code(2), Lit::from_code(4)];
-    alloc.add_clause(header(Tier::Local, 0), &lits)?;
+fn activities_in(alloc: &mut ClauseAlloc<Global>) -> ([Option<u32>; 2], u32)
+    requires { IsSound alloc.old }
+{
     let mut activity = ClauseActivity::new();
-    let mut seen = (0, 0, 0);
-    if alloc.len() == 1 {
-        let cref = alloc.place(0);
-        bump_clause_activity(&mut alloc, &mut activity, cref);
-    }
-    if alloc.len() == 1 {
-        let cref = alloc.place(0);
-        seen.0 = alloc.header(cref).activity();
-        let mut header = alloc.header(cref);
-        header.set_activity((1 << 28) - 1);
-        alloc.set_header(cref, header);
-    }
-    if alloc.len() == 1 {
-        let cref = alloc.place(0);
-        bump_clause_activity(&mut alloc, &mut activity, cref);
-    }
-    if alloc.len() == 1 {
-        seen.1 = alloc.header(alloc.place(0)).activity();
-    }
-    decay_clause_activities(&mut alloc, &mut activity);
-    seen.2 = activity.increment();
-    Ok(seen)
+    bump(alloc, &mut activity);
+    let first = activity_of(alloc);
+    set_activity(alloc, (1 << 28) - 1);
+    bump(alloc, &mut activity);
+    let second = activity_of(alloc);
+    decay_clause_activities(alloc, &mut activity);
+    ([first, second], activity.increment())
+}
+
+/// The same of the only clause, and whether that was added.
+fn activities(rt_alloc: Global) -> (bool, ([Option<u32>; 2], u32)) {
+    let mut alloc = ClauseAlloc::new_in(rt_alloc);
+    let is_added = add_local(&mut alloc);
+    (is_added, activities_in(&mut alloc))
 }
 
 #[test]
-fn clause_activities_are_shifted(rt: HostRuntime) -> Result<(), StoreError> {
-    assert!(rt; activities(rt.alloc())? == (1024, 4096, 1025));
-    Ok(())
+fn clause_activities_are_shifted(rt: HostRuntime) {
+    assert!(rt; activities(rt.alloc()) == (true, ([Some(1024), Some(4096)], 1025)));
 }
 
 /// How many clauses are not deleted.
@@ -339,21 +473,29 @@ fn count_left<A: Allocator + Copy>(alloc: &ClauseAlloc<A>) -> usize
     left
 }
 
-/// How many clauses are left where memory for so many times 16 bytes is there, and whether all were added.
+/// Adds two clauses, deletes the first and collects the garbage. How many clauses are left, how many were added, and
+/// whether the collection was not refused.
+fn added_in<A: Allocator + Copy>(
+    alloc: &mut ClauseAlloc<A>,
+    db: &mut ClauseDb<A>,
+) -> (usize, usize, bool)
+    requires { Tracks db.old alloc.old }
+{
+    let first = add(alloc, db, header(Tier::Local, 0), 3);
+    let second = add(alloc, db, header(Tier::Mid, 0), 5);
+    delete(alloc, db, 0);
+    let is_collected = collect(alloc, db).is_ok();
+    let added = usize::from(first) + usize::from(second);
+    (count_left(alloc), added, is_collected)
+}
+
+/// The same where memory for so many times 16 bytes is there.
 fn added_with(rt_alloc: Global, room: u8) -> Result<(usize, usize, bool), AllocError> {
     let heap = LocalHeap::new(rt_alloc, 16 * usize::from(room))?;
     let mut alloc = ClauseAlloc::new_in(&heap);
     let mut db = ClauseDb::new_in(&heap);
-    let mut added = 0;
-    if add(&mut alloc, &mut db, header(Tier::Local, 0), 3).is_ok() {
-        added += 1;
-    }
-    if add(&mut alloc, &mut db, header(Tier::Mid, 0), 5).is_ok() {
-        added += 1;
-    }
-    delete(&mut alloc, &mut db, 0);
-    let collected = collect(&mut alloc, &mut db).is_ok();
-    Ok((count_left(&alloc), added, collected))
+    let told = added_in(&mut alloc, &mut db);
+    Ok(told)
 }
 
 #[test]
@@ -362,10 +504,7 @@ fn each_growth_of_the_store_may_be_refused(rt: HostRuntime) -> Result<(), AllocE
     let mut all = false;
     for room in 0..60 {
         let (left, added, collected) = added_with(rt.alloc(), room)?;
-        assert!(rt;
-            left == if added == 0 { 0 } else { added - 1 },
-            "with {room}"
-        );
+        assert!(rt; left == added.saturating_sub(1), "with {room}");
         refused = refused || added < 2 || !collected;
         all = all || (added == 2 && collected);
     }

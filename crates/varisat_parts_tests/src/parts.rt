@@ -1,12 +1,15 @@
 //! Each call of the parts, with ample memory and with little.
-ghost use Rattle.std.specs.Prelude.{◌≡◌, ◌<◌, ◌∷◌, [], length, OnOk};
+ghost use Rattle.std.specs.Prelude.{◌≡◌, ◌<◌, ◌≤◌, ◌∷◌, [], length, OnOk};
 ghost use Rattle.varisat_theory.specs.Literals.{variable_of};
+ghost use Rattle.varisat_clause.specs.Stored.{IsPlace, literals_at};
+ghost use Rattle.varisat_clause.specs.Stores.{IsSound};
+ghost use Rattle.varisat_clause.specs.Collected.{live_clauses};
 ghost use Rattle.varisat_prop.specs.Parts.{no_values, empty_trail};
 
 use linked_list_allocator::LocalHeap;
 use std::alloc::{AllocError, Allocator, Global};
 use varisat_literals::{Lit, lit, lits, var};
-use varisat_prop::clause::{ClauseAlloc, ClauseHeader, ClauseRef};
+use varisat_prop::clause::{ClauseAlloc, ClauseHeader, ClauseRef, StoreError};
 use varisat_prop::prop::{Assignment, Conflict, ImplGraph, Reason, Trail, enqueue_assignment};
 
 /// The literal's value, and whether it is true, false and without a value.
@@ -138,7 +141,7 @@ fn keeps_nodes(graph: &mut ImplGraph<Global>) -> Result<bool, AllocError>
     let is_unit = graph.reason(var!(2)).is_unit();
     let began = (graph.level(var!(2)), graph.depth(var!(2)));
     let was_removed = graph.is_removed_unit(var!(2));
-    graph.update_reason(var!(2), Reason::Long(ClauseRef::from_place(4)));
+    graph.update_reason(var!(2), Reason::Long(ClauseRef::from_offset(4)));
     let reason = *graph.reason(var!(2));
     graph.update_removed_unit(var!(2));
     let removed = [
@@ -149,7 +152,7 @@ fn keeps_nodes(graph: &mut ImplGraph<Global>) -> Result<bool, AllocError>
         is_unit
             && began == (0, 0)
             && !was_removed
-            && reason == Reason::Long(ClauseRef::from_place(4))
+            && reason == Reason::Long(ClauseRef::from_offset(4))
             && removed == [false, true],
     )
 }
@@ -170,42 +173,38 @@ fn is_turned(literals: &mut [Lit]) -> bool {
 }
 
 /// Whether a clause of two literals is named by them, as a reason and as a conflict.
-fn is_pair_named(clauses: &ClauseAlloc<Global>) -> bool {
+fn is_pair_named(clauses: &ClauseAlloc<Global>) -> bool
+    requires { IsSound clauses.now }
+{
     Reason::Binary([lit!(-2)]).lits(clauses) == lits![-2].as_slice()
         && Conflict::Binary([lit!(1), lit!(-2)]).lits(clauses) == lits![1, -2].as_slice()
 }
 
-/// Whether two clauses are kept with their headers, and their literals can be put into another order.
-fn keeps_clauses(clauses: &mut ClauseAlloc<Global>) -> Result<bool, AllocError>
-    requires { clauses.old ≡ [] }
+/// Whether a clause of the store is named by its place, as a reason and as a conflict.
+fn is_long_named(clauses: &ClauseAlloc<Global>, cref: ClauseRef) -> bool
+    requires sound { IsSound clauses.now }
+    requires place { IsPlace (live_clauses clauses.now) cref }
+    requires long { 3 ≤ length (literals_at (live_clauses clauses.now) cref) }
 {
-    let first = clauses.add_clause(ClauseHeader::new(), &lits![-1, 3])?;
-    let mut header = ClauseHeader::new();
-    header.set_redundant(true);
-    let second = clauses.add_clause(header, &lits![1, -2, 3])?;
-    let redundant = [
-        clauses.header(first).redundant(),
-        clauses.header(second).redundant(),
-    ];
-    let is_listed = clauses.clause(second) == lits![1, -2, 3].as_slice();
-    let length = Conflict::Long(second).lits(clauses).len();
-    let is_named = is_pair_named(clauses);
-    let count = clauses.len();
-    let is_turned = is_turned(clauses.lits_mut(second));
-    Ok(
-        redundant == [false, true]
-            && is_listed
-            && length == 3
-            && is_named
-            && is_turned
-            && [count, clauses.len()] == [2, 2],
-    )
+    Reason::Long(cref).lits(clauses) == lits![-2, 3].as_slice()
+        && Conflict::Long(cref).lits(clauses) == lits![1, -2, 3].as_slice()
+}
+
+/// Whether clauses are named, and the literals of one can be put into another order.
+fn names_clauses(clauses: &mut ClauseAlloc<Global>) -> Result<bool, StoreError>
+    requires { IsSound clauses.old }
+{
+    clauses.add_clause(ClauseHeader::new(), &lits![-1, 3, 2])?;
+    let cref = clauses.add_clause(ClauseHeader::new(), &lits![1, -2, 3])?;
+    let is_named = is_pair_named(clauses) && is_long_named(clauses, cref);
+    let is_turned = is_turned(clauses.lits_mut(cref));
+    Ok(is_named && is_turned)
 }
 
 #[test]
 fn clauses(rt: HostRuntime) {
     let mut clauses = ClauseAlloc::new_in(rt.alloc());
-    assert!(rt; matches!(keeps_clauses(&mut clauses), Ok(true)));
+    assert!(rt; matches!(names_clauses(&mut clauses), Ok(true)));
 }
 
 /// Makes a literal true, and says whether it is noted.

@@ -9,18 +9,18 @@ use varisat_prop::clause::ClauseRef;
 use varisat_prop::prop::{Watch, Watchlists};
 
 /// A watch on the clause at the place.
-fn watch_on(place: usize, blocking: Lit) -> Watch {
+fn watch_on(place: u32, blocking: Lit) -> Watch {
     Watch {
-        cref: ClauseRef::from_place(place),
+        cref: ClauseRef::from_offset(place),
         blocking,
     }
 }
 
 /// Whether the watches are on the clauses at these places, with these blocking literals.
-fn are(watches: &[Watch], wanted: &[(usize, Lit)]) -> bool {
+fn are(watches: &[Watch], wanted: &[(u32, Lit)]) -> bool {
     for (watch, pair) in watches.iter().zip(wanted) {
         let (place, blocking) = *pair;
-        if watch.cref != ClauseRef::from_place(place) || watch.blocking != blocking {
+        if watch.cref != ClauseRef::from_offset(place) || watch.blocking != blocking {
             return false;
         }
     }
@@ -28,7 +28,7 @@ fn are(watches: &[Watch], wanted: &[(usize, Lit)]) -> bool {
 }
 
 /// Whether the literal has these watches.
-fn has<A: Allocator + Copy>(lists: &mut Watchlists<A>, lit: Lit, wanted: &[(usize, Lit)]) -> bool {
+fn has<A: Allocator + Copy>(lists: &mut Watchlists<A>, lit: Lit, wanted: &[(u32, Lit)]) -> bool {
     if lists.len() <= lit.code() {
         return false;
     }
@@ -38,7 +38,7 @@ fn has<A: Allocator + Copy>(lists: &mut Watchlists<A>, lit: Lit, wanted: &[(usiz
 /// Watches the clause, where there are lists for its literals.
 fn watch<A: Allocator + Copy>(
     lists: &mut Watchlists<A>,
-    place: usize,
+    place: u32,
     clause: &[Lit],
 ) -> Result<(), AllocError>
     requires { 2 ≤ length clause.now }
@@ -48,7 +48,7 @@ fn watch<A: Allocator + Copy>(
             return Ok(());
         }
     }
-    lists.watch_clause(ClauseRef::from_place(place), clause)?;
+    lists.watch_clause(ClauseRef::from_offset(place), clause)?;
     Ok(())
 }
 

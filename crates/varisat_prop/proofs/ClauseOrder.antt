@@ -3,12 +3,12 @@ use Rattle.std.proofs.Common.{◌≡◌, ℕ, ◌<◌, ◌≤◌, List, [], ◌�
 use Rattle.varisat_theory.specs.Membership.{◌∈◌, IsDistinct}
 use Rattle.varisat_theory.specs.Literals.{Literal, Clause, variable_of}
 use Rattle.varisat_prop.specs.declared.prop.graph.Reason.TheVariants as reason
-use Rattle.varisat_prop.specs.Stored.{StoredClause, literals_of, IsPlace, with_literals, AreReordered}
+use Rattle.varisat_clause.specs.Stored.{StoredClause, literals_of, IsPlace, with_literals, AreReordered}
 use Rattle.varisat_theory.proofs.Members.{∈-append_left, ∈-append_right, ∈-append_cases}
 use Rattle.varisat_prop.specs.View.{View, pairs_from, kept, IsTrueIn, clause_at, node_at, Implies, IsReason, WellFormed, ViewFits, Grows}
 use Rattle.varisat_prop.specs.Looks.{Propagates}
 use Rattle.varisat_prop.specs.Watches.{at, IsRearranged}
-use Rattle.varisat_prop.proofs.AllocClauses.{same-trans, reordered-old, reordered-new, reordered-place, reordered-rising, with-reordered, with-other, with-cases, with-own}
+use Rattle.varisat_clause.proofs.StoredClauses.{same-trans, reordered-old, reordered-new, reordered-place, reordered-rising, with-reordered, with-other, with-cases, with-own}
 use Rattle.varisat_prop.proofs.PropagateSteps.{propagates-refl}
 use Rattle.varisat_prop.proofs.ViewGrowth.{append-nil}
 use Rattle.varisat_prop.proofs.WellFormedChanges.{well-with, stored-kept, kept-here}

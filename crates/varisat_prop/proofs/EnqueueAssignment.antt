@@ -8,11 +8,11 @@ use Rattle.varisat_theory.proofs.Members.{∈-append_left, ∈-append_right}
 use Rattle.varisat_literals.specs.Numbers.{polarity_of}
 use Rattle.varisat_prop.specs.declared.prop.graph.Reason.{Reason}
 use Rattle.varisat_prop.specs.declared.prop.graph.Reason.TheVariants as reason
-use Rattle.varisat_prop.specs.Stored.{IsPlace}
+use Rattle.varisat_clause.specs.Stored.{IsPlace}
 use Rattle.varisat_prop.specs.View.{View, implied_by, IsTrueIn, clause_at, literal_at, decision_at, node_at, Implies, IsReason, WellFormed, IsFixed, ViewFits, Grows}
 use Rattle.varisat_prop.specs.Changes.{enqueued, decided_on}
 use Rattle.varisat_prop.proofs.TrailExtend.{ext, ext-length, literal-old, literal-new, node-old, node-new, node-other, fresh, true-old, each-place, place-cases, Levels, ext-well, get_or-last}
-use Rattle.varisat_prop.proofs.AllocClauses.{reordered-refl}
+use Rattle.varisat_clause.proofs.StoredClauses.{reordered-refl}
 
 -- why a literal may be enqueued without a decision
 abbrev pub MayImply : View → Literal → Reason → Type 0

@@ -6,7 +6,7 @@ use Rattle.varisat_theory.specs.Membership.{◌∈◌, SameSet}
 use Rattle.varisat_theory.specs.Literals.{Literal, Clause, opposite, variable_of}
 use Rattle.varisat_theory.proofs.Members.{∈-append_left, ∈-append_right, ∈-append_cases}
 use Rattle.varisat_theory.proofs.Values.{opposite_twice}
-use Rattle.varisat_prop.specs.Stored.{literals_of}
+use Rattle.varisat_clause.specs.Stored.{literals_of}
 use Rattle.varisat_prop.specs.View.{View, pairs_with, pairs_from, kept, implied_by, WellFormed}
 use Rattle.varisat_prop.proofs.LiteralValues.{variable-opposite}
 

@@ -1,5 +1,3 @@
-pub mod AllocClauses
-pub mod AllocEntries
 pub mod BinaryPropagated
 pub mod ClauseOrder
 pub mod DistinctPlaces

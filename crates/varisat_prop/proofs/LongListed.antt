@@ -12,8 +12,8 @@ use Rattle.varisat_prop.proofs.ViewGrowth.{grows-longer, literal-stays}
 use Rattle.varisat_prop.proofs.PropagateSteps.{propagates-trans}
 use Rattle.varisat_prop.specs.declared.prop.watch.Watch.{Watch}
 use Rattle.varisat_prop.specs.declared.prop.long.Visit.TheVariants as visit
-use Rattle.varisat_prop.specs.Stored.{IsPlace}
-use Rattle.varisat_prop.proofs.AllocClauses.{reordered-at, reordered-place, reordered-place-back}
+use Rattle.varisat_clause.specs.Stored.{IsPlace}
+use Rattle.varisat_clause.proofs.StoredClauses.{reordered-at, reordered-place, reordered-place-back}
 use Rattle.varisat_prop.specs.Watches.{Watches, list_of, with_list, at, HasWatch, IsSatisfied, IsSettledTo, IsWatched}
 use Rattle.varisat_prop.specs.Visits.{IsVisited, IsVisit}
 use Rattle.varisat_prop.proofs.WatchSettled.{IsSettledBut, settled-next, implied-longer, propagates-goes-on}

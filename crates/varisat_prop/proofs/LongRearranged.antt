@@ -1,5 +1,5 @@
 -- A clause's literals in another order.
-use Rattle.std.proofs.Common.{◌≡◌, ◌≢◌, ℕ, ◌<◌, ◌++◌, [], ◌∷◌, ◌⊎◌, ⊎_elim, length, get_or, take, drop, refl, sym, ap, ◌∙◌, subst, arith}
+use Rattle.std.proofs.Common.{◌≡◌, ◌≢◌, ℕ, ◌<◌, ◌⊎◌, ⊎_elim, length, get_or, refl, sym, ap, ◌∙◌, subst, arith}
 use Rattle.std.specs.List.{swap}
 use Rattle.std.proofs.lemmas.List.Edits.{Swapped, swapped_from_swap, length-swap}
 use Rattle.varisat_theory.specs.Membership.{◌∈◌, ◌⊆◌, IsDistinct}
@@ -84,11 +84,3 @@ swap-rearranged c d a b p q e =
 -- the literals after a swap, by places
 pub swap-at : (c d : Clause) (a b : ℕ) → a < length c → b < length c → d ≡ swap c a b → (at d a ≡ at c b) × (at d b ≡ at c a) × ((m : ℕ) → (m ≡ a → ⊥) → (m ≡ b → ⊥) → at d m ≡ at c m)
 swap-at c d a b p q e = let s = swapped_from_swap c d a b 0 p q e in (s.0, s.1, s.2)
-
--- literals written over a clause of the same length
-pub written : (c ws : Clause) → length ws ≡ length c → take (length c) (ws ++ drop (length ws) c) ≡ ws
-written c ws e = rw (sym e) (keep ws (drop (length ws) c))
-  where
-    keep : (xs ys : Clause) → take (length xs) (xs ++ ys) ≡ xs
-    keep [] ys = refl
-    keep (x ∷ xs) ys = ap (λ zs. x ∷ zs) (keep xs ys)

@@ -1,5 +1,5 @@
 -- What a visit of a watch keeps, by what it finds.
-use Rattle.std.proofs.Common.{◌≡◌, ◌≢◌, ℕ, suc, ◌<◌, ◌≤◌, ◌*◌, ◌++◌, List, [], ◌∷◌, length, get_or, None, ◌⊎◌, inl, inr, ⊎_elim, refl, sym, ap, ◌∙◌, subst, arith, get_or-set_same, get_or-set_other, length-set, length-append}
+use Rattle.std.proofs.Common.{◌≡◌, ◌≢◌, ℕ, suc, ◌<◌, ◌≤◌, ◌*◌, ◌++◌, Bool, List, [], ◌∷◌, length, get_or, None, ◌⊎◌, inl, inr, ⊎_elim, refl, sym, ap, ◌∙◌, subst, arith, get_or-set_same, get_or-set_other, length-set, length-append}
 use Rattle.std.proofs.lemmas.List.{get_or_append_left}
 use Rattle.varisat_theory.specs.Membership.{◌∈◌}
 use Rattle.varisat_theory.specs.Literals.{Literal, Clause, opposite, variable_of}
@@ -24,8 +24,11 @@ use Rattle.varisat_prop.specs.declared.prop.long.Visit.{Visit}
 use Rattle.varisat_prop.specs.declared.prop.long.Visit.TheVariants as visit
 use Rattle.varisat_prop.specs.Watches.{Watches, list_of, with_list, at, HasWatch, IsSatisfied, IsRearranged}
 use Rattle.varisat_prop.specs.Visits.{IsPair, IsFound, AddsWatches, IsVisited, IsVisit}
-use Rattle.varisat_prop.specs.Stored.{StoredClause, IsPlace, literals_at, with_literals}
-use Rattle.varisat_prop.proofs.AllocClauses.{reordered-place, with-reordered, with-same, with-other}
+use Rattle.varisat_clause.specs.Stored.{StoredClause, IsPlace, literals_at, with_literals}
+use Rattle.varisat_clause.specs.Stores.{Store, IsSound, is_sound}
+use Rattle.varisat_clause.specs.Collected.{live_clauses}
+use Rattle.varisat_clause.proofs.StoreSound.{sound-is}
+use Rattle.varisat_clause.proofs.StoredClauses.{reordered-place, with-reordered, with-same, with-other}
 use Rattle.varisat_prop.proofs.WatchKept.{adds-none}
 use Rattle.varisat_prop.proofs.WatchSettled.{Lengthens, settled-longer, settled-reordered, two}
 use Rattle.varisat_prop.proofs.ClauseOrder.{reordered, changed}
@@ -233,12 +236,16 @@ unfolding opposite
 listed y n h = omega (arith, h)
 
 -- the same for the clauses before and after the code ran
-module _ (s : View) (W : Watches) (i : ℕ) (P : List StoredClause) (l m : Literal) (w : WellFormed s) (a : IsPlace s.clauses i) (tr : IsTrueIn s l) (e : P ≡ with_literals s.clauses i (literals_at P i)) (g : m ≡ opposite l) where
+module _ (s : View) (W : Watches) (i : ℕ) (store : Store) (l m : Literal) (w : WellFormed s) (a : IsPlace s.clauses i) (tr : IsTrueIn s l) (ok : IsSound store) (e : live_clauses store ≡ with_literals s.clauses i (literals_at (live_clauses store) i)) (g : m ≡ opposite l) where
   abbrev p : View
-  p = record s { clauses = P }
+  p = record s { sound = is_sound store; clauses = live_clauses store }
 
   abbrev b : Clause
-  b = literals_at P i
+  b = literals_at (live_clauses store) i
+
+  -- only the order of the clause's literals is another
+  is-reordered : p ≡ reordered s i b
+  is-reordered = ap (λ (x : Bool). record s { sound = x; clauses = live_clauses store }) (sound-is store ok ∙ sym w.sound) ∙ ap (λ (x : List StoredClause). record s { clauses = x }) e
 
   abbrev FoundBy : Found → Type 0
   FoundBy o = IsFound s.values (clause_at s i) b m o
@@ -247,7 +254,7 @@ module _ (s : View) (W : Watches) (i : ℕ) (P : List StoredClause) (l m : Liter
   turn o h = subst (λ x. IsFound s.values (clause_at s i) b x o) g h
 
   back : (V : Watches) (v : Visit) → IsVisited s (reordered s i b) W V i × IsVisit (reordered s i b) l i v → IsVisited s p W V i × IsVisit p l i v
-  back V v h = subst (λ x. IsVisited s (record s { clauses = x }) W V i × IsVisit (record s { clauses = x }) l i v) (sym e) h
+  back V v h = subst (λ x. IsVisited s x W V i × IsVisit x l i v) (sym is-reordered) h
 
   pub code-stale : FoundBy found.Stale → IsVisited s p W W i × IsVisit p l i visit.Dropped
   code-stale h = back W visit.Dropped (found-stale s W i b l w a tr (turn found.Stale h))
@@ -282,5 +289,5 @@ module _ (s : View) (W : Watches) (i : ℕ) (P : List StoredClause) (l m : Liter
   pub code-implied : (x : Literal) (t : View) → FoundBy (found.Implied x) → t ≡ enqueued p x (reason.Long i) → IsVisited s t W W i × IsVisit t l i (visit.Keep x)
   code-implied x t h f =
       subst (λ y. IsVisited s y W W i × IsVisit y l i (visit.Keep x)) (sym f)
-      (subst (λ y. IsVisited s (enqueued (record s { clauses = y }) x (reason.Long i)) W W i × IsVisit (enqueued (record s { clauses = y }) x (reason.Long i)) l i (visit.Keep x)) (sym e)
+      (subst (λ y. IsVisited s (enqueued y x (reason.Long i)) W W i × IsVisit (enqueued y x (reason.Long i)) l i (visit.Keep x)) (sym is-reordered)
       (found-implied s W i b l w a tr x (turn (found.Implied x) h)))

@@ -9,7 +9,7 @@ use Rattle.varisat_theory.proofs.Members.{equal_or_not, ∈-append_left, ∈-app
 use Rattle.varisat_theory.proofs.Values.{opposite_twice}
 use Rattle.varisat_prop.specs.declared.prop.graph.Reason.{Reason}
 use Rattle.varisat_prop.specs.declared.prop.graph.Reason.TheVariants as reason
-use Rattle.varisat_prop.specs.Stored.{literals_of}
+use Rattle.varisat_clause.specs.Stored.{literals_of}
 use Rattle.varisat_prop.specs.View.{View, pairs_with, pairs_from, kept, clause_at, literal_at, node_at, decision_at, Implies, IsReason, WellFormed}
 use Rattle.varisat_prop.specs.Changes.{enqueued}
 use Rattle.varisat_prop.specs.Pairs.{with_implied, with_pair, Inserts, AddsPair}
@@ -178,6 +178,7 @@ module _ (s : View) (a b : Literal) (first : opposite a < length s.binary) (seco
   well-pair w n i j =
       let g = adds-pair s.binary a b first second in
       record {
+        sound = w.sound;
         nodes_are = w.nodes_are;
         small = w.small;
         places = w.places;

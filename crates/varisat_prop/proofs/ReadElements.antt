@@ -1,6 +1,8 @@
 -- An element of a list that was read.
-use Rattle.std.proofs.Common.{◌≡◌, ℕ, zero, suc, ◌<◌, List, [], ◌∷◌, length, inl, inr, get_or, arith}
+use Rattle.std.proofs.Common.{◌≡◌, ℕ, zero, suc, ◌-◌, ◌<◌, ◌≤◌, List, [], ◌∷◌, length, take, drop, inl, inr, get_or, sym, ap, ◌∙◌, subst, arith}
+use Rattle.std.proofs.Math.Seq.{take-length}
 use Rattle.varisat_theory.specs.Membership.{◌∈◌}
+use Rattle.varisat_prop.specs.Changes.{others_of}
 
 pub element : (xs : List ℕ) (i v : ℕ) → i < length xs → v ≡ get_or xs i v → v ≡ get_or xs i 0
 element [] i v h e = absurd (omega arith)
@@ -11,3 +13,8 @@ pub item-∈ : {X : Type 0} (xs : List X) (i : ℕ) (v : X) → i < length xs �
 item-∈ [] i v h e = absurd (omega (arith, h))
 item-∈ (x ∷ xs) zero v h e = inl e
 item-∈ (x ∷ xs) (suc i) v h e = inr (item-∈ xs i v (omega (arith, h)) e)
+
+-- all but the first
+pub others-read : (c r : List ℕ) → r ≡ c → 1 ≤ length c → take (length r - 1) (drop 1 r) ≡ others_of c
+others-read [] r e h = absurd (omega (arith, h))
+others-read (l ∷ c) r e h = subst (λ (x : List ℕ). take (length x - 1) (drop 1 x) ≡ c) (sym e) (let n : suc (length c) - 1 ≡ length c = omega arith in ap (λ (k : ℕ). take k c) n ∙ take-length c)

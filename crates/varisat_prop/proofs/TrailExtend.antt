@@ -88,6 +88,7 @@ module _ (s : View) (l : Literal) (r : Reason) (ds : List ℕ) (w : WellFormed s
 
   pub ext-well : Levels → IsReason ext (length s.trail) r → WellFormed ext
   ext-well d q = record {
+    sound = w.sound;
     nodes_are = length-set s.nodes (variable_of l) new_node ∙ w.nodes_are ∙ sym (length-set s.values (variable_of l) (Some (polarity_of l)));
     small = let e = length-set s.values (variable_of l) (Some (polarity_of l)) in let f = w.small in omega (arith, e, f);
     in_range = λ c h m i. let e = length-set s.values (variable_of l) (Some (polarity_of l)) in let f = w.in_range c h m i in omega (arith, e, f);

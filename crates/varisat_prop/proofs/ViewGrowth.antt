@@ -3,7 +3,7 @@ use Rattle.std.proofs.Common.{◌≡◌, ℕ, zero, suc, ◌<◌, ◌≤◌, Boo
 use Rattle.std.proofs.lemmas.List.{get_or_append_left, map-append}
 use Rattle.varisat_theory.specs.Literals.{Literal}
 use Rattle.varisat_prop.specs.View.{View, literal_at, node_of, is_implied, kinds, Grows}
-use Rattle.varisat_prop.proofs.AllocClauses.{reordered-refl, reordered-trans}
+use Rattle.varisat_clause.proofs.StoredClauses.{reordered-refl, reordered-trans}
 
 pub append-nil : {X : Type 0} (xs : List X) → xs ++ [] ≡ xs
 append-nil [] = refl

@@ -9,13 +9,13 @@ use Rattle.varisat_theory.proofs.Members.{equal_or_not, ∈-append_left, ∈-app
 use Rattle.varisat_literals.specs.Numbers.{polarity_of}
 use Rattle.varisat_prop.specs.declared.prop.graph.Reason.{Reason}
 use Rattle.varisat_prop.specs.declared.prop.graph.Reason.TheVariants as reason
-use Rattle.varisat_prop.specs.Stored.{StoredClause, IsPlace, literals_at}
+use Rattle.varisat_clause.specs.Stored.{StoredClause, IsPlace, literals_at}
 use Rattle.varisat_prop.specs.View.{View, clause_at, literal_at, decision_at, WellFormed}
 use Rattle.varisat_prop.specs.Changes.{enqueued, decided_on}
 use Rattle.varisat_prop.specs.declared.prop.watch.Watch.{Watch}
 use Rattle.varisat_prop.specs.Watches.{Watches, list_of, with_list, at, HasWatch, IsWatching, IsCovered, IsSettledTo, IsImpliedTo, IsPropagated}
 use Rattle.varisat_prop.specs.Visits.{AddsWatches, WatchesClause}
-use Rattle.varisat_prop.proofs.AllocClauses.{place-cases-more, place-more, place-last, stored-more, stored-last}
+use Rattle.varisat_clause.proofs.StoredClauses.{place-cases-more, place-more, place-last, stored-more, stored-last}
 use Rattle.varisat_prop.proofs.TrailExtend.{get_or-last}
 use Rattle.varisat_prop.proofs.WatchSettled.{Lengthens, lengthens-goes-on, settled-longer, settled-back, implied-longer, implied-back, two}
 

@@ -1,10 +1,8 @@
 -- Lists that are made anew, and lists of more variables.
-use Rattle.std.proofs.Common.{◌≡◌, ℕ, zero, suc, true, ◌+◌, ◌<◌, ◌≤◌, ◌++◌, List, [], ◌∷◌, length, get_or, replicate, ⊎_elim, refl, sym, ap, ◌∙◌, subst, arith, append_assoc}
-use Rattle.std.proofs.lemmas.Bool.{cases_lt}
+use Rattle.std.proofs.Common.{◌≡◌, ℕ, zero, suc, true, ◌+◌, ◌<◌, ◌++◌, List, [], ◌∷◌, map, get_or, replicate, ◌⊎◌, inl, inr, ⊎_elim, refl, sym, ap, ◌∙◌, subst, arith, append_assoc}
 use Rattle.varisat_theory.specs.Membership.{◌∈◌}
 use Rattle.varisat_theory.specs.Literals.{Literal, opposite}
-use Rattle.varisat_theory.proofs.Places.{place_in}
-use Rattle.varisat_prop.specs.Stored.{StoredClause, IsPlace, no_clause, literals_at, AreNumbered}
+use Rattle.varisat_clause.specs.Stored.{StoredClause, IsPlace, literals_at}
 use Rattle.varisat_prop.specs.declared.prop.watch.Watch.{Watch}
 use Rattle.varisat_prop.specs.Watches.{Watches, list_of, at, HasWatch, IsWatching}
 use Rattle.varisat_prop.specs.Visits.{WatchesClause}
@@ -26,34 +24,50 @@ watching-variables W n P w = record {
   watched = λ i j a b. subst (λ ws. HasWatch ws i) (sym (more-lists W.lists n (opposite (at (literals_at P i) j)))) (w.watched i j a b);
 }
 
--- As much of the lists as is made anew: the clauses at places below k are watched.
-pub record WatchingBelow (W : Watches) (P : List StoredClause) (k : ℕ) : Type 0 where
+-- As much of the lists as is made anew: all clauses are watched but those at the places that are left.
+pub record WatchingBut (W : Watches) (P : List StoredClause) (left : List ℕ) : Type 0 where
   pub known : (x : Literal) (w : Watch) → w ∈ list_of W x → IsPlace P w.cref × (w.blocking ∈ literals_at P w.cref)
-  pub watched : (i j : ℕ) → i < k → IsPlace P i → j < 2 → HasWatch (list_of W (opposite (at (literals_at P i) j))) i
+  pub watched : (i j : ℕ) → IsPlace P i → j < 2 → (i ∈ left) ⊎ HasWatch (list_of W (opposite (at (literals_at P i) j))) i
+  pub places : (i : ℕ) → i ∈ left → IsPlace P i
 
-pub below-none : (W : Watches) (P : List StoredClause) → ((x : Literal) → list_of W x ≡ []) → WatchingBelow W P 0
-below-none W P e = record {
+pub but-all : (W : Watches) (P : List StoredClause) → ((x : Literal) → list_of W x ≡ []) → WatchingBut W P (map (λ k. k.place) P)
+but-all W P e = record {
   known = λ x w h. absurd (subst (λ ws. w ∈ ws) (e x) h);
-  watched = λ i j a h b. absurd (omega (arith, a));
+  watched = λ i j (k, a, f) b. inl (subst (λ x. x ∈ map (λ k. k.place) P) f (to-places P k a));
+  places = from-places P;
 }
+  where
+    to-places : (P : List StoredClause) (k : StoredClause) → k ∈ P → k.place ∈ map (λ k. k.place) P
+    to-places [] k h = absurd h
+    to-places (c ∷ P) k (inl e) = inl (ap (λ (x : StoredClause). x.place) e)
+    to-places (c ∷ P) k (inr h) = inr (to-places P k h)
 
--- the clause at place k is watched too
-pub below-next : (W V : Watches) (P : List StoredClause) (k : ℕ) → W.enabled ≡ true → IsPlace P k → WatchingBelow W P k → WatchesClause W V k (literals_at P k) → WatchingBelow V P (k + 1)
-below-next W V P k on a w v = record {
+    from-places : (P : List StoredClause) (i : ℕ) → i ∈ map (λ k. k.place) P → IsPlace P i
+    from-places [] i h = absurd h
+    from-places (c ∷ P) i (inl e) = (c, inl refl, sym e)
+    from-places (c ∷ P) i (inr h) = let (k, a, f) = from-places P i h in (k, inr a, f)
+
+-- the clause at the first place that is left is watched too
+pub but-next : (W V : Watches) (P : List StoredClause) (k : ℕ) (left : List ℕ) → W.enabled ≡ true → WatchingBut W P (k ∷ left) → WatchesClause W V k (literals_at P k) → WatchingBut V P left
+but-next W V P k left on w v = record {
   known = λ x y h. ⊎_elim
       (λ m. w.known x y m)
-      (λ (e, b). (subst (IsPlace P) (sym e) a, subst (λ i. y.blocking ∈ literals_at P i) (sym e) b))
+      (λ (e, b). (subst (IsPlace P) (sym e) (w.places k (inl refl)), subst (λ i. y.blocking ∈ literals_at P i) (sym e) b))
       (v.adds.new x y h);
-  watched = λ i j b h l. ⊎_elim
-      (λ c. let (y, m, e) = w.watched i j c h l in (y, v.adds.old (opposite (at (literals_at P i) j)) y m, e))
-      (λ c. let e : i ≡ k = omega (arith, b, c) in subst (λ m. HasWatch (list_of V (opposite (at (literals_at P m) j))) m) (sym e) (v.pair on j l))
-      (cases_lt i k);
+  watched = λ i j h l. ⊎_elim
+      (λ c. ⊎_elim
+      (λ e. inr (subst (λ m. HasWatch (list_of V (opposite (at (literals_at P m) j))) m) (sym e) (v.pair on j l)))
+      inl
+      c)
+      (λ (y, m, e). inr (y, v.adds.old (opposite (at (literals_at P i) j)) y m, e))
+      (w.watched i j h l);
+  places = λ i h. w.places i (inr h);
 }
 
-pub below-all : (W : Watches) (P : List StoredClause) (k : ℕ) → AreNumbered P → length P ≤ k → WatchingBelow W P k → IsWatching W P
-below-all W P k n a w = record {
+pub but-none : (W : Watches) (P : List StoredClause) → WatchingBut W P [] → IsWatching W P
+but-none W P w = record {
   known = w.known;
-  watched = λ i j h b. w.watched i j (let (c, m, e) = h in let (p, l, f) = place_in c P no_clause m in let g = n p l in let o = ap (λ x. x.place) f in omega (arith, a, l, g, o, e)) h b;
+  watched = λ i j h b. ⊎_elim (λ c. absurd c) (λ c. c) (w.watched i j h b);
 }
 
 pub one-more : (W V : List (List Watch)) (n : ℕ) → V ≡ (W ++ replicate n []) ++ [] ∷ [] → V ≡ W ++ replicate (n + 1) []

@@ -2,11 +2,11 @@
 use Rattle.std.proofs.Common.{◌≡◌, ℕ, ◌<◌, ◌≤◌, List, [], ◌∷◌, ◌++◌, ⊎_elim, length, refl, sym, subst}
 use Rattle.varisat_theory.specs.Membership.{◌∈◌, IsDistinct}
 use Rattle.varisat_theory.proofs.Members.{∈-append_left, ∈-append_right, ∈-append_cases}
-use Rattle.varisat_prop.proofs.AllocClauses.{kept-at}
+use Rattle.varisat_clause.proofs.StoredClauses.{kept-at}
 use Rattle.varisat_theory.specs.Literals.{Literal, Clause, variable_of}
 use Rattle.varisat_prop.specs.declared.prop.graph.Reason.{Reason}
 use Rattle.varisat_prop.specs.declared.prop.graph.Reason.TheVariants as reason
-use Rattle.varisat_prop.specs.Stored.{StoredClause, literals_of, literals_at, IsPlace, AreRising}
+use Rattle.varisat_clause.specs.Stored.{StoredClause, literals_of, literals_at, IsPlace, AreRising}
 use Rattle.varisat_prop.specs.View.{View, pairs_from, kept, clause_at, node_at, Implies, IsReason, WellFormed}
 
 -- what a well-formed view asks of each clause that is kept
@@ -31,6 +31,7 @@ may-each s P w m c h = ⊎_elim (m c) (λ i. kept-may s w c (∈-append_right c 
 
 pub well-changed : (s : View) (P : List StoredClause) (h : ℕ) → WellFormed s → AreRising P → ((c : Clause) → c ∈ literals_of P → MayBeKept s c) → ((k : ℕ) → k < length s.trail → IsReason (record s { clauses = P; queue_head = h }) k (node_at s k).reason) → h ≤ length s.trail → WellFormed (record s { clauses = P; queue_head = h })
 well-changed s P h w r m q l = record {
+  sound = w.sound;
   nodes_are = w.nodes_are;
   small = w.small;
   places = r;

@@ -7,7 +7,7 @@ use Rattle.varisat_prop.specs.declared.prop.graph.Reason.TheVariants as reason
 use Rattle.varisat_prop.specs.declared.prop.graph.ImplNode.{ImplNode}
 use Rattle.varisat_prop.specs.declared.prop.graph.Conflict.{Conflict}
 use Rattle.varisat_prop.specs.declared.prop.graph.Conflict.TheVariants as conflict
-use Rattle.varisat_prop.specs.Stored.{StoredClause, IsPlace, literals_at}
+use Rattle.varisat_clause.specs.Stored.{StoredClause, IsPlace, literals_at}
 use Rattle.varisat_theory.specs.Membership.{◌∈◌}
 use Rattle.varisat_theory.specs.Propagation.{IsFalse}
 use Rattle.varisat_prop.specs.View.{View, implied_by}

@@ -1,26 +1,16 @@
 -- What a part ends as where some of it is lent.
-use Rattle.std.specs.Prelude.{ℕ, List, ◌++◌, length, take, drop, slice_set}
-use Rattle.std.specs.Borrow.{Lends, Fml, RattleType, MutBor, Array}
+use Rattle.std.specs.Prelude.{List, slice_set}
+use Rattle.std.specs.Borrow.{Lends, Fml, RattleType, MutBor}
 use Rattle.std.specs.declared.vec.Vec.{Vec}
 use Rattle.std.specs.contracts.vec.Vec as vec
 use Rattle.std.specs.declared.alloc.Allocator.{Ghosts}
-use Rattle.varisat_theory.specs.Literals.{Literal, Clause}
+use Rattle.varisat_theory.specs.Literals.{Literal}
 use Rattle.varisat_literals.specs.contracts.lit.Lit.{the_row as lit_row}
 use Rattle.varisat_prop.specs.contracts.binary.BinaryClauses.{the_row as binary_row}
-use Rattle.varisat_prop.specs.contracts.clause.alloc.ClauseAlloc.{the_row as alloc_row}
 use Rattle.varisat_prop.specs.contracts.prop.watch.Watch.{the_row as watch_row}
 use Rattle.varisat_prop.specs.contracts.prop.watch.Watchlists.{the_row as watchlists_row}
 use Rattle.varisat_prop.specs.declared.prop.watch.Watch.{Watch}
-use Rattle.varisat_prop.specs.Stored.{StoredClause, literals_at, with_literals}
 use Rattle.varisat_prop.specs.Watches.{Watches, with_list}
-
--- the clause with these literals written over its first ones
-abbrev pub written_over : Clause → Clause → Clause
-written_over c lits = take (length c) (lits ++ drop (length lits) c)
-
-module _ (A : RattleType) (alloc : Ghosts A.Denot) (s : MutBor (List StoredClause)) where
-  abbrev pub lends_clause : ℕ → MutBor (List ℕ) → Fml
-  lends_clause p r = Lends (alloc_row A alloc) (Array lit_row 0) s r (λ lits. with_literals s.now p (written_over (literals_at s.now p) lits))
 
 module _ (A : RattleType) (alloc : Ghosts A.Denot) (s : MutBor Watches) where
   abbrev pub lends_list : Literal → MutBor (Vec Watch A.Denot) → Fml

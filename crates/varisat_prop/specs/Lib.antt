@@ -1,5 +1,3 @@
-pub mod Stored
-pub mod Entries
 pub mod Parts
 pub mod View
 pub mod Changes

@@ -4,7 +4,9 @@ use Rattle.varisat_theory.specs.Membership.{◌∈◌, ◌⊆◌, SameSet, IsDis
 use Rattle.varisat_theory.specs.Literals.{Literal, Clause, variable_of, opposite, IsUnit}
 use Rattle.varisat_theory.specs.Propagation.{IsComplete}
 use Rattle.varisat_theory.specs.Searches.{IsTautology}
-use Rattle.varisat_prop.specs.Stored.{StoredClause, literals_of, literals_at, IsPlace, AreRising, AreReordered}
+use Rattle.varisat_clause.specs.Stored.{StoredClause, literals_of, literals_at, IsPlace, AreRising, AreReordered}
+use Rattle.varisat_clause.specs.Stores.{Store, is_sound}
+use Rattle.varisat_clause.specs.Collected.{live_clauses}
 use Rattle.varisat_prop.specs.Parts.{Values, TrailParts, IsMadeTrue}
 use Rattle.varisat_prop.specs.declared.prop.graph.Reason.{Reason}
 use Rattle.varisat_prop.specs.declared.prop.graph.Reason.TheVariants as reason
@@ -13,6 +15,8 @@ use Rattle.varisat_prop.specs.declared.prop.graph.ImplGraph.{ImplGraph}
 use Rattle.varisat_literals.specs.Numbers.{variable_limit}
 
 pub record View : Type 0 where
+  -- whether the store of clauses is sound
+  pub sound : Bool
   -- the kept clauses of three literals or more, in the order of adding
   pub clauses : List StoredClause
   -- for each literal the ones that it implies by kept clauses of two literals
@@ -29,8 +33,8 @@ pub record View : Type 0 where
   pub nodes : List ImplNode
 
 -- the view of these parts
-abbrev pub view_of : {A : Type 0} → List StoredClause → List (List Literal) → Values → TrailParts → ImplGraph A → View
-view_of clauses binary values trail graph = record { clauses = clauses; binary = binary; values = values.current; trail = trail.literals; queue_head = trail.queue_head; decisions = trail.decisions; nodes = graph.nodes.items }
+abbrev pub view_of : {A : Type 0} → Store → List (List Literal) → Values → TrailParts → ImplGraph A → View
+view_of store binary values trail graph = record { sound = is_sound store; clauses = live_clauses store; binary = binary; values = values.current; trail = trail.literals; queue_head = trail.queue_head; decisions = trail.decisions; nodes = graph.nodes.items }
 
 -- the literal is true
 abbrev pub IsTrueIn : View → Literal → Type 0
@@ -98,6 +102,7 @@ IsReason s k (reason.Long p) = IsPlace s.clauses p × Implies s (clause_at s p) 
 
 -- What keeps the code safe: the lists fit one another.
 pub record WellFormed (s : View) : Type 0 where
+  pub sound : s.sound ≡ true
   -- each variable has a node, and there are at most 2^28 variables
   pub nodes_are : length s.nodes ≡ length s.values
   pub small : length s.values ≤ variable_limit

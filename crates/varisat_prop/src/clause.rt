@@ -1,7 +1,4 @@
-//! The kept clauses and their headers.
+//! The store of the kept clauses, and their headers.
 
-pub mod alloc;
-pub mod header;
-
-pub use alloc::{ClauseAlloc, ClauseRef};
-pub use header::ClauseHeader;
+pub use varisat_clause::alloc::{ClauseAlloc, ClauseRef, StoreError};
+pub use varisat_clause::header::{ClauseHeader, Tier};

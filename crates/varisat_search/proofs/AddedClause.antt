@@ -5,9 +5,9 @@ use Rattle.varisat_theory.specs.Literals.{Literal, Clause, opposite, variable_of
 use Rattle.varisat_theory.proofs.Members.{∈-append_left, ∈-append_right, ∈-append_cases}
 use Rattle.varisat_prop.specs.declared.prop.graph.Reason.{Reason}
 use Rattle.varisat_prop.specs.declared.prop.graph.Reason.TheVariants as reason
-use Rattle.varisat_prop.specs.Stored.{StoredClause, literals_of}
+use Rattle.varisat_clause.specs.Stored.{StoredClause, literals_of}
 use Rattle.varisat_prop.specs.Pairs.{with_pair}
-use Rattle.varisat_prop.proofs.AllocClauses.{place-more, rising-more, stored-more, stored-last, literals-more}
+use Rattle.varisat_clause.proofs.StoredClauses.{place-more, rising-more, stored-more, stored-last, literals-more}
 use Rattle.varisat_prop.proofs.PairAdded.{kept-inserted}
 use Rattle.varisat_prop.proofs.WellFormedChanges.{MayBeKept, kept-may, stored-kept, well-changed}
 use Rattle.varisat_prop.specs.View.{View, pairs_from, kept, clause_at, node_at, Implies, IsReason, WellFormed}

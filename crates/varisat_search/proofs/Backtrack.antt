@@ -117,6 +117,7 @@ module _ (s t : View) (level : ℕ) (w : WellFormed s) (h : level < length s.dec
 
   cut-well-u : WellFormed u
   cut-well-u = record {
+    sound = w.sound;
     nodes_are = w.nodes_are ∙ sym c.count;
     small = let e = c.count in let f = w.small in omega (arith, e, f);
     in_range = λ cl i l j. let e = c.count in let f = w.in_range cl i l j in omega (arith, e, f);

@@ -6,7 +6,7 @@ use Rattle.varisat_theory.specs.Literals.{Literal, Clause, variable_of}
 use Rattle.varisat_theory.proofs.Members.{equal_or_not, ∈-append_left, ∈-append_right, ∈-append_cases}
 use Rattle.varisat_prop.specs.declared.prop.graph.ImplNode.{ImplNode}
 use Rattle.varisat_prop.specs.declared.prop.graph.Conflict.{Conflict}
-use Rattle.varisat_prop.specs.Stored.{StoredClause}
+use Rattle.varisat_clause.specs.Stored.{StoredClause}
 use Rattle.varisat_prop.specs.View.{View, kept, WellFormed}
 use Rattle.varisat_prop.specs.Changes.{named_in, IsNamed}
 use Rattle.varisat_vsids.specs.Activities.{Activities, bumped}

@@ -15,8 +15,14 @@ use Rattle.varisat_theory.proofs.Places.{place_in_take}
 use Rattle.varisat_prop.specs.declared.prop.graph.Reason.{Reason}
 use Rattle.varisat_prop.specs.declared.prop.graph.Reason.TheVariants as reason
 use Rattle.varisat_prop.specs.declared.prop.graph.Conflict.{Conflict}
+use Rattle.varisat_clause.specs.declared.header.Tier.TheVariants as tier
+use Rattle.varisat_clause.specs.Headers.{Header, no_header}
+use Rattle.varisat_clause.specs.Stored.{StoredClause, Keeps}
+use Rattle.varisat_clause.specs.Stores.{Store, Adds}
+use Rattle.varisat_clause.specs.Collected.{live_clauses}
+use Rattle.varisat_clause.proofs.LiveStore.{live-added}
 use Rattle.varisat_prop.specs.Pairs.{with_pair}
-use Rattle.varisat_prop.proofs.AllocClauses.{place-last}
+use Rattle.varisat_clause.proofs.StoredClauses.{place-last}
 use Rattle.varisat_prop.proofs.PairAdded.{adds-pair, well-pair, propagated-learned-pair}
 use Rattle.varisat_prop.proofs.LongVisited.{listed}
 use Rattle.varisat_search.specs.Conflicts.{learned_at, Keeping, IsKeptAsReason, IsWatchedAsReason}
@@ -172,6 +178,16 @@ kinds-enqueued t l r w inside free =
     map-equal : (f g : ℕ → Bool) (xs : List ℕ) → ((k : ℕ) → k < length xs → f (get_or xs k 0) ≡ g (get_or xs k 0)) → map f xs ≡ map g xs
     map-equal f g [] h = refl
     map-equal f g (x ∷ xs) h = let e = h zero (omega arith) in let d = map-equal f g xs (λ k l. h (suc k) (omega (arith, l))) in cc
+
+-- a clause of three literals or more joins the store as Local
+pub stored-learned : (s n : Store) (B : List (List Literal)) (c : Clause) (p : ℕ) (h : Header) → 3 ≤ length c → h ≡ record no_header { tier = tier.Local } → Adds s n (record { place = p; header = record h { len = length c }; literals = c }) → IsKeptAsReason (record { clauses = live_clauses s; binary = B }) (record { clauses = live_clauses n; binary = B }) c (reason.Long p)
+stored-learned s n B [] p h l e a = absurd (omega (arith, l))
+stored-learned s n B (x ∷ []) p h l e a = absurd (omega (arith, l))
+stored-learned s n B (x ∷ y ∷ []) p h l e a = absurd (omega (arith, l))
+stored-learned s n B (x ∷ y ∷ z ∷ c) p h l e a =
+    let k : StoredClause = record { place = p; header = record h { len = length (x ∷ y ∷ z ∷ c) }; literals = x ∷ y ∷ z ∷ c } in
+    let same : k ≡ learned_at p (x ∷ y ∷ z ∷ c) = ap (λ (i : Header). record { place = p; header = record i { len = length (x ∷ y ∷ z ∷ c) }; literals = x ∷ y ∷ z ∷ c }) e in
+    (refl, (p, subst (Keeps (live_clauses s) (live_clauses n)) same (live-added s n k a (ap (λ (i : Header). i.deleted) e)), refl))
 
 -- the view with other kept clauses
 abbrev pub keeping : View → Keeping → View

@@ -1,6 +1,8 @@
 -- The contexts of `learn`.
 use Rattle.std.proofs.Common.{◌≡◌, ℕ, ◌*◌, ◌<◌, ◌≤◌, Bool, false, replicate, Some, List, [], ◌∷◌, ◌++◌, length, length-set, ◌⊎◌, inl, inr, ⊎_elim, refl, sym, ap, ◌∙◌, subst, arith}
 use Rattle.std.proofs.lemmas.Bool.{cases_lt}
+use Rattle.varisat_clause.specs.Stores.{IsSound}
+use Rattle.varisat_clause.proofs.StoreSound.{sound-is, is-sound}
 use Rattle.varisat_theory.specs.Membership.{◌∈◌, ◌⊆◌}
 use Rattle.varisat_theory.specs.Literals.{Literal, Clause, variable_of, opposite}
 use Rattle.varisat_theory.proofs.Places.{place_in}
@@ -214,6 +216,13 @@ module _ {A : Type 0} {x0 x1 x2 : Context A} {i : Conflict} {level : ℕ} (d : B
   kept-before : kept (view x2) ≡ kept (view x0)
   kept-before = ap (λ (x : Context A). kept (view x)) d.back ∙ ap (λ (x : Context A). kept (view x)) d.begun.analyzed
 
+  same-sound : (view x2).sound ≡ (view x0).sound
+  same-sound = ap (λ (x : Context A). (view x).sound) d.back ∙ ap (λ (x : Context A). (view x).sound) d.begun.analyzed
+
+  -- the store stays sound
+  pub learned-sound : IsSound x2.clause_alloc
+  learned-sound = is-sound x2.clause_alloc (same-sound ∙ d.begun.ready.well.sound)
+
   watches-are : x2.watchlists ≡ x0.watchlists
   watches-are = ap (λ (x : Context A). x.watchlists) d.back ∙ ap (λ (x : Context A). x.watchlists) d.begun.analyzed
 
@@ -267,6 +276,7 @@ module _ {A : Type 0} {x0 x1 x2 : Context A} {i : Conflict} {level : ℕ} (d : B
 pub record Learning {A : Type 0} (x0 x1 x2 x3 : Context A) (i : Conflict) (level : ℕ) (l : Literal) (others : Clause) (r : Reason) : Type 0 where
   pub before : Backtracked x0 x1 x2 i level
   pub split : x2.analyze_conflict.clause ≡ l ∷ others
+  pub sound : IsSound x3.clause_alloc
   pub stored : x3 ≡ record x2 { binary_clauses = x3.binary_clauses; clause_alloc = x3.clause_alloc; watchlists = x3.watchlists }
   pub kept : IsKeptAsReason (keeping_of (view x2)) (keeping_of (view x3)) x2.analyze_conflict.clause r
   pub watched : IsWatchedAsReason x2.watchlists x3.watchlists x2.analyze_conflict.clause r
@@ -279,7 +289,9 @@ module _ {A : Type 0} {x0 x1 x2 x3 : Context A} {i : Conflict} {level : ℕ} {l 
   learned-is = clause-is b (l ∷ others) d.split
 
   stored-view : view x3 ≡ keeping (view x2) (keeping_of (view x3))
-  stored-view = ap (λ (x : Context A). view x) d.stored
+  stored-view =
+      ap (λ (x : Context A). view x) d.stored
+      ∙ ap (λ (y : Bool). record (view x3) { sound = y; values = (view x2).values; trail = (view x2).trail; queue_head = (view x2).queue_head; decisions = (view x2).decisions; nodes = (view x2).nodes }) (sound-is x3.clause_alloc d.sound ∙ sym (sound-is x2.clause_alloc (learned-sound b)))
 
   kept-is : IsKeptAsReason (keeping_of (view x2)) (keeping_of (view x3)) (l ∷ others) r
   kept-is = subst (λ c. IsKeptAsReason (keeping_of (view x2)) (keeping_of (view x3)) c r) d.split d.kept

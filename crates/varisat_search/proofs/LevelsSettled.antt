@@ -8,7 +8,7 @@ use Rattle.varisat_theory.proofs.Saturated.{complete_shorter}
 use Rattle.varisat_theory.proofs.Values.{parity}
 use Rattle.varisat_literals.specs.Numbers.{polarity_of}
 use Rattle.varisat_prop.specs.Parts.{is_true_value}
-use Rattle.varisat_prop.specs.Stored.{AreReordered}
+use Rattle.varisat_clause.specs.Stored.{AreReordered}
 use Rattle.varisat_prop.specs.View.{View, kept, IsTrueIn, decision_at, WellFormed, LevelsSettled, Grows}
 use Rattle.varisat_prop.specs.Changes.{decided_on}
 use Rattle.varisat_prop.proofs.LiteralValues.{variable-opposite, polarity-opposite}

@@ -1,6 +1,7 @@
 -- The view once `load_clause` is done.
-use Rattle.std.proofs.Common.{◌≡◌, ◌≢◌, ℕ, ◌<◌, ◌≤◌, Bool, false, Option, Some, List, [], ◌∷◌, ◌++◌, length, inl, inr, ⊎_elim, refl, sym, ap, ap₂, ◌∙◌, subst, arith, length-set}
+use Rattle.std.proofs.Common.{◌≡◌, ◌≢◌, ℕ, ◌<◌, ◌≤◌, Bool, Option, Some, List, [], ◌∷◌, ◌++◌, length, inl, inr, ⊎_elim, refl, sym, ap, ap₂, ◌∙◌, subst, arith, length-set}
 use Rattle.std.proofs.lemmas.Bool.{cases_lt}
+use Rattle.varisat_clause.specs.Headers.{Header, no_header}
 use Rattle.varisat_theory.specs.Membership.{◌∈◌, IsDistinct}
 use Rattle.varisat_theory.specs.Literals.{Literal, Clause, opposite, variable_of}
 use Rattle.varisat_theory.specs.Searches.{IsTautology}
@@ -8,7 +9,7 @@ use Rattle.varisat_literals.specs.Numbers.{polarity_of}
 use Rattle.varisat_prop.specs.declared.prop.graph.Reason.TheVariants as reason
 use Rattle.varisat_prop.specs.Watches.{Watches, no_watches, list_of, IsWatching, IsPropagated}
 use Rattle.varisat_prop.proofs.WatchKept.{watching-none}
-use Rattle.varisat_prop.specs.Stored.{StoredClause, Keeps, literals_of}
+use Rattle.varisat_clause.specs.Stored.{StoredClause, Keeps, literals_of}
 use Rattle.varisat_prop.specs.Pairs.{with_pair}
 use Rattle.varisat_prop.specs.View.{View, pairs_from, kept, IsTrueIn, level_of, WellFormed, LevelsSettled, IsFixed}
 use Rattle.varisat_prop.specs.Looks.{IsInRange}
@@ -94,12 +95,12 @@ pub added-pair : (s t : View) (c : Clause) (before after : SatState) (l m : Lite
 added-pair s t c before after l m e f g = subst (λ x. IsAdded s t x before after) (sym e) (f, g)
 
 -- and a longer one
-pub added-long : (s t : View) (c : Clause) (before after : SatState) (j : StoredClause) → 3 ≤ length c → j.literals ≡ c → j.header.redundant ≡ false → Keeps s.clauses t.clauses j → t ≡ record s { clauses = t.clauses; queue_head = 0 } → after ≡ before → IsAdded s t c before after
+pub added-long : (s t : View) (c : Clause) (before after : SatState) (j : StoredClause) → 3 ≤ length c → j.literals ≡ c → j.header ≡ record no_header { len = length j.literals } → Keeps s.clauses t.clauses j → t ≡ record s { clauses = t.clauses; queue_head = 0 } → after ≡ before → IsAdded s t c before after
 added-long s t [] before after j n e h k f g = absurd (omega (arith, n))
 added-long s t (l ∷ []) before after j n e h k f g = absurd (omega (arith, n))
 added-long s t (l ∷ m ∷ []) before after j n e h k f g = absurd (omega (arith, n))
 added-long s t (l ∷ m ∷ o ∷ c) before after j n e h k f g =
-    (j.place, subst (Keeps s.clauses t.clauses) (ap₂ (λ (x : Bool) (y : Clause). record { place = j.place; header = record { redundant = x }; literals = y }) h e) k, f, g)
+    (j.place, subst (Keeps s.clauses t.clauses) (ap (λ (x : Header). record { place = j.place; header = x; literals = j.literals }) h ∙ ap (loaded_at j.place) e) k, f, g)
 
 module _ (s t : View) (lits : Clause) (r : Restarted s t) (a : MayBeAdded t lits) where
   abbrev pub IsLoadedWell : View → Type 0

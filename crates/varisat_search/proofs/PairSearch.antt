@@ -10,10 +10,10 @@ use Rattle.varisat_theory.proofs.Members.{∈-append_left, ∈-append_right, ∈
 use Rattle.varisat_theory.proofs.Held.{same_set-self, same_set-back, same_set-through}
 use Rattle.varisat_theory.proofs.SearchFits.{same_insert, same_equal, same_between, clauses_last}
 use Rattle.varisat_theory.proofs.StepChanges.{moves_prove}
-use Rattle.varisat_prop.specs.Stored.{StoredClause, literals_of}
+use Rattle.varisat_clause.specs.Stored.{StoredClause, literals_of}
 use Rattle.varisat_prop.specs.Pairs.{with_pair}
 use Rattle.varisat_prop.specs.View.{View, pairs_from, kept}
-use Rattle.varisat_prop.proofs.AllocClauses.{literals-more}
+use Rattle.varisat_clause.proofs.StoredClauses.{literals-more}
 use Rattle.varisat_prop.proofs.PairAdded.{inserts-pair, kept-inserted}
 use Rattle.varisat_search.specs.Seen.{kept_clause, kept_pair, search_of}
 use Rattle.varisat_search.proofs.ViewSearch.{seen_clauses}

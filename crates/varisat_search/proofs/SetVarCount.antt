@@ -9,7 +9,7 @@ use Rattle.varisat_theory.specs.Propagation.{IsComplete}
 use Rattle.varisat_prop.specs.declared.prop.graph.Reason.{Reason}
 use Rattle.varisat_prop.specs.declared.prop.graph.Reason.TheVariants as reason
 use Rattle.varisat_prop.specs.declared.prop.graph.ImplNode.{ImplNode}
-use Rattle.varisat_prop.specs.Stored.{literals_of}
+use Rattle.varisat_clause.specs.Stored.{literals_of}
 use Rattle.varisat_prop.specs.View.{View, IsTrueIn, kept, implied_by, clause_at, literal_at, decision_at, node_of, node_at, no_node, Implies, IsReason, WellFormed, LevelsSettled, is_clause}
 use Rattle.varisat_prop.specs.Watches.{Watches, IsPropagated}
 use Rattle.varisat_prop.proofs.WatchRebuilt.{with_more, more-lists, watching-variables}
@@ -70,6 +70,7 @@ module _ (s : View) (m n o : ℕ) (w : WellFormed s) where
 
   pub grown-well : length grown.nodes ≡ length grown.values → length grown.values ≤ 2 ^ 28 → WellFormed grown
   grown-well e f = record {
+    sound = w.sound;
     nodes_are = e;
     small = f;
     in_range = λ c i l j. let a = w.in_range c (was-kept c i) l j in let b = length-append s.values (replicate m None) in omega (arith, a, b);

@@ -2,6 +2,9 @@
 use Rattle.std.proofs.Common.{◌≡◌, ℕ, Bool, map, true, false, ◌&&◌, not, nat_eq, List, [], ◌∷◌, ◌++◌, inl, inr, ⊎_elim, sym, ap, ◌∙◌, subst, refl, arith}
 use Rattle.std.specs.Prelude.{cond}
 use Rattle.std.specs.List.{filter}
+use Rattle.varisat_clause.specs.declared.header.Tier.TheVariants as tier
+use Rattle.varisat_clause.specs.Tiers.{is_tier}
+use Rattle.varisat_clause.specs.Headers.{Header}
 use Rattle.varisat_theory.specs.Membership.{◌∈◌, ◌⊆◌, SameSet}
 use Rattle.varisat_theory.specs.Literals.{Literal, Clause, opposite, IsUnit}
 use Rattle.varisat_theory.specs.Held.{SameClauses}
@@ -12,7 +15,7 @@ use Rattle.varisat_theory.proofs.Places.{∈-get_or}
 use Rattle.varisat_theory.proofs.Values.{opposite_twice}
 use Rattle.varisat_prop.specs.declared.prop.graph.Reason.{Reason}
 use Rattle.varisat_prop.specs.declared.prop.graph.Reason.TheVariants as reason
-use Rattle.varisat_prop.specs.Stored.{StoredClause, literals_of, AreReordered}
+use Rattle.varisat_clause.specs.Stored.{StoredClause, literals_of, AreReordered}
 use Rattle.varisat_prop.specs.View.{View, pairs_from, kept, literal_at, node_of, level_of, WellFormed, IsFixed, ViewFits, is_clause}
 use Rattle.varisat_prop.proofs.TrailValues.{on-trail, trail-true}
 use Rattle.varisat_search.proofs.WellFormedViews.{fixed-implied, level-opposite}
@@ -132,7 +135,7 @@ reordered_seen : (P Q : List StoredClause) → AreReordered P Q → (k : KeptCla
 reordered_seen [] Q a k h e = absurd h
 reordered_seen (p ∷ P) [] a k h e = absurd a
 reordered_seen (p ∷ P) (q ∷ Q) a k (inl g) e =
-    (kept_clause q, inl refl, ap (λ x. x.redundant) a.1 ∙ sym (ap (λ z. z.learned) g) ∙ e, λ x i. subst (λ z. x ∈ z.clause) (sym g) (a.2.0 x i))
+    (kept_clause q, inl refl, ap (λ (h : Header). not (is_tier h.tier tier.Irred)) a.1 ∙ sym (ap (λ z. z.learned) g) ∙ e, λ x i. subst (λ z. x ∈ z.clause) (sym g) (a.2.0 x i))
 reordered_seen (p ∷ P) (q ∷ Q) a k (inr h) e =
     let (j, i, f, u) = reordered_seen P Q a.3 k h e in (j, inr i, f, u)
 

@@ -13,8 +13,8 @@ use Rattle.varisat_prop.specs.declared.prop.graph.Reason.TheVariants as reason
 use Rattle.varisat_prop.specs.declared.prop.graph.ImplNode.{ImplNode}
 use Rattle.varisat_prop.specs.declared.prop.graph.Conflict.{Conflict}
 use Rattle.varisat_prop.specs.declared.prop.graph.Conflict.TheVariants as conflict
-use Rattle.varisat_prop.specs.Stored.{literals_of, AreReordered}
-use Rattle.varisat_prop.proofs.AllocClauses.{reordered-old}
+use Rattle.varisat_clause.specs.Stored.{literals_of, AreReordered}
+use Rattle.varisat_clause.proofs.StoredClauses.{reordered-old}
 use Rattle.varisat_prop.proofs.WellFormedChanges.{stored-kept, kept-here}
 use Rattle.varisat_prop.proofs.KeptPairs.{implied-kept}
 use Rattle.varisat_prop.specs.View.{View, pairs_from, kept, clause_at, literal_at, decision_at, no_node, node_of, node_at, level_of, is_clause, StandsBefore, Implies, IsReason, WellFormed, LevelsSettled, ViewFits}

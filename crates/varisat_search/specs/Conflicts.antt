@@ -1,10 +1,12 @@
 -- The conflict of a step, and the reason that its learned clause gives.
-use Rattle.std.specs.Prelude.{◌≡◌, ℕ, true, List, [], ◌∷◌}
+use Rattle.std.specs.Prelude.{◌≡◌, ℕ, List, [], ◌∷◌, length}
 use Rattle.varisat_theory.specs.Literals.{Literal, Clause}
 use Rattle.varisat_prop.specs.declared.prop.graph.Conflict.{Conflict}
 use Rattle.varisat_prop.specs.declared.prop.graph.Reason.{Reason}
 use Rattle.varisat_prop.specs.declared.prop.graph.Reason.TheVariants as reason
-use Rattle.varisat_prop.specs.Stored.{StoredClause, Keeps}
+use Rattle.varisat_clause.specs.declared.header.Tier.TheVariants as tier
+use Rattle.varisat_clause.specs.Headers.{no_header}
+use Rattle.varisat_clause.specs.Stored.{StoredClause, Keeps}
 use Rattle.varisat_prop.specs.Pairs.{with_pair}
 use Rattle.varisat_prop.specs.Watches.{Watches}
 use Rattle.varisat_prop.specs.Visits.{WatchesClause}
@@ -14,9 +16,9 @@ use Rattle.varisat_search.specs.declared.cdcl.FoundConflict.TheVariants as found
 abbrev pub conflict_of : FoundConflict → Conflict
 conflict_of (found.Conflict c) = c
 
--- a learned clause at the place, which is redundant
+-- a learned clause at the place, which is of the tier Local
 abbrev pub learned_at : ℕ → Clause → StoredClause
-learned_at p c = record { place = p; header = record { redundant = true }; literals = c }
+learned_at p c = record { place = p; header = record no_header { tier = tier.Local; len = length c }; literals = c }
 
 -- what is kept: the clauses of three literals or more, and what literals imply by those of two
 pub record Keeping : Type 0 where

@@ -9,7 +9,8 @@ use Rattle.varisat_prop.specs.declared.prop.graph.Reason.TheVariants as reason
 use Rattle.varisat_prop.specs.declared.prop.graph.Conflict.{Conflict}
 use Rattle.varisat_prop.specs.declared.prop.graph.Conflict.TheVariants as conflict
 use Rattle.varisat_prop.specs.declared.prop.graph.ImplNode.{ImplNode}
-use Rattle.varisat_prop.specs.Stored.{StoredClause}
+use Rattle.varisat_clause.specs.Stores.{Store, IsSound}
+use Rattle.varisat_clause.specs.Collected.{live_clauses}
 use Rattle.varisat_prop.specs.Parts.{TrailParts}
 use Rattle.varisat_prop.specs.Changes.{named_in, IsNamed}
 use Rattle.varisat_prop.specs.View.{View, clause_at, literal_at, node_at, node_of, level_of, ViewFits}
@@ -23,9 +24,10 @@ pub record Analysis : Type 0 where
 abbrev pub no_analysis : Analysis
 no_analysis = record { clause = []; involved = []; var_count = 0 }
 
--- The view has these clauses, nodes, literals and decisions.
-pub record Shows (s : View) (clauses : List StoredClause) (nodes : List ImplNode) (trail : TrailParts) : Type 0 where
-  pub clauses_are : clauses ≡ s.clauses
+-- The view has the clauses of a sound store, and these nodes, literals and decisions.
+pub record Shows (s : View) (store : Store) (nodes : List ImplNode) (trail : TrailParts) : Type 0 where
+  pub sound : IsSound store
+  pub clauses_are : live_clauses store ≡ s.clauses
   pub nodes_are : nodes ≡ s.nodes
   pub trail_is : trail.literals ≡ s.trail
   pub decisions_are : trail.decisions ≡ s.decisions

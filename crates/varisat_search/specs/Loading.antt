@@ -1,9 +1,10 @@
 -- What becomes of a clause's distinct literals.
-use Rattle.std.specs.Prelude.{◌≡◌, ℕ, Bool, true, false, List, [], ◌∷◌, ◌⊎◌, ◌↔◌, slice_index_or}
+use Rattle.std.specs.Prelude.{◌≡◌, ℕ, Bool, true, false, List, [], ◌∷◌, ◌⊎◌, ◌↔◌, length, slice_index_or}
 use Rattle.varisat_theory.specs.Membership.{◌∈◌}
 use Rattle.varisat_theory.specs.Literals.{Literal, Clause, opposite}
 use Rattle.varisat_prop.specs.declared.prop.graph.Reason.TheVariants as reason
-use Rattle.varisat_prop.specs.Stored.{StoredClause, Keeps}
+use Rattle.varisat_clause.specs.Headers.{no_header}
+use Rattle.varisat_clause.specs.Stored.{StoredClause, Keeps}
 use Rattle.varisat_prop.specs.View.{View, IsTrueIn}
 use Rattle.varisat_prop.specs.Changes.{enqueued}
 use Rattle.varisat_prop.specs.Pairs.{with_pair}
@@ -11,9 +12,9 @@ use Rattle.varisat_search.specs.declared.state.SatState.{SatState}
 use Rattle.varisat_search.specs.declared.state.SatState.TheVariants as verdict
 use Rattle.varisat_search.specs.Steps.{IsFree}
 
--- a loaded clause at the place, which is not redundant
+-- a loaded clause at the place, which is Irred
 abbrev pub loaded_at : ℕ → Clause → StoredClause
-loaded_at p c = record { place = p; header = record { redundant = false }; literals = c }
+loaded_at p c = record { place = p; header = record no_header { len = length c }; literals = c }
 
 -- exactly the literals of the list are flagged
 abbrev pub AreFlagged : List Bool → List Literal → Type 0

@@ -4,16 +4,19 @@ use Rattle.varisat_theory.specs.Membership.{◌∈◌, ◌⊆◌, IsDistinct}
 use Rattle.varisat_theory.specs.Literals.{Literal, Clause, opposite, variable_of}
 use Rattle.varisat_theory.specs.Propagation.{Follows}
 use Rattle.varisat_prop.specs.declared.prop.graph.Conflict.{Conflict}
+use Rattle.varisat_clause.specs.Stores.{IsSound}
+use Rattle.varisat_clause.specs.Collected.{live_clauses}
 use Rattle.varisat_prop.specs.Changes.{causes_of, IsConflicting}
 use Rattle.varisat_prop.specs.View.{View, literal_at, node_at, node_of, level_of, StandsBefore, WellFormed, LevelsSettled, ViewFits}
 use Rattle.varisat_search.specs.declared.analyze_conflict.Parts.{Parts}
 use Rattle.varisat_search.specs.declared.analyze_conflict.Scratch.{Scratch}
 use Rattle.varisat_search.specs.Learned.{current_level, IsOfCurrentLevel, names_of, IsFirstPoint, ListsInvolved, IsAsserting}
 
--- The search that analysis reads is a well-formed one, with these clauses, nodes, literals and decisions.
+-- The search that analysis reads is a well-formed one, with the clauses of this sound store and these nodes, literals and decisions.
 pub record Sees {A : Type 0} (s : View) (parts : Parts A) : Type 0 where
   pub well : WellFormed s
-  pub clauses_are : parts.clause_alloc.now ≡ s.clauses
+  pub sound : IsSound parts.clause_alloc.now
+  pub clauses_are : live_clauses parts.clause_alloc.now ≡ s.clauses
   pub nodes_are : parts.impl_graph.now.nodes.items ≡ s.nodes
   pub trail_is : parts.trail.now.literals ≡ s.trail
   pub decisions_are : parts.trail.now.decisions ≡ s.decisions

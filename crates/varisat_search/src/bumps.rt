@@ -2,6 +2,8 @@
 ghost use Rattle.std.specs.Prelude.{◌≡◌, ℕ, ◌<◌, true, false, List, [], ◌∷◌, length, slice_index_or};
 ghost use Rattle.varisat_theory.specs.Membership.{◌∈◌};
 ghost use Rattle.varisat_theory.specs.Literals.{Literal, variable_of};
+ghost use Rattle.varisat_clause.specs.Stores.{IsSound};
+ghost use Rattle.varisat_clause.specs.Collected.{live_clauses};
 ghost use Rattle.varisat_prop.specs.Changes.{NamesPlace, IsNamed};
 ghost use Rattle.varisat_search.specs.Contexts.{view, IsReady};
 ghost use Rattle.varisat_search.specs.Decisions.{HasActivities};
@@ -60,9 +62,10 @@ fn bump_clauses<A: Allocator + Copy>(
     clause_alloc: &ClauseAlloc<A>,
     names: &[Conflict],
 )
-    requires may { MayBump impl_graph.now.nodes.items (literals_among clause_alloc.now names.now) (bumping flags.old vsids.old) }
-    requires named { (f : _) → f ∈ names.now → NamesPlace clause_alloc.now f }
-    ensures bumps { BumpsNew impl_graph.now.nodes.items (literals_among clause_alloc.now names.now) (bumping flags.old vsids.old) (bumping flags.new vsids.new) }
+    requires sound { IsSound clause_alloc.now }
+    requires may { MayBump impl_graph.now.nodes.items (literals_among (live_clauses clause_alloc.now) names.now) (bumping flags.old vsids.old) }
+    requires named { (f : _) → f ∈ names.now → NamesPlace (live_clauses clause_alloc.now) f }
+    ensures bumps { BumpsNew impl_graph.now.nodes.items (literals_among (live_clauses clause_alloc.now) names.now) (bumping flags.old vsids.old) (bumping flags.new vsids.new) }
     ensures count { length vsids.new.activity ≡ length vsids.old.activity }
 {
     for name in names {
@@ -87,9 +90,10 @@ fn clear_clauses<A: Allocator + Copy>(
     clause_alloc: &ClauseAlloc<A>,
     names: &[Conflict],
 )
-    requires known { (l : Literal) → l ∈ literals_among clause_alloc.now names.now → variable_of l < length flags.old }
-    requires named { (f : _) → f ∈ names.now → NamesPlace clause_alloc.now f }
-    ensures gone { (l : Literal) → l ∈ literals_among clause_alloc.now names.now → slice_index_or flags.new (variable_of l) false ≡ false }
+    requires sound { IsSound clause_alloc.now }
+    requires known { (l : Literal) → l ∈ literals_among (live_clauses clause_alloc.now) names.now → variable_of l < length flags.old }
+    requires named { (f : _) → f ∈ names.now → NamesPlace (live_clauses clause_alloc.now) f }
+    ensures gone { (l : Literal) → l ∈ literals_among (live_clauses clause_alloc.now) names.now → slice_index_or flags.new (variable_of l) false ≡ false }
     ensures fewer { (v : ℕ) → slice_index_or flags.new v false ≡ true → slice_index_or flags.old v false ≡ true }
 {
     for name in names {
@@ -106,10 +110,11 @@ fn bump_each_once<A: Allocator + Copy>(
     clause_alloc: &ClauseAlloc<A>,
     names: &[Conflict],
 )
-    requires may { MayBump impl_graph.now.nodes.items (literals_among clause_alloc.now names.now) (bumping flags.old vsids.old) }
-    requires named { (f : _) → f ∈ names.now → NamesPlace clause_alloc.now f }
+    requires sound { IsSound clause_alloc.now }
+    requires may { MayBump impl_graph.now.nodes.items (literals_among (live_clauses clause_alloc.now) names.now) (bumping flags.old vsids.old) }
+    requires named { (f : _) → f ∈ names.now → NamesPlace (live_clauses clause_alloc.now) f }
     requires clear { (v : ℕ) → slice_index_or flags.old v false ≡ false }
-    ensures bumps { (vars : List ℕ) × AreVariablesAbove impl_graph.now.nodes.items (literals_among clause_alloc.now names.now) vars × (vsids.new ≡ bumped_each vars vsids.old) }
+    ensures bumps { (vars : List ℕ) × AreVariablesAbove impl_graph.now.nodes.items (literals_among (live_clauses clause_alloc.now) names.now) vars × (vsids.new ≡ bumped_each vars vsids.old) }
     ensures clear { (v : ℕ) → slice_index_or flags.new v false ≡ false }
     ensures count { length vsids.new.activity ≡ length vsids.old.activity }
 {

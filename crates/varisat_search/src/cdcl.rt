@@ -3,6 +3,8 @@ ghost use Rattle.std.specs.Prelude.{◌≡◌, ◌≢◌, ℕ, ◌<◌, length, 
 ghost use Rattle.varisat_theory.specs.Membership.{◌∈◌};
 ghost use Rattle.varisat_theory.specs.Literals.{Literal, opposite};
 ghost use Rattle.varisat_theory.specs.Propagation.{IsComplete};
+ghost use Rattle.varisat_clause.specs.Stores.{IsSound};
+ghost use Rattle.varisat_clause.specs.Collected.{live_clauses};
 ghost use Rattle.varisat_prop.specs.View.{View, kept, Grows};
 ghost use Rattle.varisat_prop.specs.Changes.{IsConflicting};
 ghost use Rattle.varisat_search.specs.Learned.{IsLearned, AreInvolved};
@@ -22,7 +24,7 @@ use crate::levels::backtrack;
 use crate::state::SatState;
 use std::alloc::{AllocError, Allocator};
 use varisat_literals::Lit;
-use varisat_prop::clause::ClauseHeader;
+use varisat_prop::clause::{ClauseHeader, StoreError, Tier};
 use varisat_prop::prop::{Conflict, Reason, enqueue_assignment, propagate};
 
 /// Why a search for a model stopped.
@@ -85,13 +87,15 @@ pub fn first_of(clause: &[Lit]) -> Option<Lit>
     clause.first().copied()
 }
 
-/// Keeps the learned clause where it has two literals or more, as redundant, and watches it. Returns what makes its first
-/// literal true.
-fn keep_learned<A: Allocator + Copy>(ctx: &mut Context<A>) -> Result<Reason, AllocError>
+/// Keeps the learned clause where it has two literals or more, one of three or more as Local, and watches it. Returns what
+/// makes its first literal true.
+fn keep_learned<A: Allocator + Copy>(ctx: &mut Context<A>) -> Result<Reason, StoreError>
     requires listed { (l : Literal) → l ∈ ctx.old.analyze_conflict.clause → opposite l < length ctx.old.watchlists.lists }
     requires paired { (l : Literal) → l ∈ ctx.old.analyze_conflict.clause → opposite l < length ctx.old.binary_clauses }
+    requires sound { IsSound ctx.old.clause_alloc }
+    ensures sound { OnOk result (IsSound ctx.new.clause_alloc) }
     ensures kept { ctx.new ≡ record ctx.old { binary_clauses = ctx.new.binary_clauses; clause_alloc = ctx.new.clause_alloc; watchlists = ctx.new.watchlists } }
-    ensures reason { IfOk result (λ reason. IsKeptAsReason (record { clauses = ctx.old.clause_alloc; binary = ctx.old.binary_clauses }) (record { clauses = ctx.new.clause_alloc; binary = ctx.new.binary_clauses }) ctx.old.analyze_conflict.clause reason) }
+    ensures reason { IfOk result (λ reason. IsKeptAsReason (record { clauses = live_clauses ctx.old.clause_alloc; binary = ctx.old.binary_clauses }) (record { clauses = live_clauses ctx.new.clause_alloc; binary = ctx.new.binary_clauses }) ctx.old.analyze_conflict.clause reason) }
     ensures watched { IfOk result (λ reason. IsWatchedAsReason ctx.old.watchlists ctx.new.watchlists ctx.old.analyze_conflict.clause reason) }
 {
     match ctx.analyze_conflict.clause() {
@@ -103,7 +107,7 @@ fn keep_learned<A: Allocator + Copy>(ctx: &mut Context<A>) -> Result<Reason, All
         _ => {}
     }
     let mut header = ClauseHeader::new();
-    header.set_redundant(true);
+    header.set_tier(Tier::Local);
     let cref = ctx
         .clause_alloc
         .add_clause(header, ctx.analyze_conflict.clause())?;
@@ -138,7 +142,7 @@ fn analyze<A: Allocator + Copy>(
 
 /// Learns from the conflict: bumps variables, backtracks, keeps the learned clause, and makes its first literal true. The
 /// empty clause gives verdict Unsat.
-fn learn<A: Allocator + Copy>(ctx: &mut Context<A>, conflict: Conflict) -> Result<(), AllocError>
+fn learn<A: Allocator + Copy>(ctx: &mut Context<A>, conflict: Conflict) -> Result<(), StoreError>
     requires ready { IsReady ctx.old }
     requires conflict { IsConflicting (view ctx.old) conflict }
     requires unknown { ctx.old.solver_state.sat_state ≡ SatState.Unknown }
@@ -170,7 +174,7 @@ fn learn<A: Allocator + Copy>(ctx: &mut Context<A>, conflict: Conflict) -> Resul
 
 /// Makes one step: finds a conflict and learns from it, or finds a model. A step that learns raises the rank of the
 /// trail, so that there are only finitely many of them.
-pub fn conflict_step<A: Allocator + Copy>(ctx: &mut Context<A>) -> Result<(), AllocError>
+pub fn conflict_step<A: Allocator + Copy>(ctx: &mut Context<A>) -> Result<(), StoreError>
     requires ready { IsReady ctx.old }
     requires unknown { ctx.old.solver_state.sat_state ≡ SatState.Unknown }
     ensures ready { OnOk result (IsReady ctx.new) }

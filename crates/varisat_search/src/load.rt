@@ -21,7 +21,7 @@ use crate::levels::full_restart;
 use crate::state::SatState;
 use std::alloc::{AllocError, Allocator};
 use varisat_literals::Lit;
-use varisat_prop::clause::ClauseHeader;
+use varisat_prop::clause::{ClauseHeader, StoreError};
 use varisat_prop::prop::{Assignment, Reason, enqueue_assignment};
 
 /// Copies the clause's literals, each once, and flags those that were copied.
@@ -131,7 +131,7 @@ fn is_satisfied<A: Allocator + Copy>(assignment: &Assignment<A>, lits: &[Lit]) -
 
 /// Adds the clause in `lits`, whose literals are distinct and not true: it is kept, makes its only literal true, or
 /// gives verdict Unsat.
-fn add_distinct<A: Allocator + Copy>(ctx: &mut Context<A>) -> Result<(), AllocError>
+fn add_distinct<A: Allocator + Copy>(ctx: &mut Context<A>) -> Result<(), StoreError>
     requires well { WellFormed (view ctx.old) }
     requires propagated { IsPropagated ctx.old.watchlists (view ctx.old) }
     requires undecided { ctx.old.trail.decisions ≡ [] }
@@ -182,7 +182,7 @@ fn add_distinct<A: Allocator + Copy>(ctx: &mut Context<A>) -> Result<(), AllocEr
 pub fn load_clause<A: Allocator + Copy>(
     ctx: &mut Context<A>,
     lits: &[Lit],
-) -> Result<(), AllocError>
+) -> Result<(), StoreError>
     requires ready { IsReady ctx.old }
     requires in_range { IsInRange ctx.old.assignment.current lits.now }
     requires decidable { AreDecidable (view ctx.old) ctx.old.vsids lits.now }

@@ -14,7 +14,8 @@ use crate::cdcl::conflict_step;
 use crate::context::Context;
 use crate::levels::restart;
 use crate::state::SatState;
-use std::alloc::{AllocError, Allocator};
+use std::alloc::Allocator;
+use varisat_prop::clause::StoreError;
 pub use varisat_schedule::luby::LubySequence;
 pub use varisat_schedule::schedule::Schedule;
 
@@ -40,7 +41,7 @@ fn restart_if_due<A: Allocator + Copy>(ctx: &mut Context<A>)
 
 /// Makes one step of the schedule: a restart where it is due, then a conflict step. The step is counted, unless memory
 /// runs out.
-pub fn schedule_step<A: Allocator + Copy>(ctx: &mut Context<A>) -> Result<(), AllocError>
+pub fn schedule_step<A: Allocator + Copy>(ctx: &mut Context<A>) -> Result<(), StoreError>
     requires ready { IsReady ctx.old }
     requires unknown { ctx.old.solver_state.sat_state ≡ SatState.Unknown }
     requires counted { ctx.old.schedule.steps < 2 ^ 64 - 1 }

@@ -1,6 +1,7 @@
 -- A search stays ready where activities and remembered values change, and where its clauses are watched anew.
 use Rattle.std.proofs.Common.{◌≡◌, ◌*◌, true, false, length, get_or, replicate, ⊎_elim, inl, inr, sym, ap, ◌∙◌, subst}
 use Rattle.varisat_theory.specs.Literals.{variable_of}
+use Rattle.varisat_clause.specs.Collected.{live_clauses}
 use Rattle.varisat_prop.specs.Parts.{Values}
 use Rattle.varisat_prop.specs.View.{View, WellFormed, LevelsSettled}
 use Rattle.varisat_prop.specs.Watches.{Watches, IsPropagated, IsWatching}
@@ -34,7 +35,7 @@ values-ready {A} {x} a e r =
       decidable = subst (λ (s : View). CanDecide s x.vsids) (sym v) r.decidable;
     }
 
-pub rebuilt-ready : {A : Type 0} {x : Context A} (W : Watches) → length W.lists ≡ length x.watchlists.lists → W.enabled ≡ true → IsWatching W x.clause_alloc → IsReady x → IsReady (record x { watchlists = W })
+pub rebuilt-ready : {A : Type 0} {x : Context A} (W : Watches) → length W.lists ≡ length x.watchlists.lists → W.enabled ≡ true → IsWatching W (live_clauses x.clause_alloc) → IsReady x → IsReady (record x { watchlists = W })
 rebuilt-ready W n on w r = record {
   well = r.well;
   settled = r.settled;
@@ -43,6 +44,8 @@ rebuilt-ready W n on w r = record {
     watching = λ e. w;
     empty = λ e. absurd (let f = on in cc);
     settled = r.propagated.settled;
+    binary = r.propagated.binary;
+    implied = r.propagated.implied;
     queue = r.propagated.queue;
   };
   analysis = r.analysis;

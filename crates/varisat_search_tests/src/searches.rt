@@ -3,8 +3,9 @@ ghost use Rattle.std.specs.Prelude.{◌≡◌, ◌≤◌, length, OnOk, IfOk};
 ghost use Rattle.varisat_search.specs.Contexts.{IsReady};
 ghost use Rattle.varisat_literals.specs.Numbers.{variable_limit};
 
-use std::alloc::{AllocError, Allocator};
+use std::alloc::Allocator;
 use varisat_literals::{Lit, Var, lits};
+use varisat_prop::clause::StoreError;
 use varisat_prop::prop::Assignment;
 use varisat_search::cdcl::conflict_step;
 use varisat_search::context::{Context, set_var_count};
@@ -14,7 +15,7 @@ use varisat_search::state::SatState;
 use varisat_vsids::Vsids;
 
 /// Makes the clause's variables available and loads the clause, where its variables are those of the search.
-pub fn load<A: Allocator + Copy>(ctx: &mut Context<A>, lits: &[Lit]) -> Result<(), AllocError>
+pub fn load<A: Allocator + Copy>(ctx: &mut Context<A>, lits: &[Lit]) -> Result<(), StoreError>
     requires { IsReady ctx.old }
     ensures { OnOk result (IsReady ctx.new) }
 {
@@ -33,20 +34,35 @@ pub fn loaded<A: Allocator + Copy>(
     alloc: A,
     count: usize,
     clauses: &[&[Lit]],
-) -> Result<Context<A>, AllocError>
+) -> Result<Context<A>, StoreError>
     requires { count ≤ variable_limit }
     ensures { IfOk result (λ ctx. IsReady ctx) }
 {
     let mut ctx = Context::new_in(alloc);
-    set_var_count(&mut ctx, count)?;
-    for clause in clauses {
-        load(&mut ctx, clause)?;
-    }
+    load_all(&mut ctx, count, clauses)?;
     Ok(ctx)
 }
 
+/// Gives a search with no variable so many, and loads the clauses that name no other.
+fn load_all<A: Allocator + Copy>(
+    ctx: &mut Context<A>,
+    count: usize,
+    clauses: &[&[Lit]],
+) -> Result<(), StoreError>
+    requires ready { IsReady ctx.old }
+    requires empty { length ctx.old.assignment.current ≡ 0 }
+    requires small { count ≤ variable_limit }
+    ensures { OnOk result (IsReady ctx.new) }
+{
+    set_var_count(ctx, count)?;
+    for clause in clauses {
+        load(ctx, clause)?;
+    }
+    Ok(())
+}
+
 /// A search that conflicts once 1 and 3 are decided as true: 1 implies 2, 3 implies 4 and 5, and -1 -4 -5 is false.
-pub fn loaded_conflict<A: Allocator + Copy>(alloc: A) -> Result<Context<A>, AllocError>
+pub fn loaded_conflict<A: Allocator + Copy>(alloc: A) -> Result<Context<A>, StoreError>
     ensures { IfOk result (λ ctx. IsReady ctx) }
 {
     let clauses: &[&[Lit]] = &[
@@ -60,7 +76,7 @@ pub fn loaded_conflict<A: Allocator + Copy>(alloc: A) -> Result<Context<A>, Allo
 }
 
 /// Makes a step, unless there is a verdict.
-pub fn step<A: Allocator + Copy>(ctx: &mut Context<A>) -> Result<(), AllocError>
+pub fn step<A: Allocator + Copy>(ctx: &mut Context<A>) -> Result<(), StoreError>
     requires { IsReady ctx.old }
     ensures { OnOk result (IsReady ctx.new) }
 {

@@ -5,10 +5,10 @@ ghost use Rattle.varisat_literals.specs.Numbers.{variable_limit};
 
 use crate::searches::{loaded, loaded_conflict, prefer_lower_true, step};
 use linked_list_allocator::LocalHeap;
-use std::alloc::{AllocError, Allocator};
+use std::alloc::Allocator;
 use std::test::Fail;
 use varisat_literals::{Lit, lit, lits};
-use varisat_prop::clause::ClauseRef;
+use varisat_prop::clause::{ClauseRef, StoreError};
 use varisat_prop::prop::Conflict;
 use varisat_search::cdcl::conflict_step;
 use varisat_search::context::Context;
@@ -19,7 +19,7 @@ fn teaches<A: Allocator + Copy>(
     ctx: &mut Context<A>,
     clause: &[Lit],
     level: usize,
-) -> Result<bool, AllocError>
+) -> Result<bool, StoreError>
     requires { IsReady ctx.old }
 {
     prefer_lower_true(ctx);
@@ -37,7 +37,7 @@ fn learns<A: Allocator + Copy>(
     clauses: &[&[Lit]],
     learned: &[Lit],
     level: usize,
-) -> Result<bool, AllocError>
+) -> Result<bool, StoreError>
     requires { count ≤ variable_limit }
 {
     let mut ctx = loaded(alloc, count, clauses)?;
@@ -56,7 +56,7 @@ fn refuted_at_once(rt: HostRuntime) -> Result<(), Fail> {
 }
 
 // The verdict on the four clauses of two variables, after at most two steps.
-fn refute<A: Allocator + Copy>(alloc: A) -> Result<SatState, AllocError> {
+fn refute<A: Allocator + Copy>(alloc: A) -> Result<SatState, StoreError> {
     let clauses: &[&[Lit]] = &[&lits![1, 2], &lits![-1, 2], &lits![1, -2], &lits![-1, -2]];
     let mut ctx = loaded(alloc, 2, clauses)?;
     step(&mut ctx)?;
@@ -99,8 +99,8 @@ fn learned(rt: HostRuntime) -> Result<(), Fail> {
     assert!(rt; teaches(&mut ctx, &lits![-4, -1], 1)?);
     // The conflict, and the reason of 5.
     let involved = [
-        Conflict::Long(ClauseRef::from_place(1)),
-        Conflict::Long(ClauseRef::from_place(0)),
+        Conflict::Long(ClauseRef::from_offset(6)),
+        Conflict::Long(ClauseRef::from_offset(0)),
     ];
     assert_eq!(rt; ctx.analyze_conflict.involved(), involved.as_slice());
     assert!(rt; ctx.trail.trail() == lits![1, 2, -4].as_slice());

@@ -4,9 +4,9 @@ ghost use Rattle.varisat_search.specs.Contexts.{IsReady};
 
 use crate::searches::loaded;
 use linked_list_allocator::LocalHeap;
-use std::alloc::{AllocError, Allocator, Global};
+use std::alloc::{Allocator, Global};
 use varisat_literals::{Lit, lit, lits};
-use varisat_prop::clause::ClauseRef;
+use varisat_prop::clause::{ClauseRef, StoreError};
 use varisat_prop::prop::{Conflict, Reason, Watchlists, enable_watchlists, propagate};
 use varisat_search::context::Context;
 
@@ -22,7 +22,7 @@ struct Row<'a> {
 }
 
 /// Takes out all watches, and watches the clauses by their first two literals anew.
-fn rebuild<A: Allocator + Copy>(ctx: &mut Context<A>) -> Result<(), AllocError>
+fn rebuild<A: Allocator + Copy>(ctx: &mut Context<A>) -> Result<(), StoreError>
     requires { IsReady ctx.old }
     ensures { OnOk result (IsReady ctx.new) }
 {
@@ -38,7 +38,7 @@ fn watches<A: Allocator + Copy>(lists: &mut Watchlists<A>, lit: Lit, places: &[u
     }
     let list = lists.watched_by_mut(lit);
     for (watch, place) in list.iter().zip(places) {
-        if watch.cref != ClauseRef::from_place(*place) {
+        if watch.cref.offset() != *place {
             return false;
         }
     }
@@ -68,7 +68,7 @@ fn is_reason<A: Allocator + Copy>(ctx: &Context<A>, reason: Reason) -> bool {
 }
 
 /// Whether propagation comes to what the row says. It ends only where each literal was propagated.
-fn comes_to<A: Allocator + Copy>(ctx: &mut Context<A>, row: &Row) -> Result<bool, AllocError>
+fn comes_to<A: Allocator + Copy>(ctx: &mut Context<A>, row: &Row) -> Result<bool, StoreError>
     requires { IsReady ctx.old }
 {
     let end = propagate(
@@ -93,7 +93,7 @@ fn is_right<A: Allocator + Copy>(
     ctx: &mut Context<A>,
     row: &Row,
     is_rebuilt: bool,
-) -> Result<bool, AllocError>
+) -> Result<bool, StoreError>
     requires { IsReady ctx.old }
 {
     if is_rebuilt {
@@ -104,19 +104,19 @@ fn is_right<A: Allocator + Copy>(
 }
 
 /// Whether the row is right, whether or not the clauses are watched anew before.
-fn holds<A: Allocator + Copy>(alloc: A, row: &Row, is_rebuilt: bool) -> Result<bool, AllocError> {
+fn holds<A: Allocator + Copy>(alloc: A, row: &Row, is_rebuilt: bool) -> Result<bool, StoreError> {
     let mut ctx = loaded(alloc, 4, row.clauses)?;
     let is_right = is_right(&mut ctx, row, is_rebuilt)?;
     Ok(is_right)
 }
 
-fn holds_always(alloc: Global, row: &Row) -> Result<bool, AllocError> {
+fn holds_always(alloc: Global, row: &Row) -> Result<bool, StoreError> {
     Ok(holds(alloc, row, false)? && holds(alloc, row, true)?)
 }
 
 // 1 is false, so that 3 takes its place beside 2.
 #[test]
-fn a_watch_moves(rt: HostRuntime) -> Result<(), AllocError> {
+fn a_watch_moves(rt: HostRuntime) -> Result<(), StoreError> {
     let row = Row {
         clauses: &[&lits![1, 2, 3], &lits![-1]],
         end: Ok(()),
@@ -130,7 +130,7 @@ fn a_watch_moves(rt: HostRuntime) -> Result<(), AllocError> {
 
 // 2 is true as 1 becomes false, so that the clause stays as it is.
 #[test]
-fn a_true_clause_stays(rt: HostRuntime) -> Result<(), AllocError> {
+fn a_true_clause_stays(rt: HostRuntime) -> Result<(), StoreError> {
     let row = Row {
         clauses: &[&lits![1, 2, 3], &lits![2], &lits![-1]],
         end: Ok(()),
@@ -143,12 +143,12 @@ fn a_true_clause_stays(rt: HostRuntime) -> Result<(), AllocError> {
 }
 
 #[test]
-fn the_last_literal_is_implied(rt: HostRuntime) -> Result<(), AllocError> {
+fn the_last_literal_is_implied(rt: HostRuntime) -> Result<(), StoreError> {
     let row = Row {
         clauses: &[&lits![1, 2, 3], &lits![-1], &lits![-2]],
         end: Ok(()),
         trail: &lits![-1, -2, 3],
-        reason: Reason::Long(ClauseRef::from_place(0)),
+        reason: Reason::Long(ClauseRef::from_offset(0)),
         watched: &[(lit!(-1), &[]), (lit!(-2), &[0]), (lit!(-3), &[0])],
     };
     assert!(rt; holds_always(rt.alloc(), &row)?);
@@ -157,7 +157,7 @@ fn the_last_literal_is_implied(rt: HostRuntime) -> Result<(), AllocError> {
 
 /// Whether a clause is found false that comes behind one that implied a literal. Both watch 2, which was not propagated
 /// to its end, and go on watching it.
-fn is_conflict_found<A: Allocator + Copy>(alloc: A, is_rebuilt: bool) -> Result<bool, AllocError> {
+fn is_conflict_found<A: Allocator + Copy>(alloc: A, is_rebuilt: bool) -> Result<bool, StoreError> {
     let row = Row {
         clauses: &[
             &lits![1, 2, 4],
@@ -166,22 +166,22 @@ fn is_conflict_found<A: Allocator + Copy>(alloc: A, is_rebuilt: bool) -> Result<
             &lits![-4],
             &lits![-1],
         ],
-        end: Err(Conflict::Long(ClauseRef::from_place(2))),
+        end: Err(Conflict::Long(ClauseRef::from_offset(12))),
         trail: &lits![-4, -1, 2, 3],
-        reason: Reason::Long(ClauseRef::from_place(1)),
+        reason: Reason::Long(ClauseRef::from_offset(6)),
         watched: &[
             (lit!(-1), &[0]),
             (lit!(-2), &[0]),
-            (lit!(2), &[1, 2]),
-            (lit!(-3), &[1]),
-            (lit!(3), &[2]),
+            (lit!(2), &[6, 12]),
+            (lit!(-3), &[6]),
+            (lit!(3), &[12]),
         ],
     };
     holds(alloc, &row, is_rebuilt)
 }
 
 #[test]
-fn the_false_clause_is_told(rt: HostRuntime) -> Result<(), AllocError> {
+fn the_false_clause_is_told(rt: HostRuntime) -> Result<(), StoreError> {
     assert!(rt; is_conflict_found(rt.alloc(), false)?);
     assert!(rt; is_conflict_found(rt.alloc(), true)?);
     Ok(())
@@ -189,7 +189,7 @@ fn the_false_clause_is_told(rt: HostRuntime) -> Result<(), AllocError> {
 
 // Clauses of two literals are not watched. 2 implies 3 and -3, in the order of adding.
 #[test]
-fn a_false_clause_of_two_is_told(rt: HostRuntime) -> Result<(), AllocError> {
+fn a_false_clause_of_two_is_told(rt: HostRuntime) -> Result<(), StoreError> {
     let row = Row {
         clauses: &[&lits![1, 2], &lits![-2, 3], &lits![-2, -3], &lits![-1]],
         end: Err(Conflict::Binary([lit!(-3), lit!(-2)])),
@@ -202,7 +202,7 @@ fn a_false_clause_of_two_is_told(rt: HostRuntime) -> Result<(), AllocError> {
 }
 
 #[test]
-fn each_growth_of_lists_may_be_refused(rt: HostRuntime) -> Result<(), AllocError> {
+fn each_growth_of_lists_may_be_refused(rt: HostRuntime) -> Result<(), StoreError> {
     let mut found = false;
     let mut refused = false;
     for room in 0..220 {

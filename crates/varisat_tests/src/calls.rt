@@ -148,6 +148,7 @@ const REFUSALS: &[(SolverError, &str)] = &[
         SolverError::Invalid,
         "The solver is invalid after an unrecoverable error",
     ),
+    (SolverError::ClauseStoreFull, "The clause store is full"),
     (SolverError::VariableLimit, "The variable limit is passed"),
     (
         SolverError::ConfigOutOfRange {

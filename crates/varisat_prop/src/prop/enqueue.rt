@@ -1,7 +1,7 @@
 //! Making literals true.
 ghost use Rattle.std.specs.Prelude.{◌≡◌, List, OnOk};
 ghost use Rattle.varisat_theory.specs.Literals.{Literal};
-ghost use Rattle.varisat_prop.specs.Stored.{StoredClause};
+ghost use Rattle.varisat_clause.specs.Stores.{Store};
 ghost use Rattle.varisat_prop.specs.View.{view_of};
 ghost use Rattle.varisat_prop.specs.Changes.{IsAssignable, enqueued};
 
@@ -20,7 +20,7 @@ pub fn enqueue_assignment<A: Allocator + Copy>(
     reason: Reason,
 ) -> Result<(), AllocError>
     requires { IsAssignable assignment.old.current impl_graph.old.nodes.items lit }
-    ensures view { OnOk result ((clauses : List StoredClause) (binary : List (List Literal)) → view_of clauses binary assignment.new trail.new impl_graph.new ≡ enqueued (view_of clauses binary assignment.old trail.old impl_graph.old) lit reason) }
+    ensures view { OnOk result ((clauses : Store) (binary : List (List Literal)) → view_of clauses binary assignment.new trail.new impl_graph.new ≡ enqueued (view_of clauses binary assignment.old trail.old impl_graph.old) lit reason) }
     ensures last { OnOk result (assignment.new.last ≡ assignment.old.last) }
     ensures units { OnOk result (trail.new.units_removed ≡ trail.old.units_removed) }
 {

@@ -1,5 +1,7 @@
 //! The implication graph: why, at which level and where each variable was assigned.
 ghost use Rattle.std.specs.Prelude.{◌≡◌, ◌<◌, ◌≤◌, ◌++◌, ◌-◌, ◌↔◌, ◌^◌, IsTrue, [], length, replicate, slice_index_or, slice_set, OnOk};
+ghost use Rattle.varisat_clause.specs.Stores.{IsSound};
+ghost use Rattle.varisat_clause.specs.Collected.{live_clauses};
 ghost use Rattle.varisat_prop.specs.View.{no_node};
 ghost use Rattle.varisat_prop.specs.Changes.{NamesClause, causes_of, NamesPlace, named_in};
 
@@ -45,13 +47,14 @@ pub struct ImplGraph<A: Allocator + Copy> {
 impl Reason {
     /// The literals whose being false made the literal true: those of the clause but its first.
     pub fn lits<'a, A: Allocator + Copy>(&'a self, clause_alloc: &'a ClauseAlloc<A>) -> &'a [Lit]
-        requires { NamesClause clause_alloc.now self.now }
-        ensures { result.now ≡ causes_of clause_alloc.now self.now }
+        requires sound { IsSound clause_alloc.now }
+        requires clause { NamesClause (live_clauses clause_alloc.now) self.now }
+        ensures { result.now ≡ causes_of (live_clauses clause_alloc.now) self.now }
     {
         match self {
             Reason::Unit => &[],
             Reason::Binary(lits) => lits,
-            Reason::Long(cref) => &clause_alloc.clause(*cref)[1..],
+            Reason::Long(cref) => &clause_alloc.lits(*cref)[1..],
         }
     }
 
@@ -69,12 +72,13 @@ impl Reason {
 impl Conflict {
     /// The literals of the clause, which are all false.
     pub fn lits<'a, A: Allocator + Copy>(&'a self, clause_alloc: &'a ClauseAlloc<A>) -> &'a [Lit]
-        requires { NamesPlace clause_alloc.now self.now }
-        ensures { result.now ≡ named_in clause_alloc.now self.now }
+        requires sound { IsSound clause_alloc.now }
+        requires place { NamesPlace (live_clauses clause_alloc.now) self.now }
+        ensures { result.now ≡ named_in (live_clauses clause_alloc.now) self.now }
     {
         match self {
             Conflict::Binary(lits) => lits,
-            Conflict::Long(cref) => clause_alloc.clause(*cref),
+            Conflict::Long(cref) => clause_alloc.lits(*cref),
         }
     }
 }

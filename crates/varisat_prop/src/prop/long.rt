@@ -2,7 +2,9 @@
 ghost use Rattle.std.specs.Prelude.{◌≡◌, ◌≢◌, ℕ, suc, ◌<◌, ◌≤◌, ◌*◌, ◌++◌, IsTrue, length, take, drop, OnOk, IfOk, MatchResult, MatchOption};
 ghost use Rattle.varisat_theory.specs.Membership.{◌∈◌};
 ghost use Rattle.varisat_theory.specs.Literals.{opposite};
-ghost use Rattle.varisat_prop.specs.Stored.{IsPlace, literals_at, with_literals};
+ghost use Rattle.varisat_clause.specs.Stored.{IsPlace, literals_at, with_literals};
+ghost use Rattle.varisat_clause.specs.Stores.{IsSound};
+ghost use Rattle.varisat_clause.specs.Collected.{live_clauses};
 ghost use Rattle.varisat_prop.specs.Parts.{IsMadeTrue};
 ghost use Rattle.varisat_prop.specs.View.{view_of, WellFormed, literal_at};
 ghost use Rattle.varisat_prop.specs.Changes.{IsConflicting};
@@ -119,12 +121,14 @@ fn reorder_clause<A: Allocator + Copy>(
     cref: ClauseRef,
     false_lit: Lit,
 ) -> Found
-    requires place { IsPlace clause_alloc.old cref }
-    requires long { 2 ≤ length (literals_at clause_alloc.old cref) }
-    requires within { IsInRange assignment.now.current (literals_at clause_alloc.old cref) }
+    requires sound { IsSound clause_alloc.old }
+    requires place { IsPlace (live_clauses clause_alloc.old) cref }
+    requires long { 2 ≤ length (literals_at (live_clauses clause_alloc.old) cref) }
+    requires within { IsInRange assignment.now.current (literals_at (live_clauses clause_alloc.old) cref) }
     requires is_false { IsMadeTrue assignment.now.current (opposite false_lit) }
-    ensures changed { clause_alloc.new ≡ with_literals clause_alloc.old cref (literals_at clause_alloc.new cref) }
-    ensures found { IsFound assignment.now.current (literals_at clause_alloc.old cref) (literals_at clause_alloc.new cref) false_lit result }
+    ensures sound { IsSound clause_alloc.new }
+    ensures changed { live_clauses clause_alloc.new ≡ with_literals (live_clauses clause_alloc.old) cref (literals_at (live_clauses clause_alloc.new) cref) }
+    ensures found { IsFound assignment.now.current (literals_at (live_clauses clause_alloc.old) cref) (literals_at (live_clauses clause_alloc.new) cref) false_lit result }
 {
     let lits = clause_alloc.lits_mut(cref);
     reorder(lits, assignment, false_lit)
@@ -142,8 +146,8 @@ fn visit_watch<A: Allocator + Copy>(
     watch: Watch,
 ) -> Result<Visit, AllocError>
     requires well { WellFormed (view_of clause_alloc.old binary_clauses.now assignment.old trail.old impl_graph.old) }
-    requires within { IsPlace clause_alloc.old watch.cref }
-    requires blocking { watch.blocking ∈ literals_at clause_alloc.old watch.cref }
+    requires within { IsPlace (live_clauses clause_alloc.old) watch.cref }
+    requires blocking { watch.blocking ∈ literals_at (live_clauses clause_alloc.old) watch.cref }
     requires lists { length watchlists.old.lists ≡ 2 * length assignment.old.current }
     requires is_true { IsMadeTrue assignment.old.current lit }
     ensures visited { OnOk result (IsVisited (view_of clause_alloc.old binary_clauses.now assignment.old trail.old impl_graph.old) (view_of clause_alloc.new binary_clauses.now assignment.new trail.new impl_graph.new) watchlists.old watchlists.new watch.cref) }

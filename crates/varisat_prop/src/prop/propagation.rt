@@ -3,14 +3,16 @@ ghost use Rattle.std.specs.Prelude.{◌≡◌, suc, ◌<◌, ◌≤◌, true, fa
 ghost use Rattle.varisat_theory.specs.Membership.{◌∈◌};
 ghost use Rattle.varisat_theory.specs.Literals.{Literal, Clause, opposite};
 ghost use Rattle.varisat_theory.specs.Propagation.{IsComplete};
-ghost use Rattle.varisat_prop.specs.Stored.{literals_of};
+ghost use Rattle.varisat_clause.specs.Stored.{literals_of};
+ghost use Rattle.varisat_clause.specs.Stores.{IsSound};
+ghost use Rattle.varisat_clause.specs.Collected.{live_clauses};
 ghost use Rattle.varisat_prop.specs.View.{view_of, kept, literal_at, WellFormed};
 ghost use Rattle.varisat_prop.specs.Changes.{IsConflicting};
 ghost use Rattle.varisat_prop.specs.Looks.{Propagates};
 ghost use Rattle.varisat_prop.specs.Watches.{list_of, IsWatching, IsSettledTo, IsImpliedTo, IsWatched, IsPropagated};
 
 use crate::binary::BinaryClauses;
-use crate::clause::{ClauseAlloc, ClauseRef};
+use crate::clause::ClauseAlloc;
 use crate::prop::assignment::Assignment;
 use crate::prop::binary::propagate_binary;
 use crate::prop::graph::{Conflict, ImplGraph};
@@ -18,6 +20,7 @@ use crate::prop::long::propagate_long;
 use crate::prop::trail::Trail;
 use crate::prop::watch::Watchlists;
 use std::alloc::{AllocError, Allocator};
+use varisat_clause::iter::clauses_iter;
 use varisat_literals::Lit;
 
 /// Fills the watch lists anew from the first two literals of each clause, where they are off.
@@ -25,21 +28,20 @@ pub fn enable_watchlists<A: Allocator + Copy>(
     watchlists: &mut Watchlists<A>,
     clause_alloc: &ClauseAlloc<A>,
 ) -> Result<(), AllocError>
-    requires several { (c : Clause) → c ∈ literals_of clause_alloc.now → 2 ≤ length c }
-    requires within { (c : Clause) → c ∈ literals_of clause_alloc.now → (l : Literal) → l ∈ c → opposite l < length watchlists.old.lists }
+    requires sound { IsSound clause_alloc.now }
+    requires within { (c : Clause) → c ∈ literals_of (live_clauses clause_alloc.now) → (l : Literal) → l ∈ c → opposite l < length watchlists.old.lists }
     requires empty { watchlists.old.enabled ≡ false → (x : Literal) → list_of watchlists.old x ≡ [] }
     ensures enabled { OnOk result (watchlists.new.enabled ≡ true) }
     ensures count { OnOk result (length watchlists.new.lists ≡ length watchlists.old.lists) }
     ensures same { OnOk result (watchlists.old.enabled ≡ true → watchlists.new ≡ watchlists.old) }
-    ensures watching { OnOk result (watchlists.old.enabled ≡ false → IsWatching watchlists.new clause_alloc.now) }
+    ensures watching { OnOk result (watchlists.old.enabled ≡ false → IsWatching watchlists.new (live_clauses clause_alloc.now)) }
 {
     if watchlists.enabled() {
         return Ok(());
     }
     watchlists.enable();
-    for place in 0..clause_alloc.len() {
-        let cref = ClauseRef::from_place(place);
-        watchlists.watch_clause(cref, clause_alloc.clause(cref))?;
+    for cref in clauses_iter(clause_alloc) {
+        watchlists.watch_clause(cref, clause_alloc.lits(cref))?;
     }
     Ok(())
 }

@@ -1,4 +1,4 @@
-use Rattle.std.proofs.Common.{◌≡◌, ◌+◌, ◌++◌, ◌∷◌, [], suc, Some, None, sym, ap, ap₂, ◌∙◌, subst, refl, get_or, arith, rules}
+use Rattle.std.proofs.Common.{◌≡◌, ◌+◌, ◌++◌, ◌∷◌, [], suc, Some, None, sym, ap, ap₂, ◌∙◌, subst, refl, get_or, arith}
 use Rattle.std.proofs.lemmas.List.{append-nil}
 use Rattle.std.specs.Prelude.{MatchOption}
 use Rattle.varisat_theory.specs.Literals.{Assignment, literal_of}
@@ -15,7 +15,7 @@ use Rattle.varisat.proofs.solver.list_model.Goals.{then-is_some+in_ok-push, else
 use Rattle.varisat.proofs.solver.list_model.Goals as goal
 
 pub loop-index-init : goal.loop-index-init
-loop-index-init g c = search rules
+loop-index-init g c = c.new-list.ensures.items
 
 pub loop-index-preserved : goal.loop-index-preserved
 loop-index-preserved g c =

@@ -92,6 +92,11 @@ returns-in-Sat-clause-counted g c n h = stepping-counts (stepping g (goal.at.ret
 pub returns-in-Sat-clause-decidable : goal.returns-in-Sat-clause-decidable
 returns-in-Sat-clause-decidable g c = decidable-still g (goal.at.returns-in-Sat-clause-decidable g c).In_ok-schedule_step
 
+pub returns-in-Sat-clause-state : goal.returns-in-Sat-clause-state
+returns-in-Sat-clause-state g c =
+    let y = c.steps.ctx in
+    c.in_ok-schedule_step.ensures.state ∙ ap (λ v. record y.solver_state { sat_state = v }) c.in-Sat.is ∙ ap (λ (s : SolverState). record s { sat_state = verdict.Sat }) c.steps.invariant.state
+
 pub returns-in-Sat-clause-steps : goal.returns-in-Sat-clause-steps
 returns-in-Sat-clause-steps g c =
     let y = c.steps.ctx in
@@ -121,5 +126,6 @@ returns-in_err-schedule_step-clause-counted g c n h =
     let x = c.args.ctx.now in
     let y = c.steps.ctx in
     let r = c.steps.invariant in
-    subst (λ a. CountsSteps n c.args.max_steps x.schedule.steps c.schedule_step.new.ctx.schedule.steps a) (sym (told-refused c.from_residual.result c.from_residual.ensures.0))
-    (counts-refused (call_from x) c.args.max_steps y.schedule (kinds (view y)) c.prove_in_range.ensures.luby_restart_interval_scale (flags-short (view y) (length x.assignment.current) r.ready.well r.count) r.made c.schedule_step.new.ctx.schedule.steps (c.in_err-schedule_step.ensures {u = tt}).uncounted n h)
+    let (e, told) = told-refused c.from_residual.result c.from_residual.ensures.0 in
+    subst (λ a. CountsSteps n c.args.max_steps x.schedule.steps c.schedule_step.new.ctx.schedule.steps a) (sym told)
+    (counts-refused (call_from x) c.args.max_steps y.schedule (kinds (view y)) c.prove_in_range.ensures.luby_restart_interval_scale (flags-short (view y) (length x.assignment.current) r.ready.well r.count) r.made e c.schedule_step.new.ctx.schedule.steps (c.in_err-schedule_step.ensures {u = tt}).uncounted n h)

@@ -13,8 +13,11 @@ reason-requires g c =
     let n = ap (λ x. length x) sees.nodes_are in
     omega (arith, i, n, c.var.ensures)
 
-pub lits-requires : goal.lits-requires
-lits-requires g c =
+pub lits-requires-clause-sound : goal.lits-requires-clause-sound
+lits-requires-clause-sound g c = c.requires.1.0.sees.sound
+
+pub lits-requires-clause-clause : goal.lits-requires-clause-clause
+lits-requires-clause-clause g c =
     let sees = c.requires.1.0.sees in
     let p = reason-read g.s c.args.parts.impl_graph.now.nodes.items c.args.lit c.var.result c.reason.result.now sees.nodes_are c.var.ensures c.reason.ensures in
     subst (λ P. NamesClause P c.reason.result.now) (sym sees.clauses_are) (subst (NamesClause g.s.clauses) (sym p) (names-clause g.s sees.well c.args.lit c.requires.1.1))

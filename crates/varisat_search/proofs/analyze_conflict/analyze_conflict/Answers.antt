@@ -20,7 +20,7 @@ learn_and_clear-requires g c κs within =
       within,
       record {
         can = record {
-          sees = record { well = c.requires.1.1.0; clauses_are = shows.clauses_are; nodes_are = shows.nodes_are; trail_is = shows.trail_is; decisions_are = shows.decisions_are };
+          sees = record { well = c.requires.1.1.0; sound = shows.sound; clauses_are = shows.clauses_are; nodes_are = shows.nodes_are; trail_is = shows.trail_is; decisions_are = shows.decisions_are };
           flags_are = omega (arith, value, count, flags, nodes);
         };
         conflict = record { settled = c.requires.1.1.1.0; conflict = c.requires.1.1.1.1.0; deep = omega (arith, level, c.current_level.ensures, decisions) };

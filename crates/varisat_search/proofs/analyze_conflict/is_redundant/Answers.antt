@@ -1,4 +1,5 @@
 use Rattle.std.proofs.Common.{◌≡◌, [], ◌∷◌, ◌++◌, length, ap, ◌∙◌, subst, arith}
+use Rattle.varisat_clause.specs.Collected.{live_clauses}
 use Rattle.varisat_search.specs.Marks.{marking}
 use Rattle.varisat_search.specs.Redundancy.{Explores}
 use Rattle.varisat_search.proofs.WellFormedViews.{reason-read, read-inside}
@@ -23,17 +24,20 @@ reason-requires-in-Some g c =
     let sees = c.requires.1.0.sees in
     search-inside sees.well c.search.invariant c.in-Some.implied c.pop.new.self.items c.in-Some.ensures.items c.args.parts.impl_graph.now.nodes.items c.var-in-Some.result sees.nodes_are c.var-in-Some.ensures
 
-pub lits-lits-requires : goal.lits-lits-requires
-lits-lits-requires g c =
+pub lits-lits-requires-clause-sound : goal.lits-lits-requires-clause-sound
+lits-lits-requires-clause-sound g c = c.requires.1.0.sees.sound
+
+pub lits-lits-requires-clause-clause : goal.lits-lits-requires-clause-clause
+lits-lits-requires-clause-clause g c =
     let sees = c.requires.1.0.sees in
     let p = reason-read g.s c.args.parts.impl_graph.now.nodes.items c.in-Some.implied c.var-in-Some.result c.reason-in-Some.result.now sees.nodes_are c.var-in-Some.ensures c.reason-in-Some.ensures in
-    search-names sees.well c.search.invariant c.in-Some.implied c.pop.new.self.items c.in-Some.ensures.items c.args.parts.clause_alloc.now c.reason-in-Some.result.now sees.clauses_are p
+    search-names sees.well c.search.invariant c.in-Some.implied c.pop.new.self.items c.in-Some.ensures.items (live_clauses c.args.parts.clause_alloc.now) c.reason-in-Some.result.now sees.clauses_are p
 
 pub mark_causes-requires : goal.mark_causes-requires
 mark_causes-requires g c κs within =
     let sees = c.requires.1.0.sees in
     let p = reason-read g.s c.args.parts.impl_graph.now.nodes.items c.in-Some.implied c.var-in-Some.result c.reason-in-Some.result.now sees.nodes_are c.var-in-Some.ensures c.reason-in-Some.ensures in
-    (within, (can-still c.requires.1.0 c.search.auto.var_flags, search-falsified sees.well c.search.invariant c.in-Some.implied c.pop.new.self.items c.in-Some.ensures.items c.args.parts.clause_alloc.now c.reason-in-Some.result.now c.lits-lits.result.now sees.clauses_are p c.lits-lits.ensures))
+    (within, (can-still c.requires.1.0 c.search.auto.var_flags, search-falsified sees.well c.search.invariant c.in-Some.implied c.pop.new.self.items c.in-Some.ensures.items (live_clauses c.args.parts.clause_alloc.now) c.reason-in-Some.result.now c.lits-lits.result.now sees.clauses_are p c.lits-lits.ensures))
 
 pub clear_flags-requires : goal.clear_flags-requires
 clear_flags-requires g c v i =
@@ -54,7 +58,7 @@ pub search-preserved : goal.search-preserved
 search-preserved g c =
     let sees = c.requires.1.0.sees in
     let p = reason-read g.s c.args.parts.impl_graph.now.nodes.items c.in-Some.implied c.var-in-Some.result c.reason-in-Some.result.now sees.nodes_are c.var-in-Some.ensures c.reason-in-Some.ensures in
-    search-next sees.well c.search.invariant c.in-Some.implied c.pop.new.self.items c.in-Some.ensures.items c.args.parts.clause_alloc.now c.reason-in-Some.result.now c.lits-lits.result.now (marking c.mark_causes.new.scratch c.mark_causes.new.var_flags) sees.clauses_are p c.lits-lits.ensures c.search.auto.var_flags
+    search-next sees.well c.search.invariant c.in-Some.implied c.pop.new.self.items c.in-Some.ensures.items (live_clauses c.args.parts.clause_alloc.now) c.reason-in-Some.result.now c.lits-lits.result.now (marking c.mark_causes.new.scratch c.mark_causes.new.var_flags) sees.clauses_are p c.lits-lits.ensures c.search.auto.var_flags
     (subst (λ b. Explores g.s c.lits-lits.result.now b (marking (record c.search.scratch { stack = c.pop.new.self }) c.search.var_flags) (marking c.mark_causes.new.scratch c.mark_causes.new.var_flags)) c.if-not-branch.false (c.in_ok-mark_causes.ensures {u = tt}))
 
 pub returns : goal.returns

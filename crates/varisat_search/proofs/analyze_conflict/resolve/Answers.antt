@@ -6,8 +6,11 @@ use Rattle.varisat_search.proofs.WellFormedViews.{named-place}
 use Rattle.varisat_search.proofs.AnalysisWalk.{walk-begin, walk-small, reads-before, read-inside-flags, read-true, read-skip, read-end, read-resolve}
 use Rattle.varisat_search.proofs.analyze_conflict.resolve.Goals as goal
 
-pub lits-requires : goal.lits-requires
-lits-requires g c =
+pub lits-requires-clause-sound : goal.lits-requires-clause-sound
+lits-requires-clause-sound g c = c.requires.1.can.sees.sound
+
+pub lits-requires-clause-place : goal.lits-requires-clause-place
+lits-requires-clause-place g c =
     let sees = c.requires.1.can.sees in
     subst (λ P. NamesPlace P c.args.conflict) (sym sees.clauses_are) (named-place g.s c.args.conflict c.requires.1.conflict.conflict.0)
 

@@ -1,16 +1,17 @@
 use Rattle.std.proofs.Common.{◌++◌, take, take_all, sym, ap, ◌∙◌, subst}
+use Rattle.varisat_clause.specs.Collected.{live_clauses}
 use Rattle.varisat_theory.specs.Membership.{◌∈◌}
 use Rattle.varisat_prop.proofs.ReadElements.{item-∈}
 use Rattle.varisat_search.specs.Bumps.{bumping, BumpsNew, literals_among}
 use Rattle.varisat_search.proofs.BumpedVariables.{among-snoc, in-among, may-part, bumps-join}
 use Rattle.varisat_search.proofs.bumps.bump_clauses.Goals as goal
 
-pub lits-requires : goal.lits-requires
-lits-requires g c = c.requires.named c.name-item.result (item-∈ c.args.names.now c.loop-name.name-index c.name-item.result c.loop-name-test.true c.name-item.is)
+pub lits-requires-clause-place : goal.lits-requires-clause-place
+lits-requires-clause-place g c = c.requires.named c.name-item.result (item-∈ c.args.names.now c.loop-name.name-index c.name-item.result c.loop-name-test.true c.name-item.is)
 
 pub bump_literals-requires : goal.bump_literals-requires
 bump_literals-requires g c =
-    let ks = c.args.clause_alloc.now in
+    let ks = live_clauses c.args.clause_alloc.now in
     let ps = c.args.names.now in
     let i = item-∈ ps c.loop-name.name-index c.name-item.result c.loop-name-test.true c.name-item.is in
     may-part c.args.impl_graph.now.nodes.items (literals_among ks ps) c.lits.result.now (bumping c.args.flags.now c.args.vsids.now) (bumping c.loop-name.flags c.loop-name.vsids) c.requires.may
@@ -19,7 +20,7 @@ bump_literals-requires g c =
 
 pub loop-name-preserved : goal.loop-name-preserved
 loop-name-preserved g c =
-    let ks = c.args.clause_alloc.now in
+    let ks = live_clauses c.args.clause_alloc.now in
     let ps = c.args.names.now in
     let k = c.loop-name.name-index in
     let nodes = c.args.impl_graph.now.nodes.items in
@@ -34,4 +35,4 @@ loop-name-preserved g c =
 
 pub returns-clause-bumps : goal.returns-clause-bumps
 returns-clause-bumps g c =
-    subst (λ qs. BumpsNew c.args.impl_graph.now.nodes.items (literals_among c.args.clause_alloc.now qs) (bumping c.args.flags.now c.args.vsids.now) (bumping c.loop-name.flags c.loop-name.vsids)) (take_all c.loop-name.name-index c.args.names.now c.loop-name-test.false) c.loop-name.invariant.bumps
+    subst (λ qs. BumpsNew c.args.impl_graph.now.nodes.items (literals_among (live_clauses c.args.clause_alloc.now) qs) (bumping c.args.flags.now c.args.vsids.now) (bumping c.loop-name.flags c.loop-name.vsids)) (take_all c.loop-name.name-index c.args.names.now c.loop-name-test.false) c.loop-name.invariant.bumps

@@ -1,5 +1,7 @@
 use Rattle.std.proofs.Common.{◌≡◌, ◌*◌, false, length, drop, get_or, sym, ap, ◌∙◌, subst, arith}
 use Rattle.std.proofs.lemmas.List.{length-replicate}
+use Rattle.varisat_clause.proofs.StoreSound.{is-sound}
+use Rattle.varisat_clause.specs.Collected.{live_clauses}
 use Rattle.varisat_theory.specs.Membership.{◌∈◌}
 use Rattle.varisat_vsids.specs.Activities.{Activities, decayed}
 use Rattle.varisat_search.specs.Contexts.{view}
@@ -17,7 +19,7 @@ bump_each_once-requires-clause-may g c =
     let v = ap (λ xs. length xs) c.deref_mut.ensures.value in
     record {
       known = λ l i.
-          let (k, h, j) = among-kept (view x) r.well x.analyze_conflict.involved l c.requires.named (subst (λ ps. l ∈ literals_among x.clause_alloc ps) c.involved.ensures i) in
+          let (k, h, j) = among-kept (view x) r.well x.analyze_conflict.involved l c.requires.named (subst (λ ps. l ∈ literals_among (live_clauses x.clause_alloc) ps) c.involved.ensures i) in
           let w = r.well.in_range k h l j in
           omega (arith, w, n);
       flags = omega (arith, n, f, v);
@@ -35,7 +37,7 @@ pub returns-clause-bumps : goal.returns-clause-bumps
 returns-clause-bumps g c h =
     let x = c.args.ctx.now in
     let (vars, a, e) = c.bump_each_once.ensures.bumps in
-    (vars, subst (λ ps. AreVariablesAbove x.impl_graph.nodes.items (literals_among x.clause_alloc ps) vars) c.involved.ensures a, c.decay.ensures.decayed ∙ ap decayed e)
+    (vars, subst (λ ps. AreVariablesAbove x.impl_graph.nodes.items (literals_among (live_clauses x.clause_alloc) ps) vars) c.involved.ensures a, c.decay.ensures.decayed ∙ ap decayed e)
 
 pub returns-clause-available : goal.returns-clause-available
 returns-clause-available g c =
@@ -75,3 +77,6 @@ returns-then-current_level-eq0-clause-bumps g c h = let l = c.current_level.ensu
 
 pub returns-then-current_level-eq0-clause-entries : goal.returns-then-current_level-eq0-clause-entries
 returns-then-current_level-eq0-clause-entries g c = c.requires.ready.decidable.entries
+
+pub bump_each_once-requires-clause-sound : goal.bump_each_once-requires-clause-sound
+bump_each_once-requires-clause-sound g c = is-sound c.args.ctx.now.clause_alloc c.requires.ready.well.sound

@@ -4,7 +4,7 @@ use Rattle.varisat_search.specs.declared.context.Context.{Context}
 use Rattle.varisat_search.specs.Contexts.{view}
 use Rattle.varisat_search.specs.Learned.{Analysis, AreInvolved}
 use Rattle.varisat_search.specs.Steps.{SavesSome}
-use Rattle.varisat_search.proofs.LearnContext.{analysis-ready, involved-named, bumps-learned, cut-activities, analyzed-bumped, Backtracked, saves-some, learned-listed, learned-paired, Learning, learning-free, learning-node, learning-further, learning-activities, refuted-undecided, refuted-further}
+use Rattle.varisat_search.proofs.LearnContext.{analysis-ready, involved-named, bumps-learned, cut-activities, analyzed-bumped, Backtracked, saves-some, learned-listed, learned-paired, learned-sound, Learning, learning-free, learning-node, learning-further, learning-activities, refuted-undecided, refuted-further}
 use Rattle.varisat_search.proofs.cdcl.learn.Given.{Over}
 use Rattle.varisat_search.proofs.cdcl.learn.Goals.{After-backtrack, In_ok-reason, In_ok-enqueue_assignment}
 use Rattle.varisat_search.proofs.cdcl.learn.Goals as goal
@@ -35,7 +35,7 @@ undone g c = record {
 }
 
 learning : (g : Over) (c : In_ok-reason g) → Backtracked c.args.ctx.now c.bump_involved.new.ctx c.backtrack.new.ctx c.args.conflict c.in_ok-level.level → Learning c.args.ctx.now c.bump_involved.new.ctx c.backtrack.new.ctx c.keep_learned.new.ctx c.args.conflict c.in_ok-level.level c.in-Some.first c.in-Some.ensures.0 c.in_ok-reason.reason
-learning g c b = record { before = b; split = sym c.clause.ensures ∙ c.in-Some.ensures.1; stored = c.keep_learned.ensures.kept; kept = c.in_ok-reason.ensures.reason; watched = c.in_ok-reason.ensures.watched }
+learning g c b = record { before = b; split = sym c.clause.ensures ∙ c.in-Some.ensures.1; sound = c.in_ok-reason.ensures.sound; stored = c.keep_learned.ensures.kept; kept = c.in_ok-reason.ensures.reason; watched = c.in_ok-reason.ensures.watched }
 
 abbrev last : (g : Over) (c : In_ok-enqueue_assignment g) → Context g.row.A.Denot
 last g c = record c.keep_learned.new.ctx { assignment = c.enqueue_assignment.new.assignment; impl_graph = c.enqueue_assignment.new.impl_graph; trail = c.enqueue_assignment.new.trail }
@@ -44,7 +44,7 @@ pub keep_learned-requires : goal.keep_learned-requires
 keep_learned-requires g c =
     let d = undone g (goal.at.keep_learned-requires g c).After-backtrack in
     let e = sym c.clause.ensures ∙ c.in-Some.ensures.1 in
-    record { listed = learned-listed d c.in-Some.first c.in-Some.ensures.0 e; paired = learned-paired d c.in-Some.first c.in-Some.ensures.0 e }
+    record { listed = learned-listed d c.in-Some.first c.in-Some.ensures.0 e; paired = learned-paired d c.in-Some.first c.in-Some.ensures.0 e; sound = learned-sound d }
 
 pub enqueue_assignment-requires : goal.enqueue_assignment-requires
 enqueue_assignment-requires g c =

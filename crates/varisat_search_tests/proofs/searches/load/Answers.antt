@@ -8,6 +8,20 @@ use Rattle.varisat_search.specs.Decisions.{IsDecidable}
 use Rattle.varisat_search.proofs.DecidableVariables.{still-decidable}
 use Rattle.varisat_search_tests.proofs.searches.load.Goals as goal
 
+pub loop-lit-init : goal.loop-lit-init
+loop-lit-init g c = record { ready = c.requires; known = λ m i. absurd i; decidable = λ m i. absurd i }
+
+pub returns-then-index-assignment : goal.returns-then-index-assignment
+returns-then-index-assignment g c = c.loop-lit.invariant.ready
+
+pub make_available-requires-clause-ready : goal.make_available-requires-clause-ready
+make_available-requires-clause-ready g c = c.loop-lit.invariant.ready
+
+pub make_available-requires-clause-known : goal.make_available-requires-clause-known
+make_available-requires-clause-known g c =
+    let a = ap (λ xs. length xs) c.assignment.ensures in
+    omega (arith, c.var.ensures, c.index.ensures.index, a, c.if-index-assignment.false)
+
 pub loop-lit-preserved : goal.loop-lit-preserved
 loop-lit-preserved g c =
     let lits = c.args.lits.now in
@@ -34,3 +48,9 @@ load_clause-requires-clause-in_range g c l i = c.loop-lit.invariant.known l (∈
 
 pub load_clause-requires-clause-decidable : goal.load_clause-requires-clause-decidable
 load_clause-requires-clause-decidable g c l i = c.loop-lit.invariant.decidable l (∈-take_all l c.args.lits.now c.loop-lit.lit-index c.loop-lit-test.false i)
+
+pub load_clause-requires-clause-ready : goal.load_clause-requires-clause-ready
+load_clause-requires-clause-ready g c = c.loop-lit.invariant.ready
+
+pub returns : goal.returns
+returns g c = (c.in_ok-load_clause.ensures {u = tt}).ready

@@ -1,4 +1,4 @@
-use Rattle.std.proofs.Common.{◌∙◌, not, refl, sym, ap, map, true, false, Bool, MatchBool, List, ◌≡◌, ◌<◌, arith}
+use Rattle.std.proofs.Common.{Err, subst, ◌∙◌, not, refl, sym, ap, map, true, false, Bool, MatchBool, List, ◌≡◌, ◌<◌, arith}
 use Rattle.varisat_theory.specs.Membership.{◌∈◌}
 use Rattle.varisat_theory.specs.Literals.{Literal, variable_of}
 use Rattle.varisat_literals.specs.Numbers.{variable_limit}
@@ -9,9 +9,9 @@ use Rattle.varisat.specs.Calls.{IsPastLimit}
 use Rattle.varisat.specs.Summaries.{spaces_of}
 use Rattle.varisat.specs.States.{Ledger}
 use Rattle.varisat.specs.Names.{name_all, through_names}
-use Rattle.varisat.specs.Calls.{start, append_clause, Accepted}
+use Rattle.varisat.specs.Calls.{start, append_clause, Accepted, AddsClause}
 use Rattle.varisat.proofs.NamesInOrder.{rest-all}
-use Rattle.varisat.proofs.CallStates.{ledger-is, stands-valid, like-refl, broken, broken-invalid}
+use Rattle.varisat.proofs.CallStates.{ledger-is, stands-valid, like-refl, broken, broken-invalid, adds-broken}
 use Rattle.varisat.proofs.AcceptClause.{ledger-free, not-refuted}
 use Rattle.varisat.proofs.solver.Solver.add_clause.Goals as goal
 
@@ -44,7 +44,8 @@ returns-in-Err g c s st =
     let bad = not-refuted _ s q (ap not c.if-self.false) c.in_default.not-Unsat (c.self.invariant c.if-self.false).no_assumptions in
     let k = c.accept_clause.ensures.schedule in (
       broken s,
-      (bad, within-limit c.args.clause.now c.is_past_limit.result c.is_past_limit.ensures c.if-is_past_limit.false, broken-invalid s (stands-valid _ s q (ap not c.if-self.false)) (q.fits (ap not c.if-self.false)).1.well_formed),
+      subst (λ e. AddsClause s c.args.clause.now (Err e) (broken s)) (sym c.from.ensures)
+          (adds-broken c.in-Err.error s (broken s) c.args.clause.now bad (within-limit c.args.clause.now c.is_past_limit.result c.is_past_limit.ensures c.if-is_past_limit.false) (broken-invalid s (stands-valid _ s q (ap not c.if-self.false)) (q.fits (ap not c.if-self.false)).1.well_formed)),
       record {
         ledger = ledger-is _ _ _ _ _ refl (ap (λ (x : Ledger). x.started) q.ledger) (ap (λ (x : Ledger). x.steps) q.ledger ∙ sym (ap (λ (x : Plan). x.steps) k.schedule)) (ap (λ (x : Ledger). x.settings) q.ledger ∙ sym k.solver_config);
         fits = λ e. absurd cc;

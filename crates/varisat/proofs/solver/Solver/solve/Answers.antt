@@ -6,10 +6,11 @@ use Rattle.varisat.specs.States.{Ledger, Unknown}
 use Rattle.varisat.specs.Searches.{verdict_of}
 use Rattle.varisat.specs.Spaces.{SpacesFit}
 use Rattle.varisat.specs.Summaries.{spaces_of}
-use Rattle.varisat.specs.Calls.{with_verdict, with_steps}
-use Rattle.varisat.specs.declared.solver.SolverError.TheVariants.{Interrupted, OutOfMemory}
+use Rattle.varisat.specs.Calls.{with_verdict, with_steps, Solves}
+use Rattle.varisat.specs.declared.solver.SolverError.TheVariants.{Interrupted}
+use Rattle.varisat.specs.Refusals.{store_refusal}
 use Rattle.varisat.proofs.AcceptClause.{ledger-free}
-use Rattle.varisat.proofs.CallStates.{ledger-is, stands-valid, like-refl, told-well, broken, broken-invalid}
+use Rattle.varisat.proofs.CallStates.{ledger-is, stands-valid, like-refl, told-well, broken, broken-invalid, solves-broken}
 use Rattle.varisat.proofs.SolverCalls.{decided, counted-call, interrupted, was-unknown, sat-model, sat-right, found-true, found-false}
 use Rattle.varisat.proofs.solver.Solver.solve.Goals as goal
 
@@ -83,9 +84,10 @@ returns-in-Err-clause-call g c s st =
     let q = rw (← c.self.view_is) at st in
     let was = was-unknown _ s q (ap not c.if-self.false) c.in-Unknown.is in
     let n = c.find_verdict.new.ctx.schedule.steps in
-    let counts = counted-call _ s c.max_steps-max_steps.result n (told_verdict c.find_verdict.result) (Err OutOfMemory) q (ap not c.if-self.false) c.max_steps-max_steps.ensures (ap told_verdict c.in-Err.is) c.find_verdict.ensures.counted in (
+    let counts = counted-call _ s c.max_steps-max_steps.result n (told_verdict c.find_verdict.result) (Err (store_refusal c.in-Err.error)) q (ap not c.if-self.false) c.max_steps-max_steps.ensures (ap told_verdict c.in-Err.is) c.find_verdict.ensures.counted in (
       broken (with_steps n s),
-      (was, counts, broken-invalid (with_steps n s) (stands-valid _ s q (ap not c.if-self.false)) (told-well s (with_steps n s) (q.fits (ap not c.if-self.false)).1.well_formed)),
+      subst (λ e. Solves s (Err e) (broken (with_steps n s))) (sym c.from.ensures)
+          (solves-broken c.in-Err.error s (broken (with_steps n s)) was counts (broken-invalid (with_steps n s) (stands-valid _ s q (ap not c.if-self.false)) (told-well s (with_steps n s) (q.fits (ap not c.if-self.false)).1.well_formed))),
       record {
         ledger = ledger-is _ _ _ _ _ refl (ap (λ (x : Ledger). x.started) q.ledger) refl (ap (λ (x : Ledger). x.settings) q.ledger ∙ sym c.find_verdict.ensures.config);
         fits = λ e. absurd cc;

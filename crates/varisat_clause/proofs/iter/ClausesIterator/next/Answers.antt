@@ -3,7 +3,7 @@ use Rattle.varisat_clause.specs.Headers.{Header}
 use Rattle.varisat_clause.specs.Stores.{clauses_of}
 use Rattle.varisat_clause.specs.Stored.{header_at}
 use Rattle.varisat_clause.specs.Filters.{live_places}
-use Rattle.varisat_clause.proofs.LiveClauses.{live-skipped, live-taken}
+use Rattle.varisat_clause.proofs.LiveClauses.{live-skipped, live-taken, live-ended}
 use Rattle.varisat_clause.proofs.iter.ClausesIterator.next.Goals as goal
 
 pub returns-then-not-deleted-clause-steps : goal.returns-then-not-deleted-clause-steps
@@ -25,3 +25,8 @@ places-preserved g c =
       left = live-skipped c.places.self-inside.alloc.now c.places.self-inside.index c.place-cref.result (omega arith) c.place-cref.ensures.place e ∙ c.places.invariant.left;
       sound = c.places.invariant.sound;
     }
+
+pub returns-clause-steps : goal.returns-clause-steps
+returns-clause-steps g c =
+    let e = live-ended c.places.self-inside.alloc.now c.places.self-inside.index (omega (arith, c.places-test.false)) in
+    (sym c.places.invariant.left ∙ e, e)

@@ -1,7 +1,7 @@
 use Rattle.std.proofs.Common.{◌≡◌, ◌+◌, ◌<◌, ◌≤◌, length, refl, sym, ap, ◌∙◌, subst, arith}
 use Rattle.std.proofs.lemmas.Option.{slice_get_within}
 use Rattle.varisat_prop.specs.View.{view_of, pairs_from}
-use Rattle.varisat_prop.specs.Stored.{literals_of}
+use Rattle.varisat_clause.specs.Stored.{literals_of}
 use Rattle.varisat_prop.specs.Parts.{TrailParts}
 use Rattle.varisat_prop.specs.Looks.{Propagates}
 use Rattle.varisat_prop.proofs.PropagateSteps.{propagates-refl, propagates-trans}
@@ -12,6 +12,7 @@ use Rattle.varisat_prop.specs.Watches.{IsSettledTo, IsImpliedTo, IsWatched}
 use Rattle.varisat_prop.proofs.WatchSettled.{settled-complete, pairs-complete, complete-both}
 use Rattle.varisat_prop.proofs.WellFormedChanges.{stored-kept}
 use Rattle.varisat_prop.proofs.PropagateQueue.{popped, at-end, watched-next, propagates-next, watched-enabled, watched-propagated}
+use Rattle.varisat_clause.proofs.StoreSound.{is-sound}
 use Rattle.varisat_prop.proofs.prop.propagation.propagate.Goals as goal
 
 pub queue-smaller : goal.queue-smaller
@@ -96,7 +97,5 @@ queue-init g c =
       units = refl;
     }
 
-pub enable_watchlists-requires-clause-several : goal.enable_watchlists-requires-clause-several
-enable_watchlists-requires-clause-several g c = λ d h.
-    let s = view_of c.args.clause_alloc.now c.args.binary_clauses.now c.args.assignment.now c.args.trail.now c.args.impl_graph.now in
-    c.requires.well.several d (stored-kept s d h)
+pub enable_watchlists-requires-clause-sound : goal.enable_watchlists-requires-clause-sound
+enable_watchlists-requires-clause-sound g c = is-sound c.args.clause_alloc.now c.requires.well.sound

@@ -37,12 +37,12 @@ starts_by false P h =
     let none : Conflicts P [] → ⊥ = λ x. let y = h.1 x in absurd cc in
     (refl, (λ r. none ((checked_start P P refl).refutes r)), none, refl)
 
-pub underway_start : (f : ProofFormat) (old : Standing) (count : Count) (p : Progress) → p ≡ begin f → count.steps ≡ 0 → IsTrue count.refuted ↔ Conflicts old.checker.clauses [] → Underway f old old count p
-underway_start f old count p g z h = record {
+pub underway_start : (f : ProofFormat) (old : Standing) (checker : CheckerState) (count : Count) (p : Progress) → checker ≡ old.checker → p ≡ begin f → count.steps ≡ 0 → IsTrue count.refuted ↔ Conflicts old.checker.clauses [] → Underway f old (record { checker = checker; source = old.source }) count p
+underway_start f old checker count p e g z h = record {
   text = [];
   reads = reads_none old.source;
   quiet = refl;
-  so = ([], subst (λ x. HasRead f [] [] x) (sym g) (reads_start f), subst (λ n. StandsBy count.refuted old.checker.clauses [] old.checker.clauses n) (sym z) (starts_by count.refuted old.checker.clauses h));
+  so = ([], subst (λ x. HasRead f [] [] x) (sym g) (reads_start f), subst (λ (Q : List Clause). StandsBy count.refuted old.checker.clauses [] Q count.steps) (sym (ap (λ s. s.clauses) e)) (subst (λ n. StandsBy count.refuted old.checker.clauses [] old.checker.clauses n) (sym z) (starts_by count.refuted old.checker.clauses h)));
 }
 
 -- a source gave a piece more

@@ -8,7 +8,6 @@ pub mod Elements
 pub mod CheckedLines
 pub mod CheckedSources
 pub mod RightResults
-pub mod DroppedClauses
 pub mod CheckedSteps
 pub mod MappedSteps
 pub mod AddedTexts

@@ -2,7 +2,6 @@
 
 pub mod check;
 pub mod error;
-pub mod propagation;
 pub mod reader;
 pub mod token;
 

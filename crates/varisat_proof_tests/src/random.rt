@@ -3,7 +3,7 @@
 use crate::checks::{Outcome, outcome_of};
 use std::alloc::{AllocError, Global};
 use varisat_formula::io::{MemoryTarget, ProofTarget, ReadSource};
-use varisat_literals::{Lit, lits};
+use varisat_literals::{Lit, lit, lits};
 use varisat_proof::checker::Checker;
 use varisat_proof::proof::{ProofFormat, ProofStep, write_binary_step, write_step};
 use varisat_theory::checker::{PlainLine, PlainVerdict, check_lines};
@@ -97,9 +97,7 @@ fn random_proof(alloc: Global, start: u64, length: usize) -> Result<Forms, Alloc
     Ok(forms)
 }
 
-const CLAUSES: usize = 4;
-
-fn clauses() -> [[Lit; 3]; CLAUSES] {
+fn clauses() -> [[Lit; 3]; 4] {
     [
         lits![1, 1, 1],
         lits![2, 3, 4],
@@ -108,9 +106,13 @@ fn clauses() -> [[Lit; 3]; CLAUSES] {
     ]
 }
 
-fn plain_outcome(alloc: Global, forms: &Forms) -> Result<Outcome, AllocError> {
+fn plain_outcome(
+    alloc: Global,
+    clauses: &[[Lit; 3]],
+    forms: &Forms,
+) -> Result<Outcome, AllocError> {
     let mut present = Vec::new(alloc);
-    for clause in &clauses() {
+    for clause in clauses {
         present.push(codes(alloc, clause)?)?;
     }
     Ok(match check_lines(alloc, &present, &forms.lines)? {
@@ -121,21 +123,34 @@ fn plain_outcome(alloc: Global, forms: &Forms) -> Result<Outcome, AllocError> {
     })
 }
 
-fn checker_outcome(alloc: Global, format: ProofFormat, bytes: &[u8]) -> Outcome {
+fn checker_outcome(
+    alloc: Global,
+    clauses: &[[Lit; 3]],
+    format: ProofFormat,
+    bytes: &[u8],
+) -> Outcome {
     let mut checker = Checker::new_in(alloc);
-    for clause in &clauses() {
+    for clause in clauses {
         let _ = checker.add_clause(clause);
     }
     outcome_of(&checker.check_proof(&mut ReadSource::new(bytes), format))
 }
 
+/// Whether the checker comes to this with the proof in both formats.
+fn comes_to(alloc: Global, clauses: &[[Lit; 3]], forms: &Forms, wanted: Outcome) -> bool {
+    checker_outcome(alloc, clauses, ProofFormat::Drat, forms.text.bytes()) == wanted
+        && checker_outcome(
+            alloc,
+            clauses,
+            ProofFormat::BinaryDrat,
+            forms.binary.bytes(),
+        ) == wanted
+}
+
 fn agrees(alloc: Global, start: u64, length: usize) -> Result<bool, AllocError> {
     let forms = random_proof(alloc, start, length)?;
-    let plain = plain_outcome(alloc, &forms)?;
-    Ok(
-        checker_outcome(alloc, ProofFormat::Drat, forms.text.bytes()) == plain
-            && checker_outcome(alloc, ProofFormat::BinaryDrat, forms.binary.bytes()) == plain,
-    )
+    let plain = plain_outcome(alloc, &clauses(), &forms)?;
+    Ok(comes_to(alloc, &clauses(), &forms, plain))
 }
 
 #[test]
@@ -146,4 +161,77 @@ fn random_proofs(rt: HostRuntime) {
             "proof {start}"
         );
     }
+}
+
+/// 1, and each variable up to 5 implies the next: so all six are true.
+fn chain() -> [[Lit; 3]; 6] {
+    [
+        lits![1, 1, 1],
+        lits![-1, 2, 2],
+        lits![-2, 3, 3],
+        lits![-3, 4, 4],
+        lits![-4, 5, 5],
+        lits![-5, 6, 6],
+    ]
+}
+
+/// Right lines behind the chain. Copies of its clauses come and go, so that what implies a literal is deleted time and
+/// again, with one copy left.
+fn push_right_lines(
+    alloc: Global,
+    forms: &mut Forms,
+    numbers: &mut Numbers,
+    count: usize,
+) -> Result<(), AllocError> {
+    let mut copies = [1_usize; 5];
+    for _ in 0..count {
+        let from = numbers.next() % 5;
+        let implication = [Lit::from_code(2 * from + 1), Lit::from_code(2 * from + 2)];
+        let kind = numbers.next() % 4;
+        if kind == 0 && copies[from] < 3 {
+            copies[from] += 1;
+            forms.push(alloc, false, &implication)?;
+        } else if kind == 1 && copies[from] > 1 {
+            copies[from] -= 1;
+            forms.push(alloc, true, &implication)?;
+        } else {
+            let added = [
+                numbers.literal(),
+                Lit::from_code(2 * from),
+                numbers.literal(),
+            ];
+            forms.push(alloc, false, &added)?;
+            forms.push(alloc, true, &[added[2], added[0], added[1], added[2]])?;
+        }
+    }
+    Ok(())
+}
+
+/// What the plain checker, and ours in both formats, come to after that many rounds of right lines and the last one.
+fn long_outcome(
+    alloc: Global,
+    rounds: usize,
+    last: Option<(bool, Lit)>,
+) -> Result<(Outcome, bool, u64), AllocError> {
+    let mut forms = Forms::new(alloc);
+    let mut numbers = Numbers { state: 7 };
+    push_right_lines(alloc, &mut forms, &mut numbers, rounds)?;
+    if let Some((deletes, literal)) = last {
+        forms.push(alloc, deletes, &[literal])?;
+    }
+    let plain = plain_outcome(alloc, &chain(), &forms)?;
+    let agrees = comes_to(alloc, &chain(), &forms, plain);
+    Ok((plain, agrees, forms.lines.len() as u64))
+}
+
+// Some 10,000 lines, all right, with a wrong one behind them, and with a deletion of what is not there.
+#[test]
+fn long_proofs(rt: HostRuntime) -> Result<(), AllocError> {
+    let (outcome, agrees, count) = long_outcome(rt.alloc(), 6_500, None)?;
+    assert!(rt; count >= 10_000 && agrees && outcome == Outcome::Derivation);
+    let (outcome, agrees, count) = long_outcome(rt.alloc(), 6_500, Some((false, lit!(-6))))?;
+    assert!(rt; agrees && outcome == Outcome::CheckFailed(count));
+    let (outcome, agrees, count) = long_outcome(rt.alloc(), 6_500, Some((true, lit!(2))))?;
+    assert!(rt; agrees && outcome == Outcome::NoSuchClause(count));
+    Ok(())
 }

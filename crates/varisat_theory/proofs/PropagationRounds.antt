@@ -64,7 +64,7 @@ unknown_in_fewer (x ∷ c) known more l s (inr h) n m =
     let b = unknown_in_fewer c known more l s h n m in
     omega (arith, a, b)
 
-unknown_less : (P : List Clause) (known more : List Literal) → known ⊆ more → unknown P more ≤ unknown P known
+pub unknown_less : (P : List Clause) (known more : List Literal) → known ⊆ more → unknown P more ≤ unknown P known
 unfolding unknown
 unknown_less [] known more s = omega arith
 unknown_less (c ∷ P) known more s =
@@ -72,7 +72,7 @@ unknown_less (c ∷ P) known more s =
     let b = unknown_less P known more s in
     omega (arith, a, b)
 
-unknown_fewer : (P : List Clause) (known more : List Literal) (c : Clause) (l : Literal) → known ⊆ more → c ∈ P → l ∈ c → (l ∈ known → ⊥) → l ∈ more → unknown P more < unknown P known
+pub unknown_fewer : (P : List Clause) (known more : List Literal) (c : Clause) (l : Literal) → known ⊆ more → c ∈ P → l ∈ c → (l ∈ known → ⊥) → l ∈ more → unknown P more < unknown P known
 unfolding unknown
 unknown_fewer [] known more c l s h i n m = absurd h
 unknown_fewer (d ∷ P) known more c l s (inl e) i n m =

@@ -1,4 +1,4 @@
-//! The checker. It keeps the present clauses in a list, and propagates anew for each line.
+//! The checker. It keeps the present clauses, and propagates over them for each line.
 ghost use Rattle.std.specs.Prelude.{◌≡◌, ◌≢◌, ℕ, List, [], ◌∷◌, ◌++◌, ◌+◌, ◌-◌, ◌<◌, ◌^◌, ◌↔◌, length, true, false, Ok, Err, Some, OnOk, OnErr, IfOk, IfErr, IsTrue, ◌||◌, slice_index_or};
 ghost use Rattle.varisat_theory.specs.Literals.{Clause, IsSatisfiable};
 ghost use Rattle.varisat_formula.specs.Rest.{Progress, IsEnding};
@@ -15,7 +15,6 @@ ghost use Rattle.varisat_proof.specs.Checks.{Stands, TakesLine, HasRead, ReadsPi
 ghost use Rattle.varisat_proof.specs.Calls.{CheckerState, IsRefusal, BecomesOrRefuses, AddsReading, AddsText, IsStep, Checks, IsOfBytes, spends};
 
 use crate::checker::error::{CheckVerdict, CheckerError};
-use crate::checker::propagation::{conflicts, drop_mentions, follows, take_out};
 use crate::checker::reader::ProofReader;
 use crate::checker::token::Event;
 use crate::proof::format::{LineKind, ProofFormat};
@@ -26,6 +25,7 @@ use varisat_formula::dimacs::{DimacsError, DimacsErrorKind, DimacsParser};
 use varisat_formula::formula::CnfFormula;
 use varisat_formula::io::ByteSource;
 use varisat_literals::{Lit, Var};
+use varisat_present::PresentClauses;
 use varisat_theory::checker::LineStatus;
 
 /// How many bytes of a source are asked for at a time.
@@ -42,17 +42,16 @@ pub struct Count {
 #[derive(Drop)]
 pub struct Checker<A: Allocator + Copy> {
     alloc: A,
-    clauses: Vec<Vec<Lit, A>, A>,
+    clauses: PresentClauses<A>,
     spent: bool,
 }
 
 impl<A: Allocator + Copy> Model for Checker<A> {
-    ghost use Rattle.varisat_theory.specs.Checking.{clause_lists};
     ghost use Rattle.varisat_proof.specs.Calls.{CheckerState};
 
     ghost Value = { CheckerState };
 
-    ghost view = { λ c. record { clauses = clause_lists c.clauses.items; spent = c.spent } };
+    ghost view = { λ c. record { clauses = c.clauses; spent = c.spent } };
 }
 
 impl<A: Allocator + Copy> Checker<A> {
@@ -62,7 +61,7 @@ impl<A: Allocator + Copy> Checker<A> {
     {
         Checker {
             alloc,
-            clauses: Vec::new(alloc),
+            clauses: PresentClauses::new_in(alloc),
             spent: false,
         }
     }
@@ -79,7 +78,7 @@ impl<A: Allocator + Copy> Checker<A> {
         requires { i < length self.now.clauses }
         ensures { result.now ≡ slice_index_or self.now.clauses i [] }
     {
-        self.clauses[i].as_slice()
+        self.clauses.clause(i)
     }
 
     /// Adds a clause, without a check.
@@ -87,8 +86,7 @@ impl<A: Allocator + Copy> Checker<A> {
         ensures ok { OnOk result (self.new ≡ record self.old { clauses = self.old.clauses ++ clause.now ∷ [] }) }
         ensures err { OnErr result (self.new ≡ self.old) }
     {
-        let copy = Vec::from_slice(self.alloc, clause)?;
-        self.clauses.push(copy)?;
+        self.clauses.push(clause)?;
         Ok(())
     }
 
@@ -193,15 +191,16 @@ impl<A: Allocator + Copy> Checker<A> {
         if self.spent {
             return Err(CheckerError::Spent);
         }
-        drop_mentions(&mut self.clauses, var);
+        self.clauses.drop_mentions(var);
         Ok(())
     }
 
     /// Whether propagation over the present clauses conflicts.
-    fn is_refuted(&self) -> Result<bool, AllocError>
-        ensures { IfOk result (λ found. IsTrue found ↔ Conflicts self.now.clauses []) }
+    fn is_refuted(&mut self) -> Result<bool, AllocError>
+        ensures found { IfOk result (λ found. IsTrue found ↔ Conflicts self.old.clauses []) }
+        ensures stays { self.new ≡ self.old }
     {
-        let found = conflicts(self.alloc, &self.clauses, &[])?;
+        let found = self.clauses.conflicts(&[])?;
         Ok(found)
     }
 
@@ -213,14 +212,14 @@ impl<A: Allocator + Copy> Checker<A> {
     {
         match kind {
             LineKind::Adds => {
-                if !follows(self.alloc, &self.clauses, clause)? {
+                if !self.clauses.follows(clause)? {
                     return Ok(LineStatus::Unproved);
                 }
                 self.push_clause(clause)?;
                 Ok(LineStatus::Taken)
             }
             LineKind::Deletes => {
-                if !take_out(&mut self.clauses, clause) {
+                if !self.clauses.take_out(clause) {
                     return Ok(LineStatus::Absent);
                 }
                 Ok(LineStatus::Taken)
@@ -390,7 +389,7 @@ impl<A: Allocator + Copy> Checker<A> {
     fn check_core(&mut self, core: &[Lit]) -> Result<(), CheckerError>
         ensures { ChecksCore self.old core.now result self.new }
     {
-        match conflicts(self.alloc, &self.clauses, core) {
+        match self.clauses.conflicts(core) {
             Ok(true) => Ok(()),
             Ok(false) => Err(CheckerError::CheckFailed { step: 1 }),
             Err(_) => Err(self.run_out()),
@@ -410,7 +409,7 @@ impl<A: Allocator + Copy> Checker<A> {
             ProofStep::UnitClauses { units } => self.check_units(units),
             ProofStep::DeleteClause { clause } => self.check_line(LineKind::Deletes, clause, 1),
             ProofStep::DeleteVar { var } => {
-                drop_mentions(&mut self.clauses, *var);
+                self.clauses.drop_mentions(*var);
                 Ok(())
             }
             ProofStep::FailedAssumptions { failed_core } => self.check_core(failed_core),

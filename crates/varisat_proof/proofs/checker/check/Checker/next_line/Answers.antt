@@ -1,4 +1,7 @@
-use Rattle.std.proofs.Common.{sym, ◌∙◌}
+use Rattle.std.proofs.Common.{List, [], ◌∷◌, ◌++◌, sym, ap, subst, ◌∙◌}
+use Rattle.varisat_theory.specs.Literals.{Clause}
+use Rattle.varisat_proof.specs.Written.{line_of_kind}
+use Rattle.varisat_proof.specs.Checks.{StandsBy}
 use Rattle.varisat_proof.proofs.CheckedLines.{on_unproved, on_absent, on_taken}
 use Rattle.varisat_proof.proofs.checker.check.Checker.next_line.Goals as goal
 
@@ -12,4 +15,5 @@ returns-in-Absent-clause-takes g c =
 
 pub returns-clause-takes : goal.returns-clause-takes
 returns-clause-takes g c =
-    λ P lines s. on_taken c.args.count.now.refuted P lines c.args.self.now.clauses c.take_line.new.self.clauses c.args.count.now.steps c.saturating_add-step.result c.args.kind c.args.clause.now c.if-count.false s c.saturating_add-step.ensures c.in-Ok.status c.in-Ok-is_refuted.refuted c.in-Taken.is c.in-Ok.ensures.status c.in-Ok-is_refuted.ensures
+    λ P lines s. subst (λ (Q : List Clause). StandsBy c.in-Ok-is_refuted.refuted P (lines ++ line_of_kind c.args.kind c.args.clause.now ∷ []) Q c.saturating_add-step.result) (sym (ap (λ h. h.clauses) c.is_refuted.ensures.stays))
+    (on_taken c.args.count.now.refuted P lines c.args.self.now.clauses c.take_line.new.self.clauses c.args.count.now.steps c.saturating_add-step.result c.args.kind c.args.clause.now c.if-count.false s c.saturating_add-step.ensures c.in-Ok.status c.in-Ok-is_refuted.refuted c.in-Taken.is c.in-Ok.ensures.status c.in-Ok-is_refuted.ensures.found)

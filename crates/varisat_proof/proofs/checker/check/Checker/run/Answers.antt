@@ -1,11 +1,11 @@
-use Rattle.std.proofs.Common.{refl, subst, take, length, ◌<◌, rules, ◌∙◌, Ok, Err}
+use Rattle.std.proofs.Common.{refl, ap, subst, take, length, ◌<◌, rules, ◌∙◌, Ok, Err}
 use Rattle.varisat_proof.proofs.CheckedSources.{Gave, underway_start, underway_more, breaks_inside, source_fails, ends_check, no_memory, gave_nothing, ended_here}
 use Rattle.varisat_proof.proofs.checker.check.Checker.run.Goals as goal
 
 pub pieces-init : goal.pieces-init
 pieces-init g c = record {
-  so = underway_start c.args.format (record { checker = c.args.self.now; source = g.S.ByteSource.stand c.args.source.now }) _ c.new_in-reader.result c.new_in-reader.ensures refl c.in-Ok.ensures;
-  spent = refl;
+  so = underway_start c.args.format (record { checker = c.args.self.now; source = g.S.ByteSource.stand c.args.source.now }) c.is_refuted.new.self _ c.new_in-reader.result c.is_refuted.ensures.stays c.new_in-reader.ensures refl c.in-Ok.ensures.found;
+  spent = ap (λ s. s.spent) c.is_refuted.ensures.stays;
 }
 
 pub pieces-preserved : goal.pieces-preserved

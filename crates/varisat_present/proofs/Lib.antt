@@ -1,0 +1,7 @@
+pub mod Elements
+pub mod Mentions
+pub mod KnownPlaces
+pub mod PlacedClauses
+pub mod KnownGrowth
+pub mod KeptLiterals
+pub mod LookedWatches

@@ -1,0 +1,13 @@
+use Rattle.std.proofs.Common.{refl, ap, ◌∙◌}
+use Rattle.varisat_theory.proofs.Scans.{granted}
+use Rattle.varisat_present.specs.Places.{present}
+use Rattle.varisat_present.proofs.KeptLiterals.{refuted_more, found_there}
+use Rattle.varisat_present.proofs.present.PresentClauses.conflicts.Goals as goal
+
+pub returns-then-is_refuted-clause-found : goal.returns-then-is_refuted-clause-found
+returns-then-is_refuted-clause-found g c =
+    refuted_more c.args.self.now c.args.base.now (granted _ c.in_ok-is_refuted.is_refuted c.if-is_refuted.true c.in_ok-is_refuted.ensures.found)
+
+pub returns-in-Ok-clause-found : goal.returns-in-Ok-clause-found
+returns-in-Ok-clause-found g c =
+    found_there (present c.deref.result.now) c.args.self.now c.args.base.now c.args.base.now c.in-Ok.found (ap present c.deref.ensures.value ∙ c.self.view_is ∙ c.is_refuted.ensures.stays) refl c.in-Ok.ensures.right

@@ -1,0 +1,16 @@
+use Rattle.std.proofs.Common.{List, [], ◌∷◌, ◌++◌, subst, sym, ap, ◌∙◌}
+use Rattle.varisat_theory.specs.Literals.{Clause}
+use Rattle.varisat_present.specs.Places.{present}
+use Rattle.varisat_present.specs.Knowing.{Keeps}
+use Rattle.varisat_present.proofs.PlacedClauses.{present_added}
+use Rattle.varisat_present.proofs.KeptLiterals.{keeps_added}
+use Rattle.varisat_present.proofs.present.PresentClauses.push.Goals as goal
+
+pub invariant_of-self-2 : goal.invariant_of-self-2
+invariant_of-self-2 g c =
+    let e = ap present c.in_ok-push.ensures.items ∙ present_added c.self.inside.places.items c.in_ok-copy.copy c.args.clause.now c.in_ok-copy.ensures.items in
+    subst (λ (P : List Clause). Keeps c.is_settled_with-is_settled.result P c.self.inside.known) (sym e) (keeps_added c.self.inside.is_settled c.is_settled_with-is_settled.result (present c.self.inside.places.items) c.args.clause.now c.self.inside.known c.self.invariant c.is_settled_with-is_settled.ensures)
+
+pub returns-clause-ok : goal.returns-clause-ok
+returns-clause-ok g c =
+    ap present c.in_ok-push.ensures.items ∙ present_added c.self.inside.places.items c.in_ok-copy.copy c.args.clause.now c.in_ok-copy.ensures.items ∙ ap (λ (P : List Clause). P ++ c.args.clause.now ∷ []) c.self.view_is

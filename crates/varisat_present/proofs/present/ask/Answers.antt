@@ -1,0 +1,15 @@
+use Rattle.std.proofs.Common.{Bool, subst}
+use Rattle.varisat_present.specs.Places.{present}
+use Rattle.varisat_present.specs.Knowing.{Assumes}
+use Rattle.varisat_present.proofs.KeptLiterals.{asks_clash, asks_settled}
+use Rattle.varisat_present.proofs.present.ask.Goals as goal
+
+pub returns-then-clashes : goal.returns-then-clashes
+returns-then-clashes g c =
+    asks_clash (present c.args.places.now) c.args.known.now c.args.base.now c.assume.new.known c.requires.implied
+    (subst (λ (b : Bool). Assumes c.args.known.now c.args.base.now b c.assume.new.known) c.if-clashes.true c.in_ok-clashes.ensures)
+
+pub returns : goal.returns
+returns g c =
+    asks_settled (present c.args.places.now) c.args.known.now c.args.base.now c.assume.new.known c.settle.new.known _ c.requires.implied
+    (subst (λ (b : Bool). Assumes c.args.known.now c.args.base.now b c.assume.new.known) c.if-clashes.false c.in_ok-clashes.ensures) c.in_ok-found.ensures

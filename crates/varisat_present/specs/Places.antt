@@ -1,0 +1,30 @@
+-- Clauses at places: a place is empty once its clause is deleted.
+use Rattle.std.specs.Prelude.{◌≡◌, ℕ, zero, suc, ◌<◌, ◌≤◌, List, [], ◌∷◌, length, Option, Some, None, Vec, slice_index_or}
+use Rattle.varisat_theory.specs.Literals.{Clause}
+
+-- the clauses that are present, in the order of their places
+abbrev pub present : {A : Type 0} → List (Option (Vec ℕ A)) → List Clause
+present [] = []
+present (None ∷ cs) = present cs
+present (Some v ∷ cs) = v.items ∷ present cs
+
+-- the literals, if there are any
+abbrev pub literals_of : {A : Type 0} → Option (Vec ℕ A) → Option Clause
+literals_of None = None
+literals_of (Some v) = Some v.items
+
+-- the clause at a place, if one is there
+abbrev pub clause_at : {A : Type 0} → List (Option (Vec ℕ A)) → ℕ → Option Clause
+clause_at [] i = None
+clause_at (o ∷ cs) zero = literals_of o
+clause_at (o ∷ cs) (suc i) = clause_at cs i
+
+-- places are kept for literals below this code alone: 2 to the power of 22
+abbrev pub place_limit : ℕ
+place_limit = 4194304
+
+-- each literal below the limit stands at the place that is kept for it
+pub record ArePlaced (literals places : List ℕ) : Type 0 where
+  pub short : length places ≤ place_limit
+  pub reached : (k : ℕ) → k < length literals → slice_index_or literals k 0 < place_limit → slice_index_or literals k 0 < length places
+  pub placed : (k : ℕ) → k < length literals → slice_index_or literals k 0 < place_limit → slice_index_or places (slice_index_or literals k 0) 0 ≡ k

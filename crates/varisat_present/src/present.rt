@@ -1,0 +1,306 @@
+//! Present clauses, and what propagation over them came to.
+ghost use Rattle.std.specs.Prelude.{◌≡◌, ◌↔◌, ◌++◌, ◌∷◌, ◌<◌, ℕ, [], length, slice_index_or, IfOk, OnOk, OnErr, IsTrue, true, false, MatchOption, Some, None};
+ghost use Rattle.varisat_theory.specs.Checking.{IsAbsent};
+ghost use Rattle.varisat_theory.specs.Derivations.{TakesOut};
+ghost use Rattle.varisat_theory.specs.Held.{without};
+ghost use Rattle.varisat_theory.specs.Literals.{Clause, opposites, IsUnit};
+ghost use Rattle.varisat_theory.specs.Membership.{◌∈◌, SameSet};
+ghost use Rattle.varisat_theory.specs.Propagation.{Conflicts, Follows, HasClash, IsComplete};
+ghost use Rattle.varisat_present.specs.Places.{present, clause_at};
+ghost use Rattle.varisat_present.specs.Knowing.{IsSpare, Asks, AreImplied, Keeps};
+
+use crate::clause::{is_quiet, status_of};
+use crate::index::{ClauseIndex, key_of};
+use crate::known::Known;
+use crate::places::{clause_at, drop_mentions, find_place, has_clause, is_equal_at};
+use crate::propagation::{assume, settle};
+use crate::watches::Watches;
+use std::alloc::{AllocError, Allocator};
+use std::marker::Model;
+use varisat_literals::{Lit, Var};
+use varisat_theory::propagation::ClauseStatus;
+
+/// Present clauses, in the order in which they were added. What they imply by propagation alone is kept between calls, so that
+/// a question costs in proportion to what is propagated for it. A deletion of the only clause that implied a kept literal, and
+/// each new literal that the clauses imply, costs a look at every clause.
+#[derive(Drop)]
+pub struct PresentClauses<A: Allocator + Copy> {
+    alloc: A,
+    places: Vec<Option<Vec<Lit, A>>, A>,
+    /// Literals that the clauses imply.
+    known: Known<A>,
+    /// Whether propagation came to its end with them.
+    is_settled: bool,
+    watches: Watches<A>,
+    index: ClauseIndex<A>,
+}
+
+impl<A: Allocator + Copy> Model for PresentClauses<A> {
+    ghost use Rattle.std.specs.Prelude.{List};
+    ghost use Rattle.varisat_theory.specs.Literals.{Clause};
+    ghost use Rattle.varisat_present.specs.Places.{present};
+    ghost use Rattle.varisat_present.specs.Knowing.{Keeps};
+
+    ghost Value = { List Clause };
+
+    ghost view = { λ p. present p.places.items };
+
+    ghost invariant = { λ p. Keeps p.is_settled (present p.places.items) p.known };
+}
+
+/// The place of a clause that is equal as a set, if the index leads to one.
+fn find_indexed<A: Allocator + Copy>(
+    places: &[Option<Vec<Lit, A>>],
+    index: &ClauseIndex<A>,
+    clause: &[Lit],
+) -> Option<usize>
+    ensures { MatchOption result (result ≡ None) (λ i. (c : Clause) × (clause_at places.now i ≡ Some c) × SameSet c clause.now) }
+{
+    let mut next = index.first(key_of(clause));
+    for _ in 0..index.len() {
+        if next == 0 {
+            return None;
+        }
+        let place = next as usize - 1;
+        if is_equal_at(places, place, clause) {
+            return Some(place);
+        }
+        next = index.after(place);
+    }
+    None
+}
+
+/// The place of a clause that is equal as a set.
+fn find_equal<A: Allocator + Copy>(
+    places: &[Option<Vec<Lit, A>>],
+    index: &ClauseIndex<A>,
+    clause: &[Lit],
+) -> Option<usize>
+    ensures { MatchOption result (IsAbsent (present places.now) clause.now) (λ i. (c : Clause) × (clause_at places.now i ≡ Some c) × SameSet c clause.now) }
+{
+    match find_indexed(places, index, clause) {
+        Some(place) => Some(place),
+        None => find_place(places, clause),
+    }
+}
+
+/// Whether the index leads to a clause of the literal alone.
+fn has_unit<A: Allocator + Copy>(
+    places: &[Option<Vec<Lit, A>>],
+    index: &ClauseIndex<A>,
+    literal: Lit,
+) -> bool
+    ensures { result ≡ true → (c : Clause) × (c ∈ present places.now) × IsUnit literal c }
+{
+    match find_indexed(places, index, &[literal]) {
+        None => false,
+        Some(_) => true,
+    }
+}
+
+/// Whether propagation is still at its end with a clause more.
+fn is_settled_with<A: Allocator + Copy>(is_settled: bool, known: &Known<A>, clause: &[Lit]) -> bool
+    ensures { result ≡ true → (is_settled ≡ true) × IsComplete (clause.now ∷ []) known.now }
+{
+    if !is_settled {
+        return false;
+    }
+    is_quiet(known, clause)
+}
+
+/// Whether propagation was at its end, and the clause that left the places changed nothing of what they imply.
+fn is_spare<A: Allocator + Copy>(
+    is_settled: bool,
+    places: &[Option<Vec<Lit, A>>],
+    index: &ClauseIndex<A>,
+    known: &Known<A>,
+    clause: &[Lit],
+) -> bool
+    ensures { result ≡ true → (is_settled ≡ true) × IsSpare (present places.now) known.now clause.now }
+{
+    if !is_settled {
+        return false;
+    }
+    match status_of(known, clause) {
+        ClauseStatus::False => false,
+        ClauseStatus::Leaves(code) => has_unit(places, index, Lit::from_code(code as usize)),
+        ClauseStatus::Open => true,
+    }
+}
+
+/// Whether propagation from the base conflicts, where literals that the clauses imply are known.
+fn ask<A: Allocator + Copy>(
+    places: &[Option<Vec<Lit, A>>],
+    known: &mut Known<A>,
+    watches: &mut Watches<A>,
+    base: &[Lit],
+) -> Result<bool, AllocError>
+    requires no_clash { HasClash known.old → ⊥ }
+    requires implied { AreImplied (present places.now) [] known.old }
+    ensures { IfOk result (λ found. Asks (present places.now) known.old base.now found known.new) }
+{
+    let count = known.len();
+    let clashes = assume(known, base)?;
+    if clashes {
+        return Ok(true);
+    }
+    let found = settle(places, known, watches, count)?;
+    Ok(found)
+}
+
+impl<A: Allocator + Copy> PresentClauses<A> {
+    /// No clauses. It takes no memory.
+    pub fn new_in(alloc: A) -> PresentClauses<A>
+        ensures { result ≡ [] }
+    {
+        PresentClauses {
+            alloc,
+            places: Vec::new(alloc),
+            known: Known::new_in(alloc),
+            is_settled: false,
+            watches: Watches::new_in(alloc),
+            index: ClauseIndex::new_in(alloc),
+        }
+    }
+
+    /// How many clauses are present. It takes time in proportion to all that were ever added.
+    pub fn len(&self) -> usize
+        ensures { result ≡ length self.now }
+    {
+        let mut count = 0;
+        for place in 0..self.places.len() {
+            if !has_clause(&self.places, place) {
+                continue;
+            }
+            count += 1;
+        }
+        count
+    }
+
+    /// The literals of a clause. It takes time in proportion to all that were ever added.
+    pub fn clause(&self, i: usize) -> &[Lit]
+        requires { i < length self.now }
+        ensures { result.now ≡ slice_index_or self.now i [] }
+    {
+        let mut before = 0;
+        for place in 0..self.places.len() {
+            let clause = match clause_at(&self.places, place) {
+                None => continue,
+                Some(clause) => clause,
+            };
+            if before == i {
+                return clause;
+            }
+            before += 1;
+        }
+        &[]
+    }
+
+    /// Adds a clause at the end. On an error the clauses are as before.
+    pub fn push(&mut self, clause: &[Lit]) -> Result<(), AllocError>
+        ensures ok { OnOk result (self.new ≡ self.old ++ clause.now ∷ []) }
+        ensures err { OnErr result (self.new ≡ self.old) }
+    {
+        let copy = Vec::from_slice(self.alloc, clause)?;
+        let is_settled = is_settled_with(self.is_settled, &self.known, clause);
+        self.watches.add_clause(&self.known, clause)?;
+        self.index.add(key_of(clause))?;
+        self.places.push(Some(copy))?;
+        self.is_settled = is_settled;
+        Ok(())
+    }
+
+    /// Takes out one clause that is equal as a set, or returns false where there is none.
+    pub fn take_out(&mut self, clause: &[Lit]) -> bool
+        ensures taken { result ≡ true → TakesOut self.old clause.now self.new }
+        ensures absent { result ≡ false → IsAbsent self.old clause.now }
+        ensures stays { result ≡ false → self.new ≡ self.old }
+    {
+        let place = match find_equal(&self.places, &self.index, clause) {
+            None => return false,
+            Some(place) => place,
+        };
+        self.places[place] = None;
+        if is_spare(
+            self.is_settled,
+            &self.places,
+            &self.index,
+            &self.known,
+            clause,
+        ) {
+            return true;
+        }
+        self.known.cut(0);
+        self.is_settled = false;
+        true
+    }
+
+    /// Takes out the clauses with a literal of the variable. It looks at every clause.
+    pub fn drop_mentions(&mut self, var: Var)
+        ensures { self.new ≡ without var self.old }
+    {
+        drop_mentions(&mut self.places, var);
+        self.known.cut(0);
+        self.is_settled = false;
+    }
+
+    /// Whether unit propagation over the clauses conflicts.
+    fn is_refuted(&mut self) -> Result<bool, AllocError>
+        ensures found { IfOk result (λ found. IsTrue found ↔ Conflicts self.old []) }
+        ensures stays { self.new ≡ self.old }
+    {
+        if self.is_settled {
+            return Ok(false);
+        }
+        let count = self.known.len();
+        match settle(&self.places, &mut self.known, &mut self.watches, count) {
+            Ok(found) => {
+                self.is_settled = !found;
+                Ok(found)
+            }
+            Err(error) => {
+                self.known.cut(0);
+                Err(error)
+            }
+        }
+    }
+
+    /// Whether unit propagation over the clauses from the base conflicts.
+    pub fn conflicts(&mut self, base: &[Lit]) -> Result<bool, AllocError>
+        ensures found { IfOk result (λ found. IsTrue found ↔ Conflicts self.old base.now) }
+        ensures stays { self.new ≡ self.old }
+    {
+        let is_refuted = self.is_refuted()?;
+        if is_refuted {
+            return Ok(true);
+        }
+        if base.is_empty() {
+            return Ok(false);
+        }
+        let count = self.known.len();
+        match ask(&self.places, &mut self.known, &mut self.watches, base) {
+            Ok(found) => {
+                self.known.cut(count);
+                Ok(found)
+            }
+            Err(error) => {
+                self.known.cut(0);
+                self.is_settled = false;
+                Err(error)
+            }
+        }
+    }
+
+    /// Whether the clause follows: propagation conflicts once its literals are taken as false.
+    pub fn follows(&mut self, clause: &[Lit]) -> Result<bool, AllocError>
+        ensures found { IfOk result (λ found. IsTrue found ↔ Follows self.old clause.now) }
+        ensures stays { self.new ≡ self.old }
+    {
+        let mut base = Vec::new(self.alloc);
+        for l in clause {
+            base.push(!*l)?;
+        }
+        let found = self.conflicts(&base)?;
+        Ok(found)
+    }
+}

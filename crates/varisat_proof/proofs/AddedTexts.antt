@@ -14,7 +14,7 @@ use Rattle.varisat_formula.proofs.ParserProgress.{begin_gives, gives_failed}
 use Rattle.varisat_formula.proofs.ParsedSources.{reads_none, reads_more}
 use Rattle.varisat_proof.specs.declared.checker.error.CheckerError.{CheckerError}
 use Rattle.varisat_proof.specs.declared.checker.error.CheckerError.TheVariants.{CheckFailed, NoSuchClause, Parse, Io, OutOfMemory, Dimacs, Spent}
-use Rattle.varisat_proof.specs.Calls.{CheckerState, IsRefusal, Becomes, GivesReading, Whole, FaultInText, TextFailed, ReaderRanOut, AddsReading}
+use Rattle.varisat_proof.specs.Calls.{CheckerState, IsRefusal, Becomes, GivesReading, Whole, FaultInText, TextFailed, ReaderRanOut, AddsRead}
 use Rattle.varisat_proof.specs.Checks.{RefusesText}
 
 -- 1. What was read of a source without a fault, where the clauses `front` were taken.
@@ -128,7 +128,7 @@ ran_out old mid new front (Parse o) w h = absurd h
 ran_out old mid new front (Io x) w h = absurd h
 ran_out old mid new front (Dimacs x) w h = absurd h
 
-pub refused_reading : (old mid new : CheckerState) (front : List Clause) (R : Reading) (fault : DimacsError) (e : CheckerError) → HasAdded old (front ++ R.clauses) mid → R.fault ≡ Some fault → RefusesText mid fault e new → AddsReading old (with_front front R) (Err e) new
+pub refused_reading : (old mid new : CheckerState) (front : List Clause) (R : Reading) (fault : DimacsError) (e : CheckerError) → HasAdded old (front ++ R.clauses) mid → R.fault ≡ Some fault → RefusesText mid fault e new → AddsRead old (with_front front R) (Err e) new
 refused_reading old mid new front R fault (Dimacs cause) w f h =
     (f ∙ ap Some (sym h.0), subst (λ x. x.kind ≢ kind.OutOfMemory) (sym h.0) h.1, record { usable = w.usable; now = h.2 ∙ w.now })
 refused_reading old mid new front R fault OutOfMemory w f h = (w.usable, h.1)
@@ -138,7 +138,7 @@ refused_reading old mid new front R fault (Parse o) w f h = absurd h
 refused_reading old mid new front R fault (Io x) w f h = absurd h
 refused_reading old mid new front R fault Spent w f h = absurd h
 
-pub reading_behind : (old mid new : CheckerState) (front : List Clause) (R : Reading) (r : Result (Unit {0}) CheckerError) → HasAdded old front mid → AddsReading mid R r new → AddsReading old (with_front front R) r new
+pub reading_behind : (old mid new : CheckerState) (front : List Clause) (R : Reading) (r : Result (Unit {0}) CheckerError) → HasAdded old front mid → AddsRead mid R r new → AddsRead old (with_front front R) r new
 reading_behind old mid new front R (Ok u) w h = (h.0, let m = added_more old mid new front R.clauses w h.1 in record { usable = m.usable; now = m.now })
 reading_behind old mid new front R (Err (Dimacs cause)) w h = (h.0, h.1, let m = added_more old mid new front R.clauses w h.2 in record { usable = m.usable; now = m.now })
 reading_behind old mid new front R (Err (CheckFailed n)) w h = absurd h

@@ -24,7 +24,7 @@ use Rattle.varisat_proof.specs.declared.checker.error.CheckerError.TheVariants.{
 use Rattle.varisat_proof.specs.declared.checker.check.Count.{Count}
 use Rattle.varisat_proof.specs.Written.{line_of_kind}
 use Rattle.varisat_proof.specs.Grammar.{Accepted, Faulty, is_mark, is_tag}
-use Rattle.varisat_proof.specs.Machine.{Place, Parsed, Progress, line_at, number_event, event, begin_line, after_number, moved, last_symbol, put, at_end, happens, after, parsed, parsed_from, begin, last_event, last_place, last_offset}
+use Rattle.varisat_proof.specs.Machine.{Place, Parsed, ReaderState, line_at, number_event, event, begin_line, after_number, moved, last_symbol, put, at_end, happens, after, parsed, parsed_from, begin, last_event, last_place, last_offset}
 use Rattle.varisat_proof.specs.Means.{BytesMean, Means}
 use Rattle.varisat_proof.specs.Results.{step_number, Leaves, IsResult}
 use Rattle.varisat_proof.specs.Checks.{StandsBy, Stands, StopsWith, IsWrongLast, with_lines, HasRead, BreaksOff, EndsWith}
@@ -172,14 +172,14 @@ missing_result f P bytes lines more fault step Q m w = record {
 pub reads_start : (f : ProofFormat) → HasRead f [] [] (begin f)
 reads_start f = record { rest_is = λ rest. refl }
 
-step_is : (f : ProofFormat) (text : List ℕ) (lines : List Line) (p : Progress) (b : ℕ) (rest : List ℕ) (e : Event) → HasRead f text lines p → happens p b ≡ e →
+step_is : (f : ProofFormat) (text : List ℕ) (lines : List Line) (p : ReaderState) (b : ℕ) (rest : List ℕ) (e : Event) → HasRead f text lines p → happens p b ≡ e →
     parsed f ((text ++ b ∷ []) ++ rest) ≡ with_lines lines (put e (line_at (after p b).place) p.start (parsed_from (after p b) rest))
 step_is f text lines p b rest e r h = ap (λ x. parsed f x) (append_assoc text (b ∷ []) rest) ∙ r.rest_is (b ∷ rest) ∙ ap (λ x. with_lines lines (put x (line_at (after p b).place) p.start (parsed_from (after p b) rest))) h
 
-pub reads_more : (f : ProofFormat) (text : List ℕ) (lines : List Line) (p q : Progress) (b : ℕ) → HasRead f text lines p → More ≡ happens p b → q ≡ after p b → HasRead f (text ++ b ∷ []) lines q
+pub reads_more : (f : ProofFormat) (text : List ℕ) (lines : List Line) (p q : ReaderState) (b : ℕ) → HasRead f text lines p → More ≡ happens p b → q ≡ after p b → HasRead f (text ++ b ∷ []) lines q
 reads_more f text lines p q b r h e = record { rest_is = λ rest. step_is f text lines p b rest More r (sym h) ∙ ap (λ x. with_lines lines (parsed_from x rest)) (sym e) }
 
-pub reads_line : (f : ProofFormat) (text : List ℕ) (lines : List Line) (p q : Progress) (b : ℕ) → HasRead f text lines p → Ended ≡ happens p b → q ≡ after p b → HasRead f (text ++ b ∷ []) (lines ++ line_at q.place ∷ []) q
+pub reads_line : (f : ProofFormat) (text : List ℕ) (lines : List Line) (p q : ReaderState) (b : ℕ) → HasRead f text lines p → Ended ≡ happens p b → q ≡ after p b → HasRead f (text ++ b ∷ []) (lines ++ line_at q.place ∷ []) q
 reads_line f text lines p q b r h e = record {
   rest_is = λ rest. step_is f text lines p b rest Ended r (sym h)
       ∙ ap (λ x. with_lines lines (record { lines = line_at x.place ∷ (parsed_from x rest).lines; fault = (parsed_from x rest).fault })) (sym e)
@@ -192,16 +192,16 @@ faulty f bytes lines o e = subst (λ t. Means f bytes t) e (parsed_means f bytes
 accepted : (f : ProofFormat) (bytes : List ℕ) (lines : List Line) → parsed f bytes ≡ record { lines = lines; fault = None } → Accepted f lines bytes
 accepted f bytes lines e = subst (λ t. Means f bytes t) e (parsed_means f bytes)
 
-pub reads_fault : (f : ProofFormat) (P : List Clause) (text more : List ℕ) (lines : List Line) (p : Progress) (b : ℕ) (Q : List Clause) (count : Count) → HasRead f text lines p → Fault ≡ happens p b → Stands P lines Q count → BreaksOff f P ((text ++ b ∷ []) ++ more) (Parse p.start) Q
+pub reads_fault : (f : ProofFormat) (P : List Clause) (text more : List ℕ) (lines : List Line) (p : ReaderState) (b : ℕ) (Q : List Clause) (count : Count) → HasRead f text lines p → Fault ≡ happens p b → Stands P lines Q count → BreaksOff f P ((text ++ b ∷ []) ++ more) (Parse p.start) Q
 reads_fault f P text more lines p b Q count r h s = λ rest.
     fault_result count.refuted f P (((text ++ b ∷ []) ++ more) ++ rest) lines p.start Q count.steps
     (faulty f (((text ++ b ∷ []) ++ more) ++ rest) lines p.start
     (ap (λ x. parsed f x) (append_assoc (text ++ b ∷ []) more rest) ∙ step_is f text lines p b (more ++ rest) Fault r (sym h) ∙ ap (λ x. let t : Parsed = record { lines = x; fault = Some p.start } in t) (append-nil lines))) s
 
-begins : (f : ProofFormat) (text more rest : List ℕ) (lines : List Line) (p : Progress) → HasRead f text lines p → BytesMean f ((text ++ more) ++ rest) (lines ++ (parsed_from p (more ++ rest)).lines) (parsed_from p (more ++ rest)).fault
+begins : (f : ProofFormat) (text more rest : List ℕ) (lines : List Line) (p : ReaderState) → HasRead f text lines p → BytesMean f ((text ++ more) ++ rest) (lines ++ (parsed_from p (more ++ rest)).lines) (parsed_from p (more ++ rest)).fault
 begins f text more rest lines p r = subst (λ t. Means f ((text ++ more) ++ rest) t) (ap (λ x. parsed f x) (append_assoc text more rest) ∙ r.rest_is (more ++ rest)) (parsed_means f ((text ++ more) ++ rest))
 
-pub reads_wrong : (f : ProofFormat) (P : List Clause) (text more : List ℕ) (lines : List Line) (p : Progress) (e : CheckerError) (Q : List Clause) → HasRead f text lines p → IsWrongLast P lines e Q → BreaksOff f P (text ++ more) e Q
+pub reads_wrong : (f : ProofFormat) (P : List Clause) (text more : List ℕ) (lines : List Line) (p : ReaderState) (e : CheckerError) (Q : List Clause) → HasRead f text lines p → IsWrongLast P lines e Q → BreaksOff f P (text ++ more) e Q
 reads_wrong f P text more lines p (CheckFailed step) Q r w = λ rest. failed_result f P ((text ++ more) ++ rest) lines (parsed_from p (more ++ rest)).lines (parsed_from p (more ++ rest)).fault step Q (begins f text more rest lines p r) w
 reads_wrong f P text more lines p (NoSuchClause step) Q r w = λ rest. missing_result f P ((text ++ more) ++ rest) lines (parsed_from p (more ++ rest)).lines (parsed_from p (more ++ rest)).fault step Q (begins f text more rest lines p r) w
 reads_wrong f P text more lines p (Parse o) Q r w = absurd w
@@ -211,37 +211,37 @@ reads_wrong f P text more lines p (Dimacs x) Q r w = absurd w
 reads_wrong f P text more lines p Spent Q r w = absurd w
 
 -- 4. The end.
-closing_is : (f : ProofFormat) (text : List ℕ) (lines : List Line) (p : Progress) (e : Event) → HasRead f text lines p → last_event p ≡ e → parsed f text ≡ with_lines lines (put e (line_at (last_place p)) (last_offset p) (at_end p.at (last_place p)))
+closing_is : (f : ProofFormat) (text : List ℕ) (lines : List Line) (p : ReaderState) (e : Event) → HasRead f text lines p → last_event p ≡ e → parsed f text ≡ with_lines lines (put e (line_at (last_place p)) (last_offset p) (at_end p.at (last_place p)))
 closing_is f text lines p e r h = ap (λ x. parsed f x) (sym (append-nil text)) ∙ r.rest_is [] ∙ ap (λ x. with_lines lines (put x (line_at (last_place p)) (last_offset p) (at_end p.at (last_place p)))) h
 
 -- the whole text was read, up to where the reader stands
-pub record ParsedWhole (f : ProofFormat) (text : List ℕ) (lines : List Line) (p : Progress) : Type 0 where
+pub record ParsedWhole (f : ProofFormat) (text : List ℕ) (lines : List Line) (p : ReaderState) : Type 0 where
   pub whole : parsed f text ≡ with_lines lines (at_end p.at p.place)
 
-pub ends_more : (f : ProofFormat) (text : List ℕ) (lines : List Line) (p q : Progress) → HasRead f text lines p → More ≡ last_event p → q ≡ record p { place = last_place p } → ParsedWhole f text lines q
+pub ends_more : (f : ProofFormat) (text : List ℕ) (lines : List Line) (p q : ReaderState) → HasRead f text lines p → More ≡ last_event p → q ≡ record p { place = last_place p } → ParsedWhole f text lines q
 ends_more f text lines p q r h e = record { whole = closing_is f text lines p More r (sym h) ∙ ap (λ x. with_lines lines (at_end x.at x.place)) (sym e) }
 
-pub ends_line : (f : ProofFormat) (text : List ℕ) (lines : List Line) (p q : Progress) → HasRead f text lines p → Ended ≡ last_event p → q ≡ record p { place = last_place p } → ParsedWhole f text (lines ++ line_at q.place ∷ []) q
+pub ends_line : (f : ProofFormat) (text : List ℕ) (lines : List Line) (p q : ReaderState) → HasRead f text lines p → Ended ≡ last_event p → q ≡ record p { place = last_place p } → ParsedWhole f text (lines ++ line_at q.place ∷ []) q
 ends_line f text lines p q r h e = record {
   whole = closing_is f text lines p Ended r (sym h)
       ∙ ap (λ x. with_lines lines (record { lines = line_at x.place ∷ (at_end x.at x.place).lines; fault = (at_end x.at x.place).fault })) (sym e)
       ∙ ap (λ x. let t : Parsed = record { lines = x; fault = (at_end q.at q.place).fault } in t) (sym (append_assoc lines (line_at q.place ∷ []) (at_end q.at q.place).lines));
 }
 
-pub ends_fault : (f : ProofFormat) (P : List Clause) (text : List ℕ) (lines : List Line) (p : Progress) (Q : List Clause) (count : Count) → HasRead f text lines p → Fault ≡ last_event p → Stands P lines Q count → EndsWith f P text (Err (Parse (last_offset p))) Q
+pub ends_fault : (f : ProofFormat) (P : List Clause) (text : List ℕ) (lines : List Line) (p : ReaderState) (Q : List Clause) (count : Count) → HasRead f text lines p → Fault ≡ last_event p → Stands P lines Q count → EndsWith f P text (Err (Parse (last_offset p))) Q
 ends_fault f P text lines p Q count r h s =
     fault_result count.refuted f P text lines (last_offset p) Q count.steps
     (faulty f text lines (last_offset p) (closing_is f text lines p Fault r (sym h) ∙ ap (λ x. let t : Parsed = record { lines = x; fault = Some (last_offset p) } in t) (append-nil lines))) s
 
-ends_inside : (f : ProofFormat) (P : List Clause) (text : List ℕ) (lines : List Line) (q : Progress) (Q : List Clause) (count : Count) → ParsedWhole f text lines q → q.place.inside ≡ true → Stands P lines Q count → EndsWith f P text (Err (Parse q.at)) Q
+ends_inside : (f : ProofFormat) (P : List Clause) (text : List ℕ) (lines : List Line) (q : ReaderState) (Q : List Clause) (count : Count) → ParsedWhole f text lines q → q.place.inside ≡ true → Stands P lines Q count → EndsWith f P text (Err (Parse q.at)) Q
 ends_inside f P text lines q Q count t h s =
     fault_result count.refuted f P text lines q.at Q count.steps
     (faulty f text lines q.at (t.whole ∙ ap (λ x. let t : Parsed = record { lines = lines ++ []; fault = if x then Some q.at else None } in t) h ∙ ap (λ x. let t : Parsed = record { lines = x; fault = Some q.at } in t) (append-nil lines))) s
 
-whole : (f : ProofFormat) (text : List ℕ) (lines : List Line) (q : Progress) → ParsedWhole f text lines q → q.place.inside ≡ false → Accepted f lines text
+whole : (f : ProofFormat) (text : List ℕ) (lines : List Line) (q : ReaderState) → ParsedWhole f text lines q → q.place.inside ≡ false → Accepted f lines text
 whole f text lines q t h = accepted f text lines (t.whole ∙ ap (λ x. let t : Parsed = record { lines = lines ++ []; fault = if x then Some q.at else None } in t) h ∙ ap (λ x. let t : Parsed = record { lines = x; fault = None } in t) (append-nil lines))
 
-ends_whole : (f : ProofFormat) (P : List Clause) (text : List ℕ) (lines : List Line) (q : Progress) (Q : List Clause) (count : Count) → ParsedWhole f text lines q → q.place.inside ≡ false → Stands P lines Q count → EndsWith f P text (Ok (if count.refuted then Refutation else Derivation)) Q
+ends_whole : (f : ProofFormat) (P : List Clause) (text : List ℕ) (lines : List Line) (q : ReaderState) (Q : List Clause) (count : Count) → ParsedWhole f text lines q → q.place.inside ≡ false → Stands P lines Q count → EndsWith f P text (Ok (if count.refuted then Refutation else Derivation)) Q
 ends_whole f P text lines q Q count t h s = whole_result count.refuted f P text lines Q count.steps (whole f text lines q t h) s
 
 -- 5. In pieces.
@@ -252,61 +252,61 @@ piece_whole : (text piece : List ℕ) (i : ℕ) → i < length piece → ((text 
 piece_whole text piece i h = ap (λ x. x ++ drop (i + 1) piece) (piece_step text piece i h) ∙ append_assoc text (take (i + 1) piece) (drop (i + 1) piece) ∙ ap (λ x. text ++ x) (take-append-drop (i + 1) piece)
 
 -- where a reader and a checker stand behind a text
-abbrev pub SoFar : ProofFormat → List Clause → List ℕ → List Clause → Count → Progress → Type 0
+abbrev pub SoFar : ProofFormat → List Clause → List ℕ → List Clause → Count → ReaderState → Type 0
 SoFar f P text Q count p = (lines : List Line) × HasRead f text lines p × Stands P lines Q count
 
 -- the line that ended there
-pub record LineEnds (q : Progress) (d : LineKind) (c : Clause) : Type 0 where
+pub record LineEnds (q : ReaderState) (d : LineKind) (c : Clause) : Type 0 where
   pub kind : d ≡ q.place.kind
   pub clause : c ≡ q.place.clause
 
-line_ends : (q : Progress) (d : LineKind) (c : Clause) → LineEnds q d c → line_of_kind d c ≡ line_at q.place
+line_ends : (q : ReaderState) (d : LineKind) (c : Clause) → LineEnds q d c → line_of_kind d c ≡ line_at q.place
 line_ends q d c w = ap (λ x. line_of_kind x c) w.kind ∙ ap (λ x. line_of_kind q.place.kind x) w.clause
 
-pub so_far_start : (f : ProofFormat) (P : List Clause) (text : List ℕ) (lines : List Line) (Q : List Clause) (count : Count) (p : Progress) → HasRead f text lines p → Stands P lines Q count → SoFar f P (text ++ []) Q count p
+pub so_far_start : (f : ProofFormat) (P : List Clause) (text : List ℕ) (lines : List Line) (Q : List Clause) (count : Count) (p : ReaderState) → HasRead f text lines p → Stands P lines Q count → SoFar f P (text ++ []) Q count p
 so_far_start f P text lines Q count p r s = (lines, subst (λ x. HasRead f x lines p) (sym (append-nil text)) r, s)
 
-pub so_far_more : (f : ProofFormat) (P : List Clause) (text piece : List ℕ) (i : ℕ) (Q Q' : List Clause) (count count' : Count) (p q : Progress) → i < length piece → SoFar f P (text ++ take i piece) Q count p →
+pub so_far_more : (f : ProofFormat) (P : List Clause) (text piece : List ℕ) (i : ℕ) (Q Q' : List Clause) (count count' : Count) (p q : ReaderState) → i < length piece → SoFar f P (text ++ take i piece) Q count p →
     More ≡ happens p (get_or piece i 0) → q ≡ after p (get_or piece i 0) → Q' ≡ Q → count' ≡ count → SoFar f P (text ++ take (i + 1) piece) Q' count' q
 so_far_more f P text piece i Q Q' count count' p q h s e g a b =
     (s.0, subst (λ x. HasRead f x s.0 q) (piece_step text piece i h) (reads_more f (text ++ take i piece) s.0 p q (get_or piece i 0) s.1 e g), subst (λ x. Stands P s.0 x count') (sym a) (subst (λ x. Stands P s.0 Q x) (sym b) s.2))
 
-pub so_far_line : (f : ProofFormat) (P : List Clause) (text piece : List ℕ) (i : ℕ) (Q Q' : List Clause) (count count' : Count) (p q : Progress) (d : LineKind) (c : Clause) → i < length piece → SoFar f P (text ++ take i piece) Q count p →
+pub so_far_line : (f : ProofFormat) (P : List Clause) (text piece : List ℕ) (i : ℕ) (Q Q' : List Clause) (count count' : Count) (p q : ReaderState) (d : LineKind) (c : Clause) → i < length piece → SoFar f P (text ++ take i piece) Q count p →
     Ended ≡ happens p (get_or piece i 0) → q ≡ after p (get_or piece i 0) → LineEnds q d c →
     ((P : List Clause) (lines : List Line) → Stands P lines Q count → Stands P (lines ++ line_of_kind d c ∷ []) Q' count') → SoFar f P (text ++ take (i + 1) piece) Q' count' q
 so_far_line f P text piece i Q Q' count count' p q d c h s e g w t =
     (s.0 ++ line_at q.place ∷ [], subst (λ x. HasRead f x (s.0 ++ line_at q.place ∷ []) q) (piece_step text piece i h) (reads_line f (text ++ take i piece) s.0 p q (get_or piece i 0) s.1 e g), subst (λ x. Stands P (s.0 ++ x ∷ []) Q' count') (line_ends q d c w) (t P s.0 s.2))
 
-pub piece_fault : (f : ProofFormat) (P : List Clause) (text piece : List ℕ) (i : ℕ) (Q : List Clause) (count : Count) (p : Progress) (o : ℕ) → i < length piece → SoFar f P (text ++ take i piece) Q count p → Fault ≡ happens p (get_or piece i 0) → o ≡ p.start → BreaksOff f P (text ++ piece) (Parse o) Q
+pub piece_fault : (f : ProofFormat) (P : List Clause) (text piece : List ℕ) (i : ℕ) (Q : List Clause) (count : Count) (p : ReaderState) (o : ℕ) → i < length piece → SoFar f P (text ++ take i piece) Q count p → Fault ≡ happens p (get_or piece i 0) → o ≡ p.start → BreaksOff f P (text ++ piece) (Parse o) Q
 piece_fault f P text piece i Q count p o h s e g =
     subst (λ x. BreaksOff f P (text ++ piece) (Parse x) Q) (sym g) (subst (λ x. BreaksOff f P x (Parse p.start) Q) (piece_whole text piece i h) (reads_fault f P (text ++ take i piece) (drop (i + 1) piece) s.0 p (get_or piece i 0) Q count s.1 e s.2))
 
-pub piece_wrong : (f : ProofFormat) (P : List Clause) (text piece : List ℕ) (i : ℕ) (Q Q' : List Clause) (count : Count) (p q : Progress) (d : LineKind) (c : Clause) (error : CheckerError) → i < length piece → SoFar f P (text ++ take i piece) Q count p →
+pub piece_wrong : (f : ProofFormat) (P : List Clause) (text piece : List ℕ) (i : ℕ) (Q Q' : List Clause) (count : Count) (p q : ReaderState) (d : LineKind) (c : Clause) (error : CheckerError) → i < length piece → SoFar f P (text ++ take i piece) Q count p →
     Ended ≡ happens p (get_or piece i 0) → q ≡ after p (get_or piece i 0) → LineEnds q d c →
     ((P : List Clause) (lines : List Line) → Stands P lines Q count → IsWrongLast P (lines ++ line_of_kind d c ∷ []) error Q') → BreaksOff f P (text ++ piece) error Q'
 piece_wrong f P text piece i Q Q' count p q d c error h s e g w t =
     subst (λ x. BreaksOff f P x error Q') (piece_whole text piece i h) (reads_wrong f P ((text ++ take i piece) ++ get_or piece i 0 ∷ []) (drop (i + 1) piece) (s.0 ++ line_at q.place ∷ []) q error Q'
     (reads_line f (text ++ take i piece) s.0 p q (get_or piece i 0) s.1 e g) (subst (λ x. IsWrongLast P (s.0 ++ x ∷ []) error Q') (line_ends q d c w) (t P s.0 s.2)))
 
-pub piece_ends : (f : ProofFormat) (P : List Clause) (text piece : List ℕ) (i : ℕ) (Q : List Clause) (count : Count) (p : Progress) → length piece ≤ i → SoFar f P (text ++ take i piece) Q count p → SoFar f P (text ++ piece) Q count p
+pub piece_ends : (f : ProofFormat) (P : List Clause) (text piece : List ℕ) (i : ℕ) (Q : List Clause) (count : Count) (p : ReaderState) → length piece ≤ i → SoFar f P (text ++ take i piece) Q count p → SoFar f P (text ++ piece) Q count p
 piece_ends f P text piece i Q count p h s = subst (λ x. SoFar f P (text ++ x) Q count p) (take_all i piece h) s
 
 -- 6. Where reader and checker stand at the end.
-abbrev pub EndsAt : ProofFormat → List Clause → List ℕ → List Clause → Count → Progress → Type 0
+abbrev pub EndsAt : ProofFormat → List Clause → List ℕ → List Clause → Count → ReaderState → Type 0
 EndsAt f P text Q count q = (lines : List Line) × ParsedWhole f text lines q × Stands P lines Q count
 
-pub ends_at_more : (f : ProofFormat) (P : List Clause) (text : List ℕ) (lines : List Line) (Q Q' : List Clause) (count count' : Count) (p q : Progress) → HasRead f text lines p → Stands P lines Q count →
+pub ends_at_more : (f : ProofFormat) (P : List Clause) (text : List ℕ) (lines : List Line) (Q Q' : List Clause) (count count' : Count) (p q : ReaderState) → HasRead f text lines p → Stands P lines Q count →
     More ≡ last_event p → q ≡ record p { place = last_place p } → Q' ≡ Q → count' ≡ count → EndsAt f P text Q' count' q
 ends_at_more f P text lines Q Q' count count' p q r s e g a b = (lines, ends_more f text lines p q r e g, subst (λ x. Stands P lines x count') (sym a) (subst (λ x. Stands P lines Q x) (sym b) s))
 
-pub ends_at_line : (f : ProofFormat) (P : List Clause) (text : List ℕ) (lines : List Line) (Q Q' Q'' : List Clause) (count count' count'' : Count) (p q : Progress) (d : LineKind) (c : Clause) → HasRead f text lines p → Stands P lines Q count →
+pub ends_at_line : (f : ProofFormat) (P : List Clause) (text : List ℕ) (lines : List Line) (Q Q' Q'' : List Clause) (count count' count'' : Count) (p q : ReaderState) (d : LineKind) (c : Clause) → HasRead f text lines p → Stands P lines Q count →
     Ended ≡ last_event p → q ≡ record p { place = last_place p } → LineEnds q d c →
     ((P : List Clause) (lines : List Line) → Stands P lines Q count → Stands P (lines ++ line_of_kind d c ∷ []) Q' count') → Q'' ≡ Q' → count'' ≡ count' → EndsAt f P text Q'' count'' q
 ends_at_line f P text lines Q Q' Q'' count count' count'' p q d c r s e g w t a b =
     let all = lines ++ line_at q.place ∷ [] in
     (all, ends_line f text lines p q r e g, subst (λ x. Stands P all x count'') (sym a) (subst (λ x. Stands P all Q' x) (sym b) (subst (λ x. Stands P (lines ++ x ∷ []) Q' count') (line_ends q d c w) (t P lines s))))
 
-pub end_wrong : (f : ProofFormat) (P : List Clause) (text : List ℕ) (lines : List Line) (Q Q' : List Clause) (count : Count) (p q : Progress) (d : LineKind) (c : Clause) (error : CheckerError) → HasRead f text lines p → Stands P lines Q count →
+pub end_wrong : (f : ProofFormat) (P : List Clause) (text : List ℕ) (lines : List Line) (Q Q' : List Clause) (count : Count) (p q : ReaderState) (d : LineKind) (c : Clause) (error : CheckerError) → HasRead f text lines p → Stands P lines Q count →
     Ended ≡ last_event p → q ≡ record p { place = last_place p } → LineEnds q d c → q.place.inside ≡ false →
     ((P : List Clause) (lines : List Line) → Stands P lines Q count → IsWrongLast P (lines ++ line_of_kind d c ∷ []) error Q') → EndsWith f P text (Err error) Q'
 end_wrong f P text lines Q Q' count p q d c error r s e g w o t = by_error error (subst (λ x. IsWrongLast P (lines ++ x ∷ []) error Q') (line_ends q d c w) (t P lines s))
@@ -326,13 +326,13 @@ end_wrong f P text lines Q Q' count p q d c error r s e g w o t = by_error error
     by_error (Dimacs x) w = absurd w
     by_error Spent w = absurd w
 
-pub by_inside : (f : ProofFormat) (P : List Clause) (text : List ℕ) (Q : List Clause) (count : Count) (q : Progress) (b : Bool) (o : ℕ) → EndsAt f P text Q count q → b ≡ q.place.inside → b ≡ true → o ≡ q.at → EndsWith f P text (Err (Parse o)) Q
+pub by_inside : (f : ProofFormat) (P : List Clause) (text : List ℕ) (Q : List Clause) (count : Count) (q : ReaderState) (b : Bool) (o : ℕ) → EndsAt f P text Q count q → b ≡ q.place.inside → b ≡ true → o ≡ q.at → EndsWith f P text (Err (Parse o)) Q
 by_inside f P text Q count q b o s e h g = subst (λ x. EndsWith f P text (Err (Parse x)) Q) (sym g) (ends_inside f P text s.0 q Q count s.1 (sym e ∙ h) s.2)
 
-pub by_refuted : (f : ProofFormat) (P : List Clause) (text : List ℕ) (Q : List Clause) (count : Count) (q : Progress) (b : Bool) → EndsAt f P text Q count q → b ≡ q.place.inside → b ≡ false → count.refuted ≡ true → EndsWith f P text (Ok Refutation) Q
+pub by_refuted : (f : ProofFormat) (P : List Clause) (text : List ℕ) (Q : List Clause) (count : Count) (q : ReaderState) (b : Bool) → EndsAt f P text Q count q → b ≡ q.place.inside → b ≡ false → count.refuted ≡ true → EndsWith f P text (Ok Refutation) Q
 by_refuted f P text Q count q b s e h g = subst (λ t. EndsWith f P text (Ok (if t then Refutation else Derivation)) Q) g (ends_whole f P text s.0 q Q count s.1 (sym e ∙ h) s.2)
 
-pub by_derived : (f : ProofFormat) (P : List Clause) (text : List ℕ) (Q : List Clause) (count : Count) (q : Progress) (b : Bool) → EndsAt f P text Q count q → b ≡ q.place.inside → b ≡ false → count.refuted ≡ false → EndsWith f P text (Ok Derivation) Q
+pub by_derived : (f : ProofFormat) (P : List Clause) (text : List ℕ) (Q : List Clause) (count : Count) (q : ReaderState) (b : Bool) → EndsAt f P text Q count q → b ≡ q.place.inside → b ≡ false → count.refuted ≡ false → EndsWith f P text (Ok Derivation) Q
 by_derived f P text Q count q b s e h g = subst (λ t. EndsWith f P text (Ok (if t then Refutation else Derivation)) Q) g (ends_whole f P text s.0 q Q count s.1 (sym e ∙ h) s.2)
 
 -- a line that ended leaves the reader between two lines
@@ -376,7 +376,7 @@ symbol_outside BinaryDrat i d c Cut e = absurd cc
 symbol_outside Drat i d c Bad e = absurd cc
 symbol_outside BinaryDrat i d c Bad e = absurd cc
 
-pub last_outside : (p q : Progress) → Ended ≡ last_event p → q ≡ record p { place = last_place p } → q.place.inside ≡ false
+pub last_outside : (p q : ReaderState) → Ended ≡ last_event p → q ≡ record p { place = last_place p } → q.place.inside ≡ false
 last_outside p q e g = ap (λ x. x.place.inside) g ∙ by (p.part.count == 0) (sym e)
   where
     s : Symbol

@@ -18,14 +18,14 @@ use Rattle.varisat_proof.specs.declared.checker.error.CheckVerdict.TheVariants.{
 use Rattle.varisat_proof.specs.declared.checker.error.CheckerError.{CheckerError}
 use Rattle.varisat_proof.specs.declared.checker.error.CheckerError.TheVariants.{CheckFailed, NoSuchClause, Parse, Io, OutOfMemory, Dimacs, Spent}
 use Rattle.varisat_proof.specs.declared.checker.check.Count.{Count}
-use Rattle.varisat_proof.specs.Machine.{Progress, begin}
+use Rattle.varisat_proof.specs.Machine.{ReaderState, begin}
 use Rattle.varisat_proof.specs.Results.{result_of, IsResult}
 use Rattle.varisat_proof.specs.Checks.{StandsBy, Stands, HasRead, BreaksOff, EndsWith}
 use Rattle.varisat_proof.specs.Calls.{CheckerState, Standing, Checks, AtEnd, InText, SourceFailed, RanOut, is_io}
 use Rattle.varisat_proof.proofs.CheckedLines.{SoFar, reads_start, refuted_here}
 
 -- what was read of a source so far
-pub record Underway (f : ProofFormat) (old : Standing) (now : Standing) (count : Count) (p : Progress) : Type 0 where
+pub record Underway (f : ProofFormat) (old : Standing) (now : Standing) (count : Count) (p : ReaderState) : Type 0 where
   pub text : List ℕ
   pub reads : streams.Reads old.source text now.source
   pub quiet : now.source.faults ≡ old.source.faults
@@ -37,7 +37,7 @@ starts_by false P h =
     let none : Conflicts P [] → ⊥ = λ x. let y = h.1 x in absurd cc in
     (refl, (λ r. none ((checked_start P P refl).refutes r)), none, refl)
 
-pub underway_start : (f : ProofFormat) (old : Standing) (checker : CheckerState) (count : Count) (p : Progress) → checker ≡ old.checker → p ≡ begin f → count.steps ≡ 0 → IsTrue count.refuted ↔ Conflicts old.checker.clauses [] → Underway f old (record { checker = checker; source = old.source }) count p
+pub underway_start : (f : ProofFormat) (old : Standing) (checker : CheckerState) (count : Count) (p : ReaderState) → checker ≡ old.checker → p ≡ begin f → count.steps ≡ 0 → IsTrue count.refuted ↔ Conflicts old.checker.clauses [] → Underway f old (record { checker = checker; source = old.source }) count p
 underway_start f old checker count p e g z h = record {
   text = [];
   reads = reads_none old.source;
@@ -66,7 +66,7 @@ ended_here before n (b ∷ bs) e h =
     let some : nat_lt 0 (suc (length bs)) ≡ true = search (rules, h) in
     ap (λ (m : ℕ). streams.ended_after {E = Unit {0}} before (Ok m) (b ∷ bs)) e ∙ ap (λ t. if t then true else before) some
 
-pub underway_more : (f : ProofFormat) (old mid new : Standing) (count count' : Count) (p q : Progress) (piece : List ℕ) → Underway f old mid count p → Gave mid.source piece new.source →
+pub underway_more : (f : ProofFormat) (old mid new : Standing) (count count' : Count) (p q : ReaderState) (piece : List ℕ) → Underway f old mid count p → Gave mid.source piece new.source →
     ((f : ProofFormat) (P : List Clause) (text : List ℕ) (lines : List Line) → HasRead f text lines p → Stands P lines mid.checker.clauses count → SoFar f P (text ++ piece) new.checker.clauses count' q) → Underway f old new count' q
 underway_more f old mid new count count' p q piece w g h = record {
   text = w.text ++ piece;
@@ -85,12 +85,12 @@ inside f old new text OutOfMemory r q b = RanOut text r q refl
 inside f old new text (Dimacs x) r q b = absurd b
 inside f old new text Spent r q b = absurd b
 
-pub breaks_inside : (f : ProofFormat) (old mid new : Standing) (count : Count) (p : Progress) (piece : List ℕ) (e : CheckerError) → Underway f old mid count p → Gave mid.source piece new.source →
+pub breaks_inside : (f : ProofFormat) (old mid new : Standing) (count : Count) (p : ReaderState) (piece : List ℕ) (e : CheckerError) → Underway f old mid count p → Gave mid.source piece new.source →
     ((f : ProofFormat) (P : List Clause) (text : List ℕ) (lines : List Line) → HasRead f text lines p → Stands P lines mid.checker.clauses count → BreaksOff f P (text ++ piece) e new.checker.clauses) → Checks f old (Err e) new
 breaks_inside f old mid new count p piece e w g h =
     inside f old new (w.text ++ piece) e (reads_more old.source mid.source new.source w.text piece w.reads g.reads) (g.quiet ∙ w.quiet) (h f old.checker.clauses w.text w.so.0 w.so.1 w.so.2)
 
-pub source_fails : (f : ProofFormat) (old mid new : Standing) (count : Count) (p : Progress) (e : CheckerError) → Underway f old mid count p → streams.Reads mid.source [] new.source → new.source.faults ≡ mid.source.faults + 1 → is_io e ≡ true → Checks f old (Err e) new
+pub source_fails : (f : ProofFormat) (old mid new : Standing) (count : Count) (p : ReaderState) (e : CheckerError) → Underway f old mid count p → streams.Reads mid.source [] new.source → new.source.faults ≡ mid.source.faults + 1 → is_io e ≡ true → Checks f old (Err e) new
 source_fails f old mid new count p e w r n i =
     SourceFailed (w.text ++ []) (reads_more old.source mid.source new.source w.text [] w.reads r) (n ∙ ap (λ x. x + 1) w.quiet) e refl i
 
@@ -104,7 +104,7 @@ ends f old new text (Err OutOfMemory) r q a b = RanOut text r q refl
 ends f old new text (Err (Dimacs x)) r q a b = absurd b
 ends f old new text (Err Spent) r q a b = absurd b
 
-pub ends_check : (f : ProofFormat) (old mid new : Standing) (count : Count) (p : Progress) (r : Result CheckVerdict CheckerError) → Underway f old mid count p → Gave mid.source [] new.source → HasEnded new.source →
+pub ends_check : (f : ProofFormat) (old mid new : Standing) (count : Count) (p : ReaderState) (r : Result CheckVerdict CheckerError) → Underway f old mid count p → Gave mid.source [] new.source → HasEnded new.source →
     ((f : ProofFormat) (P : List Clause) (text : List ℕ) (lines : List Line) → HasRead f text lines p → Stands P lines mid.checker.clauses count → EndsWith f P text r new.checker.clauses) → Checks f old r new
 ends_check f old mid new count p r w g a h =
     let reads = reads_more old.source mid.source new.source w.text [] w.reads g.reads in

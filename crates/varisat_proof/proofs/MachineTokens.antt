@@ -13,7 +13,7 @@ use Rattle.varisat_proof.specs.declared.checker.token.Symbol.TheVariants.{Mark, 
 use Rattle.varisat_proof.specs.declared.checker.token.Event.TheVariants.{More}
 use Rattle.varisat_proof.specs.declared.checker.token.Part.{Part}
 use Rattle.varisat_proof.specs.Grammar.{is_mark, meant, text_symbol, value_of, is_none, binary_symbol, text_token, text_tokens, cut_token, ends_number, binary_tokens, tokens, end_of}
-use Rattle.varisat_proof.specs.Machine.{Place, Parsed, line_at, event, moved, put, at_end, fault_offset, read, between, no_part, after_text, part_symbol, scale, grown_value, after_binary, number_symbol, Progress, ended_token, parsed_from, parsed}
+use Rattle.varisat_proof.specs.Machine.{Place, Parsed, line_at, event, moved, put, at_end, fault_offset, read, between, no_part, after_text, part_symbol, scale, grown_value, after_binary, number_symbol, ReaderState, ended_token, parsed_from, parsed}
 
 -- 1. Tokens.
 pub part_from : Part → List ℕ → Part
@@ -60,7 +60,7 @@ text_offset : (inside : Bool) (b : ℕ) (bs : List ℕ) (at end : ℕ) → fault
 text_offset inside b [] at end = mark_offset (is_mark b) inside b (meaning (b ∷ [])) at end
 text_offset inside b (c ∷ bs) at end = meant_offset inside (meaning (b ∷ c ∷ bs)) at end
 
-abbrev text_at : ℕ → ℕ → Part → Place → Progress
+abbrev text_at : ℕ → ℕ → Part → Place → ReaderState
 text_at at start part place = record { format = Drat; at = at; start = start; part = part; place = place }
 
 -- what is parsed of a token, and then of the rest
@@ -70,8 +70,8 @@ token_parsed end place start symbol rest = put (event Drat place.inside symbol) 
 -- the machine behind a byte
 abbrev text_step : Bool → Bool → ℕ → ℕ → Part → Place → ℕ → List ℕ → Parsed
 text_step blank empty at start part place b bs =
-    let here : Progress = text_at at start part place in
-    let then_ : Progress = if blank && not empty then ended_token here (moved Drat place (part_symbol part)) else (if blank then ended_token here place else text_at (next at) start (after_text part b) place) in
+    let here : ReaderState = text_at at start part place in
+    let then_ : ReaderState = if blank && not empty then ended_token here (moved Drat place (part_symbol part)) else (if blank then ended_token here place else text_at (next at) start (after_text part b) place) in
     put (if blank && not empty then event Drat place.inside (part_symbol part) else More) (line_at then_.place) start (parsed_from then_ bs)
 
 abbrev text_read : Bool → ℕ → ℕ → ℕ → List ℕ → Place → ℕ → List ℕ → Parsed
@@ -155,13 +155,13 @@ number_offset : (t inside : Bool) (v at end : ℕ) → fault_offset inside (if t
 number_offset true inside v at end = refl
 number_offset false inside v at end = refl
 
-abbrev binary_at : ℕ → ℕ → Part → Place → Progress
+abbrev binary_at : ℕ → ℕ → Part → Place → ReaderState
 binary_at at start part place = record { format = BinaryDrat; at = at; start = start; part = part; place = place }
 
 abbrev binary_step : Bool → ℕ → ℕ → Part → Place → ℕ → List ℕ → Parsed
 binary_step e at start part place b bs =
-    let here : Progress = binary_at at start part place in
-    let then_ : Progress = if e then ended_token here (moved BinaryDrat place (number_symbol part b)) else binary_at (next at) start (after_binary part b) place in
+    let here : ReaderState = binary_at at start part place in
+    let then_ : ReaderState = if e then ended_token here (moved BinaryDrat place (number_symbol part b)) else binary_at (next at) start (after_binary part b) place in
     put (if e then event BinaryDrat place.inside (number_symbol part b) else More) (line_at then_.place) start (parsed_from then_ bs)
 
 abbrev binary_read : Bool → ℕ → ℕ → ℕ → List ℕ → Place → ℕ → List ℕ → Parsed

@@ -140,19 +140,19 @@ pub data GivesReading (old : Stand) (reading : Reading) (new : Stand) : Type 0 w
   ReaderRanOut : (front rest : List ℕ) → streams.Reads old (front ++ rest) new → new.faults ≡ old.faults → reading ≡ broken kind.OutOfMemory front → GivesReading old reading new
 
 -- The clauses of a text join the present ones; its fault, if there is one, is returned.
-abbrev pub AddsReading : CheckerState → Reading → Result (Unit {0}) CheckerError → CheckerState → Type 0
-AddsReading old reading (Ok u) new = (reading.fault ≡ None) × Becomes old (old.clauses ++ reading.clauses) new
-AddsReading old reading (Err (Dimacs cause)) new = (reading.fault ≡ Some cause) × (cause.kind ≢ kind.OutOfMemory) × Becomes old (old.clauses ++ reading.clauses) new
-AddsReading old reading (Err (CheckFailed step)) new = ⊥
-AddsReading old reading (Err (NoSuchClause step)) new = ⊥
-AddsReading old reading (Err (Parse offset)) new = ⊥
-AddsReading old reading (Err (Io cause)) new = ⊥
-AddsReading old reading (Err OutOfMemory) new = IsRefusal old OutOfMemory new
-AddsReading old reading (Err Spent) new = ⊥
+abbrev pub AddsRead : CheckerState → Reading → Result (Unit {0}) CheckerError → CheckerState → Type 0
+AddsRead old reading (Ok u) new = (reading.fault ≡ None) × Becomes old (old.clauses ++ reading.clauses) new
+AddsRead old reading (Err (Dimacs cause)) new = (reading.fault ≡ Some cause) × (cause.kind ≢ kind.OutOfMemory) × Becomes old (old.clauses ++ reading.clauses) new
+AddsRead old reading (Err (CheckFailed step)) new = ⊥
+AddsRead old reading (Err (NoSuchClause step)) new = ⊥
+AddsRead old reading (Err (Parse offset)) new = ⊥
+AddsRead old reading (Err (Io cause)) new = ⊥
+AddsRead old reading (Err OutOfMemory) new = IsRefusal old OutOfMemory new
+AddsRead old reading (Err Spent) new = ⊥
 
 -- a text is added that a source gives; a spent checker reads nothing
 pub data AddsText (old : Standing) (result : Result (Unit {0}) CheckerError) (new : Standing) : Type 0 where
-  Added : (reading : Reading) → GivesReading old.source reading new.source → AddsReading old.checker reading result new.checker → AddsText old result new
+  Added : (reading : Reading) → GivesReading old.source reading new.source → AddsRead old.checker reading result new.checker → AddsText old result new
   -- memory ran out for a clause that was read
   ClauseRanOut : (text : List ℕ) → streams.Reads old.source text new.source → result ≡ Err OutOfMemory → IsRefusal old.checker OutOfMemory new.checker → AddsText old result new
   Unread : result ≡ Err Spent → IsRefusal old.checker Spent new.checker → new.source ≡ old.source → AddsText old result new

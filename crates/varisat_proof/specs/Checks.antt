@@ -13,7 +13,7 @@ use Rattle.varisat_proof.specs.declared.checker.error.CheckVerdict.{CheckVerdict
 use Rattle.varisat_proof.specs.declared.checker.error.CheckerError.{CheckerError}
 use Rattle.varisat_proof.specs.declared.checker.error.CheckerError.TheVariants.{CheckFailed, NoSuchClause, Parse, Io, OutOfMemory, Dimacs, Spent}
 use Rattle.varisat_proof.specs.declared.checker.check.Count.{Count}
-use Rattle.varisat_proof.specs.Machine.{Parsed, Progress, parsed, parsed_from}
+use Rattle.varisat_proof.specs.Machine.{Parsed, ReaderState, parsed, parsed_from}
 use Rattle.varisat_proof.specs.Results.{step_number, Leaves, IsResult}
 use Rattle.varisat_proof.specs.Steps.{unit_lines}
 use Rattle.varisat_proof.specs.Calls.{CheckerState, FailsAt}
@@ -52,7 +52,7 @@ abbrev pub with_lines : List Line → Parsed → Parsed
 with_lines ls t = record { lines = ls ++ t.lines; fault = t.fault }
 
 -- a reader has come past the text, and these lines ended in it
-pub record HasRead (format : ProofFormat) (text : List ℕ) (lines : List Line) (p : Progress) : Type 0 where
+pub record HasRead (format : ProofFormat) (text : List ℕ) (lines : List Line) (p : ReaderState) : Type 0 where
   pub rest_is : (rest : List ℕ) → parsed format (text ++ rest) ≡ with_lines lines (parsed_from p rest)
 
 -- a check breaks off in the text, whatever comes behind it
@@ -69,7 +69,7 @@ BreaksOff format P text Spent Q = ⊥
 pub record Position : Type 0 where
   pub present : List Clause
   pub count : Count
-  pub progress : Progress
+  pub progress : ReaderState
 
 -- a piece more of the text was read
 abbrev pub ReadsPiece : ProofFormat → List Clause → List ℕ → Result (Unit {0}) CheckerError → Position → Type 0

@@ -135,26 +135,26 @@ grown Drat part b = after_text part b
 grown BinaryDrat part b = after_binary part b
 
 -- How far a reader has come: the offset of the next byte, and of the first byte of the token that was begun.
-pub record Progress : Type 0 where
+pub record ReaderState : Type 0 where
   pub format : ProofFormat
   pub at : ℕ
   pub start : ℕ
   pub part : Part
   pub place : Place
 
-abbrev pub begin : ProofFormat → Progress
+abbrev pub begin : ProofFormat → ReaderState
 begin format = record { format = format; at = 0; start = 0; part = no_part; place = between }
 
-abbrev pub happens : Progress → ℕ → Event
+abbrev pub happens : ReaderState → ℕ → Event
 happens p b = if ends p.format p.part b then event p.format p.place.inside (symbol_of p.format p.part b) else More
 
-abbrev pub ended_token : Progress → Place → Progress
+abbrev pub ended_token : ReaderState → Place → ReaderState
 ended_token p place = record { format = p.format; at = next p.at; start = next p.at; part = no_part; place = place }
 
-abbrev pub went_on : Progress → ℕ → Progress
+abbrev pub went_on : ReaderState → ℕ → ReaderState
 went_on p b = if is_between p.format b then ended_token p p.place else record { format = p.format; at = next p.at; start = p.start; part = grown p.format p.part b; place = p.place }
 
-abbrev pub after : Progress → ℕ → Progress
+abbrev pub after : ReaderState → ℕ → ReaderState
 after p b = if ends p.format p.part b then ended_token p (moved p.format p.place (symbol_of p.format p.part b)) else went_on p b
 
 -- the end of the bytes: what the last token says, if there is one
@@ -162,20 +162,20 @@ abbrev pub last_symbol : ProofFormat → Part → Symbol
 last_symbol Drat part = part_symbol part
 last_symbol BinaryDrat part = Cut
 
-abbrev pub last_event : Progress → Event
+abbrev pub last_event : ReaderState → Event
 last_event p = if p.part.count == 0 then More else event p.format p.place.inside (last_symbol p.format p.part)
 
-abbrev pub last_place : Progress → Place
+abbrev pub last_place : ReaderState → Place
 last_place p = if p.part.count == 0 then p.place else moved p.format p.place (last_symbol p.format p.part)
 
-abbrev pub last_offset : Progress → ℕ
+abbrev pub last_offset : ReaderState → ℕ
 last_offset p = fault_offset p.place.inside (last_symbol p.format p.part) p.start p.at
 
-abbrev pub closing : Progress → Parsed
+abbrev pub closing : ReaderState → Parsed
 closing p = put (last_event p) (line_at (last_place p)) (last_offset p) (at_end p.at (last_place p))
 
 -- what the rest of the bytes has
-abbrev pub parsed_from : Progress → List ℕ → Parsed
+abbrev pub parsed_from : ReaderState → List ℕ → Parsed
 parsed_from p [] = closing p
 parsed_from p (b ∷ bs) = put (happens p b) (line_at (after p b).place) p.start (parsed_from (after p b) bs)
 

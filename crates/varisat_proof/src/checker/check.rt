@@ -12,7 +12,7 @@ ghost use Rattle.varisat_proof.specs.declared.checker.error.CheckerError.TheVari
 ghost use Rattle.varisat_proof.specs.Written.{line_of_kind};
 ghost use Rattle.varisat_proof.specs.Results.{IsResult};
 ghost use Rattle.varisat_proof.specs.Checks.{Stands, TakesLine, HasRead, ReadsPiece, EndsWith, ChecksLine, ChecksUnits, ChecksCore, RefusesText};
-ghost use Rattle.varisat_proof.specs.Calls.{CheckerState, IsRefusal, BecomesOrRefuses, AddsReading, AddsText, IsStep, Checks, IsOfBytes, spends};
+ghost use Rattle.varisat_proof.specs.Calls.{CheckerState, IsRefusal, BecomesOrRefuses, AddsRead, AddsText, IsStep, Checks, IsOfBytes, spends};
 
 use crate::checker::error::{CheckVerdict, CheckerError};
 use crate::checker::reader::ProofReader;
@@ -144,7 +144,7 @@ impl<A: Allocator + Copy> Checker<A> {
     /// Ends the text, adds the clauses that it leaves, and returns its fault, if there is one.
     fn end_text(&mut self, parser: &mut DimacsParser<A>) -> Result<(), CheckerError>
         requires { self.old.spent ≡ false }
-        ensures { (p : Progress) × IsEnding parser.old p × AddsReading self.old p.reading result self.new }
+        ensures { (p : Progress) × IsEnding parser.old p × AddsRead self.old p.reading result self.new }
     {
         let end = parser.finish();
         match self.add_formula(&parser.take_formula()) {

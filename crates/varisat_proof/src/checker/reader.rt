@@ -25,9 +25,9 @@ pub struct ProofReader<A: Allocator + Copy> {
 
 impl<A: Allocator + Copy> Model for ProofReader<A> {
     ghost use Rattle.std.specs.Prelude.{◌≤◌, ◌*◌, ◌^◌};
-    ghost use Rattle.varisat_proof.specs.Machine.{IsSmall, Progress};
+    ghost use Rattle.varisat_proof.specs.Machine.{IsSmall, ReaderState};
 
-    ghost Value = { Progress };
+    ghost Value = { ReaderState };
 
     ghost view = { λ r. record { format = r.format; at = r.at; start = r.start; part = r.part; place = record { inside = r.inside; kind = r.kind; clause = r.clause.items } } };
 

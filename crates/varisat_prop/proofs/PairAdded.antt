@@ -174,8 +174,8 @@ module _ (s : View) (a b : Literal) (first : opposite a < length s.binary) (seco
   reason-stays k (reason.Binary xs) (m, e, h, o) = (m, e, (adds-pair s.binary a b first second).old (opposite m) (literal_at s k) h, o)
   reason-stays k (reason.Long i) (h, g) = (h, same-implies (clause_at s i) k g)
 
-  pub well-pair : WellFormed s → b ≢ opposite a → variable_of a < length s.values → variable_of b < length s.values → WellFormed more
-  well-pair w n i j =
+  pub well-pair : WellFormed s → variable_of a < length s.values → variable_of b < length s.values → WellFormed more
+  well-pair w i j =
       let g = adds-pair s.binary a b first second in
       record {
         sound = w.sound;

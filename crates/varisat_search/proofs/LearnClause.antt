@@ -310,12 +310,6 @@ module _ (s t : View) (i : Conflict) (level : ℕ) (c : Clause) (w : WellFormed 
     second-false : IsTrueIn t (opposite m)
     second-false = other-false s t i level c w v l deep ct m (subst (λ o. m ∈ o) (sym e) (inl refl))
 
-    -- both are false before the levels are undone
-    not-opposite : m ≢ opposite l.first
-    not-opposite g =
-        let on : (x : Literal) → x ∈ d → IsTrueIn s (opposite x) = λ x h. trail-true s w (opposite x) (l.false_now x (subst (λ y. x ∈ y) (sym whole) h)) in
-        made-clash s.values (opposite l.first) (on l.first (inl refl)) (subst (λ x. IsTrueIn s (opposite x)) g (on m (inr (inl refl))))
-
     -- it is kept, and is the reason of its first literal
     module _ (W : Watches) (p : IsPropagated W s) where
       first-listed : opposite l.first < length t.binary
@@ -335,7 +329,7 @@ module _ (s t : View) (i : Conflict) (level : ℕ) (c : Clause) (w : WellFormed 
               subst (λ X. Joins t X d l.first r) (sym g)
               (subst (Joins t (record (keeping_of t) { binary = with_pair t.binary l.first m }) d l.first) (sym h)
               (record {
-                well = well-pair t l.first m first-listed second-listed apart wt not-opposite inside (in-whole m (inr (inl refl)));
+                well = well-pair t l.first m first-listed second-listed apart wt inside (in-whole m (inr (inl refl)));
                 implies = (m, refl, (adds-pair t.binary l.first m first-listed second-listed).second, second-false);
                 clause = refl;
                 same = pair-same t (record t { binary = with_pair t.binary l.first m }) l.first m (learned d) first-listed second-listed apart (two f) refl refl;

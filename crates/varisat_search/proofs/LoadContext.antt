@@ -66,10 +66,9 @@ module _ {A : Type 0} {x0 x1 : Context A} {c lits : Clause} (d : Loading x0 x1 c
   pub loading-inside : IsInRange x1.assignment.current lits
   loading-inside l h = let a = d.in_range l (d.literals.0 l h) in let n = loading-restarted.count in omega (arith, a, n)
 
-  loading-may : (IsTautology lits → ⊥) → MayBeAdded (view x1) lits
-  loading-may plain = record {
+  loading-may : MayBeAdded (view x1) lits
+  loading-may = record {
     distinct = d.distinct;
-    plain = plain;
     inside = loading-inside;
     paired = λ l h. let a = listed l (length x1.assignment.current) (loading-inside l h) in let n = loading-propagated.binary in omega (arith, a, n);
   }
@@ -129,10 +128,10 @@ module _ {A : Type 0} {x0 x1 : Context A} {c lits : Clause} (d : Loading x0 x1 c
       (λ c h. ⊎_elim (still-decidable c) (λ f l i. d.decidable l (d.literals.0 l (f l i))) (added-kept (view x1) (view z) lits x1.solver_state.sat_state z.solver_state.sat_state loading-restarted.well d.distinct may.paired a c h))
 
   -- the clause was added
-  pub loaded-added : (IsTautology lits → ⊥) → (z : Context A) → z ≡ record x1 { assignment = z.assignment; binary_clauses = z.binary_clauses; clause_alloc = z.clause_alloc; impl_graph = z.impl_graph; solver_state = z.solver_state; trail = z.trail; watchlists = z.watchlists } → IsPropagated z.watchlists (view z) → z.solver_state ≡ record x1.solver_state { sat_state = z.solver_state.sat_state } → z.trail.units_removed ≡ x1.trail.units_removed → z.assignment.last ≡ x1.assignment.last → IsAdded (view x1) (view z) lits x1.solver_state.sat_state z.solver_state.sat_state → Loaded x0 z c
-  loaded-added plain z k p s u l a =
+  pub loaded-added : (z : Context A) → z ≡ record x1 { assignment = z.assignment; binary_clauses = z.binary_clauses; clause_alloc = z.clause_alloc; impl_graph = z.impl_graph; solver_state = z.solver_state; trail = z.trail; watchlists = z.watchlists } → IsPropagated z.watchlists (view z) → z.solver_state ≡ record x1.solver_state { sat_state = z.solver_state.sat_state } → z.trail.units_removed ≡ x1.trail.units_removed → z.assignment.last ≡ x1.assignment.last → IsAdded (view x1) (view z) lits x1.solver_state.sat_state z.solver_state.sat_state → Loaded x0 z c
+  loaded-added z k p s u l a =
       let r = loading-restarted in
-      let may = loading-may plain in
+      let may = loading-may in
       let vsids : z.vsids ≡ x1.vsids = ap (λ (x : Context A). x.vsids) k in
       let b : IsAdded (view x1) (view z) lits (reopened_state x0.solver_state.sat_state) z.solver_state.sat_state = subst (λ b. IsAdded (view x1) (view z) lits b z.solver_state.sat_state) verdict-is a in
       let q = added-well (view x0) (view x1) lits r may (view z) lits (reopened_state x0.solver_state.sat_state) z.solver_state.sat_state refl b in

@@ -82,7 +82,6 @@ restarted-propagated W s t w p same cut =
 -- The literals may be added as a clause: they are distinct, none is another's opposite, and each is known.
 pub record MayBeAdded (t : View) (lits : Clause) : Type 0 where
   pub distinct : IsDistinct lits
-  pub plain : IsTautology lits → ⊥
   pub inside : IsInRange t.values lits
   pub paired : (l : Literal) → l ∈ lits → opposite l < length t.binary
 
@@ -111,8 +110,7 @@ module _ (s t : View) (lits : Clause) (r : Restarted s t) (a : MayBeAdded t lits
       let n = first-other t l m [] q in
       let first = q.paired l (inl refl) in
       let second = q.paired m (inr (inl refl)) in
-      let apart : m ≢ opposite l = λ e. q.plain (l, inl refl, inr (inl (sym e))) in
-      let v = well-pair t l m first second n r.well apart (q.inside l (inl refl)) (q.inside m (inr (inl refl))) in
+      let v = well-pair t l m first second n r.well (q.inside l (inl refl)) (q.inside m (inr (inl refl))) in
       (well-moved (record t { binary = with_pair t.binary l m }) 0 v (omega arith), r.undecided, r.count)
 
   -- the view stays well formed, and no level is left

@@ -81,6 +81,5 @@ pub returns : goal.returns
 returns g c =
     let e = c.in_ok-add_distinct.ensures in
     let k = c.add_distinct.ensures.kept in
-    let plain : IsTautology c.collect_distinct.new.ctx.tmp_data.lits.items → ⊥ = λ t. let b = c.in_ok-collect_distinct.ensures.tautology.1 t in let f = c.if-branch.false in cc in
-    let o = loaded-added (loading g (goal.at.returns g c).In_ok-collect_distinct) plain c.add_distinct.new.ctx k e.propagated e.state e.units e.last e.added in
+    let o = loaded-added (loading g (goal.at.returns g c).In_ok-collect_distinct) c.add_distinct.new.ctx k e.propagated e.state e.units e.last e.added in
     record { ready = o.ready; unsat = λ e. absurd (c.in_default.not-Unsat e); lines = o.lines; last = λ n. o.last; state = λ n. o.state; count = o.count; units = o.units; undecided = λ n. o.undecided; decidable = o.decidable; decay = o.decay; schedule = o.schedule }

@@ -157,15 +157,21 @@ settles_end P a b c g h r e = record {
   saturated = λ t. ⊎_elim (λ w. w.1) (λ w. absurd (w.4 (subst (λ k. w.1 ∈ k) (same_length P b c h e) w.5))) r;
 }
 
-pub less_left : (P : List Clause) (a b c : List Literal) → Grows P a b → Grows P b c → ((c ≡ b) × IsSaturated P c) ⊎ Joins P b c → (length c ≡ length b → ⊥) → unknown P c < unknown P a
-less_left P a b c g h r n =
+pub less_left : (P : List Clause) (a b c : List Literal) → Grows P a b → ((b ≡ a) × IsSaturated P b) ⊎ Joins P a b → (length b ≡ length a → ⊥) → Grows P b c → unknown P c < unknown P a
+less_left P a b c g r n h =
     ⊎_elim
     (λ w. absurd (n (ap length w.0)))
     (λ w.
-    let s = unknown_fewer P b c w.0 w.1 (grows_part P b c h) w.2 w.3 w.4 w.5 in
-    let t = unknown_less P a b (grows_part P a b g) in
+    let s = unknown_fewer P a b w.0 w.1 (grows_part P a b g) w.2 w.3 w.4 w.5 in
+    let t = unknown_less P b c (grows_part P b c h) in
     omega (arith, s, t))
     r
+
+pub settles_early : (P : List Clause) (a b : List Literal) (found : Bool) → found ≡ true → Finds P a found b → Settles P a true b
+settles_early P a b found e f = record { finds = subst (λ (x : Bool). Finds P a x b) e f; saturated = λ t. absurd cc }
+
+pub settles_on : (P : List Clause) (a b c : List Literal) (found : Bool) → Grows P a b → Settles P b found c → Settles P a found c
+settles_on P a b c found g s = record { finds = finds_on P a b c found g s.finds; saturated = s.saturated }
 
 -- 7. Literals that are assumed.
 pub record Assumed (old base seen new : List Literal) : Type 0 where

@@ -1,5 +1,5 @@
 //! One clause, under literals that are known to be true.
-ghost use Rattle.std.specs.Prelude.{◌≡◌, ◌↔◌, ◌⊎◌, IsTrue, true, false, None, [], ◌∷◌};
+ghost use Rattle.std.specs.Prelude.{◌≡◌, ◌≢◌, ◌↔◌, ◌⊎◌, IsTrue, true, false, MatchOption, [], ◌∷◌};
 ghost use Rattle.varisat_theory.specs.Checking.{IsClauseStatus};
 ghost use Rattle.varisat_theory.specs.Held.{mentions};
 ghost use Rattle.varisat_theory.specs.Literals.{opposite};
@@ -93,7 +93,8 @@ pub fn is_quiet<A: Allocator + Copy>(known: &Known<A>, clause: &[Lit]) -> bool
 
 /// Whether the literal is neither false nor the given one.
 fn is_other<A: Allocator + Copy>(known: &Known<A>, literal: Lit, given: Lit) -> bool
-    ensures { result ≡ false → (literal ≡ given) ⊎ (opposite literal ∈ known.now) }
+    ensures yes { result ≡ true → (literal ≢ given) × (opposite literal ∈ known.now → ⊥) }
+    ensures no { result ≡ false → (literal ≡ given) ⊎ (opposite literal ∈ known.now) }
 {
     if literal.code() == given.code() {
         return false;
@@ -110,7 +111,7 @@ pub fn find_other<A: Allocator + Copy>(
     clause: &[Lit],
     literal: Lit,
 ) -> Option<Lit>
-    ensures { result ≡ None → LeavesOnly known.now clause.now literal }
+    ensures { MatchOption result (LeavesOnly known.now clause.now literal) (λ l. (l ∈ clause.now) × (l ≢ literal) × (opposite l ∈ known.now → ⊥)) }
 {
     for l in clause {
         if is_other(known, *l, literal) {

@@ -13,7 +13,7 @@ use crate::clause::{is_quiet, status_of};
 use crate::index::{ClauseIndex, key_of};
 use crate::known::Known;
 use crate::places::{clause_at, drop_mentions, find_place, has_clause, is_equal_at};
-use crate::propagation::{assume, settle};
+use crate::propagation::{assume, propagate, settle};
 use crate::watches::Watches;
 use std::alloc::{AllocError, Allocator};
 use std::marker::Model;
@@ -144,7 +144,11 @@ fn ask<A: Allocator + Copy>(
     if clashes {
         return Ok(true);
     }
-    let found = settle(places, known, watches, count)?;
+    let conflicts = propagate(places, known, watches, count)?;
+    if conflicts {
+        return Ok(true);
+    }
+    let found = settle(places, known, watches)?;
     Ok(found)
 }
 
@@ -252,8 +256,7 @@ impl<A: Allocator + Copy> PresentClauses<A> {
         if self.is_settled {
             return Ok(false);
         }
-        let count = self.known.len();
-        match settle(&self.places, &mut self.known, &mut self.watches, count) {
+        match settle(&self.places, &mut self.known, &mut self.watches) {
             Ok(found) => {
                 self.is_settled = !found;
                 Ok(found)

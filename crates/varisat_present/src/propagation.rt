@@ -105,25 +105,22 @@ fn look<A: Allocator + Copy>(
     }
 }
 
-/// Looks at all watches on a literal that is false. Returns whether a clause was found that is false.
+/// Looks at the watches on a literal that is false. Returns whether a clause was found that is false.
 fn propagate_literal<A: Allocator + Copy>(
     places: &[Option<Vec<Lit, A>>],
     known: &mut Known<A>,
     watches: &mut Watches<A>,
     literal: Lit,
+    list: &mut Vec<Watch, A>,
 ) -> Result<bool, AllocError>
     requires { HasClash known.old → ⊥ }
     ensures { IfOk result (λ found. Finds (present places.now) known.old found known.new) }
 {
-    let mut list = watches.take_list(literal);
     let mut i = 0;
     'watches: while i < list.len() {
         let looked = look(places, known, watches, literal, list[i])?;
         match looked {
-            Looked::Conflict => {
-                watches.put_list(literal, list);
-                return Ok(true);
-            }
+            Looked::Conflict => return Ok(true),
             Looked::Stays => {
                 i += 1;
                 continue;
@@ -132,12 +129,11 @@ fn propagate_literal<A: Allocator + Copy>(
         }
         let _ = list.swap_remove(i);
     }
-    watches.put_list(literal, list);
     Ok(false)
 }
 
 /// Propagates the known literals from this place on, as far as watches lead.
-fn propagate<A: Allocator + Copy>(
+pub fn propagate<A: Allocator + Copy>(
     places: &[Option<Vec<Lit, A>>],
     known: &mut Known<A>,
     watches: &mut Watches<A>,
@@ -149,9 +145,11 @@ fn propagate<A: Allocator + Copy>(
     for place in first..usize::MAX {
         let literal = match known.get(place) {
             None => return Ok(false),
-            Some(literal) => literal,
+            Some(literal) => !literal,
         };
-        let found = propagate_literal(places, known, watches, !literal)?;
+        let mut list = watches.take_list(literal);
+        let found = propagate_literal(places, known, watches, literal, &mut list)?;
+        watches.put_list(literal, list);
         if found {
             return Ok(true);
         }
@@ -201,23 +199,17 @@ fn pass<A: Allocator + Copy>(
     Ok(false)
 }
 
-/// Propagates to the end. The known literals before the place were propagated already, as far as watches are concerned.
-/// Returns whether a clause is false.
+/// Propagates to the end. The known literals were propagated already, as far as watches lead. Returns whether a clause is
+/// false.
 pub fn settle<A: Allocator + Copy>(
     places: &[Option<Vec<Lit, A>>],
     known: &mut Known<A>,
     watches: &mut Watches<A>,
-    first: usize,
 ) -> Result<bool, AllocError>
     requires { HasClash known.old → ⊥ }
     ensures { IfOk result (λ found. Settles (present places.now) known.old found known.new) }
 {
-    let mut head = first;
     'rounds: loop {
-        let found = propagate(places, known, watches, head)?;
-        if found {
-            return Ok(true);
-        }
         let count = known.len();
         let is_false = pass(places, known)?;
         if is_false {
@@ -226,7 +218,10 @@ pub fn settle<A: Allocator + Copy>(
         if known.len() == count {
             return Ok(false);
         }
-        head = count;
+        let found = propagate(places, known, watches, count)?;
+        if found {
+            return Ok(true);
+        }
     }
 }
 

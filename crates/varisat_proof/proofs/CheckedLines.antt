@@ -1,10 +1,11 @@
 -- A check of a proof, a line and a byte at a time.
-use Rattle.std.proofs.Common.{◌≡◌, ℕ, suc, ◌+◌, ◌-◌, ◌^◌, ◌<◌, ◌≤◌, min, List, [], ◌∷◌, ◌++◌, length, take, drop, get_or, Bool, true, false, IsTrue, ◌↔◌, ◌==◌, if◌then◌else◌, refl, sym, ap, subst, ◌∙◌, append_assoc, append-nil, Option, Some, None, Ok, Err, take_all, arith}
+use Rattle.std.proofs.Common.{◌≡◌, ℕ, suc, ◌+◌, ◌-◌, ◌^◌, ◌<◌, ◌≤◌, min, List, [], ◌∷◌, ◌++◌, length, take, drop, get_or, Bool, true, false, IsTrue, ◌↔◌, ◌==◌, if◌then◌else◌, refl, sym, ap, subst, ◌∙◌, append_assoc, append-nil, Option, Some, None, Result, Ok, Err, take_all, arith}
 use Rattle.std.proofs.lemmas.List.{take-append-drop, take_more}
 use Rattle.varisat_theory.specs.Literals.{Clause}
 use Rattle.varisat_theory.specs.Derivations.{Line, Add, Delete, Derives, Refutes}
-use Rattle.varisat_theory.specs.Checking.{IsFirstWrong, IsLineStatus, IsAbsent}
+use Rattle.varisat_theory.specs.Checking.{IsFirstWrong, IsLineStatus, IsAbsent, IsVerdict, IsWrong}
 use Rattle.varisat_theory.specs.Propagation.{Conflicts}
+use Rattle.varisat_theory.specs.declared.checker.PlainVerdict.{PlainVerdict}
 use Rattle.varisat_theory.specs.declared.checker.PlainVerdict.TheVariants as plain
 use Rattle.varisat_theory.specs.declared.checker.LineStatus.{LineStatus}
 use Rattle.varisat_theory.specs.declared.checker.LineStatus.TheVariants.{Taken, Unproved, Absent}
@@ -18,31 +19,42 @@ use Rattle.varisat_proof.specs.declared.checker.token.Symbol.{Symbol}
 use Rattle.varisat_proof.specs.declared.checker.token.Symbol.TheVariants.{Mark, Number, Cut, Bad}
 use Rattle.varisat_proof.specs.declared.checker.token.Event.{Event}
 use Rattle.varisat_proof.specs.declared.checker.token.Event.TheVariants.{More, Ended, Fault}
+use Rattle.varisat_proof.specs.declared.checker.error.CheckVerdict.{CheckVerdict}
 use Rattle.varisat_proof.specs.declared.checker.error.CheckVerdict.TheVariants.{Refutation, Derivation}
 use Rattle.varisat_proof.specs.declared.checker.error.CheckerError.{CheckerError}
-use Rattle.varisat_proof.specs.declared.checker.error.CheckerError.TheVariants.{CheckFailed, NoSuchClause, Parse, Io, OutOfMemory, Dimacs, Spent}
+use Rattle.varisat_proof.specs.declared.checker.error.CheckerError.TheVariants.{CheckFailed, NoSuchClause, Parse, OutOfMemory}
 use Rattle.varisat_proof.specs.declared.checker.check.Count.{Count}
 use Rattle.varisat_proof.specs.Written.{line_of_kind}
 use Rattle.varisat_proof.specs.Grammar.{Accepted, Faulty, is_mark, is_tag}
 use Rattle.varisat_proof.specs.Machine.{Place, Parsed, ReaderState, line_at, number_event, event, begin_line, after_number, moved, last_symbol, put, at_end, happens, after, parsed, parsed_from, begin, last_event, last_place, last_offset}
 use Rattle.varisat_proof.specs.Means.{BytesMean, Means}
-use Rattle.varisat_proof.specs.Results.{step_number, Leaves, IsResult}
-use Rattle.varisat_proof.specs.Checks.{StandsBy, Stands, StopsWith, IsWrongLast, with_lines, HasRead, BreaksOff, EndsWith}
+use Rattle.varisat_proof.specs.Results.{step_number, result_of, StopsAt, Leaves, IsResult}
+use Rattle.varisat_proof.specs.Checks.{StandsBy, Stands, IsWrongLast, with_lines, HasRead, BreaksOff, EndsWith, result_at_end}
 use Rattle.varisat_proof.proofs.TokenLines.{parsed_means}
 
 -- 1. Lines.
 pub absent_status : (P P' Q : List Clause) (d : LineKind) (c : Clause) → P ≡ P' → d ≡ Deletes → IsAbsent P c → IsLineStatus P' (line_of_kind d c) Absent Q
 absent_status P P' Q d c e h a = subst (λ t. IsLineStatus P' (line_of_kind t c) Absent Q) (sym h) (subst (λ x. IsAbsent x c) e a)
 
--- a checker that stops at a line stops there also with more lines behind it
-refuted_more : (P : List Clause) (lines more : List Line) (Q : List Clause) → Leaves P lines plain.Refutation Q → Leaves P (lines ++ more) plain.Refutation Q
-refuted_more P lines more Q w = record { front = w.front; back = w.back ++ more; splits = ap (λ x. x ++ more) w.splits ∙ append_assoc w.front w.back more; derives = w.derives; stops = w.stops }
+-- the verdicts with which a checker stops at a line, whatever comes behind it
+abbrev is_early : PlainVerdict → Bool
+is_early plain.Derivation = false
+is_early verdict = true
 
-unproved_more : (P : List Clause) (lines more : List Line) (n : ℕ) (Q : List Clause) → Leaves P lines (plain.DoesNotFollow n) Q → Leaves P (lines ++ more) (plain.DoesNotFollow n) Q
-unproved_more P lines more n Q w = record { front = w.front; back = w.back ++ more; splits = ap (λ x. x ++ more) w.splits ∙ append_assoc w.front w.back more; derives = w.derives; stops = w.stops }
+stops_more : (v : PlainVerdict) (front back more : List Line) (Q : List Clause) → is_early v ≡ true → StopsAt v front back Q → StopsAt v front (back ++ more) Q
+stops_more plain.Refutation front back more Q e s = s
+stops_more plain.Derivation front back more Q e s = absurd cc
+stops_more (plain.DoesNotFollow n) front back more Q e s = s
+stops_more (plain.DeletesNothing n) front back more Q e s = s
 
-absent_more : (P : List Clause) (lines more : List Line) (n : ℕ) (Q : List Clause) → Leaves P lines (plain.DeletesNothing n) Q → Leaves P (lines ++ more) (plain.DeletesNothing n) Q
-absent_more P lines more n Q w = record { front = w.front; back = w.back ++ more; splits = ap (λ x. x ++ more) w.splits ∙ append_assoc w.front w.back more; derives = w.derives; stops = w.stops }
+leaves_more : (v : PlainVerdict) (P : List Clause) (lines more : List Line) (Q : List Clause) → is_early v ≡ true → Leaves P lines v Q → Leaves P (lines ++ more) v Q
+leaves_more v P lines more Q e w = record {
+  front = w.front;
+  back = w.back ++ more;
+  splits = ap (λ x. x ++ more) w.splits ∙ append_assoc w.front w.back more;
+  derives = w.derives;
+  stops = stops_more v w.front w.back more Q e w.stops;
+}
 
 pub leaves_refutes : (P : List Clause) (lines : List Line) (Q : List Clause) → Leaves P lines plain.Refutation Q → Refutes P lines
 leaves_refutes P lines Q w = (w.front, w.back, Q, w.splits, derives_derivation P w.front Q w.derives, derives_present P w.front Q w.derives, w.stops)
@@ -51,7 +63,7 @@ pub refuted_here : (P : List Clause) (lines : List Line) (Q : List Clause) → D
 refuted_here P lines Q d k = record { front = lines; back = []; splits = sym (append-nil lines); derives = d; stops = k }
 
 pub still_refuted : (b : Bool) (P : List Clause) (lines : List Line) (Q : List Clause) (n : ℕ) (l : Line) → b ≡ true → StandsBy b P lines Q n → StandsBy b P (lines ++ l ∷ []) Q n
-still_refuted true P lines Q n l e h = refuted_more P lines (l ∷ []) Q h
+still_refuted true P lines Q n l e h = leaves_more plain.Refutation P lines (l ∷ []) Q refl h
 still_refuted false P lines Q n l e h = absurd cc
 
 checked_of : (P : List Clause) (lines : List Line) (Q : List Clause) → Derives P lines Q → (Refutes P lines → ⊥) → Checked P lines Q
@@ -67,6 +79,11 @@ going false P lines Q n e h = h
 next_number : (lines n step : ℕ) → n ≡ step_number lines → step ≡ min (n + 1) (2 ^ 64 - 1) → step ≡ step_number (suc lines)
 next_number lines n step e h = omega arith
 
+-- the error for a line that is not taken
+abbrev pub error_of : LineStatus → ℕ → CheckerError
+error_of Absent step = NoSuchClause step
+error_of status step = CheckFailed step
+
 module _ (b : Bool) (P : List Clause) (lines : List Line) (Q R : List Clause) (n step : ℕ) (d : LineKind) (c : Clause) (is_open : b ≡ false) (stands : StandsBy b P lines Q n) (number : step ≡ min (n + 1) (2 ^ 64 - 1)) where
   abbrev line : Line
   line = line_of_kind d c
@@ -74,25 +91,22 @@ module _ (b : Bool) (P : List Clause) (lines : List Line) (Q R : List Clause) (n
   now : Going P lines Q n
   now = going b P lines Q n is_open stands
 
-  unproved : (e : LineKind) → IsLineStatus Q (line_of_kind e c) Unproved R → StopsWith P (lines ++ line_of_kind e c ∷ []) (plain.DoesNotFollow (suc (length lines))) Q
-  unproved Deletes h = absurd h
-  unproved Adds h = record {
-    is_verdict = (c, wrong_found P lines [] (lines ++ Add c ∷ []) Q (Add c) (suc (length lines)) refl refl (checked_of P lines Q now.0 now.1) now.2 h);
-    leaves = record { front = lines; back = Add c ∷ []; splits = refl; derives = now.0; stops = refl };
-  }
+  first_wrong : (l : Line) → IsWrong Q l → IsFirstWrong P (lines ++ l ∷ []) (suc (length lines)) l
+  first_wrong l w = wrong_found P lines [] (lines ++ l ∷ []) Q l (suc (length lines)) refl refl (checked_of P lines Q now.0 now.1) now.2 w
 
-  pub on_unproved : (s : LineStatus) → s ≡ Unproved → R ≡ Q → IsLineStatus Q line s R → IsWrongLast P (lines ++ line ∷ []) (CheckFailed step) R
-  on_unproved s e q h = (suc (length lines), subst (λ x. StopsWith P (lines ++ line ∷ []) (plain.DoesNotFollow (suc (length lines))) x) (sym q) (unproved d (subst (λ t. IsLineStatus Q line t R) e h)), next_number (length lines) n step now.3 number)
+  leaves_before : (v : PlainVerdict) (l : Line) → StopsAt v lines (l ∷ []) Q → Leaves P (lines ++ l ∷ []) v Q
+  leaves_before v l s = record { front = lines; back = l ∷ []; splits = refl; derives = now.0; stops = s }
 
-  absent : (e : LineKind) → IsLineStatus Q (line_of_kind e c) Absent R → StopsWith P (lines ++ line_of_kind e c ∷ []) (plain.DeletesNothing (suc (length lines))) Q
-  absent Adds h = absurd h
-  absent Deletes h = record {
-    is_verdict = (c, wrong_found P lines [] (lines ++ Delete c ∷ []) Q (Delete c) (suc (length lines)) refl refl (checked_of P lines Q now.0 now.1) now.2 h);
-    leaves = record { front = lines; back = Delete c ∷ []; splits = refl; derives = now.0; stops = refl };
-  }
+  wrong_last : (s : LineStatus) (e : LineKind) → (s ≡ Taken → ⊥) → IsLineStatus Q (line_of_kind e c) s R → IsWrongLast P (lines ++ line_of_kind e c ∷ []) (error_of s step) Q
+  wrong_last Taken e n h = absurd (n refl)
+  wrong_last Unproved Deletes n h = absurd h
+  wrong_last Unproved Adds t h = (suc (length lines), record { is_verdict = (c, first_wrong (Add c) h); leaves = leaves_before (plain.DoesNotFollow (suc (length lines))) (Add c) refl }, next_number (length lines) n step now.3 number)
+  wrong_last Absent Adds n h = absurd h
+  wrong_last Absent Deletes t h = (suc (length lines), record { is_verdict = (c, first_wrong (Delete c) h); leaves = leaves_before (plain.DeletesNothing (suc (length lines))) (Delete c) refl }, next_number (length lines) n step now.3 number)
 
-  pub on_absent : (s : LineStatus) → s ≡ Absent → R ≡ Q → IsLineStatus Q line s R → IsWrongLast P (lines ++ line ∷ []) (NoSuchClause step) R
-  on_absent s e q h = (suc (length lines), subst (λ x. StopsWith P (lines ++ line ∷ []) (plain.DeletesNothing (suc (length lines))) x) (sym q) (absent d (subst (λ t. IsLineStatus Q line t R) e h)), next_number (length lines) n step now.3 number)
+  pub on_wrong : (s : LineStatus) (error : CheckerError) → error ≡ error_of s step → (s ≡ Taken → ⊥) → R ≡ Q → IsLineStatus Q line s R → IsWrongLast P (lines ++ line ∷ []) error R
+  on_wrong s error e n q h =
+      subst (λ x. IsWrongLast P (lines ++ line ∷ []) x R) (sym e) (subst (λ x. IsWrongLast P (lines ++ line ∷ []) (error_of s step) x) (sym q) (wrong_last s d n h))
 
   longer : (lines : List Line) → length (lines ++ line ∷ []) ≡ suc (length lines)
   longer [] = refl
@@ -108,29 +122,32 @@ module _ (b : Bool) (P : List Clause) (lines : List Line) (Q R : List Clause) (n
   on_taken s f e h t = taken f t (checked_more P lines Q line R (checked_of P lines Q now.0 now.1) now.2 (subst (λ x. IsLineStatus Q line x R) e h))
 
 -- 2. Results.
+abbrev verdict_by : Bool → PlainVerdict
+verdict_by b = if b then plain.Refutation else plain.Derivation
+
+standing_is : (b : Bool) (P : List Clause) (lines : List Line) (Q : List Clause) (n : ℕ) → StandsBy b P lines Q n → IsVerdict P lines (verdict_by b) × Leaves P lines (verdict_by b) Q
+standing_is true P lines Q n s = (leaves_refutes P lines Q s, s)
+standing_is false P lines Q n s = ((derives_derivation P lines Q s.0, s.1), record { front = lines; back = []; splits = sym (append-nil lines); derives = s.0; stops = refl })
+
+-- the result of bytes of which the lines were all checked
+standing_result : (b : Bool) (f : ProofFormat) (P : List Clause) (bytes : List ℕ) (lines : List Line) (fault : Option ℕ) (r : Result CheckVerdict CheckerError) (Q : List Clause) (n : ℕ) → BytesMean f bytes lines fault → StandsBy b P lines Q n → r ≡ result_of fault (verdict_by b) → IsResult f P bytes r Q
+standing_result b f P bytes lines fault r Q n m s e =
+    let w = standing_is b P lines Q n s in
+    record { lines = lines; fault = fault; verdict = verdict_by b; means = m; is_verdict = w.0; leaves = w.1; result_is = e }
+
 fault_result : (b : Bool) (f : ProofFormat) (P : List Clause) (bytes : List ℕ) (lines : List Line) (o : ℕ) (Q : List Clause) (n : ℕ) → BytesMean f bytes lines (Some o) → StandsBy b P lines Q n → IsResult f P bytes (Err (Parse o)) Q
-fault_result true f P bytes lines o Q n m s = record { lines = lines; fault = Some o; verdict = plain.Refutation; means = m; is_verdict = leaves_refutes P lines Q s; leaves = s; result_is = refl }
-fault_result false f P bytes lines o Q n m s = record {
-  lines = lines;
-  fault = Some o;
-  verdict = plain.Derivation;
-  means = m;
-  is_verdict = (derives_derivation P lines Q s.0, s.1);
-  leaves = record { front = lines; back = []; splits = sym (append-nil lines); derives = s.0; stops = refl };
-  result_is = refl;
-}
+fault_result b f P bytes lines o Q n m s = standing_result b f P bytes lines (Some o) (Err (Parse o)) Q n m s (by b)
+  where
+    by : (b : Bool) → Err (Parse o) ≡ result_of (Some o) (verdict_by b)
+    by true = refl
+    by false = refl
 
 whole_result : (b : Bool) (f : ProofFormat) (P : List Clause) (bytes : List ℕ) (lines : List Line) (Q : List Clause) (n : ℕ) → BytesMean f bytes lines None → StandsBy b P lines Q n → IsResult f P bytes (Ok (if b then Refutation else Derivation)) Q
-whole_result true f P bytes lines Q n m s = record { lines = lines; fault = None; verdict = plain.Refutation; means = m; is_verdict = leaves_refutes P lines Q s; leaves = s; result_is = refl }
-whole_result false f P bytes lines Q n m s = record {
-  lines = lines;
-  fault = None;
-  verdict = plain.Derivation;
-  means = m;
-  is_verdict = (derives_derivation P lines Q s.0, s.1);
-  leaves = record { front = lines; back = []; splits = sym (append-nil lines); derives = s.0; stops = refl };
-  result_is = refl;
-}
+whole_result b f P bytes lines Q n m s = standing_result b f P bytes lines None (Ok (if b then Refutation else Derivation)) Q n m s (by b)
+  where
+    by : (b : Bool) → Ok (if b then Refutation else Derivation) ≡ result_of None (verdict_by b)
+    by true = refl
+    by false = refl
 
 -- lines behind the first wrong one change nothing
 wrong_more : (P : List Clause) (lines more : List Line) (n : ℕ) (line : Line) → IsFirstWrong P lines n line → IsFirstWrong P (lines ++ more) n line
@@ -146,27 +163,18 @@ wrong_more P lines more n line w = record {
   wrong = w.wrong;
 }
 
+-- the result of bytes whose first lines end with a wrong one
+wrong_result : (f : ProofFormat) (P : List Clause) (bytes : List ℕ) (lines more : List Line) (fault : Option ℕ) (v : PlainVerdict) (e : CheckerError) (Q : List Clause) → BytesMean f bytes (lines ++ more) fault → IsVerdict P (lines ++ more) v → is_early v ≡ true → Leaves P lines v Q → Err e ≡ result_of fault v → IsResult f P bytes (Err e) Q
+wrong_result f P bytes lines more fault v e Q m i a w r =
+    record { lines = lines ++ more; fault = fault; verdict = v; means = m; is_verdict = i; leaves = leaves_more v P lines more Q a w; result_is = r }
+
 failed_result : (f : ProofFormat) (P : List Clause) (bytes : List ℕ) (lines more : List Line) (fault : Option ℕ) (step : ℕ) (Q : List Clause) → BytesMean f bytes (lines ++ more) fault → IsWrongLast P lines (CheckFailed step) Q → IsResult f P bytes (Err (CheckFailed step)) Q
-failed_result f P bytes lines more fault step Q m w = record {
-  lines = lines ++ more;
-  fault = fault;
-  verdict = plain.DoesNotFollow w.0;
-  means = m;
-  is_verdict = (w.1.is_verdict.0, wrong_more P lines more w.0 (Add w.1.is_verdict.0) w.1.is_verdict.1);
-  leaves = unproved_more P lines more w.0 Q w.1.leaves;
-  result_is = ap (λ x. Err (CheckFailed x)) w.2;
-}
+failed_result f P bytes lines more fault step Q m (n, w, e) =
+    wrong_result f P bytes lines more fault (plain.DoesNotFollow n) (CheckFailed step) Q m (w.is_verdict.0, wrong_more P lines more n (Add w.is_verdict.0) w.is_verdict.1) refl w.leaves (ap (λ x. Err (CheckFailed x)) e)
 
 missing_result : (f : ProofFormat) (P : List Clause) (bytes : List ℕ) (lines more : List Line) (fault : Option ℕ) (step : ℕ) (Q : List Clause) → BytesMean f bytes (lines ++ more) fault → IsWrongLast P lines (NoSuchClause step) Q → IsResult f P bytes (Err (NoSuchClause step)) Q
-missing_result f P bytes lines more fault step Q m w = record {
-  lines = lines ++ more;
-  fault = fault;
-  verdict = plain.DeletesNothing w.0;
-  means = m;
-  is_verdict = (w.1.is_verdict.0, wrong_more P lines more w.0 (Delete w.1.is_verdict.0) w.1.is_verdict.1);
-  leaves = absent_more P lines more w.0 Q w.1.leaves;
-  result_is = ap (λ x. Err (NoSuchClause x)) w.2;
-}
+missing_result f P bytes lines more fault step Q m (n, w, e) =
+    wrong_result f P bytes lines more fault (plain.DeletesNothing n) (NoSuchClause step) Q m (w.is_verdict.0, wrong_more P lines more n (Delete w.is_verdict.0) w.is_verdict.1) refl w.leaves (ap (λ x. Err (NoSuchClause x)) e)
 
 -- 3. Bytes.
 pub reads_start : (f : ProofFormat) → HasRead f [] [] (begin f)
@@ -204,11 +212,8 @@ begins f text more rest lines p r = subst (λ t. Means f ((text ++ more) ++ rest
 pub reads_wrong : (f : ProofFormat) (P : List Clause) (text more : List ℕ) (lines : List Line) (p : ReaderState) (e : CheckerError) (Q : List Clause) → HasRead f text lines p → IsWrongLast P lines e Q → BreaksOff f P (text ++ more) e Q
 reads_wrong f P text more lines p (CheckFailed step) Q r w = λ rest. failed_result f P ((text ++ more) ++ rest) lines (parsed_from p (more ++ rest)).lines (parsed_from p (more ++ rest)).fault step Q (begins f text more rest lines p r) w
 reads_wrong f P text more lines p (NoSuchClause step) Q r w = λ rest. missing_result f P ((text ++ more) ++ rest) lines (parsed_from p (more ++ rest)).lines (parsed_from p (more ++ rest)).fault step Q (begins f text more rest lines p r) w
-reads_wrong f P text more lines p (Parse o) Q r w = absurd w
-reads_wrong f P text more lines p (Io x) Q r w = absurd w
 reads_wrong f P text more lines p OutOfMemory Q r w = tt
-reads_wrong f P text more lines p (Dimacs x) Q r w = absurd w
-reads_wrong f P text more lines p Spent Q r w = absurd w
+reads_wrong f P text more lines p e Q r w = absurd w
 
 -- 4. The end.
 closing_is : (f : ProofFormat) (text : List ℕ) (lines : List Line) (p : ReaderState) (e : Event) → HasRead f text lines p → last_event p ≡ e → parsed f text ≡ with_lines lines (put e (line_at (last_place p)) (last_offset p) (at_end p.at (last_place p)))
@@ -320,20 +325,15 @@ end_wrong f P text lines Q Q' count p q d c error r s e g w o t = by_error error
     by_error : (error : CheckerError) → IsWrongLast P all error Q' → EndsWith f P text (Err error) Q'
     by_error (CheckFailed step) w = failed_result f P text all [] None step Q' ok w
     by_error (NoSuchClause step) w = missing_result f P text all [] None step Q' ok w
-    by_error (Parse x) w = absurd w
-    by_error (Io x) w = absurd w
     by_error OutOfMemory w = tt
-    by_error (Dimacs x) w = absurd w
-    by_error Spent w = absurd w
+    by_error error w = absurd w
 
-pub by_inside : (f : ProofFormat) (P : List Clause) (text : List ℕ) (Q : List Clause) (count : Count) (q : ReaderState) (b : Bool) (o : ℕ) → EndsAt f P text Q count q → b ≡ q.place.inside → b ≡ true → o ≡ q.at → EndsWith f P text (Err (Parse o)) Q
-by_inside f P text Q count q b o s e h g = subst (λ x. EndsWith f P text (Err (Parse x)) Q) (sym g) (ends_inside f P text s.0 q Q count s.1 (sym e ∙ h) s.2)
-
-pub by_refuted : (f : ProofFormat) (P : List Clause) (text : List ℕ) (Q : List Clause) (count : Count) (q : ReaderState) (b : Bool) → EndsAt f P text Q count q → b ≡ q.place.inside → b ≡ false → count.refuted ≡ true → EndsWith f P text (Ok Refutation) Q
-by_refuted f P text Q count q b s e h g = subst (λ t. EndsWith f P text (Ok (if t then Refutation else Derivation)) Q) g (ends_whole f P text s.0 q Q count s.1 (sym e ∙ h) s.2)
-
-pub by_derived : (f : ProofFormat) (P : List Clause) (text : List ℕ) (Q : List Clause) (count : Count) (q : ReaderState) (b : Bool) → EndsAt f P text Q count q → b ≡ q.place.inside → b ≡ false → count.refuted ≡ false → EndsWith f P text (Ok Derivation) Q
-by_derived f P text Q count q b s e h g = subst (λ t. EndsWith f P text (Ok (if t then Refutation else Derivation)) Q) g (ends_whole f P text s.0 q Q count s.1 (sym e ∙ h) s.2)
+pub ends_at_end : (f : ProofFormat) (P : List Clause) (text : List ℕ) (Q : List Clause) (count : Count) (q : ReaderState) (r : Result CheckVerdict CheckerError) → EndsAt f P text Q count q → r ≡ result_at_end q count → EndsWith f P text r Q
+ends_at_end f P text Q count q r s e = subst (λ x. EndsWith f P text x Q) (sym e) (by q.place.inside refl)
+  where
+    by : (inside : Bool) → q.place.inside ≡ inside → EndsWith f P text (if inside then Err (Parse q.at) else Ok (if count.refuted then Refutation else Derivation)) Q
+    by true i = ends_inside f P text s.0 q Q count s.1 i s.2
+    by false i = ends_whole f P text s.0 q Q count s.1 i s.2
 
 -- a line that ended leaves the reader between two lines
 not_ended : (n : ℕ) → (if n == 1 then Fault else More) ≡ Ended → ⊥

@@ -6,7 +6,7 @@ use Rattle.varisat_theory.specs.Checking.{IsWrong, IsLineStatus}
 use Rattle.varisat_theory.specs.declared.checker.LineStatus.TheVariants.{Unproved, Absent}
 use Rattle.varisat_theory.proofs.Lines.{derives_append}
 use Rattle.varisat_proof.specs.declared.checker.error.CheckerError.{CheckerError}
-use Rattle.varisat_proof.specs.declared.checker.error.CheckerError.TheVariants.{CheckFailed, NoSuchClause, Parse, Io, OutOfMemory, Dimacs, Spent}
+use Rattle.varisat_proof.specs.declared.checker.error.CheckerError.TheVariants.{CheckFailed, NoSuchClause, OutOfMemory}
 use Rattle.varisat_proof.specs.declared.proof.step.ProofStep.{ProofStep}
 use Rattle.varisat_proof.specs.declared.proof.step.ProofStep.TheVariants.{AtClause, UnitClauses, DeleteClause, DeleteVar, FailedAssumptions}
 use Rattle.varisat_proof.specs.Steps.{unit_lines}
@@ -70,11 +70,8 @@ units_fail old mid new ls i l n (CheckFailed step) h e k d s w = (
   ap (λ x. x.spent) w.2 ∙ s,
 )
 units_fail old mid new ls i l n (NoSuchClause step) h e k d s w = absurd (let f : Add (l ∷ []) ≡ Delete w.0.0 = w.0.1 in cc)
-units_fail old mid new ls i l n (Parse x) h e k d s w = absurd w
-units_fail old mid new ls i l n (Io x) h e k d s w = absurd w
 units_fail old mid new ls i l n OutOfMemory h e k d s w = w
-units_fail old mid new ls i l n (Dimacs x) h e k d s w = absurd w
-units_fail old mid new ls i l n Spent h e k d s w = absurd w
+units_fail old mid new ls i l n error h e k d s w = absurd w
 
 -- 3. Steps.
 fails_at : (old new : CheckerState) (line : Line) (l : Line) (n : ℕ) → line ≡ l → IsWrong old.clauses l → n ≡ 1 → new ≡ old → FailsAt old.clauses (line ∷ []) n l new.clauses
@@ -98,33 +95,19 @@ pub step_is : (old new : CheckerState) (s : ProofStep) (r : Result (Unit {0}) Ch
 step_is old new (AtClause c) (Ok u) f w = (w.0, f, w.1 ∙ f)
 step_is old new (AtClause c) (Err (CheckFailed n)) f w = ((w.0.0, fails_at old new (Add c.now) (Add w.0.0) n w.0.1 w.0.2 w.1 w.2), f, ap (λ x. x.spent) w.2 ∙ f)
 step_is old new (AtClause c) (Err (NoSuchClause n)) f w = absurd (let e : Add c.now ≡ Delete w.0.0 = w.0.1 in cc)
-step_is old new (AtClause c) (Err (Parse x)) f w = absurd w
-step_is old new (AtClause c) (Err (Io x)) f w = absurd w
 step_is old new (AtClause c) (Err OutOfMemory) f w = (f, w)
-step_is old new (AtClause c) (Err (Dimacs x)) f w = absurd w
-step_is old new (AtClause c) (Err Spent) f w = absurd w
+step_is old new (AtClause c) (Err e) f w = absurd w
 step_is old new (DeleteClause c) (Ok u) f w = (w.0, f, w.1 ∙ f)
 step_is old new (DeleteClause c) (Err (CheckFailed n)) f w = absurd (let e : Delete c.now ≡ Add w.0.0 = w.0.1 in cc)
 step_is old new (DeleteClause c) (Err (NoSuchClause n)) f w = ((w.0.0, fails_at old new (Delete c.now) (Delete w.0.0) n w.0.1 w.0.2 w.1 w.2), f, ap (λ x. x.spent) w.2 ∙ f)
-step_is old new (DeleteClause c) (Err (Parse x)) f w = absurd w
-step_is old new (DeleteClause c) (Err (Io x)) f w = absurd w
 step_is old new (DeleteClause c) (Err OutOfMemory) f w = (f, w)
-step_is old new (DeleteClause c) (Err (Dimacs x)) f w = absurd w
-step_is old new (DeleteClause c) (Err Spent) f w = absurd w
+step_is old new (DeleteClause c) (Err e) f w = absurd w
 step_is old new (UnitClauses units) (Ok u) f w = (w.0, f, w.1)
 step_is old new (UnitClauses units) (Err (CheckFailed n)) f w = (w.0, f, w.1)
-step_is old new (UnitClauses units) (Err (NoSuchClause n)) f w = absurd w
-step_is old new (UnitClauses units) (Err (Parse x)) f w = absurd w
-step_is old new (UnitClauses units) (Err (Io x)) f w = absurd w
 step_is old new (UnitClauses units) (Err OutOfMemory) f w = (f, w)
-step_is old new (UnitClauses units) (Err (Dimacs x)) f w = absurd w
-step_is old new (UnitClauses units) (Err Spent) f w = absurd w
+step_is old new (UnitClauses units) (Err e) f w = absurd w
 step_is old new (DeleteVar v) r f w = w
 step_is old new (FailedAssumptions core) (Ok u) f w = ((w.0, ap (λ x. x.clauses) w.1), f, ap (λ x. x.spent) w.1 ∙ f)
 step_is old new (FailedAssumptions core) (Err (CheckFailed n)) f w = ((w.0, w.1, ap (λ x. x.clauses) w.2), f, ap (λ x. x.spent) w.2 ∙ f)
-step_is old new (FailedAssumptions core) (Err (NoSuchClause n)) f w = absurd w
-step_is old new (FailedAssumptions core) (Err (Parse x)) f w = absurd w
-step_is old new (FailedAssumptions core) (Err (Io x)) f w = absurd w
 step_is old new (FailedAssumptions core) (Err OutOfMemory) f w = (f, w)
-step_is old new (FailedAssumptions core) (Err (Dimacs x)) f w = absurd w
-step_is old new (FailedAssumptions core) (Err Spent) f w = absurd w
+step_is old new (FailedAssumptions core) (Err e) f w = absurd w

@@ -4,7 +4,6 @@ pub mod TokenLines
 pub mod WrittenLines
 pub mod GrammarLaws
 pub mod LineBytes
-pub mod Elements
 pub mod CheckedLines
 pub mod CheckedSources
 pub mod RightResults

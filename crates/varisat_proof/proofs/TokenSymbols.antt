@@ -176,21 +176,22 @@ place_begun : (f : ProofFormat) (i : Bool) (d : LineKind) (c : Clause) → IsBeg
 place_begun f true d c = inr (line_at (at_place true d c), refl)
 place_begun f false d c = inl refl
 
--- a symbol that was read goes into the front
-so_more : (f : ProofFormat) (end : ℕ) (pre mid : List Symbol) (u : Token) (us : List Token) (lines : List Line) (fault : Option ℕ) → mid ≡ pre ++ u.symbol ∷ [] → SoFrom f end mid us lines fault → SoFrom f end pre (u ∷ us) lines fault
-so_more f end pre mid u us lines None e h = sym (append_assoc pre (u.symbol ∷ []) (symbols us)) ∙ ap (λ x. x ++ symbols us) (sym e) ∙ h
-so_more f end pre mid u us lines (Some o) e (inl w) = inl (record {
+-- One token more in front of what was read, whatever lines that changes: `says` tells so of the symbols read up to any of the tokens.
+so_front : (f : ProofFormat) (end : ℕ) (pre mid : List Symbol) (u : Token) (us : List Token) (old new : List Line) (fault : Option ℕ) →
+    ((ss begun : List Symbol) → mid ++ ss ≡ flat_map (line_symbols f) old ++ begun → pre ++ u.symbol ∷ ss ≡ flat_map (line_symbols f) new ++ begun) → SoFrom f end mid us old fault → SoFrom f end pre (u ∷ us) new fault
+so_front f end pre mid u us old new None says h = says (symbols us) [] (h ∙ sym (append-nil (flat_map (line_symbols f) old))) ∙ append-nil (flat_map (line_symbols f) new)
+so_front f end pre mid u us old new (Some o) says (inl w) = inl (record {
   front = u ∷ w.front;
   token = w.token;
   back = w.back;
   tokens_are = ap (λ x. u ∷ x) w.tokens_are;
   begun = w.begun;
   is_begun = w.is_begun;
-  says = sym (append_assoc pre (u.symbol ∷ []) (symbols w.front)) ∙ ap (λ x. x ++ symbols w.front) (sym e) ∙ w.says;
+  says = says (symbols w.front) w.begun w.says;
   wrong = w.wrong;
   offset_is = w.offset_is;
 })
-so_more f end pre mid u us lines (Some o) e (inr w) = inr (
+so_front f end pre mid u us old new (Some o) says (inr w) = inr (
   record {
     front = u ∷ w.0.front;
     back = w.0.back;
@@ -199,38 +200,20 @@ so_more f end pre mid u us lines (Some o) e (inr w) = inr (
     begun = w.0.begun;
     is_begun = w.0.is_begun;
     some = w.0.some;
-    says = sym (append_assoc pre (u.symbol ∷ []) (symbols w.0.front)) ∙ ap (λ x. x ++ symbols w.0.front) (sym e) ∙ w.0.says;
+    says = says (symbols w.0.front) w.0.begun w.0.says;
   },
   w.1,
 )
 
+-- a symbol that was read goes into the front
+so_more : (f : ProofFormat) (end : ℕ) (pre mid : List Symbol) (u : Token) (us : List Token) (lines : List Line) (fault : Option ℕ) → mid ≡ pre ++ u.symbol ∷ [] → SoFrom f end mid us lines fault → SoFrom f end pre (u ∷ us) lines fault
+so_more f end pre mid u us lines fault e h =
+    so_front f end pre mid u us lines lines fault (λ ss begun w. sym (append_assoc pre (u.symbol ∷ []) ss) ∙ ap (λ x. x ++ ss) (sym e) ∙ w) h
+
 -- a line that ended goes in front
 so_line : (f : ProofFormat) (end : ℕ) (pre : List Symbol) (u : Token) (us : List Token) (line : Line) (lines : List Line) (fault : Option ℕ) → line_symbols f line ≡ pre ++ u.symbol ∷ [] → SoFrom f end [] us lines fault → SoFrom f end pre (u ∷ us) (line ∷ lines) fault
-so_line f end pre u us line lines None e h = sym (append_assoc pre (u.symbol ∷ []) (symbols us)) ∙ ap (λ x. x ++ symbols us) (sym e) ∙ ap (λ x. line_symbols f line ++ x) h
-so_line f end pre u us line lines (Some o) e (inl w) = inl (record {
-  front = u ∷ w.front;
-  token = w.token;
-  back = w.back;
-  tokens_are = ap (λ x. u ∷ x) w.tokens_are;
-  begun = w.begun;
-  is_begun = w.is_begun;
-  says = sym (append_assoc pre (u.symbol ∷ []) (symbols w.front)) ∙ ap (λ x. x ++ symbols w.front) (sym e) ∙ ap (λ x. line_symbols f line ++ x) w.says ∙ sym (append_assoc (line_symbols f line) (flat_map (line_symbols f) lines) w.begun);
-  wrong = w.wrong;
-  offset_is = w.offset_is;
-})
-so_line f end pre u us line lines (Some o) e (inr w) = inr (
-  record {
-    front = u ∷ w.0.front;
-    back = w.0.back;
-    tokens_are = ap (λ x. u ∷ x) w.0.tokens_are;
-    cut = w.0.cut;
-    begun = w.0.begun;
-    is_begun = w.0.is_begun;
-    some = w.0.some;
-    says = sym (append_assoc pre (u.symbol ∷ []) (symbols w.0.front)) ∙ ap (λ x. x ++ symbols w.0.front) (sym e) ∙ ap (λ x. line_symbols f line ++ x) w.0.says ∙ sym (append_assoc (line_symbols f line) (flat_map (line_symbols f) lines) w.0.begun);
-  },
-  w.1,
-)
+so_line f end pre u us line lines fault e h =
+    so_front f end pre [] u us lines (line ∷ lines) fault (λ ss begun w. sym (append_assoc pre (u.symbol ∷ []) ss) ∙ ap (λ x. x ++ ss) (sym e) ∙ ap (λ x. line_symbols f line ++ x) w ∙ sym (append_assoc (line_symbols f line) (flat_map (line_symbols f) lines) begun)) h
 
 outside_signs : (f : ProofFormat) (p : Place) → p.inside ≡ false → (place_symbols f p ≡ []) × IsPlace f p
 outside_signs f p e = let h : place_symbols f p ≡ [] = ap (λ t. if t then begun_symbols f (line_at p) else []) e in (h, record { some = ap is_some h ∙ sym e })

@@ -45,22 +45,15 @@ BecomesOrRefuses old clauses (Err e) new = IsRefusal old e new
 
 -- after these a checker is spent
 abbrev pub spends : CheckerError → Bool
-spends (CheckFailed step) = false
-spends (NoSuchClause step) = false
 spends (Parse offset) = true
 spends (Io cause) = true
 spends OutOfMemory = true
-spends (Dimacs cause) = false
-spends Spent = false
+spends error = false
 
+-- the source failed
 abbrev pub is_io : CheckerError → Bool
-is_io (CheckFailed step) = false
-is_io (NoSuchClause step) = false
-is_io (Parse offset) = false
 is_io (Io cause) = true
-is_io OutOfMemory = false
-is_io (Dimacs cause) = false
-is_io Spent = false
+is_io error = false
 
 -- 1. Steps.
 -- what a step that is taken makes of the present clauses

@@ -1,5 +1,5 @@
 -- How a checker stands behind lines of a proof, and behind its bytes.
-use Rattle.std.specs.Prelude.{◌≡◌, ◌≢◌, ℕ, List, [], ◌∷◌, ◌++◌, length, Bool, true, false, Result, Ok, Err}
+use Rattle.std.specs.Prelude.{◌≡◌, ◌≢◌, ℕ, List, [], ◌∷◌, ◌++◌, length, Bool, true, false, if◌then◌else◌, Result, Ok, Err}
 use Rattle.varisat_theory.specs.Literals.{Literal, Clause}
 use Rattle.varisat_theory.specs.Derivations.{Line, Add, Delete, Derives, Refutes}
 use Rattle.varisat_theory.specs.Checking.{IsVerdict, IsWrong}
@@ -10,6 +10,7 @@ use Rattle.varisat_formula.specs.declared.dimacs.error.DimacsError.{DimacsError}
 use Rattle.varisat_formula.specs.declared.dimacs.error.DimacsErrorKind.TheVariants as kind
 use Rattle.varisat_proof.specs.declared.proof.format.ProofFormat.{ProofFormat}
 use Rattle.varisat_proof.specs.declared.checker.error.CheckVerdict.{CheckVerdict}
+use Rattle.varisat_proof.specs.declared.checker.error.CheckVerdict.TheVariants.{Refutation, Derivation}
 use Rattle.varisat_proof.specs.declared.checker.error.CheckerError.{CheckerError}
 use Rattle.varisat_proof.specs.declared.checker.error.CheckerError.TheVariants.{CheckFailed, NoSuchClause, Parse, Io, OutOfMemory, Dimacs, Spent}
 use Rattle.varisat_proof.specs.declared.checker.check.Count.{Count}
@@ -75,6 +76,10 @@ pub record Position : Type 0 where
 abbrev pub ReadsPiece : ProofFormat → List Clause → List ℕ → Result (Unit {0}) CheckerError → Position → Type 0
 ReadsPiece format P text (Ok u) at = (lines : List Line) × HasRead format text lines at.progress × Stands P lines at.present at.count
 ReadsPiece format P text (Err e) at = BreaksOff format P text e at.present
+
+-- what a check returns where the bytes end, of which all lines were checked
+abbrev pub result_at_end : ReaderState → Count → Result CheckVerdict CheckerError
+result_at_end p count = if p.place.inside then Err (Parse p.at) else Ok (if count.refuted then Refutation else Derivation)
 
 -- the text is the whole proof
 abbrev pub EndsWith : ProofFormat → List Clause → List ℕ → Result CheckVerdict CheckerError → List Clause → Type 0

@@ -1,7 +1,7 @@
 //! The program's command that checks proofs, over readers and writers.
-ghost use Rattle.std.specs.Prelude.{◌≡◌, ◌⊎◌, ◌-◌, ◌^◌, ◌<◌, [], Bool, true, false, OnOk, IfOk};
+ghost use Rattle.std.specs.Prelude.{◌≡◌, ◌⊎◌, ◌-◌, ◌^◌, ◌<◌, [], Bool, true, false, Some, OnOk, IfOk};
 ghost use Rattle.std.specs.Io.KnownBytes.{Appends};
-ghost use Rattle.varisat_proof.specs.Verified.{Inputs, Verifies, GivesUnsatisfiable, verdict_text, verdict_status, fault_status};
+ghost use Rattle.varisat_proof.specs.Verified.{Inputs, Verifies, GivesUnsatisfiable, verdict_of, verdict_text, verdict_status, fault_status};
 
 use crate::checker::{CheckVerdict, Checker, CheckerError};
 use crate::proof::ProofFormat;
@@ -61,6 +61,20 @@ fn verify<A: Allocator + Copy, S: ByteSource, P: ByteSource>(
     verify_in(&mut checker, cnf, proof, format)
 }
 
+/// Whether the proof is verified that a check returned this for, or its fault.
+fn is_verified(checked: Result<CheckVerdict, CheckerError>) -> Result<bool, CheckerError>
+    ensures { IfOk result (λ verified. verdict_of checked ≡ Some verified) }
+{
+    match checked {
+        Ok(CheckVerdict::Refutation) => Ok(true),
+        Ok(CheckVerdict::Derivation) => Ok(false),
+        Err(CheckerError::CheckFailed { .. }) => Ok(false),
+        Err(CheckerError::NoSuchClause { .. }) => Ok(false),
+        Err(CheckerError::Parse { .. }) => Ok(false),
+        Err(error) => Err(error),
+    }
+}
+
 /// The same with a new checker.
 fn verify_in<A: Allocator + Copy, S: ByteSource, P: ByteSource>(
     checker: &mut Checker<A>,
@@ -77,14 +91,8 @@ fn verify_in<A: Allocator + Copy, S: ByteSource, P: ByteSource>(
         Ok(()) => {}
         Err(error) => return Err(error),
     }
-    match checker.check_proof(proof, format) {
-        Ok(CheckVerdict::Refutation) => Ok(true),
-        Ok(CheckVerdict::Derivation) => Ok(false),
-        Err(CheckerError::CheckFailed { .. }) => Ok(false),
-        Err(CheckerError::NoSuchClause { .. }) => Ok(false),
-        Err(CheckerError::Parse { .. }) => Ok(false),
-        Err(error) => Err(error),
-    }
+    let verified = is_verified(checker.check_proof(proof, format))?;
+    Ok(verified)
 }
 
 /// Writes whether a proof was verified, and returns the status for it.

@@ -11,7 +11,7 @@ ghost use Rattle.varisat_proof.specs.declared.checker.error.CheckVerdict.TheVari
 ghost use Rattle.varisat_proof.specs.declared.checker.error.CheckerError.TheVariants.{OutOfMemory, Spent};
 ghost use Rattle.varisat_proof.specs.Written.{line_of_kind};
 ghost use Rattle.varisat_proof.specs.Results.{IsResult};
-ghost use Rattle.varisat_proof.specs.Checks.{Stands, TakesLine, HasRead, ReadsPiece, EndsWith, ChecksLine, ChecksUnits, ChecksCore, RefusesText};
+ghost use Rattle.varisat_proof.specs.Checks.{Stands, TakesLine, HasRead, ReadsPiece, EndsWith, result_at_end, ChecksLine, ChecksUnits, ChecksCore, RefusesText};
 ghost use Rattle.varisat_proof.specs.Calls.{CheckerState, IsRefusal, BecomesOrRefuses, AddsRead, AddsText, IsStep, Checks, IsOfBytes, spends};
 
 use crate::checker::error::{CheckVerdict, CheckerError};
@@ -36,6 +36,25 @@ const PIECE: usize = 0x2000;
 pub struct Count {
     pub steps: u64,
     pub refuted: bool,
+}
+
+/// What a check returns where the bytes end: the verdict, or a fault inside a line.
+fn verdict_at_end<A: Allocator + Copy>(
+    reader: &ProofReader<A>,
+    count: &Count,
+) -> Result<CheckVerdict, CheckerError>
+    ensures { result ≡ result_at_end reader.now count.now }
+{
+    if reader.is_inside() {
+        return Err(CheckerError::Parse {
+            offset: reader.offset(),
+        });
+    }
+    if count.refuted {
+        Ok(CheckVerdict::Refutation)
+    } else {
+        Ok(CheckVerdict::Derivation)
+    }
 }
 
 /// A checker of proofs.
@@ -311,16 +330,7 @@ impl<A: Allocator + Copy> Checker<A> {
                 Err(error) => return Err(error),
             },
         }
-        if reader.is_inside() {
-            return Err(CheckerError::Parse {
-                offset: reader.offset(),
-            });
-        }
-        if count.refuted {
-            Ok(CheckVerdict::Refutation)
-        } else {
-            Ok(CheckVerdict::Derivation)
-        }
+        verdict_at_end(reader, count)
     }
 
     /// Reads all of the source as one proof.

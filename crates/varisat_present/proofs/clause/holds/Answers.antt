@@ -2,7 +2,8 @@ use Rattle.std.proofs.Common.{◌≡◌, sym, ◌∙◌, subst, ⊎_elim}
 use Rattle.varisat_theory.specs.Membership.{◌∈◌}
 use Rattle.varisat_theory.proofs.Places.{∈-take_more, ∈-take_all}
 use Rattle.varisat_theory.proofs.Scans.{answers_true, answers_false}
-use Rattle.varisat_present.proofs.Elements.{element, element_in}
+use Rattle.std.proofs.lemmas.List.{get_or_read}
+use Rattle.varisat_present.proofs.Elements.{element_in}
 use Rattle.varisat_present.proofs.clause.holds.Goals as goal
 
 pub returns-then-code : goal.returns-then-code
@@ -13,7 +14,7 @@ returns-then-code c =
 pub loop-l-preserved : goal.loop-l-preserved
 loop-l-preserved c =
     λ m. ⊎_elim c.loop-l.invariant
-    (λ q. c.if-code.false (c.code.ensures.code ∙ element c.args.literals.now c.loop-l.l-index c.l-item.result c.loop-l-test.true c.l-item.is ∙ sym q ∙ sym c.code-in-loop-l.ensures.code))
+    (λ q. c.if-code.false (c.code.ensures.code ∙ get_or_read c.args.literals.now c.loop-l.l-index c.l-item.result c.loop-l-test.true c.l-item.is 0 ∙ sym q ∙ sym c.code-in-loop-l.ensures.code))
     (∈-take_more c.args.literal c.args.literals.now c.loop-l.l-index 0 m)
 
 pub returns : goal.returns

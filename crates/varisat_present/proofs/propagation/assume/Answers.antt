@@ -1,7 +1,8 @@
 use Rattle.std.proofs.Common.{subst, take}
 use Rattle.varisat_theory.specs.Membership.{◌∈◌}
 use Rattle.varisat_theory.proofs.Scans.{refused, granted}
-use Rattle.varisat_present.proofs.Elements.{element, element_in}
+use Rattle.std.proofs.lemmas.List.{get_or_read}
+use Rattle.varisat_present.proofs.Elements.{element_in}
 use Rattle.varisat_present.proofs.KnownGrowth.{assumed_start, assumed_known, assumed_more, assumes_clash, assumes_all}
 use Rattle.varisat_present.proofs.propagation.assume.Goals as goal
 
@@ -14,11 +15,11 @@ returns-then-is_false g c =
 
 pub loop-l-preserved-then-holds : goal.loop-l-preserved-then-holds
 loop-l-preserved-then-holds g c =
-    assumed_known c.args.known.now c.args.base.now c.loop-l.known c.loop-l.l-index (subst (λ x. x ∈ c.loop-l.known) (element c.args.base.now c.loop-l.l-index c.l-item.result c.loop-l-test.true c.l-item.is) (granted _ c.holds.result c.if-holds.true c.holds.ensures)) c.loop-l.invariant
+    assumed_known c.args.known.now c.args.base.now c.loop-l.known c.loop-l.l-index (subst (λ x. x ∈ c.loop-l.known) (get_or_read c.args.base.now c.loop-l.l-index c.l-item.result c.loop-l-test.true c.l-item.is 0) (granted _ c.holds.result c.if-holds.true c.holds.ensures)) c.loop-l.invariant
 
 pub loop-l-preserved : goal.loop-l-preserved
 loop-l-preserved g c =
-    assumed_more c.args.known.now c.args.base.now c.loop-l.known c.push.new.self c.loop-l.l-index c.l-item.result (element c.args.base.now c.loop-l.l-index c.l-item.result c.loop-l-test.true c.l-item.is) (element_in c.args.base.now c.loop-l.l-index c.l-item.result c.loop-l-test.true c.l-item.is) (refused _ c.is_false.result c.if-is_false.false c.is_false.ensures) c.in_ok-push.ensures c.loop-l.invariant
+    assumed_more c.args.known.now c.args.base.now c.loop-l.known c.push.new.self c.loop-l.l-index c.l-item.result (get_or_read c.args.base.now c.loop-l.l-index c.l-item.result c.loop-l-test.true c.l-item.is 0) (element_in c.args.base.now c.loop-l.l-index c.l-item.result c.loop-l-test.true c.l-item.is) (refused _ c.is_false.result c.if-is_false.false c.is_false.ensures) c.in_ok-push.ensures c.loop-l.invariant
 
 pub returns : goal.returns
 returns g c = assumes_all c.args.known.now c.args.base.now c.loop-l.known c.loop-l.l-index c.loop-l-test.false c.loop-l.invariant

@@ -2,13 +2,13 @@ use Rattle.std.proofs.Common.{ap, refl, ◌∙◌}
 use Rattle.std.proofs.lemmas.List.{take_all}
 use Rattle.varisat_theory.specs.Literals.{opposite, opposites}
 use Rattle.varisat_theory.proofs.Scans.{opposites_more}
-use Rattle.varisat_present.proofs.Elements.{element}
+use Rattle.std.proofs.lemmas.List.{get_or_read}
 use Rattle.varisat_present.proofs.KeptLiterals.{found_there}
 use Rattle.varisat_present.proofs.present.PresentClauses.follows.Goals as goal
 
 pub loop-l-preserved : goal.loop-l-preserved
 loop-l-preserved g c =
-    opposites_more c.args.clause.now c.loop-l.l-index c.loop-l.base.items c.push.new.self.items c.not.result c.loop-l-test.true c.loop-l.invariant c.in_ok-push.ensures.items (c.not.ensures ∙ ap opposite (element c.args.clause.now c.loop-l.l-index c.l-item.result c.loop-l-test.true c.l-item.is))
+    opposites_more c.args.clause.now c.loop-l.l-index c.loop-l.base.items c.push.new.self.items c.not.result c.loop-l-test.true c.loop-l.invariant c.in_ok-push.ensures.items (c.not.ensures ∙ ap opposite (get_or_read c.args.clause.now c.loop-l.l-index c.l-item.result c.loop-l-test.true c.l-item.is 0))
 
 pub returns-clause-found : goal.returns-clause-found
 returns-clause-found g c =

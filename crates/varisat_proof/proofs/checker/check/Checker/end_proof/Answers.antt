@@ -1,7 +1,7 @@
 use Rattle.std.proofs.Common.{sym, ap, ◌∙◌, subst, Err}
 use Rattle.varisat_proof.specs.Checks.{EndsWith}
 use Rattle.varisat_proof.specs.declared.checker.error.CheckerError.TheVariants.{Parse}
-use Rattle.varisat_proof.proofs.CheckedLines.{EndsAt, ends_fault, end_wrong, last_outside, ends_at_more, ends_at_line, by_inside, by_refuted, by_derived}
+use Rattle.varisat_proof.proofs.CheckedLines.{EndsAt, ends_fault, end_wrong, last_outside, ends_at_more, ends_at_line, ends_at_end}
 use Rattle.varisat_proof.proofs.checker.check.Checker.end_proof.Goals as goal
 use Rattle.varisat_proof.proofs.checker.check.Checker.end_proof.Goals.{in-More, in-Ended+in-Ok-next_line}
 
@@ -14,26 +14,10 @@ returns-in-Err-next_line-clause-ends g c = λ f P text lines r s.
     end_wrong f P text lines c.args.self.now.clauses c.next_line.new.self.clauses c.args.count.now c.args.reader.now c.finish.new.self c.kind.result c.clause.result.now c.in-Err-next_line.error r s (sym c.in-Ended.is ∙ c.in-Ok.ensures.event) c.in-Ok.ensures.ok (record { kind = c.kind.ensures; clause = c.clause.ensures })
     (last_outside c.args.reader.now c.finish.new.self (sym c.in-Ended.is ∙ c.in-Ok.ensures.event) c.in-Ok.ensures.ok) c.in-Err-next_line.ensures.takes
 
-pub returns-then-is_inside-clause-ends : goal.returns-then-is_inside-clause-ends
-returns-then-is_inside-clause-ends g c = λ f P text lines r s.
+pub returns-clause-ends : goal.returns-clause-ends
+returns-clause-ends g c = λ f P text lines r s.
     let at : EndsAt f P text c.match-event.self.clauses c.match-event.count c.finish.new.self = elim c.match-event.branch [
       | in-More w ↦ ends_at_more f P text lines c.args.self.now.clauses c.match-event.self.clauses c.args.count.now c.match-event.count c.args.reader.now c.finish.new.self r s (sym w.in-More.is ∙ c.in-Ok.ensures.event) c.in-Ok.ensures.ok (ap (λ h. h.clauses) w.self-is) w.count-is
       | in-Ended+in-Ok-next_line w ↦ ends_at_line f P text lines c.args.self.now.clauses w.next_line.new.self.clauses c.match-event.self.clauses c.args.count.now w.next_line.new.count c.match-event.count c.args.reader.now c.finish.new.self w.kind.result w.clause.result.now r s (sym w.in-Ended.is ∙ c.in-Ok.ensures.event) c.in-Ok.ensures.ok (record { kind = w.kind.ensures; clause = w.clause.ensures }) w.in-Ok-next_line.ensures.takes (ap (λ h. h.clauses) w.self-is) w.count-is
     ] in
-    by_inside f P text c.match-event.self.clauses c.match-event.count c.finish.new.self c.is_inside.result c.offset.result at c.is_inside.ensures c.if-is_inside.true c.offset.ensures
-
-pub returns-then-count-clause-ends : goal.returns-then-count-clause-ends
-returns-then-count-clause-ends g c = λ f P text lines r s.
-    let at : EndsAt f P text c.match-event.self.clauses c.match-event.count c.finish.new.self = elim c.match-event.branch [
-      | in-More w ↦ ends_at_more f P text lines c.args.self.now.clauses c.match-event.self.clauses c.args.count.now c.match-event.count c.args.reader.now c.finish.new.self r s (sym w.in-More.is ∙ c.in-Ok.ensures.event) c.in-Ok.ensures.ok (ap (λ h. h.clauses) w.self-is) w.count-is
-      | in-Ended+in-Ok-next_line w ↦ ends_at_line f P text lines c.args.self.now.clauses w.next_line.new.self.clauses c.match-event.self.clauses c.args.count.now w.next_line.new.count c.match-event.count c.args.reader.now c.finish.new.self w.kind.result w.clause.result.now r s (sym w.in-Ended.is ∙ c.in-Ok.ensures.event) c.in-Ok.ensures.ok (record { kind = w.kind.ensures; clause = w.clause.ensures }) w.in-Ok-next_line.ensures.takes (ap (λ h. h.clauses) w.self-is) w.count-is
-    ] in
-    by_refuted f P text c.match-event.self.clauses c.match-event.count c.finish.new.self c.is_inside.result at c.is_inside.ensures c.if-is_inside.false c.if-count.true
-
-pub returns-else-count-clause-ends : goal.returns-else-count-clause-ends
-returns-else-count-clause-ends g c = λ f P text lines r s.
-    let at : EndsAt f P text c.match-event.self.clauses c.match-event.count c.finish.new.self = elim c.match-event.branch [
-      | in-More w ↦ ends_at_more f P text lines c.args.self.now.clauses c.match-event.self.clauses c.args.count.now c.match-event.count c.args.reader.now c.finish.new.self r s (sym w.in-More.is ∙ c.in-Ok.ensures.event) c.in-Ok.ensures.ok (ap (λ h. h.clauses) w.self-is) w.count-is
-      | in-Ended+in-Ok-next_line w ↦ ends_at_line f P text lines c.args.self.now.clauses w.next_line.new.self.clauses c.match-event.self.clauses c.args.count.now w.next_line.new.count c.match-event.count c.args.reader.now c.finish.new.self w.kind.result w.clause.result.now r s (sym w.in-Ended.is ∙ c.in-Ok.ensures.event) c.in-Ok.ensures.ok (record { kind = w.kind.ensures; clause = w.clause.ensures }) w.in-Ok-next_line.ensures.takes (ap (λ h. h.clauses) w.self-is) w.count-is
-    ] in
-    by_derived f P text c.match-event.self.clauses c.match-event.count c.finish.new.self c.is_inside.result at c.is_inside.ensures c.if-is_inside.false c.if-count.false
+    ends_at_end f P text c.match-event.self.clauses c.match-event.count c.finish.new.self c.verdict_at_end.result at c.verdict_at_end.ensures

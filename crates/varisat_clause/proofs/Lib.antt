@@ -10,3 +10,6 @@ pub mod MappedClauses
 pub mod TierPlaces
 pub mod LocalReduction
 pub mod MidReduction
+pub mod KeptShapes
+pub mod FilteredClauses
+pub mod MarkedClauses

@@ -2,11 +2,6 @@
 use Rattle.std.specs.Prelude.{ℕ, ◌/◌, ◌^◌, ◌<◌, ◌≤◌, max, nat_le, Bool, if◌then◌else◌, List, map}
 use Rattle.varisat_clause.specs.Stored.{StoredClause, header_at, with_header}
 
--- what a bump adds; and the decay, in thousandths
-pub record ActivityScale : Type 0 where
-  pub increment : ℕ
-  pub decay : ℕ
-
 -- the increment at first, below which it never falls
 abbrev pub least_increment : ℕ
 least_increment = 2 ^ 10
@@ -14,6 +9,11 @@ least_increment = 2 ^ 10
 -- where an activity or the increment reaches it, all are shifted
 abbrev pub activity_limit : ℕ
 activity_limit = 2 ^ 28
+
+-- what a bump adds; and the decay, in thousandths
+pub record ActivityScale : Type 0 where
+  pub increment : ℕ
+  pub decay : ℕ
 
 -- what the numbers keep to between calls
 pub record AreWithinLimits (increment decay : ℕ) : Type 0 where

@@ -1,6 +1,6 @@
 -- What goes over the clauses of a store, and what a filter leaves of them.
-use Rattle.std.specs.Prelude.{◌≡◌, ℕ, true, false, List, length, map}
-use Rattle.varisat_clause.specs.Stored.{StoredClause, header_at, with_clause, with_header}
+use Rattle.std.specs.Prelude.{◌≡◌, ℕ, Bool, true, false, not, List, [], ◌∷◌, ◌++◌, length, map}
+use Rattle.varisat_clause.specs.Stored.{StoredClause, stored_at, header_at, with_clause, with_header}
 use Rattle.varisat_clause.specs.Stores.{Store, clauses_of, Holds}
 use Rattle.varisat_clause.specs.Collected.{live_of}
 
@@ -19,3 +19,38 @@ pub record Alters (old new : Store) (p : ℕ) : Type 0 where
   pub tier : clause.header.tier ≡ (header_at (clauses_of old) p).tier
   pub live : clause.header.deleted ≡ false
   pub is : Holds new (length old.words) (with_clause (clauses_of old) p clause)
+
+-- the clause stays, or it is deleted
+abbrev pub left_if : Bool → StoredClause → StoredClause
+left_if stays k = record k { header = record k.header { deleted = not stays } }
+
+-- a filter came to the clause at the place
+pub record FiltersAt {F : Type 0} (Leaves : F → StoredClause → StoredClause → F → Type 0) (f g : F) (old new : Store) (p : ℕ) : Type 0 where
+  pub clause : StoredClause
+  pub place : clause.place ≡ p
+  pub tier : clause.header.tier ≡ (header_at (clauses_of old) p).tier
+  pub left : Leaves f (stored_at (clauses_of old) p) clause g
+  pub is : Holds new (length old.words) (with_clause (clauses_of old) p clause)
+
+-- A filter f comes to the clause k, leaves j of it, and is g then. One that was deleted before is passed over. Another one
+-- keeps its place and its tier, and the rest is the filter's own relation.
+pub data FiltersOne {F : Type 0} (Leaves : F → StoredClause → StoredClause → F → Type 0) (f : F) (k j : StoredClause) (g : F) : Type 0 where
+  PassesOver : k.header.deleted ≡ true → j ≡ k → g ≡ f → FiltersOne Leaves f k j g
+  ComesTo : k.header.deleted ≡ false → j.place ≡ k.place → j.header.tier ≡ k.header.tier → Leaves f k j g → FiltersOne Leaves f k j g
+
+-- it goes over the clauses one after another, and leaves as many
+abbrev pub Filters : {F : Type 0} → (F → StoredClause → StoredClause → F → Type 0) → F → List StoredClause → List StoredClause → F → Type 0
+Filters Leaves f [] [] g = g ≡ f
+Filters Leaves f [] (j ∷ js) g = ⊥
+Filters Leaves f (k ∷ ks) [] g = ⊥
+Filters {F} Leaves f (k ∷ ks) (j ∷ js) h = (g : F) × FiltersOne Leaves f k j g × Filters Leaves g ks js h
+
+-- it stops behind the first clauses, and the others stay as they are
+pub record StopsWithin {F : Type 0} (Leaves : F → StoredClause → StoredClause → F → Type 0) (f : F) (ks js : List StoredClause) : Type 0 where
+  pub first : List StoredClause
+  pub rest : List StoredClause
+  pub left : List StoredClause
+  pub filter : F
+  pub old : ks ≡ first ++ rest
+  pub filtered : Filters Leaves f first left filter
+  pub new : js ≡ left ++ rest

@@ -9,4 +9,5 @@ pub mod Databases
 pub mod Collected
 pub mod Filters
 pub mod Reductions
+pub mod Shapes
 pub mod ClauseActivities

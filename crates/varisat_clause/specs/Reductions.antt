@@ -1,10 +1,10 @@
--- What the reductions leave of the clauses.
-use Rattle.std.specs.Prelude.{◌≡◌, ℕ, zero, suc, ◌+◌, ◌*◌, ◌/◌, ◌^◌, slice_index, ◌<◌, ◌⊎◌, true, false, if◌then◌else◌, List, [], ◌∷◌, length, map}
+-- What the reductions leave of the clauses, and the list of a tier.
+use Rattle.std.specs.Prelude.{◌≡◌, ℕ, zero, suc, ◌+◌, ◌*◌, ◌/◌, ◌^◌, slice_index, ◌<◌, ◌⊎◌, Bool, true, false, not, ◌&&◌, if◌then◌else◌, List, [], ◌∷◌, length, map}
 use Rattle.varisat_theory.specs.Membership.{◌∈◌, IsDistinct}
 use Rattle.varisat_clause.specs.declared.header.Tier.{Tier}
 use Rattle.varisat_clause.specs.declared.header.Tier.TheVariants.{Mid, Local}
-use Rattle.varisat_clause.specs.Stored.{StoredClause, IsPlace, stored_at, header_at}
-use Rattle.varisat_clause.specs.Stores.{Store, clauses_of, Holds}
+use Rattle.varisat_clause.specs.Stored.{StoredClause, IsPlace, stored_at, header_at, with_clause}
+use Rattle.varisat_clause.specs.Stores.{Store, clauses_of, IsSound, Holds}
 use Rattle.varisat_clause.specs.Databases.{is_live_in}
 use Rattle.varisat_clause.specs.Filters.{deleted_at}
 
@@ -23,6 +23,39 @@ pub record ListsTier (t : Tier) (ks : List StoredClause) (ps : List ℕ) : Type 
   pub live : (p : ℕ) → p ∈ ps → is_live_in t (stored_at ks p) ≡ true
   pub complete : (k : StoredClause) → k ∈ ks → is_live_in t k ≡ true → k.place ∈ ps
   pub distinct : IsDistinct ps
+
+-- the clause is of the tier, not deleted and not marked
+abbrev pub is_unmarked_in : Tier → StoredClause → Bool
+is_unmarked_in t k = is_live_in t k && not k.header.mark
+
+-- no clause of the tier that is not deleted is marked
+abbrev pub AreUnmarkedIn : Tier → List StoredClause → Type 0
+AreUnmarkedIn t ks = (k : StoredClause) → k ∈ ks → is_live_in t k ≡ true → k.header.mark ≡ false
+
+-- the clause with its mark or without it
+abbrev pub marked_as : Bool → StoredClause → StoredClause
+marked_as b k = record k { header = record k.header { mark = b } }
+
+-- the clause at the place is marked or unmarked
+abbrev pub with_mark : Bool → List StoredClause → ℕ → List StoredClause
+with_mark b ks p = with_clause ks p (marked_as b (stored_at ks p))
+
+-- each clause of the tier that is not deleted is marked
+abbrev pub tier_marked : Tier → List StoredClause → List StoredClause
+tier_marked t ks = map (λ k. if is_live_in t k then marked_as true k else k) ks
+
+-- The places are those of clauses, also of deleted ones and others, and a place may stand twice. Each clause of the tier
+-- that is not deleted is among them, and has no mark.
+pub record CanMarkTier (t : Tier) (s : Store) (ps : List ℕ) : Type 0 where
+  pub sound : IsSound s
+  pub known : (p : ℕ) → p ∈ ps → IsPlace (clauses_of s) p
+  pub complete : (k : StoredClause) → k ∈ clauses_of s → is_live_in t k ≡ true → k.place ∈ ps
+  pub unmarked : AreUnmarkedIn t (clauses_of s)
+
+-- the places are those of the clauses of the tier that are not deleted, each once, and these clauses are marked
+pub record MarksTier (t : Tier) (old new : Store) (ps : List ℕ) : Type 0 where
+  pub listed : ListsTier t (clauses_of old) ps
+  pub marked : Holds new (length old.words) (tier_marked t (clauses_of old))
 
 -- the clause at the first place is less active, or as active and before the other
 abbrev pub Precedes : List StoredClause → ℕ → ℕ → Type 0

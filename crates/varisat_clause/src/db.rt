@@ -2,12 +2,13 @@
 ghost use Rattle.std.specs.Prelude.{◌≡◌, ℕ, ◌+◌, ◌-◌, ◌<◌, ◌≤◌, ◌^◌, ◌++◌, ◌∷◌, [], List, length, ◌↔◌, IfOk, IfErr, OnOk, OnErr, true, false, not};
 ghost use Rattle.varisat_clause.specs.Stored.{IsPlace, header_at, literals_at, with_header};
 ghost use Rattle.varisat_clause.specs.Stores.{clauses_of, IsSound, Holds, Adds};
-ghost use Rattle.varisat_clause.specs.Databases.{count_of, raised, lowered, no_lists, list_of, pushed, no_database, with_added, with_moved, with_deleted, Tracks};
+ghost use Rattle.varisat_clause.specs.Databases.{count_of, raised, lowered, no_lists, list_of, with_list, pushed, no_database, with_added, with_moved, with_deleted, Tracks};
 
 use crate::alloc::{ClauseAlloc, ClauseRef, StoreError};
 use crate::header::{ClauseHeader, Tier};
 use std::alloc::{AllocError, Allocator};
 use std::marker::Model;
+use std::mem;
 use varisat_literals::Lit;
 
 /// A count for each tier.
@@ -127,6 +128,19 @@ impl<A: Allocator + Copy> TierLists<A> {
         Ok(())
     }
 
+    /// Exchanges the list of the tier for the other one.
+    fn exchange(&mut self, tier: Tier, list: &mut Vec<ClauseRef, A>)
+        ensures now { self.new ≡ with_list tier list.old.items self.old }
+        ensures before { list.new.items ≡ list_of tier self.old }
+    {
+        match tier {
+            Tier::Irred => mem::swap(&mut self.irred, list),
+            Tier::Core => mem::swap(&mut self.core, list),
+            Tier::Mid => mem::swap(&mut self.mid, list),
+            Tier::Local => mem::swap(&mut self.local, list),
+        }
+    }
+
     /// Adds a clause to the store, and puts it on the list of its tier.
     fn add_clause(
         &mut self,
@@ -197,6 +211,14 @@ impl<A: Allocator + Copy> ClauseDb<A> {
         ensures { result ≡ self.now.garbage }
     {
         self.garbage
+    }
+
+    /// Exchanges the list of the tier for the other one.
+    pub(crate) fn exchange_list(&mut self, tier: Tier, list: &mut Vec<ClauseRef, A>)
+        ensures now { self.new ≡ record self.old { lists = with_list tier list.old.items self.old.lists } }
+        ensures before { list.new.items ≡ list_of tier self.old.lists }
+    {
+        self.lists.exchange(tier, list);
     }
 
     /// Notes that the clause went from one tier to the other. A refused growth changes nothing.

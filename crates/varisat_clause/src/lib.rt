@@ -6,6 +6,7 @@ pub mod alloc;
 pub mod clause;
 pub mod collect;
 pub mod db;
+pub mod filter;
 pub mod header;
 pub mod iter;
 pub mod reduce;

@@ -1,11 +1,11 @@
-//! The reductions of the redundant clauses, as far as they concern the store.
-ghost use Rattle.std.specs.Prelude.{◌≡◌, ℕ, ◌+◌, ◌*◌, ◌/◌, ◌^◌, ◌<◌, ◌≤◌, length, slice_index, OnOk, OnErr, IfOk, not, ◌&&◌};
+//! The reductions of the redundant clauses, as far as they concern the store, and the list of a tier brought up to date.
+ghost use Rattle.std.specs.Prelude.{◌≡◌, ℕ, ◌+◌, ◌*◌, ◌/◌, ◌^◌, ◌<◌, ◌≤◌, length, slice_index, take, map, true, false, OnOk, OnErr, IfOk, not, ◌&&◌};
 ghost use Rattle.std.specs.List.Sorted.{IsPermutation, IsNonDecreasingBy};
 ghost use Rattle.varisat_clause.specs.Tiers.{is_tier};
 ghost use Rattle.varisat_clause.specs.Stored.{IsPlace, stored_at, with_clause};
 ghost use Rattle.varisat_clause.specs.Stores.{clauses_of, IsSound, Holds};
-ghost use Rattle.varisat_clause.specs.Databases.{Tracks};
-ghost use Rattle.varisat_clause.specs.Reductions.{rank_in, places_in, ListsTier, unmarked, all_deleted, ReducesLocals, mid_reduced, mids_reduced, mapped};
+ghost use Rattle.varisat_clause.specs.Databases.{Database, list_of, with_list, Tracks};
+ghost use Rattle.varisat_clause.specs.Reductions.{rank_in, places_in, is_unmarked_in, AreUnmarkedIn, marked_as, with_mark, CanMarkTier, MarksTier, ListsTier, unmarked, all_deleted, ReducesLocals, mid_reduced, mids_reduced, mapped};
 
 use crate::alloc::{ClauseAlloc, ClauseRef};
 use crate::db::{ClauseDb, delete_clause, set_clause_tier};
@@ -36,6 +36,89 @@ pub fn clauses_of_tier<A: Allocator + Copy>(
         list.push(cref)?;
     }
     Ok(list)
+}
+
+/// Marks or unmarks the clause.
+fn set_mark<A: Allocator + Copy>(alloc: &mut ClauseAlloc<A>, cref: ClauseRef, mark: bool)
+    requires sound { IsSound alloc.old }
+    requires place { IsPlace (clauses_of alloc.old) cref }
+    ensures { Holds alloc.new (length alloc.old.words) (with_mark mark (clauses_of alloc.old) cref) }
+{
+    let mut header = alloc.header(cref);
+    header.set_mark(mark);
+    alloc.set_header(cref, header);
+}
+
+/// Clears the marks of all clauses.
+pub fn clear_marks<A: Allocator + Copy>(alloc: &mut ClauseAlloc<A>)
+    requires { IsSound alloc.old }
+    ensures cleared { Holds alloc.new (length alloc.old.words) (map (marked_as false) (clauses_of alloc.old)) }
+    ensures unmarked { (tier : Tier) → AreUnmarkedIn tier (clauses_of alloc.new) }
+    ensures tracks { (db : Database) → Tracks db alloc.old → Tracks db alloc.new }
+{
+    'clauses: for index in 0..alloc.len() {
+        let cref = alloc.place(index);
+        set_mark(alloc, cref, false);
+    }
+}
+
+/// Marks the clause where it is of the tier, not deleted and not marked, and says whether it was.
+fn mark_new<A: Allocator + Copy>(alloc: &mut ClauseAlloc<A>, cref: ClauseRef, tier: Tier) -> bool
+    requires sound { IsSound alloc.old }
+    requires place { IsPlace (clauses_of alloc.old) cref }
+    ensures new { result ≡ is_unmarked_in tier (stored_at (clauses_of alloc.old) cref) }
+    ensures marked { result ≡ true → Holds alloc.new (length alloc.old.words) (with_mark true (clauses_of alloc.old) cref) }
+    ensures kept { result ≡ false → alloc.new ≡ alloc.old }
+{
+    let header = alloc.header(cref);
+    let is_new = is_live_in(header, tier) && !header.mark();
+    if is_new {
+        set_mark(alloc, cref, true);
+    }
+    is_new
+}
+
+/// Moves the clauses of the tier that are not deleted to the front of the list, each once, marks them, and returns how
+/// many they are. Before, none of them is marked.
+fn mark_listed<A: Allocator + Copy>(
+    alloc: &mut ClauseAlloc<A>,
+    list: &mut [ClauseRef],
+    tier: Tier,
+) -> usize
+    requires { CanMarkTier tier alloc.old list.old }
+    ensures marks { MarksTier tier alloc.old alloc.new (take result list.new) }
+    ensures few { result ≤ length list.new }
+{
+    let mut count = 0;
+    'places: for index in 0..list.len() {
+        let cref = list[index];
+        if !mark_new(alloc, cref, tier) {
+            continue;
+        }
+        list[count] = cref;
+        count += 1;
+    }
+    count
+}
+
+/// Brings the list of the tier to its clauses that are not deleted, each once, and marks them. None of them is marked
+/// before, and the caller clears the marks after use. It takes no memory.
+pub fn dedup_and_mark_by_tier<A: Allocator + Copy>(
+    alloc: &mut ClauseAlloc<A>,
+    db: &mut ClauseDb<A>,
+    tier: Tier,
+)
+    requires tracks { Tracks db.old alloc.old }
+    requires unmarked { AreUnmarkedIn tier (clauses_of alloc.old) }
+    ensures marks { MarksTier tier alloc.old alloc.new (list_of tier db.new.lists) }
+    ensures others { db.new ≡ record db.old { lists = with_list tier (list_of tier db.new.lists) db.old.lists } }
+    ensures tracks { Tracks db.new alloc.new }
+{
+    let mut list = Vec::new(alloc.allocator());
+    db.exchange_list(tier, &mut list);
+    let count = mark_listed(alloc, &mut list, tier);
+    list.truncate(count);
+    db.exchange_list(tier, &mut list);
 }
 
 /// Orders the clauses by activity and then by place.

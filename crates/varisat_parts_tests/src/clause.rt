@@ -44,7 +44,7 @@ fn header(tier: Tier, activity: u32) -> ClauseHeader
     header
 }
 
-/// Adds a clause of so many literals, from 3 to 5. Says whether that was done.
+/// Adds a clause of so many literals, of which it has 3 to 5. Says whether that was done.
 fn add<A: Allocator + Copy>(
     alloc: &mut ClauseAlloc<A>,
     db: &mut ClauseDb<A>,
@@ -52,8 +52,6 @@ fn add<A: Allocator + Copy>(
     count: usize,
 ) -> bool
     requires live { header.deleted ≡ false }
-    requires least { 3 ≤ count }
-    requires most { count ≤ 5 }
     requires tracks { Tracks db.old alloc.old }
     ensures { Tracks db.new alloc.new }
 {
@@ -64,11 +62,32 @@ fn add<A: Allocator + Copy>(
         Lit::from_code(6),
         Lit::from_code(8),
     ];
-    add_clause(alloc, db, header, &lits[..count]).is_ok()
+    add_clause(alloc, db, header, &lits[..count.clamp(3, 5)]).is_ok()
+}
+
+/// Adds clauses of these tiers, activities and numbers of literals. Says whether that was done.
+pub(crate) fn add_all<A: Allocator + Copy>(
+    alloc: &mut ClauseAlloc<A>,
+    db: &mut ClauseDb<A>,
+    rows: &[(Tier, u32, usize)],
+) -> bool
+    requires { Tracks db.old alloc.old }
+    ensures { Tracks db.new alloc.new }
+{
+    let mut done = true;
+    'rows: for row in rows {
+        let (tier, activity, count) = *row;
+        done &= add(alloc, db, header(tier, activity), count);
+    }
+    done
 }
 
 /// Deletes the clause of the index, if there is one that is not deleted.
-fn delete<A: Allocator + Copy>(alloc: &mut ClauseAlloc<A>, db: &mut ClauseDb<A>, index: usize)
+pub(crate) fn delete<A: Allocator + Copy>(
+    alloc: &mut ClauseAlloc<A>,
+    db: &mut ClauseDb<A>,
+    index: usize,
+)
     requires { Tracks db.old alloc.old }
     ensures { Tracks db.new alloc.new }
 {
@@ -100,7 +119,7 @@ fn set_tier<A: Allocator + Copy>(
 }
 
 /// How many clauses of each tier are not deleted.
-fn counts<A: Allocator + Copy>(db: &ClauseDb<A>) -> [usize; 4] {
+pub(crate) fn counts<A: Allocator + Copy>(db: &ClauseDb<A>) -> [usize; 4] {
     [
         db.count_by_tier(Tier::Irred),
         db.count_by_tier(Tier::Core),
@@ -109,27 +128,28 @@ fn counts<A: Allocator + Copy>(db: &ClauseDb<A>) -> [usize; 4] {
     ]
 }
 
-/// Adds a clause of each tier. Says whether that was done.
-fn add_tiers(alloc: &mut ClauseAlloc<Global>, db: &mut ClauseDb<Global>) -> bool
-    requires { Tracks db.old alloc.old }
-    ensures { Tracks db.new alloc.new }
-{
-    let irred = add(alloc, db, header(Tier::Irred, 0), 3);
-    let core = add(alloc, db, header(Tier::Core, 0), 3);
-    let mid = add(alloc, db, header(Tier::Mid, 0), 3);
-    let local = add(alloc, db, header(Tier::Local, 0), 3);
-    irred & core & mid & local
-}
+/// A clause of each tier.
+pub(crate) const FOUR_TIERS: [(Tier, u32, usize); 4] = [
+    (Tier::Irred, 0, 3),
+    (Tier::Core, 0, 3),
+    (Tier::Mid, 0, 3),
+    (Tier::Local, 0, 3),
+];
 
-/// Sets the tiers of the four clauses. Says whether that was done.
-fn set_tiers(alloc: &mut ClauseAlloc<Global>, db: &mut ClauseDb<Global>) -> bool
+/// Sets the tiers of four clauses, the last one first. Says whether that was done.
+pub(crate) fn set_tiers(
+    alloc: &mut ClauseAlloc<Global>,
+    db: &mut ClauseDb<Global>,
+    tiers: [Tier; 4],
+) -> bool
     requires { Tracks db.old alloc.old }
     ensures { Tracks db.new alloc.new }
 {
-    let local = set_tier(alloc, db, 3, Tier::Core);
-    let mid = set_tier(alloc, db, 2, Tier::Local);
-    let core = set_tier(alloc, db, 1, Tier::Local);
-    let irred = set_tier(alloc, db, 0, Tier::Irred);
+    let [irred, core, mid, local] = tiers;
+    let local = set_tier(alloc, db, 3, local);
+    let mid = set_tier(alloc, db, 2, mid);
+    let core = set_tier(alloc, db, 1, core);
+    let irred = set_tier(alloc, db, 0, irred);
     local & mid & core & irred
 }
 
@@ -150,8 +170,12 @@ fn tier_counts_in(
 ) -> (bool, [[usize; 4]; 2])
     requires { Tracks db.old alloc.old }
 {
-    let is_added = add_tiers(alloc, db);
-    let is_set = set_tiers(alloc, db);
+    let is_added = add_all(alloc, db, &FOUR_TIERS);
+    let is_set = set_tiers(
+        alloc,
+        db,
+        [Tier::Irred, Tier::Local, Tier::Local, Tier::Core],
+    );
     (is_added & is_set, counts_around(alloc, db))
 }
 
@@ -215,17 +239,6 @@ fn collect<A: Allocator + Copy>(
     Ok(done)
 }
 
-/// Adds clauses of 3, 5 and 4 literals. Says whether that was done.
-fn add_three(alloc: &mut ClauseAlloc<Global>, db: &mut ClauseDb<Global>) -> bool
-    requires { Tracks db.old alloc.old }
-    ensures { Tracks db.new alloc.new }
-{
-    let first = add(alloc, db, header(Tier::Irred, 0), 3);
-    let second = add(alloc, db, header(Tier::Irred, 0), 5);
-    let third = add(alloc, db, header(Tier::Irred, 0), 4);
-    first & second & third
-}
-
 /// How the clauses lie once the garbage is collected where that is due; None where memory ran out.
 fn collected(alloc: &mut ClauseAlloc<Global>, db: &mut ClauseDb<Global>) -> Option<Layout>
     requires { Tracks db.old alloc.old }
@@ -243,7 +256,12 @@ fn layouts_in(
 ) -> (bool, [Option<Layout>; 2])
     requires { Tracks db.old alloc.old }
 {
-    let is_added = add_three(alloc, db);
+    let rows = [
+        (Tier::Irred, 0, 3),
+        (Tier::Irred, 0, 5),
+        (Tier::Irred, 0, 4),
+    ];
+    let is_added = add_all(alloc, db, &rows);
     shorten(alloc, db, 1, 3);
     delete(alloc, db, 1);
     let first = collected(alloc, db);
@@ -265,7 +283,7 @@ fn garbage_is_collected(rt: HostRuntime) {
 }
 
 /// Whether the clause of the index is deleted.
-fn is_deleted<A: Allocator + Copy>(alloc: &ClauseAlloc<A>, index: usize) -> bool
+pub(crate) fn is_deleted<A: Allocator + Copy>(alloc: &ClauseAlloc<A>, index: usize) -> bool
     requires { IsSound alloc.now }
 {
     index < alloc.len() && alloc.header(alloc.place(index)).deleted()
@@ -282,19 +300,6 @@ fn mark<A: Allocator + Copy>(alloc: &mut ClauseAlloc<A>, db: &mut ClauseDb<A>, i
         header.set_mark(true);
         alloc.set_header(cref, header);
     }
-}
-
-/// Adds Local clauses of activities 5, 1, 1, 3 and 2. Says whether that was done.
-fn add_locals(alloc: &mut ClauseAlloc<Global>, db: &mut ClauseDb<Global>) -> bool
-    requires { Tracks db.old alloc.old }
-    ensures { Tracks db.new alloc.new }
-{
-    let first = add(alloc, db, header(Tier::Local, 5), 3);
-    let second = add(alloc, db, header(Tier::Local, 1), 3);
-    let third = add(alloc, db, header(Tier::Local, 1), 3);
-    let fourth = add(alloc, db, header(Tier::Local, 3), 3);
-    let fifth = add(alloc, db, header(Tier::Local, 2), 3);
-    first & second & third & fourth & fifth
 }
 
 /// Which of the first five clauses are deleted.
@@ -318,7 +323,14 @@ fn reduced_in(
 ) -> (bool, [bool; 5])
     requires { Tracks db.old alloc.old }
 {
-    let is_added = add_locals(alloc, db);
+    let rows = [
+        (Tier::Local, 5, 3),
+        (Tier::Local, 1, 3),
+        (Tier::Local, 1, 3),
+        (Tier::Local, 3, 3),
+        (Tier::Local, 2, 3),
+    ];
+    let is_added = add_all(alloc, db, &rows);
     if marked {
         mark(alloc, db, 1);
     }
@@ -481,8 +493,8 @@ fn added_in<A: Allocator + Copy>(
 ) -> (usize, usize, bool)
     requires { Tracks db.old alloc.old }
 {
-    let first = add(alloc, db, header(Tier::Local, 0), 3);
-    let second = add(alloc, db, header(Tier::Mid, 0), 5);
+    let first = add_all(alloc, db, &[(Tier::Local, 0, 3)]);
+    let second = add_all(alloc, db, &[(Tier::Mid, 0, 5)]);
     delete(alloc, db, 0);
     let is_collected = collect(alloc, db).is_ok();
     let added = usize::from(first) + usize::from(second);

@@ -6,6 +6,8 @@ mod checker;
 #[cfg(test)]
 mod clause;
 #[cfg(test)]
+mod filters;
+#[cfg(test)]
 mod heap;
 #[cfg(test)]
 mod names;

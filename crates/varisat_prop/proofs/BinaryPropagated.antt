@@ -8,12 +8,13 @@ use Rattle.varisat_theory.proofs.Members.{∈-append_left, ∈-append_right}
 use Rattle.varisat_prop.specs.declared.prop.graph.Reason.TheVariants as reason
 use Rattle.varisat_prop.specs.declared.prop.graph.Conflict.TheVariants as conflict
 use Rattle.varisat_prop.specs.View.{View, IsTrueIn, implied_by, WellFormed}
-use Rattle.varisat_prop.specs.Changes.{enqueued, IsConflicting}
+use Rattle.varisat_prop.specs.Changes.{IsAssignable, enqueued, IsConflicting}
 use Rattle.varisat_prop.specs.Looks.{Propagates}
 use Rattle.varisat_prop.proofs.LiteralValues.{made-none}
 use Rattle.varisat_prop.proofs.TrailValues.{on-trail, trail-true}
 use Rattle.varisat_prop.proofs.PropagateSteps.{propagates-refl, propagates-trans}
 use Rattle.varisat_prop.proofs.KeptPairs.{implied-range}
+use Rattle.varisat_prop.proofs.ReadElements.{element}
 use Rattle.varisat_prop.proofs.EnqueueAssignment.{enqueued-well, ext-grows}
 use Rattle.varisat_prop.proofs.ViewGrowth.{append-nil}
 
@@ -26,7 +27,14 @@ pub record Implying (s t : View) (l : Literal) (k : ℕ) : Type 0 where
 pub implying-start : (s : View) (l : Literal) → WellFormed s → IsTrueIn s l → Implying s s l 0
 implying-start s l w h = record { propagates = propagates-refl s w; holds = h; done = λ j a. absurd (omega (arith, a)) }
 
-module _ (s t : View) (l : Literal) (k : ℕ) (m : Literal) (g : Implying s t l k) (inside : k < length (implied_by s l)) (e : m ≡ get_or (implied_by s l) k 0) where
+-- the next literal m, as the code reads it
+module _ {s t : View} {l : Literal} {k : ℕ} {m : Literal} {xs : List ℕ} (g : Implying s t l k) (is : xs ≡ implied_by s l) (a : k < length xs) (read : m ≡ get_or xs k m) where
+  inside : k < length (implied_by s l)
+  inside = let n = ap (λ (ys : List ℕ). length ys) is in omega (arith, a, n)
+
+  e : m ≡ get_or (implied_by s l) k 0
+  e = element (implied_by s l) k m inside (read ∙ ap (λ (ys : List ℕ). get_or ys k m) is)
+
   same : implied_by t l ≡ implied_by s l
   same = ap (λ (B : List (List ℕ)). get_or B l []) g.propagates.grows.binary
 
@@ -43,8 +51,8 @@ module _ (s t : View) (l : Literal) (k : ℕ) (m : Literal) (g : Implying s t l 
     done = below_more (λ j. get_or (implied_by s l) j 0 ∈ t.trail) k g.done (subst (λ x. x ∈ t.trail) e (on-trail t g.propagates.well m h));
   }
 
-  pub implying-conflict : (x : Literal) → x ≡ opposite l → IsTrueIn t (opposite m) → IsConflicting t (conflict.Binary (m ∷ x ∷ []))
-  implying-conflict x f h = (
+  pub implying-conflict : {x : Literal} → x ≡ opposite l → IsTrueIn t (opposite m) → IsConflicting t (conflict.Binary (m ∷ x ∷ []))
+  implying-conflict f h = (
     (l, m, ap (λ y. m ∷ y ∷ []) f, is-in),
     λ y i. ⊎_elim
         (λ z. subst (λ v. opposite v ∈ t.trail) (sym z) (on-trail t g.propagates.well (opposite m) h))
@@ -53,11 +61,14 @@ module _ (s t : View) (l : Literal) (k : ℕ) (m : Literal) (g : Implying s t l 
   )
 
   module _ (n : IsTrueIn t m → ⊥) (o : IsTrueIn t (opposite m) → ⊥) where
-    pub free-implied : get_or t.values (variable_of m) None ≡ None
+    free-implied : get_or t.values (variable_of m) None ≡ None
     free-implied = made-none t.values m n o
 
-    pub implying-new : (u : View) (x : Literal) → x ≡ opposite l → u ≡ enqueued t m (reason.Binary (x ∷ [])) → Implying s u l (k + 1)
-    implying-new u x f eq = subst (λ v. Implying s v l (k + 1)) (sym (eq ∙ ap (λ y. enqueued t m (reason.Binary (y ∷ []))) f)) record {
+    pub assignable-implied : IsAssignable t.values t.nodes m
+    assignable-implied = let h = within-implied in let b = g.propagates.well.nodes_are in (h, omega (arith, h, b), free-implied)
+
+    pub implying-new : {u : View} {x : Literal} → x ≡ opposite l → u ≡ enqueued t m (reason.Binary (x ∷ [])) → Implying s u l (k + 1)
+    implying-new {u = u} {x = x} f eq = subst (λ v. Implying s v l (k + 1)) (sym (eq ∙ ap (λ y. enqueued t m (reason.Binary (y ∷ []))) f)) record {
       propagates = propagates-trans s t v g.propagates p;
       holds = trail-true v p.well l (∈-append_left l t.trail (m ∷ []) (on-trail t g.propagates.well l g.holds));
       done = below_more (λ j. get_or (implied_by s l) j 0 ∈ v.trail) k (λ j a. ∈-append_left (get_or (implied_by s l) j 0) t.trail (m ∷ []) (g.done j a)) (subst (λ y. y ∈ v.trail) e (∈-append_right m t.trail (m ∷ []) (inl refl)));
@@ -73,5 +84,5 @@ module _ (s t : View) (l : Literal) (k : ℕ) (m : Literal) (g : Implying s t l 
           decisions = refl;
         }
 
-pub implying-end : (s t : View) (l : Literal) (k : ℕ) → Implying s t l k → length (implied_by s l) ≤ k → (m : Literal) → m ∈ implied_by s l → m ∈ t.trail
-implying-end s t l k g h m i = let (j, a, e) = place_in m (implied_by s l) 0 i in subst (λ x. x ∈ t.trail) e (g.done j (omega (arith, a, h)))
+pub implying-end : {s t : View} {l : Literal} {k : ℕ} {xs : List ℕ} → Implying s t l k → xs ≡ implied_by s l → length xs ≤ k → (m : Literal) → m ∈ implied_by s l → m ∈ t.trail
+implying-end {s = s} {t = t} {l = l} g is h m i = let (j, a, e) = place_in m (implied_by s l) 0 i in let n = ap (λ (ys : List ℕ). length ys) is in subst (λ x. x ∈ t.trail) e (g.done j (omega (arith, a, h, n)))

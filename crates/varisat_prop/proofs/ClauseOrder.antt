@@ -10,7 +10,7 @@ use Rattle.varisat_prop.specs.Looks.{Propagates}
 use Rattle.varisat_prop.specs.Watches.{at, IsRearranged}
 use Rattle.varisat_clause.proofs.StoredClauses.{same-trans, reordered-old, reordered-new, reordered-place, reordered-rising, with-reordered, with-other, with-cases, with-own}
 use Rattle.varisat_prop.proofs.PropagateSteps.{propagates-refl}
-use Rattle.varisat_prop.proofs.ViewGrowth.{append-nil}
+use Rattle.varisat_prop.proofs.ViewGrowth.{grows-reordered}
 use Rattle.varisat_prop.proofs.WellFormedChanges.{well-with, stored-kept, kept-here}
 
 pub fits-reordered : (s : View) (P : List StoredClause) (held : List Clause) → AreReordered s.clauses P → ViewFits held s → ViewFits held (record s { clauses = P })
@@ -62,16 +62,7 @@ module _ (s : View) (i : ℕ) (d : Clause) (w : WellFormed s) (a : IsPlace s.cla
       }) w.head
 
   changed-grows : Grows s u
-  changed-grows = record {
-    clauses = are-reordered;
-    binary = refl;
-    count = refl;
-    trail_more = ([], sym (append-nil s.trail));
-    head = omega arith;
-    decisions_more = ([], sym (append-nil s.decisions));
-    nodes = λ k h. refl;
-    fits = λ held f. fits-reordered s u.clauses held are-reordered f;
-  }
+  changed-grows = grows-reordered s u.clauses are-reordered (λ held f. fits-reordered s u.clauses held are-reordered f)
 
   pub changed-unused : Propagates s u
   changed-unused = record { well = changed-well; grows = changed-grows; decisions = refl }

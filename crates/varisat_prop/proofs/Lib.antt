@@ -10,6 +10,7 @@ pub mod LongVisited
 pub mod PairAdded
 pub mod PropagateQueue
 pub mod PropagateSteps
+pub mod NextLiteral
 pub mod ReadElements
 pub mod TrailExtend
 pub mod TrailValues

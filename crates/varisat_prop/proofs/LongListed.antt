@@ -1,21 +1,25 @@
 -- The watches of one literal, of which some are kept and the rest is still to be visited.
 use Rattle.std.proofs.Common.{◌≡◌, ◌≢◌, ℕ, suc, ◌+◌, ◌<◌, ◌≤◌, ◌*◌, ◌++◌, List, [], ◌∷◌, length, get_or, set, take, drop, ◌⊎◌, inl, inr, ⊎_elim, refl, sym, ap, ◌∙◌, subst, arith, get_or-set_same, get_or-set_other, length-set}
-use Rattle.std.proofs.lemmas.List.{take_more_set, drop-set-lt, drop_more}
+use Rattle.std.proofs.lemmas.List.{take_more_set, drop-set-lt, drop_more, drop_all}
 use Rattle.varisat_theory.specs.Membership.{◌∈◌}
 use Rattle.varisat_theory.specs.Literals.{Literal, opposite}
-use Rattle.varisat_theory.specs.Propagation.{IsFalse}
 use Rattle.varisat_theory.proofs.Values.{opposite_twice}
 use Rattle.varisat_theory.proofs.Members.{equal_or_not, ∈-append_left, ∈-append_right, ∈-append_cases}
 use Rattle.varisat_prop.specs.View.{View, IsTrueIn, clause_at, literal_at}
 use Rattle.varisat_prop.specs.Looks.{Propagates}
 use Rattle.varisat_prop.proofs.ViewGrowth.{grows-longer, literal-stays}
-use Rattle.varisat_prop.proofs.PropagateSteps.{propagates-trans}
+use Rattle.varisat_prop.proofs.PropagateSteps.{propagates-refl, propagates-trans, keeps-refl, keeps-trans}
 use Rattle.varisat_prop.specs.declared.prop.watch.Watch.{Watch}
+use Rattle.varisat_prop.specs.declared.prop.long.Visit.{Visit}
 use Rattle.varisat_prop.specs.declared.prop.long.Visit.TheVariants as visit
+use Rattle.varisat_prop.specs.declared.prop.graph.Conflict.TheVariants as conflict
 use Rattle.varisat_clause.specs.Stored.{IsPlace}
 use Rattle.varisat_clause.proofs.StoredClauses.{reordered-at, reordered-place, reordered-place-back}
 use Rattle.varisat_prop.specs.Watches.{Watches, list_of, with_list, at, HasWatch, IsSatisfied, IsSettledTo, IsWatched}
 use Rattle.varisat_prop.specs.Visits.{IsVisited, IsVisit}
+use Rattle.varisat_prop.specs.QueueSteps.{SearchParts, view_of_parts, KeepsParts, IsNext, GoesOnWith, IsWatchOf, IsVisitedAs}
+use Rattle.varisat_prop.specs.Changes.{IsConflicting}
+use Rattle.varisat_prop.proofs.PropagateQueue.{kept-all}
 use Rattle.varisat_prop.proofs.WatchSettled.{IsSettledBut, settled-next, implied-longer, propagates-goes-on}
 
 pub record Listing (s t : View) (W : Watches) (q : ℕ) (l : Literal) (kept rest : List Watch) : Type 0 where
@@ -193,38 +197,108 @@ module _ (s t : View) (W : Watches) (q : ℕ) (l : Literal) (kept rest : List Wa
     pub watched-kept : IsWatched (with_list V l ((kept ++ x ∷ []) ++ rest)) u q
     watched-kept = watched-on u V (kept ++ x ∷ []) v (λ y m. ∈-append_left y kept (x ∷ []) m) new-is (λ j b. inr (x, one-in, e))
 
--- the same by places of the list that the code reads and writes
-module _ (s t : View) (W : Watches) (q : ℕ) (l : Literal) (xs : List Watch) (a r : ℕ) (w : Watch) (g : Listing s t W q l (take a xs) (drop r xs)) (inside : r < length xs) (order : a ≤ r) (e : w ≡ get_or xs r w) where
-  here : drop r xs ≡ w ∷ drop (r + 1) xs
-  here = drop_more xs r w inside ∙ ap (λ y. y ∷ drop (r + 1) xs) (sym e)
-
-  pub next : Listing s t W q l (take a xs) (w ∷ drop (r + 1) xs)
-  next = subst (λ ys. Listing s t W q l (take a xs) ys) here g
-
-  pub code-dropped : (u : View) (V : Watches) → IsVisited t u W V w.cref → IsVisit u l w.cref visit.Dropped → Listing s u V q l (take a xs) (drop (r + 1) xs)
-  code-dropped u V v d = listing-dropped s t W q l (take a xs) (drop (r + 1) xs) w next u V v d
-
-  module _ (u : View) (V : Watches) (x : Watch) (v : IsVisited t u W V w.cref) (c : x.cref ≡ w.cref) where
-    kept-is : take (a + 1) (set xs a x) ≡ take a xs ++ x ∷ []
-    kept-is = take_more_set xs a x (omega (arith, inside, order))
-
-    rest-is : drop (r + 1) (set xs a x) ≡ drop (r + 1) xs
-    rest-is = drop-set-lt (r + 1) xs a x (omega (arith, order))
-
-    pub code-kept : IsVisit u l w.cref (visit.Keep x.blocking) → Listing s u V q l (take (a + 1) (set xs a x)) (drop (r + 1) (set xs a x))
-    code-kept d =
-        subst (λ ys. Listing s u V q l ys (drop (r + 1) (set xs a x))) (sym kept-is) (subst (λ ys. Listing s u V q l (take a xs ++ x ∷ []) ys) (sym rest-is)
-        (listing-kept s t W q l (take a xs) (drop (r + 1) xs) w next u V x v c d.0 d.1))
-
-    pub code-conflict : IsVisit u l w.cref (visit.Conflicting x.blocking) → IsWatched (with_list V l (take (a + 1) (set xs a x) ++ drop (r + 1) (set xs a x))) u q × Propagates s u × IsPlace u.clauses w.cref × IsFalse u.trail (clause_at u w.cref)
-    code-conflict d = (
-      subst (λ ys. IsWatched (with_list V l (ys ++ drop (r + 1) (set xs a x))) u q) (sym kept-is) (subst (λ ys. IsWatched (with_list V l ((take a xs ++ x ∷ []) ++ ys)) u q) (sym rest-is)
-          (watched-kept s t W q l (take a xs) (drop (r + 1) xs) w next u V x v c d.0)),
-      propagates-trans s t u g.propagates v.propagates,
-      reordered-place t.clauses u.clauses w.cref v.propagates.grows.clauses (watch-known s t W q l (take a xs) (drop (r + 1) xs) w next).0,
-      d.1,
-    )
-
 -- all watches were visited
 pub listing-end : (s t : View) (W : Watches) (q : ℕ) (l : Literal) (kept rest : List Watch) → Listing s t W q l kept rest → rest ≡ [] → IsSettledTo t (suc q)
 listing-end s t W q l kept rest g e = settled-next t q l g.head g.watched.queue g.watched.settled (subst (λ ws. IsSettledBut t l ws) e g.but)
+
+-- The visits so far, by places of the list that the code reads and writes: its first a watches are kept, and those from r
+-- on are still to be visited.
+pub record Visiting (p q : SearchParts) (W V : Watches) (l : Literal) (xs : List Watch) (a r : ℕ) : Type 0 where
+  pub listing : Listing (view_of_parts p) (view_of_parts q) V q.trail.queue_head l (take a xs) (drop r xs)
+  pub order : a ≤ r
+  pub within : r ≤ length xs
+  pub lists : length V.lists ≡ length W.lists
+  pub keeps : KeepsParts p q
+
+pub visiting-start : (p : SearchParts) (W : Watches) (l : Literal) (xs : List Watch) → l < length W.lists → IsNext (with_list W l xs) (view_of_parts p) l → Visiting p p W W l xs 0 0
+visiting-start p W l xs i n = record {
+  listing = listing-start (view_of_parts p) W p.trail.queue_head l xs (propagates-refl (view_of_parts p) n.well) n.watched n.head n.within i;
+  order = omega arith;
+  within = omega arith;
+  lists = refl;
+  keeps = keeps-refl p;
+}
+
+module _ {p q : SearchParts} {W V : Watches} {l : Literal} {xs : List Watch} {a r : ℕ} (g : Visiting p q W V l xs a r) where
+  abbrev s : View
+  s = view_of_parts p
+
+  abbrev t : View
+  t = view_of_parts q
+
+  -- the next watch is visited
+  module _ {w : Watch} (inside : r < length xs) (e : w ≡ get_or xs r w) where
+    next : Listing s t V q.trail.queue_head l (take a xs) (w ∷ drop (r + 1) xs)
+    next = subst (λ ys. Listing s t V q.trail.queue_head l (take a xs) ys) (drop_more xs r w inside ∙ ap (λ y. y ∷ drop (r + 1) xs) (sym e)) g.listing
+
+    pub is-watch : IsWatchOf V t l w
+    is-watch =
+        let (place, blocking) = watch-known s t V q.trail.queue_head l (take a xs) (drop (r + 1) xs) w next in
+        record {
+          well = g.listing.propagates.well;
+          place = place;
+          blocking = blocking;
+          lists = watch-lists s t V q.trail.queue_head l (take a xs) (drop (r + 1) xs) w next;
+          is_true = watch-true s t V q.trail.queue_head l (take a xs) (drop (r + 1) xs) w next;
+        }
+
+    module _ {m : SearchParts} {X : Watches} {v : Visit} (k : IsVisitedAs q m V X l w.cref v) where
+      -- what stays as it is, and the place of the next watch
+      step : (ys : List Watch) (b : ℕ) → Listing s (view_of_parts m) X q.trail.queue_head l (take b ys) (drop (r + 1) ys) → b ≤ r + 1 → length ys ≡ length xs → Visiting p m W X l ys b (r + 1)
+      step ys b h o n = record {
+        listing = subst (λ z. Listing s (view_of_parts m) X z l (take b ys) (drop (r + 1) ys)) (sym k.keeps.head) h;
+        order = o;
+        within = omega (arith, inside, n);
+        lists = k.visited.adds.count ∙ g.lists;
+        keeps = keeps-trans g.keeps k.keeps;
+      }
+
+      pub visiting-dropped : v ≡ visit.Dropped → Visiting p m W X l xs a (r + 1)
+      visiting-dropped f =
+          step xs a (listing-dropped s t V q.trail.queue_head l (take a xs) (drop (r + 1) xs) w next (view_of_parts m) X k.visited (subst (IsVisit (view_of_parts m) l w.cref) f k.visit))
+          (let o = g.order in omega (arith, o)) refl
+
+      -- it is written to the front, with another blocking literal
+      kept-is : (x : Watch) → take (a + 1) (set xs a x) ≡ take a xs ++ x ∷ []
+      kept-is x = take_more_set xs a x (let o = g.order in omega (arith, inside, o))
+
+      rest-is : (x : Watch) → drop (r + 1) (set xs a x) ≡ drop (r + 1) xs
+      rest-is x = drop-set-lt (r + 1) xs a x (let o = g.order in omega (arith, o))
+
+      pub visiting-kept : {b : Literal} → v ≡ visit.Keep b → Visiting p m W X l (set xs a (record { cref = w.cref; blocking = b })) (a + 1) (r + 1)
+      visiting-kept {b = b} f =
+          let x : Watch = record { cref = w.cref; blocking = b } in
+          let ys = set xs a x in
+          let d = subst (IsVisit (view_of_parts m) l w.cref) f k.visit in
+          step ys (a + 1)
+          (subst (λ zs. Listing s (view_of_parts m) X q.trail.queue_head l zs (drop (r + 1) ys)) (sym (kept-is x)) (subst (λ zs. Listing s (view_of_parts m) X q.trail.queue_head l (take a xs ++ x ∷ []) zs) (sym (rest-is x))
+          (listing-kept s t V q.trail.queue_head l (take a xs) (drop (r + 1) xs) w next (view_of_parts m) X x k.visited refl d.0 d.1)))
+          (let o = g.order in omega (arith, o)) (length-set xs a x)
+
+      pub visiting-false : {b : Literal} {zs : List Watch} → v ≡ visit.Conflicting b → zs ≡ take (a + 1) (set xs a (record { cref = w.cref; blocking = b })) ++ drop (r + 1) (set xs a (record { cref = w.cref; blocking = b }))
+          → GoesOnWith p m (with_list X l zs) × IsConflicting (view_of_parts m) (conflict.Long w.cref)
+      visiting-false {b = b} {zs = zs} f z =
+          let x : Watch = record { cref = w.cref; blocking = b } in
+          let d = subst (IsVisit (view_of_parts m) l w.cref) f k.visit in
+          let u = view_of_parts m in
+          let is : zs ≡ (take a xs ++ x ∷ []) ++ drop (r + 1) xs = z ∙ ap (λ us. us ++ drop (r + 1) (set xs a x)) (kept-is x) ∙ ap (λ us. (take a xs ++ x ∷ []) ++ us) (rest-is x) in (
+            record {
+              propagates = propagates-trans s t u g.listing.propagates k.visited.propagates;
+              keeps = keeps-trans g.keeps k.keeps;
+              watched = subst (λ h. IsWatched (with_list X l zs) u h) (sym k.keeps.head) (subst (λ us. IsWatched (with_list X l us) u q.trail.queue_head) (sym is)
+                  (watched-kept s t V q.trail.queue_head l (take a xs) (drop (r + 1) xs) w next u X x k.visited refl d.0));
+            },
+            (reordered-place t.clauses u.clauses w.cref k.visited.propagates.grows.clauses is-watch.place, d.1),
+          )
+
+  -- all were visited
+  module _ (done : length xs ≤ r) where
+    pub visiting-done : {ys : List Watch} → ys ≡ take a xs → GoesOnWith p q (with_list V l ys)
+    visiting-done {ys = ys} e = record {
+      propagates = g.listing.propagates;
+      keeps = g.keeps;
+      watched = subst (λ zs. IsWatched (with_list V l zs) t q.trail.queue_head) (kept-all xs a r done ∙ sym e) g.listing.watched;
+    }
+
+    pub visiting-settled : IsSettledTo t (suc q.trail.queue_head)
+    visiting-settled = listing-end s t V q.trail.queue_head l (take a xs) (drop r xs) g.listing (drop_all r xs done)

@@ -7,12 +7,13 @@ use Rattle.varisat_theory.proofs.Values.{opposite_twice}
 use Rattle.varisat_theory.proofs.Places.{∈-get_or, place_in}
 use Rattle.varisat_theory.proofs.Members.{equal_or_not, ∈-append_left, ∈-append_right, ∈-append_cases}
 use Rattle.varisat_prop.specs.declared.prop.graph.Reason.TheVariants as reason
+use Rattle.varisat_prop.specs.Parts.{IsMadeTrue}
 use Rattle.varisat_prop.specs.View.{View, IsTrueIn, clause_at, literal_at, WellFormed}
-use Rattle.varisat_prop.specs.Changes.{enqueued}
-use Rattle.varisat_prop.specs.Looks.{Propagates}
+use Rattle.varisat_prop.specs.Changes.{IsAssignable, enqueued}
+use Rattle.varisat_prop.specs.Looks.{Propagates, IsInRange}
 use Rattle.varisat_prop.proofs.LiteralValues.{made-none, made-clash}
 use Rattle.varisat_prop.proofs.TrailValues.{on-trail}
-use Rattle.varisat_prop.proofs.PropagateSteps.{propagates-refl, propagates-trans}
+use Rattle.varisat_prop.proofs.PropagateSteps.{propagates-refl, propagates-trans, keeps-refl}
 use Rattle.varisat_prop.proofs.TrailExtend.{ext-length, literal-new}
 use Rattle.varisat_prop.proofs.EnqueueAssignment.{MayImply, enqueued-well, ext-grows}
 use Rattle.varisat_prop.proofs.ViewGrowth.{append-nil}
@@ -24,8 +25,9 @@ use Rattle.varisat_prop.specs.declared.prop.long.Visit.{Visit}
 use Rattle.varisat_prop.specs.declared.prop.long.Visit.TheVariants as visit
 use Rattle.varisat_prop.specs.Watches.{Watches, list_of, with_list, at, HasWatch, IsSatisfied, IsRearranged}
 use Rattle.varisat_prop.specs.Visits.{IsPair, IsFound, AddsWatches, IsVisited, IsVisit}
-use Rattle.varisat_clause.specs.Stored.{StoredClause, IsPlace, literals_at, with_literals}
-use Rattle.varisat_clause.specs.Stores.{Store, IsSound, is_sound}
+use Rattle.varisat_prop.specs.QueueSteps.{SearchParts, view_of_parts, KeepsParts, IsWatchOf, IsReorderedAt, IsVisitedAs}
+use Rattle.varisat_clause.specs.Stored.{StoredClause, IsPlace, literals_at}
+use Rattle.varisat_clause.specs.Stores.{Store}
 use Rattle.varisat_clause.specs.Collected.{live_clauses}
 use Rattle.varisat_clause.proofs.StoreSound.{sound-is}
 use Rattle.varisat_clause.proofs.StoredClauses.{reordered-place, with-reordered, with-same, with-other}
@@ -235,59 +237,85 @@ pub listed : (y n : ℕ) → variable_of y < n → opposite y < 2 * n
 unfolding opposite
 listed y n h = omega (arith, h)
 
--- the same for the clauses before and after the code ran
-module _ (s : View) (W : Watches) (i : ℕ) (store : Store) (l m : Literal) (w : WellFormed s) (a : IsPlace s.clauses i) (tr : IsTrueIn s l) (ok : IsSound store) (e : live_clauses store ≡ with_literals s.clauses i (literals_at (live_clauses store) i)) (g : m ≡ opposite l) where
-  abbrev p : View
-  p = record s { sound = is_sound store; clauses = live_clauses store }
+-- the same for the parts before and after the code ran
+module _ (p : SearchParts) {W : Watches} {l : Literal} {w : Watch} (g : IsWatchOf W (view_of_parts p) l w) where
+  abbrev s : View
+  s = view_of_parts p
 
-  abbrev b : Clause
-  b = literals_at (live_clauses store) i
+  abbrev i : ℕ
+  i = w.cref
 
-  -- only the order of the clause's literals is another
-  is-reordered : p ≡ reordered s i b
-  is-reordered = ap (λ (x : Bool). record s { sound = x; clauses = live_clauses store }) (sound-is store ok ∙ sym w.sound) ∙ ap (λ (x : List StoredClause). record s { clauses = x }) e
+  pub blocking-range : variable_of w.blocking < length p.values.current
+  blocking-range = g.well.in_range (clause_at s i) (kept-here s i g.place) w.blocking g.blocking
 
-  abbrev FoundBy : Found → Type 0
-  FoundBy o = IsFound s.values (clause_at s i) b m o
+  pub watch-long : 2 ≤ length (clause_at s i)
+  watch-long = g.well.several (clause_at s i) (kept-here s i g.place)
 
-  turn : (o : Found) → FoundBy o → IsFound s.values (clause_at s i) b (opposite l) o
-  turn o h = subst (λ x. IsFound s.values (clause_at s i) b x o) g h
+  pub watch-range : IsInRange p.values.current (clause_at s i)
+  watch-range = g.well.in_range (clause_at s i) (kept-here s i g.place)
 
-  back : (V : Watches) (v : Visit) → IsVisited s (reordered s i b) W V i × IsVisit (reordered s i b) l i v → IsVisited s p W V i × IsVisit p l i v
-  back V v h = subst (λ x. IsVisited s x W V i × IsVisit x l i v) (sym is-reordered) h
+  pub code-blocking : IsTrueIn s w.blocking → IsVisitedAs p p W W l i (visit.Keep w.blocking)
+  code-blocking h = record { visited = visited-same s W i g.well; visit = kept-by-blocking s l w.blocking i g.well g.blocking h; keeps = keeps-refl p }
 
-  pub code-stale : FoundBy found.Stale → IsVisited s p W W i × IsVisit p l i visit.Dropped
-  code-stale h = back W visit.Dropped (found-stale s W i b l w a tr (turn found.Stale h))
+  module _ {m : Literal} (n : m ≡ opposite l) where
+    pub watch-false : IsMadeTrue p.values.current (opposite m)
+    watch-false = subst (IsTrueIn s) (sym (ap opposite n ∙ opposite_twice l)) g.is_true
 
-  pub code-true : (x : Literal) → FoundBy (found.True x) → IsVisited s p W W i × IsVisit p l i (visit.Keep x)
-  code-true x h = back W (visit.Keep x) (found-true s W i b l w a tr x (turn (found.True x) h))
+    module _ {store : Store} {o : Found} (r : IsReorderedAt p.store store p.values.current i m o) where
+      -- the clause as it is now, and the parts, of which only the store is another
+      abbrev b : Clause
+      b = literals_at (live_clauses store) i
 
-  pub code-false : (x : Literal) → FoundBy (found.False x) → IsVisited s p W W i × IsVisit p l i (visit.Conflicting x)
-  code-false x h = back W (visit.Conflicting x) (found-false s W i b l w a tr x (turn (found.False x) h))
+      abbrev q : SearchParts
+      q = record p { store = store }
 
-  other-inside : (x y : Literal) → FoundBy (found.Other x y) → variable_of y < length s.values
-  other-inside x y h =
-      let r = h.0 in
-      let n = h.3 in
-      w.in_range (clause_at s i) (kept-here s i a) y (r.same.0 y (subst (λ z. z ∈ b) n (∈-get_or b 1 0 (let k = r.long in let k' = w.several (clause_at s i) (kept-here s i a) in omega (arith, k, k')))))
+      -- only the order of the clause's literals is another
+      is-reordered : view_of_parts q ≡ reordered s i b
+      is-reordered = ap (λ (x : Bool). record s { sound = x; clauses = live_clauses store }) (sound-is store r.sound ∙ sym g.well.sound) ∙ ap (λ (x : List StoredClause). record s { clauses = x }) r.changed
 
-  pub other-listed : (x y : Literal) → FoundBy (found.Other x y) → (z : Literal) → z ≡ opposite y → length W.lists ≡ 2 * length s.values → z < length W.lists
-  other-listed x y h z k n = subst (λ v. v < length W.lists) (sym k) (let o = listed y (length s.values) (other-inside x y h) in omega (arith, o, n))
+      turn : IsFound s.values (clause_at s i) b (opposite l) o
+      turn = subst (λ x. IsFound s.values (clause_at s i) b x o) n r.found
 
-  pub code-other : (x y z : Literal) (V : Watches) → FoundBy (found.Other x y) → z ≡ opposite y → length W.lists ≡ 2 * length s.values → V ≡ with_list W z (list_of W z ++ record { cref = i; blocking = x } ∷ []) → IsVisited s p W V i × IsVisit p l i visit.Dropped
-  code-other x y z V h k n f =
-      let o = subst (λ v. v < length W.lists) k (other-listed x y h z k n) in
-      subst (λ X. IsVisited s p W X i × IsVisit p l i visit.Dropped) (sym (f ∙ ap (λ v. with_list W v (list_of W v ++ record { cref = i; blocking = x } ∷ [])) k))
-      (back (with_list W (opposite y) (list_of W (opposite y) ++ record { cref = i; blocking = x } ∷ [])) visit.Dropped (found-other s W i b l w a tr x y (turn (found.Other x y) h) o))
+      back : (V : Watches) (v : Visit) → IsVisited s (reordered s i b) W V i × IsVisit (reordered s i b) l i v → IsVisitedAs p q W V l i v
+      back V v h =
+          let h' = subst (λ x. IsVisited s x W V i × IsVisit x l i v) (sym is-reordered) h in
+          record { visited = h'.0; visit = h'.1; keeps = record { last = refl; head = refl; units = refl; store = r.store } }
 
-  pub code-inside : (x : Literal) → FoundBy (found.Implied x) → variable_of x < length s.values
-  code-inside x h = implied-inside s W i b l w a tr x (turn (found.Implied x) h)
+    pub code-stale : {store : Store} → IsReorderedAt p.store store p.values.current i m found.Stale → IsVisitedAs p (record p { store = store }) W W l i visit.Dropped
+    code-stale r = back r W visit.Dropped (found-stale s W i (b r) l g.well g.place g.is_true (turn r))
 
-  pub code-free : (x : Literal) → FoundBy (found.Implied x) → get_or s.values (variable_of x) None ≡ None
-  code-free x h = implied-free s W i b l w a tr x (turn (found.Implied x) h)
+    pub code-true : {store : Store} {x : Literal} → IsReorderedAt p.store store p.values.current i m (found.True x) → IsVisitedAs p (record p { store = store }) W W l i (visit.Keep x)
+    code-true {x = x} r = back r W (visit.Keep x) (found-true s W i (b r) l g.well g.place g.is_true x (turn r))
 
-  pub code-implied : (x : Literal) (t : View) → FoundBy (found.Implied x) → t ≡ enqueued p x (reason.Long i) → IsVisited s t W W i × IsVisit t l i (visit.Keep x)
-  code-implied x t h f =
-      subst (λ y. IsVisited s y W W i × IsVisit y l i (visit.Keep x)) (sym f)
-      (subst (λ y. IsVisited s (enqueued y x (reason.Long i)) W W i × IsVisit (enqueued y x (reason.Long i)) l i (visit.Keep x)) (sym is-reordered)
-      (found-implied s W i b l w a tr x (turn (found.Implied x) h)))
+    pub code-false : {store : Store} {x : Literal} → IsReorderedAt p.store store p.values.current i m (found.False x) → IsVisitedAs p (record p { store = store }) W W l i (visit.Conflicting x)
+    code-false {x = x} r = back r W (visit.Conflicting x) (found-false s W i (b r) l g.well g.place g.is_true x (turn r))
+
+    -- another literal is watched
+    module _ {store : Store} {x y z : Literal} (r : IsReorderedAt p.store store p.values.current i m (found.Other x y)) (e : z ≡ opposite y) where
+      other-inside : variable_of y < length s.values
+      other-inside =
+          let f = r.found in
+          watch-range y (f.0.same.0 y (subst (λ v. v ∈ b r) f.3 (∈-get_or (b r) 1 0 (let k = f.0.long in let k' = watch-long in omega (arith, k, k')))))
+
+      pub other-listed : z < length W.lists
+      other-listed = subst (λ v. v < length W.lists) (sym e) (let o = listed y (length s.values) other-inside in let k = g.lists in omega (arith, o, k))
+
+      pub code-other : {V : Watches} → V ≡ with_list W z (list_of W z ++ record { cref = i; blocking = x } ∷ []) → IsVisitedAs p (record p { store = store }) W V l i visit.Dropped
+      code-other {V = V} f =
+          let o = subst (λ v. v < length W.lists) e other-listed in
+          subst (λ X. IsVisitedAs p (record p { store = store }) W X l i visit.Dropped) (sym (f ∙ ap (λ v. with_list W v (list_of W v ++ record { cref = i; blocking = x } ∷ [])) e))
+          (back r (with_list W (opposite y) (list_of W (opposite y) ++ record { cref = i; blocking = x } ∷ [])) visit.Dropped (found-other s W i (b r) l g.well g.place g.is_true x y (turn r) o))
+
+    -- the first literal becomes true
+    module _ {store : Store} {x : Literal} (r : IsReorderedAt p.store store p.values.current i m (found.Implied x)) where
+      pub code-assignable : IsAssignable p.values.current p.nodes x
+      code-assignable =
+          let h = implied-inside s W i (b r) l g.well g.place g.is_true x (turn r) in
+          let k = g.well.nodes_are in
+          (h, omega (arith, h, k), implied-free s W i (b r) l g.well g.place g.is_true x (turn r))
+
+      pub code-implied : (t : SearchParts) → view_of_parts t ≡ enqueued (view_of_parts (record p { store = store })) x (reason.Long i) → KeepsParts p t → IsVisitedAs p t W W l i (visit.Keep x)
+      code-implied t e k =
+          let f = found-implied s W i (b r) l g.well g.place g.is_true x (turn r) in
+          let h = subst (λ v. IsVisited s v W W i × IsVisit v l i (visit.Keep x)) (sym (e ∙ ap (λ (v : View). enqueued v x (reason.Long i)) (is-reordered r))) f in
+          record { visited = h.0; visit = h.1; keeps = k }

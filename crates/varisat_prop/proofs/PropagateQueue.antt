@@ -1,20 +1,14 @@
 -- The queue of the trail.
-use Rattle.std.proofs.Common.{◌≡◌, ℕ, suc, Bool, true, false, add-one, ◌+◌, ◌*◌, ◌<◌, ◌≤◌, ◌++◌, ⊎_elim, Option, None, List, [], length, get_or, take, drop, refl, sym, ap, ◌∙◌, subst, arith}
+use Rattle.std.proofs.Common.{◌≡◌, ℕ, suc, Bool, true, false, add-one, ◌+◌, ◌<◌, ◌≤◌, ◌++◌, ⊎_elim, Option, None, List, [], length, get_or, take, drop, refl, sym, ap, ◌∙◌, subst, arith}
 use Rattle.std.specs.Option.{MatchOption}
 use Rattle.std.specs.List.{slice_get}
 use Rattle.std.proofs.lemmas.Option.{slice_get-get_or, MatchOption-at_some}
 use Rattle.std.proofs.lemmas.Bool.{cases_lt}
 use Rattle.std.proofs.lemmas.List.{set-set, set-get_or, drop_all}
-use Rattle.varisat_theory.specs.Literals.{Literal, variable_of}
-use Rattle.varisat_prop.specs.View.{View, IsTrueIn, literal_at, WellFormed}
-use Rattle.varisat_prop.proofs.LiteralValues.{made-inside}
-use Rattle.std.proofs.Common.{Result, Ok, Err}
-use Rattle.std.specs.Result.{MatchResult}
-use Rattle.varisat_theory.specs.Membership.{◌∈◌}
-use Rattle.varisat_theory.proofs.Members.{∈-append_left}
-use Rattle.varisat_prop.specs.declared.prop.graph.Conflict.{Conflict}
-use Rattle.varisat_prop.proofs.WatchSettled.{settled-longer, implied-longer, propagates-goes-on, implied-next}
-use Rattle.varisat_prop.proofs.ViewGrowth.{append-nil, literal-stays}
+use Rattle.varisat_theory.specs.Literals.{Literal}
+use Rattle.varisat_prop.specs.View.{View, WellFormed}
+use Rattle.varisat_prop.proofs.WatchSettled.{settled-longer, implied-longer, propagates-goes-on}
+use Rattle.varisat_prop.proofs.ViewGrowth.{append-nil}
 use Rattle.varisat_prop.specs.declared.prop.watch.Watch.{Watch}
 use Rattle.varisat_prop.specs.Watches.{Watches, list_of, with_list, IsWatching, IsSettledTo, IsImpliedTo, IsPropagated, IsWatched}
 use Rattle.varisat_prop.specs.Looks.{Propagates}
@@ -61,13 +55,6 @@ put-back W l = ap (λ (ls : List (List Watch)). record W { lists = ls }) (set-se
 
 pub kept-all : (xs : List Watch) (a r : ℕ) → length xs ≤ r → take a xs ++ drop r xs ≡ take a xs
 kept-all xs a r h = ap (λ ys. take a xs ++ ys) (drop_all r xs h) ∙ append-nil (take a xs)
-
--- a literal of the trail has a list
-pub has-list : (W : Watches) (s : View) (q : ℕ) (l : Literal) → WellFormed s → literal_at s q ≡ l → q < length s.trail → length W.lists ≡ 2 * length s.values → l < length W.lists
-has-list W s q l w e h n = let k = half l (length s.values) (made-inside s.values l (subst (IsTrueIn s) e (w.is_true q h))) in omega (arith, k, n)
-  where
-    half : (l n : ℕ) → variable_of l < n → l < 2 * n
-    half l n h = omega (arith, h)
 
 -- where no literal is taken, the queue is at its end
 pub at-end : (xs : List ℕ) (q : ℕ) (o : Option ℕ) → o ≡ slice_get xs q → o ≡ None → length xs ≤ q
@@ -117,12 +104,3 @@ watched-longer W s t q w p e =
       within = (let k = g.longer in let o = w.within in omega (arith, k, o));
       queue = λ j h. let d = p.decisions in let a = ap (λ (x : List ℕ). length x) d in let b = ap (λ (x : List ℕ). get_or x j 0) d in let o = w.queue j (omega (arith, h, a)) in omega (arith, o, b);
     }
-
--- what was implied by clauses of two literals before the others were propagated
-pub implied-done : (s t u : View) (W : Watches) (q k : ℕ) (l : Literal) (P : Type 0) (Q : Conflict → Type 0) (r : Result (Unit {0}) Conflict) → literal_at t k ≡ l → k < length t.trail → Propagates t u → q ≡ k → IsWatched W u q
-    → ((m : Literal) → m ∈ get_or t.binary l [] → m ∈ t.trail) → MatchResult r (λ x. P) Q → MatchResult r (λ x. P × IsImpliedTo u (suc q)) Q
-implied-done s t u W q k l P Q r e a p f w d m = strengthen r m (implied-next u q l p.well (ap (λ x. literal_at u x) f ∙ literal-stays t u p.grows k a ∙ e) w.queue w.implied (λ y i. subst (λ xs. y ∈ xs) (sym p.grows.trail_more.1) (∈-append_left y t.trail p.grows.trail_more.0 (d y (subst (λ (B : List (List ℕ)). y ∈ get_or B l []) p.grows.binary i)))))
-  where
-    strengthen : {R : Type 0} (r : Result (Unit {0}) Conflict) → MatchResult r (λ x. P) Q → R → MatchResult r (λ x. P × R) Q
-    strengthen (Ok x) m n = (m, n)
-    strengthen (Err x) m n = m

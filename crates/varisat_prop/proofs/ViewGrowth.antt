@@ -1,25 +1,30 @@
 -- How a search goes on.
 use Rattle.std.proofs.Common.{◌≡◌, ℕ, zero, suc, ◌<◌, ◌≤◌, Bool, List, [], ◌∷◌, ◌++◌, length, get_or, map, refl, sym, ap, ◌∙◌, arith, append_assoc, length-append}
 use Rattle.std.proofs.lemmas.List.{get_or_append_left, map-append}
-use Rattle.varisat_theory.specs.Literals.{Literal}
-use Rattle.varisat_prop.specs.View.{View, literal_at, node_of, is_implied, kinds, Grows}
+use Rattle.varisat_theory.specs.Literals.{Literal, Clause}
+use Rattle.varisat_prop.specs.View.{View, literal_at, node_of, is_implied, kinds, ViewFits, Grows}
+use Rattle.varisat_clause.specs.Stored.{StoredClause, AreReordered}
 use Rattle.varisat_clause.proofs.StoredClauses.{reordered-refl, reordered-trans}
 
 pub append-nil : {X : Type 0} (xs : List X) → xs ++ [] ≡ xs
 append-nil [] = refl
 append-nil (x ∷ xs) = ap (λ ys. x ∷ ys) (append-nil xs)
 
-pub grows-refl : (s : View) → Grows s s
-grows-refl s = record {
-  clauses = reordered-refl s.clauses;
+-- only the order of literals in clauses is another
+pub grows-reordered : (s : View) (P : List StoredClause) → AreReordered s.clauses P → ((held : List Clause) → ViewFits held s → ViewFits held (record s { clauses = P })) → Grows s (record s { clauses = P })
+grows-reordered s P a f = record {
+  clauses = a;
   binary = refl;
   count = refl;
   trail_more = ([], sym (append-nil s.trail));
   head = omega arith;
   decisions_more = ([], sym (append-nil s.decisions));
   nodes = λ k h. refl;
-  fits = λ held f. f;
+  fits = f;
 }
+
+pub grows-refl : (s : View) → Grows s s
+grows-refl s = grows-reordered s s.clauses (reordered-refl s.clauses) (λ held f. f)
 
 pub grows-longer : (s t : View) → Grows s t → length s.trail ≤ length t.trail
 grows-longer s t g = let (more, e) = g.trail_more in let n = ap (λ (x : List Literal). length x) e in let m = length-append s.trail more in omega (arith, n, m)

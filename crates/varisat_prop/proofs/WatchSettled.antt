@@ -199,14 +199,14 @@ module _ (s t : View) (level q : ℕ) (a : level < length s.decisions) (n : deci
   abbrev cut : View
   cut = record s { values = t.values; trail = take (decision_at s level) s.trail; queue_head = decision_at s level; decisions = take level s.decisions }
 
-  back : IsSettledTo s q → IsSettledTo cut (decision_at s level)
-  back st = λ i j p h b c f.
-      let (k, x, y, z) = st i j p h b (omega (arith, c, n)) (sym (get_or-take (decision_at s level) s.trail p 0 c) ∙ f) in
-      let k' : k < decision_at s level = z level a c in
+  -- what is true no later than at the level of a place before the cut is so afterwards
+  covered-cut : (c : Clause) (p : ℕ) → p < decision_at s level → IsCovered s c p → IsCovered cut c p
+  covered-cut c p b (k, x, y, z) =
+      let k' : k < decision_at s level = z level a b in
       let o = length-take (decision_at s level) s.trail in (
         k,
         omega (arith, o, k', m),
-        subst (λ v. v ∈ clause_at s i) (sym (get_or-take (decision_at s level) s.trail k 0 k')) y,
+        subst (λ v. v ∈ c) (sym (get_or-take (decision_at s level) s.trail k 0 k')) y,
         λ v g r. let l = length-take level s.decisions in
             let v' : v < level = omega (arith, g, l) in
             let w = get_or-take level s.decisions v 0 v' in
@@ -215,24 +215,14 @@ module _ (s t : View) (level q : ℕ) (a : level < length s.decisions) (n : deci
             omega (arith, q', w),
       )
 
+  back : IsSettledTo s q → IsSettledTo cut (decision_at s level)
+  back st = λ i j p h b c f. covered-cut (clause_at s i) p c (st i j p h b (omega (arith, c, n)) (sym (get_or-take (decision_at s level) s.trail p 0 c) ∙ f))
+
   pub settled-back : t ≡ cut → IsSettledTo s q → IsSettledTo t (decision_at s level)
   settled-back e st = subst (λ x. IsSettledTo x (decision_at s level)) (sym e) (back st)
 
   implied-cut : IsImpliedTo s q → IsImpliedTo cut (decision_at s level)
-  implied-cut st = λ v p c i.
-      let (k, x, y, z) = st v p (omega (arith, c, n)) (subst (λ l. v ∈ implied_by s l) (get_or-take (decision_at s level) s.trail p 0 c) i) in
-      let k' : k < decision_at s level = z level a c in
-      let o = length-take (decision_at s level) s.trail in (
-        k,
-        omega (arith, o, k', m),
-        subst (λ u. u ∈ (v ∷ [])) (sym (get_or-take (decision_at s level) s.trail k 0 k')) y,
-        λ u g r. let l = length-take level s.decisions in
-            let u' : u < level = omega (arith, g, l) in
-            let w = get_or-take level s.decisions u 0 u' in
-            let r' : p < decision_at s u = omega (arith, r, w) in
-            let q' = z u (omega (arith, u', a)) r' in
-            omega (arith, q', w),
-      )
+  implied-cut st = λ v p c i. covered-cut (v ∷ []) p c (st v p (omega (arith, c, n)) (subst (λ l. v ∈ implied_by s l) (get_or-take (decision_at s level) s.trail p 0 c) i))
 
   pub implied-back : t ≡ cut → IsImpliedTo s q → IsImpliedTo t (decision_at s level)
   implied-back e st = subst (λ x. IsImpliedTo x (decision_at s level)) (sym e) (implied-cut st)

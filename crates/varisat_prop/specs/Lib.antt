@@ -5,4 +5,5 @@ pub mod Looks
 pub mod Pairs
 pub mod Watches
 pub mod Visits
+pub mod QueueSteps
 pub mod Lending

@@ -35,6 +35,18 @@ moved_other : (heap position : List ℕ) (i j v : ℕ) → v ≢ get_or heap i 0
 moved_other heap position i j v va vb =
     get_or-set_other (set position (get_or heap i 0) j) (get_or heap j 0) v i 0 vb ∙ get_or-set_other position (get_or heap i 0) v j 0 va
 
+-- what holds of a, of b and of what is neither holds of k
+one_of_three : (holds : ℕ → Type 0) (a b k : ℕ) → holds a → holds b → (k ≢ a → k ≢ b → holds k) → holds k
+one_of_three holds a b k at_a at_b other =
+    elim (eqb_tells k a) [
+      | inl t ↦ rw t.1 at_a
+      | inr t ↦
+          elim (eqb_tells k b) [
+            | inl s ↦ rw s.1 at_b
+            | inr s ↦ other t.1 s.1
+          ]
+    ]
+
 pub exchanged : (heap new position : List ℕ) (i j : ℕ) → IsLinked heap position → i < length heap → j < length heap → length new ≡ length heap
     → get_or new i 0 ≡ get_or heap j 0 → get_or new j 0 ≡ get_or heap i 0 → ((k : ℕ) → k ≢ i → k ≢ j → get_or new k 0 ≡ get_or heap k 0)
     → IsLinked new (set (set position (get_or heap i 0) j) (get_or heap j 0) i)
@@ -47,50 +59,22 @@ exchanged heap new position i j l hi hj long at_i at_j others =
     record {
       count = length-moved heap position i j ∙ l.count ∙ sym long;
       small = rw long l.small;
-      known = λ k h.
-          elim (eqb_tells k i) [
-            | inl t ↦ rw (t.1, at_i, long) (l.known j hj)
-            | inr t ↦
-                elim (eqb_tells k j) [
-                  | inl s ↦ rw (s.1, at_j, long) (l.known i hi)
-                  | inr s ↦ rw (others k t.1 s.1, long) (l.known k (omega (arith, long)))
-                ]
-          ];
-      placed = λ k h.
-          elim (eqb_tells k i) [
-            | inl t ↦ rw (t.1, at_i) pb
-            | inr t ↦
-                elim (eqb_tells k j) [
-                  | inl s ↦ rw (s.1, at_j) pa
-                  | inr s ↦
-                      let hk : k < length heap = omega (arith, long) in
-                      rw (others k t.1 s.1) (moved_other heap position i j (get_or heap k 0) (away k i hk hi t.1) (away k j hk hj s.1) ∙ l.placed k hk)
-                ]
-          ];
-      within = λ v h.
-          elim (eqb_tells v b) [
-            | inl t ↦ rw (t.1, pb, long) hi
-            | inr t ↦
-                elim (eqb_tells v a) [
-                  | inl s ↦ rw (s.1, pa, long) hj
-                  | inr s ↦ rw (moved_other heap position i j v s.1 t.1, long) (l.within v (omega (arith, long)))
-                ]
-          ];
-      stands = λ v h.
-          elim (eqb_tells v b) [
-            | inl t ↦ rw (t.1, pb) at_i
-            | inr t ↦
-                elim (eqb_tells v a) [
-                  | inl s ↦ rw (s.1, pa) at_j
-                  | inr s ↦
-                      let hv : v < length heap = omega (arith, long) in
-                      let p : ℕ = get_or position v 0 in
-                      let st : get_or heap p 0 ≡ v = l.stands v hv in
-                      let ni : p ≢ i = λ q. s.1 (sym st ∙ ap (λ (x : ℕ). get_or heap x 0) q) in
-                      let nj : p ≢ j = λ q. t.1 (sym st ∙ ap (λ (x : ℕ). get_or heap x 0) q) in
-                      rw (moved_other heap position i j v s.1 t.1) (others p ni nj ∙ st)
-                ]
-          ];
+      known = λ k h. one_of_three (λ x. get_or new x 0 < length new) i j k (rw (at_i, long) (l.known j hj)) (rw (at_j, long) (l.known i hi))
+          (λ ni nj. rw (others k ni nj, long) (l.known k (omega (arith, long))));
+      placed = λ k h. one_of_three (λ x. get_or (moved heap position i j) (get_or new x 0) 0 ≡ x) i j k (rw at_i pb) (rw at_j pa)
+          (λ ni nj.
+          let hk : k < length heap = omega (arith, long) in
+          rw (others k ni nj) (moved_other heap position i j (get_or heap k 0) (away k i hk hi ni) (away k j hk hj nj) ∙ l.placed k hk));
+      within = λ v h. one_of_three (λ x. get_or (moved heap position i j) x 0 < length new) b a v (rw (pb, long) hi) (rw (pa, long) hj)
+          (λ nb na. rw (moved_other heap position i j v na nb, long) (l.within v (omega (arith, long))));
+      stands = λ v h. one_of_three (λ x. get_or new (get_or (moved heap position i j) x 0) 0 ≡ x) b a v (rw pb at_i) (rw pa at_j)
+          (λ nb na.
+          let hv : v < length heap = omega (arith, long) in
+          let p : ℕ = get_or position v 0 in
+          let st : get_or heap p 0 ≡ v = l.stands v hv in
+          let ni : p ≢ i = λ q. na (sym st ∙ ap (λ (x : ℕ). get_or heap x 0) q) in
+          let nj : p ≢ j = λ q. nb (sym st ∙ ap (λ (x : ℕ). get_or heap x 0) q) in
+          rw (moved_other heap position i j v na nb) (others p ni nj ∙ st));
     }
 
 -- both places are of the first n, or the same stand there as before

@@ -1,11 +1,11 @@
 //! Propagation of clauses of two literals.
-ghost use Rattle.std.specs.Prelude.{◌≡◌, ◌<◌, [], length, OnOk, IfOk, MatchResult, slice_index_or};
+ghost use Rattle.std.specs.Prelude.{◌<◌, [], length, OnOk, IfOk, slice_index_or};
 ghost use Rattle.varisat_theory.specs.Membership.{◌∈◌};
 ghost use Rattle.varisat_theory.specs.Literals.{Literal};
 ghost use Rattle.varisat_prop.specs.Parts.{IsMadeTrue};
 ghost use Rattle.varisat_prop.specs.View.{view_of, WellFormed};
-ghost use Rattle.varisat_prop.specs.Changes.{IsConflicting};
 ghost use Rattle.varisat_prop.specs.Looks.{Propagates};
+ghost use Rattle.varisat_prop.specs.QueueSteps.{parts_of, KeepsParts, EndsPropagation};
 
 use crate::binary::BinaryClauses;
 use crate::clause::ClauseAlloc;
@@ -29,11 +29,8 @@ pub fn propagate_binary<A: Allocator + Copy>(
     requires is_true { IsMadeTrue assignment.old.current lit }
     requires listed { lit < length binary_clauses.now }
     ensures propagates { OnOk result (Propagates (view_of clause_alloc.now binary_clauses.now assignment.old trail.old impl_graph.old) (view_of clause_alloc.now binary_clauses.now assignment.new trail.new impl_graph.new)) }
-    ensures ends { IfOk result (λ end. MatchResult end
-        (λ _. (m : Literal) → m ∈ slice_index_or binary_clauses.now lit [] → m ∈ trail.new.literals)
-        (λ conflict. IsConflicting (view_of clause_alloc.now binary_clauses.now assignment.new trail.new impl_graph.new) conflict)) }
-    ensures last { OnOk result (assignment.new.last ≡ assignment.old.last) }
-    ensures queue { OnOk result ((trail.new.queue_head ≡ trail.old.queue_head) × (trail.new.units_removed ≡ trail.old.units_removed)) }
+    ensures keeps { OnOk result (KeepsParts (parts_of clause_alloc.now binary_clauses.now assignment.old trail.old impl_graph.old) (parts_of clause_alloc.now binary_clauses.now assignment.new trail.new impl_graph.new)) }
+    ensures ends { IfOk result (λ end. EndsPropagation (λ t. (m : Literal) → m ∈ slice_index_or binary_clauses.now lit [] → m ∈ t.trail) (view_of clause_alloc.now binary_clauses.now assignment.new trail.new impl_graph.new) end) }
 {
     for entry in binary_clauses.implied(lit) {
         let implied = *entry;

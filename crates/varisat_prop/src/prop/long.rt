@@ -1,16 +1,15 @@
 //! Propagation of long clauses.
-ghost use Rattle.std.specs.Prelude.{◌≡◌, ◌≢◌, ℕ, suc, ◌<◌, ◌≤◌, ◌*◌, ◌++◌, IsTrue, length, take, drop, OnOk, IfOk, MatchResult, MatchOption};
-ghost use Rattle.varisat_theory.specs.Membership.{◌∈◌};
+ghost use Rattle.std.specs.Prelude.{◌≡◌, ◌≢◌, ℕ, suc, ◌<◌, ◌≤◌, ◌++◌, IsTrue, length, take, drop, OnOk, IfOk, MatchOption};
 ghost use Rattle.varisat_theory.specs.Literals.{opposite};
-ghost use Rattle.varisat_clause.specs.Stored.{IsPlace, literals_at, with_literals};
+ghost use Rattle.varisat_clause.specs.Stored.{IsPlace, literals_at};
 ghost use Rattle.varisat_clause.specs.Stores.{IsSound};
 ghost use Rattle.varisat_clause.specs.Collected.{live_clauses};
 ghost use Rattle.varisat_prop.specs.Parts.{IsMadeTrue};
-ghost use Rattle.varisat_prop.specs.View.{view_of, WellFormed, literal_at};
-ghost use Rattle.varisat_prop.specs.Changes.{IsConflicting};
-ghost use Rattle.varisat_prop.specs.Looks.{Propagates, IsInRange, IsFalseAt};
-ghost use Rattle.varisat_prop.specs.Watches.{with_list, at, IsRearranged, IsSettledTo, IsWatched};
-ghost use Rattle.varisat_prop.specs.Visits.{IsPair, IsFound, IsVisited, IsVisit};
+ghost use Rattle.varisat_prop.specs.View.{view_of};
+ghost use Rattle.varisat_prop.specs.Looks.{IsInRange, IsFalseAt};
+ghost use Rattle.varisat_prop.specs.Watches.{with_list, at, IsRearranged, IsSettledTo};
+ghost use Rattle.varisat_prop.specs.Visits.{IsPair, IsFound};
+ghost use Rattle.varisat_prop.specs.QueueSteps.{parts_of, IsNext, GoesOnWith, EndsPropagation, IsWatchOf, IsReorderedAt, IsVisitedAs};
 
 use crate::binary::BinaryClauses;
 use crate::clause::{ClauseAlloc, ClauseRef};
@@ -126,9 +125,7 @@ fn reorder_clause<A: Allocator + Copy>(
     requires long { 2 ≤ length (literals_at (live_clauses clause_alloc.old) cref) }
     requires within { IsInRange assignment.now.current (literals_at (live_clauses clause_alloc.old) cref) }
     requires is_false { IsMadeTrue assignment.now.current (opposite false_lit) }
-    ensures sound { IsSound clause_alloc.new }
-    ensures changed { live_clauses clause_alloc.new ≡ with_literals (live_clauses clause_alloc.old) cref (literals_at (live_clauses clause_alloc.new) cref) }
-    ensures found { IsFound assignment.now.current (literals_at (live_clauses clause_alloc.old) cref) (literals_at (live_clauses clause_alloc.new) cref) false_lit result }
+    ensures { IsReorderedAt clause_alloc.old clause_alloc.new assignment.now.current cref false_lit result }
 {
     let lits = clause_alloc.lits_mut(cref);
     reorder(lits, assignment, false_lit)
@@ -145,15 +142,8 @@ fn visit_watch<A: Allocator + Copy>(
     lit: Lit,
     watch: Watch,
 ) -> Result<Visit, AllocError>
-    requires well { WellFormed (view_of clause_alloc.old binary_clauses.now assignment.old trail.old impl_graph.old) }
-    requires within { IsPlace (live_clauses clause_alloc.old) watch.cref }
-    requires blocking { watch.blocking ∈ literals_at (live_clauses clause_alloc.old) watch.cref }
-    requires lists { length watchlists.old.lists ≡ 2 * length assignment.old.current }
-    requires is_true { IsMadeTrue assignment.old.current lit }
-    ensures visited { OnOk result (IsVisited (view_of clause_alloc.old binary_clauses.now assignment.old trail.old impl_graph.old) (view_of clause_alloc.new binary_clauses.now assignment.new trail.new impl_graph.new) watchlists.old watchlists.new watch.cref) }
-    ensures visit { IfOk result (λ visit. IsVisit (view_of clause_alloc.new binary_clauses.now assignment.new trail.new impl_graph.new) lit watch.cref visit) }
-    ensures last { OnOk result (assignment.new.last ≡ assignment.old.last) }
-    ensures queue { OnOk result ((trail.new.queue_head ≡ trail.old.queue_head) × (trail.new.units_removed ≡ trail.old.units_removed)) }
+    requires { IsWatchOf watchlists.old (view_of clause_alloc.old binary_clauses.now assignment.old trail.old impl_graph.old) lit watch }
+    ensures { IfOk result (λ visit. IsVisitedAs (parts_of clause_alloc.old binary_clauses.now assignment.old trail.old impl_graph.old) (parts_of clause_alloc.new binary_clauses.now assignment.new trail.new impl_graph.new) watchlists.old watchlists.new lit watch.cref visit) }
 {
     if assignment.lit_is_true(watch.blocking) {
         return Ok(Visit::Keep(watch.blocking));
@@ -200,19 +190,11 @@ fn visit_watches<A: Allocator + Copy>(
     list: &mut Vec<Watch, A>,
     lit: Lit,
 ) -> Result<Result<(), Conflict>, AllocError>
-    requires well { WellFormed (view_of clause_alloc.old binary_clauses.now assignment.old trail.old impl_graph.old) }
-    requires head { literal_at (view_of clause_alloc.old binary_clauses.now assignment.old trail.old impl_graph.old) trail.old.queue_head ≡ lit }
-    requires within { trail.old.queue_head < length trail.old.literals }
     requires inside { lit < length watchlists.old.lists }
-    requires watched { IsWatched (with_list watchlists.old lit list.old.items) (view_of clause_alloc.old binary_clauses.now assignment.old trail.old impl_graph.old) trail.old.queue_head }
-    ensures propagates { OnOk result (Propagates (view_of clause_alloc.old binary_clauses.now assignment.old trail.old impl_graph.old) (view_of clause_alloc.new binary_clauses.now assignment.new trail.new impl_graph.new)) }
-    ensures watched { OnOk result (IsWatched (with_list watchlists.new lit list.new.items) (view_of clause_alloc.new binary_clauses.now assignment.new trail.new impl_graph.new) trail.new.queue_head) }
-    ensures ends { IfOk result (λ end. MatchResult end
-        (λ _. IsSettledTo (view_of clause_alloc.new binary_clauses.now assignment.new trail.new impl_graph.new) (suc trail.new.queue_head))
-        (λ conflict. IsConflicting (view_of clause_alloc.new binary_clauses.now assignment.new trail.new impl_graph.new) conflict)) }
+    requires next { IsNext (with_list watchlists.old lit list.old.items) (view_of clause_alloc.old binary_clauses.now assignment.old trail.old impl_graph.old) lit }
+    ensures goes { OnOk result (GoesOnWith (parts_of clause_alloc.old binary_clauses.now assignment.old trail.old impl_graph.old) (parts_of clause_alloc.new binary_clauses.now assignment.new trail.new impl_graph.new) (with_list watchlists.new lit list.new.items)) }
+    ensures ends { IfOk result (λ end. EndsPropagation (λ s. IsSettledTo s (suc s.queue_head)) (view_of clause_alloc.new binary_clauses.now assignment.new trail.new impl_graph.new) end) }
     ensures lists { OnOk result (length watchlists.new.lists ≡ length watchlists.old.lists) }
-    ensures last { OnOk result (assignment.new.last ≡ assignment.old.last) }
-    ensures queue { OnOk result ((trail.new.queue_head ≡ trail.old.queue_head) × (trail.new.units_removed ≡ trail.old.units_removed)) }
 {
     let mut write = 0;
     let mut read = 0;
@@ -256,17 +238,9 @@ pub fn propagate_long<A: Allocator + Copy>(
     watchlists: &mut Watchlists<A>,
     lit: Lit,
 ) -> Result<Result<(), Conflict>, AllocError>
-    requires well { WellFormed (view_of clause_alloc.old binary_clauses.now assignment.old trail.old impl_graph.old) }
-    requires head { literal_at (view_of clause_alloc.old binary_clauses.now assignment.old trail.old impl_graph.old) trail.old.queue_head ≡ lit }
-    requires within { trail.old.queue_head < length trail.old.literals }
-    requires watched { IsWatched watchlists.old (view_of clause_alloc.old binary_clauses.now assignment.old trail.old impl_graph.old) trail.old.queue_head }
-    ensures propagates { OnOk result (Propagates (view_of clause_alloc.old binary_clauses.now assignment.old trail.old impl_graph.old) (view_of clause_alloc.new binary_clauses.now assignment.new trail.new impl_graph.new)) }
-    ensures watched { OnOk result (IsWatched watchlists.new (view_of clause_alloc.new binary_clauses.now assignment.new trail.new impl_graph.new) trail.new.queue_head) }
-    ensures ends { IfOk result (λ end. MatchResult end
-        (λ _. IsSettledTo (view_of clause_alloc.new binary_clauses.now assignment.new trail.new impl_graph.new) (suc trail.new.queue_head))
-        (λ conflict. IsConflicting (view_of clause_alloc.new binary_clauses.now assignment.new trail.new impl_graph.new) conflict)) }
-    ensures last { OnOk result (assignment.new.last ≡ assignment.old.last) }
-    ensures queue { OnOk result ((trail.new.queue_head ≡ trail.old.queue_head) × (trail.new.units_removed ≡ trail.old.units_removed)) }
+    requires { IsNext watchlists.old (view_of clause_alloc.old binary_clauses.now assignment.old trail.old impl_graph.old) lit }
+    ensures goes { OnOk result (GoesOnWith (parts_of clause_alloc.old binary_clauses.now assignment.old trail.old impl_graph.old) (parts_of clause_alloc.new binary_clauses.now assignment.new trail.new impl_graph.new) watchlists.new) }
+    ensures ends { IfOk result (λ end. EndsPropagation (λ s. IsSettledTo s (suc s.queue_head)) (view_of clause_alloc.new binary_clauses.now assignment.new trail.new impl_graph.new) end) }
 {
     let mut list = watchlists.take_list(lit);
     let end = visit_watches(

@@ -6,10 +6,12 @@ ghost use Rattle.varisat_theory.specs.Propagation.{IsComplete};
 ghost use Rattle.varisat_clause.specs.Stored.{literals_of};
 ghost use Rattle.varisat_clause.specs.Stores.{IsSound};
 ghost use Rattle.varisat_clause.specs.Collected.{live_clauses};
-ghost use Rattle.varisat_prop.specs.View.{view_of, kept, literal_at, WellFormed};
+ghost use Rattle.varisat_clause.specs.Shapes.{KeepsShapes};
+ghost use Rattle.varisat_prop.specs.View.{view_of, kept, WellFormed};
 ghost use Rattle.varisat_prop.specs.Changes.{IsConflicting};
 ghost use Rattle.varisat_prop.specs.Looks.{Propagates};
-ghost use Rattle.varisat_prop.specs.Watches.{list_of, IsWatching, IsSettledTo, IsImpliedTo, IsWatched, IsPropagated};
+ghost use Rattle.varisat_prop.specs.Watches.{list_of, IsWatching, IsSettledTo, IsImpliedTo, IsPropagated};
+ghost use Rattle.varisat_prop.specs.QueueSteps.{parts_of, IsNext, GoesOnWith, EndsPropagation};
 
 use crate::binary::BinaryClauses;
 use crate::clause::ClauseAlloc;
@@ -56,17 +58,9 @@ fn propagate_lit<A: Allocator + Copy>(
     watchlists: &mut Watchlists<A>,
     lit: Lit,
 ) -> Result<Result<(), Conflict>, AllocError>
-    requires well { WellFormed (view_of clause_alloc.old binary_clauses.now assignment.old trail.old impl_graph.old) }
-    requires head { literal_at (view_of clause_alloc.old binary_clauses.now assignment.old trail.old impl_graph.old) trail.old.queue_head ≡ lit }
-    requires within { trail.old.queue_head < length trail.old.literals }
-    requires watched { IsWatched watchlists.old (view_of clause_alloc.old binary_clauses.now assignment.old trail.old impl_graph.old) trail.old.queue_head }
-    ensures propagates { OnOk result (Propagates (view_of clause_alloc.old binary_clauses.now assignment.old trail.old impl_graph.old) (view_of clause_alloc.new binary_clauses.now assignment.new trail.new impl_graph.new)) }
-    ensures watched { OnOk result (IsWatched watchlists.new (view_of clause_alloc.new binary_clauses.now assignment.new trail.new impl_graph.new) trail.new.queue_head) }
-    ensures ends { IfOk result (λ end. MatchResult end
-        (λ _. IsSettledTo (view_of clause_alloc.new binary_clauses.now assignment.new trail.new impl_graph.new) (suc trail.new.queue_head) × IsImpliedTo (view_of clause_alloc.new binary_clauses.now assignment.new trail.new impl_graph.new) (suc trail.new.queue_head))
-        (λ conflict. IsConflicting (view_of clause_alloc.new binary_clauses.now assignment.new trail.new impl_graph.new) conflict)) }
-    ensures last { OnOk result (assignment.new.last ≡ assignment.old.last) }
-    ensures queue { OnOk result ((trail.new.queue_head ≡ trail.old.queue_head) × (trail.new.units_removed ≡ trail.old.units_removed)) }
+    requires { IsNext watchlists.old (view_of clause_alloc.old binary_clauses.now assignment.old trail.old impl_graph.old) lit }
+    ensures goes { OnOk result (GoesOnWith (parts_of clause_alloc.old binary_clauses.now assignment.old trail.old impl_graph.old) (parts_of clause_alloc.new binary_clauses.now assignment.new trail.new impl_graph.new) watchlists.new) }
+    ensures ends { IfOk result (λ end. EndsPropagation (λ s. IsSettledTo s (suc s.queue_head) × IsImpliedTo s (suc s.queue_head)) (view_of clause_alloc.new binary_clauses.now assignment.new trail.new impl_graph.new) end) }
 {
     match propagate_binary(
         assignment,
@@ -113,6 +107,8 @@ pub fn propagate<A: Allocator + Copy>(
         (λ conflict. IsConflicting (view_of clause_alloc.new binary_clauses.now assignment.new trail.new impl_graph.new) conflict)) }
     ensures last { OnOk result (assignment.new.last ≡ assignment.old.last) }
     ensures units { OnOk result (trail.new.units_removed ≡ trail.old.units_removed) }
+    // Of the store of clauses only the order of literals changes, also where a clause is deleted.
+    ensures store { OnOk result (KeepsShapes clause_alloc.old clause_alloc.new) }
 {
     enable_watchlists(watchlists, clause_alloc)?;
     'queue: while let Some(lit) = trail.queue_head() {

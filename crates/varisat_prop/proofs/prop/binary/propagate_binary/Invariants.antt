@@ -1,12 +1,10 @@
-use Rattle.std.proofs.Common.{◌≡◌}
 use Rattle.varisat_prop.specs.View.{view_of}
+use Rattle.varisat_prop.specs.QueueSteps.{parts_of, KeepsParts}
 use Rattle.varisat_prop.proofs.BinaryPropagated.{Implying}
 use Rattle.varisat_prop.proofs.prop.binary.propagate_binary.Given as goal
 
 abbrev pub invariant-loop-entry : goal.invariant-loop-entry
 invariant-loop-entry g l = record {
   implying : Implying (view_of l.clause_alloc l.binary_clauses l.fn.assignment l.fn.trail l.fn.impl_graph) (view_of l.clause_alloc l.binary_clauses l.assignment l.trail l.impl_graph) l.lit l.entry-index;
-  last : l.assignment.last ≡ l.fn.assignment.last;
-  head : l.trail.queue_head ≡ l.fn.trail.queue_head;
-  units : l.trail.units_removed ≡ l.fn.trail.units_removed;
+  keeps : KeepsParts (parts_of l.clause_alloc l.binary_clauses l.fn.assignment l.fn.trail l.fn.impl_graph) (parts_of l.clause_alloc l.binary_clauses l.assignment l.trail l.impl_graph);
 }

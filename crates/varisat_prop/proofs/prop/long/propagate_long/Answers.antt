@@ -1,22 +1,20 @@
-use Rattle.std.proofs.Common.{◌≡◌, [], length, sym, ap, ◌∙◌, subst, arith, length-set}
-use Rattle.varisat_prop.specs.View.{view_of}
-use Rattle.varisat_prop.specs.Watches.{Watches, list_of, with_list, IsWatched}
-use Rattle.varisat_prop.proofs.PropagateQueue.{put-back, has-list}
+use Rattle.std.proofs.Common.{arith}
+use Rattle.varisat_prop.proofs.NextLiteral.{next-list, taken-inside, taken-next, goes-put}
 use Rattle.varisat_prop.proofs.prop.long.propagate_long.Goals as goal
 
-pub visit_watches-requires-clause-watched : goal.visit_watches-requires-clause-watched
-visit_watches-requires-clause-watched g c =
-    let s = view_of c.args.clause_alloc.now c.args.binary_clauses.now c.args.assignment.now c.args.trail.now c.args.impl_graph.now in
-    let W = c.args.watchlists.now in
-    let e : with_list c.take_list-list.new.self c.args.lit c.take_list-list.result.items ≡ W = ap (λ ys. with_list c.take_list-list.new.self c.args.lit ys) c.take_list-list.ensures.list ∙ ap (λ (X : Watches). with_list X c.args.lit (list_of W c.args.lit)) c.take_list-list.ensures.taken ∙ put-back W c.args.lit in
-    subst (λ X. IsWatched X s c.args.trail.now.queue_head) (sym e) c.requires.watched
+pub take_list-list-requires : goal.take_list-list-requires
+take_list-list-requires g c = next-list c.requires
+
+pub visit_watches-requires : goal.visit_watches-requires
+visit_watches-requires g c = record {
+  inside = taken-inside c.requires c.take_list-list.ensures.taken c.take_list-list.ensures.list;
+  next = taken-next c.requires c.take_list-list.ensures.taken c.take_list-list.ensures.list;
+}
 
 pub put_list-requires : goal.put_list-requires
 put_list-requires g c =
-    let s = view_of c.args.clause_alloc.now c.args.binary_clauses.now c.args.assignment.now c.args.trail.now c.args.impl_graph.now in
-    let W = c.args.watchlists.now in
-    let h = has-list W s c.args.trail.now.queue_head c.args.lit c.requires.well c.requires.head c.requires.within c.requires.watched.lists in
-    let n = ap (λ (X : Watches). length X.lists) c.take_list-list.ensures.taken in
-    let m = length-set W.lists c.args.lit [] in
-    let k = c.in_ok-end.ensures.lists in
-    omega (arith, h, n, m, k)
+    let h = taken-inside c.requires c.take_list-list.ensures.taken c.take_list-list.ensures.list in
+    omega (arith, h, c.in_ok-end.ensures.lists)
+
+pub returns-clause-goes : goal.returns-clause-goes
+returns-clause-goes g c = goes-put c.in_ok-end.ensures.goes c.put_list.ensures

@@ -40,6 +40,13 @@ class Formula:
         self.clauses += [[-result, one, other], [-result, -one, -other], [result, -one, other], [result, one, -other]]
         return result
 
+    def most(self, one, other, third):
+        """A new variable that is true where two of them are."""
+        result = self.new_variable()
+        for pair in itertools.combinations((one, other, third), 2):
+            self.clauses += [[-result, *pair], [result, *(-variable for variable in pair)]]
+        return result
+
 
 def write_clauses(path, variables, count, clauses):
     """Writes a formula of so many clauses, and counts its literals."""
@@ -196,6 +203,63 @@ def monitored_path(bits, steps, clauses, seed):
     formula.variables += bits * (steps + 1)
     for before, after in zip(states, states[1:]):
         formula.clauses += [renamed(clause, [*before, *after]) for clause in relation]
+    return formula
+
+
+def add_digits(formula, digits):
+    """Adds binary digits of one place, three at most, and gives the sum's digit and what is carried. None is a digit 0."""
+    digits = [digit for digit in digits if digit is not None]
+    if len(digits) < 2:
+        return (digits or [None])[0], None
+    total = formula.differ(digits[0], digits[1])
+    if len(digits) == 2:
+        return total, formula.both(*digits)
+    return formula.differ(total, digits[2]), formula.most(*digits)
+
+
+def add_product(formula, one, other):
+    """Adds a multiplier of two numbers, and gives the product's digits. Digits are binary, the lowest first."""
+    total = [None] * (len(one) + len(other))
+    for place, digit in enumerate(other):
+        carry = None
+        for there, factor in enumerate(one, place):
+            total[there], carry = add_digits(formula, [total[there], formula.both(factor, digit), carry])
+        total[place + len(one)] = carry
+    return [digit for digit in total if digit is not None]
+
+
+def two_numbers(formula, bits):
+    """The variables of the digits of two numbers."""
+    return [[formula.new_variable() for _ in range(bits)] for _ in range(2)]
+
+
+def commutativity(bits):
+    """Is there a pair of numbers of so many digits whose product depends on their order? Unsatisfiable."""
+    formula = Formula()
+    one, other = two_numbers(formula, bits)
+    products = zip(add_product(formula, one, other), add_product(formula, other, one))
+    formula.clauses.append([formula.differ(here, there) for here, there in products])
+    return formula
+
+
+def factoring(bits, value):
+    """Is the value a product of two numbers of so many digits, both above 1?"""
+    formula = Formula()
+    numbers = two_numbers(formula, bits)
+    for place, digit in enumerate(add_product(formula, *numbers)):
+        formula.clauses.append([digit if value >> place & 1 else -digit])
+    formula.clauses += [number[1:] for number in numbers]
+    return formula
+
+
+def parity(variables, seed):
+    """Is a sum of bits even, added in one order, and odd in another? Unsatisfiable."""
+    numbers, formula = Numbers(seed), Formula(variables)
+    for sign in -1, 1:
+        total, *rest = different(numbers, variables, variables)
+        for variable in rest:
+            total = formula.differ(total, variable)
+        formula.clauses.append([sign * total])
     return formula
 
 

@@ -1,41 +1,42 @@
 -- A clause is accepted: its names come into use, their variables take solver variables, and it is loaded.
-use Rattle.std.proofs.Common.{◌≡◌, ◌≢◌, ℕ, zero, suc, ◌+◌, ◌-◌, ◌<◌, ◌≤◌, nat_lt, if◌then◌else◌, Bool, true, false, Option, Some, None, List, [], ◌∷◌, inl, inr, ⊎_elim, length, map, sym, ap, ap₂, ◌∙◌, subst, refl, arith, rules}
+use Rattle.std.proofs.Common.{◌≡◌, ◌≢◌, ℕ, zero, suc, ◌+◌, ◌-◌, ◌<◌, ◌≤◌, nat_lt, if◌then◌else◌, Bool, true, false, Option, Some, None, List, [], ◌∷◌, ◌++◌, ◌⊎◌, inl, inr, ⊎_elim, length, map, sym, ap, ap₂, ◌∙◌, subst, refl, arith, rules}
 use Rattle.std.proofs.lemmas.Bool.{lt-ltb, cases_lt}
 use Rattle.varisat_theory.specs.Membership.{◌∈◌}
-use Rattle.varisat_theory.specs.Literals.{Literal, Clause, variable_of}
-use Rattle.varisat_theory.specs.Derivations.{Line}
+use Rattle.varisat_theory.specs.Literals.{Literal, Clause, Assignment, variable_of}
 use Rattle.varisat_theory.specs.Searches.{IsLiteralOf}
-use Rattle.varisat_theory.specs.Outcomes.{Outcome, Loads, Proves}
+use Rattle.varisat_theory.specs.Outcomes.{Loads}
 use Rattle.varisat_theory.specs.Outcomes as outcome
 use Rattle.varisat_theory.proofs.Renaming.{∈-map, map-∈}
-use Rattle.varisat_theory.proofs.StepCounts.{by_derives}
+use Rattle.varisat_theory.proofs.Members.{∈-append_left}
+use Rattle.varisat_theory.proofs.Sound.{core_stays}
 use Rattle.varisat_prop.specs.View.{View, WellFormed}
 use Rattle.varisat_names.specs.VarBiMap.{BiMap}
 use Rattle.varisat_search.specs.declared.state.SatState.{SatState}
 use Rattle.varisat_search.specs.declared.state.SatState.TheVariants as verdict
 use Rattle.varisat_search.specs.Seen.{search_of, outcome_of}
-use Rattle.varisat_search.specs.Steps.{assignment_of}
+use Rattle.varisat_search.specs.AssumptionParts.{AssumptionParts}
+use Rattle.varisat_search.specs.Loading.{loaded_outcome}
+use Rattle.varisat_search.specs.Steps.{assignment_of, reopened_state}
 use Rattle.varisat_names.specs.Maps.{chain}
 use Rattle.varisat_names.specs.VarMap.{at, IsFull}
 use Rattle.varisat_names.specs.VarData.{fresh, kept_at}
 use Rattle.varisat_names.specs.Variables.{Tables, IsGiven, AreNextGiven, IsTaken}
 use Rattle.varisat_names.proofs.Maps.{updated-at, updated-other, updated-all, chain-some, chain-through, is-some}
-use Rattle.varisat.specs.States.{State, Ledger, join_counted, Verdict, Unknown, Sat, Unsat}
+use Rattle.varisat.specs.States.{State, Ledger, join_counted, Verdict, Unknown, Sat, Unsat, UnsatUnderAssumptions, IsRight}
 use Rattle.varisat.specs.Names.{bring, bring_next, bring_if_free, name_one, name_all, through_names}
 use Rattle.varisat.specs.Calls.{VerdictAfter, Refuted, Reopened, append_clause, reopened_verdict, with_verdict}
 use Rattle.varisat.specs.Carried.{carry, value_or}
-use Rattle.varisat.specs.Spaces.{Spaces, Carrying, IsWide, translation, SearchHolds, VerdictFits, Links, SpacesFit}
+use Rattle.varisat.specs.Spaces.{Spaces, Carrying, IsWide, translation, SearchHolds, CoreFits, without_core, VerdictFits, Links, SpacesFit}
 use Rattle.varisat.specs.Summaries.{Summary, spaces, spaces_of, StandsFor}
-use Rattle.varisat.specs.Searches.{IsOpen}
 use Rattle.varisat.specs.Accepting.{IsPlain, AreNamedInTurn, AreTakenInTurn, AreTakenFor, AreJoined}
-use Rattle.varisat.proofs.SpacesMoves.{give, take_solver, count, solver_literal, AreLong, AreInUse}
+use Rattle.varisat.proofs.SpacesMoves.{give, take_solver, count, solver_literal, accept}
 use Rattle.varisat.proofs.NewNames.{given}
-use Rattle.varisat.proofs.Counted.{counted, join-more, join-has, join-only, join-once}
+use Rattle.varisat.proofs.Counted.{counted, right-more, join-more, join-has, join-only, join-once}
 use Rattle.varisat.proofs.AcceptSolverVariables.{taken, solvers-few}
 use Rattle.varisat.proofs.Relinked.{relinked}
-use Rattle.varisat.proofs.SearchHeld.{held-on}
+use Rattle.varisat.proofs.ModelsFit.{is-core}
 use Rattle.varisat.proofs.AcceptLoad.{loaded}
-use Rattle.varisat.proofs.SolveVerdict.{forgotten, spaces-same}
+use Rattle.varisat.proofs.SolveVerdict.{forgotten, core-known, model-same, spaces-same}
 use Rattle.varisat.proofs.Carried.{carry-at}
 use Rattle.varisat.proofs.PlainTables.{next-plain, named-plain, taken-plain, taken-in-turn-plain, taken-users}
 use Rattle.varisat.proofs.SearchViews.{view-long, view-inside}
@@ -65,6 +66,8 @@ given-spaces g s new u x (w, k) free n =
           y
           (λ m. ap (λ d. value_or d.unit f (at new.solvers.forward y)) (n.kept.at_each y ∙ updated-other (kept_at g.tables.kept) x fresh y m) ∙ ap (value_or (kept_at g.tables.kept y).unit f) (solver y));
       assumptions = refl;
+      core = refl;
+      working = refl;
       search = refl;
       outcome = refl;
       var_count = refl;
@@ -110,8 +113,11 @@ named-all (l ∷ d) g s new f n (mid, e, rest) =
 
 -- 2. Solver variables, where no model is told.
 
-pub taken-one : (g : Summary) (s : State) (new : Tables) (x v i : ℕ) → (w : Carrying) → Links w (spaces g) s → g.sat_state ≡ verdict.Unknown → IsPlain g.tables → w.identity x ≡ Some i → i ∈ s.counted → at g.tables.solvers.forward x ≡ None → IsTaken g.tables new x v → SpacesFit (spaces (with_tables new g)) s
-taken-one g s new x v i w k unknown n is spoken free t =
+abbrev pub HasNoModel : Summary → Type 0
+HasNoModel g = (a : Assignment) → (spaces g).outcome ≡ outcome.Sat a → ⊥
+
+pub taken-one : (g : Summary) (s : State) (new : Tables) (x v i : ℕ) → (w : Carrying) → Links w (spaces g) s → HasNoModel g → IsPlain g.tables → w.identity x ≡ Some i → i ∈ s.counted → at g.tables.solvers.forward x ≡ None → IsTaken g.tables new x v → SpacesFit (spaces (with_tables new g)) s
+taken-one g s new x v i w k none n is spoken free t =
     spaces-same (take_solver x v (spaces g)) (spaces (with_tables new g)) s (record {
       global_from_user = λ u. ap (λ m. at m.forward u) t.users;
       user_from_global = λ y. ap (λ m. at m.backward y) t.users;
@@ -119,15 +125,17 @@ taken-one g s new x v i w k unknown n is spoken free t =
       solver_from_global = t.solvers.forward.at_each;
       global_from_solver = t.solvers.backward.at_each;
       kept = λ y. ap (λ m. kept_at m y) t.kept;
-      model = λ a e y. absurd (let z : outcome.Unknown ≡ outcome.Sat a = sym (ap (outcome_of g.search) unknown) ∙ e in cc);
+      model = λ a e y. absurd (none a e);
       assumptions = refl;
+      core = refl;
+      working = refl;
       search = refl;
       outcome = refl;
       var_count = refl;
       hidden = refl;
     }) (w, taken w (spaces g) s x i v k is spoken free t.least.0 (n.no_units x))
 
-pub taken-in-turn : (xs : List ℕ) (g : Summary) (s : State) (new : Tables) → SpacesFit (spaces g) s → g.sat_state ≡ verdict.Unknown → IsPlain g.tables → ((x : ℕ) → x ∈ xs → (u : ℕ) × (at g.tables.users.forward u ≡ Some x) × ((i : ℕ) → s.names u ≡ Some i → i ∈ s.counted)) → AreTakenInTurn xs g.tables new → SpacesFit (spaces (with_tables new g)) s
+pub taken-in-turn : (xs : List ℕ) (g : Summary) (s : State) (new : Tables) → SpacesFit (spaces g) s → HasNoModel g → IsPlain g.tables → ((x : ℕ) → x ∈ xs → (u : ℕ) × (at g.tables.users.forward u ≡ Some x) × ((i : ℕ) → s.names u ≡ Some i → i ∈ s.counted)) → AreTakenInTurn xs g.tables new → SpacesFit (spaces (with_tables new g)) s
 taken-in-turn [] g s new f o n a e = subst (λ t. SpacesFit (spaces (with_tables t g)) s) (sym e) f
 taken-in-turn (x ∷ xs) g s new (w, k) o n a (mid, v, free, t, rest) =
     let (u, e, c) = a x (inl refl) in
@@ -137,39 +145,39 @@ taken-in-turn (x ∷ xs) g s new (w, k) o n a (mid, v, free, t, rest) =
     (λ y h. let (z, q, r) = a y (inr h) in (z, ap (λ m. at m.forward z) t.users ∙ q, r))
     rest
 
--- 3. More variables in the search.
+-- 3. Another view of the same search.
 
-pub raised : (g : Summary) (s : State) (t : View) (lines : List Line) → SpacesFit (spaces g) s → g.sat_state ≡ verdict.Unknown → Proves 0 (search_of g.search) (search_of t) lines → AreLong (search_of t) → AreInUse (spaces g) (search_of t) → length t.values ≡ length g.tables.solvers.backward → IsFull g.tables.solvers.backward → SpacesFit (spaces (record g { search = t })) s
-raised g s t lines (w, k) unknown proves long in-use n full =
-    let o = ap (outcome_of g.search) unknown in
-    let h = subst (SearchHolds s.clauses (translation w (spaces g)) (search_of g.search)) o k.holds in
-    let (after, d, fits) = proves.holds h.held h.holds in
-    let holds = held-on s.clauses (translation w (spaces g)) (search_of g.search) (search_of t) outcome.Unknown h long (λ _. proves.covers) lines after (by_derives 0 h.held lines after d) fits
-    (λ l a. let (x, b) = in-use l a in let q = k.solvers.live (variable_of l) x b in (q.0, chain-some (at g.tables.solvers.backward) w.identity (variable_of l) x b ∙ q.1)) in
-    let m : VerdictFits w.identity (spaces g).model outcome.Unknown s.verdict = subst (λ y. VerdictFits w.identity (spaces g).model y s.verdict) o k.verdict in
-    let few = solvers-few w (spaces g) s (length g.tables.solvers.backward) k full in (
+outcome-alike : (s t : View) (core : List Literal) (sat : SatState) → ((a : Assignment) → outcome_of s core sat ≡ outcome.Sat a → ⊥) → outcome_of t core sat ≡ outcome_of s core sat
+outcome-alike s t core verdict.Unknown n = refl
+outcome-alike s t core verdict.Sat n = absurd (n (assignment_of s) refl)
+outcome-alike s t core verdict.Unsat n = refl
+outcome-alike s t core verdict.UnsatUnderAssumptions n = refl
+
+pub raised : (g : Summary) (s : State) (t : View) → SpacesFit (spaces g) s → HasNoModel g → search_of t ≡ search_of g.search → length t.values ≡ length g.tables.solvers.backward → IsFull g.tables.solvers.backward → SpacesFit (spaces (record g { search = t })) s
+raised g s t (w, k) none seen n full =
+    let p = spaces g in
+    let q = spaces (record g { search = t }) in
+    let o = outcome-alike g.search t g.assumed.failed_core g.sat_state none in
+    let few = solvers-few w p s (length g.tables.solvers.backward) k full in (
       w,
-      relinked w (spaces g) (spaces (record g { search = t })) s s k (record {
+      relinked w p q s s k (record {
         solvers = k.solvers;
-        holds = subst (SearchHolds s.clauses (translation w (spaces g)) (search_of t)) (sym (ap (outcome_of t) unknown)) holds;
+        holds = subst (λ y. SearchHolds s.clauses (translation w p) (search_of t) (without_core y)) (sym o) (subst (λ y. SearchHolds s.clauses (translation w p) y (without_core p.outcome)) (sym seen) k.holds);
         assumptions = k.assumptions;
-        verdict = subst (λ y. VerdictFits w.identity (spaces (record g { search = t })).model y s.verdict) (sym (ap (outcome_of t) unknown)) (open-alike w.identity (spaces g).model (spaces (record g { search = t })).model s.verdict m);
+        working = k.working;
+        verdict = subst (λ y. VerdictFits w.identity q.model y s.verdict) (sym o) (model-same w.identity p.model q.model p.outcome s.verdict (λ a e. absurd (none a e)) k.verdict);
+        core = k.core;
         right = k.right;
         few = subst (λ c. c ≤ length s.counted) (sym n) few;
       }),
     )
-  where
-    open-alike : (id : ℕ → Option ℕ) (m m' : ℕ → Bool) (v : Verdict) → VerdictFits id m outcome.Unknown v → VerdictFits id m' outcome.Unknown v
-    open-alike id m m' Unknown f = tt
-    open-alike id m m' (Sat a) f = f
-    open-alike id m m' Unsat f = f
 
--- 4. The clause.
+-- 4. What a clause and a list of assumptions begin with.
 
 -- the flags do not matter
 pub ledger-free : (w : Carrying) (p : Spaces) (s : State) (l : Ledger) → Links w p s → Links w p (record s { ledger = l })
 ledger-free w p s l k =
-    relinked w p p s (record s { ledger = l }) k (record { solvers = k.solvers; holds = k.holds; assumptions = k.assumptions; verdict = k.verdict; right = k.right; few = k.few })
+    relinked w p p s (record s { ledger = l }) k (record { solvers = k.solvers; holds = k.holds; assumptions = k.assumptions; working = k.working; verdict = k.verdict; core = k.core; right = k.right; few = k.few })
 
 -- the names of a clause that are in use are counted with it
 pub counted-spaces : (g : Summary) (s : State) (d : Clause) → SpacesFit (spaces g) s → ((l : Literal) → l ∈ d → (x : ℕ) × (at g.tables.users.forward (variable_of l) ≡ Some x)) → SpacesFit (spaces g) (count (join_counted s.counted (map variable_of (map (through_names s) d))) s)
@@ -188,15 +196,91 @@ counted-spaces g s d (w, k) named =
           (join-once is s.counted k.well_formed.once),
     )
 
-open-not-unsat : (search : View) (sat : SatState) (id : ℕ → Option ℕ) (m : ℕ → Bool) (v : Verdict) → IsOpen sat → VerdictFits id m (outcome_of search sat) v → (v ≢ Unsat) × (reopened_verdict v ≡ Unknown)
-open-not-unsat search verdict.Unknown id m Unknown o f = (λ e. let z : Unknown ≡ Unsat = e in cc, refl)
-open-not-unsat search verdict.Unknown id m (Sat a) o f = absurd f
-open-not-unsat search verdict.Unknown id m Unsat o f = absurd f
-open-not-unsat search verdict.Sat id m Unknown o f = absurd f
-open-not-unsat search verdict.Sat id m (Sat a) o f = (λ e. let z : Sat a ≡ Unsat = e in cc, refl)
-open-not-unsat search verdict.Sat id m Unsat o f = absurd f
-open-not-unsat search verdict.Unsat id m v o f = absurd o
-open-not-unsat search verdict.UnsatUnderAssumptions id m v o f = absurd o
+-- the names are in use, as their variables have solver variables
+name-of : (d : List Literal) (named taken : Tables) (l : Literal) → AreTakenFor d named taken → l ∈ d → (x : ℕ) × (at taken.users.forward (variable_of l) ≡ Some x)
+name-of d named taken l e h = let (v, q) = e.all l h in let (x, a, b) = chain-through (at taken.users.forward) (at taken.solvers.forward) (variable_of l) v q in (x, a)
+
+-- the identities are counted, their variables take solver variables, and the search has these
+pub brought-in : (d : List Literal) (g : Summary) (n : State) (taken : Tables) (t : View) → SpacesFit (spaces g) n → HasNoModel g → IsPlain g.tables → AreTakenFor d g.tables taken → search_of t ≡ search_of g.search → length t.values ≡ length taken.solvers.backward → SpacesFit (spaces (record g { tables = taken; search = t })) (count (join_counted n.counted (map variable_of (map (through_names n) d))) n)
+brought-in d g n taken t f none plain e seen c =
+    let (users, kept) = taken-users e.globals g.tables taken e.in_turn in
+    let is = map variable_of (map (through_names n) d) in
+    let f3 = counted-spaces g n d f (λ l h. let (x, q) = name-of d g.tables taken l e h in (x, ap (λ m. at m.forward (variable_of l)) (sym users) ∙ q)) in
+    let f4 = taken-in-turn e.globals g (count (join_counted n.counted is) n) taken f3 none plain
+    (λ x h. let (l, i, q) = e.named x h in (variable_of l, q, λ j r. join-has is n.counted j (subst (λ y. y ∈ is) (carry-at n.names l j r) (∈-map variable_of (through_names n l) (map (through_names n) d) (∈-map (through_names n) l d i)))))
+    e.in_turn in
+    raised (with_tables taken g) (count (join_counted n.counted is) n) t f4 none seen c (taken-in-turn-plain e.globals g.tables taken plain e.in_turn).nothing_hidden.solvers
+
+pub in-use-all : (t : Tables) (s : View) → IsFull t.solvers.backward → length s.values ≡ length t.solvers.backward → WellFormed s → (l : Literal) → IsLiteralOf (search_of s) l → (x : ℕ) × (at t.solvers.backward (variable_of l) ≡ Some x)
+in-use-all t s full n w l h =
+    let b = view-inside s l w h in
+    ⊎_elim (λ e. absurd (full (variable_of l) (omega (arith, b, n)) e)) (λ r. r) (is-some (at t.solvers.backward (variable_of l)))
+
+-- 5. The clause.
+
+-- under Unsat alone the state's verdict is Unsat
+fits-unsat : (search : View) (core : List Literal) (sat : SatState) (id : ℕ → Option ℕ) (m : ℕ → Bool) → VerdictFits id m (outcome_of search core sat) Unsat → sat ≡ verdict.Unsat
+fits-unsat search core verdict.Unknown id m f = absurd f
+fits-unsat search core verdict.Sat id m f = absurd f
+fits-unsat search core verdict.Unsat id m f = refl
+fits-unsat search core verdict.UnsatUnderAssumptions id m f = absurd f
+
+not-unsat : (search : View) (core : List Literal) (sat : SatState) (id : ℕ → Option ℕ) (m : ℕ → Bool) (v : Verdict) → sat ≢ verdict.Unsat → VerdictFits id m (outcome_of search core sat) v → v ≢ Unsat
+not-unsat search core sat id m v o f e = o (fits-unsat search core sat id m (subst (VerdictFits id m (outcome_of search core sat)) e f))
+
+reopens : (search : View) (core : List Literal) (sat : SatState) (id : ℕ → Option ℕ) (m : ℕ → Bool) (v : Verdict) → verdict.Unknown ≡ reopened_state sat → VerdictFits id m (outcome_of search core sat) v → reopened_verdict v ≡ Unknown
+reopens search core verdict.Unknown id m Unknown e f = refl
+reopens search core verdict.Unknown id m (Sat a) e f = absurd f
+reopens search core verdict.Unknown id m Unsat e f = absurd f
+reopens search core verdict.Unknown id m (UnsatUnderAssumptions c) e f = absurd f
+reopens search core verdict.Sat id m Unknown e f = absurd f
+reopens search core verdict.Sat id m (Sat a) e f = refl
+reopens search core verdict.Sat id m Unsat e f = absurd f
+reopens search core verdict.Sat id m (UnsatUnderAssumptions c) e f = absurd f
+reopens search core verdict.Unsat id m v e f = absurd cc
+reopens search core verdict.UnsatUnderAssumptions id m v e f = absurd cc
+
+keeps-core : (sat : SatState) → verdict.UnsatUnderAssumptions ≡ reopened_state sat → sat ≡ verdict.UnsatUnderAssumptions
+keeps-core verdict.Unknown e = absurd cc
+keeps-core verdict.Sat e = absurd cc
+keeps-core verdict.Unsat e = absurd cc
+keeps-core verdict.UnsatUnderAssumptions e = refl
+
+no-sat : (sat : SatState) → (verdict.Sat ≡ reopened_state sat) ⊎ (verdict.Sat ≡ verdict.Unsat) → ⊥
+no-sat sat (inr e) = cc
+no-sat verdict.Unknown (inl e) = cc
+no-sat verdict.Sat (inl e) = cc
+no-sat verdict.Unsat (inl e) = cc
+no-sat verdict.UnsatUnderAssumptions (inl e) = cc
+
+-- What loading a clause makes of a verdict v, where x was found with the verdict forgotten: a core stays one.
+module _ (w : Carrying) (p : Spaces) (s : State) (c : Clause) (new old : View) (found core : List Literal) (id : ℕ → Option ℕ) (m : ℕ → Bool) where
+  pub settled : (sat after : SatState) (v x : Verdict) → Links w (record p { outcome = loaded_outcome after }) (accept c x s) → VerdictAfter s.clauses c Unknown x → VerdictFits id m (outcome_of old core sat) v → (after ≡ reopened_state sat) ⊎ (after ≡ verdict.Unsat) → CoreFits s.names p.core v → IsRight s.clauses s.assumptions s.counted v →
+      (y : Verdict) × VerdictAfter s.clauses c v y × Links w (record p { outcome = outcome_of new found after }) (accept c y s)
+  settled sat verdict.Unknown v Unknown k (Refuted q b) f e t r = absurd cc
+  settled sat verdict.Unknown v Unknown k (Reopened q b) f (inl e) t r = (Unknown, Reopened (sym (reopens old core sat id m v e f)) b, k)
+  settled sat verdict.Unknown v Unknown k (Reopened q b) f (inr e) t r = absurd cc
+  settled sat verdict.Unknown v (Sat a) k q f e t r = absurd k.verdict
+  settled sat verdict.Unknown v Unsat k q f e t r = absurd k.verdict
+  settled sat verdict.Unknown v (UnsatUnderAssumptions d) k q f e t r = absurd k.verdict
+  settled sat verdict.Sat v x k q f e t r = absurd (no-sat sat e)
+  settled sat verdict.Unsat v Unknown k q f e t r = absurd k.verdict
+  settled sat verdict.Unsat v (Sat a) k q f e t r = absurd k.verdict
+  settled sat verdict.Unsat v Unsat k (Refuted q b) f e t r = (Unsat, Refuted q b, k)
+  settled sat verdict.Unsat v Unsat k (Reopened q b) f e t r = absurd cc
+  settled sat verdict.Unsat v (UnsatUnderAssumptions d) k q f e t r = absurd k.verdict
+  settled sat verdict.UnsatUnderAssumptions v Unknown k (Refuted q b) f e t r = absurd cc
+  settled sat verdict.UnsatUnderAssumptions v Unknown k (Reopened q b) f (inl e) t r =
+      let (d, z) = is-core id m core v (subst (λ y. VerdictFits id m (outcome_of old core y) v) (keeps-core sat e) f) in (
+        UnsatUnderAssumptions d,
+        Reopened (sym (ap reopened_verdict z)) b,
+        core-known w (record p { outcome = outcome.Unknown }) (accept c Unknown s) found d k refl (subst (CoreFits s.names p.core) z t)
+            (core_stays s.clauses (s.clauses ++ c ∷ []) s.assumptions d (λ x h. ∈-append_left x s.clauses (c ∷ []) h) (subst (IsRight s.clauses s.assumptions s.counted) z r)),
+      )
+  settled sat verdict.UnsatUnderAssumptions v Unknown k (Reopened q b) f (inr e) t r = absurd cc
+  settled sat verdict.UnsatUnderAssumptions v (Sat a) k q f e t r = absurd k.verdict
+  settled sat verdict.UnsatUnderAssumptions v Unsat k q f e t r = absurd k.verdict
+  settled sat verdict.UnsatUnderAssumptions v (UnsatUnderAssumptions d) k q f e t r = absurd k.verdict
 
 -- a wide clause has several literals
 several : (d : Clause) → IsWide d → 1 < length d
@@ -209,54 +293,50 @@ several (x ∷ []) ((l, m, i, j, n), t) = absurd (n (one i ∙ sym (one j)))
 several (x ∷ y ∷ d) w = omega arith
 
 -- What accepting a clause did, step by step.
-pub record Steps (g : Summary) (d : Clause) (named taken joined : Tables) (mid new : View) : Type 0 where
+pub record Steps (g : Summary) (d : Clause) (named taken joined : Tables) (mid new : View) (parts : AssumptionParts) (after : SatState) : Type 0 where
   pub plain : IsPlain g.tables
+  pub not_unsat : g.sat_state ≢ verdict.Unsat
   pub are_named : AreNamedInTurn d g.tables named
   pub are_taken : AreTakenFor d named taken
   pub are_joined : AreJoined d taken joined
-  pub raised : Proves 0 (search_of g.search) (search_of mid) []
+  pub seen : search_of mid ≡ search_of g.search
   pub count : length mid.values ≡ length taken.solvers.backward
   pub same_count : length new.values ≡ length mid.values
   pub well_mid : WellFormed mid
   pub well_new : WellFormed new
+  pub loads : Loads (search_of mid) (search_of new) (map (carry (chain (at joined.users.forward) (at joined.solvers.forward))) d) (loaded_outcome after) []
+  pub verdict : (after ≡ reopened_state g.sat_state) ⊎ (after ≡ verdict.Unsat)
+  pub parts_stay : parts ≡ record g.assumed { levels = 0 }
 
-pub in-use-all : (t : Tables) (s : View) → IsFull t.solvers.backward → length s.values ≡ length t.solvers.backward → WellFormed s → (l : Literal) → IsLiteralOf (search_of s) l → (x : ℕ) × (at t.solvers.backward (variable_of l) ≡ Some x)
-in-use-all t s full n w l h =
-    let b = view-inside s l w h in
-    ⊎_elim (λ e. absurd (full (variable_of l) (omega (arith, b, n)) e)) (λ r. r) (is-some (at t.solvers.backward (variable_of l)))
-
-pub clause-accepted : (g : Summary) (s : State) (d : Clause) (named taken joined : Tables) (mid new : View) (after : SatState) (lines : List Line) → Steps g d named taken joined mid new → IsOpen g.sat_state → Loads (search_of mid) (search_of new) (map (carry (chain (at joined.users.forward) (at joined.solvers.forward))) d) (outcome_of new after) lines → SpacesFit (spaces g) s →
-    (x : Verdict) × VerdictAfter s.clauses (map (through_names (name_all d s)) d) s.verdict x × SpacesFit (spaces_of joined new after) (append_clause (map (through_names (name_all d s)) d) x (name_all d s))
-clause-accepted g s d named taken joined mid new after lines t o loads f =
+pub clause-accepted : (g : Summary) (s : State) (d : Clause) (named taken joined : Tables) (mid new : View) (parts : AssumptionParts) (after : SatState) → Steps g d named taken joined mid new parts after → SpacesFit (spaces g) s →
+    (x : Verdict) × VerdictAfter s.clauses (map (through_names (name_all d s)) d) s.verdict x × SpacesFit (spaces_of joined new parts after) (append_clause (map (through_names (name_all d s)) d) x (name_all d s))
+clause-accepted g s d named taken joined mid new parts after t f =
     let n = name_all d s in
     let rest = rest-all d s in
     let c = map (through_names n) d in
-    let (users, kept) = taken-users t.are_taken.globals named taken t.are_taken.in_turn in
     let plain-named = named-plain d g.tables named t.plain t.are_named in
     let plain = taken-in-turn-plain t.are_taken.globals named taken plain-named t.are_taken.in_turn in
     let (w1, k1) = named-all d g s named f t.plain t.are_named in
-    let (bad, opened) = open-not-unsat g.search g.sat_state w1.identity (spaces (with_tables named g)).model n.verdict o k1.verdict in
+    let p1 = spaces (with_tables named g) in
+    let bad = not-unsat g.search g.assumed.failed_core g.sat_state w1.identity p1.model n.verdict t.not_unsat k1.verdict in
     let g2 : Summary = record g { tables = named; sat_state = verdict.Unknown } in
-    let f2 : SpacesFit (spaces g2) (with_verdict Unknown n) = (w1, forgotten w1 (spaces (with_tables named g)) n k1 bad) in
-    let name = λ (l : Literal) (h : l ∈ d). name-of named taken d l t.are_taken users h in
-    let f3 = counted-spaces g2 (with_verdict Unknown n) d f2 (λ l h. let (x, e) = name l h in (x, ap (λ m. at m.forward (variable_of l)) (sym users) ∙ e)) in
+    let f2 : SpacesFit (spaces g2) (with_verdict Unknown n) = (w1, forgotten w1 p1 n k1 bad) in
     let s3 = count (join_counted n.counted (map variable_of c)) (with_verdict Unknown n) in
-    let f4 = taken-in-turn t.are_taken.globals g2 s3 taken f3 refl plain-named
-    (λ x h. let (l, i, e) = t.are_taken.named x h in (variable_of l, e, λ j q. join-has (map variable_of c) n.counted j (subst (λ y. y ∈ map variable_of c) (carry-at n.names l j q) (∈-map variable_of (through_names n l) c (∈-map (through_names n) l d i)))))
-    t.are_taken.in_turn in
-    let g4 : Summary = record g2 { tables = taken } in
-    let (w5, k5) = raised g4 s3 mid [] f4 refl t.raised (view-long mid t.well_mid) (in-use-all taken mid plain.nothing_hidden.solvers t.count t.well_mid) t.count plain.nothing_hidden.solvers in
-    let p = spaces (record g4 { search = mid }) in
+    let (w5, k5) = brought-in d g2 (with_verdict Unknown n) taken mid f2 (λ a e. let z : outcome.Unknown ≡ outcome.Sat a = e in cc) plain-named t.are_taken t.seen t.count in
+    let p = spaces (record g2 { tables = taken; search = mid }) in
     let j = t.are_joined in
     let same-literals : map (carry (chain (at joined.users.forward) (at joined.solvers.forward))) d ≡ map (solver_literal p) d = ap₂ (λ (a b : BiMap). map (carry (chain (at a.forward) (at b.forward))) d) j.users j.solvers in
-    let q = spaces_of joined new after in
-    let (x, v, k6) = loaded w5 p s3 d (kept_at joined.kept) k5 (λ l h. t.are_taken.all l h)
+    let q = spaces_of joined new parts after in
+    let (x, v, k6) = loaded w5 p s3 d k5 (λ l h. t.are_taken.all l h) (kept_at joined.kept)
     (record { rest = j.rest; fallen = j.fallen; wide = λ wide l x h e. j.joined (several d wide) l x h e })
-    (search_of new) (outcome_of new after) q.model lines refl (view-long mid t.well_mid) (view-long new t.well_new) (in-use-all taken new plain.nothing_hidden.solvers (t.same_count ∙ t.count) t.well_new)
-    (subst (λ e. Loads (search_of mid) (search_of new) e (outcome_of new after) lines) same-literals loads) in (
-      x,
-      subst (λ y. VerdictAfter s.clauses c y x) rest.verdict (after-open s.clauses c n.verdict x opened (subst (λ P. VerdictAfter P c Unknown x) rest.clauses v)),
-      spaces-same (record p { kept = kept_at joined.kept; search = search_of new; outcome = outcome_of new after; model = q.model }) q (append_clause c x n) (record {
+    (search_of new) (loaded_outcome after) q.model [] refl (view-long mid t.well_mid) (view-long new t.well_new) (in-use-all taken new plain.nothing_hidden.solvers (t.same_count ∙ t.count) t.well_new)
+    (subst (λ e. Loads (search_of mid) (search_of new) e (loaded_outcome after) []) same-literals t.loads) in
+    let p6 = record p { kept = kept_at joined.kept; search = search_of new; model = q.model } in
+    let (y, u, k7) = settled w5 p6 s3 c new g.search parts.failed_core g.assumed.failed_core w1.identity p1.model g.sat_state after n.verdict x k6 v k1.verdict t.verdict k1.core
+    (right-more n.clauses n.assumptions n.counted s3.counted n.verdict (join-more (map variable_of c) n.counted) k1.right) in (
+      y,
+      subst (λ z. VerdictAfter s.clauses c z y) rest.verdict (subst (λ P. VerdictAfter P c n.verdict y) rest.clauses u),
+      spaces-same (record p6 { outcome = outcome_of new parts.failed_core after }) q (append_clause c y n) (record {
         global_from_user = λ u. ap (λ m. at m.forward u) j.users;
         user_from_global = λ y. ap (λ m. at m.backward y) j.users;
         watermark = ap (λ m. length m.forward) j.users;
@@ -264,28 +344,16 @@ clause-accepted g s d named taken joined mid new after lines t o loads f =
         global_from_solver = λ u. ap (λ m. at m.backward u) j.solvers;
         kept = λ y. refl;
         model = λ a e y. refl;
-        assumptions = refl;
+        assumptions = ap (λ (a : AssumptionParts). a.user) t.parts_stay;
+        core = ap (λ (a : AssumptionParts). a.user_core) t.parts_stay;
+        working = ap (λ (a : AssumptionParts). a.working) t.parts_stay;
         search = refl;
         outcome = refl;
         var_count = t.same_count;
         hidden = refl;
-      }) (w5, k6),
+      }) (w5, k7),
     )
-  where
-    name-of : (named taken : Tables) (d : Clause) (l : Literal) → AreTakenFor d named taken → taken.users ≡ named.users → l ∈ d → (x : ℕ) × (at taken.users.forward (variable_of l) ≡ Some x)
-    name-of named taken d l t e h = let (v, q) = t.all l h in let (x, a, b) = chain-through (at taken.users.forward) (at taken.solvers.forward) (variable_of l) v q in (x, a)
 
-    after-open : (P : List Clause) (c : Clause) (v x : Verdict) → reopened_verdict v ≡ Unknown → VerdictAfter P c Unknown x → VerdictAfter P c v x
-    after-open P c v x e (Refuted a b) = Refuted a b
-    after-open P c v x e (Reopened a b) = Reopened (a ∙ sym e) b
-
--- a verdict that is kept and not Unsat is open
-still-open : (x : SatState) → (x ≡ verdict.Unsat → ⊥) → x ≢ verdict.UnsatUnderAssumptions → IsOpen x
-still-open verdict.Unknown n a = tt
-still-open verdict.Sat n a = tt
-still-open verdict.Unsat n a = n refl
-still-open verdict.UnsatUnderAssumptions n a = a refl
-
--- so that of the state isn't Unsat
-pub not-refuted : (g : Summary) (s : State) → StandsFor g s → g.ledger.valid ≡ true → (g.sat_state ≡ verdict.Unsat → ⊥) → g.sat_state ≢ verdict.UnsatUnderAssumptions → s.verdict ≢ Unsat
-not-refuted g s st v n a = let (w, k) = st.fits v in (open-not-unsat g.search g.sat_state w.identity (spaces g).model s.verdict (still-open g.sat_state n a) k.verdict).0
+-- where the search is not at Unsat, the state isn't
+pub not-refuted : (g : Summary) (s : State) → StandsFor g s → g.ledger.valid ≡ true → g.sat_state ≢ verdict.Unsat → s.verdict ≢ Unsat
+not-refuted g s st v n = let (w, k) = st.fits v in not-unsat g.search g.assumed.failed_core g.sat_state w.identity (spaces g).model s.verdict n k.verdict

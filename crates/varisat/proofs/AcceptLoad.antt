@@ -1,8 +1,8 @@
--- A clause is accepted.
-use Rattle.std.proofs.Common.{◌≡◌, ◌≢◌, ℕ, ◌<◌, Bool, true, false, Some, List, [], ◌∷◌, ◌++◌, inl, inr, ⊎_elim, sym, ap, ◌∙◌, subst, refl, map}
+-- A clause is accepted, or a list assumed.
+use Rattle.std.proofs.Common.{◌≡◌, ◌≢◌, ℕ, ◌<◌, Bool, true, false, Some, List, [], ◌∷◌, ◌++◌, ◌⊎◌, inl, inr, ⊎_elim, sym, ap, ◌∙◌, subst, refl, map}
 use Rattle.std.proofs.lemmas.List.{map-append}
 use Rattle.varisat_theory.specs.Membership.{◌∈◌}
-use Rattle.varisat_theory.specs.Literals.{Literal, Clause, variable_of, opposite, IsUnit, Satisfies}
+use Rattle.varisat_theory.specs.Literals.{Literal, Clause, variable_of, opposite, IsUnit, Satisfies, MakesTrue}
 use Rattle.varisat_theory.specs.Renaming.{rename}
 use Rattle.varisat_theory.specs.Derivations.{Line}
 use Rattle.varisat_theory.specs.Searches.{Search, Covers, CoversBy, IsCoveredBySearch, Tautology, KnownTrue, FixedTrue, Kept}
@@ -23,10 +23,10 @@ use Rattle.varisat.specs.States.{State, Verdict, Unknown, Unsat, IsRight}
 use Rattle.varisat.specs.Names.{through_names}
 use Rattle.varisat.specs.Calls.{ContradictsUnit, VerdictAfter, Refuted, Reopened}
 use Rattle.varisat.specs.Carried.{carry, is_forced}
-use Rattle.varisat.specs.Spaces.{Spaces, Carrying, IsWide, IsApart, IsolationCase, NotIsolated, Apart, Forced, IsolationFits, Translation, translation, SearchHolds, VerdictFits, Links}
-use Rattle.varisat.proofs.SpacesMoves.{AreTaken, solver_literal, IsTouched, accept, AreLong, AreInUse}
+use Rattle.varisat.specs.Spaces.{Spaces, Carrying, IsWide, IsApart, IsolationCase, NotIsolated, Apart, Forced, IsolationFits, Translation, translation, SearchHolds, CoreFits, without_core, VerdictFits, Links}
+use Rattle.varisat.proofs.SpacesMoves.{AreTaken, solver_literal, IsTouched, IsMarkedFor, accept, AreLong, AreInUse}
 use Rattle.varisat_names.proofs.Maps.{chain-some, chain-through}
-use Rattle.varisat.proofs.SpacesAgree.{identities-same, modes-same, units-same, marks-same}
+use Rattle.varisat.proofs.SpacesAgree.{identities-same, modes-same, units-same, isolation-same, marks-same}
 use Rattle.varisat.proofs.Carried.{carry-at, carry-sign, carry-opposite, satisfied-carried, forced-value, wide-back}
 use Rattle.varisat.proofs.AcceptSolverVariables.{one-solver}
 use Rattle.varisat.proofs.SearchHeld.{answers-covers, fixed-on, refuted}
@@ -39,7 +39,7 @@ map-empty : (f : Literal → Literal) (c : Clause) → map f c ≡ [] → c ≡ 
 map-empty f [] e = refl
 map-empty f (l ∷ c) e = absurd cc
 
-module _ (w : Carrying) (p : Spaces) (s : State) (d : Clause) (after : ℕ → VarData) (k : Links w p s) (taken : AreTaken p d) (touched : IsTouched p d after) where
+module _ (w : Carrying) (p : Spaces) (s : State) (d : Clause) (k : Links w p s) (taken : AreTaken p d) where
   r : Translation
   r = translation w p
 
@@ -194,73 +194,118 @@ module _ (w : Carrying) (p : Spaces) (s : State) (d : Clause) (after : ℕ → V
         in-clause : (l : Literal) → l ∈ c → (u : ℕ) × (r.solver (variable_of l) ≡ Some u)
         in-clause l i = let (m, a, q) = map-∈ (through_names s) l d i in let z = where-to m a in (z.v, ap r.solver (ap variable_of q ∙ carry-at s.names m z.i z.name) ∙ z.back)
 
-  settled-more : IsolationFits w.identity w.forced after (s.clauses ++ c ∷ []) s.made
+  -- the identities of the literals were made
+  made : (l : Literal) → l ∈ c → variable_of l < s.made
   unfolding c
-  settled-more i h = go (k.isolation i h)
-    where
-      still-open : (b : Bool) (x : ℕ) → (after x).isolated ≡ b → (p.kept x).isolated ≡ false → (after x).isolated ≡ false
-      still-open true x f o = let q : true ≡ false = sym (touched.fallen x f) ∙ o in absurd cc
-      still-open false x f o = f
+  made l h =
+      let (l0, a, z) = map-∈ (through_names s) l d h in
+      let y = where-to l0 a in
+      subst (λ j. j < s.made) (sym (ap variable_of z ∙ carry-at s.names l0 y.i y.name)) (k.identities.below y.x y.i y.stands)
 
-      by-mark : (b : Bool) (x : ℕ) → (after x).isolated ≡ b → w.identity x ≡ Some i → IsApart s.clauses i → (l0 : Literal) → l0 ∈ d → p.global_from_user (variable_of l0) ≡ Some x → IsolationCase w.identity w.forced after (s.clauses ++ map (through_names s) d ∷ []) i
-      by-mark false x q f apart l0 b g = NotIsolated x f q
-      by-mark true x q f apart l0 b g = Apart (λ D l a wide m z. ⊎_elim
-          (λ j. apart D l j wide m z)
-          (λ j. ⊎_elim (λ y. let n : true ≡ false = sym q ∙ touched.wide (wide-back s.names d (subst IsWide y wide)) l0 x b g in absurd cc) (λ y. absurd y) j)
-          (∈-append_cases D s.clauses (map (through_names s) d ∷ []) a))
+  -- A clause of which the marks of isolation fell.
+  module _ (after : ℕ → VarData) (touched : IsTouched p d after) where
+    settled-more : IsolationFits w.identity w.forced after (s.clauses ++ c ∷ []) s.made
+    unfolding c
+    settled-more i h = go (k.isolation i h)
+      where
+        still-open : (b : Bool) (x : ℕ) → (after x).isolated ≡ b → (p.kept x).isolated ≡ false → (after x).isolated ≡ false
+        still-open true x f o = let q : true ≡ false = sym (touched.fallen x f) ∙ o in absurd cc
+        still-open false x f o = f
 
-      go : IsolationCase w.identity w.forced p.kept s.clauses i → IsolationCase w.identity w.forced after (s.clauses ++ map (through_names s) d ∷ []) i
-      go (NotIsolated x f o) = NotIsolated x f (still-open (after x).isolated x refl o)
-      go (Apart apart) = ⊎_elim
-          (λ m. let (l, a, q) = map-∈ variable_of i (map (through_names s) d) m in
-          let (l0, b, z) = map-∈ (through_names s) l d a in
-          let y = where-to l0 b in
-          let ij : i ≡ y.i = q ∙ ap variable_of z ∙ carry-at s.names l0 y.i y.name in
-          by-mark (after y.x).isolated y.x refl (y.stands ∙ ap Some (sym ij)) apart l0 b y.named)
-          (λ n. Apart (λ b l a f g z. ⊎_elim (λ j. apart b l j f g z) (λ j. ⊎_elim (λ y. n (subst (λ v. v ∈ map variable_of (map (through_names s) d)) z (∈-map variable_of l (map (through_names s) d) (subst (λ u. l ∈ u) y g)))) (λ y. absurd y) j) (∈-append_cases b s.clauses (map (through_names s) d ∷ []) a)))
-          (∈-or_not i (map variable_of (map (through_names s) d)))
-      go (Forced b e) = Forced b e
+        by-mark : (b : Bool) (x : ℕ) → (after x).isolated ≡ b → w.identity x ≡ Some i → IsApart s.clauses i → (l0 : Literal) → l0 ∈ d → p.global_from_user (variable_of l0) ≡ Some x → IsolationCase w.identity w.forced after (s.clauses ++ map (through_names s) d ∷ []) i
+        by-mark false x q f apart l0 b g = NotIsolated x f q
+        by-mark true x q f apart l0 b g = Apart (λ D l a wide m z. ⊎_elim
+            (λ j. apart D l j wide m z)
+            (λ j. ⊎_elim (λ y. let n : true ≡ false = sym q ∙ touched.wide (wide-back s.names d (subst IsWide y wide)) l0 x b g in absurd cc) (λ y. absurd y) j)
+            (∈-append_cases D s.clauses (map (through_names s) d ∷ []) a))
 
-  stands : (t : Search) (v : Outcome) (m : ℕ → Bool) (x : Verdict) → SearchHolds (s.clauses ++ c ∷ []) r t v → VerdictFits w.identity m v x → IsRight (s.clauses ++ c ∷ []) s.assumptions s.counted x → Links w (record p { kept = after; search = t; outcome = v; model = m }) (accept c x s)
-  unfolding r c
-  stands t v m x holds fits right = record {
-    identities = identities-same w.identity w.global p.kept after s.made (λ x. ap (λ y. y.deleted) (touched.rest x)) k.identities;
-    names = k.names;
-    modes = modes-same w.identity p.global_from_user p.user_from_global p.global_from_user p.user_from_global p.kept after s.modes (λ u. refl) (λ x. refl) (λ x. ap (λ y. y.sampling_mode) (touched.rest x)) k.modes;
-    watermark = k.watermark;
-    units = units-same w.identity w.forced p.kept after s.counted (λ x. ap (λ y. y.unit) (touched.rest x)) k.units;
-    isolation = settled-more;
-    solvers = k.solvers;
-    holds = holds;
-    assumptions = k.assumptions;
-    marks = marks-same p.kept after p.assumptions (λ x. ap (λ y. y.assumed) (touched.rest x)) k.marks;
-    verdict = fits;
-    right = right;
-    well_formed = record {
-      one_to_one = k.well_formed.one_to_one;
-      free = k.well_formed.free;
-      named = k.well_formed.named;
-      accepted = λ b l i j. ⊎_elim (λ q. k.well_formed.accepted b l q j) (λ q. ⊎_elim (λ z. made l (subst (λ y. l ∈ y) z j)) (λ z. absurd z) q) (∈-append_cases b s.clauses (c ∷ []) i);
-      assumed = k.well_formed.assumed;
-      counted = k.well_formed.counted;
-      once = k.well_formed.once;
-    };
-    few = k.few;
-  }
-    where
-      made : (l : Literal) → l ∈ c → variable_of l < s.made
-      made l h = let (l0, a, z) = map-∈ (through_names s) l d h in
-          let y = where-to l0 a in
-          subst (λ j. j < s.made) (sym (ap variable_of z ∙ carry-at s.names l0 y.i y.name)) (k.identities.below y.x y.i y.stands)
+        go : IsolationCase w.identity w.forced p.kept s.clauses i → IsolationCase w.identity w.forced after (s.clauses ++ map (through_names s) d ∷ []) i
+        go (NotIsolated x f o) = NotIsolated x f (still-open (after x).isolated x refl o)
+        go (Apart apart) = ⊎_elim
+            (λ m. let (l, a, q) = map-∈ variable_of i (map (through_names s) d) m in
+            let (l0, b, z) = map-∈ (through_names s) l d a in
+            let y = where-to l0 b in
+            let ij : i ≡ y.i = q ∙ ap variable_of z ∙ carry-at s.names l0 y.i y.name in
+            by-mark (after y.x).isolated y.x refl (y.stands ∙ ap Some (sym ij)) apart l0 b y.named)
+            (λ n. Apart (λ b l a f g z. ⊎_elim (λ j. apart b l j f g z) (λ j. ⊎_elim (λ y. n (subst (λ v. v ∈ map variable_of (map (through_names s) d)) z (∈-map variable_of l (map (through_names s) d) (subst (λ u. l ∈ u) y g)))) (λ y. absurd y) j) (∈-append_cases b s.clauses (map (through_names s) d ∷ []) a)))
+            (∈-or_not i (map variable_of (map (through_names s) d)))
+        go (Forced b e) = Forced b e
 
-  pub loaded : (t : Search) (v : Outcome) (m : ℕ → Bool) (lines : List Line) → p.outcome ≡ outcome.Unknown → AreLong p.search → AreLong t → AreInUse p t → Loads p.search t (map (solver_literal p) d) v lines →
-      (x : Verdict) × VerdictAfter s.clauses (map (through_names s) d) Unknown x × Links w (record p { kept = after; search = t; outcome = v; model = m }) (accept (map (through_names s) d) x s)
-  unfolding c e r
-  loaded t v m lines o long-before long in-use loads =
-      let h = subst (SearchHolds s.clauses (translation w p) p.search) o k.holds in
-      let more = holds-more h t v lines loads long in-use in
-      ⊎_elim
-      (λ (q, u). let none = refuted (s.clauses ++ c ∷ []) (translation w p) t (subst (SearchHolds (s.clauses ++ c ∷ []) (translation w p) t) u more) in
-      (Unsat, Refuted refl none, stands t v m Unsat more (subst (λ y. VerdictFits w.identity m y Unsat) (sym u) tt) none))
-      (λ (q, u). (Unknown, Reopened refl (λ z. q (contradicted h long-before z)), stands t v m Unknown more (subst (λ y. VerdictFits w.identity m y Unknown) (sym u) tt) tt))
-      loads.verdict
+    stands : (t : Search) (v : Outcome) (m : ℕ → Bool) (x : Verdict) → SearchHolds (s.clauses ++ c ∷ []) r t (without_core v) → VerdictFits w.identity m v x → CoreFits s.names p.core x → IsRight (s.clauses ++ c ∷ []) s.assumptions s.counted x → Links w (record p { kept = after; search = t; outcome = v; model = m }) (accept c x s)
+    unfolding r c
+    stands t v m x holds fits core right = record {
+      identities = identities-same w.identity w.global p.kept after s.made (λ x. ap (λ y. y.deleted) (touched.rest x)) k.identities;
+      names = k.names;
+      modes = modes-same w.identity p.global_from_user p.user_from_global p.global_from_user p.user_from_global p.kept after s.modes (λ u. refl) (λ x. refl) (λ x. ap (λ y. y.sampling_mode) (touched.rest x)) k.modes;
+      watermark = k.watermark;
+      units = units-same w.identity w.forced p.kept after s.counted (λ x. ap (λ y. y.unit) (touched.rest x)) k.units;
+      isolation = settled-more;
+      solvers = k.solvers;
+      holds = holds;
+      assumptions = k.assumptions;
+      marks = marks-same p.global_from_user p.global_from_user p.kept after p.assumptions (λ u. refl) (λ x. ap (λ y. y.assumed) (touched.rest x)) k.marks;
+      working = record { used = k.working.used; part = k.working.part; implied = λ a m t. k.working.implied a (satisfies_fewer a s.clauses (c ∷ []) m) t };
+      verdict = fits;
+      core = core;
+      right = right;
+      well_formed = record {
+        one_to_one = k.well_formed.one_to_one;
+        free = k.well_formed.free;
+        named = k.well_formed.named;
+        accepted = λ b l i j. ⊎_elim (λ q. k.well_formed.accepted b l q j) (λ q. ⊎_elim (λ z. made l (subst (λ y. l ∈ y) z j)) (λ z. absurd z) q) (∈-append_cases b s.clauses (c ∷ []) i);
+        assumed = k.well_formed.assumed;
+        counted = k.well_formed.counted;
+        once = k.well_formed.once;
+      };
+      few = k.few;
+    }
+
+    pub loaded : (t : Search) (v : Outcome) (m : ℕ → Bool) (lines : List Line) → p.outcome ≡ outcome.Unknown → AreLong p.search → AreLong t → AreInUse p t → Loads p.search t (map (solver_literal p) d) v lines →
+        (x : Verdict) × VerdictAfter s.clauses (map (through_names s) d) Unknown x × Links w (record p { kept = after; search = t; outcome = v; model = m }) (accept (map (through_names s) d) x s)
+    unfolding c e r
+    loaded t v m lines o long-before long in-use loads =
+        let h = subst (SearchHolds s.clauses (translation w p) p.search) (ap without_core o) k.holds in
+        let more = holds-more h t v lines loads long in-use in
+        ⊎_elim
+        (λ (q, u). let none = refuted (s.clauses ++ c ∷ []) (translation w p) t (subst (SearchHolds (s.clauses ++ c ∷ []) (translation w p) t) u more) in
+        (Unsat, Refuted refl none, stands t v m Unsat (subst (SearchHolds (s.clauses ++ c ∷ []) (translation w p) t) (u ∙ sym (ap without_core u)) more) (subst (λ y. VerdictFits w.identity m y Unsat) (sym u) tt) tt none))
+        (λ (q, u). (Unknown, Reopened refl (λ z. q (contradicted h long-before z)), stands t v m Unknown (subst (SearchHolds (s.clauses ++ c ∷ []) (translation w p) t) (u ∙ sym (ap without_core u)) more) (subst (λ y. VerdictFits w.identity m y Unknown) (sym u) tt) tt tt))
+        loads.verdict
+
+  -- The list is assumed, of which the search has the literals. No verdict on the assumptions before is left.
+  module _ (after : ℕ → VarData) (marks : IsMarkedFor p d after) where
+    pub assumed : (told : List Literal) → (s.verdict ≡ Unknown) ⊎ (s.verdict ≡ Unsat) → Links w (record p { kept = after; assumptions = d; core = told; working = map (solver_literal p) d }) (record s { assumptions = map (through_names s) d })
+    unfolding c e r
+    assumed told cases = record {
+      identities = identities-same w.identity w.global p.kept after s.made (λ x. ap (λ y. y.deleted) (marks.rest x)) k.identities;
+      names = k.names;
+      modes = modes-same w.identity p.global_from_user p.user_from_global p.global_from_user p.user_from_global p.kept after s.modes (λ u. refl) (λ x. refl) (λ x. ap (λ y. y.sampling_mode) (marks.rest x)) k.modes;
+      watermark = k.watermark;
+      units = units-same w.identity w.forced p.kept after s.counted (λ x. ap (λ y. y.unit) (marks.rest x)) k.units;
+      isolation = isolation-same w.identity w.forced p.kept after s.clauses s.made (λ x. ap (λ y. y.isolated) (marks.rest x)) k.isolation;
+      solvers = k.solvers;
+      holds = k.holds;
+      assumptions = record { agree = refl; taken = taken };
+      marks = marks.fit;
+      working = record {
+        used = of-clause;
+        part = λ l h. subst (λ xs. l ∈ xs) same-clause h;
+        implied = λ a m t. subst (MakesTrue a) same-clause t;
+      };
+      verdict = k.verdict;
+      core = ⊎_elim (λ q. subst (CoreFits s.names told) (sym q) tt) (λ q. subst (CoreFits s.names told) (sym q) tt) cases;
+      right = ⊎_elim
+          (λ q. subst (IsRight s.clauses (map (through_names s) d) s.counted) (sym q) tt)
+          (λ q. subst (IsRight s.clauses (map (through_names s) d) s.counted) (sym q) (subst (IsRight s.clauses s.assumptions s.counted) q k.right))
+          cases;
+      well_formed = record {
+        one_to_one = k.well_formed.one_to_one;
+        free = k.well_formed.free;
+        named = k.well_formed.named;
+        accepted = k.well_formed.accepted;
+        assumed = made;
+        counted = k.well_formed.counted;
+        once = k.well_formed.once;
+      };
+      few = k.few;
+    }

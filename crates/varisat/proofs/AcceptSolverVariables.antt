@@ -11,10 +11,10 @@ use Rattle.varisat_names.specs.Maps.{updated, onward}
 use Rattle.varisat.specs.States.{State}
 use Rattle.varisat.specs.Names.{identity_of}
 use Rattle.varisat.specs.Carried.{carry, is_forced}
-use Rattle.varisat.specs.Spaces.{Spaces, Carrying, Translation, translation, SearchHolds, Links}
+use Rattle.varisat.specs.Spaces.{Spaces, Carrying, Translation, translation, SearchHolds, without_core, Links}
 use Rattle.varisat.proofs.SpacesMoves.{take_solver}
 use Rattle.varisat_names.proofs.Maps.{updated-at, updated-other, updated-all, joined, chain-some, chain-none, chain-through, is-some}
-use Rattle.varisat.proofs.SpacesAgree.{carry-same, rename-same}
+use Rattle.varisat.proofs.SpacesAgree.{carry-same, rename-same, working-same}
 use Rattle.varisat.proofs.NewNames.{linked}
 use Rattle.varisat.proofs.Relinked.{relinked}
 
@@ -65,7 +65,7 @@ module _ (w : Carrying) (p : Spaces) (s : State) (x i v : ℕ) (k : Links w p s)
   back-stays : (j u : ℕ) → r.solver j ≡ Some u → r'.solver j ≡ Some u
   back-stays j u e = back-other j (λ q. let z : None ≡ Some u = sym back-none ∙ ap r.solver (sym q) ∙ e in cc) ∙ e
 
-  taken-holds : SearchHolds s.clauses r' p.search p.outcome
+  taken-holds : SearchHolds s.clauses r' p.search (without_core p.outcome)
   unfolding r r'
   taken-holds =
       let h = k.holds in
@@ -110,10 +110,14 @@ module _ (w : Carrying) (p : Spaces) (s : State) (x i v : ℕ) (k : Links w p s)
         holds = taken-holds;
         assumptions = record {
           agree = k.assumptions.agree;
-          named = k.assumptions.named;
-          taken = λ l h. let q = k.assumptions.taken l h in (q.0, updated-other p.solver_from_global x (Some v) (variable_of l) (λ e. let z : None ≡ Some q.0 = sym unsolved ∙ ap p.solver_from_global (sym e) ∙ q.1 in cc) ∙ q.1);
+          taken = λ l h.
+              let (q, c) = k.assumptions.taken l h in
+              let (y, f, g) = chain-through p.global_from_user p.solver_from_global (variable_of l) q c in
+              (q, chain-some p.global_from_user (updated p.solver_from_global x (Some v)) (variable_of l) y f ∙ updated-other p.solver_from_global x (Some v) y (λ e. let z : None ≡ Some q = sym unsolved ∙ ap p.solver_from_global (sym e) ∙ g in cc) ∙ g);
         };
+        working = working-same s.clauses r.identity r'.identity s.assumptions p.working (λ l h. let (j, e) = k.working.used l h in to-other (variable_of l) (not-new (variable_of l) j e)) k.working;
         verdict = k.verdict;
+        core = k.core;
         right = k.right;
         few = k.few;
       })

@@ -1,6 +1,8 @@
 -- States after a call that changed nothing more, and after one that ran out of memory.
-use Rattle.std.proofs.Common.{◌≡◌, ◌≢◌, ◌∙◌, ℕ, Bool, true, false, Err, refl, ap}
-use Rattle.varisat_theory.specs.Literals.{Clause}
+use Rattle.std.proofs.Common.{◌≡◌, ◌≢◌, ◌∙◌, ℕ, ◌<◌, Bool, true, false, MatchBool, List, Err, refl, ap, arith}
+use Rattle.varisat_theory.specs.Membership.{◌∈◌}
+use Rattle.varisat_theory.specs.Literals.{Literal, Clause, variable_of}
+use Rattle.varisat_literals.specs.Numbers.{variable_limit}
 use Rattle.varisat_clause.specs.declared.alloc.StoreError.{StoreError}
 use Rattle.varisat_clause.specs.declared.alloc.StoreError.TheVariants as store
 use Rattle.varisat_names.specs.Settings.{Settings}
@@ -46,3 +48,8 @@ adds-broken store.Memory s t d n l b = (n, l, b)
 pub solves-broken : (e : StoreError) (s t : State) → s.verdict ≡ Unknown → CountsCall s (Err (store_refusal e)) t → Invalidates (with_steps t.ledger.steps s) t → Solves s (Err (store_refusal e)) t
 solves-broken store.Full s t u c b = (u, c, b)
 solves-broken store.Memory s t u c b = (u, c, b)
+
+-- no name of the list is past the limit
+pub within-limit : (d : List Literal) (b : Bool) → MatchBool b (IsPastLimit d) ((l : Literal) → l ∈ d → variable_of l < variable_limit) → b ≡ false → IsPastLimit d → ⊥
+within-limit d true m e z = absurd (let q : true ≡ false = e in cc)
+within-limit d false m e (l, i, b) = let a = m l i in absurd (omega (arith, a, b))

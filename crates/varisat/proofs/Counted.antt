@@ -4,7 +4,7 @@ use Rattle.varisat_theory.specs.Membership.{◌∈◌, ◌⊆◌, IsDistinct}
 use Rattle.varisat_theory.specs.Literals.{Clause, Literal}
 use Rattle.varisat_theory.proofs.Members.{∈-append_left, ∈-append_right, ∈-append_cases, equal_or_not}
 use Rattle.varisat_theory.proofs.Count.{length-distinct}
-use Rattle.varisat.specs.States.{State, is_member, join_one, join_counted, Verdict, Unknown, Sat, Unsat, IsRight}
+use Rattle.varisat.specs.States.{State, is_member, join_one, join_counted, Verdict, Unknown, Sat, Unsat, UnsatUnderAssumptions, IsRight}
 use Rattle.varisat.specs.Spaces.{Spaces, Carrying, Links}
 use Rattle.varisat.proofs.SpacesMoves.{count}
 
@@ -61,10 +61,11 @@ pub join-once : (is xs : List ℕ) → IsDistinct xs → IsDistinct (join_counte
 join-once [] xs d = d
 join-once (i ∷ is) xs d = join-once is (join_one i xs) ((join-one i xs).once d)
 
-right-more : (P : List Clause) (A : List Literal) (C D : List ℕ) (v : Verdict) → C ⊆ D → IsRight P A C v → IsRight P A D v
+pub right-more : (P : List Clause) (A : List Literal) (C D : List ℕ) (v : Verdict) → C ⊆ D → IsRight P A C v → IsRight P A D v
 right-more P A C D Unknown m r = tt
 right-more P A C D (Sat a) m r = (r.0, r.1, λ i n. r.2 i (λ h. n (m i h)))
 right-more P A C D Unsat m r = r
+right-more P A C D (UnsatUnderAssumptions core) m r = r
 
 -- more identities may be counted, each once
 pub counted : (w : Carrying) (p : Spaces) (s : State) (is : List ℕ) → Links w p s → s.counted ⊆ is → ((i : ℕ) → i ∈ is → i < s.made) → IsDistinct is → Links w p (count is s)
@@ -79,7 +80,9 @@ counted w p s is k m b d = record {
   holds = k.holds;
   assumptions = k.assumptions;
   marks = k.marks;
+  working = k.working;
   verdict = k.verdict;
+  core = k.core;
   right = right-more s.clauses s.assumptions s.counted is s.verdict m k.right;
   well_formed = record { one_to_one = k.well_formed.one_to_one; free = k.well_formed.free; named = k.well_formed.named; accepted = k.well_formed.accepted; assumed = k.well_formed.assumed; counted = b; once = d };
   few = let n = length-distinct s.counted is k.well_formed.once m in let f = k.few in omega (arith, n, f);

@@ -11,8 +11,10 @@ use Rattle.varisat_theory.specs.Outcomes.{Outcome, Unknown, Steps, MakesSteps}
 use Rattle.varisat_theory.proofs.StepsMade.{none_made, one_more_made}
 use Rattle.varisat_names.specs.Settings.{Settings}
 use Rattle.varisat_search.specs.declared.context.Context.{Context}
+use Rattle.varisat_search.specs.AssumptionParts.{KeepsAssumptions}
 use Rattle.varisat_search.specs.Contexts.{view, IsReady}
 use Rattle.varisat_search.specs.Seen.{search_of}
+use Rattle.varisat_search.proofs.AssumptionSteps.{keeps-after-steps}
 use Rattle.varisat_prop.specs.View.{View, WellFormed, node_of, is_implied, kinds}
 use Rattle.varisat_prop.proofs.TrailValues.{trail-short}
 use Rattle.varisat_schedule.specs.Plans.{Plan, IsPlan, next_plan, PlannedCall}
@@ -41,6 +43,17 @@ none-made c max_steps trail i = record { come = begins c trail i; budget = omega
 no-interrupt : (e : StoreError) (r : Result Bool SolverError) → r ≡ Err (store_refusal e) → r ≡ Err Interrupted → ⊥
 no-interrupt store.Full r p f = let z = sym p ∙ f in cc
 no-interrupt store.Memory r p f = let z = sym p ∙ f in cc
+
+-- a core that was found could not be kept
+pub counts-unnamed : (n max_steps before after : ℕ) (b : Bool) (e : StoreError) → CountsSteps n max_steps before after (Ok b) → CountsSteps n max_steps before after (Err (store_refusal e))
+counts-unnamed n max_steps before after b e k = record {
+  made = k.made;
+  count = k.count;
+  budget = k.budget;
+  bounded = k.bounded;
+  found = λ a f. absurd cc;
+  spent = λ f. absurd (no-interrupt e (Err (store_refusal e)) refl f);
+}
 
 module _ (c : PlannedCall) (max_steps : ℕ) (q : Plan) (trail : List Bool) (h : 0 < c.scale) (short : length trail ≤ c.variables) (m : HasMade c max_steps q trail) where
   so-far : q.steps ≡ c.begins.steps + steps_since c.begins q
@@ -138,6 +151,7 @@ pub record Stepping {A : Type 0} (x y z : Context A) (max_steps : ℕ) : Type 0 
   pub config : y.solver_config ≡ x.solver_config
   pub made : HasMade (call_from x) max_steps y.schedule (kinds (view y))
   pub lines : (lines : List Line) × MakesSteps (steps_since x.schedule y.schedule) (search_of (view x)) (search_of (view y)) Unknown lines
+  pub assumes : KeepsAssumptions (search_of (view x)) Unknown x.assumptions y.assumptions
   pub left : steps_since x.schedule y.schedule ≢ max_steps
   pub countable : y.schedule.steps < 2 ^ 64 - 1
   pub next : z.schedule ≡ next_plan y.solver_config.luby_restart_interval_scale y.schedule
@@ -154,6 +168,9 @@ module _ {A : Type 0} {x y z : Context A} {max_steps : ℕ} (d : Stepping x y z 
 
   pub stepping-lines : (v : Outcome) → ((lines : List Line) × Steps (search_of (view y)) (search_of (view z)) v lines) → (lines : List Line) × MakesSteps (steps_since x.schedule z.schedule) (search_of (view x)) (search_of (view z)) v lines
   stepping-lines v k = more-lines (call_from x) y.schedule z.schedule (kinds (view y)) (search_of (view x)) (search_of (view y)) (search_of (view z)) v d.made.come plan d.lines k
+
+  pub stepping-keeps : (v : Outcome) → KeepsAssumptions (search_of (view y)) v y.assumptions z.assumptions → KeepsAssumptions (search_of (view x)) v x.assumptions z.assumptions
+  stepping-keeps v k = let (lines, made) = d.lines in keeps-after-steps (steps_since x.schedule y.schedule) (search_of (view x)) (search_of (view y)) lines v x.assumptions y.assumptions z.assumptions made d.assumes k
 
   pub stepping-counts : (b : Bool) (n : ℕ) → length x.assignment.current ≤ n → CountsSteps n max_steps x.schedule.steps z.schedule.steps (Ok b)
   stepping-counts b n h = counts-found (call_from x) max_steps y.schedule (kinds (view y)) d.scaled short d.made d.left z.schedule plan b n h

@@ -7,11 +7,11 @@ use Rattle.varisat.specs.declared.session.Answer.{Answer}
 use Rattle.varisat.specs.declared.session.Call.TheVariants as call
 use Rattle.varisat.specs.declared.session.Answer.TheVariants as answer
 use Rattle.varisat.specs.States.{State, empty_state}
-use Rattle.varisat.specs.Told.{told_model}
+use Rattle.varisat.specs.Told.{told_list}
 use Rattle.varisat.specs.Runs.{MakesCall, Run}
 use Rattle.varisat.specs.Pasts.{Past, empty_past}
 use Rattle.varisat.specs.Histories.{IsTrue, AreTrue}
-use Rattle.varisat.proofs.Pasts.{Agrees, Leads, add-clause, add-formula, add-text, make-var, solve, tell-model, config, stays, empty-agrees}
+use Rattle.varisat.proofs.Pasts.{Agrees, Leads, add-clause, add-formula, add-text, make-var, assume-list, solve, tell-model, tell-core, config, stays, empty-agrees}
 
 -- what holds of each value with P
 pub of-ok : {X E : Type 0} (r : Result X E) (P Q : X → Type 0) → ((x : X) → P x → Q x) → IfOk r P → IfOk r Q
@@ -24,8 +24,10 @@ is-true seen (call.AddClause d) (answer.AddClause r) p s t g m = add-clause p s 
 is-true seen (call.AddFormula f) (answer.AddFormula r) p s t g m = add-formula p s t f.clauses r g m
 is-true seen (call.AddDimacsCnf source) (answer.AddDimacsCnf r back) p s t g m = add-text p s t (seen source) (seen back) r g m
 is-true seen call.NewVar (answer.NewVar r) p s t g m = make-var p s t r g m
+is-true seen (call.Assume list) (answer.Assume r) p s t g m = assume-list p s t list.items r g m
 is-true seen call.Solve (answer.Solve r) p s t g m = solve p s t r g m
-is-true seen call.Model (answer.Model r) p s t g m = tell-model p s t (told_model r) g m
+is-true seen call.Model (answer.Model r) p s t g m = tell-model p s t (told_list r) g m
+is-true seen call.FailedCore (answer.FailedCore r) p s t g m = tell-core p s t (told_list r) g m
 is-true seen (call.Config u) (answer.Config r) p s t g m = config p s t u r g m
 is-true seen call.Steps (answer.Steps n) p s t g (e, k) = (p, (e ∙ g.steps, refl), stays p s t k g)
 is-true seen call.IsValid (answer.IsValid b) p s t g (e, k) = (p, (e ∙ g.valid, refl), stays p s t k g)

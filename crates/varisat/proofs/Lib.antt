@@ -3,6 +3,7 @@ pub mod AcceptLoad
 pub mod AcceptSolverVariables
 pub mod AddTexts
 pub mod Additions
+pub mod AssumeList
 pub mod CallStates
 pub mod Carried
 pub mod Counted
@@ -20,9 +21,11 @@ pub mod ReadPlaces
 pub mod Relinked
 pub mod Runs
 pub mod SearchHeld
+pub mod SearchVerdicts
 pub mod SearchViews
 pub mod SolveVerdict
 pub mod SettingsCalls
 pub mod SolverCalls
 pub mod SpacesAgree
 pub mod SpacesMoves
+pub mod VerdictAnswers

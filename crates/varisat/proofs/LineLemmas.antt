@@ -18,7 +18,7 @@ use Rattle.varisat_literals.specs.Numbers.{literal_text}
 use Rattle.varisat_names.specs.declared.config.ConfigField.{ConfigField}
 use Rattle.varisat_names.specs.declared.config.ConfigField.TheVariants.{VsidsDecay, ClauseActivityDecay, ReduceLocalsInterval, ReduceMidsInterval, LubyRestartIntervalScale, MaxSteps}
 use Rattle.varisat_names.specs.Settings.{field_text}
-use Rattle.varisat.specs.Lines.{Command, Add, New, Solve, Model, Config, Steps, Close, Means, MeansOneCommand, HasNumbersInRange, words, words_of, spelling}
+use Rattle.varisat.specs.Lines.{Command, Add, Assume, New, Solve, Model, Core, Config, Steps, Close, Means, MeansOneCommand, HasNumbersInRange, words, words_of, spelling}
 
 abbrev pub NoSpace : List ℕ → Type 0
 NoSpace word = All (λ b. (b == 32) ≡ false) word
@@ -117,9 +117,11 @@ names_apart f g e = absurd (omega (arith, e))
 
 pub words_have_no_space : (command : Command) → HasNumbersInRange command → AllByRecursion NoSpace (words command)
 words_have_no_space (Add ls) h = (no_space (codes "add") (refl, (refl, (refl, tt))), texts_have_no_space ls (recursion_from_All (λ l. l < 2 ^ 32) ls h))
+words_have_no_space (Assume ls) h = (no_space (codes "assume") (from_spaceless (codes "assume") refl), texts_have_no_space ls (recursion_from_All (λ l. l < 2 ^ 32) ls h))
 words_have_no_space New h = (no_space (codes "new") (refl, (refl, (refl, tt))), tt)
 words_have_no_space Solve h = (no_space (codes "solve") (refl, (refl, (refl, (refl, (refl, tt))))), tt)
 words_have_no_space Model h = (no_space (codes "model") (refl, (refl, (refl, (refl, (refl, tt))))), tt)
+words_have_no_space Core h = (no_space (codes "core") (from_spaceless (codes "core") refl), tt)
 words_have_no_space (Config field value) h = (no_space (codes "config") (from_spaceless (codes "config") refl), (name_has_no_space field, (number_has_no_space value h, tt)))
 words_have_no_space Steps h = (no_space (codes "steps") (from_spaceless (codes "steps") refl), tt)
 words_have_no_space Close h = (no_space (codes "close") (refl, (refl, (refl, (refl, (refl, tt))))), tt)
@@ -131,9 +133,11 @@ words_of_joined w (x ∷ xs) (h, hs) = slice_split_at (λ b. b == 32) w 32 (join
 
 words_of_spelled : (command : Command) → HasNumbersInRange command → words_of (spelling command) ≡ words command
 words_of_spelled (Add ls) h = words_of_joined (codes "add") (map literal_text ls) (words_have_no_space (Add ls) h)
+words_of_spelled (Assume ls) h = words_of_joined (codes "assume") (map literal_text ls) (words_have_no_space (Assume ls) h)
 words_of_spelled New h = words_of_joined (codes "new") [] (words_have_no_space New h)
 words_of_spelled Solve h = words_of_joined (codes "solve") [] (words_have_no_space Solve h)
 words_of_spelled Model h = words_of_joined (codes "model") [] (words_have_no_space Model h)
+words_of_spelled Core h = words_of_joined (codes "core") [] (words_have_no_space Core h)
 words_of_spelled (Config field value) h = words_of_joined (codes "config") (field_text field ∷ decimal value ∷ []) (words_have_no_space (Config field value) h)
 words_of_spelled Steps h = words_of_joined (codes "steps") [] (words_have_no_space Steps h)
 words_of_spelled Close h = words_of_joined (codes "close") [] (words_have_no_space Close h)
@@ -156,6 +160,11 @@ adds_apart ls ms h k e =
     let tails : map literal_text ls ≡ map literal_text ms = cc in
     ap Add (lists_apart ls ms (recursion_from_All (λ l. l < 2 ^ 32) ls h) (recursion_from_All (λ l. l < 2 ^ 32) ms k) tails)
 
+assumptions_apart : (ls ms : List ℕ) → All (λ l. l < 2 ^ 32) ls → All (λ l. l < 2 ^ 32) ms → words (Assume ls) ≡ words (Assume ms) → Assume ls ≡ Assume ms
+assumptions_apart ls ms h k e =
+    let tails : map literal_text ls ≡ map literal_text ms = cc in
+    ap Assume (lists_apart ls ms (recursion_from_All (λ l. l < 2 ^ 32) ls h) (recursion_from_All (λ l. l < 2 ^ 32) ms k) tails)
+
 settings_apart : (f g : ConfigField) (m n : ℕ) → m < 2 ^ 64 → n < 2 ^ 64 → words (Config f m) ≡ words (Config g n) → Config f m ≡ Config g n
 settings_apart f g m n h k e =
     let names : field_text f ≡ field_text g = cc in
@@ -171,9 +180,11 @@ first_word_number (word ∷ ws) = fold (λ n b. 256 * n + b) 0 word
 
 pub words_apart : (a b : Command) → HasNumbersInRange a → HasNumbersInRange b → words a ≡ words b → a ≡ b
 words_apart (Add ls) (Add ms) h k e = adds_apart ls ms h k e
+words_apart (Assume ls) (Assume ms) h k e = assumptions_apart ls ms h k e
 words_apart New New h k e = refl
 words_apart Solve Solve h k e = refl
 words_apart Model Model h k e = refl
+words_apart Core Core h k e = refl
 words_apart (Config f m) (Config g n) h k e = settings_apart f g m n h k e
 words_apart Steps Steps h k e = refl
 words_apart Close Close h k e = refl
@@ -274,15 +285,18 @@ joined_behind : (word : List ℕ) (ws : List (List ℕ)) → 0 < length ws → j
 joined_behind word [] h = absurd (omega arith)
 joined_behind word (x ∷ xs) h = refl
 
--- a clause whose literals were all read
+-- a command whose literals were all read
+spelled_read : (name numbers ls : List ℕ) → map literal_text ls ++ [] ≡ words_of numbers → join_with_byte 32 (name ∷ map literal_text ls) ≡ name ++ (32 ∷ numbers)
+spelled_read name numbers ls e =
+    ap (λ ws. join_with_byte 32 (name ∷ ws)) (sym (append-nil (map literal_text ls)) ∙ e) ∙
+    joined_behind name (words_of numbers) (omega (arith, length-slice_split (λ b. b == 32) numbers)) ∙
+    ap (λ xs. name ++ (32 ∷ xs)) (join_with_byte-slice_split 32 numbers)
+
 pub clause_read : (numbers ls : List ℕ) → map literal_text ls ++ [] ≡ words_of numbers → All (λ l. l < 2 ^ 32) ls → Means (codes "add " ++ numbers) (Add ls)
-clause_read numbers ls e h = record {
-  spelled =
-      ap (λ ws. join_with_byte 32 (codes "add" ∷ ws)) (sym (append-nil (map literal_text ls)) ∙ e) ∙
-      joined_behind (codes "add") (words_of numbers) (omega (arith, length-slice_split (λ b. b == 32) numbers)) ∙
-      ap (λ xs. codes "add" ++ (32 ∷ xs)) (join_with_byte-slice_split 32 numbers);
-  in_range = h;
-}
+clause_read numbers ls e h = record { spelled = spelled_read (codes "add") numbers ls e; in_range = h }
+
+pub list_read : (numbers ls : List ℕ) → map literal_text ls ++ [] ≡ words_of numbers → All (λ l. l < 2 ^ 32) ls → Means (codes "assume " ++ numbers) (Assume ls)
+list_read numbers ls e h = record { spelled = spelled_read (codes "assume") numbers ls e; in_range = h }
 
 -- a word that is no literal stands in no clause
 not_among : (ls ms word : List ℕ) (others : List (List ℕ)) → AllByRecursion (λ l. l < 2 ^ 32) ms → ((m : ℕ) → m < 2 ^ 32 → literal_text m ≢ word) →
@@ -307,6 +321,21 @@ pub no_clause : (numbers ls word : List ℕ) (others : List (List ℕ)) → ((m 
     map literal_text ls ++ word ∷ others ≡ words_of numbers → (command : Command) → Means (codes "add " ++ numbers) command → ⊥
 no_clause numbers ls word others none e command m =
     no_clause_case numbers ls word others command m.in_range none e (words_of_meant (codes "add " ++ numbers) command m)
+
+no_list_case : (numbers ls word : List ℕ) (others : List (List ℕ)) (command : Command) → HasNumbersInRange command → ((m : ℕ) → m < 2 ^ 32 → literal_text m ≢ word) →
+    map literal_text ls ++ word ∷ others ≡ words_of numbers → codes "assume" ∷ words_of numbers ≡ words command → ⊥
+no_list_case numbers ls word others (Assume ms) h none e w =
+    not_among ls ms word others (recursion_from_All (λ l. l < 2 ^ 32) ms h) none (e ∙ tails_same (codes "assume") (codes "assume") (words_of numbers) (map literal_text ms) w)
+no_list_case numbers ls word others command h none e w =
+    let n : first_word_number (codes "assume" ∷ words_of numbers) ≡ first_word_number (words command) = ap first_word_number w in absurd (omega arith)
+
+pub no_list : (numbers ls word : List ℕ) (others : List (List ℕ)) → ((m : ℕ) → m < 2 ^ 32 → literal_text m ≢ word) →
+    map literal_text ls ++ word ∷ others ≡ words_of numbers → (command : Command) → Means (codes "assume " ++ numbers) command → ⊥
+no_list numbers ls word others none e command m =
+    no_list_case numbers ls word others command m.in_range none e (assume_first numbers ∙ words_of_meant (codes "assume " ++ numbers) command m)
+  where
+    assume_first : (numbers : List ℕ) → codes "assume" ∷ words_of numbers ≡ words_of (codes "assume " ++ numbers)
+    assume_first numbers = sym (slice_split_at (λ b. b == 32) (codes "assume") 32 numbers (no_space (codes "assume") (from_spaceless (codes "assume") refl)) refl)
 
 -- Behind `config` stand a setting's name and a value.
 

@@ -8,7 +8,7 @@ use Rattle.varisat_theory.proofs.Renaming.{map-∈}
 use Rattle.varisat_literals.specs.Numbers.{polarity_of}
 use Rattle.varisat_search.proofs.StepOutcome.{variable-literal, polarity-literal}
 use Rattle.varisat_names.proofs.Maps.{chain-some, chain-none}
-use Rattle.varisat.specs.States.{State, Verdict, Unknown, Sat, Unsat, IsRight, IsWellFormed}
+use Rattle.varisat.specs.States.{State, Verdict, Unknown, Sat, Unsat, UnsatUnderAssumptions, IsRight, IsWellFormed}
 use Rattle.varisat.specs.Names.{through_names}
 use Rattle.varisat.specs.Models.{put_name, list_names, model_of, IsRising, IsCompletable}
 use Rattle.varisat.specs.Carried.{carry}
@@ -85,16 +85,25 @@ pub is-sat : (id : ℕ → Option ℕ) (m : ℕ → Bool) (found : Assignment) (
 is-sat id m found Unknown f = absurd f
 is-sat id m found (Sat a) f = (a, refl, f)
 is-sat id m found Unsat f = absurd f
+is-sat id m found (UnsatUnderAssumptions core) f = absurd f
 
 pub is-unsat : (id : ℕ → Option ℕ) (m : ℕ → Bool) (v : Verdict) → VerdictFits id m outcome.Unsat v → v ≡ Unsat
 is-unsat id m Unknown f = absurd f
 is-unsat id m (Sat a) f = absurd f
 is-unsat id m Unsat f = refl
+is-unsat id m (UnsatUnderAssumptions core) f = absurd f
 
 pub is-unknown : (id : ℕ → Option ℕ) (m : ℕ → Bool) (v : Verdict) → VerdictFits id m outcome.Unknown v → v ≡ Unknown
 is-unknown id m Unknown f = refl
 is-unknown id m (Sat a) f = absurd f
 is-unknown id m Unsat f = absurd f
+is-unknown id m (UnsatUnderAssumptions core) f = absurd f
+
+pub is-core : (id : ℕ → Option ℕ) (m : ℕ → Bool) (found : List Literal) (v : Verdict) → VerdictFits id m (outcome.UnsatUnder found) v → (core : List Literal) × (v ≡ UnsatUnderAssumptions core)
+is-core id m found Unknown f = absurd f
+is-core id m found (Sat a) f = absurd f
+is-core id m found Unsat f = absurd f
+is-core id m found (UnsatUnderAssumptions core) f = (core, refl)
 
 list-same : (w : Carrying) (p : Spaces) (s : State) (a : Assignment) → Links w p s → ((x i : ℕ) → w.identity x ≡ Some i → a i ≡ p.model x) → (k u : ℕ) → list_names s a u k ≡ list_globals p u k
 list-same w p s a k f zero u = refl

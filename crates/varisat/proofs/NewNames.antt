@@ -10,10 +10,10 @@ use Rattle.varisat_names.specs.declared.variables.data.SamplingMode.TheVariants 
 use Rattle.varisat.specs.States.{State, Sample, Verdict, Sat, IsRight, IsWellFormed}
 use Rattle.varisat.specs.Names.{bring, bring_next}
 use Rattle.varisat.specs.Carried.{carry}
-use Rattle.varisat.specs.Spaces.{Spaces, Carrying, ModeFits, IdentitiesFit, NamesFit, ModesFit, UnitsFit, IsolationCase, NotIsolated, Apart, Forced, IsolationFits, AssumptionsFit, MarksFit, translation, Links, SpacesFit}
+use Rattle.varisat.specs.Spaces.{Spaces, Carrying, ModeFits, IdentitiesFit, NamesFit, ModesFit, UnitsFit, IsolationCase, NotIsolated, Apart, Forced, IsolationFits, AssumptionsFit, MarksFit, without_core, translation, Links, SpacesFit}
 use Rattle.varisat.proofs.SpacesMoves.{give, give_next, AreDead}
-use Rattle.varisat_names.proofs.Maps.{updated-at, updated-other, updated-all, joined, chain-same, chain-some, is-some}
-use Rattle.varisat.proofs.SpacesAgree.{carry-same, map-same, holds-same, verdict-moved}
+use Rattle.varisat_names.proofs.Maps.{updated-at, updated-other, updated-all, joined, chain-same, chain-some, chain-none, chain-through, is-some}
+use Rattle.varisat.proofs.SpacesAgree.{carry-same, map-same, working-same, core-same, holds-same, verdict-moved}
 
 -- what follows from the links
 
@@ -28,10 +28,6 @@ linked w p s x k d = ⊎_elim (λ e. let q : false ≡ true = sym d ∙ k.identi
 -- a variable that has an identity is not one that has none
 pub differ : (id : ℕ → Option ℕ) (x y i : ℕ) → id x ≡ None → id y ≡ Some i → y ≡ x → ⊥
 differ id x y i n e q = let z : None ≡ Some i = sym n ∙ ap id (sym q) ∙ e in cc
-
--- the variables of the assumptions have identities
-pub assumed-live : (w : Carrying) (p : Spaces) (s : State) (l : Literal) → Links w p s → l ∈ p.assumptions → (i : ℕ) × (w.identity (variable_of l) ≡ Some i)
-assumed-live w p s l k h = let r = k.assumptions.named l h in k.names.live r.0 (variable_of l) (k.names.one_to_one.back r.0 (variable_of l) r.1)
 
 pub bring-well : (u : ℕ) (s : State) → IsWellFormed s → IsWellFormed (bring u s)
 bring-well u s f = record {
@@ -150,22 +146,38 @@ module _ (w : Carrying) (p : Spaces) (s : State) (u x : ℕ) (k : Links w p s) (
       go (Apart a) = Apart a
       go (Forced b e) = Forced b e
 
-  new-assumptions : AssumptionsFit id' (updated p.user_from_global x (Some u)) p.solver_from_global p.assumptions s.assumptions
-  unfolding id'
-  new-assumptions =
-      let a = λ (l : Literal) (h : l ∈ p.assumptions). assumed-live w p s l k h in
-      record {
-        agree = k.assumptions.agree ∙ map-same (carry w.identity) (carry id') p.assumptions (λ l h. carry-same w.identity id' l (let r = a l h in r.1 ∙ sym (stays (variable_of l) r.0 r.1)));
-        named = λ l h. let r = k.assumptions.named l h in let q = a l h in (r.0, updated-other p.user_from_global x (Some u) (variable_of l) (apart (variable_of l) q.0 q.1) ∙ r.1);
-        taken = k.assumptions.taken;
-      }
+  -- an assumption's name is in use before
+  not-new : (l : Literal) → l ∈ p.assumptions → variable_of l ≡ u → ⊥
+  not-new l h e =
+      let (v, c) = k.assumptions.taken l h in
+      let (y, f, g) = chain-through p.global_from_user p.solver_from_global (variable_of l) v c in
+      let z : None ≡ Some y = sym free ∙ ap p.global_from_user (sym e) ∙ f in
+      cc
 
-  new-marks : MarksFit kept' p.assumptions
+  -- what a name in use stood for it stands for still
+  name-stays : (v i : ℕ) → s.names v ≡ Some i → updated s.names u (Some s.made) v ≡ Some i
+  name-stays v i e = updated-other s.names u (Some s.made) v (λ q. let z : None ≡ Some i = sym (chain-none p.global_from_user w.identity u free) ∙ sym (k.names.agree u) ∙ ap s.names (sym q) ∙ e in cc) ∙ e
+
+  new-assumptions : AssumptionsFit (updated p.global_from_user u (Some x)) p.solver_from_global (updated s.names u (Some s.made)) p.assumptions s.assumptions
+  new-assumptions = record {
+    agree = k.assumptions.agree ∙ map-same (carry s.names) (carry (updated s.names u (Some s.made))) p.assumptions (λ l h. carry-same s.names (updated s.names u (Some s.made)) l (sym (updated-other s.names u (Some s.made) (variable_of l) (not-new l h))));
+    taken = λ l h. let (v, c) = k.assumptions.taken l h in (v, ap (λ o. onward o p.solver_from_global) (updated-other p.global_from_user u (Some x) (variable_of l) (not-new l h)) ∙ c);
+  }
+
+  new-marks : MarksFit (updated p.global_from_user u (Some x)) kept' p.assumptions
   unfolding kept'
   new-marks = record {
-    marked = λ l h. let q = assumed-live w p s l k h in ap (λ d. d.assumed) (kept-stays (variable_of l) q.0 q.1) ∙ k.marks.marked l h;
-    only = λ y. updated-all (λ y d. d.assumed ≡ true → y ∈ map variable_of p.assumptions) p.kept x fresh (λ e. absurd cc) y (λ n h. k.marks.only y h);
+    marked = λ l y h e.
+        let f = sym (updated-other p.global_from_user u (Some x) (variable_of l) (not-new l h)) ∙ e in
+        let r = k.names.live (variable_of l) y f in
+        ap (λ d. d.assumed) (kept-stays y r.0 r.1) ∙ k.marks.marked l y h f;
+    only = λ y. updated-all (λ y d. d.assumed ≡ true → (l : Literal) × (l ∈ p.assumptions) × (updated p.global_from_user u (Some x) (variable_of l) ≡ Some y)) p.kept x fresh (λ e. absurd cc) y
+        (λ n h. let (l, a, b) = k.marks.only y h in (l, a, updated-other p.global_from_user u (Some x) (variable_of l) (not-new l a) ∙ b));
   }
+
+  identity-same : (v : ℕ) → chain p.global_from_solver id' v ≡ chain p.global_from_solver w.identity v
+  unfolding id'
+  identity-same v = chain-same p.global_from_solver id' w.identity v (λ y h. let r = k.solvers.live v y h in stays y r.0 r.1 ∙ sym r.1)
 
   unsolved : p.solver_from_global x ≡ None
   unsolved = ⊎_elim (λ e. e) (λ (v, e). let r = k.solvers.live v x (k.solvers.one_to_one.there x v e) in absurd (apart x r.0 r.1 refl)) (is-some (p.solver_from_global x))
@@ -185,10 +197,12 @@ module _ (w : Carrying) (p : Spaces) (s : State) (u x : ℕ) (k : Links w p s) (
       units = new-units;
       isolation = new-isolation;
       solvers = record { one_to_one = k.solvers.one_to_one; live = λ v y h. let r = k.solvers.live v y h in (r.0, stays y r.0 r.1, r.2) };
-      holds = holds-same s.clauses (translation w p) (record { identity = chain p.global_from_solver id'; solver = chain (updated w.global s.made (Some x)) p.solver_from_global; forced = w.forced; hidden = p.hidden }) p.search p.outcome
-          (λ v. chain-same p.global_from_solver id' w.identity v (λ y h. let r = k.solvers.live v y h in stays y r.0 r.1 ∙ sym r.1)) solver-same (λ i. refl) refl k.holds;
+      holds = holds-same s.clauses (translation w p) (record { identity = chain p.global_from_solver id'; solver = chain (updated w.global s.made (Some x)) p.solver_from_global; forced = w.forced; hidden = p.hidden }) p.search (without_core p.outcome)
+          identity-same solver-same (λ i. refl) refl k.holds;
       assumptions = new-assumptions;
       marks = new-marks;
+      working = working-same s.clauses (chain p.global_from_solver w.identity) (chain p.global_from_solver id') s.assumptions p.working (λ l h. identity-same (variable_of l)) k.working;
+      core = core-same s.names (updated s.names u (Some s.made)) p.core s.verdict name-stays k.core;
       verdict = verdict-moved w.identity id' p.model (updated p.model x false) p.outcome s.verdict
           (λ a e f y i. updated-all (λ y o. o ≡ Some i → a i ≡ updated p.model x false y) w.identity x (Some s.made)
           (λ q. let z : s.made ≡ i = cc in ap a (sym z) ∙ uncounted s.clauses s.assumptions s.counted s.verdict s.made (λ h. let b = k.well_formed.counted s.made h in absurd (omega (arith, b))) k.right a e ∙ sym (updated-at p.model x false))

@@ -1,9 +1,9 @@
 -- What the calls and answers so far say of the state that a solver is in: each call moves both alike.
-use Rattle.std.proofs.Common.{◌≡◌, ◌≢◌, ℕ, ◌<◌, ◌≤◌, ◌+◌, ◌^◌, max, nat_le, nat_eq, Bool, true, false, ◌&&◌, ◌||◌, List, [], ◌∷◌, ◌++◌, ◌⊎◌, inl, inr, ⊎_elim, sym, ap, ◌∙◌, subst, refl, Option, Some, None, Result, Ok, Err, map, arith, length}
+use Rattle.std.proofs.Common.{◌≡◌, ◌≢◌, ℕ, ◌<◌, ◌≤◌, ◌+◌, ◌^◌, max, nat_le, nat_eq, Bool, true, false, not, ◌&&◌, ◌||◌, List, [], ◌∷◌, ◌++◌, ◌⊎◌, inl, inr, ⊎_elim, sym, ap, ◌∙◌, subst, refl, Option, Some, None, Result, Ok, Err, map, arith, length}
 use Rattle.std.proofs.lemmas.Bool.{le-leb, lt-leb}
 use Rattle.std.specs.declared.alloc.AllocError.{AllocError}
-use Rattle.varisat_theory.specs.Membership.{◌∈◌}
-use Rattle.varisat_theory.specs.Literals.{Literal, Clause, Assignment, variable_of, literal_of, value, SatisfiesAll, MakesTrue, IsSatisfiable}
+use Rattle.varisat_theory.specs.Membership.{◌∈◌, ◌⊆◌}
+use Rattle.varisat_theory.specs.Literals.{Literal, Clause, Assignment, variable_of, literal_of, value, SatisfiesAll, MakesTrue, IsSatisfiable, IsSatisfiableWith, IsFailedCore}
 use Rattle.varisat_theory.proofs.Assigned.{satisfies_fewer}
 use Rattle.varisat_search.proofs.StepOutcome.{variable-literal}
 use Rattle.varisat_formula.specs.declared.dimacs.error.DimacsError.{DimacsError}
@@ -11,22 +11,23 @@ use Rattle.varisat_formula.specs.Dimacs.{Reading}
 use Rattle.varisat_names.specs.declared.config.SolverConfigUpdate.{SolverConfigUpdate}
 use Rattle.varisat_names.specs.Settings.{Settings, updated_settings}
 use Rattle.varisat_formula.specs.Streams.{Stand}
-use Rattle.varisat.specs.States.{State, join_counted, Verdict, Unknown, Sat, Unsat, empty_state, IsRight, HasRightVerdict}
+use Rattle.varisat.specs.States.{State, join_counted, Verdict, Unknown, Sat, Unsat, UnsatUnderAssumptions, empty_state, IsRight, HasRightVerdict}
 use Rattle.varisat.specs.Names.{name_one, name_all, through_names, AreInOrder}
-use Rattle.varisat.specs.Models.{list_names, model_of}
+use Rattle.varisat.specs.Models.{list_names, model_of, IsCoreToTell}
 use Rattle.varisat.specs.Counts.{count_with}
 use Rattle.varisat.specs.Additions as additions
 use Rattle.varisat.specs.Additions.{Gave, InTurn, RefusedAtOnce, NoFault, MemoryFault, Fault, ClauseRefused, ClausesAdded, RefusedEarly, FaultInText, Whole, MemoryRanOut, SourceFailed, Read, Unread}
 use Rattle.varisat.specs.Calls as state
-use Rattle.varisat.specs.Calls.{IsPastLimit, IsLike, IsCrowded, start, append_clause, with_verdict, with_steps, answer_of, reopened_verdict, VerdictAfter}
+use Rattle.varisat.specs.Calls.{IsPastLimit, IsLike, IsCrowded, start, append_clause, with_verdict, with_steps, answer_of, reopened_verdict, assumed_verdict, VerdictAfter}
 use Rattle.varisat.specs.Budgets.{CountsSteps}
 use Rattle.varisat.specs.Updates as updates
 use Rattle.varisat.specs.Pasts as past
-use Rattle.varisat.specs.Pasts.{Past, empty_past, use_name, use_names, accept, accept_all, named_variables, MakesFewSteps, IsModel}
+use Rattle.varisat.specs.Pasts.{Past, empty_past, use_name, use_names, accept, accept_all, assume, MakesFewSteps, IsModel}
 use Rattle.varisat.specs.declared.solver.SolverError.{SolverError}
 use Rattle.varisat.specs.declared.solver.SolverError.TheVariants.{Interrupted, OutOfMemory, Invalid, ClauseStoreFull, VariableLimit, ConfigOutOfRange, Dimacs}
 use Rattle.varisat.proofs.NamesInOrder.{rest-one, rest-all, fit-one, fit-all, count-within, through-all}
 use Rattle.varisat.proofs.CallStates.{like-refl}
+use Rattle.varisat.proofs.VerdictAnswers.{is-unsat-or-not, is-unknown-or-not, answer-sat, right-false, told-fails, core-answer, no-core, reopened-not-unsat, reopened-not-true, reopened-false, right-reopened, assumed-unsat, assumed-not-true, right-assumed}
 use Rattle.varisat.proofs.ModelLists.{listed-rising, listed-in-use, listed-all, value-listed}
 
 -- 1. The names in use.
@@ -102,11 +103,6 @@ pub use-rest : (d : List Literal) (p : Past) → use_names d p ≡ record p { in
 use-rest [] p = refl
 use-rest (l ∷ d) p = use-rest d (use_name (variable_of l) p)
 
--- the variables of one more clause are named behind the others
-named-behind : (known : List ℕ) (P : List Clause) (c : Clause) → named_variables known (P ++ c ∷ []) ≡ join_counted (named_variables known P) (map variable_of c)
-named-behind known [] c = refl
-named-behind known (d ∷ P) c = named-behind (join_counted known (map variable_of d)) P c
-
 -- 2. The state and the past.
 
 -- what the past says of the state as long as it is valid
@@ -114,12 +110,12 @@ pub record Knows (p : Past) (s : State) : Type 0 where
   count : ℕ
   names : NamesAgree count p s
   same : s.verdict ≢ Unsat → s.clauses ≡ p.clauses
-  counted : s.verdict ≢ Unsat → s.counted ≡ named_variables [] p.clauses
+  counted : s.verdict ≢ Unsat → s.counted ≡ p.counted
   refuted : s.verdict ≡ Unsat → IsSatisfiable p.clauses → ⊥
-  assumptions : s.assumptions ≡ []
-  pub assumed : p.assumptions ≡ []
+  assumed : s.assumptions ≡ p.assumptions
   model : p.has_model ≡ true → answer_of s.verdict ≡ Some true
   found : answer_of s.verdict ≡ Some true → p.has_model ≡ true
+  failed : p.has_core ≡ true → answer_of s.verdict ≡ Some false
   right : HasRightVerdict s
 
 -- the state is one that the past leads to
@@ -136,8 +132,8 @@ Leads to t = (q : Past) × to q × Agrees q t
 knows-of : (p : Past) (s : State) → Agrees p s → state.IsValid s → Knows p s
 knows-of p s g v = g.knows (sym g.valid ∙ v)
 
-not-true : (b : Bool) → b ≡ false → b ≡ true → ⊥
-not-true b e f = let z : true ≡ false = sym f ∙ e in cc
+false-true : (b : Bool) → b ≡ false → b ≡ true → ⊥
+false-true b e f = let z : true ≡ false = sym f ∙ e in cc
 
 -- nothing changes
 pub stays : (p : Past) (s t : State) → t ≡ s → Agrees p s → Agrees p t
@@ -163,16 +159,15 @@ right-like s t c a n v r =
 refuted-more : (P : List Clause) (c : Clause) → (IsSatisfiable P → ⊥) → IsSatisfiable (P ++ c ∷ []) → ⊥
 refuted-more P c n w = n (w.0, satisfies_fewer w.0 P (c ∷ []) w.1)
 
-not-unsat-reopened : (v : Verdict) → v ≢ Unsat → reopened_verdict v ≡ Unknown
-not-unsat-reopened Unknown n = refl
-not-unsat-reopened (Sat a) n = refl
-not-unsat-reopened Unsat n = absurd (n refl)
+after-cases : (P : List Clause) (c : Clause) (v w : Verdict) → VerdictAfter P c v w → ((w ≡ Unsat) × (IsSatisfiable (P ++ c ∷ []) → ⊥)) ⊎ (w ≡ reopened_verdict v)
+after-cases P c v w (state.Refuted e u) = inl (e, u)
+after-cases P c v w (state.Reopened e u) = inr e
 
-after-cases : (P : List Clause) (c : Clause) (v w : Verdict) → v ≢ Unsat → VerdictAfter P c v w → ((w ≡ Unsat) × (IsSatisfiable (P ++ c ∷ []) → ⊥)) ⊎ (w ≡ Unknown)
-after-cases P c v w n (state.Refuted e u) = inl (e, u)
-after-cases P c v w n (state.Reopened e u) = inr (e ∙ not-unsat-reopened v n)
+-- a clause without its names
+abbrev refuted-past : Past → Clause → Past
+refuted-past p d = record p { clauses = p.clauses ++ d ∷ []; counted = join_counted p.counted (map variable_of d); has_model = false }
 
-ignored : (p : Past) (s : State) (d : Clause) → s.verdict ≡ Unsat → Agrees p s → p.valid ≡ true → Agrees (record p { clauses = p.clauses ++ d ∷ []; has_model = false }) s
+ignored : (p : Past) (s : State) (d : Clause) → s.verdict ≡ Unsat → Agrees p s → p.valid ≡ true → Agrees (refuted-past p d) s
 ignored p s d u g v =
     let k = g.knows v in
     record {
@@ -181,14 +176,14 @@ ignored p s d u g v =
       settings = g.settings;
       knows = λ _. record {
         count = k.count;
-        names = names-like k.count p (record p { clauses = p.clauses ++ d ∷ []; has_model = false }) s s refl refl refl refl refl refl k.names;
+        names = names-like k.count p (refuted-past p d) s s refl refl refl refl refl refl k.names;
         same = λ n. absurd (n u);
         counted = λ n. absurd (n u);
         refuted = λ _. refuted-more p.clauses d (k.refuted u);
-        assumptions = k.assumptions;
         assumed = k.assumed;
         model = λ e. absurd cc;
         found = λ e. absurd (let z : Some false ≡ Some true = ap answer_of (sym u) ∙ e in let y : false ≡ true = cc in cc);
+        failed = λ _. ap answer_of u;
         right = k.right;
       };
     }
@@ -203,7 +198,7 @@ accepted p s t d n lim (w, after, e) g v =
     let own : c ≡ d = through-all (count_with k.count d) named d f (count-within d k.count) in
     let all : s.clauses ++ c ∷ [] ≡ p.clauses ++ d ∷ [] = ap (λ P. P ++ c ∷ []) (k.same n) ∙ ap (λ x. p.clauses ++ x ∷ []) own in
     let now : t.clauses ≡ p.clauses ++ d ∷ [] = e.clauses ∙ ap (λ P. P ++ c ∷ []) rest.clauses ∙ all in
-    let cases = after-cases s.clauses c s.verdict w n after in
+    let cases = after-cases s.clauses c s.verdict w after in
     let used = use-rest d p in
     record {
       valid = ap (λ x. x.valid) e.ledger ∙ ap (λ x. x.valid) rest.ledger ∙ g.valid ∙ sym (ap (λ (x : Past). x.valid) used);
@@ -213,24 +208,29 @@ accepted p s t d n lim (w, after, e) g v =
         count = count_with k.count d;
         names = names-like (count_with k.count d) (use_names d p) (accept d p) named t refl refl e.made e.names e.watermark e.modes (names-all d k.count p s (below-limit d lim) k.names);
         same = λ _. now;
-        counted = λ _. e.counted ∙ ap (λ xs. join_counted xs (map variable_of c)) (rest.counted ∙ k.counted n) ∙ ap (λ x. join_counted (named_variables [] p.clauses) (map variable_of x)) own ∙ sym (named-behind [] p.clauses d);
-        refuted = λ u. ⊎_elim (λ r. subst (λ Q. IsSatisfiable Q → ⊥) all r.1) (λ r. absurd (let z : Unsat ≡ Unknown = sym u ∙ e.verdict ∙ r in cc)) cases;
-        assumptions = e.assumptions ∙ rest.assumptions ∙ k.assumptions;
-        assumed = ap (λ (x : Past). x.assumptions) used ∙ k.assumed;
+        counted = λ _. e.counted ∙ ap (λ xs. join_counted xs (map variable_of c)) (rest.counted ∙ k.counted n) ∙ ap (λ x. join_counted p.counted (map variable_of x)) own;
+        refuted = λ u. ⊎_elim (λ r. subst (λ Q. IsSatisfiable Q → ⊥) all r.1) (λ r. absurd (reopened-not-unsat s.verdict n (sym (e.verdict ∙ r) ∙ u))) cases;
+        assumed = e.assumptions ∙ rest.assumptions ∙ k.assumed ∙ sym (ap (λ (x : Past). x.assumptions) used);
         model = λ h. absurd cc;
         found = λ h. absurd (⊎_elim
             (λ r. let z : Some false ≡ Some true = ap answer_of (sym (e.verdict ∙ r.0)) ∙ h in let y : false ≡ true = cc in cc)
-            (λ r. let z : None ≡ Some true = ap answer_of (sym (e.verdict ∙ r)) ∙ h in cc) cases);
+            (λ r. reopened-not-true s.verdict (ap answer_of (sym (e.verdict ∙ r)) ∙ h)) cases);
+        failed = λ h.
+            let before = k.failed (sym (ap (λ (x : Past). x.has_core) used) ∙ h) in
+            ⊎_elim (λ r. ap answer_of (e.verdict ∙ r.0)) (λ r. ap answer_of (e.verdict ∙ r) ∙ reopened-false s.verdict before) cases;
         right = ⊎_elim
             (λ r. subst (λ x. IsRight t.clauses t.assumptions t.counted x) (sym (e.verdict ∙ r.0)) (subst (λ Q. IsSatisfiable Q → ⊥) (all ∙ sym now) r.1))
-            (λ r. subst (λ x. IsRight t.clauses t.assumptions t.counted x) (sym (e.verdict ∙ r)) tt) cases;
+            (λ r. subst (λ x. IsRight t.clauses t.assumptions t.counted x) (sym (e.verdict ∙ r))
+            (subst (λ Q. IsRight Q t.assumptions t.counted (reopened_verdict s.verdict)) (all ∙ sym now)
+            (subst (λ A. IsRight (s.clauses ++ c ∷ []) A t.counted (reopened_verdict s.verdict)) (sym (e.assumptions ∙ rest.assumptions)) (right-reopened s.clauses c s.assumptions s.counted t.counted s.verdict n k.right))))
+            cases;
       };
     }
 
 pub add-clause : (p : Past) (s t : State) (d : Clause) (r : Result (Unit {0}) SolverError) → Agrees p s → state.AddsClause s d r t → Leads (past.AddsClause p d r) t
 add-clause p s t d (Ok u) g (v, state.Ignored n e) =
     let w = sym g.valid ∙ v in
-    (record p { clauses = p.clauses ++ d ∷ []; has_model = false }, (w, past.Refuted ((g.knows w).refuted n) refl), stays _ s t e (ignored p s d n g w))
+    (refuted-past p d, (w, past.Refuted ((g.knows w).refuted n) refl), stays _ s t e (ignored p s d n g w))
 add-clause p s t d (Ok u) g (v, state.Accepted n lim a) =
     let w = sym g.valid ∙ v in (accept d p, (w, past.Accepted lim refl), accepted p s t d n lim a g w)
 add-clause p s t d (Err OutOfMemory) g a = breaks p s t g a.2
@@ -307,10 +307,10 @@ named p s t u small e g v =
         same = λ n. e.clauses ∙ r.clauses ∙ k.same (λ x. n (verdict ∙ x));
         counted = λ n. e.counted ∙ r.counted ∙ k.counted (λ x. n (verdict ∙ x));
         refuted = λ x. k.refuted (sym verdict ∙ x);
-        assumptions = e.assumptions ∙ r.assumptions ∙ k.assumptions;
-        assumed = k.assumed;
+        assumed = e.assumptions ∙ r.assumptions ∙ k.assumed;
         model = λ x. ap answer_of verdict ∙ k.model x;
         found = λ x. k.found (sym (ap answer_of verdict) ∙ x);
+        failed = λ x. ap answer_of verdict ∙ k.failed x;
         right = right-like s t (e.clauses ∙ r.clauses) (e.assumptions ∙ r.assumptions) (e.counted ∙ r.counted) verdict k.right;
       };
     }
@@ -334,33 +334,61 @@ make-var p s t (Err Interrupted) g a = absurd a
 make-var p s t (Err (ConfigOutOfRange field)) g a = absurd a
 make-var p s t (Err (Dimacs cause)) g a = absurd a
 
--- 6. An answer of `solve`.
+-- 6. Assumptions.
 
-answer-unsat : (v : Verdict) → answer_of v ≡ Some false → v ≡ Unsat
-answer-unsat Unknown e = absurd cc
-answer-unsat (Sat a) e = absurd (let z : true ≡ false = cc in cc)
-answer-unsat Unsat e = refl
+assumed-list : (p : Past) (s t : State) (list : List Literal) → (IsPastLimit list → ⊥) → state.TakesAssumptions s list t → Agrees p s → p.valid ≡ true → Agrees (assume list p) t
+assumed-list p s t list lim e g v =
+    let k = g.knows v in
+    let f = fit-all list k.count s k.names.order in
+    let named = name_all list s in
+    let c = map (through_names named) list in
+    let rest = rest-all list s in
+    let own : c ≡ list = through-all (count_with k.count list) named list f (count-within list k.count) in
+    let verdict = e.verdict ∙ ap assumed_verdict rest.verdict in
+    let used = use-rest list p in
+    let clauses = ap (λ (x : Past). x.clauses) used in
+    record {
+      valid = ap (λ x. x.valid) e.ledger ∙ ap (λ x. x.valid) rest.ledger ∙ g.valid ∙ sym (ap (λ (x : Past). x.valid) used);
+      steps = ap (λ x. x.steps) e.ledger ∙ ap (λ x. x.steps) rest.ledger ∙ g.steps ∙ sym (ap (λ (x : Past). x.steps) used);
+      settings = ap (λ x. x.settings) e.ledger ∙ ap (λ x. x.settings) rest.ledger ∙ g.settings ∙ sym (ap (λ (x : Past). x.settings) used);
+      knows = λ _. record {
+        count = count_with k.count list;
+        names = names-like (count_with k.count list) (use_names list p) (assume list p) named t refl refl e.made e.names e.watermark e.modes (names-all list k.count p s (below-limit list lim) k.names);
+        same = λ n. e.clauses ∙ rest.clauses ∙ k.same (λ u. n (verdict ∙ ap assumed_verdict u)) ∙ sym clauses;
+        counted = λ n. e.counted ∙ ap (λ xs. join_counted xs (map variable_of c)) (rest.counted ∙ k.counted (λ u. n (verdict ∙ ap assumed_verdict u))) ∙ ap (λ x. join_counted p.counted (map variable_of x)) own;
+        refuted = λ u. subst (λ P. IsSatisfiable P → ⊥) (sym clauses) (k.refuted (assumed-unsat s.verdict (sym verdict ∙ u)));
+        assumed = e.assumptions ∙ own;
+        model = λ x. absurd cc;
+        found = λ x. absurd (assumed-not-true s.verdict (sym (ap answer_of verdict) ∙ x));
+        failed = λ x. absurd cc;
+        right = subst (λ x. IsRight t.clauses t.assumptions t.counted x) (sym verdict)
+            (subst (λ P. IsRight P t.assumptions t.counted (assumed_verdict s.verdict)) (sym (e.clauses ∙ rest.clauses)) (right-assumed s.clauses s.assumptions t.assumptions s.counted t.counted s.verdict k.right));
+      };
+    }
 
-answer-sat : (v : Verdict) → answer_of v ≡ Some true → (a : Assignment) × (v ≡ Sat a)
-answer-sat Unknown e = absurd cc
-answer-sat (Sat a) e = (a, refl)
-answer-sat Unsat e = absurd (let z : true ≡ false = cc in cc)
+pub assume-list : (p : Past) (s t : State) (list : List Literal) (r : Result (Unit {0}) SolverError) → Agrees p s → state.Assumes s list r t → Leads (past.Assumes p list r) t
+assume-list p s t list (Ok u) g (v, lim, e) =
+    let w = sym g.valid ∙ v in (assume list p, (w, lim, refl), assumed-list p s t list lim e g w)
+assume-list p s t list (Err OutOfMemory) g a = breaks p s t g a.1
+assume-list p s t list (Err ClauseStoreFull) g a = absurd a
+assume-list p s t list (Err Invalid) g a = (p, (sym g.valid ∙ a.0, refl), stays p s t a.1 g)
+assume-list p s t list (Err VariableLimit) g a =
+    let k = knows-of p s g a.0 in
+    let limit : IsPastLimit list = ⊎_elim (λ x. x) (λ x. crowded-limit list k.count k.names.small (let f = fit-all list k.count s k.names.order in omega (arith, x, f.made))) a.1 in
+    (p, (sym g.valid ∙ a.0, limit, refl), stays p s t a.2 g)
+assume-list p s t list (Err Interrupted) g a = absurd a
+assume-list p s t list (Err (ConfigOutOfRange field)) g a = absurd a
+assume-list p s t list (Err (Dimacs cause)) g a = absurd a
 
-is-unsat-or-not : (v : Verdict) → (v ≡ Unsat) ⊎ (v ≢ Unsat)
-is-unsat-or-not Unknown = inr (λ e. cc)
-is-unsat-or-not (Sat a) = inr (λ e. cc)
-is-unsat-or-not Unsat = inl refl
+-- 7. An answer of `solve`.
 
--- where true is returned the verdict before was not Unsat
-before-sat : (s t : State) (a : Assignment) → state.TellsVerdict s true t → t.verdict ≡ Sat a → s.verdict ≢ Unsat
-before-sat s t a r e u = let z : Sat a ≡ Unsat = sym e ∙ (r.known (λ k. let y : Unsat ≡ Unknown = sym u ∙ k in cc)).0 ∙ u in cc
-
-pub none-true : (a : Assignment) (A : List Literal) → A ≡ [] → MakesTrue a A
-none-true a A e l h = let z : l ∈ [] = subst (λ x. l ∈ x) e h in absurd z
+-- where the verdict before was Unsat it still is
+still-unsat : (s t : State) (b : Bool) → state.TellsVerdict s b t → t.verdict ≢ Unsat → s.verdict ≢ Unsat
+still-unsat s t b r n u = n ((r.known (λ k. let y : Unsat ≡ Unknown = sym u ∙ k in cc)).0 ∙ u)
 
 -- the past behind an answer, where the state has the verdict that was told
-solved : (p : Past) (s t : State) (b : Bool) → Agrees p s → (k : Knows p s) → state.TellsVerdict s b t → (t.verdict ≢ Unsat → s.verdict ≢ Unsat) → (t.verdict ≡ Unsat → IsSatisfiable p.clauses → ⊥) → Agrees (record p { has_model = b; steps = t.ledger.steps }) t
-solved p s t b g k r unsolved refuted =
+solved : (p : Past) (s t : State) (b : Bool) → Agrees p s → (k : Knows p s) → state.TellsVerdict s b t → (t.verdict ≡ Unsat → IsSatisfiable p.clauses → ⊥) → Agrees (record p { has_model = b; has_core = not b; steps = t.ledger.steps }) t
+solved p s t b g k r refuted =
     let e = r.rest in
     record {
       valid = ap (λ x. x.valid) e.ledger ∙ g.valid;
@@ -368,14 +396,14 @@ solved p s t b g k r unsolved refuted =
       settings = ap (λ x. x.settings) e.ledger ∙ g.settings;
       knows = λ _. record {
         count = k.count;
-        names = names-like k.count p (record p { has_model = b; steps = t.ledger.steps }) s t refl refl e.made e.names e.watermark e.modes k.names;
-        same = λ n. e.clauses ∙ k.same (unsolved n);
-        counted = λ n. e.counted ∙ k.counted (unsolved n);
+        names = names-like k.count p (record p { has_model = b; has_core = not b; steps = t.ledger.steps }) s t refl refl e.made e.names e.watermark e.modes k.names;
+        same = λ n. e.clauses ∙ k.same (still-unsat s t b r n);
+        counted = λ n. e.counted ∙ k.counted (still-unsat s t b r n);
         refuted = refuted;
-        assumptions = e.assumptions ∙ k.assumptions;
-        assumed = k.assumed;
+        assumed = e.assumptions ∙ k.assumed;
         model = λ x. r.answer ∙ ap Some x;
         found = λ x. told b (sym r.answer ∙ x);
+        failed = λ x. r.answer ∙ ap Some (no-model-then b x);
         right = r.right;
       };
     }
@@ -383,31 +411,33 @@ solved p s t b g k r unsolved refuted =
     told : (b : Bool) → Some b ≡ Some true → b ≡ true
     told b e = cc
 
+    no-model-then : (b : Bool) → not b ≡ true → b ≡ false
+    no-model-then true e = absurd cc
+    no-model-then false e = refl
+
 -- the steps of a call under the verdict Unknown
-counts : (p : Past) (s t : State) (r : Result Bool SolverError) → Agrees p s → Knows p s → s.verdict ≡ Unknown → state.CountsCall s r t → CountsSteps (length (named_variables [] p.clauses)) p.settings.max_steps p.steps t.ledger.steps r
+counts : (p : Past) (s t : State) (r : Result Bool SolverError) → Agrees p s → Knows p s → s.verdict ≡ Unknown → state.CountsCall s r t → CountsSteps (length p.counted) p.settings.max_steps p.steps t.ledger.steps r
 counts p s t r g k u c =
     let n = ap (λ (xs : List ℕ). length xs) (k.counted (λ e. let z : Unknown ≡ Unsat = sym u ∙ e in cc)) in
     subst (λ x. CountsSteps x p.settings.max_steps p.steps t.ledger.steps r) n
     (subst (λ (x : Settings). CountsSteps (length s.counted) x.max_steps p.steps t.ledger.steps r) g.settings
     (subst (λ x. CountsSteps (length s.counted) s.ledger.settings.max_steps x t.ledger.steps r) g.steps c))
 
--- no model was found last where the verdict is unknown
+not-true : (b : Bool) → (b ≡ true → ⊥) → b ≡ false
+not-true true n = absurd (n refl)
+not-true false n = refl
+
+-- neither a model nor a core was found last where the verdict is unknown
 no-model-yet : (p : Past) (s : State) → Knows p s → s.verdict ≡ Unknown → p.has_model ≡ false
-no-model-yet p s k u = go p.has_model (λ e. let z : None ≡ Some true = ap answer_of (sym u) ∙ k.model e in cc)
-  where
-    go : (b : Bool) → (b ≡ true → ⊥) → b ≡ false
-    go true n = absurd (n refl)
-    go false n = refl
+no-model-yet p s k u = not-true p.has_model (λ e. let z : None ≡ Some true = ap answer_of (sym u) ∙ k.model e in cc)
 
-is-unknown-or-not : (v : Verdict) → (v ≡ Unknown) ⊎ (v ≢ Unknown)
-is-unknown-or-not Unknown = inl refl
-is-unknown-or-not (Sat a) = inr (λ e. cc)
-is-unknown-or-not Unsat = inr (λ e. cc)
+no-core-yet : (p : Past) (s : State) → Knows p s → s.verdict ≡ Unknown → p.has_core ≡ false
+no-core-yet p s k u = not-true p.has_core (λ e. let z : None ≡ Some false = ap answer_of (sym u) ∙ k.failed e in cc)
 
-few-steps : (p : Past) (s t : State) (b : Bool) → Agrees p s → (k : Knows p s) → state.TellsVerdict s b t → MakesFewSteps p b (record p { has_model = b; steps = t.ledger.steps })
+few-steps : (p : Past) (s t : State) (b : Bool) → Agrees p s → (k : Knows p s) → state.TellsVerdict s b t → MakesFewSteps p b (record p { has_model = b; has_core = not b; steps = t.ledger.steps })
 few-steps p s t b g k r =
     ⊎_elim
-    (λ u. inr (no-model-yet p s k u, counts p s t (Ok b) g k u (r.steps u)))
+    (λ u. inr (no-model-yet p s k u, no-core-yet p s k u, counts p s t (Ok b) g k u (r.steps u)))
     (λ n. inl ((r.known n).1 ∙ g.steps))
     (is-unknown-or-not s.verdict)
 
@@ -419,35 +449,44 @@ told-on p s t n c e k = record {
   same = λ o. e.clauses ∙ k.same (λ x. o (e.verdict ∙ x));
   counted = λ o. e.counted ∙ k.counted (λ x. o (e.verdict ∙ x));
   refuted = λ x. k.refuted (sym e.verdict ∙ x);
-  assumptions = e.assumptions ∙ k.assumptions;
-  assumed = k.assumed;
+  assumed = e.assumptions ∙ k.assumed;
   model = λ x. ap answer_of e.verdict ∙ k.model x;
   found = λ x. k.found (sym (ap answer_of e.verdict) ∙ x);
+  failed = λ x. ap answer_of e.verdict ∙ k.failed x;
   right = right-like s t e.clauses e.assumptions e.counted e.verdict k.right;
 }
 
 like-told : (s t : State) (n : ℕ) → IsLike (with_steps n s) t → IsLike (record s { ledger = t.ledger }) t
 like-told s t n e = record { made = e.made; names = e.names; watermark = e.watermark; modes = e.modes; clauses = e.clauses; assumptions = e.assumptions; counted = e.counted; verdict = e.verdict; ledger = refl }
 
+-- no assignment satisfies the clauses where false is returned
+none-with : (p : Past) (s t : State) → (k : Knows p s) → state.TellsVerdict s false t → IsSatisfiableWith p.clauses p.assumptions → ⊥
+none-with p s t k r =
+    ⊎_elim
+    (λ u w. k.refuted u (w.0, w.1))
+    (λ n. subst (λ P. IsSatisfiableWith P p.assumptions → ⊥) (r.rest.clauses ∙ k.same n)
+    (subst (λ A. IsSatisfiableWith t.clauses A → ⊥) (r.rest.assumptions ∙ k.assumed) (right-false t.clauses t.assumptions t.counted t.verdict r.answer r.right)))
+    (is-unsat-or-not s.verdict)
+
 pub solve : (p : Past) (s t : State) (r : Result Bool SolverError) → Agrees p s → state.Solves s r t → Leads (past.Solves p r) t
 solve p s t (Ok true) g r =
     let v = sym g.valid ∙ r.valid in
     let k = g.knows v in
     let (a, e) = answer-sat t.verdict r.answer in
-    let n = before-sat s t a r e in
+    let no : t.verdict ≢ Unsat = (λ u. let z : Sat a ≡ Unsat = sym e ∙ u in cc) in
+    let n = still-unsat s t true r no in
     let right = subst (IsRight t.clauses t.assumptions t.counted) e r.right in (
-      record p { has_model = true; steps = t.ledger.steps },
-      (v, (a, subst (SatisfiesAll a) (r.rest.clauses ∙ k.same n) right.0, none-true a p.assumptions k.assumed), few-steps p s t true g k r, refl),
-      solved p s t true g k r (λ _. n) (λ u. absurd (let z : Sat a ≡ Unsat = sym e ∙ u in cc)),
+      record p { has_model = true; has_core = false; steps = t.ledger.steps },
+      (v, (a, subst (SatisfiesAll a) (r.rest.clauses ∙ k.same n) right.0, subst (MakesTrue a) (r.rest.assumptions ∙ k.assumed) right.1), few-steps p s t true g k r, refl),
+      solved p s t true g k r (λ u. absurd (no u)),
     )
 solve p s t (Ok false) g r =
     let v = sym g.valid ∙ r.valid in
     let k = g.knows v in
-    let e = answer-unsat t.verdict r.answer in
-    let none : IsSatisfiable p.clauses → ⊥ = ⊎_elim k.refuted (λ n. subst (λ Q. IsSatisfiable Q → ⊥) (r.rest.clauses ∙ k.same n) (subst (IsRight t.clauses t.assumptions t.counted) e r.right)) (is-unsat-or-not s.verdict) in (
-      record p { has_model = false; steps = t.ledger.steps },
-      (v, (λ w. none (w.0, w.1)), few-steps p s t false g k r, refl),
-      solved p s t false g k r (λ n. absurd (n e)) (λ _. none),
+    let none : t.verdict ≡ Unsat → IsSatisfiable p.clauses → ⊥ = (λ e. ⊎_elim k.refuted (λ n. subst (λ Q. IsSatisfiable Q → ⊥) (r.rest.clauses ∙ k.same n) (subst (IsRight t.clauses t.assumptions t.counted) e r.right)) (is-unsat-or-not s.verdict)) in (
+      record p { has_model = false; has_core = true; steps = t.ledger.steps },
+      (v, none-with p s t k r, few-steps p s t false g k r, refl),
+      solved p s t false g k r none,
     )
 solve p s t (Err OutOfMemory) g (u, c, b) =
     let k = knows-of p s g b.valid in (
@@ -464,7 +503,7 @@ solve p s t (Err ClauseStoreFull) g (u, c, b) =
 solve p s t (Err Interrupted) g r =
     let k = knows-of p s g r.valid in (
       record p { steps = t.ledger.steps },
-      (sym g.valid ∙ r.valid, no-model-yet p s k r.unknown, counts p s t (Err Interrupted) g k r.unknown r.steps, refl),
+      (sym g.valid ∙ r.valid, no-model-yet p s k r.unknown, no-core-yet p s k r.unknown, counts p s t (Err Interrupted) g k r.unknown r.steps, refl),
       record {
         valid = ap (λ x. x.valid) r.rest.ledger ∙ g.valid;
         steps = refl;
@@ -477,7 +516,7 @@ solve p s t (Err Invalid) g r = (p, (sym g.valid ∙ r.0, refl), stays p s t r.1
 solve p s t (Err VariableLimit) g r = absurd r
 solve p s t (Err (Dimacs cause)) g r = absurd r
 
--- 7. Other settings.
+-- 8. Other settings.
 
 pub config : (p : Past) (s t : State) (u : SolverConfigUpdate) (r : Result (Unit {0}) SolverError) → Agrees p s → state.Configures s u r t → Leads (updates.Configures past.is_valid past.with_update p u r) t
 config p s t u (Ok x) g (v, n, e) = (
@@ -498,17 +537,19 @@ config p s t u (Err ClauseStoreFull) g r = absurd r
 config p s t u (Err VariableLimit) g r = absurd r
 config p s t u (Err (Dimacs cause)) g r = absurd r
 
--- 8. A model.
+-- 9. A model.
 
 model-sat : (s : State) (v : Verdict) (m : List Literal) → Some m ≡ model_of s v → (a : Assignment) × (v ≡ Sat a) × (m ≡ list_names s a 0 s.watermark)
 model-sat s Unknown m e = absurd cc
 model-sat s (Sat a) m e = (a, refl, cc)
 model-sat s Unsat m e = absurd cc
+model-sat s (UnsatUnderAssumptions core) m e = absurd cc
 
 no-model : (s : State) (v : Verdict) → None ≡ model_of s v → answer_of v ≡ Some true → ⊥
 no-model s Unknown e x = cc
 no-model s (Sat a) e x = cc
 no-model s Unsat e x = let z : false ≡ true = cc in cc
+no-model s (UnsatUnderAssumptions core) e x = let z : false ≡ true = cc in cc
 
 listed-model : (p : Past) (s : State) (a : Assignment) → Knows p s → s.verdict ≡ Sat a → IsModel p (list_names s a 0 s.watermark)
 listed-model p s a k e =
@@ -528,7 +569,7 @@ listed-model p s a k e =
           let same : w.name ≡ w.identity = cc in
           subst (λ x. value a x ≡ true) (sym w.is) (value-listed a w.name (a w.identity) (ap a same));
       satisfies = subst (SatisfiesAll a) (k.same (λ u. let z : Sat a ≡ Unsat = sym e ∙ u in cc)) right.0;
-      assumed = none-true a p.assumptions k.assumed;
+      assumed = subst (MakesTrue a) k.assumed right.1;
     }
   where
     name-below : (u i : ℕ) → s.names u ≡ Some i → u < k.count
@@ -546,16 +587,45 @@ tell-model p s t (Ok (Some m)) g (inl (v, e), same) =
 tell-model p s t (Ok (Some m)) g (inr (v, e), same) = absurd cc
 tell-model p s t (Ok None) g (inl (v, e), same) =
     let k = g.knows (sym g.valid ∙ v) in
-    (p, ((λ _. no-true p.has_model (λ h. no-model s s.verdict e (k.model h))), refl), stays p s t same g)
-  where
-    no-true : (b : Bool) → (b ≡ true → ⊥) → b ≡ false
-    no-true true n = absurd (n refl)
-    no-true false n = refl
-tell-model p s t (Ok None) g (inr (v, e), same) = (p, ((λ w. absurd (not-true p.valid (sym g.valid ∙ v) w)), refl), stays p s t same g)
+    (p, ((λ _. not-true p.has_model (λ h. no-model s s.verdict e (k.model h))), refl), stays p s t same g)
+tell-model p s t (Ok None) g (inr (v, e), same) = (p, ((λ w. absurd (false-true p.valid (sym g.valid ∙ v) w)), refl), stays p s t same g)
 tell-model p s t (Err e) g (v, x, same) =
     let w = sym g.valid ∙ v in (p, (w, (g.knows w).found x, refl), stays p s t same g)
 
--- 9. Before the first call.
+-- 10. A core.
+
+-- the core is some of the assumptions of the past, which fail with its clauses
+failed-core : (p : Past) (s : State) (core : List Literal) → Knows p s → IsCoreToTell s (Some core) → IsFailedCore p.clauses p.assumptions core
+failed-core p s core k (named, e) =
+    let own : map (through_names s) core ≡ core = through-all k.count s core k.names.order (λ l h. let (i, q) = named l h in name-below (variable_of l) i q) in
+    let fails = subst (IsFailedCore s.clauses s.assumptions) own (told-fails s core k.right (named, e)) in
+    let part = subst (λ A. core ⊆ A) k.assumed fails.0 in
+    ⊎_elim
+    (λ u. (part, λ w. k.refuted u (w.0, w.1)))
+    (λ n. (part, subst (λ P. IsSatisfiableWith P core → ⊥) (k.same n) fails.1))
+    (is-unsat-or-not s.verdict)
+  where
+    name-below : (u i : ℕ) → s.names u ≡ Some i → u < k.count
+    name-below u i h = ⊎_elim (λ l. l) (λ l. absurd (let z : None ≡ Some i = sym (k.names.order.free u l) ∙ h in cc)) (below-or u k.count)
+
+-- where the answer is false no model was found last
+no-model-false : (p : Past) (s : State) → Knows p s → answer_of s.verdict ≡ Some false → p.has_model ≡ false
+no-model-false p s k a = not-true p.has_model (λ h. let z : Some false ≡ Some true = sym a ∙ k.model h in let y : false ≡ true = cc in cc)
+
+pub tell-core : (p : Past) (s t : State) (r : Result (Option (List Literal)) AllocError) → Agrees p s → state.TellsCore s r t → Leads (past.TellsCore p r) t
+tell-core p s t (Ok (Some core)) g (inl (v, e), same) =
+    let w = sym g.valid ∙ v in
+    let k = g.knows w in
+    (p, (w, no-model-false p s k (core-answer s.verdict (map (through_names s) core) e.1), failed-core p s core k e, refl), stays p s t same g)
+tell-core p s t (Ok (Some core)) g (inr (v, e), same) = absurd cc
+tell-core p s t (Ok None) g (inl (v, e), same) =
+    let k = g.knows (sym g.valid ∙ v) in
+    (p, ((λ _. not-true p.has_core (λ h. no-core s.verdict e (k.failed h))), refl), stays p s t same g)
+tell-core p s t (Ok None) g (inr (v, e), same) = (p, ((λ w. absurd (false-true p.valid (sym g.valid ∙ v) w)), refl), stays p s t same g)
+tell-core p s t (Err e) g (v, x, same) =
+    let w = sym g.valid ∙ v in (p, (w, no-model-false p s (g.knows w) x, refl), stays p s t same g)
+
+-- 11. Before the first call.
 
 pub empty-agrees : Agrees empty_past empty_state
 empty-agrees = record {
@@ -574,10 +644,10 @@ empty-agrees = record {
     same = λ _. refl;
     counted = λ _. refl;
     refuted = λ e. absurd cc;
-    assumptions = refl;
     assumed = refl;
     model = λ e. absurd cc;
     found = λ e. absurd cc;
+    failed = λ e. absurd cc;
     right = tt;
   };
 }

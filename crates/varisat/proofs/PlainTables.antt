@@ -53,6 +53,13 @@ pub named-plain : (d : List Literal) (old new : Tables) → IsPlain old → AreN
 named-plain [] old new n e = subst IsPlain (sym e) n
 named-plain (l ∷ d) old new n (mid, g, rest) = named-plain d mid new (next-plain (variable_of l + 1 - length old.users.forward) old mid n g).0 rest
 
+pub named-grow : (d : List Literal) (old new : Tables) → IsPlain old → AreNamedInTurn d old new → length old.users.forward ≤ length new.users.forward
+named-grow [] old new n e = let q = ap (λ t. length t.users.forward) e in omega (arith, q)
+named-grow (l ∷ d) old new n (mid, g, rest) =
+    let (p, c) = next-plain (variable_of l + 1 - length old.users.forward) old mid n g in
+    let r = named-grow d mid new p rest in
+    omega (arith, c, r)
+
 pub named-push : (d : List Literal) (old mid new : Tables) (l : Literal) → AreNamedInTurn d old mid → AreNextGiven (variable_of l + 1 - length mid.users.forward) mid new → AreNamedInTurn (d ++ l ∷ []) old new
 named-push [] old mid new l e g = (new, subst (λ t. AreNextGiven (variable_of l + 1 - length t.users.forward) t new) e g, refl)
 named-push (m ∷ d) old mid new l (t, h, rest) g = (t, h, named-push d t mid new l rest g)

@@ -1,8 +1,9 @@
 -- A text that a new solver takes in, and what is found then.
-use Rattle.std.proofs.Common.{◌≡◌, ℕ, ◌+◌, ◌-◌, ◌*◌, ◌^◌, ◌<◌, min, length, ⊎_elim, Err, Bool, true, false, List, [], ◌∷◌, ◌++◌, ◌⊎◌, inl, inr, sym, ap, ◌∙◌, subst, refl, Option, Some, None, Result, Ok, Vec, append_assoc, append-nil, arith}
+use Rattle.std.proofs.Common.{◌≡◌, ℕ, ◌+◌, ◌-◌, ◌*◌, ◌^◌, ◌<◌, min, length, ⊎_elim, Err, Bool, true, false, List, [], ◌∷◌, ◌++◌, ◌⊎◌, inl, inr, sym, ap, ◌∙◌, subst, refl, Option, Some, None, Result, Ok, Vec, map, append_assoc, append-nil, arith}
 use Rattle.std.proofs.lemmas.List.{append_cancel_left}
 use Rattle.std.specs.declared.alloc.AllocError.{AllocError}
-use Rattle.varisat_theory.specs.Literals.{Literal, Clause, variable_of, MakesTrue, SatisfiesAll, IsSatisfiable}
+use Rattle.varisat_theory.specs.Membership.{◌∈◌}
+use Rattle.varisat_theory.specs.Literals.{Literal, Clause, Assignment, variable_of, MakesTrue, SatisfiesAll, IsSatisfiable}
 use Rattle.varisat_theory.proofs.Assigned.{satisfies_fewer}
 use Rattle.varisat_formula.specs.declared.dimacs.error.DimacsErrorKind.{DimacsErrorKind}
 use Rattle.varisat_formula.specs.declared.dimacs.error.DimacsError.{DimacsError}
@@ -10,18 +11,18 @@ use Rattle.varisat_formula.specs.Dimacs.{Reading, nothing, items, read, lines, l
 use Rattle.varisat_formula.specs.Streams.{Stand, HasEnded}
 use Rattle.varisat_names.specs.declared.config.SolverConfigUpdate.{SolverConfigUpdate}
 use Rattle.varisat_names.specs.Settings.{Settings, default_settings, updated_settings}
-use Rattle.varisat.specs.States.{State, empty_state}
+use Rattle.varisat.specs.States.{State, join_counted, empty_state}
 use Rattle.varisat.specs.Calls as state
 use Rattle.varisat.specs.Additions as additions
 use Rattle.varisat.specs.Additions.{Gave, NoFault, MemoryFault, Fault, ClauseRefused, ClausesAdded, RefusedEarly, FaultInText, Whole, MemoryRanOut, SourceFailed, Read, Unread}
 use Rattle.varisat.specs.Pasts as past
 use Rattle.varisat.specs.Pasts.{Past, empty_past, use_name, use_names, accept, accept_all, named_variables, IsModel}
-use Rattle.varisat.specs.Told.{told_model}
+use Rattle.varisat.specs.Told.{told_list}
 use Rattle.varisat.specs.Budgets.{CountsSteps}
 use Rattle.varisat.specs.Decided.{listed, Conclusion, Decided, Unknown, IsConclusion, Decides, StatusIsTrue, conclusion_status}
 use Rattle.varisat.specs.declared.solver.SolverError.{SolverError}
 use Rattle.varisat.specs.declared.solver.SolverError.TheVariants.{Interrupted}
-use Rattle.varisat.proofs.Pasts.{Agrees, use-rest, none-true, add-text, solve, config, tell-model, empty-agrees}
+use Rattle.varisat.proofs.Pasts.{Agrees, use-rest, add-text, solve, config, tell-model, empty-agrees}
 
 abbrev done : Result (Unit {0}) SolverError
 done = Ok tt
@@ -47,17 +48,24 @@ all-accepted p q (c ∷ P) (inl (mid, (v, past.Refuted n e), rest)) =
     let z = x ∙ ap (λ z. z.clauses ++ P) e ∙ append_assoc p.clauses (c ∷ []) P in
     (z, inl (λ w. n (w.0, satisfies_fewer w.0 p.clauses (c ∷ P) (subst (SatisfiesAll w.0) z w.1))))
 
--- and neither the steps nor the settings changed
-kept-count : (p q : Past) (P : List Clause) → additions.AddsAll past.adding p P done q → (q.steps ≡ p.steps) × (q.settings ≡ p.settings)
-kept-count p q [] a = (ap (λ (x : Past). x.steps) a.1, ap (λ (x : Past). x.settings) a.1)
+-- and neither the steps, the settings nor the assumptions changed; the clauses' variables are counted
+kept-count : (p q : Past) (P : List Clause) → additions.AddsAll past.adding p P done q → (q.steps ≡ p.steps) × (q.settings ≡ p.settings) × (q.assumptions ≡ p.assumptions) × (q.counted ≡ named_variables p.counted P)
+kept-count p q [] a = (ap (λ (x : Past). x.steps) a.1, ap (λ (x : Past). x.settings) a.1, ap (λ (x : Past). x.assumptions) a.1, ap (λ (x : Past). x.counted) a.1)
 kept-count p q (c ∷ P) (inr (e, k, a)) = absurd cc
 kept-count p q (c ∷ P) (inl (mid, (v, past.Accepted n e), rest)) =
-    let (x, y) = kept-count mid q P rest in
-    let r = use-rest c p in
-    (x ∙ ap (λ (z : Past). z.steps) e ∙ ap (λ (z : Past). z.steps) r, y ∙ ap (λ (z : Past). z.settings) e ∙ ap (λ (z : Past). z.settings) r)
+    let (x, y, w, z) = kept-count mid q P rest in
+    let r = use-rest c p in (
+      x ∙ ap (λ (z : Past). z.steps) e ∙ ap (λ (z : Past). z.steps) r,
+      y ∙ ap (λ (z : Past). z.settings) e ∙ ap (λ (z : Past). z.settings) r,
+      w ∙ ap (λ (z : Past). z.assumptions) e ∙ ap (λ (z : Past). z.assumptions) r,
+      z ∙ ap (λ (x : Past). named_variables x.counted P) e,
+    )
 kept-count p q (c ∷ P) (inl (mid, (v, past.Refuted n e), rest)) =
-    let (x, y) = kept-count mid q P rest in
-    (x ∙ ap (λ (z : Past). z.steps) e, y ∙ ap (λ (z : Past). z.settings) e)
+    let (x, y, w, z) = kept-count mid q P rest in
+    (x ∙ ap (λ (z : Past). z.steps) e, y ∙ ap (λ (z : Past). z.settings) e, w ∙ ap (λ (z : Past). z.assumptions) e, z ∙ ap (λ (x : Past). named_variables x.counted P) e)
+
+none-true : (a : Assignment) (A : List Literal) → A ≡ [] → MakesTrue a A
+none-true a A e l h = let z : l ∈ [] = subst (λ x. l ∈ x) e h in absurd z
 
 -- what is accepted under other settings
 names-settled : (d : List Literal) (p : Past) (c : Settings) → use_names d (record p { settings = c }) ≡ record (use_names d p) { settings = c }
@@ -66,7 +74,7 @@ names-settled (l ∷ d) p c = names-settled d (use_name (variable_of l) p) c
 
 accept-settled : (P : List Clause) (p : Past) (c : Settings) → accept_all P (record p { settings = c }) ≡ record (accept_all P p) { settings = c }
 accept-settled [] p c = refl
-accept-settled (d ∷ P) p c = ap (λ (x : Past). accept_all P (record x { clauses = p.clauses ++ d ∷ []; has_model = false })) (names-settled d p c) ∙ accept-settled P (accept d p) c
+accept-settled (d ∷ P) p c = ap (λ (x : Past). accept_all P (record x { clauses = p.clauses ++ d ∷ []; counted = join_counted p.counted (map variable_of d); has_model = false })) (names-settled d p c) ∙ accept-settled P (accept d p) c
 
 reading-whole : (p q : Past) (R : Reading) → additions.AddsReading past.adding p R done q → (R.fault ≡ None) × additions.AddsAll past.adding p R.clauses done q
 reading-whole p q R (ClauseRefused e k a) = absurd cc
@@ -122,20 +130,19 @@ module _ (c : SolverConfigUpdate) (old new : Stand) (t u : State) (found : Resul
       let (z, (v, n, few, e), h) = solve q t u (Ok false) g (subst (λ r. state.Solves t r u) f k.solves) in
       let w = takes old new (begun c) q x in
       let all = (all-accepted (begun c) q (dimacs w.read.text).clauses w.all).0 in
-      record { read = w.read; ended = w.ended; fine = w.fine; found = λ s. n (s.0, subst (SatisfiesAll s.0) (sym all) s.1, none-true s.0 q.assumptions (g.knows v).assumed) }
+      record { read = w.read; ended = w.ended; fine = w.fine; found = λ s. n (s.0, subst (SatisfiesAll s.0) (sym all) s.1, none-true s.0 q.assumptions (kept-count (begun c) q (dimacs w.read.text).clauses w.all).2) }
 
   pub decided-unknown : (max_steps : ℕ) → (updated_settings default_settings c).max_steps ≡ max_steps → found ≡ Err Interrupted → Decides max_steps old new Unknown
   decided-unknown max_steps m f =
       let (q, x, g) = text-taken in
-      let (z, (v, n, few, e), h) = solve q t u (Err Interrupted) g (subst (λ r. state.Solves t r u) f k.solves) in
+      let (z, (v, n, o, few, e), h) = solve q t u (Err Interrupted) g (subst (λ r. state.Solves t r u) f k.solves) in
       let w = takes old new (begun c) q x in
-      let all = (all-accepted (begun c) q (dimacs w.read.text).clauses w.all).0 in
-      let (steps, settings) = kept-count (begun c) q (dimacs w.read.text).clauses w.all in
+      let (steps, settings, assumptions, counted) = kept-count (begun c) q (dimacs w.read.text).clauses w.all in
       record {
         read = w.read;
         ended = w.ended;
         fine = w.fine;
-        found = subst (λ P. min max_steps (2 ^ 64 - 1) < 2 ^ (2 * length (named_variables [] P) + 3)) all (spent-early (length (named_variables [] q.clauses)) max_steps q.settings.max_steps q.steps z.steps few (ap (λ (s : Settings). s.max_steps) settings ∙ m) steps);
+        found = subst (λ (xs : List ℕ). min max_steps (2 ^ 64 - 1) < 2 ^ (2 * length xs + 3)) counted (spent-early (length q.counted) max_steps q.settings.max_steps q.steps z.steps few (ap (λ (s : Settings). s.max_steps) settings ∙ m) steps);
       }
     where
       spent-early : (n max_steps own before after : ℕ) → CountsSteps n own before after (Err Interrupted) → own ≡ max_steps → before ≡ 0 → min max_steps (2 ^ 64 - 1) < 2 ^ (2 * n + 3)
@@ -155,7 +162,7 @@ model-like p q m i c a k = record {
   assumed = subst (MakesTrue k.assignment) (sym a) k.assumed;
 }
 
-decided-told : {A : Type 0} (max_steps : ℕ) (c : SolverConfigUpdate) (old new : Stand) (t u v : State) (m : Option (Vec Literal A)) → Asked c old new t u (Ok true) → state.TellsModel u (told_model (Ok m)) v → Decides max_steps old new (Decided (listed m))
+decided-told : {A : Type 0} (max_steps : ℕ) (c : SolverConfigUpdate) (old new : Stand) (t u v : State) (m : Option (Vec Literal A)) → Asked c old new t u (Ok true) → state.TellsModel u (told_list (Ok m)) v → Decides max_steps old new (Decided (listed m))
 decided-told {A = A} max_steps c old new t u v m a d =
     let (q, x, g) = text-taken c old new t u (Ok true) a in
     let (z, (w, s, few, e), h) = solve q t u (Ok true) g a.solves in
@@ -163,7 +170,7 @@ decided-told {A = A} max_steps c old new t u v m a d =
     let settled = accept-settled (dimacs k.read.text).clauses empty_past (updated_settings default_settings c) in
     outcome m k settled (all-accepted (begun c) q (dimacs k.read.text).clauses k.all).1 (s.0, s.1) z w e h d
   where
-    outcome : (m : Option (Vec Literal A)) {q : Past} (k : Takes old new (begun c) q) → accept_all (dimacs k.read.text).clauses (begun c) ≡ record (accept_all (dimacs k.read.text).clauses empty_past) { settings = updated_settings default_settings c } → (IsSatisfiable q.clauses → ⊥) ⊎ (q ≡ accept_all (dimacs k.read.text).clauses (begun c)) → IsSatisfiable q.clauses → (z : Past) → q.valid ≡ true → z ≡ record q { has_model = true; steps = z.steps } → Agrees z u → state.TellsModel u (told_model (Ok m)) v → Decides max_steps old new (Decided (listed m))
+    outcome : (m : Option (Vec Literal A)) {q : Past} (k : Takes old new (begun c) q) → accept_all (dimacs k.read.text).clauses (begun c) ≡ record (accept_all (dimacs k.read.text).clauses empty_past) { settings = updated_settings default_settings c } → (IsSatisfiable q.clauses → ⊥) ⊎ (q ≡ accept_all (dimacs k.read.text).clauses (begun c)) → IsSatisfiable q.clauses → (z : Past) → q.valid ≡ true → z ≡ record q { has_model = true; has_core = false; steps = z.steps } → Agrees z u → state.TellsModel u (told_list (Ok m)) v → Decides max_steps old new (Decided (listed m))
     outcome m k f (inl n) s z w e h d = absurd (n s)
     outcome None k f (inr n) s z w e h d =
         let (y, (x, i), j) = tell-model z u v (Ok None) h d in absurd (let o : false ≡ true = sym (x (ap (λ y. y.valid) e ∙ w)) ∙ ap (λ y. y.has_model) e in cc)
@@ -177,9 +184,9 @@ decided-told {A = A} max_steps c old new t u v m a d =
           found = model-like z (accept_all (dimacs k.read.text).clauses empty_past) l.items (ap (λ (y : Past). y.in_use) same ∙ sym (ap (λ (y : Past). y.in_use) e)) (ap (λ (y : Past). y.clauses) same ∙ sym (ap (λ (y : Past). y.clauses) e)) (ap (λ (y : Past). y.assumptions) same ∙ sym (ap (λ (y : Past). y.assumptions) e)) o;
         }
 
-pub outcome-told : {A : Type 0} (max_steps : ℕ) (c : SolverConfigUpdate) (old new : Stand) (t u v : State) (found : Result Bool SolverError) (told : Result (Option (Vec Literal A)) AllocError) (m : Option (Vec Literal A)) → Asked c old new t u found → found ≡ Ok true → state.TellsModel u (told_model told) v → told ≡ Ok m → Decides max_steps old new (Decided (listed m))
+pub outcome-told : {A : Type 0} (max_steps : ℕ) (c : SolverConfigUpdate) (old new : Stand) (t u v : State) (found : Result Bool SolverError) (told : Result (Option (Vec Literal A)) AllocError) (m : Option (Vec Literal A)) → Asked c old new t u found → found ≡ Ok true → state.TellsModel u (told_list told) v → told ≡ Ok m → Decides max_steps old new (Decided (listed m))
 outcome-told max_steps c old new t u v found told m a y d z =
-    decided-told max_steps c old new t u v m (subst (Asked c old new t u) y a) (subst (λ r. state.TellsModel u (told_model r) v) z d)
+    decided-told max_steps c old new t u v m (subst (Asked c old new t u) y a) (subst (λ r. state.TellsModel u (told_list r) v) z d)
 
 -- The status.
 

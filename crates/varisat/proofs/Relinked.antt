@@ -1,7 +1,7 @@
 -- The search goes on, and the verdict of the state with it: what was said of the names stays.
 use Rattle.std.proofs.Common.{◌≤◌, length}
 use Rattle.varisat.specs.States.{State, HasRightVerdict}
-use Rattle.varisat.specs.Spaces.{Spaces, Carrying, translation, SolversFit, SearchHolds, AssumptionsFit, VerdictFits, Links}
+use Rattle.varisat.specs.Spaces.{Spaces, Carrying, translation, SolversFit, SearchHolds, AssumptionsFit, WorkingFits, CoreFits, VerdictFits, without_core, Links}
 use Rattle.varisat.proofs.CallStates.{told_as, told-well}
 
 -- the spaces, with the solver variables and the search of others
@@ -9,6 +9,8 @@ abbrev pub with_search_side : Spaces → Spaces → Spaces
 with_search_side q p = record p {
   solver_from_global = q.solver_from_global;
   global_from_solver = q.global_from_solver;
+  working = q.working;
+  core = q.core;
   model = q.model;
   search = q.search;
   outcome = q.outcome;
@@ -18,9 +20,11 @@ with_search_side q p = record p {
 -- What links the search to the state.
 pub record SearchLinks (w : Carrying) (p : Spaces) (s : State) : Type 0 where
   pub solvers : SolversFit w.identity p.solver_from_global p.global_from_solver s.counted
-  pub holds : SearchHolds s.clauses (translation w p) p.search p.outcome
-  pub assumptions : AssumptionsFit w.identity p.user_from_global p.solver_from_global p.assumptions s.assumptions
+  pub holds : SearchHolds s.clauses (translation w p) p.search (without_core p.outcome)
+  pub assumptions : AssumptionsFit p.global_from_user p.solver_from_global s.names p.assumptions s.assumptions
+  pub working : WorkingFits s.clauses (translation w p).identity s.assumptions p.working
   pub verdict : VerdictFits w.identity p.model p.outcome s.verdict
+  pub core : CoreFits s.names p.core s.verdict
   pub right : HasRightVerdict s
   pub few : p.var_count ≤ length s.counted
 
@@ -36,7 +40,9 @@ relinked w p q s t k l = record {
   holds = l.holds;
   assumptions = l.assumptions;
   marks = k.marks;
+  working = l.working;
   verdict = l.verdict;
+  core = l.core;
   right = l.right;
   well_formed = told-well s t k.well_formed;
   few = l.few;

@@ -1,29 +1,31 @@
 -- A search that finds a verdict, and spaces that agree.
 use Rattle.std.proofs.Common.{◌≡◌, ◌≢◌, ℕ, ◌≤◌, Bool, true, Option, Some, None, List, [], ◌∷◌, inl, inr, ⊎_elim, sym, ap, ◌∙◌, subst, refl, map, length}
-use Rattle.varisat_theory.specs.Membership.{◌∈◌}
-use Rattle.varisat_theory.specs.Literals.{Literal, Assignment, variable_of, literal_of, value, SatisfiesAll, MakesTrue}
+use Rattle.varisat_theory.specs.Membership.{◌∈◌, ◌⊆◌}
+use Rattle.varisat_theory.specs.Literals.{Literal, Clause, Assignment, variable_of, literal_of, value, SatisfiesAll, MakesTrue, IsSatisfiableWith, IsFailedCore}
 use Rattle.varisat_theory.specs.Derivations.{Line}
 use Rattle.varisat_theory.specs.Searches.{Search, IsLiteralOf}
-use Rattle.varisat_theory.specs.Outcomes.{Outcome, MakesSteps}
+use Rattle.varisat_theory.specs.Outcomes.{Outcome, Holds, MakesSteps}
 use Rattle.varisat_theory.specs.Outcomes as outcome
 use Rattle.varisat_theory.proofs.Renaming.{∈-map, map-∈}
+use Rattle.varisat_theory.proofs.Sound.{conflicts_sound, derives_sound}
 use Rattle.varisat_theory.proofs.StepCounts.{by_derives}
 use Rattle.varisat_theory.proofs.StepsMade.{names_satisfied}
 use Rattle.varisat_literals.specs.Numbers.{polarity_of}
 use Rattle.varisat_prop.specs.Parts.{is_true_value}
 use Rattle.varisat_search.proofs.StepOutcome.{variable-literal, polarity-literal}
 use Rattle.varisat_names.specs.Maps.{onward, chain}
-use Rattle.varisat.specs.States.{State, Verdict, Unknown, Sat, Unsat, IsRight}
+use Rattle.varisat_search.specs.AssumptionParts.{AssumptionParts, KeepsAssumptions}
+use Rattle.varisat.specs.States.{State, Verdict, Unknown, Sat, Unsat, UnsatUnderAssumptions, IsRight}
 use Rattle.varisat.specs.Names.{identity_of}
 use Rattle.varisat.specs.Calls.{with_verdict}
 use Rattle.varisat.specs.Carried.{carry, is_forced, value_or}
-use Rattle.varisat.specs.Spaces.{Spaces, Carrying, translation, SearchHolds, AssumptionsFit, MarksFit, VerdictFits, Links, SpacesFit}
+use Rattle.varisat.specs.Spaces.{Spaces, Carrying, Translation, translation, SearchHolds, AssumptionsFit, MarksFit, WorkingFits, CoreFits, without_core, VerdictFits, Links, SpacesFit}
 use Rattle.varisat.proofs.SpacesMoves.{AreLong, AreInUse}
 use Rattle.varisat_names.proofs.Maps.{chain-some, chain-through, is-some}
-use Rattle.varisat.proofs.SpacesAgree.{identities-same, names-same, modes-same, units-same, isolation-same, solvers-same, assumptions-same, marks-same, holds-same, value-same}
+use Rattle.varisat.proofs.SpacesAgree.{identities-same, names-same, modes-same, units-same, isolation-same, solvers-same, assumptions-same, marks-same, working-same, holds-same, value-same}
 use Rattle.varisat.proofs.Carried.{value-true, true-value, value-carry, forced-value}
 use Rattle.varisat.proofs.Relinked.{relinked}
-use Rattle.varisat.proofs.SearchHeld.{answers-covers, held-on, refuted}
+use Rattle.varisat.proofs.SearchHeld.{answers-covers, agrees-through, held-on, refuted}
 
 -- the identity of the solver variable leads back to it
 there-back : (w : Carrying) (p : Spaces) (s : State) (k : Links w p s) (v i : ℕ) → (translation w p).identity v ≡ Some i → (translation w p).solver i ≡ Some v
@@ -40,19 +42,19 @@ back-there w p s k v i e =
     (chain-some p.global_from_solver w.identity v x h ∙ k.identities.one_to_one.back x i f, subst (λ j. j ∈ s.counted) (let z : r.0 ≡ i = cc in z) r.2)
 
 -- the spaces with a verdict that was found
-abbrev pub decide : Search → Outcome → (ℕ → Bool) → Spaces → Spaces
-decide t v m p = record p { search = t; outcome = v; model = m }
+abbrev pub decide : Search → Outcome → (ℕ → Bool) → List Literal → List Literal → Spaces → Spaces
+decide t v m working core p = record p { search = t; outcome = v; model = m; working = working; core = core }
 
 -- another verdict of the state, which is right
-decided : (w : Carrying) (p : Spaces) (s : State) (t : Search) (v : Outcome) (m : ℕ → Bool) (x : Verdict) → Links w p s → SearchHolds s.clauses (translation w p) t v → VerdictFits w.identity m v x → IsRight s.clauses s.assumptions s.counted x → Links w (decide t v m p) (with_verdict x s)
-decided w p s t v m x k holds fits right =
-    relinked w p (decide t v m p) s (with_verdict x s) k (record { solvers = k.solvers; holds = holds; assumptions = k.assumptions; verdict = fits; right = right; few = k.few })
+decided : (w : Carrying) (p : Spaces) (s : State) (t : Search) (v : Outcome) (m : ℕ → Bool) (ws core : List Literal) (x : Verdict) → Links w p s → SearchHolds s.clauses (translation w p) t (without_core v) → WorkingFits s.clauses (translation w p).identity s.assumptions ws → VerdictFits w.identity m v x → CoreFits s.names core x → IsRight s.clauses s.assumptions s.counted x → Links w (decide t v m ws core p) (with_verdict x s)
+decided w p s t v m ws core x k holds working fits told right =
+    relinked w p (decide t v m ws core p) s (with_verdict x s) k (record { solvers = k.solvers; holds = holds; assumptions = k.assumptions; working = working; verdict = fits; core = told; right = right; few = k.few })
 
--- where the verdict is open, the model that was found may be forgotten
-pub forgotten : (w : Carrying) (p : Spaces) (s : State) → Links w p s → s.verdict ≢ Unsat → Links w (decide p.search outcome.Unknown p.model p) (with_verdict Unknown s)
-forgotten w p s k n = decided w p s p.search outcome.Unknown p.model Unknown k (go p.outcome s.verdict k.holds k.verdict n) tt tt
+-- where the verdict isn't Unsat, what was found may be forgotten
+pub forgotten : (w : Carrying) (p : Spaces) (s : State) → Links w p s → s.verdict ≢ Unsat → Links w (decide p.search outcome.Unknown p.model p.working p.core p) (with_verdict Unknown s)
+forgotten w p s k n = decided w p s p.search outcome.Unknown p.model p.working p.core Unknown k (go p.outcome s.verdict k.holds k.verdict n) k.working tt tt tt
   where
-    go : (v : Outcome) (x : Verdict) → SearchHolds s.clauses (translation w p) p.search v → VerdictFits w.identity p.model v x → x ≢ Unsat → SearchHolds s.clauses (translation w p) p.search outcome.Unknown
+    go : (v : Outcome) (x : Verdict) → SearchHolds s.clauses (translation w p) p.search (without_core v) → VerdictFits w.identity p.model v x → x ≢ Unsat → SearchHolds s.clauses (translation w p) p.search outcome.Unknown
     go outcome.Unknown x h f n = h
     go (outcome.Sat found) x h f n =
         let o : outcome.Sat found ≢ outcome.Unsat = (λ q. let z : outcome.Sat found ≡ outcome.Unsat = q in cc) in
@@ -60,29 +62,79 @@ forgotten w p s k n = decided w p s p.search outcome.Unknown p.model Unknown k (
     go outcome.Unsat Unknown h f n = absurd f
     go outcome.Unsat (Sat a) h f n = absurd f
     go outcome.Unsat Unsat h f n = absurd (n refl)
-    go (outcome.UnsatUnder core) x h f n = absurd f
+    go outcome.Unsat (UnsatUnderAssumptions core) h f n = absurd f
+    go (outcome.UnsatUnder core) x h f n = h
 
+-- and where the state has a core, it may come back
+pub core-known : (w : Carrying) (p : Spaces) (s : State) (found core : List Literal) → Links w p s → p.outcome ≡ outcome.Unknown → CoreFits s.names p.core (UnsatUnderAssumptions core) → IsFailedCore s.clauses s.assumptions core → Links w (record p { outcome = outcome.UnsatUnder found }) (with_verdict (UnsatUnderAssumptions core) s)
+core-known w p s found core k unknown told right =
+    decided w p s p.search (outcome.UnsatUnder found) p.model p.working p.core (UnsatUnderAssumptions core) k (subst (SearchHolds s.clauses (translation w p) p.search) (ap without_core unknown) k.holds) k.working tt told right
+
+-- what is held says as much without the core
+holds-without : (held : List Clause) (t : Search) (v : Outcome) → Holds held t v → Holds held t (without_core v)
+holds-without held t outcome.Unknown h = h
+holds-without held t (outcome.Sat found) h = h
+holds-without held t outcome.Unsat h = h
+holds-without held t (outcome.UnsatUnder core) h = h.0
+
+-- the literals carried to identities are true where they are
+pub carried-true : (f : ℕ → Option ℕ) (a : Assignment) (ls : List Literal) → MakesTrue a (map (carry f) ls) → MakesTrue (λ v. a (identity_of (f v))) ls
+carried-true f a ls t l h = sym (value-carry f a l) ∙ t (carry f l) (∈-map (carry f) l ls h)
+
+true-carried : (f : ℕ → Option ℕ) (a : Assignment) (ls : List Literal) → MakesTrue (λ v. a (identity_of (f v))) ls → MakesTrue a (map (carry f) ls)
+true-carried f a ls t l h = let (m, i, e) = map-∈ (carry f) l ls h in ap (value a) e ∙ value-carry f a m ∙ t m i
+
+-- the assumptions that are left after steps
+pub working-on : (P : List Clause) (r : Translation) (s : Search) (v : Outcome) (as' : List Literal) (x y : AssumptionParts) → SearchHolds P r s outcome.Unknown → KeepsAssumptions s v x y → WorkingFits P r.identity as' x.working → WorkingFits P r.identity as' y.working
+working-on P r s v as' x y h k f = record {
+  used = λ l i. f.used l (k.part l i);
+  part = λ l i. let (m, j, e) = map-∈ (carry r.identity) l y.working i in subst (λ z. z ∈ as') (sym e) (f.part (carry r.identity m) (∈-map (carry r.identity) m x.working (k.part m j)));
+  implied = λ a m t.
+      let b : Assignment = λ v. a (identity_of (r.identity v)) in
+      f.implied a m (true-carried r.identity a x.working (k.implied h.held h.holds b (h.implied a b m (agrees-through r.identity a)) (carried-true r.identity a y.working t)));
+}
+
+-- Steps were made, and left some of the assumptions.
 module _ (w : Carrying) (p : Spaces) (s : State) (k : Links w p s) (unknown : p.outcome ≡ outcome.Unknown) (t : Search) (v : Outcome) (n : ℕ) (lines : List Line) (made : MakesSteps n p.search t v lines) (long : AreLong t) (in-use : AreInUse p t) where
   before : SearchHolds s.clauses (translation w p) p.search outcome.Unknown
-  before = subst (SearchHolds s.clauses (translation w p) p.search) unknown k.holds
+  before = subst (SearchHolds s.clauses (translation w p) p.search) (ap without_core unknown) k.holds
 
   -- what the search holds after the steps
-  pub steps-hold : SearchHolds s.clauses (translation w p) t v
+  pub steps-hold : SearchHolds s.clauses (translation w p) t (without_core v)
   steps-hold =
       let (after, d, o) = made.holds before.held before.holds in
-      held-on s.clauses (translation w p) p.search t v before long
-      (λ e Q g. answers-covers Q t v e (made.answers Q g))
-      lines after (by_derives n before.held lines after d) o
+      held-on s.clauses (translation w p) p.search t (without_core v) before long
+      (λ e Q g. answers-covers Q t v (λ q. e (ap without_core q)) (made.answers Q g))
+      lines after (by_derives n before.held lines after d) (holds-without after t v o)
       (λ l a. let (x, b) = in-use l a in let q = k.solvers.live (variable_of l) x b in (q.0, chain-some p.global_from_solver w.identity (variable_of l) x b ∙ q.1))
 
-  -- without a verdict
-  pub went-on : (m : ℕ → Bool) → v ≡ outcome.Unknown → Links w (decide t v m p) (with_verdict Unknown s)
-  went-on m e = decided w p s t v m Unknown k steps-hold (subst (λ y. VerdictFits w.identity m y Unknown) (sym e) tt) tt
+  module _ (x y : AssumptionParts) (same : p.working ≡ x.working) (keeps : KeepsAssumptions p.search v x y) where
+    pub left : WorkingFits s.clauses (translation w p).identity s.assumptions y.working
+    left = working-on s.clauses (translation w p) p.search v s.assumptions x y before keeps (subst (WorkingFits s.clauses (translation w p).identity s.assumptions) same k.working)
 
-  pub unsat-found : (m : ℕ → Bool) → v ≡ outcome.Unsat → Links w (decide t v m p) (with_verdict Unsat s)
-  unsat-found m e =
-      let none = refuted s.clauses (translation w p) t (subst (SearchHolds s.clauses (translation w p) t) e steps-hold) in
-      decided w p s t v m Unsat k steps-hold (subst (λ y. VerdictFits w.identity m y Unsat) (sym e) tt) none
+    -- without a verdict
+    pub went-on : (m : ℕ → Bool) (core : List Literal) → v ≡ outcome.Unknown → Links w (decide t v m y.working core p) (with_verdict Unknown s)
+    went-on m core e = decided w p s t v m y.working core Unknown k steps-hold left (subst (λ y. VerdictFits w.identity m y Unknown) (sym e) tt) tt tt
+
+    pub unsat-found : (m : ℕ → Bool) (core : List Literal) → v ≡ outcome.Unsat → Links w (decide t v m y.working core p) (with_verdict Unsat s)
+    unsat-found m core e =
+        let none = refuted s.clauses (translation w p) t (subst (SearchHolds s.clauses (translation w p) t) (ap without_core e) steps-hold) in
+        decided w p s t v m y.working core Unsat k steps-hold left (subst (λ y. VerdictFits w.identity m y Unsat) (sym e) tt) tt none
+
+    -- a core was found, which is told over names in use
+    pub core-found : (m : ℕ → Bool) (found told : List Literal) → v ≡ outcome.UnsatUnder found → ((l : Literal) → l ∈ told → (i : ℕ) × (s.names (variable_of l) ≡ Some i)) → map (carry s.names) told ≡ map (carry (translation w p).identity) found → Links w (decide t v m y.working told p) (with_verdict (UnsatUnderAssumptions (map (carry s.names) told)) s)
+    core-found m found told e named same-core =
+        let to = (translation w p).identity in
+        let as' = s.assumptions in
+        let part : map (carry s.names) told ⊆ as' = (λ l i.
+        let (z, j, q) = map-∈ (carry to) l found (subst (λ xs. l ∈ xs) same-core i) in
+        subst (λ y. y ∈ as') (sym q) (k.working.part (carry to z) (∈-map (carry to) z p.working (subst (λ xs. z ∈ xs) (sym same) (keeps.core found e z j))))) in
+        let none : IsSatisfiableWith s.clauses (map (carry s.names) told) → ⊥ = (λ (a, sat, true-core).
+        let b : Assignment = λ v. a (identity_of (to v)) in
+        let (after, d, o) = made.holds before.held before.holds in
+        let all = derives_sound before.held lines after b (by_derives n before.held lines after d) (before.implied a b sat (agrees-through to a)) in
+        conflicts_sound after found b all (carried-true to a found (subst (MakesTrue a) same-core true-core)) (subst (Holds after t) e o).1) in
+        decided w p s t v m y.working told (UnsatUnderAssumptions (map (carry s.names) told)) k steps-hold left (subst (λ y. VerdictFits w.identity m y (UnsatUnderAssumptions (map (carry s.names) told))) (sym e) tt) (named, refl) (part, none)
 
 module _ (w : Carrying) (p : Spaces) (s : State) (k : Links w p s) (unknown : p.outcome ≡ outcome.Unknown) (t : Search) (f : Assignment) (n : ℕ) (lines : List Line) (made : MakesSteps n p.search t (outcome.Sat f) lines) (long : AreLong t) (in-use : AreInUse p t) where
   pub found : Assignment
@@ -121,38 +173,44 @@ module _ (w : Carrying) (p : Spaces) (s : State) (k : Links w p s) (unknown : p.
       ((before w p s k unknown t (outcome.Sat f) n lines made long in-use).covered (λ q. let z : outcome.Unknown ≡ outcome.Unsat = q in cc))
       found-literal found-forced
 
-  pub sat-found : MakesTrue f (map (carry p.solver_from_global) p.assumptions) →
-      Links w (decide t (outcome.Sat f) (λ x. value_or (p.kept x).unit f (p.solver_from_global x)) p) (with_verdict (Sat found) s)
+  pub sat-found : (x y : AssumptionParts) → p.working ≡ x.working → KeepsAssumptions p.search (outcome.Sat f) x y → (core : List Literal) →
+      Links w (decide t (outcome.Sat f) (λ x. value_or (p.kept x).unit f (p.solver_from_global x)) y.working core p) (with_verdict (Sat found) s)
   unfolding found
-  sat-found assumed =
-      decided w p s t (outcome.Sat f) (λ x. value_or (p.kept x).unit f (p.solver_from_global x)) (Sat found) k
+  sat-found x y same keeps core =
+      let fits = left w p s k unknown t (outcome.Sat f) n lines made long in-use x y same keeps in
+      decided w p s t (outcome.Sat f) (λ x. value_or (p.kept x).unit f (p.solver_from_global x)) y.working core (Sat found) k
       (steps-hold w p s k unknown t (outcome.Sat f) n lines made long in-use)
-      (λ x i e. ap (λ o. value_or o f (chain w.global p.solver_from_global i)) (k.units.unit x i e) ∙ ap (value_or (p.kept x).unit f) (chain-some w.global p.solver_from_global i x (k.identities.one_to_one.there x i e))) (
+      fits
+      (λ x i e. ap (λ o. value_or o f (chain w.global p.solver_from_global i)) (k.units.unit x i e) ∙ ap (value_or (p.kept x).unit f) (chain-some w.global p.solver_from_global i x (k.identities.one_to_one.there x i e)))
+      tt (
         found-satisfies,
-        λ l a.
-            let (g, b, e) = map-∈ (carry w.identity) l p.assumptions (subst (λ y. l ∈ y) k.assumptions.agree a) in
-            let (v, c) = k.assumptions.taken g b in
-            let y = k.solvers.live v (variable_of g) (k.solvers.one_to_one.there (variable_of g) v c) in
-            let z : found (identity_of (w.identity (variable_of g))) ≡ f (identity_of (p.solver_from_global (variable_of g))) =
-            ap (λ o. found (identity_of o)) y.1 ∙ found-solved v y.0 (chain-some p.global_from_solver w.identity v (variable_of g) (k.solvers.one_to_one.there (variable_of g) v c) ∙ y.1) ∙ ap (λ o. f (identity_of o)) (sym c) in
-            ap (value found) e ∙ value-carry w.identity found g ∙ value-same (λ x. found (identity_of (w.identity x))) (λ x. f (identity_of (p.solver_from_global x))) g z ∙ sym (value-carry p.solver_from_global f g) ∙ assumed (carry p.solver_from_global g) (∈-map (carry p.solver_from_global) g p.assumptions b),
+        fits.implied found found-satisfies (λ l h.
+            let (g, b, e) = map-∈ (carry (translation w p).identity) l y.working h in
+            let (i, c) = fits.used g b in
+            ap (value found) e ∙ value-carry (translation w p).identity found g ∙ value-same (λ v. found (identity_of ((translation w p).identity v))) f g (ap (λ o. found (identity_of o)) c ∙ found-solved (variable_of g) i c) ∙ keeps.model f refl g b),
         λ i h. ⊎_elim
             (λ e. ap (value_or (w.forced i) f) e ∙ ⊎_elim (λ u. ap is_true_value u) (λ (b, u). absurd (h (k.units.is_counted i b u))) (is-some (w.forced i)))
             (λ (v, e). absurd (h (back-there w p s k v i e).1))
             (is-some ((translation w p).solver i)),
       )
 
-model-same : (id : ℕ → Option ℕ) (m m' : ℕ → Bool) (o : Outcome) (v : Verdict) → ((found : Assignment) → o ≡ outcome.Sat found → (x : ℕ) → m' x ≡ m x) → VerdictFits id m o v → VerdictFits id m' o v
+pub model-same : (id : ℕ → Option ℕ) (m m' : ℕ → Bool) (o : Outcome) (v : Verdict) → ((found : Assignment) → o ≡ outcome.Sat found → (x : ℕ) → m' x ≡ m x) → VerdictFits id m o v → VerdictFits id m' o v
 model-same id m m' outcome.Unknown Unknown h f = tt
 model-same id m m' outcome.Unknown (Sat a) h f = f
 model-same id m m' outcome.Unknown Unsat h f = f
+model-same id m m' outcome.Unknown (UnsatUnderAssumptions core) h f = f
 model-same id m m' (outcome.Sat a0) Unknown h f = f
 model-same id m m' (outcome.Sat a0) (Sat a) h f = λ x i e. f x i e ∙ sym (h a0 refl x)
 model-same id m m' (outcome.Sat a0) Unsat h f = f
+model-same id m m' (outcome.Sat a0) (UnsatUnderAssumptions core) h f = f
 model-same id m m' outcome.Unsat Unknown h f = f
 model-same id m m' outcome.Unsat (Sat a) h f = f
 model-same id m m' outcome.Unsat Unsat h f = tt
-model-same id m m' (outcome.UnsatUnder core) v h f = absurd f
+model-same id m m' outcome.Unsat (UnsatUnderAssumptions core) h f = f
+model-same id m m' (outcome.UnsatUnder core0) Unknown h f = f
+model-same id m m' (outcome.UnsatUnder core0) (Sat a) h f = f
+model-same id m m' (outcome.UnsatUnder core0) Unsat h f = f
+model-same id m m' (outcome.UnsatUnder core0) (UnsatUnderAssumptions core) h f = tt
 
 -- Two spaces agree at each place, in the model where one was found.
 pub record AreSame (p q : Spaces) : Type 0 where
@@ -164,6 +222,8 @@ pub record AreSame (p q : Spaces) : Type 0 where
   pub kept : (x : ℕ) → q.kept x ≡ p.kept x
   pub model : (found : Assignment) → p.outcome ≡ outcome.Sat found → (x : ℕ) → q.model x ≡ p.model x
   pub assumptions : q.assumptions ≡ p.assumptions
+  pub core : q.core ≡ p.core
+  pub working : q.working ≡ p.working
   pub search : q.search ≡ p.search
   pub outcome : q.outcome ≡ p.outcome
   pub var_count : q.var_count ≡ p.var_count
@@ -180,11 +240,13 @@ spaces-same p q s e (w, k) = (
     units = units-same w.identity w.forced p.kept q.kept s.counted (λ x. ap (λ y. y.unit) (e.kept x)) k.units;
     isolation = isolation-same w.identity w.forced p.kept q.kept s.clauses s.made (λ x. ap (λ y. y.isolated) (e.kept x)) k.isolation;
     solvers = solvers-same w.identity p.solver_from_global p.global_from_solver q.solver_from_global q.global_from_solver s.counted e.solver_from_global e.global_from_solver k.solvers;
-    holds = subst (λ t. SearchHolds s.clauses (translation w q) t q.outcome) (sym e.search) (subst (SearchHolds s.clauses (translation w q) p.search) (sym e.outcome)
-        (holds-same s.clauses (translation w p) (translation w q) p.search p.outcome (λ v. ap (λ y. onward y w.identity) (e.global_from_solver v)) (λ i. through (w.global i)) (λ i. refl) e.hidden k.holds));
-    assumptions = subst (λ y. AssumptionsFit w.identity q.user_from_global q.solver_from_global y s.assumptions) (sym e.assumptions) (assumptions-same w.identity p.user_from_global p.solver_from_global q.user_from_global q.solver_from_global p.assumptions s.assumptions e.user_from_global e.solver_from_global k.assumptions);
-    marks = subst (MarksFit q.kept) (sym e.assumptions) (marks-same p.kept q.kept p.assumptions (λ x. ap (λ y. y.assumed) (e.kept x)) k.marks);
+    holds = subst (λ t. SearchHolds s.clauses (translation w q) t (without_core q.outcome)) (sym e.search) (subst (λ o. SearchHolds s.clauses (translation w q) p.search (without_core o)) (sym e.outcome)
+        (holds-same s.clauses (translation w p) (translation w q) p.search (without_core p.outcome) (λ v. ap (λ y. onward y w.identity) (e.global_from_solver v)) (λ i. through (w.global i)) (λ i. refl) e.hidden k.holds));
+    assumptions = subst (λ y. AssumptionsFit q.global_from_user q.solver_from_global s.names y s.assumptions) (sym e.assumptions) (assumptions-same p.global_from_user p.solver_from_global q.global_from_user q.solver_from_global s.names p.assumptions s.assumptions e.global_from_user e.solver_from_global k.assumptions);
+    marks = subst (MarksFit q.global_from_user q.kept) (sym e.assumptions) (marks-same p.global_from_user q.global_from_user p.kept q.kept p.assumptions e.global_from_user (λ x. ap (λ y. y.assumed) (e.kept x)) k.marks);
+    working = subst (WorkingFits s.clauses (translation w q).identity s.assumptions) (sym e.working) (working-same s.clauses (translation w p).identity (translation w q).identity s.assumptions p.working (λ l h. ap (λ y. onward y w.identity) (e.global_from_solver (variable_of l))) k.working);
     verdict = subst (λ y. VerdictFits w.identity q.model y s.verdict) (sym e.outcome) (model-same w.identity p.model q.model p.outcome s.verdict e.model k.verdict);
+    core = subst (λ c. CoreFits s.names c s.verdict) (sym e.core) k.core;
     right = k.right;
     well_formed = k.well_formed;
     few = subst (λ n. n ≤ length s.counted) (sym e.var_count) k.few;

@@ -1,41 +1,52 @@
 -- What the solver's calls do to the states that it stands for.
-use Rattle.std.proofs.Common.{Result, Ok, Err, Vec, ◌≡◌, ℕ, zero, suc, ◌+◌, ◌-◌, ◌<◌, ◌≤◌, nat_lt, if◌then◌else◌, Bool, true, false, Option, Some, None, List, [], ◌++◌, ◌⊎◌, inl, inr, ⊎_elim, length, get_or, sym, ap, ◌∙◌, subst, refl, arith}
-use Rattle.varisat_theory.specs.Literals.{Literal, Assignment, IsSatisfiableWith}
+use Rattle.std.proofs.Common.{Result, Ok, Err, Vec, ◌≡◌, ℕ, zero, suc, ◌+◌, ◌-◌, ◌<◌, ◌≤◌, nat_lt, if◌then◌else◌, Bool, true, false, Option, Some, None, List, [], ◌++◌, ◌⊎◌, inl, inr, ⊎_elim, length, map, get_or, sym, ap, ◌∙◌, subst, refl, arith}
+use Rattle.varisat_theory.specs.Membership.{◌∈◌}
+use Rattle.varisat_theory.specs.Literals.{Literal, Clause, Assignment, variable_of, IsSatisfiableWith, IsFailedCore}
 use Rattle.varisat_theory.specs.Derivations.{Line}
 use Rattle.varisat_theory.specs.Searches.{IsLiteralOf}
 use Rattle.varisat_theory.specs.Outcomes.{MakesSteps}
 use Rattle.varisat_theory.specs.Outcomes as outcome
 use Rattle.varisat_theory.proofs.Reached.{reached_self}
+use Rattle.varisat_theory.proofs.Renaming.{map-∈}
+use Rattle.varisat_prop.proofs.LiteralValues.{same-literal}
 use Rattle.varisat_theory.proofs.StepStands.{first_stands}
 use Rattle.varisat_prop.specs.Parts.{is_true_value}
 use Rattle.varisat_prop.specs.View.{View, WellFormed}
+use Rattle.varisat_search.specs.declared.state.SatState.{SatState}
 use Rattle.varisat_search.specs.declared.state.SatState.TheVariants as verdict
-use Rattle.varisat_search.specs.declared.state.SolverState.{SolverState}
 use Rattle.varisat_search.specs.declared.context.Context.{Context}
-use Rattle.varisat_search.specs.Contexts.{view, first_state, IsReady}
+use Rattle.varisat_search.specs.AssumptionParts.{AssumptionParts, no_assumptions, KeepsAssumptions}
+use Rattle.varisat_search.specs.Contexts.{view, IsReady}
 use Rattle.varisat_search.specs.Decisions.{IsDecidable}
 use Rattle.varisat_search.specs.Seen.{search_of, outcome_of, first_search}
 use Rattle.varisat_search.specs.Steps.{assignment_of}
+use Rattle.varisat_names.specs.Maps.{chain}
 use Rattle.varisat_names.specs.VarMap.{at, IsLeastUnmapped}
 use Rattle.varisat_names.specs.VarData.{kept_at}
 use Rattle.varisat_names.specs.Variables.{Tables, no_variables, IsGiven}
-use Rattle.varisat_names.proofs.Maps.{chain-none, chain-some, is-some}
+use Rattle.varisat_names.proofs.Maps.{chain-none, chain-some, chain-through, is-some}
+use Rattle.varisat_names.proofs.Tables.{live-inside}
 use Rattle.varisat.specs.Budgets.{CountsSteps}
 use Rattle.varisat.specs.declared.solver.SolverError.{SolverError}
-use Rattle.varisat.specs.States.{State, Ledger, Verdict, Unknown, Sat, Unsat, HasRightVerdict, IsRight, empty_state}
-use Rattle.varisat.specs.Names.{bring, bring_next, bring_if_free, name_one, IsLeastFree}
-use Rattle.varisat.specs.Models.{put_name, model_of, IsCompletable}
-use Rattle.varisat.specs.Calls.{IsValid, TellsModel, answer_of, with_verdict}
-use Rattle.varisat.specs.Told.{told_model}
+use Rattle.varisat.specs.States.{State, Ledger, Verdict, Unknown, Sat, Unsat, UnsatUnderAssumptions, HasRightVerdict, IsRight, empty_state}
+use Rattle.varisat.specs.Names.{bring, bring_next, bring_if_free, name_one, IsLeastFree, through_names}
+use Rattle.varisat.specs.Models.{put_name, model_of, IsCompletable, core_of, IsCoreToTell}
+use Rattle.varisat.specs.Calls.{IsValid, TellsModel, TellsCore, TellsVerdict, answer_of, with_verdict}
+use Rattle.varisat.specs.Told.{told_list}
 use Rattle.std.specs.Result.{IsErr}
 use Rattle.std.specs.declared.alloc.AllocError.{AllocError}
-use Rattle.varisat.specs.Carried.{value_or}
+use Rattle.varisat.specs.Carried.{carry, value_or}
 use Rattle.varisat.specs.Accepting.{IsPlain}
-use Rattle.varisat.specs.Searches.{verdict_of, verdict_found}
-use Rattle.varisat.specs.Spaces.{Spaces, Carrying, VerdictFits, Links, SpacesFit, list_globals}
+use Rattle.varisat.specs.Searches.{answer_at, FindsVerdict}
+use Rattle.varisat.specs.Spaces.{Spaces, Carrying, translation, CoreFits, VerdictFits, Links, SpacesFit, list_globals}
 use Rattle.varisat.specs.Summaries.{Summary, IsKept, StandsFor, spaces, spaces_of, list_tables}
-use Rattle.varisat.proofs.SolveVerdict.{sat-found, unsat-found, found, went-on}
-use Rattle.varisat.proofs.ModelsFit.{told, is-sat, is-unknown}
+use Rattle.varisat.proofs.AcceptLoad.{map-map}
+use Rattle.varisat.proofs.CallStates.{like-refl}
+use Rattle.varisat.proofs.VerdictAnswers.{right-false, right-core, core-answer}
+use Rattle.varisat.proofs.Carried.{carry-at, carry-sign}
+use Rattle.varisat.proofs.SettingsCalls.{summary_of}
+use Rattle.varisat.proofs.SolveVerdict.{spaces-same, sat-found, unsat-found, core-found, found, went-on}
+use Rattle.varisat.proofs.ModelsFit.{told, is-sat, is-unsat, is-core, is-unknown}
 use Rattle.varisat.proofs.PlainTables.{given-plain}
 use Rattle.varisat.proofs.AcceptClause.{with_tables, given-spaces, in-use-all}
 use Rattle.varisat.proofs.SearchViews.{view-long}
@@ -48,17 +59,17 @@ first-plain = record {
   no_units = λ x. refl;
 }
 
-pub first-kept : {A : Type 0} (t : Tables) (c : Context A) → t ≡ no_variables → IsReady c → length c.assignment.current ≡ 0 → c.solver_state ≡ first_state → ((v : ℕ) → IsDecidable (view c) c.vsids v → ⊥) → IsKept t c
+pub first-kept : {A : Type 0} (t : Tables) (c : Context A) → t ≡ no_variables → IsReady c → length c.assignment.current ≡ 0 → c.assumptions ≡ no_assumptions → ((v : ℕ) → IsDecidable (view c) c.vsids v → ⊥) → IsKept t c
 first-kept t c e r n s d = record {
   small = let z = ap (λ (x : Tables). length x.users.forward) e in omega (arith, z);
   plain = subst IsPlain (sym e) first-plain;
   ready = r;
   count = n ∙ ap (λ (x : Tables). length x.solvers.backward) (sym e);
   decidable = λ v. ((λ h. absurd (d v h)), (λ h. absurd (omega (arith, h, n))));
-  no_assumptions = λ q. let z : verdict.Unknown ≡ verdict.UnsatUnderAssumptions = sym (ap (λ (x : SolverState). x.sat_state) s) ∙ q in cc;
+  assumed = λ l h. absurd (subst (λ (x : AssumptionParts). l ∈ x.user) s h);
 }
 
-pub first-spaces : (s : View) → search_of s ≡ first_search → length s.values ≡ 0 → SpacesFit (spaces_of no_variables s verdict.Unknown) empty_state
+pub first-spaces : (s : View) → search_of s ≡ first_search → length s.values ≡ 0 → SpacesFit (spaces_of no_variables s no_assumptions verdict.Unknown) empty_state
 first-spaces s e n =
     let f = first_stands (search_of s) e in (
       record { identity = λ x. None; global = λ i. None; forced = λ i. None },
@@ -81,9 +92,11 @@ first-spaces s e n =
           taken = λ z c l h. absurd h;
           reached = λ z. reached_self [];
         };
-        assumptions = record { agree = refl; named = λ l h. absurd h; taken = λ l h. absurd h };
-        marks = record { marked = λ l h. absurd h; only = λ x e. absurd (let z : false ≡ true = e in cc) };
+        assumptions = record { agree = refl; taken = λ l h. absurd h };
+        marks = record { marked = λ l x h. absurd h; only = λ x e. absurd (let z : false ≡ true = e in cc) };
+        working = record { used = λ l h. absurd h; part = λ l h. h; implied = λ a m t. t };
         verdict = tt;
+        core = tt;
         right = tt;
         well_formed = record { one_to_one = λ u v i e. absurd (let z : None ≡ Some i = e in cc); free = λ u h. refl; named = λ u i e. absurd (let z : None ≡ Some i = e in cc); accepted = λ c l h. absurd h; assumed = λ l h. absurd h; counted = λ i h. absurd h; once = tt };
         few = omega (arith, n);
@@ -141,14 +154,69 @@ new-plain old new u x n least b t = given-plain old new x n (subst (λ v. IsGive
 recount : (w : Carrying) (p : Spaces) (m n : ℕ) (s : State) → n ≡ m → Links w (record p { var_count = m }) s → Links w (record p { var_count = n }) s
 recount w p m n s e k = subst (λ c. Links w (record p { var_count = c }) s) (sym e) k
 
--- Steps of the search found a verdict or none, and left the view.
-pub record StepsMade (g : Summary) (t : View) (found : Option Bool) : Type 0 where
+-- the state of a solver once the search found a verdict or none
+abbrev pub after_steps : Summary → View → AssumptionParts → SatState → Summary
+after_steps g t z after = record g { search = t; assumed = z; sat_state = after }
+
+-- Steps of the search found a verdict or none, left the view and some of the assumptions, and a core was told over names.
+pub record StepsMade (g : Summary) (t : View) (y z : AssumptionParts) (after : SatState) : Type 0 where
   pub unknown : g.sat_state ≡ verdict.Unknown
   pub plain : IsPlain g.tables
   pub count : length g.search.values ≡ length g.tables.solvers.backward
   pub same_count : length t.values ≡ length g.search.values
   pub well : WellFormed t
-  pub steps : (k : ℕ) × (lines : List Line) × MakesSteps k (search_of g.search) (search_of t) (outcome_of t (verdict_found found)) lines
+  pub steps : (k : ℕ) × (lines : List Line) × MakesSteps k (search_of g.search) (search_of t) (outcome_of t y.failed_core after) lines
+  pub assumes : KeepsAssumptions (search_of g.search) (outcome_of t y.failed_core after) g.assumed y
+  pub rest : z ≡ record y { user_core = z.user_core }
+  pub named : after ≡ verdict.UnsatUnderAssumptions → z.user_core ≡ map (carry (chain (at g.tables.solvers.backward) (at g.tables.users.backward))) y.failed_core
+
+-- the spaces that steps leave are those of the solver afterwards
+left-spaces : (g : Summary) (s : State) (t : View) (y z : AssumptionParts) (after : SatState) (v : StepsMade g t y z after) → SpacesFit (record (spaces g) { search = search_of t; outcome = outcome_of t y.failed_core after; model = (spaces (after_steps g t z after)).model; working = y.working; core = z.user_core }) s → SpacesFit (spaces (after_steps g t z after)) s
+left-spaces g s t y z after v f =
+    let (w, k) = f in
+    let p = record (spaces g) { search = search_of t; outcome = outcome_of t y.failed_core after; model = (spaces (after_steps g t z after)).model; working = y.working; core = z.user_core } in
+    spaces-same (record p { var_count = length t.values }) (spaces (after_steps g t z after)) s (record {
+      global_from_user = λ u. refl;
+      user_from_global = λ x. refl;
+      watermark = refl;
+      solver_from_global = λ x. refl;
+      global_from_solver = λ u. refl;
+      kept = λ x. refl;
+      model = λ a e x. refl;
+      assumptions = ap (λ (x : AssumptionParts). x.user) v.rest ∙ v.assumes.user;
+      core = refl;
+      working = ap (λ (x : AssumptionParts). x.working) v.rest;
+      search = refl;
+      outcome = ap (λ (x : AssumptionParts). outcome_of t x.failed_core after) v.rest;
+      var_count = refl;
+      hidden = refl;
+    }) (w, recount w p (length g.search.values) (length t.values) s v.same_count k)
+
+-- the names of the solver variables of a core, carried to identities, are what the core is carried to
+module _ (g : Summary) (s : State) (w : Carrying) (k : Links w (spaces g) s) (plain : IsPlain g.tables) where
+  -- where a solver variable leads
+  core-leads : (m : Literal) → m ∈ g.assumed.working → (u i : ℕ) × (chain (at g.tables.solvers.backward) (at g.tables.users.backward) (variable_of m) ≡ Some u) × ((translation w (spaces g)).identity (variable_of m) ≡ Some i) × (s.names u ≡ Some i)
+  core-leads m a =
+      let (i, t) = k.working.used m a in
+      let (x, b, c) = chain-through (at g.tables.solvers.backward) w.identity (variable_of m) i t in
+      let inside = live-inside g.tables.kept x (k.identities.live x i c) in
+      let n = plain.nothing_hidden in
+      let used = n.users x (let d = n.count in omega (arith, inside, d)) in
+      (x, i, chain-some (at g.tables.solvers.backward) (at g.tables.users.backward) (variable_of m) x b ∙ k.names.one_to_one.there x x used, t, k.names.agree x ∙ chain-some (at g.tables.users.forward) w.identity x x used ∙ c)
+
+  names-carried : (core told : List Literal) → ((l : Literal) → l ∈ core → l ∈ g.assumed.working) → told ≡ map (carry (chain (at g.tables.solvers.backward) (at g.tables.users.backward))) core →
+      ((l : Literal) → l ∈ told → (i : ℕ) × (s.names (variable_of l) ≡ Some i)) × (map (carry s.names) told ≡ map (carry (translation w (spaces g)).identity) core)
+  names-carried core told part e = (
+    λ l h.
+        let (m, a, q) = map-∈ (carry (chain (at g.tables.solvers.backward) (at g.tables.users.backward))) l core (subst (λ xs. l ∈ xs) e h) in
+        let (u, i, r, t, n) = core-leads m (part m a) in
+        (i, ap s.names (ap variable_of q ∙ carry-at (chain (at g.tables.solvers.backward) (at g.tables.users.backward)) m u r) ∙ n),
+    ap (map (carry s.names)) e ∙ map-map (carry s.names) (carry (chain (at g.tables.solvers.backward) (at g.tables.users.backward))) (carry (translation w (spaces g)).identity) core (λ m a.
+        let f = chain (at g.tables.solvers.backward) (at g.tables.users.backward) in
+        let to = (translation w (spaces g)).identity in
+        let (u, i, r, t, n) = core-leads m (part m a) in
+        same-literal (carry s.names (carry f m)) (carry to m) (carry-at s.names (carry f m) i (ap s.names (carry-at f m u r) ∙ n) ∙ sym (carry-at to m i t)) (carry-sign s.names (carry f m) ∙ carry-sign f m ∙ sym (carry-sign to m))),
+  )
 
 pub record Decided (g : Summary) (s : State) (b : Bool) : Type 0 where
   pub verdict : Verdict
@@ -156,25 +224,32 @@ pub record Decided (g : Summary) (s : State) (b : Bool) : Type 0 where
   pub right : HasRightVerdict (with_verdict verdict s)
   pub fits : SpacesFit (spaces g) (with_verdict verdict s)
 
-decided-fits : (g : Summary) (s : State) (t : View) (b : Bool) → SpacesFit (spaces g) s → StepsMade g t (Some b) → Decided (record g { search = t; sat_state = verdict_of b }) s b
-decided-fits g s t true (w, k) v =
+decided-fits : (g : Summary) (s : State) (t : View) (y z : AssumptionParts) (after : SatState) (b : Bool) → answer_at after ≡ Some b → SpacesFit (spaces g) s → StepsMade g t y z after → Decided (after_steps g t z after) s b
+decided-fits g s t y z verdict.Unknown b e (w, k) v = absurd cc
+decided-fits g s t y z verdict.Sat b e (w, k) v =
     let (j, lines, made) = v.steps in
-    let unknown = ap (outcome_of g.search) v.unknown in
+    let unknown = ap (outcome_of g.search g.assumed.failed_core) v.unknown in
     let long = view-long t v.well in
     let in-use = in-use-all g.tables t v.plain.nothing_hidden.solvers (v.same_count ∙ v.count) v.well in
     let a = found w (spaces g) s k unknown (search_of t) (assignment_of t) j lines made long in-use in
-    let links = sat-found w (spaces g) s k unknown (search_of t) (assignment_of t) j lines made long in-use (λ l h. absurd h) in
-    let links' = recount w (spaces (record g { search = t; sat_state = verdict.Sat })) (length g.search.values) (length t.values) (with_verdict (Sat a) s) v.same_count links in
-    record { verdict = Sat a; answer = refl; right = links'.right; fits = (w, links') }
-decided-fits g s t false (w, k) v =
+    let links = sat-found w (spaces g) s k unknown (search_of t) (assignment_of t) j lines made long in-use g.assumed y refl v.assumes z.user_core in
+    record { verdict = Sat a; answer = e; right = links.right; fits = left-spaces g (with_verdict (Sat a) s) t y z verdict.Sat v (w, links) }
+decided-fits g s t y z verdict.Unsat b e (w, k) v =
     let (j, lines, made) = v.steps in
     let in-use = in-use-all g.tables t v.plain.nothing_hidden.solvers (v.same_count ∙ v.count) v.well in
-    let links = unsat-found w (spaces g) s k (ap (outcome_of g.search) v.unknown) (search_of t) outcome.Unsat j lines made (view-long t v.well) in-use (spaces (record g { search = t; sat_state = verdict.Unsat })).model refl in
-    let links' = recount w (spaces (record g { search = t; sat_state = verdict.Unsat })) (length g.search.values) (length t.values) (with_verdict Unsat s) v.same_count links in
-    record { verdict = Unsat; answer = refl; right = links'.right; fits = (w, links') }
+    let links = unsat-found w (spaces g) s k (ap (outcome_of g.search g.assumed.failed_core) v.unknown) (search_of t) outcome.Unsat j lines made (view-long t v.well) in-use g.assumed y refl v.assumes (spaces (after_steps g t z verdict.Unsat)).model z.user_core refl in
+    record { verdict = Unsat; answer = e; right = links.right; fits = left-spaces g (with_verdict Unsat s) t y z verdict.Unsat v (w, links) }
+decided-fits g s t y z verdict.UnsatUnderAssumptions b e (w, k) v =
+    let (j, lines, made) = v.steps in
+    let in-use = in-use-all g.tables t v.plain.nothing_hidden.solvers (v.same_count ∙ v.count) v.well in
+    let told = z.user_core in
+    let (named, same) = names-carried g s w k v.plain y.failed_core told (v.assumes.core y.failed_core refl) (v.named refl) in
+    let links = core-found w (spaces g) s k (ap (outcome_of g.search g.assumed.failed_core) v.unknown) (search_of t) (outcome.UnsatUnder y.failed_core) j lines made (view-long t v.well) in-use g.assumed y refl v.assumes (spaces (after_steps g t z verdict.UnsatUnderAssumptions)).model y.failed_core told refl named same in
+    let core = UnsatUnderAssumptions (map (carry s.names) told) in
+    record { verdict = core; answer = e; right = links.right; fits = left-spaces g (with_verdict core s) t y z verdict.UnsatUnderAssumptions v (w, links) }
 
-pub decided : (g : Summary) (s : State) (t : View) (b : Bool) → StandsFor g s → g.ledger.valid ≡ true → StepsMade g t (Some b) → Decided (record g { search = t; sat_state = verdict_of b }) s b
-decided g s t b st v f = decided-fits g s t b (st.fits v) f
+pub decided : (g : Summary) (s : State) (t : View) (y z : AssumptionParts) (after : SatState) (b : Bool) → answer_at after ≡ Some b → StandsFor g s → g.ledger.valid ≡ true → StepsMade g t y z after → Decided (after_steps g t z after) s b
+decided g s t y z after b e st v f = decided-fits g s t y z after b e (st.fits v) f
 
 -- how the steps are counted, for the state
 pub counted-call : (g : Summary) (s : State) (max_steps after : ℕ) (a r : Result Bool SolverError) → StandsFor g s → g.ledger.valid ≡ true → max_steps ≡ g.ledger.settings.max_steps → a ≡ r → ((n : ℕ) → length g.search.values ≤ n → CountsSteps n max_steps g.ledger.steps after a) → CountsSteps (length s.counted) s.ledger.settings.max_steps s.ledger.steps after r
@@ -186,17 +261,17 @@ counted-call g s max_steps after a r st v m e c =
     (subst (CountsSteps (length s.counted) max_steps g.ledger.steps after) e k))
 
 -- the search can go on from where it was interrupted
-pub interrupted : (g : Summary) (s : State) (t : View) → StandsFor g s → g.ledger.valid ≡ true → StepsMade g t None → SpacesFit (spaces (record g { search = t; sat_state = verdict.Unknown })) (with_verdict Unknown s)
-interrupted g s t st valid v =
+pub interrupted : (g : Summary) (s : State) (t : View) (y z : AssumptionParts) → StandsFor g s → g.ledger.valid ≡ true → StepsMade g t y z verdict.Unknown → SpacesFit (spaces (after_steps g t z verdict.Unknown)) (with_verdict Unknown s)
+interrupted g s t y z st valid v =
     let (w, k) = st.fits valid in
     let (j, lines, made) = v.steps in
     let in-use = in-use-all g.tables t v.plain.nothing_hidden.solvers (v.same_count ∙ v.count) v.well in
-    let links = went-on w (spaces g) s k (ap (outcome_of g.search) v.unknown) (search_of t) outcome.Unknown j lines made (view-long t v.well) in-use (spaces (record g { search = t; sat_state = verdict.Unknown })).model refl in
-    (w, recount w (spaces (record g { search = t; sat_state = verdict.Unknown })) (length g.search.values) (length t.values) (with_verdict Unknown s) v.same_count links)
+    left-spaces g (with_verdict Unknown s) t y z verdict.Unknown v
+    (w, went-on w (spaces g) s k (ap (outcome_of g.search g.assumed.failed_core) v.unknown) (search_of t) outcome.Unknown j lines made (view-long t v.well) in-use g.assumed y refl v.assumes (spaces (after_steps g t z verdict.Unknown)).model z.user_core refl)
 
 -- before that the verdict was unknown
 pub was-unknown : (g : Summary) (s : State) → StandsFor g s → g.ledger.valid ≡ true → g.sat_state ≡ verdict.Unknown → s.verdict ≡ Unknown
-was-unknown g s st v e = let (w, k) = st.fits v in is-unknown w.identity (spaces g).model s.verdict (subst (λ y. VerdictFits w.identity (spaces g).model y s.verdict) (ap (outcome_of g.search) e) k.verdict)
+was-unknown g s st v e = let (w, k) = st.fits v in is-unknown w.identity (spaces g).model s.verdict (subst (λ y. VerdictFits w.identity (spaces g).model y s.verdict) (ap (outcome_of g.search g.assumed.failed_core) e) k.verdict)
 
 -- 4. The model.
 
@@ -208,7 +283,7 @@ tables-listed g (suc k) u = ap (put_name u (at g.tables.users.forward u) (spaces
 pub sat-model : (g : Summary) (s : State) → StandsFor g s → g.ledger.valid ≡ true → g.sat_state ≡ verdict.Sat → (model_of s s.verdict ≡ Some (list_tables g.tables g.search.values 0 (length g.tables.users.forward))) × IsCompletable s (list_tables g.tables g.search.values 0 (length g.tables.users.forward))
 sat-model g s st v e =
     let (w, k) = st.fits v in
-    let (a, b) = told w (spaces g) s (assignment_of g.search) k (ap (outcome_of g.search) e) in
+    let (a, b) = told w (spaces g) s (assignment_of g.search) k (ap (outcome_of g.search g.assumed.failed_core) e) in
     let q = sym (tables-listed g (length g.tables.users.forward) 0) in
     (a ∙ ap Some q, subst (IsCompletable s) q b)
 
@@ -229,29 +304,133 @@ tables-push t vs m e (suc k) u =
 pub sat-right : (g : Summary) (s : State) → StandsFor g s → g.ledger.valid ≡ true → g.sat_state ≡ verdict.Sat → IsSatisfiableWith s.clauses s.assumptions
 sat-right g s st valid e =
     let (w, k) = st.fits valid in
-    let (a, v, f) = is-sat w.identity (spaces g).model (assignment_of g.search) s.verdict (subst (λ y. VerdictFits w.identity (spaces g).model y s.verdict) (ap (outcome_of g.search) e) k.verdict) in
+    let (a, v, f) = is-sat w.identity (spaces g).model (assignment_of g.search) s.verdict (subst (λ y. VerdictFits w.identity (spaces g).model y s.verdict) (ap (outcome_of g.search g.assumed.failed_core) e) k.verdict) in
     let r = subst (IsRight s.clauses s.assumptions s.counted) v k.right in
     (a, r.0, r.1)
 
-pub found-true : (g : Summary) (s : State) (t : View) (b : Bool) → StandsFor g s → g.ledger.valid ≡ true → StepsMade g t (Some b) → b ≡ true → IsSatisfiableWith s.clauses s.assumptions
-found-true g s t b st v f e = let d = decided g s t b st v f in go d.verdict (d.answer ∙ ap Some e) d.right
+pub found-true : (g : Summary) (s : State) (t : View) (y z : AssumptionParts) (after : SatState) → answer_at after ≡ Some true → StandsFor g s → g.ledger.valid ≡ true → StepsMade g t y z after → IsSatisfiableWith s.clauses s.assumptions
+found-true g s t y z after e st v f = let d = decided g s t y z after true e st v f in go d.verdict d.answer d.right
   where
     go : (v : Verdict) → answer_of v ≡ Some true → IsRight s.clauses s.assumptions s.counted v → IsSatisfiableWith s.clauses s.assumptions
     go Unknown q r = absurd cc
     go (Sat a) q r = (a, r.0, r.1)
     go Unsat q r = absurd cc
+    go (UnsatUnderAssumptions core) q r = absurd cc
 
-pub found-false : (g : Summary) (s : State) (t : View) (b : Bool) → StandsFor g s → g.ledger.valid ≡ true → StepsMade g t (Some b) → b ≡ false → IsSatisfiableWith s.clauses s.assumptions → ⊥
-found-false g s t b st v f e = let d = decided g s t b st v f in go d.verdict (d.answer ∙ ap Some e) d.right
-  where
-    go : (v : Verdict) → answer_of v ≡ Some false → IsRight s.clauses s.assumptions s.counted v → IsSatisfiableWith s.clauses s.assumptions → ⊥
-    go Unknown q r = absurd cc
-    go (Sat a) q r = absurd cc
-    go Unsat q r = λ (a, m, n). r (a, m)
+pub found-false : (g : Summary) (s : State) (t : View) (y z : AssumptionParts) (after : SatState) → answer_at after ≡ Some false → StandsFor g s → g.ledger.valid ≡ true → StepsMade g t y z after → IsSatisfiableWith s.clauses s.assumptions → ⊥
+found-false g s t y z after e st v f = let d = decided g s t y z after false e st v f in right-false s.clauses s.assumptions s.counted d.verdict d.answer d.right
 
 pub sat-answer : (g : Summary) (s : State) → StandsFor g s → g.ledger.valid ≡ true → g.sat_state ≡ verdict.Sat → answer_of s.verdict ≡ Some true
-sat-answer g s st v e = let (w, k) = st.fits v in ap answer_of (is-sat w.identity (spaces g).model (assignment_of g.search) s.verdict (subst (λ y. VerdictFits w.identity (spaces g).model y s.verdict) (ap (outcome_of g.search) e) k.verdict)).1
+sat-answer g s st v e = let (w, k) = st.fits v in ap answer_of (is-sat w.identity (spaces g).model (assignment_of g.search) s.verdict (subst (λ y. VerdictFits w.identity (spaces g).model y s.verdict) (ap (outcome_of g.search g.assumed.failed_core) e) k.verdict)).1
 
-pub tells-error : {A : Type 0} (s : State) (r : Result (Option (Vec Literal A)) AllocError) → IsErr r → IsValid s → answer_of s.verdict ≡ Some true → TellsModel s (told_model r) s
+pub tells-error : {A : Type 0} (s : State) (r : Result (Option (Vec Literal A)) AllocError) → IsErr r → IsValid s → answer_of s.verdict ≡ Some true → TellsModel s (told_list r) s
 tells-error s (Ok m) h v a = absurd (let z : false ≡ true = h in cc)
 tells-error s (Err e) h v a = (v, a, refl)
+
+-- 6. The core.
+
+-- what the solver's verdict answers is what the state's does
+pub answers-alike : (g : Summary) (s : State) → StandsFor g s → g.ledger.valid ≡ true → answer_of s.verdict ≡ answer_at g.sat_state
+answers-alike g s st v = let (w, k) = st.fits v in go w.identity (spaces g).model g.sat_state s.verdict k.verdict
+  where
+    go : (id : ℕ → Option ℕ) (m : ℕ → Bool) (sat : SatState) (v : Verdict) → VerdictFits id m (outcome_of g.search g.assumed.failed_core sat) v → answer_of v ≡ answer_at sat
+    go id m verdict.Unknown Unknown f = refl
+    go id m verdict.Unknown (Sat a) f = absurd f
+    go id m verdict.Unknown Unsat f = absurd f
+    go id m verdict.Unknown (UnsatUnderAssumptions core) f = absurd f
+    go id m verdict.Sat Unknown f = absurd f
+    go id m verdict.Sat (Sat a) f = refl
+    go id m verdict.Sat Unsat f = absurd f
+    go id m verdict.Sat (UnsatUnderAssumptions core) f = absurd f
+    go id m verdict.Unsat Unknown f = absurd f
+    go id m verdict.Unsat (Sat a) f = absurd f
+    go id m verdict.Unsat Unsat f = refl
+    go id m verdict.Unsat (UnsatUnderAssumptions core) f = absurd f
+    go id m verdict.UnsatUnderAssumptions Unknown f = absurd f
+    go id m verdict.UnsatUnderAssumptions (Sat a) f = absurd f
+    go id m verdict.UnsatUnderAssumptions Unsat f = absurd f
+    go id m verdict.UnsatUnderAssumptions (UnsatUnderAssumptions core) f = refl
+
+-- under assumptions that failed the core is told that is kept over names
+pub core-to-tell : (g : Summary) (s : State) → StandsFor g s → g.ledger.valid ≡ true → g.sat_state ≡ verdict.UnsatUnderAssumptions → IsCoreToTell s (Some g.assumed.user_core)
+core-to-tell g s st v e =
+    let (w, k) = st.fits v in
+    let (core, q) = is-core w.identity (spaces g).model g.assumed.failed_core s.verdict (subst (λ y. VerdictFits w.identity (spaces g).model y s.verdict) (ap (outcome_of g.search g.assumed.failed_core) e) k.verdict) in
+    let (named, same) = subst (CoreFits s.names g.assumed.user_core) q k.core in
+    (named, ap core_of q ∙ ap Some same)
+
+pub unsat-to-tell : (g : Summary) (s : State) → StandsFor g s → g.ledger.valid ≡ true → g.sat_state ≡ verdict.Unsat → IsCoreToTell s (Some [])
+unsat-to-tell g s st v e =
+    let (w, k) = st.fits v in
+    let q = is-unsat w.identity (spaces g).model s.verdict (subst (λ y. VerdictFits w.identity (spaces g).model y s.verdict) (ap (outcome_of g.search g.assumed.failed_core) e) k.verdict) in
+    ((λ l h. absurd h), ap core_of q)
+
+-- no answer false, no core
+pub none-to-tell : (s : State) → (answer_of s.verdict ≡ Some false → ⊥) → IsCoreToTell s None
+none-to-tell s n = go s.verdict n
+  where
+    go : (v : Verdict) → (answer_of v ≡ Some false → ⊥) → core_of v ≡ None
+    go Unknown n = refl
+    go (Sat a) n = refl
+    go Unsat n = absurd (n refl)
+    go (UnsatUnderAssumptions core) n = absurd (n refl)
+
+-- 7. What is told where the verdict is known.
+
+-- it stays, and no step is made
+pub known-told : (g : Summary) (s : State) (b : Bool) → StandsFor g s → g.ledger.valid ≡ true → answer_at g.sat_state ≡ Some b → TellsVerdict s b s
+known-told g s b st v e =
+    let a = answers-alike g s st v ∙ e in
+    record {
+      valid = ap (λ (l : Ledger). l.valid) st.ledger ∙ v;
+      known = λ n. (refl, refl);
+      steps = λ u. absurd (let z : None ≡ Some b = ap answer_of (sym u) ∙ a in cc);
+      answer = a;
+      right = (st.fits v).1.right;
+      rest = like-refl s;
+    }
+
+pub false-right : (g : Summary) (s : State) → StandsFor g s → g.ledger.valid ≡ true → answer_at g.sat_state ≡ Some false → IsSatisfiableWith s.clauses s.assumptions → ⊥
+false-right g s st v e = right-false s.clauses s.assumptions s.counted s.verdict (answers-alike g s st v ∙ e) (st.fits v).1.right
+
+pub false-core : (g : Summary) (s : State) → StandsFor g s → g.ledger.valid ≡ true → answer_at g.sat_state ≡ Some false → (core : List Literal) × (core_of s.verdict ≡ Some core) × IsFailedCore s.clauses s.assumptions core
+false-core g s st v e = right-core s.clauses s.assumptions s.counted s.verdict (answers-alike g s st v ∙ e) (st.fits v).1.right
+
+pub answered-true : (x : SatState) → answer_at x ≡ Some true → x ≡ verdict.Sat
+answered-true verdict.Unknown e = absurd cc
+answered-true verdict.Sat e = refl
+answered-true verdict.Unsat e = absurd (let z : false ≡ true = cc in cc)
+answered-true verdict.UnsatUnderAssumptions e = absurd (let z : false ≡ true = cc in cc)
+
+pub answered-none : (x : SatState) → answer_at x ≡ None → x ≡ verdict.Unknown
+answered-none verdict.Unknown e = refl
+answered-none verdict.Sat e = absurd cc
+answered-none verdict.Unsat e = absurd cc
+answered-none verdict.UnsatUnderAssumptions e = absurd cc
+
+pub answered-false : (x : SatState) → (x ≡ verdict.Unsat) ⊎ (x ≡ verdict.UnsatUnderAssumptions) → answer_at x ≡ Some false
+answered-false x (inl e) = ap answer_at e
+answered-false x (inr e) = ap answer_at e
+
+-- what a search that came to a verdict did
+pub finds-made : {A : Type 0} (t : Tables) (started : Bool) (x y : Context A) (answer : Option Bool) (f : FindsVerdict t x y answer) → IsPlain t → length x.assignment.current ≡ length t.solvers.backward → x.solver_state.sat_state ≡ verdict.Unknown → StepsMade (summary_of t started x) (view y) f.parts y.assumptions y.solver_state.sat_state
+finds-made t started x y answer f plain count unknown = record {
+  unknown = unknown;
+  plain = plain;
+  count = count;
+  same_count = f.count;
+  well = f.ready.well;
+  steps = (_, f.steps.0, f.steps.1);
+  assumes = f.assumes;
+  rest = f.rest;
+  named = f.core;
+}
+
+-- a copy of the core that is refused
+core-refused : (s t : State) (core : List Literal) (e : AllocError) → TellsCore s (Ok (Some core)) t → TellsCore s (Err e) s
+core-refused s t core e (inl (v, x), same) = (v, core-answer s.verdict (map (through_names s) core) x.1, refl)
+core-refused s t core e (inr (v, x), same) = absurd cc
+
+pub told-refused-core : {A : Type 0} (s t : State) (core : List Literal) (r : Result (Option (Vec Literal A)) AllocError) → IsErr r → TellsCore s (Ok (Some core)) t → TellsCore s (told_list r) s
+told-refused-core s t core (Ok m) h a = absurd (let z : false ≡ true = h in cc)
+told-refused-core s t core (Err e) h a = core-refused s t core e a

@@ -1,19 +1,19 @@
 -- What stays where the maps and what is kept agree at each place.
-use Rattle.std.proofs.Common.{◌≡◌, ℕ, ◌+◌, ◌*◌, ◌%◌, Bool, true, Option, Some, List, [], ◌∷◌, inl, inr, sym, ap, ◌∙◌, subst, refl, map}
-use Rattle.varisat_theory.specs.Membership.{◌∈◌}
-use Rattle.varisat_theory.specs.Literals.{Literal, Clause, Assignment, variable_of, value}
+use Rattle.std.proofs.Common.{◌≡◌, ℕ, ◌+◌, ◌*◌, ◌%◌, Bool, true, Option, Some, None, List, [], ◌∷◌, inl, inr, sym, ap, ◌∙◌, subst, refl, map}
+use Rattle.varisat_theory.specs.Membership.{◌∈◌, ◌⊆◌}
+use Rattle.varisat_theory.specs.Literals.{Literal, Clause, Assignment, variable_of, value, MakesTrue}
 use Rattle.varisat_theory.specs.Renaming.{rename}
 use Rattle.varisat_theory.specs.Searches.{Search, IsCoveredBySearch, Tautology, KnownTrue, FixedTrue, Kept}
 use Rattle.varisat_theory.specs.Outcomes.{Outcome, IsReached}
 use Rattle.varisat_theory.specs.Outcomes as outcome
 use Rattle.varisat_literals.specs.Numbers.{polarity_of}
-use Rattle.varisat_names.specs.Maps.{onward}
+use Rattle.varisat_names.specs.Maps.{onward, chain}
 use Rattle.varisat_names.proofs.Maps.{inverse-same}
 use Rattle.varisat_names.specs.declared.variables.data.VarData.{VarData}
-use Rattle.varisat.specs.States.{Mode, Verdict, Unknown, Sat, Unsat}
+use Rattle.varisat.specs.States.{Mode, Verdict, Unknown, Sat, Unsat, UnsatUnderAssumptions}
 use Rattle.varisat.specs.Names.{identity_of}
 use Rattle.varisat.specs.Carried.{carry, is_value, is_forced}
-use Rattle.varisat.specs.Spaces.{ModeFits, IdentitiesFit, NamesFit, ModesFit, UnitsFit, IsolationCase, NotIsolated, Apart, Forced, IsolationFits, SolversFit, Translation, SearchHolds, AssumptionsFit, MarksFit, VerdictFits}
+use Rattle.varisat.specs.Spaces.{ModeFits, IdentitiesFit, NamesFit, ModesFit, UnitsFit, IsolationCase, NotIsolated, Apart, Forced, IsolationFits, SolversFit, Translation, SearchHolds, AssumptionsFit, MarksFit, WorkingFits, CoreFits, VerdictFits}
 
 pub identities-same : (id gl : ℕ → Option ℕ) (k k' : ℕ → VarData) (top : ℕ) → ((x : ℕ) → (k' x).deleted ≡ (k x).deleted) → IdentitiesFit id gl k top → IdentitiesFit id gl k' top
 identities-same id gl k k' top e f = record { one_to_one = f.one_to_one; live = λ x i h. e x ∙ f.live x i h; deleted = λ x h. e x ∙ f.deleted x h; below = f.below }
@@ -46,28 +46,6 @@ isolation-same id fo k k' P top b f i h = go (f i h)
 pub solvers-same : (id fg tg fg' tg' : ℕ → Option ℕ) (known : List ℕ) → ((x : ℕ) → fg' x ≡ fg x) → ((v : ℕ) → tg' v ≡ tg v) → SolversFit id fg tg known → SolversFit id fg' tg' known
 solvers-same id fg tg fg' tg' known a b f = record { one_to_one = inverse-same fg tg fg' tg' a b f.one_to_one; live = λ v x h. f.live v x (sym (b v) ∙ h) }
 
-pub assumptions-same : (id tu fg tu' fg' : ℕ → Option ℕ) (given as' : List Literal) → ((x : ℕ) → tu' x ≡ tu x) → ((x : ℕ) → fg' x ≡ fg x) → AssumptionsFit id tu fg given as' → AssumptionsFit id tu' fg' given as'
-assumptions-same id tu fg tu' fg' given as' a b f = record {
-  agree = f.agree;
-  named = λ l h. let r = f.named l h in (r.0, a (variable_of l) ∙ r.1);
-  taken = λ l h. let r = f.taken l h in (r.0, b (variable_of l) ∙ r.1);
-}
-
-pub marks-same : (k k' : ℕ → VarData) (given : List Literal) → ((x : ℕ) → (k' x).assumed ≡ (k x).assumed) → MarksFit k given → MarksFit k' given
-marks-same k k' given m f = record { marked = λ l h. m (variable_of l) ∙ f.marked l h; only = λ x h. f.only x (sym (m x) ∙ h) }
-
-pub verdict-moved : (id id' : ℕ → Option ℕ) (m m' : ℕ → Bool) (o : Outcome) (v : Verdict) → ((a : Assignment) → v ≡ Sat a → ((x i : ℕ) → id x ≡ Some i → a i ≡ m x) → (x i : ℕ) → id' x ≡ Some i → a i ≡ m' x) → VerdictFits id m o v → VerdictFits id' m' o v
-verdict-moved id id' m m' outcome.Unknown Unknown h f = tt
-verdict-moved id id' m m' outcome.Unknown (Sat a) h f = f
-verdict-moved id id' m m' outcome.Unknown Unsat h f = f
-verdict-moved id id' m m' (outcome.Sat found) Unknown h f = f
-verdict-moved id id' m m' (outcome.Sat found) (Sat a) h f = h a refl f
-verdict-moved id id' m m' (outcome.Sat found) Unsat h f = f
-verdict-moved id id' m m' outcome.Unsat Unknown h f = f
-verdict-moved id id' m m' outcome.Unsat (Sat a) h f = f
-verdict-moved id id' m m' outcome.Unsat Unsat h f = tt
-verdict-moved id id' m m' (outcome.UnsatUnder core) v h f = absurd f
-
 -- literals that are carried
 
 pub carry-same : (f g : ℕ → Option ℕ) (l : Literal) → f (variable_of l) ≡ g (variable_of l) → carry f l ≡ carry g l
@@ -76,6 +54,64 @@ carry-same f g l e = ap (λ o. 2 * identity_of o + l % 2) e
 pub map-same : (f g : Literal → Literal) (c : Clause) → ((l : Literal) → l ∈ c → f l ≡ g l) → map f c ≡ map g c
 map-same f g [] e = refl
 map-same f g (l ∷ c) e = ap (λ x. x ∷ map f c) (e l (inl refl)) ∙ ap (λ x. g l ∷ x) (map-same f g c (λ m h. e m (inr h)))
+
+-- where one map leads, and then another, the same two lead
+chain-alike : (f g f' g' : ℕ → Option ℕ) (u : ℕ) → f' u ≡ f u → ((x : ℕ) → g' x ≡ g x) → chain f' g' u ≡ chain f g u
+chain-alike f g f' g' u a b = ap (λ o. onward o g') a ∙ go (f u)
+  where
+    go : (o : Option ℕ) → onward o g' ≡ onward o g
+    go None = refl
+    go (Some x) = b x
+
+pub assumptions-same : (fu fg fu' fg' ns : ℕ → Option ℕ) (given as' : List Literal) → ((u : ℕ) → fu' u ≡ fu u) → ((x : ℕ) → fg' x ≡ fg x) → AssumptionsFit fu fg ns given as' → AssumptionsFit fu' fg' ns given as'
+assumptions-same fu fg fu' fg' ns given as' a b f = record {
+  agree = f.agree;
+  taken = λ l h. let r = f.taken l h in (r.0, chain-alike fu fg fu' fg' (variable_of l) (a (variable_of l)) b ∙ r.1);
+}
+
+pub marks-same : (fu fu' : ℕ → Option ℕ) (k k' : ℕ → VarData) (given : List Literal) → ((u : ℕ) → fu' u ≡ fu u) → ((x : ℕ) → (k' x).assumed ≡ (k x).assumed) → MarksFit fu k given → MarksFit fu' k' given
+marks-same fu fu' k k' given a m f = record {
+  marked = λ l x h e. m x ∙ f.marked l x h (sym (a (variable_of l)) ∙ e);
+  only = λ x h. let (l, i, e) = f.only x (sym (m x) ∙ h) in (l, i, a (variable_of l) ∙ e);
+}
+
+pub working-same : (P : List Clause) (id id' : ℕ → Option ℕ) (as' ws : List Literal) → ((l : Literal) → l ∈ ws → id' (variable_of l) ≡ id (variable_of l)) → WorkingFits P id as' ws → WorkingFits P id' as' ws
+working-same P id id' as' ws a f =
+    let same = map-same (carry id) (carry id') ws (λ l h. carry-same id id' l (sym (a l h))) in
+    record {
+      used = λ l h. let (i, e) = f.used l h in (i, a l h ∙ e);
+      part = subst (λ xs. xs ⊆ as') same f.part;
+      implied = λ x m t. f.implied x m (subst (MakesTrue x) (sym same) t);
+    }
+
+pub core-same : (ns ns' : ℕ → Option ℕ) (told : List Literal) (v : Verdict) → ((u i : ℕ) → ns u ≡ Some i → ns' u ≡ Some i) → CoreFits ns told v → CoreFits ns' told v
+core-same ns ns' told Unknown m f = tt
+core-same ns ns' told (Sat a) m f = tt
+core-same ns ns' told Unsat m f = tt
+core-same ns ns' told (UnsatUnderAssumptions core) m (named, e) = (
+  λ l h. let (i, q) = named l h in (i, m (variable_of l) i q),
+  e ∙ map-same (carry ns) (carry ns') told (λ l h. let (i, q) = named l h in carry-same ns ns' l (q ∙ sym (m (variable_of l) i q))),
+)
+
+pub verdict-moved : (id id' : ℕ → Option ℕ) (m m' : ℕ → Bool) (o : Outcome) (v : Verdict) → ((a : Assignment) → v ≡ Sat a → ((x i : ℕ) → id x ≡ Some i → a i ≡ m x) → (x i : ℕ) → id' x ≡ Some i → a i ≡ m' x) → VerdictFits id m o v → VerdictFits id' m' o v
+verdict-moved id id' m m' outcome.Unknown Unknown h f = tt
+verdict-moved id id' m m' outcome.Unknown (Sat a) h f = f
+verdict-moved id id' m m' outcome.Unknown Unsat h f = f
+verdict-moved id id' m m' outcome.Unknown (UnsatUnderAssumptions core) h f = f
+verdict-moved id id' m m' (outcome.Sat found) Unknown h f = f
+verdict-moved id id' m m' (outcome.Sat found) (Sat a) h f = h a refl f
+verdict-moved id id' m m' (outcome.Sat found) Unsat h f = f
+verdict-moved id id' m m' (outcome.Sat found) (UnsatUnderAssumptions core) h f = f
+verdict-moved id id' m m' outcome.Unsat Unknown h f = f
+verdict-moved id id' m m' outcome.Unsat (Sat a) h f = f
+verdict-moved id id' m m' outcome.Unsat Unsat h f = tt
+verdict-moved id id' m m' outcome.Unsat (UnsatUnderAssumptions core) h f = f
+verdict-moved id id' m m' (outcome.UnsatUnder found) Unknown h f = f
+verdict-moved id id' m m' (outcome.UnsatUnder found) (Sat a) h f = f
+verdict-moved id id' m m' (outcome.UnsatUnder found) Unsat h f = f
+verdict-moved id id' m m' (outcome.UnsatUnder found) (UnsatUnderAssumptions core) h f = tt
+
+-- what the search says
 
 pub rename-same : (f g : Literal → Literal) (P : List Clause) → ((c : Clause) (l : Literal) → c ∈ P → l ∈ c → f l ≡ g l) → rename f P ≡ rename g P
 rename-same f g [] e = refl

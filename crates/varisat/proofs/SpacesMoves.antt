@@ -9,7 +9,7 @@ use Rattle.varisat_names.specs.VarData.{fresh}
 use Rattle.varisat_names.specs.declared.variables.data.VarData.{VarData}
 use Rattle.varisat.specs.States.{State, Verdict}
 use Rattle.varisat.specs.Carried.{carry}
-use Rattle.varisat.specs.Spaces.{Spaces, IsWide}
+use Rattle.varisat.specs.Spaces.{Spaces, IsWide, MarksFit}
 
 -- a free name gets a global variable that is not live, new or used before; the model that was found last calls it false
 abbrev pub give : ℕ → ℕ → Spaces → Spaces
@@ -55,6 +55,11 @@ pub record IsTouched (p : Spaces) (d : Clause) (after : ℕ → VarData) : Type 
   pub rest : (x : ℕ) → after x ≡ record (p.kept x) { isolated = (after x).isolated }
   pub fallen : (x : ℕ) → (after x).isolated ≡ true → (p.kept x).isolated ≡ true
   pub wide : IsWide d → (l : Literal) (x : ℕ) → l ∈ d → p.global_from_user (variable_of l) ≡ Some x → (after x).isolated ≡ false
+
+-- Assuming a list over names changes marks of assumptions alone: then they fit the list.
+pub record IsMarkedFor (p : Spaces) (d : List Literal) (after : ℕ → VarData) : Type 0 where
+  pub rest : (x : ℕ) → after x ≡ record (p.kept x) { assumed = (after x).assumed }
+  pub fit : MarksFit p.global_from_user after d
 
 -- the clause, over identities, joins the accepted ones
 abbrev pub accept : Clause → Verdict → State → State

@@ -7,9 +7,9 @@ use Rattle.varisat_theory.specs.Membership.{◌∈◌}
 use Rattle.varisat_theory.specs.Literals.{Literal, Clause, variable_of, opposite, IsUnit, IsSatisfiable}
 use Rattle.varisat_formula.specs.Dimacs.{Reading}
 use Rattle.varisat_formula.specs.Streams.{Stand}
-use Rattle.varisat.specs.States.{State, join_counted, Verdict, Unknown, Sat, Unsat, HasRightVerdict, IsWellFormed}
+use Rattle.varisat.specs.States.{State, join_counted, Verdict, Unknown, Sat, Unsat, UnsatUnderAssumptions, HasRightVerdict, IsWellFormed}
 use Rattle.varisat.specs.Names.{name_one, name_all, through_names, IsLeastFree}
-use Rattle.varisat.specs.Models.{model_of}
+use Rattle.varisat.specs.Models.{model_of, core_of, IsCoreToTell}
 use Rattle.varisat_formula.specs.declared.dimacs.error.DimacsError.{DimacsError}
 use Rattle.varisat_names.specs.declared.config.SolverConfigUpdate.{SolverConfigUpdate}
 use Rattle.varisat_names.specs.Settings.{updated_settings}
@@ -48,7 +48,7 @@ pub record Invalidates (s t : State) : Type 0 where
 abbrev pub IsRefusedInvalid : State → State → Type 0
 IsRefusedInvalid s t = (is_valid s ≡ false) × (t ≡ s)
 
--- a clause or a variable was accepted
+-- a clause, a variable or a list of assumptions was accepted
 abbrev pub start : State → State
 start s = record s { ledger = record s.ledger { started = true } }
 
@@ -66,11 +66,12 @@ IsCrowded t = variable_limit < t.made
 abbrev pub ContradictsUnit : List Clause → Clause → Type 0
 ContradictsUnit clauses c = (c ≡ []) ⊎ ((l : Literal) × (d : Clause) × IsUnit l c × (d ∈ clauses) × IsUnit (opposite l) d)
 
--- the verdict with one more clause that doesn't give Unsat: a model that was found may not satisfy it
+-- the verdict with one more clause that doesn't give Unsat: a model that was found may not satisfy it, and a core stays one
 abbrev pub reopened_verdict : Verdict → Verdict
 reopened_verdict Unknown = Unknown
 reopened_verdict (Sat found) = Unknown
 reopened_verdict Unsat = Unsat
+reopened_verdict (UnsatUnderAssumptions core) = UnsatUnderAssumptions core
 
 -- What one more clause makes of a verdict. A clause that contradicts an accepted unit gives Unsat at once, and any other gives it only where no assignment is left.
 pub data VerdictAfter (clauses : List Clause) (c : Clause) (v w : Verdict) : Type 0 where
@@ -134,6 +135,32 @@ MakesVar s (Err VariableLimit) t = IsValid s × ((u : ℕ) × IsLeastFree s u ×
 MakesVar s (Err OutOfMemory) t = ((u : ℕ) × IsLeastFree s u × (u < variable_limit)) × Invalidates s t
 MakesVar s (Err _) t = ⊥
 
+-- The call `assume`.
+
+-- the verdict with other assumptions
+abbrev pub assumed_verdict : Verdict → Verdict
+assumed_verdict Unknown = Unknown
+assumed_verdict (Sat found) = Unknown
+assumed_verdict Unsat = Unsat
+assumed_verdict (UnsatUnderAssumptions core) = Unknown
+
+-- the list, over identities, is assumed in place of the one before
+abbrev pub with_assumptions : List Literal → State → State
+with_assumptions list s = record s { assumptions = list; counted = join_counted s.counted (map variable_of list); verdict = assumed_verdict s.verdict }
+
+-- the names of the list are named, and it is assumed as they carry it to identities
+abbrev pub TakesAssumptions : State → List Literal → State → Type 0
+TakesAssumptions s list t =
+    let named : State = name_all list s in
+    IsLike (start (with_assumptions (map (through_names named) list) named)) t
+
+abbrev pub Assumes : State → List Literal → Result (Unit {0}) SolverError → State → Type 0
+Assumes s list (Ok _) t = IsValid s × (IsPastLimit list → ⊥) × TakesAssumptions s list t
+Assumes s list (Err Invalid) t = IsRefusedInvalid s t
+Assumes s list (Err VariableLimit) t = IsValid s × (IsPastLimit list ⊎ IsCrowded (name_all list s)) × (t ≡ s)
+Assumes s list (Err OutOfMemory) t = (IsPastLimit list → ⊥) × Invalidates s t
+Assumes s list (Err _) t = ⊥
+
 -- The call `solve`.
 
 -- what is returned at a verdict
@@ -141,6 +168,7 @@ abbrev pub answer_of : Verdict → Option Bool
 answer_of Unknown = None
 answer_of (Sat found) = Some true
 answer_of Unsat = Some false
+answer_of (UnsatUnderAssumptions core) = Some false
 
 -- the same state with another verdict
 abbrev pub with_verdict : Verdict → State → State
@@ -184,6 +212,13 @@ Solves s (Err _) t = ⊥
 abbrev pub TellsModel : State → Result (Option (List Literal)) AllocError → State → Type 0
 TellsModel s (Ok m) t = ((IsValid s × (m ≡ model_of s s.verdict)) ⊎ ((is_valid s ≡ false) × (m ≡ None))) × (t ≡ s)
 TellsModel s (Err _) t = IsValid s × (answer_of s.verdict ≡ Some true) × (t ≡ s)
+
+-- The call `failed_core`.
+
+-- Running out of memory comes only where the core is copied and there is one, and changes nothing.
+abbrev pub TellsCore : State → Result (Option (List Literal)) AllocError → State → Type 0
+TellsCore s (Ok core) t = ((IsValid s × IsCoreToTell s core) ⊎ ((is_valid s ≡ false) × (core ≡ None))) × (t ≡ s)
+TellsCore s (Err _) t = IsValid s × (answer_of s.verdict ≡ Some false) × (t ≡ s)
 
 -- The call `config`.
 

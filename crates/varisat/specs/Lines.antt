@@ -1,11 +1,13 @@
 -- The commands of a session: what each one calls, how it is spelled on its line, and the texts of answers.
-use Rattle.std.specs.Prelude.{◌≡◌, ◌==◌, ◌<◌, ◌^◌, ℕ, Bool, true, false, Some, None, Result, Ok, Err, List, [], ◌∷◌, ◌++◌, map, flat_map, codes, decimal}
+use Rattle.std.specs.Prelude.{◌≡◌, ◌==◌, ◌<◌, ◌^◌, ℕ, Bool, true, false, Option, Some, None, Result, Ok, Err, List, [], ◌∷◌, ◌++◌, map, flat_map, codes, decimal}
 use Rattle.std.specs.List.{All, join_with_byte, slice_split}
+use Rattle.std.specs.declared.alloc.AllocError.{AllocError}
 use Rattle.varisat_theory.specs.Literals.{Literal}
 use Rattle.varisat_literals.specs.Numbers.{variable_text, literal_text}
 use Rattle.varisat_names.specs.declared.config.ConfigField.{ConfigField}
 use Rattle.varisat_names.specs.Settings.{field_text, update_of}
 use Rattle.varisat.specs.Refusals.{refusal_number}
+use Rattle.varisat.specs.Told.{told_list}
 use Rattle.varisat.specs.declared.session.Call.{Call}
 use Rattle.varisat.specs.declared.session.Call.TheVariants as call
 use Rattle.varisat.specs.declared.session.Answer.{Answer}
@@ -16,9 +18,11 @@ use Rattle.varisat.specs.declared.solver.SolverError.TheVariants.{OutOfMemory}
 -- a command, by its call; a literal is its code, and an update changes one setting
 pub data Command : Type 0 where
   Add : List Literal → Command
+  Assume : List Literal → Command
   New : Command
   Solve : Command
   Model : Command
+  Core : Command
   Config : ConfigField → ℕ → Command
   Steps : Command
   Close : Command
@@ -26,9 +30,11 @@ pub data Command : Type 0 where
 -- the words of a command, in order
 abbrev pub words : Command → List (List ℕ)
 words (Add literals) = codes "add" ∷ map literal_text literals
+words (Assume literals) = codes "assume" ∷ map literal_text literals
 words New = codes "new" ∷ []
 words Solve = codes "solve" ∷ []
 words Model = codes "model" ∷ []
+words Core = codes "core" ∷ []
 words (Config field value) = codes "config" ∷ field_text field ∷ decimal value ∷ []
 words Steps = codes "steps" ∷ []
 words Close = codes "close" ∷ []
@@ -40,9 +46,11 @@ spelling command = join_with_byte 32 (words command)
 -- its literals' numbers are at most 2^31, and a value is below 2^64
 abbrev pub HasNumbersInRange : Command → Type 0
 HasNumbersInRange (Add literals) = All (λ l. l < 2 ^ 32) literals
+HasNumbersInRange (Assume literals) = All (λ l. l < 2 ^ 32) literals
 HasNumbersInRange New = Unit {0}
 HasNumbersInRange Solve = Unit {0}
 HasNumbersInRange Model = Unit {0}
+HasNumbersInRange Core = Unit {0}
 HasNumbersInRange (Config field value) = value < 2 ^ 64
 HasNumbersInRange Steps = Unit {0}
 HasNumbersInRange Close = Unit {0}
@@ -59,9 +67,11 @@ MeansOneCommand = (text : List ℕ) (a b : Command) → Means text a → Means t
 -- the command asks for the call
 abbrev pub AsksFor : {S A : Type 0} → Call S A → Command → Type 0
 AsksFor (call.AddClause literals) (Add numbers) = literals.items ≡ numbers
+AsksFor (call.Assume literals) (Assume numbers) = literals.items ≡ numbers
 AsksFor call.NewVar New = Unit {0}
 AsksFor call.Solve Solve = Unit {0}
 AsksFor call.Model Model = Unit {0}
+AsksFor call.FailedCore Core = Unit {0}
 AsksFor (call.Config update) (Config field value) = update ≡ update_of field value
 AsksFor call.Steps Steps = Unit {0}
 AsksFor call.CloseProof Close = Unit {0}
@@ -86,18 +96,24 @@ abbrev pub done_text : Result (Unit {0}) SolverError → List ℕ
 done_text (Ok _) = codes "ok"
 done_text (Err error) = refusal_text error
 
+-- the text of a model or a core, if there is one
+abbrev pub list_text : Result (Option (List Literal)) AllocError → List ℕ
+list_text (Ok (Some literals)) = codes "ok" ++ literals_text literals
+list_text (Ok None) = codes "ok none"
+list_text (Err _) = refusal_text OutOfMemory
+
 -- the text of an answer
 abbrev pub answer_text : {W S A : Type 0} → Answer W S A → List ℕ
 answer_text (answer.AddClause done) = done_text done
 answer_text (answer.AddFormula done) = done_text done
 answer_text (answer.AddDimacsCnf done source) = done_text done
+answer_text (answer.Assume done) = done_text done
 answer_text (answer.NewVar (Ok variable)) = codes "ok " ++ variable_text variable
 answer_text (answer.NewVar (Err error)) = refusal_text error
 answer_text (answer.Solve (Ok b)) = truth_text b
 answer_text (answer.Solve (Err error)) = refusal_text error
-answer_text (answer.Model (Ok (Some literals))) = codes "ok" ++ literals_text literals.items
-answer_text (answer.Model (Ok None)) = codes "ok none"
-answer_text (answer.Model (Err _)) = refusal_text OutOfMemory
+answer_text (answer.Model list) = list_text (told_list list)
+answer_text (answer.FailedCore list) = list_text (told_list list)
 answer_text (answer.Config done) = done_text done
 answer_text (answer.Steps steps) = codes "ok " ++ decimal steps
 answer_text (answer.IsValid b) = truth_text b

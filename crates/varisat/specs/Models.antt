@@ -1,8 +1,8 @@
--- The models that are told.
+-- The models and failed cores that are told.
 use Rattle.std.specs.Prelude.{◌≡◌, ℕ, zero, suc, ◌≤◌, false, Option, Some, None, List, [], ◌∷◌, map}
 use Rattle.varisat_theory.specs.Membership.{◌∈◌}
 use Rattle.varisat_theory.specs.Literals.{Literal, Assignment, variable_of, literal_of, SatisfiesAll, MakesTrue}
-use Rattle.varisat.specs.States.{State, Verdict, Unknown, Sat, Unsat}
+use Rattle.varisat.specs.States.{State, Verdict, Unknown, Sat, Unsat, UnsatUnderAssumptions}
 use Rattle.varisat.specs.Names.{through_names}
 
 -- the literal of a name in use, in front of others
@@ -20,6 +20,7 @@ abbrev pub model_of : State → Verdict → Option (List Literal)
 model_of s Unknown = None
 model_of s (Sat found) = Some (list_names s found 0 s.watermark)
 model_of s Unsat = None
+model_of s (UnsatUnderAssumptions core) = None
 
 -- each name is higher than those before it, and the first is not below `low`
 abbrev pub IsRising : ℕ → List Literal → Type 0
@@ -33,3 +34,19 @@ pub record IsCompletable (s : State) (model : List Literal) : Type 0 where
   pub in_use : (l : Literal) → l ∈ model → (i : ℕ) × (s.names (variable_of l) ≡ Some i)
   pub uncounted : (l : Literal) (i : ℕ) → l ∈ model → s.names (variable_of l) ≡ Some i → (i ∈ s.counted → ⊥) → l ≡ literal_of (variable_of l) false
   pub satisfied : (a : Assignment) × MakesTrue a (map (through_names s) model) × SatisfiesAll a s.clauses × MakesTrue a s.assumptions
+
+-- the core that is known: under Unsat the empty one
+abbrev pub core_of : Verdict → Option (List Literal)
+core_of Unknown = None
+core_of (Sat found) = None
+core_of Unsat = Some []
+core_of (UnsatUnderAssumptions core) = Some core
+
+-- each literal's name is in use
+abbrev pub AreNamesInUse : State → List Literal → Type 0
+AreNamesInUse s ls = (l : Literal) → l ∈ ls → (i : ℕ) × (s.names (variable_of l) ≡ Some i)
+
+-- A core as it is told, over names in use, is the one that is known.
+abbrev pub IsCoreToTell : State → Option (List Literal) → Type 0
+IsCoreToTell s None = core_of s.verdict ≡ None
+IsCoreToTell s (Some core) = AreNamesInUse s core × (core_of s.verdict ≡ Some (map (through_names s) core))

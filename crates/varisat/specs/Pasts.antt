@@ -2,7 +2,7 @@
 use Rattle.std.specs.Prelude.{◌≡◌, ℕ, ◌+◌, ◌<◌, nat_le, nat_eq, max, Bool, true, false, ◌&&◌, ◌||◌, Option, Some, None, List, [], ◌∷◌, ◌++◌, Result, Ok, Err, map, length, ◌⊎◌}
 use Rattle.std.specs.declared.alloc.AllocError.{AllocError}
 use Rattle.varisat_theory.specs.Membership.{◌∈◌}
-use Rattle.varisat_theory.specs.Literals.{Literal, Clause, Assignment, variable_of, SatisfiesAll, MakesTrue, IsSatisfiable, IsSatisfiableWith}
+use Rattle.varisat_theory.specs.Literals.{Literal, Clause, Assignment, variable_of, SatisfiesAll, MakesTrue, IsSatisfiable, IsSatisfiableWith, IsFailedCore}
 use Rattle.varisat_formula.specs.Streams.{Stand}
 use Rattle.varisat_names.specs.declared.config.SolverConfigUpdate.{SolverConfigUpdate}
 use Rattle.varisat_names.specs.Settings.{Settings, default_settings, updated_settings}
@@ -15,20 +15,22 @@ use Rattle.varisat.specs.declared.solver.SolverError.{SolverError}
 use Rattle.varisat.specs.declared.solver.SolverError.TheVariants.{Interrupted, OutOfMemory, Invalid, ClauseStoreFull, VariableLimit}
 use Rattle.varisat_literals.specs.Numbers.{variable_limit}
 
--- `valid`: no call that changes the solver ran out of memory. `in_use`: whether a name is in use, and `watermark` is one above the highest. `clauses` were accepted, and `assumptions` given. `has_model`: `solve` returned true, and no clause was accepted since. `steps`: how many steps were made in all. `settings`: those by which further steps are made.
+-- `valid`: no call that changes the solver ran out of memory. `in_use`: whether a name is in use, and `watermark` is one above the highest. `clauses` were accepted, and `assumptions` given last. `counted`: the different variables that these clauses and all lists of assumptions so far name. `has_model`: `solve` returned true, and no clause was accepted and nothing assumed since. `has_core`: it returned false, and nothing was assumed since. `steps`: how many steps were made in all. `settings`: those by which further steps are made.
 pub record Past : Type 0 where
   pub valid : Bool
   pub in_use : ℕ → Bool
   pub watermark : ℕ
   pub clauses : List Clause
   pub assumptions : List Literal
+  pub counted : List ℕ
   pub has_model : Bool
+  pub has_core : Bool
   pub steps : ℕ
   pub settings : Settings
 
 -- before the first call
 abbrev pub empty_past : Past
-empty_past = record { valid = true; in_use = λ u. false; watermark = 0; clauses = []; assumptions = []; has_model = false; steps = 0; settings = default_settings }
+empty_past = record { valid = true; in_use = λ u. false; watermark = 0; clauses = []; assumptions = []; counted = []; has_model = false; has_core = false; steps = 0; settings = default_settings }
 
 abbrev pub is_valid : Past → Bool
 is_valid p = p.valid
@@ -48,7 +50,7 @@ use_names (l ∷ c) p = use_names c (use_name (variable_of l) p)
 
 -- the clause is accepted, with its names
 abbrev pub accept : Clause → Past → Past
-accept c p = record (use_names c p) { clauses = p.clauses ++ c ∷ []; has_model = false }
+accept c p = record (use_names c p) { clauses = p.clauses ++ c ∷ []; counted = join_counted p.counted (map variable_of c); has_model = false }
 
 -- the clauses are accepted in turn
 abbrev pub accept_all : List Clause → Past → Past
@@ -58,7 +60,7 @@ accept_all (c ∷ P) p = accept_all P (accept c p)
 -- A clause is taken: once no assignment satisfies those before it, its names need not come into use.
 pub data TakesClause (p : Past) (c : Clause) (q : Past) : Type 0 where
   Accepted : (IsPastLimit c → ⊥) → q ≡ accept c p → TakesClause p c q
-  Refuted : (IsSatisfiable p.clauses → ⊥) → q ≡ record p { clauses = p.clauses ++ c ∷ []; has_model = false } → TakesClause p c q
+  Refuted : (IsSatisfiable p.clauses → ⊥) → q ≡ record p { clauses = p.clauses ++ c ∷ []; counted = join_counted p.counted (map variable_of c); has_model = false } → TakesClause p c q
 
 abbrev pub AddsClause : Past → Clause → Result (Unit {0}) SolverError → Past → Type 0
 AddsClause p c (Ok _) q = (p.valid ≡ true) × TakesClause p c q
@@ -90,6 +92,17 @@ MakesVar p (Err VariableLimit) q = (p.valid ≡ true) × ((u : ℕ) → u < vari
 MakesVar p (Err OutOfMemory) q = Invalidates p q
 MakesVar p (Err _) q = ⊥
 
+-- The list is assumed, with its names, in place of the one before.
+abbrev pub assume : List Literal → Past → Past
+assume list p = record (use_names list p) { assumptions = list; counted = join_counted p.counted (map variable_of list); has_model = false; has_core = false }
+
+abbrev pub Assumes : Past → List Literal → Result (Unit {0}) SolverError → Past → Type 0
+Assumes p list (Ok _) q = (p.valid ≡ true) × (IsPastLimit list → ⊥) × (q ≡ assume list p)
+Assumes p list (Err Invalid) q = (p.valid ≡ false) × (q ≡ p)
+Assumes p list (Err VariableLimit) q = (p.valid ≡ true) × IsPastLimit list × (q ≡ p)
+Assumes p list (Err OutOfMemory) q = Invalidates p q
+Assumes p list (Err _) q = ⊥
+
 -- the different variables that clauses name, behind those that are known
 abbrev pub named_variables : List ℕ → List Clause → List ℕ
 named_variables known [] = known
@@ -97,20 +110,20 @@ named_variables known (c ∷ P) = named_variables (join_counted known (map varia
 
 -- how the steps are counted that a call makes before the verdict is known, by its answer
 abbrev pub CountsCall : Past → Result Bool SolverError → Past → Type 0
-CountsCall p r q = CountsSteps (length (named_variables [] p.clauses)) p.settings.max_steps p.steps q.steps r
+CountsCall p r q = CountsSteps (length p.counted) p.settings.max_steps p.steps q.steps r
 
--- where the verdict is known no step is made; and it is known where a model was found last
+-- where the verdict is known no step is made; and it is known where a model or a core was found last
 abbrev pub MakesFewSteps : Past → Bool → Past → Type 0
-MakesFewSteps p b q = (q.steps ≡ p.steps) ⊎ ((p.has_model ≡ false) × CountsCall p (Ok b) q)
+MakesFewSteps p b q = (q.steps ≡ p.steps) ⊎ ((p.has_model ≡ false) × (p.has_core ≡ false) × CountsCall p (Ok b) q)
 
--- True is returned only if some assignment satisfies the clauses and the assumptions, false only if none does. A call is interrupted only where its steps are spent, and no model was found last.
+-- True is returned only if some assignment satisfies the clauses and the assumptions, false only if none does. A call is interrupted only where its steps are spent, and neither a model nor a core was found last.
 abbrev pub Solves : Past → Result Bool SolverError → Past → Type 0
-Solves p (Ok true) q = (p.valid ≡ true) × IsSatisfiableWith p.clauses p.assumptions × MakesFewSteps p true q × (q ≡ record p { has_model = true; steps = q.steps })
-Solves p (Ok false) q = (p.valid ≡ true) × (IsSatisfiableWith p.clauses p.assumptions → ⊥) × MakesFewSteps p false q × (q ≡ record p { has_model = false; steps = q.steps })
+Solves p (Ok true) q = (p.valid ≡ true) × IsSatisfiableWith p.clauses p.assumptions × MakesFewSteps p true q × (q ≡ record p { has_model = true; has_core = false; steps = q.steps })
+Solves p (Ok false) q = (p.valid ≡ true) × (IsSatisfiableWith p.clauses p.assumptions → ⊥) × MakesFewSteps p false q × (q ≡ record p { has_model = false; has_core = true; steps = q.steps })
 Solves p (Err Invalid) q = (p.valid ≡ false) × (q ≡ p)
 Solves p (Err OutOfMemory) q = CountsCall p (Err OutOfMemory) q × Invalidates (record p { steps = q.steps }) q
 Solves p (Err ClauseStoreFull) q = CountsCall p (Err ClauseStoreFull) q × Invalidates (record p { steps = q.steps }) q
-Solves p (Err Interrupted) q = (p.valid ≡ true) × (p.has_model ≡ false) × CountsCall p (Err Interrupted) q × (q ≡ record p { steps = q.steps })
+Solves p (Err Interrupted) q = (p.valid ≡ true) × (p.has_model ≡ false) × (p.has_core ≡ false) × CountsCall p (Err Interrupted) q × (q ≡ record p { steps = q.steps })
 Solves p (Err _) q = ⊥
 
 -- Exactly the names in use, once each and in increasing order, and an assignment that agrees with the list satisfies the clauses and the assumptions.
@@ -128,6 +141,12 @@ abbrev pub TellsModel : Past → Result (Option (List Literal)) AllocError → P
 TellsModel p (Ok (Some model)) q = (p.valid ≡ true) × (p.has_model ≡ true) × IsModel p model × (q ≡ p)
 TellsModel p (Ok None) q = (p.valid ≡ true → p.has_model ≡ false) × (q ≡ p)
 TellsModel p (Err _) q = (p.valid ≡ true) × (p.has_model ≡ true) × (q ≡ p)
+
+-- A core is told where `solve` returned false last, and nothing in an invalid solver. What is told is some of the assumptions, which no assignment makes true together with the clauses.
+abbrev pub TellsCore : Past → Result (Option (List Literal)) AllocError → Past → Type 0
+TellsCore p (Ok (Some core)) q = (p.valid ≡ true) × (p.has_model ≡ false) × IsFailedCore p.clauses p.assumptions core × (q ≡ p)
+TellsCore p (Ok None) q = (p.valid ≡ true → p.has_core ≡ false) × (q ≡ p)
+TellsCore p (Err _) q = (p.valid ≡ true) × (p.has_model ≡ false) × (q ≡ p)
 
 -- the settings are replaced for which the update has values
 abbrev pub with_update : SolverConfigUpdate → Past → Past

@@ -1,21 +1,37 @@
--- The verdicts of a search.
-use Rattle.std.specs.Prelude.{Bool, true, false, Option, Some, None}
+-- The verdicts of a search, and what it comes to.
+use Rattle.std.specs.Prelude.{◌≡◌, Bool, true, false, Option, Some, None, List, length, map}
+use Rattle.varisat_theory.specs.Derivations.{Line}
+use Rattle.varisat_theory.specs.Outcomes.{MakesSteps}
+use Rattle.varisat_schedule.specs.CallSteps.{steps_since}
+use Rattle.varisat_names.specs.Maps.{chain}
+use Rattle.varisat_names.specs.VarMap.{at}
+use Rattle.varisat_names.specs.Variables.{Tables}
+use Rattle.varisat_search.specs.declared.context.Context.{Context}
 use Rattle.varisat_search.specs.declared.state.SatState.{SatState}
 use Rattle.varisat_search.specs.declared.state.SatState.TheVariants as verdict
+use Rattle.varisat_search.specs.AssumptionParts.{AssumptionParts, KeepsAssumptions}
+use Rattle.varisat_search.specs.Contexts.{view, IsReady}
+use Rattle.varisat_search.specs.Decisions.{SameDecidable}
+use Rattle.varisat_search.specs.Seen.{search_of, outcome_of}
+use Rattle.varisat.specs.Carried.{carry}
 
--- neither Unsat nor a verdict on assumptions, of which there are none yet
-abbrev pub IsOpen : SatState → Type 0
-IsOpen verdict.Unknown = Unit {0}
-IsOpen verdict.Sat = Unit {0}
-IsOpen verdict.Unsat = ⊥
-IsOpen verdict.UnsatUnderAssumptions = ⊥
+-- what is returned at the verdict, if it is known
+abbrev pub answer_at : SatState → Option Bool
+answer_at verdict.Unknown = None
+answer_at verdict.Sat = Some true
+answer_at verdict.Unsat = Some false
+answer_at verdict.UnsatUnderAssumptions = Some false
 
--- the verdict by the answer
-abbrev pub verdict_of : Bool → SatState
-verdict_of true = verdict.Sat
-verdict_of false = verdict.Unsat
-
--- the same of a search that may have been interrupted
-abbrev pub verdict_found : Option Bool → SatState
-verdict_found (Some sat) = verdict_of sat
-verdict_found None = verdict.Unknown
+-- Steps lead from one context to the other, which has a verdict or none; and a core that was found is kept over names too.
+pub record FindsVerdict {A : Type 0} (t : Tables) (x y : Context A) (found : Option Bool) : Type 0 where
+  pub ready : IsReady y
+  pub count : length y.assignment.current ≡ length x.assignment.current
+  pub decidable : SameDecidable (view x) x.vsids (view y) y.vsids
+  pub state : y.solver_state ≡ record x.solver_state { sat_state = y.solver_state.sat_state }
+  pub answer : found ≡ answer_at y.solver_state.sat_state
+  -- the assumptions that are left, and the core over solver variables
+  pub parts : AssumptionParts
+  pub steps : (lines : List Line) × MakesSteps (steps_since x.schedule y.schedule) (search_of (view x)) (search_of (view y)) (outcome_of (view y) parts.failed_core y.solver_state.sat_state) lines
+  pub assumes : KeepsAssumptions (search_of (view x)) (outcome_of (view y) parts.failed_core y.solver_state.sat_state) x.assumptions parts
+  pub rest : y.assumptions ≡ record parts { user_core = y.assumptions.user_core }
+  pub core : y.solver_state.sat_state ≡ verdict.UnsatUnderAssumptions → y.assumptions.user_core ≡ map (carry (chain (at t.solvers.backward) (at t.users.backward))) parts.failed_core

@@ -2,8 +2,8 @@
 --
 -- A name of the user leads to a global variable, which lasts as long as its identity may be spoken of, and a global variable to a solver variable while the search speaks of it. Identities are never used again, global and solver variables are.
 use Rattle.std.specs.Prelude.{◌≡◌, ◌≢◌, ℕ, zero, suc, ◌<◌, ◌≤◌, Bool, true, false, Option, Some, None, List, [], length, map}
-use Rattle.varisat_theory.specs.Membership.{◌∈◌}
-use Rattle.varisat_theory.specs.Literals.{Literal, Clause, Assignment, variable_of, SatisfiesAll}
+use Rattle.varisat_theory.specs.Membership.{◌∈◌, ◌⊆◌}
+use Rattle.varisat_theory.specs.Literals.{Literal, Clause, Assignment, variable_of, SatisfiesAll, MakesTrue}
 use Rattle.varisat_theory.specs.Renaming.{rename}
 use Rattle.varisat_theory.specs.Searches.{Search, IsTautology, CoversBy, IsLiteralOf}
 use Rattle.varisat_theory.specs.Outcomes.{Outcome, Holds, IsReached}
@@ -13,11 +13,11 @@ use Rattle.varisat_names.specs.Maps.{IsInverse, chain}
 use Rattle.varisat_names.specs.declared.variables.data.SamplingMode.{SamplingMode}
 use Rattle.varisat_names.specs.declared.variables.data.SamplingMode.TheVariants as sampling
 use Rattle.varisat_names.specs.declared.variables.data.VarData.{VarData}
-use Rattle.varisat.specs.States.{State, Mode, Sample, Witness, Verdict, Unknown, Sat, Unsat, HasRightVerdict, IsWellFormed}
+use Rattle.varisat.specs.States.{State, Mode, Sample, Witness, Verdict, Unknown, Sat, Unsat, UnsatUnderAssumptions, HasRightVerdict, IsWellFormed}
 use Rattle.varisat.specs.Models.{put_name}
 use Rattle.varisat.specs.Carried.{carry, AgreesAlong, is_forced}
 
--- The maps as functions; what is kept of each global variable, and its value in the model found last; the assumptions over global variables; the search over solver variables with its verdict, and how many variables it has. `hidden`: whether a name was ever hidden.
+-- The maps as functions; what is kept of each global variable, and its value in the model found last; the assumptions as given and the core found last, over names; those of the assumptions by which the search goes, and the search with its verdict, over solver variables, and how many variables it has. `hidden`: whether a name was ever hidden.
 pub record Spaces : Type 0 where
   pub global_from_user : ℕ → Option ℕ
   pub user_from_global : ℕ → Option ℕ
@@ -27,6 +27,8 @@ pub record Spaces : Type 0 where
   pub kept : ℕ → VarData
   pub model : ℕ → Bool
   pub assumptions : List Literal
+  pub core : List Literal
+  pub working : List Literal
   pub search : Search
   pub outcome : Outcome
   pub var_count : ℕ
@@ -115,22 +117,42 @@ pub record SearchHolds (P : List Clause) (r : Translation) (s : Search) (v : Out
   pub taken : r.hidden ≡ false → (c : Clause) (l : Literal) → c ∈ P → l ∈ c → (x : ℕ) × (r.solver (variable_of l) ≡ Some x)
   pub reached : r.hidden ≡ false → IsReached (rename (carry r.solver) P) held
 
--- The list is the one that is given, over global variables that have a name and a solver variable.
-pub record AssumptionsFit (identity to_user from_global : ℕ → Option ℕ) (given assumptions : List Literal) : Type 0 where
-  pub agree : assumptions ≡ map (carry identity) given
-  pub named : (l : Literal) → l ∈ given → (u : ℕ) × (to_user (variable_of l) ≡ Some u)
-  pub taken : (l : Literal) → l ∈ given → (v : ℕ) × (from_global (variable_of l) ≡ Some v)
+-- The list, which is given over names with solver variables, is the state's over identities.
+pub record AssumptionsFit (from_user from_global names : ℕ → Option ℕ) (given assumptions : List Literal) : Type 0 where
+  pub agree : assumptions ≡ map (carry names) given
+  pub taken : (l : Literal) → l ∈ given → (v : ℕ) × (chain from_user from_global (variable_of l) ≡ Some v)
 
 -- exactly the variables of the list are marked as assumed
-pub record MarksFit (kept : ℕ → VarData) (given : List Literal) : Type 0 where
-  pub marked : (l : Literal) → l ∈ given → (kept (variable_of l)).assumed ≡ true
-  pub only : (x : ℕ) → (kept x).assumed ≡ true → x ∈ map variable_of given
+pub record MarksFit (from_user : ℕ → Option ℕ) (kept : ℕ → VarData) (given : List Literal) : Type 0 where
+  pub marked : (l : Literal) (x : ℕ) → l ∈ given → from_user (variable_of l) ≡ Some x → (kept x).assumed ≡ true
+  pub only : (x : ℕ) → (kept x).assumed ≡ true → (l : Literal) × (l ∈ given) × (from_user (variable_of l) ≡ Some x)
+
+-- The assumptions by which the search goes are some of those of the state, and whatever satisfies the accepted clauses and makes them true makes all of these true.
+pub record WorkingFits (P : List Clause) (identity : ℕ → Option ℕ) (assumptions working : List Literal) : Type 0 where
+  pub used : (l : Literal) → l ∈ working → (i : ℕ) × (identity (variable_of l) ≡ Some i)
+  pub part : map (carry identity) working ⊆ assumptions
+  pub implied : (a : Assignment) → SatisfiesAll a P → MakesTrue a (map (carry identity) working) → MakesTrue a assumptions
+
+-- a core of the state is the one that was told over names in use
+abbrev pub CoreFits : (ℕ → Option ℕ) → List Literal → Verdict → Type 0
+CoreFits names told Unknown = Unit {0}
+CoreFits names told (Sat found) = Unit {0}
+CoreFits names told Unsat = Unit {0}
+CoreFits names told (UnsatUnderAssumptions core) = ((l : Literal) → l ∈ told → (i : ℕ) × (names (variable_of l) ≡ Some i)) × (core ≡ map (carry names) told)
+
+-- the verdict without a core, which says nothing of the clauses that are held
+abbrev pub without_core : Outcome → Outcome
+without_core outcome.Unknown = outcome.Unknown
+without_core (outcome.Sat found) = outcome.Sat found
+without_core outcome.Unsat = outcome.Unsat
+without_core (outcome.UnsatUnder core) = outcome.Unknown
 
 -- the verdict, and the model that was found with it
 abbrev pub VerdictFits : (ℕ → Option ℕ) → (ℕ → Bool) → Outcome → Verdict → Type 0
 VerdictFits identity model outcome.Unknown Unknown = Unit {0}
 VerdictFits identity model (outcome.Sat found) (Sat a) = (x i : ℕ) → identity x ≡ Some i → a i ≡ model x
 VerdictFits identity model outcome.Unsat Unsat = Unit {0}
+VerdictFits identity model (outcome.UnsatUnder found) (UnsatUnderAssumptions core) = Unit {0}
 VerdictFits identity model _ _ = ⊥
 
 -- the identity of a solver variable, and the way back
@@ -145,10 +167,12 @@ pub record Links (w : Carrying) (p : Spaces) (s : State) : Type 0 where
   pub units : UnitsFit w.identity w.forced p.kept s.counted
   pub isolation : IsolationFits w.identity w.forced p.kept s.clauses s.made
   pub solvers : SolversFit w.identity p.solver_from_global p.global_from_solver s.counted
-  pub holds : SearchHolds s.clauses (translation w p) p.search p.outcome
-  pub assumptions : AssumptionsFit w.identity p.user_from_global p.solver_from_global p.assumptions s.assumptions
-  pub marks : MarksFit p.kept p.assumptions
+  pub holds : SearchHolds s.clauses (translation w p) p.search (without_core p.outcome)
+  pub assumptions : AssumptionsFit p.global_from_user p.solver_from_global s.names p.assumptions s.assumptions
+  pub marks : MarksFit p.global_from_user p.kept p.assumptions
+  pub working : WorkingFits s.clauses (translation w p).identity s.assumptions p.working
   pub verdict : VerdictFits w.identity p.model p.outcome s.verdict
+  pub core : CoreFits s.names p.core s.verdict
   pub right : HasRightVerdict s
   pub well_formed : IsWellFormed s
   -- the search has no more variables than are counted

@@ -1,7 +1,7 @@
 -- What a user can know of a solver.
 use Rattle.std.specs.Prelude.{◌≡◌, ℕ, ◌<◌, ◌≤◌, Bool, true, false, ◌||◌, nat_eq, if◌then◌else◌, Option, Some, None, List, [], ◌∷◌, ◌++◌}
 use Rattle.varisat_theory.specs.Membership.{◌∈◌, IsDistinct}
-use Rattle.varisat_theory.specs.Literals.{Literal, Clause, Assignment, variable_of, SatisfiesAll, MakesTrue, IsSatisfiable}
+use Rattle.varisat_theory.specs.Literals.{Literal, Clause, Assignment, variable_of, SatisfiesAll, MakesTrue, IsSatisfiable, IsFailedCore}
 use Rattle.varisat_names.specs.Settings.{Settings, default_settings}
 
 -- A name is a number by which the user speaks of a variable. An identity is a number that is given to a variable once and never again: a name may become free, and come back with another identity.
@@ -11,13 +11,14 @@ pub data Mode : Type 0 where
   Sample : Mode
   Witness : Mode
 
--- What is known of the accepted clauses. Under `Sat` an assignment of the identities was found.
+-- What is known of the accepted clauses and the assumptions. Under `Sat` an assignment of the identities was found, under `UnsatUnderAssumptions` a failed core over identities.
 pub data Verdict : Type 0 where
   Unknown : Verdict
   Sat : Assignment → Verdict
   Unsat : Verdict
+  UnsatUnderAssumptions : List Literal → Verdict
 
--- What is told of an invalid solver too. `valid`: no error came from which there is no way back. `started`: a clause or a variable was accepted. `steps`: how many steps were made in all. `settings`: those by which further steps are made.
+-- What is told of an invalid solver too. `valid`: no error came from which there is no way back. `started`: a clause, a variable or a list of assumptions was accepted. `steps`: how many steps were made in all. `settings`: those by which further steps are made.
 pub record Ledger : Type 0 where
   pub valid : Bool
   pub started : Bool
@@ -74,12 +75,13 @@ pub record IsWellFormed (s : State) : Type 0 where
   pub counted : (i : ℕ) → i ∈ s.counted → i < s.made
   pub once : IsDistinct s.counted
 
--- What a verdict claims: an assignment that was found satisfies the clauses and the assumptions, and is false on each identity that is not counted; Unsat stands only where no assignment satisfies the clauses.
+-- What a verdict claims: an assignment that was found satisfies the clauses and the assumptions, and is false on each identity that is not counted; Unsat stands only where no assignment satisfies the clauses; and a core is one of the assumptions, which no assignment makes true together with the clauses.
 abbrev pub IsRight : List Clause → List Literal → List ℕ → Verdict → Type 0
 IsRight clauses assumptions counted Unknown = Unit {0}
 IsRight clauses assumptions counted (Sat found) =
     SatisfiesAll found clauses × MakesTrue found assumptions × ((i : ℕ) → (i ∈ counted → ⊥) → found i ≡ false)
 IsRight clauses assumptions counted Unsat = IsSatisfiable clauses → ⊥
+IsRight clauses assumptions counted (UnsatUnderAssumptions core) = IsFailedCore clauses assumptions core
 
 abbrev pub HasRightVerdict : State → Type 0
 HasRightVerdict s = IsRight s.clauses s.assumptions s.counted s.verdict

@@ -1,12 +1,13 @@
 -- What a solver holds, and which states it stands for.
-use Rattle.std.specs.Prelude.{◌≡◌, ◌≢◌, ℕ, zero, suc, ◌<◌, ◌≤◌, ◌↔◌, Bool, true, false, Option, None, List, [], length, slice_index_or}
-use Rattle.varisat_theory.specs.Literals.{Literal}
+use Rattle.std.specs.Prelude.{◌≡◌, ℕ, zero, suc, ◌<◌, ◌≤◌, ◌↔◌, Bool, true, false, Option, None, List, [], length, slice_index_or}
+use Rattle.varisat_theory.specs.Membership.{◌∈◌}
+use Rattle.varisat_theory.specs.Literals.{Literal, variable_of}
 use Rattle.varisat_prop.specs.Parts.{is_true_value}
 use Rattle.varisat_prop.specs.View.{View}
 use Rattle.varisat_search.specs.declared.context.Context.{Context}
 use Rattle.varisat_search.specs.declared.state.SatState.{SatState}
-use Rattle.varisat_search.specs.declared.state.SatState.TheVariants as verdict
 use Rattle.varisat_search.specs.Contexts.{view, IsReady}
+use Rattle.varisat_search.specs.AssumptionParts.{AssumptionParts}
 use Rattle.varisat_search.specs.Decisions.{IsDecidable}
 use Rattle.varisat_search.specs.Steps.{assignment_of}
 use Rattle.varisat_search.specs.Seen.{search_of, outcome_of}
@@ -20,16 +21,17 @@ use Rattle.varisat.specs.Carried.{value_or}
 use Rattle.varisat.specs.Spaces.{Spaces, SpacesFit}
 use Rattle.varisat_literals.specs.Numbers.{variable_limit}
 
--- The maps between names, global variables and solver variables with what is kept of the global variables; the search with its verdict; the flags.
+-- The maps between names, global variables and solver variables with what is kept of the global variables; the search with its assumptions and its verdict; the flags.
 pub record Summary : Type 0 where
   pub tables : Tables
   pub search : View
+  pub assumed : AssumptionParts
   pub sat_state : SatState
   pub ledger : Ledger
 
--- The model is read from the search. There are no assumptions yet, and nothing is hidden.
-abbrev pub spaces_of : Tables → View → SatState → Spaces
-spaces_of t search sat_state = record {
+-- The model is read from the search. Nothing is hidden yet.
+abbrev pub spaces_of : Tables → View → AssumptionParts → SatState → Spaces
+spaces_of t search assumed sat_state = record {
   global_from_user = at t.users.forward;
   user_from_global = at t.users.backward;
   watermark = length t.users.forward;
@@ -37,15 +39,17 @@ spaces_of t search sat_state = record {
   global_from_solver = at t.solvers.backward;
   kept = kept_at t.kept;
   model = λ x. value_or (kept_at t.kept x).unit (assignment_of search) (at t.solvers.forward x);
-  assumptions = [];
+  assumptions = assumed.user;
+  core = assumed.user_core;
+  working = assumed.working;
   search = search_of search;
-  outcome = outcome_of search sat_state;
+  outcome = outcome_of search assumed.failed_core sat_state;
   var_count = length search.values;
   hidden = false;
 }
 
 abbrev pub spaces : Summary → Spaces
-spaces g = spaces_of g.tables g.search g.sat_state
+spaces g = spaces_of g.tables g.search g.assumed g.sat_state
 
 -- the model as it is listed: the names in use among the k names from u on
 abbrev pub list_tables : Tables → List (Option Bool) → ℕ → ℕ → List Literal
@@ -61,8 +65,8 @@ pub record IsKept {A : Type 0} (tables : Tables) (search : Context A) : Type 0 w
   pub count : length search.assignment.current ≡ length tables.solvers.backward
   -- which accepted clauses named: these may be decided, and no other
   pub decidable : (v : ℕ) → IsDecidable (view search) search.vsids v ↔ (v < length search.assignment.current)
-  -- there are no assumptions yet
-  pub no_assumptions : search.solver_state.sat_state ≢ verdict.UnsatUnderAssumptions
+  -- assumptions are over names in use
+  pub assumed : (l : Literal) → l ∈ search.assumptions.user → variable_of l < length tables.users.forward
 
 -- The solver stands for the state: both have the same flags, and where they are valid, what the solver holds stands for it.
 pub record StandsFor (g : Summary) (s : State) : Type 0 where

@@ -1,10 +1,16 @@
--- A model as it is handed out.
+-- A model and a core as they are handed out.
 use Rattle.std.specs.Prelude.{List, Option, Some, None, Result, Ok, Err, Vec}
+use Rattle.std.specs.Borrow.{Bor}
 use Rattle.std.specs.declared.alloc.AllocError.{AllocError}
 use Rattle.varisat_theory.specs.Literals.{Literal}
 
 -- the literals of a list that was made
-abbrev pub told_model : {A : Type 0} → Result (Option (Vec Literal A)) AllocError → Result (Option (List Literal)) AllocError
-told_model (Ok None) = Ok None
-told_model (Ok (Some v)) = Ok (Some v.items)
-told_model (Err e) = Err e
+abbrev pub told_list : {A : Type 0} → Result (Option (Vec Literal A)) AllocError → Result (Option (List Literal)) AllocError
+told_list (Ok None) = Ok None
+told_list (Ok (Some v)) = Ok (Some v.items)
+told_list (Err e) = Err e
+
+-- the literals of a list that is lent
+abbrev pub lent_list : Option (Bor (List Literal)) → Option (List Literal)
+lent_list None = None
+lent_list (Some list) = Some list.now

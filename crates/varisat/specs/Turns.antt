@@ -6,7 +6,7 @@ use Rattle.varisat_formula.specs.Streams.{Stand}
 use Rattle.varisat_names.specs.declared.config.SolverConfigUpdate.{SolverConfigUpdate}
 use Rattle.varisat.specs.Updates.{Configures}
 use Rattle.varisat.specs.Additions as additions
-use Rattle.varisat.specs.Told.{told_model}
+use Rattle.varisat.specs.Told.{told_list}
 use Rattle.varisat.specs.declared.solver.SolverError.{SolverError}
 use Rattle.varisat.specs.declared.session.Call.{Call}
 use Rattle.varisat.specs.declared.session.Answer.{Answer}
@@ -17,8 +17,10 @@ use Rattle.varisat.specs.declared.session.Answer.TheVariants as answer
 pub record Calling (X : Type 0) : Type 1 where
   pub adding : additions.Adding X
   pub makes_var : X → Result ℕ SolverError → X → Type 0
+  pub assumes : X → List Literal → Result (Unit {0}) SolverError → X → Type 0
   pub solves : X → Result Bool SolverError → X → Type 0
   pub tells_model : X → Result (Option (List Literal)) AllocError → X → Type 0
+  pub tells_core : X → Result (Option (List Literal)) AllocError → X → Type 0
   pub updated : SolverConfigUpdate → X → X
   pub steps : X → ℕ
 
@@ -29,8 +31,10 @@ module _ {X : Type 0} (by : Calling X) where
   Makes seen s (call.AddFormula f) (answer.AddFormula r) t = additions.AddsList by.adding s f.clauses r t
   Makes seen s (call.AddDimacsCnf source) (answer.AddDimacsCnf r back) t = additions.AddsText by.adding s (seen source) r (seen back) t
   Makes seen s call.NewVar (answer.NewVar r) t = by.makes_var s r t
+  Makes seen s (call.Assume list) (answer.Assume r) t = by.assumes s list.items r t
   Makes seen s call.Solve (answer.Solve r) t = by.solves s r t
-  Makes seen s call.Model (answer.Model r) t = by.tells_model s (told_model r) t
+  Makes seen s call.Model (answer.Model r) t = by.tells_model s (told_list r) t
+  Makes seen s call.FailedCore (answer.FailedCore r) t = by.tells_core s (told_list r) t
   Makes seen s (call.Config u) (answer.Config r) t = Configures by.adding.valid by.updated s u r t
   Makes seen s call.Steps (answer.Steps n) t = (n ≡ by.steps s) × (t ≡ s)
   Makes seen s call.IsValid (answer.IsValid b) t = (b ≡ by.adding.valid s) × (t ≡ s)

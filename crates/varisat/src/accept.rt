@@ -1,5 +1,6 @@
-//! What an accepted clause brings: its names, their solver variables, and the clause itself.
-ghost use Rattle.std.specs.Prelude.{◌≡◌, ◌<◌, false, map, OnOk};
+//! What an accepted clause and a list of assumptions bring: their names, the solver variables of these, and the clause or the
+//! list itself.
+ghost use Rattle.std.specs.Prelude.{◌≡◌, ◌≢◌, ◌<◌, false, map, OnOk};
 ghost use Rattle.varisat_theory.specs.Membership.{◌∈◌};
 ghost use Rattle.varisat_theory.specs.Literals.{Literal, variable_of};
 ghost use Rattle.varisat_names.specs.Maps.{chain};
@@ -7,21 +8,22 @@ ghost use Rattle.varisat_names.specs.VarMap.{at};
 ghost use Rattle.varisat_search.specs.Contexts.{view, KeepsSchedule};
 ghost use Rattle.varisat.specs.States.{State, Verdict};
 ghost use Rattle.varisat.specs.Names.{name_all, through_names};
-ghost use Rattle.varisat.specs.Calls.{VerdictAfter, append_clause};
+ghost use Rattle.varisat.specs.Calls.{VerdictAfter, append_clause, with_assumptions};
 ghost use Rattle.varisat.specs.Carried.{carry};
 ghost use Rattle.varisat.specs.Spaces.{SpacesFit};
-ghost use Rattle.varisat.specs.Searches.{IsOpen};
 ghost use Rattle.varisat.specs.Summaries.{spaces_of, IsKept};
-ghost use Rattle.varisat.specs.Accepting.{CanBeNamed, HasNames, AreNamedInTurn, AreTakenFor, AreJoined, HasSolver};
+ghost use Rattle.varisat.specs.Accepting.{CanBeNamed, HasNames, AreNamedInTurn, AreTakenFor, AreBroughtIn, AreJoined, AreMarked, HasSolver};
 ghost use Rattle.varisat_literals.specs.Numbers.{variable_limit};
 
 use std::alloc::{AllocError, Allocator};
 use varisat_literals::Lit;
 use varisat_names::variables::Variables;
 use varisat_prop::clause::StoreError;
+use varisat_search::assumptions::set_assumptions;
 use varisat_search::context::Context;
 use varisat_search::decision::add_variables;
 use varisat_search::load::load_clause;
+use varisat_search::state::SatState;
 
 /// Brings the names of the clause into use, each with all names below it.
 fn name_vars<A: Allocator + Copy>(
@@ -69,6 +71,17 @@ fn mark_joined<A: Allocator + Copy>(variables: &mut Variables<A>, clause: &[Lit]
     }
 }
 
+/// Marks the variables of the list as assumed, or takes their marks away.
+fn mark_assumed<A: Allocator + Copy>(variables: &mut Variables<A>, list: &[Lit], assumed: bool)
+    requires { HasNames list.now variables.old }
+    ensures { AreMarked list.now assumed variables.old variables.new }
+{
+    for lit in list {
+        let global = variables.global_from_user().get(lit.var()).unwrap();
+        variables.set_assumed(global, assumed);
+    }
+}
+
 /// Lists the literals of the clause over solver variables.
 fn carry_literals<A: Allocator + Copy>(
     variables: &Variables<A>,
@@ -86,6 +99,26 @@ fn carry_literals<A: Allocator + Copy>(
     Ok(())
 }
 
+/// Brings the names of the list into use, takes solver variables for them, and lists its literals over these.
+fn bring_in<A: Allocator + Copy>(
+    variables: &mut Variables<A>,
+    ctx: &mut Context<A>,
+    literals: &mut Vec<Lit, A>,
+    list: &[Lit],
+) -> Result<(), AllocError>
+    requires kept { IsKept variables.old ctx.old }
+    requires in_range { (l : Literal) → l ∈ list.now → variable_of l < variable_limit }
+    ensures brought { OnOk result (AreBroughtIn list.now variables.old variables.new ctx.old ctx.new literals.new.items) }
+    ensures kept { ctx.new ≡ record ctx.old { analyze_conflict = ctx.new.analyze_conflict; assignment = ctx.new.assignment; binary_clauses = ctx.new.binary_clauses; impl_graph = ctx.new.impl_graph; tmp_flags = ctx.new.tmp_flags; vsids = ctx.new.vsids; watchlists = ctx.new.watchlists } }
+{
+    name_vars(variables, list)?;
+    take_solver_vars(variables, list)?;
+    variables.prove_linked();
+    add_variables(ctx, variables.solver_watermark())?;
+    carry_literals(variables, list, literals)?;
+    Ok(())
+}
+
 /// Brings the names of the clause into use, takes solver variables for them, and loads the clause over these. `literals`
 /// is overwritten.
 pub fn accept_clause<A: Allocator + Copy>(
@@ -95,20 +128,39 @@ pub fn accept_clause<A: Allocator + Copy>(
     clause: &[Lit],
 ) -> Result<(), StoreError>
     requires kept { IsKept variables.old ctx.old }
-    requires unsettled { IsOpen ctx.old.solver_state.sat_state }
+    requires unsettled { ctx.old.solver_state.sat_state ≢ SatState.Unsat }
     requires in_range { (l : Literal) → l ∈ clause.now → variable_of l < variable_limit }
     ensures kept { OnOk result (IsKept variables.new ctx.new) }
     ensures state { OnOk result (ctx.new.solver_state ≡ record ctx.old.solver_state { sat_state = ctx.new.solver_state.sat_state; formula_is_empty = false }) }
     ensures schedule { KeepsSchedule ctx.old ctx.new }
-    ensures accepted { OnOk result ((s : State) → SpacesFit (spaces_of variables.old (view ctx.old) ctx.old.solver_state.sat_state) s →
-        (x : Verdict) × VerdictAfter s.clauses (map (through_names (name_all clause.now s)) clause.now) s.verdict x × SpacesFit (spaces_of variables.new (view ctx.new) ctx.new.solver_state.sat_state) (append_clause (map (through_names (name_all clause.now s)) clause.now) x (name_all clause.now s))) }
+    ensures accepted { OnOk result ((s : State) → SpacesFit (spaces_of variables.old (view ctx.old) ctx.old.assumptions ctx.old.solver_state.sat_state) s →
+        (x : Verdict) × VerdictAfter s.clauses (map (through_names (name_all clause.now s)) clause.now) s.verdict x × SpacesFit (spaces_of variables.new (view ctx.new) ctx.new.assumptions ctx.new.solver_state.sat_state) (append_clause (map (through_names (name_all clause.now s)) clause.now) x (name_all clause.now s))) }
 {
-    name_vars(variables, clause)?;
-    take_solver_vars(variables, clause)?;
+    bring_in(variables, ctx, literals, clause)?;
     mark_joined(variables, clause);
-    variables.prove_linked();
-    add_variables(ctx, variables.solver_watermark())?;
-    carry_literals(variables, clause, literals)?;
     load_clause(ctx, literals)?;
+    Ok(())
+}
+
+/// Brings the names of the list into use, takes solver variables for them, and assumes the list in place of the one before.
+/// `literals` is overwritten.
+pub fn assume_list<A: Allocator + Copy>(
+    variables: &mut Variables<A>,
+    ctx: &mut Context<A>,
+    literals: &mut Vec<Lit, A>,
+    list: &[Lit],
+) -> Result<(), AllocError>
+    requires kept { IsKept variables.old ctx.old }
+    requires in_range { (l : Literal) → l ∈ list.now → variable_of l < variable_limit }
+    ensures kept { OnOk result (IsKept variables.new ctx.new) }
+    ensures state { OnOk result (ctx.new.solver_state ≡ record ctx.old.solver_state { sat_state = ctx.new.solver_state.sat_state }) }
+    ensures schedule { KeepsSchedule ctx.old ctx.new }
+    ensures assumed { OnOk result ((s : State) → SpacesFit (spaces_of variables.old (view ctx.old) ctx.old.assumptions ctx.old.solver_state.sat_state) s →
+        SpacesFit (spaces_of variables.new (view ctx.new) ctx.new.assumptions ctx.new.solver_state.sat_state) (with_assumptions (map (through_names (name_all list.now s)) list.now) (name_all list.now s))) }
+{
+    bring_in(variables, ctx, literals, list)?;
+    mark_assumed(variables, ctx.assumptions.user_assumptions(), false);
+    mark_assumed(variables, list, true);
+    set_assumptions(ctx, list, literals)?;
     Ok(())
 }

@@ -19,13 +19,19 @@ pub mod prop {
 /// The parts of a search that learn.
 pub mod search {
     pub use varisat_search::analyze_conflict::{AnalyzeConflict, analyze_conflict};
+    pub use varisat_search::assess::{assess_learned_clause, bump_clause};
+    pub use varisat_search::assumptions::{
+        Assumptions, EnqueueAssumption, enqueue_assumption, set_assumptions,
+    };
     pub use varisat_search::cdcl::{FoundConflict, conflict_step};
+    pub use varisat_search::collect::collect_garbage;
     pub use varisat_search::context::{Context, set_var_count};
     pub use varisat_search::decision::{
         Vsids, initialize_var, make_available, make_decision, remove_var,
     };
-    pub use varisat_search::glue::LevelAbstraction;
+    pub use varisat_search::glue::{LevelAbstraction, compute_glue};
     pub use varisat_search::load::load_clause;
+    pub use varisat_search::reduce::{reduce_locals, reduce_mids};
     pub use varisat_search::schedule::{LubySequence, Schedule, schedule_step};
     pub use varisat_search::state::{SatState, SolverState};
     pub use varisat_search::tmp::{TmpData, TmpFlags};
@@ -39,5 +45,6 @@ pub use varisat_names::config;
 pub use varisat_proof::{checker, proof};
 pub use varisat_prop::clause;
 pub use varisat_search::{
-    analyze_conflict, cdcl, context, decision, glue, load, schedule, state, tmp,
+    analyze_conflict, assess, assumptions, cdcl, collect, context, decision, glue, load, reduce,
+    schedule, state, tmp,
 };

@@ -1,11 +1,12 @@
 //! The lines of a session: reading a line's command as a call, and writing the answer.
-ghost use Rattle.std.specs.Prelude.{◌≡◌, ◌≢◌, ◌==◌, ℕ, ◌+◌, ◌<◌, ◌≤◌, ◌^◌, List, [], ◌∷◌, ◌++◌, map, take, IfOk, IfSome, IfNone, OnOk, decimal, length, codes};
+ghost use Rattle.std.specs.Prelude.{◌≡◌, ◌≢◌, ◌==◌, ◌⊎◌, ℕ, ◌+◌, ◌<◌, ◌≤◌, ◌^◌, List, [], ◌∷◌, ◌++◌, map, take, IfOk, IfSome, IfNone, OnOk, decimal, length, codes};
 ghost use Rattle.std.specs.List.{All, join_with_byte};
 ghost use Rattle.std.specs.Io.KnownBytes.{Appends};
 ghost use Rattle.varisat_theory.specs.Literals.{Literal};
 ghost use Rattle.varisat_literals.specs.Numbers.{literal_text, variable_text};
 ghost use Rattle.varisat_names.specs.Settings.{update_of};
-ghost use Rattle.varisat.specs.Lines.{Command, Add, Config, words, Means, MeansOneCommand, AsksFor, words_of, literals_text, refusal_text, done_text, answer_text};
+ghost use Rattle.varisat.specs.Lines.{Command, Add, Assume, Config, words, Means, MeansOneCommand, AsksFor, words_of, literals_text, refusal_text, done_text, list_text, answer_text};
+ghost use Rattle.varisat.specs.Told.{told_list};
 
 use crate::session::{Answer, Call};
 use crate::solver::SolverError;
@@ -28,19 +29,25 @@ pub fn parse_line<S: ByteSource, A: Allocator + Copy>(
     ensures command { IfOk result (λ found. IfSome found (λ call. (command : Command) × AsksFor call command × Means text.now command)) }
     ensures no_command { IfOk result (λ found. IfNone found ((command : Command) → Means text.now command → ⊥)) }
 {
-    match text.strip_prefix(b"add ") {
-        Some(numbers) => match parse_literals(alloc, numbers)? {
+    if let Some(numbers) = text.strip_prefix(b"add ") {
+        return match parse_literals(alloc, numbers)? {
             Some(literals) => Ok(Some(Call::AddClause(literals))),
+            None => Ok(None),
+        };
+    }
+    match text.strip_prefix(b"assume ") {
+        Some(numbers) => match parse_literals(alloc, numbers)? {
+            Some(literals) => Ok(Some(Call::Assume(literals))),
             None => Ok(None),
         },
         None => Ok(parse_short(alloc, text)),
     }
 }
 
-// The call of a command that does not begin with `add` and a space.
+// The call of a command that does not begin with `add` or `assume` and a space.
 fn parse_short<S: ByteSource, A: Allocator + Copy>(alloc: A, text: &[u8]) -> Option<Call<S, A>>
     ensures command { IfSome result (λ call. (command : Command) × AsksFor call command × Means text.now command) }
-    ensures no_command { IfNone result ((command : Command) → Means text.now command → take 4 text.now ≡ codes "add ") }
+    ensures no_command { IfNone result ((command : Command) → Means text.now command → (take 4 text.now ≡ codes "add ") ⊎ (take 7 text.now ≡ codes "assume ")) }
 {
     match text.strip_prefix(b"config ") {
         Some(setting) => Some(Call::Config(parse_setting(setting)?)),
@@ -55,12 +62,16 @@ fn parse_word<S: ByteSource, A: Allocator + Copy>(alloc: A, word: &[u8]) -> Opti
 {
     if word == b"add".as_slice() {
         Some(Call::AddClause(Vec::new(alloc)))
+    } else if word == b"assume".as_slice() {
+        Some(Call::Assume(Vec::new(alloc)))
     } else if word == b"new".as_slice() {
         Some(Call::NewVar)
     } else if word == b"solve".as_slice() {
         Some(Call::Solve)
     } else if word == b"model".as_slice() {
         Some(Call::Model)
+    } else if word == b"core".as_slice() {
+        Some(Call::FailedCore)
     } else if word == b"close".as_slice() {
         Some(Call::CloseProof)
     } else if word == b"steps".as_slice() {
@@ -81,13 +92,15 @@ fn parse_setting(setting: &[u8]) -> Option<SolverConfigUpdate>
     Some(SolverConfigUpdate::one(field, value))
 }
 
-// The literals of a command that begins with `add` and a space, from what follows.
+// The literals of a command that begins with `add` or `assume` and a space, from what follows.
 fn parse_literals<A: Allocator + Copy>(
     alloc: A,
     numbers: &[u8],
 ) -> Result<Option<Vec<Lit, A>>, AllocError>
-    ensures command { IfOk result (λ found. IfSome found (λ literals. Means (codes "add " ++ numbers.now) (Add literals.items))) }
-    ensures no_command { IfOk result (λ found. IfNone found ((command : Command) → Means (codes "add " ++ numbers.now) command → ⊥)) }
+    ensures clause { IfOk result (λ found. IfSome found (λ literals. Means (codes "add " ++ numbers.now) (Add literals.items))) }
+    ensures list { IfOk result (λ found. IfSome found (λ literals. Means (codes "assume " ++ numbers.now) (Assume literals.items))) }
+    ensures no_clause { IfOk result (λ found. IfNone found ((command : Command) → Means (codes "add " ++ numbers.now) command → ⊥)) }
+    ensures no_list { IfOk result (λ found. IfNone found ((command : Command) → Means (codes "assume " ++ numbers.now) command → ⊥)) }
 {
     let mut literals = Vec::new(alloc);
     let mut rest = Some(numbers);
@@ -174,6 +187,7 @@ pub fn write_answer<O: Write, W: ProofTarget, S: ByteSource, A: Allocator + Copy
         Answer::AddClause(done)
         | Answer::AddFormula(done)
         | Answer::AddDimacsCnf(done, _)
+        | Answer::Assume(done)
         | Answer::Config(done) => write_done(out, done),
         Answer::NewVar(Ok(var)) => {
             out.write_all(b"ok ")?;
@@ -185,16 +199,29 @@ pub fn write_answer<O: Write, W: ProofTarget, S: ByteSource, A: Allocator + Copy
         }
         Answer::Solve(Ok(true)) | Answer::IsValid(true) => out.write_all(b"ok true"),
         Answer::Solve(Ok(false)) | Answer::IsValid(false) => out.write_all(b"ok false"),
-        Answer::Model(Ok(Some(list))) => {
-            out.write_all(b"ok")?;
-            write_literals(out, list)
-        }
-        Answer::Model(Ok(None)) | Answer::CloseProof(Ok(None)) => out.write_all(b"ok none"),
+        Answer::Model(list) | Answer::FailedCore(list) => write_list(out, list),
+        Answer::CloseProof(Ok(None)) => out.write_all(b"ok none"),
         Answer::CloseProof(Ok(Some(_))) => out.write_all(b"ok"),
         Answer::CloseProof(Err((error, _))) => write_refusal(out, error),
         Answer::NewVar(Err(error)) => write_refusal(out, error),
         Answer::Solve(Err(error)) => write_refusal(out, error),
-        Answer::Model(Err(_)) => write_refusal(out, &SolverError::OutOfMemory),
+    }
+}
+
+/// Writes a model or a core, if there is one. Of errors the same holds as of `write_answer`.
+fn write_list<W: Write, A: Allocator + Copy>(
+    out: &mut W,
+    list: &Result<Option<Vec<Lit, A>>, AllocError>,
+) -> io::Result<()>
+    ensures { OnOk result (Appends (W.contents out.old) (W.contents out.new) (list_text (told_list list.now))) }
+{
+    match list {
+        Ok(Some(literals)) => {
+            out.write_all(b"ok")?;
+            write_literals(out, literals)
+        }
+        Ok(None) => out.write_all(b"ok none"),
+        Err(_) => write_refusal(out, &SolverError::OutOfMemory),
     }
 }
 

@@ -20,23 +20,27 @@ pub enum Call<S: ByteSource, A: Allocator + Copy> {
     AddFormula(CnfFormula<A>),
     AddDimacsCnf(S),
     NewVar,
+    Assume(Vec<Lit, A>),
     Solve,
     Model,
+    FailedCore,
     Config(SolverConfigUpdate),
     Steps,
     IsValid,
     CloseProof,
 }
 
-/// What a call returned. A source is given back with the answer, and a proof's target where its proof is closed.
+/// What a call returned. A source is given back with the answer, and a proof's target where its proof is closed. A core is a copy.
 #[derive(Drop)]
 pub enum Answer<W: ProofTarget, S: ByteSource, A: Allocator + Copy> {
     AddClause(Result<(), SolverError>),
     AddFormula(Result<(), SolverError>),
     AddDimacsCnf(Result<(), SolverError>, S),
     NewVar(Result<Var, SolverError>),
+    Assume(Result<(), SolverError>),
     Solve(Result<bool, SolverError>),
     Model(Result<Option<Vec<Lit, A>>, AllocError>),
+    FailedCore(Result<Option<Vec<Lit, A>>, AllocError>),
     Config(Result<(), SolverError>),
     Steps(u64),
     IsValid(bool),
@@ -59,8 +63,10 @@ pub fn make_call<W: ProofTarget, S: ByteSource, A: Allocator + Copy>(
             Answer::AddDimacsCnf(added, source)
         }
         Call::NewVar => Answer::NewVar(solver.new_var()),
+        Call::Assume(list) => Answer::Assume(solver.assume(&list)),
         Call::Solve => Answer::Solve(solver.solve()),
         Call::Model => Answer::Model(solver.model()),
+        Call::FailedCore => Answer::FailedCore(solver.copy_core()),
         Call::Config(update) => Answer::Config(solver.config(&update)),
         Call::Steps => Answer::Steps(solver.steps()),
         Call::IsValid => Answer::IsValid(solver.is_valid()),

@@ -10,8 +10,8 @@ ghost use Rattle.varisat.specs.Carried.{value_or};
 ghost use Rattle.varisat.specs.Summaries.{list_tables};
 ghost use Rattle.varisat_literals.specs.Numbers.{variable_limit};
 
-use crate::accept::accept_clause;
-use crate::solving::find_verdict;
+use crate::accept::{accept_clause, assume_list};
+use crate::solving::find_named_verdict;
 use std::alloc::{AllocError, Allocator};
 use std::marker::Model;
 use thiserror::Error;
@@ -143,15 +143,24 @@ fn list_model<A: Allocator + Copy>(
     Ok(list)
 }
 
+/// A copy of the list.
+fn copied<A: Allocator + Copy>(alloc: A, lits: &[Lit]) -> Result<Vec<Lit, A>, AllocError>
+    ensures { IfOk result (λ copy. copy.items ≡ lits.now) }
+{
+    let mut copy = Vec::new(alloc);
+    copy.extend_from_slice(lits)?;
+    Ok(copy)
+}
+
 /// A solver of one growing formula. `W` is the type of the targets that proofs are written to.
 #[derive(Drop)]
 pub struct Solver<W: ProofTarget, A: Allocator + Copy> {
     alloc: A,
     ctx: Context<A>,
     variables: Variables<A>,
-    // The clause that is being accepted, over solver variables.
+    // The clause or the assumptions that are being accepted, over solver variables, and a core over names.
     literals: Vec<Lit, A>,
-    // Whether a clause or a variable was accepted. `write_proof`, which is to open a proof, will be refused from then on;
+    // Whether a clause, a variable or a list of assumptions was accepted. `write_proof`, which is to open a proof, will be refused from then on;
     // no other call reads it.
     started: bool,
     // Where an open proof goes: `write_proof` will set it, `add_clause` and `solve` will write to it, and `close_proof` will
@@ -166,19 +175,21 @@ impl<W: ProofTarget, A: Allocator + Copy> Model for Solver<W, A> {
 
     ghost Value = { Summary };
 
-    ghost view = { λ c. record { tables = c.variables; search = contexts.view c.ctx; sat_state = c.ctx.solver_state.sat_state; ledger = record { valid = not c.ctx.solver_state.state_is_invalid; started = c.started; steps = c.ctx.schedule.steps; settings = c.ctx.solver_config } } };
+    ghost view = { λ c. record { tables = c.variables; search = contexts.view c.ctx; assumed = c.ctx.assumptions; sat_state = c.ctx.solver_state.sat_state; ledger = record { valid = not c.ctx.solver_state.state_is_invalid; started = c.started; steps = c.ctx.schedule.steps; settings = c.ctx.solver_config } } };
 
     ghost invariant = { λ c. c.ctx.solver_state.state_is_invalid ≡ false → IsKept c.variables c.ctx };
 }
 
 impl<W: ProofTarget, A: Allocator + Copy> Solver<W, A> {
     ghost use Rattle.std.specs.Prelude.{◌≡◌, ◌-◌, ◌<◌, ◌^◌, Ok, Err, Some, None, true, false, List, ℕ};
-    ghost use Rattle.varisat_theory.specs.Literals.{IsSatisfiableWith};
+    ghost use Rattle.std.specs.Prelude.{map};
+    ghost use Rattle.varisat_theory.specs.Literals.{IsSatisfiableWith, IsFailedCore};
     ghost use Rattle.varisat_formula.specs.Rest.{Progress, IsEnding};
     ghost use Rattle.varisat.specs.States.{State, empty_state};
-    ghost use Rattle.varisat.specs.Models.{model_of, IsCompletable};
-    ghost use Rattle.varisat.specs.Calls.{IsValid, AddsClause, AddsFormula, AddsDimacs, AddsReading, TellsFault, MakesVar, Solves, TellsModel, Configures, TellsSteps, TellsValid, ClosesProof, answer_of};
-    ghost use Rattle.varisat.specs.Told.{told_model};
+    ghost use Rattle.varisat.specs.Models.{model_of, IsCompletable, core_of, AreNamesInUse};
+    ghost use Rattle.varisat.specs.Names.{through_names};
+    ghost use Rattle.varisat.specs.Calls.{IsValid, AddsClause, AddsFormula, AddsDimacs, AddsReading, TellsFault, MakesVar, Assumes, Solves, TellsModel, TellsCore, Configures, TellsSteps, TellsValid, ClosesProof, answer_of};
+    ghost use Rattle.varisat.specs.Told.{told_list, lent_list};
     ghost use Rattle.varisat.specs.Summaries.{StandsFor};
 
     /// A solver with no clause. It takes no memory.
@@ -344,12 +355,35 @@ impl<W: ProofTarget, A: Allocator + Copy> Solver<W, A> {
         Ok(None)
     }
 
-    /// Whether some assignment satisfies the accepted clauses. A call makes fewer than 2^(2n+3) steps, where the clauses name n variables. Refused in an invalid solver, where memory runs out or the clause store is full, and where the steps are spent before that is known: `max_steps` of the settings, or 2^64-1 in all. The next call then goes on.
+    /// Assumes that these literals are true, in place of the assumptions before, and brings their names into use. Refused as a clause is, and then the assumptions before stay.
+    pub fn assume(&mut self, lits: &[Lit]) -> Result<(), SolverError>
+        ensures { (s : State) → StandsFor self.old s → (t : State) × Assumes s lits.now result t × StandsFor self.new t }
+    {
+        if self.ctx.solver_state.state_is_invalid {
+            return Err(SolverError::Invalid);
+        }
+        if is_past_limit(lits) {
+            return Err(SolverError::VariableLimit);
+        }
+        match assume_list(&mut self.variables, &mut self.ctx, &mut self.literals, lits) {
+            Ok(()) => {
+                self.started = true;
+                Ok(())
+            }
+            Err(_) => {
+                self.ctx.solver_state.state_is_invalid = true;
+                Err(SolverError::OutOfMemory)
+            }
+        }
+    }
+
+    /// Whether some assignment satisfies the accepted clauses and makes the assumptions true. A call makes fewer than 2^(2n+3) steps, where the clauses and all assumptions so far name n variables. Refused in an invalid solver, where memory runs out or the clause store is full, and where the steps are spent before that is known: `max_steps` of the settings, or 2^64-1 in all. The next call then goes on.
     pub fn solve(&mut self) -> Result<bool, SolverError>
         ensures call { (s : State) → StandsFor self.old s → (t : State) × Solves s result t × StandsFor self.new t }
         ensures satisfiable { result ≡ Ok true → (s : State) → StandsFor self.old s → IsSatisfiableWith s.clauses s.assumptions }
         ensures unsatisfiable { result ≡ Ok false → (s : State) → StandsFor self.old s → IsSatisfiableWith s.clauses s.assumptions → ⊥ }
         ensures model { result ≡ Ok true → (s : State) → StandsFor self.new s → (m : List ℕ) × (model_of s s.verdict ≡ Some m) × IsCompletable s m }
+        ensures core { result ≡ Ok false → (s : State) → StandsFor self.new s → (core : List ℕ) × (core_of s.verdict ≡ Some core) × IsFailedCore s.clauses s.assumptions core }
     {
         if self.ctx.solver_state.state_is_invalid {
             return Err(SolverError::Invalid);
@@ -359,7 +393,12 @@ impl<W: ProofTarget, A: Allocator + Copy> Solver<W, A> {
             SatState::Unsat | SatState::UnsatUnderAssumptions => Ok(false),
             SatState::Unknown => {
                 let max_steps = self.ctx.solver_config.max_steps();
-                match find_verdict(&mut self.ctx, max_steps) {
+                match find_named_verdict(
+                    &self.variables,
+                    &mut self.ctx,
+                    &mut self.literals,
+                    max_steps,
+                ) {
                     Ok(Some(found)) => Ok(found),
                     Ok(None) => Err(SolverError::Interrupted),
                     Err(error) => {
@@ -373,9 +412,9 @@ impl<W: ProofTarget, A: Allocator + Copy> Solver<W, A> {
 
     /// The names in use in increasing order with the values that were found, if the last thing that was found out is that the clauses are satisfiable; else None, as in an invalid solver. Where memory runs out nothing changes.
     pub fn model(&self) -> Result<Option<Vec<Lit, A>>, AllocError>
-        ensures call { (s : State) → StandsFor self.now s → (t : State) × TellsModel s (told_model result) t × StandsFor self.now t }
-        ensures completable { (m : List ℕ) → told_model result ≡ Ok (Some m) → (s : State) → StandsFor self.now s → IsCompletable s m }
-        ensures absent { told_model result ≡ Ok None → (s : State) → StandsFor self.now s → IsValid s → answer_of s.verdict ≡ Some true → ⊥ }
+        ensures call { (s : State) → StandsFor self.now s → (t : State) × TellsModel s (told_list result) t × StandsFor self.now t }
+        ensures completable { (m : List ℕ) → told_list result ≡ Ok (Some m) → (s : State) → StandsFor self.now s → IsCompletable s m }
+        ensures absent { told_list result ≡ Ok None → (s : State) → StandsFor self.now s → IsValid s → answer_of s.verdict ≡ Some true → ⊥ }
     {
         if self.ctx.solver_state.state_is_invalid {
             return Ok(None);
@@ -387,6 +426,36 @@ impl<W: ProofTarget, A: Allocator + Copy> Solver<W, A> {
                 Ok(Some(list))
             }
             SatState::Unknown | SatState::Unsat | SatState::UnsatUnderAssumptions => Ok(None),
+        }
+    }
+
+    /// Some of the assumptions, which no assignment makes true together with the accepted clauses, if the last thing that was found out is that these are unsatisfiable under the assumptions; an empty list where the clauses alone are; else None, as in an invalid solver.
+    pub fn failed_core(&self) -> Option<&[Lit]>
+        ensures call { (s : State) → StandsFor self.now s → (t : State) × TellsCore s (Ok (lent_list result)) t × StandsFor self.now t }
+        ensures fails { (core : List ℕ) → lent_list result ≡ Some core → (s : State) → StandsFor self.now s → AreNamesInUse s core × IsFailedCore s.clauses s.assumptions (map (through_names s) core) }
+        ensures absent { lent_list result ≡ None → (s : State) → StandsFor self.now s → IsValid s → answer_of s.verdict ≡ Some false → ⊥ }
+    {
+        if self.ctx.solver_state.state_is_invalid {
+            return None;
+        }
+        let core = self.ctx.assumptions.user_failed_core();
+        match self.ctx.solver_state.sat_state {
+            SatState::UnsatUnderAssumptions => Some(core),
+            SatState::Unsat => Some(&core[..0]),
+            SatState::Unknown | SatState::Sat => None,
+        }
+    }
+
+    /// A copy of the failed core. Where memory runs out nothing changes.
+    pub(crate) fn copy_core(&self) -> Result<Option<Vec<Lit, A>>, AllocError>
+        ensures { (s : State) → StandsFor self.now s → (t : State) × TellsCore s (told_list result) t × StandsFor self.now t }
+    {
+        match self.failed_core() {
+            Some(core) => {
+                let copy = copied(self.alloc, core)?;
+                Ok(Some(copy))
+            }
+            None => Ok(None),
         }
     }
 }

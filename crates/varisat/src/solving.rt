@@ -1,24 +1,34 @@
-//! The steps of the search, until the verdict is known or the steps are spent.
-ghost use Rattle.std.specs.Prelude.{◌≡◌, ◌≤◌, ℕ, List, length, OnOk, IfOk};
+//! The steps of the search, until the verdict is known or the steps are spent, and the core over names.
+ghost use Rattle.std.specs.Prelude.{◌≡◌, ◌≤◌, ℕ, List, length, map, OnOk, IfOk};
+ghost use Rattle.varisat_theory.specs.Membership.{◌∈◌};
+ghost use Rattle.varisat_theory.specs.Literals.{Literal, variable_of};
 ghost use Rattle.varisat_theory.specs.Derivations.{Line};
 ghost use Rattle.varisat_theory.specs.Outcomes.{MakesSteps};
 ghost use Rattle.varisat_schedule.specs.CallSteps.{steps_since};
+ghost use Rattle.varisat_names.specs.Maps.{chain};
+ghost use Rattle.varisat_names.specs.VarMap.{at};
+ghost use Rattle.varisat_search.specs.AssumptionParts.{KeepsAssumptions};
 ghost use Rattle.varisat_search.specs.Contexts.{view, IsReady};
 ghost use Rattle.varisat_search.specs.Decisions.{SameDecidable};
 ghost use Rattle.varisat_search.specs.Seen.{search_of, outcome_of};
 ghost use Rattle.varisat.specs.Budgets.{told_verdict, CountsSteps};
-ghost use Rattle.varisat.specs.Searches.{verdict_found};
+ghost use Rattle.varisat.specs.Searches.{answer_at, FindsVerdict};
+ghost use Rattle.varisat.specs.Accepting.{HasUser};
+ghost use Rattle.varisat.specs.Carried.{carry};
+ghost use Rattle.varisat.specs.Summaries.{IsKept};
 
-use std::alloc::Allocator;
+use std::alloc::{AllocError, Allocator};
+use varisat_literals::Lit;
+use varisat_names::variables::Variables;
 use varisat_prop::clause::StoreError;
 use varisat_search::context::Context;
 use varisat_search::schedule::schedule_step;
 use varisat_search::state::SatState;
 
-/// Makes steps until it is known whether some assignment satisfies the clauses, and returns that. None where `max_steps`
-/// steps were made before, or no more can be counted. Between two restarts each step raises the rank of the trail, and
+/// Makes steps until it is known whether some assignment satisfies the clauses and makes the assumptions true, and returns
+/// that. None where `max_steps` steps were made before, or no more can be counted. Between two restarts each step raises the rank of the trail, and
 /// the intervals between restarts follow the Luby sequence: so the steps come to an end.
-pub fn find_verdict<A: Allocator + Copy>(
+fn find_verdict<A: Allocator + Copy>(
     ctx: &mut Context<A>,
     max_steps: u64,
 ) -> Result<Option<bool>, StoreError>
@@ -27,8 +37,10 @@ pub fn find_verdict<A: Allocator + Copy>(
     ensures ready { OnOk result (IsReady ctx.new) }
     ensures count { OnOk result (length ctx.new.assignment.current ≡ length ctx.old.assignment.current) }
     ensures decidable { OnOk result (SameDecidable (view ctx.old) ctx.old.vsids (view ctx.new) ctx.new.vsids) }
-    ensures state { IfOk result (λ found. ctx.new.solver_state ≡ record ctx.old.solver_state { sat_state = verdict_found found }) }
-    ensures steps { IfOk result (λ found. (lines : List Line) × MakesSteps (steps_since ctx.old.schedule ctx.new.schedule) (search_of (view ctx.old)) (search_of (view ctx.new)) (outcome_of (view ctx.new) (verdict_found found)) lines) }
+    ensures state { OnOk result (ctx.new.solver_state ≡ record ctx.old.solver_state { sat_state = ctx.new.solver_state.sat_state }) }
+    ensures found { IfOk result (λ found. found ≡ answer_at ctx.new.solver_state.sat_state) }
+    ensures steps { OnOk result ((lines : List Line) × MakesSteps (steps_since ctx.old.schedule ctx.new.schedule) (search_of (view ctx.old)) (search_of (view ctx.new)) (outcome_of (view ctx.new) ctx.new.assumptions.failed_core ctx.new.solver_state.sat_state) lines) }
+    ensures assumptions { OnOk result (KeepsAssumptions (search_of (view ctx.old)) (outcome_of (view ctx.new) ctx.new.assumptions.failed_core ctx.new.solver_state.sat_state) ctx.old.assumptions ctx.new.assumptions) }
     // For each number that bounds the variables of the search.
     ensures counted { (n : ℕ) → length ctx.old.assignment.current ≤ n → CountsSteps n max_steps ctx.old.schedule.steps ctx.new.schedule.steps (told_verdict result) }
     ensures config { ctx.new.solver_config ≡ ctx.old.solver_config }
@@ -47,4 +59,59 @@ pub fn find_verdict<A: Allocator + Copy>(
             SatState::Unsat | SatState::UnsatUnderAssumptions => return Ok(Some(false)),
         }
     }
+}
+
+/// Lists the literals, which are over solver variables with names, over these names.
+fn name_literals<A: Allocator + Copy>(
+    variables: &Variables<A>,
+    lits: &[Lit],
+    named: &mut Vec<Lit, A>,
+) -> Result<(), AllocError>
+    requires { (l : Literal) → l ∈ lits.now → HasUser variables.now (variable_of l) }
+    ensures { OnOk result (named.new.items ≡ map (carry (chain (at variables.now.solvers.backward) (at variables.now.users.backward))) lits.now) }
+{
+    named.clear();
+    for lit in lits {
+        let user = variables.existing_user_from_solver(lit.var());
+        named.push(user.lit(lit.is_positive()))?;
+    }
+    Ok(())
+}
+
+/// Keeps the core that was found as the user names it. `literals` is overwritten.
+fn name_core<A: Allocator + Copy>(
+    variables: &Variables<A>,
+    ctx: &mut Context<A>,
+    literals: &mut Vec<Lit, A>,
+) -> Result<(), AllocError>
+    requires { (l : Literal) → l ∈ ctx.old.assumptions.failed_core → HasUser variables.now (variable_of l) }
+    ensures kept { ctx.new ≡ record ctx.old { assumptions = record ctx.old.assumptions { user_core = ctx.new.assumptions.user_core } } }
+    ensures named { OnOk result (ctx.new.assumptions.user_core ≡ map (carry (chain (at variables.now.solvers.backward) (at variables.now.users.backward))) ctx.old.assumptions.failed_core) }
+{
+    name_literals(variables, ctx.assumptions.failed_core(), literals)?;
+    ctx.assumptions.set_user_failed_core(literals)?;
+    Ok(())
+}
+
+/// Makes steps as `find_verdict`, and keeps a core that was found as the user names it. `literals` is overwritten.
+pub fn find_named_verdict<A: Allocator + Copy>(
+    variables: &Variables<A>,
+    ctx: &mut Context<A>,
+    literals: &mut Vec<Lit, A>,
+    max_steps: u64,
+) -> Result<Option<bool>, StoreError>
+    requires kept { IsKept variables.now ctx.old }
+    requires unknown { ctx.old.solver_state.sat_state ≡ SatState.Unknown }
+    ensures found { IfOk result (λ found. FindsVerdict variables.now ctx.old ctx.new found) }
+    // For each number that bounds the variables of the search.
+    ensures counted { (n : ℕ) → length ctx.old.assignment.current ≤ n → CountsSteps n max_steps ctx.old.schedule.steps ctx.new.schedule.steps (told_verdict result) }
+    ensures config { ctx.new.solver_config ≡ ctx.old.solver_config }
+{
+    variables.prove_linked();
+    let found = find_verdict(ctx, max_steps)?;
+    let SatState::UnsatUnderAssumptions = ctx.solver_state.sat_state else {
+        return Ok(found);
+    };
+    name_core(variables, ctx, literals)?;
+    Ok(found)
 }

@@ -34,7 +34,7 @@ append-none : {X : Type 0} (xs : List X) → xs ++ [] ≡ xs
 append-none [] = refl
 append-none (x ∷ xs) = ap (λ ys. x ∷ ys) (append-none xs)
 
-name-snoc : (k : ℕ) (xs : List Conflict) (v : Conflict) → k < length xs → v ≡ get_or xs k v → take (k + 1) xs ≡ take k xs ++ v ∷ []
+pub name-snoc : (k : ℕ) (xs : List Conflict) (v : Conflict) → k < length xs → v ≡ get_or xs k v → take (k + 1) xs ≡ take k xs ++ v ∷ []
 name-snoc k xs v h g = let e : k + 1 ≡ suc k = omega arith in ap (λ n. take n xs) e ∙ go k xs h g
   where
     go : (k : ℕ) (xs : List Conflict) → k < length xs → v ≡ get_or xs k v → take (suc k) xs ≡ take k xs ++ v ∷ []
@@ -187,27 +187,27 @@ false-all zero v = refl
 false-all (suc n) zero = refl
 false-all (suc n) (suc v) = false-all n v
 
--- Of the literals no flag is left, and none was set.
-pub record Clears (ls : List Literal) (f g : List Bool) : Type 0 where
-  pub gone : (l : Literal) → l ∈ ls → get_or g (variable_of l) false ≡ false
+-- Of the literals' numbers no flag is left, and none was set.
+pub record Clears (number : Literal → ℕ) (ls : List Literal) (f g : List Bool) : Type 0 where
+  pub gone : (l : Literal) → l ∈ ls → get_or g (number l) false ≡ false
   pub fewer : (v : ℕ) → get_or g v false ≡ true → get_or f v false ≡ true
 
-pub clears-none : (f : List Bool) → Clears [] f f
-clears-none f = record { gone = λ l i. absurd i; fewer = λ v e. e }
+pub clears-none : (number : Literal → ℕ) (f : List Bool) → Clears number [] f f
+clears-none number f = record { gone = λ l i. absurd i; fewer = λ v e. e }
 
-pub clears-one : (l : Literal) (f : List Bool) → variable_of l < length f → Clears (l ∷ []) f (set f (variable_of l) false)
-clears-one l f k = record {
-  gone = λ m i. ⊎_elim (λ e. ap (λ u. get_or (set f (variable_of l) false) u false) (ap variable_of e) ∙ get_or-set_same f (variable_of l) false false k) (λ z. absurd z) i;
+pub clears-one : (number : Literal → ℕ) (l : Literal) (f : List Bool) → number l < length f → Clears number (l ∷ []) f (set f (number l) false)
+clears-one number l f k = record {
+  gone = λ m i. ⊎_elim (λ e. ap (λ u. get_or (set f (number l) false) u false) (ap number e) ∙ get_or-set_same f (number l) false false k) (λ z. absurd z) i;
   fewer = λ v e. ⊎_elim
-      (λ i. let z : true ≡ false = sym e ∙ ap (λ u. get_or (set f (variable_of l) false) u false) i ∙ get_or-set_same f (variable_of l) false false k in absurd cc)
-      (λ n. sym (get_or-set_other f (variable_of l) v false false n) ∙ e)
-      (equal_or_not v (variable_of l));
+      (λ i. let z : true ≡ false = sym e ∙ ap (λ u. get_or (set f (number l) false) u false) i ∙ get_or-set_same f (number l) false false k in absurd cc)
+      (λ n. sym (get_or-set_other f (number l) v false false n) ∙ e)
+      (equal_or_not v (number l));
 }
 
-pub clears-join : (ls ms : List Literal) (f g h : List Bool) → Clears ls f g → Clears ms g h → Clears (ls ++ ms) f h
-clears-join ls ms f g h a b = record {
+pub clears-join : (number : Literal → ℕ) (ls ms : List Literal) (f g h : List Bool) → Clears number ls f g → Clears number ms g h → Clears number (ls ++ ms) f h
+clears-join number ls ms f g h a b = record {
   gone = λ l i. ⊎_elim
-      (λ j. ⊎_elim (λ e. let z : true ≡ false = sym (b.fewer (variable_of l) e) ∙ a.gone l j in absurd cc) (λ e. e) (true-or-false (get_or h (variable_of l) false)))
+      (λ j. ⊎_elim (λ e. let z : true ≡ false = sym (b.fewer (number l) e) ∙ a.gone l j in absurd cc) (λ e. e) (true-or-false (get_or h (number l) false)))
       (b.gone l)
       (∈-append_cases l ls ms i);
   fewer = λ v e. a.fewer v (b.fewer v e);

@@ -16,8 +16,9 @@ use Rattle.varisat_prop.specs.declared.prop.graph.Reason.{Reason}
 use Rattle.varisat_prop.specs.declared.prop.graph.Reason.TheVariants as reason
 use Rattle.varisat_prop.specs.declared.prop.graph.Conflict.{Conflict}
 use Rattle.varisat_clause.specs.declared.header.Tier.TheVariants as tier
-use Rattle.varisat_clause.specs.Headers.{Header, no_header}
-use Rattle.varisat_clause.specs.Stored.{StoredClause, Keeps}
+use Rattle.std.specs.Prelude.{not}
+use Rattle.varisat_clause.specs.Tiers.{is_tier}
+use Rattle.varisat_clause.specs.Headers.{Header}
 use Rattle.varisat_clause.specs.Stores.{Store, Adds}
 use Rattle.varisat_clause.specs.Collected.{live_clauses}
 use Rattle.varisat_clause.proofs.LiveStore.{live-added}
@@ -180,14 +181,11 @@ kinds-enqueued t l r w inside free =
     map-equal f g (x ∷ xs) h = let e = h zero (omega arith) in let d = map-equal f g xs (λ k l. h (suc k) (omega (arith, l))) in cc
 
 -- a clause of three literals or more joins the store as Local
-pub stored-learned : (s n : Store) (B : List (List Literal)) (c : Clause) (p : ℕ) (h : Header) → 3 ≤ length c → h ≡ record no_header { tier = tier.Local } → Adds s n (record { place = p; header = record h { len = length c }; literals = c }) → IsKeptAsReason (record { clauses = live_clauses s; binary = B }) (record { clauses = live_clauses n; binary = B }) c (reason.Long p)
-stored-learned s n B [] p h l e a = absurd (omega (arith, l))
-stored-learned s n B (x ∷ []) p h l e a = absurd (omega (arith, l))
-stored-learned s n B (x ∷ y ∷ []) p h l e a = absurd (omega (arith, l))
-stored-learned s n B (x ∷ y ∷ z ∷ c) p h l e a =
-    let k : StoredClause = record { place = p; header = record h { len = length (x ∷ y ∷ z ∷ c) }; literals = x ∷ y ∷ z ∷ c } in
-    let same : k ≡ learned_at p (x ∷ y ∷ z ∷ c) = ap (λ (i : Header). record { place = p; header = record i { len = length (x ∷ y ∷ z ∷ c) }; literals = x ∷ y ∷ z ∷ c }) e in
-    (refl, (p, subst (Keeps (live_clauses s) (live_clauses n)) same (live-added s n k a (ap (λ (i : Header). i.deleted) e)), refl))
+pub stored-learned : (s n : Store) (B : List (List Literal)) (c : Clause) (p : ℕ) (h : Header) → 3 ≤ length c → is_tier h.tier tier.Irred ≡ false → h.deleted ≡ false → Adds s n (learned_at p h c) → IsKeptAsReason (record { clauses = live_clauses s; binary = B }) (record { clauses = live_clauses n; binary = B }) c (reason.Long p)
+stored-learned s n B [] p h l e d a = absurd (omega (arith, l))
+stored-learned s n B (x ∷ []) p h l e d a = absurd (omega (arith, l))
+stored-learned s n B (x ∷ y ∷ []) p h l e d a = absurd (omega (arith, l))
+stored-learned s n B (x ∷ y ∷ z ∷ c) p h l e d a = (refl, (p, h, e, live-added s n (learned_at p h (x ∷ y ∷ z ∷ c)) a d, refl))
 
 -- the view with other kept clauses
 abbrev pub keeping : View → Keeping → View
@@ -335,9 +333,9 @@ module _ (s t : View) (i : Conflict) (level : ℕ) (c : Clause) (w : WellFormed 
                 same = pair-same t (record t { binary = with_pair t.binary l.first m }) l.first m (learned d) first-listed second-listed apart (two f) refl refl;
                 seen = pair-seen t (record t { binary = with_pair t.binary l.first m }) l.first m (learned d) first-listed second-listed apart (two f) refl refl;
               }))
-          go (n ∷ ns) f K r (b, (q, k, h)) =
-              let j = learned_at q d in
-              let k' : K.clauses ≡ t.clauses ++ j ∷ [] = k.0 ∙ ap (λ o. t.clauses ++ learned_at q (l.first ∷ m ∷ o) ∷ []) (sym f) in
+          go (n ∷ ns) f K r (b, (q, header, redundant, k, h)) =
+              let j = learned_at q header d in
+              let k' : K.clauses ≡ t.clauses ++ j ∷ [] = k.0 ∙ ap (λ o. t.clauses ++ learned_at q header (l.first ∷ m ∷ o) ∷ []) (sym f) in
               let long : record K { clauses = K.clauses } ≡ record K { clauses = t.clauses ++ j ∷ [] } = ap (λ ks. record K { clauses = ks }) k' in
               let is : K ≡ record { clauses = t.clauses ++ j ∷ []; binary = t.binary } = long ∙ ap (λ B. record { clauses = t.clauses ++ j ∷ []; binary = B }) b in
               subst (λ X. Joins t X d l.first r) (sym is)
@@ -347,7 +345,8 @@ module _ (s t : View) (i : Conflict) (level : ℕ) (c : Clause) (w : WellFormed 
                 implies = (place-last t.clauses j, (m ∷ ms, kept-last t j k.1 wt, λ x i'. other-false s t i level c w v l deep ct x (subst (λ o. x ∈ o) (sym e) i')));
                 clause = refl;
                 same = long-same t (record t { clauses = t.clauses ++ j ∷ [] }) j refl refl;
-                seen = long-seen t (record t { clauses = t.clauses ++ j ∷ [] }) j refl refl;
+                seen = subst (λ (x : KeptClause). (i : KeptClause) → i ∈ ((search_of t).kept ++ x ∷ []) → i.learned ≡ false → StandsIn (search_of (record t { clauses = t.clauses ++ j ∷ [] })).kept i)
+                    (ap (λ (u : Bool). record { clause = d; learned = not u }) redundant) (long-seen t (record t { clauses = t.clauses ++ j ∷ [] }) j refl refl);
               }))
 
       pub kept-result : (K : Keeping) (r : Reason) → IsKeptAsReason (keeping_of t) K d r → Result s (enqueued (keeping t K) l.first r)
@@ -385,9 +384,9 @@ module _ (s t : View) (i : Conflict) (level : ℕ) (c : Clause) (w : WellFormed 
               subst (λ X. IsPropagated V (enqueued (keeping t X) l.first r)) (sym g)
               (subst (λ X. IsPropagated X (enqueued (record t { binary = with_pair t.binary l.first m }) l.first r)) (sym same)
               (propagated-learned-pair t l.first m first-listed second-listed apart W r wt (pt W p) first-late (second-late m second)))
-          go (n ∷ ns) f K r (b, (q, k, h)) y =
-              let j = learned_at q d in
-              let k' : K.clauses ≡ t.clauses ++ j ∷ [] = k.0 ∙ ap (λ o. t.clauses ++ learned_at q (l.first ∷ m ∷ o) ∷ []) (sym f) in
+          go (n ∷ ns) f K r (b, (q, header, redundant, k, h)) y =
+              let j = learned_at q header d in
+              let k' : K.clauses ≡ t.clauses ++ j ∷ [] = k.0 ∙ ap (λ o. t.clauses ++ learned_at q header (l.first ∷ m ∷ o) ∷ []) (sym f) in
               let long : record K { clauses = K.clauses } ≡ record K { clauses = t.clauses ++ j ∷ [] } = ap (λ ks. record K { clauses = ks }) k' in
               let is : K ≡ record { clauses = t.clauses ++ j ∷ []; binary = t.binary } = long ∙ ap (λ B. record { clauses = t.clauses ++ j ∷ []; binary = B }) b in
               subst (λ X. IsPropagated V (enqueued (keeping t X) l.first r)) (sym is)

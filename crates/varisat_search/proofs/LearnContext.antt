@@ -1,8 +1,8 @@
 -- The contexts of `learn`.
 use Rattle.std.proofs.Common.{◌≡◌, ℕ, ◌*◌, ◌<◌, ◌≤◌, Bool, false, replicate, Some, List, [], ◌∷◌, ◌++◌, length, length-set, ◌⊎◌, inl, inr, ⊎_elim, refl, sym, ap, ◌∙◌, subst, arith}
 use Rattle.std.proofs.lemmas.Bool.{cases_lt}
-use Rattle.varisat_clause.specs.Stores.{IsSound}
-use Rattle.varisat_clause.proofs.StoreSound.{sound-is, is-sound}
+use Rattle.varisat_clause.specs.Databases.{Tracks}
+use Rattle.varisat_clause.proofs.StoreSound.{sound-is}
 use Rattle.varisat_theory.specs.Membership.{◌∈◌, ◌⊆◌}
 use Rattle.varisat_theory.specs.Literals.{Literal, Clause, variable_of, opposite}
 use Rattle.varisat_theory.proofs.Places.{place_in}
@@ -16,17 +16,31 @@ use Rattle.varisat_prop.proofs.TrailValues.{trail-true}
 use Rattle.varisat_prop.proofs.LongVisited.{listed}
 use Rattle.varisat_prop.specs.View.{View, kept, WellFormed, LevelsSettled}
 use Rattle.varisat_prop.specs.Watches.{Watches, IsPropagated}
-use Rattle.varisat_prop.specs.Changes.{enqueued, IsNamed}
+use Rattle.varisat_prop.specs.Changes.{enqueued, IsNamed, NamesPlace, IsConflicting}
 use Rattle.varisat_vsids.specs.Activities.{Activities}
 use Rattle.varisat_search.specs.declared.context.Context.{Context}
 use Rattle.varisat_search.specs.declared.state.SatState.{SatState}
 use Rattle.varisat_search.specs.declared.state.SatState.TheVariants as verdict
 use Rattle.varisat_search.specs.declared.state.SolverState.{SolverState}
 use Rattle.varisat_search.specs.Learned.{Analysis, IsLearned, IsAsserting, AreInvolved}
+use Rattle.varisat_search.specs.AssumptionParts.{with_levels_to, HasAssumptions}
 use Rattle.varisat_search.specs.Contexts.{view, IsReady}
+use Rattle.varisat_search.proofs.AssumptionLevels.{has-same-decisions}
+use Rattle.varisat_search.proofs.AssumptionContexts.{IsSameList, still-assumable, same-working, cut-assumed, cut-same-list}
+use Rattle.varisat_search.proofs.Backtrack.{cut-well}
 use Rattle.varisat_search.specs.Conflicts.{Keeping, IsKeptAsReason, IsWatchedAsReason}
 use Rattle.varisat_search.specs.Decisions.{HasActivities, AreDecidable, SameDecidable, MakesAvailable}
-use Rattle.varisat_search.specs.Bumps.{BumpsInvolved}
+use Rattle.varisat_clause.specs.Stores.{Store}
+use Rattle.varisat_clause.specs.Collected.{live_clauses}
+use Rattle.varisat_clause.specs.ClauseActivities.{ActivityScale}
+use Rattle.varisat_search.specs.Bumps.{BumpsInvolved, literals_among}
+use Rattle.varisat_search.specs.Assessments.{BumpsClauses, IsAssigned}
+use Rattle.varisat_search.specs.HeaderChanges.{SameButHeaders, ChangesHeaders}
+use Rattle.varisat_search.proofs.HeaderChanges.{header-seen}
+use Rattle.varisat_search.proofs.HeaderContexts.{store-view, headers-ready}
+use Rattle.varisat_search.proofs.LearnedHeaders.{learned-there}
+use Rattle.varisat_search.proofs.AssignedLevels.{involved-assigned}
+use Rattle.varisat_search.proofs.WellFormedViews.{named-place}
 use Rattle.varisat_search.specs.Steps.{IsCut, Saves, SavesSome, IsFree}
 use Rattle.varisat_theory.specs.Derivations.{Add}
 use Rattle.varisat_theory.specs.Outcomes.{Unknown, Unsat, Steps}
@@ -158,7 +172,7 @@ analyzed-bumped {A} {x0} {x} {x1} {i} {level} d k f a q e =
 
 -- analysis writes what it found alone
 pub analysis-ready : {A : Type 0} {x0 x : Context A} → x ≡ record x0 { analyze_conflict = x.analyze_conflict } → IsReady x0 → x.analyze_conflict.var_count ≡ x0.analyze_conflict.var_count → IsReady x
-analysis-ready k r n = subst IsReady (sym k) (record { well = r.well; settled = r.settled; propagated = r.propagated; analysis = n ∙ r.analysis; flags = r.flags; decidable = r.decidable })
+analysis-ready k r n = subst IsReady (sym k) (record { well = r.well; settled = r.settled; propagated = r.propagated; tracks = r.tracks; analysis = n ∙ r.analysis; flags = r.flags; decidable = r.decidable; assumed = r.assumed; assumable = r.assumable })
 
 pub involved-named : {A : Type 0} (x0 x : Context A) (i : Conflict) → x ≡ record x0 { analyze_conflict = x.analyze_conflict } → AreInvolved (view x0) i x.analyze_conflict.involved → (f : Conflict) → f ∈ x.analyze_conflict.involved → IsNamed (view x) f
 involved-named {A} x0 x i k a f h =
@@ -183,6 +197,131 @@ cut-activities {A} x1 x2 level same cut =
     (λ h. let e = ap (λ (y : Context A). y.vsids) (same h) in e ∙ ap (λ xs. record x1.vsids { available = xs }) (sym (ap (λ (a : Activities). a.available) e)))
     (cases_lt level (length x1.trail.decisions))
 
+-- What the bumps of clauses and the learned clause's header need of the context after analysis and bumps.
+module _ {A : Type 0} {x0 x1 : Context A} {i : Conflict} {level : ℕ} (d : Analyzed x0 x1 i level) where
+  pub analyzed-well : WellFormed (view x1)
+  analyzed-well = subst (λ (x : Context A). WellFormed (view x)) (sym d.analyzed) d.ready.well
+
+  pub analyzed-tracks : Tracks x1.clause_db x1.clause_alloc
+  analyzed-tracks = subst (λ (x : Context A). Tracks x.clause_db x.clause_alloc) (sym d.analyzed) d.ready.tracks
+
+  pub analyzed-clear : x1.tmp_flags.flags.items ≡ replicate (2 * length x1.assignment.current) false
+  analyzed-clear = d.flags ∙ d.ready.flags ∙ ap (λ (x : Context A). replicate (2 * length x.assignment.current) false) (sym d.analyzed)
+
+  -- the literals of the learned clause are assigned
+  pub learned-assigned : (l : Literal) → l ∈ x1.analyze_conflict.clause → IsAssigned (view x1) l
+  learned-assigned =
+      subst (λ (x : Context A). (l : Literal) → l ∈ x1.analyze_conflict.clause → IsAssigned (view x) l) (sym d.analyzed)
+      (λ l h. ⊎_elim
+      (λ o. inr ((d.learned.above o).false_now l h))
+      (λ z. absurd (subst (λ c. l ∈ c) (d.learned.at_zero (omega (arith, z))).0 h))
+      (cases_lt 0 (length (view x0).decisions)))
+
+  -- and those of the clauses that took part
+  module _ (f : IsConflicting (view x0) i) (a : AreInvolved (view x0) i x1.analyze_conflict.involved) where
+    pub analyzed-named : (g : Conflict) → g ∈ x1.analyze_conflict.involved → NamesPlace (live_clauses x1.clause_alloc) g
+    analyzed-named =
+        subst (λ (x : Context A). (g : Conflict) → g ∈ x1.analyze_conflict.involved → NamesPlace (live_clauses x.clause_alloc) g) (sym d.analyzed)
+        (λ g h. ⊎_elim
+        (λ o. named-place (view x0) g ((a.above o).named g h))
+        (λ z. absurd (subst (λ gs. g ∈ gs) (a.at_zero (omega (arith, z))) h))
+        (cases_lt 0 (length (view x0).decisions)))
+
+    pub analyzed-assigned : (l : Literal) → l ∈ literals_among (live_clauses x1.clause_alloc) x1.analyze_conflict.involved → IsAssigned (view x1) l
+    analyzed-assigned =
+        subst (λ (x : Context A). (l : Literal) → l ∈ literals_among (live_clauses x.clause_alloc) x1.analyze_conflict.involved → IsAssigned (view x) l) (sym d.analyzed)
+        (λ l h. involved-assigned (view x0) d.ready.well i x1.analyze_conflict.involved l f a h)
+
+-- the same with the clauses of the other context
+abbrev pub with_store : {A : Type 0} → Context A → Context A → Context A
+with_store x y = record x { clause_activity = y.clause_activity; clause_alloc = y.clause_alloc; clause_db = y.clause_db }
+
+-- Clauses were bumped, so that it is as if their headers had been other ones before.
+module _ {A : Type 0} {x0 x1 : Context A} {i : Conflict} {level : ℕ} (y : Context A) (d : Analyzed x0 x1 i level) (t : Tracks y.clause_db y.clause_alloc) (h : SameButHeaders (live_clauses x1.clause_alloc) (live_clauses y.clause_alloc)) where
+  changes : ChangesHeaders (view x0) (view (with_store x0 y))
+  changes = record {
+    clauses = subst (λ (s : Store). SameButHeaders (live_clauses s) (live_clauses y.clause_alloc)) (ap (λ (x : Context A). x.clause_alloc) d.analyzed) h;
+    rest = store-view x0 (with_store x0 y) d.ready.tracks.sound t.sound refl;
+  }
+
+  pub analyzed-noted : y ≡ record x1 { clause_activity = y.clause_activity; clause_alloc = y.clause_alloc; clause_db = y.clause_db; tmp_flags = y.tmp_flags } → y.tmp_flags.flags.items ≡ x1.tmp_flags.flags.items → Analyzed (with_store x0 y) y i level
+  analyzed-noted k f =
+      let analysis : (x : Context A) → Analysis = λ x. x.analyze_conflict in
+      let activities : (x : Context A) → Activities = λ x. x.vsids in
+      record {
+        ready = headers-ready x0 (with_store x0 y) d.ready changes t refl refl refl refl refl;
+        unknown = d.unknown;
+        analyzed =
+            k
+            ∙ ap (λ (x : Context A). record x { clause_activity = y.clause_activity; clause_alloc = y.clause_alloc; clause_db = y.clause_db; tmp_flags = y.tmp_flags }) d.analyzed
+            ∙ ap (λ (a : Analysis). record (with_store x0 y) { analyze_conflict = a; tmp_flags = y.tmp_flags; vsids = x1.vsids }) (sym (ap analysis k))
+            ∙ ap (λ (v : Activities). record (with_store x0 y) { analyze_conflict = y.analyze_conflict; tmp_flags = y.tmp_flags; vsids = v }) (sym (ap activities k));
+        flags = f ∙ d.flags;
+        available = ap (λ (x : Context A). x.vsids.available) k ∙ d.available;
+        decay = ap (λ (x : Context A). x.vsids.decay) k ∙ d.decay;
+        entries =
+            let count = ap (λ (x : Context A). length x.assignment.current) k in
+            record {
+              activity = ap (λ (x : Context A). length x.vsids.activity) k ∙ d.entries.activity ∙ sym count;
+              available = ap (λ (x : Context A). length x.vsids.available) k ∙ d.entries.available ∙ sym count;
+            };
+        room = ap (λ (x : Context A). x.analyze_conflict.var_count) k ∙ d.room;
+        learned = subst (λ (a : Analysis). IsLearned (view (with_store x0 y)) i a.clause level) (sym (ap analysis k)) (learned-there (view x0) (view (with_store x0 y)) i x1.analyze_conflict.clause level d.ready.well changes d.learned);
+      }
+
+  -- a step from there is one from before
+  pub noted-further : (z : Context A) → IsStepFurther (with_store x0 y) z → IsStepFurther x0 z
+  noted-further z p = record {
+    ready = p.ready;
+    steps =
+        let (lines, q) = p.steps in
+        (lines, subst (λ u. Steps u (search_of (view z)) (outcome_of (view z) z.assumptions.failed_core z.solver_state.sat_state) lines) (header-seen (view x0) (view (with_store x0 y)) d.ready.well changes) q);
+    known = p.known;
+    assumptions = p.assumptions;
+    rises = p.rises;
+    decidable = p.decidable;
+    decay = p.decay;
+    count = p.count;
+    units = p.units;
+    state = p.state;
+  }
+
+  pub noted-saves : (old new : List Bool) → SavesSome (view (with_store x0 y)) old new → SavesSome (view x0) old new
+  noted-saves old new (inl e) = inl e
+  noted-saves old new (inr (n, h, v)) = inr (n, h, record { count = v.count; left = v.left; stays = v.stays })
+
+  -- the clauses that were bumped are those that took part
+  pub noted-bumps : (names : List Conflict) (b : ActivityScale) → names ≡ x1.analyze_conflict.involved → b ≡ y.clause_activity → (0 < length x1.trail.decisions → BumpsClauses x1.impl_graph.nodes.items x1.analyze_conflict.involved x1.clause_alloc y.clause_alloc x1.clause_activity y.clause_activity) → 0 < length x0.trail.decisions → BumpsClauses x0.impl_graph.nodes.items names x0.clause_alloc y.clause_alloc x0.clause_activity b
+  noted-bumps names b e g q o =
+      subst (λ (fs : List Conflict). BumpsClauses x0.impl_graph.nodes.items fs x0.clause_alloc y.clause_alloc x0.clause_activity b) (sym e)
+      (subst (λ (a : ActivityScale). BumpsClauses x0.impl_graph.nodes.items x1.analyze_conflict.involved x0.clause_alloc y.clause_alloc x0.clause_activity a) (sym g)
+      (subst (λ (x : Context A). 0 < length x.trail.decisions → BumpsClauses x.impl_graph.nodes.items x1.analyze_conflict.involved x.clause_alloc y.clause_alloc x.clause_activity y.clause_activity) d.analyzed q o))
+
+-- flags were used and cleared
+pub analyzed-flags : {A : Type 0} {x0 x1 y : Context A} {i : Conflict} {level : ℕ} → Analyzed x0 x1 i level → y ≡ record x1 { tmp_flags = y.tmp_flags } → y.tmp_flags.flags.items ≡ x1.tmp_flags.flags.items → Analyzed x0 y i level
+analyzed-flags {A} {x0} {x1} {y} {i} {level} d k f =
+    let analysis : (x : Context A) → Analysis = λ x. x.analyze_conflict in
+    let activities : (x : Context A) → Activities = λ x. x.vsids in
+    let count = ap (λ (x : Context A). length x.assignment.current) k in
+    record {
+      ready = d.ready;
+      unknown = d.unknown;
+      analyzed =
+          k
+          ∙ ap (λ (x : Context A). record x { tmp_flags = y.tmp_flags }) d.analyzed
+          ∙ ap (λ (a : Analysis). record x0 { analyze_conflict = a; tmp_flags = y.tmp_flags; vsids = x1.vsids }) (sym (ap analysis k))
+          ∙ ap (λ (v : Activities). record x0 { analyze_conflict = y.analyze_conflict; tmp_flags = y.tmp_flags; vsids = v }) (sym (ap activities k));
+      flags = f ∙ d.flags;
+      available = ap (λ (x : Context A). x.vsids.available) k ∙ d.available;
+      decay = ap (λ (x : Context A). x.vsids.decay) k ∙ d.decay;
+      entries = record {
+        activity = ap (λ (x : Context A). length x.vsids.activity) k ∙ d.entries.activity ∙ sym count;
+        available = ap (λ (x : Context A). length x.vsids.available) k ∙ d.entries.available ∙ sym count;
+      };
+      room = ap (λ (x : Context A). x.analyze_conflict.var_count) k ∙ d.room;
+      learned = subst (λ (a : Analysis). IsLearned (view x0) i a.clause level) (sym (ap analysis k)) d.learned;
+    }
+
 -- The contexts of learning from a conflict: before, after analysis and bumps, and after backtracking to the level.
 pub record Backtracked {A : Type 0} (x0 x1 x2 : Context A) (i : Conflict) (level : ℕ) : Type 0 where
   pub begun : Analyzed x0 x1 i level
@@ -193,7 +332,8 @@ pub record Backtracked {A : Type 0} (x0 x1 x2 : Context A) (i : Conflict) (level
   pub decidable : SameDecidable (view x1) x1.vsids (view x2) x2.vsids
   pub decay : x2.vsids.decay ≡ x1.vsids.decay
   pub units : x2.trail.units_removed ≡ x1.trail.units_removed
-  pub back : x2 ≡ record x1 { assignment = x2.assignment; trail = x2.trail; vsids = x2.vsids }
+  pub levels : level < length x1.trail.decisions → x2.assumptions ≡ with_levels_to level x1.assumptions
+  pub back : x2 ≡ record x1 { assignment = x2.assignment; assumptions = x2.assumptions; trail = x2.trail; vsids = x2.vsids }
 
 module _ {A : Type 0} {x0 x1 x2 : Context A} {i : Conflict} {level : ℕ} (d : Backtracked x0 x1 x2 i level) where
   same-view : view x1 ≡ view x0
@@ -216,12 +356,9 @@ module _ {A : Type 0} {x0 x1 x2 : Context A} {i : Conflict} {level : ℕ} (d : B
   kept-before : kept (view x2) ≡ kept (view x0)
   kept-before = ap (λ (x : Context A). kept (view x)) d.back ∙ ap (λ (x : Context A). kept (view x)) d.begun.analyzed
 
-  same-sound : (view x2).sound ≡ (view x0).sound
-  same-sound = ap (λ (x : Context A). (view x).sound) d.back ∙ ap (λ (x : Context A). (view x).sound) d.begun.analyzed
-
-  -- the store stays sound
-  pub learned-sound : IsSound x2.clause_alloc
-  learned-sound = is-sound x2.clause_alloc (same-sound ∙ d.begun.ready.well.sound)
+  -- the database still fits the store
+  pub learned-tracks : Tracks x2.clause_db x2.clause_alloc
+  learned-tracks = subst (λ (x : Context A). Tracks x.clause_db x.clause_alloc) (sym d.back) (subst (λ (x : Context A). Tracks x.clause_db x.clause_alloc) (sym d.begun.analyzed) d.begun.ready.tracks)
 
   watches-are : x2.watchlists ≡ x0.watchlists
   watches-are = ap (λ (x : Context A). x.watchlists) d.back ∙ ap (λ (x : Context A). x.watchlists) d.begun.analyzed
@@ -247,6 +384,26 @@ module _ {A : Type 0} {x0 x1 x2 : Context A} {i : Conflict} {level : ℕ} (d : B
   -- the same variables are decidable once the levels are undone
   still-decidable : SameDecidable (view x0) x0.vsids (view x2) x2.vsids
   still-decidable = same-trans (view x0) x0.vsids (view x1) x1.vsids (view x2) x2.vsids (same-read (view x0) x0.vsids (view x1) x1.vsids (ap (λ (x : View). x.values) same-view) d.begun.available) d.decidable
+
+  -- of the assumptions as many have a level as there are levels left
+  assumed-first : HasAssumptions (view x1) x1.assumptions
+  assumed-first = subst (λ (x : Context A). HasAssumptions (view x) x.assumptions) (sym d.begun.analyzed) d.begun.ready.assumed
+
+  first-well : WellFormed (view x1)
+  first-well = subst WellFormed (sym same-view) d.begun.ready.well
+
+  cut-assumptions : HasAssumptions (view x2) x2.assumptions
+  cut-assumptions = cut-assumed level x1 x2 d.same d.levels first-well d.cut assumed-first
+
+  cut-list : IsSameList x0.assumptions x2.assumptions
+  cut-list = subst (λ x. IsSameList x x2.assumptions) (ap (λ (x : Context A). x.assumptions) d.begun.analyzed) (cut-same-list level x1 x2 d.same d.levels)
+
+  backtracked-well : WellFormed (view x2)
+  backtracked-well =
+      ⊎_elim
+      (λ h. cut-well (view x1) (view x2) level first-well h (d.cut h))
+      (λ h. subst (λ (x : Context A). WellFormed (view x)) (sym (d.same h)) first-well)
+      (cases_lt level (length x1.trail.decisions))
 
   -- each of its literals has a watch list, and a list of what it implies
   literal-listed : (l : Literal) (others : Clause) → x2.analyze_conflict.clause ≡ l ∷ others → (m : Literal) → m ∈ x2.analyze_conflict.clause → opposite m < 2 * length (view x0).values
@@ -276,8 +433,8 @@ module _ {A : Type 0} {x0 x1 x2 : Context A} {i : Conflict} {level : ℕ} (d : B
 pub record Learning {A : Type 0} (x0 x1 x2 x3 : Context A) (i : Conflict) (level : ℕ) (l : Literal) (others : Clause) (r : Reason) : Type 0 where
   pub before : Backtracked x0 x1 x2 i level
   pub split : x2.analyze_conflict.clause ≡ l ∷ others
-  pub sound : IsSound x3.clause_alloc
-  pub stored : x3 ≡ record x2 { binary_clauses = x3.binary_clauses; clause_alloc = x3.clause_alloc; watchlists = x3.watchlists }
+  pub tracks : Tracks x3.clause_db x3.clause_alloc
+  pub stored : x3 ≡ record x2 { binary_clauses = x3.binary_clauses; clause_alloc = x3.clause_alloc; clause_db = x3.clause_db; watchlists = x3.watchlists }
   pub kept : IsKeptAsReason (keeping_of (view x2)) (keeping_of (view x3)) x2.analyze_conflict.clause r
   pub watched : IsWatchedAsReason x2.watchlists x3.watchlists x2.analyze_conflict.clause r
 
@@ -291,7 +448,7 @@ module _ {A : Type 0} {x0 x1 x2 x3 : Context A} {i : Conflict} {level : ℕ} {l 
   stored-view : view x3 ≡ keeping (view x2) (keeping_of (view x3))
   stored-view =
       ap (λ (x : Context A). view x) d.stored
-      ∙ ap (λ (y : Bool). record (view x3) { sound = y; values = (view x2).values; trail = (view x2).trail; queue_head = (view x2).queue_head; decisions = (view x2).decisions; nodes = (view x2).nodes }) (sound-is x3.clause_alloc d.sound ∙ sym (sound-is x2.clause_alloc (learned-sound b)))
+      ∙ ap (λ (y : Bool). record (view x3) { sound = y; values = (view x2).values; trail = (view x2).trail; queue_head = (view x2).queue_head; decisions = (view x2).decisions; nodes = (view x2).nodes }) (sound-is x3.clause_alloc d.tracks.sound ∙ sym (sound-is x2.clause_alloc (learned-tracks b).sound))
 
   kept-is : IsKeptAsReason (keeping_of (view x2)) (keeping_of (view x3)) (l ∷ others) r
   kept-is = subst (λ c. IsKeptAsReason (keeping_of (view x2)) (keeping_of (view x3)) c r) d.split d.kept
@@ -324,9 +481,12 @@ module _ {A : Type 0} {x0 x1 x2 x3 : Context A} {i : Conflict} {level : ℕ} {l 
     pub learning-activities : (a : Activities) → x2.vsids ≡ record a { available = x2.vsids.available } → z.vsids ≡ record a { available = z.vsids.available }
     learning-activities a f = subst (λ (y : Activities). y ≡ record a { available = y.available }) (sym vsids-is) f
 
+    last-count : length (view z).values ≡ length (view x2).values
+    last-count = ap (λ (x : View). length x.values) last-view ∙ length-set (view x2).values (variable_of l) (Some (polarity_of l))
+
     last-entries : HasActivities (view z) z.vsids
     last-entries =
-        let n = ap (λ (x : View). length x.values) last-view ∙ length-set (view x2).values (variable_of l) (Some (polarity_of l)) in
+        let n = last-count in
         record { activity = ap (λ (a : Activities). length a.activity) vsids-is ∙ b.entries.activity ∙ sym n; available = ap (λ (a : Activities). length a.available) vsids-is ∙ b.entries.available ∙ sym n }
 
     last-same : SameDecidable (view x0) x0.vsids (view z) z.vsids
@@ -357,18 +517,24 @@ module _ {A : Type 0} {x0 x1 x2 x3 : Context A} {i : Conflict} {level : ℕ} {l 
         let flags : (x : Context A) → List Bool = λ x. x.tmp_flags.flags.items in
         let state : (x : Context A) → SolverState = λ x. x.solver_state in
         let same : z.solver_state ≡ x0.solver_state = ap state made ∙ ap state d.stored ∙ state-is b in
+        let list : z.assumptions ≡ x2.assumptions = ap (λ (x : Context A). x.assumptions) made ∙ ap (λ (x : Context A). x.assumptions) d.stored in
+        let same-list : IsSameList x0.assumptions z.assumptions = subst (IsSameList x0.assumptions) (sym list) (cut-list b) in
         let still : z.solver_state.sat_state ≡ verdict.Unknown = ap (λ (y : SolverState). y.sat_state) same ∙ b.begun.unknown in
         record {
           ready = record {
             well = q.well;
             settled = q.settled;
             propagated = subst (λ W. IsPropagated W (view z)) (sym (ap (λ (x : Context A). x.watchlists) made)) watched;
+            tracks = subst (λ (x : Context A). Tracks x.clause_db x.clause_alloc) (sym made) d.tracks;
             analysis = ap room made ∙ ap room d.stored ∙ room-is b ∙ sym q.count;
             flags = ap flags made ∙ ap flags d.stored ∙ flags-are b ∙ ap (λ n. replicate (2 * n) false) (sym q.count);
             decidable = can-decide (view x0) x0.vsids (view z) z.vsids last-entries last-same last-decidable;
+            assumed = subst (HasAssumptions (view z)) (sym list) (has-same-decisions (view x2) (view z) x2.assumptions (l ∷ []) (backtracked-well b) (ap (λ (x : View). x.trail) last-view) (ap (λ (x : View). x.decisions) last-view) (let n = last-count in omega (arith, n)) (cut-assumptions b));
+            assumable = still-assumable (view x0) x0.vsids (view z) z.vsids x0.assumptions.working z.assumptions.working last-same (same-working x0.assumptions z.assumptions same-list) b.begun.ready.assumable;
           };
-          steps = (Add (l ∷ others) ∷ [], subst (λ v. Steps (search_of (view x0)) (search_of (view z)) (outcome_of (view z) v) (Add (l ∷ others) ∷ [])) (sym still) lines);
-          no_assumptions = λ f. unknown-is still f;
+          steps = (Add (l ∷ others) ∷ [], subst (λ v. Steps (search_of (view x0)) (search_of (view z)) (outcome_of (view z) z.assumptions.failed_core v) (Add (l ∷ others) ∷ [])) (sym still) lines);
+          known = inl still;
+          assumptions = same-list;
           rises = λ f. q.rises;
           decidable = last-same;
           decay = ap (λ (a : Activities). a.decay) vsids-is ∙ b.decay ∙ b.begun.decay;
@@ -376,9 +542,6 @@ module _ {A : Type 0} {x0 x1 x2 x3 : Context A} {i : Conflict} {level : ℕ} {l 
           units = u ∙ ap (λ (x : Context A). x.trail.units_removed) d.stored ∙ units-are b;
           state = same ∙ ap (λ v. record x0.solver_state { sat_state = v }) (sym (ap (λ (y : SolverState). y.sat_state) same));
         }
-      where
-        unknown-is : {v : SatState} → v ≡ verdict.Unknown → v ≡ verdict.UnsatUnderAssumptions → ⊥
-        unknown-is e f = let g = sym e ∙ f in absurd cc
 
 empty-split : {X : Type 0} (c : Clause) (l : Literal) (o : Clause) → c ≡ [] → c ≡ l ∷ o → X
 empty-split c l o e f = absurd cc
@@ -415,12 +578,16 @@ module _ {A : Type 0} {x0 x1 x2 : Context A} {i : Conflict} {level : ℕ} (d : B
           well = subst WellFormed (sym refuted-same) ready.well;
           settled = subst LevelsSettled (sym refuted-same) ready.settled;
           propagated = subst (λ W. IsPropagated W (view x2)) (sym (watches-are d)) (subst (IsPropagated x0.watchlists) (sym refuted-same) ready.propagated);
+          tracks = learned-tracks d;
           analysis = room-is d ∙ sym count;
           flags = flags-are d ∙ ap (λ n. replicate (2 * n) false) (sym count);
           decidable = can-decide (view x0) x0.vsids (view x2) x2.vsids d.entries (still-decidable d) (λ c h. ready.decidable.decidable c (subst (λ (x : View). c ∈ kept x) refuted-same h));
+          assumed = cut-assumptions d;
+          assumable = still-assumable (view x0) x0.vsids (view x2) x2.vsids x0.assumptions.working x2.assumptions.working (still-decidable d) (same-working x0.assumptions x2.assumptions (cut-list d)) ready.assumable;
         };
         steps = ([], refuted-steps (view x2));
-        no_assumptions = λ f. absurd cc;
+        known = inr refl;
+        assumptions = cut-list d;
         rises = λ f. absurd cc;
         decidable = still-decidable d;
         decay = d.decay ∙ d.begun.decay;

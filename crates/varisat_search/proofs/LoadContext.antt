@@ -1,27 +1,38 @@
 -- The contexts of `load_clause`.
-use Rattle.std.proofs.Common.{◌≡◌, ◌≢◌, ◌*◌, ◌<◌, false, replicate, List, [], length, ⊎_elim, refl, sym, ap, ◌∙◌, subst, arith}
+use Rattle.std.proofs.Common.{◌≡◌, ◌≢◌, ◌*◌, ◌<◌, false, replicate, List, [], ◌∷◌, length, ◌⊎◌, inl, inr, ⊎_elim, refl, sym, ap, ◌∙◌, subst, arith}
 use Rattle.varisat_theory.specs.Membership.{◌∈◌, SameSet, IsDistinct}
 use Rattle.varisat_theory.specs.Literals.{Literal, Clause, variable_of}
-use Rattle.varisat_theory.specs.Derivations.{Line}
 use Rattle.varisat_theory.specs.Searches.{IsTautology}
 use Rattle.varisat_theory.specs.Outcomes.{Proves, Loads}
+use Rattle.varisat_clause.specs.Databases.{Tracks}
 use Rattle.varisat_prop.specs.Looks.{IsInRange}
-use Rattle.varisat_prop.specs.View.{kept, IsTrueIn}
+use Rattle.varisat_prop.specs.View.{View, kept, IsTrueIn}
 use Rattle.varisat_prop.specs.Watches.{IsPropagated}
 use Rattle.varisat_prop.proofs.LongVisited.{listed}
 use Rattle.varisat_vsids.specs.Activities.{Activities}
 use Rattle.varisat_search.specs.declared.context.Context.{Context}
+use Rattle.varisat_search.specs.declared.state.SatState.{SatState}
 use Rattle.varisat_search.specs.declared.state.SatState.TheVariants as verdict
 use Rattle.varisat_search.specs.declared.state.SolverState.{SolverState}
 use Rattle.varisat_search.specs.Contexts.{view, KeepsSchedule, IsReady}
 use Rattle.varisat_search.specs.Decisions.{HasActivities, AreDecidable, CanDecide, SameDecidable}
-use Rattle.varisat_search.specs.Loading.{IsAdded}
-use Rattle.varisat_search.specs.Seen.{search_of, outcome_of}
+use Rattle.varisat_search.specs.Loading.{loaded_outcome, IsAdded}
+use Rattle.varisat_search.specs.Seen.{search_of}
 use Rattle.varisat_search.specs.Steps.{IsCut, SavesAll, reopened_state}
+use Rattle.varisat_search.specs.AssumptionParts.{AssumptionParts, HasAssumptions}
+use Rattle.varisat_search.proofs.AssumptionLevels.{has-undecided}
+use Rattle.varisat_search.proofs.AssumptionContexts.{IsSameList, still-assumable, same-working, none-reached}
 use Rattle.varisat_search.proofs.DecidableVariables.{can-decide, same-trans}
 use Rattle.varisat_search.proofs.LoadDecisions.{added-same, added-kept}
 use Rattle.varisat_search.proofs.LoadView.{Restarted, restarted, restarted-kept, restarted-propagated, MayBeAdded, added-well, undecided-settled}
 use Rattle.varisat_search.proofs.LoadLines.{restart-moves, opened, lines-tautology, lines-satisfied, lines-added}
+
+-- the verdict stays, or is Unsat
+added-verdict : (s t : View) (c : Clause) (before after : SatState) → IsAdded s t c before after → (after ≡ before) ⊎ (after ≡ verdict.Unsat)
+added-verdict s t [] before after (e, f) = inr f
+added-verdict s t (l ∷ []) before after a = ⊎_elim (λ (h, e, f). inr f) (λ (h, e, f). inl f) a
+added-verdict s t (l ∷ m ∷ []) before after (e, f) = inl f
+added-verdict s t (l ∷ m ∷ n ∷ c) before after (p, k, e, f) = inl f
 
 -- The contexts of loading a clause: before, and once all decisions are undone and the clause's literals copied, each once.
 pub record Loading {A : Type 0} (x0 x1 : Context A) (c lits : Clause) : Type 0 where
@@ -39,14 +50,19 @@ pub record Loading {A : Type 0} (x0 x1 : Context A) (c lits : Clause) : Type 0 w
   pub analysis : x1.analyze_conflict.var_count ≡ x0.analyze_conflict.var_count
   pub flags : x1.tmp_flags.flags.items ≡ x0.tmp_flags.flags.items
   pub watches : x1.watchlists ≡ x0.watchlists
+  pub tracks : Tracks x1.clause_db x1.clause_alloc
   pub schedule : KeepsSchedule x0 x1
+  pub same_list : IsSameList x0.assumptions x1.assumptions
+  pub assumed : HasAssumptions (view x1) x1.assumptions
   pub distinct : IsDistinct lits
   pub literals : SameSet lits c
 
 -- What loading gives where the verdict was not Unsat.
 pub record Loaded {A : Type 0} (x0 z : Context A) (c : Clause) : Type 0 where
   pub ready : IsReady z
-  pub lines : x0.solver_state.sat_state ≢ verdict.Unsat → x0.solver_state.sat_state ≢ verdict.UnsatUnderAssumptions → (lines : List Line) × Loads (search_of (view x0)) (search_of (view z)) c (outcome_of (view z) z.solver_state.sat_state) lines
+  pub lines : x0.solver_state.sat_state ≢ verdict.Unsat → Loads (search_of (view x0)) (search_of (view z)) c (loaded_outcome z.solver_state.sat_state) []
+  pub kept_verdict : (z.solver_state.sat_state ≡ reopened_state x0.solver_state.sat_state) ⊎ (z.solver_state.sat_state ≡ verdict.Unsat)
+  pub assumptions : z.assumptions ≡ record x0.assumptions { levels = 0 }
   pub last : SavesAll (view x0) x0.assignment.last z.assignment.last
   pub state : z.solver_state ≡ record x0.solver_state { sat_state = z.solver_state.sat_state; formula_is_empty = false }
   pub count : length z.assignment.current ≡ length x0.assignment.current
@@ -86,7 +102,7 @@ module _ {A : Type 0} {x0 x1 : Context A} {c lits : Clause} (d : Loading x0 x1 c
   literals-decidable l h = (d.stay_decidable (variable_of l)).0 (d.decidable l (d.literals.0 l h))
 
   -- the clause is not kept, since it has a literal and its opposite or is true
-  settled : (x0.solver_state.sat_state ≢ verdict.Unsat → x0.solver_state.sat_state ≢ verdict.UnsatUnderAssumptions → Loads (search_of (view x0)) (search_of (view x1)) c (outcome_of (view x1) x1.solver_state.sat_state) []) → Loaded x0 x1 c
+  settled : (x0.solver_state.sat_state ≢ verdict.Unsat → Loads (search_of (view x0)) (search_of (view x1)) c (loaded_outcome x1.solver_state.sat_state) []) → Loaded x0 x1 c
   settled p =
       let r = loading-restarted in
       record {
@@ -94,11 +110,16 @@ module _ {A : Type 0} {x0 x1 : Context A} {c lits : Clause} (d : Loading x0 x1 c
           well = r.well;
           settled = undecided-settled (view x1) r.undecided;
           propagated = loading-propagated;
+          tracks = d.tracks;
           analysis = d.analysis ∙ d.ready.analysis ∙ sym r.count;
           flags = d.flags ∙ d.ready.flags ∙ ap (λ n. replicate (2 * n) false) (sym r.count);
           decidable = can-decide (view x0) x0.vsids (view x1) x1.vsids d.entries d.stay_decidable still-decidable;
+          assumed = d.assumed;
+          assumable = still-assumable (view x0) x0.vsids (view x1) x1.vsids x0.assumptions.working x1.assumptions.working d.stay_decidable (same-working x0.assumptions x1.assumptions d.same_list) d.ready.assumable;
         };
-        lines = λ n m. ([], p n m);
+        lines = p;
+        kept_verdict = inl verdict-is;
+        assumptions = none-reached (view x1) x0.assumptions x1.assumptions d.same_list r.undecided d.assumed;
         last = d.last;
         state = d.state ∙ ap (λ v. record x0.solver_state { sat_state = v; formula_is_empty = false }) (sym verdict-is);
         count = r.count;
@@ -110,10 +131,10 @@ module _ {A : Type 0} {x0 x1 : Context A} {c lits : Clause} (d : Loading x0 x1 c
       }
 
   pub loaded-tautology : IsTautology lits → Loaded x0 x1 c
-  loaded-tautology t = settled (λ n m. lines-tautology (view x0) (view x1) c lits d.ready.well loading-restarted moves d.distinct d.literals x1.solver_state.sat_state (verdict-is ∙ opened x0.solver_state.sat_state n m) t)
+  loaded-tautology t = settled (λ n. lines-tautology (view x0) (view x1) c lits d.ready.well loading-restarted moves d.distinct d.literals x1.solver_state.sat_state (ap loaded_outcome verdict-is ∙ opened x0.solver_state.sat_state n) t)
 
   pub loaded-satisfied : (l : Literal) → l ∈ lits → IsTrueIn (view x1) l → Loaded x0 x1 c
-  loaded-satisfied l i t = settled (λ n m. lines-satisfied (view x0) (view x1) c lits d.ready.well loading-restarted moves d.distinct d.literals x1.solver_state.sat_state (verdict-is ∙ opened x0.solver_state.sat_state n m) l i t)
+  loaded-satisfied l i t = settled (λ n. lines-satisfied (view x0) (view x1) c lits d.ready.well loading-restarted moves d.distinct d.literals x1.solver_state.sat_state (ap loaded_outcome verdict-is ∙ opened x0.solver_state.sat_state n) l i t)
 
   added-stay : (z : Context A) → z.vsids ≡ x1.vsids → IsAdded (view x1) (view z) lits x1.solver_state.sat_state z.solver_state.sat_state → SameDecidable (view x0) x0.vsids (view z) z.vsids
   added-stay z e a =
@@ -128,11 +149,13 @@ module _ {A : Type 0} {x0 x1 : Context A} {c lits : Clause} (d : Loading x0 x1 c
       (λ c h. ⊎_elim (still-decidable c) (λ f l i. d.decidable l (d.literals.0 l (f l i))) (added-kept (view x1) (view z) lits x1.solver_state.sat_state z.solver_state.sat_state loading-restarted.well d.distinct may.paired a c h))
 
   -- the clause was added
-  pub loaded-added : (z : Context A) → z ≡ record x1 { assignment = z.assignment; binary_clauses = z.binary_clauses; clause_alloc = z.clause_alloc; impl_graph = z.impl_graph; solver_state = z.solver_state; trail = z.trail; watchlists = z.watchlists } → IsPropagated z.watchlists (view z) → z.solver_state ≡ record x1.solver_state { sat_state = z.solver_state.sat_state } → z.trail.units_removed ≡ x1.trail.units_removed → z.assignment.last ≡ x1.assignment.last → IsAdded (view x1) (view z) lits x1.solver_state.sat_state z.solver_state.sat_state → Loaded x0 z c
-  loaded-added z k p s u l a =
+  pub loaded-added : (z : Context A) → z ≡ record x1 { assignment = z.assignment; binary_clauses = z.binary_clauses; clause_alloc = z.clause_alloc; clause_db = z.clause_db; impl_graph = z.impl_graph; solver_state = z.solver_state; trail = z.trail; watchlists = z.watchlists } → IsPropagated z.watchlists (view z) → Tracks z.clause_db z.clause_alloc → z.solver_state ≡ record x1.solver_state { sat_state = z.solver_state.sat_state } → z.trail.units_removed ≡ x1.trail.units_removed → z.assignment.last ≡ x1.assignment.last → IsAdded (view x1) (view z) lits x1.solver_state.sat_state z.solver_state.sat_state → Loaded x0 z c
+  loaded-added z k p t s u l a =
       let r = loading-restarted in
       let may = loading-may in
       let vsids : z.vsids ≡ x1.vsids = ap (λ (x : Context A). x.vsids) k in
+      let list : z.assumptions ≡ x1.assumptions = ap (λ (x : Context A). x.assumptions) k in
+      let none = none-reached (view x1) x0.assumptions x1.assumptions d.same_list r.undecided d.assumed in
       let b : IsAdded (view x1) (view z) lits (reopened_state x0.solver_state.sat_state) z.solver_state.sat_state = subst (λ b. IsAdded (view x1) (view z) lits b z.solver_state.sat_state) verdict-is a in
       let q = added-well (view x0) (view x1) lits r may (view z) lits (reopened_state x0.solver_state.sat_state) z.solver_state.sat_state refl b in
       record {
@@ -140,11 +163,16 @@ module _ {A : Type 0} {x0 x1 : Context A} {c lits : Clause} (d : Loading x0 x1 c
           well = q.0;
           settled = undecided-settled (view z) q.1;
           propagated = p;
+          tracks = t;
           analysis = ap (λ (x : Context A). x.analyze_conflict.var_count) k ∙ d.analysis ∙ d.ready.analysis ∙ sym q.2;
           flags = ap (λ (x : Context A). x.tmp_flags.flags.items) k ∙ d.flags ∙ d.ready.flags ∙ ap (λ n. replicate (2 * n) false) (sym q.2);
           decidable = added-decidable may z vsids a (q.2 ∙ sym r.count);
+          assumed = subst (HasAssumptions (view z)) (sym (list ∙ none)) (has-undecided (view z) (record x0.assumptions { levels = 0 }) q.1 refl (λ l h. let i = d.ready.assumed.in_range l h in let n = q.2 in omega (arith, i, n)));
+          assumable = still-assumable (view x0) x0.vsids (view z) z.vsids x0.assumptions.working z.assumptions.working (added-stay z vsids a) (λ l h. subst (λ (x : AssumptionParts). l ∈ x.working) (list ∙ none) h) d.ready.assumable;
         };
-        lines = λ n m. ([], lines-added (view x0) (view x1) c lits d.ready.well r moves d.distinct d.literals may (view z) lits (reopened_state x0.solver_state.sat_state) z.solver_state.sat_state (opened x0.solver_state.sat_state n m) refl b);
+        lines = λ n. lines-added (view x0) (view x1) c lits d.ready.well r moves d.distinct d.literals may (view z) lits (reopened_state x0.solver_state.sat_state) z.solver_state.sat_state (opened x0.solver_state.sat_state n) refl b;
+        kept_verdict = added-verdict (view x1) (view z) lits (reopened_state x0.solver_state.sat_state) z.solver_state.sat_state b;
+        assumptions = list ∙ none;
         last = subst (SavesAll (view x0) x0.assignment.last) (sym l) d.last;
         state = s ∙ ap (λ (y : SolverState). record y { sat_state = z.solver_state.sat_state }) d.state;
         count = q.2;

@@ -12,8 +12,8 @@ use Rattle.varisat_prop.proofs.EnqueueAssignment.{enqueued-well}
 use Rattle.varisat_search.specs.declared.state.SatState.{SatState}
 use Rattle.varisat_search.specs.declared.state.SatState.TheVariants as verdict
 use Rattle.varisat_search.specs.Steps.{IsCut, reopened_state}
-use Rattle.varisat_search.specs.Loading.{loaded_at, IsAdded}
-use Rattle.varisat_search.specs.Seen.{search_of, outcome_of}
+use Rattle.varisat_search.specs.Loading.{loaded_at, loaded_outcome, IsAdded}
+use Rattle.varisat_search.specs.Seen.{search_of}
 use Rattle.varisat_search.proofs.LoadView.{Restarted, no-decision, MayBeAdded, first-other}
 use Rattle.varisat_search.proofs.PairSearch.{with_clause, pair-moves, long-moves}
 use Rattle.varisat_search.proofs.ViewSearch.{fixed_from, fixed_to, view_is_grounded}
@@ -24,7 +24,7 @@ use Rattle.varisat_theory.proofs.Held.{same_set-self}
 use Rattle.varisat_theory.proofs.StepLoads.{loaded_is_kept, loaded_is_unit, loaded_is_settled, loaded_is_contradicted, part_load, load_part}
 
 abbrev pub LoadsAlone : View → View → Clause → SatState → Type 0
-LoadsAlone s t c after = Loads (search_of s) (search_of t) c (outcome_of t after) []
+LoadsAlone s t c after = Loads (search_of s) (search_of t) c (loaded_outcome after) []
 
 -- All decisions are undone without a line.
 pub restart-moves : (s t : View) → WellFormed s → (s.decisions ≡ [] → t ≡ s) → (0 < length s.decisions → IsCut s t 0) → Proves 0 (search_of s) (search_of t) []
@@ -38,11 +38,11 @@ restart-moves s t w same cut =
     no-length [] h = refl
     no-length (x ∷ xs) h = absurd (omega (arith, h))
 
-pub opened : (b : SatState) → b ≢ verdict.Unsat → b ≢ verdict.UnsatUnderAssumptions → reopened_state b ≡ verdict.Unknown
-opened verdict.Unknown n m = refl
-opened verdict.Sat n m = refl
-opened verdict.Unsat n m = absurd (n refl)
-opened verdict.UnsatUnderAssumptions n m = absurd (m refl)
+pub opened : (b : SatState) → b ≢ verdict.Unsat → loaded_outcome (reopened_state b) ≡ Unknown
+opened verdict.Unknown n = refl
+opened verdict.Sat n = refl
+opened verdict.Unsat n = absurd (n refl)
+opened verdict.UnsatUnderAssumptions n = refl
 
 module _ (s t : View) (c lits : Clause) (w : WellFormed s) (r : Restarted s t) (p : Proves 0 (search_of s) (search_of t) []) (d : IsDistinct lits) (same : SameSet lits c) where
   now : (x : Literal) → IsTrueIn t x → x ∈ (search_of t).fixed
@@ -58,10 +58,10 @@ module _ (s t : View) (c lits : Clause) (w : WellFormed s) (r : Restarted s t) (
       (λ x h. fixed_to s w x (r.fixed_from x (from-now x h)))
       q
 
-  open-verdict : (b : SatState) (z : View) → b ≡ verdict.Unknown → Loads (search_of s) (search_of z) c Unknown [] → LoadsAlone s z c b
-  open-verdict b z e q = subst (LoadsAlone s z c) (sym e) q
+  open-verdict : (b : SatState) (z : View) → loaded_outcome b ≡ Unknown → Loads (search_of s) (search_of z) c Unknown [] → LoadsAlone s z c b
+  open-verdict b z e q = subst (λ v. Loads (search_of s) (search_of z) c v []) (sym e) q
 
-  pub lines-tautology : (b : SatState) → b ≡ verdict.Unknown → IsTautology lits → LoadsAlone s t c b
+  pub lines-tautology : (b : SatState) → loaded_outcome b ≡ Unknown → IsTautology lits → LoadsAlone s t c b
   lines-tautology b e (x, i, j) =
       open-verdict b t e (before t Unknown (loaded_is_settled (search_of t) c (inl (x, same.0 x i, same.0 (opposite x) j)) (λ k.
       ⊎_elim
@@ -69,7 +69,7 @@ module _ (s t : View) (c lits : Clause) (w : WellFormed s) (r : Restarted s t) (
       (λ (l, unit, f). own-opposite x (unit.1 (opposite x) (same.0 (opposite x) j) ∙ sym (unit.1 x (same.0 x i))))
       k)))
 
-  pub lines-satisfied : (b : SatState) → b ≡ verdict.Unknown → (x : Literal) → x ∈ lits → IsTrueIn t x → LoadsAlone s t c b
+  pub lines-satisfied : (b : SatState) → loaded_outcome b ≡ Unknown → (x : Literal) → x ∈ lits → IsTrueIn t x → LoadsAlone s t c b
   lines-satisfied b e x i h =
       open-verdict b t e (before t Unknown (loaded_is_settled (search_of t) c (inr (x, same.0 x i, now x h)) (λ k.
       ⊎_elim
@@ -99,12 +99,12 @@ module _ (s t : View) (c lits : Clause) (w : WellFormed s) (r : Restarted s t) (
       n)
 
   -- and then stands among the others
-  kept-lines : (z y : View) (l m : Literal) (ms : Clause) (after : SatState) → lits ≡ l ∷ m ∷ ms → z ≡ y → after ≡ verdict.Unknown → Proves 0 (with_clause (search_of t) (record { clause = lits; learned = false })) (search_of y) [] → LoadsAlone s z c after
+  kept-lines : (z y : View) (l m : Literal) (ms : Clause) (after : SatState) → lits ≡ l ∷ m ∷ ms → z ≡ y → loaded_outcome after ≡ Unknown → Proves 0 (with_clause (search_of t) (record { clause = lits; learned = false })) (search_of y) [] → LoadsAlone s z c after
   kept-lines z y l m ms after e f g moved =
       let whole = load_part (search_of t) (with_clause (search_of t) (record { clause = lits; learned = false })) (search_of y) c [] [] (kept-first l m ms e) moved in
       open-verdict after z g (subst (λ x. Loads (search_of s) (search_of x) c Unknown []) (sym f) (before y Unknown whole))
 
-  pub lines-added : MayBeAdded t lits → (z : View) (o : Clause) (b after : SatState) → b ≡ verdict.Unknown → lits ≡ o → IsAdded t z o b after → LoadsAlone s z c after
+  pub lines-added : MayBeAdded t lits → (z : View) (o : Clause) (b after : SatState) → loaded_outcome b ≡ Unknown → lits ≡ o → IsAdded t z o b after → LoadsAlone s z c after
   lines-added a z [] b after u e (f, g) = false-now z after g (inl (empty-set e))
   lines-added a z (l ∷ []) b after u e q =
       let unit : IsUnit l c = (same.0 l (subst (λ y. l ∈ y) (sym e) (inl refl)), λ m h. ⊎_elim (λ g. g) (λ g. absurd g) (subst (λ y. m ∈ y) e (same.1 m h))) in
@@ -115,16 +115,16 @@ module _ (s t : View) (c lits : Clause) (w : WellFormed s) (r : Restarted s t) (
       let S1 : Search = record (search_of t) { fixed = (search_of t).fixed ++ l ∷ []; proved = (search_of t).proved ++ l ∷ [] } in
       let first : Loads (search_of t) S1 c Unknown [] = loaded_is_unit (search_of t) c l unit (λ x. none-made t.values l (opposite l) free.1 (variable-opposite l) (from-now (opposite l) x)) in
       let whole = load_part (search_of t) S1 (search_of z') c [] [] first (unit_moves t l r.well free.0 free.1 r.undecided (enqueued-well t l reason.Unit r.well free.0 free.1 r.undecided)) in
-      open-verdict after z (g ∙ u) (subst (λ y. Loads (search_of s) (search_of y) c Unknown []) (sym f) (before z' Unknown whole)))
+      open-verdict after z (ap loaded_outcome g ∙ u) (subst (λ y. Loads (search_of s) (search_of y) c Unknown []) (sym f) (before z' Unknown whole)))
       q
   lines-added a z (l ∷ m ∷ []) b after u e (f, g) =
       let q = subst (MayBeAdded t) e a in
       let y = record t { binary = with_pair t.binary l m; queue_head = 0 } in
       let k : KeptClause = record { clause = lits; learned = false } in
       let is : SameSet lits (l ∷ m ∷ []) = subst (SameSet lits) e (same_set-self lits) in
-      kept-lines z y l m [] after e f (g ∙ u)
+      kept-lines z y l m [] after e f (ap loaded_outcome g ∙ u)
       (pair-moves t y l m k (q.paired l (inl refl)) (q.paired m (inr (inl refl))) (first-other t l m [] q) is refl refl (λ x h. h) (λ x h. h))
   lines-added a z (l ∷ m ∷ n ∷ ms) b after u e (p, i, f, g) =
       let y = record t { clauses = t.clauses ++ loaded_at p lits ∷ []; queue_head = 0 } in
       let f' : z ≡ y = f ∙ ap (λ x. record t { clauses = x; queue_head = 0 }) i.0 ∙ ap (λ x. record t { clauses = t.clauses ++ loaded_at p x ∷ []; queue_head = 0 }) (sym e) in
-      kept-lines z y l m (n ∷ ms) after e f' (g ∙ u) (long-moves t y (loaded_at p lits) refl refl (λ x h. h) (λ x h. h))
+      kept-lines z y l m (n ∷ ms) after e f' (ap loaded_outcome g ∙ u) (long-moves t y (loaded_at p lits) refl refl (λ x h. h) (λ x h. h))

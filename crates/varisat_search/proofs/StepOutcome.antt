@@ -3,6 +3,7 @@ use Rattle.std.proofs.Common.{◌≡◌, ℕ, ◌+◌, ◌*◌, ◌%◌, ◌<◌
 use Rattle.varisat_theory.specs.Literals.{Literal, variable_of, literal_of}
 use Rattle.varisat_theory.specs.Propagation.{IsComplete}
 use Rattle.varisat_literals.specs.Numbers.{polarity_of}
+use Rattle.varisat_clause.specs.Databases.{Tracks}
 use Rattle.varisat_prop.specs.View.{View, kept, WellFormed, LevelsSettled, Grows}
 use Rattle.varisat_prop.specs.Watches.{IsPropagated}
 use Rattle.varisat_prop.specs.Changes.{decided_on}
@@ -13,7 +14,8 @@ use Rattle.varisat_prop.proofs.TrailValues.{trail-short}
 use Rattle.varisat_search.specs.declared.context.Context.{Context}
 use Rattle.varisat_search.specs.Contexts.{view, IsReady}
 use Rattle.varisat_search.specs.Steps.{IsFree}
-use Rattle.varisat_search.specs.Decisions.{CanDecide}
+use Rattle.varisat_search.specs.AssumptionParts.{HasAssumptions}
+use Rattle.varisat_search.specs.Decisions.{AreDecidable, CanDecide}
 use Rattle.varisat_search.proofs.LevelsSettled.{settled-grows, settled-decided}
 
 -- On the way to a conflict or a model: the view is ready for more, and has grown.
@@ -27,14 +29,17 @@ pub finding-begins : {A : Type 0} {x : Context A} → IsReady x → Finding (vie
 finding-begins {x = x} r = record { well = r.well; settled = r.settled; grows = grows-refl (view x) }
 
 -- it stays ready, since no variable is added
-pub finding-ready : {A : Type 0} {x y : Context A} → IsReady x → Finding (view x) (view y) → IsPropagated y.watchlists (view y) → y.analyze_conflict.var_count ≡ x.analyze_conflict.var_count → y.tmp_flags.flags.items ≡ x.tmp_flags.flags.items → CanDecide (view y) y.vsids → IsReady y
-finding-ready r f p a b d = record {
+pub finding-ready : {A : Type 0} {x y : Context A} → IsReady x → Finding (view x) (view y) → IsPropagated y.watchlists (view y) → Tracks y.clause_db y.clause_alloc → y.analyze_conflict.var_count ≡ x.analyze_conflict.var_count → y.tmp_flags.flags.items ≡ x.tmp_flags.flags.items → CanDecide (view y) y.vsids → HasAssumptions (view y) y.assumptions → AreDecidable (view y) y.vsids y.assumptions.working → IsReady y
+finding-ready r f p t a b d h k = record {
   well = f.well;
   settled = f.settled;
   propagated = p;
+  tracks = t;
   analysis = a ∙ r.analysis ∙ sym f.grows.count;
   flags = b ∙ r.flags ∙ ap (λ n. replicate (2 * n) false) (sym f.grows.count);
   decidable = d;
+  assumed = h;
+  assumable = k;
 }
 
 pub finding-propagated : (s t u : View) → Finding s t → Propagates t u → Finding s u

@@ -207,31 +207,31 @@ module _ (s : View) (w : WellFormed s) where
       place-take (suc n) (y ∷ xs) (suc j) h l = inr (place-take n xs j (omega arith) (omega arith))
 
   -- the places below one of level 0 are of level 0
-  zero-below : (j k : ℕ) → j < k → k < length s.trail → (node_at s k).level ≡ 0 → (node_at s j).level ≡ 0
+  pub zero-below : (j k : ℕ) → j < k → k < length s.trail → (node_at s k).level ≡ 0 → (node_at s j).level ≡ 0
   zero-below j k l h z =
       ⊎_elim
       (λ (d : 0 < length s.decisions). let o = w.levels_up k 0 h d (omega (arith, z)) in let q = w.levels_down j 0 (omega (arith, l, h)) d (omega (arith, o, l)) in omega (arith, q))
       (λ (d : length s.decisions ≤ 0). let q = w.levels_to j (omega (arith, l, h)) in omega (arith, q, d))
       (cases_lt 0 (length s.decisions))
 
-  -- the others of a kept clause that is a reason are implied where their opposites are
-  implied-by : (held : List Clause) → ViewFits held s → (k : ℕ) (r : Reason) → is_clause r ≡ true → IsReason s k r → ((m : Literal) → StandsBefore s k (opposite m) → Implied held [] (opposite m)) → Implied held [] (literal_at s k)
-  implied-by held f k r c h g =
+  -- a literal with a kept clause as its reason is implied where the opposites of the clause's others are
+  pub implied-by : (held : List Clause) (base : List Literal) → ViewFits held s → (k : ℕ) (r : Reason) → is_clause r ≡ true → IsReason s k r → ((m : Literal) → m ∈ clause_of s (literal_at s k) r → StandsBefore s k (opposite m) → Implied held base (opposite m)) → Implied held base (literal_at s k)
+  implied-by held base f k r c h g =
       let (x, y, z) = reason-kept k r c h in
       let (d, i, e) = f.stored x y in
-      ByReason d i (e.1 (literal_at s k) (z.1 (literal_at s k) (reason-first k r c h))) (λ m j n. ⊎_elim (λ q. absurd (n q)) (g m) (reason-before k r m h (z.0 m (e.0 m j))))
+      ByReason d i (e.1 (literal_at s k) (z.1 (literal_at s k) (reason-first k r c h))) (λ m j n. let o = z.0 m (e.0 m j) in ⊎_elim (λ q. absurd (n q)) (g m o) (reason-before k r m h o))
 
   -- what is true at level 0 is implied by the held clauses alone
-  fixed-at : (held : List Clause) → ViewFits held s → (n k : ℕ) → k < n → k < length s.trail → (node_at s k).level ≡ 0 → Implied held [] (literal_at s k)
+  pub fixed-at : (held : List Clause) → ViewFits held s → (n k : ℕ) → k < n → k < length s.trail → (node_at s k).level ≡ 0 → Implied held [] (literal_at s k)
   fixed-at held f zero k l h z = absurd (omega arith)
   fixed-at held f (suc n) k l h z = by (node_at s k).reason refl (w.reason_is k h) (λ o a b y. fixed-at held f n o a b y)
     where
       by : (r : Reason) → (node_at s k).reason ≡ r → IsReason s k r → ((o : ℕ) → o < n → o < length s.trail → (node_at s o).level ≡ 0 → Implied held [] (literal_at s o)) → Implied held [] (literal_at s k)
       by reason.Unit e i rec = let (d, j, u) = f.units k h z e in ByReason d j u.0 (λ m q o. absurd (o (u.1 m q)))
       by (reason.Binary ms) e i rec =
-          implied-by held f k (reason.Binary ms) refl i (λ m (o, a, b). subst (λ y. Implied held [] y) b (rec o (omega (arith, a, l)) (omega (arith, a, h)) (zero-below o k a h z)))
+          implied-by held [] f k (reason.Binary ms) refl i (λ m q (o, a, b). subst (λ y. Implied held [] y) b (rec o (omega (arith, a, l)) (omega (arith, a, h)) (zero-below o k a h z)))
       by (reason.Long c) e i rec =
-          implied-by held f k (reason.Long c) refl i (λ m (o, a, b). subst (λ y. Implied held [] y) b (rec o (omega (arith, a, l)) (omega (arith, a, h)) (zero-below o k a h z)))
+          implied-by held [] f k (reason.Long c) refl i (λ m q (o, a, b). subst (λ y. Implied held [] y) b (rec o (omega (arith, a, l)) (omega (arith, a, h)) (zero-below o k a h z)))
 
   pub fixed-implied : (held : List Clause) → ViewFits held s → (m : Literal) → opposite m ∈ s.trail → level_of s m ≡ 0 → Implied held [] (opposite m)
   fixed-implied held f m t z =

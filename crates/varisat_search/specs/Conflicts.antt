@@ -1,36 +1,49 @@
 -- The conflict of a step, and the reason that its learned clause gives.
-use Rattle.std.specs.Prelude.{◌≡◌, ℕ, List, [], ◌∷◌, length}
+use Rattle.std.specs.Prelude.{◌≡◌, ℕ, false, List, [], ◌∷◌, length}
 use Rattle.varisat_theory.specs.Literals.{Literal, Clause}
 use Rattle.varisat_prop.specs.declared.prop.graph.Conflict.{Conflict}
 use Rattle.varisat_prop.specs.declared.prop.graph.Reason.{Reason}
 use Rattle.varisat_prop.specs.declared.prop.graph.Reason.TheVariants as reason
 use Rattle.varisat_clause.specs.declared.header.Tier.TheVariants as tier
-use Rattle.varisat_clause.specs.Headers.{no_header}
+use Rattle.varisat_clause.specs.Tiers.{is_tier}
+use Rattle.varisat_clause.specs.Headers.{Header}
 use Rattle.varisat_clause.specs.Stored.{StoredClause, Keeps}
+use Rattle.varisat_clause.specs.Stores.{Store, Adds}
+use Rattle.varisat_prop.specs.View.{View}
+use Rattle.varisat_prop.specs.Changes.{IsConflicting}
 use Rattle.varisat_prop.specs.Pairs.{with_pair}
 use Rattle.varisat_prop.specs.Watches.{Watches}
 use Rattle.varisat_prop.specs.Visits.{WatchesClause}
+use Rattle.varisat_search.specs.AssumptionParts.{AssumptionParts, HasFailed}
 use Rattle.varisat_search.specs.declared.cdcl.FoundConflict.{FoundConflict}
 use Rattle.varisat_search.specs.declared.cdcl.FoundConflict.TheVariants as found
 
-abbrev pub conflict_of : FoundConflict → Conflict
-conflict_of (found.Conflict c) = c
+-- Why a search for a model stopped: a clause is false, or some assumption is.
+abbrev pub Stops : View → AssumptionParts → FoundConflict → Type 0
+Stops s x (found.Conflict c) = IsConflicting s c
+Stops s x found.Assumption = HasFailed s x
 
--- a learned clause at the place, which is of the tier Local
-abbrev pub learned_at : ℕ → Clause → StoredClause
-learned_at p c = record { place = p; header = record no_header { tier = tier.Local; len = length c }; literals = c }
+-- a learned clause at the place, with the header
+abbrev pub learned_at : ℕ → Header → Clause → StoredClause
+learned_at p h c = record { place = p; header = record h { len = length c }; literals = c }
 
 -- what is kept: the clauses of three literals or more, and what literals imply by those of two
 pub record Keeping : Type 0 where
   pub clauses : List StoredClause
   pub binary : List (List Literal)
 
--- A clause of two literals or more is kept and is the reason; else nothing is kept.
+-- A clause of two literals or more is kept and is the reason, one of three or more as learned; else nothing is kept.
 abbrev pub IsKeptAsReason : Keeping → Keeping → Clause → Reason → Type 0
 IsKeptAsReason old new [] r = (new ≡ old) × (r ≡ reason.Unit)
 IsKeptAsReason old new (l ∷ []) r = (new ≡ old) × (r ≡ reason.Unit)
 IsKeptAsReason old new (l ∷ m ∷ []) r = (new ≡ record old { binary = with_pair old.binary l m }) × (r ≡ reason.Binary (m ∷ []))
-IsKeptAsReason old new (l ∷ m ∷ n ∷ c) r = (new.binary ≡ old.binary) × ((p : ℕ) × Keeps old.clauses new.clauses (learned_at p (l ∷ m ∷ n ∷ c)) × (r ≡ reason.Long p))
+IsKeptAsReason old new (l ∷ m ∷ n ∷ c) r = (new.binary ≡ old.binary) × ((p : ℕ) × (h : Header) × (is_tier h.tier tier.Irred ≡ false) × Keeps old.clauses new.clauses (learned_at p h (l ∷ m ∷ n ∷ c)) × (r ≡ reason.Long p))
+
+-- the clause is added to the store with the header where the reason names it there
+abbrev pub IsStoredAsReason : Store → Store → Header → Clause → Reason → Type 0
+IsStoredAsReason s t h c reason.Unit = t ≡ s
+IsStoredAsReason s t h c (reason.Binary ms) = t ≡ s
+IsStoredAsReason s t h c (reason.Long p) = Adds s t (learned_at p h c)
 
 -- the clause is watched where it is kept as the reason
 abbrev pub IsWatchedAsReason : Watches → Watches → Clause → Reason → Type 0

@@ -2,6 +2,7 @@
 use Rattle.std.specs.Prelude.{◌≡◌, ℕ, ◌<◌, ◌≤◌, length}
 use Rattle.varisat_search.specs.declared.context.Context.{Context}
 use Rattle.varisat_search.specs.Contexts.{view, IsReady}
+use Rattle.varisat_search.specs.AssumptionParts.{with_levels_to}
 use Rattle.varisat_search.specs.Seen.{search_of}
 use Rattle.varisat_search.specs.Steps.{IsCut, Saves}
 use Rattle.varisat_search.specs.Decisions.{HasActivities, SameDecidable, MakesAvailable}
@@ -16,7 +17,8 @@ pub record BacktracksTo {A : Type 0} (level : ℕ) (old new : Context A) : Type 
   pub entries : HasActivities (view new) new.vsids
   pub decay : new.vsids.decay ≡ old.vsids.decay
   pub units : new.trail.units_removed ≡ old.trail.units_removed
-  pub kept : new ≡ record old { assignment = new.assignment; trail = new.trail; vsids = new.vsids }
+  pub assumptions : level < length old.trail.decisions → new.assumptions ≡ with_levels_to level old.assumptions
+  pub kept : new ≡ record old { assignment = new.assignment; assumptions = new.assumptions; trail = new.trail; vsids = new.vsids }
 
 -- There are so many variables now, and a proof sees the search as it was.
 pub record IsRaisedTo {A : Type 0} (n : ℕ) (old new : Context A) : Type 0 where

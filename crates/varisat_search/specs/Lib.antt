@@ -7,8 +7,15 @@ pub mod Levels
 pub mod Marks
 pub mod Redundancy
 pub mod Seen
+pub mod HeaderChanges
+pub mod Reductions
+pub mod Collections
 pub mod Progress
 pub mod Restarts
 pub mod Decisions
 pub mod Bumps
 pub mod ContextChanges
+pub mod FailedCores
+pub mod DueReductions
+pub mod Assessments
+pub mod AssumptionParts

@@ -2,6 +2,7 @@
 use Rattle.std.specs.Prelude.{◌≡◌, ℕ, Bool, true, false, List, [], ◌∷◌, ◌⊎◌, ◌↔◌, length, slice_index_or}
 use Rattle.varisat_theory.specs.Membership.{◌∈◌}
 use Rattle.varisat_theory.specs.Literals.{Literal, Clause, opposite}
+use Rattle.varisat_theory.specs.Outcomes.{Outcome, Unknown, Unsat}
 use Rattle.varisat_prop.specs.declared.prop.graph.Reason.TheVariants as reason
 use Rattle.varisat_clause.specs.Headers.{no_header}
 use Rattle.varisat_clause.specs.Stored.{StoredClause, Keeps}
@@ -15,6 +16,13 @@ use Rattle.varisat_search.specs.Steps.{IsFree}
 -- a loaded clause at the place, which is Irred
 abbrev pub loaded_at : ℕ → Clause → StoredClause
 loaded_at p c = record { place = p; header = record no_header { len = length c }; literals = c }
+
+-- What the verdict after loading says of the clauses: under Unsat they conflict. Of assumptions loading says nothing.
+abbrev pub loaded_outcome : SatState → Outcome
+loaded_outcome verdict.Unknown = Unknown
+loaded_outcome verdict.Sat = Unknown
+loaded_outcome verdict.Unsat = Unsat
+loaded_outcome verdict.UnsatUnderAssumptions = Unknown
 
 -- exactly the literals of the list are flagged
 abbrev pub AreFlagged : List Bool → List Literal → Type 0

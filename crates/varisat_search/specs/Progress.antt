@@ -1,5 +1,5 @@
 -- What a step of the search comes to, from one context to the next.
-use Rattle.std.specs.Prelude.{◌≡◌, ◌≢◌, ℕ, ◌<◌, ◌≤◌, List, length}
+use Rattle.std.specs.Prelude.{◌≡◌, ℕ, ◌<◌, ◌≤◌, ◌⊎◌, List, length}
 use Rattle.varisat_theory.specs.Derivations.{Line}
 use Rattle.varisat_theory.specs.Outcomes.{Steps}
 use Rattle.varisat_theory.specs.Rank.{rank}
@@ -12,7 +12,7 @@ use Rattle.varisat_search.specs.Seen.{search_of, outcome_of}
 
 -- lines lead from the search to the next one, with its verdict
 abbrev pub StepsTo : {A : Type 0} → Context A → Context A → Type 0
-StepsTo x y = (lines : List Line) × Steps (search_of (view x)) (search_of (view y)) (outcome_of (view y) y.solver_state.sat_state) lines
+StepsTo x y = (lines : List Line) × Steps (search_of (view x)) (search_of (view y)) (outcome_of (view y) y.assumptions.failed_core y.solver_state.sat_state) lines
 
 -- the trail's rank rises, over each number of variables that bounds the first trail
 abbrev pub RaisesRank : {A : Type 0} → Context A → Context A → Type 0
@@ -22,9 +22,10 @@ RaisesRank x y = (n : ℕ) → length x.trail.literals ≤ n → rank n (kinds (
 pub record IsStepFurther {A : Type 0} (x y : Context A) : Type 0 where
   pub ready : IsReady y
   pub steps : StepsTo x y
-  pub no_assumptions : y.solver_state.sat_state ≢ verdict.UnsatUnderAssumptions
+  pub known : (y.solver_state.sat_state ≡ verdict.Unknown) ⊎ (y.solver_state.sat_state ≡ verdict.Unsat)
   pub rises : y.solver_state.sat_state ≡ verdict.Unknown → RaisesRank x y
   pub decidable : SameDecidable (view x) x.vsids (view y) y.vsids
+  pub assumptions : y.assumptions ≡ record x.assumptions { levels = y.assumptions.levels }
   pub decay : y.vsids.decay ≡ x.vsids.decay
   pub count : length y.assignment.current ≡ length x.assignment.current
   pub units : y.trail.units_removed ≡ x.trail.units_removed

@@ -1,5 +1,5 @@
 -- What a proof can see of a view.
-use Rattle.std.specs.Prelude.{◌≡◌, Bool, false, ◌&&◌, not, nat_eq, [], ◌++◌, map}
+use Rattle.std.specs.Prelude.{◌≡◌, Bool, false, ◌&&◌, not, nat_eq, List, [], ◌++◌, map}
 use Rattle.std.specs.List.{filter}
 use Rattle.varisat_theory.specs.Membership.{◌∈◌}
 use Rattle.varisat_theory.specs.Literals.{Literal, Clause}
@@ -39,9 +39,9 @@ first_search = record { kept = []; fixed = []; proved = [] }
 abbrev pub IsProved : View → Literal → Type 0
 IsProved s l = (l ∈ s.trail) × (level_of s l ≡ 0) × ((node_of s l).reason ≡ reason.Unit)
 
--- the verdict with what was found; there are no assumptions yet
-abbrev pub outcome_of : View → SatState → Outcome
-outcome_of s verdict.Unknown = Unknown
-outcome_of s verdict.Sat = Sat (assignment_of s)
-outcome_of s verdict.Unsat = Unsat
-outcome_of s verdict.UnsatUnderAssumptions = UnsatUnder []
+-- the verdict with what was found: the values, or the core
+abbrev pub outcome_of : View → List Literal → SatState → Outcome
+outcome_of s core verdict.Unknown = Unknown
+outcome_of s core verdict.Sat = Sat (assignment_of s)
+outcome_of s core verdict.Unsat = Unsat
+outcome_of s core verdict.UnsatUnderAssumptions = UnsatUnder core

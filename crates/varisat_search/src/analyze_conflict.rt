@@ -39,10 +39,10 @@ struct Scratch<A: Allocator + Copy> {
 
 /// What analysis reads of a search.
 #[derive(Clone, Copy)]
-struct Parts<'a, A: Allocator + Copy> {
-    clause_alloc: &'a ClauseAlloc<A>,
-    impl_graph: &'a ImplGraph<A>,
-    trail: &'a Trail<A>,
+pub(crate) struct Parts<'a, A: Allocator + Copy> {
+    pub(crate) clause_alloc: &'a ClauseAlloc<A>,
+    pub(crate) impl_graph: &'a ImplGraph<A>,
+    pub(crate) trail: &'a Trail<A>,
 }
 
 impl<A: Allocator + Copy> Model for AnalyzeConflict<A> {
@@ -227,7 +227,7 @@ fn clear_flags(var_flags: &mut [bool], vars: &[Var])
 }
 
 /// Clears all flags.
-fn clear_all_flags(var_flags: &mut [bool])
+pub(crate) fn clear_all_flags(var_flags: &mut [bool])
     ensures { (v : ℕ) → slice_index_or var_flags.new v false ≡ false }
 {
     for index in 0..var_flags.len() {

@@ -1,30 +1,39 @@
 //! One step of the search: propagate and decide to a conflict or a model, and learn.
-ghost use Rattle.std.specs.Prelude.{◌≡◌, ◌≢◌, ℕ, ◌<◌, length, [], ◌∷◌, List, OnOk, IfOk, MatchOption, MatchResult};
+ghost use Rattle.std.specs.Prelude.{◌≡◌, ℕ, ◌<◌, false, length, [], ◌∷◌, List, OnOk, IfOk, MatchBool, MatchOption, MatchResult};
 ghost use Rattle.varisat_theory.specs.Membership.{◌∈◌};
 ghost use Rattle.varisat_theory.specs.Literals.{Literal, opposite};
 ghost use Rattle.varisat_theory.specs.Propagation.{IsComplete};
-ghost use Rattle.varisat_clause.specs.Stores.{IsSound};
+ghost use Rattle.varisat_clause.specs.declared.header.Tier.TheVariants as tier;
+ghost use Rattle.varisat_clause.specs.Tiers.{is_tier};
+ghost use Rattle.varisat_clause.specs.Stores.{Store};
+ghost use Rattle.varisat_clause.specs.Databases.{Tracks};
 ghost use Rattle.varisat_clause.specs.Collected.{live_clauses};
 ghost use Rattle.varisat_prop.specs.View.{View, kept, Grows};
 ghost use Rattle.varisat_prop.specs.Changes.{IsConflicting};
 ghost use Rattle.varisat_search.specs.Learned.{IsLearned, AreInvolved};
 ghost use Rattle.varisat_search.specs.Contexts.{view, KeepsSchedule, IsReady};
-ghost use Rattle.varisat_search.specs.Steps.{IsTotal, SavesSome, Remembers};
+ghost use Rattle.varisat_search.specs.Steps.{SavesSome, Remembers};
 ghost use Rattle.varisat_search.specs.Decisions.{SameDecidable};
 ghost use Rattle.varisat_search.specs.Bumps.{BumpsInvolved};
-ghost use Rattle.varisat_search.specs.Conflicts.{conflict_of, Keeping, IsKeptAsReason, IsWatchedAsReason};
+ghost use Rattle.varisat_search.specs.Assessments.{glue_of, assessed, BumpsClauses};
+ghost use Rattle.varisat_search.specs.AssumptionParts.{TakesOutImplied, EndsAssumed, HasFailed, KeepsAssumptions};
+ghost use Rattle.varisat_search.specs.Conflicts.{Stops, Keeping, IsKeptAsReason, IsStoredAsReason, IsWatchedAsReason};
+ghost use Rattle.varisat_search.specs.Seen.{search_of, outcome_of};
 ghost use Rattle.varisat_search.specs.Progress.{StepsTo, RaisesRank, IsStepFurther};
 ghost use Rattle.varisat_vsids.specs.Activities.{Activities};
 
 use crate::analyze_conflict::analyze_conflict;
+use crate::assess::{assess_learned, bump_involved_clauses};
+use crate::assumptions::{EnqueueAssumption, enqueue_assumption};
 use crate::bumps::bump_involved;
 use crate::context::Context;
 use crate::decision::make_decision;
 use crate::levels::backtrack;
 use crate::state::SatState;
 use std::alloc::{AllocError, Allocator};
+use varisat_clause::db::add_clause;
 use varisat_literals::Lit;
-use varisat_prop::clause::{ClauseHeader, StoreError, Tier};
+use varisat_prop::clause::{ClauseHeader, StoreError};
 use varisat_prop::prop::{Conflict, Reason, enqueue_assignment, propagate};
 
 /// Why a search for a model stopped.
@@ -32,29 +41,51 @@ use varisat_prop::prop::{Conflict, Reason, enqueue_assignment, propagate};
 pub enum FoundConflict {
     /// Propagation found a false clause.
     Conflict(Conflict),
+    /// An assumption is false, and a core was found.
+    Assumption,
 }
 
-impl FoundConflict {
-    /// The conflict that was found.
-    pub fn conflict(self) -> Conflict
-        ensures { result ≡ conflict_of self }
-    {
-        match self {
-            FoundConflict::Conflict(conflict) => conflict,
-        }
+/// Decides the next assumption, or another literal once each assumption has a level. Returns false where nothing is left
+/// to decide.
+fn decide<A: Allocator + Copy>(
+    ctx: &mut Context<A>,
+) -> Result<Result<bool, FoundConflict>, AllocError>
+    requires ready { IsReady ctx.old }
+    requires complete { IsComplete (kept (view ctx.old)) ctx.old.trail.literals }
+    requires propagated { ctx.old.trail.queue_head ≡ length ctx.old.trail.literals }
+    ensures ready { OnOk result (IsReady ctx.new) }
+    ensures grows { OnOk result (Grows (view ctx.old) (view ctx.new)) }
+    ensures taken { OnOk result (TakesOutImplied (view ctx.old) ctx.old.assumptions ctx.new.assumptions) }
+    ensures decided { IfOk result (λ decided. MatchResult decided
+        (λ made. MatchBool made (length ctx.old.trail.literals < length ctx.new.trail.literals) ((view ctx.new ≡ view ctx.old) × EndsAssumed (view ctx.new) ctx.new.assumptions))
+        (λ found. (found ≡ FoundConflict.Assumption) × HasFailed (view ctx.new) ctx.new.assumptions)) }
+    ensures decidable { OnOk result (SameDecidable (view ctx.old) ctx.old.vsids (view ctx.new) ctx.new.vsids) }
+    ensures activities { OnOk result (ctx.new.vsids ≡ record ctx.old.vsids { available = ctx.new.vsids.available }) }
+    ensures state { OnOk result (ctx.new.solver_state ≡ ctx.old.solver_state) }
+    ensures last { OnOk result (ctx.new.assignment.last ≡ ctx.old.assignment.last) }
+    ensures units { OnOk result (ctx.new.trail.units_removed ≡ ctx.old.trail.units_removed) }
+    ensures schedule { KeepsSchedule ctx.old ctx.new }
+{
+    match enqueue_assumption(ctx)? {
+        EnqueueAssumption::Done => {}
+        EnqueueAssumption::Enqueued => return Ok(Ok(true)),
+        EnqueueAssumption::Conflict => return Ok(Err(FoundConflict::Assumption)),
     }
+    let made = make_decision(ctx)?;
+    Ok(Ok(made))
 }
 
-/// Propagates and decides until a clause is false or each variable has a value.
+/// Propagates and decides until a clause or an assumption is false, or each variable has a value.
 fn find_conflict<A: Allocator + Copy>(
     ctx: &mut Context<A>,
 ) -> Result<Result<(), FoundConflict>, AllocError>
     requires { IsReady ctx.old }
     ensures ready { OnOk result (IsReady ctx.new) }
     ensures grows { OnOk result (Grows (view ctx.old) (view ctx.new)) }
+    ensures taken { OnOk result (TakesOutImplied (view ctx.old) ctx.old.assumptions ctx.new.assumptions) }
     ensures found { IfOk result (λ found. MatchResult found
-        (λ _. IsComplete (kept (view ctx.new)) ctx.new.trail.literals × IsTotal (view ctx.new))
-        (λ conflict. IsConflicting (view ctx.new) (conflict_of conflict))) }
+        (λ _. IsComplete (kept (view ctx.new)) ctx.new.trail.literals × EndsAssumed (view ctx.new) ctx.new.assumptions)
+        (λ conflict. Stops (view ctx.new) ctx.new.assumptions conflict)) }
     ensures decidable { OnOk result (SameDecidable (view ctx.old) ctx.old.vsids (view ctx.new) ctx.new.vsids) }
     ensures activities { OnOk result (ctx.new.vsids ≡ record ctx.old.vsids { available = ctx.new.vsids.available }) }
     ensures state { OnOk result (ctx.new.solver_state ≡ ctx.old.solver_state) }
@@ -74,8 +105,10 @@ fn find_conflict<A: Allocator + Copy>(
         if let Err(conflict) = propagated {
             return Ok(Err(FoundConflict::Conflict(conflict)));
         }
-        if !make_decision(ctx)? {
-            return Ok(Ok(()));
+        match decide(ctx)? {
+            Ok(true) => {}
+            Ok(false) => return Ok(Ok(())),
+            Err(found) => return Ok(Err(found)),
         }
     }
 }
@@ -87,15 +120,21 @@ pub fn first_of(clause: &[Lit]) -> Option<Lit>
     clause.first().copied()
 }
 
-/// Keeps the learned clause where it has two literals or more, one of three or more as Local, and watches it. Returns what
-/// makes its first literal true.
-fn keep_learned<A: Allocator + Copy>(ctx: &mut Context<A>) -> Result<Reason, StoreError>
+/// Keeps the learned clause where it has two literals or more, one of three or more with the header, and watches it.
+/// Returns what makes its first literal true.
+fn keep_learned<A: Allocator + Copy>(
+    ctx: &mut Context<A>,
+    header: ClauseHeader,
+) -> Result<Reason, StoreError>
+    requires redundant { is_tier header.tier tier.Irred ≡ false }
+    requires live { header.deleted ≡ false }
     requires listed { (l : Literal) → l ∈ ctx.old.analyze_conflict.clause → opposite l < length ctx.old.watchlists.lists }
     requires paired { (l : Literal) → l ∈ ctx.old.analyze_conflict.clause → opposite l < length ctx.old.binary_clauses }
-    requires sound { IsSound ctx.old.clause_alloc }
-    ensures sound { OnOk result (IsSound ctx.new.clause_alloc) }
-    ensures kept { ctx.new ≡ record ctx.old { binary_clauses = ctx.new.binary_clauses; clause_alloc = ctx.new.clause_alloc; watchlists = ctx.new.watchlists } }
+    requires tracks { Tracks ctx.old.clause_db ctx.old.clause_alloc }
+    ensures tracks { OnOk result (Tracks ctx.new.clause_db ctx.new.clause_alloc) }
+    ensures kept { ctx.new ≡ record ctx.old { binary_clauses = ctx.new.binary_clauses; clause_alloc = ctx.new.clause_alloc; clause_db = ctx.new.clause_db; watchlists = ctx.new.watchlists } }
     ensures reason { IfOk result (λ reason. IsKeptAsReason (record { clauses = live_clauses ctx.old.clause_alloc; binary = ctx.old.binary_clauses }) (record { clauses = live_clauses ctx.new.clause_alloc; binary = ctx.new.binary_clauses }) ctx.old.analyze_conflict.clause reason) }
+    ensures stored { IfOk result (λ reason. IsStoredAsReason ctx.old.clause_alloc ctx.new.clause_alloc header ctx.old.analyze_conflict.clause reason) }
     ensures watched { IfOk result (λ reason. IsWatchedAsReason ctx.old.watchlists ctx.new.watchlists ctx.old.analyze_conflict.clause reason) }
 {
     match ctx.analyze_conflict.clause() {
@@ -106,11 +145,12 @@ fn keep_learned<A: Allocator + Copy>(ctx: &mut Context<A>) -> Result<Reason, Sto
         }
         _ => {}
     }
-    let mut header = ClauseHeader::new();
-    header.set_tier(Tier::Local);
-    let cref = ctx
-        .clause_alloc
-        .add_clause(header, ctx.analyze_conflict.clause())?;
+    let cref = add_clause(
+        &mut ctx.clause_alloc,
+        &mut ctx.clause_db,
+        header,
+        ctx.analyze_conflict.clause(),
+    )?;
     ctx.watchlists
         .watch_clause(cref, ctx.analyze_conflict.clause())?;
     Ok(Reason::Long(cref))
@@ -140,8 +180,8 @@ fn analyze<A: Allocator + Copy>(
     Ok(level)
 }
 
-/// Learns from the conflict: bumps variables, backtracks, keeps the learned clause, and makes its first literal true. The
-/// empty clause gives verdict Unsat.
+/// Learns from the conflict: bumps variables and clauses, backtracks, keeps the learned clause, and makes its first
+/// literal true. The empty clause gives verdict Unsat.
 fn learn<A: Allocator + Copy>(ctx: &mut Context<A>, conflict: Conflict) -> Result<(), StoreError>
     requires ready { IsReady ctx.old }
     requires conflict { IsConflicting (view ctx.old) conflict }
@@ -149,19 +189,24 @@ fn learn<A: Allocator + Copy>(ctx: &mut Context<A>, conflict: Conflict) -> Resul
     ensures further { OnOk result (IsStepFurther ctx.old ctx.new) }
     // Above level 0 the variables of the clauses that the learned one came from are bumped, and activities decay.
     ensures bumps { OnOk result (0 < length ctx.old.trail.decisions → (b : Activities) × BumpsInvolved (view ctx.old) ctx.new.analyze_conflict.involved ctx.old.vsids b × (ctx.new.vsids ≡ record b { available = ctx.new.vsids.available })) }
+    // So are the clauses of the store among them, and the learned one gets the glue of the conflict, and its tier.
+    ensures stored { OnOk result (0 < length ctx.old.trail.decisions → (s : Store) × BumpsClauses ctx.old.impl_graph.nodes.items ctx.new.analyze_conflict.involved ctx.old.clause_alloc s ctx.old.clause_activity ctx.new.clause_activity × ((r : Reason) × IsStoredAsReason s ctx.new.clause_alloc (assessed (glue_of ctx.old.impl_graph.nodes.items ctx.new.analyze_conflict.clause)) ctx.new.analyze_conflict.clause r)) }
     ensures involved { OnOk result (AreInvolved (view ctx.old) conflict ctx.new.analyze_conflict.involved) }
     ensures last { OnOk result (SavesSome (view ctx.old) ctx.old.assignment.last ctx.new.assignment.last) }
     ensures schedule { KeepsSchedule ctx.old ctx.new }
 {
     let level = analyze(ctx, conflict)?;
     bump_involved(ctx);
+    bump_involved_clauses(ctx)?;
+    // The glue of the learned clause is told by the levels at the conflict.
+    let header = assess_learned(ctx);
     // At this level the learned clause leaves its first literal, and no earlier propagation is lost.
     backtrack(ctx, level);
     let Some(first) = first_of(ctx.analyze_conflict.clause()) else {
         ctx.solver_state.sat_state = SatState::Unsat;
         return Ok(());
     };
-    let reason = keep_learned(ctx)?;
+    let reason = keep_learned(ctx, header)?;
     enqueue_assignment(
         &mut ctx.assignment,
         &mut ctx.impl_graph,
@@ -172,14 +217,14 @@ fn learn<A: Allocator + Copy>(ctx: &mut Context<A>, conflict: Conflict) -> Resul
     Ok(())
 }
 
-/// Makes one step: finds a conflict and learns from it, or finds a model. A step that learns raises the rank of the
-/// trail, so that there are only finitely many of them.
+/// Makes one step: finds a conflict and learns from it, or finds a model or that assumptions fail. A step that learns
+/// raises the rank of the trail, so that there are only finitely many of them.
 pub fn conflict_step<A: Allocator + Copy>(ctx: &mut Context<A>) -> Result<(), StoreError>
     requires ready { IsReady ctx.old }
     requires unknown { ctx.old.solver_state.sat_state ≡ SatState.Unknown }
     ensures ready { OnOk result (IsReady ctx.new) }
     ensures steps { OnOk result (StepsTo ctx.old ctx.new) }
-    ensures no_assumptions { OnOk result (ctx.new.solver_state.sat_state ≢ SatState.UnsatUnderAssumptions) }
+    ensures assumes { OnOk result (KeepsAssumptions (search_of (view ctx.old)) (outcome_of (view ctx.new) ctx.new.assumptions.failed_core ctx.new.solver_state.sat_state) ctx.old.assumptions ctx.new.assumptions) }
     ensures rises { OnOk result (ctx.new.solver_state.sat_state ≡ SatState.Unknown → RaisesRank ctx.old ctx.new) }
     ensures decidable { OnOk result (SameDecidable (view ctx.old) ctx.old.vsids (view ctx.new) ctx.new.vsids) }
     ensures decay { OnOk result (ctx.new.vsids.decay ≡ ctx.old.vsids.decay) }
@@ -191,7 +236,10 @@ pub fn conflict_step<A: Allocator + Copy>(ctx: &mut Context<A>) -> Result<(), St
 {
     match find_conflict(ctx)? {
         Ok(()) => ctx.solver_state.sat_state = SatState::Sat,
-        Err(found) => learn(ctx, found.conflict())?,
+        Err(FoundConflict::Assumption) => {
+            ctx.solver_state.sat_state = SatState::UnsatUnderAssumptions;
+        }
+        Err(FoundConflict::Conflict(conflict)) => learn(ctx, conflict)?,
     }
     Ok(())
 }

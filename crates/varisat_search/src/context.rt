@@ -2,6 +2,7 @@
 ghost use Rattle.std.specs.Prelude.{◌≡◌, None, Some, MatchResult, ℕ, ◌≤◌, ◌-◌, ◌++◌, [], length, replicate, slice_index_or, false, OnOk};
 ghost use Rattle.std.specs.Option.{unwrap_or};
 ghost use Rattle.varisat_search.specs.Contexts.{view, IsReady, first_state};
+ghost use Rattle.varisat_search.specs.AssumptionParts.{no_assumptions};
 ghost use Rattle.varisat_search.specs.ContextChanges.{IsRaisedTo};
 ghost use Rattle.varisat_search.specs.Seen.{search_of, first_search};
 ghost use Rattle.varisat_search.specs.Decisions.{IsDecidable, SameDecidable};
@@ -11,9 +12,12 @@ ghost use Rattle.varisat_schedule.specs.Plans.{first_plan};
 ghost use Rattle.varisat_vsids.specs.Activities.{no_activities, raised_to};
 
 use crate::analyze_conflict::AnalyzeConflict;
+use crate::assumptions::Assumptions;
 use crate::state::SolverState;
 use crate::tmp::{TmpData, TmpFlags};
 use std::alloc::{AllocError, Allocator};
+use varisat_clause::activity::ClauseActivity;
+use varisat_clause::db::ClauseDb;
 use varisat_names::config::{ConfigError, SolverConfig, SolverConfigUpdate};
 use varisat_prop::binary::BinaryClauses;
 use varisat_prop::clause::ClauseAlloc;
@@ -26,8 +30,11 @@ use varisat_vsids::Vsids;
 pub struct Context<A: Allocator + Copy> {
     pub analyze_conflict: AnalyzeConflict<A>,
     pub assignment: Assignment<A>,
+    pub assumptions: Assumptions<A>,
     pub binary_clauses: BinaryClauses<A>,
+    pub clause_activity: ClauseActivity,
     pub clause_alloc: ClauseAlloc<A>,
+    pub clause_db: ClauseDb<A>,
     pub impl_graph: ImplGraph<A>,
     pub schedule: Schedule,
     pub solver_config: SolverConfig,
@@ -48,6 +55,7 @@ impl<A: Allocator + Copy> Context<A> {
         ensures empty { length result.assignment.current ≡ 0 }
         ensures state { result.solver_state ≡ first_state }
         ensures schedule { result.schedule ≡ first_plan }
+        ensures assumptions { result.assumptions ≡ no_assumptions }
         ensures config { result.solver_config ≡ default_settings }
         ensures activities { result.vsids ≡ no_activities }
         ensures none_decidable { (v : ℕ) → IsDecidable (view result) result.vsids v → ⊥ }
@@ -55,8 +63,11 @@ impl<A: Allocator + Copy> Context<A> {
         Context {
             analyze_conflict: AnalyzeConflict::new_in(alloc),
             assignment: Assignment::new_in(alloc),
+            assumptions: Assumptions::new_in(alloc),
             binary_clauses: BinaryClauses::new_in(alloc),
+            clause_activity: ClauseActivity::new(),
             clause_alloc: ClauseAlloc::new_in(alloc),
+            clause_db: ClauseDb::new_in(alloc),
             impl_graph: ImplGraph::new_in(alloc),
             schedule: Schedule::new(),
             solver_config: SolverConfig::new(),
@@ -71,10 +82,11 @@ impl<A: Allocator + Copy> Context<A> {
 
     /// Changes the settings for which there are values. If some value is out of its range, the first such setting is
     /// returned and nothing changes. Another scale of the restarts counts from the next restart that is planned, and
-    /// another decay of the variables' activities from the next conflict.
+    /// other decays of the
+    /// activities of variables and of clauses from the next conflict.
     pub fn config_changed(&mut self, update: &SolverConfigUpdate) -> Result<(), ConfigError>
         ensures changed { MatchResult result
-            (λ _. (first_bad update.now ≡ None) × (self.new ≡ record self.old { solver_config = updated_settings self.old.solver_config update.now; vsids = record self.old.vsids { decay = unwrap_or update.now.vsids_decay self.old.vsids.decay } }))
+            (λ _. (first_bad update.now ≡ None) × (self.new ≡ record self.old { clause_activity = record self.old.clause_activity { decay = unwrap_or update.now.clause_activity_decay self.old.clause_activity.decay }; solver_config = updated_settings self.old.solver_config update.now; vsids = record self.old.vsids { decay = unwrap_or update.now.vsids_decay self.old.vsids.decay } }))
             (λ error. (first_bad update.now ≡ Some error.field) × (self.new ≡ self.old)) }
         ensures ready { IsReady self.old → IsReady self.new }
         ensures decidable { SameDecidable (view self.old) self.old.vsids (view self.new) self.new.vsids }
@@ -82,6 +94,10 @@ impl<A: Allocator + Copy> Context<A> {
         update.apply(&mut self.solver_config)?;
         if update.vsids_decay.is_some() {
             self.vsids.set_decay(self.solver_config.vsids_decay());
+        }
+        if update.clause_activity_decay.is_some() {
+            self.clause_activity
+                .set_decay(self.solver_config.clause_activity_decay() as u32);
         }
         Ok(())
     }

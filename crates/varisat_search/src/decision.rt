@@ -115,14 +115,14 @@ pub fn add_variables<A: Allocator + Copy>(
     Ok(())
 }
 
-/// Makes the variable unavailable for decisions. A search goes on where no kept clause names the variable.
+/// Makes the variable unavailable for decisions. A search goes on where no kept clause and no assumption names the variable.
 pub fn remove_var<A: Allocator + Copy>(ctx: &mut Context<A>, var: Var)
     requires ready { IsReady ctx.old }
     requires known { var < length ctx.old.assignment.current }
     ensures removed { ctx.new ≡ record ctx.old { vsids = with_available var false ctx.old.vsids } }
     ensures not_decidable { slice_index_or ctx.old.assignment.current var None ≡ None → IsDecidable (view ctx.new) ctx.new.vsids var → ⊥ }
     ensures others { SameDecidableBut var (view ctx.old) ctx.old.vsids (view ctx.new) ctx.new.vsids }
-    ensures ready { ((c : Clause) → c ∈ kept (view ctx.old) → (l : Literal) → l ∈ c → variable_of l ≢ var) → IsReady ctx.new }
+    ensures ready { ((c : Clause) → c ∈ kept (view ctx.old) → (l : Literal) → l ∈ c → variable_of l ≢ var) → ((l : Literal) → l ∈ ctx.old.assumptions.working → variable_of l ≢ var) → IsReady ctx.new }
 {
     ctx.vsids.make_unavailable(var);
 }

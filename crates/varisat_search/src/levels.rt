@@ -10,7 +10,7 @@ use std::alloc::Allocator;
 
 /// Undoes the levels above the given one, remembers the values that variables lose, and makes these variables available
 /// again. Nothing happens where it isn't below the current one. What is left counts as propagated: propagation had come
-/// to its end before the first undone decision.
+/// to its end before the first undone decision. Assumptions lose their levels with the others.
 pub fn backtrack<A: Allocator + Copy>(ctx: &mut Context<A>, level: usize)
     requires well { WellFormed (view ctx.old) }
     requires entries { HasActivities (view ctx.old) ctx.old.vsids }
@@ -27,6 +27,7 @@ pub fn backtrack<A: Allocator + Copy>(ctx: &mut Context<A>, level: usize)
         ctx.vsids.make_available(var);
     }
     ctx.trail.truncate(level);
+    ctx.assumptions.lower_levels(level);
 }
 
 /// Undoes all decisions, remembers the values that variables lose, and makes these variables available again.
@@ -39,12 +40,13 @@ pub fn full_restart<A: Allocator + Copy>(ctx: &mut Context<A>)
     backtrack(ctx, 0);
 }
 
-/// Begins the search anew: undoes all decisions, remembers the values that variables lose, and makes these variables
-/// available again.
+/// Begins the search anew: undoes all decisions but those of assumptions, remembers the values that variables lose, and
+/// makes these variables available again.
 pub fn restart<A: Allocator + Copy>(ctx: &mut Context<A>)
     requires well { WellFormed (view ctx.old) }
     requires entries { HasActivities (view ctx.old) ctx.old.vsids }
-    ensures { BacktracksTo 0 ctx.old ctx.new }
+    ensures { BacktracksTo ctx.old.assumptions.levels ctx.old ctx.new }
 {
-    full_restart(ctx);
+    let level = ctx.assumptions.assumption_levels();
+    backtrack(ctx, level);
 }

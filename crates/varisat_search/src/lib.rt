@@ -2,13 +2,18 @@
 #![tactic(auto)]
 
 pub mod analyze_conflict;
+pub mod assess;
+pub mod assumptions;
 mod bumps;
 pub mod cdcl;
+pub mod collect;
 pub mod context;
 pub mod decision;
+mod failed_core;
 pub mod glue;
 pub mod levels;
 pub mod load;
+pub mod reduce;
 pub mod schedule;
 pub mod state;
 pub mod tmp;

@@ -1,25 +1,26 @@
 //! Loading of clauses.
-ghost use Rattle.std.specs.Prelude.{◌≡◌, ◌≢◌, ◌<◌, List, [], length, replicate, slice_index_or, ◌*◌, true, false, OnOk, IfOk, IsTrue, ◌↔◌};
+ghost use Rattle.std.specs.Prelude.{◌≡◌, ◌≢◌, ◌<◌, List, [], length, replicate, slice_index_or, ◌*◌, true, false, OnOk, IfOk, IsTrue, ◌↔◌, ◌⊎◌};
 ghost use Rattle.varisat_theory.specs.Membership.{◌∈◌, SameSet, IsDistinct};
 ghost use Rattle.varisat_theory.specs.Literals.{Literal, opposite};
-ghost use Rattle.varisat_theory.specs.Derivations.{Line};
 ghost use Rattle.varisat_theory.specs.Searches.{IsTautology};
 ghost use Rattle.varisat_theory.specs.Outcomes.{Loads};
+ghost use Rattle.varisat_clause.specs.Databases.{Tracks};
 ghost use Rattle.varisat_prop.specs.Parts.{IsMadeTrue};
 ghost use Rattle.varisat_prop.specs.Looks.{IsInRange};
 ghost use Rattle.varisat_prop.specs.View.{WellFormed};
 ghost use Rattle.varisat_prop.specs.Watches.{IsPropagated};
 ghost use Rattle.varisat_search.specs.Contexts.{view, KeepsSchedule, IsReady};
-ghost use Rattle.varisat_search.specs.Steps.{SavesAll};
+ghost use Rattle.varisat_search.specs.Steps.{SavesAll, reopened_state};
 ghost use Rattle.varisat_search.specs.Decisions.{AreDecidable, SameDecidable};
-ghost use Rattle.varisat_search.specs.Loading.{AreFlagged, IsAdded};
-ghost use Rattle.varisat_search.specs.Seen.{search_of, outcome_of};
+ghost use Rattle.varisat_search.specs.Loading.{AreFlagged, IsAdded, loaded_outcome};
+ghost use Rattle.varisat_search.specs.Seen.{search_of};
 
 use crate::cdcl::first_of;
 use crate::context::Context;
 use crate::levels::full_restart;
 use crate::state::SatState;
 use std::alloc::{AllocError, Allocator};
+use varisat_clause::db::add_clause;
 use varisat_literals::Lit;
 use varisat_prop::clause::{ClauseHeader, StoreError};
 use varisat_prop::prop::{Assignment, Reason, enqueue_assignment};
@@ -134,12 +135,14 @@ fn is_satisfied<A: Allocator + Copy>(assignment: &Assignment<A>, lits: &[Lit]) -
 fn add_distinct<A: Allocator + Copy>(ctx: &mut Context<A>) -> Result<(), StoreError>
     requires well { WellFormed (view ctx.old) }
     requires propagated { IsPropagated ctx.old.watchlists (view ctx.old) }
+    requires tracks { Tracks ctx.old.clause_db ctx.old.clause_alloc }
     requires undecided { ctx.old.trail.decisions ≡ [] }
     requires distinct { IsDistinct ctx.old.tmp_data.lits.items }
     requires in_range { IsInRange ctx.old.assignment.current ctx.old.tmp_data.lits.items }
     requires untrue { (l : Literal) → l ∈ ctx.old.tmp_data.lits.items → IsMadeTrue ctx.old.assignment.current l → ⊥ }
-    ensures kept { ctx.new ≡ record ctx.old { assignment = ctx.new.assignment; binary_clauses = ctx.new.binary_clauses; clause_alloc = ctx.new.clause_alloc; impl_graph = ctx.new.impl_graph; solver_state = ctx.new.solver_state; trail = ctx.new.trail; watchlists = ctx.new.watchlists } }
+    ensures kept { ctx.new ≡ record ctx.old { assignment = ctx.new.assignment; binary_clauses = ctx.new.binary_clauses; clause_alloc = ctx.new.clause_alloc; clause_db = ctx.new.clause_db; impl_graph = ctx.new.impl_graph; solver_state = ctx.new.solver_state; trail = ctx.new.trail; watchlists = ctx.new.watchlists } }
     ensures propagated { OnOk result (IsPropagated ctx.new.watchlists (view ctx.new)) }
+    ensures tracks { OnOk result (Tracks ctx.new.clause_db ctx.new.clause_alloc) }
     ensures state { OnOk result (ctx.new.solver_state ≡ record ctx.old.solver_state { sat_state = ctx.new.solver_state.sat_state }) }
     ensures units { OnOk result (ctx.new.trail.units_removed ≡ ctx.old.trail.units_removed) }
     ensures last { OnOk result (ctx.new.assignment.last ≡ ctx.old.assignment.last) }
@@ -157,9 +160,12 @@ fn add_distinct<A: Allocator + Copy>(ctx: &mut Context<A>) -> Result<(), StoreEr
             ctx.binary_clauses.add_binary_clause([first, second])?;
             return Ok(());
         }
-        let cref = ctx
-            .clause_alloc
-            .add_clause(ClauseHeader::new(), &ctx.tmp_data.lits)?;
+        let cref = add_clause(
+            &mut ctx.clause_alloc,
+            &mut ctx.clause_db,
+            ClauseHeader::new(),
+            &ctx.tmp_data.lits,
+        )?;
         ctx.watchlists.watch_clause(cref, &ctx.tmp_data.lits)?;
         return Ok(());
     }
@@ -177,7 +183,7 @@ fn add_distinct<A: Allocator + Copy>(ctx: &mut Context<A>) -> Result<(), StoreEr
     Ok(())
 }
 
-/// Loads a clause, and undoes all decisions. Literals that stand twice count once, and a clause with a literal and its
+/// Loads a clause, and undoes all decisions. Assumptions stay, without a level. Literals that stand twice count once, and a clause with a literal and its
 /// opposite, or with one that is true at level 0, is not kept.
 pub fn load_clause<A: Allocator + Copy>(
     ctx: &mut Context<A>,
@@ -188,7 +194,10 @@ pub fn load_clause<A: Allocator + Copy>(
     requires decidable { AreDecidable (view ctx.old) ctx.old.vsids lits.now }
     ensures ready { OnOk result (IsReady ctx.new) }
     ensures unsat { ctx.old.solver_state.sat_state ≡ SatState.Unsat → (result ≡ Ok tt) × (ctx.new ≡ ctx.old) }
-    ensures lines { OnOk result (ctx.old.solver_state.sat_state ≢ SatState.Unsat → ctx.old.solver_state.sat_state ≢ SatState.UnsatUnderAssumptions → (lines : List Line) × Loads (search_of (view ctx.old)) (search_of (view ctx.new)) lits.now (outcome_of (view ctx.new) ctx.new.solver_state.sat_state) lines) }
+    // No line is written. Under assumptions the verdict stays, unless it becomes Unsat.
+    ensures lines { OnOk result (ctx.old.solver_state.sat_state ≢ SatState.Unsat → Loads (search_of (view ctx.old)) (search_of (view ctx.new)) lits.now (loaded_outcome ctx.new.solver_state.sat_state) []) }
+    ensures verdict { OnOk result ((ctx.new.solver_state.sat_state ≡ reopened_state ctx.old.solver_state.sat_state) ⊎ (ctx.new.solver_state.sat_state ≡ SatState.Unsat)) }
+    ensures assumptions { OnOk result (ctx.old.solver_state.sat_state ≢ SatState.Unsat → ctx.new.assumptions ≡ record ctx.old.assumptions { levels = 0 }) }
     ensures decidable { OnOk result (SameDecidable (view ctx.old) ctx.old.vsids (view ctx.new) ctx.new.vsids) }
     ensures decay { OnOk result (ctx.new.vsids.decay ≡ ctx.old.vsids.decay) }
     ensures last { OnOk result (ctx.old.solver_state.sat_state ≢ SatState.Unsat → SavesAll (view ctx.old) ctx.old.assignment.last ctx.new.assignment.last) }

@@ -1,31 +1,35 @@
 //! The steps of a search by its schedule.
-ghost use Rattle.std.specs.Prelude.{◌≡◌, ◌≢◌, ◌-◌, ◌^◌, ◌<◌, List, length, OnOk, OnErr};
+ghost use Rattle.std.specs.Prelude.{◌≡◌, ◌-◌, ◌^◌, ◌<◌, List, length, OnOk, OnErr};
 ghost use Rattle.varisat_theory.specs.Derivations.{Line};
 ghost use Rattle.varisat_theory.specs.Outcomes.{Steps};
 ghost use Rattle.varisat_prop.specs.View.{kinds};
 ghost use Rattle.varisat_schedule.specs.Plans.{step_begun, next_plan};
 ghost use Rattle.varisat_schedule.specs.CallSteps.{IsPlannedStep};
+ghost use Rattle.varisat_search.specs.AssumptionParts.{KeepsAssumptions};
 ghost use Rattle.varisat_search.specs.Contexts.{view, IsReady};
 ghost use Rattle.varisat_search.specs.Decisions.{SameDecidable};
 ghost use Rattle.varisat_search.specs.Restarts.{RestartsIfDue, SavesIfDue, RestartsAndRemembers};
+ghost use Rattle.varisat_search.specs.DueReductions.{ReducesLocalsIfDue, ReducesMidsIfDue, ReducesIfDue, KeepsSearch, GoesBySchedule};
 ghost use Rattle.varisat_search.specs.Seen.{search_of, outcome_of};
 
 use crate::cdcl::conflict_step;
+use crate::collect::collect_garbage;
 use crate::context::Context;
 use crate::levels::restart;
+use crate::reduce::{reduce_locals, reduce_mids};
 use crate::state::SatState;
-use std::alloc::Allocator;
+use std::alloc::{AllocError, Allocator};
 use varisat_prop::clause::StoreError;
 pub use varisat_schedule::luby::LubySequence;
 pub use varisat_schedule::schedule::Schedule;
 
-/// Begins a step of the schedule, which restarts the search where a restart is due.
+/// Begins a step of the schedule, which restarts the search where a restart is due. Assumptions keep their levels.
 fn restart_if_due<A: Allocator + Copy>(ctx: &mut Context<A>)
     requires ready { IsReady ctx.old }
     requires counted { ctx.old.schedule.steps < 2 ^ 64 - 1 }
     ensures ready { IsReady ctx.new }
-    ensures restarted { RestartsIfDue ctx.old.schedule (view ctx.old) (view ctx.new) }
-    ensures saved { SavesIfDue ctx.old.schedule (view ctx.old) ctx.old.assignment.last ctx.new.assignment.last }
+    ensures restarted { RestartsIfDue ctx.old.schedule ctx.old.assumptions.levels (view ctx.old) (view ctx.new) }
+    ensures saved { SavesIfDue ctx.old.schedule ctx.old.assumptions.levels (view ctx.old) ctx.old.assignment.last ctx.new.assignment.last }
     ensures decidable { SameDecidable (view ctx.old) ctx.old.vsids (view ctx.new) ctx.new.vsids }
     ensures units { ctx.new.trail.units_removed ≡ ctx.old.trail.units_removed }
     ensures later { ctx.new.schedule.steps < ctx.new.schedule.next_restart }
@@ -39,19 +43,59 @@ fn restart_if_due<A: Allocator + Copy>(ctx: &mut Context<A>)
     restart(ctx);
 }
 
-/// Makes one step of the schedule: a restart where it is due, then a conflict step. The step is counted, unless memory
-/// runs out.
+/// Reduces the Local clauses where the number of steps made is a multiple of the interval for it.
+fn reduce_locals_if_due<A: Allocator + Copy>(ctx: &mut Context<A>) -> Result<(), AllocError>
+    requires { IsReady ctx.old }
+    ensures reduces { OnOk result (ReducesLocalsIfDue ctx.old ctx.new) }
+    ensures keeps { OnOk result (KeepsSearch ctx.old ctx.new) }
+    ensures kept { ctx.new ≡ record ctx.old { clause_alloc = ctx.new.clause_alloc; clause_db = ctx.new.clause_db; watchlists = ctx.new.watchlists } }
+{
+    if ctx.schedule.steps() % ctx.solver_config.reduce_locals_interval() == 0 {
+        reduce_locals(ctx)?;
+    }
+    Ok(())
+}
+
+/// Reduces the Mid clauses where the number of steps made is a multiple of the interval for it.
+fn reduce_mids_if_due<A: Allocator + Copy>(ctx: &mut Context<A>) -> Result<(), AllocError>
+    requires { IsReady ctx.old }
+    ensures reduces { OnOk result (ReducesMidsIfDue ctx.old ctx.new) }
+    ensures keeps { OnOk result (KeepsSearch ctx.old ctx.new) }
+    ensures kept { ctx.new ≡ record ctx.old { clause_alloc = ctx.new.clause_alloc; clause_db = ctx.new.clause_db } }
+{
+    if ctx.schedule.steps() % ctx.solver_config.reduce_mids_interval() == 0 {
+        reduce_mids(ctx)?;
+    }
+    Ok(())
+}
+
+/// Reduces the Local clauses and then the Mid ones, each where it is due, and then collects garbage where that is due.
+fn reduce_if_due<A: Allocator + Copy>(ctx: &mut Context<A>) -> Result<(), AllocError>
+    requires { IsReady ctx.old }
+    ensures reduces { OnOk result (ReducesIfDue ctx.old ctx.new) }
+    ensures keeps { OnOk result (KeepsSearch ctx.old ctx.new) }
+    ensures kept { ctx.new ≡ record ctx.old { clause_alloc = ctx.new.clause_alloc; clause_db = ctx.new.clause_db; impl_graph = ctx.new.impl_graph; watchlists = ctx.new.watchlists } }
+{
+    reduce_locals_if_due(ctx)?;
+    reduce_mids_if_due(ctx)?;
+    collect_garbage(ctx)?;
+    Ok(())
+}
+
+/// Makes one step of the schedule: a restart, reductions of the learned clauses and a collection of garbage, each where
+/// it is due, then a conflict step. The step is counted, unless memory runs out.
 pub fn schedule_step<A: Allocator + Copy>(ctx: &mut Context<A>) -> Result<(), StoreError>
     requires ready { IsReady ctx.old }
     requires unknown { ctx.old.solver_state.sat_state ≡ SatState.Unknown }
     requires counted { ctx.old.schedule.steps < 2 ^ 64 - 1 }
     ensures ready { OnOk result (IsReady ctx.new) }
-    ensures steps { OnOk result ((lines : List Line) × Steps (search_of (view ctx.old)) (search_of (view ctx.new)) (outcome_of (view ctx.new) ctx.new.solver_state.sat_state) lines) }
-    ensures no_assumptions { OnOk result (ctx.new.solver_state.sat_state ≢ SatState.UnsatUnderAssumptions) }
+    ensures steps { OnOk result ((lines : List Line) × Steps (search_of (view ctx.old)) (search_of (view ctx.new)) (outcome_of (view ctx.new) ctx.new.assumptions.failed_core ctx.new.solver_state.sat_state) lines) }
+    ensures reduces { OnOk result (GoesBySchedule ctx.old ctx.new) }
+    ensures assumes { OnOk result (KeepsAssumptions (search_of (view ctx.old)) (outcome_of (view ctx.new) ctx.new.assumptions.failed_core ctx.new.solver_state.sat_state) ctx.old.assumptions ctx.new.assumptions) }
     ensures rises { OnOk result (ctx.new.solver_state.sat_state ≡ SatState.Unknown → IsPlannedStep ctx.old.schedule (kinds (view ctx.old)) (kinds (view ctx.new))) }
     ensures decidable { OnOk result (SameDecidable (view ctx.old) ctx.old.vsids (view ctx.new) ctx.new.vsids) }
     ensures decay { OnOk result (ctx.new.vsids.decay ≡ ctx.old.vsids.decay) }
-    ensures last { OnOk result (RestartsAndRemembers ctx.old.schedule (view ctx.old) ctx.old.assignment.last ctx.new.assignment.last) }
+    ensures last { OnOk result (RestartsAndRemembers ctx.old.schedule ctx.old.assumptions.levels (view ctx.old) ctx.old.assignment.last ctx.new.assignment.last) }
     ensures count { OnOk result (length ctx.new.assignment.current ≡ length ctx.old.assignment.current) }
     ensures units { OnOk result (ctx.new.trail.units_removed ≡ ctx.old.trail.units_removed) }
     ensures state { OnOk result (ctx.new.solver_state ≡ record ctx.old.solver_state { sat_state = ctx.new.solver_state.sat_state }) }
@@ -60,6 +104,7 @@ pub fn schedule_step<A: Allocator + Copy>(ctx: &mut Context<A>) -> Result<(), St
     ensures config { ctx.new.solver_config ≡ ctx.old.solver_config }
 {
     restart_if_due(ctx);
+    reduce_if_due(ctx)?;
     conflict_step(ctx)?;
     ctx.schedule.end_step();
     Ok(())

@@ -48,6 +48,7 @@ impl Default for SolverState {
 impl SolverState {
     ghost use Rattle.std.specs.Prelude.{◌≡◌, false};
     ghost use Rattle.varisat_search.specs.Steps.{reopened_state};
+    ghost use Rattle.varisat_search.specs.AssumptionParts.{assumed_state};
 
     /// Notes that a clause was accepted: a model that was found may not satisfy it.
     pub fn accept_clause(&mut self)
@@ -57,5 +58,15 @@ impl SolverState {
             self.sat_state = SatState::Unknown;
         }
         self.formula_is_empty = false;
+    }
+
+    /// Notes that other literals are assumed: what was found under the earlier ones says nothing of these.
+    pub fn assume(&mut self)
+        ensures { self.new ≡ record self.old { sat_state = assumed_state self.old.sat_state } }
+    {
+        if let SatState::Unsat = self.sat_state {
+            return;
+        }
+        self.sat_state = SatState::Unknown;
     }
 }

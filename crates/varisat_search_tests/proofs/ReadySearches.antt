@@ -8,19 +8,23 @@ use Rattle.varisat_prop.specs.Watches.{Watches, IsPropagated, IsWatching}
 use Rattle.varisat_vsids.specs.Activities.{Activities}
 use Rattle.varisat_search.specs.declared.context.Context.{Context}
 use Rattle.varisat_search.specs.Contexts.{view, IsReady}
-use Rattle.varisat_search.specs.Decisions.{CanDecide}
+use Rattle.varisat_search.specs.AssumptionParts.{HasAssumptions}
+use Rattle.varisat_search.specs.Decisions.{AreDecidable, CanDecide}
 
 pub activities-ready : {A : Type 0} {x : Context A} (a : Activities) → length a.activity ≡ length x.vsids.activity → a.available ≡ x.vsids.available → IsReady x → IsReady (record x { vsids = a })
 activities-ready a n e r = record {
   well = r.well;
   settled = r.settled;
   propagated = r.propagated;
+  tracks = r.tracks;
   analysis = r.analysis;
   flags = r.flags;
   decidable = record {
     entries = record { activity = n ∙ r.decidable.entries.activity; available = ap (λ xs. length xs) e ∙ r.decidable.entries.available };
     decidable = λ c i l j. ⊎_elim inl (λ h. inr (ap (λ xs. get_or xs (variable_of l) false) e ∙ h)) (r.decidable.decidable c i l j);
   };
+  assumed = r.assumed;
+  assumable = λ l i. ⊎_elim inl (λ h. inr (ap (λ xs. get_or xs (variable_of l) false) e ∙ h)) (r.assumable l i);
 }
 
 pub values-ready : {A : Type 0} {x : Context A} (a : Values) → a.current ≡ x.assignment.current → IsReady x → IsReady (record x { assignment = a })
@@ -30,9 +34,12 @@ values-ready {A} {x} a e r =
       well = subst WellFormed (sym v) r.well;
       settled = subst LevelsSettled (sym v) r.settled;
       propagated = subst (IsPropagated x.watchlists) (sym v) r.propagated;
+      tracks = r.tracks;
       analysis = r.analysis ∙ ap (λ vs. length vs) (sym e);
       flags = r.flags ∙ ap (λ vs. replicate (2 * length vs) false) (sym e);
       decidable = subst (λ (s : View). CanDecide s x.vsids) (sym v) r.decidable;
+      assumed = subst (λ (s : View). HasAssumptions s x.assumptions) (sym v) r.assumed;
+      assumable = subst (λ (s : View). AreDecidable s x.vsids x.assumptions.working) (sym v) r.assumable;
     }
 
 pub rebuilt-ready : {A : Type 0} {x : Context A} (W : Watches) → length W.lists ≡ length x.watchlists.lists → W.enabled ≡ true → IsWatching W (live_clauses x.clause_alloc) → IsReady x → IsReady (record x { watchlists = W })
@@ -48,7 +55,10 @@ rebuilt-ready W n on w r = record {
     implied = r.propagated.implied;
     queue = r.propagated.queue;
   };
+  tracks = r.tracks;
   analysis = r.analysis;
   flags = r.flags;
   decidable = r.decidable;
+  assumed = r.assumed;
+  assumable = r.assumable;
 }

@@ -2,14 +2,20 @@
 #![tactic(auto)]
 
 #[cfg(test)]
+mod assuming;
+#[cfg(test)]
 mod decisions;
 #[cfg(test)]
 mod levels;
 #[cfg(test)]
 mod loading;
 #[cfg(test)]
+mod reductions;
+#[cfg(test)]
 mod searches;
 #[cfg(test)]
 mod steps;
+#[cfg(test)]
+mod tiers;
 #[cfg(test)]
 mod watching;

@@ -1,12 +1,15 @@
 //! Searches that tests load by hand.
-ghost use Rattle.std.specs.Prelude.{◌≡◌, ◌≤◌, length, OnOk, IfOk};
-ghost use Rattle.varisat_search.specs.Contexts.{IsReady};
+ghost use Rattle.std.specs.Prelude.{◌≡◌, ◌≤◌, true, length, OnOk, IfOk};
+ghost use Rattle.varisat_prop.specs.Looks.{IsInRange};
+ghost use Rattle.varisat_search.specs.Contexts.{view, IsReady};
+ghost use Rattle.varisat_search.specs.Decisions.{AreDecidable};
 ghost use Rattle.varisat_literals.specs.Numbers.{variable_limit};
 
-use std::alloc::Allocator;
+use std::alloc::{AllocError, Allocator};
 use varisat_literals::{Lit, Var, lits};
 use varisat_prop::clause::StoreError;
 use varisat_prop::prop::Assignment;
+use varisat_search::assumptions::set_assumptions;
 use varisat_search::cdcl::conflict_step;
 use varisat_search::context::{Context, set_var_count};
 use varisat_search::decision::make_available;
@@ -14,18 +17,41 @@ use varisat_search::load::load_clause;
 use varisat_search::state::SatState;
 use varisat_vsids::Vsids;
 
+/// Makes the literals' variables available, where they are those of the search, and says whether they are.
+fn make_all_available<A: Allocator + Copy>(ctx: &mut Context<A>, lits: &[Lit]) -> bool
+    requires { IsReady ctx.old }
+    ensures ready { IsReady ctx.new }
+    ensures known { result ≡ true → IsInRange ctx.new.assignment.current lits.now }
+    ensures decidable { result ≡ true → AreDecidable (view ctx.new) ctx.new.vsids lits.now }
+{
+    for lit in lits {
+        if lit.index() >= ctx.assignment.assignment().len() {
+            return false;
+        }
+        make_available(ctx, lit.var());
+    }
+    true
+}
+
 /// Makes the clause's variables available and loads the clause, where its variables are those of the search.
 pub fn load<A: Allocator + Copy>(ctx: &mut Context<A>, lits: &[Lit]) -> Result<(), StoreError>
     requires { IsReady ctx.old }
     ensures { OnOk result (IsReady ctx.new) }
 {
-    for lit in lits {
-        if lit.index() >= ctx.assignment.assignment().len() {
-            return Ok(());
-        }
-        make_available(ctx, lit.var());
+    if make_all_available(ctx, lits) {
+        load_clause(ctx, lits)?;
     }
-    load_clause(ctx, lits)?;
+    Ok(())
+}
+
+/// Makes the literals' variables available and assumes the literals, where their variables are those of the search.
+pub fn assume<A: Allocator + Copy>(ctx: &mut Context<A>, lits: &[Lit]) -> Result<(), AllocError>
+    requires { IsReady ctx.old }
+    ensures { OnOk result (IsReady ctx.new) }
+{
+    if make_all_available(ctx, lits) {
+        set_assumptions(ctx, lits, lits)?;
+    }
     Ok(())
 }
 

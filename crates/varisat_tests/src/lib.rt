@@ -2,6 +2,8 @@
 #![tactic(auto)]
 
 #[cfg(test)]
+mod assumptions;
+#[cfg(test)]
 mod calls;
 #[cfg(test)]
 mod lines;

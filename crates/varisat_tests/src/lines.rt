@@ -13,13 +13,16 @@ type LineCall = Call<ReadSource<Empty>, Global>;
 // An answer of a session, which has no source.
 type LineAnswer = Answer<MemoryTarget<Global>, ReadSource<Empty>, Global>;
 
-// Lines that add a clause, and the codes of its literals.
+// Lines that add a clause or assume literals, and the codes of these.
 const CLAUSES: &[(&[u8], &[usize])] = &[
     (b"add", &[]),
     (b"add 1", &[0]),
     (b"add 1 -2 10 10 -1", &[0, 3, 18, 18, 1]),
     (b"add 2147483648", &[4294967294]),
     (b"add -2147483648", &[4294967295]),
+    (b"assume", &[]),
+    (b"assume 1 -2 10 10 -1", &[0, 3, 18, 18, 1]),
+    (b"assume -2147483648", &[4294967295]),
 ];
 
 fn are_codes(literals: &[Lit], codes: &[usize]) -> bool {
@@ -29,10 +32,12 @@ fn are_codes(literals: &[Lit], codes: &[usize]) -> bool {
         .eq(codes.iter().copied())
 }
 
-// Whether the line adds a clause of these codes, or is none where there are no codes.
+// Whether the line has literals of these codes, or is none where there are no codes.
 fn is_read_as(call: &Option<LineCall>, codes: Option<&[usize]>) -> bool {
     match (call, codes) {
-        (Some(Call::AddClause(literals)), Some(codes)) => are_codes(literals, codes),
+        (Some(Call::AddClause(literals) | Call::Assume(literals)), Some(codes)) => {
+            are_codes(literals, codes)
+        }
         (None, None) => true,
         _ => false,
     }
@@ -75,6 +80,15 @@ const OTHER_TEXTS: &[&[u8]] = &[
     b"adds",
     b"add1",
     b"ADD 1",
+    b"assume ",
+    b"assume 0",
+    b"assume  1",
+    b"assume 1 ",
+    b"assumes",
+    b"assume1",
+    b"core ",
+    b"core 1",
+    b"Core",
     b"new ",
     b"new 1",
     b"New",
@@ -166,12 +180,13 @@ fn answers_are_written(rt: HostRuntime) {
             b"err 3",
         ),
         writes(alloc, Answer::Model(Err(AllocError)), b"err 3"),
+        writes(alloc, Answer::FailedCore(Err(AllocError)), b"err 3"),
         writes(alloc, Answer::Steps(u64::MAX), b"ok 18446744073709551615"),
         writes(alloc, Answer::IsValid(false), b"ok false"),
         writes_closings(alloc),
         matches!(writes_model(alloc), Ok(true)),
     ];
-    assert!(rt; outcomes == [true; 7]);
+    assert!(rt; outcomes == [true; 8]);
 }
 
 // Whether the answer is written whole where there is room for so many bytes.

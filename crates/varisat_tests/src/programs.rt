@@ -40,7 +40,7 @@ fn solve_prints<S: ByteSource>(
 }
 
 // Lines of a session, and what they are answered.
-const SESSIONS: [(&str, &str); 13] = [
+const SESSIONS: [(&str, &str); 15] = [
     ("add 3\nsolve\nmodel\n", "ok\nok true\nok -1 -2 3 0\n"),
     ("solve\nmodel\n", "ok true\nok 0\n"),
     (
@@ -72,9 +72,18 @@ const SESSIONS: [(&str, &str); 13] = [
     ),
     // Unsat is for good, and after it a name past the limit is not looked at.
     ("add\nadd 268435457\nsolve\n", "ok\nok\nok false\n"),
+    // Assumptions bring their names into use, and fail or hold together with the clauses.
+    (
+        "assume 3\nmodel\nsolve\nmodel\nadd -3\nsolve\ncore\n",
+        "ok\nok none\nok true\nok -1 -2 3 0\nok\nok false\nok 3 0\n",
+    ),
+    (
+        "add -1\nassume 2 1\nsolve\ncore\nassume 2 -1\nsolve\nmodel\n",
+        "ok\nok\nok false\nok 1 0\nok\nok true\nok -1 2 0\n",
+    ),
     // Lines that are none, of which the last ends without a line feed.
     (
-        "\nadd  1\nassume 1\nADD 1\nsolve \nadd 01\nnew\nadd 1",
+        "\nadd  1\nassume 1 \nADD 1\nsolve \nadd 01\nnew\nadd 1",
         "bad line\nbad line\nbad line\nbad line\nbad line\nbad line\nok 1\nok\n",
     ),
 ];
@@ -115,9 +124,72 @@ const AMPLE_SESSIONS: [(&str, &str); 9] = [
     ),
 ];
 
+// Sessions with assumptions, where no order of a core is open.
+const ASSUMING_SESSIONS: [(&str, &str); 13] = [
+    ("add\ncore\nsolve\nsteps\n", "ok\nok 0\nok false\nok 0\n"),
+    (
+        "add 1\nadd -1\ncore\nsolve\nadd 5\nnew\n",
+        "ok\nok\nok 0\nok false\nok\nok 2\n",
+    ),
+    (
+        "assume 1 -1\nsolve\nadd -2\nassume 2\nsolve\ncore\n",
+        "ok\nok false\nok\nok\nok false\nok 2 0\n",
+    ),
+    (
+        "add -1 2\nassume 1 -2\nsolve\nsteps\nadd 1\nsolve\nsteps\nassume\nsolve\nmodel\nsteps\n",
+        "ok\nok\nok false\nok 1\nok\nok false\nok 1\nok\nok true\nok 1 2 0\nok 2\n",
+    ),
+    (
+        "assume 2 2\nsolve\nmodel\nsteps\n",
+        "ok\nok true\nok -1 2 0\nok 1\n",
+    ),
+    (
+        "add -1 -2 -3\nassume 1 2 3\nsolve\nassume 1 2\nsolve\nmodel\n",
+        "ok\nok\nok false\nok\nok true\nok 1 2 -3 0\n",
+    ),
+    (
+        "add -1 2\nassume 1 2\nsolve\nmodel\n",
+        "ok\nok\nok true\nok 1 2 0\n",
+    ),
+    // No core is told before `solve`, nor with a model, nor once other literals are assumed.
+    (
+        "core\nassume 1\nsolve\ncore\nadd -1\ncore\nsolve\ncore\nassume\ncore\n",
+        "ok none\nok\nok true\nok none\nok\nok none\nok false\nok 1 0\nok\nok none\n",
+    ),
+    // A core stays one under more clauses, until the clauses alone are unsatisfiable.
+    (
+        "add -1\nassume 1\nsolve\nadd 2 3\ncore\nadd 1\ncore\nassume 2\nsolve\ncore\n",
+        "ok\nok\nok false\nok\nok 1 0\nok\nok 0\nok\nok false\nok 0\n",
+    ),
+    // A refused list leaves the one before.
+    (
+        "add -1\nassume 1\nassume 268435457 2\nsolve\ncore\nnew\n",
+        "ok\nok\nerr 7\nok false\nok 1 0\nok 2\n",
+    ),
+    // Where the clauses are unsatisfiable a list still names its names, and one past the limit is refused.
+    (
+        "add\nassume 2\nassume 268435457\nsolve\nnew\n",
+        "ok\nok\nerr 7\nok false\nok 3\n",
+    ),
+    // Assumptions are units, follow from units and from each other.
+    (
+        "add 1\nadd -2 3\nassume 1 2 3 1\nsolve\nmodel\nadd -3 4\nsolve\nmodel\n",
+        "ok\nok\nok\nok true\nok 1 2 3 0\nok\nok true\nok 1 2 3 4 0\n",
+    ),
+    // An interrupted search is gone on with under its assumptions.
+    (
+        "config max_steps 0\nadd -1 2\nassume 1\nsolve\ncore\nconfig max_steps 9\nsolve\nmodel\n",
+        "ok\nok\nok\nerr 1\nok none\nok\nok true\nok 1 2 0\n",
+    ),
+];
+
 #[test]
 fn sessions_are_answered(rt: HostRuntime) {
-    for (lines, answers) in SESSIONS.iter().chain(&AMPLE_SESSIONS) {
+    for (lines, answers) in SESSIONS
+        .iter()
+        .chain(&AMPLE_SESSIONS)
+        .chain(&ASSUMING_SESSIONS)
+    {
         assert!(rt;
             session_prints(rt.alloc(), Cursor::new(*lines), (*answers, "", 0)),
             "{lines}"

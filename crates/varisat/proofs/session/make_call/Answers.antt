@@ -1,5 +1,5 @@
 use Rattle.std.proofs.Common.{List, ℕ, subst}
-use Rattle.varisat.specs.Calls.{AddsClause}
+use Rattle.varisat.specs.Calls.{AddsClause, Assumes}
 use Rattle.varisat.proofs.session.make_call.Goals as goal
 
 pub returns-in-AddClause : goal.returns-in-AddClause
@@ -19,11 +19,19 @@ returns-in-AddDimacsCnf g c s st = rw c.in-AddDimacsCnf.is (c.add_dimacs_cnf-add
 pub returns-in-NewVar : goal.returns-in-NewVar
 returns-in-NewVar g c s st = rw c.in-NewVar.is (c.new_var.ensures s st)
 
+pub returns-in-Assume : goal.returns-in-Assume
+returns-in-Assume g c s st =
+    let (t, a, w) = c.assume.ensures s st in
+    rw c.in-Assume.is (t, subst (λ (d : List ℕ). Assumes s d c.assume.result t) c.deref-in-Assume.ensures.value a, w)
+
 pub returns-in-Solve : goal.returns-in-Solve
 returns-in-Solve g c s st = rw c.in-Solve.is (c.solve.ensures.call s st)
 
 pub returns-in-Model : goal.returns-in-Model
 returns-in-Model g c s st = rw c.in-Model.is (c.model.ensures.call s st)
+
+pub returns-in-FailedCore : goal.returns-in-FailedCore
+returns-in-FailedCore g c s st = rw c.in-FailedCore.is (c.copy_core.ensures s st)
 
 pub returns-in-Config : goal.returns-in-Config
 returns-in-Config g c s st = rw c.in-Config.is (c.config.ensures s st)

@@ -1,4 +1,4 @@
-use Rattle.std.proofs.Common.{◌++◌, ◌∷◌, [], sym, ◌∙◌, ap, subst, arith, length, append_assoc, rules}
+use Rattle.std.proofs.Common.{◌≡◌, refl, ◌++◌, ◌∷◌, [], sym, ◌∙◌, ap, subst, arith, length, append_assoc, rules}
 use Rattle.std.proofs.lemmas.List.{nil_from_length, append-nil}
 use Rattle.std.specs.Vec.Iter.{into_iter_items}
 use Rattle.varisat.specs.Runs.{Run, AreReadable}
@@ -6,7 +6,12 @@ use Rattle.varisat.proofs.Runs.{run-push, readable-next}
 use Rattle.varisat.proofs.session.run.Goals as goal
 
 pub loop-call-init : goal.loop-call-init
-loop-call-init g c = search rules
+loop-call-init g c = record {
+  so_far = λ s st. (s, (let none : c.in_ok-answers.answers.items ≡ [] = search rules in subst (λ answers. Run g.S.ByteSource.stand s [] answers s) (sym none) refl), st);
+  room = search rules;
+  left = search rules;
+  whole = search rules;
+}
 
 pub make_call-requires : goal.make_call-requires
 make_call-requires g c =

@@ -1,15 +1,18 @@
 use Rattle.std.proofs.Common.{List, length, ◌∙◌, ⊎_elim, inl, inr, ap, sym, subst, refl, true, false, arith}
 use Rattle.varisat_theory.specs.Derivations.{Line}
-use Rattle.varisat_theory.specs.Outcomes.{Unknown, Unsat, Steps}
+use Rattle.varisat_theory.specs.Outcomes.{Unknown, Steps, MakesSteps}
 use Rattle.varisat_prop.specs.View.{kinds}
 use Rattle.varisat_search.specs.declared.state.SolverState.{SolverState}
-use Rattle.varisat_search.specs.declared.state.SatState.TheVariants as verdict
+use Rattle.varisat_schedule.specs.CallSteps.{steps_since}
+use Rattle.varisat_search.specs.AssumptionParts.{KeepsAssumptions}
 use Rattle.varisat_search.specs.Contexts.{view}
 use Rattle.varisat_search.specs.Decisions.{SameDecidable}
 use Rattle.varisat_search.specs.Seen.{search_of, outcome_of}
+use Rattle.varisat_search.proofs.AssumptionSteps.{keeps-refl}
 use Rattle.varisat_search.proofs.DecidableVariables.{same-refl, same-trans}
 use Rattle.varisat.specs.Budgets.{CountsSteps}
-use Rattle.varisat.proofs.FindVerdictSteps.{call_from, Stepping, stepping-goes-on, stepping-lines, stepping-counts, stepping-shortens, flags-short, none-made, counts-spent, counts-refused, no-lines, told-refused, not-spent, room}
+use Rattle.varisat.specs.Searches.{answer_at}
+use Rattle.varisat.proofs.FindVerdictSteps.{call_from, Stepping, stepping-goes-on, stepping-lines, stepping-keeps, stepping-counts, stepping-shortens, flags-short, none-made, counts-spent, counts-refused, no-lines, told-refused, not-spent, room}
 use Rattle.varisat.proofs.solving.find_verdict.Given.{Over}
 use Rattle.varisat.proofs.solving.find_verdict.Goals.{In_ok-schedule_step}
 use Rattle.varisat.proofs.solving.find_verdict.Goals as goal
@@ -26,6 +29,7 @@ stepping g c =
       config = r.config;
       made = r.made;
       lines = r.lines;
+      assumes = r.assumes;
       left = not-spent c.args.ctx.now.schedule c.steps.ctx.schedule c.args.max_steps c.steps-first.result c.steps-steps.result c.steps-first.ensures.steps c.steps-steps.ensures.steps c.if-steps-first.false;
       countable = room c.steps.ctx.schedule c.steps-steps.result c.steps-steps.ensures.steps c.steps-steps.type_inv c.if-steps.false;
       next = e.schedule;
@@ -49,6 +53,7 @@ steps-init g c =
       config = refl;
       made = none-made (call_from x) c.args.max_steps (kinds (view x)) c.steps-first.ensures.plan;
       lines = no-lines x.schedule (search_of (view x));
+      assumes = keeps-refl (search_of (view x)) x.assumptions;
     }
 
 pub steps-smaller : goal.steps-smaller
@@ -68,11 +73,29 @@ steps-preserved g c =
       state = e.state ∙ ap (λ v. record y.solver_state { sat_state = v }) (c.in-Unknown.is ∙ sym (ap (λ (s : SolverState). s.sat_state) r.state ∙ c.requires.unknown)) ∙ r.state;
       config = e.config ∙ r.config;
       made = stepping-goes-on d (e.rises c.in-Unknown.is);
-      lines = stepping-lines d Unknown (subst (λ b. (lines : List Line) × Steps (search_of (view y)) (search_of (view z)) (outcome_of (view z) b) lines) c.in-Unknown.is e.steps);
+      lines = stepping-lines d Unknown (subst (λ b. (lines : List Line) × Steps (search_of (view y)) (search_of (view z)) (outcome_of (view z) z.assumptions.failed_core b) lines) c.in-Unknown.is e.steps);
+      assumes = stepping-keeps d Unknown (subst (λ b. KeepsAssumptions (search_of (view y)) (outcome_of (view z) z.assumptions.failed_core b) y.assumptions z.assumptions) c.in-Unknown.is e.assumes);
     }
 
+pub returns-then-steps-first-clause-state : goal.returns-then-steps-first-clause-state
+returns-then-steps-first-clause-state g c = ap (λ (s : SolverState). record s { sat_state = c.steps.ctx.solver_state.sat_state }) c.steps.invariant.state
+
+pub returns-then-steps-first-clause-found : goal.returns-then-steps-first-clause-found
+returns-then-steps-first-clause-found g c = sym (ap (λ (s : SolverState). answer_at s.sat_state) c.steps.invariant.state ∙ ap answer_at c.requires.unknown)
+
 pub returns-then-steps-first-clause-steps : goal.returns-then-steps-first-clause-steps
-returns-then-steps-first-clause-steps g c = c.steps.invariant.lines
+returns-then-steps-first-clause-steps g c =
+    let x = c.args.ctx.now in
+    let y = c.steps.ctx in
+    let unknown = ap (λ (s : SolverState). s.sat_state) c.steps.invariant.state ∙ c.requires.unknown in
+    subst (λ b. (lines : List Line) × MakesSteps (steps_since x.schedule y.schedule) (search_of (view x)) (search_of (view y)) (outcome_of (view y) y.assumptions.failed_core b) lines) (sym unknown) c.steps.invariant.lines
+
+pub returns-then-steps-first-clause-assumptions : goal.returns-then-steps-first-clause-assumptions
+returns-then-steps-first-clause-assumptions g c =
+    let x = c.args.ctx.now in
+    let y = c.steps.ctx in
+    let unknown = ap (λ (s : SolverState). s.sat_state) c.steps.invariant.state ∙ c.requires.unknown in
+    subst (λ b. KeepsAssumptions (search_of (view x)) (outcome_of (view y) y.assumptions.failed_core b) x.assumptions y.assumptions) (sym unknown) c.steps.invariant.assumes
 
 pub returns-then-steps-first-clause-counted : goal.returns-then-steps-first-clause-counted
 returns-then-steps-first-clause-counted g c n h =
@@ -93,27 +116,36 @@ pub returns-in-Sat-clause-decidable : goal.returns-in-Sat-clause-decidable
 returns-in-Sat-clause-decidable g c = decidable-still g (goal.at.returns-in-Sat-clause-decidable g c).In_ok-schedule_step
 
 pub returns-in-Sat-clause-state : goal.returns-in-Sat-clause-state
-returns-in-Sat-clause-state g c =
-    let y = c.steps.ctx in
-    c.in_ok-schedule_step.ensures.state ∙ ap (λ v. record y.solver_state { sat_state = v }) c.in-Sat.is ∙ ap (λ (s : SolverState). record s { sat_state = verdict.Sat }) c.steps.invariant.state
+returns-in-Sat-clause-state g c = c.in_ok-schedule_step.ensures.state ∙ ap (λ (s : SolverState). record s { sat_state = c.schedule_step.new.ctx.solver_state.sat_state }) c.steps.invariant.state
+
+pub returns-in-Sat-clause-found : goal.returns-in-Sat-clause-found
+returns-in-Sat-clause-found g c = sym (ap answer_at c.in-Sat.is)
 
 pub returns-in-Sat-clause-steps : goal.returns-in-Sat-clause-steps
 returns-in-Sat-clause-steps g c =
-    let y = c.steps.ctx in
     let z = c.schedule_step.new.ctx in
-    stepping-lines (stepping g (goal.at.returns-in-Sat-clause-steps g c).In_ok-schedule_step) (outcome_of (view z) verdict.Sat)
-    (subst (λ b. (lines : List Line) × Steps (search_of (view y)) (search_of (view z)) (outcome_of (view z) b) lines) c.in-Sat.is c.in_ok-schedule_step.ensures.steps)
+    stepping-lines (stepping g (goal.at.returns-in-Sat-clause-steps g c).In_ok-schedule_step) (outcome_of (view z) z.assumptions.failed_core z.solver_state.sat_state) c.in_ok-schedule_step.ensures.steps
+
+pub returns-in-Sat-clause-assumptions : goal.returns-in-Sat-clause-assumptions
+returns-in-Sat-clause-assumptions g c =
+    let z = c.schedule_step.new.ctx in
+    stepping-keeps (stepping g (goal.at.returns-in-Sat-clause-assumptions g c).In_ok-schedule_step) (outcome_of (view z) z.assumptions.failed_core z.solver_state.sat_state) c.in_ok-schedule_step.ensures.assumes
+
+pub returns-in-Unsat-clause-state : goal.returns-in-Unsat-clause-state
+returns-in-Unsat-clause-state g c = c.in_ok-schedule_step.ensures.state ∙ ap (λ (s : SolverState). record s { sat_state = c.schedule_step.new.ctx.solver_state.sat_state }) c.steps.invariant.state
+
+pub returns-in-Unsat-clause-found : goal.returns-in-Unsat-clause-found
+returns-in-Unsat-clause-found g c = ⊎_elim (λ q. sym (ap answer_at q)) (λ q. sym (ap answer_at q)) c.in-Unsat.is
 
 pub returns-in-Unsat-clause-steps : goal.returns-in-Unsat-clause-steps
 returns-in-Unsat-clause-steps g c =
-    let y = c.steps.ctx in
     let z = c.schedule_step.new.ctx in
-    let e = c.in_ok-schedule_step.ensures in
-    ⊎_elim
-    (λ q. stepping-lines (stepping g (goal.at.returns-in-Unsat-clause-steps g c).In_ok-schedule_step) Unsat
-    (subst (λ b. (lines : List Line) × Steps (search_of (view y)) (search_of (view z)) (outcome_of (view z) b) lines) q e.steps))
-    (λ q. absurd (e.no_assumptions q))
-    c.in-Unsat.is
+    stepping-lines (stepping g (goal.at.returns-in-Unsat-clause-steps g c).In_ok-schedule_step) (outcome_of (view z) z.assumptions.failed_core z.solver_state.sat_state) c.in_ok-schedule_step.ensures.steps
+
+pub returns-in-Unsat-clause-assumptions : goal.returns-in-Unsat-clause-assumptions
+returns-in-Unsat-clause-assumptions g c =
+    let z = c.schedule_step.new.ctx in
+    stepping-keeps (stepping g (goal.at.returns-in-Unsat-clause-assumptions g c).In_ok-schedule_step) (outcome_of (view z) z.assumptions.failed_core z.solver_state.sat_state) c.in_ok-schedule_step.ensures.assumes
 
 pub returns-in-Unsat-clause-decidable : goal.returns-in-Unsat-clause-decidable
 returns-in-Unsat-clause-decidable g c = decidable-still g (goal.at.returns-in-Unsat-clause-decidable g c).In_ok-schedule_step

@@ -3,6 +3,7 @@ use Rattle.varisat_theory.specs.Derivations.{Line}
 use Rattle.varisat_theory.specs.Outcomes.{Unknown, MakesSteps}
 use Rattle.varisat_prop.specs.View.{kinds}
 use Rattle.varisat_schedule.specs.CallSteps.{steps_since}
+use Rattle.varisat_search.specs.AssumptionParts.{KeepsAssumptions}
 use Rattle.varisat_search.specs.Contexts.{view, IsReady}
 use Rattle.varisat_search.specs.Decisions.{SameDecidable}
 use Rattle.varisat_search.specs.Seen.{search_of}
@@ -18,6 +19,7 @@ invariant-steps g l = record {
   config : l.ctx.solver_config ≡ l.fn.ctx.solver_config;
   made : HasMade (call_from l.fn.ctx) l.max_steps l.ctx.schedule (kinds (view l.ctx));
   lines : (lines : List Line) × MakesSteps (steps_since l.fn.ctx.schedule l.ctx.schedule) (search_of (view l.fn.ctx)) (search_of (view l.ctx)) Unknown lines;
+  assumes : KeepsAssumptions (search_of (view l.fn.ctx)) Unknown l.fn.ctx.assumptions l.ctx.assumptions;
 }
 
 abbrev pub decreases-steps : goal.decreases-steps

@@ -19,9 +19,9 @@ loop-lit-preserved c =
     let e = element lits k l c.loop-lit-test.true c.lit-item.is in
     let i = c.requires l (item-∈ lits k l c.loop-lit-test.true c.lit-item.is) in
     let n = c.loop-lit.auto.flags in
-    subst (λ v. Clears (take (k + 1) lits) c.args.flags.now (set f v false)) (sym c.index.ensures.index)
-    (subst (λ ls. Clears ls c.args.flags.now (set f (variable_of l) false)) (sym (take-snoc k lits c.loop-lit-test.true ∙ ap (λ m. take k lits ++ m ∷ []) (sym e)))
-    (clears-join (take k lits) (l ∷ []) c.args.flags.now f (set f (variable_of l) false) c.loop-lit.invariant (clears-one l f (omega (arith, i, n)))))
+    subst (λ v. Clears variable_of (take (k + 1) lits) c.args.flags.now (set f v false)) (sym c.index.ensures.index)
+    (subst (λ ls. Clears variable_of ls c.args.flags.now (set f (variable_of l) false)) (sym (take-snoc k lits c.loop-lit-test.true ∙ ap (λ m. take k lits ++ m ∷ []) (sym e)))
+    (clears-join variable_of (take k lits) (l ∷ []) c.args.flags.now f (set f (variable_of l) false) c.loop-lit.invariant (clears-one variable_of l f (omega (arith, i, n)))))
 
 pub returns-clause-gone : goal.returns-clause-gone
-returns-clause-gone c = (subst (λ ls. Clears ls c.args.flags.now c.loop-lit.flags) (take_all c.loop-lit.lit-index c.args.lits.now c.loop-lit-test.false) c.loop-lit.invariant).gone
+returns-clause-gone c = (subst (λ ls. Clears variable_of ls c.args.flags.now c.loop-lit.flags) (take_all c.loop-lit.lit-index c.args.lits.now c.loop-lit-test.false) c.loop-lit.invariant).gone

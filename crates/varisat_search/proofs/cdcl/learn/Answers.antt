@@ -1,10 +1,20 @@
-use Rattle.std.proofs.Common.{refl, sym, ap, ◌∙◌, subst, arith}
-use Rattle.varisat_prop.specs.View.{WellFormed}
+use Rattle.std.proofs.Common.{◌≡◌, List, refl, sym, ap, ◌∙◌, subst, arith}
+use Rattle.varisat_theory.specs.Literals.{Literal}
+use Rattle.varisat_clause.specs.declared.header.Tier.TheVariants as tier
+use Rattle.varisat_clause.specs.Tiers.{is_tier}
+use Rattle.varisat_clause.specs.Headers.{Header}
+use Rattle.varisat_clause.specs.Stores.{Store}
+use Rattle.varisat_prop.specs.declared.prop.graph.ImplNode.{ImplNode}
 use Rattle.varisat_search.specs.declared.context.Context.{Context}
 use Rattle.varisat_search.specs.Contexts.{view}
 use Rattle.varisat_search.specs.Learned.{Analysis, AreInvolved}
 use Rattle.varisat_search.specs.Steps.{SavesSome}
-use Rattle.varisat_search.proofs.LearnContext.{analysis-ready, involved-named, bumps-learned, cut-activities, analyzed-bumped, Backtracked, saves-some, learned-listed, learned-paired, learned-sound, Learning, learning-free, learning-node, learning-further, learning-activities, refuted-undecided, refuted-further}
+use Rattle.varisat_search.specs.Progress.{IsStepFurther}
+use Rattle.varisat_search.specs.Assessments.{glue_of, assessed}
+use Rattle.varisat_search.specs.Conflicts.{IsStoredAsReason}
+use Rattle.varisat_vsids.specs.Activities.{Activities}
+use Rattle.varisat_search.proofs.BumpedClauses.{tier-redundant}
+use Rattle.varisat_search.proofs.LearnContext.{analysis-ready, involved-named, bumps-learned, cut-activities, Analyzed, analyzed-bumped, analyzed-well, analyzed-tracks, analyzed-clear, learned-assigned, analyzed-named, analyzed-assigned, with_store, analyzed-noted, noted-further, noted-saves, noted-bumps, analyzed-flags, Backtracked, saves-some, learned-listed, learned-paired, learned-tracks, Learning, learning-free, learning-node, learning-further, learning-activities, refuted-undecided, refuted-further}
 use Rattle.varisat_search.proofs.cdcl.learn.Given.{Over}
 use Rattle.varisat_search.proofs.cdcl.learn.Goals.{After-backtrack, In_ok-reason, In_ok-enqueue_assignment}
 use Rattle.varisat_search.proofs.cdcl.learn.Goals as goal
@@ -15,27 +25,70 @@ bump_involved-requires-clause-ready g c = analysis-ready c.analyze.ensures.kept 
 pub bump_involved-requires-clause-named : goal.bump_involved-requires-clause-named
 bump_involved-requires-clause-named g c = involved-named c.args.ctx.now c.analyze.new.ctx c.args.conflict c.analyze.ensures.kept c.in_ok-level.ensures.involved
 
+pub bump_involved_clauses-requires : goal.bump_involved_clauses-requires
+bump_involved_clauses-requires g c =
+    let analysis : (x : Context g.row.A.Denot) → Analysis = λ x. x.analyze_conflict in
+    let d = analyzed-bumped
+    (record { ready = c.requires.ready; unknown = c.requires.unknown; kept = c.analyze.ensures.kept; room = c.analyze.ensures.count; learned = c.in_ok-level.ensures.learned })
+    c.bump_involved.ensures.kept c.bump_involved.ensures.flags c.bump_involved.ensures.available c.bump_involved.ensures.decay c.bump_involved.ensures.entries in
+    let a = subst (λ (x : Analysis). AreInvolved (view c.args.ctx.now) c.args.conflict x.involved) (sym (ap analysis c.bump_involved.ensures.kept)) c.in_ok-level.ensures.involved in
+    record { well = analyzed-well d; tracks = analyzed-tracks d; clear = analyzed-clear d; named = analyzed-named d c.requires.conflict a; assigned = analyzed-assigned d c.requires.conflict a }
+
+pub assess_learned-header-requires : goal.assess_learned-header-requires
+assess_learned-header-requires g c =
+    let d = analyzed-bumped
+    (record { ready = c.requires.ready; unknown = c.requires.unknown; kept = c.analyze.ensures.kept; room = c.analyze.ensures.count; learned = c.in_ok-level.ensures.learned })
+    c.bump_involved.ensures.kept c.bump_involved.ensures.flags c.bump_involved.ensures.available c.bump_involved.ensures.decay c.bump_involved.ensures.entries in
+    let e = analyzed-noted c.bump_involved_clauses.new.ctx d c.bump_involved_clauses.ensures.tracks c.bump_involved_clauses.ensures.headers c.bump_involved_clauses.ensures.kept c.bump_involved_clauses.ensures.flags in
+    record { well = analyzed-well e; clear = analyzed-clear e; assigned = learned-assigned e }
+
 pub backtrack-requires-clause-well : goal.backtrack-requires-clause-well
 backtrack-requires-clause-well g c =
-    subst (λ (x : Context g.row.A.Denot). WellFormed (view x)) (sym c.bump_involved.ensures.kept) (subst (λ (x : Context g.row.A.Denot). WellFormed (view x)) (sym c.analyze.ensures.kept) c.requires.ready.well)
+    let d = analyzed-bumped
+    (record { ready = c.requires.ready; unknown = c.requires.unknown; kept = c.analyze.ensures.kept; room = c.analyze.ensures.count; learned = c.in_ok-level.ensures.learned })
+    c.bump_involved.ensures.kept c.bump_involved.ensures.flags c.bump_involved.ensures.available c.bump_involved.ensures.decay c.bump_involved.ensures.entries in
+    let e = analyzed-noted c.bump_involved_clauses.new.ctx d c.bump_involved_clauses.ensures.tracks c.bump_involved_clauses.ensures.headers c.bump_involved_clauses.ensures.kept c.bump_involved_clauses.ensures.flags in
+    analyzed-well (analyzed-flags e c.assess_learned-header.ensures.kept c.assess_learned-header.ensures.flags)
 
-undone : (g : Over) (c : After-backtrack g) → Backtracked c.args.ctx.now c.bump_involved.new.ctx c.backtrack.new.ctx c.args.conflict c.in_ok-level.level
-undone g c = record {
-  begun = analyzed-bumped
-      (record { ready = c.requires.ready; unknown = c.requires.unknown; kept = c.analyze.ensures.kept; room = c.analyze.ensures.count; learned = c.in_ok-level.ensures.learned })
-      c.bump_involved.ensures.kept c.bump_involved.ensures.flags c.bump_involved.ensures.available c.bump_involved.ensures.decay c.bump_involved.ensures.entries;
-  same = c.backtrack.ensures.same;
-  cut = c.backtrack.ensures.cut;
-  saved = c.backtrack.ensures.saved;
-  entries = c.backtrack.ensures.entries;
-  decidable = c.backtrack.ensures.decidable;
-  decay = c.backtrack.ensures.decay;
-  units = c.backtrack.ensures.units;
-  back = c.backtrack.ensures.kept;
-}
+-- after analysis and the bumps of variables; as it were with the clauses that were bumped; and after backtracking
+begun : (g : Over) (c : After-backtrack g) → Analyzed c.args.ctx.now c.bump_involved.new.ctx c.args.conflict c.in_ok-level.level
+begun g c =
+    analyzed-bumped
+    (record { ready = c.requires.ready; unknown = c.requires.unknown; kept = c.analyze.ensures.kept; room = c.analyze.ensures.count; learned = c.in_ok-level.ensures.learned })
+    c.bump_involved.ensures.kept c.bump_involved.ensures.flags c.bump_involved.ensures.available c.bump_involved.ensures.decay c.bump_involved.ensures.entries
 
-learning : (g : Over) (c : In_ok-reason g) → Backtracked c.args.ctx.now c.bump_involved.new.ctx c.backtrack.new.ctx c.args.conflict c.in_ok-level.level → Learning c.args.ctx.now c.bump_involved.new.ctx c.backtrack.new.ctx c.keep_learned.new.ctx c.args.conflict c.in_ok-level.level c.in-Some.first c.in-Some.ensures.0 c.in_ok-reason.reason
-learning g c b = record { before = b; split = sym c.clause.ensures ∙ c.in-Some.ensures.1; sound = c.in_ok-reason.ensures.sound; stored = c.keep_learned.ensures.kept; kept = c.in_ok-reason.ensures.reason; watched = c.in_ok-reason.ensures.watched }
+undone : (g : Over) (c : After-backtrack g) → Backtracked (with_store c.args.ctx.now c.bump_involved_clauses.new.ctx) c.assess_learned-header.new.ctx c.backtrack.new.ctx c.args.conflict c.in_ok-level.level
+undone g c =
+    let d = begun g c in
+    let e = analyzed-noted c.bump_involved_clauses.new.ctx d c.bump_involved_clauses.ensures.tracks c.bump_involved_clauses.ensures.headers c.bump_involved_clauses.ensures.kept c.bump_involved_clauses.ensures.flags in
+    record {
+      begun = analyzed-flags e c.assess_learned-header.ensures.kept c.assess_learned-header.ensures.flags;
+      same = c.backtrack.ensures.same;
+      cut = c.backtrack.ensures.cut;
+      saved = c.backtrack.ensures.saved;
+      entries = c.backtrack.ensures.entries;
+      decidable = c.backtrack.ensures.decidable;
+      decay = c.backtrack.ensures.decay;
+      units = c.backtrack.ensures.units;
+      levels = c.backtrack.ensures.assumptions;
+      back = c.backtrack.ensures.kept;
+    }
+
+further : (g : Over) (c : After-backtrack g) (z : Context g.row.A.Denot) → IsStepFurther (with_store c.args.ctx.now c.bump_involved_clauses.new.ctx) z → IsStepFurther c.args.ctx.now z
+further g c z p = noted-further c.bump_involved_clauses.new.ctx (begun g c) c.bump_involved_clauses.ensures.tracks c.bump_involved_clauses.ensures.headers z p
+
+saves : (g : Over) (c : After-backtrack g) → SavesSome (view c.args.ctx.now) c.args.ctx.now.assignment.last c.backtrack.new.ctx.assignment.last
+saves g c =
+    noted-saves c.bump_involved_clauses.new.ctx (begun g c) c.bump_involved_clauses.ensures.tracks c.bump_involved_clauses.ensures.headers c.args.ctx.now.assignment.last c.backtrack.new.ctx.assignment.last (saves-some (undone g c))
+
+-- the clauses that took part stay those that analysis listed
+analysis-stays : (g : Over) (c : After-backtrack g) → c.backtrack.new.ctx.analyze_conflict ≡ c.analyze.new.ctx.analyze_conflict
+analysis-stays g c =
+    let analysis : (x : Context g.row.A.Denot) → Analysis = λ x. x.analyze_conflict in
+    ap analysis c.backtrack.ensures.kept ∙ ap analysis c.assess_learned-header.ensures.kept ∙ ap analysis c.bump_involved_clauses.ensures.kept ∙ ap analysis c.bump_involved.ensures.kept
+
+learning : (g : Over) (c : In_ok-reason g) → Backtracked (with_store c.args.ctx.now c.bump_involved_clauses.new.ctx) c.assess_learned-header.new.ctx c.backtrack.new.ctx c.args.conflict c.in_ok-level.level → Learning (with_store c.args.ctx.now c.bump_involved_clauses.new.ctx) c.assess_learned-header.new.ctx c.backtrack.new.ctx c.keep_learned.new.ctx c.args.conflict c.in_ok-level.level c.in-Some.first c.in-Some.ensures.0 c.in_ok-reason.reason
+learning g c b = record { before = b; split = sym c.clause.ensures ∙ c.in-Some.ensures.1; tracks = c.in_ok-reason.ensures.tracks; stored = c.keep_learned.ensures.kept; kept = c.in_ok-reason.ensures.reason; watched = c.in_ok-reason.ensures.watched }
 
 abbrev last : (g : Over) (c : In_ok-enqueue_assignment g) → Context g.row.A.Denot
 last g c = record c.keep_learned.new.ctx { assignment = c.enqueue_assignment.new.assignment; impl_graph = c.enqueue_assignment.new.impl_graph; trail = c.enqueue_assignment.new.trail }
@@ -44,7 +97,14 @@ pub keep_learned-requires : goal.keep_learned-requires
 keep_learned-requires g c =
     let d = undone g (goal.at.keep_learned-requires g c).After-backtrack in
     let e = sym c.clause.ensures ∙ c.in-Some.ensures.1 in
-    record { listed = learned-listed d c.in-Some.first c.in-Some.ensures.0 e; paired = learned-paired d c.in-Some.first c.in-Some.ensures.0 e; sound = learned-sound d }
+    let h = c.assess_learned-header.ensures.header in
+    record {
+      redundant = ap (λ (x : Header). is_tier x.tier tier.Irred) h ∙ tier-redundant (glue_of c.bump_involved_clauses.new.ctx.impl_graph.nodes.items c.bump_involved_clauses.new.ctx.analyze_conflict.clause);
+      live = ap (λ (x : Header). x.deleted) h;
+      listed = learned-listed d c.in-Some.first c.in-Some.ensures.0 e;
+      paired = learned-paired d c.in-Some.first c.in-Some.ensures.0 e;
+      tracks = learned-tracks d;
+    }
 
 pub enqueue_assignment-requires : goal.enqueue_assignment-requires
 enqueue_assignment-requires g c =
@@ -57,47 +117,89 @@ pub returns-clause-further : goal.returns-clause-further
 returns-clause-further g c =
     let here = goal.at.returns-clause-further g c in
     let d = learning g here.In_ok-reason (undone g here.After-backtrack) in
-    learning-further d (last g here.In_ok-enqueue_assignment) refl (c.in_ok-enqueue_assignment.ensures.view c.keep_learned.new.ctx.clause_alloc c.keep_learned.new.ctx.binary_clauses) c.in_ok-enqueue_assignment.ensures.units
+    further g here.After-backtrack (last g here.In_ok-enqueue_assignment)
+    (learning-further d (last g here.In_ok-enqueue_assignment) refl (c.in_ok-enqueue_assignment.ensures.view c.keep_learned.new.ctx.clause_alloc c.keep_learned.new.ctx.binary_clauses) c.in_ok-enqueue_assignment.ensures.units)
 
 pub returns-clause-bumps : goal.returns-clause-bumps
 returns-clause-bumps g c h =
     let here = goal.at.returns-clause-bumps g c in
     let d = learning g here.In_ok-reason (undone g here.After-backtrack) in
     let analysis : (x : Context g.row.A.Denot) → Analysis = λ x. x.analyze_conflict in
+    let activities : (x : Context g.row.A.Denot) → Activities = λ x. x.vsids in
     let x1 = c.bump_involved.new.ctx in
-    let z = last g here.In_ok-enqueue_assignment in (
+    let y = c.assess_learned-header.new.ctx in
+    let w = c.backtrack.new.ctx in
+    let z = last g here.In_ok-enqueue_assignment in
+    let same : y.vsids ≡ x1.vsids = ap activities c.assess_learned-header.ensures.kept ∙ ap activities c.bump_involved_clauses.ensures.kept in (
       x1.vsids,
       bumps-learned c.args.ctx.now c.analyze.new.ctx x1 z c.analyze.ensures.kept c.bump_involved.ensures.bumps
-          (ap analysis c.keep_learned.ensures.kept ∙ ap analysis c.backtrack.ensures.kept ∙ ap analysis c.bump_involved.ensures.kept) h,
-      learning-activities d z refl (c.in_ok-enqueue_assignment.ensures.view c.keep_learned.new.ctx.clause_alloc c.keep_learned.new.ctx.binary_clauses) x1.vsids (cut-activities x1 c.backtrack.new.ctx c.in_ok-level.level c.backtrack.ensures.same c.backtrack.ensures.available),
+          (ap analysis c.keep_learned.ensures.kept ∙ analysis-stays g here.After-backtrack) h,
+      learning-activities d z refl (c.in_ok-enqueue_assignment.ensures.view c.keep_learned.new.ctx.clause_alloc c.keep_learned.new.ctx.binary_clauses) x1.vsids
+          (cut-activities y w c.in_ok-level.level c.backtrack.ensures.same c.backtrack.ensures.available ∙ ap (λ (v : Activities). record v { available = w.vsids.available }) same),
+    )
+
+pub returns-clause-stored : goal.returns-clause-stored
+returns-clause-stored g c h =
+    let here = goal.at.returns-clause-stored g c in
+    let b = here.After-backtrack in
+    let analysis : (x : Context g.row.A.Denot) → Analysis = λ x. x.analyze_conflict in
+    let x0 = c.args.ctx.now in
+    let y = c.bump_involved_clauses.new.ctx in
+    let w = c.backtrack.new.ctx in
+    let z = c.keep_learned.new.ctx in
+    let keeps : z.analyze_conflict ≡ w.analyze_conflict = ap analysis c.keep_learned.ensures.kept in
+    let read : z.analyze_conflict ≡ c.bump_involved.new.ctx.analyze_conflict = keeps ∙ analysis-stays g b ∙ sym (ap analysis c.bump_involved.ensures.kept) in
+    let before : w.analyze_conflict ≡ y.analyze_conflict = ap analysis c.backtrack.ensures.kept ∙ ap analysis c.assess_learned-header.ensures.kept in
+    let store : w.clause_alloc ≡ y.clause_alloc = ap (λ (x : Context g.row.A.Denot). x.clause_alloc) c.backtrack.ensures.kept ∙ ap (λ (x : Context g.row.A.Denot). x.clause_alloc) c.assess_learned-header.ensures.kept in
+    let scale : z.clause_activity ≡ y.clause_activity = ap (λ (x : Context g.row.A.Denot). x.clause_activity) c.keep_learned.ensures.kept ∙ ap (λ (x : Context g.row.A.Denot). x.clause_activity) c.backtrack.ensures.kept ∙ ap (λ (x : Context g.row.A.Denot). x.clause_activity) c.assess_learned-header.ensures.kept in
+    let nodes : y.impl_graph.nodes.items ≡ x0.impl_graph.nodes.items =
+    ap (λ (x : Context g.row.A.Denot). x.impl_graph.nodes.items) c.bump_involved_clauses.ensures.kept ∙ ap (λ (x : Context g.row.A.Denot). x.impl_graph.nodes.items) c.bump_involved.ensures.kept ∙ ap (λ (x : Context g.row.A.Denot). x.impl_graph.nodes.items) c.analyze.ensures.kept in
+    let clause : y.analyze_conflict.clause ≡ z.analyze_conflict.clause = sym (ap (λ (a : Analysis). a.clause) (keeps ∙ before)) in
+    let header : c.assess_learned-header.result ≡ assessed (glue_of x0.impl_graph.nodes.items z.analyze_conflict.clause) =
+    c.assess_learned-header.ensures.header
+    ∙ ap (λ (ns : List ImplNode). assessed (glue_of ns y.analyze_conflict.clause)) nodes
+    ∙ ap (λ (ls : List Literal). assessed (glue_of x0.impl_graph.nodes.items ls)) clause in (
+      y.clause_alloc,
+      noted-bumps y (begun g b) c.bump_involved_clauses.ensures.tracks c.bump_involved_clauses.ensures.headers z.analyze_conflict.involved z.clause_activity (ap (λ (a : Analysis). a.involved) read) scale c.in_ok-bump_involved_clauses.ensures.bumped h,
+      (
+        c.in_ok-reason.reason,
+        subst (λ (s : Store). IsStoredAsReason s z.clause_alloc (assessed (glue_of x0.impl_graph.nodes.items z.analyze_conflict.clause)) z.analyze_conflict.clause c.in_ok-reason.reason) store
+            (subst (λ (k : Header). IsStoredAsReason w.clause_alloc z.clause_alloc k z.analyze_conflict.clause c.in_ok-reason.reason) header
+            (subst (λ (ls : List Literal). IsStoredAsReason w.clause_alloc z.clause_alloc c.assess_learned-header.result ls c.in_ok-reason.reason) (sym (ap (λ (a : Analysis). a.clause) keeps)) c.in_ok-reason.ensures.stored)),
+      ),
     )
 
 pub returns-clause-involved : goal.returns-clause-involved
 returns-clause-involved g c =
     let analysis : (x : Context g.row.A.Denot) → Analysis = λ x. x.analyze_conflict in
     subst (λ (a : Analysis). AreInvolved (view c.args.ctx.now) c.args.conflict a.involved)
-    (sym (ap analysis c.keep_learned.ensures.kept ∙ ap analysis c.backtrack.ensures.kept ∙ ap analysis c.bump_involved.ensures.kept)) c.in_ok-level.ensures.involved
+    (sym (ap analysis c.keep_learned.ensures.kept ∙ analysis-stays g (goal.at.returns-clause-involved g c).After-backtrack)) c.in_ok-level.ensures.involved
 
 pub returns-clause-last : goal.returns-clause-last
 returns-clause-last g c =
     let x0 = c.args.ctx.now in
     let e = c.in_ok-enqueue_assignment.ensures.last ∙ ap (λ (x : Context g.row.A.Denot). x.assignment.last) c.keep_learned.ensures.kept in
-    subst (λ xs. SavesSome (view x0) x0.assignment.last xs) (sym e) (saves-some (undone g (goal.at.returns-clause-last g c).After-backtrack))
+    let b = (goal.at.returns-clause-last g c).After-backtrack in
+    subst (λ xs. SavesSome (view x0) x0.assignment.last xs) (sym e) (saves g b)
 
 pub returns-in_default-clause-further : goal.returns-in_default-clause-further
 returns-in_default-clause-further g c =
-    refuted-further (undone g (goal.at.returns-in_default-clause-further g c).After-backtrack) (sym c.clause.ensures ∙ c.in_default.ensures)
+    let b = (goal.at.returns-in_default-clause-further g c).After-backtrack in
+    further g b _ (refuted-further (undone g b) (sym c.clause.ensures ∙ c.in_default.ensures))
 
 pub returns-in_default-clause-bumps : goal.returns-in_default-clause-bumps
 returns-in_default-clause-bumps g c h =
     let z = refuted-undecided (undone g (goal.at.returns-in_default-clause-bumps g c).After-backtrack) (sym c.clause.ensures ∙ c.in_default.ensures) in
     absurd (omega (arith, h, z))
 
+pub returns-in_default-clause-stored : goal.returns-in_default-clause-stored
+returns-in_default-clause-stored g c h =
+    let z = refuted-undecided (undone g (goal.at.returns-in_default-clause-stored g c).After-backtrack) (sym c.clause.ensures ∙ c.in_default.ensures) in
+    absurd (omega (arith, h, z))
+
 pub returns-in_default-clause-involved : goal.returns-in_default-clause-involved
 returns-in_default-clause-involved g c =
-    let analysis : (x : Context g.row.A.Denot) → Analysis = λ x. x.analyze_conflict in
-    subst (λ (a : Analysis). AreInvolved (view c.args.ctx.now) c.args.conflict a.involved)
-    (sym (ap analysis c.backtrack.ensures.kept ∙ ap analysis c.bump_involved.ensures.kept)) c.in_ok-level.ensures.involved
+    subst (λ (a : Analysis). AreInvolved (view c.args.ctx.now) c.args.conflict a.involved) (sym (analysis-stays g (goal.at.returns-in_default-clause-involved g c).After-backtrack)) c.in_ok-level.ensures.involved
 
 pub returns-in_default-clause-last : goal.returns-in_default-clause-last
-returns-in_default-clause-last g c = saves-some (undone g (goal.at.returns-in_default-clause-last g c).After-backtrack)
+returns-in_default-clause-last g c = saves g (goal.at.returns-in_default-clause-last g c).After-backtrack

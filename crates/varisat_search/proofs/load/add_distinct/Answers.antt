@@ -1,7 +1,7 @@
 use Rattle.std.proofs.Common.{◌≡◌, Bool, ◌≢◌, ◌<◌, ◌≤◌, ◌++◌, [], ◌∷◌, length, inr, inl, refl, sym, ap, ◌∙◌, subst, arith}
 use Rattle.varisat_clause.specs.Headers.{Header}
 use Rattle.varisat_clause.proofs.LiveStore.{live-added}
-use Rattle.varisat_clause.proofs.StoreSound.{sound-is, is-sound}
+use Rattle.varisat_clause.proofs.StoreSound.{sound-is}
 use Rattle.varisat_clause.specs.Collected.{live_clauses}
 use Rattle.varisat_theory.specs.Membership.{◌∈◌, IsDistinct}
 use Rattle.varisat_theory.specs.Literals.{opposite}
@@ -110,24 +110,24 @@ returns-then-len-gt1-clause-added g c =
     let o = x.tmp_data.lits.ok.0 in
     let many : 3 ≤ length x.tmp_data.lits.items = more-than-two (length x.tmp_data.lits.items) (omega (arith, m, o, c.if-len-gt1.true)) (λ e. c.if-len-eq2.false (omega (arith, n, o, e))) in
     let j : StoredClause = record { place = c.in_ok-cref.cref; header = record c.new.result { len = length c.deref-then-len-gt1.result.now }; literals = c.deref-then-len-gt1.result.now } in
-    let k = live-added x.clause_alloc c.add_clause.new.self j c.in_ok-cref.ensures.added (ap (λ (h : Header). h.deleted) c.new.ensures) in
-    let sound = sound-is c.add_clause.new.self c.in_ok-cref.ensures.added.sound ∙ sym c.requires.well.sound in
-    let z = view_of c.add_clause.new.self x.binary_clauses x.assignment c.reset_queue.new.self x.impl_graph in
-    let whole : z ≡ record (view x) { clauses = live_clauses c.add_clause.new.self; queue_head = 0 } =
-    ap (λ (u : TrailParts). view_of c.add_clause.new.self x.binary_clauses x.assignment u x.impl_graph) c.reset_queue.ensures ∙ ap (λ (b : Bool). record (view x) { sound = b; clauses = live_clauses c.add_clause.new.self; queue_head = 0 }) sound in
+    let k = live-added x.clause_alloc c.add_clause.new.alloc j c.in_ok-cref.ensures.added (ap (λ (h : Header). h.deleted) c.new.ensures) in
+    let sound = sound-is c.add_clause.new.alloc c.in_ok-cref.ensures.added.sound ∙ sym c.requires.well.sound in
+    let z = view_of c.add_clause.new.alloc x.binary_clauses x.assignment c.reset_queue.new.self x.impl_graph in
+    let whole : z ≡ record (view x) { clauses = live_clauses c.add_clause.new.alloc; queue_head = 0 } =
+    ap (λ (u : TrailParts). view_of c.add_clause.new.alloc x.binary_clauses x.assignment u x.impl_graph) c.reset_queue.ensures ∙ ap (λ (b : Bool). record (view x) { sound = b; clauses = live_clauses c.add_clause.new.alloc; queue_head = 0 }) sound in
     added-long (view x) z x.tmp_data.lits.items x.solver_state.sat_state x.solver_state.sat_state j many c.deref-then-len-gt1.ensures.value (ap (λ (h : Header). record h { len = length c.deref-then-len-gt1.result.now }) c.new.ensures) k whole refl
 
 pub returns-then-len-gt1-clause-propagated : goal.returns-then-len-gt1-clause-propagated
 returns-then-len-gt1-clause-propagated g c =
     let x = c.args.ctx.now in
     let V = c.watch_clause.new.self in
-    let z = view_of c.add_clause.new.self x.binary_clauses x.assignment c.reset_queue.new.self x.impl_graph in
+    let z = view_of c.add_clause.new.alloc x.binary_clauses x.assignment c.reset_queue.new.self x.impl_graph in
     let j : StoredClause = record { place = c.in_ok-cref.cref; header = record c.new.result { len = length c.deref-then-len-gt1.result.now }; literals = c.deref-then-len-gt1.result.now } in
-    let k = live-added x.clause_alloc c.add_clause.new.self j c.in_ok-cref.ensures.added (ap (λ (h : Header). h.deleted) c.new.ensures) in
-    let sound = sound-is c.add_clause.new.self c.in_ok-cref.ensures.added.sound ∙ sym c.requires.well.sound in
+    let k = live-added x.clause_alloc c.add_clause.new.alloc j c.in_ok-cref.ensures.added (ap (λ (h : Header). h.deleted) c.new.ensures) in
+    let sound = sound-is c.add_clause.new.alloc c.in_ok-cref.ensures.added.sound ∙ sym c.requires.well.sound in
     let watched = subst (WatchesClause x.watchlists V c.in_ok-cref.cref) (c.deref-then-len-gt1-2.ensures.value ∙ sym c.deref-then-len-gt1.ensures.value) c.in_ok-watch_clause.ensures in
     let whole : z ≡ record (view x) { clauses = live_clauses x.clause_alloc ++ j ∷ []; queue_head = 0 } =
-    ap (λ (t : TrailParts). view_of c.add_clause.new.self x.binary_clauses x.assignment t x.impl_graph) c.reset_queue.ensures ∙ ap (λ (b : Bool). record (view x) { sound = b; clauses = live_clauses c.add_clause.new.self; queue_head = 0 }) sound ∙ ap (λ ks. record (view x) { clauses = ks; queue_head = 0 }) k.0 in
+    ap (λ (t : TrailParts). view_of c.add_clause.new.alloc x.binary_clauses x.assignment t x.impl_graph) c.reset_queue.ensures ∙ ap (λ (b : Bool). record (view x) { sound = b; clauses = live_clauses c.add_clause.new.alloc; queue_head = 0 }) sound ∙ ap (λ ks. record (view x) { clauses = ks; queue_head = 0 }) k.0 in
     subst (IsPropagated V) (sym whole) (propagated-loaded x.watchlists V (view x) j c.requires.propagated k.1 watched c.requires.undecided)
 
 pub returns-clause-propagated : goal.returns-clause-propagated
@@ -145,6 +145,3 @@ add_clause-requires-clause-long g c =
     let v = ap length c.deref-then-len-gt1.ensures.value in
     let many : 3 ≤ length x.tmp_data.lits.items = more-than-two (length x.tmp_data.lits.items) (omega (arith, m, o, c.if-len-gt1.true)) (λ e. c.if-len-eq2.false (omega (arith, n, o, e))) in
     omega (arith, many, v)
-
-pub add_clause-requires-clause-sound : goal.add_clause-requires-clause-sound
-add_clause-requires-clause-sound g c = is-sound c.args.ctx.now.clause_alloc c.requires.well.sound

@@ -1,8 +1,9 @@
 use Rattle.std.proofs.Common.{◌*◌, false, replicate, length, refl, sym, ap, ◌∙◌, subst, arith}
 use Rattle.varisat_theory.specs.Membership.{◌∈◌}
-use Rattle.varisat_theory.specs.Searches.{IsTautology}
+use Rattle.varisat_clause.specs.Databases.{Tracks}
 use Rattle.varisat_search.specs.declared.context.Context.{Context}
 use Rattle.varisat_search.specs.Contexts.{view}
+use Rattle.varisat_search.proofs.AssumptionContexts.{cut-assumed, cut-same-list}
 use Rattle.varisat_search.proofs.LoadView.{Restarted, restarted}
 use Rattle.varisat_search.proofs.LoadContext.{Loading, loading-restarted, loading-propagated, loading-inside, loaded-tautology, loaded-satisfied, loaded-added}
 use Rattle.varisat_search.proofs.load.load_clause.Given.{Over}
@@ -11,6 +12,10 @@ use Rattle.varisat_search.proofs.load.load_clause.Goals as goal
 
 abbrev copied : (g : Over) (c : In_ok-collect_distinct g) → Context g.row.A.Denot
 copied g c = c.collect_distinct.new.ctx
+
+-- the context whose decisions were undone
+abbrev before : (g : Over) (c : In_ok-collect_distinct g) → Context g.row.A.Denot
+before g c = record c.args.ctx.now { solver_state = c.accept_clause.new.self }
 
 -- how all decisions were undone
 undone : (g : Over) (c : After-full_restart g) → Restarted (view c.args.ctx.now) (view c.full_restart.new.ctx)
@@ -36,7 +41,10 @@ loading g c =
       analysis = ap (λ (x : Context g.row.A.Denot). x.analyze_conflict.var_count) c.full_restart.ensures.undone.kept;
       flags = c.in_ok-collect_distinct.ensures.flags ∙ ap (λ (x : Context g.row.A.Denot). x.tmp_flags.flags.items) c.full_restart.ensures.undone.kept;
       watches = ap (λ (x : Context g.row.A.Denot). x.watchlists) c.full_restart.ensures.undone.kept;
+      tracks = subst (λ (x : Context g.row.A.Denot). Tracks x.clause_db x.clause_alloc) (sym c.full_restart.ensures.undone.kept) c.requires.ready.tracks;
       schedule = record { schedule = ap (λ (x : Context g.row.A.Denot). x.schedule) c.full_restart.ensures.undone.kept; solver_config = ap (λ (x : Context g.row.A.Denot). x.solver_config) c.full_restart.ensures.undone.kept };
+      same_list = cut-same-list 0 (before g c) c.full_restart.new.ctx c.full_restart.ensures.undone.same c.full_restart.ensures.undone.assumptions;
+      assumed = cut-assumed 0 (before g c) c.full_restart.new.ctx c.full_restart.ensures.undone.same c.full_restart.ensures.undone.assumptions c.requires.ready.well c.full_restart.ensures.undone.cut c.requires.ready.assumed;
       distinct = c.in_ok-collect_distinct.ensures.distinct;
       literals = c.in_ok-collect_distinct.ensures.same;
     }
@@ -53,7 +61,7 @@ pub returns-then-branch : goal.returns-then-branch
 returns-then-branch g c =
     let taut = c.in_ok-collect_distinct.ensures.tautology.0 c.if-branch.true in
     let o = loaded-tautology (loading g (goal.at.returns-then-branch g c).In_ok-collect_distinct) taut in
-    record { ready = o.ready; unsat = λ e. absurd (c.in_default.not-Unsat e); lines = o.lines; last = λ n. o.last; state = λ n. o.state; count = o.count; units = o.units; undecided = λ n. o.undecided; decidable = o.decidable; decay = o.decay; schedule = o.schedule }
+    record { ready = o.ready; unsat = λ e. absurd (c.in_default.not-Unsat e); lines = o.lines; verdict = o.kept_verdict; assumptions = λ n. o.assumptions; last = λ n. o.last; state = λ n. o.state; count = o.count; units = o.units; undecided = λ n. o.undecided; decidable = o.decidable; decay = o.decay; schedule = o.schedule }
 
 pub is_satisfied-requires : goal.is_satisfied-requires
 is_satisfied-requires g c l h =
@@ -63,7 +71,7 @@ pub returns-then-is_satisfied : goal.returns-then-is_satisfied
 returns-then-is_satisfied g c =
     let found = c.if-is_satisfied.ensures.0 refl in
     let o = loaded-satisfied (loading g (goal.at.returns-then-is_satisfied g c).In_ok-collect_distinct) found.0 (subst (λ ys. found.0 ∈ ys) c.deref.ensures.value found.1) found.2 in
-    record { ready = o.ready; unsat = λ e. absurd (c.in_default.not-Unsat e); lines = o.lines; last = λ n. o.last; state = λ n. o.state; count = o.count; units = o.units; undecided = λ n. o.undecided; decidable = o.decidable; decay = o.decay; schedule = o.schedule }
+    record { ready = o.ready; unsat = λ e. absurd (c.in_default.not-Unsat e); lines = o.lines; verdict = o.kept_verdict; assumptions = λ n. o.assumptions; last = λ n. o.last; state = λ n. o.state; count = o.count; units = o.units; undecided = λ n. o.undecided; decidable = o.decidable; decay = o.decay; schedule = o.schedule }
 
 pub add_distinct-requires : goal.add_distinct-requires
 add_distinct-requires g c =
@@ -71,6 +79,7 @@ add_distinct-requires g c =
     record {
       well = (loading-restarted d).well;
       propagated = loading-propagated d;
+      tracks = d.tracks;
       undecided = (loading-restarted d).undecided;
       distinct = d.distinct;
       in_range = loading-inside d;
@@ -81,5 +90,5 @@ pub returns : goal.returns
 returns g c =
     let e = c.in_ok-add_distinct.ensures in
     let k = c.add_distinct.ensures.kept in
-    let o = loaded-added (loading g (goal.at.returns g c).In_ok-collect_distinct) c.add_distinct.new.ctx k e.propagated e.state e.units e.last e.added in
-    record { ready = o.ready; unsat = λ e. absurd (c.in_default.not-Unsat e); lines = o.lines; last = λ n. o.last; state = λ n. o.state; count = o.count; units = o.units; undecided = λ n. o.undecided; decidable = o.decidable; decay = o.decay; schedule = o.schedule }
+    let o = loaded-added (loading g (goal.at.returns g c).In_ok-collect_distinct) c.add_distinct.new.ctx k e.propagated e.tracks e.state e.units e.last e.added in
+    record { ready = o.ready; unsat = λ e. absurd (c.in_default.not-Unsat e); lines = o.lines; verdict = o.kept_verdict; assumptions = λ n. o.assumptions; last = λ n. o.last; state = λ n. o.state; count = o.count; units = o.units; undecided = λ n. o.undecided; decidable = o.decidable; decay = o.decay; schedule = o.schedule }

@@ -1,29 +1,48 @@
-use Rattle.std.proofs.Common.{length, ap, arith}
+use Rattle.std.proofs.Common.{◌≡◌, refl, ap, ◌∙◌}
+use Rattle.varisat_schedule.specs.Plans.{step_begun}
 use Rattle.varisat_search.specs.declared.context.Context.{Context}
 use Rattle.varisat_search.specs.Contexts.{view}
 use Rattle.varisat_search.specs.Restarts.{RestartsIfDue}
-use Rattle.varisat_search.proofs.RestartSteps.{begun-ready}
+use Rattle.varisat_search.proofs.AssumptionContexts.{own-levels}
+use Rattle.varisat_search.proofs.ReadyAfter.{backtracked-ready, ready-with}
 use Rattle.varisat_search.proofs.schedule.restart_if_due.Given.{Over}
 use Rattle.varisat_search.proofs.schedule.restart_if_due.Goals.{After-restart}
 use Rattle.varisat_search.proofs.schedule.restart_if_due.Goals as goal
 
-restarts : (g : Over) (c : After-restart g) → RestartsIfDue c.args.ctx.now.schedule (view c.args.ctx.now) (view c.restart.new.ctx)
+restarts : (g : Over) (c : After-restart g) → RestartsIfDue c.args.ctx.now.schedule c.args.ctx.now.assumptions.levels (view c.args.ctx.now) (view c.restart.new.ctx)
 restarts g c = record {
   stays = λ n. absurd (n (c.begin_step.ensures.due.0 c.if-not-begin_step.false));
-  undecided = λ e. ap (λ (x : Context g.row.A.Denot). view x) (c.restart.ensures.same (let n = ap length e in omega (arith, n)));
+  undecided = λ e. ap (λ (x : Context g.row.A.Denot). view x) (c.restart.ensures.same e);
   undone = λ d. c.restart.ensures.cut;
 }
+
+-- the context whose levels were undone
+abbrev before : (g : Over) (c : After-restart g) → Context g.row.A.Denot
+before g c = record c.args.ctx.now { schedule = c.begin_step.new.self }
+
+-- no assumption lost its level
+assumptions-stay : (g : Over) (c : After-restart g) → c.restart.new.ctx.assumptions ≡ c.args.ctx.now.assumptions
+assumptions-stay g c = own-levels c.args.ctx.now.assumptions.levels (before g c) c.restart.new.ctx c.restart.ensures.same c.restart.ensures.assumptions refl
 
 pub returns-clause-restarted : goal.returns-clause-restarted
 returns-clause-restarted g c = restarts g (goal.at.returns-clause-restarted g c).After-restart
 
 pub returns-clause-ready : goal.returns-clause-ready
 returns-clause-ready g c =
-    let k = c.restart.ensures.kept in
-    begun-ready c.args.ctx.now.schedule c.args.ctx.now c.restart.new.ctx c.requires.ready (restarts g (goal.at.returns-clause-ready g c).After-restart) (ap (λ (x : Context g.row.A.Denot). x.analyze_conflict.var_count) k) (ap (λ (x : Context g.row.A.Denot). x.tmp_flags.flags.items) k) (ap (λ (x : Context g.row.A.Denot). x.watchlists) k) c.restart.ensures.entries c.restart.ensures.decidable
+    let x = c.args.ctx.now in
+    let y = before g (goal.at.returns-clause-ready g c).After-restart in
+    let r = c.requires.ready in
+    backtracked-ready x.assumptions.levels y c.restart.new.ctx (ready-with x y r refl refl r.assumed r.assumable) c.restart.ensures
 
 pub returns-clause-saved : goal.returns-clause-saved
 returns-clause-saved g c = record {
   stays = λ n. absurd (n (c.begin_step.ensures.due.0 c.if-not-begin_step.false));
-  saved = λ d. (λ e. ap (λ (x : Context g.row.A.Denot). x.assignment.last) (c.restart.ensures.same (let n = ap length e in omega (arith, n))), c.restart.ensures.saved);
+  saved = λ d. (λ e. ap (λ (x : Context g.row.A.Denot). x.assignment.last) (c.restart.ensures.same e), c.restart.ensures.saved);
 }
+
+pub returns-clause-kept : goal.returns-clause-kept
+returns-clause-kept g c =
+    let here = (goal.at.returns-clause-kept g c).After-restart in
+    c.restart.ensures.kept
+    ∙ ap (λ a. record c.args.ctx.now { assignment = c.restart.new.ctx.assignment; assumptions = a; trail = c.restart.new.ctx.trail; vsids = c.restart.new.ctx.vsids; schedule = c.begin_step.new.self }) (assumptions-stay g here)
+    ∙ ap (λ p. record c.args.ctx.now { assignment = c.restart.new.ctx.assignment; trail = c.restart.new.ctx.trail; vsids = c.restart.new.ctx.vsids; schedule = p }) (c.begin_step.ensures.plan ∙ ap (λ n. step_begun n c.args.ctx.now.schedule) c.luby_restart_interval_scale-scale.ensures.value)

@@ -8,7 +8,7 @@ pub returns : goal.returns
 returns g c s st =
     let q = rw (← c.self.view_is) at st in
     let e = c.in-Ok.ensures.changed in
-    (with_update c.args.update.now s, (stands-valid _ s q (ap not c.if-self.false), e.0, refl), stands-updated c.self.inside.variables c.self.inside.started c.self.inside.ctx c.config_changed.new.self c.args.update.now _ s e.1 q)
+    (with_update c.args.update.now s, (stands-valid _ s q (ap not c.if-self.false), e.0, refl), stands-updated c.self.inside.variables c.self.inside.started c.self.inside.ctx c.config_changed.new.self c.args.update.now _ _ s e.1 q)
 
 pub returns-in-Err : goal.returns-in-Err
 returns-in-Err g c s st =

@@ -23,13 +23,13 @@ invariant_of-self g c v =
       ready = k.ready;
       count = k.count ∙ ap (λ m. length m.backward) (sym t.solvers);
       decidable = k.decidable;
-      no_assumptions = k.no_assumptions;
+      assumed = λ l h. let b = k.assumed l h in omega (arith, w, b);
     }
 
 pub returns-in-Ok : goal.returns-in-Ok
 returns-in-Ok g c s st =
     let q = rw (← c.self.view_is) at st in
-    let old : Summary = record { tables = c.self.inside.variables; search = view c.self.inside.ctx; sat_state = c.self.inside.ctx.solver_state.sat_state; ledger = s.ledger } in
+    let old : Summary = record { tables = c.self.inside.variables; search = view c.self.inside.ctx; assumed = c.self.inside.ctx.assumptions; sat_state = c.self.inside.ctx.solver_state.sat_state; ledger = s.ledger } in
     let k = c.self.invariant c.if-self.false in
     let f = q.fits (ap not c.if-self.false) in
     let u = c.next_unmapped_user-user.result in
@@ -47,7 +47,7 @@ returns-in-Ok g c s st =
 pub returns-in-Err : goal.returns-in-Err
 returns-in-Err g c s st =
     let q = rw (← c.self.view_is) at st in
-    let old : Summary = record { tables = c.self.inside.variables; search = view c.self.inside.ctx; sat_state = c.self.inside.ctx.solver_state.sat_state; ledger = s.ledger } in
+    let old : Summary = record { tables = c.self.inside.variables; search = view c.self.inside.ctx; assumed = c.self.inside.ctx.assumptions; sat_state = c.self.inside.ctx.solver_state.sat_state; ledger = s.ledger } in
     let f = q.fits (ap not c.if-self.false) in
     let u = c.next_unmapped_user-user.result in
     let e = c.next_unmapped_user-user.ensures in (

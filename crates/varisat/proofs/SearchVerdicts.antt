@@ -1,0 +1,73 @@
+-- A search that comes to a verdict, and its core over names.
+use Rattle.std.proofs.Common.{◌≡◌, ℕ, ◌<◌, Bool, Option, List, ⊎_elim, length, ap, ◌∙◌, subst, refl, arith}
+use Rattle.varisat_theory.specs.Membership.{◌∈◌}
+use Rattle.varisat_theory.specs.Literals.{Literal}
+use Rattle.varisat_theory.specs.Derivations.{Line}
+use Rattle.varisat_theory.specs.Outcomes.{MakesSteps}
+use Rattle.varisat_schedule.specs.CallSteps.{steps_since}
+use Rattle.varisat_names.specs.VarMap.{at}
+use Rattle.varisat_names.specs.Variables.{Tables, AreLinked}
+use Rattle.varisat_names.proofs.Maps.{chain-some, is-some}
+use Rattle.varisat_names.proofs.Tables.{live-inside}
+use Rattle.varisat_search.specs.declared.context.Context.{Context}
+use Rattle.varisat_search.specs.declared.state.SatState.TheVariants as verdict
+use Rattle.varisat_search.specs.AssumptionParts.{AssumptionParts, KeepsAssumptions}
+use Rattle.varisat_search.specs.Contexts.{view, IsReady}
+use Rattle.varisat_search.specs.Decisions.{SameDecidable}
+use Rattle.varisat_search.specs.Seen.{search_of, outcome_of}
+use Rattle.varisat.specs.Searches.{answer_at, FindsVerdict}
+use Rattle.varisat.specs.Accepting.{IsPlain, HasUser}
+use Rattle.varisat.specs.Summaries.{IsKept}
+
+-- where nothing is hidden each solver variable has a name
+pub solver-named : (t : Tables) (v : ℕ) → IsPlain t → AreLinked t → v < length t.solvers.backward → HasUser t v
+solver-named t v plain linked h =
+    let n = plain.nothing_hidden in
+    ⊎_elim
+    (λ e. absurd (n.solvers v h e))
+    (λ (x, e).
+    let inside = live-inside t.kept x (linked.taken x v (linked.solvers.back x v e)) in
+    let used = n.users x (let d = n.count in omega (arith, inside, d)) in
+    (x, chain-some (at t.solvers.backward) (at t.users.backward) v x e ∙ linked.users.there x x used))
+    (is-some (at t.solvers.backward v))
+
+-- a core over names makes no difference to the search
+pub ready-named : {A : Type 0} (c : Context A) (core : List Literal) → IsReady c → IsReady (record c { assumptions = record c.assumptions { user_core = core } })
+ready-named c core r = record {
+  well = r.well;
+  settled = r.settled;
+  propagated = r.propagated;
+  tracks = r.tracks;
+  analysis = r.analysis;
+  flags = r.flags;
+  decidable = r.decidable;
+  assumed = record { reached = r.assumed.reached; listed = r.assumed.listed; decided = r.assumed.decided; first = r.assumed.first; in_range = r.assumed.in_range };
+  assumable = r.assumable;
+}
+
+-- where no core was found the search says it all
+pub found-plainly : {A : Type 0} (t : Tables) (x y : Context A) (found : Option Bool) → IsReady y → length y.assignment.current ≡ length x.assignment.current → SameDecidable (view x) x.vsids (view y) y.vsids → y.solver_state ≡ record x.solver_state { sat_state = y.solver_state.sat_state } → found ≡ answer_at y.solver_state.sat_state →
+    ((lines : List Line) × MakesSteps (steps_since x.schedule y.schedule) (search_of (view x)) (search_of (view y)) (outcome_of (view y) y.assumptions.failed_core y.solver_state.sat_state) lines) → KeepsAssumptions (search_of (view x)) (outcome_of (view y) y.assumptions.failed_core y.solver_state.sat_state) x.assumptions y.assumptions → (y.solver_state.sat_state ≡ verdict.UnsatUnderAssumptions → ⊥) → FindsVerdict t x y found
+found-plainly t x y found ready count decidable state answer steps assumes plain = record {
+  ready = ready;
+  count = count;
+  decidable = decidable;
+  state = state;
+  answer = answer;
+  parts = y.assumptions;
+  steps = steps;
+  assumes = assumes;
+  rest = refl;
+  core = λ e. absurd (plain e);
+}
+
+-- the solver keeps what it did
+pub kept-found : {A : Type 0} (t : Tables) (x y : Context A) (found : Option Bool) → IsKept t x → FindsVerdict t x y found → IsKept t y
+kept-found t x y found k f = record {
+  small = k.small;
+  plain = k.plain;
+  ready = f.ready;
+  count = f.count ∙ k.count;
+  decidable = λ v. ((λ h. let b = (k.decidable v).0 ((f.decidable v).1 h) in let n = f.count in omega (arith, b, n)), (λ h. (f.decidable v).0 ((k.decidable v).1 (let n = f.count in omega (arith, h, n)))));
+  assumed = λ l h. k.assumed l (subst (λ ls. l ∈ ls) (ap (λ (z : AssumptionParts). z.user) f.rest ∙ f.assumes.user) h);
+}

@@ -1,0 +1,70 @@
+use Rattle.std.proofs.Common.{List, Ok, false, sym, ap, ◌∙◌, subst, length, arith}
+use Rattle.varisat_theory.specs.Derivations.{Line}
+use Rattle.varisat_theory.specs.Outcomes.{MakesSteps}
+use Rattle.varisat_schedule.specs.CallSteps.{steps_since}
+use Rattle.varisat_search.specs.declared.context.Context.{Context}
+use Rattle.varisat_search.specs.declared.state.SatState.{SatState}
+use Rattle.varisat_search.specs.AssumptionParts.{KeepsAssumptions}
+use Rattle.varisat_search.specs.Contexts.{view, IsReady}
+use Rattle.varisat_search.specs.Decisions.{SameDecidable}
+use Rattle.varisat_search.specs.Seen.{search_of, outcome_of}
+use Rattle.varisat.specs.Budgets.{told_verdict, CountsSteps}
+use Rattle.varisat.specs.Searches.{answer_at}
+use Rattle.varisat.proofs.FindVerdictSteps.{counts-unnamed, told-refused}
+use Rattle.varisat.proofs.SearchVerdicts.{solver-named, ready-named, found-plainly}
+use Rattle.varisat.proofs.solving.find_named_verdict.Goals as goal
+
+pub name_core-requires : goal.name_core-requires
+name_core-requires g c l h =
+    let old = c.args.ctx.now in
+    let mid = c.find_verdict.new.ctx in
+    let e = c.in_ok-found.ensures {u = tt} in
+    let under = ap (outcome_of (view mid) mid.assumptions.failed_core) c.in-UnsatUnderAssumptions.is in
+    let b = c.requires.kept.ready.assumed.in_range l (e.assumptions.core mid.assumptions.failed_core under l h) in
+    solver-named c.args.variables.now _ c.requires.kept.plain c.prove_linked.ensures (omega (arith, b, c.requires.kept.count))
+
+pub returns-clause-found : goal.returns-clause-found
+returns-clause-found g c =
+    let e = c.in_ok-found.ensures {u = tt} in
+    let mid = c.find_verdict.new.ctx in
+    let new = c.name_core.new.ctx in
+    let same = c.name_core.ensures.kept in
+    record {
+      ready = subst (λ (x : Context g.row.A.Denot). IsReady x) (sym same) (ready-named mid new.assumptions.user_core e.ready);
+      count = ap (λ (x : Context g.row.A.Denot). length x.assignment.current) same ∙ e.count;
+      decidable = subst (λ (x : Context g.row.A.Denot). SameDecidable (view c.args.ctx.now) c.args.ctx.now.vsids (view x) x.vsids) (sym same) e.decidable;
+      state = ap (λ (x : Context g.row.A.Denot). x.solver_state) same ∙ e.state ∙ ap (λ (v : SatState). record c.args.ctx.now.solver_state { sat_state = v }) (sym (ap (λ (x : Context g.row.A.Denot). x.solver_state.sat_state) same));
+      answer = e.found ∙ sym (ap (λ (x : Context g.row.A.Denot). answer_at x.solver_state.sat_state) same);
+      parts = mid.assumptions;
+      steps = subst (λ (x : Context g.row.A.Denot). (lines : List Line) × MakesSteps (steps_since c.args.ctx.now.schedule x.schedule) (search_of (view c.args.ctx.now)) (search_of (view x)) (outcome_of (view x) mid.assumptions.failed_core x.solver_state.sat_state) lines) (sym same) e.steps;
+      assumes = subst (λ (x : Context g.row.A.Denot). KeepsAssumptions (search_of (view c.args.ctx.now)) (outcome_of (view x) mid.assumptions.failed_core x.solver_state.sat_state) c.args.ctx.now.assumptions mid.assumptions) (sym same) e.assumptions;
+      rest = ap (λ (x : Context g.row.A.Denot). x.assumptions) same;
+      core = λ _. (c.in_ok-name_core.ensures {u = tt}).named;
+    }
+
+pub returns-in_default-clause-found : goal.returns-in_default-clause-found
+returns-in_default-clause-found g c =
+    let e = c.in_ok-found.ensures {u = tt} in
+    found-plainly c.args.variables.now c.args.ctx.now c.find_verdict.new.ctx _ e.ready e.count e.decidable e.state e.found e.steps e.assumptions c.in_default.not-UnsatUnderAssumptions
+
+pub returns-in_default-clause-counted : goal.returns-in_default-clause-counted
+returns-in_default-clause-counted g c n h =
+    subst (λ r. CountsSteps n c.args.max_steps c.args.ctx.now.schedule.steps c.find_verdict.new.ctx.schedule.steps (told_verdict r)) c.in_ok-found.was (c.find_verdict.ensures.counted n h)
+
+pub returns-clause-counted : goal.returns-clause-counted
+returns-clause-counted g c n h =
+    let same = ap (λ (x : Context g.row.A.Denot). x.schedule.steps) c.name_core.ensures.kept in
+    subst (λ r. CountsSteps n c.args.max_steps c.args.ctx.now.schedule.steps c.name_core.new.ctx.schedule.steps (told_verdict r)) c.in_ok-found.was
+    (subst (λ k. CountsSteps n c.args.max_steps c.args.ctx.now.schedule.steps k (told_verdict c.find_verdict.result)) (sym same) (c.find_verdict.ensures.counted n h))
+
+pub returns-in_err-name_core-clause-counted : goal.returns-in_err-name_core-clause-counted
+returns-in_err-name_core-clause-counted g c n h =
+    let mid = c.find_verdict.new.ctx in
+    let same = ap (λ (x : Context g.row.A.Denot). x.schedule.steps) c.name_core.ensures.kept in
+    let e = c.in_ok-found.ensures {u = tt} in
+    let answer = c.in_ok-found.was ∙ ap Ok (e.found ∙ ap answer_at c.in-UnsatUnderAssumptions.is) in
+    let (x, told) = told-refused c.from_residual-in_err-name_core.result c.from_residual-in_err-name_core.ensures.0 in
+    subst (λ k. CountsSteps n c.args.max_steps c.args.ctx.now.schedule.steps k (told_verdict c.from_residual-in_err-name_core.result)) (sym same)
+    (subst (λ r. CountsSteps n c.args.max_steps c.args.ctx.now.schedule.steps mid.schedule.steps r) (sym told)
+    (counts-unnamed n c.args.max_steps c.args.ctx.now.schedule.steps mid.schedule.steps false x
+    (subst (λ r. CountsSteps n c.args.max_steps c.args.ctx.now.schedule.steps mid.schedule.steps (told_verdict r)) answer (c.find_verdict.ensures.counted n h))))

@@ -1,0 +1,49 @@
+-- The contexts of a collection.
+use Rattle.std.proofs.Common.{◌≡◌, ◌*◌, Bool, false, List, [], length, replicate, sym, ap, ◌∙◌, subst}
+use Rattle.varisat_theory.specs.Literals.{Literal}
+use Rattle.varisat_clause.specs.Stored.{StoredClause}
+use Rattle.varisat_clause.specs.Stores.{Store, clauses_of}
+use Rattle.varisat_clause.specs.Databases.{Database, Tracks}
+use Rattle.varisat_clause.specs.Collected.{live_of, live_clauses, packed, IsCollected}
+use Rattle.varisat_clause.proofs.StoreSound.{sound-is}
+use Rattle.varisat_clause.proofs.LiveStore.{live-∈}
+use Rattle.varisat_prop.specs.View.{View, WellFormed, LevelsSettled}
+use Rattle.varisat_prop.specs.Watches.{list_of, IsPropagated}
+use Rattle.varisat_search.specs.declared.context.Context.{Context}
+use Rattle.varisat_search.specs.Contexts.{view, IsReady}
+use Rattle.varisat_search.specs.Decisions.{CanDecide}
+use Rattle.varisat_search.specs.Collections.{repointed_each, Repacks}
+use Rattle.varisat_search.proofs.AssumptionContexts.{unmoved-assumed, unmoved-assumable}
+use Rattle.varisat_search.proofs.ClausesExchanged.{exchanged-well, exchanged-settled, exchanged-off, exchanged-decide}
+use Rattle.varisat_search.proofs.PackedClauses.{packed-live, packed-below}
+use Rattle.varisat_search.proofs.RepackedView.{view-repacks, repacks-may}
+
+-- the clauses of the new store, none of which is deleted
+new-live : (old new : Store) (d : Database) → IsCollected new d (clauses_of old) → live_clauses new ≡ packed 0 (live_clauses old)
+new-live old new d h = ap live_of h.store.clauses ∙ packed-live 0 (live_clauses old) (λ k i. (live-∈ (clauses_of old) k i).1)
+
+pub context-repacks : {A : Type 0} (x z : Context A) → IsReady x → IsCollected z.clause_alloc z.clause_db (clauses_of x.clause_alloc) → (view z).nodes ≡ repointed_each (view x).values (live_clauses x.clause_alloc) (clauses_of z.clause_alloc) (view x).nodes → view z ≡ record (view x) { sound = (view z).sound; clauses = (view z).clauses; nodes = (view z).nodes } → Repacks (view x) (view z)
+context-repacks x z r h e rest =
+    let live = new-live x.clause_alloc z.clause_alloc z.clause_db h in
+    let same : clauses_of z.clause_alloc ≡ live_clauses z.clause_alloc = h.store.clauses ∙ sym live in
+    view-repacks (view x) (view z) r.well (packed-below x.clause_alloc r.tracks.sound) live
+    (e ∙ ap (λ (ks : List StoredClause). repointed_each (view x).values (live_clauses x.clause_alloc) ks (view x).nodes) same)
+    (rest ∙ ap (λ (o : Bool). record (view x) { sound = o; clauses = (view z).clauses; nodes = (view z).nodes }) (sound-is z.clause_alloc h.tracks.sound ∙ sym (sound-is x.clause_alloc r.tracks.sound)))
+
+-- it stays ready, with the watch lists off
+pub repacks-ready : {A : Type 0} (x z : Context A) → IsReady x → Repacks (view x) (view z) → Tracks z.clause_db z.clause_alloc → length z.watchlists.lists ≡ length x.watchlists.lists → ((l : Literal) → list_of z.watchlists l ≡ []) → z.watchlists.enabled ≡ false → z.analyze_conflict.var_count ≡ x.analyze_conflict.var_count → z.tmp_flags.flags.items ≡ x.tmp_flags.flags.items → z.vsids ≡ x.vsids → z.assumptions ≡ x.assumptions → IsReady z
+repacks-ready x z r d t n e o a f v h =
+    let s = view x in
+    let m = repacks-may s (view z) r.well d in
+    let c = ap (λ (y : View). length y.values) d.rest in
+    record {
+      well = subst WellFormed (sym d.rest) (exchanged-well s (view z).clauses (view z).nodes r.well m);
+      settled = subst LevelsSettled (sym d.rest) (exchanged-settled s (view z).clauses (view z).nodes r.well m r.settled);
+      propagated = subst (IsPropagated z.watchlists) (sym d.rest) (exchanged-off s (view z).clauses (view z).nodes r.well m x.watchlists z.watchlists r.propagated n e o);
+      tracks = t;
+      analysis = a ∙ r.analysis ∙ sym c;
+      flags = f ∙ r.flags ∙ ap (λ k. replicate (2 * k) false) (sym c);
+      decidable = subst (CanDecide (view z)) (sym v) (subst (λ y. CanDecide y x.vsids) (sym d.rest) (exchanged-decide s (view z).clauses (view z).nodes r.well m x.vsids r.decidable));
+      assumed = unmoved-assumed x z h (ap (λ (y : View). y.values) d.rest) r.well (ap (λ (y : View). y.trail) d.rest) (ap (λ (y : View). y.decisions) d.rest) r.assumed;
+      assumable = unmoved-assumable x z h (ap (λ (y : View). y.values) d.rest) v r.assumable;
+    }

@@ -1,0 +1,35 @@
+-- What becomes of Mid clauses in a reduction: only headers change.
+use Rattle.std.proofs.Common.{◌≡◌, ℕ, Bool, true, false, not, ◌&&◌, ⊎_elim, sym, ap, ◌∙◌, subst}
+use Rattle.varisat_clause.specs.declared.header.Tier.{Tier}
+use Rattle.varisat_clause.specs.declared.header.Tier.TheVariants as tier
+use Rattle.varisat_clause.specs.Tiers.{is_tier}
+use Rattle.varisat_clause.specs.Stored.{StoredClause}
+use Rattle.varisat_clause.specs.Stores.{Store, clauses_of, Holds}
+use Rattle.varisat_clause.specs.Databases.{is_live_in}
+use Rattle.varisat_clause.specs.Collected.{live_of, live_clauses}
+use Rattle.varisat_clause.specs.Reductions.{mid_reduced, mids_reduced}
+use Rattle.varisat_clause.proofs.DatabaseTracks.{same-tier, true-or-false}
+use Rattle.varisat_clause.proofs.MidReduction.{mid-other, mid-active, mid-moved}
+use Rattle.varisat_search.specs.HeaderChanges.{SameButHeaders}
+use Rattle.varisat_search.proofs.HeaderChanges.{held_clause, live-map}
+
+second : (a b : Bool) → (a && b) ≡ true → b ≡ true
+second true b e = e
+second false b e = absurd (let z : false ≡ true = e in cc)
+
+-- a Mid clause is learned, and stays so
+mid-learned : (k : StoredClause) → is_live_in tier.Mid k ≡ true → is_tier k.header.tier tier.Irred ≡ false
+mid-learned k e = ap (λ (t : Tier). is_tier t tier.Irred) (sym (same-tier tier.Mid k.header.tier (second (not k.header.deleted) (is_tier tier.Mid k.header.tier) e)))
+
+mid-held : (k : StoredClause) → held_clause (mid_reduced k) ≡ held_clause k
+mid-held k =
+    ⊎_elim
+    (λ e. ⊎_elim
+    (λ f. ap held_clause (mid-active k e f))
+    (λ f. ap held_clause (mid-moved k e f) ∙ ap (λ (b : Bool). record { placed = record { place = k.place; kept = record { clause = k.literals; learned = not b } }; deleted = k.header.deleted }) (sym (mid-learned k e)))
+    (true-or-false k.header.active))
+    (λ e. ap held_clause (mid-other k e))
+    (true-or-false (is_live_in tier.Mid k))
+
+pub mids-headers : (s t : Store) (size : ℕ) → Holds t size (mids_reduced (clauses_of s)) → SameButHeaders (live_clauses s) (live_clauses t)
+mids-headers s t size h = subst (λ ks. SameButHeaders (live_clauses s) (live_of ks)) (sym h.clauses) (live-map mid_reduced (clauses_of s) mid-held)

@@ -1,0 +1,11 @@
+use Rattle.std.proofs.Common.{List, ◌∙◌, subst}
+use Rattle.varisat_theory.specs.Membership.{◌∈◌}
+use Rattle.varisat_theory.specs.Literals.{Literal}
+use Rattle.varisat_search.specs.Contexts.{view}
+use Rattle.varisat_search.proofs.AssignedLevels.{can-count}
+use Rattle.varisat_search.proofs.assess.assess_learned.Goals as goal
+
+pub assess_learned_clause-requires : goal.assess_learned_clause-requires
+assess_learned_clause-requires g c =
+    can-count (view c.args.ctx.now) c.requires.well c.deref_mut.result.now c.clause.result.now (c.deref_mut.ensures.value ∙ c.requires.clear)
+    (λ l i. c.requires.assigned l (subst (λ (ls : List Literal). l ∈ ls) c.clause.ensures i))

@@ -1,0 +1,46 @@
+use Rattle.std.proofs.Common.{◌≡◌, length, sym, ap, ◌∙◌, subst}
+use Rattle.varisat_theory.specs.Propagation.{IsComplete}
+use Rattle.varisat_prop.specs.View.{View, kept, Grows}
+use Rattle.varisat_prop.proofs.ViewGrowth.{grows-refl}
+use Rattle.varisat_search.specs.declared.context.Context.{Context}
+use Rattle.varisat_search.specs.AssumptionParts.{ComesToNext}
+use Rattle.varisat_search.specs.Contexts.{view}
+use Rattle.varisat_search.proofs.DecidedLiterals.{literal-grows, literal-ready, end-ready, made-or-not}
+use Rattle.varisat_search.proofs.cdcl.decide.Goals as goal
+
+pub returns-in-Enqueued-clause-grows : goal.returns-in-Enqueued-clause-grows
+returns-in-Enqueued-clause-grows g c =
+    let s = view c.args.ctx.now in
+    let x = c.enqueue_assumption.new.ctx in
+    let (l, free, e) = subst (ComesToNext s (view x) x.assumptions) c.in-Enqueued.is c.in_ok-enqueue_assumption.ensures.next in
+    literal-grows s (view x) c.requires.ready.well l free e
+
+pub returns-in-Conflict-clause-grows : goal.returns-in-Conflict-clause-grows
+returns-in-Conflict-clause-grows g c =
+    let s = view c.args.ctx.now in
+    let x = c.enqueue_assumption.new.ctx in
+    let n = subst (ComesToNext s (view x) x.assumptions) c.in-Conflict.is c.in_ok-enqueue_assumption.ensures.next in
+    subst (Grows s) (sym n.0) (grows-refl s)
+
+pub returns-clause-ready : goal.returns-clause-ready
+returns-clause-ready g c =
+    let s = view c.args.ctx.now in
+    let x = c.enqueue_assumption.new.ctx in
+    let z = c.make_decision.new.ctx in
+    let r = c.in_ok-enqueue_assumption.ensures.ready in
+    let n = subst (ComesToNext s (view x) x.assumptions) c.in-Done.is c.in_ok-enqueue_assumption.ensures.next in
+    let m = c.in_ok-made.ensures in
+    made-or-not c.in_ok-made.made _ _ _ m.decided
+    (λ p. literal-ready x z r n.1 m.kept m.decidable m.same (subst (λ (t : View). IsComplete (kept t) t.trail) (sym n.0) c.requires.complete) (subst (λ (t : View). t.queue_head ≡ length t.trail) (sym n.0) c.requires.propagated) p.0 p.1 p.2)
+    (λ p. end-ready x z r n.1 m.kept m.decidable m.same p.0)
+
+pub returns-clause-grows : goal.returns-clause-grows
+returns-clause-grows g c =
+    let s = view c.args.ctx.now in
+    let x = c.enqueue_assumption.new.ctx in
+    let z = c.make_decision.new.ctx in
+    let r = c.in_ok-enqueue_assumption.ensures.ready in
+    let n = subst (ComesToNext s (view x) x.assumptions) c.in-Done.is c.in_ok-enqueue_assumption.ensures.next in
+    made-or-not c.in_ok-made.made _ _ _ c.in_ok-made.ensures.decided
+    (λ p. subst (λ (t : View). Grows t (view z)) n.0 (literal-grows (view x) (view z) r.well p.0 p.1 p.2))
+    (λ p. subst (Grows s) (sym (ap (λ (y : Context g.row.A.Denot). view y) p.0 ∙ n.0)) (grows-refl s))

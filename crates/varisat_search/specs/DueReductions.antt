@@ -1,0 +1,60 @@
+-- What the reductions and the collection that are due at a step do to a context.
+use Rattle.std.specs.Prelude.{◌≡◌, ◌≢◌, ◌*◌, ◌%◌, ◌<◌, ◌≤◌, List, length}
+use Rattle.varisat_theory.specs.Derivations.{Line}
+use Rattle.varisat_theory.specs.Outcomes.{Proves}
+use Rattle.varisat_clause.specs.Stores.{Store, clauses_of, Holds}
+use Rattle.varisat_clause.specs.Collected.{IsCollected}
+use Rattle.varisat_clause.specs.Reductions.{ReducesLocals, mids_reduced}
+use Rattle.varisat_search.specs.declared.context.Context.{Context}
+use Rattle.varisat_search.specs.Contexts.{view, IsReady}
+use Rattle.varisat_search.specs.Decisions.{SameDecidable}
+use Rattle.varisat_search.specs.Seen.{search_of}
+use Rattle.varisat_search.specs.HeaderChanges.{ChangesHeaders}
+use Rattle.varisat_search.specs.Reductions.{reasons_marked, Discards}
+use Rattle.varisat_search.specs.Collections.{Repacks}
+use Rattle.varisat_search.specs.Progress.{StepsTo}
+use Rattle.varisat_search.specs.Restarts.{KeepsAssignment, RestartsIfDue}
+
+-- At each step whose number is a multiple of the interval half of the Local clauses go, but for reasons, and at others
+-- nothing changes.
+pub record ReducesLocalsIfDue {A : Type 0} (x y : Context A) : Type 0 where
+  pub reduced : x.schedule.steps % x.solver_config.reduce_locals_interval ≡ 0 → (marked : Store) × Holds marked (length x.clause_alloc.words) (reasons_marked x.assignment.current x.impl_graph.nodes.items (clauses_of x.clause_alloc)) × ReducesLocals marked y.clause_alloc
+  pub discards : x.schedule.steps % x.solver_config.reduce_locals_interval ≡ 0 → Discards (view x) (view y)
+  pub stays : x.schedule.steps % x.solver_config.reduce_locals_interval ≢ 0 → y ≡ x
+
+-- At each step whose number is a multiple of the interval Mid clauses become Local or lose their flag, and at others
+-- nothing changes.
+pub record ReducesMidsIfDue {A : Type 0} (x y : Context A) : Type 0 where
+  pub reduced : x.schedule.steps % x.solver_config.reduce_mids_interval ≡ 0 → Holds y.clause_alloc (length x.clause_alloc.words) (mids_reduced (clauses_of x.clause_alloc))
+  pub headers : x.schedule.steps % x.solver_config.reduce_mids_interval ≡ 0 → ChangesHeaders (view x) (view y)
+  pub stays : x.schedule.steps % x.solver_config.reduce_mids_interval ≢ 0 → y ≡ x
+
+-- Where more than half of the words are garbage it is collected, and else nothing changes.
+pub record CollectsIfDue {A : Type 0} (x y : Context A) : Type 0 where
+  pub collected : length x.clause_alloc.words < 2 * x.clause_db.garbage → IsCollected y.clause_alloc y.clause_db (clauses_of x.clause_alloc)
+  pub repacks : length x.clause_alloc.words < 2 * x.clause_db.garbage → Repacks (view x) (view y)
+  pub stays : 2 * x.clause_db.garbage ≤ length x.clause_alloc.words → y ≡ x
+
+-- the reductions in turn, and then the collection
+pub record ReducesIfDue {A : Type 0} (x z : Context A) : Type 0 where
+  pub after_locals : Context A
+  pub after_mids : Context A
+  pub locals : ReducesLocalsIfDue x after_locals
+  pub mids : ReducesMidsIfDue after_locals after_mids
+  pub collected : CollectsIfDue after_mids z
+
+-- The search can go on as it was, and what goes from the proof goes by lines.
+pub record KeepsSearch {A : Type 0} (x y : Context A) : Type 0 where
+  pub ready : IsReady y
+  pub assigned : KeepsAssignment (view x) (view y)
+  pub proves : (lines : List Line) × Proves 0 (search_of (view x)) (search_of (view y)) lines
+  pub decidable : SameDecidable (view x) x.vsids (view y) y.vsids
+
+-- A step begins with a restart down to the last assumption, where that is due; then come the reductions and the collection; then lines lead from what is left to the search after the step.
+pub record GoesBySchedule {A : Type 0} (x z : Context A) : Type 0 where
+  pub begun : Context A
+  pub reduced : Context A
+  pub restarts : RestartsIfDue x.schedule x.assumptions.levels (view x) (view begun)
+  pub begins : begun ≡ record x { assignment = begun.assignment; trail = begun.trail; vsids = begun.vsids; schedule = begun.schedule }
+  pub reduces : ReducesIfDue begun reduced
+  pub steps : StepsTo reduced z

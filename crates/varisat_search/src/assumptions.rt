@@ -1,0 +1,308 @@
+//! Assumptions: literals that are taken as true. They are decided first, one level each.
+ghost use Rattle.std.specs.Prelude.{◌≡◌, ◌<◌, ◌*◌, [], length, replicate, slice_get, false, OnOk, OnErr, IfOk};
+ghost use Rattle.std.specs.List.{swap_remove};
+ghost use Rattle.varisat_theory.specs.Membership.{◌∈◌};
+ghost use Rattle.varisat_theory.specs.Literals.{opposite};
+ghost use Rattle.varisat_theory.specs.Propagation.{IsComplete};
+ghost use Rattle.varisat_prop.specs.Parts.{IsMadeTrue};
+ghost use Rattle.varisat_prop.specs.Looks.{IsInRange};
+ghost use Rattle.varisat_prop.specs.View.{View, WellFormed, kept};
+ghost use Rattle.varisat_search.specs.Learned.{Shows};
+ghost use Rattle.varisat_search.specs.FailedCores.{ListsFailedCore};
+ghost use Rattle.varisat_search.specs.Contexts.{view, KeepsSchedule, IsReady};
+ghost use Rattle.varisat_search.specs.Steps.{SavesAll};
+ghost use Rattle.varisat_search.specs.Decisions.{AreDecidable, SameDecidable};
+ghost use Rattle.varisat_search.specs.Seen.{search_of};
+ghost use Rattle.varisat_search.specs.AssumptionParts.{no_assumptions, newly_assumed, with_levels_to, assumed_state, TakesOutImplied, TakesOutTrue, IsNextAssumption, ComesToNext};
+
+use crate::context::Context;
+use crate::failed_core::analyze_assumption_conflict;
+use crate::levels::full_restart;
+use crate::tmp::TmpFlags;
+use std::alloc::{AllocError, Allocator};
+use std::marker::Model;
+use varisat_literals::Lit;
+use varisat_prop::clause::ClauseAlloc;
+use varisat_prop::prop::{Assignment, ImplGraph, Reason, Trail, enqueue_assignment};
+
+/// The assumptions of a search, and for how many of them there is a level.
+#[derive(Drop)]
+pub struct Assumptions<A: Allocator + Copy> {
+    /// Those that were not found to be implied by the clauses and the others.
+    working: Vec<Lit, A>,
+    levels: usize,
+    failed_core: Vec<Lit, A>,
+    /// All of them, as the user names them.
+    user: Vec<Lit, A>,
+    user_core: Vec<Lit, A>,
+}
+
+impl<A: Allocator + Copy> Model for Assumptions<A> {
+    ghost use Rattle.varisat_search.specs.AssumptionParts.{AssumptionParts};
+
+    ghost Value = { AssumptionParts };
+
+    ghost view = { λ a. record { working = a.working.items; levels = a.levels; failed_core = a.failed_core.items; user = a.user.items; user_core = a.user_core.items } };
+}
+
+impl<A: Allocator + Copy> Assumptions<A> {
+    /// No assumptions. It takes no memory.
+    pub fn new_in(alloc: A) -> Assumptions<A>
+        ensures { result ≡ no_assumptions }
+    {
+        Assumptions {
+            working: Vec::new(alloc),
+            levels: 0,
+            failed_core: Vec::new(alloc),
+            user: Vec::new(alloc),
+            user_core: Vec::new(alloc),
+        }
+    }
+
+    /// The assumptions that were not found to be implied by the clauses and the others.
+    pub fn assumptions(&self) -> &[Lit]
+        ensures { result.now ≡ self.now.working }
+    {
+        self.working.as_slice()
+    }
+
+    /// How many levels there are for assumptions. They are the first ones.
+    pub fn assumption_levels(&self) -> usize
+        ensures { result ≡ self.now.levels }
+    {
+        self.levels
+    }
+
+    /// The core that was found last: some of the assumptions, which can't be true together. Empty if none was found.
+    pub fn failed_core(&self) -> &[Lit]
+        ensures { result.now ≡ self.now.failed_core }
+    {
+        self.failed_core.as_slice()
+    }
+
+    /// The assumptions as they were given, and as the user names them.
+    pub fn user_assumptions(&self) -> &[Lit]
+        ensures { result.now ≡ self.now.user }
+    {
+        self.user.as_slice()
+    }
+
+    /// The core as the user names it, where it was set.
+    pub fn user_failed_core(&self) -> &[Lit]
+        ensures { result.now ≡ self.now.user_core }
+    {
+        self.user_core.as_slice()
+    }
+
+    /// Keeps a core as the user names it. A refused growth changes nothing.
+    pub fn set_user_failed_core(&mut self, core: &[Lit]) -> Result<(), AllocError>
+        ensures set { OnOk result (self.new ≡ record self.old { user_core = core.now }) }
+        ensures refused { OnErr result (self.new ≡ self.old) }
+    {
+        let core = copied(*self.user_core.allocator(), core)?;
+        self.user_core = core;
+        Ok(())
+    }
+
+    /// Notes that no level is left.
+    pub fn full_restart(&mut self)
+        ensures { self.new ≡ record self.old { levels = 0 } }
+    {
+        self.levels = 0;
+    }
+
+    /// Notes that no levels are left but the first ones.
+    pub fn lower_levels(&mut self, level: usize)
+        ensures { self.new ≡ with_levels_to level self.old }
+    {
+        if level < self.levels {
+            self.levels = level;
+        }
+    }
+
+    /// Replaces the assumptions, none of which has a level yet.
+    fn set(&mut self, user: Vec<Lit, A>, working: Vec<Lit, A>)
+        ensures { self.new ≡ newly_assumed user.items working.items }
+    {
+        self.working = working;
+        self.levels = 0;
+        self.failed_core.clear();
+        self.user = user;
+        self.user_core.clear();
+    }
+
+    /// The assumption that is decided at the level after this one, if there is one.
+    fn assumption(&self, level: usize) -> Option<Lit>
+        ensures { result ≡ slice_get self.now.working level }
+    {
+        self.working.get(level).copied()
+    }
+
+    /// Takes an assumption out of the list, in which the last one takes its place.
+    fn take_out(&mut self, place: usize)
+        requires { place < length self.old.working }
+        ensures { self.new ≡ record self.old { working = swap_remove self.old.working place 0 } }
+    {
+        let _ = self.working.swap_remove(place);
+    }
+
+    /// Notes how many levels there are for assumptions.
+    fn set_levels(&mut self, levels: usize)
+        ensures { self.new ≡ record self.old { levels = levels } }
+    {
+        self.levels = levels;
+    }
+
+    /// Finds a core that has the assumption, which is false.
+    fn find_core(
+        &mut self,
+        flags: &mut TmpFlags<A>,
+        clause_alloc: &ClauseAlloc<A>,
+        impl_graph: &ImplGraph<A>,
+        trail: &Trail<A>,
+        failed: Lit,
+    ) -> Result<(), AllocError>
+        ghost s: { View }
+        requires shows { Shows s clause_alloc.now impl_graph.now.nodes.items trail.now }
+        requires well { WellFormed s }
+        requires false_now { opposite failed ∈ s.trail }
+        requires flags { flags.old.flags.items ≡ replicate (2 * length s.values) false }
+        ensures kept { self.new ≡ record self.old { failed_core = self.new.failed_core } }
+        ensures flags { flags.new.flags.items ≡ flags.old.flags.items }
+        ensures core { OnOk result (ListsFailedCore s failed self.new.failed_core) }
+    {
+        let core = &mut self.failed_core;
+        analyze_assumption_conflict(core, flags, clause_alloc, impl_graph, trail, failed)?;
+        Ok(())
+    }
+}
+
+/// A copy of the list.
+fn copied<A: Allocator + Copy>(alloc: A, lits: &[Lit]) -> Result<Vec<Lit, A>, AllocError>
+    ensures { IfOk result (λ copy. copy.items ≡ lits.now) }
+{
+    let mut copy = Vec::new(alloc);
+    copy.extend_from_slice(lits)?;
+    Ok(copy)
+}
+
+/// What comes of the next assumption.
+#[derive(Clone, Copy, Debug, PartialEq, Eq)]
+pub enum EnqueueAssumption {
+    /// Each assumption has a level, or is implied.
+    Done,
+    /// It was decided.
+    Enqueued,
+    /// It is false, and a core was found.
+    Conflict,
+}
+
+/// Replaces the assumptions, which `user` lists as the user names them, and undoes all decisions. The verdict is known no
+/// more, unless it was Unsat. A refused growth changes nothing.
+pub fn set_assumptions<A: Allocator + Copy>(
+    ctx: &mut Context<A>,
+    user: &[Lit],
+    lits: &[Lit],
+) -> Result<(), AllocError>
+    requires ready { IsReady ctx.old }
+    requires in_range { IsInRange ctx.old.assignment.current lits.now }
+    requires decidable { AreDecidable (view ctx.old) ctx.old.vsids lits.now }
+    ensures refused { OnErr result (ctx.new ≡ ctx.old) }
+    ensures ready { OnOk result (IsReady ctx.new) }
+    ensures assumed { OnOk result (ctx.new.assumptions ≡ newly_assumed user.now lits.now) }
+    ensures seen { OnOk result (search_of (view ctx.new) ≡ search_of (view ctx.old)) }
+    ensures decidable { OnOk result (SameDecidable (view ctx.old) ctx.old.vsids (view ctx.new) ctx.new.vsids) }
+    ensures decay { OnOk result (ctx.new.vsids.decay ≡ ctx.old.vsids.decay) }
+    ensures last { OnOk result (SavesAll (view ctx.old) ctx.old.assignment.last ctx.new.assignment.last) }
+    ensures state { OnOk result (ctx.new.solver_state ≡ record ctx.old.solver_state { sat_state = assumed_state ctx.old.solver_state.sat_state }) }
+    ensures count { OnOk result (length ctx.new.assignment.current ≡ length ctx.old.assignment.current) }
+    ensures units { OnOk result (ctx.new.trail.units_removed ≡ ctx.old.trail.units_removed) }
+    ensures undecided { OnOk result (ctx.new.trail.decisions ≡ []) }
+    ensures schedule { KeepsSchedule ctx.old ctx.new }
+{
+    let alloc = *ctx.assumptions.working.allocator();
+    let user = copied(alloc, user)?;
+    let working = copied(alloc, lits)?;
+    full_restart(ctx);
+    ctx.assumptions.set(user, working);
+    ctx.solver_state.assume();
+    Ok(())
+}
+
+/// Takes the level's assumption out as long as it is true, and returns the one that isn't, if any is left.
+fn next_assumption<A: Allocator + Copy>(
+    assumptions: &mut Assumptions<A>,
+    assignment: &Assignment<A>,
+    level: usize,
+) -> Option<Lit>
+    requires in_range { IsInRange assignment.now.current assumptions.old.working }
+    ensures taken { TakesOutTrue assignment.now.current level assumptions.old assumptions.new }
+    ensures next { IsNextAssumption assignment.now.current level assumptions.new.working result }
+{
+    'implied: while let Some(lit) = assumptions.assumption(level) {
+        if !assignment.lit_is_true(lit) {
+            return Some(lit);
+        }
+        assumptions.take_out(level);
+    }
+    None
+}
+
+/// Finds a core that has the assumption, which is false.
+fn find_failed_core<A: Allocator + Copy>(
+    ctx: &mut Context<A>,
+    failed: Lit,
+) -> Result<(), AllocError>
+    ghost s: { View }
+    requires ready { IsReady ctx.old }
+    requires false_now { IsMadeTrue ctx.old.assignment.current (opposite failed) }
+    requires seen { s ≡ view ctx.old }
+    ensures kept { ctx.new ≡ record ctx.old { assumptions = record ctx.old.assumptions { failed_core = ctx.new.assumptions.failed_core }; tmp_flags = ctx.new.tmp_flags } }
+    ensures flags { ctx.new.tmp_flags.flags.items ≡ ctx.old.tmp_flags.flags.items }
+    ensures core { OnOk result (ListsFailedCore (view ctx.old) failed ctx.new.assumptions.failed_core) }
+{
+    ctx.assumptions.find_core(
+        &mut ctx.tmp_flags,
+        &ctx.clause_alloc,
+        &ctx.impl_graph,
+        &ctx.trail,
+        failed,
+    )?;
+    Ok(())
+}
+
+/// Decides the next assumption. One that is true already is taken out: the clauses and the earlier ones imply it. Where
+/// one is false a core is found. Propagation has come to its end before.
+pub fn enqueue_assumption<A: Allocator + Copy>(
+    ctx: &mut Context<A>,
+) -> Result<EnqueueAssumption, AllocError>
+    requires ready { IsReady ctx.old }
+    requires complete { IsComplete (kept (view ctx.old)) ctx.old.trail.literals }
+    requires propagated { ctx.old.trail.queue_head ≡ length ctx.old.trail.literals }
+    ensures ready { OnOk result (IsReady ctx.new) }
+    ensures taken { OnOk result (TakesOutImplied (view ctx.old) ctx.old.assumptions ctx.new.assumptions) }
+    ensures next { IfOk result (λ next. ComesToNext (view ctx.old) (view ctx.new) ctx.new.assumptions next) }
+    ensures same { OnOk result (SameDecidable (view ctx.old) ctx.old.vsids (view ctx.new) ctx.new.vsids) }
+    ensures last { OnOk result (ctx.new.assignment.last ≡ ctx.old.assignment.last) }
+    ensures units { OnOk result (ctx.new.trail.units_removed ≡ ctx.old.trail.units_removed) }
+    ensures kept { ctx.new ≡ record ctx.old { assignment = ctx.new.assignment; assumptions = ctx.new.assumptions; impl_graph = ctx.new.impl_graph; tmp_flags = ctx.new.tmp_flags; trail = ctx.new.trail } }
+{
+    let level = ctx.trail.current_level();
+    let Some(lit) = next_assumption(&mut ctx.assumptions, &ctx.assignment, level) else {
+        return Ok(EnqueueAssumption::Done);
+    };
+    if ctx.assignment.lit_is_false(lit) {
+        find_failed_core(ctx, lit)?;
+        return Ok(EnqueueAssumption::Conflict);
+    }
+    ctx.trail.new_decision_level()?;
+    enqueue_assignment(
+        &mut ctx.assignment,
+        &mut ctx.impl_graph,
+        &mut ctx.trail,
+        lit,
+        Reason::Unit,
+    )?;
+    ctx.assumptions.set_levels(ctx.trail.current_level());
+    Ok(EnqueueAssumption::Enqueued)
+}

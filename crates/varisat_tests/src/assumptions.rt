@@ -1,0 +1,166 @@
+//! Assumptions and failed cores: the exact cores of small formulas, and random lists beside new solvers that have them as
+//! unit clauses.
+use std::alloc::Global;
+use varisat::solver::{Solver, SolverError};
+use varisat_formula::formula::{Lit, Var};
+use varisat_formula::io::MemoryTarget;
+use varisat_literals::lits;
+use varisat_names::config::SolverConfigUpdate;
+
+// A solver that writes no proof.
+type TestSolver = Solver<MemoryTarget<Global>, Global>;
+
+fn new_solver(alloc: Global) -> TestSolver {
+    Solver::new_in(alloc)
+}
+
+// Whether the solver tells a core of exactly these literals, in whatever order.
+fn has_core(solver: &TestSolver, wanted: &[Lit]) -> bool {
+    match solver.failed_core() {
+        Some(core) => { (core.len() == wanted.len()) & wanted.iter().all(|lit| core.contains(lit)) }
+        None => false,
+    }
+}
+
+// Whether the clauses have no model under the assumptions, and this core.
+fn fails(solver: &mut TestSolver, assumed: &[Lit], wanted: &[Lit]) -> Result<bool, SolverError> {
+    solver.assume(assumed)?;
+    let is_satisfiable = solver.solve()?;
+    Ok(!is_satisfiable & has_core(solver, wanted))
+}
+
+// The cores of small formulas, which are exact.
+fn cores(alloc: Global) -> Result<[bool; 5], SolverError> {
+    let mut solver = new_solver(alloc);
+    let opposite = fails(&mut solver, &lits![1, -1], &lits![1, -1])?;
+    solver.add_clause(&lits![-2])?;
+    let unit = fails(&mut solver, &lits![2], &lits![2])?;
+    let mut second = new_solver(alloc);
+    second.add_clause(&lits![-1, 2])?;
+    let implied = fails(&mut second, &lits![1, -2], &lits![1, -2])?;
+    let mut third = new_solver(alloc);
+    third.add_clause(&lits![-1, -2, -3])?;
+    let all = fails(&mut third, &lits![1, 2, 3], &lits![1, 2, 3])?;
+    third.add_clause(&lits![-1, 4])?;
+    let still = has_core(&third, &lits![1, 2, 3]);
+    Ok([opposite, unit, implied, all, still])
+}
+
+#[test]
+fn cores_are_exact(rt: HostRuntime) {
+    assert!(rt; matches!(cores(rt.alloc()), Ok(outcomes) if outcomes == [true; 5]));
+}
+
+// Numbers of a linear congruential generator.
+#[derive(Drop)]
+struct Numbers(u64);
+
+impl Numbers {
+    fn next(&mut self) -> usize {
+        self.0 = self
+            .0
+            .wrapping_mul(6364136223846793005)
+            .wrapping_add(1442695040888963407);
+        (self.0 >> 33) as usize
+    }
+
+    // A literal of one of 60 variables.
+    fn literal(&mut self) -> Lit {
+        let var = Var::from_index(self.next() % 60);
+        var.lit(self.next() % 2 == 0)
+    }
+}
+
+// Adds 230 clauses of three literals.
+fn add_clauses(solver: &mut TestSolver) -> Result<(), SolverError> {
+    let mut numbers = Numbers(7);
+    for _ in 0..230 {
+        let clause = [numbers.literal(), numbers.literal(), numbers.literal()];
+        solver.add_clause(&clause)?;
+    }
+    Ok(())
+}
+
+// Whether the clauses have a model in which the literals are true, by a solver that has them as unit clauses.
+fn is_satisfiable_with(alloc: Global, literals: &[Lit]) -> Result<bool, SolverError> {
+    let mut solver = new_solver(alloc);
+    add_clauses(&mut solver)?;
+    for literal in literals {
+        solver.add_clause(&[*literal])?;
+    }
+    solver.solve()
+}
+
+// Whether the solver tells a core of some of the literals, and finds it false again as assumptions.
+fn fails_again(
+    alloc: Global,
+    solver: &mut TestSolver,
+    literals: &[Lit],
+) -> Result<bool, SolverError> {
+    let core = match solver.failed_core() {
+        Some(core) => Vec::from_slice(alloc, core),
+        None => return Ok(false),
+    };
+    let Ok(core) = core else {
+        return Err(SolverError::OutOfMemory);
+    };
+    let is_part = core.iter().all(|lit| literals.contains(lit));
+    solver.assume(&core)?;
+    let is_satisfiable = solver.solve()?;
+    Ok(is_part & !is_satisfiable)
+}
+
+// Whether the solver answers as a new one does, with a core where it answers false.
+fn answers_as_new(
+    alloc: Global,
+    solver: &mut TestSolver,
+    literals: &[Lit],
+) -> Result<bool, SolverError> {
+    solver.assume(literals)?;
+    if solver.solve()? {
+        return is_satisfiable_with(alloc, literals);
+    }
+    if is_satisfiable_with(alloc, literals)? {
+        return Ok(false);
+    }
+    fails_again(alloc, solver, literals)
+}
+
+// How many of the rounds are answered as by a new solver, each core found false again. `interval` is that of both
+// reductions, where it isn't the default.
+fn rounds(alloc: Global, interval: Option<u64>, count: usize) -> Result<usize, SolverError> {
+    let mut solver = new_solver(alloc);
+    let mut update = SolverConfigUpdate::new();
+    update.reduce_locals_interval = interval;
+    update.reduce_mids_interval = interval;
+    solver.config(&update)?;
+    add_clauses(&mut solver)?;
+    let mut numbers = Numbers(11);
+    let mut right = 0;
+    for round in 0..count {
+        let literals = [
+            numbers.literal(),
+            numbers.literal(),
+            numbers.literal(),
+            numbers.literal(),
+            numbers.literal(),
+            numbers.literal(),
+        ];
+        if answers_as_new(alloc, &mut solver, &literals[..1 + round % 6])? {
+            right += 1;
+        }
+    }
+    Ok(right)
+}
+
+#[test]
+fn random_lists_are_answered(rt: HostRuntime) {
+    let right = rounds(rt.alloc(), None, 1000);
+    assert!(rt; matches!(right, Ok(1000)));
+}
+
+#[test]
+fn random_lists_are_answered_with_reductions_each_step(rt: HostRuntime) {
+    let right = rounds(rt.alloc(), Some(1), 1000);
+    assert!(rt; matches!(right, Ok(1000)));
+}

@@ -126,41 +126,54 @@ fn answers_as_new(
     fails_again(alloc, solver, literals)
 }
 
-// How many of the rounds are answered as by a new solver, each core found false again. `interval` is that of both
-// reductions, where it isn't the default.
-fn rounds(alloc: Global, interval: Option<u64>, count: usize) -> Result<usize, SolverError> {
-    let mut solver = new_solver(alloc);
-    let mut update = SolverConfigUpdate::new();
-    update.reduce_locals_interval = interval;
-    update.reduce_mids_interval = interval;
-    solver.config(&update)?;
-    add_clauses(&mut solver)?;
+// The next six literals.
+fn next_literals(numbers: &mut Numbers) -> [Lit; 6] {
+    let mut literals = [numbers.literal(); 6];
+    for literal in &mut literals {
+        *literal = numbers.literal();
+    }
+    literals
+}
+
+// Whether the solver answers as a new one does in each round.
+fn are_answered(alloc: Global, solver: &mut TestSolver, count: usize) -> Result<bool, SolverError> {
     let mut numbers = Numbers(11);
-    let mut right = 0;
+    let mut right = true;
     for round in 0..count {
-        let literals = [
-            numbers.literal(),
-            numbers.literal(),
-            numbers.literal(),
-            numbers.literal(),
-            numbers.literal(),
-            numbers.literal(),
-        ];
-        if answers_as_new(alloc, &mut solver, &literals[..1 + round % 6])? {
-            right += 1;
-        }
+        let literals = next_literals(&mut numbers);
+        right &= answers_as_new(alloc, solver, &literals[..1 + round % 6])?;
     }
     Ok(right)
 }
 
+// So it is where both reductions have the interval.
+fn are_answered_with(
+    alloc: Global,
+    solver: &mut TestSolver,
+    interval: u64,
+    count: usize,
+) -> Result<bool, SolverError> {
+    let mut update = SolverConfigUpdate::new();
+    update.reduce_locals_interval = Some(interval);
+    update.reduce_mids_interval = Some(interval);
+    solver.config(&update)?;
+    add_clauses(solver)?;
+    are_answered(alloc, solver, count)
+}
+
+fn rounds(alloc: Global, interval: u64, count: usize) -> Result<bool, SolverError> {
+    let mut solver = new_solver(alloc);
+    are_answered_with(alloc, &mut solver, interval, count)
+}
+
 #[test]
 fn random_lists_are_answered(rt: HostRuntime) {
-    let right = rounds(rt.alloc(), None, 1000);
-    assert!(rt; matches!(right, Ok(1000)));
+    let right = rounds(rt.alloc(), 10000, 1000);
+    assert!(rt; matches!(right, Ok(true)));
 }
 
 #[test]
 fn random_lists_are_answered_with_reductions_each_step(rt: HostRuntime) {
-    let right = rounds(rt.alloc(), Some(1), 1000);
-    assert!(rt; matches!(right, Ok(1000)));
+    let right = rounds(rt.alloc(), 1, 1000);
+    assert!(rt; matches!(right, Ok(true)));
 }

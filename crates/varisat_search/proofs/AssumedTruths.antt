@@ -9,7 +9,7 @@ use Rattle.varisat_prop.specs.declared.prop.graph.Reason.TheVariants as reason
 use Rattle.varisat_prop.specs.View.{View, literal_at, decision_at, node_at, is_clause, IsReason, WellFormed, ViewFits, Grows}
 use Rattle.varisat_prop.proofs.TrailValues.{on-trail}
 use Rattle.varisat_search.specs.AssumptionParts.{AssumptionParts, HasAssumptions, TakesOutTrue, TakesOutImplied}
-use Rattle.varisat_search.proofs.WellFormedViews.{reason-kept, reason-before}
+use Rattle.varisat_analysis.proofs.WellFormedViews.{reason-kept, reason-before}
 
 module _ (s : View) (w : WellFormed s) (held : List Clause) (f : ViewFits held s) (a : Assignment) (sat : SatisfiesAll a held) (decided : (j : ℕ) → j < length s.decisions → value a (literal_at s (decision_at s j)) ≡ true) where
   -- a literal with a clause as its reason, where those before it are true

@@ -14,7 +14,7 @@ use Rattle.varisat_prop.proofs.LiteralValues.{made-inside}
 use Rattle.varisat_prop.specs.Watches.{Watches, IsPropagated}
 use Rattle.varisat_prop.proofs.WatchKept.{propagated-back}
 use Rattle.varisat_search.specs.Steps.{IsCut, LeavesFrom}
-use Rattle.varisat_search.proofs.WellFormedViews.{same-place}
+use Rattle.varisat_analysis.proofs.WellFormedViews.{same-place}
 
 -- the variables of the places from p to k lost their values
 pub record Cutting (s t : View) (p k : ℕ) : Type 0 where

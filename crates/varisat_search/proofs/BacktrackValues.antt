@@ -9,7 +9,7 @@ use Rattle.varisat_prop.specs.View.{View, literal_at, decision_at, WellFormed}
 use Rattle.varisat_prop.proofs.LiteralValues.{made-inside}
 use Rattle.varisat_search.specs.Steps.{Saves}
 use Rattle.varisat_search.proofs.Backtrack.{Cutting}
-use Rattle.varisat_search.proofs.WellFormedViews.{same-place}
+use Rattle.varisat_analysis.proofs.WellFormedViews.{same-place}
 
 -- the variables of the places from p to k have the values that they had as their last
 pub record Saving (s : View) (last now : List Bool) (p k : ℕ) : Type 0 where

@@ -16,7 +16,8 @@ use Rattle.varisat_prop.specs.View.{View, pairs_from, kept, clause_at, literal_a
 use Rattle.varisat_prop.specs.Watches.{Watches, list_of, at, IsCovered, IsSettledTo, IsPropagated}
 use Rattle.varisat_vsids.specs.Activities.{Activities}
 use Rattle.varisat_search.specs.Decisions.{CanDecide, SameDecidable}
-use Rattle.varisat_search.specs.Seen.{is_fixed, is_proved, kept_clause, kept_pair, search_of}
+use Rattle.varisat_analysis.specs.HeaderChanges.{kept_clause}
+use Rattle.varisat_search.specs.Seen.{is_fixed, is_proved, kept_pair, search_of}
 
 abbrev pub exchanged : View → List StoredClause → List ImplNode → View
 exchanged s ks ns = record s { clauses = ks; nodes = ns }

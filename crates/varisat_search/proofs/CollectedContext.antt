@@ -12,7 +12,7 @@ use Rattle.varisat_prop.specs.Watches.{list_of, IsPropagated}
 use Rattle.varisat_search.specs.declared.context.Context.{Context}
 use Rattle.varisat_search.specs.Contexts.{view, IsReady}
 use Rattle.varisat_search.specs.Decisions.{CanDecide}
-use Rattle.varisat_search.specs.Collections.{repointed_each, Repacks}
+use Rattle.varisat_analysis.specs.Collections.{repointed_each, Repacks}
 use Rattle.varisat_search.proofs.AssumptionContexts.{unmoved-assumed, unmoved-assumable}
 use Rattle.varisat_search.proofs.ClausesExchanged.{exchanged-well, exchanged-settled, exchanged-off, exchanged-decide}
 use Rattle.varisat_search.proofs.PackedClauses.{packed-live, packed-below}

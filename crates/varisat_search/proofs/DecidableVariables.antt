@@ -17,7 +17,7 @@ use Rattle.varisat_prop.proofs.ViewGrowth.{literal-stays, grows-longer}
 use Rattle.varisat_vsids.specs.Activities.{Activities, is_available}
 use Rattle.varisat_search.specs.Steps.{IsCut}
 use Rattle.varisat_search.specs.Decisions.{HasActivities, IsDecidable, AreDecidable, CanDecide, SameDecidable, SameDecidableBut, AddsDecidable, MakesAvailable, IsNextDecision, TakesUnassigned}
-use Rattle.varisat_search.proofs.WellFormedViews.{kept-reordered, same-place}
+use Rattle.varisat_analysis.proofs.WellFormedViews.{kept-reordered, same-place}
 use Rattle.varisat_search.proofs.StepOutcome.{variable-literal, polarity-literal}
 use Rattle.varisat_search.proofs.StepWithoutLines.{proved_back}
 

@@ -25,13 +25,14 @@ use Rattle.varisat_prop.specs.declared.prop.graph.Reason.{Reason}
 use Rattle.varisat_prop.specs.declared.prop.graph.Reason.TheVariants as reason
 use Rattle.varisat_prop.specs.View.{View, pairs_from, clause_at, node_at, node_of, IsReason, WellFormed}
 use Rattle.varisat_prop.specs.Watches.{at}
-use Rattle.varisat_search.specs.Seen.{kept_clause, kept_pair, search_of}
-use Rattle.varisat_search.specs.HeaderChanges.{SameButHeaders}
-use Rattle.varisat_search.specs.Reductions.{is_clause_at, is_reason, reason_marked, reasons_marked, Discards}
-use Rattle.varisat_search.proofs.HeaderChanges.{headers-trans, headers-place, headers-literals, headers-kept, headers-at, headers-rising, map-same}
+use Rattle.varisat_analysis.specs.HeaderChanges.{kept_clause}
+use Rattle.varisat_search.specs.Seen.{kept_pair, search_of}
+use Rattle.varisat_analysis.specs.HeaderChanges.{SameButHeaders}
+use Rattle.varisat_analysis.specs.Reductions.{is_clause_at, is_reason, reason_marked, reasons_marked, Discards}
+use Rattle.varisat_analysis.proofs.SameButHeaders.{headers-trans, headers-place, headers-literals, headers-kept, headers-at, headers-rising, map-same}
 use Rattle.varisat_search.proofs.ClausesExchanged.{SameReason, MayExchange}
-use Rattle.varisat_search.proofs.MarkedReasons.{mark-place, mark-held, mark-live, reason-first}
-use Rattle.varisat_search.proofs.DeletedPlaces.{filter-∈, ∈-filter, filter-rising, all-placed, deleted-stays, deleted-from, unmarked-∈, live-filter}
+use Rattle.varisat_analysis.proofs.MarkedReasons.{mark-place, mark-held, mark-live, reason-first}
+use Rattle.varisat_analysis.proofs.DeletedPlaces.{filter-∈, ∈-filter, filter-rising, all-placed, deleted-stays, deleted-from, unmarked-∈, live-filter}
 
 -- The clauses that are left may stand in place of all.
 module _ (s t : View) (w : WellFormed s) (d : Discards s t) where

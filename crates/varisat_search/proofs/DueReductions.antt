@@ -8,9 +8,9 @@ use Rattle.varisat_prop.specs.View.{View, kinds}
 use Rattle.varisat_search.specs.declared.context.Context.{Context}
 use Rattle.varisat_search.specs.Contexts.{view, IsReady}
 use Rattle.varisat_search.specs.Seen.{search_of}
-use Rattle.varisat_search.specs.HeaderChanges.{ChangesHeaders}
-use Rattle.varisat_search.specs.Reductions.{Discards}
-use Rattle.varisat_search.specs.Collections.{Repacks}
+use Rattle.varisat_analysis.specs.HeaderChanges.{ChangesHeaders}
+use Rattle.varisat_analysis.specs.Reductions.{Discards}
+use Rattle.varisat_analysis.specs.Collections.{Repacks}
 use Rattle.varisat_search.specs.Restarts.{KeepsAssignment}
 use Rattle.varisat_search.specs.DueReductions.{KeepsSearch}
 use Rattle.varisat_search.proofs.DecidableVariables.{same-refl, same-read, same-trans}

@@ -8,7 +8,7 @@ use Rattle.varisat_prop.specs.Watches.{IsPropagated}
 use Rattle.varisat_search.specs.declared.context.Context.{Context}
 use Rattle.varisat_search.specs.Contexts.{view, IsReady}
 use Rattle.varisat_search.specs.Decisions.{CanDecide}
-use Rattle.varisat_search.specs.HeaderChanges.{ChangesHeaders}
+use Rattle.varisat_analysis.specs.HeaderChanges.{ChangesHeaders}
 use Rattle.varisat_search.proofs.AssumptionContexts.{unmoved-assumed, unmoved-assumable}
 use Rattle.varisat_search.proofs.HeaderChanges.{header-well, header-settled, header-propagated, header-decide}
 

@@ -37,7 +37,7 @@ use Rattle.varisat_prop.specs.Watches.{Watches, at, IsPropagated}
 use Rattle.varisat_prop.proofs.WatchKept.{propagated-enqueued, propagated-learned}
 use Rattle.varisat_prop.proofs.TrailExtend.{node-old, node-new, literal-old, literal-new}
 use Rattle.varisat_prop.proofs.EnqueueAssignment.{MayImply, enqueued-well}
-use Rattle.varisat_search.specs.Learned.{IsAsserting, IsLevelOf}
+use Rattle.varisat_analysis.specs.Learned.{IsAsserting, IsLevelOf}
 use Rattle.varisat_search.specs.Steps.{IsCut, LeavesFrom}
 use Rattle.varisat_search.proofs.Backtrack.{end-inside, still, cut-well, cut-settled, cut-propagated, level-length}
 use Rattle.varisat_search.proofs.AddedClause.{kept-last, kept-well}

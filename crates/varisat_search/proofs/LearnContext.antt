@@ -22,7 +22,7 @@ use Rattle.varisat_search.specs.declared.context.Context.{Context}
 use Rattle.varisat_search.specs.declared.state.SatState.{SatState}
 use Rattle.varisat_search.specs.declared.state.SatState.TheVariants as verdict
 use Rattle.varisat_search.specs.declared.state.SolverState.{SolverState}
-use Rattle.varisat_search.specs.Learned.{Analysis, IsLearned, IsAsserting, AreInvolved}
+use Rattle.varisat_analysis.specs.Learned.{Analysis, IsLearned, IsAsserting, AreInvolved}
 use Rattle.varisat_search.specs.AssumptionParts.{with_levels_to, HasAssumptions}
 use Rattle.varisat_search.specs.Contexts.{view, IsReady}
 use Rattle.varisat_search.proofs.AssumptionLevels.{has-same-decisions}
@@ -33,14 +33,14 @@ use Rattle.varisat_search.specs.Decisions.{HasActivities, AreDecidable, SameDeci
 use Rattle.varisat_clause.specs.Stores.{Store}
 use Rattle.varisat_clause.specs.Collected.{live_clauses}
 use Rattle.varisat_clause.specs.ClauseActivities.{ActivityScale}
-use Rattle.varisat_search.specs.Bumps.{BumpsInvolved, literals_among}
-use Rattle.varisat_search.specs.Assessments.{BumpsClauses, IsAssigned}
-use Rattle.varisat_search.specs.HeaderChanges.{SameButHeaders, ChangesHeaders}
+use Rattle.varisat_analysis.specs.Bumps.{BumpsInvolved, literals_among}
+use Rattle.varisat_analysis.specs.Assessments.{BumpsClauses, IsAssigned}
+use Rattle.varisat_analysis.specs.HeaderChanges.{SameButHeaders, ChangesHeaders}
 use Rattle.varisat_search.proofs.HeaderChanges.{header-seen}
 use Rattle.varisat_search.proofs.HeaderContexts.{store-view, headers-ready}
 use Rattle.varisat_search.proofs.LearnedHeaders.{learned-there}
-use Rattle.varisat_search.proofs.AssignedLevels.{involved-assigned}
-use Rattle.varisat_search.proofs.WellFormedViews.{named-place}
+use Rattle.varisat_analysis.proofs.AssignedLevels.{involved-assigned}
+use Rattle.varisat_analysis.proofs.WellFormedViews.{named-place}
 use Rattle.varisat_search.specs.Steps.{IsCut, Saves, SavesSome, IsFree}
 use Rattle.varisat_theory.specs.Derivations.{Add}
 use Rattle.varisat_theory.specs.Outcomes.{Unknown, Unsat, Steps}

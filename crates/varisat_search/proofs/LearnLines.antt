@@ -18,7 +18,7 @@ use Rattle.varisat_prop.specs.Changes.{enqueued}
 use Rattle.varisat_clause.proofs.StoredClauses.{reordered-refl}
 use Rattle.varisat_prop.proofs.TrailExtend.{literal-new, node-new, node-other, fresh, true-old, true-new}
 use Rattle.varisat_search.specs.Conflicts.{Keeping, IsKeptAsReason}
-use Rattle.varisat_search.specs.Learned.{IsAsserting, IsLevelOf}
+use Rattle.varisat_analysis.specs.Learned.{IsAsserting, IsLevelOf}
 use Rattle.varisat_search.specs.Steps.{IsCut}
 use Rattle.varisat_search.proofs.Backtrack.{cut-well, fixed-cut}
 use Rattle.varisat_search.proofs.LearnClause.{keeping, keeping_of, learned, level-below, first-free, first-inside, no-part, unit-result, joins, kept-result}

@@ -10,9 +10,10 @@ use Rattle.varisat_prop.specs.declared.prop.graph.Conflict.{Conflict}
 use Rattle.varisat_prop.specs.declared.prop.graph.Conflict.TheVariants as conflict
 use Rattle.varisat_prop.specs.Changes.{named_in}
 use Rattle.varisat_prop.specs.View.{View, node_of, WellFormed}
-use Rattle.varisat_search.specs.Learned.{clause_of, reason_clause, StandsBehind, IsReachedDownTo, IsImplicationPoint, IsFirstPoint, IsLevelOf, IsAsserting, IsLearned}
-use Rattle.varisat_search.specs.HeaderChanges.{SameButHeaders, ChangesHeaders}
-use Rattle.varisat_search.proofs.HeaderChanges.{headers-at, header-well, header-fits}
+use Rattle.varisat_analysis.specs.Learned.{clause_of, reason_clause, StandsBehind, IsReachedDownTo, IsImplicationPoint, IsFirstPoint, IsLevelOf, IsAsserting, IsLearned}
+use Rattle.varisat_analysis.specs.HeaderChanges.{SameButHeaders, ChangesHeaders}
+use Rattle.varisat_analysis.proofs.SameButHeaders.{headers-at}
+use Rattle.varisat_search.proofs.HeaderChanges.{header-well, header-fits}
 
 -- from more literals more are reached
 reached-more : (c d : Clause) (r q : Literal → Clause) (R : Literal → Type 0) → c ⊆ d → ((m : Literal) → r m ⊆ q m) → (l : Literal) → Reached c r R l → Reached d q R l

@@ -14,7 +14,7 @@ use Rattle.varisat_prop.specs.Changes.{decided_on}
 use Rattle.varisat_prop.proofs.LiteralValues.{variable-opposite, polarity-opposite}
 use Rattle.varisat_prop.proofs.TrailExtend.{get_or-last}
 use Rattle.varisat_search.specs.Steps.{assignment_of}
-use Rattle.varisat_search.proofs.WellFormedViews.{kept-reordered}
+use Rattle.varisat_analysis.proofs.WellFormedViews.{kept-reordered}
 
 pub complete-reordered : (s t : View) (known : List Literal) → AreReordered s.clauses t.clauses → t.binary ≡ s.binary → IsComplete (kept s) known → IsComplete (kept t) known
 complete-reordered s t known a b = complete_shorter (kept s) (kept t) known (λ d h. let (c, i, e) = kept-reordered s t a b d h in (c, i, e.0, λ m k. inl (e.1 m k)))

@@ -11,7 +11,7 @@ use Rattle.varisat_prop.specs.Changes.{decided_on}
 use Rattle.varisat_prop.proofs.LiteralValues.{made-none}
 use Rattle.varisat_search.specs.declared.context.Context.{Context}
 use Rattle.varisat_search.specs.AssumptionParts.{AssumptionParts, HasAssumptions, HasFailed, TakesOutTrue, TakesOutImplied}
-use Rattle.varisat_search.specs.FailedCores.{ListsFailedCore}
+use Rattle.varisat_analysis.specs.FailedCores.{ListsFailedCore}
 use Rattle.varisat_search.specs.Contexts.{view, IsReady}
 use Rattle.varisat_search.specs.Decisions.{AreDecidable, CanDecide, SameDecidable}
 use Rattle.varisat_vsids.specs.Activities.{Activities}

@@ -8,8 +8,8 @@ use Rattle.varisat_clause.specs.Stores.{Store, len_at, clause_in, Fits, IsSound}
 use Rattle.varisat_clause.specs.Databases.{size_of}
 use Rattle.varisat_clause.specs.Collected.{live_of, live_clauses, packed}
 use Rattle.varisat_clause.proofs.StoredClauses.{is-same, is-other, stored-here, stored-later, place-later}
-use Rattle.varisat_search.specs.Seen.{kept_clause}
-use Rattle.varisat_search.specs.Collections.{new_place}
+use Rattle.varisat_analysis.specs.HeaderChanges.{kept_clause}
+use Rattle.varisat_analysis.specs.Collections.{new_place}
 
 -- the clause as it is packed at the place
 abbrev pub packed_at : ℕ → StoredClause → StoredClause

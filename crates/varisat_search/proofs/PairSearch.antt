@@ -15,7 +15,8 @@ use Rattle.varisat_prop.specs.Pairs.{with_pair}
 use Rattle.varisat_prop.specs.View.{View, pairs_from, kept}
 use Rattle.varisat_clause.proofs.StoredClauses.{literals-more}
 use Rattle.varisat_prop.proofs.PairAdded.{inserts-pair, kept-inserted}
-use Rattle.varisat_search.specs.Seen.{kept_clause, kept_pair, search_of}
+use Rattle.varisat_analysis.specs.HeaderChanges.{kept_clause}
+use Rattle.varisat_search.specs.Seen.{kept_pair, search_of}
 use Rattle.varisat_search.proofs.ViewSearch.{seen_clauses}
 
 -- the search keeps one more clause

@@ -10,8 +10,8 @@ use Rattle.varisat_clause.specs.Collected.{live_of, live_clauses}
 use Rattle.varisat_clause.specs.Reductions.{mid_reduced, mids_reduced}
 use Rattle.varisat_clause.proofs.DatabaseTracks.{same-tier, true-or-false}
 use Rattle.varisat_clause.proofs.MidReduction.{mid-other, mid-active, mid-moved}
-use Rattle.varisat_search.specs.HeaderChanges.{SameButHeaders}
-use Rattle.varisat_search.proofs.HeaderChanges.{held_clause, live-map}
+use Rattle.varisat_analysis.specs.HeaderChanges.{SameButHeaders}
+use Rattle.varisat_analysis.proofs.SameButHeaders.{held_clause, live-map}
 
 second : (a b : Bool) → (a && b) ≡ true → b ≡ true
 second true b e = e

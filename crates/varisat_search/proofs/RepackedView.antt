@@ -14,12 +14,13 @@ use Rattle.varisat_prop.specs.declared.prop.graph.ImplNode.{ImplNode}
 use Rattle.varisat_prop.specs.View.{View, pairs_from, no_node, clause_at, literal_at, node_at, IsReason, WellFormed, kinds}
 use Rattle.varisat_prop.specs.Watches.{at}
 use Rattle.varisat_prop.proofs.LiteralValues.{made-inside}
-use Rattle.varisat_search.specs.Seen.{kept_clause, kept_pair, search_of}
-use Rattle.varisat_search.specs.Reductions.{is_clause_at, is_reason}
-use Rattle.varisat_search.specs.Collections.{new_place, moved_reason, Repacks, repointed, repointed_each}
+use Rattle.varisat_analysis.specs.HeaderChanges.{kept_clause}
+use Rattle.varisat_search.specs.Seen.{kept_pair, search_of}
+use Rattle.varisat_analysis.specs.Reductions.{is_clause_at, is_reason}
+use Rattle.varisat_analysis.specs.Collections.{new_place, moved_reason, Repacks, repointed, repointed_each}
 use Rattle.varisat_search.proofs.ClausesExchanged.{SameReason, MayExchange, exchanged-kinds, exchanged-seen}
-use Rattle.varisat_search.proofs.MarkedReasons.{reason-first}
-use Rattle.varisat_search.proofs.MovedReasons.{repoint-is, repoint-not, repoint-length}
+use Rattle.varisat_analysis.proofs.MarkedReasons.{reason-first}
+use Rattle.varisat_analysis.proofs.MovedReasons.{repoint-is, repoint-not, repoint-length}
 use Rattle.varisat_search.proofs.PackedClauses.{AreBelow, packed-rising, packed-literals-of, packed-kept, packed-place}
 
 both : (a b : Bool) → (a && b) ≡ true → b ≡ true

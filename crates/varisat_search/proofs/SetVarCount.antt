@@ -15,7 +15,8 @@ use Rattle.varisat_prop.specs.Watches.{Watches, IsPropagated}
 use Rattle.varisat_prop.proofs.WatchRebuilt.{with_more, more-lists, watching-variables}
 use Rattle.varisat_prop.proofs.KeptPairs.{implied-raised, pairs-raised}
 use Rattle.varisat_prop.specs.declared.prop.watch.Watch.{Watch}
-use Rattle.varisat_search.specs.Seen.{kept_clause, kept_pair, is_fixed, is_proved, search_of}
+use Rattle.varisat_analysis.specs.HeaderChanges.{kept_clause}
+use Rattle.varisat_search.specs.Seen.{kept_pair, is_fixed, is_proved, search_of}
 
 pub get_or-padded : {X : Type 0} (xs : List X) (n v : ℕ) (d : X) → get_or (xs ++ replicate n d) v d ≡ get_or xs v d
 get_or-padded [] n v d = none n v

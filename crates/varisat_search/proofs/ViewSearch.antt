@@ -18,13 +18,14 @@ use Rattle.varisat_prop.specs.declared.prop.graph.Reason.TheVariants as reason
 use Rattle.varisat_clause.specs.Stored.{StoredClause, literals_of, AreReordered}
 use Rattle.varisat_prop.specs.View.{View, pairs_from, kept, literal_at, node_of, level_of, WellFormed, IsFixed, ViewFits, is_clause}
 use Rattle.varisat_prop.proofs.TrailValues.{on-trail, trail-true}
-use Rattle.varisat_search.proofs.WellFormedViews.{fixed-implied, level-opposite}
+use Rattle.varisat_analysis.proofs.WellFormedViews.{fixed-implied, level-opposite}
 use Rattle.varisat_theory.specs.Searches.{KeptClause, clauses_of, Fits}
 use Rattle.varisat_theory.specs.Outcomes.{Proves}
 use Rattle.varisat_theory.specs.StepLaws.{IsGrounded}
 use Rattle.varisat_theory.proofs.SearchFits.{same_front}
 use Rattle.varisat_theory.proofs.StepChanges.{moves_prove}
-use Rattle.varisat_search.specs.Seen.{kept_clause, kept_pair, is_fixed, is_proved, search_of, IsProved}
+use Rattle.varisat_analysis.specs.HeaderChanges.{kept_clause}
+use Rattle.varisat_search.specs.Seen.{kept_pair, is_fixed, is_proved, search_of, IsProved}
 
 in_filter : (p : ℕ → Bool) (xs : List ℕ) (x : ℕ) → x ∈ xs → p x ≡ true → x ∈ filter p xs
 in_filter p [] x h e = absurd h

@@ -11,7 +11,7 @@ use Rattle.varisat_search.specs.declared.state.SatState.{SatState}
 use Rattle.varisat_search.specs.declared.state.SatState.TheVariants as verdict
 use Rattle.varisat_search.specs.declared.assumptions.EnqueueAssumption.{EnqueueAssumption}
 use Rattle.varisat_search.specs.declared.assumptions.EnqueueAssumption.TheVariants as enqueue
-use Rattle.varisat_search.specs.FailedCores.{ListsFailedCore}
+use Rattle.varisat_analysis.specs.FailedCores.{ListsFailedCore}
 use Rattle.varisat_search.specs.Steps.{IsFree, IsTotal}
 
 pub record AssumptionParts : Type 0 where

@@ -9,9 +9,9 @@ use Rattle.varisat_search.specs.declared.context.Context.{Context}
 use Rattle.varisat_search.specs.Contexts.{view, IsReady}
 use Rattle.varisat_search.specs.Decisions.{SameDecidable}
 use Rattle.varisat_search.specs.Seen.{search_of}
-use Rattle.varisat_search.specs.HeaderChanges.{ChangesHeaders}
-use Rattle.varisat_search.specs.Reductions.{reasons_marked, Discards}
-use Rattle.varisat_search.specs.Collections.{Repacks}
+use Rattle.varisat_analysis.specs.HeaderChanges.{ChangesHeaders}
+use Rattle.varisat_analysis.specs.Reductions.{reasons_marked, Discards}
+use Rattle.varisat_analysis.specs.Collections.{Repacks}
 use Rattle.varisat_search.specs.Progress.{StepsTo}
 use Rattle.varisat_search.specs.Restarts.{KeepsAssignment, RestartsIfDue}
 

@@ -1,7 +1,6 @@
 -- What becomes of a clause's distinct literals.
-use Rattle.std.specs.Prelude.{◌≡◌, ℕ, Bool, true, false, List, [], ◌∷◌, ◌⊎◌, ◌↔◌, length, slice_index_or}
-use Rattle.varisat_theory.specs.Membership.{◌∈◌}
-use Rattle.varisat_theory.specs.Literals.{Literal, Clause, opposite}
+use Rattle.std.specs.Prelude.{◌≡◌, ℕ, [], ◌∷◌, ◌⊎◌, length}
+use Rattle.varisat_theory.specs.Literals.{Clause, opposite}
 use Rattle.varisat_theory.specs.Outcomes.{Outcome, Unknown, Unsat}
 use Rattle.varisat_prop.specs.declared.prop.graph.Reason.TheVariants as reason
 use Rattle.varisat_clause.specs.Headers.{no_header}
@@ -23,10 +22,6 @@ loaded_outcome verdict.Unknown = Unknown
 loaded_outcome verdict.Sat = Unknown
 loaded_outcome verdict.Unsat = Unsat
 loaded_outcome verdict.UnsatUnderAssumptions = Unknown
-
--- exactly the literals of the list are flagged
-abbrev pub AreFlagged : List Bool → List Literal → Type 0
-AreFlagged flags lits = (l : Literal) → slice_index_or flags l false ≡ true ↔ (l ∈ lits)
 
 -- The empty clause, and a single literal that is false, give verdict Unsat. Another single literal is made true. A longer clause is kept, and the queue begins anew, so that propagation sees the clause under each literal of the trail.
 abbrev pub IsAdded : View → View → Clause → SatState → SatState → Type 0

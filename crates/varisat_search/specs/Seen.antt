@@ -4,19 +4,13 @@ use Rattle.std.specs.List.{filter}
 use Rattle.varisat_theory.specs.Membership.{◌∈◌}
 use Rattle.varisat_theory.specs.Literals.{Literal, Clause}
 use Rattle.varisat_prop.specs.declared.prop.graph.Reason.TheVariants as reason
-use Rattle.varisat_clause.specs.declared.header.Tier.TheVariants as tier
-use Rattle.varisat_clause.specs.Tiers.{is_tier}
-use Rattle.varisat_clause.specs.Stored.{StoredClause}
 use Rattle.varisat_prop.specs.View.{View, pairs_from, node_of, level_of, is_clause}
 use Rattle.varisat_theory.specs.Searches.{KeptClause, Search}
 use Rattle.varisat_theory.specs.Outcomes.{Outcome, Unknown, Sat, Unsat, UnsatUnder}
+use Rattle.varisat_analysis.specs.HeaderChanges.{kept_clause}
 use Rattle.varisat_search.specs.declared.state.SatState.{SatState}
 use Rattle.varisat_search.specs.declared.state.SatState.TheVariants as verdict
 use Rattle.varisat_search.specs.Steps.{assignment_of}
-
--- the clause as a proof sees it: those that are not Irred are learned
-abbrev pub kept_clause : StoredClause → KeptClause
-kept_clause k = record { clause = k.literals; learned = not (is_tier k.header.tier tier.Irred) }
 
 -- A clause of two literals is kept for good, also a learned one.
 abbrev pub kept_pair : Clause → KeptClause

@@ -11,11 +11,11 @@ ghost use Rattle.varisat_names.specs.Settings.{default_settings, first_bad, upda
 ghost use Rattle.varisat_schedule.specs.Plans.{first_plan};
 ghost use Rattle.varisat_vsids.specs.Activities.{no_activities, raised_to};
 
-use crate::analyze_conflict::AnalyzeConflict;
 use crate::assumptions::Assumptions;
 use crate::state::SolverState;
-use crate::tmp::{TmpData, TmpFlags};
 use std::alloc::{AllocError, Allocator};
+use varisat_analysis::analyze_conflict::AnalyzeConflict;
+use varisat_analysis::tmp::{TmpData, TmpFlags};
 use varisat_clause::activity::ClauseActivity;
 use varisat_clause::db::ClauseDb;
 use varisat_names::config::{ConfigError, SolverConfig, SolverConfigUpdate};

@@ -1,7 +1,6 @@
 //! One search: learning from conflicts, backtracking, loading of clauses, and the step that a solver repeats.
 #![tactic(auto)]
 
-pub mod analyze_conflict;
 pub mod assess;
 pub mod assumptions;
 mod bumps;
@@ -9,11 +8,10 @@ pub mod cdcl;
 pub mod collect;
 pub mod context;
 pub mod decision;
-mod failed_core;
-pub mod glue;
 pub mod levels;
 pub mod load;
 pub mod reduce;
 pub mod schedule;
 pub mod state;
-pub mod tmp;
+
+pub use varisat_analysis::{analyze_conflict, glue, tmp};

@@ -1,7 +1,7 @@
 //! Loading of clauses.
-ghost use Rattle.std.specs.Prelude.{◌≡◌, ◌≢◌, ◌<◌, List, [], length, replicate, slice_index_or, ◌*◌, true, false, OnOk, IfOk, IsTrue, ◌↔◌, ◌⊎◌};
+ghost use Rattle.std.specs.Prelude.{◌≡◌, ◌≢◌, [], length, replicate, ◌*◌, false, OnOk, IfOk, IsTrue, ◌↔◌, ◌⊎◌};
 ghost use Rattle.varisat_theory.specs.Membership.{◌∈◌, SameSet, IsDistinct};
-ghost use Rattle.varisat_theory.specs.Literals.{Literal, opposite};
+ghost use Rattle.varisat_theory.specs.Literals.{Literal};
 ghost use Rattle.varisat_theory.specs.Searches.{IsTautology};
 ghost use Rattle.varisat_theory.specs.Outcomes.{Loads};
 ghost use Rattle.varisat_clause.specs.Databases.{Tracks};
@@ -12,7 +12,7 @@ ghost use Rattle.varisat_prop.specs.Watches.{IsPropagated};
 ghost use Rattle.varisat_search.specs.Contexts.{view, KeepsSchedule, IsReady};
 ghost use Rattle.varisat_search.specs.Steps.{SavesAll, reopened_state};
 ghost use Rattle.varisat_search.specs.Decisions.{AreDecidable, SameDecidable};
-ghost use Rattle.varisat_search.specs.Loading.{AreFlagged, IsAdded, loaded_outcome};
+ghost use Rattle.varisat_search.specs.Loading.{IsAdded, loaded_outcome};
 ghost use Rattle.varisat_search.specs.Seen.{search_of};
 
 use crate::cdcl::first_of;
@@ -20,85 +20,11 @@ use crate::context::Context;
 use crate::levels::full_restart;
 use crate::state::SatState;
 use std::alloc::{AllocError, Allocator};
+use varisat_analysis::clause_literals::{collect_flagged, is_satisfied};
 use varisat_clause::db::add_clause;
 use varisat_literals::Lit;
 use varisat_prop::clause::{ClauseHeader, StoreError};
-use varisat_prop::prop::{Assignment, Reason, enqueue_assignment};
-
-/// Copies the clause's literals, each once, and flags those that were copied.
-fn copy_distinct<A: Allocator + Copy>(
-    lits: &mut Vec<Lit, A>,
-    flags: &mut [bool],
-    clause: &[Lit],
-) -> Result<(), AllocError>
-    requires clear { (l : Literal) → slice_index_or flags.old l false ≡ false }
-    requires known { (l : Literal) → l ∈ clause.now → l < length flags.old }
-    ensures distinct { OnOk result (IsDistinct lits.new.items) }
-    ensures same { OnOk result (SameSet lits.new.items clause.now) }
-    ensures flagged { AreFlagged flags.new lits.new.items }
-{
-    lits.clear();
-    for lit in clause {
-        if flags[lit.code()] {
-            continue;
-        }
-        lits.push(*lit)?;
-        flags[lit.code()] = true;
-    }
-    Ok(())
-}
-
-/// Whether a literal's opposite is one of the clause too, whose literals are flagged.
-fn is_tautology(lits: &[Lit], flags: &[bool]) -> bool
-    requires flagged { AreFlagged flags.now lits.now }
-    requires known { (l : Literal) → l ∈ lits.now → opposite l < length flags.now }
-    ensures { IsTrue result ↔ IsTautology lits.now }
-{
-    for lit in lits {
-        let opposite = !*lit;
-        if flags[opposite.code()] {
-            return true;
-        }
-    }
-    false
-}
-
-/// Takes the flags of the literals away, which are all that are set.
-fn clear_flagged(flags: &mut [bool], lits: &[Lit])
-    requires { AreFlagged flags.old lits.now }
-    ensures { (l : Literal) → slice_index_or flags.new l false ≡ false }
-{
-    for lit in lits {
-        flags[lit.code()] = false;
-    }
-}
-
-/// Copies the clause's literals, each once. Returns whether one of them is another's opposite. The flags tell what was
-/// copied already, so that a long clause takes time in proportion to its length; all are false again at the end.
-fn collect_flagged<A: Allocator + Copy>(
-    lits: &mut Vec<Lit, A>,
-    flags: &mut [bool],
-    clause: &[Lit],
-) -> Result<bool, AllocError>
-    requires clear { (l : Literal) → slice_index_or flags.old l false ≡ false }
-    requires known { (l : Literal) → l ∈ clause.now → (l < length flags.old) × (opposite l < length flags.old) }
-    ensures distinct { OnOk result (IsDistinct lits.new.items) }
-    ensures same { OnOk result (SameSet lits.new.items clause.now) }
-    ensures tautology { IfOk result (λ found. IsTrue found ↔ IsTautology lits.new.items) }
-    ensures clear { (l : Literal) → slice_index_or flags.new l false ≡ false }
-{
-    match copy_distinct(lits, flags, clause) {
-        Ok(()) => {
-            let found = is_tautology(lits, flags);
-            clear_flagged(flags, lits);
-            Ok(found)
-        }
-        Err(error) => {
-            clear_flagged(flags, lits);
-            Err(error)
-        }
-    }
-}
+use varisat_prop::prop::{Reason, enqueue_assignment};
 
 /// Copies the clause's literals to `lits`, each once. Returns whether one of them is another's opposite.
 fn collect_distinct<A: Allocator + Copy>(
@@ -115,19 +41,6 @@ fn collect_distinct<A: Allocator + Copy>(
 {
     let found = collect_flagged(&mut ctx.tmp_data.lits, &mut ctx.tmp_flags.flags, clause)?;
     Ok(found)
-}
-
-/// Whether a literal of the clause is true.
-fn is_satisfied<A: Allocator + Copy>(assignment: &Assignment<A>, lits: &[Lit]) -> bool
-    requires { IsInRange assignment.now.current lits.now }
-    ensures { IsTrue result ↔ ((l : Literal) × (l ∈ lits.now) × IsMadeTrue assignment.now.current l) }
-{
-    for lit in lits {
-        if assignment.lit_is_true(*lit) {
-            return true;
-        }
-    }
-    false
 }
 
 /// Adds the clause in `lits`, whose literals are distinct and not true: it is kept, makes its only literal true, or

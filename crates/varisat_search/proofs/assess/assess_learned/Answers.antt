@@ -2,7 +2,7 @@ use Rattle.std.proofs.Common.{List, ◌∙◌, subst}
 use Rattle.varisat_theory.specs.Membership.{◌∈◌}
 use Rattle.varisat_theory.specs.Literals.{Literal}
 use Rattle.varisat_search.specs.Contexts.{view}
-use Rattle.varisat_search.proofs.AssignedLevels.{can-count}
+use Rattle.varisat_analysis.proofs.AssignedLevels.{can-count}
 use Rattle.varisat_search.proofs.assess.assess_learned.Goals as goal
 
 pub assess_learned_clause-requires : goal.assess_learned_clause-requires

@@ -3,10 +3,10 @@ use Rattle.varisat_theory.specs.Membership.{◌∈◌}
 use Rattle.varisat_clause.specs.Collected.{live_clauses}
 use Rattle.varisat_prop.specs.declared.prop.graph.Conflict.{Conflict}
 use Rattle.varisat_search.specs.Contexts.{view}
-use Rattle.varisat_search.specs.Bumps.{literals_among}
-use Rattle.varisat_search.proofs.HeaderChanges.{headers-trans}
-use Rattle.varisat_search.proofs.BumpedClauses.{decay-tracks, decay-headers}
-use Rattle.varisat_search.proofs.AssignedLevels.{can-count}
+use Rattle.varisat_analysis.specs.Bumps.{literals_among}
+use Rattle.varisat_analysis.proofs.SameButHeaders.{headers-trans}
+use Rattle.varisat_analysis.proofs.BumpedClauses.{decay-tracks, decay-headers}
+use Rattle.varisat_analysis.proofs.AssignedLevels.{can-count}
 use Rattle.varisat_search.proofs.assess.bump_involved_clauses.Goals as goal
 
 pub bump_named-requires-clause-named : goal.bump_named-requires-clause-named

@@ -5,9 +5,9 @@ use Rattle.varisat_clause.specs.Collected.{live_clauses}
 use Rattle.varisat_theory.specs.Membership.{◌∈◌}
 use Rattle.varisat_vsids.specs.Activities.{Activities, decayed}
 use Rattle.varisat_search.specs.Contexts.{view}
-use Rattle.varisat_search.specs.Bumps.{literals_among, AreVariablesAbove}
-use Rattle.varisat_search.proofs.WellFormedViews.{named-place}
-use Rattle.varisat_search.proofs.BumpedVariables.{among-kept, each-available, each-decay, false-all, clear-given-back}
+use Rattle.varisat_analysis.specs.Bumps.{literals_among, AreVariablesAbove}
+use Rattle.varisat_analysis.proofs.WellFormedViews.{named-place}
+use Rattle.varisat_analysis.proofs.BumpedVariables.{among-kept, each-available, each-decay, false-all, clear-given-back}
 use Rattle.varisat_search.proofs.bumps.bump_involved.Goals as goal
 
 pub bump_each_once-requires-clause-may : goal.bump_each_once-requires-clause-may

@@ -2,7 +2,7 @@ use Rattle.std.proofs.Common.{◌≡◌, refl, sym, ◌∙◌, subst}
 use Rattle.varisat_clause.proofs.StoreSound.{is-sound}
 use Rattle.varisat_prop.specs.View.{View, WellFormed, LevelsSettled}
 use Rattle.varisat_prop.specs.Changes.{IsConflicting}
-use Rattle.varisat_search.specs.Learned.{Shows}
+use Rattle.varisat_analysis.specs.Learned.{Shows}
 use Rattle.varisat_search.specs.Contexts.{view}
 use Rattle.varisat_search.proofs.cdcl.analyze.Goals as goal
 

@@ -7,13 +7,13 @@ use Rattle.varisat_clause.specs.Stores.{Store}
 use Rattle.varisat_prop.specs.declared.prop.graph.ImplNode.{ImplNode}
 use Rattle.varisat_search.specs.declared.context.Context.{Context}
 use Rattle.varisat_search.specs.Contexts.{view}
-use Rattle.varisat_search.specs.Learned.{Analysis, AreInvolved}
+use Rattle.varisat_analysis.specs.Learned.{Analysis, AreInvolved}
 use Rattle.varisat_search.specs.Steps.{SavesSome}
 use Rattle.varisat_search.specs.Progress.{IsStepFurther}
-use Rattle.varisat_search.specs.Assessments.{glue_of, assessed}
+use Rattle.varisat_analysis.specs.Assessments.{glue_of, assessed}
 use Rattle.varisat_search.specs.Conflicts.{IsStoredAsReason}
 use Rattle.varisat_vsids.specs.Activities.{Activities}
-use Rattle.varisat_search.proofs.BumpedClauses.{tier-redundant}
+use Rattle.varisat_analysis.proofs.BumpedClauses.{tier-redundant}
 use Rattle.varisat_search.proofs.LearnContext.{analysis-ready, involved-named, bumps-learned, cut-activities, Analyzed, analyzed-bumped, analyzed-well, analyzed-tracks, analyzed-clear, learned-assigned, analyzed-named, analyzed-assigned, with_store, analyzed-noted, noted-further, noted-saves, noted-bumps, analyzed-flags, Backtracked, saves-some, learned-listed, learned-paired, learned-tracks, Learning, learning-free, learning-node, learning-further, learning-activities, refuted-undecided, refuted-further}
 use Rattle.varisat_search.proofs.cdcl.learn.Given.{Over}
 use Rattle.varisat_search.proofs.cdcl.learn.Goals.{After-backtrack, In_ok-reason, In_ok-enqueue_assignment}

@@ -3,7 +3,7 @@ use Rattle.varisat_clause.specs.Collected.{live_clauses}
 use Rattle.varisat_clause.proofs.CollectedClauses.{packed-length}
 use Rattle.varisat_search.specs.declared.context.Context.{Context}
 use Rattle.varisat_search.specs.Contexts.{view}
-use Rattle.varisat_search.specs.Collections.{Repacks}
+use Rattle.varisat_analysis.specs.Collections.{Repacks}
 use Rattle.varisat_search.proofs.ReducedContext.{first-known}
 use Rattle.varisat_search.proofs.CollectedContext.{context-repacks, repacks-ready}
 use Rattle.varisat_search.proofs.collect.collect.Given.{Over}

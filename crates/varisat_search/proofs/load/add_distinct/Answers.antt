@@ -18,7 +18,7 @@ use Rattle.varisat_prop.proofs.WatchKept.{propagated-enqueued, propagated-loaded
 use Rattle.varisat_prop.proofs.LiteralValues.{made-none}
 use Rattle.varisat_search.specs.Contexts.{view}
 use Rattle.varisat_search.specs.Loading.{IsAdded}
-use Rattle.varisat_search.proofs.LoadCopies.{only-one, only-two, more-than-two}
+use Rattle.varisat_analysis.proofs.CopiedLiterals.{only-one, only-two, more-than-two}
 use Rattle.varisat_search.proofs.LoadView.{added-pair, added-long}
 use Rattle.varisat_search.proofs.load.add_distinct.Given.{Over}
 use Rattle.varisat_search.proofs.load.add_distinct.Goals.{After-index-then-len-eq2, In_ok-add_binary_clause}

@@ -1,8 +1,8 @@
 use Rattle.std.proofs.Common.{◌≡◌, ◌*◌, false, length, drop, sym, ap, ◌∙◌, arith}
 use Rattle.std.proofs.lemmas.List.{length-replicate}
-use Rattle.varisat_search.proofs.BumpedVariables.{clear-given-back}
+use Rattle.varisat_analysis.proofs.BumpedVariables.{clear-given-back}
 use Rattle.varisat_prop.proofs.LongVisited.{listed}
-use Rattle.varisat_search.proofs.LoadCopies.{own-list}
+use Rattle.varisat_analysis.proofs.CopiedLiterals.{own-list}
 use Rattle.varisat_search.proofs.load.collect_distinct.Goals as goal
 
 pub collect_flagged-requires-clause-known : goal.collect_flagged-requires-clause-known

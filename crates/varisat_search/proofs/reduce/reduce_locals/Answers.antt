@@ -1,7 +1,7 @@
 use Rattle.std.proofs.Common.{refl}
 use Rattle.varisat_search.specs.declared.context.Context.{Context}
 use Rattle.varisat_search.specs.Contexts.{view}
-use Rattle.varisat_search.specs.Reductions.{Discards}
+use Rattle.varisat_analysis.specs.Reductions.{Discards}
 use Rattle.varisat_search.proofs.HeaderContexts.{store-view}
 use Rattle.varisat_search.proofs.DiscardedClauses.{discards-prove, reduces-discards}
 use Rattle.varisat_search.proofs.ReducedContext.{first-known, discards-ready}

@@ -1,7 +1,7 @@
 use Rattle.std.proofs.Common.{length, refl}
 use Rattle.varisat_search.specs.declared.context.Context.{Context}
 use Rattle.varisat_search.specs.Contexts.{view}
-use Rattle.varisat_search.specs.HeaderChanges.{ChangesHeaders}
+use Rattle.varisat_analysis.specs.HeaderChanges.{ChangesHeaders}
 use Rattle.varisat_search.proofs.HeaderContexts.{store-view, headers-ready}
 use Rattle.varisat_search.proofs.ReducedMids.{mids-headers}
 use Rattle.varisat_search.proofs.reduce.reduce_mids.Given.{Over}

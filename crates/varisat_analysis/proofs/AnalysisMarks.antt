@@ -1,0 +1,228 @@
+-- How `add_literals` marks the literals of a clause, and what the loops of analysis read.
+use Rattle.std.proofs.Common.{◌≡◌, ℕ, zero, suc, ◌+◌, ◌<◌, ◌≤◌, Bool, true, false, List, [], ◌∷◌, ◌++◌, length, get_or, set, take, ◌⊎◌, inl, inr, ⊎_elim, refl, sym, ap, ◌∙◌, subst, arith, add-one, get_or-set_same, get_or-set_other}
+use Rattle.varisat_theory.specs.Membership.{◌∈◌, ◌⊆◌}
+use Rattle.varisat_theory.specs.Literals.{Literal, Clause, variable_of, opposite}
+use Rattle.varisat_theory.specs.Propagation.{IsFalse}
+use Rattle.varisat_theory.proofs.Members.{equal_or_not, ∈-append_left, ∈-append_right, ∈-append_cases}
+use Rattle.varisat_theory.proofs.Places.{∈-take_more}
+use Rattle.varisat_prop.specs.View.{View, literal_at, node_at, level_of, StandsBefore, WellFormed}
+use Rattle.varisat_prop.proofs.LiteralValues.{variable-opposite}
+use Rattle.varisat_prop.proofs.ReadElements.{element, item-∈}
+use Rattle.varisat_analysis.specs.Learned.{current_level}
+use Rattle.varisat_analysis.specs.declared.analyze_conflict.Parts.{Parts}
+use Rattle.varisat_analysis.specs.Marks.{CanMark, Marking, IsMarked, IsMarkOf, OfClause, OfCurrentLevel, IsLower, open_below, AreFalseBefore, Adds}
+use Rattle.varisat_analysis.proofs.CopiedLiterals.{distinct-push}
+use Rattle.varisat_analysis.proofs.WellFormedViews.{inside, level-small, level-opposite, level-same, same-place}
+use Rattle.varisat_analysis.proofs.AnalysisOpen.{open-is, closed-unmarked, open-same, open-elsewhere, count-same, count-more}
+
+pub take-grow : {X : Type 0} (i : ℕ) (xs : List X) (x : X) → x ∈ take i xs → x ∈ take (i + 1) xs
+take-grow {X = X} i xs x h = subst (λ n. x ∈ take n xs) (sym (add-one i)) (go i xs h)
+  where
+    go : (i : ℕ) (xs : List X) → x ∈ take i xs → x ∈ take (suc i) xs
+    go zero xs h = absurd h
+    go (suc i) [] h = absurd h
+    go (suc i) (y ∷ xs) (inl e) = inl e
+    go (suc i) (y ∷ xs) (inr h) = inr (go i xs h)
+
+pub take-last : (i : ℕ) (xs : List ℕ) → i < length xs → get_or xs i 0 ∈ take (i + 1) xs
+take-last i xs h = subst (λ n. get_or xs i 0 ∈ take n xs) (sym (add-one i)) (go i xs h)
+  where
+    go : (i : ℕ) (xs : List ℕ) → i < length xs → get_or xs i 0 ∈ take (suc i) xs
+    go i [] h = absurd (omega arith)
+    go zero (y ∷ xs) h = inl refl
+    go (suc i) (y ∷ xs) h = inr (go i xs (omega arith))
+
+-- a variable is marked after its flag was set, and no other one more
+pub marked-old : (f : List Bool) (v x : ℕ) → v < length f → IsMarked f x → IsMarked (set f v true) x
+marked-old f v x h m =
+    ⊎_elim
+    (λ e. subst (IsMarked (set f v true)) (sym e) (get_or-set_same f v true false h))
+    (λ n. get_or-set_other f v x true false n ∙ m)
+    (equal_or_not x v)
+
+pub marked-new : (f : List Bool) (v x : ℕ) → IsMarked (set f v true) x → IsMarked f x ⊎ (x ≡ v)
+marked-new f v x m =
+    ⊎_elim inr (λ n. inl (sym (get_or-set_other f v x true false n) ∙ m)) (equal_or_not x v)
+
+-- what is the mark of a variable is so among more literals and variables
+pub mark-of : (s : View) (i : ℕ) (x y : Marking) (v : ℕ) → x.clause ⊆ y.clause → (v ∈ x.to_clean → v ∈ y.to_clean) → IsMarkOf s i x v → IsMarkOf s i y v
+mark-of s i x y v a b (OfClause m j e z) = OfClause m (a m j) e (b z)
+mark-of s i x y v a b (OfCurrentLevel k l p e) = OfCurrentLevel k l p e
+
+pub adds-start : (s : View) (x : Marking) → Adds s [] 0 x x
+adds-start s x = record {
+  more = λ v m. m;
+  only = λ v m. inl m;
+  all = λ m h. absurd h;
+  longer = λ m h. h;
+  marks = λ i h o k. k;
+  counted = λ i h l. omega arith;
+  involved = refl;
+}
+
+-- nothing is done with a literal of level 0, or of a variable that is marked
+pub adds-none : (s : View) (m : Literal) (x : Marking) → (level_of s m ≡ 0) ⊎ IsMarked x.flags (variable_of m) → Adds s (m ∷ []) 0 x x
+adds-none s m x o = record {
+  more = λ v k. k;
+  only = λ v k. inl k;
+  all = λ l h a. ⊎_elim (λ (e : l ≡ m). ⊎_elim (λ z. let g = ap (level_of s) e in absurd (omega (arith, z, g, a))) (λ k. subst (λ y. IsMarked x.flags (variable_of y)) (sym e) k) o) (λ z. absurd z) h;
+  longer = λ l h. h;
+  marks = λ i h o k. k;
+  counted = λ i h l. omega arith;
+  involved = refl;
+}
+
+module _ (s : View) (w : WellFormed s) (m : Literal) (x : Marking) (h : variable_of m < length x.flags) (n : get_or x.flags (variable_of m) false ≡ false) where
+  abbrev g : List Bool
+  g = set x.flags (variable_of m) true
+
+  not-marked : IsMarked x.flags (variable_of m) → ⊥
+  not-marked k = let e = sym n ∙ k in absurd cc
+
+  still : (v : ℕ) → IsMarked x.flags v → IsMarked g v
+  still v k = marked-old x.flags (variable_of m) v h k
+
+  only-one : (v : ℕ) → IsMarked g v → IsMarked x.flags v ⊎ ((l : Literal) × (l ∈ (m ∷ [])) × (variable_of l ≡ v))
+  only-one v k = ⊎_elim inl (λ e. inr (m, inl refl, sym e)) (marked-new x.flags (variable_of m) v k)
+
+  all-one : (l : Literal) → l ∈ (m ∷ []) → 0 < level_of s l → IsMarked g (variable_of l)
+  all-one l i a = ⊎_elim (λ e. subst (λ y. IsMarked g (variable_of y)) (sym e) (get_or-set_same x.flags (variable_of m) true false h)) (λ z. absurd z) i
+
+  -- one literal of the current level
+  pub adds-late : level_of s m ≡ current_level s → Adds s (m ∷ []) 1 x (record x { flags = g })
+  adds-late l = record {
+    more = still;
+    only = only-one;
+    all = all-one;
+    longer = λ y i. i;
+    marks = λ i a o k. record {
+      lower = k.lower;
+      marked = λ y j. still (variable_of y) (k.marked y j);
+      distinct = k.distinct;
+      listed = k.listed;
+      known = λ v q. ⊎_elim (λ u. mark-of s i x (record x { flags = g }) v (λ y j. j) (λ j. j) (k.known v u)) (λ e. late-place i o (a m (inl refl)) v e) (marked-new x.flags (variable_of m) v q);
+    };
+    counted = λ i a b. more-one i b (a m (inl refl));
+    involved = refl;
+  }
+    where
+      current-at : (i : ℕ) → StandsBefore s i (opposite m) → i ≤ length s.trail → (k : ℕ) × (k < i) × (k < length s.trail) × ((node_at s k).level ≡ current_level s) × (variable_of (literal_at s k) ≡ variable_of m)
+      current-at i (k, a, e) b =
+          let p : (node_at s k).level ≡ level_of s (opposite m) = ap (level_of s) e in
+          (k, a, omega (arith, a, b), p ∙ level-opposite s m ∙ l, ap variable_of e ∙ variable-opposite m)
+
+      late-place : (i : ℕ) → i ≤ length s.trail → StandsBefore s i (opposite m) → (v : ℕ) → v ≡ variable_of m → IsMarkOf s i (record x { flags = g }) v
+      late-place i o b v e = let (k, p, q, r, u) = current-at i b o in OfCurrentLevel k p (q, r) (u ∙ sym e)
+
+      more-one : (i : ℕ) → i ≤ length s.trail → StandsBefore s i (opposite m) → open_below s g i ≡ open_below s x.flags i + 1
+      more-one i b a =
+          let (k, p, q, r, e) = current-at i a b in
+          count-more s x.flags g i k p
+          (closed-unmarked s x.flags k (ap (λ v. get_or x.flags v false) e ∙ n))
+          (open-is s g k (q, r) (subst (IsMarked g) (sym e) (get_or-set_same x.flags (variable_of m) true false h)))
+          (λ j u o. open-same s x.flags g j (sym (get_or-set_other x.flags (variable_of m) (variable_of (literal_at s j)) true false (λ z. o (same-place s w j k (omega (arith, u, b)) q (z ∙ sym e))))))
+
+  -- the literal joins the clause
+  abbrev joined : Marking
+  joined = record x { clause = x.clause ++ m ∷ []; flags = g; to_clean = x.to_clean ++ variable_of m ∷ [] }
+
+  -- one literal below the current level
+  pub adds-lower : opposite m ∈ s.trail → 0 < level_of s m → level_of s m < current_level s → Adds s (m ∷ []) 0 x joined
+  adds-lower fm a b = record {
+    more = still;
+    only = only-one;
+    all = all-one;
+    longer = λ y i. ∈-append_left y x.clause (m ∷ []) i;
+    marks = λ i q z0 k. record {
+      lower = λ y j. ⊎_elim (k.lower y) (λ o. ⊎_elim (λ e. subst (IsLower s) (sym e) (record { false_now = fm; above = a; below = b })) (λ z. absurd z) o) (∈-append_cases y x.clause (m ∷ []) j);
+      marked = λ y j. ⊎_elim (λ o. still (variable_of y) (k.marked y o)) (λ o. all-one y o (⊎_elim (λ e. let z = ap (level_of s) e in omega (arith, z, a)) (λ z. absurd z) o)) (∈-append_cases y x.clause (m ∷ []) j);
+      distinct = distinct-push x.clause m k.distinct (λ o. not-marked (k.marked m o));
+      listed = λ v j. ⊎_elim (k.listed v) (λ o. ⊎_elim (λ e. let z = inside s w m fm in omega (arith, e, z)) (λ z. absurd z) o) (∈-append_cases v x.to_clean (variable_of m ∷ []) j);
+      known = λ v r. ⊎_elim
+          (λ u. mark-of s i x joined v (λ y j. ∈-append_left y x.clause (m ∷ []) j) (λ j. ∈-append_left v x.to_clean (variable_of m ∷ []) j) (k.known v u))
+          (λ e. OfClause m (∈-append_right m x.clause (m ∷ []) (inl refl)) (sym e) (∈-append_right v x.to_clean (variable_of m ∷ []) (inl e)))
+          (marked-new x.flags (variable_of m) v r);
+    };
+    counted = λ i q o. same-count i;
+    involved = refl;
+  }
+    where
+      same-count : (i : ℕ) → open_below s g i ≡ open_below s x.flags i + 0
+      same-count i =
+          let e = count-same s x.flags g i (λ k u. ⊎_elim
+          (λ (z : variable_of (literal_at s k) ≡ variable_of m). open-elsewhere s x.flags g k (λ y. let l = level-same s (literal_at s k) m z in absurd (omega (arith, l, y, b))))
+          (λ z. open-same s x.flags g k (sym (get_or-set_other x.flags (variable_of m) (variable_of (literal_at s k)) true false z)))
+          (equal_or_not (variable_of (literal_at s k)) (variable_of m))) in
+          omega (arith, e)
+
+pub adds-more : (s : View) (lits : List Literal) (k : ℕ) (m : Literal) (n d : ℕ) (x y z : Marking) → k < length lits → m ≡ get_or lits k 0 → Adds s (take k lits) n x y → Adds s (m ∷ []) d y z → Adds s (take (k + 1) lits) (n + d) x z
+adds-more s lits k m n d x y z l e a b = record {
+  more = λ v j. b.more v (a.more v j);
+  only = λ v j. ⊎_elim
+      (λ j. ⊎_elim inl (λ (o, i, q). inr (o, take-grow k lits o i, q)) (a.only v j))
+      (λ (o, i, q). inr (m, last, ⊎_elim (λ g. ap variable_of (sym g) ∙ q) (λ g. absurd g) i))
+      (b.only v j);
+  all = λ j i o. ⊎_elim (λ p. b.more (variable_of j) (a.all j p o)) (λ p. b.all j (inl (p ∙ sym e)) o) (∈-take_more j lits k 0 i);
+  longer = λ j i. b.longer j (a.longer j i);
+  marks = λ i h o q. b.marks i (one i h) o (a.marks i (front i h) o q);
+  counted = λ i h o. let p = a.counted i (front i h) o in let q = b.counted i (one i h) o in omega (arith, p, q);
+  involved = b.involved ∙ a.involved;
+}
+  where
+    last : m ∈ take (k + 1) lits
+    last = subst (λ o. o ∈ take (k + 1) lits) (sym e) (take-last k lits l)
+
+    front : (i : ℕ) → AreFalseBefore s i (take (k + 1) lits) → AreFalseBefore s i (take k lits)
+    front i h o j = h o (take-grow k lits o j)
+
+    one : (i : ℕ) → AreFalseBefore s i (take (k + 1) lits) → AreFalseBefore s i (m ∷ [])
+    one i h o j = ⊎_elim (λ g. subst (λ q. StandsBefore s i (opposite q)) (sym g) (h m last)) (λ g. absurd g) j
+
+-- A loop over false literals is at place k, and the literal's variable has a flag.
+pub record IsAt (s : View) (lits : List Literal) (flags : List Bool) (k m : ℕ) : Type 0 where
+  pub below : k < length lits
+  pub element_is : m ≡ get_or lits k 0
+  pub false_now : opposite m ∈ s.trail
+  pub inside : variable_of m < length flags
+
+-- the variable of a false literal has a flag
+pub has-flag : {A : Type 0} {s : View} {parts : Parts A} {flags : List Bool} → CanMark s parts flags → (m : Literal) → opposite m ∈ s.trail → variable_of m < length flags
+has-flag {s = s} c m h =
+    let i = inside s c.sees.well m h in
+    let z = c.flags_are in
+    omega (arith, i, z)
+
+pub can-still : {A : Type 0} {s : View} {parts : Parts A} {old flags : List Bool} → CanMark s parts old → length flags ≡ length old → CanMark s parts flags
+can-still c n = record { sees = c.sees; flags_are = n ∙ c.flags_are }
+
+pub is-at : {A : Type 0} {s : View} {parts : Parts A} {old flags : List Bool} {lits : List Literal} {k m : ℕ} → CanMark s parts old → IsFalse s.trail lits → k < length lits → m ≡ get_or lits k m → length flags ≡ length old → IsAt s lits flags k m
+is-at {s = s} {lits = lits} {k = k} {m = m} c f l e n =
+    let h = f m (item-∈ lits k m l e) in
+    record { below = l; element_is = element lits k m l e; false_now = h; inside = has-flag (can-still c n) m h }
+
+-- the steps of the loop over the literals, as they read the flags and levels
+module _ {s : View} {n : ℕ} {x y : Marking} {lits : List Literal} {k m : ℕ} (w : WellFormed s) (p : IsAt s lits y.flags k m) (a : Adds s (take k lits) n x y) where
+  more : (d total : ℕ) (z : Marking) → total ≡ n + d → Adds s (m ∷ []) d y z → Adds s (take (k + 1) lits) total x z
+  more d total z q b = subst (λ t. Adds s (take (k + 1) lits) t x z) (sym q) (adds-more s lits k m n d x y z p.below p.element_is a b)
+
+  pub added-none : (level_of s m ≡ 0) ⊎ IsMarked y.flags (variable_of m) → Adds s (take (k + 1) lits) n x y
+  added-none z = more 0 n y (omega arith) (adds-none s m y z)
+
+  module _ (total v : ℕ) (o : v ≡ variable_of m) (f : get_or y.flags (variable_of m) false ≡ false) (z : Marking) where
+    pub added-late : total ≡ n + 1 → level_of s m ≡ current_level s → z ≡ record y { flags = set y.flags v true } → Adds s (take (k + 1) lits) total x z
+    added-late q j e =
+        more 1 total z q (subst (λ t. Adds s (m ∷ []) 1 y t) (sym (e ∙ ap (λ (t : ℕ). record y { flags = set y.flags t true }) o)) (adds-late s w m y p.inside f j))
+
+    pub added-lower : total ≡ n → 0 < level_of s m → (level_of s m ≡ current_level s → ⊥) → (clause : Clause) (to_clean : List ℕ) (u : ℕ) → clause ≡ y.clause ++ m ∷ [] → to_clean ≡ y.to_clean ++ u ∷ [] → u ≡ variable_of m → z ≡ record y { clause = clause; flags = set y.flags v true; to_clean = to_clean } → Adds s (take (k + 1) lits) total x z
+    added-lower q b j clause to_clean u ce te r e =
+        let c = level-small s w m p.false_now in
+        more 0 total z (omega (arith, q)) (subst (λ t. Adds s (m ∷ []) 0 y t) (sym (e ∙ same)) (adds-lower s w m y p.inside f p.false_now b (below c j)))
+      where
+        below : level_of s m ≤ current_level s → (level_of s m ≡ current_level s → ⊥) → level_of s m < current_level s
+        below b j = grind arith
+
+        same : record y { clause = clause; flags = set y.flags v true; to_clean = to_clean } ≡ record y { clause = y.clause ++ m ∷ []; flags = set y.flags (variable_of m) true; to_clean = y.to_clean ++ variable_of m ∷ [] }
+        same =
+            ap (λ (t : Clause). record y { clause = t; flags = set y.flags v true; to_clean = to_clean }) ce
+            ∙ ap (λ (t : ℕ). record y { clause = y.clause ++ m ∷ []; flags = set y.flags t true; to_clean = to_clean }) o
+            ∙ ap (λ (t : List ℕ). record y { clause = y.clause ++ m ∷ []; flags = set y.flags (variable_of m) true; to_clean = t }) (te ∙ ap (λ (t : ℕ). y.to_clean ++ t ∷ []) r)

@@ -1,0 +1,36 @@
+use Rattle.std.proofs.Common.{◌≡◌, false, length, drop, get_or, refl, sym, ap, ◌∙◌, subst, arith}
+use Rattle.varisat_analysis.specs.Learned.{Analysis}
+use Rattle.varisat_analysis.proofs.AnalysisFlags.{given-back}
+use Rattle.varisat_analysis.proofs.AnalysisResult.{learned-at-zero}
+use Rattle.varisat_analysis.proofs.analyze_conflict.analyze_conflict.Goals as goal
+
+pub returns-then-current_level-eq0-clause-learned : goal.returns-then-current_level-eq0-clause-learned
+returns-then-current_level-eq0-clause-learned g c =
+    learned-at-zero g.s c.requires.1.1.0 c.args.conflict c.clear.new.self.items 0 c.requires.1.1.1.1.0 (sym (ap (λ x. length x) c.requires.1.0.decisions_are) ∙ sym c.current_level.ensures ∙ c.if-current_level-eq0.true) c.clear.ensures.items refl
+
+pub learn_and_clear-requires : goal.learn_and_clear-requires
+learn_and_clear-requires g c κs within =
+    let value = ap (λ x. length x) c.deref_mut.ensures.value in
+    let count = ap (λ (x : Analysis). x.var_count) c.analyze.view_is in
+    let shows = c.requires.1.0 in
+    let nodes = ap (λ x. length x) shows.nodes_are in
+    let decisions = ap (λ x. length x) shows.decisions_are in
+    let flags = c.requires.1.1.1.1.1 in
+    let level = c.if-current_level-eq0.false in (
+      within,
+      record {
+        can = record {
+          sees = record { well = c.requires.1.1.0; sound = shows.sound; clauses_are = shows.clauses_are; nodes_are = shows.nodes_are; trail_is = shows.trail_is; decisions_are = shows.decisions_are };
+          flags_are = omega (arith, value, count, flags, nodes);
+        };
+        conflict = record { settled = c.requires.1.1.1.0; conflict = c.requires.1.1.1.1.0; deep = omega (arith, level, c.current_level.ensures, decisions) };
+        clean = record { unmarked = λ v. subst (λ x. get_or x v false ≡ false) (sym c.deref_mut.ensures.value) (c.analyze.invariant v); clause = c.clear.ensures.items; involved = c.clear-2.ensures.items; to_clean = c.clear-3.ensures.items };
+      },
+    )
+
+pub invariant_of-analyze-2 : goal.invariant_of-analyze-2
+invariant_of-analyze-2 g c =
+    let long = c.learn_and_clear.auto.var_flags in
+    let value = ap (λ x. length x) c.deref_mut.ensures.value in
+    let count = c.analyze.inside.var_flags.ok.0 in
+    given-back c.learn_and_clear.new.var_flags (drop (length c.learn_and_clear.new.var_flags) c.analyze.inside.var_flags.items) c.analyze.inside.var_flags.len (omega (arith, long, value, count)) c.learn_and_clear.ensures.unmarked

@@ -1,0 +1,7 @@
+use Rattle.std.proofs.Common.{ℕ, take}
+use Rattle.varisat_theory.specs.Membership.{◌∈◌}
+use Rattle.varisat_prop.specs.Parts.{IsMadeTrue}
+use Rattle.varisat_analysis.proofs.clause_literals.is_satisfied.Given as goal
+
+abbrev pub invariant-loop-lit : goal.invariant-loop-lit
+invariant-loop-lit g l = (m : ℕ) → m ∈ take l.lit-index l.lits → IsMadeTrue l.assignment.current m → ⊥

@@ -1,0 +1,66 @@
+use Rattle.std.proofs.Common.{◌≡◌, ◌+◌, true, false, take, take_all, get_or, set, sym, ap, ◌∙◌, subst, arith}
+use Rattle.varisat_prop.specs.View.{no_node}
+use Rattle.varisat_prop.proofs.ReadElements.{item-∈}
+use Rattle.varisat_analysis.specs.Bumps.{level_in}
+use Rattle.varisat_analysis.proofs.CountedLevels.{item-snoc, level-flagged, Counts, counts-none, counts-old, counts-new, counts-all, counts-only}
+use Rattle.varisat_analysis.proofs.glue.flag_levels.Goals as goal
+
+pub loop-lit-init : goal.loop-lit-init
+loop-lit-init g c = record { counts = counts-none (level_in c.args.impl_graph.now.nodes.items) c.args.flags.now c.requires.clear; few = omega arith }
+
+pub level-level-requires : goal.level-level-requires
+level-level-requires g c =
+    let i = c.requires.known c.lit-item.result (item-∈ c.args.lits.now c.loop-lit.lit-index c.lit-item.result c.loop-lit-test.true c.lit-item.is) in
+    omega (arith, i, c.var.ensures)
+
+pub bounds-flags-level : goal.bounds-flags-level
+bounds-flags-level g c =
+    level-flagged c.args.impl_graph.now.nodes.items c.args.lits.now c.args.flags.now c.loop-lit.flags c.loop-lit.lit-index c.lit-item.result c.var.result c.level-level.result c.requires.room c.loop-lit-test.true c.lit-item.is c.var.ensures c.level-level.ensures c.loop-lit.auto.flags
+
+pub bounds-flags-level-in-loop-lit : goal.bounds-flags-level-in-loop-lit
+bounds-flags-level-in-loop-lit g c =
+    level-flagged c.args.impl_graph.now.nodes.items c.args.lits.now c.args.flags.now c.loop-lit.flags c.loop-lit.lit-index c.lit-item.result c.var.result c.level-level.result c.requires.room c.loop-lit-test.true c.lit-item.is c.var.ensures c.level-level.ensures c.loop-lit.auto.flags
+
+pub loop-lit-preserved-then-flags-level : goal.loop-lit-preserved-then-flags-level
+loop-lit-preserved-then-flags-level g c =
+    let nodes = c.args.impl_graph.now.nodes.items in
+    let lits = c.args.lits.now in
+    let k = c.loop-lit.lit-index in
+    let l = c.lit-item.result in
+    let e : c.level-level.result ≡ level_in nodes l = c.level-level.ensures ∙ ap (λ v. (get_or nodes v no_node).level) c.var.ensures in
+    let few = c.loop-lit.invariant.few in
+    record {
+      counts = subst (λ ls. Counts (level_in nodes) ls c.loop-lit.flags c.loop-lit.count) (sym (item-snoc k lits l c.loop-lit-test.true c.lit-item.is))
+          (counts-old (level_in nodes) (take k lits) l c.loop-lit.flags c.loop-lit.count c.loop-lit.invariant.counts (subst (λ v. get_or c.loop-lit.flags v false ≡ true) e c.if-flags-level.true));
+      few = omega (arith, few);
+    }
+
+pub loop-lit-preserved : goal.loop-lit-preserved
+loop-lit-preserved g c =
+    let nodes = c.args.impl_graph.now.nodes.items in
+    let lits = c.args.lits.now in
+    let k = c.loop-lit.lit-index in
+    let l = c.lit-item.result in
+    let f = c.loop-lit.flags in
+    let e : c.level-level.result ≡ level_in nodes l = c.level-level.ensures ∙ ap (λ v. (get_or nodes v no_node).level) c.var.ensures in
+    let i = c.requires.room l (item-∈ lits k l c.loop-lit-test.true c.lit-item.is) in
+    let n = c.loop-lit.auto.flags in
+    let few = c.loop-lit.invariant.few in
+    record {
+      counts = subst (λ v. Counts (level_in nodes) (take (k + 1) lits) (set f v true) (c.loop-lit.count + 1)) (sym e)
+          (subst (λ ls. Counts (level_in nodes) ls (set f (level_in nodes l) true) (c.loop-lit.count + 1)) (sym (item-snoc k lits l c.loop-lit-test.true c.lit-item.is))
+          (counts-new (level_in nodes) (take k lits) l f c.loop-lit.count c.loop-lit.invariant.counts (omega (arith, i, n)) (subst (λ v. get_or f v false ≡ false) e c.if-flags-level.false)));
+      few = omega (arith, few);
+    }
+
+pub returns-clause-count : goal.returns-clause-count
+returns-clause-count g c =
+    let nodes = c.args.impl_graph.now.nodes.items in
+    counts-all (level_in nodes) c.args.lits.now c.loop-lit.flags c.loop-lit.count
+    (subst (λ ls. Counts (level_in nodes) ls c.loop-lit.flags c.loop-lit.count) (take_all c.loop-lit.lit-index c.args.lits.now c.loop-lit-test.false) c.loop-lit.invariant.counts)
+
+pub returns-clause-only : goal.returns-clause-only
+returns-clause-only g c n h =
+    let nodes = c.args.impl_graph.now.nodes.items in
+    counts-only (level_in nodes) c.args.lits.now c.loop-lit.flags c.loop-lit.count n
+    (subst (λ ls. Counts (level_in nodes) ls c.loop-lit.flags c.loop-lit.count) (take_all c.loop-lit.lit-index c.args.lits.now c.loop-lit-test.false) c.loop-lit.invariant.counts) h

@@ -1,0 +1,11 @@
+pub mod Flags
+pub mod Learned
+pub mod Levels
+pub mod Marks
+pub mod Redundancy
+pub mod HeaderChanges
+pub mod Reductions
+pub mod Collections
+pub mod Bumps
+pub mod FailedCores
+pub mod Assessments

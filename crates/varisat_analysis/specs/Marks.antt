@@ -1,0 +1,147 @@
+-- What conflict analysis marks on its way to the learned clause.
+use Rattle.std.specs.Prelude.{◌≡◌, ℕ, zero, suc, ◌+◌, ◌<◌, ◌≤◌, ◌⊎◌, Bool, true, false, ◌&&◌, nat_eq, List, [], ◌∷◌, ◌++◌, slice_index_or, length}
+use Rattle.varisat_theory.specs.Membership.{◌∈◌, ◌⊆◌, IsDistinct}
+use Rattle.varisat_theory.specs.Literals.{Literal, Clause, opposite, variable_of}
+use Rattle.varisat_theory.specs.Propagation.{Follows}
+use Rattle.varisat_prop.specs.declared.prop.graph.Conflict.{Conflict}
+use Rattle.varisat_clause.specs.Stores.{IsSound}
+use Rattle.varisat_clause.specs.Collected.{live_clauses}
+use Rattle.varisat_prop.specs.Changes.{causes_of, IsConflicting}
+use Rattle.varisat_prop.specs.View.{View, literal_at, node_at, node_of, level_of, StandsBefore, WellFormed, LevelsSettled, ViewFits}
+use Rattle.varisat_analysis.specs.declared.analyze_conflict.Parts.{Parts}
+use Rattle.varisat_analysis.specs.declared.analyze_conflict.Scratch.{Scratch}
+use Rattle.varisat_analysis.specs.Learned.{current_level, IsOfCurrentLevel, names_of, IsFirstPoint, ListsInvolved, IsAsserting}
+
+-- The search that analysis reads is a well-formed one, with the clauses of this sound store and these nodes, literals and decisions.
+pub record Sees {A : Type 0} (s : View) (parts : Parts A) : Type 0 where
+  pub well : WellFormed s
+  pub sound : IsSound parts.clause_alloc.now
+  pub clauses_are : live_clauses parts.clause_alloc.now ≡ s.clauses
+  pub nodes_are : parts.impl_graph.now.nodes.items ≡ s.nodes
+  pub trail_is : parts.trail.now.literals ≡ s.trail
+  pub decisions_are : parts.trail.now.decisions ≡ s.decisions
+
+-- Analysis sees the search, and has a flag for each variable.
+pub record CanMark {A : Type 0} (s : View) (parts : Parts A) (flags : List Bool) : Type 0 where
+  pub sees : Sees s parts
+  pub flags_are : length flags ≡ length s.nodes
+
+-- A conflict above level 0, where each level began with propagation at its end.
+pub record IsDeepConflict (s : View) (f : Conflict) : Type 0 where
+  pub settled : LevelsSettled s
+  pub conflict : IsConflicting s f
+  pub deep : 0 < current_level s
+
+-- what analysis writes
+pub record Marking : Type 0 where
+  -- the clause that becomes the learned one, and the names of the clauses that it came from
+  pub clause : Clause
+  pub involved : List Conflict
+  -- for each variable whether it is marked, and the marked ones whose flags are to be cleared
+  pub flags : List Bool
+  pub to_clean : List ℕ
+  -- literals whose reasons are still to be looked at
+  pub stack : List Literal
+
+abbrev pub marking : {A : Type 0} → Scratch A → List Bool → Marking
+marking scratch flags = record { clause = scratch.clause.items; involved = scratch.involved.items; flags = flags; to_clean = scratch.to_clean.items; stack = scratch.stack.items }
+
+-- the variable's flag is set
+abbrev pub IsMarked : List Bool → ℕ → Type 0
+IsMarked flags v = slice_index_or flags v false ≡ true
+
+-- no variable is marked, and no clause is begun
+pub record IsClean (x : Marking) : Type 0 where
+  pub unmarked : (v : ℕ) → slice_index_or x.flags v false ≡ false
+  pub clause : x.clause ≡ []
+  pub involved : x.involved ≡ []
+  pub to_clean : x.to_clean ≡ []
+
+-- Analysis may begin: it has a flag for each variable, there is a conflict above level 0, and nothing is marked.
+pub record MayBegin {A : Type 0} (s : View) (parts : Parts A) (f : Conflict) (x : Marking) : Type 0 where
+  pub can : CanMark s parts x.flags
+  pub conflict : IsDeepConflict s f
+  pub clean : IsClean x
+
+-- each marked variable is listed, and each listed one has a flag
+pub record MarksAreListed (x : Marking) : Type 0 where
+  pub marked : (v : ℕ) → IsMarked x.flags v → v ∈ x.to_clean
+  pub listed : (v : ℕ) → v ∈ x.to_clean → v < length x.flags
+
+-- the literal is false, at a level above 0 and below the current one
+pub record IsLower (s : View) (m : Literal) : Type 0 where
+  pub false_now : opposite m ∈ s.trail
+  pub above : 0 < level_of s m
+  pub below : level_of s m < current_level s
+
+-- The variable is that of a literal of the clause and listed, or that of a literal of the current level before place i.
+pub data IsMarkOf (s : View) (i : ℕ) (x : Marking) (v : ℕ) : Type 0 where
+  OfClause : (m : Literal) → m ∈ x.clause → variable_of m ≡ v → v ∈ x.to_clean → IsMarkOf s i x v
+  OfCurrentLevel : (k : ℕ) → k < i → IsOfCurrentLevel s k → variable_of (literal_at s k) ≡ v → IsMarkOf s i x v
+
+-- The clause's literals are false, of levels between 0 and the current one. The marked variables are theirs, which are listed, and some of the current level that stand before place i.
+pub record Marks (s : View) (i : ℕ) (x : Marking) : Type 0 where
+  pub lower : (m : Literal) → m ∈ x.clause → IsLower s m
+  pub marked : (m : Literal) → m ∈ x.clause → IsMarked x.flags (variable_of m)
+  pub distinct : IsDistinct x.clause
+  pub listed : (v : ℕ) → v ∈ x.to_clean → v < length s.nodes
+  pub known : (v : ℕ) → IsMarked x.flags v → IsMarkOf s i x v
+
+abbrev pub one_if : Bool → ℕ
+one_if false = 0
+one_if true = 1
+
+-- the literal at the place is of the current level, and is marked
+abbrev pub is_open : View → List Bool → ℕ → Bool
+is_open s flags k = nat_eq (node_at s k).level (current_level s) && slice_index_or flags (variable_of (literal_at s k)) false
+
+-- how many of the first i literals are of the current level and marked
+abbrev pub open_below : View → List Bool → ℕ → ℕ
+open_below s flags zero = 0
+open_below s flags (suc i) = open_below s flags i + one_if (is_open s flags i)
+
+-- the literals' opposites stand before the place
+abbrev pub AreFalseBefore : View → ℕ → List Literal → Type 0
+AreFalseBefore s i lits = (m : Literal) → m ∈ lits → StandsBefore s i (opposite m)
+
+-- False literals were marked, those above level 0 in so far as they weren't, and joined the clause where they are below the current level. As many as `count` of the current level are new.
+pub record Adds (s : View) (lits : List Literal) (count : ℕ) (x y : Marking) : Type 0 where
+  pub more : (v : ℕ) → IsMarked x.flags v → IsMarked y.flags v
+  pub only : (v : ℕ) → IsMarked y.flags v → IsMarked x.flags v ⊎ ((m : Literal) × (m ∈ lits) × (variable_of m ≡ v))
+  pub all : (m : Literal) → m ∈ lits → 0 < level_of s m → IsMarked y.flags (variable_of m)
+  pub longer : x.clause ⊆ y.clause
+  pub marks : (i : ℕ) → AreFalseBefore s i lits → i ≤ length s.trail → Marks s i x → Marks s i y
+  pub counted : (i : ℕ) → AreFalseBefore s i lits → i ≤ length s.trail → open_below s y.flags i ≡ open_below s x.flags i + count
+  pub involved : y.involved ≡ x.involved
+
+-- The literal's reason was listed, and the other literals of the reason added.
+pub record AddsReason (s : View) (l : Literal) (count : ℕ) (x y : Marking) : Type 0 where
+  pub listed : y.involved ≡ x.involved ++ names_of l (node_of s l).reason
+  pub adds : Adds s (causes_of s.clauses (node_of s l).reason) count (record x { involved = y.involved }) y
+
+-- The clause that is left of the conflict's clause, once it was resolved down to the first unique implication point.
+pub record IsResolved (s : View) (f : Conflict) (first : Literal) (x : Marking) : Type 0 where
+  pub place : ℕ
+  pub point : IsFirstPoint s f place
+  pub opposite_is : first ≡ opposite (literal_at s place)
+  pub follows : (held : List Clause) → ViewFits held s → Follows held (first ∷ x.clause)
+  pub marks : Marks s 0 x
+  pub involved : ListsInvolved s f x.involved
+
+-- What minimization leaves of the literals below the current level: the clause with the first literal follows where it did before.
+pub record IsMinimized (s : View) (others left : Clause) : Type 0 where
+  pub part : left ⊆ others
+  pub distinct : IsDistinct others → IsDistinct left
+  pub follows : (first : Literal) (held : List Clause) → ViewFits held s → Follows held (first ∷ others) → Follows held (first ∷ left)
+
+-- The clause was minimized; what was marked meanwhile is listed too.
+pub record Minimizes (s : View) (x y : Marking) : Type 0 where
+  pub minimized : IsMinimized s x.clause y.clause
+  pub cleaned : MarksAreListed y
+  pub involved : y.involved ≡ x.involved
+
+-- What a conflict above level 0 teaches, and from which clauses.
+pub record Teaches (s : View) (f : Conflict) (c : Clause) (involved : List Conflict) (level : ℕ) : Type 0 where
+  pub follows : (held : List Clause) → ViewFits held s → Follows held c
+  pub asserting : IsAsserting s f c level
+  pub involves : ListsInvolved s f involved

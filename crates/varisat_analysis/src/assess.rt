@@ -1,0 +1,153 @@
+//! Tiers of learned clauses by their glue, and what a conflict does to the clauses that took part in it.
+ghost use Rattle.std.specs.Prelude.{◌≡◌, length, false, true, OnOk, OnErr};
+ghost use Rattle.varisat_theory.specs.Membership.{◌∈◌};
+ghost use Rattle.varisat_clause.specs.Stored.{IsPlace, header_at, literals_at, with_header};
+ghost use Rattle.varisat_clause.specs.Stores.{clauses_of, IsSound, Holds};
+ghost use Rattle.varisat_clause.specs.Databases.{Tracks};
+ghost use Rattle.varisat_clause.specs.Collected.{live_clauses};
+ghost use Rattle.varisat_prop.specs.Changes.{NamesPlace};
+ghost use Rattle.varisat_analysis.specs.Bumps.{literals_among};
+ghost use Rattle.varisat_analysis.specs.HeaderChanges.{SameButHeaders};
+ghost use Rattle.varisat_analysis.specs.Assessments.{glue_of, tier_by_glue, assessed, improved, noted, scored, clause_bumped, clauses_bumped, CanCount};
+
+use crate::glue::compute_glue;
+use std::alloc::{AllocError, Allocator};
+use varisat_clause::activity::{ClauseActivity, bump_clause_activity};
+use varisat_clause::db::{ClauseDb, set_clause_tier};
+use varisat_clause::header::{ClauseHeader, Tier};
+use varisat_literals::Lit;
+use varisat_prop::clause::{ClauseAlloc, ClauseRef};
+use varisat_prop::prop::{Conflict, ImplGraph};
+
+/// The highest glue of a clause of the tier Core.
+const CORE_GLUE: usize = 2;
+
+/// The highest glue of a clause of the tier Mid.
+const MID_GLUE: usize = 6;
+
+/// The tier of a clause of the glue that may be deleted.
+fn tier_by_glue(glue: usize) -> Tier
+    ensures { result ≡ tier_by_glue glue }
+{
+    if glue <= CORE_GLUE {
+        Tier::Core
+    } else if glue <= MID_GLUE {
+        Tier::Mid
+    } else {
+        Tier::Local
+    }
+}
+
+/// The header of a learned clause, by the levels at its conflict.
+pub fn assess_learned_clause<A: Allocator + Copy>(
+    flags: &mut [bool],
+    impl_graph: &ImplGraph<A>,
+    lits: &[Lit],
+) -> ClauseHeader
+    requires { CanCount impl_graph.now.nodes.items lits.now flags.old }
+    ensures header { result ≡ assessed (glue_of impl_graph.now.nodes.items lits.now) }
+    ensures flags { flags.new ≡ flags.old }
+{
+    let glue = compute_glue(flags, impl_graph, lits);
+    let mut header = ClauseHeader::new();
+    header.set_glue(glue);
+    header.set_tier(tier_by_glue(glue));
+    header
+}
+
+/// Notes the glue and moves the clause to its tier, where the clause may be deleted and a higher glue is noted. A
+/// refused growth changes nothing.
+fn improve_glue<A: Allocator + Copy>(
+    alloc: &mut ClauseAlloc<A>,
+    db: &mut ClauseDb<A>,
+    cref: ClauseRef,
+    glue: usize,
+) -> Result<(), AllocError>
+    requires place { IsPlace (clauses_of alloc.old) cref }
+    requires live { (header_at (clauses_of alloc.old) cref).deleted ≡ false }
+    requires tracks { Tracks db.old alloc.old }
+    ensures improved { OnOk result (Holds alloc.new (length alloc.old.words) (with_header (clauses_of alloc.old) cref (improved glue (header_at (clauses_of alloc.old) cref)))) }
+    ensures refused { OnErr result (alloc.new ≡ alloc.old) }
+    ensures refused_too { OnErr result (db.new ≡ db.old) }
+    ensures tracks { Tracks db.new alloc.new }
+{
+    let header = alloc.header(cref);
+    if !header.redundant() {
+        return Ok(());
+    }
+    if glue >= header.glue() {
+        return Ok(());
+    }
+    set_clause_tier(alloc, db, cref, tier_by_glue(glue))?;
+    let mut header = alloc.header(cref);
+    header.set_glue(glue);
+    alloc.set_header(cref, header);
+    Ok(())
+}
+
+/// Says that the clause is active.
+fn set_active<A: Allocator + Copy>(alloc: &mut ClauseAlloc<A>, cref: ClauseRef)
+    requires sound { IsSound alloc.old }
+    requires place { IsPlace (clauses_of alloc.old) cref }
+    ensures { Holds alloc.new (length alloc.old.words) (with_header (clauses_of alloc.old) cref (record (header_at (clauses_of alloc.old) cref) { active = true })) }
+{
+    let mut header = alloc.header(cref);
+    header.set_active(true);
+    alloc.set_header(cref, header);
+}
+
+/// The clause takes part in a conflict: it becomes active, its activity is raised, and where it may be deleted and its
+/// glue is lower now than noted, it takes that glue and its tier. A refused growth changes nothing.
+pub fn bump_clause<A: Allocator + Copy>(
+    alloc: &mut ClauseAlloc<A>,
+    db: &mut ClauseDb<A>,
+    activity: &mut ClauseActivity,
+    flags: &mut [bool],
+    impl_graph: &ImplGraph<A>,
+    cref: ClauseRef,
+) -> Result<(), AllocError>
+    requires place { IsPlace (clauses_of alloc.old) cref }
+    requires live { (header_at (clauses_of alloc.old) cref).deleted ≡ false }
+    requires tracks { Tracks db.old alloc.old }
+    requires count { CanCount impl_graph.now.nodes.items (literals_at (clauses_of alloc.old) cref) flags.old }
+    ensures bumped { OnOk result (Holds alloc.new (length alloc.old.words) (clause_bumped impl_graph.now.nodes.items cref (scored alloc.old activity.old)).clauses) }
+    ensures scale { OnOk result (activity.new ≡ (clause_bumped impl_graph.now.nodes.items cref (scored alloc.old activity.old)).scale) }
+    ensures refused { OnErr result (alloc.new ≡ alloc.old) }
+    ensures refused_too { OnErr result (db.new ≡ db.old) }
+    ensures unscaled { OnErr result (activity.new ≡ activity.old) }
+    ensures flags { flags.new ≡ flags.old }
+    ensures tracks { Tracks db.new alloc.new }
+{
+    let glue = compute_glue(flags, impl_graph, alloc.lits(cref));
+    improve_glue(alloc, db, cref, glue)?;
+    set_active(alloc, cref);
+    bump_clause_activity(alloc, activity, cref);
+    Ok(())
+}
+
+/// Each named clause of the store takes part in a conflict, in turn. Fails where a growth is refused.
+pub fn bump_named<A: Allocator + Copy>(
+    alloc: &mut ClauseAlloc<A>,
+    db: &mut ClauseDb<A>,
+    activity: &mut ClauseActivity,
+    flags: &mut [bool],
+    impl_graph: &ImplGraph<A>,
+    names: &[Conflict],
+) -> Result<(), AllocError>
+    requires tracks { Tracks db.old alloc.old }
+    requires named { (f : Conflict) → f ∈ names.now → NamesPlace (live_clauses alloc.old) f }
+    requires count { CanCount impl_graph.now.nodes.items (literals_among (live_clauses alloc.old) names.now) flags.old }
+    ensures bumped { OnOk result (Holds alloc.new (length alloc.old.words) (clauses_bumped impl_graph.now.nodes.items names.now (scored alloc.old activity.old)).clauses) }
+    ensures scale { OnOk result (activity.new ≡ (clauses_bumped impl_graph.now.nodes.items names.now (scored alloc.old activity.old)).scale) }
+    ensures headers { SameButHeaders (live_clauses alloc.old) (live_clauses alloc.new) }
+    ensures flags { flags.new ≡ flags.old }
+    ensures tracks { Tracks db.new alloc.new }
+{
+    for name in names {
+        let Conflict::Long(cref) = name else {
+            continue;
+        };
+        bump_clause(alloc, db, activity, flags, impl_graph, *cref)?;
+    }
+    Ok(())
+}

@@ -1,5 +1,0 @@
-use Rattle.varisat_search.proofs.AnalysisResult.{Highest}
-use Rattle.varisat_search.proofs.analyze_conflict.highest_place.Given as goal
-
-abbrev pub invariant-loop-place : goal.invariant-loop-place
-invariant-loop-place g l = Highest g.s l.clause l.highest l.place

@@ -1,7 +1,0 @@
-use Rattle.std.proofs.Common.{take}
-use Rattle.varisat_theory.specs.Membership.{SameSet, IsDistinct}
-use Rattle.varisat_search.specs.Loading.{AreFlagged}
-use Rattle.varisat_search.proofs.load.copy_distinct.Given as goal
-
-abbrev pub invariant-loop-lit : goal.invariant-loop-lit
-invariant-loop-lit g l = record { distinct : IsDistinct l.lits.items; same : SameSet l.lits.items (take l.lit-index l.clause); flagged : AreFlagged l.flags l.lits.items }

@@ -10,7 +10,8 @@ use Rattle.varisat_clause.specs.Stored.{StoredClause}
 use Rattle.varisat_prop.specs.View.{View, kept, WellFormed}
 use Rattle.varisat_prop.specs.Changes.{named_in, IsNamed}
 use Rattle.varisat_vsids.specs.Activities.{Activities, bumped}
-use Rattle.varisat_analysis.specs.Bumps.{bumped_each, literals_among, level_in, AreVariablesAbove, Bumping, bumping, IsFlagged, MayBump, BumpsNew}
+use Rattle.varisat_analysis.specs.Flags.{IsFlagged}
+use Rattle.varisat_analysis.specs.Bumps.{bumped_each, literals_among, level_in, AreVariablesAbove, Bumping, bumping, MayBump, BumpsNew}
 use Rattle.varisat_clause.proofs.DatabaseTracks.{true-or-false}
 use Rattle.varisat_analysis.proofs.WellFormedViews.{named-kept}
 
@@ -90,7 +91,7 @@ module _ (nodes : List ImplNode) where
   may-part ls ms x y m h f a = record { known = λ l i. m.known l (h l i); flags = let n = m.flags in omega (arith, n, f); activity = a ∙ m.activity }
 
   -- nothing is bumped where each literal's variable is of level 0, or was bumped already
-  bumps-nothing : (ls : List Literal) (x : Bumping) → ((m : Literal) → m ∈ ls → 0 < level_in nodes m → IsFlagged x (variable_of m)) → BumpsNew nodes ls x x
+  bumps-nothing : (ls : List Literal) (x : Bumping) → ((m : Literal) → m ∈ ls → 0 < level_in nodes m → IsFlagged x.flags (variable_of m)) → BumpsNew nodes ls x x
   bumps-nothing ls x h = record {
     vars = [];
     activities = refl;
@@ -106,12 +107,12 @@ module _ (nodes : List ImplNode) where
   bumps-none x = bumps-nothing [] x (λ m i. absurd i)
 
   -- the literal's variable is of level 0, or was bumped already
-  pub bumps-skip : (l : Literal) (x : Bumping) → (level_in nodes l ≡ 0) ⊎ IsFlagged x (variable_of l) → BumpsNew nodes (l ∷ []) x x
+  pub bumps-skip : (l : Literal) (x : Bumping) → (level_in nodes l ≡ 0) ⊎ IsFlagged x.flags (variable_of l) → BumpsNew nodes (l ∷ []) x x
   bumps-skip l x h = bumps-nothing (l ∷ []) x
       (λ m i o. ⊎_elim
       (λ e. ⊎_elim
       (λ z. let q = ap (level_in nodes) e in absurd (omega (arith, o, q, z)))
-      (λ f. subst (λ y. IsFlagged x (variable_of y)) (sym e) f)
+      (λ f. subst (λ y. IsFlagged x.flags (variable_of y)) (sym e) f)
       h)
       (λ z. absurd z)
       i)
@@ -162,7 +163,7 @@ module _ (nodes : List ImplNode) where
   }
 
   -- all flags that were set are taken away
-  pub bumps-clear : (ls : List Literal) (x y : Bumping) (g : List Bool) → ((v : ℕ) → get_or x.flags v false ≡ false) → BumpsNew nodes ls x y → ((l : Literal) → l ∈ ls → get_or g (variable_of l) false ≡ false) → ((v : ℕ) → get_or g v false ≡ true → IsFlagged y v) → (v : ℕ) → get_or g v false ≡ false
+  pub bumps-clear : (ls : List Literal) (x y : Bumping) (g : List Bool) → ((v : ℕ) → get_or x.flags v false ≡ false) → BumpsNew nodes ls x y → ((l : Literal) → l ∈ ls → get_or g (variable_of l) false ≡ false) → ((v : ℕ) → get_or g v false ≡ true → IsFlagged y.flags v) → (v : ℕ) → get_or g v false ≡ false
   bumps-clear ls x y g c b gone fewer v =
       ⊎_elim
       (λ e. ⊎_elim

@@ -19,8 +19,9 @@ use Rattle.varisat_prop.specs.View.{View, literal_at, decision_at, node_of, node
 use Rattle.varisat_prop.proofs.LiteralValues.{made-inside}
 use Rattle.varisat_prop.proofs.ReadElements.{element}
 use Rattle.varisat_prop.proofs.TrailValues.{trail-true}
+use Rattle.varisat_analysis.specs.Flags.{IsFlagged}
 use Rattle.varisat_analysis.specs.Learned.{clause_of, reason_clause}
-use Rattle.varisat_analysis.specs.FailedCores.{IsDecided, IsReachedFrom, ListsFailedCore, IsFlagged, FlagsCauses, decided_by}
+use Rattle.varisat_analysis.specs.FailedCores.{IsDecided, IsReachedFrom, ListsFailedCore, FlagsCauses, decided_by}
 use Rattle.varisat_analysis.proofs.AnalysisMarks.{take-grow, take-last, marked-old, marked-new}
 use Rattle.varisat_analysis.proofs.BumpedVariables.{clear-given-back}
 use Rattle.varisat_analysis.proofs.CopiedLiterals.{distinct-push, flag-inside, own-list}

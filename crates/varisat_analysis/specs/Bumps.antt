@@ -1,5 +1,5 @@
 -- What a conflict does to the activities.
-use Rattle.std.specs.Prelude.{◌≡◌, ℕ, ◌<◌, ◌≤◌, ◌⊎◌, Bool, true, false, List, [], ◌∷◌, ◌++◌, length, slice_index_or}
+use Rattle.std.specs.Prelude.{◌≡◌, ℕ, ◌<◌, ◌≤◌, ◌⊎◌, Bool, false, List, [], ◌∷◌, ◌++◌, length, slice_index_or}
 use Rattle.varisat_theory.specs.Membership.{◌∈◌, IsDistinct}
 use Rattle.varisat_theory.specs.Literals.{Literal, variable_of}
 use Rattle.varisat_prop.specs.declared.prop.graph.ImplNode.{ImplNode}
@@ -8,6 +8,7 @@ use Rattle.varisat_clause.specs.Stored.{StoredClause}
 use Rattle.varisat_prop.specs.Changes.{named_in}
 use Rattle.varisat_prop.specs.View.{View, no_node}
 use Rattle.varisat_vsids.specs.Activities.{Activities, bumped, decayed}
+use Rattle.varisat_analysis.specs.Flags.{IsFlagged}
 
 -- bumped for each variable of the list in turn
 abbrev pub bumped_each : List ℕ → Activities → Activities
@@ -41,9 +42,6 @@ pub record Bumping : Type 0 where
 abbrev pub bumping : List Bool → Activities → Bumping
 bumping flags a = record { flags = flags; activities = a }
 
-abbrev pub IsFlagged : Bumping → ℕ → Type 0
-IsFlagged x v = slice_index_or x.flags v false ≡ true
-
 -- the literals' variables have a level, a flag and an activity
 pub record MayBump (nodes : List ImplNode) (lits : List Literal) (x : Bumping) : Type 0 where
   pub known : (l : Literal) → l ∈ lits → variable_of l < length nodes
@@ -57,6 +55,6 @@ pub record BumpsNew (nodes : List ImplNode) (lits : List Literal) (x y : Bumping
   pub distinct : IsDistinct vars
   pub only : (v : ℕ) → v ∈ vars → (l : Literal) × (l ∈ lits) × (0 < level_in nodes l) × (variable_of l ≡ v)
   pub fresh : (v : ℕ) → v ∈ vars → slice_index_or x.flags v false ≡ false
-  pub more : (v : ℕ) → (IsFlagged x v ⊎ (v ∈ vars)) → IsFlagged y v
-  pub listed : (v : ℕ) → IsFlagged y v → IsFlagged x v ⊎ (v ∈ vars)
-  pub all : (l : Literal) → l ∈ lits → 0 < level_in nodes l → IsFlagged y (variable_of l)
+  pub more : (v : ℕ) → (IsFlagged x.flags v ⊎ (v ∈ vars)) → IsFlagged y.flags v
+  pub listed : (v : ℕ) → IsFlagged y.flags v → IsFlagged x.flags v ⊎ (v ∈ vars)
+  pub all : (l : Literal) → l ∈ lits → 0 < level_in nodes l → IsFlagged y.flags (variable_of l)

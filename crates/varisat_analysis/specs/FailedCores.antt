@@ -1,5 +1,5 @@
 -- What is found once an assumption failed.
-use Rattle.std.specs.Prelude.{◌≡◌, ℕ, ◌<◌, ◌⊎◌, Bool, true, false, List, [], ◌∷◌, length, slice_index_or}
+use Rattle.std.specs.Prelude.{◌≡◌, ℕ, ◌<◌, ◌⊎◌, Bool, List, [], ◌∷◌, length}
 use Rattle.varisat_theory.specs.Membership.{◌∈◌, IsDistinct}
 use Rattle.varisat_theory.specs.Literals.{Literal, Clause, opposite}
 use Rattle.varisat_theory.specs.Propagation.{Conflicts}
@@ -7,6 +7,7 @@ use Rattle.varisat_theory.specs.Analysis.{Reached}
 use Rattle.varisat_prop.specs.declared.prop.graph.Reason.{Reason}
 use Rattle.varisat_prop.specs.declared.prop.graph.Reason.TheVariants as reason
 use Rattle.varisat_prop.specs.View.{View, literal_at, decision_at, level_of, ViewFits}
+use Rattle.varisat_analysis.specs.Flags.{IsFlagged}
 use Rattle.varisat_analysis.specs.Learned.{reason_clause}
 
 -- the literal was decided: it opens a level
@@ -26,10 +27,6 @@ pub record ListsFailedCore (s : View) (failed : Literal) (core : List Literal) :
   pub distinct : IsDistinct core
   -- propagation from the core over whatever clauses a proof holds comes to a conflict
   pub conflicts : (held : List Clause) → ViewFits held s → Conflicts held core
-
--- the literal's flag is set
-abbrev pub IsFlagged : List Bool → Literal → Type 0
-IsFlagged flags l = slice_index_or flags l false ≡ true
 
 -- Of the false literals, the opposites that are true above level 0 were flagged, and no other literal.
 pub record FlagsCauses (s : View) (lits : List Literal) (old new : List Bool) : Type 0 where

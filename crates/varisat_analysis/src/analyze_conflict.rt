@@ -253,8 +253,8 @@ fn mark_causes<A: Allocator + Copy>(
         let Some(level) = level_to_mark(parts, var_flags, *lit) else {
             continue;
         };
-        // A decision that isn't marked is implied by nothing. Where no literal of the clause is of the level, the search
-        // would come to the decision of that level in the end; a filter that holds too much only makes it go on.
+        // A decision that isn't marked is implied by nothing. Where no literal of the clause is of the level, the
+        // search would come to the decision of that level in the end; a filter that holds too much only makes it go on.
         if parts.impl_graph.reason(lit.var()).is_unit() || !levels.test(level) {
             return Ok(false);
         }
@@ -291,8 +291,8 @@ fn is_redundant<A: Allocator + Copy>(
             .reason(implied.var())
             .lits(parts.clause_alloc);
         if !mark_causes(parts, scratch, var_flags, levels, lits)? {
-            // What this search marked need not be implied, and a later one would take it for such. The marks of a search
-            // that came to its end stay: what they stand for is implied, and is not searched again.
+            // What this search marked need not be implied, and a later one would take it for such. The marks of a
+            // search that came to its end stay: what they stand for is implied, and is not searched again.
             clear_flags(var_flags, &scratch.to_clean[top..]);
             scratch.to_clean.truncate(top);
             return Ok(false);

@@ -98,8 +98,8 @@ fn clear_clauses<A: Allocator + Copy>(
     }
 }
 
-/// Bumps each variable above level 0 of the clauses once. The flags tell which were bumped already, so that no memory is
-/// taken; all are false again at the end.
+/// Bumps each variable above level 0 of the clauses once. The flags tell which were bumped already, so that no memory
+/// is taken; all are false again at the end.
 pub fn bump_each_once<A: Allocator + Copy>(
     vsids: &mut Vsids<A>,
     flags: &mut [bool],

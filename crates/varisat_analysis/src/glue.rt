@@ -12,7 +12,8 @@ use std::marker::Model;
 use varisat_literals::Lit;
 use varisat_prop::prop::ImplGraph;
 
-/// A Bloom filter of levels. It may hold a level that was not added, where that differs from an added one by a multiple of 64.
+/// A Bloom filter of levels. It may hold a level that was not added, where that differs from an added one by a multiple
+/// of 64.
 #[derive(Debug, Drop)]
 pub struct LevelAbstraction {
     bits: u64,

@@ -48,8 +48,8 @@ pub fn is_reason_clause<A: Allocator + Copy>(
     }
 }
 
-/// Marks the clause where it is the reason of its first literal, and else takes its mark away. One that is deleted stays
-/// as it is.
+/// Marks the clause where it is the reason of its first literal, and else takes its mark away. One that is deleted
+/// stays as it is.
 fn mark_reason<A: Allocator + Copy>(
     assignment: &Assignment<A>,
     clause_alloc: &mut ClauseAlloc<A>,
@@ -109,7 +109,8 @@ fn repoint_reason<A: Allocator + Copy>(
     }
 }
 
-/// Points each reason at its clause's place in the new store, where the i-th clause is the i-th that is not deleted here.
+/// Points each reason at its clause's place in the new store, where the i-th clause is the i-th that is not deleted
+/// here.
 pub fn repoint_reasons<A: Allocator + Copy>(
     assignment: &Assignment<A>,
     clause_alloc: &ClauseAlloc<A>,

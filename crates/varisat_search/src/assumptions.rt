@@ -104,7 +104,8 @@ impl<A: Allocator + Copy> Assumptions<A> {
         Ok(())
     }
 
-    /// Notes that no level is left.
+    /// Notes that no level is left. `levels::full_restart` comes to this by `lower_levels`; it is for a caller that
+    /// undoes all decisions in another way, before the assumptions change.
     pub fn full_restart(&mut self)
         ensures { self.new ≡ record self.old { levels = 0 } }
     {
@@ -177,8 +178,8 @@ impl<A: Allocator + Copy> Assumptions<A> {
     }
 }
 
-/// A copy of the list.
-fn copied<A: Allocator + Copy>(alloc: A, lits: &[Lit]) -> Result<Vec<Lit, A>, AllocError>
+/// A copy of the list. Fails where it is out of memory.
+pub fn copied<A: Allocator + Copy>(alloc: A, lits: &[Lit]) -> Result<Vec<Lit, A>, AllocError>
     ensures { IfOk result (λ copy. copy.items ≡ lits.now) }
 {
     let mut copy = Vec::new(alloc);
@@ -197,8 +198,8 @@ pub enum EnqueueAssumption {
     Conflict,
 }
 
-/// Replaces the assumptions, which `user` lists as the user names them, and undoes all decisions. The verdict is known no
-/// more, unless it was Unsat. A refused growth changes nothing.
+/// Replaces the assumptions, which `user` lists as the user names them, and undoes all decisions. The verdict is known
+/// no more, unless it was Unsat. A refused growth changes nothing.
 pub fn set_assumptions<A: Allocator + Copy>(
     ctx: &mut Context<A>,
     user: &[Lit],

@@ -10,8 +10,8 @@ use std::alloc::{AllocError, Allocator};
 use varisat_analysis::reasons::repoint_reasons;
 use varisat_clause::collect::{collected, is_collection_due};
 
-/// Moves the clauses that are not deleted to a new store, in which they stand one after another. Reasons follow, and the
-/// watch lists are switched off, since they name clauses by their old places. A refused growth changes nothing.
+/// Moves the clauses that are not deleted to a new store, in which they stand one after another. Reasons follow, and
+/// the watch lists are switched off, since they name clauses by their old places. A refused growth changes nothing.
 fn collect<A: Allocator + Copy>(ctx: &mut Context<A>) -> Result<(), AllocError>
     requires { IsReady ctx.old }
     ensures collected { OnOk result (IsCollected ctx.new.clause_alloc ctx.new.clause_db (clauses_of ctx.old.clause_alloc)) }
@@ -33,8 +33,8 @@ fn collect<A: Allocator + Copy>(ctx: &mut Context<A>) -> Result<(), AllocError>
     Ok(())
 }
 
-/// Collects the garbage where it is more than half of the store's words, and else changes nothing, as where a growth was
-/// refused.
+/// Collects the garbage where it is more than half of the store's words, and else changes nothing, as where a growth
+/// was refused.
 pub fn collect_garbage<A: Allocator + Copy>(ctx: &mut Context<A>) -> Result<(), AllocError>
     requires { IsReady ctx.old }
     ensures collected { OnOk result (length ctx.old.clause_alloc.words < 2 * ctx.old.clause_db.garbage → IsCollected ctx.new.clause_alloc ctx.new.clause_db (clauses_of ctx.old.clause_alloc)) }

@@ -103,8 +103,8 @@ impl<A: Allocator + Copy> Context<A> {
     }
 }
 
-/// Raises the count of variables. The new ones have no value, had the value false, and are not available for decisions. A
-/// refused growth forgets no value that was remembered.
+/// Raises the count of variables. The new ones have no value, had the value false, and are not available for decisions.
+/// A refused growth forgets no value that was remembered.
 pub fn set_var_count<A: Allocator + Copy>(
     ctx: &mut Context<A>,
     count: usize,

@@ -115,7 +115,8 @@ pub fn add_variables<A: Allocator + Copy>(
     Ok(())
 }
 
-/// Makes the variable unavailable for decisions. A search goes on where no kept clause and no assumption names the variable.
+/// Makes the variable unavailable for decisions. A search goes on where no kept clause and no assumption names the
+/// variable.
 pub fn remove_var<A: Allocator + Copy>(ctx: &mut Context<A>, var: Var)
     requires ready { IsReady ctx.old }
     requires known { var < length ctx.old.assignment.current }

@@ -96,8 +96,8 @@ fn add_distinct<A: Allocator + Copy>(ctx: &mut Context<A>) -> Result<(), StoreEr
     Ok(())
 }
 
-/// Loads a clause, and undoes all decisions. Assumptions stay, without a level. Literals that stand twice count once, and a clause with a literal and its
-/// opposite, or with one that is true at level 0, is not kept.
+/// Loads a clause, and undoes all decisions. Assumptions stay, without a level. Literals that stand twice count once,
+/// and a clause with a literal and its opposite, or with one that is true at level 0, is not kept.
 pub fn load_clause<A: Allocator + Copy>(
     ctx: &mut Context<A>,
     lits: &[Lit],

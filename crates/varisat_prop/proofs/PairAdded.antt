@@ -17,6 +17,7 @@ use Rattle.varisat_prop.specs.Watches.{Watches, IsCovered, IsImpliedTo, IsPropag
 use Rattle.varisat_prop.proofs.KeptPairs.{is-less, is-not-less, turned}
 use Rattle.varisat_prop.proofs.TrailExtend.{get_or-last}
 use Rattle.varisat_prop.proofs.WatchKept.{propagated-enqueued}
+use Rattle.varisat_prop.proofs.WellFormedChanges.{MayBeKept, well-kept}
 
 -- 1. One literal at the end of a list.
 module _ (B : List (List Literal)) (x m : Literal) (inside : x < length B) where
@@ -177,39 +178,29 @@ module _ (s : View) (a b : Literal) (first : opposite a < length s.binary) (seco
   pub well-pair : WellFormed s → variable_of a < length s.values → variable_of b < length s.values → WellFormed more
   well-pair w i j =
       let g = adds-pair s.binary a b first second in
-      record {
-        sound = w.sound;
-        nodes_are = w.nodes_are;
-        small = w.small;
+      well-kept s s.clauses more.binary s.queue_head w
+      (record {
         places = w.places;
-        in_range = kept-all (λ c. (l : Literal) → l ∈ c → variable_of l < length s.values) w.in_range (range a b i j) (range b a j i);
-        several = kept-all (λ c. 2 ≤ length c) w.several (omega arith) (omega arith);
-        distinct = kept-all IsDistinct w.distinct (different a b other) (different b a (λ e. other (sym e)));
-        binary_back = λ l m h. ⊎_elim
+        each = kept-all (MayBeKept more) (λ c h. record { in_range = w.in_range c h; several = w.several c h; distinct = w.distinct c h })
+            (record { in_range = range a b i j; several = omega arith; distinct = different a b other })
+            (record { in_range = range b a j i; several = omega arith; distinct = different b a (λ e. other (sym e)) });
+        back = λ l m h. ⊎_elim
             (λ k. g.old (opposite m) (opposite l) (w.binary_back l m k))
             (λ o. ⊎_elim
             (λ (e, f). subst (λ x. x ∈ get_or more.binary (opposite m) []) (sym (ap opposite e ∙ opposite_twice a)) (subst (λ x. a ∈ get_or more.binary (opposite x) []) (sym f) g.second))
             (λ (e, f). subst (λ x. x ∈ get_or more.binary (opposite m) []) (sym (ap opposite e ∙ opposite_twice b)) (subst (λ x. b ∈ get_or more.binary (opposite x) []) (sym f) g.first))
             o)
             (g.new l m h);
-        binary_other = λ l m h e. ⊎_elim
+        other = λ l m h e. ⊎_elim
             (λ k. w.binary_other l m k e)
             (λ o. ⊎_elim
             (λ (f, d). other (sym (opposite_twice a) ∙ sym (ap opposite f) ∙ sym e ∙ d))
             (λ (f, d). other (sym d ∙ e ∙ ap opposite f ∙ opposite_twice b))
             o)
             (g.new l m h);
-        is_true = w.is_true;
-        stands = w.stands;
         head = w.head;
-        depth_is = w.depth_is;
-        decided = w.decided;
-        rising = w.rising;
-        levels_to = w.levels_to;
-        levels_up = w.levels_up;
-        levels_down = w.levels_down;
-        reason_is = λ k h. reason-stays k (node_at s k).reason (w.reason_is k h);
-      }
+        reasons = λ k h. reason-stays k (node_at s k).reason (w.reason_is k h);
+      })
     where
       range : (x y : Literal) → variable_of x < length s.values → variable_of y < length s.values → (l : Literal) → l ∈ (x ∷ y ∷ []) → variable_of l < length s.values
       range x y h k l (inl e) = subst (λ z. variable_of z < length s.values) (sym e) h

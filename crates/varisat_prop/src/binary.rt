@@ -2,6 +2,7 @@
 ghost use Rattle.std.specs.Prelude.{◌≡◌, ◌<◌, ◌≤◌, ◌*◌, ◌-◌, ◌++◌, ◌∷◌, [], length, replicate, OnOk, slice_set, slice_index_or};
 ghost use Rattle.varisat_theory.specs.Literals.{opposite};
 
+use crate::lists::push_lists;
 use std::alloc::{AllocError, Allocator};
 use std::marker::Model;
 use varisat_literals::Lit;
@@ -41,27 +42,13 @@ impl<A: Allocator + Copy> BinaryClauses<A> {
         self.by_lit.len()
     }
 
-    /// One more list, without literals.
-    fn push_list(&mut self) -> Result<(), AllocError>
-        ensures { OnOk result (self.new ≡ self.old ++ [] ∷ []) }
-    {
-        let alloc = *self.by_lit.allocator();
-        self.by_lit.push(Vec::new(alloc))?;
-        Ok(())
-    }
-
     /// Raises the count of variables. The new ones imply nothing.
     pub fn set_var_count(&mut self, count: usize) -> Result<(), AllocError>
         requires raised { length self.old ≤ 2 * count }
         requires small { count ≤ 0x1000_0000 }
         ensures { OnOk result (self.new ≡ self.old ++ replicate (2 * count - length self.old) []) }
     {
-        let old_count = self.len();
-        let mut added = 0;
-        while added < 2 * count - old_count {
-            self.push_list()?;
-            added += 1;
-        }
+        push_lists(&mut self.by_lit, 2 * count)?;
         Ok(())
     }
 

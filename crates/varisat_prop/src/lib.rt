@@ -3,4 +3,5 @@
 
 pub mod binary;
 pub mod clause;
+mod lists;
 pub mod prop;

@@ -7,6 +7,7 @@ ghost use Rattle.varisat_prop.specs.Watches.{no_watches, list_of, with_list};
 ghost use Rattle.varisat_prop.specs.Visits.{WatchesClause};
 
 use crate::clause::ClauseRef;
+use crate::lists::push_lists;
 use std::alloc::{AllocError, Allocator};
 use std::marker::Model;
 use std::mem;
@@ -84,27 +85,13 @@ impl<A: Allocator + Copy> Watchlists<A> {
         self.enabled = false;
     }
 
-    /// One more list, without watches.
-    fn push_list(&mut self) -> Result<(), AllocError>
-        ensures { OnOk result (self.new ≡ record self.old { lists = self.old.lists ++ [] ∷ [] }) }
-    {
-        let alloc = *self.watches.allocator();
-        self.watches.push(Vec::new(alloc))?;
-        Ok(())
-    }
-
     /// Raises the count of variables. The new ones have no watches.
     pub fn set_var_count(&mut self, count: usize) -> Result<(), AllocError>
         requires raised { length self.old.lists ≤ 2 * count }
         requires small { count ≤ 0x1000_0000 }
         ensures { OnOk result (self.new ≡ record self.old { lists = self.old.lists ++ replicate (2 * count - length self.old.lists) [] }) }
     {
-        let old_count = self.len();
-        let mut added = 0;
-        while added < 2 * count - old_count {
-            self.push_list()?;
-            added += 1;
-        }
+        push_lists(&mut self.watches, 2 * count)?;
         Ok(())
     }
 

@@ -12,6 +12,9 @@ pub mod PropagateQueue
 pub mod PropagateSteps
 pub mod NextLiteral
 pub mod ReadElements
+pub mod SimplifiedClauses
+pub mod SimplifiedPairs
+pub mod SimplifiedView
 pub mod TrailExtend
 pub mod TrailValues
 pub mod ViewGrowth

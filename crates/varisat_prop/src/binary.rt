@@ -1,8 +1,10 @@
 //! The kept clauses of two literals, as what each literal implies by them.
 ghost use Rattle.std.specs.Prelude.{◌≡◌, ◌<◌, ◌≤◌, ◌*◌, ◌-◌, ◌++◌, ◌∷◌, [], length, replicate, OnOk, slice_set, slice_index_or};
 ghost use Rattle.varisat_theory.specs.Literals.{opposite};
+ghost use Rattle.varisat_prop.specs.Simplified.{is_unassigned, unassigned_implied, without_assigned};
 
 use crate::lists::push_lists;
+use crate::prop::assignment::Assignment;
 use std::alloc::{AllocError, Allocator};
 use std::marker::Model;
 use varisat_literals::Lit;
@@ -89,4 +91,35 @@ impl<A: Allocator + Copy> BinaryClauses<A> {
     {
         self.by_lit[lit.code()].as_slice()
     }
+
+    /// Takes from the literal's list what has a value, and all of it where the literal has one itself.
+    fn simplify_list(&mut self, lit: Lit, values: &[Option<bool>])
+        requires { lit < length self.old }
+        ensures { self.new ≡ slice_set self.old lit (unassigned_implied values.now lit (slice_index_or self.old lit [])) }
+    {
+        let implied = self.implied_mut(lit);
+        if has_no_value(values, lit) {
+            implied.retain(|other| has_no_value(values, *other));
+        } else {
+            implied.clear();
+        }
+    }
+
+    /// Drops the clauses with a literal that has a value. It takes no memory.
+    pub fn simplify(&mut self, assignment: &Assignment<A>)
+        requires { length self.old ≤ 0x2000_0000 }
+        ensures { self.new ≡ without_assigned assignment.now.current self.old }
+    {
+        let values = assignment.assignment();
+        for code in 0..self.len() {
+            self.simplify_list(Lit::from_code(code), values);
+        }
+    }
+}
+
+/// Whether the literal's variable has no value.
+fn has_no_value(values: &[Option<bool>], lit: Lit) -> bool
+    ensures { result ≡ is_unassigned values.now lit }
+{
+    !matches!(values.get(lit.index()), Some(Some(_)))
 }

@@ -1,11 +1,12 @@
 //! Searches that reduce their learned clauses before each step.
+ghost use Rattle.std.specs.Prelude.{◌<◌, OnOk};
 ghost use Rattle.varisat_search.specs.Contexts.{IsReady};
 
-use crate::searches::loaded;
+use crate::searches::{load, loaded};
 use linked_list_allocator::LocalHeap;
 use std::alloc::Allocator;
 use std::test::Fail;
-use varisat_literals::{Lit, lits};
+use varisat_literals::Lit;
 use varisat_names::config::SolverConfigUpdate;
 use varisat_prop::clause::StoreError;
 use varisat_search::context::Context;
@@ -37,57 +38,60 @@ fn verdict_after<A: Allocator + Copy>(
     Ok(ctx.solver_state.sat_state)
 }
 
-// Five pigeons, each in one of four holes, and no two in one hole.
+/// The literal that says of one of five pigeons that it is in one of four holes.
+fn in_hole(pigeon: usize, hole: usize) -> Lit
+    requires pigeon { pigeon < 5 }
+    requires hole { hole < 4 }
+{
+    Lit::from_index(4 * pigeon + hole, true)
+}
+
+/// Loads that no two pigeons are in the hole.
+fn keep_apart<A: Allocator + Copy>(ctx: &mut Context<A>, hole: usize) -> Result<(), StoreError>
+    requires ready { IsReady ctx.old }
+    requires hole { hole < 4 }
+    ensures { OnOk result (IsReady ctx.new) }
+{
+    for first in 0..5 {
+        for second in first + 1..5 {
+            load(ctx, &[!in_hole(first, hole), !in_hole(second, hole)])?;
+        }
+    }
+    Ok(())
+}
+
+/// Loads that each pigeon is in a hole, and no two are in one.
+fn load_pigeons<A: Allocator + Copy>(ctx: &mut Context<A>) -> Result<(), StoreError>
+    requires { IsReady ctx.old }
+    ensures { OnOk result (IsReady ctx.new) }
+{
+    for pigeon in 0..5 {
+        let holes = [
+            in_hole(pigeon, 0),
+            in_hole(pigeon, 1),
+            in_hole(pigeon, 2),
+            in_hole(pigeon, 3),
+        ];
+        load(ctx, &holes)?;
+    }
+    for hole in 0..4 {
+        keep_apart(ctx, hole)?;
+    }
+    Ok(())
+}
+
+/// The verdict on the pigeons, which don't fit.
+fn verdict_on_pigeons<A: Allocator + Copy>(ctx: &mut Context<A>) -> Result<SatState, StoreError>
+    requires { IsReady ctx.old }
+{
+    load_pigeons(ctx)?;
+    let verdict = verdict_after(ctx, 2000)?;
+    Ok(verdict)
+}
+
 fn refute_pigeons<A: Allocator + Copy>(alloc: A) -> Result<SatState, StoreError> {
-    let clauses: &[&[Lit]] = &[
-        &lits![1, 2, 3, 4],
-        &lits![5, 6, 7, 8],
-        &lits![9, 10, 11, 12],
-        &lits![13, 14, 15, 16],
-        &lits![17, 18, 19, 20],
-        &lits![-1, -5],
-        &lits![-1, -9],
-        &lits![-1, -13],
-        &lits![-1, -17],
-        &lits![-5, -9],
-        &lits![-5, -13],
-        &lits![-5, -17],
-        &lits![-9, -13],
-        &lits![-9, -17],
-        &lits![-13, -17],
-        &lits![-2, -6],
-        &lits![-2, -10],
-        &lits![-2, -14],
-        &lits![-2, -18],
-        &lits![-6, -10],
-        &lits![-6, -14],
-        &lits![-6, -18],
-        &lits![-10, -14],
-        &lits![-10, -18],
-        &lits![-14, -18],
-        &lits![-3, -7],
-        &lits![-3, -11],
-        &lits![-3, -15],
-        &lits![-3, -19],
-        &lits![-7, -11],
-        &lits![-7, -15],
-        &lits![-7, -19],
-        &lits![-11, -15],
-        &lits![-11, -19],
-        &lits![-15, -19],
-        &lits![-4, -8],
-        &lits![-4, -12],
-        &lits![-4, -16],
-        &lits![-4, -20],
-        &lits![-8, -12],
-        &lits![-8, -16],
-        &lits![-8, -20],
-        &lits![-12, -16],
-        &lits![-12, -20],
-        &lits![-16, -20],
-    ];
-    let mut ctx = loaded(alloc, 20, clauses)?;
-    let verdict = verdict_after(&mut ctx, 2000)?;
+    let mut ctx = loaded(alloc, 20, &[])?;
+    let verdict = verdict_on_pigeons(&mut ctx)?;
     Ok(verdict)
 }
 

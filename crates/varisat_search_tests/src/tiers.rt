@@ -1,12 +1,11 @@
 //! Glue, tiers and activities of clauses, as conflicts leave them.
-ghost use Rattle.std.specs.Prelude.{◌≤◌, IfOk};
+ghost use Rattle.std.specs.Prelude.{◌<◌, ◌≤◌, OnOk, IfOk};
 ghost use Rattle.varisat_search.specs.Contexts.{IsReady};
 ghost use Rattle.varisat_literals.specs.Numbers.{variable_limit};
 
 use crate::searches::{loaded, prefer_lower_true, step};
 use linked_list_allocator::LocalHeap;
-use std::alloc::Allocator;
-use std::test::Fail;
+use std::alloc::{AllocError, Allocator, Global};
 use varisat_literals::{Lit, lits};
 use varisat_prop::clause::{ClauseHeader, StoreError, Tier};
 use varisat_search::context::Context;
@@ -29,6 +28,16 @@ fn notes_of<A: Allocator + Copy>(ctx: &Context<A>, index: usize) -> Option<(Tier
     Some((header.tier(), header.glue(), header.active()))
 }
 
+/// Makes a step whose decisions make variables true, the lowest first.
+fn step_down<A: Allocator + Copy>(ctx: &mut Context<A>) -> Result<(), StoreError>
+    requires { IsReady ctx.old }
+    ensures { OnOk result (IsReady ctx.new) }
+{
+    prefer_lower_true(ctx);
+    step(ctx)?;
+    Ok(())
+}
+
 /// What is noted of the third clause, which the first step learns from the two. Its decisions make variables true, the
 /// lowest first.
 fn learned_notes<A: Allocator + Copy>(
@@ -39,14 +48,14 @@ fn learned_notes<A: Allocator + Copy>(
     requires { count ≤ variable_limit }
 {
     let mut ctx = loaded(alloc, count, clauses)?;
-    prefer_lower_true(&mut ctx);
-    step(&mut ctx)?;
-    Ok(notes_of(&ctx, 2))
+    step_down(&mut ctx)?;
+    let notes = notes_of(&ctx, 2);
+    Ok(notes)
 }
 
 // 1 implies 2 and 3, so that the clause of 2, 3 and 4 has two levels.
 #[test]
-fn two_levels(rt: HostRuntime) -> Result<(), Fail> {
+fn two_levels(rt: HostRuntime) -> Result<(), StoreError> {
     let clauses: &[&[Lit]] = &[
         &lits![-1, 2],
         &lits![-1, 3],
@@ -54,31 +63,54 @@ fn two_levels(rt: HostRuntime) -> Result<(), Fail> {
         &lits![-2, -3, -4, -5],
     ];
     let notes = learned_notes(rt.alloc(), 5, clauses)?;
-    assert_eq!(rt; notes, Some((Tier::Core, 1, false)));
+    assert!(rt; notes == Some((Tier::Core, 1, false)));
     Ok(())
 }
 
-// Each of the others is decided at a level of its own.
+/// The clause that one of the first variables is false or the literal true.
+fn implies_last<A: Allocator + Copy>(
+    alloc: A,
+    count: usize,
+    last: Lit,
+) -> Result<Vec<Lit, A>, AllocError>
+    requires { count < variable_limit }
+{
+    let mut lits = Vec::new(alloc);
+    for index in 0..count {
+        lits.push(Lit::from_index(index, false))?;
+    }
+    lits.push(last)?;
+    Ok(lits)
+}
+
+/// What is noted of the clause learned from so many variables, which imply the next one and its opposite. Each is
+/// decided at a level of its own.
+fn notes_of_levels(alloc: Global, count: usize) -> Result<Option<(Tier, usize, bool)>, StoreError>
+    requires { count < variable_limit }
+{
+    let last = Lit::from_index(count, true);
+    let first = implies_last(alloc, count, last)?;
+    let second = implies_last(alloc, count, !last)?;
+    let notes = learned_notes(alloc, count + 1, &[&first, &second])?;
+    Ok(notes)
+}
+
 #[test]
-fn more_levels(rt: HostRuntime) -> Result<(), Fail> {
-    let three: &[&[Lit]] = &[&lits![-1, -2, -3, 4], &lits![-1, -2, -3, -4]];
-    let notes = learned_notes(rt.alloc(), 4, three)?;
-    assert_eq!(rt; notes, Some((Tier::Core, 2, false)));
-    let four: &[&[Lit]] = &[&lits![-1, -2, -3, -4, 5], &lits![-1, -2, -3, -4, -5]];
-    let notes = learned_notes(rt.alloc(), 5, four)?;
-    assert_eq!(rt; notes, Some((Tier::Mid, 3, false)));
-    let seven: &[&[Lit]] = &[
-        &lits![-1, -2, -3, -4, -5, -6, -7, 8],
-        &lits![-1, -2, -3, -4, -5, -6, -7, -8],
-    ];
-    let notes = learned_notes(rt.alloc(), 8, seven)?;
-    assert_eq!(rt; notes, Some((Tier::Mid, 6, false)));
-    let eight: &[&[Lit]] = &[
-        &lits![-1, -2, -3, -4, -5, -6, -7, -8, 9],
-        &lits![-1, -2, -3, -4, -5, -6, -7, -8, -9],
-    ];
-    let notes = learned_notes(rt.alloc(), 9, eight)?;
-    assert_eq!(rt; notes, Some((Tier::Local, 7, false)));
+fn more_levels(rt: HostRuntime) -> Result<(), StoreError> {
+    assert!(rt; notes_of_levels(rt.alloc(), 3)? == Some((Tier::Core, 2, false)));
+    assert!(rt; notes_of_levels(rt.alloc(), 4)? == Some((Tier::Mid, 3, false)));
+    assert!(rt; notes_of_levels(rt.alloc(), 7)? == Some((Tier::Mid, 6, false)));
+    assert!(rt; notes_of_levels(rt.alloc(), 8)? == Some((Tier::Local, 7, false)));
+    Ok(())
+}
+
+/// Makes two such steps.
+fn step_twice<A: Allocator + Copy>(ctx: &mut Context<A>) -> Result<(), StoreError>
+    requires { IsReady ctx.old }
+    ensures { OnOk result (IsReady ctx.new) }
+{
+    step_down(ctx)?;
+    step(ctx)?;
     Ok(())
 }
 
@@ -93,58 +125,85 @@ fn two_conflicts<A: Allocator + Copy>(alloc: A) -> Result<Context<A>, StoreError
         &lits![4, -3, -6],
     ];
     let mut ctx = loaded(alloc, 6, clauses)?;
-    prefer_lower_true(&mut ctx);
-    step(&mut ctx)?;
-    step(&mut ctx)?;
+    step_twice(&mut ctx)?;
     Ok(ctx)
+}
+
+/// Whether the user's four clauses are active, and the two learned ones are of the tier Core, of which the first took
+/// part in a conflict.
+fn are_noted<A: Allocator + Copy>(ctx: &Context<A>) -> bool
+    requires { IsReady ctx.now }
+{
+    for index in 0..4 {
+        if notes_of(ctx, index) != Some((Tier::Irred, 0, true)) {
+            return false;
+        }
+    }
+    notes_of(ctx, 4) == Some((Tier::Core, 2, true))
+        && notes_of(ctx, 5) == Some((Tier::Core, 2, false))
+}
+
+/// Whether so many clauses are of the tiers Irred, Core and Mid.
+fn are_counted<A: Allocator + Copy>(ctx: &Context<A>) -> bool {
+    ctx.clause_db.count_by_tier(Tier::Irred) == 4
+        && ctx.clause_db.count_by_tier(Tier::Core) == 2
+        && ctx.clause_db.count_by_tier(Tier::Mid) == 0
+}
+
+fn lowers_glue<A: Allocator + Copy>(alloc: A) -> Result<bool, StoreError> {
+    let ctx = two_conflicts(alloc)?;
+    let is_lowered = are_noted(&ctx) && are_counted(&ctx);
+    Ok(is_lowered)
 }
 
 // The learned clause had four levels and has three now. Clauses of the user took part too.
 #[test]
-fn lower_glue(rt: HostRuntime) -> Result<(), Fail> {
-    let ctx = two_conflicts(rt.alloc())?;
-    assert_eq!(rt; notes_of(&ctx, 4), Some((Tier::Core, 2, true)));
-    assert_eq!(rt; notes_of(&ctx, 5), Some((Tier::Core, 2, false)));
-    for index in 0..4 {
-        assert_eq!(rt; notes_of(&ctx, index), Some((Tier::Irred, 0, true)));
-    }
-    assert_eq!(rt; ctx.clause_db.count_by_tier(Tier::Irred), 4);
-    assert_eq!(rt; ctx.clause_db.count_by_tier(Tier::Core), 2);
-    assert_eq!(rt; ctx.clause_db.count_by_tier(Tier::Mid), 0);
+fn lower_glue(rt: HostRuntime) -> Result<(), StoreError> {
+    assert!(rt; lowers_glue(rt.alloc())?);
     Ok(())
+}
+
+/// Whether these are the activities of the clauses.
+fn have_activities<A: Allocator + Copy>(ctx: &Context<A>, wanted: &[u32]) -> bool
+    requires { IsReady ctx.now }
+{
+    for index in 0..wanted.len() {
+        let activity = header_of(ctx, index).map(|header| header.activity());
+        if activity != Some(wanted[index]) {
+            return false;
+        }
+    }
+    true
+}
+
+fn raises_activities(alloc: Global) -> Result<bool, StoreError> {
+    let ctx = two_conflicts(alloc)?;
+    let is_raised = have_activities(&ctx, &[1024, 1024, 1025, 1025, 1025, 0])
+        && ctx.clause_activity.increment() == 1026;
+    Ok(is_raised)
 }
 
 // A bump adds 1024 at the first conflict, and 1024000 / 999 at the second.
 #[test]
-fn activities(rt: HostRuntime) -> Result<(), Fail> {
-    let ctx = two_conflicts(rt.alloc())?;
-    let activities = [1024, 1024, 1025, 1025, 1025, 0];
-    for index in 0..6 {
-        let activity = header_of(&ctx, index).map(|header| header.activity());
-        assert_eq!(rt; activity, Some(activities[index]));
-    }
-    assert_eq!(rt; ctx.clause_activity.increment(), 1026);
+fn activities(rt: HostRuntime) -> Result<(), StoreError> {
+    assert!(rt; raises_activities(rt.alloc())?);
     Ok(())
 }
 
 #[test]
-fn each_growth_may_be_refused(rt: HostRuntime) -> Result<(), Fail> {
-    let mut moved = false;
+fn each_growth_may_be_refused(rt: HostRuntime) -> Result<(), StoreError> {
+    let mut lowered = false;
     let mut refused = false;
     for room in 0..200 {
         let heap = LocalHeap::new(rt.alloc(), 16 * room)?;
-        match two_conflicts(&heap) {
-            Ok(ctx) => {
-                assert_eq!(rt;
-                    notes_of(&ctx, 4),
-                    Some((Tier::Core, 2, true)),
-                    "with {room}"
-                );
-                moved = true;
+        match lowers_glue(&heap) {
+            Ok(right) => {
+                assert!(rt; right, "with {room}");
+                lowered = true;
             }
             Err(_) => refused = true,
         }
     }
-    assert!(rt; moved && refused);
+    assert!(rt; lowered && refused);
     Ok(())
 }

@@ -22,6 +22,7 @@ use varisat_literals::{Lit, Var};
 use varisat_names::config::{ConfigField, SolverConfigUpdate};
 use varisat_names::variables::Variables;
 use varisat_prop::clause::StoreError;
+use varisat_search::assumptions::copied;
 use varisat_search::context::Context;
 use varisat_search::state::SatState;
 
@@ -141,15 +142,6 @@ fn list_model<A: Allocator + Copy>(
         }
     }
     Ok(list)
-}
-
-/// A copy of the list.
-fn copied<A: Allocator + Copy>(alloc: A, lits: &[Lit]) -> Result<Vec<Lit, A>, AllocError>
-    ensures { IfOk result (λ copy. copy.items ≡ lits.now) }
-{
-    let mut copy = Vec::new(alloc);
-    copy.extend_from_slice(lits)?;
-    Ok(copy)
 }
 
 /// A solver of one growing formula. `W` is the type of the targets that proofs are written to.
@@ -355,7 +347,8 @@ impl<W: ProofTarget, A: Allocator + Copy> Solver<W, A> {
         Ok(None)
     }
 
-    /// Assumes that these literals are true, in place of the assumptions before, and brings their names into use. Refused as a clause is, and then the assumptions before stay.
+    /// Assumes that these literals are true, in place of the assumptions before, and brings their names into use.
+    /// Refused as a clause is, and then the assumptions before stay.
     pub fn assume(&mut self, lits: &[Lit]) -> Result<(), SolverError>
         ensures { (s : State) → StandsFor self.old s → (t : State) × Assumes s lits.now result t × StandsFor self.new t }
     {
@@ -377,7 +370,10 @@ impl<W: ProofTarget, A: Allocator + Copy> Solver<W, A> {
         }
     }
 
-    /// Whether some assignment satisfies the accepted clauses and makes the assumptions true. A call makes fewer than 2^(2n+3) steps, where the clauses and all assumptions so far name n variables. Refused in an invalid solver, where memory runs out or the clause store is full, and where the steps are spent before that is known: `max_steps` of the settings, or 2^64-1 in all. The next call then goes on.
+    /// Whether some assignment satisfies the accepted clauses and makes the assumptions true. A call makes fewer than
+    /// 2^(2n+3) steps, where the clauses and all assumptions so far name n variables. Refused in an invalid solver,
+    /// where memory runs out or the clause store is full, and where the steps are spent before that is known:
+    /// `max_steps` of the settings, or 2^64-1 in all. The next call then goes on.
     pub fn solve(&mut self) -> Result<bool, SolverError>
         ensures call { (s : State) → StandsFor self.old s → (t : State) × Solves s result t × StandsFor self.new t }
         ensures satisfiable { result ≡ Ok true → (s : State) → StandsFor self.old s → IsSatisfiableWith s.clauses s.assumptions }

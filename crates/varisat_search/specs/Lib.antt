@@ -1,13 +1,3 @@
-pub use Rattle.varisat_analysis.specs.Learned
-pub use Rattle.varisat_analysis.specs.Levels
-pub use Rattle.varisat_analysis.specs.Marks
-pub use Rattle.varisat_analysis.specs.Redundancy
-pub use Rattle.varisat_analysis.specs.HeaderChanges
-pub use Rattle.varisat_analysis.specs.Reductions
-pub use Rattle.varisat_analysis.specs.Collections
-pub use Rattle.varisat_analysis.specs.Bumps
-pub use Rattle.varisat_analysis.specs.FailedCores
-pub use Rattle.varisat_analysis.specs.Assessments
 pub mod Contexts
 pub mod Steps
 pub mod Conflicts

@@ -1,10 +1,12 @@
 //! Each call of the lists of what literals imply, with ample memory and with little.
 ghost use Rattle.std.specs.Prelude.{◌≡◌, []};
+ghost use Rattle.varisat_prop.specs.Parts.{no_values};
 
 use linked_list_allocator::LocalHeap;
 use std::alloc::{AllocError, Allocator, Global};
 use varisat_literals::{Lit, lit, lits};
 use varisat_prop::binary::BinaryClauses;
+use varisat_prop::prop::Assignment;
 
 /// Keeps the clause, where there are lists for its literals.
 fn add<A: Allocator + Copy>(
@@ -51,6 +53,38 @@ fn keeps_pairs<A: Allocator + Copy>(lists: &mut BinaryClauses<A>) -> Result<bool
 fn pairs_are_kept(rt: HostRuntime) {
     let mut lists = BinaryClauses::new_in(rt.alloc());
     assert!(rt; matches!(keeps_pairs(&mut lists), Ok(true)));
+}
+
+/// Whether only the clause without the first variable is left once that one has a value.
+fn drops_pairs<A: Allocator + Copy>(
+    lists: &mut BinaryClauses<A>,
+    assignment: &mut Assignment<A>,
+) -> Result<bool, AllocError>
+    requires lists { lists.old ≡ [] }
+    requires assignment { assignment.old ≡ no_values }
+{
+    lists.set_var_count(3)?;
+    assignment.set_var_count(3)?;
+    add(lists, [lit!(1), lit!(-2)])?;
+    add(lists, [lit!(3), lit!(1)])?;
+    add(lists, [lit!(-2), lit!(3)])?;
+    assignment.assign_lit(lit!(1));
+    if lists.len() > 6 {
+        return Ok(false);
+    }
+    lists.simplify(assignment);
+    Ok(
+        implies(lists, lit!(-1), &[])
+            && implies(lists, lit!(2), &lits![3])
+            && implies(lists, lit!(-3), &lits![-2]),
+    )
+}
+
+#[test]
+fn pairs_with_a_value_are_dropped(rt: HostRuntime) {
+    let mut lists = BinaryClauses::new_in(rt.alloc());
+    let mut assignment = Assignment::new_in(rt.alloc());
+    assert!(rt; matches!(drops_pairs(&mut lists, &mut assignment), Ok(true)));
 }
 
 /// Whether the lists are right on a heap of that many times 16 bytes.

@@ -1,14 +1,13 @@
 -- A view at level 0 with other clauses in place of its own, which say nothing of variables that have a value.
-use Rattle.std.proofs.Common.{◌≡◌, ◌≢◌, ℕ, ◌<◌, ◌≤◌, ◌*◌, true, false, List, [], ◌∷◌, length, get_or, inl, inr, ⊎_elim, refl, sym, ap, ◌∙◌, subst, arith}
+use Rattle.std.proofs.Common.{◌≡◌, ◌≢◌, ℕ, ◌<◌, ◌*◌, true, false, List, [], ◌∷◌, length, get_or, inl, inr, ⊎_elim, refl, sym, ap, ◌∙◌, subst, arith}
 use Rattle.varisat_theory.specs.Membership.{◌∈◌, IsDistinct}
 use Rattle.varisat_theory.specs.Literals.{Literal, Clause, opposite, variable_of}
-use Rattle.varisat_theory.specs.Propagation.{IsFalse, LeavesOnly, IsComplete}
 use Rattle.varisat_theory.proofs.Members.{∈-append_cases}
-use Rattle.varisat_theory.proofs.Places.{∈-get_or, place_in}
+use Rattle.varisat_theory.proofs.Places.{∈-get_or}
 use Rattle.varisat_theory.proofs.Values.{opposite_twice}
 use Rattle.varisat_clause.specs.Stored.{StoredClause, literals_of, IsPlace, AreRising}
 use Rattle.varisat_prop.specs.declared.prop.graph.Reason.TheVariants as reason
-use Rattle.varisat_prop.specs.View.{View, IsTrueIn, pairs_from, kept, clause_at, literal_at, node_at, IsReason, WellFormed, LevelsSettled}
+use Rattle.varisat_prop.specs.View.{View, pairs_from, kept, clause_at, literal_at, node_at, IsReason, WellFormed, LevelsSettled}
 use Rattle.varisat_prop.specs.Watches.{Watches, list_of, at, IsPropagated}
 use Rattle.varisat_prop.specs.Simplified.{is_unassigned, are_unassigned}
 use Rattle.varisat_prop.proofs.KeptPairs.{pair-in, implied-kept}
@@ -91,40 +90,9 @@ settled-undecided s d j h = let n = ap (λ (x : List ℕ). length x) d in absurd
 
 -- The kept clauses say nothing of variables that have a value.
 module _ (t : View) (w : WellFormed t) (free : (c : Clause) → c ∈ kept t → (l : Literal) → l ∈ c → is_unassigned t.values l ≡ true) where
-  no-value : (c : Clause) → c ∈ kept t → (l : Literal) → l ∈ c → IsTrueIn t l → ⊥
-  no-value c h l i v = none-made t.values l l (unassigned-none t.values l (free c h l i)) refl v
-
-  -- so none is false or true by a literal of the trail
-  pub not-false : (c : Clause) → c ∈ kept t → (k : ℕ) → k < length t.trail → (l : Literal) → l ∈ c → literal_at t k ≢ opposite l
+  -- no literal of the trail makes one of theirs false
+  not-false : (c : Clause) → c ∈ kept t → (k : ℕ) → k < length t.trail → (l : Literal) → l ∈ c → literal_at t k ≢ opposite l
   not-false c h k b l i e = none-made t.values l (literal_at t k) (unassigned-none t.values l (free c h l i)) (ap variable_of e ∙ variable-opposite l) (w.is_true k b)
-
-  pub not-true : (c : Clause) → c ∈ kept t → (k : ℕ) → k < length t.trail → (l : Literal) → l ∈ c → literal_at t k ≢ l
-  not-true c h k b l i e = no-value c h l i (subst (IsTrueIn t) e (w.is_true k b))
-
-  not-known : (c : Clause) → c ∈ kept t → (l : Literal) → l ∈ c → opposite l ∈ t.trail → ⊥
-  not-known c h l i o = let (k, b, e) = place_in (opposite l) t.trail 0 o in not-false c h k b l i e
-
-  -- Nothing is left to be propagated.
-  pub complete-unassigned : IsComplete (kept t) t.trail
-  complete-unassigned = record {
-    no_false = λ (c, h, f). let n = w.several c h in none-false c h n f;
-    closed = λ c l h i o. absurd (none-left c l (w.several c h) (w.distinct c h) h o);
-  }
-    where
-      none-false : (c : Clause) → c ∈ kept t → 2 ≤ length c → IsFalse t.trail c → ⊥
-      none-false [] h n f = omega (arith, n)
-      none-false (x ∷ c) h n f = not-known (x ∷ c) h x (inl refl) (f x (inl refl))
-
-      none-left : (c : Clause) (l : Literal) → 2 ≤ length c → IsDistinct c → c ∈ kept t → LeavesOnly t.trail c l → ⊥
-      none-left [] l n d h o = omega (arith, n)
-      none-left (x ∷ []) l n d h o = omega (arith, n)
-      none-left (x ∷ y ∷ c) l n d h o = ⊎_elim
-          (λ e. ⊎_elim
-          (λ f. d.0 (inl (e ∙ sym f)))
-          (not-known (x ∷ y ∷ c) h y (inr (inl refl)))
-          (o y (inr (inl refl))))
-          (not-known (x ∷ y ∷ c) h x (inl refl))
-          (o x (inl refl))
 
   -- The lists of watches are off.
   pub propagated-unassigned : (W : Watches) → length W.lists ≡ 2 * length t.values → W.enabled ≡ false → ((x : Literal) → list_of W x ≡ []) → length t.binary ≡ 2 * length t.values → t.decisions ≡ [] → IsPropagated W t

@@ -42,3 +42,10 @@ pub mod SeenAfterCut
 pub mod NextAssumption
 pub mod AssumptionOutcomes
 pub mod DecidedLiterals
+pub mod UnassignedLiterals
+pub mod SimplifiedLines
+pub mod SimplifiedKept
+pub mod ShrunkClauses
+pub mod FilteredUnits
+pub mod SimplifiedSearch
+pub mod SimplifiedContext

@@ -9,3 +9,4 @@ pub mod Decisions
 pub mod ContextChanges
 pub mod DueReductions
 pub mod AssumptionParts
+pub mod Simplifications

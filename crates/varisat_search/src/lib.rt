@@ -13,5 +13,6 @@ pub mod load;
 pub mod reduce;
 pub mod schedule;
 pub mod state;
+pub mod unit_simplify;
 
 pub use varisat_analysis::{analyze_conflict, glue, tmp};

@@ -1,0 +1,65 @@
+-- A clause of a store whose first literals were written and whose others were cut off.
+use Rattle.std.proofs.Common.{◌≡◌, ℕ, false, List, [], ◌∷◌, ◌++◌, length, take, ⊎_elim, refl, sym, ap, ◌∙◌, subst}
+use Rattle.std.proofs.Math.Seq.{take-append_seam}
+use Rattle.varisat_theory.specs.Literals.{Clause}
+use Rattle.varisat_theory.proofs.Members.{equal_or_not}
+use Rattle.varisat_clause.specs.Stored.{StoredClause, IsPlace, stored_at, header_at, literals_at, with_clause, with_literals, shortened}
+use Rattle.varisat_clause.specs.Stores.{Store, clauses_of, IsSound, Holds}
+use Rattle.varisat_clause.specs.Filters.{Alters}
+use Rattle.varisat_clause.proofs.StoredClauses.{clause-here, clause-later, clause-same, clause-place, literals-clause, stored-∈}
+use Rattle.varisat_clause.proofs.StoreSound.{are-long}
+use Rattle.varisat_clause.proofs.DatabaseTracks.{place-is}
+use Rattle.varisat_search.specs.Simplifications.{shortened_to}
+
+-- another clause in place of another one
+replaced-twice : (ks : List StoredClause) (p : ℕ) (c j : StoredClause) → c.place ≡ p → with_clause (with_clause ks p c) p j ≡ with_clause ks p j
+replaced-twice [] p c j e = refl
+replaced-twice (k ∷ ks) p c j e =
+    ⊎_elim
+    (λ f. ap (λ xs. with_clause xs p j) (clause-here k ks p c f) ∙ clause-here c ks p j e ∙ sym (clause-here k ks p j f))
+    (λ n. ap (λ xs. with_clause xs p j) (clause-later k ks p c n) ∙ clause-later k (with_clause ks p c) p j n ∙ ap (λ xs. k ∷ xs) (replaced-twice ks p c j e) ∙ sym (clause-later k ks p j n))
+    (equal_or_not k.place p)
+
+-- the header tells how many literals there are
+pub header-length : (s : Store) (p : ℕ) → IsSound s → IsPlace (clauses_of s) p → (header_at (clauses_of s) p).len ≡ length (literals_at (clauses_of s) p)
+header-length s p ok at = (are-long s ok (stored_at (clauses_of s) p) (stored-∈ (clauses_of s) p at)).1
+
+module _ (s n : Store) (p : ℕ) (ws left rest : Clause) (ok : IsSound s) (at : IsPlace (clauses_of s) p) (h : Holds n (length s.words) (with_literals (clauses_of s) p ws)) (w : ws ≡ left ++ rest) where
+  abbrev ks : List StoredClause
+  ks = clauses_of s
+
+  abbrev written : StoredClause
+  written = record (stored_at ks p) { literals = ws }
+
+  is-written : clauses_of n ≡ with_clause ks p written
+  is-written = h.clauses ∙ sym (literals-clause ks p ws)
+
+  stored-written : stored_at (clauses_of n) p ≡ written
+  stored-written = ap (λ xs. stored_at xs p) is-written ∙ clause-same ks p written at (place-is ks p at)
+
+  pub written-place : IsPlace (clauses_of n) p
+  written-place = subst (λ xs. IsPlace xs p) (sym is-written) (clause-place ks p p written (place-is ks p at) at)
+
+  pub written-length : (header_at (clauses_of n) p).len ≡ length (literals_at ks p)
+  written-length = ap (λ (k : StoredClause). k.header.len) stored-written ∙ header-length s p ok at
+
+  pub shrunk : (m : Store) → Holds m (length n.words) (shortened (clauses_of n) p (length left)) → Holds m (length s.words) (with_clause ks p (shortened_to left (stored_at ks p)))
+  shrunk m o =
+      let j : StoredClause → StoredClause = λ (k : StoredClause). record { place = p; header = record k.header { len = length left }; literals = take (length left) k.literals } in
+      let a : j (stored_at (clauses_of n) p) ≡ j written = ap j stored-written in
+      let b : take (length left) ws ≡ left = ap (take (length left)) w ∙ take-append_seam left rest in
+      let c : j written ≡ record { place = p; header = record (header_at ks p) { len = length left }; literals = left } = ap (λ (x : Clause). record { place = p; header = record (header_at ks p) { len = length left }; literals = x }) b in
+      let d : j written ≡ shortened_to left (stored_at ks p) = c ∙ ap (λ (x : ℕ). record { place = x; header = record (header_at ks p) { len = length left }; literals = left }) (sym (place-is ks p at)) in
+      record {
+        sound = o.sound;
+        words = o.words ∙ h.words;
+        clauses = o.clauses ∙ ap (λ xs. with_clause xs p (j (stored_at (clauses_of n) p))) is-written ∙ ap (with_clause (with_clause ks p written) p) (a ∙ d) ∙ replaced-twice ks p written (shortened_to left (stored_at ks p)) (place-is ks p at);
+      }
+
+-- a clause that was shrunk
+module _ (s n : Store) (p : ℕ) (left : Clause) (at : IsPlace (clauses_of s) p) (h : Holds n (length s.words) (with_clause (clauses_of s) p (shortened_to left (stored_at (clauses_of s) p)))) where
+  pub shrunk-alters : (header_at (clauses_of s) p).deleted ≡ false → Alters s n p
+  shrunk-alters live = record { clause = shortened_to left (stored_at (clauses_of s) p); place = place-is (clauses_of s) p at; tier = refl; live = live; is = h }
+
+  pub shrunk-stored : stored_at (clauses_of n) p ≡ shortened_to left (stored_at (clauses_of s) p)
+  shrunk-stored = ap (λ xs. stored_at xs p) h.clauses ∙ clause-same (clauses_of s) p (shortened_to left (stored_at (clauses_of s) p)) at (place-is (clauses_of s) p at)

@@ -1,0 +1,98 @@
+-- The contexts of a simplification.
+use Rattle.std.proofs.Common.{◌≡◌, ◌*◌, Bool, true, false, not, List, [], ◌++◌, length, replicate, refl, sym, ap, ap₂, ◌∙◌, subst}
+use Rattle.varisat_theory.specs.Membership.{◌∈◌}
+use Rattle.varisat_theory.specs.Literals.{Literal, Clause}
+use Rattle.varisat_theory.specs.Propagation.{IsComplete}
+use Rattle.varisat_theory.specs.Outcomes.{Proves}
+use Rattle.varisat_clause.specs.Stored.{StoredClause}
+use Rattle.varisat_clause.specs.Stores.{clauses_of}
+use Rattle.varisat_clause.specs.Databases.{is_live, Tracks}
+use Rattle.varisat_clause.specs.Collected.{live_clauses}
+use Rattle.varisat_clause.proofs.LiveStore.{∈-live, are-live-long}
+use Rattle.varisat_clause.proofs.StoreSound.{sound-is}
+use Rattle.varisat_prop.specs.Simplified.{without_assigned}
+use Rattle.varisat_prop.specs.View.{View, kept, WellFormed, LevelsSettled}
+use Rattle.varisat_prop.specs.Watches.{list_of, IsPropagated}
+use Rattle.varisat_prop.proofs.SimplifiedPairs.{unassigned-none}
+use Rattle.varisat_prop.proofs.SimplifiedView.{HasUnits, simplified, settled-undecided, propagated-unassigned}
+use Rattle.varisat_search.specs.declared.context.Context.{Context}
+use Rattle.varisat_search.specs.Contexts.{view, IsReady}
+use Rattle.varisat_search.specs.Decisions.{CanDecide, SameDecidable}
+use Rattle.varisat_search.specs.Seen.{search_of}
+use Rattle.varisat_search.specs.Simplifications.{left_long, left_pairs, with_pairs, IsLeftOpen, IsPairIn, IsSimplified, pair_lines, clause_lines}
+use Rattle.varisat_search.proofs.AssumptionContexts.{unmoved-assumed, unmoved-assumable}
+use Rattle.varisat_search.proofs.SimplifiedSearch.{IsAtUnits, stored-open, pairs-in, are-unassigned, still-well, still-free, C-count, simplify-proves, literal-kept}
+
+-- before it
+pub at-units : {A : Type 0} (x : Context A) → IsReady x → x.trail.decisions ≡ [] → IsComplete (kept (view x)) x.trail.literals → HasUnits (view x) → IsAtUnits (view x)
+at-units x r d c u = record {
+  well = r.well;
+  done = c;
+  undecided = d;
+  units = u;
+  lists = r.propagated.binary;
+  long = are-live-long x.clause_alloc r.tracks.sound;
+}
+
+live-is : (b : Bool) → not b ≡ true → b ≡ false
+live-is true e = absurd (let z : false ≡ true = e in cc)
+live-is false e = refl
+
+module _ {A : Type 0} (x : Context A) (u : IsAtUnits (view x)) where
+  -- what a filter of the store needs
+  pub live-open : (k : StoredClause) → k ∈ clauses_of x.clause_alloc → is_live k ≡ true → IsLeftOpen x.assignment.current k.literals
+  live-open k h e = stored-open (view x) u k (∈-live (clauses_of x.clause_alloc) k h (live-is k.header.deleted e))
+
+  pub joining : (B : List (List Literal)) (ps : List Clause) → B ≡ without_assigned x.assignment.current x.binary_clauses → ps ≡ [] ++ left_pairs x.assignment.current (live_clauses x.clause_alloc) → (c : Clause) → c ∈ ps → IsPairIn B c
+  joining B ps e f c h = subst (λ D. IsPairIn D c) (sym e) (pairs-in (view x) u c (subst (λ cs. c ∈ cs) f h))
+
+-- after it
+module _ {A : Type 0} (x z : Context A) (r : IsReady x) (u : IsAtUnits (view x)) (tracks : Tracks z.clause_db z.clause_alloc) (clauses : live_clauses z.clause_alloc ≡ left_long x.assignment.current (live_clauses x.clause_alloc)) (binary : z.binary_clauses ≡ with_pairs (without_assigned x.assignment.current x.binary_clauses) (left_pairs x.assignment.current (live_clauses x.clause_alloc))) (rest : z ≡ record x { binary_clauses = z.binary_clauses; clause_alloc = z.clause_alloc; clause_db = z.clause_db; watchlists = z.watchlists }) where
+  abbrev s : View
+  s = view x
+
+  abbrev t : View
+  t = simplified s (left_long s.values s.clauses) (with_pairs (without_assigned s.values s.binary) (left_pairs s.values s.clauses)) (are-unassigned s u)
+
+  is-view : view z ≡ t
+  is-view =
+      ap (λ (y : Context A). view y) rest
+      ∙ ap (λ (o : Bool). record s { sound = o; clauses = live_clauses z.clause_alloc; binary = z.binary_clauses }) (sound-is z.clause_alloc tracks.sound ∙ sym (sound-is x.clause_alloc r.tracks.sound))
+      ∙ ap₂ (λ (ks : List StoredClause) (B : List (List Literal)). record s { clauses = ks; binary = B }) clauses binary
+
+  pub is-simplified : IsSimplified (view x) (view z)
+  is-simplified = subst (IsSimplified s) (sym is-view) (record {
+    clauses = refl;
+    binary = refl;
+    rest = refl;
+    unassigned = λ c h l i. unassigned-none s.values l (still-free s u c h l i);
+  })
+
+  pub simplified-proves : Proves 0 (search_of (view x)) (search_of (view z)) (pair_lines (view x) ++ clause_lines (view x))
+  simplified-proves = subst (λ (y : View). Proves 0 (search_of s) (search_of y) (pair_lines s ++ clause_lines s)) (sym is-view) (simplify-proves s u)
+
+  pub simplified-decidable : SameDecidable (view x) x.vsids (view z) z.vsids
+  simplified-decidable =
+      subst (λ (y : View). SameDecidable s x.vsids y z.vsids) (sym is-view)
+      (subst (λ a. SameDecidable s x.vsids t a) (sym (ap (λ (y : Context A). y.vsids) rest)) (λ v. ((λ h. h), (λ h. h))))
+
+  can-decide : CanDecide t x.vsids
+  can-decide = record {
+    entries = record { activity = r.decidable.entries.activity; available = r.decidable.entries.available };
+    decidable = λ c h l i. let (d, j, o) = literal-kept s u c h l i in r.decidable.decidable d j l o;
+  }
+
+  pub simplified-ready : ((l : Literal) → list_of z.watchlists l ≡ []) → z.watchlists.enabled ≡ false → length z.watchlists.lists ≡ length x.watchlists.lists → IsReady z
+  simplified-ready e o n =
+      let c = ap (λ (y : View). length y.values) is-view in
+      record {
+        well = subst WellFormed (sym is-view) (still-well s u);
+        settled = subst LevelsSettled (sym is-view) (settled-undecided t u.undecided);
+        propagated = subst (IsPropagated z.watchlists) (sym is-view) (propagated-unassigned t (still-well s u) (still-free s u) z.watchlists (n ∙ r.propagated.lists) o e (C-count s u ∙ u.lists) u.undecided);
+        tracks = tracks;
+        analysis = ap (λ (y : Context A). y.analyze_conflict.var_count) rest ∙ r.analysis ∙ sym c;
+        flags = ap (λ (y : Context A). y.tmp_flags.flags.items) rest ∙ r.flags ∙ ap (λ k. replicate (2 * k) false) (sym c);
+        decidable = subst (CanDecide (view z)) (sym (ap (λ (y : Context A). y.vsids) rest)) (subst (λ (y : View). CanDecide y x.vsids) (sym is-view) can-decide);
+        assumed = unmoved-assumed x z (ap (λ (y : Context A). y.assumptions) rest) (ap (λ (y : View). y.values) is-view) r.well (ap (λ (y : View). y.trail) is-view) (ap (λ (y : View). y.decisions) is-view) r.assumed;
+        assumable = unmoved-assumable x z (ap (λ (y : Context A). y.assumptions) rest) (ap (λ (y : View). y.values) is-view) (ap (λ (y : Context A). y.vsids) rest) r.assumable;
+      }

@@ -1,0 +1,5 @@
+use Rattle.varisat_search.proofs.unit_simplify.copy_unassigned.Goals as goal
+use Rattle.varisat_prop.proofs.ReadElements.{item-∈}
+
+pub lit_is_unk-requires : goal.lit_is_unk-requires
+lit_is_unk-requires g c = c.requires c.lit-item.result (item-∈ c.args.lits.now c.loop-lit.lit-index c.lit-item.result c.loop-lit-test.true c.lit-item.is)

@@ -1,0 +1,136 @@
+//! Simplification of the kept clauses by literals that are true for good.
+ghost use Rattle.std.specs.Prelude.{◌≡◌, ◌<◌, ◌≤◌, ◌++◌, ℕ, [], length, drop, OnOk};
+ghost use Rattle.varisat_theory.specs.Membership.{◌∈◌};
+ghost use Rattle.varisat_theory.specs.Literals.{Clause};
+ghost use Rattle.varisat_theory.specs.Propagation.{IsComplete};
+ghost use Rattle.varisat_theory.specs.Outcomes.{Proves};
+ghost use Rattle.varisat_clause.specs.Stored.{IsPlace, stored_at, literals_at, with_clause};
+ghost use Rattle.varisat_clause.specs.Stores.{clauses_of, IsSound, Holds};
+ghost use Rattle.varisat_prop.specs.declared.prop.graph.Reason.TheVariants as reason;
+ghost use Rattle.varisat_prop.specs.Looks.{IsInRange};
+ghost use Rattle.varisat_prop.specs.View.{kept, node_at};
+ghost use Rattle.varisat_search.specs.Contexts.{view, IsReady};
+ghost use Rattle.varisat_search.specs.Decisions.{SameDecidable};
+ghost use Rattle.varisat_search.specs.Seen.{search_of};
+ghost use Rattle.varisat_search.specs.Simplifications.{unassigned, shortened_to, with_pairs, IsSimplified, pair_lines, clause_lines, IsPairIn, IsLeftOpen, LeavesOpen};
+
+use crate::context::Context;
+use std::alloc::{AllocError, Allocator};
+use varisat_analysis::clause_literals::is_satisfied;
+use varisat_clause::alloc::{ClauseAlloc, ClauseRef};
+use varisat_clause::filter::{ClauseFilter, filter_clauses};
+use varisat_literals::Lit;
+use varisat_prop::binary::BinaryClauses;
+use varisat_prop::prop::Assignment;
+
+/// Copies the literals that have no value.
+fn copy_unassigned<A: Allocator + Copy>(
+    left: &mut Vec<Lit, A>,
+    assignment: &Assignment<A>,
+    lits: &[Lit],
+) -> Result<(), AllocError>
+    requires { IsInRange assignment.now.current lits.now }
+    ensures { OnOk result (left.new.items ≡ unassigned assignment.now.current lits.now) }
+{
+    left.clear();
+    for lit in lits {
+        if assignment.lit_is_unk(*lit) {
+            left.push(*lit)?;
+        }
+    }
+    Ok(())
+}
+
+/// Writes the literals over the first ones.
+fn write_front(lits: &mut [Lit], front: &[Lit])
+    requires { length front.now ≤ length lits.old }
+    ensures { lits.new ≡ front.now ++ drop (length front.now) lits.old }
+{
+    lits[..front.len()].copy_from_slice(front);
+}
+
+/// Leaves these literals of the clause, three or more. The words of the others become a gap.
+fn shrink<A: Allocator + Copy>(alloc: &mut ClauseAlloc<A>, cref: ClauseRef, left: &[Lit])
+    requires sound { IsSound alloc.old }
+    requires place { IsPlace (clauses_of alloc.old) cref }
+    requires least { 3 ≤ length left.now }
+    requires most { length left.now ≤ length (literals_at (clauses_of alloc.old) cref) }
+    ensures { Holds alloc.new (length alloc.old.words) (with_clause (clauses_of alloc.old) cref (shortened_to left.now (stored_at (clauses_of alloc.old) cref))) }
+{
+    write_front(alloc.lits_mut(cref), left);
+    alloc.shorten(cref, left.len());
+}
+
+/// Takes satisfied clauses and false literals out of a store, and gathers the clauses of which two literals are left.
+#[derive(Drop)]
+struct UnitFilter<'a, A: Allocator + Copy> {
+    assignment: &'a Assignment<A>,
+    left: Vec<Lit, A>,
+    pairs: Vec<[Lit; 2], A>,
+}
+
+impl<'a, A: Allocator + Copy> ClauseFilter<A> for UnitFilter<'a, A> {
+    type Error = AllocError;
+
+    ghost accepts = { λ filter k. IsLeftOpen filter.assignment.now.current k.literals };
+
+    ghost leaves = { λ filter k j after. (after.assignment ≡ filter.assignment) × LeavesOpen filter.assignment.now.current k j filter.pairs.items after.pairs.items };
+
+    fn filter(&mut self, alloc: &mut ClauseAlloc<A>, cref: ClauseRef) -> Result<bool, AllocError> {
+        let lits = alloc.lits(cref);
+        if is_satisfied(self.assignment, lits) {
+            return Ok(false);
+        }
+        copy_unassigned(&mut self.left, self.assignment, lits)?;
+        if self.left.len() == 2 {
+            self.pairs.push([self.left[0], self.left[1]])?;
+            return Ok(false);
+        }
+        if self.left.len() < lits.len() {
+            shrink(alloc, cref, &self.left);
+        }
+        Ok(true)
+    }
+}
+
+/// Keeps the clauses of two literals.
+fn add_pairs<A: Allocator + Copy>(
+    binary_clauses: &mut BinaryClauses<A>,
+    pairs: &[[Lit; 2]],
+) -> Result<(), AllocError>
+    requires { (c : Clause) → c ∈ pairs.now → IsPairIn binary_clauses.old c }
+    ensures { OnOk result (binary_clauses.new ≡ with_pairs binary_clauses.old pairs.now) }
+{
+    for pair in pairs {
+        binary_clauses.add_binary_clause(*pair)?;
+    }
+    Ok(())
+}
+
+/// Takes out the clauses that a literal of level 0 satisfies, and from the others the false literals. A clause of which
+/// two literals are left joins those of two literals. The watch lists are switched off. Propagation has to have come to
+/// its end before, and each literal of the trail has to be a unit. Where a growth was refused clauses may be missing.
+pub fn unit_simplify<A: Allocator + Copy>(ctx: &mut Context<A>) -> Result<(), AllocError>
+    requires ready { IsReady ctx.old }
+    requires undecided { ctx.old.trail.decisions ≡ [] }
+    requires propagated { ctx.old.trail.queue_head ≡ length ctx.old.trail.literals }
+    requires complete { IsComplete (kept (view ctx.old)) ctx.old.trail.literals }
+    requires proved { (k : ℕ) → k < length ctx.old.trail.literals → (node_at (view ctx.old) k).reason ≡ reason.Unit }
+    ensures simplified { OnOk result (IsSimplified (view ctx.old) (view ctx.new)) }
+    ensures proves { OnOk result (Proves 0 (search_of (view ctx.old)) (search_of (view ctx.new)) (pair_lines (view ctx.old) ++ clause_lines (view ctx.old))) }
+    ensures ready { OnOk result (IsReady ctx.new) }
+    ensures decidable { OnOk result (SameDecidable (view ctx.old) ctx.old.vsids (view ctx.new) ctx.new.vsids) }
+    ensures kept { ctx.new ≡ record ctx.old { binary_clauses = ctx.new.binary_clauses; clause_alloc = ctx.new.clause_alloc; clause_db = ctx.new.clause_db; watchlists = ctx.new.watchlists } }
+{
+    ctx.binary_clauses.simplify(&ctx.assignment);
+    let alloc = *ctx.tmp_data.lits.allocator();
+    let mut filter = UnitFilter {
+        assignment: &ctx.assignment,
+        left: Vec::new(alloc),
+        pairs: Vec::new(alloc),
+    };
+    filter_clauses(&mut ctx.clause_alloc, &mut ctx.clause_db, &mut filter)?;
+    add_pairs(&mut ctx.binary_clauses, &filter.pairs)?;
+    ctx.watchlists.disable();
+    Ok(())
+}

@@ -38,7 +38,7 @@ pub record MayExchange (s : View) (ks : List StoredClause) (ns : List ImplNode) 
   pub same : (k : ℕ) → k < length s.trail → SameReason s ks (node_at s k).reason (node_at (exchanged s ks ns) k).reason
 
 -- what is read of each literal of a list
-map-by-place : {X : Type 0} (f g : Literal → X) (xs : List Literal) → ((k : ℕ) → k < length xs → f (get_or xs k 0) ≡ g (get_or xs k 0)) → map f xs ≡ map g xs
+pub map-by-place : {X : Type 0} (f g : Literal → X) (xs : List Literal) → ((k : ℕ) → k < length xs → f (get_or xs k 0) ≡ g (get_or xs k 0)) → map f xs ≡ map g xs
 map-by-place f g [] h = refl
 map-by-place f g (x ∷ xs) h = ap₂ (λ y ys. y ∷ ys) (h 0 (omega arith)) (map-by-place f g xs (λ k i. h (suc k) (omega (arith, i))))
 

@@ -42,6 +42,10 @@ pub mod SeenAfterCut
 pub mod NextAssumption
 pub mod AssumptionOutcomes
 pub mod DecidedLiterals
+pub mod ProvedUnits
+pub mod ProvedUnitLines
+pub mod TrailExtensions
+pub mod PropagatedContext
 pub mod UnassignedLiterals
 pub mod SimplifiedLines
 pub mod SimplifiedKept

@@ -27,7 +27,7 @@ use Rattle.varisat_theory.proofs.StepChanges.{moves_prove}
 use Rattle.varisat_analysis.specs.HeaderChanges.{kept_clause}
 use Rattle.varisat_search.specs.Seen.{kept_pair, is_fixed, is_proved, search_of, IsProved}
 
-in_filter : (p : ℕ → Bool) (xs : List ℕ) (x : ℕ) → x ∈ xs → p x ≡ true → x ∈ filter p xs
+pub in_filter : (p : ℕ → Bool) (xs : List ℕ) (x : ℕ) → x ∈ xs → p x ≡ true → x ∈ filter p xs
 in_filter p [] x h e = absurd h
 in_filter p (y ∷ ys) x (inl q) e = go (p y) (ap p (sym q) ∙ e)
   where
@@ -40,7 +40,7 @@ in_filter p (y ∷ ys) x (inr h) e = go (p y) (in_filter p ys x h e)
     go true f = inr f
     go false f = f
 
-from_filter : (p : ℕ → Bool) (xs : List ℕ) (x : ℕ) → x ∈ filter p xs → (x ∈ xs) × (p x ≡ true)
+pub from_filter : (p : ℕ → Bool) (xs : List ℕ) (x : ℕ) → x ∈ filter p xs → (x ∈ xs) × (p x ≡ true)
 from_filter p [] x h = absurd h
 from_filter p (y ∷ ys) x h = go (p y) refl h (from_filter p ys x)
   where
@@ -60,7 +60,7 @@ both true true e = (refl, refl)
 both true false e = absurd (let z : false ≡ true = e in cc)
 both false b e = absurd (let z : false ≡ true = e in cc)
 
-no_clause : (r : Reason) → not (is_clause r) ≡ true → r ≡ reason.Unit
+pub no_clause : (r : Reason) → not (is_clause r) ≡ true → r ≡ reason.Unit
 no_clause reason.Unit e = refl
 no_clause (reason.Binary ms) e = absurd (let z : false ≡ true = e in cc)
 no_clause (reason.Long i) e = absurd (let z : false ≡ true = e in cc)

@@ -9,4 +9,5 @@ pub mod Decisions
 pub mod ContextChanges
 pub mod DueReductions
 pub mod AssumptionParts
+pub mod ProvedUnits
 pub mod Simplifications

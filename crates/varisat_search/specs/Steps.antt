@@ -1,9 +1,9 @@
 -- What backtracking, deciding, a step and accepting a clause do.
-use Rattle.std.specs.Prelude.{◌≡◌, ◌≢◌, ℕ, ◌<◌, ◌≤◌, Bool, false, Some, None, List, [], length, take, slice_index_or, ◌⊎◌}
+use Rattle.std.specs.Prelude.{◌≡◌, ◌≢◌, ℕ, ◌<◌, ◌≤◌, Bool, false, Some, None, List, [], ◌++◌, length, take, slice_index_or, ◌⊎◌}
 use Rattle.varisat_theory.specs.Membership.{◌∈◌}
 use Rattle.varisat_theory.specs.Literals.{Literal, Clause, Assignment, variable_of}
 use Rattle.varisat_prop.specs.Parts.{is_true_value}
-use Rattle.varisat_prop.specs.View.{View, kept, literal_at, decision_at, Grows}
+use Rattle.varisat_prop.specs.View.{View, IsTrueIn, kept, literal_at, decision_at}
 use Rattle.varisat_search.specs.declared.state.SatState.{SatState}
 use Rattle.varisat_search.specs.declared.state.SatState.TheVariants as verdict
 
@@ -36,9 +36,16 @@ SavesAbove level s old new = (length s.decisions ≤ level → new ≡ old) × (
 abbrev pub SavesSome : View → List Bool → List Bool → Type 0
 SavesSome s old new = (new ≡ old) ⊎ ((level : ℕ) × (level < length s.decisions) × Saves s level old new)
 
+-- The trail and the decisions went on, and nothing was taken back. Of kept clauses this says nothing.
+pub record ExtendsTrail (s t : View) : Type 0 where
+  pub count : length t.values ≡ length s.values
+  pub is_true : (k : ℕ) → k < length t.trail → IsTrueIn t (literal_at t k)
+  pub trail_more : (more : List Literal) × (t.trail ≡ s.trail ++ more)
+  pub decisions_more : (more : List ℕ) × (t.decisions ≡ s.decisions ++ more)
+
 -- What is remembered as the search goes on, to some view, and then backtracks or stays.
 abbrev pub Remembers : View → List Bool → List Bool → Type 0
-Remembers s old new = (u : View) × Grows s u × SavesSome u old new
+Remembers s old new = (u : View) × ExtendsTrail s u × SavesSome u old new
 
 -- a literal that may be decided
 abbrev pub IsFree : View → Literal → Type 0

@@ -1,9 +1,10 @@
-//! Simplification of the kept clauses by literals that are true for good.
-ghost use Rattle.std.specs.Prelude.{◌≡◌, ◌<◌, ◌≤◌, ◌++◌, ℕ, [], length, drop, OnOk};
+//! Simplification by the literals of level 0: they become unit clauses, and the kept clauses lose what these say.
+ghost use Rattle.std.specs.Prelude.{◌≡◌, ◌<◌, ◌≤◌, ◌↔◌, ◌++◌, ℕ, IsTrue, [], length, drop, OnOk};
 ghost use Rattle.varisat_theory.specs.Membership.{◌∈◌};
-ghost use Rattle.varisat_theory.specs.Literals.{Clause};
+ghost use Rattle.varisat_theory.specs.Literals.{Literal, Clause, variable_of};
 ghost use Rattle.varisat_theory.specs.Propagation.{IsComplete};
 ghost use Rattle.varisat_theory.specs.Outcomes.{Proves};
+ghost use Rattle.varisat_theory.specs.StepLaws.{unit_lines};
 ghost use Rattle.varisat_clause.specs.Stored.{IsPlace, stored_at, literals_at, with_clause};
 ghost use Rattle.varisat_clause.specs.Stores.{clauses_of, IsSound, Holds};
 ghost use Rattle.varisat_prop.specs.declared.prop.graph.Reason.TheVariants as reason;
@@ -12,6 +13,7 @@ ghost use Rattle.varisat_prop.specs.View.{kept, node_at};
 ghost use Rattle.varisat_search.specs.Contexts.{view, IsReady};
 ghost use Rattle.varisat_search.specs.Decisions.{SameDecidable};
 ghost use Rattle.varisat_search.specs.Seen.{search_of};
+ghost use Rattle.varisat_search.specs.ProvedUnits.{implied_units, HaveUnits, ProvesUnits};
 ghost use Rattle.varisat_search.specs.Simplifications.{unassigned, shortened_to, with_pairs, IsSimplified, pair_lines, clause_lines, IsPairIn, IsLeftOpen, LeavesOpen};
 
 use crate::context::Context;
@@ -21,7 +23,35 @@ use varisat_clause::alloc::{ClauseAlloc, ClauseRef};
 use varisat_clause::filter::{ClauseFilter, filter_clauses};
 use varisat_literals::Lit;
 use varisat_prop::binary::BinaryClauses;
-use varisat_prop::prop::Assignment;
+use varisat_prop::prop::{Assignment, ImplGraph, Reason};
+
+/// Notes of the literals' variables that no clause is their reason.
+fn forget_reasons<A: Allocator + Copy>(impl_graph: &mut ImplGraph<A>, lits: &[Lit])
+    requires { (l : Literal) → l ∈ lits.now → variable_of l < length impl_graph.old.nodes.items }
+    ensures { HaveUnits lits.now impl_graph.old.nodes.items impl_graph.new.nodes.items }
+{
+    for lit in lits {
+        impl_graph.update_reason(lit.var(), Reason::Unit);
+    }
+}
+
+/// Proves the literals of level 0: each that a clause implied is held as a unit clause from now on, and needs that clause
+/// no more. Returns whether there are literals. Above level 0 nothing changes, and the result is false.
+pub fn prove_units<A: Allocator + Copy>(ctx: &mut Context<A>) -> bool
+    requires { IsReady ctx.old }
+    ensures found { IsTrue result ↔ ((ctx.old.trail.decisions ≡ []) × (0 < length ctx.old.trail.literals)) }
+    ensures proved { ctx.old.trail.decisions ≡ [] → ProvesUnits (view ctx.old) (view ctx.new) }
+    ensures proves { ctx.old.trail.decisions ≡ [] → Proves 0 (search_of (view ctx.old)) (search_of (view ctx.new)) (unit_lines (implied_units (view ctx.old))) }
+    ensures stays { 0 < length ctx.old.trail.decisions → ctx.new ≡ ctx.old }
+    ensures ready { IsReady ctx.new }
+    ensures kept { ctx.new ≡ record ctx.old { impl_graph = ctx.new.impl_graph } }
+{
+    if ctx.trail.current_level() > 0 {
+        return false;
+    }
+    forget_reasons(&mut ctx.impl_graph, ctx.trail.trail());
+    !ctx.trail.trail().is_empty()
+}
 
 /// Copies the literals that have no value.
 fn copy_unassigned<A: Allocator + Copy>(

@@ -1,15 +1,16 @@
-use Rattle.std.proofs.Common.{[], MatchResult, subst}
+use Rattle.std.proofs.Common.{[], inl, MatchResult, subst}
 use Rattle.varisat_theory.specs.Propagation.{IsComplete}
 use Rattle.varisat_theory.specs.Outcomes.{Sat, UnsatUnder}
 use Rattle.varisat_prop.specs.View.{kept}
 use Rattle.varisat_search.specs.AssumptionParts.{EndsAssumed}
 use Rattle.varisat_search.specs.Contexts.{view}
 use Rattle.varisat_search.specs.Conflicts.{Stops}
-use Rattle.varisat_search.specs.Steps.{assignment_of}
+use Rattle.varisat_search.specs.Steps.{SavesSome, assignment_of}
 use Rattle.varisat_search.specs.Seen.{outcome_of}
 use Rattle.varisat_search.proofs.AssumptionOutcomes.{core-steps, keeps-model, keeps-core, keeps-learned}
 use Rattle.varisat_search.proofs.StepLines.{model-steps, steps-after}
 use Rattle.varisat_search.proofs.StepRanks.{rises-after}
+use Rattle.varisat_search.proofs.TrailExtensions.{remembers-grown}
 use Rattle.varisat_search.proofs.cdcl.conflict_step.Goals as goal
 
 pub returns-in-Ok-clause-steps : goal.returns-in-Ok-clause-steps
@@ -60,3 +61,23 @@ returns-in_ok-learn-in-Err-Conflict-clause-assumes g c =
     let u = c.learn.new.ctx in
     let e = c.in_ok-learn-in-Err-Conflict.ensures.further in
     keeps-learned (view c.args.ctx.now) (view u) c.args.ctx.now.assumptions x.assumptions u.assumptions u.assumptions.failed_core u.solver_state.sat_state c.requires.ready.well c.in_ok-find_conflict.ensures.taken e.assumptions e.known
+
+pub returns-in-Ok-clause-last : goal.returns-in-Ok-clause-last
+returns-in-Ok-clause-last g c =
+    let x = c.find_conflict.new.ctx in
+    let m = c.in_ok-find_conflict.ensures in
+    remembers-grown (view c.args.ctx.now) (view x) c.args.ctx.now.assignment.last x.assignment.last m.ready.well m.grows (inl m.last)
+
+pub returns-in-Err-Assumption-clause-last : goal.returns-in-Err-Assumption-clause-last
+returns-in-Err-Assumption-clause-last g c =
+    let x = c.find_conflict.new.ctx in
+    let m = c.in_ok-find_conflict.ensures in
+    remembers-grown (view c.args.ctx.now) (view x) c.args.ctx.now.assignment.last x.assignment.last m.ready.well m.grows (inl m.last)
+
+pub returns-in_ok-learn-in-Err-Conflict-clause-last : goal.returns-in_ok-learn-in-Err-Conflict-clause-last
+returns-in_ok-learn-in-Err-Conflict-clause-last g c =
+    let x = c.find_conflict.new.ctx in
+    let m = c.in_ok-find_conflict.ensures in
+    let z = c.learn.new.ctx in
+    remembers-grown (view c.args.ctx.now) (view x) c.args.ctx.now.assignment.last z.assignment.last m.ready.well m.grows
+    (subst (λ xs. SavesSome (view x) xs z.assignment.last) m.last c.in_ok-learn-in-Err-Conflict.ensures.last)

@@ -1,21 +1,15 @@
-use Rattle.std.proofs.Common.{◌≡◌, length, inl, refl, sym, ap, ◌∙◌, subst, arith}
-use Rattle.varisat_theory.specs.Propagation.{IsComplete}
-use Rattle.varisat_clause.specs.Databases.{Tracks}
-use Rattle.varisat_clause.proofs.StoreSound.{is-sound}
-use Rattle.varisat_clause.proofs.KeptShapes.{tracks-shapes}
-use Rattle.varisat_prop.specs.View.{view_of, View, kept, Grows}
+use Rattle.std.proofs.Common.{refl, ap, ◌∙◌, arith}
+use Rattle.varisat_prop.specs.View.{Grows}
 use Rattle.varisat_prop.proofs.ViewGrowth.{grows-refl, grows-trans, grows-longer}
 use Rattle.varisat_prop.proofs.TrailValues.{trail-short}
 use Rattle.varisat_search.specs.declared.context.Context.{Context}
 use Rattle.varisat_vsids.specs.Activities.{Activities}
-use Rattle.varisat_search.specs.AssumptionParts.{HasAssumptions, TakesOutImplied}
 use Rattle.varisat_search.specs.Contexts.{view, IsReady}
-use Rattle.varisat_search.specs.Decisions.{CanDecide, SameDecidable}
+use Rattle.varisat_search.specs.Decisions.{SameDecidable}
 use Rattle.varisat_search.proofs.AssumedTruths.{takes-refl, takes-trans}
-use Rattle.varisat_search.proofs.AssumptionContexts.{still-assumable}
-use Rattle.varisat_search.proofs.AssumptionLevels.{has-grown}
-use Rattle.varisat_search.proofs.DecidableVariables.{same-refl, same-trans, propagated-same, propagated-decidable}
-use Rattle.varisat_search.proofs.StepOutcome.{Finding, finding-begins, finding-ready, finding-propagated, not-err}
+use Rattle.varisat_search.proofs.DecidableVariables.{same-refl, same-trans, propagated-same}
+use Rattle.varisat_search.proofs.PropagatedContext.{propagated-ready}
+use Rattle.varisat_search.proofs.StepOutcome.{Finding, finding-begins, finding-propagated, not-err}
 use Rattle.varisat_search.proofs.cdcl.find_conflict.Given.{Over}
 use Rattle.varisat_search.proofs.cdcl.find_conflict.Goals.{In_ok-propagated}
 use Rattle.varisat_search.proofs.cdcl.find_conflict.Goals as goal
@@ -39,20 +33,8 @@ same : (g : Over) (c : In_ok-propagated g) → SameDecidable (view c.args.ctx.no
 same g c =
     same-trans (view c.args.ctx.now) c.args.ctx.now.vsids (view c.levels.ctx) c.levels.ctx.vsids (view (mid g c)) c.levels.ctx.vsids c.levels.invariant.same (still g c)
 
--- Propagation only reorders literals, so that the database still fits the store.
 ready : (g : Over) (c : In_ok-propagated g) → IsReady (mid g c)
-ready g c =
-    let s = view c.levels.ctx in
-    let t = view (mid g c) in
-    let x = c.levels.ctx in
-    let r = c.levels.invariant.ready in
-    let p = c.in_ok-propagated.ensures.propagates in
-    finding-ready r (propagated g c) c.in_ok-propagated.ensures.propagated
-    (tracks-shapes x.clause_db x.clause_alloc c.propagate.new.clause_alloc r.tracks (is-sound c.propagate.new.clause_alloc (propagated g c).well.sound) c.in_ok-propagated.ensures.store)
-    refl refl
-    (propagated-decidable s t x.vsids r.well r.decidable p)
-    (has-grown s t x.assumptions r.well p.grows (inl p.decisions) r.assumed)
-    (still-assumable s x.vsids t x.vsids x.assumptions.working x.assumptions.working (still g c) (λ l i. i) r.assumable)
+ready g c = let e = c.in_ok-propagated.ensures in propagated-ready c.levels.ctx (mid g c) c.levels.invariant.ready e.propagates e.propagated e.store refl
 
 pub returns-in-Err-clause-ready : goal.returns-in-Err-clause-ready
 returns-in-Err-clause-ready g c = ready g (goal.at.returns-in-Err-clause-ready g c).In_ok-propagated

@@ -36,7 +36,7 @@ use Rattle.varisat.proofs.AcceptSolverVariables.{taken, solvers-few}
 use Rattle.varisat.proofs.Relinked.{relinked}
 use Rattle.varisat.proofs.ModelsFit.{is-core}
 use Rattle.varisat.proofs.AcceptLoad.{loaded}
-use Rattle.varisat.proofs.SolveVerdict.{forgotten, core-known, model-same, spaces-same}
+use Rattle.varisat.proofs.SolveVerdict.{forgotten, core-known, model-same, spaces-same, maps-same}
 use Rattle.varisat.proofs.Carried.{carry-at}
 use Rattle.varisat.proofs.PlainTables.{next-plain, named-plain, taken-plain, taken-in-turn-plain, taken-users}
 use Rattle.varisat.proofs.SearchViews.{view-long, view-inside}
@@ -54,7 +54,7 @@ given-spaces g s new u x (w, k) free n =
     let f = assignment_of g.search in
     let unsolved : at g.tables.solvers.forward x ≡ None = ⊎_elim (λ e. e) (λ (v, e). let (i, r, m) = k.solvers.live v x (k.solvers.one_to_one.there x v e) in let z : true ≡ false = sym n.unused.0 ∙ k.identities.live x i r in absurd cc) (is-some (at g.tables.solvers.forward x)) in
     let solver = λ (y : ℕ). ap (λ m. at m.forward y) n.solvers in
-    spaces-same (give u x p) q (bring u s) (record {
+    maps-same (give u x p) q (bring u s) (record {
       global_from_user = n.users.forward.at_each;
       user_from_global = n.users.backward.at_each;
       watermark = n.users.forward.watermark;
@@ -65,14 +65,7 @@ given-spaces g s new u x (w, k) free n =
           (ap (λ d. value_or d.unit f (at new.solvers.forward x)) (n.kept.at_each x ∙ updated-at (kept_at g.tables.kept) x fresh) ∙ ap (value_or None f) (solver x ∙ unsolved))
           y
           (λ m. ap (λ d. value_or d.unit f (at new.solvers.forward y)) (n.kept.at_each y ∙ updated-other (kept_at g.tables.kept) x fresh y m) ∙ ap (value_or (kept_at g.tables.kept y).unit f) (solver y));
-      assumptions = refl;
-      core = refl;
-      working = refl;
-      search = refl;
-      outcome = refl;
-      var_count = refl;
-      hidden = refl;
-    }) (given w p s u x k free n.unused.0)
+    }) refl (given w p s u x k free n.unused.0)
 
 pub next-spaces : (k : ℕ) (g : Summary) (s : State) (new : Tables) → SpacesFit (spaces g) s → AreNextGiven k g.tables new → SpacesFit (spaces (with_tables new g)) (bring_next k s)
 next-spaces zero g s new f e = subst (λ t. SpacesFit (spaces (with_tables t g)) s) (sym e) f
@@ -118,7 +111,7 @@ HasNoModel g = (a : Assignment) → (spaces g).outcome ≡ outcome.Sat a → ⊥
 
 pub taken-one : (g : Summary) (s : State) (new : Tables) (x v i : ℕ) → (w : Carrying) → Links w (spaces g) s → HasNoModel g → IsPlain g.tables → w.identity x ≡ Some i → i ∈ s.counted → at g.tables.solvers.forward x ≡ None → IsTaken g.tables new x v → SpacesFit (spaces (with_tables new g)) s
 taken-one g s new x v i w k none n is spoken free t =
-    spaces-same (take_solver x v (spaces g)) (spaces (with_tables new g)) s (record {
+    maps-same (take_solver x v (spaces g)) (spaces (with_tables new g)) s (record {
       global_from_user = λ u. ap (λ m. at m.forward u) t.users;
       user_from_global = λ y. ap (λ m. at m.backward y) t.users;
       watermark = ap (λ m. length m.forward) t.users;
@@ -126,14 +119,7 @@ taken-one g s new x v i w k none n is spoken free t =
       global_from_solver = t.solvers.backward.at_each;
       kept = λ y. ap (λ m. kept_at m y) t.kept;
       model = λ a e y. absurd (none a e);
-      assumptions = refl;
-      core = refl;
-      working = refl;
-      search = refl;
-      outcome = refl;
-      var_count = refl;
-      hidden = refl;
-    }) (w, taken w (spaces g) s x i v k is spoken free t.least.0 (n.no_units x))
+    }) refl (w, taken w (spaces g) s x i v k is spoken free t.least.0 (n.no_units x))
 
 pub taken-in-turn : (xs : List ℕ) (g : Summary) (s : State) (new : Tables) → SpacesFit (spaces g) s → HasNoModel g → IsPlain g.tables → ((x : ℕ) → x ∈ xs → (u : ℕ) × (at g.tables.users.forward u ≡ Some x) × ((i : ℕ) → s.names u ≡ Some i → i ∈ s.counted)) → AreTakenInTurn xs g.tables new → SpacesFit (spaces (with_tables new g)) s
 taken-in-turn [] g s new f o n a e = subst (λ t. SpacesFit (spaces (with_tables t g)) s) (sym e) f
@@ -337,13 +323,15 @@ clause-accepted g s d named taken joined mid new parts after t f =
       y,
       subst (λ z. VerdictAfter s.clauses c z y) rest.verdict (subst (λ P. VerdictAfter P c n.verdict y) rest.clauses u),
       spaces-same (record p6 { outcome = outcome_of new parts.failed_core after }) q (append_clause c y n) (record {
-        global_from_user = λ u. ap (λ m. at m.forward u) j.users;
-        user_from_global = λ y. ap (λ m. at m.backward y) j.users;
-        watermark = ap (λ m. length m.forward) j.users;
-        solver_from_global = λ y. ap (λ m. at m.forward y) j.solvers;
-        global_from_solver = λ u. ap (λ m. at m.backward u) j.solvers;
-        kept = λ y. refl;
-        model = λ a e y. refl;
+        maps = record {
+          global_from_user = λ u. ap (λ m. at m.forward u) j.users;
+          user_from_global = λ y. ap (λ m. at m.backward y) j.users;
+          watermark = ap (λ m. length m.forward) j.users;
+          solver_from_global = λ y. ap (λ m. at m.forward y) j.solvers;
+          global_from_solver = λ u. ap (λ m. at m.backward u) j.solvers;
+          kept = λ y. refl;
+          model = λ a e y. refl;
+        };
         assumptions = ap (λ (a : AssumptionParts). a.user) t.parts_stay;
         core = ap (λ (a : AssumptionParts). a.user_core) t.parts_stay;
         working = ap (λ (a : AssumptionParts). a.working) t.parts_stay;

@@ -1,87 +1,33 @@
 -- A list is assumed: its names come into use, their variables take solver variables and are marked, and the search has its literals.
-use Rattle.std.proofs.Common.{◌≡◌, ◌≢◌, ℕ, ◌<◌, Bool, true, false, Option, Some, None, List, [], ◌∷◌, ◌++◌, ◌⊎◌, inl, inr, ⊎_elim, length, map, sym, ap, ◌∙◌, subst, refl, arith}
+use Rattle.std.proofs.Common.{◌≡◌, ◌≢◌, ℕ, ◌<◌, true, false, Some, None, List, [], ◌⊎◌, inl, inr, ⊎_elim, length, map, sym, ap, ◌∙◌, subst, refl}
 use Rattle.varisat_theory.specs.Membership.{◌∈◌}
 use Rattle.varisat_theory.specs.Literals.{Literal, Assignment, variable_of}
 use Rattle.varisat_theory.specs.Outcomes as outcome
-use Rattle.varisat_theory.proofs.Members.{∈-append_cases, ∈-append_left, ∈-append_right, equal_or_not}
 use Rattle.varisat_prop.specs.View.{View}
 use Rattle.varisat_search.specs.declared.state.SatState.{SatState}
 use Rattle.varisat_search.specs.declared.state.SatState.TheVariants as verdict
 use Rattle.varisat_search.specs.AssumptionParts.{AssumptionParts, newly_assumed, assumed_state}
 use Rattle.varisat_search.specs.Seen.{search_of, outcome_of}
-use Rattle.varisat_names.specs.Maps.{chain, updated}
+use Rattle.varisat_names.specs.Maps.{chain}
 use Rattle.varisat_names.specs.VarMap.{at}
 use Rattle.varisat_names.specs.VarBiMap.{BiMap}
 use Rattle.varisat_names.specs.VarData.{kept_at}
 use Rattle.varisat_names.specs.declared.variables.data.VarData.{VarData}
-use Rattle.varisat_names.specs.Variables.{Tables, IsChangedTo}
-use Rattle.varisat_names.proofs.Maps.{updated-all}
-use Rattle.varisat_names.proofs.Tables.{live-inside}
+use Rattle.varisat_names.specs.Variables.{Tables}
 use Rattle.varisat.specs.States.{State, Verdict, Unknown, Sat, Unsat, UnsatUnderAssumptions}
 use Rattle.varisat.specs.Names.{name_all, through_names}
 use Rattle.varisat.specs.Calls.{assumed_verdict, with_assumptions, with_verdict}
 use Rattle.varisat.specs.Carried.{carry}
-use Rattle.varisat.specs.Spaces.{Spaces, Carrying, MarksFit, Links, SpacesFit}
+use Rattle.varisat.specs.Spaces.{Carrying, MarksFit, Links, SpacesFit}
 use Rattle.varisat.specs.Summaries.{Summary, spaces, spaces_of}
 use Rattle.varisat.specs.Accepting.{IsPlain, AreNamedInTurn, AreTakenFor, AreMarked}
 use Rattle.varisat.proofs.SpacesMoves.{IsMarkedFor, solver_literal}
 use Rattle.varisat.proofs.AcceptLoad.{assumed}
 use Rattle.varisat.proofs.AcceptClause.{with_tables, HasNoModel, named-all, brought-in, raised}
 use Rattle.varisat.proofs.SolveVerdict.{forgotten, spaces-same}
-use Rattle.varisat.proofs.PlainTables.{named-plain, taken-in-turn-plain, taken-users}
+use Rattle.varisat.proofs.PlainTables.{named-plain, taken-in-turn-plain}
 
 -- 1. Marks.
-
-pub marked-none : (t : Tables) (b : Bool) → AreMarked [] b t t
-marked-none t b = record { users = refl; solvers = refl; count = refl; rest = λ x. refl; marked = λ l x h. absurd h; others = λ x. inl refl }
-
-pub marked-more : (ls : List Literal) (b : Bool) (old mid new : Tables) (l : Literal) (x : ℕ) → AreMarked ls b old mid → at mid.users.forward (variable_of l) ≡ Some x → (kept_at mid.kept x).deleted ≡ false → IsChangedTo mid new x (record (kept_at mid.kept x) { assumed = b }) → AreMarked (ls ++ l ∷ []) b old new
-marked-more ls b old mid new l x o e live c =
-    let d = record (kept_at mid.kept x) { assumed = b } in
-    let inside = live-inside mid.kept x live in
-    let n = c.kept.count in
-    let m = o.count in
-    let own : at old.users.forward (variable_of l) ≡ Some x = ap (λ t. at t.forward (variable_of l)) (sym o.users) ∙ e in
-    record {
-      users = ap (λ t. t.users) c.rest ∙ o.users;
-      solvers = ap (λ t. t.solvers) c.rest ∙ o.solvers;
-      count = omega (arith, n, m, inside);
-      rest = λ y. let a = c.kept.at_each y in
-          let r : updated (kept_at mid.kept) x d y ≡ record (kept_at old.kept y) { assumed = (updated (kept_at mid.kept) x d y).assumed } =
-          updated-all (λ y k. k ≡ record (kept_at old.kept y) { assumed = k.assumed }) (kept_at mid.kept) x d (ap (λ (k : VarData). record k { assumed = b }) (o.rest x)) y (λ _. o.rest y) in
-          subst (λ k. k ≡ record (kept_at old.kept y) { assumed = k.assumed }) (sym a) r;
-      marked = λ k y h q. ap (λ k. k.assumed) (c.kept.at_each y) ∙ updated-all (λ y k. (y ≡ x → ⊥) ⊎ (y ≡ x) → k.assumed ≡ b) (kept_at mid.kept) x d (λ _. refl) y
-          (λ z _. ⊎_elim
-          (λ a. o.marked k y a q)
-          (λ a. ⊎_elim (λ s. absurd (z (let r : Some y ≡ Some x = sym q ∙ ap (λ u. at old.users.forward (variable_of u)) s ∙ own in cc))) (λ s. absurd s) a)
-          (∈-append_cases k ls (l ∷ []) h))
-          (⊎_elim (λ a. inr a) (λ a. inl a) (equal_or_not y x));
-      others = λ y. ⊎_elim
-          (λ q. inr (l, ∈-append_right l ls (l ∷ []) (inl refl), own ∙ ap Some (sym q)))
-          (λ z. let same : (kept_at new.kept y).assumed ≡ (kept_at mid.kept y).assumed = ap (λ k. k.assumed) (c.kept.at_each y) ∙ updated-all (λ y k. (y ≡ x → ⊥) → k.assumed ≡ (kept_at mid.kept y).assumed) (kept_at mid.kept) x d (λ n. absurd (n refl)) y (λ _ _. refl) z in
-          ⊎_elim (λ q. inl (same ∙ q)) (λ (k, h, q). inr (k, ∈-append_left k ls (l ∷ []) h, q)) (o.others y))
-          (equal_or_not y x);
-    }
-
--- marks make no difference to what is plain
-pub marked-plain : (ls : List Literal) (b : Bool) (old new : Tables) → IsPlain old → AreMarked ls b old new → IsPlain new
-marked-plain ls b old new n j = record {
-  nothing_hidden = record {
-    users = subst (λ m. (u : ℕ) → u < length m.forward → at m.forward u ≡ Some u) (sym j.users) n.nothing_hidden.users;
-    count = j.count ∙ n.nothing_hidden.count ∙ ap (λ m. length m.forward) (sym j.users);
-    live = λ x h. ap (λ k. k.deleted) (j.rest x) ∙ n.nothing_hidden.live x (let c = j.count in omega (arith, h, c));
-    solvers = subst (λ (m : BiMap). (v : ℕ) → v < length m.backward → at m.backward v ≢ None) (sym j.solvers) n.nothing_hidden.solvers;
-  };
-  no_units = λ x. ap (λ k. k.unit) (j.rest x) ∙ n.no_units x;
-}
-
--- the variable of a name is live
-pub marked-live : (ls : List Literal) (b : Bool) (old mid : Tables) (u x : ℕ) → AreMarked ls b old mid → IsPlain old → u < length old.users.forward → at mid.users.forward u ≡ Some x → (kept_at mid.kept x).deleted ≡ false
-marked-live ls b old mid u x o n h e =
-    let q : Some u ≡ Some x = sym (n.nothing_hidden.users u h) ∙ ap (λ m. at m.forward u) (sym o.users) ∙ e in
-    let z : u ≡ x = cc in
-    let c = n.nothing_hidden.count in
-    ap (λ d. d.deleted) (o.rest x) ∙ n.nothing_hidden.live x (omega (arith, h, c, z))
 
 -- the marks of the list before are gone, and those of the new one are there
 marks-fit : (old mid new : Tables) (before list : List Literal) → MarksFit (at old.users.forward) (kept_at old.kept) before → AreMarked before false old mid → AreMarked list true mid new → MarksFit (at old.users.forward) (kept_at new.kept) list
@@ -107,21 +53,10 @@ marks-fit old mid new before list f a b = record {
 -- what was found is forgotten, unless it was that the clauses are unsatisfiable
 forgets : (w : Carrying) (g : Summary) (n : State) (sat : SatState) (v : Verdict) → Links w (spaces (record g { sat_state = sat })) (with_verdict v n) → Links w (spaces (record g { sat_state = assumed_state sat })) (with_verdict (assumed_verdict v) n)
 forgets w g n verdict.Unknown Unknown k = k
-forgets w g n verdict.Unknown (Sat a) k = absurd k.verdict
-forgets w g n verdict.Unknown Unsat k = absurd k.verdict
-forgets w g n verdict.Unknown (UnsatUnderAssumptions core) k = absurd k.verdict
-forgets w g n verdict.Sat Unknown k = absurd k.verdict
 forgets w g n verdict.Sat (Sat a) k = forgotten w (spaces (record g { sat_state = verdict.Sat })) (with_verdict (Sat a) n) k (λ e. let z : Sat a ≡ Unsat = e in cc)
-forgets w g n verdict.Sat Unsat k = absurd k.verdict
-forgets w g n verdict.Sat (UnsatUnderAssumptions core) k = absurd k.verdict
-forgets w g n verdict.Unsat Unknown k = absurd k.verdict
-forgets w g n verdict.Unsat (Sat a) k = absurd k.verdict
 forgets w g n verdict.Unsat Unsat k = k
-forgets w g n verdict.Unsat (UnsatUnderAssumptions core) k = absurd k.verdict
-forgets w g n verdict.UnsatUnderAssumptions Unknown k = absurd k.verdict
-forgets w g n verdict.UnsatUnderAssumptions (Sat a) k = absurd k.verdict
-forgets w g n verdict.UnsatUnderAssumptions Unsat k = absurd k.verdict
 forgets w g n verdict.UnsatUnderAssumptions (UnsatUnderAssumptions core) k = forgotten w (spaces (record g { sat_state = verdict.UnsatUnderAssumptions })) (with_verdict (UnsatUnderAssumptions core) n) k (λ e. let z : UnsatUnderAssumptions core ≡ Unsat = e in cc)
+forgets w g n sat v k = absurd k.verdict
 
 no-model-left : (s : View) (core : List Literal) (sat : SatState) (a : Assignment) → outcome_of s core (assumed_state sat) ≡ outcome.Sat a → ⊥
 no-model-left s core verdict.Unknown a e = let z : outcome.Unknown ≡ outcome.Sat a = e in cc
@@ -183,13 +118,15 @@ list-assumed g s list named taken cleared marked mid new parts after t f =
     let g6 : Summary = record g { tables = marked; search = mid; assumed = parts; sat_state = assumed_state g.sat_state } in
     let s6 = with_assumptions (map (through_names n) list) n in
     let f6 : SpacesFit (spaces g6) s6 = spaces-same p6 (spaces g6) s6 (record {
-      global_from_user = λ u. ap (λ m. at m.forward u) users;
-      user_from_global = λ y. ap (λ m. at m.backward y) users;
-      watermark = ap (λ m. length m.forward) users;
-      solver_from_global = λ y. ap (λ m. at m.forward y) solvers;
-      global_from_solver = λ u. ap (λ m. at m.backward u) solvers;
-      kept = λ y. refl;
-      model = λ c e y. absurd (no-model-left mid g.assumed.failed_core g.sat_state c e);
+      maps = record {
+        global_from_user = λ u. ap (λ m. at m.forward u) users;
+        user_from_global = λ y. ap (λ m. at m.backward y) users;
+        watermark = ap (λ m. length m.forward) users;
+        solver_from_global = λ y. ap (λ m. at m.forward y) solvers;
+        global_from_solver = λ u. ap (λ m. at m.backward u) solvers;
+        kept = λ y. refl;
+        model = λ c e y. absurd (no-model-left mid g.assumed.failed_core g.sat_state c e);
+      };
       assumptions = ap (λ (x : AssumptionParts). x.user) t.parts_are;
       core = ap (λ (x : AssumptionParts). x.user_core) t.parts_are;
       working = ap (λ (x : AssumptionParts). x.working) t.parts_are;

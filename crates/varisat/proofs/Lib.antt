@@ -4,6 +4,7 @@ pub mod AcceptSolverVariables
 pub mod AddTexts
 pub mod Additions
 pub mod AssumeList
+pub mod BroughtIn
 pub mod CallStates
 pub mod Carried
 pub mod Counted
@@ -28,4 +29,5 @@ pub mod SettingsCalls
 pub mod SolverCalls
 pub mod SpacesAgree
 pub mod SpacesMoves
+pub mod TableMarks
 pub mod VerdictAnswers

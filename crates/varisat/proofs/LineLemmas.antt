@@ -272,6 +272,12 @@ pub first_word : (text word : List ℕ) (others : Option (Bor (List ℕ))) → I
 first_word text word None e f = e
 first_word text word (Some rest) e f = f
 
+-- the words behind the literals that were read, from the next one on
+pub words_behind : (ls numbers word : List ℕ) (text : Bor (List ℕ)) (rest others : Option (Bor (List ℕ))) → map literal_text ls ++ words_left rest ≡ words_of numbers → rest ≡ Some text →
+    IfNone others (words_of text.now ≡ word ∷ []) → IfSome others (λ behind. words_of text.now ≡ word ∷ words_of behind.now) → map literal_text ls ++ word ∷ words_left others ≡ words_of numbers
+words_behind ls numbers word text rest others left is last more =
+    ap (λ ws. map literal_text ls ++ ws) (sym (first_word text.now word others last more)) ∙ ap (λ r. map literal_text ls ++ words_left r) (sym is) ∙ left
+
 pub none_left : (rest : Option (Bor (List ℕ))) → ((text : Bor (List ℕ)) → rest ≢ Some text) → words_left rest ≡ []
 none_left None h = refl
 none_left (Some text) h = absurd (h text refl)
@@ -310,29 +316,27 @@ not_among (l ∷ ls) (m ∷ ms) word others (h, hs) none e =
 tails_same : (a b : List ℕ) (xs ys : List (List ℕ)) → a ∷ xs ≡ b ∷ ys → xs ≡ ys
 tails_same a b xs ys e = cc
 
-no_clause_case : (numbers ls word : List ℕ) (others : List (List ℕ)) (command : Command) → HasNumbersInRange command → ((m : ℕ) → m < 2 ^ 32 → literal_text m ≢ word) →
-    map literal_text ls ++ word ∷ others ≡ words_of numbers → codes "add" ∷ words_of numbers ≡ words command → ⊥
-no_clause_case numbers ls word others (Add ms) h none e w =
-    not_among ls ms word others (recursion_from_All (λ l. l < 2 ^ 32) ms h) none (e ∙ tails_same (codes "add") (codes "add") (words_of numbers) (map literal_text ms) w)
-no_clause_case numbers ls word others command h none e w =
-    let n : first_word_number (codes "add" ∷ words_of numbers) ≡ first_word_number (words command) = ap first_word_number w in absurd (omega arith)
+-- so the text is no command of literals
+no_literals : (name numbers ls word : List ℕ) (others : List (List ℕ)) (command : Command) → (name ≡ codes "add") ⊎ (name ≡ codes "assume") → HasNumbersInRange command → ((m : ℕ) → m < 2 ^ 32 → literal_text m ≢ word) →
+    map literal_text ls ++ word ∷ others ≡ words_of numbers → name ∷ words_of numbers ≡ words command → ⊥
+no_literals name numbers ls word others (Add ms) o h none e w =
+    not_among ls ms word others (recursion_from_All (λ l. l < 2 ^ 32) ms h) none (e ∙ tails_same name (codes "add") (words_of numbers) (map literal_text ms) w)
+no_literals name numbers ls word others (Assume ms) o h none e w =
+    not_among ls ms word others (recursion_from_All (λ l. l < 2 ^ 32) ms h) none (e ∙ tails_same name (codes "assume") (words_of numbers) (map literal_text ms) w)
+no_literals name numbers ls word others command (inl r) h none e w =
+    let n : first_word_number (codes "add" ∷ words_of numbers) ≡ first_word_number (words command) = ap (λ x. first_word_number (x ∷ words_of numbers)) (sym r) ∙ ap first_word_number w in absurd (omega arith)
+no_literals name numbers ls word others command (inr r) h none e w =
+    let n : first_word_number (codes "assume" ∷ words_of numbers) ≡ first_word_number (words command) = ap (λ x. first_word_number (x ∷ words_of numbers)) (sym r) ∙ ap first_word_number w in absurd (omega arith)
 
 pub no_clause : (numbers ls word : List ℕ) (others : List (List ℕ)) → ((m : ℕ) → m < 2 ^ 32 → literal_text m ≢ word) →
     map literal_text ls ++ word ∷ others ≡ words_of numbers → (command : Command) → Means (codes "add " ++ numbers) command → ⊥
 no_clause numbers ls word others none e command m =
-    no_clause_case numbers ls word others command m.in_range none e (words_of_meant (codes "add " ++ numbers) command m)
-
-no_list_case : (numbers ls word : List ℕ) (others : List (List ℕ)) (command : Command) → HasNumbersInRange command → ((m : ℕ) → m < 2 ^ 32 → literal_text m ≢ word) →
-    map literal_text ls ++ word ∷ others ≡ words_of numbers → codes "assume" ∷ words_of numbers ≡ words command → ⊥
-no_list_case numbers ls word others (Assume ms) h none e w =
-    not_among ls ms word others (recursion_from_All (λ l. l < 2 ^ 32) ms h) none (e ∙ tails_same (codes "assume") (codes "assume") (words_of numbers) (map literal_text ms) w)
-no_list_case numbers ls word others command h none e w =
-    let n : first_word_number (codes "assume" ∷ words_of numbers) ≡ first_word_number (words command) = ap first_word_number w in absurd (omega arith)
+    no_literals (codes "add") numbers ls word others command (inl refl) m.in_range none e (words_of_meant (codes "add " ++ numbers) command m)
 
 pub no_list : (numbers ls word : List ℕ) (others : List (List ℕ)) → ((m : ℕ) → m < 2 ^ 32 → literal_text m ≢ word) →
     map literal_text ls ++ word ∷ others ≡ words_of numbers → (command : Command) → Means (codes "assume " ++ numbers) command → ⊥
 no_list numbers ls word others none e command m =
-    no_list_case numbers ls word others command m.in_range none e (assume_first numbers ∙ words_of_meant (codes "assume " ++ numbers) command m)
+    no_literals (codes "assume") numbers ls word others command (inr refl) m.in_range none e (assume_first numbers ∙ words_of_meant (codes "assume " ++ numbers) command m)
   where
     assume_first : (numbers : List ℕ) → codes "assume" ∷ words_of numbers ≡ words_of (codes "assume " ++ numbers)
     assume_first numbers = sym (slice_split_at (λ b. b == 32) (codes "assume") 32 numbers (no_space (codes "assume") (from_spaceless (codes "assume") refl)) refl)

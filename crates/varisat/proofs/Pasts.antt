@@ -18,11 +18,11 @@ use Rattle.varisat.specs.Counts.{count_with}
 use Rattle.varisat.specs.Additions as additions
 use Rattle.varisat.specs.Additions.{Gave, InTurn, RefusedAtOnce, NoFault, MemoryFault, Fault, ClauseRefused, ClausesAdded, RefusedEarly, FaultInText, Whole, MemoryRanOut, SourceFailed, Read, Unread}
 use Rattle.varisat.specs.Calls as state
-use Rattle.varisat.specs.Calls.{IsPastLimit, IsLike, IsCrowded, start, append_clause, with_verdict, with_steps, answer_of, reopened_verdict, assumed_verdict, VerdictAfter}
+use Rattle.varisat.specs.Calls.{IsPastLimit, IsLike, start, with_steps, answer_of, reopened_verdict, assumed_verdict, VerdictAfter}
 use Rattle.varisat.specs.Budgets.{CountsSteps}
 use Rattle.varisat.specs.Updates as updates
 use Rattle.varisat.specs.Pasts as past
-use Rattle.varisat.specs.Pasts.{Past, empty_past, use_name, use_names, accept, accept_all, assume, MakesFewSteps, IsModel}
+use Rattle.varisat.specs.Pasts.{Past, empty_past, use_name, use_names, accept, assume, MakesFewSteps, IsModel}
 use Rattle.varisat.specs.declared.solver.SolverError.{SolverError}
 use Rattle.varisat.specs.declared.solver.SolverError.TheVariants.{Interrupted, OutOfMemory, Invalid, ClauseStoreFull, VariableLimit, ConfigOutOfRange, Dimacs}
 use Rattle.varisat.proofs.NamesInOrder.{rest-one, rest-all, fit-one, fit-all, count-within, through-all}
@@ -139,6 +139,23 @@ false-true b e f = let z : true ≡ false = sym f ∙ e in cc
 pub stays : (p : Past) (s t : State) → t ≡ s → Agrees p s → Agrees p t
 stays p s t e g = subst (Agrees p) (sym e) g
 
+-- the past keeps its flags, and the state too, but that it is in use now
+agrees-still : (p q : Past) (s n t : State) → Agrees p s → t.ledger ≡ (start n).ledger → n.ledger ≡ s.ledger → (q.valid ≡ p.valid) × (q.steps ≡ p.steps) × (q.settings ≡ p.settings) → Knows q t → Agrees q t
+agrees-still p q s n t g e r (v, c, u) k = record {
+  valid = ap (λ x. x.valid) e ∙ ap (λ x. x.valid) r ∙ g.valid ∙ sym v;
+  steps = ap (λ x. x.steps) e ∙ ap (λ x. x.steps) r ∙ g.steps ∙ sym c;
+  settings = ap (λ x. x.settings) e ∙ ap (λ x. x.settings) r ∙ g.settings ∙ sym u;
+  knows = λ _. k;
+}
+
+-- names that come into use change no flag
+flags-stay : (list : List Literal) (p : Past) → ((use_names list p).valid ≡ p.valid) × ((use_names list p).steps ≡ p.steps) × ((use_names list p).settings ≡ p.settings)
+flags-stay list p = let e = use-rest list p in (ap (λ (x : Past). x.valid) e, ap (λ (x : Past). x.steps) e, ap (λ (x : Past). x.settings) e)
+
+-- names that were given in order are their own identities
+own-literals : (p : Past) (s : State) (list : List Literal) → (k : Knows p s) → map (through_names (name_all list s)) list ≡ list
+own-literals p s list k = through-all (count_with k.count list) (name_all list s) list (fit-all list k.count s k.names.order) (count-within list k.count)
+
 -- no way leads back
 breaks : (p : Past) (s t : State) → Agrees p s → state.Invalidates s t → Leads (past.Invalidates p) t
 breaks p s t g b = (
@@ -191,41 +208,36 @@ ignored p s d u g v =
 accepted : (p : Past) (s t : State) (d : Clause) → s.verdict ≢ Unsat → (IsPastLimit d → ⊥) → state.Accepts s d t → Agrees p s → p.valid ≡ true → Agrees (accept d p) t
 accepted p s t d n lim (w, after, e) g v =
     let k = g.knows v in
-    let f = fit-all d k.count s k.names.order in
     let named = name_all d s in
     let c = map (through_names named) d in
     let rest = rest-all d s in
-    let own : c ≡ d = through-all (count_with k.count d) named d f (count-within d k.count) in
+    let own = own-literals p s d k in
     let all : s.clauses ++ c ∷ [] ≡ p.clauses ++ d ∷ [] = ap (λ P. P ++ c ∷ []) (k.same n) ∙ ap (λ x. p.clauses ++ x ∷ []) own in
     let now : t.clauses ≡ p.clauses ++ d ∷ [] = e.clauses ∙ ap (λ P. P ++ c ∷ []) rest.clauses ∙ all in
     let cases = after-cases s.clauses c s.verdict w after in
     let used = use-rest d p in
-    record {
-      valid = ap (λ x. x.valid) e.ledger ∙ ap (λ x. x.valid) rest.ledger ∙ g.valid ∙ sym (ap (λ (x : Past). x.valid) used);
-      steps = ap (λ x. x.steps) e.ledger ∙ ap (λ x. x.steps) rest.ledger ∙ g.steps ∙ sym (ap (λ (x : Past). x.steps) used);
-      settings = ap (λ x. x.settings) e.ledger ∙ ap (λ x. x.settings) rest.ledger ∙ g.settings ∙ sym (ap (λ (x : Past). x.settings) used);
-      knows = λ _. record {
-        count = count_with k.count d;
-        names = names-like (count_with k.count d) (use_names d p) (accept d p) named t refl refl e.made e.names e.watermark e.modes (names-all d k.count p s (below-limit d lim) k.names);
-        same = λ _. now;
-        counted = λ _. e.counted ∙ ap (λ xs. join_counted xs (map variable_of c)) (rest.counted ∙ k.counted n) ∙ ap (λ x. join_counted p.counted (map variable_of x)) own;
-        refuted = λ u. ⊎_elim (λ r. subst (λ Q. IsSatisfiable Q → ⊥) all r.1) (λ r. absurd (reopened-not-unsat s.verdict n (sym (e.verdict ∙ r) ∙ u))) cases;
-        assumed = e.assumptions ∙ rest.assumptions ∙ k.assumed ∙ sym (ap (λ (x : Past). x.assumptions) used);
-        model = λ h. absurd cc;
-        found = λ h. absurd (⊎_elim
-            (λ r. let z : Some false ≡ Some true = ap answer_of (sym (e.verdict ∙ r.0)) ∙ h in let y : false ≡ true = cc in cc)
-            (λ r. reopened-not-true s.verdict (ap answer_of (sym (e.verdict ∙ r)) ∙ h)) cases);
-        failed = λ h.
-            let before = k.failed (sym (ap (λ (x : Past). x.has_core) used) ∙ h) in
-            ⊎_elim (λ r. ap answer_of (e.verdict ∙ r.0)) (λ r. ap answer_of (e.verdict ∙ r) ∙ reopened-false s.verdict before) cases;
-        right = ⊎_elim
-            (λ r. subst (λ x. IsRight t.clauses t.assumptions t.counted x) (sym (e.verdict ∙ r.0)) (subst (λ Q. IsSatisfiable Q → ⊥) (all ∙ sym now) r.1))
-            (λ r. subst (λ x. IsRight t.clauses t.assumptions t.counted x) (sym (e.verdict ∙ r))
-            (subst (λ Q. IsRight Q t.assumptions t.counted (reopened_verdict s.verdict)) (all ∙ sym now)
-            (subst (λ A. IsRight (s.clauses ++ c ∷ []) A t.counted (reopened_verdict s.verdict)) (sym (e.assumptions ∙ rest.assumptions)) (right-reopened s.clauses c s.assumptions s.counted t.counted s.verdict n k.right))))
-            cases;
-      };
-    }
+    agrees-still p (accept d p) s named t g e.ledger rest.ledger (flags-stay d p)
+    (record {
+      count = count_with k.count d;
+      names = names-like (count_with k.count d) (use_names d p) (accept d p) named t refl refl e.made e.names e.watermark e.modes (names-all d k.count p s (below-limit d lim) k.names);
+      same = λ _. now;
+      counted = λ _. e.counted ∙ ap (λ xs. join_counted xs (map variable_of c)) (rest.counted ∙ k.counted n) ∙ ap (λ x. join_counted p.counted (map variable_of x)) own;
+      refuted = λ u. ⊎_elim (λ r. subst (λ Q. IsSatisfiable Q → ⊥) all r.1) (λ r. absurd (reopened-not-unsat s.verdict n (sym (e.verdict ∙ r) ∙ u))) cases;
+      assumed = e.assumptions ∙ rest.assumptions ∙ k.assumed ∙ sym (ap (λ (x : Past). x.assumptions) used);
+      model = λ h. absurd cc;
+      found = λ h. absurd (⊎_elim
+          (λ r. let z : Some false ≡ Some true = ap answer_of (sym (e.verdict ∙ r.0)) ∙ h in let y : false ≡ true = cc in cc)
+          (λ r. reopened-not-true s.verdict (ap answer_of (sym (e.verdict ∙ r)) ∙ h)) cases);
+      failed = λ h.
+          let before = k.failed (sym (ap (λ (x : Past). x.has_core) used) ∙ h) in
+          ⊎_elim (λ r. ap answer_of (e.verdict ∙ r.0)) (λ r. ap answer_of (e.verdict ∙ r) ∙ reopened-false s.verdict before) cases;
+      right = ⊎_elim
+          (λ r. subst (λ x. IsRight t.clauses t.assumptions t.counted x) (sym (e.verdict ∙ r.0)) (subst (λ Q. IsSatisfiable Q → ⊥) (all ∙ sym now) r.1))
+          (λ r. subst (λ x. IsRight t.clauses t.assumptions t.counted x) (sym (e.verdict ∙ r))
+          (subst (λ Q. IsRight Q t.assumptions t.counted (reopened_verdict s.verdict)) (all ∙ sym now)
+          (subst (λ A. IsRight (s.clauses ++ c ∷ []) A t.counted (reopened_verdict s.verdict)) (sym (e.assumptions ∙ rest.assumptions)) (right-reopened s.clauses c s.assumptions s.counted t.counted s.verdict n k.right))))
+          cases;
+    })
 
 pub add-clause : (p : Past) (s t : State) (d : Clause) (r : Result (Unit {0}) SolverError) → Agrees p s → state.AddsClause s d r t → Leads (past.AddsClause p d r) t
 add-clause p s t d (Ok u) g (v, state.Ignored n e) =
@@ -240,9 +252,7 @@ add-clause p s t d (Err VariableLimit) g a =
     let k = knows-of p s g a.0 in
     let limit : IsPastLimit d = ⊎_elim (λ x. x) (λ x. crowded-limit d k.count k.names.small (let f = fit-all d k.count s k.names.order in omega (arith, x, f.made))) a.2 in
     (p, (sym g.valid ∙ a.0, limit, refl), stays p s t a.3 g)
-add-clause p s t d (Err Interrupted) g a = absurd a
-add-clause p s t d (Err (ConfigOutOfRange field)) g a = absurd a
-add-clause p s t d (Err (Dimacs cause)) g a = absurd a
+add-clause p s t d (Err e) g a = absurd a
 
 -- 4. Formulas and texts.
 
@@ -297,23 +307,19 @@ named p s t u small e g v =
     let k = g.knows v in
     let r = rest-one u s in
     let verdict = e.verdict ∙ r.verdict in
-    record {
-      valid = ap (λ x. x.valid) e.ledger ∙ ap (λ x. x.valid) r.ledger ∙ g.valid;
-      steps = ap (λ x. x.steps) e.ledger ∙ ap (λ x. x.steps) r.ledger ∙ g.steps;
-      settings = ap (λ x. x.settings) e.ledger ∙ ap (λ x. x.settings) r.ledger ∙ g.settings;
-      knows = λ _. record {
-        count = max k.count (u + 1);
-        names = names-like (max k.count (u + 1)) (use_name u p) (use_name u p) (name_one u s) t refl refl e.made e.names e.watermark e.modes (names-one u k.count p s small k.names);
-        same = λ n. e.clauses ∙ r.clauses ∙ k.same (λ x. n (verdict ∙ x));
-        counted = λ n. e.counted ∙ r.counted ∙ k.counted (λ x. n (verdict ∙ x));
-        refuted = λ x. k.refuted (sym verdict ∙ x);
-        assumed = e.assumptions ∙ r.assumptions ∙ k.assumed;
-        model = λ x. ap answer_of verdict ∙ k.model x;
-        found = λ x. k.found (sym (ap answer_of verdict) ∙ x);
-        failed = λ x. ap answer_of verdict ∙ k.failed x;
-        right = right-like s t (e.clauses ∙ r.clauses) (e.assumptions ∙ r.assumptions) (e.counted ∙ r.counted) verdict k.right;
-      };
-    }
+    agrees-still p (use_name u p) s (name_one u s) t g e.ledger r.ledger (refl, refl, refl)
+    (record {
+      count = max k.count (u + 1);
+      names = names-like (max k.count (u + 1)) (use_name u p) (use_name u p) (name_one u s) t refl refl e.made e.names e.watermark e.modes (names-one u k.count p s small k.names);
+      same = λ n. e.clauses ∙ r.clauses ∙ k.same (λ x. n (verdict ∙ x));
+      counted = λ n. e.counted ∙ r.counted ∙ k.counted (λ x. n (verdict ∙ x));
+      refuted = λ x. k.refuted (sym verdict ∙ x);
+      assumed = e.assumptions ∙ r.assumptions ∙ k.assumed;
+      model = λ x. ap answer_of verdict ∙ k.model x;
+      found = λ x. k.found (sym (ap answer_of verdict) ∙ x);
+      failed = λ x. ap answer_of verdict ∙ k.failed x;
+      right = right-like s t (e.clauses ∙ r.clauses) (e.assumptions ∙ r.assumptions) (e.counted ∙ r.counted) verdict k.right;
+    })
 
 pub make-var : (p : Past) (s t : State) (r : Result ℕ SolverError) → Agrees p s → state.MakesVar s r t → Leads (past.MakesVar p r) t
 make-var p s t (Ok u) g (v, (e, h), small, like) =
@@ -322,7 +328,6 @@ make-var p s t (Ok u) g (v, (e, h), small, like) =
     let n = least-free p s u k e h in
     (use_name u p, (w, (k.names.unused u (omega (arith, n)), λ x l. k.names.used x (omega (arith, l, n))), small, refl), named p s t u small like g w)
 make-var p s t (Err OutOfMemory) g a = breaks p s t g a.1
-make-var p s t (Err ClauseStoreFull) g a = absurd a
 make-var p s t (Err Invalid) g a = (p, (sym g.valid ∙ a.0, refl), stays p s t a.1 g)
 make-var p s t (Err VariableLimit) g (v, (u, (e, h), full), same) =
     let w = sym g.valid ∙ v in
@@ -330,55 +335,45 @@ make-var p s t (Err VariableLimit) g (v, (u, (e, h), full), same) =
     let n = least-free p s u k e h in
     let all : 2 ^ 28 ≤ k.count = ⊎_elim (λ x. omega (arith, x, n)) (λ x. let f = fit-one u k.count s k.names.order in omega (arith, x, f.made, n)) full in
     (p, (w, λ x l. k.names.used x (omega (arith, l, all)), refl), stays p s t same g)
-make-var p s t (Err Interrupted) g a = absurd a
-make-var p s t (Err (ConfigOutOfRange field)) g a = absurd a
-make-var p s t (Err (Dimacs cause)) g a = absurd a
+make-var p s t (Err e) g a = absurd a
 
 -- 6. Assumptions.
 
 assumed-list : (p : Past) (s t : State) (list : List Literal) → (IsPastLimit list → ⊥) → state.TakesAssumptions s list t → Agrees p s → p.valid ≡ true → Agrees (assume list p) t
 assumed-list p s t list lim e g v =
     let k = g.knows v in
-    let f = fit-all list k.count s k.names.order in
     let named = name_all list s in
     let c = map (through_names named) list in
     let rest = rest-all list s in
-    let own : c ≡ list = through-all (count_with k.count list) named list f (count-within list k.count) in
+    let own = own-literals p s list k in
     let verdict = e.verdict ∙ ap assumed_verdict rest.verdict in
     let used = use-rest list p in
     let clauses = ap (λ (x : Past). x.clauses) used in
-    record {
-      valid = ap (λ x. x.valid) e.ledger ∙ ap (λ x. x.valid) rest.ledger ∙ g.valid ∙ sym (ap (λ (x : Past). x.valid) used);
-      steps = ap (λ x. x.steps) e.ledger ∙ ap (λ x. x.steps) rest.ledger ∙ g.steps ∙ sym (ap (λ (x : Past). x.steps) used);
-      settings = ap (λ x. x.settings) e.ledger ∙ ap (λ x. x.settings) rest.ledger ∙ g.settings ∙ sym (ap (λ (x : Past). x.settings) used);
-      knows = λ _. record {
-        count = count_with k.count list;
-        names = names-like (count_with k.count list) (use_names list p) (assume list p) named t refl refl e.made e.names e.watermark e.modes (names-all list k.count p s (below-limit list lim) k.names);
-        same = λ n. e.clauses ∙ rest.clauses ∙ k.same (λ u. n (verdict ∙ ap assumed_verdict u)) ∙ sym clauses;
-        counted = λ n. e.counted ∙ ap (λ xs. join_counted xs (map variable_of c)) (rest.counted ∙ k.counted (λ u. n (verdict ∙ ap assumed_verdict u))) ∙ ap (λ x. join_counted p.counted (map variable_of x)) own;
-        refuted = λ u. subst (λ P. IsSatisfiable P → ⊥) (sym clauses) (k.refuted (assumed-unsat s.verdict (sym verdict ∙ u)));
-        assumed = e.assumptions ∙ own;
-        model = λ x. absurd cc;
-        found = λ x. absurd (assumed-not-true s.verdict (sym (ap answer_of verdict) ∙ x));
-        failed = λ x. absurd cc;
-        right = subst (λ x. IsRight t.clauses t.assumptions t.counted x) (sym verdict)
-            (subst (λ P. IsRight P t.assumptions t.counted (assumed_verdict s.verdict)) (sym (e.clauses ∙ rest.clauses)) (right-assumed s.clauses s.assumptions t.assumptions s.counted t.counted s.verdict k.right));
-      };
-    }
+    agrees-still p (assume list p) s named t g e.ledger rest.ledger (flags-stay list p)
+    (record {
+      count = count_with k.count list;
+      names = names-like (count_with k.count list) (use_names list p) (assume list p) named t refl refl e.made e.names e.watermark e.modes (names-all list k.count p s (below-limit list lim) k.names);
+      same = λ n. e.clauses ∙ rest.clauses ∙ k.same (λ u. n (verdict ∙ ap assumed_verdict u)) ∙ sym clauses;
+      counted = λ n. e.counted ∙ ap (λ xs. join_counted xs (map variable_of c)) (rest.counted ∙ k.counted (λ u. n (verdict ∙ ap assumed_verdict u))) ∙ ap (λ x. join_counted p.counted (map variable_of x)) own;
+      refuted = λ u. subst (λ P. IsSatisfiable P → ⊥) (sym clauses) (k.refuted (assumed-unsat s.verdict (sym verdict ∙ u)));
+      assumed = e.assumptions ∙ own;
+      model = λ x. absurd cc;
+      found = λ x. absurd (assumed-not-true s.verdict (sym (ap answer_of verdict) ∙ x));
+      failed = λ x. absurd cc;
+      right = subst (λ x. IsRight t.clauses t.assumptions t.counted x) (sym verdict)
+          (subst (λ P. IsRight P t.assumptions t.counted (assumed_verdict s.verdict)) (sym (e.clauses ∙ rest.clauses)) (right-assumed s.clauses s.assumptions t.assumptions s.counted t.counted s.verdict k.right));
+    })
 
 pub assume-list : (p : Past) (s t : State) (list : List Literal) (r : Result (Unit {0}) SolverError) → Agrees p s → state.Assumes s list r t → Leads (past.Assumes p list r) t
 assume-list p s t list (Ok u) g (v, lim, e) =
     let w = sym g.valid ∙ v in (assume list p, (w, lim, refl), assumed-list p s t list lim e g w)
 assume-list p s t list (Err OutOfMemory) g a = breaks p s t g a.1
-assume-list p s t list (Err ClauseStoreFull) g a = absurd a
 assume-list p s t list (Err Invalid) g a = (p, (sym g.valid ∙ a.0, refl), stays p s t a.1 g)
 assume-list p s t list (Err VariableLimit) g a =
     let k = knows-of p s g a.0 in
     let limit : IsPastLimit list = ⊎_elim (λ x. x) (λ x. crowded-limit list k.count k.names.small (let f = fit-all list k.count s k.names.order in omega (arith, x, f.made))) a.1 in
     (p, (sym g.valid ∙ a.0, limit, refl), stays p s t a.2 g)
-assume-list p s t list (Err Interrupted) g a = absurd a
-assume-list p s t list (Err (ConfigOutOfRange field)) g a = absurd a
-assume-list p s t list (Err (Dimacs cause)) g a = absurd a
+assume-list p s t list (Err e) g a = absurd a
 
 -- 7. An answer of `solve`.
 

@@ -1,19 +1,17 @@
 -- Maps in which nothing is hidden.
-use Rattle.std.proofs.Common.{◌≡◌, ℕ, zero, suc, ◌+◌, ◌-◌, ◌<◌, ◌≤◌, Bool, true, false, not, Option, Some, None, List, [], ◌∷◌, ◌++◌, ◌⊎◌, inl, inr, ⊎_elim, length, sym, ap, ◌∙◌, subst, refl, arith}
+use Rattle.std.proofs.Common.{◌≡◌, ℕ, zero, suc, ◌+◌, ◌-◌, ◌<◌, ◌≤◌, Bool, true, false, not, Option, Some, None, List, [], ◌∷◌, ◌++◌, ◌⊎◌, inl, ⊎_elim, length, sym, ap, ◌∙◌, subst, refl, arith}
 use Rattle.varisat_theory.specs.Membership.{◌∈◌}
 use Rattle.varisat_theory.specs.Literals.{Literal, variable_of}
 use Rattle.varisat_theory.proofs.Members.{equal_or_not, ∈-append_cases, ∈-append_left, ∈-append_right}
 use Rattle.std.specs.Option.{is_some, IsSome}
-use Rattle.varisat_names.specs.Maps.{updated}
 use Rattle.varisat_names.specs.VarMap.{at, IsFull}
 use Rattle.varisat_names.specs.VarBiMap.{BiMap}
 use Rattle.varisat_names.specs.VarData.{fresh, kept_at, IsLeastDeleted}
-use Rattle.varisat_names.specs.Variables.{Tables, AreLinked, IsGiven, AreNextGiven, IsTaken, IsChangedTo, IsNothingHidden}
+use Rattle.varisat_names.specs.Variables.{Tables, AreLinked, IsGiven, AreNextGiven, IsTaken, IsNothingHidden}
 use Rattle.varisat_names.proofs.Maps.{updated-at, updated-other, updated-all, chain-some, chain-through, is-some}
 use Rattle.varisat_names.proofs.VarMap.{at-past}
 use Rattle.varisat_names.proofs.Tables.{live-inside, least-near}
-use Rattle.varisat.specs.Accepting.{IsPlain, HasNames, AreNamedInTurn, AreTakenInTurn, HasSolver, AreTakenFor, AreJoined}
-use Rattle.varisat_names.specs.declared.variables.data.VarData.{VarData}
+use Rattle.varisat.specs.Accepting.{IsPlain, HasNames, AreNamedInTurn, AreTakenInTurn, HasSolver, AreTakenFor}
 use Rattle.varisat.proofs.AcceptSolverVariables.{few, below, below-count, ∈-below}
 
 first-free : (t : Tables) (x : ℕ) → IsNothingHidden t → IsLeastDeleted t.kept x → x ≡ length t.kept
@@ -131,53 +129,6 @@ solvers-within t l n =
     let e = below-count (length t.kept) in
     omega (arith, d, e)
 
--- marks of isolation make no difference
-pub joined-plain : (d : List Literal) (old new : Tables) → IsPlain old → AreJoined d old new → IsPlain new
-joined-plain d old new n j = record {
-  nothing_hidden = record {
-    users = subst (λ m. (u : ℕ) → u < length m.forward → at m.forward u ≡ Some u) (sym j.users) n.nothing_hidden.users;
-    count = j.count ∙ n.nothing_hidden.count ∙ ap (λ m. length m.forward) (sym j.users);
-    live = λ x h. ap (λ k. k.deleted) (j.rest x) ∙ n.nothing_hidden.live x (let c = j.count in omega (arith, h, c));
-    solvers = subst (λ m. IsFull m.backward) (sym j.solvers) n.nothing_hidden.solvers;
-  };
-  no_units = λ x. ap (λ k. k.unit) (j.rest x) ∙ n.no_units x;
-}
-
--- what is kept of a variable of a clause, once it is no longer isolated
-pub record AreOpened (ls : List Literal) (old new : Tables) : Type 0 where
-  pub users : new.users ≡ old.users
-  pub solvers : new.solvers ≡ old.solvers
-  pub count : length new.kept ≡ length old.kept
-  pub rest : (x : ℕ) → kept_at new.kept x ≡ record (kept_at old.kept x) { isolated = (kept_at new.kept x).isolated }
-  pub fallen : (x : ℕ) → (kept_at new.kept x).isolated ≡ true → (kept_at old.kept x).isolated ≡ true
-  pub opened : (l : Literal) (x : ℕ) → l ∈ ls → at old.users.forward (variable_of l) ≡ Some x → (kept_at new.kept x).isolated ≡ false
-
-pub opened-none : (t : Tables) → AreOpened [] t t
-opened-none t = record { users = refl; solvers = refl; count = refl; rest = λ x. refl; fallen = λ x e. e; opened = λ l x h. absurd h }
-
-pub opened-more : (ls : List Literal) (old mid new : Tables) (l : Literal) (x : ℕ) → AreOpened ls old mid → at mid.users.forward (variable_of l) ≡ Some x → (kept_at mid.kept x).deleted ≡ false → IsChangedTo mid new x (record (kept_at mid.kept x) { isolated = false }) → AreOpened (ls ++ l ∷ []) old new
-opened-more ls old mid new l x o e live c =
-    let d = record (kept_at mid.kept x) { isolated = false } in
-    let inside = live-inside mid.kept x live in
-    let n = c.kept.count in
-    let m = o.count in
-    record {
-      users = ap (λ t. t.users) c.rest ∙ o.users;
-      solvers = ap (λ t. t.solvers) c.rest ∙ o.solvers;
-      count = omega (arith, n, m, inside);
-      rest = λ y. let a = c.kept.at_each y in
-          let b : updated (kept_at mid.kept) x d y ≡ record (kept_at old.kept y) { isolated = (updated (kept_at mid.kept) x d y).isolated } =
-          updated-all (λ y k. k ≡ record (kept_at old.kept y) { isolated = k.isolated }) (kept_at mid.kept) x d (ap (λ (k : VarData). record k { isolated = false }) (o.rest x)) y (λ _. o.rest y) in
-          subst (λ k. k ≡ record (kept_at old.kept y) { isolated = k.isolated }) (sym a) b;
-      fallen = λ y q. updated-all (λ y k. k.isolated ≡ true → (kept_at old.kept y).isolated ≡ true) (kept_at mid.kept) x d (λ z. absurd (let f : false ≡ true = z in cc)) y (λ _. o.fallen y) (ap (λ k. k.isolated) (sym (c.kept.at_each y)) ∙ q);
-      opened = λ k y h q. ap (λ k. k.isolated) (c.kept.at_each y) ∙ updated-all (λ y k. (y ≡ x → ⊥) ⊎ (y ≡ x) → k.isolated ≡ false) (kept_at mid.kept) x d (λ _. refl) y
-          (λ z _. ⊎_elim
-          (λ a. o.opened k y a q)
-          (λ a. ⊎_elim (λ b. absurd (z (let r : Some y ≡ Some x = sym q ∙ ap (λ t. at t.forward (variable_of k)) (sym o.users) ∙ ap (λ u. at mid.users.forward (variable_of u)) b ∙ e in cc))) (λ b. absurd b) a)
-          (∈-append_cases k ls (l ∷ []) h))
-          (⊎_elim (λ a. inr a) (λ a. inl a) (equal_or_not y x));
-    }
-
 -- One more variable took a solver variable, or had one.
 pub for-taken : (d : List Literal) (l : Literal) (old mid new : Tables) (x v : ℕ) → AreTakenFor d old mid → mid.users ≡ old.users → at mid.users.forward (variable_of l) ≡ Some x → at mid.solvers.forward x ≡ None → IsTaken mid new x v → AreTakenFor (d ++ l ∷ []) old new
 for-taken d l old mid new x v f u e n t = record {
@@ -226,14 +177,6 @@ none-of (Some x) e = absurd (let z : true ≡ false = e in cc)
 pub some-of-not : (o : Option ℕ) (b : Bool) → is_some o ≡ not b → b ≡ false → (v : ℕ) × (o ≡ Some v)
 some-of-not None b e f = absurd (let z : false ≡ true = e ∙ ap not f in cc)
 some-of-not (Some v) b e f = (v, refl)
-
--- the variable of a name is live
-pub opened-live : (ls : List Literal) (old mid : Tables) (u x : ℕ) → AreOpened ls old mid → IsPlain old → u < length old.users.forward → at mid.users.forward u ≡ Some x → (kept_at mid.kept x).deleted ≡ false
-opened-live ls old mid u x o n h e =
-    let q : Some u ≡ Some x = sym (n.nothing_hidden.users u h) ∙ ap (λ m. at m.forward u) (sym o.users) ∙ e in
-    let z : u ≡ x = cc in
-    let c = n.nothing_hidden.count in
-    ap (λ d. d.deleted) (o.rest x) ∙ n.nothing_hidden.live x (omega (arith, h, c, z))
 
 pub is-there : (o : Option ℕ) (v : ℕ) → o ≡ Some v → IsSome o
 is-there o v e = subst IsSome (sym e) refl

@@ -212,8 +212,8 @@ model-same id m m' (outcome.UnsatUnder core0) (Sat a) h f = f
 model-same id m m' (outcome.UnsatUnder core0) Unsat h f = f
 model-same id m m' (outcome.UnsatUnder core0) (UnsatUnderAssumptions core) h f = tt
 
--- Two spaces agree at each place, in the model where one was found.
-pub record AreSame (p q : Spaces) : Type 0 where
+-- The maps and what is kept agree at each place, and the model where one was found.
+pub record HaveSameMaps (p q : Spaces) : Type 0 where
   pub global_from_user : (u : ℕ) → q.global_from_user u ≡ p.global_from_user u
   pub user_from_global : (x : ℕ) → q.user_from_global x ≡ p.user_from_global x
   pub watermark : q.watermark ≡ p.watermark
@@ -221,6 +221,10 @@ pub record AreSame (p q : Spaces) : Type 0 where
   pub global_from_solver : (v : ℕ) → q.global_from_solver v ≡ p.global_from_solver v
   pub kept : (x : ℕ) → q.kept x ≡ p.kept x
   pub model : (found : Assignment) → p.outcome ≡ outcome.Sat found → (x : ℕ) → q.model x ≡ p.model x
+
+-- Two spaces agree at each place.
+pub record AreSame (p q : Spaces) : Type 0 where
+  pub maps : HaveSameMaps p q
   pub assumptions : q.assumptions ≡ p.assumptions
   pub core : q.core ≡ p.core
   pub working : q.working ≡ p.working
@@ -233,19 +237,19 @@ pub spaces-same : (p q : Spaces) (s : State) → AreSame p q → SpacesFit p s �
 spaces-same p q s e (w, k) = (
   w,
   record {
-    identities = identities-same w.identity w.global p.kept q.kept s.made (λ x. ap (λ y. y.deleted) (e.kept x)) k.identities;
-    names = names-same w.identity p.global_from_user p.user_from_global q.global_from_user q.user_from_global s.names s.watermark e.global_from_user e.user_from_global k.names;
-    modes = modes-same w.identity p.global_from_user p.user_from_global q.global_from_user q.user_from_global p.kept q.kept s.modes e.global_from_user e.user_from_global (λ x. ap (λ y. y.sampling_mode) (e.kept x)) k.modes;
-    watermark = k.watermark ∙ sym e.watermark;
-    units = units-same w.identity w.forced p.kept q.kept s.counted (λ x. ap (λ y. y.unit) (e.kept x)) k.units;
-    isolation = isolation-same w.identity w.forced p.kept q.kept s.clauses s.made (λ x. ap (λ y. y.isolated) (e.kept x)) k.isolation;
-    solvers = solvers-same w.identity p.solver_from_global p.global_from_solver q.solver_from_global q.global_from_solver s.counted e.solver_from_global e.global_from_solver k.solvers;
+    identities = identities-same w.identity w.global p.kept q.kept s.made (λ x. ap (λ y. y.deleted) (e.maps.kept x)) k.identities;
+    names = names-same w.identity p.global_from_user p.user_from_global q.global_from_user q.user_from_global s.names s.watermark e.maps.global_from_user e.maps.user_from_global k.names;
+    modes = modes-same w.identity p.global_from_user p.user_from_global q.global_from_user q.user_from_global p.kept q.kept s.modes e.maps.global_from_user e.maps.user_from_global (λ x. ap (λ y. y.sampling_mode) (e.maps.kept x)) k.modes;
+    watermark = k.watermark ∙ sym e.maps.watermark;
+    units = units-same w.identity w.forced p.kept q.kept s.counted (λ x. ap (λ y. y.unit) (e.maps.kept x)) k.units;
+    isolation = isolation-same w.identity w.forced p.kept q.kept s.clauses s.made (λ x. ap (λ y. y.isolated) (e.maps.kept x)) k.isolation;
+    solvers = solvers-same w.identity p.solver_from_global p.global_from_solver q.solver_from_global q.global_from_solver s.counted e.maps.solver_from_global e.maps.global_from_solver k.solvers;
     holds = subst (λ t. SearchHolds s.clauses (translation w q) t (without_core q.outcome)) (sym e.search) (subst (λ o. SearchHolds s.clauses (translation w q) p.search (without_core o)) (sym e.outcome)
-        (holds-same s.clauses (translation w p) (translation w q) p.search (without_core p.outcome) (λ v. ap (λ y. onward y w.identity) (e.global_from_solver v)) (λ i. through (w.global i)) (λ i. refl) e.hidden k.holds));
-    assumptions = subst (λ y. AssumptionsFit q.global_from_user q.solver_from_global s.names y s.assumptions) (sym e.assumptions) (assumptions-same p.global_from_user p.solver_from_global q.global_from_user q.solver_from_global s.names p.assumptions s.assumptions e.global_from_user e.solver_from_global k.assumptions);
-    marks = subst (MarksFit q.global_from_user q.kept) (sym e.assumptions) (marks-same p.global_from_user q.global_from_user p.kept q.kept p.assumptions e.global_from_user (λ x. ap (λ y. y.assumed) (e.kept x)) k.marks);
-    working = subst (WorkingFits s.clauses (translation w q).identity s.assumptions) (sym e.working) (working-same s.clauses (translation w p).identity (translation w q).identity s.assumptions p.working (λ l h. ap (λ y. onward y w.identity) (e.global_from_solver (variable_of l))) k.working);
-    verdict = subst (λ y. VerdictFits w.identity q.model y s.verdict) (sym e.outcome) (model-same w.identity p.model q.model p.outcome s.verdict e.model k.verdict);
+        (holds-same s.clauses (translation w p) (translation w q) p.search (without_core p.outcome) (λ v. ap (λ y. onward y w.identity) (e.maps.global_from_solver v)) (λ i. through (w.global i)) (λ i. refl) e.hidden k.holds));
+    assumptions = subst (λ y. AssumptionsFit q.global_from_user q.solver_from_global s.names y s.assumptions) (sym e.assumptions) (assumptions-same p.global_from_user p.solver_from_global q.global_from_user q.solver_from_global s.names p.assumptions s.assumptions e.maps.global_from_user e.maps.solver_from_global k.assumptions);
+    marks = subst (MarksFit q.global_from_user q.kept) (sym e.assumptions) (marks-same p.global_from_user q.global_from_user p.kept q.kept p.assumptions e.maps.global_from_user (λ x. ap (λ y. y.assumed) (e.maps.kept x)) k.marks);
+    working = subst (WorkingFits s.clauses (translation w q).identity s.assumptions) (sym e.working) (working-same s.clauses (translation w p).identity (translation w q).identity s.assumptions p.working (λ l h. ap (λ y. onward y w.identity) (e.maps.global_from_solver (variable_of l))) k.working);
+    verdict = subst (λ y. VerdictFits w.identity q.model y s.verdict) (sym e.outcome) (model-same w.identity p.model q.model p.outcome s.verdict e.maps.model k.verdict);
     core = subst (λ c. CoreFits s.names c s.verdict) (sym e.core) k.core;
     right = k.right;
     well_formed = k.well_formed;
@@ -255,4 +259,17 @@ spaces-same p q s e (w, k) = (
   where
     through : (o : Option ℕ) → onward o q.solver_from_global ≡ onward o p.solver_from_global
     through None = refl
-    through (Some x) = e.solver_from_global x
+    through (Some x) = e.maps.solver_from_global x
+
+-- Only the maps may differ, and they agree.
+pub maps-same : (p q : Spaces) (s : State) → HaveSameMaps p q → q ≡ record p { global_from_user = q.global_from_user; user_from_global = q.user_from_global; watermark = q.watermark; solver_from_global = q.solver_from_global; global_from_solver = q.global_from_solver; kept = q.kept; model = q.model } → SpacesFit p s → SpacesFit q s
+maps-same p q s m e = spaces-same p q s (record {
+  maps = m;
+  assumptions = ap (λ (x : Spaces). x.assumptions) e;
+  core = ap (λ (x : Spaces). x.core) e;
+  working = ap (λ (x : Spaces). x.working) e;
+  search = ap (λ (x : Spaces). x.search) e;
+  outcome = ap (λ (x : Spaces). x.outcome) e;
+  var_count = ap (λ (x : Spaces). x.var_count) e;
+  hidden = ap (λ (x : Spaces). x.hidden) e;
+})

@@ -1,7 +1,7 @@
 -- What the solver's calls do to the states that it stands for.
 use Rattle.std.proofs.Common.{Result, Ok, Err, Vec, ◌≡◌, ℕ, zero, suc, ◌+◌, ◌-◌, ◌<◌, ◌≤◌, nat_lt, if◌then◌else◌, Bool, true, false, Option, Some, None, List, [], ◌++◌, ◌⊎◌, inl, inr, ⊎_elim, length, map, get_or, sym, ap, ◌∙◌, subst, refl, arith}
 use Rattle.varisat_theory.specs.Membership.{◌∈◌}
-use Rattle.varisat_theory.specs.Literals.{Literal, Clause, Assignment, variable_of, IsSatisfiableWith, IsFailedCore}
+use Rattle.varisat_theory.specs.Literals.{Literal, Assignment, variable_of, IsSatisfiableWith, IsFailedCore}
 use Rattle.varisat_theory.specs.Derivations.{Line}
 use Rattle.varisat_theory.specs.Searches.{IsLiteralOf}
 use Rattle.varisat_theory.specs.Outcomes.{MakesSteps}
@@ -176,13 +176,15 @@ left-spaces g s t y z after v f =
     let (w, k) = f in
     let p = record (spaces g) { search = search_of t; outcome = outcome_of t y.failed_core after; model = (spaces (after_steps g t z after)).model; working = y.working; core = z.user_core } in
     spaces-same (record p { var_count = length t.values }) (spaces (after_steps g t z after)) s (record {
-      global_from_user = λ u. refl;
-      user_from_global = λ x. refl;
-      watermark = refl;
-      solver_from_global = λ x. refl;
-      global_from_solver = λ u. refl;
-      kept = λ x. refl;
-      model = λ a e x. refl;
+      maps = record {
+        global_from_user = λ u. refl;
+        user_from_global = λ x. refl;
+        watermark = refl;
+        solver_from_global = λ x. refl;
+        global_from_solver = λ u. refl;
+        kept = λ x. refl;
+        model = λ a e x. refl;
+      };
       assumptions = ap (λ (x : AssumptionParts). x.user) v.rest ∙ v.assumes.user;
       core = refl;
       working = ap (λ (x : AssumptionParts). x.working) v.rest;
@@ -335,21 +337,10 @@ answers-alike g s st v = let (w, k) = st.fits v in go w.identity (spaces g).mode
   where
     go : (id : ℕ → Option ℕ) (m : ℕ → Bool) (sat : SatState) (v : Verdict) → VerdictFits id m (outcome_of g.search g.assumed.failed_core sat) v → answer_of v ≡ answer_at sat
     go id m verdict.Unknown Unknown f = refl
-    go id m verdict.Unknown (Sat a) f = absurd f
-    go id m verdict.Unknown Unsat f = absurd f
-    go id m verdict.Unknown (UnsatUnderAssumptions core) f = absurd f
-    go id m verdict.Sat Unknown f = absurd f
     go id m verdict.Sat (Sat a) f = refl
-    go id m verdict.Sat Unsat f = absurd f
-    go id m verdict.Sat (UnsatUnderAssumptions core) f = absurd f
-    go id m verdict.Unsat Unknown f = absurd f
-    go id m verdict.Unsat (Sat a) f = absurd f
     go id m verdict.Unsat Unsat f = refl
-    go id m verdict.Unsat (UnsatUnderAssumptions core) f = absurd f
-    go id m verdict.UnsatUnderAssumptions Unknown f = absurd f
-    go id m verdict.UnsatUnderAssumptions (Sat a) f = absurd f
-    go id m verdict.UnsatUnderAssumptions Unsat f = absurd f
     go id m verdict.UnsatUnderAssumptions (UnsatUnderAssumptions core) f = refl
+    go id m sat v f = absurd f
 
 -- under assumptions that failed the core is told that is kept over names
 pub core-to-tell : (g : Summary) (s : State) → StandsFor g s → g.ledger.valid ≡ true → g.sat_state ≡ verdict.UnsatUnderAssumptions → IsCoreToTell s (Some g.assumed.user_core)

@@ -1,22 +1,22 @@
 //! What an accepted clause and a list of assumptions bring: their names, the solver variables of these, and the clause or the
 //! list itself.
-ghost use Rattle.std.specs.Prelude.{◌≡◌, ◌≢◌, ◌<◌, false, map, OnOk};
+ghost use Rattle.std.specs.Prelude.{◌≡◌, ◌≢◌, ◌<◌, ◌∷◌, [], Some, false, map, OnOk};
 ghost use Rattle.varisat_theory.specs.Membership.{◌∈◌};
 ghost use Rattle.varisat_theory.specs.Literals.{Literal, variable_of};
-ghost use Rattle.varisat_names.specs.Maps.{chain};
+ghost use Rattle.varisat_names.specs.VarData.{kept_at};
 ghost use Rattle.varisat_names.specs.VarMap.{at};
 ghost use Rattle.varisat_search.specs.Contexts.{view, KeepsSchedule};
 ghost use Rattle.varisat.specs.States.{State, Verdict};
 ghost use Rattle.varisat.specs.Names.{name_all, through_names};
 ghost use Rattle.varisat.specs.Calls.{VerdictAfter, append_clause, with_assumptions};
-ghost use Rattle.varisat.specs.Carried.{carry};
 ghost use Rattle.varisat.specs.Spaces.{SpacesFit};
 ghost use Rattle.varisat.specs.Summaries.{spaces_of, IsKept};
-ghost use Rattle.varisat.specs.Accepting.{CanBeNamed, HasNames, AreNamedInTurn, AreTakenFor, AreBroughtIn, AreJoined, AreMarked, HasSolver};
+ghost use Rattle.varisat.specs.Accepting.{CanBeNamed, HasNames, AreNamedInTurn, AreTakenFor, AreBroughtIn, AreJoined, AreMarked};
 ghost use Rattle.varisat_literals.specs.Numbers.{variable_limit};
 
+use crate::carrying::carry_literals;
 use std::alloc::{AllocError, Allocator};
-use varisat_literals::Lit;
+use varisat_literals::{Lit, Var};
 use varisat_names::variables::Variables;
 use varisat_prop::clause::StoreError;
 use varisat_search::assumptions::set_assumptions;
@@ -40,6 +40,15 @@ fn name_vars<A: Allocator + Copy>(
     Ok(())
 }
 
+/// The global variable of the literal's name, which is in use.
+fn global_of<A: Allocator + Copy>(variables: &Variables<A>, lit: Lit) -> Var
+    requires { HasNames (lit ∷ []) variables.now }
+    ensures found { at variables.now.users.forward (variable_of lit) ≡ Some result }
+    ensures live { (kept_at variables.now.kept result).deleted ≡ false }
+{
+    variables.global_from_user().get(lit.var()).unwrap()
+}
+
 /// Takes a solver variable for each variable of the clause that has none.
 fn take_solver_vars<A: Allocator + Copy>(
     variables: &mut Variables<A>,
@@ -50,7 +59,7 @@ fn take_solver_vars<A: Allocator + Copy>(
 {
     for lit in clause {
         variables.prove_linked();
-        let global = variables.global_from_user().get(lit.var()).unwrap();
+        let global = global_of(variables, *lit);
         if variables.solver_from_global().get(global).is_none() {
             variables.take_solver_var(global)?;
         }
@@ -65,7 +74,7 @@ fn mark_joined<A: Allocator + Copy>(variables: &mut Variables<A>, clause: &[Lit]
 {
     if clause.len() > 1 {
         for lit in clause {
-            let global = variables.global_from_user().get(lit.var()).unwrap();
+            let global = global_of(variables, *lit);
             variables.set_isolated(global, false);
         }
     }
@@ -77,26 +86,9 @@ fn mark_assumed<A: Allocator + Copy>(variables: &mut Variables<A>, list: &[Lit],
     ensures { AreMarked list.now assumed variables.old variables.new }
 {
     for lit in list {
-        let global = variables.global_from_user().get(lit.var()).unwrap();
+        let global = global_of(variables, *lit);
         variables.set_assumed(global, assumed);
     }
-}
-
-/// Lists the literals of the clause over solver variables.
-fn carry_literals<A: Allocator + Copy>(
-    variables: &Variables<A>,
-    clause: &[Lit],
-    literals: &mut Vec<Lit, A>,
-) -> Result<(), AllocError>
-    requires { (l : Literal) → l ∈ clause.now → HasSolver variables.now (variable_of l) }
-    ensures { OnOk result (literals.new.items ≡ map (carry (chain (at variables.now.users.forward) (at variables.now.solvers.forward))) clause.now) }
-{
-    literals.clear();
-    for lit in clause {
-        let solver = variables.existing_solver_from_user(lit.var());
-        literals.push(solver.lit(lit.is_positive()))?;
-    }
-    Ok(())
 }
 
 /// Brings the names of the list into use, takes solver variables for them, and lists its literals over these.
@@ -115,7 +107,12 @@ fn bring_in<A: Allocator + Copy>(
     take_solver_vars(variables, list)?;
     variables.prove_linked();
     add_variables(ctx, variables.solver_watermark())?;
-    carry_literals(variables, list, literals)?;
+    carry_literals(
+        variables.global_from_user(),
+        variables.solver_from_global(),
+        list,
+        literals,
+    )?;
     Ok(())
 }
 

@@ -2,6 +2,7 @@
 #![tactic(auto)]
 
 mod accept;
+mod carrying;
 pub mod line;
 pub mod program;
 pub mod session;

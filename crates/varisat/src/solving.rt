@@ -17,6 +17,7 @@ ghost use Rattle.varisat.specs.Accepting.{HasUser};
 ghost use Rattle.varisat.specs.Carried.{carry};
 ghost use Rattle.varisat.specs.Summaries.{IsKept};
 
+use crate::carrying::carry_literals;
 use std::alloc::{AllocError, Allocator};
 use varisat_literals::Lit;
 use varisat_names::variables::Variables;
@@ -61,23 +62,6 @@ fn find_verdict<A: Allocator + Copy>(
     }
 }
 
-/// Lists the literals, which are over solver variables with names, over these names.
-fn name_literals<A: Allocator + Copy>(
-    variables: &Variables<A>,
-    lits: &[Lit],
-    named: &mut Vec<Lit, A>,
-) -> Result<(), AllocError>
-    requires { (l : Literal) → l ∈ lits.now → HasUser variables.now (variable_of l) }
-    ensures { OnOk result (named.new.items ≡ map (carry (chain (at variables.now.solvers.backward) (at variables.now.users.backward))) lits.now) }
-{
-    named.clear();
-    for lit in lits {
-        let user = variables.existing_user_from_solver(lit.var());
-        named.push(user.lit(lit.is_positive()))?;
-    }
-    Ok(())
-}
-
 /// Keeps the core that was found as the user names it. `literals` is overwritten.
 fn name_core<A: Allocator + Copy>(
     variables: &Variables<A>,
@@ -88,7 +72,12 @@ fn name_core<A: Allocator + Copy>(
     ensures kept { ctx.new ≡ record ctx.old { assumptions = record ctx.old.assumptions { user_core = ctx.new.assumptions.user_core } } }
     ensures named { OnOk result (ctx.new.assumptions.user_core ≡ map (carry (chain (at variables.now.solvers.backward) (at variables.now.users.backward))) ctx.old.assumptions.failed_core) }
 {
-    name_literals(variables, ctx.assumptions.failed_core(), literals)?;
+    carry_literals(
+        variables.global_from_solver(),
+        variables.user_from_global(),
+        ctx.assumptions.failed_core(),
+        literals,
+    )?;
     ctx.assumptions.set_user_failed_core(literals)?;
     Ok(())
 }

@@ -16,57 +16,24 @@ use Rattle.varisat_clause.proofs.StoreSound.{are-long}
 -- counts and lists of each tier
 pub count-raised : (t u : Tier) (c : TierCounts) → count_of u (raised t c) ≡ count_of u c + cond (is_tier u t) 1 0
 count-raised Irred Irred c = refl
-count-raised Irred Core c = omega arith
-count-raised Irred Mid c = omega arith
-count-raised Irred Local c = omega arith
-count-raised Core Irred c = omega arith
 count-raised Core Core c = refl
-count-raised Core Mid c = omega arith
-count-raised Core Local c = omega arith
-count-raised Mid Irred c = omega arith
-count-raised Mid Core c = omega arith
 count-raised Mid Mid c = refl
-count-raised Mid Local c = omega arith
-count-raised Local Irred c = omega arith
-count-raised Local Core c = omega arith
-count-raised Local Mid c = omega arith
 count-raised Local Local c = refl
+count-raised t u c = omega arith
 
 pub count-lowered : (t u : Tier) (c : TierCounts) → 0 < count_of t c → count_of u (lowered t c) + cond (is_tier u t) 1 0 ≡ count_of u c
 count-lowered Irred Irred c h = omega arith
-count-lowered Irred Core c h = omega arith
-count-lowered Irred Mid c h = omega arith
-count-lowered Irred Local c h = omega arith
-count-lowered Core Irred c h = omega arith
 count-lowered Core Core c h = omega arith
-count-lowered Core Mid c h = omega arith
-count-lowered Core Local c h = omega arith
-count-lowered Mid Irred c h = omega arith
-count-lowered Mid Core c h = omega arith
 count-lowered Mid Mid c h = omega arith
-count-lowered Mid Local c h = omega arith
-count-lowered Local Irred c h = omega arith
-count-lowered Local Core c h = omega arith
-count-lowered Local Mid c h = omega arith
 count-lowered Local Local c h = omega arith
+count-lowered t u c h = omega arith
 
 pub list-with : (t u : Tier) (ps : List ℕ) (l : ListsByTier) → list_of u (with_list t ps l) ≡ cond (is_tier u t) ps (list_of u l)
 list-with Irred Irred ps l = refl
-list-with Irred Core ps l = refl
-list-with Irred Mid ps l = refl
-list-with Irred Local ps l = refl
-list-with Core Irred ps l = refl
 list-with Core Core ps l = refl
-list-with Core Mid ps l = refl
-list-with Core Local ps l = refl
-list-with Mid Irred ps l = refl
-list-with Mid Core ps l = refl
 list-with Mid Mid ps l = refl
-list-with Mid Local ps l = refl
-list-with Local Irred ps l = refl
-list-with Local Core ps l = refl
-list-with Local Mid ps l = refl
 list-with Local Local ps l = refl
+list-with t u ps l = refl
 
 pub tier-self : (t : Tier) → is_tier t t ≡ true
 tier-self Irred = refl
@@ -76,21 +43,10 @@ tier-self Local = refl
 
 pub same-tier : (t u : Tier) → is_tier t u ≡ true → t ≡ u
 same-tier Irred Irred e = refl
-same-tier Irred Core e = absurd (cc)
-same-tier Irred Mid e = absurd (cc)
-same-tier Irred Local e = absurd (cc)
-same-tier Core Irred e = absurd (cc)
 same-tier Core Core e = refl
-same-tier Core Mid e = absurd (cc)
-same-tier Core Local e = absurd (cc)
-same-tier Mid Irred e = absurd (cc)
-same-tier Mid Core e = absurd (cc)
 same-tier Mid Mid e = refl
-same-tier Mid Local e = absurd (cc)
-same-tier Local Irred e = absurd (cc)
-same-tier Local Core e = absurd (cc)
-same-tier Local Mid e = absurd (cc)
 same-tier Local Local e = refl
+same-tier t u e = absurd (cc)
 
 pub true-or-false : (b : Bool) → (b ≡ true) ⊎ (b ≡ false)
 true-or-false true = inl refl

@@ -1,7 +1,6 @@
 -- What each part did to the maps and to the search.
-use Rattle.std.proofs.Common.{◌≡◌, ◌≢◌, ℕ, ◌<◌, ◌⊎◌, [], sym, ap, ap₂, ◌∙◌, subst, refl, length, map, arith}
+use Rattle.std.proofs.Common.{◌≡◌, ◌≢◌, ◌⊎◌, [], sym, ap, ap₂, ◌∙◌, subst, length, map, arith}
 use Rattle.varisat_theory.specs.Membership.{◌∈◌}
-use Rattle.varisat_theory.specs.Literals.{Literal, variable_of}
 use Rattle.varisat_theory.specs.Outcomes.{Loads}
 use Rattle.varisat_names.specs.Maps.{chain}
 use Rattle.varisat_names.specs.VarMap.{at}
@@ -13,35 +12,23 @@ use Rattle.varisat_search.specs.Contexts.{view}
 use Rattle.varisat_search.specs.Loading.{loaded_outcome}
 use Rattle.varisat_search.specs.Seen.{search_of}
 use Rattle.varisat_search.specs.Steps.{reopened_state}
-use Rattle.varisat_search.proofs.DecidableVariables.{all-decidable}
 use Rattle.varisat.specs.Carried.{carry}
-use Rattle.varisat.proofs.PlainTables.{joined-plain, named-grow, taken-users}
+use Rattle.varisat.proofs.BroughtIn.{literals-within, literals-decidable, still-decidable, still-named}
+use Rattle.varisat.proofs.TableMarks.{marks-plain, joined-same}
 use Rattle.varisat.proofs.AcceptClause.{clause-accepted}
-use Rattle.varisat.proofs.accept.accept_clause.Given.{Over}
 use Rattle.varisat.proofs.accept.accept_clause.Goals as goal
 
 pub mark_joined-requires : goal.mark_joined-requires
 mark_joined-requires g c = (c.in_ok-bring_in.ensures {u = tt}).brought.in_use
 
--- the variables of the literals that are loaded
-loaded-within : (g : Over) (c : goal.After-deref g) (l : Literal) → l ∈ c.deref.result.now → variable_of l < length c.bring_in.new.ctx.assignment.current
-loaded-within g c l h =
-    let b = (c.in_ok-bring_in.ensures {u = tt}).brought in
-    let r = b.in_range l (subst (λ ls. l ∈ ls) c.deref.ensures.value h) in
-    omega (arith, r, b.raised.count)
-
 pub load_clause-requires-clause-ready : goal.load_clause-requires-clause-ready
 load_clause-requires-clause-ready g c = (c.in_ok-bring_in.ensures {u = tt}).brought.raised.ready
 
 pub load_clause-requires-clause-in_range : goal.load_clause-requires-clause-in_range
-load_clause-requires-clause-in_range g c l h = loaded-within g c l h
+load_clause-requires-clause-in_range g c l h = literals-within c.requires.kept (c.in_ok-bring_in.ensures {u = tt}).brought l (subst (λ ls. l ∈ ls) c.deref.ensures.value h)
 
 pub load_clause-requires-clause-decidable : goal.load_clause-requires-clause-decidable
-load_clause-requires-clause-decidable g c l h =
-    let old = c.args.ctx.now in
-    let mid = c.bring_in.new.ctx in
-    let b = (c.in_ok-bring_in.ensures {u = tt}).brought in
-    (all-decidable (length old.assignment.current) (length c.bring_in.new.variables.solvers.backward) (view old) old.vsids (view mid) mid.vsids b.more c.requires.kept.decidable b.decidable (variable_of l)).1 (let r = loaded-within g c l h in omega (arith, r, b.raised.count))
+load_clause-requires-clause-decidable g c l h = literals-decidable c.requires.kept (c.in_ok-bring_in.ensures {u = tt}).brought l (subst (λ ls. l ∈ ls) c.deref.ensures.value h)
 
 pub returns-clause-kept : goal.returns-clause-kept
 returns-clause-kept g c =
@@ -56,17 +43,11 @@ returns-clause-kept g c =
     let same : c.load_clause.new.ctx.assumptions.user ≡ old.assumptions.user = ap (λ (x : AssumptionParts). x.user) (r.assumptions opened) ∙ ap (λ (x : Context g.row.A.Denot). x.assumptions.user) c.bring_in.ensures.kept in
     record {
       small = omega (arith, j, b.in_use.small);
-      plain = joined-plain c.args.clause.now c.bring_in.new.variables c.mark_joined.new.variables b.in_use.plain mark;
+      plain = marks-plain c.bring_in.new.variables c.mark_joined.new.variables b.in_use.plain (joined-same c.args.clause.now c.bring_in.new.variables c.mark_joined.new.variables mark);
       ready = r.ready;
       count = r.count ∙ b.raised.count ∙ sym k;
-      decidable = λ v.
-          let (x, y) = all-decidable (length old.assignment.current) (length c.bring_in.new.variables.solvers.backward) (view old) old.vsids (view mid) mid.vsids b.more c.requires.kept.decidable b.decidable v in
-          ((λ h. let i = x ((r.decidable v).1 h) in omega (arith, i, r.count, b.raised.count)), (λ h. (r.decidable v).0 (y (omega (arith, h, r.count, b.raised.count)))));
-      assumed = λ l h.
-          let n = c.requires.kept.assumed l (subst (λ ls. l ∈ ls) same h) in
-          let w = named-grow c.args.clause.now c.args.variables.now b.named c.requires.kept.plain b.are_named in
-          let u = ap (λ (m : BiMap). length m.forward) (taken-users b.are_taken.globals b.named c.bring_in.new.variables b.are_taken.in_turn).0 in
-          omega (arith, n, w, u, j);
+      decidable = still-decidable c.requires.kept b c.load_clause.new.ctx r.decidable r.count;
+      assumed = λ l h. let n = still-named c.requires.kept b l (subst (λ ls. l ∈ ls) same h) in omega (arith, n, j);
     }
 
 pub returns-clause-accepted : goal.returns-clause-accepted

@@ -1,7 +1,7 @@
 -- What each part did to the maps and to the search.
-use Rattle.std.proofs.Common.{◌≡◌, ℕ, ◌<◌, Some, sym, ap, ◌∙◌, subst, length, arith}
+use Rattle.std.proofs.Common.{ap, ap₂, ◌∙◌, subst, length, map, arith}
 use Rattle.varisat_theory.specs.Membership.{◌∈◌}
-use Rattle.varisat_theory.specs.Literals.{Literal, variable_of}
+use Rattle.varisat_theory.specs.Literals.{variable_of}
 use Rattle.varisat_theory.proofs.Renaming.{map-∈}
 use Rattle.varisat_names.specs.Maps.{chain}
 use Rattle.varisat_names.specs.VarMap.{at}
@@ -32,7 +32,9 @@ add_variables-requires-clause-small g c =
     omega (arith, w, names.plain.nothing_hidden.count, names.small, c.solver_watermark.ensures)
 
 pub carry_literals-requires : goal.carry_literals-requires
-carry_literals-requires g c l h = (c.in_ok-take_solver_vars.ensures {u = tt}).taken.all l h
+carry_literals-requires g c l h =
+    let (v, e) = (c.in_ok-take_solver_vars.ensures {u = tt}).taken.all l h in
+    (v, ap₂ (λ a b. chain (at a) (at b) (variable_of l)) c.global_from_user.ensures c.solver_from_global.ensures ∙ e)
 
 pub returns-clause-brought : goal.returns-clause-brought
 returns-clause-brought g c =
@@ -40,7 +42,7 @@ returns-clause-brought g c =
     let e = c.in_ok-add_variables.ensures {u = tt} in
     let m = c.take_solver_vars.new.variables in
     let f = chain (at m.users.forward) (at m.solvers.forward) in
-    let items = c.in_ok-carry_literals.ensures {u = tt} in
+    let items = c.in_ok-carry_literals.ensures {u = tt} ∙ ap₂ (λ a b. map (carry (chain (at a) (at b))) c.args.list.now) c.global_from_user.ensures c.solver_from_global.ensures in
     let old = c.args.ctx.now in
     let new = c.add_variables.new.ctx in
     record {

@@ -1,32 +1,19 @@
-use Rattle.std.proofs.Common.{sym, ap, ◌∙◌, subst, take}
-use Rattle.varisat_theory.specs.Literals.{variable_of}
-use Rattle.varisat_names.specs.VarMap.{at}
+use Rattle.std.proofs.Common.{sym, subst, take}
 use Rattle.varisat_prop.proofs.ReadElements.{item-∈}
 use Rattle.varisat.proofs.ReadPlaces.{take-item}
-use Rattle.varisat.proofs.PlainTables.{AreOpened, opened-none, opened-more, opened-live, is-there}
+use Rattle.varisat.proofs.TableMarks.{AreOpened, marks-plain, one-named, opened-none, opened-more}
 use Rattle.varisat.proofs.accept.mark_joined.Goals as goal
 
 pub loop-lit-init : goal.loop-lit-init
 loop-lit-init g c = opened-none c.args.variables.now
 
-pub unwrap-global-requires : goal.unwrap-global-requires
-unwrap-global-requires g c =
-    let l = c.lit-item.result in
-    let h = c.requires.named l (item-∈ c.args.clause.now c.loop-lit.lit-index l c.loop-lit-test.true c.lit-item.is) in
-    is-there c.get.result (variable_of l) (c.get.ensures ∙ ap (λ m. at m c.var.result) c.global_from_user.ensures ∙ ap (at c.loop-lit.variables.users.forward) c.var.ensures ∙ ap (λ m. at m.forward (variable_of l)) c.loop-lit.invariant.users ∙ c.requires.plain.nothing_hidden.users (variable_of l) h)
-
-pub set_isolated-requires : goal.set_isolated-requires
-set_isolated-requires g c =
-    let l = c.lit-item.result in
-    let h = c.requires.named l (item-∈ c.args.clause.now c.loop-lit.lit-index l c.loop-lit-test.true c.lit-item.is) in
-    let e = sym c.unwrap-global.ensures ∙ c.get.ensures ∙ ap (λ m. at m c.var.result) c.global_from_user.ensures ∙ ap (at c.loop-lit.variables.users.forward) c.var.ensures in
-    opened-live (take c.loop-lit.lit-index c.args.clause.now) c.args.variables.now c.loop-lit.variables (variable_of l) c.unwrap-global.result c.loop-lit.invariant c.requires.plain h (sym e)
+pub global_of-global-requires : goal.global_of-global-requires
+global_of-global-requires g c =
+    let o = c.loop-lit.invariant in
+    let plain = marks-plain c.args.variables.now c.loop-lit.variables c.requires.plain o.same in
+    one-named c.args.clause.now c.args.variables.now c.loop-lit.variables c.lit-item.result c.requires o.same.users plain (item-∈ c.args.clause.now c.loop-lit.lit-index c.lit-item.result c.loop-lit-test.true c.lit-item.is)
 
 pub loop-lit-preserved : goal.loop-lit-preserved
 loop-lit-preserved g c =
-    let l = c.lit-item.result in
-    let h = c.requires.named l (item-∈ c.args.clause.now c.loop-lit.lit-index l c.loop-lit-test.true c.lit-item.is) in
-    let t = take-item c.args.clause.now c.loop-lit.lit-index l c.loop-lit-test.true c.lit-item.is in
-    let e = sym (sym c.unwrap-global.ensures ∙ c.get.ensures ∙ ap (λ m. at m c.var.result) c.global_from_user.ensures ∙ ap (at c.loop-lit.variables.users.forward) c.var.ensures) in
-    let live = opened-live (take c.loop-lit.lit-index c.args.clause.now) c.args.variables.now c.loop-lit.variables (variable_of l) c.unwrap-global.result c.loop-lit.invariant c.requires.plain h e in
-    subst (λ ls. AreOpened ls c.args.variables.now c.set_isolated.new.self) (sym t) (opened-more (take c.loop-lit.lit-index c.args.clause.now) c.args.variables.now c.loop-lit.variables c.set_isolated.new.self l c.unwrap-global.result c.loop-lit.invariant e live c.set_isolated.ensures)
+    let t = take-item c.args.clause.now c.loop-lit.lit-index c.lit-item.result c.loop-lit-test.true c.lit-item.is in
+    subst (λ ls. AreOpened ls c.args.variables.now c.set_isolated.new.self) (sym t) (opened-more (take c.loop-lit.lit-index c.args.clause.now) c.args.variables.now c.loop-lit.variables c.set_isolated.new.self c.lit-item.result c.global_of-global.result c.loop-lit.invariant c.global_of-global.ensures.found c.global_of-global.ensures.live c.set_isolated.ensures)

@@ -1,5 +1,5 @@
 use Rattle.std.proofs.Common.{take}
-use Rattle.varisat.proofs.PlainTables.{AreOpened}
+use Rattle.varisat.proofs.TableMarks.{AreOpened}
 use Rattle.varisat.proofs.accept.mark_joined.Given as goal
 
 abbrev pub invariant-loop-lit : goal.invariant-loop-lit

@@ -1,22 +1,20 @@
 -- Where all words are literals, the text is the command of their clause or list. Where one is none, no command is spelled so.
 use Rattle.std.proofs.Common.{◌++◌, ap, sym, ◌∙◌, map}
 use Rattle.varisat_literals.specs.Numbers.{literal_text}
-use Rattle.varisat.proofs.LineLemmas.{words_left, first_word, none_left, clause_read, list_read, no_clause, no_list}
+use Rattle.varisat.proofs.LineLemmas.{words_behind, none_left, clause_read, list_read, no_clause, no_list}
 use Rattle.varisat.proofs.line.parse_literals.Goals as goal
 
 pub returns-in-None-clause-no_clause : goal.returns-in-None-clause-no_clause
 returns-in-None-clause-no_clause g c =
+    let n = c.args.numbers.now in
     let ls = c.loop-rest.literals.items in
-    let cut = first_word c.in-Some.text.now c.split_word.result.0.now c.split_word.result.1 c.split_word.ensures.last c.split_word.ensures.more in
-    let words = ap (λ ws. map literal_text ls ++ ws) (sym cut) ∙ ap (λ r. map literal_text ls ++ words_left r) (sym c.in-Some.is) ∙ c.loop-rest.invariant.texts in
-    no_clause c.args.numbers.now ls _ _ c.in-None.ensures.no_literal words
+    no_clause n ls _ _ c.in-None.ensures.no_literal (words_behind ls n _ c.in-Some.text _ _ c.loop-rest.invariant.texts c.in-Some.is c.split_word.ensures.last c.split_word.ensures.more)
 
 pub returns-in-None-clause-no_list : goal.returns-in-None-clause-no_list
 returns-in-None-clause-no_list g c =
+    let n = c.args.numbers.now in
     let ls = c.loop-rest.literals.items in
-    let cut = first_word c.in-Some.text.now c.split_word.result.0.now c.split_word.result.1 c.split_word.ensures.last c.split_word.ensures.more in
-    let words = ap (λ ws. map literal_text ls ++ ws) (sym cut) ∙ ap (λ r. map literal_text ls ++ words_left r) (sym c.in-Some.is) ∙ c.loop-rest.invariant.texts in
-    no_list c.args.numbers.now ls _ _ c.in-None.ensures.no_literal words
+    no_list n ls _ _ c.in-None.ensures.no_literal (words_behind ls n _ c.in-Some.text _ _ c.loop-rest.invariant.texts c.in-Some.is c.split_word.ensures.last c.split_word.ensures.more)
 
 pub returns-clause-clause : goal.returns-clause-clause
 returns-clause-clause g c =

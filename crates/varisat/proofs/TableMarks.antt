@@ -1,0 +1,120 @@
+-- Marks of isolation or of assumption are set, for one variable after another. All else in the tables stays.
+use Rattle.std.proofs.Common.{◌≡◌, ℕ, ◌<◌, Bool, true, false, Some, List, [], ◌∷◌, ◌++◌, ◌⊎◌, inl, inr, ⊎_elim, length, sym, ap, ◌∙◌, subst, refl, arith}
+use Rattle.varisat_theory.specs.Membership.{◌∈◌}
+use Rattle.varisat_theory.specs.Literals.{Literal, variable_of}
+use Rattle.varisat_theory.proofs.Members.{equal_or_not, ∈-append_cases, ∈-append_left, ∈-append_right}
+use Rattle.varisat_names.specs.VarMap.{at, IsFull}
+use Rattle.varisat_names.specs.VarData.{kept_at}
+use Rattle.varisat_names.specs.declared.variables.data.VarData.{VarData}
+use Rattle.varisat_names.specs.Variables.{Tables, IsChangedTo}
+use Rattle.varisat_names.proofs.Maps.{updated-all}
+use Rattle.varisat_names.proofs.Tables.{live-inside}
+use Rattle.varisat.specs.Accepting.{IsPlain, HasNames, AreJoined, AreMarked}
+
+-- 1. What stays.
+
+pub record SameButMarks (old new : Tables) : Type 0 where
+  pub users : new.users ≡ old.users
+  pub solvers : new.solvers ≡ old.solvers
+  pub count : length new.kept ≡ length old.kept
+  pub deleted : (x : ℕ) → (kept_at new.kept x).deleted ≡ (kept_at old.kept x).deleted
+  pub units : (x : ℕ) → (kept_at new.kept x).unit ≡ (kept_at old.kept x).unit
+
+-- marks make no difference to what is plain
+pub marks-plain : (old new : Tables) → IsPlain old → SameButMarks old new → IsPlain new
+marks-plain old new n j = record {
+  nothing_hidden = record {
+    users = subst (λ m. (u : ℕ) → u < length m.forward → at m.forward u ≡ Some u) (sym j.users) n.nothing_hidden.users;
+    count = j.count ∙ n.nothing_hidden.count ∙ ap (λ m. length m.forward) (sym j.users);
+    live = λ x h. j.deleted x ∙ n.nothing_hidden.live x (let c = j.count in omega (arith, h, c));
+    solvers = subst (λ m. IsFull m.backward) (sym j.solvers) n.nothing_hidden.solvers;
+  };
+  no_units = λ x. j.units x ∙ n.no_units x;
+}
+
+-- the name of one of the literals is in use still
+pub one-named : (ls : List Literal) (old mid : Tables) (l : Literal) → HasNames ls old → mid.users ≡ old.users → IsPlain mid → l ∈ ls → HasNames (l ∷ []) mid
+one-named ls old mid l n e p h =
+    let u = ap (λ m. length m.forward) e in
+    let s = n.small in
+    let b = n.named l h in
+    record {
+      plain = p;
+      small = omega (arith, s, u);
+      named = λ k i. ⊎_elim (λ q. subst (λ z. variable_of z < length mid.users.forward) (sym q) (omega (arith, b, u))) (λ z. absurd z) i;
+    }
+
+-- 2. One more mark: that of variable x, which stands for l.
+module _ (old mid new : Tables) (x : ℕ) (d : VarData) (c : IsChangedTo mid new x d) where
+  -- what is so of each variable that was there before
+  rest-more : (P : ℕ → VarData → Type 0) → ((y : ℕ) → P y (kept_at mid.kept y)) → P x d → (y : ℕ) → P y (kept_at new.kept y)
+  rest-more P r own y = subst (P y) (sym (c.kept.at_each y)) (updated-all P (kept_at mid.kept) x d own y (λ _. r y))
+
+  -- what is so of the variables of the literals
+  each-more : (ls : List Literal) (l : Literal) (P : VarData → Type 0) → ((k : Literal) (y : ℕ) → k ∈ ls → at old.users.forward (variable_of k) ≡ Some y → P (kept_at mid.kept y)) → at old.users.forward (variable_of l) ≡ Some x → P d →
+      (k : Literal) (y : ℕ) → k ∈ (ls ++ l ∷ []) → at old.users.forward (variable_of k) ≡ Some y → P (kept_at new.kept y)
+  each-more ls l P r e own k y h q =
+      subst P (sym (c.kept.at_each y)) (updated-all (λ y k. (y ≡ x → ⊥) ⊎ (y ≡ x) → P k) (kept_at mid.kept) x d (λ _. own) y
+      (λ z _. ⊎_elim
+      (λ a. r k y a q)
+      (λ a. ⊎_elim (λ s. absurd (z (let f : Some y ≡ Some x = sym q ∙ ap (λ u. at old.users.forward (variable_of u)) s ∙ e in cc))) (λ s. absurd s) a)
+      (∈-append_cases k ls (l ∷ []) h))
+      (⊎_elim (λ a. inr a) (λ a. inl a) (equal_or_not y x)))
+
+  same-more : SameButMarks old mid → (kept_at mid.kept x).deleted ≡ false → d.deleted ≡ (kept_at mid.kept x).deleted → d.unit ≡ (kept_at mid.kept x).unit → SameButMarks old new
+  same-more s live e f = record {
+    users = ap (λ t. t.users) c.rest ∙ s.users;
+    solvers = ap (λ t. t.solvers) c.rest ∙ s.solvers;
+    count = let inside = live-inside mid.kept x live in let n = c.kept.count in let m = s.count in omega (arith, n, m, inside);
+    deleted = rest-more (λ y k. k.deleted ≡ (kept_at old.kept y).deleted) s.deleted (e ∙ s.deleted x);
+    units = rest-more (λ y k. k.unit ≡ (kept_at old.kept y).unit) s.units (f ∙ s.units x);
+  }
+
+-- 3. Isolation.
+
+pub joined-same : (d : List Literal) (old new : Tables) → AreJoined d old new → SameButMarks old new
+joined-same d old new j = record { users = j.users; solvers = j.solvers; count = j.count; deleted = λ x. ap (λ k. k.deleted) (j.rest x); units = λ x. ap (λ k. k.unit) (j.rest x) }
+
+-- what is kept of a variable of a clause, once it is no longer isolated
+pub record AreOpened (ls : List Literal) (old new : Tables) : Type 0 where
+  pub same : SameButMarks old new
+  pub rest : (x : ℕ) → kept_at new.kept x ≡ record (kept_at old.kept x) { isolated = (kept_at new.kept x).isolated }
+  pub fallen : (x : ℕ) → (kept_at new.kept x).isolated ≡ true → (kept_at old.kept x).isolated ≡ true
+  pub opened : (l : Literal) (x : ℕ) → l ∈ ls → at old.users.forward (variable_of l) ≡ Some x → (kept_at new.kept x).isolated ≡ false
+
+pub opened-none : (t : Tables) → AreOpened [] t t
+opened-none t = record { same = record { users = refl; solvers = refl; count = refl; deleted = λ x. refl; units = λ x. refl }; rest = λ x. refl; fallen = λ x e. e; opened = λ l x h. absurd h }
+
+pub opened-more : (ls : List Literal) (old mid new : Tables) (l : Literal) (x : ℕ) → AreOpened ls old mid → at mid.users.forward (variable_of l) ≡ Some x → (kept_at mid.kept x).deleted ≡ false → IsChangedTo mid new x (record (kept_at mid.kept x) { isolated = false }) → AreOpened (ls ++ l ∷ []) old new
+opened-more ls old mid new l x o e live c =
+    let d = record (kept_at mid.kept x) { isolated = false } in
+    record {
+      same = same-more old mid new x d c o.same live refl refl;
+      rest = rest-more old mid new x d c (λ y k. k ≡ record (kept_at old.kept y) { isolated = k.isolated }) o.rest (ap (λ (k : VarData). record k { isolated = false }) (o.rest x));
+      fallen = rest-more old mid new x d c (λ y k. k.isolated ≡ true → (kept_at old.kept y).isolated ≡ true) o.fallen (λ z. absurd (let f : false ≡ true = z in cc));
+      opened = each-more old mid new x d c ls l (λ k. k.isolated ≡ false) o.opened (ap (λ t. at t.forward (variable_of l)) (sym o.same.users) ∙ e) refl;
+    }
+
+-- 4. Assumption.
+
+pub marked-same : (ls : List Literal) (b : Bool) (old new : Tables) → AreMarked ls b old new → SameButMarks old new
+marked-same ls b old new o = record { users = o.users; solvers = o.solvers; count = o.count; deleted = λ x. ap (λ k. k.deleted) (o.rest x); units = λ x. ap (λ k. k.unit) (o.rest x) }
+
+pub marked-none : (t : Tables) (b : Bool) → AreMarked [] b t t
+marked-none t b = record { users = refl; solvers = refl; count = refl; rest = λ x. refl; marked = λ l x h. absurd h; others = λ x. inl refl }
+
+pub marked-more : (ls : List Literal) (b : Bool) (old mid new : Tables) (l : Literal) (x : ℕ) → AreMarked ls b old mid → at mid.users.forward (variable_of l) ≡ Some x → (kept_at mid.kept x).deleted ≡ false → IsChangedTo mid new x (record (kept_at mid.kept x) { assumed = b }) → AreMarked (ls ++ l ∷ []) b old new
+marked-more ls b old mid new l x o e live c =
+    let d = record (kept_at mid.kept x) { assumed = b } in
+    let m = same-more old mid new x d c (marked-same ls b old mid o) live refl refl in
+    let own = ap (λ t. at t.forward (variable_of l)) (sym o.users) ∙ e in
+    record {
+      users = m.users;
+      solvers = m.solvers;
+      count = m.count;
+      rest = rest-more old mid new x d c (λ y k. k ≡ record (kept_at old.kept y) { assumed = k.assumed }) o.rest (ap (λ (k : VarData). record k { assumed = b }) (o.rest x));
+      marked = each-more old mid new x d c ls l (λ k. k.assumed ≡ b) o.marked own refl;
+      others = rest-more old mid new x d c (λ y k. (k.assumed ≡ (kept_at old.kept y).assumed) ⊎ ((m : Literal) × (m ∈ (ls ++ l ∷ [])) × (at old.users.forward (variable_of m) ≡ Some y)))
+          (λ y. ⊎_elim (λ q. inl q) (λ (m, h, q). inr (m, ∈-append_left m ls (l ∷ []) h, q)) (o.others y))
+          (inr (l, ∈-append_right l ls (l ∷ []) (inl refl), own));
+    }

@@ -1,8 +1,0 @@
-use Rattle.std.proofs.Common.{◌≡◌, map, take}
-use Rattle.varisat_names.specs.Maps.{chain}
-use Rattle.varisat_names.specs.VarMap.{at}
-use Rattle.varisat.specs.Carried.{carry}
-use Rattle.varisat.proofs.accept.carry_literals.Given as goal
-
-abbrev pub invariant-loop-lit : goal.invariant-loop-lit
-invariant-loop-lit g l = l.literals.items ≡ map (carry (chain (at l.variables.users.forward) (at l.variables.solvers.forward))) (take l.lit-index l.clause)

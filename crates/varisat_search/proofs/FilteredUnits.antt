@@ -51,8 +51,8 @@ two-elements (x ∷ y ∷ []) e = refl
 two-elements (x ∷ y ∷ z ∷ zs) e = absurd (omega (arith, e))
 
 module _ (values : List (Option Bool)) (k : StoredClause) (before : List Clause) where
-  long-if : (b d : Bool) → stays_long values k.literals ≡ b → left_long values (k ∷ []) ≡ cond b (shortened_to (unassigned values k.literals) k ∷ []) []
-  long-if b d e = go (stays_long values k.literals) e
+  long-if : (b : Bool) → stays_long values k.literals ≡ b → left_long values (k ∷ []) ≡ cond b (shortened_to (unassigned values k.literals) k ∷ []) []
+  long-if b e = go (stays_long values k.literals) e
     where
       go : (a : Bool) → a ≡ b → map (λ (k : StoredClause). shortened_to (unassigned values k.literals) k) (cond a (k ∷ []) []) ≡ cond b (shortened_to (unassigned values k.literals) k ∷ []) []
       go true e = ap (λ (x : Bool). cond x (shortened_to (unassigned values k.literals) k ∷ []) []) e
@@ -68,14 +68,14 @@ module _ (values : List (Option Bool)) (k : StoredClause) (before : List Clause)
   -- it is satisfied
   pub leaves-none : (j : StoredClause) → has_true values k.literals ≡ true → LeavesOpen values k (left_if false j) before before
   leaves-none j e = record {
-    long = sym (long-if false true (ap (λ b. not b && nat_le 3 (length (unassigned values k.literals))) e));
+    long = sym (long-if false (ap (λ b. not b && nat_le 3 (length (unassigned values k.literals))) e));
     pairs = sym (append-nil before) ∙ ap (λ cs. before ++ cs) (sym (pairs-if false (ap (λ b. not b && not (nat_le 3 (length (unassigned values k.literals)))) e)));
   }
 
   -- two literals are left
   pub leaves-pair : (j : StoredClause) (after : List Clause) → has_true values k.literals ≡ false → length (unassigned values k.literals) ≡ 2 → after ≡ before ++ unassigned values k.literals ∷ [] → LeavesOpen values k (left_if false j) before after
   leaves-pair j after e n a = record {
-    long = sym (long-if false true (ap₂ (λ (b d : Bool). not b && d) e (ap (λ (m : ℕ). nat_le 3 m) n)));
+    long = sym (long-if false (ap₂ (λ (b d : Bool). not b && d) e (ap (λ (m : ℕ). nat_le 3 m) n)));
     pairs = a ∙ ap (λ cs. before ++ cs) (sym (pairs-if true (ap₂ (λ (b d : Bool). not b && not d) e (ap (λ (m : ℕ). nat_le 3 m) n))));
   }
 
@@ -87,7 +87,7 @@ module _ (values : List (Option Bool)) (k : StoredClause) (before : List Clause)
       record {
         long = ap (λ (x : StoredClause). left_if true x ∷ []) is
             ∙ ap (λ (b : Bool). (record { place = k.place; header = record k.header { len = length u; deleted = b }; literals = u }) ∷ []) (sym live)
-            ∙ sym (long-if true true (ap₂ (λ (b d : Bool). not b && d) e t));
+            ∙ sym (long-if true (ap₂ (λ (b d : Bool). not b && d) e t));
         pairs = sym (append-nil before) ∙ ap (λ cs. before ++ cs) (sym (pairs-if false (ap₂ (λ (b d : Bool). not b && not d) e t)));
       }
 

@@ -1,5 +1,5 @@
 -- The contexts of a simplification.
-use Rattle.std.proofs.Common.{◌≡◌, ◌*◌, Bool, true, false, not, List, [], ◌++◌, length, replicate, refl, sym, ap, ap₂, ◌∙◌, subst}
+use Rattle.std.proofs.Common.{◌≡◌, ◌*◌, Bool, true, false, List, [], ◌++◌, length, replicate, refl, sym, ap, ap₂, ◌∙◌, subst}
 use Rattle.varisat_theory.specs.Membership.{◌∈◌}
 use Rattle.varisat_theory.specs.Literals.{Literal, Clause}
 use Rattle.varisat_theory.specs.Propagation.{IsComplete}
@@ -21,7 +21,7 @@ use Rattle.varisat_search.specs.Decisions.{CanDecide, SameDecidable}
 use Rattle.varisat_search.specs.Seen.{search_of}
 use Rattle.varisat_search.specs.Simplifications.{left_long, left_pairs, with_pairs, IsLeftOpen, IsPairIn, IsSimplified, pair_lines, clause_lines}
 use Rattle.varisat_search.proofs.AssumptionContexts.{unmoved-assumed, unmoved-assumable}
-use Rattle.varisat_search.proofs.SimplifiedSearch.{IsAtUnits, stored-open, pairs-in, are-unassigned, still-well, still-free, C-count, simplify-proves, literal-kept}
+use Rattle.varisat_search.proofs.SimplifiedSearch.{is-false, IsAtUnits, stored-open, pairs-in, are-unassigned, still-well, still-free, C-count, simplify-proves, literal-kept}
 
 -- before it
 pub at-units : {A : Type 0} (x : Context A) → IsReady x → x.trail.decisions ≡ [] → IsComplete (kept (view x)) x.trail.literals → HasUnits (view x) → IsAtUnits (view x)
@@ -34,14 +34,10 @@ at-units x r d c u = record {
   long = are-live-long x.clause_alloc r.tracks.sound;
 }
 
-live-is : (b : Bool) → not b ≡ true → b ≡ false
-live-is true e = absurd (let z : false ≡ true = e in cc)
-live-is false e = refl
-
 module _ {A : Type 0} (x : Context A) (u : IsAtUnits (view x)) where
   -- what a filter of the store needs
   pub live-open : (k : StoredClause) → k ∈ clauses_of x.clause_alloc → is_live k ≡ true → IsLeftOpen x.assignment.current k.literals
-  live-open k h e = stored-open (view x) u k (∈-live (clauses_of x.clause_alloc) k h (live-is k.header.deleted e))
+  live-open k h e = stored-open (view x) u k (∈-live (clauses_of x.clause_alloc) k h (is-false k.header.deleted e))
 
   pub joining : (B : List (List Literal)) (ps : List Clause) → B ≡ without_assigned x.assignment.current x.binary_clauses → ps ≡ [] ++ left_pairs x.assignment.current (live_clauses x.clause_alloc) → (c : Clause) → c ∈ ps → IsPairIn B c
   joining B ps e f c h = subst (λ D. IsPairIn D c) (sym e) (pairs-in (view x) u c (subst (λ cs. c ∈ cs) f h))

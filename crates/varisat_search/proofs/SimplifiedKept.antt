@@ -45,7 +45,7 @@ pairs-same B (c ∷ cs) f =
     same_clauses-through (c ∷ (cs ++ pairs_from 0 B)) (cs ++ pairs_from 0 C) (pairs_from 0 (with_pairs C cs)) two
     (pairs-same C cs (λ d j. longer-pair B C d (joined-count B c q) (f d (inr j))))
 
-pub with-pairs-more : (B : List (List Literal)) (cs : List Clause) (c : Clause) → with_pairs B (cs ++ c ∷ []) ≡ with_pair (with_pairs B cs) (at c 0) (at c 1)
+with-pairs-more : (B : List (List Literal)) (cs : List Clause) (c : Clause) → with_pairs B (cs ++ c ∷ []) ≡ with_pair (with_pairs B cs) (at c 0) (at c 1)
 with-pairs-more B [] c = refl
 with-pairs-more B (d ∷ cs) c = with-pairs-more (with_pair B (at d 0) (at d 1)) cs c
 

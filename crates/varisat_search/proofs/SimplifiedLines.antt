@@ -19,7 +19,7 @@ use Rattle.varisat_prop.specs.Simplified.{are_unassigned}
 use Rattle.varisat_search.proofs.UnassignedLiterals.{some-true, left-part, left-or_false, left-all, at-least}
 
 -- no line changes nothing
-pub no-lines : (s : Search) (ks : List KeptClause) → s.kept ≡ ks → Proves 0 s (record s { kept = ks }) []
+no-lines : (s : Search) (ks : List KeptClause) → s.kept ≡ ks → Proves 0 s (record s { kept = ks }) []
 no-lines s ks e = subst (λ (js : List KeptClause). Proves 0 s (record s { kept = js }) []) e (record { holds = λ held f. (held, refl, f); covers = λ P c. c })
 
 -- 1. Clauses of two literals that are satisfied go.

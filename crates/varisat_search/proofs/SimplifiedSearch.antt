@@ -39,7 +39,7 @@ both true true e = (refl, refl)
 both true false e = absurd (let z : false ≡ true = e in cc)
 both false b e = absurd (let z : false ≡ true = e in cc)
 
-is-false : (b : Bool) → not b ≡ true → b ≡ false
+pub is-false : (b : Bool) → not b ≡ true → b ≡ false
 is-false true e = absurd (let z : false ≡ true = e in cc)
 is-false false e = refl
 
@@ -55,23 +55,23 @@ map-rising f same (k ∷ ks) r =
 
 -- 1. The clauses that are left.
 module _ (values : List (Option Bool)) (ks : List StoredClause) where
-  pub long-from : (c : Clause) → c ∈ literals_of (left_long values ks) → (k : StoredClause) × (k ∈ ks) × (c ≡ unassigned values k.literals) × (3 ≤ length (unassigned values k.literals))
-  long-from c h =
+  long-origin : (c : Clause) → c ∈ literals_of (left_long values ks) → (k : StoredClause) × (k ∈ ks) × (c ≡ unassigned values k.literals) × (3 ≤ length (unassigned values k.literals))
+  long-origin c h =
       let (j, i, e) = from-literals (left_long values ks) c h in
       let (k, o, q) = from-map (λ k. shortened_to (unassigned values k.literals) k) (filter (λ k. stays_long values k.literals) ks) j i in
       let (a, b) = ∈-filter (λ k. stays_long values k.literals) ks k o in
       let (x, y) = both (not (has_true values k.literals)) (nat_le 3 (length (unassigned values k.literals))) b in
       (k, a, sym e ∙ ap (λ (z : StoredClause). z.literals) q, not-below 3 (length (unassigned values k.literals)) y)
 
-  pub pairs-from : (c : Clause) → c ∈ left_pairs values ks → (k : StoredClause) × (k ∈ ks) × (c ≡ unassigned values k.literals) × (has_true values k.literals ≡ false) × (length (unassigned values k.literals) < 3)
-  pairs-from c h =
+  pair-origin : (c : Clause) → c ∈ left_pairs values ks → (k : StoredClause) × (k ∈ ks) × (c ≡ unassigned values k.literals) × (has_true values k.literals ≡ false) × (length (unassigned values k.literals) < 3)
+  pair-origin c h =
       let (k, o, q) = from-map (λ k. unassigned values k.literals) (filter (λ k. becomes_pair values k.literals) ks) c h in
       let (a, b) = ∈-filter (λ k. becomes_pair values k.literals) ks k o in
       let (x, y) = both (not (has_true values k.literals)) (not (nat_le 3 (length (unassigned values k.literals)))) b in
       (k, a, q, is-false (has_true values k.literals) x, below 3 (length (unassigned values k.literals)) (is-false (nat_le 3 (length (unassigned values k.literals))) y))
 
 -- pairs without a value join such
-pub all-joined : (values : List (Option Bool)) (C : List (List Literal)) (cs : List Clause) → ((c : Clause) → c ∈ cs → IsPairIn C c) → ((c : Clause) → c ∈ cs → (l : Literal) → l ∈ c → (variable_of l < length values) × (is_unassigned values l ≡ true)) → UnassignedPairs values C → UnassignedPairs values (with_pairs C cs)
+all-joined : (values : List (Option Bool)) (C : List (List Literal)) (cs : List Clause) → ((c : Clause) → c ∈ cs → IsPairIn C c) → ((c : Clause) → c ∈ cs → (l : Literal) → l ∈ c → (variable_of l < length values) × (is_unassigned values l ≡ true)) → UnassignedPairs values C → UnassignedPairs values (with_pairs C cs)
 all-joined values C [] f g u = u
 all-joined values C (c ∷ cs) f g u =
     let q = f c (inl refl) in
@@ -123,7 +123,7 @@ module _ (s : View) (u : IsAtUnits s) where
 
   pub pairs-in : (c : Clause) → c ∈ ps → IsPairIn B c
   pairs-in c h =
-      let (k, i, e, n, m) = pairs-from values s.clauses c h in
+      let (k, i, e, n, m) = pair-origin values s.clauses c h in
       let o = (stored-open k i).two n in
       let two = two-elements (unassigned values k.literals) (omega (arith, o, m)) in
       let d = filter-distinct (is_unassigned values) k.literals (u.well.distinct k.literals (stored-kept s k.literals (literals-∈ s.clauses k i))) in
@@ -142,13 +142,13 @@ module _ (s : View) (u : IsAtUnits s) where
 
   pairs-open : (c : Clause) → c ∈ ps → (l : Literal) → l ∈ c → (variable_of l < length values) × (is_unassigned values l ≡ true)
   pairs-open c h l i =
-      let (k, o, e, n, m) = pairs-from values s.clauses c h in
+      let (k, o, e, n, m) = pair-origin values s.clauses c h in
       let j = subst (λ x. l ∈ x) e i in
       (u.well.in_range k.literals (stored-kept s k.literals (literals-∈ s.clauses k o)) l (left-part values k.literals l j), left-unassigned values k.literals l j)
 
   long-may : (c : Clause) → c ∈ literals_of P → MayBeKept s c
   long-may c h =
-      let (k, i, e, n) = long-from values s.clauses c h in
+      let (k, i, e, n) = long-origin values s.clauses c h in
       let o = stored-kept s k.literals (literals-∈ s.clauses k i) in
       subst (MayBeKept s) (sym e) (record {
         in_range = λ l j. u.well.in_range k.literals o l (left-part values k.literals l j);
@@ -160,7 +160,7 @@ module _ (s : View) (u : IsAtUnits s) where
   are-unassigned = record {
     places = map-rising (λ k. shortened_to (unassigned values k.literals) k) (λ k. refl) (filter (λ k. stays_long values k.literals) s.clauses) (filter-rising (λ k. stays_long values k.literals) s.clauses u.well.places);
     clauses = long-may;
-    unassigned = λ c h. let (k, i, e, n) = long-from values s.clauses c h in each-unassigned values c (λ l j. left-unassigned values k.literals l (subst (λ x. l ∈ x) e j));
+    unassigned = λ c h. let (k, i, e, n) = long-origin values s.clauses c h in each-unassigned values c (λ l j. left-unassigned values k.literals l (subst (λ x. l ∈ x) e j));
     pairs = all-joined values B ps pairs-in pairs-open (pairs-unassigned s u.well);
   }
 
@@ -216,12 +216,12 @@ module _ (s : View) (u : IsAtUnits s) where
   literal-kept c h l i =
       ⊎_elim
       (λ j.
-      let (k, o, e, n) = long-from values s.clauses c j in
+      let (k, o, e, n) = long-origin values s.clauses c j in
       (k.literals, stored-kept s k.literals (literals-∈ s.clauses k o), left-part values k.literals l (subst (λ x. l ∈ x) e i)))
       (λ j.
       let (d, o, q) = same_clauses_find (pairs_from 0 C) (ps ++ pairs_from 0 B) (same_clauses-back (ps ++ pairs_from 0 B) (pairs_from 0 C) (pairs-same B ps pairs-in)) c j in
       ⊎_elim
-      (λ a. let (k, b, e, n, m) = pairs-from values s.clauses d a in (k.literals, stored-kept s k.literals (literals-∈ s.clauses k b), left-part values k.literals l (subst (λ x. l ∈ x) e (q.1 l i))))
+      (λ a. let (k, b, e, n, m) = pair-origin values s.clauses d a in (k.literals, stored-kept s k.literals (literals-∈ s.clauses k b), left-part values k.literals l (subst (λ x. l ∈ x) e (q.1 l i))))
       (λ a. (d, ∈-append_right d (literals_of s.clauses) (pairs_from 0 s.binary) (∈-filter (are_unassigned s.values) (pairs_from 0 s.binary) d (subst (λ x. d ∈ x) (pairs-left s.values s.binary) a)).0, q.1 l i))
       (∈-append_cases d ps (pairs_from 0 B) o))
       (∈-append_cases c (literals_of P) (pairs_from 0 C) h)

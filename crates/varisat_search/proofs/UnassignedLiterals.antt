@@ -15,7 +15,7 @@ use Rattle.varisat_prop.proofs.SimplifiedPairs.{filter-∈, ∈-filter, all-unas
 
 -- 1. Tests over lists.
 
-pub any-found : {X : Type 0} (p : X → Bool) (xs : List X) → list_any p xs ≡ true → (x : X) × (x ∈ xs) × (p x ≡ true)
+any-found : {X : Type 0} (p : X → Bool) (xs : List X) → list_any p xs ≡ true → (x : X) × (x ∈ xs) × (p x ≡ true)
 any-found p [] e = absurd (let z : false ≡ true = e in cc)
 any-found {X} p (y ∷ ys) e = go (p y) refl e (any-found p ys)
   where
@@ -23,7 +23,7 @@ any-found {X} p (y ∷ ys) e = go (p y) refl e (any-found p ys)
     go true q e f = (y, inl refl, q)
     go false q e f = let (x, i, r) = f e in (x, inr i, r)
 
-pub any-none : {X : Type 0} (p : X → Bool) (xs : List X) → list_any p xs ≡ false → (x : X) → x ∈ xs → p x ≡ false
+any-none : {X : Type 0} (p : X → Bool) (xs : List X) → list_any p xs ≡ false → (x : X) → x ∈ xs → p x ≡ false
 any-none p [] e x h = absurd h
 any-none {X} p (y ∷ ys) e x h = go (p y) refl e h (any-none p ys)
   where
@@ -32,7 +32,7 @@ any-none {X} p (y ∷ ys) e x h = go (p y) refl e h (any-none p ys)
     go false q e (inl r) f = ap p r ∙ q
     go false q e (inr i) f = f e x i
 
-pub filter-all : {X : Type 0} (p : X → Bool) (xs : List X) → ((x : X) → x ∈ xs → p x ≡ true) → filter p xs ≡ xs
+filter-all : {X : Type 0} (p : X → Bool) (xs : List X) → ((x : X) → x ∈ xs → p x ≡ true) → filter p xs ≡ xs
 filter-all p [] f = refl
 filter-all p (x ∷ xs) f = ap (λ b. cond b (x ∷ filter p xs) (filter p xs)) (f x (inl refl)) ∙ ap (λ ys. x ∷ ys) (filter-all p xs (λ y i. f y (inr i)))
 
@@ -51,7 +51,7 @@ true-false false = inr refl
 -- 2. The values of literals.
 
 module _ (values : List (Option Bool)) where
-  pub made-true : (l : Literal) → is_true_value (value_in values l) ≡ true → IsMadeTrue values l
+  made-true : (l : Literal) → is_true_value (value_in values l) ≡ true → IsMadeTrue values l
   made-true l e = go (get_or values (variable_of l) None) (polarity_of l) e
     where
       go : (o : Option Bool) (p : Bool) → is_true_value (option_map (λ b. beq b p) o) ≡ true → o ≡ Some p
@@ -61,7 +61,7 @@ module _ (values : List (Option Bool)) where
       go (Some false) true e = absurd cc
       go (Some false) false e = refl
 
-  pub true-made : (l : Literal) → IsMadeTrue values l → is_true_value (value_in values l) ≡ true
+  true-made : (l : Literal) → IsMadeTrue values l → is_true_value (value_in values l) ≡ true
   true-made l h = go (get_or values (variable_of l) None) (polarity_of l) h
     where
       go : (o : Option Bool) (p : Bool) → o ≡ Some p → is_true_value (option_map (λ b. beq b p) o) ≡ true
@@ -72,7 +72,7 @@ module _ (values : List (Option Bool)) where
       go (Some false) false e = refl
 
   -- a literal with a value is true or false
-  pub assigned-cases : (l : Literal) → is_unassigned values l ≡ false → IsMadeTrue values l ⊎ IsMadeTrue values (opposite l)
+  assigned-cases : (l : Literal) → is_unassigned values l ≡ false → IsMadeTrue values l ⊎ IsMadeTrue values (opposite l)
   assigned-cases l e =
       ⊎_elim inl
       (λ f. inr (ap (λ v. get_or values v None) (variable-opposite l) ∙ f ∙ ap Some (sym (polarity-opposite l))))

@@ -53,3 +53,4 @@ pub mod ShrunkClauses
 pub mod FilteredUnits
 pub mod SimplifiedSearch
 pub mod SimplifiedContext
+pub mod SettledUnits

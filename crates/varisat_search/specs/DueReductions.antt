@@ -14,6 +14,7 @@ use Rattle.varisat_analysis.specs.Reductions.{reasons_marked, Discards}
 use Rattle.varisat_analysis.specs.Collections.{Repacks}
 use Rattle.varisat_search.specs.Progress.{StepsTo}
 use Rattle.varisat_search.specs.Restarts.{KeepsAssignment, RestartsIfDue}
+use Rattle.varisat_search.specs.SettledUnits.{SettlesFirst}
 
 -- At each step whose number is a multiple of the interval half of the Local clauses go, but for reasons, and at others
 -- nothing changes.
@@ -50,11 +51,12 @@ pub record KeepsSearch {A : Type 0} (x y : Context A) : Type 0 where
   pub proves : (lines : List Line) × Proves 0 (search_of (view x)) (search_of (view y)) lines
   pub decidable : SameDecidable (view x) x.vsids (view y) y.vsids
 
--- A step begins with a restart down to the last assumption, where that is due; then come the reductions and the collection; then lines lead from what is left to the search after the step.
+-- A step begins with a restart down to the last assumption, where that is due; then come the reductions and the collection; then, at level 0, units are settled; then lines lead from what is left to the search after the step.
 pub record GoesBySchedule {A : Type 0} (x z : Context A) : Type 0 where
   pub begun : Context A
   pub reduced : Context A
   pub restarts : RestartsIfDue x.schedule x.assumptions.levels (view x) (view begun)
   pub begins : begun ≡ record x { assignment = begun.assignment; trail = begun.trail; vsids = begun.vsids; schedule = begun.schedule }
   pub reduces : ReducesIfDue begun reduced
+  pub settles : SettlesFirst reduced z
   pub steps : StepsTo reduced z

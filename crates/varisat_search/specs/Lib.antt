@@ -11,3 +11,4 @@ pub mod DueReductions
 pub mod AssumptionParts
 pub mod ProvedUnits
 pub mod Simplifications
+pub mod SettledUnits

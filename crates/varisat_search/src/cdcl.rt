@@ -1,5 +1,5 @@
 //! One step of the search: propagate and decide to a conflict or a model, and learn.
-ghost use Rattle.std.specs.Prelude.{◌≡◌, ℕ, ◌<◌, false, length, [], ◌∷◌, List, OnOk, IfOk, MatchBool, MatchOption, MatchResult};
+ghost use Rattle.std.specs.Prelude.{◌≡◌, ℕ, ◌<◌, false, length, [], ◌∷◌, List, Ok, OnOk, IfOk, MatchBool, MatchOption, MatchResult};
 ghost use Rattle.varisat_theory.specs.Membership.{◌∈◌};
 ghost use Rattle.varisat_theory.specs.Literals.{Literal, opposite};
 ghost use Rattle.varisat_theory.specs.Propagation.{IsComplete};
@@ -19,6 +19,7 @@ ghost use Rattle.varisat_analysis.specs.Assessments.{glue_of, assessed, BumpsCla
 ghost use Rattle.varisat_search.specs.AssumptionParts.{TakesOutImplied, EndsAssumed, HasFailed, KeepsAssumptions};
 ghost use Rattle.varisat_search.specs.Conflicts.{Stops, Keeping, IsKeptAsReason, IsStoredAsReason, IsWatchedAsReason};
 ghost use Rattle.varisat_search.specs.Seen.{search_of, outcome_of};
+ghost use Rattle.varisat_search.specs.SettledUnits.{IsUnsettled, SettlesUnits, GoesOnByLines, SettlesFirst};
 ghost use Rattle.varisat_search.specs.Progress.{StepsTo, RaisesRank, IsStepFurther};
 ghost use Rattle.varisat_vsids.specs.Activities.{Activities};
 
@@ -29,6 +30,7 @@ use crate::context::Context;
 use crate::decision::make_decision;
 use crate::levels::backtrack;
 use crate::state::SatState;
+use crate::unit_simplify::{prove_units, unit_simplify};
 use std::alloc::{AllocError, Allocator};
 use varisat_analysis::analyze_conflict::analyze_conflict;
 use varisat_clause::db::add_clause;
@@ -217,9 +219,39 @@ fn learn<A: Allocator + Copy>(ctx: &mut Context<A>, conflict: Conflict) -> Resul
     Ok(())
 }
 
-/// Makes one step: finds a conflict and learns from it, or finds a model or that assumptions fail. A step that learns
-/// raises the rank of the trail, so that there are only finitely many of them.
-pub fn conflict_step<A: Allocator + Copy>(ctx: &mut Context<A>) -> Result<(), StoreError>
+/// At level 0 propagates what is left to be propagated, proves the units and simplifies the clauses. Where a clause is
+/// false, it is returned and no clause is simplified. Nothing happens at another level, nor where nothing is left.
+fn settle_units<A: Allocator + Copy>(
+    ctx: &mut Context<A>,
+) -> Result<Result<(), Conflict>, AllocError>
+    requires { IsReady ctx.old }
+    ensures goes_on { OnOk result (GoesOnByLines ctx.old ctx.new) }
+    ensures settles { IfOk result (λ end. IsUnsettled (view ctx.old) → SettlesUnits (view ctx.old) (view ctx.new) end) }
+    ensures stays { IfOk result (λ end. (IsUnsettled (view ctx.old) → ⊥) → (ctx.new ≡ ctx.old) × (end ≡ Ok tt)) }
+    ensures conflict { IfOk result (λ end. MatchResult end (λ _. Unit {0}) (λ conflict. IsConflicting (view ctx.new) conflict)) }
+    ensures kept { ctx.new ≡ record ctx.old { assignment = ctx.new.assignment; binary_clauses = ctx.new.binary_clauses; clause_alloc = ctx.new.clause_alloc; clause_db = ctx.new.clause_db; impl_graph = ctx.new.impl_graph; trail = ctx.new.trail; watchlists = ctx.new.watchlists } }
+{
+    if ctx.trail.current_level() > 0 || ctx.trail.fully_propagated() {
+        return Ok(Ok(()));
+    }
+    let propagated = propagate(
+        &mut ctx.assignment,
+        &mut ctx.clause_alloc,
+        &mut ctx.impl_graph,
+        &mut ctx.trail,
+        &ctx.binary_clauses,
+        &mut ctx.watchlists,
+    )?;
+    prove_units(ctx);
+    if let Err(conflict) = propagated {
+        return Ok(Err(conflict));
+    }
+    unit_simplify(ctx)?;
+    Ok(Ok(()))
+}
+
+/// Finds a conflict and learns from it, or finds a model or that assumptions fail.
+fn find_and_learn<A: Allocator + Copy>(ctx: &mut Context<A>) -> Result<(), StoreError>
     requires ready { IsReady ctx.old }
     requires unknown { ctx.old.solver_state.sat_state ≡ SatState.Unknown }
     ensures ready { OnOk result (IsReady ctx.new) }
@@ -240,6 +272,32 @@ pub fn conflict_step<A: Allocator + Copy>(ctx: &mut Context<A>) -> Result<(), St
             ctx.solver_state.sat_state = SatState::UnsatUnderAssumptions;
         }
         Err(FoundConflict::Conflict(conflict)) => learn(ctx, conflict)?,
+    }
+    Ok(())
+}
+
+/// Makes one step: settles the units of level 0, then finds a conflict and learns from it, or finds a model or that
+/// assumptions fail. A step that learns raises the rank of the trail, so that there are only finitely many of them.
+pub fn conflict_step<A: Allocator + Copy>(ctx: &mut Context<A>) -> Result<(), StoreError>
+    requires ready { IsReady ctx.old }
+    requires unknown { ctx.old.solver_state.sat_state ≡ SatState.Unknown }
+    ensures ready { OnOk result (IsReady ctx.new) }
+    ensures steps { OnOk result (StepsTo ctx.old ctx.new) }
+    // At level 0 lines that prove units come first, and then those of simplification.
+    ensures settles { OnOk result (SettlesFirst ctx.old ctx.new) }
+    ensures assumes { OnOk result (KeepsAssumptions (search_of (view ctx.old)) (outcome_of (view ctx.new) ctx.new.assumptions.failed_core ctx.new.solver_state.sat_state) ctx.old.assumptions ctx.new.assumptions) }
+    ensures rises { OnOk result (ctx.new.solver_state.sat_state ≡ SatState.Unknown → RaisesRank ctx.old ctx.new) }
+    ensures decidable { OnOk result (SameDecidable (view ctx.old) ctx.old.vsids (view ctx.new) ctx.new.vsids) }
+    ensures decay { OnOk result (ctx.new.vsids.decay ≡ ctx.old.vsids.decay) }
+    ensures last { OnOk result (Remembers (view ctx.old) ctx.old.assignment.last ctx.new.assignment.last) }
+    ensures count { OnOk result (length ctx.new.assignment.current ≡ length ctx.old.assignment.current) }
+    ensures units { OnOk result (ctx.new.trail.units_removed ≡ ctx.old.trail.units_removed) }
+    ensures state { OnOk result (ctx.new.solver_state ≡ record ctx.old.solver_state { sat_state = ctx.new.solver_state.sat_state }) }
+    ensures schedule { KeepsSchedule ctx.old ctx.new }
+{
+    match settle_units(ctx)? {
+        Ok(()) => find_and_learn(ctx)?,
+        Err(conflict) => learn(ctx, conflict)?,
     }
     Ok(())
 }

@@ -35,8 +35,8 @@ fn forget_reasons<A: Allocator + Copy>(impl_graph: &mut ImplGraph<A>, lits: &[Li
     }
 }
 
-/// Proves the literals of level 0: each that a clause implied is held as a unit clause from now on, and needs that clause
-/// no more. Returns whether there are literals. Above level 0 nothing changes, and the result is false.
+/// Proves the literals of level 0: each that a clause implied is held as a unit clause from now on, and needs no other
+/// clause. Returns whether there are literals. Above level 0 nothing changes, and the result is false.
 pub fn prove_units<A: Allocator + Copy>(ctx: &mut Context<A>) -> bool
     requires { IsReady ctx.old }
     ensures found { IsTrue result ↔ ((ctx.old.trail.decisions ≡ []) × (0 < length ctx.old.trail.literals)) }

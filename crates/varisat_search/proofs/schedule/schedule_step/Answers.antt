@@ -80,5 +80,6 @@ returns-clause-reduces g c = record {
   restarts = c.restart_if_due.ensures.restarted;
   begins = let e = c.restart_if_due.ensures.kept in e ∙ ap (λ (p : Plan). record c.args.ctx.now { assignment = c.restart_if_due.new.ctx.assignment; trail = c.restart_if_due.new.ctx.trail; vsids = c.restart_if_due.new.ctx.vsids; schedule = p }) (sym (ap (λ (y : Context g.row.A.Denot). y.schedule) e));
   reduces = c.in_ok-reduce_if_due.ensures.reduces;
+  settles = c.in_ok-conflict_step.ensures.settles;
   steps = c.in_ok-conflict_step.ensures.steps;
 }

@@ -1,0 +1,136 @@
+-- How a search goes on as its units of level 0 are settled, and the step after that.
+use Rattle.std.proofs.Common.{◌≡◌, ℕ, ◌<◌, ◌≤◌, Bool, Result, MatchResult, List, [], ◌++◌, length, refl, sym, ap, ◌∙◌, subst, append_assoc}
+use Rattle.varisat_theory.specs.Derivations.{Line}
+use Rattle.varisat_theory.specs.Outcomes.{Outcome, Proves, Steps}
+use Rattle.varisat_theory.specs.Rank.{rank}
+use Rattle.varisat_theory.specs.StepLaws.{unit_lines}
+use Rattle.varisat_theory.proofs.StepParts.{parts_join}
+use Rattle.varisat_theory.proofs.StepStands.{part_step}
+use Rattle.varisat_prop.specs.declared.prop.graph.Conflict.{Conflict}
+use Rattle.varisat_prop.specs.declared.prop.graph.Conflict.TheVariants as conflict
+use Rattle.varisat_prop.specs.View.{View, WellFormed, kinds}
+use Rattle.varisat_prop.specs.Changes.{IsConflicting}
+use Rattle.varisat_prop.specs.Looks.{Propagates}
+use Rattle.varisat_prop.proofs.ViewGrowth.{append-nil, kinds-more}
+use Rattle.varisat_search.specs.declared.context.Context.{Context}
+use Rattle.varisat_search.specs.AssumptionParts.{AssumptionParts, KeepsAssumptions}
+use Rattle.varisat_search.specs.Contexts.{view, IsReady}
+use Rattle.varisat_search.specs.Decisions.{SameDecidable}
+use Rattle.varisat_search.specs.ProvedUnits.{implied_units, ProvesUnits}
+use Rattle.varisat_search.specs.Seen.{search_of}
+use Rattle.varisat_search.specs.SettledUnits.{SettlesUnits, GoesOnByLines}
+use Rattle.varisat_search.specs.Simplifications.{IsSimplified, pair_lines, clause_lines}
+use Rattle.varisat_search.proofs.AssumptionSteps.{keeps-after-part}
+use Rattle.varisat_search.proofs.DecidableVariables.{same-refl, same-trans, same-read, propagated-same}
+use Rattle.varisat_search.proofs.ProvedUnits.{units-kinds}
+use Rattle.varisat_search.proofs.StepRanks.{rises-longer}
+use Rattle.varisat_search.proofs.StepWithoutLines.{grows_prove}
+use Rattle.varisat_search.proofs.TrailExtensions.{extends-trans, extends-same, extends-grown}
+
+-- one after the other
+pub goes-trans : {A : Type 0} (x y z : Context A) → GoesOnByLines x y → GoesOnByLines y z → GoesOnByLines x z
+goes-trans {A} x y z a b =
+    let (first, p) = a.proves in
+    let (more, q) = b.proves in
+    let (ks, e) = a.kinds_more in
+    let (js, f) = b.kinds_more in
+    record {
+      ready = b.ready;
+      proves = (first ++ more, parts_join 0 0 (search_of (view x)) (search_of (view y)) (search_of (view z)) first more p q);
+      extends = extends-trans (view x) (view y) (view z) a.extends b.extends;
+      kinds_more = (ks ++ js, f ∙ ap (λ (bs : List Bool). bs ++ js) e ∙ append_assoc (kinds (view x)) ks js);
+      decidable = same-trans (view x) x.vsids (view y) y.vsids (view z) z.vsids a.decidable b.decidable;
+      last = b.last ∙ a.last;
+      units = b.units ∙ a.units;
+    }
+
+-- propagation
+pub goes-propagated : {A : Type 0} (x m : Context A) → IsReady x → IsReady m → Propagates (view x) (view m) → m.assignment.last ≡ x.assignment.last → m.trail.units_removed ≡ x.trail.units_removed → m ≡ record x { assignment = m.assignment; clause_alloc = m.clause_alloc; impl_graph = m.impl_graph; trail = m.trail; watchlists = m.watchlists } → GoesOnByLines x m
+goes-propagated {A} x m r q p l u k =
+    let s = view x in
+    let t = view m in
+    record {
+      ready = q;
+      proves = ([], grows_prove s t r.well p.well p.grows);
+      extends = extends-grown s t p.well p.grows;
+      kinds_more = (_, kinds-more s t p.grows);
+      decidable = subst (SameDecidable s x.vsids t) (sym (ap (λ (y : Context A). y.vsids) k)) (propagated-same s t x.vsids r.well r.decidable p);
+      last = l;
+      units = u;
+    }
+
+-- the units are proved
+pub goes-proved : {A : Type 0} (x z : Context A) → IsReady x → IsReady z → x.trail.decisions ≡ [] → ProvesUnits (view x) (view z) → (lines : List Line) → Proves 0 (search_of (view x)) (search_of (view z)) lines → z ≡ record x { impl_graph = z.impl_graph } → GoesOnByLines x z
+goes-proved {A} x z r q none p lines h k = record {
+  ready = q;
+  proves = (lines, h);
+  extends = extends-same (view x) (view z) q.well (ap (λ (y : View). y.values) p.rest) (ap (λ (y : View). y.trail) p.rest) (ap (λ (y : View). y.decisions) p.rest);
+  kinds_more = ([], units-kinds (view x) (view z) r.well none p ∙ sym (append-nil (kinds (view x))));
+  decidable = same-read (view x) x.vsids (view z) z.vsids (ap (λ (y : View). y.values) p.rest) (ap (λ (y : Context A). y.vsids.available) k);
+  last = ap (λ (y : Context A). y.assignment.last) k;
+  units = ap (λ (y : Context A). y.trail.units_removed) k;
+}
+
+-- the clauses are simplified
+pub goes-simplified : {A : Type 0} (x z : Context A) → IsReady z → (lines : List Line) → Proves 0 (search_of (view x)) (search_of (view z)) lines → SameDecidable (view x) x.vsids (view z) z.vsids → z ≡ record x { binary_clauses = z.binary_clauses; clause_alloc = z.clause_alloc; clause_db = z.clause_db; watchlists = z.watchlists } → GoesOnByLines x z
+goes-simplified {A} x z q lines h d k = record {
+  ready = q;
+  proves = (lines, h);
+  extends = extends-same (view x) (view z) q.well (ap (λ (y : Context A). (view y).values) k) (ap (λ (y : Context A). (view y).trail) k) (ap (λ (y : Context A). (view y).decisions) k);
+  kinds_more = ([], ap (λ (y : Context A). kinds (view y)) k ∙ sym (append-nil (kinds (view x))));
+  decidable = d;
+  last = ap (λ (y : Context A). y.assignment.last) k;
+  units = ap (λ (y : Context A). y.trail.units_removed) k;
+}
+
+-- Propagation at level 0, and then the units are proved.
+pub record ProvedAfter {A : Type 0} (x m p : Context A) : Type 0 where
+  pub ready : IsReady x
+  pub mid_ready : IsReady m
+  pub none : m.trail.decisions ≡ []
+  pub propagates : Propagates (view x) (view m)
+  pub last : m.assignment.last ≡ x.assignment.last
+  pub units : m.trail.units_removed ≡ x.trail.units_removed
+  pub kept : m ≡ record x { assignment = m.assignment; clause_alloc = m.clause_alloc; impl_graph = m.impl_graph; trail = m.trail; watchlists = m.watchlists }
+  pub end_ready : IsReady p
+  pub proved : ProvesUnits (view m) (view p)
+  pub proves : Proves 0 (search_of (view m)) (search_of (view p)) (unit_lines (implied_units (view m)))
+  pub end_kept : p ≡ record m { impl_graph = p.impl_graph }
+
+module _ {A : Type 0} (x m p : Context A) (d : ProvedAfter x m p) where
+  pub goes-to-units : GoesOnByLines x p
+  goes-to-units =
+      goes-trans x m p
+      (goes-propagated x m d.ready d.mid_ready d.propagates d.last d.units d.kept)
+      (goes-proved m p d.mid_ready d.end_ready d.none d.proved (unit_lines (implied_units (view m))) d.proves d.end_kept)
+
+  pub settles-to-units : (t : View) (end : Result (Unit {0}) Conflict) → MatchResult end (λ _. IsSimplified (view p) t × Proves 0 (search_of (view p)) (search_of t) (pair_lines (view p) ++ clause_lines (view p))) (λ f. (t ≡ view p) × IsConflicting t f) → SettlesUnits (view x) t end
+  settles-to-units t end e = record {
+    propagated = view m;
+    proved = view p;
+    propagates = d.propagates;
+    units = d.proved;
+    unit_proofs = parts_join 0 0 (search_of (view x)) (search_of (view m)) (search_of (view p)) [] (unit_lines (implied_units (view m))) (grows_prove (view x) (view m) d.ready.well d.propagates.well d.propagates.grows) d.proves;
+    ends = e;
+  }
+
+-- A clause that is false stays so as units are proved.
+pub still-conflicting : (s t : View) (f : Conflict) → ProvesUnits s t → IsConflicting s f → IsConflicting t f
+still-conflicting s t f p c = subst (λ (y : View). IsConflicting y f) (sym p.rest) (go f c)
+  where
+    go : (f : Conflict) → IsConflicting s f → IsConflicting (record s { nodes = t.nodes }) f
+    go (conflict.Binary ms) c = c
+    go (conflict.Long p) c = c
+
+-- What comes after the units were settled.
+module _ {A : Type 0} (x y : Context A) (a : GoesOnByLines x y) where
+  pub steps-settled : (t : View) (v : Outcome) (lines : List Line) → Steps (search_of (view y)) (search_of t) v lines → (all : List Line) × Steps (search_of (view x)) (search_of t) v all
+  steps-settled t v lines p = let (first, q) = a.proves in (first ++ lines, part_step (search_of (view x)) (search_of (view y)) (search_of t) v first lines q p)
+
+  pub assumes-settled : (v : Outcome) (b : AssumptionParts) → y.assumptions ≡ x.assumptions → KeepsAssumptions (search_of (view y)) v y.assumptions b → KeepsAssumptions (search_of (view x)) v x.assumptions b
+  assumes-settled v b e k =
+      let (lines, q) = a.proves in
+      keeps-after-part 0 (search_of (view x)) (search_of (view y)) lines v x.assumptions b q (subst (λ c. KeepsAssumptions (search_of (view y)) v c b) e k)
+
+  pub rises-settled : (t : View) → IsReady x → WellFormed t → length t.values ≡ length (view y).values → ((n : ℕ) → length (view y).trail ≤ n → rank n (kinds (view y)) < rank n (kinds t)) → (n : ℕ) → length (view x).trail ≤ n → rank n (kinds (view x)) < rank n (kinds t)
+  rises-settled t r w c h = let (more, e) = a.kinds_more in rises-longer (view x) (view y) t more r.well a.ready.well w e a.extends.count c h

@@ -1,0 +1,100 @@
+use Rattle.std.proofs.Common.{◌≡◌, Ok, Err, MatchResult, [], ◌++◌, length, refl, ap, ◌∙◌, subst, arith}
+use Rattle.varisat_theory.specs.Propagation.{IsComplete}
+use Rattle.varisat_theory.specs.Outcomes.{Proves}
+use Rattle.varisat_theory.specs.StepLaws.{unit_lines}
+use Rattle.varisat_prop.specs.View.{kept}
+use Rattle.varisat_prop.specs.Changes.{IsConflicting}
+use Rattle.varisat_search.specs.declared.context.Context.{Context}
+use Rattle.varisat_search.specs.Contexts.{view, IsReady}
+use Rattle.varisat_search.specs.ProvedUnits.{implied_units, ProvesUnits}
+use Rattle.varisat_search.specs.Seen.{search_of}
+use Rattle.varisat_search.specs.Simplifications.{pair_lines, clause_lines}
+use Rattle.varisat_search.proofs.PropagatedContext.{propagated-ready}
+use Rattle.varisat_search.proofs.ProvedUnits.{none-left, units-all}
+use Rattle.varisat_search.proofs.SettledUnits.{ProvedAfter, goes-trans, goes-simplified, goes-to-units, settles-to-units, still-conflicting}
+use Rattle.varisat_search.proofs.cdcl.settle_units.Given.{Over}
+use Rattle.varisat_search.proofs.cdcl.settle_units.Goals.{In_ok-propagated}
+use Rattle.varisat_search.proofs.cdcl.settle_units.Goals as goal
+
+-- the context after propagation
+abbrev mid : (g : Over) (c : In_ok-propagated g) → Context g.row.A.Denot
+mid g c = record c.args.ctx.now { assignment = c.propagate.new.assignment; clause_alloc = c.propagate.new.clause_alloc; impl_graph = c.propagate.new.impl_graph; trail = c.propagate.new.trail; watchlists = c.propagate.new.watchlists }
+
+ready : (g : Over) (c : In_ok-propagated g) → IsReady (mid g c)
+ready g c = let e = c.in_ok-propagated.ensures in propagated-ready c.args.ctx.now (mid g c) c.requires e.propagates e.propagated e.store refl
+
+none : (g : Over) (c : In_ok-propagated g) → (mid g c).trail.decisions ≡ []
+none g c = c.in_ok-propagated.ensures.propagates.decisions ∙ none-left c.args.ctx.now.trail.decisions (omega (arith, c.if-current_level-gt0.false, c.current_level.ensures))
+
+-- once the units are proved
+facts : (g : Over) (h : In_ok-propagated g) (p : Context g.row.A.Denot) → IsReady p → ((mid g h).trail.decisions ≡ [] → ProvesUnits (view (mid g h)) (view p)) → ((mid g h).trail.decisions ≡ [] → Proves 0 (search_of (view (mid g h))) (search_of (view p)) (unit_lines (implied_units (view (mid g h))))) → p ≡ record (mid g h) { impl_graph = p.impl_graph } → ProvedAfter h.args.ctx.now (mid g h) p
+facts g h p r f l k =
+    let e = h.in_ok-propagated.ensures in
+    record {
+      ready = h.requires;
+      mid_ready = ready g h;
+      none = none g h;
+      propagates = e.propagates;
+      last = e.last;
+      units = e.units;
+      kept = refl;
+      end_ready = r;
+      proved = f (none g h);
+      proves = l (none g h);
+      end_kept = k;
+    }
+
+pub prove_units-requires : goal.prove_units-requires
+prove_units-requires g c = ready g (goal.at.prove_units-requires g c).In_ok-propagated
+
+pub returns-in-Err-clause-goes_on : goal.returns-in-Err-clause-goes_on
+returns-in-Err-clause-goes_on g c =
+    let h = (goal.at.returns-in-Err-clause-goes_on g c).In_ok-propagated in
+    let p = c.prove_units.ensures in
+    goes-to-units c.args.ctx.now (mid g h) c.prove_units.new.ctx (facts g h c.prove_units.new.ctx p.ready p.proved p.proves p.kept)
+
+pub returns-in-Err-clause-conflict : goal.returns-in-Err-clause-conflict
+returns-in-Err-clause-conflict g c =
+    let h = (goal.at.returns-in-Err-clause-conflict g c).In_ok-propagated in
+    let m = mid g h in
+    let t = view c.prove_units.new.ctx in
+    let ends = subst (λ r. MatchResult r (λ _. IsComplete (kept (view m)) m.trail.literals × (m.trail.queue_head ≡ length m.trail.literals)) (λ f. IsConflicting (view m) f)) c.in-Err.is c.in_ok-propagated.ensures.ends in
+    still-conflicting (view m) t c.in-Err.conflict (c.prove_units.ensures.proved (none g h)) ends
+
+pub returns-in-Err-clause-settles : goal.returns-in-Err-clause-settles
+returns-in-Err-clause-settles g c unsettled =
+    let h = (goal.at.returns-in-Err-clause-settles g c).In_ok-propagated in
+    let m = mid g h in
+    let p = c.prove_units.ensures in
+    let t = view c.prove_units.new.ctx in
+    let ends = subst (λ r. MatchResult r (λ _. IsComplete (kept (view m)) m.trail.literals × (m.trail.queue_head ≡ length m.trail.literals)) (λ f. IsConflicting (view m) f)) c.in-Err.is c.in_ok-propagated.ensures.ends in
+    settles-to-units c.args.ctx.now m c.prove_units.new.ctx (facts g h c.prove_units.new.ctx p.ready p.proved p.proves p.kept) t (Err c.in-Err.conflict)
+    (refl, still-conflicting (view m) t c.in-Err.conflict (p.proved (none g h)) ends)
+
+pub unit_simplify-requires-clause-undecided : goal.unit_simplify-requires-clause-undecided
+unit_simplify-requires-clause-undecided g c =
+    let h = (goal.at.unit_simplify-requires-clause-undecided g c).In_ok-propagated in
+    ap (λ (y : Context g.row.A.Denot). y.trail.decisions) c.prove_units.ensures.kept ∙ none g h
+
+pub unit_simplify-requires-clause-proved : goal.unit_simplify-requires-clause-proved
+unit_simplify-requires-clause-proved g c =
+    let h = (goal.at.unit_simplify-requires-clause-proved g c).In_ok-propagated in
+    units-all (view (mid g h)) (view c.prove_units.new.ctx) (ready g h).well (none g h) (c.prove_units.ensures.proved (none g h))
+
+pub returns-clause-goes_on : goal.returns-clause-goes_on
+returns-clause-goes_on g c =
+    let h = (goal.at.returns-clause-goes_on g c).In_ok-propagated in
+    let x = c.args.ctx.now in
+    let y = c.prove_units.new.ctx in
+    let p = c.prove_units.ensures in
+    let q = c.in_ok-unit_simplify.ensures in
+    goes-trans x y c.unit_simplify.new.ctx
+    (goes-to-units x (mid g h) y (facts g h y p.ready p.proved p.proves p.kept))
+    (goes-simplified y c.unit_simplify.new.ctx q.ready (pair_lines (view y) ++ clause_lines (view y)) q.proves q.decidable c.unit_simplify.ensures.kept)
+
+pub returns-clause-settles : goal.returns-clause-settles
+returns-clause-settles g c unsettled =
+    let h = (goal.at.returns-clause-settles g c).In_ok-propagated in
+    let p = c.prove_units.ensures in
+    let q = c.in_ok-unit_simplify.ensures in
+    settles-to-units c.args.ctx.now (mid g h) c.prove_units.new.ctx (facts g h c.prove_units.new.ctx p.ready p.proved p.proves p.kept) (view c.unit_simplify.new.ctx) (Ok tt) (q.simplified, q.proves)

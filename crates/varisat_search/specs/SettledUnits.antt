@@ -1,0 +1,47 @@
+-- What comes of a search that settles its units of level 0 before a step.
+use Rattle.std.specs.Prelude.{◌≡◌, ◌<◌, ◌++◌, Bool, Result, MatchResult, List, [], length}
+use Rattle.varisat_theory.specs.Derivations.{Line}
+use Rattle.varisat_theory.specs.Outcomes.{Proves}
+use Rattle.varisat_theory.specs.StepLaws.{unit_lines}
+use Rattle.varisat_prop.specs.declared.prop.graph.Conflict.{Conflict}
+use Rattle.varisat_prop.specs.View.{View, kinds}
+use Rattle.varisat_prop.specs.Changes.{IsConflicting}
+use Rattle.varisat_prop.specs.Looks.{Propagates}
+use Rattle.varisat_search.specs.declared.context.Context.{Context}
+use Rattle.varisat_search.specs.Contexts.{view, IsReady}
+use Rattle.varisat_search.specs.Decisions.{SameDecidable}
+use Rattle.varisat_search.specs.Progress.{StepsTo}
+use Rattle.varisat_search.specs.ProvedUnits.{implied_units, ProvesUnits}
+use Rattle.varisat_search.specs.Seen.{search_of}
+use Rattle.varisat_search.specs.Simplifications.{IsSimplified, pair_lines, clause_lines}
+use Rattle.varisat_search.specs.Steps.{ExtendsTrail}
+
+-- at level 0 literals are still to be propagated
+abbrev pub IsUnsettled : View → Type 0
+IsUnsettled s = (s.decisions ≡ []) × (s.queue_head < length s.trail)
+
+-- Propagation came to its end or to a false clause, and each unit was proved, by one line for each that a clause implied.
+-- Then, unless a clause is false, the clauses were simplified, by a line for each that goes and each that is left of one.
+pub record SettlesUnits (s t : View) (end : Result (Unit {0}) Conflict) : Type 0 where
+  pub propagated : View
+  pub proved : View
+  pub propagates : Propagates s propagated
+  pub units : ProvesUnits propagated proved
+  pub unit_proofs : Proves 0 (search_of s) (search_of proved) (unit_lines (implied_units propagated))
+  pub ends : MatchResult end
+      (λ _. IsSimplified proved t × Proves 0 (search_of proved) (search_of t) (pair_lines proved ++ clause_lines proved))
+      (λ conflict. (t ≡ proved) × IsConflicting t conflict)
+
+-- The search goes on and takes nothing back; clauses may go from it and become shorter, by lines.
+pub record GoesOnByLines {A : Type 0} (x y : Context A) : Type 0 where
+  pub ready : IsReady y
+  pub proves : (lines : List Line) × Proves 0 (search_of (view x)) (search_of (view y)) lines
+  pub extends : ExtendsTrail (view x) (view y)
+  pub kinds_more : (more : List Bool) × (kinds (view y) ≡ kinds (view x) ++ more)
+  pub decidable : SameDecidable (view x) x.vsids (view y) y.vsids
+  pub last : y.assignment.last ≡ x.assignment.last
+  pub units : y.trail.units_removed ≡ x.trail.units_removed
+
+-- A step that begins unsettled settles its units first, and goes on from there.
+abbrev pub SettlesFirst : {A : Type 0} → Context A → Context A → Type 0
+SettlesFirst {A} x z = IsUnsettled (view x) → (y : Context A) × (end : Result (Unit {0}) Conflict) × SettlesUnits (view x) (view y) end × StepsTo y z

@@ -14,6 +14,8 @@ mod reductions;
 #[cfg(test)]
 mod searches;
 #[cfg(test)]
+mod simplifying;
+#[cfg(test)]
 mod steps;
 #[cfg(test)]
 mod tiers;

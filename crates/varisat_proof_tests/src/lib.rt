@@ -2,12 +2,4 @@
 #![tactic(auto)]
 
 #[cfg(test)]
-mod checks;
-#[cfg(test)]
-mod faults;
-#[cfg(test)]
-mod programs;
-#[cfg(test)]
-mod random;
-#[cfg(test)]
-mod steps;
+mod tests;

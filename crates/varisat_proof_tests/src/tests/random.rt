@@ -1,6 +1,6 @@
 //! Random proofs, whose verdict the plain checker over lines gives too.
 
-use crate::checks::{Outcome, outcome_of};
+use super::checks::{Outcome, outcome_of};
 use std::alloc::{AllocError, Global};
 use varisat_formula::io::{MemoryTarget, ProofTarget, ReadSource};
 use varisat_literals::{Lit, lit, lits};

@@ -1,6 +1,6 @@
 //! What the program's command prints, and its status.
 
-use crate::checks::PieceReader;
+use super::checks::PieceReader;
 use std::alloc::Global;
 use varisat_formula::io::ReadSource;
 use varisat_proof::program::check_lines;

@@ -1,6 +1,6 @@
 //! What checkers return for faults, and what they are then.
 
-use crate::checks::{Outcome, PieceReader, outcome_of, refusal_of};
+use super::checks::{Outcome, PieceReader, outcome_of, refusal_of};
 use linked_list_allocator::LocalHeap;
 use std::alloc::{AllocError, Allocator, Global};
 use std::io;

@@ -1,6 +1,6 @@
 //! Steps of a solver's proof: written, mapped and checked.
 
-use crate::checks::{Outcome, refusal_of};
+use super::checks::{Outcome, refusal_of};
 use std::alloc::Global;
 use varisat_formula::io::{MemoryTarget, ReadSource};
 use varisat_literals::{Lit, Var, lits};

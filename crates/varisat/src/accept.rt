@@ -1,5 +1,5 @@
-//! What an accepted clause and a list of assumptions bring: their names, the solver variables of these, and the clause or the
-//! list itself.
+//! What an accepted clause and a list of assumptions bring: their names, the solver variables of these, and the clause
+//! or the list itself.
 ghost use Rattle.std.specs.Prelude.{◌≡◌, ◌≢◌, ◌<◌, ◌∷◌, [], Some, false, map, OnOk};
 ghost use Rattle.varisat_theory.specs.Membership.{◌∈◌};
 ghost use Rattle.varisat_theory.specs.Literals.{Literal, variable_of};
@@ -116,8 +116,8 @@ fn bring_in<A: Allocator + Copy>(
     Ok(())
 }
 
-/// Brings the names of the clause into use, takes solver variables for them, and loads the clause over these. `literals`
-/// is overwritten.
+/// Brings the names of the clause into use, takes solver variables for them, and loads the clause over these.
+/// `literals` is overwritten.
 pub fn accept_clause<A: Allocator + Copy>(
     variables: &mut Variables<A>,
     ctx: &mut Context<A>,
@@ -139,8 +139,8 @@ pub fn accept_clause<A: Allocator + Copy>(
     Ok(())
 }
 
-/// Brings the names of the list into use, takes solver variables for them, and assumes the list in place of the one before.
-/// `literals` is overwritten.
+/// Brings the names of the list into use, takes solver variables for them, and assumes the list in place of the one
+/// before. `literals` is overwritten.
 pub fn assume_list<A: Allocator + Copy>(
     variables: &mut Variables<A>,
     ctx: &mut Context<A>,

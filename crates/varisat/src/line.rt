@@ -21,7 +21,8 @@ use varisat_names::config::{ConfigField, SolverConfigUpdate};
 // The highest number of a variable.
 const MAX_NUMBER: u64 = 0x8000_0000;
 
-/// Reads a line's command, without the line feed. None is for a text that is no command; the only error is out of memory.
+/// Reads a line's command, without the line feed. None is for a text that is no command; the only error is out of
+/// memory.
 pub fn parse_line<S: ByteSource, A: Allocator + Copy>(
     alloc: A,
     text: &[u8],
@@ -176,7 +177,8 @@ pub fn means_one_command()
     ensures { MeansOneCommand }
 {}
 
-/// Writes the answer of a call, without a line feed. An error is the writer's, and a beginning of the answer may be written.
+/// Writes the answer of a call, without a line feed. An error is the writer's, and a beginning of the answer may be
+/// written.
 pub fn write_answer<O: Write, W: ProofTarget, S: ByteSource, A: Allocator + Copy>(
     out: &mut O,
     answer: &Answer<W, S, A>,
@@ -243,7 +245,8 @@ fn write_refusal<W: Write>(out: &mut W, error: &SolverError) -> io::Result<()>
     out.write_all(Buffer::new().format(error.number()).as_bytes())
 }
 
-/// Writes the literals' DIMACS numbers, each after a space, and then ` 0`. Of errors the same holds as of `write_answer`.
+/// Writes the literals' DIMACS numbers, each after a space, and then ` 0`. Of errors the same holds as of
+/// `write_answer`.
 pub fn write_literals<W: Write>(out: &mut W, literals: &[Lit]) -> io::Result<()>
     ensures { OnOk result (Appends (W.contents out.old) (W.contents out.new) (literals_text literals.now)) }
 {

@@ -28,7 +28,9 @@ pub const STATUS_UNSATISFIABLE: u8 = 20;
 /// The status of a command that met a fault.
 pub const STATUS_FAULT: u8 = 2;
 
-/// Runs a session: each line of the input is one call of a new solver, and gets one line of answer. The status is 0 at the end of the input. Where memory runs out for a line, or the reader or the writer fails, `error: ` and the cause are told on `err`, and the status is 2.
+/// Runs a session: each line of the input is one call of a new solver, and gets one line of answer. The status is 0 at
+/// the end of the input. Where memory runs out for a line, or the reader or the writer fails, `error: ` and the cause
+/// are told on `err`, and the status is 2.
 pub fn session_lines<A: Allocator + Copy, R: Read + Drop, W: Write, E: Write>(
     alloc: A,
     input: R,
@@ -56,7 +58,11 @@ pub enum Report<A: Allocator + Copy> {
     Unknown,
 }
 
-/// Reads a DIMACS CNF text and decides it. Prints `s SATISFIABLE` and a `v` line with the model, status 10, or `s UNSATISFIABLE`, status 20; or `s UNKNOWN`, status 0, where the steps are spent before that is known. A fault of the text, its source or the writer, and out of memory, is told on `err`, and the status is 2. Of what was printed something is said only for a writer whose contents are known. The source has to have counted fewer than 2^64-1 faults.
+/// Reads a DIMACS CNF text and decides it. Prints `s SATISFIABLE` and a `v` line with the model, status 10, or `s
+/// UNSATISFIABLE`, status 20; or `s UNKNOWN`, status 0, where the steps are spent before that is known. A fault of the
+/// text, its source or the writer, and out of memory, is told on `err`, and the status is 2. Of what was printed
+/// something is said only for a writer whose contents are known. The source has to have counted fewer than 2^64-1
+/// faults.
 pub fn solve_lines<A: Allocator + Copy, S: ByteSource, W: Write, E: Write>(
     alloc: A,
     cnf: &mut S,
@@ -65,7 +71,8 @@ pub fn solve_lines<A: Allocator + Copy, S: ByteSource, W: Write, E: Write>(
     err: &mut E,
 ) -> u8
     requires { (S.stand cnf.old).faults < 2 ^ 64 - 1 }
-    // Any other status is given only after the source gave a whole text, which was decided if the steps allowed it, and the outcome printed.
+    // Any other status is given only after the source gave a whole text, which was decided if the steps allowed it, and
+    // the outcome printed.
     ensures outcome { (result ≡ fault_status) ⊎ ((conclusion : Conclusion) × Decides (allowed_steps options.max_steps) (S.stand cnf.old) (S.stand cnf.new) conclusion × (result ≡ conclusion_status conclusion) × Appends (W.contents out.old) (W.contents out.new) (conclusion_text conclusion)) }
     ensures truth { StatusIsTrue (S.stand cnf.old) (S.stand cnf.new) result }
 {

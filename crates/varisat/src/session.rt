@@ -30,7 +30,8 @@ pub enum Call<S: ByteSource, A: Allocator + Copy> {
     CloseProof,
 }
 
-/// What a call returned. A source is given back with the answer, and a proof's target where its proof is closed. A core is a copy.
+/// What a call returned. A source is given back with the answer, and a proof's target where its proof is closed. A core
+/// is a copy.
 #[derive(Drop)]
 pub enum Answer<W: ProofTarget, S: ByteSource, A: Allocator + Copy> {
     AddClause(Result<(), SolverError>),
@@ -74,7 +75,8 @@ pub fn make_call<W: ProofTarget, S: ByteSource, A: Allocator + Copy>(
     }
 }
 
-/// Makes the calls in turn, and returns their answers in this order. Err comes only before the first call, where the list of answers was refused. Each source has to have counted fewer than 2^64-1 faults.
+/// Makes the calls in turn, and returns their answers in this order. Err comes only before the first call, where the
+/// list of answers was refused. Each source has to have counted fewer than 2^64-1 faults.
 pub fn run<W: ProofTarget, S: ByteSource, A: Allocator + Copy>(
     solver: &mut Solver<W, A>,
     calls: Vec<Call<S, A>, A>,
@@ -90,7 +92,9 @@ pub fn run<W: ProofTarget, S: ByteSource, A: Allocator + Copy>(
     Ok(answers)
 }
 
-/// The answers of a new solver to the calls. Each is true of what the calls and answers before it say: of the clauses that were accepted until then, those of formulas and texts among them, and of the names in use. Of sources the same is asked as by `run`.
+/// The answers of a new solver to the calls. Each is true of what the calls and answers before it say: of the clauses
+/// that were accepted until then, those of formulas and texts among them, and of the names in use. Of sources the same
+/// is asked as by `run`.
 pub fn answers_of<W: ProofTarget, S: ByteSource, A: Allocator + Copy>(
     calls: Vec<Call<S, A>, A>,
 ) -> Result<Vec<Answer<W, S, A>, A>, AllocError>

@@ -152,11 +152,11 @@ pub struct Solver<W: ProofTarget, A: Allocator + Copy> {
     variables: Variables<A>,
     // The clause or the assumptions that are being accepted, over solver variables, and a core over names.
     literals: Vec<Lit, A>,
-    // Whether a clause, a variable or a list of assumptions was accepted. `write_proof`, which is to open a proof, will be refused from then on;
-    // no other call reads it.
+    // Whether a clause, a variable or a list of assumptions was accepted. `write_proof`, which is to open a proof, will
+    // be refused from then on; no other call reads it.
     started: bool,
-    // Where an open proof goes: `write_proof` will set it, `add_clause` and `solve` will write to it, and `close_proof` will
-    // give it back. No call reads it yet.
+    // Where an open proof goes: `write_proof` will set it, `add_clause` and `solve` will write to it, and `close_proof`
+    // will give it back. No call reads it yet.
     target: Option<W>,
 }
 
@@ -198,7 +198,8 @@ impl<W: ProofTarget, A: Allocator + Copy> Solver<W, A> {
         }
     }
 
-    /// Changes the settings for which the update has values. Refused in an invalid solver, and where a value is out of its range: then nothing changes, and the first such setting is told.
+    /// Changes the settings for which the update has values. Refused in an invalid solver, and where a value is out of
+    /// its range: then nothing changes, and the first such setting is told.
     pub fn config(&mut self, update: &SolverConfigUpdate) -> Result<(), SolverError>
         ensures { (s : State) → StandsFor self.old s → (t : State) × Configures s update.now result t × StandsFor self.new t }
     {
@@ -219,14 +220,17 @@ impl<W: ProofTarget, A: Allocator + Copy> Solver<W, A> {
         self.ctx.schedule.steps()
     }
 
-    /// False once memory ran out in a call that changes the solver. From then on the other calls are refused, and `model` tells nothing.
+    /// False once memory ran out in a call that changes the solver. From then on the other calls are refused, and
+    /// `model` tells nothing.
     pub fn is_valid(&self) -> bool
         ensures { (s : State) → StandsFor self.now s → (t : State) × TellsValid s result t × StandsFor self.now t }
     {
         !self.ctx.solver_state.state_is_invalid
     }
 
-    /// Accepts a clause, and brings its names into use. Once the clauses are known to be unsatisfiable a clause is accepted without a change. Refused in an invalid solver; where a name is past the limit of 2^28 names, and then nothing changes; and where memory runs out.
+    /// Accepts a clause, and brings its names into use. Once the clauses are known to be unsatisfiable a clause is
+    /// accepted without a change. Refused in an invalid solver; where a name is past the limit of 2^28 names, and then
+    /// nothing changes; and where memory runs out.
     pub fn add_clause(&mut self, clause: &[Lit]) -> Result<(), SolverError>
         ensures { (s : State) → StandsFor self.old s → (t : State) × AddsClause s clause.now result t × StandsFor self.new t }
     {
@@ -256,7 +260,8 @@ impl<W: ProofTarget, A: Allocator + Copy> Solver<W, A> {
         }
     }
 
-    /// Accepts the clauses of a formula in turn, up to the first that is refused. Those before it stay. Refused as a clause is.
+    /// Accepts the clauses of a formula in turn, up to the first that is refused. Those before it stay. Refused as a
+    /// clause is.
     pub fn add_formula<B: Allocator + Copy>(
         &mut self,
         formula: &CnfFormula<B>,
@@ -295,7 +300,9 @@ impl<W: ProofTarget, A: Allocator + Copy> Solver<W, A> {
         }
     }
 
-    /// Accepts the clauses of a DIMACS CNF text in turn, up to the first that is refused or the text's first fault, which is then returned, whatever the pieces in which the source gives the text. The clauses before it stay. Out of memory in the reader is returned as in any call.
+    /// Accepts the clauses of a DIMACS CNF text in turn, up to the first that is refused or the text's first fault,
+    /// which is then returned, whatever the pieces in which the source gives the text. The clauses before it stay. Out
+    /// of memory in the reader is returned as in any call.
     pub fn add_dimacs_cnf<S: ByteSource>(&mut self, source: &mut S) -> Result<(), SolverError>
         requires { (S.stand source.old).faults < 2 ^ 64 - 1 }
         ensures { (s : State) → StandsFor self.old s → (t : State) × AddsDimacs s (S.stand source.old) result (S.stand source.new) t × StandsFor self.new t }
@@ -406,7 +413,8 @@ impl<W: ProofTarget, A: Allocator + Copy> Solver<W, A> {
         }
     }
 
-    /// The names in use in increasing order with the values that were found, if the last thing that was found out is that the clauses are satisfiable; else None, as in an invalid solver. Where memory runs out nothing changes.
+    /// The names in use in increasing order with the values that were found, if the last thing that was found out is
+    /// that the clauses are satisfiable; else None, as in an invalid solver. Where memory runs out nothing changes.
     pub fn model(&self) -> Result<Option<Vec<Lit, A>>, AllocError>
         ensures call { (s : State) → StandsFor self.now s → (t : State) × TellsModel s (told_list result) t × StandsFor self.now t }
         ensures completable { (m : List ℕ) → told_list result ≡ Ok (Some m) → (s : State) → StandsFor self.now s → IsCompletable s m }
@@ -425,7 +433,9 @@ impl<W: ProofTarget, A: Allocator + Copy> Solver<W, A> {
         }
     }
 
-    /// Some of the assumptions, which no assignment makes true together with the accepted clauses, if the last thing that was found out is that these are unsatisfiable under the assumptions; an empty list where the clauses alone are; else None, as in an invalid solver.
+    /// Some of the assumptions, which no assignment makes true together with the accepted clauses, if the last thing
+    /// that was found out is that these are unsatisfiable under the assumptions; an empty list where the clauses alone
+    /// are; else None, as in an invalid solver.
     pub fn failed_core(&self) -> Option<&[Lit]>
         ensures call { (s : State) → StandsFor self.now s → (t : State) × TellsCore s (Ok (lent_list result)) t × StandsFor self.now t }
         ensures fails { (core : List ℕ) → lent_list result ≡ Some core → (s : State) → StandsFor self.now s → AreNamesInUse s core × IsFailedCore s.clauses s.assumptions (map (through_names s) core) }

@@ -26,9 +26,10 @@ use varisat_search::context::Context;
 use varisat_search::schedule::schedule_step;
 use varisat_search::state::SatState;
 
-/// Makes steps until it is known whether some assignment satisfies the clauses and makes the assumptions true, and returns
-/// that. None where `max_steps` steps were made before, or no more can be counted. Between two restarts each step raises the rank of the trail, and
-/// the intervals between restarts follow the Luby sequence: so the steps come to an end.
+/// Makes steps until it is known whether some assignment satisfies the clauses and makes the assumptions true, and
+/// returns that. None where `max_steps` steps were made before, or no more can be counted. Between two restarts each
+/// step raises the rank of the trail, and the intervals between restarts follow the Luby sequence: so the steps come to
+/// an end.
 fn find_verdict<A: Allocator + Copy>(
     ctx: &mut Context<A>,
     max_steps: u64,

@@ -1,7 +1,7 @@
 //! The activities of the clauses, in whole numbers.
 //!
-//! A bump raises a clause's activity by the increment, and a decay raises the increment. Before numbers come near to 2^32
-//! all are shifted, so that their order stays.
+//! A bump raises a clause's activity by the increment, and a decay raises the increment. Before numbers come near to
+//! 2^32 all are shifted, so that their order stays.
 ghost use Rattle.std.specs.Prelude.{◌≡◌, ℕ, ◌+◌, ◌*◌, ◌/◌, ◌^◌, ◌<◌, ◌≤◌, length, max, true, false};
 ghost use Rattle.varisat_clause.specs.Stored.{IsPlace, header_at};
 ghost use Rattle.varisat_clause.specs.Stores.{clauses_of, IsSound, Holds};

@@ -61,8 +61,8 @@ pub fn collected<A: Allocator + Copy>(
     Ok((new_alloc, new_db))
 }
 
-/// Collects the garbage where it is more than half of the words, and says whether it did. All places may be others then.
-/// A refused growth changes nothing.
+/// Collects the garbage where it is more than half of the words, and says whether it did. All places may be others
+/// then. A refused growth changes nothing.
 pub fn collect_garbage<A: Allocator + Copy>(
     alloc: &mut ClauseAlloc<A>,
     db: &mut ClauseDb<A>,

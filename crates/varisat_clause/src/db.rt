@@ -313,8 +313,8 @@ pub fn delete_clause<A: Allocator + Copy>(
     alloc.set_header(cref, header);
 }
 
-/// Deletes a clause that is not deleted unless it is the reason of its first literal, as the caller says. Returns whether
-/// it was deleted.
+/// Deletes a clause that is not deleted unless it is the reason of its first literal, as the caller says. Returns
+/// whether it was deleted.
 pub fn try_delete_clause<A: Allocator + Copy>(
     alloc: &mut ClauseAlloc<A>,
     db: &mut ClauseDb<A>,

@@ -10,8 +10,8 @@ use crate::alloc::{ClauseAlloc, ClauseRef};
 use crate::db::{ClauseDb, delete_clause};
 use std::alloc::Allocator;
 
-/// What decides of each clause whether it stays, and may change it before: its literals, their number, its header but for
-/// the tier and the flag deleted.
+/// What decides of each clause whether it stays, and may change it before: its literals, their number, its header but
+/// for the tier and the flag deleted.
 pub trait ClauseFilter<A: Allocator + Copy> {
     /// Why it comes to no decision.
     type Error;
@@ -58,8 +58,8 @@ fn filter_clause<A: Allocator + Copy, F: ClauseFilter<A>>(
     Ok(())
 }
 
-/// Lets the filter come to the clauses that are not deleted, in order, and deletes those of which it says that they do not
-/// stay. An error of the filter ends the pass: the clauses behind stay as they are.
+/// Lets the filter come to the clauses that are not deleted, in order, and deletes those of which it says that they do
+/// not stay. An error of the filter ends the pass: the clauses behind stay as they are.
 pub fn filter_clauses<A: Allocator + Copy, F: ClauseFilter<A>>(
     alloc: &mut ClauseAlloc<A>,
     db: &mut ClauseDb<A>,

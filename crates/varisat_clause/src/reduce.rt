@@ -1,4 +1,5 @@
-//! The reductions of the redundant clauses, as far as they concern the store, and the list of a tier brought up to date.
+//! The reductions of the redundant clauses, as far as they concern the store, and the list of a tier brought up to
+//! date.
 ghost use Rattle.std.specs.Prelude.{◌≡◌, ℕ, ◌+◌, ◌*◌, ◌/◌, ◌^◌, ◌<◌, ◌≤◌, length, slice_index, take, map, true, false, OnOk, OnErr, IfOk, not, ◌&&◌};
 ghost use Rattle.std.specs.List.Sorted.{IsPermutation, IsNonDecreasingBy};
 ghost use Rattle.varisat_clause.specs.Tiers.{is_tier};

@@ -103,7 +103,8 @@ fn solve(rt: &HostRuntime, path: &str, options: SolveOptions) -> u8 {
     }
 }
 
-// Decides the text that a file gives. Nobody knows its bytes beforehand, but the status is right for those that were read.
+// Decides the text that a file gives. Nobody knows its bytes beforehand, but the status is right for those that were
+// read.
 fn decide_file<W: Write, E: Write>(
     rt: &HostRuntime,
     cnf: &mut ReadSource<File>,
@@ -135,7 +136,8 @@ fn check(rt: &HostRuntime, cnf_path: &str, proof_path: &str, format: ProofFormat
     }
 }
 
-// Checks the proof that a file gives. The status is 0 only where no assignment satisfies the clauses of the text that was read.
+// Checks the proof that a file gives. The status is 0 only where no assignment satisfies the clauses of the text that
+// was read.
 fn check_files<W: Write, E: Write>(
     rt: &HostRuntime,
     cnf: &mut ReadSource<File>,

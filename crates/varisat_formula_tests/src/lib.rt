@@ -1,4 +1,5 @@
-//! Tests of what no contract says, over literals, formulas, texts and their sources and targets: worked rows, printed texts, each growth refused, readers and writers that fail.
+//! Tests of what no contract says, over literals, formulas, texts and their sources and targets: worked rows, printed
+//! texts, each growth refused, readers and writers that fail.
 #![tactic(auto)]
 
 #[cfg(test)]

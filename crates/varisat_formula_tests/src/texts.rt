@@ -34,8 +34,8 @@ impl Read for CutReader {
     }
 }
 
-/// What a text gives: the clauses that ended, by their literals' numbers, the count of variables, and the fault by its line
-/// and kind.
+/// What a text gives: the clauses that ended, by their literals' numbers, the count of variables, and the fault by its
+/// line and kind.
 #[derive(Clone, Copy)]
 struct Outcome {
     clauses: &'static [&'static [isize]],
@@ -171,7 +171,8 @@ fn parses<R: Read + Drop>(alloc: Global, reader: R, outcome: &Outcome) -> bool {
     }
 }
 
-/// Whether `parse_incremental`, with a function that takes nothing, returns a parser that has the formula, or the fault.
+/// Whether `parse_incremental`, with a function that takes nothing, returns a parser that has the formula, or the
+/// fault.
 fn parses_in_pieces<R: Read + Drop>(alloc: Global, reader: R, outcome: &Outcome) -> bool {
     let parsed: Result<DimacsParser<Global>, DimacsError> = DimacsParser::parse_incremental(
         alloc,
@@ -484,7 +485,8 @@ fn reached_by<A: Allocator + Copy>(parser: &mut DimacsParser<A>, error: DimacsEr
     }
 }
 
-/// Reads a text of five lines, each of which has a clause, so that a fault's line tells how many clauses ended before it.
+/// Reads a text of five lines, each of which has a clause, so that a fault's line tells how many clauses ended before
+/// it.
 fn read_five<A: Allocator + Copy>(parser: &mut DimacsParser<A>) -> Reached {
     match parser.feed(b"1 0\n2 0\n3 -4 5 -6 7 0\n8 0\n9 0\n") {
         Ok(()) if parser.finish().is_ok() && parser.take_formula().len() == 5 => Reached::Ended,

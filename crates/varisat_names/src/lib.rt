@@ -1,4 +1,5 @@
-//! The settings of a solver, and its variables: names of the user, the global variables that they lead to, and solver variables.
+//! The settings of a solver, and its variables: names of the user, the global variables that they lead to, and solver
+//! variables.
 #![tactic(auto)]
 
 pub mod config;

@@ -1,6 +1,7 @@
 //! Names of the user, global variables and solver variables, and what is kept of each global variable.
 //!
-//! A name that is in use leads to a global variable, and a global variable that the search speaks of to a solver variable.
+//! A name that is in use leads to a global variable, and a global variable that the search speaks of to a solver
+//! variable.
 ghost use Rattle.std.specs.Prelude.{◌≡◌, ◌≢◌, ◌≤◌, ◌<◌, ◌^◌, ◌+◌, ◌-◌, ℕ, false, length, Some, None, IfOk, OnOk, OnErr, IsSome, IsTrue, ◌↔◌};
 ghost use Rattle.varisat_names.specs.Maps.{chain};
 ghost use Rattle.varisat_names.specs.VarMap.{at, IsLeastUnmapped, IsFull};
@@ -168,7 +169,8 @@ impl<A: Allocator + Copy> Variables<A> {
         self.global_from_solver().get(solver).is_some()
     }
 
-    /// Brings the free name, which is not above the watermark, into use with the least global variable that is not live. Where memory is refused nothing changes.
+    /// Brings the free name, which is not above the watermark, into use with the least global variable that is not
+    /// live. Where memory is refused nothing changes.
     pub fn give_user_var(&mut self, user: Var) -> Result<Var, AllocError>
         requires free { at self.old.users.forward user ≡ None }
         requires near { user ≤ length self.old.users.forward }
@@ -195,7 +197,8 @@ impl<A: Allocator + Copy> Variables<A> {
         Ok(())
     }
 
-    /// Names the name: where it is free it comes into use, above the watermark with all names up to it. Where memory is refused some of these are in use.
+    /// Names the name: where it is free it comes into use, above the watermark with all names up to it. Where memory is
+    /// refused some of these are in use.
     pub fn name_user_var(&mut self, user: Var) -> Result<(), AllocError>
         requires globals { length self.old.kept + (user + 1 - length self.old.users.forward) < 2 ^ 31 }
         ensures named { OnOk result (IsNamed user self.old self.new) }
@@ -210,7 +213,8 @@ impl<A: Allocator + Copy> Variables<A> {
         Ok(())
     }
 
-    /// Takes the least free solver variable for a live global variable that has none. Where memory is refused nothing changes.
+    /// Takes the least free solver variable for a live global variable that has none. Where memory is refused nothing
+    /// changes.
     pub fn take_solver_var(&mut self, global: Var) -> Result<Var, AllocError>
         requires live { (kept_at self.old.kept global).deleted ≡ false }
         requires free { at self.old.solvers.forward global ≡ None }
@@ -264,7 +268,8 @@ impl<A: Allocator + Copy> Variables<A> {
         self.globals.set_data(global, kept);
     }
 
-    /// Frees the name, for `hide_var`. Its variable is hidden, or may be used again where it is isolated and has no solver variable.
+    /// Frees the name, for `hide_var`. Its variable is hidden, or may be used again where it is isolated and has no
+    /// solver variable.
     pub fn hide(&mut self, user: Var, global: Var) -> Result<(), AllocError>
         requires { at self.old.users.forward user ≡ Some global }
         ensures { OnOk result (IsHidden self.old self.new user global) }

@@ -248,8 +248,8 @@ fn collected(alloc: &mut ClauseAlloc<Global>, db: &mut ClauseDb<Global>) -> Opti
     Some(layout(alloc, done))
 }
 
-/// Whether three clauses are added, and how they lie, after the second was shortened and deleted, and after the first was
-/// deleted.
+/// Whether three clauses are added, and how they lie, after the second was shortened and deleted, and after the first
+/// was deleted.
 fn layouts_in(
     alloc: &mut ClauseAlloc<Global>,
     db: &mut ClauseDb<Global>,

@@ -110,7 +110,8 @@ fn a_filter_may_be_refused_memory(rt: HostRuntime) -> Result<(), AllocError> {
     for room in 0..10 {
         let heap = LocalHeap::new(rt.alloc(), 16 * room)?;
         let (left, is_added) = left_of(rt.alloc(), &heap);
-        // the third clause stays as it is where its literals are not noted, and the second where those of the first are not
+        // the third clause stays as it is where its literals are not noted, and the second where those of the first are
+        // not
         let third = left.lens == [Some(3), None, Some(4)] && left.garbage == 8;
         let first = left.lens == [Some(3), Some(5), Some(4)] && left.garbage == 0;
         let stopped = !left.is_done && (first || third);
@@ -150,8 +151,8 @@ fn marked_in(alloc: &mut ClauseAlloc<Global>, db: &mut ClauseDb<Global>, tier: T
     are_marked(alloc)
 }
 
-/// Four clauses become Local, then the second one Core again, and the third is deleted. Which are marked as Local and as
-/// Core, and whether all were added and moved.
+/// Four clauses become Local, then the second one Core again, and the third is deleted. Which are marked as Local and
+/// as Core, and whether all were added and moved.
 fn marks_in(alloc: &mut ClauseAlloc<Global>, db: &mut ClauseDb<Global>) -> (bool, [[bool; 4]; 2])
     requires { Tracks db.old alloc.old }
 {

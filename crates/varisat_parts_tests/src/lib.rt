@@ -1,4 +1,5 @@
-//! Tests of what no contract says, over the parts that a search and a solver are made of: worked rows, printed texts, each growth refused.
+//! Tests of what no contract says, over the parts that a search and a solver are made of: worked rows, printed texts,
+//! each growth refused.
 #![tactic(auto)]
 
 #[cfg(test)]

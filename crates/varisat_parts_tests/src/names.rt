@@ -94,7 +94,8 @@ fn is_mapped<A: Allocator + Copy>(variables: &Variables<A>) -> bool {
         && present == [true, false]
 }
 
-/// Whether the third name leads to its solver variable and back, the second to none, and what is free is as it should be.
+/// Whether the third name leads to its solver variable and back, the second to none, and what is free is as it should
+/// be.
 fn is_joined<A: Allocator + Copy>(variables: &Variables<A>) -> bool {
     let third = there_and_back(variables, var!(3));
     let second = there_and_back(variables, var!(2));

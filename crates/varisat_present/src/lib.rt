@@ -1,4 +1,5 @@
-//! The clauses that a checker of proofs has present, and unit propagation over them that keeps what it learnt between lines.
+//! The clauses that a checker of proofs has present, and unit propagation over them that keeps what it learnt between
+//! lines.
 #![tactic(auto)]
 
 mod clause;

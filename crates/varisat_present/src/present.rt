@@ -20,9 +20,9 @@ use std::marker::Model;
 use varisat_literals::{Lit, Var};
 use varisat_theory::propagation::ClauseStatus;
 
-/// Present clauses, in the order in which they were added. What they imply by propagation alone is kept between calls, so that
-/// a question costs in proportion to what is propagated for it. A deletion of the only clause that implied a kept literal, and
-/// each new literal that the clauses imply, costs a look at every clause.
+/// Present clauses, in the order in which they were added. What they imply by propagation alone is kept between calls,
+/// so that a question costs in proportion to what is propagated for it. A deletion of the only clause that implied a
+/// kept literal, and each new literal that the clauses imply, costs a look at every clause.
 #[derive(Drop)]
 pub struct PresentClauses<A: Allocator + Copy> {
     alloc: A,

@@ -1,5 +1,5 @@
-//! Unit propagation over present clauses. Watches lead to the clauses to look at. Before it is said that nothing is left to
-//! propagate all clauses are passed.
+//! Unit propagation over present clauses. Watches lead to the clauses to look at. Before it is said that nothing is
+//! left to propagate all clauses are passed.
 ghost use Rattle.std.specs.Prelude.{◌≡◌, ◌<◌, ℕ, length, IfOk, false};
 ghost use Rattle.varisat_theory.specs.Membership.{◌∈◌};
 ghost use Rattle.varisat_theory.specs.Literals.{opposite};
@@ -199,8 +199,8 @@ fn pass<A: Allocator + Copy>(
     Ok(false)
 }
 
-/// Propagates to the end. The known literals were propagated already, as far as watches lead. Returns whether a clause is
-/// false.
+/// Propagates to the end. The known literals were propagated already, as far as watches lead. Returns whether a clause
+/// is false.
 pub fn settle<A: Allocator + Copy>(
     places: &[Option<Vec<Lit, A>>],
     known: &mut Known<A>,

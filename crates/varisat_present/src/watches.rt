@@ -1,5 +1,5 @@
-//! Watched literals: which clauses to look at when a literal becomes false. They are guesses: who uses them looks at the
-//! clause, and looks at all clauses before it says that nothing is left to propagate.
+//! Watched literals: which clauses to look at when a literal becomes false. They are guesses: who uses them looks at
+//! the clause, and looks at all clauses before it says that nothing is left to propagate.
 use crate::clause::find_other;
 use crate::known::{Known, PLACE_LIMIT};
 use std::alloc::{AllocError, Allocator};

@@ -19,10 +19,11 @@ pub const STATUS_NOT_VERIFIED: u8 = 1;
 /// The status of a command that met a fault.
 pub const STATUS_FAULT: u8 = 2;
 
-/// Reads a DIMACS CNF text, and then checks a proof against its clauses. Prints `s VERIFIED`, status 0, where the proof refutes
-/// them, and `s NOT VERIFIED`, status 1, where it does not: no beginning of it conflicts, a line fails, or its bytes are no
-/// lines. A fault of the text, the sources or the writer, and out of memory, is printed on `err`, and the status is 2. The status
-/// is 0 only where no assignment satisfies the text's clauses. Each source has to have counted fewer than 2^64-1 faults.
+/// Reads a DIMACS CNF text, and then checks a proof against its clauses. Prints `s VERIFIED`, status 0, where the proof
+/// refutes them, and `s NOT VERIFIED`, status 1, where it does not: no beginning of it conflicts, a line fails, or its
+/// bytes are no lines. A fault of the text, the sources or the writer, and out of memory, is printed on `err`, and the
+/// status is 2. The status is 0 only where no assignment satisfies the text's clauses. Each source has to have counted
+/// fewer than 2^64-1 faults.
 pub fn check_lines<A: Allocator + Copy, S: ByteSource, P: ByteSource, W: Write, E: Write>(
     alloc: A,
     cnf: &mut S,

@@ -1,4 +1,5 @@
-//! Tests of what no contract says, over proofs, their bytes and their checker: worked rows, printed texts, each growth refused, sources that fail.
+//! Tests of what no contract says, over proofs, their bytes and their checker: worked rows, printed texts, each growth
+//! refused, sources that fail.
 #![tactic(auto)]
 
 #[cfg(test)]

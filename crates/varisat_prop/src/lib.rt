@@ -1,4 +1,5 @@
-//! The parts of a search that propagate: the kept clauses, the assignment, the trail, the implication graph and the lists of watches.
+//! The parts of a search that propagate: the kept clauses, the assignment, the trail, the implication graph and the
+//! lists of watches.
 #![tactic(auto)]
 
 pub mod binary;

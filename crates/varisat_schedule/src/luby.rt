@@ -1,4 +1,5 @@
-//! The Luby sequence (sequence A182105 of the On-Line Encyclopedia of Integer Sequences), by the walk that Knuth gave there.
+//! The Luby sequence (sequence A182105 of the On-Line Encyclopedia of Integer Sequences), by the walk that Knuth gave
+//! there.
 ghost use Rattle.std.specs.Prelude.{◌≡◌, ◌-◌, ◌^◌, ◌<◌, suc};
 ghost use Rattle.varisat_theory.specs.Luby.{luby};
 

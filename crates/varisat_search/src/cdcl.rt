@@ -47,8 +47,8 @@ pub enum FoundConflict {
     Assumption,
 }
 
-/// Decides the next assumption, or another literal once each assumption has a level. Returns false where nothing is left
-/// to decide.
+/// Decides the next assumption, or another literal once each assumption has a level. Returns false where nothing is
+/// left to decide.
 fn decide<A: Allocator + Copy>(
     ctx: &mut Context<A>,
 ) -> Result<Result<bool, FoundConflict>, AllocError>

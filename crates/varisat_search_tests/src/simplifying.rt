@@ -59,8 +59,8 @@ fn simplified(alloc: Global) -> Result<([Option<usize>; 4], usize, usize, bool),
     ))
 }
 
-// 1 implies 2, and that 6. The first stored clause becomes one of two literals, the second loses a literal, and the third
-// is true.
+// 1 implies 2, and that 6. The first stored clause becomes one of two literals, the second loses a literal, and the
+// third is true.
 #[test]
 fn clauses_are_simplified(rt: HostRuntime) -> Result<(), Fail> {
     let wanted = ([None, Some(3), None, Some(3)], 2, 12, true);

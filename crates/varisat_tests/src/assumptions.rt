@@ -1,5 +1,5 @@
-//! Assumptions and failed cores: the exact cores of small formulas, and random lists beside new solvers that have them as
-//! unit clauses.
+//! Assumptions and failed cores: the exact cores of small formulas, and random lists beside new solvers that have them
+//! as unit clauses.
 use std::alloc::Global;
 use varisat::solver::{Solver, SolverError};
 use varisat_formula::formula::{Lit, Var};

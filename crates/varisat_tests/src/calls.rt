@@ -37,7 +37,8 @@ fn are_lines(alloc: Global, answers: &[TextAnswer], wanted: &[u8]) -> bool {
     is_written & (out.as_slice() == wanted)
 }
 
-// Adds a small session: a clause, a formula, a text that breaks off, a variable, the settings, the question, the steps, the model, the flag, and the end of a proof that is not open.
+// Adds a small session: a clause, a formula, a text that breaks off, a variable, the settings, the question, the steps,
+// the model, the flag, and the end of a proof that is not open.
 fn push_calls(
     calls: &mut Vec<TextCall>,
     clause: Vec<Lit>,
@@ -79,7 +80,9 @@ fn bad_update() -> SolverConfigUpdate {
     update
 }
 
-// Adds a session of refusals: a text with a fault in its middle and a good one, a formula with a name past the limit and settings out of range. What stands before a fault stays, and refused settings change nothing, so the budget is not spent.
+// Adds a session of refusals: a text with a fault in its middle and a good one, a formula with a name past the limit
+// and settings out of range. What stands before a fault stays, and refused settings change nothing, so the budget is
+// not spent.
 fn push_refused_calls(
     calls: &mut Vec<TextCall>,
     formula: CnfFormula<Global>,

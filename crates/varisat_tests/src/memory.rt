@@ -5,7 +5,8 @@ use varisat::solver::{Solver, SolverError};
 use varisat_formula::io::{MemoryTarget, ReadSource};
 use varisat_literals::lits;
 
-// What a clause, a text and two searches were answered, by the refusals' numbers and 0 where there was none; whether the solver is valid then; and whether there is a model, or none where its list was refused.
+// What a clause, a text and two searches were answered, by the refusals' numbers and 0 where there was none; whether
+// the solver is valid then; and whether there is a model, or none where its list was refused.
 type Outcome = ([u8; 4], bool, Option<bool>);
 
 // What can happen: once memory ran out in a call that changes the solver, it is invalid.

@@ -88,7 +88,8 @@ const SESSIONS: [(&str, &str); 15] = [
     ),
 ];
 
-// Sessions with ample memory alone: they ask for the steps, which an invalid solver tells too, have settings, or take much memory.
+// Sessions with ample memory alone: they ask for the steps, which an invalid solver tells too, have settings, or take
+// much memory.
 const AMPLE_SESSIONS: [(&str, &str); 9] = [
     (
         "steps\nsolve\nsteps\nsolve\nsteps\n",

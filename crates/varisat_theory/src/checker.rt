@@ -121,7 +121,8 @@ fn copies(alloc: Global, clauses: &[Vec<u32>]) -> Result<Vec<Vec<u32>>, AllocErr
     Ok(made)
 }
 
-/// Checks the lines in turn. Once propagation over what is present conflicts, also before the first line, later lines are not looked at. The only error is out of memory.
+/// Checks the lines in turn. Once propagation over what is present conflicts, also before the first line, later lines
+/// are not looked at. The only error is out of memory.
 pub fn check_lines(
     alloc: Global,
     clauses: &[Vec<u32>],

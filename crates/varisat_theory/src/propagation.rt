@@ -103,7 +103,8 @@ pub fn conflicts(alloc: Global, clauses: &[Vec<u32>], base: &[u32]) -> Result<bo
     }
 }
 
-/// Whether the clause follows: propagation conflicts once its literals are taken as false. The only error is out of memory.
+/// Whether the clause follows: propagation conflicts once its literals are taken as false. The only error is out of
+/// memory.
 pub fn follows(alloc: Global, clauses: &[Vec<u32>], clause: &[u32]) -> Result<bool, AllocError>
     ensures { IfOk result (λ found. IsTrue found ↔ Follows (clause_lists clauses.now) clause.now) }
 {

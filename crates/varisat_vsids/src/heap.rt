@@ -1,4 +1,5 @@
-//! A binary heap of variables in two slices: the variables, of which the first `len` are the heap, and the position of each.
+//! A binary heap of variables in two slices: the variables, of which the first `len` are the heap, and the position of
+//! each.
 ghost use Rattle.std.specs.Prelude.{◌≡◌, ◌≢◌, ℕ, ◌+◌, ◌-◌, ◌<◌, ◌≤◌, length, slice_index, slice_set, IfSome, IfNone, true, false};
 ghost use Rattle.varisat_vsids.specs.Heaps.{IsLinked, IsHeap, IsHeapBut, IsGreaterChild, availability, parent, key};
 

@@ -79,7 +79,8 @@ impl<A: Allocator + Copy> Vsids<A> {
         self.activity.len()
     }
 
-    /// Raises the count of variables. The new ones have activity 0 and are not available. A refused growth changes nothing.
+    /// Raises the count of variables. The new ones have activity 0 and are not available. A refused growth changes
+    /// nothing.
     pub fn set_var_count(&mut self, count: usize) -> Result<(), AllocError>
         requires raised { length self.old.activity ≤ count }
         requires small { count ≤ variable_limit }

@@ -35,9 +35,9 @@ pub trait PieceReader<A: Allocator + Copy>: Drop {
         ensures answer { fault_of result ≡ (progress self.new).reading.fault }
         ensures over { (progress self.new).over ≡ true };
 
-    /// Begins a text and reads the source piece by piece to its end. Calls `f` with the reader after each piece that has
-    /// bytes, and after the end of the text, where the reader has no fault; it goes on as `f` left it. The first fault, or
-    /// the first error of `f`, ends it and is returned. Else the reader is returned as `f` left it.
+    /// Begins a text and reads the source piece by piece to its end. Calls `f` with the reader after each piece that
+    /// has bytes, and after the end of the text, where the reader has no fault; it goes on as `f` left it. The first
+    /// fault, or the first error of `f`, ends it and is returned. Else the reader is returned as `f` left it.
     final fn parse_incremental<
         S: ByteSource,
         E: From<DimacsError>,

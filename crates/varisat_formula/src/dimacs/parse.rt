@@ -12,8 +12,8 @@ use std::alloc::Allocator;
 pub(crate) const PIECE: usize = 0x2000;
 
 impl<A: Allocator + Copy> DimacsParser<A> {
-    /// Reads the next piece of the source, with room for it in the buffer. Returns false at the source's end, and the fault of
-    /// the text or the source, if there is one.
+    /// Reads the next piece of the source, with room for it in the buffer. Returns false at the source's end, and the
+    /// fault of the text or the source, if there is one.
     pub fn next_piece<S: ByteSource>(
         &mut self,
         source: &mut S,

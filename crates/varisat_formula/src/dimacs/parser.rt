@@ -27,8 +27,8 @@ pub enum Place {
     Plain(Word),
 }
 
-/// A reader of DIMACS CNF text, which may come in any pieces. Beside the clauses that ended and the open clause it takes
-/// no memory.
+/// A reader of DIMACS CNF text, which may come in any pieces. Beside the clauses that ended and the open clause it
+/// takes no memory.
 #[derive(Drop)]
 pub struct DimacsParser<A: Allocator + Copy> {
     line: u64,
@@ -186,9 +186,9 @@ impl<A: Allocator + Copy> DimacsParser<A> {
         Ok(())
     }
 
-    /// Reads the next piece of the text, and returns its first fault, from then on always the same. After `finish` the text
-    /// is over, and no bytes are taken. `OutOfMemory` is returned where a growth was refused, with the line of the token that
-    /// could not be kept.
+    /// Reads the next piece of the text, and returns its first fault, from then on always the same. After `finish` the
+    /// text is over, and no bytes are taken. `OutOfMemory` is returned where a growth was refused, with the line of the
+    /// token that could not be kept.
     pub fn feed(&mut self, piece: &[u8]) -> Result<(), DimacsError>
         ensures reads { AdvancesBy self.old piece.now self.new ⊎ RunsOutIn self.old piece.now self.new }
         ensures answer { fault_of result ≡ self.new.reading.fault }
@@ -222,8 +222,8 @@ impl<A: Allocator + Copy> DimacsParser<A> {
         }
     }
 
-    /// The text breaks off, since its source failed: the fault `Io` in the line that was reached. A text that has a fault or
-    /// is over stays as it is. Returns the first fault, or this one.
+    /// The text breaks off, since its source failed: the fault `Io` in the line that was reached. A text that has a
+    /// fault or is over stays as it is. Returns the first fault, or this one.
     pub fn break_off(&mut self) -> DimacsError
         ensures reading { self.new.reading ≡ gives_from (BreaksOff Io) self.old [] }
         ensures answer { result ≡ failing self.old }

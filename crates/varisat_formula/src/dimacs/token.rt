@@ -1,5 +1,5 @@
-//! Tokens, a byte at a time. A piece may end inside a token; what its bytes say so far is kept in place of the bytes, so that
-//! a token of any length takes no memory, also one with a fault.
+//! Tokens, a byte at a time. A piece may end inside a token; what its bytes say so far is kept in place of the bytes,
+//! so that a token of any length takes no memory, also one with a fault.
 ghost use Rattle.std.specs.Prelude.{◌≡◌, ◌<◌, ◌≤◌, ◌^◌, ℕ, Some};
 ghost use Rattle.varisat_formula.specs.Dimacs.{positive, negative, in_range, is_digit, is_blank};
 ghost use Rattle.varisat_formula.specs.Machine.{after_digit, grown, after_byte, is_none, is_empty, word_says, no_word};

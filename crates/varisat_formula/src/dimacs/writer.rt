@@ -72,9 +72,9 @@ fn write_header<W: ProofTarget>(target: &mut W, vars: usize, clauses: usize) -> 
     )
 }
 
-/// Writes the formula as DIMACS CNF text: the header with its count of variables and of clauses, and then each clause on a
-/// line of its own. A fault is the target's, and a beginning of the text then stands in the target. What is written for up
-/// to 2^28 variables is read back as the same clauses and count of variables.
+/// Writes the formula as DIMACS CNF text: the header with its count of variables and of clauses, and then each clause
+/// on a line of its own. A fault is the target's, and a beginning of the text then stands in the target. What is
+/// written for up to 2^28 variables is read back as the same clauses and count of variables.
 pub fn write_dimacs<W: ProofTarget, A: Allocator + Copy>(
     target: &mut W,
     formula: &CnfFormula<A>,

@@ -10,11 +10,12 @@ use std::marker::Model;
 
 /// Gives bytes in pieces, and counts its faults.
 pub trait ByteSource: Drop {
-    /// The bytes that it gave and those that are left, the pieces that may come, the faults, and whether it told its end.
+    /// The bytes that it gave and those that are left, the pieces that may come, the faults, and whether it told its
+    /// end.
     ghost stand: { Self → Stand };
 
-    /// Writes the next bytes into the buffer from its front on, and returns how many: 0 for a buffer that is not empty is
-    /// the end.
+    /// Writes the next bytes into the buffer from its front on, and returns how many: 0 for a buffer that is not empty
+    /// is the end.
     fn fill(&mut self, buffer: &mut [u8]) -> io::Result<usize>
         requires { (stand self.old).faults < 2 ^ 64 - 1 }
         ensures bound { IfOk result (λ n. n ≤ length buffer.new) }
@@ -78,8 +79,8 @@ impl<R: Read + Drop> ReadSource<R> {
 impl<R: Read + Drop> ByteSource for ReadSource<R> {
     ghost stand = { λ s. s };
 
-    /// A piece that has bytes lowers the pieces left by one, and no other call changes them. With none left the call returns
-    /// Err.
+    /// A piece that has bytes lowers the pieces left by one, and no other call changes them. With none left the call
+    /// returns Err.
     fn fill(&mut self, buffer: &mut [u8]) -> io::Result<usize>
         requires { self.old.faults < 2 ^ 64 - 1 }
         ensures bound { IfOk result (λ n. n ≤ length buffer.new) }

@@ -56,7 +56,8 @@ impl<A: Allocator + Copy> NameSpace<A> {
         }
     }
 
-    /// The free name, which is not above the watermark, leads to the variable, which has no name. Where memory is refused nothing changes.
+    /// The free name, which is not above the watermark, leads to the variable, which has no name. Where memory is
+    /// refused nothing changes.
     pub fn give(&mut self, variable: Var, name: Var) -> Result<(), AllocError>
         requires name_is_free { at self.old.forward name ≡ None }
         requires near { name ≤ length self.old.forward }

@@ -176,8 +176,8 @@ impl<A: Allocator + Copy> Checker<A> {
         }
     }
 
-    /// Adds the clauses of a DIMACS CNF text in turn, without a check. The text's first fault is returned, and the clauses that
-    /// ended before it stay. Where memory runs out, also in the reader, the checker is spent.
+    /// Adds the clauses of a DIMACS CNF text in turn, without a check. The text's first fault is returned, and the
+    /// clauses that ended before it stay. Where memory runs out, also in the reader, the checker is spent.
     pub fn add_dimacs_cnf<S: ByteSource>(&mut self, source: &mut S) -> Result<(), CheckerError>
         requires { (S.stand source.old).faults < 2 ^ 64 - 1 }
         ensures { AddsText (record { checker = self.old; source = S.stand source.old }) result (record { checker = self.new; source = S.stand source.new }) }
@@ -202,7 +202,8 @@ impl<A: Allocator + Copy> Checker<A> {
         self.end_text(&mut parser)
     }
 
-    /// Takes out the clauses with a literal of the variable, without a check. It takes no memory; a spent checker refuses it.
+    /// Takes out the clauses with a literal of the variable, without a check. It takes no memory; a spent checker
+    /// refuses it.
     pub fn delete_var(&mut self, var: Var) -> Result<(), CheckerError>
         ensures taken { self.old.spent ≡ false → (result ≡ Ok tt) × (self.new ≡ record self.old { clauses = without var self.old.clauses }) }
         ensures refused { self.old.spent ≡ true → (result ≡ Err Spent) × (self.new ≡ self.old) }
@@ -406,8 +407,8 @@ impl<A: Allocator + Copy> Checker<A> {
         }
     }
 
-    /// Checks one step, whether or not propagation over the present clauses conflicts, and takes its lines. Where a line
-    /// fails the clauses are those that the step's lines before left; the error has the line's number in the step.
+    /// Checks one step, whether or not propagation over the present clauses conflicts, and takes its lines. Where a
+    /// line fails the clauses are those that the step's lines before left; the error has the line's number in the step.
     pub fn check_step(&mut self, step: &ProofStep<'_>) -> Result<(), CheckerError>
         ensures { IsStep self.old step.now result self.new }
     {
@@ -441,11 +442,11 @@ impl<A: Allocator + Copy> Checker<A> {
         self.spent = self.spent || spends;
     }
 
-    /// Checks all of the source as one proof. As soon as propagation over the present clauses conflicts, also before the first
-    /// line, the verdict will be Refutation, and later lines are only read. The first fault in the order of the bytes is
-    /// returned: a line that fails, or a token that does not fit. After `CheckFailed` and `NoSuchClause` the clauses are those
-    /// that the lines before left; after `Parse`, `Io` and `OutOfMemory` the checker is spent. Refutation implies that no
-    /// assignment satisfies the clauses that were present as the call began.
+    /// Checks all of the source as one proof. As soon as propagation over the present clauses conflicts, also before
+    /// the first line, the verdict will be Refutation, and later lines are only read. The first fault in the order of
+    /// the bytes is returned: a line that fails, or a token that does not fit. After `CheckFailed` and `NoSuchClause`
+    /// the clauses are those that the lines before left; after `Parse`, `Io` and `OutOfMemory` the checker is spent.
+    /// Refutation implies that no assignment satisfies the clauses that were present as the call began.
     pub fn check_proof<S: ByteSource>(
         &mut self,
         source: &mut S,

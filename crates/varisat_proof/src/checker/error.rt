@@ -13,8 +13,8 @@ pub enum CheckVerdict {
     Derivation,
 }
 
-/// Why a call of a checker was refused. Steps are the call's lines counted from 1, offsets its bytes counted from 0. Both
-/// stay at 2^64-1 once they are there.
+/// Why a call of a checker was refused. Steps are the call's lines counted from 1, offsets its bytes counted from 0.
+/// Both stay at 2^64-1 once they are there.
 #[derive(Debug, Drop, Error)]
 pub enum CheckerError {
     /// The line adds a clause that does not follow. The clauses are those that the lines before left.
@@ -23,7 +23,8 @@ pub enum CheckerError {
     /// The line deletes a clause that is not present. The clauses are those that the lines before left.
     #[error("Step {step} deletes no clause")]
     NoSuchClause { step: u64 },
-    /// The bytes are no lines: the token at the offset does not fit, or they end there inside a line. The checker is spent.
+    /// The bytes are no lines: the token at the offset does not fit, or they end there inside a line. The checker is
+    /// spent.
     #[error("Error in the proof at byte {offset}")]
     Parse { offset: u64 },
     /// The source of the proof failed. The checker is spent.

@@ -227,8 +227,8 @@ impl<A: Allocator + Copy> ProofReader<A> {
         Ok(Event::More)
     }
 
-    /// Reads the next byte. `Ended`: a line ended, which `kind` and `clause` return until the next byte is read. `Fault`:
-    /// the token from `start` on does not fit; nothing is said of what is read behind it.
+    /// Reads the next byte. `Ended`: a line ended, which `kind` and `clause` return until the next byte is read.
+    /// `Fault`: the token from `start` on does not fit; nothing is said of what is read behind it.
     pub fn byte(&mut self, b: u8) -> Result<Event, AllocError>
         ensures event { IfOk result (λ e. e ≡ happens self.old b) }
         ensures ok { OnOk result (self.new ≡ after self.old b) }
@@ -245,8 +245,8 @@ impl<A: Allocator + Copy> ProofReader<A> {
         }
     }
 
-    /// The end of the bytes. `Ended`: a line ended. `Fault`: the fault is at `last_fault`. Else the bytes ended inside a line
-    /// where `is_inside` says so.
+    /// The end of the bytes. `Ended`: a line ended. `Fault`: the fault is at `last_fault`. Else the bytes ended inside
+    /// a line where `is_inside` says so.
     pub fn finish(&mut self) -> Result<Event, AllocError>
         ensures event { IfOk result (λ e. e ≡ last_event self.old) }
         ensures ok { OnOk result (self.new ≡ record self.old { place = last_place self.old }) }

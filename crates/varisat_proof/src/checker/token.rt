@@ -29,8 +29,8 @@ pub enum Event {
     Fault,
 }
 
-/// A token as far as it was read: how many bytes, of which a token of text counts two at most; the first byte and the word of
-/// a token of text; the value of a binary number.
+/// A token as far as it was read: how many bytes, of which a token of text counts two at most; the first byte and the
+/// word of a token of text; the value of a binary number.
 #[derive(Clone, Copy)]
 pub struct Part {
     pub count: u8,

@@ -50,8 +50,8 @@ impl<A: Allocator + Copy> MapStep<A> {
         Ok(self.lits.as_slice())
     }
 
-    /// The step with `map_var` applied to the variable of each literal; `DeleteVar` is left as it is. The only error is out of
-    /// memory.
+    /// The step with `map_var` applied to the variable of each literal; `DeleteVar` is left as it is. The only error is
+    /// out of memory.
     pub fn map<'s, F: Fn(Var) -> Var>(
         &'s mut self,
         step: &ProofStep<'_>,

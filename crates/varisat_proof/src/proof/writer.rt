@@ -188,8 +188,8 @@ pub fn write_step<W: ProofTarget, A: Allocator + Copy>(
     write_lines(target, buffer, ProofFormat::Drat, step)
 }
 
-/// Writes the lines of the step in the binary format, each by one `put`. The buffer is room to put a line together. After an
-/// error a beginning of them stands in the target.
+/// Writes the lines of the step in the binary format, each by one `put`. The buffer is room to put a line together.
+/// After an error a beginning of them stands in the target.
 pub fn write_binary_step<W: ProofTarget, A: Allocator + Copy>(
     target: &mut W,
     buffer: &mut Vec<u8, A>,

@@ -37,7 +37,8 @@ impl<A: Allocator + Copy> Assignment<A> {
         }
     }
 
-    /// Raises the count of variables. The new ones have no value, and had the value false. A refused growth changes nothing.
+    /// Raises the count of variables. The new ones have no value, and had the value false. A refused growth changes
+    /// nothing.
     pub fn set_var_count(&mut self, count: usize) -> Result<(), AllocError>
         requires { length self.old.current ≤ count }
         ensures current { OnOk result (self.new.current ≡ self.old.current ++ replicate (count - length self.old.current) None) }

@@ -101,7 +101,8 @@ pub fn propagate<A: Allocator + Copy>(
     // Each literal that was added has a clause as its reason, whose other literals are false and stand before it.
     ensures propagates { OnOk result (Propagates (view_of clause_alloc.old binary_clauses.now assignment.old trail.old impl_graph.old) (view_of clause_alloc.new binary_clauses.now assignment.new trail.new impl_graph.new)) }
     ensures propagated { OnOk result (IsPropagated watchlists.new (view_of clause_alloc.new binary_clauses.now assignment.new trail.new impl_graph.new)) }
-    // At a conflict all literals of the named clause are false. Else no clause is false, none leaves a literal that isn't true, and each literal was propagated.
+    // At a conflict all literals of the named clause are false. Else no clause is false, none leaves a literal that
+    // isn't true, and each literal was propagated.
     ensures ends { IfOk result (λ end. MatchResult end
         (λ _. IsComplete (kept (view_of clause_alloc.new binary_clauses.now assignment.new trail.new impl_graph.new)) trail.new.literals × (trail.new.queue_head ≡ length trail.new.literals))
         (λ conflict. IsConflicting (view_of clause_alloc.new binary_clauses.now assignment.new trail.new impl_graph.new) conflict)) }

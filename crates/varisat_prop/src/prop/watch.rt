@@ -1,5 +1,5 @@
-//! Watch lists, by which propagation finds the clauses that a literal may have made false or unit. A clause is watched by
-//! its first two literals: it stands in the lists of their opposites.
+//! Watch lists, by which propagation finds the clauses that a literal may have made false or unit. A clause is watched
+//! by its first two literals: it stands in the lists of their opposites.
 ghost use Rattle.std.specs.Prelude.{◌≡◌, ◌<◌, ◌*◌, ◌≤◌, ◌-◌, ◌++◌, ◌∷◌, true, false, [], length, replicate, OnOk};
 ghost use Rattle.varisat_theory.specs.Membership.{◌∈◌};
 ghost use Rattle.varisat_theory.specs.Literals.{Literal, opposite};

@@ -17,7 +17,8 @@ pub fn resolvent_follows()
     ensures { ResolventFollows }
 {}
 
-/// The learned clause follows, whichever reached literals are resolved: also the one of the first unique implication point.
+/// The learned clause follows, whichever reached literals are resolved: also the one of the first unique implication
+/// point.
 pub fn learned_follows()
     ensures { LearnedFollows }
 {}

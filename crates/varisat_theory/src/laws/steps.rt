@@ -1,4 +1,5 @@
-//! What the lines of a step, of a call and of loading do to the clauses that a proof holds, and what that says of the accepted ones.
+//! What the lines of a step, of a call and of loading do to the clauses that a proof holds, and what that says of the
+//! accepted ones.
 
 ghost use Rattle.varisat_theory.specs.StepLaws.{PartsJoin, PartsJoinStep, StepIsPart, MovesProve, UnitIsProved, UnitsAreProved, SatisfiedIsDeleted, LearnedIsDeleted, ClauseIsShortened, VariableIsDropped, ClauseIsLearned, FreshIsNew, EmptyIsAdded, ContradictionIsFound, ModelIsFound, CoreIsFound, LoadedIsKept, LoadedIsUnit, LoadedIsSettled, LoadedIsDeleted, LoadedIsContradicted, PartsJoinLoad, NoStepIsMade, StepIsMade, StepsOfCall, PartsJoinSteps, StepsRefute, FirstStands, PartStands, StepStands, StepsStand, LoadStands, VerdictsAreRight, CountedDerives, KeptAreHeld, NamesAreCovered, NamesStayCovered, NamesAreLoaded, DroppedAreCovered, NamesAreSatisfied, AcceptedAreReached, OneMoreIsReached, DerivedAreReached, SameAreReached, ReachedAreSatisfied, ReachedAreRefuted, RenamedAreReached};
 

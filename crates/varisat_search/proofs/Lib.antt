@@ -54,3 +54,4 @@ pub mod FilteredUnits
 pub mod SimplifiedSearch
 pub mod SimplifiedContext
 pub mod SettledUnits
+pub mod LoadedQueue

@@ -1,5 +1,5 @@
 -- The contexts of `load_clause`.
-use Rattle.std.proofs.Common.{◌≡◌, ◌≢◌, ◌*◌, ◌<◌, false, replicate, List, [], ◌∷◌, length, ◌⊎◌, inl, inr, ⊎_elim, refl, sym, ap, ◌∙◌, subst, arith}
+use Rattle.std.proofs.Common.{◌≡◌, ◌≢◌, ◌*◌, ◌<◌, false, replicate, [], ◌∷◌, length, ◌⊎◌, inl, inr, ⊎_elim, refl, sym, ap, ◌∙◌, subst, arith}
 use Rattle.varisat_theory.specs.Membership.{◌∈◌, SameSet, IsDistinct}
 use Rattle.varisat_theory.specs.Literals.{Literal, Clause, variable_of}
 use Rattle.varisat_theory.specs.Searches.{IsTautology}
@@ -31,8 +31,8 @@ use Rattle.varisat_search.proofs.LoadLines.{restart-moves, opened, lines-tautolo
 added-verdict : (s t : View) (c : Clause) (before after : SatState) → IsAdded s t c before after → (after ≡ before) ⊎ (after ≡ verdict.Unsat)
 added-verdict s t [] before after (e, f) = inr f
 added-verdict s t (l ∷ []) before after a = ⊎_elim (λ (h, e, f). inr f) (λ (h, e, f). inl f) a
-added-verdict s t (l ∷ m ∷ []) before after (e, f) = inl f
-added-verdict s t (l ∷ m ∷ n ∷ c) before after (p, k, e, f) = inl f
+added-verdict s t (l ∷ m ∷ []) before after (h, e, f) = inl f
+added-verdict s t (l ∷ m ∷ n ∷ c) before after (p, k, h, e, f) = inl f
 
 -- The contexts of loading a clause: before, and once all decisions are undone and the clause's literals copied, each once.
 pub record Loading {A : Type 0} (x0 x1 : Context A) (c lits : Clause) : Type 0 where

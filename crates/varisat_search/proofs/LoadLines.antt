@@ -117,14 +117,14 @@ module _ (s t : View) (c lits : Clause) (w : WellFormed s) (r : Restarted s t) (
       let whole = load_part (search_of t) S1 (search_of z') c [] [] first (unit_moves t l r.well free.0 free.1 r.undecided (enqueued-well t l reason.Unit r.well free.0 free.1 r.undecided)) in
       open-verdict after z (ap loaded_outcome g ∙ u) (subst (λ y. Loads (search_of s) (search_of y) c Unknown []) (sym f) (before z' Unknown whole)))
       q
-  lines-added a z (l ∷ m ∷ []) b after u e (f, g) =
+  lines-added a z (l ∷ m ∷ []) b after u e (h, f, g) =
       let q = subst (MayBeAdded t) e a in
-      let y = record t { binary = with_pair t.binary l m; queue_head = 0 } in
+      let y = record t { binary = with_pair t.binary l m; queue_head = z.queue_head } in
       let k : KeptClause = record { clause = lits; learned = false } in
       let is : SameSet lits (l ∷ m ∷ []) = subst (SameSet lits) e (same_set-self lits) in
       kept-lines z y l m [] after e f (ap loaded_outcome g ∙ u)
       (pair-moves t y l m k (q.paired l (inl refl)) (q.paired m (inr (inl refl))) (first-other t l m [] q) is refl refl (λ x h. h) (λ x h. h))
-  lines-added a z (l ∷ m ∷ n ∷ ms) b after u e (p, i, f, g) =
-      let y = record t { clauses = t.clauses ++ loaded_at p lits ∷ []; queue_head = 0 } in
-      let f' : z ≡ y = f ∙ ap (λ x. record t { clauses = x; queue_head = 0 }) i.0 ∙ ap (λ x. record t { clauses = t.clauses ++ loaded_at p x ∷ []; queue_head = 0 }) (sym e) in
+  lines-added a z (l ∷ m ∷ n ∷ ms) b after u e (p, i, h, f, g) =
+      let y = record t { clauses = t.clauses ++ loaded_at p lits ∷ []; queue_head = z.queue_head } in
+      let f' : z ≡ y = f ∙ ap (λ x. record t { clauses = x; queue_head = z.queue_head }) i.0 ∙ ap (λ x. record t { clauses = t.clauses ++ loaded_at p x ∷ []; queue_head = z.queue_head }) (sym e) in
       kept-lines z y l m (n ∷ ms) after e f' (ap loaded_outcome g ∙ u) (long-moves t y (loaded_at p lits) refl refl (λ x h. h) (λ x h. h))

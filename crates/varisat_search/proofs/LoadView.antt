@@ -17,9 +17,10 @@ use Rattle.varisat_prop.proofs.PairAdded.{well-pair}
 use Rattle.varisat_prop.proofs.WellFormedChanges.{well-moved}
 use Rattle.varisat_search.specs.declared.state.SatState.{SatState}
 use Rattle.varisat_search.specs.Steps.{IsCut}
-use Rattle.varisat_search.specs.Loading.{loaded_at, IsAdded}
+use Rattle.varisat_search.specs.Loading.{loaded_at, IsHeadAfter, IsAdded}
 use Rattle.varisat_search.proofs.Backtrack.{cut-well, cut-propagated, was-true, fixed-cut}
 use Rattle.varisat_search.proofs.AddedClause.{with_kept, kept-well}
+use Rattle.varisat_search.proofs.LoadedQueue.{head-after}
 
 -- All decisions are undone, and what was fixed stays so.
 pub record Restarted (s t : View) : Type 0 where
@@ -89,28 +90,28 @@ pub first-other : (t : View) (l m : Literal) (c : Clause) → MayBeAdded t (l �
 first-other t l m c a e = a.distinct.0 (inl e)
 
 -- a clause of two literals is added
-pub added-pair : (s t : View) (c : Clause) (before after : SatState) (l m : Literal) → c ≡ l ∷ m ∷ [] → t ≡ record s { binary = with_pair s.binary l m; queue_head = 0 } → after ≡ before → IsAdded s t c before after
-added-pair s t c before after l m e f g = subst (λ x. IsAdded s t x before after) (sym e) (f, g)
+pub added-pair : (s t : View) (c : Clause) (before after : SatState) (l m : Literal) → c ≡ l ∷ m ∷ [] → IsHeadAfter s.values c s.queue_head t.queue_head → t ≡ record s { binary = with_pair s.binary l m; queue_head = t.queue_head } → after ≡ before → IsAdded s t c before after
+added-pair s t c before after l m e h f g = subst (λ x. IsAdded s t x before after) (sym e) (subst (λ x. IsHeadAfter s.values x s.queue_head t.queue_head) e h, f, g)
 
 -- and a longer one
-pub added-long : (s t : View) (c : Clause) (before after : SatState) (j : StoredClause) → 3 ≤ length c → j.literals ≡ c → j.header ≡ record no_header { len = length j.literals } → Keeps s.clauses t.clauses j → t ≡ record s { clauses = t.clauses; queue_head = 0 } → after ≡ before → IsAdded s t c before after
-added-long s t [] before after j n e h k f g = absurd (omega (arith, n))
-added-long s t (l ∷ []) before after j n e h k f g = absurd (omega (arith, n))
-added-long s t (l ∷ m ∷ []) before after j n e h k f g = absurd (omega (arith, n))
-added-long s t (l ∷ m ∷ o ∷ c) before after j n e h k f g =
-    (j.place, subst (Keeps s.clauses t.clauses) (ap (λ (x : Header). record { place = j.place; header = x; literals = j.literals }) h ∙ ap (loaded_at j.place) e) k, f, g)
+pub added-long : (s t : View) (c : Clause) (before after : SatState) (j : StoredClause) → 3 ≤ length c → j.literals ≡ c → j.header ≡ record no_header { len = length j.literals } → Keeps s.clauses t.clauses j → IsHeadAfter s.values c s.queue_head t.queue_head → t ≡ record s { clauses = t.clauses; queue_head = t.queue_head } → after ≡ before → IsAdded s t c before after
+added-long s t [] before after j n e h k q f g = absurd (omega (arith, n))
+added-long s t (l ∷ []) before after j n e h k q f g = absurd (omega (arith, n))
+added-long s t (l ∷ m ∷ []) before after j n e h k q f g = absurd (omega (arith, n))
+added-long s t (l ∷ m ∷ o ∷ c) before after j n e h k q f g =
+    (j.place, subst (Keeps s.clauses t.clauses) (ap (λ (x : Header). record { place = j.place; header = x; literals = j.literals }) h ∙ ap (loaded_at j.place) e) k, q, f, g)
 
 module _ (s t : View) (lits : Clause) (r : Restarted s t) (a : MayBeAdded t lits) where
   abbrev pub IsLoadedWell : View → Type 0
   IsLoadedWell y = WellFormed y × (y.decisions ≡ []) × (length y.values ≡ length s.values)
 
-  pair-well : (l m : Literal) → MayBeAdded t (l ∷ m ∷ []) → IsLoadedWell (record t { binary = with_pair t.binary l m; queue_head = 0 })
-  pair-well l m q =
+  pair-well : (l m : Literal) (h : ℕ) → h ≤ t.queue_head → MayBeAdded t (l ∷ m ∷ []) → IsLoadedWell (record t { binary = with_pair t.binary l m; queue_head = h })
+  pair-well l m h b q =
       let n = first-other t l m [] q in
       let first = q.paired l (inl refl) in
       let second = q.paired m (inr (inl refl)) in
       let v = well-pair t l m first second n r.well (q.inside l (inl refl)) (q.inside m (inr (inl refl))) in
-      (well-moved (record t { binary = with_pair t.binary l m }) 0 v (omega arith), r.undecided, r.count)
+      (well-moved (record t { binary = with_pair t.binary l m }) h v (let o = r.well.head in omega (arith, b, o)), r.undecided, r.count)
 
   -- the view stays well formed, and no level is left
   pub added-well : (z : View) (o : Clause) (b after : SatState) → lits ≡ o → IsAdded t z o b after → IsLoadedWell z
@@ -120,11 +121,12 @@ module _ (s t : View) (lits : Clause) (r : Restarted s t) (a : MayBeAdded t lits
       (λ (h, f, g). subst IsLoadedWell (sym f) (r.well, r.undecided, r.count))
       (λ (free, f, g). subst IsLoadedWell (sym f) (enqueued-well t l reason.Unit r.well free.0 free.1 r.undecided, r.undecided, length-set t.values (variable_of l) (Some (polarity_of l)) ∙ r.count))
       q
-  added-well z (l ∷ m ∷ []) b after e (f, g) = subst IsLoadedWell (sym f) (pair-well l m (subst (MayBeAdded t) e a))
-  added-well z (l ∷ m ∷ o ∷ ms) b after e (p, k, f, g) =
-      let f' : z ≡ record t { clauses = t.clauses ++ loaded_at p lits ∷ []; queue_head = 0 } = f ∙ ap (λ y. record t { clauses = y; queue_head = 0 }) k.0 ∙ ap (λ y. record t { clauses = t.clauses ++ loaded_at p y ∷ []; queue_head = 0 }) (sym e) in
+  added-well z (l ∷ m ∷ []) b after e (h, f, g) = subst IsLoadedWell (sym f) (pair-well l m z.queue_head (head-after t.values (l ∷ m ∷ []) t.queue_head z.queue_head h) (subst (MayBeAdded t) e a))
+  added-well z (l ∷ m ∷ o ∷ ms) b after e (p, k, q, f, g) =
+      let f' : z ≡ record t { clauses = t.clauses ++ loaded_at p lits ∷ []; queue_head = z.queue_head } = f ∙ ap (λ y. record t { clauses = y; queue_head = z.queue_head }) k.0 ∙ ap (λ y. record t { clauses = t.clauses ++ loaded_at p y ∷ []; queue_head = z.queue_head }) (sym e) in
       let n = ap (λ (x : Clause). length x) e in
-      subst IsLoadedWell (sym f') (let v = well-moved (with_kept t (loaded_at p lits) k.1 r.well) 0 (kept-well t (loaded_at p lits) k.1 r.well a.inside (omega (arith, n)) a.distinct) (omega arith) in (v, r.undecided, r.count))
+      let i = head-after t.values (l ∷ m ∷ o ∷ ms) t.queue_head z.queue_head q in
+      subst IsLoadedWell (sym f') (let v = well-moved (with_kept t (loaded_at p lits) k.1 r.well) z.queue_head (kept-well t (loaded_at p lits) k.1 r.well a.inside (omega (arith, n)) a.distinct) (let u = r.well.head in omega (arith, i, u)) in (v, r.undecided, r.count))
 
 pub undecided-settled : (z : View) → z.decisions ≡ [] → LevelsSettled z
 undecided-settled z e j h = let n = ap (λ (x : List ℕ). length x) e in absurd (omega (arith, h, n))

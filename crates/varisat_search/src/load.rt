@@ -12,7 +12,7 @@ ghost use Rattle.varisat_prop.specs.Watches.{IsPropagated};
 ghost use Rattle.varisat_search.specs.Contexts.{view, KeepsSchedule, IsReady};
 ghost use Rattle.varisat_search.specs.Steps.{SavesAll, reopened_state};
 ghost use Rattle.varisat_search.specs.Decisions.{AreDecidable, SameDecidable};
-ghost use Rattle.varisat_search.specs.Loading.{IsAdded, loaded_outcome};
+ghost use Rattle.varisat_search.specs.Loading.{HasFalseLiteral, IsHeadAfter, IsAdded, loaded_outcome};
 ghost use Rattle.varisat_search.specs.Seen.{search_of};
 
 use crate::cdcl::first_of;
@@ -24,7 +24,7 @@ use varisat_analysis::clause_literals::{collect_flagged, is_satisfied};
 use varisat_clause::db::add_clause;
 use varisat_literals::Lit;
 use varisat_prop::clause::{ClauseHeader, StoreError};
-use varisat_prop::prop::{Reason, enqueue_assignment};
+use varisat_prop::prop::{Assignment, Reason, Trail, enqueue_assignment};
 
 /// Copies the clause's literals to `lits`, each once. Returns whether one of them is another's opposite.
 fn collect_distinct<A: Allocator + Copy>(
@@ -41,6 +41,34 @@ fn collect_distinct<A: Allocator + Copy>(
 {
     let found = collect_flagged(&mut ctx.tmp_data.lits, &mut ctx.tmp_flags.flags, clause)?;
     Ok(found)
+}
+
+/// Whether a literal of the clause is false.
+fn has_false<A: Allocator + Copy>(assignment: &Assignment<A>, lits: &[Lit]) -> bool
+    requires { IsInRange assignment.now.current lits.now }
+    ensures { IsTrue result ↔ HasFalseLiteral assignment.now.current lits.now }
+{
+    for lit in lits {
+        if assignment.lit_is_false(*lit) {
+            return true;
+        }
+    }
+    false
+}
+
+/// Begins the queue anew where a literal of the clause is false: it may be so by a literal that was propagated before.
+fn reset_queue_if_false<A: Allocator + Copy>(
+    trail: &mut Trail<A>,
+    assignment: &Assignment<A>,
+    lits: &[Lit],
+)
+    requires { IsInRange assignment.now.current lits.now }
+    ensures head { IsHeadAfter assignment.now.current lits.now trail.old.queue_head trail.new.queue_head }
+    ensures kept { trail.new ≡ record trail.old { queue_head = trail.new.queue_head } }
+{
+    if has_false(assignment, lits) {
+        trail.reset_queue();
+    }
 }
 
 /// Adds the clause in `lits`, whose literals are distinct and not true: it is kept, makes its only literal true, or
@@ -66,8 +94,7 @@ fn add_distinct<A: Allocator + Copy>(ctx: &mut Context<A>) -> Result<(), StoreEr
         return Ok(());
     };
     if ctx.tmp_data.lits.len() > 1 {
-        // A literal of the clause may be false already, by a literal that was propagated before.
-        ctx.trail.reset_queue();
+        reset_queue_if_false(&mut ctx.trail, &ctx.assignment, &ctx.tmp_data.lits);
         if ctx.tmp_data.lits.len() == 2 {
             let (first, second) = (ctx.tmp_data.lits[0], ctx.tmp_data.lits[1]);
             ctx.binary_clauses.add_binary_clause([first, second])?;

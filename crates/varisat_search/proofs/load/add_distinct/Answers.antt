@@ -9,17 +9,17 @@ use Rattle.varisat_prop.specs.declared.prop.graph.Reason.TheVariants as reason
 use Rattle.varisat_prop.specs.Parts.{TrailParts}
 use Rattle.varisat_clause.specs.Stored.{StoredClause}
 use Rattle.varisat_prop.specs.Pairs.{with_pair}
-use Rattle.varisat_prop.proofs.PairAdded.{propagated-loaded-pair}
 use Rattle.varisat_prop.specs.View.{view_of}
 use Rattle.varisat_prop.specs.Watches.{IsPropagated}
 use Rattle.varisat_prop.specs.Visits.{WatchesClause}
 use Rattle.varisat_prop.proofs.LongVisited.{listed}
-use Rattle.varisat_prop.proofs.WatchKept.{propagated-enqueued, propagated-loaded}
+use Rattle.varisat_prop.proofs.WatchKept.{propagated-enqueued}
 use Rattle.varisat_prop.proofs.LiteralValues.{made-none}
 use Rattle.varisat_search.specs.Contexts.{view}
-use Rattle.varisat_search.specs.Loading.{IsAdded}
+use Rattle.varisat_search.specs.Loading.{IsHeadAfter, IsAdded}
 use Rattle.varisat_analysis.proofs.CopiedLiterals.{only-one, only-two, more-than-two}
 use Rattle.varisat_search.proofs.LoadView.{added-pair, added-long}
+use Rattle.varisat_search.proofs.LoadedQueue.{propagated-kept, propagated-kept-pair}
 use Rattle.varisat_search.proofs.load.add_distinct.Given.{Over}
 use Rattle.varisat_search.proofs.load.add_distinct.Goals.{After-index-then-len-eq2, In_ok-add_binary_clause}
 use Rattle.varisat_search.proofs.load.add_distinct.Goals as goal
@@ -49,7 +49,7 @@ returns-clause-added g c =
 pub watch_clause-requires-clause-listed : goal.watch_clause-requires-clause-listed
 watch_clause-requires-clause-listed g c = λ l h.
     let x = c.args.ctx.now in
-    let i = listed l (length x.assignment.current) (c.requires.in_range l (subst (λ ls. l ∈ ls) c.deref-then-len-gt1-2.ensures.value h)) in
+    let i = listed l (length x.assignment.current) (c.requires.in_range l (subst (λ ls. l ∈ ls) c.deref-then-len-gt1-3.ensures.value h)) in
     let n = c.requires.propagated.lists in
     omega (arith, i, n)
 
@@ -73,10 +73,10 @@ second-paired g c =
     omega (arith, i, n)
 
 -- what is left once they are kept as a pair
-with-two : (g : Over) (c : In_ok-add_binary_clause g) → view_of c.args.ctx.now.clause_alloc c.add_binary_clause.new.self c.args.ctx.now.assignment c.reset_queue.new.self c.args.ctx.now.impl_graph ≡ record (view c.args.ctx.now) { binary = with_pair c.args.ctx.now.binary_clauses c.index.result.now c.index-then-len-eq2.result.now; queue_head = 0 }
+with-two : (g : Over) (c : In_ok-add_binary_clause g) → view_of c.args.ctx.now.clause_alloc c.add_binary_clause.new.self c.args.ctx.now.assignment c.reset_queue_if_false.new.trail c.args.ctx.now.impl_graph ≡ record (view c.args.ctx.now) { binary = with_pair c.args.ctx.now.binary_clauses c.index.result.now c.index-then-len-eq2.result.now; queue_head = c.reset_queue_if_false.new.trail.queue_head }
 with-two g c =
     let x = c.args.ctx.now in
-    ap (λ (u : TrailParts). view_of x.clause_alloc c.add_binary_clause.new.self x.assignment u x.impl_graph) c.reset_queue.ensures ∙ ap (λ B. record (view x) { binary = B; queue_head = 0 }) c.in_ok-add_binary_clause.ensures
+    ap (λ (u : TrailParts). view_of x.clause_alloc c.add_binary_clause.new.self x.assignment u x.impl_graph) c.reset_queue_if_false.ensures.kept ∙ ap (λ B. record (view x) { binary = B; queue_head = c.reset_queue_if_false.new.trail.queue_head }) c.in_ok-add_binary_clause.ensures
 
 pub add_binary_clause-requires-clause-first : goal.add_binary_clause-requires-clause-first
 add_binary_clause-requires-clause-first g c = first-paired g (goal.at.add_binary_clause-requires-clause-first g c).After-index-then-len-eq2
@@ -88,8 +88,8 @@ pub returns-then-len-eq2-clause-added : goal.returns-then-len-eq2-clause-added
 returns-then-len-eq2-clause-added g c =
     let x = c.args.ctx.now in
     let here = goal.at.returns-then-len-eq2-clause-added g c in
-    let z = view_of x.clause_alloc c.add_binary_clause.new.self x.assignment c.reset_queue.new.self x.impl_graph in
-    added-pair (view x) z x.tmp_data.lits.items x.solver_state.sat_state x.solver_state.sat_state c.index.result.now c.index-then-len-eq2.result.now (two g here.After-index-then-len-eq2) (with-two g here.In_ok-add_binary_clause) refl
+    let z = view_of x.clause_alloc c.add_binary_clause.new.self x.assignment c.reset_queue_if_false.new.trail x.impl_graph in
+    added-pair (view x) z x.tmp_data.lits.items x.solver_state.sat_state x.solver_state.sat_state c.index.result.now c.index-then-len-eq2.result.now (two g here.After-index-then-len-eq2) (subst (λ ls. IsHeadAfter x.assignment.current ls x.trail.queue_head c.reset_queue_if_false.new.trail.queue_head) c.deref-then-len-gt1.ensures.value c.reset_queue_if_false.ensures.head) (with-two g here.In_ok-add_binary_clause) refl
 
 pub returns-then-len-eq2-clause-propagated : goal.returns-then-len-eq2-clause-propagated
 returns-then-len-eq2-clause-propagated g c =
@@ -100,7 +100,8 @@ returns-then-len-eq2-clause-propagated g c =
     let b = c.index-then-len-eq2.result.now in
     let other : a ≢ b = λ e. (subst IsDistinct (two g here) c.requires.distinct).0 (inl e) in
     subst (IsPropagated x.watchlists) (sym (with-two g at.In_ok-add_binary_clause))
-    (propagated-loaded-pair (view x) a b (first-paired g here) (second-paired g here) other x.watchlists c.requires.propagated c.requires.undecided)
+    (propagated-kept-pair (view x) c.requires.well c.requires.undecided x.watchlists a b (first-paired g here) (second-paired g here) other c.requires.propagated c.reset_queue_if_false.new.trail.queue_head
+    (subst (λ ls. IsHeadAfter x.assignment.current ls x.trail.queue_head c.reset_queue_if_false.new.trail.queue_head) (c.deref-then-len-gt1.ensures.value ∙ two g here) c.reset_queue_if_false.ensures.head))
 
 pub returns-then-len-gt1-clause-added : goal.returns-then-len-gt1-clause-added
 returns-then-len-gt1-clause-added g c =
@@ -109,26 +110,30 @@ returns-then-len-gt1-clause-added g c =
     let m = c.len.ensures in
     let o = x.tmp_data.lits.ok.0 in
     let many : 3 ≤ length x.tmp_data.lits.items = more-than-two (length x.tmp_data.lits.items) (omega (arith, m, o, c.if-len-gt1.true)) (λ e. c.if-len-eq2.false (omega (arith, n, o, e))) in
-    let j : StoredClause = record { place = c.in_ok-cref.cref; header = record c.new.result { len = length c.deref-then-len-gt1.result.now }; literals = c.deref-then-len-gt1.result.now } in
+    let j : StoredClause = record { place = c.in_ok-cref.cref; header = record c.new.result { len = length c.deref-then-len-gt1-2.result.now }; literals = c.deref-then-len-gt1-2.result.now } in
     let k = live-added x.clause_alloc c.add_clause.new.alloc j c.in_ok-cref.ensures.added (ap (λ (h : Header). h.deleted) c.new.ensures) in
     let sound = sound-is c.add_clause.new.alloc c.in_ok-cref.ensures.added.sound ∙ sym c.requires.well.sound in
-    let z = view_of c.add_clause.new.alloc x.binary_clauses x.assignment c.reset_queue.new.self x.impl_graph in
-    let whole : z ≡ record (view x) { clauses = live_clauses c.add_clause.new.alloc; queue_head = 0 } =
-    ap (λ (u : TrailParts). view_of c.add_clause.new.alloc x.binary_clauses x.assignment u x.impl_graph) c.reset_queue.ensures ∙ ap (λ (b : Bool). record (view x) { sound = b; clauses = live_clauses c.add_clause.new.alloc; queue_head = 0 }) sound in
-    added-long (view x) z x.tmp_data.lits.items x.solver_state.sat_state x.solver_state.sat_state j many c.deref-then-len-gt1.ensures.value (ap (λ (h : Header). record h { len = length c.deref-then-len-gt1.result.now }) c.new.ensures) k whole refl
+    let z = view_of c.add_clause.new.alloc x.binary_clauses x.assignment c.reset_queue_if_false.new.trail x.impl_graph in
+    let whole : z ≡ record (view x) { clauses = live_clauses c.add_clause.new.alloc; queue_head = c.reset_queue_if_false.new.trail.queue_head } =
+    ap (λ (u : TrailParts). view_of c.add_clause.new.alloc x.binary_clauses x.assignment u x.impl_graph) c.reset_queue_if_false.ensures.kept ∙ ap (λ (b : Bool). record (view x) { sound = b; clauses = live_clauses c.add_clause.new.alloc; queue_head = c.reset_queue_if_false.new.trail.queue_head }) sound in
+    added-long (view x) z x.tmp_data.lits.items x.solver_state.sat_state x.solver_state.sat_state j many c.deref-then-len-gt1-2.ensures.value (ap (λ (h : Header). record h { len = length c.deref-then-len-gt1-2.result.now }) c.new.ensures) k (subst (λ ls. IsHeadAfter x.assignment.current ls x.trail.queue_head c.reset_queue_if_false.new.trail.queue_head) c.deref-then-len-gt1.ensures.value c.reset_queue_if_false.ensures.head) whole refl
 
 pub returns-then-len-gt1-clause-propagated : goal.returns-then-len-gt1-clause-propagated
 returns-then-len-gt1-clause-propagated g c =
     let x = c.args.ctx.now in
     let V = c.watch_clause.new.self in
-    let z = view_of c.add_clause.new.alloc x.binary_clauses x.assignment c.reset_queue.new.self x.impl_graph in
-    let j : StoredClause = record { place = c.in_ok-cref.cref; header = record c.new.result { len = length c.deref-then-len-gt1.result.now }; literals = c.deref-then-len-gt1.result.now } in
+    let z = view_of c.add_clause.new.alloc x.binary_clauses x.assignment c.reset_queue_if_false.new.trail x.impl_graph in
+    let j : StoredClause = record { place = c.in_ok-cref.cref; header = record c.new.result { len = length c.deref-then-len-gt1-2.result.now }; literals = c.deref-then-len-gt1-2.result.now } in
     let k = live-added x.clause_alloc c.add_clause.new.alloc j c.in_ok-cref.ensures.added (ap (λ (h : Header). h.deleted) c.new.ensures) in
     let sound = sound-is c.add_clause.new.alloc c.in_ok-cref.ensures.added.sound ∙ sym c.requires.well.sound in
-    let watched = subst (WatchesClause x.watchlists V c.in_ok-cref.cref) (c.deref-then-len-gt1-2.ensures.value ∙ sym c.deref-then-len-gt1.ensures.value) c.in_ok-watch_clause.ensures in
-    let whole : z ≡ record (view x) { clauses = live_clauses x.clause_alloc ++ j ∷ []; queue_head = 0 } =
-    ap (λ (t : TrailParts). view_of c.add_clause.new.alloc x.binary_clauses x.assignment t x.impl_graph) c.reset_queue.ensures ∙ ap (λ (b : Bool). record (view x) { sound = b; clauses = live_clauses c.add_clause.new.alloc; queue_head = 0 }) sound ∙ ap (λ ks. record (view x) { clauses = ks; queue_head = 0 }) k.0 in
-    subst (IsPropagated V) (sym whole) (propagated-loaded x.watchlists V (view x) j c.requires.propagated k.1 watched c.requires.undecided)
+    let watched = subst (WatchesClause x.watchlists V c.in_ok-cref.cref) (c.deref-then-len-gt1-3.ensures.value ∙ sym c.deref-then-len-gt1-2.ensures.value) c.in_ok-watch_clause.ensures in
+    let whole : z ≡ record (view x) { clauses = live_clauses x.clause_alloc ++ j ∷ []; queue_head = c.reset_queue_if_false.new.trail.queue_head } =
+    ap (λ (t : TrailParts). view_of c.add_clause.new.alloc x.binary_clauses x.assignment t x.impl_graph) c.reset_queue_if_false.ensures.kept ∙ ap (λ (b : Bool). record (view x) { sound = b; clauses = live_clauses c.add_clause.new.alloc; queue_head = c.reset_queue_if_false.new.trail.queue_head }) sound ∙ ap (λ ks. record (view x) { clauses = ks; queue_head = c.reset_queue_if_false.new.trail.queue_head }) k.0 in
+    let m = c.len.ensures in
+    let o = x.tmp_data.lits.ok.0 in
+    let same = ap length c.deref-then-len-gt1-2.ensures.value in
+    let head = subst (λ ls. IsHeadAfter x.assignment.current ls x.trail.queue_head c.reset_queue_if_false.new.trail.queue_head) (c.deref-then-len-gt1.ensures.value ∙ sym c.deref-then-len-gt1-2.ensures.value) c.reset_queue_if_false.ensures.head in
+    subst (IsPropagated V) (sym whole) (propagated-kept (view x) c.requires.well c.requires.undecided x.watchlists V j c.requires.propagated k.1 watched c.reset_queue_if_false.new.trail.queue_head (omega (arith, m, o, same, c.if-len-gt1.true)) head)
 
 pub returns-clause-propagated : goal.returns-clause-propagated
 returns-clause-propagated g c =
@@ -142,6 +147,9 @@ add_clause-requires-clause-long g c =
     let n = c.len-then-len-gt1.ensures in
     let m = c.len.ensures in
     let o = x.tmp_data.lits.ok.0 in
-    let v = ap length c.deref-then-len-gt1.ensures.value in
+    let v = ap length c.deref-then-len-gt1-2.ensures.value in
     let many : 3 ≤ length x.tmp_data.lits.items = more-than-two (length x.tmp_data.lits.items) (omega (arith, m, o, c.if-len-gt1.true)) (λ e. c.if-len-eq2.false (omega (arith, n, o, e))) in
     omega (arith, many, v)
+
+pub reset_queue_if_false-requires : goal.reset_queue_if_false-requires
+reset_queue_if_false-requires g c = λ l h. c.requires.in_range l (subst (λ ls. l ∈ ls) c.deref-then-len-gt1.ensures.value h)

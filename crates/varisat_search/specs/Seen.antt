@@ -12,7 +12,7 @@ use Rattle.varisat_search.specs.declared.state.SatState.{SatState}
 use Rattle.varisat_search.specs.declared.state.SatState.TheVariants as verdict
 use Rattle.varisat_search.specs.Steps.{assignment_of}
 
--- A clause of two literals is kept for good, also a learned one.
+-- A clause of two literals is dropped by no reduction, also a learned one.
 abbrev pub kept_pair : Clause → KeptClause
 kept_pair c = record { clause = c; learned = false }
 

@@ -2,7 +2,8 @@
 ghost use Rattle.varisat_search.specs.Contexts.{IsReady};
 
 use crate::searches::{loaded, step};
-use std::alloc::{Allocator, Global};
+use linked_list_allocator::LocalHeap;
+use std::alloc::Allocator;
 use std::test::Fail;
 use varisat_clause::header::Tier;
 use varisat_literals::{Lit, lit, lits};
@@ -27,7 +28,9 @@ fn len_of<A: Allocator + Copy>(ctx: &Context<A>, index: usize) -> Option<usize>
 
 /// The lengths of the stored clauses, how many are counted, the words of the deleted ones, and whether the lists of two
 /// literals are as they should be.
-fn simplified(alloc: Global) -> Result<([Option<usize>; 4], usize, usize, bool), StoreError> {
+fn simplified<A: Allocator + Copy>(
+    alloc: A,
+) -> Result<([Option<usize>; 4], usize, usize, bool), StoreError> {
     let clauses: &[&[Lit]] = &[
         &lits![-1, 2],
         &lits![-2, 6],
@@ -65,5 +68,24 @@ fn simplified(alloc: Global) -> Result<([Option<usize>; 4], usize, usize, bool),
 fn clauses_are_simplified(rt: HostRuntime) -> Result<(), Fail> {
     let wanted = ([None, Some(3), None, Some(3)], 2, 12, true);
     assert!(rt; simplified(rt.alloc())? == wanted);
+    Ok(())
+}
+
+#[test]
+fn each_growth_of_simplification_may_be_refused(rt: HostRuntime) -> Result<(), Fail> {
+    let wanted = ([None, Some(3), None, Some(3)], 2, 12, true);
+    let mut simple = false;
+    let mut refused = false;
+    for room in 0..200 {
+        let heap = LocalHeap::new(rt.alloc(), 16 * room)?;
+        match simplified(&heap) {
+            Ok(found) => {
+                assert!(rt; found == wanted, "with {room}");
+                simple = true;
+            }
+            Err(_) => refused = true,
+        }
+    }
+    assert!(rt; simple && refused);
     Ok(())
 }

@@ -12,8 +12,8 @@ pub struct Trail<A: Allocator + Copy> {
     trail: Vec<Lit, A>,
     queue_head_pos: usize,
     decisions: Vec<usize, A>,
-    // How many literals `clear` took off. Dropping satisfied clauses at level 0, which is to come, will call both it
-    // and `top_level_assignment_count`.
+    // How many literals `clear` took off. Dropping variables that are fixed at level 0, which is to come, will call both
+    // it and `top_level_assignment_count`.
     units_removed: usize,
 }
 

@@ -17,7 +17,7 @@ ghost use Rattle.varisat_literals.specs.Numbers.{variable_limit};
 use crate::carrying::carry_literals;
 use std::alloc::{AllocError, Allocator};
 use varisat_literals::{Lit, Var};
-use varisat_names::variables::Variables;
+use varisat_names::variables::LinkedVariables;
 use varisat_prop::clause::StoreError;
 use varisat_search::assumptions::set_assumptions;
 use varisat_search::context::Context;
@@ -27,7 +27,7 @@ use varisat_search::state::SatState;
 
 /// Brings the names of the clause into use, each with all names below it.
 fn name_vars<A: Allocator + Copy>(
-    variables: &mut Variables<A>,
+    variables: &mut LinkedVariables<A>,
     clause: &[Lit],
 ) -> Result<(), AllocError>
     requires { CanBeNamed clause.now variables.old }
@@ -41,7 +41,7 @@ fn name_vars<A: Allocator + Copy>(
 }
 
 /// The global variable of the literal's name, which is in use.
-fn global_of<A: Allocator + Copy>(variables: &Variables<A>, lit: Lit) -> Var
+fn global_of<A: Allocator + Copy>(variables: &LinkedVariables<A>, lit: Lit) -> Var
     requires { HasNames (lit ∷ []) variables.now }
     ensures found { at variables.now.users.forward (variable_of lit) ≡ Some result }
     ensures live { (kept_at variables.now.kept result).deleted ≡ false }
@@ -51,7 +51,7 @@ fn global_of<A: Allocator + Copy>(variables: &Variables<A>, lit: Lit) -> Var
 
 /// Takes a solver variable for each variable of the clause that has none.
 fn take_solver_vars<A: Allocator + Copy>(
-    variables: &mut Variables<A>,
+    variables: &mut LinkedVariables<A>,
     clause: &[Lit],
 ) -> Result<(), AllocError>
     requires { HasNames clause.now variables.old }
@@ -68,7 +68,7 @@ fn take_solver_vars<A: Allocator + Copy>(
 }
 
 /// Marks the variables of a clause of several literals, which are not isolated any more.
-fn mark_joined<A: Allocator + Copy>(variables: &mut Variables<A>, clause: &[Lit])
+fn mark_joined<A: Allocator + Copy>(variables: &mut LinkedVariables<A>, clause: &[Lit])
     requires { HasNames clause.now variables.old }
     ensures { AreJoined clause.now variables.old variables.new }
 {
@@ -81,7 +81,7 @@ fn mark_joined<A: Allocator + Copy>(variables: &mut Variables<A>, clause: &[Lit]
 }
 
 /// Marks the variables of the list as assumed, or takes their marks away.
-fn mark_assumed<A: Allocator + Copy>(variables: &mut Variables<A>, list: &[Lit], assumed: bool)
+fn mark_assumed<A: Allocator + Copy>(variables: &mut LinkedVariables<A>, list: &[Lit], assumed: bool)
     requires { HasNames list.now variables.old }
     ensures { AreMarked list.now assumed variables.old variables.new }
 {
@@ -93,7 +93,7 @@ fn mark_assumed<A: Allocator + Copy>(variables: &mut Variables<A>, list: &[Lit],
 
 /// Brings the names of the list into use, takes solver variables for them, and lists its literals over these.
 fn bring_in<A: Allocator + Copy>(
-    variables: &mut Variables<A>,
+    variables: &mut LinkedVariables<A>,
     ctx: &mut Context<A>,
     literals: &mut Vec<Lit, A>,
     list: &[Lit],
@@ -119,7 +119,7 @@ fn bring_in<A: Allocator + Copy>(
 /// Brings the names of the clause into use, takes solver variables for them, and loads the clause over these.
 /// `literals` is overwritten.
 pub fn accept_clause<A: Allocator + Copy>(
-    variables: &mut Variables<A>,
+    variables: &mut LinkedVariables<A>,
     ctx: &mut Context<A>,
     literals: &mut Vec<Lit, A>,
     clause: &[Lit],
@@ -142,7 +142,7 @@ pub fn accept_clause<A: Allocator + Copy>(
 /// Brings the names of the list into use, takes solver variables for them, and assumes the list in place of the one
 /// before. `literals` is overwritten.
 pub fn assume_list<A: Allocator + Copy>(
-    variables: &mut Variables<A>,
+    variables: &mut LinkedVariables<A>,
     ctx: &mut Context<A>,
     literals: &mut Vec<Lit, A>,
     list: &[Lit],

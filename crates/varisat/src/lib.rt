@@ -42,7 +42,7 @@ pub use solver::{Solver, SolverError};
 pub use varisat_formula::formula::{CnfFormula, ExtendFormula};
 pub use varisat_formula::{cnf, cnf_formula, dimacs, formula, io};
 pub use varisat_literals::{Lit, Var, lit, lits, var};
-pub use varisat_names::config;
+pub use varisat_names::{config, variables};
 pub use varisat_proof::{checker, proof};
 pub use varisat_prop::clause;
 pub use varisat_search::{

@@ -20,7 +20,7 @@ use varisat_formula::formula::{CnfFormula, ExtendFormula};
 use varisat_formula::io::{ByteSource, ProofTarget};
 use varisat_literals::{Lit, Var};
 use varisat_names::config::{ConfigField, SolverConfigUpdate};
-use varisat_names::variables::Variables;
+use varisat_names::variables::LinkedVariables;
 use varisat_prop::clause::StoreError;
 use varisat_search::assumptions::copied;
 use varisat_search::context::Context;
@@ -109,7 +109,7 @@ fn is_past_limit(clause: &[Lit]) -> bool
 /// The value that the model gives the variable of the name, which is in use: that of its solver variable, or the one
 /// that is kept.
 fn model_value<A: Allocator + Copy>(
-    variables: &Variables<A>,
+    variables: &LinkedVariables<A>,
     values: &[Option<bool>],
     user: Var,
 ) -> bool
@@ -128,7 +128,7 @@ fn model_value<A: Allocator + Copy>(
 /// The names in use in increasing order, with their values in the model.
 fn list_model<A: Allocator + Copy>(
     alloc: A,
-    variables: &Variables<A>,
+    variables: &LinkedVariables<A>,
     values: &[Option<bool>],
 ) -> Result<Vec<Lit, A>, AllocError>
     requires { length variables.now.users.forward ≤ variable_limit }
@@ -149,7 +149,7 @@ fn list_model<A: Allocator + Copy>(
 pub struct Solver<W: ProofTarget, A: Allocator + Copy> {
     alloc: A,
     ctx: Context<A>,
-    variables: Variables<A>,
+    variables: LinkedVariables<A>,
     // The clause or the assumptions that are being accepted, over solver variables, and a core over names.
     literals: Vec<Lit, A>,
     // Whether a clause, a variable or a list of assumptions was accepted. `write_proof`, which is to open a proof, will
@@ -191,7 +191,7 @@ impl<W: ProofTarget, A: Allocator + Copy> Solver<W, A> {
         Solver {
             alloc,
             ctx: Context::new_in(alloc),
-            variables: Variables::new_in(alloc),
+            variables: LinkedVariables::new_in(alloc),
             literals: Vec::new(alloc),
             started: false,
             target: None,

@@ -20,7 +20,7 @@ ghost use Rattle.varisat.specs.Summaries.{IsKept};
 use crate::carrying::carry_literals;
 use std::alloc::{AllocError, Allocator};
 use varisat_literals::Lit;
-use varisat_names::variables::Variables;
+use varisat_names::variables::LinkedVariables;
 use varisat_prop::clause::StoreError;
 use varisat_search::context::Context;
 use varisat_search::schedule::schedule_step;
@@ -65,7 +65,7 @@ fn find_verdict<A: Allocator + Copy>(
 
 /// Keeps the core that was found as the user names it. `literals` is overwritten.
 fn name_core<A: Allocator + Copy>(
-    variables: &Variables<A>,
+    variables: &LinkedVariables<A>,
     ctx: &mut Context<A>,
     literals: &mut Vec<Lit, A>,
 ) -> Result<(), AllocError>
@@ -85,7 +85,7 @@ fn name_core<A: Allocator + Copy>(
 
 /// Makes steps as `find_verdict`, and keeps a core that was found as the user names it. `literals` is overwritten.
 pub fn find_named_verdict<A: Allocator + Copy>(
-    variables: &Variables<A>,
+    variables: &LinkedVariables<A>,
     ctx: &mut Context<A>,
     literals: &mut Vec<Lit, A>,
     max_steps: u64,

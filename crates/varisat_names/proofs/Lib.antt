@@ -1,3 +1,4 @@
 pub mod Maps
 pub mod VarMap
 pub mod Tables
+pub mod Linked

@@ -1,5 +1,5 @@
 -- What changes of the tables add up to.
-use Rattle.std.proofs.Common.{◌≡◌, ◌<◌, ◌≤◌, ℕ, is_gt, zero, suc, ◌+◌, ◌-◌, Bool, true, false, if◌then◌else◌, Option, Some, None, List, [], ◌∷◌, length, slice_set, sym, ap, ◌∙◌, subst, refl, arith, ⊎_elim}
+use Rattle.std.proofs.Common.{◌≡◌, ◌<◌, ◌≤◌, ℕ, is_gt, zero, suc, ◌+◌, ◌-◌, true, false, Option, Some, None, List, [], ◌∷◌, length, slice_set, sym, ap, ◌∙◌, subst, refl, arith, ⊎_elim}
 use Rattle.std.proofs.lemmas.Bool.{cases_lt}
 use Rattle.std.proofs.lemmas.List.{length-set, get_or-set_same, get_or-set_other}
 use Rattle.std.proofs.lemmas.Bool.Decides.{nat_tests}
@@ -7,7 +7,7 @@ use Rattle.std.specs.Ordering.{nat_cmp}
 use Rattle.std.specs.BTreeSet.{BTreeSet, contains}
 use Rattle.varisat_names.specs.VarMap.{at, IsPut, IsFull, IsLeastUnmapped}
 use Rattle.varisat_names.specs.VarData.{fresh, dead, kept_at, IsKeptAs, IsLeastDeleted}
-use Rattle.varisat_names.specs.Variables.{without_name, Tables, AreLinked, IsGiven, AreNextGiven, IsTaken, IsNothingHidden, AreFree}
+use Rattle.varisat_names.specs.Variables.{Tables, AreLinked, IsGiven, AreNextGiven, IsTaken, IsNothingHidden, AreFree}
 use Rattle.varisat_names.specs.declared.variables.data.VarData.{VarData}
 use Rattle.varisat_names.specs.declared.variables.data.SamplingMode.TheVariants as sampling
 use Rattle.varisat_names.proofs.VarMap.{at-inside}
@@ -22,12 +22,6 @@ set-kept xs x i d e h =
       count = omega (arith, c, h);
       at_each = λ j. ap (λ k. kept_at (slice_set xs k d) j) e ∙ updated-all (λ m o. kept_at (slice_set xs x d) m ≡ o) (kept_at xs) x d (get_or-set_same xs x d dead h) j (λ n. get_or-set_other xs x j d dead n);
     }
-
--- a variable that lost its name is not live where it has no solver variable and is isolated
-pub unnamed-dead : (old new : List VarData) (x : ℕ) (o : Option ℕ) → o ≡ None → (kept_at old x).isolated ≡ true → IsKeptAs old x dead new → IsKeptAs old x (without_name o (kept_at old x)) new
-unnamed-dead old new x o n i k =
-    let e : without_name o (kept_at old x) ≡ dead = ap (λ p. without_name p (kept_at old x)) n ∙ ap (λ (b : Bool). if b then dead else record (kept_at old x) { sampling_mode = sampling.Hide }) i in
-    subst (λ d. IsKeptAs old x d new) (sym e) k
 
 -- no variable past the list is live
 pub kept-past : (xs : List VarData) (i : ℕ) → length xs ≤ i → (kept_at xs i).deleted ≡ true

@@ -4,3 +4,4 @@ pub mod VarBiMap
 pub mod VarData
 pub mod Variables
 pub mod Settings
+pub mod Lending

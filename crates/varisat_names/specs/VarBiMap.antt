@@ -1,6 +1,8 @@
 -- A one-to-one map between the variables of two name spaces.
 use Rattle.std.specs.Prelude.{ℕ, Option, Some, None, List, []}
 use Rattle.varisat_names.specs.VarMap.{IsPut}
+use Rattle.varisat_names.specs.declared.variables.var_map.Direction.{Direction}
+use Rattle.varisat_names.specs.declared.variables.var_map.Direction.TheVariants.{Forward, Backward}
 
 -- A map and the way back. The watermarks are the lengths.
 pub record BiMap : Type 0 where
@@ -13,6 +15,11 @@ no_pairs = record { forward = []; backward = [] }
 -- the same pairs, from the other side
 abbrev pub turned : BiMap → BiMap
 turned m = record { forward = m.backward; backward = m.forward }
+
+-- the pairs, as they are seen in the direction
+abbrev pub directed : Direction → BiMap → BiMap
+directed Forward m = m
+directed Backward m = turned m
 
 -- one more pair
 pub record IsJoined (old new : BiMap) (from into : ℕ) : Type 0 where

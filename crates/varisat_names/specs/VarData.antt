@@ -1,5 +1,7 @@
 -- What is kept of the global variables.
-use Rattle.std.specs.Prelude.{◌≡◌, ◌≢◌, ℕ, ◌<◌, true, false, None, List, length, max, ◌+◌, slice_index_or}
+use Rattle.std.specs.Prelude.{◌≡◌, ℕ, suc, ◌<◌, ◌↔◌, Bool, true, false, None, List, [], ◌∷◌, ◌++◌, length, replicate, max, ◌+◌, ◌-◌, slice_index_or}
+use Rattle.std.specs.Ordering.{nat_cmp}
+use Rattle.std.specs.BTreeSet.{BTreeSet, contains}
 use Rattle.varisat_names.specs.Maps.{updated}
 use Rattle.varisat_names.specs.declared.variables.data.VarData.{VarData}
 use Rattle.varisat_names.specs.declared.variables.data.SamplingMode.TheVariants as sampling
@@ -15,10 +17,29 @@ dead = record { sampling_mode = sampling.Hide; unit = None; isolated = true; ass
 abbrev pub kept_at : List VarData → ℕ → VarData
 kept_at xs x = slice_index_or xs x dead
 
--- What is kept of the global variables, and for how many there is room.
+-- What is kept of the global variables, for how many there is room, and the list of those that may be used again.
 pub record KeptList : Type 0 where
   pub kept : List VarData
   pub capacity : ℕ
+  pub free : BTreeSet ℕ
+
+-- the set has exactly the global variables that may be used again
+abbrev pub AreDeleted : List VarData → BTreeSet ℕ → Type 0
+AreDeleted kept free = (x : ℕ) → (contains nat_cmp free x ≡ true) ↔ ((x < length kept) × ((kept_at kept x).deleted ≡ true))
+
+-- the list with x in it, where each variable that was added is not live
+abbrev pub reaching : List VarData → ℕ → List VarData
+reaching kept x = kept ++ replicate (x + 1 - length kept) dead
+
+-- the number before the others, unless it is left out
+abbrev pub put_unless : Bool → ℕ → List ℕ → List ℕ
+put_unless true i is = is
+put_unless false i is = i ∷ is
+
+-- the live variables, in increasing order, where the list begins with what is kept of i
+abbrev pub live_from : ℕ → List VarData → List ℕ
+live_from i [] = []
+live_from i (d ∷ ds) = put_unless d.deleted i (live_from (suc i) ds)
 
 -- the list with d at x, and so one that is longer than x
 pub record IsKeptAs (old : List VarData) (x : ℕ) (d : VarData) (new : List VarData) : Type 0 where

@@ -1,5 +1,5 @@
 -- A map from variables to variables, as the list of what each is mapped to. Its length is the watermark.
-use Rattle.std.specs.Prelude.{◌≡◌, ◌≢◌, ℕ, ◌<◌, Option, Some, None, List, length, max, ◌+◌, slice_index_or, nat_lt, if◌then◌else◌}
+use Rattle.std.specs.Prelude.{◌≡◌, ◌≢◌, ℕ, suc, ◌<◌, Option, Some, None, List, [], ◌∷◌, length, max, ◌+◌, slice_index_or, nat_lt, if◌then◌else◌}
 use Rattle.varisat_names.specs.Maps.{updated}
 
 -- what an entry of a map stands for: a variable by its index, or none
@@ -22,3 +22,9 @@ IsLeastUnmapped map u = (at map u ≡ None) × ((v : ℕ) → v < u → at map v
 -- the map leads somewhere from each number below its watermark
 abbrev pub IsFull : List (Option ℕ) → Type 0
 IsFull map = (u : ℕ) → u < length map → at map u ≢ None
+
+-- the numbers that the list maps, in increasing order, where its first entry is that of i
+abbrev pub mapped_from : ℕ → List (Option ℕ) → List ℕ
+mapped_from i [] = []
+mapped_from i (None ∷ xs) = mapped_from (suc i) xs
+mapped_from i (Some x ∷ xs) = i ∷ mapped_from (suc i) xs

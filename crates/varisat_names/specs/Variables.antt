@@ -1,12 +1,13 @@
 -- The three name spaces together: names of the user, global variables, solver variables.
-use Rattle.std.specs.Prelude.{◌≡◌, ℕ, zero, suc, ◌<◌, ◌↔◌, ◌+◌, ◌-◌, ◌≤◌, if◌then◌else◌, true, false, Some, None, Option, List, [], length}
+use Rattle.std.specs.Prelude.{◌≡◌, ℕ, zero, suc, ◌<◌, ◌↔◌, ◌+◌, ◌-◌, ◌≤◌, if◌then◌else◌, Bool, true, false, Some, None, Option, List, [], length}
 use Rattle.std.specs.Ordering.{nat_cmp}
 use Rattle.std.specs.BTreeSet.{BTreeSet, contains}
 use Rattle.varisat_names.specs.Maps.{IsInverse}
 use Rattle.varisat_names.specs.VarMap.{at, IsLeastUnmapped, IsFull}
 use Rattle.varisat_names.specs.VarBiMap.{BiMap, no_pairs, IsJoined, IsParted}
-use Rattle.varisat_names.specs.VarData.{fresh, dead, kept_at, IsKeptAs, IsLeastDeleted}
+use Rattle.varisat_names.specs.VarData.{fresh, dead, kept_at, IsKeptAs, IsLeastDeleted, AreDeleted}
 use Rattle.varisat_names.specs.declared.variables.data.VarData.{VarData}
+use Rattle.varisat_names.specs.declared.variables.data.SamplingMode.{SamplingMode}
 use Rattle.varisat_names.specs.declared.variables.data.SamplingMode.TheVariants as sampling
 
 -- Names and the global variables that they lead to, global variables and their solver variables, and what is kept of each global variable.
@@ -55,10 +56,14 @@ pub record IsChangedTo (old new : Tables) (x : ℕ) (d : VarData) : Type 0 where
   pub kept : IsKeptAs old.kept x d new.kept
   pub rest : new ≡ record old { kept = new.kept }
 
--- what is kept of a variable that lost its name: it is hidden, or not live where it has no solver variable and is isolated
+-- whether a variable may be used again as it loses its name or its solver variable: it has not the other one, and is isolated
+abbrev pub unused : Option ℕ → VarData → Bool
+unused None d = d.isolated
+unused (Some y) d = false
+
+-- what is kept of a variable that lost its name, by its solver variable: it is hidden, or not live where it is unused
 abbrev pub without_name : Option ℕ → VarData → VarData
-without_name None d = if d.isolated then dead else record d { sampling_mode = sampling.Hide }
-without_name (Some v) d = record d { sampling_mode = sampling.Hide }
+without_name solver d = if unused solver d then dead else record d { sampling_mode = sampling.Hide }
 
 -- The name u of x is free, and x is hidden or may be used again.
 pub record IsHidden (old new : Tables) (u x : ℕ) : Type 0 where
@@ -73,10 +78,46 @@ pub record IsNothingHidden (t : Tables) : Type 0 where
   pub live : (x : ℕ) → x < length t.kept → (kept_at t.kept x).deleted ≡ false
   pub solvers : IsFull t.solvers.backward
 
+-- what is kept of a variable that lost its solver variable, by its name: as before, or not live where it is unused
+abbrev pub without_solver : Option ℕ → VarData → VarData
+without_solver name d = if unused name d then dead else d
+
+-- The global variable x has its solver variable v no longer, and may be used again where it is unused.
+pub record IsDropped (old new : Tables) (x v : ℕ) : Type 0 where
+  pub taken : at old.solvers.backward v ≡ Some x
+  pub users : new.users ≡ old.users
+  pub solvers : IsParted old.solvers new.solvers x v
+  pub kept : IsKeptAs old.kept x (without_solver (at old.users.backward x) (kept_at old.kept x)) new.kept
+
+-- The global variable x has the least free name u, and may be used as the mode says.
+pub record IsShown (old new : Tables) (x : ℕ) (mode : SamplingMode) (u : ℕ) : Type 0 where
+  pub least : IsLeastUnmapped old.users.forward u
+  pub users : IsJoined old.users new.users u x
+  pub solvers : new.solvers ≡ old.solvers
+  pub kept : IsKeptAs old.kept x (record (kept_at old.kept x) { sampling_mode = mode }) new.kept
+
 -- the set has exactly the numbers below the watermark that the map leads nowhere
 abbrev pub AreFree : List (Option ℕ) → BTreeSet ℕ → Type 0
 AreFree map free = (u : ℕ) → (contains nat_cmp free u ≡ true) ↔ ((u < length map) × (at map u ≡ None))
 
--- the set has exactly the global variables that may be used again
-abbrev pub AreDeleted : List VarData → BTreeSet ℕ → Type 0
-AreDeleted kept free = (x : ℕ) → (contains nat_cmp free x ≡ true) ↔ ((x < length kept) × ((kept_at kept x).deleted ≡ true))
+-- The pairs of a name space, and the list of the names that are free.
+pub record NamePairs : Type 0 where
+  pub pairs : BiMap
+  pub free : BTreeSet ℕ
+
+-- Lists of what may be used again: names, solver variables, global variables.
+pub record FreeLists : Type 0 where
+  pub users : BTreeSet ℕ
+  pub solvers : BTreeSet ℕ
+  pub globals : BTreeSet ℕ
+
+-- The tables with the lists of what may be used again, each of which may change by itself.
+pub record VariableParts : Type 0 where
+  pub tables : Tables
+  pub free : FreeLists
+
+-- The lists hold exactly what is free.
+pub record AreListed (p : VariableParts) : Type 0 where
+  pub users : AreFree p.tables.users.forward p.free.users
+  pub solvers : AreFree p.tables.solvers.backward p.free.solvers
+  pub globals : AreDeleted p.tables.kept p.free.globals

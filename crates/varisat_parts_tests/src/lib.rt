@@ -21,4 +21,6 @@ mod schedule;
 #[cfg(test)]
 mod settings;
 #[cfg(test)]
+mod variables;
+#[cfg(test)]
 mod watches;

@@ -8,13 +8,13 @@ use linked_list_allocator::LocalHeap;
 use std::alloc::{AllocError, Allocator, Global};
 use std::mem::size_of;
 use varisat_literals::{Var, var};
-use varisat_names::variables::Variables;
+use varisat_names::variables::LinkedVariables;
 use varisat_names::variables::data::{SamplingMode, VarData};
 use varisat_names::variables::var_map::VarBiMap;
 
 /// Takes a solver variable for the global variable, if it is live and has none.
 fn take<A: Allocator + Copy>(
-    variables: &mut Variables<A>,
+    variables: &mut LinkedVariables<A>,
     global: Var,
 ) -> Result<Option<Var>, AllocError> {
     let is_free = variables.solver_from_global().get(global).is_none();
@@ -25,15 +25,19 @@ fn take<A: Allocator + Copy>(
 }
 
 /// Whether the global variable is live.
-fn is_live<A: Allocator + Copy>(variables: &Variables<A>, global: Var) -> bool
+fn is_live<A: Allocator + Copy>(variables: &LinkedVariables<A>, global: Var) -> bool
     ensures { IsTrue result → (kept_at variables.now.kept global).deleted ≡ false }
 {
-    global.index() < variables.global_watermark() && !variables.var_data_global(global).deleted
+    global.index() < variables.variables().global_watermark()
+        && !variables.var_data_global(global).deleted
 }
 
 /// Names the name.
-fn name<A: Allocator + Copy>(variables: &mut Variables<A>, user: Var) -> Result<bool, AllocError> {
-    if variables.global_watermark() > 100 || user.index() > 100 {
+fn name<A: Allocator + Copy>(
+    variables: &mut LinkedVariables<A>,
+    user: Var,
+) -> Result<bool, AllocError> {
+    if variables.variables().global_watermark() > 100 || user.index() > 100 {
         return Ok(false);
     }
     variables.name_user_var(user)?;
@@ -41,7 +45,10 @@ fn name<A: Allocator + Copy>(variables: &mut Variables<A>, user: Var) -> Result<
 }
 
 /// Frees the name, if it is in use.
-fn hide<A: Allocator + Copy>(variables: &mut Variables<A>, user: Var) -> Result<bool, AllocError> {
+fn hide<A: Allocator + Copy>(
+    variables: &mut LinkedVariables<A>,
+    user: Var,
+) -> Result<bool, AllocError> {
     match variables.global_from_user().get(user) {
         Some(global) => {
             variables.hide(user, global)?;
@@ -52,42 +59,47 @@ fn hide<A: Allocator + Copy>(variables: &mut Variables<A>, user: Var) -> Result<
 }
 
 /// The least name, global variable and solver variable that are free.
-fn next<A: Allocator + Copy>(variables: &Variables<A>) -> Option<(Var, Var, Var)> {
-    let highest = variables.user_watermark().max(variables.global_watermark());
-    if highest > 100 || variables.solver_watermark() > 100 {
+fn next<A: Allocator + Copy>(variables: &LinkedVariables<A>) -> Option<(Var, Var, Var)> {
+    let parts = variables.variables();
+    let highest = parts.user_watermark().max(parts.global_watermark());
+    if highest > 100 || parts.solver_watermark() > 100 {
         return None;
     }
     Some((
-        variables.next_unmapped_user(),
-        variables.next_unmapped_global(),
-        variables.next_unmapped_solver(),
+        parts.next_unmapped_user(),
+        parts.next_unmapped_global(),
+        parts.next_unmapped_solver(),
     ))
 }
 
 /// The solver variable of the name, and the name of that, if there are any.
-fn there_and_back<A: Allocator + Copy>(variables: &Variables<A>, user: Var) -> Option<(Var, Var)> {
-    variables.prove_linked();
-    let global = variables.global_from_user().get(user)?;
-    variables.solver_from_global().get(global)?;
-    let solver = variables.existing_solver_from_user(user);
-    let back = variables.global_from_solver().get(solver)?;
-    variables.user_from_global().get(back)?;
-    Some((solver, variables.existing_user_from_solver(solver)))
+fn there_and_back<A: Allocator + Copy>(
+    variables: &LinkedVariables<A>,
+    user: Var,
+) -> Option<(Var, Var)> {
+    let parts = variables.variables();
+    let global = parts.global_from_user().get(user)?;
+    parts.solver_from_global().get(global)?;
+    let solver = parts.existing_solver_from_user(user);
+    let back = parts.global_from_solver().get(solver)?;
+    parts.user_from_global().get(back)?;
+    Some((solver, parts.existing_user_from_solver(solver)))
 }
 
 /// Whether the maps lead from two of three names to the solver variables 2 and 1 and back.
-fn is_mapped<A: Allocator + Copy>(variables: &Variables<A>) -> bool {
+fn is_mapped<A: Allocator + Copy>(variables: &LinkedVariables<A>) -> bool {
+    let parts = variables.variables();
     let globals = [
-        variables.global_from_user().get(var!(2)),
-        variables.global_from_solver().get(var!(2)),
+        parts.global_from_user().get(var!(2)),
+        parts.global_from_solver().get(var!(2)),
     ];
     let names = [
-        variables.user_from_global().get(var!(3)),
-        variables.solver_from_global().get(var!(3)),
+        parts.user_from_global().get(var!(3)),
+        parts.solver_from_global().get(var!(3)),
     ];
     let present = [
-        variables.solver_var_present(var!(2)),
-        variables.solver_var_present(var!(3)),
+        parts.solver_var_present(var!(2)),
+        parts.solver_var_present(var!(3)),
     ];
     globals == [Some(var!(2)), Some(var!(1))]
         && names == [Some(var!(3)), Some(var!(1))]
@@ -96,7 +108,7 @@ fn is_mapped<A: Allocator + Copy>(variables: &Variables<A>) -> bool {
 
 /// Whether the third name leads to its solver variable and back, the second to none, and what is free is as it should
 /// be.
-fn is_joined<A: Allocator + Copy>(variables: &Variables<A>) -> bool {
+fn is_joined<A: Allocator + Copy>(variables: &LinkedVariables<A>) -> bool {
     let third = there_and_back(variables, var!(3));
     let second = there_and_back(variables, var!(2));
     third == Some((var!(1), var!(3)))
@@ -105,7 +117,7 @@ fn is_joined<A: Allocator + Copy>(variables: &Variables<A>) -> bool {
 }
 
 /// Names three names and takes two solver variables.
-fn is_named<A: Allocator + Copy>(variables: &mut Variables<A>) -> Result<bool, AllocError> {
+fn is_named<A: Allocator + Copy>(variables: &mut LinkedVariables<A>) -> Result<bool, AllocError> {
     let third_named = name(variables, var!(3))?;
     let second_named = name(variables, var!(2))?;
     let third = take(variables, var!(3))?;
@@ -115,7 +127,7 @@ fn is_named<A: Allocator + Copy>(variables: &mut Variables<A>) -> Result<bool, A
 }
 
 /// Hides two of the three names, one of which has a solver variable. Says whether what is free is as it should be.
-fn is_freed<A: Allocator + Copy>(variables: &mut Variables<A>) -> Result<bool, AllocError> {
+fn is_freed<A: Allocator + Copy>(variables: &mut LinkedVariables<A>) -> Result<bool, AllocError> {
     let third = hide(variables, var!(3))?;
     let second = hide(variables, var!(2))?;
     let live = [is_live(variables, var!(2)), is_live(variables, var!(3))];
@@ -124,7 +136,7 @@ fn is_freed<A: Allocator + Copy>(variables: &mut Variables<A>) -> Result<bool, A
 }
 
 /// Hides those names, and names one again and another.
-fn is_hidden<A: Allocator + Copy>(variables: &mut Variables<A>) -> Result<bool, AllocError> {
+fn is_hidden<A: Allocator + Copy>(variables: &mut LinkedVariables<A>) -> Result<bool, AllocError> {
     let freed = is_freed(variables)?;
     let second = name(variables, var!(2))?;
     let fifth = name(variables, var!(5))?;
@@ -143,16 +155,17 @@ fn is_hidden<A: Allocator + Copy>(variables: &mut Variables<A>) -> Result<bool, 
 }
 
 /// One above the highest name, global variable and solver variable.
-fn watermarks(variables: &Variables<Global>) -> [usize; 3] {
+fn watermarks(variables: &LinkedVariables<Global>) -> [usize; 3] {
+    let parts = variables.variables();
     [
-        variables.user_watermark(),
-        variables.global_watermark(),
-        variables.solver_watermark(),
+        parts.user_watermark(),
+        parts.global_watermark(),
+        parts.solver_watermark(),
     ]
 }
 
 /// Whether names lead to variables, as long as they are in use.
-fn lead(variables: &mut Variables<Global>) -> Result<bool, AllocError> {
+fn lead(variables: &mut LinkedVariables<Global>) -> Result<bool, AllocError> {
     let first = next(variables);
     let named = is_named(variables)?;
     let hidden = is_hidden(variables)?;
@@ -162,14 +175,14 @@ fn lead(variables: &mut Variables<Global>) -> Result<bool, AllocError> {
 
 #[test]
 fn names_lead_to_variables(rt: HostRuntime) {
-    let mut variables = Variables::new_in(rt.alloc());
+    let mut variables = LinkedVariables::new_in(rt.alloc());
     assert!(rt; matches!(lead(&mut variables), Ok(true)));
 }
 
 /// Whether the names are right on a heap of that many times 16 bytes.
 fn is_named_with(alloc: Global, room: u8) -> Result<bool, AllocError> {
     let heap = LocalHeap::new(alloc, 16 * usize::from(room))?;
-    let mut variables = Variables::new_in(&heap);
+    let mut variables = LinkedVariables::new_in(&heap);
     is_named(&mut variables)
 }
 
@@ -186,7 +199,7 @@ fn each_growth_may_be_refused(rt: HostRuntime) {
 }
 
 /// Changes all that is kept of the first variable.
-fn change(variables: &mut Variables<Global>) {
+fn change(variables: &mut LinkedVariables<Global>) {
     if is_live(variables, var!(1)) {
         variables.set_unit(var!(1), false);
     }
@@ -203,10 +216,10 @@ fn change(variables: &mut Variables<Global>) {
 
 /// What is kept of a variable: its value, whether it is isolated, assumed and deleted, and its mode.
 fn kept(
-    variables: &Variables<Global>,
+    variables: &LinkedVariables<Global>,
     var: Var,
 ) -> Option<(Option<bool>, [bool; 3], SamplingMode)> {
-    if var.index() >= variables.global_watermark() {
+    if var.index() >= variables.variables().global_watermark() {
         return None;
     }
     let data = variables.var_data_global(var);
@@ -215,13 +228,13 @@ fn kept(
 }
 
 /// Whether what is kept of the first of two variables changes, and of the second not.
-fn changes(variables: &mut Variables<Global>) -> Result<bool, AllocError> {
+fn changes(variables: &mut LinkedVariables<Global>) -> Result<bool, AllocError> {
     name(variables, var!(2))?;
     change(variables);
     let first = (Some(false), [false, true, false], SamplingMode::Witness);
     let second = (None, [true, false, false], SamplingMode::Sample);
     Ok(
-        variables.global_watermark() == 2
+        variables.variables().global_watermark() == 2
             && kept(variables, var!(1)) == Some(first)
             && kept(variables, var!(2)) == Some(second),
     )
@@ -229,7 +242,7 @@ fn changes(variables: &mut Variables<Global>) -> Result<bool, AllocError> {
 
 #[test]
 fn what_is_kept_changes(rt: HostRuntime) {
-    let mut variables = Variables::new_in(rt.alloc());
+    let mut variables = LinkedVariables::new_in(rt.alloc());
     assert!(rt; matches!(changes(&mut variables), Ok(true)));
 }
 
@@ -259,7 +272,7 @@ fn maps_go_both_ways(rt: HostRuntime) {
 }
 
 /// Whether a high name brings as many names and global variables, and no solver variable.
-fn is_high(variables: &mut Variables<Global>) -> Result<bool, AllocError>
+fn is_high(variables: &mut LinkedVariables<Global>) -> Result<bool, AllocError>
     requires { variables.old ≡ no_variables }
 {
     variables.name_user_var(Var::from_index(99_999))?;
@@ -268,7 +281,7 @@ fn is_high(variables: &mut Variables<Global>) -> Result<bool, AllocError>
 
 #[test]
 fn many_names_are_cheap(rt: HostRuntime) {
-    let mut variables = Variables::new_in(rt.alloc());
+    let mut variables = LinkedVariables::new_in(rt.alloc());
     assert!(rt; matches!(is_high(&mut variables), Ok(true)));
 }
 

@@ -1,10 +1,15 @@
 //! What is kept of each global variable.
+ghost use Rattle.std.specs.Prelude.{◌≡◌};
+ghost use Rattle.varisat_names.specs.VarData.{fresh, dead};
 
 /// How a variable may be used.
 #[derive(Clone, Copy, Debug, PartialEq, Eq)]
 pub enum SamplingMode {
+    /// It has a name, and clauses may name it.
     Sample,
+    /// It has a name, and models tell its value, but clauses and assumptions may not name it.
     Witness,
+    /// It has no name, and lives on in the clauses alone.
     Hide,
 }
 
@@ -21,4 +26,34 @@ pub struct VarData {
     pub assumed: bool,
     /// The variable is not live, and may be used again.
     pub deleted: bool,
+}
+
+impl Default for VarData {
+    /// What is kept of a variable that is not live.
+    fn default() -> VarData
+        ensures { result ≡ dead }
+    {
+        VarData {
+            sampling_mode: SamplingMode::Hide,
+            unit: None,
+            isolated: true,
+            assumed: false,
+            deleted: true,
+        }
+    }
+}
+
+impl VarData {
+    /// What is kept of a variable that just came into use for a name.
+    pub fn user_default() -> VarData
+        ensures { result ≡ fresh }
+    {
+        VarData {
+            sampling_mode: SamplingMode::Sample,
+            unit: None,
+            isolated: true,
+            assumed: false,
+            deleted: false,
+        }
+    }
 }

@@ -1,14 +1,15 @@
 //! What is kept of the global variables, and which may be used again.
-ghost use Rattle.std.specs.Prelude.{◌≡◌, ◌<◌, ◌≤◌, true, [], length, OnOk, OnErr};
-ghost use Rattle.varisat_names.specs.VarData.{fresh, dead, kept_at, IsKeptAs, IsLeastDeleted};
+ghost use Rattle.std.specs.Prelude.{◌≡◌, ◌<◌, ◌≤◌, ◌^◌, true, false, [], length, OnOk, OnErr};
+ghost use Rattle.std.specs.Borrow.{sem};
+ghost use Rattle.varisat_names.specs.VarData.{fresh, dead, kept_at, reaching, IsKeptAs, IsLeastDeleted, AreDeleted};
 
-use super::data::{SamplingMode, VarData};
+use super::data::VarData;
 use std::alloc::{AllocError, Allocator};
 use std::collections::BTreeSet;
 use std::marker::Model;
 use varisat_literals::Var;
 
-/// The data of each global variable, with the set of those that are deleted.
+/// The data of each global variable, with a list of those that may be used again.
 #[derive(Drop)]
 pub struct Globals<A: Allocator + Copy> {
     data: Vec<VarData, A>,
@@ -16,21 +17,24 @@ pub struct Globals<A: Allocator + Copy> {
 }
 
 impl<A: Allocator + Copy> Model for Globals<A> {
+    ghost use Rattle.std.specs.Prelude.{◌≤◌, ◌^◌, length};
     ghost use Rattle.std.specs.Vec.{vec_capacity};
-    ghost use Rattle.varisat_names.specs.Variables.{AreDeleted};
     ghost use Rattle.varisat_names.specs.VarData.{KeptList};
 
     ghost Value = { KeptList };
 
-    ghost view = { λ g. record { kept = g.data.items; capacity = vec_capacity g.data } };
+    ghost view = { λ g. record { kept = g.data.items; capacity = vec_capacity g.data; free = g.free } };
 
-    ghost invariant = { λ g. AreDeleted g.data.items g.free };
+    ghost invariant = { λ g. length g.data.items ≤ 2 ^ 31 };
 }
 
 impl<A: Allocator + Copy> Globals<A> {
+    ghost use Rattle.varisat_names.specs.Lending.{lends_kept};
+
     /// No variables. It takes no memory.
     pub fn new_in(alloc: A) -> Globals<A>
-        ensures { result.kept ≡ [] }
+        ensures kept { result.kept ≡ [] }
+        ensures listed { AreDeleted result.kept result.free }
     {
         Globals {
             data: Vec::new(alloc),
@@ -45,8 +49,16 @@ impl<A: Allocator + Copy> Globals<A> {
         self.data.len()
     }
 
+    /// There are no more than variables have indices.
+    pub fn prove_small(&self)
+        ensures { length self.now.kept ≤ 2 ^ 31 }
+    {
+        let _ = &self.data;
+    }
+
     /// The least variable that is not live: one that was deleted, else the next one.
     pub fn next_deleted(&self) -> usize
+        requires { AreDeleted self.now.kept self.now.free }
         ensures near { result ≤ length self.now.kept }
         ensures least { IsLeastDeleted self.now.kept result }
     {
@@ -59,6 +71,7 @@ impl<A: Allocator + Copy> Globals<A> {
     /// Makes room for one more variable. Where memory is refused the variables stay.
     pub fn reserve(&mut self) -> Result<(), AllocError>
         ensures kept { self.new.kept ≡ self.old.kept }
+        ensures free { self.new.free ≡ self.old.free }
         ensures room { OnOk result (length self.new.kept < self.new.capacity) }
     {
         self.data.reserve(1)?;
@@ -70,38 +83,41 @@ impl<A: Allocator + Copy> Globals<A> {
         requires near { global ≤ length self.old.kept }
         requires unused { (kept_at self.old.kept global).deleted ≡ true }
         requires room { length self.old.kept < self.old.capacity }
-        ensures { IsKeptAs self.old.kept global fresh self.new.kept }
+        requires listed { AreDeleted self.old.kept self.old.free }
+        ensures kept { IsKeptAs self.old.kept global fresh self.new.kept }
+        ensures listed { AreDeleted self.new.kept self.new.free }
     {
-        let data = VarData {
-            sampling_mode: SamplingMode::Sample,
-            unit: None,
-            isolated: true,
-            assumed: false,
-            deleted: false,
-        };
         if global.index() < self.data.len() {
             self.free.remove(&global.index());
-            self.data[global.index()] = data;
+            self.data[global.index()] = VarData::user_default();
         } else {
-            self.data.push_reserved(data);
+            self.data.push_reserved(VarData::user_default());
         }
     }
 
     /// Deletes a variable, which may be used again. Where memory is refused nothing changes.
     pub fn delete(&mut self, global: Var) -> Result<(), AllocError>
-        requires { global < length self.old.kept }
+        requires made { global < length self.old.kept }
+        requires listed { AreDeleted self.old.kept self.old.free }
         ensures deleted { OnOk result (IsKeptAs self.old.kept global dead self.new.kept) }
         ensures refused { OnErr result (self.new.kept ≡ self.old.kept) }
+        ensures listed { AreDeleted self.new.kept self.new.free }
     {
         self.free.insert(global.index())?;
-        self.data[global.index()] = VarData {
-            sampling_mode: SamplingMode::Hide,
-            unit: None,
-            isolated: true,
-            assumed: false,
-            deleted: true,
-        };
+        self.data[global.index()] = VarData::default();
         Ok(())
+    }
+
+    /// Keeps data of a live variable in the place of one that was deleted.
+    pub fn restore(&mut self, global: Var, old_data: VarData)
+        requires made { global < length self.old.kept }
+        requires live { old_data.deleted ≡ false }
+        requires listed { AreDeleted self.old.kept self.old.free }
+        ensures kept { IsKeptAs self.old.kept global old_data self.new.kept }
+        ensures listed { AreDeleted self.new.kept self.new.free }
+    {
+        self.free.remove(&global.index());
+        self.data[global.index()] = old_data;
     }
 
     /// What is kept of the variable.
@@ -112,11 +128,34 @@ impl<A: Allocator + Copy> Globals<A> {
         &self.data[global.index()]
     }
 
+    /// What is kept of the variable, to be changed. The list of those that may be used again stays.
+    pub fn data_mut(&mut self, global: Var) -> &mut VarData
+        requires { global < length self.old.kept }
+        ensures* lends { sem 𝓛 (lends_kept A.row A.Allocator self.entry global result) }
+        ensures value { result.now ≡ kept_at self.old.kept global }
+    {
+        &mut self.data[global.index()]
+    }
+
+    /// Raises the count above the variable. Those that join are not live. Where memory is refused nothing changes.
+    pub fn reach(&mut self, global: Var) -> Result<(), AllocError>
+        ensures reached { OnOk result (self.new.kept ≡ reaching self.old.kept global) }
+        ensures refused { OnErr result (self.new.kept ≡ self.old.kept) }
+        ensures free { self.new.free ≡ self.old.free }
+    {
+        if self.data.len() <= global.index() {
+            self.data.resize(global.index() + 1, VarData::default())?;
+        }
+        Ok(())
+    }
+
     /// Keeps other data of the variable, which is live as it was before.
     pub fn set_data(&mut self, global: Var, new_data: VarData)
         requires made { global < length self.old.kept }
         requires live { new_data.deleted ≡ (kept_at self.old.kept global).deleted }
-        ensures { IsKeptAs self.old.kept global new_data self.new.kept }
+        requires listed { AreDeleted self.old.kept self.old.free }
+        ensures kept { IsKeptAs self.old.kept global new_data self.new.kept }
+        ensures listed { AreDeleted self.new.kept self.new.free }
     {
         self.data[global.index()] = new_data;
     }

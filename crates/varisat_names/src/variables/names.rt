@@ -1,15 +1,17 @@
 //! Names that are given out, the least free one first, and the variables that they lead to.
 ghost use Rattle.std.specs.Prelude.{◌≡◌, ◌≤◌, ◌<◌, ◌^◌, length, Some, None, OnOk, OnErr};
+ghost use Rattle.std.specs.Borrow.{sem};
 ghost use Rattle.varisat_names.specs.VarMap.{at, IsLeastUnmapped};
 ghost use Rattle.varisat_names.specs.VarBiMap.{no_pairs, IsJoined, IsParted};
+ghost use Rattle.varisat_names.specs.Variables.{AreFree};
 
-use super::var_map::VarBiMap;
+use super::var_map::{Direction, VarBiMap, VarBiMapMut};
 use std::alloc::{AllocError, Allocator};
 use std::collections::BTreeSet;
 use std::marker::Model;
 use varisat_literals::Var;
 
-/// A one-to-one map from names to variables, with the set of the names below the watermark that are free.
+/// A one-to-one map from names to variables, with a list of the names below the watermark that are free.
 #[derive(Drop)]
 pub struct NameSpace<A: Allocator + Copy> {
     pairs: VarBiMap<A>,
@@ -17,20 +19,20 @@ pub struct NameSpace<A: Allocator + Copy> {
 }
 
 impl<A: Allocator + Copy> Model for NameSpace<A> {
-    ghost use Rattle.varisat_names.specs.VarBiMap.{BiMap};
-    ghost use Rattle.varisat_names.specs.Variables.{AreFree};
+    ghost use Rattle.varisat_names.specs.Variables.{NamePairs};
 
-    ghost Value = { BiMap };
+    ghost Value = { NamePairs };
 
-    ghost view = { λ n. n.pairs };
-
-    ghost invariant = { λ n. AreFree n.pairs.forward n.free };
+    ghost view = { λ n. record { pairs = n.pairs; free = n.free } };
 }
 
 impl<A: Allocator + Copy> NameSpace<A> {
+    ghost use Rattle.varisat_names.specs.Lending.{lends_pairs};
+
     /// No name is in use. It takes no memory.
     pub fn new_in(alloc: A) -> NameSpace<A>
-        ensures { result ≡ no_pairs }
+        ensures pairs { result.pairs ≡ no_pairs }
+        ensures listed { AreFree result.pairs.forward result.free }
     {
         NameSpace {
             pairs: VarBiMap::new_in(alloc),
@@ -40,15 +42,34 @@ impl<A: Allocator + Copy> NameSpace<A> {
 
     /// The names with their variables.
     pub fn pairs(&self) -> &VarBiMap<A>
-        ensures { result.now ≡ self.now }
+        ensures { result.now ≡ self.now.pairs }
     {
         &self.pairs
     }
 
+    /// The map from names to variables, to be changed. The list of free names stays.
+    pub fn fwd_mut(&mut self) -> VarBiMapMut<'_, A>
+        ensures* lends { sem 𝓛 (lends_pairs A.row A.Allocator self.entry result) }
+        ensures map { result.map.now ≡ self.old.pairs }
+        ensures direction { result.direction ≡ Direction.Forward }
+    {
+        self.pairs.fwd_mut()
+    }
+
+    /// The map from variables to names, to be changed. The list of free names stays.
+    pub fn bwd_mut(&mut self) -> VarBiMapMut<'_, A>
+        ensures* lends { sem 𝓛 (lends_pairs A.row A.Allocator self.entry result) }
+        ensures map { result.map.now ≡ self.old.pairs }
+        ensures direction { result.direction ≡ Direction.Backward }
+    {
+        self.pairs.bwd_mut()
+    }
+
     /// The least free name: below the watermark, else the watermark.
     pub fn next_free(&self) -> usize
-        ensures least { IsLeastUnmapped self.now.forward result }
-        ensures near { result ≤ length self.now.forward }
+        requires { AreFree self.now.pairs.forward self.now.free }
+        ensures least { IsLeastUnmapped self.now.pairs.forward result }
+        ensures near { result ≤ length self.now.pairs.forward }
     {
         match self.free.first() {
             Some(name) => *name,
@@ -59,11 +80,13 @@ impl<A: Allocator + Copy> NameSpace<A> {
     /// The free name, which is not above the watermark, leads to the variable, which has no name. Where memory is
     /// refused nothing changes.
     pub fn give(&mut self, variable: Var, name: Var) -> Result<(), AllocError>
-        requires name_is_free { at self.old.forward name ≡ None }
-        requires near { name ≤ length self.old.forward }
-        requires unnamed { at self.old.backward variable ≡ None }
-        ensures joined { OnOk result (IsJoined self.old self.new name variable) }
-        ensures refused { OnErr result (self.new ≡ self.old) }
+        requires name_is_free { at self.old.pairs.forward name ≡ None }
+        requires near { name ≤ length self.old.pairs.forward }
+        requires unnamed { at self.old.pairs.backward variable ≡ None }
+        requires listed { AreFree self.old.pairs.forward self.old.free }
+        ensures joined { OnOk result (IsJoined self.old.pairs self.new.pairs name variable) }
+        ensures refused { OnErr result (self.new.pairs ≡ self.old.pairs) }
+        ensures listed { AreFree self.new.pairs.forward self.new.free }
     {
         let watermark = self.pairs.fwd().watermark();
         self.pairs.insert(variable, name)?;
@@ -75,9 +98,11 @@ impl<A: Allocator + Copy> NameSpace<A> {
 
     /// The name of the variable is free again. Where memory is refused nothing changes.
     pub fn release(&mut self, variable: Var, name: Var) -> Result<(), AllocError>
-        requires named { at self.old.forward name ≡ Some variable }
-        ensures parted { OnOk result (IsParted self.old self.new name variable) }
-        ensures refused { OnErr result (self.new ≡ self.old) }
+        requires named { at self.old.pairs.forward name ≡ Some variable }
+        requires listed { AreFree self.old.pairs.forward self.old.free }
+        ensures parted { OnOk result (IsParted self.old.pairs self.new.pairs name variable) }
+        ensures refused { OnErr result (self.new.pairs ≡ self.old.pairs) }
+        ensures listed { AreFree self.new.pairs.forward self.new.free }
     {
         self.free.insert(name.index())?;
         self.pairs.remove(name);

@@ -1,7 +1,8 @@
 //! Maps between the variables of two name spaces.
-ghost use Rattle.std.specs.Prelude.{ℕ, ◌≡◌, ◌≢◌, ◌<◌, ◌≤◌, ◌+◌, ◌-◌, ◌++◌, max, length, replicate, take, List, [], Option, Some, None, MatchOption, OnOk, OnErr};
+ghost use Rattle.std.specs.Prelude.{ℕ, ◌≡◌, ◌≢◌, ◌<◌, ◌≤◌, ◌+◌, ◌-◌, ◌^◌, ◌++◌, max, length, replicate, take, List, [], Option, Some, None, MatchOption, OnOk, OnErr};
+ghost use Rattle.varisat_names.specs.Maps.{IsInverse};
 ghost use Rattle.varisat_names.specs.VarMap.{at, mapped, IsPut};
-ghost use Rattle.varisat_names.specs.VarBiMap.{no_pairs, IsJoined, IsParted};
+ghost use Rattle.varisat_names.specs.VarBiMap.{no_pairs, directed, IsJoined, IsParted};
 
 use std::alloc::{AllocError, Allocator};
 use std::marker::Model;
@@ -17,12 +18,14 @@ pub struct VarMap<A: Allocator + Copy> {
 }
 
 impl<A: Allocator + Copy> Model for VarMap<A> {
-    ghost use Rattle.std.specs.Prelude.{List, Option, ℕ, map};
+    ghost use Rattle.std.specs.Prelude.{List, Option, ℕ, ◌≤◌, ◌^◌, length, map};
     ghost use Rattle.varisat_names.specs.VarMap.{mapped};
 
     ghost Value = { List (Option ℕ) };
 
     ghost view = { λ m. map mapped m.mapping.items };
+
+    ghost invariant = { λ m. length m.mapping.items ≤ 2 ^ 31 };
 }
 
 impl<A: Allocator + Copy> VarMap<A> {
@@ -51,6 +54,13 @@ impl<A: Allocator + Copy> VarMap<A> {
         ensures { result ≡ length self.now }
     {
         self.mapping.len()
+    }
+
+    /// The watermark is at most the number of variables that there can be.
+    pub fn prove_small(&self)
+        ensures { length self.now ≤ 2 ^ 31 }
+    {
+        let _ = &self.mapping;
     }
 
     /// Maps the variable, which is not mapped. Where memory is refused nothing changes.
@@ -156,6 +166,37 @@ impl<A: Allocator + Copy> VarBiMap<A> {
         &self.bwd
     }
 
+    /// Each of the two maps undoes the other.
+    pub fn prove_inverse(&self)
+        ensures { IsInverse (at self.now.forward) (at self.now.backward) }
+    {
+        let _ = &self.fwd;
+    }
+
+    /// The map forward, to be changed together with the way back.
+    pub fn fwd_mut(&mut self) -> VarBiMapMut<'_, A>
+        ensures same_reference { result.map.ghost_name ≡ self.entry.ghost_name }
+        ensures map { result.map.now ≡ self.old }
+        ensures direction { result.direction ≡ Direction.Forward }
+    {
+        VarBiMapMut {
+            map: self,
+            direction: Direction::Forward,
+        }
+    }
+
+    /// The map backward, to be changed together with the way forward.
+    pub fn bwd_mut(&mut self) -> VarBiMapMut<'_, A>
+        ensures same_reference { result.map.ghost_name ≡ self.entry.ghost_name }
+        ensures map { result.map.now ≡ self.old }
+        ensures direction { result.direction ≡ Direction.Backward }
+    {
+        VarBiMapMut {
+            map: self,
+            direction: Direction::Backward,
+        }
+    }
+
     /// Maps the one to the other, neither of which is mapped. Where memory is refused nothing changes.
     pub fn insert(&mut self, into: Var, from: Var) -> Result<(), AllocError>
         requires from_is_free { at self.old.forward from ≡ None }
@@ -182,5 +223,63 @@ impl<A: Allocator + Copy> VarBiMap<A> {
         self.fwd.remove(from);
         self.bwd.remove(into);
         Some(into)
+    }
+
+    /// Takes the pair out that leads to the variable, if there is one.
+    fn remove_into(&mut self, target: Var) -> Option<Var>
+        ensures { MatchOption result ((at self.old.backward target ≡ None) × (self.new ≡ self.old)) (λ source. (at self.old.backward target ≡ Some source) × IsParted self.old self.new source target) }
+    {
+        let source = self.bwd.get(target)?;
+        self.bwd.remove(target);
+        self.fwd.remove(source);
+        Some(source)
+    }
+}
+
+/// From which side a map is seen.
+#[derive(Clone, Copy, Debug, PartialEq, Eq)]
+pub enum Direction {
+    Forward,
+    Backward,
+}
+
+/// A map with the way back, to be changed from one side.
+#[derive(Drop)]
+pub struct VarBiMapMut<'a, A: Allocator + Copy> {
+    pub map: &'a mut VarBiMap<A>,
+    pub direction: Direction,
+}
+
+impl<'a, A: Allocator + Copy> VarBiMapMut<'a, A> {
+    /// Maps the one to the other, neither of which is mapped. Where memory is refused nothing changes.
+    pub fn insert(&mut self, into: Var, from: Var) -> Result<(), AllocError>
+        requires from_is_free { at (directed self.old.direction self.old.map.now).forward from ≡ None }
+        requires into_is_free { at (directed self.old.direction self.old.map.now).backward into ≡ None }
+        ensures same_reference { self.new.map.ghost_name ≡ self.old.map.ghost_name }
+        ensures direction { self.new.direction ≡ self.old.direction }
+        ensures joined { OnOk result (IsJoined (directed self.old.direction self.old.map.now) (directed self.old.direction self.new.map.now) from into) }
+        ensures refused { OnErr result (self.new.map.now ≡ self.old.map.now) }
+    {
+        let direction = self.direction;
+        let map = &mut *self.map;
+        match direction {
+            Direction::Forward => map.insert(into, from)?,
+            Direction::Backward => map.insert(from, into)?,
+        }
+        Ok(())
+    }
+
+    /// Takes the pair of the variable out, if it is mapped.
+    pub fn remove(&mut self, from: Var) -> Option<Var>
+        ensures same_reference { self.new.map.ghost_name ≡ self.old.map.ghost_name }
+        ensures direction { self.new.direction ≡ self.old.direction }
+        ensures parted { MatchOption result ((at (directed self.old.direction self.old.map.now).forward from ≡ None) × (self.new.map.now ≡ self.old.map.now)) (λ into. (at (directed self.old.direction self.old.map.now).forward from ≡ Some into) × IsParted (directed self.old.direction self.old.map.now) (directed self.old.direction self.new.map.now) from into) }
+    {
+        let direction = self.direction;
+        let map = &mut *self.map;
+        match direction {
+            Direction::Forward => map.remove(from),
+            Direction::Backward => map.remove_into(from),
+        }
     }
 }

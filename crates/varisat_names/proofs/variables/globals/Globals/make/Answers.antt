@@ -1,9 +1,11 @@
-use Rattle.std.proofs.Common.{arith}
-use Rattle.varisat_names.specs.VarData.{fresh}
+use Rattle.std.proofs.Common.{sym, subst, slice_set, arith}
+use Rattle.varisat_names.specs.VarData.{fresh, IsKeptAs}
 use Rattle.varisat_names.proofs.Tables.{set-kept}
 use Rattle.varisat_names.proofs.variables.globals.Globals.make.Goals as goal
 
-pub returns-then-index-len : goal.returns-then-index-len
-returns-then-index-len g c =
+pub returns-then-index-len-clause-kept : goal.returns-then-index-len-clause-kept
+returns-then-index-len-clause-kept g c =
     let below = c.if-index-len.true in
-    rw (← c.self.view_is) (set-kept c.self.inside.data.items c.args.global c.index-then-index-len-2.result fresh c.index-then-index-len-2.ensures.index (omega (arith, below, c.index.ensures.index, c.len.ensures)))
+    let items = c.self.inside.data.items in
+    let index = c.index-then-index-len-2.result in
+    rw (← c.self.view_is) (subst (λ d. IsKeptAs items c.args.global fresh (slice_set items index d)) (sym c.user_default.ensures) (set-kept items c.args.global index fresh c.index-then-index-len-2.ensures.index (omega (arith, below, c.index.ensures.index, c.len.ensures))))

@@ -1,7 +1,7 @@
 use Rattle.std.proofs.Common.{length, subst, arith}
 use Rattle.varisat_names.specs.Variables.{IsGiven, AreNextGiven}
 use Rattle.varisat_names.proofs.Tables.{one-more}
-use Rattle.varisat_names.proofs.variables.Variables.give_user_vars_up_to.Goals as goal
+use Rattle.varisat_names.proofs.variables.linked.LinkedVariables.give_user_vars_up_to.Goals as goal
 
 pub loop-index-preserved : goal.loop-index-preserved
 loop-index-preserved g c =

@@ -2,7 +2,7 @@ use Rattle.std.proofs.Common.{sym, ap, ◌∙◌, refl, arith}
 use Rattle.varisat_names.specs.Variables.{InUse, Free}
 use Rattle.varisat_names.specs.VarMap.{at}
 use Rattle.varisat_names.proofs.Maps.{some-of}
-use Rattle.varisat_names.proofs.variables.Variables.name_user_var.Goals as goal
+use Rattle.varisat_names.proofs.variables.linked.LinkedVariables.name_user_var.Goals as goal
 
 pub returns-in_ok-give_user_var-clause-named : goal.returns-in_ok-give_user_var-clause-named
 returns-in_ok-give_user_var-clause-named g c =

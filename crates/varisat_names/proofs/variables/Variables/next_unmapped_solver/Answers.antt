@@ -1,0 +1,6 @@
+use Rattle.std.proofs.Common.{sym, subst}
+use Rattle.varisat_names.specs.Variables.{AreFree}
+use Rattle.varisat_names.proofs.variables.Variables.next_unmapped_solver.Goals as goal
+
+pub next_free-requires : goal.next_free-requires
+next_free-requires g c = subst (λ p. AreFree p.tables.solvers.backward p.free.solvers) (sym c.self.view_is) c.requires.listed

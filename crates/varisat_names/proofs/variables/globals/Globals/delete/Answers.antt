@@ -1,0 +1,8 @@
+use Rattle.std.proofs.Common.{sym, subst}
+use Rattle.varisat_names.specs.VarData.{AreDeleted}
+use Rattle.varisat_names.proofs.variables.globals.Globals.delete.Goals as goal
+
+pub returns-in_err-insert-clause-listed : goal.returns-in_err-insert-clause-listed
+returns-in_err-insert-clause-listed g c =
+    let listed = subst (λ k. AreDeleted k.kept k.free) (sym c.self.view_is) c.requires.listed in
+    subst (λ ks. AreDeleted c.self.inside.data.items (record { keys = ks })) (sym c.in_err-insert.ensures.err) listed

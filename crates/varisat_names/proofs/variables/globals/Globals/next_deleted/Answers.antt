@@ -1,0 +1,8 @@
+use Rattle.std.proofs.Common.{sym, subst, arith}
+use Rattle.varisat_names.specs.VarData.{AreDeleted}
+use Rattle.varisat_names.proofs.variables.globals.Globals.next_deleted.Goals as goal
+
+pub returns-in-Some-clause-near : goal.returns-in-Some-clause-near
+returns-in-Some-clause-near g c =
+    let listed = subst (λ k. AreDeleted k.kept k.free) (sym c.self.view_is) c.requires in
+    rw (← c.self.view_is) (let below = ((listed c.in-Some.global.now).0 c.in-Some.ensures.member).0 in omega (arith, below))

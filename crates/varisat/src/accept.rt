@@ -81,7 +81,11 @@ fn mark_joined<A: Allocator + Copy>(variables: &mut LinkedVariables<A>, clause: 
 }
 
 /// Marks the variables of the list as assumed, or takes their marks away.
-fn mark_assumed<A: Allocator + Copy>(variables: &mut LinkedVariables<A>, list: &[Lit], assumed: bool)
+fn mark_assumed<A: Allocator + Copy>(
+    variables: &mut LinkedVariables<A>,
+    list: &[Lit],
+    assumed: bool,
+)
     requires { HasNames list.now variables.old }
     ensures { AreMarked list.now assumed variables.old variables.new }
 {

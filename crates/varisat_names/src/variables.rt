@@ -28,8 +28,7 @@ pub use var_map::{Direction, VarBiMap, VarBiMapMut, VarMap};
 use varisat_literals::Var;
 
 /// Names of the user, global variables and solver variables, with lists of those that are free. Maps, data and lists
-/// may each
-/// be changed by itself; `LinkedVariables` are such as fit each other.
+/// may each be changed by itself; `LinkedVariables` are such as fit each other.
 #[derive(Drop)]
 pub struct Variables<A: Allocator + Copy> {
     users: NameSpace<A>,

@@ -16,8 +16,7 @@ use std::marker::Model;
 use varisat_literals::Var;
 
 /// Names of the user, global variables and solver variables. A variable with a name or a solver variable is live, and
-/// the
-/// lists hold exactly what is free.
+/// the lists hold exactly what is free.
 #[derive(Drop)]
 pub struct LinkedVariables<A: Allocator + Copy> {
     variables: Variables<A>,

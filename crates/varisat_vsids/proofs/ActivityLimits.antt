@@ -1,5 +1,5 @@
 -- Activities and the increment stay below the limit, and a shift keeps the order.
-use Rattle.std.proofs.Common.{◌≡◌, ℕ, zero, suc, ◌+◌, ◌*◌, ◌/◌, ◌^◌, ◌<◌, ◌≤◌, List, [], ◌∷◌, ◌++◌, length, get_or, set, map, Bool, true, false, refl, sym, ap, ◌∙◌, inl, inr, arith}
+use Rattle.std.proofs.Common.{◌≡◌, ℕ, zero, suc, ◌*◌, ◌/◌, ◌^◌, ◌<◌, ◌≤◌, List, [], ◌∷◌, ◌++◌, length, get_or, set, map, Bool, true, false, refl, sym, ap, ◌∙◌, inl, inr, arith}
 use Rattle.std.proofs.Common.{get_or-set_same, get_or-set_other}
 use Rattle.std.proofs.lemmas.Bool.Decides.{eqb_tells, nat_tests}
 use Rattle.std.proofs.lemmas.List.{length-map}
@@ -8,7 +8,7 @@ use Rattle.std.proofs.Math.Nat.{div-le_self}
 use Rattle.std.proofs.Math.ListN.{get_or-map}
 use Rattle.std.specs.Prelude.{nat_le, max}
 use Rattle.varisat_vsids.specs.Heaps.{IsHeap, key}
-use Rattle.varisat_vsids.specs.Activities.{AreWithinLimits, activity_limit, least_increment, reaches_limit, shifted, shifted_increment, rescaled, bumped, decayed}
+use Rattle.varisat_vsids.specs.Activities.{AreWithinLimits, activity_limit, least_increment, reaches_limit, shifted, shifted_increment, rescaled, decayed}
 use Rattle.varisat_vsids.proofs.HeapOrder.{IsOrdered-map}
 use Rattle.varisat_vsids.proofs.HeapView.{activities_with}
 
@@ -32,12 +32,12 @@ rescaled_is : (full : Bool) (activity : List ℕ) (available : List Bool) (i d :
     → activities_with (shifted full activity) available (shifted_increment full i) d ≡ rescaled (activities_with activity available i d)
 rescaled_is full activity available i d r = ap (λ (b : Bool). activities_with (shifted b activity) available (shifted_increment b i) d) (sym r)
 
--- what the bumped activity reaches decides
-pub bumped_is : (full : Bool) (activity : List ℕ) (available : List Bool) (v i d x : ℕ) → AreWithinLimits activity i d → v < length activity → x ≡ get_or activity v 0 + i → nat_le activity_limit x ≡ full
-    → activities_with (shifted full (set activity v x)) available (shifted_increment full i) d ≡ bumped v (activities_with activity available i d)
-bumped_is full activity available v i d x w h e f =
+-- what one activity that was set reaches decides
+pub set_is : (full : Bool) (activity : List ℕ) (available : List Bool) (v i d x : ℕ) → AreWithinLimits activity i d → v < length activity → nat_le activity_limit x ≡ full
+    → activities_with (shifted full (set activity v x)) available (shifted_increment full i) d ≡ rescaled (activities_with (set activity v x) available i d)
+set_is full activity available v i d x w h f =
     let r : reaches_limit (i ∷ set activity v x) ≡ full = rw (under i w.small) (one_reaches activity v x w.below h ∙ f) in
-    rescaled_is full (set activity v x) available i d r ∙ ap (λ (y : ℕ). rescaled (activities_with (set activity v y) available i d)) e
+    rescaled_is full (set activity v x) available i d r
 
 -- what the increment reaches decides
 pub decayed_is : (full : Bool) (activity : List ℕ) (available : List Bool) (i d : ℕ) → AreWithinLimits activity i d → nat_le activity_limit (i * 1000 / d) ≡ full
@@ -65,10 +65,10 @@ shifted_limits activity i d below few slow fast = record {
   fast = fast;
 }
 
-pub raised_below : (activity : List ℕ) (v i d x : ℕ) → AreWithinLimits activity i d → v < length activity → x ≡ get_or activity v 0 + i → (w : ℕ) → get_or (set activity v x) w 0 < 2 ^ 61
+pub raised_below : (activity : List ℕ) (v i d x : ℕ) → AreWithinLimits activity i d → v < length activity → x < 2 ^ 61 → (w : ℕ) → get_or (set activity v x) w 0 < 2 ^ 61
 raised_below activity v i d x l h e w =
     elim (eqb_tells w v) [
-      | inl t ↦ let b : get_or activity v 0 < activity_limit = l.below v in rw (t.1, get_or-set_same activity v x 0 h) (omega (arith, b, l.small, e))
+      | inl t ↦ rw (t.1, get_or-set_same activity v x 0 h) e
       | inr t ↦ let b : get_or activity w 0 < activity_limit = l.below w in rw (get_or-set_other activity v w x 0 t.1) (omega (arith, b))
     ]
 

@@ -5,7 +5,7 @@
 //! that their order stays.
 ghost use Rattle.std.specs.Prelude.{◌≡◌, ℕ, ◌+◌, ◌/◌, ◌<◌, ◌≤◌, ◌^◌, ◌∷◌, length, map, max, slice_index, slice_set, true, false, OnOk, OnErr, IfSome, IfNone};
 ghost use Rattle.varisat_literals.specs.Numbers.{variable_limit};
-ghost use Rattle.varisat_vsids.specs.Activities.{Activities, no_activities, activity_limit, least_increment, is_available, bumped, decayed, with_available, raised_to, IsGreatest, TakesGreatest, available_count, AreWithinLimits};
+ghost use Rattle.varisat_vsids.specs.Activities.{Activities, no_activities, activity_limit, least_increment, is_available, rescaled, bumped, decayed, with_available, raised_to, IsGreatest, TakesGreatest, available_count, AreWithinLimits};
 
 use crate::heap::{put_in, reorder, take_out};
 use std::alloc::{AllocError, Allocator};
@@ -108,13 +108,13 @@ impl<A: Allocator + Copy> Vsids<A> {
         self.decay = decay;
     }
 
-    /// Raises the activity of the variable by the increment.
-    pub fn bump(&mut self, var: Var)
-        requires { var < length self.old.activity }
-        ensures bumped { self.new ≡ bumped var self.old }
-        ensures count { length self.new.activity ≡ length self.old.activity }
+    /// Gives the variable the activity. Where that reaches the limit, all are shifted.
+    fn set_activity(&mut self, var: Var, value: u64)
+        requires known { var < length self.old.activity }
+        requires small { value < 2 ^ 61 }
+        ensures set { self.new ≡ rescaled (record self.old { activity = slice_set self.old.activity var value }) }
+        ensures below { value < activity_limit → self.new ≡ record self.old { activity = slice_set self.old.activity var value } }
     {
-        let value = self.activity[var.index()] + self.increment;
         self.activity[var.index()] = value;
         reorder(
             &self.activity,
@@ -126,6 +126,16 @@ impl<A: Allocator + Copy> Vsids<A> {
         if value >= ACTIVITY_LIMIT {
             self.increment = rescale(&mut self.activity, self.increment);
         }
+    }
+
+    /// Raises the activity of the variable by the increment.
+    pub fn bump(&mut self, var: Var)
+        requires { var < length self.old.activity }
+        ensures bumped { self.new ≡ bumped var self.old }
+        ensures count { length self.new.activity ≡ length self.old.activity }
+    {
+        let value = self.activity[var.index()] + self.increment;
+        self.set_activity(var, value);
     }
 
     /// Makes what later bumps add greater in proportion to what earlier ones have added.
@@ -144,14 +154,7 @@ impl<A: Allocator + Copy> Vsids<A> {
         requires { var < length self.old.activity }
         ensures { self.new ≡ record self.old { activity = slice_set self.old.activity var 0 } }
     {
-        self.activity[var.index()] = 0;
-        reorder(
-            &self.activity,
-            &mut self.heap,
-            &mut self.position,
-            self.len,
-            var,
-        );
+        self.set_activity(var, 0);
     }
 
     /// Makes the variable unavailable.

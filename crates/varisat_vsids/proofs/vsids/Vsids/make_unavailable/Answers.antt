@@ -1,7 +1,6 @@
-use Rattle.std.proofs.Common.{◌≡◌, ◌-◌, ◌∙◌, ap, arith, refl, length, false, ◌<◌}
+use Rattle.std.proofs.Common.{◌-◌, ◌∙◌, ap, arith, refl, length, false, ◌<◌}
 use Rattle.std.proofs.lemmas.Bool.Decides.{nat_tests}
 use Rattle.std.proofs.lemmas.List.{with_items_is}
-use Rattle.std.specs.Prelude.{nat_lt}
 use Rattle.varisat_vsids.specs.Heaps.{availability}
 use Rattle.varisat_vsids.proofs.HeapView.{stays_as, of_variable, same_activities}
 use Rattle.varisat_vsids.proofs.vsids.Vsids.make_unavailable.Goals as goal

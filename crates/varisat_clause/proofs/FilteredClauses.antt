@@ -7,20 +7,12 @@ use Rattle.varisat_clause.specs.Stores.{Store, clauses_of, IsSound, Holds}
 use Rattle.varisat_clause.specs.Databases.{Database, is_live, Tracks}
 use Rattle.varisat_clause.specs.Filters.{Alters, left_if, FiltersAt, FiltersOne, Filters, StopsWithin}
 use Rattle.varisat_clause.specs.Filters.FiltersOne.{PassesOver, ComesTo}
-use Rattle.varisat_clause.proofs.StoredClauses.{clause-here, clause-later, clause-same, clause-place}
+use Rattle.varisat_clause.proofs.StoredClauses.{clause-here, clause-later, clause-same, clause-place, clause-twice}
 use Rattle.varisat_clause.proofs.StoreSound.{are-rising, place-of}
 use Rattle.varisat_clause.proofs.DatabaseTracks.{place-is, clause-self, tracks-changed, adjusts-kept}
 use Rattle.varisat_clause.proofs.CollectedClauses.{length-places, clause-of-index}
 
--- another clause in place of another one, and as many as before
-clause-twice : (ks : List StoredClause) (p : ℕ) (c j : StoredClause) → c.place ≡ p → with_clause (with_clause ks p c) p j ≡ with_clause ks p j
-clause-twice [] p c j e = refl
-clause-twice (k ∷ ks) p c j e =
-    ⊎_elim
-    (λ f. ap (λ xs. with_clause xs p j) (clause-here k ks p c f) ∙ clause-here c ks p j e ∙ sym (clause-here k ks p j f))
-    (λ n. ap (λ xs. with_clause xs p j) (clause-later k ks p c n) ∙ clause-later k (with_clause ks p c) p j n ∙ ap (λ xs. k ∷ xs) (clause-twice ks p c j e) ∙ sym (clause-later k ks p j n))
-    (equal_or_not k.place p)
-
+-- as many clauses as before
 with-length : (ks : List StoredClause) (p : ℕ) (j : StoredClause) → length (with_clause ks p j) ≡ length ks
 with-length [] p j = refl
 with-length (k ∷ ks) p j =

@@ -289,3 +289,12 @@ clause-place (k ∷ ks) p q j f h =
     (λ n. let (x, i, g) = clause-place ks p q j f (place-later k ks q h n) in (x, inr i, g))
     (equal_or_not k.place q)))
     (equal_or_not k.place p)
+
+-- of two clauses that are put there one after the other the second is left
+pub clause-twice : (ks : List StoredClause) (p : ℕ) (c j : StoredClause) → c.place ≡ p → with_clause (with_clause ks p c) p j ≡ with_clause ks p j
+clause-twice [] p c j e = refl
+clause-twice (k ∷ ks) p c j e =
+    ⊎_elim
+    (λ f. ap (λ xs. with_clause xs p j) (clause-here k ks p c f) ∙ clause-here c ks p j e ∙ sym (clause-here k ks p j f))
+    (λ n. ap (λ xs. with_clause xs p j) (clause-later k ks p c n) ∙ clause-later k (with_clause ks p c) p j n ∙ ap (λ xs. k ∷ xs) (clause-twice ks p c j e) ∙ sym (clause-later k ks p j n))
+    (equal_or_not k.place p)

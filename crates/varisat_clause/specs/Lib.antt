@@ -3,6 +3,7 @@ pub mod Headers
 pub mod HeaderFlags
 pub mod Stored
 pub mod Stores
+pub mod Additions
 pub mod Lending
 pub mod ClauseLending
 pub mod Databases

@@ -5,7 +5,7 @@ ghost use Rattle.varisat_clause.specs.declared.alloc.StoreError.TheVariants.{Mem
 ghost use Rattle.varisat_clause.specs.Headers.{header_from, flags_of};
 ghost use Rattle.varisat_clause.specs.Stored.{IsPlace, stored_at, header_at, literals_at, with_literals, with_header, shortened};
 ghost use Rattle.varisat_clause.specs.Reductions.{rank_in};
-ghost use Rattle.varisat_clause.specs.Stores.{no_store, len_at, header_in, clauses_of, IsSound, Holds, Adds, header_written, put_words};
+ghost use Rattle.varisat_clause.specs.Stores.{Store, no_store, len_at, header_in, clauses_of, IsSound, Holds, Adds, header_written, put_words};
 
 use crate::header::ClauseHeader;
 use std::alloc::{AllocError, Allocator};
@@ -76,8 +76,6 @@ pub struct ClauseAlloc<A: Allocator + Copy> {
 }
 
 impl<A: Allocator + Copy> Model for ClauseAlloc<A> {
-    ghost use Rattle.varisat_clause.specs.Stores.{Store};
-
     ghost Value = { Store };
 
     ghost view = { λ s. record { words = s.buffer.items; places = s.places.items } };

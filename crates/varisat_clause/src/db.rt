@@ -2,7 +2,8 @@
 ghost use Rattle.std.specs.Prelude.{◌≡◌, ℕ, ◌+◌, ◌-◌, ◌<◌, ◌≤◌, ◌^◌, ◌++◌, ◌∷◌, [], List, length, ◌↔◌, IfOk, IfErr, OnOk, OnErr, true, false, not};
 ghost use Rattle.varisat_clause.specs.Stored.{IsPlace, header_at, literals_at, with_header};
 ghost use Rattle.varisat_clause.specs.Stores.{clauses_of, IsSound, Holds, Adds};
-ghost use Rattle.varisat_clause.specs.Databases.{count_of, raised, lowered, no_lists, list_of, with_list, pushed, no_database, with_added, with_moved, with_deleted, Tracks};
+ghost use Rattle.varisat_clause.specs.Additions.{AddsOrRefuses};
+ghost use Rattle.varisat_clause.specs.Databases.{ListsByTier, Database, count_of, raised, lowered, no_lists, list_of, with_list, pushed, no_database, with_added, with_moved, with_deleted, Tracks};
 
 use crate::alloc::{ClauseAlloc, ClauseRef, StoreError};
 use crate::header::{ClauseHeader, Tier};
@@ -68,8 +69,6 @@ pub struct TierLists<A: Allocator + Copy> {
 }
 
 impl<A: Allocator + Copy> Model for TierLists<A> {
-    ghost use Rattle.varisat_clause.specs.Databases.{ListsByTier};
-
     ghost Value = { ListsByTier };
 
     ghost view = { λ l. record { irred = l.irred.items; core = l.core.items; mid = l.mid.items; local = l.local.items } };
@@ -84,12 +83,9 @@ fn add_listed<A: Allocator + Copy>(
 ) -> Result<ClauseRef, StoreError>
     requires long { 3 ≤ length lits.now }
     requires sound { IsSound alloc.old }
-    ensures added { IfOk result (λ cref. Adds alloc.old alloc.new (record { place = cref; header = record header { len = length lits.now }; literals = lits.now })) }
-    ensures room { IfOk result (λ cref. length alloc.old.words + 3 + length lits.now < 2 ^ 32) }
-    ensures full { IfErr result (λ error. (error ≡ StoreError.Full) ↔ (2 ^ 32 ≤ length alloc.old.words + 3 + length lits.now)) }
-    ensures refused { OnErr result (alloc.new ≡ alloc.old) }
     ensures listed { IfOk result (λ cref. list.new.items ≡ list.old.items ++ cref ∷ []) }
     ensures kept { OnErr result (list.new.items ≡ list.old.items) }
+    ensures store { AddsOrRefuses alloc.old alloc.new header lits.now result }
 {
     if !alloc.has_room(lits.len()) {
         return Err(StoreError::Full);
@@ -150,12 +146,9 @@ impl<A: Allocator + Copy> TierLists<A> {
     ) -> Result<ClauseRef, StoreError>
         requires long { 3 ≤ length lits.now }
         requires sound { IsSound alloc.old }
-        ensures added { IfOk result (λ cref. Adds alloc.old alloc.new (record { place = cref; header = record header { len = length lits.now }; literals = lits.now })) }
-        ensures room { IfOk result (λ cref. length alloc.old.words + 3 + length lits.now < 2 ^ 32) }
-        ensures full { IfErr result (λ error. (error ≡ StoreError.Full) ↔ (2 ^ 32 ≤ length alloc.old.words + 3 + length lits.now)) }
-        ensures refused { OnErr result (alloc.new ≡ alloc.old) }
         ensures listed { IfOk result (λ cref. self.new ≡ pushed header.tier cref self.old) }
         ensures kept { OnErr result (self.new ≡ self.old) }
+        ensures store { AddsOrRefuses alloc.old alloc.new header lits.now result }
     {
         match header.tier() {
             Tier::Irred => add_listed(alloc, &mut self.irred, header, lits),
@@ -175,8 +168,6 @@ pub struct ClauseDb<A: Allocator + Copy> {
 }
 
 impl<A: Allocator + Copy> Model for ClauseDb<A> {
-    ghost use Rattle.varisat_clause.specs.Databases.{Database};
-
     ghost Value = { Database };
 
     ghost view = { λ d. record { counts = d.counts; garbage = d.garbage; lists = d.lists } };

@@ -117,6 +117,25 @@ module _ (B : List (List Literal)) (a b : Literal) (first : opposite a < length 
     new = λ z w i. ⊎_elim (λ j. ⊎_elim inl (λ o. inr (inl o)) (push-new B (opposite a) b first z w j)) (λ o. inr (inr o)) (push-new C (opposite b) a second-inside z w i);
   }
 
+  -- a literal is implied from the other end too still, and no clause has a literal and its opposite
+  pub back-more : ((l m : Literal) → m ∈ get_or B l [] → opposite l ∈ get_or B (opposite m) []) → (l m : Literal) → m ∈ get_or (with_pair B a b) l [] → opposite l ∈ get_or (with_pair B a b) (opposite m) []
+  back-more back l m h = ⊎_elim
+      (λ k. adds-pair.old (opposite m) (opposite l) (back l m k))
+      (λ o. ⊎_elim
+      (λ (e, f). subst (λ x. x ∈ get_or (with_pair B a b) (opposite m) []) (sym (ap opposite e ∙ opposite_twice a)) (subst (λ x. a ∈ get_or (with_pair B a b) (opposite x) []) (sym f) adds-pair.second))
+      (λ (e, f). subst (λ x. x ∈ get_or (with_pair B a b) (opposite m) []) (sym (ap opposite e ∙ opposite_twice b)) (subst (λ x. b ∈ get_or (with_pair B a b) (opposite x) []) (sym f) adds-pair.first))
+      o)
+      (adds-pair.new l m h)
+
+  pub other-more : a ≢ b → ((l m : Literal) → m ∈ get_or B l [] → m ≢ opposite l) → (l m : Literal) → m ∈ get_or (with_pair B a b) l [] → m ≢ opposite l
+  other-more n other l m h e = ⊎_elim
+      (λ k. other l m k e)
+      (λ o. ⊎_elim
+      (λ (f, d). n (sym (opposite_twice a) ∙ sym (ap opposite f) ∙ sym e ∙ d))
+      (λ (f, d). n (sym d ∙ e ∙ ap opposite f ∙ opposite_twice b))
+      o)
+      (adds-pair.new l m h)
+
   low : (x : Literal) → opposite (0 + opposite x) ≡ x
   low x = let e : 0 + opposite x ≡ opposite x = omega arith in ap opposite e ∙ opposite_twice x
 
@@ -177,27 +196,14 @@ module _ (s : View) (a b : Literal) (first : opposite a < length s.binary) (seco
 
   pub well-pair : WellFormed s → variable_of a < length s.values → variable_of b < length s.values → WellFormed more
   well-pair w i j =
-      let g = adds-pair s.binary a b first second in
       well-kept s s.clauses more.binary s.queue_head w
       (record {
         places = w.places;
         each = kept-all (MayBeKept more) (λ c h. record { in_range = w.in_range c h; several = w.several c h; distinct = w.distinct c h })
             (record { in_range = range a b i j; several = omega arith; distinct = different a b other })
             (record { in_range = range b a j i; several = omega arith; distinct = different b a (λ e. other (sym e)) });
-        back = λ l m h. ⊎_elim
-            (λ k. g.old (opposite m) (opposite l) (w.binary_back l m k))
-            (λ o. ⊎_elim
-            (λ (e, f). subst (λ x. x ∈ get_or more.binary (opposite m) []) (sym (ap opposite e ∙ opposite_twice a)) (subst (λ x. a ∈ get_or more.binary (opposite x) []) (sym f) g.second))
-            (λ (e, f). subst (λ x. x ∈ get_or more.binary (opposite m) []) (sym (ap opposite e ∙ opposite_twice b)) (subst (λ x. b ∈ get_or more.binary (opposite x) []) (sym f) g.first))
-            o)
-            (g.new l m h);
-        other = λ l m h e. ⊎_elim
-            (λ k. w.binary_other l m k e)
-            (λ o. ⊎_elim
-            (λ (f, d). other (sym (opposite_twice a) ∙ sym (ap opposite f) ∙ sym e ∙ d))
-            (λ (f, d). other (sym d ∙ e ∙ ap opposite f ∙ opposite_twice b))
-            o)
-            (g.new l m h);
+        back = back-more s.binary a b first second w.binary_back;
+        other = other-more s.binary a b first second other w.binary_other;
         head = w.head;
         reasons = λ k h. reason-stays k (node_at s k).reason (w.reason_is k h);
       })

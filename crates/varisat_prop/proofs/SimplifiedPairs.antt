@@ -11,7 +11,7 @@ use Rattle.varisat_prop.specs.View.{View, pairs_with, pairs_from, WellFormed}
 use Rattle.varisat_prop.specs.Pairs.{with_pair}
 use Rattle.varisat_prop.specs.Simplified.{is_unassigned, are_unassigned, unassigned_implied, unassigned_from, without_assigned}
 use Rattle.varisat_prop.proofs.KeptPairs.{implied-range}
-use Rattle.varisat_prop.proofs.PairAdded.{adds-pair}
+use Rattle.varisat_prop.proofs.PairAdded.{adds-pair, back-more, other-more}
 use Rattle.varisat_prop.proofs.LiteralValues.{variable-opposite}
 
 -- 1. Which elements a filter leaves.
@@ -164,20 +164,8 @@ pub pairs-joined : (values : List (Option Bool)) (C : List (List Literal)) (a b 
 pairs-joined values C a b first second n u i j e f =
     let g = adds-pair C a b first second in
     record {
-      back = λ l m h. ⊎_elim
-          (λ k. g.old (opposite m) (opposite l) (u.back l m k))
-          (λ o. ⊎_elim
-          (λ (p, q). subst (λ x. x ∈ get_or (with_pair C a b) (opposite m) []) (sym (ap opposite p ∙ opposite_twice a)) (subst (λ x. a ∈ get_or (with_pair C a b) (opposite x) []) (sym q) g.second))
-          (λ (p, q). subst (λ x. x ∈ get_or (with_pair C a b) (opposite m) []) (sym (ap opposite p ∙ opposite_twice b)) (subst (λ x. b ∈ get_or (with_pair C a b) (opposite x) []) (sym q) g.first))
-          o)
-          (g.new l m h);
-      other = λ l m h k. ⊎_elim
-          (λ o. u.other l m o k)
-          (λ o. ⊎_elim
-          (λ (p, q). n (sym (opposite_twice a) ∙ sym (ap opposite p) ∙ sym k ∙ q))
-          (λ (p, q). n (sym q ∙ k ∙ ap opposite p ∙ opposite_twice b))
-          o)
-          (g.new l m h);
+      back = back-more C a b first second u.back;
+      other = other-more C a b first second n u.other;
       in_range = λ l m h. ⊎_elim (u.in_range l m) (λ o. ⊎_elim (λ (p, q). subst (λ x. variable_of x < length values) (sym q) j) (λ (p, q). subst (λ x. variable_of x < length values) (sym q) i) o) (g.new l m h);
       unassigned = λ l m h. ⊎_elim (u.unassigned l m) (λ o. ⊎_elim (λ (p, q). ap (is_unassigned values) q ∙ f) (λ (p, q). ap (is_unassigned values) q ∙ e) o) (g.new l m h);
     }

@@ -13,7 +13,7 @@ use Rattle.varisat_prop.specs.Simplified.{is_unassigned, are_unassigned}
 use Rattle.varisat_prop.proofs.KeptPairs.{pair-in, implied-kept}
 use Rattle.varisat_prop.proofs.LiteralValues.{variable-opposite, none-made}
 use Rattle.varisat_prop.proofs.SimplifiedPairs.{UnassignedPairs, unassigned-none, all-unassigned}
-use Rattle.varisat_prop.proofs.WellFormedChanges.{MayBeKept, kept-here}
+use Rattle.varisat_prop.proofs.WellFormedChanges.{MayBeKept, kept-here, well-kept}
 
 -- The clauses and the pairs may be kept in place of those of the view.
 pub record AreUnassigned (s : View) (P : List StoredClause) (C : List (List Literal)) : Type 0 where
@@ -62,27 +62,16 @@ module _ (s : View) (P : List StoredClause) (C : List (List Literal)) (r : AreUn
   kept-may-be c h = ⊎_elim (r.clauses c) (pair-may c) (∈-append_cases c (literals_of P) (pairs_from 0 C) h)
 
   pub well-simplified : WellFormed s → HasUnits s → s.decisions ≡ [] → WellFormed simplified
-  well-simplified w u d = record {
-    sound = w.sound;
-    nodes_are = w.nodes_are;
-    small = w.small;
-    places = r.places;
-    in_range = λ c h. (kept-may-be c h).in_range;
-    several = λ c h. (kept-may-be c h).several;
-    distinct = λ c h. (kept-may-be c h).distinct;
-    binary_back = r.pairs.back;
-    binary_other = r.pairs.other;
-    is_true = w.is_true;
-    stands = w.stands;
-    head = w.head;
-    depth_is = w.depth_is;
-    decided = w.decided;
-    rising = w.rising;
-    levels_to = w.levels_to;
-    levels_up = w.levels_up;
-    levels_down = w.levels_down;
-    reason_is = λ k h. subst (IsReason simplified k) (sym (u k h)) (subst (IsReason s k) (u k h) (w.reason_is k h));
-  }
+  well-simplified w u d =
+      well-kept s P C s.queue_head w
+      (record {
+        places = r.places;
+        each = λ c h. let k = kept-may-be c h in record { in_range = k.in_range; several = k.several; distinct = k.distinct };
+        back = r.pairs.back;
+        other = r.pairs.other;
+        head = w.head;
+        reasons = λ k h. subst (IsReason simplified k) (sym (u k h)) (subst (IsReason s k) (u k h) (w.reason_is k h));
+      })
 
 -- at level 0 no level has begun
 pub settled-undecided : (s : View) → s.decisions ≡ [] → LevelsSettled s

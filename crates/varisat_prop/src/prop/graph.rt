@@ -45,6 +45,16 @@ pub struct ImplGraph<A: Allocator + Copy> {
 }
 
 impl Reason {
+    /// Whether no clause made the literal true.
+    pub fn is_unit(&self) -> bool
+        ensures { IsTrue result ↔ (self.now ≡ Reason.Unit) }
+    {
+        match self {
+            Reason::Unit => true,
+            Reason::Binary(_) | Reason::Long(_) => false,
+        }
+    }
+
     /// The literals whose being false made the literal true: those of the clause but its first.
     pub fn lits<'a, A: Allocator + Copy>(&'a self, clause_alloc: &'a ClauseAlloc<A>) -> &'a [Lit]
         requires sound { IsSound clause_alloc.now }
@@ -55,16 +65,6 @@ impl Reason {
             Reason::Unit => &[],
             Reason::Binary(lits) => lits,
             Reason::Long(cref) => &clause_alloc.lits(*cref)[1..],
-        }
-    }
-
-    /// Whether no clause made the literal true.
-    pub fn is_unit(&self) -> bool
-        ensures { IsTrue result ↔ (self.now ≡ Reason.Unit) }
-    {
-        match self {
-            Reason::Unit => true,
-            Reason::Binary(_) | Reason::Long(_) => false,
         }
     }
 }

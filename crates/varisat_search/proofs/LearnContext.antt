@@ -19,7 +19,6 @@ use Rattle.varisat_prop.specs.Watches.{Watches, IsPropagated}
 use Rattle.varisat_prop.specs.Changes.{enqueued, IsNamed, NamesPlace, IsConflicting}
 use Rattle.varisat_vsids.specs.Activities.{Activities}
 use Rattle.varisat_search.specs.declared.context.Context.{Context}
-use Rattle.varisat_search.specs.declared.state.SatState.{SatState}
 use Rattle.varisat_search.specs.declared.state.SatState.TheVariants as verdict
 use Rattle.varisat_search.specs.declared.state.SolverState.{SolverState}
 use Rattle.varisat_analysis.specs.Learned.{Analysis, IsLearned, IsAsserting, AreInvolved}

@@ -1,19 +1,19 @@
 -- What becomes of a search with the next assumption.
-use Rattle.std.proofs.Common.{◌≡◌, ℕ, ◌<◌, ◌≤◌, None, List, ◌++◌, ◌∷◌, [], length, get_or, inl, inr, ⊎_elim, refl, sym, ap, ◌∙◌, subst, arith, length-set}
+use Rattle.std.proofs.Common.{◌≡◌, ℕ, ◌<◌, List, ◌++◌, ◌∷◌, [], length, get_or, ⊎_elim, refl, sym, ap, ◌∙◌, subst, arith, length-set}
 use Rattle.varisat_theory.specs.Membership.{◌∈◌, ◌⊆◌}
 use Rattle.varisat_theory.specs.Literals.{Literal, opposite, variable_of, MakesTrue}
 use Rattle.varisat_theory.specs.Propagation.{IsComplete}
 use Rattle.varisat_theory.proofs.Places.{∈-get_or, place_in}
 use Rattle.varisat_prop.specs.declared.prop.graph.Reason.TheVariants as reason
 use Rattle.varisat_prop.specs.Parts.{IsMadeTrue}
-use Rattle.varisat_prop.specs.View.{View, kept, IsTrueIn, literal_at, decision_at, WellFormed}
+use Rattle.varisat_prop.specs.View.{View, kept, IsTrueIn, decision_at, WellFormed}
 use Rattle.varisat_prop.specs.Changes.{decided_on}
 use Rattle.varisat_prop.proofs.LiteralValues.{made-none}
 use Rattle.varisat_search.specs.declared.context.Context.{Context}
 use Rattle.varisat_search.specs.AssumptionParts.{AssumptionParts, HasAssumptions, HasFailed, TakesOutTrue, TakesOutImplied}
 use Rattle.varisat_analysis.specs.FailedCores.{ListsFailedCore}
 use Rattle.varisat_search.specs.Contexts.{view, IsReady}
-use Rattle.varisat_search.specs.Decisions.{AreDecidable, CanDecide, SameDecidable}
+use Rattle.varisat_search.specs.Decisions.{AreDecidable, SameDecidable}
 use Rattle.varisat_vsids.specs.Activities.{Activities}
 use Rattle.varisat_search.specs.Steps.{IsFree, assignment_of}
 use Rattle.varisat_prop.proofs.ViewGrowth.{grows-refl}

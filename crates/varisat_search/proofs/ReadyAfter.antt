@@ -1,18 +1,16 @@
 -- A search stays ready as it backtracks and decides.
-use Rattle.std.proofs.Common.{◌≡◌, ℕ, ◌*◌, ◌<◌, ◌≤◌, Bool, false, replicate, List, length, ⊎_elim, refl, sym, ap, ◌∙◌, subst}
+use Rattle.std.proofs.Common.{◌≡◌, ℕ, ◌*◌, ◌<◌, ◌≤◌, false, replicate, length, ⊎_elim, sym, ap, ◌∙◌, subst}
 use Rattle.std.proofs.lemmas.Bool.{cases_lt}
-use Rattle.varisat_theory.specs.Membership.{◌∈◌, ◌⊆◌}
-use Rattle.varisat_theory.specs.Literals.{Literal, Clause, variable_of}
+use Rattle.varisat_theory.specs.Membership.{◌∈◌}
+use Rattle.varisat_theory.specs.Literals.{Literal}
 use Rattle.varisat_theory.specs.Propagation.{IsComplete}
 use Rattle.varisat_clause.specs.Databases.{Tracks}
-use Rattle.varisat_prop.specs.declared.prop.graph.Reason.TheVariants as reason
-use Rattle.varisat_prop.specs.View.{View, kept}
+use Rattle.varisat_prop.specs.View.{kept}
 use Rattle.varisat_prop.specs.Watches.{IsPropagated}
 use Rattle.varisat_prop.specs.Changes.{decided_on}
 use Rattle.varisat_prop.proofs.WatchKept.{propagated-decided}
 use Rattle.varisat_search.specs.declared.context.Context.{Context}
-use Rattle.varisat_search.specs.declared.state.SolverState.{SolverState}
-use Rattle.varisat_search.specs.AssumptionParts.{AssumptionParts, HasAssumptions}
+use Rattle.varisat_search.specs.AssumptionParts.{HasAssumptions}
 use Rattle.varisat_search.specs.Contexts.{view, IsReady}
 use Rattle.varisat_search.specs.ContextChanges.{BacktracksTo}
 use Rattle.varisat_search.specs.Decisions.{AreDecidable, CanDecide}

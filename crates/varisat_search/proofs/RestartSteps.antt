@@ -1,27 +1,19 @@
 -- A step that may begin with a restart.
-use Rattle.std.proofs.Common.{◌≡◌, ℕ, ◌*◌, ◌<◌, ◌≤◌, false, replicate, List, [], length, ⊎_elim, refl, sym, ap, ◌∙◌, subst, arith}
+use Rattle.std.proofs.Common.{◌≡◌, ℕ, ◌<◌, ◌≤◌, List, [], length, ⊎_elim, refl, sym, ap, subst, arith}
 use Rattle.std.proofs.lemmas.List.{length-map}
 use Rattle.std.proofs.lemmas.Bool.{cases_lt}
 use Rattle.varisat_theory.specs.Rank.{rank}
 use Rattle.varisat_theory.specs.Derivations.{Line}
 use Rattle.varisat_theory.specs.Outcomes.{Outcome, Proves, Steps}
 use Rattle.varisat_theory.proofs.StepStands.{part_step}
-use Rattle.varisat_theory.specs.Membership.{◌∈◌}
-use Rattle.varisat_clause.specs.Databases.{Tracks}
-use Rattle.varisat_prop.specs.View.{View, kept, WellFormed, LevelsSettled, node_of, is_implied, kinds}
+use Rattle.varisat_prop.specs.View.{View, WellFormed, LevelsSettled, node_of, is_implied, kinds}
 use Rattle.varisat_prop.specs.Watches.{Watches, IsPropagated}
 use Rattle.varisat_schedule.specs.Plans.{Plan}
 use Rattle.varisat_schedule.specs.CallSteps.{IsPlannedStep}
 use Rattle.varisat_schedule.proofs.CallSteps.{due-or-not}
-use Rattle.varisat_search.specs.declared.context.Context.{Context}
-use Rattle.varisat_search.specs.Contexts.{view, IsReady}
-use Rattle.varisat_search.specs.Decisions.{HasActivities, SameDecidable}
 use Rattle.varisat_search.specs.Restarts.{RestartsIfDue}
 use Rattle.varisat_search.specs.Seen.{search_of}
 use Rattle.varisat_search.specs.Steps.{IsCut}
-use Rattle.varisat_search.proofs.DecidableVariables.{can-decide}
-use Rattle.varisat_search.specs.AssumptionParts.{AssumptionParts, HasAssumptions}
-use Rattle.varisat_search.proofs.AssumptionContexts.{still-assumable}
 use Rattle.varisat_search.proofs.Backtrack.{end-inside, cut-length, cut-well, cut-settled, cut-propagated}
 use Rattle.varisat_search.proofs.LearnLines.{cut_moves}
 

@@ -1,13 +1,10 @@
 -- What a proof sees stays where all decisions are undone.
-use Rattle.std.proofs.Common.{◌≡◌, ℕ, zero, suc, ◌<◌, ◌≤◌, Bool, false, ◌&&◌, not, nat_eq, List, [], ◌∷◌, length, get_or, take, ⊎_elim, refl, sym, ap, ◌∙◌, ne_eqb, arith}
+use Rattle.std.proofs.Common.{◌≡◌, ℕ, zero, suc, ◌<◌, ◌≤◌, Bool, false, ◌&&◌, not, nat_eq, List, [], ◌∷◌, length, get_or, take, refl, sym, ap, ◌∙◌, ne_eqb, arith}
 use Rattle.std.specs.Prelude.{cond}
 use Rattle.std.specs.List.{filter}
-use Rattle.std.proofs.lemmas.Bool.{cases_lt}
-use Rattle.varisat_theory.specs.Literals.{Literal}
 use Rattle.varisat_prop.specs.View.{View, node_of, level_of, decision_at, is_clause, WellFormed}
 use Rattle.varisat_search.specs.Seen.{is_fixed, is_proved, search_of}
 use Rattle.varisat_search.specs.Steps.{IsCut}
-use Rattle.varisat_theory.specs.Searches.{Search}
 
 filter-none : (p : ℕ → Bool) (xs : List ℕ) → ((k : ℕ) → k < length xs → p (get_or xs k 0) ≡ false) → filter p xs ≡ []
 filter-none p [] h = refl

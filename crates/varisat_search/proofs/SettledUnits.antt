@@ -1,5 +1,5 @@
 -- How a search goes on as its units of level 0 are settled, and the step after that.
-use Rattle.std.proofs.Common.{◌≡◌, ℕ, ◌<◌, ◌≤◌, Bool, Result, MatchResult, List, [], ◌++◌, length, refl, sym, ap, ◌∙◌, subst, append_assoc}
+use Rattle.std.proofs.Common.{◌≡◌, ℕ, ◌<◌, ◌≤◌, Bool, Result, MatchResult, List, [], ◌++◌, length, sym, ap, ◌∙◌, subst, append_assoc}
 use Rattle.varisat_theory.specs.Derivations.{Line}
 use Rattle.varisat_theory.specs.Outcomes.{Outcome, Proves, Steps}
 use Rattle.varisat_theory.specs.Rank.{rank}
@@ -21,7 +21,7 @@ use Rattle.varisat_search.specs.Seen.{search_of}
 use Rattle.varisat_search.specs.SettledUnits.{SettlesUnits, GoesOnByLines}
 use Rattle.varisat_search.specs.Simplifications.{IsSimplified, pair_lines, clause_lines}
 use Rattle.varisat_search.proofs.AssumptionSteps.{keeps-after-part}
-use Rattle.varisat_search.proofs.DecidableVariables.{same-refl, same-trans, same-read, propagated-same}
+use Rattle.varisat_search.proofs.DecidableVariables.{same-trans, same-read, propagated-same}
 use Rattle.varisat_search.proofs.ProvedUnits.{units-kinds}
 use Rattle.varisat_search.proofs.StepRanks.{rises-longer}
 use Rattle.varisat_search.proofs.StepWithoutLines.{grows_prove}

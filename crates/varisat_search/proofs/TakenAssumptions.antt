@@ -1,15 +1,14 @@
 -- Assumptions that are taken out of the list, one after another.
-use Rattle.std.proofs.Common.{◌≡◌, ℕ, ◌+◌, ◌-◌, ◌<◌, ◌≤◌, ◌⊎◌, Bool, List, length, get_or, set, take, Option, Some, None, inl, inr, ⊎_elim, refl, sym, ap, ◌∙◌, subst, arith, get_or-set_same, get_or-set_other, length-set}
+use Rattle.std.proofs.Common.{◌≡◌, ℕ, ◌+◌, ◌-◌, ◌<◌, ◌≤◌, ◌⊎◌, Bool, List, length, get_or, set, Option, Some, None, inl, inr, ⊎_elim, refl, sym, ap, ◌∙◌, subst, arith, get_or-set_same, get_or-set_other, length-set}
 use Rattle.std.specs.List.{swap_remove, slice_get}
 use Rattle.std.proofs.lemmas.List.{get_or-take, length-take-le}
 use Rattle.std.proofs.lemmas.Option.{slice_get_within, slice_get-get_or, get_or_from_slice_get}
 use Rattle.std.proofs.lemmas.Bool.{cases_lt}
 use Rattle.varisat_theory.specs.Membership.{◌∈◌, ◌⊆◌}
-use Rattle.varisat_theory.specs.Literals.{Literal}
 use Rattle.varisat_theory.proofs.Members.{equal_or_not}
 use Rattle.varisat_theory.proofs.Places.{∈-get_or, place_in, place_in_take}
 use Rattle.varisat_prop.specs.Parts.{IsMadeTrue}
-use Rattle.varisat_search.specs.AssumptionParts.{AssumptionParts, TakesOutTrue, IsNextAssumption}
+use Rattle.varisat_search.specs.AssumptionParts.{AssumptionParts, TakesOutTrue}
 
 -- The list without the element at the place, which the last one takes.
 module _ (xs : List ℕ) (i : ℕ) (h : i < length xs) where

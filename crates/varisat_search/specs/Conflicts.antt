@@ -1,7 +1,6 @@
 -- The conflict of a step, and the reason that its learned clause gives.
 use Rattle.std.specs.Prelude.{◌≡◌, ℕ, false, List, [], ◌∷◌, length}
 use Rattle.varisat_theory.specs.Literals.{Literal, Clause}
-use Rattle.varisat_prop.specs.declared.prop.graph.Conflict.{Conflict}
 use Rattle.varisat_prop.specs.declared.prop.graph.Reason.{Reason}
 use Rattle.varisat_prop.specs.declared.prop.graph.Reason.TheVariants as reason
 use Rattle.varisat_clause.specs.declared.header.Tier.TheVariants as tier

@@ -17,6 +17,7 @@ use Rattle.varisat_search.proofs.AssumptionContexts.{unmoved-assumed, unmoved-as
 use Rattle.varisat_search.proofs.ClausesExchanged.{exchanged-well, exchanged-settled, exchanged-off, exchanged-decide}
 use Rattle.varisat_search.proofs.PackedClauses.{packed-live, packed-below}
 use Rattle.varisat_search.proofs.RepackedView.{view-repacks, repacks-may}
+use Rattle.varisat_search.proofs.ReadyAfter.{keeps-values, unwatched-ready}
 
 -- the clauses of the new store, none of which is deleted
 new-live : (old new : Store) (d : Database) → IsCollected new d (clauses_of old) → live_clauses new ≡ packed 0 (live_clauses old)
@@ -31,19 +32,5 @@ context-repacks x z r h e rest =
     (rest ∙ ap (λ (o : Bool). record (view x) { sound = o; clauses = (view z).clauses; nodes = (view z).nodes }) (sound-is z.clause_alloc h.tracks.sound ∙ sym (sound-is x.clause_alloc r.tracks.sound)))
 
 -- it stays ready, with the watch lists off
-pub repacks-ready : {A : Type 0} (x z : Context A) → IsReady x → Repacks (view x) (view z) → Tracks z.clause_db z.clause_alloc → length z.watchlists.lists ≡ length x.watchlists.lists → ((l : Literal) → list_of z.watchlists l ≡ []) → z.watchlists.enabled ≡ false → z.analyze_conflict.var_count ≡ x.analyze_conflict.var_count → z.tmp_flags.flags.items ≡ x.tmp_flags.flags.items → z.vsids ≡ x.vsids → z.assumptions ≡ x.assumptions → IsReady z
-repacks-ready x z r d t n e o a f v h =
-    let s = view x in
-    let m = repacks-may s (view z) r.well d in
-    let c = ap (λ (y : View). length y.values) d.rest in
-    record {
-      well = subst WellFormed (sym d.rest) (exchanged-well s (view z).clauses (view z).nodes r.well m);
-      settled = subst LevelsSettled (sym d.rest) (exchanged-settled s (view z).clauses (view z).nodes r.well m r.settled);
-      propagated = subst (IsPropagated z.watchlists) (sym d.rest) (exchanged-off s (view z).clauses (view z).nodes r.well m x.watchlists z.watchlists r.propagated n e o);
-      tracks = t;
-      analysis = a ∙ r.analysis ∙ sym c;
-      flags = f ∙ r.flags ∙ ap (λ k. replicate (2 * k) false) (sym c);
-      decidable = subst (CanDecide (view z)) (sym v) (subst (λ y. CanDecide y x.vsids) (sym d.rest) (exchanged-decide s (view z).clauses (view z).nodes r.well m x.vsids r.decidable));
-      assumed = unmoved-assumed x z h (ap (λ (y : View). y.values) d.rest) r.well (ap (λ (y : View). y.trail) d.rest) (ap (λ (y : View). y.decisions) d.rest) r.assumed;
-      assumable = unmoved-assumable x z h (ap (λ (y : View). y.values) d.rest) v r.assumable;
-    }
+pub repacks-ready : {A : Type 0} (x z : Context A) → IsReady x → Repacks (view x) (view z) → Tracks z.clause_db z.clause_alloc → length z.watchlists.lists ≡ length x.watchlists.lists → ((l : Literal) → list_of z.watchlists l ≡ []) → z.watchlists.enabled ≡ false → z ≡ record x { binary_clauses = z.binary_clauses; clause_activity = z.clause_activity; clause_alloc = z.clause_alloc; clause_db = z.clause_db; impl_graph = z.impl_graph; watchlists = z.watchlists } → IsReady z
+repacks-ready x z r d t n e o k = unwatched-ready x z (view z).nodes r (keeps-values x z k) (repacks-may (view x) (view z) r.well d) d.rest t n e o

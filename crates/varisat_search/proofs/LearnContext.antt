@@ -51,6 +51,7 @@ use Rattle.varisat_search.proofs.AddedClause.{last-one}
 use Rattle.varisat_search.proofs.DecidableVariables.{can-decide, same-read, same-trans, at-valued, enqueued-same}
 use Rattle.varisat_search.proofs.LearnLines.{steps_kept, steps_unit}
 use Rattle.varisat_search.proofs.LearnClause.{keeping, keeping_of, Result, second-level, first-inside, first-free, unit-result, unit-propagated, joins, kept-result, kept-propagated}
+use Rattle.varisat_search.proofs.ReadyAfter.{ready-with}
 
 same-first : (l m : Literal) (c d : Clause) → (l ∷ c) ≡ (m ∷ d) → l ≡ m
 same-first l m c d e = cc
@@ -171,7 +172,7 @@ analyzed-bumped {A} {x0} {x} {x1} {i} {level} d k f a q e =
 
 -- analysis writes what it found alone
 pub analysis-ready : {A : Type 0} {x0 x : Context A} → x ≡ record x0 { analyze_conflict = x.analyze_conflict } → IsReady x0 → x.analyze_conflict.var_count ≡ x0.analyze_conflict.var_count → IsReady x
-analysis-ready k r n = subst IsReady (sym k) (record { well = r.well; settled = r.settled; propagated = r.propagated; tracks = r.tracks; analysis = n ∙ r.analysis; flags = r.flags; decidable = r.decidable; assumed = r.assumed; assumable = r.assumable })
+analysis-ready {x0 = x0} {x = x} k r n = subst IsReady (sym k) (ready-with x0 (record x0 { analyze_conflict = x.analyze_conflict }) r refl n refl r.propagated r.decidable r.assumed r.assumable)
 
 pub involved-named : {A : Type 0} (x0 x : Context A) (i : Conflict) → x ≡ record x0 { analyze_conflict = x.analyze_conflict } → AreInvolved (view x0) i x.analyze_conflict.involved → (f : Conflict) → f ∈ x.analyze_conflict.involved → IsNamed (view x) f
 involved-named {A} x0 x i k a f h =
@@ -248,7 +249,7 @@ module _ {A : Type 0} {x0 x1 : Context A} {i : Conflict} {level : ℕ} (y : Cont
       let analysis : (x : Context A) → Analysis = λ x. x.analyze_conflict in
       let activities : (x : Context A) → Activities = λ x. x.vsids in
       record {
-        ready = headers-ready x0 (with_store x0 y) d.ready changes t refl refl refl refl refl;
+        ready = headers-ready x0 (with_store x0 y) d.ready changes t refl refl;
         unknown = d.unknown;
         analyzed =
             k

@@ -59,7 +59,7 @@ module _ {A : Type 0} (x : Context A) (y : AssumptionParts) (r : IsReady x) (t :
   left-implied-with z u c e = takes-trans (view x) (view x) x.assumptions y z (grows-refl (view x)) left-implied (takes-same (view x) y z u c e)
 
   pub none-ready : IsReady (record x { assumptions = y })
-  none-ready = ready-with x (record x { assumptions = y }) r refl refl left-levels left-decidable
+  none-ready = ready-with x (record x { assumptions = y }) r refl refl refl r.propagated r.decidable left-levels left-decidable
 
   -- one is left for the level
   module _ (l : Literal) (n : length x.trail.decisions < length y.working) (e : l ≡ get_or y.working (length x.trail.decisions) 0) where
@@ -76,7 +76,7 @@ module _ {A : Type 0} (x : Context A) (y : AssumptionParts) (r : IsReady x) (t :
     pub failed-ready : (z : Context A) (core : List Literal) → z ≡ record x { assumptions = record y { failed_core = core }; tmp_flags = z.tmp_flags } → z.tmp_flags.flags.items ≡ x.tmp_flags.flags.items → IsReady z
     failed-ready z core k f =
         subst IsReady (sym k)
-        (ready-with x (record x { assumptions = record y { failed_core = core }; tmp_flags = z.tmp_flags }) r refl f (failed-levels core) left-decidable)
+        (ready-with x (record x { assumptions = record y { failed_core = core }; tmp_flags = z.tmp_flags }) r refl refl f r.propagated r.decidable (failed-levels core) left-decidable)
 
     pub has-failed : (core : List Literal) → ListsFailedCore (view x) l core → HasFailed (view x) (record y { failed_core = core })
     has-failed core f = (l, f, core-assumed (view x) y l core left-levels (all-assumed (view x) x.assumptions y r.well r.assumed t n) next-in f)

@@ -15,6 +15,7 @@ use Rattle.varisat_search.specs.Decisions.{CanDecide}
 use Rattle.varisat_search.specs.ProvedUnits.{HaveUnits, ProvesUnits}
 use Rattle.varisat_search.proofs.AssumptionContexts.{unmoved-assumed, unmoved-assumable}
 use Rattle.varisat_search.proofs.ClausesExchanged.{map-by-place}
+use Rattle.varisat_search.proofs.ReadyAfter.{keeps-values, exchanged-ready}
 
 pub none-left : {X : Type 0} (xs : List X) → length xs ≤ 0 → xs ≡ []
 none-left [] h = refl
@@ -143,20 +144,8 @@ module _ (s t : View) (w : WellFormed s) (none : s.decisions ≡ []) (p : Proves
       ∙ map-by-place (λ l. is_implied (node_of u l)) (λ l. is_implied (node_of s l)) s.trail (λ k h. at-zero (node_at u k) (level-stays k h ∙ zero-level k h) ∙ sym (at-zero (node_at s k) (zero-level k h)))
 
 -- the search stays ready
-pub units-ready : {A : Type 0} (x z : Context A) → IsReady x → x.trail.decisions ≡ [] → ProvesUnits (view x) (view z) → z ≡ record x { impl_graph = z.impl_graph } → IsReady z
-units-ready {A} x z r none p k =
-    let c = ap (λ (y : View). length y.values) p.rest in
-    let watched = ap (λ (y : Context A). y.watchlists) k in
-    let same = ap (λ (y : Context A). y.assumptions) k in
-    let kept = ap (λ (y : Context A). y.vsids) k in
-    record {
-      well = units-well (view x) (view z) r.well none p;
-      settled = units-settled (view x) (view z) r.well none p r.settled;
-      propagated = subst (λ W. IsPropagated W (view z)) (sym watched) (units-propagated (view x) (view z) r.well none p x.watchlists r.propagated);
-      tracks = subst (λ (y : Context A). Tracks y.clause_db y.clause_alloc) (sym k) r.tracks;
-      analysis = ap (λ (y : Context A). y.analyze_conflict.var_count) k ∙ r.analysis ∙ sym c;
-      flags = ap (λ (y : Context A). y.tmp_flags.flags.items) k ∙ r.flags ∙ ap (λ n. replicate (2 * n) false) (sym c);
-      decidable = subst (CanDecide (view z)) (sym kept) (units-decide (view x) (view z) r.well none p x.vsids r.decidable);
-      assumed = unmoved-assumed x z same (ap (λ (y : View). y.values) p.rest) r.well (ap (λ (y : View). y.trail) p.rest) (ap (λ (y : View). y.decisions) p.rest) r.assumed;
-      assumable = unmoved-assumable x z same (ap (λ (y : View). y.values) p.rest) kept r.assumable;
-    }
+pub units-ready : {A : Type 0} (x z : Context A) → IsReady x → x.trail.decisions ≡ [] → ProvesUnits (view x) (view z) → z.watchlists ≡ x.watchlists → Tracks z.clause_db z.clause_alloc → z ≡ record x { binary_clauses = z.binary_clauses; clause_activity = z.clause_activity; clause_alloc = z.clause_alloc; clause_db = z.clause_db; impl_graph = z.impl_graph; watchlists = z.watchlists } → IsReady z
+units-ready x z r none p e t k =
+    exchanged-ready x z r (keeps-values x z k) (units-well (view x) (view z) r.well none p) (units-settled (view x) (view z) r.well none p r.settled)
+    (subst (λ W. IsPropagated W (view z)) (sym e) (units-propagated (view x) (view z) r.well none p x.watchlists r.propagated))
+    t (units-decide (view x) (view z) r.well none p x.vsids r.decidable)

@@ -1,12 +1,13 @@
 -- A search stays ready as it backtracks and decides.
-use Rattle.std.proofs.Common.{◌≡◌, ℕ, ◌*◌, ◌<◌, ◌≤◌, false, replicate, length, ⊎_elim, sym, ap, ◌∙◌, subst}
+use Rattle.std.proofs.Common.{◌≡◌, ℕ, ◌*◌, ◌<◌, ◌≤◌, Bool, false, Option, List, [], replicate, length, ⊎_elim, sym, ap, ◌∙◌, subst}
 use Rattle.std.proofs.lemmas.Bool.{cases_lt}
 use Rattle.varisat_theory.specs.Membership.{◌∈◌}
 use Rattle.varisat_theory.specs.Literals.{Literal}
 use Rattle.varisat_theory.specs.Propagation.{IsComplete}
 use Rattle.varisat_clause.specs.Databases.{Tracks}
-use Rattle.varisat_prop.specs.View.{kept}
-use Rattle.varisat_prop.specs.Watches.{IsPropagated}
+use Rattle.varisat_prop.specs.declared.prop.graph.ImplNode.{ImplNode}
+use Rattle.varisat_prop.specs.View.{View, kept, WellFormed, LevelsSettled}
+use Rattle.varisat_prop.specs.Watches.{list_of, IsPropagated}
 use Rattle.varisat_prop.specs.Changes.{decided_on}
 use Rattle.varisat_prop.proofs.WatchKept.{propagated-decided}
 use Rattle.varisat_search.specs.declared.context.Context.{Context}
@@ -15,8 +16,9 @@ use Rattle.varisat_search.specs.Contexts.{view, IsReady}
 use Rattle.varisat_search.specs.ContextChanges.{BacktracksTo}
 use Rattle.varisat_search.specs.Decisions.{AreDecidable, CanDecide}
 use Rattle.varisat_search.specs.Steps.{IsFree}
-use Rattle.varisat_search.proofs.AssumptionContexts.{still-assumable, cut-assumed, cut-same-list, same-working}
+use Rattle.varisat_search.proofs.AssumptionContexts.{still-assumable, unmoved-assumed, unmoved-assumable, cut-assumed, cut-same-list, same-working}
 use Rattle.varisat_search.proofs.Backtrack.{cut-well, cut-settled, cut-propagated}
+use Rattle.varisat_search.proofs.ClausesExchanged.{MayExchange, exchanged-well, exchanged-settled, exchanged-off, exchanged-decide}
 use Rattle.varisat_search.proofs.DecidableVariables.{can-decide}
 use Rattle.varisat_search.proofs.StepOutcome.{finding-begins, finding-ready, finding-decided}
 
@@ -41,9 +43,58 @@ backtracked-ready {A} level old new r b =
     (λ (h : length old.trail.decisions ≤ level). subst IsReady (sym (b.same h)) r)
     (cases_lt level (length old.trail.decisions))
 
--- the assumptions, the verdict and the schedule are others
-pub ready-with : {A : Type 0} (x y : Context A) → IsReady x → (y ≡ record x { assumptions = y.assumptions; schedule = y.schedule; solver_state = y.solver_state; tmp_flags = y.tmp_flags }) → y.tmp_flags.flags.items ≡ x.tmp_flags.flags.items → HasAssumptions (view x) y.assumptions → AreDecidable (view x) x.vsids y.assumptions.working → IsReady y
-ready-with x y r e f h k = subst IsReady (sym e) record { well = r.well; settled = r.settled; propagated = r.propagated; tracks = r.tracks; analysis = r.analysis; flags = f ∙ r.flags; decidable = r.decidable; assumed = h; assumable = k }
+-- Parts that neither the clauses nor the literals' values stand in are others.
+pub ready-with : {A : Type 0} (x y : Context A) → IsReady x → (y ≡ record x { analyze_conflict = y.analyze_conflict; assumptions = y.assumptions; schedule = y.schedule; solver_state = y.solver_state; tmp_flags = y.tmp_flags; vsids = y.vsids; watchlists = y.watchlists }) → y.analyze_conflict.var_count ≡ x.analyze_conflict.var_count → y.tmp_flags.flags.items ≡ x.tmp_flags.flags.items → IsPropagated y.watchlists (view x) → CanDecide (view x) y.vsids → HasAssumptions (view x) y.assumptions → AreDecidable (view x) y.vsids y.assumptions.working → IsReady y
+ready-with x y r e n f w d h k = subst IsReady (sym e) record { well = r.well; settled = r.settled; propagated = w; tracks = r.tracks; analysis = n ∙ r.analysis; flags = f ∙ r.flags; decidable = d; assumed = h; assumable = k }
+
+-- What stays of a search whose clauses, reasons and watches are others.
+pub record KeepsValues {A : Type 0} (x z : Context A) : Type 0 where
+  pub values : z.assignment.current ≡ x.assignment.current
+  pub trail : z.trail.literals ≡ x.trail.literals
+  pub decisions : z.trail.decisions ≡ x.trail.decisions
+  pub analysis : z.analyze_conflict.var_count ≡ x.analyze_conflict.var_count
+  pub flags : z.tmp_flags.flags.items ≡ x.tmp_flags.flags.items
+  pub vsids : z.vsids ≡ x.vsids
+  pub assumptions : z.assumptions ≡ x.assumptions
+
+pub keeps-values : {A : Type 0} (x z : Context A) → z ≡ record x { binary_clauses = z.binary_clauses; clause_activity = z.clause_activity; clause_alloc = z.clause_alloc; clause_db = z.clause_db; impl_graph = z.impl_graph; watchlists = z.watchlists } → KeepsValues x z
+keeps-values {A} x z e = record {
+  values = ap (λ (y : Context A). y.assignment.current) e;
+  trail = ap (λ (y : Context A). y.trail.literals) e;
+  decisions = ap (λ (y : Context A). y.trail.decisions) e;
+  analysis = ap (λ (y : Context A). y.analyze_conflict.var_count) e;
+  flags = ap (λ (y : Context A). y.tmp_flags.flags.items) e;
+  vsids = ap (λ (y : Context A). y.vsids) e;
+  assumptions = ap (λ (y : Context A). y.assumptions) e;
+}
+
+-- Such a search is ready where the clauses, the reasons and the watches are right.
+pub exchanged-ready : {A : Type 0} (x z : Context A) → IsReady x → KeepsValues x z → WellFormed (view z) → LevelsSettled (view z) → IsPropagated z.watchlists (view z) → Tracks z.clause_db z.clause_alloc → CanDecide (view z) x.vsids → IsReady z
+exchanged-ready x z r k well settled propagated tracks decidable =
+    let c = ap (λ (vs : List (Option Bool)). length vs) k.values in
+    record {
+      well = well;
+      settled = settled;
+      propagated = propagated;
+      tracks = tracks;
+      analysis = k.analysis ∙ r.analysis ∙ sym c;
+      flags = k.flags ∙ r.flags ∙ ap (λ n. replicate (2 * n) false) (sym c);
+      decidable = subst (CanDecide (view z)) (sym k.vsids) decidable;
+      assumed = unmoved-assumed x z k.assumptions k.values r.well k.trail k.decisions r.assumed;
+      assumable = unmoved-assumable x z k.assumptions k.values k.vsids r.assumable;
+    }
+
+-- They are, once clauses and reasons are exchanged for such that may stand for them, and the watch lists are off.
+pub unwatched-ready : {A : Type 0} (x z : Context A) (ns : List ImplNode) → IsReady x → KeepsValues x z → MayExchange (view x) (view z).clauses ns → view z ≡ record (view x) { clauses = (view z).clauses; nodes = ns } → Tracks z.clause_db z.clause_alloc → length z.watchlists.lists ≡ length x.watchlists.lists → ((l : Literal) → list_of z.watchlists l ≡ []) → z.watchlists.enabled ≡ false → IsReady z
+unwatched-ready x z ns r k m e tracks n none off =
+    let s = view x in
+    let ks = (view z).clauses in
+    exchanged-ready x z r k
+    (subst WellFormed (sym e) (exchanged-well s ks ns r.well m))
+    (subst LevelsSettled (sym e) (exchanged-settled s ks ns r.well m r.settled))
+    (subst (IsPropagated z.watchlists) (sym e) (exchanged-off s ks ns r.well m x.watchlists z.watchlists r.propagated n none off))
+    tracks
+    (subst (λ (t : View). CanDecide t x.vsids) (sym e) (exchanged-decide s ks ns r.well m x.vsids r.decidable))
 
 -- A literal is decided, once propagation has come to its end.
 pub decided-ready : {A : Type 0} (x z : Context A) (l : Literal) → IsReady x → IsComplete (kept (view x)) x.trail.literals → x.trail.queue_head ≡ length x.trail.literals → IsFree (view x) l → view z ≡ decided_on (view x) l → z ≡ record x { assignment = z.assignment; assumptions = z.assumptions; impl_graph = z.impl_graph; trail = z.trail; vsids = z.vsids } → CanDecide (view z) z.vsids → HasAssumptions (view z) z.assumptions → AreDecidable (view z) z.vsids z.assumptions.working → IsReady z

@@ -22,6 +22,7 @@ use Rattle.varisat_search.specs.Seen.{search_of}
 use Rattle.varisat_search.specs.Simplifications.{left_long, left_pairs, with_pairs, IsLeftOpen, IsPairIn, IsSimplified, pair_lines, clause_lines}
 use Rattle.varisat_search.proofs.AssumptionContexts.{unmoved-assumed, unmoved-assumable}
 use Rattle.varisat_search.proofs.SimplifiedSearch.{is-false, IsAtUnits, stored-open, pairs-in, are-unassigned, still-well, still-free, C-count, simplify-proves, literal-kept}
+use Rattle.varisat_search.proofs.ReadyAfter.{KeepsValues, keeps-values, exchanged-ready}
 
 -- before it
 pub at-units : {A : Type 0} (x : Context A) → IsReady x → x.trail.decisions ≡ [] → IsComplete (kept (view x)) x.trail.literals → HasUnits (view x) → IsAtUnits (view x)
@@ -80,15 +81,9 @@ module _ {A : Type 0} (x z : Context A) (r : IsReady x) (u : IsAtUnits (view x))
 
   pub simplified-ready : ((l : Literal) → list_of z.watchlists l ≡ []) → z.watchlists.enabled ≡ false → length z.watchlists.lists ≡ length x.watchlists.lists → IsReady z
   simplified-ready e o n =
-      let c = ap (λ (y : View). length y.values) is-view in
-      record {
-        well = subst WellFormed (sym is-view) (still-well s u);
-        settled = subst LevelsSettled (sym is-view) (settled-undecided t u.undecided);
-        propagated = subst (IsPropagated z.watchlists) (sym is-view) (propagated-unassigned t (still-well s u) (still-free s u) z.watchlists (n ∙ r.propagated.lists) o e (C-count s u ∙ u.lists) u.undecided);
-        tracks = tracks;
-        analysis = ap (λ (y : Context A). y.analyze_conflict.var_count) rest ∙ r.analysis ∙ sym c;
-        flags = ap (λ (y : Context A). y.tmp_flags.flags.items) rest ∙ r.flags ∙ ap (λ k. replicate (2 * k) false) (sym c);
-        decidable = subst (CanDecide (view z)) (sym (ap (λ (y : Context A). y.vsids) rest)) (subst (λ (y : View). CanDecide y x.vsids) (sym is-view) can-decide);
-        assumed = unmoved-assumed x z (ap (λ (y : Context A). y.assumptions) rest) (ap (λ (y : View). y.values) is-view) r.well (ap (λ (y : View). y.trail) is-view) (ap (λ (y : View). y.decisions) is-view) r.assumed;
-        assumable = unmoved-assumable x z (ap (λ (y : Context A). y.assumptions) rest) (ap (λ (y : View). y.values) is-view) (ap (λ (y : Context A). y.vsids) rest) r.assumable;
-      }
+      exchanged-ready x z r (subst (KeepsValues x) (sym rest) (keeps-values x (record x { binary_clauses = z.binary_clauses; clause_alloc = z.clause_alloc; clause_db = z.clause_db; watchlists = z.watchlists }) refl))
+      (subst WellFormed (sym is-view) (still-well s u))
+      (subst LevelsSettled (sym is-view) (settled-undecided t u.undecided))
+      (subst (IsPropagated z.watchlists) (sym is-view) (propagated-unassigned t (still-well s u) (still-free s u) z.watchlists (n ∙ r.propagated.lists) o e (C-count s u ∙ u.lists) u.undecided))
+      tracks
+      (subst (λ (y : View). CanDecide y x.vsids) (sym is-view) can-decide)

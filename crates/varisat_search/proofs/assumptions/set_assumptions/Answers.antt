@@ -21,7 +21,8 @@ returns-clause-ready g c =
     (λ (h : 0 < length x.trail.decisions). (b.cut h).count)
     (λ (h : length x.trail.decisions ≤ 0). ap (λ (z : Context g.row.A.Denot). length z.assignment.current) (b.same h))
     (cases_lt 0 (length x.trail.decisions)) in
-    ready-with y (record y { assumptions = c.set.new.self; solver_state = c.assume.new.self }) (backtracked-ready 0 x y c.requires.ready b) refl refl
+    let r = backtracked-ready 0 x y c.requires.ready b in
+    ready-with y (record y { assumptions = c.set.new.self; solver_state = c.assume.new.self }) r refl refl refl r.propagated r.decidable
     (has-undecided (view y) c.set.new.self c.full_restart.ensures.undecided (ap (λ (a : AssumptionParts). a.levels) c.set.ensures) (λ l i. let h = c.requires.in_range l (given l i) in omega (arith, h, count)))
     (λ l i. (b.decidable (variable_of l)).0 (c.requires.decidable l (given l i)))
 

@@ -33,4 +33,4 @@ pub returns-clause-ready : goal.returns-clause-ready
 returns-clause-ready g c =
     let here = (goal.at.returns-clause-ready g c).After-disable in
     let d = c.disable.ensures in
-    repacks-ready c.args.ctx.now (after g here) c.requires (repacks g here) c.in_ok-new_alloc.ensures.tracks d.count d.empty d.enabled refl refl refl refl
+    repacks-ready c.args.ctx.now (after g here) c.requires (repacks g here) c.in_ok-new_alloc.ensures.tracks d.count d.empty d.enabled refl

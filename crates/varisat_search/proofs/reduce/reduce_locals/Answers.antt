@@ -37,4 +37,4 @@ pub returns-clause-ready : goal.returns-clause-ready
 returns-clause-ready g c =
     let here = (goal.at.returns-clause-ready g c).In_ok-reduce_locals in
     let d = c.disable.ensures in
-    discards-ready c.args.ctx.now (record (after g here) { watchlists = c.disable.new.self }) c.requires (discards g here) c.reduce_locals.ensures.tracks d.count d.empty d.enabled refl refl refl refl
+    discards-ready c.args.ctx.now (record (after g here) { watchlists = c.disable.new.self }) c.requires (discards g here) c.reduce_locals.ensures.tracks d.count d.empty d.enabled refl

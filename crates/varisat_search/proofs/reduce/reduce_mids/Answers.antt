@@ -25,4 +25,4 @@ returns-clause-headers g c = changes g (goal.at.returns-clause-headers g c).In_o
 pub returns-clause-ready : goal.returns-clause-ready
 returns-clause-ready g c =
     let here = (goal.at.returns-clause-ready g c).In_ok-reduce_mids in
-    headers-ready c.args.ctx.now (after g here) c.requires (changes g here) c.reduce_mids.ensures.tracks refl refl refl refl refl
+    headers-ready c.args.ctx.now (after g here) c.requires (changes g here) c.reduce_mids.ensures.tracks refl refl

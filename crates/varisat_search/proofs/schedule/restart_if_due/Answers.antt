@@ -32,7 +32,7 @@ returns-clause-ready g c =
     let x = c.args.ctx.now in
     let y = before g (goal.at.returns-clause-ready g c).After-restart in
     let r = c.requires.ready in
-    backtracked-ready x.assumptions.levels y c.restart.new.ctx (ready-with x y r refl refl r.assumed r.assumable) c.restart.ensures
+    backtracked-ready x.assumptions.levels y c.restart.new.ctx (ready-with x y r refl refl refl r.propagated r.decidable r.assumed r.assumable) c.restart.ensures
 
 pub returns-clause-saved : goal.returns-clause-saved
 returns-clause-saved g c = record {

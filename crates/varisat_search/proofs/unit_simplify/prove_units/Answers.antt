@@ -33,4 +33,4 @@ pub returns-clause-ready : goal.returns-clause-ready
 returns-clause-ready g c =
     let here = (goal.at.returns-clause-ready g c).After-forget_reasons in
     let x = c.args.ctx.now in
-    units-ready x (after g here) c.requires (none-left x.trail.decisions (omega (arith, c.if-current_level-gt0.false, c.current_level.ensures))) (proved g here) refl
+    units-ready x (after g here) c.requires (none-left x.trail.decisions (omega (arith, c.if-current_level-gt0.false, c.current_level.ensures))) (proved g here) refl c.requires.tracks refl

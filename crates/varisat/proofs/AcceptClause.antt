@@ -24,7 +24,7 @@ use Rattle.varisat_names.specs.Variables.{Tables, IsGiven, AreNextGiven, IsTaken
 use Rattle.varisat_names.proofs.Maps.{updated-at, updated-other, updated-all, chain-some, chain-through, is-some}
 use Rattle.varisat.specs.States.{State, Ledger, join_counted, Verdict, Unknown, Sat, Unsat, UnsatUnderAssumptions, IsRight}
 use Rattle.varisat.specs.Names.{bring, bring_next, bring_if_free, name_one, name_all, through_names}
-use Rattle.varisat.specs.Calls.{VerdictAfter, Refuted, Reopened, append_clause, reopened_verdict, with_verdict}
+use Rattle.varisat.specs.Calls.{with_naming, VerdictAfter, Refuted, Reopened, append_clause, reopened_verdict, with_verdict}
 use Rattle.varisat.specs.Carried.{carry, value_or}
 use Rattle.varisat.specs.Spaces.{Spaces, Carrying, IsWide, translation, SearchHolds, CoreFits, without_core, VerdictFits, Links, SpacesFit}
 use Rattle.varisat.specs.Summaries.{Summary, spaces, spaces_of, StandsFor}
@@ -40,21 +40,20 @@ use Rattle.varisat.proofs.SolveVerdict.{forgotten, core-known, model-same, space
 use Rattle.varisat.proofs.Carried.{carry-at}
 use Rattle.varisat.proofs.PlainTables.{next-plain, named-plain, taken-plain, taken-in-turn-plain, taken-users}
 use Rattle.varisat.proofs.SearchViews.{view-long, view-inside}
-use Rattle.varisat.proofs.NamesInOrder.{rest-all}
 
 abbrev pub with_tables : Tables → Summary → Summary
 with_tables t g = record g { tables = t }
 
 -- 1. Names.
 
-pub given-spaces : (g : Summary) (s : State) (new : Tables) (u x : ℕ) → SpacesFit (spaces g) s → at g.tables.users.forward u ≡ None → IsGiven g.tables new u x → SpacesFit (spaces (with_tables new g)) (bring u s)
+pub given-spaces : (g : Summary) (s : State) (new : Tables) (u x : ℕ) → SpacesFit (spaces g) s → at g.tables.users.forward u ≡ None → IsGiven g.tables new u x → SpacesFit (spaces (with_tables new g)) (with_naming (bring u s.naming) s)
 given-spaces g s new u x (w, k) free n =
     let p = spaces g in
     let q = spaces (with_tables new g) in
     let f = assignment_of g.search in
     let unsolved : at g.tables.solvers.forward x ≡ None = ⊎_elim (λ e. e) (λ (v, e). let (i, r, m) = k.solvers.live v x (k.solvers.one_to_one.there x v e) in let z : true ≡ false = sym n.unused.0 ∙ k.identities.live x i r in absurd cc) (is-some (at g.tables.solvers.forward x)) in
     let solver = λ (y : ℕ). ap (λ m. at m.forward y) n.solvers in
-    maps-same (give u x p) q (bring u s) (record {
+    maps-same (give u x p) q (with_naming (bring u s.naming) s) (record {
       global_from_user = n.users.forward.at_each;
       user_from_global = n.users.backward.at_each;
       watermark = n.users.forward.watermark;
@@ -67,16 +66,16 @@ given-spaces g s new u x (w, k) free n =
           (λ m. ap (λ d. value_or d.unit f (at new.solvers.forward y)) (n.kept.at_each y ∙ updated-other (kept_at g.tables.kept) x fresh y m) ∙ ap (value_or (kept_at g.tables.kept y).unit f) (solver y));
     }) refl (given w p s u x k free n.unused.0)
 
-pub next-spaces : (k : ℕ) (g : Summary) (s : State) (new : Tables) → SpacesFit (spaces g) s → AreNextGiven k g.tables new → SpacesFit (spaces (with_tables new g)) (bring_next k s)
+pub next-spaces : (k : ℕ) (g : Summary) (s : State) (new : Tables) → SpacesFit (spaces g) s → AreNextGiven k g.tables new → SpacesFit (spaces (with_tables new g)) (with_naming (bring_next k s.naming) s)
 next-spaces zero g s new f e = subst (λ t. SpacesFit (spaces (with_tables t g)) s) (sym e) f
 next-spaces (suc k) g s new f (mid, x, n, rest) =
     let u = f.1.watermark in
-    next-spaces k (with_tables mid g) (bring s.watermark s) new
-    (subst (λ v. SpacesFit (spaces (with_tables mid g)) (bring v s)) (sym u) (given-spaces g s mid (length g.tables.users.forward) x f (f.1.names.free (length g.tables.users.forward) (omega (arith, u))) n))
+    next-spaces k (with_tables mid g) (with_naming (bring s.naming.watermark s.naming) s) new
+    (subst (λ v. SpacesFit (spaces (with_tables mid g)) (with_naming (bring v s.naming) s)) (sym u) (given-spaces g s mid (length g.tables.users.forward) x f (f.1.names.free (length g.tables.users.forward) (omega (arith, u))) n))
     rest
 
 -- a name is named, where nothing is hidden
-pub named-one : (g : Summary) (s : State) (new : Tables) (u : ℕ) → SpacesFit (spaces g) s → IsPlain g.tables → AreNextGiven (u + 1 - length g.tables.users.forward) g.tables new → SpacesFit (spaces (with_tables new g)) (name_one u s)
+pub named-one : (g : Summary) (s : State) (new : Tables) (u : ℕ) → SpacesFit (spaces g) s → IsPlain g.tables → AreNextGiven (u + 1 - length g.tables.users.forward) g.tables new → SpacesFit (spaces (with_tables new g)) (with_naming (name_one u s.naming) s)
 named-one g s new u f n e =
     let (w, k) = f in
     let m = k.watermark in
@@ -87,22 +86,22 @@ named-one g s new u f n e =
     let (i, r) = k.names.live u u used in
     let z : u + 1 - length g.tables.users.forward ≡ 0 = omega (arith, b) in
     let same : new ≡ g.tables = subst (λ c. AreNextGiven c g.tables new) z e in
-    let named : s.names u ≡ Some i = k.names.agree u ∙ chain-some (at g.tables.users.forward) w.identity u u used ∙ r in
-    subst (SpacesFit (spaces (with_tables new g))) (sym (ap (λ c. if c then bring_if_free u (s.names u) s else bring_next (suc u - s.watermark) s) (lt-ltb u s.watermark h) ∙ ap (λ o. bring_if_free u o s) named))
+    let named : s.naming.names u ≡ Some i = k.names.agree u ∙ chain-some (at g.tables.users.forward) w.identity u u used ∙ r in
+    subst (SpacesFit (spaces (with_tables new g))) (sym (ap (λ m. with_naming m s) (ap (λ c. if c then bring_if_free u (s.naming.names u) s.naming else bring_next (suc u - s.naming.watermark) s.naming) (lt-ltb u s.naming.watermark h) ∙ ap (λ o. bring_if_free u o s.naming) named)))
     (subst (λ t. SpacesFit (spaces (with_tables t g)) s) (sym same) f))
     (λ h.
-    let z : u + 1 - length g.tables.users.forward ≡ suc u - s.watermark = omega (arith, m) in
-    subst (SpacesFit (spaces (with_tables new g))) (sym (ap (λ c. if c then bring_if_free u (s.names u) s else bring_next (suc u - s.watermark) s) (not-below u s.watermark h)))
-    (next-spaces (suc u - s.watermark) g s new f (subst (λ c. AreNextGiven c g.tables new) z e)))
-    (cases_lt u s.watermark)
+    let z : u + 1 - length g.tables.users.forward ≡ suc u - s.naming.watermark = omega (arith, m) in
+    subst (SpacesFit (spaces (with_tables new g))) (sym (ap (λ m. with_naming m s) (ap (λ c. if c then bring_if_free u (s.naming.names u) s.naming else bring_next (suc u - s.naming.watermark) s.naming) (not-below u s.naming.watermark h))))
+    (next-spaces (suc u - s.naming.watermark) g s new f (subst (λ c. AreNextGiven c g.tables new) z e)))
+    (cases_lt u s.naming.watermark)
   where
     not-below : (a b : ℕ) → b ≤ a → nat_lt a b ≡ false
     not-below a b h = search (rules, h)
 
-pub named-all : (d : List Literal) (g : Summary) (s : State) (new : Tables) → SpacesFit (spaces g) s → IsPlain g.tables → AreNamedInTurn d g.tables new → SpacesFit (spaces (with_tables new g)) (name_all d s)
+pub named-all : (d : List Literal) (g : Summary) (s : State) (new : Tables) → SpacesFit (spaces g) s → IsPlain g.tables → AreNamedInTurn d g.tables new → SpacesFit (spaces (with_tables new g)) (with_naming (name_all d s.naming) s)
 named-all [] g s new f n e = subst (λ t. SpacesFit (spaces (with_tables t g)) s) (sym e) f
 named-all (l ∷ d) g s new f n (mid, e, rest) =
-    named-all d (with_tables mid g) (name_one (variable_of l) s) new (named-one g s mid (variable_of l) f n e) (next-plain (variable_of l + 1 - length g.tables.users.forward) g.tables mid n e).0 rest
+    named-all d (with_tables mid g) (with_naming (name_one (variable_of l) s.naming) s) new (named-one g s mid (variable_of l) f n e) (next-plain (variable_of l + 1 - length g.tables.users.forward) g.tables mid n e).0 rest
 
 -- 2. Solver variables, where no model is told.
 
@@ -121,12 +120,12 @@ taken-one g s new x v i w k none n is spoken free t =
       model = λ a e y. absurd (none a e);
     }) refl (w, taken w (spaces g) s x i v k is spoken free t.least.0 (n.no_units x))
 
-pub taken-in-turn : (xs : List ℕ) (g : Summary) (s : State) (new : Tables) → SpacesFit (spaces g) s → HasNoModel g → IsPlain g.tables → ((x : ℕ) → x ∈ xs → (u : ℕ) × (at g.tables.users.forward u ≡ Some x) × ((i : ℕ) → s.names u ≡ Some i → i ∈ s.counted)) → AreTakenInTurn xs g.tables new → SpacesFit (spaces (with_tables new g)) s
+pub taken-in-turn : (xs : List ℕ) (g : Summary) (s : State) (new : Tables) → SpacesFit (spaces g) s → HasNoModel g → IsPlain g.tables → ((x : ℕ) → x ∈ xs → (u : ℕ) × (at g.tables.users.forward u ≡ Some x) × ((i : ℕ) → s.naming.names u ≡ Some i → i ∈ s.counted)) → AreTakenInTurn xs g.tables new → SpacesFit (spaces (with_tables new g)) s
 taken-in-turn [] g s new f o n a e = subst (λ t. SpacesFit (spaces (with_tables t g)) s) (sym e) f
 taken-in-turn (x ∷ xs) g s new (w, k) o n a (mid, v, free, t, rest) =
     let (u, e, c) = a x (inl refl) in
     let (i, is) = k.names.live u x e in
-    let named : s.names u ≡ Some i = k.names.agree u ∙ chain-some (at g.tables.users.forward) w.identity u x e ∙ is in
+    let named : s.naming.names u ≡ Some i = k.names.agree u ∙ chain-some (at g.tables.users.forward) w.identity u x e ∙ is in
     taken-in-turn xs (with_tables mid g) s new (taken-one g s mid x v i w k o n is (c i named) free t) o (taken-plain g.tables mid x v n t)
     (λ y h. let (z, q, r) = a y (inr h) in (z, ap (λ m. at m.forward z) t.users ∙ q, r))
     rest
@@ -148,7 +147,7 @@ raised g s t (w, k) none seen n full =
       w,
       relinked w p q s s k (record {
         solvers = k.solvers;
-        holds = subst (λ y. SearchHolds s.clauses (translation w p) (search_of t) (without_core y)) (sym o) (subst (λ y. SearchHolds s.clauses (translation w p) y (without_core p.outcome)) (sym seen) k.holds);
+        holds = subst (λ y. SearchHolds s.clauses (translation w p s.ever_hidden) (search_of t) (without_core y)) (sym o) (subst (λ y. SearchHolds s.clauses (translation w p s.ever_hidden) y (without_core p.outcome)) (sym seen) k.holds);
         assumptions = k.assumptions;
         working = k.working;
         verdict = subst (λ y. VerdictFits w.identity q.model y s.verdict) (sym o) (model-same w.identity p.model q.model p.outcome s.verdict (λ a e. absurd (none a e)) k.verdict);
@@ -166,18 +165,18 @@ ledger-free w p s l k =
     relinked w p p s (record s { ledger = l }) k (record { solvers = k.solvers; holds = k.holds; assumptions = k.assumptions; working = k.working; verdict = k.verdict; core = k.core; right = k.right; few = k.few })
 
 -- the names of a clause that are in use are counted with it
-pub counted-spaces : (g : Summary) (s : State) (d : Clause) → SpacesFit (spaces g) s → ((l : Literal) → l ∈ d → (x : ℕ) × (at g.tables.users.forward (variable_of l) ≡ Some x)) → SpacesFit (spaces g) (count (join_counted s.counted (map variable_of (map (through_names s) d))) s)
+pub counted-spaces : (g : Summary) (s : State) (d : Clause) → SpacesFit (spaces g) s → ((l : Literal) → l ∈ d → (x : ℕ) × (at g.tables.users.forward (variable_of l) ≡ Some x)) → SpacesFit (spaces g) (count (join_counted s.counted (map variable_of (map (through_names s.naming) d))) s)
 counted-spaces g s d (w, k) named =
-    let is = map variable_of (map (through_names s) d) in (
+    let is = map variable_of (map (through_names s.naming) d) in (
       w,
       counted w (spaces g) s (join_counted s.counted is) k (join-more is s.counted)
           (λ i h. ⊎_elim (k.well_formed.counted i) (λ a.
-          let (l, b, e) = map-∈ variable_of i (map (through_names s) d) a in
-          let (m, j, f) = map-∈ (through_names s) l d b in
+          let (l, b, e) = map-∈ variable_of i (map (through_names s.naming) d) a in
+          let (m, j, f) = map-∈ (through_names s.naming) l d b in
           let (x, y) = named m j in
           let r = k.names.live (variable_of m) x y in
           let z = k.names.agree (variable_of m) ∙ chain-some (at g.tables.users.forward) w.identity (variable_of m) x y ∙ r.1 in
-          subst (λ v. v < s.made) (sym (e ∙ ap variable_of f ∙ carry-at s.names m r.0 z)) (k.identities.below x r.0 r.1))
+          subst (λ v. v < s.naming.made) (sym (e ∙ ap variable_of f ∙ carry-at s.naming.names m r.0 z)) (k.identities.below x r.0 r.1))
           (join-only is s.counted i h))
           (join-once is s.counted k.well_formed.once),
     )
@@ -187,13 +186,13 @@ name-of : (d : List Literal) (named taken : Tables) (l : Literal) → AreTakenFo
 name-of d named taken l e h = let (v, q) = e.all l h in let (x, a, b) = chain-through (at taken.users.forward) (at taken.solvers.forward) (variable_of l) v q in (x, a)
 
 -- the identities are counted, their variables take solver variables, and the search has these
-pub brought-in : (d : List Literal) (g : Summary) (n : State) (taken : Tables) (t : View) → SpacesFit (spaces g) n → HasNoModel g → IsPlain g.tables → AreTakenFor d g.tables taken → search_of t ≡ search_of g.search → length t.values ≡ length taken.solvers.backward → SpacesFit (spaces (record g { tables = taken; search = t })) (count (join_counted n.counted (map variable_of (map (through_names n) d))) n)
+pub brought-in : (d : List Literal) (g : Summary) (n : State) (taken : Tables) (t : View) → SpacesFit (spaces g) n → HasNoModel g → IsPlain g.tables → AreTakenFor d g.tables taken → search_of t ≡ search_of g.search → length t.values ≡ length taken.solvers.backward → SpacesFit (spaces (record g { tables = taken; search = t })) (count (join_counted n.counted (map variable_of (map (through_names n.naming) d))) n)
 brought-in d g n taken t f none plain e seen c =
     let (users, kept) = taken-users e.globals g.tables taken e.in_turn in
-    let is = map variable_of (map (through_names n) d) in
+    let is = map variable_of (map (through_names n.naming) d) in
     let f3 = counted-spaces g n d f (λ l h. let (x, q) = name-of d g.tables taken l e h in (x, ap (λ m. at m.forward (variable_of l)) (sym users) ∙ q)) in
     let f4 = taken-in-turn e.globals g (count (join_counted n.counted is) n) taken f3 none plain
-    (λ x h. let (l, i, q) = e.named x h in (variable_of l, q, λ j r. join-has is n.counted j (subst (λ y. y ∈ is) (carry-at n.names l j r) (∈-map variable_of (through_names n l) (map (through_names n) d) (∈-map (through_names n) l d i)))))
+    (λ x h. let (l, i, q) = e.named x h in (variable_of l, q, λ j r. join-has is n.counted j (subst (λ y. y ∈ is) (carry-at n.naming.names l j r) (∈-map variable_of (through_names n.naming l) (map (through_names n.naming) d) (∈-map (through_names n.naming) l d i)))))
     e.in_turn in
     raised (with_tables taken g) (count (join_counted n.counted is) n) t f4 none seen c (taken-in-turn-plain e.globals g.tables taken plain e.in_turn).nothing_hidden.solvers
 
@@ -241,7 +240,7 @@ no-sat verdict.UnsatUnderAssumptions (inl e) = cc
 
 -- What loading a clause makes of a verdict v, where x was found with the verdict forgotten: a core stays one.
 module _ (w : Carrying) (p : Spaces) (s : State) (c : Clause) (new old : View) (found core : List Literal) (id : ℕ → Option ℕ) (m : ℕ → Bool) where
-  pub settled : (sat after : SatState) (v x : Verdict) → Links w (record p { outcome = loaded_outcome after }) (accept c x s) → VerdictAfter s.clauses c Unknown x → VerdictFits id m (outcome_of old core sat) v → (after ≡ reopened_state sat) ⊎ (after ≡ verdict.Unsat) → CoreFits s.names p.core v → IsRight s.clauses s.assumptions s.counted v →
+  pub settled : (sat after : SatState) (v x : Verdict) → Links w (record p { outcome = loaded_outcome after }) (accept c x s) → VerdictAfter s.clauses c Unknown x → VerdictFits id m (outcome_of old core sat) v → (after ≡ reopened_state sat) ⊎ (after ≡ verdict.Unsat) → CoreFits s.naming.names p.core v → IsRight s.clauses s.assumptions s.counted v →
       (y : Verdict) × VerdictAfter s.clauses c v y × Links w (record p { outcome = outcome_of new found after }) (accept c y s)
   settled sat verdict.Unknown v Unknown k (Refuted q b) f e t r = absurd cc
   settled sat verdict.Unknown v Unknown k (Reopened q b) f (inl e) t r = (Unknown, Reopened (sym (reopens old core sat id m v e f)) b, k)
@@ -260,7 +259,7 @@ module _ (w : Carrying) (p : Spaces) (s : State) (c : Clause) (new old : View) (
       let (d, z) = is-core id m core v (subst (λ y. VerdictFits id m (outcome_of old core y) v) (keeps-core sat e) f) in (
         UnsatUnderAssumptions d,
         Reopened (sym (ap reopened_verdict z)) b,
-        core-known w (record p { outcome = outcome.Unknown }) (accept c Unknown s) found d k refl (subst (CoreFits s.names p.core) z t)
+        core-known w (record p { outcome = outcome.Unknown }) (accept c Unknown s) found d k refl (subst (CoreFits s.naming.names p.core) z t)
             (core_stays s.clauses (s.clauses ++ c ∷ []) s.assumptions d (λ x h. ∈-append_left x s.clauses (c ∷ []) h) (subst (IsRight s.clauses s.assumptions s.counted) z r)),
       )
   settled sat verdict.UnsatUnderAssumptions v Unknown k (Reopened q b) f (inr e) t r = absurd cc
@@ -295,11 +294,10 @@ pub record Steps (g : Summary) (d : Clause) (named taken joined : Tables) (mid n
   pub parts_stay : parts ≡ record g.assumed { levels = 0 }
 
 pub clause-accepted : (g : Summary) (s : State) (d : Clause) (named taken joined : Tables) (mid new : View) (parts : AssumptionParts) (after : SatState) → Steps g d named taken joined mid new parts after → SpacesFit (spaces g) s →
-    (x : Verdict) × VerdictAfter s.clauses (map (through_names (name_all d s)) d) s.verdict x × SpacesFit (spaces_of joined new parts after) (append_clause (map (through_names (name_all d s)) d) x (name_all d s))
+    (x : Verdict) × VerdictAfter s.clauses (map (through_names (name_all d s.naming)) d) s.verdict x × SpacesFit (spaces_of joined new parts after) (append_clause (map (through_names (name_all d s.naming)) d) x (with_naming (name_all d s.naming) s))
 clause-accepted g s d named taken joined mid new parts after t f =
-    let n = name_all d s in
-    let rest = rest-all d s in
-    let c = map (through_names n) d in
+    let n = with_naming (name_all d s.naming) s in
+    let c = map (through_names n.naming) d in
     let plain-named = named-plain d g.tables named t.plain t.are_named in
     let plain = taken-in-turn-plain t.are_taken.globals named taken plain-named t.are_taken.in_turn in
     let (w1, k1) = named-all d g s named f t.plain t.are_named in
@@ -321,7 +319,7 @@ clause-accepted g s d named taken joined mid new parts after t f =
     let (y, u, k7) = settled w5 p6 s3 c new g.search parts.failed_core g.assumed.failed_core w1.identity p1.model g.sat_state after n.verdict x k6 v k1.verdict t.verdict k1.core
     (right-more n.clauses n.assumptions n.counted s3.counted n.verdict (join-more (map variable_of c) n.counted) k1.right) in (
       y,
-      subst (λ z. VerdictAfter s.clauses c z y) rest.verdict (subst (λ P. VerdictAfter P c n.verdict y) rest.clauses u),
+      u,
       spaces-same (record p6 { outcome = outcome_of new parts.failed_core after }) q (append_clause c y n) (record {
         maps = record {
           global_from_user = λ u. ap (λ m. at m.forward u) j.users;
@@ -338,7 +336,6 @@ clause-accepted g s d named taken joined mid new parts after t f =
         search = refl;
         outcome = refl;
         var_count = t.same_count;
-        hidden = refl;
       }) (w5, k7),
     )
 

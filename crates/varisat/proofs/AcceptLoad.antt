@@ -41,10 +41,10 @@ map-empty f (l ∷ c) e = absurd cc
 
 module _ (w : Carrying) (p : Spaces) (s : State) (d : Clause) (k : Links w p s) (taken : AreTaken p d) where
   r : Translation
-  r = translation w p
+  r = translation w p s.ever_hidden
 
   c : Clause
-  c = map (through_names s) d
+  c = map (through_names s.naming) d
 
   e : Clause
   e = map (solver_literal p) d
@@ -59,7 +59,7 @@ module _ (w : Carrying) (p : Spaces) (s : State) (d : Clause) (k : Links w p s) 
     known : i ∈ s.counted
     there : r.identity v ≡ Some i
     back : r.solver i ≡ Some v
-    name : s.names (variable_of l) ≡ Some i
+    name : s.naming.names (variable_of l) ≡ Some i
     solver : variable_of (solver_literal p l) ≡ v
 
   where-to : (l : Literal) → l ∈ d → Leads l
@@ -82,26 +82,26 @@ module _ (w : Carrying) (p : Spaces) (s : State) (d : Clause) (k : Links w p s) 
         solver = carry-at (chain p.global_from_user p.solver_from_global) l v a;
       }
 
-  through : (l : Literal) → l ∈ d → carry r.identity (solver_literal p l) ≡ through_names s l
+  through : (l : Literal) → l ∈ d → carry r.identity (solver_literal p l) ≡ through_names s.naming l
   through l h =
       let z = where-to l h in
       let a1 : variable_of (carry r.identity (solver_literal p l)) ≡ z.i = carry-at r.identity (solver_literal p l) z.i (ap r.identity z.solver ∙ z.there) in
-      let a2 : variable_of (carry s.names l) ≡ z.i = carry-at s.names l z.i z.name in
-      same-literal (carry r.identity (solver_literal p l)) (carry s.names l) (a1 ∙ sym a2) (carry-sign r.identity (solver_literal p l) ∙ carry-sign (chain p.global_from_user p.solver_from_global) l ∙ sym (carry-sign s.names l))
+      let a2 : variable_of (carry s.naming.names l) ≡ z.i = carry-at s.naming.names l z.i z.name in
+      same-literal (carry r.identity (solver_literal p l)) (carry s.naming.names l) (a1 ∙ sym a2) (carry-sign r.identity (solver_literal p l) ∙ carry-sign (chain p.global_from_user p.solver_from_global) l ∙ sym (carry-sign s.naming.names l))
 
-  backward : (l : Literal) → l ∈ d → carry r.solver (through_names s l) ≡ solver_literal p l
+  backward : (l : Literal) → l ∈ d → carry r.solver (through_names s.naming l) ≡ solver_literal p l
   backward l h =
       let z = where-to l h in
-      let a1 : variable_of (carry r.solver (through_names s l)) ≡ z.v = carry-at r.solver (carry s.names l) z.v (ap r.solver (carry-at s.names l z.i z.name) ∙ z.back) in
-      same-literal (carry r.solver (carry s.names l)) (solver_literal p l) (a1 ∙ sym z.solver) (carry-sign r.solver (carry s.names l) ∙ carry-sign s.names l ∙ sym (carry-sign (chain p.global_from_user p.solver_from_global) l))
+      let a1 : variable_of (carry r.solver (through_names s.naming l)) ≡ z.v = carry-at r.solver (carry s.naming.names l) z.v (ap r.solver (carry-at s.naming.names l z.i z.name) ∙ z.back) in
+      same-literal (carry r.solver (carry s.naming.names l)) (solver_literal p l) (a1 ∙ sym z.solver) (carry-sign r.solver (carry s.naming.names l) ∙ carry-sign s.naming.names l ∙ sym (carry-sign (chain p.global_from_user p.solver_from_global) l))
 
   same-clause : map (carry r.identity) e ≡ c
   unfolding c e
-  same-clause = map-map (carry r.identity) (solver_literal p) (through_names s) d through
+  same-clause = map-map (carry r.identity) (solver_literal p) (through_names s.naming) d through
 
   back-clause : map (carry r.solver) c ≡ e
   unfolding c e
-  back-clause = map-map (carry r.solver) (through_names s) (solver_literal p) d backward
+  back-clause = map-map (carry r.solver) (through_names s.naming) (solver_literal p) d backward
 
   -- a literal of the clause over solver variables
   of-clause : (m : Literal) → m ∈ e → (i : ℕ) × (r.identity (variable_of m) ≡ Some i)
@@ -112,7 +112,7 @@ module _ (w : Carrying) (p : Spaces) (s : State) (d : Clause) (k : Links w p s) 
   one-literal : (m n : Literal) (i : ℕ) → r.identity (variable_of m) ≡ Some i → (j : ℕ) → r.identity (variable_of n) ≡ Some j → carry r.identity n ≡ carry r.identity m → n ≡ m
   unfolding r
   one-literal m n i a j b q =
-      let to = (translation w p).identity in
+      let to = (translation w p s.ever_hidden).identity in
       let z : j ≡ i = sym (carry-at to n j b) ∙ ap variable_of q ∙ carry-at to m i a in
       same-literal n m (one-solver w p s k (variable_of m) (variable_of n) i a (b ∙ ap Some z)) (sym (carry-sign to n) ∙ ap polarity_of q ∙ carry-sign to m)
 
@@ -138,9 +138,9 @@ module _ (w : Carrying) (p : Spaces) (s : State) (d : Clause) (k : Links w p s) 
     unfolding c e
     contradicted q =
         ⊎_elim
-        (λ z. inl (ap (map (solver_literal p)) (map-empty (through_names s) d z)))
+        (λ z. inl (ap (map (solver_literal p)) (map-empty (through_names s.naming) d z)))
         (λ (l, D, u, b, o).
-        let (l0, a, z) = map-∈ (through_names s) l d u.0 in
+        let (l0, a, z) = map-∈ (through_names s.naming) l d u.0 in
         let m = solver_literal p l0 in
         let in-e : m ∈ map (solver_literal p) d = ∈-map (solver_literal p) l0 d a in
         let (i, f) = of-clause m in-e in
@@ -152,7 +152,7 @@ module _ (w : Carrying) (p : Spaces) (s : State) (d : Clause) (k : Links w p s) 
             in-e,
             λ n j. let (n0, g, y) = map-∈ (solver_literal p) n d j in
                 let t = of-clause n j in
-                one-literal m n i f t.0 t.1 (ap (carry r.identity) y ∙ through n0 g ∙ u.1 (through_names s n0) (∈-map (through_names s) n0 d g) ∙ sym lm),
+                one-literal m n i f t.0 t.1 (ap (carry r.identity) y ∙ through n0 g ∙ u.1 (through_names s.naming n0) (∈-map (through_names s.naming) n0 d g) ∙ sym lm),
           ),
           by-cover (opposite m) i f' D (subst (λ y. IsUnit y D) (sym (carry-opposite r.identity m ∙ ap opposite lm)) o) (h.covered open-verdict D b),
         ))
@@ -192,19 +192,19 @@ module _ (w : Carrying) (p : Spaces) (s : State) (d : Clause) (k : Links w p s) 
         }
       where
         in-clause : (l : Literal) → l ∈ c → (u : ℕ) × (r.solver (variable_of l) ≡ Some u)
-        in-clause l i = let (m, a, q) = map-∈ (through_names s) l d i in let z = where-to m a in (z.v, ap r.solver (ap variable_of q ∙ carry-at s.names m z.i z.name) ∙ z.back)
+        in-clause l i = let (m, a, q) = map-∈ (through_names s.naming) l d i in let z = where-to m a in (z.v, ap r.solver (ap variable_of q ∙ carry-at s.naming.names m z.i z.name) ∙ z.back)
 
   -- the identities of the literals were made
-  made : (l : Literal) → l ∈ c → variable_of l < s.made
+  made : (l : Literal) → l ∈ c → variable_of l < s.naming.made
   unfolding c
   made l h =
-      let (l0, a, z) = map-∈ (through_names s) l d h in
+      let (l0, a, z) = map-∈ (through_names s.naming) l d h in
       let y = where-to l0 a in
-      subst (λ j. j < s.made) (sym (ap variable_of z ∙ carry-at s.names l0 y.i y.name)) (k.identities.below y.x y.i y.stands)
+      subst (λ j. j < s.naming.made) (sym (ap variable_of z ∙ carry-at s.naming.names l0 y.i y.name)) (k.identities.below y.x y.i y.stands)
 
   -- A clause of which the marks of isolation fell.
   module _ (after : ℕ → VarData) (touched : IsTouched p d after) where
-    settled-more : IsolationFits w.identity w.forced after (s.clauses ++ c ∷ []) s.made
+    settled-more : IsolationFits w.identity w.forced after (s.clauses ++ c ∷ []) s.naming.made
     unfolding c
     settled-more i h = go (k.isolation i h)
       where
@@ -212,31 +212,31 @@ module _ (w : Carrying) (p : Spaces) (s : State) (d : Clause) (k : Links w p s) 
         still-open true x f o = let q : true ≡ false = sym (touched.fallen x f) ∙ o in absurd cc
         still-open false x f o = f
 
-        by-mark : (b : Bool) (x : ℕ) → (after x).isolated ≡ b → w.identity x ≡ Some i → IsApart s.clauses i → (l0 : Literal) → l0 ∈ d → p.global_from_user (variable_of l0) ≡ Some x → IsolationCase w.identity w.forced after (s.clauses ++ map (through_names s) d ∷ []) i
+        by-mark : (b : Bool) (x : ℕ) → (after x).isolated ≡ b → w.identity x ≡ Some i → IsApart s.clauses i → (l0 : Literal) → l0 ∈ d → p.global_from_user (variable_of l0) ≡ Some x → IsolationCase w.identity w.forced after (s.clauses ++ map (through_names s.naming) d ∷ []) i
         by-mark false x q f apart l0 b g = NotIsolated x f q
         by-mark true x q f apart l0 b g = Apart (λ D l a wide m z. ⊎_elim
             (λ j. apart D l j wide m z)
-            (λ j. ⊎_elim (λ y. let n : true ≡ false = sym q ∙ touched.wide (wide-back s.names d (subst IsWide y wide)) l0 x b g in absurd cc) (λ y. absurd y) j)
-            (∈-append_cases D s.clauses (map (through_names s) d ∷ []) a))
+            (λ j. ⊎_elim (λ y. let n : true ≡ false = sym q ∙ touched.wide (wide-back s.naming.names d (subst IsWide y wide)) l0 x b g in absurd cc) (λ y. absurd y) j)
+            (∈-append_cases D s.clauses (map (through_names s.naming) d ∷ []) a))
 
-        go : IsolationCase w.identity w.forced p.kept s.clauses i → IsolationCase w.identity w.forced after (s.clauses ++ map (through_names s) d ∷ []) i
+        go : IsolationCase w.identity w.forced p.kept s.clauses i → IsolationCase w.identity w.forced after (s.clauses ++ map (through_names s.naming) d ∷ []) i
         go (NotIsolated x f o) = NotIsolated x f (still-open (after x).isolated x refl o)
         go (Apart apart) = ⊎_elim
-            (λ m. let (l, a, q) = map-∈ variable_of i (map (through_names s) d) m in
-            let (l0, b, z) = map-∈ (through_names s) l d a in
+            (λ m. let (l, a, q) = map-∈ variable_of i (map (through_names s.naming) d) m in
+            let (l0, b, z) = map-∈ (through_names s.naming) l d a in
             let y = where-to l0 b in
-            let ij : i ≡ y.i = q ∙ ap variable_of z ∙ carry-at s.names l0 y.i y.name in
+            let ij : i ≡ y.i = q ∙ ap variable_of z ∙ carry-at s.naming.names l0 y.i y.name in
             by-mark (after y.x).isolated y.x refl (y.stands ∙ ap Some (sym ij)) apart l0 b y.named)
-            (λ n. Apart (λ b l a f g z. ⊎_elim (λ j. apart b l j f g z) (λ j. ⊎_elim (λ y. n (subst (λ v. v ∈ map variable_of (map (through_names s) d)) z (∈-map variable_of l (map (through_names s) d) (subst (λ u. l ∈ u) y g)))) (λ y. absurd y) j) (∈-append_cases b s.clauses (map (through_names s) d ∷ []) a)))
-            (∈-or_not i (map variable_of (map (through_names s) d)))
+            (λ n. Apart (λ b l a f g z. ⊎_elim (λ j. apart b l j f g z) (λ j. ⊎_elim (λ y. n (subst (λ v. v ∈ map variable_of (map (through_names s.naming) d)) z (∈-map variable_of l (map (through_names s.naming) d) (subst (λ u. l ∈ u) y g)))) (λ y. absurd y) j) (∈-append_cases b s.clauses (map (through_names s.naming) d ∷ []) a)))
+            (∈-or_not i (map variable_of (map (through_names s.naming) d)))
         go (Forced b e) = Forced b e
 
-    stands : (t : Search) (v : Outcome) (m : ℕ → Bool) (x : Verdict) → SearchHolds (s.clauses ++ c ∷ []) r t (without_core v) → VerdictFits w.identity m v x → CoreFits s.names p.core x → IsRight (s.clauses ++ c ∷ []) s.assumptions s.counted x → Links w (record p { kept = after; search = t; outcome = v; model = m }) (accept c x s)
+    stands : (t : Search) (v : Outcome) (m : ℕ → Bool) (x : Verdict) → SearchHolds (s.clauses ++ c ∷ []) r t (without_core v) → VerdictFits w.identity m v x → CoreFits s.naming.names p.core x → IsRight (s.clauses ++ c ∷ []) s.assumptions s.counted x → Links w (record p { kept = after; search = t; outcome = v; model = m }) (accept c x s)
     unfolding r c
     stands t v m x holds fits core right = record {
-      identities = identities-same w.identity w.global p.kept after s.made (λ x. ap (λ y. y.deleted) (touched.rest x)) k.identities;
+      identities = identities-same w.identity w.global p.kept after s.naming.made (λ x. ap (λ y. y.deleted) (touched.rest x)) k.identities;
       names = k.names;
-      modes = modes-same w.identity p.global_from_user p.user_from_global p.global_from_user p.user_from_global p.kept after s.modes (λ u. refl) (λ x. refl) (λ x. ap (λ y. y.sampling_mode) (touched.rest x)) k.modes;
+      modes = modes-same w.identity p.global_from_user p.user_from_global p.global_from_user p.user_from_global p.kept after s.naming.modes (λ u. refl) (λ x. refl) (λ x. ap (λ y. y.sampling_mode) (touched.rest x)) k.modes;
       watermark = k.watermark;
       units = units-same w.identity w.forced p.kept after s.counted (λ x. ap (λ y. y.unit) (touched.rest x)) k.units;
       isolation = settled-more;
@@ -261,28 +261,28 @@ module _ (w : Carrying) (p : Spaces) (s : State) (d : Clause) (k : Links w p s) 
     }
 
     pub loaded : (t : Search) (v : Outcome) (m : ℕ → Bool) (lines : List Line) → p.outcome ≡ outcome.Unknown → AreLong p.search → AreLong t → AreInUse p t → Loads p.search t (map (solver_literal p) d) v lines →
-        (x : Verdict) × VerdictAfter s.clauses (map (through_names s) d) Unknown x × Links w (record p { kept = after; search = t; outcome = v; model = m }) (accept (map (through_names s) d) x s)
+        (x : Verdict) × VerdictAfter s.clauses (map (through_names s.naming) d) Unknown x × Links w (record p { kept = after; search = t; outcome = v; model = m }) (accept (map (through_names s.naming) d) x s)
     unfolding c e r
     loaded t v m lines o long-before long in-use loads =
-        let h = subst (SearchHolds s.clauses (translation w p) p.search) (ap without_core o) k.holds in
+        let h = subst (SearchHolds s.clauses (translation w p s.ever_hidden) p.search) (ap without_core o) k.holds in
         let more = holds-more h t v lines loads long in-use in
         ⊎_elim
-        (λ (q, u). let none = refuted (s.clauses ++ c ∷ []) (translation w p) t (subst (SearchHolds (s.clauses ++ c ∷ []) (translation w p) t) u more) in
-        (Unsat, Refuted refl none, stands t v m Unsat (subst (SearchHolds (s.clauses ++ c ∷ []) (translation w p) t) (u ∙ sym (ap without_core u)) more) (subst (λ y. VerdictFits w.identity m y Unsat) (sym u) tt) tt none))
-        (λ (q, u). (Unknown, Reopened refl (λ z. q (contradicted h long-before z)), stands t v m Unknown (subst (SearchHolds (s.clauses ++ c ∷ []) (translation w p) t) (u ∙ sym (ap without_core u)) more) (subst (λ y. VerdictFits w.identity m y Unknown) (sym u) tt) tt tt))
+        (λ (q, u). let none = refuted (s.clauses ++ c ∷ []) (translation w p s.ever_hidden) t (subst (SearchHolds (s.clauses ++ c ∷ []) (translation w p s.ever_hidden) t) u more) in
+        (Unsat, Refuted refl none, stands t v m Unsat (subst (SearchHolds (s.clauses ++ c ∷ []) (translation w p s.ever_hidden) t) (u ∙ sym (ap without_core u)) more) (subst (λ y. VerdictFits w.identity m y Unsat) (sym u) tt) tt none))
+        (λ (q, u). (Unknown, Reopened refl (λ z. q (contradicted h long-before z)), stands t v m Unknown (subst (SearchHolds (s.clauses ++ c ∷ []) (translation w p s.ever_hidden) t) (u ∙ sym (ap without_core u)) more) (subst (λ y. VerdictFits w.identity m y Unknown) (sym u) tt) tt tt))
         loads.verdict
 
   -- The list is assumed, of which the search has the literals. No verdict on the assumptions before is left.
   module _ (after : ℕ → VarData) (marks : IsMarkedFor p d after) where
-    pub assumed : (told : List Literal) → (s.verdict ≡ Unknown) ⊎ (s.verdict ≡ Unsat) → Links w (record p { kept = after; assumptions = d; core = told; working = map (solver_literal p) d }) (record s { assumptions = map (through_names s) d })
+    pub assumed : (told : List Literal) → (s.verdict ≡ Unknown) ⊎ (s.verdict ≡ Unsat) → Links w (record p { kept = after; assumptions = d; core = told; working = map (solver_literal p) d }) (record s { assumptions = map (through_names s.naming) d })
     unfolding c e r
     assumed told cases = record {
-      identities = identities-same w.identity w.global p.kept after s.made (λ x. ap (λ y. y.deleted) (marks.rest x)) k.identities;
+      identities = identities-same w.identity w.global p.kept after s.naming.made (λ x. ap (λ y. y.deleted) (marks.rest x)) k.identities;
       names = k.names;
-      modes = modes-same w.identity p.global_from_user p.user_from_global p.global_from_user p.user_from_global p.kept after s.modes (λ u. refl) (λ x. refl) (λ x. ap (λ y. y.sampling_mode) (marks.rest x)) k.modes;
+      modes = modes-same w.identity p.global_from_user p.user_from_global p.global_from_user p.user_from_global p.kept after s.naming.modes (λ u. refl) (λ x. refl) (λ x. ap (λ y. y.sampling_mode) (marks.rest x)) k.modes;
       watermark = k.watermark;
       units = units-same w.identity w.forced p.kept after s.counted (λ x. ap (λ y. y.unit) (marks.rest x)) k.units;
-      isolation = isolation-same w.identity w.forced p.kept after s.clauses s.made (λ x. ap (λ y. y.isolated) (marks.rest x)) k.isolation;
+      isolation = isolation-same w.identity w.forced p.kept after s.clauses s.naming.made (λ x. ap (λ y. y.isolated) (marks.rest x)) k.isolation;
       solvers = k.solvers;
       holds = k.holds;
       assumptions = record { agree = refl; taken = taken };
@@ -293,10 +293,10 @@ module _ (w : Carrying) (p : Spaces) (s : State) (d : Clause) (k : Links w p s) 
         implied = λ a m t. subst (MakesTrue a) same-clause t;
       };
       verdict = k.verdict;
-      core = ⊎_elim (λ q. subst (CoreFits s.names told) (sym q) tt) (λ q. subst (CoreFits s.names told) (sym q) tt) cases;
+      core = ⊎_elim (λ q. subst (CoreFits s.naming.names told) (sym q) tt) (λ q. subst (CoreFits s.naming.names told) (sym q) tt) cases;
       right = ⊎_elim
-          (λ q. subst (IsRight s.clauses (map (through_names s) d) s.counted) (sym q) tt)
-          (λ q. subst (IsRight s.clauses (map (through_names s) d) s.counted) (sym q) (subst (IsRight s.clauses s.assumptions s.counted) q k.right))
+          (λ q. subst (IsRight s.clauses (map (through_names s.naming) d) s.counted) (sym q) tt)
+          (λ q. subst (IsRight s.clauses (map (through_names s.naming) d) s.counted) (sym q) (subst (IsRight s.clauses s.assumptions s.counted) q k.right))
           cases;
       well_formed = record {
         one_to_one = k.well_formed.one_to_one;

@@ -19,7 +19,7 @@ use Rattle.varisat.proofs.NewNames.{linked}
 use Rattle.varisat.proofs.Relinked.{relinked}
 
 -- no two solver variables stand for one identity
-pub one-solver : (w : Carrying) (p : Spaces) (s : State) (k : Links w p s) (v v' i : ℕ) → (translation w p).identity v ≡ Some i → (translation w p).identity v' ≡ Some i → v' ≡ v
+pub one-solver : (w : Carrying) (p : Spaces) (s : State) (k : Links w p s) (v v' i : ℕ) → (translation w p s.ever_hidden).identity v ≡ Some i → (translation w p s.ever_hidden).identity v' ≡ Some i → v' ≡ v
 one-solver w p s k v v' i a b =
     let (x, e, f) = chain-through p.global_from_solver w.identity v i a in
     let (y, g, h) = chain-through p.global_from_solver w.identity v' i b in
@@ -30,7 +30,7 @@ one-solver w p s k v v' i a b =
 -- 1. A solver variable is taken.
 module _ (w : Carrying) (p : Spaces) (s : State) (x i v : ℕ) (k : Links w p s) (is : w.identity x ≡ Some i) (spoken : i ∈ s.counted) (unsolved : p.solver_from_global x ≡ None) (free : p.global_from_solver v ≡ None) (no-unit : (p.kept x).unit ≡ None) where
   r : Translation
-  r = translation w p
+  r = translation w p s.ever_hidden
 
   r' : Translation
   r' = translation w (take_solver x v p)
@@ -45,7 +45,7 @@ module _ (w : Carrying) (p : Spaces) (s : State) (x i v : ℕ) (k : Links w p s)
 
   not-new : (u j : ℕ) → r.identity u ≡ Some j → u ≡ v → ⊥
   unfolding r
-  not-new u j e q = let z : None ≡ Some j = sym (chain-none p.global_from_solver w.identity v free) ∙ ap (translation w p).identity (sym q) ∙ e in cc
+  not-new u j e q = let z : None ≡ Some j = sym (chain-none p.global_from_solver w.identity v free) ∙ ap (translation w p s.ever_hidden).identity (sym q) ∙ e in cc
 
   unforced : w.forced i ≡ None
   unforced = k.units.unit x i is ∙ no-unit
@@ -178,15 +178,15 @@ unfolding below
 -- where all solver variables below m are in use, m is at most the number of counted identities
 pub solvers-few : (w : Carrying) (p : Spaces) (s : State) (m : ℕ) → Links w p s → ((v : ℕ) → v < m → p.global_from_solver v ≢ None) → m ≤ length s.counted
 solvers-few w p s m k used =
-    few (translation w p).identity s.counted (λ v u i. one-solver w p s k v u i) m (λ v b.
+    few (translation w p s.ever_hidden).identity s.counted (λ v u i. one-solver w p s k v u i) m (λ v b.
     ⊎_elim
     (λ e. absurd (used v b e))
     (λ (x, e). let r = k.solvers.live v x e in (r.0, chain-some p.global_from_solver w.identity v x e ∙ r.1, r.2))
     (is-some (p.global_from_solver v)))
 
 -- where all global variables below n are live, n identities were made at least
-pub globals-few : (w : Carrying) (p : Spaces) (s : State) (n : ℕ) → Links w p s → ((x : ℕ) → x < n → (p.kept x).deleted ≡ false) → n ≤ s.made
+pub globals-few : (w : Carrying) (p : Spaces) (s : State) (n : ℕ) → Links w p s → ((x : ℕ) → x < n → (p.kept x).deleted ≡ false) → n ≤ s.naming.made
 globals-few w p s n k live =
-    let d = few w.identity (below s.made) (λ x y i a b. let q : Some y ≡ Some x = sym (k.identities.one_to_one.there y i b) ∙ k.identities.one_to_one.there x i a in cc) n (λ x b. let (i, e) = linked w p s x k (live x b) in (i, e, ∈-below s.made i (k.identities.below x i e))) in
-    let e = below-count s.made in
+    let d = few w.identity (below s.naming.made) (λ x y i a b. let q : Some y ≡ Some x = sym (k.identities.one_to_one.there y i b) ∙ k.identities.one_to_one.there x i a in cc) n (λ x b. let (i, e) = linked w p s x k (live x b) in (i, e, ∈-below s.naming.made i (k.identities.below x i e))) in
+    let e = below-count s.naming.made in
     omega (arith, d, e)

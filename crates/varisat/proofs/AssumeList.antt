@@ -16,7 +16,7 @@ use Rattle.varisat_names.specs.declared.variables.data.VarData.{VarData}
 use Rattle.varisat_names.specs.Variables.{Tables}
 use Rattle.varisat.specs.States.{State, Verdict, Unknown, Sat, Unsat, UnsatUnderAssumptions}
 use Rattle.varisat.specs.Names.{name_all, through_names}
-use Rattle.varisat.specs.Calls.{assumed_verdict, with_assumptions, with_verdict}
+use Rattle.varisat.specs.Calls.{with_naming, assumed_verdict, with_assumptions, with_verdict}
 use Rattle.varisat.specs.Carried.{carry}
 use Rattle.varisat.specs.Spaces.{Carrying, MarksFit, Links, SpacesFit}
 use Rattle.varisat.specs.Summaries.{Summary, spaces, spaces_of}
@@ -94,9 +94,9 @@ pub record Assuming (g : Summary) (list : List Literal) (named taken cleared mar
   pub verdict : after ≡ assumed_state g.sat_state
 
 pub list-assumed : (g : Summary) (s : State) (list : List Literal) (named taken cleared marked : Tables) (mid new : View) (parts : AssumptionParts) (after : SatState) → Assuming g list named taken cleared marked mid new parts after → SpacesFit (spaces g) s →
-    SpacesFit (spaces_of marked new parts after) (with_assumptions (map (through_names (name_all list s)) list) (name_all list s))
+    SpacesFit (spaces_of marked new parts after) (with_assumptions (map (through_names (name_all list s.naming)) list) (with_naming (name_all list s.naming) s))
 list-assumed g s list named taken cleared marked mid new parts after t f =
-    let n = name_all list s in
+    let n = with_naming (name_all list s.naming) s in
     let plain-named = named-plain list g.tables named t.plain t.are_named in
     let plain = taken-in-turn-plain t.are_taken.globals named taken plain-named t.are_taken.in_turn in
     let (w1, k1) = named-all list g s named f t.plain t.are_named in
@@ -116,7 +116,7 @@ list-assumed g s list named taken cleared marked mid new parts after t f =
     let k6 = assumed w5 p5 _ list k5 (λ l h. t.are_taken.all l h) (kept_at marked.kept) marks [] (forgotten-cases n.verdict) in
     let p6 = record p5 { kept = kept_at marked.kept; assumptions = list; core = []; working = map (solver_literal p5) list } in
     let g6 : Summary = record g { tables = marked; search = mid; assumed = parts; sat_state = assumed_state g.sat_state } in
-    let s6 = with_assumptions (map (through_names n) list) n in
+    let s6 = with_assumptions (map (through_names n.naming) list) n in
     let f6 : SpacesFit (spaces g6) s6 = spaces-same p6 (spaces g6) s6 (record {
       maps = record {
         global_from_user = λ u. ap (λ m. at m.forward u) users;
@@ -133,7 +133,6 @@ list-assumed g s list named taken cleared marked mid new parts after t f =
       search = refl;
       outcome = no-core-left mid g.assumed.failed_core parts.failed_core g.sat_state;
       var_count = refl;
-      hidden = refl;
     }) (w5, k6) in
     let full = subst (λ (m : BiMap). (v : ℕ) → v < length m.backward → at m.backward v ≢ None) (sym solvers) plain.nothing_hidden.solvers in
     let c = ap (λ (m : BiMap). length m.backward) (sym solvers) in

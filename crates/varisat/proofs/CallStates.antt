@@ -12,7 +12,7 @@ use Rattle.varisat.specs.Calls.{IsLike, IsValid, Invalidates, IsPastLimit, AddsC
 use Rattle.varisat.specs.Summaries.{Summary, StandsFor}
 
 pub like-refl : (s : State) → IsLike s s
-like-refl s = record { made = refl; names = refl; watermark = refl; modes = refl; clauses = refl; assumptions = refl; counted = refl; verdict = refl; ledger = refl }
+like-refl s = record { naming = refl; ever_hidden = refl; clauses = refl; assumptions = refl; counted = refl; verdict = refl; ledger = refl }
 
 -- a ledger by what it tells
 abbrev pub ledger_of : Bool → Bool → ℕ → Settings → Ledger

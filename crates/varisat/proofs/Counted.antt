@@ -68,7 +68,7 @@ right-more P A C D Unsat m r = r
 right-more P A C D (UnsatUnderAssumptions core) m r = r
 
 -- more identities may be counted, each once
-pub counted : (w : Carrying) (p : Spaces) (s : State) (is : List ℕ) → Links w p s → s.counted ⊆ is → ((i : ℕ) → i ∈ is → i < s.made) → IsDistinct is → Links w p (count is s)
+pub counted : (w : Carrying) (p : Spaces) (s : State) (is : List ℕ) → Links w p s → s.counted ⊆ is → ((i : ℕ) → i ∈ is → i < s.naming.made) → IsDistinct is → Links w p (count is s)
 counted w p s is k m b d = record {
   identities = k.identities;
   names = k.names;

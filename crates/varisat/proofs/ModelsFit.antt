@@ -23,9 +23,9 @@ rise-one : (a : Assignment) (o : Option ℕ) (u : ℕ) (rest : List Literal) →
 rise-one a None u rest r = weaken u rest r
 rise-one a (Some i) u rest r = let e = variable-literal u (a i) in (omega (arith, e), subst (λ x. IsRising (suc x) rest) (sym e) r)
 
-names-rise : (s : State) (a : Assignment) (k u : ℕ) → IsRising u (list_names s a u k)
+names-rise : (s : State) (a : Assignment) (k u : ℕ) → IsRising u (list_names s.naming a u k)
 names-rise s a zero u = tt
-names-rise s a (suc k) u = rise-one a (s.names u) u (list_names s a (suc u) k) (names-rise s a k (suc u))
+names-rise s a (suc k) u = rise-one a (s.naming.names u) u (list_names s.naming a (suc u) k) (names-rise s a k (suc u))
 
 here : (a : Assignment) (o : Option ℕ) (u i : ℕ) (rest : List Literal) → o ≡ Some i → literal_of u (a i) ∈ put_name u o a rest
 here a o u i rest e = subst (λ o. literal_of u (a i) ∈ put_name u o a rest) (sym e) (inl refl)
@@ -34,12 +34,12 @@ there : (a : Assignment) (o : Option ℕ) (u : ℕ) (l : Literal) (rest : List L
 there a None u l rest h = h
 there a (Some i) u l rest h = inr h
 
-names-hold : (s : State) (a : Assignment) (k u v i : ℕ) → s.names v ≡ Some i → u ≤ v → v < u + k → literal_of v (a i) ∈ list_names s a u k
+names-hold : (s : State) (a : Assignment) (k u v i : ℕ) → s.naming.names v ≡ Some i → u ≤ v → v < u + k → literal_of v (a i) ∈ list_names s.naming a u k
 names-hold s a zero u v i e b c = absurd (omega arith)
 names-hold s a (suc k) u v i e b c =
     ⊎_elim
-    (λ q. subst (λ x. literal_of x (a i) ∈ put_name u (s.names u) a (list_names s a (suc u) k)) (sym q) (here a (s.names u) u i (list_names s a (suc u) k) (ap s.names (sym q) ∙ e)))
-    (λ q. there a (s.names u) u (literal_of v (a i)) (list_names s a (suc u) k) (names-hold s a k (suc u) v i e q (omega arith)))
+    (λ q. subst (λ x. literal_of x (a i) ∈ put_name u (s.naming.names u) a (list_names s.naming a (suc u) k)) (sym q) (here a (s.naming.names u) u i (list_names s.naming a (suc u) k) (ap s.naming.names (sym q) ∙ e)))
+    (λ q. there a (s.naming.names u) u (literal_of v (a i)) (list_names s.naming a (suc u) k) (names-hold s a k (suc u) v i e q (omega arith)))
     (place v u b)
   where
     place : (v u : ℕ) → u ≤ v → (v ≡ u) ⊎ (suc u ≤ v)
@@ -50,29 +50,29 @@ which a None u l rest h = inr h
 which a (Some i) u l rest (inl e) = inl (i, refl, e)
 which a (Some i) u l rest (inr h) = inr h
 
-names-are : (s : State) (a : Assignment) (k u : ℕ) (l : Literal) → l ∈ list_names s a u k → (v i : ℕ) × (s.names v ≡ Some i) × (l ≡ literal_of v (a i))
+names-are : (s : State) (a : Assignment) (k u : ℕ) (l : Literal) → l ∈ list_names s.naming a u k → (v i : ℕ) × (s.naming.names v ≡ Some i) × (l ≡ literal_of v (a i))
 names-are s a zero u l h = absurd h
-names-are s a (suc k) u l h = ⊎_elim (λ (i, e, q). (u, i, e, q)) (λ m. names-are s a k (suc u) l m) (which a (s.names u) u l (list_names s a (suc u) k) h)
+names-are s a (suc k) u l h = ⊎_elim (λ (i, e, q). (u, i, e, q)) (λ m. names-are s a k (suc u) l m) (which a (s.naming.names u) u l (list_names s.naming a (suc u) k) h)
 
 -- an assignment that was found is a model that can be completed: of states alone
-pub completable : (s : State) (a : Assignment) → IsWellFormed s → IsRight s.clauses s.assumptions s.counted (Sat a) → IsCompletable s (list_names s a 0 s.watermark)
+pub completable : (s : State) (a : Assignment) → IsWellFormed s → IsRight s.clauses s.assumptions s.counted (Sat a) → IsCompletable s.naming s.clauses s.assumptions s.counted (list_names s.naming a 0 s.naming.watermark)
 completable s a f r = record {
-  rising = names-rise s a s.watermark 0;
-  all_listed = λ u i e. (literal_of u (a i), names-hold s a s.watermark 0 u i e (omega arith) (⊎_elim (λ b. omega (arith, b)) (λ b. absurd (let q : None ≡ Some i = sym (f.free u b) ∙ e in cc)) (below-or u s.watermark)), variable-literal u (a i));
-  in_use = λ l h. let (v, i, e, q) = names-are s a s.watermark 0 l h in (i, ap s.names (ap variable_of q ∙ variable-literal v (a i)) ∙ e);
+  rising = names-rise s a s.naming.watermark 0;
+  all_listed = λ u i e. (literal_of u (a i), names-hold s a s.naming.watermark 0 u i e (omega arith) (⊎_elim (λ b. omega (arith, b)) (λ b. absurd (let q : None ≡ Some i = sym (f.free u b) ∙ e in cc)) (below-or u s.naming.watermark)), variable-literal u (a i));
+  in_use = λ l h. let (v, i, e, q) = names-are s a s.naming.watermark 0 l h in (i, ap s.naming.names (ap variable_of q ∙ variable-literal v (a i)) ∙ e);
   uncounted = λ l i h k n.
-      let (v, j, e, q) = names-are s a s.watermark 0 l h in
+      let (v, j, e, q) = names-are s a s.naming.watermark 0 l h in
       let lv = ap variable_of q ∙ variable-literal v (a j) in
-      let z : Some i ≡ Some j = sym k ∙ ap s.names lv ∙ e in
+      let z : Some i ≡ Some j = sym k ∙ ap s.naming.names lv ∙ e in
       let ij : i ≡ j = cc in
       q ∙ ap (literal_of v) (ap a (sym ij) ∙ r.2 i n) ∙ ap (λ x. literal_of x false) (sym lv);
   satisfied = (
     a,
-    λ l h. let (m, b, z) = map-∈ (through_names s) l (list_names s a 0 s.watermark) h in
-        let (v, i, e, q) = names-are s a s.watermark 0 m b in
+    λ l h. let (m, b, z) = map-∈ (through_names s.naming) l (list_names s.naming a 0 s.naming.watermark) h in
+        let (v, i, e, q) = names-are s a s.naming.watermark 0 m b in
         let mv = ap variable_of q ∙ variable-literal v (a i) in
-        let at = carry-at s.names m i (ap s.names mv ∙ e) in
-        subst (λ y. value a y ≡ true) (sym z) (value-true a (carry s.names m) (ap a at ∙ sym (polarity-literal v (a i)) ∙ ap polarity_of (sym q) ∙ sym (carry-sign s.names m))),
+        let at = carry-at s.naming.names m i (ap s.naming.names mv ∙ e) in
+        subst (λ y. value a y ≡ true) (sym z) (value-true a (carry s.naming.names m) (ap a at ∙ sym (polarity-literal v (a i)) ∙ ap polarity_of (sym q) ∙ sym (carry-sign s.naming.names m))),
     r.0,
     r.1,
   );
@@ -105,19 +105,19 @@ is-core id m found (Sat a) f = absurd f
 is-core id m found Unsat f = absurd f
 is-core id m found (UnsatUnderAssumptions core) f = (core, refl)
 
-list-same : (w : Carrying) (p : Spaces) (s : State) (a : Assignment) → Links w p s → ((x i : ℕ) → w.identity x ≡ Some i → a i ≡ p.model x) → (k u : ℕ) → list_names s a u k ≡ list_globals p u k
+list-same : (w : Carrying) (p : Spaces) (s : State) (a : Assignment) → Links w p s → ((x i : ℕ) → w.identity x ≡ Some i → a i ≡ p.model x) → (k u : ℕ) → list_names s.naming a u k ≡ list_globals p u k
 list-same w p s a k f zero u = refl
-list-same w p s a k f (suc n) u = ap (put_name u (s.names u) a) (list-same w p s a k f n (suc u)) ∙ one (p.global_from_user u) refl
+list-same w p s a k f (suc n) u = ap (put_name u (s.naming.names u) a) (list-same w p s a k f n (suc u)) ∙ one (p.global_from_user u) refl
   where
-    one : (o : Option ℕ) → p.global_from_user u ≡ o → put_name u (s.names u) a (list_globals p (suc u) n) ≡ put_name u (p.global_from_user u) p.model (list_globals p (suc u) n)
+    one : (o : Option ℕ) → p.global_from_user u ≡ o → put_name u (s.naming.names u) a (list_globals p (suc u) n) ≡ put_name u (p.global_from_user u) p.model (list_globals p (suc u) n)
     one None e = ap (λ o. put_name u o a (list_globals p (suc u) n)) (k.names.agree u ∙ chain-none p.global_from_user w.identity u e) ∙ ap (λ o. put_name u o p.model (list_globals p (suc u) n)) (sym e)
     one (Some x) e =
         let (i, h) = k.names.live u x e in
         ap (λ o. put_name u o a (list_globals p (suc u) n)) (k.names.agree u ∙ chain-some p.global_from_user w.identity u x e ∙ h) ∙ ap (λ b. literal_of u b ∷ list_globals p (suc u) n) (f x i h) ∙ ap (λ o. put_name u o p.model (list_globals p (suc u) n)) (sym e)
 
 -- under Sat the list by global variables is the model to tell, and it can be completed
-pub told : (w : Carrying) (p : Spaces) (s : State) (found : Assignment) → Links w p s → p.outcome ≡ outcome.Sat found → (model_of s s.verdict ≡ Some (list_globals p 0 p.watermark)) × IsCompletable s (list_globals p 0 p.watermark)
+pub told : (w : Carrying) (p : Spaces) (s : State) (found : Assignment) → Links w p s → p.outcome ≡ outcome.Sat found → (model_of s.naming s.verdict ≡ Some (list_globals p 0 p.watermark)) × IsCompletable s.naming s.clauses s.assumptions s.counted (list_globals p 0 p.watermark)
 told w p s found k e =
     let (a, v, f) = is-sat w.identity p.model found s.verdict (subst (λ y. VerdictFits w.identity p.model y s.verdict) e k.verdict) in
-    let same : list_names s a 0 s.watermark ≡ list_globals p 0 p.watermark = list-same w p s a k f s.watermark 0 ∙ ap (list_globals p 0) k.watermark in
-    (ap (model_of s) v ∙ ap Some same, subst (IsCompletable s) same (completable s a k.well_formed (subst (IsRight s.clauses s.assumptions s.counted) v k.right)))
+    let same : list_names s.naming a 0 s.naming.watermark ≡ list_globals p 0 p.watermark = list-same w p s a k f s.naming.watermark 0 ∙ ap (list_globals p 0) k.watermark in
+    (ap (model_of s.naming) v ∙ ap Some same, subst (IsCompletable s.naming s.clauses s.assumptions s.counted) same (completable s a k.well_formed (subst (IsRight s.clauses s.assumptions s.counted) v k.right)))

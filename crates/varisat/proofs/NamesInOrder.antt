@@ -4,61 +4,18 @@ use Rattle.std.proofs.lemmas.Bool.{lt-ltb, cases_lt, eq-eqb, ne_eqb}
 use Rattle.varisat_theory.specs.Membership.{◌∈◌}
 use Rattle.varisat_theory.specs.Literals.{Literal, variable_of}
 use Rattle.varisat_theory.proofs.Members.{equal_or_not}
-use Rattle.varisat.specs.States.{State, Sample}
 use Rattle.varisat_names.specs.Maps.{updated}
-use Rattle.varisat.specs.Names.{bring, bring_next, bring_if_free, name_one, name_all, identity_of, through_names, IsLeastFree, AreInOrder}
+use Rattle.varisat.specs.Names.{Naming, Sample, bring, bring_next, bring_if_free, name_one, name_all, identity_of, through_names, IsLeastFree, AreInOrder}
 use Rattle.varisat.specs.Counts.{count_with}
 
--- 1. Naming changes names, the watermark, modes and identities alone.
-pub record KeepsRest (s t : State) : Type 0 where
-  pub clauses : t.clauses ≡ s.clauses
-  pub assumptions : t.assumptions ≡ s.assumptions
-  pub counted : t.counted ≡ s.counted
-  pub verdict : t.verdict ≡ s.verdict
-  pub ledger : t.ledger ≡ s.ledger
-
-rest-refl : (s : State) → KeepsRest s s
-rest-refl s = record { clauses = refl; assumptions = refl; counted = refl; verdict = refl; ledger = refl }
-
-rest-trans : (s t u : State) → KeepsRest s t → KeepsRest t u → KeepsRest s u
-rest-trans s t u a b = record {
-  clauses = b.clauses ∙ a.clauses;
-  assumptions = b.assumptions ∙ a.assumptions;
-  counted = b.counted ∙ a.counted;
-  verdict = b.verdict ∙ a.verdict;
-  ledger = b.ledger ∙ a.ledger;
-}
-
-rest-bring : (u : ℕ) (s : State) → KeepsRest s (bring u s)
-rest-bring u s = record { clauses = refl; assumptions = refl; counted = refl; verdict = refl; ledger = refl }
-
-rest-next : (k : ℕ) (s : State) → KeepsRest s (bring_next k s)
-rest-next zero s = rest-refl s
-rest-next (suc k) s = rest-trans s (bring s.watermark s) (bring_next k (bring s.watermark s)) (rest-bring s.watermark s) (rest-next k (bring s.watermark s))
-
-rest-free : (u : ℕ) (o : Option ℕ) (s : State) → KeepsRest s (bring_if_free u o s)
-rest-free u None s = rest-bring u s
-rest-free u (Some i) s = rest-refl s
-
-rest-case : (b : Bool) (s t u : State) → KeepsRest s t → KeepsRest s u → KeepsRest s (if b then t else u)
-rest-case true s t u a b = a
-rest-case false s t u a b = b
-
-pub rest-one : (u : ℕ) (s : State) → KeepsRest s (name_one u s)
-rest-one u s = rest-case (nat_lt u s.watermark) s (bring_if_free u (s.names u) s) (bring_next (suc u - s.watermark) s) (rest-free u (s.names u) s) (rest-next (suc u - s.watermark) s)
-
-pub rest-all : (d : List Literal) (s : State) → KeepsRest s (name_all d s)
-rest-all [] s = rest-refl s
-rest-all (l ∷ d) s = rest-trans s (name_one (variable_of l) s) (name_all d (name_one (variable_of l) s)) (rest-one (variable_of l) s) (rest-all d (name_one (variable_of l) s))
-
--- 2. Which names are in use.
+-- 1. Which names are in use.
 updated-at : {X : Type 0} (f : ℕ → X) (k : ℕ) (v : X) (i : ℕ) → i ≡ k → updated f k v i ≡ v
 updated-at f k v i e = ap (λ b. if b then v else f i) (eq-eqb i k e)
 
 updated-other : {X : Type 0} (f : ℕ → X) (k : ℕ) (v : X) (i : ℕ) → (i ≡ k → ⊥) → updated f k v i ≡ f i
 updated-other f k v i n = ap (λ b. if b then v else f i) (ne_eqb i k n)
 
-fit-bring : (n : ℕ) (s : State) → AreInOrder n s → AreInOrder (suc n) (bring s.watermark s)
+fit-bring : (n : ℕ) (s : Naming) → AreInOrder n s → AreInOrder (suc n) (bring s.watermark s)
 fit-bring n s f = record {
   made = omega (arith, f.made);
   watermark = omega (arith, f.watermark);
@@ -73,11 +30,11 @@ fit-bring n s f = record {
       (equal_or_not i s.made);
 }
 
-fit-next : (k n : ℕ) (s : State) → AreInOrder n s → AreInOrder (n + k) (bring_next k s)
+fit-next : (k n : ℕ) (s : Naming) → AreInOrder n s → AreInOrder (n + k) (bring_next k s)
 fit-next zero n s f = subst (λ m. AreInOrder m s) (omega arith) f
 fit-next (suc k) n s f = subst (λ m. AreInOrder m (bring_next k (bring s.watermark s))) (omega arith) (fit-next k (suc n) (bring s.watermark s) (fit-bring n s f))
 
-pub fit-one : (u n : ℕ) (s : State) → AreInOrder n s → AreInOrder (max n (u + 1)) (name_one u s)
+pub fit-one : (u n : ℕ) (s : Naming) → AreInOrder n s → AreInOrder (max n (u + 1)) (name_one u s)
 fit-one u n s f =
     ⊎_elim
     (λ h. let e = ap (λ b. if b then bring_if_free u (s.names u) s else bring_next (suc u - s.watermark) s) (lt-ltb u s.watermark h) ∙ ap (λ o. bring_if_free u o s) (f.in_use u (omega (arith, f.watermark))) in
@@ -91,14 +48,14 @@ fit-one u n s f =
     not-below : (a b : ℕ) → b ≤ a → nat_lt a b ≡ false
     not-below a b h = search (rules, h)
 
-pub fit-all : (d : List Literal) (n : ℕ) (s : State) → AreInOrder n s → AreInOrder (count_with n d) (name_all d s)
+pub fit-all : (d : List Literal) (n : ℕ) (s : Naming) → AreInOrder n s → AreInOrder (count_with n d) (name_all d s)
 fit-all [] n s f = f
 fit-all (l ∷ d) n s f = fit-all d (max n (variable_of l + 1)) (name_one (variable_of l) s) (fit-one (variable_of l) n s f)
 
-pub least-free : (n : ℕ) (s : State) → AreInOrder n s → IsLeastFree s n
+pub least-free : (n : ℕ) (s : Naming) → AreInOrder n s → IsLeastFree s n
 least-free n s f = (f.free n (omega arith), λ v h e. let q = sym (f.in_use v h) ∙ e in cc)
 
--- 3. Literals over names in use are those over identities.
+-- 2. Literals over names in use are those over identities.
 pub count-above : (d : List Literal) (n : ℕ) → n ≤ count_with n d
 count-above [] n = omega arith
 count-above (l ∷ d) n = let h = count-above d (max n (variable_of l + 1)) in omega (arith, h)
@@ -108,10 +65,10 @@ count-within [] n l h = absurd h
 count-within (k ∷ d) n l (inl e) = let h = count-above d (max n (variable_of k + 1)) in omega (arith, h, ap variable_of e)
 count-within (k ∷ d) n l (inr h) = count-within d (max n (variable_of k + 1)) l h
 
-pub through-one : (n : ℕ) (s : State) (l : Literal) → AreInOrder n s → variable_of l < n → through_names s l ≡ l
+pub through-one : (n : ℕ) (s : Naming) (l : Literal) → AreInOrder n s → variable_of l < n → through_names s l ≡ l
 through-one n s l f h = let e = ap (λ o. 2 * identity_of o + l % 2) (f.in_use (variable_of l) h) in e ∙ omega arith
 
-pub through-all : (n : ℕ) (s : State) (d : List Literal) → AreInOrder n s → ((l : Literal) → l ∈ d → variable_of l < n) → map (through_names s) d ≡ d
+pub through-all : (n : ℕ) (s : Naming) (d : List Literal) → AreInOrder n s → ((l : Literal) → l ∈ d → variable_of l < n) → map (through_names s) d ≡ d
 through-all n s [] f h = refl
 through-all n s (l ∷ d) f h = ap (λ x. x ∷ map (through_names s) d) (through-one n s l f (h l (inl refl))) ∙ ap (λ x. l ∷ x) (through-all n s d f (λ k m. h k (inr m)))
 

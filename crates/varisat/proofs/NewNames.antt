@@ -7,8 +7,9 @@ use Rattle.varisat_names.specs.Maps.{updated, onward, chain}
 use Rattle.varisat_names.specs.VarData.{fresh}
 use Rattle.varisat_names.specs.declared.variables.data.VarData.{VarData}
 use Rattle.varisat_names.specs.declared.variables.data.SamplingMode.TheVariants as sampling
-use Rattle.varisat.specs.States.{State, Sample, Verdict, Sat, IsRight, IsWellFormed}
-use Rattle.varisat.specs.Names.{bring, bring_next}
+use Rattle.varisat.specs.States.{State, Verdict, Sat, IsRight, IsWellFormed}
+use Rattle.varisat.specs.Names.{Sample, bring, bring_next}
+use Rattle.varisat.specs.Calls.{with_naming}
 use Rattle.varisat.specs.Carried.{carry}
 use Rattle.varisat.specs.Spaces.{Spaces, Carrying, ModeFits, IdentitiesFit, NamesFit, ModesFit, UnitsFit, IsolationCase, NotIsolated, Apart, Forced, IsolationFits, AssumptionsFit, MarksFit, without_core, translation, Links, SpacesFit}
 use Rattle.varisat.proofs.SpacesMoves.{give, give_next, AreDead}
@@ -29,14 +30,14 @@ linked w p s x k d = ⊎_elim (λ e. let q : false ≡ true = sym d ∙ k.identi
 pub differ : (id : ℕ → Option ℕ) (x y i : ℕ) → id x ≡ None → id y ≡ Some i → y ≡ x → ⊥
 differ id x y i n e q = let z : None ≡ Some i = sym n ∙ ap id (sym q) ∙ e in cc
 
-pub bring-well : (u : ℕ) (s : State) → IsWellFormed s → IsWellFormed (bring u s)
+pub bring-well : (u : ℕ) (s : State) → IsWellFormed s → IsWellFormed (with_naming (bring u s.naming) s)
 bring-well u s f = record {
-  one_to_one = λ u' v i. updated-all (λ u' o. o ≡ Some i → updated s.names u (Some s.made) v ≡ Some i → u' ≡ v) s.names u (Some s.made)
-      (λ e. updated-all (λ v o. o ≡ Some i → u ≡ v) s.names u (Some s.made) (λ _. refl) v (λ n h. let b = f.named v i h in let q : s.made ≡ i = cc in absurd (omega (arith, b, q))))
+  one_to_one = λ u' v i. updated-all (λ u' o. o ≡ Some i → updated s.naming.names u (Some s.naming.made) v ≡ Some i → u' ≡ v) s.naming.names u (Some s.naming.made)
+      (λ e. updated-all (λ v o. o ≡ Some i → u ≡ v) s.naming.names u (Some s.naming.made) (λ _. refl) v (λ n h. let b = f.named v i h in let q : s.naming.made ≡ i = cc in absurd (omega (arith, b, q))))
       u'
-      (λ n h. updated-all (λ v o. o ≡ Some i → u' ≡ v) s.names u (Some s.made) (λ e. let b = f.named u' i h in let q : s.made ≡ i = cc in absurd (omega (arith, b, q))) v (λ m g. f.one_to_one u' v i h g));
-  free = λ v h. updated-other s.names u (Some s.made) v (λ e. absurd (omega (arith))) ∙ f.free v (omega arith);
-  named = λ v i. updated-all (λ v o. o ≡ Some i → i < s.made + 1) s.names u (Some s.made) (λ e. let q : s.made ≡ i = cc in omega (arith, q)) v (λ n h. let b = f.named v i h in omega (arith, b));
+      (λ n h. updated-all (λ v o. o ≡ Some i → u' ≡ v) s.naming.names u (Some s.naming.made) (λ e. let b = f.named u' i h in let q : s.naming.made ≡ i = cc in absurd (omega (arith, b, q))) v (λ m g. f.one_to_one u' v i h g));
+  free = λ v h. updated-other s.naming.names u (Some s.naming.made) v (λ e. absurd (omega (arith))) ∙ f.free v (omega arith);
+  named = λ v i. updated-all (λ v o. o ≡ Some i → i < s.naming.made + 1) s.naming.names u (Some s.naming.made) (λ e. let q : s.naming.made ≡ i = cc in omega (arith, q)) v (λ n h. let b = f.named v i h in omega (arith, b));
   accepted = λ c l h i. let b = f.accepted c l h i in omega (arith, b);
   assumed = λ l h. let b = f.assumed l h in omega (arith, b);
   counted = λ i h. let b = f.counted i h in omega (arith, b);
@@ -49,7 +50,7 @@ uncounted P A C v i n r a e = (subst (IsRight P A C) e r).2 i n
 
 module _ (w : Carrying) (p : Spaces) (s : State) (u x : ℕ) (k : Links w p s) (free : p.global_from_user u ≡ None) (dead : (p.kept x).deleted ≡ true) where
   id' : ℕ → Option ℕ
-  id' = updated w.identity x (Some s.made)
+  id' = updated w.identity x (Some s.naming.made)
 
   kept' : ℕ → VarData
   kept' = updated p.kept x fresh
@@ -62,84 +63,84 @@ module _ (w : Carrying) (p : Spaces) (s : State) (u x : ℕ) (k : Links w p s) (
 
   stays : (y i : ℕ) → w.identity y ≡ Some i → id' y ≡ Some i
   unfolding id'
-  stays y i h = updated-other w.identity x (Some s.made) y (apart y i h) ∙ h
+  stays y i h = updated-other w.identity x (Some s.naming.made) y (apart y i h) ∙ h
 
   kept-stays : (y i : ℕ) → w.identity y ≡ Some i → kept' y ≡ p.kept y
   unfolding kept'
   kept-stays y i h = updated-other p.kept x fresh y (apart y i h)
 
-  unused : w.global s.made ≡ None
-  unused = ⊎_elim (λ e. e) (λ (y, e). let b = k.identities.below y s.made (k.identities.one_to_one.back y s.made e) in absurd (omega (arith, b))) (is-some (w.global s.made))
+  unused : w.global s.naming.made ≡ None
+  unused = ⊎_elim (λ e. e) (λ (y, e). let b = k.identities.below y s.naming.made (k.identities.one_to_one.back y s.naming.made e) in absurd (omega (arith, b))) (is-some (w.global s.naming.made))
 
   unnamed : p.user_from_global x ≡ None
   unnamed = ⊎_elim (λ e. e) (λ (v, e). let r = k.names.live v x (k.names.one_to_one.back v x e) in absurd (apart x r.0 r.1 refl)) (is-some (p.user_from_global x))
 
-  unforced : w.forced s.made ≡ None
-  unforced = ⊎_elim (λ e. e) (λ (b, e). let h = k.well_formed.counted s.made (k.units.is_counted s.made b e) in absurd (omega (arith, h))) (is-some (w.forced s.made))
+  unforced : w.forced s.naming.made ≡ None
+  unforced = ⊎_elim (λ e. e) (λ (b, e). let h = k.well_formed.counted s.naming.made (k.units.is_counted s.naming.made b e) in absurd (omega (arith, h))) (is-some (w.forced s.naming.made))
 
-  new-identities : IdentitiesFit id' (updated w.global s.made (Some x)) kept' (s.made + 1)
+  new-identities : IdentitiesFit id' (updated w.global s.naming.made (Some x)) kept' (s.naming.made + 1)
   unfolding id' kept'
   new-identities = record {
-    one_to_one = joined w.identity w.global x s.made k.identities.one_to_one none unused;
-    live = λ y i. updated-all (λ y o. o ≡ Some i → (kept' y).deleted ≡ false) w.identity x (Some s.made) (λ _. ap (λ d. d.deleted) (updated-at p.kept x fresh)) y (λ n h. ap (λ d. d.deleted) (kept-stays y i h) ∙ k.identities.live y i h);
-    deleted = λ y. updated-all (λ y o. o ≡ None → (kept' y).deleted ≡ true) w.identity x (Some s.made) (λ e. absurd cc) y (λ n h. ap (λ d. d.deleted) (updated-other p.kept x fresh y n) ∙ k.identities.deleted y h);
-    below = λ y i. updated-all (λ y o. o ≡ Some i → i < s.made + 1) w.identity x (Some s.made) (λ e. let q : s.made ≡ i = cc in omega (arith, q)) y (λ n h. let b = k.identities.below y i h in omega (arith, b));
+    one_to_one = joined w.identity w.global x s.naming.made k.identities.one_to_one none unused;
+    live = λ y i. updated-all (λ y o. o ≡ Some i → (kept' y).deleted ≡ false) w.identity x (Some s.naming.made) (λ _. ap (λ d. d.deleted) (updated-at p.kept x fresh)) y (λ n h. ap (λ d. d.deleted) (kept-stays y i h) ∙ k.identities.live y i h);
+    deleted = λ y. updated-all (λ y o. o ≡ None → (kept' y).deleted ≡ true) w.identity x (Some s.naming.made) (λ e. absurd cc) y (λ n h. ap (λ d. d.deleted) (updated-other p.kept x fresh y n) ∙ k.identities.deleted y h);
+    below = λ y i. updated-all (λ y o. o ≡ Some i → i < s.naming.made + 1) w.identity x (Some s.naming.made) (λ e. let q : s.naming.made ≡ i = cc in omega (arith, q)) y (λ n h. let b = k.identities.below y i h in omega (arith, b));
   }
 
-  mode-new : ModeFits (kept' x).sampling_mode (updated s.modes s.made Sample s.made)
+  mode-new : ModeFits (kept' x).sampling_mode (updated s.naming.modes s.naming.made Sample s.naming.made)
   unfolding kept'
-  mode-new = subst (λ m. ModeFits (kept' x).sampling_mode m) (sym (updated-at s.modes s.made Sample)) (subst (λ d. ModeFits d.sampling_mode Sample) (sym (updated-at p.kept x fresh)) tt)
+  mode-new = subst (λ m. ModeFits (kept' x).sampling_mode m) (sym (updated-at s.naming.modes s.naming.made Sample)) (subst (λ d. ModeFits d.sampling_mode Sample) (sym (updated-at p.kept x fresh)) tt)
 
-  new-names : NamesFit id' (updated p.global_from_user u (Some x)) (updated p.user_from_global x (Some u)) (updated s.names u (Some s.made)) (max s.watermark (u + 1))
+  new-names : NamesFit id' (updated p.global_from_user u (Some x)) (updated p.user_from_global x (Some u)) (updated s.naming.names u (Some s.naming.made)) (max s.naming.watermark (u + 1))
   unfolding id'
   new-names = record {
     one_to_one = joined p.global_from_user p.user_from_global u x k.names.one_to_one free unnamed;
-    agree = λ v. updated-all (λ v o. o ≡ chain (updated p.global_from_user u (Some x)) id' v) s.names u (Some s.made)
-        (sym (chain-some (updated p.global_from_user u (Some x)) id' u x (updated-at p.global_from_user u (Some x)) ∙ updated-at w.identity x (Some s.made)))
+    agree = λ v. updated-all (λ v o. o ≡ chain (updated p.global_from_user u (Some x)) id' v) s.naming.names u (Some s.naming.made)
+        (sym (chain-some (updated p.global_from_user u (Some x)) id' u x (updated-at p.global_from_user u (Some x)) ∙ updated-at w.identity x (Some s.naming.made)))
         v
         (λ n. k.names.agree v ∙ chain-same p.global_from_user w.identity id' v (λ y h. let r = k.names.live v y h in r.1 ∙ sym (stays y r.0 r.1)) ∙ ap (λ o. onward o id') (sym (updated-other p.global_from_user u (Some x) v n)));
     live = λ v y. updated-all (λ v o. o ≡ Some y → (i : ℕ) × (id' y ≡ Some i)) p.global_from_user u (Some x)
-        (λ e. (s.made, let q : x ≡ y = cc in subst (λ z. id' z ≡ Some s.made) q (updated-at w.identity x (Some s.made))))
+        (λ e. (s.naming.made, let q : x ≡ y = cc in subst (λ z. id' z ≡ Some s.naming.made) q (updated-at w.identity x (Some s.naming.made))))
         v
         (λ n h. let r = k.names.live v y h in (r.0, stays y r.0 r.1));
     free = λ v h. updated-other p.global_from_user u (Some x) v (λ e. absurd (omega arith)) ∙ k.names.free v (omega arith);
   }
 
-  new-modes : ModesFit id' (updated p.global_from_user u (Some x)) (updated p.user_from_global x (Some u)) kept' (updated s.modes s.made Sample)
+  new-modes : ModesFit id' (updated p.global_from_user u (Some x)) (updated p.user_from_global x (Some u)) kept' (updated s.naming.modes s.naming.made Sample)
   unfolding id' kept'
   new-modes = record {
-    mode = λ v y i. updated-all (λ v o. o ≡ Some y → id' y ≡ Some i → ModeFits (kept' y).sampling_mode (updated s.modes s.made Sample i)) p.global_from_user u (Some x)
+    mode = λ v y i. updated-all (λ v o. o ≡ Some y → id' y ≡ Some i → ModeFits (kept' y).sampling_mode (updated s.naming.modes s.naming.made Sample i)) p.global_from_user u (Some x)
         (λ e q. let z : x ≡ y = cc in
-        let at : Some i ≡ Some s.made = sym q ∙ ap id' (sym z) ∙ updated-at w.identity x (Some s.made) in
-        let j : s.made ≡ i = cc in
-        subst (λ i. ModeFits (kept' y).sampling_mode (updated s.modes s.made Sample i)) j (subst (λ y. ModeFits (kept' y).sampling_mode (updated s.modes s.made Sample s.made)) z mode-new))
+        let at : Some i ≡ Some s.naming.made = sym q ∙ ap id' (sym z) ∙ updated-at w.identity x (Some s.naming.made) in
+        let j : s.naming.made ≡ i = cc in
+        subst (λ i. ModeFits (kept' y).sampling_mode (updated s.naming.modes s.naming.made Sample i)) j (subst (λ y. ModeFits (kept' y).sampling_mode (updated s.naming.modes s.naming.made Sample s.naming.made)) z mode-new))
         v
         (λ n h q. let r = k.names.live v y h in
         let same : Some r.0 ≡ Some i = sym (stays y r.0 r.1) ∙ q in
         let j : r.0 ≡ i = cc in
         let b = k.identities.below y r.0 r.1 in
-        subst (λ m. ModeFits (kept' y).sampling_mode m) (sym (updated-other s.modes s.made Sample i (λ e. absurd (omega (arith, b, e, j)))))
-        (subst (λ d. ModeFits d.sampling_mode (s.modes i)) (sym (kept-stays y r.0 r.1)) (k.modes.mode v y i h (r.1 ∙ ap Some j))));
+        subst (λ m. ModeFits (kept' y).sampling_mode m) (sym (updated-other s.naming.modes s.naming.made Sample i (λ e. absurd (omega (arith, b, e, j)))))
+        (subst (λ d. ModeFits d.sampling_mode (s.naming.modes i)) (sym (kept-stays y r.0 r.1)) (k.modes.mode v y i h (r.1 ∙ ap Some j))));
     unnamed = λ y. updated-all (λ y o. o ≡ None → (kept' y).sampling_mode ≡ sampling.Hide) p.user_from_global x (Some u) (λ e. absurd cc) y (λ n h. ap (λ d. d.sampling_mode) (updated-other p.kept x fresh y n) ∙ k.modes.unnamed y h);
   }
 
   new-units : UnitsFit id' w.forced kept' s.counted
   unfolding id' kept'
   new-units = record {
-    unit = λ y i. updated-all (λ y o. o ≡ Some i → w.forced i ≡ (kept' y).unit) w.identity x (Some s.made)
-        (λ e. let q : s.made ≡ i = cc in ap w.forced (sym q) ∙ unforced ∙ ap (λ d. d.unit) (sym (updated-at p.kept x fresh)))
+    unit = λ y i. updated-all (λ y o. o ≡ Some i → w.forced i ≡ (kept' y).unit) w.identity x (Some s.naming.made)
+        (λ e. let q : s.naming.made ≡ i = cc in ap w.forced (sym q) ∙ unforced ∙ ap (λ d. d.unit) (sym (updated-at p.kept x fresh)))
         y
         (λ n h. k.units.unit y i h ∙ ap (λ d. d.unit) (sym (kept-stays y i h)));
     is_counted = k.units.is_counted;
   }
 
-  new-isolation : IsolationFits id' w.forced kept' s.clauses (s.made + 1)
+  new-isolation : IsolationFits id' w.forced kept' s.clauses (s.naming.made + 1)
   unfolding id' kept'
   new-isolation i h =
       ⊎_elim
       (λ e. Apart (λ c l m q j z. let b = k.well_formed.accepted c l m j in absurd (omega (arith, b, z, e))))
       (λ n. go (k.isolation i (omega (arith, h, n))))
-      (equal_or_not i s.made)
+      (equal_or_not i s.naming.made)
     where
       go : IsolationCase w.identity w.forced p.kept s.clauses i → IsolationCase id' w.forced kept' s.clauses i
       go (NotIsolated y e o) = NotIsolated y (stays y i e) (ap (λ d. d.isolated) (kept-stays y i e) ∙ o)
@@ -155,12 +156,12 @@ module _ (w : Carrying) (p : Spaces) (s : State) (u x : ℕ) (k : Links w p s) (
       cc
 
   -- what a name in use stood for it stands for still
-  name-stays : (v i : ℕ) → s.names v ≡ Some i → updated s.names u (Some s.made) v ≡ Some i
-  name-stays v i e = updated-other s.names u (Some s.made) v (λ q. let z : None ≡ Some i = sym (chain-none p.global_from_user w.identity u free) ∙ sym (k.names.agree u) ∙ ap s.names (sym q) ∙ e in cc) ∙ e
+  name-stays : (v i : ℕ) → s.naming.names v ≡ Some i → updated s.naming.names u (Some s.naming.made) v ≡ Some i
+  name-stays v i e = updated-other s.naming.names u (Some s.naming.made) v (λ q. let z : None ≡ Some i = sym (chain-none p.global_from_user w.identity u free) ∙ sym (k.names.agree u) ∙ ap s.naming.names (sym q) ∙ e in cc) ∙ e
 
-  new-assumptions : AssumptionsFit (updated p.global_from_user u (Some x)) p.solver_from_global (updated s.names u (Some s.made)) p.assumptions s.assumptions
+  new-assumptions : AssumptionsFit (updated p.global_from_user u (Some x)) p.solver_from_global (updated s.naming.names u (Some s.naming.made)) p.assumptions s.assumptions
   new-assumptions = record {
-    agree = k.assumptions.agree ∙ map-same (carry s.names) (carry (updated s.names u (Some s.made))) p.assumptions (λ l h. carry-same s.names (updated s.names u (Some s.made)) l (sym (updated-other s.names u (Some s.made) (variable_of l) (not-new l h))));
+    agree = k.assumptions.agree ∙ map-same (carry s.naming.names) (carry (updated s.naming.names u (Some s.naming.made))) p.assumptions (λ l h. carry-same s.naming.names (updated s.naming.names u (Some s.naming.made)) l (sym (updated-other s.naming.names u (Some s.naming.made) (variable_of l) (not-new l h))));
     taken = λ l h. let (v, c) = k.assumptions.taken l h in (v, ap (λ o. onward o p.solver_from_global) (updated-other p.global_from_user u (Some x) (variable_of l) (not-new l h)) ∙ c);
   }
 
@@ -182,13 +183,13 @@ module _ (w : Carrying) (p : Spaces) (s : State) (u x : ℕ) (k : Links w p s) (
   unsolved : p.solver_from_global x ≡ None
   unsolved = ⊎_elim (λ e. e) (λ (v, e). let r = k.solvers.live v x (k.solvers.one_to_one.there x v e) in absurd (apart x r.0 r.1 refl)) (is-some (p.solver_from_global x))
 
-  solver-same : (i : ℕ) → chain (updated w.global s.made (Some x)) p.solver_from_global i ≡ chain w.global p.solver_from_global i
-  solver-same i = updated-all (λ i o. onward o p.solver_from_global ≡ onward (w.global i) p.solver_from_global) w.global s.made (Some x) (unsolved ∙ ap (λ o. onward o p.solver_from_global) (sym unused)) i (λ n. refl)
+  solver-same : (i : ℕ) → chain (updated w.global s.naming.made (Some x)) p.solver_from_global i ≡ chain w.global p.solver_from_global i
+  solver-same i = updated-all (λ i o. onward o p.solver_from_global ≡ onward (w.global i) p.solver_from_global) w.global s.naming.made (Some x) (unsolved ∙ ap (λ o. onward o p.solver_from_global) (sym unused)) i (λ n. refl)
 
-  pub given : SpacesFit (give u x p) (bring u s)
+  pub given : SpacesFit (give u x p) (with_naming (bring u s.naming) s)
   unfolding id' kept'
   given = (
-    record { identity = id'; global = updated w.global s.made (Some x); forced = w.forced },
+    record { identity = id'; global = updated w.global s.naming.made (Some x); forced = w.forced },
     record {
       identities = new-identities;
       names = new-names;
@@ -197,15 +198,15 @@ module _ (w : Carrying) (p : Spaces) (s : State) (u x : ℕ) (k : Links w p s) (
       units = new-units;
       isolation = new-isolation;
       solvers = record { one_to_one = k.solvers.one_to_one; live = λ v y h. let r = k.solvers.live v y h in (r.0, stays y r.0 r.1, r.2) };
-      holds = holds-same s.clauses (translation w p) (record { identity = chain p.global_from_solver id'; solver = chain (updated w.global s.made (Some x)) p.solver_from_global; forced = w.forced; hidden = p.hidden }) p.search (without_core p.outcome)
+      holds = holds-same s.clauses (translation w p s.ever_hidden) (record { identity = chain p.global_from_solver id'; solver = chain (updated w.global s.naming.made (Some x)) p.solver_from_global; forced = w.forced; hidden = s.ever_hidden }) p.search (without_core p.outcome)
           identity-same solver-same (λ i. refl) refl k.holds;
       assumptions = new-assumptions;
       marks = new-marks;
       working = working-same s.clauses (chain p.global_from_solver w.identity) (chain p.global_from_solver id') s.assumptions p.working (λ l h. identity-same (variable_of l)) k.working;
-      core = core-same s.names (updated s.names u (Some s.made)) p.core s.verdict name-stays k.core;
+      core = core-same s.naming.names (updated s.naming.names u (Some s.naming.made)) p.core s.verdict name-stays k.core;
       verdict = verdict-moved w.identity id' p.model (updated p.model x false) p.outcome s.verdict
-          (λ a e f y i. updated-all (λ y o. o ≡ Some i → a i ≡ updated p.model x false y) w.identity x (Some s.made)
-          (λ q. let z : s.made ≡ i = cc in ap a (sym z) ∙ uncounted s.clauses s.assumptions s.counted s.verdict s.made (λ h. let b = k.well_formed.counted s.made h in absurd (omega (arith, b))) k.right a e ∙ sym (updated-at p.model x false))
+          (λ a e f y i. updated-all (λ y o. o ≡ Some i → a i ≡ updated p.model x false y) w.identity x (Some s.naming.made)
+          (λ q. let z : s.naming.made ≡ i = cc in ap a (sym z) ∙ uncounted s.clauses s.assumptions s.counted s.verdict s.naming.made (λ h. let b = k.well_formed.counted s.naming.made h in absurd (omega (arith, b))) k.right a e ∙ sym (updated-at p.model x false))
           y
           (λ n h. f y i h ∙ sym (updated-other p.model x false y n)))
           k.verdict;
@@ -216,8 +217,8 @@ module _ (w : Carrying) (p : Spaces) (s : State) (u x : ℕ) (k : Links w p s) (
   )
 
 -- names in a row
-pub next-given : (xs : List ℕ) (p : Spaces) (s : State) → SpacesFit p s → AreDead xs p → SpacesFit (give_next xs p) (bring_next (length xs) s)
+pub next-given : (xs : List ℕ) (p : Spaces) (s : State) → SpacesFit p s → AreDead xs p → SpacesFit (give_next xs p) (with_naming (bring_next (length xs) s.naming) s)
 next-given [] p s f d = f
 next-given (x ∷ xs) p s (w, k) d =
     let free : p.global_from_user p.watermark ≡ None = k.names.free p.watermark (let e = k.watermark in omega (arith, e)) in
-    next-given xs (give p.watermark x p) (bring s.watermark s) (subst (λ n. SpacesFit (give p.watermark x p) (bring n s)) (sym k.watermark) (given w p s p.watermark x k free d.0)) d.1
+    next-given xs (give p.watermark x p) (with_naming (bring s.naming.watermark s.naming) s) (subst (λ n. SpacesFit (give p.watermark x p) (with_naming (bring n s.naming) s)) (sym k.watermark) (given w p s p.watermark x k free d.0)) d.1

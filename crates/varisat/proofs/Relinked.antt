@@ -20,11 +20,11 @@ with_search_side q p = record p {
 -- What links the search to the state.
 pub record SearchLinks (w : Carrying) (p : Spaces) (s : State) : Type 0 where
   pub solvers : SolversFit w.identity p.solver_from_global p.global_from_solver s.counted
-  pub holds : SearchHolds s.clauses (translation w p) p.search (without_core p.outcome)
-  pub assumptions : AssumptionsFit p.global_from_user p.solver_from_global s.names p.assumptions s.assumptions
-  pub working : WorkingFits s.clauses (translation w p).identity s.assumptions p.working
+  pub holds : SearchHolds s.clauses (translation w p s.ever_hidden) p.search (without_core p.outcome)
+  pub assumptions : AssumptionsFit p.global_from_user p.solver_from_global s.naming.names p.assumptions s.assumptions
+  pub working : WorkingFits s.clauses (translation w p s.ever_hidden).identity s.assumptions p.working
   pub verdict : VerdictFits w.identity p.model p.outcome s.verdict
-  pub core : CoreFits s.names p.core s.verdict
+  pub core : CoreFits s.naming.names p.core s.verdict
   pub right : HasRightVerdict s
   pub few : p.var_count ≤ length s.counted
 

@@ -28,12 +28,12 @@ use Rattle.varisat.proofs.Relinked.{relinked}
 use Rattle.varisat.proofs.SearchHeld.{answers-covers, agrees-through, held-on, refuted}
 
 -- the identity of the solver variable leads back to it
-there-back : (w : Carrying) (p : Spaces) (s : State) (k : Links w p s) (v i : ℕ) → (translation w p).identity v ≡ Some i → (translation w p).solver i ≡ Some v
+there-back : (w : Carrying) (p : Spaces) (s : State) (k : Links w p s) (v i : ℕ) → (translation w p s.ever_hidden).identity v ≡ Some i → (translation w p s.ever_hidden).solver i ≡ Some v
 there-back w p s k v i e =
     let (x, f, g) = chain-through p.global_from_solver w.identity v i e in
     chain-some w.global p.solver_from_global i x (k.identities.one_to_one.there x i g) ∙ k.solvers.one_to_one.back x v f
 
-back-there : (w : Carrying) (p : Spaces) (s : State) (k : Links w p s) (v i : ℕ) → (translation w p).solver i ≡ Some v → ((translation w p).identity v ≡ Some i) × (i ∈ s.counted)
+back-there : (w : Carrying) (p : Spaces) (s : State) (k : Links w p s) (v i : ℕ) → (translation w p s.ever_hidden).solver i ≡ Some v → ((translation w p s.ever_hidden).identity v ≡ Some i) × (i ∈ s.counted)
 back-there w p s k v i e =
     let (x, f, g) = chain-through w.global p.solver_from_global i v e in
     let h = k.solvers.one_to_one.there x v g in
@@ -46,7 +46,7 @@ abbrev pub decide : Search → Outcome → (ℕ → Bool) → List Literal → L
 decide t v m working core p = record p { search = t; outcome = v; model = m; working = working; core = core }
 
 -- another verdict of the state, which is right
-decided : (w : Carrying) (p : Spaces) (s : State) (t : Search) (v : Outcome) (m : ℕ → Bool) (ws core : List Literal) (x : Verdict) → Links w p s → SearchHolds s.clauses (translation w p) t (without_core v) → WorkingFits s.clauses (translation w p).identity s.assumptions ws → VerdictFits w.identity m v x → CoreFits s.names core x → IsRight s.clauses s.assumptions s.counted x → Links w (decide t v m ws core p) (with_verdict x s)
+decided : (w : Carrying) (p : Spaces) (s : State) (t : Search) (v : Outcome) (m : ℕ → Bool) (ws core : List Literal) (x : Verdict) → Links w p s → SearchHolds s.clauses (translation w p s.ever_hidden) t (without_core v) → WorkingFits s.clauses (translation w p s.ever_hidden).identity s.assumptions ws → VerdictFits w.identity m v x → CoreFits s.naming.names core x → IsRight s.clauses s.assumptions s.counted x → Links w (decide t v m ws core p) (with_verdict x s)
 decided w p s t v m ws core x k holds working fits told right =
     relinked w p (decide t v m ws core p) s (with_verdict x s) k (record { solvers = k.solvers; holds = holds; assumptions = k.assumptions; working = working; verdict = fits; core = told; right = right; few = k.few })
 
@@ -54,7 +54,7 @@ decided w p s t v m ws core x k holds working fits told right =
 pub forgotten : (w : Carrying) (p : Spaces) (s : State) → Links w p s → s.verdict ≢ Unsat → Links w (decide p.search outcome.Unknown p.model p.working p.core p) (with_verdict Unknown s)
 forgotten w p s k n = decided w p s p.search outcome.Unknown p.model p.working p.core Unknown k (go p.outcome s.verdict k.holds k.verdict n) k.working tt tt tt
   where
-    go : (v : Outcome) (x : Verdict) → SearchHolds s.clauses (translation w p) p.search (without_core v) → VerdictFits w.identity p.model v x → x ≢ Unsat → SearchHolds s.clauses (translation w p) p.search outcome.Unknown
+    go : (v : Outcome) (x : Verdict) → SearchHolds s.clauses (translation w p s.ever_hidden) p.search (without_core v) → VerdictFits w.identity p.model v x → x ≢ Unsat → SearchHolds s.clauses (translation w p s.ever_hidden) p.search outcome.Unknown
     go outcome.Unknown x h f n = h
     go (outcome.Sat found) x h f n =
         let o : outcome.Sat found ≢ outcome.Unsat = (λ q. let z : outcome.Sat found ≡ outcome.Unsat = q in cc) in
@@ -66,9 +66,9 @@ forgotten w p s k n = decided w p s p.search outcome.Unknown p.model p.working p
     go (outcome.UnsatUnder core) x h f n = h
 
 -- and where the state has a core, it may come back
-pub core-known : (w : Carrying) (p : Spaces) (s : State) (found core : List Literal) → Links w p s → p.outcome ≡ outcome.Unknown → CoreFits s.names p.core (UnsatUnderAssumptions core) → IsFailedCore s.clauses s.assumptions core → Links w (record p { outcome = outcome.UnsatUnder found }) (with_verdict (UnsatUnderAssumptions core) s)
+pub core-known : (w : Carrying) (p : Spaces) (s : State) (found core : List Literal) → Links w p s → p.outcome ≡ outcome.Unknown → CoreFits s.naming.names p.core (UnsatUnderAssumptions core) → IsFailedCore s.clauses s.assumptions core → Links w (record p { outcome = outcome.UnsatUnder found }) (with_verdict (UnsatUnderAssumptions core) s)
 core-known w p s found core k unknown told right =
-    decided w p s p.search (outcome.UnsatUnder found) p.model p.working p.core (UnsatUnderAssumptions core) k (subst (SearchHolds s.clauses (translation w p) p.search) (ap without_core unknown) k.holds) k.working tt told right
+    decided w p s p.search (outcome.UnsatUnder found) p.model p.working p.core (UnsatUnderAssumptions core) k (subst (SearchHolds s.clauses (translation w p s.ever_hidden) p.search) (ap without_core unknown) k.holds) k.working tt told right
 
 -- what is held says as much without the core
 holds-without : (held : List Clause) (t : Search) (v : Outcome) → Holds held t v → Holds held t (without_core v)
@@ -96,21 +96,21 @@ working-on P r s v as' x y h k f = record {
 
 -- Steps were made, and left some of the assumptions.
 module _ (w : Carrying) (p : Spaces) (s : State) (k : Links w p s) (unknown : p.outcome ≡ outcome.Unknown) (t : Search) (v : Outcome) (n : ℕ) (lines : List Line) (made : MakesSteps n p.search t v lines) (long : AreLong t) (in-use : AreInUse p t) where
-  before : SearchHolds s.clauses (translation w p) p.search outcome.Unknown
-  before = subst (SearchHolds s.clauses (translation w p) p.search) (ap without_core unknown) k.holds
+  before : SearchHolds s.clauses (translation w p s.ever_hidden) p.search outcome.Unknown
+  before = subst (SearchHolds s.clauses (translation w p s.ever_hidden) p.search) (ap without_core unknown) k.holds
 
   -- what the search holds after the steps
-  pub steps-hold : SearchHolds s.clauses (translation w p) t (without_core v)
+  pub steps-hold : SearchHolds s.clauses (translation w p s.ever_hidden) t (without_core v)
   steps-hold =
       let (after, d, o) = made.holds before.held before.holds in
-      held-on s.clauses (translation w p) p.search t (without_core v) before long
+      held-on s.clauses (translation w p s.ever_hidden) p.search t (without_core v) before long
       (λ e Q g. answers-covers Q t v (λ q. e (ap without_core q)) (made.answers Q g))
       lines after (by_derives n before.held lines after d) (holds-without after t v o)
       (λ l a. let (x, b) = in-use l a in let q = k.solvers.live (variable_of l) x b in (q.0, chain-some p.global_from_solver w.identity (variable_of l) x b ∙ q.1))
 
   module _ (x y : AssumptionParts) (same : p.working ≡ x.working) (keeps : KeepsAssumptions p.search v x y) where
-    pub left : WorkingFits s.clauses (translation w p).identity s.assumptions y.working
-    left = working-on s.clauses (translation w p) p.search v s.assumptions x y before keeps (subst (WorkingFits s.clauses (translation w p).identity s.assumptions) same k.working)
+    pub left : WorkingFits s.clauses (translation w p s.ever_hidden).identity s.assumptions y.working
+    left = working-on s.clauses (translation w p s.ever_hidden) p.search v s.assumptions x y before keeps (subst (WorkingFits s.clauses (translation w p s.ever_hidden).identity s.assumptions) same k.working)
 
     -- without a verdict
     pub went-on : (m : ℕ → Bool) (core : List Literal) → v ≡ outcome.Unknown → Links w (decide t v m y.working core p) (with_verdict Unknown s)
@@ -118,36 +118,36 @@ module _ (w : Carrying) (p : Spaces) (s : State) (k : Links w p s) (unknown : p.
 
     pub unsat-found : (m : ℕ → Bool) (core : List Literal) → v ≡ outcome.Unsat → Links w (decide t v m y.working core p) (with_verdict Unsat s)
     unsat-found m core e =
-        let none = refuted s.clauses (translation w p) t (subst (SearchHolds s.clauses (translation w p) t) (ap without_core e) steps-hold) in
+        let none = refuted s.clauses (translation w p s.ever_hidden) t (subst (SearchHolds s.clauses (translation w p s.ever_hidden) t) (ap without_core e) steps-hold) in
         decided w p s t v m y.working core Unsat k steps-hold left (subst (λ y. VerdictFits w.identity m y Unsat) (sym e) tt) tt none
 
     -- a core was found, which is told over names in use
-    pub core-found : (m : ℕ → Bool) (found told : List Literal) → v ≡ outcome.UnsatUnder found → ((l : Literal) → l ∈ told → (i : ℕ) × (s.names (variable_of l) ≡ Some i)) → map (carry s.names) told ≡ map (carry (translation w p).identity) found → Links w (decide t v m y.working told p) (with_verdict (UnsatUnderAssumptions (map (carry s.names) told)) s)
+    pub core-found : (m : ℕ → Bool) (found told : List Literal) → v ≡ outcome.UnsatUnder found → ((l : Literal) → l ∈ told → (i : ℕ) × (s.naming.names (variable_of l) ≡ Some i)) → map (carry s.naming.names) told ≡ map (carry (translation w p s.ever_hidden).identity) found → Links w (decide t v m y.working told p) (with_verdict (UnsatUnderAssumptions (map (carry s.naming.names) told)) s)
     core-found m found told e named same-core =
-        let to = (translation w p).identity in
+        let to = (translation w p s.ever_hidden).identity in
         let as' = s.assumptions in
-        let part : map (carry s.names) told ⊆ as' = (λ l i.
+        let part : map (carry s.naming.names) told ⊆ as' = (λ l i.
         let (z, j, q) = map-∈ (carry to) l found (subst (λ xs. l ∈ xs) same-core i) in
         subst (λ y. y ∈ as') (sym q) (k.working.part (carry to z) (∈-map (carry to) z p.working (subst (λ xs. z ∈ xs) (sym same) (keeps.core found e z j))))) in
-        let none : IsSatisfiableWith s.clauses (map (carry s.names) told) → ⊥ = (λ (a, sat, true-core).
+        let none : IsSatisfiableWith s.clauses (map (carry s.naming.names) told) → ⊥ = (λ (a, sat, true-core).
         let b : Assignment = λ v. a (identity_of (to v)) in
         let (after, d, o) = made.holds before.held before.holds in
         let all = derives_sound before.held lines after b (by_derives n before.held lines after d) (before.implied a b sat (agrees-through to a)) in
         conflicts_sound after found b all (carried-true to a found (subst (MakesTrue a) same-core true-core)) (subst (Holds after t) e o).1) in
-        decided w p s t v m y.working told (UnsatUnderAssumptions (map (carry s.names) told)) k steps-hold left (subst (λ y. VerdictFits w.identity m y (UnsatUnderAssumptions (map (carry s.names) told))) (sym e) tt) (named, refl) (part, none)
+        decided w p s t v m y.working told (UnsatUnderAssumptions (map (carry s.naming.names) told)) k steps-hold left (subst (λ y. VerdictFits w.identity m y (UnsatUnderAssumptions (map (carry s.naming.names) told))) (sym e) tt) (named, refl) (part, none)
 
 module _ (w : Carrying) (p : Spaces) (s : State) (k : Links w p s) (unknown : p.outcome ≡ outcome.Unknown) (t : Search) (f : Assignment) (n : ℕ) (lines : List Line) (made : MakesSteps n p.search t (outcome.Sat f) lines) (long : AreLong t) (in-use : AreInUse p t) where
   pub found : Assignment
-  found i = value_or (w.forced i) f ((translation w p).solver i)
+  found i = value_or (w.forced i) f ((translation w p s.ever_hidden).solver i)
 
-  found-solved : (v i : ℕ) → (translation w p).identity v ≡ Some i → found i ≡ f v
+  found-solved : (v i : ℕ) → (translation w p s.ever_hidden).identity v ≡ Some i → found i ≡ f v
   unfolding found
   found-solved v i e = ap (value_or (w.forced i) f) (there-back w p s k v i e)
 
-  found-literal : (l : Literal) → IsLiteralOf p.search l → value found (carry (translation w p).identity l) ≡ value f l
+  found-literal : (l : Literal) → IsLiteralOf p.search l → value found (carry (translation w p s.ever_hidden).identity l) ≡ value f l
   found-literal l a =
       let (i, e) = k.holds.within l a in
-      value-carry (translation w p).identity found l ∙ value-same (λ v. found (identity_of ((translation w p).identity v))) f l (ap (λ o. found (identity_of o)) e ∙ found-solved (variable_of l) i e)
+      value-carry (translation w p s.ever_hidden).identity found l ∙ value-same (λ v. found (identity_of ((translation w p s.ever_hidden).identity v))) f l (ap (λ o. found (identity_of o)) e ∙ found-solved (variable_of l) i e)
 
   found-forced : (l : Literal) → is_forced w.forced l ≡ true → value found l ≡ true
   unfolding found
@@ -161,15 +161,15 @@ module _ (w : Carrying) (p : Spaces) (s : State) (k : Links w p s) (unknown : p.
           let q = (back-there w p s k v i o).0 in
           let h = before w p s k unknown t (outcome.Sat f) n lines made long in-use in
           let m = literal_of v b in
-          let z = h.fixed (λ q. let z : outcome.Unknown ≡ outcome.Unsat = q in cc) m i (ap (translation w p).identity (variable-literal v b) ∙ q) (e ∙ ap Some (sym (polarity-literal v b))) in
+          let z = h.fixed (λ q. let z : outcome.Unknown ≡ outcome.Unsat = q in cc) m i (ap (translation w p s.ever_hidden).identity (variable-literal v b) ∙ q) (e ∙ ap Some (sym (polarity-literal v b))) in
           let (l, a, y) = (made.answers ((m ∷ []) ∷ []) (λ c. elim [ inl e ↦ inl (inr (m, subst (λ x. m ∈ x) (sym e) (inl refl), z)) | inr z ↦ absurd z ])).1 (m ∷ []) (inl refl) in
           let only : l ≡ m = ⊎_elim (λ e. e) (λ z. absurd z) a in
           ap (value_or (w.forced i) f) o ∙ ap f (sym (variable-literal v b)) ∙ true-value f m (subst (λ x. value f x ≡ true) only y) ∙ polarity-literal v b)
-          (is-some ((translation w p).solver i))
+          (is-some ((translation w p s.ever_hidden).solver i))
 
   found-satisfies : SatisfiesAll found s.clauses
   found-satisfies =
-      names_satisfied n p.search t f found lines (carry (translation w p).identity) (is_forced w.forced) s.clauses made
+      names_satisfied n p.search t f found lines (carry (translation w p s.ever_hidden).identity) (is_forced w.forced) s.clauses made
       ((before w p s k unknown t (outcome.Sat f) n lines made long in-use).covered (λ q. let z : outcome.Unknown ≡ outcome.Unsat = q in cc))
       found-literal found-forced
 
@@ -185,13 +185,13 @@ module _ (w : Carrying) (p : Spaces) (s : State) (k : Links w p s) (unknown : p.
       tt (
         found-satisfies,
         fits.implied found found-satisfies (λ l h.
-            let (g, b, e) = map-∈ (carry (translation w p).identity) l y.working h in
+            let (g, b, e) = map-∈ (carry (translation w p s.ever_hidden).identity) l y.working h in
             let (i, c) = fits.used g b in
-            ap (value found) e ∙ value-carry (translation w p).identity found g ∙ value-same (λ v. found (identity_of ((translation w p).identity v))) f g (ap (λ o. found (identity_of o)) c ∙ found-solved (variable_of g) i c) ∙ keeps.model f refl g b),
+            ap (value found) e ∙ value-carry (translation w p s.ever_hidden).identity found g ∙ value-same (λ v. found (identity_of ((translation w p s.ever_hidden).identity v))) f g (ap (λ o. found (identity_of o)) c ∙ found-solved (variable_of g) i c) ∙ keeps.model f refl g b),
         λ i h. ⊎_elim
             (λ e. ap (value_or (w.forced i) f) e ∙ ⊎_elim (λ u. ap is_true_value u) (λ (b, u). absurd (h (k.units.is_counted i b u))) (is-some (w.forced i)))
             (λ (v, e). absurd (h (back-there w p s k v i e).1))
-            (is-some ((translation w p).solver i)),
+            (is-some ((translation w p s.ever_hidden).solver i)),
       )
 
 pub model-same : (id : ℕ → Option ℕ) (m m' : ℕ → Bool) (o : Outcome) (v : Verdict) → ((found : Assignment) → o ≡ outcome.Sat found → (x : ℕ) → m' x ≡ m x) → VerdictFits id m o v → VerdictFits id m' o v
@@ -231,26 +231,25 @@ pub record AreSame (p q : Spaces) : Type 0 where
   pub search : q.search ≡ p.search
   pub outcome : q.outcome ≡ p.outcome
   pub var_count : q.var_count ≡ p.var_count
-  pub hidden : q.hidden ≡ p.hidden
 
 pub spaces-same : (p q : Spaces) (s : State) → AreSame p q → SpacesFit p s → SpacesFit q s
 spaces-same p q s e (w, k) = (
   w,
   record {
-    identities = identities-same w.identity w.global p.kept q.kept s.made (λ x. ap (λ y. y.deleted) (e.maps.kept x)) k.identities;
-    names = names-same w.identity p.global_from_user p.user_from_global q.global_from_user q.user_from_global s.names s.watermark e.maps.global_from_user e.maps.user_from_global k.names;
-    modes = modes-same w.identity p.global_from_user p.user_from_global q.global_from_user q.user_from_global p.kept q.kept s.modes e.maps.global_from_user e.maps.user_from_global (λ x. ap (λ y. y.sampling_mode) (e.maps.kept x)) k.modes;
+    identities = identities-same w.identity w.global p.kept q.kept s.naming.made (λ x. ap (λ y. y.deleted) (e.maps.kept x)) k.identities;
+    names = names-same w.identity p.global_from_user p.user_from_global q.global_from_user q.user_from_global s.naming.names s.naming.watermark e.maps.global_from_user e.maps.user_from_global k.names;
+    modes = modes-same w.identity p.global_from_user p.user_from_global q.global_from_user q.user_from_global p.kept q.kept s.naming.modes e.maps.global_from_user e.maps.user_from_global (λ x. ap (λ y. y.sampling_mode) (e.maps.kept x)) k.modes;
     watermark = k.watermark ∙ sym e.maps.watermark;
     units = units-same w.identity w.forced p.kept q.kept s.counted (λ x. ap (λ y. y.unit) (e.maps.kept x)) k.units;
-    isolation = isolation-same w.identity w.forced p.kept q.kept s.clauses s.made (λ x. ap (λ y. y.isolated) (e.maps.kept x)) k.isolation;
+    isolation = isolation-same w.identity w.forced p.kept q.kept s.clauses s.naming.made (λ x. ap (λ y. y.isolated) (e.maps.kept x)) k.isolation;
     solvers = solvers-same w.identity p.solver_from_global p.global_from_solver q.solver_from_global q.global_from_solver s.counted e.maps.solver_from_global e.maps.global_from_solver k.solvers;
-    holds = subst (λ t. SearchHolds s.clauses (translation w q) t (without_core q.outcome)) (sym e.search) (subst (λ o. SearchHolds s.clauses (translation w q) p.search (without_core o)) (sym e.outcome)
-        (holds-same s.clauses (translation w p) (translation w q) p.search (without_core p.outcome) (λ v. ap (λ y. onward y w.identity) (e.maps.global_from_solver v)) (λ i. through (w.global i)) (λ i. refl) e.hidden k.holds));
-    assumptions = subst (λ y. AssumptionsFit q.global_from_user q.solver_from_global s.names y s.assumptions) (sym e.assumptions) (assumptions-same p.global_from_user p.solver_from_global q.global_from_user q.solver_from_global s.names p.assumptions s.assumptions e.maps.global_from_user e.maps.solver_from_global k.assumptions);
+    holds = subst (λ t. SearchHolds s.clauses (translation w q s.ever_hidden) t (without_core q.outcome)) (sym e.search) (subst (λ o. SearchHolds s.clauses (translation w q s.ever_hidden) p.search (without_core o)) (sym e.outcome)
+        (holds-same s.clauses (translation w p s.ever_hidden) (translation w q s.ever_hidden) p.search (without_core p.outcome) (λ v. ap (λ y. onward y w.identity) (e.maps.global_from_solver v)) (λ i. through (w.global i)) (λ i. refl) refl k.holds));
+    assumptions = subst (λ y. AssumptionsFit q.global_from_user q.solver_from_global s.naming.names y s.assumptions) (sym e.assumptions) (assumptions-same p.global_from_user p.solver_from_global q.global_from_user q.solver_from_global s.naming.names p.assumptions s.assumptions e.maps.global_from_user e.maps.solver_from_global k.assumptions);
     marks = subst (MarksFit q.global_from_user q.kept) (sym e.assumptions) (marks-same p.global_from_user q.global_from_user p.kept q.kept p.assumptions e.maps.global_from_user (λ x. ap (λ y. y.assumed) (e.maps.kept x)) k.marks);
-    working = subst (WorkingFits s.clauses (translation w q).identity s.assumptions) (sym e.working) (working-same s.clauses (translation w p).identity (translation w q).identity s.assumptions p.working (λ l h. ap (λ y. onward y w.identity) (e.maps.global_from_solver (variable_of l))) k.working);
+    working = subst (WorkingFits s.clauses (translation w q s.ever_hidden).identity s.assumptions) (sym e.working) (working-same s.clauses (translation w p s.ever_hidden).identity (translation w q s.ever_hidden).identity s.assumptions p.working (λ l h. ap (λ y. onward y w.identity) (e.maps.global_from_solver (variable_of l))) k.working);
     verdict = subst (λ y. VerdictFits w.identity q.model y s.verdict) (sym e.outcome) (model-same w.identity p.model q.model p.outcome s.verdict e.maps.model k.verdict);
-    core = subst (λ c. CoreFits s.names c s.verdict) (sym e.core) k.core;
+    core = subst (λ c. CoreFits s.naming.names c s.verdict) (sym e.core) k.core;
     right = k.right;
     well_formed = k.well_formed;
     few = subst (λ n. n ≤ length s.counted) (sym e.var_count) k.few;
@@ -271,5 +270,4 @@ maps-same p q s m e = spaces-same p q s (record {
   search = ap (λ (x : Spaces). x.search) e;
   outcome = ap (λ (x : Spaces). x.outcome) e;
   var_count = ap (λ (x : Spaces). x.var_count) e;
-  hidden = ap (λ (x : Spaces). x.hidden) e;
 })

@@ -29,9 +29,9 @@ use Rattle.varisat_names.proofs.Tables.{live-inside}
 use Rattle.varisat.specs.Budgets.{CountsSteps}
 use Rattle.varisat.specs.declared.solver.SolverError.{SolverError}
 use Rattle.varisat.specs.States.{State, Ledger, Verdict, Unknown, Sat, Unsat, UnsatUnderAssumptions, HasRightVerdict, IsRight, empty_state}
-use Rattle.varisat.specs.Names.{bring, bring_next, bring_if_free, name_one, IsLeastFree, through_names}
+use Rattle.varisat.specs.Names.{Naming, bring, bring_next, bring_if_free, name_one, IsLeastFree, through_names}
 use Rattle.varisat.specs.Models.{put_name, model_of, IsCompletable, core_of, IsCoreToTell}
-use Rattle.varisat.specs.Calls.{IsValid, TellsModel, TellsCore, TellsVerdict, answer_of, with_verdict}
+use Rattle.varisat.specs.Calls.{with_naming, IsValid, TellsModel, TellsCore, TellsVerdict, answer_of, with_verdict}
 use Rattle.varisat.specs.Told.{told_list}
 use Rattle.std.specs.Result.{IsErr}
 use Rattle.std.specs.declared.alloc.AllocError.{AllocError}
@@ -109,7 +109,7 @@ first-spaces s e n =
 
 -- 2. A new variable.
 
-pub least-free : (g : Summary) (s : State) (u : ℕ) → SpacesFit (spaces g) s → IsLeastUnmapped g.tables.users.forward u → IsLeastFree s u
+pub least-free : (g : Summary) (s : State) (u : ℕ) → SpacesFit (spaces g) s → IsLeastUnmapped g.tables.users.forward u → IsLeastFree s.naming u
 least-free g s u (w, k) (free, least) = (
   k.names.agree u ∙ chain-none (at g.tables.users.forward) w.identity u free,
   λ v h e. ⊎_elim
@@ -119,9 +119,9 @@ least-free g s u (w, k) (free, least) = (
 )
 
 -- a free name that is the watermark is named alone
-named-alone : (u : ℕ) (s : State) → s.watermark ≡ u → name_one u s ≡ bring u s
-named-alone u s e =
-    ap (λ c. if c then bring_if_free u (s.names u) s else bring_next (suc u - s.watermark) s) (not-below u s.watermark e) ∙ ap (λ n. bring_next n s) (one u s.watermark e) ∙ ap (λ n. bring n s) e
+named-alone : (u : ℕ) (m : Naming) → m.watermark ≡ u → name_one u m ≡ bring u m
+named-alone u m e =
+    ap (λ c. if c then bring_if_free u (m.names u) m else bring_next (suc u - m.watermark) m) (not-below u m.watermark e) ∙ ap (λ n. bring_next n m) (one u m.watermark e) ∙ ap (λ n. bring n m) e
   where
     not-below : (a b : ℕ) → b ≡ a → nat_lt a b ≡ false
     not-below a b h = grind arith
@@ -140,10 +140,10 @@ least-last t u n (free, least) b =
     below-or : (u n : ℕ) → (u < n) ⊎ (n ≤ u)
     below-or u n = grind arith
 
-pub new-named : (g : Summary) (s : State) (new : Tables) (u x : ℕ) → SpacesFit (spaces g) s → IsPlain g.tables → IsLeastUnmapped g.tables.users.forward u → u ≤ length g.tables.users.forward → IsGiven g.tables new u x → SpacesFit (spaces (with_tables new g)) (name_one u s)
+pub new-named : (g : Summary) (s : State) (new : Tables) (u x : ℕ) → SpacesFit (spaces g) s → IsPlain g.tables → IsLeastUnmapped g.tables.users.forward u → u ≤ length g.tables.users.forward → IsGiven g.tables new u x → SpacesFit (spaces (with_tables new g)) (with_naming (name_one u s.naming) s)
 new-named g s new u x f n least b t =
     let e = least-last g.tables u n least b in
-    subst (SpacesFit (spaces (with_tables new g))) (sym (named-alone u s (f.1.watermark ∙ sym e))) (given-spaces g s new u x f least.0 t)
+    subst (SpacesFit (spaces (with_tables new g))) (sym (ap (λ m. with_naming m s) (named-alone u s.naming (f.1.watermark ∙ sym e)))) (given-spaces g s new u x f least.0 t)
 
 pub new-plain : (old new : Tables) (u x : ℕ) → IsPlain old → IsLeastUnmapped old.users.forward u → u ≤ length old.users.forward → IsGiven old new u x → IsPlain new
 new-plain old new u x n least b t = given-plain old new x n (subst (λ v. IsGiven old new v x) (least-last old u n least b) t)
@@ -191,13 +191,12 @@ left-spaces g s t y z after v f =
       search = refl;
       outcome = ap (λ (x : AssumptionParts). outcome_of t x.failed_core after) v.rest;
       var_count = refl;
-      hidden = refl;
     }) (w, recount w p (length g.search.values) (length t.values) s v.same_count k)
 
 -- the names of the solver variables of a core, carried to identities, are what the core is carried to
 module _ (g : Summary) (s : State) (w : Carrying) (k : Links w (spaces g) s) (plain : IsPlain g.tables) where
   -- where a solver variable leads
-  core-leads : (m : Literal) → m ∈ g.assumed.working → (u i : ℕ) × (chain (at g.tables.solvers.backward) (at g.tables.users.backward) (variable_of m) ≡ Some u) × ((translation w (spaces g)).identity (variable_of m) ≡ Some i) × (s.names u ≡ Some i)
+  core-leads : (m : Literal) → m ∈ g.assumed.working → (u i : ℕ) × (chain (at g.tables.solvers.backward) (at g.tables.users.backward) (variable_of m) ≡ Some u) × ((translation w (spaces g) s.ever_hidden).identity (variable_of m) ≡ Some i) × (s.naming.names u ≡ Some i)
   core-leads m a =
       let (i, t) = k.working.used m a in
       let (x, b, c) = chain-through (at g.tables.solvers.backward) w.identity (variable_of m) i t in
@@ -207,17 +206,17 @@ module _ (g : Summary) (s : State) (w : Carrying) (k : Links w (spaces g) s) (pl
       (x, i, chain-some (at g.tables.solvers.backward) (at g.tables.users.backward) (variable_of m) x b ∙ k.names.one_to_one.there x x used, t, k.names.agree x ∙ chain-some (at g.tables.users.forward) w.identity x x used ∙ c)
 
   names-carried : (core told : List Literal) → ((l : Literal) → l ∈ core → l ∈ g.assumed.working) → told ≡ map (carry (chain (at g.tables.solvers.backward) (at g.tables.users.backward))) core →
-      ((l : Literal) → l ∈ told → (i : ℕ) × (s.names (variable_of l) ≡ Some i)) × (map (carry s.names) told ≡ map (carry (translation w (spaces g)).identity) core)
+      ((l : Literal) → l ∈ told → (i : ℕ) × (s.naming.names (variable_of l) ≡ Some i)) × (map (carry s.naming.names) told ≡ map (carry (translation w (spaces g) s.ever_hidden).identity) core)
   names-carried core told part e = (
     λ l h.
         let (m, a, q) = map-∈ (carry (chain (at g.tables.solvers.backward) (at g.tables.users.backward))) l core (subst (λ xs. l ∈ xs) e h) in
         let (u, i, r, t, n) = core-leads m (part m a) in
-        (i, ap s.names (ap variable_of q ∙ carry-at (chain (at g.tables.solvers.backward) (at g.tables.users.backward)) m u r) ∙ n),
-    ap (map (carry s.names)) e ∙ map-map (carry s.names) (carry (chain (at g.tables.solvers.backward) (at g.tables.users.backward))) (carry (translation w (spaces g)).identity) core (λ m a.
+        (i, ap s.naming.names (ap variable_of q ∙ carry-at (chain (at g.tables.solvers.backward) (at g.tables.users.backward)) m u r) ∙ n),
+    ap (map (carry s.naming.names)) e ∙ map-map (carry s.naming.names) (carry (chain (at g.tables.solvers.backward) (at g.tables.users.backward))) (carry (translation w (spaces g) s.ever_hidden).identity) core (λ m a.
         let f = chain (at g.tables.solvers.backward) (at g.tables.users.backward) in
-        let to = (translation w (spaces g)).identity in
+        let to = (translation w (spaces g) s.ever_hidden).identity in
         let (u, i, r, t, n) = core-leads m (part m a) in
-        same-literal (carry s.names (carry f m)) (carry to m) (carry-at s.names (carry f m) i (ap s.names (carry-at f m u r) ∙ n) ∙ sym (carry-at to m i t)) (carry-sign s.names (carry f m) ∙ carry-sign f m ∙ sym (carry-sign to m))),
+        same-literal (carry s.naming.names (carry f m)) (carry to m) (carry-at s.naming.names (carry f m) i (ap s.naming.names (carry-at f m u r) ∙ n) ∙ sym (carry-at to m i t)) (carry-sign s.naming.names (carry f m) ∙ carry-sign f m ∙ sym (carry-sign to m))),
   )
 
 pub record Decided (g : Summary) (s : State) (b : Bool) : Type 0 where
@@ -247,7 +246,7 @@ decided-fits g s t y z verdict.UnsatUnderAssumptions b e (w, k) v =
     let told = z.user_core in
     let (named, same) = names-carried g s w k v.plain y.failed_core told (v.assumes.core y.failed_core refl) (v.named refl) in
     let links = core-found w (spaces g) s k (ap (outcome_of g.search g.assumed.failed_core) v.unknown) (search_of t) (outcome.UnsatUnder y.failed_core) j lines made (view-long t v.well) in-use g.assumed y refl v.assumes (spaces (after_steps g t z verdict.UnsatUnderAssumptions)).model y.failed_core told refl named same in
-    let core = UnsatUnderAssumptions (map (carry s.names) told) in
+    let core = UnsatUnderAssumptions (map (carry s.naming.names) told) in
     record { verdict = core; answer = e; right = links.right; fits = left-spaces g (with_verdict core s) t y z verdict.UnsatUnderAssumptions v (w, links) }
 
 pub decided : (g : Summary) (s : State) (t : View) (y z : AssumptionParts) (after : SatState) (b : Bool) → answer_at after ≡ Some b → StandsFor g s → g.ledger.valid ≡ true → StepsMade g t y z after → Decided (after_steps g t z after) s b
@@ -282,12 +281,12 @@ tables-listed g zero u = refl
 tables-listed g (suc k) u = ap (put_name u (at g.tables.users.forward u) (spaces g).model) (tables-listed g k (suc u))
 
 -- where a model was found it is told, and can be completed
-pub sat-model : (g : Summary) (s : State) → StandsFor g s → g.ledger.valid ≡ true → g.sat_state ≡ verdict.Sat → (model_of s s.verdict ≡ Some (list_tables g.tables g.search.values 0 (length g.tables.users.forward))) × IsCompletable s (list_tables g.tables g.search.values 0 (length g.tables.users.forward))
+pub sat-model : (g : Summary) (s : State) → StandsFor g s → g.ledger.valid ≡ true → g.sat_state ≡ verdict.Sat → (model_of s.naming s.verdict ≡ Some (list_tables g.tables g.search.values 0 (length g.tables.users.forward))) × IsCompletable s.naming s.clauses s.assumptions s.counted (list_tables g.tables g.search.values 0 (length g.tables.users.forward))
 sat-model g s st v e =
     let (w, k) = st.fits v in
     let (a, b) = told w (spaces g) s (assignment_of g.search) k (ap (outcome_of g.search g.assumed.failed_core) e) in
     let q = sym (tables-listed g (length g.tables.users.forward) 0) in
-    (a ∙ ap Some q, subst (IsCompletable s) q b)
+    (a ∙ ap Some q, subst (IsCompletable s.naming s.clauses s.assumptions s.counted) q b)
 
 -- one more name
 put-append : (u : ℕ) (o : Option ℕ) (m : Assignment) (xs ys : List Literal) → put_name u o m (xs ++ ys) ≡ put_name u o m xs ++ ys
@@ -347,7 +346,7 @@ pub core-to-tell : (g : Summary) (s : State) → StandsFor g s → g.ledger.vali
 core-to-tell g s st v e =
     let (w, k) = st.fits v in
     let (core, q) = is-core w.identity (spaces g).model g.assumed.failed_core s.verdict (subst (λ y. VerdictFits w.identity (spaces g).model y s.verdict) (ap (outcome_of g.search g.assumed.failed_core) e) k.verdict) in
-    let (named, same) = subst (CoreFits s.names g.assumed.user_core) q k.core in
+    let (named, same) = subst (CoreFits s.naming.names g.assumed.user_core) q k.core in
     (named, ap core_of q ∙ ap Some same)
 
 pub unsat-to-tell : (g : Summary) (s : State) → StandsFor g s → g.ledger.valid ≡ true → g.sat_state ≡ verdict.Unsat → IsCoreToTell s (Some [])
@@ -419,7 +418,7 @@ finds-made t started x y answer f plain count unknown = record {
 
 -- a copy of the core that is refused
 core-refused : (s t : State) (core : List Literal) (e : AllocError) → TellsCore s (Ok (Some core)) t → TellsCore s (Err e) s
-core-refused s t core e (inl (v, x), same) = (v, core-answer s.verdict (map (through_names s) core) x.1, refl)
+core-refused s t core e (inl (v, x), same) = (v, core-answer s.verdict (map (through_names s.naming) core) x.1, refl)
 core-refused s t core e (inr (v, x), same) = absurd cc
 
 pub told-refused-core : {A : Type 0} (s t : State) (core : List Literal) (r : Result (Option (Vec Literal A)) AllocError) → IsErr r → TellsCore s (Ok (Some core)) t → TellsCore s (told_list r) s

@@ -10,7 +10,8 @@ use Rattle.varisat_literals.specs.Numbers.{polarity_of}
 use Rattle.varisat_names.specs.Maps.{onward, chain}
 use Rattle.varisat_names.proofs.Maps.{inverse-same}
 use Rattle.varisat_names.specs.declared.variables.data.VarData.{VarData}
-use Rattle.varisat.specs.States.{Mode, Verdict, Unknown, Sat, Unsat, UnsatUnderAssumptions}
+use Rattle.varisat.specs.Names.{Mode}
+use Rattle.varisat.specs.States.{Verdict, Unknown, Sat, Unsat, UnsatUnderAssumptions}
 use Rattle.varisat.specs.Names.{identity_of}
 use Rattle.varisat.specs.Carried.{carry, is_value, is_forced}
 use Rattle.varisat.specs.Spaces.{ModeFits, IdentitiesFit, NamesFit, ModesFit, UnitsFit, IsolationCase, NotIsolated, Apart, Forced, IsolationFits, SolversFit, Translation, SearchHolds, AssumptionsFit, MarksFit, WorkingFits, CoreFits, VerdictFits}

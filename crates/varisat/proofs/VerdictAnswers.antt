@@ -42,14 +42,14 @@ right-core P A C Unsat q r = ([], refl, ((λ l h. absurd h), λ (a, m, n). r (a,
 right-core P A C (UnsatUnderAssumptions core) q r = (core, refl, r)
 
 -- a core that is told is a failed one
-pub told-fails : (s : State) (core : List Literal) → HasRightVerdict s → IsCoreToTell s (Some core) → IsFailedCore s.clauses s.assumptions (map (through_names s) core)
+pub told-fails : (s : State) (core : List Literal) → HasRightVerdict s → IsCoreToTell s (Some core) → IsFailedCore s.clauses s.assumptions (map (through_names s.naming) core)
 told-fails s core r (named, e) = go s.verdict r e
   where
-    go : (v : Verdict) → IsRight s.clauses s.assumptions s.counted v → core_of v ≡ Some (map (through_names s) core) → IsFailedCore s.clauses s.assumptions (map (through_names s) core)
+    go : (v : Verdict) → IsRight s.clauses s.assumptions s.counted v → core_of v ≡ Some (map (through_names s.naming) core) → IsFailedCore s.clauses s.assumptions (map (through_names s.naming) core)
     go Unknown r e = absurd cc
     go (Sat a) r e = absurd cc
-    go Unsat r e = let z : [] ≡ map (through_names s) core = cc in subst (IsFailedCore s.clauses s.assumptions) z ((λ l h. absurd h), λ (a, m, n). r (a, m))
-    go (UnsatUnderAssumptions d) r e = let z : d ≡ map (through_names s) core = cc in subst (IsFailedCore s.clauses s.assumptions) z r
+    go Unsat r e = let z : [] ≡ map (through_names s.naming) core = cc in subst (IsFailedCore s.clauses s.assumptions) z ((λ l h. absurd h), λ (a, m, n). r (a, m))
+    go (UnsatUnderAssumptions d) r e = let z : d ≡ map (through_names s.naming) core = cc in subst (IsFailedCore s.clauses s.assumptions) z r
 
 pub core-answer : (v : Verdict) (core : List Literal) → core_of v ≡ Some core → answer_of v ≡ Some false
 core-answer Unknown core e = absurd cc

@@ -8,7 +8,7 @@ use Rattle.varisat_theory.specs.Literals.{Literal, Clause, variable_of, opposite
 use Rattle.varisat_formula.specs.Dimacs.{Reading}
 use Rattle.varisat_formula.specs.Streams.{Stand}
 use Rattle.varisat.specs.States.{State, join_counted, Verdict, Unknown, Sat, Unsat, UnsatUnderAssumptions, HasRightVerdict, IsWellFormed}
-use Rattle.varisat.specs.Names.{name_one, name_all, through_names, IsLeastFree}
+use Rattle.varisat.specs.Names.{Naming, name_one, name_all, through_names, IsLeastFree}
 use Rattle.varisat.specs.Models.{model_of, core_of, IsCoreToTell}
 use Rattle.varisat_formula.specs.declared.dimacs.error.DimacsError.{DimacsError}
 use Rattle.varisat_names.specs.declared.config.SolverConfigUpdate.{SolverConfigUpdate}
@@ -28,10 +28,8 @@ IsValid s = is_valid s ≡ true
 
 -- What a user can know in t is what it is in s, but for what a call writes beside, which is nothing yet.
 pub record IsLike (s t : State) : Type 0 where
-  pub made : t.made ≡ s.made
-  pub names : t.names ≡ s.names
-  pub watermark : t.watermark ≡ s.watermark
-  pub modes : t.modes ≡ s.modes
+  pub naming : t.naming ≡ s.naming
+  pub ever_hidden : t.ever_hidden ≡ s.ever_hidden
   pub clauses : t.clauses ≡ s.clauses
   pub assumptions : t.assumptions ≡ s.assumptions
   pub counted : t.counted ≡ s.counted
@@ -57,8 +55,12 @@ abbrev pub IsPastLimit : List Literal → Type 0
 IsPastLimit d = (l : Literal) × (l ∈ d) × (variable_limit ≤ variable_of l)
 
 -- more identities than there may be variables
-abbrev pub IsCrowded : State → Type 0
-IsCrowded t = variable_limit < t.made
+abbrev pub IsCrowded : Naming → Type 0
+IsCrowded m = variable_limit < m.made
+
+-- the same state with other names in use
+abbrev pub with_naming : Naming → State → State
+with_naming m s = record s { naming = m }
 
 -- The call `add_clause`.
 
@@ -85,8 +87,8 @@ append_clause c w s = record s { clauses = s.clauses ++ c ∷ []; counted = join
 -- the names of the clause are named, and it is accepted as they carry it to identities
 abbrev pub Accepts : State → Clause → State → Type 0
 Accepts s d t =
-    let named : State = name_all d s in
-    (w : Verdict) × VerdictAfter s.clauses (map (through_names named) d) s.verdict w × IsLike (start (append_clause (map (through_names named) d) w named)) t
+    let named : Naming = name_all d s.naming in
+    (w : Verdict) × VerdictAfter s.clauses (map (through_names named) d) s.verdict w × IsLike (start (append_clause (map (through_names named) d) w (with_naming named s))) t
 
 -- a clause is accepted: under Unsat nothing changes
 pub data TakesClause (s : State) (d : Clause) (t : State) : Type 0 where
@@ -96,7 +98,7 @@ pub data TakesClause (s : State) (d : Clause) (t : State) : Type 0 where
 abbrev pub AddsClause : State → Clause → Result (Unit {0}) SolverError → State → Type 0
 AddsClause s d (Ok _) t = IsValid s × TakesClause s d t
 AddsClause s d (Err Invalid) t = IsRefusedInvalid s t
-AddsClause s d (Err VariableLimit) t = IsValid s × (s.verdict ≢ Unsat) × (IsPastLimit d ⊎ IsCrowded (name_all d s)) × (t ≡ s)
+AddsClause s d (Err VariableLimit) t = IsValid s × (s.verdict ≢ Unsat) × (IsPastLimit d ⊎ IsCrowded (name_all d s.naming)) × (t ≡ s)
 AddsClause s d (Err OutOfMemory) t = (s.verdict ≢ Unsat) × (IsPastLimit d → ⊥) × Invalidates s t
 AddsClause s d (Err ClauseStoreFull) t = (s.verdict ≢ Unsat) × (IsPastLimit d → ⊥) × Invalidates s t
 AddsClause s d (Err _) t = ⊥
@@ -129,10 +131,10 @@ AddsDimacs s old r new t = additions.AddsText adding s old r new t
 
 -- the least free name is named: below the watermark, else at it
 abbrev pub MakesVar : State → Result ℕ SolverError → State → Type 0
-MakesVar s (Ok u) t = IsValid s × IsLeastFree s u × (u < variable_limit) × IsLike (start (name_one u s)) t
+MakesVar s (Ok u) t = IsValid s × IsLeastFree s.naming u × (u < variable_limit) × IsLike (start (with_naming (name_one u s.naming) s)) t
 MakesVar s (Err Invalid) t = IsRefusedInvalid s t
-MakesVar s (Err VariableLimit) t = IsValid s × ((u : ℕ) × IsLeastFree s u × ((variable_limit ≤ u) ⊎ IsCrowded (name_one u s))) × (t ≡ s)
-MakesVar s (Err OutOfMemory) t = ((u : ℕ) × IsLeastFree s u × (u < variable_limit)) × Invalidates s t
+MakesVar s (Err VariableLimit) t = IsValid s × ((u : ℕ) × IsLeastFree s.naming u × ((variable_limit ≤ u) ⊎ IsCrowded (name_one u s.naming))) × (t ≡ s)
+MakesVar s (Err OutOfMemory) t = ((u : ℕ) × IsLeastFree s.naming u × (u < variable_limit)) × Invalidates s t
 MakesVar s (Err _) t = ⊥
 
 -- The call `assume`.
@@ -151,13 +153,13 @@ with_assumptions list s = record s { assumptions = list; counted = join_counted 
 -- the names of the list are named, and it is assumed as they carry it to identities
 abbrev pub TakesAssumptions : State → List Literal → State → Type 0
 TakesAssumptions s list t =
-    let named : State = name_all list s in
-    IsLike (start (with_assumptions (map (through_names named) list) named)) t
+    let named : Naming = name_all list s.naming in
+    IsLike (start (with_assumptions (map (through_names named) list) (with_naming named s))) t
 
 abbrev pub Assumes : State → List Literal → Result (Unit {0}) SolverError → State → Type 0
 Assumes s list (Ok _) t = IsValid s × (IsPastLimit list → ⊥) × TakesAssumptions s list t
 Assumes s list (Err Invalid) t = IsRefusedInvalid s t
-Assumes s list (Err VariableLimit) t = IsValid s × (IsPastLimit list ⊎ IsCrowded (name_all list s)) × (t ≡ s)
+Assumes s list (Err VariableLimit) t = IsValid s × (IsPastLimit list ⊎ IsCrowded (name_all list s.naming)) × (t ≡ s)
 Assumes s list (Err OutOfMemory) t = (IsPastLimit list → ⊥) × Invalidates s t
 Assumes s list (Err _) t = ⊥
 
@@ -210,7 +212,7 @@ Solves s (Err _) t = ⊥
 
 -- running out of memory comes only where there is a list to tell, and changes nothing
 abbrev pub TellsModel : State → Result (Option (List Literal)) AllocError → State → Type 0
-TellsModel s (Ok m) t = ((IsValid s × (m ≡ model_of s s.verdict)) ⊎ ((is_valid s ≡ false) × (m ≡ None))) × (t ≡ s)
+TellsModel s (Ok m) t = ((IsValid s × (m ≡ model_of s.naming s.verdict)) ⊎ ((is_valid s ≡ false) × (m ≡ None))) × (t ≡ s)
 TellsModel s (Err _) t = IsValid s × (answer_of s.verdict ≡ Some true) × (t ≡ s)
 
 -- The call `failed_core`.

@@ -1,53 +1,70 @@
--- How names come into use.
+-- The names of variables: which are in use, and how they come into use.
 use Rattle.std.specs.Prelude.{◌≡◌, ◌≢◌, ℕ, zero, suc, ◌+◌, ◌-◌, ◌*◌, ◌%◌, ◌<◌, ◌≤◌, nat_lt, if◌then◌else◌, max, Option, Some, None, List, [], ◌∷◌}
 use Rattle.varisat_theory.specs.Literals.{Literal, variable_of}
 use Rattle.varisat_names.specs.Maps.{updated}
-use Rattle.varisat.specs.States.{State, Sample}
+
+-- A name is a number by which the user speaks of a variable. An identity is a number that is given to a variable once and never again: a name may become free, and come back with another identity.
+
+-- How a name in use may be used: clauses and assumptions may name a sampled one, and not a witness.
+pub data Mode : Type 0 where
+  Sample : Mode
+  Witness : Mode
+
+-- The identities made are those below `made`. `names` gives the identity of each name in use, and `watermark` is one above the highest name ever in use. `modes`: the mode of each identity in use.
+pub record Naming : Type 0 where
+  pub made : ℕ
+  pub names : ℕ → Option ℕ
+  pub watermark : ℕ
+  pub modes : ℕ → Mode
+
+-- before any name is in use
+abbrev pub no_names : Naming
+no_names = record { made = 0; names = λ u. None; watermark = 0; modes = λ i. Sample }
 
 -- the free name comes into use with a new identity in mode Sample
-abbrev pub bring : ℕ → State → State
-bring u s = record s {
-  names = updated s.names u (Some s.made);
-  watermark = max s.watermark (u + 1);
-  modes = updated s.modes s.made Sample;
-  made = s.made + 1;
+abbrev pub bring : ℕ → Naming → Naming
+bring u m = record m {
+  names = updated m.names u (Some m.made);
+  watermark = max m.watermark (u + 1);
+  modes = updated m.modes m.made Sample;
+  made = m.made + 1;
 }
 
 -- the next k names from the watermark on come into use
-abbrev pub bring_next : ℕ → State → State
-bring_next zero s = s
-bring_next (suc k) s = bring_next k (bring s.watermark s)
+abbrev pub bring_next : ℕ → Naming → Naming
+bring_next zero m = m
+bring_next (suc k) m = bring_next k (bring m.watermark m)
 
 -- the name comes into use if it is free
-abbrev pub bring_if_free : ℕ → Option ℕ → State → State
-bring_if_free u None s = bring u s
-bring_if_free u (Some i) s = s
+abbrev pub bring_if_free : ℕ → Option ℕ → Naming → Naming
+bring_if_free u None m = bring u m
+bring_if_free u (Some i) m = m
 
 -- A name is named: below the watermark it comes into use if it is free, and from the watermark on with each name from the watermark up to it.
-abbrev pub name_one : ℕ → State → State
-name_one u s = if nat_lt u s.watermark then bring_if_free u (s.names u) s else bring_next (suc u - s.watermark) s
+abbrev pub name_one : ℕ → Naming → Naming
+name_one u m = if nat_lt u m.watermark then bring_if_free u (m.names u) m else bring_next (suc u - m.watermark) m
 
 -- the names of the literals are named
-abbrev pub name_all : List Literal → State → State
-name_all [] s = s
-name_all (l ∷ ls) s = name_all ls (name_one (variable_of l) s)
+abbrev pub name_all : List Literal → Naming → Naming
+name_all [] m = m
+name_all (l ∷ ls) m = name_all ls (name_one (variable_of l) m)
 
 -- the least free name
-abbrev pub IsLeastFree : State → ℕ → Type 0
-IsLeastFree s u = (s.names u ≡ None) × ((v : ℕ) → v < u → s.names v ≢ None)
+abbrev pub IsLeastFree : Naming → ℕ → Type 0
+IsLeastFree m u = (m.names u ≡ None) × ((v : ℕ) → v < u → m.names v ≢ None)
 
 abbrev pub identity_of : Option ℕ → ℕ
 identity_of None = 0
 identity_of (Some i) = i
 
 -- a literal over names in use, carried to their identities
-abbrev pub through_names : State → Literal → Literal
-through_names s l = 2 * identity_of (s.names (variable_of l)) + l % 2
+abbrev pub through_names : Naming → Literal → Literal
+through_names m l = 2 * identity_of (m.names (variable_of l)) + l % 2
 
 -- Exactly the names below n are in use, each for the identity of that number, all in mode Sample: names come into use in order as long as none is freed.
-pub record AreInOrder (n : ℕ) (s : State) : Type 0 where
-  pub made : s.made ≡ n
-  pub watermark : s.watermark ≡ n
-  pub in_use : (u : ℕ) → u < n → s.names u ≡ Some u
-  pub free : (u : ℕ) → n ≤ u → s.names u ≡ None
-  pub sampled : (i : ℕ) → i < n → s.modes i ≡ Sample
+pub record AreInOrder (n : ℕ) (m : Naming) : Type 0 where
+  pub made : m.made ≡ n
+  pub watermark : m.watermark ≡ n
+  pub in_use : (u : ℕ) → u < n → m.names u ≡ Some u
+  pub free : (u : ℕ) → n ≤ u → m.names u ≡ None
+  pub sampled : (i : ℕ) → i < n → m.modes i ≡ Sample

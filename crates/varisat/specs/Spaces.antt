@@ -13,11 +13,12 @@ use Rattle.varisat_names.specs.Maps.{IsInverse, chain}
 use Rattle.varisat_names.specs.declared.variables.data.SamplingMode.{SamplingMode}
 use Rattle.varisat_names.specs.declared.variables.data.SamplingMode.TheVariants as sampling
 use Rattle.varisat_names.specs.declared.variables.data.VarData.{VarData}
-use Rattle.varisat.specs.States.{State, Mode, Sample, Witness, Verdict, Unknown, Sat, Unsat, UnsatUnderAssumptions, HasRightVerdict, IsWellFormed}
+use Rattle.varisat.specs.States.{State, Verdict, Unknown, Sat, Unsat, UnsatUnderAssumptions, HasRightVerdict, IsWellFormed}
+use Rattle.varisat.specs.Names.{Mode, Sample, Witness}
 use Rattle.varisat.specs.Models.{put_name}
 use Rattle.varisat.specs.Carried.{carry, AgreesAlong, is_forced}
 
--- The maps as functions; what is kept of each global variable, and its value in the model found last; the assumptions as given and the core found last, over names; those of the assumptions by which the search goes, and the search with its verdict, over solver variables, and how many variables it has. `hidden`: whether a name was ever hidden.
+-- The maps as functions; what is kept of each global variable, and its value in the model found last; the assumptions as given and the core found last, over names; those of the assumptions by which the search goes, and the search with its verdict, over solver variables, and how many variables it has.
 pub record Spaces : Type 0 where
   pub global_from_user : ℕ → Option ℕ
   pub user_from_global : ℕ → Option ℕ
@@ -32,7 +33,6 @@ pub record Spaces : Type 0 where
   pub search : Search
   pub outcome : Outcome
   pub var_count : ℕ
-  pub hidden : Bool
 
 -- What no code keeps: the identity of each live global variable and the way back, and of identities, also of those that no global variable stands for any more, the value that a unit forces.
 pub record Carrying : Type 0 where
@@ -156,23 +156,23 @@ VerdictFits identity model (outcome.UnsatUnder found) (UnsatUnderAssumptions cor
 VerdictFits identity model _ _ = ⊥
 
 -- the identity of a solver variable, and the way back
-abbrev pub translation : Carrying → Spaces → Translation
-translation w p = record { identity = chain p.global_from_solver w.identity; solver = chain w.global p.solver_from_global; forced = w.forced; hidden = p.hidden }
+abbrev pub translation : Carrying → Spaces → Bool → Translation
+translation w p hidden = record { identity = chain p.global_from_solver w.identity; solver = chain w.global p.solver_from_global; forced = w.forced; hidden = hidden }
 
 pub record Links (w : Carrying) (p : Spaces) (s : State) : Type 0 where
-  pub identities : IdentitiesFit w.identity w.global p.kept s.made
-  pub names : NamesFit w.identity p.global_from_user p.user_from_global s.names s.watermark
-  pub modes : ModesFit w.identity p.global_from_user p.user_from_global p.kept s.modes
-  pub watermark : s.watermark ≡ p.watermark
+  pub identities : IdentitiesFit w.identity w.global p.kept s.naming.made
+  pub names : NamesFit w.identity p.global_from_user p.user_from_global s.naming.names s.naming.watermark
+  pub modes : ModesFit w.identity p.global_from_user p.user_from_global p.kept s.naming.modes
+  pub watermark : s.naming.watermark ≡ p.watermark
   pub units : UnitsFit w.identity w.forced p.kept s.counted
-  pub isolation : IsolationFits w.identity w.forced p.kept s.clauses s.made
+  pub isolation : IsolationFits w.identity w.forced p.kept s.clauses s.naming.made
   pub solvers : SolversFit w.identity p.solver_from_global p.global_from_solver s.counted
-  pub holds : SearchHolds s.clauses (translation w p) p.search (without_core p.outcome)
-  pub assumptions : AssumptionsFit p.global_from_user p.solver_from_global s.names p.assumptions s.assumptions
+  pub holds : SearchHolds s.clauses (translation w p s.ever_hidden) p.search (without_core p.outcome)
+  pub assumptions : AssumptionsFit p.global_from_user p.solver_from_global s.naming.names p.assumptions s.assumptions
   pub marks : MarksFit p.global_from_user p.kept p.assumptions
-  pub working : WorkingFits s.clauses (translation w p).identity s.assumptions p.working
+  pub working : WorkingFits s.clauses (translation w p s.ever_hidden).identity s.assumptions p.working
   pub verdict : VerdictFits w.identity p.model p.outcome s.verdict
-  pub core : CoreFits s.names p.core s.verdict
+  pub core : CoreFits s.naming.names p.core s.verdict
   pub right : HasRightVerdict s
   pub well_formed : IsWellFormed s
   -- the search has no more variables than are counted

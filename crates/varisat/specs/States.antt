@@ -3,13 +3,7 @@ use Rattle.std.specs.Prelude.{◌≡◌, ℕ, ◌<◌, ◌≤◌, Bool, true, fa
 use Rattle.varisat_theory.specs.Membership.{◌∈◌, IsDistinct}
 use Rattle.varisat_theory.specs.Literals.{Literal, Clause, Assignment, variable_of, SatisfiesAll, MakesTrue, IsSatisfiable, IsFailedCore}
 use Rattle.varisat_names.specs.Settings.{Settings, default_settings}
-
--- A name is a number by which the user speaks of a variable. An identity is a number that is given to a variable once and never again: a name may become free, and come back with another identity.
-
--- How a name in use may be used: clauses and assumptions may name a sampled one, and not a witness.
-pub data Mode : Type 0 where
-  Sample : Mode
-  Witness : Mode
+use Rattle.varisat.specs.Names.{Naming, no_names}
 
 -- What is known of the accepted clauses and the assumptions. Under `Sat` an assignment of the identities was found, under `UnsatUnderAssumptions` a failed core over identities.
 pub data Verdict : Type 0 where
@@ -25,12 +19,10 @@ pub record Ledger : Type 0 where
   pub steps : ℕ
   pub settings : Settings
 
--- The identities made are those below `made`. `names` gives the identity of each name in use, and `watermark` is one above the highest name ever in use. `modes`: the mode of each identity in use. `clauses`: those accepted, over identities. `assumptions`: the list as given, over identities. `counted`: the identities that accepted clauses and assumption lists have named so far, each once.
+-- `naming`: which identity each name has. `ever_hidden`: whether a name was ever freed while its variable lived on. `clauses`: those accepted, over identities. `assumptions`: the list as given, over identities. `counted`: the identities that accepted clauses and assumption lists have named so far, each once.
 pub record State : Type 0 where
-  pub made : ℕ
-  pub names : ℕ → Option ℕ
-  pub watermark : ℕ
-  pub modes : ℕ → Mode
+  pub naming : Naming
+  pub ever_hidden : Bool
   pub clauses : List Clause
   pub assumptions : List Literal
   pub counted : List ℕ
@@ -54,10 +46,8 @@ join_counted counted (i ∷ is) = join_counted (join_one i counted) is
 -- a new solver's state
 abbrev pub empty_state : State
 empty_state = record {
-  made = 0;
-  names = λ u. None;
-  watermark = 0;
-  modes = λ i. Sample;
+  naming = no_names;
+  ever_hidden = false;
   clauses = [];
   assumptions = [];
   counted = [];
@@ -67,12 +57,12 @@ empty_state = record {
 
 -- What is true of each state: names stand for different identities, none is in use from the watermark on, identities that are spoken of were made, and none is counted twice.
 pub record IsWellFormed (s : State) : Type 0 where
-  pub one_to_one : (u v i : ℕ) → s.names u ≡ Some i → s.names v ≡ Some i → u ≡ v
-  pub free : (u : ℕ) → s.watermark ≤ u → s.names u ≡ None
-  pub named : (u i : ℕ) → s.names u ≡ Some i → i < s.made
-  pub accepted : (c : Clause) (l : Literal) → c ∈ s.clauses → l ∈ c → variable_of l < s.made
-  pub assumed : (l : Literal) → l ∈ s.assumptions → variable_of l < s.made
-  pub counted : (i : ℕ) → i ∈ s.counted → i < s.made
+  pub one_to_one : (u v i : ℕ) → s.naming.names u ≡ Some i → s.naming.names v ≡ Some i → u ≡ v
+  pub free : (u : ℕ) → s.naming.watermark ≤ u → s.naming.names u ≡ None
+  pub named : (u i : ℕ) → s.naming.names u ≡ Some i → i < s.naming.made
+  pub accepted : (c : Clause) (l : Literal) → c ∈ s.clauses → l ∈ c → variable_of l < s.naming.made
+  pub assumed : (l : Literal) → l ∈ s.assumptions → variable_of l < s.naming.made
+  pub counted : (i : ℕ) → i ∈ s.counted → i < s.naming.made
   pub once : IsDistinct s.counted
 
 -- What a verdict claims: an assignment that was found satisfies the clauses and the assumptions, and is false on each identity that is not counted; Unsat stands only where no assignment satisfies the clauses; and a core is one of the assumptions, which no assignment makes true together with the clauses.

@@ -29,7 +29,7 @@ pub record Summary : Type 0 where
   pub sat_state : SatState
   pub ledger : Ledger
 
--- The model is read from the search. Nothing is hidden yet.
+-- The model is read from the search.
 abbrev pub spaces_of : Tables → View → AssumptionParts → SatState → Spaces
 spaces_of t search assumed sat_state = record {
   global_from_user = at t.users.forward;
@@ -45,7 +45,6 @@ spaces_of t search assumed sat_state = record {
   search = search_of search;
   outcome = outcome_of search assumed.failed_core sat_state;
   var_count = length search.values;
-  hidden = false;
 }
 
 abbrev pub spaces : Summary → Spaces

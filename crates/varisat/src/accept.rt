@@ -8,7 +8,7 @@ ghost use Rattle.varisat_names.specs.VarMap.{at};
 ghost use Rattle.varisat_search.specs.Contexts.{view, KeepsSchedule};
 ghost use Rattle.varisat.specs.States.{State, Verdict};
 ghost use Rattle.varisat.specs.Names.{name_all, through_names};
-ghost use Rattle.varisat.specs.Calls.{VerdictAfter, append_clause, with_assumptions};
+ghost use Rattle.varisat.specs.Calls.{with_naming, VerdictAfter, append_clause, with_assumptions};
 ghost use Rattle.varisat.specs.Spaces.{SpacesFit};
 ghost use Rattle.varisat.specs.Summaries.{spaces_of, IsKept};
 ghost use Rattle.varisat.specs.Accepting.{CanBeNamed, HasNames, AreNamedInTurn, AreTakenFor, AreBroughtIn, AreJoined, AreMarked};
@@ -135,7 +135,7 @@ pub fn accept_clause<A: Allocator + Copy>(
     ensures state { OnOk result (ctx.new.solver_state ≡ record ctx.old.solver_state { sat_state = ctx.new.solver_state.sat_state; formula_is_empty = false }) }
     ensures schedule { KeepsSchedule ctx.old ctx.new }
     ensures accepted { OnOk result ((s : State) → SpacesFit (spaces_of variables.old (view ctx.old) ctx.old.assumptions ctx.old.solver_state.sat_state) s →
-        (x : Verdict) × VerdictAfter s.clauses (map (through_names (name_all clause.now s)) clause.now) s.verdict x × SpacesFit (spaces_of variables.new (view ctx.new) ctx.new.assumptions ctx.new.solver_state.sat_state) (append_clause (map (through_names (name_all clause.now s)) clause.now) x (name_all clause.now s))) }
+        (x : Verdict) × VerdictAfter s.clauses (map (through_names (name_all clause.now s.naming)) clause.now) s.verdict x × SpacesFit (spaces_of variables.new (view ctx.new) ctx.new.assumptions ctx.new.solver_state.sat_state) (append_clause (map (through_names (name_all clause.now s.naming)) clause.now) x (with_naming (name_all clause.now s.naming) s))) }
 {
     bring_in(variables, ctx, literals, clause)?;
     mark_joined(variables, clause);
@@ -157,7 +157,7 @@ pub fn assume_list<A: Allocator + Copy>(
     ensures state { OnOk result (ctx.new.solver_state ≡ record ctx.old.solver_state { sat_state = ctx.new.solver_state.sat_state }) }
     ensures schedule { KeepsSchedule ctx.old ctx.new }
     ensures assumed { OnOk result ((s : State) → SpacesFit (spaces_of variables.old (view ctx.old) ctx.old.assumptions ctx.old.solver_state.sat_state) s →
-        SpacesFit (spaces_of variables.new (view ctx.new) ctx.new.assumptions ctx.new.solver_state.sat_state) (with_assumptions (map (through_names (name_all list.now s)) list.now) (name_all list.now s))) }
+        SpacesFit (spaces_of variables.new (view ctx.new) ctx.new.assumptions ctx.new.solver_state.sat_state) (with_assumptions (map (through_names (name_all list.now s.naming)) list.now) (with_naming (name_all list.now s.naming) s))) }
 {
     bring_in(variables, ctx, literals, list)?;
     mark_assumed(variables, ctx.assumptions.user_assumptions(), false);

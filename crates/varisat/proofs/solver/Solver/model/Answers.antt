@@ -18,7 +18,7 @@ returns-in_ok-list-in-Sat-clause-completable g c m e s st =
     let t = c.self.inside.variables in
     let same = c.in_ok-list-in-Sat.ensures ∙ ap (λ vs. list_tables t vs 0 (length t.users.forward)) c.assignment-values.ensures in
     let told : c.in_ok-list-in-Sat.list.items ≡ m = cc in
-    subst (IsCompletable s) (sym same ∙ told) (sat-model _ s q (ap not c.if-self.false) c.in-Sat.is).1
+    subst (IsCompletable s.naming s.clauses s.assumptions s.counted) (sym same ∙ told) (sat-model _ s q (ap not c.if-self.false) c.in-Sat.is).1
 
 pub returns-in_err-list-in-Sat-clause-call : goal.returns-in_err-list-in-Sat-clause-call
 returns-in_err-list-in-Sat-clause-call g c s st =

@@ -3,8 +3,7 @@ use Rattle.varisat_search.specs.Contexts.{view}
 use Rattle.varisat.specs.Summaries.{Summary, spaces}
 use Rattle.varisat.specs.States.{Ledger}
 use Rattle.varisat.specs.Names.{name_one}
-use Rattle.varisat.specs.Calls.{start}
-use Rattle.varisat.proofs.NamesInOrder.{rest-one}
+use Rattle.varisat.specs.Calls.{with_naming, start}
 use Rattle.varisat.proofs.AcceptClause.{with_tables, ledger-free}
 use Rattle.varisat.proofs.CallStates.{stands-valid, like-refl, broken, broken-invalid}
 use Rattle.varisat.proofs.SolverCalls.{least-free, new-named, new-plain}
@@ -36,11 +35,11 @@ returns-in-Ok g c s st =
     let e = c.next_unmapped_user-user.ensures in
     let t = (c.in-Ok.ensures {u = tt}).given in
     let (w, n) = new-named old s c.give_user_var.new.self u c.in-Ok.field-0 f k.plain e.least e.near t in (
-      start (name_one u s),
-      (stands-valid _ s q (ap not c.if-self.false), least-free old s u f e.least, omega (arith, c.index.ensures.index, c.max_count.ensures, c.if-index-max_count.false), like-refl (start (name_one u s))),
+      start (with_naming (name_one u s.naming) s),
+      (stands-valid _ s q (ap not c.if-self.false), least-free old s u f e.least, omega (arith, c.index.ensures.index, c.max_count.ensures, c.if-index-max_count.false), like-refl (start (with_naming (name_one u s.naming) s))),
       record {
-        ledger = ap (λ (x : Ledger). record x { started = true }) ((rest-one u s).ledger ∙ q.ledger);
-        fits = λ _. (w, ledger-free w (spaces (with_tables c.give_user_var.new.self old)) (name_one u s) (record (name_one u s).ledger { started = true }) n);
+        ledger = ap (λ (x : Ledger). record x { started = true }) q.ledger;
+        fits = λ _. (w, ledger-free w (spaces (with_tables c.give_user_var.new.self old)) (with_naming (name_one u s.naming) s) (record (with_naming (name_one u s.naming) s).ledger { started = true }) n);
       },
     )
 

@@ -89,7 +89,7 @@ returns-in-Ok-None-clause-call g c s st =
     let counts = counted-call _ s c.max_steps-max_steps.result n (told_verdict c.find_named_verdict.result) (Err Interrupted) q (ap not c.if-self.false) c.max_steps-max_steps.ensures (ap told_verdict (c.in-Ok-None.is ∙ ap Ok c.in-Ok-None.field-0-is)) c.find_named_verdict.ensures.counted in
     let t = with_verdict Unknown (with_steps n s) in (
       t,
-      record { valid = stands-valid _ s q (ap not c.if-self.false); unknown = was; steps = counts; rest = record { made = refl; names = refl; watermark = refl; modes = refl; clauses = refl; assumptions = refl; counted = refl; verdict = sym was; ledger = refl } },
+      record { valid = stands-valid _ s q (ap not c.if-self.false); unknown = was; steps = counts; rest = record { naming = refl; ever_hidden = refl; clauses = refl; assumptions = refl; counted = refl; verdict = sym was; ledger = refl } },
       record {
         ledger = ledger-is _ _ _ _ _ (ap (λ (x : Ledger). x.valid) q.ledger ∙ ap (λ (x : SolverState). not x.state_is_invalid) (sym f.state)) (ap (λ (x : Ledger). x.started) q.ledger) refl (ap (λ (x : Ledger). x.settings) q.ledger ∙ sym c.find_named_verdict.ensures.config);
         fits = λ _. subst (λ b. SpacesFit (spaces_of c.self.inside.variables (view new) new.assumptions b) t) (sym unknown) (k.0, ledger-free k.0 _ (with_verdict Unknown s) t.ledger k.1);

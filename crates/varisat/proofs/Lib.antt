@@ -11,7 +11,6 @@ pub mod Counted
 pub mod FindVerdictSteps
 pub mod Histories
 pub mod LineLemmas
-pub mod ModelLists
 pub mod ModelsFit
 pub mod NamesInOrder
 pub mod NewNames

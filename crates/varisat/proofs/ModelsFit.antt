@@ -55,10 +55,10 @@ names-are s a zero u l h = absurd h
 names-are s a (suc k) u l h = ⊎_elim (λ (i, e, q). (u, i, e, q)) (λ m. names-are s a k (suc u) l m) (which a (s.naming.names u) u l (list_names s.naming a (suc u) k) h)
 
 -- an assignment that was found is a model that can be completed: of states alone
-pub completable : (s : State) (a : Assignment) → IsWellFormed s → IsRight s.clauses s.assumptions s.counted (Sat a) → IsCompletable s.naming s.clauses s.assumptions s.counted (list_names s.naming a 0 s.naming.watermark)
-completable s a f r = record {
+pub completable : (s : State) (a : Assignment) → ((u : ℕ) → s.naming.watermark ≤ u → s.naming.names u ≡ None) → IsRight s.clauses s.assumptions s.counted (Sat a) → IsCompletable s.naming s.clauses s.assumptions s.counted (list_names s.naming a 0 s.naming.watermark)
+completable s a free r = record {
   rising = names-rise s a s.naming.watermark 0;
-  all_listed = λ u i e. (literal_of u (a i), names-hold s a s.naming.watermark 0 u i e (omega arith) (⊎_elim (λ b. omega (arith, b)) (λ b. absurd (let q : None ≡ Some i = sym (f.free u b) ∙ e in cc)) (below-or u s.naming.watermark)), variable-literal u (a i));
+  all_listed = λ u i e. (literal_of u (a i), names-hold s a s.naming.watermark 0 u i e (omega arith) (⊎_elim (λ b. omega (arith, b)) (λ b. absurd (let q : None ≡ Some i = sym (free u b) ∙ e in cc)) (below-or u s.naming.watermark)), variable-literal u (a i));
   in_use = λ l h. let (v, i, e, q) = names-are s a s.naming.watermark 0 l h in (i, ap s.naming.names (ap variable_of q ∙ variable-literal v (a i)) ∙ e);
   uncounted = λ l i h k n.
       let (v, j, e, q) = names-are s a s.naming.watermark 0 l h in
@@ -120,4 +120,4 @@ pub told : (w : Carrying) (p : Spaces) (s : State) (found : Assignment) → Link
 told w p s found k e =
     let (a, v, f) = is-sat w.identity p.model found s.verdict (subst (λ y. VerdictFits w.identity p.model y s.verdict) e k.verdict) in
     let same : list_names s.naming a 0 s.naming.watermark ≡ list_globals p 0 p.watermark = list-same w p s a k f s.naming.watermark 0 ∙ ap (list_globals p 0) k.watermark in
-    (ap (model_of s.naming) v ∙ ap Some same, subst (IsCompletable s.naming s.clauses s.assumptions s.counted) same (completable s a k.well_formed (subst (IsRight s.clauses s.assumptions s.counted) v k.right)))
+    (ap (model_of s.naming) v ∙ ap Some same, subst (IsCompletable s.naming s.clauses s.assumptions s.counted) same (completable s a k.well_formed.free (subst (IsRight s.clauses s.assumptions s.counted) v k.right)))

@@ -72,6 +72,10 @@ pub through-all : (n : ℕ) (s : Naming) (d : List Literal) → AreInOrder n s �
 through-all n s [] f h = refl
 through-all n s (l ∷ d) f h = ap (λ x. x ∷ map (through_names s) d) (through-one n s l f (h l (inl refl))) ∙ ap (λ x. l ∷ x) (through-all n s d f (λ k m. h k (inr m)))
 
+-- more names stay in order, and literals over them are over identities too
+pub stay-in-order : (n : ℕ) (m : Naming) (ls : List Literal) → AreInOrder n m → AreInOrder (count_with n ls) (name_all ls m) × (map (through_names (name_all ls m)) ls ≡ ls)
+stay-in-order n m ls f = let g = fit-all ls n m f in (g, through-all (count_with n ls) (name_all ls m) ls g (count-within ls n))
+
 pub count-push : (d : List Literal) (n : ℕ) (l : Literal) → count_with n (d ++ l ∷ []) ≡ max (count_with n d) (variable_of l + 1)
 count-push [] n l = refl
 count-push (k ∷ d) n l = count-push d (max n (variable_of k + 1)) l

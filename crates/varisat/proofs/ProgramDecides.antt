@@ -1,9 +1,12 @@
 -- A text that a new solver takes in, and what is found then.
-use Rattle.std.proofs.Common.{◌≡◌, ℕ, ◌+◌, ◌-◌, ◌*◌, ◌^◌, ◌<◌, min, length, ⊎_elim, Err, Bool, true, false, List, [], ◌∷◌, ◌++◌, ◌⊎◌, inl, inr, sym, ap, ◌∙◌, subst, refl, Option, Some, None, Result, Ok, Vec, map, append_assoc, append-nil, arith}
+use Rattle.std.proofs.Common.{◌≡◌, ℕ, ◌+◌, ◌-◌, ◌*◌, ◌^◌, ◌<◌, ◌≤◌, max, min, length, ⊎_elim, Err, Bool, true, false, List, [], ◌∷◌, ◌++◌, ◌⊎◌, inl, inr, sym, ap, ◌∙◌, subst, refl, Option, Some, None, Result, Ok, Vec, map, append_assoc, append-nil, arith}
 use Rattle.std.proofs.lemmas.List.{append_cancel_left}
+use Rattle.std.proofs.Math.Pow.{pow_mono}
 use Rattle.std.specs.declared.alloc.AllocError.{AllocError}
-use Rattle.varisat_theory.specs.Membership.{◌∈◌}
+use Rattle.varisat_theory.specs.Membership.{◌∈◌, ◌⊆◌, IsDistinct}
 use Rattle.varisat_theory.specs.Literals.{Literal, Clause, Assignment, variable_of, MakesTrue, SatisfiesAll, IsSatisfiable}
+use Rattle.varisat_theory.proofs.Members.{∈-append_cases}
+use Rattle.varisat_theory.proofs.Count.{length-distinct}
 use Rattle.varisat_theory.proofs.Assigned.{satisfies_fewer}
 use Rattle.varisat_formula.specs.declared.dimacs.error.DimacsErrorKind.{DimacsErrorKind}
 use Rattle.varisat_formula.specs.declared.dimacs.error.DimacsError.{DimacsError}
@@ -12,17 +15,22 @@ use Rattle.varisat_formula.specs.Streams.{Stand, HasEnded}
 use Rattle.varisat_names.specs.declared.config.SolverConfigUpdate.{SolverConfigUpdate}
 use Rattle.varisat_names.specs.Settings.{Settings, default_settings, updated_settings}
 use Rattle.varisat.specs.States.{State, join_counted, empty_state}
+use Rattle.varisat.specs.Names.{Naming, AreInOrder}
+use Rattle.varisat.specs.Models.{IsCompletable}
+use Rattle.varisat.specs.Counts.{count_with}
 use Rattle.varisat.specs.Calls as state
 use Rattle.varisat.specs.Additions as additions
 use Rattle.varisat.specs.Additions.{Gave, NoFault, MemoryFault, Fault, ClauseRefused, ClausesAdded, RefusedEarly, FaultInText, Whole, MemoryRanOut, SourceFailed, Read, Unread}
 use Rattle.varisat.specs.Pasts as past
-use Rattle.varisat.specs.Pasts.{Past, empty_past, use_name, use_names, accept, accept_all, named_variables, IsModel}
+use Rattle.varisat.specs.Pasts.{Past, empty_past}
 use Rattle.varisat.specs.Told.{told_list}
 use Rattle.varisat.specs.Budgets.{CountsSteps}
-use Rattle.varisat.specs.Decided.{listed, Conclusion, Decided, Unknown, IsConclusion, Decides, StatusIsTrue, conclusion_status}
+use Rattle.varisat.specs.Decided.{IsUpToHighest, IsModel, listed, named_variables, Conclusion, Decided, Unknown, IsConclusion, Decides, StatusIsTrue, conclusion_status}
 use Rattle.varisat.specs.declared.solver.SolverError.{SolverError}
 use Rattle.varisat.specs.declared.solver.SolverError.TheVariants.{Interrupted}
-use Rattle.varisat.proofs.Pasts.{Agrees, use-rest, add-text, solve, config, tell-model, empty-agrees}
+use Rattle.varisat.proofs.NamesInOrder.{stay-in-order, count-above, count-within, through-all}
+use Rattle.varisat.proofs.Counted.{join-more, join-has, join-only, join-once}
+use Rattle.varisat.proofs.Pasts.{Agrees, add-text, solve, config, tell-model, empty-agrees}
 
 abbrev done : Result (Unit {0}) SolverError
 done = Ok tt
@@ -36,45 +44,117 @@ broken-fails : (x : DimacsErrorKind) (text : List ℕ) → (broken x text).fault
 broken-fails x text e =
     let r : Reading = read nothing (items false 1 (lines text)) in closed-broken r.fault x r (last_line 1 (lines text)) refl e
 
--- the clauses that were accepted
-all-accepted : (p q : Past) (P : List Clause) → additions.AddsAll past.adding p P done q → (q.clauses ≡ p.clauses ++ P) × ((IsSatisfiable q.clauses → ⊥) ⊎ (q ≡ accept_all P p))
-all-accepted p q [] a = (ap (λ x. x.clauses) a.1 ∙ sym (append-nil p.clauses), inr a.1)
-all-accepted p q (c ∷ P) (inr (e, k, a)) = absurd cc
-all-accepted p q (c ∷ P) (inl (mid, (v, past.Accepted n e), rest)) =
-    let (x, y) = all-accepted mid q P rest in
-    (x ∙ ap (λ z. z.clauses ++ P) e ∙ append_assoc p.clauses (c ∷ []) P, subst (λ z. (IsSatisfiable q.clauses → ⊥) ⊎ (q ≡ accept_all P z)) e y)
-all-accepted p q (c ∷ P) (inl (mid, (v, past.Refuted n e), rest)) =
-    let (x, y) = all-accepted mid q P rest in
-    let z = x ∙ ap (λ z. z.clauses ++ P) e ∙ append_assoc p.clauses (c ∷ []) P in
-    (z, inl (λ w. n (w.0, satisfies_fewer w.0 p.clauses (c ∷ P) (subst (SatisfiesAll w.0) z w.1))))
+-- how many names are in use once those of the clauses are
+count-all : ℕ → List Clause → ℕ
+count-all n [] = n
+count-all n (c ∷ P) = count-all (count_with n c) P
 
--- and neither the steps, the settings nor the assumptions changed; the clauses' variables are counted
-kept-count : (p q : Past) (P : List Clause) → additions.AddsAll past.adding p P done q → (q.steps ≡ p.steps) × (q.settings ≡ p.settings) × (q.assumptions ≡ p.assumptions) × (q.counted ≡ named_variables p.counted P)
-kept-count p q [] a = (ap (λ (x : Past). x.steps) a.1, ap (λ (x : Past). x.settings) a.1, ap (λ (x : Past). x.assumptions) a.1, ap (λ (x : Past). x.counted) a.1)
-kept-count p q (c ∷ P) (inr (e, k, a)) = absurd cc
-kept-count p q (c ∷ P) (inl (mid, (v, past.Accepted n e), rest)) =
-    let (x, y, w, z) = kept-count mid q P rest in
-    let r = use-rest c p in (
-      x ∙ ap (λ (z : Past). z.steps) e ∙ ap (λ (z : Past). z.steps) r,
-      y ∙ ap (λ (z : Past). z.settings) e ∙ ap (λ (z : Past). z.settings) r,
-      w ∙ ap (λ (z : Past). z.assumptions) e ∙ ap (λ (z : Past). z.assumptions) r,
-      z ∙ ap (λ (x : Past). named_variables x.counted P) e,
-    )
-kept-count p q (c ∷ P) (inl (mid, (v, past.Refuted n e), rest)) =
-    let (x, y, w, z) = kept-count mid q P rest in
-    (x ∙ ap (λ (z : Past). z.steps) e, y ∙ ap (λ (z : Past). z.settings) e, w ∙ ap (λ (z : Past). z.assumptions) e, z ∙ ap (λ (x : Past). named_variables x.counted P) e)
+-- What is left of a past whose names are those below n, in order, once it took clauses in. `part`: it has some of them. `whole`: it has just these behind those before, and their names in order; unless no assignment satisfies what it has.
+record Took (n : ℕ) (P : List Clause) (p q : Past) : Type 0 where
+  more : (a : Assignment) → SatisfiesAll a q.clauses → SatisfiesAll a p.clauses
+  part : (a : Assignment) → SatisfiesAll a p.clauses → SatisfiesAll a P → SatisfiesAll a q.clauses
+  whole : (IsSatisfiable q.clauses → ⊥) ⊎ ((q.clauses ≡ p.clauses ++ P) × AreInOrder (count-all n P) q.naming)
+  counted : (known : List ℕ) → p.counted ⊆ known → q.counted ⊆ named_variables known P
+  once : IsDistinct p.counted → IsDistinct q.counted
+  steps : q.steps ≡ p.steps
+  settings : q.settings ≡ p.settings
+  assumptions : q.assumptions ≡ p.assumptions
+
+join-part : (xs known is : List ℕ) → xs ⊆ known → join_counted xs is ⊆ join_counted known is
+join-part xs known is h i m = ⊎_elim (λ k. join-more is known i (h i k)) (join-has is known i) (join-only is xs i m)
+
+satisfies-one-more : (a : Assignment) (P Q : List Clause) (c : Clause) → SatisfiesAll a P → SatisfiesAll a (c ∷ Q) → SatisfiesAll a (P ++ c ∷ [])
+satisfies-one-more a P Q c x y d h = ⊎_elim (x d) (λ k. ⊎_elim (λ e. y d (inl e)) (λ z. absurd z) k) (∈-append_cases d P (c ∷ []) h)
+
+took : (n : ℕ) (p q : Past) (P : List Clause) → AreInOrder n p.naming → additions.AddsAll past.adding p P done q → Took n P p q
+took n p q [] o (u, e) = record {
+  more = λ a. subst (λ (x : Past). SatisfiesAll a x.clauses → SatisfiesAll a p.clauses) (sym e) (λ h. h);
+  part = λ a h _. subst (λ (x : Past). SatisfiesAll a x.clauses) (sym e) h;
+  whole = inr (ap (λ (x : Past). x.clauses) e ∙ sym (append-nil p.clauses), subst (λ (x : Past). AreInOrder n x.naming) (sym e) o);
+  counted = λ known h. subst (λ (x : Past). x.counted ⊆ known) (sym e) h;
+  once = λ h. subst (λ (x : Past). IsDistinct x.counted) (sym e) h;
+  steps = ap (λ (x : Past). x.steps) e;
+  settings = ap (λ (x : Past). x.settings) e;
+  assumptions = ap (λ (x : Past). x.assumptions) e;
+}
+took n p q (c ∷ P) o (inr (e, k, a)) = absurd cc
+took n p q (c ∷ P) o (inl (mid, (v, past.Accepted l e), rest)) =
+    let (order, own) = stay-in-order n p.naming c o in
+    let clauses : mid.clauses ≡ p.clauses ++ c ∷ [] = ap (λ (x : Past). x.clauses) e ∙ ap (λ x. p.clauses ++ x ∷ []) own in
+    let counted : mid.counted ≡ join_counted p.counted (map variable_of c) = ap (λ (x : Past). x.counted) e ∙ ap (λ x. join_counted p.counted (map variable_of x)) own in
+    let r = took (count_with n c) mid q P (subst (λ (x : Past). AreInOrder (count_with n c) x.naming) (sym e) order) rest in
+    record {
+      more = λ a h. satisfies_fewer a p.clauses (c ∷ []) (subst (SatisfiesAll a) clauses (r.more a h));
+      part = λ a x y. r.part a (subst (SatisfiesAll a) (sym clauses) (satisfies-one-more a p.clauses P c x y)) (λ d h. y d (inr h));
+      whole = ⊎_elim inl (λ w. inr (w.0 ∙ ap (λ Q. Q ++ P) clauses ∙ append_assoc p.clauses (c ∷ []) P, w.1)) r.whole;
+      counted = λ known h. r.counted (join_counted known (map variable_of c)) (subst (λ xs. xs ⊆ join_counted known (map variable_of c)) (sym counted) (join-part p.counted known (map variable_of c) h));
+      once = λ h. r.once (subst IsDistinct (sym counted) (join-once (map variable_of c) p.counted h));
+      steps = r.steps ∙ ap (λ (x : Past). x.steps) e;
+      settings = r.settings ∙ ap (λ (x : Past). x.settings) e;
+      assumptions = r.assumptions ∙ ap (λ (x : Past). x.assumptions) e;
+    }
+took n p q (c ∷ P) o (inl (mid, (v, past.Ignored u e), rest)) =
+    let r = took n p q P o (subst (λ (x : Past). additions.AddsAll past.adding x P done q) e rest) in
+    record {
+      more = r.more;
+      part = λ a x y. r.part a x (λ d h. y d (inr h));
+      whole = inl (λ w. u (w.0, r.more w.0 w.1));
+      counted = λ known h. r.counted (join_counted known (map variable_of c)) (λ i m. join-more (map variable_of c) known i (h i m));
+      once = r.once;
+      steps = r.steps;
+      settings = r.settings;
+      assumptions = r.assumptions;
+    }
 
 none-true : (a : Assignment) (A : List Literal) → A ≡ [] → MakesTrue a A
 none-true a A e l h = let z : l ∈ [] = subst (λ x. l ∈ x) e h in absurd z
 
--- what is accepted under other settings
-names-settled : (d : List Literal) (p : Past) (c : Settings) → use_names d (record p { settings = c }) ≡ record (use_names d p) { settings = c }
-names-settled [] p c = refl
-names-settled (l ∷ d) p c = names-settled d (use_name (variable_of l) p) c
+-- The variables up to the highest that clauses name are those below the count.
 
-accept-settled : (P : List Clause) (p : Past) (c : Settings) → accept_all P (record p { settings = c }) ≡ record (accept_all P p) { settings = c }
-accept-settled [] p c = refl
-accept-settled (d ∷ P) p c = ap (λ (x : Past). accept_all P (record x { clauses = p.clauses ++ d ∷ []; counted = join_counted p.counted (map variable_of d); has_model = false })) (names-settled d p c) ∙ accept-settled P (accept d p) c
+below-count : (u n : ℕ) (c : Clause) → u < count_with n c → (u < n) ⊎ ((l : Literal) × (l ∈ c) × (u ≤ variable_of l))
+below-count u n [] h = inl h
+below-count u n (l ∷ c) h =
+    ⊎_elim
+    (λ k. ⊎_elim inl (λ m. inr (l, inl refl, m)) (below-or u n (variable_of l) k))
+    (λ (m, i, k). inr (m, inr i, k))
+    (below-count u (max n (variable_of l + 1)) c h)
+  where
+    below-or : (u n v : ℕ) → u < max n (v + 1) → (u < n) ⊎ (u ≤ v)
+    below-or u n v h = grind arith
+
+below-all : (u n : ℕ) (P : List Clause) → u < count-all n P → (u < n) ⊎ IsUpToHighest P u
+below-all u n [] h = inl h
+below-all u n (c ∷ P) h =
+    ⊎_elim
+    (λ k. ⊎_elim inl (λ (l, i, m). inr (c, l, inl refl, i, m)) (below-count u n c k))
+    (λ (d, l, i, j, m). inr (d, l, inr i, j, m))
+    (below-all u (count_with n c) P h)
+
+count-grows : (n : ℕ) (P : List Clause) → n ≤ count-all n P
+count-grows n [] = omega arith
+count-grows n (c ∷ P) = let a = count-above c n in let b = count-grows (count_with n c) P in omega (arith, a, b)
+
+named-below : (n : ℕ) (P : List Clause) (c : Clause) (l : Literal) → c ∈ P → l ∈ c → variable_of l < count-all n P
+named-below n [] c l h i = absurd h
+named-below n (d ∷ P) c l (inl e) i =
+    let a = count-within d n l (subst (λ x. l ∈ x) e i) in
+    let b = count-grows (count_with n d) P in omega (arith, a, b)
+named-below n (d ∷ P) c l (inr h) i = named-below (count_with n d) P c l h i
+
+-- where names are in order, a model of what is over identities is one of the clauses themselves
+own-model : (P : List Clause) (m : Naming) (assumptions : List Literal) (counted : List ℕ) (model : List Literal) → AreInOrder (count-all 0 P) m → IsCompletable m P assumptions counted model → IsModel P model
+own-model P m assumptions counted model o k = record {
+  rising = k.rising;
+  all_listed = λ u (c, l, h, i, b). let a = named-below 0 P c l h i in k.all_listed u u (o.in_use u (omega (arith, a, b)));
+  up_to_highest = λ l h. ⊎_elim (λ z. absurd (omega (arith, z))) (λ z. z) (below-all (variable_of l) 0 P (below l h));
+  satisfied = let (a, agrees, satisfies, assumed) = k.satisfied in (a, subst (MakesTrue a) (through-all (count-all 0 P) m model o below) agrees, satisfies);
+}
+  where
+    below : (l : Literal) → l ∈ model → variable_of l < count-all 0 P
+    below l h = ⊎_elim (λ b. b) (λ b. absurd (let (i, e) = k.in_use l h in let z : Some i ≡ None = sym e ∙ o.free (variable_of l) b in cc)) (below-or (variable_of l) (count-all 0 P))
+      where
+        below-or : (u n : ℕ) → (u < n) ⊎ (n ≤ u)
+        below-or u n = grind arith
 
 reading-whole : (p q : Past) (R : Reading) → additions.AddsReading past.adding p R done q → (R.fault ≡ None) × additions.AddsAll past.adding p R.clauses done q
 reading-whole p q R (ClauseRefused e k a) = absurd cc
@@ -115,6 +195,9 @@ pub record Asked (c : SolverConfigUpdate) (old new : Stand) (t u : State) (found
 abbrev begun : SolverConfigUpdate → Past
 begun c = past.with_update c empty_past
 
+begun-took : (c : SolverConfigUpdate) (q : Past) (P : List Clause) → additions.AddsAll past.adding (begun c) P done q → Took 0 P (begun c) q
+begun-took c q P a = took 0 (begun c) q P (record { made = refl; watermark = refl; in_use = λ u h. absurd (omega arith); free = λ u h. refl; sampled = λ i h. refl }) a
+
 module _ (c : SolverConfigUpdate) (old new : Stand) (t u : State) (found : Result Bool SolverError) (k : Asked c old new t u found) where
   configured : Agrees (begun c) k.mid
   configured =
@@ -129,21 +212,20 @@ module _ (c : SolverConfigUpdate) (old new : Stand) (t u : State) (found : Resul
       let (q, x, g) = text-taken in
       let (z, (v, n, few, e), h) = solve q t u (Ok false) g (subst (λ r. state.Solves t r u) f k.solves) in
       let w = takes old new (begun c) q x in
-      let all = (all-accepted (begun c) q (dimacs w.read.text).clauses w.all).0 in
-      record { read = w.read; ended = w.ended; fine = w.fine; found = λ s. n (s.0, subst (SatisfiesAll s.0) (sym all) s.1, none-true s.0 q.assumptions (kept-count (begun c) q (dimacs w.read.text).clauses w.all).2) }
+      let r = begun-took c q (dimacs w.read.text).clauses w.all in
+      record { read = w.read; ended = w.ended; fine = w.fine; found = λ s. n (s.0, r.part s.0 (λ d h. absurd h) s.1, none-true s.0 q.assumptions r.assumptions) }
 
   pub decided-unknown : (max_steps : ℕ) → (updated_settings default_settings c).max_steps ≡ max_steps → found ≡ Err Interrupted → Decides max_steps old new Unknown
   decided-unknown max_steps m f =
       let (q, x, g) = text-taken in
       let (z, (v, n, o, few, e), h) = solve q t u (Err Interrupted) g (subst (λ r. state.Solves t r u) f k.solves) in
       let w = takes old new (begun c) q x in
-      let (steps, settings, assumptions, counted) = kept-count (begun c) q (dimacs w.read.text).clauses w.all in
-      record {
-        read = w.read;
-        ended = w.ended;
-        fine = w.fine;
-        found = subst (λ (xs : List ℕ). min max_steps (2 ^ 64 - 1) < 2 ^ (2 * length xs + 3)) counted (spent-early (length q.counted) max_steps q.settings.max_steps q.steps z.steps few (ap (λ (s : Settings). s.max_steps) settings ∙ m) steps);
-      }
+      let r = begun-took c q (dimacs w.read.text).clauses w.all in
+      let names = named_variables [] (dimacs w.read.text).clauses in
+      let fewer = length-distinct q.counted names (r.once tt) (r.counted [] (λ i h. h)) in
+      let early = spent-early (length q.counted) max_steps q.settings.max_steps q.steps z.steps few (ap (λ (s : Settings). s.max_steps) r.settings ∙ m) r.steps in
+      let power : 2 ^ (2 * length q.counted + 3) ≤ 2 ^ (2 * length names + 3) = pow_mono (omega (arith, fewer)) in
+      record { read = w.read; ended = w.ended; fine = w.fine; found = omega (arith, early, power) }
     where
       spent-early : (n max_steps own before after : ℕ) → CountsSteps n own before after (Err Interrupted) → own ≡ max_steps → before ≡ 0 → min max_steps (2 ^ 64 - 1) < 2 ^ (2 * n + 3)
       spent-early n max_steps own before after k e z =
@@ -151,37 +233,25 @@ module _ (c : SolverConfigUpdate) (old new : Stand) (t u : State) (found : Resul
           let d = k.count in
           ⊎_elim (λ (s : k.made ≡ own). omega (arith, s, e, b)) (λ (s : after ≡ 2 ^ 64 - 1). omega (arith, s, d, z, b)) (k.spent refl)
 
-model-like : (p q : Past) (m : List Literal) → q.in_use ≡ p.in_use → q.clauses ≡ p.clauses → q.assumptions ≡ p.assumptions → IsModel p m → IsModel q m
-model-like p q m i c a k = record {
-  rising = k.rising;
-  in_use = λ l h. ap (λ f. f (variable_of l)) i ∙ k.in_use l h;
-  all_listed = λ u h. k.all_listed u (sym (ap (λ f. f u) i) ∙ h);
-  assignment = k.assignment;
-  agrees = k.agrees;
-  satisfies = subst (SatisfiesAll k.assignment) (sym c) k.satisfies;
-  assumed = subst (MakesTrue k.assignment) (sym a) k.assumed;
-}
-
 decided-told : {A : Type 0} (max_steps : ℕ) (c : SolverConfigUpdate) (old new : Stand) (t u v : State) (m : Option (Vec Literal A)) → Asked c old new t u (Ok true) → state.TellsModel u (told_list (Ok m)) v → Decides max_steps old new (Decided (listed m))
 decided-told {A = A} max_steps c old new t u v m a d =
     let (q, x, g) = text-taken c old new t u (Ok true) a in
     let (z, (w, s, few, e), h) = solve q t u (Ok true) g a.solves in
     let k = takes old new (begun c) q x in
-    let settled = accept-settled (dimacs k.read.text).clauses empty_past (updated_settings default_settings c) in
-    outcome m k settled (all-accepted (begun c) q (dimacs k.read.text).clauses k.all).1 (s.0, s.1) z w e h d
+    outcome m k (begun-took c q (dimacs k.read.text).clauses k.all).whole (s.0, s.1) z w e h d
   where
-    outcome : (m : Option (Vec Literal A)) {q : Past} (k : Takes old new (begun c) q) → accept_all (dimacs k.read.text).clauses (begun c) ≡ record (accept_all (dimacs k.read.text).clauses empty_past) { settings = updated_settings default_settings c } → (IsSatisfiable q.clauses → ⊥) ⊎ (q ≡ accept_all (dimacs k.read.text).clauses (begun c)) → IsSatisfiable q.clauses → (z : Past) → q.valid ≡ true → z ≡ record q { has_model = true; has_core = false; steps = z.steps } → Agrees z u → state.TellsModel u (told_list (Ok m)) v → Decides max_steps old new (Decided (listed m))
-    outcome m k f (inl n) s z w e h d = absurd (n s)
-    outcome None k f (inr n) s z w e h d =
+    outcome : (m : Option (Vec Literal A)) {q : Past} (k : Takes old new (begun c) q) → (IsSatisfiable q.clauses → ⊥) ⊎ ((q.clauses ≡ (dimacs k.read.text).clauses) × AreInOrder (count-all 0 (dimacs k.read.text).clauses) q.naming) → IsSatisfiable q.clauses → (z : Past) → q.valid ≡ true → z ≡ record q { has_model = true; has_core = false; steps = z.steps } → Agrees z u → state.TellsModel u (told_list (Ok m)) v → Decides max_steps old new (Decided (listed m))
+    outcome m k (inl n) s z w e h d = absurd (n s)
+    outcome None k (inr n) s z w e h d =
         let (y, (x, i), j) = tell-model z u v (Ok None) h d in absurd (let o : false ≡ true = sym (x (ap (λ y. y.valid) e ∙ w)) ∙ ap (λ y. y.has_model) e in cc)
-    outcome (Some l) k f (inr n) s z w e h d =
+    outcome (Some l) k (inr (clauses, order)) s z w e h d =
         let (y, (x, i, o, same_past), j) = tell-model z u v (Ok (Some l.items)) h d in
-        let same = sym f ∙ sym n in
+        let model = subst (λ P. IsCompletable z.naming P z.assumptions z.counted l.items) (ap (λ (y : Past). y.clauses) e ∙ clauses) o in
         record {
           read = k.read;
           ended = k.ended;
           fine = k.fine;
-          found = model-like z (accept_all (dimacs k.read.text).clauses empty_past) l.items (ap (λ (y : Past). y.in_use) same ∙ sym (ap (λ (y : Past). y.in_use) e)) (ap (λ (y : Past). y.clauses) same ∙ sym (ap (λ (y : Past). y.clauses) e)) (ap (λ (y : Past). y.assumptions) same ∙ sym (ap (λ (y : Past). y.assumptions) e)) o;
+          found = own-model (dimacs k.read.text).clauses z.naming z.assumptions z.counted l.items (subst (AreInOrder (count-all 0 (dimacs k.read.text).clauses)) (sym (ap (λ (y : Past). y.naming) e)) order) model;
         }
 
 pub outcome-told : {A : Type 0} (max_steps : ℕ) (c : SolverConfigUpdate) (old new : Stand) (t u v : State) (found : Result Bool SolverError) (told : Result (Option (Vec Literal A)) AllocError) (m : Option (Vec Literal A)) → Asked c old new t u found → found ≡ Ok true → state.TellsModel u (told_list told) v → told ≡ Ok m → Decides max_steps old new (Decided (listed m))
@@ -189,10 +259,6 @@ outcome-told max_steps c old new t u v found told m a y d z =
     decided-told max_steps c old new t u v m (subst (Asked c old new t u) y a) (subst (λ r. state.TellsModel u (told_list r) v) z d)
 
 -- The status.
-
-clauses-accepted : (P : List Clause) (p : Past) → (accept_all P p).clauses ≡ p.clauses ++ P
-clauses-accepted [] p = sym (append-nil p.clauses)
-clauses-accepted (c ∷ P) p = clauses-accepted P (accept c p) ∙ append_assoc p.clauses (c ∷ []) P
 
 pub outcome-is-true : (max_steps : ℕ) (old new : Stand) (outcome : Conclusion) (status : ℕ) → Decides max_steps old new outcome → status ≡ conclusion_status outcome → StatusIsTrue old new status
 outcome-is-true max_steps old new outcome status d e = record {
@@ -208,7 +274,7 @@ outcome-is-true max_steps old new outcome status d e = record {
     found : (o : Conclusion) → conclusion_status o ≡ 10 → IsConclusion max_steps (dimacs d.read.text).clauses o → IsSatisfiable (dimacs d.read.text).clauses
     found Unknown h k = absurd (omega (arith, h))
     found (Decided None) h k = absurd (omega (arith, h))
-    found (Decided (Some m)) h k = (k.assignment, subst (SatisfiesAll k.assignment) (clauses-accepted (dimacs d.read.text).clauses empty_past) k.satisfies)
+    found (Decided (Some m)) h k = (k.satisfied.0, k.satisfied.2)
 
     none : (o : Conclusion) → conclusion_status o ≡ 20 → IsConclusion max_steps (dimacs d.read.text).clauses o → IsSatisfiable (dimacs d.read.text).clauses → ⊥
     none Unknown h k = absurd (omega (arith, h))

@@ -1,11 +1,13 @@
 -- What the program's `solve` finds out of a text, what it prints, and with which status it ends then.
-use Rattle.std.specs.Prelude.{◌≡◌, ◌≢◌, ℕ, ◌+◌, ◌-◌, ◌*◌, ◌^◌, ◌<◌, min, true, List, [], ◌++◌, length, Option, Some, None, Vec, codes}
+use Rattle.std.specs.Prelude.{◌≡◌, ◌≢◌, ℕ, ◌+◌, ◌-◌, ◌*◌, ◌^◌, ◌<◌, ◌≤◌, min, true, List, [], ◌∷◌, ◌++◌, length, map, Option, Some, None, Vec, codes}
 use Rattle.std.specs.Option.{unwrap_or}
-use Rattle.varisat_theory.specs.Literals.{Literal, Clause, IsSatisfiable}
+use Rattle.varisat_theory.specs.Membership.{◌∈◌}
+use Rattle.varisat_theory.specs.Literals.{Literal, Clause, Assignment, variable_of, SatisfiesAll, MakesTrue, IsSatisfiable}
 use Rattle.varisat_formula.specs.Dimacs.{dimacs}
 use Rattle.varisat_formula.specs.Streams.{Stand, HasEnded}
 use Rattle.varisat.specs.Additions.{Gave}
-use Rattle.varisat.specs.Pasts.{empty_past, accept_all, named_variables, IsModel}
+use Rattle.varisat.specs.States.{join_counted}
+use Rattle.varisat.specs.Models.{IsRising}
 use Rattle.varisat.specs.declared.program.Report.{Report}
 use Rattle.varisat.specs.declared.program.Report.TheVariants as report
 use Rattle.varisat.specs.Lines.{literals_text}
@@ -15,10 +17,21 @@ abbrev pub listed : {A : Type 0} → Option (Vec Literal A) → Option (List Lit
 listed None = None
 listed (Some v) = Some v.items
 
--- a model of the clauses, which has just the variables up to the highest that they name; or none where no assignment satisfies them
+-- the variable is one of those up to the highest that the clauses name
+abbrev pub IsUpToHighest : List Clause → ℕ → Type 0
+IsUpToHighest P u = (c : Clause) × (l : Literal) × (c ∈ P) × (l ∈ c) × (u ≤ variable_of l)
+
+-- A model of the clauses: exactly the variables up to the highest that they name, each once and in increasing order, such that some assignment agrees with the list and satisfies the clauses.
+pub record IsModel (P : List Clause) (model : List Literal) : Type 0 where
+  pub rising : IsRising 0 model
+  pub all_listed : (u : ℕ) → IsUpToHighest P u → (l : Literal) × (l ∈ model) × (variable_of l ≡ u)
+  pub up_to_highest : (l : Literal) → l ∈ model → IsUpToHighest P (variable_of l)
+  pub satisfied : (a : Assignment) × MakesTrue a model × SatisfiesAll a P
+
+-- a model of the clauses; or none where no assignment satisfies them
 abbrev pub IsOutcome : List Clause → Option (List Literal) → Type 0
 IsOutcome P None = IsSatisfiable P → ⊥
-IsOutcome P (Some model) = IsModel (accept_all P empty_past) model
+IsOutcome P (Some model) = IsModel P model
 
 -- What `solve` comes to for a text: an outcome for its clauses; or none, where the steps were spent before.
 pub data Conclusion : Type 0 where
@@ -34,7 +47,12 @@ concluded report.Unknown = Unknown
 abbrev pub allowed_steps : Option ℕ → ℕ
 allowed_steps limit = unwrap_or limit (2 ^ 64 - 1)
 
--- It is one for the clauses, where so many steps may be made, and 2^64-1 be counted: these are spent only where they are fewer than a call may come to.
+-- the different variables that clauses name, behind those that are known
+abbrev pub named_variables : List ℕ → List Clause → List ℕ
+named_variables known [] = known
+named_variables known (c ∷ P) = named_variables (join_counted known (map variable_of c)) P
+
+-- The conclusion is one for the clauses, where so many steps may be made, and 2^64-1 be counted: these are spent only where they are fewer than a call may come to.
 abbrev pub IsConclusion : ℕ → List Clause → Conclusion → Type 0
 IsConclusion max_steps P (Decided outcome) = IsOutcome P outcome
 IsConclusion max_steps P Unknown = min max_steps (2 ^ 64 - 1) < 2 ^ (2 * length (named_variables [] P) + 3)

@@ -1,25 +1,26 @@
 -- What the calls of a new solver and their answers say so far, and how a call moves it: no state of the solver is spoken of.
-use Rattle.std.specs.Prelude.{◌≡◌, ℕ, ◌+◌, ◌<◌, nat_le, nat_eq, max, Bool, true, false, ◌&&◌, ◌||◌, Option, Some, None, List, [], ◌∷◌, ◌++◌, Result, Ok, Err, map, length, ◌⊎◌}
+use Rattle.std.specs.Prelude.{◌≡◌, ℕ, ◌<◌, ◌≤◌, Bool, true, false, Option, Some, None, List, [], ◌∷◌, ◌++◌, Result, Ok, Err, map, length, ◌⊎◌}
 use Rattle.std.specs.declared.alloc.AllocError.{AllocError}
-use Rattle.varisat_theory.specs.Membership.{◌∈◌}
-use Rattle.varisat_theory.specs.Literals.{Literal, Clause, Assignment, variable_of, SatisfiesAll, MakesTrue, IsSatisfiable, IsSatisfiableWith, IsFailedCore}
+use Rattle.varisat_theory.specs.Literals.{Literal, Clause, variable_of, IsSatisfiable, IsSatisfiableWith, IsFailedCore}
 use Rattle.varisat_formula.specs.Streams.{Stand}
 use Rattle.varisat_names.specs.declared.config.SolverConfigUpdate.{SolverConfigUpdate}
 use Rattle.varisat_names.specs.Settings.{Settings, default_settings, updated_settings}
+use Rattle.varisat.specs.Names.{Naming, no_names, name_one, name_all, through_names, IsLeastFree}
 use Rattle.varisat.specs.States.{join_counted}
 use Rattle.varisat.specs.Budgets.{CountsSteps}
-use Rattle.varisat.specs.Models.{IsRising}
-use Rattle.varisat.specs.Calls.{IsPastLimit}
+use Rattle.varisat.specs.Models.{IsCompletable, AreNamesInUse}
+use Rattle.varisat.specs.Calls.{IsPastLimit, IsCrowded}
 use Rattle.varisat.specs.Additions as additions
 use Rattle.varisat.specs.declared.solver.SolverError.{SolverError}
 use Rattle.varisat.specs.declared.solver.SolverError.TheVariants.{Interrupted, OutOfMemory, Invalid, ClauseStoreFull, VariableLimit}
 use Rattle.varisat_literals.specs.Numbers.{variable_limit}
 
--- `valid`: no call that changes the solver ran out of memory. `in_use`: whether a name is in use, and `watermark` is one above the highest. `clauses` were accepted, and `assumptions` given last. `counted`: the different variables that these clauses and all lists of assumptions so far name. `has_model`: `solve` returned true, and no clause was accepted and nothing assumed since. `has_core`: it returned false, and nothing was assumed since. `steps`: how many steps were made in all. `settings`: those by which further steps are made.
+-- Clauses and assumptions are kept over identities, as the names that were in use carried them when they were given: a name that becomes free may come back for another variable, and what was said before still speaks of the first.
+--
+-- `valid`: no call that changes the solver ran out of memory. `naming`: which identity each name has. `clauses` were accepted, and `assumptions` given last. `counted`: the different identities that these clauses and all lists of assumptions so far name. `has_model`: `solve` returned true, and no clause was accepted and nothing assumed since. `has_core`: it returned false, and nothing was assumed since. `steps`: how many steps were made in all. `settings`: those by which further steps are made.
 pub record Past : Type 0 where
   pub valid : Bool
-  pub in_use : ℕ → Bool
-  pub watermark : ℕ
+  pub naming : Naming
   pub clauses : List Clause
   pub assumptions : List Literal
   pub counted : List ℕ
@@ -30,7 +31,7 @@ pub record Past : Type 0 where
 
 -- before the first call
 abbrev pub empty_past : Past
-empty_past = record { valid = true; in_use = λ u. false; watermark = 0; clauses = []; assumptions = []; counted = []; has_model = false; has_core = false; steps = 0; settings = default_settings }
+empty_past = record { valid = true; naming = no_names; clauses = []; assumptions = []; counted = []; has_model = false; has_core = false; steps = 0; settings = default_settings }
 
 abbrev pub is_valid : Past → Bool
 is_valid p = p.valid
@@ -39,33 +40,22 @@ is_valid p = p.valid
 abbrev pub Invalidates : Past → Past → Type 0
 Invalidates p q = (p.valid ≡ true) × (q ≡ record p { valid = false })
 
--- the name comes into use, and with it each one from the watermark up to it
-abbrev pub use_name : ℕ → Past → Past
-use_name u p = record p { in_use = λ v. p.in_use v || (nat_le v u && (nat_eq v u || nat_le p.watermark v)); watermark = max p.watermark (u + 1) }
-
--- the names of the literals come into use
-abbrev pub use_names : List Literal → Past → Past
-use_names [] p = p
-use_names (l ∷ c) p = use_names c (use_name (variable_of l) p)
-
--- the clause is accepted, with its names
+-- The names of the clause come into use, and it is accepted as they carry it to identities.
 abbrev pub accept : Clause → Past → Past
-accept c p = record (use_names c p) { clauses = p.clauses ++ c ∷ []; counted = join_counted p.counted (map variable_of c); has_model = false }
+accept c p =
+    let named : Naming = name_all c p.naming in
+    let carried : Clause = map (through_names named) c in
+    record p { naming = named; clauses = p.clauses ++ carried ∷ []; counted = join_counted p.counted (map variable_of carried); has_model = false }
 
--- the clauses are accepted in turn
-abbrev pub accept_all : List Clause → Past → Past
-accept_all [] p = p
-accept_all (c ∷ P) p = accept_all P (accept c p)
-
--- A clause is taken: once no assignment satisfies those before it, its names need not come into use.
+-- A clause is taken: it is accepted; or nothing changes, which happens only once no assignment satisfies those before it.
 pub data TakesClause (p : Past) (c : Clause) (q : Past) : Type 0 where
   Accepted : (IsPastLimit c → ⊥) → q ≡ accept c p → TakesClause p c q
-  Refuted : (IsSatisfiable p.clauses → ⊥) → q ≡ record p { clauses = p.clauses ++ c ∷ []; counted = join_counted p.counted (map variable_of c); has_model = false } → TakesClause p c q
+  Ignored : (IsSatisfiable p.clauses → ⊥) → q ≡ p → TakesClause p c q
 
 abbrev pub AddsClause : Past → Clause → Result (Unit {0}) SolverError → Past → Type 0
 AddsClause p c (Ok _) q = (p.valid ≡ true) × TakesClause p c q
 AddsClause p c (Err Invalid) q = (p.valid ≡ false) × (q ≡ p)
-AddsClause p c (Err VariableLimit) q = (p.valid ≡ true) × IsPastLimit c × (q ≡ p)
+AddsClause p c (Err VariableLimit) q = (p.valid ≡ true) × (IsPastLimit c ⊎ IsCrowded (name_all c p.naming)) × (q ≡ p)
 AddsClause p c (Err OutOfMemory) q = Invalidates p q
 AddsClause p c (Err ClauseStoreFull) q = Invalidates p q
 AddsClause p c (Err _) q = ⊥
@@ -81,32 +71,27 @@ AddsFormula p P r q = additions.AddsList adding p P r q
 abbrev pub AddsDimacs : Past → Stand → Result (Unit {0}) SolverError → Stand → Past → Type 0
 AddsDimacs p old r new q = additions.AddsText adding p old r new q
 
--- the least name that is not in use comes into use
-abbrev pub IsLeastFree : Past → ℕ → Type 0
-IsLeastFree p u = (p.in_use u ≡ false) × ((v : ℕ) → v < u → p.in_use v ≡ true)
-
+-- the least free name comes into use
 abbrev pub MakesVar : Past → Result ℕ SolverError → Past → Type 0
-MakesVar p (Ok u) q = (p.valid ≡ true) × IsLeastFree p u × (u < variable_limit) × (q ≡ use_name u p)
+MakesVar p (Ok u) q = (p.valid ≡ true) × IsLeastFree p.naming u × (u < variable_limit) × (q ≡ record p { naming = name_one u p.naming })
 MakesVar p (Err Invalid) q = (p.valid ≡ false) × (q ≡ p)
-MakesVar p (Err VariableLimit) q = (p.valid ≡ true) × ((u : ℕ) → u < variable_limit → p.in_use u ≡ true) × (q ≡ p)
+MakesVar p (Err VariableLimit) q = (p.valid ≡ true) × ((u : ℕ) × IsLeastFree p.naming u × ((variable_limit ≤ u) ⊎ IsCrowded (name_one u p.naming))) × (q ≡ p)
 MakesVar p (Err OutOfMemory) q = Invalidates p q
 MakesVar p (Err _) q = ⊥
 
--- The list is assumed, with its names, in place of the one before.
+-- The names of the list come into use, and it is assumed as they carry it to identities, in place of the one before.
 abbrev pub assume : List Literal → Past → Past
-assume list p = record (use_names list p) { assumptions = list; counted = join_counted p.counted (map variable_of list); has_model = false; has_core = false }
+assume list p =
+    let named : Naming = name_all list p.naming in
+    let carried : List Literal = map (through_names named) list in
+    record p { naming = named; assumptions = carried; counted = join_counted p.counted (map variable_of carried); has_model = false; has_core = false }
 
 abbrev pub Assumes : Past → List Literal → Result (Unit {0}) SolverError → Past → Type 0
 Assumes p list (Ok _) q = (p.valid ≡ true) × (IsPastLimit list → ⊥) × (q ≡ assume list p)
 Assumes p list (Err Invalid) q = (p.valid ≡ false) × (q ≡ p)
-Assumes p list (Err VariableLimit) q = (p.valid ≡ true) × IsPastLimit list × (q ≡ p)
+Assumes p list (Err VariableLimit) q = (p.valid ≡ true) × (IsPastLimit list ⊎ IsCrowded (name_all list p.naming)) × (q ≡ p)
 Assumes p list (Err OutOfMemory) q = Invalidates p q
 Assumes p list (Err _) q = ⊥
-
--- the different variables that clauses name, behind those that are known
-abbrev pub named_variables : List ℕ → List Clause → List ℕ
-named_variables known [] = known
-named_variables known (c ∷ P) = named_variables (join_counted known (map variable_of c)) P
 
 -- how the steps are counted that a call makes before the verdict is known, by its answer
 abbrev pub CountsCall : Past → Result Bool SolverError → Past → Type 0
@@ -126,25 +111,15 @@ Solves p (Err ClauseStoreFull) q = CountsCall p (Err ClauseStoreFull) q × Inval
 Solves p (Err Interrupted) q = (p.valid ≡ true) × (p.has_model ≡ false) × (p.has_core ≡ false) × CountsCall p (Err Interrupted) q × (q ≡ record p { steps = q.steps })
 Solves p (Err _) q = ⊥
 
--- Exactly the names in use, once each and in increasing order, and an assignment that agrees with the list satisfies the clauses and the assumptions.
-pub record IsModel (p : Past) (model : List Literal) : Type 0 where
-  pub rising : IsRising 0 model
-  pub in_use : (l : Literal) → l ∈ model → p.in_use (variable_of l) ≡ true
-  pub all_listed : (u : ℕ) → p.in_use u ≡ true → (l : Literal) × (l ∈ model) × (variable_of l ≡ u)
-  pub assignment : Assignment
-  pub agrees : MakesTrue assignment model
-  pub satisfies : SatisfiesAll assignment p.clauses
-  pub assumed : MakesTrue assignment p.assumptions
-
--- A model is told where one was found last, and nothing in an invalid solver.
+-- A model is told where one was found last, and nothing in an invalid solver: exactly the names in use, such that some assignment agrees with it through the names and satisfies the clauses and the assumptions.
 abbrev pub TellsModel : Past → Result (Option (List Literal)) AllocError → Past → Type 0
-TellsModel p (Ok (Some model)) q = (p.valid ≡ true) × (p.has_model ≡ true) × IsModel p model × (q ≡ p)
+TellsModel p (Ok (Some model)) q = (p.valid ≡ true) × (p.has_model ≡ true) × IsCompletable p.naming p.clauses p.assumptions p.counted model × (q ≡ p)
 TellsModel p (Ok None) q = (p.valid ≡ true → p.has_model ≡ false) × (q ≡ p)
 TellsModel p (Err _) q = (p.valid ≡ true) × (p.has_model ≡ true) × (q ≡ p)
 
--- A core is told where `solve` returned false last, and nothing in an invalid solver. What is told is some of the assumptions, which no assignment makes true together with the clauses.
+-- A core is told where `solve` returned false last, and nothing in an invalid solver. What is told are literals of names in use, which these carry to some of the assumptions that no assignment makes true together with the clauses.
 abbrev pub TellsCore : Past → Result (Option (List Literal)) AllocError → Past → Type 0
-TellsCore p (Ok (Some core)) q = (p.valid ≡ true) × (p.has_model ≡ false) × IsFailedCore p.clauses p.assumptions core × (q ≡ p)
+TellsCore p (Ok (Some core)) q = (p.valid ≡ true) × (p.has_model ≡ false) × AreNamesInUse p.naming core × IsFailedCore p.clauses p.assumptions (map (through_names p.naming) core) × (q ≡ p)
 TellsCore p (Ok None) q = (p.valid ≡ true → p.has_core ≡ false) × (q ≡ p)
 TellsCore p (Err _) q = (p.valid ≡ true) × (p.has_model ≡ false) × (q ≡ p)
 

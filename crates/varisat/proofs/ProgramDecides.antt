@@ -45,7 +45,7 @@ broken-fails x text e =
     let r : Reading = read nothing (items false 1 (lines text)) in closed-broken r.fault x r (last_line 1 (lines text)) refl e
 
 -- how many names are in use once those of the clauses are
-count-all : ℕ → List Clause → ℕ
+abbrev count-all : ℕ → List Clause → ℕ
 count-all n [] = n
 count-all n (c ∷ P) = count-all (count_with n c) P
 

@@ -33,7 +33,7 @@ module _ (w : Carrying) (p : Spaces) (s : State) (x i v : ℕ) (k : Links w p s)
   r = translation w p s.ever_hidden
 
   r' : Translation
-  r' = translation w (take_solver x v p)
+  r' = translation w (take_solver x v p) s.ever_hidden
 
   to-new : r'.identity v ≡ Some i
   unfolding r'

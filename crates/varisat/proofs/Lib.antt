@@ -12,6 +12,7 @@ pub mod FindVerdictSteps
 pub mod Histories
 pub mod LineLemmas
 pub mod ModelsFit
+pub mod NameLaws
 pub mod NamesInOrder
 pub mod NewNames
 pub mod Pasts

@@ -8,7 +8,7 @@ use Rattle.varisat_theory.proofs.Renaming.{map-∈}
 use Rattle.varisat_literals.specs.Numbers.{polarity_of}
 use Rattle.varisat_search.proofs.StepOutcome.{variable-literal, polarity-literal}
 use Rattle.varisat_names.proofs.Maps.{chain-some, chain-none}
-use Rattle.varisat.specs.States.{State, Verdict, Unknown, Sat, Unsat, UnsatUnderAssumptions, IsRight, IsWellFormed}
+use Rattle.varisat.specs.States.{State, Verdict, Unknown, Sat, Unsat, UnsatUnderAssumptions, IsRight}
 use Rattle.varisat.specs.Names.{through_names}
 use Rattle.varisat.specs.Models.{put_name, list_names, model_of, IsRising, IsCompletable}
 use Rattle.varisat.specs.Carried.{carry}

@@ -29,6 +29,7 @@ use Rattle.varisat.specs.Decided.{IsUpToHighest, IsModel, listed, named_variable
 use Rattle.varisat.specs.declared.solver.SolverError.{SolverError}
 use Rattle.varisat.specs.declared.solver.SolverError.TheVariants.{Interrupted}
 use Rattle.varisat.proofs.NamesInOrder.{stay-in-order, count-above, count-within, through-all}
+use Rattle.varisat.proofs.NameLaws.{none-in-order, in-use-below}
 use Rattle.varisat.proofs.Counted.{join-more, join-has, join-only, join-once}
 use Rattle.varisat.proofs.Pasts.{Agrees, add-text, solve, config, tell-model, empty-agrees}
 
@@ -151,10 +152,7 @@ own-model P m assumptions counted model o k = record {
 }
   where
     below : (l : Literal) → l ∈ model → variable_of l < count-all 0 P
-    below l h = ⊎_elim (λ b. b) (λ b. absurd (let (i, e) = k.in_use l h in let z : Some i ≡ None = sym e ∙ o.free (variable_of l) b in cc)) (below-or (variable_of l) (count-all 0 P))
-      where
-        below-or : (u n : ℕ) → (u < n) ⊎ (n ≤ u)
-        below-or u n = grind arith
+    below = in-use-below (count-all 0 P) m model o k.in_use
 
 reading-whole : (p q : Past) (R : Reading) → additions.AddsReading past.adding p R done q → (R.fault ≡ None) × additions.AddsAll past.adding p R.clauses done q
 reading-whole p q R (ClauseRefused e k a) = absurd cc
@@ -196,7 +194,7 @@ abbrev begun : SolverConfigUpdate → Past
 begun c = past.with_update c empty_past
 
 begun-took : (c : SolverConfigUpdate) (q : Past) (P : List Clause) → additions.AddsAll past.adding (begun c) P done q → Took 0 P (begun c) q
-begun-took c q P a = took 0 (begun c) q P (record { made = refl; watermark = refl; in_use = λ u h. absurd (omega arith); free = λ u h. refl; sampled = λ i h. refl }) a
+begun-took c q P a = took 0 (begun c) q P none-in-order a
 
 module _ (c : SolverConfigUpdate) (old new : Stand) (t u : State) (found : Result Bool SolverError) (k : Asked c old new t u found) where
   configured : Agrees (begun c) k.mid

@@ -11,6 +11,7 @@ pub mod Told
 pub mod Turns
 pub mod Runs
 pub mod Histories
+pub mod Laws
 pub mod Searches
 pub mod Accepting
 pub mod Summaries

@@ -3,6 +3,7 @@
 
 mod accept;
 mod carrying;
+pub mod laws;
 pub mod line;
 pub mod program;
 pub mod session;

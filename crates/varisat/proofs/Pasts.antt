@@ -112,20 +112,6 @@ right-like t P A C v c a n w r =
     (subst (λ x. IsRight t.clauses x C v) (sym a)
     (subst (λ x. IsRight x A C v) (sym c) r)))
 
--- a state like one that has the same clauses, assumptions, counted identities and verdict, and the same names or more
-like-known : (p q : Past) (s t : State) (m : Naming) → IsLike (start (with_naming m s)) t → IsCapped m → m ≡ q.naming → (q.clauses ≡ p.clauses) × (q.assumptions ≡ p.assumptions) × (q.counted ≡ p.counted) → (q.has_model ≡ p.has_model) × (q.has_core ≡ p.has_core) → Knows p s → Knows q t
-like-known p q s t m e f n (c, a, d) (x, y) k = record {
-  naming = e.naming ∙ n;
-  capped = subst IsCapped (sym e.naming) f;
-  clauses = e.clauses ∙ k.clauses ∙ sym c;
-  assumed = e.assumptions ∙ k.assumed ∙ sym a;
-  counted = e.counted ∙ k.counted ∙ sym d;
-  model = λ h. ap answer_of e.verdict ∙ k.model (sym x ∙ h);
-  found = λ h. x ∙ k.found (sym (ap answer_of e.verdict) ∙ h);
-  failed = λ h. ap answer_of e.verdict ∙ k.failed (sym y ∙ h);
-  right = right-like t s.clauses s.assumptions s.counted s.verdict e.clauses e.assumptions e.counted e.verdict k.right;
-}
-
 -- 3. A clause.
 
 after-cases : (P : List Clause) (c : Clause) (v w : Verdict) → VerdictAfter P c v w → ((w ≡ Unsat) × (IsSatisfiable (P ++ c ∷ []) → ⊥)) ⊎ (w ≡ reopened_verdict v)
@@ -159,7 +145,7 @@ accepted p s t d n (w, after, e) g v =
 refuted : (p : Past) (s : State) → Knows p s → s.verdict ≡ Unsat → IsSatisfiable p.clauses → ⊥
 refuted p s k u = subst (λ P. IsSatisfiable P → ⊥) k.clauses (subst (IsRight s.clauses s.assumptions s.counted) u k.right)
 
--- more identities are made from the same names
+-- what it is refused for is the same for both
 crowded : (p : Past) (s : State) (d : List Literal) → Knows p s → IsPastLimit d ⊎ IsCrowded (name_all d s.naming) → IsPastLimit d ⊎ IsCrowded (name_all d p.naming)
 crowded p s d k h = subst (λ (m : Naming). IsPastLimit d ⊎ IsCrowded (name_all d m)) k.naming h
 
@@ -214,15 +200,25 @@ add-text p s t old new r g (Unread e (v, k) n) = (p, Unread e (sym g.valid ∙ v
 
 -- 5. A new variable.
 
+named : (p : Past) (s t : State) (u : ℕ) → IsLike (start (with_naming (name_one u s.naming) s)) t → Knows p s → Knows (record p { naming = name_one u p.naming }) t
+named p s t u e k = record {
+  naming = e.naming ∙ ap (name_one u) k.naming;
+  capped = subst IsCapped (sym e.naming) (capped-one u s.naming k.capped);
+  clauses = e.clauses ∙ k.clauses;
+  assumed = e.assumptions ∙ k.assumed;
+  counted = e.counted ∙ k.counted;
+  model = λ x. ap answer_of e.verdict ∙ k.model x;
+  found = λ x. k.found (sym (ap answer_of e.verdict) ∙ x);
+  failed = λ x. ap answer_of e.verdict ∙ k.failed x;
+  right = right-like t s.clauses s.assumptions s.counted s.verdict e.clauses e.assumptions e.counted e.verdict k.right;
+}
+
 pub make-var : (p : Past) (s t : State) (r : Result ℕ SolverError) → Agrees p s → state.MakesVar s r t → Leads (past.MakesVar p r) t
 make-var p s t (Ok u) g (v, free, small, e) =
     let w = sym g.valid ∙ v in
     let k = g.knows w in
-    let q : Past = record p { naming = name_one u p.naming } in (
-      q,
-      (w, subst (λ (m : Naming). IsLeastFree m u) k.naming free, small, refl),
-      agrees-still p q s t g e.ledger (refl, refl, refl) (like-known p q s t (name_one u s.naming) e (capped-one u s.naming k.capped) (ap (name_one u) k.naming) (refl, refl, refl) (refl, refl) k),
-    )
+    let q : Past = record p { naming = name_one u p.naming } in
+    (q, (w, subst (λ (m : Naming). IsLeastFree m u) k.naming free, small, refl), agrees-still p q s t g e.ledger (refl, refl, refl) (named p s t u e k))
 make-var p s t (Err OutOfMemory) g a = breaks p s t g a.1
 make-var p s t (Err Invalid) g a = (p, (sym g.valid ∙ a.0, refl), stays p s t a.1 g)
 make-var p s t (Err VariableLimit) g (v, full, same) =

@@ -22,7 +22,7 @@ use Rattle.varisat.specs.Calls as state
 use Rattle.varisat.specs.Additions as additions
 use Rattle.varisat.specs.Additions.{Gave, NoFault, MemoryFault, Fault, ClauseRefused, ClausesAdded, RefusedEarly, FaultInText, Whole, MemoryRanOut, SourceFailed, Read, Unread}
 use Rattle.varisat.specs.Pasts as past
-use Rattle.varisat.specs.Pasts.{Past, empty_past}
+use Rattle.varisat.specs.Pasts.{Past, empty_past, accept}
 use Rattle.varisat.specs.Told.{told_list}
 use Rattle.varisat.specs.Budgets.{CountsSteps}
 use Rattle.varisat.specs.Decided.{IsUpToHighest, IsModel, listed, named_variables, Conclusion, Decided, Unknown, IsConclusion, Decides, StatusIsTrue, conclusion_status}
@@ -50,7 +50,7 @@ abbrev count-all : ℕ → List Clause → ℕ
 count-all n [] = n
 count-all n (c ∷ P) = count-all (count_with n c) P
 
--- What is left of a past whose names are those below n, in order, once it took clauses in. `part`: it has some of them. `whole`: it has just these behind those before, and their names in order; unless no assignment satisfies what it has.
+-- What becomes of a past whose names are those below n, in order, as it takes clauses in. `more`: the clauses before stay. `part`: each one that joined is one of those taken in. `whole`: all of them joined, and their names are in order; or no assignment satisfies those that did. `counted`, `once`: no more variables are counted than the clauses name, and none twice.
 record Took (n : ℕ) (P : List Clause) (p q : Past) : Type 0 where
   more : (a : Assignment) → SatisfiesAll a q.clauses → SatisfiesAll a p.clauses
   part : (a : Assignment) → SatisfiesAll a p.clauses → SatisfiesAll a P → SatisfiesAll a q.clauses
@@ -68,31 +68,32 @@ satisfies-one-more : (a : Assignment) (P Q : List Clause) (c : Clause) → Satis
 satisfies-one-more a P Q c x y d h = ⊎_elim (x d) (λ k. ⊎_elim (λ e. y d (inl e)) (λ z. absurd z) k) (∈-append_cases d P (c ∷ []) h)
 
 took : (n : ℕ) (p q : Past) (P : List Clause) → AreInOrder n p.naming → additions.AddsAll past.adding p P done q → Took n P p q
-took n p q [] o (u, e) = record {
-  more = λ a. subst (λ (x : Past). SatisfiesAll a x.clauses → SatisfiesAll a p.clauses) (sym e) (λ h. h);
-  part = λ a h _. subst (λ (x : Past). SatisfiesAll a x.clauses) (sym e) h;
-  whole = inr (ap (λ (x : Past). x.clauses) e ∙ sym (append-nil p.clauses), subst (λ (x : Past). AreInOrder n x.naming) (sym e) o);
-  counted = λ known h. subst (λ (x : Past). x.counted ⊆ known) (sym e) h;
-  once = λ h. subst (λ (x : Past). IsDistinct x.counted) (sym e) h;
-  steps = ap (λ (x : Past). x.steps) e;
-  settings = ap (λ (x : Past). x.settings) e;
-  assumptions = ap (λ (x : Past). x.assumptions) e;
-}
+took n p q [] o (u, e) =
+    subst (Took n [] p) (sym e) (record {
+      more = λ a h. h;
+      part = λ a h _. h;
+      whole = inr (sym (append-nil p.clauses), o);
+      counted = λ known h. h;
+      once = λ h. h;
+      steps = refl;
+      settings = refl;
+      assumptions = refl;
+    })
 took n p q (c ∷ P) o (inr (e, k, a)) = absurd cc
 took n p q (c ∷ P) o (inl (mid, (v, past.Accepted l e), rest)) =
     let (order, own) = stay-in-order n p.naming c o in
-    let clauses : mid.clauses ≡ p.clauses ++ c ∷ [] = ap (λ (x : Past). x.clauses) e ∙ ap (λ x. p.clauses ++ x ∷ []) own in
-    let counted : mid.counted ≡ join_counted p.counted (map variable_of c) = ap (λ (x : Past). x.counted) e ∙ ap (λ x. join_counted p.counted (map variable_of x)) own in
-    let r = took (count_with n c) mid q P (subst (λ (x : Past). AreInOrder (count_with n c) x.naming) (sym e) order) rest in
+    let clauses : (accept c p).clauses ≡ p.clauses ++ c ∷ [] = ap (λ x. p.clauses ++ x ∷ []) own in
+    let counted : (accept c p).counted ≡ join_counted p.counted (map variable_of c) = ap (λ x. join_counted p.counted (map variable_of x)) own in
+    let r = took (count_with n c) (accept c p) q P order (subst (λ (x : Past). additions.AddsAll past.adding x P done q) e rest) in
     record {
       more = λ a h. satisfies_fewer a p.clauses (c ∷ []) (subst (SatisfiesAll a) clauses (r.more a h));
       part = λ a x y. r.part a (subst (SatisfiesAll a) (sym clauses) (satisfies-one-more a p.clauses P c x y)) (λ d h. y d (inr h));
       whole = ⊎_elim inl (λ w. inr (w.0 ∙ ap (λ Q. Q ++ P) clauses ∙ append_assoc p.clauses (c ∷ []) P, w.1)) r.whole;
       counted = λ known h. r.counted (join_counted known (map variable_of c)) (subst (λ xs. xs ⊆ join_counted known (map variable_of c)) (sym counted) (join-part p.counted known (map variable_of c) h));
       once = λ h. r.once (subst IsDistinct (sym counted) (join-once (map variable_of c) p.counted h));
-      steps = r.steps ∙ ap (λ (x : Past). x.steps) e;
-      settings = r.settings ∙ ap (λ (x : Past). x.settings) e;
-      assumptions = r.assumptions ∙ ap (λ (x : Past). x.assumptions) e;
+      steps = r.steps;
+      settings = r.settings;
+      assumptions = r.assumptions;
     }
 took n p q (c ∷ P) o (inl (mid, (v, past.Ignored u e), rest)) =
     let r = took n p q P o (subst (λ (x : Past). additions.AddsAll past.adding x P done q) e rest) in

@@ -3,7 +3,6 @@ use Rattle.std.proofs.Common.{ap₂, ◌≡◌, ℕ, ◌/◌, ◌^◌, ◌<◌, 
 use Rattle.std.specs.Prelude.{not, ◌&&◌, nat_le, nat_lt, min}
 use Rattle.std.proofs.lemmas.Bool.{and_right}
 use Rattle.varisat_theory.specs.Membership.{◌∈◌}
-use Rattle.varisat_theory.proofs.Members.{equal_or_not}
 use Rattle.varisat_clause.specs.declared.header.Tier.{Tier}
 use Rattle.varisat_clause.specs.declared.header.Tier.TheVariants.{Irred, Core, Mid, Local}
 use Rattle.varisat_clause.specs.Tiers.{is_tier}
@@ -12,7 +11,7 @@ use Rattle.varisat_clause.specs.Stored.{StoredClause, IsPlace, stored_at, header
 use Rattle.varisat_clause.specs.Stores.{Store, clauses_of, IsSound, Holds}
 use Rattle.varisat_clause.specs.Databases.{Database, list_of, is_live, is_live_in, total, size_of, Tracks}
 use Rattle.varisat_clause.specs.ClauseActivities.{ActivityScale, with_activity, activity_shifted, shifted, clauses_rescaled, reaches_limit}
-use Rattle.varisat_clause.proofs.StoredClauses.{stored-∈, clause-here, clause-later, clause-same, clause-place}
+use Rattle.varisat_clause.proofs.StoredClauses.{stored-∈, clause-same, clause-place, clause-twice}
 use Rattle.varisat_clause.proofs.DatabaseTracks.{place-is, header-self}
 use Rattle.varisat_clause.proofs.LiveStore.{live-∈, live-place, live-stored, live-literals}
 use Rattle.varisat_clause.specs.Collected.{live_clauses}
@@ -24,15 +23,7 @@ use Rattle.varisat_analysis.specs.Assessments.{glue_of, tier_by_glue, is_improve
 use Rattle.varisat_analysis.proofs.SameButHeaders.{held_clause, live-headers, map-same, with-same-look, headers-place, headers-at}
 use Rattle.varisat_clause.proofs.DatabaseTracks.{true-or-false}
 
--- One header after another at the same place.
-clause-twice : (ks : List StoredClause) (p : ℕ) (a b : StoredClause) → a.place ≡ p → with_clause (with_clause ks p a) p b ≡ with_clause ks p b
-clause-twice [] p a b e = refl
-clause-twice (k ∷ ks) p a b e =
-    ⊎_elim
-    (λ f. ap (λ xs. with_clause xs p b) (clause-here k ks p a f) ∙ clause-here a ks p b e ∙ sym (clause-here k ks p b f))
-    (λ n. ap (λ xs. with_clause xs p b) (clause-later k ks p a n) ∙ clause-later k (with_clause ks p a) p b n ∙ ap (λ xs. k ∷ xs) (clause-twice ks p a b e) ∙ sym (clause-later k ks p b n))
-    (equal_or_not k.place p)
-
+-- headers at one place of a list
 module _ (ks : List StoredClause) (p : ℕ) (at : IsPlace ks p) where
   stored-set : (h : Header) → stored_at (with_header ks p h) p ≡ record (stored_at ks p) { header = h }
   stored-set h = clause-same ks p (record (stored_at ks p) { header = h }) at (place-is ks p at)

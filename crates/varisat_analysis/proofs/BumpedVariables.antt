@@ -4,6 +4,7 @@ use Rattle.std.proofs.lemmas.List.{take-append-le}
 use Rattle.varisat_theory.specs.Membership.{◌∈◌, IsDistinct}
 use Rattle.varisat_theory.specs.Literals.{Literal, Clause, variable_of}
 use Rattle.varisat_theory.proofs.Members.{equal_or_not, ∈-append_left, ∈-append_right, ∈-append_cases}
+use Rattle.varisat_prop.proofs.ReadElements.{element, item-∈}
 use Rattle.varisat_prop.specs.declared.prop.graph.ImplNode.{ImplNode}
 use Rattle.varisat_prop.specs.declared.prop.graph.Conflict.{Conflict}
 use Rattle.varisat_clause.specs.Stored.{StoredClause}
@@ -26,6 +27,14 @@ take-snoc k xs h = let e : k + 1 ≡ suc k = omega arith in ap (λ n. take n xs)
         none [] = refl
         none (y ∷ xs) = refl
     go (suc k) (x ∷ xs) h = ap (λ ys. x ∷ ys) (go k xs (omega (arith, h)))
+
+-- one more element that was read
+pub item-snoc : (k : ℕ) (xs : List ℕ) (x : ℕ) → k < length xs → x ≡ get_or xs k x → take (k + 1) xs ≡ take k xs ++ x ∷ []
+item-snoc k xs x h e = take-snoc k xs h ∙ ap (λ y. take k xs ++ y ∷ []) (sym (element xs k x h e))
+
+-- its number is below what the numbers of all elements are below
+pub item-below : (number : ℕ → ℕ) (xs : List ℕ) (k x n b d : ℕ) → ((y : ℕ) → y ∈ xs → number y < b) → d ≡ b → k < length xs → x ≡ get_or xs k x → n ≡ number x → n < d
+item-below number xs k x n b d below q h e f = let i = below x (item-∈ xs k x h e) in omega (arith, i, q, f)
 
 among-append : (ks : List StoredClause) (ps qs : List Conflict) → literals_among ks (ps ++ qs) ≡ literals_among ks ps ++ literals_among ks qs
 among-append ks [] qs = refl
@@ -154,6 +163,10 @@ module _ (nodes : List ImplNode) where
     all = λ l i o. ⊎_elim (λ j. b.more (variable_of l) (inl (a.all l j o))) (λ j. b.all l j o) (∈-append_cases l ls ms i);
   }
 
+  -- the same for a list of both
+  pub bumps-more : {ls ms all : List Literal} {x y z : Bumping} → all ≡ ls ++ ms → BumpsNew nodes ls x y → BumpsNew nodes ms y z → BumpsNew nodes all x z
+  bumps-more {ls = ls} {ms = ms} {x = x} {y = y} {z = z} e a b = subst (λ l. BumpsNew nodes l x z) (sym e) (bumps-join ls ms x y z a b)
+
   -- where nothing was flagged at first
   pub bumps-above : (ls : List Literal) (x y : Bumping) → ((v : ℕ) → get_or x.flags v false ≡ false) → (b : BumpsNew nodes ls x y) → AreVariablesAbove nodes ls b.vars
   bumps-above ls x y c b = record {
@@ -213,3 +226,10 @@ clears-join number ls ms f g h a b = record {
       (∈-append_cases l ls ms i);
   fewer = λ v e. a.fewer v (b.fewer v e);
 }
+
+-- one more literal that was read
+pub clears-more : (number : Literal → ℕ) (lits : List Literal) (f g : List Bool) (k l n : ℕ) → ((m : Literal) → m ∈ lits → number m < length f) → length g ≡ length f → k < length lits → l ≡ get_or lits k l → n ≡ number l → Clears number (take k lits) f g → Clears number (take (k + 1) lits) f (set g n false)
+clears-more number lits f g k l n room q h e i c =
+    subst (λ v. Clears number (take (k + 1) lits) f (set g v false)) (sym i)
+    (subst (λ ls. Clears number ls f (set g (number l) false)) (sym (item-snoc k lits l h e))
+    (clears-join number (take k lits) (l ∷ []) f g (set g (number l) false) c (clears-one number l g (item-below number lits k l (number l) (length f) (length g) room q h e refl))))

@@ -4,7 +4,7 @@ use Rattle.std.proofs.lemmas.Bool.{cases_lt}
 use Rattle.std.proofs.lemmas.List.{append-nil, length-replicate}
 use Rattle.varisat_theory.specs.Membership.{◌∈◌, IsDistinct}
 use Rattle.varisat_theory.specs.Literals.{Literal, Clause, variable_of, opposite}
-use Rattle.varisat_theory.specs.Propagation.{Conflicts}
+use Rattle.varisat_theory.specs.Propagation.{IsFalse, Conflicts}
 use Rattle.varisat_theory.specs.Analysis.{Implied, Known, AtStart, InReason}
 use Rattle.varisat_theory.proofs.Implication.{implied_alone, implied_clash}
 use Rattle.varisat_theory.proofs.Members.{equal_or_not, ∈-append_left, ∈-append_right, ∈-append_cases}
@@ -17,7 +17,7 @@ use Rattle.varisat_clause.specs.Stored.{StoredClause}
 use Rattle.varisat_prop.specs.Changes.{others_of, causes_of}
 use Rattle.varisat_prop.specs.View.{View, literal_at, decision_at, node_of, node_at, level_of, StandsBefore, IsReason, WellFormed, ViewFits, no_node}
 use Rattle.varisat_prop.proofs.LiteralValues.{made-inside}
-use Rattle.varisat_prop.proofs.ReadElements.{element}
+use Rattle.varisat_prop.proofs.ReadElements.{element, item-∈}
 use Rattle.varisat_prop.proofs.TrailValues.{trail-true}
 use Rattle.varisat_analysis.specs.Flags.{IsFlagged}
 use Rattle.varisat_analysis.specs.Learned.{clause_of, reason_clause}
@@ -77,6 +77,10 @@ pub true-flag : (s : View) → WellFormed s → (flags : List Bool) (l : Literal
 true-flag s w flags l n h =
     let a = own-list l (length s.values) (made-inside s.values l (trail-true s w l h)) in
     omega (arith, a, n)
+
+-- the opposite of the false literal that was read
+pub cause-flag : (s : View) → WellFormed s → (lits : List Literal) (k m : ℕ) (flags : List Bool) → IsFalse s.trail lits → length flags ≡ 2 * length s.values → k < length lits → m ≡ get_or lits k m → opposite m < length flags
+cause-flag s w lits k m flags f n h e = true-flag s w flags (opposite m) n (f m (item-∈ lits k m h e))
 
 -- the literal is a reached decision, and stands at place i or behind it
 abbrev pub WasPassed : View → Literal → ℕ → Literal → Type 0

@@ -1,5 +1,5 @@
 -- How many levels literals have, as flags count them.
-use Rattle.std.proofs.Common.{◌≡◌, ℕ, suc, ◌+◌, ◌<◌, ◌||◌, Bool, true, false, cond, nat_eq, List, [], ◌∷◌, ◌++◌, length, map, take, get_or, set, inl, inr, ⊎_elim, refl, sym, ap, ◌∙◌, arith, get_or-set_same, get_or-set_other}
+use Rattle.std.proofs.Common.{◌≡◌, ℕ, suc, ◌+◌, ◌<◌, ◌||◌, Bool, true, false, cond, nat_eq, List, [], ◌∷◌, ◌++◌, length, map, get_or, set, inl, inr, ⊎_elim, refl, sym, ap, ◌∙◌, arith, get_or-set_same, get_or-set_other}
 use Rattle.std.specs.Cmp.{IsEquivalence}
 use Rattle.std.specs.Set.{is_member, unique_keys, distinct_count}
 use Rattle.std.proofs.lemmas.Map.Made.{length-from_keys, IsDistinct-from_count}
@@ -7,11 +7,10 @@ use Rattle.varisat_theory.specs.Membership.{◌∈◌}
 use Rattle.varisat_theory.specs.Literals.{Literal, variable_of}
 use Rattle.varisat_theory.proofs.Members.{equal_or_not}
 use Rattle.varisat_clause.proofs.StoredClauses.{is-same, is-other}
-use Rattle.varisat_prop.proofs.ReadElements.{element, item-∈}
 use Rattle.varisat_prop.specs.declared.prop.graph.ImplNode.{ImplNode}
 use Rattle.varisat_prop.specs.View.{no_node}
 use Rattle.varisat_analysis.specs.Bumps.{level_in}
-use Rattle.varisat_analysis.proofs.BumpedVariables.{all-false, take-snoc}
+use Rattle.varisat_analysis.proofs.BumpedVariables.{all-false, item-below}
 use Rattle.varisat_clause.proofs.DatabaseTracks.{true-or-false}
 
 or-none : (b : Bool) → (b || false) ≡ b
@@ -37,16 +36,13 @@ number-laws = record {
   congr = λ x y z h. ⊎_elim (λ (e : x ≡ y). ap (λ (u : ℕ). nat_eq u z) e) (λ n. let g : true ≡ false = sym h ∙ is-other x y n in absurd cc) (equal_or_not x y);
 }
 
--- one more of the literals
-pub item-snoc : (k : ℕ) (lits : List Literal) (l : Literal) → k < length lits → l ≡ get_or lits k l → take (k + 1) lits ≡ take k lits ++ l ∷ []
-item-snoc k lits l h e = take-snoc k lits h ∙ ap (λ m. take k lits ++ m ∷ []) (sym (element lits k l h e))
+-- the level of a literal, as it is read
+pub level-is : (nodes : List ImplNode) (l v n : ℕ) → v ≡ variable_of l → n ≡ (get_or nodes v no_node).level → n ≡ level_in nodes l
+level-is nodes l v n q r = r ∙ ap (λ (x : ℕ). (get_or nodes x no_node).level) q
 
--- the level of a literal that was read has a flag
-pub level-flagged : (nodes : List ImplNode) (lits : List Literal) (old new : List Bool) (k l v n : ℕ) → ((m : Literal) → m ∈ lits → level_in nodes m < length old) → k < length lits → l ≡ get_or lits k l → v ≡ variable_of l → n ≡ (get_or nodes v no_node).level → length new ≡ length old → n < length new
-level-flagged nodes lits old new k l v n room h e q r long =
-    let i = room l (item-∈ lits k l h e) in
-    let a : n ≡ level_in nodes l = r ∙ ap (λ (x : ℕ). (get_or nodes x no_node).level) q in
-    omega (arith, i, a, long)
+-- that level has a flag
+pub level-flagged : (nodes : List ImplNode) (lits : List Literal) (old new : List Bool) {k l v n : ℕ} → ((m : Literal) → m ∈ lits → level_in nodes m < length old) → length new ≡ length old → k < length lits → l ≡ get_or lits k l → v ≡ variable_of l → n ≡ (get_or nodes v no_node).level → n < length new
+level-flagged nodes lits old new {k} {l} {v} {n} room q h e f r = item-below (level_in nodes) lits k l n (length old) (length new) room q h e (level-is nodes l v n f r)
 
 -- Literals have these levels: just those have a flag, and there are as many as `count`.
 pub record Counts (level : Literal → ℕ) (lits : List Literal) (flags : List Bool) (count : ℕ) : Type 0 where

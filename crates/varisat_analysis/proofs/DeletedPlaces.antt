@@ -9,32 +9,11 @@ use Rattle.varisat_clause.specs.Filters.{deleted_at}
 use Rattle.varisat_clause.specs.Reductions.{unmarked, all_deleted}
 use Rattle.varisat_clause.proofs.StoredClauses.{clause-same, clause-other}
 use Rattle.varisat_clause.proofs.DatabaseTracks.{place-is}
+use Rattle.varisat_prop.proofs.SimplifiedPairs.{∈-filter}
 use Rattle.varisat_analysis.specs.HeaderChanges.{PlacedClause, placed_clause, SameButHeaders}
 use Rattle.varisat_analysis.proofs.SameButHeaders.{headers-place, with-same-look}
 
--- what a filter takes
-pub filter-∈ : {X : Type 0} (p : X → Bool) (xs : List X) (x : X) → x ∈ xs → p x ≡ true → x ∈ filter p xs
-filter-∈ p [] x h e = absurd h
-filter-∈ {X} p (y ∷ ys) x (inl q) e = go (p y) (ap p (sym q) ∙ e)
-  where
-    go : (b : Bool) → b ≡ true → x ∈ cond b (y ∷ filter p ys) (filter p ys)
-    go true f = inl q
-    go false f = absurd (let z : false ≡ true = f in cc)
-filter-∈ {X} p (y ∷ ys) x (inr h) e = go (p y) (filter-∈ p ys x h e)
-  where
-    go : (b : Bool) → x ∈ filter p ys → x ∈ cond b (y ∷ filter p ys) (filter p ys)
-    go true f = inr f
-    go false f = f
-
-pub ∈-filter : {X : Type 0} (p : X → Bool) (xs : List X) (x : X) → x ∈ filter p xs → (x ∈ xs) × (p x ≡ true)
-∈-filter p [] x h = absurd h
-∈-filter {X} p (y ∷ ys) x h = go (p y) refl h (∈-filter p ys x)
-  where
-    go : (b : Bool) → p y ≡ b → x ∈ cond b (y ∷ filter p ys) (filter p ys) → (x ∈ filter p ys → (x ∈ ys) × (p x ≡ true)) → (x ∈ (y ∷ ys)) × (p x ≡ true)
-    go true e (inl q) f = (inl q, ap p q ∙ e)
-    go true e (inr i) f = let r = f i in (inr r.0, r.1)
-    go false e i f = let r = f i in (inr r.0, r.1)
-
+-- the places of those that a filter leaves rise too
 pub filter-rising : (p : StoredClause → Bool) (ks : List StoredClause) → AreRising ks → AreRising (filter p ks)
 filter-rising p [] r = tt
 filter-rising p (k ∷ ks) r = go (p k) (filter-rising p ks r.1)

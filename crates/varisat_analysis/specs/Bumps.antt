@@ -5,7 +5,9 @@ use Rattle.varisat_theory.specs.Literals.{Literal, variable_of}
 use Rattle.varisat_prop.specs.declared.prop.graph.ImplNode.{ImplNode}
 use Rattle.varisat_prop.specs.declared.prop.graph.Conflict.{Conflict}
 use Rattle.varisat_clause.specs.Stored.{StoredClause}
-use Rattle.varisat_prop.specs.Changes.{named_in}
+use Rattle.varisat_clause.specs.Stores.{Store, IsSound}
+use Rattle.varisat_clause.specs.Collected.{live_clauses}
+use Rattle.varisat_prop.specs.Changes.{NamesPlace, named_in}
 use Rattle.varisat_prop.specs.View.{View, no_node}
 use Rattle.varisat_vsids.specs.Activities.{Activities, bumped, decayed}
 use Rattle.varisat_analysis.specs.Flags.{IsFlagged}
@@ -47,6 +49,12 @@ pub record MayBump (nodes : List ImplNode) (lits : List Literal) (x : Bumping) :
   pub known : (l : Literal) → l ∈ lits → variable_of l < length nodes
   pub flags : length nodes ≤ length x.flags
   pub activity : length x.activities.activity ≡ length nodes
+
+-- The names are those of clauses of the sound store, of whose literals the same holds.
+pub record MayBumpNamed (nodes : List ImplNode) (store : Store) (names : List Conflict) (x : Bumping) : Type 0 where
+  pub sound : IsSound store
+  pub may : MayBump nodes (literals_among (live_clauses store) names) x
+  pub named : (f : Conflict) → f ∈ names → NamesPlace (live_clauses store) f
 
 -- Of the literals' variables those above level 0 without a flag were bumped, each once, and have one now.
 pub record BumpsNew (nodes : List ImplNode) (lits : List Literal) (x y : Bumping) : Type 0 where

@@ -5,7 +5,7 @@ ghost use Rattle.varisat_theory.specs.Literals.{Literal, variable_of};
 ghost use Rattle.varisat_clause.specs.Stores.{IsSound};
 ghost use Rattle.varisat_clause.specs.Collected.{live_clauses};
 ghost use Rattle.varisat_prop.specs.Changes.{NamesPlace};
-ghost use Rattle.varisat_analysis.specs.Bumps.{bumped_each, literals_among, AreVariablesAbove, bumping, MayBump, BumpsNew};
+ghost use Rattle.varisat_analysis.specs.Bumps.{bumped_each, literals_among, AreVariablesAbove, bumping, MayBump, MayBumpNamed, BumpsNew};
 
 use std::alloc::Allocator;
 use varisat_literals::Lit;
@@ -59,9 +59,7 @@ fn bump_clauses<A: Allocator + Copy>(
     clause_alloc: &ClauseAlloc<A>,
     names: &[Conflict],
 )
-    requires sound { IsSound clause_alloc.now }
-    requires may { MayBump impl_graph.now.nodes.items (literals_among (live_clauses clause_alloc.now) names.now) (bumping flags.old vsids.old) }
-    requires named { (f : _) → f ∈ names.now → NamesPlace (live_clauses clause_alloc.now) f }
+    requires { MayBumpNamed impl_graph.now.nodes.items clause_alloc.now names.now (bumping flags.old vsids.old) }
     ensures bumps { BumpsNew impl_graph.now.nodes.items (literals_among (live_clauses clause_alloc.now) names.now) (bumping flags.old vsids.old) (bumping flags.new vsids.new) }
     ensures count { length vsids.new.activity ≡ length vsids.old.activity }
 {
@@ -107,9 +105,7 @@ pub fn bump_each_once<A: Allocator + Copy>(
     clause_alloc: &ClauseAlloc<A>,
     names: &[Conflict],
 )
-    requires sound { IsSound clause_alloc.now }
-    requires may { MayBump impl_graph.now.nodes.items (literals_among (live_clauses clause_alloc.now) names.now) (bumping flags.old vsids.old) }
-    requires named { (f : _) → f ∈ names.now → NamesPlace (live_clauses clause_alloc.now) f }
+    requires may { MayBumpNamed impl_graph.now.nodes.items clause_alloc.now names.now (bumping flags.old vsids.old) }
     requires clear { (v : ℕ) → slice_index_or flags.old v false ≡ false }
     ensures bumps { (vars : List ℕ) × AreVariablesAbove impl_graph.now.nodes.items (literals_among (live_clauses clause_alloc.now) names.now) vars × (vsids.new ≡ bumped_each vars vsids.old) }
     ensures clear { (v : ℕ) → slice_index_or flags.new v false ≡ false }

@@ -3,7 +3,7 @@ use Rattle.varisat_clause.specs.Collected.{live_clauses}
 use Rattle.varisat_theory.specs.Membership.{◌∈◌}
 use Rattle.varisat_prop.proofs.ReadElements.{item-∈}
 use Rattle.varisat_analysis.specs.Bumps.{bumping, BumpsNew, literals_among}
-use Rattle.varisat_analysis.proofs.BumpedVariables.{among-snoc, in-among, may-part, bumps-join}
+use Rattle.varisat_analysis.proofs.BumpedVariables.{among-snoc, in-among, may-part, bumps-more}
 use Rattle.varisat_analysis.proofs.bumps.bump_clauses.Goals as goal
 
 pub lits-requires-clause-place : goal.lits-requires-clause-place
@@ -21,15 +21,11 @@ bump_literals-requires g c =
 pub loop-name-preserved : goal.loop-name-preserved
 loop-name-preserved g c =
     let ks = live_clauses c.args.clause_alloc.now in
-    let ps = c.args.names.now in
     let k = c.loop-name.name-index in
-    let nodes = c.args.impl_graph.now.nodes.items in
-    let x = bumping c.args.flags.now c.args.vsids.now in
-    let y = bumping c.loop-name.flags c.loop-name.vsids in
-    let z = bumping c.bump_literals.new.flags c.bump_literals.new.vsids in
+    let ps = c.args.names.now in
+    let e = among-snoc ks k ps c.name-item.result c.loop-name-test.true c.name-item.is ∙ ap (λ l. literals_among ks (take k ps) ++ l) (sym c.lits.ensures) in
     record {
-      bumps = subst (λ ls. BumpsNew nodes ls x z) (sym (among-snoc ks k ps c.name-item.result c.loop-name-test.true c.name-item.is ∙ ap (λ l. literals_among ks (take k ps) ++ l) (sym c.lits.ensures)))
-          (bumps-join nodes (literals_among ks (take k ps)) c.lits.result.now x y z c.loop-name.invariant.bumps c.bump_literals.ensures.bumps);
+      bumps = bumps-more c.args.impl_graph.now.nodes.items e c.loop-name.invariant.bumps c.bump_literals.ensures.bumps;
       count = c.bump_literals.ensures.count ∙ c.loop-name.invariant.count;
     }
 

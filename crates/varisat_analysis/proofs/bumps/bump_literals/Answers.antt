@@ -1,8 +1,8 @@
-use Rattle.std.proofs.Common.{◌∷◌, ◌++◌, [], take, take_all, ⊎_elim, sym, ap, ◌∙◌, subst}
+use Rattle.std.proofs.Common.{◌∷◌, [], take_all, ⊎_elim, sym, ◌∙◌, subst}
 use Rattle.varisat_theory.specs.Membership.{◌∈◌}
-use Rattle.varisat_prop.proofs.ReadElements.{element, item-∈}
+use Rattle.varisat_prop.proofs.ReadElements.{item-∈}
 use Rattle.varisat_analysis.specs.Bumps.{bumping, BumpsNew}
-use Rattle.varisat_analysis.proofs.BumpedVariables.{take-snoc, may-part, bumps-join}
+use Rattle.varisat_analysis.proofs.BumpedVariables.{item-snoc, may-part, bumps-more}
 use Rattle.varisat_analysis.proofs.bumps.bump_literals.Goals as goal
 
 pub bump_literal-requires : goal.bump_literal-requires
@@ -15,16 +15,9 @@ bump_literal-requires g c =
 
 pub loop-lit-preserved : goal.loop-lit-preserved
 loop-lit-preserved g c =
-    let lits = c.args.lits.now in
-    let k = c.loop-lit.lit-index in
-    let nodes = c.args.impl_graph.now.nodes.items in
-    let x = bumping c.args.flags.now c.args.vsids.now in
-    let y = bumping c.loop-lit.flags c.loop-lit.vsids in
-    let z = bumping c.bump_literal.new.flags c.bump_literal.new.vsids in
-    let e = element lits k c.lit-item.result c.loop-lit-test.true c.lit-item.is in
+    let e = item-snoc c.loop-lit.lit-index c.args.lits.now c.lit-item.result c.loop-lit-test.true c.lit-item.is in
     record {
-      bumps = subst (λ ls. BumpsNew nodes ls x z) (sym (take-snoc k lits c.loop-lit-test.true ∙ ap (λ l. take k lits ++ l ∷ []) (sym e)))
-          (bumps-join nodes (take k lits) (c.lit-item.result ∷ []) x y z c.loop-lit.invariant.bumps c.bump_literal.ensures.bumps);
+      bumps = bumps-more c.args.impl_graph.now.nodes.items e c.loop-lit.invariant.bumps c.bump_literal.ensures.bumps;
       count = c.bump_literal.ensures.count ∙ c.loop-lit.invariant.count;
     }
 

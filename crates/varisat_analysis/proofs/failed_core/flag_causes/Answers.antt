@@ -1,8 +1,7 @@
 use Rattle.std.proofs.Common.{◌∙◌, arith}
-use Rattle.varisat_theory.specs.Literals.{opposite}
 use Rattle.varisat_prop.proofs.ReadElements.{item-∈}
 use Rattle.varisat_analysis.proofs.WellFormedViews.{read-inside, level-read}
-use Rattle.varisat_analysis.proofs.CoreWalk.{flags-start, flags-skip, flags-set, flags-end, true-flag}
+use Rattle.varisat_analysis.proofs.CoreWalk.{flags-start, flags-skip, flags-set, flags-end, cause-flag}
 use Rattle.varisat_analysis.proofs.failed_core.flag_causes.Goals as goal
 
 pub loop-lit-init : goal.loop-lit-init
@@ -17,10 +16,7 @@ level-requires g c =
 
 pub bounds-flags-code : goal.bounds-flags-code
 bounds-flags-code g c =
-    let sees = c.requires.1.0 in
-    let m = c.lit-item.result in
-    let f = c.requires.1.1.1 m (item-∈ c.args.lits.now c.loop-lit.lit-index m c.loop-lit-test.true c.lit-item.is) in
-    let b = true-flag g.s sees.well c.loop-lit.flags (opposite m) (c.loop-lit.auto.flags ∙ c.requires.1.1.0) f in
+    let b = cause-flag g.s c.requires.1.0.well c.args.lits.now c.loop-lit.lit-index c.lit-item.result c.loop-lit.flags c.requires.1.1.1 (c.loop-lit.auto.flags ∙ c.requires.1.1.0) c.loop-lit-test.true c.lit-item.is in
     omega (arith, b, c.code.ensures.code, c.not-cause.ensures)
 
 pub loop-lit-preserved-then-level-eq0 : goal.loop-lit-preserved-then-level-eq0
@@ -35,8 +31,7 @@ pub loop-lit-preserved : goal.loop-lit-preserved
 loop-lit-preserved g c =
     let sees = c.requires.1.0 in
     let m = c.lit-item.result in
-    let f = c.requires.1.1.1 m (item-∈ c.args.lits.now c.loop-lit.lit-index m c.loop-lit-test.true c.lit-item.is) in
-    let b = true-flag g.s sees.well c.loop-lit.flags (opposite m) (c.loop-lit.auto.flags ∙ c.requires.1.1.0) f in
+    let b = cause-flag g.s sees.well c.args.lits.now c.loop-lit.lit-index m c.loop-lit.flags c.requires.1.1.1 (c.loop-lit.auto.flags ∙ c.requires.1.1.0) c.loop-lit-test.true c.lit-item.is in
     let l = level-read g.s c.args.parts.impl_graph.now.nodes.items m c.var.result c.level.result sees.nodes_are c.var.ensures c.level.ensures in
     let z = c.if-level-eq0.false in
     flags-set g.s c.args.lits.now c.loop-lit.lit-index m c.args.flags.now c.loop-lit.flags c.loop-lit-test.true c.lit-item.is c.loop-lit.invariant c.code.result (c.code.ensures.code ∙ c.not-cause.ensures) (omega (arith, b, c.code.ensures.code, c.not-cause.ensures)) (omega (arith, l, z))

@@ -1,8 +1,9 @@
-use Rattle.std.proofs.Common.{◌≡◌, ◌+◌, true, false, take, take_all, get_or, set, sym, ap, ◌∙◌, subst, arith}
-use Rattle.varisat_prop.specs.View.{no_node}
+use Rattle.std.proofs.Common.{◌≡◌, ◌+◌, true, false, length, take, take_all, get_or, set, refl, sym, subst, arith}
+use Rattle.varisat_theory.specs.Literals.{variable_of}
 use Rattle.varisat_prop.proofs.ReadElements.{item-∈}
 use Rattle.varisat_analysis.specs.Bumps.{level_in}
-use Rattle.varisat_analysis.proofs.CountedLevels.{item-snoc, level-flagged, Counts, counts-none, counts-old, counts-new, counts-all, counts-only}
+use Rattle.varisat_analysis.proofs.BumpedVariables.{item-snoc, item-below}
+use Rattle.varisat_analysis.proofs.CountedLevels.{level-is, level-flagged, Counts, counts-none, counts-old, counts-new, counts-all, counts-only}
 use Rattle.varisat_analysis.proofs.glue.flag_levels.Goals as goal
 
 pub loop-lit-init : goal.loop-lit-init
@@ -10,16 +11,16 @@ loop-lit-init g c = record { counts = counts-none (level_in c.args.impl_graph.no
 
 pub level-level-requires : goal.level-level-requires
 level-level-requires g c =
-    let i = c.requires.known c.lit-item.result (item-∈ c.args.lits.now c.loop-lit.lit-index c.lit-item.result c.loop-lit-test.true c.lit-item.is) in
-    omega (arith, i, c.var.ensures)
+    let n = length c.args.impl_graph.now.nodes.items in
+    item-below variable_of c.args.lits.now c.loop-lit.lit-index c.lit-item.result c.var.result n n c.requires.known refl c.loop-lit-test.true c.lit-item.is c.var.ensures
 
 pub bounds-flags-level : goal.bounds-flags-level
 bounds-flags-level g c =
-    level-flagged c.args.impl_graph.now.nodes.items c.args.lits.now c.args.flags.now c.loop-lit.flags c.loop-lit.lit-index c.lit-item.result c.var.result c.level-level.result c.requires.room c.loop-lit-test.true c.lit-item.is c.var.ensures c.level-level.ensures c.loop-lit.auto.flags
+    level-flagged c.args.impl_graph.now.nodes.items c.args.lits.now c.args.flags.now c.loop-lit.flags c.requires.room c.loop-lit.auto.flags c.loop-lit-test.true c.lit-item.is c.var.ensures c.level-level.ensures
 
 pub bounds-flags-level-in-loop-lit : goal.bounds-flags-level-in-loop-lit
 bounds-flags-level-in-loop-lit g c =
-    level-flagged c.args.impl_graph.now.nodes.items c.args.lits.now c.args.flags.now c.loop-lit.flags c.loop-lit.lit-index c.lit-item.result c.var.result c.level-level.result c.requires.room c.loop-lit-test.true c.lit-item.is c.var.ensures c.level-level.ensures c.loop-lit.auto.flags
+    level-flagged c.args.impl_graph.now.nodes.items c.args.lits.now c.args.flags.now c.loop-lit.flags c.requires.room c.loop-lit.auto.flags c.loop-lit-test.true c.lit-item.is c.var.ensures c.level-level.ensures
 
 pub loop-lit-preserved-then-flags-level : goal.loop-lit-preserved-then-flags-level
 loop-lit-preserved-then-flags-level g c =
@@ -27,7 +28,7 @@ loop-lit-preserved-then-flags-level g c =
     let lits = c.args.lits.now in
     let k = c.loop-lit.lit-index in
     let l = c.lit-item.result in
-    let e : c.level-level.result ≡ level_in nodes l = c.level-level.ensures ∙ ap (λ v. (get_or nodes v no_node).level) c.var.ensures in
+    let e = level-is nodes l c.var.result c.level-level.result c.var.ensures c.level-level.ensures in
     let few = c.loop-lit.invariant.few in
     record {
       counts = subst (λ ls. Counts (level_in nodes) ls c.loop-lit.flags c.loop-lit.count) (sym (item-snoc k lits l c.loop-lit-test.true c.lit-item.is))
@@ -42,7 +43,7 @@ loop-lit-preserved g c =
     let k = c.loop-lit.lit-index in
     let l = c.lit-item.result in
     let f = c.loop-lit.flags in
-    let e : c.level-level.result ≡ level_in nodes l = c.level-level.ensures ∙ ap (λ v. (get_or nodes v no_node).level) c.var.ensures in
+    let e = level-is nodes l c.var.result c.level-level.result c.var.ensures c.level-level.ensures in
     let i = c.requires.room l (item-∈ lits k l c.loop-lit-test.true c.lit-item.is) in
     let n = c.loop-lit.auto.flags in
     let few = c.loop-lit.invariant.few in

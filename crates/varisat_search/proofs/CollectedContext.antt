@@ -1,5 +1,5 @@
 -- The contexts of a collection.
-use Rattle.std.proofs.Common.{◌≡◌, ◌*◌, Bool, false, List, [], length, replicate, sym, ap, ◌∙◌, subst}
+use Rattle.std.proofs.Common.{◌≡◌, Bool, false, List, [], length, sym, ap, ◌∙◌}
 use Rattle.varisat_theory.specs.Literals.{Literal}
 use Rattle.varisat_clause.specs.Stored.{StoredClause}
 use Rattle.varisat_clause.specs.Stores.{Store, clauses_of}
@@ -7,14 +7,10 @@ use Rattle.varisat_clause.specs.Databases.{Database, Tracks}
 use Rattle.varisat_clause.specs.Collected.{live_of, live_clauses, packed, IsCollected}
 use Rattle.varisat_clause.proofs.StoreSound.{sound-is}
 use Rattle.varisat_clause.proofs.LiveStore.{live-∈}
-use Rattle.varisat_prop.specs.View.{View, WellFormed, LevelsSettled}
-use Rattle.varisat_prop.specs.Watches.{list_of, IsPropagated}
+use Rattle.varisat_prop.specs.Watches.{list_of}
 use Rattle.varisat_search.specs.declared.context.Context.{Context}
 use Rattle.varisat_search.specs.Contexts.{view, IsReady}
-use Rattle.varisat_search.specs.Decisions.{CanDecide}
 use Rattle.varisat_analysis.specs.Collections.{repointed_each, Repacks}
-use Rattle.varisat_search.proofs.AssumptionContexts.{unmoved-assumed, unmoved-assumable}
-use Rattle.varisat_search.proofs.ClausesExchanged.{exchanged-well, exchanged-settled, exchanged-off, exchanged-decide}
 use Rattle.varisat_search.proofs.PackedClauses.{packed-live, packed-below}
 use Rattle.varisat_search.proofs.RepackedView.{view-repacks, repacks-may}
 use Rattle.varisat_search.proofs.ReadyAfter.{keeps-values, unwatched-ready}

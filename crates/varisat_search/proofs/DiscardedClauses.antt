@@ -32,7 +32,8 @@ use Rattle.varisat_analysis.specs.Reductions.{is_clause_at, is_reason, reason_ma
 use Rattle.varisat_analysis.proofs.SameButHeaders.{headers-trans, headers-place, headers-literals, headers-kept, headers-at, headers-rising, map-same}
 use Rattle.varisat_search.proofs.ClausesExchanged.{SameReason, MayExchange}
 use Rattle.varisat_analysis.proofs.MarkedReasons.{mark-place, mark-held, mark-live, reason-first}
-use Rattle.varisat_analysis.proofs.DeletedPlaces.{filter-∈, ∈-filter, filter-rising, all-placed, deleted-stays, deleted-from, unmarked-∈, live-filter}
+use Rattle.varisat_prop.proofs.SimplifiedPairs.{filter-∈, ∈-filter}
+use Rattle.varisat_analysis.proofs.DeletedPlaces.{filter-rising, all-placed, deleted-stays, deleted-from, unmarked-∈, live-filter}
 
 -- The clauses that are left may stand in place of all.
 module _ (s t : View) (w : WellFormed s) (d : Discards s t) where

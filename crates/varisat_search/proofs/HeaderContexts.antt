@@ -1,15 +1,12 @@
 -- The contexts of calls that change headers of clauses alone.
-use Rattle.std.proofs.Common.{◌≡◌, ◌*◌, Bool, false, length, replicate, sym, ap, ◌∙◌, subst}
+use Rattle.std.proofs.Common.{◌≡◌, Bool, sym, ap, ◌∙◌, subst}
 use Rattle.varisat_clause.specs.Stores.{IsSound}
 use Rattle.varisat_clause.specs.Databases.{Tracks}
 use Rattle.varisat_clause.proofs.StoreSound.{sound-is}
-use Rattle.varisat_prop.specs.View.{View}
 use Rattle.varisat_prop.specs.Watches.{IsPropagated}
 use Rattle.varisat_search.specs.declared.context.Context.{Context}
 use Rattle.varisat_search.specs.Contexts.{view, IsReady}
-use Rattle.varisat_search.specs.Decisions.{CanDecide}
 use Rattle.varisat_analysis.specs.HeaderChanges.{ChangesHeaders}
-use Rattle.varisat_search.proofs.AssumptionContexts.{unmoved-assumed, unmoved-assumable}
 use Rattle.varisat_search.proofs.HeaderChanges.{header-well, header-settled, header-propagated, header-decide}
 use Rattle.varisat_search.proofs.ReadyAfter.{keeps-values, exchanged-ready}
 

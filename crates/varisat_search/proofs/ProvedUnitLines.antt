@@ -16,13 +16,14 @@ use Rattle.varisat_theory.proofs.StepDrops.{units_are_proved}
 use Rattle.varisat_theory.proofs.StepParts.{parts_join}
 use Rattle.varisat_prop.specs.View.{View, IsTrueIn, literal_at, node_of, node_at, level_of, StandsBefore, WellFormed, is_clause}
 use Rattle.varisat_prop.proofs.ViewGrowth.{append-nil}
+use Rattle.varisat_prop.proofs.SimplifiedPairs.{filter-∈}
 use Rattle.varisat_prop.proofs.TrailValues.{trail-true}
 use Rattle.varisat_analysis.specs.Learned.{clause_of}
 use Rattle.varisat_search.specs.Seen.{search_of}
 use Rattle.varisat_search.specs.ProvedUnits.{implied_units, ProvesUnits}
 use Rattle.varisat_search.proofs.DecidableVariables.{true-or-false}
 use Rattle.varisat_search.proofs.ProvedUnits.{unit-node, zero-level, units-well}
-use Rattle.varisat_search.proofs.ViewSearch.{in_filter, no_clause, fixed_from, fixed_to, proved_from, proved_to, seen_clauses}
+use Rattle.varisat_search.proofs.ViewSearch.{no_clause, fixed_from, fixed_to, proved_from, proved_to, seen_clauses}
 use Rattle.varisat_analysis.proofs.WellFormedViews.{reason-kept, reason-first, reason-before}
 
 -- A list in which an element of the filtered one stands, and what of it stands before.
@@ -103,7 +104,7 @@ module _ (s t : View) (w : WellFormed s) (none : s.decisions ≡ []) (d : Proves
     proved-before m (j, h, q) =
         let i : m ∈ split.before = subst (λ x. x ∈ split.before) (sym (ap (λ (xs : List ℕ). get_or xs j 0) split.whole) ∙ q) (before-split split.before (l ∷ split.behind) j h) in
         ⊎_elim
-        (λ c. ∈-append_right m S.proved front (subst (λ xs. m ∈ xs) split.part (in_filter implied split.before m i c)))
+        (λ c. ∈-append_right m S.proved front (subst (λ xs. m ∈ xs) split.part (filter-∈ implied split.before m i c)))
         (λ c. ∈-append_left m S.proved front (proved-already m (subst (λ xs. m ∈ xs) (sym split.whole) (∈-append_left m split.before (l ∷ split.behind) i)) c))
         (true-or-false (implied m))
 
@@ -144,7 +145,7 @@ module _ (s t : View) (w : WellFormed s) (none : s.decisions ≡ []) (d : Proves
   proved-back l h =
       let i : l ∈ s.trail = subst (λ xs. l ∈ xs) (ap (λ (y : View). y.trail) d.rest) (proved_from t (units-well s t w none d) l h).0 in
       ⊎_elim
-      (λ c. ∈-append_right l S.proved (implied_units s) (in_filter implied s.trail l i c))
+      (λ c. ∈-append_right l S.proved (implied_units s) (filter-∈ implied s.trail l i c))
       (λ c. ∈-append_left l S.proved (implied_units s) (proved-already l i c))
       (true-or-false (implied l))
 

@@ -1,5 +1,5 @@
 -- The contexts of `reduce_locals`.
-use Rattle.std.proofs.Common.{◌≡◌, ◌*◌, ◌<◌, false, [], length, replicate, sym, ap, ◌∙◌, subst, arith}
+use Rattle.std.proofs.Common.{◌≡◌, ◌<◌, false, [], length, arith}
 use Rattle.varisat_theory.specs.Membership.{◌∈◌}
 use Rattle.varisat_theory.specs.Literals.{Literal, variable_of}
 use Rattle.varisat_theory.proofs.Places.{∈-get_or}
@@ -7,14 +7,11 @@ use Rattle.varisat_clause.specs.Stored.{StoredClause}
 use Rattle.varisat_clause.proofs.StoredClauses.{literals-∈}
 use Rattle.varisat_prop.proofs.WellFormedChanges.{stored-kept}
 use Rattle.varisat_clause.specs.Databases.{Tracks}
-use Rattle.varisat_prop.specs.View.{View, WellFormed, LevelsSettled}
-use Rattle.varisat_prop.specs.Watches.{list_of, at, IsPropagated}
+use Rattle.varisat_prop.specs.View.{View, WellFormed}
+use Rattle.varisat_prop.specs.Watches.{list_of, at}
 use Rattle.varisat_search.specs.declared.context.Context.{Context}
 use Rattle.varisat_search.specs.Contexts.{view, IsReady}
-use Rattle.varisat_search.specs.Decisions.{CanDecide}
 use Rattle.varisat_analysis.specs.Reductions.{Discards}
-use Rattle.varisat_search.proofs.AssumptionContexts.{unmoved-assumed, unmoved-assumable}
-use Rattle.varisat_search.proofs.ClausesExchanged.{exchanged-well, exchanged-settled, exchanged-off, exchanged-decide}
 use Rattle.varisat_search.proofs.DiscardedClauses.{discards-may}
 use Rattle.varisat_search.proofs.ReadyAfter.{keeps-values, unwatched-ready}
 

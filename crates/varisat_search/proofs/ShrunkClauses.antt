@@ -1,24 +1,14 @@
 -- A clause of a store whose first literals were written and whose others were cut off.
-use Rattle.std.proofs.Common.{◌≡◌, ℕ, false, List, [], ◌∷◌, ◌++◌, length, take, ⊎_elim, refl, sym, ap, ◌∙◌, subst}
+use Rattle.std.proofs.Common.{◌≡◌, ℕ, false, List, ◌++◌, length, take, refl, sym, ap, ◌∙◌, subst}
 use Rattle.std.proofs.Math.Seq.{take-append_seam}
 use Rattle.varisat_theory.specs.Literals.{Clause}
-use Rattle.varisat_theory.proofs.Members.{equal_or_not}
 use Rattle.varisat_clause.specs.Stored.{StoredClause, IsPlace, stored_at, header_at, literals_at, with_clause, with_literals, shortened}
 use Rattle.varisat_clause.specs.Stores.{Store, clauses_of, IsSound, Holds}
 use Rattle.varisat_clause.specs.Filters.{Alters}
-use Rattle.varisat_clause.proofs.StoredClauses.{clause-here, clause-later, clause-same, clause-place, literals-clause, stored-∈}
+use Rattle.varisat_clause.proofs.StoredClauses.{clause-same, clause-place, clause-twice, literals-clause, stored-∈}
 use Rattle.varisat_clause.proofs.StoreSound.{are-long}
 use Rattle.varisat_clause.proofs.DatabaseTracks.{place-is}
 use Rattle.varisat_search.specs.Simplifications.{shortened_to}
-
--- another clause in place of another one
-replaced-twice : (ks : List StoredClause) (p : ℕ) (c j : StoredClause) → c.place ≡ p → with_clause (with_clause ks p c) p j ≡ with_clause ks p j
-replaced-twice [] p c j e = refl
-replaced-twice (k ∷ ks) p c j e =
-    ⊎_elim
-    (λ f. ap (λ xs. with_clause xs p j) (clause-here k ks p c f) ∙ clause-here c ks p j e ∙ sym (clause-here k ks p j f))
-    (λ n. ap (λ xs. with_clause xs p j) (clause-later k ks p c n) ∙ clause-later k (with_clause ks p c) p j n ∙ ap (λ xs. k ∷ xs) (replaced-twice ks p c j e) ∙ sym (clause-later k ks p j n))
-    (equal_or_not k.place p)
 
 -- the header tells how many literals there are
 pub header-length : (s : Store) (p : ℕ) → IsSound s → IsPlace (clauses_of s) p → (header_at (clauses_of s) p).len ≡ length (literals_at (clauses_of s) p)
@@ -53,7 +43,7 @@ module _ (s n : Store) (p : ℕ) (ws left rest : Clause) (ok : IsSound s) (at : 
       record {
         sound = o.sound;
         words = o.words ∙ h.words;
-        clauses = o.clauses ∙ ap (λ xs. with_clause xs p (j (stored_at (clauses_of n) p))) is-written ∙ ap (with_clause (with_clause ks p written) p) (a ∙ d) ∙ replaced-twice ks p written (shortened_to left (stored_at ks p)) (place-is ks p at);
+        clauses = o.clauses ∙ ap (λ xs. with_clause xs p (j (stored_at (clauses_of n) p))) is-written ∙ ap (with_clause (with_clause ks p written) p) (a ∙ d) ∙ clause-twice ks p written (shortened_to left (stored_at ks p)) (place-is ks p at);
       }
 
 -- a clause that was shrunk

@@ -1,7 +1,5 @@
 -- What is fixed and what is proved in a view, as `search_of` lists it.
 use Rattle.std.proofs.Common.{◌≡◌, ℕ, Bool, map, true, false, ◌&&◌, not, nat_eq, List, [], ◌∷◌, ◌++◌, inl, inr, ⊎_elim, sym, ap, ◌∙◌, subst, refl, arith}
-use Rattle.std.specs.Prelude.{cond}
-use Rattle.std.specs.List.{filter}
 use Rattle.varisat_clause.specs.declared.header.Tier.TheVariants as tier
 use Rattle.varisat_clause.specs.Tiers.{is_tier}
 use Rattle.varisat_clause.specs.Headers.{Header}
@@ -17,6 +15,7 @@ use Rattle.varisat_prop.specs.declared.prop.graph.Reason.{Reason}
 use Rattle.varisat_prop.specs.declared.prop.graph.Reason.TheVariants as reason
 use Rattle.varisat_clause.specs.Stored.{StoredClause, literals_of, AreReordered}
 use Rattle.varisat_prop.specs.View.{View, pairs_from, kept, literal_at, node_of, level_of, WellFormed, IsFixed, ViewFits, is_clause}
+use Rattle.varisat_prop.proofs.SimplifiedPairs.{filter-∈, ∈-filter}
 use Rattle.varisat_prop.proofs.TrailValues.{on-trail, trail-true}
 use Rattle.varisat_analysis.proofs.WellFormedViews.{fixed-implied, level-opposite}
 use Rattle.varisat_theory.specs.Searches.{KeptClause, clauses_of, Fits}
@@ -26,28 +25,6 @@ use Rattle.varisat_theory.proofs.SearchFits.{same_front}
 use Rattle.varisat_theory.proofs.StepChanges.{moves_prove}
 use Rattle.varisat_analysis.specs.HeaderChanges.{kept_clause}
 use Rattle.varisat_search.specs.Seen.{kept_pair, is_fixed, is_proved, search_of, IsProved}
-
-pub in_filter : (p : ℕ → Bool) (xs : List ℕ) (x : ℕ) → x ∈ xs → p x ≡ true → x ∈ filter p xs
-in_filter p [] x h e = absurd h
-in_filter p (y ∷ ys) x (inl q) e = go (p y) (ap p (sym q) ∙ e)
-  where
-    go : (b : Bool) → b ≡ true → x ∈ cond b (y ∷ filter p ys) (filter p ys)
-    go true f = inl q
-    go false f = absurd (let z : false ≡ true = f in cc)
-in_filter p (y ∷ ys) x (inr h) e = go (p y) (in_filter p ys x h e)
-  where
-    go : (b : Bool) → x ∈ filter p ys → x ∈ cond b (y ∷ filter p ys) (filter p ys)
-    go true f = inr f
-    go false f = f
-
-pub from_filter : (p : ℕ → Bool) (xs : List ℕ) (x : ℕ) → x ∈ filter p xs → (x ∈ xs) × (p x ≡ true)
-from_filter p [] x h = absurd h
-from_filter p (y ∷ ys) x h = go (p y) refl h (from_filter p ys x)
-  where
-    go : (b : Bool) → p y ≡ b → x ∈ cond b (y ∷ filter p ys) (filter p ys) → (x ∈ filter p ys → (x ∈ ys) × (p x ≡ true)) → (x ∈ (y ∷ ys)) × (p x ≡ true)
-    go true e (inl q) f = (inl q, ap p q ∙ e)
-    go true e (inr i) f = let r = f i in (inr r.0, r.1)
-    go false e i f = let r = f i in (inr r.0, r.1)
 
 is_zero : (n : ℕ) → nat_eq n 0 ≡ true → n ≡ 0
 is_zero n e = grind arith
@@ -67,20 +44,20 @@ no_clause (reason.Long i) e = absurd (let z : false ≡ true = e in cc)
 
 module _ (s : View) (w : WellFormed s) where
   pub fixed_from : (l : Literal) → l ∈ (search_of s).fixed → IsFixed s l
-  fixed_from l h = let (i, e) = from_filter (is_fixed s) s.trail l h in (trail-true s w l i, is_zero (level_of s l) e)
+  fixed_from l h = let (i, e) = ∈-filter (is_fixed s) s.trail l h in (trail-true s w l i, is_zero (level_of s l) e)
 
   pub fixed_to : (l : Literal) → IsFixed s l → l ∈ (search_of s).fixed
-  fixed_to l (t, z) = in_filter (is_fixed s) s.trail l (on-trail s w l t) (zero_is (level_of s l) z)
+  fixed_to l (t, z) = filter-∈ (is_fixed s) s.trail l (on-trail s w l t) (zero_is (level_of s l) z)
 
   pub proved_from : (l : Literal) → l ∈ (search_of s).proved → IsProved s l
   proved_from l h =
-      let (i, e) = from_filter (is_proved s) s.trail l h in
+      let (i, e) = ∈-filter (is_proved s) s.trail l h in
       let (a, b) = both (nat_eq (level_of s l) 0) (not (is_clause (node_of s l).reason)) e in
       (i, is_zero (level_of s l) a, no_clause (node_of s l).reason b)
 
   pub proved_to : (l : Literal) → IsProved s l → l ∈ (search_of s).proved
   proved_to l (i, z, r) =
-      in_filter (is_proved s) s.trail l i (ap (λ b. b && not (is_clause (node_of s l).reason)) (zero_is (level_of s l) z) ∙ ap (λ x. not (is_clause x)) r)
+      filter-∈ (is_proved s) s.trail l i (ap (λ b. b && not (is_clause (node_of s l).reason)) (zero_is (level_of s l) z) ∙ ap (λ x. not (is_clause x)) r)
 
 -- the headers aside
 pub seen_pairs : (ps : List Clause) → clauses_of (map kept_pair ps) ≡ ps

@@ -18,16 +18,17 @@ bump_each_once-requires-clause-may g c =
     let f : length x.tmp_flags.flags.items ≡ 2 * length x.assignment.current = ap (λ xs. length xs) r.flags ∙ length-replicate (2 * length x.assignment.current) false in
     let v = ap (λ xs. length xs) c.deref_mut.ensures.value in
     record {
-      known = λ l i.
-          let (k, h, j) = among-kept (view x) r.well x.analyze_conflict.involved l c.requires.named (subst (λ ps. l ∈ literals_among (live_clauses x.clause_alloc) ps) c.involved.ensures i) in
-          let w = r.well.in_range k h l j in
-          omega (arith, w, n);
-      flags = omega (arith, n, f, v);
-      activity = r.decidable.entries.activity ∙ sym n;
+      sound = is-sound x.clause_alloc r.well.sound;
+      may = record {
+        known = λ l i.
+            let (k, h, j) = among-kept (view x) r.well x.analyze_conflict.involved l c.requires.named (subst (λ ps. l ∈ literals_among (live_clauses x.clause_alloc) ps) c.involved.ensures i) in
+            let w = r.well.in_range k h l j in
+            omega (arith, w, n);
+        flags = omega (arith, n, f, v);
+        activity = r.decidable.entries.activity ∙ sym n;
+      };
+      named = λ p h. named-place (view x) p (c.requires.named p (subst (λ ps. p ∈ ps) c.involved.ensures h));
     }
-
-pub bump_each_once-requires-clause-named : goal.bump_each_once-requires-clause-named
-bump_each_once-requires-clause-named g c p h = named-place (view c.args.ctx.now) p (c.requires.named p (subst (λ ps. p ∈ ps) c.involved.ensures h))
 
 pub bump_each_once-requires-clause-clear : goal.bump_each_once-requires-clause-clear
 bump_each_once-requires-clause-clear g c v =
@@ -77,6 +78,3 @@ returns-then-current_level-eq0-clause-bumps g c h = let l = c.current_level.ensu
 
 pub returns-then-current_level-eq0-clause-entries : goal.returns-then-current_level-eq0-clause-entries
 returns-then-current_level-eq0-clause-entries g c = c.requires.ready.decidable.entries
-
-pub bump_each_once-requires-clause-sound : goal.bump_each_once-requires-clause-sound
-bump_each_once-requires-clause-sound g c = is-sound c.args.ctx.now.clause_alloc c.requires.ready.well.sound

@@ -3,10 +3,4 @@
 #![tactic(auto)]
 
 #[cfg(test)]
-mod formulas;
-#[cfg(test)]
-mod literals;
-#[cfg(test)]
-mod targets;
-#[cfg(test)]
-mod texts;
+mod tests;

@@ -4,16 +4,4 @@
 #![tactic(auto)]
 
 #[cfg(test)]
-mod assumptions;
-#[cfg(test)]
-mod calls;
-#[cfg(test)]
-mod lines;
-#[cfg(test)]
-mod memory;
-#[cfg(test)]
-mod programs;
-#[cfg(test)]
-mod readers;
-#[cfg(test)]
-mod texts;
+mod tests;

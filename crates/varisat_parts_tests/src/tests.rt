@@ -1,0 +1,13 @@
+//! The tests, a file for each subject.
+
+mod checker;
+mod clause;
+mod filters;
+mod heap;
+mod names;
+mod pairs;
+mod parts;
+mod schedule;
+mod settings;
+mod variables;
+mod watches;

@@ -1,0 +1,12 @@
+//! The tests, a file for each subject.
+
+mod assuming;
+mod decisions;
+mod levels;
+mod loading;
+mod reductions;
+mod searches;
+mod simplifying;
+mod steps;
+mod tiers;
+mod watching;

@@ -1,0 +1,99 @@
+//! Clauses that are loaded.
+ghost use Rattle.std.specs.Prelude.{◌≤◌, OnOk};
+ghost use Rattle.varisat_search.specs.Contexts.{IsReady};
+ghost use Rattle.varisat_literals.specs.Numbers.{variable_limit};
+
+use super::searches::{load, loaded};
+use std::alloc::{Allocator, Global};
+use varisat_literals::{Lit, lit, lits};
+use varisat_prop::clause::StoreError;
+use varisat_search::context::Context;
+use varisat_search::state::SatState;
+
+/// Loads the clause, and returns how many literals are true then.
+fn true_after<A: Allocator + Copy>(
+    ctx: &mut Context<A>,
+    clause: &[Lit],
+) -> Result<usize, StoreError>
+    requires { IsReady ctx.old }
+    ensures { OnOk result (IsReady ctx.new) }
+{
+    load(ctx, clause)?;
+    Ok(ctx.trail.trail().len())
+}
+
+/// Loads units and a tautology, and returns how many literals are true after each.
+fn true_after_each<A: Allocator + Copy>(ctx: &mut Context<A>) -> Result<[usize; 4], StoreError>
+    requires { IsReady ctx.old }
+    ensures { OnOk result (IsReady ctx.new) }
+{
+    let first = true_after(ctx, &lits![1])?;
+    let tautology = true_after(ctx, &lits![3, -3])?;
+    let second = true_after(ctx, &lits![-2])?;
+    let again = true_after(ctx, &lits![1, 1])?;
+    Ok([first, tautology, second, again])
+}
+
+/// The counts after each, those after the opposite of a unit, and the verdicts before and after that.
+fn verdicts<A: Allocator + Copy>(
+    ctx: &mut Context<A>,
+) -> Result<([usize; 4], SatState, usize, SatState), StoreError>
+    requires { IsReady ctx.old }
+{
+    let counts = true_after_each(ctx)?;
+    let before = ctx.solver_state.sat_state;
+    let count = true_after(ctx, &lits![2])?;
+    Ok((counts, before, count, ctx.solver_state.sat_state))
+}
+
+fn verdicts_on_units(alloc: Global) -> Result<([usize; 4], SatState, usize, SatState), StoreError> {
+    let mut ctx = loaded(alloc, 3, &[])?;
+    verdicts(&mut ctx)
+}
+
+#[test]
+fn units(rt: HostRuntime) -> Result<(), StoreError> {
+    let wanted = ([1, 1, 2, 2], SatState::Unknown, 2, SatState::Unsat);
+    assert!(rt; verdicts_on_units(rt.alloc())? == wanted);
+    Ok(())
+}
+
+/// How many of the clauses are stored.
+fn count_stored(alloc: Global, count: usize, clauses: &[&[Lit]]) -> Result<usize, StoreError>
+    requires { count ≤ variable_limit }
+{
+    let ctx = loaded(alloc, count, clauses)?;
+    Ok(ctx.clause_alloc.len())
+}
+
+/// Whether the literal implies just these by clauses of two literals.
+fn implies<A: Allocator + Copy>(ctx: &Context<A>, lit: Lit, wanted: &[Lit]) -> bool {
+    lit.code() < ctx.binary_clauses.len() && ctx.binary_clauses.implied(lit) == wanted
+}
+
+/// Whether two clauses of two literals are listed by these, and stored nowhere else.
+fn are_listed(alloc: Global) -> Result<bool, StoreError> {
+    let clauses: &[&[Lit]] = &[&lits![1, 2], &lits![-1, 3, 3], &lits![4, -4]];
+    let ctx = loaded(alloc, 4, clauses)?;
+    Ok(
+        ctx.clause_alloc.len() == 0
+            && implies(&ctx, lit!(-1), &lits![2])
+            && implies(&ctx, lit!(-2), &lits![1])
+            && implies(&ctx, lit!(1), &lits![3])
+            && implies(&ctx, lit!(-3), &lits![-1])
+            && implies(&ctx, lit!(4), &[]),
+    )
+}
+
+#[test]
+fn clauses_of_two_literals(rt: HostRuntime) -> Result<(), StoreError> {
+    assert!(rt; are_listed(rt.alloc())?);
+    Ok(())
+}
+
+#[test]
+fn clauses_of_three_literals(rt: HostRuntime) -> Result<(), StoreError> {
+    let clauses: &[&[Lit]] = &[&lits![1, 2, 3], &lits![-2, 3, 3, 4], &lits![4, -5, 5, 2]];
+    assert!(rt; count_stored(rt.alloc(), 5, clauses)? == 2);
+    Ok(())
+}

@@ -1,0 +1,120 @@
+//! Searches that reduce their learned clauses before each step.
+ghost use Rattle.std.specs.Prelude.{◌<◌, OnOk};
+ghost use Rattle.varisat_search.specs.Contexts.{IsReady};
+
+use super::searches::{load, loaded};
+use linked_list_allocator::LocalHeap;
+use std::alloc::Allocator;
+use std::test::Fail;
+use varisat_literals::Lit;
+use varisat_names::config::SolverConfigUpdate;
+use varisat_prop::clause::StoreError;
+use varisat_search::context::Context;
+use varisat_search::schedule::schedule_step;
+use varisat_search::state::SatState;
+
+/// The verdict after so many steps or fewer, before each of which clauses are reduced.
+fn verdict_after<A: Allocator + Copy>(
+    ctx: &mut Context<A>,
+    count: usize,
+) -> Result<SatState, StoreError>
+    requires { IsReady ctx.old }
+{
+    let mut update = SolverConfigUpdate::new();
+    update.reduce_locals_interval = Some(1);
+    update.reduce_mids_interval = Some(1);
+    if ctx.config_changed(&update).is_err() {
+        return Ok(SatState::Unknown);
+    }
+    'steps: for _step in 0..count {
+        let SatState::Unknown = ctx.solver_state.sat_state else {
+            break;
+        };
+        if ctx.schedule.steps() == u64::MAX {
+            break;
+        }
+        schedule_step(ctx)?;
+    }
+    Ok(ctx.solver_state.sat_state)
+}
+
+/// The literal that says of one of five pigeons that it is in one of four holes.
+fn in_hole(pigeon: usize, hole: usize) -> Lit
+    requires pigeon { pigeon < 5 }
+    requires hole { hole < 4 }
+{
+    Lit::from_index(4 * pigeon + hole, true)
+}
+
+/// Loads that no two pigeons are in the hole.
+fn keep_apart<A: Allocator + Copy>(ctx: &mut Context<A>, hole: usize) -> Result<(), StoreError>
+    requires ready { IsReady ctx.old }
+    requires hole { hole < 4 }
+    ensures { OnOk result (IsReady ctx.new) }
+{
+    for first in 0..5 {
+        for second in first + 1..5 {
+            load(ctx, &[!in_hole(first, hole), !in_hole(second, hole)])?;
+        }
+    }
+    Ok(())
+}
+
+/// Loads that each pigeon is in a hole, and no two are in one.
+fn load_pigeons<A: Allocator + Copy>(ctx: &mut Context<A>) -> Result<(), StoreError>
+    requires { IsReady ctx.old }
+    ensures { OnOk result (IsReady ctx.new) }
+{
+    for pigeon in 0..5 {
+        let holes = [
+            in_hole(pigeon, 0),
+            in_hole(pigeon, 1),
+            in_hole(pigeon, 2),
+            in_hole(pigeon, 3),
+        ];
+        load(ctx, &holes)?;
+    }
+    for hole in 0..4 {
+        keep_apart(ctx, hole)?;
+    }
+    Ok(())
+}
+
+/// The verdict on the pigeons, which don't fit.
+fn verdict_on_pigeons<A: Allocator + Copy>(ctx: &mut Context<A>) -> Result<SatState, StoreError>
+    requires { IsReady ctx.old }
+{
+    load_pigeons(ctx)?;
+    let verdict = verdict_after(ctx, 2000)?;
+    Ok(verdict)
+}
+
+fn refute_pigeons<A: Allocator + Copy>(alloc: A) -> Result<SatState, StoreError> {
+    let mut ctx = loaded(alloc, 20, &[])?;
+    let verdict = verdict_on_pigeons(&mut ctx)?;
+    Ok(verdict)
+}
+
+#[test]
+fn refuted_with_reductions(rt: HostRuntime) -> Result<(), Fail> {
+    assert_eq!(rt; refute_pigeons(rt.alloc())?, SatState::Unsat);
+    Ok(())
+}
+
+#[test]
+fn each_growth_of_a_reduction_may_be_refused(rt: HostRuntime) -> Result<(), Fail> {
+    let mut refuted = false;
+    let mut refused = false;
+    for room in 0..160 {
+        let heap = LocalHeap::new(rt.alloc(), 128 * room)?;
+        match refute_pigeons(&heap) {
+            Ok(verdict) => {
+                assert_eq!(rt; verdict, SatState::Unsat, "with {room}");
+                refuted = true;
+            }
+            Err(_) => refused = true,
+        }
+    }
+    assert!(rt; refuted && refused);
+    Ok(())
+}

@@ -1,0 +1,209 @@
+//! Glue, tiers and activities of clauses, as conflicts leave them.
+ghost use Rattle.std.specs.Prelude.{◌<◌, ◌≤◌, OnOk, IfOk};
+ghost use Rattle.varisat_search.specs.Contexts.{IsReady};
+ghost use Rattle.varisat_literals.specs.Numbers.{variable_limit};
+
+use super::searches::{loaded, prefer_lower_true, step};
+use linked_list_allocator::LocalHeap;
+use std::alloc::{AllocError, Allocator, Global};
+use varisat_literals::{Lit, lits};
+use varisat_prop::clause::{ClauseHeader, StoreError, Tier};
+use varisat_search::context::Context;
+
+/// The header of the stored clause with the index.
+fn header_of<A: Allocator + Copy>(ctx: &Context<A>, index: usize) -> Option<ClauseHeader>
+    requires { IsReady ctx.now }
+{
+    if index >= ctx.clause_alloc.len() {
+        return None;
+    }
+    Some(ctx.clause_alloc.header(ctx.clause_alloc.place(index)))
+}
+
+/// The tier, the glue and whether it is active of the stored clause with the index.
+fn notes_of<A: Allocator + Copy>(ctx: &Context<A>, index: usize) -> Option<(Tier, usize, bool)>
+    requires { IsReady ctx.now }
+{
+    let header = header_of(ctx, index)?;
+    Some((header.tier(), header.glue(), header.active()))
+}
+
+/// Makes a step whose decisions make variables true, the lowest first.
+fn step_down<A: Allocator + Copy>(ctx: &mut Context<A>) -> Result<(), StoreError>
+    requires { IsReady ctx.old }
+    ensures { OnOk result (IsReady ctx.new) }
+{
+    prefer_lower_true(ctx);
+    step(ctx)?;
+    Ok(())
+}
+
+/// What is noted of the third clause, which the first step learns from the two. Its decisions make variables true, the
+/// lowest first.
+fn learned_notes<A: Allocator + Copy>(
+    alloc: A,
+    count: usize,
+    clauses: &[&[Lit]],
+) -> Result<Option<(Tier, usize, bool)>, StoreError>
+    requires { count ≤ variable_limit }
+{
+    let mut ctx = loaded(alloc, count, clauses)?;
+    step_down(&mut ctx)?;
+    let notes = notes_of(&ctx, 2);
+    Ok(notes)
+}
+
+// 1 implies 2 and 3, so that the clause of 2, 3 and 4 has two levels.
+#[test]
+fn two_levels(rt: HostRuntime) -> Result<(), StoreError> {
+    let clauses: &[&[Lit]] = &[
+        &lits![-1, 2],
+        &lits![-1, 3],
+        &lits![-2, -3, -4, 5],
+        &lits![-2, -3, -4, -5],
+    ];
+    let notes = learned_notes(rt.alloc(), 5, clauses)?;
+    assert!(rt; notes == Some((Tier::Core, 1, false)));
+    Ok(())
+}
+
+/// The clause that one of the first variables is false or the literal true.
+fn implies_last<A: Allocator + Copy>(
+    alloc: A,
+    count: usize,
+    last: Lit,
+) -> Result<Vec<Lit, A>, AllocError>
+    requires { count < variable_limit }
+{
+    let mut lits = Vec::new(alloc);
+    for index in 0..count {
+        lits.push(Lit::from_index(index, false))?;
+    }
+    lits.push(last)?;
+    Ok(lits)
+}
+
+/// What is noted of the clause learned from so many variables, which imply the next one and its opposite. Each is
+/// decided at a level of its own.
+fn notes_of_levels(alloc: Global, count: usize) -> Result<Option<(Tier, usize, bool)>, StoreError>
+    requires { count < variable_limit }
+{
+    let last = Lit::from_index(count, true);
+    let first = implies_last(alloc, count, last)?;
+    let second = implies_last(alloc, count, !last)?;
+    let notes = learned_notes(alloc, count + 1, &[&first, &second])?;
+    Ok(notes)
+}
+
+#[test]
+fn more_levels(rt: HostRuntime) -> Result<(), StoreError> {
+    assert!(rt; notes_of_levels(rt.alloc(), 3)? == Some((Tier::Core, 2, false)));
+    assert!(rt; notes_of_levels(rt.alloc(), 4)? == Some((Tier::Mid, 3, false)));
+    assert!(rt; notes_of_levels(rt.alloc(), 7)? == Some((Tier::Mid, 6, false)));
+    assert!(rt; notes_of_levels(rt.alloc(), 8)? == Some((Tier::Local, 7, false)));
+    Ok(())
+}
+
+/// Makes two such steps.
+fn step_twice<A: Allocator + Copy>(ctx: &mut Context<A>) -> Result<(), StoreError>
+    requires { IsReady ctx.old }
+    ensures { OnOk result (IsReady ctx.new) }
+{
+    step_down(ctx)?;
+    step(ctx)?;
+    Ok(())
+}
+
+/// Two steps: the first learns -4 -3 -2 -1, and at the second conflict this is the reason of -4 at the level of 3.
+fn two_conflicts<A: Allocator + Copy>(alloc: A) -> Result<Context<A>, StoreError>
+    ensures { IfOk result (λ ctx. IsReady ctx) }
+{
+    let clauses: &[&[Lit]] = &[
+        &lits![-1, -2, -3, -4, 5],
+        &lits![-1, -2, -3, -4, -5],
+        &lits![4, -3, 6],
+        &lits![4, -3, -6],
+    ];
+    let mut ctx = loaded(alloc, 6, clauses)?;
+    step_twice(&mut ctx)?;
+    Ok(ctx)
+}
+
+/// Whether the user's four clauses are active, and the two learned ones are of the tier Core, of which the first took
+/// part in a conflict.
+fn are_noted<A: Allocator + Copy>(ctx: &Context<A>) -> bool
+    requires { IsReady ctx.now }
+{
+    for index in 0..4 {
+        if notes_of(ctx, index) != Some((Tier::Irred, 0, true)) {
+            return false;
+        }
+    }
+    notes_of(ctx, 4) == Some((Tier::Core, 2, true))
+        && notes_of(ctx, 5) == Some((Tier::Core, 2, false))
+}
+
+/// Whether so many clauses are of the tiers Irred, Core and Mid.
+fn are_counted<A: Allocator + Copy>(ctx: &Context<A>) -> bool {
+    ctx.clause_db.count_by_tier(Tier::Irred) == 4
+        && ctx.clause_db.count_by_tier(Tier::Core) == 2
+        && ctx.clause_db.count_by_tier(Tier::Mid) == 0
+}
+
+fn lowers_glue<A: Allocator + Copy>(alloc: A) -> Result<bool, StoreError> {
+    let ctx = two_conflicts(alloc)?;
+    let is_lowered = are_noted(&ctx) && are_counted(&ctx);
+    Ok(is_lowered)
+}
+
+// The learned clause had four levels and has three now. Clauses of the user took part too.
+#[test]
+fn lower_glue(rt: HostRuntime) -> Result<(), StoreError> {
+    assert!(rt; lowers_glue(rt.alloc())?);
+    Ok(())
+}
+
+/// Whether these are the activities of the clauses.
+fn have_activities<A: Allocator + Copy>(ctx: &Context<A>, wanted: &[u32]) -> bool
+    requires { IsReady ctx.now }
+{
+    for index in 0..wanted.len() {
+        let activity = header_of(ctx, index).map(|header| header.activity());
+        if activity != Some(wanted[index]) {
+            return false;
+        }
+    }
+    true
+}
+
+fn raises_activities(alloc: Global) -> Result<bool, StoreError> {
+    let ctx = two_conflicts(alloc)?;
+    let is_raised = have_activities(&ctx, &[1024, 1024, 1025, 1025, 1025, 0])
+        && ctx.clause_activity.increment() == 1026;
+    Ok(is_raised)
+}
+
+// A bump adds 1024 at the first conflict, and 1024000 / 999 at the second.
+#[test]
+fn activities(rt: HostRuntime) -> Result<(), StoreError> {
+    assert!(rt; raises_activities(rt.alloc())?);
+    Ok(())
+}
+
+#[test]
+fn each_growth_may_be_refused(rt: HostRuntime) -> Result<(), StoreError> {
+    let mut lowered = false;
+    let mut refused = false;
+    for room in 0..200 {
+        let heap = LocalHeap::new(rt.alloc(), 16 * room)?;
+        match lowers_glue(&heap) {
+            Ok(right) => {
+                assert!(rt; right, "with {room}");
+                lowered = true;
+            }
+            Err(_) => refused = true,
+        }
+    }
+    assert!(rt; lowered && refused);
+    Ok(())
+}

@@ -1,0 +1,220 @@
+//! Which clauses are watched by which literals, and what propagation at level 0 comes to by that.
+ghost use Rattle.std.specs.Prelude.{OnOk};
+ghost use Rattle.varisat_search.specs.Contexts.{IsReady};
+
+use super::searches::loaded;
+use linked_list_allocator::LocalHeap;
+use std::alloc::{Allocator, Global};
+use varisat_literals::{Lit, lit, lits};
+use varisat_prop::clause::{ClauseRef, StoreError};
+use varisat_prop::prop::{Conflict, Reason, Watchlists, enable_watchlists, propagate};
+use varisat_search::context::Context;
+
+/// Clauses over four variables, how propagation over them ends, which literals are true then, why the last of them is,
+/// and at which places the clauses stand that literals watch.
+#[derive(Drop)]
+struct Row<'a> {
+    clauses: &'a [&'a [Lit]],
+    end: Result<(), Conflict>,
+    trail: &'a [Lit],
+    reason: Reason,
+    watched: &'a [(Lit, &'a [usize])],
+}
+
+/// Takes out all watches, and watches the clauses by their first two literals anew.
+fn rebuild<A: Allocator + Copy>(ctx: &mut Context<A>) -> Result<(), StoreError>
+    requires { IsReady ctx.old }
+    ensures { OnOk result (IsReady ctx.new) }
+{
+    ctx.watchlists.disable();
+    enable_watchlists(&mut ctx.watchlists, &ctx.clause_alloc)?;
+    Ok(())
+}
+
+/// Whether the literal watches the clauses at these places, and no other.
+fn watches<A: Allocator + Copy>(lists: &mut Watchlists<A>, lit: Lit, places: &[usize]) -> bool {
+    if lists.len() <= lit.code() {
+        return false;
+    }
+    let list = lists.watched_by_mut(lit);
+    for (watch, place) in list.iter().zip(places) {
+        if watch.cref.offset() != *place {
+            return false;
+        }
+    }
+    list.len() == places.len()
+}
+
+/// Whether these literals watch the clauses at these places.
+fn watch<A: Allocator + Copy>(lists: &mut Watchlists<A>, watched: &[(Lit, &[usize])]) -> bool {
+    for pair in watched {
+        let (literal, places) = *pair;
+        if !watches(lists, literal, places) {
+            return false;
+        }
+    }
+    true
+}
+
+/// Whether the variable of the last true literal was assigned for the reason.
+fn is_reason<A: Allocator + Copy>(ctx: &Context<A>, reason: Reason) -> bool {
+    let Some(last) = ctx.trail.trail().last() else {
+        return false;
+    };
+    match ctx.impl_graph.nodes.get(last.index()) {
+        Some(node) => node.reason == reason,
+        None => false,
+    }
+}
+
+/// Whether propagation comes to what the row says. It ends only where each literal was propagated.
+fn comes_to<A: Allocator + Copy>(ctx: &mut Context<A>, row: &Row) -> Result<bool, StoreError>
+    requires { IsReady ctx.old }
+{
+    let end = propagate(
+        &mut ctx.assignment,
+        &mut ctx.clause_alloc,
+        &mut ctx.impl_graph,
+        &mut ctx.trail,
+        &ctx.binary_clauses,
+        &mut ctx.watchlists,
+    )?;
+    Ok(
+        end == row.end
+            && ctx.trail.fully_propagated() == row.end.is_ok()
+            && ctx.trail.trail() == row.trail
+            && is_reason(ctx, row.reason)
+            && watch(&mut ctx.watchlists, row.watched),
+    )
+}
+
+/// Whether clauses are watched by their first two literals, and propagation comes to what the row says.
+fn is_right<A: Allocator + Copy>(
+    ctx: &mut Context<A>,
+    row: &Row,
+    is_rebuilt: bool,
+) -> Result<bool, StoreError>
+    requires { IsReady ctx.old }
+{
+    if is_rebuilt {
+        rebuild(ctx)?;
+    }
+    let is_right = comes_to(ctx, row)?;
+    Ok(is_right)
+}
+
+/// Whether the row is right, whether or not the clauses are watched anew before.
+fn holds<A: Allocator + Copy>(alloc: A, row: &Row, is_rebuilt: bool) -> Result<bool, StoreError> {
+    let mut ctx = loaded(alloc, 4, row.clauses)?;
+    let is_right = is_right(&mut ctx, row, is_rebuilt)?;
+    Ok(is_right)
+}
+
+fn holds_always(alloc: Global, row: &Row) -> Result<bool, StoreError> {
+    Ok(holds(alloc, row, false)? && holds(alloc, row, true)?)
+}
+
+// 1 is false, so that 3 takes its place beside 2.
+#[test]
+fn a_watch_moves(rt: HostRuntime) -> Result<(), StoreError> {
+    let row = Row {
+        clauses: &[&lits![1, 2, 3], &lits![-1]],
+        end: Ok(()),
+        trail: &lits![-1],
+        reason: Reason::Unit,
+        watched: &[(lit!(-1), &[]), (lit!(-2), &[0]), (lit!(-3), &[0])],
+    };
+    assert!(rt; holds_always(rt.alloc(), &row)?);
+    Ok(())
+}
+
+// 2 is true as 1 becomes false, so that the clause stays as it is.
+#[test]
+fn a_true_clause_stays(rt: HostRuntime) -> Result<(), StoreError> {
+    let row = Row {
+        clauses: &[&lits![1, 2, 3], &lits![2], &lits![-1]],
+        end: Ok(()),
+        trail: &lits![2, -1],
+        reason: Reason::Unit,
+        watched: &[(lit!(-1), &[0]), (lit!(-2), &[0]), (lit!(-3), &[])],
+    };
+    assert!(rt; holds_always(rt.alloc(), &row)?);
+    Ok(())
+}
+
+#[test]
+fn the_last_literal_is_implied(rt: HostRuntime) -> Result<(), StoreError> {
+    let row = Row {
+        clauses: &[&lits![1, 2, 3], &lits![-1], &lits![-2]],
+        end: Ok(()),
+        trail: &lits![-1, -2, 3],
+        reason: Reason::Long(ClauseRef::from_offset(0)),
+        watched: &[(lit!(-1), &[]), (lit!(-2), &[0]), (lit!(-3), &[0])],
+    };
+    assert!(rt; holds_always(rt.alloc(), &row)?);
+    Ok(())
+}
+
+/// Whether a clause is found false that comes behind one that implied a literal. Both watch 2, which was not propagated
+/// to its end, and go on watching it.
+fn is_conflict_found<A: Allocator + Copy>(alloc: A, is_rebuilt: bool) -> Result<bool, StoreError> {
+    let row = Row {
+        clauses: &[
+            &lits![1, 2, 4],
+            &lits![-2, 3, 4],
+            &lits![-2, -3, 4],
+            &lits![-4],
+            &lits![-1],
+        ],
+        end: Err(Conflict::Long(ClauseRef::from_offset(12))),
+        trail: &lits![-4, -1, 2, 3],
+        reason: Reason::Long(ClauseRef::from_offset(6)),
+        watched: &[
+            (lit!(-1), &[0]),
+            (lit!(-2), &[0]),
+            (lit!(2), &[6, 12]),
+            (lit!(-3), &[6]),
+            (lit!(3), &[12]),
+        ],
+    };
+    holds(alloc, &row, is_rebuilt)
+}
+
+#[test]
+fn the_false_clause_is_told(rt: HostRuntime) -> Result<(), StoreError> {
+    assert!(rt; is_conflict_found(rt.alloc(), false)?);
+    assert!(rt; is_conflict_found(rt.alloc(), true)?);
+    Ok(())
+}
+
+// Clauses of two literals are not watched. 2 implies 3 and -3, in the order of adding.
+#[test]
+fn a_false_clause_of_two_is_told(rt: HostRuntime) -> Result<(), StoreError> {
+    let row = Row {
+        clauses: &[&lits![1, 2], &lits![-2, 3], &lits![-2, -3], &lits![-1]],
+        end: Err(Conflict::Binary([lit!(-3), lit!(-2)])),
+        trail: &lits![-1, 2, 3],
+        reason: Reason::Binary([lit!(-2)]),
+        watched: &[(lit!(-1), &[]), (lit!(-2), &[]), (lit!(2), &[])],
+    };
+    assert!(rt; holds_always(rt.alloc(), &row)?);
+    Ok(())
+}
+
+#[test]
+fn each_growth_of_lists_may_be_refused(rt: HostRuntime) -> Result<(), StoreError> {
+    let mut found = false;
+    let mut refused = false;
+    for room in 0..220 {
+        let heap = LocalHeap::new(rt.alloc(), 16 * room)?;
+        match is_conflict_found(&heap, true) {
+            Ok(right) => {
+                assert!(rt; right, "with {room}");
+                found = true;
+            }
+            Err(_) => refused = true,
+        }
+    }
+    assert!(rt; found && refused);
+    Ok(())
+}

@@ -1,0 +1,9 @@
+//! The tests, a file for each subject.
+
+mod assumptions;
+mod calls;
+mod lines;
+mod memory;
+mod programs;
+mod readers;
+mod texts;

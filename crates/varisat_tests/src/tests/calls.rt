@@ -1,0 +1,186 @@
+//! Lists of calls with their answers, and the texts of refusals.
+ghost use Rattle.std.specs.Prelude.{◌≡◌, [], IfSome, OnOk};
+ghost use Rattle.varisat.specs.Runs.{AreReadable};
+
+use super::readers::{Pieces, in_pieces};
+use std::alloc::{AllocError, Global};
+use std::io::{self, Write};
+use varisat::line::write_answer;
+use varisat::session::{Answer, Call, answers_of, run};
+use varisat::solver::{Solver, SolverError};
+use varisat_formula::cnf_formula;
+use varisat_formula::dimacs::{DimacsError, DimacsErrorKind};
+use varisat_formula::formula::{CnfFormula, Lit};
+use varisat_formula::io::{MemoryTarget, ReadSource};
+use varisat_literals::lits;
+use varisat_names::config::{ConfigField, SolverConfigUpdate};
+
+// A call on a text.
+type TextCall = Call<ReadSource<Pieces>, Global>;
+
+// An answer of such a call.
+type TextAnswer = Answer<MemoryTarget<Global>, ReadSource<Pieces>, Global>;
+
+// Writes a line for each answer.
+fn write_answers(out: &mut Vec<u8>, answers: &[TextAnswer]) -> io::Result<()> {
+    for answer in answers {
+        write_answer(out, answer)?;
+        out.write_all(b"\n")?;
+    }
+    Ok(())
+}
+
+// Whether the answers are these lines.
+fn are_lines(alloc: Global, answers: &[TextAnswer], wanted: &[u8]) -> bool {
+    let mut out = Vec::new(alloc);
+    let is_written = write_answers(&mut out, answers).is_ok();
+    is_written & (out.as_slice() == wanted)
+}
+
+// Adds a small session: a clause, a formula, a text that breaks off, a variable, the settings, the question, the steps,
+// the model, the flag, and the end of a proof that is not open.
+fn push_calls(
+    calls: &mut Vec<TextCall>,
+    clause: Vec<Lit>,
+    formula: CnfFormula<Global>,
+) -> Result<(), AllocError>
+    requires { calls.old.items ≡ [] }
+    ensures { OnOk result (AreReadable (λ s. s) calls.new.items) }
+{
+    calls.push(Call::AddClause(clause))?;
+    calls.push(Call::AddFormula(formula))?;
+    let text = in_pieces(b"6 0\n-2 0\n2", 3, false);
+    calls.push(Call::AddDimacsCnf(ReadSource::new(text)))?;
+    calls.push(Call::NewVar)?;
+    calls.push(Call::Config(SolverConfigUpdate::one(ConfigField::MaxSteps, 1)))?;
+    calls.push(Call::Solve)?;
+    calls.push(Call::Steps)?;
+    calls.push(Call::Model)?;
+    calls.push(Call::IsValid)?;
+    calls.push(Call::CloseProof)?;
+    Ok(())
+}
+
+fn calls(alloc: Global) -> Option<Vec<TextCall>>
+    ensures { IfSome result (λ calls. AreReadable (λ s. s) calls.items) }
+{
+    let clause = Vec::from_slice(alloc, &lits![3, -1]).ok()?;
+    let formula = cnf_formula!(in alloc; 4, -1; -5;).ok()?;
+    let mut calls = Vec::new(alloc);
+    push_calls(&mut calls, clause, formula).ok()?;
+    Some(calls)
+}
+
+// An update of which two settings are out of range.
+fn bad_update() -> SolverConfigUpdate {
+    let mut update = SolverConfigUpdate::new();
+    update.max_steps = Some(0);
+    update.luby_restart_interval_scale = Some(0);
+    update.vsids_decay = Some(1000);
+    update
+}
+
+// Adds a session of refusals: a text with a fault in its middle and a good one, a formula with a name past the limit
+// and settings out of range. What stands before a fault stays, and refused settings change nothing, so the budget is
+// not spent.
+fn push_refused_calls(
+    calls: &mut Vec<TextCall>,
+    formula: CnfFormula<Global>,
+) -> Result<(), AllocError>
+    requires { calls.old.items ≡ [] }
+    ensures { OnOk result (AreReadable (λ s. s) calls.new.items) }
+{
+    let fault = in_pieces(b"1 0 x 2 0", 3, false);
+    calls.push(Call::AddDimacsCnf(ReadSource::new(fault)))?;
+    let comment = in_pieces(b"c a comment\n-1 3 0 \n", 3, false);
+    calls.push(Call::AddDimacsCnf(ReadSource::new(comment)))?;
+    calls.push(Call::Solve)?;
+    calls.push(Call::Model)?;
+    calls.push(Call::AddFormula(formula))?;
+    calls.push(Call::Config(bad_update()))?;
+    calls.push(Call::Solve)?;
+    calls.push(Call::Model)?;
+    Ok(())
+}
+
+fn refused_calls(alloc: Global) -> Option<Vec<TextCall>>
+    ensures { IfSome result (λ calls. AreReadable (λ s. s) calls.items) }
+{
+    let formula = cnf_formula!(in alloc; 2; 268435457; -2;).ok()?;
+    let mut calls = Vec::new(alloc);
+    push_refused_calls(&mut calls, formula).ok()?;
+    Some(calls)
+}
+
+// Whether the solver gives the calls these answers.
+fn runs(
+    solver: &mut Solver<MemoryTarget<Global>, Global>,
+    alloc: Global,
+    wanted: &[u8],
+) -> Option<bool> {
+    let answers = run(solver, calls(alloc)?).ok()?;
+    Some(are_lines(alloc, &answers, wanted))
+}
+
+fn runs_in_new(alloc: Global, wanted: &[u8]) -> Option<bool> {
+    let mut solver = Solver::new_in(alloc);
+    runs(&mut solver, alloc, wanted)
+}
+
+// Whether a new solver gives the refused calls these answers.
+fn answers_refused_calls(alloc: Global, wanted: &[u8]) -> Option<bool> {
+    let calls = refused_calls(alloc)?;
+    let answers = answers_of::<MemoryTarget<Global>, ReadSource<Pieces>, Global>(calls).ok()?;
+    Some(are_lines(alloc, &answers, wanted))
+}
+
+#[test]
+fn calls_are_answered(rt: HostRuntime) {
+    let answers =
+        b"ok\nok\nerr 13\nok 7\nok\nok true\nok 1\nok -1 -2 -3 -4 -5 6 -7 0\nok true\nok none\n";
+    assert!(rt; runs_in_new(rt.alloc(), answers) == Some(true));
+    let refused = b"err 13\nok\nok true\nok 1 -2 3 0\nerr 7\nerr 12\nok true\nok 1 2 3 0\n";
+    assert!(rt; answers_refused_calls(rt.alloc(), refused) == Some(true));
+}
+
+// Refusals with their texts.
+const REFUSALS: &[(SolverError, &str)] = &[
+    (SolverError::Interrupted, "The solver was interrupted"),
+    (SolverError::OutOfMemory, "Out of memory"),
+    (
+        SolverError::Invalid,
+        "The solver is invalid after an unrecoverable error",
+    ),
+    (SolverError::ClauseStoreFull, "The clause store is full"),
+    (SolverError::VariableLimit, "The variable limit is passed"),
+    (
+        SolverError::ConfigOutOfRange {
+            field: ConfigField::VsidsDecay,
+        },
+        "Configuration value out of range: vsids_decay",
+    ),
+    (
+        SolverError::Dimacs {
+            cause: DimacsError {
+                line: 3,
+                kind: DimacsErrorKind::UnterminatedClause,
+            },
+        },
+        "Error in DIMACS input: line 3: UnterminatedClause",
+    ),
+];
+
+fn has_text(alloc: Global, error: &SolverError, wanted: &str) -> Result<bool, AllocError> {
+    let text = error.to_string(alloc)?;
+    Ok(text.as_str() == wanted)
+}
+
+#[test]
+fn refusals_have_their_texts(rt: HostRuntime) {
+    for (error, text) in REFUSALS {
+        assert!(rt;
+            matches!(has_text(rt.alloc(), error, text), Ok(true)),
+            "{text}"
+        );
+    }
+}

@@ -1,0 +1,437 @@
+//! Sessions with their answers, with little memory, and over readers and writers that fail.
+ghost use Rattle.std.specs.Prelude.{◌<◌, ◌-◌, ◌^◌};
+
+use super::readers::in_pieces;
+use linked_list_allocator::LocalHeap;
+use std::alloc::{AllocError, Global};
+use std::io::{Cursor, Read, Write};
+use std::str;
+use varisat::program::{SolveOptions, session_lines, solve_lines};
+use varisat_formula::io::{ByteSource, ReadSource};
+
+// What a command prints, what it tells of a fault, and its status.
+type Printed = (&'static str, &'static str, u8);
+
+fn are_printed(out: &[u8], err: &[u8], status: u8, wanted: Printed) -> bool {
+    let (printed, told, wanted_status) = wanted;
+    (out == printed.as_bytes()) & (err == told.as_bytes()) & (status == wanted_status)
+}
+
+fn session_prints<R: Read + Drop>(alloc: Global, input: R, wanted: Printed) -> bool {
+    let mut out = Vec::new(alloc);
+    let mut err = Vec::new(alloc);
+    let status = session_lines(alloc, input, &mut out, &mut err);
+    are_printed(&out, &err, status, wanted)
+}
+
+fn solve_prints<S: ByteSource>(
+    alloc: Global,
+    cnf: &mut S,
+    max_steps: Option<u64>,
+    wanted: Printed,
+) -> bool
+    requires { (S.stand cnf.old).faults < 2 ^ 64 - 1 }
+{
+    let mut out = Vec::new(alloc);
+    let mut err = Vec::new(alloc);
+    let options = SolveOptions { max_steps };
+    let status = solve_lines(alloc, cnf, options, &mut out, &mut err);
+    are_printed(&out, &err, status, wanted)
+}
+
+// Lines of a session, and what they are answered.
+const SESSIONS: [(&str, &str); 15] = [
+    ("add 3\nsolve\nmodel\n", "ok\nok true\nok -1 -2 3 0\n"),
+    ("solve\nmodel\n", "ok true\nok 0\n"),
+    (
+        "add 1 -2\nadd 3\nsolve\nmodel\n",
+        "ok\nok\nok true\nok -1 -2 3 0\n",
+    ),
+    (
+        "new\nnew\nadd -2\nsolve\nmodel\n",
+        "ok 1\nok 2\nok\nok true\nok -1 -2 0\n",
+    ),
+    ("add\nsolve\nmodel\n", "ok\nok false\nok none\n"),
+    (
+        "add 1 2\nadd -1 2\nadd 1 -2\nadd -1 -2\nsolve\n",
+        "ok\nok\nok\nok\nok false\n",
+    ),
+    ("add 268435457\nadd 0\nnew\n", "err 7\nbad line\nok 1\n"),
+    // A tautology, and duplicated literals.
+    ("add 1 -1\nsolve\nmodel\n", "ok\nok true\nok -1 0\n"),
+    ("add 2 2 2\nsolve\nmodel\n", "ok\nok true\nok -1 2 0\n"),
+    // A contradiction gives Unsat at once, and then a clause names nothing.
+    (
+        "add 1\nadd -1\nadd 5\nnew\nmodel\n",
+        "ok\nok\nok\nok 2\nok none\n",
+    ),
+    // A model is told until a clause comes, and a name that came after it is false.
+    (
+        "add 1\nsolve\nnew\nmodel\nadd 3\nmodel\nsolve\nmodel\n",
+        "ok\nok true\nok 2\nok 1 -2 0\nok\nok none\nok true\nok 1 -2 3 0\n",
+    ),
+    // Unsat is for good, and after it a name past the limit is not looked at.
+    ("add\nadd 268435457\nsolve\n", "ok\nok\nok false\n"),
+    // Assumptions bring their names into use, and fail or hold together with the clauses.
+    (
+        "assume 3\nmodel\nsolve\nmodel\nadd -3\nsolve\ncore\n",
+        "ok\nok none\nok true\nok -1 -2 3 0\nok\nok false\nok 3 0\n",
+    ),
+    (
+        "add -1\nassume 2 1\nsolve\ncore\nassume 2 -1\nsolve\nmodel\n",
+        "ok\nok\nok false\nok 1 0\nok\nok true\nok -1 2 0\n",
+    ),
+    // Lines that are none, of which the last ends without a line feed.
+    (
+        "\nadd  1\nassume 1 \nADD 1\nsolve \nadd 01\nnew\nadd 1",
+        "bad line\nbad line\nbad line\nbad line\nbad line\nbad line\nok 1\nok\n",
+    ),
+];
+
+// Sessions with ample memory alone: they ask for the steps, which an invalid solver tells too, have settings, or take
+// much memory.
+const AMPLE_SESSIONS: [(&str, &str); 9] = [
+    (
+        "steps\nsolve\nsteps\nsolve\nsteps\n",
+        "ok 0\nok true\nok 1\nok true\nok 1\n",
+    ),
+    // An interrupted search is gone on with.
+    (
+        "config max_steps 1\nadd 1 2\nadd -1 2\nadd 1 -2\nadd -1 -2\nsolve\nsteps\nmodel\nsolve\nsteps\n",
+        "ok\nok\nok\nok\nok\nerr 1\nok 1\nok none\nok false\nok 2\n",
+    ),
+    ("add\nsolve\nsteps\n", "ok\nok false\nok 0\n"),
+    (
+        "config max_steps 0\nadd 1 2\nsolve\nsteps\nconfig max_steps 1\nsolve\nsteps\n",
+        "ok\nok\nerr 1\nok 0\nok\nok true\nok 1\n",
+    ),
+    (
+        "config vsids_decay 499\nconfig vsids_decay 999\nconfig speed 1\n",
+        "err 12\nok\nbad line\n",
+    ),
+    (
+        "config vsids_decay 1000\nconfig vsids_decay 500\nconfig luby_restart_interval_scale 0\n",
+        "err 12\nok\nerr 12\n",
+    ),
+    (
+        "config max_steps 0\nconfig max_steps 18446744073709551615\n",
+        "ok\nok\n",
+    ),
+    ("close\n", "ok none\n"),
+    // Names that no clause names have no variable in the search.
+    (
+        "add 1000000 2\nadd -1000000 5\nsolve\nadd -2\nadd -5\nsolve\n",
+        "ok\nok\nok true\nok\nok\nok false\n",
+    ),
+];
+
+// Sessions with assumptions, where no order of a core is open.
+const ASSUMING_SESSIONS: [(&str, &str); 13] = [
+    ("add\ncore\nsolve\nsteps\n", "ok\nok 0\nok false\nok 0\n"),
+    (
+        "add 1\nadd -1\ncore\nsolve\nadd 5\nnew\n",
+        "ok\nok\nok 0\nok false\nok\nok 2\n",
+    ),
+    (
+        "assume 1 -1\nsolve\nadd -2\nassume 2\nsolve\ncore\n",
+        "ok\nok false\nok\nok\nok false\nok 2 0\n",
+    ),
+    (
+        "add -1 2\nassume 1 -2\nsolve\nsteps\nadd 1\nsolve\nsteps\nassume\nsolve\nmodel\nsteps\n",
+        "ok\nok\nok false\nok 1\nok\nok false\nok 1\nok\nok true\nok 1 2 0\nok 2\n",
+    ),
+    (
+        "assume 2 2\nsolve\nmodel\nsteps\n",
+        "ok\nok true\nok -1 2 0\nok 1\n",
+    ),
+    (
+        "add -1 -2 -3\nassume 1 2 3\nsolve\nassume 1 2\nsolve\nmodel\n",
+        "ok\nok\nok false\nok\nok true\nok 1 2 -3 0\n",
+    ),
+    (
+        "add -1 2\nassume 1 2\nsolve\nmodel\n",
+        "ok\nok\nok true\nok 1 2 0\n",
+    ),
+    // No core is told before `solve`, nor with a model, nor once other literals are assumed.
+    (
+        "core\nassume 1\nsolve\ncore\nadd -1\ncore\nsolve\ncore\nassume\ncore\n",
+        "ok none\nok\nok true\nok none\nok\nok none\nok false\nok 1 0\nok\nok none\n",
+    ),
+    // A core stays one under more clauses, until the clauses alone are unsatisfiable.
+    (
+        "add -1\nassume 1\nsolve\nadd 2 3\ncore\nadd 1\ncore\nassume 2\nsolve\ncore\n",
+        "ok\nok\nok false\nok\nok 1 0\nok\nok 0\nok\nok false\nok 0\n",
+    ),
+    // A refused list leaves the one before.
+    (
+        "add -1\nassume 1\nassume 268435457 2\nsolve\ncore\nnew\n",
+        "ok\nok\nerr 7\nok false\nok 1 0\nok 2\n",
+    ),
+    // Where the clauses are unsatisfiable a list still names its names, and one past the limit is refused.
+    (
+        "add\nassume 2\nassume 268435457\nsolve\nnew\n",
+        "ok\nok\nerr 7\nok false\nok 3\n",
+    ),
+    // Assumptions are units, follow from units and from each other.
+    (
+        "add 1\nadd -2 3\nassume 1 2 3 1\nsolve\nmodel\nadd -3 4\nsolve\nmodel\n",
+        "ok\nok\nok\nok true\nok 1 2 3 0\nok\nok true\nok 1 2 3 4 0\n",
+    ),
+    // An interrupted search is gone on with under its assumptions.
+    (
+        "config max_steps 0\nadd -1 2\nassume 1\nsolve\ncore\nconfig max_steps 9\nsolve\nmodel\n",
+        "ok\nok\nok\nerr 1\nok none\nok\nok true\nok 1 2 0\n",
+    ),
+];
+
+#[test]
+fn sessions_are_answered(rt: HostRuntime) {
+    for (lines, answers) in SESSIONS
+        .iter()
+        .chain(&AMPLE_SESSIONS)
+        .chain(&ASSUMING_SESSIONS)
+    {
+        assert!(rt;
+            session_prints(rt.alloc(), Cursor::new(*lines), (*answers, "", 0)),
+            "{lines}"
+        );
+    }
+}
+
+// DIMACS texts with the limits of steps, and what is printed for them.
+const TEXTS: [(&str, Option<u64>, Printed); 10] = [
+    (
+        "p cnf 5 2\n1 2 0\n-1 0\n",
+        None,
+        ("s SATISFIABLE\nv -1 2 0\n", "", 10),
+    ),
+    ("", None, ("s SATISFIABLE\nv 0\n", "", 10)),
+    (
+        "1\nc 2 0\n-2 0",
+        None,
+        ("s SATISFIABLE\nv -1 -2 0\n", "", 10),
+    ),
+    (
+        "1 2 0 -1 2 0 1 -2 0 -1 -2 0\n",
+        None,
+        ("s UNSATISFIABLE\n", "", 20),
+    ),
+    ("0\n", None, ("s UNSATISFIABLE\n", "", 20)),
+    (
+        "1 2",
+        None,
+        (
+            "",
+            "error: Error in DIMACS input: line 1: UnterminatedClause\n",
+            2,
+        ),
+    ),
+    (
+        "p cnf 2 3\n3 0\n",
+        None,
+        ("", "error: Error in DIMACS input: line 2: VarCount\n", 2),
+    ),
+    (
+        "1 0\np cnf 1 1\n",
+        None,
+        (
+            "",
+            "error: Error in DIMACS input: line 2: InvalidHeader\n",
+            2,
+        ),
+    ),
+    ("1 2 0 -1 2 0", Some(0), ("s UNKNOWN\n", "", 0)),
+    (
+        "1 2 0 -1 2 0",
+        Some(1),
+        ("s SATISFIABLE\nv -1 2 0\n", "", 10),
+    ),
+];
+
+fn text_prints(alloc: Global, text: &'static str, max_steps: Option<u64>, wanted: Printed) -> bool {
+    let mut source = ReadSource::new(Cursor::new(text));
+    solve_prints(alloc, &mut source, max_steps, wanted)
+}
+
+#[test]
+fn texts_are_decided(rt: HostRuntime) {
+    for (text, max_steps, wanted) in &TEXTS {
+        assert!(rt;
+            text_prints(rt.alloc(), *text, *max_steps, *wanted),
+            "{text}"
+        );
+    }
+}
+
+fn cut_file_prints(alloc: Global, wanted: Printed) -> bool {
+    let mut source = ReadSource::new(in_pieces(b"1 0\n2", 100, true));
+    solve_prints(alloc, &mut source, None, wanted)
+}
+
+#[test]
+fn a_reader_that_fails_is_told(rt: HostRuntime) {
+    let input = in_pieces(b"new\nadd 1", 100, true);
+    let session = session_prints(
+        rt.alloc(),
+        input,
+        ("ok 1\n", "error: the reader failed\n", 2),
+    );
+    let file = cut_file_prints(
+        rt.alloc(),
+        ("", "error: Error in DIMACS input: line 2: Io\n", 2),
+    );
+    assert!(rt; session & file);
+}
+
+fn is_fault(err: &[u8], status: u8) -> bool {
+    (status == 2) & err.starts_with(b"error: ")
+}
+
+// Whether a fault is told where the writer has room for so many bytes.
+fn is_told_with(alloc: Global, room: usize) -> bool {
+    let mut bytes = [0; 5];
+    let mut out = &mut bytes[..room.min(5)];
+    let mut err = Vec::new(alloc);
+    let status = session_lines(alloc, Cursor::new("new\n"), &mut out, &mut err);
+    is_fault(&err, status)
+}
+
+#[test]
+fn a_writer_that_fails_is_told(rt: HostRuntime) {
+    for room in 0..5 {
+        assert!(rt; is_told_with(rt.alloc(), room), "at {room}");
+    }
+}
+
+// Whether the answers are the wanted ones up to a line `err 3`, and those of an invalid solver from then on.
+fn is_cut_by_memory(answers: &str, wanted: &str) -> bool {
+    let mut invalid = false;
+    for (answer, line) in answers.lines().zip(wanted.lines()) {
+        if invalid {
+            if answer != "err 4" && answer != "ok none" && answer != "bad line" {
+                return false;
+            }
+        } else if answer == "err 3" {
+            // A list that was refused to `model` leaves the solver as it was.
+            invalid = !line.ends_with(" 0");
+        } else if answer != line {
+            return false;
+        }
+    }
+    true
+}
+
+// Whether the answers are complete, or none where they are not what is left of the wanted ones with little memory.
+fn is_complete(out: &[u8], err: &[u8], status: u8, wanted: &str) -> Option<bool> {
+    let answers = str::from_utf8(out).ok()?;
+    let is_ended = (status == 0) | ((status == 2) & !err.is_empty());
+    if is_ended & is_cut_by_memory(answers, wanted) {
+        Some(answers == wanted)
+    } else {
+        None
+    }
+}
+
+// The same of a session in the heap.
+fn is_complete_in(alloc: Global, heap: &LocalHeap, lines: &str, wanted: &str) -> Option<bool> {
+    let mut out = Vec::new(alloc);
+    let mut err = Vec::new(alloc);
+    let status = session_lines(heap, Cursor::new(lines), &mut out, &mut err);
+    is_complete(&out, &err, status, wanted)
+}
+
+// The same with that many times 16 bytes beside the reader's buffer.
+fn is_complete_with(
+    alloc: Global,
+    room: u8,
+    lines: &str,
+    wanted: &str,
+) -> Result<Option<bool>, AllocError> {
+    let heap = LocalHeap::new(alloc, 8192 + 16 * usize::from(room))?;
+    Ok(is_complete_in(alloc, &heap, lines, wanted))
+}
+
+// Whether each growth of the session may be refused, and at last none is.
+fn ends(alloc: Global, lines: &str, wanted: &str) -> bool {
+    let mut ended = false;
+    for room in 0..160 {
+        match is_complete_with(alloc, room, lines, wanted) {
+            Ok(Some(all)) => ended |= all,
+            _ => return false,
+        }
+    }
+    ended
+}
+
+#[test]
+fn each_growth_may_be_refused(rt: HostRuntime) {
+    for (lines, wanted) in &SESSIONS {
+        assert!(rt; ends(rt.alloc(), lines, wanted), "{lines}");
+    }
+}
+
+// What is printed of a clause of 40 literals: one step, and a model of which one literal is positive.
+fn are_long_answers(out: &[u8], status: u8) -> bool {
+    let negative = out.iter().filter(|byte| **byte == b'-').count();
+    (status == 0) & out.starts_with(b"ok\nok true\nok 1\nok ") & (negative == 39)
+}
+
+fn decides_long_clause(alloc: Global) -> bool {
+    let mut out = Vec::new(alloc);
+    let mut err = Vec::new(alloc);
+    let lines =
+        "add 1 2 3 4 5 6 7 8 9 10 11 12 13 14 15 16 17 18 19 20 21 22 23 24 25 26 27 28 29 30 31 32 33 34 35 36 37 38 39 40\nsolve\nsteps\nmodel\n";
+    let status = session_lines(alloc, Cursor::new(lines), &mut out, &mut err);
+    are_long_answers(&out, status)
+}
+
+#[test]
+fn a_long_clause_takes_a_step(rt: HostRuntime) {
+    assert!(rt; decides_long_clause(rt.alloc()));
+}
+
+// Adds a line of three literals over 40 variables, by a linear congruential generator, and returns its next state.
+fn push_clause(text: &mut String, state: u64) -> Option<u64> {
+    let mut state = state;
+    text.push_str("add").ok()?;
+    for _ in 0..3 {
+        state = state
+            .wrapping_mul(6364136223846793005)
+            .wrapping_add(1442695040888963407);
+        let number = (state >> 33) % 40 + 1;
+        let sign = if (state >> 62) & 1 == 1 { " -" } else { " " };
+        write!(text, "{sign}{number}").ok()?;
+    }
+    text.push_str("\n").ok()?;
+    Some(state)
+}
+
+fn push_clauses(text: &mut String) -> Option<()> {
+    let mut state = 1;
+    for _ in 0..10_000 {
+        state = push_clause(text, state)?;
+    }
+    Some(())
+}
+
+fn are_all_accepted(out: &[u8], status: u8) -> bool {
+    (status == 0) & (out.len() == 30_000) & out.chunks(3).all(|answer| answer == b"ok\n".as_slice())
+}
+
+fn accepts(alloc: Global, lines: &str) -> bool {
+    let mut out = Vec::new(alloc);
+    let mut err = Vec::new(alloc);
+    let status = session_lines(alloc, Cursor::new(lines), &mut out, &mut err);
+    are_all_accepted(&out, status)
+}
+
+fn accepts_many(alloc: Global) -> bool {
+    let mut text = String::new(alloc);
+    let is_made = push_clauses(&mut text).is_some();
+    is_made & accepts(alloc, &text)
+}
+
+#[test]
+fn many_clauses_are_added(rt: HostRuntime) {
+    assert!(rt; accepts_many(rt.alloc()));
+}

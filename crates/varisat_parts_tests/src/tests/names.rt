@@ -13,7 +13,7 @@ use varisat_names::variables::data::{SamplingMode, VarData};
 use varisat_names::variables::var_map::VarBiMap;
 
 /// Takes a solver variable for the global variable, if it is live and has none.
-fn take<A: Allocator + Copy>(
+pub fn take<A: Allocator + Copy>(
     variables: &mut LinkedVariables<A>,
     global: Var,
 ) -> Result<Option<Var>, AllocError> {
@@ -25,7 +25,7 @@ fn take<A: Allocator + Copy>(
 }
 
 /// Whether the global variable is live.
-fn is_live<A: Allocator + Copy>(variables: &LinkedVariables<A>, global: Var) -> bool
+pub fn is_live<A: Allocator + Copy>(variables: &LinkedVariables<A>, global: Var) -> bool
     ensures { IsTrue result → (kept_at variables.now.kept global).deleted ≡ false }
 {
     global.index() < variables.variables().global_watermark()
@@ -33,7 +33,7 @@ fn is_live<A: Allocator + Copy>(variables: &LinkedVariables<A>, global: Var) -> 
 }
 
 /// Names the name.
-fn name<A: Allocator + Copy>(
+pub fn name<A: Allocator + Copy>(
     variables: &mut LinkedVariables<A>,
     user: Var,
 ) -> Result<bool, AllocError> {
@@ -45,7 +45,7 @@ fn name<A: Allocator + Copy>(
 }
 
 /// Frees the name, if it is in use.
-fn hide<A: Allocator + Copy>(
+pub fn hide<A: Allocator + Copy>(
     variables: &mut LinkedVariables<A>,
     user: Var,
 ) -> Result<bool, AllocError> {

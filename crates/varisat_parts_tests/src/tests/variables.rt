@@ -1,7 +1,6 @@
 //! Names that are hidden, shown and used again, maps and data that are lent, and what the iterators list.
-ghost use Rattle.std.specs.Prelude.{◌≡◌, IsTrue, false};
-ghost use Rattle.varisat_names.specs.VarData.{kept_at};
 
+use super::names::{hide, is_live, name, take};
 use linked_list_allocator::LocalHeap;
 use std::alloc::{AllocError, Allocator, Global};
 use varisat_literals::{Var, var};
@@ -21,50 +20,6 @@ fn data_begins_as_it_should(rt: HostRuntime) {
     let named = (None, [true, false, false], SamplingMode::Sample);
     assert!(rt; told(VarData::default()) == unused);
     assert!(rt; told(VarData::user_default()) == named);
-}
-
-/// Whether the global variable is live.
-fn is_live<A: Allocator + Copy>(variables: &LinkedVariables<A>, global: Var) -> bool
-    ensures { IsTrue result → (kept_at variables.now.kept global).deleted ≡ false }
-{
-    let count = variables.variables().global_watermark();
-    global.index() < count && !variables.var_data_global(global).deleted
-}
-
-/// Names the name.
-fn name<A: Allocator + Copy>(
-    variables: &mut LinkedVariables<A>,
-    user: Var,
-) -> Result<bool, AllocError> {
-    if variables.variables().global_watermark() > 100 || user.index() > 100 {
-        return Ok(false);
-    }
-    variables.name_user_var(user)?;
-    Ok(true)
-}
-
-/// Frees the name, if it is in use.
-fn hide<A: Allocator + Copy>(
-    variables: &mut LinkedVariables<A>,
-    user: Var,
-) -> Result<bool, AllocError> {
-    let Some(global) = variables.global_from_user().get(user) else {
-        return Ok(false);
-    };
-    variables.hide(user, global)?;
-    Ok(true)
-}
-
-/// Takes a solver variable for the global variable, if it is live and has none.
-fn take<A: Allocator + Copy>(
-    variables: &mut LinkedVariables<A>,
-    global: Var,
-) -> Result<Option<Var>, AllocError> {
-    let is_free = variables.solver_from_global().get(global).is_none();
-    if !is_free || variables.solver_watermark() > 100 || !is_live(variables, global) {
-        return Ok(None);
-    }
-    Ok(Some(variables.take_solver_var(global)?))
 }
 
 /// Drops the solver variable, if a global variable has it.

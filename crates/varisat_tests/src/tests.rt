@@ -6,4 +6,5 @@ mod lines;
 mod memory;
 mod programs;
 mod readers;
+mod settings;
 mod texts;

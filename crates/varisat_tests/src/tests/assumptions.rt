@@ -1,5 +1,6 @@
 //! Assumptions and failed cores: the exact cores of small formulas, and random lists beside new solvers that have them
 //! as unit clauses.
+use super::settings::{rare_and_frequent, reducing_every};
 use std::alloc::Global;
 use varisat::solver::{Solver, SolverError};
 use varisat_formula::formula::{Lit, Var};
@@ -30,15 +31,18 @@ fn fails(solver: &mut TestSolver, assumed: &[Lit], wanted: &[Lit]) -> Result<boo
 }
 
 // The cores of small formulas, which are exact.
-fn cores(alloc: Global) -> Result<[bool; 5], SolverError> {
+fn cores(alloc: Global, settings: &SolverConfigUpdate) -> Result<[bool; 5], SolverError> {
     let mut solver = new_solver(alloc);
+    solver.config(settings)?;
     let opposite = fails(&mut solver, &lits![1, -1], &lits![1, -1])?;
     solver.add_clause(&lits![-2])?;
     let unit = fails(&mut solver, &lits![2], &lits![2])?;
     let mut second = new_solver(alloc);
+    second.config(settings)?;
     second.add_clause(&lits![-1, 2])?;
     let implied = fails(&mut second, &lits![1, -2], &lits![1, -2])?;
     let mut third = new_solver(alloc);
+    third.config(settings)?;
     third.add_clause(&lits![-1, -2, -3])?;
     let all = fails(&mut third, &lits![1, 2, 3], &lits![1, 2, 3])?;
     third.add_clause(&lits![-1, 4])?;
@@ -48,7 +52,10 @@ fn cores(alloc: Global) -> Result<[bool; 5], SolverError> {
 
 #[test]
 fn cores_are_exact(rt: HostRuntime) {
-    assert!(rt; matches!(cores(rt.alloc()), Ok(outcomes) if outcomes == [true; 5]));
+    for settings in rare_and_frequent() {
+        let outcomes = cores(rt.alloc(), &settings);
+        assert!(rt; matches!(outcomes, Ok(outcomes) if outcomes == [true; 5]));
+    }
 }
 
 // Numbers of a linear congruential generator.
@@ -153,10 +160,7 @@ fn are_answered_with(
     interval: u64,
     count: usize,
 ) -> Result<bool, SolverError> {
-    let mut update = SolverConfigUpdate::new();
-    update.reduce_locals_interval = Some(interval);
-    update.reduce_mids_interval = Some(interval);
-    solver.config(&update)?;
+    solver.config(&reducing_every(interval))?;
     add_clauses(solver)?;
     are_answered(alloc, solver, count)
 }

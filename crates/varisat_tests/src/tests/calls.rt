@@ -3,6 +3,7 @@ ghost use Rattle.std.specs.Prelude.{◌≡◌, [], IfSome, OnOk};
 ghost use Rattle.varisat.specs.Runs.{AreReadable};
 
 use super::readers::{Pieces, in_pieces};
+use super::settings::rare_and_frequent;
 use std::alloc::{AllocError, Global};
 use std::io::{self, Write};
 use varisat::line::write_answer;
@@ -37,16 +38,18 @@ fn are_lines(alloc: Global, answers: &[TextAnswer], wanted: &[u8]) -> bool {
     is_written & (out.as_slice() == wanted)
 }
 
-// Adds a small session: a clause, a formula, a text that breaks off, a variable, the settings, the question, the steps,
-// the model, the flag, and the end of a proof that is not open.
+// Adds a small session: settings, a clause, a formula, a text that breaks off, a variable, a setting, the question, the
+// steps, the model, the flag, and the end of a proof that is not open.
 fn push_calls(
     calls: &mut Vec<TextCall>,
+    settings: SolverConfigUpdate,
     clause: Vec<Lit>,
     formula: CnfFormula<Global>,
 ) -> Result<(), AllocError>
     requires { calls.old.items ≡ [] }
     ensures { OnOk result (AreReadable (λ s. s) calls.new.items) }
 {
+    calls.push(Call::Config(settings))?;
     calls.push(Call::AddClause(clause))?;
     calls.push(Call::AddFormula(formula))?;
     let text = in_pieces(b"6 0\n-2 0\n2", 3, false);
@@ -61,13 +64,13 @@ fn push_calls(
     Ok(())
 }
 
-fn calls(alloc: Global) -> Option<Vec<TextCall>>
+fn calls(alloc: Global, settings: SolverConfigUpdate) -> Option<Vec<TextCall>>
     ensures { IfSome result (λ calls. AreReadable (λ s. s) calls.items) }
 {
     let clause = Vec::from_slice(alloc, &lits![3, -1]).ok()?;
     let formula = cnf_formula!(in alloc; 4, -1; -5;).ok()?;
     let mut calls = Vec::new(alloc);
-    push_calls(&mut calls, clause, formula).ok()?;
+    push_calls(&mut calls, settings, clause, formula).ok()?;
     Some(calls)
 }
 
@@ -80,16 +83,18 @@ fn bad_update() -> SolverConfigUpdate {
     update
 }
 
-// Adds a session of refusals: a text with a fault in its middle and a good one, a formula with a name past the limit
-// and settings out of range. What stands before a fault stays, and refused settings change nothing, so the budget is
-// not spent.
+// Adds a session of refusals behind settings: a text with a fault in its middle and a good one, a formula with a name
+// past the limit and settings out of range. What stands before a fault stays, and refused settings change nothing, so
+// the budget is not spent.
 fn push_refused_calls(
     calls: &mut Vec<TextCall>,
+    settings: SolverConfigUpdate,
     formula: CnfFormula<Global>,
 ) -> Result<(), AllocError>
     requires { calls.old.items ≡ [] }
     ensures { OnOk result (AreReadable (λ s. s) calls.new.items) }
 {
+    calls.push(Call::Config(settings))?;
     let fault = in_pieces(b"1 0 x 2 0", 3, false);
     calls.push(Call::AddDimacsCnf(ReadSource::new(fault)))?;
     let comment = in_pieces(b"c a comment\n-1 3 0 \n", 3, false);
@@ -103,12 +108,12 @@ fn push_refused_calls(
     Ok(())
 }
 
-fn refused_calls(alloc: Global) -> Option<Vec<TextCall>>
+fn refused_calls(alloc: Global, settings: SolverConfigUpdate) -> Option<Vec<TextCall>>
     ensures { IfSome result (λ calls. AreReadable (λ s. s) calls.items) }
 {
     let formula = cnf_formula!(in alloc; 2; 268435457; -2;).ok()?;
     let mut calls = Vec::new(alloc);
-    push_refused_calls(&mut calls, formula).ok()?;
+    push_refused_calls(&mut calls, settings, formula).ok()?;
     Some(calls)
 }
 
@@ -116,20 +121,25 @@ fn refused_calls(alloc: Global) -> Option<Vec<TextCall>>
 fn runs(
     solver: &mut Solver<MemoryTarget<Global>, Global>,
     alloc: Global,
+    settings: SolverConfigUpdate,
     wanted: &[u8],
 ) -> Option<bool> {
-    let answers = run(solver, calls(alloc)?).ok()?;
+    let answers = run(solver, calls(alloc, settings)?).ok()?;
     Some(are_lines(alloc, &answers, wanted))
 }
 
-fn runs_in_new(alloc: Global, wanted: &[u8]) -> Option<bool> {
+fn runs_in_new(alloc: Global, settings: SolverConfigUpdate, wanted: &[u8]) -> Option<bool> {
     let mut solver = Solver::new_in(alloc);
-    runs(&mut solver, alloc, wanted)
+    runs(&mut solver, alloc, settings, wanted)
 }
 
 // Whether a new solver gives the refused calls these answers.
-fn answers_refused_calls(alloc: Global, wanted: &[u8]) -> Option<bool> {
-    let calls = refused_calls(alloc)?;
+fn answers_refused_calls(
+    alloc: Global,
+    settings: SolverConfigUpdate,
+    wanted: &[u8],
+) -> Option<bool> {
+    let calls = refused_calls(alloc, settings)?;
     let answers = answers_of::<MemoryTarget<Global>, ReadSource<Pieces>, Global>(calls).ok()?;
     Some(are_lines(alloc, &answers, wanted))
 }
@@ -137,10 +147,12 @@ fn answers_refused_calls(alloc: Global, wanted: &[u8]) -> Option<bool> {
 #[test]
 fn calls_are_answered(rt: HostRuntime) {
     let answers =
-        b"ok\nok\nerr 13\nok 7\nok\nok true\nok 1\nok -1 -2 -3 -4 -5 6 -7 0\nok true\nok none\n";
-    assert!(rt; runs_in_new(rt.alloc(), answers) == Some(true));
-    let refused = b"err 13\nok\nok true\nok 1 -2 3 0\nerr 7\nerr 12\nok true\nok 1 2 3 0\n";
-    assert!(rt; answers_refused_calls(rt.alloc(), refused) == Some(true));
+        b"ok\nok\nok\nerr 13\nok 7\nok\nok true\nok 1\nok -1 -2 -3 -4 -5 6 -7 0\nok true\nok none\n";
+    let refused = b"ok\nerr 13\nok\nok true\nok 1 -2 3 0\nerr 7\nerr 12\nok true\nok 1 2 3 0\n";
+    for settings in rare_and_frequent() {
+        assert!(rt; runs_in_new(rt.alloc(), settings, answers) == Some(true));
+        assert!(rt; answers_refused_calls(rt.alloc(), settings, refused) == Some(true));
+    }
 }
 
 // Refusals with their texts.

@@ -2,12 +2,15 @@
 ghost use Rattle.std.specs.Prelude.{◌<◌, ◌-◌, ◌^◌};
 
 use super::readers::in_pieces;
+use super::settings::reducing_every;
 use linked_list_allocator::LocalHeap;
 use std::alloc::{AllocError, Global};
 use std::io::{Cursor, Read, Write};
 use std::str;
 use varisat::program::{SolveOptions, session_lines, solve_lines};
-use varisat_formula::io::{ByteSource, ReadSource};
+use varisat::solver::{Solver, SolverError};
+use varisat_formula::io::{ByteSource, MemoryTarget, ReadSource};
+use varisat_names::config::SolverConfigUpdate;
 
 // What a command prints, what it tells of a fault, and its status.
 type Printed = (&'static str, &'static str, u8);
@@ -22,6 +25,35 @@ fn session_prints<R: Read + Drop>(alloc: Global, input: R, wanted: Printed) -> b
     let mut err = Vec::new(alloc);
     let status = session_lines(alloc, input, &mut out, &mut err);
     are_printed(&out, &err, status, wanted)
+}
+
+// Lines of a session, and what they are answered.
+type Exchange = (&'static str, &'static str);
+
+// What each session stands behind in turn: nothing, and settings by which learned clauses are reduced at each step.
+const SETTINGS: [Exchange; 2] = [
+    ("", ""),
+    (
+        "config reduce_locals_interval 1\nconfig reduce_mids_interval 1\n",
+        "ok\nok\n",
+    ),
+];
+
+// Whether the answers of both are printed in turn, with no fault.
+fn are_answers(out: &[u8], err: &[u8], status: u8, settings: Exchange, session: Exchange) -> bool {
+    match out.strip_prefix(settings.1.as_bytes()) {
+        Some(rest) => are_printed(rest, err, status, (session.1, "", 0)),
+        None => false,
+    }
+}
+
+// Whether the settings and the session behind them are answered so.
+fn is_answered(alloc: Global, settings: Exchange, session: Exchange) -> bool {
+    let mut out = Vec::new(alloc);
+    let mut err = Vec::new(alloc);
+    let input = Cursor::new(settings.0).chain(Cursor::new(session.0));
+    let status = session_lines(alloc, input, &mut out, &mut err);
+    are_answers(&out, &err, status, settings, session)
 }
 
 fn solve_prints<S: ByteSource>(
@@ -39,8 +71,8 @@ fn solve_prints<S: ByteSource>(
     are_printed(&out, &err, status, wanted)
 }
 
-// Lines of a session, and what they are answered.
-const SESSIONS: [(&str, &str); 15] = [
+// Sessions that take little memory.
+const SESSIONS: [Exchange; 15] = [
     ("add 3\nsolve\nmodel\n", "ok\nok true\nok -1 -2 3 0\n"),
     ("solve\nmodel\n", "ok true\nok 0\n"),
     (
@@ -90,7 +122,7 @@ const SESSIONS: [(&str, &str); 15] = [
 
 // Sessions with ample memory alone: they ask for the steps, which an invalid solver tells too, have settings, or take
 // much memory.
-const AMPLE_SESSIONS: [(&str, &str); 9] = [
+const AMPLE_SESSIONS: [Exchange; 9] = [
     (
         "steps\nsolve\nsteps\nsolve\nsteps\n",
         "ok 0\nok true\nok 1\nok true\nok 1\n",
@@ -126,7 +158,7 @@ const AMPLE_SESSIONS: [(&str, &str); 9] = [
 ];
 
 // Sessions with assumptions, where no order of a core is open.
-const ASSUMING_SESSIONS: [(&str, &str); 13] = [
+const ASSUMING_SESSIONS: [Exchange; 13] = [
     ("add\ncore\nsolve\nsteps\n", "ok\nok 0\nok false\nok 0\n"),
     (
         "add 1\nadd -1\ncore\nsolve\nadd 5\nnew\n",
@@ -186,15 +218,19 @@ const ASSUMING_SESSIONS: [(&str, &str); 13] = [
 
 #[test]
 fn sessions_are_answered(rt: HostRuntime) {
-    for (lines, answers) in SESSIONS
-        .iter()
-        .chain(&AMPLE_SESSIONS)
-        .chain(&ASSUMING_SESSIONS)
-    {
-        assert!(rt;
-            session_prints(rt.alloc(), Cursor::new(*lines), (*answers, "", 0)),
-            "{lines}"
-        );
+    for settings in SETTINGS {
+        for session in SESSIONS
+            .iter()
+            .chain(&AMPLE_SESSIONS)
+            .chain(&ASSUMING_SESSIONS)
+        {
+            assert!(rt;
+                is_answered(rt.alloc(), settings, *session),
+                "{}{}",
+                settings.0,
+                session.0
+            );
+        }
     }
 }
 
@@ -253,11 +289,37 @@ fn text_prints(alloc: Global, text: &'static str, max_steps: Option<u64>, wanted
     solve_prints(alloc, &mut source, max_steps, wanted)
 }
 
+// Whether some assignment satisfies the text, found with the settings.
+fn is_satisfiable(
+    solver: &mut Solver<MemoryTarget<Global>, Global>,
+    text: &'static str,
+    settings: &SolverConfigUpdate,
+) -> Result<bool, SolverError> {
+    solver.config(settings)?;
+    let mut source = ReadSource::new(Cursor::new(text));
+    solver.add_dimacs_cnf(&mut source)?;
+    solver.solve()
+}
+
+// The status that the program would end with for the text where learned clauses are reduced at each step.
+fn status_with_reductions(alloc: Global, text: &'static str, max_steps: Option<u64>) -> u8 {
+    let mut settings = reducing_every(1);
+    settings.max_steps = max_steps;
+    let mut solver = Solver::new_in(alloc);
+    match is_satisfiable(&mut solver, text, &settings) {
+        Ok(true) => 10,
+        Ok(false) => 20,
+        Err(SolverError::Interrupted) => 0,
+        Err(_) => 2,
+    }
+}
+
 #[test]
 fn texts_are_decided(rt: HostRuntime) {
     for (text, max_steps, wanted) in &TEXTS {
+        let status = status_with_reductions(rt.alloc(), *text, *max_steps);
         assert!(rt;
-            text_prints(rt.alloc(), *text, *max_steps, *wanted),
+            text_prints(rt.alloc(), *text, *max_steps, *wanted) & (status == wanted.2),
             "{text}"
         );
     }
@@ -370,24 +432,32 @@ fn each_growth_may_be_refused(rt: HostRuntime) {
     }
 }
 
-// What is printed of a clause of 40 literals: one step, and a model of which one literal is positive.
-fn are_long_answers(out: &[u8], status: u8) -> bool {
+// What is printed of a clause of 40 literals behind the settings: one step, and a model of which one literal is
+// positive.
+fn are_long_answers(out: &[u8], status: u8, settings: Exchange) -> bool {
     let negative = out.iter().filter(|byte| **byte == b'-').count();
-    (status == 0) & out.starts_with(b"ok\nok true\nok 1\nok ") & (negative == 39)
+    let is_begun = match out.strip_prefix(settings.1.as_bytes()) {
+        Some(rest) => rest.starts_with(b"ok\nok true\nok 1\nok "),
+        None => false,
+    };
+    (status == 0) & is_begun & (negative == 39)
 }
 
-fn decides_long_clause(alloc: Global) -> bool {
+fn decides_long_clause(alloc: Global, settings: Exchange) -> bool {
     let mut out = Vec::new(alloc);
     let mut err = Vec::new(alloc);
     let lines =
         "add 1 2 3 4 5 6 7 8 9 10 11 12 13 14 15 16 17 18 19 20 21 22 23 24 25 26 27 28 29 30 31 32 33 34 35 36 37 38 39 40\nsolve\nsteps\nmodel\n";
-    let status = session_lines(alloc, Cursor::new(lines), &mut out, &mut err);
-    are_long_answers(&out, status)
+    let input = Cursor::new(settings.0).chain(Cursor::new(lines));
+    let status = session_lines(alloc, input, &mut out, &mut err);
+    are_long_answers(&out, status, settings)
 }
 
 #[test]
 fn a_long_clause_takes_a_step(rt: HostRuntime) {
-    assert!(rt; decides_long_clause(rt.alloc()));
+    for settings in SETTINGS {
+        assert!(rt; decides_long_clause(rt.alloc(), settings), "{}", settings.0);
+    }
 }
 
 // Adds a line of three literals over 40 variables, by a linear congruential generator, and returns its next state.

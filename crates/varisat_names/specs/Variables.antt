@@ -41,7 +41,7 @@ AreNextGiven (suc k) old new = (mid : Tables) × (x : ℕ) × IsGiven old mid (l
 -- The name u was named: it was in use, or it came into use alone, or all names from the watermark up to it did.
 pub data IsNamed (u : ℕ) (old new : Tables) : Type 0 where
   InUse : (x : ℕ) → at old.users.forward u ≡ Some x → new ≡ old → IsNamed u old new
-  Free : (x : ℕ) → u < length old.users.forward → IsGiven old new u x → IsNamed u old new
+  Free : (x : ℕ) → u < length old.users.forward → at old.users.forward u ≡ None → IsGiven old new u x → IsNamed u old new
   Above : length old.users.forward ≤ u → AreNextGiven (u + 1 - length old.users.forward) old new → IsNamed u old new
 
 -- The global variable x has the least free solver variable v.

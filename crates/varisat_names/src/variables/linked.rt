@@ -92,6 +92,13 @@ impl<A: Allocator + Copy> LinkedVariables<A> {
         self.variables.user_watermark()
     }
 
+    /// One above the highest global variable that was ever made.
+    pub fn global_watermark(&self) -> usize
+        ensures { result ≡ length self.now.kept }
+    {
+        self.variables.global_watermark()
+    }
+
     /// One above the highest solver variable that was ever taken.
     pub fn solver_watermark(&self) -> usize
         ensures { result ≡ length self.now.solvers.backward }

@@ -1,6 +1,6 @@
 -- A clause is accepted: its names come into use, their variables take solver variables, and it is loaded.
 use Rattle.std.proofs.Common.{◌≡◌, ◌≢◌, ℕ, zero, suc, ◌+◌, ◌-◌, ◌<◌, ◌≤◌, nat_lt, if◌then◌else◌, Bool, true, false, Option, Some, None, List, [], ◌∷◌, ◌++◌, ◌⊎◌, inl, inr, ⊎_elim, length, map, sym, ap, ap₂, ◌∙◌, subst, refl, arith, rules}
-use Rattle.std.proofs.lemmas.Bool.{lt-ltb, cases_lt}
+use Rattle.std.proofs.lemmas.Bool.{lt-ltb}
 use Rattle.varisat_theory.specs.Membership.{◌∈◌}
 use Rattle.varisat_theory.specs.Literals.{Literal, Clause, Assignment, variable_of}
 use Rattle.varisat_theory.specs.Searches.{IsLiteralOf}
@@ -20,16 +20,18 @@ use Rattle.varisat_search.specs.Steps.{assignment_of, reopened_state}
 use Rattle.varisat_names.specs.Maps.{chain}
 use Rattle.varisat_names.specs.VarMap.{at, IsFull}
 use Rattle.varisat_names.specs.VarData.{fresh, kept_at}
-use Rattle.varisat_names.specs.Variables.{Tables, IsGiven, AreNextGiven, IsTaken}
-use Rattle.varisat_names.proofs.Maps.{updated-at, updated-other, updated-all, chain-some, chain-through, is-some}
+use Rattle.varisat_names.specs.Variables.{Tables, IsGiven, AreNextGiven, IsNamed, InUse, Free, Above, IsTaken}
+use Rattle.varisat_names.proofs.Maps.{updated-at, updated-other, updated-all, chain-some, chain-none, chain-through, is-some}
+use Rattle.varisat_names.proofs.VarMap.{at-inside}
 use Rattle.varisat.specs.States.{State, Ledger, join_counted, Verdict, Unknown, Sat, Unsat, UnsatUnderAssumptions, IsRight}
-use Rattle.varisat.specs.Names.{bring, bring_next, bring_if_free, name_one, name_all, through_names}
+use Rattle.varisat.specs.Names.{Naming, bring, bring_next, bring_if_free, name_one, name_all, through_names}
 use Rattle.varisat.specs.Calls.{with_naming, VerdictAfter, Refuted, Reopened, append_clause, reopened_verdict, with_verdict}
 use Rattle.varisat.specs.Carried.{carry, value_or}
 use Rattle.varisat.specs.Spaces.{Spaces, Carrying, IsWide, translation, SearchHolds, CoreFits, without_core, VerdictFits, Links, SpacesFit}
 use Rattle.varisat.specs.Summaries.{Summary, spaces, spaces_of, StandsFor}
 use Rattle.varisat.specs.Accepting.{IsPlain, AreNamedInTurn, AreTakenInTurn, AreTakenFor, AreJoined}
 use Rattle.varisat.proofs.SpacesMoves.{give, take_solver, count, solver_literal, accept}
+use Rattle.varisat.proofs.KeptCounts.{given-most}
 use Rattle.varisat.proofs.NewNames.{given}
 use Rattle.varisat.proofs.Counted.{counted, right-more, join-more, join-has, join-only, join-once}
 use Rattle.varisat.proofs.AcceptSolverVariables.{taken, solvers-few}
@@ -38,7 +40,7 @@ use Rattle.varisat.proofs.ModelsFit.{is-core}
 use Rattle.varisat.proofs.AcceptLoad.{loaded}
 use Rattle.varisat.proofs.SolveVerdict.{forgotten, core-known, model-same, spaces-same, maps-same}
 use Rattle.varisat.proofs.Carried.{carry-at}
-use Rattle.varisat.proofs.PlainTables.{next-plain, named-plain, taken-plain, taken-in-turn-plain, taken-users}
+use Rattle.varisat.proofs.PlainTables.{named-plain, taken-plain, taken-in-turn-plain, taken-users}
 use Rattle.varisat.proofs.SearchViews.{view-long, view-inside}
 
 abbrev pub with_tables : Tables → Summary → Summary
@@ -57,6 +59,7 @@ given-spaces g s new u x (w, k) free n =
       global_from_user = n.users.forward.at_each;
       user_from_global = n.users.backward.at_each;
       watermark = n.users.forward.watermark;
+      globals = given-most g.tables new u x n;
       solver_from_global = solver;
       global_from_solver = λ v. ap (λ m. at m.backward v) n.solvers;
       kept = n.kept.at_each;
@@ -74,34 +77,42 @@ next-spaces (suc k) g s new f (mid, x, n, rest) =
     (subst (λ v. SpacesFit (spaces (with_tables mid g)) (with_naming (bring v s.naming) s)) (sym u) (given-spaces g s mid (length g.tables.users.forward) x f (f.1.names.free (length g.tables.users.forward) (omega (arith, u))) n))
     rest
 
--- a name is named, where nothing is hidden
-pub named-one : (g : Summary) (s : State) (new : Tables) (u : ℕ) → SpacesFit (spaces g) s → IsPlain g.tables → AreNextGiven (u + 1 - length g.tables.users.forward) g.tables new → SpacesFit (spaces (with_tables new g)) (with_naming (name_one u s.naming) s)
-named-one g s new u f n e =
+not-below : (a b : ℕ) → b ≤ a → nat_lt a b ≡ false
+not-below a b h = search (rules, h)
+
+-- how a name is named, below the watermark
+pub name-below : (u : ℕ) (m : Naming) → u < m.watermark → name_one u m ≡ bring_if_free u (m.names u) m
+name-below u m h = ap (λ c. if c then bring_if_free u (m.names u) m else bring_next (suc u - m.watermark) m) (lt-ltb u m.watermark h)
+
+-- and from it on
+pub name-above : (u : ℕ) (m : Naming) → m.watermark ≤ u → name_one u m ≡ bring_next (suc u - m.watermark) m
+name-above u m h = ap (λ c. if c then bring_if_free u (m.names u) m else bring_next (suc u - m.watermark) m) (not-below u m.watermark h)
+
+-- a name is named: it was in use, or comes into use alone, or with those from the watermark up to it
+pub named-one : (g : Summary) (s : State) (new : Tables) (u : ℕ) → SpacesFit (spaces g) s → IsNamed u g.tables new → SpacesFit (spaces (with_tables new g)) (with_naming (name_one u s.naming) s)
+named-one g s new u f (InUse x e same) =
     let (w, k) = f in
     let m = k.watermark in
-    ⊎_elim
-    (λ h.
-    let b : u < length g.tables.users.forward = omega (arith, h, m) in
-    let used = n.nothing_hidden.users u b in
-    let (i, r) = k.names.live u u used in
-    let z : u + 1 - length g.tables.users.forward ≡ 0 = omega (arith, b) in
-    let same : new ≡ g.tables = subst (λ c. AreNextGiven c g.tables new) z e in
-    let named : s.naming.names u ≡ Some i = k.names.agree u ∙ chain-some (at g.tables.users.forward) w.identity u u used ∙ r in
-    subst (SpacesFit (spaces (with_tables new g))) (sym (ap (λ m. with_naming m s) (ap (λ c. if c then bring_if_free u (s.naming.names u) s.naming else bring_next (suc u - s.naming.watermark) s.naming) (lt-ltb u s.naming.watermark h) ∙ ap (λ o. bring_if_free u o s.naming) named)))
-    (subst (λ t. SpacesFit (spaces (with_tables t g)) s) (sym same) f))
-    (λ h.
+    let inside = at-inside g.tables.users.forward u x e in
+    let (i, r) = k.names.live u x e in
+    let named : s.naming.names u ≡ Some i = k.names.agree u ∙ chain-some (at g.tables.users.forward) w.identity u x e ∙ r in
+    let stays = name-below u s.naming (omega (arith, inside, m)) ∙ ap (λ o. bring_if_free u o s.naming) named in
+    subst (SpacesFit (spaces (with_tables new g))) (sym (ap (λ n. with_naming n s) stays)) (subst (λ t. SpacesFit (spaces (with_tables t g)) s) (sym same) f)
+named-one g s new u f (Free x b free n) =
+    let (w, k) = f in
+    let m = k.watermark in
+    let none : s.naming.names u ≡ None = k.names.agree u ∙ chain-none (at g.tables.users.forward) w.identity u free in
+    let brings = name-below u s.naming (omega (arith, b, m)) ∙ ap (λ o. bring_if_free u o s.naming) none in
+    subst (SpacesFit (spaces (with_tables new g))) (sym (ap (λ n. with_naming n s) brings)) (given-spaces g s new u x f free n)
+named-one g s new u f (Above b e) =
+    let m = f.1.watermark in
     let z : u + 1 - length g.tables.users.forward ≡ suc u - s.naming.watermark = omega (arith, m) in
-    subst (SpacesFit (spaces (with_tables new g))) (sym (ap (λ m. with_naming m s) (ap (λ c. if c then bring_if_free u (s.naming.names u) s.naming else bring_next (suc u - s.naming.watermark) s.naming) (not-below u s.naming.watermark h))))
-    (next-spaces (suc u - s.naming.watermark) g s new f (subst (λ c. AreNextGiven c g.tables new) z e)))
-    (cases_lt u s.naming.watermark)
-  where
-    not-below : (a b : ℕ) → b ≤ a → nat_lt a b ≡ false
-    not-below a b h = search (rules, h)
+    subst (SpacesFit (spaces (with_tables new g))) (sym (ap (λ n. with_naming n s) (name-above u s.naming (omega (arith, b, m)))))
+    (next-spaces (suc u - s.naming.watermark) g s new f (subst (λ c. AreNextGiven c g.tables new) z e))
 
-pub named-all : (d : List Literal) (g : Summary) (s : State) (new : Tables) → SpacesFit (spaces g) s → IsPlain g.tables → AreNamedInTurn d g.tables new → SpacesFit (spaces (with_tables new g)) (with_naming (name_all d s.naming) s)
-named-all [] g s new f n e = subst (λ t. SpacesFit (spaces (with_tables t g)) s) (sym e) f
-named-all (l ∷ d) g s new f n (mid, e, rest) =
-    named-all d (with_tables mid g) (with_naming (name_one (variable_of l) s.naming) s) new (named-one g s mid (variable_of l) f n e) (next-plain (variable_of l + 1 - length g.tables.users.forward) g.tables mid n e).0 rest
+pub named-all : (d : List Literal) (g : Summary) (s : State) (new : Tables) → SpacesFit (spaces g) s → AreNamedInTurn d g.tables new → SpacesFit (spaces (with_tables new g)) (with_naming (name_all d s.naming) s)
+named-all [] g s new f e = subst (λ t. SpacesFit (spaces (with_tables t g)) s) (sym e) f
+named-all (l ∷ d) g s new f (mid, e, rest) = named-all d (with_tables mid g) (with_naming (name_one (variable_of l) s.naming) s) new (named-one g s mid (variable_of l) f e) rest
 
 -- 2. Solver variables, where no model is told.
 
@@ -114,6 +125,7 @@ taken-one g s new x v i w k none n is spoken free t =
       global_from_user = λ u. ap (λ m. at m.forward u) t.users;
       user_from_global = λ y. ap (λ m. at m.backward y) t.users;
       watermark = ap (λ m. length m.forward) t.users;
+      globals = let c = ap (λ m. length m) t.kept in omega (arith, c);
       solver_from_global = t.solvers.forward.at_each;
       global_from_solver = t.solvers.backward.at_each;
       kept = λ y. ap (λ m. kept_at m y) t.kept;
@@ -194,7 +206,7 @@ brought-in d g n taken t f none plain e seen c =
     let f4 = taken-in-turn e.globals g (count (join_counted n.counted is) n) taken f3 none plain
     (λ x h. let (l, i, q) = e.named x h in (variable_of l, q, λ j r. join-has is n.counted j (subst (λ y. y ∈ is) (carry-at n.naming.names l j r) (∈-map variable_of (through_names n.naming l) (map (through_names n.naming) d) (∈-map (through_names n.naming) l d i)))))
     e.in_turn in
-    raised (with_tables taken g) (count (join_counted n.counted is) n) t f4 none seen c (taken-in-turn-plain e.globals g.tables taken plain e.in_turn).nothing_hidden.solvers
+    raised (with_tables taken g) (count (join_counted n.counted is) n) t f4 none seen c (taken-in-turn-plain e.globals g.tables taken plain e.in_turn).full
 
 pub in-use-all : (t : Tables) (s : View) → IsFull t.solvers.backward → length s.values ≡ length t.solvers.backward → WellFormed s → (l : Literal) → IsLiteralOf (search_of s) l → (x : ℕ) × (at t.solvers.backward (variable_of l) ≡ Some x)
 in-use-all t s full n w l h =
@@ -300,7 +312,7 @@ clause-accepted g s d named taken joined mid new parts after t f =
     let c = map (through_names n.naming) d in
     let plain-named = named-plain d g.tables named t.plain t.are_named in
     let plain = taken-in-turn-plain t.are_taken.globals named taken plain-named t.are_taken.in_turn in
-    let (w1, k1) = named-all d g s named f t.plain t.are_named in
+    let (w1, k1) = named-all d g s named f t.are_named in
     let p1 = spaces (with_tables named g) in
     let bad = not-unsat g.search g.assumed.failed_core g.sat_state w1.identity p1.model n.verdict t.not_unsat k1.verdict in
     let g2 : Summary = record g { tables = named; sat_state = verdict.Unknown } in
@@ -313,7 +325,7 @@ clause-accepted g s d named taken joined mid new parts after t f =
     let q = spaces_of joined new parts after in
     let (x, v, k6) = loaded w5 p s3 d k5 (λ l h. t.are_taken.all l h) (kept_at joined.kept)
     (record { rest = j.rest; fallen = j.fallen; wide = λ wide l x h e. j.joined (several d wide) l x h e })
-    (search_of new) (loaded_outcome after) q.model [] refl (view-long mid t.well_mid) (view-long new t.well_new) (in-use-all taken new plain.nothing_hidden.solvers (t.same_count ∙ t.count) t.well_new)
+    (search_of new) (loaded_outcome after) q.model [] refl (view-long mid t.well_mid) (view-long new t.well_new) (in-use-all taken new plain.full (t.same_count ∙ t.count) t.well_new)
     (subst (λ e. Loads (search_of mid) (search_of new) e (loaded_outcome after) []) same-literals t.loads) in
     let p6 = record p { kept = kept_at joined.kept; search = search_of new; model = q.model } in
     let (y, u, k7) = settled w5 p6 s3 c new g.search parts.failed_core g.assumed.failed_core w1.identity p1.model g.sat_state after n.verdict x k6 v k1.verdict t.verdict k1.core
@@ -325,6 +337,7 @@ clause-accepted g s d named taken joined mid new parts after t f =
           global_from_user = λ u. ap (λ m. at m.forward u) j.users;
           user_from_global = λ y. ap (λ m. at m.backward y) j.users;
           watermark = ap (λ m. length m.forward) j.users;
+          globals = let c = j.count in omega (arith, c);
           solver_from_global = λ y. ap (λ m. at m.forward y) j.solvers;
           global_from_solver = λ u. ap (λ m. at m.backward u) j.solvers;
           kept = λ y. refl;

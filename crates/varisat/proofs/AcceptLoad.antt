@@ -238,6 +238,7 @@ module _ (w : Carrying) (p : Spaces) (s : State) (d : Clause) (k : Links w p s) 
       names = k.names;
       modes = modes-same w.identity p.global_from_user p.user_from_global p.global_from_user p.user_from_global p.kept after s.naming.modes (λ u. refl) (λ x. refl) (λ x. ap (λ y. y.sampling_mode) (touched.rest x)) k.modes;
       watermark = k.watermark;
+      globals = k.globals;
       units = units-same w.identity w.forced p.kept after s.counted (λ x. ap (λ y. y.unit) (touched.rest x)) k.units;
       isolation = settled-more;
       solvers = k.solvers;
@@ -281,6 +282,7 @@ module _ (w : Carrying) (p : Spaces) (s : State) (d : Clause) (k : Links w p s) 
       names = k.names;
       modes = modes-same w.identity p.global_from_user p.user_from_global p.global_from_user p.user_from_global p.kept after s.naming.modes (λ u. refl) (λ x. refl) (λ x. ap (λ y. y.sampling_mode) (marks.rest x)) k.modes;
       watermark = k.watermark;
+      globals = k.globals;
       units = units-same w.identity w.forced p.kept after s.counted (λ x. ap (λ y. y.unit) (marks.rest x)) k.units;
       isolation = isolation-same w.identity w.forced p.kept after s.clauses s.naming.made (λ x. ap (λ y. y.isolated) (marks.rest x)) k.isolation;
       solvers = k.solvers;

@@ -1,5 +1,5 @@
 -- A list is assumed: its names come into use, their variables take solver variables and are marked, and the search has its literals.
-use Rattle.std.proofs.Common.{◌≡◌, ◌≢◌, ℕ, ◌<◌, true, false, Some, None, List, [], ◌⊎◌, inl, inr, ⊎_elim, length, map, sym, ap, ◌∙◌, subst, refl}
+use Rattle.std.proofs.Common.{◌≡◌, ◌≢◌, ℕ, ◌<◌, true, false, Some, None, List, [], ◌⊎◌, inl, inr, ⊎_elim, length, map, sym, ap, ◌∙◌, subst, refl, arith}
 use Rattle.varisat_theory.specs.Membership.{◌∈◌}
 use Rattle.varisat_theory.specs.Literals.{Literal, Assignment, variable_of}
 use Rattle.varisat_theory.specs.Outcomes as outcome
@@ -99,7 +99,7 @@ list-assumed g s list named taken cleared marked mid new parts after t f =
     let n = with_naming (name_all list s.naming) s in
     let plain-named = named-plain list g.tables named t.plain t.are_named in
     let plain = taken-in-turn-plain t.are_taken.globals named taken plain-named t.are_taken.in_turn in
-    let (w1, k1) = named-all list g s named f t.plain t.are_named in
+    let (w1, k1) = named-all list g s named f t.are_named in
     let g2 : Summary = record g { tables = named; sat_state = assumed_state g.sat_state } in
     let n2 = with_verdict (assumed_verdict n.verdict) n in
     let none : HasNoModel g2 = no-model-left g.search g.assumed.failed_core g.sat_state in
@@ -122,6 +122,7 @@ list-assumed g s list named taken cleared marked mid new parts after t f =
         global_from_user = λ u. ap (λ m. at m.forward u) users;
         user_from_global = λ y. ap (λ m. at m.backward y) users;
         watermark = ap (λ m. length m.forward) users;
+        globals = let c = b.count in let d = a.count in omega (arith, c, d);
         solver_from_global = λ y. ap (λ m. at m.forward y) solvers;
         global_from_solver = λ u. ap (λ m. at m.backward u) solvers;
         kept = λ y. refl;
@@ -134,7 +135,7 @@ list-assumed g s list named taken cleared marked mid new parts after t f =
       outcome = no-core-left mid g.assumed.failed_core parts.failed_core g.sat_state;
       var_count = refl;
     }) (w5, k6) in
-    let full = subst (λ (m : BiMap). (v : ℕ) → v < length m.backward → at m.backward v ≢ None) (sym solvers) plain.nothing_hidden.solvers in
+    let full = subst (λ (m : BiMap). (v : ℕ) → v < length m.backward → at m.backward v ≢ None) (sym solvers) plain.full in
     let c = ap (λ (m : BiMap). length m.backward) (sym solvers) in
     subst (λ x. SpacesFit (spaces_of marked new parts x) s6) (sym t.verdict)
     (raised g6 s6 new f6 (no-model-left mid parts.failed_core g.sat_state) t.seen_new (t.same_count ∙ t.count ∙ c) full)

@@ -1,16 +1,19 @@
 -- What is true of the maps and of the search once a list was brought in.
-use Rattle.std.proofs.Common.{◌≡◌, ℕ, ◌<◌, List, ◌↔◌, ap, length, arith}
+use Rattle.std.proofs.Common.{◌≡◌, ℕ, ◌<◌, Some, true, false, List, ◌↔◌, sym, ap, ◌∙◌, length, arith}
+use Rattle.std.specs.Option.{IsSome}
 use Rattle.varisat_theory.specs.Membership.{◌∈◌}
 use Rattle.varisat_theory.specs.Literals.{Literal, variable_of}
 use Rattle.varisat_names.specs.VarBiMap.{BiMap}
-use Rattle.varisat_names.specs.Variables.{Tables}
+use Rattle.varisat_names.specs.VarMap.{at}
+use Rattle.varisat_names.specs.VarData.{kept_at}
+use Rattle.varisat_names.specs.Variables.{Tables, AreLinked}
 use Rattle.varisat_search.specs.declared.context.Context.{Context}
 use Rattle.varisat_search.specs.Contexts.{view}
 use Rattle.varisat_search.specs.Decisions.{IsDecidable, AreDecidable, SameDecidable}
 use Rattle.varisat_search.proofs.DecidableVariables.{all-decidable}
-use Rattle.varisat.specs.Accepting.{AreBroughtIn}
+use Rattle.varisat.specs.Accepting.{AreBroughtIn, IsAssumedSolver}
 use Rattle.varisat.specs.Summaries.{IsKept}
-use Rattle.varisat.proofs.PlainTables.{named-grow, taken-users}
+use Rattle.varisat.proofs.PlainTables.{is-there, there-is, names-keep, taken-users, assumed-keeps, assumed-taken, marked-keeps}
 
 module _ {A : Type 0} {list : List Literal} {old new : Tables} {x y : Context A} {literals : List Literal} (k : IsKept old x) (b : AreBroughtIn list old new x y literals) where
   -- the variables of the literals are those of the search
@@ -30,9 +33,19 @@ module _ {A : Type 0} {list : List Literal} {old new : Tables} {x y : Context A}
       ((λ h. let i = p ((same v).1 h) in omega (arith, i, n, b.raised.count)), (λ h. (same v).0 (q (omega (arith, h, n, b.raised.count)))))
 
   -- the assumptions before are over names in use
-  pub still-named : (l : Literal) → l ∈ x.assumptions.user → variable_of l < length new.users.forward
+  pub still-named : (l : Literal) → l ∈ x.assumptions.user → IsSome (at new.users.forward (variable_of l))
   still-named l h =
-      let n = k.assumed l h in
-      let w = named-grow list old b.named k.plain b.are_named in
-      let u = ap (λ (m : BiMap). length m.forward) (taken-users b.are_taken.globals b.named new b.are_taken.in_turn).0 in
-      omega (arith, n, w, u)
+      let (y, e) = there-is (at old.users.forward (variable_of l)) (k.assumed l h) in
+      let users = (taken-users b.are_taken.globals b.named new b.are_taken.in_turn).0 in
+      is-there (at new.users.forward (variable_of l)) y (ap (λ (m : BiMap). at m.forward (variable_of l)) users ∙ (names-keep list old b.named b.are_named).named (variable_of l) y e)
+
+  -- and those by which the search goes over solver variables of names that are assumed
+  pub still-working : AreLinked old → (l : Literal) → l ∈ x.assumptions.working → IsAssumedSolver new (variable_of l)
+  still-working linked l h = assumed-taken b.are_taken.globals b.named new (variable_of l) b.are_taken.in_turn (assumed-keeps old b.named (variable_of l) linked (names-keep list old b.named b.are_named) (k.working l h))
+
+  -- and the variables of the assumptions stay marked
+  pub still-marked : AreLinked old → (l : Literal) (z : ℕ) → l ∈ x.assumptions.user → at new.users.forward (variable_of l) ≡ Some z → (kept_at new.kept z).assumed ≡ true
+  still-marked linked l z h f =
+      let (users, kept) = taken-users b.are_taken.globals b.named new b.are_taken.in_turn in
+      let (y, e) = there-is (at old.users.forward (variable_of l)) (k.assumed l h) in
+      ap (λ ds. (kept_at ds z).assumed) kept ∙ marked-keeps old b.named (variable_of l) z y linked (names-keep list old b.named b.are_named) e (k.marked l y h e) (ap (λ (m : BiMap). at m.forward (variable_of l)) (sym users) ∙ f)

@@ -1,14 +1,12 @@
 -- States after a call that changed nothing more, and after one that ran out of memory.
-use Rattle.std.proofs.Common.{◌≡◌, ◌≢◌, ◌∙◌, ℕ, ◌<◌, Bool, true, false, MatchBool, List, Err, refl, ap, arith}
-use Rattle.varisat_theory.specs.Membership.{◌∈◌}
-use Rattle.varisat_theory.specs.Literals.{Literal, Clause, variable_of}
-use Rattle.varisat_literals.specs.Numbers.{variable_limit}
+use Rattle.std.proofs.Common.{◌≡◌, ◌≢◌, ◌∙◌, ℕ, Bool, true, false, Err, refl, ap}
+use Rattle.varisat_theory.specs.Literals.{Clause}
 use Rattle.varisat_clause.specs.declared.alloc.StoreError.{StoreError}
 use Rattle.varisat_clause.specs.declared.alloc.StoreError.TheVariants as store
 use Rattle.varisat_names.specs.Settings.{Settings}
 use Rattle.varisat.specs.States.{State, Ledger, IsWellFormed, Unknown, Unsat}
 use Rattle.varisat.specs.Refusals.{store_refusal}
-use Rattle.varisat.specs.Calls.{IsLike, IsValid, Invalidates, IsPastLimit, AddsClause, CountsCall, Solves, with_steps}
+use Rattle.varisat.specs.Calls.{IsLike, IsValid, Invalidates, MayConstrain, AddsClause, CountsCall, Solves, with_steps}
 use Rattle.varisat.specs.Summaries.{Summary, StandsFor}
 
 pub like-refl : (s : State) → IsLike s s
@@ -41,15 +39,10 @@ pub broken-invalid : (s : State) → s.ledger.valid ≡ true → IsWellFormed s 
 broken-invalid s v w = record { valid = v; ledger = refl; well_formed = told-well s (broken s) w }
 
 -- a clause could not be kept
-pub adds-broken : (e : StoreError) (s t : State) (d : Clause) → s.verdict ≢ Unsat → (IsPastLimit d → ⊥) → Invalidates s t → AddsClause s d (Err (store_refusal e)) t
+pub adds-broken : (e : StoreError) (s t : State) (d : Clause) → s.verdict ≢ Unsat → MayConstrain s.naming d → Invalidates s t → AddsClause s d (Err (store_refusal e)) t
 adds-broken store.Full s t d n l b = (n, l, b)
 adds-broken store.Memory s t d n l b = (n, l, b)
 
 pub solves-broken : (e : StoreError) (s t : State) → s.verdict ≡ Unknown → CountsCall s (Err (store_refusal e)) t → Invalidates (with_steps t.ledger.steps s) t → Solves s (Err (store_refusal e)) t
 solves-broken store.Full s t u c b = (u, c, b)
 solves-broken store.Memory s t u c b = (u, c, b)
-
--- no name of the list is past the limit
-pub within-limit : (d : List Literal) (b : Bool) → MatchBool b (IsPastLimit d) ((l : Literal) → l ∈ d → variable_of l < variable_limit) → b ≡ false → IsPastLimit d → ⊥
-within-limit d true m e z = absurd (let q : true ≡ false = e in cc)
-within-limit d false m e (l, i, b) = let a = m l i in absurd (omega (arith, a, b))

@@ -74,6 +74,7 @@ counted w p s is k m b d = record {
   names = k.names;
   modes = k.modes;
   watermark = k.watermark;
+  globals = k.globals;
   units = record { unit = k.units.unit; is_counted = λ i v e. m i (k.units.is_counted i v e) };
   isolation = k.isolation;
   solvers = record { one_to_one = k.solvers.one_to_one; live = λ v x h. let r = k.solvers.live v x h in (r.0, r.1, m r.0 r.2) };

@@ -7,11 +7,12 @@ use Rattle.varisat.specs.declared.session.Answer.{Answer}
 use Rattle.varisat.specs.declared.session.Call.TheVariants as call
 use Rattle.varisat.specs.declared.session.Answer.TheVariants as answer
 use Rattle.varisat.specs.States.{State, empty_state}
-use Rattle.varisat.specs.Told.{told_list}
+use Rattle.varisat.specs.Told.{told_list, told_vars}
+use Rattle.varisat.specs.Names.{Sample, Witness}
 use Rattle.varisat.specs.Runs.{MakesCall, Run}
 use Rattle.varisat.specs.Pasts.{Past, empty_past}
 use Rattle.varisat.specs.Histories.{IsTrue, AreTrue}
-use Rattle.varisat.proofs.Pasts.{Agrees, Leads, add-clause, add-formula, add-text, make-var, assume-list, solve, tell-model, tell-core, config, stays, empty-agrees}
+use Rattle.varisat.proofs.Pasts.{Agrees, Leads, add-clause, add-formula, add-text, make-var, set-usage, hide, observe, assume-list, solve, tell-model, tell-core, config, stays, empty-agrees}
 
 -- what holds of each value with P
 pub of-ok : {X E : Type 0} (r : Result X E) (P Q : X → Type 0) → ((x : X) → P x → Q x) → IfOk r P → IfOk r Q
@@ -24,6 +25,10 @@ is-true seen (call.AddClause d) (answer.AddClause r) p s t g m = add-clause p s 
 is-true seen (call.AddFormula f) (answer.AddFormula r) p s t g m = add-formula p s t f.clauses r g m
 is-true seen (call.AddDimacsCnf source) (answer.AddDimacsCnf r back) p s t g m = add-text p s t (seen source) (seen back) r g m
 is-true seen call.NewVar (answer.NewVar r) p s t g m = make-var p s t r g m
+is-true seen (call.SampleVar u) (answer.SampleVar r) p s t g m = set-usage Sample p s t u r g m
+is-true seen (call.WitnessVar u) (answer.WitnessVar r) p s t g m = set-usage Witness p s t u r g m
+is-true seen (call.HideVar u) (answer.HideVar r) p s t g m = hide p s t u r g m
+is-true seen call.ObserveInternalVars (answer.ObserveInternalVars r) p s t g m = observe p s t (told_vars r) g m
 is-true seen (call.Assume list) (answer.Assume r) p s t g m = assume-list p s t list.items r g m
 is-true seen call.Solve (answer.Solve r) p s t g m = solve p s t r g m
 is-true seen call.Model (answer.Model r) p s t g m = tell-model p s t (told_list r) g m

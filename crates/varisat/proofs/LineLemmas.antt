@@ -14,11 +14,11 @@ use Rattle.std.proofs.Math.Seq.{drop-cons}
 use Rattle.std.proofs.lemmas.List.Elements.{All-from_recursion, recursion_from_All}
 use Rattle.std.proofs.lemmas.List.Splits.{slice_split_none, slice_split_at, join_with_byte-slice_split, length-slice_split}
 use Rattle.varisat_literals.specs.Numbers.{literal_number}
-use Rattle.varisat_literals.specs.Numbers.{literal_text}
+use Rattle.varisat_literals.specs.Numbers.{literal_text, variable_text}
 use Rattle.varisat_names.specs.declared.config.ConfigField.{ConfigField}
 use Rattle.varisat_names.specs.declared.config.ConfigField.TheVariants.{VsidsDecay, ClauseActivityDecay, ReduceLocalsInterval, ReduceMidsInterval, LubyRestartIntervalScale, MaxSteps}
 use Rattle.varisat_names.specs.Settings.{field_text}
-use Rattle.varisat.specs.Lines.{Command, Add, Assume, New, Solve, Model, Core, Config, Steps, Close, Means, MeansOneCommand, HasNumbersInRange, words, words_of, spelling}
+use Rattle.varisat.specs.Lines.{Command, Add, Assume, New, Sample, Witness, Hide, Observe, Solve, Model, Core, Config, Steps, Close, Means, MeansOneCommand, HasNumbersInRange, words, words_of, spelling}
 
 abbrev pub NoSpace : List ℕ → Type 0
 NoSpace word = All (λ b. (b == 32) ≡ false) word
@@ -105,6 +105,9 @@ name_has_no_space MaxSteps = no_space (codes "max_steps") (from_spaceless (codes
 number_has_no_space : (n : ℕ) → n < 2 ^ 64 → NoSpace (decimal n)
 number_has_no_space n h = no_space (decimal n) (decimal_has_no_space n h)
 
+variable_has_no_space : (v : ℕ) → v < 2 ^ 31 → NoSpace (variable_text v)
+variable_has_no_space v h = number_has_no_space (v + 1) (omega arith)
+
 -- each setting's name has a length of its own
 names_apart : (f g : ConfigField) → length (field_text f) ≡ length (field_text g) → f ≡ g
 names_apart VsidsDecay VsidsDecay e = refl
@@ -119,6 +122,10 @@ pub words_have_no_space : (command : Command) → HasNumbersInRange command → 
 words_have_no_space (Add ls) h = (no_space (codes "add") (refl, (refl, (refl, tt))), texts_have_no_space ls (recursion_from_All (λ l. l < 2 ^ 32) ls h))
 words_have_no_space (Assume ls) h = (no_space (codes "assume") (from_spaceless (codes "assume") refl), texts_have_no_space ls (recursion_from_All (λ l. l < 2 ^ 32) ls h))
 words_have_no_space New h = (no_space (codes "new") (refl, (refl, (refl, tt))), tt)
+words_have_no_space (Sample v) h = (no_space (codes "sample") (from_spaceless (codes "sample") refl), (variable_has_no_space v h, tt))
+words_have_no_space (Witness v) h = (no_space (codes "witness") (from_spaceless (codes "witness") refl), (variable_has_no_space v h, tt))
+words_have_no_space (Hide v) h = (no_space (codes "hide") (from_spaceless (codes "hide") refl), (variable_has_no_space v h, tt))
+words_have_no_space Observe h = (no_space (codes "observe") (from_spaceless (codes "observe") refl), tt)
 words_have_no_space Solve h = (no_space (codes "solve") (refl, (refl, (refl, (refl, (refl, tt))))), tt)
 words_have_no_space Model h = (no_space (codes "model") (refl, (refl, (refl, (refl, (refl, tt))))), tt)
 words_have_no_space Core h = (no_space (codes "core") (from_spaceless (codes "core") refl), tt)
@@ -135,6 +142,10 @@ words_of_spelled : (command : Command) → HasNumbersInRange command → words_o
 words_of_spelled (Add ls) h = words_of_joined (codes "add") (map literal_text ls) (words_have_no_space (Add ls) h)
 words_of_spelled (Assume ls) h = words_of_joined (codes "assume") (map literal_text ls) (words_have_no_space (Assume ls) h)
 words_of_spelled New h = words_of_joined (codes "new") [] (words_have_no_space New h)
+words_of_spelled (Sample v) h = words_of_joined (codes "sample") (variable_text v ∷ []) (words_have_no_space (Sample v) h)
+words_of_spelled (Witness v) h = words_of_joined (codes "witness") (variable_text v ∷ []) (words_have_no_space (Witness v) h)
+words_of_spelled (Hide v) h = words_of_joined (codes "hide") (variable_text v ∷ []) (words_have_no_space (Hide v) h)
+words_of_spelled Observe h = words_of_joined (codes "observe") [] (words_have_no_space Observe h)
 words_of_spelled Solve h = words_of_joined (codes "solve") [] (words_have_no_space Solve h)
 words_of_spelled Model h = words_of_joined (codes "model") [] (words_have_no_space Model h)
 words_of_spelled Core h = words_of_joined (codes "core") [] (words_have_no_space Core h)
@@ -173,6 +184,12 @@ settings_apart f g m n h k e =
     let b = decimal_injective m n h k texts in
     ap (λ x. Config x m) a ∙ ap (Config g) b
 
+variables_apart : (u v : ℕ) → u < 2 ^ 31 → v < 2 ^ 31 → variable_text u ≡ variable_text v → u ≡ v
+variables_apart u v h k e = let n = decimal_injective (u + 1) (v + 1) (omega arith) (omega arith) e in omega (arith, n)
+
+second_same : (a b c d : List ℕ) → a ∷ b ∷ [] ≡ c ∷ d ∷ [] → b ≡ d
+second_same a b c d e = cc
+
 -- the bytes of the first word as one number, by which the kinds of commands differ
 abbrev first_word_number : List (List ℕ) → ℕ
 first_word_number [] = 0
@@ -182,6 +199,10 @@ pub words_apart : (a b : Command) → HasNumbersInRange a → HasNumbersInRange 
 words_apart (Add ls) (Add ms) h k e = adds_apart ls ms h k e
 words_apart (Assume ls) (Assume ms) h k e = assumptions_apart ls ms h k e
 words_apart New New h k e = refl
+words_apart (Sample u) (Sample v) h k e = ap Sample (variables_apart u v h k (second_same _ _ _ _ e))
+words_apart (Witness u) (Witness v) h k e = ap Witness (variables_apart u v h k (second_same _ _ _ _ e))
+words_apart (Hide u) (Hide v) h k e = ap Hide (variables_apart u v h k (second_same _ _ _ _ e))
+words_apart Observe Observe h k e = refl
 words_apart Solve Solve h k e = refl
 words_apart Model Model h k e = refl
 words_apart Core Core h k e = refl
@@ -373,3 +394,17 @@ no_setting setting name others w none command m =
 
 pub number_alone : (number word : List ℕ) → word ∷ [] ≡ words_of number → word ≡ number
 number_alone number word e = sym (one_word number word (sym e))
+
+-- Behind `sample`, `witness` and `hide` stands a variable.
+
+behind_name : (text name number : List ℕ) (n : ℕ) → pointwise nat_eq (take n text) name ≡ true → number ≡ drop n text → name ++ number ≡ text
+behind_name text name number n t d = ap (λ x. x ++ number) (sym (same_text (take n text) name (sym t))) ∙ ap (λ x. take n text ++ x) d ∙ take-append-drop n text
+
+pub sample_read : (text number : List ℕ) (v : ℕ) → pointwise nat_eq (take 7 text) (codes "sample ") ≡ true → number ≡ drop 7 text → variable_text v ≡ number → v < 2 ^ 31 → Means text (Sample v)
+sample_read text number v t d e h = record { spelled = ap (λ xs. codes "sample " ++ xs) e ∙ behind_name text (codes "sample ") number 7 t d; in_range = h }
+
+pub witness_read : (text number : List ℕ) (v : ℕ) → pointwise nat_eq (take 8 text) (codes "witness ") ≡ true → number ≡ drop 8 text → variable_text v ≡ number → v < 2 ^ 31 → Means text (Witness v)
+witness_read text number v t d e h = record { spelled = ap (λ xs. codes "witness " ++ xs) e ∙ behind_name text (codes "witness ") number 8 t d; in_range = h }
+
+pub hide_read : (text number : List ℕ) (v : ℕ) → pointwise nat_eq (take 5 text) (codes "hide ") ≡ true → number ≡ drop 5 text → variable_text v ≡ number → v < 2 ^ 31 → Means text (Hide v)
+hide_read text number v t d e h = record { spelled = ap (λ xs. codes "hide " ++ xs) e ∙ behind_name text (codes "hide ") number 5 t d; in_range = h }

@@ -195,6 +195,7 @@ module _ (w : Carrying) (p : Spaces) (s : State) (u x : ℕ) (k : Links w p s) (
       names = new-names;
       modes = new-modes;
       watermark = ap (λ n. max n (u + 1)) k.watermark;
+      globals = let b = k.globals in omega (arith, b);
       units = new-units;
       isolation = new-isolation;
       solvers = record { one_to_one = k.solvers.one_to_one; live = λ v y h. let r = k.solvers.live v y h in (r.0, stays y r.0 r.1, r.2) };

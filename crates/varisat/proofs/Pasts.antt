@@ -1,26 +1,30 @@
 -- What the calls and answers so far say of the state that a solver is in: each call moves both alike.
-use Rattle.std.proofs.Common.{◌≡◌, ◌≢◌, ℕ, zero, suc, ◌≤◌, ◌-◌, nat_lt, if◌then◌else◌, Bool, true, false, not, List, [], ◌∷◌, ◌++◌, ◌⊎◌, inl, inr, ⊎_elim, sym, ap, ◌∙◌, subst, refl, Option, Some, None, Result, Ok, Err, map, arith, length}
+use Rattle.std.proofs.Common.{◌≡◌, ◌≢◌, ℕ, zero, suc, ◌<◌, ◌≤◌, ◌-◌, nat_lt, if◌then◌else◌, Bool, true, false, not, List, [], ◌∷◌, ◌++◌, ◌⊎◌, inl, inr, ⊎_elim, sym, ap, ◌∙◌, subst, refl, Option, Some, None, Result, Ok, Err, map, arith, length}
 use Rattle.std.specs.declared.alloc.AllocError.{AllocError}
+use Rattle.varisat_theory.specs.Membership.{◌∈◌}
 use Rattle.varisat_theory.specs.Literals.{Literal, Clause, Assignment, variable_of, SatisfiesAll, MakesTrue, IsSatisfiable, IsSatisfiableWith, IsFailedCore}
 use Rattle.varisat_formula.specs.declared.dimacs.error.DimacsError.{DimacsError}
 use Rattle.varisat_formula.specs.Dimacs.{Reading}
 use Rattle.varisat_formula.specs.Streams.{Stand}
 use Rattle.varisat_names.specs.declared.config.SolverConfigUpdate.{SolverConfigUpdate}
 use Rattle.varisat_names.specs.Settings.{Settings, updated_settings}
-use Rattle.varisat_names.proofs.Maps.{updated-other}
+use Rattle.varisat_names.proofs.Maps.{updated-other, updated-all}
 use Rattle.varisat.specs.States.{State, join_counted, Verdict, Unknown, Sat, Unsat, UnsatUnderAssumptions, empty_state, IsRight, HasRightVerdict}
-use Rattle.varisat.specs.Names.{Naming, bring, bring_next, bring_if_free, name_one, name_all, through_names, IsLeastFree}
+use Rattle.varisat.specs.Names.{Naming, Mode, bring, bring_next, bring_if_free, name_one, name_all, through_names, IsLeastFree, IsFirstWitness, free_name, set_mode, give_name, AreShown}
 use Rattle.varisat.specs.Models.{list_names, model_of, AreNamesInUse, IsCompletable, IsCoreToTell}
 use Rattle.varisat.specs.Additions as additions
 use Rattle.varisat.specs.Additions.{Gave, InTurn, RefusedAtOnce, NoFault, MemoryFault, Fault, ClauseRefused, ClausesAdded, RefusedEarly, FaultInText, Whole, MemoryRanOut, SourceFailed, Read, Unread}
 use Rattle.varisat.specs.Calls as state
-use Rattle.varisat.specs.Calls.{IsPastLimit, IsCrowded, IsLike, with_naming, start, with_steps, answer_of, reopened_verdict, assumed_verdict, VerdictAfter}
+use Rattle.varisat.specs.Calls.{IsPastLimit, MayConstrain, IsCrowded, IsLike, with_naming, start, with_steps, answer_of, reopened_verdict, assumed_verdict, VerdictAfter}
 use Rattle.varisat.specs.Budgets.{CountsSteps}
 use Rattle.varisat.specs.Updates as updates
 use Rattle.varisat.specs.Pasts as past
+use Rattle.varisat.specs.Usage as usage
+use Rattle.varisat.specs.Usage.{AreAllShown, NeedsNamePastLimit}
+use Rattle.varisat.specs.VariableCalls as variables
 use Rattle.varisat.specs.Pasts.{Past, empty_past, accept, assume, MakesFewSteps}
 use Rattle.varisat.specs.declared.solver.SolverError.{SolverError}
-use Rattle.varisat.specs.declared.solver.SolverError.TheVariants.{Interrupted, OutOfMemory, Invalid, ClauseStoreFull, VariableLimit, ConfigOutOfRange, Dimacs}
+use Rattle.varisat.specs.declared.solver.SolverError.TheVariants.{Interrupted, OutOfMemory, Invalid, ClauseStoreFull, WitnessVar, VariableLimit, AssumedVar, ConfigOutOfRange, Dimacs}
 use Rattle.varisat_literals.specs.Numbers.{variable_limit}
 use Rattle.varisat.proofs.CallStates.{like-refl}
 use Rattle.varisat.proofs.VerdictAnswers.{is-unknown-or-not, answer-sat, right-false, told-fails, core-answer, no-core, reopened-not-true, reopened-false, right-reopened, assumed-not-true, right-assumed}
@@ -52,6 +56,16 @@ capped-one u m f = go (nat_lt u m.watermark)
 capped-all : (d : List Literal) (m : Naming) → IsCapped m → IsCapped (name_all d m)
 capped-all [] m f = f
 capped-all (l ∷ d) m f = capped-all d (name_one (variable_of l) m) (capped-one (variable_of l) m f)
+
+capped-freed : (u : ℕ) (m : Naming) → IsCapped m → IsCapped (free_name u m)
+capped-freed u m f v h = updated-all (λ v o. o ≡ None) m.names u None refl v (λ n. f v h)
+
+capped-given : (u i : ℕ) (m : Naming) → IsCapped m → IsCapped (give_name u i m)
+capped-given u i m f v h = updated-other m.names u (Some i) v (λ e. absurd (omega arith)) ∙ f v (omega arith)
+
+capped-shown : (us : List ℕ) (old new : Naming) → AreShown us old new → IsCapped old → IsCapped new
+capped-shown [] old new e f = subst IsCapped (sym e) f
+capped-shown (u ∷ us) old new (least, (i, made, unnamed, rest)) f = capped-shown us (give_name u i old) new rest (capped-given u i old f)
 
 -- 2. The state and the past.
 
@@ -145,7 +159,13 @@ accepted p s t d n (w, after, e) g v =
 refuted : (p : Past) (s : State) → Knows p s → s.verdict ≡ Unsat → IsSatisfiable p.clauses → ⊥
 refuted p s k u = subst (λ P. IsSatisfiable P → ⊥) k.clauses (subst (IsRight s.clauses s.assumptions s.counted) u k.right)
 
--- what it is refused for is the same for both
+-- what it needs, and what it is refused for, is the same for both
+may-constrain : (p : Past) (s : State) (d : List Literal) → Knows p s → MayConstrain s.naming d → MayConstrain p.naming d
+may-constrain p s d k h = subst (λ (m : Naming). MayConstrain m d) k.naming h
+
+first-witness : (p : Past) (s : State) (d : List Literal) (u : ℕ) → Knows p s → IsFirstWitness s.naming d u → IsFirstWitness p.naming d u
+first-witness p s d u k h = subst (λ (m : Naming). IsFirstWitness m d u) k.naming h
+
 crowded : (p : Past) (s : State) (d : List Literal) → Knows p s → IsPastLimit d ⊎ IsCrowded (name_all d s.naming) → IsPastLimit d ⊎ IsCrowded (name_all d p.naming)
 crowded p s d k h = subst (λ (m : Naming). IsPastLimit d ⊎ IsCrowded (name_all d m)) k.naming h
 
@@ -153,11 +173,12 @@ pub add-clause : (p : Past) (s t : State) (d : Clause) (r : Result (Unit {0}) So
 add-clause p s t d (Ok u) g (v, state.Ignored n e) =
     let w = sym g.valid ∙ v in (p, (w, past.Ignored (refuted p s (g.knows w) n) refl), stays p s t e g)
 add-clause p s t d (Ok u) g (v, state.Accepted n lim a) =
-    let w = sym g.valid ∙ v in (accept d p, (w, past.Accepted lim refl), accepted p s t d n a g w)
+    let w = sym g.valid ∙ v in (accept d p, (w, past.Accepted (may-constrain p s d (g.knows w) lim) refl), accepted p s t d n a g w)
 add-clause p s t d (Err OutOfMemory) g a = breaks p s t g a.2
 add-clause p s t d (Err ClauseStoreFull) g a = breaks p s t g a.2
 add-clause p s t d (Err Invalid) g a = (p, (sym g.valid ∙ a.0, refl), stays p s t a.1 g)
 add-clause p s t d (Err VariableLimit) g a = (p, (sym g.valid ∙ a.0, crowded p s d (knows-of p s g a.0) a.2, refl), stays p s t a.3 g)
+add-clause p s t d (Err (WitnessVar u)) g a = (p, (sym g.valid ∙ a.0, a.2, first-witness p s d u (knows-of p s g a.0) a.3, refl), stays p s t a.4 g)
 add-clause p s t d (Err e) g a = absurd a
 
 -- 4. Formulas and texts.
@@ -226,7 +247,87 @@ make-var p s t (Err VariableLimit) g (v, full, same) =
     (p, (sym g.valid ∙ v, subst (λ (m : Naming). (u : ℕ) × IsLeastFree m u × ((variable_limit ≤ u) ⊎ IsCrowded (name_one u m))) k.naming full, refl), stays p s t same g)
 make-var p s t (Err e) g a = absurd a
 
--- 6. Assumptions.
+-- 6. Modes of variables, and hidden ones.
+
+-- the state and the past have other names
+renamed : (p : Past) (s t : State) (m : Naming) (b : Bool) → IsLike (record s { naming = m; ever_hidden = b }) t → IsCapped m → Agrees p s → p.valid ≡ true → Agrees (record p { naming = m }) t
+renamed p s t m b e c g v =
+    let k = g.knows v in
+    record {
+      valid = ap (λ x. x.valid) e.ledger ∙ g.valid;
+      steps = ap (λ x. x.steps) e.ledger ∙ g.steps;
+      settings = ap (λ x. x.settings) e.ledger ∙ g.settings;
+      knows = λ _. record {
+        naming = e.naming;
+        capped = subst IsCapped (sym e.naming) c;
+        clauses = e.clauses ∙ k.clauses;
+        assumed = e.assumptions ∙ k.assumed;
+        counted = e.counted ∙ k.counted;
+        model = λ x. ap answer_of e.verdict ∙ k.model x;
+        found = λ x. k.found (sym (ap answer_of e.verdict) ∙ x);
+        failed = λ x. ap answer_of e.verdict ∙ k.failed x;
+        right = right-like t s.clauses s.assumptions s.counted s.verdict e.clauses e.assumptions e.counted e.verdict k.right;
+      };
+    }
+
+-- a name is assumed in both or in none
+assumed-past : (p : Past) (s : State) (u : ℕ) → Knows p s → usage.IsAssumed variables.named s u → usage.IsAssumed past.named p u
+assumed-past p s u k (l, h, e) = (l, subst (λ A. l ∈ A) k.assumed h, subst (λ (m : Naming). m.names u ≡ Some (variable_of l)) k.naming e)
+
+assumed-state : (p : Past) (s : State) (u : ℕ) → Knows p s → usage.IsAssumed past.named p u → usage.IsAssumed variables.named s u
+assumed-state p s u k (l, h, e) = (l, subst (λ A. l ∈ A) (sym k.assumed) h, subst (λ (m : Naming). m.names u ≡ Some (variable_of l)) (sym k.naming) e)
+
+-- A name is named and then names change by f.
+changes-var : (f : Naming → Naming) (b : Bool → Bool) → ((m : Naming) → IsCapped m → IsCapped (f m)) → (p : Past) (s t : State) (u : ℕ) (r : Result (Unit {0}) SolverError) → Agrees p s →
+    usage.ChangesVar variables.named (λ x. record x { naming = f x.naming; ever_hidden = b x.ever_hidden }) s u r t →
+    Leads (usage.ChangesVar past.named (λ x. record x { naming = f x.naming }) p u r) t
+changes-var f b keeps p s t u (Ok x) g (v, small, free, e) =
+    let w = sym g.valid ∙ v in
+    let k = g.knows w in
+    let m = f (name_one u s.naming) in (
+      record p { naming = m },
+      (w, small, (λ h. free (assumed-state p s u k h)), ap (λ (n : Naming). record p { naming = f (name_one u n) }) k.naming),
+      renamed p s t m (b s.ever_hidden) e (keeps (name_one u s.naming) (capped-one u s.naming k.capped)) g w,
+    )
+changes-var f b keeps p s t u (Err Invalid) g a = (p, (sym g.valid ∙ a.0, refl), stays p s t a.1 g)
+changes-var f b keeps p s t u (Err VariableLimit) g (v, full, same) =
+    let k = knows-of p s g v in
+    (p, (sym g.valid ∙ v, subst (λ (m : Naming). (variable_limit ≤ u) ⊎ IsCrowded (name_one u m)) k.naming full, refl), stays p s t same g)
+changes-var f b keeps p s t u (Err (AssumedVar x)) g (v, small, own, h, same) =
+    let k = knows-of p s g v in
+    (p, (sym g.valid ∙ v, small, own, assumed-past p s u k h, refl), stays p s t same g)
+changes-var f b keeps p s t u (Err OutOfMemory) g (small, free, broken) =
+    let k = knows-of p s g broken.valid in
+    let (q, c, h) = breaks p s t g broken in
+    (q, (small, (λ z. free (assumed-state p s u k z)), c), h)
+changes-var f b keeps p s t u (Err e) g a = absurd a
+
+pub set-usage : (mode : Mode) (p : Past) (s t : State) (u : ℕ) (r : Result (Unit {0}) SolverError) → Agrees p s → usage.SetsMode variables.named mode s u r t → Leads (usage.SetsMode past.named mode p u r) t
+set-usage mode p s t u r g (a, fresh) =
+    let (q, c, h) = changes-var (set_mode u mode) (λ b. b) (λ m f. f) p s t u r g a in
+    (q, (c, (λ e. ap (λ (n : Naming). n.names u) (sym (known e).naming) ∙ fresh e)), h)
+  where
+    known : r ≡ Err OutOfMemory → Knows p s
+    known e = knows-of p s g (subst (λ x. usage.ChangesVar variables.named (usage.with_mode variables.named u mode) s u x t) e a).2.valid
+
+pub hide : (p : Past) (s t : State) (u : ℕ) (r : Result (Unit {0}) SolverError) → Agrees p s → usage.Hides variables.named s u r t → Leads (usage.Hides past.named p u r) t
+hide p s t u r g a = changes-var (free_name u) (λ b. true) (capped-freed u) p s t u r g a
+
+pub observe : (p : Past) (s t : State) (r : Result (List ℕ) SolverError) → Agrees p s → usage.Observes variables.named s r t → Leads (usage.Observes past.named p r) t
+observe p s t (Ok us) g (v, (m, shown, e)) =
+    let w = sym g.valid ∙ v in
+    let k = g.knows w in (
+      record p { naming = m },
+      (w, (m, subst (λ P. AreAllShown us P p.naming m) k.clauses (subst (λ (n : Naming). AreAllShown us s.clauses n m) k.naming shown), refl)),
+      renamed p s t m s.ever_hidden e (capped-shown us s.naming m shown.in_turn k.capped) g w,
+    )
+observe p s t (Err Invalid) g a = (p, (sym g.valid ∙ a.0, refl), stays p s t a.1 g)
+observe p s t (Err VariableLimit) g (v, needs, same) =
+    (p, (sym g.valid ∙ v, subst NeedsNamePastLimit (knows-of p s g v).naming needs, refl), stays p s t same g)
+observe p s t (Err OutOfMemory) g a = breaks p s t g a
+observe p s t (Err e) g a = absurd a
+
+-- 7. Assumptions.
 
 assumed-list : (p : Past) (s t : State) (list : List Literal) → state.TakesAssumptions s list t → Agrees p s → p.valid ≡ true → Agrees (assume list p) t
 assumed-list p s t list e g v =
@@ -247,13 +348,14 @@ assumed-list p s t list e g v =
 
 pub assume-list : (p : Past) (s t : State) (list : List Literal) (r : Result (Unit {0}) SolverError) → Agrees p s → state.Assumes s list r t → Leads (past.Assumes p list r) t
 assume-list p s t list (Ok u) g (v, lim, e) =
-    let w = sym g.valid ∙ v in (assume list p, (w, lim, refl), assumed-list p s t list e g w)
+    let w = sym g.valid ∙ v in (assume list p, (w, may-constrain p s list (g.knows w) lim, refl), assumed-list p s t list e g w)
 assume-list p s t list (Err OutOfMemory) g a = breaks p s t g a.1
 assume-list p s t list (Err Invalid) g a = (p, (sym g.valid ∙ a.0, refl), stays p s t a.1 g)
 assume-list p s t list (Err VariableLimit) g a = (p, (sym g.valid ∙ a.0, crowded p s list (knows-of p s g a.0) a.1, refl), stays p s t a.2 g)
+assume-list p s t list (Err (WitnessVar u)) g a = (p, (sym g.valid ∙ a.0, a.1, first-witness p s list u (knows-of p s g a.0) a.2, refl), stays p s t a.3 g)
 assume-list p s t list (Err e) g a = absurd a
 
--- 7. An answer of `solve`.
+-- 8. An answer of `solve`.
 
 -- the past behind an answer, where the state has the verdict that was told
 solved : (p : Past) (s t : State) (b : Bool) → Agrees p s → Knows p s → state.TellsVerdict s b t → Agrees (record p { has_model = b; has_core = not b; steps = t.ledger.steps }) t
@@ -370,12 +472,14 @@ solve p s t (Err Interrupted) g r =
         knows = λ _. told-on p s t t.ledger.steps p.settings (like-told s t t.ledger.steps r.rest) k;
       },
     )
+solve p s t (Err (WitnessVar u)) g r = absurd r
+solve p s t (Err (AssumedVar u)) g r = absurd r
 solve p s t (Err (ConfigOutOfRange field)) g r = absurd r
 solve p s t (Err Invalid) g r = (p, (sym g.valid ∙ r.0, refl), stays p s t r.1 g)
 solve p s t (Err VariableLimit) g r = absurd r
 solve p s t (Err (Dimacs cause)) g r = absurd r
 
--- 8. Other settings.
+-- 9. Other settings.
 
 pub config : (p : Past) (s t : State) (u : SolverConfigUpdate) (r : Result (Unit {0}) SolverError) → Agrees p s → state.Configures s u r t → Leads (updates.Configures past.is_valid past.with_update p u r) t
 config p s t u (Ok x) g (v, n, e) = (
@@ -393,10 +497,12 @@ config p s t u (Err (ConfigOutOfRange field)) g (v, n, e) = (p, (sym g.valid ∙
 config p s t u (Err Interrupted) g r = absurd r
 config p s t u (Err OutOfMemory) g r = absurd r
 config p s t u (Err ClauseStoreFull) g r = absurd r
+config p s t u (Err (WitnessVar v)) g r = absurd r
 config p s t u (Err VariableLimit) g r = absurd r
+config p s t u (Err (AssumedVar v)) g r = absurd r
 config p s t u (Err (Dimacs cause)) g r = absurd r
 
--- 9. A model.
+-- 10. A model.
 
 model-sat : (m : Naming) (v : Verdict) (model : List Literal) → Some model ≡ model_of m v → (a : Assignment) × (v ≡ Sat a) × (model ≡ list_names m a 0 m.watermark)
 model-sat m Unknown model e = absurd cc
@@ -432,7 +538,7 @@ tell-model p s t (Ok None) g (inr (v, e), same) = (p, ((λ w. absurd (false-true
 tell-model p s t (Err e) g (v, x, same) =
     let w = sym g.valid ∙ v in (p, (w, (g.knows w).found x, refl), stays p s t same g)
 
--- 10. A core.
+-- 11. A core.
 
 -- what is told is carried to some of the assumptions, which fail with the clauses
 failed-core : (p : Past) (s : State) (core : List Literal) → Knows p s → IsCoreToTell s (Some core) → AreNamesInUse p.naming core × IsFailedCore p.clauses p.assumptions (map (through_names p.naming) core)
@@ -458,7 +564,7 @@ tell-core p s t (Ok None) g (inr (v, e), same) = (p, ((λ w. absurd (false-true 
 tell-core p s t (Err e) g (v, x, same) =
     let w = sym g.valid ∙ v in (p, (w, no-model-false p s (g.knows w) x, refl), stays p s t same g)
 
--- 11. Before the first call.
+-- 12. Before the first call.
 
 pub empty-agrees : Agrees empty_past empty_state
 empty-agrees = record {

@@ -1,93 +1,121 @@
--- Maps in which nothing is hidden.
-use Rattle.std.proofs.Common.{◌≡◌, ℕ, zero, suc, ◌+◌, ◌-◌, ◌<◌, ◌≤◌, Bool, true, false, not, Option, Some, None, List, [], ◌∷◌, ◌++◌, ◌⊎◌, inl, ⊎_elim, length, sym, ap, ◌∙◌, subst, refl, arith}
+-- Maps in which no solver variable was dropped, and names in use, which stay as others come into use.
+use Rattle.std.proofs.Common.{◌≡◌, ℕ, zero, suc, ◌+◌, ◌-◌, ◌<◌, ◌≤◌, Bool, true, false, not, Option, Some, None, List, [], ◌∷◌, ◌++◌, ◌⊎◌, inl, inr, ⊎_elim, length, sym, ap, ◌∙◌, subst, refl, arith}
 use Rattle.varisat_theory.specs.Membership.{◌∈◌}
 use Rattle.varisat_theory.specs.Literals.{Literal, variable_of}
 use Rattle.varisat_theory.proofs.Members.{equal_or_not, ∈-append_cases, ∈-append_left, ∈-append_right}
 use Rattle.std.specs.Option.{is_some, IsSome}
 use Rattle.varisat_names.specs.VarMap.{at, IsFull}
 use Rattle.varisat_names.specs.VarBiMap.{BiMap}
-use Rattle.varisat_names.specs.VarData.{fresh, kept_at, IsLeastDeleted}
-use Rattle.varisat_names.specs.Variables.{Tables, AreLinked, IsGiven, AreNextGiven, IsTaken, IsNothingHidden}
+use Rattle.varisat_names.specs.VarData.{fresh, kept_at}
+use Rattle.varisat_names.specs.Variables.{Tables, AreLinked, IsGiven, AreNextGiven, IsNamed, InUse, Free, Above, IsTaken}
 use Rattle.varisat_names.proofs.Maps.{updated-at, updated-other, updated-all, chain-some, chain-through, is-some}
 use Rattle.varisat_names.proofs.VarMap.{at-past}
-use Rattle.varisat_names.proofs.Tables.{live-inside, least-near}
-use Rattle.varisat.specs.Accepting.{IsPlain, HasNames, AreNamedInTurn, AreTakenInTurn, HasSolver, AreTakenFor}
+use Rattle.varisat_names.proofs.Tables.{live-inside}
+use Rattle.varisat.specs.Accepting.{IsPlain, HasNames, AreNamedInTurn, AreTakenInTurn, HasSolver, AreTakenFor, IsAssumedSolver, HasUser}
 use Rattle.varisat.proofs.AcceptSolverVariables.{few, below, below-count, ∈-below}
 
-first-free : (t : Tables) (x : ℕ) → IsNothingHidden t → IsLeastDeleted t.kept x → x ≡ length t.kept
-first-free t x n l =
-    ⊎_elim
-    (λ h. let q : true ≡ false = sym l.0 ∙ n.live x h in absurd cc)
-    (λ h. let b = least-near t.kept x l in omega (arith, h, b))
-    (below-or x (length t.kept))
+pub is-there : (o : Option ℕ) (v : ℕ) → o ≡ Some v → IsSome o
+is-there o v e = subst IsSome (sym e) refl
+
+pub there-is : (o : Option ℕ) → IsSome o → (v : ℕ) × (o ≡ Some v)
+there-is None h = absurd (let z : false ≡ true = h in cc)
+there-is (Some v) h = (v, refl)
+
+-- What stays as names come into use, for those that were in use and for the marks of their variables.
+pub record KeepsNames (old new : Tables) : Type 0 where
+  pub solvers : new.solvers ≡ old.solvers
+  pub named : (u x : ℕ) → at old.users.forward u ≡ Some x → at new.users.forward u ≡ Some x
+  pub back : (x u : ℕ) → at old.users.backward x ≡ Some u → (kept_at old.kept x).deleted ≡ false → at new.users.backward x ≡ Some u
+  pub live : (x : ℕ) → (kept_at old.kept x).deleted ≡ false → kept_at new.kept x ≡ kept_at old.kept x
+
+pub keeps-none : (old new : Tables) → new ≡ old → KeepsNames old new
+keeps-none old new e = record {
+  solvers = ap (λ t. t.solvers) e;
+  named = λ u x h. ap (λ t. at t.users.forward u) e ∙ h;
+  back = λ x u h d. ap (λ t. at t.users.backward x) e ∙ h;
+  live = λ x d. ap (λ t. kept_at t.kept x) e;
+}
+
+pub keeps-then : (old mid new : Tables) → KeepsNames old mid → KeepsNames mid new → KeepsNames old new
+keeps-then old mid new a b = record {
+  solvers = b.solvers ∙ a.solvers;
+  named = λ u x h. b.named u x (a.named u x h);
+  back = λ x u h d. b.back x u (a.back x u h d) (ap (λ k. k.deleted) (a.live x d) ∙ d);
+  live = λ x d. b.live x (ap (λ k. k.deleted) (a.live x d) ∙ d) ∙ a.live x d;
+}
+
+-- 1. Names.
+
+-- a free name comes into use
+pub given-keeps : (old new : Tables) (u x : ℕ) → at old.users.forward u ≡ None → IsGiven old new u x → KeepsNames old new
+given-keeps old new u x free g = record {
+  solvers = g.solvers;
+  named = λ v y h. g.users.forward.at_each v ∙ updated-other (at old.users.forward) u (Some x) v (λ q. let z : None ≡ Some y = sym free ∙ ap (at old.users.forward) (sym q) ∙ h in cc) ∙ h;
+  back = λ y v h d. g.users.backward.at_each y ∙ updated-other (at old.users.backward) x (Some u) y (apart y d) ∙ h;
+  live = λ y d. g.kept.at_each y ∙ updated-other (kept_at old.kept) x fresh y (apart y d);
+}
   where
-    below-or : (u n : ℕ) → (u < n) ⊎ (n ≤ u)
-    below-or u n = grind arith
+    apart : (y : ℕ) → (kept_at old.kept y).deleted ≡ false → y ≡ x → ⊥
+    apart y d q = let z : true ≡ false = sym g.unused.0 ∙ ap (λ v. (kept_at old.kept v).deleted) (sym q) ∙ d in cc
 
-pub given-plain : (old new : Tables) (x : ℕ) → IsPlain old → IsGiven old new (length old.users.forward) x → IsPlain new
-given-plain old new x n g =
-    let e = first-free old x n.nothing_hidden g.unused in
-    let c = n.nothing_hidden.count in
-    let a = g.users.forward.watermark in
-    let b = g.kept.count in
-    record {
-      nothing_hidden = record {
-        users = λ u h. g.users.forward.at_each u ∙ updated-all (λ u o. o ≡ Some u) (at old.users.forward) (length old.users.forward) (Some x) (ap Some (omega (arith, e, c))) u (λ m. n.nothing_hidden.users u (omega (arith, h, a, m)));
-        count = omega (arith, a, b, c, e);
-        live = λ y h. ap (λ d. d.deleted) (g.kept.at_each y) ∙ updated-all (λ y d. d.deleted ≡ false) (kept_at old.kept) x fresh refl y (λ m. n.nothing_hidden.live y (omega (arith, h, b, m, e)));
-        solvers = subst (λ s. IsFull s.backward) (sym g.solvers) n.nothing_hidden.solvers;
-      };
-      no_units = λ y. ap (λ d. d.unit) (g.kept.at_each y) ∙ updated-all (λ y d. d.unit ≡ None) (kept_at old.kept) x fresh refl y (λ m. n.no_units y);
-    }
+past-none : (xs : List (Option ℕ)) (i : ℕ) → length xs ≤ i → at xs i ≡ None
+past-none xs i h = at-past xs i h
 
-pub next-plain : (k : ℕ) (old new : Tables) → IsPlain old → AreNextGiven k old new → IsPlain new × (length new.users.forward ≡ length old.users.forward + k)
-next-plain zero old new n e = (subst IsPlain (sym e) n, ap (λ t. length t.users.forward) e ∙ omega arith)
-next-plain (suc k) old new n (mid, x, g, rest) =
-    let (p, c) = next-plain k mid new (given-plain old mid x n g) rest in
-    let a = g.users.forward.watermark in
-    (p, omega (arith, a, c))
+pub next-keeps : (k : ℕ) (old new : Tables) → AreNextGiven k old new → KeepsNames old new
+next-keeps zero old new e = keeps-none old new e
+next-keeps (suc k) old new (mid, x, g, rest) =
+    keeps-then old mid new (given-keeps old mid (length old.users.forward) x (past-none old.users.forward (length old.users.forward) (omega arith)) g) (next-keeps k mid new rest)
+
+pub one-keeps : (u : ℕ) (old new : Tables) → IsNamed u old new → KeepsNames old new
+one-keeps u old new (InUse x e same) = keeps-none old new same
+one-keeps u old new (Free x b free g) = given-keeps old new u x free g
+one-keeps u old new (Above b g) = next-keeps (u + 1 - length old.users.forward) old new g
+
+pub names-keep : (d : List Literal) (old new : Tables) → AreNamedInTurn d old new → KeepsNames old new
+names-keep [] old new e = keeps-none old new e
+names-keep (l ∷ d) old new (mid, g, rest) = keeps-then old mid new (one-keeps (variable_of l) old mid g) (names-keep d mid new rest)
+
+given-no-units : (old new : Tables) (u x : ℕ) → ((y : ℕ) → (kept_at old.kept y).unit ≡ None) → IsGiven old new u x → (y : ℕ) → (kept_at new.kept y).unit ≡ None
+given-no-units old new u x n g y = ap (λ d. d.unit) (g.kept.at_each y) ∙ updated-all (λ y d. d.unit ≡ None) (kept_at old.kept) x fresh refl y (λ m. n y)
+
+pub given-plain : (old new : Tables) (u x : ℕ) → IsPlain old → IsGiven old new u x → IsPlain new
+given-plain old new u x n g = record { full = subst (λ s. IsFull s.backward) (sym g.solvers) n.full; no_units = given-no-units old new u x n.no_units g }
+
+pub next-plain : (k : ℕ) (old new : Tables) → IsPlain old → AreNextGiven k old new → IsPlain new
+next-plain zero old new n e = subst IsPlain (sym e) n
+next-plain (suc k) old new n (mid, x, g, rest) = next-plain k mid new (given-plain old mid (length old.users.forward) x n g) rest
+
+pub one-plain : (u : ℕ) (old new : Tables) → IsPlain old → IsNamed u old new → IsPlain new
+one-plain u old new n (InUse x e same) = subst IsPlain (sym same) n
+one-plain u old new n (Free x b free g) = given-plain old new u x n g
+one-plain u old new n (Above b g) = next-plain (u + 1 - length old.users.forward) old new n g
 
 pub named-plain : (d : List Literal) (old new : Tables) → IsPlain old → AreNamedInTurn d old new → IsPlain new
 named-plain [] old new n e = subst IsPlain (sym e) n
-named-plain (l ∷ d) old new n (mid, g, rest) = named-plain d mid new (next-plain (variable_of l + 1 - length old.users.forward) old mid n g).0 rest
+named-plain (l ∷ d) old new n (mid, g, rest) = named-plain d mid new (one-plain (variable_of l) old mid n g) rest
 
-pub named-grow : (d : List Literal) (old new : Tables) → IsPlain old → AreNamedInTurn d old new → length old.users.forward ≤ length new.users.forward
-named-grow [] old new n e = let q = ap (λ t. length t.users.forward) e in omega (arith, q)
-named-grow (l ∷ d) old new n (mid, g, rest) =
-    let (p, c) = next-plain (variable_of l + 1 - length old.users.forward) old mid n g in
-    let r = named-grow d mid new p rest in
-    omega (arith, c, r)
-
-pub named-push : (d : List Literal) (old mid new : Tables) (l : Literal) → AreNamedInTurn d old mid → AreNextGiven (variable_of l + 1 - length mid.users.forward) mid new → AreNamedInTurn (d ++ l ∷ []) old new
-named-push [] old mid new l e g = (new, subst (λ t. AreNextGiven (variable_of l + 1 - length t.users.forward) t new) e g, refl)
+pub named-push : (d : List Literal) (old mid new : Tables) (l : Literal) → AreNamedInTurn d old mid → IsNamed (variable_of l) mid new → AreNamedInTurn (d ++ l ∷ []) old new
+named-push [] old mid new l e g = (new, subst (λ t. IsNamed (variable_of l) t new) e g, refl)
 named-push (m ∷ d) old mid new l (t, h, rest) g = (t, h, named-push d t mid new l rest g)
 
--- solver variables
+-- 2. Solver variables.
 
 taken-at : (old new : Tables) (x v : ℕ) → IsPlain old → IsTaken old new x v → v ≡ length old.solvers.backward
 taken-at old new x v n t =
     ⊎_elim
-    (λ h. absurd (n.nothing_hidden.solvers v h t.least.0))
-    (λ h. ⊎_elim (λ e. e) (λ m. absurd (t.least.1 (length old.solvers.backward) (omega (arith, h, m)) (past old.solvers.backward (length old.solvers.backward) (omega arith)))) (equal_or_not v (length old.solvers.backward)))
+    (λ h. absurd (n.full v h t.least.0))
+    (λ h. ⊎_elim (λ e. e) (λ m. absurd (t.least.1 (length old.solvers.backward) (omega (arith, h, m)) (past-none old.solvers.backward (length old.solvers.backward) (omega arith)))) (equal_or_not v (length old.solvers.backward)))
     (below-or v (length old.solvers.backward))
   where
     below-or : (u n : ℕ) → (u < n) ⊎ (n ≤ u)
     below-or u n = grind arith
-
-    past : (xs : List (Option ℕ)) (i : ℕ) → length xs ≤ i → at xs i ≡ None
-    past xs i h = at-past xs i h
 
 pub taken-plain : (old new : Tables) (x v : ℕ) → IsPlain old → IsTaken old new x v → IsPlain new
 taken-plain old new x v n t =
     let e = taken-at old new x v n t in
     let a = t.solvers.backward.watermark in
     record {
-      nothing_hidden = record {
-        users = subst (λ m. (u : ℕ) → u < length m.forward → at m.forward u ≡ Some u) (sym t.users) n.nothing_hidden.users;
-        count = ap length t.kept ∙ n.nothing_hidden.count ∙ ap (λ m. length m.forward) (sym t.users);
-        live = subst (λ k. (x : ℕ) → x < length k → (kept_at k x).deleted ≡ false) (sym t.kept) n.nothing_hidden.live;
-        solvers = λ u h q. updated-all (λ u o. o ≡ None → u < length old.solvers.backward + 1 → ⊥) (at old.solvers.backward) v (Some x) (λ z b. absurd cc) u (λ m z b. n.nothing_hidden.solvers u (omega (arith, b, m, e)) z) (sym (t.solvers.backward.at_each u) ∙ q) (omega (arith, h, a, e));
-      };
+      full = λ u h q. updated-all (λ u o. o ≡ None → u < length old.solvers.backward + 1 → ⊥) (at old.solvers.backward) v (Some x) (λ z b. absurd cc) u (λ m z b. n.full u (omega (arith, b, m, e)) z) (sym (t.solvers.backward.at_each u) ∙ q) (omega (arith, h, a, e));
       no_units = subst (λ k. (x : ℕ) → (kept_at k x).unit ≡ None) (sym t.kept) n.no_units;
     }
 
@@ -103,11 +131,23 @@ pub taken-users : (xs : List ℕ) (old new : Tables) → AreTakenInTurn xs old n
 taken-users [] old new e = (ap (λ t. t.users) e, ap (λ t. t.kept) e)
 taken-users (x ∷ xs) old new (mid, v, f, t, rest) = let (a, b) = taken-users xs mid new rest in (a ∙ t.users, b ∙ t.kept)
 
--- the names of a clause stay in use as its variables take solver variables
-pub names-taken : (d : List Literal) (old new : Tables) → HasNames d old → AreTakenFor d old new → HasNames d new
-names-taken d old new n t =
-    let u = ap (λ (m : BiMap). length m.forward) (taken-users t.globals old new t.in_turn).0 in
-    record { plain = taken-in-turn-plain t.globals old new n.plain t.in_turn; small = omega (arith, u, n.small); named = λ l h. let b = n.named l h in omega (arith, u, b) }
+-- a solver variable in use stays that of its variable
+pub taken-stays : (xs : List ℕ) (old new : Tables) (v y : ℕ) → AreTakenInTurn xs old new → at old.solvers.backward v ≡ Some y → at new.solvers.backward v ≡ Some y
+taken-stays [] old new v y e h = ap (λ t. at t.solvers.backward v) e ∙ h
+taken-stays (x ∷ xs) old new v y (mid, w, f, t, rest) h =
+    taken-stays xs mid new v y rest (t.solvers.backward.at_each v ∙ updated-other (at old.solvers.backward) w (Some x) v (λ q. let z : None ≡ Some y = sym t.least.0 ∙ ap (at old.solvers.backward) (sym q) ∙ h in cc) ∙ h)
+
+-- names stay in use as variables take solver variables
+pub names-taken : (d e : List Literal) (old new : Tables) → HasNames d old → AreTakenFor e old new → HasNames d new
+names-taken d e old new n t =
+    let (users, kept) = taken-users t.globals old new t.in_turn in
+    let u = ap (λ (m : BiMap). length m.forward) users in
+    let k = ap length kept in
+    record {
+      plain = taken-in-turn-plain t.globals old new n.plain t.in_turn;
+      bounded = record { users = omega (arith, u, n.bounded.users); globals = omega (arith, k, n.bounded.globals) };
+      named = λ l h. subst (λ (m : BiMap). IsSome (at m.forward (variable_of l))) (sym users) (n.named l h);
+    }
 
 -- a name with a solver variable keeps it as another variable takes one
 pub solver-stays : (old new : Tables) (x v u : ℕ) → at old.solvers.forward x ≡ None → IsTaken old new x v → HasSolver old u → HasSolver new u
@@ -122,10 +162,10 @@ solver-new old new x v u e t =
     (v, chain-some (at new.users.forward) (at new.solvers.forward) u x (ap (λ m. at m.forward u) t.users ∙ e) ∙ t.solvers.forward.at_each x ∙ updated-at (at old.solvers.forward) x (Some v))
 
 -- there are no more solver variables than global variables
-pub solvers-within : (t : Tables) → AreLinked t → IsNothingHidden t → length t.solvers.backward ≤ length t.kept
+pub solvers-within : (t : Tables) → AreLinked t → IsFull t.solvers.backward → length t.solvers.backward ≤ length t.kept
 solvers-within t l n =
     let d = few (at t.solvers.backward) (below (length t.kept)) (λ v u x a b. let q : Some u ≡ Some v = sym (l.solvers.back x u b) ∙ l.solvers.back x v a in cc) (length t.solvers.backward)
-    (λ v h. ⊎_elim (λ e. absurd (n.solvers v h e)) (λ (x, e). (x, e, ∈-below (length t.kept) x (live-inside t.kept x (l.taken x v (l.solvers.back x v e))))) (is-some (at t.solvers.backward v))) in
+    (λ v h. ⊎_elim (λ e. absurd (n v h e)) (λ (x, e). (x, e, ∈-below (length t.kept) x (live-inside t.kept x (l.taken x v (l.solvers.back x v e))))) (is-some (at t.solvers.backward v))) in
     let e = below-count (length t.kept) in
     omega (arith, d, e)
 
@@ -158,14 +198,6 @@ for-kept d l old mid x v f e q = record {
 pub for-none : (t : Tables) → AreTakenFor [] t t
 for-none t = record { globals = []; named = λ x h. absurd h; in_turn = refl; all = λ l h. absurd h }
 
-pub named-solvers : (d : List Literal) (old new : Tables) → AreNamedInTurn d old new → new.solvers ≡ old.solvers
-named-solvers [] old new e = ap (λ t. t.solvers) e
-named-solvers (l ∷ d) old new (mid, g, rest) = named-solvers d mid new rest ∙ next (variable_of l + 1 - length old.users.forward) old mid g
-  where
-    next : (k : ℕ) (old new : Tables) → AreNextGiven k old new → new.solvers ≡ old.solvers
-    next zero old new e = ap (λ t. t.solvers) e
-    next (suc k) old new (mid, x, g, rest) = next k mid new rest ∙ g.solvers
-
 pub taken-grow : (xs : List ℕ) (old new : Tables) → AreTakenInTurn xs old new → length old.solvers.backward ≤ length new.solvers.backward
 taken-grow [] old new e = let q = ap (λ t. length t.solvers.backward) e in omega (arith, q)
 taken-grow (x ∷ xs) old new (mid, v, f, t, rest) = let a = taken-grow xs mid new rest in let b = t.solvers.backward.watermark in omega (arith, a, b)
@@ -178,5 +210,25 @@ pub some-of-not : (o : Option ℕ) (b : Bool) → is_some o ≡ not b → b ≡ 
 some-of-not None b e f = absurd (let z : false ≡ true = e ∙ ap not f in cc)
 some-of-not (Some v) b e f = (v, refl)
 
-pub is-there : (o : Option ℕ) (v : ℕ) → o ≡ Some v → IsSome o
-is-there o v e = subst IsSome (sym e) refl
+-- 3. Solver variables of names that are assumed.
+
+pub assumed-keeps : (old new : Tables) (v : ℕ) → AreLinked old → KeepsNames old new → IsAssumedSolver old v → IsAssumedSolver new v
+assumed-keeps old new v l k (x, u, a, b, e) =
+    let live = l.named x u b in
+    (x, u, ap (λ (m : BiMap). at m.backward v) k.solvers ∙ a, k.back x u b live, ap (λ d. d.assumed) (k.live x live) ∙ e)
+
+pub assumed-taken : (xs : List ℕ) (old new : Tables) (v : ℕ) → AreTakenInTurn xs old new → IsAssumedSolver old v → IsAssumedSolver new v
+assumed-taken xs old new v t (x, u, a, b, e) =
+    let (users, kept) = taken-users xs old new t in
+    (x, u, taken-stays xs old new v x t a, ap (λ (m : BiMap). at m.backward x) users ∙ b, ap (λ ds. (kept_at ds x).assumed) kept ∙ e)
+
+-- the variable of a name in use stays marked as assumed
+pub marked-keeps : (old new : Tables) (u x y : ℕ) → AreLinked old → KeepsNames old new → at old.users.forward u ≡ Some y → (kept_at old.kept y).assumed ≡ true → at new.users.forward u ≡ Some x → (kept_at new.kept x).assumed ≡ true
+marked-keeps old new u x y l k e m f =
+    let q : Some y ≡ Some x = sym (k.named u y e) ∙ f in
+    let same : y ≡ x = cc in
+    subst (λ z. (kept_at new.kept z).assumed ≡ true) same (ap (λ d. d.assumed) (k.live y (l.named y u (l.users.there u y e))) ∙ m)
+
+-- the name of one is told
+pub assumed-named : (t : Tables) (v : ℕ) → IsAssumedSolver t v → HasUser t v
+assumed-named t v (x, u, a, b, e) = (u, chain-some (at t.solvers.backward) (at t.users.backward) v x a ∙ b)

@@ -34,6 +34,7 @@ relinked w p q s t k l = record {
   names = k.names;
   modes = k.modes;
   watermark = k.watermark;
+  globals = k.globals;
   units = k.units;
   isolation = k.isolation;
   solvers = l.solvers;

@@ -19,18 +19,6 @@ use Rattle.varisat.specs.Searches.{answer_at, FindsVerdict}
 use Rattle.varisat.specs.Accepting.{IsPlain, HasUser}
 use Rattle.varisat.specs.Summaries.{IsKept}
 
--- where nothing is hidden each solver variable has a name
-pub solver-named : (t : Tables) (v : ℕ) → IsPlain t → AreLinked t → v < length t.solvers.backward → HasUser t v
-solver-named t v plain linked h =
-    let n = plain.nothing_hidden in
-    ⊎_elim
-    (λ e. absurd (n.solvers v h e))
-    (λ (x, e).
-    let inside = live-inside t.kept x (linked.taken x v (linked.solvers.back x v e)) in
-    let used = n.users x (let d = n.count in omega (arith, inside, d)) in
-    (x, chain-some (at t.solvers.backward) (at t.users.backward) v x e ∙ linked.users.there x x used))
-    (is-some (at t.solvers.backward v))
-
 -- a core over names makes no difference to the search
 pub ready-named : {A : Type 0} (c : Context A) (core : List Literal) → IsReady c → IsReady (record c { assumptions = record c.assumptions { user_core = core } })
 ready-named c core r = record {
@@ -64,10 +52,12 @@ found-plainly t x y found ready count decidable state answer steps assumes plain
 -- the solver keeps what it did
 pub kept-found : {A : Type 0} (t : Tables) (x y : Context A) (found : Option Bool) → IsKept t x → FindsVerdict t x y found → IsKept t y
 kept-found t x y found k f = record {
-  small = k.small;
+  bounded = k.bounded;
   plain = k.plain;
   ready = f.ready;
   count = f.count ∙ k.count;
   decidable = λ v. ((λ h. let b = (k.decidable v).0 ((f.decidable v).1 h) in let n = f.count in omega (arith, b, n)), (λ h. (f.decidable v).0 ((k.decidable v).1 (let n = f.count in omega (arith, h, n)))));
   assumed = λ l h. k.assumed l (subst (λ ls. l ∈ ls) (ap (λ (z : AssumptionParts). z.user) f.rest ∙ f.assumes.user) h);
+  marked = λ l z h e. k.marked l z (subst (λ ls. l ∈ ls) (ap (λ (z : AssumptionParts). z.user) f.rest ∙ f.assumes.user) h) e;
+  working = λ l h. k.working l (f.assumes.part l (subst (λ ls. l ∈ ls) (ap (λ (z : AssumptionParts). z.working) f.rest) h));
 }

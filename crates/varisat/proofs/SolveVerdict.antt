@@ -1,5 +1,5 @@
 -- A search that finds a verdict, and spaces that agree.
-use Rattle.std.proofs.Common.{◌≡◌, ◌≢◌, ℕ, ◌≤◌, Bool, true, Option, Some, None, List, [], ◌∷◌, inl, inr, ⊎_elim, sym, ap, ◌∙◌, subst, refl, map, length}
+use Rattle.std.proofs.Common.{◌≡◌, ◌≢◌, ℕ, ◌≤◌, Bool, true, Option, Some, None, List, [], ◌∷◌, inl, inr, ⊎_elim, sym, ap, ◌∙◌, subst, refl, map, length, arith}
 use Rattle.varisat_theory.specs.Membership.{◌∈◌, ◌⊆◌}
 use Rattle.varisat_theory.specs.Literals.{Literal, Clause, Assignment, variable_of, literal_of, value, SatisfiesAll, MakesTrue, IsSatisfiableWith, IsFailedCore}
 use Rattle.varisat_theory.specs.Derivations.{Line}
@@ -212,11 +212,12 @@ model-same id m m' (outcome.UnsatUnder core0) (Sat a) h f = f
 model-same id m m' (outcome.UnsatUnder core0) Unsat h f = f
 model-same id m m' (outcome.UnsatUnder core0) (UnsatUnderAssumptions core) h f = tt
 
--- The maps and what is kept agree at each place, and the model where one was found.
+-- The maps and what is kept agree at each place, and the model where one was found. No more global variables were made.
 pub record HaveSameMaps (p q : Spaces) : Type 0 where
   pub global_from_user : (u : ℕ) → q.global_from_user u ≡ p.global_from_user u
   pub user_from_global : (x : ℕ) → q.user_from_global x ≡ p.user_from_global x
   pub watermark : q.watermark ≡ p.watermark
+  pub globals : q.globals ≤ p.globals
   pub solver_from_global : (x : ℕ) → q.solver_from_global x ≡ p.solver_from_global x
   pub global_from_solver : (v : ℕ) → q.global_from_solver v ≡ p.global_from_solver v
   pub kept : (x : ℕ) → q.kept x ≡ p.kept x
@@ -240,6 +241,7 @@ spaces-same p q s e (w, k) = (
     names = names-same w.identity p.global_from_user p.user_from_global q.global_from_user q.user_from_global s.naming.names s.naming.watermark e.maps.global_from_user e.maps.user_from_global k.names;
     modes = modes-same w.identity p.global_from_user p.user_from_global q.global_from_user q.user_from_global p.kept q.kept s.naming.modes e.maps.global_from_user e.maps.user_from_global (λ x. ap (λ y. y.sampling_mode) (e.maps.kept x)) k.modes;
     watermark = k.watermark ∙ sym e.maps.watermark;
+    globals = let b = e.maps.globals in let c = k.globals in omega (arith, b, c);
     units = units-same w.identity w.forced p.kept q.kept s.counted (λ x. ap (λ y. y.unit) (e.maps.kept x)) k.units;
     isolation = isolation-same w.identity w.forced p.kept q.kept s.clauses s.naming.made (λ x. ap (λ y. y.isolated) (e.maps.kept x)) k.isolation;
     solvers = solvers-same w.identity p.solver_from_global p.global_from_solver q.solver_from_global q.global_from_solver s.counted e.maps.solver_from_global e.maps.global_from_solver k.solvers;
@@ -261,7 +263,7 @@ spaces-same p q s e (w, k) = (
     through (Some x) = e.maps.solver_from_global x
 
 -- Only the maps may differ, and they agree.
-pub maps-same : (p q : Spaces) (s : State) → HaveSameMaps p q → q ≡ record p { global_from_user = q.global_from_user; user_from_global = q.user_from_global; watermark = q.watermark; solver_from_global = q.solver_from_global; global_from_solver = q.global_from_solver; kept = q.kept; model = q.model } → SpacesFit p s → SpacesFit q s
+pub maps-same : (p q : Spaces) (s : State) → HaveSameMaps p q → q ≡ record p { global_from_user = q.global_from_user; user_from_global = q.user_from_global; watermark = q.watermark; globals = q.globals; solver_from_global = q.solver_from_global; global_from_solver = q.global_from_solver; kept = q.kept; model = q.model } → SpacesFit p s → SpacesFit q s
 maps-same p q s m e = spaces-same p q s (record {
   maps = m;
   assumptions = ap (λ (x : Spaces). x.assumptions) e;

@@ -36,7 +36,7 @@ use Rattle.varisat.specs.Told.{told_list}
 use Rattle.std.specs.Result.{IsErr}
 use Rattle.std.specs.declared.alloc.AllocError.{AllocError}
 use Rattle.varisat.specs.Carried.{carry, value_or}
-use Rattle.varisat.specs.Accepting.{IsPlain}
+use Rattle.varisat.specs.Accepting.{IsPlain, HasUser}
 use Rattle.varisat.specs.Searches.{answer_at, FindsVerdict}
 use Rattle.varisat.specs.Spaces.{Spaces, Carrying, translation, CoreFits, VerdictFits, Links, SpacesFit, list_globals}
 use Rattle.varisat.specs.Summaries.{Summary, IsKept, StandsFor, spaces, spaces_of, list_tables}
@@ -47,26 +47,28 @@ use Rattle.varisat.proofs.Carried.{carry-at, carry-sign}
 use Rattle.varisat.proofs.SettingsCalls.{summary_of}
 use Rattle.varisat.proofs.SolveVerdict.{spaces-same, sat-found, unsat-found, core-found, found, went-on}
 use Rattle.varisat.proofs.ModelsFit.{told, is-sat, is-unsat, is-core, is-unknown}
-use Rattle.varisat.proofs.PlainTables.{given-plain}
-use Rattle.varisat.proofs.AcceptClause.{with_tables, given-spaces, in-use-all}
+use Rattle.varisat.proofs.PlainTables.{assumed-named}
+use Rattle.varisat.proofs.AcceptClause.{with_tables, name-below, name-above, given-spaces, in-use-all}
 use Rattle.varisat.proofs.SearchViews.{view-long}
 
 -- 1. A new solver.
 
 first-plain : IsPlain no_variables
 first-plain = record {
-  nothing_hidden = record { users = λ u h. absurd (omega (arith, h)); count = refl; live = λ x h. absurd (omega (arith, h)); solvers = λ u h. absurd (omega (arith, h)) };
+  full = λ u h. absurd (omega (arith, h));
   no_units = λ x. refl;
 }
 
 pub first-kept : {A : Type 0} (t : Tables) (c : Context A) → t ≡ no_variables → IsReady c → length c.assignment.current ≡ 0 → c.assumptions ≡ no_assumptions → ((v : ℕ) → IsDecidable (view c) c.vsids v → ⊥) → IsKept t c
 first-kept t c e r n s d = record {
-  small = let z = ap (λ (x : Tables). length x.users.forward) e in omega (arith, z);
+  bounded = record { users = let z = ap (λ (x : Tables). length x.users.forward) e in omega (arith, z); globals = let z = ap (λ (x : Tables). length x.kept) e in omega (arith, z) };
   plain = subst IsPlain (sym e) first-plain;
   ready = r;
   count = n ∙ ap (λ (x : Tables). length x.solvers.backward) (sym e);
   decidable = λ v. ((λ h. absurd (d v h)), (λ h. absurd (omega (arith, h, n))));
   assumed = λ l h. absurd (subst (λ (x : AssumptionParts). l ∈ x.user) s h);
+  marked = λ l x h. absurd (subst (λ (y : AssumptionParts). l ∈ y.user) s h);
+  working = λ l h. absurd (subst (λ (x : AssumptionParts). l ∈ x.working) s h);
 }
 
 pub first-spaces : (s : View) → search_of s ≡ first_search → length s.values ≡ 0 → SpacesFit (spaces_of no_variables s no_assumptions verdict.Unknown) empty_state
@@ -78,6 +80,7 @@ first-spaces s e n =
         names = record { one_to_one = record { there = λ x y e. absurd (let z : None ≡ Some y = e in cc); back = λ x y e. absurd (let z : None ≡ Some x = e in cc) }; agree = λ u. refl; live = λ u x e. absurd (let z : None ≡ Some x = e in cc); free = λ u h. refl };
         modes = record { mode = λ u x i e. absurd (let z : None ≡ Some x = e in cc); unnamed = λ x e. refl };
         watermark = refl;
+        globals = omega arith;
         units = record { unit = λ x i e. absurd (let z : None ≡ Some i = e in cc); is_counted = λ i b e. absurd (let z : None ≡ Some b = e in cc) };
         isolation = λ i h. absurd (omega arith);
         solvers = record { one_to_one = record { there = λ x y e. absurd (let z : None ≡ Some y = e in cc); back = λ x y e. absurd (let z : None ≡ Some x = e in cc) }; live = λ v x e. absurd (let z : None ≡ Some x = e in cc) };
@@ -118,35 +121,21 @@ least-free g s u (w, k) (free, least) = (
       (is-some (at g.tables.users.forward v)),
 )
 
--- a free name that is the watermark is named alone
-named-alone : (u : ℕ) (m : Naming) → m.watermark ≡ u → name_one u m ≡ bring u m
-named-alone u m e =
-    ap (λ c. if c then bring_if_free u (m.names u) m else bring_next (suc u - m.watermark) m) (not-below u m.watermark e) ∙ ap (λ n. bring_next n m) (one u m.watermark e) ∙ ap (λ n. bring n m) e
-  where
-    not-below : (a b : ℕ) → b ≡ a → nat_lt a b ≡ false
-    not-below a b h = grind arith
-
-    one : (u n : ℕ) → n ≡ u → suc u - n ≡ suc zero
-    one u n a = omega (arith, a)
-
--- the least free name is the watermark where nothing is hidden
-pub least-last : (t : Tables) (u : ℕ) → IsPlain t → IsLeastUnmapped t.users.forward u → u ≤ length t.users.forward → u ≡ length t.users.forward
-least-last t u n (free, least) b =
+-- a free name that is not above the watermark is named alone
+pub named-alone : (u : ℕ) (m : Naming) → m.names u ≡ None → u ≤ m.watermark → name_one u m ≡ bring u m
+named-alone u m free near =
     ⊎_elim
-    (λ h. let z : None ≡ Some u = sym free ∙ n.nothing_hidden.users u h in absurd cc)
-    (λ h. omega (arith, h, b))
-    (below-or u (length t.users.forward))
+    (λ h. name-below u m h ∙ ap (λ o. bring_if_free u o m) free)
+    (λ h. name-above u m h ∙ ap (λ n. bring_next n m) (let z : suc u - m.watermark ≡ suc zero = omega (arith, h, near) in z) ∙ ap (λ n. bring n m) (let z : m.watermark ≡ u = omega (arith, h, near) in z))
+    (below-or u m.watermark)
   where
     below-or : (u n : ℕ) → (u < n) ⊎ (n ≤ u)
     below-or u n = grind arith
 
-pub new-named : (g : Summary) (s : State) (new : Tables) (u x : ℕ) → SpacesFit (spaces g) s → IsPlain g.tables → IsLeastUnmapped g.tables.users.forward u → u ≤ length g.tables.users.forward → IsGiven g.tables new u x → SpacesFit (spaces (with_tables new g)) (with_naming (name_one u s.naming) s)
-new-named g s new u x f n least b t =
-    let e = least-last g.tables u n least b in
-    subst (SpacesFit (spaces (with_tables new g))) (sym (ap (λ m. with_naming m s) (named-alone u s.naming (f.1.watermark ∙ sym e)))) (given-spaces g s new u x f least.0 t)
-
-pub new-plain : (old new : Tables) (u x : ℕ) → IsPlain old → IsLeastUnmapped old.users.forward u → u ≤ length old.users.forward → IsGiven old new u x → IsPlain new
-new-plain old new u x n least b t = given-plain old new x n (subst (λ v. IsGiven old new v x) (least-last old u n least b) t)
+pub new-named : (g : Summary) (s : State) (new : Tables) (u x : ℕ) → SpacesFit (spaces g) s → IsLeastUnmapped g.tables.users.forward u → u ≤ length g.tables.users.forward → IsGiven g.tables new u x → SpacesFit (spaces (with_tables new g)) (with_naming (name_one u s.naming) s)
+new-named g s new u x f least b t =
+    let m = f.1.watermark in
+    subst (SpacesFit (spaces (with_tables new g))) (sym (ap (λ n. with_naming n s) (named-alone u s.naming (least-free g s u f least).0 (omega (arith, b, m))))) (given-spaces g s new u x f least.0 t)
 
 -- 3. A verdict.
 
@@ -162,6 +151,7 @@ after_steps g t z after = record g { search = t; assumed = z; sat_state = after 
 pub record StepsMade (g : Summary) (t : View) (y z : AssumptionParts) (after : SatState) : Type 0 where
   pub unknown : g.sat_state ≡ verdict.Unknown
   pub plain : IsPlain g.tables
+  pub working : (l : Literal) → l ∈ g.assumed.working → HasUser g.tables (variable_of l)
   pub count : length g.search.values ≡ length g.tables.solvers.backward
   pub same_count : length t.values ≡ length g.search.values
   pub well : WellFormed t
@@ -180,6 +170,7 @@ left-spaces g s t y z after v f =
         global_from_user = λ u. refl;
         user_from_global = λ x. refl;
         watermark = refl;
+        globals = omega arith;
         solver_from_global = λ x. refl;
         global_from_solver = λ u. refl;
         kept = λ x. refl;
@@ -194,16 +185,18 @@ left-spaces g s t y z after v f =
     }) (w, recount w p (length g.search.values) (length t.values) s v.same_count k)
 
 -- the names of the solver variables of a core, carried to identities, are what the core is carried to
-module _ (g : Summary) (s : State) (w : Carrying) (k : Links w (spaces g) s) (plain : IsPlain g.tables) where
+module _ (g : Summary) (s : State) (w : Carrying) (k : Links w (spaces g) s) (names : (l : Literal) → l ∈ g.assumed.working → HasUser g.tables (variable_of l)) where
   -- where a solver variable leads
   core-leads : (m : Literal) → m ∈ g.assumed.working → (u i : ℕ) × (chain (at g.tables.solvers.backward) (at g.tables.users.backward) (variable_of m) ≡ Some u) × ((translation w (spaces g) s.ever_hidden).identity (variable_of m) ≡ Some i) × (s.naming.names u ≡ Some i)
   core-leads m a =
       let (i, t) = k.working.used m a in
       let (x, b, c) = chain-through (at g.tables.solvers.backward) w.identity (variable_of m) i t in
-      let inside = live-inside g.tables.kept x (k.identities.live x i c) in
-      let n = plain.nothing_hidden in
-      let used = n.users x (let d = n.count in omega (arith, inside, d)) in
-      (x, i, chain-some (at g.tables.solvers.backward) (at g.tables.users.backward) (variable_of m) x b ∙ k.names.one_to_one.there x x used, t, k.names.agree x ∙ chain-some (at g.tables.users.forward) w.identity x x used ∙ c)
+      let (u, e) = names m a in
+      let (y, f, n) = chain-through (at g.tables.solvers.backward) (at g.tables.users.backward) (variable_of m) u e in
+      let q : Some y ≡ Some x = sym f ∙ b in
+      let same : y ≡ x = cc in
+      let used = k.names.one_to_one.back u x (ap (at g.tables.users.backward) (sym same) ∙ n) in
+      (u, i, e, t, k.names.agree u ∙ chain-some (at g.tables.users.forward) w.identity u x used ∙ c)
 
   names-carried : (core told : List Literal) → ((l : Literal) → l ∈ core → l ∈ g.assumed.working) → told ≡ map (carry (chain (at g.tables.solvers.backward) (at g.tables.users.backward))) core →
       ((l : Literal) → l ∈ told → (i : ℕ) × (s.naming.names (variable_of l) ≡ Some i)) × (map (carry s.naming.names) told ≡ map (carry (translation w (spaces g) s.ever_hidden).identity) core)
@@ -231,20 +224,20 @@ decided-fits g s t y z verdict.Sat b e (w, k) v =
     let (j, lines, made) = v.steps in
     let unknown = ap (outcome_of g.search g.assumed.failed_core) v.unknown in
     let long = view-long t v.well in
-    let in-use = in-use-all g.tables t v.plain.nothing_hidden.solvers (v.same_count ∙ v.count) v.well in
+    let in-use = in-use-all g.tables t v.plain.full (v.same_count ∙ v.count) v.well in
     let a = found w (spaces g) s k unknown (search_of t) (assignment_of t) j lines made long in-use in
     let links = sat-found w (spaces g) s k unknown (search_of t) (assignment_of t) j lines made long in-use g.assumed y refl v.assumes z.user_core in
     record { verdict = Sat a; answer = e; right = links.right; fits = left-spaces g (with_verdict (Sat a) s) t y z verdict.Sat v (w, links) }
 decided-fits g s t y z verdict.Unsat b e (w, k) v =
     let (j, lines, made) = v.steps in
-    let in-use = in-use-all g.tables t v.plain.nothing_hidden.solvers (v.same_count ∙ v.count) v.well in
+    let in-use = in-use-all g.tables t v.plain.full (v.same_count ∙ v.count) v.well in
     let links = unsat-found w (spaces g) s k (ap (outcome_of g.search g.assumed.failed_core) v.unknown) (search_of t) outcome.Unsat j lines made (view-long t v.well) in-use g.assumed y refl v.assumes (spaces (after_steps g t z verdict.Unsat)).model z.user_core refl in
     record { verdict = Unsat; answer = e; right = links.right; fits = left-spaces g (with_verdict Unsat s) t y z verdict.Unsat v (w, links) }
 decided-fits g s t y z verdict.UnsatUnderAssumptions b e (w, k) v =
     let (j, lines, made) = v.steps in
-    let in-use = in-use-all g.tables t v.plain.nothing_hidden.solvers (v.same_count ∙ v.count) v.well in
+    let in-use = in-use-all g.tables t v.plain.full (v.same_count ∙ v.count) v.well in
     let told = z.user_core in
-    let (named, same) = names-carried g s w k v.plain y.failed_core told (v.assumes.core y.failed_core refl) (v.named refl) in
+    let (named, same) = names-carried g s w k v.working y.failed_core told (v.assumes.core y.failed_core refl) (v.named refl) in
     let links = core-found w (spaces g) s k (ap (outcome_of g.search g.assumed.failed_core) v.unknown) (search_of t) (outcome.UnsatUnder y.failed_core) j lines made (view-long t v.well) in-use g.assumed y refl v.assumes (spaces (after_steps g t z verdict.UnsatUnderAssumptions)).model y.failed_core told refl named same in
     let core = UnsatUnderAssumptions (map (carry s.naming.names) told) in
     record { verdict = core; answer = e; right = links.right; fits = left-spaces g (with_verdict core s) t y z verdict.UnsatUnderAssumptions v (w, links) }
@@ -266,7 +259,7 @@ pub interrupted : (g : Summary) (s : State) (t : View) (y z : AssumptionParts) �
 interrupted g s t y z st valid v =
     let (w, k) = st.fits valid in
     let (j, lines, made) = v.steps in
-    let in-use = in-use-all g.tables t v.plain.nothing_hidden.solvers (v.same_count ∙ v.count) v.well in
+    let in-use = in-use-all g.tables t v.plain.full (v.same_count ∙ v.count) v.well in
     left-spaces g (with_verdict Unknown s) t y z verdict.Unknown v
     (w, went-on w (spaces g) s k (ap (outcome_of g.search g.assumed.failed_core) v.unknown) (search_of t) outcome.Unknown j lines made (view-long t v.well) in-use g.assumed y refl v.assumes (spaces (after_steps g t z verdict.Unknown)).model z.user_core refl)
 
@@ -403,11 +396,12 @@ answered-false x (inl e) = ap answer_at e
 answered-false x (inr e) = ap answer_at e
 
 -- what a search that came to a verdict did
-pub finds-made : {A : Type 0} (t : Tables) (started : Bool) (x y : Context A) (answer : Option Bool) (f : FindsVerdict t x y answer) → IsPlain t → length x.assignment.current ≡ length t.solvers.backward → x.solver_state.sat_state ≡ verdict.Unknown → StepsMade (summary_of t started x) (view y) f.parts y.assumptions y.solver_state.sat_state
-finds-made t started x y answer f plain count unknown = record {
+pub finds-made : {A : Type 0} (t : Tables) (started : Bool) (x y : Context A) (answer : Option Bool) (f : FindsVerdict t x y answer) → IsKept t x → x.solver_state.sat_state ≡ verdict.Unknown → StepsMade (summary_of t started x) (view y) f.parts y.assumptions y.solver_state.sat_state
+finds-made t started x y answer f k unknown = record {
   unknown = unknown;
-  plain = plain;
-  count = count;
+  plain = k.plain;
+  working = λ l h. assumed-named t (variable_of l) (k.working l h);
+  count = k.count;
   same_count = f.count;
   well = f.ready.well;
   steps = (_, f.steps.0, f.steps.1);

@@ -11,12 +11,13 @@ use Rattle.varisat.specs.States.{State, Verdict}
 use Rattle.varisat.specs.Carried.{carry}
 use Rattle.varisat.specs.Spaces.{Spaces, IsWide, MarksFit}
 
--- a free name gets a global variable that is not live, new or used before; the model that was found last calls it false
+-- a free name gets a global variable that is not live, new or used before, so that one more may have been made; the model that was found last calls it false
 abbrev pub give : ℕ → ℕ → Spaces → Spaces
 give u x p = record p {
   global_from_user = updated p.global_from_user u (Some x);
   user_from_global = updated p.user_from_global x (Some u);
   watermark = max p.watermark (u + 1);
+  globals = p.globals + 1;
   kept = updated p.kept x fresh;
   model = updated p.model x false;
 }

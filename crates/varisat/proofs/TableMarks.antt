@@ -1,15 +1,21 @@
 -- Marks of isolation or of assumption are set, for one variable after another. All else in the tables stays.
-use Rattle.std.proofs.Common.{◌≡◌, ℕ, ◌<◌, Bool, true, false, Some, List, [], ◌∷◌, ◌++◌, ◌⊎◌, inl, inr, ⊎_elim, length, sym, ap, ◌∙◌, subst, refl, arith}
+use Rattle.std.proofs.Common.{◌≡◌, ℕ, ◌<◌, Bool, true, false, Some, List, [], ◌∷◌, ◌++◌, ◌⊎◌, inl, inr, ⊎_elim, length, map, sym, ap, ◌∙◌, subst, refl, arith}
+use Rattle.std.specs.Option.{IsSome}
 use Rattle.varisat_theory.specs.Membership.{◌∈◌}
 use Rattle.varisat_theory.specs.Literals.{Literal, variable_of}
+use Rattle.varisat_theory.proofs.Renaming.{map-∈}
 use Rattle.varisat_theory.proofs.Members.{equal_or_not, ∈-append_cases, ∈-append_left, ∈-append_right}
 use Rattle.varisat_names.specs.VarMap.{at, IsFull}
 use Rattle.varisat_names.specs.VarData.{kept_at}
 use Rattle.varisat_names.specs.declared.variables.data.VarData.{VarData}
-use Rattle.varisat_names.specs.Variables.{Tables, IsChangedTo}
-use Rattle.varisat_names.proofs.Maps.{updated-all}
+use Rattle.varisat_names.specs.Maps.{chain}
+use Rattle.varisat_names.specs.VarBiMap.{BiMap}
+use Rattle.varisat_names.specs.Variables.{Tables, AreLinked, IsChangedTo}
+use Rattle.varisat_names.proofs.Maps.{updated-all, chain-through}
 use Rattle.varisat_names.proofs.Tables.{live-inside}
-use Rattle.varisat.specs.Accepting.{IsPlain, HasNames, AreJoined, AreMarked}
+use Rattle.varisat.specs.Carried.{carry}
+use Rattle.varisat.specs.Accepting.{IsPlain, AreBounded, HasNames, HasSolver, AreJoined, AreMarked, IsAssumedSolver}
+use Rattle.varisat.proofs.Carried.{carry-at}
 
 -- 1. What stays.
 
@@ -22,27 +28,29 @@ pub record SameButMarks (old new : Tables) : Type 0 where
 
 -- marks make no difference to what is plain
 pub marks-plain : (old new : Tables) → IsPlain old → SameButMarks old new → IsPlain new
-marks-plain old new n j = record {
-  nothing_hidden = record {
-    users = subst (λ m. (u : ℕ) → u < length m.forward → at m.forward u ≡ Some u) (sym j.users) n.nothing_hidden.users;
-    count = j.count ∙ n.nothing_hidden.count ∙ ap (λ m. length m.forward) (sym j.users);
-    live = λ x h. j.deleted x ∙ n.nothing_hidden.live x (let c = j.count in omega (arith, h, c));
-    solvers = subst (λ m. IsFull m.backward) (sym j.solvers) n.nothing_hidden.solvers;
-  };
-  no_units = λ x. j.units x ∙ n.no_units x;
+marks-plain old new n j = record { full = subst (λ m. IsFull m.backward) (sym j.solvers) n.full; no_units = λ x. j.units x ∙ n.no_units x }
+
+pub marks-bounded : (old new : Tables) → AreBounded old → SameButMarks old new → AreBounded new
+marks-bounded old new b j =
+    let u = ap (λ m. length m.forward) j.users in
+    let c = j.count in
+    record { users = omega (arith, u, b.users); globals = omega (arith, c, b.globals) }
+
+-- the names of the literals are in use still
+pub names-marked : (d : List Literal) (old new : Tables) → HasNames d old → SameButMarks old new → HasNames d new
+names-marked d old new n j = record {
+  plain = marks-plain old new n.plain j;
+  bounded = marks-bounded old new n.bounded j;
+  named = λ l h. subst (λ m. IsSome (at m.forward (variable_of l))) (sym j.users) (n.named l h);
 }
 
--- the name of one of the literals is in use still
-pub one-named : (ls : List Literal) (old mid : Tables) (l : Literal) → HasNames ls old → mid.users ≡ old.users → IsPlain mid → l ∈ ls → HasNames (l ∷ []) mid
-one-named ls old mid l n e p h =
-    let u = ap (λ m. length m.forward) e in
-    let s = n.small in
-    let b = n.named l h in
-    record {
-      plain = p;
-      small = omega (arith, s, u);
-      named = λ k i. ⊎_elim (λ q. subst (λ z. variable_of z < length mid.users.forward) (sym q) (omega (arith, b, u))) (λ z. absurd z) i;
-    }
+-- and that of one of them
+pub one-named : (ls : List Literal) (t : Tables) (l : Literal) → HasNames ls t → l ∈ ls → HasNames (l ∷ []) t
+one-named ls t l n h = record {
+  plain = n.plain;
+  bounded = n.bounded;
+  named = λ k i. ⊎_elim (λ q. subst (λ z. IsSome (at t.users.forward (variable_of z))) (sym q) (n.named l h)) (λ z. absurd z) i;
+}
 
 -- 2. One more mark: that of variable x, which stands for l.
 module _ (old mid new : Tables) (x : ℕ) (d : VarData) (c : IsChangedTo mid new x d) where
@@ -118,3 +126,26 @@ marked-more ls b old mid new l x o e live c =
           (λ y. ⊎_elim (λ q. inl q) (λ (m, h, q). inr (m, ∈-append_left m ls (l ∷ []) h, q)) (o.others y))
           (inr (l, ∈-append_right l ls (l ∷ []) (inl refl), own));
     }
+
+-- 5. Solver variables of names that are assumed.
+
+-- they stay so as marks of isolation fall
+pub assumed-joined : (d : List Literal) (old new : Tables) (v : ℕ) → AreJoined d old new → IsAssumedSolver old v → IsAssumedSolver new v
+assumed-joined d old new v j (x, u, a, b, e) =
+    (x, u, ap (λ (m : BiMap). at m.backward v) j.solvers ∙ a, ap (λ (m : BiMap). at m.backward x) j.users ∙ b, ap (λ k. k.assumed) (j.rest x) ∙ e)
+
+-- those of the list are once its variables are marked
+pub assumed-listed : (list : List Literal) (old mid new : Tables) (before : List Literal) → AreLinked old → ((l : Literal) → l ∈ list → HasSolver old (variable_of l)) → AreMarked before false old mid → AreMarked list true mid new → (l : Literal) → l ∈ map (carry (chain (at old.users.forward) (at old.solvers.forward))) list → IsAssumedSolver new (variable_of l)
+assumed-listed list old mid new before linked taken cleared marked l h =
+    let to = chain (at old.users.forward) (at old.solvers.forward) in
+    let (m, i, q) = map-∈ (carry to) l list h in
+    let (v, r) = taken m i in
+    let (x, a, b) = chain-through (at old.users.forward) (at old.solvers.forward) (variable_of m) v r in
+    let same : variable_of l ≡ v = ap variable_of q ∙ carry-at to m v r in
+    subst (IsAssumedSolver new) (sym same) (
+      x,
+      variable_of m,
+      ap (λ (t : BiMap). at t.backward v) (marked.solvers ∙ cleared.solvers) ∙ linked.solvers.there x v b,
+      ap (λ (t : BiMap). at t.backward x) (marked.users ∙ cleared.users) ∙ linked.users.there (variable_of m) x a,
+      marked.marked m x i (ap (λ (t : BiMap). at t.forward (variable_of m)) cleared.users ∙ a),
+    )

@@ -1,40 +1,71 @@
 -- What an accepted clause and a list of assumptions do to the maps between names, global variables and solver variables, and to the search.
-use Rattle.std.specs.Prelude.{◌≡◌, ◌⊎◌, ℕ, ◌+◌, ◌-◌, ◌<◌, ◌≤◌, Bool, true, false, Some, None, List, [], ◌∷◌, length, map}
+use Rattle.std.specs.Prelude.{◌≡◌, ◌≢◌, ◌⊎◌, ℕ, ◌+◌, ◌-◌, ◌<◌, ◌≤◌, Bool, true, false, Some, None, List, [], ◌∷◌, length, map, Result, Ok, Err, IsSome}
 use Rattle.varisat_theory.specs.Membership.{◌∈◌}
 use Rattle.varisat_theory.specs.Literals.{Literal, variable_of}
 use Rattle.varisat_literals.specs.Numbers.{variable_limit}
 use Rattle.varisat_names.specs.Maps.{chain}
-use Rattle.varisat_names.specs.VarMap.{at}
+use Rattle.varisat_names.specs.VarMap.{at, IsFull}
 use Rattle.varisat_names.specs.VarData.{kept_at}
-use Rattle.varisat_names.specs.Variables.{Tables, AreNextGiven, IsTaken, IsNothingHidden}
+use Rattle.varisat_names.specs.Variables.{Tables, IsNamed, IsTaken}
+use Rattle.varisat_names.specs.declared.variables.data.SamplingMode.{SamplingMode}
+use Rattle.varisat_names.specs.declared.variables.data.SamplingMode.TheVariants as sampling
 use Rattle.varisat_search.specs.declared.context.Context.{Context}
 use Rattle.varisat_search.specs.Contexts.{view}
 use Rattle.varisat_search.specs.ContextChanges.{IsRaisedTo}
 use Rattle.varisat_search.specs.Decisions.{AddsDecidable}
 use Rattle.varisat.specs.Carried.{carry}
+use Rattle.varisat.specs.Names.{Mode, Sample, Witness, Naming, name_all, NameNoWitness, IsFirstWitness}
+use Rattle.varisat.specs.Calls.{IsPastLimit, IsCrowded}
+use Rattle.varisat.specs.declared.solver.SolverError.{SolverError}
+use Rattle.varisat.specs.declared.solver.SolverError.TheVariants.{WitnessVar, VariableLimit}
 
--- What is true of the maps as yet: nothing is hidden, and no unit is kept.
+-- What is true of the maps as yet: no solver variable is dropped, and so no unit is kept.
 pub record IsPlain (t : Tables) : Type 0 where
-  pub nothing_hidden : IsNothingHidden t
+  pub full : IsFull t.solvers.backward
   pub no_units : (x : ℕ) → (kept_at t.kept x).unit ≡ None
 
--- The names of the clause may come into use: each is below the limit.
+-- No number is past the limit.
+pub record AreBounded (t : Tables) : Type 0 where
+  pub users : length t.users.forward ≤ variable_limit
+  pub globals : length t.kept ≤ variable_limit
+
+-- the mode of a name whose variable has this one; Hide is never that of one with a name
+abbrev pub mode_of : SamplingMode → Mode
+mode_of sampling.Sample = Sample
+mode_of sampling.Witness = Witness
+mode_of sampling.Hide = Sample
+
+-- The names of the tables, as if global variables were identities, each used once.
+abbrev pub naming_of : Tables → Naming
+naming_of t = record { made = length t.kept; names = at t.users.forward; watermark = length t.users.forward; modes = λ x. mode_of (kept_at t.kept x).sampling_mode }
+
+-- The name is free and below the watermark, and none of the literals has it: once these were named, it comes into use alone.
+abbrev pub ComesAlone : Tables → List Literal → ℕ → Type 0
+ComesAlone t d u = (u < length t.users.forward) × (at t.users.forward u ≡ None) × ((l : Literal) → l ∈ d → variable_of l ≢ u)
+
+-- The names of the literals may come into use: none is past the limit, nor is the room spent for their variables.
 pub record CanBeNamed (clause : List Literal) (t : Tables) : Type 0 where
-  pub plain : IsPlain t
-  pub small : length t.users.forward ≤ variable_limit
-  pub in_range : (l : Literal) → l ∈ clause → variable_of l < variable_limit
+  pub bounded : AreBounded t
+  pub in_range : IsPastLimit clause → ⊥
+  pub room : IsCrowded (name_all clause (naming_of t)) → ⊥
+
+-- What is found out of the names of a clause or of a list of assumptions before they come into use.
+abbrev pub ChecksNames : Tables → List Literal → Result (Unit {0}) SolverError → Type 0
+ChecksNames t d (Ok _) = CanBeNamed d t × NameNoWitness (naming_of t) d
+ChecksNames t d (Err VariableLimit) = IsPastLimit d ⊎ IsCrowded (name_all d (naming_of t))
+ChecksNames t d (Err (WitnessVar u)) = (IsPastLimit d → ⊥) × IsFirstWitness (naming_of t) d u
+ChecksNames t d (Err _) = ⊥
 
 -- The names of the clause are in use.
 pub record HasNames (clause : List Literal) (t : Tables) : Type 0 where
   pub plain : IsPlain t
-  pub small : length t.users.forward ≤ variable_limit
-  pub named : (l : Literal) → l ∈ clause → variable_of l < length t.users.forward
+  pub bounded : AreBounded t
+  pub named : (l : Literal) → l ∈ clause → IsSome (at t.users.forward (variable_of l))
 
--- the names of the literals came into use in turn, each with all names below it
+-- the names of the literals were named in turn
 abbrev pub AreNamedInTurn : List Literal → Tables → Tables → Type 0
 AreNamedInTurn [] old new = new ≡ old
-AreNamedInTurn (l ∷ ls) old new =
-    (mid : Tables) × AreNextGiven (variable_of l + 1 - length old.users.forward) old mid × AreNamedInTurn ls mid new
+AreNamedInTurn (l ∷ ls) old new = (mid : Tables) × IsNamed (variable_of l) old mid × AreNamedInTurn ls mid new
 
 -- the global variables, which had none, took solver variables in turn
 abbrev pub AreTakenInTurn : List ℕ → Tables → Tables → Type 0
@@ -82,6 +113,10 @@ pub record AreMarked (list : List Literal) (assumed : Bool) (old new : Tables) :
   pub rest : (x : ℕ) → kept_at new.kept x ≡ record (kept_at old.kept x) { assumed = (kept_at new.kept x).assumed }
   pub marked : (l : Literal) (x : ℕ) → l ∈ list → at old.users.forward (variable_of l) ≡ Some x → (kept_at new.kept x).assumed ≡ assumed
   pub others : (x : ℕ) → ((kept_at new.kept x).assumed ≡ (kept_at old.kept x).assumed) ⊎ ((l : Literal) × (l ∈ list) × (at old.users.forward (variable_of l) ≡ Some x))
+
+-- the solver variable is that of a name whose variable is marked as assumed
+abbrev pub IsAssumedSolver : Tables → ℕ → Type 0
+IsAssumedSolver t v = (x u : ℕ) × (at t.solvers.backward v ≡ Some x) × (at t.users.backward x ≡ Some u) × ((kept_at t.kept x).assumed ≡ true)
 
 -- the name of a solver variable
 abbrev pub HasUser : Tables → ℕ → Type 0

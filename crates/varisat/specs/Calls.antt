@@ -1,6 +1,6 @@
 -- Which answer and which new state each call may give: one relation a call, with a case for each answer. A case that is ⊥ is an answer that the call never gives.
 --
--- Refusals are looked for in this order: Invalid; then `add_clause` returns Ok under the verdict Unsat; VariableLimit; ConfigOutOfRange; OutOfMemory or ClauseStoreFull; Interrupted.
+-- Refusals are looked for in this order: Invalid; then `add_clause` returns Ok under the verdict Unsat; VariableLimit; WitnessVar; ConfigOutOfRange; OutOfMemory or ClauseStoreFull; Interrupted.
 use Rattle.std.specs.Prelude.{◌≡◌, ◌≢◌, ℕ, ◌<◌, ◌≤◌, Bool, true, false, Option, Some, None, List, [], ◌∷◌, ◌++◌, ◌⊎◌, Result, Ok, Err, map, length}
 use Rattle.std.specs.declared.alloc.AllocError.{AllocError}
 use Rattle.varisat_theory.specs.Membership.{◌∈◌}
@@ -8,7 +8,7 @@ use Rattle.varisat_theory.specs.Literals.{Literal, Clause, variable_of, opposite
 use Rattle.varisat_formula.specs.Dimacs.{Reading}
 use Rattle.varisat_formula.specs.Streams.{Stand}
 use Rattle.varisat.specs.States.{State, join_counted, Verdict, Unknown, Sat, Unsat, UnsatUnderAssumptions, HasRightVerdict, IsWellFormed}
-use Rattle.varisat.specs.Names.{Naming, name_one, name_all, through_names, IsLeastFree}
+use Rattle.varisat.specs.Names.{Naming, name_one, name_all, through_names, IsLeastFree, NameNoWitness, IsFirstWitness}
 use Rattle.varisat.specs.Models.{model_of, core_of, IsCoreToTell}
 use Rattle.varisat_formula.specs.declared.dimacs.error.DimacsError.{DimacsError}
 use Rattle.varisat_names.specs.declared.config.SolverConfigUpdate.{SolverConfigUpdate}
@@ -17,7 +17,7 @@ use Rattle.varisat.specs.Updates as updates
 use Rattle.varisat.specs.Budgets.{CountsSteps}
 use Rattle.varisat.specs.Additions as additions
 use Rattle.varisat.specs.declared.solver.SolverError.{SolverError}
-use Rattle.varisat.specs.declared.solver.SolverError.TheVariants.{Interrupted, OutOfMemory, Invalid, ClauseStoreFull, VariableLimit}
+use Rattle.varisat.specs.declared.solver.SolverError.TheVariants.{Interrupted, OutOfMemory, Invalid, ClauseStoreFull, WitnessVar, VariableLimit}
 use Rattle.varisat_literals.specs.Numbers.{variable_limit}
 
 abbrev pub is_valid : State → Bool
@@ -53,6 +53,11 @@ start s = record s { ledger = record s.ledger { started = true } }
 -- some literal's name is past the limit
 abbrev pub IsPastLimit : List Literal → Type 0
 IsPastLimit d = (l : Literal) × (l ∈ d) × (variable_limit ≤ variable_of l)
+
+-- clauses and assumptions may be over these literals: no name is past the limit, and none is a witness
+pub record MayConstrain (m : Naming) (d : List Literal) : Type 0 where
+  pub in_range : IsPastLimit d → ⊥
+  pub sampled : NameNoWitness m d
 
 -- more identities than there may be variables
 abbrev pub IsCrowded : Naming → Type 0
@@ -93,14 +98,15 @@ Accepts s d t =
 -- a clause is accepted: under Unsat nothing changes
 pub data TakesClause (s : State) (d : Clause) (t : State) : Type 0 where
   Ignored : s.verdict ≡ Unsat → t ≡ s → TakesClause s d t
-  Accepted : s.verdict ≢ Unsat → (IsPastLimit d → ⊥) → Accepts s d t → TakesClause s d t
+  Accepted : s.verdict ≢ Unsat → MayConstrain s.naming d → Accepts s d t → TakesClause s d t
 
 abbrev pub AddsClause : State → Clause → Result (Unit {0}) SolverError → State → Type 0
 AddsClause s d (Ok _) t = IsValid s × TakesClause s d t
 AddsClause s d (Err Invalid) t = IsRefusedInvalid s t
 AddsClause s d (Err VariableLimit) t = IsValid s × (s.verdict ≢ Unsat) × (IsPastLimit d ⊎ IsCrowded (name_all d s.naming)) × (t ≡ s)
-AddsClause s d (Err OutOfMemory) t = (s.verdict ≢ Unsat) × (IsPastLimit d → ⊥) × Invalidates s t
-AddsClause s d (Err ClauseStoreFull) t = (s.verdict ≢ Unsat) × (IsPastLimit d → ⊥) × Invalidates s t
+AddsClause s d (Err (WitnessVar u)) t = IsValid s × (s.verdict ≢ Unsat) × (IsPastLimit d → ⊥) × IsFirstWitness s.naming d u × (t ≡ s)
+AddsClause s d (Err OutOfMemory) t = (s.verdict ≢ Unsat) × MayConstrain s.naming d × Invalidates s t
+AddsClause s d (Err ClauseStoreFull) t = (s.verdict ≢ Unsat) × MayConstrain s.naming d × Invalidates s t
 AddsClause s d (Err _) t = ⊥
 
 -- The calls `add_formula` and `add_dimacs_cnf`.
@@ -157,10 +163,11 @@ TakesAssumptions s list t =
     IsLike (start (with_assumptions (map (through_names named) list) (with_naming named s))) t
 
 abbrev pub Assumes : State → List Literal → Result (Unit {0}) SolverError → State → Type 0
-Assumes s list (Ok _) t = IsValid s × (IsPastLimit list → ⊥) × TakesAssumptions s list t
+Assumes s list (Ok _) t = IsValid s × MayConstrain s.naming list × TakesAssumptions s list t
 Assumes s list (Err Invalid) t = IsRefusedInvalid s t
 Assumes s list (Err VariableLimit) t = IsValid s × (IsPastLimit list ⊎ IsCrowded (name_all list s.naming)) × (t ≡ s)
-Assumes s list (Err OutOfMemory) t = (IsPastLimit list → ⊥) × Invalidates s t
+Assumes s list (Err (WitnessVar u)) t = IsValid s × (IsPastLimit list → ⊥) × IsFirstWitness s.naming list u × (t ≡ s)
+Assumes s list (Err OutOfMemory) t = MayConstrain s.naming list × Invalidates s t
 Assumes s list (Err _) t = ⊥
 
 -- The call `solve`.

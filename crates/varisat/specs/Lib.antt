@@ -17,6 +17,9 @@ pub mod Accepting
 pub mod Summaries
 pub mod Carried
 pub mod Spaces
+pub mod Usage
+pub mod VariableCalls
+pub mod VariableChanges
 pub mod Counts
 pub mod Lines
 pub mod Decided

@@ -7,7 +7,7 @@ use Rattle.varisat_literals.specs.Numbers.{variable_text, literal_text}
 use Rattle.varisat_names.specs.declared.config.ConfigField.{ConfigField}
 use Rattle.varisat_names.specs.Settings.{field_text, update_of}
 use Rattle.varisat.specs.Refusals.{refusal_number}
-use Rattle.varisat.specs.Told.{told_list}
+use Rattle.varisat.specs.Told.{told_list, told_vars}
 use Rattle.varisat.specs.declared.session.Call.{Call}
 use Rattle.varisat.specs.declared.session.Call.TheVariants as call
 use Rattle.varisat.specs.declared.session.Answer.{Answer}
@@ -15,11 +15,15 @@ use Rattle.varisat.specs.declared.session.Answer.TheVariants as answer
 use Rattle.varisat.specs.declared.solver.SolverError.{SolverError}
 use Rattle.varisat.specs.declared.solver.SolverError.TheVariants.{OutOfMemory}
 
--- a command, by its call; a literal is its code, and an update changes one setting
+-- a command, by its call; a literal is its code, a variable its index, and an update changes one setting
 pub data Command : Type 0 where
   Add : List Literal → Command
   Assume : List Literal → Command
   New : Command
+  Sample : ℕ → Command
+  Witness : ℕ → Command
+  Hide : ℕ → Command
+  Observe : Command
   Solve : Command
   Model : Command
   Core : Command
@@ -32,6 +36,10 @@ abbrev pub words : Command → List (List ℕ)
 words (Add literals) = codes "add" ∷ map literal_text literals
 words (Assume literals) = codes "assume" ∷ map literal_text literals
 words New = codes "new" ∷ []
+words (Sample variable) = codes "sample" ∷ variable_text variable ∷ []
+words (Witness variable) = codes "witness" ∷ variable_text variable ∷ []
+words (Hide variable) = codes "hide" ∷ variable_text variable ∷ []
+words Observe = codes "observe" ∷ []
 words Solve = codes "solve" ∷ []
 words Model = codes "model" ∷ []
 words Core = codes "core" ∷ []
@@ -43,11 +51,15 @@ words Close = codes "close" ∷ []
 abbrev pub spelling : Command → List ℕ
 spelling command = join_with_byte 32 (words command)
 
--- its literals' numbers are at most 2^31, and a value is below 2^64
+-- its literals' and variables' numbers are at most 2^31, and a value is below 2^64
 abbrev pub HasNumbersInRange : Command → Type 0
 HasNumbersInRange (Add literals) = All (λ l. l < 2 ^ 32) literals
 HasNumbersInRange (Assume literals) = All (λ l. l < 2 ^ 32) literals
 HasNumbersInRange New = Unit {0}
+HasNumbersInRange (Sample variable) = variable < 2 ^ 31
+HasNumbersInRange (Witness variable) = variable < 2 ^ 31
+HasNumbersInRange (Hide variable) = variable < 2 ^ 31
+HasNumbersInRange Observe = Unit {0}
 HasNumbersInRange Solve = Unit {0}
 HasNumbersInRange Model = Unit {0}
 HasNumbersInRange Core = Unit {0}
@@ -69,6 +81,10 @@ abbrev pub AsksFor : {S A : Type 0} → Call S A → Command → Type 0
 AsksFor (call.AddClause literals) (Add numbers) = literals.items ≡ numbers
 AsksFor (call.Assume literals) (Assume numbers) = literals.items ≡ numbers
 AsksFor call.NewVar New = Unit {0}
+AsksFor (call.SampleVar v) (Sample variable) = v ≡ variable
+AsksFor (call.WitnessVar v) (Witness variable) = v ≡ variable
+AsksFor (call.HideVar v) (Hide variable) = v ≡ variable
+AsksFor call.ObserveInternalVars Observe = Unit {0}
 AsksFor call.Solve Solve = Unit {0}
 AsksFor call.Model Model = Unit {0}
 AsksFor call.FailedCore Core = Unit {0}
@@ -76,6 +92,13 @@ AsksFor (call.Config update) (Config field value) = update ≡ update_of field v
 AsksFor call.Steps Steps = Unit {0}
 AsksFor call.CloseProof Close = Unit {0}
 AsksFor _ _ = ⊥
+
+-- the command sets how one variable is used
+abbrev pub SetsUsage : Command → Type 0
+SetsUsage (Sample variable) = Unit {0}
+SetsUsage (Witness variable) = Unit {0}
+SetsUsage (Hide variable) = Unit {0}
+SetsUsage _ = ⊥
 
 -- the words that a text is cut into at its spaces
 abbrev pub words_of : List ℕ → List (List ℕ)
@@ -102,6 +125,15 @@ list_text (Ok (Some literals)) = codes "ok" ++ literals_text literals
 list_text (Ok None) = codes "ok none"
 list_text (Err _) = refusal_text OutOfMemory
 
+-- each variable after a space, and then a space and `0`
+abbrev pub variables_text : List ℕ → List ℕ
+variables_text variables = flat_map (λ v. 32 ∷ variable_text v) variables ++ codes " 0"
+
+-- the text of the names that came back, or of the refusal
+abbrev pub names_text : Result (List ℕ) SolverError → List ℕ
+names_text (Ok names) = codes "ok" ++ variables_text names
+names_text (Err error) = refusal_text error
+
 -- the text of an answer
 abbrev pub answer_text : {W S A : Type 0} → Answer W S A → List ℕ
 answer_text (answer.AddClause done) = done_text done
@@ -110,6 +142,10 @@ answer_text (answer.AddDimacsCnf done source) = done_text done
 answer_text (answer.Assume done) = done_text done
 answer_text (answer.NewVar (Ok variable)) = codes "ok " ++ variable_text variable
 answer_text (answer.NewVar (Err error)) = refusal_text error
+answer_text (answer.SampleVar done) = done_text done
+answer_text (answer.WitnessVar done) = done_text done
+answer_text (answer.HideVar done) = done_text done
+answer_text (answer.ObserveInternalVars names) = names_text (told_vars names)
 answer_text (answer.Solve (Ok b)) = truth_text b
 answer_text (answer.Solve (Err error)) = refusal_text error
 answer_text (answer.Model list) = list_text (told_list list)

@@ -1,5 +1,6 @@
 -- The names of variables: which are in use, and how they come into use.
-use Rattle.std.specs.Prelude.{◌≡◌, ◌≢◌, ℕ, zero, suc, ◌+◌, ◌-◌, ◌*◌, ◌%◌, ◌<◌, ◌≤◌, nat_lt, if◌then◌else◌, max, Option, Some, None, List, [], ◌∷◌}
+use Rattle.std.specs.Prelude.{◌≡◌, ◌≢◌, ℕ, zero, suc, ◌+◌, ◌-◌, ◌*◌, ◌%◌, ◌<◌, ◌≤◌, nat_lt, if◌then◌else◌, max, Option, Some, None, List, [], ◌∷◌, ◌++◌}
+use Rattle.varisat_theory.specs.Membership.{◌∈◌}
 use Rattle.varisat_theory.specs.Literals.{Literal, variable_of}
 use Rattle.varisat_names.specs.Maps.{updated}
 
@@ -61,6 +62,18 @@ identity_of (Some i) = i
 abbrev pub through_names : Naming → Literal → Literal
 through_names m l = 2 * identity_of (m.names (variable_of l)) + l % 2
 
+-- the name is in use in mode Witness
+abbrev pub IsWitness : Naming → ℕ → Type 0
+IsWitness m u = (i : ℕ) × (m.names u ≡ Some i) × (m.modes i ≡ Witness)
+
+-- no literal's name is in mode Witness
+abbrev pub NameNoWitness : Naming → List Literal → Type 0
+NameNoWitness m ls = (l : Literal) → l ∈ ls → IsWitness m (variable_of l) → ⊥
+
+-- the first name of the literals in the given order that is in mode Witness
+abbrev pub IsFirstWitness : Naming → List Literal → ℕ → Type 0
+IsFirstWitness m ls u = (front : List Literal) × (l : Literal) × (rest : List Literal) × (ls ≡ front ++ l ∷ rest) × NameNoWitness m front × (variable_of l ≡ u) × IsWitness m u
+
 -- Exactly the names below n are in use, each for the identity of that number, all in mode Sample: names come into use in order as long as none is freed.
 pub record AreInOrder (n : ℕ) (m : Naming) : Type 0 where
   pub made : m.made ≡ n
@@ -68,3 +81,24 @@ pub record AreInOrder (n : ℕ) (m : Naming) : Type 0 where
   pub in_use : (u : ℕ) → u < n → m.names u ≡ Some u
   pub free : (u : ℕ) → n ≤ u → m.names u ≡ None
   pub sampled : (i : ℕ) → i < n → m.modes i ≡ Sample
+
+-- the name is free, and what it stood for has no name
+abbrev pub free_name : ℕ → Naming → Naming
+free_name u m = record m { names = updated m.names u None }
+
+-- the identity of the name, which is in use, has the mode
+abbrev pub set_mode : ℕ → Mode → Naming → Naming
+set_mode u mode m = record m { modes = updated m.modes (identity_of (m.names u)) mode }
+
+-- the free name comes into use for an identity that was made before, in mode Witness
+abbrev pub give_name : ℕ → ℕ → Naming → Naming
+give_name u i m = record m { names = updated m.names u (Some i); watermark = max m.watermark (u + 1); modes = updated m.modes i Witness }
+
+-- no name in use stands for the identity
+abbrev pub IsUnnamed : Naming → ℕ → Type 0
+IsUnnamed m i = (u : ℕ) → m.names u ≢ Some i
+
+-- The names come into use in turn, each as it is the least free one, for some identities that were made and have no name.
+abbrev pub AreShown : List ℕ → Naming → Naming → Type 0
+AreShown [] old new = new ≡ old
+AreShown (u ∷ us) old new = IsLeastFree old u × ((i : ℕ) × (i < old.made) × IsUnnamed old i × AreShown us (give_name u i old) new)

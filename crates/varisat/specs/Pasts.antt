@@ -5,14 +5,15 @@ use Rattle.varisat_theory.specs.Literals.{Literal, Clause, variable_of, IsSatisf
 use Rattle.varisat_formula.specs.Streams.{Stand}
 use Rattle.varisat_names.specs.declared.config.SolverConfigUpdate.{SolverConfigUpdate}
 use Rattle.varisat_names.specs.Settings.{Settings, default_settings, updated_settings}
-use Rattle.varisat.specs.Names.{Naming, no_names, name_one, name_all, through_names, IsLeastFree}
+use Rattle.varisat.specs.Names.{Naming, no_names, name_one, name_all, through_names, IsLeastFree, IsFirstWitness}
 use Rattle.varisat.specs.States.{join_counted}
 use Rattle.varisat.specs.Budgets.{CountsSteps}
 use Rattle.varisat.specs.Models.{IsCompletable, AreNamesInUse}
-use Rattle.varisat.specs.Calls.{IsPastLimit, IsCrowded}
+use Rattle.varisat.specs.Calls.{IsPastLimit, MayConstrain, IsCrowded}
 use Rattle.varisat.specs.Additions as additions
+use Rattle.varisat.specs.Usage as usage
 use Rattle.varisat.specs.declared.solver.SolverError.{SolverError}
-use Rattle.varisat.specs.declared.solver.SolverError.TheVariants.{Interrupted, OutOfMemory, Invalid, ClauseStoreFull, VariableLimit}
+use Rattle.varisat.specs.declared.solver.SolverError.TheVariants.{Interrupted, OutOfMemory, Invalid, ClauseStoreFull, WitnessVar, VariableLimit}
 use Rattle.varisat_literals.specs.Numbers.{variable_limit}
 
 -- Clauses and assumptions are kept over identities, as the names that were in use carried them when they were given: a name that becomes free may come back for another variable, and what was said before still speaks of the first.
@@ -49,13 +50,14 @@ accept c p =
 
 -- A clause is taken: it is accepted; or nothing changes, which happens only once no assignment satisfies those before it.
 pub data TakesClause (p : Past) (c : Clause) (q : Past) : Type 0 where
-  Accepted : (IsPastLimit c → ⊥) → q ≡ accept c p → TakesClause p c q
+  Accepted : MayConstrain p.naming c → q ≡ accept c p → TakesClause p c q
   Ignored : (IsSatisfiable p.clauses → ⊥) → q ≡ p → TakesClause p c q
 
 abbrev pub AddsClause : Past → Clause → Result (Unit {0}) SolverError → Past → Type 0
 AddsClause p c (Ok _) q = (p.valid ≡ true) × TakesClause p c q
 AddsClause p c (Err Invalid) q = (p.valid ≡ false) × (q ≡ p)
 AddsClause p c (Err VariableLimit) q = (p.valid ≡ true) × (IsPastLimit c ⊎ IsCrowded (name_all c p.naming)) × (q ≡ p)
+AddsClause p c (Err (WitnessVar u)) q = (p.valid ≡ true) × (IsPastLimit c → ⊥) × IsFirstWitness p.naming c u × (q ≡ p)
 AddsClause p c (Err OutOfMemory) q = Invalidates p q
 AddsClause p c (Err ClauseStoreFull) q = Invalidates p q
 AddsClause p c (Err _) q = ⊥
@@ -79,6 +81,10 @@ MakesVar p (Err VariableLimit) q = (p.valid ≡ true) × ((u : ℕ) × IsLeastFr
 MakesVar p (Err OutOfMemory) q = Invalidates p q
 MakesVar p (Err _) q = ⊥
 
+-- how calls move names and modes: a past doesn't tell whether a name was ever hidden
+abbrev pub named : usage.Named Past
+named = record { valid = is_valid; naming = λ p. p.naming; clauses = λ p. p.clauses; assumptions = λ p. p.assumptions; with_naming = λ m p. record p { naming = m }; once_hidden = λ p. p; like = λ p q. q ≡ p; invalidates = Invalidates }
+
 -- The names of the list come into use, and it is assumed as they carry it to identities, in place of the one before.
 abbrev pub assume : List Literal → Past → Past
 assume list p =
@@ -87,9 +93,10 @@ assume list p =
     record p { naming = named; assumptions = carried; counted = join_counted p.counted (map variable_of carried); has_model = false; has_core = false }
 
 abbrev pub Assumes : Past → List Literal → Result (Unit {0}) SolverError → Past → Type 0
-Assumes p list (Ok _) q = (p.valid ≡ true) × (IsPastLimit list → ⊥) × (q ≡ assume list p)
+Assumes p list (Ok _) q = (p.valid ≡ true) × MayConstrain p.naming list × (q ≡ assume list p)
 Assumes p list (Err Invalid) q = (p.valid ≡ false) × (q ≡ p)
 Assumes p list (Err VariableLimit) q = (p.valid ≡ true) × (IsPastLimit list ⊎ IsCrowded (name_all list p.naming)) × (q ≡ p)
+Assumes p list (Err (WitnessVar u)) q = (p.valid ≡ true) × (IsPastLimit list → ⊥) × IsFirstWitness p.naming list u × (q ≡ p)
 Assumes p list (Err OutOfMemory) q = Invalidates p q
 Assumes p list (Err _) q = ⊥
 

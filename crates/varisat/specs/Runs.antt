@@ -3,6 +3,7 @@ use Rattle.std.specs.Prelude.{◌-◌, ◌^◌, ◌<◌, List, [], ◌∷◌}
 use Rattle.varisat_formula.specs.Streams.{Stand}
 use Rattle.varisat.specs.States.{State}
 use Rattle.varisat.specs.Calls.{adding, MakesVar, Assumes, Solves, TellsModel, TellsCore, with_update}
+use Rattle.varisat.specs.VariableCalls.{named}
 use Rattle.varisat.specs.Turns.{Calling, Makes, MakesInTurn}
 use Rattle.varisat.specs.declared.session.Call.{Call}
 use Rattle.varisat.specs.declared.session.Answer.{Answer}
@@ -10,7 +11,7 @@ use Rattle.varisat.specs.declared.session.Call.TheVariants as call
 
 -- the calls of a solver
 abbrev pub calling : Calling State
-calling = record { adding = adding; makes_var = MakesVar; assumes = Assumes; solves = Solves; tells_model = TellsModel; tells_core = TellsCore; updated = with_update; steps = λ s. s.ledger.steps }
+calling = record { adding = adding; named = named; makes_var = MakesVar; assumes = Assumes; solves = Solves; tells_model = TellsModel; tells_core = TellsCore; updated = with_update; steps = λ s. s.ledger.steps }
 
 abbrev pub MakesCall : {W S A : Type 0} → (S → Stand) → State → Call S A → Answer W S A → State → Type 0
 MakesCall seen s c a t = Makes calling seen s c a t

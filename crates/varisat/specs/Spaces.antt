@@ -18,11 +18,12 @@ use Rattle.varisat.specs.Names.{Mode, Sample, Witness}
 use Rattle.varisat.specs.Models.{put_name}
 use Rattle.varisat.specs.Carried.{carry, AgreesAlong, is_forced}
 
--- The maps as functions; what is kept of each global variable, and its value in the model found last; the assumptions as given and the core found last, over names; those of the assumptions by which the search goes, and the search with its verdict, over solver variables, and how many variables it has.
+-- The maps as functions; how many global variables were made, what is kept of each of them, and its value in the model found last; the assumptions as given and the core found last, over names; those of the assumptions by which the search goes, and the search with its verdict, over solver variables, and how many variables it has.
 pub record Spaces : Type 0 where
   pub global_from_user : ℕ → Option ℕ
   pub user_from_global : ℕ → Option ℕ
   pub watermark : ℕ
+  pub globals : ℕ
   pub solver_from_global : ℕ → Option ℕ
   pub global_from_solver : ℕ → Option ℕ
   pub kept : ℕ → VarData
@@ -164,6 +165,8 @@ pub record Links (w : Carrying) (p : Spaces) (s : State) : Type 0 where
   pub names : NamesFit w.identity p.global_from_user p.user_from_global s.naming.names s.naming.watermark
   pub modes : ModesFit w.identity p.global_from_user p.user_from_global p.kept s.naming.modes
   pub watermark : s.naming.watermark ≡ p.watermark
+  -- each global variable was made for an identity
+  pub globals : p.globals ≤ s.naming.made
   pub units : UnitsFit w.identity w.forced p.kept s.counted
   pub isolation : IsolationFits w.identity w.forced p.kept s.clauses s.naming.made
   pub solvers : SolversFit w.identity p.solver_from_global p.global_from_solver s.counted

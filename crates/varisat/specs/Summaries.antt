@@ -1,5 +1,5 @@
 -- What a solver holds, and which states it stands for.
-use Rattle.std.specs.Prelude.{◌≡◌, ℕ, zero, suc, ◌<◌, ◌≤◌, ◌↔◌, Bool, true, false, Option, None, List, [], length, slice_index_or}
+use Rattle.std.specs.Prelude.{◌≡◌, ℕ, zero, suc, ◌<◌, ◌≤◌, ◌↔◌, Bool, true, false, Option, Some, None, List, [], length, slice_index_or, IsSome}
 use Rattle.varisat_theory.specs.Membership.{◌∈◌}
 use Rattle.varisat_theory.specs.Literals.{Literal, variable_of}
 use Rattle.varisat_prop.specs.Parts.{is_true_value}
@@ -15,11 +15,10 @@ use Rattle.varisat_names.specs.VarMap.{at}
 use Rattle.varisat_names.specs.VarData.{kept_at}
 use Rattle.varisat_names.specs.Variables.{Tables}
 use Rattle.varisat.specs.States.{State, Ledger}
-use Rattle.varisat.specs.Accepting.{IsPlain}
+use Rattle.varisat.specs.Accepting.{IsPlain, AreBounded, IsAssumedSolver}
 use Rattle.varisat.specs.Models.{put_name}
 use Rattle.varisat.specs.Carried.{value_or}
 use Rattle.varisat.specs.Spaces.{Spaces, SpacesFit}
-use Rattle.varisat_literals.specs.Numbers.{variable_limit}
 
 -- The maps between names, global variables and solver variables with what is kept of the global variables; the search with its assumptions and its verdict; the flags.
 pub record Summary : Type 0 where
@@ -35,6 +34,7 @@ spaces_of t search assumed sat_state = record {
   global_from_user = at t.users.forward;
   user_from_global = at t.users.backward;
   watermark = length t.users.forward;
+  globals = length t.kept;
   solver_from_global = at t.solvers.forward;
   global_from_solver = at t.solvers.backward;
   kept = kept_at t.kept;
@@ -57,15 +57,17 @@ list_tables t values u (suc k) = put_name u (at t.users.forward u) (λ x. value_
 
 -- what a valid solver keeps
 pub record IsKept {A : Type 0} (tables : Tables) (search : Context A) : Type 0 where
-  pub small : length tables.users.forward ≤ variable_limit
+  pub bounded : AreBounded tables
   pub plain : IsPlain tables
   pub ready : IsReady search
   -- the search has the solver variables that were taken
   pub count : length search.assignment.current ≡ length tables.solvers.backward
   -- which accepted clauses named: these may be decided, and no other
   pub decidable : (v : ℕ) → IsDecidable (view search) search.vsids v ↔ (v < length search.assignment.current)
-  -- assumptions are over names in use
-  pub assumed : (l : Literal) → l ∈ search.assumptions.user → variable_of l < length tables.users.forward
+  -- assumptions are over names in use, whose variables are marked as assumed, and those by which the search goes over their solver variables
+  pub assumed : (l : Literal) → l ∈ search.assumptions.user → IsSome (at tables.users.forward (variable_of l))
+  pub marked : (l : Literal) (x : ℕ) → l ∈ search.assumptions.user → at tables.users.forward (variable_of l) ≡ Some x → (kept_at tables.kept x).assumed ≡ true
+  pub working : (l : Literal) → l ∈ search.assumptions.working → IsAssumedSolver tables (variable_of l)
 
 -- The solver stands for the state: both have the same flags, and where they are valid, what the solver holds stands for it.
 pub record StandsFor (g : Summary) (s : State) : Type 0 where

@@ -6,16 +6,19 @@ use Rattle.varisat_formula.specs.Streams.{Stand}
 use Rattle.varisat_names.specs.declared.config.SolverConfigUpdate.{SolverConfigUpdate}
 use Rattle.varisat.specs.Updates.{Configures}
 use Rattle.varisat.specs.Additions as additions
-use Rattle.varisat.specs.Told.{told_list}
+use Rattle.varisat.specs.Told.{told_list, told_vars}
+use Rattle.varisat.specs.Names.{Sample, Witness}
+use Rattle.varisat.specs.Usage as usage
 use Rattle.varisat.specs.declared.solver.SolverError.{SolverError}
 use Rattle.varisat.specs.declared.session.Call.{Call}
 use Rattle.varisat.specs.declared.session.Answer.{Answer}
 use Rattle.varisat.specs.declared.session.Call.TheVariants as call
 use Rattle.varisat.specs.declared.session.Answer.TheVariants as answer
 
--- How calls move something, and with which answers: how clauses are added to it, and each further call that can be refused; what an update of the settings makes of it, and how many steps were made.
+-- How calls move something, and with which answers: how clauses are added to it, how its names are used, and each further call that can be refused; what an update of the settings makes of it, and how many steps were made.
 pub record Calling (X : Type 0) : Type 1 where
   pub adding : additions.Adding X
+  pub named : usage.Named X
   pub makes_var : X → Result ℕ SolverError → X → Type 0
   pub assumes : X → List Literal → Result (Unit {0}) SolverError → X → Type 0
   pub solves : X → Result Bool SolverError → X → Type 0
@@ -31,6 +34,10 @@ module _ {X : Type 0} (by : Calling X) where
   Makes seen s (call.AddFormula f) (answer.AddFormula r) t = additions.AddsList by.adding s f.clauses r t
   Makes seen s (call.AddDimacsCnf source) (answer.AddDimacsCnf r back) t = additions.AddsText by.adding s (seen source) r (seen back) t
   Makes seen s call.NewVar (answer.NewVar r) t = by.makes_var s r t
+  Makes seen s (call.SampleVar u) (answer.SampleVar r) t = usage.SetsMode by.named Sample s u r t
+  Makes seen s (call.WitnessVar u) (answer.WitnessVar r) t = usage.SetsMode by.named Witness s u r t
+  Makes seen s (call.HideVar u) (answer.HideVar r) t = usage.Hides by.named s u r t
+  Makes seen s call.ObserveInternalVars (answer.ObserveInternalVars r) t = usage.Observes by.named s (told_vars r) t
   Makes seen s (call.Assume list) (answer.Assume r) t = by.assumes s list.items r t
   Makes seen s call.Solve (answer.Solve r) t = by.solves s r t
   Makes seen s call.Model (answer.Model r) t = by.tells_model s (told_list r) t

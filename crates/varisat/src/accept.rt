@@ -11,10 +11,10 @@ ghost use Rattle.varisat.specs.Names.{name_all, through_names};
 ghost use Rattle.varisat.specs.Calls.{with_naming, VerdictAfter, append_clause, with_assumptions};
 ghost use Rattle.varisat.specs.Spaces.{SpacesFit};
 ghost use Rattle.varisat.specs.Summaries.{spaces_of, IsKept};
-ghost use Rattle.varisat.specs.Accepting.{CanBeNamed, HasNames, AreNamedInTurn, AreTakenFor, AreBroughtIn, AreJoined, AreMarked};
-ghost use Rattle.varisat_literals.specs.Numbers.{variable_limit};
+ghost use Rattle.varisat.specs.Accepting.{CanBeNamed, HasNames, AreTakenFor, AreBroughtIn, AreJoined, AreMarked};
 
 use crate::carrying::carry_literals;
+use crate::naming::name_vars;
 use std::alloc::{AllocError, Allocator};
 use varisat_literals::{Lit, Var};
 use varisat_names::variables::LinkedVariables;
@@ -25,27 +25,13 @@ use varisat_search::decision::add_variables;
 use varisat_search::load::load_clause;
 use varisat_search::state::SatState;
 
-/// Brings the names of the clause into use, each with all names below it.
-fn name_vars<A: Allocator + Copy>(
-    variables: &mut LinkedVariables<A>,
-    clause: &[Lit],
-) -> Result<(), AllocError>
-    requires { CanBeNamed clause.now variables.old }
-    ensures names { OnOk result (HasNames clause.now variables.new) }
-    ensures in_turn { OnOk result (AreNamedInTurn clause.now variables.old variables.new) }
-{
-    for lit in clause {
-        variables.give_user_vars_up_to(lit.var())?;
-    }
-    Ok(())
-}
-
 /// The global variable of the literal's name, which is in use.
 fn global_of<A: Allocator + Copy>(variables: &LinkedVariables<A>, lit: Lit) -> Var
     requires { HasNames (lit ∷ []) variables.now }
     ensures found { at variables.now.users.forward (variable_of lit) ≡ Some result }
     ensures live { (kept_at variables.now.kept result).deleted ≡ false }
 {
+    variables.prove_linked();
     variables.global_from_user().get(lit.var()).unwrap()
 }
 
@@ -103,7 +89,7 @@ fn bring_in<A: Allocator + Copy>(
     list: &[Lit],
 ) -> Result<(), AllocError>
     requires kept { IsKept variables.old ctx.old }
-    requires in_range { (l : Literal) → l ∈ list.now → variable_of l < variable_limit }
+    requires names { CanBeNamed list.now variables.old }
     ensures brought { OnOk result (AreBroughtIn list.now variables.old variables.new ctx.old ctx.new literals.new.items) }
     ensures kept { ctx.new ≡ record ctx.old { analyze_conflict = ctx.new.analyze_conflict; assignment = ctx.new.assignment; binary_clauses = ctx.new.binary_clauses; impl_graph = ctx.new.impl_graph; tmp_flags = ctx.new.tmp_flags; vsids = ctx.new.vsids; watchlists = ctx.new.watchlists } }
 {
@@ -130,13 +116,14 @@ pub fn accept_clause<A: Allocator + Copy>(
 ) -> Result<(), StoreError>
     requires kept { IsKept variables.old ctx.old }
     requires unsettled { ctx.old.solver_state.sat_state ≢ SatState.Unsat }
-    requires in_range { (l : Literal) → l ∈ clause.now → variable_of l < variable_limit }
+    requires names { CanBeNamed clause.now variables.old }
     ensures kept { OnOk result (IsKept variables.new ctx.new) }
     ensures state { OnOk result (ctx.new.solver_state ≡ record ctx.old.solver_state { sat_state = ctx.new.solver_state.sat_state; formula_is_empty = false }) }
     ensures schedule { KeepsSchedule ctx.old ctx.new }
     ensures accepted { OnOk result ((s : State) → SpacesFit (spaces_of variables.old (view ctx.old) ctx.old.assumptions ctx.old.solver_state.sat_state) s →
         (x : Verdict) × VerdictAfter s.clauses (map (through_names (name_all clause.now s.naming)) clause.now) s.verdict x × SpacesFit (spaces_of variables.new (view ctx.new) ctx.new.assumptions ctx.new.solver_state.sat_state) (append_clause (map (through_names (name_all clause.now s.naming)) clause.now) x (with_naming (name_all clause.now s.naming) s))) }
 {
+    variables.prove_linked();
     bring_in(variables, ctx, literals, clause)?;
     mark_joined(variables, clause);
     load_clause(ctx, literals)?;
@@ -152,7 +139,7 @@ pub fn assume_list<A: Allocator + Copy>(
     list: &[Lit],
 ) -> Result<(), AllocError>
     requires kept { IsKept variables.old ctx.old }
-    requires in_range { (l : Literal) → l ∈ list.now → variable_of l < variable_limit }
+    requires names { CanBeNamed list.now variables.old }
     ensures kept { OnOk result (IsKept variables.new ctx.new) }
     ensures state { OnOk result (ctx.new.solver_state ≡ record ctx.old.solver_state { sat_state = ctx.new.solver_state.sat_state }) }
     ensures schedule { KeepsSchedule ctx.old ctx.new }
@@ -160,6 +147,7 @@ pub fn assume_list<A: Allocator + Copy>(
         SpacesFit (spaces_of variables.new (view ctx.new) ctx.new.assumptions ctx.new.solver_state.sat_state) (with_assumptions (map (through_names (name_all list.now s.naming)) list.now) (with_naming (name_all list.now s.naming) s))) }
 {
     bring_in(variables, ctx, literals, list)?;
+    variables.prove_linked();
     mark_assumed(variables, ctx.assumptions.user_assumptions(), false);
     mark_assumed(variables, list, true);
     set_assumptions(ctx, list, literals)?;

@@ -5,10 +5,12 @@ mod accept;
 mod carrying;
 pub mod laws;
 pub mod line;
+mod naming;
 pub mod program;
 pub mod session;
 pub mod solver;
 mod solving;
+mod usage;
 
 /// The parts of a search that propagate, and backtracking.
 pub mod prop {

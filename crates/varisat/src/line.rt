@@ -5,8 +5,8 @@ ghost use Rattle.std.specs.Io.KnownBytes.{Appends};
 ghost use Rattle.varisat_theory.specs.Literals.{Literal};
 ghost use Rattle.varisat_literals.specs.Numbers.{literal_text, variable_text};
 ghost use Rattle.varisat_names.specs.Settings.{update_of};
-ghost use Rattle.varisat.specs.Lines.{Command, Add, Assume, Config, words, Means, MeansOneCommand, AsksFor, words_of, literals_text, refusal_text, done_text, list_text, answer_text};
-ghost use Rattle.varisat.specs.Told.{told_list};
+ghost use Rattle.varisat.specs.Lines.{Command, Add, Assume, Config, words, Means, MeansOneCommand, AsksFor, SetsUsage, words_of, literals_text, variables_text, names_text, refusal_text, done_text, list_text, answer_text};
+ghost use Rattle.varisat.specs.Told.{told_list, told_vars};
 
 use crate::session::{Answer, Call};
 use crate::solver::SolverError;
@@ -52,7 +52,27 @@ fn parse_short<S: ByteSource, A: Allocator + Copy>(alloc: A, text: &[u8]) -> Opt
 {
     match text.strip_prefix(b"config ") {
         Some(setting) => Some(Call::Config(parse_setting(setting)?)),
-        None => parse_word(alloc, text),
+        None => match parse_usage(text) {
+            Some(call) => Some(call),
+            None => parse_word(alloc, text),
+        },
+    }
+}
+
+// The call of a command that sets how a variable is used.
+fn parse_usage<S: ByteSource, A: Allocator + Copy>(text: &[u8]) -> Option<Call<S, A>>
+    ensures command { IfSome result (λ call. (command : Command) × AsksFor call command × Means text.now command) }
+    ensures no_command { IfNone result ((command : Command) → Means text.now command → SetsUsage command → ⊥) }
+{
+    if let Some(number) = text.strip_prefix(b"sample ") {
+        return Some(Call::SampleVar(parse_variable(number)?));
+    }
+    if let Some(number) = text.strip_prefix(b"witness ") {
+        return Some(Call::WitnessVar(parse_variable(number)?));
+    }
+    match text.strip_prefix(b"hide ") {
+        Some(number) => Some(Call::HideVar(parse_variable(number)?)),
+        None => None,
     }
 }
 
@@ -77,6 +97,8 @@ fn parse_word<S: ByteSource, A: Allocator + Copy>(alloc: A, word: &[u8]) -> Opti
         Some(Call::CloseProof)
     } else if word == b"steps".as_slice() {
         Some(Call::Steps)
+    } else if word == b"observe".as_slice() {
+        Some(Call::ObserveInternalVars)
     } else {
         None
     }
@@ -189,12 +211,16 @@ pub fn write_answer<O: Write, W: ProofTarget, S: ByteSource, A: Allocator + Copy
         Answer::AddClause(done)
         | Answer::AddFormula(done)
         | Answer::AddDimacsCnf(done, _)
+        | Answer::SampleVar(done)
+        | Answer::WitnessVar(done)
+        | Answer::HideVar(done)
         | Answer::Assume(done)
         | Answer::Config(done) => write_done(out, done),
         Answer::NewVar(Ok(var)) => {
             out.write_all(b"ok ")?;
             out.write_all(Buffer::new().format(var.to_dimacs()).as_bytes())
         }
+        Answer::ObserveInternalVars(names) => write_names(out, names),
         Answer::Steps(steps) => {
             out.write_all(b"ok ")?;
             out.write_all(Buffer::new().format(*steps).as_bytes())
@@ -227,6 +253,22 @@ fn write_list<W: Write, A: Allocator + Copy>(
     }
 }
 
+/// Writes the names that came back, or the refusal. Of errors the same holds as of `write_answer`.
+fn write_names<W: Write, A: Allocator + Copy>(
+    out: &mut W,
+    names: &Result<Vec<Var, A>, SolverError>,
+) -> io::Result<()>
+    ensures { OnOk result (Appends (W.contents out.old) (W.contents out.new) (names_text (told_vars names.now))) }
+{
+    match names {
+        Ok(variables) => {
+            out.write_all(b"ok")?;
+            write_variables(out, variables)
+        }
+        Err(error) => write_refusal(out, error),
+    }
+}
+
 /// Writes `ok` or the refusal. Of errors the same holds as of `write_answer`.
 fn write_done<W: Write>(out: &mut W, done: &Result<(), SolverError>) -> io::Result<()>
     ensures { OnOk result (Appends (W.contents out.old) (W.contents out.new) (done_text done.now)) }
@@ -254,6 +296,19 @@ pub fn write_literals<W: Write>(out: &mut W, literals: &[Lit]) -> io::Result<()>
     for literal in literals {
         out.write_all(b" ")?;
         out.write_all(buffer.format(literal.to_dimacs()).as_bytes())?;
+    }
+    out.write_all(b" 0")
+}
+
+/// Writes the variables' DIMACS numbers, each after a space, and then ` 0`. Of errors the same holds as of
+/// `write_answer`.
+fn write_variables<W: Write>(out: &mut W, variables: &[Var]) -> io::Result<()>
+    ensures { OnOk result (Appends (W.contents out.old) (W.contents out.new) (variables_text variables.now)) }
+{
+    let mut buffer = Buffer::new();
+    for variable in variables {
+        out.write_all(b" ")?;
+        out.write_all(buffer.format(variable.to_dimacs()).as_bytes())?;
     }
     out.write_all(b" 0")
 }

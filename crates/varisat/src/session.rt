@@ -20,6 +20,10 @@ pub enum Call<S: ByteSource, A: Allocator + Copy> {
     AddFormula(CnfFormula<A>),
     AddDimacsCnf(S),
     NewVar,
+    SampleVar(Var),
+    WitnessVar(Var),
+    HideVar(Var),
+    ObserveInternalVars,
     Assume(Vec<Lit, A>),
     Solve,
     Model,
@@ -38,6 +42,10 @@ pub enum Answer<W: ProofTarget, S: ByteSource, A: Allocator + Copy> {
     AddFormula(Result<(), SolverError>),
     AddDimacsCnf(Result<(), SolverError>, S),
     NewVar(Result<Var, SolverError>),
+    SampleVar(Result<(), SolverError>),
+    WitnessVar(Result<(), SolverError>),
+    HideVar(Result<(), SolverError>),
+    ObserveInternalVars(Result<Vec<Var, A>, SolverError>),
     Assume(Result<(), SolverError>),
     Solve(Result<bool, SolverError>),
     Model(Result<Option<Vec<Lit, A>>, AllocError>),
@@ -64,6 +72,10 @@ pub fn make_call<W: ProofTarget, S: ByteSource, A: Allocator + Copy>(
             Answer::AddDimacsCnf(added, source)
         }
         Call::NewVar => Answer::NewVar(solver.new_var()),
+        Call::SampleVar(var) => Answer::SampleVar(solver.sample_var(var)),
+        Call::WitnessVar(var) => Answer::WitnessVar(solver.witness_var(var)),
+        Call::HideVar(var) => Answer::HideVar(solver.hide_var(var)),
+        Call::ObserveInternalVars => { Answer::ObserveInternalVars(solver.observe_internal_vars()) }
         Call::Assume(list) => Answer::Assume(solver.assume(&list)),
         Call::Solve => Answer::Solve(solver.solve()),
         Call::Model => Answer::Model(solver.model()),

@@ -5,13 +5,14 @@ ghost use Rattle.varisat_theory.specs.Literals.{Literal, variable_of};
 ghost use Rattle.varisat_prop.specs.Parts.{is_true_value};
 ghost use Rattle.varisat_names.specs.VarMap.{at};
 ghost use Rattle.varisat_names.specs.VarData.{kept_at};
-ghost use Rattle.varisat.specs.Calls.{IsPastLimit};
 ghost use Rattle.varisat.specs.Carried.{value_or};
 ghost use Rattle.varisat.specs.Summaries.{list_tables};
 ghost use Rattle.varisat_literals.specs.Numbers.{variable_limit};
 
 use crate::accept::{accept_clause, assume_list};
+use crate::naming::check_names;
 use crate::solving::find_named_verdict;
+use crate::usage::{check_change, hide_named, set_named_mode, show_hidden};
 use std::alloc::{AllocError, Allocator};
 use std::marker::Model;
 use thiserror::Error;
@@ -21,6 +22,7 @@ use varisat_formula::io::{ByteSource, ProofTarget};
 use varisat_literals::{Lit, Var};
 use varisat_names::config::{ConfigField, SolverConfigUpdate};
 use varisat_names::variables::LinkedVariables;
+use varisat_names::variables::data::SamplingMode;
 use varisat_prop::clause::StoreError;
 use varisat_search::assumptions::copied;
 use varisat_search::context::Context;
@@ -40,8 +42,12 @@ pub enum SolverError {
     Invalid,
     #[error("The clause store is full")]
     ClauseStoreFull,
+    #[error("Variable {var} is a witness variable and cannot be constrained")]
+    WitnessVar { var: Var },
     #[error("The variable limit is passed")]
     VariableLimit,
+    #[error("Variable {var} is assumed and its mode cannot change")]
+    AssumedVar { var: Var },
     #[error("Configuration value out of range: {field}")]
     ConfigOutOfRange { field: ConfigField },
     #[error("Error in DIMACS input: {cause}")]
@@ -74,7 +80,9 @@ impl SolverError {
             SolverError::OutOfMemory => 3,
             SolverError::Invalid => 4,
             SolverError::ClauseStoreFull => 5,
+            SolverError::WitnessVar { .. } => 6,
             SolverError::VariableLimit => 7,
+            SolverError::AssumedVar { .. } => 8,
             SolverError::ConfigOutOfRange { .. } => 12,
             SolverError::Dimacs { .. } => 13,
         }
@@ -87,23 +95,13 @@ impl SolverError {
         match self {
             SolverError::OutOfMemory | SolverError::Invalid | SolverError::ClauseStoreFull => false,
             SolverError::Interrupted
+            | SolverError::WitnessVar { .. }
             | SolverError::VariableLimit
+            | SolverError::AssumedVar { .. }
             | SolverError::ConfigOutOfRange { .. }
             | SolverError::Dimacs { .. } => true,
         }
     }
-}
-
-/// Whether a name of the clause is past the limit.
-fn is_past_limit(clause: &[Lit]) -> bool
-    ensures { MatchBool result (IsPastLimit clause.now) ((l : Literal) → l ∈ clause.now → variable_of l < variable_limit) }
-{
-    for lit in clause {
-        if lit.index() >= Var::max_count() {
-            return true;
-        }
-    }
-    false
 }
 
 /// The value that the model gives the variable of the name, which is in use: that of its solver variable, or the one
@@ -240,9 +238,7 @@ impl<W: ProofTarget, A: Allocator + Copy> Solver<W, A> {
         if let SatState::Unsat = self.ctx.solver_state.sat_state {
             return Ok(());
         }
-        if is_past_limit(clause) {
-            return Err(SolverError::VariableLimit);
-        }
+        check_names(&self.variables, clause)?;
         match accept_clause(
             &mut self.variables,
             &mut self.ctx,
@@ -332,9 +328,12 @@ impl<W: ProofTarget, A: Allocator + Copy> Solver<W, A> {
             return Err(SolverError::Invalid);
         }
         let user = self.variables.next_unmapped_user();
-        if user.index() >= Var::max_count() {
+        if user.index() >= Var::max_count()
+            || self.variables.global_watermark() >= Var::max_count()
+        {
             return Err(SolverError::VariableLimit);
         }
+        self.variables.prove_linked();
         match self.variables.give_user_var(user) {
             Ok(_) => {
                 self.started = true;
@@ -362,9 +361,7 @@ impl<W: ProofTarget, A: Allocator + Copy> Solver<W, A> {
         if self.ctx.solver_state.state_is_invalid {
             return Err(SolverError::Invalid);
         }
-        if is_past_limit(lits) {
-            return Err(SolverError::VariableLimit);
-        }
+        check_names(&self.variables, lits)?;
         match assume_list(&mut self.variables, &mut self.ctx, &mut self.literals, lits) {
             Ok(()) => {
                 self.started = true;
@@ -462,6 +459,87 @@ impl<W: ProofTarget, A: Allocator + Copy> Solver<W, A> {
                 Ok(Some(copy))
             }
             None => Ok(None),
+        }
+    }
+}
+
+impl<W: ProofTarget, A: Allocator + Copy> Solver<W, A> {
+    ghost use Rattle.varisat.specs.States.{State};
+    ghost use Rattle.varisat.specs.Told.{told_vars};
+    ghost use Rattle.varisat.specs.Usage.{SetsMode};
+    ghost use Rattle.varisat.specs.Spaces.{ModeFits};
+    ghost use Rattle.varisat.specs.Accepting.{mode_of};
+    ghost use Rattle.varisat.specs.VariableCalls.{named, SamplesVar, WitnessesVar, HidesVar, Observes};
+    ghost use Rattle.varisat.specs.Summaries.{StandsFor};
+
+    /// Names the variable, and sets its mode, which is not `Hide`. Refused as `sample_var` is.
+    fn set_mode(&mut self, var: Var, mode: SamplingMode) -> Result<(), SolverError>
+        requires { ModeFits mode (mode_of mode) }
+        ensures { (s : State) → StandsFor self.old s → (t : State) × SetsMode named (mode_of mode) s var result t × StandsFor self.new t }
+    {
+        if self.ctx.solver_state.state_is_invalid {
+            return Err(SolverError::Invalid);
+        }
+        check_change(&self.variables, var)?;
+        match set_named_mode(&mut self.variables, var, mode) {
+            Ok(()) => Ok(()),
+            Err(_) => {
+                self.ctx.solver_state.state_is_invalid = true;
+                Err(SolverError::OutOfMemory)
+            }
+        }
+    }
+
+    /// Lets clauses and assumptions name the variable, as they may from the first. A free name comes into use. Refused
+    /// as a clause is for its name, and where the variable is assumed; then nothing changes.
+    pub fn sample_var(&mut self, var: Var) -> Result<(), SolverError>
+        ensures { (s : State) → StandsFor self.old s → (t : State) × SamplesVar s var result t × StandsFor self.new t }
+    {
+        self.set_mode(var, SamplingMode::Sample)
+    }
+
+    /// Makes the variable a witness: from then on no clause and no assumption may name it, and models list it as
+    /// before. A free name comes into use. Refused as `sample_var` is.
+    pub fn witness_var(&mut self, var: Var) -> Result<(), SolverError>
+        ensures { (s : State) → StandsFor self.old s → (t : State) × WitnessesVar s var result t × StandsFor self.new t }
+    {
+        self.set_mode(var, SamplingMode::Witness)
+    }
+
+    /// Frees the name of the variable, which lives on in the clauses, hidden. The name may come back for another
+    /// variable. A free name comes into use first. Refused as `sample_var` is.
+    pub fn hide_var(&mut self, var: Var) -> Result<(), SolverError>
+        ensures { (s : State) → StandsFor self.old s → (t : State) × HidesVar s var result t × StandsFor self.new t }
+    {
+        if self.ctx.solver_state.state_is_invalid {
+            return Err(SolverError::Invalid);
+        }
+        check_change(&self.variables, var)?;
+        match hide_named(&mut self.variables, var) {
+            Ok(()) => Ok(()),
+            Err(_) => {
+                self.ctx.solver_state.state_is_invalid = true;
+                Err(SolverError::OutOfMemory)
+            }
+        }
+    }
+
+    /// Brings hidden variables back as witnesses, each under the least free name, and returns these names in increasing
+    /// order. One stays hidden only if no accepted clause of two or more different literals, which is no tautology,
+    /// names it, or if the clauses force its value. Refused in an invalid solver, where a name past the limit would be
+    /// needed, and then nothing changes; and where memory runs out.
+    pub fn observe_internal_vars(&mut self) -> Result<Vec<Var, A>, SolverError>
+        ensures { (s : State) → StandsFor self.old s → (t : State) × Observes s (told_vars result) t × StandsFor self.new t }
+    {
+        if self.ctx.solver_state.state_is_invalid {
+            return Err(SolverError::Invalid);
+        }
+        match show_hidden(&mut self.variables, self.alloc) {
+            Ok(shown) => Ok(shown),
+            Err(_) => {
+                self.ctx.solver_state.state_is_invalid = true;
+                Err(SolverError::OutOfMemory)
+            }
         }
     }
 }

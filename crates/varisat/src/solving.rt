@@ -97,7 +97,6 @@ pub fn find_named_verdict<A: Allocator + Copy>(
     ensures counted { (n : ℕ) → length ctx.old.assignment.current ≤ n → CountsSteps n max_steps ctx.old.schedule.steps ctx.new.schedule.steps (told_verdict result) }
     ensures config { ctx.new.solver_config ≡ ctx.old.solver_config }
 {
-    variables.prove_linked();
     let found = find_verdict(ctx, max_steps)?;
     let SatState::UnsatUnderAssumptions = ctx.solver_state.sat_state else {
         return Ok(found);

@@ -6,5 +6,6 @@ mod lines;
 mod memory;
 mod programs;
 mod readers;
+mod sessions_of_modes;
 mod settings;
 mod texts;

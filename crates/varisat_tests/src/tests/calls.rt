@@ -11,7 +11,7 @@ use varisat::session::{Answer, Call, answers_of, run};
 use varisat::solver::{Solver, SolverError};
 use varisat_formula::cnf_formula;
 use varisat_formula::dimacs::{DimacsError, DimacsErrorKind};
-use varisat_formula::formula::{CnfFormula, Lit};
+use varisat_formula::formula::{CnfFormula, Lit, Var};
 use varisat_formula::io::{MemoryTarget, ReadSource};
 use varisat_literals::lits;
 use varisat_names::config::{ConfigField, SolverConfigUpdate};
@@ -156,31 +156,42 @@ fn calls_are_answered(rt: HostRuntime) {
 }
 
 // Refusals with their texts.
-const REFUSALS: &[(SolverError, &str)] = &[
-    (SolverError::Interrupted, "The solver was interrupted"),
-    (SolverError::OutOfMemory, "Out of memory"),
-    (
-        SolverError::Invalid,
-        "The solver is invalid after an unrecoverable error",
-    ),
-    (SolverError::ClauseStoreFull, "The clause store is full"),
-    (SolverError::VariableLimit, "The variable limit is passed"),
-    (
-        SolverError::ConfigOutOfRange {
-            field: ConfigField::VsidsDecay,
-        },
-        "Configuration value out of range: vsids_decay",
-    ),
-    (
-        SolverError::Dimacs {
-            cause: DimacsError {
-                line: 3,
-                kind: DimacsErrorKind::UnterminatedClause,
+fn refusals() -> [(SolverError, &'static str); 9] {
+    let var = Var::from_index(1);
+    [
+        (SolverError::Interrupted, "The solver was interrupted"),
+        (SolverError::OutOfMemory, "Out of memory"),
+        (
+            SolverError::Invalid,
+            "The solver is invalid after an unrecoverable error",
+        ),
+        (SolverError::ClauseStoreFull, "The clause store is full"),
+        (
+            SolverError::WitnessVar { var },
+            "Variable 2 is a witness variable and cannot be constrained",
+        ),
+        (SolverError::VariableLimit, "The variable limit is passed"),
+        (
+            SolverError::AssumedVar { var },
+            "Variable 2 is assumed and its mode cannot change",
+        ),
+        (
+            SolverError::ConfigOutOfRange {
+                field: ConfigField::VsidsDecay,
             },
-        },
-        "Error in DIMACS input: line 3: UnterminatedClause",
-    ),
-];
+            "Configuration value out of range: vsids_decay",
+        ),
+        (
+            SolverError::Dimacs {
+                cause: DimacsError {
+                    line: 3,
+                    kind: DimacsErrorKind::UnterminatedClause,
+                },
+            },
+            "Error in DIMACS input: line 3: UnterminatedClause",
+        ),
+    ]
+}
 
 fn has_text(alloc: Global, error: &SolverError, wanted: &str) -> Result<bool, AllocError> {
     let text = error.to_string(alloc)?;
@@ -189,7 +200,7 @@ fn has_text(alloc: Global, error: &SolverError, wanted: &str) -> Result<bool, Al
 
 #[test]
 fn refusals_have_their_texts(rt: HostRuntime) {
-    for (error, text) in REFUSALS {
+    for (error, text) in &refusals() {
         assert!(rt;
             matches!(has_text(rt.alloc(), error, text), Ok(true)),
             "{text}"

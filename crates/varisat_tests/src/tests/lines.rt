@@ -25,6 +25,26 @@ const CLAUSES: &[(&[u8], &[usize])] = &[
     (b"assume -2147483648", &[4294967295]),
 ];
 
+// Lines that set how a variable is used, and its index.
+const VARIABLES: &[(&[u8], usize)] = &[
+    (b"sample 1", 0),
+    (b"witness 10", 9),
+    (b"hide 2147483648", 2147483647),
+];
+
+fn is_variable_read_as(call: &Option<LineCall>, index: usize) -> bool {
+    matches!(
+        call,
+        Some(Call::SampleVar(var) | Call::WitnessVar(var) | Call::HideVar(var))
+            if var.index() == index
+    )
+}
+
+fn reads_variable(alloc: Global, text: &[u8], index: usize) -> Result<bool, AllocError> {
+    let call = parse_line(alloc, text)?;
+    Ok(is_variable_read_as(&call, index))
+}
+
 fn are_codes(literals: &[Lit], codes: &[usize]) -> bool {
     literals
         .iter()
@@ -92,6 +112,17 @@ const OTHER_TEXTS: &[&[u8]] = &[
     b"new ",
     b"new 1",
     b"New",
+    b"sample",
+    b"sample ",
+    b"sample 0",
+    b"witness -1",
+    b"witness 01",
+    b"witness 1 2",
+    b"witness  1",
+    b"hide 2147483649",
+    b"hide1",
+    b"observe 1",
+    b"Observe",
     b"solve ",
     b" solve",
     b"Solve",
@@ -120,6 +151,12 @@ fn lines_are_read_or_refused(rt: HostRuntime) {
         assert!(rt;
             matches!(reads(rt.alloc(), text, Some(codes)), Ok(true)),
             "the clause at {place}"
+        );
+    }
+    for (place, (text, index)) in VARIABLES.iter().enumerate() {
+        assert!(rt;
+            matches!(reads_variable(rt.alloc(), text, *index), Ok(true)),
+            "the variable at {place}"
         );
     }
     for (place, text) in OTHER_TEXTS.iter().enumerate() {
@@ -179,6 +216,16 @@ fn answers_are_written(rt: HostRuntime) {
             Answer::Solve(Err(SolverError::OutOfMemory)),
             b"err 3",
         ),
+        writes(
+            alloc,
+            Answer::HideVar(Err(SolverError::OutOfMemory)),
+            b"err 3",
+        ),
+        writes(
+            alloc,
+            Answer::ObserveInternalVars(Err(SolverError::VariableLimit)),
+            b"err 7",
+        ),
         writes(alloc, Answer::Model(Err(AllocError)), b"err 3"),
         writes(alloc, Answer::FailedCore(Err(AllocError)), b"err 3"),
         writes(alloc, Answer::Steps(u64::MAX), b"ok 18446744073709551615"),
@@ -186,7 +233,7 @@ fn answers_are_written(rt: HostRuntime) {
         writes_closings(alloc),
         matches!(writes_model(alloc), Ok(true)),
     ];
-    assert!(rt; outcomes == [true; 8]);
+    assert!(rt; outcomes == [true; 10]);
 }
 
 // Whether the answer is written whole where there is room for so many bytes.

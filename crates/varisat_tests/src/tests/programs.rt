@@ -12,15 +12,16 @@ use varisat::solver::{Solver, SolverError};
 use varisat_formula::io::{ByteSource, MemoryTarget, ReadSource};
 use varisat_names::config::SolverConfigUpdate;
 
-// What a command prints, what it tells of a fault, and its status.
-type Printed = (&'static str, &'static str, u8);
+/// What a command prints, what it tells of a fault, and its status.
+pub type Printed = (&'static str, &'static str, u8);
 
 fn are_printed(out: &[u8], err: &[u8], status: u8, wanted: Printed) -> bool {
     let (printed, told, wanted_status) = wanted;
     (out == printed.as_bytes()) & (err == told.as_bytes()) & (status == wanted_status)
 }
 
-fn session_prints<R: Read + Drop>(alloc: Global, input: R, wanted: Printed) -> bool {
+/// Whether the session of the input prints this.
+pub fn session_prints<R: Read + Drop>(alloc: Global, input: R, wanted: Printed) -> bool {
     let mut out = Vec::new(alloc);
     let mut err = Vec::new(alloc);
     let status = session_lines(alloc, input, &mut out, &mut err);
@@ -413,8 +414,8 @@ fn is_complete_with(
     Ok(is_complete_in(alloc, &heap, lines, wanted))
 }
 
-// Whether each growth of the session may be refused, and at last none is.
-fn ends(alloc: Global, lines: &str, wanted: &str) -> bool {
+/// Whether each growth of the session may be refused, and at last none is.
+pub fn ends(alloc: Global, lines: &str, wanted: &str) -> bool {
     let mut ended = false;
     for room in 0..160 {
         match is_complete_with(alloc, room, lines, wanted) {

@@ -1,10 +1,13 @@
 -- What each part did to the maps and to the search.
 use Rattle.std.proofs.Common.{◌≡◌, ◌≢◌, ◌⊎◌, [], sym, ap, ap₂, ◌∙◌, subst, length, map, arith}
+use Rattle.std.specs.Option.{IsSome}
 use Rattle.varisat_theory.specs.Membership.{◌∈◌}
+use Rattle.varisat_theory.specs.Literals.{variable_of}
 use Rattle.varisat_theory.specs.Outcomes.{Loads}
 use Rattle.varisat_names.specs.Maps.{chain}
 use Rattle.varisat_names.specs.VarMap.{at}
 use Rattle.varisat_names.specs.VarBiMap.{BiMap}
+use Rattle.varisat_names.specs.declared.variables.data.VarData.{VarData}
 use Rattle.varisat_search.specs.declared.context.Context.{Context}
 use Rattle.varisat_search.specs.declared.state.SatState.TheVariants as verdict
 use Rattle.varisat_search.specs.AssumptionParts.{AssumptionParts}
@@ -13,8 +16,8 @@ use Rattle.varisat_search.specs.Loading.{loaded_outcome}
 use Rattle.varisat_search.specs.Seen.{search_of}
 use Rattle.varisat_search.specs.Steps.{reopened_state}
 use Rattle.varisat.specs.Carried.{carry}
-use Rattle.varisat.proofs.BroughtIn.{literals-within, literals-decidable, still-decidable, still-named}
-use Rattle.varisat.proofs.TableMarks.{marks-plain, joined-same}
+use Rattle.varisat.proofs.BroughtIn.{literals-within, literals-decidable, still-decidable, still-named, still-working, still-marked}
+use Rattle.varisat.proofs.TableMarks.{marks-plain, marks-bounded, joined-same, assumed-joined}
 use Rattle.varisat.proofs.AcceptClause.{clause-accepted}
 use Rattle.varisat.proofs.accept.accept_clause.Goals as goal
 
@@ -33,21 +36,25 @@ load_clause-requires-clause-decidable g c l h = literals-decidable c.requires.ke
 pub returns-clause-kept : goal.returns-clause-kept
 returns-clause-kept g c =
     let b = (c.in_ok-bring_in.ensures {u = tt}).brought in
+    let taken = c.bring_in.new.variables in
+    let joined = c.mark_joined.new.variables in
     let mark = c.mark_joined.ensures in
-    let j = ap (λ (m : BiMap). length m.forward) mark.users in
+    let marks = joined-same c.args.clause.now taken joined mark in
     let k = ap (λ (m : BiMap). length m.backward) mark.solvers in
     let r = c.in_ok-load_clause.ensures {u = tt} in
     let old = c.args.ctx.now in
     let mid = c.bring_in.new.ctx in
     let opened : mid.solver_state.sat_state ≢ verdict.Unsat = (λ e. c.requires.unsettled (sym (ap (λ (x : Context g.row.A.Denot). x.solver_state.sat_state) c.bring_in.ensures.kept) ∙ e)) in
-    let same : c.load_clause.new.ctx.assumptions.user ≡ old.assumptions.user = ap (λ (x : AssumptionParts). x.user) (r.assumptions opened) ∙ ap (λ (x : Context g.row.A.Denot). x.assumptions.user) c.bring_in.ensures.kept in
+    let parts : c.load_clause.new.ctx.assumptions ≡ record old.assumptions { levels = 0 } = r.assumptions opened ∙ ap (λ (x : Context g.row.A.Denot). record x.assumptions { levels = 0 }) c.bring_in.ensures.kept in
     record {
-      small = omega (arith, j, b.in_use.small);
-      plain = marks-plain c.bring_in.new.variables c.mark_joined.new.variables b.in_use.plain (joined-same c.args.clause.now c.bring_in.new.variables c.mark_joined.new.variables mark);
+      bounded = marks-bounded taken joined b.in_use.bounded marks;
+      plain = marks-plain taken joined b.in_use.plain marks;
       ready = r.ready;
       count = r.count ∙ b.raised.count ∙ sym k;
       decidable = still-decidable c.requires.kept b c.load_clause.new.ctx r.decidable r.count;
-      assumed = λ l h. let n = still-named c.requires.kept b l (subst (λ ls. l ∈ ls) same h) in omega (arith, n, j);
+      assumed = λ l h. subst (λ (m : BiMap). IsSome (at m.forward (variable_of l))) (sym mark.users) (still-named c.requires.kept b l (subst (λ ls. l ∈ ls) (ap (λ (x : AssumptionParts). x.user) parts) h));
+      marked = λ l z h f. ap (λ (d : VarData). d.assumed) (mark.rest z) ∙ still-marked c.requires.kept b c.prove_linked.ensures l z (subst (λ ls. l ∈ ls) (ap (λ (x : AssumptionParts). x.user) parts) h) (ap (λ (m : BiMap). at m.forward (variable_of l)) (sym mark.users) ∙ f);
+      working = λ l h. assumed-joined c.args.clause.now taken joined (variable_of l) mark (still-working c.requires.kept b c.prove_linked.ensures l (subst (λ ls. l ∈ ls) (ap (λ (x : AssumptionParts). x.working) parts) h));
     }
 
 pub returns-clause-accepted : goal.returns-clause-accepted

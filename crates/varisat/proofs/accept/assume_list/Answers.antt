@@ -1,6 +1,8 @@
 -- What each part did to the maps, the marks and the search.
 use Rattle.std.proofs.Common.{true, false, sym, ap, ◌∙◌, subst, length, arith}
 use Rattle.varisat_theory.specs.Membership.{◌∈◌}
+use Rattle.varisat_theory.specs.Literals.{variable_of}
+use Rattle.varisat_names.specs.VarMap.{at}
 use Rattle.varisat_names.specs.VarBiMap.{BiMap}
 use Rattle.varisat_search.specs.declared.context.Context.{Context}
 use Rattle.varisat_search.specs.declared.state.SolverState.{SolverState}
@@ -9,25 +11,20 @@ use Rattle.varisat_search.specs.Contexts.{view}
 use Rattle.varisat.specs.Accepting.{AreMarked}
 use Rattle.varisat.proofs.AssumeList.{list-assumed}
 use Rattle.varisat.proofs.BroughtIn.{literals-within, literals-decidable, still-decidable, still-named}
-use Rattle.varisat.proofs.TableMarks.{marks-plain, marked-same}
+use Rattle.varisat.proofs.TableMarks.{names-marked, marked-same, assumed-listed}
 use Rattle.varisat.proofs.accept.assume_list.Goals as goal
 
 pub mark_assumed-requires : goal.mark_assumed-requires
 mark_assumed-requires g c =
     let b = (c.in_ok-bring_in.ensures {u = tt}).brought in
     let same = c.user_assumptions.ensures ∙ ap (λ (x : Context g.row.A.Denot). x.assumptions.user) c.bring_in.ensures.kept in
-    record { plain = b.in_use.plain; small = b.in_use.small; named = λ l h. still-named c.requires.kept b l (subst (λ ls. l ∈ ls) same h) }
+    record { plain = b.in_use.plain; bounded = b.in_use.bounded; named = λ l h. still-named c.requires.kept b l (subst (λ ls. l ∈ ls) same h) }
 
 pub mark_assumed-requires-2 : goal.mark_assumed-requires-2
 mark_assumed-requires-2 g c =
     let b = (c.in_ok-bring_in.ensures {u = tt}).brought in
     let a = marked-same c.user_assumptions.result.now false c.bring_in.new.variables c.mark_assumed.new.variables c.mark_assumed.ensures in
-    let u = ap (λ (m : BiMap). length m.forward) a.users in
-    record {
-      plain = marks-plain c.bring_in.new.variables c.mark_assumed.new.variables b.in_use.plain a;
-      small = omega (arith, u, b.in_use.small);
-      named = λ l h. let k = b.in_use.named l h in omega (arith, k, u);
-    }
+    names-marked c.args.list.now c.bring_in.new.variables c.mark_assumed.new.variables b.in_use a
 
 pub set_assumptions-requires-clause-ready : goal.set_assumptions-requires-clause-ready
 set_assumptions-requires-clause-ready g c = (c.in_ok-bring_in.ensures {u = tt}).brought.raised.ready
@@ -41,22 +38,24 @@ set_assumptions-requires-clause-decidable g c l h = literals-decidable c.require
 pub returns-clause-kept : goal.returns-clause-kept
 returns-clause-kept g c =
     let b = (c.in_ok-bring_in.ensures {u = tt}).brought in
-    let x = marked-same c.user_assumptions.result.now false c.bring_in.new.variables c.mark_assumed.new.variables c.mark_assumed.ensures in
-    let y = marked-same c.args.list.now true c.mark_assumed.new.variables c.mark_assumed-2.new.variables c.mark_assumed-2.ensures in
-    let u = ap (λ (m : BiMap). length m.forward) (y.users ∙ x.users) in
-    let k = ap (λ (m : BiMap). length m.backward) (y.solvers ∙ x.solvers) in
+    let list = c.args.list.now in
+    let taken = c.bring_in.new.variables in
+    let cleared = c.mark_assumed.new.variables in
+    let marked = c.mark_assumed-2.new.variables in
+    let x = names-marked list taken cleared b.in_use (marked-same c.user_assumptions.result.now false taken cleared c.mark_assumed.ensures) in
+    let y = names-marked list cleared marked x (marked-same list true cleared marked c.mark_assumed-2.ensures) in
+    let k = ap (λ (m : BiMap). length m.backward) (c.mark_assumed-2.ensures.solvers ∙ c.mark_assumed.ensures.solvers) in
     let r = c.in_ok-set_assumptions.ensures {u = tt} in
-    let plain = marks-plain c.bring_in.new.variables c.mark_assumed.new.variables b.in_use.plain x in
+    let literals = c.deref.ensures.value ∙ b.carried in
     record {
-      small = omega (arith, u, b.in_use.small);
-      plain = marks-plain c.mark_assumed.new.variables c.mark_assumed-2.new.variables plain y;
+      bounded = y.bounded;
+      plain = y.plain;
       ready = r.ready;
       count = r.count ∙ b.raised.count ∙ sym k;
       decidable = still-decidable c.requires.kept b c.set_assumptions.new.ctx r.decidable r.count;
-      assumed = λ l h.
-          let same = ap (λ (z : AssumptionParts). z.user) r.assumed in
-          let n = b.in_use.named l (subst (λ ls. l ∈ ls) same h) in
-          omega (arith, n, u);
+      assumed = λ l h. y.named l (subst (λ ls. l ∈ ls) (ap (λ (z : AssumptionParts). z.user) r.assumed) h);
+      marked = λ l z h f. c.mark_assumed-2.ensures.marked l z (subst (λ ls. l ∈ ls) (ap (λ (z : AssumptionParts). z.user) r.assumed) h) (ap (λ (m : BiMap). at m.forward (variable_of l)) (sym c.mark_assumed-2.ensures.users) ∙ f);
+      working = λ l h. assumed-listed list taken cleared marked c.user_assumptions.result.now c.prove_linked.ensures b.are_taken.all c.mark_assumed.ensures c.mark_assumed-2.ensures l (subst (λ ls. l ∈ ls) (ap (λ (z : AssumptionParts). z.working) r.assumed ∙ literals) h);
     }
 
 pub returns-clause-assumed : goal.returns-clause-assumed

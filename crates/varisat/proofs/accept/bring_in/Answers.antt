@@ -13,23 +13,23 @@ use Rattle.varisat_search.specs.ContextChanges.{IsRaisedTo}
 use Rattle.varisat_search.specs.Decisions.{AddsDecidable}
 use Rattle.varisat.specs.Carried.{carry}
 use Rattle.varisat.proofs.Carried.{carry-at}
-use Rattle.varisat.proofs.PlainTables.{names-taken, named-solvers, taken-grow, solvers-within}
+use Rattle.varisat.proofs.PlainTables.{names-keep, names-taken, taken-grow, solvers-within}
 use Rattle.varisat.proofs.accept.bring_in.Given.{Over}
 use Rattle.varisat.proofs.accept.bring_in.Goals.{After-solver_watermark}
 use Rattle.varisat.proofs.accept.bring_in.Goals as goal
 
 pub add_variables-requires-clause-raised : goal.add_variables-requires-clause-raised
 add_variables-requires-clause-raised g c =
-    let n = ap (λ (m : BiMap). length m.backward) (named-solvers c.args.list.now c.args.variables.now c.name_vars.new.variables (c.in_ok-name_vars.ensures {u = tt}).in_turn) in
+    let n = ap (λ (m : BiMap). length m.backward) (names-keep c.args.list.now c.args.variables.now c.name_vars.new.variables (c.in_ok-name_vars.ensures {u = tt}).in_turn).solvers in
     let t = (c.in_ok-take_solver_vars.ensures {u = tt}).taken in
     let a = taken-grow t.globals c.name_vars.new.variables c.take_solver_vars.new.variables t.in_turn in
     omega (arith, n, a, c.requires.kept.count, c.solver_watermark.ensures)
 
 pub add_variables-requires-clause-small : goal.add_variables-requires-clause-small
 add_variables-requires-clause-small g c =
-    let names = names-taken c.args.list.now c.name_vars.new.variables c.take_solver_vars.new.variables (c.in_ok-name_vars.ensures {u = tt}).names (c.in_ok-take_solver_vars.ensures {u = tt}).taken in
-    let w = solvers-within c.take_solver_vars.new.variables c.prove_linked.ensures names.plain.nothing_hidden in
-    omega (arith, w, names.plain.nothing_hidden.count, names.small, c.solver_watermark.ensures)
+    let names = names-taken c.args.list.now c.args.list.now c.name_vars.new.variables c.take_solver_vars.new.variables (c.in_ok-name_vars.ensures {u = tt}).names (c.in_ok-take_solver_vars.ensures {u = tt}).taken in
+    let w = solvers-within c.take_solver_vars.new.variables c.prove_linked.ensures names.plain.full in
+    omega (arith, w, names.bounded.globals, c.solver_watermark.ensures)
 
 pub carry_literals-requires : goal.carry_literals-requires
 carry_literals-requires g c l h =
@@ -49,7 +49,7 @@ returns-clause-brought g c =
       named = c.name_vars.new.variables;
       are_named = (c.in_ok-name_vars.ensures {u = tt}).in_turn;
       are_taken = t;
-      in_use = names-taken c.args.list.now c.name_vars.new.variables m (c.in_ok-name_vars.ensures {u = tt}).names t;
+      in_use = names-taken c.args.list.now c.args.list.now c.name_vars.new.variables m (c.in_ok-name_vars.ensures {u = tt}).names t;
       raised = subst (λ n. IsRaisedTo n old new) c.solver_watermark.ensures e.raised;
       decidable = subst (λ n. AddsDecidable (length old.assignment.current) n (view old) old.vsids (view new) new.vsids) c.solver_watermark.ensures e.decidable;
       more = let r = add_variables-requires-clause-raised g (goal.at.returns-clause-brought g c).After-solver_watermark in omega (arith, r, c.solver_watermark.ensures);

@@ -2,7 +2,7 @@ use Rattle.std.proofs.Common.{sym, subst, take}
 use Rattle.varisat_prop.proofs.ReadElements.{item-∈}
 use Rattle.varisat.specs.Accepting.{AreMarked}
 use Rattle.varisat.proofs.ReadPlaces.{take-item}
-use Rattle.varisat.proofs.TableMarks.{marks-plain, one-named, marked-same, marked-none, marked-more}
+use Rattle.varisat.proofs.TableMarks.{names-marked, one-named, marked-same, marked-none, marked-more}
 use Rattle.varisat.proofs.accept.mark_assumed.Goals as goal
 
 pub loop-lit-init : goal.loop-lit-init
@@ -10,9 +10,9 @@ loop-lit-init g c = marked-none c.args.variables.now c.args.assumed
 
 pub global_of-global-requires : goal.global_of-global-requires
 global_of-global-requires g c =
-    let o = c.loop-lit.invariant in
-    let plain = marks-plain c.args.variables.now c.loop-lit.variables c.requires.plain (marked-same (take c.loop-lit.lit-index c.args.list.now) c.args.assumed c.args.variables.now c.loop-lit.variables o) in
-    one-named c.args.list.now c.args.variables.now c.loop-lit.variables c.lit-item.result c.requires o.users plain (item-∈ c.args.list.now c.loop-lit.lit-index c.lit-item.result c.loop-lit-test.true c.lit-item.is)
+    let d = c.args.list.now in
+    let same = marked-same (take c.loop-lit.lit-index d) c.args.assumed c.args.variables.now c.loop-lit.variables c.loop-lit.invariant in
+    one-named d c.loop-lit.variables c.lit-item.result (names-marked d c.args.variables.now c.loop-lit.variables c.requires same) (item-∈ d c.loop-lit.lit-index c.lit-item.result c.loop-lit-test.true c.lit-item.is)
 
 pub loop-lit-preserved : goal.loop-lit-preserved
 loop-lit-preserved g c =

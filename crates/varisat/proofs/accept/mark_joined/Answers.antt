@@ -1,7 +1,7 @@
 use Rattle.std.proofs.Common.{sym, subst, take}
 use Rattle.varisat_prop.proofs.ReadElements.{item-∈}
 use Rattle.varisat.proofs.ReadPlaces.{take-item}
-use Rattle.varisat.proofs.TableMarks.{AreOpened, marks-plain, one-named, opened-none, opened-more}
+use Rattle.varisat.proofs.TableMarks.{AreOpened, names-marked, one-named, opened-none, opened-more}
 use Rattle.varisat.proofs.accept.mark_joined.Goals as goal
 
 pub loop-lit-init : goal.loop-lit-init
@@ -9,9 +9,9 @@ loop-lit-init g c = opened-none c.args.variables.now
 
 pub global_of-global-requires : goal.global_of-global-requires
 global_of-global-requires g c =
-    let o = c.loop-lit.invariant in
-    let plain = marks-plain c.args.variables.now c.loop-lit.variables c.requires.plain o.same in
-    one-named c.args.clause.now c.args.variables.now c.loop-lit.variables c.lit-item.result c.requires o.same.users plain (item-∈ c.args.clause.now c.loop-lit.lit-index c.lit-item.result c.loop-lit-test.true c.lit-item.is)
+    let d = c.args.clause.now in
+    let names = names-marked d c.args.variables.now c.loop-lit.variables c.requires c.loop-lit.invariant.same in
+    one-named d c.loop-lit.variables c.lit-item.result names (item-∈ d c.loop-lit.lit-index c.lit-item.result c.loop-lit-test.true c.lit-item.is)
 
 pub loop-lit-preserved : goal.loop-lit-preserved
 loop-lit-preserved g c =

@@ -1,6 +1,6 @@
 -- A word that is a command is that of its call.
 use Rattle.std.proofs.Common.{rules, refl}
-use Rattle.varisat.specs.Lines.{Add, Assume, New, Solve, Model, Core, Steps, Close, Means}
+use Rattle.varisat.specs.Lines.{Add, Assume, New, Solve, Model, Core, Steps, Close, Observe, Means}
 use Rattle.varisat.proofs.line.parse_word.Goals as goal
 
 pub returns-then-eq-clause-command : goal.returns-then-eq-clause-command
@@ -30,3 +30,6 @@ returns-then-eq-7-clause-command g c = let means : Means c.args.word.now Close =
 
 pub returns-then-eq-8-clause-command : goal.returns-then-eq-8-clause-command
 returns-then-eq-8-clause-command g c = let means : Means c.args.word.now Steps = search rules in (Steps, tt, means)
+
+pub returns-then-eq-9-clause-command : goal.returns-then-eq-9-clause-command
+returns-then-eq-9-clause-command g c = let means : Means c.args.word.now Observe = search rules in (Observe, tt, means)

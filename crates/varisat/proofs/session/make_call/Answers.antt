@@ -19,6 +19,18 @@ returns-in-AddDimacsCnf g c s st = rw c.in-AddDimacsCnf.is (c.add_dimacs_cnf-add
 pub returns-in-NewVar : goal.returns-in-NewVar
 returns-in-NewVar g c s st = rw c.in-NewVar.is (c.new_var.ensures s st)
 
+pub returns-in-SampleVar : goal.returns-in-SampleVar
+returns-in-SampleVar g c s st = rw c.in-SampleVar.is (c.sample_var.ensures s st)
+
+pub returns-in-WitnessVar : goal.returns-in-WitnessVar
+returns-in-WitnessVar g c s st = rw c.in-WitnessVar.is (c.witness_var.ensures s st)
+
+pub returns-in-HideVar : goal.returns-in-HideVar
+returns-in-HideVar g c s st = rw c.in-HideVar.is (c.hide_var.ensures s st)
+
+pub returns-in-ObserveInternalVars : goal.returns-in-ObserveInternalVars
+returns-in-ObserveInternalVars g c s st = rw c.in-ObserveInternalVars.is (c.observe_internal_vars.ensures s st)
+
 pub returns-in-Assume : goal.returns-in-Assume
 returns-in-Assume g c s st =
     let (t, a, w) = c.assume.ensures s st in

@@ -1,4 +1,5 @@
-use Rattle.std.proofs.Common.{List, Ok, false, sym, ap, ◌∙◌, subst, length, arith}
+use Rattle.std.proofs.Common.{List, Ok, false, sym, ap, ◌∙◌, subst, length}
+use Rattle.varisat_theory.specs.Literals.{variable_of}
 use Rattle.varisat_theory.specs.Derivations.{Line}
 use Rattle.varisat_theory.specs.Outcomes.{MakesSteps}
 use Rattle.varisat_schedule.specs.CallSteps.{steps_since}
@@ -10,18 +11,17 @@ use Rattle.varisat_search.specs.Decisions.{SameDecidable}
 use Rattle.varisat_search.specs.Seen.{search_of, outcome_of}
 use Rattle.varisat.specs.Budgets.{told_verdict, CountsSteps}
 use Rattle.varisat.specs.Searches.{answer_at}
+use Rattle.varisat.proofs.PlainTables.{assumed-named}
 use Rattle.varisat.proofs.FindVerdictSteps.{counts-unnamed, told-refused}
-use Rattle.varisat.proofs.SearchVerdicts.{solver-named, ready-named, found-plainly}
+use Rattle.varisat.proofs.SearchVerdicts.{ready-named, found-plainly}
 use Rattle.varisat.proofs.solving.find_named_verdict.Goals as goal
 
 pub name_core-requires : goal.name_core-requires
 name_core-requires g c l h =
-    let old = c.args.ctx.now in
     let mid = c.find_verdict.new.ctx in
     let e = c.in_ok-found.ensures {u = tt} in
     let under = ap (outcome_of (view mid) mid.assumptions.failed_core) c.in-UnsatUnderAssumptions.is in
-    let b = c.requires.kept.ready.assumed.in_range l (e.assumptions.core mid.assumptions.failed_core under l h) in
-    solver-named c.args.variables.now _ c.requires.kept.plain c.prove_linked.ensures (omega (arith, b, c.requires.kept.count))
+    assumed-named c.args.variables.now (variable_of l) (c.requires.kept.working l (e.assumptions.core mid.assumptions.failed_core under l h))
 
 pub returns-clause-found : goal.returns-clause-found
 returns-clause-found g c =

@@ -6,9 +6,21 @@ use Rattle.varisat.specs.Summaries.{spaces_of}
 use Rattle.varisat.specs.States.{Ledger}
 use Rattle.varisat.specs.Names.{name_all, through_names}
 use Rattle.varisat.specs.Calls.{with_naming, start, append_clause, Accepted, AddsClause}
-use Rattle.varisat.proofs.CallStates.{ledger-is, stands-valid, like-refl, broken, broken-invalid, adds-broken, within-limit}
+use Rattle.varisat.proofs.CallStates.{ledger-is, stands-valid, like-refl, broken, broken-invalid, adds-broken}
 use Rattle.varisat.proofs.AcceptClause.{ledger-free, not-refuted}
+use Rattle.varisat.proofs.Additions.{told-error}
+use Rattle.varisat.proofs.RefusedNames.{may-constrain, clause-refused}
 use Rattle.varisat.proofs.solver.Solver.add_clause.Goals as goal
+
+pub accept_clause-requires-clause-names : goal.accept_clause-requires-clause-names
+accept_clause-requires-clause-names g c = c.in_ok-check_names.ensures.0
+
+pub returns-in_err-check_names : goal.returns-in_err-check_names
+returns-in_err-check_names g c s st =
+    let q = rw (← c.self.view_is) at st in
+    let bad = not-refuted _ s q (ap not c.if-self.false) c.in_default.not-Unsat in
+    let refused = told-error c.from_residual.result c.in_err-check_names.field-0.0 c.from_residual.ensures in
+    (s, subst (λ r. AddsClause s c.args.clause.now r s) (sym refused) (clause-refused _ s q (ap not c.if-self.false) c.args.clause.now bad c.in_err-check_names.field-0.0 c.in_err-check_names.ensures), st)
 
 pub returns-in-Ok : goal.returns-in-Ok
 returns-in-Ok g c s st =
@@ -20,7 +32,7 @@ returns-in-Ok g c s st =
     let k' = c.accept_clause.ensures.schedule in
     let t = append_clause (map (through_names n) c.args.clause.now) x (with_naming n s) in (
       start t,
-      (stands-valid _ s q (ap not c.if-self.false), Accepted bad (within-limit c.args.clause.now c.is_past_limit.result c.is_past_limit.ensures c.if-is_past_limit.false) (x, v, like-refl (start t))),
+      (stands-valid _ s q (ap not c.if-self.false), Accepted bad (may-constrain _ s q (ap not c.if-self.false) c.args.clause.now c.in_ok-check_names.ensures.0 c.in_ok-check_names.ensures.1) (x, v, like-refl (start t))),
       record {
         ledger = ledger-is _ _ _ _ _ (ap (λ (x : Ledger). x.valid) q.ledger ∙ ap (λ (x : SolverState). not x.state_is_invalid) (sym e.state)) refl (ap (λ (x : Ledger). x.steps) q.ledger ∙ sym (ap (λ (x : Plan). x.steps) k'.schedule)) (ap (λ (x : Ledger). x.settings) q.ledger ∙ sym k'.solver_config);
         fits = λ _. (w, ledger-free w (spaces_of c.accept_clause.new.variables (view c.accept_clause.new.ctx) c.accept_clause.new.ctx.assumptions c.accept_clause.new.ctx.solver_state.sat_state) t (record t.ledger { started = true }) k);
@@ -34,7 +46,7 @@ returns-in-Err g c s st =
     let k = c.accept_clause.ensures.schedule in (
       broken s,
       subst (λ e. AddsClause s c.args.clause.now (Err e) (broken s)) (sym c.from.ensures)
-          (adds-broken c.in-Err.error s (broken s) c.args.clause.now bad (within-limit c.args.clause.now c.is_past_limit.result c.is_past_limit.ensures c.if-is_past_limit.false) (broken-invalid s (stands-valid _ s q (ap not c.if-self.false)) (q.fits (ap not c.if-self.false)).1.well_formed)),
+          (adds-broken c.in-Err.error s (broken s) c.args.clause.now bad (may-constrain _ s q (ap not c.if-self.false) c.args.clause.now c.in_ok-check_names.ensures.0 c.in_ok-check_names.ensures.1) (broken-invalid s (stands-valid _ s q (ap not c.if-self.false)) (q.fits (ap not c.if-self.false)).1.well_formed)),
       record {
         ledger = ledger-is _ _ _ _ _ refl (ap (λ (x : Ledger). x.started) q.ledger) (ap (λ (x : Ledger). x.steps) q.ledger ∙ sym (ap (λ (x : Plan). x.steps) k.schedule)) (ap (λ (x : Ledger). x.settings) q.ledger ∙ sym k.solver_config);
         fits = λ e. absurd cc;

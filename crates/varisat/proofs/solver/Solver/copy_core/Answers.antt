@@ -1,5 +1,4 @@
 use Rattle.std.proofs.Common.{Ok, Some, List, sym, subst}
-use Rattle.std.specs.Borrow.{Bor}
 use Rattle.varisat_theory.specs.Literals.{Literal}
 use Rattle.varisat.specs.Calls.{TellsCore}
 use Rattle.varisat.specs.Told.{lent_list}

@@ -3,7 +3,7 @@ use Rattle.varisat_theory.specs.Literals.{Literal}
 use Rattle.varisat.specs.Models.{IsCoreToTell}
 use Rattle.varisat.proofs.CallStates.{stands-valid}
 use Rattle.varisat.proofs.VerdictAnswers.{told-fails}
-use Rattle.varisat.proofs.SolverCalls.{core-to-tell, unsat-to-tell}
+use Rattle.varisat.proofs.SolverCalls.{core-to-tell}
 use Rattle.varisat.proofs.solver.Solver.failed_core.Goals as goal
 
 pub returns-in-UnsatUnderAssumptions-clause-call : goal.returns-in-UnsatUnderAssumptions-clause-call

@@ -1,40 +1,52 @@
 use Rattle.std.proofs.Common.{◌∙◌, not, sym, ap, arith, true, false, length}
+use Rattle.varisat_theory.specs.Literals.{variable_of}
+use Rattle.varisat_names.specs.VarMap.{at}
 use Rattle.varisat_search.specs.Contexts.{view}
 use Rattle.varisat.specs.Summaries.{Summary, spaces}
 use Rattle.varisat.specs.States.{Ledger}
 use Rattle.varisat.specs.Names.{name_one}
 use Rattle.varisat.specs.Calls.{with_naming, start}
 use Rattle.varisat.proofs.AcceptClause.{with_tables, ledger-free}
+use Rattle.varisat.proofs.PlainTables.{is-there, there-is, given-keeps, given-plain, assumed-keeps, marked-keeps}
+use Rattle.varisat.proofs.KeptCounts.{given-most}
 use Rattle.varisat.proofs.CallStates.{stands-valid, like-refl, broken, broken-invalid}
-use Rattle.varisat.proofs.SolverCalls.{least-free, new-named, new-plain}
+use Rattle.varisat.proofs.SolverCalls.{least-free, new-named}
 use Rattle.varisat.proofs.solver.Solver.new_var.Goals as goal
 
 pub invariant_of-self : goal.invariant_of-self
 invariant_of-self g c v =
     let k = c.self.invariant c.if-self.false in
     let t = (c.in-Ok.ensures {u = tt}).given in
+    let old = c.self.inside.variables in
+    let new = c.give_user_var.new.self in
     let u = c.next_unmapped_user-user.result in
-    let e = c.next_unmapped_user-user.ensures in
+    let x = c.in-Ok.field-0 in
+    let keeps = given-keeps old new u x c.next_unmapped_user-user.ensures.least.0 t in
     let w = t.users.forward.watermark in
+    let m = given-most old new u x t in
     record {
-      small = omega (arith, w, k.small, c.index.ensures.index, c.max_count.ensures, c.if-index-max_count.false);
-      plain = new-plain c.self.inside.variables c.give_user_var.new.self u c.in-Ok.field-0 k.plain e.least e.near t;
+      bounded = record {
+        users = omega (arith, w, k.bounded.users, c.index.ensures.index, c.max_count.ensures, c.if-index-max_count.false);
+        globals = omega (arith, m, c.global_watermark.ensures, c.max_count-else-index-max_count.ensures, c.if-global_watermark-max_count.false);
+      };
+      plain = given-plain old new u x k.plain t;
       ready = k.ready;
       count = k.count ∙ ap (λ m. length m.backward) (sym t.solvers);
       decidable = k.decidable;
-      assumed = λ l h. let b = k.assumed l h in omega (arith, w, b);
+      assumed = λ l h. let (y, e) = there-is (at old.users.forward (variable_of l)) (k.assumed l h) in is-there (at new.users.forward (variable_of l)) y (keeps.named (variable_of l) y e);
+      marked = λ l y h f. let (z, e) = there-is (at old.users.forward (variable_of l)) (k.assumed l h) in marked-keeps old new (variable_of l) y z c.prove_linked.ensures keeps e (k.marked l z h e) f;
+      working = λ l h. assumed-keeps old new (variable_of l) c.prove_linked.ensures keeps (k.working l h);
     }
 
 pub returns-in-Ok : goal.returns-in-Ok
 returns-in-Ok g c s st =
     let q = rw (← c.self.view_is) at st in
     let old : Summary = record { tables = c.self.inside.variables; search = view c.self.inside.ctx; assumed = c.self.inside.ctx.assumptions; sat_state = c.self.inside.ctx.solver_state.sat_state; ledger = s.ledger } in
-    let k = c.self.invariant c.if-self.false in
     let f = q.fits (ap not c.if-self.false) in
     let u = c.next_unmapped_user-user.result in
     let e = c.next_unmapped_user-user.ensures in
     let t = (c.in-Ok.ensures {u = tt}).given in
-    let (w, n) = new-named old s c.give_user_var.new.self u c.in-Ok.field-0 f k.plain e.least e.near t in (
+    let (w, n) = new-named old s c.give_user_var.new.self u c.in-Ok.field-0 f e.least e.near t in (
       start (with_naming (name_one u s.naming) s),
       (stands-valid _ s q (ap not c.if-self.false), least-free old s u f e.least, omega (arith, c.index.ensures.index, c.max_count.ensures, c.if-index-max_count.false), like-refl (start (with_naming (name_one u s.naming) s))),
       record {

@@ -12,7 +12,18 @@ use Rattle.varisat.proofs.AcceptClause.{ledger-free}
 use Rattle.varisat.proofs.CallStates.{ledger-is, stands-valid, like-refl, told-well, broken, broken-invalid, solves-broken}
 use Rattle.varisat.proofs.SettingsCalls.{summary_of}
 use Rattle.varisat.proofs.SolverCalls.{StepsMade, decided, counted-call, interrupted, was-unknown, sat-model, sat-right, found-true, found-false, known-told, false-right, false-core, answered-true, answered-false, answered-none, finds-made}
+use Rattle.varisat.proofs.SearchVerdicts.{kept-found}
 use Rattle.varisat.proofs.solver.Solver.solve.Goals as goal
+
+pub invariant_of-self : goal.invariant_of-self
+invariant_of-self g c _ =
+    let f = rw c.in-Ok-Some.field-0-is at c.in-Ok-Some.ensures.found in
+    kept-found c.self.inside.variables c.self.inside.ctx c.find_named_verdict.new.ctx _ (c.self.invariant c.if-self.false) f
+
+pub invariant_of-self-in-Ok-None : goal.invariant_of-self-in-Ok-None
+invariant_of-self-in-Ok-None g c _ =
+    let f = rw c.in-Ok-None.field-0-is at c.in-Ok-None.ensures.found in
+    kept-found c.self.inside.variables c.self.inside.ctx c.find_named_verdict.new.ctx _ (c.self.invariant c.if-self.false) f
 
 pub returns-in-Sat-clause-satisfiable : goal.returns-in-Sat-clause-satisfiable
 returns-in-Sat-clause-satisfiable g c e s st = let q = rw (← c.self.view_is) at st in sat-right _ s q (ap not c.if-self.false) c.in-Sat.is
@@ -36,7 +47,7 @@ returns-in-Ok-Some-clause-call g c s st =
     let new = c.find_named_verdict.new.ctx in
     let was = was-unknown _ s q (ap not c.if-self.false) c.in-Unknown.is in
     let n = new.schedule.steps in
-    let d = decided (summary_of c.self.inside.variables c.self.inside.started c.self.inside.ctx) s (view new) f.parts new.assumptions new.solver_state.sat_state c.in-Ok-Some.found (sym f.answer) q (ap not c.if-self.false) (finds-made c.self.inside.variables c.self.inside.started c.self.inside.ctx new _ f (c.self.invariant c.if-self.false).plain (c.self.invariant c.if-self.false).count c.in-Unknown.is) in
+    let d = decided (summary_of c.self.inside.variables c.self.inside.started c.self.inside.ctx) s (view new) f.parts new.assumptions new.solver_state.sat_state c.in-Ok-Some.found (sym f.answer) q (ap not c.if-self.false) (finds-made c.self.inside.variables c.self.inside.started c.self.inside.ctx new _ f (c.self.invariant c.if-self.false) c.in-Unknown.is) in
     let counts = counted-call _ s c.max_steps-max_steps.result n (told_verdict c.find_named_verdict.result) (Ok c.in-Ok-Some.found) q (ap not c.if-self.false) c.max_steps-max_steps.ensures (ap told_verdict (c.in-Ok-Some.is ∙ ap Ok c.in-Ok-Some.field-0-is)) c.find_named_verdict.ensures.counted in
     let t = with_verdict d.verdict (with_steps n s) in (
       t,
@@ -53,7 +64,7 @@ returns-in-Ok-Some-clause-satisfiable g c b s st =
     let f = rw c.in-Ok-Some.field-0-is at c.in-Ok-Some.ensures.found in
     let new = c.find_named_verdict.new.ctx in
     let sat : c.in-Ok-Some.found ≡ true = cc in
-    found-true (summary_of c.self.inside.variables c.self.inside.started c.self.inside.ctx) s (view new) f.parts new.assumptions new.solver_state.sat_state (sym f.answer ∙ ap Some sat) q (ap not c.if-self.false) (finds-made c.self.inside.variables c.self.inside.started c.self.inside.ctx new _ f (c.self.invariant c.if-self.false).plain (c.self.invariant c.if-self.false).count c.in-Unknown.is)
+    found-true (summary_of c.self.inside.variables c.self.inside.started c.self.inside.ctx) s (view new) f.parts new.assumptions new.solver_state.sat_state (sym f.answer ∙ ap Some sat) q (ap not c.if-self.false) (finds-made c.self.inside.variables c.self.inside.started c.self.inside.ctx new _ f (c.self.invariant c.if-self.false) c.in-Unknown.is)
 
 pub returns-in-Ok-Some-clause-unsatisfiable : goal.returns-in-Ok-Some-clause-unsatisfiable
 returns-in-Ok-Some-clause-unsatisfiable g c b s st =
@@ -61,7 +72,7 @@ returns-in-Ok-Some-clause-unsatisfiable g c b s st =
     let f = rw c.in-Ok-Some.field-0-is at c.in-Ok-Some.ensures.found in
     let new = c.find_named_verdict.new.ctx in
     let unsat : c.in-Ok-Some.found ≡ false = cc in
-    found-false (summary_of c.self.inside.variables c.self.inside.started c.self.inside.ctx) s (view new) f.parts new.assumptions new.solver_state.sat_state (sym f.answer ∙ ap Some unsat) q (ap not c.if-self.false) (finds-made c.self.inside.variables c.self.inside.started c.self.inside.ctx new _ f (c.self.invariant c.if-self.false).plain (c.self.invariant c.if-self.false).count c.in-Unknown.is)
+    found-false (summary_of c.self.inside.variables c.self.inside.started c.self.inside.ctx) s (view new) f.parts new.assumptions new.solver_state.sat_state (sym f.answer ∙ ap Some unsat) q (ap not c.if-self.false) (finds-made c.self.inside.variables c.self.inside.started c.self.inside.ctx new _ f (c.self.invariant c.if-self.false) c.in-Unknown.is)
 
 pub returns-in-Ok-Some-clause-model : goal.returns-in-Ok-Some-clause-model
 returns-in-Ok-Some-clause-model g c b s st =
@@ -84,7 +95,7 @@ returns-in-Ok-None-clause-call g c s st =
     let was = was-unknown _ s q (ap not c.if-self.false) c.in-Unknown.is in
     let unknown = answered-none _ (sym f.answer) in
     let n = new.schedule.steps in
-    let made = finds-made c.self.inside.variables c.self.inside.started c.self.inside.ctx new _ f (c.self.invariant c.if-self.false).plain (c.self.invariant c.if-self.false).count c.in-Unknown.is in
+    let made = finds-made c.self.inside.variables c.self.inside.started c.self.inside.ctx new _ f (c.self.invariant c.if-self.false) c.in-Unknown.is in
     let k = interrupted (summary_of c.self.inside.variables c.self.inside.started c.self.inside.ctx) s (view new) f.parts new.assumptions q (ap not c.if-self.false) (subst (λ b. StepsMade (summary_of c.self.inside.variables c.self.inside.started c.self.inside.ctx) (view new) f.parts new.assumptions b) unknown made) in
     let counts = counted-call _ s c.max_steps-max_steps.result n (told_verdict c.find_named_verdict.result) (Err Interrupted) q (ap not c.if-self.false) c.max_steps-max_steps.ensures (ap told_verdict (c.in-Ok-None.is ∙ ap Ok c.in-Ok-None.field-0-is)) c.find_named_verdict.ensures.counted in
     let t = with_verdict Unknown (with_steps n s) in (

@@ -1,6 +1,6 @@
 use Rattle.std.proofs.Common.{take}
 use Rattle.varisat.specs.Accepting.{HasNames, AreNamedInTurn}
-use Rattle.varisat.proofs.accept.name_vars.Given as goal
+use Rattle.varisat.proofs.naming.name_vars.Given as goal
 
 abbrev pub invariant-loop-lit : goal.invariant-loop-lit
 invariant-loop-lit g l = record {

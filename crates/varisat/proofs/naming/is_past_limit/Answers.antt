@@ -4,7 +4,7 @@ use Rattle.varisat_theory.specs.Literals.{Literal, variable_of}
 use Rattle.varisat_theory.proofs.Members.{∈-append_cases}
 use Rattle.varisat_prop.proofs.ReadElements.{item-∈}
 use Rattle.varisat.proofs.ReadPlaces.{take-item}
-use Rattle.varisat.proofs.solver.is_past_limit.Goals as goal
+use Rattle.varisat.proofs.naming.is_past_limit.Goals as goal
 
 pub returns-then-index-max_count : goal.returns-then-index-max_count
 returns-then-index-max_count c =
@@ -20,4 +20,4 @@ loop-lit-preserved c =
     (∈-append_cases m d (c.lit-item.result ∷ []) (subst (λ ls. m ∈ ls) t h))
 
 pub returns : goal.returns
-returns c = subst (λ d. (m : Literal) → m ∈ d → variable_of m < 2 ^ 28) (take_all c.loop-lit.lit-index c.args.clause.now c.loop-lit-test.false) c.loop-lit.invariant
+returns c (m, i, b) = let h = subst (λ d. (m : Literal) → m ∈ d → variable_of m < 2 ^ 28) (take_all c.loop-lit.lit-index c.args.clause.now c.loop-lit-test.false) c.loop-lit.invariant m i in omega (arith, h, b)

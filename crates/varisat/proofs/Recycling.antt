@@ -1,0 +1,117 @@
+-- A global variable without a name may be used again.
+use Rattle.std.proofs.Common.{◌≡◌, ℕ, ◌<◌, true, false, Option, Some, None, sym, ap, ◌∙◌, subst, refl}
+use Rattle.varisat_theory.specs.Membership.{◌∈◌}
+use Rattle.varisat_theory.specs.Literals.{Literal, variable_of}
+use Rattle.varisat_names.specs.Maps.{updated, onward, chain}
+use Rattle.varisat_names.specs.VarData.{dead}
+use Rattle.varisat_names.specs.declared.variables.data.VarData.{VarData}
+use Rattle.varisat_names.specs.declared.variables.data.SamplingMode.TheVariants as sampling
+use Rattle.varisat_names.proofs.Maps.{updated-at, updated-other, updated-all, parted, chain-same}
+use Rattle.varisat.specs.States.{State}
+use Rattle.varisat.specs.Spaces.{Spaces, Carrying, ModeFits, IdentitiesFit, NamesFit, ModesFit, UnitsFit, IsolationCase, NotIsolated, Apart, Forced, IsolationFits, MarksFit, without_core, translation, Links, SpacesFit}
+use Rattle.varisat.proofs.SpacesAgree.{working-same, holds-same, verdict-moved}
+use Rattle.varisat.proofs.VariableMoves.{recycle}
+
+module _ (w : Carrying) (p : Spaces) (s : State) (x i : ℕ) (k : Links w p s) (at : w.identity x ≡ Some i) (unnamed : p.user_from_global x ≡ None) (unsolved : p.solver_from_global x ≡ None) (alone : (p.kept x).isolated ≡ true) where
+  id' : ℕ → Option ℕ
+  id' = updated w.identity x None
+
+  kept' : ℕ → VarData
+  kept' = updated p.kept x dead
+
+  left : (y j : ℕ) → w.identity y ≡ Some j → (y ≡ x → ⊥) → id' y ≡ Some j
+  unfolding id'
+  left y j h n = updated-other w.identity x None y n ∙ h
+
+  kept-other : (y : ℕ) → (y ≡ x → ⊥) → kept' y ≡ p.kept y
+  unfolding kept'
+  kept-other y n = updated-other p.kept x dead y n
+
+  named-other : (v y : ℕ) → p.global_from_user v ≡ Some y → y ≡ x → ⊥
+  named-other v y h e = let q : None ≡ Some v = sym unnamed ∙ ap p.user_from_global (sym e) ∙ k.names.one_to_one.there v y h in cc
+
+  solver-other : (v y : ℕ) → p.global_from_solver v ≡ Some y → y ≡ x → ⊥
+  solver-other v y h e = let q : None ≡ Some v = sym unsolved ∙ ap p.solver_from_global (sym e) ∙ k.solvers.one_to_one.back y v h in cc
+
+  left-identities : IdentitiesFit id' (updated w.global i None) kept' s.naming.made
+  unfolding id' kept'
+  left-identities = record {
+    one_to_one = parted w.identity w.global x i k.identities.one_to_one at;
+    live = λ y j. updated-all (λ y o. o ≡ Some j → (kept' y).deleted ≡ false) w.identity x None (λ e. absurd cc) y (λ n h. ap (λ d. d.deleted) (kept-other y n) ∙ k.identities.live y j h);
+    deleted = λ y. updated-all (λ y o. o ≡ None → (kept' y).deleted ≡ true) w.identity x None (λ e. ap (λ d. d.deleted) (updated-at p.kept x dead)) y (λ n h. ap (λ d. d.deleted) (kept-other y n) ∙ k.identities.deleted y h);
+    below = λ y j. updated-all (λ y o. o ≡ Some j → j < s.naming.made) w.identity x None (λ e. absurd cc) y (λ n h. k.identities.below y j h);
+  }
+
+  left-names : NamesFit id' p.global_from_user p.user_from_global s.naming.names s.naming.watermark
+  unfolding id'
+  left-names = record {
+    one_to_one = k.names.one_to_one;
+    agree = λ v. k.names.agree v ∙ chain-same p.global_from_user w.identity id' v (λ y h. sym (updated-other w.identity x None y (named-other v y h)));
+    live = λ v y h. let (j, e) = k.names.live v y h in (j, left y j e (named-other v y h));
+    free = k.names.free;
+  }
+
+  left-modes : ModesFit id' p.global_from_user p.user_from_global kept' s.naming.modes
+  unfolding id' kept'
+  left-modes = record {
+    mode = λ v y j h e. let n = named-other v y h in subst (λ d. ModeFits d.sampling_mode (s.naming.modes j)) (sym (kept-other y n)) (k.modes.mode v y j h (sym (updated-other w.identity x None y n) ∙ e));
+    unnamed = λ y. updated-all (λ y d. p.user_from_global y ≡ None → d.sampling_mode ≡ sampling.Hide) p.kept x dead (λ _. refl) y (λ n h. k.modes.unnamed y h);
+  }
+
+  left-units : UnitsFit id' w.forced kept' s.counted
+  unfolding id' kept'
+  left-units = record {
+    unit = λ y j. updated-all (λ y o. o ≡ Some j → w.forced j ≡ (kept' y).unit) w.identity x None (λ e. absurd cc) y (λ n h. k.units.unit y j h ∙ ap (λ d. d.unit) (sym (kept-other y n)));
+    is_counted = k.units.is_counted;
+  }
+
+  left-isolation : IsolationFits id' w.forced kept' s.clauses s.naming.made
+  unfolding id' kept'
+  left-isolation j h = go (k.isolation j h)
+    where
+      go : IsolationCase w.identity w.forced p.kept s.clauses j → IsolationCase id' w.forced kept' s.clauses j
+      go (NotIsolated y e o) = let n : y ≡ x → ⊥ = (λ q. let z : true ≡ false = sym alone ∙ ap (λ a. (p.kept a).isolated) (sym q) ∙ o in cc) in NotIsolated y (left y j e n) (ap (λ d. d.isolated) (kept-other y n) ∙ o)
+      go (Apart a) = Apart a
+      go (Forced b e) = Forced b e
+
+  left-marks : MarksFit p.global_from_user kept' p.assumptions
+  unfolding kept'
+  left-marks = record {
+    marked = λ l y h e. ap (λ d. d.assumed) (kept-other y (named-other (variable_of l) y e)) ∙ k.marks.marked l y h e;
+    only = λ y. updated-all (λ y d. d.assumed ≡ true → (l : Literal) × (l ∈ p.assumptions) × (p.global_from_user (variable_of l) ≡ Some y)) p.kept x dead (λ e. absurd cc) y (λ n h. k.marks.only y h);
+  }
+
+  identity-same : (v : ℕ) → chain p.global_from_solver id' v ≡ chain p.global_from_solver w.identity v
+  unfolding id'
+  identity-same v = chain-same p.global_from_solver id' w.identity v (λ y h. updated-other w.identity x None y (solver-other v y h))
+
+  solver-same : (j : ℕ) → chain (updated w.global i None) p.solver_from_global j ≡ chain w.global p.solver_from_global j
+  solver-same j = updated-all (λ j o. onward o p.solver_from_global ≡ onward (w.global j) p.solver_from_global) w.global i None (sym unsolved ∙ ap (λ o. onward o p.solver_from_global) (sym (k.identities.one_to_one.there x i at))) j (λ n. refl)
+
+  pub recycled : SpacesFit (recycle x p) s
+  unfolding id' kept'
+  recycled = (
+    record { identity = id'; global = updated w.global i None; forced = w.forced },
+    record {
+      identities = left-identities;
+      names = left-names;
+      modes = left-modes;
+      watermark = k.watermark;
+      globals = k.globals;
+      units = left-units;
+      isolation = left-isolation;
+      solvers = record { one_to_one = k.solvers.one_to_one; live = λ v y h. let (j, e, c) = k.solvers.live v y h in (j, left y j e (solver-other v y h), c) };
+      holds = holds-same s.clauses (translation w p s.ever_hidden) (record { identity = chain p.global_from_solver id'; solver = chain (updated w.global i None) p.solver_from_global; forced = w.forced; hidden = s.ever_hidden }) p.search (without_core p.outcome)
+          identity-same solver-same (λ j. refl) refl k.holds;
+      assumptions = k.assumptions;
+      marks = left-marks;
+      working = working-same s.clauses (chain p.global_from_solver w.identity) (chain p.global_from_solver id') s.assumptions p.working (λ l h. identity-same (variable_of l)) k.working;
+      verdict = verdict-moved w.identity id' p.model (updated p.model x false) p.outcome s.verdict
+          (λ a e f y j. updated-all (λ y o. o ≡ Some j → a j ≡ updated p.model x false y) w.identity x None (λ q. absurd cc) y (λ n h. f y j h ∙ sym (updated-other p.model x false y n)))
+          k.verdict;
+      core = k.core;
+      right = k.right;
+      well_formed = k.well_formed;
+      few = k.few;
+    },
+  )

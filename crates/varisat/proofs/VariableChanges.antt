@@ -1,0 +1,342 @@
+-- What the calls keep of the tables that set the mode of a variable, hide it, and bring hidden ones back.
+use Rattle.std.proofs.Common.{◌≡◌, ℕ, zero, suc, ◌+◌, ◌-◌, ◌<◌, ◌≤◌, nat_lt, if◌then◌else◌, Bool, true, false, Option, Some, None, List, [], ◌∷◌, ◌++◌, ⊎_elim, length, sym, ap, ◌∙◌, subst, refl, arith, rules}
+use Rattle.std.proofs.lemmas.Bool.{lt-ltb, cases_lt}
+use Rattle.std.specs.Option.{is_some, IsSome}
+use Rattle.varisat_theory.specs.Membership.{◌∈◌}
+use Rattle.varisat_theory.proofs.Members.{equal_or_not, ∈-append_cases}
+use Rattle.varisat_literals.specs.Numbers.{variable_limit}
+use Rattle.varisat_names.specs.Maps.{updated}
+use Rattle.varisat_names.specs.VarMap.{at, IsFull, IsLeastUnmapped}
+use Rattle.varisat_names.specs.VarData.{fresh, dead, kept_at}
+use Rattle.varisat_names.specs.Variables.{Tables, AreLinked, IsGiven, AreNextGiven, IsNamed, InUse, Free, Above, IsChangedTo, IsHidden, IsShown, unused, without_name}
+use Rattle.varisat_names.specs.declared.variables.data.VarData.{VarData}
+use Rattle.varisat_names.specs.declared.variables.data.SamplingMode.{SamplingMode}
+use Rattle.varisat_names.specs.declared.variables.data.SamplingMode.TheVariants as sampling
+use Rattle.varisat_names.proofs.Maps.{updated-at, updated-other, updated-all, joined, is-some}
+use Rattle.varisat_names.proofs.VarMap.{at-inside, at-past}
+use Rattle.varisat_names.proofs.Linked.{give-users}
+use Rattle.varisat_names.proofs.Tables.{live-inside, named-inside, least-near}
+use Rattle.varisat.specs.Names.{Naming, bring, bring_next, bring_if_free, name_one}
+use Rattle.varisat.specs.Accepting.{IsPlain, AreBounded, naming_of}
+use Rattle.varisat.specs.VariableChanges.{IsMarked, CanBeChanged, StaysKept, IsNamedAs, AreShownInTurn, ShowsBelow, ShowsOne, Passed, Shown}
+use Rattle.varisat.proofs.AcceptSolverVariables.{few, below, below-count, ∈-below}
+
+-- 1. A name comes into use.
+
+-- the tables stay linked
+pub given-linked : (old new : Tables) (u x : ℕ) → AreLinked old → at old.users.forward u ≡ None → IsGiven old new u x → AreLinked new
+given-linked old new u x l free g = subst (λ m. AreLinked (record new { solvers = m })) (sym g.solvers) (give-users old new.users new.kept u x fresh l refl g.unused.0 free g.users g.kept)
+
+given-plain : (old new : Tables) (u x : ℕ) → IsGiven old new u x → IsPlain old → IsPlain new
+given-plain old new u x g n = record {
+  full = subst (λ m. IsFull m.backward) (sym g.solvers) n.full;
+  no_units = λ y. ap (λ d. d.unit) (g.kept.at_each y) ∙ updated-all (λ y d. d.unit ≡ None) (kept_at old.kept) x fresh refl y (λ m. n.no_units y);
+}
+
+module _ (old new : Tables) (u x : ℕ) (l : AreLinked old) (free : at old.users.forward u ≡ None) (g : IsGiven old new u x) where
+  -- a variable with a name is another one
+  other : (y v : ℕ) → at old.users.backward y ≡ Some v → y ≡ x → ⊥
+  other y v e q = let z : true ≡ false = sym g.unused.0 ∙ ap (λ y. (kept_at old.kept y).deleted) (sym q) ∙ l.named y v e in cc
+
+  kept-mark : (y v : ℕ) → at old.users.backward y ≡ Some v → IsMarked old y → IsMarked new y
+  kept-mark y v e m = ap (λ d. d.assumed) (g.kept.at_each y ∙ updated-other (kept_at old.kept) x fresh y (other y v e)) ∙ m
+
+  pub given-named : (v y : ℕ) → at old.users.forward v ≡ Some y → IsMarked old y → (at new.users.forward v ≡ Some y) × IsMarked new y
+  given-named v y e m = (
+    g.users.forward.at_each v ∙ updated-other (at old.users.forward) u (Some x) v (λ q. let z : None ≡ Some y = sym free ∙ ap (at old.users.forward) (sym q) ∙ e in cc) ∙ e,
+    kept-mark y v (l.users.there v y e) m,
+  )
+
+  pub given-names : (y v : ℕ) → at old.users.backward y ≡ Some v → IsMarked old y → (at new.users.backward y ≡ Some v) × IsMarked new y
+  given-names y v e m = (g.users.backward.at_each y ∙ updated-other (at old.users.backward) x (Some u) y (other y v e) ∙ e, kept-mark y v e m)
+
+pub given-count : (old new : Tables) (u x : ℕ) → IsGiven old new u x → length new.kept ≤ length old.kept + 1
+given-count old new u x g = let a = least-near old.kept x g.unused in let b = g.kept.count in omega (arith, a, b)
+
+-- What k names that came into use in turn left.
+pub record HasGiven (k : ℕ) (old new : Tables) : Type 0 where
+  pub linked : AreLinked new
+  pub plain : IsPlain old → IsPlain new
+  pub solvers : new.solvers ≡ old.solvers
+  pub users : length new.users.forward ≡ length old.users.forward + k
+  pub count : length new.kept ≤ length old.kept + k
+  pub named : (v y : ℕ) → at old.users.forward v ≡ Some y → IsMarked old y → (at new.users.forward v ≡ Some y) × IsMarked new y
+  pub names : (y v : ℕ) → at old.users.backward y ≡ Some v → IsMarked old y → (at new.users.backward y ≡ Some v) × IsMarked new y
+
+pub next-given : (k : ℕ) (old new : Tables) → AreLinked old → AreNextGiven k old new → HasGiven k old new
+next-given zero old new l e = subst (λ t. HasGiven 0 old t) (sym e) (record { linked = l; plain = λ n. n; solvers = refl; users = omega arith; count = omega arith; named = λ v y a m. (a, m); names = λ y v a m. (a, m) })
+next-given (suc k) old new l (mid, x, g, rest) =
+    let u = length old.users.forward in
+    let free = at-past old.users.forward u (omega arith) in
+    let h = next-given k mid new (given-linked old mid u x l free g) rest in
+    let a = g.users.forward.watermark in
+    let b = given-count old mid u x g in
+    let c = h.users in
+    let d = h.count in
+    record {
+      linked = h.linked;
+      plain = λ n. h.plain (given-plain old mid u x g n);
+      solvers = h.solvers ∙ g.solvers;
+      users = omega (arith, a, c);
+      count = omega (arith, b, d);
+      named = λ v y e m. let (f, n) = given-named old mid u x l free g v y e m in h.named v y f n;
+      names = λ y v e m. let (f, n) = given-names old mid u x l free g y v e m in h.names y v f n;
+    }
+
+-- the last of them leads to a new variable
+pub next-last : (k : ℕ) (old new : Tables) → AreNextGiven (suc k) old new → (x : ℕ) × (at new.users.forward (length old.users.forward + k) ≡ Some x) × (kept_at new.kept x ≡ fresh)
+next-last zero old new (mid, x, g, e) =
+    let u = length old.users.forward in
+    subst (λ t. (x : ℕ) × (at t.users.forward (u + 0) ≡ Some x) × (kept_at t.kept x ≡ fresh)) (sym e)
+    (x, ap (at mid.users.forward) (let z : u + 0 ≡ u = omega arith in z) ∙ g.users.forward.at_each u ∙ updated-at (at old.users.forward) u (Some x), g.kept.at_each x ∙ updated-at (kept_at old.kept) x fresh)
+next-last (suc k) old new (mid, x, g, rest) =
+    let a = g.users.forward.watermark in
+    let z : length mid.users.forward + k ≡ length old.users.forward + suc k = omega (arith, a) in
+    subst (λ n. (x : ℕ) × (at new.users.forward n ≡ Some x) × (kept_at new.kept x ≡ fresh)) z (next-last k mid new rest)
+
+-- 2. The room for it.
+
+pub made-next : (k : ℕ) (m : Naming) → (bring_next k m).made ≡ m.made + k
+made-next zero m = omega arith
+made-next (suc k) m = let e = made-next k (bring m.watermark m) in omega (arith, e)
+
+pub made-above : (u : ℕ) (m : Naming) → m.watermark ≤ u → (name_one u m).made ≡ m.made + (u + 1 - m.watermark)
+made-above u m h =
+    ap (λ b. (if b then bring_if_free u (m.names u) m else bring_next (suc u - m.watermark) m).made) (not-below u m.watermark h) ∙ made-next (suc u - m.watermark) m ∙ ap (λ k. m.made + k) (let z : suc u - m.watermark ≡ u + 1 - m.watermark = omega arith in z)
+  where
+    not-below : (a b : ℕ) → b ≤ a → nat_lt a b ≡ false
+    not-below a b h = search (rules, h)
+
+pub made-free : (u : ℕ) (m : Naming) → u < m.watermark → m.names u ≡ None → (name_one u m).made ≡ m.made + 1
+made-free u m h e = ap (λ b. (if b then bring_if_free u (m.names u) m else bring_next (suc u - m.watermark) m).made) (lt-ltb u m.watermark h) ∙ ap (λ o. (bring_if_free u o m).made) e
+
+-- 3. A name was named.
+
+fresh-as : (u x : ℕ) (old new : Tables) → at new.users.forward u ≡ Some x → kept_at new.kept x ≡ fresh → IsNamed u old new → StaysKept old new → IsNamedAs u old new x
+fresh-as u x old new e f n s = record { named = n; leads = e; live = ap (λ d. d.deleted) f; unassumed = ap (λ d. d.assumed) f; stays = s }
+
+given-as : (u x : ℕ) (old new : Tables) → AreLinked old → CanBeChanged u old → u < length old.users.forward → at old.users.forward u ≡ None → IsGiven old new u x → IsNamedAs u old new x
+given-as u x old new l c h free g =
+    let a = g.users.forward.watermark in
+    let b = given-count old new u x g in
+    let m = made-free u (naming_of old) h free in
+    let w = c.bounded.users in
+    let room : length old.kept + 1 ≤ variable_limit = ⊎_elim (λ q. absurd (c.room (subst (λ n. variable_limit < n) (sym m) q))) (λ q. q) (cases_lt variable_limit (length old.kept + 1)) in
+    fresh-as u x old new (g.users.forward.at_each u ∙ updated-at (at old.users.forward) u (Some x)) (g.kept.at_each x ∙ updated-at (kept_at old.kept) x fresh) (Free x h free g) (record {
+      bounded = record { users = omega (arith, a, h, w); globals = omega (arith, b, room) };
+      plain = given-plain old new u x g;
+      solvers = g.solvers;
+      named = given-named old new u x l free g;
+      names = given-names old new u x l free g;
+    })
+
+above-as : (u : ℕ) (old new : Tables) → AreLinked old → CanBeChanged u old → length old.users.forward ≤ u → AreNextGiven (u + 1 - length old.users.forward) old new → (x : ℕ) × IsNamedAs u old new x
+above-as u old new l c h n =
+    let w = length old.users.forward in
+    let k = u - w in
+    let q : u + 1 - w ≡ suc k = omega (arith, h) in
+    let p : w + k ≡ u = omega (arith, h) in
+    let g = next-given (u + 1 - w) old new l n in
+    let (x, e, f) = next-last k old new (subst (λ i. AreNextGiven i old new) q n) in
+    let m = made-above u (naming_of old) h in
+    let b = c.in_range in
+    let a = g.users in
+    let d = g.count in
+    let room : length old.kept + (u + 1 - w) ≤ variable_limit = ⊎_elim (λ q. absurd (c.room (subst (λ n. variable_limit < n) (sym m) q))) (λ q. q) (cases_lt variable_limit (length old.kept + (u + 1 - w))) in (
+      x,
+      fresh-as u x old new (ap (at new.users.forward) (sym p) ∙ e) f (Above h n) (record {
+        bounded = record { users = omega (arith, a, b, h); globals = omega (arith, d, room) };
+        plain = g.plain;
+        solvers = g.solvers;
+        named = g.named;
+        names = g.names;
+      }),
+    )
+
+pub stays-same : (t : Tables) → AreBounded t → StaysKept t t
+stays-same t b = record { bounded = b; plain = λ n. n; solvers = refl; named = λ u x e m. (e, m); names = λ x u e m. (e, m) }
+
+pub stays-on : (old mid new : Tables) → StaysKept old mid → StaysKept mid new → StaysKept old new
+stays-on old mid new a b = record {
+  bounded = b.bounded;
+  plain = λ n. b.plain (a.plain n);
+  solvers = b.solvers ∙ a.solvers;
+  named = λ u x e m. let (f, n) = a.named u x e m in b.named u x f n;
+  names = λ x u e m. let (f, n) = a.names x u e m in b.names x u f n;
+}
+
+not-marked : (b : Bool) → (b ≡ true → ⊥) → b ≡ false
+not-marked true n = absurd (n refl)
+not-marked false n = refl
+
+-- a name in use stands for its variable already
+pub in-use-as : (u x : ℕ) (t : Tables) → AreLinked t → CanBeChanged u t → at t.users.forward u ≡ Some x → IsNamedAs u t t x
+in-use-as u x t l c e = record {
+  named = InUse x e refl;
+  leads = e;
+  live = l.named x u (l.users.there u x e);
+  unassumed = not-marked (kept_at t.kept x).assumed (λ m. c.unassumed (x, e, m));
+  stays = stays-same t c.bounded;
+}
+
+pub named-as : (u : ℕ) (old new : Tables) → AreLinked old → CanBeChanged u old → IsNamed u old new → (x : ℕ) × IsNamedAs u old new x
+named-as u old new l c (InUse x e same) = (x, subst (λ t. IsNamedAs u old t x) (sym same) (in-use-as u x old l c e))
+named-as u old new l c (Free x h free g) = (x, given-as u x old new l c h free g)
+named-as u old new l c (Above h n) = above-as u old new l c h n
+
+pub named-leads : (u : ℕ) (old new : Tables) → AreLinked old → CanBeChanged u old → IsNamed u old new → IsSome (at new.users.forward u)
+named-leads u old new l c n = let (x, d) = named-as u old new l c n in ap is_some d.leads
+
+-- the variable to which the name leads then
+pub named-to : (u x : ℕ) (old new : Tables) → AreLinked old → CanBeChanged u old → IsNamed u old new → at new.users.forward u ≡ Some x → IsNamedAs u old new x
+named-to u x old new l c n e =
+    let (y, d) = named-as u old new l c n in
+    let q : Some y ≡ Some x = sym d.leads ∙ e in
+    let z : y ≡ x = cc in
+    subst (IsNamedAs u old new) z d
+
+-- 4. The variable of a name is changed.
+
+-- what is kept of a live variable has another mode
+pub mode-stays : (mid new : Tables) (x : ℕ) (mode : SamplingMode) → AreBounded mid → (kept_at mid.kept x).deleted ≡ false → IsChangedTo mid new x (record (kept_at mid.kept x) { sampling_mode = mode }) → StaysKept mid new
+mode-stays mid new x mode b live c =
+    let d : VarData = record (kept_at mid.kept x) { sampling_mode = mode } in
+    let users = ap (λ t. t.users) c.rest in
+    let solvers = ap (λ t. t.solvers) c.rest in
+    let h = live-inside mid.kept x live in
+    let n = c.kept.count in
+    let w = ap (λ t. length t.users.forward) c.rest in
+    let v = b.users in
+    let g = b.globals in
+    let mark : (y : ℕ) → IsMarked mid y → IsMarked new y = (λ y m. ap (λ d. d.assumed) (c.kept.at_each y) ∙ updated-all (λ y e. (kept_at mid.kept y).assumed ≡ true → e.assumed ≡ true) (kept_at mid.kept) x d (λ m. m) y (λ _ m. m) m) in
+    record {
+      bounded = record { users = omega (arith, w, v); globals = omega (arith, n, h, g) };
+      plain = λ p. record {
+        full = subst (λ m. IsFull m.backward) (sym solvers) p.full;
+        no_units = λ y. ap (λ d. d.unit) (c.kept.at_each y) ∙ updated-all (λ y d. d.unit ≡ None) (kept_at mid.kept) x d (p.no_units x) y (λ m. p.no_units y);
+      };
+      solvers = solvers;
+      named = λ u y e m. (ap (λ t. at t.users.forward u) c.rest ∙ e, mark y m);
+      names = λ y u e m. (ap (λ t. at t.users.backward y) c.rest ∙ e, mark y m);
+    }
+
+without-unit : (o : Option ℕ) (d : VarData) → d.unit ≡ None → (without_name o d).unit ≡ None
+without-unit o d e = go (unused o d)
+  where
+    go : (b : Bool) → (if b then dead else record d { sampling_mode = sampling.Hide }).unit ≡ None
+    go true = refl
+    go false = e
+
+-- the name of a variable that is not marked as assumed is free
+pub hidden-stays : (mid new : Tables) (u x : ℕ) → AreLinked mid → AreBounded mid → at mid.users.forward u ≡ Some x → (kept_at mid.kept x).assumed ≡ false → IsHidden mid new u x → StaysKept mid new
+hidden-stays mid new u x l b e unmarked n =
+    let d = without_name (at mid.solvers.forward x) (kept_at mid.kept x) in
+    let live = l.named x u (l.users.there u x e) in
+    let h = live-inside mid.kept x live in
+    let i = at-inside mid.users.forward u x e in
+    let c = n.kept.count in
+    let w = n.users.forward.watermark in
+    let v = b.users in
+    let g = b.globals in
+    let other : (y : ℕ) → IsMarked mid y → y ≡ x → ⊥ = (λ y m q. let z : true ≡ false = sym m ∙ ap (λ y. (kept_at mid.kept y).assumed) q ∙ unmarked in cc) in
+    let mark : (y : ℕ) → IsMarked mid y → IsMarked new y = (λ y m. ap (λ d. d.assumed) (n.kept.at_each y ∙ updated-other (kept_at mid.kept) x d y (other y m)) ∙ m) in
+    record {
+      bounded = record { users = omega (arith, w, v, i); globals = omega (arith, c, h, g) };
+      plain = λ p. record {
+        full = subst (λ m. IsFull m.backward) (sym n.solvers) p.full;
+        no_units = λ y. ap (λ d. d.unit) (n.kept.at_each y) ∙ updated-all (λ y d. d.unit ≡ None) (kept_at mid.kept) x d (without-unit (at mid.solvers.forward x) (kept_at mid.kept x) (p.no_units x)) y (λ m. p.no_units y);
+      };
+      solvers = n.solvers;
+      named = λ v y a m. (n.users.forward.at_each v ∙ updated-other (at mid.users.forward) u None v (λ q. let z : Some y ≡ Some x = sym a ∙ ap (at mid.users.forward) q ∙ e in other y m cc) ∙ a, mark y m);
+      names = λ y v a m. (n.users.backward.at_each y ∙ updated-other (at mid.users.backward) x None y (other y m) ∙ a, mark y m);
+    }
+
+-- 5. A hidden variable comes back.
+
+-- a name comes into use for the variable
+to : Tables → ℕ → ℕ → ℕ → Option ℕ
+to t u x = updated (at t.users.forward) u (Some x)
+
+to-once : (t : Tables) (u x : ℕ) → AreLinked t → at t.users.forward u ≡ None → at t.users.backward x ≡ None → (v y i : ℕ) → to t u x v ≡ Some i → to t u x y ≡ Some i → y ≡ v
+unfolding to
+to-once t u x l free unnamed v y i a b =
+    let both = joined (at t.users.forward) (at t.users.backward) u x l.users free unnamed in
+    let q : Some y ≡ Some v = sym (both.there y i b) ∙ both.there v i a in
+    cc
+
+-- The least free name is below the count of global variables where a live one has no name: all lower names lead to others.
+pub shown-near : (t : Tables) (x u : ℕ) → AreLinked t → (kept_at t.kept x).deleted ≡ false → at t.users.backward x ≡ None → IsLeastUnmapped t.users.forward u → u < length t.kept
+unfolding to
+shown-near t x u l live unnamed least =
+    let d = few (to t u x) (below (length t.kept)) (to-once t u x l least.0 unnamed) (u + 1) found in
+    let e = below-count (length t.kept) in
+    omega (arith, d, e)
+  where
+    found : (v : ℕ) → v < u + 1 → (i : ℕ) × (to t u x v ≡ Some i) × (i ∈ below (length t.kept))
+    found v h =
+        ⊎_elim
+        (λ e. (x, ap (updated (at t.users.forward) u (Some x)) e ∙ updated-at (at t.users.forward) u (Some x), ∈-below (length t.kept) x (live-inside t.kept x live)))
+        (λ n. ⊎_elim
+        (λ z. absurd (least.1 v (omega (arith, h, n)) z))
+        (λ (y, q). (y, updated-other (at t.users.forward) u (Some x) v n ∙ q, ∈-below (length t.kept) y (named-inside t v y l q)))
+        (is-some (at t.users.forward v)))
+        (equal_or_not v u)
+
+pub shown-stays : (mid new : Tables) (x u : ℕ) → AreLinked mid → AreBounded mid → (kept_at mid.kept x).deleted ≡ false → at mid.users.backward x ≡ None → IsShown mid new x sampling.Witness u → StaysKept mid new
+shown-stays mid new x u l b live unnamed n =
+    let d : VarData = record (kept_at mid.kept x) { sampling_mode = sampling.Witness } in
+    let near = shown-near mid x u l live unnamed n.least in
+    let h = live-inside mid.kept x live in
+    let c = n.kept.count in
+    let w = n.users.forward.watermark in
+    let v = b.users in
+    let g = b.globals in
+    let mark : (y : ℕ) → IsMarked mid y → IsMarked new y = (λ y m. ap (λ d. d.assumed) (n.kept.at_each y) ∙ updated-all (λ y e. (kept_at mid.kept y).assumed ≡ true → e.assumed ≡ true) (kept_at mid.kept) x d (λ m. m) y (λ _ m. m) m) in
+    record {
+      bounded = record { users = omega (arith, w, v, near, g); globals = omega (arith, c, h, g) };
+      plain = λ p. record {
+        full = subst (λ m. IsFull m.backward) (sym n.solvers) p.full;
+        no_units = λ y. ap (λ d. d.unit) (n.kept.at_each y) ∙ updated-all (λ y d. d.unit ≡ None) (kept_at mid.kept) x d (p.no_units x) y (λ m. p.no_units y);
+      };
+      solvers = n.solvers;
+      named = λ v y a m. (n.users.forward.at_each v ∙ updated-other (at mid.users.forward) u (Some x) v (λ q. let z : None ≡ Some y = sym n.least.0 ∙ ap (at mid.users.forward) (sym q) ∙ a in cc) ∙ a, mark y m);
+      names = λ y v a m. (n.users.backward.at_each y ∙ updated-other (at mid.users.backward) x (Some u) y (λ q. let z : None ≡ Some v = sym unnamed ∙ ap (at mid.users.backward) (sym q) ∙ a in cc) ∙ a, mark y m);
+    }
+
+-- a variable comes back, and its name joins the list
+pub shown-one : (x u : ℕ) (us vs : List ℕ) (mid new : Tables) → AreLinked mid → AreBounded mid → (kept_at mid.kept x).deleted ≡ false → at mid.users.backward x ≡ None → IsShown mid new x sampling.Witness u → vs ≡ us ++ u ∷ [] → ShowsOne x us vs mid new
+shown-one x u us vs mid new l b live unnamed n e =
+    let near = shown-near mid x u l live unnamed n.least in
+    let h = live-inside mid.kept x live in
+    let c = n.kept.count in
+    let g = b.globals in
+    Shown u (omega (arith, near, g)) live unnamed n (omega (arith, c, h)) (shown-stays mid new x u l b live unnamed n) e
+
+shown-more : (us : List ℕ) (old mid new : Tables) (x u : ℕ) → AreShownInTurn us old mid → (kept_at mid.kept x).deleted ≡ false → at mid.users.backward x ≡ None → IsShown mid new x sampling.Witness u → AreShownInTurn (us ++ u ∷ []) old new
+shown-more [] old mid new x u e live unnamed n =
+    subst (λ t. AreShownInTurn (u ∷ []) t new) e (new, x, live, unnamed, n, refl)
+shown-more (v ∷ us) old mid new x u (t, y, a, b, s, rest) live unnamed n = (t, y, a, b, s, shown-more us t mid new x u rest live unnamed n)
+
+pub none-below : (t : Tables) → AreBounded t → ShowsBelow 0 [] t t
+none-below t b = record { in_turn = refl; in_range = λ u h. absurd h; rest = λ x h. absurd (omega (arith, h)); count = refl; stays = stays-same t b }
+
+pub one-more-below : (x : ℕ) (us vs : List ℕ) (old mid new : Tables) → ShowsBelow x us old mid → ShowsOne x us vs mid new → ShowsBelow (x + 1) vs old new
+one-more-below x us vs old mid new s (Passed r same e) =
+    subst (λ t. ShowsBelow (x + 1) vs old t) (sym same) (subst (λ ws. ShowsBelow (x + 1) ws old mid) (sym e) (record {
+      in_turn = s.in_turn;
+      in_range = s.in_range;
+      rest = λ y h. ⊎_elim (λ q. subst (λ z. at mid.users.backward z ≡ None → (kept_at mid.kept z).deleted ≡ true) (sym q) r) (λ n. s.rest y (omega (arith, h, n))) (equal_or_not y x);
+      count = s.count;
+      stays = s.stays;
+    }))
+one-more-below x us vs old mid new s (Shown u i live unnamed n c k e) =
+    subst (λ ws. ShowsBelow (x + 1) ws old new) (sym e) (record {
+      in_turn = shown-more us old mid new x u s.in_turn live unnamed n;
+      in_range = λ v h. ⊎_elim (s.in_range v) (λ a. ⊎_elim (λ q. subst (λ w. w < variable_limit) (sym q) i) (λ z. absurd z) a) (∈-append_cases v us (u ∷ []) h);
+      rest = λ y h f. ⊎_elim
+          (λ q. let z : None ≡ Some u = sym f ∙ ap (at new.users.backward) q ∙ n.users.backward.at_each x ∙ updated-at (at mid.users.backward) x (Some u) in absurd cc)
+          (λ m. ap (λ d. d.deleted) (n.kept.at_each y ∙ updated-other (kept_at mid.kept) x (record (kept_at mid.kept x) { sampling_mode = sampling.Witness }) y m) ∙ s.rest y (omega (arith, h, m)) (sym (n.users.backward.at_each y ∙ updated-other (at mid.users.backward) x (Some u) y m) ∙ f))
+          (equal_or_not y x);
+      count = c ∙ s.count;
+      stays = stays-on old mid new s.stays k;
+    })

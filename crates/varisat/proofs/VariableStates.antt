@@ -1,0 +1,102 @@
+-- What the calls that set modes, hide and show variables do to the states that the solver stands for.
+use Rattle.std.proofs.Common.{◌≡◌, ℕ, true, Result, Err, Some, None, List, [], ◌∷◌, ◌⊎◌, inl, inr, ⊎_elim, length, sym, ap, ◌∙◌, subst, refl, arith}
+use Rattle.std.specs.Option.{is_some}
+use Rattle.std.proofs.lemmas.Bool.{cases_lt}
+use Rattle.varisat_theory.specs.Literals.{variable_of, literal_of}
+use Rattle.varisat_search.proofs.StepOutcome.{variable-literal}
+use Rattle.varisat_search.specs.declared.context.Context.{Context}
+use Rattle.varisat_names.specs.VarMap.{at}
+use Rattle.varisat_names.specs.VarBiMap.{BiMap}
+use Rattle.varisat_names.specs.Variables.{Tables}
+use Rattle.varisat_names.specs.declared.variables.data.SamplingMode.{SamplingMode}
+use Rattle.varisat_names.proofs.Maps.{chain-none, is-some, some-of}
+use Rattle.varisat_names.proofs.Tables.{kept-past}
+use Rattle.varisat.specs.States.{State}
+use Rattle.varisat.specs.Names.{Mode, Naming, name_one, give_name}
+use Rattle.varisat.specs.Calls.{IsValid, IsCrowded, with_naming}
+use Rattle.varisat.specs.Usage.{AreAllShown, ChangesVar, SetsMode, name_var}
+use Rattle.varisat.specs.VariableCalls.{named, IsAssumed, with_mode, hide_name}
+use Rattle.varisat.specs.VariableChanges.{IsMarked, IsMarkedName, ChecksChange, StaysKept, SetsNamedMode, HidesNamed, AreShownInTurn, ShowsBelow}
+use Rattle.varisat.specs.Accepting.{naming_of}
+use Rattle.varisat.specs.Spaces.{Carrying, ModeFits, Links, SpacesFit}
+use Rattle.varisat.specs.Summaries.{Summary, IsKept, spaces}
+use Rattle.varisat.specs.declared.solver.SolverError.{SolverError}
+use Rattle.varisat.specs.declared.solver.SolverError.TheVariants.{OutOfMemory, VariableLimit, AssumedVar}
+use Rattle.varisat.proofs.AcceptClause.{with_tables, named-one}
+use Rattle.varisat.proofs.NamingStates.{crowded-state}
+use Rattle.varisat.proofs.HiddenTables.{marked-assumed, assumed-marked, mode-spaces, hidden-spaces, shown-spaces}
+use Rattle.varisat.proofs.ShownInTurn.{HaveShown, all-shown}
+
+-- 1. What is found out of a name.
+
+assumed-state : (w : Carrying) (g : Summary) (s : State) (u : ℕ) → Links w (spaces g) s → IsMarkedName g.tables u → IsAssumed s u
+assumed-state w g s u k (x, e, m) = marked-assumed w (spaces g) s u x k e m
+
+pub unassumed-state : (g : Summary) (s : State) (u : ℕ) → SpacesFit (spaces g) s → (IsMarkedName g.tables u → ⊥) → IsAssumed s u → ⊥
+unassumed-state g s u (w, k) n (l, h, e) =
+    ⊎_elim
+    (λ f. let z : None ≡ Some (variable_of l) = sym (k.names.agree u ∙ chain-none (at g.tables.users.forward) w.identity u f) ∙ e in absurd cc)
+    (λ (x, f). n (x, f, assumed-marked w (spaces g) s u x k f (l, h, e)))
+    (is-some (at g.tables.users.forward u))
+
+pub free-state : (g : Summary) (s : State) (u : ℕ) → SpacesFit (spaces g) s → at g.tables.users.forward u ≡ None → s.naming.names u ≡ None
+free-state g s u (w, k) f = k.names.agree u ∙ chain-none (at g.tables.users.forward) w.identity u f
+
+crowded-one : (w : Carrying) (g : Summary) (s : State) (u : ℕ) → Links w (spaces g) s → IsCrowded (name_one u (naming_of g.tables)) → IsCrowded (name_one u s.naming)
+crowded-one w g s u k c =
+    let e = variable-literal u true in
+    subst (λ v. IsCrowded (name_one v s.naming)) e (crowded-state w g s k (literal_of u true ∷ []) (subst (λ v. IsCrowded (name_one v (naming_of g.tables))) (sym e) c))
+
+-- a change that is refused changes nothing
+pub change-refused : (change : State → State) (g : Summary) (s : State) (u : ℕ) (e : SolverError) → IsValid s → SpacesFit (spaces g) s → ChecksChange g.tables u (Err e) → ChangesVar named change s u (Err e) s
+change-refused change g s u VariableLimit v (w, k) c = (v, ⊎_elim inl (λ m. inr (crowded-one w g s u k m)) c, refl)
+change-refused change g s u (AssumedVar x) v (w, k) (b, q, m) = (v, b, q, assumed-state w g s u k m, refl)
+change-refused change g s u e v f c = absurd c
+
+-- memory is not what it is refused for
+no-memory : (t : Tables) (u : ℕ) (r : Result (Unit {0}) SolverError) → ChecksChange t u r → r ≡ Err OutOfMemory → ⊥
+no-memory t u r c q = subst (ChecksChange t u) q c
+
+pub mode-refused : (n : Mode) (g : Summary) (s : State) (u : ℕ) (e : SolverError) → IsValid s → SpacesFit (spaces g) s → ChecksChange g.tables u (Err e) → SetsMode named n s u (Err e) s
+mode-refused n g s u e v f c = (change-refused (with_mode u n) g s u e v f c, λ q. absurd (no-memory g.tables u (Err e) c q))
+
+-- 2. What is changed.
+
+pub mode-state : (g : Summary) (s : State) (new : Tables) (u : ℕ) (m : SamplingMode) (n : Mode) → SpacesFit (spaces g) s → ModeFits m n → SetsNamedMode u m g.tables new → SpacesFit (spaces (with_tables new g)) (with_mode u n (name_var named u s))
+mode-state g s new u m n f fit c =
+    mode-spaces (with_tables c.mid g) (with_naming (name_one u s.naming) s) new u c.global m n (named-one g s c.mid u f c.named.named) c.named.leads fit c.changed
+
+pub hide-state : (g : Summary) (s : State) (new : Tables) (u : ℕ) → SpacesFit (spaces g) s → HidesNamed u g.tables new → SpacesFit (spaces (with_tables new g)) (hide_name u (name_var named u s))
+hide-state g s new u f c =
+    hidden-spaces (with_tables c.mid g) (with_naming (name_one u s.naming) s) new u c.global (named-one g s c.mid u f c.named.named) c.named.leads c.named.unassumed c.hidden
+
+turns-state : (us : List ℕ) (g : Summary) (s : State) (new : Tables) → SpacesFit (spaces g) s → AreShownInTurn us g.tables new → HaveShown us (with_tables new g) s
+turns-state [] g s new f e = (s.naming, refl, subst (λ t. SpacesFit (spaces (with_tables t g)) s) (sym e) f)
+turns-state (u ∷ us) g s new f (mid, x, live, unnamed, n, rest) =
+    let (l, (i, b, o, fit)) = shown-spaces g s mid x u f live unnamed n in
+    let (m, turns, k) = turns-state us (with_tables mid g) (with_naming (give_name u i s.naming) s) new fit rest in
+    (m, (l, (i, b, o, turns)), k)
+
+pub show-state : (us : List ℕ) (g : Summary) (s : State) (new : Tables) → SpacesFit (spaces g) s → ShowsBelow (length g.tables.kept) us g.tables new → (m : Naming) × AreAllShown us s.clauses s.naming m × SpacesFit (spaces (with_tables new g)) (with_naming m s)
+show-state us g s new f d =
+    all-shown us (with_tables new g) s (turns-state us g s new f d.in_turn) d.in_range
+    (λ x e. ⊎_elim (λ h. d.rest x h e) (λ h. let c = d.count in kept-past new.kept x (omega (arith, h, c))) (cases_lt x (length g.tables.kept)))
+
+-- 3. What a valid solver keeps.
+
+pub kept-after : {A : Type 0} (c : Context A) (old new : Tables) → IsKept old c → StaysKept old new → IsKept new c
+kept-after c old new k s = record {
+  bounded = s.bounded;
+  plain = s.plain k.plain;
+  ready = k.ready;
+  count = k.count ∙ ap (λ (m : BiMap). length m.backward) (sym s.solvers);
+  decidable = k.decidable;
+  assumed = λ l h. let (x, e) = some-of (at old.users.forward (variable_of l)) (k.assumed l h) in ap is_some (s.named (variable_of l) x e (k.marked l x h e)).0;
+  marked = λ l y h f.
+      let (x, e) = some-of (at old.users.forward (variable_of l)) (k.assumed l h) in
+      let (a, m) = s.named (variable_of l) x e (k.marked l x h e) in
+      let q : Some x ≡ Some y = sym a ∙ f in
+      let z : x ≡ y = cc in
+      subst (IsMarked new) z m;
+  working = λ l h. let (x, u, a, b, m) = k.working l h in let (n, i) = s.names x u b m in (x, u, ap (λ (m : BiMap). at m.backward (variable_of l)) s.solvers ∙ a, n, i);
+}

@@ -1,0 +1,42 @@
+use Rattle.std.proofs.Common.{◌++◌, ◌∷◌, [], sym, ◌∙◌, subst, ⊎_elim, take, arith}
+use Rattle.varisat_theory.specs.Membership.{◌∈◌}
+use Rattle.varisat_theory.specs.Literals.{variable_of}
+use Rattle.varisat_theory.proofs.Members.{∈-append_cases}
+use Rattle.varisat_names.specs.Variables.{IsNamed}
+use Rattle.varisat_prop.proofs.ReadElements.{item-∈}
+use Rattle.varisat.specs.Accepting.{CanBeNamed, AreNamedInTurn}
+use Rattle.varisat.proofs.NamedTables.{Leads, named-keeps-plain, named-leads, named-here, some-leads, leads-some, named-push, in-range, named-bounded}
+use Rattle.varisat.proofs.NamesComing.{split-again}
+use Rattle.varisat.proofs.ReadPlaces.{take-item, split-item}
+use Rattle.varisat.proofs.naming.name_vars.Goals as goal
+
+pub name_user_var-requires : goal.name_user_var-requires
+name_user_var-requires g c =
+    let i = item-∈ c.args.clause.now c.loop-lit.lit-index c.lit-item.result c.loop-lit-test.true c.lit-item.is in
+    let h = in-range c.args.clause.now c.lit-item.result c.requires.names.in_range i in
+    let n = c.loop-lit.invariant.names.bounded.globals in
+    let v = c.var.ensures in
+    omega (arith, h, n, v)
+
+pub loop-lit-preserved : goal.loop-lit-preserved
+loop-lit-preserved g c =
+    let l = c.lit-item.result in
+    let d = take c.loop-lit.lit-index c.args.clause.now in
+    let now = c.loop-lit.variables in
+    let new = c.name_user_var.new.self in
+    let r = c.loop-lit.invariant.names in
+    let t = take-item c.args.clause.now c.loop-lit.lit-index l c.loop-lit-test.true c.lit-item.is in
+    let (rest, s) = split-item c.args.clause.now c.loop-lit.lit-index l c.loop-lit-test.true c.lit-item.is in
+    let n = subst (λ v. IsNamed v now new) c.var.ensures c.in_ok-name_user_var.ensures.named in
+    let turn = named-push d c.args.variables.now now new l c.loop-lit.invariant.in_turn n in
+    record {
+      names = record {
+        plain = named-keeps-plain (variable_of l) now new n r.plain;
+        bounded = named-bounded (d ++ l ∷ []) rest c.args.variables.now new (subst (λ ls. CanBeNamed ls c.args.variables.now) (s ∙ split-again d l rest) c.requires.names) turn;
+        named = λ m k. ⊎_elim
+            (λ a. leads-some new (variable_of m) (named-leads (variable_of l) now new n (variable_of m) (some-leads now (variable_of m) (r.named m a))))
+            (λ a. ⊎_elim (λ q. leads-some new (variable_of m) (subst (λ z. Leads new (variable_of z)) (sym q) (named-here (variable_of l) now new n))) (λ z. absurd z) a)
+            (∈-append_cases m d (l ∷ []) (subst (λ ls. m ∈ ls) t k));
+      };
+      in_turn = subst (λ ls. AreNamedInTurn ls c.args.variables.now new) (sym t) turn;
+    }

@@ -1,0 +1,87 @@
+-- What the calls that set the mode of a variable, hide it, and bring hidden ones back do to the tables.
+use Rattle.std.specs.Prelude.{◌≡◌, ◌⊎◌, ℕ, ◌<◌, ◌≤◌, true, false, Some, None, List, [], ◌∷◌, ◌++◌, length, Result, Ok, Err}
+use Rattle.varisat_theory.specs.Membership.{◌∈◌}
+use Rattle.varisat_literals.specs.Numbers.{variable_limit}
+use Rattle.varisat_names.specs.VarMap.{at}
+use Rattle.varisat_names.specs.VarData.{kept_at}
+use Rattle.varisat_names.specs.Variables.{Tables, IsNamed, IsChangedTo, IsHidden, IsShown}
+use Rattle.varisat_names.specs.declared.variables.data.SamplingMode.{SamplingMode}
+use Rattle.varisat_names.specs.declared.variables.data.SamplingMode.TheVariants as sampling
+use Rattle.varisat.specs.Names.{name_one}
+use Rattle.varisat.specs.Calls.{IsCrowded}
+use Rattle.varisat.specs.Accepting.{IsPlain, AreBounded, naming_of}
+use Rattle.varisat.specs.declared.solver.SolverError.{SolverError}
+use Rattle.varisat.specs.declared.solver.SolverError.TheVariants.{VariableLimit, AssumedVar}
+
+-- the variable is marked as assumed
+abbrev pub IsMarked : Tables → ℕ → Type 0
+IsMarked t x = (kept_at t.kept x).assumed ≡ true
+
+-- the name is in use, and its variable is marked as assumed
+abbrev pub IsMarkedName : Tables → ℕ → Type 0
+IsMarkedName t u = (x : ℕ) × (at t.users.forward u ≡ Some x) × IsMarked t x
+
+-- The name may come into use, and its variable be changed: it is not assumed.
+pub record CanBeChanged (u : ℕ) (t : Tables) : Type 0 where
+  pub bounded : AreBounded t
+  pub in_range : u < variable_limit
+  pub room : IsCrowded (name_one u (naming_of t)) → ⊥
+  pub unassumed : IsMarkedName t u → ⊥
+
+-- What is found out of a name before its variable is changed.
+abbrev pub ChecksChange : Tables → ℕ → Result (Unit {0}) SolverError → Type 0
+ChecksChange t u (Ok _) = CanBeChanged u t
+ChecksChange t u (Err VariableLimit) = (variable_limit ≤ u) ⊎ IsCrowded (name_one u (naming_of t))
+ChecksChange t u (Err (AssumedVar v)) = (u < variable_limit) × (v ≡ u) × IsMarkedName t u
+ChecksChange t u (Err _) = ⊥
+
+-- What a valid solver keeps of its tables stays true. Variables that are marked as assumed keep their names and marks.
+pub record StaysKept (old new : Tables) : Type 0 where
+  pub bounded : AreBounded new
+  pub plain : IsPlain old → IsPlain new
+  pub solvers : new.solvers ≡ old.solvers
+  pub named : (u x : ℕ) → at old.users.forward u ≡ Some x → IsMarked old x → (at new.users.forward u ≡ Some x) × IsMarked new x
+  pub names : (x u : ℕ) → at old.users.backward x ≡ Some u → IsMarked old x → (at new.users.backward x ≡ Some u) × IsMarked new x
+
+-- The name was named, and leads to the variable, which is not assumed.
+pub record IsNamedAs (u : ℕ) (old new : Tables) (x : ℕ) : Type 0 where
+  pub named : IsNamed u old new
+  pub leads : at new.users.forward u ≡ Some x
+  pub live : (kept_at new.kept x).deleted ≡ false
+  pub unassumed : (kept_at new.kept x).assumed ≡ false
+  pub stays : StaysKept old new
+
+-- The name was named, and its variable has the mode.
+pub record SetsNamedMode (u : ℕ) (mode : SamplingMode) (old new : Tables) : Type 0 where
+  pub mid : Tables
+  pub global : ℕ
+  pub named : IsNamedAs u old mid global
+  pub changed : IsChangedTo mid new global (record (kept_at mid.kept global) { sampling_mode = mode })
+  pub stays : StaysKept old new
+
+-- The name was named, and is free.
+pub record HidesNamed (u : ℕ) (old new : Tables) : Type 0 where
+  pub mid : Tables
+  pub global : ℕ
+  pub named : IsNamedAs u old mid global
+  pub hidden : IsHidden mid new u global
+  pub stays : StaysKept old new
+
+-- Hidden variables came back as witnesses in turn, under these names.
+abbrev pub AreShownInTurn : List ℕ → Tables → Tables → Type 0
+AreShownInTurn [] old new = new ≡ old
+AreShownInTurn (u ∷ us) old new =
+    (mid : Tables) × (x : ℕ) × ((kept_at old.kept x).deleted ≡ false) × (at old.users.backward x ≡ None) × IsShown old mid x sampling.Witness u × AreShownInTurn us mid new
+
+-- The variables below n that were hidden came back under these names, and no other.
+pub record ShowsBelow (n : ℕ) (us : List ℕ) (old new : Tables) : Type 0 where
+  pub in_turn : AreShownInTurn us old new
+  pub in_range : (u : ℕ) → u ∈ us → u < variable_limit
+  pub rest : (x : ℕ) → x < n → at new.users.backward x ≡ None → (kept_at new.kept x).deleted ≡ true
+  pub count : length new.kept ≡ length old.kept
+  pub stays : StaysKept old new
+
+-- The variable came back, if it was hidden, and its name joined the list.
+pub data ShowsOne (x : ℕ) (us vs : List ℕ) (old new : Tables) : Type 0 where
+  Passed : (at old.users.backward x ≡ None → (kept_at old.kept x).deleted ≡ true) → new ≡ old → vs ≡ us → ShowsOne x us vs old new
+  Shown : (u : ℕ) → u < variable_limit → (kept_at old.kept x).deleted ≡ false → at old.users.backward x ≡ None → IsShown old new x sampling.Witness u → length new.kept ≡ length old.kept → StaysKept old new → vs ≡ us ++ u ∷ [] → ShowsOne x us vs old new

@@ -21,10 +21,10 @@ module _ (g : Summary) (s : State) (st : StandsFor g s) (valid : g.ledger.valid 
 
   pub clause-refused : s.verdict ≢ Unsat → (e : SolverError) → ChecksNames g.tables d (Err e) → AddsClause s d (Err e) s
   clause-refused n VariableLimit c = (stands-valid g s st valid, n, limit-passed c, refl)
-  clause-refused n (WitnessVar u) c = let (w, k) = st.fits valid in (stands-valid g s st valid, n, c.0, witness-state w g s k d u c.1, refl)
+  clause-refused n (WitnessVar u) c = let (w, k) = st.fits valid in (stands-valid g s st valid, n, c.0.in_range, witness-state w g s k d u c.1, refl)
   clause-refused n e c = absurd c
 
   pub list-refused : (e : SolverError) → ChecksNames g.tables d (Err e) → Assumes s d (Err e) s
   list-refused VariableLimit c = (stands-valid g s st valid, limit-passed c, refl)
-  list-refused (WitnessVar u) c = let (w, k) = st.fits valid in (stands-valid g s st valid, c.0, witness-state w g s k d u c.1, refl)
+  list-refused (WitnessVar u) c = let (w, k) = st.fits valid in (stands-valid g s st valid, c.0.in_range, witness-state w g s k d u c.1, refl)
   list-refused e c = absurd c

@@ -1,5 +1,5 @@
 -- Marks of isolation or of assumption are set, for one variable after another. All else in the tables stays.
-use Rattle.std.proofs.Common.{◌≡◌, ℕ, ◌<◌, Bool, true, false, Some, List, [], ◌∷◌, ◌++◌, ◌⊎◌, inl, inr, ⊎_elim, length, map, sym, ap, ◌∙◌, subst, refl, arith}
+use Rattle.std.proofs.Common.{◌≡◌, ◌≢◌, ℕ, ◌<◌, Bool, true, false, Some, List, [], ◌∷◌, ◌++◌, ◌⊎◌, inl, inr, ⊎_elim, length, map, sym, ap, ◌∙◌, subst, refl, arith}
 use Rattle.std.specs.Option.{IsSome}
 use Rattle.varisat_theory.specs.Membership.{◌∈◌}
 use Rattle.varisat_theory.specs.Literals.{Literal, variable_of}
@@ -11,7 +11,7 @@ use Rattle.varisat_names.specs.declared.variables.data.VarData.{VarData}
 use Rattle.varisat_names.specs.Maps.{chain}
 use Rattle.varisat_names.specs.VarBiMap.{BiMap}
 use Rattle.varisat_names.specs.Variables.{Tables, AreLinked, IsChangedTo}
-use Rattle.varisat_names.proofs.Maps.{updated-all, chain-through}
+use Rattle.varisat_names.proofs.Maps.{updated-all, updated-other, chain-through}
 use Rattle.varisat_names.proofs.Tables.{live-inside}
 use Rattle.varisat.specs.Carried.{carry}
 use Rattle.varisat.specs.Accepting.{IsPlain, AreBounded, HasNames, HasSolver, AreJoined, AreMarked, IsAssumedSolver}
@@ -89,18 +89,21 @@ pub record AreOpened (ls : List Literal) (old new : Tables) : Type 0 where
   pub rest : (x : ℕ) → kept_at new.kept x ≡ record (kept_at old.kept x) { isolated = (kept_at new.kept x).isolated }
   pub fallen : (x : ℕ) → (kept_at new.kept x).isolated ≡ true → (kept_at old.kept x).isolated ≡ true
   pub opened : (l : Literal) (x : ℕ) → l ∈ ls → at old.users.forward (variable_of l) ≡ Some x → (kept_at new.kept x).isolated ≡ false
+  pub others : (x : ℕ) → ((l : Literal) → l ∈ ls → at old.users.forward (variable_of l) ≢ Some x) → kept_at new.kept x ≡ kept_at old.kept x
 
 pub opened-none : (t : Tables) → AreOpened [] t t
-opened-none t = record { same = record { users = refl; solvers = refl; count = refl; deleted = λ x. refl; units = λ x. refl }; rest = λ x. refl; fallen = λ x e. e; opened = λ l x h. absurd h }
+opened-none t = record { same = record { users = refl; solvers = refl; count = refl; deleted = λ x. refl; units = λ x. refl }; rest = λ x. refl; fallen = λ x e. e; opened = λ l x h. absurd h; others = λ x n. refl }
 
 pub opened-more : (ls : List Literal) (old mid new : Tables) (l : Literal) (x : ℕ) → AreOpened ls old mid → at mid.users.forward (variable_of l) ≡ Some x → (kept_at mid.kept x).deleted ≡ false → IsChangedTo mid new x (record (kept_at mid.kept x) { isolated = false }) → AreOpened (ls ++ l ∷ []) old new
 opened-more ls old mid new l x o e live c =
-    let d = record (kept_at mid.kept x) { isolated = false } in
+    let d : VarData = record (kept_at mid.kept x) { isolated = false } in
+    let own = ap (λ t. at t.forward (variable_of l)) (sym o.same.users) ∙ e in
     record {
       same = same-more old mid new x d c o.same live refl refl;
       rest = rest-more old mid new x d c (λ y k. k ≡ record (kept_at old.kept y) { isolated = k.isolated }) o.rest (ap (λ (k : VarData). record k { isolated = false }) (o.rest x));
       fallen = rest-more old mid new x d c (λ y k. k.isolated ≡ true → (kept_at old.kept y).isolated ≡ true) o.fallen (λ z. absurd (let f : false ≡ true = z in cc));
-      opened = each-more old mid new x d c ls l (λ k. k.isolated ≡ false) o.opened (ap (λ t. at t.forward (variable_of l)) (sym o.same.users) ∙ e) refl;
+      opened = each-more old mid new x d c ls l (λ k. k.isolated ≡ false) o.opened own refl;
+      others = λ y n. c.kept.at_each y ∙ updated-other (kept_at mid.kept) x d y (λ q. n l (∈-append_right l ls (l ∷ []) (inl refl)) (own ∙ ap Some (sym q))) ∙ o.others y (λ k h. n k (∈-append_left k ls (l ∷ []) h));
     }
 
 -- 4. Assumption.

@@ -53,7 +53,7 @@ pub record CanBeNamed (clause : List Literal) (t : Tables) : Type 0 where
 abbrev pub ChecksNames : Tables → List Literal → Result (Unit {0}) SolverError → Type 0
 ChecksNames t d (Ok _) = CanBeNamed d t × NameNoWitness (naming_of t) d
 ChecksNames t d (Err VariableLimit) = IsPastLimit d ⊎ IsCrowded (name_all d (naming_of t))
-ChecksNames t d (Err (WitnessVar u)) = (IsPastLimit d → ⊥) × IsFirstWitness (naming_of t) d u
+ChecksNames t d (Err (WitnessVar u)) = CanBeNamed d t × IsFirstWitness (naming_of t) d u
 ChecksNames t d (Err _) = ⊥
 
 -- The names of the clause are in use.
@@ -84,7 +84,7 @@ pub record AreTakenFor (clause : List Literal) (old new : Tables) : Type 0 where
   pub in_turn : AreTakenInTurn globals old new
   pub all : (l : Literal) → l ∈ clause → HasSolver new (variable_of l)
 
--- A clause of several literals was accepted: its variables are not isolated any more, and nothing else changed.
+-- A clause was accepted: where it has several literals, its variables are not isolated any more, and nothing else changed.
 pub record AreJoined (clause : List Literal) (old new : Tables) : Type 0 where
   pub users : new.users ≡ old.users
   pub solvers : new.solvers ≡ old.solvers
@@ -92,6 +92,8 @@ pub record AreJoined (clause : List Literal) (old new : Tables) : Type 0 where
   pub rest : (x : ℕ) → kept_at new.kept x ≡ record (kept_at old.kept x) { isolated = (kept_at new.kept x).isolated }
   pub fallen : (x : ℕ) → (kept_at new.kept x).isolated ≡ true → (kept_at old.kept x).isolated ≡ true
   pub joined : 1 < length clause → (l : Literal) (x : ℕ) → l ∈ clause → at old.users.forward (variable_of l) ≡ Some x → (kept_at new.kept x).isolated ≡ false
+  pub others : (x : ℕ) → ((l : Literal) → l ∈ clause → at old.users.forward (variable_of l) ≢ Some x) → kept_at new.kept x ≡ kept_at old.kept x
+  pub alone : length clause ≤ 1 → new ≡ old
 
 -- The names of the list came into use, their variables took solver variables, the search has these, and the literals are the list over them.
 pub record AreBroughtIn {A : Type 0} (list : List Literal) (old new : Tables) (x y : Context A) (literals : List Literal) : Type 0 where

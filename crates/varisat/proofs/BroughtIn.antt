@@ -5,6 +5,7 @@ use Rattle.varisat_theory.specs.Membership.{◌∈◌}
 use Rattle.varisat_theory.specs.Literals.{Literal, variable_of}
 use Rattle.varisat_names.specs.VarBiMap.{BiMap}
 use Rattle.varisat_names.specs.VarMap.{at}
+use Rattle.varisat_names.proofs.Maps.{some-of}
 use Rattle.varisat_names.specs.VarData.{kept_at}
 use Rattle.varisat_names.specs.Variables.{Tables, AreLinked}
 use Rattle.varisat_search.specs.declared.context.Context.{Context}
@@ -13,7 +14,7 @@ use Rattle.varisat_search.specs.Decisions.{IsDecidable, AreDecidable, SameDecida
 use Rattle.varisat_search.proofs.DecidableVariables.{all-decidable}
 use Rattle.varisat.specs.Accepting.{AreBroughtIn, IsAssumedSolver}
 use Rattle.varisat.specs.Summaries.{IsKept}
-use Rattle.varisat.proofs.PlainTables.{is-there, there-is, names-keep, taken-users, assumed-keeps, assumed-taken, marked-keeps}
+use Rattle.varisat.proofs.PlainTables.{is-there, names-keep, taken-users, assumed-keeps, assumed-taken, marked-keeps}
 
 module _ {A : Type 0} {list : List Literal} {old new : Tables} {x y : Context A} {literals : List Literal} (k : IsKept old x) (b : AreBroughtIn list old new x y literals) where
   -- the variables of the literals are those of the search
@@ -35,7 +36,7 @@ module _ {A : Type 0} {list : List Literal} {old new : Tables} {x y : Context A}
   -- the assumptions before are over names in use
   pub still-named : (l : Literal) → l ∈ x.assumptions.user → IsSome (at new.users.forward (variable_of l))
   still-named l h =
-      let (y, e) = there-is (at old.users.forward (variable_of l)) (k.assumed l h) in
+      let (y, e) = some-of (at old.users.forward (variable_of l)) (k.assumed l h) in
       let users = (taken-users b.are_taken.globals b.named new b.are_taken.in_turn).0 in
       is-there (at new.users.forward (variable_of l)) y (ap (λ (m : BiMap). at m.forward (variable_of l)) users ∙ (names-keep list old b.named b.are_named).named (variable_of l) y e)
 
@@ -47,5 +48,5 @@ module _ {A : Type 0} {list : List Literal} {old new : Tables} {x y : Context A}
   pub still-marked : AreLinked old → (l : Literal) (z : ℕ) → l ∈ x.assumptions.user → at new.users.forward (variable_of l) ≡ Some z → (kept_at new.kept z).assumed ≡ true
   still-marked linked l z h f =
       let (users, kept) = taken-users b.are_taken.globals b.named new b.are_taken.in_turn in
-      let (y, e) = there-is (at old.users.forward (variable_of l)) (k.assumed l h) in
+      let (y, e) = some-of (at old.users.forward (variable_of l)) (k.assumed l h) in
       ap (λ ds. (kept_at ds z).assumed) kept ∙ marked-keeps old b.named (variable_of l) z y linked (names-keep list old b.named b.are_named) e (k.marked l y h e) (ap (λ (m : BiMap). at m.forward (variable_of l)) (sym users) ∙ f)

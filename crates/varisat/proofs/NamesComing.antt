@@ -28,7 +28,7 @@ next-watermark : (k : ℕ) (m : Naming) → (bring_next k m).watermark ≡ m.wat
 next-watermark zero m = omega arith
 next-watermark (suc k) m = let r = next-watermark k (bring m.watermark m) in omega (arith, r)
 
-next-made : (k : ℕ) (m : Naming) → (bring_next k m).made ≡ m.made + k
+pub next-made : (k : ℕ) (m : Naming) → (bring_next k m).made ≡ m.made + k
 next-made zero m = omega arith
 next-made (suc k) m = let r = next-made k (bring m.watermark m) in omega (arith, r)
 

@@ -1,19 +1,17 @@
 -- Names that come into use, where those in use are the ones below a count, in order.
 use Rattle.std.proofs.Common.{◌≡◌, ℕ, zero, suc, ◌+◌, ◌-◌, ◌*◌, ◌%◌, ◌<◌, ◌≤◌, nat_lt, max, if◌then◌else◌, false, List, [], ◌∷◌, ◌++◌, inl, inr, ⊎_elim, sym, ap, ◌∙◌, subst, refl, Some, map, arith, rules}
-use Rattle.std.proofs.lemmas.Bool.{lt-ltb, cases_lt, eq-eqb, ne_eqb}
+use Rattle.std.proofs.lemmas.Bool.{lt-ltb, cases_lt, eq-eqb}
 use Rattle.varisat_theory.specs.Membership.{◌∈◌}
 use Rattle.varisat_theory.specs.Literals.{Literal, variable_of}
 use Rattle.varisat_theory.proofs.Members.{equal_or_not}
 use Rattle.varisat_names.specs.Maps.{updated}
+use Rattle.varisat_names.proofs.Maps.{updated-other}
 use Rattle.varisat.specs.Names.{Naming, Sample, bring, bring_next, bring_if_free, name_one, name_all, identity_of, through_names, IsLeastFree, AreInOrder}
 use Rattle.varisat.specs.Counts.{count_with}
 
 -- 1. Which names are in use.
 updated-at : {X : Type 0} (f : ℕ → X) (k : ℕ) (v : X) (i : ℕ) → i ≡ k → updated f k v i ≡ v
 updated-at f k v i e = ap (λ b. if b then v else f i) (eq-eqb i k e)
-
-updated-other : {X : Type 0} (f : ℕ → X) (k : ℕ) (v : X) (i : ℕ) → (i ≡ k → ⊥) → updated f k v i ≡ f i
-updated-other f k v i n = ap (λ b. if b then v else f i) (ne_eqb i k n)
 
 fit-bring : (n : ℕ) (s : Naming) → AreInOrder n s → AreInOrder (suc n) (bring s.watermark s)
 fit-bring n s f = record {

@@ -17,10 +17,6 @@ use Rattle.varisat.proofs.AcceptSolverVariables.{few, below, below-count, ∈-be
 pub is-there : (o : Option ℕ) (v : ℕ) → o ≡ Some v → IsSome o
 is-there o v e = subst IsSome (sym e) refl
 
-pub there-is : (o : Option ℕ) → IsSome o → (v : ℕ) × (o ≡ Some v)
-there-is None h = absurd (let z : false ≡ true = h in cc)
-there-is (Some v) h = (v, refl)
-
 -- What stays as names come into use, for those that were in use and for the marks of their variables.
 pub record KeepsNames (old new : Tables) : Type 0 where
   pub solvers : new.solvers ≡ old.solvers
@@ -58,13 +54,10 @@ given-keeps old new u x free g = record {
     apart : (y : ℕ) → (kept_at old.kept y).deleted ≡ false → y ≡ x → ⊥
     apart y d q = let z : true ≡ false = sym g.unused.0 ∙ ap (λ v. (kept_at old.kept v).deleted) (sym q) ∙ d in cc
 
-past-none : (xs : List (Option ℕ)) (i : ℕ) → length xs ≤ i → at xs i ≡ None
-past-none xs i h = at-past xs i h
-
 pub next-keeps : (k : ℕ) (old new : Tables) → AreNextGiven k old new → KeepsNames old new
 next-keeps zero old new e = keeps-none old new e
 next-keeps (suc k) old new (mid, x, g, rest) =
-    keeps-then old mid new (given-keeps old mid (length old.users.forward) x (past-none old.users.forward (length old.users.forward) (omega arith)) g) (next-keeps k mid new rest)
+    keeps-then old mid new (given-keeps old mid (length old.users.forward) x (at-past old.users.forward (length old.users.forward) (omega arith)) g) (next-keeps k mid new rest)
 
 pub one-keeps : (u : ℕ) (old new : Tables) → IsNamed u old new → KeepsNames old new
 one-keeps u old new (InUse x e same) = keeps-none old new same
@@ -94,17 +87,13 @@ pub named-plain : (d : List Literal) (old new : Tables) → IsPlain old → AreN
 named-plain [] old new n e = subst IsPlain (sym e) n
 named-plain (l ∷ d) old new n (mid, g, rest) = named-plain d mid new (one-plain (variable_of l) old mid n g) rest
 
-pub named-push : (d : List Literal) (old mid new : Tables) (l : Literal) → AreNamedInTurn d old mid → IsNamed (variable_of l) mid new → AreNamedInTurn (d ++ l ∷ []) old new
-named-push [] old mid new l e g = (new, subst (λ t. IsNamed (variable_of l) t new) e g, refl)
-named-push (m ∷ d) old mid new l (t, h, rest) g = (t, h, named-push d t mid new l rest g)
-
 -- 2. Solver variables.
 
 taken-at : (old new : Tables) (x v : ℕ) → IsPlain old → IsTaken old new x v → v ≡ length old.solvers.backward
 taken-at old new x v n t =
     ⊎_elim
     (λ h. absurd (n.full v h t.least.0))
-    (λ h. ⊎_elim (λ e. e) (λ m. absurd (t.least.1 (length old.solvers.backward) (omega (arith, h, m)) (past-none old.solvers.backward (length old.solvers.backward) (omega arith)))) (equal_or_not v (length old.solvers.backward)))
+    (λ h. ⊎_elim (λ e. e) (λ m. absurd (t.least.1 (length old.solvers.backward) (omega (arith, h, m)) (at-past old.solvers.backward (length old.solvers.backward) (omega arith)))) (equal_or_not v (length old.solvers.backward)))
     (below-or v (length old.solvers.backward))
   where
     below-or : (u n : ℕ) → (u < n) ⊎ (n ≤ u)
@@ -201,10 +190,6 @@ for-none t = record { globals = []; named = λ x h. absurd h; in_turn = refl; al
 pub taken-grow : (xs : List ℕ) (old new : Tables) → AreTakenInTurn xs old new → length old.solvers.backward ≤ length new.solvers.backward
 taken-grow [] old new e = let q = ap (λ t. length t.solvers.backward) e in omega (arith, q)
 taken-grow (x ∷ xs) old new (mid, v, f, t, rest) = let a = taken-grow xs mid new rest in let b = t.solvers.backward.watermark in omega (arith, a, b)
-
-pub none-of : (o : Option ℕ) → is_some o ≡ false → o ≡ None
-none-of None e = refl
-none-of (Some x) e = absurd (let z : true ≡ false = e in cc)
 
 pub some-of-not : (o : Option ℕ) (b : Bool) → is_some o ≡ not b → b ≡ false → (v : ℕ) × (o ≡ Some v)
 some-of-not None b e f = absurd (let z : false ≡ true = e ∙ ap not f in cc)

@@ -13,75 +13,40 @@ use Rattle.varisat_names.specs.declared.variables.data.VarData.{VarData}
 use Rattle.varisat_names.specs.declared.variables.data.SamplingMode.{SamplingMode}
 use Rattle.varisat_names.specs.declared.variables.data.SamplingMode.TheVariants as sampling
 use Rattle.varisat_names.proofs.Maps.{updated-at, updated-other, updated-all, joined, is-some}
-use Rattle.varisat_names.proofs.VarMap.{at-inside, at-past}
-use Rattle.varisat_names.proofs.Linked.{give-users}
-use Rattle.varisat_names.proofs.Tables.{live-inside, named-inside, least-near}
-use Rattle.varisat.specs.Names.{Naming, bring, bring_next, bring_if_free, name_one}
+use Rattle.varisat_names.proofs.VarMap.{at-inside}
+use Rattle.varisat_names.proofs.Tables.{live-inside, named-inside}
+use Rattle.varisat.specs.Names.{Naming, bring_next, bring_if_free, name_one}
 use Rattle.varisat.specs.Accepting.{IsPlain, AreBounded, naming_of}
-use Rattle.varisat.specs.VariableChanges.{IsMarked, CanBeChanged, StaysKept, IsNamedAs, AreShownInTurn, ShowsBelow, ShowsOne, Passed, Shown}
+use Rattle.varisat.specs.VariableChanges.{IsMarkedAssumed, CanBeChanged, StaysKept, IsNamedAs, AreShownInTurn, ShowsBelow, ShowsOne, Passed, Shown}
 use Rattle.varisat.proofs.AcceptSolverVariables.{few, below, below-count, ∈-below}
+use Rattle.varisat.proofs.KeptCounts.{given-most}
+use Rattle.varisat.proofs.NamesComing.{next-made}
+use Rattle.varisat.proofs.PlainTables.{KeepsNames, given-keeps, next-keeps, given-plain, next-plain}
 
 -- 1. A name comes into use.
 
--- the tables stay linked
-pub given-linked : (old new : Tables) (u x : ℕ) → AreLinked old → at old.users.forward u ≡ None → IsGiven old new u x → AreLinked new
-given-linked old new u x l free g = subst (λ m. AreLinked (record new { solvers = m })) (sym g.solvers) (give-users old new.users new.kept u x fresh l refl g.unused.0 free g.users g.kept)
+-- those that are marked as assumed keep their names and marks
+module _ (old new : Tables) (l : AreLinked old) (k : KeepsNames old new) where
+  pub kept-named : (v y : ℕ) → at old.users.forward v ≡ Some y → IsMarkedAssumed old y → (at new.users.forward v ≡ Some y) × IsMarkedAssumed new y
+  kept-named v y e m = (k.named v y e, ap (λ d. d.assumed) (k.live y (l.named y v (l.users.there v y e))) ∙ m)
 
-given-plain : (old new : Tables) (u x : ℕ) → IsGiven old new u x → IsPlain old → IsPlain new
-given-plain old new u x g n = record {
-  full = subst (λ m. IsFull m.backward) (sym g.solvers) n.full;
-  no_units = λ y. ap (λ d. d.unit) (g.kept.at_each y) ∙ updated-all (λ y d. d.unit ≡ None) (kept_at old.kept) x fresh refl y (λ m. n.no_units y);
-}
+  pub kept-names : (y v : ℕ) → at old.users.backward y ≡ Some v → IsMarkedAssumed old y → (at new.users.backward y ≡ Some v) × IsMarkedAssumed new y
+  kept-names y v e m = let live = l.named y v e in (k.back y v e live, ap (λ d. d.assumed) (k.live y live) ∙ m)
 
-module _ (old new : Tables) (u x : ℕ) (l : AreLinked old) (free : at old.users.forward u ≡ None) (g : IsGiven old new u x) where
-  -- a variable with a name is another one
-  other : (y v : ℕ) → at old.users.backward y ≡ Some v → y ≡ x → ⊥
-  other y v e q = let z : true ≡ false = sym g.unused.0 ∙ ap (λ y. (kept_at old.kept y).deleted) (sym q) ∙ l.named y v e in cc
+-- How many names and variables there are once k names came into use in turn.
+record HasGiven (k : ℕ) (old new : Tables) : Type 0 where
+  users : length new.users.forward ≡ length old.users.forward + k
+  count : length new.kept ≤ length old.kept + k
 
-  kept-mark : (y v : ℕ) → at old.users.backward y ≡ Some v → IsMarked old y → IsMarked new y
-  kept-mark y v e m = ap (λ d. d.assumed) (g.kept.at_each y ∙ updated-other (kept_at old.kept) x fresh y (other y v e)) ∙ m
-
-  pub given-named : (v y : ℕ) → at old.users.forward v ≡ Some y → IsMarked old y → (at new.users.forward v ≡ Some y) × IsMarked new y
-  given-named v y e m = (
-    g.users.forward.at_each v ∙ updated-other (at old.users.forward) u (Some x) v (λ q. let z : None ≡ Some y = sym free ∙ ap (at old.users.forward) (sym q) ∙ e in cc) ∙ e,
-    kept-mark y v (l.users.there v y e) m,
-  )
-
-  pub given-names : (y v : ℕ) → at old.users.backward y ≡ Some v → IsMarked old y → (at new.users.backward y ≡ Some v) × IsMarked new y
-  given-names y v e m = (g.users.backward.at_each y ∙ updated-other (at old.users.backward) x (Some u) y (other y v e) ∙ e, kept-mark y v e m)
-
-pub given-count : (old new : Tables) (u x : ℕ) → IsGiven old new u x → length new.kept ≤ length old.kept + 1
-given-count old new u x g = let a = least-near old.kept x g.unused in let b = g.kept.count in omega (arith, a, b)
-
--- What k names that came into use in turn left.
-pub record HasGiven (k : ℕ) (old new : Tables) : Type 0 where
-  pub linked : AreLinked new
-  pub plain : IsPlain old → IsPlain new
-  pub solvers : new.solvers ≡ old.solvers
-  pub users : length new.users.forward ≡ length old.users.forward + k
-  pub count : length new.kept ≤ length old.kept + k
-  pub named : (v y : ℕ) → at old.users.forward v ≡ Some y → IsMarked old y → (at new.users.forward v ≡ Some y) × IsMarked new y
-  pub names : (y v : ℕ) → at old.users.backward y ≡ Some v → IsMarked old y → (at new.users.backward y ≡ Some v) × IsMarked new y
-
-pub next-given : (k : ℕ) (old new : Tables) → AreLinked old → AreNextGiven k old new → HasGiven k old new
-next-given zero old new l e = subst (λ t. HasGiven 0 old t) (sym e) (record { linked = l; plain = λ n. n; solvers = refl; users = omega arith; count = omega arith; named = λ v y a m. (a, m); names = λ y v a m. (a, m) })
-next-given (suc k) old new l (mid, x, g, rest) =
-    let u = length old.users.forward in
-    let free = at-past old.users.forward u (omega arith) in
-    let h = next-given k mid new (given-linked old mid u x l free g) rest in
+next-given : (k : ℕ) (old new : Tables) → AreNextGiven k old new → HasGiven k old new
+next-given zero old new e = subst (λ t. HasGiven 0 old t) (sym e) (record { users = omega arith; count = omega arith })
+next-given (suc k) old new (mid, x, g, rest) =
+    let h = next-given k mid new rest in
     let a = g.users.forward.watermark in
-    let b = given-count old mid u x g in
+    let b = given-most old mid (length old.users.forward) x g in
     let c = h.users in
     let d = h.count in
-    record {
-      linked = h.linked;
-      plain = λ n. h.plain (given-plain old mid u x g n);
-      solvers = h.solvers ∙ g.solvers;
-      users = omega (arith, a, c);
-      count = omega (arith, b, d);
-      named = λ v y e m. let (f, n) = given-named old mid u x l free g v y e m in h.named v y f n;
-      names = λ y v e m. let (f, n) = given-names old mid u x l free g y v e m in h.names y v f n;
-    }
+    record { users = omega (arith, a, c); count = omega (arith, b, d) }
 
 -- the last of them leads to a new variable
 pub next-last : (k : ℕ) (old new : Tables) → AreNextGiven (suc k) old new → (x : ℕ) × (at new.users.forward (length old.users.forward + k) ≡ Some x) × (kept_at new.kept x ≡ fresh)
@@ -96,13 +61,9 @@ next-last (suc k) old new (mid, x, g, rest) =
 
 -- 2. The room for it.
 
-pub made-next : (k : ℕ) (m : Naming) → (bring_next k m).made ≡ m.made + k
-made-next zero m = omega arith
-made-next (suc k) m = let e = made-next k (bring m.watermark m) in omega (arith, e)
-
 pub made-above : (u : ℕ) (m : Naming) → m.watermark ≤ u → (name_one u m).made ≡ m.made + (u + 1 - m.watermark)
 made-above u m h =
-    ap (λ b. (if b then bring_if_free u (m.names u) m else bring_next (suc u - m.watermark) m).made) (not-below u m.watermark h) ∙ made-next (suc u - m.watermark) m ∙ ap (λ k. m.made + k) (let z : suc u - m.watermark ≡ u + 1 - m.watermark = omega arith in z)
+    ap (λ b. (if b then bring_if_free u (m.names u) m else bring_next (suc u - m.watermark) m).made) (not-below u m.watermark h) ∙ next-made (suc u - m.watermark) m ∙ ap (λ k. m.made + k) (let z : suc u - m.watermark ≡ u + 1 - m.watermark = omega arith in z)
   where
     not-below : (a b : ℕ) → b ≤ a → nat_lt a b ≡ false
     not-below a b h = search (rules, h)
@@ -118,16 +79,17 @@ fresh-as u x old new e f n s = record { named = n; leads = e; live = ap (λ d. d
 given-as : (u x : ℕ) (old new : Tables) → AreLinked old → CanBeChanged u old → u < length old.users.forward → at old.users.forward u ≡ None → IsGiven old new u x → IsNamedAs u old new x
 given-as u x old new l c h free g =
     let a = g.users.forward.watermark in
-    let b = given-count old new u x g in
+    let b = given-most old new u x g in
+    let k = given-keeps old new u x free g in
     let m = made-free u (naming_of old) h free in
     let w = c.bounded.users in
     let room : length old.kept + 1 ≤ variable_limit = ⊎_elim (λ q. absurd (c.room (subst (λ n. variable_limit < n) (sym m) q))) (λ q. q) (cases_lt variable_limit (length old.kept + 1)) in
     fresh-as u x old new (g.users.forward.at_each u ∙ updated-at (at old.users.forward) u (Some x)) (g.kept.at_each x ∙ updated-at (kept_at old.kept) x fresh) (Free x h free g) (record {
       bounded = record { users = omega (arith, a, h, w); globals = omega (arith, b, room) };
-      plain = given-plain old new u x g;
+      plain = λ n. given-plain old new u x n g;
       solvers = g.solvers;
-      named = given-named old new u x l free g;
-      names = given-names old new u x l free g;
+      named = kept-named old new l k;
+      names = kept-names old new l k;
     })
 
 above-as : (u : ℕ) (old new : Tables) → AreLinked old → CanBeChanged u old → length old.users.forward ≤ u → AreNextGiven (u + 1 - length old.users.forward) old new → (x : ℕ) × IsNamedAs u old new x
@@ -136,7 +98,8 @@ above-as u old new l c h n =
     let k = u - w in
     let q : u + 1 - w ≡ suc k = omega (arith, h) in
     let p : w + k ≡ u = omega (arith, h) in
-    let g = next-given (u + 1 - w) old new l n in
+    let g = next-given (u + 1 - w) old new n in
+    let y = next-keeps (u + 1 - w) old new n in
     let (x, e, f) = next-last k old new (subst (λ i. AreNextGiven i old new) q n) in
     let m = made-above u (naming_of old) h in
     let b = c.in_range in
@@ -146,10 +109,10 @@ above-as u old new l c h n =
       x,
       fresh-as u x old new (ap (at new.users.forward) (sym p) ∙ e) f (Above h n) (record {
         bounded = record { users = omega (arith, a, b, h); globals = omega (arith, d, room) };
-        plain = g.plain;
-        solvers = g.solvers;
-        named = g.named;
-        names = g.names;
+        plain = λ p. next-plain (u + 1 - w) old new p n;
+        solvers = y.solvers;
+        named = kept-named old new l y;
+        names = kept-names old new l y;
       }),
     )
 
@@ -208,7 +171,7 @@ mode-stays mid new x mode b live c =
     let w = ap (λ t. length t.users.forward) c.rest in
     let v = b.users in
     let g = b.globals in
-    let mark : (y : ℕ) → IsMarked mid y → IsMarked new y = (λ y m. ap (λ d. d.assumed) (c.kept.at_each y) ∙ updated-all (λ y e. (kept_at mid.kept y).assumed ≡ true → e.assumed ≡ true) (kept_at mid.kept) x d (λ m. m) y (λ _ m. m) m) in
+    let mark : (y : ℕ) → IsMarkedAssumed mid y → IsMarkedAssumed new y = (λ y m. ap (λ d. d.assumed) (c.kept.at_each y) ∙ updated-all (λ y e. (kept_at mid.kept y).assumed ≡ true → e.assumed ≡ true) (kept_at mid.kept) x d (λ m. m) y (λ _ m. m) m) in
     record {
       bounded = record { users = omega (arith, w, v); globals = omega (arith, n, h, g) };
       plain = λ p. record {
@@ -238,8 +201,8 @@ hidden-stays mid new u x l b e unmarked n =
     let w = n.users.forward.watermark in
     let v = b.users in
     let g = b.globals in
-    let other : (y : ℕ) → IsMarked mid y → y ≡ x → ⊥ = (λ y m q. let z : true ≡ false = sym m ∙ ap (λ y. (kept_at mid.kept y).assumed) q ∙ unmarked in cc) in
-    let mark : (y : ℕ) → IsMarked mid y → IsMarked new y = (λ y m. ap (λ d. d.assumed) (n.kept.at_each y ∙ updated-other (kept_at mid.kept) x d y (other y m)) ∙ m) in
+    let other : (y : ℕ) → IsMarkedAssumed mid y → y ≡ x → ⊥ = (λ y m q. let z : true ≡ false = sym m ∙ ap (λ y. (kept_at mid.kept y).assumed) q ∙ unmarked in cc) in
+    let mark : (y : ℕ) → IsMarkedAssumed mid y → IsMarkedAssumed new y = (λ y m. ap (λ d. d.assumed) (n.kept.at_each y ∙ updated-other (kept_at mid.kept) x d y (other y m)) ∙ m) in
     record {
       bounded = record { users = omega (arith, w, v, i); globals = omega (arith, c, h, g) };
       plain = λ p. record {
@@ -291,7 +254,7 @@ shown-stays mid new x u l b live unnamed n =
     let w = n.users.forward.watermark in
     let v = b.users in
     let g = b.globals in
-    let mark : (y : ℕ) → IsMarked mid y → IsMarked new y = (λ y m. ap (λ d. d.assumed) (n.kept.at_each y) ∙ updated-all (λ y e. (kept_at mid.kept y).assumed ≡ true → e.assumed ≡ true) (kept_at mid.kept) x d (λ m. m) y (λ _ m. m) m) in
+    let mark : (y : ℕ) → IsMarkedAssumed mid y → IsMarkedAssumed new y = (λ y m. ap (λ d. d.assumed) (n.kept.at_each y) ∙ updated-all (λ y e. (kept_at mid.kept y).assumed ≡ true → e.assumed ≡ true) (kept_at mid.kept) x d (λ m. m) y (λ _ m. m) m) in
     record {
       bounded = record { users = omega (arith, w, v, near, g); globals = omega (arith, c, h, g) };
       plain = λ p. record {

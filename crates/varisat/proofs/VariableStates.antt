@@ -16,7 +16,7 @@ use Rattle.varisat.specs.Names.{Mode, Naming, name_one, give_name}
 use Rattle.varisat.specs.Calls.{IsValid, IsCrowded, with_naming}
 use Rattle.varisat.specs.Usage.{AreAllShown, ChangesVar, SetsMode, name_var}
 use Rattle.varisat.specs.VariableCalls.{named, IsAssumed, with_mode, hide_name}
-use Rattle.varisat.specs.VariableChanges.{IsMarked, IsMarkedName, ChecksChange, StaysKept, SetsNamedMode, HidesNamed, AreShownInTurn, ShowsBelow}
+use Rattle.varisat.specs.VariableChanges.{IsMarkedAssumed, IsMarkedName, ChecksChange, StaysKept, SetsNamedMode, HidesNamed, AreShownInTurn, ShowsBelow}
 use Rattle.varisat.specs.Accepting.{naming_of}
 use Rattle.varisat.specs.Spaces.{Carrying, ModeFits, Links, SpacesFit}
 use Rattle.varisat.specs.Summaries.{Summary, IsKept, spaces}
@@ -97,6 +97,6 @@ kept-after c old new k s = record {
       let (a, m) = s.named (variable_of l) x e (k.marked l x h e) in
       let q : Some x ≡ Some y = sym a ∙ f in
       let z : x ≡ y = cc in
-      subst (IsMarked new) z m;
+      subst (IsMarkedAssumed new) z m;
   working = λ l h. let (x, u, a, b, m) = k.working l h in let (n, i) = s.names x u b m in (x, u, ap (λ (m : BiMap). at m.backward (variable_of l)) s.solvers ∙ a, n, i);
 }

@@ -14,12 +14,12 @@ use Rattle.varisat.specs.declared.solver.SolverError.{SolverError}
 use Rattle.varisat.specs.declared.solver.SolverError.TheVariants.{VariableLimit, AssumedVar}
 
 -- the variable is marked as assumed
-abbrev pub IsMarked : Tables → ℕ → Type 0
-IsMarked t x = (kept_at t.kept x).assumed ≡ true
+abbrev pub IsMarkedAssumed : Tables → ℕ → Type 0
+IsMarkedAssumed t x = (kept_at t.kept x).assumed ≡ true
 
 -- the name is in use, and its variable is marked as assumed
 abbrev pub IsMarkedName : Tables → ℕ → Type 0
-IsMarkedName t u = (x : ℕ) × (at t.users.forward u ≡ Some x) × IsMarked t x
+IsMarkedName t u = (x : ℕ) × (at t.users.forward u ≡ Some x) × IsMarkedAssumed t x
 
 -- The name may come into use, and its variable be changed: it is not assumed.
 pub record CanBeChanged (u : ℕ) (t : Tables) : Type 0 where
@@ -40,8 +40,8 @@ pub record StaysKept (old new : Tables) : Type 0 where
   pub bounded : AreBounded new
   pub plain : IsPlain old → IsPlain new
   pub solvers : new.solvers ≡ old.solvers
-  pub named : (u x : ℕ) → at old.users.forward u ≡ Some x → IsMarked old x → (at new.users.forward u ≡ Some x) × IsMarked new x
-  pub names : (x u : ℕ) → at old.users.backward x ≡ Some u → IsMarked old x → (at new.users.backward x ≡ Some u) × IsMarked new x
+  pub named : (u x : ℕ) → at old.users.forward u ≡ Some x → IsMarkedAssumed old x → (at new.users.forward u ≡ Some x) × IsMarkedAssumed new x
+  pub names : (x u : ℕ) → at old.users.backward x ≡ Some u → IsMarkedAssumed old x → (at new.users.backward x ≡ Some u) × IsMarkedAssumed new x
 
 -- The name was named, and leads to the variable, which is not assumed.
 pub record IsNamedAs (u : ℕ) (old new : Tables) (x : ℕ) : Type 0 where

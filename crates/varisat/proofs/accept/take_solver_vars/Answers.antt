@@ -1,9 +1,10 @@
 use Rattle.std.proofs.Common.{◌≡◌, ◌+◌, ◌++◌, ◌∷◌, [], None, sym, ap, ◌∙◌, subst, take, arith}
 use Rattle.varisat_names.specs.VarMap.{at}
+use Rattle.varisat_names.proofs.Maps.{is_none-none}
 use Rattle.varisat_prop.proofs.ReadElements.{item-∈}
 use Rattle.varisat.specs.Accepting.{AreTakenFor}
 use Rattle.varisat.proofs.ReadPlaces.{take-item}
-use Rattle.varisat.proofs.PlainTables.{names-taken, solvers-within, taken-users, for-none, for-taken, for-kept, none-of, some-of-not}
+use Rattle.varisat.proofs.PlainTables.{names-taken, solvers-within, taken-users, for-none, for-taken, for-kept, some-of-not}
 use Rattle.varisat.proofs.TableMarks.{one-named}
 use Rattle.varisat.proofs.accept.take_solver_vars.Goals.{then-is_none+in_ok-take_solver_var, else-is_none}
 use Rattle.varisat.proofs.accept.take_solver_vars.Goals as goal
@@ -38,7 +39,7 @@ loop-lit-preserved g c =
     let got : c.get.result ≡ at mid.solvers.forward x = c.get.ensures ∙ ap (λ m. at m x) c.solver_from_global.ensures in
     elim c.if-is_none.branch [
       | then-is_none+in_ok-take_solver_var w ↦
-          let n : at mid.solvers.forward x ≡ None = sym got ∙ none-of c.get.result (w.if-is_none.ensures {u = tt}) in
+          let n : at mid.solvers.forward x ≡ None = sym got ∙ is_none-none c.get.result (w.if-is_none.ensures {u = tt}) in
           let new = w.take_solver_var.new.self in
           subst (λ m. AreTakenFor (take (c.loop-lit.lit-index + 1) c.args.clause.now) old m) (sym w.variables-is) (subst (λ ls. AreTakenFor ls old new) (sym t) (for-taken d l old mid new x w.in_ok-take_solver_var.field-0 r users e n w.in_ok-take_solver_var.ensures.taken))
       | else-is_none w ↦

@@ -2,11 +2,14 @@ use Rattle.std.proofs.Common.{◌++◌, ◌∷◌, [], sym, ◌∙◌, subst, �
 use Rattle.varisat_theory.specs.Membership.{◌∈◌}
 use Rattle.varisat_theory.specs.Literals.{variable_of}
 use Rattle.varisat_theory.proofs.Members.{∈-append_cases}
+use Rattle.varisat_names.specs.VarMap.{at}
 use Rattle.varisat_names.specs.Variables.{IsNamed}
+use Rattle.varisat_names.proofs.Maps.{some-of}
 use Rattle.varisat_prop.proofs.ReadElements.{item-∈}
 use Rattle.varisat.specs.Accepting.{CanBeNamed, AreNamedInTurn}
-use Rattle.varisat.proofs.NamedTables.{Leads, named-keeps-plain, named-leads, named-here, some-leads, leads-some, named-push, in-range, named-bounded}
+use Rattle.varisat.proofs.NamedTables.{Leads, named-leads, named-here, leads-some, named-push, in-range, named-bounded}
 use Rattle.varisat.proofs.NamesComing.{split-again}
+use Rattle.varisat.proofs.PlainTables.{one-plain}
 use Rattle.varisat.proofs.ReadPlaces.{take-item, split-item}
 use Rattle.varisat.proofs.naming.name_vars.Goals as goal
 
@@ -31,10 +34,10 @@ loop-lit-preserved g c =
     let turn = named-push d c.args.variables.now now new l c.loop-lit.invariant.in_turn n in
     record {
       names = record {
-        plain = named-keeps-plain (variable_of l) now new n r.plain;
+        plain = one-plain (variable_of l) now new r.plain n;
         bounded = named-bounded (d ++ l ∷ []) rest c.args.variables.now new (subst (λ ls. CanBeNamed ls c.args.variables.now) (s ∙ split-again d l rest) c.requires.names) turn;
         named = λ m k. ⊎_elim
-            (λ a. leads-some new (variable_of m) (named-leads (variable_of l) now new n (variable_of m) (some-leads now (variable_of m) (r.named m a))))
+            (λ a. leads-some new (variable_of m) (named-leads (variable_of l) now new n (variable_of m) (some-of (at now.users.forward (variable_of m)) (r.named m a))))
             (λ a. ⊎_elim (λ q. leads-some new (variable_of m) (subst (λ z. Leads new (variable_of z)) (sym q) (named-here (variable_of l) now new n))) (λ z. absurd z) a)
             (∈-append_cases m d (l ∷ []) (subst (λ ls. m ∈ ls) t k));
       };

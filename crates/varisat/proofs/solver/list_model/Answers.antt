@@ -5,11 +5,10 @@ use Rattle.varisat_theory.specs.Literals.{Assignment, literal_of}
 use Rattle.varisat_prop.specs.Parts.{is_true_value}
 use Rattle.varisat_names.specs.VarMap.{at}
 use Rattle.varisat_names.specs.VarData.{kept_at}
-use Rattle.varisat_names.proofs.Maps.{some-of}
+use Rattle.varisat_names.proofs.Maps.{some-of, is_none-none}
 use Rattle.varisat.specs.Models.{put_name}
 use Rattle.varisat.specs.Carried.{value_or}
 use Rattle.varisat.specs.Summaries.{list_tables}
-use Rattle.varisat.proofs.PlainTables.{none-of}
 use Rattle.varisat.proofs.SolverCalls.{tables-push}
 use Rattle.varisat.proofs.solver.list_model.Goals.{then-is_some+in_ok-push, else-is_some}
 use Rattle.varisat.proofs.solver.list_model.Goals as goal
@@ -34,6 +33,6 @@ loop-index-preserved g c =
           let v : w.model_value.result ≡ m x = subst (λ o. MatchOption o ⊥ (λ x. w.model_value.result ≡ m x)) (ap (at t.users.forward) c.from_index-user.ensures ∙ at-i) w.model_value.ensures in
           ap (λ l. l.items) w.list-is ∙ w.in_ok-push.ensures.items ∙ ap₂ (λ xs y. xs ++ y ∷ []) c.loop-index.invariant (w.lit.ensures ∙ ap₂ literal_of c.from_index-user.ensures v) ∙ ap (λ o. list_tables t vs 0 i ++ put_name i o m []) (sym at-i) ∙ sym next
       | else-is_some w ↦
-          let n : at t.users.forward i ≡ None = sym got ∙ none-of c.get.result (sym c.is_some.ensures ∙ w.if-is_some.false) in
+          let n : at t.users.forward i ≡ None = sym got ∙ is_none-none c.get.result (sym c.is_some.ensures ∙ w.if-is_some.false) in
           ap (λ l. l.items) w.list-is ∙ c.loop-index.invariant ∙ sym (append-nil (list_tables t vs 0 i)) ∙ ap (λ o. list_tables t vs 0 i ++ put_name i o m []) (sym n) ∙ sym next
     ]

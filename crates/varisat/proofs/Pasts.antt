@@ -1,5 +1,6 @@
 -- What the calls and answers so far say of the state that a solver is in: each call moves both alike.
 use Rattle.std.proofs.Common.{◌≡◌, ◌≢◌, ℕ, zero, suc, ◌<◌, ◌≤◌, ◌-◌, nat_lt, if◌then◌else◌, Bool, true, false, not, List, [], ◌∷◌, ◌++◌, ◌⊎◌, inl, inr, ⊎_elim, sym, ap, ◌∙◌, subst, refl, Option, Some, None, Result, Ok, Err, map, arith, length}
+use Rattle.std.proofs.lemmas.Bool.{not-true, false_from_ne_true}
 use Rattle.std.specs.declared.alloc.AllocError.{AllocError}
 use Rattle.varisat_theory.specs.Membership.{◌∈◌}
 use Rattle.varisat_theory.specs.Literals.{Literal, Clause, Assignment, variable_of, SatisfiesAll, MakesTrue, IsSatisfiable, IsSatisfiableWith, IsFailedCore}
@@ -373,17 +374,13 @@ solved p s t b g k r =
         counted = e.counted ∙ k.counted;
         model = λ x. r.answer ∙ ap Some x;
         found = λ x. told b (sym r.answer ∙ x);
-        failed = λ x. r.answer ∙ ap Some (no-model-then b x);
+        failed = λ x. r.answer ∙ ap Some (not-true b x);
         right = r.right;
       };
     }
   where
     told : (b : Bool) → Some b ≡ Some true → b ≡ true
     told b e = cc
-
-    no-model-then : (b : Bool) → not b ≡ true → b ≡ false
-    no-model-then true e = absurd cc
-    no-model-then false e = refl
 
 -- the steps of a call under the verdict Unknown
 counts : (p : Past) (s t : State) (r : Result Bool SolverError) → Agrees p s → Knows p s → state.CountsCall s r t → CountsSteps (length p.counted) p.settings.max_steps p.steps t.ledger.steps r
@@ -392,16 +389,12 @@ counts p s t r g k c =
     (subst (λ (x : Settings). CountsSteps (length s.counted) x.max_steps p.steps t.ledger.steps r) g.settings
     (subst (λ x. CountsSteps (length s.counted) s.ledger.settings.max_steps x t.ledger.steps r) g.steps c))
 
-not-true : (b : Bool) → (b ≡ true → ⊥) → b ≡ false
-not-true true n = absurd (n refl)
-not-true false n = refl
-
 -- neither a model nor a core was found last where the verdict is unknown
 no-model-yet : (p : Past) (s : State) → Knows p s → s.verdict ≡ Unknown → p.has_model ≡ false
-no-model-yet p s k u = not-true p.has_model (λ e. let z : None ≡ Some true = ap answer_of (sym u) ∙ k.model e in cc)
+no-model-yet p s k u = false_from_ne_true p.has_model (λ e. let z : None ≡ Some true = ap answer_of (sym u) ∙ k.model e in cc)
 
 no-core-yet : (p : Past) (s : State) → Knows p s → s.verdict ≡ Unknown → p.has_core ≡ false
-no-core-yet p s k u = not-true p.has_core (λ e. let z : None ≡ Some false = ap answer_of (sym u) ∙ k.failed e in cc)
+no-core-yet p s k u = false_from_ne_true p.has_core (λ e. let z : None ≡ Some false = ap answer_of (sym u) ∙ k.failed e in cc)
 
 few-steps : (p : Past) (s t : State) (b : Bool) → Agrees p s → Knows p s → state.TellsVerdict s b t → MakesFewSteps p b (record p { has_model = b; has_core = not b; steps = t.ledger.steps })
 few-steps p s t b g k r =
@@ -533,7 +526,7 @@ tell-model p s t (Ok (Some m)) g (inl (v, e), same) =
 tell-model p s t (Ok (Some m)) g (inr (v, e), same) = absurd cc
 tell-model p s t (Ok None) g (inl (v, e), same) =
     let k = g.knows (sym g.valid ∙ v) in
-    (p, ((λ _. not-true p.has_model (λ h. no-model s.naming s.verdict e (k.model h))), refl), stays p s t same g)
+    (p, ((λ _. false_from_ne_true p.has_model (λ h. no-model s.naming s.verdict e (k.model h))), refl), stays p s t same g)
 tell-model p s t (Ok None) g (inr (v, e), same) = (p, ((λ w. absurd (false-true p.valid (sym g.valid ∙ v) w)), refl), stays p s t same g)
 tell-model p s t (Err e) g (v, x, same) =
     let w = sym g.valid ∙ v in (p, (w, (g.knows w).found x, refl), stays p s t same g)
@@ -548,7 +541,7 @@ failed-core p s core k e =
 
 -- where the answer is false no model was found last
 no-model-false : (p : Past) (s : State) → Knows p s → answer_of s.verdict ≡ Some false → p.has_model ≡ false
-no-model-false p s k a = not-true p.has_model (λ h. let z : Some false ≡ Some true = sym a ∙ k.model h in let y : false ≡ true = cc in cc)
+no-model-false p s k a = false_from_ne_true p.has_model (λ h. let z : Some false ≡ Some true = sym a ∙ k.model h in let y : false ≡ true = cc in cc)
 
 pub tell-core : (p : Past) (s t : State) (r : Result (Option (List Literal)) AllocError) → Agrees p s → state.TellsCore s r t → Leads (past.TellsCore p r) t
 tell-core p s t (Ok (Some core)) g (inl (v, e), same) =
@@ -559,7 +552,7 @@ tell-core p s t (Ok (Some core)) g (inl (v, e), same) =
 tell-core p s t (Ok (Some core)) g (inr (v, e), same) = absurd cc
 tell-core p s t (Ok None) g (inl (v, e), same) =
     let k = g.knows (sym g.valid ∙ v) in
-    (p, ((λ _. not-true p.has_core (λ h. no-core s.verdict e (k.failed h))), refl), stays p s t same g)
+    (p, ((λ _. false_from_ne_true p.has_core (λ h. no-core s.verdict e (k.failed h))), refl), stays p s t same g)
 tell-core p s t (Ok None) g (inr (v, e), same) = (p, ((λ w. absurd (false-true p.valid (sym g.valid ∙ v) w)), refl), stays p s t same g)
 tell-core p s t (Err e) g (v, x, same) =
     let w = sym g.valid ∙ v in (p, (w, no-model-false p s (g.knows w) x, refl), stays p s t same g)

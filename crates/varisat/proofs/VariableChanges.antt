@@ -1,6 +1,6 @@
 -- What the calls keep of the tables that set the mode of a variable, hide it, and bring hidden ones back.
 use Rattle.std.proofs.Common.{◌≡◌, ℕ, zero, suc, ◌+◌, ◌-◌, ◌<◌, ◌≤◌, nat_lt, if◌then◌else◌, Bool, true, false, Option, Some, None, List, [], ◌∷◌, ◌++◌, ⊎_elim, length, sym, ap, ◌∙◌, subst, refl, arith, rules}
-use Rattle.std.proofs.lemmas.Bool.{lt-ltb, cases_lt}
+use Rattle.std.proofs.lemmas.Bool.{lt-ltb, cases_lt, false_from_ne_true}
 use Rattle.std.specs.Option.{is_some, IsSome}
 use Rattle.varisat_theory.specs.Membership.{◌∈◌}
 use Rattle.varisat_theory.proofs.Members.{equal_or_not, ∈-append_cases}
@@ -128,17 +128,13 @@ stays-on old mid new a b = record {
   names = λ x u e m. let (f, n) = a.names x u e m in b.names x u f n;
 }
 
-not-marked : (b : Bool) → (b ≡ true → ⊥) → b ≡ false
-not-marked true n = absurd (n refl)
-not-marked false n = refl
-
 -- a name in use stands for its variable already
 pub in-use-as : (u x : ℕ) (t : Tables) → AreLinked t → CanBeChanged u t → at t.users.forward u ≡ Some x → IsNamedAs u t t x
 in-use-as u x t l c e = record {
   named = InUse x e refl;
   leads = e;
   live = l.named x u (l.users.there u x e);
-  unassumed = not-marked (kept_at t.kept x).assumed (λ m. c.unassumed (x, e, m));
+  unassumed = false_from_ne_true (kept_at t.kept x).assumed (λ m. c.unassumed (x, e, m));
   stays = stays-same t c.bounded;
 }
 

@@ -4,11 +4,13 @@ import datetime
 import statistics
 import sys
 import tempfile
+from dataclasses import dataclass
+from typing import Optional
 
 import formulas
 import programs
 
-SUMMARY = "times deciding hard formulas beside minisat"
+SUMMARY = "times deciding hard formulas beside minisat and cadical"
 LIMIT = 120
 REPETITIONS = 5
 # Seconds below which a run is repeated, since its time is uncertain.
@@ -39,20 +41,47 @@ FORMULAS = {
     "factoring-32-sat": lambda: formulas.factoring(18, 65521 * 65519),
     "factoring-30-unsat": lambda: formulas.factoring(16, 1073741789),
 }
-VERDICTS = {programs.SATISFIABLE: "sat", programs.UNSATISFIABLE: "unsat", None: "-"}
+VERDICTS = {programs.SATISFIABLE: "sat", programs.UNSATISFIABLE: "unsat"}
 # The columns of a row: what stands above each, in two lines, and where it is aligned.
 COLUMNS = [
     ("", "formula", "<19"),
-    ("", "variables", ">9"),
-    ("", "clauses", ">8"),
-    ("varisat", "verdict", ">8"),
-    ("", "ms", ">10"),
-    ("minisat", "verdict", ">8"),
-    ("", "ms", ">10"),
-    ("ours /", "theirs", ">9"),
-    ("conflicts", "ours", ">10"),
-    ("", "theirs", ">9"),
-    ("ours, ms", "a conflict", ">11"),
+    ("", "verdict", ">7"),
+    ("ms", "varisat", ">10"),
+    ("", "minisat", ">10"),
+    ("", "cadical", ">10"),
+    ("conflicts", "varisat", ">10"),
+    ("", "minisat", ">9"),
+    ("µs a conflict", "varisat", ">14"),
+    ("", "minisat", ">9"),
+    ("MiB", "varisat", ">8"),
+    ("", "minisat", ">8"),
+    ("ours / minisat's", "ms", ">17"),
+    ("", "µs", ">6"),
+    ("", "MiB", ">6"),
+]
+
+
+@dataclass
+class Result:
+    """What the runs of a program on a formula came to. What is not known is None."""
+
+    verdict: Optional[int]
+    # Seconds of the processor.
+    time: Optional[float]
+    conflicts: Optional[int] = None
+    # The largest resident size, in KiB.
+    memory: Optional[int] = None
+
+    def time_per_conflict(self):
+        """With all in it that is not search."""
+        return self.time / self.conflicts if self.time and self.conflicts else None
+
+
+# What a ratio is of, and what it is to be at most in the mean.
+RATIOS = [
+    ("time", lambda result: result.time, 1.3),
+    ("time a conflict", Result.time_per_conflict, 1.0),
+    ("memory", lambda result: result.memory, 1.2),
 ]
 
 
@@ -79,75 +108,100 @@ def decide_all(every, path, limit, repetitions):
     return [sorted(done, key=lambda run: run.taken.processor)[len(done) // 2] for done in runs.values()]
 
 
-def print_row(cells):
-    aligned = [f"{cell:{place}}" for cell, (_, _, place) in zip(cells, COLUMNS)]
+def result_of(program, path, run):
+    """What the run came to, with the memory that another one takes."""
+    if run.verdict is None:
+        return Result(None, None)
+    return Result(run.verdict, run.taken.processor, run.conflicts, programs.peak_memory(program, path, run.verdict))
+
+
+def measure_formula(every, path, clauses, arguments):
+    """The result of each program, and the verdict of our session, which tells our conflicts."""
+    runs = decide_all(every, path, arguments.limit, arguments.repetitions)
+    results = [result_of(program, path, run) for program, run in zip(every, runs)]
+    counted = programs.count_conflicts(clauses, arguments.limit)
+    results[0].conflicts = counted.conflicts
+    return results, counted.verdict
+
+
+def ratio_of(ours, theirs, part):
+    """How a part of our result stands to that of theirs, or None where one is not known."""
+    one, other = part(ours), part(theirs)
+    return one / other if one and other else None
+
+
+def print_row(columns, cells):
+    aligned = [f"{cell:{place}}" for cell, (_, _, place) in zip(cells, columns)]
     print(" ".join(aligned).rstrip(), flush=True)
 
 
-def time_told(run, limit):
-    return f"> {limit} s" if run.verdict is None else f"{run.taken.processor * 1e3:,.1f}"
+def print_heads(columns):
+    print_row(columns, [above for above, _, _ in columns])
+    print_row(columns, [below for _, below, _ in columns])
 
 
-def number_told(number, form):
-    return "-" if number is None else f"{number:{form}}"
+def number_told(number, form, scale=1):
+    return "-" if number is None else f"{number * scale:{form}}"
 
 
-def ratio_of(ours, theirs):
-    """How our time stands to theirs, or None where one did not decide."""
-    if ours.verdict is None or theirs.verdict is None:
-        return None
-    return ours.taken.processor / theirs.taken.processor
+def verdicts_told(verdicts):
+    """The one verdict of those who decided, or each of them."""
+    return "/".join(sorted({VERDICTS[verdict] for verdict in verdicts if verdict is not None})) or "-"
 
 
-def time_per_conflict(ours, conflicts):
-    """Our milliseconds for each conflict of ours, or None where that is not known or there was none."""
-    if ours.verdict is None or not conflicts:
-        return None
-    return ours.taken.processor * 1e3 / conflicts
+def print_formula(name, results, limit):
+    """Prints the row of a formula, from the results of our program, minisat and cadical."""
+    compared = results[:2]
+    cells = [name, verdicts_told(result.verdict for result in results)]
+    cells += [f"> {limit} s" if result.time is None else f"{result.time * 1e3:,.1f}" for result in results]
+    cells += [number_told(result.conflicts, ",") for result in compared]
+    cells += [number_told(result.time_per_conflict(), ",.1f", 1e6) for result in compared]
+    cells += [number_told(result.memory, ",.1f", 1 / 1024) for result in compared]
+    cells += [number_told(ratio_of(*compared, part), ",.2f") for _, part, _ in RATIOS]
+    print_row(COLUMNS, cells)
 
 
-def print_formula(name, formula, ours, theirs, counted, limit):
-    """Prints the row of a formula."""
-    cells = [name, f"{formula.variables:,}", f"{len(formula.clauses):,}"]
-    for run in ours, theirs:
-        cells += [VERDICTS[run.verdict], time_told(run, limit)]
-    cells.append(number_told(ratio_of(ours, theirs), ",.2f"))
-    cells += [number_told(run.conflicts, ",") for run in (counted, theirs)]
-    cells.append(number_told(time_per_conflict(ours, counted.conflicts), ",.3f"))
-    print_row(cells)
+def print_mean(title, ratios, after=""):
+    known = [ratio for ratio in ratios if ratio is not None]
+    mean = f"{statistics.geometric_mean(known):,.2f}" if known else "-"
+    print(f"{title}: {mean} over {len(known)} of {len(ratios)} formulas{after}")
 
 
-def print_end(results):
-    """Prints what all rows come to, and gives the status."""
-    ratios = [ratio for ratio in (ratio_of(ours, theirs) for ours, theirs, _ in results.values()) if ratio is not None]
-    if ratios:
-        print(f"ours / theirs, the geometric mean over {len(ratios)} of {len(results)} formulas, which both decided: {statistics.geometric_mean(ratios):,.2f}")
-    else:
-        print("both decided none of the formulas")
-    status = 0
-    for name, runs in results.items():
-        if len({run.verdict for run in runs} - {None}) > 1:
-            ours, theirs, counted = (VERDICTS[run.verdict] for run in runs)
-            print(f"bench: {name}: varisat says {ours}, minisat {theirs}, varisat session {counted}", file=sys.stderr)
-            status = 1
-    return status
+def print_means(every):
+    """Prints the geometric means of the ratios, for the results of each formula."""
+    print("\ngeometric means")
+    for title, part, aim in RATIOS:
+        ratios = [ratio_of(ours, minisat, part) for ours, minisat, _ in every]
+        print_mean(f"  {title}, ours / minisat's", ratios, f", aim at most {aim:.1f}")
+    title, part, _ = RATIOS[0]
+    print_mean(f"  {title}, ours / cadical's", [ratio_of(ours, cadical, part) for ours, _, cadical in every])
+
+
+def differing(name, verdicts):
+    """Whether two verdicts on the formula differ, which is told."""
+    if len({*verdicts} - {None}) < 2:
+        return False
+    told = zip(["varisat", "minisat", "cadical", "varisat session"], verdicts)
+    print(f"bench: {name}: {', '.join(f'{who} says {VERDICTS.get(verdict)}' for who, verdict in told)}", file=sys.stderr)
+    return True
 
 
 def run(arguments):
-    programs.check_tools("minisat")
+    programs.check_tools(*programs.PACKAGES)
     programs.build_ours()
-    every = [programs.ours(), programs.learning_minisat()]
+    every = [programs.ours(), programs.learning_minisat(), programs.cadical()]
     print(f"{datetime.date.today()}, {programs.machine()}")
     print(f"the median of {arguments.repetitions} runs, or of one where a run takes {SHORT:.0f} s; times are the processor's; minisat runs with -no-pre\n")
-    print_row([above for above, _, _ in COLUMNS])
-    print_row([below for _, below, _ in COLUMNS])
-    results = {}
+    print_heads(COLUMNS)
+    all_results, status = [], 0
     with tempfile.TemporaryDirectory() as folder:
         for name in (name for name in FORMULAS if not arguments.only or name in arguments.only):
             formula, path = FORMULAS[name](), f"{folder}/{name}.cnf"
             formulas.write(path, formula)
-            timed = decide_all(every, path, arguments.limit, arguments.repetitions)
-            results[name] = [*timed, programs.count_conflicts(formula.clauses, arguments.limit)]
-            print_formula(name, formula, *results[name], arguments.limit)
-    print()
-    return print_end(results)
+            results, counted = measure_formula(every, path, formula.clauses, arguments)
+            print_formula(name, results, arguments.limit)
+            all_results.append(results)
+            if differing(name, [*(result.verdict for result in results), counted]):
+                status = 1
+    print_means(all_results)
+    return status

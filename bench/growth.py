@@ -10,7 +10,7 @@ import programs
 from learning import SHORT, number_told, positive, print_heads, print_row
 
 SUMMARY = "times a conflict beside minisat as formulas grow 2, 4 and 8 times"
-REPETITIONS = 5
+REPETITIONS = 11
 # How many formulas there are of each size.
 SEEDS = (0, 1, 2)
 PRIMES = (524287, 786433, 1000003)
@@ -58,11 +58,14 @@ def add_arguments(command):
     command.add_argument("--repetitions", type=positive, default=REPETITIONS, help=f"runs of each program on each file, where they take less than {SHORT:.0f} s ({REPETITIONS})")
 
 
-def median_time(program, path, repetitions):
-    times = []
-    while len(times) < repetitions and max(times, default=0) < SHORT:
-        times.append(programs.measure(program, path, programs.UNSATISFIABLE).processor)
-    return statistics.median(times)
+def median_times(runs, repetitions):
+    """The median seconds of each run of a program on a file. They take turns, so that what else the machine does slows each alike."""
+    times = [[] for _ in runs]
+    for _ in range(repetitions):
+        for run, taken in zip(runs, times):
+            if max(taken, default=0) < SHORT:
+                taken.append(programs.measure(*run, programs.UNSATISFIABLE).processor)
+    return map(statistics.median, times)
 
 
 def search_both(folder, formula, repetitions):
@@ -70,10 +73,11 @@ def search_both(folder, formula, repetitions):
     whole, refuted = f"{folder}/formula.cnf", f"{folder}/refuted.cnf"
     formulas.write(whole, formula)
     formulas.write(refuted, formulas.refuted(formula))
-    minisat = programs.learning_minisat()
+    ours, minisat = programs.ours(), programs.learning_minisat()
     conflicts = [programs.count_conflicts(formula.clauses, None).conflicts, programs.decide(minisat, whole, None).conflicts]
-    times = [median_time(program, whole, repetitions) - median_time(program, refuted, repetitions) for program in (programs.ours(), minisat)]
-    return [Searched(time, count) for time, count in zip(times, conflicts)]
+    runs = [(program, path) for program in (ours, minisat) for path in (whole, refuted)]
+    our_run, our_reading, their_run, their_reading = median_times(runs, repetitions)
+    return [Searched(time, count) for time, count in zip((our_run - our_reading, their_run - their_reading), conflicts)]
 
 
 def time_per_conflict(searched):
@@ -94,7 +98,7 @@ def print_size(family, size, clauses, told, first):
     grown = [time / before for time, before in zip(times, first)]
     cells = [family.name, f"{size:,}", f"{clauses:,}", *(f"{conflicts:,}" for conflicts, _ in told)]
     cells += [f"{time * 1e6:,.1f}" for time in times] + [f"{times[0] / times[1]:,.2f}"]
-    cells += [f"{times:,.2f}" for times in grown] + [f"{grown[0] / grown[1]:,.2f}"]
+    cells += [f"{ratio:,.2f}" for ratio in grown] + [f"{grown[0] / grown[1]:,.2f}"]
     print_row(COLUMNS, cells)
 
 

@@ -7,7 +7,7 @@ from typing import Callable
 
 import formulas
 import programs
-from learning import SHORT, number_told, positive, print_heads, print_row
+from learning import SHORT, positive, print_heads, print_row
 
 SUMMARY = "times a conflict beside minisat as formulas grow 2, 4 and 8 times"
 REPETITIONS = 11

@@ -40,6 +40,10 @@ number-laws = record {
 pub level-is : (nodes : List ImplNode) (l v n : ℕ) → v ≡ variable_of l → n ≡ (get_or nodes v no_node).level → n ≡ level_in nodes l
 level-is nodes l v n q r = r ∙ ap (λ (x : ℕ). (get_or nodes x no_node).level) q
 
+-- its variable has a node
+pub has-node : (nodes : List ImplNode) (lits : List Literal) {k l v : ℕ} → ((m : Literal) → m ∈ lits → variable_of m < length nodes) → k < length lits → l ≡ get_or lits k l → v ≡ variable_of l → v < length nodes
+has-node nodes lits {k} {l} {v} known h e f = item-below variable_of lits k l v (length nodes) (length nodes) known refl h e f
+
 -- that level has a flag
 pub level-flagged : (nodes : List ImplNode) (lits : List Literal) (old new : List Bool) {k l v n : ℕ} → ((m : Literal) → m ∈ lits → level_in nodes m < length old) → length new ≡ length old → k < length lits → l ≡ get_or lits k l → v ≡ variable_of l → n ≡ (get_or nodes v no_node).level → n < length new
 level-flagged nodes lits old new {k} {l} {v} {n} room q h e f r = item-below (level_in nodes) lits k l n (length old) (length new) room q h e (level-is nodes l v n f r)

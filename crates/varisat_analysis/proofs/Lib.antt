@@ -16,3 +16,4 @@ pub mod CountedLevels
 pub mod BumpedClauses
 pub mod AssignedLevels
 pub mod SameButHeaders
+pub mod FoundLiterals

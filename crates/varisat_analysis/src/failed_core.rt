@@ -71,39 +71,8 @@ fn pass_flagged<A: Allocator + Copy>(
     Ok(())
 }
 
-/// Lists the core. Where it is out of memory some flags may be left set.
-fn list_core<A: Allocator + Copy>(
-    parts: Parts<'_, A>,
-    core: &mut Vec<Lit, A>,
-    flags: &mut [bool],
-    failed: Lit,
-) -> Result<(), AllocError>
-    ghost s: { View }
-    requires sees { Sees s parts }
-    requires flags { length flags.old ≡ 2 * length s.values }
-    requires false_now { opposite failed ∈ s.trail }
-    requires clear { (l : Literal) → slice_index_or flags.old l false ≡ false }
-    ensures clear { OnOk result ((l : Literal) → slice_index_or flags.new l false ≡ false) }
-    ensures core { OnOk result (ListsFailedCore s failed core.new.items) }
-{
-    core.clear();
-    core.push(failed)?;
-    flag_causes(parts, flags, &[failed]);
-    // A literal is propagated from earlier ones of the trail. So backwards over the trail none is flagged again once it
-    // was passed.
-    let lits = parts.trail.trail();
-    for place in (0..lits.len()).rev() {
-        let lit = lits[place];
-        if !flags[lit.code()] {
-            continue;
-        }
-        pass_flagged(parts, core, flags, lit)?;
-    }
-    Ok(())
-}
-
 /// Lists the core, and leaves no flag set.
-fn list_and_clear<A: Allocator + Copy>(
+fn list_core<A: Allocator + Copy>(
     parts: Parts<'_, A>,
     core: &mut Vec<Lit, A>,
     flags: &mut [bool],
@@ -117,13 +86,26 @@ fn list_and_clear<A: Allocator + Copy>(
     ensures clear { (l : Literal) → slice_index_or flags.new l false ≡ false }
     ensures core { OnOk result (ListsFailedCore s failed core.new.items) }
 {
-    match list_core(parts, core, flags, failed) {
-        Ok(()) => Ok(()),
-        Err(error) => {
-            clear_all_flags(flags);
-            Err(error)
+    core.clear();
+    core.push(failed)?;
+    flag_causes(parts, flags, &[failed]);
+    // A literal is propagated from earlier ones of the trail. So backwards over the trail none is flagged again once it
+    // was passed.
+    let lits = parts.trail.trail();
+    for place in (0..lits.len()).rev() {
+        let lit = lits[place];
+        if !flags[lit.code()] {
+            continue;
+        }
+        match pass_flagged(parts, core, flags, lit) {
+            Ok(()) => {}
+            Err(error) => {
+                clear_all_flags(flags);
+                return Err(error);
+            }
         }
     }
+    Ok(())
 }
 
 /// Lists in `core` the assumption that failed, and the decisions from which propagation came to its opposite. Leaves no
@@ -149,6 +131,6 @@ pub fn analyze_assumption_conflict<A: Allocator + Copy>(
         impl_graph,
         trail,
     };
-    list_and_clear(parts, core, &mut flags.flags, failed)?;
+    list_core(parts, core, &mut flags.flags, failed)?;
     Ok(())
 }

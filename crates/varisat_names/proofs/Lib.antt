@@ -2,3 +2,4 @@ pub mod Maps
 pub mod VarMap
 pub mod Tables
 pub mod Linked
+pub mod LinkedCalls

@@ -1,20 +1,14 @@
-use Rattle.std.proofs.Common.{refl, sym, ◌∙◌, subst, ⊎_elim}
-use Rattle.varisat_theory.proofs.Places.{∈-take_more}
+use Rattle.std.proofs.Common.{refl}
 use Rattle.varisat_prop.specs.Parts.{IsMadeTrue}
-use Rattle.varisat_prop.proofs.ReadElements.{element, item-∈}
+use Rattle.varisat_prop.proofs.ReadElements.{item-∈}
+use Rattle.varisat_analysis.proofs.FoundLiterals.{one-found, none-so-far}
 use Rattle.varisat_analysis.proofs.clause_literals.is_satisfied.Goals as goal
 
 pub lit_is_true-requires : goal.lit_is_true-requires
 lit_is_true-requires g c = c.requires c.lit-item.result (item-∈ c.args.lits.now c.loop-lit.lit-index c.lit-item.result c.loop-lit-test.true c.lit-item.is)
 
 pub returns-then-lit_is_true : goal.returns-then-lit_is_true
-returns-then-lit_is_true g c =
-    ((λ z. (c.lit-item.result, item-∈ c.args.lits.now c.loop-lit.lit-index c.lit-item.result c.loop-lit-test.true c.lit-item.is, c.if-lit_is_true.ensures.0 refl)), (λ h. refl))
+returns-then-lit_is_true g c = one-found (IsMadeTrue c.args.assignment.now.current) c.args.lits.now c.loop-lit-test.true c.lit-item.is (c.if-lit_is_true.ensures.0 refl)
 
 pub loop-lit-preserved : goal.loop-lit-preserved
-loop-lit-preserved g c m h t =
-    let k = element c.args.lits.now c.loop-lit.lit-index c.lit-item.result c.loop-lit-test.true c.lit-item.is in
-    ⊎_elim
-    (λ a. c.loop-lit.invariant m a t)
-    (λ e. let b = c.if-lit_is_true.ensures.1 (subst (IsMadeTrue c.args.assignment.now.current) (e ∙ sym k) t) in cc)
-    (∈-take_more m c.args.lits.now c.loop-lit.lit-index 0 h)
+loop-lit-preserved g c = none-so-far (IsMadeTrue c.args.assignment.now.current) c.args.lits.now c.loop-lit-test.true c.lit-item.is c.loop-lit.invariant (λ t. let b = c.if-lit_is_true.ensures.1 t in cc)

@@ -4,8 +4,8 @@ use Rattle.varisat_analysis.proofs.BumpedVariables.{false-all}
 use Rattle.varisat_analysis.proofs.CoreWalk.{flags-back}
 use Rattle.varisat_analysis.proofs.failed_core.analyze_assumption_conflict.Goals as goal
 
-pub list_and_clear-requires : goal.list_and_clear-requires
-list_and_clear-requires g c κs within =
+pub list_core-requires : goal.list_core-requires
+list_core-requires g c κs within =
     let shows = c.requires.1.0 in
     let n = length g.s.values in
     let flags = c.requires.1.1.1.1 in
@@ -23,15 +23,15 @@ list_and_clear-requires g c κs within =
 pub returns-clause-flags : goal.returns-clause-flags
 returns-clause-flags g c =
     let x = c.args.flags.now.flags in
-    let long = c.list_and_clear.auto.flags in
+    let long = c.list_core.auto.flags in
     let value = ap (λ xs. length xs) c.deref_mut.ensures.value in
     let count = x.ok.0 in
-    flags-back x.items c.list_and_clear.new.flags (drop (length c.list_and_clear.new.flags) x.items) x.len (2 * length g.s.values) (omega (arith, count)) (omega (arith, long, value, count)) c.requires.1.1.1.1 c.list_and_clear.ensures.clear
+    flags-back x.items c.list_core.new.flags (drop (length c.list_core.new.flags) x.items) x.len (2 * length g.s.values) (omega (arith, count)) (omega (arith, long, value, count)) c.requires.1.1.1.1 c.list_core.ensures.clear
 
-pub returns-in_err-list_and_clear-clause-flags : goal.returns-in_err-list_and_clear-clause-flags
-returns-in_err-list_and_clear-clause-flags g c =
+pub returns-in_err-list_core-clause-flags : goal.returns-in_err-list_core-clause-flags
+returns-in_err-list_core-clause-flags g c =
     let x = c.args.flags.now.flags in
-    let long = c.list_and_clear.auto.flags in
+    let long = c.list_core.auto.flags in
     let value = ap (λ xs. length xs) c.deref_mut.ensures.value in
     let count = x.ok.0 in
-    flags-back x.items c.list_and_clear.new.flags (drop (length c.list_and_clear.new.flags) x.items) x.len (2 * length g.s.values) (omega (arith, count)) (omega (arith, long, value, count)) c.requires.1.1.1.1 c.list_and_clear.ensures.clear
+    flags-back x.items c.list_core.new.flags (drop (length c.list_core.new.flags) x.items) x.len (2 * length g.s.values) (omega (arith, count)) (omega (arith, long, value, count)) c.requires.1.1.1.1 c.list_core.ensures.clear

@@ -1,4 +1,4 @@
 use Rattle.varisat_analysis.proofs.failed_core.analyze_assumption_conflict.Given as goal
 
-abbrev pub ghost-list_and_clear : goal.ghost-list_and_clear
-ghost-list_and_clear g a = g.s
+abbrev pub ghost-list_core : goal.ghost-list_core
+ghost-list_core g a = g.s

@@ -34,7 +34,7 @@ pass_flagged-requires g c κs within =
 pub loop-place-preserved : goal.loop-place-preserved
 loop-place-preserved g c =
     let sees = c.requires.1.0 in
-    let o = c.in_ok-pass_flagged.ensures {u = tt} in
+    let o = c.in-Ok.ensures {u = tt} in
     pass-next sees.well c.requires.1.1.1.0 c.loop-place.invariant c.loop-place-test.true (c.trail-lits.ensures ∙ sees.trail_is) c.index-lits-place.is c.code.result c.code.ensures.code c.if-not-flags-code.false c.pass_flagged.new.core.items c.pass_flagged.new.flags o.listed o.flagged
 
 pub returns-clause-clear : goal.returns-clause-clear

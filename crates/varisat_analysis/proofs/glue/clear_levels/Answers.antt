@@ -1,17 +1,14 @@
-use Rattle.std.proofs.Common.{length, take_all, refl, subst}
-use Rattle.varisat_theory.specs.Literals.{variable_of}
+use Rattle.std.proofs.Common.{length, take_all, subst}
 use Rattle.varisat_analysis.specs.Bumps.{level_in}
 use Rattle.varisat_analysis.proofs.BumpedVariables.{item-below, Clears, clears-none, clears-more}
-use Rattle.varisat_analysis.proofs.CountedLevels.{level-is}
+use Rattle.varisat_analysis.proofs.CountedLevels.{level-is, has-node}
 use Rattle.varisat_analysis.proofs.glue.clear_levels.Goals as goal
 
 pub loop-lit-init : goal.loop-lit-init
 loop-lit-init g c = clears-none (level_in c.args.impl_graph.now.nodes.items) c.args.flags.now
 
 pub level-level-requires : goal.level-level-requires
-level-level-requires g c =
-    let n = length c.args.impl_graph.now.nodes.items in
-    item-below variable_of c.args.lits.now c.loop-lit.lit-index c.lit-item.result c.var.result n n c.requires.known refl c.loop-lit-test.true c.lit-item.is c.var.ensures
+level-level-requires g c = has-node c.args.impl_graph.now.nodes.items c.args.lits.now c.requires.known c.loop-lit-test.true c.lit-item.is c.var.ensures
 
 pub bounds-flags-level : goal.bounds-flags-level
 bounds-flags-level g c =

@@ -1,18 +1,15 @@
-use Rattle.std.proofs.Common.{◌≡◌, ◌+◌, true, false, length, take, take_all, get_or, set, refl, sym, subst, arith}
-use Rattle.varisat_theory.specs.Literals.{variable_of}
+use Rattle.std.proofs.Common.{◌≡◌, ◌+◌, true, false, take, take_all, get_or, set, sym, subst, arith}
 use Rattle.varisat_prop.proofs.ReadElements.{item-∈}
 use Rattle.varisat_analysis.specs.Bumps.{level_in}
-use Rattle.varisat_analysis.proofs.BumpedVariables.{item-snoc, item-below}
-use Rattle.varisat_analysis.proofs.CountedLevels.{level-is, level-flagged, Counts, counts-none, counts-old, counts-new, counts-all, counts-only}
+use Rattle.varisat_analysis.proofs.BumpedVariables.{item-snoc}
+use Rattle.varisat_analysis.proofs.CountedLevels.{level-is, has-node, level-flagged, Counts, counts-none, counts-old, counts-new, counts-all, counts-only}
 use Rattle.varisat_analysis.proofs.glue.flag_levels.Goals as goal
 
 pub loop-lit-init : goal.loop-lit-init
 loop-lit-init g c = record { counts = counts-none (level_in c.args.impl_graph.now.nodes.items) c.args.flags.now c.requires.clear; few = omega arith }
 
 pub level-level-requires : goal.level-level-requires
-level-level-requires g c =
-    let n = length c.args.impl_graph.now.nodes.items in
-    item-below variable_of c.args.lits.now c.loop-lit.lit-index c.lit-item.result c.var.result n n c.requires.known refl c.loop-lit-test.true c.lit-item.is c.var.ensures
+level-level-requires g c = has-node c.args.impl_graph.now.nodes.items c.args.lits.now c.requires.known c.loop-lit-test.true c.lit-item.is c.var.ensures
 
 pub bounds-flags-level : goal.bounds-flags-level
 bounds-flags-level g c =

@@ -1,42 +1,25 @@
-use Rattle.std.proofs.Common.{sym, ap, ◌∙◌, subst, refl, true}
+use Rattle.std.proofs.Common.{sym, ap, ◌∙◌, refl, true}
 use Rattle.varisat_names.specs.VarMap.{at}
 use Rattle.varisat_names.specs.VarBiMap.{turned}
-use Rattle.varisat_names.specs.Variables.{AreLinked, AreListed}
 use Rattle.varisat_names.proofs.Tables.{live-inside}
 use Rattle.varisat_names.proofs.Linked.{free-solvers, part-solvers, parted-turned, same-tables, on-either, on-either-two, unused-none}
+use Rattle.varisat_names.proofs.LinkedCalls.{begun, taken-before, taken-live}
 use Rattle.varisat_names.proofs.variables.linked.LinkedVariables.drop_solver_var.Goals as goal
 
 pub data-kept-requires : goal.data-kept-requires
-data-kept-requires g c =
-    let w = c.self-inside.view_is in
-    let (linked, listed) = subst (λ s. AreLinked s.variables.tables × AreListed s.variables) (sym w) c.self.invariant in
-    let x = c.unwrap-global.result in
-    let v = c.args.solver in
-    let taken = ap (λ s. at s.variables.tables.solvers.backward v) w ∙ ap (λ m. at m v) (sym c.global_from_solver.ensures) ∙ sym c.get.ensures ∙ c.unwrap-global.ensures in
-    let back = linked.solvers.back x v taken in
-    let live = linked.taken x v back in
-    live-inside _ x live
+data-kept-requires g c = live-inside _ c.unwrap-global.result (taken-live (ap (λ s. s.variables) c.self-inside.view_is) c.self.invariant c.unwrap-global.result c.args.solver c.global_from_solver.ensures c.get.ensures c.unwrap-global.ensures)
 
 pub release_and_delete-requires-clause-live : goal.release_and_delete-requires-clause-live
-release_and_delete-requires-clause-live g c =
-    let w = c.self-inside.view_is in
-    let (linked, listed) = subst (λ s. AreLinked s.variables.tables × AreListed s.variables) (sym w) c.self.invariant in
-    let x = c.unwrap-global.result in
-    let v = c.args.solver in
-    let taken = ap (λ s. at s.variables.tables.solvers.backward v) w ∙ ap (λ m. at m v) (sym c.global_from_solver.ensures) ∙ sym c.get.ensures ∙ c.unwrap-global.ensures in
-    let back = linked.solvers.back x v taken in
-    let live = linked.taken x v back in
-    live
+release_and_delete-requires-clause-live g c = taken-live (ap (λ s. s.variables) c.self-inside.view_is) c.self.invariant c.unwrap-global.result c.args.solver c.global_from_solver.ensures c.get.ensures c.unwrap-global.ensures
 
 pub invariant_of-self : goal.invariant_of-self
 invariant_of-self g c =
     let w = c.self-inside.view_is in
-    let (linked, listed) = subst (λ s. AreLinked s.variables.tables × AreListed s.variables) (sym w) c.self.invariant in
+    let same = ap (λ s. s.variables) w in
+    let (linked, listed) = begun same c.self.invariant in
     let x = c.unwrap-global.result in
     let v = c.args.solver in
-    let taken = ap (λ s. at s.variables.tables.solvers.backward v) w ∙ ap (λ m. at m v) (sym c.global_from_solver.ensures) ∙ sym c.get.ensures ∙ c.unwrap-global.ensures in
-    let back = linked.solvers.back x v taken in
-    let live = linked.taken x v back in
+    let back = taken-before same c.self.invariant c.unwrap-global.result c.args.solver c.global_from_solver.ensures c.get.ensures c.unwrap-global.ensures in
     let unnamed = ap (λ s. at s.variables.tables.users.backward x) w ∙ ap (λ m. at m x) (sym c.user_from_global.ensures) ∙ sym c.get-user.ensures ∙ unused-none c.get-user.result c.data-kept.result.now (sym c.is_unused.ensures ∙ c.if-is_unused.true) in
     let solvers = c.release_and_delete.new.names.pairs in
     let kept = c.release_and_delete.new.globals.kept in
@@ -49,16 +32,12 @@ invariant_of-self g c =
 
 pub invariant_of-self-2 : goal.invariant_of-self-2
 invariant_of-self-2 g c =
-    let w = c.self-inside.view_is in
-    let (linked, listed) = subst (λ s. AreLinked s.variables.tables × AreListed s.variables) (sym w) c.self.invariant in
-    let x = c.unwrap-global.result in
-    let v = c.args.solver in
-    let taken = ap (λ s. at s.variables.tables.solvers.backward v) w ∙ ap (λ m. at m v) (sym c.global_from_solver.ensures) ∙ sym c.get.ensures ∙ c.unwrap-global.ensures in
-    let back = linked.solvers.back x v taken in
-    let live = linked.taken x v back in
+    let same = ap (λ s. s.variables) c.self-inside.view_is in
+    let (linked, listed) = begun same c.self.invariant in
+    let back = taken-before same c.self.invariant c.unwrap-global.result c.args.solver c.global_from_solver.ensures c.get.ensures c.unwrap-global.ensures in
     let solvers = c.release.new.self.pairs in (
       on-either c.release.result c.release.ensures.parted c.release.ensures.refused
-          (λ p. part-solvers _ (turned solvers) x v linked back (parted-turned _ solvers v x p))
+          (λ p. part-solvers _ (turned solvers) c.unwrap-global.result c.args.solver linked back (parted-turned _ solvers c.args.solver c.unwrap-global.result p))
           (λ r. same-tables _ _ (turned solvers) _ refl (ap turned r) refl linked),
       record { users = listed.users; solvers = c.release.ensures.listed; globals = listed.globals },
     )

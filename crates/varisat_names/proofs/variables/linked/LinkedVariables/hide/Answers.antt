@@ -1,35 +1,23 @@
-use Rattle.std.proofs.Common.{sym, ap, ◌∙◌, subst, refl, true}
+use Rattle.std.proofs.Common.{sym, ap, ◌∙◌, refl, true}
 use Rattle.varisat_names.specs.VarMap.{at}
-use Rattle.varisat_names.specs.Variables.{AreLinked, AreListed}
 use Rattle.varisat_names.proofs.Tables.{live-inside}
 use Rattle.varisat_names.proofs.Linked.{free-users, hide-users, same-tables, on-either-two, unused-none}
+use Rattle.varisat_names.proofs.LinkedCalls.{begun, named-before, named-live, names-stay}
 use Rattle.varisat_names.proofs.variables.linked.LinkedVariables.hide.Goals as goal
 
 pub data-kept-requires : goal.data-kept-requires
-data-kept-requires g c =
-    let w = c.self-inside.view_is in
-    let (linked, listed) = subst (λ s. AreLinked s.variables.tables × AreListed s.variables) (sym w) c.self.invariant in
-    let x = c.args.global in
-    let named = ap (λ s. at s.variables.tables.users.forward c.args.user) w ∙ ap (λ t. at t.users.forward c.args.user) c.self.view_is ∙ c.requires in
-    let live = linked.named x c.args.user (linked.users.there c.args.user x named) in
-    live-inside _ x live
+data-kept-requires g c = live-inside _ c.args.global (named-live (ap (λ s. s.variables) c.self-inside.view_is) c.self.invariant c.args.user c.args.global c.self.view_is c.requires)
 
 pub release_and_delete-requires-clause-live : goal.release_and_delete-requires-clause-live
-release_and_delete-requires-clause-live g c =
-    let w = c.self-inside.view_is in
-    let (linked, listed) = subst (λ s. AreLinked s.variables.tables × AreListed s.variables) (sym w) c.self.invariant in
-    let x = c.args.global in
-    let named = ap (λ s. at s.variables.tables.users.forward c.args.user) w ∙ ap (λ t. at t.users.forward c.args.user) c.self.view_is ∙ c.requires in
-    let live = linked.named x c.args.user (linked.users.there c.args.user x named) in
-    live
+release_and_delete-requires-clause-live g c = named-live (ap (λ s. s.variables) c.self-inside.view_is) c.self.invariant c.args.user c.args.global c.self.view_is c.requires
 
 pub invariant_of-self : goal.invariant_of-self
 invariant_of-self g c =
     let w = c.self-inside.view_is in
-    let (linked, listed) = subst (λ s. AreLinked s.variables.tables × AreListed s.variables) (sym w) c.self.invariant in
+    let same = ap (λ s. s.variables) w in
+    let (linked, listed) = begun same c.self.invariant in
     let x = c.args.global in
-    let named = ap (λ s. at s.variables.tables.users.forward c.args.user) w ∙ ap (λ t. at t.users.forward c.args.user) c.self.view_is ∙ c.requires in
-    let live = linked.named x c.args.user (linked.users.there c.args.user x named) in
+    let named = named-before same c.self.invariant c.args.user c.args.global c.self.view_is c.requires in
     let untaken = ap (λ s. at s.variables.tables.solvers.forward x) w ∙ ap (λ m. at m x) (sym c.solver_from_global.ensures) ∙ sym c.get-solver.ensures ∙ unused-none c.get-solver.result c.data-kept.result.now (sym c.is_unused.ensures ∙ c.if-is_unused.true) in
     let users = c.release_and_delete.new.names.pairs in
     let kept = c.release_and_delete.new.globals.kept in
@@ -41,16 +29,12 @@ invariant_of-self g c =
     )
 
 pub invariant_of-self-in-Break-branch-2 : goal.invariant_of-self-in-Break-branch-2
-invariant_of-self-in-Break-branch-2 g c =
-    let w = c.self-inside.view_is in
-    let (linked, listed) = subst (λ s. AreLinked s.variables.tables × AreListed s.variables) (sym w) c.self.invariant in
-    (same-tables _ c.release.new.self.pairs _ _ c.in_err-release.ensures.refused refl refl linked, record { users = c.release.ensures.listed; solvers = listed.solvers; globals = listed.globals })
+invariant_of-self-in-Break-branch-2 g c = names-stay (ap (λ s. s.variables) c.self-inside.view_is) c.self.invariant c.in_err-release.ensures.refused c.release.ensures.listed
 
 pub invariant_of-self-2 : goal.invariant_of-self-2
 invariant_of-self-2 g c =
-    let w = c.self-inside.view_is in
-    let (linked, listed) = subst (λ s. AreLinked s.variables.tables × AreListed s.variables) (sym w) c.self.invariant in
-    let x = c.args.global in
-    let named = ap (λ s. at s.variables.tables.users.forward c.args.user) w ∙ ap (λ t. at t.users.forward c.args.user) c.self.view_is ∙ c.requires in
-    let live = linked.named x c.args.user (linked.users.there c.args.user x named) in
-    (hide-users _ c.release.new.self.pairs c.set_data.new.self.kept c.args.user x _ linked (ap (λ d. d.deleted) c.data-kept.ensures ∙ live) named c.in_ok-release.ensures.parted c.set_data.ensures.kept, record { users = c.release.ensures.listed; solvers = listed.solvers; globals = c.set_data.ensures.listed })
+    let same = ap (λ s. s.variables) c.self-inside.view_is in
+    let (linked, listed) = begun same c.self.invariant in
+    let named = named-before same c.self.invariant c.args.user c.args.global c.self.view_is c.requires in
+    let live = named-live same c.self.invariant c.args.user c.args.global c.self.view_is c.requires in
+    (hide-users _ c.release.new.self.pairs c.set_data.new.self.kept c.args.user c.args.global _ linked (ap (λ d. d.deleted) c.data-kept.ensures ∙ live) named c.in_ok-release.ensures.parted c.set_data.ensures.kept, record { users = c.release.ensures.listed; solvers = listed.solvers; globals = c.set_data.ensures.listed })

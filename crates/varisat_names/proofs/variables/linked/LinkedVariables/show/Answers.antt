@@ -1,20 +1,17 @@
-use Rattle.std.proofs.Common.{sym, ap, ◌∙◌, subst, refl}
+use Rattle.std.proofs.Common.{ap, ◌∙◌}
 use Rattle.varisat_names.specs.VarMap.{at}
 use Rattle.varisat_names.specs.VarData.{kept_at}
-use Rattle.varisat_names.specs.Variables.{AreLinked, AreListed}
-use Rattle.varisat_names.proofs.Linked.{keep-live, join-users, same-tables}
+use Rattle.varisat_names.proofs.Linked.{keep-live, join-users}
+use Rattle.varisat_names.proofs.LinkedCalls.{begun, names-stay}
 use Rattle.varisat_names.proofs.variables.linked.LinkedVariables.show.Goals as goal
 
 pub invariant_of-self : goal.invariant_of-self
-invariant_of-self g c =
-    let w = c.self-inside.view_is in
-    let (linked, listed) = subst (λ s. AreLinked s.variables.tables × AreListed s.variables) (sym w) c.self.invariant in
-    (same-tables _ c.give.new.self.pairs _ _ c.in_err-give.ensures.refused refl refl linked, record { users = c.give.ensures.listed; solvers = listed.solvers; globals = listed.globals })
+invariant_of-self g c = names-stay (ap (λ s. s.variables) c.self-inside.view_is) c.self.invariant c.in_err-give.ensures.refused c.give.ensures.listed
 
 pub invariant_of-self-2 : goal.invariant_of-self-2
 invariant_of-self-2 g c =
     let w = c.self-inside.view_is in
-    let (linked, listed) = subst (λ s. AreLinked s.variables.tables × AreListed s.variables) (sym w) c.self.invariant in
+    let (linked, listed) = begun (ap (λ s. s.variables) w) c.self.invariant in
     let user = c.next_unmapped_user-user.result in
     let live = ap (λ s. (kept_at s.variables.tables.kept c.args.global).deleted) w ∙ ap (λ t. (kept_at t.kept c.args.global).deleted) c.self.view_is ∙ c.requires.live in
     let unnamed = ap (λ s. at s.variables.tables.users.backward c.args.global) w ∙ ap (λ t. at t.users.backward c.args.global) c.self.view_is ∙ c.requires.unnamed in

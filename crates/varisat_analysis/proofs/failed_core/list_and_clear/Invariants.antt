@@ -1,4 +1,0 @@
-use Rattle.varisat_analysis.proofs.failed_core.list_and_clear.Given as goal
-
-abbrev pub ghost-list_core : goal.ghost-list_core
-ghost-list_core g a = g.s

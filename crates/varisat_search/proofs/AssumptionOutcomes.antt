@@ -1,5 +1,5 @@
 -- What a step with assumptions comes to.
-use Rattle.std.proofs.Common.{◌≡◌, List, [], length, ◌⊎◌, inl, inr, sym, ap, ◌∙◌, subst}
+use Rattle.std.proofs.Common.{◌≡◌, Result, Err, MatchResult, List, [], length, ◌⊎◌, inl, inr, sym, ap, ◌∙◌, subst}
 use Rattle.varisat_theory.specs.Membership.{◌∈◌}
 use Rattle.varisat_theory.specs.Literals.{Literal, Assignment, MakesTrue}
 use Rattle.varisat_theory.specs.Outcomes.{Outcome, Unknown, Sat, Unsat, UnsatUnder, Steps}
@@ -26,6 +26,10 @@ core-in Unknown = []
 core-in (Sat a) = []
 core-in Unsat = []
 core-in (UnsatUnder c) = c
+
+-- what is known of an error that was found
+pub error-is : {E : Type 0} (P : Type 0) (Q : E → Type 0) {r : Result (Unit {0}) E} {f e : E} → r ≡ Err f → f ≡ e → MatchResult r (λ _. P) Q → Q e
+error-is P Q i j m = subst Q j (subst (λ r. MatchResult r (λ _. P) Q) i m)
 
 -- a core was found
 pub core-steps : (s : View) (x : AssumptionParts) → WellFormed s → HasFailed s x → Steps (search_of s) (search_of s) (UnsatUnder x.failed_core) []

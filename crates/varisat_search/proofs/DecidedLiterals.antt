@@ -1,5 +1,5 @@
 -- A search in which a literal is decided, or none is left to decide.
-use Rattle.std.proofs.Common.{◌≡◌, ◌<◌, Bool, true, false, MatchBool, length, inr, sym, ap, ◌∙◌, subst}
+use Rattle.std.proofs.Common.{◌≡◌, ◌<◌, Bool, true, false, MatchBool, length, inr, refl, sym, ap, ◌∙◌, subst}
 use Rattle.varisat_theory.specs.Membership.{◌∈◌}
 use Rattle.varisat_theory.specs.Literals.{Literal}
 use Rattle.varisat_theory.specs.Propagation.{IsComplete}
@@ -13,7 +13,7 @@ use Rattle.varisat_search.specs.Decisions.{AreDecidable, CanDecide, SameDecidabl
 use Rattle.varisat_search.specs.Steps.{IsFree}
 use Rattle.varisat_search.proofs.AssumptionLevels.{has-grown}
 use Rattle.varisat_search.proofs.AssumptionContexts.{still-assumable}
-use Rattle.varisat_search.proofs.ReadyAfter.{decided-ready}
+use Rattle.varisat_search.proofs.ReadyAfter.{decided-ready, ready-with}
 use Rattle.varisat_search.proofs.StepOutcome.{decided-longer}
 
 -- the view grows by the literal
@@ -43,17 +43,7 @@ module _ {A : Type 0} (x z : Context A) (r : IsReady x) (all : x.assumptions.lev
   end-ready e =
       let stay = still-assumable (view x) x.vsids (view z) z.vsids x.assumptions.working x.assumptions.working same (λ l i. i) r.assumable in
       let s = ap (λ (y : Context A). view y) e in
-      subst IsReady (sym e) record {
-        well = r.well;
-        settled = r.settled;
-        propagated = r.propagated;
-        tracks = r.tracks;
-        analysis = r.analysis;
-        flags = r.flags;
-        decidable = subst (λ (u : View). CanDecide u z.vsids) s d;
-        assumed = r.assumed;
-        assumable = subst (λ (u : View). AreDecidable u z.vsids x.assumptions.working) s stay;
-      }
+      subst IsReady (sym e) (ready-with x (record x { vsids = z.vsids }) r refl refl refl r.propagated (subst (λ (u : View). CanDecide u z.vsids) s d) r.assumed (subst (λ (u : View). AreDecidable u z.vsids x.assumptions.working) s stay))
 
 -- a decision was made, or none
 pub made-or-not : (b : Bool) (P Q C : Type 0) → MatchBool b P Q → (P → C) → (Q → C) → C

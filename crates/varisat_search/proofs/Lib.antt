@@ -55,3 +55,5 @@ pub mod SimplifiedSearch
 pub mod SimplifiedContext
 pub mod SettledUnits
 pub mod LoadedQueue
+pub mod ScheduledSteps
+pub mod ShownContexts

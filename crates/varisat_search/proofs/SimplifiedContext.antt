@@ -42,47 +42,56 @@ module _ {A : Type 0} (x : Context A) (u : IsAtUnits (view x)) where
   pub joining : (B : List (List Literal)) (ps : List Clause) → B ≡ without_assigned x.assignment.current x.binary_clauses → ps ≡ [] ++ left_pairs x.assignment.current (live_clauses x.clause_alloc) → (c : Clause) → c ∈ ps → IsPairIn B c
   joining B ps e f c h = subst (λ D. IsPairIn D c) (sym e) (pairs-in (view x) u c (subst (λ cs. c ∈ cs) f h))
 
+-- What it did, from x to z.
+pub record Simplifies {A : Type 0} (x z : Context A) : Type 0 where
+  pub ready : IsReady x
+  pub units : IsAtUnits (view x)
+  pub tracks : Tracks z.clause_db z.clause_alloc
+  pub clauses : live_clauses z.clause_alloc ≡ left_long x.assignment.current (live_clauses x.clause_alloc)
+  pub binary : z.binary_clauses ≡ with_pairs (without_assigned x.assignment.current x.binary_clauses) (left_pairs x.assignment.current (live_clauses x.clause_alloc))
+  pub rest : z ≡ record x { binary_clauses = z.binary_clauses; clause_alloc = z.clause_alloc; clause_db = z.clause_db; watchlists = z.watchlists }
+
 -- after it
-module _ {A : Type 0} (x z : Context A) (r : IsReady x) (u : IsAtUnits (view x)) (tracks : Tracks z.clause_db z.clause_alloc) (clauses : live_clauses z.clause_alloc ≡ left_long x.assignment.current (live_clauses x.clause_alloc)) (binary : z.binary_clauses ≡ with_pairs (without_assigned x.assignment.current x.binary_clauses) (left_pairs x.assignment.current (live_clauses x.clause_alloc))) (rest : z ≡ record x { binary_clauses = z.binary_clauses; clause_alloc = z.clause_alloc; clause_db = z.clause_db; watchlists = z.watchlists }) where
+module _ {A : Type 0} {x z : Context A} (d : Simplifies x z) where
   abbrev s : View
   s = view x
 
   abbrev t : View
-  t = simplified s (left_long s.values s.clauses) (with_pairs (without_assigned s.values s.binary) (left_pairs s.values s.clauses)) (are-unassigned s u)
+  t = simplified s (left_long s.values s.clauses) (with_pairs (without_assigned s.values s.binary) (left_pairs s.values s.clauses)) (are-unassigned s d.units)
 
   is-view : view z ≡ t
   is-view =
-      ap (λ (y : Context A). view y) rest
-      ∙ ap (λ (o : Bool). record s { sound = o; clauses = live_clauses z.clause_alloc; binary = z.binary_clauses }) (sound-is z.clause_alloc tracks.sound ∙ sym (sound-is x.clause_alloc r.tracks.sound))
-      ∙ ap₂ (λ (ks : List StoredClause) (B : List (List Literal)). record s { clauses = ks; binary = B }) clauses binary
+      ap (λ (y : Context A). view y) d.rest
+      ∙ ap (λ (o : Bool). record s { sound = o; clauses = live_clauses z.clause_alloc; binary = z.binary_clauses }) (sound-is z.clause_alloc d.tracks.sound ∙ sym (sound-is x.clause_alloc d.ready.tracks.sound))
+      ∙ ap₂ (λ (ks : List StoredClause) (B : List (List Literal)). record s { clauses = ks; binary = B }) d.clauses d.binary
 
   pub is-simplified : IsSimplified (view x) (view z)
   is-simplified = subst (IsSimplified s) (sym is-view) (record {
     clauses = refl;
     binary = refl;
     rest = refl;
-    unassigned = λ c h l i. unassigned-none s.values l (still-free s u c h l i);
+    unassigned = λ c h l i. unassigned-none s.values l (still-free s d.units c h l i);
   })
 
   pub simplified-proves : Proves 0 (search_of (view x)) (search_of (view z)) (pair_lines (view x) ++ clause_lines (view x))
-  simplified-proves = subst (λ (y : View). Proves 0 (search_of s) (search_of y) (pair_lines s ++ clause_lines s)) (sym is-view) (simplify-proves s u)
+  simplified-proves = subst (λ (y : View). Proves 0 (search_of s) (search_of y) (pair_lines s ++ clause_lines s)) (sym is-view) (simplify-proves s d.units)
 
   pub simplified-decidable : SameDecidable (view x) x.vsids (view z) z.vsids
   simplified-decidable =
       subst (λ (y : View). SameDecidable s x.vsids y z.vsids) (sym is-view)
-      (subst (λ a. SameDecidable s x.vsids t a) (sym (ap (λ (y : Context A). y.vsids) rest)) (λ v. ((λ h. h), (λ h. h))))
+      (subst (λ a. SameDecidable s x.vsids t a) (sym (ap (λ (y : Context A). y.vsids) d.rest)) (λ v. ((λ h. h), (λ h. h))))
 
   can-decide : CanDecide t x.vsids
   can-decide = record {
-    entries = record { activity = r.decidable.entries.activity; available = r.decidable.entries.available };
-    decidable = λ c h l i. let (d, j, o) = literal-kept s u c h l i in r.decidable.decidable d j l o;
+    entries = record { activity = d.ready.decidable.entries.activity; available = d.ready.decidable.entries.available };
+    decidable = λ c h l i. let (k, j, o) = literal-kept s d.units c h l i in d.ready.decidable.decidable k j l o;
   }
 
   pub simplified-ready : ((l : Literal) → list_of z.watchlists l ≡ []) → z.watchlists.enabled ≡ false → length z.watchlists.lists ≡ length x.watchlists.lists → IsReady z
   simplified-ready e o n =
-      exchanged-ready x z r (subst (KeepsValues x) (sym rest) (keeps-values x (record x { binary_clauses = z.binary_clauses; clause_alloc = z.clause_alloc; clause_db = z.clause_db; watchlists = z.watchlists }) refl))
-      (subst WellFormed (sym is-view) (still-well s u))
-      (subst LevelsSettled (sym is-view) (settled-undecided t u.undecided))
-      (subst (IsPropagated z.watchlists) (sym is-view) (propagated-unassigned t (still-well s u) (still-free s u) z.watchlists (n ∙ r.propagated.lists) o e (C-count s u ∙ u.lists) u.undecided))
-      tracks
+      exchanged-ready x z d.ready (subst (KeepsValues x) (sym d.rest) (keeps-values x (record x { binary_clauses = z.binary_clauses; clause_alloc = z.clause_alloc; clause_db = z.clause_db; watchlists = z.watchlists }) refl))
+      (subst WellFormed (sym is-view) (still-well s d.units))
+      (subst LevelsSettled (sym is-view) (settled-undecided t d.units.undecided))
+      (subst (IsPropagated z.watchlists) (sym is-view) (propagated-unassigned t (still-well s d.units) (still-free s d.units) z.watchlists (n ∙ d.ready.propagated.lists) o e (C-count s d.units ∙ d.units.lists) d.units.undecided))
+      d.tracks
       (subst (λ (y : View). CanDecide y x.vsids) (sym is-view) can-decide)

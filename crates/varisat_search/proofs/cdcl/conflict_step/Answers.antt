@@ -1,10 +1,7 @@
-use Rattle.std.proofs.Common.{ap, subst}
+use Rattle.std.proofs.Common.{ap}
 use Rattle.varisat_search.specs.Contexts.{view}
-use Rattle.varisat_search.specs.Steps.{SavesSome, Remembers}
 use Rattle.varisat_search.specs.Seen.{outcome_of}
-use Rattle.varisat_search.proofs.SettledUnits.{steps-settled, assumes-settled, rises-settled}
-use Rattle.varisat_search.proofs.TrailExtensions.{remembers-after, remembers-grown}
-use Rattle.varisat_prop.proofs.ViewGrowth.{grows-refl}
+use Rattle.varisat_search.proofs.SettledUnits.{steps-settled, assumes-settled, rises-settled, remembers-settled, saves-settled}
 use Rattle.varisat_search.specs.declared.context.Context.{Context}
 use Rattle.varisat_search.proofs.cdcl.conflict_step.Goals as goal
 
@@ -26,13 +23,7 @@ returns-in_ok-find_and_learn-in-Ok-clause-rises g c unknown =
     rises-settled c.args.ctx.now c.settle_units.new.ctx c.in_ok-settle_units.ensures.goes_on (view c.find_and_learn.new.ctx) c.requires.ready e.ready.well e.count (e.rises unknown)
 
 pub returns-in_ok-find_and_learn-in-Ok-clause-last : goal.returns-in_ok-find_and_learn-in-Ok-clause-last
-returns-in_ok-find_and_learn-in-Ok-clause-last g c =
-    let x = c.args.ctx.now in
-    let y = c.settle_units.new.ctx in
-    let z = c.find_and_learn.new.ctx in
-    let e = c.in_ok-settle_units.ensures.goes_on in
-    remembers-after (view x) (view y) x.assignment.last z.assignment.last e.extends
-    (subst (λ xs. Remembers (view y) xs z.assignment.last) e.last c.in_ok-find_and_learn-in-Ok.ensures.last)
+returns-in_ok-find_and_learn-in-Ok-clause-last g c = remembers-settled c.args.ctx.now c.settle_units.new.ctx c.in_ok-settle_units.ensures.goes_on c.find_and_learn.new.ctx.assignment.last c.in_ok-find_and_learn-in-Ok.ensures.last
 
 pub returns-in_ok-learn-in-Err-clause-steps : goal.returns-in_ok-learn-in-Err-clause-steps
 returns-in_ok-learn-in-Err-clause-steps g c =
@@ -46,13 +37,7 @@ returns-in_ok-learn-in-Err-clause-rises g c unknown =
     rises-settled c.args.ctx.now c.settle_units.new.ctx c.in_ok-settle_units.ensures.goes_on (view c.learn.new.ctx) c.requires.ready e.ready.well e.count (e.rises unknown)
 
 pub returns-in_ok-learn-in-Err-clause-last : goal.returns-in_ok-learn-in-Err-clause-last
-returns-in_ok-learn-in-Err-clause-last g c =
-    let x = c.args.ctx.now in
-    let y = c.settle_units.new.ctx in
-    let z = c.learn.new.ctx in
-    let e = c.in_ok-settle_units.ensures.goes_on in
-    remembers-after (view x) (view y) x.assignment.last z.assignment.last e.extends
-    (remembers-grown (view y) (view y) x.assignment.last z.assignment.last e.ready.well (grows-refl (view y)) (subst (λ xs. SavesSome (view y) xs z.assignment.last) e.last c.in_ok-learn-in-Err.ensures.last))
+returns-in_ok-learn-in-Err-clause-last g c = saves-settled c.args.ctx.now c.settle_units.new.ctx c.in_ok-settle_units.ensures.goes_on c.learn.new.ctx.assignment.last c.in_ok-learn-in-Err.ensures.last
 
 pub returns-in_ok-find_and_learn-in-Ok-clause-settles : goal.returns-in_ok-find_and_learn-in-Ok-clause-settles
 returns-in_ok-find_and_learn-in-Ok-clause-settles g c unsettled =

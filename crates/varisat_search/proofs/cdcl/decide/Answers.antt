@@ -36,11 +36,9 @@ returns-clause-ready g c =
 
 pub returns-clause-grows : goal.returns-clause-grows
 returns-clause-grows g c =
-    let s = view c.args.ctx.now in
     let x = c.enqueue_assumption.new.ctx in
     let z = c.make_decision.new.ctx in
-    let r = c.in_ok-enqueue_assumption.ensures.ready in
-    let n = subst (ComesToNext s (view x) x.assumptions) c.in-Done.is c.in_ok-enqueue_assumption.ensures.next in
+    let n = subst (ComesToNext (view c.args.ctx.now) (view x) x.assumptions) c.in-Done.is c.in_ok-enqueue_assumption.ensures.next in
     made-or-not c.in_ok-made.made _ _ _ c.in_ok-made.ensures.decided
-    (λ p. subst (λ (t : View). Grows t (view z)) n.0 (literal-grows (view x) (view z) r.well p.0 p.1 p.2))
-    (λ p. subst (Grows s) (sym (ap (λ (y : Context g.row.A.Denot). view y) p.0 ∙ n.0)) (grows-refl s))
+    (λ p. subst (λ (t : View). Grows t (view z)) n.0 (literal-grows (view x) (view z) c.in_ok-enqueue_assumption.ensures.ready.well p.0 p.1 p.2))
+    (λ p. subst (Grows (view c.args.ctx.now)) (sym (ap (λ (y : Context g.row.A.Denot). view y) p.0 ∙ n.0)) (grows-refl (view c.args.ctx.now)))

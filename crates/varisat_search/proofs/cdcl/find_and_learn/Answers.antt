@@ -7,7 +7,7 @@ use Rattle.varisat_search.specs.Contexts.{view}
 use Rattle.varisat_search.specs.Conflicts.{Stops}
 use Rattle.varisat_search.specs.Steps.{SavesSome, assignment_of}
 use Rattle.varisat_search.specs.Seen.{outcome_of}
-use Rattle.varisat_search.proofs.AssumptionOutcomes.{core-steps, keeps-model, keeps-core, keeps-learned}
+use Rattle.varisat_search.proofs.AssumptionOutcomes.{error-is, core-steps, keeps-model, keeps-core, keeps-learned}
 use Rattle.varisat_search.proofs.StepLines.{model-steps, steps-after}
 use Rattle.varisat_search.proofs.StepRanks.{rises-after}
 use Rattle.varisat_search.proofs.TrailExtensions.{remembers-grown}
@@ -31,16 +31,14 @@ pub returns-in-Err-Assumption-clause-steps : goal.returns-in-Err-Assumption-clau
 returns-in-Err-Assumption-clause-steps g c =
     let x = c.find_conflict.new.ctx in
     let m = c.in_ok-find_conflict.ensures in
-    let a = subst (λ r. MatchResult r (λ _. IsComplete (kept (view x)) x.trail.literals × EndsAssumed (view x) x.assumptions) (λ f. Stops (view x) x.assumptions f)) c.in-Err-Assumption.is m.found in
-    let b = subst (Stops (view x) x.assumptions) c.in-Err-Assumption.field-0-is a in
+    let b = error-is (IsComplete (kept (view x)) x.trail.literals × EndsAssumed (view x) x.assumptions) (Stops (view x) x.assumptions) c.in-Err-Assumption.is c.in-Err-Assumption.field-0-is m.found in
     ([], steps-after (view c.args.ctx.now) (view x) (view x) (UnsatUnder x.assumptions.failed_core) [] c.requires.ready.well m.ready.well m.grows (core-steps (view x) x.assumptions m.ready.well b))
 
 pub returns-in-Err-Assumption-clause-assumes : goal.returns-in-Err-Assumption-clause-assumes
 returns-in-Err-Assumption-clause-assumes g c =
     let x = c.find_conflict.new.ctx in
     let m = c.in_ok-find_conflict.ensures in
-    let a = subst (λ r. MatchResult r (λ _. IsComplete (kept (view x)) x.trail.literals × EndsAssumed (view x) x.assumptions) (λ f. Stops (view x) x.assumptions f)) c.in-Err-Assumption.is m.found in
-    let b = subst (Stops (view x) x.assumptions) c.in-Err-Assumption.field-0-is a in
+    let b = error-is (IsComplete (kept (view x)) x.trail.literals × EndsAssumed (view x) x.assumptions) (Stops (view x) x.assumptions) c.in-Err-Assumption.is c.in-Err-Assumption.field-0-is m.found in
     keeps-core (view c.args.ctx.now) (view x) c.args.ctx.now.assumptions x.assumptions c.requires.ready.well m.taken b
 
 pub returns-in_ok-learn-in-Err-Conflict-clause-steps : goal.returns-in_ok-learn-in-Err-Conflict-clause-steps

@@ -19,6 +19,7 @@ pub record Reads (g : Over) (c : After-var-var g) : Type 0 where
   pub below : c.loop-place.place < length c.args.ctx.now.trail.literals
   pub lit : c.index-trail-place.result ≡ literal_at (view c.args.ctx.now) c.loop-place.place
   pub var : c.var-var.result ≡ variable_of (literal_at (view c.args.ctx.now) c.loop-place.place)
+  pub inside : c.var-var.result < length c.args.ctx.now.assignment.current
 
 reads : (g : Over) (c : After-var-var g) → Reads g c
 reads g c =
@@ -28,27 +29,23 @@ reads g c =
     let below : k < length s.trail = omega (arith, c.loop-place-test.true, n) in
     let tr : c.trail.result.now ≡ s.trail = c.trail.ensures ∙ ap (λ x. x.trail.literals) c.loop-place.invariant.kept in
     let e : c.index-trail-place.result ≡ literal_at s k = element s.trail k c.index-trail-place.result below (c.index-trail-place.is ∙ ap (λ xs. get_or xs k c.index-trail-place.result) tr) in
-    record { below = below; lit = e; var = c.var-var.ensures ∙ ap variable_of e }
+    let v = c.var-var.ensures ∙ ap variable_of e in
+    let i = made-inside s.values (literal_at s k) (c.requires.well.is_true k below) in
+    record { below = below; lit = e; var = v; inside = omega (arith, i, v) }
 
 pub release_var-requires : goal.release_var-requires
 release_var-requires g c =
-    let s = view c.args.ctx.now in
-    let r = reads g (goal.at.release_var-requires g c).After-var-var in
-    let i = made-inside s.values (literal_at s c.loop-place.place) (c.requires.well.is_true c.loop-place.place r.below) in
-    let f = r.var in
+    let i = (reads g (goal.at.release_var-requires g c).After-var-var).inside in
     let m = c.loop-place.invariant.cutting.count in
-    omega (arith, i, f, m)
+    omega (arith, i, m)
 
 pub make_available-requires : goal.make_available-requires
 make_available-requires g c =
-    let s = view c.args.ctx.now in
-    let r = reads g (goal.at.make_available-requires g c).After-var-var in
-    let i = made-inside s.values (literal_at s c.loop-place.place) (c.requires.well.is_true c.loop-place.place r.below) in
-    let f = r.var in
+    let i = (reads g (goal.at.make_available-requires g c).After-var-var).inside in
     let n = c.requires.entries.activity in
     let m = ap (λ (x : Context g.row.A.Denot). length x.vsids.activity) c.loop-place.invariant.kept in
     let o = ap (λ (x : Activities). length x.activity) c.loop-place.invariant.making.rest in
-    omega (arith, i, f, n, o)
+    omega (arith, i, n, o)
 
 pub loop-place-preserved : goal.loop-place-preserved
 loop-place-preserved g c =

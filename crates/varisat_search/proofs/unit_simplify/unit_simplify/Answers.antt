@@ -1,7 +1,7 @@
-use Rattle.std.proofs.Common.{◌≡◌, ◌++◌, List, refl, ap, ◌∙◌, arith}
+use Rattle.std.proofs.Common.{◌≡◌, ◌++◌, Bool, Option, List, refl, ap, ◌∙◌, arith}
 use Rattle.varisat_theory.specs.Literals.{Clause, Literal}
 use Rattle.varisat_clause.specs.Stored.{StoredClause}
-use Rattle.varisat_clause.specs.Stores.{clauses_of}
+use Rattle.varisat_clause.specs.Stores.{Store, clauses_of}
 use Rattle.varisat_clause.specs.Collected.{live_clauses}
 use Rattle.varisat_prop.specs.Simplified.{without_assigned}
 use Rattle.varisat_search.specs.declared.context.Context.{Context}
@@ -10,9 +10,9 @@ use Rattle.varisat_search.specs.Contexts.{view}
 use Rattle.varisat_search.specs.Simplifications.{left_long, left_pairs, with_pairs, LeavesOpen}
 use Rattle.varisat_search.proofs.FilteredUnits.{filtered-left}
 use Rattle.varisat_search.proofs.SimplifiedSearch.{IsAtUnits}
-use Rattle.varisat_search.proofs.SimplifiedContext.{at-units, live-open, joining, is-simplified, simplified-proves, simplified-decidable, simplified-ready}
+use Rattle.varisat_search.proofs.SimplifiedContext.{Simplifies, at-units, live-open, joining, is-simplified, simplified-proves, simplified-decidable, simplified-ready}
 use Rattle.varisat_search.proofs.unit_simplify.unit_simplify.Given.{Over}
-use Rattle.varisat_search.proofs.unit_simplify.unit_simplify.Goals.{After-simplify, In_ok-filter_clauses, In_ok-add_pairs}
+use Rattle.varisat_search.proofs.unit_simplify.unit_simplify.Goals.{After-simplify, In_ok-filter_clauses, After-disable}
 use Rattle.varisat_search.proofs.unit_simplify.unit_simplify.Goals as goal
 
 pub simplify-requires : goal.simplify-requires
@@ -28,7 +28,10 @@ pub filter_clauses-requires-clause-accepted : goal.filter_clauses-requires-claus
 filter_clauses-requires-clause-accepted g c = live-open c.args.ctx.now (at g (goal.at.filter_clauses-requires-clause-accepted g c).After-simplify)
 
 -- what the filter left
-left : (g : Over) (c : In_ok-filter_clauses g) → (live_clauses c.filter_clauses.new.alloc ≡ left_long c.args.ctx.now.assignment.current (live_clauses c.args.ctx.now.clause_alloc)) × (c.filter_clauses.new.filter.pairs.items ≡ c.new-2.result.items ++ left_pairs c.args.ctx.now.assignment.current (live_clauses c.args.ctx.now.clause_alloc))
+abbrev IsLeft : List (Option Bool) → Store → Store → List Clause → List Clause → Type 0
+IsLeft values old new before pairs = (live_clauses new ≡ left_long values (live_clauses old)) × (pairs ≡ before ++ left_pairs values (live_clauses old))
+
+left : (g : Over) (c : In_ok-filter_clauses g) → IsLeft c.args.ctx.now.assignment.current c.args.ctx.now.clause_alloc c.filter_clauses.new.alloc c.new-2.result.items c.filter_clauses.new.filter.pairs.items
 left g c =
     filtered-left (λ (f : UnitFilter g.row.A.Denot). f.assignment.now.current) (λ (f : UnitFilter g.row.A.Denot). f.pairs.items)
     (λ (f : UnitFilter g.row.A.Denot) (k j : StoredClause) (h : UnitFilter g.row.A.Denot). (h.assignment ≡ f.assignment) × LeavesOpen f.assignment.now.current k j f.pairs.items h.pairs.items)
@@ -42,40 +45,36 @@ add_pairs-requires g c =
     (c.deref.ensures.value ∙ (left g here.In_ok-filter_clauses).1 ∙ ap (λ (cs : List Clause). cs ++ left_pairs c.args.ctx.now.assignment.current (live_clauses c.args.ctx.now.clause_alloc)) c.new-2.ensures.items)
 
 -- the lists of what literals imply
-joined : (g : Over) (c : In_ok-add_pairs g) → (live_clauses c.filter_clauses.new.alloc ≡ left_long c.args.ctx.now.assignment.current (live_clauses c.args.ctx.now.clause_alloc)) × (c.filter_clauses.new.filter.pairs.items ≡ c.new-2.result.items ++ left_pairs c.args.ctx.now.assignment.current (live_clauses c.args.ctx.now.clause_alloc)) → c.add_pairs.new.binary_clauses ≡ with_pairs (without_assigned c.args.ctx.now.assignment.current c.args.ctx.now.binary_clauses) (left_pairs c.args.ctx.now.assignment.current (live_clauses c.args.ctx.now.clause_alloc))
+joined : (g : Over) (c : After-disable g) → IsLeft c.args.ctx.now.assignment.current c.args.ctx.now.clause_alloc c.filter_clauses.new.alloc c.new-2.result.items c.filter_clauses.new.filter.pairs.items → c.add_pairs.new.binary_clauses ≡ with_pairs (without_assigned c.args.ctx.now.assignment.current c.args.ctx.now.binary_clauses) (left_pairs c.args.ctx.now.assignment.current (live_clauses c.args.ctx.now.clause_alloc))
 joined g c l =
     c.in_ok-add_pairs.ensures
     ∙ ap (λ (D : List (List Literal)). with_pairs D c.deref.result.now) c.simplify.ensures
     ∙ ap (with_pairs (without_assigned c.args.ctx.now.assignment.current c.args.ctx.now.binary_clauses)) (c.deref.ensures.value ∙ l.1 ∙ ap (λ (cs : List Clause). cs ++ left_pairs c.args.ctx.now.assignment.current (live_clauses c.args.ctx.now.clause_alloc)) c.new-2.ensures.items)
 
+-- the search after it
+abbrev after : (g : Over) (c : After-disable g) → Context g.row.A.Denot
+after g c = record c.args.ctx.now { binary_clauses = c.add_pairs.new.binary_clauses; clause_alloc = c.filter_clauses.new.alloc; clause_db = c.filter_clauses.new.db; watchlists = c.disable.new.self }
+
+simplifies : (g : Over) (c : After-disable g) → IsAtUnits (view c.args.ctx.now) → IsLeft c.args.ctx.now.assignment.current c.args.ctx.now.clause_alloc c.filter_clauses.new.alloc c.new-2.result.items c.filter_clauses.new.filter.pairs.items → Simplifies c.args.ctx.now (after g c)
+simplifies g c u l = record { ready = c.requires.ready; units = u; tracks = c.filter_clauses.ensures.tracks; clauses = l.0; binary = joined g c l; rest = refl }
+
 pub returns-clause-simplified : goal.returns-clause-simplified
 returns-clause-simplified g c =
     let here = goal.at.returns-clause-simplified g c in
-    let x = c.args.ctx.now in
-    let z : Context g.row.A.Denot = record x { binary_clauses = c.add_pairs.new.binary_clauses; clause_alloc = c.filter_clauses.new.alloc; clause_db = c.filter_clauses.new.db; watchlists = c.disable.new.self } in
-    let l = left g here.In_ok-filter_clauses in
-    is-simplified x z c.requires.ready (at g here.After-simplify) c.filter_clauses.ensures.tracks l.0 (joined g here.In_ok-add_pairs l) refl
-
-pub returns-clause-proves : goal.returns-clause-proves
-returns-clause-proves g c =
-    let here = goal.at.returns-clause-proves g c in
-    let x = c.args.ctx.now in
-    let z : Context g.row.A.Denot = record x { binary_clauses = c.add_pairs.new.binary_clauses; clause_alloc = c.filter_clauses.new.alloc; clause_db = c.filter_clauses.new.db; watchlists = c.disable.new.self } in
-    let l = left g here.In_ok-filter_clauses in
-    simplified-proves x z c.requires.ready (at g here.After-simplify) c.filter_clauses.ensures.tracks l.0 (joined g here.In_ok-add_pairs l) refl
+    is-simplified (simplifies g here.After-disable (at g here.After-simplify) (left g here.In_ok-filter_clauses))
 
 pub returns-clause-ready : goal.returns-clause-ready
 returns-clause-ready g c =
     let here = goal.at.returns-clause-ready g c in
-    let x = c.args.ctx.now in
-    let z : Context g.row.A.Denot = record x { binary_clauses = c.add_pairs.new.binary_clauses; clause_alloc = c.filter_clauses.new.alloc; clause_db = c.filter_clauses.new.db; watchlists = c.disable.new.self } in
-    let l = left g here.In_ok-filter_clauses in
-    simplified-ready x z c.requires.ready (at g here.After-simplify) c.filter_clauses.ensures.tracks l.0 (joined g here.In_ok-add_pairs l) refl c.disable.ensures.empty c.disable.ensures.enabled c.disable.ensures.count
+    let d = c.disable.ensures in
+    simplified-ready (simplifies g here.After-disable (at g here.After-simplify) (left g here.In_ok-filter_clauses)) d.empty d.enabled d.count
+
+pub returns-clause-proves : goal.returns-clause-proves
+returns-clause-proves g c =
+    let here = goal.at.returns-clause-proves g c in
+    simplified-proves (simplifies g here.After-disable (at g here.After-simplify) (left g here.In_ok-filter_clauses))
 
 pub returns-clause-decidable : goal.returns-clause-decidable
 returns-clause-decidable g c =
     let here = goal.at.returns-clause-decidable g c in
-    let x = c.args.ctx.now in
-    let z : Context g.row.A.Denot = record x { binary_clauses = c.add_pairs.new.binary_clauses; clause_alloc = c.filter_clauses.new.alloc; clause_db = c.filter_clauses.new.db; watchlists = c.disable.new.self } in
-    let l = left g here.In_ok-filter_clauses in
-    simplified-decidable x z c.requires.ready (at g here.After-simplify) c.filter_clauses.ensures.tracks l.0 (joined g here.In_ok-add_pairs l) refl
+    simplified-decidable (simplifies g here.After-disable (at g here.After-simplify) (left g here.In_ok-filter_clauses))

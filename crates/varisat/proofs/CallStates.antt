@@ -7,7 +7,8 @@ use Rattle.varisat_names.specs.Settings.{Settings}
 use Rattle.varisat.specs.States.{State, Ledger, IsWellFormed, Unknown, Unsat}
 use Rattle.varisat.specs.Refusals.{store_refusal}
 use Rattle.varisat.specs.Calls.{IsLike, IsValid, Invalidates, MayConstrain, AddsClause, CountsCall, Solves, with_steps}
-use Rattle.varisat.specs.Summaries.{Summary, StandsFor}
+use Rattle.varisat.specs.Spaces.{SpacesFit}
+use Rattle.varisat.specs.Summaries.{Summary, spaces, StandsFor}
 
 pub like-refl : (s : State) → IsLike s s
 like-refl s = record { naming = refl; ever_hidden = refl; clauses = refl; assumptions = refl; counted = refl; verdict = refl; ledger = refl }
@@ -23,6 +24,15 @@ ledger-is l v b n c d e f g =
 -- a solver and a state for which it stands are valid alike
 pub stands-valid : (g : Summary) (s : State) → StandsFor g s → g.ledger.valid ≡ true → IsValid s
 stands-valid g s st v = ap (λ x. x.valid) st.ledger ∙ v
+
+-- What is known as a call begins on a solver that is valid.
+pub record Begins (g : Summary) (s : State) : Type 0 where
+  pub valid : IsValid s
+  pub ledger : s.ledger ≡ g.ledger
+  pub fits : SpacesFit (spaces g) s
+
+pub begins : {g : Summary} {s : State} → StandsFor g s → g.ledger.valid ≡ true → Begins g s
+begins {g} {s} st v = record { valid = stands-valid g s st v; ledger = st.ledger; fits = st.fits v }
 
 -- the state, with the verdict and the flags of another
 abbrev pub told_as : State → State → State

@@ -1,5 +1,5 @@
 -- What the calls and answers so far say of the state that a solver is in: each call moves both alike.
-use Rattle.std.proofs.Common.{◌≡◌, ◌≢◌, ℕ, zero, suc, ◌<◌, ◌≤◌, ◌-◌, nat_lt, if◌then◌else◌, Bool, true, false, not, List, [], ◌∷◌, ◌++◌, ◌⊎◌, inl, inr, ⊎_elim, sym, ap, ◌∙◌, subst, refl, Option, Some, None, Result, Ok, Err, map, arith, length}
+use Rattle.std.proofs.Common.{◌≡◌, ◌≢◌, ℕ, zero, suc, ◌≤◌, ◌-◌, nat_lt, if◌then◌else◌, Bool, true, false, not, List, [], ◌∷◌, ◌++◌, ◌⊎◌, inl, inr, ⊎_elim, sym, ap, ◌∙◌, subst, refl, Option, Some, None, Result, Ok, Err, map, arith, length}
 use Rattle.std.proofs.lemmas.Bool.{not-true, false_from_ne_true}
 use Rattle.std.specs.declared.alloc.AllocError.{AllocError}
 use Rattle.varisat_theory.specs.Membership.{◌∈◌}
@@ -10,7 +10,7 @@ use Rattle.varisat_formula.specs.Streams.{Stand}
 use Rattle.varisat_names.specs.declared.config.SolverConfigUpdate.{SolverConfigUpdate}
 use Rattle.varisat_names.specs.Settings.{Settings, updated_settings}
 use Rattle.varisat_names.proofs.Maps.{updated-other, updated-all}
-use Rattle.varisat.specs.States.{State, join_counted, Verdict, Unknown, Sat, Unsat, UnsatUnderAssumptions, empty_state, IsRight, HasRightVerdict}
+use Rattle.varisat.specs.States.{State, Ledger, join_counted, Verdict, Unknown, Sat, Unsat, UnsatUnderAssumptions, empty_state, IsRight, HasRightVerdict}
 use Rattle.varisat.specs.Names.{Naming, Mode, bring, bring_next, bring_if_free, name_one, name_all, through_names, IsLeastFree, IsFirstWitness, free_name, set_mode, give_name, AreShown}
 use Rattle.varisat.specs.Models.{list_names, model_of, AreNamesInUse, IsCompletable, IsCoreToTell}
 use Rattle.varisat.specs.Additions as additions
@@ -222,10 +222,11 @@ add-text p s t old new r g (Unread e (v, k) n) = (p, Unread e (sym g.valid ∙ v
 
 -- 5. A new variable.
 
-named : (p : Past) (s t : State) (u : ℕ) → IsLike (start (with_naming (name_one u s.naming) s)) t → Knows p s → Knows (record p { naming = name_one u p.naming }) t
-named p s t u e k = record {
-  naming = e.naming ∙ ap (name_one u) k.naming;
-  capped = subst IsCapped (sym e.naming) (capped-one u s.naming k.capped);
+-- The state has the names m now, and all else that is known of it stays.
+knows-renamed : (p : Past) (s t : State) (m : Naming) (b : Bool) (l : Ledger) → IsLike (record s { naming = m; ever_hidden = b; ledger = l }) t → IsCapped m → Knows p s → Knows (record p { naming = m }) t
+knows-renamed p s t m b l e c k = record {
+  naming = e.naming;
+  capped = subst IsCapped (sym e.naming) c;
   clauses = e.clauses ∙ k.clauses;
   assumed = e.assumptions ∙ k.assumed;
   counted = e.counted ∙ k.counted;
@@ -234,6 +235,11 @@ named p s t u e k = record {
   failed = λ x. ap answer_of e.verdict ∙ k.failed x;
   right = right-like t s.clauses s.assumptions s.counted s.verdict e.clauses e.assumptions e.counted e.verdict k.right;
 }
+
+named : (p : Past) (s t : State) (u : ℕ) → IsLike (start (with_naming (name_one u s.naming) s)) t → Knows p s → Knows (record p { naming = name_one u p.naming }) t
+named p s t u e k =
+    subst (λ (m : Naming). Knows (record p { naming = m }) t) (ap (name_one u) k.naming)
+    (knows-renamed p s t (name_one u s.naming) s.ever_hidden (start s).ledger e (capped-one u s.naming k.capped) k)
 
 pub make-var : (p : Past) (s t : State) (r : Result ℕ SolverError) → Agrees p s → state.MakesVar s r t → Leads (past.MakesVar p r) t
 make-var p s t (Ok u) g (v, free, small, e) =
@@ -252,24 +258,12 @@ make-var p s t (Err e) g a = absurd a
 
 -- the state and the past have other names
 renamed : (p : Past) (s t : State) (m : Naming) (b : Bool) → IsLike (record s { naming = m; ever_hidden = b }) t → IsCapped m → Agrees p s → p.valid ≡ true → Agrees (record p { naming = m }) t
-renamed p s t m b e c g v =
-    let k = g.knows v in
-    record {
-      valid = ap (λ x. x.valid) e.ledger ∙ g.valid;
-      steps = ap (λ x. x.steps) e.ledger ∙ g.steps;
-      settings = ap (λ x. x.settings) e.ledger ∙ g.settings;
-      knows = λ _. record {
-        naming = e.naming;
-        capped = subst IsCapped (sym e.naming) c;
-        clauses = e.clauses ∙ k.clauses;
-        assumed = e.assumptions ∙ k.assumed;
-        counted = e.counted ∙ k.counted;
-        model = λ x. ap answer_of e.verdict ∙ k.model x;
-        found = λ x. k.found (sym (ap answer_of e.verdict) ∙ x);
-        failed = λ x. ap answer_of e.verdict ∙ k.failed x;
-        right = right-like t s.clauses s.assumptions s.counted s.verdict e.clauses e.assumptions e.counted e.verdict k.right;
-      };
-    }
+renamed p s t m b e c g v = record {
+  valid = ap (λ x. x.valid) e.ledger ∙ g.valid;
+  steps = ap (λ x. x.steps) e.ledger ∙ g.steps;
+  settings = ap (λ x. x.settings) e.ledger ∙ g.settings;
+  knows = λ _. knows-renamed p s t m b s.ledger e c (g.knows v);
+}
 
 -- a name is assumed in both or in none
 assumed-past : (p : Past) (s : State) (u : ℕ) → Knows p s → usage.IsAssumed variables.named s u → usage.IsAssumed past.named p u

@@ -1,37 +1,28 @@
 -- A search that comes to a verdict, and its core over names.
-use Rattle.std.proofs.Common.{◌≡◌, ℕ, ◌<◌, Bool, Option, List, ⊎_elim, length, ap, ◌∙◌, subst, refl, arith}
+use Rattle.std.proofs.Common.{◌≡◌, Bool, Option, List, length, ap, ◌∙◌, subst, refl, arith}
 use Rattle.varisat_theory.specs.Membership.{◌∈◌}
 use Rattle.varisat_theory.specs.Literals.{Literal}
 use Rattle.varisat_theory.specs.Derivations.{Line}
 use Rattle.varisat_theory.specs.Outcomes.{MakesSteps}
 use Rattle.varisat_schedule.specs.CallSteps.{steps_since}
-use Rattle.varisat_names.specs.VarMap.{at}
-use Rattle.varisat_names.specs.Variables.{Tables, AreLinked}
-use Rattle.varisat_names.proofs.Maps.{chain-some, is-some}
-use Rattle.varisat_names.proofs.Tables.{live-inside}
+use Rattle.varisat_names.specs.Variables.{Tables}
 use Rattle.varisat_search.specs.declared.context.Context.{Context}
 use Rattle.varisat_search.specs.declared.state.SatState.TheVariants as verdict
 use Rattle.varisat_search.specs.AssumptionParts.{AssumptionParts, KeepsAssumptions}
 use Rattle.varisat_search.specs.Contexts.{view, IsReady}
 use Rattle.varisat_search.specs.Decisions.{SameDecidable}
 use Rattle.varisat_search.specs.Seen.{search_of, outcome_of}
+use Rattle.varisat_search.proofs.ReadyAfter.{ready-with}
 use Rattle.varisat.specs.Searches.{answer_at, FindsVerdict}
-use Rattle.varisat.specs.Accepting.{IsPlain, HasUser}
 use Rattle.varisat.specs.Summaries.{IsKept}
 
 -- a core over names makes no difference to the search
 pub ready-named : {A : Type 0} (c : Context A) (core : List Literal) → IsReady c → IsReady (record c { assumptions = record c.assumptions { user_core = core } })
-ready-named c core r = record {
-  well = r.well;
-  settled = r.settled;
-  propagated = r.propagated;
-  tracks = r.tracks;
-  analysis = r.analysis;
-  flags = r.flags;
-  decidable = r.decidable;
-  assumed = record { reached = r.assumed.reached; listed = r.assumed.listed; decided = r.assumed.decided; first = r.assumed.first; in_range = r.assumed.in_range };
-  assumable = r.assumable;
-}
+ready-named c core r =
+    let parts : AssumptionParts = record c.assumptions { user_core = core } in
+    ready-with c (record c { assumptions = parts }) r refl refl refl r.propagated r.decidable
+    (record { reached = r.assumed.reached; listed = r.assumed.listed; decided = r.assumed.decided; first = r.assumed.first; in_range = r.assumed.in_range })
+    r.assumable
 
 -- where no core was found the search says it all
 pub found-plainly : {A : Type 0} (t : Tables) (x y : Context A) (found : Option Bool) → IsReady y → length y.assignment.current ≡ length x.assignment.current → SameDecidable (view x) x.vsids (view y) y.vsids → y.solver_state ≡ record x.solver_state { sat_state = y.solver_state.sat_state } → found ≡ answer_at y.solver_state.sat_state →

@@ -13,7 +13,7 @@ use Rattle.varisat_names.proofs.Maps.{chain-none, is-some, some-of}
 use Rattle.varisat_names.proofs.Tables.{kept-past}
 use Rattle.varisat.specs.States.{State}
 use Rattle.varisat.specs.Names.{Mode, Naming, name_one, give_name}
-use Rattle.varisat.specs.Calls.{IsValid, IsCrowded, with_naming}
+use Rattle.varisat.specs.Calls.{IsCrowded, with_naming}
 use Rattle.varisat.specs.Usage.{AreAllShown, ChangesVar, SetsMode, name_var}
 use Rattle.varisat.specs.VariableCalls.{named, IsAssumed, with_mode, hide_name}
 use Rattle.varisat.specs.VariableChanges.{IsMarkedAssumed, IsMarkedName, ChecksChange, StaysKept, SetsNamedMode, HidesNamed, AreShownInTurn, ShowsBelow}
@@ -23,6 +23,7 @@ use Rattle.varisat.specs.Summaries.{Summary, IsKept, spaces}
 use Rattle.varisat.specs.declared.solver.SolverError.{SolverError}
 use Rattle.varisat.specs.declared.solver.SolverError.TheVariants.{OutOfMemory, VariableLimit, AssumedVar}
 use Rattle.varisat.proofs.AcceptClause.{with_tables, named-one}
+use Rattle.varisat.proofs.CallStates.{Begins}
 use Rattle.varisat.proofs.NamingStates.{crowded-state}
 use Rattle.varisat.proofs.HiddenTables.{marked-assumed, assumed-marked, mode-spaces, hidden-spaces, shown-spaces}
 use Rattle.varisat.proofs.ShownInTurn.{HaveShown, all-shown}
@@ -32,15 +33,16 @@ use Rattle.varisat.proofs.ShownInTurn.{HaveShown, all-shown}
 assumed-state : (w : Carrying) (g : Summary) (s : State) (u : ℕ) → Links w (spaces g) s → IsMarkedName g.tables u → IsAssumed s u
 assumed-state w g s u k (x, e, m) = marked-assumed w (spaces g) s u x k e m
 
-pub unassumed-state : (g : Summary) (s : State) (u : ℕ) → SpacesFit (spaces g) s → (IsMarkedName g.tables u → ⊥) → IsAssumed s u → ⊥
-unassumed-state g s u (w, k) n (l, h, e) =
+pub unassumed-state : {g : Summary} {s : State} (u : ℕ) → Begins g s → (IsMarkedName g.tables u → ⊥) → IsAssumed s u → ⊥
+unassumed-state {g} {s} u b n (l, h, e) =
+    let (w, k) = b.fits in
     ⊎_elim
     (λ f. let z : None ≡ Some (variable_of l) = sym (k.names.agree u ∙ chain-none (at g.tables.users.forward) w.identity u f) ∙ e in absurd cc)
     (λ (x, f). n (x, f, assumed-marked w (spaces g) s u x k f (l, h, e)))
     (is-some (at g.tables.users.forward u))
 
-pub free-state : (g : Summary) (s : State) (u : ℕ) → SpacesFit (spaces g) s → at g.tables.users.forward u ≡ None → s.naming.names u ≡ None
-free-state g s u (w, k) f = k.names.agree u ∙ chain-none (at g.tables.users.forward) w.identity u f
+pub free-state : {g : Summary} {s : State} (u : ℕ) → Begins g s → at g.tables.users.forward u ≡ None → s.naming.names u ≡ None
+free-state {g} {s} u b f = let (w, k) = b.fits in k.names.agree u ∙ chain-none (at g.tables.users.forward) w.identity u f
 
 crowded-one : (w : Carrying) (g : Summary) (s : State) (u : ℕ) → Links w (spaces g) s → IsCrowded (name_one u (naming_of g.tables)) → IsCrowded (name_one u s.naming)
 crowded-one w g s u k c =
@@ -48,27 +50,27 @@ crowded-one w g s u k c =
     subst (λ v. IsCrowded (name_one v s.naming)) e (crowded-state w g s k (literal_of u true ∷ []) (subst (λ v. IsCrowded (name_one v (naming_of g.tables))) (sym e) c))
 
 -- a change that is refused changes nothing
-pub change-refused : (change : State → State) (g : Summary) (s : State) (u : ℕ) (e : SolverError) → IsValid s → SpacesFit (spaces g) s → ChecksChange g.tables u (Err e) → ChangesVar named change s u (Err e) s
-change-refused change g s u VariableLimit v (w, k) c = (v, ⊎_elim inl (λ m. inr (crowded-one w g s u k m)) c, refl)
-change-refused change g s u (AssumedVar x) v (w, k) (b, q, m) = (v, b, q, assumed-state w g s u k m, refl)
-change-refused change g s u e v f c = absurd c
+pub change-refused : (change : State → State) {g : Summary} {s : State} (u : ℕ) (e : SolverError) → Begins g s → ChecksChange g.tables u (Err e) → ChangesVar named change s u (Err e) s
+change-refused change {g} {s} u VariableLimit b c = let (w, k) = b.fits in (b.valid, ⊎_elim inl (λ m. inr (crowded-one w g s u k m)) c, refl)
+change-refused change {g} {s} u (AssumedVar x) b (h, q, m) = let (w, k) = b.fits in (b.valid, h, q, assumed-state w g s u k m, refl)
+change-refused change {g} {s} u e b c = absurd c
 
 -- memory is not what it is refused for
 no-memory : (t : Tables) (u : ℕ) (r : Result (Unit {0}) SolverError) → ChecksChange t u r → r ≡ Err OutOfMemory → ⊥
 no-memory t u r c q = subst (ChecksChange t u) q c
 
-pub mode-refused : (n : Mode) (g : Summary) (s : State) (u : ℕ) (e : SolverError) → IsValid s → SpacesFit (spaces g) s → ChecksChange g.tables u (Err e) → SetsMode named n s u (Err e) s
-mode-refused n g s u e v f c = (change-refused (with_mode u n) g s u e v f c, λ q. absurd (no-memory g.tables u (Err e) c q))
+pub mode-refused : (n : Mode) {g : Summary} {s : State} (u : ℕ) (e : SolverError) → Begins g s → ChecksChange g.tables u (Err e) → SetsMode named n s u (Err e) s
+mode-refused n {g} {s} u e b c = (change-refused (with_mode u n) u e b c, λ q. absurd (no-memory g.tables u (Err e) c q))
 
 -- 2. What is changed.
 
-pub mode-state : (g : Summary) (s : State) (new : Tables) (u : ℕ) (m : SamplingMode) (n : Mode) → SpacesFit (spaces g) s → ModeFits m n → SetsNamedMode u m g.tables new → SpacesFit (spaces (with_tables new g)) (with_mode u n (name_var named u s))
-mode-state g s new u m n f fit c =
-    mode-spaces (with_tables c.mid g) (with_naming (name_one u s.naming) s) new u c.global m n (named-one g s c.mid u f c.named.named) c.named.leads fit c.changed
+pub mode-state : {g : Summary} {s : State} (new : Tables) (u : ℕ) (m : SamplingMode) (n : Mode) → Begins g s → ModeFits m n → SetsNamedMode u m g.tables new → SpacesFit (spaces (with_tables new g)) (with_mode u n (name_var named u s))
+mode-state {g} {s} new u m n b fit c =
+    mode-spaces (with_tables c.mid g) (with_naming (name_one u s.naming) s) new u c.global m n (named-one g s c.mid u b.fits c.named.named) c.named.leads fit c.changed
 
-pub hide-state : (g : Summary) (s : State) (new : Tables) (u : ℕ) → SpacesFit (spaces g) s → HidesNamed u g.tables new → SpacesFit (spaces (with_tables new g)) (hide_name u (name_var named u s))
-hide-state g s new u f c =
-    hidden-spaces (with_tables c.mid g) (with_naming (name_one u s.naming) s) new u c.global (named-one g s c.mid u f c.named.named) c.named.leads c.named.unassumed c.hidden
+pub hide-state : {g : Summary} {s : State} (new : Tables) (u : ℕ) → Begins g s → HidesNamed u g.tables new → SpacesFit (spaces (with_tables new g)) (hide_name u (name_var named u s))
+hide-state {g} {s} new u b c =
+    hidden-spaces (with_tables c.mid g) (with_naming (name_one u s.naming) s) new u c.global (named-one g s c.mid u b.fits c.named.named) c.named.leads c.named.unassumed c.hidden
 
 turns-state : (us : List ℕ) (g : Summary) (s : State) (new : Tables) → SpacesFit (spaces g) s → AreShownInTurn us g.tables new → HaveShown us (with_tables new g) s
 turns-state [] g s new f e = (s.naming, refl, subst (λ t. SpacesFit (spaces (with_tables t g)) s) (sym e) f)
@@ -77,9 +79,9 @@ turns-state (u ∷ us) g s new f (mid, x, live, unnamed, n, rest) =
     let (m, turns, k) = turns-state us (with_tables mid g) (with_naming (give_name u i s.naming) s) new fit rest in
     (m, (l, (i, b, o, turns)), k)
 
-pub show-state : (us : List ℕ) (g : Summary) (s : State) (new : Tables) → SpacesFit (spaces g) s → ShowsBelow (length g.tables.kept) us g.tables new → (m : Naming) × AreAllShown us s.clauses s.naming m × SpacesFit (spaces (with_tables new g)) (with_naming m s)
-show-state us g s new f d =
-    all-shown us (with_tables new g) s (turns-state us g s new f d.in_turn) d.in_range
+pub show-state : (us : List ℕ) {g : Summary} {s : State} (new : Tables) → Begins g s → ShowsBelow (length g.tables.kept) us g.tables new → (m : Naming) × AreAllShown us s.clauses s.naming m × SpacesFit (spaces (with_tables new g)) (with_naming m s)
+show-state us {g} {s} new b d =
+    all-shown us (with_tables new g) s (turns-state us g s new b.fits d.in_turn) d.in_range
     (λ x e. ⊎_elim (λ h. d.rest x h e) (λ h. let c = d.count in kept-past new.kept x (omega (arith, h, c))) (cases_lt x (length g.tables.kept)))
 
 -- 3. What a valid solver keeps.

@@ -1,6 +1,6 @@
 use Rattle.std.proofs.Common.{List, length, ◌∙◌, ⊎_elim, inl, inr, ap, sym, subst, refl, true, false, arith}
 use Rattle.varisat_theory.specs.Derivations.{Line}
-use Rattle.varisat_theory.specs.Outcomes.{Unknown, Steps, MakesSteps}
+use Rattle.varisat_theory.specs.Outcomes.{Outcome, Unknown, Steps, MakesSteps}
 use Rattle.varisat_prop.specs.View.{kinds}
 use Rattle.varisat_search.specs.declared.state.SolverState.{SolverState}
 use Rattle.varisat_schedule.specs.CallSteps.{steps_since}
@@ -41,6 +41,16 @@ decidable-still g c =
     let y = c.steps.ctx in
     let z = c.schedule_step.new.ctx in
     same-trans (view x) x.vsids (view y) y.vsids (view z) z.vsids c.steps.invariant.decidable c.in_ok-schedule_step.ensures.decidable
+
+-- the outcome of a step, the lines up to it, and the assumptions after it
+abbrev told : (g : Over) (c : In_ok-schedule_step g) → Outcome
+told g c = outcome_of (view c.schedule_step.new.ctx) c.schedule_step.new.ctx.assumptions.failed_core c.schedule_step.new.ctx.solver_state.sat_state
+
+lines-told : (g : Over) (c : In_ok-schedule_step g) → (lines : List Line) × MakesSteps (steps_since c.args.ctx.now.schedule c.schedule_step.new.ctx.schedule) (search_of (view c.args.ctx.now)) (search_of (view c.schedule_step.new.ctx)) (told g c) lines
+lines-told g c = stepping-lines (stepping g c) (told g c) c.in_ok-schedule_step.ensures.steps
+
+keeps-told : (g : Over) (c : In_ok-schedule_step g) → KeepsAssumptions (search_of (view c.args.ctx.now)) (told g c) c.args.ctx.now.assumptions c.schedule_step.new.ctx.assumptions
+keeps-told g c = stepping-keeps (stepping g c) (told g c) c.in_ok-schedule_step.ensures.assumes
 
 pub steps-init : goal.steps-init
 steps-init g c =
@@ -122,14 +132,10 @@ pub returns-in-Sat-clause-found : goal.returns-in-Sat-clause-found
 returns-in-Sat-clause-found g c = sym (ap answer_at c.in-Sat.is)
 
 pub returns-in-Sat-clause-steps : goal.returns-in-Sat-clause-steps
-returns-in-Sat-clause-steps g c =
-    let z = c.schedule_step.new.ctx in
-    stepping-lines (stepping g (goal.at.returns-in-Sat-clause-steps g c).In_ok-schedule_step) (outcome_of (view z) z.assumptions.failed_core z.solver_state.sat_state) c.in_ok-schedule_step.ensures.steps
+returns-in-Sat-clause-steps g c = lines-told g (goal.at.returns-in-Sat-clause-steps g c).In_ok-schedule_step
 
 pub returns-in-Sat-clause-assumptions : goal.returns-in-Sat-clause-assumptions
-returns-in-Sat-clause-assumptions g c =
-    let z = c.schedule_step.new.ctx in
-    stepping-keeps (stepping g (goal.at.returns-in-Sat-clause-assumptions g c).In_ok-schedule_step) (outcome_of (view z) z.assumptions.failed_core z.solver_state.sat_state) c.in_ok-schedule_step.ensures.assumes
+returns-in-Sat-clause-assumptions g c = keeps-told g (goal.at.returns-in-Sat-clause-assumptions g c).In_ok-schedule_step
 
 pub returns-in-Unsat-clause-state : goal.returns-in-Unsat-clause-state
 returns-in-Unsat-clause-state g c = c.in_ok-schedule_step.ensures.state ∙ ap (λ (s : SolverState). record s { sat_state = c.schedule_step.new.ctx.solver_state.sat_state }) c.steps.invariant.state
@@ -138,14 +144,10 @@ pub returns-in-Unsat-clause-found : goal.returns-in-Unsat-clause-found
 returns-in-Unsat-clause-found g c = ⊎_elim (λ q. sym (ap answer_at q)) (λ q. sym (ap answer_at q)) c.in-Unsat.is
 
 pub returns-in-Unsat-clause-steps : goal.returns-in-Unsat-clause-steps
-returns-in-Unsat-clause-steps g c =
-    let z = c.schedule_step.new.ctx in
-    stepping-lines (stepping g (goal.at.returns-in-Unsat-clause-steps g c).In_ok-schedule_step) (outcome_of (view z) z.assumptions.failed_core z.solver_state.sat_state) c.in_ok-schedule_step.ensures.steps
+returns-in-Unsat-clause-steps g c = lines-told g (goal.at.returns-in-Unsat-clause-steps g c).In_ok-schedule_step
 
 pub returns-in-Unsat-clause-assumptions : goal.returns-in-Unsat-clause-assumptions
-returns-in-Unsat-clause-assumptions g c =
-    let z = c.schedule_step.new.ctx in
-    stepping-keeps (stepping g (goal.at.returns-in-Unsat-clause-assumptions g c).In_ok-schedule_step) (outcome_of (view z) z.assumptions.failed_core z.solver_state.sat_state) c.in_ok-schedule_step.ensures.assumes
+returns-in-Unsat-clause-assumptions g c = keeps-told g (goal.at.returns-in-Unsat-clause-assumptions g c).In_ok-schedule_step
 
 pub returns-in-Unsat-clause-decidable : goal.returns-in-Unsat-clause-decidable
 returns-in-Unsat-clause-decidable g c = decidable-still g (goal.at.returns-in-Unsat-clause-decidable g c).In_ok-schedule_step

@@ -1,9 +1,7 @@
 use Rattle.std.proofs.Common.{not, ap, false}
-use Rattle.varisat_search.specs.Contexts.{view}
-use Rattle.varisat.specs.Summaries.{Summary}
 use Rattle.varisat.specs.States.{Ledger}
 use Rattle.varisat.specs.Calls.{with_naming}
-use Rattle.varisat.proofs.CallStates.{stands-valid, like-refl, broken, broken-invalid}
+use Rattle.varisat.proofs.CallStates.{begins, like-refl, broken, broken-invalid}
 use Rattle.varisat.proofs.VariableStates.{show-state, kept-after}
 use Rattle.varisat.proofs.solver.Solver.observe_internal_vars.Goals as goal
 
@@ -13,19 +11,18 @@ invariant_of-self g c v = kept-after c.self.inside.ctx c.self.inside.variables c
 pub returns-in-Ok : goal.returns-in-Ok
 returns-in-Ok g c s st =
     let q = rw (← c.self.view_is) at st in
-    let v = ap not c.if-self.false in
-    let old : Summary = record { tables = c.self.inside.variables; search = view c.self.inside.ctx; assumed = c.self.inside.ctx.assumptions; sat_state = c.self.inside.ctx.solver_state.sat_state; ledger = s.ledger } in
-    let (m, shown, fits) = show-state c.in-Ok.shown.items old s c.show_hidden.new.variables (q.fits v) (c.in-Ok.ensures {u = tt}) in (
+    let k = begins q (ap not c.if-self.false) in
+    let (m, shown, fits) = show-state c.in-Ok.shown.items c.show_hidden.new.variables k (c.in-Ok.ensures {u = tt}) in (
       with_naming m s,
-      (stands-valid _ s q v, (m, shown, like-refl (with_naming m s))),
-      record { ledger = q.ledger; fits = λ _. fits },
+      (k.valid, (m, shown, like-refl (with_naming m s))),
+      record { ledger = k.ledger; fits = λ _. fits },
     )
 
 pub returns-in-Err : goal.returns-in-Err
 returns-in-Err g c s st =
     let q = rw (← c.self.view_is) at st in
-    let v = ap not c.if-self.false in (
+    let k = begins q (ap not c.if-self.false) in (
       broken s,
-      broken-invalid s (stands-valid _ s q v) (q.fits v).1.well_formed,
-      record { ledger = ap (λ (x : Ledger). record x { valid = false }) q.ledger; fits = λ e. absurd cc },
+      broken-invalid s k.valid k.fits.1.well_formed,
+      record { ledger = ap (λ (x : Ledger). record x { valid = false }) k.ledger; fits = λ e. absurd cc },
     )

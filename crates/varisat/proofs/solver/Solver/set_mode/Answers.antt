@@ -1,11 +1,9 @@
 use Rattle.std.proofs.Common.{not, subst, sym, ap, false}
-use Rattle.varisat_search.specs.Contexts.{view}
-use Rattle.varisat.specs.Summaries.{Summary}
 use Rattle.varisat.specs.States.{Ledger}
 use Rattle.varisat.specs.Accepting.{mode_of}
 use Rattle.varisat.specs.Usage.{name_var, SetsMode}
 use Rattle.varisat.specs.VariableCalls.{named, with_mode}
-use Rattle.varisat.proofs.CallStates.{stands-valid, like-refl, broken, broken-invalid}
+use Rattle.varisat.proofs.CallStates.{begins, like-refl, broken, broken-invalid}
 use Rattle.varisat.proofs.Additions.{told-error}
 use Rattle.varisat.proofs.VariableStates.{unassumed-state, free-state, mode-refused, mode-state, kept-after}
 use Rattle.varisat.proofs.solver.Solver.set_mode.Goals as goal
@@ -19,37 +17,31 @@ invariant_of-self g c v = kept-after c.self.inside.ctx c.self.inside.variables c
 pub returns-in_err-check_change : goal.returns-in_err-check_change
 returns-in_err-check_change g c s st =
     let q = rw (← c.self.view_is) at st in
-    let v = ap not c.if-self.false in
-    let old : Summary = record { tables = c.self.inside.variables; search = view c.self.inside.ctx; assumed = c.self.inside.ctx.assumptions; sat_state = c.self.inside.ctx.solver_state.sat_state; ledger = s.ledger } in
+    let k = begins q (ap not c.if-self.false) in
+    let n = mode_of c.args.mode in
     let refused = told-error c.from_residual.result c.in_err-check_change.field-0.0 c.from_residual.ensures in
-    (s, subst (λ r. SetsMode named (mode_of c.args.mode) s c.args.var r s) (sym refused) (mode-refused (mode_of c.args.mode) old s c.args.var c.in_err-check_change.field-0.0 (stands-valid _ s q v) (q.fits v) c.in_err-check_change.ensures), st)
+    (s, subst (λ r. SetsMode named n s c.args.var r s) (sym refused) (mode-refused n c.args.var c.in_err-check_change.field-0.0 k c.in_err-check_change.ensures), st)
 
 pub returns-in-Ok : goal.returns-in-Ok
 returns-in-Ok g c s st =
     let q = rw (← c.self.view_is) at st in
-    let v = ap not c.if-self.false in
-    let old : Summary = record { tables = c.self.inside.variables; search = view c.self.inside.ctx; assumed = c.self.inside.ctx.assumptions; sat_state = c.self.inside.ctx.solver_state.sat_state; ledger = s.ledger } in
+    let k = begins q (ap not c.if-self.false) in
     let u = c.args.var in
     let m = c.args.mode in
     let may = c.in_ok-check_change.ensures in
     let t = with_mode u (mode_of m) (name_var named u s) in (
       t,
-      ((stands-valid _ s q v, may.in_range, unassumed-state old s u (q.fits v) may.unassumed, like-refl t), λ e. absurd cc),
-      record {
-        ledger = q.ledger;
-        fits = λ _. mode-state old s c.set_named_mode.new.variables u m (mode_of m) (q.fits v) c.requires ((c.in-Ok.ensures {u = tt}).set);
-      },
+      ((k.valid, may.in_range, unassumed-state u k may.unassumed, like-refl t), λ e. absurd cc),
+      record { ledger = k.ledger; fits = λ _. mode-state c.set_named_mode.new.variables u m (mode_of m) k c.requires ((c.in-Ok.ensures {u = tt}).set) },
     )
 
 pub returns-in-Err : goal.returns-in-Err
 returns-in-Err g c s st =
     let q = rw (← c.self.view_is) at st in
-    let v = ap not c.if-self.false in
-    let old : Summary = record { tables = c.self.inside.variables; search = view c.self.inside.ctx; assumed = c.self.inside.ctx.assumptions; sat_state = c.self.inside.ctx.solver_state.sat_state; ledger = s.ledger } in
+    let k = begins q (ap not c.if-self.false) in
     let u = c.args.var in
-    let may = c.in_ok-check_change.ensures in
-    let f = q.fits v in (
+    let may = c.in_ok-check_change.ensures in (
       broken s,
-      ((may.in_range, unassumed-state old s u f may.unassumed, broken-invalid s (stands-valid _ s q v) f.1.well_formed), λ e. free-state old s u f ((c.in-Err.ensures {u = tt}).free)),
-      record { ledger = ap (λ (x : Ledger). record x { valid = false }) q.ledger; fits = λ e. absurd cc },
+      ((may.in_range, unassumed-state u k may.unassumed, broken-invalid s k.valid k.fits.1.well_formed), λ e. free-state u k ((c.in-Err.ensures {u = tt}).free)),
+      record { ledger = ap (λ (x : Ledger). record x { valid = false }) k.ledger; fits = λ e. absurd cc },
     )

@@ -57,3 +57,4 @@ pub mod SettledUnits
 pub mod LoadedQueue
 pub mod ScheduledSteps
 pub mod ShownContexts
+pub mod MadeSteps

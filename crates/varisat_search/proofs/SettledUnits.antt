@@ -11,7 +11,7 @@ use Rattle.varisat_prop.specs.declared.prop.graph.Conflict.TheVariants as confli
 use Rattle.varisat_prop.specs.View.{View, WellFormed, kinds}
 use Rattle.varisat_prop.specs.Changes.{IsConflicting}
 use Rattle.varisat_prop.specs.Looks.{Propagates}
-use Rattle.varisat_prop.proofs.ViewGrowth.{append-nil, kinds-more, grows-refl}
+use Rattle.varisat_prop.proofs.ViewGrowth.{append-nil, kinds-more}
 use Rattle.varisat_search.specs.declared.context.Context.{Context}
 use Rattle.varisat_search.specs.AssumptionParts.{AssumptionParts, KeepsAssumptions}
 use Rattle.varisat_search.specs.Contexts.{view, IsReady}
@@ -20,13 +20,13 @@ use Rattle.varisat_search.specs.ProvedUnits.{implied_units, ProvesUnits}
 use Rattle.varisat_search.specs.Seen.{search_of}
 use Rattle.varisat_search.specs.SettledUnits.{SettlesUnits, GoesOnByLines}
 use Rattle.varisat_search.specs.Simplifications.{IsSimplified, pair_lines, clause_lines}
-use Rattle.varisat_search.specs.Steps.{SavesSome, Remembers}
+use Rattle.varisat_search.specs.Steps.{Remembers}
 use Rattle.varisat_search.proofs.AssumptionSteps.{keeps-after-part}
 use Rattle.varisat_search.proofs.DecidableVariables.{same-trans, same-read, propagated-same}
 use Rattle.varisat_search.proofs.ProvedUnits.{units-kinds}
 use Rattle.varisat_search.proofs.StepRanks.{rises-longer}
 use Rattle.varisat_search.proofs.StepWithoutLines.{grows_prove}
-use Rattle.varisat_search.proofs.TrailExtensions.{extends-trans, extends-same, extends-grown, remembers-grown, remembers-after}
+use Rattle.varisat_search.proofs.TrailExtensions.{extends-trans, extends-same, extends-grown, remembers-after}
 
 -- one after the other
 pub goes-trans : {A : Type 0} (x y z : Context A) → GoesOnByLines x y → GoesOnByLines y z → GoesOnByLines x z
@@ -138,6 +138,3 @@ module _ {A : Type 0} (x y : Context A) (a : GoesOnByLines x y) where
 
   pub remembers-settled : (new : List Bool) → Remembers (view y) y.assignment.last new → Remembers (view x) x.assignment.last new
   remembers-settled new h = remembers-after (view x) (view y) x.assignment.last new a.extends (subst (λ xs. Remembers (view y) xs new) a.last h)
-
-  pub saves-settled : (new : List Bool) → SavesSome (view y) y.assignment.last new → Remembers (view x) x.assignment.last new
-  saves-settled new h = remembers-settled new (remembers-grown (view y) (view y) y.assignment.last new a.ready.well (grows-refl (view y)) h)

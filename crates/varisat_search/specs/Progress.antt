@@ -6,9 +6,11 @@ use Rattle.varisat_theory.specs.Rank.{rank}
 use Rattle.varisat_prop.specs.View.{kinds}
 use Rattle.varisat_search.specs.declared.context.Context.{Context}
 use Rattle.varisat_search.specs.declared.state.SatState.TheVariants as verdict
+use Rattle.varisat_search.specs.AssumptionParts.{KeepsAssumptions}
 use Rattle.varisat_search.specs.Contexts.{view, IsReady}
 use Rattle.varisat_search.specs.Decisions.{SameDecidable}
 use Rattle.varisat_search.specs.Seen.{search_of, outcome_of}
+use Rattle.varisat_search.specs.Steps.{Remembers}
 
 -- lines lead from the search to the next one, with its verdict
 abbrev pub StepsTo : {A : Type 0} → Context A → Context A → Type 0
@@ -27,6 +29,19 @@ pub record IsStepFurther {A : Type 0} (x y : Context A) : Type 0 where
   pub decidable : SameDecidable (view x) x.vsids (view y) y.vsids
   pub assumptions : y.assumptions ≡ record x.assumptions { levels = y.assumptions.levels }
   pub decay : y.vsids.decay ≡ x.vsids.decay
+  pub count : length y.assignment.current ≡ length x.assignment.current
+  pub units : y.trail.units_removed ≡ x.trail.units_removed
+  pub state : y.solver_state ≡ record x.solver_state { sat_state = y.solver_state.sat_state }
+
+-- A step was made: lines lead to the search after it, which is ready again, and what is remembered and assumed fits it. Where it goes on the rank rises.
+pub record MakesStep {A : Type 0} (x y : Context A) : Type 0 where
+  pub ready : IsReady y
+  pub steps : StepsTo x y
+  pub assumes : KeepsAssumptions (search_of (view x)) (outcome_of (view y) y.assumptions.failed_core y.solver_state.sat_state) x.assumptions y.assumptions
+  pub rises : y.solver_state.sat_state ≡ verdict.Unknown → RaisesRank x y
+  pub decidable : SameDecidable (view x) x.vsids (view y) y.vsids
+  pub decay : y.vsids.decay ≡ x.vsids.decay
+  pub last : Remembers (view x) x.assignment.last y.assignment.last
   pub count : length y.assignment.current ≡ length x.assignment.current
   pub units : y.trail.units_removed ≡ x.trail.units_removed
   pub state : y.solver_state ≡ record x.solver_state { sat_state = y.solver_state.sat_state }

@@ -12,15 +12,14 @@ ghost use Rattle.varisat_prop.specs.View.{View, kept, Grows};
 ghost use Rattle.varisat_prop.specs.Changes.{IsConflicting};
 ghost use Rattle.varisat_analysis.specs.Learned.{IsLearned, AreInvolved};
 ghost use Rattle.varisat_search.specs.Contexts.{view, KeepsSchedule, IsReady};
-ghost use Rattle.varisat_search.specs.Steps.{SavesSome, Remembers};
+ghost use Rattle.varisat_search.specs.Steps.{SavesSome};
 ghost use Rattle.varisat_search.specs.Decisions.{SameDecidable};
 ghost use Rattle.varisat_analysis.specs.Bumps.{BumpsInvolved};
 ghost use Rattle.varisat_analysis.specs.Assessments.{glue_of, assessed, BumpsClauses};
-ghost use Rattle.varisat_search.specs.AssumptionParts.{TakesOutImplied, EndsAssumed, HasFailed, KeepsAssumptions};
+ghost use Rattle.varisat_search.specs.AssumptionParts.{TakesOutImplied, EndsAssumed, HasFailed};
 ghost use Rattle.varisat_search.specs.Conflicts.{Stops, Keeping, IsKeptAsReason, IsStoredAsReason, IsWatchedAsReason};
-ghost use Rattle.varisat_search.specs.Seen.{search_of, outcome_of};
 ghost use Rattle.varisat_search.specs.SettledUnits.{IsUnsettled, SettlesUnits, GoesOnByLines, SettlesFirst};
-ghost use Rattle.varisat_search.specs.Progress.{StepsTo, RaisesRank, IsStepFurther};
+ghost use Rattle.varisat_search.specs.Progress.{IsStepFurther, MakesStep};
 ghost use Rattle.varisat_vsids.specs.Activities.{Activities};
 
 use crate::assess::{assess_learned, bump_involved_clauses};
@@ -254,16 +253,7 @@ fn settle_units<A: Allocator + Copy>(
 fn find_and_learn<A: Allocator + Copy>(ctx: &mut Context<A>) -> Result<(), StoreError>
     requires ready { IsReady ctx.old }
     requires unknown { ctx.old.solver_state.sat_state ≡ SatState.Unknown }
-    ensures ready { OnOk result (IsReady ctx.new) }
-    ensures steps { OnOk result (StepsTo ctx.old ctx.new) }
-    ensures assumes { OnOk result (KeepsAssumptions (search_of (view ctx.old)) (outcome_of (view ctx.new) ctx.new.assumptions.failed_core ctx.new.solver_state.sat_state) ctx.old.assumptions ctx.new.assumptions) }
-    ensures rises { OnOk result (ctx.new.solver_state.sat_state ≡ SatState.Unknown → RaisesRank ctx.old ctx.new) }
-    ensures decidable { OnOk result (SameDecidable (view ctx.old) ctx.old.vsids (view ctx.new) ctx.new.vsids) }
-    ensures decay { OnOk result (ctx.new.vsids.decay ≡ ctx.old.vsids.decay) }
-    ensures last { OnOk result (Remembers (view ctx.old) ctx.old.assignment.last ctx.new.assignment.last) }
-    ensures count { OnOk result (length ctx.new.assignment.current ≡ length ctx.old.assignment.current) }
-    ensures units { OnOk result (ctx.new.trail.units_removed ≡ ctx.old.trail.units_removed) }
-    ensures state { OnOk result (ctx.new.solver_state ≡ record ctx.old.solver_state { sat_state = ctx.new.solver_state.sat_state }) }
+    ensures made { OnOk result (MakesStep ctx.old ctx.new) }
     ensures schedule { KeepsSchedule ctx.old ctx.new }
 {
     match find_conflict(ctx)? {
@@ -281,18 +271,9 @@ fn find_and_learn<A: Allocator + Copy>(ctx: &mut Context<A>) -> Result<(), Store
 pub fn conflict_step<A: Allocator + Copy>(ctx: &mut Context<A>) -> Result<(), StoreError>
     requires ready { IsReady ctx.old }
     requires unknown { ctx.old.solver_state.sat_state ≡ SatState.Unknown }
-    ensures ready { OnOk result (IsReady ctx.new) }
-    ensures steps { OnOk result (StepsTo ctx.old ctx.new) }
+    ensures made { OnOk result (MakesStep ctx.old ctx.new) }
     // At level 0 lines that prove units come first, and then those of simplification.
     ensures settles { OnOk result (SettlesFirst ctx.old ctx.new) }
-    ensures assumes { OnOk result (KeepsAssumptions (search_of (view ctx.old)) (outcome_of (view ctx.new) ctx.new.assumptions.failed_core ctx.new.solver_state.sat_state) ctx.old.assumptions ctx.new.assumptions) }
-    ensures rises { OnOk result (ctx.new.solver_state.sat_state ≡ SatState.Unknown → RaisesRank ctx.old ctx.new) }
-    ensures decidable { OnOk result (SameDecidable (view ctx.old) ctx.old.vsids (view ctx.new) ctx.new.vsids) }
-    ensures decay { OnOk result (ctx.new.vsids.decay ≡ ctx.old.vsids.decay) }
-    ensures last { OnOk result (Remembers (view ctx.old) ctx.old.assignment.last ctx.new.assignment.last) }
-    ensures count { OnOk result (length ctx.new.assignment.current ≡ length ctx.old.assignment.current) }
-    ensures units { OnOk result (ctx.new.trail.units_removed ≡ ctx.old.trail.units_removed) }
-    ensures state { OnOk result (ctx.new.solver_state ≡ record ctx.old.solver_state { sat_state = ctx.new.solver_state.sat_state }) }
     ensures schedule { KeepsSchedule ctx.old ctx.new }
 {
     match settle_units(ctx)? {

@@ -59,9 +59,7 @@ simplifies : (g : Over) (c : After-disable g) → IsAtUnits (view c.args.ctx.now
 simplifies g c u l = record { ready = c.requires.ready; units = u; tracks = c.filter_clauses.ensures.tracks; clauses = l.0; binary = joined g c l; rest = refl }
 
 pub returns-clause-simplified : goal.returns-clause-simplified
-returns-clause-simplified g c =
-    let here = goal.at.returns-clause-simplified g c in
-    is-simplified (simplifies g here.After-disable (at g here.After-simplify) (left g here.In_ok-filter_clauses))
+returns-clause-simplified g c = let here = goal.at.returns-clause-simplified g c in is-simplified (simplifies g here.After-disable (at g here.After-simplify) (left g here.In_ok-filter_clauses))
 
 pub returns-clause-ready : goal.returns-clause-ready
 returns-clause-ready g c =
@@ -70,11 +68,7 @@ returns-clause-ready g c =
     simplified-ready (simplifies g here.After-disable (at g here.After-simplify) (left g here.In_ok-filter_clauses)) d.empty d.enabled d.count
 
 pub returns-clause-proves : goal.returns-clause-proves
-returns-clause-proves g c =
-    let here = goal.at.returns-clause-proves g c in
-    simplified-proves (simplifies g here.After-disable (at g here.After-simplify) (left g here.In_ok-filter_clauses))
+returns-clause-proves g c = let here = goal.at.returns-clause-proves g c in simplified-proves (simplifies g here.After-disable (at g here.After-simplify) (left g here.In_ok-filter_clauses))
 
 pub returns-clause-decidable : goal.returns-clause-decidable
-returns-clause-decidable g c =
-    let here = goal.at.returns-clause-decidable g c in
-    simplified-decidable (simplifies g here.After-disable (at g here.After-simplify) (left g here.In_ok-filter_clauses))
+returns-clause-decidable g c = let here = goal.at.returns-clause-decidable g c in simplified-decidable (simplifies g here.After-disable (at g here.After-simplify) (left g here.In_ok-filter_clauses))

@@ -1,4 +1,4 @@
-use Rattle.std.proofs.Common.{◌≡◌, ◌≢◌, ◌≤◌, ◌++◌, ◌∷◌, [], true, false, length, refl, sym, ap, ◌∙◌, subst, arith}
+use Rattle.std.proofs.Common.{◌≡◌, ◌≢◌, ◌≤◌, ◌++◌, ◌∷◌, Bool, Option, List, [], true, false, length, refl, sym, ap, ◌∙◌, subst, arith}
 use Rattle.varisat_theory.specs.Literals.{Clause}
 use Rattle.varisat_clause.specs.Stored.{StoredClause, stored_at}
 use Rattle.varisat_clause.specs.Stores.{clauses_of}
@@ -13,14 +13,19 @@ use Rattle.varisat_search.proofs.unit_simplify.UnitFilterClauseFilter.filter.Giv
 use Rattle.varisat_search.proofs.unit_simplify.UnitFilterClauseFilter.filter.Goals.{After-len}
 use Rattle.varisat_search.proofs.unit_simplify.UnitFilterClauseFilter.filter.Goals as goal
 
+abbrev values : (g : Over) (c : After-len g) → List (Option Bool)
+values g c = c.args.self.now.assignment.now.current
+
+abbrev clause : (g : Over) (c : After-len g) → StoredClause
+clause g c = stored_at (clauses_of c.args.alloc.now) c.args.cref
+
 -- what is left of the clause
-left-is : (g : Over) (c : After-len g) → c.copy_unassigned.new.left.items ≡ unassigned c.args.self.now.assignment.now.current (stored_at (clauses_of c.args.alloc.now) c.args.cref).literals
-left-is g c = c.in_ok-copy_unassigned.ensures ∙ ap (unassigned c.args.self.now.assignment.now.current) c.lits-lits.ensures
+left-is : (g : Over) (c : After-len g) → c.copy_unassigned.new.left.items ≡ unassigned (values g c) (clause g c).literals
+left-is g c = c.in_ok-copy_unassigned.ensures ∙ ap (unassigned (values g c)) c.lits-lits.ensures
 
 -- none of its literals is true
-none-true : (g : Over) (c : After-len g) → has_true c.args.self.now.assignment.now.current (stored_at (clauses_of c.args.alloc.now) c.args.cref).literals ≡ false
-none-true g c =
-    unsatisfied-read c.args.self.now.assignment.now.current c.lits-lits.result.now (stored_at (clauses_of c.args.alloc.now) c.args.cref).literals c.lits-lits.ensures (λ h. let b = c.if-is_satisfied.ensures.1 h in cc)
+none-true : (g : Over) (c : After-len g) → has_true (values g c) (clause g c).literals ≡ false
+none-true g c = unsatisfied-read (values g c) c.lits-lits.result.now (clause g c).literals c.lits-lits.ensures (λ h. let b = c.if-is_satisfied.ensures.1 h in cc)
 
 -- three or more are left, unless there are two
 three-left : (g : Over) (c : After-len g) → c.len.result ≢ 2 → 3 ≤ length c.copy_unassigned.new.left.items
@@ -30,10 +35,8 @@ three-left g c n =
     omega (arith, c.copy_unassigned.new.left.ok.0, n, two, e)
 
 -- the clause stays, as j
-stays : (g : Over) (c : After-len g) (j : StoredClause) → c.len.result ≢ 2 → j ≡ shortened_to (unassigned c.args.self.now.assignment.now.current (stored_at (clauses_of c.args.alloc.now) c.args.cref).literals) (stored_at (clauses_of c.args.alloc.now) c.args.cref) → LeavesOpen c.args.self.now.assignment.now.current (stored_at (clauses_of c.args.alloc.now) c.args.cref) (left_if true j) c.args.self.now.pairs.items c.args.self.now.pairs.items
-stays g c j n is =
-    leaves-long c.args.self.now.assignment.now.current (stored_at (clauses_of c.args.alloc.now) c.args.cref) c.args.self.now.pairs.items j (none-true g c)
-    (subst (λ (d : Clause). 3 ≤ length d) (left-is g c) (three-left g c n)) c.requires.live is
+stays : (g : Over) (c : After-len g) (j : StoredClause) → c.len.result ≢ 2 → j ≡ shortened_to (unassigned (values g c) (clause g c).literals) (clause g c) → LeavesOpen (values g c) (clause g c) (left_if true j) c.args.self.now.pairs.items c.args.self.now.pairs.items
+stays g c j n is = leaves-long (values g c) (clause g c) c.args.self.now.pairs.items j (none-true g c) (subst (λ (d : Clause). 3 ≤ length d) (left-is g c) (three-left g c n)) c.requires.live is
 
 pub returns-then-is_satisfied-clause-altered : goal.returns-then-is_satisfied-clause-altered
 returns-then-is_satisfied-clause-altered g c = alters-same c.args.alloc.now c.args.cref c.requires.sound c.requires.place c.requires.live
@@ -49,14 +52,12 @@ returns-then-len-eq2-clause-altered g c = alters-same c.args.alloc.now c.args.cr
 
 pub returns-then-len-eq2-clause-left : goal.returns-then-len-eq2-clause-left
 returns-then-len-eq2-clause-left g c =
-    let values = c.args.self.now.assignment.now.current in
-    let k = stored_at (clauses_of c.args.alloc.now) c.args.cref in
-    let left = c.copy_unassigned.new.left in
     let here = (goal.at.returns-then-len-eq2-clause-left g c).After-len in
+    let left = c.copy_unassigned.new.left in
     let n : length left.items ≡ 2 = omega (arith, left.ok.0, c.if-len-eq2.true) in
     let two = only-two left.items c.index.result.now c.index-then-len-eq2.result.now n c.index.ensures c.index-then-len-eq2.ensures in (
       refl,
-      leaves-pair values k c.args.self.now.pairs.items k c.push.new.self.items (none-true g here) (sym (ap (λ (d : Clause). length d) (left-is g here)) ∙ n)
+      leaves-pair (values g here) (clause g here) c.args.self.now.pairs.items (clause g here) c.push.new.self.items (none-true g here) (sym (ap (λ (d : Clause). length d) (left-is g here)) ∙ n)
           (c.in_ok-push.ensures.items ∙ ap (λ (d : Clause). c.args.self.now.pairs.items ++ d ∷ []) (sym two ∙ left-is g here)),
     )
 
@@ -71,20 +72,17 @@ returns-then-len-lits-clause-altered g c = shrunk-alters c.args.alloc.now c.shri
 
 pub returns-then-len-lits-clause-left : goal.returns-then-len-lits-clause-left
 returns-then-len-lits-clause-left g c =
-    let k = stored_at (clauses_of c.args.alloc.now) c.args.cref in
     let here = (goal.at.returns-then-len-lits-clause-left g c).After-len in
     let shrunk = shrunk-stored c.args.alloc.now c.shrink.new.alloc c.args.cref c.deref.result.now c.requires.place c.shrink.ensures in
-    (refl, stays g here (stored_at (clauses_of c.shrink.new.alloc) c.args.cref) c.if-len-eq2.false (shrunk ∙ ap (λ (d : Clause). shortened_to d k) (c.deref.ensures.value ∙ left-is g here)))
+    (refl, stays g here (stored_at (clauses_of c.shrink.new.alloc) c.args.cref) c.if-len-eq2.false (shrunk ∙ ap (λ (d : Clause). shortened_to d (clause g here)) (c.deref.ensures.value ∙ left-is g here)))
 
 pub returns-else-len-lits-clause-altered : goal.returns-else-len-lits-clause-altered
 returns-else-len-lits-clause-altered g c = alters-same c.args.alloc.now c.args.cref c.requires.sound c.requires.place c.requires.live
 
 pub returns-else-len-lits-clause-left : goal.returns-else-len-lits-clause-left
 returns-else-len-lits-clause-left g c =
-    let values = c.args.self.now.assignment.now.current in
-    let k = stored_at (clauses_of c.args.alloc.now) c.args.cref in
     let here = (goal.at.returns-else-len-lits-clause-left g c).After-len in
     let n = ap (λ (d : Clause). length d) (left-is g here) in
     let m = ap (λ (d : Clause). length d) c.lits-lits.ensures in
-    let full = filter-full (is_unassigned values) k.literals (omega (arith, c.copy_unassigned.new.left.ok.0, c.if-len-lits.false, n, m)) in
-    (refl, stays g here k c.if-len-eq2.false (not-shortened values k c.args.self.now.pairs.items (header-length c.args.alloc.now c.args.cref c.requires.sound c.requires.place) full))
+    let full = filter-full (is_unassigned (values g here)) (clause g here).literals (omega (arith, c.copy_unassigned.new.left.ok.0, c.if-len-lits.false, n, m)) in
+    (refl, stays g here (clause g here) c.if-len-eq2.false (not-shortened (values g here) (clause g here) c.args.self.now.pairs.items (header-length c.args.alloc.now c.args.cref c.requires.sound c.requires.place) full))

@@ -1,0 +1,108 @@
+-- A step is made over what comes before it: units that are settled, or propagation and decisions up to a conflict or to an end.
+use Rattle.std.proofs.Common.{◌≡◌, [], inl, refl, ap, ◌∙◌, subst}
+use Rattle.varisat_theory.specs.Outcomes.{Steps}
+use Rattle.varisat_prop.specs.View.{Grows}
+use Rattle.varisat_prop.proofs.ViewGrowth.{grows-refl}
+use Rattle.varisat_vsids.specs.Activities.{Activities}
+use Rattle.varisat_search.specs.declared.context.Context.{Context}
+use Rattle.varisat_search.specs.declared.state.SatState.{SatState}
+use Rattle.varisat_search.specs.declared.state.SatState.TheVariants as verdict
+use Rattle.varisat_search.specs.declared.state.SolverState.{SolverState}
+use Rattle.varisat_search.specs.AssumptionParts.{KeepsAssumptions, TakesOutImplied}
+use Rattle.varisat_search.specs.Contexts.{view, IsReady}
+use Rattle.varisat_search.specs.Decisions.{SameDecidable}
+use Rattle.varisat_search.specs.Progress.{IsStepFurther, MakesStep}
+use Rattle.varisat_search.specs.Seen.{search_of, outcome_of}
+use Rattle.varisat_search.specs.SettledUnits.{GoesOnByLines}
+use Rattle.varisat_search.specs.Steps.{SavesSome}
+use Rattle.varisat_search.proofs.AssumedTruths.{takes-refl}
+use Rattle.varisat_search.proofs.AssumptionOutcomes.{keeps-learned}
+use Rattle.varisat_search.proofs.DecidableVariables.{same-refl, same-trans}
+use Rattle.varisat_search.proofs.ReadyAfter.{ready-with}
+use Rattle.varisat_search.proofs.SettledUnits.{steps-settled, assumes-settled, rises-settled, remembers-settled}
+use Rattle.varisat_search.proofs.StepLines.{steps-after}
+use Rattle.varisat_search.proofs.StepRanks.{rises-after}
+use Rattle.varisat_search.proofs.TrailExtensions.{remembers-grown}
+
+-- 1. Propagation and decisions, from x to y.
+
+pub record Finds {A : Type 0} (x y : Context A) : Type 0 where
+  pub ready : IsReady y
+  pub grows : Grows (view x) (view y)
+  pub taken : TakesOutImplied (view x) x.assumptions y.assumptions
+  pub decidable : SameDecidable (view x) x.vsids (view y) y.vsids
+  pub activities : y.vsids ≡ record x.vsids { available = y.vsids.available }
+  pub state : y.solver_state ≡ x.solver_state
+  pub last : y.assignment.last ≡ x.assignment.last
+  pub units : y.trail.units_removed ≡ x.trail.units_removed
+
+finds-refl : {A : Type 0} (x : Context A) → IsReady x → Finds x x
+finds-refl x r = record {
+  ready = r;
+  grows = grows-refl (view x);
+  taken = takes-refl (view x) x.assumptions;
+  decidable = same-refl (view x) x.vsids;
+  activities = refl;
+  state = refl;
+  last = refl;
+  units = refl;
+}
+
+module _ {A : Type 0} (x y : Context A) (r : IsReady x) (f : Finds x y) where
+  -- They come to an end, with the verdict b.
+  abbrev ended : SatState → Context A
+  ended b = record y { solver_state = record y.solver_state { sat_state = b } }
+
+  pub made-ended : (b : SatState) → (b ≡ verdict.Unknown → ⊥) → Steps (search_of (view y)) (search_of (view y)) (outcome_of (view y) y.assumptions.failed_core b) [] → KeepsAssumptions (search_of (view x)) (outcome_of (view y) y.assumptions.failed_core b) x.assumptions y.assumptions → MakesStep x (ended b)
+  made-ended b known steps assumes = record {
+    ready = ready-with y (ended b) f.ready refl refl refl f.ready.propagated f.ready.decidable f.ready.assumed f.ready.assumable;
+    steps = ([], steps-after (view x) (view y) (view y) (outcome_of (view y) y.assumptions.failed_core b) [] r.well f.ready.well f.grows steps);
+    assumes = assumes;
+    rises = λ e. absurd (known e);
+    decidable = f.decidable;
+    decay = ap (λ (a : Activities). a.decay) f.activities;
+    last = remembers-grown (view x) (view y) x.assignment.last y.assignment.last f.ready.well f.grows (inl f.last);
+    count = f.grows.count;
+    units = f.units;
+    state = ap (λ (a : SolverState). record a { sat_state = b }) f.state;
+  }
+
+  -- A clause is learned after them.
+  pub made-learned : (z : Context A) → IsStepFurther y z → SavesSome (view y) y.assignment.last z.assignment.last → MakesStep x z
+  made-learned z e saves =
+      let (lines, p) = e.steps in
+      record {
+        ready = e.ready;
+        steps = (lines, steps-after (view x) (view y) (view z) (outcome_of (view z) z.assumptions.failed_core z.solver_state.sat_state) lines r.well f.ready.well f.grows p);
+        assumes = keeps-learned (view x) (view z) x.assumptions y.assumptions z.assumptions z.assumptions.failed_core z.solver_state.sat_state r.well f.taken e.assumptions e.known;
+        rises = λ u. rises-after (view x) (view y) (view z) r.well f.ready.well e.ready.well f.grows e.count (e.rises u);
+        decidable = same-trans (view x) x.vsids (view y) y.vsids (view z) z.vsids f.decidable e.decidable;
+        decay = e.decay ∙ ap (λ (a : Activities). a.decay) f.activities;
+        last = remembers-grown (view x) (view y) x.assignment.last z.assignment.last f.ready.well f.grows (subst (λ xs. SavesSome (view y) xs z.assignment.last) f.last saves);
+        count = e.count ∙ f.grows.count;
+        units = e.units ∙ f.units;
+        state = e.state ∙ ap (λ (a : SolverState). record a { sat_state = z.solver_state.sat_state }) f.state;
+      }
+
+-- a clause is learned at once
+pub made-at-once : {A : Type 0} (y z : Context A) → IsReady y → IsStepFurther y z → SavesSome (view y) y.assignment.last z.assignment.last → MakesStep y z
+made-at-once y z r e saves = made-learned y y r (finds-refl y r) z e saves
+
+-- 2. Units that are settled, from x to y.
+
+pub made-settled : {A : Type 0} (x y z : Context A) → IsReady x → GoesOnByLines x y → y ≡ record x { assignment = y.assignment; binary_clauses = y.binary_clauses; clause_alloc = y.clause_alloc; clause_db = y.clause_db; impl_graph = y.impl_graph; trail = y.trail; watchlists = y.watchlists } → MakesStep y z → MakesStep x z
+made-settled {A} x y z r a k m =
+    let v = outcome_of (view z) z.assumptions.failed_core z.solver_state.sat_state in
+    let (lines, p) = m.steps in
+    record {
+      ready = m.ready;
+      steps = steps-settled x y a (view z) v lines p;
+      assumes = assumes-settled x y a v z.assumptions (ap (λ (c : Context A). c.assumptions) k) m.assumes;
+      rises = λ u. rises-settled x y a (view z) r m.ready.well m.count (m.rises u);
+      decidable = same-trans (view x) x.vsids (view y) y.vsids (view z) z.vsids a.decidable m.decidable;
+      decay = m.decay ∙ ap (λ (c : Context A). c.vsids.decay) k;
+      last = remembers-settled x y a z.assignment.last m.last;
+      count = m.count ∙ a.extends.count;
+      units = m.units ∙ a.units;
+      state = m.state ∙ ap (λ (c : Context A). record c.solver_state { sat_state = z.solver_state.sat_state }) k;
+    }

@@ -222,11 +222,11 @@ add-text p s t old new r g (Unread e (v, k) n) = (p, Unread e (sym g.valid ∙ v
 
 -- 5. A new variable.
 
--- The state has the names m now, and all else that is known of it stays.
-knows-renamed : (p : Past) (s t : State) (m : Naming) (b : Bool) (l : Ledger) → IsLike (record s { naming = m; ever_hidden = b; ledger = l }) t → IsCapped m → Knows p s → Knows (record p { naming = m }) t
-knows-renamed p s t m b l e c k = record {
+-- The state has the names m now, and the past may have other flags. All else that is known stays.
+knows-like : (p : Past) (s t : State) (m : Naming) (b : Bool) (l : Ledger) (n : ℕ) (c : Settings) → IsLike (record s { naming = m; ever_hidden = b; ledger = l }) t → IsCapped m → Knows p s → Knows (record p { naming = m; steps = n; settings = c }) t
+knows-like p s t m b l n c e h k = record {
   naming = e.naming;
-  capped = subst IsCapped (sym e.naming) c;
+  capped = subst IsCapped (sym e.naming) h;
   clauses = e.clauses ∙ k.clauses;
   assumed = e.assumptions ∙ k.assumed;
   counted = e.counted ∙ k.counted;
@@ -239,7 +239,7 @@ knows-renamed p s t m b l e c k = record {
 named : (p : Past) (s t : State) (u : ℕ) → IsLike (start (with_naming (name_one u s.naming) s)) t → Knows p s → Knows (record p { naming = name_one u p.naming }) t
 named p s t u e k =
     subst (λ (m : Naming). Knows (record p { naming = m }) t) (ap (name_one u) k.naming)
-    (knows-renamed p s t (name_one u s.naming) s.ever_hidden (start s).ledger e (capped-one u s.naming k.capped) k)
+    (knows-like p s t (name_one u s.naming) s.ever_hidden (start s).ledger p.steps p.settings e (capped-one u s.naming k.capped) k)
 
 pub make-var : (p : Past) (s t : State) (r : Result ℕ SolverError) → Agrees p s → state.MakesVar s r t → Leads (past.MakesVar p r) t
 make-var p s t (Ok u) g (v, free, small, e) =
@@ -262,7 +262,7 @@ renamed p s t m b e c g v = record {
   valid = ap (λ x. x.valid) e.ledger ∙ g.valid;
   steps = ap (λ x. x.steps) e.ledger ∙ g.steps;
   settings = ap (λ x. x.settings) e.ledger ∙ g.settings;
-  knows = λ _. knows-renamed p s t m b s.ledger e c (g.knows v);
+  knows = λ _. knows-like p s t m b s.ledger p.steps p.settings e c (g.knows v);
 }
 
 -- a name is assumed in both or in none
@@ -399,17 +399,9 @@ few-steps p s t b g k r =
 
 -- the ledger alone changes
 told-on : (p : Past) (s t : State) (n : ℕ) (c : Settings) → IsLike (record s { ledger = t.ledger }) t → Knows p s → Knows (record p { steps = n; settings = c }) t
-told-on p s t n c e k = record {
-  naming = e.naming ∙ k.naming;
-  capped = subst IsCapped (sym e.naming) k.capped;
-  clauses = e.clauses ∙ k.clauses;
-  assumed = e.assumptions ∙ k.assumed;
-  counted = e.counted ∙ k.counted;
-  model = λ x. ap answer_of e.verdict ∙ k.model x;
-  found = λ x. k.found (sym (ap answer_of e.verdict) ∙ x);
-  failed = λ x. ap answer_of e.verdict ∙ k.failed x;
-  right = right-like t s.clauses s.assumptions s.counted s.verdict e.clauses e.assumptions e.counted e.verdict k.right;
-}
+told-on p s t n c e k =
+    subst (λ (m : Naming). Knows (record p { naming = m; steps = n; settings = c }) t) k.naming
+    (knows-like p s t s.naming s.ever_hidden t.ledger n c e k.capped k)
 
 like-told : (s t : State) (n : ℕ) → IsLike (with_steps n s) t → IsLike (record s { ledger = t.ledger }) t
 like-told s t n e = record { naming = e.naming; ever_hidden = e.ever_hidden; clauses = e.clauses; assumptions = e.assumptions; counted = e.counted; verdict = e.verdict; ledger = refl }

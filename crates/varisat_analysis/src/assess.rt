@@ -55,26 +55,30 @@ pub fn assess_learned_clause<A: Allocator + Copy>(
     header
 }
 
-/// Notes the glue and moves the clause to its tier, where the clause may be deleted and a higher glue is noted. A
-/// refused growth changes nothing.
+/// Where the clause may be deleted and a higher glue than its own is noted, notes its own and moves it to its tier. The
+/// levels of a clause of the user are not counted. A refused growth changes nothing.
 fn improve_glue<A: Allocator + Copy>(
     alloc: &mut ClauseAlloc<A>,
     db: &mut ClauseDb<A>,
+    flags: &mut [bool],
+    impl_graph: &ImplGraph<A>,
     cref: ClauseRef,
-    glue: usize,
 ) -> Result<(), AllocError>
     requires place { IsPlace (clauses_of alloc.old) cref }
     requires live { (header_at (clauses_of alloc.old) cref).deleted ≡ false }
     requires tracks { Tracks db.old alloc.old }
-    ensures improved { OnOk result (Holds alloc.new (length alloc.old.words) (with_header (clauses_of alloc.old) cref (improved glue (header_at (clauses_of alloc.old) cref)))) }
+    requires count { CanCount impl_graph.now.nodes.items (literals_at (clauses_of alloc.old) cref) flags.old }
+    ensures improved { OnOk result (Holds alloc.new (length alloc.old.words) (with_header (clauses_of alloc.old) cref (improved (glue_of impl_graph.now.nodes.items (literals_at (clauses_of alloc.old) cref)) (header_at (clauses_of alloc.old) cref)))) }
     ensures refused { OnErr result (alloc.new ≡ alloc.old) }
     ensures refused_too { OnErr result (db.new ≡ db.old) }
+    ensures flags { flags.new ≡ flags.old }
     ensures tracks { Tracks db.new alloc.new }
 {
     let header = alloc.header(cref);
     if !header.redundant() {
         return Ok(());
     }
+    let glue = compute_glue(flags, impl_graph, alloc.lits(cref));
     if glue >= header.glue() {
         return Ok(());
     }
@@ -118,8 +122,7 @@ pub fn bump_clause<A: Allocator + Copy>(
     ensures flags { flags.new ≡ flags.old }
     ensures tracks { Tracks db.new alloc.new }
 {
-    let glue = compute_glue(flags, impl_graph, alloc.lits(cref));
-    improve_glue(alloc, db, cref, glue)?;
+    improve_glue(alloc, db, flags, impl_graph, cref)?;
     set_active(alloc, cref);
     bump_clause_activity(alloc, activity, cref);
     Ok(())

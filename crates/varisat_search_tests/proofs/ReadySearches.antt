@@ -1,5 +1,5 @@
 -- A search stays ready where activities and remembered values change, and where its clauses are watched anew.
-use Rattle.std.proofs.Common.{◌≡◌, ◌*◌, true, false, length, get_or, replicate, ⊎_elim, inl, inr, sym, ap, ◌∙◌, subst}
+use Rattle.std.proofs.Common.{◌≡◌, ◌*◌, true, false, length, get_or, replicate, ⊎_elim, inl, inr, refl, sym, ap, ◌∙◌, subst}
 use Rattle.varisat_theory.specs.Literals.{variable_of}
 use Rattle.varisat_clause.specs.Collected.{live_clauses}
 use Rattle.varisat_prop.specs.Parts.{Values}
@@ -10,22 +10,16 @@ use Rattle.varisat_search.specs.declared.context.Context.{Context}
 use Rattle.varisat_search.specs.Contexts.{view, IsReady}
 use Rattle.varisat_search.specs.AssumptionParts.{HasAssumptions}
 use Rattle.varisat_search.specs.Decisions.{AreDecidable, CanDecide}
+use Rattle.varisat_search.proofs.ReadyAfter.{ready-with}
 
 pub activities-ready : {A : Type 0} {x : Context A} (a : Activities) → length a.activity ≡ length x.vsids.activity → a.available ≡ x.vsids.available → IsReady x → IsReady (record x { vsids = a })
-activities-ready a n e r = record {
-  well = r.well;
-  settled = r.settled;
-  propagated = r.propagated;
-  tracks = r.tracks;
-  analysis = r.analysis;
-  flags = r.flags;
-  decidable = record {
-    entries = record { activity = n ∙ r.decidable.entries.activity; available = ap (λ xs. length xs) e ∙ r.decidable.entries.available };
-    decidable = λ c i l j. ⊎_elim inl (λ h. inr (ap (λ xs. get_or xs (variable_of l) false) e ∙ h)) (r.decidable.decidable c i l j);
-  };
-  assumed = r.assumed;
-  assumable = λ l i. ⊎_elim inl (λ h. inr (ap (λ xs. get_or xs (variable_of l) false) e ∙ h)) (r.assumable l i);
-}
+activities-ready {A} {x} a n e r =
+    ready-with x (record x { vsids = a }) r refl refl refl r.propagated
+    (record {
+      entries = record { activity = n ∙ r.decidable.entries.activity; available = ap (λ xs. length xs) e ∙ r.decidable.entries.available };
+      decidable = λ c i l j. ⊎_elim inl (λ h. inr (ap (λ xs. get_or xs (variable_of l) false) e ∙ h)) (r.decidable.decidable c i l j);
+    })
+    r.assumed (λ l i. ⊎_elim inl (λ h. inr (ap (λ xs. get_or xs (variable_of l) false) e ∙ h)) (r.assumable l i))
 
 pub values-ready : {A : Type 0} {x : Context A} (a : Values) → a.current ≡ x.assignment.current → IsReady x → IsReady (record x { assignment = a })
 values-ready {A} {x} a e r =
@@ -43,22 +37,15 @@ values-ready {A} {x} a e r =
     }
 
 pub rebuilt-ready : {A : Type 0} {x : Context A} (W : Watches) → length W.lists ≡ length x.watchlists.lists → W.enabled ≡ true → IsWatching W (live_clauses x.clause_alloc) → IsReady x → IsReady (record x { watchlists = W })
-rebuilt-ready W n on w r = record {
-  well = r.well;
-  settled = r.settled;
-  propagated = record {
-    lists = n ∙ r.propagated.lists;
-    watching = λ e. w;
-    empty = λ e. absurd (let f = on in cc);
-    settled = r.propagated.settled;
-    binary = r.propagated.binary;
-    implied = r.propagated.implied;
-    queue = r.propagated.queue;
-  };
-  tracks = r.tracks;
-  analysis = r.analysis;
-  flags = r.flags;
-  decidable = r.decidable;
-  assumed = r.assumed;
-  assumable = r.assumable;
-}
+rebuilt-ready {A} {x} W n on w r =
+    ready-with x (record x { watchlists = W }) r refl refl refl
+    (record {
+      lists = n ∙ r.propagated.lists;
+      watching = λ e. w;
+      empty = λ e. absurd (let f = on in cc);
+      settled = r.propagated.settled;
+      binary = r.propagated.binary;
+      implied = r.propagated.implied;
+      queue = r.propagated.queue;
+    })
+    r.decidable r.assumed r.assumable

@@ -2,6 +2,7 @@
 
 mod assumptions;
 mod calls;
+mod hiding;
 mod lines;
 mod memory;
 mod programs;

@@ -193,7 +193,8 @@ fn refusals() -> [(SolverError, &'static str); 9] {
     ]
 }
 
-fn has_text(alloc: Global, error: &SolverError, wanted: &str) -> Result<bool, AllocError> {
+/// Whether the refusal is printed so.
+pub fn has_text(alloc: Global, error: &SolverError, wanted: &str) -> Result<bool, AllocError> {
     let text = error.to_string(alloc)?;
     Ok(text.as_str() == wanted)
 }

@@ -1,0 +1,110 @@
+//! Variables that are hidden and brought back, by calls of a solver: the names that come back, the variable that a
+//! refusal tells, and many rounds. What sessions show stands with them.
+use super::calls::has_text;
+use std::alloc::Global;
+use varisat::solver::{Solver, SolverError};
+use varisat_formula::formula::{Lit, Var};
+use varisat_formula::io::MemoryTarget;
+use varisat_literals::{lits, var};
+
+// A solver that writes no proof.
+type TestSolver = Solver<MemoryTarget<Global>, Global>;
+
+// What a row of checks comes to, where no call is refused that isn't meant to be.
+type Checked = Result<bool, SolverError>;
+
+// Whether the model lists exactly these literals.
+fn tells(solver: &TestSolver, wanted: &[Lit]) -> bool {
+    match solver.model() {
+        Ok(Some(model)) => model.as_slice() == wanted,
+        _ => false,
+    }
+}
+
+// Whether hidden variables come back under exactly these names.
+fn shows(solver: &mut TestSolver, wanted: &[Var]) -> Checked {
+    let shown = solver.observe_internal_vars()?;
+    Ok(shown.as_slice() == wanted)
+}
+
+// Whether the call was refused with this text.
+fn is_refused(alloc: Global, answer: &Result<(), SolverError>, wanted: &str) -> bool {
+    match answer {
+        Ok(()) => false,
+        Err(error) => matches!(has_text(alloc, error, wanted), Ok(true)),
+    }
+}
+
+// Whether the clause is refused with this text.
+fn refuses(alloc: Global, solver: &mut TestSolver, clause: &[Lit], wanted: &str) -> bool {
+    let answer = solver.add_clause(clause);
+    is_refused(alloc, &answer, wanted)
+}
+
+// A variable comes back as a witness, and may be constrained once it is sampled.
+fn comes_back_as_witness(alloc: Global, solver: &mut TestSolver) -> Checked {
+    solver.add_clause(&lits![1, 2])?;
+    solver.hide_var(var!(1))?;
+    let is_shown = shows(solver, &[var!(1)])?;
+    let refusal = "Variable 1 is a witness variable and cannot be constrained";
+    let is_refused = refuses(alloc, solver, &lits![1], refusal);
+    solver.sample_var(var!(1))?;
+    solver.add_clause(&lits![1])?;
+    let is_satisfiable = solver.solve()?;
+    let is_told = tells(solver, &lits![1, 2]) | tells(solver, &lits![1, -2]);
+    Ok(is_shown & is_refused & is_satisfiable & is_told)
+}
+
+// A model tells the value of a variable that came back once it was found.
+fn tells_shown(solver: &mut TestSolver) -> Checked {
+    solver.add_clause(&lits![1, 2])?;
+    solver.hide_var(var!(2))?;
+    let is_satisfiable = solver.solve()?;
+    let is_shown = shows(solver, &[var!(2)])?;
+    let is_told = tells(solver, &lits![1, -2]) | tells(solver, &lits![-1, 2]);
+    Ok(is_satisfiable & is_shown & is_told)
+}
+
+// The first witness of a clause is told, and a name past the limit before it. Neither clause names anything.
+fn tells_first_witness(alloc: Global, solver: &mut TestSolver) -> Checked {
+    solver.witness_var(var!(1))?;
+    solver.witness_var(var!(2))?;
+    let refusal = "Variable 2 is a witness variable and cannot be constrained";
+    let is_refused = refuses(alloc, solver, &lits![3, 2, 1], refusal);
+    let limit = "The variable limit is passed";
+    let is_past = refuses(alloc, solver, &lits![268435457, 1], limit);
+    let var = solver.new_var()?;
+    Ok(is_refused & is_past & (var == var!(3)))
+}
+
+// One name stands for a new variable twice in each round.
+fn hides_often(solver: &mut TestSolver) -> Checked {
+    let mut is_satisfiable = true;
+    for _ in 0..1000 {
+        solver.add_clause(&lits![1])?;
+        solver.hide_var(var!(1))?;
+        solver.add_clause(&lits![-1])?;
+        solver.hide_var(var!(1))?;
+        is_satisfiable &= solver.solve()?;
+    }
+    Ok(is_satisfiable)
+}
+
+// Each row has a solver of its own.
+fn rows(alloc: Global) -> [bool; 4] {
+    let mut first = Solver::new_in(alloc);
+    let mut second = Solver::new_in(alloc);
+    let mut third = Solver::new_in(alloc);
+    let mut fourth = Solver::new_in(alloc);
+    [
+        matches!(comes_back_as_witness(alloc, &mut first), Ok(true)),
+        matches!(tells_shown(&mut second), Ok(true)),
+        matches!(tells_first_witness(alloc, &mut third), Ok(true)),
+        matches!(hides_often(&mut fourth), Ok(true)),
+    ]
+}
+
+#[test]
+fn variables_are_hidden(rt: HostRuntime) {
+    assert!(rt; rows(rt.alloc()) == [true; 4]);
+}

@@ -320,7 +320,8 @@ impl<W: ProofTarget, A: Allocator + Copy> Solver<W, A> {
         self.end_text(&mut parser)
     }
 
-    /// Brings the least free name into use. Refused in an invalid solver, and where all 2^28 names are in use.
+    /// Brings the least free name into use. Refused in an invalid solver, and where all 2^28 names are in use or so many
+    /// variables were made.
     pub fn new_var(&mut self) -> Result<Var, SolverError>
         ensures { (s : State) → StandsFor self.old s → (t : State) × MakesVar s result t × StandsFor self.new t }
     {

@@ -7,6 +7,7 @@ mod lines;
 mod memory;
 mod programs;
 mod readers;
+mod relaxing;
 mod sessions_of_modes;
 mod settings;
 mod texts;

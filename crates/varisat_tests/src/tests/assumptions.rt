@@ -1,5 +1,6 @@
 //! Assumptions and failed cores: the exact cores of small formulas, and random lists beside new solvers that have them
 //! as unit clauses.
+use super::numbers::Numbers;
 use super::settings::{rare_and_frequent, reducing_every};
 use std::alloc::Global;
 use varisat::solver::{Solver, SolverError};
@@ -58,31 +59,21 @@ fn cores_are_exact(rt: HostRuntime) {
     }
 }
 
-// Numbers of a linear congruential generator.
-#[derive(Drop)]
-struct Numbers(u64);
-
-impl Numbers {
-    fn next(&mut self) -> usize {
-        self.0 = self
-            .0
-            .wrapping_mul(6364136223846793005)
-            .wrapping_add(1442695040888963407);
-        (self.0 >> 33) as usize
-    }
-
-    // A literal of one of 60 variables.
-    fn literal(&mut self) -> Lit {
-        let var = Var::from_index(self.next() % 60);
-        var.lit(self.next() % 2 == 0)
-    }
+// A literal of one of 60 variables.
+fn next_literal(numbers: &mut Numbers) -> Lit {
+    let var = Var::from_index(numbers.below(60));
+    var.lit(numbers.below(2) == 0)
 }
 
 // Adds 230 clauses of three literals.
 fn add_clauses(solver: &mut TestSolver) -> Result<(), SolverError> {
-    let mut numbers = Numbers(7);
+    let mut numbers = Numbers::after(7);
     for _ in 0..230 {
-        let clause = [numbers.literal(), numbers.literal(), numbers.literal()];
+        let clause = [
+            next_literal(&mut numbers),
+            next_literal(&mut numbers),
+            next_literal(&mut numbers),
+        ];
         solver.add_clause(&clause)?;
     }
     Ok(())
@@ -135,16 +126,16 @@ fn answers_as_new(
 
 // The next six literals.
 fn next_literals(numbers: &mut Numbers) -> [Lit; 6] {
-    let mut literals = [numbers.literal(); 6];
+    let mut literals = [next_literal(numbers); 6];
     for literal in &mut literals {
-        *literal = numbers.literal();
+        *literal = next_literal(numbers);
     }
     literals
 }
 
 // Whether the solver answers as a new one does in each round.
 fn are_answered(alloc: Global, solver: &mut TestSolver, count: usize) -> Result<bool, SolverError> {
-    let mut numbers = Numbers(11);
+    let mut numbers = Numbers::after(11);
     let mut right = true;
     for round in 0..count {
         let literals = next_literals(&mut numbers);

@@ -3,6 +3,7 @@ pub mod ClauseOrder
 pub mod DistinctPlaces
 pub mod EnqueueAssignment
 pub mod KeptPairs
+pub mod Leaving
 pub mod LiteralValues
 pub mod LongListed
 pub mod LongRearranged

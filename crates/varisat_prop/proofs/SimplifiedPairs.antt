@@ -6,7 +6,6 @@ use Rattle.std.proofs.lemmas.List.{same_lists, get_or_default}
 use Rattle.std.proofs.lemmas.List.Elements.{filter-append}
 use Rattle.varisat_theory.specs.Membership.{◌∈◌}
 use Rattle.varisat_theory.specs.Literals.{Literal, Clause, opposite, variable_of}
-use Rattle.varisat_theory.proofs.Values.{opposite_twice}
 use Rattle.varisat_prop.specs.View.{View, pairs_with, pairs_from, WellFormed}
 use Rattle.varisat_prop.specs.Pairs.{with_pair}
 use Rattle.varisat_prop.specs.Simplified.{is_unassigned, are_unassigned, unassigned_implied, unassigned_from, without_assigned}

@@ -8,3 +8,4 @@ pub mod Watches
 pub mod Visits
 pub mod QueueSteps
 pub mod Lending
+pub mod Leaving

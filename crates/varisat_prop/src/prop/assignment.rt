@@ -71,6 +71,15 @@ impl<A: Allocator + Copy> Assignment<A> {
         self.unassign_var(var);
     }
 
+    /// Takes the variable's value away, and also what was remembered of it: the last is false, as at first.
+    pub fn forget_var(&mut self, var: Var)
+        requires { var < length self.old.current }
+        ensures { self.new ≡ record { current = slice_set self.old.current var None; last = slice_set self.old.last var false } }
+    {
+        self.last_value[var.index()] = false;
+        self.unassign_var(var);
+    }
+
     /// The value of the variable, if it has one.
     pub fn var_value(&self, var: Var) -> Option<bool>
         requires { var < length self.now.current }

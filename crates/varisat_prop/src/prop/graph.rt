@@ -139,6 +139,14 @@ impl<A: Allocator + Copy> ImplGraph<A> {
         self.nodes[var.index()].reason = reason;
     }
 
+    /// Gives the variable another depth.
+    pub fn update_depth(&mut self, var: Var, depth: usize)
+        requires { var < length self.old.nodes.items }
+        ensures { self.new.nodes.items ≡ slice_set self.old.nodes.items var (record (slice_index_or self.old.nodes.items var no_node) { depth = depth }) }
+    {
+        self.nodes[var.index()].depth = depth;
+    }
+
     /// Notes that the variable is a unit that was taken off the trail.
     pub fn update_removed_unit(&mut self, var: Var)
         requires { var < length self.old.nodes.items }

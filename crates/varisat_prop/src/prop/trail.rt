@@ -1,6 +1,8 @@
 //! The trail: what was decided and propagated, in that order.
-ghost use Rattle.std.specs.Prelude.{◌≡◌, ◌<◌, ◌≤◌, ◌+◌, ◌++◌, ◌∷◌, ◌^◌, ◌↔◌, IsTrue, [], length, take, slice_index, slice_get, Option, Some, None, MatchOption, OnOk};
+ghost use Rattle.std.specs.Prelude.{◌≡◌, ◌<◌, ◌≤◌, ◌+◌, ◌-◌, ◌++◌, ◌∷◌, ◌^◌, ◌↔◌, IsTrue, [], length, min, take, slice_index, slice_get, Option, Some, None, MatchOption, OnOk, not};
+ghost use Rattle.varisat_theory.specs.Literals.{variable_of};
 ghost use Rattle.varisat_prop.specs.Parts.{empty_trail, top_level_count};
+ghost use Rattle.varisat_prop.specs.Leaving.{leaves, staying};
 
 use std::alloc::{AllocError, Allocator};
 use std::marker::Model;
@@ -12,8 +14,7 @@ pub struct Trail<A: Allocator + Copy> {
     trail: Vec<Lit, A>,
     queue_head_pos: usize,
     decisions: Vec<usize, A>,
-    // How many literals `clear` took off. Dropping variables that are fixed at level 0, which is to come, will call both
-    // it and `top_level_assignment_count`.
+    // How many literals `clear` and `remove_units` took off.
     units_removed: usize,
 }
 
@@ -26,6 +27,13 @@ impl<A: Allocator + Copy> Model for Trail<A> {
     ghost view = { λ t. record { literals = t.trail.items; queue_head = t.queue_head_pos; decisions = t.decisions.items; units_removed = t.units_removed } };
 
     ghost invariant = { λ t. t.queue_head_pos ≤ length t.trail.items };
+}
+
+/// Whether the literal's variable stays.
+fn stays(gone: &[bool], lit: Lit) -> bool
+    ensures { result ≡ not (leaves gone.now (variable_of lit)) }
+{
+    !matches!(gone.get(lit.index()), Some(true))
 }
 
 impl<A: Allocator + Copy> Trail<A> {
@@ -81,6 +89,22 @@ impl<A: Allocator + Copy> Trail<A> {
         self.units_removed += self.trail.len();
         self.reset_queue();
         self.trail.clear();
+    }
+
+    /// Takes off the literals of the variables that leave, and counts them as units, of which no more are counted than
+    /// there are numbers. No decision may stand. All that is left counts as propagated.
+    pub fn remove_units(&mut self, gone: &[bool])
+        requires { self.old.decisions ≡ [] }
+        ensures { self.new ≡ record self.old {
+          literals = staying gone.now self.old.literals;
+          queue_head = length (staying gone.now self.old.literals);
+          units_removed = min (self.old.units_removed + (length self.old.literals - length (staying gone.now self.old.literals))) (2 ^ 64 - 1);
+        } }
+    {
+        let count = self.trail.len();
+        self.trail.retain(|lit| stays(gone, *lit));
+        self.queue_head_pos = self.trail.len();
+        self.units_removed = self.units_removed.saturating_add(count - self.trail.len());
     }
 
     /// Begins a level. Its decision is the next literal.

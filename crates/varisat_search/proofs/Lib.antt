@@ -58,3 +58,6 @@ pub mod LoadedQueue
 pub mod ScheduledSteps
 pub mod ShownContexts
 pub mod MadeSteps
+pub mod ForgottenViews
+pub mod ForgottenValues
+pub mod ForgottenClauses

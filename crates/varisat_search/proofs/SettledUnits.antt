@@ -11,6 +11,7 @@ use Rattle.varisat_prop.specs.declared.prop.graph.Conflict.TheVariants as confli
 use Rattle.varisat_prop.specs.View.{View, WellFormed, kinds}
 use Rattle.varisat_prop.specs.Changes.{IsConflicting}
 use Rattle.varisat_prop.specs.Looks.{Propagates}
+use Rattle.varisat_prop.proofs.SimplifiedView.{HasUnits}
 use Rattle.varisat_prop.proofs.ViewGrowth.{append-nil, kinds-more}
 use Rattle.varisat_search.specs.declared.context.Context.{Context}
 use Rattle.varisat_search.specs.AssumptionParts.{AssumptionParts, KeepsAssumptions}
@@ -18,7 +19,7 @@ use Rattle.varisat_search.specs.Contexts.{view, IsReady}
 use Rattle.varisat_search.specs.Decisions.{SameDecidable}
 use Rattle.varisat_search.specs.ProvedUnits.{implied_units, ProvesUnits}
 use Rattle.varisat_search.specs.Seen.{search_of}
-use Rattle.varisat_search.specs.SettledUnits.{SettlesUnits, GoesOnByLines}
+use Rattle.varisat_search.specs.SettledUnits.{SettlesUnits, GoesOnByLines, IsSettledDown}
 use Rattle.varisat_search.specs.Simplifications.{IsSimplified, pair_lines, clause_lines}
 use Rattle.varisat_search.specs.Steps.{Remembers}
 use Rattle.varisat_search.proofs.AssumptionSteps.{keeps-after-part}
@@ -122,6 +123,10 @@ still-conflicting s t f p c = subst (λ (y : View). IsConflicting y f) (sym p.re
     go : (f : Conflict) → IsConflicting s f → IsConflicting (record s { nodes = t.nodes }) f
     go (conflict.Binary ms) c = c
     go (conflict.Long p) c = c
+
+-- Once clauses are simplified, too, nothing is left of the literals of level 0 but their being true.
+pub settled-down : (s t : View) → s.decisions ≡ [] → s.queue_head ≡ length s.trail → HasUnits s → IsSimplified s t → IsSettledDown t
+settled-down s t d q h p = subst IsSettledDown (sym p.rest) record { undecided = d; propagated = q; proved = h; unassigned = p.unassigned }
 
 -- What comes after the units were settled.
 module _ {A : Type 0} (x y : Context A) (a : GoesOnByLines x y) where

@@ -6,6 +6,7 @@ pub mod Seen
 pub mod Progress
 pub mod Restarts
 pub mod Decisions
+pub mod Forgotten
 pub mod ContextChanges
 pub mod DueReductions
 pub mod AssumptionParts

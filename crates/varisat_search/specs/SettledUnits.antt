@@ -1,10 +1,13 @@
 -- What comes of a search that settles its units of level 0 before a step.
-use Rattle.std.specs.Prelude.{◌≡◌, ◌<◌, ◌++◌, Bool, Result, MatchResult, List, [], length}
+use Rattle.std.specs.Prelude.{◌≡◌, ℕ, ◌<◌, ◌++◌, Bool, None, Result, MatchResult, List, [], length, slice_index_or}
+use Rattle.varisat_theory.specs.Membership.{◌∈◌}
+use Rattle.varisat_theory.specs.Literals.{Literal, Clause, variable_of}
 use Rattle.varisat_theory.specs.Derivations.{Line}
 use Rattle.varisat_theory.specs.Outcomes.{Proves}
 use Rattle.varisat_theory.specs.StepLaws.{unit_lines}
 use Rattle.varisat_prop.specs.declared.prop.graph.Conflict.{Conflict}
-use Rattle.varisat_prop.specs.View.{View, kinds}
+use Rattle.varisat_prop.specs.declared.prop.graph.Reason.TheVariants as reason
+use Rattle.varisat_prop.specs.View.{View, kept, node_at, kinds}
 use Rattle.varisat_prop.specs.Changes.{IsConflicting}
 use Rattle.varisat_prop.specs.Looks.{Propagates}
 use Rattle.varisat_search.specs.declared.context.Context.{Context}
@@ -45,3 +48,10 @@ pub record GoesOnByLines {A : Type 0} (x y : Context A) : Type 0 where
 -- A step that begins unsettled settles its units first, and goes on from there.
 abbrev pub SettlesFirst : {A : Type 0} → Context A → Context A → Type 0
 SettlesFirst {A} x z = IsUnsettled (view x) → (y : Context A) × (end : Result (Unit {0}) Conflict) × SettlesUnits (view x) (view y) end × StepsTo y z
+
+-- At level 0 all of the trail is propagated and proved, and no kept clause names a variable that has a value.
+pub record IsSettledDown (s : View) : Type 0 where
+  pub undecided : s.decisions ≡ []
+  pub propagated : s.queue_head ≡ length s.trail
+  pub proved : (k : ℕ) → k < length s.trail → (node_at s k).reason ≡ reason.Unit
+  pub unassigned : (c : Clause) → c ∈ kept s → (l : Literal) → l ∈ c → slice_index_or s.values (variable_of l) None ≡ None

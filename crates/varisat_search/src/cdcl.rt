@@ -18,7 +18,7 @@ ghost use Rattle.varisat_analysis.specs.Bumps.{BumpsInvolved};
 ghost use Rattle.varisat_analysis.specs.Assessments.{glue_of, assessed, BumpsClauses};
 ghost use Rattle.varisat_search.specs.AssumptionParts.{TakesOutImplied, EndsAssumed, HasFailed};
 ghost use Rattle.varisat_search.specs.Conflicts.{Stops, Keeping, IsKeptAsReason, IsStoredAsReason, IsWatchedAsReason};
-ghost use Rattle.varisat_search.specs.SettledUnits.{IsUnsettled, SettlesUnits, GoesOnByLines, SettlesFirst};
+ghost use Rattle.varisat_search.specs.SettledUnits.{IsUnsettled, SettlesUnits, GoesOnByLines, IsSettledDown, SettlesFirst};
 ghost use Rattle.varisat_search.specs.Progress.{IsStepFurther, MakesStep};
 ghost use Rattle.varisat_vsids.specs.Activities.{Activities};
 
@@ -219,20 +219,16 @@ fn learn<A: Allocator + Copy>(ctx: &mut Context<A>, conflict: Conflict) -> Resul
 }
 
 /// At level 0 propagates what is left to be propagated, proves the units and simplifies the clauses. Where a clause is
-/// false, it is returned and no clause is simplified. Nothing happens at another level, nor where nothing is left.
-fn settle_units<A: Allocator + Copy>(
-    ctx: &mut Context<A>,
-) -> Result<Result<(), Conflict>, AllocError>
-    requires { IsReady ctx.old }
+/// false, it is returned and no clause is simplified.
+pub fn settle<A: Allocator + Copy>(ctx: &mut Context<A>) -> Result<Result<(), Conflict>, AllocError>
+    requires ready { IsReady ctx.old }
+    requires undecided { ctx.old.trail.decisions ≡ [] }
     ensures goes_on { OnOk result (GoesOnByLines ctx.old ctx.new) }
-    ensures settles { IfOk result (λ end. IsUnsettled (view ctx.old) → SettlesUnits (view ctx.old) (view ctx.new) end) }
-    ensures stays { IfOk result (λ end. (IsUnsettled (view ctx.old) → ⊥) → (ctx.new ≡ ctx.old) × (end ≡ Ok tt)) }
+    ensures settles { IfOk result (λ end. SettlesUnits (view ctx.old) (view ctx.new) end) }
+    ensures settled { IfOk result (λ end. MatchResult end (λ _. IsSettledDown (view ctx.new)) (λ _. Unit {0})) }
     ensures conflict { IfOk result (λ end. MatchResult end (λ _. Unit {0}) (λ conflict. IsConflicting (view ctx.new) conflict)) }
     ensures kept { ctx.new ≡ record ctx.old { assignment = ctx.new.assignment; binary_clauses = ctx.new.binary_clauses; clause_alloc = ctx.new.clause_alloc; clause_db = ctx.new.clause_db; impl_graph = ctx.new.impl_graph; trail = ctx.new.trail; watchlists = ctx.new.watchlists } }
 {
-    if ctx.trail.current_level() > 0 || ctx.trail.fully_propagated() {
-        return Ok(Ok(()));
-    }
     let propagated = propagate(
         &mut ctx.assignment,
         &mut ctx.clause_alloc,
@@ -247,6 +243,25 @@ fn settle_units<A: Allocator + Copy>(
     }
     unit_simplify(ctx)?;
     Ok(Ok(()))
+}
+
+/// Settles the units of level 0, as `settle`. Nothing happens at another level, nor where nothing is left to be
+/// propagated.
+fn settle_units<A: Allocator + Copy>(
+    ctx: &mut Context<A>,
+) -> Result<Result<(), Conflict>, AllocError>
+    requires { IsReady ctx.old }
+    ensures goes_on { OnOk result (GoesOnByLines ctx.old ctx.new) }
+    ensures settles { IfOk result (λ end. IsUnsettled (view ctx.old) → SettlesUnits (view ctx.old) (view ctx.new) end) }
+    ensures stays { IfOk result (λ end. (IsUnsettled (view ctx.old) → ⊥) → (ctx.new ≡ ctx.old) × (end ≡ Ok tt)) }
+    ensures conflict { IfOk result (λ end. MatchResult end (λ _. Unit {0}) (λ conflict. IsConflicting (view ctx.new) conflict)) }
+    ensures kept { ctx.new ≡ record ctx.old { assignment = ctx.new.assignment; binary_clauses = ctx.new.binary_clauses; clause_alloc = ctx.new.clause_alloc; clause_db = ctx.new.clause_db; impl_graph = ctx.new.impl_graph; trail = ctx.new.trail; watchlists = ctx.new.watchlists } }
+{
+    if ctx.trail.current_level() > 0 || ctx.trail.fully_propagated() {
+        return Ok(Ok(()));
+    }
+    let end = settle(ctx)?;
+    Ok(end)
 }
 
 /// Finds a conflict and learns from it, or finds a model or that assumptions fail.

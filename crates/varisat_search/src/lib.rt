@@ -8,6 +8,7 @@ pub mod cdcl;
 pub mod collect;
 pub mod context;
 pub mod decision;
+pub mod forgetting;
 pub mod levels;
 pub mod load;
 pub mod reduce;

@@ -2,6 +2,7 @@
 
 mod assuming;
 mod decisions;
+mod forgetting;
 mod levels;
 mod loading;
 mod reductions;

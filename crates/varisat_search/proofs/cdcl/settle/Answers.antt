@@ -1,4 +1,4 @@
-use Rattle.std.proofs.Common.{◌≡◌, Ok, Err, MatchResult, [], ◌++◌, length, refl, ap, ◌∙◌, subst, arith}
+use Rattle.std.proofs.Common.{◌≡◌, Ok, Err, MatchResult, [], ◌++◌, length, refl, sym, ap, ◌∙◌, subst}
 use Rattle.varisat_theory.specs.Propagation.{IsComplete}
 use Rattle.varisat_theory.specs.Outcomes.{Proves}
 use Rattle.varisat_theory.specs.StepLaws.{unit_lines}
@@ -10,28 +10,28 @@ use Rattle.varisat_search.specs.ProvedUnits.{implied_units, ProvesUnits}
 use Rattle.varisat_search.specs.Seen.{search_of}
 use Rattle.varisat_search.specs.Simplifications.{pair_lines, clause_lines}
 use Rattle.varisat_search.proofs.PropagatedContext.{propagated-ready}
-use Rattle.varisat_search.proofs.ProvedUnits.{none-left, units-all}
-use Rattle.varisat_search.proofs.SettledUnits.{ProvedAfter, goes-trans, goes-simplified, goes-to-units, settles-to-units, still-conflicting}
-use Rattle.varisat_search.proofs.cdcl.settle_units.Given.{Over}
-use Rattle.varisat_search.proofs.cdcl.settle_units.Goals.{In_ok-propagated}
-use Rattle.varisat_search.proofs.cdcl.settle_units.Goals as goal
+use Rattle.varisat_search.proofs.ProvedUnits.{units-all}
+use Rattle.varisat_search.proofs.SettledUnits.{ProvedAfter, goes-trans, goes-simplified, goes-to-units, settles-to-units, still-conflicting, settled-down}
+use Rattle.varisat_search.proofs.cdcl.settle.Given.{Over}
+use Rattle.varisat_search.proofs.cdcl.settle.Goals.{In_ok-propagated}
+use Rattle.varisat_search.proofs.cdcl.settle.Goals as goal
 
 -- the context after propagation
 abbrev mid : (g : Over) (c : In_ok-propagated g) → Context g.row.A.Denot
 mid g c = record c.args.ctx.now { assignment = c.propagate.new.assignment; clause_alloc = c.propagate.new.clause_alloc; impl_graph = c.propagate.new.impl_graph; trail = c.propagate.new.trail; watchlists = c.propagate.new.watchlists }
 
 ready : (g : Over) (c : In_ok-propagated g) → IsReady (mid g c)
-ready g c = let e = c.in_ok-propagated.ensures in propagated-ready c.args.ctx.now (mid g c) c.requires e.propagates e.propagated e.store refl
+ready g c = let e = c.in_ok-propagated.ensures in propagated-ready c.args.ctx.now (mid g c) c.requires.ready e.propagates e.propagated e.store refl
 
 none : (g : Over) (c : In_ok-propagated g) → (mid g c).trail.decisions ≡ []
-none g c = c.in_ok-propagated.ensures.propagates.decisions ∙ none-left c.args.ctx.now.trail.decisions (omega (arith, c.if-current_level-gt0.false, c.current_level.ensures))
+none g c = c.in_ok-propagated.ensures.propagates.decisions ∙ c.requires.undecided
 
 -- once the units are proved
 facts : (g : Over) (h : In_ok-propagated g) (p : Context g.row.A.Denot) → IsReady p → ((mid g h).trail.decisions ≡ [] → ProvesUnits (view (mid g h)) (view p)) → ((mid g h).trail.decisions ≡ [] → Proves 0 (search_of (view (mid g h))) (search_of (view p)) (unit_lines (implied_units (view (mid g h))))) → p ≡ record (mid g h) { impl_graph = p.impl_graph } → ProvedAfter h.args.ctx.now (mid g h) p
 facts g h p r f l k =
     let e = h.in_ok-propagated.ensures in
     record {
-      ready = h.requires;
+      ready = h.requires.ready;
       mid_ready = ready g h;
       none = none g h;
       propagates = e.propagates;
@@ -62,7 +62,7 @@ returns-in-Err-clause-conflict g c =
     still-conflicting (view m) t c.in-Err.conflict (c.prove_units.ensures.proved (none g h)) ends
 
 pub returns-in-Err-clause-settles : goal.returns-in-Err-clause-settles
-returns-in-Err-clause-settles g c unsettled =
+returns-in-Err-clause-settles g c =
     let h = (goal.at.returns-in-Err-clause-settles g c).In_ok-propagated in
     let m = mid g h in
     let p = c.prove_units.ensures in
@@ -93,8 +93,20 @@ returns-clause-goes_on g c =
     (goes-simplified y c.unit_simplify.new.ctx q.ready (pair_lines (view y) ++ clause_lines (view y)) q.proves q.decidable c.unit_simplify.ensures.kept)
 
 pub returns-clause-settles : goal.returns-clause-settles
-returns-clause-settles g c unsettled =
+returns-clause-settles g c =
     let h = (goal.at.returns-clause-settles g c).In_ok-propagated in
     let p = c.prove_units.ensures in
     let q = c.in_ok-unit_simplify.ensures in
     settles-to-units c.args.ctx.now (mid g h) c.prove_units.new.ctx (facts g h c.prove_units.new.ctx p.ready p.proved p.proves p.kept) (view c.unit_simplify.new.ctx) (Ok tt) (q.simplified, q.proves)
+
+pub returns-clause-settled : goal.returns-clause-settled
+returns-clause-settled g c =
+    let h = (goal.at.returns-clause-settled g c).In_ok-propagated in
+    let m = mid g h in
+    let p = c.prove_units.ensures in
+    let ends = subst (λ r. MatchResult r (λ _. IsComplete (kept (view m)) m.trail.literals × (m.trail.queue_head ≡ length m.trail.literals)) (λ f. IsConflicting (view m) f)) c.in_default.is c.in_ok-propagated.ensures.ends in
+    settled-down (view c.prove_units.new.ctx) (view c.unit_simplify.new.ctx)
+    (ap (λ (y : Context g.row.A.Denot). y.trail.decisions) p.kept ∙ none g h)
+    (ap (λ (y : Context g.row.A.Denot). y.trail.queue_head) p.kept ∙ ends.1 ∙ sym (ap (λ (y : Context g.row.A.Denot). length y.trail.literals) p.kept))
+    (units-all (view m) (view c.prove_units.new.ctx) (ready g h).well (none g h) (p.proved (none g h)))
+    c.in_ok-unit_simplify.ensures.simplified

@@ -1,0 +1,85 @@
+//! Searches that forget variables.
+ghost use Rattle.std.specs.Prelude.{◌≡◌, length, map, is_some, OnOk, IfOk};
+ghost use Rattle.varisat_search.specs.Contexts.{view, IsReady};
+ghost use Rattle.varisat_search.specs.SettledUnits.{IsSettledDown};
+
+use super::searches::{loaded, step};
+use std::alloc::{AllocError, Allocator};
+use std::test::Fail;
+use varisat_literals::{Lit, lits};
+use varisat_prop::clause::StoreError;
+use varisat_prop::prop::Assignment;
+use varisat_search::cdcl::settle;
+use varisat_search::context::Context;
+use varisat_search::forgetting::drop_variables;
+
+/// For each variable whether it has a value.
+fn assigned<A: Allocator + Copy>(
+    alloc: A,
+    assignment: &Assignment<A>,
+) -> Result<Vec<bool, A>, AllocError>
+    ensures { IfOk result (λ gone. gone.items ≡ map is_some assignment.now.current) }
+{
+    let mut gone = Vec::new(alloc);
+    let values = assignment.assignment();
+    for value in values {
+        gone.push(value.is_some())?;
+    }
+    Ok(gone)
+}
+
+/// Forgets the variables that have a value, where nothing is assumed.
+fn forget_assigned<A: Allocator + Copy>(alloc: A, ctx: &mut Context<A>) -> Result<(), AllocError>
+    requires ready { IsReady ctx.old }
+    requires settled { IsSettledDown (view ctx.old) }
+    ensures { OnOk result (IsReady ctx.new) }
+{
+    let gone = assigned(alloc, &ctx.assignment)?;
+    if ctx.assumptions.assumptions().is_empty() {
+        drop_variables(ctx, &gone);
+    }
+    Ok(())
+}
+
+/// Settles the units at level 0 and forgets them.
+fn forget_units<A: Allocator + Copy>(alloc: A, ctx: &mut Context<A>) -> Result<bool, AllocError>
+    requires { IsReady ctx.old }
+    ensures { OnOk result (IsReady ctx.new) }
+{
+    if ctx.trail.current_level() > 0 || settle(ctx)?.is_err() {
+        return Ok(false);
+    }
+    forget_assigned(alloc, ctx)?;
+    Ok(true)
+}
+
+/// The values of five variables.
+fn values<A: Allocator + Copy>(ctx: &Context<A>) -> [Option<bool>; 5] {
+    let mut values = [None; 5];
+    let current = ctx.assignment.assignment();
+    for index in 0..5 {
+        if index < current.len() {
+            values[index] = current[index];
+        }
+    }
+    values
+}
+
+/// Whether two units are forgotten, and the values after a step.
+fn forgets<A: Allocator + Copy>(alloc: A) -> Result<(bool, [Option<bool>; 5]), StoreError> {
+    let clauses: &[&[Lit]] = &[&lits![1], &lits![2, 3, 4], &lits![-1, 5]];
+    let mut ctx = loaded(alloc, 5, clauses)?;
+    let is_settled = forget_units(alloc, &mut ctx)?;
+    let is_empty = ctx.trail.trail().is_empty() && values(&ctx) == [None; 5];
+    step(&mut ctx)?;
+    Ok((is_settled && is_empty, values(&ctx)))
+}
+
+// 1 is a unit and implies 5. Both leave the search, and only the others are decided after that.
+#[test]
+fn units_are_forgotten(rt: HostRuntime) -> Result<(), Fail> {
+    let (is_forgotten, values) = forgets(rt.alloc())?;
+    assert!(rt; is_forgotten);
+    assert!(rt; values.map(|value| value.is_some()) == [false, true, true, true, false]);
+    Ok(())
+}

@@ -18,7 +18,7 @@ use Rattle.varisat_search.specs.AssumptionParts.{AssumptionParts}
 use Rattle.varisat_search.specs.Loading.{loaded_outcome}
 use Rattle.varisat_search.specs.Steps.{assignment_of, reopened_state}
 use Rattle.varisat_names.specs.Maps.{chain}
-use Rattle.varisat_names.specs.VarMap.{at, IsFull}
+use Rattle.varisat_names.specs.VarMap.{at}
 use Rattle.varisat_names.specs.VarData.{fresh, kept_at}
 use Rattle.varisat_names.specs.Variables.{Tables, IsGiven, AreNextGiven, IsNamed, InUse, Free, Above, IsTaken}
 use Rattle.varisat_names.proofs.Maps.{updated-at, updated-other, updated-all, chain-some, chain-none, chain-through, is-some}
@@ -29,7 +29,7 @@ use Rattle.varisat.specs.Calls.{with_naming, VerdictAfter, Refuted, Reopened, ap
 use Rattle.varisat.specs.Carried.{carry, value_or}
 use Rattle.varisat.specs.Spaces.{Spaces, Carrying, IsWide, translation, SearchHolds, CoreFits, without_core, VerdictFits, Links, SpacesFit}
 use Rattle.varisat.specs.Summaries.{Summary, spaces, spaces_of, StandsFor}
-use Rattle.varisat.specs.Accepting.{IsPlain, AreNamedInTurn, AreTakenInTurn, AreTakenFor, AreJoined}
+use Rattle.varisat.specs.Accepting.{KeepsNoUnit, AreNamedInTurn, AreTakenInTurn, AreTakenFor, AreJoined}
 use Rattle.varisat.proofs.SpacesMoves.{give, take_solver, count, solver_literal, accept}
 use Rattle.varisat.proofs.KeptCounts.{given-most}
 use Rattle.varisat.proofs.NewNames.{given}
@@ -40,8 +40,8 @@ use Rattle.varisat.proofs.ModelsFit.{is-core}
 use Rattle.varisat.proofs.AcceptLoad.{loaded}
 use Rattle.varisat.proofs.SolveVerdict.{forgotten, core-known, model-same, spaces-same, maps-same}
 use Rattle.varisat.proofs.Carried.{carry-at}
-use Rattle.varisat.proofs.PlainTables.{named-plain, taken-plain, taken-in-turn-plain, taken-users}
-use Rattle.varisat.proofs.SearchViews.{view-long, view-inside}
+use Rattle.varisat.proofs.PlainTables.{named-units, names-keep, taken-users, taken-full}
+use Rattle.varisat.proofs.SearchViews.{view-long}
 
 abbrev pub with_tables : Tables → Summary → Summary
 with_tables t g = record g { tables = t }
@@ -119,7 +119,7 @@ named-all (l ∷ d) g s new f (mid, e, rest) = named-all d (with_tables mid g) (
 abbrev pub HasNoModel : Summary → Type 0
 HasNoModel g = (a : Assignment) → (spaces g).outcome ≡ outcome.Sat a → ⊥
 
-pub taken-one : (g : Summary) (s : State) (new : Tables) (x v i : ℕ) → (w : Carrying) → Links w (spaces g) s → HasNoModel g → IsPlain g.tables → w.identity x ≡ Some i → i ∈ s.counted → at g.tables.solvers.forward x ≡ None → IsTaken g.tables new x v → SpacesFit (spaces (with_tables new g)) s
+pub taken-one : (g : Summary) (s : State) (new : Tables) (x v i : ℕ) → (w : Carrying) → Links w (spaces g) s → HasNoModel g → KeepsNoUnit g.tables → w.identity x ≡ Some i → i ∈ s.counted → at g.tables.solvers.forward x ≡ None → IsTaken g.tables new x v → SpacesFit (spaces (with_tables new g)) s
 taken-one g s new x v i w k none n is spoken free t =
     maps-same (take_solver x v (spaces g)) (spaces (with_tables new g)) s (record {
       global_from_user = λ u. ap (λ m. at m.forward u) t.users;
@@ -130,15 +130,15 @@ taken-one g s new x v i w k none n is spoken free t =
       global_from_solver = t.solvers.backward.at_each;
       kept = λ y. ap (λ m. kept_at m y) t.kept;
       model = λ a e y. absurd (none a e);
-    }) refl (w, taken w (spaces g) s x i v k is spoken free t.least.0 (n.no_units x))
+    }) refl (w, taken w (spaces g) s x i v k is spoken free t.least.0 (n x))
 
-pub taken-in-turn : (xs : List ℕ) (g : Summary) (s : State) (new : Tables) → SpacesFit (spaces g) s → HasNoModel g → IsPlain g.tables → ((x : ℕ) → x ∈ xs → (u : ℕ) × (at g.tables.users.forward u ≡ Some x) × ((i : ℕ) → s.naming.names u ≡ Some i → i ∈ s.counted)) → AreTakenInTurn xs g.tables new → SpacesFit (spaces (with_tables new g)) s
+pub taken-in-turn : (xs : List ℕ) (g : Summary) (s : State) (new : Tables) → SpacesFit (spaces g) s → HasNoModel g → KeepsNoUnit g.tables → ((x : ℕ) → x ∈ xs → (u : ℕ) × (at g.tables.users.forward u ≡ Some x) × ((i : ℕ) → s.naming.names u ≡ Some i → i ∈ s.counted)) → AreTakenInTurn xs g.tables new → SpacesFit (spaces (with_tables new g)) s
 taken-in-turn [] g s new f o n a e = subst (λ t. SpacesFit (spaces (with_tables t g)) s) (sym e) f
 taken-in-turn (x ∷ xs) g s new (w, k) o n a (mid, v, free, t, rest) =
     let (u, e, c) = a x (inl refl) in
     let (i, is) = k.names.live u x e in
     let named : s.naming.names u ≡ Some i = k.names.agree u ∙ chain-some (at g.tables.users.forward) w.identity u x e ∙ is in
-    taken-in-turn xs (with_tables mid g) s new (taken-one g s mid x v i w k o n is (c i named) free t) o (taken-plain g.tables mid x v n t)
+    taken-in-turn xs (with_tables mid g) s new (taken-one g s mid x v i w k o n is (c i named) free t) o (λ y. ap (λ m. (kept_at m y).unit) t.kept ∙ n y)
     (λ y h. let (z, q, r) = a y (inr h) in (z, ap (λ m. at m.forward z) t.users ∙ q, r))
     rest
 
@@ -150,12 +150,11 @@ outcome-alike s t core verdict.Sat n = absurd (n (assignment_of s) refl)
 outcome-alike s t core verdict.Unsat n = refl
 outcome-alike s t core verdict.UnsatUnderAssumptions n = refl
 
-pub raised : (g : Summary) (s : State) (t : View) → SpacesFit (spaces g) s → HasNoModel g → search_of t ≡ search_of g.search → length t.values ≡ length g.tables.solvers.backward → IsFull g.tables.solvers.backward → SpacesFit (spaces (record g { search = t })) s
-raised g s t (w, k) none seen n full =
+pub raised : (g : Summary) (s : State) (t : View) → SpacesFit (spaces g) s → HasNoModel g → search_of t ≡ search_of g.search → length t.values ≤ length s.counted → SpacesFit (spaces (record g { search = t })) s
+raised g s t (w, k) none seen few =
     let p = spaces g in
     let q = spaces (record g { search = t }) in
-    let o = outcome-alike g.search t g.assumed.failed_core g.sat_state none in
-    let few = solvers-few w p s (length g.tables.solvers.backward) k full in (
+    let o = outcome-alike g.search t g.assumed.failed_core g.sat_state none in (
       w,
       relinked w p q s s k (record {
         solvers = k.solvers;
@@ -165,7 +164,7 @@ raised g s t (w, k) none seen n full =
         verdict = subst (λ y. VerdictFits w.identity q.model y s.verdict) (sym o) (model-same w.identity p.model q.model p.outcome s.verdict (λ a e. absurd (none a e)) k.verdict);
         core = k.core;
         right = k.right;
-        few = subst (λ c. c ≤ length s.counted) (sym n) few;
+        few = few;
       }),
     )
 
@@ -198,20 +197,19 @@ name-of : (d : List Literal) (named taken : Tables) (l : Literal) → AreTakenFo
 name-of d named taken l e h = let (v, q) = e.all l h in let (x, a, b) = chain-through (at taken.users.forward) (at taken.solvers.forward) (variable_of l) v q in (x, a)
 
 -- the identities are counted, their variables take solver variables, and the search has these
-pub brought-in : (d : List Literal) (g : Summary) (n : State) (taken : Tables) (t : View) → SpacesFit (spaces g) n → HasNoModel g → IsPlain g.tables → AreTakenFor d g.tables taken → search_of t ≡ search_of g.search → length t.values ≡ length taken.solvers.backward → SpacesFit (spaces (record g { tables = taken; search = t })) (count (join_counted n.counted (map variable_of (map (through_names n.naming) d))) n)
-brought-in d g n taken t f none plain e seen c =
+pub brought-in : (d : List Literal) (g : Summary) (n : State) (taken : Tables) (t : View) → SpacesFit (spaces g) n → HasNoModel g → KeepsNoUnit g.tables → length g.search.values ≡ length g.tables.solvers.backward → AreTakenFor d g.tables taken → search_of t ≡ search_of g.search → length t.values ≡ length taken.solvers.backward → SpacesFit (spaces (record g { tables = taken; search = t })) (count (join_counted n.counted (map variable_of (map (through_names n.naming) d))) n)
+brought-in d g n taken t f none units before e seen c =
     let (users, kept) = taken-users e.globals g.tables taken e.in_turn in
     let is = map variable_of (map (through_names n.naming) d) in
     let f3 = counted-spaces g n d f (λ l h. let (x, q) = name-of d g.tables taken l e h in (x, ap (λ m. at m.forward (variable_of l)) (sym users) ∙ q)) in
-    let f4 = taken-in-turn e.globals g (count (join_counted n.counted is) n) taken f3 none plain
+    let f4 = taken-in-turn e.globals g (count (join_counted n.counted is) n) taken f3 none units
     (λ x h. let (l, i, q) = e.named x h in (variable_of l, q, λ j r. join-has is n.counted j (subst (λ y. y ∈ is) (carry-at n.naming.names l j r) (∈-map variable_of (through_names n.naming l) (map (through_names n.naming) d) (∈-map (through_names n.naming) l d i)))))
     e.in_turn in
-    raised (with_tables taken g) (count (join_counted n.counted is) n) t f4 none seen c (taken-in-turn-plain e.globals g.tables taken plain e.in_turn).full
-
-pub in-use-all : (t : Tables) (s : View) → IsFull t.solvers.backward → length s.values ≡ length t.solvers.backward → WellFormed s → (l : Literal) → IsLiteralOf (search_of s) l → (x : ℕ) × (at t.solvers.backward (variable_of l) ≡ Some x)
-in-use-all t s full n w l h =
-    let b = view-inside s l w h in
-    ⊎_elim (λ e. absurd (full (variable_of l) (omega (arith, b, n)) e)) (λ r. r) (is-some (at t.solvers.backward (variable_of l)))
+    raised (with_tables taken g) (count (join_counted n.counted is) n) t f4 none seen
+    (⊎_elim
+    (λ same. let k = f4.1.few in omega (arith, k, c, same, before))
+    (λ full. let k = solvers-few f4.0 (spaces (with_tables taken g)) (count (join_counted n.counted is) n) (length taken.solvers.backward) f4.1 full in omega (arith, k, c))
+    (taken-full e.globals g.tables taken e.in_turn))
 
 -- 5. The clause.
 
@@ -291,7 +289,8 @@ several (x ∷ y ∷ d) w = omega arith
 
 -- What accepting a clause did, step by step.
 pub record Steps (g : Summary) (d : Clause) (named taken joined : Tables) (mid new : View) (parts : AssumptionParts) (after : SatState) : Type 0 where
-  pub plain : IsPlain g.tables
+  pub no_units : KeepsNoUnit g.tables
+  pub count_before : length g.search.values ≡ length g.tables.solvers.backward
   pub not_unsat : g.sat_state ≢ verdict.Unsat
   pub are_named : AreNamedInTurn d g.tables named
   pub are_taken : AreTakenFor d named taken
@@ -301,6 +300,7 @@ pub record Steps (g : Summary) (d : Clause) (named taken joined : Tables) (mid n
   pub same_count : length new.values ≡ length mid.values
   pub well_mid : WellFormed mid
   pub well_new : WellFormed new
+  pub in_use : (l : Literal) → IsLiteralOf (search_of new) l → (x : ℕ) × (at taken.solvers.backward (variable_of l) ≡ Some x)
   pub loads : Loads (search_of mid) (search_of new) (map (carry (chain (at joined.users.forward) (at joined.solvers.forward))) d) (loaded_outcome after) []
   pub verdict : (after ≡ reopened_state g.sat_state) ⊎ (after ≡ verdict.Unsat)
   pub parts_stay : parts ≡ record g.assumed { levels = 0 }
@@ -310,22 +310,22 @@ pub clause-accepted : (g : Summary) (s : State) (d : Clause) (named taken joined
 clause-accepted g s d named taken joined mid new parts after t f =
     let n = with_naming (name_all d s.naming) s in
     let c = map (through_names n.naming) d in
-    let plain-named = named-plain d g.tables named t.plain t.are_named in
-    let plain = taken-in-turn-plain t.are_taken.globals named taken plain-named t.are_taken.in_turn in
+    let units = named-units d g.tables named t.no_units t.are_named in
+    let before = t.count_before ∙ ap (λ (m : BiMap). length m.backward) (sym (names-keep d g.tables named t.are_named).solvers) in
     let (w1, k1) = named-all d g s named f t.are_named in
     let p1 = spaces (with_tables named g) in
     let bad = not-unsat g.search g.assumed.failed_core g.sat_state w1.identity p1.model n.verdict t.not_unsat k1.verdict in
     let g2 : Summary = record g { tables = named; sat_state = verdict.Unknown } in
     let f2 : SpacesFit (spaces g2) (with_verdict Unknown n) = (w1, forgotten w1 p1 n k1 bad) in
     let s3 = count (join_counted n.counted (map variable_of c)) (with_verdict Unknown n) in
-    let (w5, k5) = brought-in d g2 (with_verdict Unknown n) taken mid f2 (λ a e. let z : outcome.Unknown ≡ outcome.Sat a = e in cc) plain-named t.are_taken t.seen t.count in
+    let (w5, k5) = brought-in d g2 (with_verdict Unknown n) taken mid f2 (λ a e. let z : outcome.Unknown ≡ outcome.Sat a = e in cc) units before t.are_taken t.seen t.count in
     let p = spaces (record g2 { tables = taken; search = mid }) in
     let j = t.are_joined in
     let same-literals : map (carry (chain (at joined.users.forward) (at joined.solvers.forward))) d ≡ map (solver_literal p) d = ap₂ (λ (a b : BiMap). map (carry (chain (at a.forward) (at b.forward))) d) j.users j.solvers in
     let q = spaces_of joined new parts after in
     let (x, v, k6) = loaded w5 p s3 d k5 (λ l h. t.are_taken.all l h) (kept_at joined.kept)
     (record { rest = j.rest; fallen = j.fallen; wide = λ wide l x h e. j.joined (several d wide) l x h e })
-    (search_of new) (loaded_outcome after) q.model [] refl (view-long mid t.well_mid) (view-long new t.well_new) (in-use-all taken new plain.full (t.same_count ∙ t.count) t.well_new)
+    (search_of new) (loaded_outcome after) q.model [] refl (view-long mid t.well_mid) (view-long new t.well_new) t.in_use
     (subst (λ e. Loads (search_of mid) (search_of new) e (loaded_outcome after) []) same-literals t.loads) in
     let p6 = record p { kept = kept_at joined.kept; search = search_of new; model = q.model } in
     let (y, u, k7) = settled w5 p6 s3 c new g.search parts.failed_core g.assumed.failed_core w1.identity p1.model g.sat_state after n.verdict x k6 v k1.verdict t.verdict k1.core

@@ -259,6 +259,7 @@ module _ (w : Carrying) (p : Spaces) (s : State) (d : Clause) (k : Links w p s) 
         once = k.well_formed.once;
       };
       few = k.few;
+      shown = λ o y h. ap (λ d. d.deleted) (touched.rest y) ∙ k.shown o y h;
     }
 
     pub loaded : (t : Search) (v : Outcome) (m : ℕ → Bool) (lines : List Line) → p.outcome ≡ outcome.Unknown → AreLong p.search → AreLong t → AreInUse p t → Loads p.search t (map (solver_literal p) d) v lines →
@@ -310,4 +311,5 @@ module _ (w : Carrying) (p : Spaces) (s : State) (d : Clause) (k : Links w p s) 
         once = k.well_formed.once;
       };
       few = k.few;
+      shown = λ o y h. ap (λ d. d.deleted) (marks.rest y) ∙ k.shown o y h;
     }

@@ -1,5 +1,5 @@
 -- A list is assumed: its names come into use, their variables take solver variables and are marked, and the search has its literals.
-use Rattle.std.proofs.Common.{◌≡◌, ◌≢◌, ℕ, ◌<◌, true, false, Some, None, List, [], ◌⊎◌, inl, inr, ⊎_elim, length, map, sym, ap, ◌∙◌, subst, refl, arith}
+use Rattle.std.proofs.Common.{◌≡◌, ℕ, true, false, Some, List, [], ◌⊎◌, inl, inr, ⊎_elim, length, map, sym, ap, ◌∙◌, subst, refl, arith}
 use Rattle.varisat_theory.specs.Membership.{◌∈◌}
 use Rattle.varisat_theory.specs.Literals.{Literal, Assignment, variable_of}
 use Rattle.varisat_theory.specs.Outcomes as outcome
@@ -20,12 +20,12 @@ use Rattle.varisat.specs.Calls.{with_naming, assumed_verdict, with_assumptions, 
 use Rattle.varisat.specs.Carried.{carry}
 use Rattle.varisat.specs.Spaces.{Carrying, MarksFit, Links, SpacesFit}
 use Rattle.varisat.specs.Summaries.{Summary, spaces, spaces_of}
-use Rattle.varisat.specs.Accepting.{IsPlain, AreNamedInTurn, AreTakenFor, AreMarked}
+use Rattle.varisat.specs.Accepting.{KeepsNoUnit, AreNamedInTurn, AreTakenFor, AreMarked}
 use Rattle.varisat.proofs.SpacesMoves.{IsMarkedFor, solver_literal}
 use Rattle.varisat.proofs.AcceptLoad.{assumed}
 use Rattle.varisat.proofs.AcceptClause.{with_tables, HasNoModel, named-all, brought-in, raised}
 use Rattle.varisat.proofs.SolveVerdict.{forgotten, spaces-same}
-use Rattle.varisat.proofs.PlainTables.{named-plain, taken-in-turn-plain}
+use Rattle.varisat.proofs.PlainTables.{named-units, names-keep}
 
 -- 1. Marks.
 
@@ -81,7 +81,8 @@ forgotten-cases (UnsatUnderAssumptions core) = inl refl
 
 -- What assuming a list did, step by step.
 pub record Assuming (g : Summary) (list : List Literal) (named taken cleared marked : Tables) (mid new : View) (parts : AssumptionParts) (after : SatState) : Type 0 where
-  pub plain : IsPlain g.tables
+  pub no_units : KeepsNoUnit g.tables
+  pub count_before : length g.search.values ≡ length g.tables.solvers.backward
   pub are_named : AreNamedInTurn list g.tables named
   pub are_taken : AreTakenFor list named taken
   pub are_cleared : AreMarked g.assumed.user false taken cleared
@@ -97,13 +98,13 @@ pub list-assumed : (g : Summary) (s : State) (list : List Literal) (named taken 
     SpacesFit (spaces_of marked new parts after) (with_assumptions (map (through_names (name_all list s.naming)) list) (with_naming (name_all list s.naming) s))
 list-assumed g s list named taken cleared marked mid new parts after t f =
     let n = with_naming (name_all list s.naming) s in
-    let plain-named = named-plain list g.tables named t.plain t.are_named in
-    let plain = taken-in-turn-plain t.are_taken.globals named taken plain-named t.are_taken.in_turn in
+    let units = named-units list g.tables named t.no_units t.are_named in
+    let before = t.count_before ∙ ap (λ (m : BiMap). length m.backward) (sym (names-keep list g.tables named t.are_named).solvers) in
     let (w1, k1) = named-all list g s named f t.are_named in
     let g2 : Summary = record g { tables = named; sat_state = assumed_state g.sat_state } in
     let n2 = with_verdict (assumed_verdict n.verdict) n in
     let none : HasNoModel g2 = no-model-left g.search g.assumed.failed_core g.sat_state in
-    let (w5, k5) = brought-in list g2 n2 taken mid (w1, forgets w1 (with_tables named g) n g.sat_state n.verdict k1) none plain-named t.are_taken t.seen_mid t.count in
+    let (w5, k5) = brought-in list g2 n2 taken mid (w1, forgets w1 (with_tables named g) n g.sat_state n.verdict k1) none units before t.are_taken t.seen_mid t.count in
     let p5 = spaces (record g2 { tables = taken; search = mid }) in
     let a = t.are_cleared in
     let b = t.are_marked in
@@ -135,7 +136,6 @@ list-assumed g s list named taken cleared marked mid new parts after t f =
       outcome = no-core-left mid g.assumed.failed_core parts.failed_core g.sat_state;
       var_count = refl;
     }) (w5, k6) in
-    let full = subst (λ (m : BiMap). (v : ℕ) → v < length m.backward → at m.backward v ≢ None) (sym solvers) plain.full in
-    let c = ap (λ (m : BiMap). length m.backward) (sym solvers) in
+    let few = f6.1.few in
     subst (λ x. SpacesFit (spaces_of marked new parts x) s6) (sym t.verdict)
-    (raised g6 s6 new f6 (no-model-left mid parts.failed_core g.sat_state) t.seen_new (t.same_count ∙ t.count ∙ c) full)
+    (raised g6 s6 new f6 (no-model-left mid parts.failed_core g.sat_state) t.seen_new (omega (arith, t.same_count, few)))

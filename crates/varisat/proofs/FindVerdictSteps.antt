@@ -4,6 +4,7 @@ use Rattle.std.specs.Result.{IsErr}
 use Rattle.varisat_clause.specs.declared.alloc.StoreError.{StoreError}
 use Rattle.varisat_clause.specs.declared.alloc.StoreError.TheVariants as store
 use Rattle.std.proofs.lemmas.Bool.{cases_lt}
+use Rattle.std.proofs.lemmas.Nat.{pow_pos}
 use Rattle.std.proofs.lemmas.List.{length-map}
 use Rattle.varisat_theory.specs.Derivations.{Line}
 use Rattle.varisat_theory.specs.Searches.{Search}
@@ -43,6 +44,17 @@ none-made c max_steps trail i = record { come = begins c trail i; budget = omega
 no-interrupt : (e : StoreError) (r : Result Bool SolverError) → r ≡ Err (store_refusal e) → r ≡ Err Interrupted → ⊥
 no-interrupt store.Full r p f = let z = sym p ∙ f in cc
 no-interrupt store.Memory r p f = let z = sym p ∙ f in cc
+
+-- memory ran out before any step
+pub none-counted : (n max_steps before after : ℕ) → after ≡ before → CountsSteps n max_steps before after (Err (store_refusal store.Memory))
+none-counted n max_steps before after e = record {
+  made = 0;
+  count = omega (arith, e);
+  budget = omega arith;
+  bounded = pow_pos (2 * n + 3);
+  found = λ a f. absurd cc;
+  spent = λ f. absurd (no-interrupt store.Memory (Err (store_refusal store.Memory)) refl f);
+}
 
 -- a core that was found could not be kept
 pub counts-unnamed : (n max_steps before after : ℕ) (b : Bool) (e : StoreError) → CountsSteps n max_steps before after (Ok b) → CountsSteps n max_steps before after (Err (store_refusal e))

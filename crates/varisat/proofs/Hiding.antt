@@ -148,4 +148,5 @@ module _ (w : Carrying) (p : Spaces) (s : State) (u x : ℕ) (k : Links w p s) (
     right = k.right;
     well_formed = free-well u s k.well_formed;
     few = k.few;
+    shown = λ e. absurd cc;
   }

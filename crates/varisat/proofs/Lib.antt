@@ -8,6 +8,12 @@ pub mod BroughtIn
 pub mod CallStates
 pub mod Carried
 pub mod Counted
+pub mod DroppedAlone
+pub mod DroppedApart
+pub mod DroppedFixed
+pub mod DroppedHidden
+pub mod DroppedSolvers
+pub mod DroppedTables
 pub mod FindVerdictSteps
 pub mod HiddenTables
 pub mod Hiding
@@ -45,4 +51,5 @@ pub mod TableMarks
 pub mod VariableChanges
 pub mod VariableMoves
 pub mod VariableStates
+pub mod VariablesInUse
 pub mod VerdictAnswers

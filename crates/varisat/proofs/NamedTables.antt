@@ -1,40 +1,46 @@
--- That names are in use once they were named, and that no number is past the limit then.
-use Rattle.std.proofs.Common.{◌≡◌, ℕ, ◌+◌, ◌-◌, ◌<◌, ◌≤◌, Some, IsSome, List, [], ◌∷◌, ◌++◌, ⊎_elim, length, sym, ap, ◌∙◌, subst, refl, arith}
+-- Names that come into use are in use then, and no number is past the limit.
+use Rattle.std.proofs.Common.{◌≡◌, ℕ, zero, suc, ◌+◌, ◌-◌, ◌<◌, ◌≤◌, Some, List, ◌++◌, ⊎_elim, length, sym, ap, ◌∙◌, subst, arith}
 use Rattle.std.proofs.lemmas.Bool.{cases_lt}
 use Rattle.varisat_theory.specs.Membership.{◌∈◌}
 use Rattle.varisat_theory.specs.Literals.{Literal, variable_of}
-use Rattle.varisat_theory.proofs.Members.{∈-append_left}
+use Rattle.varisat_theory.proofs.Members.{equal_or_not, ∈-append_left}
 use Rattle.varisat_literals.specs.Numbers.{variable_limit}
 use Rattle.varisat_names.specs.VarMap.{at}
-use Rattle.varisat_names.specs.Variables.{Tables, IsNamed, InUse, Free, Above}
+use Rattle.varisat_names.specs.VarBiMap.{BiMap}
+use Rattle.varisat_names.specs.Variables.{Tables, IsGiven, AreNextGiven, IsNamed, InUse, Free, Above}
 use Rattle.varisat_names.proofs.Maps.{updated-at}
-use Rattle.varisat_names.proofs.Tables.{named-in-use}
 use Rattle.varisat.specs.Names.{Naming, name_all}
 use Rattle.varisat.specs.Calls.{IsPastLimit}
 use Rattle.varisat.specs.Accepting.{AreBounded, naming_of, CanBeNamed, AreNamedInTurn}
+use Rattle.varisat.proofs.PlainTables.{next-keeps, one-keeps, names-keep}
 use Rattle.varisat.proofs.NamesAlike.{alike-self, all-named}
 use Rattle.varisat.proofs.NamesComing.{all-append, all-in-range, all-made}
-use Rattle.varisat.proofs.PlainTables.{one-keeps}
 
 -- the name leads somewhere
 abbrev pub Leads : Tables → ℕ → Type 0
 Leads t u = (x : ℕ) × (at t.users.forward u ≡ Some x)
 
--- a name in use stays, and the one that is named leads to its variable
+-- a name that comes into use leads to its variable
+given-here : (old new : Tables) (u x : ℕ) → IsGiven old new u x → Leads new u
+given-here old new u x g = (x, g.users.forward.at_each u ∙ updated-at (at old.users.forward) u (Some x))
+
+next-here : (k : ℕ) (old new : Tables) → AreNextGiven k old new → (v : ℕ) → length old.users.forward ≤ v → v < length old.users.forward + k → Leads new v
+next-here zero old new e v a b = absurd (omega (arith, a, b))
+next-here (suc k) old new (mid, x, g, rest) v a b =
+    let w = g.users.forward.watermark in
+    ⊎_elim
+    (λ e. let (y, q) = subst (Leads mid) (sym e) (given-here old mid (length old.users.forward) x g) in (y, (next-keeps k mid new rest).named v y q))
+    (λ n. next-here k mid new rest v (omega (arith, a, n, w)) (omega (arith, b, w)))
+    (equal_or_not v (length old.users.forward))
+
+-- and one in use stays so
 pub named-leads : (u : ℕ) (old new : Tables) → IsNamed u old new → (v : ℕ) → Leads old v → Leads new v
-named-leads u old new n v (x, e) = (x, (one-keeps u old new n).named v x e)
+named-leads u old new n v (y, e) = (y, (one-keeps u old new n).named v y e)
 
 pub named-here : (u : ℕ) (old new : Tables) → IsNamed u old new → Leads new u
 named-here u old new (InUse x e q) = subst (λ t. Leads t u) (sym q) (x, e)
-named-here u old new (Free x b e g) = (x, g.users.forward.at_each u ∙ updated-at (at old.users.forward) u (Some x))
-named-here u old new (Above b r) = named-in-use (u + 1 - length old.users.forward) old new u r b (omega (arith, b))
-
-pub leads-some : (t : Tables) (u : ℕ) → Leads t u → IsSome (at t.users.forward u)
-leads-some t u (x, e) = subst IsSome (sym e) refl
-
-pub named-push : (d : List Literal) (old mid new : Tables) (l : Literal) → AreNamedInTurn d old mid → IsNamed (variable_of l) mid new → AreNamedInTurn (d ++ l ∷ []) old new
-named-push [] old mid new l e n = (new, subst (λ t. IsNamed (variable_of l) t new) e n, refl)
-named-push (m ∷ d) old mid new l (t, h, rest) n = (t, h, named-push d t mid new l rest n)
+named-here u old new (Free x b e g) = given-here old new u x g
+named-here u old new (Above b r) = next-here (u + 1 - length old.users.forward) old new r u b (omega (arith, b))
 
 pub in-range : (d : List Literal) (l : Literal) → (IsPastLimit d → ⊥) → l ∈ d → variable_of l < variable_limit
 in-range d l n h = ⊎_elim (λ b. b) (λ b. absurd (n (l, h, b))) (cases_lt (variable_of l) variable_limit)
@@ -52,4 +58,5 @@ named-bounded c e old new n t =
     record {
       users = omega (arith, w, top);
       globals = ⊎_elim (λ b. absurd (n.room (omega (arith, b, k, grown, whole)))) (λ b. b) (cases_lt variable_limit (length new.kept));
+      solvers = let q = ap (λ (x : BiMap). length x.backward) (names-keep c old new t).solvers in omega (arith, q, n.bounded.solvers);
     }

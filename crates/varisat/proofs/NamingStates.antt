@@ -1,6 +1,5 @@
 -- What is found out over the tables of names is so over the names of a state for which they stand.
-use Rattle.std.proofs.Common.{◌≡◌, ℕ, ◌↔◌, Some, None, List, ⊎_elim, sym, ap, ◌∙◌, refl}
-use Rattle.varisat_theory.specs.Membership.{◌∈◌}
+use Rattle.std.proofs.Common.{◌≡◌, ℕ, Some, None, List, ⊎_elim, sym, ap, ◌∙◌, refl}
 use Rattle.varisat_theory.specs.Literals.{Literal, variable_of}
 use Rattle.varisat_names.specs.VarMap.{at}
 use Rattle.varisat_names.specs.VarData.{kept_at}

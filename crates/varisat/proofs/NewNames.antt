@@ -1,5 +1,5 @@
 -- A name gets a variable.
-use Rattle.std.proofs.Common.{◌≡◌, ℕ, ◌+◌, ◌<◌, max, true, false, Option, Some, None, List, [], ◌∷◌, ⊎_elim, sym, ap, ◌∙◌, subst, refl, map, length, arith}
+use Rattle.std.proofs.Common.{◌≡◌, ℕ, ◌+◌, ◌<◌, max, true, false, Option, Some, None, List, [], ◌∷◌, ⊎_elim, sym, ap, ◌∙◌, subst, refl, length, arith}
 use Rattle.varisat_theory.specs.Membership.{◌∈◌}
 use Rattle.varisat_theory.specs.Literals.{Literal, Clause, Assignment, variable_of}
 use Rattle.varisat_theory.proofs.Members.{equal_or_not}
@@ -214,6 +214,7 @@ module _ (w : Carrying) (p : Spaces) (s : State) (u x : ℕ) (k : Links w p s) (
       right = k.right;
       well_formed = bring-well u s k.well_formed;
       few = k.few;
+      shown = λ e y. updated-all (λ y o. o ≡ None → (kept' y).deleted ≡ true) p.user_from_global x (Some u) (λ q. absurd cc) y (λ n h. ap (λ d. d.deleted) (updated-other p.kept x fresh y n) ∙ k.shown e y h);
     },
   )
 

@@ -1,8 +1,9 @@
--- Maps in which no solver variable was dropped, and names in use, which stay as others come into use.
+-- Names and solver variables in use, which stay as others come into use.
 use Rattle.std.proofs.Common.{◌≡◌, ℕ, zero, suc, ◌+◌, ◌-◌, ◌<◌, ◌≤◌, Bool, true, false, not, Option, Some, None, List, [], ◌∷◌, ◌++◌, ◌⊎◌, inl, inr, ⊎_elim, length, sym, ap, ◌∙◌, subst, refl, arith}
+use Rattle.std.proofs.lemmas.Bool.{cases_lt}
 use Rattle.varisat_theory.specs.Membership.{◌∈◌}
 use Rattle.varisat_theory.specs.Literals.{Literal, variable_of}
-use Rattle.varisat_theory.proofs.Members.{equal_or_not, ∈-append_cases, ∈-append_left, ∈-append_right}
+use Rattle.varisat_theory.proofs.Members.{∈-append_cases, ∈-append_left, ∈-append_right}
 use Rattle.std.specs.Option.{is_some, IsSome}
 use Rattle.varisat_names.specs.VarMap.{at, IsFull}
 use Rattle.varisat_names.specs.VarBiMap.{BiMap}
@@ -11,11 +12,15 @@ use Rattle.varisat_names.specs.Variables.{Tables, AreLinked, IsGiven, AreNextGiv
 use Rattle.varisat_names.proofs.Maps.{updated-at, updated-other, updated-all, chain-some, chain-through, is-some}
 use Rattle.varisat_names.proofs.VarMap.{at-past}
 use Rattle.varisat_names.proofs.Tables.{live-inside}
-use Rattle.varisat.specs.Accepting.{IsPlain, HasNames, AreNamedInTurn, AreTakenInTurn, HasSolver, AreTakenFor, IsAssumedSolver, HasUser}
+use Rattle.varisat.specs.Accepting.{KeepsNoUnit, HasNames, AreNamedInTurn, AreTakenInTurn, HasSolver, AreTakenFor, IsAssumedSolver, HasUser}
 use Rattle.varisat.proofs.AcceptSolverVariables.{few, below, below-count, ∈-below}
 
 pub is-there : (o : Option ℕ) (v : ℕ) → o ≡ Some v → IsSome o
 is-there o v e = subst IsSome (sym e) refl
+
+pub there-is : (o : Option ℕ) → IsSome o → (v : ℕ) × (o ≡ Some v)
+there-is None h = absurd (let z : false ≡ true = h in cc)
+there-is (Some v) h = (v, refl)
 
 -- What stays as names come into use, for those that were in use and for the marks of their variables.
 pub record KeepsNames (old new : Tables) : Type 0 where
@@ -54,10 +59,13 @@ given-keeps old new u x free g = record {
     apart : (y : ℕ) → (kept_at old.kept y).deleted ≡ false → y ≡ x → ⊥
     apart y d q = let z : true ≡ false = sym g.unused.0 ∙ ap (λ v. (kept_at old.kept v).deleted) (sym q) ∙ d in cc
 
+past-none : (xs : List (Option ℕ)) (i : ℕ) → length xs ≤ i → at xs i ≡ None
+past-none xs i h = at-past xs i h
+
 pub next-keeps : (k : ℕ) (old new : Tables) → AreNextGiven k old new → KeepsNames old new
 next-keeps zero old new e = keeps-none old new e
 next-keeps (suc k) old new (mid, x, g, rest) =
-    keeps-then old mid new (given-keeps old mid (length old.users.forward) x (at-past old.users.forward (length old.users.forward) (omega arith)) g) (next-keeps k mid new rest)
+    keeps-then old mid new (given-keeps old mid (length old.users.forward) x (past-none old.users.forward (length old.users.forward) (omega arith)) g) (next-keeps k mid new rest)
 
 pub one-keeps : (u : ℕ) (old new : Tables) → IsNamed u old new → KeepsNames old new
 one-keeps u old new (InUse x e same) = keeps-none old new same
@@ -68,49 +76,28 @@ pub names-keep : (d : List Literal) (old new : Tables) → AreNamedInTurn d old 
 names-keep [] old new e = keeps-none old new e
 names-keep (l ∷ d) old new (mid, g, rest) = keeps-then old mid new (one-keeps (variable_of l) old mid g) (names-keep d mid new rest)
 
-given-no-units : (old new : Tables) (u x : ℕ) → ((y : ℕ) → (kept_at old.kept y).unit ≡ None) → IsGiven old new u x → (y : ℕ) → (kept_at new.kept y).unit ≡ None
-given-no-units old new u x n g y = ap (λ d. d.unit) (g.kept.at_each y) ∙ updated-all (λ y d. d.unit ≡ None) (kept_at old.kept) x fresh refl y (λ m. n y)
+-- the variable of a free name keeps no unit
+pub given-units : (old new : Tables) (u x : ℕ) → KeepsNoUnit old → IsGiven old new u x → KeepsNoUnit new
+given-units old new u x n g y = ap (λ d. d.unit) (g.kept.at_each y) ∙ updated-all (λ y d. d.unit ≡ None) (kept_at old.kept) x fresh refl y (λ m. n y)
 
-pub given-plain : (old new : Tables) (u x : ℕ) → IsPlain old → IsGiven old new u x → IsPlain new
-given-plain old new u x n g = record { full = subst (λ s. IsFull s.backward) (sym g.solvers) n.full; no_units = given-no-units old new u x n.no_units g }
+pub next-units : (k : ℕ) (old new : Tables) → KeepsNoUnit old → AreNextGiven k old new → KeepsNoUnit new
+next-units zero old new n e = subst KeepsNoUnit (sym e) n
+next-units (suc k) old new n (mid, x, g, rest) = next-units k mid new (given-units old mid (length old.users.forward) x n g) rest
 
-pub next-plain : (k : ℕ) (old new : Tables) → IsPlain old → AreNextGiven k old new → IsPlain new
-next-plain zero old new n e = subst IsPlain (sym e) n
-next-plain (suc k) old new n (mid, x, g, rest) = next-plain k mid new (given-plain old mid (length old.users.forward) x n g) rest
+pub one-units : (u : ℕ) (old new : Tables) → KeepsNoUnit old → IsNamed u old new → KeepsNoUnit new
+one-units u old new n (InUse x e same) = subst KeepsNoUnit (sym same) n
+one-units u old new n (Free x b free g) = given-units old new u x n g
+one-units u old new n (Above b g) = next-units (u + 1 - length old.users.forward) old new n g
 
-pub one-plain : (u : ℕ) (old new : Tables) → IsPlain old → IsNamed u old new → IsPlain new
-one-plain u old new n (InUse x e same) = subst IsPlain (sym same) n
-one-plain u old new n (Free x b free g) = given-plain old new u x n g
-one-plain u old new n (Above b g) = next-plain (u + 1 - length old.users.forward) old new n g
+pub named-units : (d : List Literal) (old new : Tables) → KeepsNoUnit old → AreNamedInTurn d old new → KeepsNoUnit new
+named-units [] old new n e = subst KeepsNoUnit (sym e) n
+named-units (l ∷ d) old new n (mid, g, rest) = named-units d mid new (one-units (variable_of l) old mid n g) rest
 
-pub named-plain : (d : List Literal) (old new : Tables) → IsPlain old → AreNamedInTurn d old new → IsPlain new
-named-plain [] old new n e = subst IsPlain (sym e) n
-named-plain (l ∷ d) old new n (mid, g, rest) = named-plain d mid new (one-plain (variable_of l) old mid n g) rest
+pub named-push : (d : List Literal) (old mid new : Tables) (l : Literal) → AreNamedInTurn d old mid → IsNamed (variable_of l) mid new → AreNamedInTurn (d ++ l ∷ []) old new
+named-push [] old mid new l e g = (new, subst (λ t. IsNamed (variable_of l) t new) e g, refl)
+named-push (m ∷ d) old mid new l (t, h, rest) g = (t, h, named-push d t mid new l rest g)
 
 -- 2. Solver variables.
-
-taken-at : (old new : Tables) (x v : ℕ) → IsPlain old → IsTaken old new x v → v ≡ length old.solvers.backward
-taken-at old new x v n t =
-    ⊎_elim
-    (λ h. absurd (n.full v h t.least.0))
-    (λ h. ⊎_elim (λ e. e) (λ m. absurd (t.least.1 (length old.solvers.backward) (omega (arith, h, m)) (at-past old.solvers.backward (length old.solvers.backward) (omega arith)))) (equal_or_not v (length old.solvers.backward)))
-    (below-or v (length old.solvers.backward))
-  where
-    below-or : (u n : ℕ) → (u < n) ⊎ (n ≤ u)
-    below-or u n = grind arith
-
-pub taken-plain : (old new : Tables) (x v : ℕ) → IsPlain old → IsTaken old new x v → IsPlain new
-taken-plain old new x v n t =
-    let e = taken-at old new x v n t in
-    let a = t.solvers.backward.watermark in
-    record {
-      full = λ u h q. updated-all (λ u o. o ≡ None → u < length old.solvers.backward + 1 → ⊥) (at old.solvers.backward) v (Some x) (λ z b. absurd cc) u (λ m z b. n.full u (omega (arith, b, m, e)) z) (sym (t.solvers.backward.at_each u) ∙ q) (omega (arith, h, a, e));
-      no_units = subst (λ k. (x : ℕ) → (kept_at k x).unit ≡ None) (sym t.kept) n.no_units;
-    }
-
-pub taken-in-turn-plain : (xs : List ℕ) (old new : Tables) → IsPlain old → AreTakenInTurn xs old new → IsPlain new
-taken-in-turn-plain [] old new n e = subst IsPlain (sym e) n
-taken-in-turn-plain (x ∷ xs) old new n (mid, v, f, t, rest) = taken-in-turn-plain xs mid new (taken-plain old mid x v n t) rest
 
 pub taken-push : (xs : List ℕ) (old mid new : Tables) (x v : ℕ) → AreTakenInTurn xs old mid → at mid.solvers.forward x ≡ None → IsTaken mid new x v → AreTakenInTurn (xs ++ x ∷ []) old new
 taken-push [] old mid new x v e f t = (new, v, subst (λ m. at m.solvers.forward x ≡ None) e f, subst (λ m. IsTaken m new x v) e t, refl)
@@ -126,15 +113,72 @@ taken-stays [] old new v y e h = ap (λ t. at t.solvers.backward v) e ∙ h
 taken-stays (x ∷ xs) old new v y (mid, w, f, t, rest) h =
     taken-stays xs mid new v y rest (t.solvers.backward.at_each v ∙ updated-other (at old.solvers.backward) w (Some x) v (λ q. let z : None ≡ Some y = sym t.least.0 ∙ ap (at old.solvers.backward) (sym q) ∙ h in cc) ∙ h)
 
+pub taken-units : (xs : List ℕ) (old new : Tables) → KeepsNoUnit old → AreTakenInTurn xs old new → KeepsNoUnit new
+taken-units xs old new n t y = ap (λ ds. (kept_at ds y).unit) (taken-users xs old new t).1 ∙ n y
+
+-- As the least free solver variables are taken first, the watermark stays, or each solver variable below it is in use.
+pub taken-full : (xs : List ℕ) (old new : Tables) → AreTakenInTurn xs old new → (length new.solvers.backward ≡ length old.solvers.backward) ⊎ IsFull new.solvers.backward
+taken-full [] old new e = inl (ap (λ t. length t.solvers.backward) e)
+taken-full (x ∷ xs) old new (mid, v, f, t, rest) =
+    ⊎_elim
+    (λ below. ⊎_elim
+    (λ same. inl (let b = t.solvers.backward.watermark in omega (arith, same, b, below)))
+    inr
+    (taken-full xs mid new rest))
+    (λ past. ⊎_elim
+    (λ same. inr (λ u h n. let b = t.solvers.backward.watermark in first u (omega (arith, h, same, b, past)) n))
+    inr
+    (taken-full xs mid new rest))
+    (cases_lt v (length old.solvers.backward))
+  where
+    -- up to the one that was taken first each is in use
+    first : (u : ℕ) → u < v + 1 → at new.solvers.backward u ≡ None → ⊥
+    first u h n =
+        let there = updated-all (λ u o. u < v + 1 → (y : ℕ) × (o ≡ Some y)) (at old.solvers.backward) v (Some x) (λ _. (x, refl)) u
+        (λ m b. ⊎_elim (λ e. absurd (t.least.1 u (omega (arith, b, m)) e)) (λ r. r) (is-some (at old.solvers.backward u))) h in
+        let (y, e) = there in
+        let z : None ≡ Some y = sym n ∙ taken-stays xs mid new u y rest (t.solvers.backward.at_each u ∙ e) in
+        cc
+
+-- so those that the watermark came to pass are in use
+pub taken-between : (xs : List ℕ) (old new : Tables) (v : ℕ) → AreTakenInTurn xs old new → length old.solvers.backward ≤ v → v < length new.solvers.backward → IsSome (at new.solvers.backward v)
+taken-between xs old new v t low high =
+    ⊎_elim
+    (λ same. absurd (omega (arith, same, low, high)))
+    (λ full. ⊎_elim (λ e. absurd (full v high e)) (λ (x, e). is-there (at new.solvers.backward v) x e) (is-some (at new.solvers.backward v)))
+    (taken-full xs old new t)
+
+-- a solver variable in use was so, or is that of one of the variables
+pub taken-from : (xs : List ℕ) (old new : Tables) (v y : ℕ) → AreTakenInTurn xs old new → at new.solvers.backward v ≡ Some y → (at old.solvers.backward v ≡ Some y) ⊎ (y ∈ xs)
+taken-from [] old new v y e h = inl (ap (λ t. at t.solvers.backward v) (sym e) ∙ h)
+taken-from (x ∷ xs) old new v y (mid, w, f, t, rest) h =
+    ⊎_elim
+    (λ e. updated-all (λ u o. at mid.solvers.backward u ≡ o → o ≡ Some y → (at old.solvers.backward u ≡ Some y) ⊎ (y ∈ (x ∷ xs))) (at old.solvers.backward) w (Some x)
+    (λ _ q. inr (inl (let z : x ≡ y = cc in sym z))) v (λ _ _ q. inl q) (t.solvers.backward.at_each v) (sym (t.solvers.backward.at_each v) ∙ e))
+    (λ i. inr (inr i))
+    (taken-from xs mid new v y rest h)
+
+-- where all solver variables below the watermark are in use, there are no more than global variables
+pub solvers-within : (t : Tables) → AreLinked t → IsFull t.solvers.backward → length t.solvers.backward ≤ length t.kept
+solvers-within t l n =
+    let d = few (at t.solvers.backward) (below (length t.kept)) (λ v u x a b. let q : Some u ≡ Some v = sym (l.solvers.back x u b) ∙ l.solvers.back x v a in cc) (length t.solvers.backward)
+    (λ v h. ⊎_elim (λ e. absurd (n v h e)) (λ (x, e). (x, e, ∈-below (length t.kept) x (live-inside t.kept x (l.taken x v (l.solvers.back x v e))))) (is-some (at t.solvers.backward v))) in
+    let e = below-count (length t.kept) in
+    omega (arith, d, e)
+
 -- names stay in use as variables take solver variables
-pub names-taken : (d e : List Literal) (old new : Tables) → HasNames d old → AreTakenFor e old new → HasNames d new
-names-taken d e old new n t =
+pub names-taken : (d e : List Literal) (old new : Tables) → AreLinked new → HasNames d old → AreTakenFor e old new → HasNames d new
+names-taken d e old new l n t =
     let (users, kept) = taken-users t.globals old new t.in_turn in
     let u = ap (λ (m : BiMap). length m.forward) users in
     let k = ap length kept in
     record {
-      plain = taken-in-turn-plain t.globals old new n.plain t.in_turn;
-      bounded = record { users = omega (arith, u, n.bounded.users); globals = omega (arith, k, n.bounded.globals) };
+      no_units = taken-units t.globals old new n.no_units t.in_turn;
+      bounded = record {
+        users = omega (arith, u, n.bounded.users);
+        globals = omega (arith, k, n.bounded.globals);
+        solvers = ⊎_elim (λ same. omega (arith, same, n.bounded.solvers)) (λ full. let w = solvers-within new l full in omega (arith, w, k, n.bounded.globals)) (taken-full t.globals old new t.in_turn);
+      };
       named = λ l h. subst (λ (m : BiMap). IsSome (at m.forward (variable_of l))) (sym users) (n.named l h);
     }
 
@@ -149,14 +193,6 @@ solver-stays old new x v u f t (w, e) =
 pub solver-new : (old new : Tables) (x v u : ℕ) → at old.users.forward u ≡ Some x → IsTaken old new x v → HasSolver new u
 solver-new old new x v u e t =
     (v, chain-some (at new.users.forward) (at new.solvers.forward) u x (ap (λ m. at m.forward u) t.users ∙ e) ∙ t.solvers.forward.at_each x ∙ updated-at (at old.solvers.forward) x (Some v))
-
--- there are no more solver variables than global variables
-pub solvers-within : (t : Tables) → AreLinked t → IsFull t.solvers.backward → length t.solvers.backward ≤ length t.kept
-solvers-within t l n =
-    let d = few (at t.solvers.backward) (below (length t.kept)) (λ v u x a b. let q : Some u ≡ Some v = sym (l.solvers.back x u b) ∙ l.solvers.back x v a in cc) (length t.solvers.backward)
-    (λ v h. ⊎_elim (λ e. absurd (n v h e)) (λ (x, e). (x, e, ∈-below (length t.kept) x (live-inside t.kept x (l.taken x v (l.solvers.back x v e))))) (is-some (at t.solvers.backward v))) in
-    let e = below-count (length t.kept) in
-    omega (arith, d, e)
 
 -- One more variable took a solver variable, or had one.
 pub for-taken : (d : List Literal) (l : Literal) (old mid new : Tables) (x v : ℕ) → AreTakenFor d old mid → mid.users ≡ old.users → at mid.users.forward (variable_of l) ≡ Some x → at mid.solvers.forward x ≡ None → IsTaken mid new x v → AreTakenFor (d ++ l ∷ []) old new
@@ -190,6 +226,10 @@ for-none t = record { globals = []; named = λ x h. absurd h; in_turn = refl; al
 pub taken-grow : (xs : List ℕ) (old new : Tables) → AreTakenInTurn xs old new → length old.solvers.backward ≤ length new.solvers.backward
 taken-grow [] old new e = let q = ap (λ t. length t.solvers.backward) e in omega (arith, q)
 taken-grow (x ∷ xs) old new (mid, v, f, t, rest) = let a = taken-grow xs mid new rest in let b = t.solvers.backward.watermark in omega (arith, a, b)
+
+pub none-of : (o : Option ℕ) → is_some o ≡ false → o ≡ None
+none-of None e = refl
+none-of (Some x) e = absurd (let z : true ≡ false = e in cc)
 
 pub some-of-not : (o : Option ℕ) (b : Bool) → is_some o ≡ not b → b ≡ false → (v : ℕ) × (o ≡ Some v)
 some-of-not None b e f = absurd (let z : false ≡ true = e ∙ ap not f in cc)

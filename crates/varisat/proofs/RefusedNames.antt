@@ -1,8 +1,8 @@
 -- What is said of a clause or a list of assumptions whose names were looked at before they come into use.
-use Rattle.std.proofs.Common.{Ok, Err, ◌≡◌, ◌≢◌, true, List, ◌⊎◌, inl, inr, ⊎_elim, refl}
-use Rattle.varisat_theory.specs.Literals.{Literal, Clause}
+use Rattle.std.proofs.Common.{Err, ◌≡◌, ◌≢◌, true, List, ◌⊎◌, inl, inr, ⊎_elim, refl}
+use Rattle.varisat_theory.specs.Literals.{Literal}
 use Rattle.varisat.specs.declared.solver.SolverError.{SolverError}
-use Rattle.varisat.specs.declared.solver.SolverError.TheVariants.{Interrupted, OutOfMemory, Invalid, ClauseStoreFull, WitnessVar, VariableLimit, AssumedVar, ConfigOutOfRange, Dimacs}
+use Rattle.varisat.specs.declared.solver.SolverError.TheVariants.{WitnessVar, VariableLimit}
 use Rattle.varisat.specs.States.{State, Unsat}
 use Rattle.varisat.specs.Names.{name_all, NameNoWitness}
 use Rattle.varisat.specs.Calls.{IsPastLimit, IsCrowded, MayConstrain, AddsClause, Assumes}

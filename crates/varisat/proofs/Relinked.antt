@@ -47,4 +47,5 @@ relinked w p q s t k l = record {
   right = l.right;
   well_formed = told-well s t k.well_formed;
   few = l.few;
+  shown = k.shown;
 }

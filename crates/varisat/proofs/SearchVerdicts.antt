@@ -1,5 +1,5 @@
 -- A search that comes to a verdict, and its core over names.
-use Rattle.std.proofs.Common.{◌≡◌, Bool, Option, List, length, ap, ◌∙◌, subst, refl, arith}
+use Rattle.std.proofs.Common.{◌≡◌, Bool, Option, List, length, ap, ◌∙◌, subst, refl}
 use Rattle.varisat_theory.specs.Membership.{◌∈◌}
 use Rattle.varisat_theory.specs.Literals.{Literal}
 use Rattle.varisat_theory.specs.Derivations.{Line}
@@ -15,6 +15,7 @@ use Rattle.varisat_search.specs.Seen.{search_of, outcome_of}
 use Rattle.varisat_search.proofs.ReadyAfter.{ready-with}
 use Rattle.varisat.specs.Searches.{answer_at, FindsVerdict}
 use Rattle.varisat.specs.Summaries.{IsKept}
+use Rattle.varisat.proofs.VariablesInUse.{same-in-use}
 
 -- a core over names makes no difference to the search
 pub ready-named : {A : Type 0} (c : Context A) (core : List Literal) → IsReady c → IsReady (record c { assumptions = record c.assumptions { user_core = core } })
@@ -44,10 +45,10 @@ found-plainly t x y found ready count decidable state answer steps assumes plain
 pub kept-found : {A : Type 0} (t : Tables) (x y : Context A) (found : Option Bool) → IsKept t x → FindsVerdict t x y found → IsKept t y
 kept-found t x y found k f = record {
   bounded = k.bounded;
-  plain = k.plain;
+  no_units = k.no_units;
   ready = f.ready;
   count = f.count ∙ k.count;
-  decidable = λ v. ((λ h. let b = (k.decidable v).0 ((f.decidable v).1 h) in let n = f.count in omega (arith, b, n)), (λ h. (f.decidable v).0 ((k.decidable v).1 (let n = f.count in omega (arith, h, n)))));
+  decidable = same-in-use t (view x) x.vsids (view y) y.vsids k.decidable f.decidable;
   assumed = λ l h. k.assumed l (subst (λ ls. l ∈ ls) (ap (λ (z : AssumptionParts). z.user) f.rest ∙ f.assumes.user) h);
   marked = λ l z h e. k.marked l z (subst (λ ls. l ∈ ls) (ap (λ (z : AssumptionParts). z.user) f.rest ∙ f.assumes.user) h) e;
   working = λ l h. k.working l (f.assumes.part l (subst (λ ls. l ∈ ls) (ap (λ (z : AssumptionParts). z.working) f.rest) h));

@@ -10,7 +10,7 @@ use Rattle.varisat_search.specs.Seen.{search_of}
 use Rattle.varisat_search.proofs.ViewSearch.{fixed_from, seen_clauses}
 use Rattle.varisat.proofs.SpacesMoves.{AreLong}
 
-of-kept : (s : View) (k : KeptClause) → k ∈ (search_of s).kept → k.clause ∈ kept s
+pub of-kept : (s : View) (k : KeptClause) → k ∈ (search_of s).kept → k.clause ∈ kept s
 of-kept s k h = subst (λ P. k.clause ∈ P) (seen_clauses s) (clause_in (search_of s).kept k h)
 
 two : (c : Clause) → 2 ≤ length c → IsDistinct c → (l m : Literal) × (l ∈ c) × (m ∈ c) × (l ≢ m)

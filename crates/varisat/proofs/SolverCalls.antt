@@ -1,5 +1,5 @@
 -- What the solver's calls do to the states that it stands for.
-use Rattle.std.proofs.Common.{Result, Ok, Err, Vec, ◌≡◌, ℕ, zero, suc, ◌+◌, ◌-◌, ◌<◌, ◌≤◌, nat_lt, if◌then◌else◌, Bool, true, false, Option, Some, None, List, [], ◌++◌, ◌⊎◌, inl, inr, ⊎_elim, length, map, get_or, sym, ap, ◌∙◌, subst, refl, arith}
+use Rattle.std.proofs.Common.{Result, Ok, Err, Vec, ◌≡◌, ℕ, zero, suc, ◌+◌, ◌-◌, ◌<◌, ◌≤◌, Bool, true, false, not, Option, Some, None, List, [], ◌++◌, ◌⊎◌, inl, inr, ⊎_elim, length, map, get_or, sym, ap, ◌∙◌, subst, refl, arith}
 use Rattle.varisat_theory.specs.Membership.{◌∈◌}
 use Rattle.varisat_theory.specs.Literals.{Literal, Assignment, variable_of, IsSatisfiableWith, IsFailedCore}
 use Rattle.varisat_theory.specs.Derivations.{Line}
@@ -10,22 +10,27 @@ use Rattle.varisat_theory.proofs.Reached.{reached_self}
 use Rattle.varisat_theory.proofs.Renaming.{map-∈}
 use Rattle.varisat_prop.proofs.LiteralValues.{same-literal}
 use Rattle.varisat_theory.proofs.StepStands.{first_stands}
+use Rattle.varisat_theory.proofs.StepsMade.{none_made, part_after_made}
 use Rattle.varisat_prop.specs.Parts.{is_true_value}
 use Rattle.varisat_prop.specs.View.{View, WellFormed}
 use Rattle.varisat_search.specs.declared.state.SatState.{SatState}
 use Rattle.varisat_search.specs.declared.state.SatState.TheVariants as verdict
 use Rattle.varisat_search.specs.declared.context.Context.{Context}
 use Rattle.varisat_search.specs.AssumptionParts.{AssumptionParts, no_assumptions, KeepsAssumptions}
-use Rattle.varisat_search.specs.Contexts.{view, IsReady}
+use Rattle.varisat_search.specs.declared.state.SolverState.{SolverState}
+use Rattle.varisat_search.specs.Contexts.{view, IsReady, KeepsSchedule}
+use Rattle.varisat_schedule.specs.Plans.{Plan}
+use Rattle.varisat_names.specs.Settings.{Settings}
 use Rattle.varisat_search.specs.Decisions.{IsDecidable}
 use Rattle.varisat_search.specs.Seen.{search_of, outcome_of, first_search}
+use Rattle.varisat_search.specs.SettledUnits.{GoesOnByLines}
 use Rattle.varisat_search.specs.Steps.{assignment_of}
+use Rattle.varisat_search.proofs.AssumptionSteps.{keeps-refl}
 use Rattle.varisat_names.specs.Maps.{chain}
 use Rattle.varisat_names.specs.VarMap.{at, IsLeastUnmapped}
 use Rattle.varisat_names.specs.VarData.{kept_at}
 use Rattle.varisat_names.specs.Variables.{Tables, no_variables, IsGiven}
 use Rattle.varisat_names.proofs.Maps.{chain-none, chain-some, chain-through, is-some}
-use Rattle.varisat_names.proofs.Tables.{live-inside}
 use Rattle.varisat.specs.Budgets.{CountsSteps}
 use Rattle.varisat.specs.declared.solver.SolverError.{SolverError}
 use Rattle.varisat.specs.States.{State, Ledger, Verdict, Unknown, Sat, Unsat, UnsatUnderAssumptions, HasRightVerdict, IsRight, empty_state}
@@ -33,39 +38,39 @@ use Rattle.varisat.specs.Names.{Naming, bring, bring_next, bring_if_free, name_o
 use Rattle.varisat.specs.Models.{put_name, model_of, IsCompletable, core_of, IsCoreToTell}
 use Rattle.varisat.specs.Calls.{with_naming, IsValid, TellsModel, TellsCore, TellsVerdict, answer_of, with_verdict}
 use Rattle.varisat.specs.Told.{told_list}
+use Rattle.std.specs.Option.{IsSome}
 use Rattle.std.specs.Result.{IsErr}
 use Rattle.std.specs.declared.alloc.AllocError.{AllocError}
 use Rattle.varisat.specs.Carried.{carry, value_or}
-use Rattle.varisat.specs.Accepting.{IsPlain, HasUser}
+use Rattle.varisat.specs.Accepting.{KeepsNoUnit, HasUser}
 use Rattle.varisat.specs.Searches.{answer_at, FindsVerdict}
 use Rattle.varisat.specs.Spaces.{Spaces, Carrying, translation, CoreFits, VerdictFits, Links, SpacesFit, list_globals}
 use Rattle.varisat.specs.Summaries.{Summary, IsKept, StandsFor, spaces, spaces_of, list_tables}
 use Rattle.varisat.proofs.AcceptLoad.{map-map}
-use Rattle.varisat.proofs.CallStates.{like-refl}
+use Rattle.varisat.proofs.CallStates.{ledger_of, like-refl}
 use Rattle.varisat.proofs.VerdictAnswers.{right-false, right-core, core-answer}
 use Rattle.varisat.proofs.Carried.{carry-at, carry-sign}
 use Rattle.varisat.proofs.SettingsCalls.{summary_of}
 use Rattle.varisat.proofs.SolveVerdict.{spaces-same, sat-found, unsat-found, core-found, found, went-on}
 use Rattle.varisat.proofs.ModelsFit.{told, is-sat, is-unsat, is-core, is-unknown}
 use Rattle.varisat.proofs.PlainTables.{assumed-named}
-use Rattle.varisat.proofs.AcceptClause.{with_tables, name-below, name-above, given-spaces, in-use-all}
+use Rattle.varisat.proofs.AcceptClause.{with_tables, name-below, name-above, given-spaces}
 use Rattle.varisat.proofs.SearchViews.{view-long}
+use Rattle.varisat.proofs.SpacesMoves.{AreInUse}
+use Rattle.varisat.proofs.VariablesInUse.{same-in-use, in-use-all}
 
 -- 1. A new solver.
 
-first-plain : IsPlain no_variables
-first-plain = record {
-  full = λ u h. absurd (omega (arith, h));
-  no_units = λ x. refl;
-}
+first-units : KeepsNoUnit no_variables
+first-units x = refl
 
 pub first-kept : {A : Type 0} (t : Tables) (c : Context A) → t ≡ no_variables → IsReady c → length c.assignment.current ≡ 0 → c.assumptions ≡ no_assumptions → ((v : ℕ) → IsDecidable (view c) c.vsids v → ⊥) → IsKept t c
 first-kept t c e r n s d = record {
-  bounded = record { users = let z = ap (λ (x : Tables). length x.users.forward) e in omega (arith, z); globals = let z = ap (λ (x : Tables). length x.kept) e in omega (arith, z) };
-  plain = subst IsPlain (sym e) first-plain;
+  bounded = record { users = let z = ap (λ (x : Tables). length x.users.forward) e in omega (arith, z); globals = let z = ap (λ (x : Tables). length x.kept) e in omega (arith, z); solvers = let z = ap (λ (x : Tables). length x.solvers.backward) e in omega (arith, z) };
+  no_units = subst KeepsNoUnit (sym e) first-units;
   ready = r;
   count = n ∙ ap (λ (x : Tables). length x.solvers.backward) (sym e);
-  decidable = λ v. ((λ h. absurd (d v h)), (λ h. absurd (omega (arith, h, n))));
+  decidable = λ v. ((λ h. absurd (d v h)), (λ h. let z : false ≡ true = subst (λ (x : Tables). IsSome (at x.solvers.backward v)) e h in absurd cc));
   assumed = λ l h. absurd (subst (λ (x : AssumptionParts). l ∈ x.user) s h);
   marked = λ l x h. absurd (subst (λ (y : AssumptionParts). l ∈ y.user) s h);
   working = λ l h. absurd (subst (λ (x : AssumptionParts). l ∈ x.working) s h);
@@ -103,6 +108,7 @@ first-spaces s e n =
         right = tt;
         well_formed = record { one_to_one = λ u v i e. absurd (let z : None ≡ Some i = e in cc); free = λ u h. refl; named = λ u i e. absurd (let z : None ≡ Some i = e in cc); accepted = λ c l h. absurd h; assumed = λ l h. absurd h; counted = λ i h. absurd h; once = tt };
         few = omega (arith, n);
+        shown = λ o x h. refl;
       },
     )
   where
@@ -150,11 +156,10 @@ after_steps g t z after = record g { search = t; assumed = z; sat_state = after 
 -- Steps of the search found a verdict or none, left the view and some of the assumptions, and a core was told over names.
 pub record StepsMade (g : Summary) (t : View) (y z : AssumptionParts) (after : SatState) : Type 0 where
   pub unknown : g.sat_state ≡ verdict.Unknown
-  pub plain : IsPlain g.tables
   pub working : (l : Literal) → l ∈ g.assumed.working → HasUser g.tables (variable_of l)
-  pub count : length g.search.values ≡ length g.tables.solvers.backward
   pub same_count : length t.values ≡ length g.search.values
   pub well : WellFormed t
+  pub in_use : AreInUse (spaces g) (search_of t)
   pub steps : (k : ℕ) × (lines : List Line) × MakesSteps k (search_of g.search) (search_of t) (outcome_of t y.failed_core after) lines
   pub assumes : KeepsAssumptions (search_of g.search) (outcome_of t y.failed_core after) g.assumed y
   pub rest : z ≡ record y { user_core = z.user_core }
@@ -224,21 +229,18 @@ decided-fits g s t y z verdict.Sat b e (w, k) v =
     let (j, lines, made) = v.steps in
     let unknown = ap (outcome_of g.search g.assumed.failed_core) v.unknown in
     let long = view-long t v.well in
-    let in-use = in-use-all g.tables t v.plain.full (v.same_count ∙ v.count) v.well in
-    let a = found w (spaces g) s k unknown (search_of t) (assignment_of t) j lines made long in-use in
-    let links = sat-found w (spaces g) s k unknown (search_of t) (assignment_of t) j lines made long in-use g.assumed y refl v.assumes z.user_core in
+    let a = found w (spaces g) s k unknown (search_of t) (assignment_of t) j lines made long v.in_use in
+    let links = sat-found w (spaces g) s k unknown (search_of t) (assignment_of t) j lines made long v.in_use g.assumed y refl v.assumes z.user_core in
     record { verdict = Sat a; answer = e; right = links.right; fits = left-spaces g (with_verdict (Sat a) s) t y z verdict.Sat v (w, links) }
 decided-fits g s t y z verdict.Unsat b e (w, k) v =
     let (j, lines, made) = v.steps in
-    let in-use = in-use-all g.tables t v.plain.full (v.same_count ∙ v.count) v.well in
-    let links = unsat-found w (spaces g) s k (ap (outcome_of g.search g.assumed.failed_core) v.unknown) (search_of t) outcome.Unsat j lines made (view-long t v.well) in-use g.assumed y refl v.assumes (spaces (after_steps g t z verdict.Unsat)).model z.user_core refl in
+    let links = unsat-found w (spaces g) s k (ap (outcome_of g.search g.assumed.failed_core) v.unknown) (search_of t) outcome.Unsat j lines made (view-long t v.well) v.in_use g.assumed y refl v.assumes (spaces (after_steps g t z verdict.Unsat)).model z.user_core refl in
     record { verdict = Unsat; answer = e; right = links.right; fits = left-spaces g (with_verdict Unsat s) t y z verdict.Unsat v (w, links) }
 decided-fits g s t y z verdict.UnsatUnderAssumptions b e (w, k) v =
     let (j, lines, made) = v.steps in
-    let in-use = in-use-all g.tables t v.plain.full (v.same_count ∙ v.count) v.well in
     let told = z.user_core in
     let (named, same) = names-carried g s w k v.working y.failed_core told (v.assumes.core y.failed_core refl) (v.named refl) in
-    let links = core-found w (spaces g) s k (ap (outcome_of g.search g.assumed.failed_core) v.unknown) (search_of t) (outcome.UnsatUnder y.failed_core) j lines made (view-long t v.well) in-use g.assumed y refl v.assumes (spaces (after_steps g t z verdict.UnsatUnderAssumptions)).model y.failed_core told refl named same in
+    let links = core-found w (spaces g) s k (ap (outcome_of g.search g.assumed.failed_core) v.unknown) (search_of t) (outcome.UnsatUnder y.failed_core) j lines made (view-long t v.well) v.in_use g.assumed y refl v.assumes (spaces (after_steps g t z verdict.UnsatUnderAssumptions)).model y.failed_core told refl named same in
     let core = UnsatUnderAssumptions (map (carry s.naming.names) told) in
     record { verdict = core; answer = e; right = links.right; fits = left-spaces g (with_verdict core s) t y z verdict.UnsatUnderAssumptions v (w, links) }
 
@@ -259,9 +261,8 @@ pub interrupted : (g : Summary) (s : State) (t : View) (y z : AssumptionParts) �
 interrupted g s t y z st valid v =
     let (w, k) = st.fits valid in
     let (j, lines, made) = v.steps in
-    let in-use = in-use-all g.tables t v.plain.full (v.same_count ∙ v.count) v.well in
     left-spaces g (with_verdict Unknown s) t y z verdict.Unknown v
-    (w, went-on w (spaces g) s k (ap (outcome_of g.search g.assumed.failed_core) v.unknown) (search_of t) outcome.Unknown j lines made (view-long t v.well) in-use g.assumed y refl v.assumes (spaces (after_steps g t z verdict.Unknown)).model z.user_core refl)
+    (w, went-on w (spaces g) s k (ap (outcome_of g.search g.assumed.failed_core) v.unknown) (search_of t) outcome.Unknown j lines made (view-long t v.well) v.in_use g.assumed y refl v.assumes (spaces (after_steps g t z verdict.Unknown)).model z.user_core refl)
 
 -- before that the verdict was unknown
 pub was-unknown : (g : Summary) (s : State) → StandsFor g s → g.ledger.valid ≡ true → g.sat_state ≡ verdict.Unknown → s.verdict ≡ Unknown
@@ -399,11 +400,10 @@ answered-false x (inr e) = ap answer_at e
 pub finds-made : {A : Type 0} (t : Tables) (started : Bool) (x y : Context A) (answer : Option Bool) (f : FindsVerdict t x y answer) → IsKept t x → x.solver_state.sat_state ≡ verdict.Unknown → StepsMade (summary_of t started x) (view y) f.parts y.assumptions y.solver_state.sat_state
 finds-made t started x y answer f k unknown = record {
   unknown = unknown;
-  plain = k.plain;
   working = λ l h. assumed-named t (variable_of l) (k.working l h);
-  count = k.count;
   same_count = f.count;
   well = f.ready.well;
+  in_use = in-use-all t (view y) y.vsids (same-in-use t (view x) x.vsids (view y) y.vsids k.decidable f.decidable) f.ready.decidable f.ready.well;
   steps = (_, f.steps.0, f.steps.1);
   assumes = f.assumes;
   rest = f.rest;
@@ -418,3 +418,42 @@ core-refused s t core e (inr (v, x), same) = absurd cc
 pub told-refused-core : {A : Type 0} (s t : State) (core : List Literal) (r : Result (Option (Vec Literal A)) AllocError) → IsErr r → TellsCore s (Ok (Some core)) t → TellsCore s (told_list r) s
 told-refused-core s t core (Ok m) h a = absurd (let z : false ≡ true = h in cc)
 told-refused-core s t core (Err e) h a = core-refused s t core e a
+
+-- 8. Units are settled before a step.
+
+-- The search went on by lines, without a step: what is held stands for the same state.
+pub settled-stands : {A : Type 0} (m : Tables) (x y : Context A) → IsKept m x → GoesOnByLines x y → y.assumptions ≡ x.assumptions → (s : State) → SpacesFit (spaces_of m (view x) x.assumptions verdict.Unknown) s → SpacesFit (spaces_of m (view y) y.assumptions verdict.Unknown) s
+settled-stands m x y kept goes same s (w, k) =
+    let g : Summary = record { tables = m; search = view x; assumed = x.assumptions; sat_state = verdict.Unknown; ledger = s.ledger } in
+    let (lines, p) = goes.proves in
+    let made = part_after_made 0 (search_of (view x)) (search_of (view x)) (search_of (view y)) [] lines (none_made (search_of (view x))) p in
+    let used = in-use-all m (view y) y.vsids (same-in-use m (view x) x.vsids (view y) y.vsids kept.decidable goes.decidable) goes.ready.decidable goes.ready.well in
+    let v : StepsMade g (view y) x.assumptions x.assumptions verdict.Unknown = record {
+      unknown = refl;
+      working = λ l h. assumed-named m (variable_of l) (kept.working l h);
+      same_count = goes.extends.count;
+      well = goes.ready.well;
+      in_use = used;
+      steps = (0, lines, made);
+      assumes = keeps-refl (search_of (view x)) x.assumptions;
+      rest = refl;
+      named = λ e. absurd (let z : verdict.Unknown ≡ verdict.UnsatUnderAssumptions = e in cc);
+    } in
+    let links = went-on w (spaces g) s k refl (search_of (view y)) outcome.Unknown 0 lines made (view-long (view y) goes.ready.well) used x.assumptions x.assumptions refl (keeps-refl (search_of (view x)) x.assumptions) (spaces (after_steps g (view y) x.assumptions verdict.Unknown)).model x.assumptions.user_core refl in
+    let unknown : s.verdict ≡ Unknown = is-unknown w.identity (spaces g).model s.verdict k.verdict in
+    let fits = left-spaces g (with_verdict Unknown s) (view y) x.assumptions x.assumptions verdict.Unknown v (w, links) in
+    subst (λ (a : AssumptionParts). SpacesFit (spaces_of m (view y) a verdict.Unknown) s) (sym same)
+    (subst (λ (b : Verdict). SpacesFit (spaces_of m (view y) x.assumptions verdict.Unknown) (with_verdict b s)) (sym unknown) fits)
+
+-- Hidden variables left, and nothing of what is told changed.
+pub dropped-stands : {A : Type 0} (m n : Tables) (started : Bool) (x y : Context A) (s : State) → y.solver_state ≡ x.solver_state → KeepsSchedule x y → x.solver_state.sat_state ≡ verdict.Unknown → ((s : State) → SpacesFit (spaces_of m (view x) x.assumptions verdict.Unknown) s → SpacesFit (spaces_of n (view y) y.assumptions verdict.Unknown) s) → StandsFor (summary_of m started x) s → StandsFor (summary_of n started y) s
+dropped-stands m n started x y s e k u f st = record {
+  ledger = st.ledger ∙ (
+      ap (λ (b : SolverState). ledger_of (not b.state_is_invalid) started x.schedule.steps x.solver_config) (sym e)
+      ∙ ap (λ (p : Plan). ledger_of (not y.solver_state.state_is_invalid) started p.steps x.solver_config) (sym k.schedule)
+      ∙ ap (λ (c : Settings). ledger_of (not y.solver_state.state_is_invalid) started y.schedule.steps c) (sym k.solver_config));
+  fits = λ v.
+      let before = st.fits (ap (λ (b : SolverState). not b.state_is_invalid) (sym e) ∙ v) in
+      subst (λ b. SpacesFit (spaces_of n (view y) y.assumptions b) s) (sym (ap (λ (b : SolverState). b.sat_state) e ∙ u))
+      (f s (subst (λ b. SpacesFit (spaces_of m (view x) x.assumptions b) s) u before));
+}

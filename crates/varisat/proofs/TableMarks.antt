@@ -1,11 +1,11 @@
 -- Marks of isolation or of assumption are set, for one variable after another. All else in the tables stays.
-use Rattle.std.proofs.Common.{◌≡◌, ◌≢◌, ℕ, ◌<◌, Bool, true, false, Some, List, [], ◌∷◌, ◌++◌, ◌⊎◌, inl, inr, ⊎_elim, length, map, sym, ap, ◌∙◌, subst, refl, arith}
+use Rattle.std.proofs.Common.{◌≡◌, ◌≢◌, ℕ, Bool, true, false, Some, List, [], ◌∷◌, ◌++◌, ◌⊎◌, inl, inr, ⊎_elim, length, map, sym, ap, ◌∙◌, subst, refl, arith}
 use Rattle.std.specs.Option.{IsSome}
 use Rattle.varisat_theory.specs.Membership.{◌∈◌}
 use Rattle.varisat_theory.specs.Literals.{Literal, variable_of}
 use Rattle.varisat_theory.proofs.Renaming.{map-∈}
 use Rattle.varisat_theory.proofs.Members.{equal_or_not, ∈-append_cases, ∈-append_left, ∈-append_right}
-use Rattle.varisat_names.specs.VarMap.{at, IsFull}
+use Rattle.varisat_names.specs.VarMap.{at}
 use Rattle.varisat_names.specs.VarData.{kept_at}
 use Rattle.varisat_names.specs.declared.variables.data.VarData.{VarData}
 use Rattle.varisat_names.specs.Maps.{chain}
@@ -14,7 +14,7 @@ use Rattle.varisat_names.specs.Variables.{Tables, AreLinked, IsChangedTo}
 use Rattle.varisat_names.proofs.Maps.{updated-all, updated-other, chain-through}
 use Rattle.varisat_names.proofs.Tables.{live-inside}
 use Rattle.varisat.specs.Carried.{carry}
-use Rattle.varisat.specs.Accepting.{IsPlain, AreBounded, HasNames, HasSolver, AreJoined, AreMarked, IsAssumedSolver}
+use Rattle.varisat.specs.Accepting.{KeepsNoUnit, AreBounded, HasNames, HasSolver, AreJoined, AreMarked, IsAssumedSolver}
 use Rattle.varisat.proofs.Carried.{carry-at}
 
 -- 1. What stays.
@@ -26,20 +26,21 @@ pub record SameButMarks (old new : Tables) : Type 0 where
   pub deleted : (x : ℕ) → (kept_at new.kept x).deleted ≡ (kept_at old.kept x).deleted
   pub units : (x : ℕ) → (kept_at new.kept x).unit ≡ (kept_at old.kept x).unit
 
--- marks make no difference to what is plain
-pub marks-plain : (old new : Tables) → IsPlain old → SameButMarks old new → IsPlain new
-marks-plain old new n j = record { full = subst (λ m. IsFull m.backward) (sym j.solvers) n.full; no_units = λ x. j.units x ∙ n.no_units x }
+-- marks make no difference to units
+pub marks-units : (old new : Tables) → KeepsNoUnit old → SameButMarks old new → KeepsNoUnit new
+marks-units old new n j x = j.units x ∙ n x
 
 pub marks-bounded : (old new : Tables) → AreBounded old → SameButMarks old new → AreBounded new
 marks-bounded old new b j =
     let u = ap (λ m. length m.forward) j.users in
     let c = j.count in
-    record { users = omega (arith, u, b.users); globals = omega (arith, c, b.globals) }
+    let v = ap (λ m. length m.backward) j.solvers in
+    record { users = omega (arith, u, b.users); globals = omega (arith, c, b.globals); solvers = omega (arith, v, b.solvers) }
 
 -- the names of the literals are in use still
 pub names-marked : (d : List Literal) (old new : Tables) → HasNames d old → SameButMarks old new → HasNames d new
 names-marked d old new n j = record {
-  plain = marks-plain old new n.plain j;
+  no_units = marks-units old new n.no_units j;
   bounded = marks-bounded old new n.bounded j;
   named = λ l h. subst (λ m. IsSome (at m.forward (variable_of l))) (sym j.users) (n.named l h);
 }
@@ -47,7 +48,7 @@ names-marked d old new n j = record {
 -- and that of one of them
 pub one-named : (ls : List Literal) (t : Tables) (l : Literal) → HasNames ls t → l ∈ ls → HasNames (l ∷ []) t
 one-named ls t l n h = record {
-  plain = n.plain;
+  no_units = n.no_units;
   bounded = n.bounded;
   named = λ k i. ⊎_elim (λ q. subst (λ z. IsSome (at t.users.forward (variable_of z))) (sym q) (n.named l h)) (λ z. absurd z) i;
 }

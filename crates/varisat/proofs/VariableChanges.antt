@@ -1,12 +1,11 @@
 -- What the calls keep of the tables that set the mode of a variable, hide it, and bring hidden ones back.
 use Rattle.std.proofs.Common.{◌≡◌, ℕ, zero, suc, ◌+◌, ◌-◌, ◌<◌, ◌≤◌, nat_lt, if◌then◌else◌, Bool, true, false, Option, Some, None, List, [], ◌∷◌, ◌++◌, ⊎_elim, length, sym, ap, ◌∙◌, subst, refl, arith, rules}
-use Rattle.std.proofs.lemmas.Bool.{lt-ltb, cases_lt, false_from_ne_true}
-use Rattle.std.specs.Option.{is_some, IsSome}
+use Rattle.std.proofs.lemmas.Bool.{lt-ltb, cases_lt}
 use Rattle.varisat_theory.specs.Membership.{◌∈◌}
 use Rattle.varisat_theory.proofs.Members.{equal_or_not, ∈-append_cases}
 use Rattle.varisat_literals.specs.Numbers.{variable_limit}
 use Rattle.varisat_names.specs.Maps.{updated}
-use Rattle.varisat_names.specs.VarMap.{at, IsFull, IsLeastUnmapped}
+use Rattle.varisat_names.specs.VarMap.{at, IsLeastUnmapped}
 use Rattle.varisat_names.specs.VarData.{fresh, dead, kept_at}
 use Rattle.varisat_names.specs.Variables.{Tables, AreLinked, IsGiven, AreNextGiven, IsNamed, InUse, Free, Above, IsChangedTo, IsHidden, IsShown, unused, without_name}
 use Rattle.varisat_names.specs.declared.variables.data.VarData.{VarData}
@@ -15,38 +14,31 @@ use Rattle.varisat_names.specs.declared.variables.data.SamplingMode.TheVariants 
 use Rattle.varisat_names.proofs.Maps.{updated-at, updated-other, updated-all, joined, is-some}
 use Rattle.varisat_names.proofs.VarMap.{at-inside}
 use Rattle.varisat_names.proofs.Tables.{live-inside, named-inside}
-use Rattle.varisat.specs.Names.{Naming, bring_next, bring_if_free, name_one}
-use Rattle.varisat.specs.Accepting.{IsPlain, AreBounded, naming_of}
+use Rattle.varisat.specs.Names.{Naming, bring, bring_next, bring_if_free, name_one}
+use Rattle.varisat.specs.Accepting.{AreBounded, naming_of}
 use Rattle.varisat.specs.VariableChanges.{IsMarkedAssumed, CanBeChanged, StaysKept, IsNamedAs, AreShownInTurn, ShowsBelow, ShowsOne, Passed, Shown}
 use Rattle.varisat.proofs.AcceptSolverVariables.{few, below, below-count, ∈-below}
 use Rattle.varisat.proofs.KeptCounts.{given-most}
-use Rattle.varisat.proofs.NamesComing.{next-made}
-use Rattle.varisat.proofs.PlainTables.{KeepsNames, given-keeps, next-keeps, given-plain, next-plain}
+use Rattle.varisat.proofs.PlainTables.{KeepsNames, given-keeps, next-keeps, given-units, next-units}
 
 -- 1. A name comes into use.
 
--- those that are marked as assumed keep their names and marks
+-- variables with a name that are marked as assumed keep both
 module _ (old new : Tables) (l : AreLinked old) (k : KeepsNames old new) where
-  pub kept-named : (v y : ℕ) → at old.users.forward v ≡ Some y → IsMarkedAssumed old y → (at new.users.forward v ≡ Some y) × IsMarkedAssumed new y
-  kept-named v y e m = (k.named v y e, ap (λ d. d.assumed) (k.live y (l.named y v (l.users.there v y e))) ∙ m)
+  pub still-named : (u x : ℕ) → at old.users.forward u ≡ Some x → IsMarkedAssumed old x → (at new.users.forward u ≡ Some x) × IsMarkedAssumed new x
+  still-named u x e m = (k.named u x e, ap (λ d. d.assumed) (k.live x (l.named x u (l.users.there u x e))) ∙ m)
 
-  pub kept-names : (y v : ℕ) → at old.users.backward y ≡ Some v → IsMarkedAssumed old y → (at new.users.backward y ≡ Some v) × IsMarkedAssumed new y
-  kept-names y v e m = let live = l.named y v e in (k.back y v e live, ap (λ d. d.assumed) (k.live y live) ∙ m)
+  pub still-names : (x u : ℕ) → at old.users.backward x ≡ Some u → IsMarkedAssumed old x → (at new.users.backward x ≡ Some u) × IsMarkedAssumed new x
+  still-names x u e m = let live = l.named x u e in (k.back x u e live, ap (λ d. d.assumed) (k.live x live) ∙ m)
 
--- How many names and variables there are once k names came into use in turn.
-record HasGiven (k : ℕ) (old new : Tables) : Type 0 where
-  users : length new.users.forward ≡ length old.users.forward + k
-  count : length new.kept ≤ length old.kept + k
-
-next-given : (k : ℕ) (old new : Tables) → AreNextGiven k old new → HasGiven k old new
-next-given zero old new e = subst (λ t. HasGiven 0 old t) (sym e) (record { users = omega arith; count = omega arith })
-next-given (suc k) old new (mid, x, g, rest) =
-    let h = next-given k mid new rest in
+-- how many names and global variables there are after k names that came into use in turn
+pub next-count : (k : ℕ) (old new : Tables) → AreNextGiven k old new → (length new.users.forward ≡ length old.users.forward + k) × (length new.kept ≤ length old.kept + k)
+next-count zero old new e = let a = ap (λ t. length t.users.forward) e in let b = ap (λ t. length t.kept) e in (omega (arith, a), omega (arith, b))
+next-count (suc k) old new (mid, x, g, rest) =
     let a = g.users.forward.watermark in
     let b = given-most old mid (length old.users.forward) x g in
-    let c = h.users in
-    let d = h.count in
-    record { users = omega (arith, a, c); count = omega (arith, b, d) }
+    let (c, d) = next-count k mid new rest in
+    (omega (arith, a, c), omega (arith, b, d))
 
 -- the last of them leads to a new variable
 pub next-last : (k : ℕ) (old new : Tables) → AreNextGiven (suc k) old new → (x : ℕ) × (at new.users.forward (length old.users.forward + k) ≡ Some x) × (kept_at new.kept x ≡ fresh)
@@ -61,9 +53,13 @@ next-last (suc k) old new (mid, x, g, rest) =
 
 -- 2. The room for it.
 
+pub made-next : (k : ℕ) (m : Naming) → (bring_next k m).made ≡ m.made + k
+made-next zero m = omega arith
+made-next (suc k) m = let e = made-next k (bring m.watermark m) in omega (arith, e)
+
 pub made-above : (u : ℕ) (m : Naming) → m.watermark ≤ u → (name_one u m).made ≡ m.made + (u + 1 - m.watermark)
 made-above u m h =
-    ap (λ b. (if b then bring_if_free u (m.names u) m else bring_next (suc u - m.watermark) m).made) (not-below u m.watermark h) ∙ next-made (suc u - m.watermark) m ∙ ap (λ k. m.made + k) (let z : suc u - m.watermark ≡ u + 1 - m.watermark = omega arith in z)
+    ap (λ b. (if b then bring_if_free u (m.names u) m else bring_next (suc u - m.watermark) m).made) (not-below u m.watermark h) ∙ made-next (suc u - m.watermark) m ∙ ap (λ k. m.made + k) (let z : suc u - m.watermark ≡ u + 1 - m.watermark = omega arith in z)
   where
     not-below : (a b : ℕ) → b ≤ a → nat_lt a b ≡ false
     not-below a b h = search (rules, h)
@@ -85,11 +81,11 @@ given-as u x old new l c h free g =
     let w = c.bounded.users in
     let room : length old.kept + 1 ≤ variable_limit = ⊎_elim (λ q. absurd (c.room (subst (λ n. variable_limit < n) (sym m) q))) (λ q. q) (cases_lt variable_limit (length old.kept + 1)) in
     fresh-as u x old new (g.users.forward.at_each u ∙ updated-at (at old.users.forward) u (Some x)) (g.kept.at_each x ∙ updated-at (kept_at old.kept) x fresh) (Free x h free g) (record {
-      bounded = record { users = omega (arith, a, h, w); globals = omega (arith, b, room) };
-      plain = λ n. given-plain old new u x n g;
+      bounded = record { users = omega (arith, a, h, w); globals = omega (arith, b, room); solvers = subst (λ m. length m.backward ≤ variable_limit) (sym g.solvers) c.bounded.solvers };
+      no_units = λ n. given-units old new u x n g;
       solvers = g.solvers;
-      named = kept-named old new l k;
-      names = kept-names old new l k;
+      named = still-named old new l k;
+      names = still-names old new l k;
     })
 
 above-as : (u : ℕ) (old new : Tables) → AreLinked old → CanBeChanged u old → length old.users.forward ≤ u → AreNextGiven (u + 1 - length old.users.forward) old new → (x : ℕ) × IsNamedAs u old new x
@@ -98,35 +94,37 @@ above-as u old new l c h n =
     let k = u - w in
     let q : u + 1 - w ≡ suc k = omega (arith, h) in
     let p : w + k ≡ u = omega (arith, h) in
-    let g = next-given (u + 1 - w) old new n in
-    let y = next-keeps (u + 1 - w) old new n in
+    let g = next-keeps (u + 1 - w) old new n in
+    let (a, d) = next-count (u + 1 - w) old new n in
     let (x, e, f) = next-last k old new (subst (λ i. AreNextGiven i old new) q n) in
     let m = made-above u (naming_of old) h in
     let b = c.in_range in
-    let a = g.users in
-    let d = g.count in
     let room : length old.kept + (u + 1 - w) ≤ variable_limit = ⊎_elim (λ q. absurd (c.room (subst (λ n. variable_limit < n) (sym m) q))) (λ q. q) (cases_lt variable_limit (length old.kept + (u + 1 - w))) in (
       x,
       fresh-as u x old new (ap (at new.users.forward) (sym p) ∙ e) f (Above h n) (record {
-        bounded = record { users = omega (arith, a, b, h); globals = omega (arith, d, room) };
-        plain = λ p. next-plain (u + 1 - w) old new p n;
-        solvers = y.solvers;
-        named = kept-named old new l y;
-        names = kept-names old new l y;
+        bounded = record { users = omega (arith, a, b, h); globals = omega (arith, d, room); solvers = subst (λ m. length m.backward ≤ variable_limit) (sym g.solvers) c.bounded.solvers };
+        no_units = λ i. next-units (u + 1 - w) old new i n;
+        solvers = g.solvers;
+        named = still-named old new l g;
+        names = still-names old new l g;
       }),
     )
 
 pub stays-same : (t : Tables) → AreBounded t → StaysKept t t
-stays-same t b = record { bounded = b; plain = λ n. n; solvers = refl; named = λ u x e m. (e, m); names = λ x u e m. (e, m) }
+stays-same t b = record { bounded = b; no_units = λ n. n; solvers = refl; named = λ u x e m. (e, m); names = λ x u e m. (e, m) }
 
 pub stays-on : (old mid new : Tables) → StaysKept old mid → StaysKept mid new → StaysKept old new
 stays-on old mid new a b = record {
   bounded = b.bounded;
-  plain = λ n. b.plain (a.plain n);
+  no_units = λ n. b.no_units (a.no_units n);
   solvers = b.solvers ∙ a.solvers;
   named = λ u x e m. let (f, n) = a.named u x e m in b.named u x f n;
   names = λ x u e m. let (f, n) = a.names x u e m in b.names x u f n;
 }
+
+not-marked : (b : Bool) → (b ≡ true → ⊥) → b ≡ false
+not-marked true n = absurd (n refl)
+not-marked false n = refl
 
 -- a name in use stands for its variable already
 pub in-use-as : (u x : ℕ) (t : Tables) → AreLinked t → CanBeChanged u t → at t.users.forward u ≡ Some x → IsNamedAs u t t x
@@ -134,7 +132,7 @@ in-use-as u x t l c e = record {
   named = InUse x e refl;
   leads = e;
   live = l.named x u (l.users.there u x e);
-  unassumed = false_from_ne_true (kept_at t.kept x).assumed (λ m. c.unassumed (x, e, m));
+  unassumed = not-marked (kept_at t.kept x).assumed (λ m. c.unassumed (x, e, m));
   stays = stays-same t c.bounded;
 }
 
@@ -142,9 +140,6 @@ pub named-as : (u : ℕ) (old new : Tables) → AreLinked old → CanBeChanged u
 named-as u old new l c (InUse x e same) = (x, subst (λ t. IsNamedAs u old t x) (sym same) (in-use-as u x old l c e))
 named-as u old new l c (Free x h free g) = (x, given-as u x old new l c h free g)
 named-as u old new l c (Above h n) = above-as u old new l c h n
-
-pub named-leads : (u : ℕ) (old new : Tables) → AreLinked old → CanBeChanged u old → IsNamed u old new → IsSome (at new.users.forward u)
-named-leads u old new l c n = let (x, d) = named-as u old new l c n in ap is_some d.leads
 
 -- the variable to which the name leads then
 pub named-to : (u x : ℕ) (old new : Tables) → AreLinked old → CanBeChanged u old → IsNamed u old new → at new.users.forward u ≡ Some x → IsNamedAs u old new x
@@ -169,11 +164,8 @@ mode-stays mid new x mode b live c =
     let g = b.globals in
     let mark : (y : ℕ) → IsMarkedAssumed mid y → IsMarkedAssumed new y = (λ y m. ap (λ d. d.assumed) (c.kept.at_each y) ∙ updated-all (λ y e. (kept_at mid.kept y).assumed ≡ true → e.assumed ≡ true) (kept_at mid.kept) x d (λ m. m) y (λ _ m. m) m) in
     record {
-      bounded = record { users = omega (arith, w, v); globals = omega (arith, n, h, g) };
-      plain = λ p. record {
-        full = subst (λ m. IsFull m.backward) (sym solvers) p.full;
-        no_units = λ y. ap (λ d. d.unit) (c.kept.at_each y) ∙ updated-all (λ y d. d.unit ≡ None) (kept_at mid.kept) x d (p.no_units x) y (λ m. p.no_units y);
-      };
+      bounded = record { users = omega (arith, w, v); globals = omega (arith, n, h, g); solvers = subst (λ m. length m.backward ≤ variable_limit) (sym solvers) b.solvers };
+      no_units = λ p y. ap (λ d. d.unit) (c.kept.at_each y) ∙ updated-all (λ y d. d.unit ≡ None) (kept_at mid.kept) x d (p x) y (λ m. p y);
       solvers = solvers;
       named = λ u y e m. (ap (λ t. at t.users.forward u) c.rest ∙ e, mark y m);
       names = λ y u e m. (ap (λ t. at t.users.backward y) c.rest ∙ e, mark y m);
@@ -200,11 +192,8 @@ hidden-stays mid new u x l b e unmarked n =
     let other : (y : ℕ) → IsMarkedAssumed mid y → y ≡ x → ⊥ = (λ y m q. let z : true ≡ false = sym m ∙ ap (λ y. (kept_at mid.kept y).assumed) q ∙ unmarked in cc) in
     let mark : (y : ℕ) → IsMarkedAssumed mid y → IsMarkedAssumed new y = (λ y m. ap (λ d. d.assumed) (n.kept.at_each y ∙ updated-other (kept_at mid.kept) x d y (other y m)) ∙ m) in
     record {
-      bounded = record { users = omega (arith, w, v, i); globals = omega (arith, c, h, g) };
-      plain = λ p. record {
-        full = subst (λ m. IsFull m.backward) (sym n.solvers) p.full;
-        no_units = λ y. ap (λ d. d.unit) (n.kept.at_each y) ∙ updated-all (λ y d. d.unit ≡ None) (kept_at mid.kept) x d (without-unit (at mid.solvers.forward x) (kept_at mid.kept x) (p.no_units x)) y (λ m. p.no_units y);
-      };
+      bounded = record { users = omega (arith, w, v, i); globals = omega (arith, c, h, g); solvers = subst (λ m. length m.backward ≤ variable_limit) (sym n.solvers) b.solvers };
+      no_units = λ p y. ap (λ d. d.unit) (n.kept.at_each y) ∙ updated-all (λ y d. d.unit ≡ None) (kept_at mid.kept) x d (without-unit (at mid.solvers.forward x) (kept_at mid.kept x) (p x)) y (λ m. p y);
       solvers = n.solvers;
       named = λ v y a m. (n.users.forward.at_each v ∙ updated-other (at mid.users.forward) u None v (λ q. let z : Some y ≡ Some x = sym a ∙ ap (at mid.users.forward) q ∙ e in other y m cc) ∙ a, mark y m);
       names = λ y v a m. (n.users.backward.at_each y ∙ updated-other (at mid.users.backward) x None y (other y m) ∙ a, mark y m);
@@ -252,11 +241,8 @@ shown-stays mid new x u l b live unnamed n =
     let g = b.globals in
     let mark : (y : ℕ) → IsMarkedAssumed mid y → IsMarkedAssumed new y = (λ y m. ap (λ d. d.assumed) (n.kept.at_each y) ∙ updated-all (λ y e. (kept_at mid.kept y).assumed ≡ true → e.assumed ≡ true) (kept_at mid.kept) x d (λ m. m) y (λ _ m. m) m) in
     record {
-      bounded = record { users = omega (arith, w, v, near, g); globals = omega (arith, c, h, g) };
-      plain = λ p. record {
-        full = subst (λ m. IsFull m.backward) (sym n.solvers) p.full;
-        no_units = λ y. ap (λ d. d.unit) (n.kept.at_each y) ∙ updated-all (λ y d. d.unit ≡ None) (kept_at mid.kept) x d (p.no_units x) y (λ m. p.no_units y);
-      };
+      bounded = record { users = omega (arith, w, v, near, g); globals = omega (arith, c, h, g); solvers = subst (λ m. length m.backward ≤ variable_limit) (sym n.solvers) b.solvers };
+      no_units = λ p y. ap (λ d. d.unit) (n.kept.at_each y) ∙ updated-all (λ y d. d.unit ≡ None) (kept_at mid.kept) x d (p x) y (λ m. p y);
       solvers = n.solvers;
       named = λ v y a m. (n.users.forward.at_each v ∙ updated-other (at mid.users.forward) u (Some x) v (λ q. let z : None ≡ Some y = sym n.least.0 ∙ ap (at mid.users.forward) (sym q) ∙ a in cc) ∙ a, mark y m);
       names = λ y v a m. (n.users.backward.at_each y ∙ updated-other (at mid.users.backward) x (Some u) y (λ q. let z : None ≡ Some v = sym unnamed ∙ ap (at mid.users.backward) (sym q) ∙ a in cc) ∙ a, mark y m);

@@ -1,5 +1,6 @@
 -- What the parts of the calls that hide and show variables do to the spaces.
 use Rattle.std.proofs.Common.{ℕ, ◌+◌, max, false, Some, None}
+use Rattle.varisat_theory.specs.Searches.{Search}
 use Rattle.varisat_names.specs.Maps.{updated}
 use Rattle.varisat_names.specs.VarData.{dead}
 use Rattle.varisat_names.specs.declared.variables.data.VarData.{VarData}
@@ -33,3 +34,11 @@ show u x p = record (set_mode x sampling.Witness p) {
 -- the variable may be used again, and has no value any more
 abbrev pub recycle : ℕ → Spaces → Spaces
 recycle x p = record (with_data x dead p) { model = updated p.model x false }
+
+-- the search is t, which knows nothing of the solver variable v any more, and what is kept of its global variable x is d
+abbrev pub leave_search : ℕ → ℕ → Search → VarData → Spaces → Spaces
+leave_search v x t d p = record (with_data x d p) { solver_from_global = updated p.solver_from_global x None; global_from_solver = updated p.global_from_solver v None; search = t }
+
+-- the search is t, which knows nothing of the solver variable v any more, and its global variable x may be used again
+abbrev pub leave_all : ℕ → ℕ → Search → Spaces → Spaces
+leave_all v x t p = record (recycle x p) { solver_from_global = updated p.solver_from_global x None; global_from_solver = updated p.global_from_solver v None; search = t }

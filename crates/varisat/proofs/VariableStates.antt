@@ -1,10 +1,11 @@
 -- What the calls that set modes, hide and show variables do to the states that the solver stands for.
-use Rattle.std.proofs.Common.{◌≡◌, ℕ, true, Result, Err, Some, None, List, [], ◌∷◌, ◌⊎◌, inl, inr, ⊎_elim, length, sym, ap, ◌∙◌, subst, refl, arith}
+use Rattle.std.proofs.Common.{◌≡◌, ℕ, true, Result, Err, Some, None, List, [], ◌∷◌, inl, inr, ⊎_elim, length, sym, ap, ◌∙◌, subst, refl, arith}
 use Rattle.std.specs.Option.{is_some}
 use Rattle.std.proofs.lemmas.Bool.{cases_lt}
 use Rattle.varisat_theory.specs.Literals.{variable_of, literal_of}
 use Rattle.varisat_search.proofs.StepOutcome.{variable-literal}
 use Rattle.varisat_search.specs.declared.context.Context.{Context}
+use Rattle.varisat_search.specs.Contexts.{view}
 use Rattle.varisat_names.specs.VarMap.{at}
 use Rattle.varisat_names.specs.VarBiMap.{BiMap}
 use Rattle.varisat_names.specs.Variables.{Tables}
@@ -27,6 +28,7 @@ use Rattle.varisat.proofs.CallStates.{Begins}
 use Rattle.varisat.proofs.NamingStates.{crowded-state}
 use Rattle.varisat.proofs.HiddenTables.{marked-assumed, assumed-marked, mode-spaces, hidden-spaces, shown-spaces}
 use Rattle.varisat.proofs.ShownInTurn.{HaveShown, all-shown}
+use Rattle.varisat.proofs.VariablesInUse.{tables-in-use}
 
 -- 1. What is found out of a name.
 
@@ -89,10 +91,10 @@ show-state us {g} {s} new b d =
 pub kept-after : {A : Type 0} (c : Context A) (old new : Tables) → IsKept old c → StaysKept old new → IsKept new c
 kept-after c old new k s = record {
   bounded = s.bounded;
-  plain = s.plain k.plain;
+  no_units = s.no_units k.no_units;
   ready = k.ready;
   count = k.count ∙ ap (λ (m : BiMap). length m.backward) (sym s.solvers);
-  decidable = k.decidable;
+  decidable = tables-in-use old new (view c) c.vsids s.solvers k.decidable;
   assumed = λ l h. let (x, e) = some-of (at old.users.forward (variable_of l)) (k.assumed l h) in ap is_some (s.named (variable_of l) x e (k.marked l x h e)).0;
   marked = λ l y h f.
       let (x, e) = some-of (at old.users.forward (variable_of l)) (k.assumed l h) in

@@ -1,6 +1,6 @@
 -- What a verdict answers, and what is left of it under another clause or other assumptions.
-use Rattle.std.proofs.Common.{◌≡◌, ◌≢◌, ℕ, Bool, true, false, Option, Some, None, List, [], ◌∷◌, ◌++◌, ◌⊎◌, inl, inr, map, sym, ap, ◌∙◌, subst, refl}
-use Rattle.varisat_theory.specs.Literals.{Literal, Clause, Assignment, IsSatisfiable, IsSatisfiableWith, IsFailedCore}
+use Rattle.std.proofs.Common.{◌≡◌, ◌≢◌, ℕ, true, false, Some, None, List, [], ◌∷◌, ◌++◌, ◌⊎◌, inl, inr, map, subst, refl}
+use Rattle.varisat_theory.specs.Literals.{Literal, Clause, Assignment, IsSatisfiableWith, IsFailedCore}
 use Rattle.varisat_theory.proofs.Members.{∈-append_left}
 use Rattle.varisat_theory.proofs.Sound.{core_stays, not_both_answers}
 use Rattle.varisat.specs.States.{State, Verdict, Unknown, Sat, Unsat, UnsatUnderAssumptions, IsRight, HasRightVerdict}

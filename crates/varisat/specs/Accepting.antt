@@ -1,33 +1,35 @@
 -- What an accepted clause and a list of assumptions do to the maps between names, global variables and solver variables, and to the search.
-use Rattle.std.specs.Prelude.{◌≡◌, ◌≢◌, ◌⊎◌, ℕ, ◌+◌, ◌-◌, ◌<◌, ◌≤◌, Bool, true, false, Some, None, List, [], ◌∷◌, length, map, Result, Ok, Err, IsSome}
+use Rattle.std.specs.Prelude.{◌≡◌, ◌≢◌, ◌⊎◌, ◌↔◌, ℕ, ◌<◌, ◌≤◌, Bool, true, false, Some, None, List, [], ◌∷◌, length, map, Result, Ok, Err, IsSome}
 use Rattle.varisat_theory.specs.Membership.{◌∈◌}
 use Rattle.varisat_theory.specs.Literals.{Literal, variable_of}
 use Rattle.varisat_literals.specs.Numbers.{variable_limit}
 use Rattle.varisat_names.specs.Maps.{chain}
-use Rattle.varisat_names.specs.VarMap.{at, IsFull}
+use Rattle.varisat_names.specs.VarMap.{at}
 use Rattle.varisat_names.specs.VarData.{kept_at}
 use Rattle.varisat_names.specs.Variables.{Tables, IsNamed, IsTaken}
 use Rattle.varisat_names.specs.declared.variables.data.SamplingMode.{SamplingMode}
 use Rattle.varisat_names.specs.declared.variables.data.SamplingMode.TheVariants as sampling
+use Rattle.varisat_prop.specs.View.{View}
+use Rattle.varisat_vsids.specs.Activities.{Activities}
 use Rattle.varisat_search.specs.declared.context.Context.{Context}
 use Rattle.varisat_search.specs.Contexts.{view}
 use Rattle.varisat_search.specs.ContextChanges.{IsRaisedTo}
-use Rattle.varisat_search.specs.Decisions.{AddsDecidable}
+use Rattle.varisat_search.specs.Decisions.{IsDecidable}
 use Rattle.varisat.specs.Carried.{carry}
 use Rattle.varisat.specs.Names.{Mode, Sample, Witness, Naming, name_all, NameNoWitness, IsFirstWitness}
 use Rattle.varisat.specs.Calls.{IsPastLimit, IsCrowded}
 use Rattle.varisat.specs.declared.solver.SolverError.{SolverError}
 use Rattle.varisat.specs.declared.solver.SolverError.TheVariants.{WitnessVar, VariableLimit}
 
--- What is true of the maps as yet: no solver variable is dropped, and so no unit is kept.
-pub record IsPlain (t : Tables) : Type 0 where
-  pub full : IsFull t.solvers.backward
-  pub no_units : (x : ℕ) → (kept_at t.kept x).unit ≡ None
+-- As yet no unit is kept of a variable.
+abbrev pub KeepsNoUnit : Tables → Type 0
+KeepsNoUnit t = (x : ℕ) → (kept_at t.kept x).unit ≡ None
 
 -- No number is past the limit.
 pub record AreBounded (t : Tables) : Type 0 where
   pub users : length t.users.forward ≤ variable_limit
   pub globals : length t.kept ≤ variable_limit
+  pub solvers : length t.solvers.backward ≤ variable_limit
 
 -- the mode of a name whose variable has this one; Hide is never that of one with a name
 abbrev pub mode_of : SamplingMode → Mode
@@ -58,7 +60,7 @@ ChecksNames t d (Err _) = ⊥
 
 -- The names of the clause are in use.
 pub record HasNames (clause : List Literal) (t : Tables) : Type 0 where
-  pub plain : IsPlain t
+  pub no_units : KeepsNoUnit t
   pub bounded : AreBounded t
   pub named : (l : Literal) → l ∈ clause → IsSome (at t.users.forward (variable_of l))
 
@@ -95,16 +97,23 @@ pub record AreJoined (clause : List Literal) (old new : Tables) : Type 0 where
   pub others : (x : ℕ) → ((l : Literal) → l ∈ clause → at old.users.forward (variable_of l) ≢ Some x) → kept_at new.kept x ≡ kept_at old.kept x
   pub alone : length clause ≤ 1 → new ≡ old
 
--- The names of the list came into use, their variables took solver variables, the search has these, and the literals are the list over them.
+-- Exactly the solver variables in use may be decided.
+abbrev pub DecidesInUse : Tables → View → Activities → Type 0
+DecidesInUse t s a = (v : ℕ) → IsDecidable s a v ↔ IsSome (at t.solvers.backward v)
+
+-- Exactly the variables are decidable that were so, and those of the literals.
+abbrev pub AddsDecidableOf : List Literal → View → Activities → View → Activities → Type 0
+AddsDecidableOf literals s a t b = (v : ℕ) → IsDecidable t b v ↔ (IsDecidable s a v ⊎ ((l : Literal) × (l ∈ literals) × (variable_of l ≡ v)))
+
+-- The names of the list came into use, their variables took solver variables, the search has these and may decide them, and the literals are the list over them.
 pub record AreBroughtIn {A : Type 0} (list : List Literal) (old new : Tables) (x y : Context A) (literals : List Literal) : Type 0 where
   pub named : Tables
   pub are_named : AreNamedInTurn list old named
   pub are_taken : AreTakenFor list named new
   pub in_use : HasNames list new
   pub raised : IsRaisedTo (length new.solvers.backward) x y
-  pub decidable : AddsDecidable (length x.assignment.current) (length new.solvers.backward) (view x) x.vsids (view y) y.vsids
-  pub more : length x.assignment.current ≤ length new.solvers.backward
-  pub in_range : (l : Literal) → l ∈ literals → variable_of l < length new.solvers.backward
+  pub decidable : DecidesInUse new (view y) y.vsids
+  pub known : (l : Literal) → l ∈ literals → IsSome (at new.solvers.backward (variable_of l))
   pub carried : literals ≡ map (carry (chain (at new.users.forward) (at new.solvers.forward))) list
 
 -- The variables of the list are marked as assumed, or not any more, and nothing else changed.

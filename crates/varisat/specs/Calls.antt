@@ -9,7 +9,7 @@ use Rattle.varisat_formula.specs.Dimacs.{Reading}
 use Rattle.varisat_formula.specs.Streams.{Stand}
 use Rattle.varisat.specs.States.{State, join_counted, Verdict, Unknown, Sat, Unsat, UnsatUnderAssumptions, HasRightVerdict, IsWellFormed}
 use Rattle.varisat.specs.Names.{Naming, name_one, name_all, through_names, IsLeastFree, NameNoWitness, IsFirstWitness}
-use Rattle.varisat.specs.Models.{model_of, core_of, IsCoreToTell}
+use Rattle.varisat.specs.Models.{model_of, IsCoreToTell}
 use Rattle.varisat_formula.specs.declared.dimacs.error.DimacsError.{DimacsError}
 use Rattle.varisat_names.specs.declared.config.SolverConfigUpdate.{SolverConfigUpdate}
 use Rattle.varisat_names.specs.Settings.{updated_settings}

@@ -20,6 +20,7 @@ pub mod Spaces
 pub mod Usage
 pub mod VariableCalls
 pub mod VariableChanges
+pub mod Dropping
 pub mod Counts
 pub mod Lines
 pub mod Decided

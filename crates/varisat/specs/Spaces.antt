@@ -180,6 +180,8 @@ pub record Links (w : Carrying) (p : Spaces) (s : State) : Type 0 where
   pub well_formed : IsWellFormed s
   -- the search has no more variables than are counted
   pub few : p.var_count ≤ length s.counted
+  -- where nothing was ever hidden, each live global variable has a name
+  pub shown : s.ever_hidden ≡ false → (x : ℕ) → p.user_from_global x ≡ None → (p.kept x).deleted ≡ true
 
 -- the spaces stand for the state
 abbrev pub SpacesFit : Spaces → State → Type 0

@@ -1,5 +1,5 @@
 -- What a solver holds, and which states it stands for.
-use Rattle.std.specs.Prelude.{◌≡◌, ℕ, zero, suc, ◌<◌, ◌≤◌, ◌↔◌, Bool, true, false, Option, Some, None, List, [], length, slice_index_or, IsSome}
+use Rattle.std.specs.Prelude.{◌≡◌, ℕ, zero, suc, Bool, true, Option, Some, None, List, [], length, slice_index_or, IsSome}
 use Rattle.varisat_theory.specs.Membership.{◌∈◌}
 use Rattle.varisat_theory.specs.Literals.{Literal, variable_of}
 use Rattle.varisat_prop.specs.Parts.{is_true_value}
@@ -8,14 +8,13 @@ use Rattle.varisat_search.specs.declared.context.Context.{Context}
 use Rattle.varisat_search.specs.declared.state.SatState.{SatState}
 use Rattle.varisat_search.specs.Contexts.{view, IsReady}
 use Rattle.varisat_search.specs.AssumptionParts.{AssumptionParts}
-use Rattle.varisat_search.specs.Decisions.{IsDecidable}
 use Rattle.varisat_search.specs.Steps.{assignment_of}
 use Rattle.varisat_search.specs.Seen.{search_of, outcome_of}
 use Rattle.varisat_names.specs.VarMap.{at}
 use Rattle.varisat_names.specs.VarData.{kept_at}
 use Rattle.varisat_names.specs.Variables.{Tables}
 use Rattle.varisat.specs.States.{State, Ledger}
-use Rattle.varisat.specs.Accepting.{IsPlain, AreBounded, IsAssumedSolver}
+use Rattle.varisat.specs.Accepting.{KeepsNoUnit, AreBounded, DecidesInUse, IsAssumedSolver}
 use Rattle.varisat.specs.Models.{put_name}
 use Rattle.varisat.specs.Carried.{value_or}
 use Rattle.varisat.specs.Spaces.{Spaces, SpacesFit}
@@ -58,12 +57,12 @@ list_tables t values u (suc k) = put_name u (at t.users.forward u) (λ x. value_
 -- what a valid solver keeps
 pub record IsKept {A : Type 0} (tables : Tables) (search : Context A) : Type 0 where
   pub bounded : AreBounded tables
-  pub plain : IsPlain tables
+  pub no_units : KeepsNoUnit tables
   pub ready : IsReady search
-  -- the search has the solver variables that were taken
+  -- the search has the solver variables below the watermark
   pub count : length search.assignment.current ≡ length tables.solvers.backward
-  -- which accepted clauses named: these may be decided, and no other
-  pub decidable : (v : ℕ) → IsDecidable (view search) search.vsids v ↔ (v < length search.assignment.current)
+  -- and may decide exactly those in use, which accepted clauses or assumptions named
+  pub decidable : DecidesInUse tables (view search) search.vsids
   -- assumptions are over names in use, whose variables are marked as assumed, and those by which the search goes over their solver variables
   pub assumed : (l : Literal) → l ∈ search.assumptions.user → IsSome (at tables.users.forward (variable_of l))
   pub marked : (l : Literal) (x : ℕ) → l ∈ search.assumptions.user → at tables.users.forward (variable_of l) ≡ Some x → (kept_at tables.kept x).assumed ≡ true

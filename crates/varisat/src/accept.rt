@@ -1,17 +1,17 @@
 //! What an accepted clause and a list of assumptions bring: their names, the solver variables of these, and the clause
 //! or the list itself.
-ghost use Rattle.std.specs.Prelude.{◌≡◌, ◌≢◌, ◌<◌, ◌∷◌, [], Some, false, map, OnOk};
+ghost use Rattle.std.specs.Prelude.{◌≡◌, ◌≢◌, ◌<◌, ◌∷◌, [], Some, false, length, map, OnOk};
 ghost use Rattle.varisat_theory.specs.Membership.{◌∈◌};
 ghost use Rattle.varisat_theory.specs.Literals.{Literal, variable_of};
 ghost use Rattle.varisat_names.specs.VarData.{kept_at};
 ghost use Rattle.varisat_names.specs.VarMap.{at};
-ghost use Rattle.varisat_search.specs.Contexts.{view, KeepsSchedule};
+ghost use Rattle.varisat_search.specs.Contexts.{view, IsReady, KeepsSchedule};
 ghost use Rattle.varisat.specs.States.{State, Verdict};
 ghost use Rattle.varisat.specs.Names.{name_all, through_names};
 ghost use Rattle.varisat.specs.Calls.{with_naming, VerdictAfter, append_clause, with_assumptions};
 ghost use Rattle.varisat.specs.Spaces.{SpacesFit};
 ghost use Rattle.varisat.specs.Summaries.{spaces_of, IsKept};
-ghost use Rattle.varisat.specs.Accepting.{CanBeNamed, HasNames, AreTakenFor, AreBroughtIn, AreJoined, AreMarked};
+ghost use Rattle.varisat.specs.Accepting.{CanBeNamed, HasNames, AreTakenFor, AddsDecidableOf, AreBroughtIn, AreJoined, AreMarked};
 
 use crate::carrying::carry_literals;
 use crate::naming::name_vars;
@@ -21,7 +21,7 @@ use varisat_names::variables::LinkedVariables;
 use varisat_prop::clause::StoreError;
 use varisat_search::assumptions::set_assumptions;
 use varisat_search::context::Context;
-use varisat_search::decision::add_variables;
+use varisat_search::decision::{add_variables, make_available};
 use varisat_search::load::load_clause;
 use varisat_search::state::SatState;
 
@@ -81,7 +81,21 @@ fn mark_assumed<A: Allocator + Copy>(
     }
 }
 
-/// Brings the names of the list into use, takes solver variables for them, and lists its literals over these.
+/// Makes the variables of the literals available for decisions.
+fn make_each_available<A: Allocator + Copy>(ctx: &mut Context<A>, literals: &[Lit])
+    requires ready { IsReady ctx.old }
+    requires known { (l : Literal) → l ∈ literals.now → variable_of l < length ctx.old.assignment.current }
+    ensures ready { IsReady ctx.new }
+    ensures decidable { AddsDecidableOf literals.now (view ctx.old) ctx.old.vsids (view ctx.new) ctx.new.vsids }
+    ensures kept { ctx.new ≡ record ctx.old { vsids = ctx.new.vsids } }
+{
+    for lit in literals {
+        make_available(ctx, lit.var());
+    }
+}
+
+/// Brings the names of the list into use, takes solver variables for them, and lists its literals over these. A solver
+/// variable that was free below the watermark is not available for decisions until then.
 fn bring_in<A: Allocator + Copy>(
     variables: &mut LinkedVariables<A>,
     ctx: &mut Context<A>,
@@ -103,6 +117,7 @@ fn bring_in<A: Allocator + Copy>(
         list,
         literals,
     )?;
+    make_each_available(ctx, literals);
     Ok(())
 }
 

@@ -10,6 +10,7 @@ ghost use Rattle.varisat.specs.Summaries.{list_tables};
 ghost use Rattle.varisat_literals.specs.Numbers.{variable_limit};
 
 use crate::accept::{accept_clause, assume_list};
+use crate::dropping::drop_hidden;
 use crate::naming::check_names;
 use crate::solving::find_named_verdict;
 use crate::usage::{check_change, hide_named, set_named_mode, show_hidden};
@@ -218,6 +219,14 @@ impl<W: ProofTarget, A: Allocator + Copy> Solver<W, A> {
         self.ctx.schedule.steps()
     }
 
+    /// One above the highest variable that the search ever had. A hidden variable whose value is fixed leaves the search
+    /// as `solve` begins, and the next variable that clauses or assumptions name takes its place there.
+    pub fn solver_watermark(&self) -> usize
+        ensures { result ≡ length self.now.tables.solvers.backward }
+    {
+        self.variables.solver_watermark()
+    }
+
     /// False once memory ran out in a call that changes the solver. From then on the other calls are refused, and
     /// `model` tells nothing.
     pub fn is_valid(&self) -> bool
@@ -393,6 +402,15 @@ impl<W: ProofTarget, A: Allocator + Copy> Solver<W, A> {
             SatState::Sat => Ok(true),
             SatState::Unsat | SatState::UnsatUnderAssumptions => Ok(false),
             SatState::Unknown => {
+                // What is hidden and fixed need not be searched any more.
+                if let Err(AllocError) = drop_hidden(
+                    &mut self.variables,
+                    &mut self.ctx,
+                    &mut self.literals,
+                ) {
+                    self.ctx.solver_state.state_is_invalid = true;
+                    return Err(SolverError::OutOfMemory);
+                }
                 let max_steps = self.ctx.solver_config.max_steps();
                 match find_named_verdict(
                     &self.variables,

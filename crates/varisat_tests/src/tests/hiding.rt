@@ -77,17 +77,18 @@ fn tells_first_witness(alloc: Global, solver: &mut TestSolver) -> Checked {
     Ok(is_refused & is_past & (var == var!(3)))
 }
 
-// One name stands for a new variable twice in each round.
+// One name stands for a new variable twice in each round, and the search never has more than these two.
 fn hides_often(solver: &mut TestSolver) -> Checked {
-    let mut is_satisfiable = true;
+    let mut holds = true;
     for _ in 0..1000 {
         solver.add_clause(&lits![1])?;
         solver.hide_var(var!(1))?;
         solver.add_clause(&lits![-1])?;
         solver.hide_var(var!(1))?;
-        is_satisfiable &= solver.solve()?;
+        let is_satisfiable = solver.solve()?;
+        holds &= is_satisfiable & (solver.solver_watermark() <= 2);
     }
-    Ok(is_satisfiable)
+    Ok(holds)
 }
 
 // Each row has a solver of its own.

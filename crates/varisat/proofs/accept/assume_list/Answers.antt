@@ -1,5 +1,5 @@
 -- What each part did to the maps, the marks and the search.
-use Rattle.std.proofs.Common.{true, false, sym, ap, ◌∙◌, subst, length, arith}
+use Rattle.std.proofs.Common.{true, false, sym, ap, ◌∙◌, subst, length}
 use Rattle.varisat_theory.specs.Membership.{◌∈◌}
 use Rattle.varisat_theory.specs.Literals.{variable_of}
 use Rattle.varisat_names.specs.VarMap.{at}
@@ -10,7 +10,8 @@ use Rattle.varisat_search.specs.AssumptionParts.{AssumptionParts, newly_assumed,
 use Rattle.varisat_search.specs.Contexts.{view}
 use Rattle.varisat.specs.Accepting.{AreMarked}
 use Rattle.varisat.proofs.AssumeList.{list-assumed}
-use Rattle.varisat.proofs.BroughtIn.{literals-within, literals-decidable, still-decidable, still-named}
+use Rattle.varisat.proofs.BroughtIn.{literals-within, literals-decidable, still-named}
+use Rattle.varisat.proofs.VariablesInUse.{same-in-use, tables-in-use}
 use Rattle.varisat.proofs.TableMarks.{names-marked, marked-same, assumed-listed}
 use Rattle.varisat.proofs.accept.assume_list.Goals as goal
 
@@ -18,7 +19,7 @@ pub mark_assumed-requires : goal.mark_assumed-requires
 mark_assumed-requires g c =
     let b = (c.in_ok-bring_in.ensures {u = tt}).brought in
     let same = c.user_assumptions.ensures ∙ ap (λ (x : Context g.row.A.Denot). x.assumptions.user) c.bring_in.ensures.kept in
-    record { plain = b.in_use.plain; bounded = b.in_use.bounded; named = λ l h. still-named c.requires.kept b l (subst (λ ls. l ∈ ls) same h) }
+    record { no_units = b.in_use.no_units; bounded = b.in_use.bounded; named = λ l h. still-named c.requires.kept b l (subst (λ ls. l ∈ ls) same h) }
 
 pub mark_assumed-requires-2 : goal.mark_assumed-requires-2
 mark_assumed-requires-2 g c =
@@ -47,12 +48,14 @@ returns-clause-kept g c =
     let k = ap (λ (m : BiMap). length m.backward) (c.mark_assumed-2.ensures.solvers ∙ c.mark_assumed.ensures.solvers) in
     let r = c.in_ok-set_assumptions.ensures {u = tt} in
     let literals = c.deref.ensures.value ∙ b.carried in
+    let mid = c.bring_in.new.ctx in
+    let new = c.set_assumptions.new.ctx in
     record {
       bounded = y.bounded;
-      plain = y.plain;
+      no_units = y.no_units;
       ready = r.ready;
       count = r.count ∙ b.raised.count ∙ sym k;
-      decidable = still-decidable c.requires.kept b c.set_assumptions.new.ctx r.decidable r.count;
+      decidable = tables-in-use taken marked (view new) new.vsids (c.mark_assumed-2.ensures.solvers ∙ c.mark_assumed.ensures.solvers) (same-in-use taken (view mid) mid.vsids (view new) new.vsids b.decidable r.decidable);
       assumed = λ l h. y.named l (subst (λ ls. l ∈ ls) (ap (λ (z : AssumptionParts). z.user) r.assumed) h);
       marked = λ l z h f. c.mark_assumed-2.ensures.marked l z (subst (λ ls. l ∈ ls) (ap (λ (z : AssumptionParts). z.user) r.assumed) h) (ap (λ (m : BiMap). at m.forward (variable_of l)) (sym c.mark_assumed-2.ensures.users) ∙ f);
       working = λ l h. assumed-listed list taken cleared marked c.user_assumptions.result.now c.prove_linked.ensures b.are_taken.all c.mark_assumed.ensures c.mark_assumed-2.ensures l (subst (λ ls. l ∈ ls) (ap (λ (z : AssumptionParts). z.working) r.assumed ∙ literals) h);
@@ -69,7 +72,8 @@ returns-clause-assumed g c s f =
     let user = c.user_assumptions.ensures ∙ ap (λ (x : Context g.row.A.Denot). x.assumptions.user) same in
     list-assumed (record { tables = c.args.variables.now; search = view old; assumed = old.assumptions; sat_state = old.solver_state.sat_state; ledger = s.ledger }) s c.args.list.now b.named c.bring_in.new.variables c.mark_assumed.new.variables c.mark_assumed-2.new.variables (view mid) (view new) new.assumptions new.solver_state.sat_state
     (record {
-      plain = c.requires.kept.plain;
+      no_units = c.requires.kept.no_units;
+      count_before = c.requires.kept.count;
       are_named = b.are_named;
       are_taken = b.are_taken;
       are_cleared = subst (λ ls. AreMarked ls false c.bring_in.new.variables c.mark_assumed.new.variables) user c.mark_assumed.ensures;

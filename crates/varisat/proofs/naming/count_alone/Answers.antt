@@ -1,4 +1,4 @@
-use Rattle.std.proofs.Common.{◌≡◌, ◌+◌, ◌∷◌, ◌++◌, [], ℕ, sym, ap, ◌∙◌, subst, take, arith}
+use Rattle.std.proofs.Common.{◌+◌, ◌∷◌, ◌++◌, [], ℕ, sym, subst, take}
 use Rattle.varisat_theory.specs.Literals.{variable_of}
 use Rattle.varisat.specs.Names.{name_all, name_one}
 use Rattle.varisat.specs.Accepting.{naming_of, ComesAlone}

@@ -1,17 +1,17 @@
 use Rattle.std.proofs.Common.{◌∙◌, not, sym, ap, arith, true, false, length}
 use Rattle.varisat_theory.specs.Literals.{variable_of}
 use Rattle.varisat_names.specs.VarMap.{at}
-use Rattle.varisat_names.proofs.Maps.{some-of}
 use Rattle.varisat_search.specs.Contexts.{view}
 use Rattle.varisat.specs.Summaries.{Summary, spaces}
 use Rattle.varisat.specs.States.{Ledger}
 use Rattle.varisat.specs.Names.{name_one}
 use Rattle.varisat.specs.Calls.{with_naming, start}
 use Rattle.varisat.proofs.AcceptClause.{with_tables, ledger-free}
-use Rattle.varisat.proofs.PlainTables.{is-there, given-keeps, given-plain, assumed-keeps, marked-keeps}
+use Rattle.varisat.proofs.PlainTables.{is-there, there-is, given-keeps, given-units, assumed-keeps, marked-keeps}
 use Rattle.varisat.proofs.KeptCounts.{given-most}
 use Rattle.varisat.proofs.CallStates.{stands-valid, like-refl, broken, broken-invalid}
 use Rattle.varisat.proofs.SolverCalls.{least-free, new-named}
+use Rattle.varisat.proofs.VariablesInUse.{tables-in-use}
 use Rattle.varisat.proofs.solver.Solver.new_var.Goals as goal
 
 pub invariant_of-self : goal.invariant_of-self
@@ -29,13 +29,14 @@ invariant_of-self g c v =
       bounded = record {
         users = omega (arith, w, k.bounded.users, c.index.ensures.index, c.max_count.ensures, c.if-index-max_count.false);
         globals = omega (arith, m, c.global_watermark.ensures, c.max_count-else-index-max_count.ensures, c.if-global_watermark-max_count.false);
+        solvers = let q = ap (λ m. length m.backward) t.solvers in omega (arith, q, k.bounded.solvers);
       };
-      plain = given-plain old new u x k.plain t;
+      no_units = given-units old new u x k.no_units t;
       ready = k.ready;
       count = k.count ∙ ap (λ m. length m.backward) (sym t.solvers);
-      decidable = k.decidable;
-      assumed = λ l h. let (y, e) = some-of (at old.users.forward (variable_of l)) (k.assumed l h) in is-there (at new.users.forward (variable_of l)) y (keeps.named (variable_of l) y e);
-      marked = λ l y h f. let (z, e) = some-of (at old.users.forward (variable_of l)) (k.assumed l h) in marked-keeps old new (variable_of l) y z c.prove_linked.ensures keeps e (k.marked l z h e) f;
+      decidable = tables-in-use old new (view c.self.inside.ctx) c.self.inside.ctx.vsids t.solvers k.decidable;
+      assumed = λ l h. let (y, e) = there-is (at old.users.forward (variable_of l)) (k.assumed l h) in is-there (at new.users.forward (variable_of l)) y (keeps.named (variable_of l) y e);
+      marked = λ l y h f. let (z, e) = there-is (at old.users.forward (variable_of l)) (k.assumed l h) in marked-keeps old new (variable_of l) y z c.prove_linked.ensures keeps e (k.marked l z h e) f;
       working = λ l h. assumed-keeps old new (variable_of l) c.prove_linked.ensures keeps (k.working l h);
     }
 

@@ -1,0 +1,115 @@
+-- What stays in the tables where solver variables of hidden variables are dropped in turn.
+use Rattle.std.proofs.Common.{◌≡◌, ◌≢◌, ℕ, ◌<◌, Bool, true, false, if◌then◌else◌, Option, Some, None, List, [], ◌∷◌, ◌++◌, inl, inr, ⊎_elim, length, length-set, get_or, set, map, sym, ap, ◌∙◌, subst, refl, arith}
+use Rattle.std.proofs.lemmas.List.{get_or-set_same, get_or-set_other}
+use Rattle.varisat_theory.specs.Membership.{◌∈◌, IsDistinct}
+use Rattle.varisat_theory.specs.Literals.{Literal, variable_of}
+use Rattle.varisat_theory.proofs.Members.{equal_or_not, ∈-append_cases, ∈-append_left, ∈-append_right}
+use Rattle.varisat_theory.proofs.Renaming.{∈-map}
+use Rattle.varisat_literals.specs.Numbers.{polarity_of}
+use Rattle.varisat_names.specs.Maps.{updated}
+use Rattle.varisat_names.specs.VarMap.{at}
+use Rattle.varisat_names.specs.VarBiMap.{BiMap}
+use Rattle.varisat_names.specs.VarData.{dead, kept_at}
+use Rattle.varisat_names.specs.Variables.{Tables, AreLinked, unused, without_solver}
+use Rattle.varisat_names.specs.declared.variables.data.VarData.{VarData}
+use Rattle.varisat_names.proofs.Maps.{updated-at, updated-other, updated-all}
+use Rattle.varisat_names.proofs.VarMap.{at-inside}
+use Rattle.varisat_names.proofs.Tables.{live-inside}
+use Rattle.varisat.specs.Dropping.{IsDroppedAlone, FlagsVariables, AreDroppedAlone, LeavesTables}
+use Rattle.varisat.proofs.DroppedTables.{IsLeft, AreLeft}
+
+unit-lost : (o : Option ℕ) (d : VarData) → d.unit ≡ None → (without_solver o d).unit ≡ None
+unit-lost o d e = go (unused o d)
+  where
+    go : (b : Bool) → (if b then dead else d).unit ≡ None
+    go true = refl
+    go false = e
+
+-- nothing was dropped
+pub leaves-none : (old : Tables) → LeavesTables [] old old
+leaves-none old = record { users = refl; solvers = refl; count = refl; gone = λ v l h. absurd h; stays = λ v n. refl; fewer = λ v x e. e; others = λ x n. refl; units = λ n. n }
+
+pub leaves-one : (l : Literal) (old new : Tables) → AreLinked old → IsDroppedAlone (variable_of l) old new → LeavesTables (l ∷ []) old new
+leaves-one l old new k (x, mid, c, n) =
+    let v = variable_of l in
+    let users = ap (λ (t : Tables). t.users) c.rest in
+    let same = ap (λ (t : Tables). t.solvers) c.rest in
+    let pair : at old.solvers.backward v ≡ Some x = ap (λ (m : BiMap). at m.backward v) (sym same) ∙ n.taken in
+    let inside = at-inside old.solvers.backward v x pair in
+    let w = n.solvers.backward.watermark in
+    let a = ap (λ (m : BiMap). length m.backward) same in
+    let live = live-inside old.kept x (k.taken x v (k.solvers.back x v pair)) in
+    let first = c.kept.count in
+    let second = n.kept.count in
+    let each : (u : ℕ) → at new.solvers.backward u ≡ updated (at old.solvers.backward) v None u = (λ u. n.solvers.backward.at_each u ∙ ap (λ (m : BiMap). updated (at m.backward) v None u) same) in
+    record {
+      users = n.users ∙ users;
+      solvers = omega (arith, w, a, inside);
+      count = omega (arith, first, second, live);
+      gone = λ u m h q. ⊎_elim (λ e. each u ∙ ap (updated (at old.solvers.backward) v None) (sym q ∙ ap variable_of e) ∙ updated-at (at old.solvers.backward) v None) (λ z. absurd z) h;
+      stays = λ u o. each u ∙ updated-other (at old.solvers.backward) v None u (λ q. o l (inl refl) (sym q));
+      fewer = λ u y e. updated-all (λ u o. o ≡ Some y → at old.solvers.backward u ≡ Some y) (at old.solvers.backward) v None (λ q. absurd cc) u (λ _ q. q) (sym (each u) ∙ e);
+      others = λ y o.
+          let other : y ≡ x → ⊥ = (λ q. o l (inl refl) (pair ∙ ap Some (sym q))) in
+          n.kept.at_each y ∙ updated-other (kept_at mid.kept) x (without_solver (at mid.users.backward x) (kept_at mid.kept x)) y other ∙ c.kept.at_each y ∙ updated-other (kept_at old.kept) x (record (kept_at old.kept x) { isolated = true }) y other;
+      units = λ none y.
+          let before : (z : ℕ) → (kept_at mid.kept z).unit ≡ None = (λ z. ap (λ (d : VarData). d.unit) (c.kept.at_each z) ∙ updated-all (λ z (d : VarData). d.unit ≡ None) (kept_at old.kept) x (record (kept_at old.kept x) { isolated = true }) (none x) z (λ _. none z)) in
+          ap (λ (d : VarData). d.unit) (n.kept.at_each y) ∙ updated-all (λ z (d : VarData). d.unit ≡ None) (kept_at mid.kept) x (without_solver (at mid.users.backward x) (kept_at mid.kept x)) (unit-lost (at mid.users.backward x) (kept_at mid.kept x) (before x)) y (λ _. before y);
+    }
+
+-- one more was dropped
+pub leaves-then : (ls : List Literal) (l : Literal) (old mid new : Tables) → LeavesTables ls old mid → LeavesTables (l ∷ []) mid new → LeavesTables (ls ++ l ∷ []) old new
+leaves-then ls l old mid new a b = record {
+  users = b.users ∙ a.users;
+  solvers = b.solvers ∙ a.solvers;
+  count = b.count ∙ a.count;
+  gone = λ v m h q. ⊎_elim
+      (λ i. none v (λ x e. let z : None ≡ Some x = sym (a.gone v m i q) ∙ b.fewer v x e in cc))
+      (λ i. b.gone v m i q)
+      (∈-append_cases m ls (l ∷ []) h);
+  stays = λ v n. b.stays v (λ m h. n m (∈-append_right m ls (l ∷ []) h)) ∙ a.stays v (λ m h. n m (∈-append_left m ls (l ∷ []) h));
+  fewer = λ v x e. a.fewer v x (b.fewer v x e);
+  others = λ x n. b.others x (λ m h e. n m (∈-append_right m ls (l ∷ []) h) (a.fewer (variable_of m) x e)) ∙ a.others x (λ m h. n m (∈-append_left m ls (l ∷ []) h));
+  units = λ n. b.units (a.units n);
+}
+  where
+    none : (v : ℕ) → ((x : ℕ) → at new.solvers.backward v ≡ Some x → ⊥) → at new.solvers.backward v ≡ None
+    none v n = go (at new.solvers.backward v) refl
+      where
+        go : (o : Option ℕ) → at new.solvers.backward v ≡ o → o ≡ None
+        go None e = refl
+        go (Some x) e = absurd (n x e)
+
+pub dropped-push : (ls : List Literal) (l : Literal) (old mid new : Tables) → AreDroppedAlone ls old mid → IsDroppedAlone (variable_of l) mid new → AreDroppedAlone (ls ++ l ∷ []) old new
+dropped-push [] l old mid new e d = (new, subst (λ t. IsDroppedAlone (variable_of l) t new) e d, refl)
+dropped-push (m ∷ ls) l old mid new (t, a, rest) d = (t, a, dropped-push ls l t mid new rest d)
+
+-- as the laws of dropping say it, where the values are fixed
+pub left-alone : (known : ℕ → Option Bool) (ls : List Literal) (old new : Tables) → ((l : Literal) → l ∈ ls → known (variable_of l) ≡ Some (polarity_of l)) → AreDroppedAlone ls old new → AreLeft known (map variable_of ls) old new
+left-alone known [] old new k e = e
+left-alone known (l ∷ ls) old new k (mid, a, rest) = (mid, subst (λ o. IsLeft o old mid (variable_of l)) (sym (k l (inl refl))) a, left-alone known ls mid new (λ m h. k m (inr h)) rest)
+
+-- none of the first ones is over the variable of a later one
+pub distinct-after : (front : List Literal) (l : Literal) (rest : List Literal) → IsDistinct (map variable_of (front ++ (l ∷ rest))) → (m : Literal) → m ∈ front → variable_of m ≢ variable_of l
+distinct-after [] l rest d m h q = absurd h
+distinct-after (k ∷ front) l rest d m (inl e) q = d.0 (subst (λ v. v ∈ map variable_of (front ++ (l ∷ rest))) (sym q ∙ ap variable_of e) (∈-map variable_of l (front ++ (l ∷ rest)) (∈-append_right l front (l ∷ rest) (inl refl))))
+distinct-after (k ∷ front) l rest d m (inr h) q = distinct-after front l rest d.1 m h q
+
+-- one more variable is flagged
+pub flags-push : (size : ℕ) (ls : List Literal) (l : Literal) (flags : List Bool) (i : ℕ) → i ≡ variable_of l → i < length flags → FlagsVariables size ls flags → FlagsVariables size (ls ++ l ∷ []) (set flags i true)
+flags-push size ls l flags i e h f = record {
+  count = length-set flags i true ∙ f.count;
+  flagged = λ v. (
+    λ a. ⊎_elim
+        (λ q. (l, ∈-append_right l ls (l ∷ []) (inl refl), sym e ∙ sym q))
+        (λ n. let (m, b, q) = (f.flagged v).0 (sym (get_or-set_other flags i v true false n) ∙ a) in (m, ∈-append_left m ls (l ∷ []) b, q))
+        (equal_or_not v i),
+    λ (m, b, q). ⊎_elim
+        (λ r. ap (λ w. get_or (set flags i true) w false) r ∙ get_or-set_same flags i true false h)
+        (λ n. get_or-set_other flags i v true false n ∙ ⊎_elim
+        (λ c. (f.flagged v).1 (m, c, q))
+        (λ c. ⊎_elim (λ o. absurd (n (sym q ∙ ap variable_of o ∙ sym e))) (λ z. absurd z) c)
+        (∈-append_cases m ls (l ∷ []) b))
+        (equal_or_not v i),
+  );
+}

@@ -1,0 +1,266 @@
+-- A solver variable leaves the search: the links between what is held and the state stay.
+use Rattle.std.proofs.Common.{◌≡◌, ◌≢◌, ℕ, ◌/◌, ◌||◌, nat_eq, Bool, true, false, Option, Some, None, List, [], ◌∷◌, ◌⊎◌, inl, inr, ⊎_elim, sym, ap, ◌∙◌, subst, refl, eq-eqb}
+use Rattle.varisat_theory.specs.Membership.{◌∈◌}
+use Rattle.varisat_theory.specs.Literals.{Literal, Clause, Assignment, variable_of, literal_of, SatisfiesAll}
+use Rattle.varisat_theory.specs.Held.{mentions, unless, without}
+use Rattle.varisat_theory.specs.Searches.{KeptClause, Search, IsCoveredBySearch, Tautology, KnownTrue, FixedTrue, Kept, IsLiteralOf}
+use Rattle.varisat_theory.specs.Outcomes as outcome
+use Rattle.varisat_theory.proofs.Members.{equal_or_not}
+use Rattle.varisat_theory.proofs.Renaming.{∈-map, map-∈}
+use Rattle.varisat_theory.proofs.HeldDrops.{without_less}
+use Rattle.varisat_theory.proofs.StepDrops.{variable_is_dropped}
+use Rattle.varisat_theory.proofs.StepCovers.{dropped_are_covered}
+use Rattle.varisat_literals.specs.Numbers.{polarity_of}
+use Rattle.varisat_search.proofs.StepOutcome.{variable-literal, polarity-literal}
+use Rattle.varisat_names.specs.Maps.{updated, onward, chain}
+use Rattle.varisat_names.specs.declared.variables.data.VarData.{VarData}
+use Rattle.varisat_names.proofs.Maps.{updated-at, updated-other, updated-all, parted, chain-some, chain-none, chain-through}
+use Rattle.varisat.specs.States.{State}
+use Rattle.varisat.specs.Carried.{carry, AgreesAlong, is_value, is_forced}
+use Rattle.varisat.specs.Spaces.{Spaces, Carrying, UnitsFit, IsolationCase, NotIsolated, Apart, Forced, IsolationFits, AssumptionsFit, Translation, SearchHolds, without_core, translation, Links}
+use Rattle.varisat.proofs.Carried.{carry-at, carry-sign, forced-value}
+use Rattle.varisat.proofs.SpacesAgree.{identities-same, modes-same, marks-same, working-same, carry-same, value-same}
+use Rattle.varisat.proofs.VariableMoves.{leave_search}
+use Rattle.varisat.proofs.Hiding.{field-same, identity-named}
+
+-- The search t is s without the variable, which no kept clause mentions. `known` is the value that it has at level 0.
+pub record IsWithout (v : ℕ) (known : Option Bool) (s t : Search) : Type 0 where
+  pub kept : t.kept ≡ s.kept
+  pub unmentioned : (k : KeptClause) → k ∈ s.kept → mentions v k.clause ≡ false
+  pub stays : (l : Literal) → l ∈ s.fixed → (l ∈ t.fixed) ⊎ ((variable_of l ≡ v) × (known ≡ Some (polarity_of l)))
+  pub fixed : (l : Literal) → l ∈ t.fixed → (l ∈ s.fixed) × (variable_of l ≢ v)
+  pub proved : (l : Literal) → l ∈ t.proved → (l ∈ s.proved) × (variable_of l ≢ v)
+
+-- 1. Clauses that don't mention the variable.
+
+or-true : (b : Bool) → (b || true) ≡ true
+or-true true = refl
+or-true false = refl
+
+mentioned : (v : ℕ) (c : Clause) (l : Literal) → l ∈ c → variable_of l ≡ v → mentions v c ≡ true
+mentioned v [] l h e = absurd h
+mentioned v (m ∷ c) l (inl q) e = ap (λ b. b || mentions v c) (eq-eqb (m / 2) v (ap variable_of (sym q) ∙ e))
+mentioned v (m ∷ c) l (inr h) e = ap (λ b. nat_eq (m / 2) v || b) (mentioned v c l h e) ∙ or-true (nat_eq (m / 2) v)
+
+not-over : (v : ℕ) (c : Clause) (l : Literal) → mentions v c ≡ false → l ∈ c → variable_of l ≢ v
+not-over v c l n h e = let z : true ≡ false = sym (mentioned v c l h e) ∙ n in cc
+
+left-unmentioned : (v : ℕ) (P : List Clause) (c : Clause) → c ∈ without v P → mentions v c ≡ false
+left-unmentioned v [] c h = absurd h
+left-unmentioned v (d ∷ P) c h = go (mentions v d) refl h (left-unmentioned v P c)
+  where
+    go : (b : Bool) → mentions v d ≡ b → c ∈ unless b d (without v P) → (c ∈ without v P → mentions v c ≡ false) → mentions v c ≡ false
+    go true e i f = f i
+    go false e (inl q) f = ap (mentions v) q ∙ e
+    go false e (inr i) f = f i
+
+-- 2. Values that are forced.
+
+forced-true : (forced : ℕ → Option Bool) (l : Literal) → forced (variable_of l) ≡ Some (polarity_of l) → is_forced forced l ≡ true
+forced-true forced l e = ap (λ o. is_value o (polarity_of l)) e ∙ own (polarity_of l)
+  where
+    own : (b : Bool) → is_value (Some b) b ≡ true
+    own true = refl
+    own false = refl
+
+-- 3. The links.
+
+-- The variable has no name. Its value at level 0, if it has one, is forced from then on, and then the global variable may be isolated.
+module _ (w : Carrying) (p : Spaces) (s : State) (v x i : ℕ) (known : Option Bool) (t : Search) (k : Links w p s) (unknown : p.outcome ≡ outcome.Unknown) (pair : p.global_from_solver v ≡ Some x) (at : w.identity x ≡ Some i) (is-counted : i ∈ s.counted) (unnamed : p.user_from_global x ≡ None) (f : IsWithout v known p.search t) where
+  to : ℕ → Option ℕ
+  to = chain p.global_from_solver w.identity
+
+  to' : ℕ → Option ℕ
+  to' = chain (updated p.global_from_solver v None) w.identity
+
+  forced' : ℕ → Option Bool
+  forced' = updated w.forced i known
+
+  r' : Translation
+  r' = record { identity = to'; solver = chain w.global (updated p.solver_from_global x None); forced = forced'; hidden = s.ever_hidden }
+
+  h : SearchHolds s.clauses (translation w p s.ever_hidden) p.search outcome.Unknown
+  h = subst (SearchHolds s.clauses (translation w p s.ever_hidden) p.search) (ap without_core unknown) k.holds
+
+  -- the variable leads to its identity, and then nowhere; the others lead where they led
+  to-at : to v ≡ Some i
+  unfolding to
+  to-at = chain-some p.global_from_solver w.identity v x pair ∙ at
+
+  to-other : (u : ℕ) → (u ≡ v → ⊥) → to' u ≡ to u
+  unfolding to to'
+  to-other u n = ap (λ o. onward o w.identity) (updated-other p.global_from_solver v None u n)
+
+  in-use : (u j : ℕ) → to' u ≡ Some j → u ≡ v → ⊥
+  unfolding to'
+  in-use u j e q = let z : None ≡ Some j = sym (chain-none (updated p.global_from_solver v None) w.identity v (updated-at p.global_from_solver v None)) ∙ ap to' (sym q) ∙ e in cc
+
+  to-before : (u j : ℕ) → to' u ≡ Some j → to u ≡ Some j
+  to-before u j e = sym (to-other u (in-use u j e)) ∙ e
+
+  same-variable : (y : ℕ) → w.identity y ≡ Some i → y ≡ x
+  same-variable y e = let q : Some y ≡ Some x = sym (k.identities.one_to_one.there y i e) ∙ k.identities.one_to_one.there x i at in cc
+
+  other-identity : (u j : ℕ) → to u ≡ Some j → (u ≡ v → ⊥) → j ≡ i → ⊥
+  unfolding to
+  other-identity u j e n q =
+      let (y, a, b) = chain-through p.global_from_solver w.identity u j e in
+      let z : Some u ≡ Some v = sym (k.solvers.one_to_one.back y u a) ∙ ap p.solver_from_global (same-variable y (b ∙ ap Some q)) ∙ k.solvers.one_to_one.back x v pair in
+      n cc
+
+  -- no name leads to the global variable, so something was hidden, and no assumption is over the variable
+  named-other : (u y : ℕ) → p.global_from_user u ≡ Some y → y ≡ x → ⊥
+  named-other u y e q = let z : None ≡ Some u = sym unnamed ∙ ap p.user_from_global (sym q) ∙ k.names.one_to_one.there u y e in cc
+
+  was-hidden : s.ever_hidden ≡ false → ⊥
+  was-hidden e = let z : true ≡ false = sym (k.shown e x unnamed) ∙ k.identities.live x i at in cc
+
+  not-working : (l : Literal) → l ∈ p.working → variable_of l ≡ v → ⊥
+  unfolding to
+  not-working l m e =
+      let (g, b, c) = map-∈ (carry s.naming.names) (carry to l) p.assumptions (subst (λ ls. carry to l ∈ ls) k.assumptions.agree (k.working.part (carry to l) (∈-map (carry to) l p.working m))) in
+      let (q, a) = k.assumptions.taken g b in
+      let (y, y-is, z) = chain-through p.global_from_user p.solver_from_global (variable_of g) q a in
+      let (j, j-is, named) = identity-named w p s (variable_of g) y k y-is in
+      let same : i ≡ j = sym (carry-at to l i (ap to e ∙ to-at)) ∙ ap variable_of c ∙ carry-at s.naming.names g j named in
+      named-other (variable_of g) y y-is (same-variable y (j-is ∙ ap Some (sym same)))
+
+  -- what was forced stays so: it was fixed
+  pub still-forced : (b : Bool) → w.forced i ≡ Some b → known ≡ Some b
+  unfolding to
+  still-forced b e =
+      let l = literal_of v b in
+      let e-v = variable-literal v b in
+      let sign = polarity-literal v b in
+      ⊎_elim
+      (λ y. absurd ((f.fixed l y).1 e-v))
+      (λ (q, y). y ∙ ap Some sign)
+      (f.stays l (h.fixed (λ q. let z : outcome.Unknown ≡ outcome.Unsat = q in cc) l i (ap to e-v ∙ to-at) (e ∙ ap Some (sym sign))))
+
+  forced-on : (j : ℕ) (b : Bool) → w.forced j ≡ Some b → forced' j ≡ Some b
+  unfolding forced'
+  forced-on j b = updated-all (λ j o. w.forced j ≡ Some b → o ≡ Some b) w.forced i known (still-forced b) j (λ n e. e)
+
+  literal-before : (l : Literal) → IsLiteralOf t l → IsLiteralOf p.search l
+  literal-before l (inl y) = inl (f.fixed l y).0
+  literal-before l (inr (c, y, z)) = inr (c, subst (λ ks. c ∈ ks) f.kept y, z)
+
+  literal-other : (l : Literal) → IsLiteralOf t l → variable_of l ≡ v → ⊥
+  literal-other l (inl y) = (f.fixed l y).1
+  literal-other l (inr (c, y, z)) = not-over v c.clause l (f.unmentioned c (subst (λ ks. c ∈ ks) f.kept y)) z
+
+  same-carried : (l : Literal) → IsLiteralOf t l → carry to l ≡ carry to' l
+  same-carried l y = carry-same to to' l (sym (to-other (variable_of l) (literal-other l y)))
+
+  carried-on : (c : Clause) → IsCoveredBySearch (carry to) (is_forced forced') t c → IsCoveredBySearch (carry to') (is_forced forced') t c
+  carried-on c (Tautology a) = Tautology a
+  carried-on c (KnownTrue l a e) = KnownTrue l a e
+  carried-on c (FixedTrue l a b) = FixedTrue l a (subst (λ y. y ∈ c) (same-carried l (inl a)) b)
+  carried-on c (Kept g a e m) = Kept g a e (λ l b. subst (λ y. y ∈ c) (same-carried l (inr (g, a, b))) (m l b))
+
+  -- the literal of the variable that was fixed is forced
+  fixed-forced : (l : Literal) → variable_of l ≡ v → known ≡ Some (polarity_of l) → is_forced forced' (carry to l) ≡ true
+  unfolding forced'
+  fixed-forced l q z = forced-true forced' (carry to l) (ap forced' (carry-at to l i (ap to q ∙ to-at)) ∙ updated-at w.forced i known ∙ z ∙ ap Some (sym (carry-sign to l)))
+
+  agrees-with : (a b : Assignment) → AgreesAlong to' a b → AgreesAlong to a (updated b v (a i))
+  agrees-with a b g u j = updated-all (λ u y. to u ≡ Some j → y ≡ a j) b v (a i) (λ e. let z : Some i ≡ Some j = sym to-at ∙ e in let q : i ≡ j = cc in ap a q) u (λ n e. g u j (to-other u n ∙ e))
+
+  -- All assignments agree on the value, and what is kept of the global variable tells it.
+  module _ (d : VarData) (sure : (a : Assignment) → SatisfiesAll a s.clauses → (b : Bool) → known ≡ Some b → a i ≡ b) (told : d ≡ record (p.kept x) { unit = known; isolated = d.isolated }) (alone : (d.isolated ≡ (p.kept x).isolated) ⊎ ((b : Bool) × (known ≡ Some b))) where
+    kept' : ℕ → VarData
+    kept' = updated p.kept x d
+
+    kept-at : kept' x ≡ d
+    unfolding kept'
+    kept-at = updated-at p.kept x d
+
+    kept-other : (y : ℕ) → (y ≡ x → ⊥) → kept' y ≡ p.kept y
+    unfolding kept'
+    kept-other y n = updated-other p.kept x d y n
+
+    holds-on : SearchHolds s.clauses r' t outcome.Unknown
+    unfolding to to' forced' r'
+    holds-on = record {
+      held = without v h.held;
+      holds = variable_is_dropped p.search t v h.held f.kept f.unmentioned (λ l a n. ⊎_elim (λ y. y) (λ (q, z). absurd (n q)) (f.stays l a)) f.proved h.holds;
+      within = λ l a. let (j, e) = h.within l (literal-before l a) in (j, to-other (variable_of l) (literal-other l a) ∙ e);
+      implied = λ a b m g c e.
+          let (l, y, z) = h.implied a (updated b v (a i)) m (agrees-with a b g) c (without_less v h.held c e) in
+          (l, y, value-same b (updated b v (a i)) l (sym (updated-other b v (a i) (variable_of l) (not-over v c l (left-unmentioned v h.held c e) y))) ∙ z);
+      known = λ a m j b. updated-all (λ j o. o ≡ Some b → a j ≡ b) w.forced i known (sure a m b) j (λ n e. h.known a m j b e);
+      fixed = λ n l j e z.
+          let before = to-before (variable_of l) j e in
+          let other = in-use (variable_of l) j e in
+          ⊎_elim (λ y. y) (λ (q, y). absurd (other q)) (f.stays l (h.fixed n l j before (sym (updated-other w.forced i known j (other-identity (variable_of l) j before other)) ∙ z)));
+      covered = λ n c e. carried-on c (dropped_are_covered p.search t (carry to) (is_forced w.forced) (is_forced forced') s.clauses f.kept
+          (λ l a. ⊎_elim inl (λ (q, z). inr (fixed-forced l q z)) (f.stays l a))
+          (λ l e. forced-true forced' l (forced-on (variable_of l) (polarity_of l) (forced-value w.forced l e)))
+          (h.covered n) c e);
+      taken = λ z. absurd (was-hidden z);
+      reached = λ z. absurd (was-hidden z);
+    }
+
+    units-on : UnitsFit w.identity forced' kept' s.counted
+    unfolding forced' kept'
+    units-on = record {
+      unit = λ y j. updated-all (λ y a. w.identity y ≡ Some j → forced' j ≡ a.unit) p.kept x d
+          (λ e. let z : Some i ≡ Some j = sym at ∙ e in let q : j ≡ i = cc in ap forced' q ∙ updated-at w.forced i known ∙ sym (ap (λ a. a.unit) told))
+          y
+          (λ n e. updated-other w.forced i known j (λ q. n (same-variable y (e ∙ ap Some q))) ∙ k.units.unit y j e);
+      is_counted = λ j b. updated-all (λ j o. o ≡ Some b → j ∈ s.counted) w.forced i known (λ _. is-counted) j (λ n e. k.units.is_counted j b e);
+    }
+
+    forced-here : (y j : ℕ) (b : Bool) → w.identity y ≡ Some j → y ≡ x → known ≡ Some b → forced' j ≡ Some b
+    unfolding forced'
+    forced-here y j b e q z = let n : Some i ≡ Some j = sym at ∙ ap w.identity (sym q) ∙ e in let m : j ≡ i = cc in ap (updated w.forced i known) m ∙ updated-at w.forced i known ∙ z
+
+    isolation-on : IsolationFits w.identity forced' kept' s.clauses s.naming.made
+    isolation-on j b = go (k.isolation j b)
+      where
+        go : IsolationCase w.identity w.forced p.kept s.clauses j → IsolationCase w.identity forced' kept' s.clauses j
+        go (NotIsolated y e o) =
+            ⊎_elim
+            (λ q. ⊎_elim
+            (λ z. NotIsolated y e (ap (λ m. (kept' m).isolated) q ∙ ap (λ a. a.isolated) kept-at ∙ z ∙ ap (λ m. (p.kept m).isolated) (sym q) ∙ o))
+            (λ (b, z). Forced b (forced-here y j b e q z))
+            alone)
+            (λ n. NotIsolated y e (ap (λ a. a.isolated) (kept-other y n) ∙ o))
+            (equal_or_not y x)
+        go (Apart a) = Apart a
+        go (Forced b e) = Forced b (forced-on j b e)
+
+    assumptions-on : AssumptionsFit p.global_from_user (updated p.solver_from_global x None) s.naming.names p.assumptions s.assumptions
+    assumptions-on = record {
+      agree = k.assumptions.agree;
+      taken = λ l m.
+          let (q, a) = k.assumptions.taken l m in
+          let (y, e, z) = chain-through p.global_from_user p.solver_from_global (variable_of l) q a in
+          (q, chain-some p.global_from_user (updated p.solver_from_global x None) (variable_of l) y e ∙ updated-other p.solver_from_global x None y (named-other (variable_of l) y e) ∙ z);
+    }
+
+    pub left : Links (record w { forced = updated w.forced i known }) (leave_search v x t d p) s
+    unfolding to to' forced' kept' r'
+    left = record {
+      identities = identities-same w.identity w.global p.kept kept' s.naming.made (field-same (λ a. a.deleted) p.kept x d (ap (λ a. a.deleted) told)) k.identities;
+      names = k.names;
+      modes = modes-same w.identity p.global_from_user p.user_from_global p.global_from_user p.user_from_global p.kept kept' s.naming.modes (λ u. refl) (λ y. refl) (field-same (λ a. a.sampling_mode) p.kept x d (ap (λ a. a.sampling_mode) told)) k.modes;
+      watermark = k.watermark;
+      globals = k.globals;
+      units = units-on;
+      isolation = isolation-on;
+      solvers = record {
+        one_to_one = parted p.solver_from_global p.global_from_solver x v k.solvers.one_to_one (k.solvers.one_to_one.back x v pair);
+        live = λ u y. updated-all (λ u o. o ≡ Some y → (j : ℕ) × (w.identity y ≡ Some j) × (j ∈ s.counted)) p.global_from_solver v None (λ e. absurd cc) u (λ n e. k.solvers.live u y e);
+      };
+      holds = subst (SearchHolds s.clauses r' t) (sym (ap without_core unknown)) holds-on;
+      assumptions = assumptions-on;
+      marks = marks-same p.global_from_user p.global_from_user p.kept kept' p.assumptions (λ u. refl) (field-same (λ a. a.assumed) p.kept x d (ap (λ a. a.assumed) told)) k.marks;
+      working = working-same s.clauses to to' s.assumptions p.working (λ l m. to-other (variable_of l) (not-working l m)) k.working;
+      verdict = k.verdict;
+      core = k.core;
+      right = k.right;
+      well_formed = k.well_formed;
+      few = k.few;
+      shown = λ e y m. field-same (λ a. a.deleted) p.kept x d (ap (λ a. a.deleted) told) y ∙ k.shown e y m;
+    }

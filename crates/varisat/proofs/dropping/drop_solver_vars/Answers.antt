@@ -1,0 +1,48 @@
+use Rattle.std.proofs.Common.{◌≡◌, Some, sym, ap, ◌∙◌, subst, take, map, refl}
+use Rattle.varisat_theory.specs.Membership.{IsDistinct}
+use Rattle.varisat_theory.specs.Literals.{variable_of}
+use Rattle.varisat_names.specs.VarMap.{at}
+use Rattle.varisat_names.specs.Variables.{Tables, IsDropped}
+use Rattle.varisat_names.specs.VarBiMap.{BiMap}
+use Rattle.varisat_prop.proofs.ReadElements.{item-∈}
+use Rattle.varisat.specs.Dropping.{IsDroppedAlone, AreDroppedAlone, LeavesTables}
+use Rattle.varisat.proofs.ReadPlaces.{take-item, split-item}
+use Rattle.varisat.proofs.PlainTables.{is-there, there-is}
+use Rattle.varisat.proofs.DroppedAlone.{leaves-none, leaves-one, leaves-then, dropped-push, distinct-after}
+use Rattle.varisat.proofs.dropping.drop_solver_vars.Goals as goal
+
+pub loop-lit-init : goal.loop-lit-init
+loop-lit-init g c = (refl, leaves-none c.args.variables.now)
+
+-- the solver variable was not dropped yet
+pub unwrap-global-requires : goal.unwrap-global-requires
+unwrap-global-requires g c =
+    let ls = c.args.lits.now in
+    let i = c.loop-lit.lit-index in
+    let l = c.lit-item.result in
+    let there = item-∈ ls i l c.loop-lit-test.true c.lit-item.is in
+    let (x, e) = there-is (at c.args.variables.now.solvers.backward (variable_of l)) (c.requires.taken l there) in
+    let (rest, s) = split-item ls i l c.loop-lit-test.true c.lit-item.is in
+    let q = c.loop-lit.invariant.1.stays (variable_of l) (λ m h o. distinct-after (take i ls) l rest (subst (λ ks. IsDistinct (map variable_of ks)) s c.requires.distinct) m h o) in
+    is-there c.get.result x (c.get.ensures ∙ ap (λ m. at m c.var-solver.result) c.global_from_solver.ensures ∙ ap (at c.loop-lit.variables.solvers.backward) c.var-solver.ensures ∙ q ∙ e)
+
+pub set_isolated-requires : goal.set_isolated-requires
+set_isolated-requires g c =
+    let t = c.loop-lit.variables in
+    let e : at t.solvers.backward c.var-solver.result ≡ Some c.unwrap-global.result = ap (λ m. at m c.var-solver.result) (sym c.global_from_solver.ensures) ∙ sym c.get.ensures ∙ c.unwrap-global.ensures in
+    c.prove_linked.ensures.taken c.unwrap-global.result c.var-solver.result (c.prove_linked.ensures.solvers.back c.unwrap-global.result c.var-solver.result e)
+
+pub loop-lit-preserved : goal.loop-lit-preserved
+loop-lit-preserved g c =
+    let ls = c.args.lits.now in
+    let l = c.lit-item.result in
+    let d = take c.loop-lit.lit-index ls in
+    let t = take-item ls c.loop-lit.lit-index l c.loop-lit-test.true c.lit-item.is in
+    let old = c.args.variables.now in
+    let mid = c.loop-lit.variables in
+    let new = c.drop_solver_var.new.self in
+    let e : at mid.solvers.backward c.var-solver.result ≡ Some c.unwrap-global.result = ap (λ m. at m c.var-solver.result) (sym c.global_from_solver.ensures) ∙ sym c.get.ensures ∙ c.unwrap-global.ensures in
+    let q : c.in_ok-drop_solver_var.field-0 ≡ c.unwrap-global.result = (let z : Some c.in_ok-drop_solver_var.field-0 ≡ Some c.unwrap-global.result = sym c.in_ok-drop_solver_var.ensures.dropped.taken ∙ ap (λ (b : BiMap). at b.backward c.var-solver.result) (ap (λ (a : Tables). a.solvers) c.set_isolated.ensures.rest) ∙ e in cc) in
+    let one : IsDroppedAlone (variable_of l) mid new = (c.unwrap-global.result, c.set_isolated.new.self, c.set_isolated.ensures, subst (λ x. IsDropped c.set_isolated.new.self new x (variable_of l)) q (subst (IsDropped c.set_isolated.new.self new c.in_ok-drop_solver_var.field-0) c.var-solver.ensures c.in_ok-drop_solver_var.ensures.dropped)) in
+    let (a, b) = c.loop-lit.invariant in
+    subst (λ ks. AreDroppedAlone ks old new × LeavesTables ks old new) (sym t) (dropped-push d l old mid new a one, leaves-then d l old mid new b (leaves-one l mid new c.prove_linked.ensures one))

@@ -1,0 +1,134 @@
+//! What becomes of hidden variables as a call of `solve` begins: those whose values are fixed leave the search, so that
+//! what stands for them may be used again.
+ghost use Rattle.std.specs.Prelude.{◌≡◌, ◌<◌, length, map, IsSome, OnOk, IfOk};
+ghost use Rattle.varisat_theory.specs.Membership.{◌∈◌, IsDistinct};
+ghost use Rattle.varisat_theory.specs.Literals.{Literal, variable_of};
+ghost use Rattle.varisat_names.specs.VarMap.{at};
+ghost use Rattle.varisat_search.specs.Contexts.{view, KeepsSchedule};
+ghost use Rattle.varisat_search.specs.SettledUnits.{IsSettledDown};
+ghost use Rattle.varisat.specs.States.{State};
+ghost use Rattle.varisat.specs.Spaces.{SpacesFit};
+ghost use Rattle.varisat.specs.Summaries.{spaces_of, IsKept};
+ghost use Rattle.varisat.specs.Dropping.{is_unnamed, hidden_among, FlagsVariables, AreDroppedAlone, LeavesTables};
+
+use std::alloc::{AllocError, Allocator};
+use varisat_literals::{Lit, Var};
+use varisat_names::variables::LinkedVariables;
+use varisat_search::cdcl::settle;
+use varisat_search::context::Context;
+use varisat_search::forgetting::drop_variables;
+use varisat_search::state::SatState;
+
+/// Whether the solver variable is that of a hidden variable, which has no name.
+fn is_hidden<A: Allocator + Copy>(variables: &LinkedVariables<A>, solver: Var) -> bool
+    ensures { result ≡ is_unnamed variables.now (at variables.now.solvers.backward solver) }
+{
+    match variables.global_from_solver().get(solver) {
+        Some(global) => variables.user_from_global().get(global).is_none(),
+        None => false,
+    }
+}
+
+/// Lists those of the literals that are over hidden variables.
+fn list_hidden<A: Allocator + Copy>(
+    variables: &LinkedVariables<A>,
+    lits: &[Lit],
+    hidden: &mut Vec<Lit, A>,
+) -> Result<(), AllocError>
+    ensures { OnOk result (hidden.new.items ≡ hidden_among variables.now lits.now) }
+{
+    hidden.clear();
+    for lit in lits {
+        if is_hidden(variables, lit.var()) {
+            hidden.push(*lit)?;
+        }
+    }
+    Ok(())
+}
+
+/// Says of each of so many variables whether a literal is over it.
+fn flag_variables<A: Allocator + Copy>(
+    alloc: A,
+    count: usize,
+    lits: &[Lit],
+) -> Result<Vec<bool, A>, AllocError>
+    requires { (l : Literal) → l ∈ lits.now → variable_of l < count }
+    ensures { IfOk result (λ flags. FlagsVariables count lits.now flags.items) }
+{
+    let mut flags = Vec::new(alloc);
+    flags.resize(count, false)?;
+    for lit in lits {
+        flags[lit.index()] = true;
+    }
+    Ok(flags)
+}
+
+/// Drops the solver variables of the literals, whose values are fixed. So their global variables are isolated, and may
+/// be used again.
+fn drop_solver_vars<A: Allocator + Copy>(
+    variables: &mut LinkedVariables<A>,
+    lits: &[Lit],
+) -> Result<(), AllocError>
+    requires taken { (l : Literal) → l ∈ lits.now → IsSome (at variables.old.solvers.backward (variable_of l)) }
+    requires distinct { IsDistinct (map variable_of lits.now) }
+    ensures dropped { OnOk result (AreDroppedAlone lits.now variables.old variables.new) }
+    ensures rest { OnOk result (LeavesTables lits.now variables.old variables.new) }
+{
+    for lit in lits {
+        variables.prove_linked();
+        let solver = lit.var();
+        let global = variables.global_from_solver().get(solver).unwrap();
+        variables.set_isolated(global, true);
+        variables.drop_solver_var(solver)?;
+    }
+    Ok(())
+}
+
+/// Lets the hidden variables leave that have a value, where the search is at level 0 and all of it is settled.
+fn drop_fixed<A: Allocator + Copy>(
+    variables: &mut LinkedVariables<A>,
+    ctx: &mut Context<A>,
+    literals: &mut Vec<Lit, A>,
+) -> Result<(), AllocError>
+    requires kept { IsKept variables.old ctx.old }
+    requires settled { IsSettledDown (view ctx.old) }
+    ensures kept { OnOk result (IsKept variables.new ctx.new) }
+    ensures schedule { KeepsSchedule ctx.old ctx.new }
+    ensures state { ctx.new.solver_state ≡ ctx.old.solver_state }
+    ensures count { OnOk result (length ctx.new.assignment.current ≡ length ctx.old.assignment.current) }
+    ensures stands { OnOk result ((s : State) → SpacesFit (spaces_of variables.old (view ctx.old) ctx.old.assumptions SatState.Unknown) s → SpacesFit (spaces_of variables.new (view ctx.new) ctx.new.assumptions SatState.Unknown) s) }
+{
+    variables.prove_linked();
+    list_hidden(variables, ctx.trail.trail(), literals)?;
+    let alloc = *literals.allocator();
+    let gone = flag_variables(alloc, ctx.assignment.assignment().len(), literals)?;
+    drop_variables(ctx, &gone);
+    drop_solver_vars(variables, literals)?;
+    Ok(())
+}
+
+/// At level 0, where a hidden variable has a value, settles the units and lets all such variables leave the search. Does
+/// nothing at another level, and lets none leave where a clause is false. `literals` is overwritten.
+pub fn drop_hidden<A: Allocator + Copy>(
+    variables: &mut LinkedVariables<A>,
+    ctx: &mut Context<A>,
+    literals: &mut Vec<Lit, A>,
+) -> Result<(), AllocError>
+    requires kept { IsKept variables.old ctx.old }
+    requires unknown { ctx.old.solver_state.sat_state ≡ SatState.Unknown }
+    ensures kept { OnOk result (IsKept variables.new ctx.new) }
+    ensures schedule { KeepsSchedule ctx.old ctx.new }
+    ensures state { ctx.new.solver_state ≡ ctx.old.solver_state }
+    ensures count { OnOk result (length ctx.new.assignment.current ≡ length ctx.old.assignment.current) }
+    ensures stands { OnOk result ((s : State) → SpacesFit (spaces_of variables.old (view ctx.old) ctx.old.assumptions SatState.Unknown) s → SpacesFit (spaces_of variables.new (view ctx.new) ctx.new.assumptions SatState.Unknown) s) }
+{
+    list_hidden(variables, ctx.trail.trail(), literals)?;
+    if ctx.trail.current_level() > 0 || literals.is_empty() {
+        return Ok(());
+    }
+    if settle(ctx)?.is_err() {
+        return Ok(());
+    }
+    drop_fixed(variables, ctx, literals)?;
+    Ok(())
+}

@@ -55,6 +55,9 @@ pub mod SimplifiedSearch
 pub mod SimplifiedContext
 pub mod SettledUnits
 pub mod LoadedQueue
+pub mod LoadedUnits
+pub mod SkippedHead
+pub mod ResurrectedUnits
 pub mod ScheduledSteps
 pub mod ShownContexts
 pub mod MadeSteps

@@ -1,5 +1,5 @@
 -- What becomes of a clause's distinct literals.
-use Rattle.std.specs.Prelude.{◌≡◌, ℕ, Bool, Option, List, [], ◌∷◌, ◌⊎◌, length}
+use Rattle.std.specs.Prelude.{◌≡◌, ℕ, Bool, Option, List, [], ◌∷◌, ◌++◌, ◌⊎◌, length}
 use Rattle.varisat_theory.specs.Membership.{◌∈◌}
 use Rattle.varisat_theory.specs.Literals.{Literal, Clause, opposite}
 use Rattle.varisat_theory.specs.Outcomes.{Outcome, Unknown, Unsat}
@@ -7,7 +7,7 @@ use Rattle.varisat_prop.specs.declared.prop.graph.Reason.TheVariants as reason
 use Rattle.varisat_clause.specs.Headers.{no_header}
 use Rattle.varisat_clause.specs.Stored.{StoredClause, Keeps}
 use Rattle.varisat_prop.specs.Parts.{IsMadeTrue}
-use Rattle.varisat_prop.specs.View.{View, IsTrueIn}
+use Rattle.varisat_prop.specs.View.{View, kept, IsTrueIn}
 use Rattle.varisat_prop.specs.Changes.{enqueued}
 use Rattle.varisat_prop.specs.Pairs.{with_pair}
 use Rattle.varisat_search.specs.declared.state.SatState.{SatState}
@@ -39,3 +39,9 @@ IsAdded s t [] before after = (t ≡ s) × (after ≡ verdict.Unsat)
 IsAdded s t (l ∷ []) before after = (IsTrueIn s (opposite l) × (t ≡ s) × (after ≡ verdict.Unsat)) ⊎ (IsFree s l × (t ≡ enqueued s l reason.Unit) × (after ≡ before))
 IsAdded s t (l ∷ m ∷ []) before after = IsHeadAfter s.values (l ∷ m ∷ []) s.queue_head t.queue_head × (t ≡ record s { binary = with_pair s.binary l m; queue_head = t.queue_head }) × (after ≡ before)
 IsAdded s t (l ∷ m ∷ n ∷ c) before after = (p : ℕ) × Keeps s.clauses t.clauses (loaded_at p (l ∷ m ∷ n ∷ c)) × IsHeadAfter s.values (l ∷ m ∷ n ∷ c) s.queue_head t.queue_head × (t ≡ record s { clauses = t.clauses; queue_head = t.queue_head }) × (after ≡ before)
+
+-- A single literal is loaded: the kept clauses stay, and where nothing was decided the trail has at most this literal more, and the queue's head stays.
+pub record LoadsUnit (s t : View) (l : Literal) : Type 0 where
+  pub clauses : kept t ≡ kept s
+  pub head : s.decisions ≡ [] → t.queue_head ≡ s.queue_head
+  pub trail : s.decisions ≡ [] → (t.trail ≡ s.trail) ⊎ (t.trail ≡ s.trail ++ l ∷ [])

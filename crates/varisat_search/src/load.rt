@@ -1,18 +1,19 @@
 //! Loading of clauses.
-ghost use Rattle.std.specs.Prelude.{◌≡◌, ◌≢◌, [], length, replicate, ◌*◌, false, OnOk, IfOk, IsTrue, ◌↔◌, ◌⊎◌};
+ghost use Rattle.std.specs.Prelude.{◌≡◌, ◌≢◌, [], ◌∷◌, Ok, Some, length, slice_get, replicate, ◌+◌, ◌*◌, false, OnOk, IfOk, IsTrue, ◌↔◌, ◌⊎◌};
 ghost use Rattle.varisat_theory.specs.Membership.{◌∈◌, SameSet, IsDistinct};
-ghost use Rattle.varisat_theory.specs.Literals.{Literal};
+ghost use Rattle.varisat_theory.specs.Literals.{Literal, Clause, variable_of, opposite};
 ghost use Rattle.varisat_theory.specs.Searches.{IsTautology};
 ghost use Rattle.varisat_theory.specs.Outcomes.{Loads};
+ghost use Rattle.varisat_theory.specs.Outcomes as outcome;
 ghost use Rattle.varisat_clause.specs.Databases.{Tracks};
 ghost use Rattle.varisat_prop.specs.Parts.{IsMadeTrue};
 ghost use Rattle.varisat_prop.specs.Looks.{IsInRange};
-ghost use Rattle.varisat_prop.specs.View.{WellFormed};
+ghost use Rattle.varisat_prop.specs.View.{WellFormed, kept};
 ghost use Rattle.varisat_prop.specs.Watches.{IsPropagated};
 ghost use Rattle.varisat_search.specs.Contexts.{view, KeepsSchedule, IsReady};
 ghost use Rattle.varisat_search.specs.Steps.{SavesAll, reopened_state};
 ghost use Rattle.varisat_search.specs.Decisions.{AreDecidable, SameDecidable};
-ghost use Rattle.varisat_search.specs.Loading.{HasFalseLiteral, IsHeadAfter, IsAdded, loaded_outcome};
+ghost use Rattle.varisat_search.specs.Loading.{HasFalseLiteral, IsHeadAfter, IsAdded, LoadsUnit, loaded_outcome};
 ghost use Rattle.varisat_search.specs.Seen.{search_of};
 
 use crate::cdcl::first_of;
@@ -145,6 +146,7 @@ pub fn load_clause<A: Allocator + Copy>(
     ensures count { OnOk result (length ctx.new.assignment.current ≡ length ctx.old.assignment.current) }
     ensures units { OnOk result (ctx.new.trail.units_removed ≡ ctx.old.trail.units_removed) }
     ensures undecided { OnOk result (ctx.old.solver_state.sat_state ≢ SatState.Unsat → ctx.new.trail.decisions ≡ []) }
+    ensures single { OnOk result ((l : Literal) → lits.now ≡ l ∷ [] → LoadsUnit (view ctx.old) (view ctx.new) l) }
     ensures schedule { KeepsSchedule ctx.old ctx.new }
 {
     if let SatState::Unsat = ctx.solver_state.sat_state {
@@ -159,5 +161,51 @@ pub fn load_clause<A: Allocator + Copy>(
         return Ok(());
     }
     add_distinct(ctx)?;
+    Ok(())
+}
+
+/// Takes the literal at the queue's head as propagated, whose variable no clause names.
+fn skip_unmentioned<A: Allocator + Copy>(ctx: &mut Context<A>, lit: Lit)
+    requires ready { IsReady ctx.old }
+    requires undecided { ctx.old.trail.decisions ≡ [] }
+    requires head { slice_get ctx.old.trail.literals ctx.old.trail.queue_head ≡ Some lit }
+    requires unmentioned { (c : Clause) → c ∈ kept (view ctx.old) → (m : Literal) → m ∈ c → variable_of m ≢ variable_of lit }
+    ensures ready { IsReady ctx.new }
+    ensures kept { ctx.new ≡ record ctx.old { trail = record ctx.old.trail { queue_head = ctx.old.trail.queue_head + 1 } } }
+{
+    ctx.trail.pop_queue();
+}
+
+/// Makes a literal true at level 0 whose variable left the search with this value and came back, and undoes all
+/// decisions. As no clause names the variable, there is nothing to propagate. Under Unsat nothing changes.
+pub fn resurrect_unit<A: Allocator + Copy>(ctx: &mut Context<A>, lit: Lit) -> Result<(), AllocError>
+    requires ready { IsReady ctx.old }
+    requires in_range { IsInRange ctx.old.assignment.current (lit ∷ []) }
+    requires decidable { AreDecidable (view ctx.old) ctx.old.vsids (lit ∷ []) }
+    requires unopposed { opposite lit ∈ (search_of (view ctx.old)).fixed → ⊥ }
+    requires unmentioned { (c : Clause) → c ∈ kept (view ctx.old) → (m : Literal) → m ∈ c → variable_of m ≢ variable_of lit }
+    ensures ready { OnOk result (IsReady ctx.new) }
+    ensures unsat { ctx.old.solver_state.sat_state ≡ SatState.Unsat → ctx.new ≡ ctx.old }
+    // Its unit clause is held again, and the verdict is not Unsat.
+    ensures lines { OnOk result (ctx.old.solver_state.sat_state ≢ SatState.Unsat → Loads (search_of (view ctx.old)) (search_of (view ctx.new)) (lit ∷ []) outcome.Unknown []) }
+    ensures state { OnOk result (ctx.old.solver_state.sat_state ≢ SatState.Unsat → ctx.new.solver_state ≡ record ctx.old.solver_state { sat_state = reopened_state ctx.old.solver_state.sat_state; formula_is_empty = false }) }
+    ensures assumptions { OnOk result (ctx.old.solver_state.sat_state ≢ SatState.Unsat → ctx.new.assumptions ≡ record ctx.old.assumptions { levels = 0 }) }
+    ensures decidable { OnOk result (SameDecidable (view ctx.old) ctx.old.vsids (view ctx.new) ctx.new.vsids) }
+    ensures count { OnOk result (length ctx.new.assignment.current ≡ length ctx.old.assignment.current) }
+    // Where all was propagated at level 0, all is.
+    ensures quiet { OnOk result (ctx.old.solver_state.sat_state ≢ SatState.Unsat → ctx.old.trail.decisions ≡ [] → ctx.old.trail.queue_head ≡ length ctx.old.trail.literals → ctx.new.trail.queue_head ≡ length ctx.new.trail.literals) }
+    ensures schedule { KeepsSchedule ctx.old ctx.new }
+{
+    if let SatState::Unsat = ctx.solver_state.sat_state {
+        return Ok(());
+    }
+    match load_clause(ctx, &[lit]) {
+        Ok(()) => {}
+        // A unit clause is not stored, so that only memory can be refused.
+        Err(_) => return Err(AllocError),
+    }
+    if ctx.trail.queue_head() == Some(lit) {
+        skip_unmentioned(ctx, lit);
+    }
     Ok(())
 }

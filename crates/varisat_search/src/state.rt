@@ -50,13 +50,20 @@ impl SolverState {
     ghost use Rattle.varisat_search.specs.Steps.{reopened_state};
     ghost use Rattle.varisat_search.specs.AssumptionParts.{assumed_state};
 
-    /// Notes that a clause was accepted: a model that was found may not satisfy it.
-    pub fn accept_clause(&mut self)
-        ensures { self.new ≡ record self.old { sat_state = reopened_state self.old.sat_state; formula_is_empty = false } }
+    /// Forgets a model that was found.
+    pub fn reopen(&mut self)
+        ensures { self.new ≡ record self.old { sat_state = reopened_state self.old.sat_state } }
     {
         if let SatState::Sat = self.sat_state {
             self.sat_state = SatState::Unknown;
         }
+    }
+
+    /// Notes that a clause was accepted: a model that was found may not satisfy it.
+    pub fn accept_clause(&mut self)
+        ensures { self.new ≡ record self.old { sat_state = reopened_state self.old.sat_state; formula_is_empty = false } }
+    {
+        self.reopen();
         self.formula_is_empty = false;
     }
 

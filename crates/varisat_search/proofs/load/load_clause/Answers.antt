@@ -6,6 +6,7 @@ use Rattle.varisat_search.specs.Contexts.{view}
 use Rattle.varisat_search.proofs.AssumptionContexts.{cut-assumed, cut-same-list}
 use Rattle.varisat_search.proofs.LoadView.{Restarted, restarted}
 use Rattle.varisat_search.proofs.LoadContext.{Loading, loading-restarted, loading-propagated, loading-inside, loaded-tautology, loaded-satisfied, loaded-added}
+use Rattle.varisat_search.proofs.LoadedUnits.{loaded-none, loaded-one}
 use Rattle.varisat_search.proofs.load.load_clause.Given.{Over}
 use Rattle.varisat_search.proofs.load.load_clause.Goals.{After-full_restart, In_ok-collect_distinct}
 use Rattle.varisat_search.proofs.load.load_clause.Goals as goal
@@ -61,7 +62,7 @@ pub returns-then-branch : goal.returns-then-branch
 returns-then-branch g c =
     let taut = c.in_ok-collect_distinct.ensures.tautology.0 c.if-branch.true in
     let o = loaded-tautology (loading g (goal.at.returns-then-branch g c).In_ok-collect_distinct) taut in
-    record { ready = o.ready; unsat = λ e. absurd (c.in_default.not-Unsat e); lines = o.lines; verdict = o.kept_verdict; assumptions = λ n. o.assumptions; last = λ n. o.last; state = λ n. o.state; count = o.count; units = o.units; undecided = λ n. o.undecided; decidable = o.decidable; decay = o.decay; schedule = o.schedule }
+    record { ready = o.ready; unsat = λ e. absurd (c.in_default.not-Unsat e); lines = o.lines; verdict = o.kept_verdict; assumptions = λ n. o.assumptions; last = λ n. o.last; state = λ n. o.state; count = o.count; units = o.units; undecided = λ n. o.undecided; decidable = o.decidable; decay = o.decay; schedule = o.schedule; single = λ l e. loaded-none (loading g (goal.at.returns-then-branch g c).In_ok-collect_distinct) l e }
 
 pub is_satisfied-requires : goal.is_satisfied-requires
 is_satisfied-requires g c l h =
@@ -71,7 +72,7 @@ pub returns-then-is_satisfied : goal.returns-then-is_satisfied
 returns-then-is_satisfied g c =
     let found = c.if-is_satisfied.ensures.0 refl in
     let o = loaded-satisfied (loading g (goal.at.returns-then-is_satisfied g c).In_ok-collect_distinct) found.0 (subst (λ ys. found.0 ∈ ys) c.deref.ensures.value found.1) found.2 in
-    record { ready = o.ready; unsat = λ e. absurd (c.in_default.not-Unsat e); lines = o.lines; verdict = o.kept_verdict; assumptions = λ n. o.assumptions; last = λ n. o.last; state = λ n. o.state; count = o.count; units = o.units; undecided = λ n. o.undecided; decidable = o.decidable; decay = o.decay; schedule = o.schedule }
+    record { ready = o.ready; unsat = λ e. absurd (c.in_default.not-Unsat e); lines = o.lines; verdict = o.kept_verdict; assumptions = λ n. o.assumptions; last = λ n. o.last; state = λ n. o.state; count = o.count; units = o.units; undecided = λ n. o.undecided; decidable = o.decidable; decay = o.decay; schedule = o.schedule; single = λ l e. loaded-none (loading g (goal.at.returns-then-is_satisfied g c).In_ok-collect_distinct) l e }
 
 pub add_distinct-requires : goal.add_distinct-requires
 add_distinct-requires g c =
@@ -91,4 +92,4 @@ returns g c =
     let e = c.in_ok-add_distinct.ensures in
     let k = c.add_distinct.ensures.kept in
     let o = loaded-added (loading g (goal.at.returns g c).In_ok-collect_distinct) c.add_distinct.new.ctx k e.propagated e.tracks e.state e.units e.last e.added in
-    record { ready = o.ready; unsat = λ e. absurd (c.in_default.not-Unsat e); lines = o.lines; verdict = o.kept_verdict; assumptions = λ n. o.assumptions; last = λ n. o.last; state = λ n. o.state; count = o.count; units = o.units; undecided = λ n. o.undecided; decidable = o.decidable; decay = o.decay; schedule = o.schedule }
+    record { ready = o.ready; unsat = λ e. absurd (c.in_default.not-Unsat e); lines = o.lines; verdict = o.kept_verdict; assumptions = λ n. o.assumptions; last = λ n. o.last; state = λ n. o.state; count = o.count; units = o.units; undecided = λ n. o.undecided; decidable = o.decidable; decay = o.decay; schedule = o.schedule; single = λ l i. loaded-one (loading g (goal.at.returns g c).In_ok-collect_distinct) l i c.add_distinct.new.ctx c.collect_distinct.new.ctx.solver_state.sat_state c.add_distinct.new.ctx.solver_state.sat_state e.added }

@@ -29,7 +29,7 @@ use Rattle.varisat.specs.Calls.{with_naming, VerdictAfter, Refuted, Reopened, ap
 use Rattle.varisat.specs.Carried.{carry, value_or}
 use Rattle.varisat.specs.Spaces.{Spaces, Carrying, IsWide, translation, SearchHolds, CoreFits, without_core, VerdictFits, Links, SpacesFit}
 use Rattle.varisat.specs.Summaries.{Summary, spaces, spaces_of, StandsFor}
-use Rattle.varisat.specs.Accepting.{KeepsNoUnit, AreNamedInTurn, AreTakenInTurn, AreTakenFor, AreJoined}
+use Rattle.varisat.specs.Accepting.{AreBack, AreNamedInTurn, AreTakenInTurn, AreTakenFor, AreJoined}
 use Rattle.varisat.proofs.SpacesMoves.{give, take_solver, count, solver_literal, accept}
 use Rattle.varisat.proofs.KeptCounts.{given-most}
 use Rattle.varisat.proofs.NewNames.{given}
@@ -40,7 +40,7 @@ use Rattle.varisat.proofs.ModelsFit.{is-core}
 use Rattle.varisat.proofs.AcceptLoad.{loaded}
 use Rattle.varisat.proofs.SolveVerdict.{forgotten, core-known, model-same, spaces-same, maps-same}
 use Rattle.varisat.proofs.Carried.{carry-at}
-use Rattle.varisat.proofs.PlainTables.{named-units, names-keep, taken-users, taken-full}
+use Rattle.varisat.proofs.PlainTables.{taken-users, taken-full}
 use Rattle.varisat.proofs.SearchViews.{view-long}
 
 abbrev pub with_tables : Tables → Summary → Summary
@@ -119,7 +119,7 @@ named-all (l ∷ d) g s new f (mid, e, rest) = named-all d (with_tables mid g) (
 abbrev pub HasNoModel : Summary → Type 0
 HasNoModel g = (a : Assignment) → (spaces g).outcome ≡ outcome.Sat a → ⊥
 
-pub taken-one : (g : Summary) (s : State) (new : Tables) (x v i : ℕ) → (w : Carrying) → Links w (spaces g) s → HasNoModel g → KeepsNoUnit g.tables → w.identity x ≡ Some i → i ∈ s.counted → at g.tables.solvers.forward x ≡ None → IsTaken g.tables new x v → SpacesFit (spaces (with_tables new g)) s
+pub taken-one : (g : Summary) (s : State) (new : Tables) (x v i : ℕ) → (w : Carrying) → Links w (spaces g) s → HasNoModel g → (kept_at g.tables.kept x).unit ≡ None → w.identity x ≡ Some i → i ∈ s.counted → at g.tables.solvers.forward x ≡ None → IsTaken g.tables new x v → SpacesFit (spaces (with_tables new g)) s
 taken-one g s new x v i w k none n is spoken free t =
     maps-same (take_solver x v (spaces g)) (spaces (with_tables new g)) s (record {
       global_from_user = λ u. ap (λ m. at m.forward u) t.users;
@@ -130,21 +130,21 @@ taken-one g s new x v i w k none n is spoken free t =
       global_from_solver = t.solvers.backward.at_each;
       kept = λ y. ap (λ m. kept_at m y) t.kept;
       model = λ a e y. absurd (none a e);
-    }) refl (w, taken w (spaces g) s x i v k is spoken free t.least.0 (n x))
+    }) refl (w, taken w (spaces g) s x i v k is spoken free t.least.0 (inl n))
 
-pub taken-in-turn : (xs : List ℕ) (g : Summary) (s : State) (new : Tables) → SpacesFit (spaces g) s → HasNoModel g → KeepsNoUnit g.tables → ((x : ℕ) → x ∈ xs → (u : ℕ) × (at g.tables.users.forward u ≡ Some x) × ((i : ℕ) → s.naming.names u ≡ Some i → i ∈ s.counted)) → AreTakenInTurn xs g.tables new → SpacesFit (spaces (with_tables new g)) s
-taken-in-turn [] g s new f o n a e = subst (λ t. SpacesFit (spaces (with_tables t g)) s) (sym e) f
-taken-in-turn (x ∷ xs) g s new (w, k) o n a (mid, v, free, t, rest) =
-    let (u, e, c) = a x (inl refl) in
+pub taken-in-turn : (xs : List ℕ) (g : Summary) (s : State) (new : Tables) → SpacesFit (spaces g) s → HasNoModel g → ((x : ℕ) → x ∈ xs → (u : ℕ) × (at g.tables.users.forward u ≡ Some x) × ((kept_at g.tables.kept x).unit ≡ None) × ((i : ℕ) → s.naming.names u ≡ Some i → i ∈ s.counted)) → AreTakenInTurn xs g.tables new → SpacesFit (spaces (with_tables new g)) s
+taken-in-turn [] g s new f o a e = subst (λ t. SpacesFit (spaces (with_tables t g)) s) (sym e) f
+taken-in-turn (x ∷ xs) g s new (w, k) o a (mid, v, free, t, rest) =
+    let (u, e, n, c) = a x (inl refl) in
     let (i, is) = k.names.live u x e in
     let named : s.naming.names u ≡ Some i = k.names.agree u ∙ chain-some (at g.tables.users.forward) w.identity u x e ∙ is in
-    taken-in-turn xs (with_tables mid g) s new (taken-one g s mid x v i w k o n is (c i named) free t) o (λ y. ap (λ m. (kept_at m y).unit) t.kept ∙ n y)
-    (λ y h. let (z, q, r) = a y (inr h) in (z, ap (λ m. at m.forward z) t.users ∙ q, r))
+    taken-in-turn xs (with_tables mid g) s new (taken-one g s mid x v i w k o n is (c i named) free t) o
+    (λ y h. let (z, q, m, r) = a y (inr h) in (z, ap (λ m. at m.forward z) t.users ∙ q, ap (λ ds. (kept_at ds y).unit) t.kept ∙ m, r))
     rest
 
 -- 3. Another view of the same search.
 
-outcome-alike : (s t : View) (core : List Literal) (sat : SatState) → ((a : Assignment) → outcome_of s core sat ≡ outcome.Sat a → ⊥) → outcome_of t core sat ≡ outcome_of s core sat
+pub outcome-alike : (s t : View) (core : List Literal) (sat : SatState) → ((a : Assignment) → outcome_of s core sat ≡ outcome.Sat a → ⊥) → outcome_of t core sat ≡ outcome_of s core sat
 outcome-alike s t core verdict.Unknown n = refl
 outcome-alike s t core verdict.Sat n = absurd (n (assignment_of s) refl)
 outcome-alike s t core verdict.Unsat n = refl
@@ -196,14 +196,27 @@ counted-spaces g s d (w, k) named =
 name-of : (d : List Literal) (named taken : Tables) (l : Literal) → AreTakenFor d named taken → l ∈ d → (x : ℕ) × (at taken.users.forward (variable_of l) ≡ Some x)
 name-of d named taken l e h = let (v, q) = e.all l h in let (x, a, b) = chain-through (at taken.users.forward) (at taken.solvers.forward) (variable_of l) v q in (x, a)
 
+-- those that took one in turn had none before
+taken-free : (xs : List ℕ) (old new : Tables) (x : ℕ) → AreTakenInTurn xs old new → x ∈ xs → at old.solvers.forward x ≡ None
+taken-free [] old new x q h = absurd h
+taken-free (y ∷ xs) old new x (mid, v, f, t, rest) (inl e) = ap (at old.solvers.forward) e ∙ f
+taken-free (y ∷ xs) old new x (mid, v, f, t, rest) (inr h) =
+    ⊎_elim
+    (λ e. e)
+    (λ (u, e).
+    let there : at mid.solvers.forward x ≡ Some u = t.solvers.forward.at_each x ∙ updated-other (at old.solvers.forward) y (Some v) x (λ q. let z : None ≡ Some u = sym f ∙ ap (at old.solvers.forward) (sym q) ∙ e in cc) ∙ e in
+    let z : None ≡ Some u = sym (taken-free xs mid new x rest h) ∙ there in
+    absurd cc)
+    (is-some (at old.solvers.forward x))
+
 -- the identities are counted, their variables take solver variables, and the search has these
-pub brought-in : (d : List Literal) (g : Summary) (n : State) (taken : Tables) (t : View) → SpacesFit (spaces g) n → HasNoModel g → KeepsNoUnit g.tables → length g.search.values ≡ length g.tables.solvers.backward → AreTakenFor d g.tables taken → search_of t ≡ search_of g.search → length t.values ≡ length taken.solvers.backward → SpacesFit (spaces (record g { tables = taken; search = t })) (count (join_counted n.counted (map variable_of (map (through_names n.naming) d))) n)
-brought-in d g n taken t f none units before e seen c =
+pub brought-in : (d : List Literal) (g : Summary) (n : State) (taken : Tables) (t : View) → SpacesFit (spaces g) n → HasNoModel g → AreBack d g.tables → length g.search.values ≡ length g.tables.solvers.backward → AreTakenFor d g.tables taken → search_of t ≡ search_of g.search → length t.values ≡ length taken.solvers.backward → SpacesFit (spaces (record g { tables = taken; search = t })) (count (join_counted n.counted (map variable_of (map (through_names n.naming) d))) n)
+brought-in d g n taken t f none back before e seen c =
     let (users, kept) = taken-users e.globals g.tables taken e.in_turn in
     let is = map variable_of (map (through_names n.naming) d) in
     let f3 = counted-spaces g n d f (λ l h. let (x, q) = name-of d g.tables taken l e h in (x, ap (λ m. at m.forward (variable_of l)) (sym users) ∙ q)) in
-    let f4 = taken-in-turn e.globals g (count (join_counted n.counted is) n) taken f3 none units
-    (λ x h. let (l, i, q) = e.named x h in (variable_of l, q, λ j r. join-has is n.counted j (subst (λ y. y ∈ is) (carry-at n.naming.names l j r) (∈-map variable_of (through_names n.naming l) (map (through_names n.naming) d) (∈-map (through_names n.naming) l d i)))))
+    let f4 = taken-in-turn e.globals g (count (join_counted n.counted is) n) taken f3 none
+    (λ x h. let (l, i, q) = e.named x h in (variable_of l, q, back l x i q (taken-free e.globals g.tables taken x e.in_turn h), λ j r. join-has is n.counted j (subst (λ y. y ∈ is) (carry-at n.naming.names l j r) (∈-map variable_of (through_names n.naming l) (map (through_names n.naming) d) (∈-map (through_names n.naming) l d i)))))
     e.in_turn in
     raised (with_tables taken g) (count (join_counted n.counted is) n) t f4 none seen
     (⊎_elim
@@ -288,12 +301,11 @@ several (x ∷ []) ((l, m, i, j, n), t) = absurd (n (one i ∙ sym (one j)))
 several (x ∷ y ∷ d) w = omega arith
 
 -- What accepting a clause did, step by step.
-pub record Steps (g : Summary) (d : Clause) (named taken joined : Tables) (mid new : View) (parts : AssumptionParts) (after : SatState) : Type 0 where
-  pub no_units : KeepsNoUnit g.tables
+pub record Steps (g : Summary) (d : Clause) (taken joined : Tables) (mid new : View) (parts : AssumptionParts) (after : SatState) : Type 0 where
   pub count_before : length g.search.values ≡ length g.tables.solvers.backward
   pub not_unsat : g.sat_state ≢ verdict.Unsat
-  pub are_named : AreNamedInTurn d g.tables named
-  pub are_taken : AreTakenFor d named taken
+  pub back : AreBack d g.tables
+  pub are_taken : AreTakenFor d g.tables taken
   pub are_joined : AreJoined d taken joined
   pub seen : search_of mid ≡ search_of g.search
   pub count : length mid.values ≡ length taken.solvers.backward
@@ -305,20 +317,16 @@ pub record Steps (g : Summary) (d : Clause) (named taken joined : Tables) (mid n
   pub verdict : (after ≡ reopened_state g.sat_state) ⊎ (after ≡ verdict.Unsat)
   pub parts_stay : parts ≡ record g.assumed { levels = 0 }
 
-pub clause-accepted : (g : Summary) (s : State) (d : Clause) (named taken joined : Tables) (mid new : View) (parts : AssumptionParts) (after : SatState) → Steps g d named taken joined mid new parts after → SpacesFit (spaces g) s →
-    (x : Verdict) × VerdictAfter s.clauses (map (through_names (name_all d s.naming)) d) s.verdict x × SpacesFit (spaces_of joined new parts after) (append_clause (map (through_names (name_all d s.naming)) d) x (with_naming (name_all d s.naming) s))
-clause-accepted g s d named taken joined mid new parts after t f =
-    let n = with_naming (name_all d s.naming) s in
+pub clause-accepted : (g : Summary) (n : State) (d : Clause) (taken joined : Tables) (mid new : View) (parts : AssumptionParts) (after : SatState) → Steps g d taken joined mid new parts after → SpacesFit (spaces g) n →
+    (x : Verdict) × VerdictAfter n.clauses (map (through_names n.naming) d) n.verdict x × SpacesFit (spaces_of joined new parts after) (append_clause (map (through_names n.naming) d) x n)
+clause-accepted g n d taken joined mid new parts after t (w1, k1) =
     let c = map (through_names n.naming) d in
-    let units = named-units d g.tables named t.no_units t.are_named in
-    let before = t.count_before ∙ ap (λ (m : BiMap). length m.backward) (sym (names-keep d g.tables named t.are_named).solvers) in
-    let (w1, k1) = named-all d g s named f t.are_named in
-    let p1 = spaces (with_tables named g) in
+    let p1 = spaces g in
     let bad = not-unsat g.search g.assumed.failed_core g.sat_state w1.identity p1.model n.verdict t.not_unsat k1.verdict in
-    let g2 : Summary = record g { tables = named; sat_state = verdict.Unknown } in
+    let g2 : Summary = record g { sat_state = verdict.Unknown } in
     let f2 : SpacesFit (spaces g2) (with_verdict Unknown n) = (w1, forgotten w1 p1 n k1 bad) in
     let s3 = count (join_counted n.counted (map variable_of c)) (with_verdict Unknown n) in
-    let (w5, k5) = brought-in d g2 (with_verdict Unknown n) taken mid f2 (λ a e. let z : outcome.Unknown ≡ outcome.Sat a = e in cc) units before t.are_taken t.seen t.count in
+    let (w5, k5) = brought-in d g2 (with_verdict Unknown n) taken mid f2 (λ a e. let z : outcome.Unknown ≡ outcome.Sat a = e in cc) t.back t.count_before t.are_taken t.seen t.count in
     let p = spaces (record g2 { tables = taken; search = mid }) in
     let j = t.are_joined in
     let same-literals : map (carry (chain (at joined.users.forward) (at joined.solvers.forward))) d ≡ map (solver_literal p) d = ap₂ (λ (a b : BiMap). map (carry (chain (at a.forward) (at b.forward))) d) j.users j.solvers in

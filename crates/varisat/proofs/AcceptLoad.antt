@@ -1,18 +1,15 @@
 -- A clause is accepted, or a list assumed.
 use Rattle.std.proofs.Common.{◌≡◌, ◌≢◌, ℕ, ◌<◌, Bool, true, false, Some, List, [], ◌∷◌, ◌++◌, ◌⊎◌, inl, inr, ⊎_elim, sym, ap, ◌∙◌, subst, refl, map}
-use Rattle.std.proofs.lemmas.List.{map-append}
 use Rattle.varisat_theory.specs.Membership.{◌∈◌}
 use Rattle.varisat_theory.specs.Literals.{Literal, Clause, variable_of, opposite, IsUnit, Satisfies, MakesTrue}
-use Rattle.varisat_theory.specs.Renaming.{rename}
 use Rattle.varisat_theory.specs.Derivations.{Line}
 use Rattle.varisat_theory.specs.Searches.{Search, Covers, CoversBy, IsCoveredBySearch, Tautology, KnownTrue, FixedTrue, Kept}
-use Rattle.varisat_theory.specs.Outcomes.{Outcome, Loads, IsReached}
+use Rattle.varisat_theory.specs.Outcomes.{Outcome, Loads}
 use Rattle.varisat_theory.specs.Outcomes as outcome
 use Rattle.varisat_theory.proofs.Members.{∈-or_not, ∈-append_cases, ∈-append_left, ∈-append_right}
 use Rattle.varisat_theory.proofs.Renaming.{∈-map, map-∈}
 use Rattle.varisat_theory.proofs.Assigned.{satisfies_more, satisfies_fewer}
 use Rattle.varisat_theory.proofs.Sound.{derives_sound}
-use Rattle.varisat_theory.proofs.Reached.{reached_one_more, reached_derived}
 use Rattle.varisat_theory.proofs.StepCounts.{by_derives}
 use Rattle.varisat_theory.proofs.StepCovers.{names_are_loaded}
 use Rattle.varisat_literals.specs.Numbers.{polarity_of}
@@ -29,6 +26,7 @@ use Rattle.varisat_names.proofs.Maps.{chain-some, chain-through}
 use Rattle.varisat.proofs.SpacesAgree.{identities-same, modes-same, units-same, isolation-same, marks-same}
 use Rattle.varisat.proofs.Carried.{carry-at, carry-sign, carry-opposite, satisfied-carried, forced-value, wide-back}
 use Rattle.varisat.proofs.AcceptSolverVariables.{one-solver}
+use Rattle.varisat.proofs.ReachedHeld.{proved-on, reached-joined}
 use Rattle.varisat.proofs.SearchHeld.{answers-covers, fixed-on, refuted}
 
 pub map-map : (f g h : Literal → Literal) (c : Clause) → ((l : Literal) → l ∈ c → f (g l) ≡ h l) → map f (map g c) ≡ map h c
@@ -58,7 +56,6 @@ module _ (w : Carrying) (p : Spaces) (s : State) (d : Clause) (k : Links w p s) 
     stands : w.identity x ≡ Some i
     known : i ∈ s.counted
     there : r.identity v ≡ Some i
-    back : r.solver i ≡ Some v
     name : s.naming.names (variable_of l) ≡ Some i
     solver : variable_of (solver_literal p l) ≡ v
 
@@ -77,7 +74,6 @@ module _ (w : Carrying) (p : Spaces) (s : State) (d : Clause) (k : Links w p s) 
         stands = q.1;
         known = q.2;
         there = chain-some p.global_from_solver w.identity v x g ∙ q.1;
-        back = chain-some w.global p.solver_from_global q.0 x (k.identities.one_to_one.there x q.0 q.1) ∙ f;
         name = k.names.agree (variable_of l) ∙ chain-some p.global_from_user w.identity (variable_of l) x b ∙ q.1;
         solver = carry-at (chain p.global_from_user p.solver_from_global) l v a;
       }
@@ -89,19 +85,9 @@ module _ (w : Carrying) (p : Spaces) (s : State) (d : Clause) (k : Links w p s) 
       let a2 : variable_of (carry s.naming.names l) ≡ z.i = carry-at s.naming.names l z.i z.name in
       same-literal (carry r.identity (solver_literal p l)) (carry s.naming.names l) (a1 ∙ sym a2) (carry-sign r.identity (solver_literal p l) ∙ carry-sign (chain p.global_from_user p.solver_from_global) l ∙ sym (carry-sign s.naming.names l))
 
-  backward : (l : Literal) → l ∈ d → carry r.solver (through_names s.naming l) ≡ solver_literal p l
-  backward l h =
-      let z = where-to l h in
-      let a1 : variable_of (carry r.solver (through_names s.naming l)) ≡ z.v = carry-at r.solver (carry s.naming.names l) z.v (ap r.solver (carry-at s.naming.names l z.i z.name) ∙ z.back) in
-      same-literal (carry r.solver (carry s.naming.names l)) (solver_literal p l) (a1 ∙ sym z.solver) (carry-sign r.solver (carry s.naming.names l) ∙ carry-sign s.naming.names l ∙ sym (carry-sign (chain p.global_from_user p.solver_from_global) l))
-
   same-clause : map (carry r.identity) e ≡ c
   unfolding c e
   same-clause = map-map (carry r.identity) (solver_literal p) (through_names s.naming) d through
-
-  back-clause : map (carry r.solver) c ≡ e
-  unfolding c e
-  back-clause = map-map (carry r.solver) (through_names s.naming) (solver_literal p) d backward
 
   -- a literal of the clause over solver variables
   of-clause : (m : Literal) → m ∈ e → (i : ℕ) × (r.identity (variable_of m) ≡ Some i)
@@ -183,16 +169,8 @@ module _ (w : Carrying) (p : Spaces) (s : State) (d : Clause) (k : Links w p s) 
           known = λ a m. h.known a (satisfies_fewer a s.clauses (c ∷ []) m);
           fixed = λ n l i a b. fixed-on s.clauses r p.search t v h long in-covers n l (h.fixed (λ q. let z : outcome.Unknown ≡ outcome.Unsat = q in cc) l i a b);
           covered = covers-more;
-          taken = λ z b l i j. ⊎_elim
-              (λ q. h.taken z b l q j)
-              (λ q. ⊎_elim (λ y. in-clause l (subst (λ u. l ∈ u) y j)) (λ y. absurd y) q)
-              (∈-append_cases b s.clauses (c ∷ []) i);
-          reached = λ z. subst (λ Q. IsReached Q last) (sym (map-append (map (carry r.solver)) s.clauses (c ∷ []) ∙ ap (λ y. rename (carry r.solver) s.clauses ++ y ∷ []) back-clause))
-              (reached_derived (rename (carry r.solver) s.clauses ++ e ∷ []) (h.held ++ e ∷ []) lines last (reached_one_more (rename (carry r.solver) s.clauses) h.held e (h.reached z)) all);
+          proved = λ z. proved-on (s.clauses ++ c ∷ []) r (h.held ++ e ∷ []) lines last t v (reached-joined s.clauses r h.held c e same-clause (h.proved z)) all o;
         }
-      where
-        in-clause : (l : Literal) → l ∈ c → (u : ℕ) × (r.solver (variable_of l) ≡ Some u)
-        in-clause l i = let (m, a, q) = map-∈ (through_names s.naming) l d i in let z = where-to m a in (z.v, ap r.solver (ap variable_of q ∙ carry-at s.naming.names m z.i z.name) ∙ z.back)
 
   -- the identities of the literals were made
   made : (l : Literal) → l ∈ c → variable_of l < s.naming.made

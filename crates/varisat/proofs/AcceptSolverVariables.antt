@@ -1,20 +1,28 @@
 -- Solver variables that are taken, and how many there are.
-use Rattle.std.proofs.Common.{◌≡◌, ◌≢◌, ℕ, zero, suc, ◌<◌, ◌≤◌, Option, Some, None, false, List, [], ◌∷◌, inl, inr, ⊎_elim, length, sym, ap, ◌∙◌, subst, refl, arith}
+use Rattle.std.proofs.Common.{◌≡◌, ◌≢◌, ℕ, zero, suc, ◌<◌, ◌≤◌, Option, Some, None, false, List, [], ◌∷◌, ◌++◌, ◌⊎◌, inl, inr, ⊎_elim, length, sym, ap, ◌∙◌, subst, refl, arith}
 use Rattle.varisat_theory.specs.Membership.{◌∈◌, IsDistinct}
-use Rattle.varisat_theory.specs.Literals.{Literal, Clause, variable_of}
-use Rattle.varisat_theory.specs.Searches.{IsLiteralOf, IsCoveredBySearch, Tautology, KnownTrue, FixedTrue, Kept}
-use Rattle.varisat_theory.specs.Outcomes.{IsReached}
-use Rattle.varisat_theory.proofs.Members.{equal_or_not}
+use Rattle.varisat_theory.specs.Literals.{Literal, Clause, variable_of, opposite}
+use Rattle.varisat_theory.specs.Held.{without}
+use Rattle.varisat_theory.specs.Renaming.{rename}
+use Rattle.varisat_theory.specs.Searches.{Search, Fits, IsLiteralOf, IsCoveredBySearch, Tautology, KnownTrue, FixedTrue, Kept}
+use Rattle.varisat_theory.specs.Outcomes.{Outcome}
+use Rattle.varisat_theory.specs.Outcomes as outcome
+use Rattle.varisat_theory.proofs.Members.{equal_or_not, ∈-append_right}
 use Rattle.varisat_theory.proofs.Count.{length-distinct}
+use Rattle.varisat_theory.proofs.HeldDrops.{without_less}
+use Rattle.varisat_theory.proofs.StepDrops.{variable_is_dropped}
+use Rattle.varisat_prop.proofs.LiteralValues.{own-opposite}
 use Rattle.varisat_literals.specs.Numbers.{polarity_of}
-use Rattle.varisat_names.specs.Maps.{updated, onward}
+use Rattle.varisat_names.specs.Maps.{updated, onward, chain}
 use Rattle.varisat.specs.States.{State}
 use Rattle.varisat.specs.Names.{identity_of}
 use Rattle.varisat.specs.Carried.{carry, is_forced}
-use Rattle.varisat.specs.Spaces.{Spaces, Carrying, Translation, translation, SearchHolds, without_core, Links}
+use Rattle.varisat.specs.Spaces.{Spaces, Carrying, Translation, translation, SearchHolds, AssumptionsFit, without_core, Links}
 use Rattle.varisat.proofs.SpacesMoves.{take_solver}
 use Rattle.varisat_names.proofs.Maps.{updated-at, updated-other, updated-all, joined, chain-some, chain-none, chain-through, is-some}
-use Rattle.varisat.proofs.SpacesAgree.{carry-same, rename-same, working-same}
+use Rattle.varisat.proofs.SpacesAgree.{carry-same, working-same}
+use Rattle.varisat.proofs.ReachedHeld.{only, unmentioned, reached-apart}
+use Rattle.varisat.proofs.SearchHeld.{with-model, without-model}
 use Rattle.varisat.proofs.NewNames.{linked}
 use Rattle.varisat.proofs.Relinked.{relinked}
 
@@ -27,79 +35,74 @@ one-solver w p s k v v' i a b =
     let r : Some v' ≡ Some v = sym (k.solvers.one_to_one.back y v' g) ∙ ap p.solver_from_global (let z : y ≡ x = cc in z) ∙ k.solvers.one_to_one.back x v e in
     cc
 
+-- the proved literals are fixed
+proved-fixed : (held : List Clause) (t : Search) → Fits held t → (l : Literal) → l ∈ t.proved → l ∈ t.fixed
+proved-fixed held t f l h =
+    let (d, i, u) = f.units l h in
+    ⊎_elim
+    (λ (m, j, o). absurd (own-opposite m (u.1 (opposite m) o ∙ sym (u.1 m j))))
+    (λ (m, j, o). subst (λ y. y ∈ t.fixed) (u.1 m j) o)
+    (f.settled d i)
+
 -- 1. A solver variable is taken.
-module _ (w : Carrying) (p : Spaces) (s : State) (x i v : ℕ) (k : Links w p s) (is : w.identity x ≡ Some i) (spoken : i ∈ s.counted) (unsolved : p.solver_from_global x ≡ None) (free : p.global_from_solver v ≡ None) (no-unit : (p.kept x).unit ≡ None) where
+module _ (w : Carrying) (p : Spaces) (s : State) (x i v : ℕ) (k : Links w p s) (is : w.identity x ≡ Some i) (spoken : i ∈ s.counted) (unsolved : p.solver_from_global x ≡ None) (free : p.global_from_solver v ≡ None) where
+  to : ℕ → Option ℕ
+  to = chain p.global_from_solver w.identity
+
+  to' : ℕ → Option ℕ
+  to' = chain (updated p.global_from_solver v (Some x)) w.identity
+
   r : Translation
   r = translation w p s.ever_hidden
 
   r' : Translation
   r' = translation w (take_solver x v p) s.ever_hidden
 
-  to-new : r'.identity v ≡ Some i
-  unfolding r'
+  pub to-new : chain (updated p.global_from_solver v (Some x)) w.identity v ≡ Some i
   to-new = chain-some (updated p.global_from_solver v (Some x)) w.identity v x (updated-at p.global_from_solver v (Some x)) ∙ is
 
-  to-other : (u : ℕ) → (u ≡ v → ⊥) → r'.identity u ≡ r.identity u
-  unfolding r' r
+  pub to-other : (u : ℕ) → (u ≡ v → ⊥) → chain (updated p.global_from_solver v (Some x)) w.identity u ≡ chain p.global_from_solver w.identity u
   to-other u n = ap (λ o. onward o w.identity) (updated-other p.global_from_solver v (Some x) u n)
 
-  not-new : (u j : ℕ) → r.identity u ≡ Some j → u ≡ v → ⊥
-  unfolding r
-  not-new u j e q = let z : None ≡ Some j = sym (chain-none p.global_from_solver w.identity v free) ∙ ap (translation w p s.ever_hidden).identity (sym q) ∙ e in cc
+  not-new : (u j : ℕ) → chain p.global_from_solver w.identity u ≡ Some j → u ≡ v → ⊥
+  not-new u j e q = let z : None ≡ Some j = sym (chain-none p.global_from_solver w.identity v free) ∙ ap (chain p.global_from_solver w.identity) (sym q) ∙ e in cc
 
-  unforced : w.forced i ≡ None
-  unforced = k.units.unit x i is ∙ no-unit
+  pub stays : (u j : ℕ) → chain p.global_from_solver w.identity u ≡ Some j → chain (updated p.global_from_solver v (Some x)) w.identity u ≡ Some j
+  stays u j e = to-other u (not-new u j e) ∙ e
 
-  back-none : r.solver i ≡ None
-  unfolding r
-  back-none = chain-some w.global p.solver_from_global i x (k.identities.one_to_one.there x i is) ∙ unsolved
+  -- nothing of the search is over v
+  other : (l : Literal) → IsLiteralOf p.search l → variable_of l ≡ v → ⊥
+  other l a = let (j, e) = k.holds.within l a in not-new (variable_of l) j e
 
-  back-other : (j : ℕ) → (j ≡ i → ⊥) → r'.solver j ≡ r.solver j
-  unfolding r' r
-  back-other j n = go (w.global j) refl
-    where
-      go : (o : Option ℕ) → w.global j ≡ o → onward o (updated p.solver_from_global x (Some v)) ≡ onward o p.solver_from_global
-      go None e = refl
-      go (Some y) e = updated-other p.solver_from_global x (Some v) y (λ q. n (let z : Some j ≡ Some i = sym (k.identities.one_to_one.back y j e) ∙ ap w.identity q ∙ is in cc))
+  -- so what is held fits without the clauses that mention v
+  pub fits-apart : (held : List Clause) → Fits held p.search → Fits (without v held) p.search
+  fits-apart held f =
+      variable_is_dropped p.search p.search v held refl (λ c a. unmentioned v c.clause (λ l b. other l (inr (c, a, b)))) (λ l a n. a) (λ l a. (a, other l (inl (proved-fixed held p.search f l a)))) f
 
-  back-stays : (j u : ℕ) → r.solver j ≡ Some u → r'.solver j ≡ Some u
-  back-stays j u e = back-other j (λ q. let z : None ≡ Some u = sym back-none ∙ ap r.solver (sym q) ∙ e in cc) ∙ e
+  same : (l : Literal) → IsLiteralOf p.search l → carry to l ≡ carry to' l
+  unfolding to to'
+  same l a = carry-same (chain p.global_from_solver w.identity) (chain (updated p.global_from_solver v (Some x)) w.identity) l (sym (to-other (variable_of l) (other l a)))
 
-  taken-holds : SearchHolds s.clauses r' p.search (without_core p.outcome)
-  unfolding r r'
-  taken-holds =
-      let h = k.holds in
-      let still = λ (l : Literal) (a : IsLiteralOf p.search l). let (j, e) = h.within l a in to-other (variable_of l) (not-new (variable_of l) j (e)) in
-      record {
-        held = h.held;
-        holds = h.holds;
-        within = λ l a. let (j, e) = h.within l a in (j, still l a ∙ e);
-        implied = λ a b m g. h.implied a b m (λ u j e. g u j (to-other u (not-new u j e) ∙ e));
-        known = h.known;
-        fixed = λ o l j a b. ⊎_elim
-            (λ q. let y : Some j ≡ Some i = sym a ∙ ap r'.identity q ∙ to-new in
-            let z : None ≡ Some (polarity_of l) = sym unforced ∙ ap w.forced (let t : i ≡ j = cc in t) ∙ b in
-            absurd cc)
-            (λ n. h.fixed o l j (sym (to-other (variable_of l) n) ∙ a) b)
-            (equal_or_not (variable_of l) v);
-        covered = λ o c a. in-both c (h.covered o c a);
-        taken = λ z c l a b. let (u, e) = h.taken z c l a b in (u, back-stays (variable_of l) u e);
-        reached = λ z. subst (λ Q. IsReached Q h.held) (rename-same (carry r.solver) (carry r'.solver) s.clauses (λ c l a b. let (u, e) = h.taken z c l a b in carry-same r.solver r'.solver l (e ∙ sym (back-stays (variable_of l) u e)))) (h.reached z);
-      }
-    where
-      same : (l : Literal) → IsLiteralOf p.search l → carry r.identity l ≡ carry r'.identity l
-      same l a = let (j, e) = k.holds.within l a in carry-same r.identity r'.identity l (sym (to-other (variable_of l) (not-new (variable_of l) j e)))
+  pub in-both : (c : Clause) → IsCoveredBySearch (carry (chain p.global_from_solver w.identity)) (is_forced w.forced) p.search c → IsCoveredBySearch (carry (chain (updated p.global_from_solver v (Some x)) w.identity)) (is_forced w.forced) p.search c
+  unfolding to to'
+  in-both c (Tautology t) = Tautology t
+  in-both c (KnownTrue l a e) = KnownTrue l a e
+  in-both c (FixedTrue l a b) = FixedTrue l a (subst (λ y. y ∈ c) (same l (inl a)) b)
+  in-both c (Kept d a e m) = Kept d a e (λ l b. subst (λ y. y ∈ c) (same l (inr (d, a, b))) (m l b))
 
-      in-both : (c : Clause) → IsCoveredBySearch (carry r.identity) (is_forced w.forced) p.search c → IsCoveredBySearch (carry r'.identity) (is_forced w.forced) p.search c
-      in-both c (Tautology t) = Tautology t
-      in-both c (KnownTrue l a e) = KnownTrue l a e
-      in-both c (FixedTrue l a b) = FixedTrue l a (subst (λ y. y ∈ c) (same l (inl a)) b)
-      in-both c (Kept d a e m) = Kept d a e (λ l b. subst (λ y. y ∈ c) (same l (inr (d, a, b))) (m l b))
+  assumptions-on : AssumptionsFit p.global_from_user (updated p.solver_from_global x (Some v)) s.naming.names p.assumptions s.assumptions
+  assumptions-on = record {
+    agree = k.assumptions.agree;
+    taken = λ l h.
+        let (q, c) = k.assumptions.taken l h in
+        let (y, f, g) = chain-through p.global_from_user p.solver_from_global (variable_of l) q c in
+        (q, chain-some p.global_from_user (updated p.solver_from_global x (Some v)) (variable_of l) y f ∙ updated-other p.solver_from_global x (Some v) y (λ e. let z : None ≡ Some q = sym unsolved ∙ ap p.solver_from_global (sym e) ∙ g in cc) ∙ g);
+  }
 
-  pub taken : Links w (take_solver x v p) s
-  unfolding r' r
-  taken =
-      relinked w p (take_solver x v p) s s k (record {
+  -- the links, once the search of the variables after is known
+  pub taken-with : (t : Search) → SearchHolds s.clauses (translation w (take_solver x v p) s.ever_hidden) t (without_core p.outcome) → Links w (record (take_solver x v p) { search = t }) s
+  taken-with t holds =
+      relinked w p (record (take_solver x v p) { search = t }) s s k (record {
         solvers = record {
           one_to_one = joined p.solver_from_global p.global_from_solver x v k.solvers.one_to_one unsolved free;
           live = λ v' y. updated-all (λ v' o. o ≡ Some y → (j : ℕ) × (w.identity y ≡ Some j) × (j ∈ s.counted)) p.global_from_solver v (Some x)
@@ -107,20 +110,68 @@ module _ (w : Carrying) (p : Spaces) (s : State) (x i v : ℕ) (k : Links w p s)
               v'
               (λ n e. k.solvers.live v' y e);
         };
-        holds = taken-holds;
-        assumptions = record {
-          agree = k.assumptions.agree;
-          taken = λ l h.
-              let (q, c) = k.assumptions.taken l h in
-              let (y, f, g) = chain-through p.global_from_user p.solver_from_global (variable_of l) q c in
-              (q, chain-some p.global_from_user (updated p.solver_from_global x (Some v)) (variable_of l) y f ∙ updated-other p.solver_from_global x (Some v) y (λ e. let z : None ≡ Some q = sym unsolved ∙ ap p.solver_from_global (sym e) ∙ g in cc) ∙ g);
-        };
-        working = working-same s.clauses r.identity r'.identity s.assumptions p.working (λ l h. let (j, e) = k.working.used l h in to-other (variable_of l) (not-new (variable_of l) j e)) k.working;
+        holds = holds;
+        assumptions = assumptions-on;
+        working = working-same s.clauses (chain p.global_from_solver w.identity) (chain (updated p.global_from_solver v (Some x)) w.identity) s.assumptions p.working (λ l h. let (j, e) = k.working.used l h in to-other (variable_of l) (not-new (variable_of l) j e)) k.working;
         verdict = k.verdict;
         core = k.core;
         right = k.right;
         few = k.few;
       })
+
+  -- What is held and mentions v is forgotten.
+  taken-open : SearchHolds s.clauses r p.search outcome.Unknown → w.forced i ≡ None → SearchHolds s.clauses r' p.search outcome.Unknown
+  unfolding r r'
+  taken-open h unforced = record {
+    held = without v h.held;
+    holds = fits-apart h.held h.holds;
+    within = λ l a. let (j, e) = h.within l a in (j, stays (variable_of l) j e);
+    implied = λ a b m g c e. h.implied a b m (λ u j q. g u j (stays u j q)) c (without_less v h.held c e);
+    known = h.known;
+    fixed = λ o l j a b. ⊎_elim
+        (λ q. let y : Some j ≡ Some i = sym a ∙ ap (chain (updated p.global_from_solver v (Some x)) w.identity) q ∙ to-new in
+        let z : None ≡ Some (polarity_of l) = sym unforced ∙ ap w.forced (let t : i ≡ j = cc in t) ∙ b in
+        absurd cc)
+        (λ n. h.fixed o l j (sym (to-other (variable_of l) n) ∙ a) b)
+        (equal_or_not (variable_of l) v);
+    covered = λ o c a. in-both c (h.covered o c a);
+    proved = λ z.
+        let q = h.proved z in
+        let old = rename (carry (chain p.global_from_solver w.identity)) (only v h.held) in
+        record {
+          forgotten = old ++ q.forgotten;
+          reached = reached-apart s.clauses (translation w p s.ever_hidden) (translation w (take_solver x v p) s.ever_hidden) v h.held to-other q;
+          units = λ j b e n. let (c, a, u) = q.units j b e (λ u y. n u (stays u j y)) in (c, ∈-append_right c old q.forgotten a, u);
+        };
+  }
+
+  -- Under Unsat it stays, as it is refuted whatever v stands for.
+  taken-refuted : SearchHolds s.clauses r p.search outcome.Unsat → SearchHolds s.clauses r' p.search outcome.Unsat
+  unfolding r r'
+  taken-refuted h = record {
+    held = h.held;
+    holds = h.holds;
+    within = λ l a. let (j, e) = h.within l a in (j, stays (variable_of l) j e);
+    implied = λ a b m g. h.implied a b m (λ u j q. g u j (stays u j q));
+    known = h.known;
+    fixed = λ o. absurd (o refl);
+    covered = λ o. absurd (o refl);
+    proved = h.proved;
+  }
+
+  module _ (unfixed : ((p.kept x).unit ≡ None) ⊎ (p.outcome ≡ outcome.Unsat)) where
+    unforced : (p.outcome ≡ outcome.Unsat → ⊥) → w.forced i ≡ None
+    unforced n = k.units.unit x i is ∙ ⊎_elim (λ e. e) (λ q. absurd (n q)) unfixed
+
+    taken-holds : (o : Outcome) → p.outcome ≡ o → SearchHolds s.clauses r p.search (without_core o) → SearchHolds s.clauses r' p.search (without_core o)
+    taken-holds outcome.Unknown e h = taken-open h (unforced (λ q. let z : outcome.Unknown ≡ outcome.Unsat = sym e ∙ q in cc))
+    taken-holds (outcome.Sat found) e h = with-model s.clauses r' p.search found (taken-open (without-model s.clauses r p.search found h) (unforced (λ q. let z : outcome.Sat found ≡ outcome.Unsat = sym e ∙ q in cc)))
+    taken-holds outcome.Unsat e h = taken-refuted h
+    taken-holds (outcome.UnsatUnder core) e h = taken-open h (unforced (λ q. let z : outcome.UnsatUnder core ≡ outcome.Unsat = sym e ∙ q in cc))
+
+    pub taken : Links w (take_solver x v p) s
+    unfolding r r'
+    taken = taken-with p.search (taken-holds p.outcome refl k.holds)
 
 -- 2. How many there are.
 

@@ -10,22 +10,20 @@ use Rattle.varisat_search.specs.AssumptionParts.{AssumptionParts, newly_assumed,
 use Rattle.varisat_search.specs.Seen.{search_of, outcome_of}
 use Rattle.varisat_names.specs.Maps.{chain}
 use Rattle.varisat_names.specs.VarMap.{at}
-use Rattle.varisat_names.specs.VarBiMap.{BiMap}
 use Rattle.varisat_names.specs.VarData.{kept_at}
 use Rattle.varisat_names.specs.declared.variables.data.VarData.{VarData}
 use Rattle.varisat_names.specs.Variables.{Tables}
 use Rattle.varisat.specs.States.{State, Verdict, Unknown, Sat, Unsat, UnsatUnderAssumptions}
-use Rattle.varisat.specs.Names.{name_all, through_names}
-use Rattle.varisat.specs.Calls.{with_naming, assumed_verdict, with_assumptions, with_verdict}
+use Rattle.varisat.specs.Names.{through_names}
+use Rattle.varisat.specs.Calls.{assumed_verdict, with_assumptions, with_verdict}
 use Rattle.varisat.specs.Carried.{carry}
 use Rattle.varisat.specs.Spaces.{Carrying, MarksFit, Links, SpacesFit}
 use Rattle.varisat.specs.Summaries.{Summary, spaces, spaces_of}
-use Rattle.varisat.specs.Accepting.{KeepsNoUnit, AreNamedInTurn, AreTakenFor, AreMarked}
+use Rattle.varisat.specs.Accepting.{AreBack, AreTakenFor, AreMarked}
 use Rattle.varisat.proofs.SpacesMoves.{IsMarkedFor, solver_literal}
 use Rattle.varisat.proofs.AcceptLoad.{assumed}
-use Rattle.varisat.proofs.AcceptClause.{with_tables, HasNoModel, named-all, brought-in, raised}
+use Rattle.varisat.proofs.AcceptClause.{HasNoModel, brought-in, raised}
 use Rattle.varisat.proofs.SolveVerdict.{forgotten, spaces-same}
-use Rattle.varisat.proofs.PlainTables.{named-units, names-keep}
 
 -- 1. Marks.
 
@@ -51,7 +49,7 @@ marks-fit old mid new before list f a b = record {
 -- 2. The verdict.
 
 -- what was found is forgotten, unless it was that the clauses are unsatisfiable
-forgets : (w : Carrying) (g : Summary) (n : State) (sat : SatState) (v : Verdict) → Links w (spaces (record g { sat_state = sat })) (with_verdict v n) → Links w (spaces (record g { sat_state = assumed_state sat })) (with_verdict (assumed_verdict v) n)
+pub forgets : (w : Carrying) (g : Summary) (n : State) (sat : SatState) (v : Verdict) → Links w (spaces (record g { sat_state = sat })) (with_verdict v n) → Links w (spaces (record g { sat_state = assumed_state sat })) (with_verdict (assumed_verdict v) n)
 forgets w g n verdict.Unknown Unknown k = k
 forgets w g n verdict.Sat (Sat a) k = forgotten w (spaces (record g { sat_state = verdict.Sat })) (with_verdict (Sat a) n) k (λ e. let z : Sat a ≡ Unsat = e in cc)
 forgets w g n verdict.Unsat Unsat k = k
@@ -80,11 +78,10 @@ forgotten-cases (UnsatUnderAssumptions core) = inl refl
 -- 3. The list.
 
 -- What assuming a list did, step by step.
-pub record Assuming (g : Summary) (list : List Literal) (named taken cleared marked : Tables) (mid new : View) (parts : AssumptionParts) (after : SatState) : Type 0 where
-  pub no_units : KeepsNoUnit g.tables
+pub record Assuming (g : Summary) (list : List Literal) (taken cleared marked : Tables) (mid new : View) (parts : AssumptionParts) (after : SatState) : Type 0 where
   pub count_before : length g.search.values ≡ length g.tables.solvers.backward
-  pub are_named : AreNamedInTurn list g.tables named
-  pub are_taken : AreTakenFor list named taken
+  pub back : AreBack list g.tables
+  pub are_taken : AreTakenFor list g.tables taken
   pub are_cleared : AreMarked g.assumed.user false taken cleared
   pub are_marked : AreMarked list true cleared marked
   pub seen_mid : search_of mid ≡ search_of g.search
@@ -94,17 +91,13 @@ pub record Assuming (g : Summary) (list : List Literal) (named taken cleared mar
   pub parts_are : parts ≡ newly_assumed list (map (carry (chain (at taken.users.forward) (at taken.solvers.forward))) list)
   pub verdict : after ≡ assumed_state g.sat_state
 
-pub list-assumed : (g : Summary) (s : State) (list : List Literal) (named taken cleared marked : Tables) (mid new : View) (parts : AssumptionParts) (after : SatState) → Assuming g list named taken cleared marked mid new parts after → SpacesFit (spaces g) s →
-    SpacesFit (spaces_of marked new parts after) (with_assumptions (map (through_names (name_all list s.naming)) list) (with_naming (name_all list s.naming) s))
-list-assumed g s list named taken cleared marked mid new parts after t f =
-    let n = with_naming (name_all list s.naming) s in
-    let units = named-units list g.tables named t.no_units t.are_named in
-    let before = t.count_before ∙ ap (λ (m : BiMap). length m.backward) (sym (names-keep list g.tables named t.are_named).solvers) in
-    let (w1, k1) = named-all list g s named f t.are_named in
-    let g2 : Summary = record g { tables = named; sat_state = assumed_state g.sat_state } in
+pub list-assumed : (g : Summary) (n : State) (list : List Literal) (taken cleared marked : Tables) (mid new : View) (parts : AssumptionParts) (after : SatState) → Assuming g list taken cleared marked mid new parts after → SpacesFit (spaces g) n →
+    SpacesFit (spaces_of marked new parts after) (with_assumptions (map (through_names n.naming) list) n)
+list-assumed g n list taken cleared marked mid new parts after t (w1, k1) =
+    let g2 : Summary = record g { sat_state = assumed_state g.sat_state } in
     let n2 = with_verdict (assumed_verdict n.verdict) n in
     let none : HasNoModel g2 = no-model-left g.search g.assumed.failed_core g.sat_state in
-    let (w5, k5) = brought-in list g2 n2 taken mid (w1, forgets w1 (with_tables named g) n g.sat_state n.verdict k1) none units before t.are_taken t.seen_mid t.count in
+    let (w5, k5) = brought-in list g2 n2 taken mid (w1, forgets w1 g n g.sat_state n.verdict k1) none t.back t.count_before t.are_taken t.seen_mid t.count in
     let p5 = spaces (record g2 { tables = taken; search = mid }) in
     let a = t.are_cleared in
     let b = t.are_marked in

@@ -1,20 +1,19 @@
 -- What is true of the maps and of the search once a list was brought in.
-use Rattle.std.proofs.Common.{◌≡◌, ℕ, ◌<◌, Some, true, List, sym, ap, ◌∙◌, length, arith}
+use Rattle.std.proofs.Common.{◌≡◌, ℕ, ◌<◌, Some, true, List, sym, ap, ◌∙◌, subst, length, arith}
 use Rattle.std.specs.Option.{IsSome}
 use Rattle.varisat_theory.specs.Membership.{◌∈◌}
 use Rattle.varisat_theory.specs.Literals.{Literal, variable_of}
 use Rattle.varisat_names.specs.VarBiMap.{BiMap}
 use Rattle.varisat_names.specs.VarMap.{at}
-use Rattle.varisat_names.proofs.Maps.{some-of}
 use Rattle.varisat_names.specs.VarData.{kept_at}
-use Rattle.varisat_names.specs.Variables.{Tables, AreLinked}
+use Rattle.varisat_names.specs.Variables.{Tables}
 use Rattle.varisat_names.proofs.VarMap.{at-inside}
 use Rattle.varisat_search.specs.declared.context.Context.{Context}
 use Rattle.varisat_search.specs.Contexts.{view}
 use Rattle.varisat_search.specs.Decisions.{AreDecidable}
 use Rattle.varisat.specs.Accepting.{AreBroughtIn, IsAssumedSolver}
 use Rattle.varisat.specs.Summaries.{IsKept}
-use Rattle.varisat.proofs.PlainTables.{is-there, names-keep, taken-users, assumed-keeps, assumed-taken, marked-keeps, there-is}
+use Rattle.varisat.proofs.PlainTables.{taken-users, assumed-taken, there-is}
 
 module _ {A : Type 0} {list : List Literal} {old new : Tables} {x y : Context A} {literals : List Literal} (k : IsKept old x) (b : AreBroughtIn list old new x y literals) where
   -- the variables of the literals are those of the search
@@ -30,17 +29,15 @@ module _ {A : Type 0} {list : List Literal} {old new : Tables} {x y : Context A}
   -- the assumptions before are over names in use
   pub still-named : (l : Literal) → l ∈ x.assumptions.user → IsSome (at new.users.forward (variable_of l))
   still-named l h =
-      let (y, e) = some-of (at old.users.forward (variable_of l)) (k.assumed l h) in
-      let users = (taken-users b.are_taken.globals b.named new b.are_taken.in_turn).0 in
-      is-there (at new.users.forward (variable_of l)) y (ap (λ (m : BiMap). at m.forward (variable_of l)) users ∙ (names-keep list old b.named b.are_named).named (variable_of l) y e)
+      let users = (taken-users b.are_taken.globals old new b.are_taken.in_turn).0 in
+      subst (λ (m : BiMap). IsSome (at m.forward (variable_of l))) (sym users) (k.assumed l h)
 
   -- and those by which the search goes over solver variables of names that are assumed
-  pub still-working : AreLinked old → (l : Literal) → l ∈ x.assumptions.working → IsAssumedSolver new (variable_of l)
-  still-working linked l h = assumed-taken b.are_taken.globals b.named new (variable_of l) b.are_taken.in_turn (assumed-keeps old b.named (variable_of l) linked (names-keep list old b.named b.are_named) (k.working l h))
+  pub still-working : (l : Literal) → l ∈ x.assumptions.working → IsAssumedSolver new (variable_of l)
+  still-working l h = assumed-taken b.are_taken.globals old new (variable_of l) b.are_taken.in_turn (k.working l h)
 
   -- and the variables of the assumptions stay marked
-  pub still-marked : AreLinked old → (l : Literal) (z : ℕ) → l ∈ x.assumptions.user → at new.users.forward (variable_of l) ≡ Some z → (kept_at new.kept z).assumed ≡ true
-  still-marked linked l z h f =
-      let (users, kept) = taken-users b.are_taken.globals b.named new b.are_taken.in_turn in
-      let (y, e) = some-of (at old.users.forward (variable_of l)) (k.assumed l h) in
-      ap (λ ds. (kept_at ds z).assumed) kept ∙ marked-keeps old b.named (variable_of l) z y linked (names-keep list old b.named b.are_named) e (k.marked l y h e) (ap (λ (m : BiMap). at m.forward (variable_of l)) (sym users) ∙ f)
+  pub still-marked : (l : Literal) (z : ℕ) → l ∈ x.assumptions.user → at new.users.forward (variable_of l) ≡ Some z → (kept_at new.kept z).assumed ≡ true
+  still-marked l z h f =
+      let (users, kept) = taken-users b.are_taken.globals old new b.are_taken.in_turn in
+      ap (λ ds. (kept_at ds z).assumed) kept ∙ k.marked l z h (ap (λ (m : BiMap). at m.forward (variable_of l)) (sym users) ∙ f)

@@ -1,5 +1,5 @@
--- What stays in the tables where solver variables of hidden variables are dropped in turn.
-use Rattle.std.proofs.Common.{◌≡◌, ◌≢◌, ℕ, ◌<◌, Bool, true, false, if◌then◌else◌, Option, Some, None, List, [], ◌∷◌, ◌++◌, inl, inr, ⊎_elim, length, length-set, get_or, set, map, sym, ap, ◌∙◌, subst, refl, arith}
+-- What stays in the tables where solver variables are dropped in turn.
+use Rattle.std.proofs.Common.{◌≡◌, ◌≢◌, ◌↔◌, ℕ, ◌%◌, ◌<◌, Bool, true, false, IsTrue, Option, Some, None, List, [], ◌∷◌, ◌++◌, inl, inr, ⊎_elim, length, length-set, get_or, set, map, sym, ap, ◌∙◌, subst, refl, arith, eq-eqb, ne_eqb}
 use Rattle.std.proofs.lemmas.List.{get_or-set_same, get_or-set_other}
 use Rattle.varisat_theory.specs.Membership.{◌∈◌, IsDistinct}
 use Rattle.varisat_theory.specs.Literals.{Literal, variable_of}
@@ -9,27 +9,24 @@ use Rattle.varisat_literals.specs.Numbers.{polarity_of}
 use Rattle.varisat_names.specs.Maps.{updated}
 use Rattle.varisat_names.specs.VarMap.{at}
 use Rattle.varisat_names.specs.VarBiMap.{BiMap}
-use Rattle.varisat_names.specs.VarData.{dead, kept_at}
-use Rattle.varisat_names.specs.Variables.{Tables, AreLinked, unused, without_solver}
+use Rattle.varisat_names.specs.VarData.{kept_at}
+use Rattle.varisat_names.specs.Variables.{Tables, AreLinked, IsChangedTo, without_solver}
 use Rattle.varisat_names.specs.declared.variables.data.VarData.{VarData}
 use Rattle.varisat_names.proofs.Maps.{updated-at, updated-other, updated-all}
 use Rattle.varisat_names.proofs.VarMap.{at-inside}
 use Rattle.varisat_names.proofs.Tables.{live-inside}
-use Rattle.varisat.specs.Dropping.{IsDroppedAlone, FlagsVariables, AreDroppedAlone, LeavesTables}
-use Rattle.varisat.proofs.DroppedTables.{IsLeft, AreLeft}
-
-unit-lost : (o : Option ℕ) (d : VarData) → d.unit ≡ None → (without_solver o d).unit ≡ None
-unit-lost o d e = go (unused o d)
-  where
-    go : (b : Bool) → (if b then dead else d).unit ≡ None
-    go true = refl
-    go false = e
+use Rattle.varisat.specs.Dropping.{fixed_to, IsDroppedAlone, FlagsVariables, AreDroppedAlone, LeavesTables}
+use Rattle.varisat.proofs.DroppedTables.{IsLeft, AreLeft, kept-twice}
 
 -- nothing was dropped
 pub leaves-none : (old : Tables) → LeavesTables [] old old
-leaves-none old = record { users = refl; solvers = refl; count = refl; gone = λ v l h. absurd h; stays = λ v n. refl; fewer = λ v x e. e; others = λ x n. refl; units = λ n. n }
+leaves-none old = record { users = refl; solvers = refl; count = refl; gone = λ v l h. absurd h; stays = λ v n. refl; fewer = λ v x e. e; others = λ x n. refl }
 
-pub leaves-one : (l : Literal) (old new : Tables) → AreLinked old → IsDroppedAlone (variable_of l) old new → LeavesTables (l ∷ []) old new
+-- what is kept of a variable is changed twice
+pub changed-twice : (old mid new : Tables) (x : ℕ) (d e : VarData) → IsChangedTo old mid x d → IsChangedTo mid new x e → IsChangedTo old new x e
+changed-twice old mid new x d e a b = record { kept = kept-twice old.kept mid.kept new.kept x d e a.kept b.kept; rest = b.rest ∙ ap (λ (t : Tables). record t { kept = new.kept }) a.rest }
+
+pub leaves-one : (l : Literal) (old new : Tables) → AreLinked old → IsDroppedAlone l old new → LeavesTables (l ∷ []) old new
 leaves-one l old new k (x, mid, c, n) =
     let v = variable_of l in
     let users = ap (λ (t : Tables). t.users) c.rest in
@@ -51,10 +48,7 @@ leaves-one l old new k (x, mid, c, n) =
       fewer = λ u y e. updated-all (λ u o. o ≡ Some y → at old.solvers.backward u ≡ Some y) (at old.solvers.backward) v None (λ q. absurd cc) u (λ _ q. q) (sym (each u) ∙ e);
       others = λ y o.
           let other : y ≡ x → ⊥ = (λ q. o l (inl refl) (pair ∙ ap Some (sym q))) in
-          n.kept.at_each y ∙ updated-other (kept_at mid.kept) x (without_solver (at mid.users.backward x) (kept_at mid.kept x)) y other ∙ c.kept.at_each y ∙ updated-other (kept_at old.kept) x (record (kept_at old.kept x) { isolated = true }) y other;
-      units = λ none y.
-          let before : (z : ℕ) → (kept_at mid.kept z).unit ≡ None = (λ z. ap (λ (d : VarData). d.unit) (c.kept.at_each z) ∙ updated-all (λ z (d : VarData). d.unit ≡ None) (kept_at old.kept) x (record (kept_at old.kept x) { isolated = true }) (none x) z (λ _. none z)) in
-          ap (λ (d : VarData). d.unit) (n.kept.at_each y) ∙ updated-all (λ z (d : VarData). d.unit ≡ None) (kept_at mid.kept) x (without_solver (at mid.users.backward x) (kept_at mid.kept x)) (unit-lost (at mid.users.backward x) (kept_at mid.kept x) (before x)) y (λ _. before y);
+          n.kept.at_each y ∙ updated-other (kept_at mid.kept) x (without_solver (at mid.users.backward x) (kept_at mid.kept x)) y other ∙ c.kept.at_each y ∙ updated-other (kept_at old.kept) x (fixed_to (polarity_of l) (kept_at old.kept x)) y other;
     }
 
 -- one more was dropped
@@ -70,7 +64,6 @@ leaves-then ls l old mid new a b = record {
   stays = λ v n. b.stays v (λ m h. n m (∈-append_right m ls (l ∷ []) h)) ∙ a.stays v (λ m h. n m (∈-append_left m ls (l ∷ []) h));
   fewer = λ v x e. a.fewer v x (b.fewer v x e);
   others = λ x n. b.others x (λ m h e. n m (∈-append_right m ls (l ∷ []) h) (a.fewer (variable_of m) x e)) ∙ a.others x (λ m h. n m (∈-append_left m ls (l ∷ []) h));
-  units = λ n. b.units (a.units n);
 }
   where
     none : (v : ℕ) → ((x : ℕ) → at new.solvers.backward v ≡ Some x → ⊥) → at new.solvers.backward v ≡ None
@@ -80,8 +73,8 @@ leaves-then ls l old mid new a b = record {
         go None e = refl
         go (Some x) e = absurd (n x e)
 
-pub dropped-push : (ls : List Literal) (l : Literal) (old mid new : Tables) → AreDroppedAlone ls old mid → IsDroppedAlone (variable_of l) mid new → AreDroppedAlone (ls ++ l ∷ []) old new
-dropped-push [] l old mid new e d = (new, subst (λ t. IsDroppedAlone (variable_of l) t new) e d, refl)
+pub dropped-push : (ls : List Literal) (l : Literal) (old mid new : Tables) → AreDroppedAlone ls old mid → IsDroppedAlone l mid new → AreDroppedAlone (ls ++ l ∷ []) old new
+dropped-push [] l old mid new e d = (new, subst (λ t. IsDroppedAlone l t new) e d, refl)
 dropped-push (m ∷ ls) l old mid new (t, a, rest) d = (t, a, dropped-push ls l t mid new rest d)
 
 -- as the laws of dropping say it, where the values are fixed
@@ -94,6 +87,11 @@ pub distinct-after : (front : List Literal) (l : Literal) (rest : List Literal) 
 distinct-after [] l rest d m h q = absurd h
 distinct-after (k ∷ front) l rest d m (inl e) q = d.0 (subst (λ v. v ∈ map variable_of (front ++ (l ∷ rest))) (sym q ∙ ap variable_of e) (∈-map variable_of l (front ++ (l ∷ rest)) (∈-append_right l front (l ∷ rest) (inl refl))))
 distinct-after (k ∷ front) l rest d m (inr h) q = distinct-after front l rest d.1 m h q
+
+-- the sign of a literal
+pub sign-same : (l : Literal) (b : Bool) → IsTrue b ↔ (l % 2 ≡ 0) → b ≡ polarity_of l
+sign-same l true p = sym (eq-eqb (l % 2) 0 (p.0 refl))
+sign-same l false p = sym (ne_eqb (l % 2) 0 (λ e. let z : false ≡ true = p.1 e in cc))
 
 -- one more variable is flagged
 pub flags-push : (size : ℕ) (ls : List Literal) (l : Literal) (flags : List Bool) (i : ℕ) → i ≡ variable_of l → i < length flags → FlagsVariables size ls flags → FlagsVariables size (ls ++ l ∷ []) (set flags i true)

@@ -1,12 +1,13 @@
--- A hidden variable whose value is fixed leaves the search for good, and its global variable may be used again.
-use Rattle.std.proofs.Common.{◌≡◌, ℕ, Bool, true, Some, None, inr, sym, ap, ◌∙◌, subst, refl, arith}
+-- A variable whose value is fixed leaves the search, and its value is kept. Where it has no name, its global variable may be used again.
+use Rattle.std.proofs.Common.{◌≡◌, ℕ, Bool, true, false, Some, None, inr, sym, ap, ◌∙◌, subst, refl, arith}
 use Rattle.varisat_theory.specs.Membership.{◌∈◌}
-use Rattle.varisat_theory.specs.Literals.{Literal, Assignment, variable_of, SatisfiesAll}
+use Rattle.varisat_theory.specs.Literals.{Literal, Assignment, variable_of, literal_of, SatisfiesAll}
 use Rattle.varisat_theory.specs.Searches.{Search, clauses_of}
 use Rattle.varisat_theory.specs.Outcomes as outcome
 use Rattle.varisat_theory.proofs.Members.{∈-append_right}
 use Rattle.varisat_theory.proofs.Held.{same_satisfied}
 use Rattle.varisat_literals.specs.Numbers.{polarity_of}
+use Rattle.varisat_search.proofs.StepOutcome.{variable-literal, polarity-literal}
 use Rattle.varisat_names.specs.Maps.{updated, chain}
 use Rattle.varisat_names.specs.VarData.{dead}
 use Rattle.varisat_names.specs.declared.variables.data.VarData.{VarData}
@@ -14,6 +15,7 @@ use Rattle.varisat_names.proofs.Maps.{updated-at, updated-other, updated-all, ch
 use Rattle.varisat.specs.States.{State}
 use Rattle.varisat.specs.Names.{identity_of}
 use Rattle.varisat.specs.Spaces.{Spaces, Carrying, SearchHolds, without_core, translation, Links, SpacesFit}
+use Rattle.varisat.specs.Dropping.{fixed_to}
 use Rattle.varisat.proofs.Carried.{true-value}
 use Rattle.varisat.proofs.SearchHeld.{agrees-through}
 use Rattle.varisat.proofs.SolveVerdict.{maps-same}
@@ -47,10 +49,20 @@ left-recycled w p s v x i t d k at unnamed alone =
       model = λ a e y. refl;
     }) refl (recycled w (leave_search v x t d p) s x i k at unnamed (updated-at p.solver_from_global x None) (ap (λ (a : VarData). a.isolated) (updated-at p.kept x d) ∙ alone))
 
-pub fixed-left : (w : Carrying) (p : Spaces) (s : State) (v x : ℕ) (l : Literal) (t : Search) → Links w p s → p.outcome ≡ outcome.Unknown → p.global_from_solver v ≡ Some x → p.user_from_global x ≡ None → variable_of l ≡ v → l ∈ p.search.proved → IsWithout v (Some (polarity_of l)) p.search t → SpacesFit (leave_all v x t p) s
-fixed-left w p s v x l t k unknown pair unnamed over proved f =
-    let (i, at, c) = k.solvers.live v x pair in
-    let known = Some (polarity_of l) in
-    let d = record (p.kept x) { unit = known; isolated = true } in
-    let sure = (λ (a : Assignment) (m : SatisfiesAll a s.clauses) (b : Bool) (e : Some (polarity_of l) ≡ Some b). let q : polarity_of l ≡ b = cc in proved-value w p s v x i l k unknown pair at over proved a m ∙ q) in
-    left-recycled (record w { forced = updated w.forced i known }) p s v x i t d (left w p s v x i known t k unknown pair at c unnamed f d sure refl (inr (polarity_of l, refl))) at unnamed refl
+-- The variable is not assumed, and its value is fixed at level 0.
+module _ (w : Carrying) (p : Spaces) (s : State) (v x : ℕ) (b : Bool) (t : Search) (k : Links w p s) (unknown : p.outcome ≡ outcome.Unknown) (pair : p.global_from_solver v ≡ Some x) (unassumed : (p.kept x).assumed ≡ false) (f : IsWithout v (Some b) p.search t) where
+  links-left : (i : ℕ) → w.identity x ≡ Some i → i ∈ s.counted → Links (record w { forced = updated w.forced i (Some b) }) (leave_search v x t (fixed_to b (p.kept x)) p) s
+  links-left i at c =
+      let l = literal_of v b in
+      let sure = (λ (a : Assignment) (m : SatisfiesAll a s.clauses) (y : Bool) (e : Some b ≡ Some y). let q : b ≡ y = cc in proved-value w p s v x i l k unknown pair at (variable-literal v b) (f.units b refl) a m ∙ polarity-literal v b ∙ q) in
+      left w p s v x i (Some b) t k unknown pair at c unassumed f (fixed_to b (p.kept x)) sure refl (inr (b, refl))
+
+  -- the global variable stays, with the value
+  pub fixed-stays : SpacesFit (leave_search v x t (fixed_to b (p.kept x)) p) s
+  fixed-stays = let (i, at, c) = k.solvers.live v x pair in (record w { forced = updated w.forced i (Some b) }, links-left i at c)
+
+  -- a hidden one may be used again
+  pub fixed-left : p.user_from_global x ≡ None → SpacesFit (leave_all v x t p) s
+  fixed-left unnamed =
+      let (i, at, c) = k.solvers.live v x pair in
+      left-recycled (record w { forced = updated w.forced i (Some b) }) p s v x i t (fixed_to b (p.kept x)) (links-left i at c) at unnamed refl

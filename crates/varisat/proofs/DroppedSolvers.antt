@@ -1,11 +1,12 @@
 -- A solver variable leaves the search: the links between what is held and the state stay.
-use Rattle.std.proofs.Common.{◌≡◌, ◌≢◌, ℕ, ◌/◌, ◌||◌, nat_eq, Bool, true, false, Option, Some, None, List, [], ◌∷◌, ◌⊎◌, inl, inr, ⊎_elim, sym, ap, ◌∙◌, subst, refl, eq-eqb}
+use Rattle.std.proofs.Common.{◌≡◌, ◌≢◌, ℕ, Bool, true, false, Option, Some, None, ◌++◌, ◌⊎◌, inl, inr, ⊎_elim, sym, ap, ap₂, ◌∙◌, subst, refl}
 use Rattle.varisat_theory.specs.Membership.{◌∈◌}
-use Rattle.varisat_theory.specs.Literals.{Literal, Clause, Assignment, variable_of, literal_of, SatisfiesAll}
-use Rattle.varisat_theory.specs.Held.{mentions, unless, without}
-use Rattle.varisat_theory.specs.Searches.{KeptClause, Search, IsCoveredBySearch, Tautology, KnownTrue, FixedTrue, Kept, IsLiteralOf}
+use Rattle.varisat_theory.specs.Literals.{Literal, Clause, Assignment, variable_of, literal_of, IsUnit, SatisfiesAll}
+use Rattle.varisat_theory.specs.Renaming.{rename}
+use Rattle.varisat_theory.specs.Held.{mentions, without}
+use Rattle.varisat_theory.specs.Searches.{KeptClause, Search, clauses_of, IsCoveredBySearch, Tautology, KnownTrue, FixedTrue, Kept, IsLiteralOf}
 use Rattle.varisat_theory.specs.Outcomes as outcome
-use Rattle.varisat_theory.proofs.Members.{equal_or_not}
+use Rattle.varisat_theory.proofs.Members.{equal_or_not, ∈-append_left, ∈-append_right}
 use Rattle.varisat_theory.proofs.Renaming.{∈-map, map-∈}
 use Rattle.varisat_theory.proofs.HeldDrops.{without_less}
 use Rattle.varisat_theory.proofs.StepDrops.{variable_is_dropped}
@@ -17,44 +18,24 @@ use Rattle.varisat_names.specs.declared.variables.data.VarData.{VarData}
 use Rattle.varisat_names.proofs.Maps.{updated-at, updated-other, updated-all, parted, chain-some, chain-none, chain-through}
 use Rattle.varisat.specs.States.{State}
 use Rattle.varisat.specs.Carried.{carry, AgreesAlong, is_value, is_forced}
-use Rattle.varisat.specs.Spaces.{Spaces, Carrying, UnitsFit, IsolationCase, NotIsolated, Apart, Forced, IsolationFits, AssumptionsFit, Translation, SearchHolds, without_core, translation, Links}
-use Rattle.varisat.proofs.Carried.{carry-at, carry-sign, forced-value}
+use Rattle.varisat.specs.Spaces.{Spaces, Carrying, UnitsFit, IsolationCase, NotIsolated, Apart, Forced, IsolationFits, AssumptionsFit, Translation, IsReachedWithForgotten, SearchHolds, without_core, translation, Links}
+use Rattle.varisat.proofs.Carried.{carry-at, carry-sign, literal-parts, forced-value}
 use Rattle.varisat.proofs.SpacesAgree.{identities-same, modes-same, marks-same, working-same, carry-same, value-same}
 use Rattle.varisat.proofs.VariableMoves.{leave_search}
 use Rattle.varisat.proofs.Hiding.{field-same, identity-named}
+use Rattle.varisat.proofs.ReachedHeld.{left-apart, only, reached-apart}
+use Rattle.varisat.proofs.ForgottenWith.{not-over, unit-forgotten}
 
--- The search t is s without the variable, which no kept clause mentions. `known` is the value that it has at level 0.
+-- The search t is s without the variable, which no kept clause mentions. `known` is the value that it has at level 0, which is held as a unit clause.
 pub record IsWithout (v : ℕ) (known : Option Bool) (s t : Search) : Type 0 where
   pub kept : t.kept ≡ s.kept
   pub unmentioned : (k : KeptClause) → k ∈ s.kept → mentions v k.clause ≡ false
   pub stays : (l : Literal) → l ∈ s.fixed → (l ∈ t.fixed) ⊎ ((variable_of l ≡ v) × (known ≡ Some (polarity_of l)))
   pub fixed : (l : Literal) → l ∈ t.fixed → (l ∈ s.fixed) × (variable_of l ≢ v)
   pub proved : (l : Literal) → l ∈ t.proved → (l ∈ s.proved) × (variable_of l ≢ v)
+  pub units : (b : Bool) → known ≡ Some b → literal_of v b ∈ s.proved
 
--- 1. Clauses that don't mention the variable.
-
-or-true : (b : Bool) → (b || true) ≡ true
-or-true true = refl
-or-true false = refl
-
-mentioned : (v : ℕ) (c : Clause) (l : Literal) → l ∈ c → variable_of l ≡ v → mentions v c ≡ true
-mentioned v [] l h e = absurd h
-mentioned v (m ∷ c) l (inl q) e = ap (λ b. b || mentions v c) (eq-eqb (m / 2) v (ap variable_of (sym q) ∙ e))
-mentioned v (m ∷ c) l (inr h) e = ap (λ b. nat_eq (m / 2) v || b) (mentioned v c l h e) ∙ or-true (nat_eq (m / 2) v)
-
-not-over : (v : ℕ) (c : Clause) (l : Literal) → mentions v c ≡ false → l ∈ c → variable_of l ≢ v
-not-over v c l n h e = let z : true ≡ false = sym (mentioned v c l h e) ∙ n in cc
-
-left-unmentioned : (v : ℕ) (P : List Clause) (c : Clause) → c ∈ without v P → mentions v c ≡ false
-left-unmentioned v [] c h = absurd h
-left-unmentioned v (d ∷ P) c h = go (mentions v d) refl h (left-unmentioned v P c)
-  where
-    go : (b : Bool) → mentions v d ≡ b → c ∈ unless b d (without v P) → (c ∈ without v P → mentions v c ≡ false) → mentions v c ≡ false
-    go true e i f = f i
-    go false e (inl q) f = ap (mentions v) q ∙ e
-    go false e (inr i) f = f i
-
--- 2. Values that are forced.
+-- 1. Values that are forced.
 
 forced-true : (forced : ℕ → Option Bool) (l : Literal) → forced (variable_of l) ≡ Some (polarity_of l) → is_forced forced l ≡ true
 forced-true forced l e = ap (λ o. is_value o (polarity_of l)) e ∙ own (polarity_of l)
@@ -63,10 +44,10 @@ forced-true forced l e = ap (λ o. is_value o (polarity_of l)) e ∙ own (polari
     own true = refl
     own false = refl
 
--- 3. The links.
+-- 2. The links.
 
--- The variable has no name. Its value at level 0, if it has one, is forced from then on, and then the global variable may be isolated.
-module _ (w : Carrying) (p : Spaces) (s : State) (v x i : ℕ) (known : Option Bool) (t : Search) (k : Links w p s) (unknown : p.outcome ≡ outcome.Unknown) (pair : p.global_from_solver v ≡ Some x) (at : w.identity x ≡ Some i) (is-counted : i ∈ s.counted) (unnamed : p.user_from_global x ≡ None) (f : IsWithout v known p.search t) where
+-- The variable is not assumed. Its value at level 0, if it has one, is forced from then on, and then the global variable may be isolated.
+module _ (w : Carrying) (p : Spaces) (s : State) (v x i : ℕ) (known : Option Bool) (t : Search) (k : Links w p s) (unknown : p.outcome ≡ outcome.Unknown) (pair : p.global_from_solver v ≡ Some x) (at : w.identity x ≡ Some i) (is-counted : i ∈ s.counted) (unassumed : (p.kept x).assumed ≡ false) (f : IsWithout v known p.search t) where
   to : ℕ → Option ℕ
   to = chain p.global_from_solver w.identity
 
@@ -77,7 +58,7 @@ module _ (w : Carrying) (p : Spaces) (s : State) (v x i : ℕ) (known : Option B
   forced' = updated w.forced i known
 
   r' : Translation
-  r' = record { identity = to'; solver = chain w.global (updated p.solver_from_global x None); forced = forced'; hidden = s.ever_hidden }
+  r' = record { identity = to'; forced = forced'; hidden = s.ever_hidden }
 
   h : SearchHolds s.clauses (translation w p s.ever_hidden) p.search outcome.Unknown
   h = subst (SearchHolds s.clauses (translation w p s.ever_hidden) p.search) (ap without_core unknown) k.holds
@@ -108,12 +89,9 @@ module _ (w : Carrying) (p : Spaces) (s : State) (v x i : ℕ) (known : Option B
       let z : Some u ≡ Some v = sym (k.solvers.one_to_one.back y u a) ∙ ap p.solver_from_global (same-variable y (b ∙ ap Some q)) ∙ k.solvers.one_to_one.back x v pair in
       n cc
 
-  -- no name leads to the global variable, so something was hidden, and no assumption is over the variable
-  named-other : (u y : ℕ) → p.global_from_user u ≡ Some y → y ≡ x → ⊥
-  named-other u y e q = let z : None ≡ Some u = sym unnamed ∙ ap p.user_from_global (sym q) ∙ k.names.one_to_one.there u y e in cc
-
-  was-hidden : s.ever_hidden ≡ false → ⊥
-  was-hidden e = let z : true ≡ false = sym (k.shown e x unnamed) ∙ k.identities.live x i at in cc
+  -- a marked variable is another one, so no assumption is over the variable
+  assumed-other : (g : Literal) (y : ℕ) → g ∈ p.assumptions → p.global_from_user (variable_of g) ≡ Some y → y ≡ x → ⊥
+  assumed-other g y m e q = let z : true ≡ false = sym (k.marks.marked g y m e) ∙ ap (λ z. (p.kept z).assumed) q ∙ unassumed in cc
 
   not-working : (l : Literal) → l ∈ p.working → variable_of l ≡ v → ⊥
   unfolding to
@@ -123,7 +101,7 @@ module _ (w : Carrying) (p : Spaces) (s : State) (v x i : ℕ) (known : Option B
       let (y, y-is, z) = chain-through p.global_from_user p.solver_from_global (variable_of g) q a in
       let (j, j-is, named) = identity-named w p s (variable_of g) y k y-is in
       let same : i ≡ j = sym (carry-at to l i (ap to e ∙ to-at)) ∙ ap variable_of c ∙ carry-at s.naming.names g j named in
-      named-other (variable_of g) y y-is (same-variable y (j-is ∙ ap Some (sym same)))
+      assumed-other g y b y-is (same-variable y (j-is ∙ ap Some (sym same)))
 
   -- what was forced stays so: it was fixed
   pub still-forced : (b : Bool) → w.forced i ≡ Some b → known ≡ Some b
@@ -166,6 +144,44 @@ module _ (w : Carrying) (p : Spaces) (s : State) (v x i : ℕ) (known : Option B
   agrees-with : (a b : Assignment) → AgreesAlong to' a b → AgreesAlong to a (updated b v (a i))
   agrees-with a b g u j = updated-all (λ u y. to u ≡ Some j → y ≡ a j) b v (a i) (λ e. let z : Some i ≡ Some j = sym to-at ∙ e in let q : i ≡ j = cc in ap a q) u (λ n e. g u j (to-other u n ∙ e))
 
+  -- An identity that has no solver variable now had none before, unless it is that of the variable.
+  none-before : (j : ℕ) → (j ≡ i → ⊥) → ((u : ℕ) → to' u ≢ Some j) → (u : ℕ) → to u ≢ Some j
+  none-before j n none u e =
+      ⊎_elim
+      (λ q. let z : Some i ≡ Some j = sym to-at ∙ ap to (sym q) ∙ e in n (let y : j ≡ i = cc in y))
+      (λ o. none u (to-other u o ∙ e))
+      (equal_or_not u v)
+
+  -- the unit clause of the variable, read by the old map, is that of its identity
+  unit-literal : (b : Bool) → carry to (literal_of v b) ≡ literal_of i b
+  unit-literal b =
+      let l = literal_of v b in
+      sym (literal-parts (carry to l)) ∙ ap₂ literal_of (carry-at to l i (ap to (variable-literal v b) ∙ to-at)) (carry-sign to l ∙ polarity-literal v b)
+
+  unit-of : (b : Bool) → known ≡ Some b → (c : Clause) × (c ∈ rename (carry to) (only v h.held)) × IsUnit (literal_of i b) c
+  unit-of b e =
+      let l = literal_of v b in
+      let (d, a, u) = h.holds.units l (f.units b e) in
+      let (c, y, z) = unit-forgotten (carry to) l h.held (clauses_of p.search.kept ++ h.holds.others) d h.holds.same (∈-append_right d (clauses_of p.search.kept) h.holds.others a) u in
+      (c, subst (λ n. c ∈ rename (carry to) (only n h.held)) (variable-literal v b) y, subst (λ m. IsUnit m c) (unit-literal b) z)
+
+  -- the clauses that mention the variable join those that were forgotten
+  forgotten-on : s.ever_hidden ≡ false → IsReachedWithForgotten s.clauses r' (without v h.held)
+  unfolding to to' forced' r'
+  forgotten-on hidden =
+      let before = h.proved hidden in
+      let gone = rename (carry to) (only v h.held) in
+      record {
+        forgotten = gone ++ before.forgotten;
+        reached = reached-apart s.clauses (translation w p s.ever_hidden) r' v h.held to-other before;
+        units = λ j b e none.
+            ⊎_elim
+            (λ q. let (c, a, u) = unit-of b (sym (updated-at w.forced i known) ∙ ap forced' (sym q) ∙ e) in
+            (c, ∈-append_left c gone before.forgotten a, subst (λ n. IsUnit (literal_of n b) c) (sym q) u))
+            (λ n. let (c, a, u) = before.units j b (sym (updated-other w.forced i known j n) ∙ e) (none-before j n none) in (c, ∈-append_right c gone before.forgotten a, u))
+            (equal_or_not j i);
+      }
+
   -- All assignments agree on the value, and what is kept of the global variable tells it.
   module _ (d : VarData) (sure : (a : Assignment) → SatisfiesAll a s.clauses → (b : Bool) → known ≡ Some b → a i ≡ b) (told : d ≡ record (p.kept x) { unit = known; isolated = d.isolated }) (alone : (d.isolated ≡ (p.kept x).isolated) ⊎ ((b : Bool) × (known ≡ Some b))) where
     kept' : ℕ → VarData
@@ -187,7 +203,7 @@ module _ (w : Carrying) (p : Spaces) (s : State) (v x i : ℕ) (known : Option B
       within = λ l a. let (j, e) = h.within l (literal-before l a) in (j, to-other (variable_of l) (literal-other l a) ∙ e);
       implied = λ a b m g c e.
           let (l, y, z) = h.implied a (updated b v (a i)) m (agrees-with a b g) c (without_less v h.held c e) in
-          (l, y, value-same b (updated b v (a i)) l (sym (updated-other b v (a i) (variable_of l) (not-over v c l (left-unmentioned v h.held c e) y))) ∙ z);
+          (l, y, value-same b (updated b v (a i)) l (sym (updated-other b v (a i) (variable_of l) (left-apart v h.held c l e y))) ∙ z);
       known = λ a m j b. updated-all (λ j o. o ≡ Some b → a j ≡ b) w.forced i known (sure a m b) j (λ n e. h.known a m j b e);
       fixed = λ n l j e z.
           let before = to-before (variable_of l) j e in
@@ -197,8 +213,7 @@ module _ (w : Carrying) (p : Spaces) (s : State) (v x i : ℕ) (known : Option B
           (λ l a. ⊎_elim inl (λ (q, z). inr (fixed-forced l q z)) (f.stays l a))
           (λ l e. forced-true forced' l (forced-on (variable_of l) (polarity_of l) (forced-value w.forced l e)))
           (h.covered n) c e);
-      taken = λ z. absurd (was-hidden z);
-      reached = λ z. absurd (was-hidden z);
+      proved = forgotten-on;
     }
 
     units-on : UnitsFit w.identity forced' kept' s.counted
@@ -236,7 +251,7 @@ module _ (w : Carrying) (p : Spaces) (s : State) (v x i : ℕ) (known : Option B
       taken = λ l m.
           let (q, a) = k.assumptions.taken l m in
           let (y, e, z) = chain-through p.global_from_user p.solver_from_global (variable_of l) q a in
-          (q, chain-some p.global_from_user (updated p.solver_from_global x None) (variable_of l) y e ∙ updated-other p.solver_from_global x None y (named-other (variable_of l) y e) ∙ z);
+          (q, chain-some p.global_from_user (updated p.solver_from_global x None) (variable_of l) y e ∙ updated-other p.solver_from_global x None y (assumed-other l y m e) ∙ z);
     }
 
     pub left : Links (record w { forced = updated w.forced i known }) (leave_search v x t d p) s

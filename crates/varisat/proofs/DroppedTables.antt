@@ -1,5 +1,5 @@
--- Hidden variables leave the search in turn: what that does to the tables, said of the states.
-use Rattle.std.proofs.Common.{◌≡◌, ◌≢◌, ℕ, nat_eq, not, Bool, true, false, Option, Some, None, List, [], ◌∷◌, ◌++◌, ◌⊎◌, inl, inr, ⊎_elim, length, sym, ap, ◌∙◌, subst, refl, arith, eq-eqb, ne_eqb}
+-- Variables leave the search in turn: what that does to the tables, said of the states.
+use Rattle.std.proofs.Common.{◌≡◌, ◌≢◌, ℕ, nat_eq, not, if◌then◌else◌, Bool, true, false, Option, Some, None, List, [], ◌∷◌, ◌++◌, ◌⊎◌, inl, inr, ⊎_elim, length, sym, ap, ap₂, ◌∙◌, subst, refl, arith, eq-eqb, ne_eqb}
 use Rattle.std.specs.List.{filter}
 use Rattle.varisat_theory.specs.Membership.{◌∈◌}
 use Rattle.varisat_theory.specs.Literals.{Literal, Clause, variable_of, literal_of}
@@ -14,34 +14,31 @@ use Rattle.varisat_prop.proofs.SimplifiedPairs.{filter-∈, ∈-filter}
 use Rattle.varisat_search.specs.AssumptionParts.{AssumptionParts}
 use Rattle.varisat_search.specs.Seen.{search_of}
 use Rattle.varisat_search.specs.declared.state.SatState.TheVariants as verdict
-use Rattle.varisat_search.proofs.StepOutcome.{variable-literal, polarity-literal}
+use Rattle.varisat_search.proofs.StepOutcome.{variable-literal}
 use Rattle.varisat_names.specs.Maps.{updated}
 use Rattle.varisat_names.specs.VarMap.{at}
-use Rattle.varisat_names.specs.VarBiMap.{BiMap}
+use Rattle.varisat_names.specs.VarBiMap.{BiMap, IsParted}
 use Rattle.varisat_names.specs.VarData.{dead, kept_at, IsKeptAs}
-use Rattle.varisat_names.specs.Variables.{Tables, IsChangedTo, without_solver, IsDropped}
+use Rattle.varisat_names.specs.Variables.{Tables, IsChangedTo, unused, without_solver, IsDropped}
 use Rattle.varisat_names.specs.declared.variables.data.VarData.{VarData}
 use Rattle.varisat_names.proofs.Maps.{updated-at, updated-other, updated-all}
 use Rattle.varisat.specs.States.{State}
 use Rattle.varisat.specs.Carried.{carry, is_forced}
 use Rattle.varisat.specs.Spaces.{Spaces, Carrying, Translation, SearchHolds, translation, Links, SpacesFit}
 use Rattle.varisat.specs.Summaries.{spaces_of}
+use Rattle.varisat.specs.Dropping.{fixed_to}
 use Rattle.varisat.proofs.SpacesMoves.{with_search}
 use Rattle.varisat.proofs.SolveVerdict.{maps-same, spaces-same}
 use Rattle.varisat.proofs.KeptCounts.{kept-most}
 use Rattle.varisat.proofs.Relinked.{relinked}
 use Rattle.varisat.proofs.VariableMoves.{leave_search, leave_all}
 use Rattle.varisat.proofs.DroppedSolvers.{IsWithout}
-use Rattle.varisat.proofs.DroppedFixed.{fixed-left}
+use Rattle.varisat.proofs.DroppedFixed.{fixed-stays, fixed-left}
 use Rattle.varisat.proofs.DroppedApart.{apart-left, apart-recycled}
 
--- what is kept of a variable, which is isolated from now on
-abbrev pub in_isolation : VarData → VarData
-in_isolation d = record d { isolated = true }
-
--- The solver variable was dropped. Before that its global variable was isolated, where its value is fixed.
+-- The solver variable was dropped. Before that its global variable was kept with its value and as isolated, where the value is fixed.
 abbrev pub IsLeft : Option Bool → Tables → Tables → ℕ → Type 0
-IsLeft (Some b) old new v = (x : ℕ) × (mid : Tables) × IsChangedTo old mid x (in_isolation (kept_at old.kept x)) × IsDropped mid new x v
+IsLeft (Some b) old new v = (x : ℕ) × (mid : Tables) × IsChangedTo old mid x (fixed_to b (kept_at old.kept x)) × IsDropped mid new x v
 IsLeft None old new v = (x : ℕ) × IsDropped old new x v
 
 -- The solver variables were dropped in turn. `known` tells which values are fixed.
@@ -64,65 +61,79 @@ pub record AreWithout (known : ℕ → Option Bool) (vs : List ℕ) (s t : Searc
 abbrev pub between : Tables → View → AssumptionParts → Search → Spaces
 between t search assumed u = with_search u outcome.Unknown (spaces_of t search assumed verdict.Unknown)
 
-kept-live : (old : List VarData) (new : List VarData) (x : ℕ) (d : VarData) → IsKeptAs old x d new → d.deleted ≡ (kept_at old x).deleted → (kept_at new x).deleted ≡ (kept_at old x).deleted
-kept-live old new x d k e = ap (λ (a : VarData). a.deleted) (k.at_each x ∙ updated-at (kept_at old) x d) ∙ e
+-- The global variable x has its solver variable v no longer, and d is kept of it.
+record LosesSolver (old new : Tables) (x v : ℕ) (d : VarData) : Type 0 where
+  taken : at old.solvers.backward v ≡ Some x
+  users : new.users ≡ old.users
+  solvers : IsParted old.solvers new.solvers x v
+  kept : IsKeptAs old.kept x d new.kept
 
--- what is kept of a variable without a name that loses its solver variable
-lost : (o : Option ℕ) (d : VarData) (b : Bool) → o ≡ None → d.isolated ≡ b → without_solver o d ≡ without_solver None (record d { isolated = b })
-lost o d b e q = ap (λ m. without_solver m d) e ∙ ap (λ c. without_solver None (record d { isolated = c })) q
+-- what is kept of a variable that leaves, by its value
+abbrev with_known : Option Bool → VarData → VarData
+with_known None d = d
+with_known (Some b) d = fixed_to b d
 
-module _ (old new : Tables) (search : View) (assumed : AssumptionParts) (s : State) (u t : Search) (x v : ℕ) (w : Carrying) (k : Links w (between old search assumed u) s) (unnamed : at old.users.backward x ≡ None) where
-  live : at old.solvers.backward v ≡ Some x → (kept_at old.kept x).deleted ≡ false
-  live e = let (i, is, c) = k.solvers.live v x e in k.identities.live x i is
+-- what is kept of a variable is changed twice
+pub kept-twice : (old mid new : List VarData) (x : ℕ) (d e : VarData) → IsKeptAs old x d mid → IsKeptAs mid x e new → IsKeptAs old x e new
+kept-twice old mid new x d e a b =
+    let first = a.count in
+    let second = b.count in
+    record {
+      count = omega (arith, first, second);
+      at_each = λ y. b.at_each y ∙ updated-all (λ y o. o ≡ updated (kept_at old) x e y) (kept_at mid) x e (sym (updated-at (kept_at old) x e)) y (λ n. a.at_each y ∙ updated-other (kept_at old) x d y n ∙ sym (updated-other (kept_at old) x e y n));
+    }
 
-  -- the global variable was isolated, and may be used again
-  fixed-gone : (l : Literal) (mid : Tables) → variable_of l ≡ v → l ∈ u.proved → IsWithout v (Some (polarity_of l)) u t → IsChangedTo old mid x (in_isolation (kept_at old.kept x)) → IsDropped mid new x v → SpacesFit (between new search assumed t) s
-  fixed-gone l mid over proved f c n =
-      let p = between old search assumed u in
-      let users = n.users ∙ ap (λ (a : Tables). a.users) c.rest in
-      let solvers = ap (λ (a : Tables). a.solvers) c.rest in
-      let pair = ap (λ (b : BiMap). at b.backward v) (sym solvers) ∙ n.taken in
-      let before = kept_at old.kept x in
-      let unnamed-mid = ap (λ (a : Tables). at a.users.backward x) c.rest ∙ unnamed in
-      let alone = ap (λ (a : VarData). a.isolated) (c.kept.at_each x ∙ updated-at (kept_at old.kept) x (in_isolation before)) in
-      let gone = subst (λ d. IsKeptAs mid.kept x d new.kept) (lost (at mid.users.backward x) (kept_at mid.kept x) true unnamed-mid alone) n.kept in
-      let first = kept-most old.kept mid.kept x (in_isolation before) (live pair) c.kept in
-      let second = kept-most mid.kept new.kept x dead (kept-live old.kept mid.kept x (in_isolation before) c.kept refl ∙ live pair) gone in
-      maps-same (leave_all v x t p) (between new search assumed t) s (record {
-        global_from_user = λ y. ap (λ (b : BiMap). at b.forward y) users;
-        user_from_global = λ y. ap (λ (b : BiMap). at b.backward y) users;
-        watermark = ap (λ (b : BiMap). length b.forward) users;
-        globals = omega (arith, first, second);
-        solver_from_global = λ y. n.solvers.forward.at_each y ∙ ap (λ (b : BiMap). updated (at b.forward) x None y) solvers;
-        global_from_solver = λ y. n.solvers.backward.at_each y ∙ ap (λ (b : BiMap). updated (at b.backward) v None y) solvers;
-        kept = λ y. gone.at_each y ∙ updated-all (λ y a. updated (kept_at mid.kept) x dead y ≡ a) (kept_at old.kept) x dead (updated-at (kept_at mid.kept) x dead) y (λ m. updated-other (kept_at mid.kept) x dead y m ∙ c.kept.at_each y ∙ updated-other (kept_at old.kept) x (in_isolation before) y m);
+-- what dropping a solver variable does to the tables, whether its value is fixed or not
+loses : (known : Option Bool) (old new : Tables) (v : ℕ) → IsLeft known old new v → (x : ℕ) × LosesSolver old new x v (without_solver (at old.users.backward x) (with_known known (kept_at old.kept x)))
+loses None old new v (x, n) = (x, record { taken = n.taken; users = n.users; solvers = n.solvers; kept = n.kept })
+loses (Some b) old new v (x, mid, c, n) =
+    let d = fixed_to b (kept_at old.kept x) in
+    let users = ap (λ (t : Tables). t.users) c.rest in
+    let solvers = ap (λ (t : Tables). t.solvers) c.rest in
+    let after = ap₂ without_solver (ap (λ (m : BiMap). at m.backward x) users) (c.kept.at_each x ∙ updated-at (kept_at old.kept) x d) in (
+      x,
+      record {
+        taken = ap (λ (m : BiMap). at m.backward v) (sym solvers) ∙ n.taken;
+        users = n.users ∙ users;
+        solvers = subst (λ m. IsParted m new.solvers x v) solvers n.solvers;
+        kept = kept-twice old.kept mid.kept new.kept x d (without_solver (at old.users.backward x) d) c.kept (subst (λ d. IsKeptAs mid.kept x d new.kept) after n.kept);
+      },
+    )
+
+module _ (old new : Tables) (search : View) (assumed : AssumptionParts) (s : State) (u t : Search) (x v : ℕ) (d : VarData) (w : Carrying) (k : Links w (between old search assumed u) s) where
+  -- whatever is kept of the variable
+  moved : (e : VarData) (m : ℕ → Bool) → LosesSolver old new x v e → SpacesFit (record (leave_search v x t e (between old search assumed u)) { model = m }) s → SpacesFit (between new search assumed t) s
+  moved e m n f =
+      let live : (kept_at old.kept x).deleted ≡ false = (let (i, is, c) = k.solvers.live v x n.taken in k.identities.live x i is) in
+      maps-same (record (leave_search v x t e (between old search assumed u)) { model = m }) (between new search assumed t) s (record {
+        global_from_user = λ y. ap (λ (b : BiMap). at b.forward y) n.users;
+        user_from_global = λ y. ap (λ (b : BiMap). at b.backward y) n.users;
+        watermark = ap (λ (b : BiMap). length b.forward) n.users;
+        globals = kept-most old.kept new.kept x e live n.kept;
+        solver_from_global = n.solvers.forward.at_each;
+        global_from_solver = n.solvers.backward.at_each;
+        kept = n.kept.at_each;
         model = λ a e y. absurd (let z : outcome.Unknown ≡ outcome.Sat a = e in cc);
-      }) refl (fixed-left w p s v x l t k refl pair unnamed over proved f)
+      }) refl f
 
-  -- the global variable may be used again where it is isolated, and else stays hidden
-  apart-gone : IsWithout v None u t → IsDropped old new x v → SpacesFit (between new search assumed t) s
-  apart-gone f n = go (kept_at old.kept x).isolated refl
+  -- Where it has no name and is isolated it may be used again, and else it stays.
+  gone : LosesSolver old new x v (without_solver (at old.users.backward x) d) → SpacesFit (leave_search v x t d (between old search assumed u)) s → (at old.users.backward x ≡ None → d.isolated ≡ true → SpacesFit (leave_all v x t (between old search assumed u)) s) → SpacesFit (between new search assumed t) s
+  gone n stays recycled = go (at old.users.backward x) d.isolated refl refl
     where
-      keeps : (d : VarData) (q : Spaces) → IsKeptAs old.kept x d new.kept → SpacesFit (record (leave_search v x t d (between old search assumed u)) { model = q.model }) s → SpacesFit (between new search assumed t) s
-      keeps d q c f =
-          maps-same (record (leave_search v x t d (between old search assumed u)) { model = q.model }) (between new search assumed t) s (record {
-            global_from_user = λ y. ap (λ (b : BiMap). at b.forward y) n.users;
-            user_from_global = λ y. ap (λ (b : BiMap). at b.backward y) n.users;
-            watermark = ap (λ (b : BiMap). length b.forward) n.users;
-            globals = kept-most old.kept new.kept x d (live n.taken) c;
-            solver_from_global = n.solvers.forward.at_each;
-            global_from_solver = n.solvers.backward.at_each;
-            kept = c.at_each;
-            model = λ a e y. absurd (let z : outcome.Unknown ≡ outcome.Sat a = e in cc);
-          }) refl f
+      go : (o : Option ℕ) (b : Bool) → at old.users.backward x ≡ o → d.isolated ≡ b → SpacesFit (between new search assumed t) s
+      go (Some y) b e q = moved d (between old search assumed u).model (subst (λ o. LosesSolver old new x v (without_solver o d)) e n) stays
+      go None true e q = moved dead (leave_all v x t (between old search assumed u)).model (subst (λ c. LosesSolver old new x v (if c then dead else d)) q (subst (λ o. LosesSolver old new x v (without_solver o d)) e n)) (recycled e q)
+      go None false e q = moved d (between old search assumed u).model (subst (λ c. LosesSolver old new x v (if c then dead else d)) q (subst (λ o. LosesSolver old new x v (without_solver o d)) e n)) stays
 
-      go : (b : Bool) → (kept_at old.kept x).isolated ≡ b → SpacesFit (between new search assumed t) s
-      go true e =
-          let p = between old search assumed u in
-          keeps dead (leave_all v x t p) (subst (λ d. IsKeptAs old.kept x d new.kept) (lost (at old.users.backward x) (kept_at old.kept x) true unnamed e) n.kept) (apart-recycled w p s v x t k refl n.taken unnamed e f)
-      go false e =
-          let p = between old search assumed u in
-          keeps (kept_at old.kept x) p (subst (λ d. IsKeptAs old.kept x d new.kept) (lost (at old.users.backward x) (kept_at old.kept x) false unnamed e ∙ ap (λ b. record (kept_at old.kept x) { isolated = b }) (sym e)) n.kept) (apart-left w p s v x t k refl n.taken unnamed f)
+one-left : (known : Option Bool) (v : ℕ) (old new : Tables) (search : View) (assumed : AssumptionParts) (s : State) (u t : Search) → IsLeft known old new v → IsWithout v known u t → ((x : ℕ) → at old.solvers.backward v ≡ Some x → (kept_at old.kept x).assumed ≡ false) → SpacesFit (between old search assumed u) s → SpacesFit (between new search assumed t) s
+one-left (Some b) v old new search assumed s u t a f free (w, k) =
+    let (x, n) = loses (Some b) old new v a in
+    let p = between old search assumed u in
+    gone old new search assumed s u t x v (fixed_to b (kept_at old.kept x)) w k n (fixed-stays w p s v x b t k refl n.taken (free x n.taken) f) (λ e q. fixed-left w p s v x b t k refl n.taken (free x n.taken) f e)
+one-left None v old new search assumed s u t a f free (w, k) =
+    let (x, n) = loses None old new v a in
+    let p = between old search assumed u in
+    gone old new search assumed s u t x v (kept_at old.kept x) w k n (apart-left w p s v x t k refl n.taken (free x n.taken) f) (λ e q. apart-recycled w p s v x t k refl n.taken (free x n.taken) e q f)
 
 -- 2. Several in turn.
 
@@ -153,6 +164,7 @@ without-first known v vs s t f = record {
       (equal_or_not (variable_of l) v);
   fixed = of-left v s.fixed;
   proved = of-left v s.proved;
+  units = λ b e. f.units v b (inl refl) e;
 }
 
 without-others : (known : ℕ → Option Bool) (v : ℕ) (vs : List ℕ) (s t : Search) → (v ∈ vs → ⊥) → AreWithout known (v ∷ vs) s t → AreWithout known vs (forget_variable v s) t
@@ -167,40 +179,32 @@ without-others known v vs s t once f = record {
   units = λ u b i e. left-out v s.proved (literal_of u b) (f.units u b (inr i) e) (λ q. once (subst (λ z. z ∈ vs) (sym (variable-literal u b) ∙ q) i));
 }
 
--- What dropping a solver variable does to the maps, whether its value is fixed or not.
-record LosesPair (old new : Tables) (v : ℕ) : Type 0 where
-  global : ℕ
-  taken : at old.solvers.backward v ≡ Some global
-  after : (u : ℕ) → at new.solvers.backward u ≡ updated (at old.solvers.backward) v None u
-  users : new.users ≡ old.users
-
-loses-pair : (known : Option Bool) (old new : Tables) (v : ℕ) → IsLeft known old new v → LosesPair old new v
-loses-pair (Some b) old new v (x, mid, c, n) =
-    let solvers = ap (λ (a : Tables). a.solvers) c.rest in
-    record {
-      global = x;
-      taken = ap (λ (m : BiMap). at m.backward v) (sym solvers) ∙ n.taken;
-      after = λ u. n.solvers.backward.at_each u ∙ ap (λ (m : BiMap). updated (at m.backward) v None u) solvers;
-      users = n.users ∙ ap (λ (a : Tables). a.users) c.rest;
-    }
-loses-pair None old new v (x, n) = record { global = x; taken = n.taken; after = n.solvers.backward.at_each; users = n.users }
-
 -- a pair that is left was there before, and is of another variable
-pair-before : (old new : Tables) (v u x : ℕ) → LosesPair old new v → at new.solvers.backward u ≡ Some x → (at old.solvers.backward u ≡ Some x) × (u ≡ v → ⊥)
-pair-before old new v u x p e =
-    updated-all (λ u o. o ≡ Some x → (at old.solvers.backward u ≡ Some x) × (u ≡ v → ⊥)) (at old.solvers.backward) v None (λ q. absurd cc) u (λ n q. (q, n)) (sym (p.after u) ∙ e)
+pair-before : (old new : Tables) (v u x y : ℕ) (d : VarData) → LosesSolver old new y v d → at new.solvers.backward u ≡ Some x → (at old.solvers.backward u ≡ Some x) × (u ≡ v → ⊥)
+pair-before old new v u x y d p e =
+    updated-all (λ u o. o ≡ Some x → (at old.solvers.backward u ≡ Some x) × (u ≡ v → ⊥)) (at old.solvers.backward) v None (λ q. absurd cc) u (λ n q. (q, n)) (sym (p.solvers.backward.at_each u) ∙ e)
 
 taken-before : (known : ℕ → Option Bool) (vs : List ℕ) (old new : Tables) → AreLeft known vs old new → (v : ℕ) → v ∈ vs → (x : ℕ) × (at old.solvers.backward v ≡ Some x)
 taken-before known [] old new e v h = absurd h
-taken-before known (u ∷ vs) old new (mid, a, rest) v (inl q) = let p = loses-pair (known u) old mid u a in (p.global, ap (at old.solvers.backward) q ∙ p.taken)
-taken-before known (u ∷ vs) old new (mid, a, rest) v (inr h) = let (x, e) = taken-before known vs mid new rest v h in (x, (pair-before old mid u v x (loses-pair (known u) old mid u a) e).0)
+taken-before known (u ∷ vs) old new (mid, a, rest) v (inl q) = let (x, p) = loses (known u) old mid u a in (x, ap (at old.solvers.backward) q ∙ p.taken)
+taken-before known (u ∷ vs) old new (mid, a, rest) v (inr h) =
+    let (y, p) = loses (known u) old mid u a in
+    let (x, e) = taken-before known vs mid new rest v h in
+    (x, (pair-before old mid u v x y (without_solver (at old.users.backward y) (with_known (known u) (kept_at old.kept y))) p e).0)
 
-one-left : (known : Option Bool) (v : ℕ) (old new : Tables) (search : View) (assumed : AssumptionParts) (s : State) (u t : Search) → IsLeft known old new v → IsWithout v known u t → ((b : Bool) → known ≡ Some b → literal_of v b ∈ u.proved) → ((x : ℕ) → at old.solvers.backward v ≡ Some x → at old.users.backward x ≡ None) → SpacesFit (between old search assumed u) s → SpacesFit (between new search assumed t) s
-unfolding loses-pair
-one-left (Some b) v old new search assumed s u t (x, mid, c, n) f proved hidden (w, k) =
-    let pair = (loses-pair (Some b) old new v (x, mid, c, n)).taken in
-    fixed-gone old new search assumed s u t x v w k (hidden x pair) (literal_of v b) mid (variable-literal v b) (proved b refl) (subst (λ y. IsWithout v (Some y) u t) (sym (polarity-literal v b)) f) c n
-one-left None v old new search assumed s u t (x, n) f proved hidden (w, k) = apart-gone old new search assumed s u t x v w k (hidden x n.taken) f n
+-- a variable that is not assumed stays so
+still-free : (known : Option Bool) (old new : Tables) (v x : ℕ) → LosesSolver old new x v (without_solver (at old.users.backward x) (with_known known (kept_at old.kept x))) → (y : ℕ) → (kept_at old.kept y).assumed ≡ false → (kept_at new.kept y).assumed ≡ false
+still-free known old new v x n y e =
+    let d = with_known known (kept_at old.kept x) in
+    ap (λ (a : VarData). a.assumed) (n.kept.at_each y) ∙ updated-all (λ y (a : VarData). (kept_at old.kept y).assumed ≡ false → a.assumed ≡ false) (kept_at old.kept) x (without_solver (at old.users.backward x) d) (λ q. by-name (unused (at old.users.backward x) d) (by-value known q)) y (λ _ q. q) e
+  where
+    by-value : (o : Option Bool) → (kept_at old.kept x).assumed ≡ false → (with_known o (kept_at old.kept x)).assumed ≡ false
+    by-value None q = q
+    by-value (Some b) q = q
+
+    by-name : (b : Bool) → (with_known known (kept_at old.kept x)).assumed ≡ false → (if b then dead else with_known known (kept_at old.kept x)).assumed ≡ false
+    by-name true q = refl
+    by-name false q = q
 
 -- the same clauses and the same literals, in whatever order
 same-holds : (P : List Clause) (r : Translation) (s t : Search) → AreWithout (λ v. None) [] s t → SearchHolds P r s outcome.Unknown → SearchHolds P r t outcome.Unknown
@@ -217,8 +221,7 @@ same-holds P r s t f h = record {
   known = h.known;
   fixed = λ n l i e z. on l (h.fixed n l i e z);
   covered = λ n. dropped_are_covered s t (carry r.identity) (is_forced r.forced) (is_forced r.forced) P f.kept (λ l a. inl (on l a)) (λ l e. e) (h.covered n);
-  taken = h.taken;
-  reached = h.reached;
+  proved = h.proved;
 }
   where
     on : (l : Literal) → l ∈ s.fixed → l ∈ t.fixed
@@ -228,8 +231,8 @@ same-holds P r s t f h = record {
     before l (inl a) = inl (f.fixed l a).0
     before l (inr (k, a, b)) = inr (k, subst (λ ks. k ∈ ks) f.kept a, b)
 
-all-left : (known : ℕ → Option Bool) (vs : List ℕ) (old new : Tables) (search : View) (assumed : AssumptionParts) (s : State) (u t : Search) → AreLeft known vs old new → AreWithout known vs u t → ((v x : ℕ) → v ∈ vs → at old.solvers.backward v ≡ Some x → at old.users.backward x ≡ None) → SpacesFit (between old search assumed u) s → SpacesFit (between new search assumed t) s
-all-left known [] old new search assumed s u t e f hidden (w, k) =
+all-left : (known : ℕ → Option Bool) (vs : List ℕ) (old new : Tables) (search : View) (assumed : AssumptionParts) (s : State) (u t : Search) → AreLeft known vs old new → AreWithout known vs u t → ((v x : ℕ) → v ∈ vs → at old.solvers.backward v ≡ Some x → (kept_at old.kept x).assumed ≡ false) → SpacesFit (between old search assumed u) s → SpacesFit (between new search assumed t) s
+all-left known [] old new search assumed s u t e f free (w, k) =
     let p = between old search assumed u in
     let same : AreWithout (λ v. None) [] u t = record { kept = f.kept; unmentioned = f.unmentioned; stays = λ l a. ⊎_elim inl (λ (i, q). absurd i) (f.stays l a); fixed = f.fixed; proved = f.proved; units = λ v b i. absurd i } in
     subst (λ (a : Tables). SpacesFit (between a search assumed t) s) (sym e) (
@@ -245,16 +248,17 @@ all-left known [] old new search assumed s u t e f hidden (w, k) =
         few = k.few;
       }),
     )
-all-left known (v ∷ vs) old new search assumed s u t (mid, a, rest) f hidden fit =
-    let p = loses-pair (known v) old mid v a in
-    let once = λ (i : v ∈ vs). let (x, e) = taken-before known vs mid new rest v i in (pair-before old mid v v x p e).1 refl in
+all-left known (v ∷ vs) old new search assumed s u t (mid, a, rest) f free fit =
+    let (g, p) = loses (known v) old mid v a in
+    let d = without_solver (at old.users.backward g) (with_known (known v) (kept_at old.kept g)) in
+    let once = λ (i : v ∈ vs). let (x, e) = taken-before known vs mid new rest v i in (pair-before old mid v v x g d p e).1 refl in
     all-left known vs mid new search assumed s (forget_variable v u) t rest (without-others known v vs u t once f)
-    (λ y x i e. ap (λ (m : BiMap). at m.backward x) p.users ∙ hidden y x (inr i) (pair-before old mid v y x p e).0)
-    (one-left (known v) v old mid search assumed s u (forget_variable v u) a (without-first known v vs u t f) (λ b e. f.units v b (inl refl) e) (λ x e. hidden v x (inl refl) e) fit)
+    (λ y x i e. still-free (known v) old mid v g p x (free y x (inr i) (pair-before old mid v y x g d p e).0))
+    (one-left (known v) v old mid search assumed s u (forget_variable v u) a (without-first known v vs u t f) (λ x e. free v x (inl refl) e) fit)
 
--- Hidden variables left the search, and the tables: what is held stands for the same state as before.
-pub variables-left : (known : ℕ → Option Bool) (vs : List ℕ) (old new : Tables) (search after : View) (assumed : AssumptionParts) (s : State) → AreLeft known vs old new → AreWithout known vs (search_of search) (search_of after) → length after.values ≡ length search.values → ((v x : ℕ) → v ∈ vs → at old.solvers.backward v ≡ Some x → at old.users.backward x ≡ None) → SpacesFit (spaces_of old search assumed verdict.Unknown) s → SpacesFit (spaces_of new after assumed verdict.Unknown) s
-variables-left known vs old new search after assumed s a f count hidden fit =
+-- Variables that are not assumed left the search, and their solver variables the tables: what is held stands for the same state as before.
+pub variables-left : (known : ℕ → Option Bool) (vs : List ℕ) (old new : Tables) (search after : View) (assumed : AssumptionParts) (s : State) → AreLeft known vs old new → AreWithout known vs (search_of search) (search_of after) → length after.values ≡ length search.values → ((v x : ℕ) → v ∈ vs → at old.solvers.backward v ≡ Some x → (kept_at old.kept x).assumed ≡ false) → SpacesFit (spaces_of old search assumed verdict.Unknown) s → SpacesFit (spaces_of new after assumed verdict.Unknown) s
+variables-left known vs old new search after assumed s a f count free fit =
     spaces-same (between new search assumed (search_of after)) (spaces_of new after assumed verdict.Unknown) s (record {
       maps = record {
         global_from_user = λ u. refl;
@@ -272,4 +276,4 @@ variables-left known vs old new search after assumed s a f count hidden fit =
       search = refl;
       outcome = refl;
       var_count = count;
-    }) (all-left known vs old new search assumed s (search_of search) (search_of after) a f hidden fit)
+    }) (all-left known vs old new search assumed s (search_of search) (search_of after) a f free fit)

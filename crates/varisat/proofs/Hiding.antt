@@ -39,8 +39,7 @@ hidden-holds P r s v h = record {
   known = h.known;
   fixed = h.fixed;
   covered = h.covered;
-  taken = λ e. absurd cc;
-  reached = λ e. absurd cc;
+  proved = λ e. absurd cc;
 }
 
 free-well : (u : ℕ) (s : State) → IsWellFormed s → IsWellFormed (hide_name u s)

@@ -11,10 +11,11 @@ pub mod Counted
 pub mod DroppedAlone
 pub mod DroppedApart
 pub mod DroppedFixed
-pub mod DroppedHidden
+pub mod DroppedListed
 pub mod DroppedSolvers
 pub mod DroppedTables
 pub mod FindVerdictSteps
+pub mod ForgottenWith
 pub mod HiddenTables
 pub mod Hiding
 pub mod Histories
@@ -32,10 +33,13 @@ pub mod NewNames
 pub mod Pasts
 pub mod PlainTables
 pub mod ProgramDecides
+pub mod ReachedHeld
 pub mod ReadPlaces
 pub mod Recycling
 pub mod RefusedNames
 pub mod Relinked
+pub mod Resurrected
+pub mod Returning
 pub mod Runs
 pub mod SearchHeld
 pub mod SearchVerdicts

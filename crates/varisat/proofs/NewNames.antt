@@ -180,12 +180,6 @@ module _ (w : Carrying) (p : Spaces) (s : State) (u x : ℕ) (k : Links w p s) (
   unfolding id'
   identity-same v = chain-same p.global_from_solver id' w.identity v (λ y h. let r = k.solvers.live v y h in stays y r.0 r.1 ∙ sym r.1)
 
-  unsolved : p.solver_from_global x ≡ None
-  unsolved = ⊎_elim (λ e. e) (λ (v, e). let r = k.solvers.live v x (k.solvers.one_to_one.there x v e) in absurd (apart x r.0 r.1 refl)) (is-some (p.solver_from_global x))
-
-  solver-same : (i : ℕ) → chain (updated w.global s.naming.made (Some x)) p.solver_from_global i ≡ chain w.global p.solver_from_global i
-  solver-same i = updated-all (λ i o. onward o p.solver_from_global ≡ onward (w.global i) p.solver_from_global) w.global s.naming.made (Some x) (unsolved ∙ ap (λ o. onward o p.solver_from_global) (sym unused)) i (λ n. refl)
-
   pub given : SpacesFit (give u x p) (with_naming (bring u s.naming) s)
   unfolding id' kept'
   given = (
@@ -199,8 +193,8 @@ module _ (w : Carrying) (p : Spaces) (s : State) (u x : ℕ) (k : Links w p s) (
       units = new-units;
       isolation = new-isolation;
       solvers = record { one_to_one = k.solvers.one_to_one; live = λ v y h. let r = k.solvers.live v y h in (r.0, stays y r.0 r.1, r.2) };
-      holds = holds-same s.clauses (translation w p s.ever_hidden) (record { identity = chain p.global_from_solver id'; solver = chain (updated w.global s.naming.made (Some x)) p.solver_from_global; forced = w.forced; hidden = s.ever_hidden }) p.search (without_core p.outcome)
-          identity-same solver-same (λ i. refl) refl k.holds;
+      holds = holds-same s.clauses (translation w p s.ever_hidden) (record { identity = chain p.global_from_solver id'; forced = w.forced; hidden = s.ever_hidden }) p.search (without_core p.outcome)
+          identity-same (λ i. refl) refl k.holds;
       assumptions = new-assumptions;
       marks = new-marks;
       working = working-same s.clauses (chain p.global_from_solver w.identity) (chain p.global_from_solver id') s.assumptions p.working (λ l h. identity-same (variable_of l)) k.working;

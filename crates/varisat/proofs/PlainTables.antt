@@ -12,7 +12,7 @@ use Rattle.varisat_names.specs.Variables.{Tables, AreLinked, IsGiven, AreNextGiv
 use Rattle.varisat_names.proofs.Maps.{updated-at, updated-other, updated-all, chain-some, chain-through, is-some}
 use Rattle.varisat_names.proofs.VarMap.{at-past}
 use Rattle.varisat_names.proofs.Tables.{live-inside}
-use Rattle.varisat.specs.Accepting.{KeepsNoUnit, HasNames, AreNamedInTurn, AreTakenInTurn, HasSolver, AreTakenFor, IsAssumedSolver, HasUser}
+use Rattle.varisat.specs.Accepting.{HasNames, AreNamedInTurn, AreTakenInTurn, HasSolver, AreTakenFor, IsAssumedSolver, HasUser}
 use Rattle.varisat.proofs.AcceptSolverVariables.{few, below, below-count, ∈-below}
 
 pub is-there : (o : Option ℕ) (v : ℕ) → o ≡ Some v → IsSome o
@@ -76,23 +76,6 @@ pub names-keep : (d : List Literal) (old new : Tables) → AreNamedInTurn d old 
 names-keep [] old new e = keeps-none old new e
 names-keep (l ∷ d) old new (mid, g, rest) = keeps-then old mid new (one-keeps (variable_of l) old mid g) (names-keep d mid new rest)
 
--- the variable of a free name keeps no unit
-pub given-units : (old new : Tables) (u x : ℕ) → KeepsNoUnit old → IsGiven old new u x → KeepsNoUnit new
-given-units old new u x n g y = ap (λ d. d.unit) (g.kept.at_each y) ∙ updated-all (λ y d. d.unit ≡ None) (kept_at old.kept) x fresh refl y (λ m. n y)
-
-pub next-units : (k : ℕ) (old new : Tables) → KeepsNoUnit old → AreNextGiven k old new → KeepsNoUnit new
-next-units zero old new n e = subst KeepsNoUnit (sym e) n
-next-units (suc k) old new n (mid, x, g, rest) = next-units k mid new (given-units old mid (length old.users.forward) x n g) rest
-
-pub one-units : (u : ℕ) (old new : Tables) → KeepsNoUnit old → IsNamed u old new → KeepsNoUnit new
-one-units u old new n (InUse x e same) = subst KeepsNoUnit (sym same) n
-one-units u old new n (Free x b free g) = given-units old new u x n g
-one-units u old new n (Above b g) = next-units (u + 1 - length old.users.forward) old new n g
-
-pub named-units : (d : List Literal) (old new : Tables) → KeepsNoUnit old → AreNamedInTurn d old new → KeepsNoUnit new
-named-units [] old new n e = subst KeepsNoUnit (sym e) n
-named-units (l ∷ d) old new n (mid, g, rest) = named-units d mid new (one-units (variable_of l) old mid n g) rest
-
 pub named-push : (d : List Literal) (old mid new : Tables) (l : Literal) → AreNamedInTurn d old mid → IsNamed (variable_of l) mid new → AreNamedInTurn (d ++ l ∷ []) old new
 named-push [] old mid new l e g = (new, subst (λ t. IsNamed (variable_of l) t new) e g, refl)
 named-push (m ∷ d) old mid new l (t, h, rest) g = (t, h, named-push d t mid new l rest g)
@@ -112,9 +95,6 @@ pub taken-stays : (xs : List ℕ) (old new : Tables) (v y : ℕ) → AreTakenInT
 taken-stays [] old new v y e h = ap (λ t. at t.solvers.backward v) e ∙ h
 taken-stays (x ∷ xs) old new v y (mid, w, f, t, rest) h =
     taken-stays xs mid new v y rest (t.solvers.backward.at_each v ∙ updated-other (at old.solvers.backward) w (Some x) v (λ q. let z : None ≡ Some y = sym t.least.0 ∙ ap (at old.solvers.backward) (sym q) ∙ h in cc) ∙ h)
-
-pub taken-units : (xs : List ℕ) (old new : Tables) → KeepsNoUnit old → AreTakenInTurn xs old new → KeepsNoUnit new
-taken-units xs old new n t y = ap (λ ds. (kept_at ds y).unit) (taken-users xs old new t).1 ∙ n y
 
 -- As the least free solver variables are taken first, the watermark stays, or each solver variable below it is in use.
 pub taken-full : (xs : List ℕ) (old new : Tables) → AreTakenInTurn xs old new → (length new.solvers.backward ≡ length old.solvers.backward) ⊎ IsFull new.solvers.backward
@@ -173,7 +153,6 @@ names-taken d e old new l n t =
     let u = ap (λ (m : BiMap). length m.forward) users in
     let k = ap length kept in
     record {
-      no_units = taken-units t.globals old new n.no_units t.in_turn;
       bounded = record {
         users = omega (arith, u, n.bounded.users);
         globals = omega (arith, k, n.bounded.globals);

@@ -2,7 +2,7 @@
 use Rattle.std.proofs.Common.{◌≡◌, ℕ, ◌<◌, true, false, Option, Some, None, sym, ap, ◌∙◌, subst, refl}
 use Rattle.varisat_theory.specs.Membership.{◌∈◌}
 use Rattle.varisat_theory.specs.Literals.{Literal, variable_of}
-use Rattle.varisat_names.specs.Maps.{updated, onward, chain}
+use Rattle.varisat_names.specs.Maps.{updated, chain}
 use Rattle.varisat_names.specs.VarData.{dead}
 use Rattle.varisat_names.specs.declared.variables.data.VarData.{VarData}
 use Rattle.varisat_names.specs.declared.variables.data.SamplingMode.TheVariants as sampling
@@ -85,9 +85,6 @@ module _ (w : Carrying) (p : Spaces) (s : State) (x i : ℕ) (k : Links w p s) (
   unfolding id'
   identity-same v = chain-same p.global_from_solver id' w.identity v (λ y h. updated-other w.identity x None y (solver-other v y h))
 
-  solver-same : (j : ℕ) → chain (updated w.global i None) p.solver_from_global j ≡ chain w.global p.solver_from_global j
-  solver-same j = updated-all (λ j o. onward o p.solver_from_global ≡ onward (w.global j) p.solver_from_global) w.global i None (sym unsolved ∙ ap (λ o. onward o p.solver_from_global) (sym (k.identities.one_to_one.there x i at))) j (λ n. refl)
-
   pub recycled : SpacesFit (recycle x p) s
   unfolding id' kept'
   recycled = (
@@ -101,8 +98,8 @@ module _ (w : Carrying) (p : Spaces) (s : State) (x i : ℕ) (k : Links w p s) (
       units = left-units;
       isolation = left-isolation;
       solvers = record { one_to_one = k.solvers.one_to_one; live = λ v y h. let (j, e, c) = k.solvers.live v y h in (j, left y j e (solver-other v y h), c) };
-      holds = holds-same s.clauses (translation w p s.ever_hidden) (record { identity = chain p.global_from_solver id'; solver = chain (updated w.global i None) p.solver_from_global; forced = w.forced; hidden = s.ever_hidden }) p.search (without_core p.outcome)
-          identity-same solver-same (λ j. refl) refl k.holds;
+      holds = holds-same s.clauses (translation w p s.ever_hidden) (record { identity = chain p.global_from_solver id'; forced = w.forced; hidden = s.ever_hidden }) p.search (without_core p.outcome)
+          identity-same (λ j. refl) refl k.holds;
       assumptions = k.assumptions;
       marks = left-marks;
       working = working-same s.clauses (chain p.global_from_solver w.identity) (chain p.global_from_solver id') s.assumptions p.working (λ l h. identity-same (variable_of l)) k.working;

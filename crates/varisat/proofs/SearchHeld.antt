@@ -7,7 +7,6 @@ use Rattle.varisat_theory.specs.Searches.{Search, KeptClause, IsSettled, Covers,
 use Rattle.varisat_theory.specs.Outcomes.{Outcome, Holds, Answers}
 use Rattle.varisat_theory.specs.Outcomes as outcome
 use Rattle.varisat_theory.proofs.Sound.{conflicts_sound, derives_sound}
-use Rattle.varisat_theory.proofs.Reached.{reached_derived}
 use Rattle.varisat_theory.proofs.StepCovers.{still_covered}
 use Rattle.varisat_prop.proofs.LiteralValues.{own-opposite}
 use Rattle.varisat.specs.Names.{identity_of}
@@ -15,9 +14,10 @@ use Rattle.varisat.specs.Carried.{carry, AgreesAlong, is_forced}
 use Rattle.varisat.specs.Spaces.{Translation, SearchHolds}
 use Rattle.varisat.proofs.SpacesMoves.{AreLong}
 use Rattle.varisat.proofs.Carried.{carry-opposite}
+use Rattle.varisat.proofs.ReachedHeld.{proved-on}
 
 -- a literal that is covered alone is fixed
-fixed-alone : (t : Search) (l : Literal) → AreLong t → IsSettled t (l ∷ []) ⊎ ((k : KeptClause) × (k ∈ t.kept) × (k.learned ≡ false) × (k.clause ⊆ (l ∷ []))) → l ∈ t.fixed
+pub fixed-alone : (t : Search) (l : Literal) → AreLong t → IsSettled t (l ∷ []) ⊎ ((k : KeptClause) × (k ∈ t.kept) × (k.learned ≡ false) × (k.clause ⊆ (l ∷ []))) → l ∈ t.fixed
 fixed-alone t l long h =
     ⊎_elim
     (λ a. ⊎_elim
@@ -61,9 +61,19 @@ module _ (P : List Clause) (r : Translation) (s t : Search) (v : Outcome) (h : S
     known = h.known;
     fixed = λ n l i e f. fixed-on n l (h.fixed (λ e. let q : outcome.Unknown ≡ outcome.Unsat = e in cc) l i e f);
     covered = covered-on;
-    taken = h.taken;
-    reached = λ z. reached_derived _ h.held lines after (h.reached z) d;
+    proved = λ z. proved-on P r h.held lines after t v (h.proved z) d holds;
   }
+
+-- A model that was found says nothing of what is held.
+pub without-model : (P : List Clause) (r : Translation) (t : Search) (found : Assignment) → SearchHolds P r t (outcome.Sat found) → SearchHolds P r t outcome.Unknown
+without-model P r t found h =
+    let o : outcome.Sat found ≢ outcome.Unsat = (λ q. let z : outcome.Sat found ≡ outcome.Unsat = q in cc) in
+    record { held = h.held; holds = h.holds; within = h.within; implied = h.implied; known = h.known; fixed = λ _. h.fixed o; covered = λ _. h.covered o; proved = h.proved }
+
+pub with-model : (P : List Clause) (r : Translation) (t : Search) (found : Assignment) → SearchHolds P r t outcome.Unknown → SearchHolds P r t (outcome.Sat found)
+with-model P r t found h =
+    let o : outcome.Unknown ≢ outcome.Unsat = (λ q. let z : outcome.Unknown ≡ outcome.Unsat = q in cc) in
+    record { held = h.held; holds = h.holds; within = h.within; implied = h.implied; known = h.known; fixed = λ _. h.fixed o; covered = λ _. h.covered o; proved = h.proved }
 
 -- under Unsat no assignment satisfies the accepted clauses
 pub refuted : (P : List Clause) (r : Translation) (t : Search) → SearchHolds P r t outcome.Unsat → IsSatisfiable P → ⊥

@@ -45,7 +45,6 @@ found-plainly t x y found ready count decidable state answer steps assumes plain
 pub kept-found : {A : Type 0} (t : Tables) (x y : Context A) (found : Option Bool) → IsKept t x → FindsVerdict t x y found → IsKept t y
 kept-found t x y found k f = record {
   bounded = k.bounded;
-  no_units = k.no_units;
   ready = f.ready;
   count = f.count ∙ k.count;
   decidable = same-in-use t (view x) x.vsids (view y) y.vsids k.decidable f.decidable;

@@ -1,5 +1,5 @@
 -- A search that finds a verdict, and spaces that agree.
-use Rattle.std.proofs.Common.{◌≡◌, ◌≢◌, ℕ, ◌≤◌, Bool, true, Option, Some, None, List, [], ◌∷◌, inl, inr, ⊎_elim, sym, ap, ◌∙◌, subst, refl, map, length, arith}
+use Rattle.std.proofs.Common.{◌≡◌, ◌≢◌, ℕ, ◌≤◌, Bool, true, Option, Some, List, [], ◌∷◌, inl, inr, ⊎_elim, sym, ap, ◌∙◌, subst, refl, map, length, arith}
 use Rattle.varisat_theory.specs.Membership.{◌∈◌, ◌⊆◌}
 use Rattle.varisat_theory.specs.Literals.{Literal, Clause, Assignment, variable_of, literal_of, value, SatisfiesAll, MakesTrue, IsSatisfiableWith, IsFailedCore}
 use Rattle.varisat_theory.specs.Derivations.{Line}
@@ -25,15 +25,15 @@ use Rattle.varisat_names.proofs.Maps.{chain-some, chain-through, is-some}
 use Rattle.varisat.proofs.SpacesAgree.{identities-same, names-same, modes-same, units-same, isolation-same, solvers-same, assumptions-same, marks-same, working-same, holds-same, value-same}
 use Rattle.varisat.proofs.Carried.{value-true, true-value, value-carry, forced-value}
 use Rattle.varisat.proofs.Relinked.{relinked}
-use Rattle.varisat.proofs.SearchHeld.{answers-covers, agrees-through, held-on, refuted}
+use Rattle.varisat.proofs.SearchHeld.{answers-covers, agrees-through, held-on, without-model, refuted}
 
 -- the identity of the solver variable leads back to it
-there-back : (w : Carrying) (p : Spaces) (s : State) (k : Links w p s) (v i : ℕ) → (translation w p s.ever_hidden).identity v ≡ Some i → (translation w p s.ever_hidden).solver i ≡ Some v
+there-back : (w : Carrying) (p : Spaces) (s : State) (k : Links w p s) (v i : ℕ) → (translation w p s.ever_hidden).identity v ≡ Some i → chain w.global p.solver_from_global i ≡ Some v
 there-back w p s k v i e =
     let (x, f, g) = chain-through p.global_from_solver w.identity v i e in
     chain-some w.global p.solver_from_global i x (k.identities.one_to_one.there x i g) ∙ k.solvers.one_to_one.back x v f
 
-back-there : (w : Carrying) (p : Spaces) (s : State) (k : Links w p s) (v i : ℕ) → (translation w p s.ever_hidden).solver i ≡ Some v → ((translation w p s.ever_hidden).identity v ≡ Some i) × (i ∈ s.counted)
+back-there : (w : Carrying) (p : Spaces) (s : State) (k : Links w p s) (v i : ℕ) → chain w.global p.solver_from_global i ≡ Some v → ((translation w p s.ever_hidden).identity v ≡ Some i) × (i ∈ s.counted)
 back-there w p s k v i e =
     let (x, f, g) = chain-through w.global p.solver_from_global i v e in
     let h = k.solvers.one_to_one.there x v g in
@@ -56,9 +56,7 @@ forgotten w p s k n = decided w p s p.search outcome.Unknown p.model p.working p
   where
     go : (v : Outcome) (x : Verdict) → SearchHolds s.clauses (translation w p s.ever_hidden) p.search (without_core v) → VerdictFits w.identity p.model v x → x ≢ Unsat → SearchHolds s.clauses (translation w p s.ever_hidden) p.search outcome.Unknown
     go outcome.Unknown x h f n = h
-    go (outcome.Sat found) x h f n =
-        let o : outcome.Sat found ≢ outcome.Unsat = (λ q. let z : outcome.Sat found ≡ outcome.Unsat = q in cc) in
-        record { held = h.held; holds = h.holds; within = h.within; implied = h.implied; known = h.known; fixed = λ _. h.fixed o; covered = λ _. h.covered o; taken = h.taken; reached = h.reached }
+    go (outcome.Sat found) x h f n = without-model s.clauses (translation w p s.ever_hidden) p.search found h
     go outcome.Unsat Unknown h f n = absurd f
     go outcome.Unsat (Sat a) h f n = absurd f
     go outcome.Unsat Unsat h f n = absurd (n refl)
@@ -138,7 +136,7 @@ module _ (w : Carrying) (p : Spaces) (s : State) (k : Links w p s) (unknown : p.
 
 module _ (w : Carrying) (p : Spaces) (s : State) (k : Links w p s) (unknown : p.outcome ≡ outcome.Unknown) (t : Search) (f : Assignment) (n : ℕ) (lines : List Line) (made : MakesSteps n p.search t (outcome.Sat f) lines) (long : AreLong t) (in-use : AreInUse p t) where
   pub found : Assignment
-  found i = value_or (w.forced i) f ((translation w p s.ever_hidden).solver i)
+  found i = value_or (w.forced i) f (chain w.global p.solver_from_global i)
 
   found-solved : (v i : ℕ) → (translation w p s.ever_hidden).identity v ≡ Some i → found i ≡ f v
   unfolding found
@@ -165,7 +163,7 @@ module _ (w : Carrying) (p : Spaces) (s : State) (k : Links w p s) (unknown : p.
           let (l, a, y) = (made.answers ((m ∷ []) ∷ []) (λ c. elim [ inl e ↦ inl (inr (m, subst (λ x. m ∈ x) (sym e) (inl refl), z)) | inr z ↦ absurd z ])).1 (m ∷ []) (inl refl) in
           let only : l ≡ m = ⊎_elim (λ e. e) (λ z. absurd z) a in
           ap (value_or (w.forced i) f) o ∙ ap f (sym (variable-literal v b)) ∙ true-value f m (subst (λ x. value f x ≡ true) only y) ∙ polarity-literal v b)
-          (is-some ((translation w p s.ever_hidden).solver i))
+          (is-some (chain w.global p.solver_from_global i))
 
   found-satisfies : SatisfiesAll found s.clauses
   found-satisfies =
@@ -191,7 +189,7 @@ module _ (w : Carrying) (p : Spaces) (s : State) (k : Links w p s) (unknown : p.
         λ i h. ⊎_elim
             (λ e. ap (value_or (w.forced i) f) e ∙ ⊎_elim (λ u. ap is_true_value u) (λ (b, u). absurd (h (k.units.is_counted i b u))) (is-some (w.forced i)))
             (λ (v, e). absurd (h (back-there w p s k v i e).1))
-            (is-some ((translation w p s.ever_hidden).solver i)),
+            (is-some (chain w.global p.solver_from_global i)),
       )
 
 pub model-same : (id : ℕ → Option ℕ) (m m' : ℕ → Bool) (o : Outcome) (v : Verdict) → ((found : Assignment) → o ≡ outcome.Sat found → (x : ℕ) → m' x ≡ m x) → VerdictFits id m o v → VerdictFits id m' o v
@@ -246,7 +244,7 @@ spaces-same p q s e (w, k) = (
     isolation = isolation-same w.identity w.forced p.kept q.kept s.clauses s.naming.made (λ x. ap (λ y. y.isolated) (e.maps.kept x)) k.isolation;
     solvers = solvers-same w.identity p.solver_from_global p.global_from_solver q.solver_from_global q.global_from_solver s.counted e.maps.solver_from_global e.maps.global_from_solver k.solvers;
     holds = subst (λ t. SearchHolds s.clauses (translation w q s.ever_hidden) t (without_core q.outcome)) (sym e.search) (subst (λ o. SearchHolds s.clauses (translation w q s.ever_hidden) p.search (without_core o)) (sym e.outcome)
-        (holds-same s.clauses (translation w p s.ever_hidden) (translation w q s.ever_hidden) p.search (without_core p.outcome) (λ v. ap (λ y. onward y w.identity) (e.maps.global_from_solver v)) (λ i. through (w.global i)) (λ i. refl) refl k.holds));
+        (holds-same s.clauses (translation w p s.ever_hidden) (translation w q s.ever_hidden) p.search (without_core p.outcome) (λ v. ap (λ y. onward y w.identity) (e.maps.global_from_solver v)) (λ i. refl) refl k.holds));
     assumptions = subst (λ y. AssumptionsFit q.global_from_user q.solver_from_global s.naming.names y s.assumptions) (sym e.assumptions) (assumptions-same p.global_from_user p.solver_from_global q.global_from_user q.solver_from_global s.naming.names p.assumptions s.assumptions e.maps.global_from_user e.maps.solver_from_global k.assumptions);
     marks = subst (MarksFit q.global_from_user q.kept) (sym e.assumptions) (marks-same p.global_from_user q.global_from_user p.kept q.kept p.assumptions e.maps.global_from_user (λ x. ap (λ y. y.assumed) (e.maps.kept x)) k.marks);
     working = subst (WorkingFits s.clauses (translation w q s.ever_hidden).identity s.assumptions) (sym e.working) (working-same s.clauses (translation w p s.ever_hidden).identity (translation w q s.ever_hidden).identity s.assumptions p.working (λ l h. ap (λ y. onward y w.identity) (e.maps.global_from_solver (variable_of l))) k.working);
@@ -258,10 +256,6 @@ spaces-same p q s e (w, k) = (
     shown = λ h x n. ap (λ y. y.deleted) (e.maps.kept x) ∙ k.shown h x (sym (e.maps.user_from_global x) ∙ n);
   },
 )
-  where
-    through : (o : Option ℕ) → onward o q.solver_from_global ≡ onward o p.solver_from_global
-    through None = refl
-    through (Some x) = e.maps.solver_from_global x
 
 -- Only the maps may differ, and they agree.
 pub maps-same : (p q : Spaces) (s : State) → HaveSameMaps p q → q ≡ record p { global_from_user = q.global_from_user; user_from_global = q.user_from_global; watermark = q.watermark; globals = q.globals; solver_from_global = q.solver_from_global; global_from_solver = q.global_from_solver; kept = q.kept; model = q.model } → SpacesFit p s → SpacesFit q s

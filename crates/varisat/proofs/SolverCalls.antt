@@ -42,7 +42,7 @@ use Rattle.std.specs.Option.{IsSome}
 use Rattle.std.specs.Result.{IsErr}
 use Rattle.std.specs.declared.alloc.AllocError.{AllocError}
 use Rattle.varisat.specs.Carried.{carry, value_or}
-use Rattle.varisat.specs.Accepting.{KeepsNoUnit, HasUser}
+use Rattle.varisat.specs.Accepting.{HasUser}
 use Rattle.varisat.specs.Searches.{answer_at, FindsVerdict}
 use Rattle.varisat.specs.Spaces.{Spaces, Carrying, translation, CoreFits, VerdictFits, Links, SpacesFit, list_globals}
 use Rattle.varisat.specs.Summaries.{Summary, IsKept, StandsFor, spaces, spaces_of, list_tables}
@@ -61,13 +61,9 @@ use Rattle.varisat.proofs.VariablesInUse.{same-in-use, in-use-all}
 
 -- 1. A new solver.
 
-first-units : KeepsNoUnit no_variables
-first-units x = refl
-
 pub first-kept : {A : Type 0} (t : Tables) (c : Context A) → t ≡ no_variables → IsReady c → length c.assignment.current ≡ 0 → c.assumptions ≡ no_assumptions → ((v : ℕ) → IsDecidable (view c) c.vsids v → ⊥) → IsKept t c
 first-kept t c e r n s d = record {
   bounded = record { users = let z = ap (λ (x : Tables). length x.users.forward) e in omega (arith, z); globals = let z = ap (λ (x : Tables). length x.kept) e in omega (arith, z); solvers = let z = ap (λ (x : Tables). length x.solvers.backward) e in omega (arith, z) };
-  no_units = subst KeepsNoUnit (sym e) first-units;
   ready = r;
   count = n ∙ ap (λ (x : Tables). length x.solvers.backward) (sym e);
   decidable = λ v. ((λ h. absurd (d v h)), (λ h. let z : false ≡ true = subst (λ (x : Tables). IsSome (at x.solvers.backward v)) e h in absurd cc));
@@ -97,8 +93,7 @@ first-spaces s e n =
           known = λ a m i b e. absurd (let z : None ≡ Some b = e in cc);
           fixed = λ o l i e. absurd (let z : None ≡ Some i = e in cc);
           covered = λ o c h. absurd h;
-          taken = λ z c l h. absurd h;
-          reached = λ z. reached_self [];
+          proved = λ z. record { forgotten = []; reached = reached_self []; units = λ i b e. absurd (let z : None ≡ Some b = e in cc) };
         };
         assumptions = record { agree = refl; taken = λ l h. absurd h };
         marks = record { marked = λ l x h. absurd h; only = λ x e. absurd (let z : false ≡ true = e in cc) };
@@ -445,7 +440,7 @@ settled-stands m x y kept goes same s (w, k) =
     subst (λ (a : AssumptionParts). SpacesFit (spaces_of m (view y) a verdict.Unknown) s) (sym same)
     (subst (λ (b : Verdict). SpacesFit (spaces_of m (view y) x.assumptions verdict.Unknown) (with_verdict b s)) (sym unknown) fits)
 
--- Hidden variables left, and nothing of what is told changed.
+-- Variables left the search, and nothing of what is told changed.
 pub dropped-stands : {A : Type 0} (m n : Tables) (started : Bool) (x y : Context A) (s : State) → y.solver_state ≡ x.solver_state → KeepsSchedule x y → x.solver_state.sat_state ≡ verdict.Unknown → ((s : State) → SpacesFit (spaces_of m (view x) x.assumptions verdict.Unknown) s → SpacesFit (spaces_of n (view y) y.assumptions verdict.Unknown) s) → StandsFor (summary_of m started x) s → StandsFor (summary_of n started y) s
 dropped-stands m n started x y s e k u f st = record {
   ledger = st.ledger ∙ (

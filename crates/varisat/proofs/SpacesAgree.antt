@@ -1,5 +1,5 @@
 -- What stays where the maps and what is kept agree at each place.
-use Rattle.std.proofs.Common.{◌≡◌, ℕ, ◌+◌, ◌*◌, ◌%◌, Bool, true, Option, Some, None, List, [], ◌∷◌, inl, inr, sym, ap, ◌∙◌, subst, refl, map}
+use Rattle.std.proofs.Common.{◌≡◌, ℕ, ◌+◌, ◌*◌, ◌%◌, Bool, true, Option, Some, None, List, [], ◌∷◌, ◌++◌, inl, inr, sym, ap, ◌∙◌, subst, refl, map}
 use Rattle.varisat_theory.specs.Membership.{◌∈◌, ◌⊆◌}
 use Rattle.varisat_theory.specs.Literals.{Literal, Clause, Assignment, variable_of, value, MakesTrue}
 use Rattle.varisat_theory.specs.Renaming.{rename}
@@ -14,7 +14,7 @@ use Rattle.varisat.specs.Names.{Mode}
 use Rattle.varisat.specs.States.{Verdict, Unknown, Sat, Unsat, UnsatUnderAssumptions}
 use Rattle.varisat.specs.Names.{identity_of}
 use Rattle.varisat.specs.Carried.{carry, is_value, is_forced}
-use Rattle.varisat.specs.Spaces.{ModeFits, IdentitiesFit, NamesFit, ModesFit, UnitsFit, IsolationCase, NotIsolated, Apart, Forced, IsolationFits, SolversFit, Translation, SearchHolds, AssumptionsFit, MarksFit, WorkingFits, CoreFits, VerdictFits}
+use Rattle.varisat.specs.Spaces.{ModeFits, IdentitiesFit, NamesFit, ModesFit, UnitsFit, IsolationCase, NotIsolated, Apart, Forced, IsolationFits, SolversFit, Translation, IsReachedWithForgotten, HasProof, SearchHolds, AssumptionsFit, MarksFit, WorkingFits, CoreFits, VerdictFits}
 
 pub identities-same : (id gl : ℕ → Option ℕ) (k k' : ℕ → VarData) (top : ℕ) → ((x : ℕ) → (k' x).deleted ≡ (k x).deleted) → IdentitiesFit id gl k top → IdentitiesFit id gl k' top
 identities-same id gl k k' top e f = record { one_to_one = f.one_to_one; live = λ x i h. e x ∙ f.live x i h; deleted = λ x h. e x ∙ f.deleted x h; below = f.below }
@@ -129,8 +129,21 @@ covered-same s f g known more c a b m (KnownTrue l i e) = KnownTrue l i (m l e)
 covered-same s f g known more c a b m (FixedTrue l i j) = FixedTrue l i (subst (λ x. x ∈ c) (a l i) j)
 covered-same s f g known more c a b m (Kept k i e w) = Kept k i e (λ l j. subst (λ x. x ∈ c) (b k.clause l j w) (w l j))
 
-pub holds-same : (P : List Clause) (r r' : Translation) (s : Search) (v : Outcome) → ((x : ℕ) → r'.identity x ≡ r.identity x) → ((i : ℕ) → r'.solver i ≡ r.solver i) → ((i : ℕ) → r'.forced i ≡ r.forced i) → r'.hidden ≡ r.hidden → SearchHolds P r s v → SearchHolds P r' s v
-holds-same P r r' s v a b f n h =
+pub reached-same : (P : List Clause) (r r' : Translation) (held : List Clause) → ((x : ℕ) → r'.identity x ≡ r.identity x) → ((i : ℕ) → r'.forced i ≡ r.forced i) → IsReachedWithForgotten P r held → IsReachedWithForgotten P r' held
+reached-same P r r' held a f q = record {
+  forgotten = q.forgotten;
+  reached = subst (λ x. IsReached P (x ++ q.forgotten)) (rename-same (carry r.identity) (carry r'.identity) held (λ c l i j. sym (carry-same r'.identity r.identity l (a (variable_of l))))) q.reached;
+  units = λ i b e n. q.units i b (sym (f i) ∙ e) (λ v z. n v (a v ∙ z));
+}
+
+pub proved-same : (P : List Clause) (r r' : Translation) (held : List Clause) (v : Outcome) → ((x : ℕ) → r'.identity x ≡ r.identity x) → ((i : ℕ) → r'.forced i ≡ r.forced i) → HasProof P r held v → HasProof P r' held v
+proved-same P r r' held outcome.Unknown a f q = reached-same P r r' held a f q
+proved-same P r r' held (outcome.Sat found) a f q = reached-same P r r' held a f q
+proved-same P r r' held outcome.Unsat a f q = q
+proved-same P r r' held (outcome.UnsatUnder core) a f q = reached-same P r r' held a f q
+
+pub holds-same : (P : List Clause) (r r' : Translation) (s : Search) (v : Outcome) → ((x : ℕ) → r'.identity x ≡ r.identity x) → ((i : ℕ) → r'.forced i ≡ r.forced i) → r'.hidden ≡ r.hidden → SearchHolds P r s v → SearchHolds P r' s v
+holds-same P r r' s v a f n h =
     let to = λ (l : Literal). sym (carry-same r'.identity r.identity l (a (variable_of l))) in
     record {
       held = h.held;
@@ -140,6 +153,5 @@ holds-same P r r' s v a b f n h =
       known = λ x m i y e. h.known x m i y (sym (f i) ∙ e);
       fixed = λ o l i e g. h.fixed o l i (sym (a (variable_of l)) ∙ e) (sym (f i) ∙ g);
       covered = λ o c i. covered-same s (carry r.identity) (carry r'.identity) (is_forced r.forced) (is_forced r'.forced) c (λ l j. to l) (λ d l j w. to l) (λ l e. ap (λ y. is_value y (polarity_of l)) (f (variable_of l)) ∙ e) (h.covered o c i);
-      taken = λ z c l i j. let (x, e) = h.taken (sym n ∙ z) c l i j in (x, b (variable_of l) ∙ e);
-      reached = λ z. subst (λ Q. IsReached Q h.held) (rename-same (carry r.solver) (carry r'.solver) P (λ c l i j. sym (carry-same r'.solver r.solver l (b (variable_of l))))) (h.reached (sym n ∙ z));
+      proved = λ z. proved-same P r r' h.held v a f (h.proved (sym n ∙ z));
     }

@@ -14,7 +14,7 @@ use Rattle.varisat_names.specs.Variables.{Tables, AreLinked, IsChangedTo}
 use Rattle.varisat_names.proofs.Maps.{updated-all, updated-other, chain-through}
 use Rattle.varisat_names.proofs.Tables.{live-inside}
 use Rattle.varisat.specs.Carried.{carry}
-use Rattle.varisat.specs.Accepting.{KeepsNoUnit, AreBounded, HasNames, HasSolver, AreJoined, AreMarked, IsAssumedSolver}
+use Rattle.varisat.specs.Accepting.{AreBounded, HasNames, HasSolver, AreJoined, AreMarked, IsAssumedSolver}
 use Rattle.varisat.proofs.Carried.{carry-at}
 
 -- 1. What stays.
@@ -26,10 +26,6 @@ pub record SameButMarks (old new : Tables) : Type 0 where
   pub deleted : (x : ℕ) → (kept_at new.kept x).deleted ≡ (kept_at old.kept x).deleted
   pub units : (x : ℕ) → (kept_at new.kept x).unit ≡ (kept_at old.kept x).unit
 
--- marks make no difference to units
-pub marks-units : (old new : Tables) → KeepsNoUnit old → SameButMarks old new → KeepsNoUnit new
-marks-units old new n j x = j.units x ∙ n x
-
 pub marks-bounded : (old new : Tables) → AreBounded old → SameButMarks old new → AreBounded new
 marks-bounded old new b j =
     let u = ap (λ m. length m.forward) j.users in
@@ -40,7 +36,6 @@ marks-bounded old new b j =
 -- the names of the literals are in use still
 pub names-marked : (d : List Literal) (old new : Tables) → HasNames d old → SameButMarks old new → HasNames d new
 names-marked d old new n j = record {
-  no_units = marks-units old new n.no_units j;
   bounded = marks-bounded old new n.bounded j;
   named = λ l h. subst (λ m. IsSome (at m.forward (variable_of l))) (sym j.users) (n.named l h);
 }
@@ -48,7 +43,6 @@ names-marked d old new n j = record {
 -- and that of one of them
 pub one-named : (ls : List Literal) (t : Tables) (l : Literal) → HasNames ls t → l ∈ ls → HasNames (l ∷ []) t
 one-named ls t l n h = record {
-  no_units = n.no_units;
   bounded = n.bounded;
   named = λ k i. ⊎_elim (λ q. subst (λ z. IsSome (at t.users.forward (variable_of z))) (sym q) (n.named l h)) (λ z. absurd z) i;
 }

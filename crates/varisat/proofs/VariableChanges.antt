@@ -6,8 +6,8 @@ use Rattle.varisat_theory.proofs.Members.{equal_or_not, ∈-append_cases}
 use Rattle.varisat_literals.specs.Numbers.{variable_limit}
 use Rattle.varisat_names.specs.Maps.{updated}
 use Rattle.varisat_names.specs.VarMap.{at, IsLeastUnmapped}
-use Rattle.varisat_names.specs.VarData.{fresh, dead, kept_at}
-use Rattle.varisat_names.specs.Variables.{Tables, AreLinked, IsGiven, AreNextGiven, IsNamed, InUse, Free, Above, IsChangedTo, IsHidden, IsShown, unused, without_name}
+use Rattle.varisat_names.specs.VarData.{fresh, kept_at}
+use Rattle.varisat_names.specs.Variables.{Tables, AreLinked, IsGiven, AreNextGiven, IsNamed, InUse, Free, Above, IsChangedTo, IsHidden, IsShown, without_name}
 use Rattle.varisat_names.specs.declared.variables.data.VarData.{VarData}
 use Rattle.varisat_names.specs.declared.variables.data.SamplingMode.{SamplingMode}
 use Rattle.varisat_names.specs.declared.variables.data.SamplingMode.TheVariants as sampling
@@ -19,7 +19,7 @@ use Rattle.varisat.specs.Accepting.{AreBounded, naming_of}
 use Rattle.varisat.specs.VariableChanges.{IsMarkedAssumed, CanBeChanged, StaysKept, IsNamedAs, AreShownInTurn, ShowsBelow, ShowsOne, Passed, Shown}
 use Rattle.varisat.proofs.AcceptSolverVariables.{few, below, below-count, ∈-below}
 use Rattle.varisat.proofs.KeptCounts.{given-most}
-use Rattle.varisat.proofs.PlainTables.{KeepsNames, given-keeps, next-keeps, given-units, next-units}
+use Rattle.varisat.proofs.PlainTables.{KeepsNames, given-keeps, next-keeps}
 
 -- 1. A name comes into use.
 
@@ -82,7 +82,6 @@ given-as u x old new l c h free g =
     let room : length old.kept + 1 ≤ variable_limit = ⊎_elim (λ q. absurd (c.room (subst (λ n. variable_limit < n) (sym m) q))) (λ q. q) (cases_lt variable_limit (length old.kept + 1)) in
     fresh-as u x old new (g.users.forward.at_each u ∙ updated-at (at old.users.forward) u (Some x)) (g.kept.at_each x ∙ updated-at (kept_at old.kept) x fresh) (Free x h free g) (record {
       bounded = record { users = omega (arith, a, h, w); globals = omega (arith, b, room); solvers = subst (λ m. length m.backward ≤ variable_limit) (sym g.solvers) c.bounded.solvers };
-      no_units = λ n. given-units old new u x n g;
       solvers = g.solvers;
       named = still-named old new l k;
       names = still-names old new l k;
@@ -103,7 +102,6 @@ above-as u old new l c h n =
       x,
       fresh-as u x old new (ap (at new.users.forward) (sym p) ∙ e) f (Above h n) (record {
         bounded = record { users = omega (arith, a, b, h); globals = omega (arith, d, room); solvers = subst (λ m. length m.backward ≤ variable_limit) (sym g.solvers) c.bounded.solvers };
-        no_units = λ i. next-units (u + 1 - w) old new i n;
         solvers = g.solvers;
         named = still-named old new l g;
         names = still-names old new l g;
@@ -111,12 +109,11 @@ above-as u old new l c h n =
     )
 
 pub stays-same : (t : Tables) → AreBounded t → StaysKept t t
-stays-same t b = record { bounded = b; no_units = λ n. n; solvers = refl; named = λ u x e m. (e, m); names = λ x u e m. (e, m) }
+stays-same t b = record { bounded = b; solvers = refl; named = λ u x e m. (e, m); names = λ x u e m. (e, m) }
 
 pub stays-on : (old mid new : Tables) → StaysKept old mid → StaysKept mid new → StaysKept old new
 stays-on old mid new a b = record {
   bounded = b.bounded;
-  no_units = λ n. b.no_units (a.no_units n);
   solvers = b.solvers ∙ a.solvers;
   named = λ u x e m. let (f, n) = a.named u x e m in b.named u x f n;
   names = λ x u e m. let (f, n) = a.names x u e m in b.names x u f n;
@@ -165,18 +162,10 @@ mode-stays mid new x mode b live c =
     let mark : (y : ℕ) → IsMarkedAssumed mid y → IsMarkedAssumed new y = (λ y m. ap (λ d. d.assumed) (c.kept.at_each y) ∙ updated-all (λ y e. (kept_at mid.kept y).assumed ≡ true → e.assumed ≡ true) (kept_at mid.kept) x d (λ m. m) y (λ _ m. m) m) in
     record {
       bounded = record { users = omega (arith, w, v); globals = omega (arith, n, h, g); solvers = subst (λ m. length m.backward ≤ variable_limit) (sym solvers) b.solvers };
-      no_units = λ p y. ap (λ d. d.unit) (c.kept.at_each y) ∙ updated-all (λ y d. d.unit ≡ None) (kept_at mid.kept) x d (p x) y (λ m. p y);
       solvers = solvers;
       named = λ u y e m. (ap (λ t. at t.users.forward u) c.rest ∙ e, mark y m);
       names = λ y u e m. (ap (λ t. at t.users.backward y) c.rest ∙ e, mark y m);
     }
-
-without-unit : (o : Option ℕ) (d : VarData) → d.unit ≡ None → (without_name o d).unit ≡ None
-without-unit o d e = go (unused o d)
-  where
-    go : (b : Bool) → (if b then dead else record d { sampling_mode = sampling.Hide }).unit ≡ None
-    go true = refl
-    go false = e
 
 -- the name of a variable that is not marked as assumed is free
 pub hidden-stays : (mid new : Tables) (u x : ℕ) → AreLinked mid → AreBounded mid → at mid.users.forward u ≡ Some x → (kept_at mid.kept x).assumed ≡ false → IsHidden mid new u x → StaysKept mid new
@@ -193,7 +182,6 @@ hidden-stays mid new u x l b e unmarked n =
     let mark : (y : ℕ) → IsMarkedAssumed mid y → IsMarkedAssumed new y = (λ y m. ap (λ d. d.assumed) (n.kept.at_each y ∙ updated-other (kept_at mid.kept) x d y (other y m)) ∙ m) in
     record {
       bounded = record { users = omega (arith, w, v, i); globals = omega (arith, c, h, g); solvers = subst (λ m. length m.backward ≤ variable_limit) (sym n.solvers) b.solvers };
-      no_units = λ p y. ap (λ d. d.unit) (n.kept.at_each y) ∙ updated-all (λ y d. d.unit ≡ None) (kept_at mid.kept) x d (without-unit (at mid.solvers.forward x) (kept_at mid.kept x) (p x)) y (λ m. p y);
       solvers = n.solvers;
       named = λ v y a m. (n.users.forward.at_each v ∙ updated-other (at mid.users.forward) u None v (λ q. let z : Some y ≡ Some x = sym a ∙ ap (at mid.users.forward) q ∙ e in other y m cc) ∙ a, mark y m);
       names = λ y v a m. (n.users.backward.at_each y ∙ updated-other (at mid.users.backward) x None y (other y m) ∙ a, mark y m);
@@ -242,7 +230,6 @@ shown-stays mid new x u l b live unnamed n =
     let mark : (y : ℕ) → IsMarkedAssumed mid y → IsMarkedAssumed new y = (λ y m. ap (λ d. d.assumed) (n.kept.at_each y) ∙ updated-all (λ y e. (kept_at mid.kept y).assumed ≡ true → e.assumed ≡ true) (kept_at mid.kept) x d (λ m. m) y (λ _ m. m) m) in
     record {
       bounded = record { users = omega (arith, w, v, near, g); globals = omega (arith, c, h, g); solvers = subst (λ m. length m.backward ≤ variable_limit) (sym n.solvers) b.solvers };
-      no_units = λ p y. ap (λ d. d.unit) (n.kept.at_each y) ∙ updated-all (λ y d. d.unit ≡ None) (kept_at mid.kept) x d (p x) y (λ m. p y);
       solvers = n.solvers;
       named = λ v y a m. (n.users.forward.at_each v ∙ updated-other (at mid.users.forward) u (Some x) v (λ q. let z : None ≡ Some y = sym n.least.0 ∙ ap (at mid.users.forward) (sym q) ∙ a in cc) ∙ a, mark y m);
       names = λ y v a m. (n.users.backward.at_each y ∙ updated-other (at mid.users.backward) x (Some u) y (λ q. let z : None ≡ Some v = sym unnamed ∙ ap (at mid.users.backward) (sym q) ∙ a in cc) ∙ a, mark y m);

@@ -91,7 +91,6 @@ show-state us {g} {s} new b d =
 pub kept-after : {A : Type 0} (c : Context A) (old new : Tables) → IsKept old c → StaysKept old new → IsKept new c
 kept-after c old new k s = record {
   bounded = s.bounded;
-  no_units = s.no_units k.no_units;
   ready = k.ready;
   count = k.count ∙ ap (λ (m : BiMap). length m.backward) (sym s.solvers);
   decidable = tables-in-use old new (view c) c.vsids s.solvers k.decidable;

@@ -21,10 +21,6 @@ use Rattle.varisat.specs.Calls.{IsPastLimit, IsCrowded}
 use Rattle.varisat.specs.declared.solver.SolverError.{SolverError}
 use Rattle.varisat.specs.declared.solver.SolverError.TheVariants.{WitnessVar, VariableLimit}
 
--- As yet no unit is kept of a variable.
-abbrev pub KeepsNoUnit : Tables → Type 0
-KeepsNoUnit t = (x : ℕ) → (kept_at t.kept x).unit ≡ None
-
 -- No number is past the limit.
 pub record AreBounded (t : Tables) : Type 0 where
   pub users : length t.users.forward ≤ variable_limit
@@ -60,7 +56,6 @@ ChecksNames t d (Err _) = ⊥
 
 -- The names of the clause are in use.
 pub record HasNames (clause : List Literal) (t : Tables) : Type 0 where
-  pub no_units : KeepsNoUnit t
   pub bounded : AreBounded t
   pub named : (l : Literal) → l ∈ clause → IsSome (at t.users.forward (variable_of l))
 
@@ -105,11 +100,13 @@ DecidesInUse t s a = (v : ℕ) → IsDecidable s a v ↔ IsSome (at t.solvers.ba
 abbrev pub AddsDecidableOf : List Literal → View → Activities → View → Activities → Type 0
 AddsDecidableOf literals s a t b = (v : ℕ) → IsDecidable t b v ↔ (IsDecidable s a v ⊎ ((l : Literal) × (l ∈ literals) × (variable_of l ≡ v)))
 
--- The names of the list came into use, their variables took solver variables, the search has these and may decide them, and the literals are the list over them.
+-- Those variables of the list that left the search with their values are back: of none without a solver variable a unit is kept.
+abbrev pub AreBack : List Literal → Tables → Type 0
+AreBack list t = (l : Literal) (x : ℕ) → l ∈ list → at t.users.forward (variable_of l) ≡ Some x → at t.solvers.forward x ≡ None → (kept_at t.kept x).unit ≡ None
+
+-- The variables of the list took solver variables, the search has these and may decide them, and the literals are the list over them.
 pub record AreBroughtIn {A : Type 0} (list : List Literal) (old new : Tables) (x y : Context A) (literals : List Literal) : Type 0 where
-  pub named : Tables
-  pub are_named : AreNamedInTurn list old named
-  pub are_taken : AreTakenFor list named new
+  pub are_taken : AreTakenFor list old new
   pub in_use : HasNames list new
   pub raised : IsRaisedTo (length new.solvers.backward) x y
   pub decidable : DecidesInUse new (view y) y.vsids

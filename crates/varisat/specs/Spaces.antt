@@ -1,10 +1,11 @@
 -- What a solver holds over its three name spaces, and which states it stands for.
 --
 -- A name of the user leads to a global variable, which lasts as long as its identity may be spoken of, and a global variable to a solver variable while the search speaks of it. Identities are never used again, global and solver variables are.
-use Rattle.std.specs.Prelude.{◌≡◌, ◌≢◌, ℕ, zero, suc, ◌<◌, ◌≤◌, Bool, true, false, Option, Some, None, List, [], length, map}
+use Rattle.std.specs.Prelude.{◌≡◌, ◌≢◌, ℕ, zero, suc, ◌<◌, ◌≤◌, Bool, true, false, Option, Some, None, List, [], ◌++◌, length, map}
 use Rattle.varisat_theory.specs.Membership.{◌∈◌, ◌⊆◌}
-use Rattle.varisat_theory.specs.Literals.{Literal, Clause, Assignment, variable_of, SatisfiesAll, MakesTrue}
+use Rattle.varisat_theory.specs.Literals.{Literal, Clause, Assignment, variable_of, literal_of, IsUnit, SatisfiesAll, MakesTrue}
 use Rattle.varisat_theory.specs.Renaming.{rename}
+use Rattle.varisat_theory.specs.Derivations.{Line, Refutes}
 use Rattle.varisat_theory.specs.Searches.{Search, IsTautology, CoversBy, IsLiteralOf}
 use Rattle.varisat_theory.specs.Outcomes.{Outcome, Holds, IsReached}
 use Rattle.varisat_theory.specs.Outcomes as outcome
@@ -94,12 +95,22 @@ pub record SolversFit (identity from_global to_global : ℕ → Option ℕ) (cou
   pub one_to_one : IsInverse from_global to_global
   pub live : (v x : ℕ) → to_global v ≡ Some x → (i : ℕ) × (identity x ≡ Some i) × (i ∈ counted)
 
--- How what the search says is translated to identities: `identity` of each solver variable in use, `solver` the way back, the values that are forced, and whether a name was ever hidden.
+-- How what the search says is translated to identities: `identity` of each solver variable in use, the values that are forced, and whether a name was ever hidden.
 pub record Translation : Type 0 where
   pub identity : ℕ → Option ℕ
-  pub solver : ℕ → Option ℕ
   pub forced : ℕ → Option Bool
   pub hidden : Bool
+
+-- Lines lead from the accepted clauses to what the search holds, over identities, and to clauses that it forgot with a variable that left. Among these is a unit clause for each forced value of an identity without a solver variable.
+pub record IsReachedWithForgotten (P : List Clause) (r : Translation) (held : List Clause) : Type 0 where
+  pub forgotten : List Clause
+  pub reached : IsReached P (rename (carry r.identity) held ++ forgotten)
+  pub units : (i : ℕ) (b : Bool) → r.forced i ≡ Some b → ((v : ℕ) → r.identity v ≢ Some i) → (c : Clause) × (c ∈ forgotten) × IsUnit (literal_of i b) c
+
+-- how a proof tells of what is held: under Unsat its lines refute the accepted clauses
+abbrev pub HasProof : List Clause → Translation → List Clause → Outcome → Type 0
+HasProof P r held outcome.Unsat = (lines : List Line) × Refutes P lines
+HasProof P r held _ = IsReachedWithForgotten P r held
 
 -- What the search with its verdict says of the accepted clauses: it holds some clauses, as a proof would.
 pub record SearchHolds (P : List Clause) (r : Translation) (s : Search) (v : Outcome) : Type 0 where
@@ -114,9 +125,8 @@ pub record SearchHolds (P : List Clause) (r : Translation) (s : Search) (v : Out
   pub fixed : v ≢ outcome.Unsat → (l : Literal) (i : ℕ) → r.identity (variable_of l) ≡ Some i → r.forced i ≡ Some (polarity_of l) → l ∈ s.fixed
   -- each accepted clause is true, or is kept
   pub covered : v ≢ outcome.Unsat → CoversBy (carry r.identity) (is_forced r.forced) P s
-  -- where nothing was hidden, each variable of the accepted clauses has a solver variable, and lines lead from those clauses to what is held
-  pub taken : r.hidden ≡ false → (c : Clause) (l : Literal) → c ∈ P → l ∈ c → (x : ℕ) × (r.solver (variable_of l) ≡ Some x)
-  pub reached : r.hidden ≡ false → IsReached (rename (carry r.solver) P) held
+  -- where nothing was hidden, lines lead from the accepted clauses to what is held
+  pub proved : r.hidden ≡ false → HasProof P r held v
 
 -- The list, which is given over names with solver variables, is the state's over identities.
 pub record AssumptionsFit (from_user from_global names : ℕ → Option ℕ) (given assumptions : List Literal) : Type 0 where
@@ -156,9 +166,9 @@ VerdictFits identity model outcome.Unsat Unsat = Unit {0}
 VerdictFits identity model (outcome.UnsatUnder found) (UnsatUnderAssumptions core) = Unit {0}
 VerdictFits identity model _ _ = ⊥
 
--- the identity of a solver variable, and the way back
+-- by way of global variables
 abbrev pub translation : Carrying → Spaces → Bool → Translation
-translation w p hidden = record { identity = chain p.global_from_solver w.identity; solver = chain w.global p.solver_from_global; forced = w.forced; hidden = hidden }
+translation w p hidden = record { identity = chain p.global_from_solver w.identity; forced = w.forced; hidden = hidden }
 
 pub record Links (w : Carrying) (p : Spaces) (s : State) : Type 0 where
   pub identities : IdentitiesFit w.identity w.global p.kept s.naming.made

@@ -14,7 +14,7 @@ use Rattle.varisat_names.specs.VarMap.{at}
 use Rattle.varisat_names.specs.VarData.{kept_at}
 use Rattle.varisat_names.specs.Variables.{Tables}
 use Rattle.varisat.specs.States.{State, Ledger}
-use Rattle.varisat.specs.Accepting.{KeepsNoUnit, AreBounded, DecidesInUse, IsAssumedSolver}
+use Rattle.varisat.specs.Accepting.{AreBounded, DecidesInUse, IsAssumedSolver}
 use Rattle.varisat.specs.Models.{put_name}
 use Rattle.varisat.specs.Carried.{value_or}
 use Rattle.varisat.specs.Spaces.{Spaces, SpacesFit}
@@ -57,7 +57,6 @@ list_tables t values u (suc k) = put_name u (at t.users.forward u) (λ x. value_
 -- what a valid solver keeps
 pub record IsKept {A : Type 0} (tables : Tables) (search : Context A) : Type 0 where
   pub bounded : AreBounded tables
-  pub no_units : KeepsNoUnit tables
   pub ready : IsReady search
   -- the search has the solver variables below the watermark
   pub count : length search.assignment.current ≡ length tables.solvers.backward

@@ -9,7 +9,7 @@ use Rattle.varisat_names.specs.declared.variables.data.SamplingMode.{SamplingMod
 use Rattle.varisat_names.specs.declared.variables.data.SamplingMode.TheVariants as sampling
 use Rattle.varisat.specs.Names.{name_one}
 use Rattle.varisat.specs.Calls.{IsCrowded}
-use Rattle.varisat.specs.Accepting.{KeepsNoUnit, AreBounded, naming_of}
+use Rattle.varisat.specs.Accepting.{AreBounded, naming_of}
 use Rattle.varisat.specs.declared.solver.SolverError.{SolverError}
 use Rattle.varisat.specs.declared.solver.SolverError.TheVariants.{VariableLimit, AssumedVar}
 
@@ -38,7 +38,6 @@ ChecksChange t u (Err _) = ⊥
 -- What a valid solver keeps of its tables stays true. Variables that are marked as assumed keep their names and marks.
 pub record StaysKept (old new : Tables) : Type 0 where
   pub bounded : AreBounded new
-  pub no_units : KeepsNoUnit old → KeepsNoUnit new
   pub solvers : new.solvers ≡ old.solvers
   pub named : (u x : ℕ) → at old.users.forward u ≡ Some x → IsMarkedAssumed old x → (at new.users.forward u ≡ Some x) × IsMarkedAssumed new x
   pub names : (x u : ℕ) → at old.users.backward x ≡ Some u → IsMarkedAssumed old x → (at new.users.backward x ≡ Some u) × IsMarkedAssumed new x

@@ -1,6 +1,6 @@
 //! What an accepted clause and a list of assumptions bring: their names, the solver variables of these, and the clause
 //! or the list itself.
-ghost use Rattle.std.specs.Prelude.{◌≡◌, ◌≢◌, ◌<◌, ◌∷◌, [], Some, false, length, map, OnOk};
+ghost use Rattle.std.specs.Prelude.{◌≡◌, ◌≢◌, ◌<◌, ◌∷◌, [], Some, None, false, length, map, IsSome, OnOk};
 ghost use Rattle.varisat_theory.specs.Membership.{◌∈◌};
 ghost use Rattle.varisat_theory.specs.Literals.{Literal, variable_of};
 ghost use Rattle.varisat_names.specs.VarData.{kept_at};
@@ -11,7 +11,8 @@ ghost use Rattle.varisat.specs.Names.{name_all, through_names};
 ghost use Rattle.varisat.specs.Calls.{with_naming, VerdictAfter, append_clause, with_assumptions};
 ghost use Rattle.varisat.specs.Spaces.{SpacesFit};
 ghost use Rattle.varisat.specs.Summaries.{spaces_of, IsKept};
-ghost use Rattle.varisat.specs.Accepting.{CanBeNamed, HasNames, AreTakenFor, AddsDecidableOf, AreBroughtIn, AreJoined, AreMarked};
+ghost use Rattle.varisat.specs.Returning.{BringsBack};
+ghost use Rattle.varisat.specs.Accepting.{CanBeNamed, HasNames, AreTakenFor, AddsDecidableOf, AreBack, AreBroughtIn, AreJoined, AreMarked};
 
 use crate::carrying::carry_literals;
 use crate::naming::name_vars;
@@ -22,7 +23,7 @@ use varisat_prop::clause::StoreError;
 use varisat_search::assumptions::set_assumptions;
 use varisat_search::context::Context;
 use varisat_search::decision::{add_variables, make_available};
-use varisat_search::load::load_clause;
+use varisat_search::load::{load_clause, resurrect_unit};
 use varisat_search::state::SatState;
 
 /// The global variable of the literal's name, which is in use.
@@ -94,8 +95,8 @@ fn make_each_available<A: Allocator + Copy>(ctx: &mut Context<A>, literals: &[Li
     }
 }
 
-/// Brings the names of the list into use, takes solver variables for them, and lists its literals over these. A solver
-/// variable that was free below the watermark is not available for decisions until then.
+/// Takes solver variables for those of the list that have none, and lists its literals over these. A solver variable
+/// that was free below the watermark is not available for decisions until then.
 fn bring_in<A: Allocator + Copy>(
     variables: &mut LinkedVariables<A>,
     ctx: &mut Context<A>,
@@ -103,11 +104,10 @@ fn bring_in<A: Allocator + Copy>(
     list: &[Lit],
 ) -> Result<(), AllocError>
     requires kept { IsKept variables.old ctx.old }
-    requires names { CanBeNamed list.now variables.old }
+    requires names { HasNames list.now variables.old }
     ensures brought { OnOk result (AreBroughtIn list.now variables.old variables.new ctx.old ctx.new literals.new.items) }
     ensures kept { ctx.new ≡ record ctx.old { analyze_conflict = ctx.new.analyze_conflict; assignment = ctx.new.assignment; binary_clauses = ctx.new.binary_clauses; impl_graph = ctx.new.impl_graph; tmp_flags = ctx.new.tmp_flags; vsids = ctx.new.vsids; watchlists = ctx.new.watchlists } }
 {
-    name_vars(variables, list)?;
     take_solver_vars(variables, list)?;
     variables.prove_linked();
     add_variables(ctx, variables.solver_watermark())?;
@@ -118,6 +118,58 @@ fn bring_in<A: Allocator + Copy>(
         literals,
     )?;
     make_each_available(ctx, literals);
+    Ok(())
+}
+
+/// Takes a solver variable for a variable that left the search with its value, and holds the unit clause for that value
+/// again.
+fn resurrect_var<A: Allocator + Copy>(
+    variables: &mut LinkedVariables<A>,
+    ctx: &mut Context<A>,
+    global: Var,
+    value: bool,
+) -> Result<(), AllocError>
+    requires kept { IsKept variables.old ctx.old }
+    requires reopened { ctx.old.solver_state.sat_state ≢ SatState.Sat }
+    requires live { (kept_at variables.old.kept global).deleted ≡ false }
+    requires unit { (kept_at variables.old.kept global).unit ≡ Some value }
+    requires left { at variables.old.solvers.forward global ≡ None }
+    ensures back { OnOk result (BringsBack variables.old variables.new ctx.old ctx.new) }
+    ensures taken { OnOk result (IsSome (at variables.new.solvers.forward global)) }
+    ensures schedule { KeepsSchedule ctx.old ctx.new }
+{
+    variables.prove_linked();
+    let solver = variables.take_solver_var(global)?;
+    variables.prove_linked();
+    add_variables(ctx, variables.solver_watermark())?;
+    make_available(ctx, solver);
+    resurrect_unit(ctx, solver.lit(value))?;
+    Ok(())
+}
+
+/// Brings those variables of the list back that left the search with their values.
+fn resurrect_vars<A: Allocator + Copy>(
+    variables: &mut LinkedVariables<A>,
+    ctx: &mut Context<A>,
+    list: &[Lit],
+) -> Result<(), AllocError>
+    requires kept { IsKept variables.old ctx.old }
+    requires reopened { ctx.old.solver_state.sat_state ≢ SatState.Sat }
+    requires names { HasNames list.now variables.old }
+    ensures back { OnOk result (BringsBack variables.old variables.new ctx.old ctx.new) }
+    ensures all { OnOk result (AreBack list.now variables.new) }
+    ensures schedule { KeepsSchedule ctx.old ctx.new }
+{
+    for lit in list {
+        variables.prove_linked();
+        let global = global_of(variables, *lit);
+        if variables.solver_from_global().get(global).is_some() {
+            continue;
+        }
+        if let Some(value) = variables.var_data_global(global).unit {
+            resurrect_var(variables, ctx, global, value)?;
+        }
+    }
     Ok(())
 }
 
@@ -138,7 +190,11 @@ pub fn accept_clause<A: Allocator + Copy>(
     ensures accepted { OnOk result ((s : State) → SpacesFit (spaces_of variables.old (view ctx.old) ctx.old.assumptions ctx.old.solver_state.sat_state) s →
         (x : Verdict) × VerdictAfter s.clauses (map (through_names (name_all clause.now s.naming)) clause.now) s.verdict x × SpacesFit (spaces_of variables.new (view ctx.new) ctx.new.assumptions ctx.new.solver_state.sat_state) (append_clause (map (through_names (name_all clause.now s.naming)) clause.now) x (with_naming (name_all clause.now s.naming) s))) }
 {
+    // A model that was found may not satisfy the clause.
+    ctx.solver_state.reopen();
     variables.prove_linked();
+    name_vars(variables, clause)?;
+    resurrect_vars(variables, ctx, clause)?;
     bring_in(variables, ctx, literals, clause)?;
     mark_joined(variables, clause);
     load_clause(ctx, literals)?;
@@ -156,11 +212,16 @@ pub fn assume_list<A: Allocator + Copy>(
     requires kept { IsKept variables.old ctx.old }
     requires names { CanBeNamed list.now variables.old }
     ensures kept { OnOk result (IsKept variables.new ctx.new) }
-    ensures state { OnOk result (ctx.new.solver_state ≡ record ctx.old.solver_state { sat_state = ctx.new.solver_state.sat_state }) }
+    ensures state { OnOk result (ctx.new.solver_state ≡ record ctx.old.solver_state { sat_state = ctx.new.solver_state.sat_state; formula_is_empty = ctx.new.solver_state.formula_is_empty }) }
     ensures schedule { KeepsSchedule ctx.old ctx.new }
     ensures assumed { OnOk result ((s : State) → SpacesFit (spaces_of variables.old (view ctx.old) ctx.old.assumptions ctx.old.solver_state.sat_state) s →
         SpacesFit (spaces_of variables.new (view ctx.new) ctx.new.assumptions ctx.new.solver_state.sat_state) (with_assumptions (map (through_names (name_all list.now s.naming)) list.now) (with_naming (name_all list.now s.naming) s))) }
 {
+    // What was found under the assumptions before says nothing of these.
+    ctx.solver_state.assume();
+    variables.prove_linked();
+    name_vars(variables, list)?;
+    resurrect_vars(variables, ctx, list)?;
     bring_in(variables, ctx, literals, list)?;
     variables.prove_linked();
     mark_assumed(variables, ctx.assumptions.user_assumptions(), false);

@@ -1,15 +1,18 @@
-//! What becomes of hidden variables as a call of `solve` begins: those whose values are fixed leave the search, so that
-//! what stands for them may be used again.
-ghost use Rattle.std.specs.Prelude.{◌≡◌, ◌<◌, length, map, IsSome, OnOk, IfOk};
+//! What becomes of variables whose values are fixed as a call of `solve` begins: unless they are assumed they leave the
+//! search, which so has fewer variables to speak of. Their values are kept for the model and for clauses to come, and
+//! what stands for hidden ones may be used again.
+ghost use Rattle.std.specs.Prelude.{◌≡◌, ◌≢◌, ◌<◌, ◌⊎◌, [], length, map, IsSome, OnOk, IfOk};
 ghost use Rattle.varisat_theory.specs.Membership.{◌∈◌, IsDistinct};
 ghost use Rattle.varisat_theory.specs.Literals.{Literal, variable_of};
+ghost use Rattle.varisat_prop.specs.declared.prop.graph.Conflict.{Conflict};
+ghost use Rattle.varisat_prop.specs.Changes.{IsConflicting};
 ghost use Rattle.varisat_names.specs.VarMap.{at};
 ghost use Rattle.varisat_search.specs.Contexts.{view, KeepsSchedule};
 ghost use Rattle.varisat_search.specs.SettledUnits.{IsSettledDown};
 ghost use Rattle.varisat.specs.States.{State};
 ghost use Rattle.varisat.specs.Spaces.{SpacesFit};
 ghost use Rattle.varisat.specs.Summaries.{spaces_of, IsKept};
-ghost use Rattle.varisat.specs.Dropping.{is_unnamed, hidden_among, FlagsVariables, AreDroppedAlone, LeavesTables};
+ghost use Rattle.varisat.specs.Dropping.{leads_to_unassumed, unassumed_among, AreOverAssumed, FlagsVariables, AreDroppedAlone, LeavesTables};
 
 use std::alloc::{AllocError, Allocator};
 use varisat_literals::{Lit, Var};
@@ -19,28 +22,29 @@ use varisat_search::context::Context;
 use varisat_search::forgetting::drop_variables;
 use varisat_search::state::SatState;
 
-/// Whether the solver variable is that of a hidden variable, which has no name.
-fn is_hidden<A: Allocator + Copy>(variables: &LinkedVariables<A>, solver: Var) -> bool
-    ensures { result ≡ is_unnamed variables.now (at variables.now.solvers.backward solver) }
+/// Whether the solver variable is that of a global variable that is not assumed.
+fn is_unassumed<A: Allocator + Copy>(variables: &LinkedVariables<A>, solver: Var) -> bool
+    ensures { result ≡ leads_to_unassumed variables.now (at variables.now.solvers.backward solver) }
 {
+    variables.prove_linked();
     match variables.global_from_solver().get(solver) {
-        Some(global) => variables.user_from_global().get(global).is_none(),
+        Some(global) => !variables.var_data_global(global).assumed,
         None => false,
     }
 }
 
-/// Lists those of the literals that are over hidden variables.
-fn list_hidden<A: Allocator + Copy>(
+/// Lists those of the literals that are over variables that are not assumed.
+fn list_unassumed<A: Allocator + Copy>(
     variables: &LinkedVariables<A>,
     lits: &[Lit],
-    hidden: &mut Vec<Lit, A>,
+    unassumed: &mut Vec<Lit, A>,
 ) -> Result<(), AllocError>
-    ensures { OnOk result (hidden.new.items ≡ hidden_among variables.now lits.now) }
+    ensures { OnOk result (unassumed.new.items ≡ unassumed_among variables.now lits.now) }
 {
-    hidden.clear();
+    unassumed.clear();
     for lit in lits {
-        if is_hidden(variables, lit.var()) {
-            hidden.push(*lit)?;
+        if is_unassumed(variables, lit.var()) {
+            unassumed.push(*lit)?;
         }
     }
     Ok(())
@@ -63,8 +67,8 @@ fn flag_variables<A: Allocator + Copy>(
     Ok(flags)
 }
 
-/// Drops the solver variables of the literals, whose values are fixed. So their global variables are isolated, and may
-/// be used again.
+/// Drops the solver variables of the literals, which are true for good. What is kept of their global variables tells
+/// the values from then on, and that they are isolated, so that those without a name may be used again.
 fn drop_solver_vars<A: Allocator + Copy>(
     variables: &mut LinkedVariables<A>,
     lits: &[Lit],
@@ -78,14 +82,16 @@ fn drop_solver_vars<A: Allocator + Copy>(
         variables.prove_linked();
         let solver = lit.var();
         let global = variables.global_from_solver().get(solver).unwrap();
+        variables.set_unit(global, lit.is_positive());
         variables.set_isolated(global, true);
         variables.drop_solver_var(solver)?;
     }
     Ok(())
 }
 
-/// Lets the hidden variables leave that have a value, where the search is at level 0 and all of it is settled.
-fn drop_fixed<A: Allocator + Copy>(
+/// Lets the variables leave that have a value and are not assumed, where the search is at level 0 and all of it is
+/// settled. `literals` is overwritten.
+fn drop_listed<A: Allocator + Copy>(
     variables: &mut LinkedVariables<A>,
     ctx: &mut Context<A>,
     literals: &mut Vec<Lit, A>,
@@ -96,10 +102,11 @@ fn drop_fixed<A: Allocator + Copy>(
     ensures schedule { KeepsSchedule ctx.old ctx.new }
     ensures state { ctx.new.solver_state ≡ ctx.old.solver_state }
     ensures count { OnOk result (length ctx.new.assignment.current ≡ length ctx.old.assignment.current) }
+    ensures left { OnOk result (AreOverAssumed variables.new ctx.new.trail.literals) }
     ensures stands { OnOk result ((s : State) → SpacesFit (spaces_of variables.old (view ctx.old) ctx.old.assumptions SatState.Unknown) s → SpacesFit (spaces_of variables.new (view ctx.new) ctx.new.assumptions SatState.Unknown) s) }
 {
     variables.prove_linked();
-    list_hidden(variables, ctx.trail.trail(), literals)?;
+    list_unassumed(variables, ctx.trail.trail(), literals)?;
     let alloc = *literals.allocator();
     let gone = flag_variables(alloc, ctx.assignment.assignment().len(), literals)?;
     drop_variables(ctx, &gone);
@@ -107,9 +114,11 @@ fn drop_fixed<A: Allocator + Copy>(
     Ok(())
 }
 
-/// At level 0, where a hidden variable has a value, settles the units and lets all such variables leave the search. Does
-/// nothing at another level, and lets none leave where a clause is false. `literals` is overwritten.
-pub fn drop_hidden<A: Allocator + Copy>(
+/// At level 0, where literals are still to be propagated, settles the units and lets the variables leave the search that
+/// have a value and are not assumed. Does nothing at another level or where there is no such news, so that a call of
+/// `solve` passes over all clauses no more often than its first step would. Lets none leave where a clause is false.
+/// `literals` is overwritten.
+pub fn drop_fixed<A: Allocator + Copy>(
     variables: &mut LinkedVariables<A>,
     ctx: &mut Context<A>,
     literals: &mut Vec<Lit, A>,
@@ -120,15 +129,15 @@ pub fn drop_hidden<A: Allocator + Copy>(
     ensures schedule { KeepsSchedule ctx.old ctx.new }
     ensures state { ctx.new.solver_state ≡ ctx.old.solver_state }
     ensures count { OnOk result (length ctx.new.assignment.current ≡ length ctx.old.assignment.current) }
+    ensures left { OnOk result (ctx.old.trail.decisions ≡ [] → ctx.old.trail.queue_head ≢ length ctx.old.trail.literals → ((conflict : Conflict) × IsConflicting (view ctx.new) conflict) ⊎ AreOverAssumed variables.new ctx.new.trail.literals) }
     ensures stands { OnOk result ((s : State) → SpacesFit (spaces_of variables.old (view ctx.old) ctx.old.assumptions SatState.Unknown) s → SpacesFit (spaces_of variables.new (view ctx.new) ctx.new.assumptions SatState.Unknown) s) }
 {
-    list_hidden(variables, ctx.trail.trail(), literals)?;
-    if ctx.trail.current_level() > 0 || literals.is_empty() {
+    if ctx.trail.current_level() > 0 || ctx.trail.fully_propagated() {
         return Ok(());
     }
     if settle(ctx)?.is_err() {
         return Ok(());
     }
-    drop_fixed(variables, ctx, literals)?;
+    drop_listed(variables, ctx, literals)?;
     Ok(())
 }

@@ -4,7 +4,7 @@ ghost use Rattle.varisat_theory.specs.Membership.{◌∈◌};
 ghost use Rattle.varisat_theory.specs.Literals.{Literal, variable_of};
 ghost use Rattle.varisat.specs.Names.{name_all, IsWitness, NameNoWitness, IsFirstWitness};
 ghost use Rattle.varisat.specs.Calls.{IsPastLimit, IsCrowded};
-ghost use Rattle.varisat.specs.Accepting.{KeepsNoUnit, AreBounded, naming_of, ComesAlone, CanBeNamed, ChecksNames, HasNames, AreNamedInTurn};
+ghost use Rattle.varisat.specs.Accepting.{AreBounded, naming_of, ComesAlone, CanBeNamed, ChecksNames, HasNames, AreNamedInTurn};
 
 use crate::solver::SolverError;
 use std::alloc::{AllocError, Allocator};
@@ -149,8 +149,7 @@ pub fn name_vars<A: Allocator + Copy>(
     variables: &mut LinkedVariables<A>,
     clause: &[Lit],
 ) -> Result<(), AllocError>
-    requires no_units { KeepsNoUnit variables.old }
-    requires names { CanBeNamed clause.now variables.old }
+    requires { CanBeNamed clause.now variables.old }
     ensures names { OnOk result (HasNames clause.now variables.new) }
     ensures in_turn { OnOk result (AreNamedInTurn clause.now variables.old variables.new) }
 {

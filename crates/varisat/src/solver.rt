@@ -10,7 +10,7 @@ ghost use Rattle.varisat.specs.Summaries.{list_tables};
 ghost use Rattle.varisat_literals.specs.Numbers.{variable_limit};
 
 use crate::accept::{accept_clause, assume_list};
-use crate::dropping::drop_hidden;
+use crate::dropping::drop_fixed;
 use crate::naming::check_names;
 use crate::solving::find_named_verdict;
 use crate::usage::{check_change, hide_named, set_named_mode, show_hidden};
@@ -402,8 +402,8 @@ impl<W: ProofTarget, A: Allocator + Copy> Solver<W, A> {
             SatState::Sat => Ok(true),
             SatState::Unsat | SatState::UnsatUnderAssumptions => Ok(false),
             SatState::Unknown => {
-                // What is hidden and fixed need not be searched any more.
-                if let Err(AllocError) = drop_hidden(
+                // What is fixed need not be searched any more.
+                if let Err(AllocError) = drop_fixed(
                     &mut self.variables,
                     &mut self.ctx,
                     &mut self.literals,

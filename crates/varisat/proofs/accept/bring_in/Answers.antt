@@ -1,10 +1,9 @@
 -- What each part did to the maps and to the search.
-use Rattle.std.proofs.Common.{◌≡◌, sym, ap, ap₂, ◌∙◌, subst, length, map, arith}
+use Rattle.std.proofs.Common.{◌≡◌, ap, ap₂, ◌∙◌, subst, length, map, arith}
 use Rattle.varisat_theory.specs.Membership.{◌∈◌}
 use Rattle.varisat_theory.specs.Literals.{variable_of}
 use Rattle.varisat_names.specs.Maps.{chain}
 use Rattle.varisat_names.specs.VarMap.{at}
-use Rattle.varisat_names.specs.VarBiMap.{BiMap}
 use Rattle.varisat_names.proofs.VarMap.{at-inside}
 use Rattle.varisat_search.specs.declared.context.Context.{Context}
 use Rattle.varisat_search.specs.Contexts.{view}
@@ -12,22 +11,21 @@ use Rattle.varisat_search.specs.Seen.{search_of}
 use Rattle.varisat_search.specs.Decisions.{AddsDecidable}
 use Rattle.varisat.specs.Carried.{carry}
 use Rattle.varisat.specs.Accepting.{AddsDecidableOf}
-use Rattle.varisat.proofs.PlainTables.{there-is, names-keep, names-taken, taken-grow}
-use Rattle.varisat.proofs.VariablesInUse.{tables-in-use, literals-known, brought-in-use}
+use Rattle.varisat.proofs.PlainTables.{there-is, names-taken, taken-grow}
+use Rattle.varisat.proofs.VariablesInUse.{literals-known, brought-in-use}
 use Rattle.varisat.proofs.accept.bring_in.Given.{Over}
 use Rattle.varisat.proofs.accept.bring_in.Goals.{In_ok-carry_literals}
 use Rattle.varisat.proofs.accept.bring_in.Goals as goal
 
 pub add_variables-requires-clause-raised : goal.add_variables-requires-clause-raised
 add_variables-requires-clause-raised g c =
-    let n = ap (λ (m : BiMap). length m.backward) (names-keep c.args.list.now c.args.variables.now c.name_vars.new.variables (c.in_ok-name_vars.ensures {u = tt}).in_turn).solvers in
     let t = (c.in_ok-take_solver_vars.ensures {u = tt}).taken in
-    let a = taken-grow t.globals c.name_vars.new.variables c.take_solver_vars.new.variables t.in_turn in
-    omega (arith, n, a, c.requires.kept.count, c.solver_watermark.ensures)
+    let a = taken-grow t.globals c.args.variables.now c.take_solver_vars.new.variables t.in_turn in
+    omega (arith, a, c.requires.kept.count, c.solver_watermark.ensures)
 
 pub add_variables-requires-clause-small : goal.add_variables-requires-clause-small
 add_variables-requires-clause-small g c =
-    let names = names-taken c.args.list.now c.args.list.now c.name_vars.new.variables c.take_solver_vars.new.variables c.prove_linked.ensures (c.in_ok-name_vars.ensures {u = tt}).names (c.in_ok-take_solver_vars.ensures {u = tt}).taken in
+    let names = names-taken c.args.list.now c.args.list.now c.args.variables.now c.take_solver_vars.new.variables c.prove_linked.ensures c.requires.names (c.in_ok-take_solver_vars.ensures {u = tt}).taken in
     omega (arith, names.bounded.solvers, c.solver_watermark.ensures)
 
 pub carry_literals-requires : goal.carry_literals-requires
@@ -45,7 +43,7 @@ make_each_available-requires-clause-known g c l h =
     let t = (c.in_ok-take_solver_vars.ensures {u = tt}).taken in
     let m = c.take_solver_vars.new.variables in
     let e = c.in_ok-add_variables.ensures {u = tt} in
-    let (x, f) = there-is (at m.solvers.backward (variable_of l)) (literals-known c.args.list.now c.carry_literals.new.carried.items c.name_vars.new.variables m c.prove_linked.ensures t (items-carried g at-call.In_ok-carry_literals) l (subst (λ ls. l ∈ ls) c.deref.ensures.value h)) in
+    let (x, f) = there-is (at m.solvers.backward (variable_of l)) (literals-known c.args.list.now c.carry_literals.new.carried.items c.args.variables.now m c.prove_linked.ensures t (items-carried g at-call.In_ok-carry_literals) l (subst (λ ls. l ∈ ls) c.deref.ensures.value h)) in
     let inside = at-inside m.solvers.backward (variable_of l) x f in
     let n = e.raised.count in
     omega (arith, inside, n, c.solver_watermark.ensures)
@@ -54,8 +52,7 @@ pub returns-clause-brought : goal.returns-clause-brought
 returns-clause-brought g c =
     let t = (c.in_ok-take_solver_vars.ensures {u = tt}).taken in
     let e = c.in_ok-add_variables.ensures {u = tt} in
-    let names = (c.in_ok-name_vars.ensures {u = tt}) in
-    let named = c.name_vars.new.variables in
+    let before = c.args.variables.now in
     let m = c.take_solver_vars.new.variables in
     let list = c.args.list.now in
     let literals = c.carry_literals.new.carried.items in
@@ -64,22 +61,18 @@ returns-clause-brought g c =
     let mid = c.add_variables.new.ctx in
     let new = c.make_each_available.new.ctx in
     let a = c.make_each_available.ensures in
-    let solvers = (names-keep list c.args.variables.now named names.in_turn).solvers in
-    let count = c.requires.kept.count ∙ ap (λ (x : BiMap). length x.backward) (sym solvers) in
     record {
-      named = named;
-      are_named = names.in_turn;
       are_taken = t;
-      in_use = names-taken list list named m c.prove_linked.ensures names.names t;
+      in_use = names-taken list list before m c.prove_linked.ensures c.requires.names t;
       raised = record {
         ready = a.ready;
         count = ap (λ (x : Context g.row.A.Denot). length x.assignment.current) a.kept ∙ e.raised.count ∙ c.solver_watermark.ensures;
         seen = ap (λ (x : Context g.row.A.Denot). search_of (view x)) a.kept ∙ e.raised.seen;
       };
-      decidable = brought-in-use list literals named m c.prove_linked.ensures t carried (length old.assignment.current) (view old) old.vsids (view mid) mid.vsids (view new) new.vsids
-          (tables-in-use c.args.variables.now named (view old) old.vsids solvers c.requires.kept.decidable) count
+      decidable = brought-in-use list literals before m c.prove_linked.ensures t carried (length old.assignment.current) (view old) old.vsids (view mid) mid.vsids (view new) new.vsids
+          c.requires.kept.decidable c.requires.kept.count
           (subst (λ n. AddsDecidable (length old.assignment.current) n (view old) old.vsids (view mid) mid.vsids) c.solver_watermark.ensures e.decidable)
           (subst (λ ls. AddsDecidableOf ls (view mid) mid.vsids (view new) new.vsids) c.deref.ensures.value a.decidable);
-      known = literals-known list literals named m c.prove_linked.ensures t carried;
+      known = literals-known list literals before m c.prove_linked.ensures t carried;
       carried = carried;
     }

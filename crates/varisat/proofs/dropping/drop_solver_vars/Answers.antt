@@ -1,14 +1,18 @@
-use Rattle.std.proofs.Common.{◌≡◌, Some, sym, ap, ◌∙◌, subst, take, map, refl}
+use Rattle.std.proofs.Common.{◌≡◌, true, Some, sym, ap, ◌∙◌, subst, take, map, refl}
 use Rattle.varisat_theory.specs.Membership.{IsDistinct}
 use Rattle.varisat_theory.specs.Literals.{variable_of}
 use Rattle.varisat_names.specs.VarMap.{at}
-use Rattle.varisat_names.specs.Variables.{Tables, IsDropped}
+use Rattle.varisat_names.specs.Variables.{Tables, IsChangedTo, IsDropped}
 use Rattle.varisat_names.specs.VarBiMap.{BiMap}
+use Rattle.varisat_names.specs.VarData.{kept_at}
+use Rattle.varisat_names.specs.declared.variables.data.VarData.{VarData}
+use Rattle.varisat_names.proofs.Maps.{updated-at}
+use Rattle.varisat_literals.specs.Numbers.{polarity_of}
 use Rattle.varisat_prop.proofs.ReadElements.{item-∈}
-use Rattle.varisat.specs.Dropping.{IsDroppedAlone, AreDroppedAlone, LeavesTables}
+use Rattle.varisat.specs.Dropping.{fixed_to, IsDroppedAlone, AreDroppedAlone, LeavesTables}
 use Rattle.varisat.proofs.ReadPlaces.{take-item, split-item}
 use Rattle.varisat.proofs.PlainTables.{is-there, there-is}
-use Rattle.varisat.proofs.DroppedAlone.{leaves-none, leaves-one, leaves-then, dropped-push, distinct-after}
+use Rattle.varisat.proofs.DroppedAlone.{sign-same, changed-twice, leaves-none, leaves-one, leaves-then, dropped-push, distinct-after}
 use Rattle.varisat.proofs.dropping.drop_solver_vars.Goals as goal
 
 pub loop-lit-init : goal.loop-lit-init
@@ -26,11 +30,18 @@ unwrap-global-requires g c =
     let q = c.loop-lit.invariant.1.stays (variable_of l) (λ m h o. distinct-after (take i ls) l rest (subst (λ ks. IsDistinct (map variable_of ks)) s c.requires.distinct) m h o) in
     is-there c.get.result x (c.get.ensures ∙ ap (λ m. at m c.var-solver.result) c.global_from_solver.ensures ∙ ap (at c.loop-lit.variables.solvers.backward) c.var-solver.ensures ∙ q ∙ e)
 
-pub set_isolated-requires : goal.set_isolated-requires
-set_isolated-requires g c =
+pub set_unit-requires : goal.set_unit-requires
+set_unit-requires g c =
     let t = c.loop-lit.variables in
     let e : at t.solvers.backward c.var-solver.result ≡ Some c.unwrap-global.result = ap (λ m. at m c.var-solver.result) (sym c.global_from_solver.ensures) ∙ sym c.get.ensures ∙ c.unwrap-global.ensures in
     c.prove_linked.ensures.taken c.unwrap-global.result c.var-solver.result (c.prove_linked.ensures.solvers.back c.unwrap-global.result c.var-solver.result e)
+
+pub set_isolated-requires : goal.set_isolated-requires
+set_isolated-requires g c =
+    let t = c.loop-lit.variables in
+    let x = c.unwrap-global.result in
+    let e : at t.solvers.backward c.var-solver.result ≡ Some x = ap (λ m. at m c.var-solver.result) (sym c.global_from_solver.ensures) ∙ sym c.get.ensures ∙ c.unwrap-global.ensures in
+    ap (λ (d : VarData). d.deleted) (c.set_unit.ensures.kept.at_each x ∙ updated-at (kept_at t.kept) x (record (kept_at t.kept x) { unit = Some c.is_positive.result })) ∙ c.prove_linked.ensures.taken x c.var-solver.result (c.prove_linked.ensures.solvers.back x c.var-solver.result e)
 
 pub loop-lit-preserved : goal.loop-lit-preserved
 loop-lit-preserved g c =
@@ -42,7 +53,14 @@ loop-lit-preserved g c =
     let mid = c.loop-lit.variables in
     let new = c.drop_solver_var.new.self in
     let e : at mid.solvers.backward c.var-solver.result ≡ Some c.unwrap-global.result = ap (λ m. at m c.var-solver.result) (sym c.global_from_solver.ensures) ∙ sym c.get.ensures ∙ c.unwrap-global.ensures in
-    let q : c.in_ok-drop_solver_var.field-0 ≡ c.unwrap-global.result = (let z : Some c.in_ok-drop_solver_var.field-0 ≡ Some c.unwrap-global.result = sym c.in_ok-drop_solver_var.ensures.dropped.taken ∙ ap (λ (b : BiMap). at b.backward c.var-solver.result) (ap (λ (a : Tables). a.solvers) c.set_isolated.ensures.rest) ∙ e in cc) in
-    let one : IsDroppedAlone (variable_of l) mid new = (c.unwrap-global.result, c.set_isolated.new.self, c.set_isolated.ensures, subst (λ x. IsDropped c.set_isolated.new.self new x (variable_of l)) q (subst (IsDropped c.set_isolated.new.self new c.in_ok-drop_solver_var.field-0) c.var-solver.ensures c.in_ok-drop_solver_var.ensures.dropped)) in
+    let x = c.unwrap-global.result in
+    let set = c.set_unit.new.self in
+    let marked = c.set_isolated.new.self in
+    let known = record (kept_at mid.kept x) { unit = Some c.is_positive.result } in
+    let sign : c.is_positive.result ≡ polarity_of l = sign-same l c.is_positive.result c.is_positive.ensures in
+    let told = ap (λ (d : VarData). record d { isolated = true }) (c.set_unit.ensures.kept.at_each x ∙ updated-at (kept_at mid.kept) x known) ∙ ap (λ b. fixed_to b (kept_at mid.kept x)) sign in
+    let changed : IsChangedTo mid marked x (fixed_to (polarity_of l) (kept_at mid.kept x)) = changed-twice mid set marked x known (fixed_to (polarity_of l) (kept_at mid.kept x)) c.set_unit.ensures (subst (IsChangedTo set marked x) told c.set_isolated.ensures) in
+    let q : c.in_ok-drop_solver_var.field-0 ≡ x = (let z : Some c.in_ok-drop_solver_var.field-0 ≡ Some x = sym c.in_ok-drop_solver_var.ensures.dropped.taken ∙ ap (λ (b : BiMap). at b.backward c.var-solver.result) (ap (λ (a : Tables). a.solvers) changed.rest) ∙ e in cc) in
+    let one : IsDroppedAlone l mid new = (x, marked, changed, subst (λ x. IsDropped marked new x (variable_of l)) q (subst (IsDropped marked new c.in_ok-drop_solver_var.field-0) c.var-solver.ensures c.in_ok-drop_solver_var.ensures.dropped)) in
     let (a, b) = c.loop-lit.invariant in
     subst (λ ks. AreDroppedAlone ks old new × LeavesTables ks old new) (sym t) (dropped-push d l old mid new a one, leaves-then d l old mid new b (leaves-one l mid new c.prove_linked.ensures one))

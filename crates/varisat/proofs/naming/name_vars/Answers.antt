@@ -7,7 +7,7 @@ use Rattle.varisat_names.specs.VarMap.{at}
 use Rattle.varisat_names.specs.Variables.{IsNamed}
 use Rattle.varisat_prop.proofs.ReadElements.{item-∈}
 use Rattle.varisat.specs.Accepting.{CanBeNamed, AreNamedInTurn}
-use Rattle.varisat.proofs.PlainTables.{is-there, there-is, one-units, named-push}
+use Rattle.varisat.proofs.PlainTables.{is-there, there-is, named-push}
 use Rattle.varisat.proofs.NamedTables.{Leads, named-leads, named-here, in-range, named-bounded}
 use Rattle.varisat.proofs.NamesComing.{split-again}
 use Rattle.varisat.proofs.ReadPlaces.{take-item, split-item}
@@ -16,7 +16,7 @@ use Rattle.varisat.proofs.naming.name_vars.Goals as goal
 pub name_user_var-requires : goal.name_user_var-requires
 name_user_var-requires g c =
     let i = item-∈ c.args.clause.now c.loop-lit.lit-index c.lit-item.result c.loop-lit-test.true c.lit-item.is in
-    let h = in-range c.args.clause.now c.lit-item.result c.requires.names.in_range i in
+    let h = in-range c.args.clause.now c.lit-item.result c.requires.in_range i in
     let n = c.loop-lit.invariant.names.bounded.globals in
     let v = c.var.ensures in
     omega (arith, h, n, v)
@@ -35,8 +35,7 @@ loop-lit-preserved g c =
     let leads : (m : Literal) → Leads new (variable_of m) → IsSome (at new.users.forward (variable_of m)) = (λ m (x, e). is-there (at new.users.forward (variable_of m)) x e) in
     record {
       names = record {
-        no_units = one-units (variable_of l) now new r.no_units n;
-        bounded = named-bounded (d ++ l ∷ []) rest c.args.variables.now new (subst (λ ls. CanBeNamed ls c.args.variables.now) (s ∙ split-again d l rest) c.requires.names) turn;
+        bounded = named-bounded (d ++ l ∷ []) rest c.args.variables.now new (subst (λ ls. CanBeNamed ls c.args.variables.now) (s ∙ split-again d l rest) c.requires) turn;
         named = λ m k. ⊎_elim
             (λ a. leads m (named-leads (variable_of l) now new n (variable_of m) (there-is (at now.users.forward (variable_of m)) (r.named m a))))
             (λ a. ⊎_elim (λ q. leads m (subst (λ z. Leads new (variable_of z)) (sym q) (named-here (variable_of l) now new n))) (λ z. absurd z) a)

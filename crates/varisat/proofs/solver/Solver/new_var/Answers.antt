@@ -7,7 +7,7 @@ use Rattle.varisat.specs.States.{Ledger}
 use Rattle.varisat.specs.Names.{name_one}
 use Rattle.varisat.specs.Calls.{with_naming, start}
 use Rattle.varisat.proofs.AcceptClause.{with_tables, ledger-free}
-use Rattle.varisat.proofs.PlainTables.{is-there, there-is, given-keeps, given-units, assumed-keeps, marked-keeps}
+use Rattle.varisat.proofs.PlainTables.{is-there, there-is, given-keeps, assumed-keeps, marked-keeps}
 use Rattle.varisat.proofs.KeptCounts.{given-most}
 use Rattle.varisat.proofs.CallStates.{stands-valid, like-refl, broken, broken-invalid}
 use Rattle.varisat.proofs.SolverCalls.{least-free, new-named}
@@ -31,7 +31,6 @@ invariant_of-self g c v =
         globals = omega (arith, m, c.global_watermark.ensures, c.max_count-else-index-max_count.ensures, c.if-global_watermark-max_count.false);
         solvers = let q = ap (λ m. length m.backward) t.solvers in omega (arith, q, k.bounded.solvers);
       };
-      no_units = given-units old new u x k.no_units t;
       ready = k.ready;
       count = k.count ∙ ap (λ m. length m.backward) (sym t.solvers);
       decidable = tables-in-use old new (view c.self.inside.ctx) c.self.inside.ctx.vsids t.solvers k.decidable;

@@ -1,6 +1,6 @@
--- The hidden variables on the trail of a settled search, as they leave it.
+-- The variables on the trail of a settled search that are not assumed, as they leave it.
 use Rattle.std.proofs.Common.{◌≡◌, ◌≢◌, ℕ, zero, suc, ◌<◌, ◌||◌, nat_eq, not, ◌&&◌, Bool, true, false, Option, Some, None, List, [], ◌∷◌, ◌↔◌, ◌⊎◌, inl, inr, length, map, sym, ap, ap₂, ◌∙◌, subst, refl, arith, eq-eqb, ne_eqb}
-use Rattle.std.specs.Option.{is_some, IsSome}
+use Rattle.std.specs.Option.{IsSome}
 use Rattle.std.specs.Prelude.{slice_index_or}
 use Rattle.varisat_theory.specs.Membership.{◌∈◌, IsDistinct}
 use Rattle.varisat_theory.specs.Literals.{Literal, Clause, variable_of, literal_of}
@@ -32,24 +32,21 @@ use Rattle.varisat.specs.States.{State}
 use Rattle.varisat.specs.Spaces.{SpacesFit}
 use Rattle.varisat.specs.Accepting.{DecidesInUse}
 use Rattle.varisat.specs.Summaries.{spaces_of, IsKept}
-use Rattle.varisat.specs.Dropping.{is_unnamed, hidden_among, FlagsVariables, AreDroppedAlone, LeavesTables}
+use Rattle.varisat.specs.Dropping.{leads_to_unassumed, unassumed_among, AreOverAssumed, FlagsVariables, AreDroppedAlone, LeavesTables}
 use Rattle.varisat.proofs.DroppedAlone.{left-alone}
 use Rattle.varisat.proofs.DroppedTables.{AreWithout, variables-left}
 use Rattle.varisat.proofs.PlainTables.{there-is}
 use Rattle.varisat.proofs.Carried.{literal-parts}
 use Rattle.varisat.proofs.SearchViews.{of-kept}
 
--- a variable without a name stands there
-pub unnamed-global : (m : Tables) (o : Option ℕ) → is_unnamed m o ≡ true → (x : ℕ) × (o ≡ Some x) × (at m.users.backward x ≡ None)
-unnamed-global m None e = absurd cc
-unnamed-global m (Some x) e = (x, refl, go (at m.users.backward x) e)
+-- a variable stands there that is not assumed
+pub unassumed-global : (m : Tables) (o : Option ℕ) → leads_to_unassumed m o ≡ true → (x : ℕ) × (o ≡ Some x) × ((kept_at m.kept x).assumed ≡ false)
+unassumed-global m None e = absurd cc
+unassumed-global m (Some x) e = (x, refl, go (kept_at m.kept x).assumed e)
   where
-    go : (o : Option ℕ) → not (is_some o) ≡ true → o ≡ None
-    go None h = refl
-    go (Some u) h = absurd (let z : false ≡ true = h in cc)
-
-pub named-there : (m : Tables) (x u : ℕ) → at m.users.backward x ≡ Some u → is_unnamed m (Some x) ≡ false
-named-there m x u e = ap (λ o. not (is_some o)) e
+    go : (b : Bool) → not b ≡ true → b ≡ false
+    go true h = let z : false ≡ true = h in absurd cc
+    go false h = refl
 
 true-or-not : (b : Bool) → (b ≡ true → ⊥) → b ≡ false
 true-or-not true n = absurd (n refl)
@@ -91,13 +88,13 @@ module _ (s : View) (w : WellFormed s) (d : IsSettledDown s) where
   pub on-proved : (l : Literal) → l ∈ s.trail → l ∈ (search_of s).proved
   on-proved l h = filter-∈ (is_proved s) s.trail l h (ap₂ (λ n r. nat_eq n 0 && not (is_clause r)) (level-none l h) (reason-unit l h))
 
-  module _ (m : Tables) (gone : List Bool) (f : FlagsVariables (length s.values) (hidden_among m s.trail) gone) where
-    -- a variable that leaves has a literal on the trail, and no name
-    pub leaving-literal : (v : ℕ) → leaves gone v ≡ true → (l : Literal) × (l ∈ s.trail) × (variable_of l ≡ v) × (is_unnamed m (at m.solvers.backward v) ≡ true)
+  module _ (m : Tables) (gone : List Bool) (f : FlagsVariables (length s.values) (unassumed_among m s.trail) gone) where
+    -- a variable that leaves has a literal on the trail, and is not assumed
+    pub leaving-literal : (v : ℕ) → leaves gone v ≡ true → (l : Literal) × (l ∈ s.trail) × (variable_of l ≡ v) × (leads_to_unassumed m (at m.solvers.backward v) ≡ true)
     leaving-literal v e =
         let (l, h, q) = (f.flagged v).0 e in
-        let (on, u) = ∈-filter (λ l. is_unnamed m (at m.solvers.backward (variable_of l))) s.trail l h in
-        (l, on, q, subst (λ z. is_unnamed m (at m.solvers.backward z) ≡ true) q u)
+        let (on, u) = ∈-filter (λ l. leads_to_unassumed m (at m.solvers.backward (variable_of l))) s.trail l h in
+        (l, on, q, subst (λ z. leads_to_unassumed m (at m.solvers.backward z) ≡ true) q u)
 
     pub unmentioned : (c : Clause) → c ∈ kept s → AreStaying gone c
     unmentioned c h l i = true-or-not (leaves gone (variable_of l)) (λ e.
@@ -105,25 +102,25 @@ module _ (s : View) (w : WellFormed s) (d : IsSettledDown s) where
         let z : Some (polarity_of k) ≡ None = sym (on-value k on) ∙ ap (λ v. slice_index_or s.values v None) q ∙ d.unassigned c h l i in
         cc)
 
-    pub named-stay : (ls : List Literal) → ((l : Literal) → l ∈ ls → (x u : ℕ) × (at m.solvers.backward (variable_of l) ≡ Some x) × (at m.users.backward x ≡ Some u)) → AreStaying gone ls
-    named-stay ls n l i = true-or-not (leaves gone (variable_of l)) (λ e.
+    pub assumed-stay : (ls : List Literal) → ((l : Literal) → l ∈ ls → (x : ℕ) × (at m.solvers.backward (variable_of l) ≡ Some x) × ((kept_at m.kept x).assumed ≡ true)) → AreStaying gone ls
+    assumed-stay ls n l i = true-or-not (leaves gone (variable_of l)) (λ e.
         let (k, on, q, u) = leaving-literal (variable_of l) e in
-        let (x, y, a, b) = n l i in
-        let z : true ≡ false = sym u ∙ ap (is_unnamed m) a ∙ named-there m x y b in
+        let (x, a, b) = n l i in
+        let z : true ≡ false = sym u ∙ ap (leads_to_unassumed m) a ∙ ap not b in
         cc)
 
     -- it is one of those that are dropped
-    pub is-dropped : (v : ℕ) → leaves gone v ≡ true → v ∈ map variable_of (hidden_among m s.trail)
-    is-dropped v e = let (l, h, q) = (f.flagged v).0 e in subst (λ z. z ∈ map variable_of (hidden_among m s.trail)) q (∈-map variable_of l (hidden_among m s.trail) h)
+    pub is-dropped : (v : ℕ) → leaves gone v ≡ true → v ∈ map variable_of (unassumed_among m s.trail)
+    is-dropped v e = let (l, h, q) = (f.flagged v).0 e in subst (λ z. z ∈ map variable_of (unassumed_among m s.trail)) q (∈-map variable_of l (unassumed_among m s.trail) h)
 
-    pub dropped-is : (v : ℕ) → v ∈ map variable_of (hidden_among m s.trail) → leaves gone v ≡ true
-    dropped-is v h = let (l, i, e) = map-∈ variable_of v (hidden_among m s.trail) h in (f.flagged v).1 (l, i, sym e)
+    pub dropped-is : (v : ℕ) → v ∈ map variable_of (unassumed_among m s.trail) → leaves gone v ≡ true
+    dropped-is v h = let (l, i, e) = map-∈ variable_of v (unassumed_among m s.trail) h in (f.flagged v).1 (l, i, sym e)
 
-    stays-of : (l : Literal) → leaves gone (variable_of l) ≡ false → variable_of l ∈ map variable_of (hidden_among m s.trail) → ⊥
+    stays-of : (l : Literal) → leaves gone (variable_of l) ≡ false → variable_of l ∈ map variable_of (unassumed_among m s.trail) → ⊥
     stays-of l e h = let z : true ≡ false = sym (dropped-is (variable_of l) h) ∙ e in cc
 
-    pub without-these : (t : View) → search_of t ≡ search_without gone (search_of s) → AreWithout (λ v. slice_index_or s.values v None) (map variable_of (hidden_among m s.trail)) (search_of s) (search_of t)
-    without-these t e = subst (λ (y : Search). AreWithout (λ v. slice_index_or s.values v None) (map variable_of (hidden_among m s.trail)) (search_of s) y) (sym e) (record {
+    pub without-these : (t : View) → search_of t ≡ search_without gone (search_of s) → AreWithout (λ v. slice_index_or s.values v None) (map variable_of (unassumed_among m s.trail)) (search_of s) (search_of t)
+    without-these t e = subst (λ (y : Search). AreWithout (λ v. slice_index_or s.values v None) (map variable_of (unassumed_among m s.trail)) (search_of s) y) (sym e) (record {
       kept = refl;
       unmentioned = λ v i k h. unmentioned-by v k.clause (λ l j q. let z : true ≡ false = sym (dropped-is v i) ∙ ap (leaves gone) (sym q) ∙ unmentioned k.clause (of-kept s k h) l j in cc);
       stays = λ l i. go l i (leaves gone (variable_of l)) refl;
@@ -136,47 +133,47 @@ module _ (s : View) (w : WellFormed s) (d : IsSettledDown s) where
           subst (λ k. k ∈ (search_of s).proved) (literal-is l v b r sign) (on-proved l on);
     })
       where
-        go : (l : Literal) → l ∈ (search_of s).fixed → (b : Bool) → leaves gone (variable_of l) ≡ b → (l ∈ staying gone (search_of s).fixed) ⊎ ((variable_of l ∈ map variable_of (hidden_among m s.trail)) × (slice_index_or s.values (variable_of l) None ≡ Some (polarity_of l)))
+        go : (l : Literal) → l ∈ (search_of s).fixed → (b : Bool) → leaves gone (variable_of l) ≡ b → (l ∈ staying gone (search_of s).fixed) ⊎ ((variable_of l ∈ map variable_of (unassumed_among m s.trail)) × (slice_index_or s.values (variable_of l) None ≡ Some (polarity_of l)))
         go l i true e = inr (is-dropped (variable_of l) e, on-value l (∈-filter (is_fixed s) s.trail l i).0)
         go l i false e = inl (was-staying gone (search_of s).fixed l i e)
 
         literal-is : (l v : ℕ) (b : Bool) → variable_of l ≡ v → polarity_of l ≡ b → l ≡ literal_of v b
         literal-is l v b e q = sym (literal-parts l) ∙ ap₂ literal_of e q
 
-  pub hidden-distinct : (m : Tables) → IsDistinct (map variable_of (hidden_among m s.trail))
-  hidden-distinct m = distinct-left (λ l. is_unnamed m (at m.solvers.backward (variable_of l))) s.trail (trail-distinct s w)
+  pub unassumed-distinct : (m : Tables) → IsDistinct (map variable_of (unassumed_among m s.trail))
+  unassumed-distinct m = distinct-left (λ l. leads_to_unassumed m (at m.solvers.backward (variable_of l))) s.trail (trail-distinct s w)
 
 -- those that are listed are in use
-pub hidden-taken : (m : Tables) (ls : List Literal) (l : Literal) → l ∈ hidden_among m ls → IsSome (at m.solvers.backward (variable_of l))
-hidden-taken m ls l h =
-    let (on, u) = ∈-filter (λ l. is_unnamed m (at m.solvers.backward (variable_of l))) ls l h in
-    let (x, e, n) = unnamed-global m (at m.solvers.backward (variable_of l)) u in
+pub unassumed-taken : (m : Tables) (ls : List Literal) (l : Literal) → l ∈ unassumed_among m ls → IsSome (at m.solvers.backward (variable_of l))
+unassumed-taken m ls l h =
+    let (on, u) = ∈-filter (λ l. leads_to_unassumed m (at m.solvers.backward (variable_of l))) ls l h in
+    let (x, e, n) = unassumed-global m (at m.solvers.backward (variable_of l)) u in
     subst IsSome (sym e) refl
 
--- What a solver keeps, and stands for, once the hidden variables on the trail left.
-module _ {A : Type 0} (m n : Tables) (x y : Context A) (gone : List Bool) (linked : AreLinked m) (k : IsKept m x) (d : IsSettledDown (view x)) (f : FlagsVariables (length x.assignment.current) (hidden_among m x.trail.literals) gone) (ready : IsReady y) (p : IsWithout gone (view x) (view y)) (same : y.assumptions ≡ x.assumptions) (a : AreDroppedAlone (hidden_among m x.trail.literals) m n) (tables : LeavesTables (hidden_among m x.trail.literals) m n) where
+-- What a solver keeps, and stands for, once the variables on the trail that are not assumed left.
+module _ {A : Type 0} (m n : Tables) (x y : Context A) (gone : List Bool) (linked : AreLinked m) (k : IsKept m x) (d : IsSettledDown (view x)) (f : FlagsVariables (length x.assignment.current) (unassumed_among m x.trail.literals) gone) (ready : IsReady y) (p : IsWithout gone (view x) (view y)) (same : y.assumptions ≡ x.assumptions) (a : AreDroppedAlone (unassumed_among m x.trail.literals) m n) (tables : LeavesTables (unassumed_among m x.trail.literals) m n) where
   values-count : length y.assignment.current ≡ length x.assignment.current
   values-count = ap (λ (s : View). length s.values) p.rest ∙ cleared-length gone None x.assignment.current
 
-  hidden-name : (l : Literal) → l ∈ hidden_among m x.trail.literals → (z : ℕ) → at m.solvers.backward (variable_of l) ≡ Some z → at m.users.backward z ≡ None
-  hidden-name l h z e =
-      let (on, u) = ∈-filter (λ l. is_unnamed m (at m.solvers.backward (variable_of l))) x.trail.literals l h in
-      let (w, q, none) = unnamed-global m (at m.solvers.backward (variable_of l)) u in
+  listed-free : (l : Literal) → l ∈ unassumed_among m x.trail.literals → (z : ℕ) → at m.solvers.backward (variable_of l) ≡ Some z → (kept_at m.kept z).assumed ≡ false
+  listed-free l h z e =
+      let (on, u) = ∈-filter (λ l. leads_to_unassumed m (at m.solvers.backward (variable_of l))) x.trail.literals l h in
+      let (w, q, free) = unassumed-global m (at m.solvers.backward (variable_of l)) u in
       let r : Some w ≡ Some z = sym q ∙ e in
-      subst (λ z. at m.users.backward z ≡ None) (let i : w ≡ z = cc in i) none
+      subst (λ z. (kept_at m.kept z).assumed ≡ false) (let i : w ≡ z = cc in i) free
 
-  -- a global variable with a name is not among them
-  named-kept : (z u : ℕ) → at m.users.backward z ≡ Some u → kept_at n.kept z ≡ kept_at m.kept z
-  named-kept z u e = tables.others z (λ l h q. let i : None ≡ Some u = sym (hidden-name l h z q) ∙ e in cc)
+  -- a global variable that is assumed is not among them
+  assumed-kept : (z : ℕ) → (kept_at m.kept z).assumed ≡ true → kept_at n.kept z ≡ kept_at m.kept z
+  assumed-kept z e = tables.others z (λ l h q. let i : true ≡ false = sym e ∙ listed-free l h z q in cc)
 
-  named-there-still : (v z u : ℕ) → at m.solvers.backward v ≡ Some z → at m.users.backward z ≡ Some u → at n.solvers.backward v ≡ Some z
-  named-there-still v z u e q = tables.stays v (λ l h o. let i : None ≡ Some u = sym (hidden-name l h z (ap (at m.solvers.backward) o ∙ e)) ∙ q in cc) ∙ e
+  assumed-there : (v z : ℕ) → at m.solvers.backward v ≡ Some z → (kept_at m.kept z).assumed ≡ true → at n.solvers.backward v ≡ Some z
+  assumed-there v z e q = tables.stays v (λ l h o. let i : true ≡ false = sym q ∙ listed-free l h z (ap (at m.solvers.backward) o ∙ e) in cc) ∙ e
 
   in-use : ((v : ℕ) → IsDecidable (view y) y.vsids v ↔ (IsDecidable (view x) x.vsids v × (leaves gone v ≡ false))) → DecidesInUse n (view y) y.vsids
   in-use g v = (
     λ h.
         let (e, st) = (g v).0 h in
-        let q = tables.stays v (λ l i o. let z : true ≡ false = sym (dropped-is (view x) k.ready.well d m gone f v (subst (λ w. w ∈ map variable_of (hidden_among m x.trail.literals)) o (∈-map variable_of l (hidden_among m x.trail.literals) i))) ∙ st in cc) in
+        let q = tables.stays v (λ l i o. let z : true ≡ false = sym (dropped-is (view x) k.ready.well d m gone f v (subst (λ w. w ∈ map variable_of (unassumed_among m x.trail.literals)) o (∈-map variable_of l (unassumed_among m x.trail.literals) i))) ∙ st in cc) in
         subst IsSome (sym q) ((k.decidable v).0 e),
     λ h.
         let (z, e) = there-is (at n.solvers.backward v) h in
@@ -196,26 +193,42 @@ module _ {A : Type 0} (m n : Tables) (x y : Context A) (gone : List Bool) (linke
         let c = tables.count in
         let v = tables.solvers in
         record { users = omega (arith, u, k.bounded.users); globals = omega (arith, c, k.bounded.globals); solvers = omega (arith, v, k.bounded.solvers) });
-    no_units = tables.units k.no_units;
     ready = ready;
     count = values-count ∙ k.count ∙ sym tables.solvers;
     decidable = in-use g;
     assumed = λ l h. subst (λ (b : BiMap). IsSome (at b.forward (variable_of l))) (sym tables.users) (k.assumed l (subst (λ (as' : AssumptionParts). l ∈ as'.user) same h));
     marked = λ l z h e.
-        let before = ap (λ (b : BiMap). at b.forward (variable_of l)) (sym tables.users) ∙ e in
-        ap (λ (c : VarData). c.assumed) (named-kept z (variable_of l) (linked.users.there (variable_of l) z before)) ∙ k.marked l z (subst (λ (as' : AssumptionParts). l ∈ as'.user) same h) before;
+        let before = k.marked l z (subst (λ (as' : AssumptionParts). l ∈ as'.user) same h) (ap (λ (b : BiMap). at b.forward (variable_of l)) (sym tables.users) ∙ e) in
+        ap (λ (c : VarData). c.assumed) (assumed-kept z before) ∙ before;
     working = λ l h.
         let (z, u, e, q, r) = k.working l (subst (λ (as' : AssumptionParts). l ∈ as'.working) same h) in
-        (z, u, named-there-still (variable_of l) z u e q, ap (λ (b : BiMap). at b.backward z) tables.users ∙ q, ap (λ (c : VarData). c.assumed) (named-kept z u q) ∙ r);
+        (z, u, assumed-there (variable_of l) z e r, ap (λ (b : BiMap). at b.backward z) tables.users ∙ q, ap (λ (c : VarData). c.assumed) (assumed-kept z r) ∙ r);
   }
+
+  -- no variable that is not assumed has a literal on the trail any more
+  pub none-left : AreOverAssumed n y.trail.literals
+  none-left l h = go (at m.solvers.backward (variable_of l)) refl
+    where
+      before : (l ∈ x.trail.literals) × (leaves gone (variable_of l) ≡ false)
+      before = staying-was gone x.trail.literals l (subst (λ ls. l ∈ ls) (ap (λ (s : View). s.trail) p.rest) h)
+
+      other : (j : Literal) → j ∈ unassumed_among m x.trail.literals → variable_of j ≢ variable_of l
+      other j i q = let z : true ≡ false = sym ((f.flagged (variable_of l)).1 (j, i, q)) ∙ before.1 in cc
+
+      go : (o : Option ℕ) → at m.solvers.backward (variable_of l) ≡ o → leads_to_unassumed n (at n.solvers.backward (variable_of l)) ≡ false
+      go None e = ap (leads_to_unassumed n) (tables.stays (variable_of l) other ∙ e)
+      go (Some z) e =
+          let was = true-or-not (leads_to_unassumed m (at m.solvers.backward (variable_of l))) (λ t. other l (filter-∈ (λ l. leads_to_unassumed m (at m.solvers.backward (variable_of l))) x.trail.literals l before.0 t) refl) in
+          let same = tables.others z (λ j i q. other j i (let r : Some (variable_of j) ≡ Some (variable_of l) = sym (linked.solvers.back z (variable_of j) q) ∙ linked.solvers.back z (variable_of l) e in cc)) in
+          ap (leads_to_unassumed n) (tables.stays (variable_of l) other ∙ e) ∙ ap (λ (d : VarData). not d.assumed) same ∙ sym (ap (leads_to_unassumed m) e) ∙ was
 
   pub stands-dropped : search_of (view y) ≡ search_without gone (search_of (view x)) → (s : State) → SpacesFit (spaces_of m (view x) x.assumptions verdict.Unknown) s → SpacesFit (spaces_of n (view y) y.assumptions verdict.Unknown) s
   stands-dropped seen s fit =
       let known : ℕ → Option Bool = (λ v. slice_index_or x.assignment.current v None) in
       subst (λ (as' : AssumptionParts). SpacesFit (spaces_of n (view y) as' verdict.Unknown) s) (sym same)
-      (variables-left known (map variable_of (hidden_among m x.trail.literals)) m n (view x) (view y) x.assumptions s
-      (left-alone known (hidden_among m x.trail.literals) m n (λ l h. on-value (view x) k.ready.well d l (∈-filter (λ l. is_unnamed m (at m.solvers.backward (variable_of l))) x.trail.literals l h).0) a)
+      (variables-left known (map variable_of (unassumed_among m x.trail.literals)) m n (view x) (view y) x.assumptions s
+      (left-alone known (unassumed_among m x.trail.literals) m n (λ l h. on-value (view x) k.ready.well d l (∈-filter (λ l. leads_to_unassumed m (at m.solvers.backward (variable_of l))) x.trail.literals l h).0) a)
       (without-these (view x) k.ready.well d m gone f (view y) seen)
       values-count
-      (λ v z i e. let (l, h, q) = map-∈ variable_of v (hidden_among m x.trail.literals) i in hidden-name l h z (ap (at m.solvers.backward) (sym q) ∙ e))
+      (λ v z i e. let (l, h, q) = map-∈ variable_of v (unassumed_among m x.trail.literals) i in listed-free l h z (ap (at m.solvers.backward) (sym q) ∙ e))
       fit)

@@ -25,7 +25,7 @@ lines_of (FailedAssumptions core) = []
 abbrev pub lines_written : ProofFormat → List Line → List ℕ
 lines_written format lines = flat_map (line_written format) lines
 
--- The lines' bytes were appended; or a beginning of them, for want of memory, or by a fault that the target counts.
+-- The lines' bytes were appended; or a beginning of them, as memory ran out, or by a fault that the target counts.
 abbrev pub PutsLines : ProofFormat → Taken → Result (Unit {0}) WriteError → List Line → Taken → Type 0
 PutsLines format old (Ok u) lines new = (new.bytes ≡ old.bytes ++ lines_written format lines) × (new.faults ≡ old.faults)
 PutsLines format old (Err Memory) lines new = ((n : ℕ) × (new.bytes ≡ old.bytes ++ take n (lines_written format lines))) × (new.faults ≡ old.faults)

@@ -109,7 +109,7 @@ impl<A: Allocator + Copy> Checker<A> {
         Ok(())
     }
 
-    /// Ends a call for want of memory, which spends the checker.
+    /// Ends a call as memory ran out, which spends the checker.
     fn run_out(&mut self) -> CheckerError
         ensures error { result ≡ OutOfMemory }
         ensures spent { self.new ≡ record self.old { spent = true } }

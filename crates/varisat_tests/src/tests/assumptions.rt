@@ -108,7 +108,7 @@ fn fails_again(
     Ok(is_part & !is_satisfiable)
 }
 
-// Whether the solver answers as a new one does, with a core where it answers false.
+// Whether the solver returns what a new one does, with a core where it returns false.
 fn answers_as_new(
     alloc: Global,
     solver: &mut TestSolver,
@@ -133,7 +133,7 @@ fn next_literals(numbers: &mut Numbers) -> [Lit; 6] {
     literals
 }
 
-// Whether the solver answers as a new one does in each round.
+// Whether the solver returns what a new one does in each round.
 fn are_answered(alloc: Global, solver: &mut TestSolver, count: usize) -> Result<bool, SolverError> {
     let mut numbers = Numbers::after(11);
     let mut right = true;

@@ -219,8 +219,9 @@ impl<W: ProofTarget, A: Allocator + Copy> Solver<W, A> {
         self.ctx.schedule.steps()
     }
 
-    /// One above the highest variable that the search ever had. A hidden variable whose value is fixed leaves the search
-    /// as `solve` begins, and the next variable that clauses or assumptions name takes its place there.
+    /// One above the highest variable that the search ever had. A variable whose value is fixed leaves the search, unless
+    /// it is assumed, as `solve` begins with units that it has not propagated yet. The next variable that clauses or
+    /// assumptions name takes its place there.
     pub fn solver_watermark(&self) -> usize
         ensures { result ≡ length self.now.tables.solvers.backward }
     {

@@ -6,7 +6,7 @@ use Rattle.varisat_theory.specs.Literals.{Literal, Clause, Assignment, variable_
 use Rattle.varisat_theory.specs.Searches.{IsLiteralOf}
 use Rattle.varisat_theory.specs.Outcomes.{Loads}
 use Rattle.varisat_theory.specs.Outcomes as outcome
-use Rattle.varisat_theory.proofs.Renaming.{∈-map, map-∈}
+use Rattle.varisat_theory.proofs.Renaming.{map-∈}
 use Rattle.varisat_theory.proofs.Members.{∈-append_left}
 use Rattle.varisat_theory.proofs.Sound.{core_stays}
 use Rattle.varisat_prop.specs.View.{View, WellFormed}
@@ -21,26 +21,25 @@ use Rattle.varisat_names.specs.Maps.{chain}
 use Rattle.varisat_names.specs.VarMap.{at}
 use Rattle.varisat_names.specs.VarData.{fresh, kept_at}
 use Rattle.varisat_names.specs.Variables.{Tables, IsGiven, AreNextGiven, IsNamed, InUse, Free, Above, IsTaken}
-use Rattle.varisat_names.proofs.Maps.{updated-at, updated-other, updated-all, chain-some, chain-none, chain-through, is-some}
+use Rattle.varisat_names.proofs.Maps.{updated-at, updated-other, updated-all, chain-some, chain-none, is-some}
 use Rattle.varisat_names.proofs.VarMap.{at-inside}
 use Rattle.varisat.specs.States.{State, Ledger, join_counted, Verdict, Unknown, Sat, Unsat, UnsatUnderAssumptions, IsRight}
-use Rattle.varisat.specs.Names.{Naming, bring, bring_next, bring_if_free, name_one, name_all, through_names}
+use Rattle.varisat.specs.Names.{Naming, bring, bring_next, bring_if_free, name_one, through_names}
 use Rattle.varisat.specs.Calls.{with_naming, VerdictAfter, Refuted, Reopened, append_clause, reopened_verdict, with_verdict}
 use Rattle.varisat.specs.Carried.{carry, value_or}
 use Rattle.varisat.specs.Spaces.{Spaces, Carrying, IsWide, translation, SearchHolds, CoreFits, without_core, VerdictFits, Links, SpacesFit}
 use Rattle.varisat.specs.Summaries.{Summary, spaces, spaces_of, StandsFor}
-use Rattle.varisat.specs.Accepting.{AreBack, AreNamedInTurn, AreTakenInTurn, AreTakenFor, AreJoined}
+use Rattle.varisat.specs.Accepting.{HasSolver, AreJoined}
 use Rattle.varisat.proofs.SpacesMoves.{give, take_solver, count, solver_literal, accept}
 use Rattle.varisat.proofs.KeptCounts.{given-most}
 use Rattle.varisat.proofs.NewNames.{given}
-use Rattle.varisat.proofs.Counted.{counted, right-more, join-more, join-has, join-only, join-once}
-use Rattle.varisat.proofs.AcceptSolverVariables.{taken, solvers-few}
-use Rattle.varisat.proofs.Relinked.{relinked}
+use Rattle.varisat.proofs.Counted.{counted, join-more, join-only, join-once}
+use Rattle.varisat.proofs.AcceptSolverVariables.{taken}
+use Rattle.varisat.proofs.SearchLinks.{relinked}
 use Rattle.varisat.proofs.ModelsFit.{is-core}
 use Rattle.varisat.proofs.AcceptLoad.{loaded}
 use Rattle.varisat.proofs.SolveVerdict.{forgotten, core-known, model-same, spaces-same, maps-same}
 use Rattle.varisat.proofs.Carried.{carry-at}
-use Rattle.varisat.proofs.PlainTables.{taken-users, taken-full}
 use Rattle.varisat.proofs.SearchViews.{view-long}
 
 abbrev pub with_tables : Tables → Summary → Summary
@@ -110,10 +109,6 @@ named-one g s new u f (Above b e) =
     subst (SpacesFit (spaces (with_tables new g))) (sym (ap (λ n. with_naming n s) (name-above u s.naming (omega (arith, b, m)))))
     (next-spaces (suc u - s.naming.watermark) g s new f (subst (λ c. AreNextGiven c g.tables new) z e))
 
-pub named-all : (d : List Literal) (g : Summary) (s : State) (new : Tables) → SpacesFit (spaces g) s → AreNamedInTurn d g.tables new → SpacesFit (spaces (with_tables new g)) (with_naming (name_all d s.naming) s)
-named-all [] g s new f e = subst (λ t. SpacesFit (spaces (with_tables t g)) s) (sym e) f
-named-all (l ∷ d) g s new f (mid, e, rest) = named-all d (with_tables mid g) (with_naming (name_one (variable_of l) s.naming) s) new (named-one g s mid (variable_of l) f e) rest
-
 -- 2. Solver variables, where no model is told.
 
 abbrev pub HasNoModel : Summary → Type 0
@@ -131,16 +126,6 @@ taken-one g s new x v i w k none n is spoken free t =
       kept = λ y. ap (λ m. kept_at m y) t.kept;
       model = λ a e y. absurd (none a e);
     }) refl (w, taken w (spaces g) s x i v k is spoken free t.least.0 (inl n))
-
-pub taken-in-turn : (xs : List ℕ) (g : Summary) (s : State) (new : Tables) → SpacesFit (spaces g) s → HasNoModel g → ((x : ℕ) → x ∈ xs → (u : ℕ) × (at g.tables.users.forward u ≡ Some x) × ((kept_at g.tables.kept x).unit ≡ None) × ((i : ℕ) → s.naming.names u ≡ Some i → i ∈ s.counted)) → AreTakenInTurn xs g.tables new → SpacesFit (spaces (with_tables new g)) s
-taken-in-turn [] g s new f o a e = subst (λ t. SpacesFit (spaces (with_tables t g)) s) (sym e) f
-taken-in-turn (x ∷ xs) g s new (w, k) o a (mid, v, free, t, rest) =
-    let (u, e, n, c) = a x (inl refl) in
-    let (i, is) = k.names.live u x e in
-    let named : s.naming.names u ≡ Some i = k.names.agree u ∙ chain-some (at g.tables.users.forward) w.identity u x e ∙ is in
-    taken-in-turn xs (with_tables mid g) s new (taken-one g s mid x v i w k o n is (c i named) free t) o
-    (λ y h. let (z, q, m, r) = a y (inr h) in (z, ap (λ m. at m.forward z) t.users ∙ q, ap (λ ds. (kept_at ds y).unit) t.kept ∙ m, r))
-    rest
 
 -- 3. Another view of the same search.
 
@@ -191,38 +176,6 @@ counted-spaces g s d (w, k) named =
           (join-only is s.counted i h))
           (join-once is s.counted k.well_formed.once),
     )
-
--- the names are in use, as their variables have solver variables
-name-of : (d : List Literal) (named taken : Tables) (l : Literal) → AreTakenFor d named taken → l ∈ d → (x : ℕ) × (at taken.users.forward (variable_of l) ≡ Some x)
-name-of d named taken l e h = let (v, q) = e.all l h in let (x, a, b) = chain-through (at taken.users.forward) (at taken.solvers.forward) (variable_of l) v q in (x, a)
-
--- those that took one in turn had none before
-taken-free : (xs : List ℕ) (old new : Tables) (x : ℕ) → AreTakenInTurn xs old new → x ∈ xs → at old.solvers.forward x ≡ None
-taken-free [] old new x q h = absurd h
-taken-free (y ∷ xs) old new x (mid, v, f, t, rest) (inl e) = ap (at old.solvers.forward) e ∙ f
-taken-free (y ∷ xs) old new x (mid, v, f, t, rest) (inr h) =
-    ⊎_elim
-    (λ e. e)
-    (λ (u, e).
-    let there : at mid.solvers.forward x ≡ Some u = t.solvers.forward.at_each x ∙ updated-other (at old.solvers.forward) y (Some v) x (λ q. let z : None ≡ Some u = sym f ∙ ap (at old.solvers.forward) (sym q) ∙ e in cc) ∙ e in
-    let z : None ≡ Some u = sym (taken-free xs mid new x rest h) ∙ there in
-    absurd cc)
-    (is-some (at old.solvers.forward x))
-
--- the identities are counted, their variables take solver variables, and the search has these
-pub brought-in : (d : List Literal) (g : Summary) (n : State) (taken : Tables) (t : View) → SpacesFit (spaces g) n → HasNoModel g → AreBack d g.tables → length g.search.values ≡ length g.tables.solvers.backward → AreTakenFor d g.tables taken → search_of t ≡ search_of g.search → length t.values ≡ length taken.solvers.backward → SpacesFit (spaces (record g { tables = taken; search = t })) (count (join_counted n.counted (map variable_of (map (through_names n.naming) d))) n)
-brought-in d g n taken t f none back before e seen c =
-    let (users, kept) = taken-users e.globals g.tables taken e.in_turn in
-    let is = map variable_of (map (through_names n.naming) d) in
-    let f3 = counted-spaces g n d f (λ l h. let (x, q) = name-of d g.tables taken l e h in (x, ap (λ m. at m.forward (variable_of l)) (sym users) ∙ q)) in
-    let f4 = taken-in-turn e.globals g (count (join_counted n.counted is) n) taken f3 none
-    (λ x h. let (l, i, q) = e.named x h in (variable_of l, q, back l x i q (taken-free e.globals g.tables taken x e.in_turn h), λ j r. join-has is n.counted j (subst (λ y. y ∈ is) (carry-at n.naming.names l j r) (∈-map variable_of (through_names n.naming l) (map (through_names n.naming) d) (∈-map (through_names n.naming) l d i)))))
-    e.in_turn in
-    raised (with_tables taken g) (count (join_counted n.counted is) n) t f4 none seen
-    (⊎_elim
-    (λ same. let k = f4.1.few in omega (arith, k, c, same, before))
-    (λ full. let k = solvers-few f4.0 (spaces (with_tables taken g)) (count (join_counted n.counted is) n) (length taken.solvers.backward) f4.1 full in omega (arith, k, c))
-    (taken-full e.globals g.tables taken e.in_turn))
 
 -- 5. The clause.
 
@@ -300,44 +253,40 @@ several (x ∷ []) ((l, m, i, j, n), t) = absurd (n (one i ∙ sym (one j)))
     one (inr z) = absurd z
 several (x ∷ y ∷ d) w = omega arith
 
--- What accepting a clause did, step by step.
-pub record Steps (g : Summary) (d : Clause) (taken joined : Tables) (mid new : View) (parts : AssumptionParts) (after : SatState) : Type 0 where
-  pub count_before : length g.search.values ≡ length g.tables.solvers.backward
+-- What loading a clause did, whose literals have solver variables, step by step.
+pub record Steps (g : Summary) (d : Clause) (joined : Tables) (new : View) (parts : AssumptionParts) (after : SatState) : Type 0 where
   pub not_unsat : g.sat_state ≢ verdict.Unsat
-  pub back : AreBack d g.tables
-  pub are_taken : AreTakenFor d g.tables taken
-  pub are_joined : AreJoined d taken joined
-  pub seen : search_of mid ≡ search_of g.search
-  pub count : length mid.values ≡ length taken.solvers.backward
-  pub same_count : length new.values ≡ length mid.values
-  pub well_mid : WellFormed mid
+  pub all : (l : Literal) → l ∈ d → HasSolver g.tables (variable_of l)
+  pub are_joined : AreJoined d g.tables joined
+  pub same_count : length new.values ≡ length g.search.values
+  pub well_before : WellFormed g.search
   pub well_new : WellFormed new
-  pub in_use : (l : Literal) → IsLiteralOf (search_of new) l → (x : ℕ) × (at taken.solvers.backward (variable_of l) ≡ Some x)
-  pub loads : Loads (search_of mid) (search_of new) (map (carry (chain (at joined.users.forward) (at joined.solvers.forward))) d) (loaded_outcome after) []
+  pub in_use : (l : Literal) → IsLiteralOf (search_of new) l → (x : ℕ) × (at g.tables.solvers.backward (variable_of l) ≡ Some x)
+  pub loads : Loads (search_of g.search) (search_of new) (map (carry (chain (at joined.users.forward) (at joined.solvers.forward))) d) (loaded_outcome after) []
   pub verdict : (after ≡ reopened_state g.sat_state) ⊎ (after ≡ verdict.Unsat)
   pub parts_stay : parts ≡ record g.assumed { levels = 0 }
 
-pub clause-accepted : (g : Summary) (n : State) (d : Clause) (taken joined : Tables) (mid new : View) (parts : AssumptionParts) (after : SatState) → Steps g d taken joined mid new parts after → SpacesFit (spaces g) n →
+-- the identities of the clause are counted before it is loaded
+pub clause-accepted : (g : Summary) (n : State) (d : Clause) (joined : Tables) (new : View) (parts : AssumptionParts) (after : SatState) → Steps g d joined new parts after → SpacesFit (spaces g) (count (join_counted n.counted (map variable_of (map (through_names n.naming) d))) n) →
     (x : Verdict) × VerdictAfter n.clauses (map (through_names n.naming) d) n.verdict x × SpacesFit (spaces_of joined new parts after) (append_clause (map (through_names n.naming) d) x n)
-clause-accepted g n d taken joined mid new parts after t (w1, k1) =
+clause-accepted g n d joined new parts after t (w1, k1) =
     let c = map (through_names n.naming) d in
     let p1 = spaces g in
+    let n1 = count (join_counted n.counted (map variable_of c)) n in
     let bad = not-unsat g.search g.assumed.failed_core g.sat_state w1.identity p1.model n.verdict t.not_unsat k1.verdict in
     let g2 : Summary = record g { sat_state = verdict.Unknown } in
-    let f2 : SpacesFit (spaces g2) (with_verdict Unknown n) = (w1, forgotten w1 p1 n k1 bad) in
-    let s3 = count (join_counted n.counted (map variable_of c)) (with_verdict Unknown n) in
-    let (w5, k5) = brought-in d g2 (with_verdict Unknown n) taken mid f2 (λ a e. let z : outcome.Unknown ≡ outcome.Sat a = e in cc) t.back t.count_before t.are_taken t.seen t.count in
-    let p = spaces (record g2 { tables = taken; search = mid }) in
+    let s3 = with_verdict Unknown n1 in
+    let k5 : Links w1 (spaces g2) s3 = forgotten w1 p1 n1 k1 bad in
+    let p = spaces g2 in
     let j = t.are_joined in
     let same-literals : map (carry (chain (at joined.users.forward) (at joined.solvers.forward))) d ≡ map (solver_literal p) d = ap₂ (λ (a b : BiMap). map (carry (chain (at a.forward) (at b.forward))) d) j.users j.solvers in
     let q = spaces_of joined new parts after in
-    let (x, v, k6) = loaded w5 p s3 d k5 (λ l h. t.are_taken.all l h) (kept_at joined.kept)
+    let (x, v, k6) = loaded w1 p s3 d k5 t.all (kept_at joined.kept)
     (record { rest = j.rest; fallen = j.fallen; wide = λ wide l x h e. j.joined (several d wide) l x h e })
-    (search_of new) (loaded_outcome after) q.model [] refl (view-long mid t.well_mid) (view-long new t.well_new) t.in_use
-    (subst (λ e. Loads (search_of mid) (search_of new) e (loaded_outcome after) []) same-literals t.loads) in
+    (search_of new) (loaded_outcome after) q.model [] refl (view-long g.search t.well_before) (view-long new t.well_new) t.in_use
+    (subst (λ e. Loads (search_of g.search) (search_of new) e (loaded_outcome after) []) same-literals t.loads) in
     let p6 = record p { kept = kept_at joined.kept; search = search_of new; model = q.model } in
-    let (y, u, k7) = settled w5 p6 s3 c new g.search parts.failed_core g.assumed.failed_core w1.identity p1.model g.sat_state after n.verdict x k6 v k1.verdict t.verdict k1.core
-    (right-more n.clauses n.assumptions n.counted s3.counted n.verdict (join-more (map variable_of c) n.counted) k1.right) in (
+    let (y, u, k7) = settled w1 p6 s3 c new g.search parts.failed_core g.assumed.failed_core w1.identity p1.model g.sat_state after n.verdict x k6 v k1.verdict t.verdict k1.core k1.right in (
       y,
       u,
       spaces-same (record p6 { outcome = outcome_of new parts.failed_core after }) q (append_clause c y n) (record {
@@ -357,7 +306,7 @@ clause-accepted g n d taken joined mid new parts after t (w1, k1) =
         search = refl;
         outcome = refl;
         var_count = t.same_count;
-      }) (w5, k7),
+      }) (w1, k7),
     )
 
 -- where the search is not at Unsat, the state isn't

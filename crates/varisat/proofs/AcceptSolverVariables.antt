@@ -1,6 +1,6 @@
 -- Solver variables that are taken, and how many there are.
-use Rattle.std.proofs.Common.{◌≡◌, ◌≢◌, ℕ, zero, suc, ◌<◌, ◌≤◌, Option, Some, None, false, List, [], ◌∷◌, ◌++◌, ◌⊎◌, inl, inr, ⊎_elim, length, sym, ap, ◌∙◌, subst, refl, arith}
-use Rattle.varisat_theory.specs.Membership.{◌∈◌, IsDistinct}
+use Rattle.std.proofs.Common.{◌≡◌, ◌≢◌, ℕ, ◌<◌, ◌≤◌, Option, Some, None, false, List, ◌++◌, ◌⊎◌, inl, inr, ⊎_elim, length, sym, ap, ◌∙◌, subst, refl, arith}
+use Rattle.varisat_theory.specs.Membership.{◌∈◌}
 use Rattle.varisat_theory.specs.Literals.{Literal, Clause, variable_of, opposite}
 use Rattle.varisat_theory.specs.Held.{without}
 use Rattle.varisat_theory.specs.Renaming.{rename}
@@ -8,23 +8,22 @@ use Rattle.varisat_theory.specs.Searches.{Search, Fits, IsLiteralOf, IsCoveredBy
 use Rattle.varisat_theory.specs.Outcomes.{Outcome}
 use Rattle.varisat_theory.specs.Outcomes as outcome
 use Rattle.varisat_theory.proofs.Members.{equal_or_not, ∈-append_right}
-use Rattle.varisat_theory.proofs.Count.{length-distinct}
 use Rattle.varisat_theory.proofs.HeldDrops.{without_less}
 use Rattle.varisat_theory.proofs.StepDrops.{variable_is_dropped}
 use Rattle.varisat_prop.proofs.LiteralValues.{own-opposite}
 use Rattle.varisat_literals.specs.Numbers.{polarity_of}
 use Rattle.varisat_names.specs.Maps.{updated, onward, chain}
 use Rattle.varisat.specs.States.{State}
-use Rattle.varisat.specs.Names.{identity_of}
 use Rattle.varisat.specs.Carried.{carry, is_forced}
 use Rattle.varisat.specs.Spaces.{Spaces, Carrying, Translation, translation, SearchHolds, AssumptionsFit, without_core, Links}
 use Rattle.varisat.proofs.SpacesMoves.{take_solver}
+use Rattle.varisat_search.proofs.TakenSolvers.{few, below, below-count, ∈-below}
 use Rattle.varisat_names.proofs.Maps.{updated-at, updated-other, updated-all, joined, chain-some, chain-none, chain-through, is-some}
 use Rattle.varisat.proofs.SpacesAgree.{carry-same, working-same}
 use Rattle.varisat.proofs.ReachedHeld.{only, unmentioned, reached-apart}
 use Rattle.varisat.proofs.SearchHeld.{with-model, without-model}
 use Rattle.varisat.proofs.NewNames.{linked}
-use Rattle.varisat.proofs.Relinked.{relinked}
+use Rattle.varisat.proofs.SearchLinks.{relinked}
 
 -- no two solver variables stand for one identity
 pub one-solver : (w : Carrying) (p : Spaces) (s : State) (k : Links w p s) (v v' i : ℕ) → (translation w p s.ever_hidden).identity v ≡ Some i → (translation w p s.ever_hidden).identity v' ≡ Some i → v' ≡ v
@@ -174,57 +173,6 @@ module _ (w : Carrying) (p : Spaces) (s : State) (x i v : ℕ) (k : Links w p s)
     taken = taken-with p.search (taken-holds p.outcome refl k.holds)
 
 -- 2. How many there are.
-
--- where the numbers below n lead
-images : (ℕ → Option ℕ) → ℕ → List ℕ
-images f zero = []
-images f (suc n) = identity_of (f n) ∷ images f n
-
-images-count : (f : ℕ → Option ℕ) (n : ℕ) → length (images f n) ≡ n
-unfolding images
-images-count f zero = refl
-images-count f (suc n) = let e = images-count f n in omega (arith, e)
-
-images-∈ : (f : ℕ → Option ℕ) (n i : ℕ) → i ∈ images f n → (x : ℕ) × (x < n) × (i ≡ identity_of (f x))
-unfolding images
-images-∈ f zero i h = absurd h
-images-∈ f (suc n) i (inl e) = (n, omega arith, e)
-images-∈ f (suc n) i (inr h) = let (x, b, e) = images-∈ f n i h in (x, omega (arith, b), e)
-
-pub few : (f : ℕ → Option ℕ) (C : List ℕ) → ((x y i : ℕ) → f x ≡ Some i → f y ≡ Some i → y ≡ x) → (n : ℕ) → ((x : ℕ) → x < n → (i : ℕ) × (f x ≡ Some i) × (i ∈ C)) → n ≤ length C
-unfolding images
-few f C one n h =
-    let d = length-distinct (images f n) C (distinct n h) (λ i m. let (x, b, e) = images-∈ f n i m in let (j, q, c) = h x b in subst (λ z. z ∈ C) (sym (e ∙ ap identity_of q)) c) in
-    let e = images-count f n in
-    omega (arith, d, e)
-  where
-    step : (n i : ℕ) → f n ≡ Some i → ((x : ℕ) → x < suc n → (i : ℕ) × (f x ≡ Some i) × (i ∈ C)) → i ∈ images f n → ⊥
-    step n i q h m =
-        let (x, b, e) = images-∈ f n i m in
-        let (j, r, c) = h x (omega (arith, b)) in
-        let z : i ≡ j = e ∙ ap identity_of r in
-        let same = one n x i q (r ∙ ap Some (sym z)) in
-        absurd (omega (arith, b, same))
-
-    distinct : (n : ℕ) → ((x : ℕ) → x < n → (i : ℕ) × (f x ≡ Some i) × (i ∈ C)) → IsDistinct (images f n)
-    distinct zero h = tt
-    distinct (suc n) h =
-        let (i, q, c) = h n (omega arith) in
-        (λ m. step n i q h (subst (λ z. z ∈ images f n) (ap identity_of q) m), distinct n (λ x b. h x (omega (arith, b))))
-
-pub below : ℕ → List ℕ
-below zero = []
-below (suc n) = n ∷ below n
-
-pub below-count : (n : ℕ) → length (below n) ≡ n
-unfolding below
-below-count zero = refl
-below-count (suc n) = let e = below-count n in omega (arith, e)
-
-pub ∈-below : (n i : ℕ) → i < n → i ∈ below n
-unfolding below
-∈-below zero i h = absurd (omega arith)
-∈-below (suc n) i h = ⊎_elim inl (λ o. inr (∈-below n i (omega (arith, o)))) (equal_or_not i n)
 
 -- where all solver variables below m are in use, m is at most the number of counted identities
 pub solvers-few : (w : Carrying) (p : Spaces) (s : State) (m : ℕ) → Links w p s → ((v : ℕ) → v < m → p.global_from_solver v ≢ None) → m ≤ length s.counted

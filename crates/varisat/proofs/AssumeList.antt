@@ -13,16 +13,16 @@ use Rattle.varisat_names.specs.VarMap.{at}
 use Rattle.varisat_names.specs.VarData.{kept_at}
 use Rattle.varisat_names.specs.declared.variables.data.VarData.{VarData}
 use Rattle.varisat_names.specs.Variables.{Tables}
-use Rattle.varisat.specs.States.{State, Verdict, Unknown, Sat, Unsat, UnsatUnderAssumptions}
+use Rattle.varisat.specs.States.{State, join_counted, Verdict, Unknown, Sat, Unsat, UnsatUnderAssumptions}
 use Rattle.varisat.specs.Names.{through_names}
 use Rattle.varisat.specs.Calls.{assumed_verdict, with_assumptions, with_verdict}
 use Rattle.varisat.specs.Carried.{carry}
 use Rattle.varisat.specs.Spaces.{Carrying, MarksFit, Links, SpacesFit}
 use Rattle.varisat.specs.Summaries.{Summary, spaces, spaces_of}
-use Rattle.varisat.specs.Accepting.{AreBack, AreTakenFor, AreMarked}
-use Rattle.varisat.proofs.SpacesMoves.{IsMarkedFor, solver_literal}
+use Rattle.varisat.specs.Accepting.{HasSolver, AreMarked}
+use Rattle.varisat.proofs.SpacesMoves.{IsMarkedFor, count, solver_literal}
 use Rattle.varisat.proofs.AcceptLoad.{assumed}
-use Rattle.varisat.proofs.AcceptClause.{HasNoModel, brought-in, raised}
+use Rattle.varisat.proofs.AcceptClause.{raised}
 use Rattle.varisat.proofs.SolveVerdict.{forgotten, spaces-same}
 
 -- 1. Marks.
@@ -77,39 +77,35 @@ forgotten-cases (UnsatUnderAssumptions core) = inl refl
 
 -- 3. The list.
 
--- What assuming a list did, step by step.
-pub record Assuming (g : Summary) (list : List Literal) (taken cleared marked : Tables) (mid new : View) (parts : AssumptionParts) (after : SatState) : Type 0 where
-  pub count_before : length g.search.values ≡ length g.tables.solvers.backward
-  pub back : AreBack list g.tables
-  pub are_taken : AreTakenFor list g.tables taken
-  pub are_cleared : AreMarked g.assumed.user false taken cleared
+-- What assuming a list did, whose literals have solver variables, step by step.
+pub record Assuming (g : Summary) (list : List Literal) (cleared marked : Tables) (new : View) (parts : AssumptionParts) (after : SatState) : Type 0 where
+  pub all : (l : Literal) → l ∈ list → HasSolver g.tables (variable_of l)
+  pub are_cleared : AreMarked g.assumed.user false g.tables cleared
   pub are_marked : AreMarked list true cleared marked
-  pub seen_mid : search_of mid ≡ search_of g.search
-  pub count : length mid.values ≡ length taken.solvers.backward
-  pub seen_new : search_of new ≡ search_of mid
-  pub same_count : length new.values ≡ length mid.values
-  pub parts_are : parts ≡ newly_assumed list (map (carry (chain (at taken.users.forward) (at taken.solvers.forward))) list)
+  pub seen : search_of new ≡ search_of g.search
+  pub same_count : length new.values ≡ length g.search.values
+  pub parts_are : parts ≡ newly_assumed list (map (carry (chain (at g.tables.users.forward) (at g.tables.solvers.forward))) list)
   pub verdict : after ≡ assumed_state g.sat_state
 
-pub list-assumed : (g : Summary) (n : State) (list : List Literal) (taken cleared marked : Tables) (mid new : View) (parts : AssumptionParts) (after : SatState) → Assuming g list taken cleared marked mid new parts after → SpacesFit (spaces g) n →
+-- the identities of the list are counted before it is assumed
+pub list-assumed : (g : Summary) (n : State) (list : List Literal) (cleared marked : Tables) (new : View) (parts : AssumptionParts) (after : SatState) → Assuming g list cleared marked new parts after → SpacesFit (spaces g) (count (join_counted n.counted (map variable_of (map (through_names n.naming) list))) n) →
     SpacesFit (spaces_of marked new parts after) (with_assumptions (map (through_names n.naming) list) n)
-list-assumed g n list taken cleared marked mid new parts after t (w1, k1) =
+list-assumed g n list cleared marked new parts after t (w1, k1) =
+    let n1 = count (join_counted n.counted (map variable_of (map (through_names n.naming) list))) n in
     let g2 : Summary = record g { sat_state = assumed_state g.sat_state } in
-    let n2 = with_verdict (assumed_verdict n.verdict) n in
-    let none : HasNoModel g2 = no-model-left g.search g.assumed.failed_core g.sat_state in
-    let (w5, k5) = brought-in list g2 n2 taken mid (w1, forgets w1 g n g.sat_state n.verdict k1) none t.back t.count_before t.are_taken t.seen_mid t.count in
-    let p5 = spaces (record g2 { tables = taken; search = mid }) in
+    let k5 = forgets w1 g n1 g.sat_state n.verdict k1 in
+    let p5 = spaces g2 in
     let a = t.are_cleared in
     let b = t.are_marked in
     let users = b.users ∙ a.users in
     let solvers = b.solvers ∙ a.solvers in
     let marks : IsMarkedFor p5 list (kept_at marked.kept) = record {
       rest = λ x. b.rest x ∙ ap (λ (d : VarData). record d { assumed = (kept_at marked.kept x).assumed }) (a.rest x);
-      fit = marks-fit taken cleared marked g.assumed.user list k5.marks a b;
+      fit = marks-fit g.tables cleared marked g.assumed.user list k5.marks a b;
     } in
-    let k6 = assumed w5 p5 _ list k5 (λ l h. t.are_taken.all l h) (kept_at marked.kept) marks [] (forgotten-cases n.verdict) in
+    let k6 = assumed w1 p5 (with_verdict (assumed_verdict n.verdict) n1) list k5 t.all (kept_at marked.kept) marks [] (forgotten-cases n.verdict) in
     let p6 = record p5 { kept = kept_at marked.kept; assumptions = list; core = []; working = map (solver_literal p5) list } in
-    let g6 : Summary = record g { tables = marked; search = mid; assumed = parts; sat_state = assumed_state g.sat_state } in
+    let g6 : Summary = record g { tables = marked; assumed = parts; sat_state = assumed_state g.sat_state } in
     let s6 = with_assumptions (map (through_names n.naming) list) n in
     let f6 : SpacesFit (spaces g6) s6 = spaces-same p6 (spaces g6) s6 (record {
       maps = record {
@@ -120,15 +116,15 @@ list-assumed g n list taken cleared marked mid new parts after t (w1, k1) =
         solver_from_global = λ y. ap (λ m. at m.forward y) solvers;
         global_from_solver = λ u. ap (λ m. at m.backward u) solvers;
         kept = λ y. refl;
-        model = λ c e y. absurd (no-model-left mid g.assumed.failed_core g.sat_state c e);
+        model = λ c e y. absurd (no-model-left g.search g.assumed.failed_core g.sat_state c e);
       };
       assumptions = ap (λ (x : AssumptionParts). x.user) t.parts_are;
       core = ap (λ (x : AssumptionParts). x.user_core) t.parts_are;
       working = ap (λ (x : AssumptionParts). x.working) t.parts_are;
       search = refl;
-      outcome = no-core-left mid g.assumed.failed_core parts.failed_core g.sat_state;
+      outcome = no-core-left g.search g.assumed.failed_core parts.failed_core g.sat_state;
       var_count = refl;
-    }) (w5, k6) in
+    }) (w1, k6) in
     let few = f6.1.few in
     subst (λ x. SpacesFit (spaces_of marked new parts x) s6) (sym t.verdict)
-    (raised g6 s6 new f6 (no-model-left mid parts.failed_core g.sat_state) t.seen_new (omega (arith, t.same_count, few)))
+    (raised g6 s6 new f6 (no-model-left g.search parts.failed_core g.sat_state) t.seen (omega (arith, t.same_count, few)))

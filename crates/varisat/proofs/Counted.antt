@@ -21,7 +21,7 @@ is-member i (x ∷ xs) (inr h) = ap (λ b. nat_eq i x || b) (is-member i xs h) �
     or-true true = refl
     or-true false = refl
 
-distinct-push : (xs : List ℕ) (i : ℕ) → IsDistinct xs → (i ∈ xs → ⊥) → IsDistinct (xs ++ i ∷ [])
+pub distinct-push : (xs : List ℕ) (i : ℕ) → IsDistinct xs → (i ∈ xs → ⊥) → IsDistinct (xs ++ i ∷ [])
 distinct-push [] i d n = (λ h. h, tt)
 distinct-push (x ∷ xs) i d n = (λ h. ⊎_elim d.0 (λ k. ⊎_elim (λ e. n (inl (sym e))) (λ z. z) k) (∈-append_cases x xs (i ∷ []) h), distinct-push xs i d.1 (λ h. n (inr h)))
 

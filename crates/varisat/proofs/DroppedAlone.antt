@@ -10,7 +10,7 @@ use Rattle.varisat_names.specs.Maps.{updated}
 use Rattle.varisat_names.specs.VarMap.{at}
 use Rattle.varisat_names.specs.VarBiMap.{BiMap}
 use Rattle.varisat_names.specs.VarData.{kept_at}
-use Rattle.varisat_names.specs.Variables.{Tables, AreLinked, IsChangedTo, without_solver}
+use Rattle.varisat_names.specs.Variables.{Tables, AreLinked, IsChangedTo, IsDropped, without_solver}
 use Rattle.varisat_names.specs.declared.variables.data.VarData.{VarData}
 use Rattle.varisat_names.proofs.Maps.{updated-at, updated-other, updated-all}
 use Rattle.varisat_names.proofs.VarMap.{at-inside}
@@ -26,29 +26,47 @@ leaves-none old = record { users = refl; solvers = refl; count = refl; gone = λ
 pub changed-twice : (old mid new : Tables) (x : ℕ) (d e : VarData) → IsChangedTo old mid x d → IsChangedTo mid new x e → IsChangedTo old new x e
 changed-twice old mid new x d e a b = record { kept = kept-twice old.kept mid.kept new.kept x d e a.kept b.kept; rest = b.rest ∙ ap (λ (t : Tables). record t { kept = new.kept }) a.rest }
 
+-- one solver variable was dropped
+pub leaves-dropped : (l : Literal) (old new : Tables) (x : ℕ) → x < length old.kept → IsDropped old new x (variable_of l) → LeavesTables (l ∷ []) old new
+leaves-dropped l old new x live n =
+    let v = variable_of l in
+    let inside = at-inside old.solvers.backward v x n.taken in
+    let w = n.solvers.backward.watermark in
+    let count = n.kept.count in
+    record {
+      users = n.users;
+      solvers = omega (arith, w, inside);
+      count = omega (arith, count, live);
+      gone = λ u m h q. ⊎_elim (λ e. n.solvers.backward.at_each u ∙ ap (updated (at old.solvers.backward) v None) (sym q ∙ ap variable_of e) ∙ updated-at (at old.solvers.backward) v None) (λ z. absurd z) h;
+      stays = λ u o. n.solvers.backward.at_each u ∙ updated-other (at old.solvers.backward) v None u (λ q. o l (inl refl) (sym q));
+      fewer = λ u y e. updated-all (λ u o. o ≡ Some y → at old.solvers.backward u ≡ Some y) (at old.solvers.backward) v None (λ q. absurd cc) u (λ _ q. q) (sym (n.solvers.backward.at_each u) ∙ e);
+      others = λ y o. n.kept.at_each y ∙ updated-other (kept_at old.kept) x (without_solver (at old.users.backward x) (kept_at old.kept x)) y (λ q. o l (inl refl) (n.taken ∙ ap Some (sym q)));
+    }
+
+-- the global variable of a solver variable is one of those that are kept
+pub taken-live : (t : Tables) (v x : ℕ) → AreLinked t → at t.solvers.backward v ≡ Some x → x < length t.kept
+taken-live t v x k e = live-inside t.kept x (k.taken x v (k.solvers.back x v e))
+
 pub leaves-one : (l : Literal) (old new : Tables) → AreLinked old → IsDroppedAlone l old new → LeavesTables (l ∷ []) old new
 leaves-one l old new k (x, mid, c, n) =
-    let v = variable_of l in
     let users = ap (λ (t : Tables). t.users) c.rest in
     let same = ap (λ (t : Tables). t.solvers) c.rest in
-    let pair : at old.solvers.backward v ≡ Some x = ap (λ (m : BiMap). at m.backward v) (sym same) ∙ n.taken in
-    let inside = at-inside old.solvers.backward v x pair in
-    let w = n.solvers.backward.watermark in
-    let a = ap (λ (m : BiMap). length m.backward) same in
-    let live = live-inside old.kept x (k.taken x v (k.solvers.back x v pair)) in
+    let pair : at old.solvers.backward (variable_of l) ≡ Some x = ap (λ (m : BiMap). at m.backward (variable_of l)) (sym same) ∙ n.taken in
+    let live = taken-live old (variable_of l) x k pair in
     let first = c.kept.count in
-    let second = n.kept.count in
-    let each : (u : ℕ) → at new.solvers.backward u ≡ updated (at old.solvers.backward) v None u = (λ u. n.solvers.backward.at_each u ∙ ap (λ (m : BiMap). updated (at m.backward) v None u) same) in
+    let more : x < length mid.kept = omega (arith, first, live) in
+    let a = leaves-dropped l mid new x more n in
+    let count = a.count in
     record {
-      users = n.users ∙ users;
-      solvers = omega (arith, w, a, inside);
-      count = omega (arith, first, second, live);
-      gone = λ u m h q. ⊎_elim (λ e. each u ∙ ap (updated (at old.solvers.backward) v None) (sym q ∙ ap variable_of e) ∙ updated-at (at old.solvers.backward) v None) (λ z. absurd z) h;
-      stays = λ u o. each u ∙ updated-other (at old.solvers.backward) v None u (λ q. o l (inl refl) (sym q));
-      fewer = λ u y e. updated-all (λ u o. o ≡ Some y → at old.solvers.backward u ≡ Some y) (at old.solvers.backward) v None (λ q. absurd cc) u (λ _ q. q) (sym (each u) ∙ e);
+      users = a.users ∙ users;
+      solvers = a.solvers ∙ ap (λ (m : BiMap). length m.backward) same;
+      count = omega (arith, first, count, live);
+      gone = a.gone;
+      stays = λ u o. a.stays u o ∙ ap (λ (m : BiMap). at m.backward u) same;
+      fewer = λ u y e. ap (λ (m : BiMap). at m.backward u) (sym same) ∙ a.fewer u y e;
       others = λ y o.
-          let other : y ≡ x → ⊥ = (λ q. o l (inl refl) (pair ∙ ap Some (sym q))) in
-          n.kept.at_each y ∙ updated-other (kept_at mid.kept) x (without_solver (at mid.users.backward x) (kept_at mid.kept x)) y other ∙ c.kept.at_each y ∙ updated-other (kept_at old.kept) x (fixed_to (polarity_of l) (kept_at old.kept x)) y other;
+          a.others y (λ m h e. o m h (ap (λ (b : BiMap). at b.backward (variable_of m)) (sym same) ∙ e))
+          ∙ c.kept.at_each y ∙ updated-other (kept_at old.kept) x (fixed_to (polarity_of l) (kept_at old.kept x)) y (λ q. o l (inl refl) (pair ∙ ap Some (sym q)));
     }
 
 -- one more was dropped

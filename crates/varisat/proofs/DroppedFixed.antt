@@ -20,7 +20,7 @@ use Rattle.varisat.proofs.Carried.{true-value}
 use Rattle.varisat.proofs.SearchHeld.{agrees-through}
 use Rattle.varisat.proofs.SolveVerdict.{maps-same}
 use Rattle.varisat.proofs.VariableMoves.{leave_search, leave_all, recycle}
-use Rattle.varisat.proofs.Recycling.{recycled}
+use Rattle.varisat.proofs.RecycledGlobals.{recycled}
 use Rattle.varisat.proofs.DroppedSolvers.{IsWithout, left}
 
 -- A literal that is held as a unit clause is true under each assignment that satisfies the accepted clauses.

@@ -48,12 +48,12 @@ unassumed-global m (Some x) e = (x, refl, go (kept_at m.kept x).assumed e)
     go true h = let z : false ≡ true = h in absurd cc
     go false h = refl
 
-true-or-not : (b : Bool) → (b ≡ true → ⊥) → b ≡ false
+pub true-or-not : (b : Bool) → (b ≡ true → ⊥) → b ≡ false
 true-or-not true n = absurd (n refl)
 true-or-not false n = refl
 
 -- no literal is over the variable
-unmentioned-by : (v : ℕ) (c : Clause) → ((l : Literal) → l ∈ c → variable_of l ≢ v) → mentions v c ≡ false
+pub unmentioned-by : (v : ℕ) (c : Clause) → ((l : Literal) → l ∈ c → variable_of l ≢ v) → mentions v c ≡ false
 unmentioned-by v [] n = refl
 unmentioned-by v (l ∷ c) n = ap (λ b. b || mentions v c) (ne_eqb (variable_of l) v (n l (inl refl))) ∙ unmentioned-by v c (λ k h. n k (inr h))
 

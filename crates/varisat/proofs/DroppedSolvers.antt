@@ -22,7 +22,7 @@ use Rattle.varisat.specs.Spaces.{Spaces, Carrying, UnitsFit, IsolationCase, NotI
 use Rattle.varisat.proofs.Carried.{carry-at, carry-sign, literal-parts, forced-value}
 use Rattle.varisat.proofs.SpacesAgree.{identities-same, modes-same, marks-same, working-same, carry-same, value-same}
 use Rattle.varisat.proofs.VariableMoves.{leave_search}
-use Rattle.varisat.proofs.Hiding.{field-same, identity-named}
+use Rattle.varisat.proofs.HiddenStates.{field-same, identity-named}
 use Rattle.varisat.proofs.ReachedHeld.{left-apart, only, reached-apart}
 use Rattle.varisat.proofs.ForgottenWith.{not-over, unit-forgotten}
 

@@ -30,7 +30,7 @@ use Rattle.varisat.specs.Dropping.{fixed_to}
 use Rattle.varisat.proofs.SpacesMoves.{with_search}
 use Rattle.varisat.proofs.SolveVerdict.{maps-same, spaces-same}
 use Rattle.varisat.proofs.KeptCounts.{kept-most}
-use Rattle.varisat.proofs.Relinked.{relinked}
+use Rattle.varisat.proofs.SearchLinks.{relinked}
 use Rattle.varisat.proofs.VariableMoves.{leave_search, leave_all}
 use Rattle.varisat.proofs.DroppedSolvers.{IsWithout}
 use Rattle.varisat.proofs.DroppedFixed.{fixed-stays, fixed-left}

@@ -26,10 +26,10 @@ use Rattle.varisat.proofs.AcceptClause.{with_tables}
 use Rattle.varisat.proofs.KeptCounts.{kept-most}
 use Rattle.varisat.proofs.NewNames.{linked}
 use Rattle.varisat.proofs.VariableMoves.{in_mode, set_mode, hide, show, recycle}
-use Rattle.varisat.proofs.Hiding.{field-same, one-name, identity-named, hidden}
-use Rattle.varisat.proofs.Recycling.{recycled}
-use Rattle.varisat.proofs.Modes.{mode-set}
-use Rattle.varisat.proofs.Showing.{no-name, shown}
+use Rattle.varisat.proofs.HiddenStates.{field-same, one-name, identity-named, hidden}
+use Rattle.varisat.proofs.RecycledGlobals.{recycled}
+use Rattle.varisat.proofs.ModeStates.{mode-set}
+use Rattle.varisat.proofs.ShownStates.{no-name, shown}
 
 -- 1. What the marks and the maps say of the state.
 

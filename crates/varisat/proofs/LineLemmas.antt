@@ -18,7 +18,7 @@ use Rattle.varisat_literals.specs.Numbers.{literal_text, variable_text}
 use Rattle.varisat_names.specs.declared.config.ConfigField.{ConfigField}
 use Rattle.varisat_names.specs.declared.config.ConfigField.TheVariants.{VsidsDecay, ClauseActivityDecay, ReduceLocalsInterval, ReduceMidsInterval, LubyRestartIntervalScale, MaxSteps}
 use Rattle.varisat_names.specs.Settings.{field_text}
-use Rattle.varisat.specs.Lines.{Command, Add, Assume, New, Sample, Witness, Hide, Observe, Solve, Model, Core, Config, Steps, Close, Means, MeansOneCommand, HasNumbersInRange, words, words_of, spelling}
+use Rattle.varisat.specs.Lines.{Command, Add, Assume, New, Sample, Witness, Hide, Observe, Solve, Model, Core, Config, Steps, Close, MeansCommand, MeansOneCommand, HasNumbersInRange, words, words_of, spelling}
 
 abbrev pub NoSpace : List ℕ → Type 0
 NoSpace word = All (λ b. (b == 32) ≡ false) word
@@ -153,7 +153,7 @@ words_of_spelled (Config field value) h = words_of_joined (codes "config") (fiel
 words_of_spelled Steps h = words_of_joined (codes "steps") [] (words_have_no_space Steps h)
 words_of_spelled Close h = words_of_joined (codes "close") [] (words_have_no_space Close h)
 
-pub words_of_meant : (text : List ℕ) (command : Command) → Means text command → words_of text ≡ words command
+pub words_of_meant : (text : List ℕ) (command : Command) → MeansCommand text command → words_of text ≡ words command
 words_of_meant text command m = ap words_of (sym m.spelled) ∙ words_of_spelled command m.in_range
 
 lists_apart : (ls ms : List ℕ) → AllByRecursion (λ l. l < 2 ^ 32) ls → AllByRecursion (λ l. l < 2 ^ 32) ms → map literal_text ls ≡ map literal_text ms → ls ≡ ms
@@ -319,10 +319,10 @@ spelled_read name numbers ls e =
     joined_behind name (words_of numbers) (omega (arith, length-slice_split (λ b. b == 32) numbers)) ∙
     ap (λ xs. name ++ (32 ∷ xs)) (join_with_byte-slice_split 32 numbers)
 
-pub clause_read : (numbers ls : List ℕ) → map literal_text ls ++ [] ≡ words_of numbers → All (λ l. l < 2 ^ 32) ls → Means (codes "add " ++ numbers) (Add ls)
+pub clause_read : (numbers ls : List ℕ) → map literal_text ls ++ [] ≡ words_of numbers → All (λ l. l < 2 ^ 32) ls → MeansCommand (codes "add " ++ numbers) (Add ls)
 clause_read numbers ls e h = record { spelled = spelled_read (codes "add") numbers ls e; in_range = h }
 
-pub list_read : (numbers ls : List ℕ) → map literal_text ls ++ [] ≡ words_of numbers → All (λ l. l < 2 ^ 32) ls → Means (codes "assume " ++ numbers) (Assume ls)
+pub list_read : (numbers ls : List ℕ) → map literal_text ls ++ [] ≡ words_of numbers → All (λ l. l < 2 ^ 32) ls → MeansCommand (codes "assume " ++ numbers) (Assume ls)
 list_read numbers ls e h = record { spelled = spelled_read (codes "assume") numbers ls e; in_range = h }
 
 -- a word that is no literal stands in no clause
@@ -350,12 +350,12 @@ no_literals name numbers ls word others command (inr r) h none e w =
     let n : first_word_number (codes "assume" ∷ words_of numbers) ≡ first_word_number (words command) = ap (λ x. first_word_number (x ∷ words_of numbers)) (sym r) ∙ ap first_word_number w in absurd (omega arith)
 
 pub no_clause : (numbers ls word : List ℕ) (others : List (List ℕ)) → ((m : ℕ) → m < 2 ^ 32 → literal_text m ≢ word) →
-    map literal_text ls ++ word ∷ others ≡ words_of numbers → (command : Command) → Means (codes "add " ++ numbers) command → ⊥
+    map literal_text ls ++ word ∷ others ≡ words_of numbers → (command : Command) → MeansCommand (codes "add " ++ numbers) command → ⊥
 no_clause numbers ls word others none e command m =
     no_literals (codes "add") numbers ls word others command (inl refl) m.in_range none e (words_of_meant (codes "add " ++ numbers) command m)
 
 pub no_list : (numbers ls word : List ℕ) (others : List (List ℕ)) → ((m : ℕ) → m < 2 ^ 32 → literal_text m ≢ word) →
-    map literal_text ls ++ word ∷ others ≡ words_of numbers → (command : Command) → Means (codes "assume " ++ numbers) command → ⊥
+    map literal_text ls ++ word ∷ others ≡ words_of numbers → (command : Command) → MeansCommand (codes "assume " ++ numbers) command → ⊥
 no_list numbers ls word others none e command m =
     no_literals (codes "assume") numbers ls word others command (inr refl) m.in_range none e (assume_first numbers ∙ words_of_meant (codes "assume " ++ numbers) command m)
   where
@@ -367,7 +367,7 @@ no_list numbers ls word others none e command m =
 one_word : (text word : List ℕ) → words_of text ≡ word ∷ [] → text ≡ word
 one_word text word e = sym (join_with_byte-slice_split 32 text) ∙ ap (join_with_byte 32) e
 
-pub setting_read : (setting name number : List ℕ) (field : ConfigField) (value : ℕ) → words_of setting ≡ name ∷ words_of number → field_text field ≡ name → decimal value ≡ number → value < 2 ^ 64 → Means (codes "config " ++ setting) (Config field value)
+pub setting_read : (setting name number : List ℕ) (field : ConfigField) (value : ℕ) → words_of setting ≡ name ∷ words_of number → field_text field ≡ name → decimal value ≡ number → value < 2 ^ 64 → MeansCommand (codes "config " ++ setting) (Config field value)
 setting_read setting name number field value w f d h =
     let own : words_of number ≡ decimal value ∷ [] = ap words_of (sym d) ∙ slice_split_none (λ b. b == 32) (decimal value) (number_has_no_space value h) in
     let all : words_of setting ≡ field_text field ∷ decimal value ∷ [] = w ∙ ap (λ x. x ∷ words_of number) (sym f) ∙ ap (λ ws. field_text field ∷ ws) own in
@@ -385,7 +385,7 @@ no_setting_case setting name others command h w none e =
     let n : first_word_number (codes "config" ∷ words_of setting) ≡ first_word_number (words command) = ap first_word_number e in absurd (omega arith)
 
 -- no command is spelled so where its parts are none of a setting
-pub no_setting : (setting name : List ℕ) (others : List (List ℕ)) → words_of setting ≡ name ∷ others → ((field : ConfigField) (value : ℕ) → value < 2 ^ 64 → field_text field ≡ name → decimal value ∷ [] ≡ others → ⊥) → (command : Command) → Means (codes "config " ++ setting) command → ⊥
+pub no_setting : (setting name : List ℕ) (others : List (List ℕ)) → words_of setting ≡ name ∷ others → ((field : ConfigField) (value : ℕ) → value < 2 ^ 64 → field_text field ≡ name → decimal value ∷ [] ≡ others → ⊥) → (command : Command) → MeansCommand (codes "config " ++ setting) command → ⊥
 no_setting setting name others w none command m =
     no_setting_case setting name others command m.in_range w none (config_first setting ∙ words_of_meant (codes "config " ++ setting) command m)
   where
@@ -400,11 +400,11 @@ number_alone number word e = sym (one_word number word (sym e))
 behind_name : (text name number : List ℕ) (n : ℕ) → pointwise nat_eq (take n text) name ≡ true → number ≡ drop n text → name ++ number ≡ text
 behind_name text name number n t d = ap (λ x. x ++ number) (sym (same_text (take n text) name (sym t))) ∙ ap (λ x. take n text ++ x) d ∙ take-append-drop n text
 
-pub sample_read : (text number : List ℕ) (v : ℕ) → pointwise nat_eq (take 7 text) (codes "sample ") ≡ true → number ≡ drop 7 text → variable_text v ≡ number → v < 2 ^ 31 → Means text (Sample v)
+pub sample_read : (text number : List ℕ) (v : ℕ) → pointwise nat_eq (take 7 text) (codes "sample ") ≡ true → number ≡ drop 7 text → variable_text v ≡ number → v < 2 ^ 31 → MeansCommand text (Sample v)
 sample_read text number v t d e h = record { spelled = ap (λ xs. codes "sample " ++ xs) e ∙ behind_name text (codes "sample ") number 7 t d; in_range = h }
 
-pub witness_read : (text number : List ℕ) (v : ℕ) → pointwise nat_eq (take 8 text) (codes "witness ") ≡ true → number ≡ drop 8 text → variable_text v ≡ number → v < 2 ^ 31 → Means text (Witness v)
+pub witness_read : (text number : List ℕ) (v : ℕ) → pointwise nat_eq (take 8 text) (codes "witness ") ≡ true → number ≡ drop 8 text → variable_text v ≡ number → v < 2 ^ 31 → MeansCommand text (Witness v)
 witness_read text number v t d e h = record { spelled = ap (λ xs. codes "witness " ++ xs) e ∙ behind_name text (codes "witness ") number 8 t d; in_range = h }
 
-pub hide_read : (text number : List ℕ) (v : ℕ) → pointwise nat_eq (take 5 text) (codes "hide ") ≡ true → number ≡ drop 5 text → variable_text v ≡ number → v < 2 ^ 31 → Means text (Hide v)
+pub hide_read : (text number : List ℕ) (v : ℕ) → pointwise nat_eq (take 5 text) (codes "hide ") ≡ true → number ≡ drop 5 text → variable_text v ≡ number → v < 2 ^ 31 → MeansCommand text (Hide v)
 hide_read text number v t d e h = record { spelled = ap (λ xs. codes "hide " ++ xs) e ∙ behind_name text (codes "hide ") number 5 t d; in_range = h }

@@ -10,7 +10,7 @@ use Rattle.varisat_names.proofs.Maps.{updated-at, updated-other, is-some}
 use Rattle.varisat_names.proofs.VarMap.{at-inside}
 use Rattle.varisat.specs.Names.{Naming, bring, bring_next, bring_if_free, name_one, name_all}
 use Rattle.varisat.specs.Calls.{IsCrowded}
-use Rattle.varisat.specs.Accepting.{naming_of, AreNamedInTurn}
+use Rattle.varisat.specs.Accepting.{naming_of}
 use Rattle.varisat.proofs.KeptCounts.{given-most}
 
 -- 1. What naming one name does.
@@ -134,7 +134,3 @@ named-alike u old new y (Above b r) (Onward c q) = subst (AreAlike (naming_of ne
 
 pub one-named : (u : ℕ) (old new : Tables) (m : Naming) → IsNamed u old new → AreAlike (naming_of old) m → AreAlike (naming_of new) (name_one u m)
 one-named u old new m n h = alike-on (naming_of new) (name_one u (naming_of old)) (name_one u m) (named-alike u old new (name_one u (naming_of old)) n (named-to u (naming_of old))) (one-alike u (naming_of old) m h)
-
-pub all-named : (d : List Literal) (old new : Tables) (m : Naming) → AreNamedInTurn d old new → AreAlike (naming_of old) m → AreAlike (naming_of new) (name_all d m)
-all-named [] old new m e h = subst (λ t. AreAlike (naming_of t) m) (sym e) h
-all-named (l ∷ d) old new m (mid, n, rest) h = all-named d mid new (name_one (variable_of l) m) rest (one-named (variable_of l) old mid m n h)

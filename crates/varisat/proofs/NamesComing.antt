@@ -33,7 +33,7 @@ next-made zero m = omega arith
 next-made (suc k) m = let r = next-made k (bring m.watermark m) in omega (arith, r)
 
 -- those below it stay as they are
-next-below : (k : ℕ) (m : Naming) (v : ℕ) → v < m.watermark → (bring_next k m).names v ≡ m.names v
+pub next-below : (k : ℕ) (m : Naming) (v : ℕ) → v < m.watermark → (bring_next k m).names v ≡ m.names v
 next-below zero m v h = refl
 next-below (suc k) m v h = next-below k (bring m.watermark m) v (omega (arith, h)) ∙ updated-other m.names m.watermark (Some m.made) v (λ e. absurd (omega (arith, e, h)))
 

@@ -10,7 +10,7 @@ use Rattle.varisat.specs.Calls.{with_naming}
 use Rattle.varisat.specs.Usage.{AreAllShown}
 use Rattle.varisat.specs.Spaces.{SpacesFit}
 use Rattle.varisat.specs.Summaries.{Summary, spaces}
-use Rattle.varisat.proofs.Showing.{may-stay}
+use Rattle.varisat.proofs.ShownStates.{may-stay}
 
 -- The names came into use, and what is held stands for the state with them.
 abbrev pub HaveShown : List ℕ → Summary → State → Type 0

@@ -24,7 +24,7 @@ use Rattle.varisat.proofs.SpacesMoves.{AreLong, AreInUse}
 use Rattle.varisat_names.proofs.Maps.{chain-some, chain-through, is-some}
 use Rattle.varisat.proofs.SpacesAgree.{identities-same, names-same, modes-same, units-same, isolation-same, solvers-same, assumptions-same, marks-same, working-same, holds-same, value-same}
 use Rattle.varisat.proofs.Carried.{value-true, true-value, value-carry, forced-value}
-use Rattle.varisat.proofs.Relinked.{relinked}
+use Rattle.varisat.proofs.SearchLinks.{relinked}
 use Rattle.varisat.proofs.SearchHeld.{answers-covers, agrees-through, held-on, without-model, refuted}
 
 -- the identity of the solver variable leads back to it

@@ -1,8 +1,8 @@
 -- What the calls keep of the tables that set the mode of a variable, hide it, and bring hidden ones back.
-use Rattle.std.proofs.Common.{◌≡◌, ℕ, zero, suc, ◌+◌, ◌-◌, ◌<◌, ◌≤◌, nat_lt, if◌then◌else◌, Bool, true, false, Option, Some, None, List, [], ◌∷◌, ◌++◌, ⊎_elim, length, sym, ap, ◌∙◌, subst, refl, arith, rules}
+use Rattle.std.proofs.Common.{◌≡◌, ℕ, zero, suc, ◌+◌, ◌-◌, ◌<◌, ◌≤◌, nat_lt, if◌then◌else◌, Bool, true, false, Option, Some, None, List, [], ◌∷◌, ⊎_elim, length, sym, ap, ◌∙◌, subst, refl, arith, rules}
 use Rattle.std.proofs.lemmas.Bool.{lt-ltb, cases_lt}
 use Rattle.varisat_theory.specs.Membership.{◌∈◌}
-use Rattle.varisat_theory.proofs.Members.{equal_or_not, ∈-append_cases}
+use Rattle.varisat_theory.proofs.Members.{equal_or_not}
 use Rattle.varisat_literals.specs.Numbers.{variable_limit}
 use Rattle.varisat_names.specs.Maps.{updated}
 use Rattle.varisat_names.specs.VarMap.{at, IsLeastUnmapped}
@@ -14,12 +14,14 @@ use Rattle.varisat_names.specs.declared.variables.data.SamplingMode.TheVariants 
 use Rattle.varisat_names.proofs.Maps.{updated-at, updated-other, updated-all, joined, is-some}
 use Rattle.varisat_names.proofs.VarMap.{at-inside}
 use Rattle.varisat_names.proofs.Tables.{live-inside, named-inside}
+use Rattle.varisat_names.proofs.Linked.{join-users, keep-live, same-tables}
 use Rattle.varisat.specs.Names.{Naming, bring, bring_next, bring_if_free, name_one}
 use Rattle.varisat.specs.Accepting.{AreBounded, naming_of}
-use Rattle.varisat.specs.VariableChanges.{IsMarkedAssumed, CanBeChanged, StaysKept, IsNamedAs, AreShownInTurn, ShowsBelow, ShowsOne, Passed, Shown}
-use Rattle.varisat.proofs.AcceptSolverVariables.{few, below, below-count, ∈-below}
+use Rattle.varisat_search.specs.NamesAndModes.{MovesName, SetsModeOf, LosesName, GetsName, OtherwiseSet, AreShownInTurn}
+use Rattle.varisat.specs.VariableChanges.{IsMarkedAssumed, CanBeChanged, StaysKept, IsNamedAs, SetsNamedMode}
+use Rattle.varisat_search.proofs.TakenSolvers.{few, below, below-count, ∈-below}
 use Rattle.varisat.proofs.KeptCounts.{given-most}
-use Rattle.varisat.proofs.PlainTables.{KeepsNames, given-keeps, next-keeps}
+use Rattle.varisat_search.proofs.KeptNames.{KeepsNames, given-keeps, next-keeps}
 
 -- 1. A name comes into use.
 
@@ -187,7 +189,33 @@ hidden-stays mid new u x l b e unmarked n =
       names = λ y v a m. (n.users.backward.at_each y ∙ updated-other (at mid.users.backward) x None y (other y m) ∙ a, mark y m);
     }
 
--- 5. A hidden variable comes back.
+-- The mode of the variable of a name was set.
+pub set-named : (u x : ℕ) (mode : SamplingMode) (old mid new : Tables) (returned : Option ℕ) → IsNamedAs u old mid x → AreLinked mid → SetsModeOf x mode mid new returned → SetsNamedMode u mode old new
+set-named u x mode old mid new returned n l (LosesName v hide at-x gone told) =
+    let q : Some v ≡ Some u = sym at-x ∙ l.users.there u x n.leads in
+    let same : v ≡ u = cc in
+    let hidden = subst (λ w. IsHidden mid new w x) same gone in
+    record {
+      mid = mid;
+      global = x;
+      named = n;
+      hidden = λ _. hidden;
+      changed = λ m. absurd (m hide);
+      stays = stays-on old mid new n.stays (hidden-stays mid new u x l n.stays.bounded n.leads n.unassumed hidden);
+    }
+set-named u x mode old mid new returned n l (GetsName v m at-x shown told) =
+    let z : None ≡ Some u = sym at-x ∙ l.users.there u x n.leads in
+    absurd cc
+set-named u x mode old mid new returned n l (OtherwiseSet stays changed told) = record {
+  mid = mid;
+  global = x;
+  named = n;
+  hidden = λ e. absurd (stays (subst (MovesName mode) (sym (l.users.there u x n.leads)) e));
+  changed = λ _. changed;
+  stays = stays-on old mid new n.stays (mode-stays mid new x mode n.stays.bounded n.live changed);
+}
+
+-- 5. Hidden variables come back.
 
 -- a name comes into use for the variable
 to : Tables → ℕ → ℕ → ℕ → Option ℕ
@@ -218,6 +246,13 @@ shown-near t x u l live unnamed least =
         (is-some (at t.users.forward v)))
         (equal_or_not v u)
 
+-- and the tables stay linked
+pub shown-linked : (old new : Tables) (x u : ℕ) (mode : SamplingMode) → AreLinked old → (kept_at old.kept x).deleted ≡ false → at old.users.backward x ≡ None → IsShown old new x mode u → AreLinked new
+shown-linked old new x u mode l live unnamed n =
+    let given = join-users old new.users u x l live n.least.0 unnamed n.users in
+    let kept = keep-live (record old { users = new.users }) new.kept x (record (kept_at old.kept x) { sampling_mode = mode }) given live n.kept in
+    same-tables (record old { users = new.users; kept = new.kept }) new.users new.solvers new.kept refl n.solvers refl kept
+
 pub shown-stays : (mid new : Tables) (x u : ℕ) → AreLinked mid → AreBounded mid → (kept_at mid.kept x).deleted ≡ false → at mid.users.backward x ≡ None → IsShown mid new x sampling.Witness u → StaysKept mid new
 shown-stays mid new x u l b live unnamed n =
     let d : VarData = record (kept_at mid.kept x) { sampling_mode = sampling.Witness } in
@@ -235,40 +270,14 @@ shown-stays mid new x u l b live unnamed n =
       names = λ y v a m. (n.users.backward.at_each y ∙ updated-other (at mid.users.backward) x (Some u) y (λ q. let z : None ≡ Some v = sym unnamed ∙ ap (at mid.users.backward) (sym q) ∙ a in cc) ∙ a, mark y m);
     }
 
--- a variable comes back, and its name joins the list
-pub shown-one : (x u : ℕ) (us vs : List ℕ) (mid new : Tables) → AreLinked mid → AreBounded mid → (kept_at mid.kept x).deleted ≡ false → at mid.users.backward x ≡ None → IsShown mid new x sampling.Witness u → vs ≡ us ++ u ∷ [] → ShowsOne x us vs mid new
-shown-one x u us vs mid new l b live unnamed n e =
-    let near = shown-near mid x u l live unnamed n.least in
-    let h = live-inside mid.kept x live in
-    let c = n.kept.count in
+-- hidden variables come back in turn, none under a name past the limit
+pub turns-stay : (us : List ℕ) (old new : Tables) → AreLinked old → AreBounded old → AreShownInTurn us old new → StaysKept old new × ((u : ℕ) → u ∈ us → u < variable_limit)
+turns-stay [] old new l b e = (subst (StaysKept old) (sym e) (stays-same old b), λ u h. absurd h)
+turns-stay (u ∷ us) old new l b (mid, x, live, unnamed, n, rest) =
+    let k = shown-stays old mid x u l b live unnamed n in
+    let near = shown-near old x u l live unnamed n.least in
     let g = b.globals in
-    Shown u (omega (arith, near, g)) live unnamed n (omega (arith, c, h)) (shown-stays mid new x u l b live unnamed n) e
-
-shown-more : (us : List ℕ) (old mid new : Tables) (x u : ℕ) → AreShownInTurn us old mid → (kept_at mid.kept x).deleted ≡ false → at mid.users.backward x ≡ None → IsShown mid new x sampling.Witness u → AreShownInTurn (us ++ u ∷ []) old new
-shown-more [] old mid new x u e live unnamed n =
-    subst (λ t. AreShownInTurn (u ∷ []) t new) e (new, x, live, unnamed, n, refl)
-shown-more (v ∷ us) old mid new x u (t, y, a, b, s, rest) live unnamed n = (t, y, a, b, s, shown-more us t mid new x u rest live unnamed n)
-
-pub none-below : (t : Tables) → AreBounded t → ShowsBelow 0 [] t t
-none-below t b = record { in_turn = refl; in_range = λ u h. absurd h; rest = λ x h. absurd (omega (arith, h)); count = refl; stays = stays-same t b }
-
-pub one-more-below : (x : ℕ) (us vs : List ℕ) (old mid new : Tables) → ShowsBelow x us old mid → ShowsOne x us vs mid new → ShowsBelow (x + 1) vs old new
-one-more-below x us vs old mid new s (Passed r same e) =
-    subst (λ t. ShowsBelow (x + 1) vs old t) (sym same) (subst (λ ws. ShowsBelow (x + 1) ws old mid) (sym e) (record {
-      in_turn = s.in_turn;
-      in_range = s.in_range;
-      rest = λ y h. ⊎_elim (λ q. subst (λ z. at mid.users.backward z ≡ None → (kept_at mid.kept z).deleted ≡ true) (sym q) r) (λ n. s.rest y (omega (arith, h, n))) (equal_or_not y x);
-      count = s.count;
-      stays = s.stays;
-    }))
-one-more-below x us vs old mid new s (Shown u i live unnamed n c k e) =
-    subst (λ ws. ShowsBelow (x + 1) ws old new) (sym e) (record {
-      in_turn = shown-more us old mid new x u s.in_turn live unnamed n;
-      in_range = λ v h. ⊎_elim (s.in_range v) (λ a. ⊎_elim (λ q. subst (λ w. w < variable_limit) (sym q) i) (λ z. absurd z) a) (∈-append_cases v us (u ∷ []) h);
-      rest = λ y h f. ⊎_elim
-          (λ q. let z : None ≡ Some u = sym f ∙ ap (at new.users.backward) q ∙ n.users.backward.at_each x ∙ updated-at (at mid.users.backward) x (Some u) in absurd cc)
-          (λ m. ap (λ d. d.deleted) (n.kept.at_each y ∙ updated-other (kept_at mid.kept) x (record (kept_at mid.kept x) { sampling_mode = sampling.Witness }) y m) ∙ s.rest y (omega (arith, h, m)) (sym (n.users.backward.at_each y ∙ updated-other (at mid.users.backward) x (Some u) y m) ∙ f))
-          (equal_or_not y x);
-      count = c ∙ s.count;
-      stays = stays-on old mid new s.stays k;
-    })
+    let (s, within) = turns-stay us mid new (shown-linked old mid x u sampling.Witness l live unnamed n) k.bounded rest in (
+      stays-on old mid new k s,
+      λ v. ⊎_elim (λ q. subst (λ w. w < variable_limit) (sym q) (let z : u < variable_limit = omega (arith, near, g) in z)) (within v),
+    )

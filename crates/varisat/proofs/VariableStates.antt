@@ -1,24 +1,24 @@
 -- What the calls that set modes, hide and show variables do to the states that the solver stands for.
-use Rattle.std.proofs.Common.{◌≡◌, ℕ, true, Result, Err, Some, None, List, [], ◌∷◌, inl, inr, ⊎_elim, length, sym, ap, ◌∙◌, subst, refl, arith}
+use Rattle.std.proofs.Common.{◌≡◌, ◌≢◌, ℕ, true, Result, Err, Some, None, List, [], ◌∷◌, inl, inr, ⊎_elim, length, sym, ap, ◌∙◌, subst, refl}
 use Rattle.std.specs.Option.{is_some}
-use Rattle.std.proofs.lemmas.Bool.{cases_lt}
 use Rattle.varisat_theory.specs.Literals.{variable_of, literal_of}
 use Rattle.varisat_search.proofs.StepOutcome.{variable-literal}
 use Rattle.varisat_search.specs.declared.context.Context.{Context}
 use Rattle.varisat_search.specs.Contexts.{view}
 use Rattle.varisat_names.specs.VarMap.{at}
 use Rattle.varisat_names.specs.VarBiMap.{BiMap}
-use Rattle.varisat_names.specs.Variables.{Tables}
+use Rattle.varisat_names.specs.Variables.{Tables, AreLinked}
 use Rattle.varisat_names.specs.declared.variables.data.SamplingMode.{SamplingMode}
+use Rattle.varisat_names.specs.declared.variables.data.SamplingMode.TheVariants as sampling
 use Rattle.varisat_names.proofs.Maps.{chain-none, is-some, some-of}
-use Rattle.varisat_names.proofs.Tables.{kept-past}
 use Rattle.varisat.specs.States.{State}
 use Rattle.varisat.specs.Names.{Mode, Naming, name_one, give_name}
 use Rattle.varisat.specs.Calls.{IsCrowded, with_naming}
 use Rattle.varisat.specs.Usage.{AreAllShown, ChangesVar, SetsMode, name_var}
 use Rattle.varisat.specs.VariableCalls.{named, IsAssumed, with_mode, hide_name}
-use Rattle.varisat.specs.VariableChanges.{IsMarkedAssumed, IsMarkedName, ChecksChange, StaysKept, SetsNamedMode, HidesNamed, AreShownInTurn, ShowsBelow}
-use Rattle.varisat.specs.Accepting.{naming_of}
+use Rattle.varisat_search.specs.NamesAndModes.{AreShownInTurn, ShowsAllHidden}
+use Rattle.varisat.specs.VariableChanges.{IsMarkedAssumed, IsMarkedName, ChecksChange, StaysKept, SetsNamedMode}
+use Rattle.varisat.specs.Accepting.{AreBounded, naming_of}
 use Rattle.varisat.specs.Spaces.{Carrying, ModeFits, Links, SpacesFit}
 use Rattle.varisat.specs.Summaries.{Summary, IsKept, spaces}
 use Rattle.varisat.specs.declared.solver.SolverError.{SolverError}
@@ -28,6 +28,7 @@ use Rattle.varisat.proofs.CallStates.{Begins}
 use Rattle.varisat.proofs.NamingStates.{crowded-state}
 use Rattle.varisat.proofs.HiddenTables.{marked-assumed, assumed-marked, mode-spaces, hidden-spaces, shown-spaces}
 use Rattle.varisat.proofs.ShownInTurn.{HaveShown, all-shown}
+use Rattle.varisat.proofs.VariableChanges.{turns-stay}
 use Rattle.varisat.proofs.VariablesInUse.{tables-in-use}
 
 -- 1. What is found out of a name.
@@ -66,13 +67,18 @@ mode-refused n {g} {s} u e b c = (change-refused (with_mode u n) u e b c, λ q. 
 
 -- 2. What is changed.
 
+pub not-hide : (m : SamplingMode) (n : Mode) → ModeFits m n → m ≢ sampling.Hide
+not-hide sampling.Sample n fit e = cc
+not-hide sampling.Witness n fit e = cc
+not-hide sampling.Hide n fit e = absurd fit
+
 pub mode-state : {g : Summary} {s : State} (new : Tables) (u : ℕ) (m : SamplingMode) (n : Mode) → Begins g s → ModeFits m n → SetsNamedMode u m g.tables new → SpacesFit (spaces (with_tables new g)) (with_mode u n (name_var named u s))
 mode-state {g} {s} new u m n b fit c =
-    mode-spaces (with_tables c.mid g) (with_naming (name_one u s.naming) s) new u c.global m n (named-one g s c.mid u b.fits c.named.named) c.named.leads fit c.changed
+    mode-spaces (with_tables c.mid g) (with_naming (name_one u s.naming) s) new u c.global m n (named-one g s c.mid u b.fits c.named.named) c.named.leads fit (c.changed (not-hide m n fit))
 
-pub hide-state : {g : Summary} {s : State} (new : Tables) (u : ℕ) → Begins g s → HidesNamed u g.tables new → SpacesFit (spaces (with_tables new g)) (hide_name u (name_var named u s))
+pub hide-state : {g : Summary} {s : State} (new : Tables) (u : ℕ) → Begins g s → SetsNamedMode u sampling.Hide g.tables new → SpacesFit (spaces (with_tables new g)) (hide_name u (name_var named u s))
 hide-state {g} {s} new u b c =
-    hidden-spaces (with_tables c.mid g) (with_naming (name_one u s.naming) s) new u c.global (named-one g s c.mid u b.fits c.named.named) c.named.leads c.named.unassumed c.hidden
+    hidden-spaces (with_tables c.mid g) (with_naming (name_one u s.naming) s) new u c.global (named-one g s c.mid u b.fits c.named.named) c.named.leads c.named.unassumed (c.hidden refl)
 
 turns-state : (us : List ℕ) (g : Summary) (s : State) (new : Tables) → SpacesFit (spaces g) s → AreShownInTurn us g.tables new → HaveShown us (with_tables new g) s
 turns-state [] g s new f e = (s.naming, refl, subst (λ t. SpacesFit (spaces (with_tables t g)) s) (sym e) f)
@@ -81,10 +87,9 @@ turns-state (u ∷ us) g s new f (mid, x, live, unnamed, n, rest) =
     let (m, turns, k) = turns-state us (with_tables mid g) (with_naming (give_name u i s.naming) s) new fit rest in
     (m, (l, (i, b, o, turns)), k)
 
-pub show-state : (us : List ℕ) {g : Summary} {s : State} (new : Tables) → Begins g s → ShowsBelow (length g.tables.kept) us g.tables new → (m : Naming) × AreAllShown us s.clauses s.naming m × SpacesFit (spaces (with_tables new g)) (with_naming m s)
-show-state us {g} {s} new b d =
-    all-shown us (with_tables new g) s (turns-state us g s new b.fits d.in_turn) d.in_range
-    (λ x e. ⊎_elim (λ h. d.rest x h e) (λ h. let c = d.count in kept-past new.kept x (omega (arith, h, c))) (cases_lt x (length g.tables.kept)))
+pub show-state : (us : List ℕ) {g : Summary} {s : State} (new : Tables) → Begins g s → AreLinked g.tables → AreBounded g.tables → ShowsAllHidden us g.tables new → (m : Naming) × AreAllShown us s.clauses s.naming m × SpacesFit (spaces (with_tables new g)) (with_naming m s)
+show-state us {g} {s} new b l bounded d =
+    all-shown us (with_tables new g) s (turns-state us g s new b.fits d.in_turn) (turns-stay us g.tables new l bounded d.in_turn).1 d.all
 
 -- 3. What a valid solver keeps.
 

@@ -1,21 +1,17 @@
 -- What an accepted clause and a list of assumptions do to the maps between names, global variables and solver variables, and to the search.
-use Rattle.std.specs.Prelude.{◌≡◌, ◌≢◌, ◌⊎◌, ◌↔◌, ℕ, ◌<◌, ◌≤◌, Bool, true, false, Some, None, List, [], ◌∷◌, length, map, Result, Ok, Err, IsSome}
+use Rattle.std.specs.Prelude.{◌≡◌, ◌≢◌, ◌⊎◌, ◌↔◌, ℕ, ◌<◌, ◌≤◌, Bool, true, false, Some, None, List, length, Result, Ok, Err, IsSome}
 use Rattle.varisat_theory.specs.Membership.{◌∈◌}
 use Rattle.varisat_theory.specs.Literals.{Literal, variable_of}
 use Rattle.varisat_literals.specs.Numbers.{variable_limit}
 use Rattle.varisat_names.specs.Maps.{chain}
 use Rattle.varisat_names.specs.VarMap.{at}
 use Rattle.varisat_names.specs.VarData.{kept_at}
-use Rattle.varisat_names.specs.Variables.{Tables, IsNamed, IsTaken}
+use Rattle.varisat_names.specs.Variables.{Tables}
 use Rattle.varisat_names.specs.declared.variables.data.SamplingMode.{SamplingMode}
 use Rattle.varisat_names.specs.declared.variables.data.SamplingMode.TheVariants as sampling
 use Rattle.varisat_prop.specs.View.{View}
 use Rattle.varisat_vsids.specs.Activities.{Activities}
-use Rattle.varisat_search.specs.declared.context.Context.{Context}
-use Rattle.varisat_search.specs.Contexts.{view}
-use Rattle.varisat_search.specs.ContextChanges.{IsRaisedTo}
 use Rattle.varisat_search.specs.Decisions.{IsDecidable}
-use Rattle.varisat.specs.Carried.{carry}
 use Rattle.varisat.specs.Names.{Mode, Sample, Witness, Naming, name_all, NameNoWitness, IsFirstWitness}
 use Rattle.varisat.specs.Calls.{IsPastLimit, IsCrowded}
 use Rattle.varisat.specs.declared.solver.SolverError.{SolverError}
@@ -59,27 +55,9 @@ pub record HasNames (clause : List Literal) (t : Tables) : Type 0 where
   pub bounded : AreBounded t
   pub named : (l : Literal) → l ∈ clause → IsSome (at t.users.forward (variable_of l))
 
--- the names of the literals were named in turn
-abbrev pub AreNamedInTurn : List Literal → Tables → Tables → Type 0
-AreNamedInTurn [] old new = new ≡ old
-AreNamedInTurn (l ∷ ls) old new = (mid : Tables) × IsNamed (variable_of l) old mid × AreNamedInTurn ls mid new
-
--- the global variables, which had none, took solver variables in turn
-abbrev pub AreTakenInTurn : List ℕ → Tables → Tables → Type 0
-AreTakenInTurn [] old new = new ≡ old
-AreTakenInTurn (x ∷ xs) old new =
-    (mid : Tables) × (v : ℕ) × (at old.solvers.forward x ≡ None) × IsTaken old mid x v × AreTakenInTurn xs mid new
-
 -- the solver variable of a name
 abbrev pub HasSolver : Tables → ℕ → Type 0
 HasSolver t u = (v : ℕ) × (chain (at t.users.forward) (at t.solvers.forward) u ≡ Some v)
-
--- Some variables of the clause took solver variables in turn, and then each has one.
-pub record AreTakenFor (clause : List Literal) (old new : Tables) : Type 0 where
-  pub globals : List ℕ
-  pub named : (x : ℕ) → x ∈ globals → (l : Literal) × (l ∈ clause) × (at old.users.forward (variable_of l) ≡ Some x)
-  pub in_turn : AreTakenInTurn globals old new
-  pub all : (l : Literal) → l ∈ clause → HasSolver new (variable_of l)
 
 -- A clause was accepted: where it has several literals, its variables are not isolated any more, and nothing else changed.
 pub record AreJoined (clause : List Literal) (old new : Tables) : Type 0 where
@@ -95,23 +73,6 @@ pub record AreJoined (clause : List Literal) (old new : Tables) : Type 0 where
 -- Exactly the solver variables in use may be decided.
 abbrev pub DecidesInUse : Tables → View → Activities → Type 0
 DecidesInUse t s a = (v : ℕ) → IsDecidable s a v ↔ IsSome (at t.solvers.backward v)
-
--- Exactly the variables are decidable that were so, and those of the literals.
-abbrev pub AddsDecidableOf : List Literal → View → Activities → View → Activities → Type 0
-AddsDecidableOf literals s a t b = (v : ℕ) → IsDecidable t b v ↔ (IsDecidable s a v ⊎ ((l : Literal) × (l ∈ literals) × (variable_of l ≡ v)))
-
--- Those variables of the list that left the search with their values are back: of none without a solver variable a unit is kept.
-abbrev pub AreBack : List Literal → Tables → Type 0
-AreBack list t = (l : Literal) (x : ℕ) → l ∈ list → at t.users.forward (variable_of l) ≡ Some x → at t.solvers.forward x ≡ None → (kept_at t.kept x).unit ≡ None
-
--- The variables of the list took solver variables, the search has these and may decide them, and the literals are the list over them.
-pub record AreBroughtIn {A : Type 0} (list : List Literal) (old new : Tables) (x y : Context A) (literals : List Literal) : Type 0 where
-  pub are_taken : AreTakenFor list old new
-  pub in_use : HasNames list new
-  pub raised : IsRaisedTo (length new.solvers.backward) x y
-  pub decidable : DecidesInUse new (view y) y.vsids
-  pub known : (l : Literal) → l ∈ literals → IsSome (at new.solvers.backward (variable_of l))
-  pub carried : literals ≡ map (carry (chain (at new.users.forward) (at new.solvers.forward))) list
 
 -- The variables of the list are marked as assumed, or not any more, and nothing else changed.
 pub record AreMarked (list : List Literal) (assumed : Bool) (old new : Tables) : Type 0 where

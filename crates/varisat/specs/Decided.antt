@@ -6,6 +6,7 @@ use Rattle.varisat_theory.specs.Literals.{Literal, Clause, Assignment, variable_
 use Rattle.varisat_formula.specs.Dimacs.{dimacs}
 use Rattle.varisat_formula.specs.Streams.{Stand, HasEnded}
 use Rattle.varisat.specs.Additions.{Gave}
+use Rattle.varisat_proof.specs.Verified.{fault_status}
 use Rattle.varisat.specs.States.{join_counted}
 use Rattle.varisat.specs.Models.{IsRising}
 use Rattle.varisat.specs.declared.program.Report.{Report}
@@ -85,10 +86,6 @@ conclusion_text Unknown = codes "s UNKNOWN\n"
 abbrev pub conclusion_status : Conclusion → ℕ
 conclusion_status (Decided outcome) = outcome_status outcome
 conclusion_status Unknown = 0
-
--- the status where there was a fault
-abbrev pub fault_status : ℕ
-fault_status = 2
 
 -- What a status says of the text that the source gave since, whatever is known of the source: 10 only at the end of a text without a fault whose clauses some assignment satisfies, 20 only of one whose clauses none does.
 pub record StatusIsTrue (old new : Stand) (status : ℕ) : Type 0 where

@@ -1,14 +1,18 @@
 -- What becomes of variables whose values are fixed, unless they are assumed: they leave the search. The values are kept, and what has no name may be used again.
-use Rattle.std.specs.Prelude.{◌≡◌, ◌≢◌, ◌↔◌, ℕ, Bool, true, false, not, Option, Some, None, List, [], ◌∷◌, length}
+use Rattle.std.specs.Prelude.{◌≡◌, ◌≢◌, ◌↔◌, ◌⊎◌, ℕ, ◌<◌, Bool, true, false, not, Option, Some, None, List, [], ◌∷◌, length, map, slice_index_or, IsSome}
+use Rattle.std.specs.Option.{is_none}
 use Rattle.std.specs.List.{filter}
-use Rattle.varisat_theory.specs.Membership.{◌∈◌}
+use Rattle.varisat_theory.specs.Membership.{◌∈◌, IsDistinct}
 use Rattle.varisat_theory.specs.Literals.{Literal, variable_of}
 use Rattle.varisat_literals.specs.Numbers.{polarity_of}
 use Rattle.varisat_prop.specs.Leaving.{leaves}
+use Rattle.varisat_prop.specs.View.{View, kept}
+use Rattle.varisat_search.specs.Forgotten.{IsMentioned}
 use Rattle.varisat_names.specs.VarMap.{at}
 use Rattle.varisat_names.specs.VarData.{kept_at}
 use Rattle.varisat_names.specs.Variables.{Tables, IsChangedTo, IsDropped}
 use Rattle.varisat_names.specs.declared.variables.data.VarData.{VarData}
+use Rattle.varisat.specs.Accepting.{HasUser}
 
 -- whether a global variable stands there that is not assumed
 abbrev pub leads_to_unassumed : Tables → Option ℕ → Bool
@@ -40,6 +44,26 @@ IsDroppedAlone l old new = (x : ℕ) × (mid : Tables) × IsChangedTo old mid x 
 abbrev pub AreDroppedAlone : List Literal → Tables → Tables → Type 0
 AreDroppedAlone [] old new = new ≡ old
 AreDroppedAlone (l ∷ ls) old new = (mid : Tables) × IsDroppedAlone l old mid × AreDroppedAlone ls mid new
+
+-- a global variable without a name stands there
+abbrev pub leads_to_hidden : Tables → Option ℕ → Bool
+leads_to_hidden t None = false
+leads_to_hidden t (Some x) = is_none (at t.users.backward x)
+
+-- Of each hidden variable whose flag is not set there is one literal, among those that have flags.
+pub record ListsUnneeded (t : Tables) (flags : List Bool) (ls : List Literal) : Type 0 where
+  pub distinct : IsDistinct (map variable_of ls)
+  pub listed : (v : ℕ) → (v ∈ map variable_of ls) ↔ ((v < length flags) × (slice_index_or flags v false ≡ false) × (leads_to_hidden t (at t.solvers.backward v) ≡ true))
+
+-- The solver variables of the literals were dropped in turn.
+abbrev pub AreReleased : List Literal → Tables → Tables → Type 0
+AreReleased [] old new = new ≡ old
+AreReleased (l ∷ ls) old new = (mid : Tables) × ((x : ℕ) × IsDropped old mid x (variable_of l)) × AreReleased ls mid new
+
+-- Whose variables the search still has: those with a value are assumed, and those in use have a name or are named by a kept clause.
+pub record LeavesNeeded (t : Tables) (s : View) : Type 0 where
+  pub assumed : AreOverAssumed t s.trail
+  pub needed : (v : ℕ) → IsSome (at t.solvers.backward v) → HasUser t v ⊎ IsMentioned (kept s) v
 
 -- What is left of the tables where the solver variables of the literals were dropped: names stay, and so do other solver variables and what is kept of their global variables.
 pub record LeavesTables (ls : List Literal) (old new : Tables) : Type 0 where

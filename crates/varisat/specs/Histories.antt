@@ -2,12 +2,12 @@
 use Rattle.std.specs.Prelude.{List}
 use Rattle.varisat_formula.specs.Streams.{Stand}
 use Rattle.varisat.specs.Pasts.{Past, adding, named, MakesVar, Assumes, Solves, TellsModel, TellsCore, with_update}
-use Rattle.varisat.specs.Turns.{Calling, Makes, MakesInTurn}
+use Rattle.varisat.specs.Turns.{CallRules, Makes, MakesInTurn}
 use Rattle.varisat.specs.declared.session.Call.{Call}
 use Rattle.varisat.specs.declared.session.Answer.{Answer}
 
 -- what calls and their answers say
-abbrev pub telling : Calling Past
+abbrev pub telling : CallRules Past
 telling = record { adding = adding; named = named; makes_var = MakesVar; assumes = Assumes; solves = Solves; tells_model = TellsModel; tells_core = TellsCore; updated = with_update; steps = λ p. p.steps }
 
 -- Where the past was p, the call may get the answer, and then the past is q. `seen` tells how a source stands.

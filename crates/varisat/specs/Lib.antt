@@ -15,7 +15,6 @@ pub mod Laws
 pub mod Searches
 pub mod Accepting
 pub mod Summaries
-pub mod Returning
 pub mod Carried
 pub mod Spaces
 pub mod Usage

@@ -68,13 +68,13 @@ HasNumbersInRange Steps = Unit {0}
 HasNumbersInRange Close = Unit {0}
 
 -- the text means the command
-pub record Means (text : List ℕ) (command : Command) : Type 0 where
+pub record MeansCommand (text : List ℕ) (command : Command) : Type 0 where
   pub spelled : spelling command ≡ text
   pub in_range : HasNumbersInRange command
 
 -- no two commands are spelled alike
 abbrev pub MeansOneCommand : Type 0
-MeansOneCommand = (text : List ℕ) (a b : Command) → Means text a → Means text b → a ≡ b
+MeansOneCommand = (text : List ℕ) (a b : Command) → MeansCommand text a → MeansCommand text b → a ≡ b
 
 -- the command asks for the call
 abbrev pub AsksFor : {S A : Type 0} → Call S A → Command → Type 0

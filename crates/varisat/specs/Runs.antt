@@ -4,13 +4,13 @@ use Rattle.varisat_formula.specs.Streams.{Stand}
 use Rattle.varisat.specs.States.{State}
 use Rattle.varisat.specs.Calls.{adding, MakesVar, Assumes, Solves, TellsModel, TellsCore, with_update}
 use Rattle.varisat.specs.VariableCalls.{named}
-use Rattle.varisat.specs.Turns.{Calling, Makes, MakesInTurn}
+use Rattle.varisat.specs.Turns.{CallRules, Makes, MakesInTurn}
 use Rattle.varisat.specs.declared.session.Call.{Call}
 use Rattle.varisat.specs.declared.session.Answer.{Answer}
 use Rattle.varisat.specs.declared.session.Call.TheVariants as call
 
 -- the calls of a solver
-abbrev pub calling : Calling State
+abbrev pub calling : CallRules State
 calling = record { adding = adding; named = named; makes_var = MakesVar; assumes = Assumes; solves = Solves; tells_model = TellsModel; tells_core = TellsCore; updated = with_update; steps = λ s. s.ledger.steps }
 
 abbrev pub MakesCall : {W S A : Type 0} → (S → Stand) → State → Call S A → Answer W S A → State → Type 0

@@ -16,7 +16,7 @@ use Rattle.varisat.specs.declared.session.Call.TheVariants as call
 use Rattle.varisat.specs.declared.session.Answer.TheVariants as answer
 
 -- How calls move something, and with which answers: how clauses are added to it, how its names are used, and each further call that can be refused; what an update of the settings makes of it, and how many steps were made.
-pub record Calling (X : Type 0) : Type 1 where
+pub record CallRules (X : Type 0) : Type 1 where
   pub adding : additions.Adding X
   pub named : usage.Named X
   pub makes_var : X → Result ℕ SolverError → X → Type 0
@@ -27,7 +27,7 @@ pub record Calling (X : Type 0) : Type 1 where
   pub updated : SolverConfigUpdate → X → X
   pub steps : X → ℕ
 
-module _ {X : Type 0} (by : Calling X) where
+module _ {X : Type 0} (by : CallRules X) where
   -- From s the call may get the answer and lead to t. `seen` tells how a source stands, as it was given and as it is given back.
   abbrev pub Makes : {W S A : Type 0} → (S → Stand) → X → Call S A → Answer W S A → X → Type 0
   Makes seen s (call.AddClause c) (answer.AddClause r) t = by.adding.adds s c.items r t

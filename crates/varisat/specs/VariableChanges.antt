@@ -1,10 +1,9 @@
--- What the calls that set the mode of a variable, hide it, and bring hidden ones back do to the tables.
-use Rattle.std.specs.Prelude.{◌≡◌, ◌⊎◌, ℕ, ◌<◌, ◌≤◌, true, false, Some, None, List, [], ◌∷◌, ◌++◌, length, Result, Ok, Err}
-use Rattle.varisat_theory.specs.Membership.{◌∈◌}
+-- What the calls that set the mode of a variable and hide it do to the tables.
+use Rattle.std.specs.Prelude.{◌≡◌, ◌≢◌, ◌⊎◌, ℕ, ◌<◌, ◌≤◌, true, false, Some, Result, Ok, Err}
 use Rattle.varisat_literals.specs.Numbers.{variable_limit}
 use Rattle.varisat_names.specs.VarMap.{at}
 use Rattle.varisat_names.specs.VarData.{kept_at}
-use Rattle.varisat_names.specs.Variables.{Tables, IsNamed, IsChangedTo, IsHidden, IsShown}
+use Rattle.varisat_names.specs.Variables.{Tables, IsNamed, IsChangedTo, IsHidden}
 use Rattle.varisat_names.specs.declared.variables.data.SamplingMode.{SamplingMode}
 use Rattle.varisat_names.specs.declared.variables.data.SamplingMode.TheVariants as sampling
 use Rattle.varisat.specs.Names.{name_one}
@@ -50,37 +49,11 @@ pub record IsNamedAs (u : ℕ) (old new : Tables) (x : ℕ) : Type 0 where
   pub unassumed : (kept_at new.kept x).assumed ≡ false
   pub stays : StaysKept old new
 
--- The name was named, and its variable has the mode.
+-- The name was named, and its variable has the mode: as `Hide` the name is free.
 pub record SetsNamedMode (u : ℕ) (mode : SamplingMode) (old new : Tables) : Type 0 where
   pub mid : Tables
   pub global : ℕ
   pub named : IsNamedAs u old mid global
-  pub changed : IsChangedTo mid new global (record (kept_at mid.kept global) { sampling_mode = mode })
+  pub hidden : mode ≡ sampling.Hide → IsHidden mid new u global
+  pub changed : mode ≢ sampling.Hide → IsChangedTo mid new global (record (kept_at mid.kept global) { sampling_mode = mode })
   pub stays : StaysKept old new
-
--- The name was named, and is free.
-pub record HidesNamed (u : ℕ) (old new : Tables) : Type 0 where
-  pub mid : Tables
-  pub global : ℕ
-  pub named : IsNamedAs u old mid global
-  pub hidden : IsHidden mid new u global
-  pub stays : StaysKept old new
-
--- Hidden variables came back as witnesses in turn, under these names.
-abbrev pub AreShownInTurn : List ℕ → Tables → Tables → Type 0
-AreShownInTurn [] old new = new ≡ old
-AreShownInTurn (u ∷ us) old new =
-    (mid : Tables) × (x : ℕ) × ((kept_at old.kept x).deleted ≡ false) × (at old.users.backward x ≡ None) × IsShown old mid x sampling.Witness u × AreShownInTurn us mid new
-
--- The variables below n that were hidden came back under these names, and no other.
-pub record ShowsBelow (n : ℕ) (us : List ℕ) (old new : Tables) : Type 0 where
-  pub in_turn : AreShownInTurn us old new
-  pub in_range : (u : ℕ) → u ∈ us → u < variable_limit
-  pub rest : (x : ℕ) → x < n → at new.users.backward x ≡ None → (kept_at new.kept x).deleted ≡ true
-  pub count : length new.kept ≡ length old.kept
-  pub stays : StaysKept old new
-
--- The variable came back, if it was hidden, and its name joined the list.
-pub data ShowsOne (x : ℕ) (us vs : List ℕ) (old new : Tables) : Type 0 where
-  Passed : (at old.users.backward x ≡ None → (kept_at old.kept x).deleted ≡ true) → new ≡ old → vs ≡ us → ShowsOne x us vs old new
-  Shown : (u : ℕ) → u < variable_limit → (kept_at old.kept x).deleted ≡ false → at old.users.backward x ≡ None → IsShown old new x sampling.Witness u → length new.kept ≡ length old.kept → StaysKept old new → vs ≡ us ++ u ∷ [] → ShowsOne x us vs old new

@@ -5,25 +5,22 @@ ghost use Rattle.varisat_theory.specs.Membership.{◌∈◌};
 ghost use Rattle.varisat_theory.specs.Literals.{Literal, variable_of};
 ghost use Rattle.varisat_names.specs.VarData.{kept_at};
 ghost use Rattle.varisat_names.specs.VarMap.{at};
-ghost use Rattle.varisat_search.specs.Contexts.{view, IsReady, KeepsSchedule};
+ghost use Rattle.varisat_search.specs.Contexts.{view, KeepsSchedule};
 ghost use Rattle.varisat.specs.States.{State, Verdict};
 ghost use Rattle.varisat.specs.Names.{name_all, through_names};
 ghost use Rattle.varisat.specs.Calls.{with_naming, VerdictAfter, append_clause, with_assumptions};
 ghost use Rattle.varisat.specs.Spaces.{SpacesFit};
 ghost use Rattle.varisat.specs.Summaries.{spaces_of, IsKept};
-ghost use Rattle.varisat.specs.Returning.{BringsBack};
-ghost use Rattle.varisat.specs.Accepting.{CanBeNamed, HasNames, AreTakenFor, AddsDecidableOf, AreBack, AreBroughtIn, AreJoined, AreMarked};
+ghost use Rattle.varisat.specs.Accepting.{CanBeNamed, HasNames, AreJoined, AreMarked};
 
-use crate::carrying::carry_literals;
-use crate::naming::name_vars;
 use std::alloc::{AllocError, Allocator};
 use varisat_literals::{Lit, Var};
 use varisat_names::variables::LinkedVariables;
 use varisat_prop::clause::StoreError;
 use varisat_search::assumptions::set_assumptions;
 use varisat_search::context::Context;
-use varisat_search::decision::{add_variables, make_available};
-use varisat_search::load::{load_clause, resurrect_unit};
+use varisat_search::load::load_clause;
+use varisat_search::solver_variables::solver_from_user_lits;
 use varisat_search::state::SatState;
 
 /// The global variable of the literal's name, which is in use.
@@ -34,24 +31,6 @@ fn global_of<A: Allocator + Copy>(variables: &LinkedVariables<A>, lit: Lit) -> V
 {
     variables.prove_linked();
     variables.global_from_user().get(lit.var()).unwrap()
-}
-
-/// Takes a solver variable for each variable of the clause that has none.
-fn take_solver_vars<A: Allocator + Copy>(
-    variables: &mut LinkedVariables<A>,
-    clause: &[Lit],
-) -> Result<(), AllocError>
-    requires { HasNames clause.now variables.old }
-    ensures taken { OnOk result (AreTakenFor clause.now variables.old variables.new) }
-{
-    for lit in clause {
-        variables.prove_linked();
-        let global = global_of(variables, *lit);
-        if variables.solver_from_global().get(global).is_none() {
-            variables.take_solver_var(global)?;
-        }
-    }
-    Ok(())
 }
 
 /// Marks the variables of a clause of several literals, which are not isolated any more.
@@ -82,97 +61,6 @@ fn mark_assumed<A: Allocator + Copy>(
     }
 }
 
-/// Makes the variables of the literals available for decisions.
-fn make_each_available<A: Allocator + Copy>(ctx: &mut Context<A>, literals: &[Lit])
-    requires ready { IsReady ctx.old }
-    requires known { (l : Literal) → l ∈ literals.now → variable_of l < length ctx.old.assignment.current }
-    ensures ready { IsReady ctx.new }
-    ensures decidable { AddsDecidableOf literals.now (view ctx.old) ctx.old.vsids (view ctx.new) ctx.new.vsids }
-    ensures kept { ctx.new ≡ record ctx.old { vsids = ctx.new.vsids } }
-{
-    for lit in literals {
-        make_available(ctx, lit.var());
-    }
-}
-
-/// Takes solver variables for those of the list that have none, and lists its literals over these. A solver variable
-/// that was free below the watermark is not available for decisions until then.
-fn bring_in<A: Allocator + Copy>(
-    variables: &mut LinkedVariables<A>,
-    ctx: &mut Context<A>,
-    literals: &mut Vec<Lit, A>,
-    list: &[Lit],
-) -> Result<(), AllocError>
-    requires kept { IsKept variables.old ctx.old }
-    requires names { HasNames list.now variables.old }
-    ensures brought { OnOk result (AreBroughtIn list.now variables.old variables.new ctx.old ctx.new literals.new.items) }
-    ensures kept { ctx.new ≡ record ctx.old { analyze_conflict = ctx.new.analyze_conflict; assignment = ctx.new.assignment; binary_clauses = ctx.new.binary_clauses; impl_graph = ctx.new.impl_graph; tmp_flags = ctx.new.tmp_flags; vsids = ctx.new.vsids; watchlists = ctx.new.watchlists } }
-{
-    take_solver_vars(variables, list)?;
-    variables.prove_linked();
-    add_variables(ctx, variables.solver_watermark())?;
-    carry_literals(
-        variables.global_from_user(),
-        variables.solver_from_global(),
-        list,
-        literals,
-    )?;
-    make_each_available(ctx, literals);
-    Ok(())
-}
-
-/// Takes a solver variable for a variable that left the search with its value, and holds the unit clause for that value
-/// again.
-fn resurrect_var<A: Allocator + Copy>(
-    variables: &mut LinkedVariables<A>,
-    ctx: &mut Context<A>,
-    global: Var,
-    value: bool,
-) -> Result<(), AllocError>
-    requires kept { IsKept variables.old ctx.old }
-    requires reopened { ctx.old.solver_state.sat_state ≢ SatState.Sat }
-    requires live { (kept_at variables.old.kept global).deleted ≡ false }
-    requires unit { (kept_at variables.old.kept global).unit ≡ Some value }
-    requires left { at variables.old.solvers.forward global ≡ None }
-    ensures back { OnOk result (BringsBack variables.old variables.new ctx.old ctx.new) }
-    ensures taken { OnOk result (IsSome (at variables.new.solvers.forward global)) }
-    ensures schedule { KeepsSchedule ctx.old ctx.new }
-{
-    variables.prove_linked();
-    let solver = variables.take_solver_var(global)?;
-    variables.prove_linked();
-    add_variables(ctx, variables.solver_watermark())?;
-    make_available(ctx, solver);
-    resurrect_unit(ctx, solver.lit(value))?;
-    Ok(())
-}
-
-/// Brings those variables of the list back that left the search with their values.
-fn resurrect_vars<A: Allocator + Copy>(
-    variables: &mut LinkedVariables<A>,
-    ctx: &mut Context<A>,
-    list: &[Lit],
-) -> Result<(), AllocError>
-    requires kept { IsKept variables.old ctx.old }
-    requires reopened { ctx.old.solver_state.sat_state ≢ SatState.Sat }
-    requires names { HasNames list.now variables.old }
-    ensures back { OnOk result (BringsBack variables.old variables.new ctx.old ctx.new) }
-    ensures all { OnOk result (AreBack list.now variables.new) }
-    ensures schedule { KeepsSchedule ctx.old ctx.new }
-{
-    for lit in list {
-        variables.prove_linked();
-        let global = global_of(variables, *lit);
-        if variables.solver_from_global().get(global).is_some() {
-            continue;
-        }
-        if let Some(value) = variables.var_data_global(global).unit {
-            resurrect_var(variables, ctx, global, value)?;
-        }
-    }
-    Ok(())
-}
-
 /// Brings the names of the clause into use, takes solver variables for them, and loads the clause over these.
 /// `literals` is overwritten.
 pub fn accept_clause<A: Allocator + Copy>(
@@ -193,9 +81,8 @@ pub fn accept_clause<A: Allocator + Copy>(
     // A model that was found may not satisfy the clause.
     ctx.solver_state.reopen();
     variables.prove_linked();
-    name_vars(variables, clause)?;
-    resurrect_vars(variables, ctx, clause)?;
-    bring_in(variables, ctx, literals, clause)?;
+    solver_from_user_lits(ctx, variables, literals, clause)?;
+    variables.prove_linked();
     mark_joined(variables, clause);
     load_clause(ctx, literals)?;
     Ok(())
@@ -220,9 +107,7 @@ pub fn assume_list<A: Allocator + Copy>(
     // What was found under the assumptions before says nothing of these.
     ctx.solver_state.assume();
     variables.prove_linked();
-    name_vars(variables, list)?;
-    resurrect_vars(variables, ctx, list)?;
-    bring_in(variables, ctx, literals, list)?;
+    solver_from_user_lits(ctx, variables, literals, list)?;
     variables.prove_linked();
     mark_assumed(variables, ctx.assumptions.user_assumptions(), false);
     mark_assumed(variables, list, true);

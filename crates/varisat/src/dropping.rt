@@ -1,9 +1,10 @@
-//! What becomes of variables whose values are fixed as a call of `solve` begins: unless they are assumed they leave the
-//! search, which so has fewer variables to speak of. Their values are kept for the model and for clauses to come, and
-//! what stands for hidden ones may be used again.
-ghost use Rattle.std.specs.Prelude.{◌≡◌, ◌≢◌, ◌<◌, ◌⊎◌, [], length, map, IsSome, OnOk, IfOk};
+//! Which variables leave the search as a call of `solve` begins: those whose values are fixed, unless they are assumed,
+//! and hidden ones that no kept clause names. Fixed values are kept for the model and for clauses to come, and what
+//! stands for hidden variables may be used again.
+ghost use Rattle.std.specs.Prelude.{◌≡◌, ◌≢◌, ◌<◌, ◌≤◌, ◌⊎◌, [], length, map, IsSome, OnOk, IfOk};
 ghost use Rattle.varisat_theory.specs.Membership.{◌∈◌, IsDistinct};
 ghost use Rattle.varisat_theory.specs.Literals.{Literal, variable_of};
+ghost use Rattle.varisat_literals.specs.Numbers.{variable_limit};
 ghost use Rattle.varisat_prop.specs.declared.prop.graph.Conflict.{Conflict};
 ghost use Rattle.varisat_prop.specs.Changes.{IsConflicting};
 ghost use Rattle.varisat_names.specs.VarMap.{at};
@@ -12,14 +13,14 @@ ghost use Rattle.varisat_search.specs.SettledUnits.{IsSettledDown};
 ghost use Rattle.varisat.specs.States.{State};
 ghost use Rattle.varisat.specs.Spaces.{SpacesFit};
 ghost use Rattle.varisat.specs.Summaries.{spaces_of, IsKept};
-ghost use Rattle.varisat.specs.Dropping.{leads_to_unassumed, unassumed_among, AreOverAssumed, FlagsVariables, AreDroppedAlone, LeavesTables};
+ghost use Rattle.varisat.specs.Dropping.{leads_to_unassumed, unassumed_among, AreOverAssumed, FlagsVariables, AreDroppedAlone, leads_to_hidden, ListsUnneeded, AreReleased, LeavesNeeded, LeavesTables};
 
 use std::alloc::{AllocError, Allocator};
 use varisat_literals::{Lit, Var};
 use varisat_names::variables::LinkedVariables;
 use varisat_search::cdcl::settle;
 use varisat_search::context::Context;
-use varisat_search::forgetting::drop_variables;
+use varisat_search::forgetting::{drop_variables, flag_mentioned};
 use varisat_search::state::SatState;
 
 /// Whether the solver variable is that of a global variable that is not assumed.
@@ -89,6 +90,57 @@ fn drop_solver_vars<A: Allocator + Copy>(
     Ok(())
 }
 
+/// Whether the solver variable is that of a global variable without a name.
+fn is_hidden<A: Allocator + Copy>(variables: &LinkedVariables<A>, solver: Var) -> bool
+    ensures { result ≡ leads_to_hidden variables.now (at variables.now.solvers.backward solver) }
+{
+    match variables.global_from_solver().get(solver) {
+        Some(global) => variables.user_from_global().get(global).is_none(),
+        None => false,
+    }
+}
+
+/// Lists a literal of each hidden variable that no kept clause names.
+fn list_unneeded<A: Allocator + Copy>(
+    variables: &LinkedVariables<A>,
+    mentioned: &[bool],
+    unneeded: &mut Vec<Lit, A>,
+) -> Result<(), AllocError>
+    requires { length mentioned.now ≤ variable_limit }
+    ensures { OnOk result (ListsUnneeded variables.now mentioned.now unneeded.new.items) }
+{
+    unneeded.clear();
+    for index in 0..mentioned.len() {
+        let is_mentioned = mentioned[index];
+        if is_mentioned {
+            continue;
+        }
+        let solver = Var::from_index(index);
+        if !is_hidden(variables, solver) {
+            continue;
+        }
+        unneeded.push(solver.positive())?;
+    }
+    Ok(())
+}
+
+/// Drops the solver variables of the literals, which have no values.
+fn release_solver_vars<A: Allocator + Copy>(
+    variables: &mut LinkedVariables<A>,
+    lits: &[Lit],
+) -> Result<(), AllocError>
+    requires taken { (l : Literal) → l ∈ lits.now → IsSome (at variables.old.solvers.backward (variable_of l)) }
+    requires distinct { IsDistinct (map variable_of lits.now) }
+    ensures released { OnOk result (AreReleased lits.now variables.old variables.new) }
+    ensures rest { OnOk result (LeavesTables lits.now variables.old variables.new) }
+{
+    for lit in lits {
+        variables.prove_linked();
+        variables.drop_solver_var(lit.var())?;
+    }
+    Ok(())
+}
+
 /// Lets the variables leave that have a value and are not assumed, where the search is at level 0 and all of it is
 /// settled. `literals` is overwritten.
 fn drop_listed<A: Allocator + Copy>(
@@ -102,6 +154,7 @@ fn drop_listed<A: Allocator + Copy>(
     ensures schedule { KeepsSchedule ctx.old ctx.new }
     ensures state { ctx.new.solver_state ≡ ctx.old.solver_state }
     ensures count { OnOk result (length ctx.new.assignment.current ≡ length ctx.old.assignment.current) }
+    ensures settled { OnOk result (IsSettledDown (view ctx.new)) }
     ensures left { OnOk result (AreOverAssumed variables.new ctx.new.trail.literals) }
     ensures stands { OnOk result ((s : State) → SpacesFit (spaces_of variables.old (view ctx.old) ctx.old.assumptions SatState.Unknown) s → SpacesFit (spaces_of variables.new (view ctx.new) ctx.new.assumptions SatState.Unknown) s) }
 {
@@ -114,10 +167,37 @@ fn drop_listed<A: Allocator + Copy>(
     Ok(())
 }
 
-/// At level 0, where literals are still to be propagated, settles the units and lets the variables leave the search that
-/// have a value and are not assumed. Does nothing at another level or where there is no such news, so that a call of
-/// `solve` passes over all clauses no more often than its first step would. Lets none leave where a clause is false.
+/// Lets the hidden variables leave that no kept clause names, where those with a value left that are not assumed.
 /// `literals` is overwritten.
+fn drop_unneeded<A: Allocator + Copy>(
+    variables: &mut LinkedVariables<A>,
+    ctx: &mut Context<A>,
+    literals: &mut Vec<Lit, A>,
+) -> Result<(), AllocError>
+    requires kept { IsKept variables.old ctx.old }
+    requires settled { IsSettledDown (view ctx.old) }
+    requires left { AreOverAssumed variables.old ctx.old.trail.literals }
+    ensures kept { OnOk result (IsKept variables.new ctx.new) }
+    ensures schedule { KeepsSchedule ctx.old ctx.new }
+    ensures state { ctx.new.solver_state ≡ ctx.old.solver_state }
+    ensures count { OnOk result (length ctx.new.assignment.current ≡ length ctx.old.assignment.current) }
+    ensures left { OnOk result (LeavesNeeded variables.new (view ctx.new)) }
+    ensures stands { OnOk result ((s : State) → SpacesFit (spaces_of variables.old (view ctx.old) ctx.old.assumptions SatState.Unknown) s → SpacesFit (spaces_of variables.new (view ctx.new) ctx.new.assumptions SatState.Unknown) s) }
+{
+    variables.prove_linked();
+    let mentioned = flag_mentioned(ctx)?;
+    list_unneeded(variables, &mentioned, literals)?;
+    let alloc = *literals.allocator();
+    let gone = flag_variables(alloc, ctx.assignment.assignment().len(), literals)?;
+    drop_variables(ctx, &gone);
+    release_solver_vars(variables, literals)?;
+    Ok(())
+}
+
+/// At level 0, where literals are still to be propagated, settles the units and lets the variables leave the search that
+/// have a value and are not assumed, and the hidden ones that no kept clause names. Does nothing at another level or
+/// where there is no such news, so that a call of `solve` passes over all clauses no more often than its first step
+/// would. Lets none leave where a clause is false. `literals` is overwritten.
 pub fn drop_fixed<A: Allocator + Copy>(
     variables: &mut LinkedVariables<A>,
     ctx: &mut Context<A>,
@@ -129,7 +209,7 @@ pub fn drop_fixed<A: Allocator + Copy>(
     ensures schedule { KeepsSchedule ctx.old ctx.new }
     ensures state { ctx.new.solver_state ≡ ctx.old.solver_state }
     ensures count { OnOk result (length ctx.new.assignment.current ≡ length ctx.old.assignment.current) }
-    ensures left { OnOk result (ctx.old.trail.decisions ≡ [] → ctx.old.trail.queue_head ≢ length ctx.old.trail.literals → ((conflict : Conflict) × IsConflicting (view ctx.new) conflict) ⊎ AreOverAssumed variables.new ctx.new.trail.literals) }
+    ensures left { OnOk result (ctx.old.trail.decisions ≡ [] → ctx.old.trail.queue_head ≢ length ctx.old.trail.literals → ((conflict : Conflict) × IsConflicting (view ctx.new) conflict) ⊎ LeavesNeeded variables.new (view ctx.new)) }
     ensures stands { OnOk result ((s : State) → SpacesFit (spaces_of variables.old (view ctx.old) ctx.old.assumptions SatState.Unknown) s → SpacesFit (spaces_of variables.new (view ctx.new) ctx.new.assumptions SatState.Unknown) s) }
 {
     if ctx.trail.current_level() > 0 || ctx.trail.fully_propagated() {
@@ -139,5 +219,6 @@ pub fn drop_fixed<A: Allocator + Copy>(
         return Ok(());
     }
     drop_listed(variables, ctx, literals)?;
+    drop_unneeded(variables, ctx, literals)?;
     Ok(())
 }

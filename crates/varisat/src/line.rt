@@ -5,7 +5,7 @@ ghost use Rattle.std.specs.Io.KnownBytes.{Appends};
 ghost use Rattle.varisat_theory.specs.Literals.{Literal};
 ghost use Rattle.varisat_literals.specs.Numbers.{literal_text, variable_text};
 ghost use Rattle.varisat_names.specs.Settings.{update_of};
-ghost use Rattle.varisat.specs.Lines.{Command, Add, Assume, Config, words, Means, MeansOneCommand, AsksFor, SetsUsage, words_of, literals_text, variables_text, names_text, refusal_text, done_text, list_text, answer_text};
+ghost use Rattle.varisat.specs.Lines.{Command, Add, Assume, Config, words, MeansCommand, MeansOneCommand, AsksFor, SetsUsage, words_of, literals_text, variables_text, names_text, refusal_text, done_text, list_text, answer_text};
 ghost use Rattle.varisat.specs.Told.{told_list, told_vars};
 
 use crate::session::{Answer, Call};
@@ -27,8 +27,8 @@ pub fn parse_line<S: ByteSource, A: Allocator + Copy>(
     alloc: A,
     text: &[u8],
 ) -> Result<Option<Call<S, A>>, AllocError>
-    ensures command { IfOk result (λ found. IfSome found (λ call. (command : Command) × AsksFor call command × Means text.now command)) }
-    ensures no_command { IfOk result (λ found. IfNone found ((command : Command) → Means text.now command → ⊥)) }
+    ensures command { IfOk result (λ found. IfSome found (λ call. (command : Command) × AsksFor call command × MeansCommand text.now command)) }
+    ensures no_command { IfOk result (λ found. IfNone found ((command : Command) → MeansCommand text.now command → ⊥)) }
 {
     if let Some(numbers) = text.strip_prefix(b"add ") {
         return match parse_literals(alloc, numbers)? {
@@ -47,8 +47,8 @@ pub fn parse_line<S: ByteSource, A: Allocator + Copy>(
 
 // The call of a command that does not begin with `add` or `assume` and a space.
 fn parse_short<S: ByteSource, A: Allocator + Copy>(alloc: A, text: &[u8]) -> Option<Call<S, A>>
-    ensures command { IfSome result (λ call. (command : Command) × AsksFor call command × Means text.now command) }
-    ensures no_command { IfNone result ((command : Command) → Means text.now command → (take 4 text.now ≡ codes "add ") ⊎ (take 7 text.now ≡ codes "assume ")) }
+    ensures command { IfSome result (λ call. (command : Command) × AsksFor call command × MeansCommand text.now command) }
+    ensures no_command { IfNone result ((command : Command) → MeansCommand text.now command → (take 4 text.now ≡ codes "add ") ⊎ (take 7 text.now ≡ codes "assume ")) }
 {
     match text.strip_prefix(b"config ") {
         Some(setting) => Some(Call::Config(parse_setting(setting)?)),
@@ -61,8 +61,8 @@ fn parse_short<S: ByteSource, A: Allocator + Copy>(alloc: A, text: &[u8]) -> Opt
 
 // The call of a command that sets how a variable is used.
 fn parse_usage<S: ByteSource, A: Allocator + Copy>(text: &[u8]) -> Option<Call<S, A>>
-    ensures command { IfSome result (λ call. (command : Command) × AsksFor call command × Means text.now command) }
-    ensures no_command { IfNone result ((command : Command) → Means text.now command → SetsUsage command → ⊥) }
+    ensures command { IfSome result (λ call. (command : Command) × AsksFor call command × MeansCommand text.now command) }
+    ensures no_command { IfNone result ((command : Command) → MeansCommand text.now command → SetsUsage command → ⊥) }
 {
     if let Some(number) = text.strip_prefix(b"sample ") {
         return Some(Call::SampleVar(parse_variable(number)?));
@@ -78,8 +78,8 @@ fn parse_usage<S: ByteSource, A: Allocator + Copy>(text: &[u8]) -> Option<Call<S
 
 // The call of a command that is one word.
 fn parse_word<S: ByteSource, A: Allocator + Copy>(alloc: A, word: &[u8]) -> Option<Call<S, A>>
-    ensures command { IfSome result (λ call. (command : Command) × AsksFor call command × Means word.now command) }
-    ensures no_command { IfNone result ((command : Command) → Means word.now command → 1 < length (words command)) }
+    ensures command { IfSome result (λ call. (command : Command) × AsksFor call command × MeansCommand word.now command) }
+    ensures no_command { IfNone result ((command : Command) → MeansCommand word.now command → 1 < length (words command)) }
 {
     if word == b"add".as_slice() {
         Some(Call::AddClause(Vec::new(alloc)))
@@ -106,8 +106,8 @@ fn parse_word<S: ByteSource, A: Allocator + Copy>(alloc: A, word: &[u8]) -> Opti
 
 // The update of a command that begins with `config` and a space, from what follows: a setting's name and a number.
 fn parse_setting(setting: &[u8]) -> Option<SolverConfigUpdate>
-    ensures command { IfSome result (λ update. (field : ConfigField) × (value : ℕ) × (update ≡ update_of field value) × Means (codes "config " ++ setting.now) (Config field value)) }
-    ensures no_command { IfNone result ((command : Command) → Means (codes "config " ++ setting.now) command → ⊥) }
+    ensures command { IfSome result (λ update. (field : ConfigField) × (value : ℕ) × (update ≡ update_of field value) × MeansCommand (codes "config " ++ setting.now) (Config field value)) }
+    ensures no_command { IfNone result ((command : Command) → MeansCommand (codes "config " ++ setting.now) command → ⊥) }
 {
     let (name, number) = split_word(setting);
     let field = ConfigField::from_name(name)?;
@@ -120,10 +120,10 @@ fn parse_literals<A: Allocator + Copy>(
     alloc: A,
     numbers: &[u8],
 ) -> Result<Option<Vec<Lit, A>>, AllocError>
-    ensures clause { IfOk result (λ found. IfSome found (λ literals. Means (codes "add " ++ numbers.now) (Add literals.items))) }
-    ensures list { IfOk result (λ found. IfSome found (λ literals. Means (codes "assume " ++ numbers.now) (Assume literals.items))) }
-    ensures no_clause { IfOk result (λ found. IfNone found ((command : Command) → Means (codes "add " ++ numbers.now) command → ⊥)) }
-    ensures no_list { IfOk result (λ found. IfNone found ((command : Command) → Means (codes "assume " ++ numbers.now) command → ⊥)) }
+    ensures clause { IfOk result (λ found. IfSome found (λ literals. MeansCommand (codes "add " ++ numbers.now) (Add literals.items))) }
+    ensures list { IfOk result (λ found. IfSome found (λ literals. MeansCommand (codes "assume " ++ numbers.now) (Assume literals.items))) }
+    ensures no_clause { IfOk result (λ found. IfNone found ((command : Command) → MeansCommand (codes "add " ++ numbers.now) command → ⊥)) }
+    ensures no_list { IfOk result (λ found. IfNone found ((command : Command) → MeansCommand (codes "assume " ++ numbers.now) command → ⊥)) }
 {
     let mut literals = Vec::new(alloc);
     let mut rest = Some(numbers);

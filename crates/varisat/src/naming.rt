@@ -1,13 +1,13 @@
-//! What a call finds out of the names that it is given, before anything changes, and how they come into use.
-ghost use Rattle.std.specs.Prelude.{◌≡◌, ◌≢◌, ◌+◌, ◌-◌, length, OnOk, MatchBool, MatchOption};
+//! What a call finds out of the names that it is given, before anything changes.
+ghost use Rattle.std.specs.Prelude.{◌≡◌, ◌≢◌, ◌+◌, ◌-◌, length, MatchBool, MatchOption};
 ghost use Rattle.varisat_theory.specs.Membership.{◌∈◌};
 ghost use Rattle.varisat_theory.specs.Literals.{Literal, variable_of};
 ghost use Rattle.varisat.specs.Names.{name_all, IsWitness, NameNoWitness, IsFirstWitness};
 ghost use Rattle.varisat.specs.Calls.{IsPastLimit, IsCrowded};
-ghost use Rattle.varisat.specs.Accepting.{AreBounded, naming_of, ComesAlone, CanBeNamed, ChecksNames, HasNames, AreNamedInTurn};
+ghost use Rattle.varisat.specs.Accepting.{AreBounded, naming_of, ComesAlone, CanBeNamed, ChecksNames};
 
 use crate::solver::SolverError;
-use std::alloc::{AllocError, Allocator};
+use std::alloc::Allocator;
 use varisat_literals::{Lit, Var};
 use varisat_names::variables::LinkedVariables;
 use varisat_names::variables::data::SamplingMode;
@@ -142,19 +142,4 @@ pub fn check_names<A: Allocator + Copy>(
         Some(var) => Err(SolverError::WitnessVar { var }),
         None => Ok(()),
     }
-}
-
-/// Names the names of the clause in turn: each that is free comes into use, above the watermark with all names below it.
-pub fn name_vars<A: Allocator + Copy>(
-    variables: &mut LinkedVariables<A>,
-    clause: &[Lit],
-) -> Result<(), AllocError>
-    requires { CanBeNamed clause.now variables.old }
-    ensures names { OnOk result (HasNames clause.now variables.new) }
-    ensures in_turn { OnOk result (AreNamedInTurn clause.now variables.old variables.new) }
-{
-    for lit in clause {
-        variables.name_user_var(lit.var())?;
-    }
-    Ok(())
 }

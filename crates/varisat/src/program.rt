@@ -3,7 +3,8 @@ ghost use Rattle.std.specs.Prelude.{◌≡◌, ◌⊎◌, ◌-◌, ◌^◌, ◌<
 ghost use Rattle.std.specs.Io.KnownBytes.{Appends};
 ghost use Rattle.varisat.specs.States.{empty_state};
 ghost use Rattle.varisat.specs.Summaries.{StandsFor};
-ghost use Rattle.varisat.specs.Decided.{Conclusion, concluded, allowed_steps, Decides, StatusIsTrue, model_text, conclusion_text, conclusion_status, fault_status};
+ghost use Rattle.varisat.specs.Decided.{Conclusion, concluded, allowed_steps, Decides, StatusIsTrue, model_text, conclusion_text, conclusion_status};
+ghost use Rattle.varisat_proof.specs.Verified.{fault_status};
 
 use crate::line::{parse_line, write_answer, write_literals};
 use crate::session::make_call;
@@ -14,7 +15,7 @@ use std::io::{self, BufRead, BufReader, Empty, Read, Write};
 use varisat_formula::io::{ByteSource, MemoryTarget, ProofTarget, ReadSource};
 use varisat_literals::Lit;
 use varisat_names::config::SolverConfigUpdate;
-pub use varisat_proof::program::check_lines;
+pub use varisat_proof::program::{STATUS_FAULT, check_lines};
 
 /// The status of a command that came to its end.
 pub const STATUS_DONE: u8 = 0;
@@ -24,9 +25,6 @@ pub const STATUS_SATISFIABLE: u8 = 10;
 
 /// The status of `solve` where there is none.
 pub const STATUS_UNSATISFIABLE: u8 = 20;
-
-/// The status of a command that met a fault.
-pub const STATUS_FAULT: u8 = 2;
 
 /// Runs a session: each line of the input is one call of a new solver, and gets one line of answer. The status is 0 at
 /// the end of the input. Where memory runs out for a line, or the reader or the writer fails, `error: ` and the cause

@@ -1,19 +1,13 @@
 //! The solver, and the calls that a user makes.
-ghost use Rattle.std.specs.Prelude.{◌≡◌, ◌<◌, ◌≤◌, ◌^◌, ℕ, List, None, length, slice_index_or, IsSome, MatchBool, MatchOption, IfOk};
-ghost use Rattle.varisat_theory.specs.Membership.{◌∈◌};
-ghost use Rattle.varisat_theory.specs.Literals.{Literal, variable_of};
-ghost use Rattle.varisat_prop.specs.Parts.{is_true_value};
-ghost use Rattle.varisat_names.specs.VarMap.{at};
-ghost use Rattle.varisat_names.specs.VarData.{kept_at};
-ghost use Rattle.varisat.specs.Carried.{value_or};
+ghost use Rattle.std.specs.Prelude.{◌≡◌, length, IfOk};
+ghost use Rattle.varisat.specs.Accepting.{AreBounded};
 ghost use Rattle.varisat.specs.Summaries.{list_tables};
-ghost use Rattle.varisat_literals.specs.Numbers.{variable_limit};
 
 use crate::accept::{accept_clause, assume_list};
 use crate::dropping::drop_fixed;
 use crate::naming::check_names;
 use crate::solving::find_named_verdict;
-use crate::usage::{check_change, hide_named, set_named_mode, show_hidden};
+use crate::usage::{check_change, set_named_mode};
 use std::alloc::{AllocError, Allocator};
 use std::marker::Model;
 use thiserror::Error;
@@ -27,7 +21,9 @@ use varisat_names::variables::data::SamplingMode;
 use varisat_prop::clause::StoreError;
 use varisat_search::assumptions::copied;
 use varisat_search::context::Context;
+use varisat_search::model::reconstruct_global_model;
 use varisat_search::state::SatState;
+use varisat_search::variables::{new_user_var, observe_internal_vars};
 
 /// How many bytes of a text are asked for at a time.
 const PIECE: usize = 0x2000;
@@ -105,39 +101,22 @@ impl SolverError {
     }
 }
 
-/// The value that the model gives the variable of the name, which is in use: that of its solver variable, or the one
-/// that is kept.
-fn model_value<A: Allocator + Copy>(
-    variables: &LinkedVariables<A>,
-    values: &[Option<bool>],
-    user: Var,
-) -> bool
-    requires { IsSome (at variables.now.users.forward user) }
-    ensures { MatchOption (at variables.now.users.forward user) ⊥ (λ x. result ≡ value_or (kept_at variables.now.kept x).unit (λ v. is_true_value (slice_index_or values.now v None)) (at variables.now.solvers.forward x)) }
-{
-    variables.prove_linked();
-    let global = variables.global_from_user().get(user).unwrap();
-    match variables.solver_from_global().get(global) {
-        Some(solver) if solver.index() < values.len() => values[solver.index()] == Some(true),
-        Some(_) => false,
-        None => variables.var_data_global(global).unit == Some(true),
-    }
-}
-
-/// The names in use in increasing order, with their values in the model.
+/// The names in use in increasing order, with the values of their variables in the model.
 fn list_model<A: Allocator + Copy>(
     alloc: A,
     variables: &LinkedVariables<A>,
     values: &[Option<bool>],
 ) -> Result<Vec<Lit, A>, AllocError>
-    requires { length variables.now.users.forward ≤ variable_limit }
+    requires { AreBounded variables.now }
     ensures { IfOk result (λ list. list.items ≡ list_tables variables.now values.now 0 (length variables.now.users.forward)) }
 {
+    let model = reconstruct_global_model(alloc, variables, values)?;
+    variables.prove_linked();
     let mut list = Vec::new(alloc);
     for index in 0..variables.user_watermark() {
         let user = Var::from_index(index);
-        if variables.global_from_user().get(user).is_some() {
-            list.push(user.lit(model_value(variables, values, user)))?;
+        if let Some(global) = variables.global_from_user().get(user) {
+            list.push(user.lit(model.lit_is_true(global.positive())))?;
         }
     }
     Ok(list)
@@ -219,9 +198,9 @@ impl<W: ProofTarget, A: Allocator + Copy> Solver<W, A> {
         self.ctx.schedule.steps()
     }
 
-    /// One above the highest variable that the search ever had. A variable whose value is fixed leaves the search, unless
-    /// it is assumed, as `solve` begins with units that it has not propagated yet. The next variable that clauses or
-    /// assumptions name takes its place there.
+    /// One above the highest variable that the search ever had. As `solve` begins with units that it has not propagated
+    /// yet, variables leave the search whose values are fixed, unless they are assumed, and hidden ones that no clause
+    /// names that it still keeps. The next variable that clauses or assumptions name takes the place of one of them.
     pub fn solver_watermark(&self) -> usize
         ensures { result ≡ length self.now.tables.solvers.backward }
     {
@@ -338,15 +317,15 @@ impl<W: ProofTarget, A: Allocator + Copy> Solver<W, A> {
         if self.ctx.solver_state.state_is_invalid {
             return Err(SolverError::Invalid);
         }
-        let user = self.variables.next_unmapped_user();
-        if user.index() >= Var::max_count()
+        let next = self.variables.next_unmapped_user();
+        if next.index() >= Var::max_count()
             || self.variables.global_watermark() >= Var::max_count()
         {
             return Err(SolverError::VariableLimit);
         }
         self.variables.prove_linked();
-        match self.variables.give_user_var(user) {
-            Ok(_) => {
+        match new_user_var(&mut self.variables) {
+            Ok(user) => {
                 self.started = true;
                 Ok(user)
             }
@@ -535,7 +514,7 @@ impl<W: ProofTarget, A: Allocator + Copy> Solver<W, A> {
             return Err(SolverError::Invalid);
         }
         check_change(&self.variables, var)?;
-        match hide_named(&mut self.variables, var) {
+        match set_named_mode(&mut self.variables, var, SamplingMode::Hide) {
             Ok(()) => Ok(()),
             Err(_) => {
                 self.ctx.solver_state.state_is_invalid = true;
@@ -554,7 +533,8 @@ impl<W: ProofTarget, A: Allocator + Copy> Solver<W, A> {
         if self.ctx.solver_state.state_is_invalid {
             return Err(SolverError::Invalid);
         }
-        match show_hidden(&mut self.variables, self.alloc) {
+        self.variables.prove_linked();
+        match observe_internal_vars(&mut self.variables, self.alloc) {
             Ok(shown) => Ok(shown),
             Err(_) => {
                 self.ctx.solver_state.state_is_invalid = true;

@@ -8,9 +8,10 @@ use Rattle.varisat_theory.proofs.Places.{∈-take_more}
 use Rattle.varisat_prop.specs.View.{View, literal_at, node_at, level_of, StandsBefore, WellFormed}
 use Rattle.varisat_prop.proofs.LiteralValues.{variable-opposite}
 use Rattle.varisat_prop.proofs.ReadElements.{element, item-∈}
+use Rattle.varisat_analysis.specs.Flags.{IsFlagged}
 use Rattle.varisat_analysis.specs.Learned.{current_level}
 use Rattle.varisat_analysis.specs.declared.analyze_conflict.Parts.{Parts}
-use Rattle.varisat_analysis.specs.Marks.{CanMark, Marking, IsMarked, IsMarkOf, OfClause, OfCurrentLevel, IsLower, open_below, AreFalseBefore, Adds}
+use Rattle.varisat_analysis.specs.Marks.{CanMark, Marking, IsMarkOf, OfClause, OfCurrentLevel, IsLower, open_below, AreFalseBefore, AddsMarks}
 use Rattle.varisat_analysis.proofs.CopiedLiterals.{distinct-push}
 use Rattle.varisat_analysis.proofs.WellFormedViews.{inside, level-small, level-opposite, level-same, same-place}
 use Rattle.varisat_analysis.proofs.AnalysisOpen.{open-is, closed-unmarked, open-same, open-elsewhere, count-same, count-more}
@@ -33,14 +34,14 @@ take-last i xs h = subst (λ n. get_or xs i 0 ∈ take n xs) (sym (add-one i)) (
     go (suc i) (y ∷ xs) h = inr (go i xs (omega arith))
 
 -- a variable is marked after its flag was set, and no other one more
-pub marked-old : (f : List Bool) (v x : ℕ) → v < length f → IsMarked f x → IsMarked (set f v true) x
+pub marked-old : (f : List Bool) (v x : ℕ) → v < length f → IsFlagged f x → IsFlagged (set f v true) x
 marked-old f v x h m =
     ⊎_elim
-    (λ e. subst (IsMarked (set f v true)) (sym e) (get_or-set_same f v true false h))
+    (λ e. subst (IsFlagged (set f v true)) (sym e) (get_or-set_same f v true false h))
     (λ n. get_or-set_other f v x true false n ∙ m)
     (equal_or_not x v)
 
-pub marked-new : (f : List Bool) (v x : ℕ) → IsMarked (set f v true) x → IsMarked f x ⊎ (x ≡ v)
+pub marked-new : (f : List Bool) (v x : ℕ) → IsFlagged (set f v true) x → IsFlagged f x ⊎ (x ≡ v)
 marked-new f v x m =
     ⊎_elim inr (λ n. inl (sym (get_or-set_other f v x true false n) ∙ m)) (equal_or_not x v)
 
@@ -49,7 +50,7 @@ pub mark-of : (s : View) (i : ℕ) (x y : Marking) (v : ℕ) → x.clause ⊆ y.
 mark-of s i x y v a b (OfClause m j e z) = OfClause m (a m j) e (b z)
 mark-of s i x y v a b (OfCurrentLevel k l p e) = OfCurrentLevel k l p e
 
-pub adds-start : (s : View) (x : Marking) → Adds s [] 0 x x
+pub adds-start : (s : View) (x : Marking) → AddsMarks s [] 0 x x
 adds-start s x = record {
   more = λ v m. m;
   only = λ v m. inl m;
@@ -61,11 +62,11 @@ adds-start s x = record {
 }
 
 -- nothing is done with a literal of level 0, or of a variable that is marked
-pub adds-none : (s : View) (m : Literal) (x : Marking) → (level_of s m ≡ 0) ⊎ IsMarked x.flags (variable_of m) → Adds s (m ∷ []) 0 x x
+pub adds-none : (s : View) (m : Literal) (x : Marking) → (level_of s m ≡ 0) ⊎ IsFlagged x.flags (variable_of m) → AddsMarks s (m ∷ []) 0 x x
 adds-none s m x o = record {
   more = λ v k. k;
   only = λ v k. inl k;
-  all = λ l h a. ⊎_elim (λ (e : l ≡ m). ⊎_elim (λ z. let g = ap (level_of s) e in absurd (omega (arith, z, g, a))) (λ k. subst (λ y. IsMarked x.flags (variable_of y)) (sym e) k) o) (λ z. absurd z) h;
+  all = λ l h a. ⊎_elim (λ (e : l ≡ m). ⊎_elim (λ z. let g = ap (level_of s) e in absurd (omega (arith, z, g, a))) (λ k. subst (λ y. IsFlagged x.flags (variable_of y)) (sym e) k) o) (λ z. absurd z) h;
   longer = λ l h. h;
   marks = λ i h o k. k;
   counted = λ i h l. omega arith;
@@ -76,20 +77,20 @@ module _ (s : View) (w : WellFormed s) (m : Literal) (x : Marking) (h : variable
   abbrev g : List Bool
   g = set x.flags (variable_of m) true
 
-  not-marked : IsMarked x.flags (variable_of m) → ⊥
+  not-marked : IsFlagged x.flags (variable_of m) → ⊥
   not-marked k = let e = sym n ∙ k in absurd cc
 
-  still : (v : ℕ) → IsMarked x.flags v → IsMarked g v
+  still : (v : ℕ) → IsFlagged x.flags v → IsFlagged g v
   still v k = marked-old x.flags (variable_of m) v h k
 
-  only-one : (v : ℕ) → IsMarked g v → IsMarked x.flags v ⊎ ((l : Literal) × (l ∈ (m ∷ [])) × (variable_of l ≡ v))
+  only-one : (v : ℕ) → IsFlagged g v → IsFlagged x.flags v ⊎ ((l : Literal) × (l ∈ (m ∷ [])) × (variable_of l ≡ v))
   only-one v k = ⊎_elim inl (λ e. inr (m, inl refl, sym e)) (marked-new x.flags (variable_of m) v k)
 
-  all-one : (l : Literal) → l ∈ (m ∷ []) → 0 < level_of s l → IsMarked g (variable_of l)
-  all-one l i a = ⊎_elim (λ e. subst (λ y. IsMarked g (variable_of y)) (sym e) (get_or-set_same x.flags (variable_of m) true false h)) (λ z. absurd z) i
+  all-one : (l : Literal) → l ∈ (m ∷ []) → 0 < level_of s l → IsFlagged g (variable_of l)
+  all-one l i a = ⊎_elim (λ e. subst (λ y. IsFlagged g (variable_of y)) (sym e) (get_or-set_same x.flags (variable_of m) true false h)) (λ z. absurd z) i
 
   -- one literal of the current level
-  pub adds-late : level_of s m ≡ current_level s → Adds s (m ∷ []) 1 x (record x { flags = g })
+  pub adds-late : level_of s m ≡ current_level s → AddsMarks s (m ∷ []) 1 x (record x { flags = g })
   adds-late l = record {
     more = still;
     only = only-one;
@@ -119,7 +120,7 @@ module _ (s : View) (w : WellFormed s) (m : Literal) (x : Marking) (h : variable
           let (k, p, q, r, e) = current-at i a b in
           count-more s x.flags g i k p
           (closed-unmarked s x.flags k (ap (λ v. get_or x.flags v false) e ∙ n))
-          (open-is s g k (q, r) (subst (IsMarked g) (sym e) (get_or-set_same x.flags (variable_of m) true false h)))
+          (open-is s g k (q, r) (subst (IsFlagged g) (sym e) (get_or-set_same x.flags (variable_of m) true false h)))
           (λ j u o. open-same s x.flags g j (sym (get_or-set_other x.flags (variable_of m) (variable_of (literal_at s j)) true false (λ z. o (same-place s w j k (omega (arith, u, b)) q (z ∙ sym e))))))
 
   -- the literal joins the clause
@@ -127,7 +128,7 @@ module _ (s : View) (w : WellFormed s) (m : Literal) (x : Marking) (h : variable
   joined = record x { clause = x.clause ++ m ∷ []; flags = g; to_clean = x.to_clean ++ variable_of m ∷ [] }
 
   -- one literal below the current level
-  pub adds-lower : opposite m ∈ s.trail → 0 < level_of s m → level_of s m < current_level s → Adds s (m ∷ []) 0 x joined
+  pub adds-lower : opposite m ∈ s.trail → 0 < level_of s m → level_of s m < current_level s → AddsMarks s (m ∷ []) 0 x joined
   adds-lower fm a b = record {
     more = still;
     only = only-one;
@@ -155,7 +156,7 @@ module _ (s : View) (w : WellFormed s) (m : Literal) (x : Marking) (h : variable
           (equal_or_not (variable_of (literal_at s k)) (variable_of m))) in
           omega (arith, e)
 
-pub adds-more : (s : View) (lits : List Literal) (k : ℕ) (m : Literal) (n d : ℕ) (x y z : Marking) → k < length lits → m ≡ get_or lits k 0 → Adds s (take k lits) n x y → Adds s (m ∷ []) d y z → Adds s (take (k + 1) lits) (n + d) x z
+pub adds-more : (s : View) (lits : List Literal) (k : ℕ) (m : Literal) (n d : ℕ) (x y z : Marking) → k < length lits → m ≡ get_or lits k 0 → AddsMarks s (take k lits) n x y → AddsMarks s (m ∷ []) d y z → AddsMarks s (take (k + 1) lits) (n + d) x z
 adds-more s lits k m n d x y z l e a b = record {
   more = λ v j. b.more v (a.more v j);
   only = λ v j. ⊎_elim
@@ -201,22 +202,22 @@ is-at {s = s} {lits = lits} {k = k} {m = m} c f l e n =
     record { below = l; element_is = element lits k m l e; false_now = h; inside = has-flag (can-still c n) m h }
 
 -- the steps of the loop over the literals, as they read the flags and levels
-module _ {s : View} {n : ℕ} {x y : Marking} {lits : List Literal} {k m : ℕ} (w : WellFormed s) (p : IsAt s lits y.flags k m) (a : Adds s (take k lits) n x y) where
-  more : (d total : ℕ) (z : Marking) → total ≡ n + d → Adds s (m ∷ []) d y z → Adds s (take (k + 1) lits) total x z
-  more d total z q b = subst (λ t. Adds s (take (k + 1) lits) t x z) (sym q) (adds-more s lits k m n d x y z p.below p.element_is a b)
+module _ {s : View} {n : ℕ} {x y : Marking} {lits : List Literal} {k m : ℕ} (w : WellFormed s) (p : IsAt s lits y.flags k m) (a : AddsMarks s (take k lits) n x y) where
+  more : (d total : ℕ) (z : Marking) → total ≡ n + d → AddsMarks s (m ∷ []) d y z → AddsMarks s (take (k + 1) lits) total x z
+  more d total z q b = subst (λ t. AddsMarks s (take (k + 1) lits) t x z) (sym q) (adds-more s lits k m n d x y z p.below p.element_is a b)
 
-  pub added-none : (level_of s m ≡ 0) ⊎ IsMarked y.flags (variable_of m) → Adds s (take (k + 1) lits) n x y
+  pub added-none : (level_of s m ≡ 0) ⊎ IsFlagged y.flags (variable_of m) → AddsMarks s (take (k + 1) lits) n x y
   added-none z = more 0 n y (omega arith) (adds-none s m y z)
 
   module _ (total v : ℕ) (o : v ≡ variable_of m) (f : get_or y.flags (variable_of m) false ≡ false) (z : Marking) where
-    pub added-late : total ≡ n + 1 → level_of s m ≡ current_level s → z ≡ record y { flags = set y.flags v true } → Adds s (take (k + 1) lits) total x z
+    pub added-late : total ≡ n + 1 → level_of s m ≡ current_level s → z ≡ record y { flags = set y.flags v true } → AddsMarks s (take (k + 1) lits) total x z
     added-late q j e =
-        more 1 total z q (subst (λ t. Adds s (m ∷ []) 1 y t) (sym (e ∙ ap (λ (t : ℕ). record y { flags = set y.flags t true }) o)) (adds-late s w m y p.inside f j))
+        more 1 total z q (subst (λ t. AddsMarks s (m ∷ []) 1 y t) (sym (e ∙ ap (λ (t : ℕ). record y { flags = set y.flags t true }) o)) (adds-late s w m y p.inside f j))
 
-    pub added-lower : total ≡ n → 0 < level_of s m → (level_of s m ≡ current_level s → ⊥) → (clause : Clause) (to_clean : List ℕ) (u : ℕ) → clause ≡ y.clause ++ m ∷ [] → to_clean ≡ y.to_clean ++ u ∷ [] → u ≡ variable_of m → z ≡ record y { clause = clause; flags = set y.flags v true; to_clean = to_clean } → Adds s (take (k + 1) lits) total x z
+    pub added-lower : total ≡ n → 0 < level_of s m → (level_of s m ≡ current_level s → ⊥) → (clause : Clause) (to_clean : List ℕ) (u : ℕ) → clause ≡ y.clause ++ m ∷ [] → to_clean ≡ y.to_clean ++ u ∷ [] → u ≡ variable_of m → z ≡ record y { clause = clause; flags = set y.flags v true; to_clean = to_clean } → AddsMarks s (take (k + 1) lits) total x z
     added-lower q b j clause to_clean u ce te r e =
         let c = level-small s w m p.false_now in
-        more 0 total z (omega (arith, q)) (subst (λ t. Adds s (m ∷ []) 0 y t) (sym (e ∙ same)) (adds-lower s w m y p.inside f p.false_now b (below c j)))
+        more 0 total z (omega (arith, q)) (subst (λ t. AddsMarks s (m ∷ []) 0 y t) (sym (e ∙ same)) (adds-lower s w m y p.inside f p.false_now b (below c j)))
       where
         below : level_of s m ≤ current_level s → (level_of s m ≡ current_level s → ⊥) → level_of s m < current_level s
         below b j = grind arith

@@ -12,7 +12,8 @@ use Rattle.varisat_theory.proofs.Learning.{follows_shorter}
 use Rattle.varisat_prop.specs.View.{View, literal_at, node_at, level_of, WellFormed, ViewFits}
 use Rattle.varisat_prop.proofs.LiteralValues.{variable-opposite}
 use Rattle.varisat_prop.proofs.DistinctPlaces.{distinct-places}
-use Rattle.varisat_analysis.specs.Marks.{Marking, IsMarked, IsMarkOf, OfClause, OfCurrentLevel, MarksAreListed, Marks, IsMinimized, Minimizes}
+use Rattle.varisat_analysis.specs.Flags.{IsFlagged}
+use Rattle.varisat_analysis.specs.Marks.{Marking, IsMarkOf, OfClause, OfCurrentLevel, MarksAreListed, Marks, IsMinimized, Minimizes}
 use Rattle.varisat_analysis.specs.Redundancy.{IsReasoned, ListsNew, IsRedundant, IsAsBefore}
 use Rattle.varisat_analysis.proofs.AnalysisMarks.{take-grow, take-last}
 use Rattle.varisat_analysis.proofs.AnalysisSearch.{reasoned-more}
@@ -30,8 +31,8 @@ pub record Minimizing (s : View) (x y : Marking) (k i : ℕ) : Type 0 where
   pub unlike : IsDistinct x.clause
   pub distinct : IsDistinct (take k y.clause)
   pub part : (m : Literal) → m ∈ take k y.clause → m ∈ take i x.clause
-  pub fall : (m : Literal) → m ∈ x.clause → (opposite m ∈ s.trail) × IsMarked y.flags (variable_of m)
-  pub explained : (l : Literal) → l ∈ s.trail → IsMarked y.flags (variable_of l) → (opposite l ∈ take k y.clause) ⊎ (IsLeft x.clause i (opposite l) ⊎ IsReasoned s y.flags l)
+  pub fall : (m : Literal) → m ∈ x.clause → (opposite m ∈ s.trail) × IsFlagged y.flags (variable_of m)
+  pub explained : (l : Literal) → l ∈ s.trail → IsFlagged y.flags (variable_of l) → (opposite l ∈ take k y.clause) ⊎ (IsLeft x.clause i (opposite l) ⊎ IsReasoned s y.flags l)
   pub cleaned : MarksAreListed y
   pub involved : y.involved ≡ x.involved
 
@@ -163,9 +164,9 @@ minimizing-drop {s = s} {x = x} {y = y} {z = z} {k = k} {i = i} m same h e r a =
     l : ListsNew y z
     l = r.list
 
-module _ (s : View) (w : WellFormed s) (held : List Clause) (fits : ViewFits held s) (kept : Clause) (f : List Bool) (given : (x : Literal) → x ∈ s.trail → IsMarked f (variable_of x) → (opposite x ∈ kept) ⊎ IsReasoned s f x) where
+module _ (s : View) (w : WellFormed s) (held : List Clause) (fits : ViewFits held s) (kept : Clause) (f : List Bool) (given : (x : Literal) → x ∈ s.trail → IsFlagged f (variable_of x) → (opposite x ∈ kept) ⊎ IsReasoned s f x) where
   -- what is marked is implied by the opposites of what is kept
-  marked-at : (n k : ℕ) → k < n → k < length s.trail → (level_of s (literal_at s k) ≡ 0) ⊎ IsMarked f (variable_of (literal_at s k)) → Implied held (opposites kept) (literal_at s k)
+  marked-at : (n k : ℕ) → k < n → k < length s.trail → (level_of s (literal_at s k) ≡ 0) ⊎ IsFlagged f (variable_of (literal_at s k)) → Implied held (opposites kept) (literal_at s k)
   marked-at zero k l h o = absurd (omega arith)
   marked-at (suc n) k l h (inl z) =
       let x = literal_at s k in
@@ -185,14 +186,14 @@ module _ (s : View) (w : WellFormed s) (held : List Clause) (fits : ViewFits hel
       let v : variable_of (literal_at s p) ≡ variable_of y = ap variable_of b ∙ variable-opposite y in
       let x : level_of s (literal_at s p) ≡ level_of s y = ap (level_of s) b ∙ level-opposite s y in
       subst (λ c. Implied held (opposites kept) c) b (marked-at n p (omega (arith, a, l)) (omega (arith, a, h))
-      (⊎_elim (λ c. inl (omega (arith, c, x))) (λ c. inr (subst (IsMarked f) (sym v) c)) (q y z))))
+      (⊎_elim (λ c. inl (omega (arith, c, x))) (λ c. inr (subst (IsFlagged f) (sym v) c)) (q y z))))
       (reason-split s w k r y why (same.0 y (u.0 y j)))))
       (given (literal_at s k) (∈-get_or s.trail k 0 h) m)
 
-  pub marked-implied : (m : Literal) → opposite m ∈ s.trail → IsMarked f (variable_of m) → Implied held (opposites kept) (opposite m)
+  pub marked-implied : (m : Literal) → opposite m ∈ s.trail → IsFlagged f (variable_of m) → Implied held (opposites kept) (opposite m)
   marked-implied m h o =
       let (k, a, e) = place_in (opposite m) s.trail 0 h in
-      subst (λ y. Implied held (opposites kept) y) e (marked-at (suc k) k (omega arith) a (inr (subst (IsMarked f) (sym (ap variable_of e ∙ variable-opposite m)) o)))
+      subst (λ y. Implied held (opposites kept) y) e (marked-at (suc k) k (omega arith) a (inr (subst (IsFlagged f) (sym (ap variable_of e ∙ variable-opposite m)) o)))
 
 pub minimizing-end : {s : View} {x y : Marking} {k i : ℕ} (left : Clause) → WellFormed s → length x.clause ≤ i → left ≡ take k y.clause → Minimizing s x y k i → Minimizes s x (record y { clause = left })
 minimizing-end {s = s} {x = x} {y = y} {k = k} {i = i} left w h e a = record {
@@ -208,7 +209,7 @@ minimizing-end {s = s} {x = x} {y = y} {k = k} {i = i} left w h e a = record {
   involved = a.involved;
 }
   where
-    given : (first l : Literal) → l ∈ s.trail → IsMarked y.flags (variable_of l) → (opposite l ∈ (first ∷ take k y.clause)) ⊎ IsReasoned s y.flags l
+    given : (first l : Literal) → l ∈ s.trail → IsFlagged y.flags (variable_of l) → (opposite l ∈ (first ∷ take k y.clause)) ⊎ IsReasoned s y.flags l
     given first l z o = ⊎_elim
         (λ q. inl (inr q))
         (λ q. ⊎_elim (λ (j, p, b, c). absurd (omega (arith, p, b, h))) inr q)

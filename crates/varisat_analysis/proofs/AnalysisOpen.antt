@@ -4,16 +4,17 @@ use Rattle.std.proofs.lemmas.Bool.{eqb-true, eq-eqb, ne_eqb, and_parts, and_from
 use Rattle.varisat_theory.specs.Literals.{variable_of}
 use Rattle.varisat_theory.proofs.Members.{equal_or_not}
 use Rattle.varisat_prop.specs.View.{View, literal_at, node_at}
+use Rattle.varisat_analysis.specs.Flags.{IsFlagged}
 use Rattle.varisat_analysis.specs.Learned.{current_level, IsOfCurrentLevel}
-use Rattle.varisat_analysis.specs.Marks.{IsMarked, one_if, is_open, open_below}
+use Rattle.varisat_analysis.specs.Marks.{one_if, is_open, open_below}
 
-pub open-is : (s : View) (f : List Bool) (k : ℕ) → IsOfCurrentLevel s k → IsMarked f (variable_of (literal_at s k)) → is_open s f k ≡ true
+pub open-is : (s : View) (f : List Bool) (k : ℕ) → IsOfCurrentLevel s k → IsFlagged f (variable_of (literal_at s k)) → is_open s f k ≡ true
 open-is s f k p m = and_from (nat_eq (node_at s k).level (current_level s)) (get_or f (variable_of (literal_at s k)) false) (eq-eqb (node_at s k).level (current_level s) p.1) m
 
 pub open-level : (s : View) (f : List Bool) (k : ℕ) → is_open s f k ≡ true → (node_at s k).level ≡ current_level s
 open-level s f k h = eqb-true (node_at s k).level (current_level s) (and_parts (nat_eq (node_at s k).level (current_level s)) (get_or f (variable_of (literal_at s k)) false) h).0
 
-pub open-marked : (s : View) (f : List Bool) (k : ℕ) → is_open s f k ≡ true → IsMarked f (variable_of (literal_at s k))
+pub open-marked : (s : View) (f : List Bool) (k : ℕ) → is_open s f k ≡ true → IsFlagged f (variable_of (literal_at s k))
 open-marked s f k h = (and_parts (nat_eq (node_at s k).level (current_level s)) (get_or f (variable_of (literal_at s k)) false) h).1
 
 pub closed-unmarked : (s : View) (f : List Bool) (k : ℕ) → get_or f (variable_of (literal_at s k)) false ≡ false → is_open s f k ≡ false

@@ -14,12 +14,13 @@ use Rattle.varisat_clause.specs.Stored.{StoredClause}
 use Rattle.varisat_prop.specs.View.{View, node_of, no_node, level_of, is_clause, WellFormed}
 use Rattle.varisat_prop.proofs.LiteralValues.{variable-opposite}
 use Rattle.varisat_prop.proofs.ViewGrowth.{append-nil}
-use Rattle.varisat_analysis.specs.Marks.{Marking, IsMarked}
-use Rattle.varisat_analysis.specs.Redundancy.{IsImplied, IsReasoned, unmarked, ListsNew, Explores, TellsRedundancy}
+use Rattle.varisat_analysis.specs.Flags.{IsFlagged}
+use Rattle.varisat_analysis.specs.Marks.{Marking}
+use Rattle.varisat_analysis.specs.Redundancy.{IsImplied, IsReasoned, count_unmarked, ListsNew, Explores, TellsRedundancy}
 use Rattle.varisat_analysis.proofs.AnalysisMarks.{marked-old, marked-new, IsAt}
 use Rattle.varisat_analysis.proofs.WellFormedViews.{true-same, has-clause, inside-true, names-clause, causes-false}
 
-pub unmarked-set : (f : List Bool) (v : ℕ) → v < length f → get_or f v false ≡ false → unmarked f ≡ unmarked (set f v true) + 1
+pub unmarked-set : (f : List Bool) (v : ℕ) → v < length f → get_or f v false ≡ false → count_unmarked f ≡ count_unmarked (set f v true) + 1
 unmarked-set [] v h n = absurd (omega arith)
 unmarked-set (true ∷ f) zero h n = absurd cc
 unmarked-set (false ∷ f) zero h n = refl
@@ -27,7 +28,7 @@ unmarked-set (true ∷ f) (suc v) h n = unmarked-set f v (omega arith) n
 unmarked-set (false ∷ f) (suc v) h n = let e = unmarked-set f v (omega arith) n in omega (arith, e)
 
 -- a flag that is false later on was false before
-fresh-before : (f g : List Bool) (v : ℕ) → (IsMarked f v → IsMarked g v) → get_or g v false ≡ false → get_or f v false ≡ false
+fresh-before : (f g : List Bool) (v : ℕ) → (IsFlagged f v → IsFlagged g v) → get_or g v false ≡ false → get_or f v false ≡ false
 fresh-before f g v h n = ⊎_elim (λ e. absurd (let x = sym (h e) ∙ n in cc)) (λ e. e) (cases_Bool (get_or f v false))
 
 pub listed-start : (x : Marking) → ListsNew x x
@@ -75,13 +76,13 @@ explores-start s x = record {
   count = refl;
 }
 
-pub explores-none : (s : View) (m : Literal) (x : Marking) → (level_of s m ≡ 0) ⊎ IsMarked x.flags (variable_of m) → Explores s (m ∷ []) true x x
+pub explores-none : (s : View) (m : Literal) (x : Marking) → (level_of s m ≡ 0) ⊎ IsFlagged x.flags (variable_of m) → Explores s (m ∷ []) true x x
 explores-none s m x o = record {
   list = listed-start x;
   new = λ v k. inl k;
   stacked = λ l i. i;
   grown = λ l i. inl i;
-  all = λ e l i. ⊎_elim (λ q. subst (λ y. (level_of s y ≡ 0) ⊎ IsMarked x.flags (variable_of y)) (sym q) o) (λ z. absurd z) i;
+  all = λ e l i. ⊎_elim (λ q. subst (λ y. (level_of s y ≡ 0) ⊎ IsFlagged x.flags (variable_of y)) (sym q) o) (λ z. absurd z) i;
   count = refl;
 }
 
@@ -98,7 +99,7 @@ explores-one s m x o e h n = record {
   new = λ v k. ⊎_elim inl (λ q. inr (opposite m, ∈-append_right (opposite m) x.stack (opposite m ∷ []) (inl refl), implied, variable-opposite m ∙ sym q)) (marked-new x.flags (variable_of m) v k);
   stacked = λ l i. ∈-append_left l x.stack (opposite m ∷ []) i;
   grown = λ l i. ⊎_elim inl (λ j. ⊎_elim (λ q. inr (subst (IsImplied s) (sym q) implied)) (λ z. absurd z) j) (∈-append_cases l x.stack (opposite m ∷ []) i);
-  all = λ q l i. ⊎_elim (λ y. inr (subst (λ z. IsMarked (set x.flags (variable_of m) true) (variable_of z)) (sym y) (get_or-set_same x.flags (variable_of m) true false h))) (λ z. absurd z) i;
+  all = λ q l i. ⊎_elim (λ y. inr (subst (λ z. IsFlagged (set x.flags (variable_of m) true) (variable_of z)) (sym y) (get_or-set_same x.flags (variable_of m) true false h))) (λ z. absurd z) i;
   count = let a = unmarked-set x.flags (variable_of m) h n in let b = length-append x.stack (opposite m ∷ []) in omega (arith, a, b);
 }
   where
@@ -130,7 +131,7 @@ explores-fail s lits k x y a = record {
 pub record Search (s : View) (l : Literal) (x y : Marking) : Type 0 where
   pub list : ListsNew x y
   pub implied : (m : Literal) → m ∈ y.stack → IsImplied s m
-  pub reasoned : (m : Literal) → m ∈ s.trail → IsMarked y.flags (variable_of m) → IsMarked x.flags (variable_of m) ⊎ ((m ∈ y.stack) ⊎ IsReasoned s y.flags m)
+  pub reasoned : (m : Literal) → m ∈ s.trail → IsFlagged y.flags (variable_of m) → IsFlagged x.flags (variable_of m) ⊎ ((m ∈ y.stack) ⊎ IsReasoned s y.flags m)
   pub start : (opposite l ∈ y.stack) ⊎ IsReasoned s y.flags (opposite l)
 
 pub search-begin : {s : View} {l : Literal} (x : Marking) (r : Reason) (stack : List Literal) → opposite l ∈ s.trail → r ≡ (node_of s l).reason → (r ≡ reason.Unit → ⊥) → stack ≡ opposite l ∷ [] → Search s l x (record x { stack = stack })
@@ -144,7 +145,7 @@ search-begin {s = s} {l = l} x r stack h p n q = record {
     implied : IsImplied s (opposite l)
     implied = (h, ap (λ y. is_clause y.reason) (node-opposite s l) ∙ ap is_clause (sym p) ∙ has-clause r n)
 
-pub reasoned-more : (s : View) (f g : List Bool) (x : Literal) → ((v : ℕ) → IsMarked f v → IsMarked g v) → IsReasoned s f x → IsReasoned s g x
+pub reasoned-more : (s : View) (f g : List Bool) (x : Literal) → ((v : ℕ) → IsFlagged f v → IsFlagged g v) → IsReasoned s f x → IsReasoned s g x
 reasoned-more s f g x h (e, k) = (e, λ m i. ⊎_elim inl (λ o. inr (h (variable_of m) o)) (k m i))
 
 -- the search takes literal i off the stack
@@ -175,7 +176,7 @@ module _ {s : View} {l : Literal} {x y : Marking} (w : WellFormed s) (a : Search
       on-stack : (m : Literal) → m ∈ y.stack → (m ∈ z.stack) ⊎ IsReasoned s z.flags m
       on-stack m o = ⊎_elim (λ j. inl (b.stacked m j)) (λ j. inr (subst (IsReasoned s z.flags) (sym j) now)) (stays m o)
 
-  pub search-smaller : {lits : List Literal} {b : Bool} {z : Marking} → Explores s lits b (record y { stack = left }) z → unmarked z.flags + length z.stack < unmarked y.flags + length y.stack
+  pub search-smaller : {lits : List Literal} {b : Bool} {z : Marking} → Explores s lits b (record y { stack = left }) z → count_unmarked z.flags + length z.stack < count_unmarked y.flags + length y.stack
   search-smaller k = let c = k.count in let n = ap (λ (q : List ℕ). length q) e in let o = length-append left (i ∷ []) in omega (arith, c, n, o)
 
   pub search-inside : (nodes : List ImplNode) (v : ℕ) → nodes ≡ s.nodes → v ≡ variable_of i → v < length nodes
@@ -268,7 +269,7 @@ since-cleared {x = x} {y = y} {part = part} s l flags to_clean b q gone rest = r
 
 -- the steps of the loop over the literals, as they read the flags
 module _ {s : View} {x y : Marking} {lits : List Literal} {k m : ℕ} (p : IsAt s lits y.flags k m) (n : length y.flags ≡ length x.flags) (a : Explores s (take k lits) true x y) where
-  pub explored-none : (level_of s m ≡ 0) ⊎ IsMarked y.flags (variable_of m) → Explores s (take (k + 1) lits) true x y
+  pub explored-none : (level_of s m ≡ 0) ⊎ IsFlagged y.flags (variable_of m) → Explores s (take (k + 1) lits) true x y
   explored-none z = explores-more s lits k m x y y p.below p.element_is n a (explores-none s m y z)
 
   pub explored-one : (v : ℕ) (r : Reason) → v ≡ variable_of m → r ≡ (node_of s m).reason → (r ≡ reason.Unit → ⊥) → get_or y.flags (variable_of m) false ≡ false → (to_clean : List ℕ) (stack : List Literal) (u t : ℕ) → to_clean ≡ y.to_clean ++ u ∷ [] → u ≡ variable_of m → stack ≡ y.stack ++ t ∷ [] → t ≡ opposite m → Explores s (take (k + 1) lits) true x (record y { flags = set y.flags v true; to_clean = to_clean; stack = stack })

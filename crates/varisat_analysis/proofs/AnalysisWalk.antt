@@ -12,12 +12,13 @@ use Rattle.varisat_prop.specs.declared.prop.graph.Reason.{Reason}
 use Rattle.varisat_prop.specs.declared.prop.graph.Reason.TheVariants as reason
 use Rattle.varisat_prop.specs.declared.prop.graph.Conflict.{Conflict}
 use Rattle.varisat_prop.specs.declared.prop.graph.Conflict.TheVariants as conflict
-use Rattle.varisat_prop.specs.Changes.{others_of, causes_of, named_in, IsNamed, IsConflicting}
+use Rattle.varisat_prop.specs.Changes.{others_of, causes_of, named_in, NamesKeptClause, IsConflicting}
 use Rattle.varisat_prop.proofs.ReadElements.{element}
 use Rattle.varisat_prop.specs.View.{View, clause_at, literal_at, decision_at, node_of, node_at, level_of, is_clause, StandsBefore, Implies, IsReason, WellFormed, ViewFits}
 use Rattle.varisat_prop.proofs.LiteralValues.{variable-opposite}
-use Rattle.varisat_analysis.specs.Learned.{current_level, IsOfCurrentLevel, clause_of, names_of, reason_clause, IsReachedDownTo, IsImplicationPoint, IsFirstPoint, IsInvolved, IsOfConflict, IsReasonOf}
-use Rattle.varisat_analysis.specs.Marks.{Marking, IsDeepConflict, IsClean, IsMarked, IsMarkOf, OfClause, OfCurrentLevel, Marks, is_open, open_below, one_if, AreFalseBefore, Adds, AddsReason, IsResolved}
+use Rattle.varisat_analysis.specs.Flags.{IsFlagged}
+use Rattle.varisat_analysis.specs.Learned.{current_level, IsOfCurrentLevel, implying_clause, names_of, reason_clause, IsReachedDownTo, IsImplicationPoint, IsFirstPoint, IsInvolved, IsOfConflict, IsReasonOf}
+use Rattle.varisat_analysis.specs.Marks.{Marking, IsDeepConflict, IsClean, IsMarkOf, OfClause, OfCurrentLevel, Marks, is_open, open_below, one_if, AreFalseBefore, AddsMarks, AddsReason, IsResolved}
 use Rattle.varisat_analysis.proofs.CopiedLiterals.{distinct-push}
 use Rattle.varisat_analysis.proofs.AnalysisMarks.{mark-of}
 use Rattle.varisat_analysis.proofs.WellFormedViews.{named-kept, reason-kept, reason-first, reason-named, inside-at, level-opposite, level-same, same-place, place-of, stands-∈, no-clash, true-same, false-same, level-small, causes-before, has-late, fixed-implied, last-in}
@@ -26,7 +27,7 @@ use Rattle.varisat_analysis.proofs.AnalysisOpen.{count-small, open-is, open-leve
 
 -- the literal is of the current level, and marked
 abbrev pub Seen : View → List Bool → Literal → Type 0
-Seen s f x = IsMarked f (variable_of x) × (level_of s x ≡ current_level s)
+Seen s f x = IsFlagged f (variable_of x) × (level_of s x ≡ current_level s)
 
 -- The clause with the name was resolved on the way from the trail's end down to place i.
 pub data WasResolved (s : View) (cf : Conflict) (i : ℕ) (p : Conflict) : Type 0 where
@@ -47,10 +48,10 @@ pub record Walk (s : View) (cf : Conflict) (mark : Marking) (count i : ℕ) : Ty
   pub some : 0 < count
   pub conflict : IsConflicting s cf
   -- what is marked is reached, over whatever reasons stand behind i
-  pub sound : (p k : ℕ) → p < i → k < i → IsOfCurrentLevel s k → IsMarked mark.flags (variable_of (literal_at s k)) → IsReachedDownTo s cf p (literal_at s k)
+  pub sound : (p k : ℕ) → p < i → k < i → IsOfCurrentLevel s k → IsFlagged mark.flags (variable_of (literal_at s k)) → IsReachedDownTo s cf p (literal_at s k)
   -- what the false clause or the reason of a reached literal behind i makes false is marked
-  pub start : (k : ℕ) → k < i → IsOfCurrentLevel s k → opposite (literal_at s k) ∈ named_in s.clauses cf → IsMarked mark.flags (variable_of (literal_at s k))
-  pub passed : (j k : ℕ) → i ≤ j → IsOfCurrentLevel s j → IsReachedDownTo s cf j (literal_at s j) → k < i → IsOfCurrentLevel s k → opposite (literal_at s k) ∈ reason_clause s (literal_at s j) → IsMarked mark.flags (variable_of (literal_at s k))
+  pub start : (k : ℕ) → k < i → IsOfCurrentLevel s k → opposite (literal_at s k) ∈ named_in s.clauses cf → IsFlagged mark.flags (variable_of (literal_at s k))
+  pub passed : (j k : ℕ) → i ≤ j → IsOfCurrentLevel s j → IsReachedDownTo s cf j (literal_at s j) → k < i → IsOfCurrentLevel s k → opposite (literal_at s k) ∈ reason_clause s (literal_at s j) → IsFlagged mark.flags (variable_of (literal_at s k))
   pub none_later : (q : ℕ) → i ≤ q → IsImplicationPoint s cf q → ⊥
   pub pending : (held : List Clause) → ViewFits held s → Pending held mark.clause s.trail (Seen s mark.flags) i
   pub involved : ListsResolved s cf i mark.involved
@@ -81,7 +82,7 @@ first_of [] = []
 first_of (x ∷ c) = x ∷ []
 
 -- a reason's clause has the literal first
-first-is : (s : View) (j : ℕ) (r : Reason) → is_clause r ≡ true → IsReason s j r → first_of (clause_of s (literal_at s j) r) ≡ literal_at s j ∷ []
+first-is : (s : View) (j : ℕ) (r : Reason) → is_clause r ≡ true → IsReason s j r → first_of (implying_clause s (literal_at s j) r) ≡ literal_at s j ∷ []
 first-is s j reason.Unit c h = absurd cc
 first-is s j (reason.Binary ms) c h = refl
 first-is s j (reason.Long p) c h = by (clause_at s p) h.1
@@ -106,7 +107,7 @@ clause-named l (reason.Binary ms) c = (conflict.Binary (l ∷ ms), refl)
 clause-named l (reason.Long p) c = (conflict.Long p, refl)
 
 -- the others of a reason's clause are its causes
-causes-are : (s : View) (l : Literal) (r : Reason) → causes_of s.clauses r ≡ others_of (clause_of s l r)
+causes-are : (s : View) (l : Literal) (r : Reason) → causes_of s.clauses r ≡ others_of (implying_clause s l r)
 causes-are s l reason.Unit = refl
 causes-are s l (reason.Binary ms) = refl
 causes-are s l (reason.Long p) = refl
@@ -123,7 +124,7 @@ module _ (s : View) (w : WellFormed s) (cf : Conflict) where
       let kj : k < j = omega (arith, q, d) in
       InReason y (reached-down s cf j k y (omega (arith, kj)) (reached-sharp p j y r pr.0 e' (omega (arith, a)))) (j, kj, pr, e') o n
 
-  pub reached-marked : (mark : Marking) (count i : ℕ) → Walk s cf mark count i → (p k : ℕ) (x : Literal) → i ≤ p + 1 → IsReachedDownTo s cf p x → literal_at s k ≡ x → k < i → IsOfCurrentLevel s k → IsMarked mark.flags (variable_of (literal_at s k))
+  pub reached-marked : (mark : Marking) (count i : ℕ) → Walk s cf mark count i → (p k : ℕ) (x : Literal) → i ≤ p + 1 → IsReachedDownTo s cf p x → literal_at s k ≡ x → k < i → IsOfCurrentLevel s k → IsFlagged mark.flags (variable_of (literal_at s k))
   reached-marked mark count i u p k x l (AtStart h) e a b = u.start k a b (subst (λ z. opposite z ∈ named_in s.clauses cf) (sym e) h)
   reached-marked mark count i u p k x l (InReason y r (j, d, pr, e') o n) e a b =
       let r' : IsReachedDownTo s cf j (literal_at s j) = subst (IsReachedDownTo s cf j) (sym e') (reached-sharp p j y r pr.0 e' (omega (arith, d))) in
@@ -165,7 +166,7 @@ module _ (s : View) (w : WellFormed s) (cf : Conflict) where
       (subst (IsReason s j) r (w.reason_is j b))
 
   -- a false literal of a marked variable below the current level is in the clause
-  pub marks-kept : (mark : Marking) (i : ℕ) (m : Literal) → Marks s i mark → opposite m ∈ s.trail → level_of s m < current_level s → IsMarked mark.flags (variable_of m) → m ∈ mark.clause
+  pub marks-kept : (mark : Marking) (i : ℕ) (m : Literal) → Marks s i mark → opposite m ∈ s.trail → level_of s m < current_level s → IsFlagged mark.flags (variable_of m) → m ∈ mark.clause
   marks-kept mark i m k h l a = by (k.known (variable_of m) a)
     where
       by : IsMarkOf s i mark (variable_of m) → m ∈ mark.clause
@@ -173,7 +174,7 @@ module _ (s : View) (w : WellFormed s) (cf : Conflict) where
       by (OfCurrentLevel y j p e) = let g = level-same s (literal_at s y) m e in let o = p.1 in absurd (omega (arith, g, o, l))
 
   -- a literal that was added is in the clause, or seen, or false at level 0
-  passed-literal : (mark : Marking) (i : ℕ) (m : Literal) (held : List Clause) → i ≤ length s.trail → Marks s i mark → ViewFits held s → (0 < level_of s m → IsMarked mark.flags (variable_of m)) → StandsBefore s i (opposite m) → (m ∈ mark.clause) ⊎ IsPassed held s.trail (Seen s mark.flags) i m
+  passed-literal : (mark : Marking) (i : ℕ) (m : Literal) (held : List Clause) → i ≤ length s.trail → Marks s i mark → ViewFits held s → (0 < level_of s m → IsFlagged mark.flags (variable_of m)) → StandsBefore s i (opposite m) → (m ∈ mark.clause) ⊎ IsPassed held s.trail (Seen s mark.flags) i m
   passed-literal mark i m held l k h a b =
       let ft = stands-∈ s w i (opposite m) l b in
       let g = level-opposite s m in
@@ -181,12 +182,12 @@ module _ (s : View) (w : WellFormed s) (cf : Conflict) where
       ⊎_elim
       (λ (z : 0 < level_of s m). ⊎_elim
       (λ (y : level_of s m < current_level s). inl (marks-kept mark i m k ft y (a z)))
-      (λ (y : current_level s ≤ level_of s m). let (j, p, q) = b in inr (inl (j, p, q, (subst (IsMarked mark.flags) (sym (variable-opposite m)) (a z), omega (arith, y, o, g)))))
+      (λ (y : current_level s ≤ level_of s m). let (j, p, q) = b in inr (inl (j, p, q, (subst (IsFlagged mark.flags) (sym (variable-opposite m)) (a z), omega (arith, y, o, g)))))
       (cases_lt (level_of s m) (current_level s)))
       (λ (z : level_of s m ≤ 0). inr (inr (fixed-implied s w held h m ft (omega (arith, z)))))
       (cases_lt 0 (level_of s m))
 
-  pub walk-start : (n : ℕ) (mark begun next : Marking) → IsDeepConflict s cf → IsClean mark → begun ≡ record mark { involved = cf ∷ [] } → Adds s (named_in s.clauses cf) n begun next → Walk s cf next n (length s.trail)
+  pub walk-start : (n : ℕ) (mark begun next : Marking) → IsDeepConflict s cf → IsClean mark → begun ≡ record mark { involved = cf ∷ [] } → AddsMarks s (named_in s.clauses cf) n begun next → Walk s cf next n (length s.trail)
   walk-start n mark begun next dc clean eb ab = record {
     within = omega arith;
     marks = marks-now;
@@ -194,7 +195,7 @@ module _ (s : View) (w : WellFormed s) (cf : Conflict) where
     some = some-now;
     conflict = h;
     sound = λ p k i j o r. AtStart (found k o r);
-    start = λ k i o r. subst (IsMarked next.flags) (variable-opposite (literal_at s k)) (a.all (opposite (literal_at s k)) r (let g = level-opposite s (literal_at s k) in let z = o.1 in omega (arith, g, z, d)));
+    start = λ k i o r. subst (IsFlagged next.flags) (variable-opposite (literal_at s k)) (a.all (opposite (literal_at s k)) r (let g = level-opposite s (literal_at s k) in let z = o.1 in omega (arith, g, z, d)));
     passed = λ j k i o r. let z = o.0 in absurd (omega (arith, z, i));
     none_later = λ j i r. let z = r.current.0 in absurd (omega (arith, z, i));
     pending = λ held k.
@@ -214,8 +215,8 @@ module _ (s : View) (w : WellFormed s) (cf : Conflict) where
       h : IsConflicting s cf
       h = dc.conflict
 
-      a : Adds s (named_in s.clauses cf) n (record mark { involved = cf ∷ [] }) next
-      a = subst (λ x. Adds s (named_in s.clauses cf) n x next) eb ab
+      a : AddsMarks s (named_in s.clauses cf) n (record mark { involved = cf ∷ [] }) next
+      a = subst (λ x. AddsMarks s (named_in s.clauses cf) n x next) eb ab
 
       alone : (p : Conflict) → WasResolved s cf (length s.trail) p → p ≡ cf
       alone p (AtConflict e) = e
@@ -224,7 +225,7 @@ module _ (s : View) (w : WellFormed s) (cf : Conflict) where
       before : AreFalseBefore s (length s.trail) (named_in s.clauses cf)
       before m i = place-of s w (opposite m) (h.1 m i)
 
-      none : (v : ℕ) → IsMarked mark.flags v → ⊥
+      none : (v : ℕ) → IsFlagged mark.flags v → ⊥
       none v i = let z = sym (clean.unmarked v) ∙ i in absurd cc
 
       empty : (m : Literal) → m ∈ mark.clause → ⊥
@@ -256,13 +257,13 @@ module _ (s : View) (w : WellFormed s) (cf : Conflict) where
           let (m, i, l) = has-late s w cf dc.settled d h in
           let (k, p, o) = before m i in
           let lv : (node_at s k).level ≡ current_level s = ap (level_of s) o ∙ level-opposite s m ∙ l in
-          let mk : IsMarked next.flags (variable_of (literal_at s k)) = subst (IsMarked next.flags) (sym (ap variable_of o ∙ variable-opposite m)) (a.all m i (omega (arith, l, d))) in
+          let mk : IsFlagged next.flags (variable_of (literal_at s k)) = subst (IsFlagged next.flags) (sym (ap variable_of o ∙ variable-opposite m)) (a.all m i (omega (arith, l, d))) in
           ⊎_elim
           (λ (z : 0 < n). z)
           (λ (z : n ≤ 0). absurd (count-none s next.flags (length s.trail) k (omega (arith, z, count-now)) p (open-is s next.flags k (p, lv) mk)))
           (cases_lt 0 n)
 
-      found : (k : ℕ) → IsOfCurrentLevel s k → IsMarked next.flags (variable_of (literal_at s k)) → opposite (literal_at s k) ∈ named_in s.clauses cf
+      found : (k : ℕ) → IsOfCurrentLevel s k → IsFlagged next.flags (variable_of (literal_at s k)) → opposite (literal_at s k) ∈ named_in s.clauses cf
       found k o r = ⊎_elim
           (λ z. absurd (none (variable_of (literal_at s k)) z))
           (λ (m, i, z).
@@ -301,15 +302,15 @@ module _ (s : View) (w : WellFormed s) (cf : Conflict) where
     pending = λ held h. pending_skip held mark.clause s.trail (Seen s mark.flags) j (subst (Pending held mark.clause s.trail (Seen s mark.flags)) (sym (add-one j)) (u.pending held h)) (λ z. not-marked z.0);
   }
     where
-      not-marked : IsMarked mark.flags (variable_of (literal_at s j)) → ⊥
+      not-marked : IsFlagged mark.flags (variable_of (literal_at s j)) → ⊥
       not-marked i = let z = sym n ∙ i in absurd cc
 
       lower : (k : ℕ) → k < suc j → (k ≡ j → ⊥) → k < j
       lower k a b = grind arith
 
-      below : (v : ℕ) → IsMarked mark.flags v → IsMarkOf s (suc j) mark v → IsMarkOf s j mark v
+      below : (v : ℕ) → IsFlagged mark.flags v → IsMarkOf s (suc j) mark v → IsMarkOf s j mark v
       below v i (OfClause m a b e) = OfClause m a b e
-      below v i (OfCurrentLevel k a b e) = OfCurrentLevel k (lower k a (λ z. not-marked (subst (λ x. IsMarked mark.flags (variable_of (literal_at s x))) z (subst (IsMarked mark.flags) (sym e) i)))) b e
+      below v i (OfCurrentLevel k a b e) = OfCurrentLevel k (lower k a (λ z. not-marked (subst (λ x. IsFlagged mark.flags (variable_of (literal_at s x))) z (subst (IsFlagged mark.flags) (sym e) i)))) b e
 
       unreached : (q : ℕ) → q ≡ j → IsOfCurrentLevel s q → IsReachedDownTo s cf q (literal_at s q) → ⊥
       unreached q e pr r = not-marked (reached-marked mark count (suc j) u j j (literal_at s j) (omega arith) (subst (λ x. IsReachedDownTo s cf x (literal_at s x)) e r) refl (omega arith) (subst (IsOfCurrentLevel s) e pr))
@@ -336,12 +337,12 @@ module _ (s : View) (w : WellFormed s) (cf : Conflict) where
         let (k, a, b) = count-some s mark.flags (suc j) (omega (arith, e, o)) in
         current-above k j d (omega (arith, a, at), open-level s mark.flags k b) (omega (arith, a)) at
 
-    still : (v : ℕ) → (v ≡ variable_of (literal_at s j) → ⊥) → IsMarked mark.flags v → IsMarked g v
+    still : (v : ℕ) → (v ≡ variable_of (literal_at s j) → ⊥) → IsFlagged mark.flags v → IsFlagged g v
     still v a b = get_or-set_other mark.flags (variable_of (literal_at s j)) v false false a ∙ b
 
-    was : (v : ℕ) → IsMarked g v → IsMarked mark.flags v × (v ≡ variable_of (literal_at s j) → ⊥)
+    was : (v : ℕ) → IsFlagged g v → IsFlagged mark.flags v × (v ≡ variable_of (literal_at s j) → ⊥)
     was v a =
-        let o : v ≡ variable_of (literal_at s j) → ⊥ = λ e. (let x : get_or g (variable_of (literal_at s j)) false ≡ false = get_or-set_same mark.flags (variable_of (literal_at s j)) false false h in let y = subst (IsMarked g) e a in let z = sym x ∙ y in absurd cc) in
+        let o : v ≡ variable_of (literal_at s j) → ⊥ = λ e. (let x : get_or g (variable_of (literal_at s j)) false ≡ false = get_or-set_same mark.flags (variable_of (literal_at s j)) false false h in let y = subst (IsFlagged g) e a in let z = sym x ∙ y in absurd cc) in
         (sym (get_or-set_other mark.flags (variable_of (literal_at s j)) v false false o) ∙ a, o)
 
     other-place : (k : ℕ) → k < j → variable_of (literal_at s k) ≡ variable_of (literal_at s j) → ⊥
@@ -374,7 +375,7 @@ module _ (s : View) (w : WellFormed s) (cf : Conflict) where
 
     -- it was the last one
     module _ (last : open_below s mark.flags j ≡ 0) where
-      none-below : (k : ℕ) → k < j → IsOfCurrentLevel s k → IsMarked mark.flags (variable_of (literal_at s k)) → ⊥
+      none-below : (k : ℕ) → k < j → IsOfCurrentLevel s k → IsFlagged mark.flags (variable_of (literal_at s k)) → ⊥
       none-below k a b m = count-none s mark.flags j k last a (open-is s mark.flags k b m)
 
       first-point : IsFirstPoint s cf j
@@ -410,9 +411,9 @@ module _ (s : View) (w : WellFormed s) (cf : Conflict) where
         };
       }
         where
-          of-clause : (v : ℕ) → IsMarked g v → IsMarkOf s j cleared v → IsMarkOf s 0 cleared v
+          of-clause : (v : ℕ) → IsFlagged g v → IsMarkOf s j cleared v → IsMarkOf s 0 cleared v
           of-clause v i (OfClause m a b e) = OfClause m a b e
-          of-clause v i (OfCurrentLevel k a b e) = absurd (none-below k a b (subst (IsMarked mark.flags) (sym e) (was v i).0))
+          of-clause v i (OfCurrentLevel k a b e) = absurd (none-below k a b (subst (IsFlagged mark.flags) (sym e) (was v i).0))
 
           involved-is : (p : Conflict) → WasResolved s cf (suc j) p → IsInvolved s cf j p
           involved-is p (AtConflict e) = IsOfConflict e
@@ -422,13 +423,13 @@ module _ (s : View) (w : WellFormed s) (cf : Conflict) where
           resolved-is p (IsOfConflict e) = AtConflict e
           resolved-is p (IsReasonOf k a pr r e) = AtPlace k (omega (arith, a)) pr (reached-sharp j k (literal_at s k) r pr.0 refl (omega (arith, a))) e
 
-          named-is : (p : Conflict) → WasResolved s cf (suc j) p → IsNamed s p
-          named-is p (AtConflict e) = subst (IsNamed s) (sym e) u.conflict.0
+          named-is : (p : Conflict) → WasResolved s cf (suc j) p → NamesKeptClause s p
+          named-is p (AtConflict e) = subst (NamesKeptClause s) (sym e) u.conflict.0
           named-is p (AtPlace k a pr r e) = (reason-named s w k (node_at s k).reason p (w.reason_is k pr.0) e).0
 
     -- it was not the last one
     module _ (more : 0 < open_below s mark.flags j) where
-      some-below : (k : ℕ) × (k < j) × IsOfCurrentLevel s k × IsMarked mark.flags (variable_of (literal_at s k))
+      some-below : (k : ℕ) × (k < j) × IsOfCurrentLevel s k × IsFlagged mark.flags (variable_of (literal_at s k))
       some-below = let (k, a, b) = count-some s mark.flags j more in (k, a, (omega (arith, a, at), open-level s mark.flags k b), open-marked s mark.flags k b)
 
       pub not-decided : (node_at s j).reason ≡ reason.Unit → ⊥
@@ -436,7 +437,7 @@ module _ (s : View) (w : WellFormed s) (cf : Conflict) where
 
       module _ (r : Reason) (is : (node_at s j).reason ≡ r) (c : is_clause r ≡ true) where
         abbrev clause : Clause
-        clause = clause_of s (literal_at s j) r
+        clause = implying_clause s (literal_at s j) r
 
         abbrev lits : List Literal
         lits = causes_of s.clauses r
@@ -448,7 +449,7 @@ module _ (s : View) (w : WellFormed s) (cf : Conflict) where
         why = subst (IsReason s j) is (w.reason_is j at)
 
         clause-is : reason_clause s (literal_at s j) ≡ clause
-        clause-is = ap (clause_of s (literal_at s j)) is
+        clause-is = ap (implying_clause s (literal_at s j)) is
 
         first-in : literal_at s j ∈ clause
         first-in = reason-first s w j r c why
@@ -473,7 +474,7 @@ module _ (s : View) (w : WellFormed s) (cf : Conflict) where
         before-in (reason.Binary ms) h m i = before-binary ms h m i
         before-in (reason.Long p) h m i = before-others (clause_at s p) h.1 m i
 
-        lits-in : (q : Reason) (l m : Literal) → m ∈ causes_of s.clauses q → m ∈ clause_of s l q
+        lits-in : (q : Reason) (l m : Literal) → m ∈ causes_of s.clauses q → m ∈ implying_clause s l q
         lits-in reason.Unit l m i = absurd i
         lits-in (reason.Binary ms) l m i = inr i
         lits-in (reason.Long p) l m i = by (clause_at s p) i
@@ -535,8 +536,8 @@ module _ (s : View) (w : WellFormed s) (cf : Conflict) where
               (λ m q. ⊎_elim inl (λ v. inr (passed-literal next j m held (omega (arith, at)) marks-now k (a.all m v) (false-before m v))) (split m (same.0 m (o.0 m q))));
         }
           where
-            a : Adds s lits e (record cleared { involved = next.involved }) next
-            a = subst (λ x. Adds s (causes_of s.clauses x) e (record cleared { involved = next.involved }) next) is ar.adds
+            a : AddsMarks s lits e (record cleared { involved = next.involved }) next
+            a = subst (λ x. AddsMarks s (causes_of s.clauses x) e (record cleared { involved = next.involved }) next) is ar.adds
 
             marks-now : Marks s j next
             marks-now = a.marks j false-before (omega (arith, at)) (marks-with s j cleared next.involved marks-here)
@@ -575,22 +576,22 @@ module _ (s : View) (w : WellFormed s) (cf : Conflict) where
             not-opposite : (k : ℕ) → IsOfCurrentLevel s k → opposite (literal_at s k) ≢ literal_at s j
             not-opposite k o e = no-clash s w (literal_at s k) (∈-get_or s.trail k 0 o.0) (subst (λ x. x ∈ s.trail) (sym e) (∈-get_or s.trail j 0 at))
 
-            kept : (k : ℕ) → k < j → IsMarked mark.flags (variable_of (literal_at s k)) → IsMarked next.flags (variable_of (literal_at s k))
+            kept : (k : ℕ) → k < j → IsFlagged mark.flags (variable_of (literal_at s k)) → IsFlagged next.flags (variable_of (literal_at s k))
             kept k i m = a.more (variable_of (literal_at s k)) (still (variable_of (literal_at s k)) (other-place k i) m)
 
-            added : (k : ℕ) → IsOfCurrentLevel s k → opposite (literal_at s k) ∈ clause → IsMarked next.flags (variable_of (literal_at s k))
+            added : (k : ℕ) → IsOfCurrentLevel s k → opposite (literal_at s k) ∈ clause → IsFlagged next.flags (variable_of (literal_at s k))
             added k o m = ⊎_elim
                 (λ z. absurd (not-opposite k o z))
-                (λ z. subst (IsMarked next.flags) (variable-opposite (literal_at s k)) (a.all (opposite (literal_at s k)) z (let x = level-opposite s (literal_at s k) in let y = o.1 in omega (arith, x, y, d))))
+                (λ z. subst (IsFlagged next.flags) (variable-opposite (literal_at s k)) (a.all (opposite (literal_at s k)) z (let x = level-opposite s (literal_at s k) in let y = o.1 in omega (arith, x, y, d))))
                 (split (opposite (literal_at s k)) m)
 
 -- the walk begins once the conflict's clause is listed and its literals were added
-pub walk-begin : {s : View} {cf : Conflict} {n : ℕ} {mark next : Marking} → WellFormed s → IsDeepConflict s cf → IsClean mark → (false_ones : List Literal) (involved : List Conflict) (p : Conflict) (i : ℕ) → false_ones ≡ named_in s.clauses cf → involved ≡ mark.involved ++ p ∷ [] → p ≡ cf → i ≡ length s.trail → Adds s false_ones n (record mark { involved = involved }) next → Walk s cf next n i
+pub walk-begin : {s : View} {cf : Conflict} {n : ℕ} {mark next : Marking} → WellFormed s → IsDeepConflict s cf → IsClean mark → (false_ones : List Literal) (involved : List Conflict) (p : Conflict) (i : ℕ) → false_ones ≡ named_in s.clauses cf → involved ≡ mark.involved ++ p ∷ [] → p ≡ cf → i ≡ length s.trail → AddsMarks s false_ones n (record mark { involved = involved }) next → Walk s cf next n i
 walk-begin {s = s} {cf = cf} {n = n} {mark = mark} {next = next} w dc clean false_ones involved p i le ie pe ne a =
     subst (λ k. Walk s cf next n k) (sym ne)
     (walk-start s w cf n mark (record mark { involved = involved }) next dc clean
     (ap (λ (k : List Conflict). record mark { involved = k }) (ie ∙ ap (λ (k : List Conflict). k ++ p ∷ []) clean.involved ∙ ap (λ (k : Conflict). k ∷ []) pe))
-    (subst (λ k. Adds s k n (record mark { involved = involved }) next) le a))
+    (subst (λ k. AddsMarks s k n (record mark { involved = involved }) next) le a))
 
 pub unit-left : (r : Reason) → (is_clause r ≡ true → ⊥) → r ≡ reason.Unit
 unit-left reason.Unit n = refl
@@ -598,11 +599,11 @@ unit-left (reason.Binary ms) n = absurd (n refl)
 unit-left (reason.Long a) n = absurd (n refl)
 
 -- the reason is listed, and its other literals are added
-pub adds-reason : {s : View} {lits : List Literal} {count : ℕ} {begun next : Marking} (l : Literal) (x : Marking) (r : Reason) → r ≡ (node_of s l).reason → lits ≡ causes_of s.clauses r → begun ≡ record x { involved = x.involved ++ names_of l r } → Adds s lits count begun next → AddsReason s l count x next
+pub adds-reason : {s : View} {lits : List Literal} {count : ℕ} {begun next : Marking} (l : Literal) (x : Marking) (r : Reason) → r ≡ (node_of s l).reason → lits ≡ causes_of s.clauses r → begun ≡ record x { involved = x.involved ++ names_of l r } → AddsMarks s lits count begun next → AddsReason s l count x next
 adds-reason {s = s} {lits = lits} {count = count} {begun = begun} {next = next} l x r p q e a = record {
   listed = listed-is ∙ ap (λ k. x.involved ++ names_of l k) p;
-  adds = subst (λ k. Adds s k count (record x { involved = next.involved }) next) (q ∙ ap (λ k. causes_of s.clauses k) p)
-      (subst (λ k. Adds s lits count k next) (e ∙ ap (λ (k : List Conflict). record x { involved = k }) (sym listed-is)) a);
+  adds = subst (λ k. AddsMarks s k count (record x { involved = next.involved }) next) (q ∙ ap (λ k. causes_of s.clauses k) p)
+      (subst (λ k. AddsMarks s lits count k next) (e ∙ ap (λ (k : List Conflict). record x { involved = k }) (sym listed-is)) a);
 }
   where
     listed-is : next.involved ≡ x.involved ++ names_of l r

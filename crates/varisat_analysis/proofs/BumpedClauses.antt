@@ -7,10 +7,10 @@ use Rattle.varisat_clause.specs.declared.header.Tier.{Tier}
 use Rattle.varisat_clause.specs.declared.header.Tier.TheVariants.{Irred, Core, Mid, Local}
 use Rattle.varisat_clause.specs.Tiers.{is_tier}
 use Rattle.varisat_clause.specs.Headers.{Header, no_header}
-use Rattle.varisat_clause.specs.Stored.{StoredClause, IsPlace, stored_at, header_at, literals_at, with_clause, with_header}
-use Rattle.varisat_clause.specs.Stores.{Store, clauses_of, IsSound, Holds}
-use Rattle.varisat_clause.specs.Databases.{Database, list_of, is_live, is_live_in, total, size_of, Tracks}
-use Rattle.varisat_clause.specs.ClauseActivities.{ActivityScale, with_activity, activity_shifted, shifted, clauses_rescaled, reaches_limit}
+use Rattle.varisat_clause.specs.Stored.{StoredClause, IsPlace, stored_at, header_at, literals_at, with_stored, with_header}
+use Rattle.varisat_clause.specs.Stores.{Store, stored_clauses, IsSound, HoldsClauses}
+use Rattle.varisat_clause.specs.Databases.{Database, tier_list, is_live, is_live_in, total, size_of, Tracks}
+use Rattle.varisat_clause.specs.ClauseActivities.{ActivityScale, with_activity, activity_shifted, clauses_shifted, clauses_rescaled, reaches_clause_limit}
 use Rattle.varisat_clause.proofs.StoredClauses.{stored-∈, clause-same, clause-place, clause-twice}
 use Rattle.varisat_clause.proofs.DatabaseTracks.{place-is, header-self}
 use Rattle.varisat_clause.proofs.LiveStore.{live-∈, live-place, live-stored, live-literals}
@@ -32,24 +32,24 @@ module _ (ks : List StoredClause) (p : ℕ) (at : IsPlace ks p) where
   header-set h = ap (λ (k : StoredClause). k.header) (stored-set h)
 
   header-twice : (h j : Header) → with_header (with_header ks p h) p j ≡ with_header ks p j
-  header-twice h j = ap (λ (k : StoredClause). with_clause (with_header ks p h) p (record k { header = j })) (stored-set h) ∙ clause-twice ks p (record (stored_at ks p) { header = h }) (record (stored_at ks p) { header = j }) (place-is ks p at)
+  header-twice h j = ap (λ (k : StoredClause). with_stored (with_header ks p h) p (record k { header = j })) (stored-set h) ∙ clause-twice ks p (record (stored_at ks p) { header = h }) (record (stored_at ks p) { header = j }) (place-is ks p at)
 
   pub header-place : (h : Header) → IsPlace (with_header ks p h) p
   header-place h = clause-place ks p p (record (stored_at ks p) { header = h }) (place-is ks p at) at
 
 -- a store whose clause at the place got a header, and then another
-module _ (s n : Store) (p : ℕ) (h : Header) (at : IsPlace (clauses_of s) p) (o : Holds n (length s.words) (with_header (clauses_of s) p h)) where
-  pub set-place : IsPlace (clauses_of n) p
-  set-place = subst (λ ks. IsPlace ks p) (sym o.clauses) (header-place (clauses_of s) p at h)
+module _ (s n : Store) (p : ℕ) (h : Header) (at : IsPlace (stored_clauses s) p) (o : HoldsClauses n (length s.words) (with_header (stored_clauses s) p h)) where
+  pub set-place : IsPlace (stored_clauses n) p
+  set-place = subst (λ ks. IsPlace ks p) (sym o.clauses) (header-place (stored_clauses s) p at h)
 
-  pub set-header : header_at (clauses_of n) p ≡ h
-  set-header = ap (λ ks. header_at ks p) o.clauses ∙ header-set (clauses_of s) p at h
+  pub set-header : header_at (stored_clauses n) p ≡ h
+  set-header = ap (λ ks. header_at ks p) o.clauses ∙ header-set (stored_clauses s) p at h
 
-  pub set-then : (m : Store) (j : Header) → Holds m (length n.words) (with_header (clauses_of n) p j) → Holds m (length s.words) (with_header (clauses_of s) p j)
+  pub set-then : (m : Store) (j : Header) → HoldsClauses m (length n.words) (with_header (stored_clauses n) p j) → HoldsClauses m (length s.words) (with_header (stored_clauses s) p j)
   set-then m j q = record {
     sound = q.sound;
     words = q.words ∙ o.words;
-    clauses = q.clauses ∙ ap (λ ks. with_header ks p j) o.clauses ∙ header-twice (clauses_of s) p at h j;
+    clauses = q.clauses ∙ ap (λ ks. with_header ks p j) o.clauses ∙ header-twice (stored_clauses s) p at h j;
   }
 
 -- Lists that agree in what a function reads of each clause.
@@ -79,20 +79,20 @@ module _ (read : StoredClause → StoredClause) where
 abbrev pub tracked : StoredClause → StoredClause
 tracked k = record { place = k.place; header = record no_header { tier = k.header.tier; deleted = k.header.deleted }; literals = k.literals }
 
-pub tracks-read : (d : Database) (s t : Store) → Tracks d s → IsSound t → map tracked (clauses_of t) ≡ map tracked (clauses_of s) → Tracks d t
+pub tracks-read : (d : Database) (s t : Store) → Tracks d s → IsSound t → map tracked (stored_clauses t) ≡ map tracked (stored_clauses s) → Tracks d t
 tracks-read d s t k ok e = record {
   sound = ok;
-  counts = λ u. k.counts u ∙ total-read tracked (λ x. cond (is_live_in u x) 1 0) (λ x. refl) (clauses_of s) (clauses_of t) (sym e);
-  garbage = k.garbage ∙ total-read tracked (λ x. cond x.header.deleted (size_of x) 0) (λ x. refl) (clauses_of s) (clauses_of t) (sym e);
+  counts = λ u. k.counts u ∙ total-read tracked (λ x. cond (is_live_in u x) 1 0) (λ x. refl) (stored_clauses s) (stored_clauses t) (sym e);
+  garbage = k.garbage ∙ total-read tracked (λ x. cond x.header.deleted (size_of x) 0) (λ x. refl) (stored_clauses s) (stored_clauses t) (sym e);
   listed = λ x h live.
-      let (j, i, f) = read-found tracked (clauses_of t) (clauses_of s) x e h in
+      let (j, i, f) = read-found tracked (stored_clauses t) (stored_clauses s) x e h in
       let place : x.place ≡ j.place = ap (λ (y : StoredClause). y.place) f in
       let tier : x.header.tier ≡ j.header.tier = ap (λ (y : StoredClause). y.header.tier) f in
       let lives : is_live j ≡ true = ap (λ (y : StoredClause). is_live y) (sym f) ∙ live in
-      subst (λ (q : ℕ). q ∈ list_of x.header.tier d.lists) (sym place) (subst (λ (u : Tier). j.place ∈ list_of u d.lists) (sym tier) (k.listed j i lives));
+      subst (λ (q : ℕ). q ∈ tier_list x.header.tier d.lists) (sym place) (subst (λ (u : Tier). j.place ∈ tier_list u d.lists) (sym tier) (k.listed j i lives));
   known = λ u p h.
       let (x, i, f) = k.known u p h in
-      let (j, o, g) = read-found tracked (clauses_of s) (clauses_of t) x (sym e) i in
+      let (j, o, g) = read-found tracked (stored_clauses s) (stored_clauses t) x (sym e) i in
       (j, o, sym (ap (λ (y : StoredClause). y.place) g) ∙ f);
 }
 
@@ -103,24 +103,24 @@ rescaled-same look false ks h = refl
 
 -- A bump, from what the call says of the two cases.
 module _ (n m : Store) (a : ActivityScale) (p : ℕ) where
-  pub bump-holds : (reaches_limit (activity_bumped p (scored n a)) ≡ false → Holds m (length n.words) (with_activity (clauses_of n) p (activity_bumped p (scored n a)))) → (reaches_limit (activity_bumped p (scored n a)) ≡ true → Holds m (length n.words) (with_activity (shifted (clauses_of n)) p (activity_bumped p (scored n a) / 2 ^ 16))) → Holds m (length n.words) (with_bump p (scored n a)).clauses
+  pub bump-holds : (reaches_clause_limit (activity_bumped p (scored n a)) ≡ false → HoldsClauses m (length n.words) (with_activity (stored_clauses n) p (activity_bumped p (scored n a)))) → (reaches_clause_limit (activity_bumped p (scored n a)) ≡ true → HoldsClauses m (length n.words) (with_activity (clauses_shifted (stored_clauses n)) p (activity_bumped p (scored n a) / 2 ^ 16))) → HoldsClauses m (length n.words) (with_bump p (scored n a)).clauses
   bump-holds f g =
       ⊎_elim
-      (λ e. subst (λ b. Holds m (length n.words) (with_activity (clauses_rescaled b (clauses_of n)) p (cond b (activity_bumped p (scored n a) / 2 ^ 16) (activity_bumped p (scored n a))))) (sym e) (g e))
-      (λ e. subst (λ b. Holds m (length n.words) (with_activity (clauses_rescaled b (clauses_of n)) p (cond b (activity_bumped p (scored n a) / 2 ^ 16) (activity_bumped p (scored n a))))) (sym e) (f e))
-      (true-or-false (reaches_limit (activity_bumped p (scored n a))))
+      (λ e. subst (λ b. HoldsClauses m (length n.words) (with_activity (clauses_rescaled b (stored_clauses n)) p (cond b (activity_bumped p (scored n a) / 2 ^ 16) (activity_bumped p (scored n a))))) (sym e) (g e))
+      (λ e. subst (λ b. HoldsClauses m (length n.words) (with_activity (clauses_rescaled b (stored_clauses n)) p (cond b (activity_bumped p (scored n a) / 2 ^ 16) (activity_bumped p (scored n a))))) (sym e) (f e))
+      (true-or-false (reaches_clause_limit (activity_bumped p (scored n a))))
 
 -- a bump changes activities alone
 pub bump-same : {X : Type 0} (look : StoredClause → X) (p : ℕ) (x : Scored) → ((k : StoredClause) (n : ℕ) → look (record k { header = record k.header { activity = n } }) ≡ look k) → map look (with_bump p x).clauses ≡ map look x.clauses
 bump-same look p x h =
-    let full : Bool = reaches_limit (activity_bumped p x) in
+    let full : Bool = reaches_clause_limit (activity_bumped p x) in
     let ks : List StoredClause = clauses_rescaled full x.clauses in
     let n : ℕ = cond full (activity_bumped p x / 2 ^ 16) (activity_bumped p x) in
     with-same-look look ks p (record (stored_at ks p) { header = record (header_at ks p) { activity = n } }) (h (stored_at ks p) n)
     ∙ rescaled-same look full x.clauses (λ k. h k (k.header.activity / 2 ^ 16))
 
 -- the database of the bumped clauses
-pub bump-tracks : (d : Database) (n m : Store) (a : ActivityScale) (p : ℕ) → Tracks d n → Holds m (length n.words) (with_bump p (scored n a)).clauses → Tracks d m
+pub bump-tracks : (d : Database) (n m : Store) (a : ActivityScale) (p : ℕ) → Tracks d n → HoldsClauses m (length n.words) (with_bump p (scored n a)).clauses → Tracks d m
 bump-tracks d n m a p t o =
     tracks-read d n m t o.sound (ap (map tracked) o.clauses ∙ bump-same tracked p (scored n a) (λ k v. refl))
 
@@ -144,33 +144,33 @@ improved-lower glue h r e =
     yes n l = grind arith
 
 -- nothing was written
-pub improved-stays : (s : Store) (p glue : ℕ) → IsSound s → improved glue (header_at (clauses_of s) p) ≡ header_at (clauses_of s) p → Holds s (length s.words) (with_header (clauses_of s) p (improved glue (header_at (clauses_of s) p)))
-improved-stays s p glue ok e = record { sound = ok; words = refl; clauses = sym (header-self (clauses_of s) p (improved glue (header_at (clauses_of s) p)) e) }
+pub improved-stays : (s : Store) (p glue : ℕ) → IsSound s → improved glue (header_at (stored_clauses s) p) ≡ header_at (stored_clauses s) p → HoldsClauses s (length s.words) (with_header (stored_clauses s) p (improved glue (header_at (stored_clauses s) p)))
+improved-stays s p glue ok e = record { sound = ok; words = refl; clauses = sym (header-self (stored_clauses s) p (improved glue (header_at (stored_clauses s) p)) e) }
 
 -- the clause went to another tier, and then the glue was written
-pub improved-moved : (s n m : Store) (p glue : ℕ) (t : Tier) (j : Header) → IsPlace (clauses_of s) p → not (is_tier (header_at (clauses_of s) p).tier Irred) ≡ true → glue < (header_at (clauses_of s) p).glue → (header_at (clauses_of s) p).glue ≤ 63 → t ≡ tier_by_glue glue → Holds n (length s.words) (with_header (clauses_of s) p (record (header_at (clauses_of s) p) { tier = t })) → j ≡ record (header_at (clauses_of n) p) { glue = min glue 63 } → Holds m (length n.words) (with_header (clauses_of n) p j) → Holds m (length s.words) (with_header (clauses_of s) p (improved glue (header_at (clauses_of s) p)))
+pub improved-moved : (s n m : Store) (p glue : ℕ) (t : Tier) (j : Header) → IsPlace (stored_clauses s) p → not (is_tier (header_at (stored_clauses s) p).tier Irred) ≡ true → glue < (header_at (stored_clauses s) p).glue → (header_at (stored_clauses s) p).glue ≤ 63 → t ≡ tier_by_glue glue → HoldsClauses n (length s.words) (with_header (stored_clauses s) p (record (header_at (stored_clauses s) p) { tier = t })) → j ≡ record (header_at (stored_clauses n) p) { glue = min glue 63 } → HoldsClauses m (length n.words) (with_header (stored_clauses n) p j) → HoldsClauses m (length s.words) (with_header (stored_clauses s) p (improved glue (header_at (stored_clauses s) p)))
 improved-moved s n m p glue t j at r l small et o ej q =
-    let h : Header = header_at (clauses_of s) p in
+    let h : Header = header_at (stored_clauses s) p in
     let least : min glue 63 ≡ glue = omega (arith, l, small) in
     let e : j ≡ improved glue h =
     ej ∙ ap (λ (x : Header). record x { glue = min glue 63 }) (set-header s n p (record h { tier = t }) at o)
     ∙ ap (λ (x : ℕ). record h { tier = t; glue = x }) least
     ∙ ap (λ (x : Tier). record h { tier = x; glue = glue }) et
     ∙ sym (improved-lower glue h r l) in
-    set-then s n p (record h { tier = t }) at o m (improved glue h) (subst (λ (x : Header). Holds m (length n.words) (with_header (clauses_of n) p x)) e q)
+    set-then s n p (record h { tier = t }) at o m (improved glue h) (subst (λ (x : Header). HoldsClauses m (length n.words) (with_header (stored_clauses n) p x)) e q)
 
 -- The clause became active too.
-pub noted-holds : (s n m : Store) (p glue : ℕ) → IsPlace (clauses_of s) p → Holds n (length s.words) (with_header (clauses_of s) p (improved glue (header_at (clauses_of s) p))) → Holds m (length n.words) (with_header (clauses_of n) p (record (header_at (clauses_of n) p) { active = true })) → Holds m (length s.words) (with_header (clauses_of s) p (noted glue (header_at (clauses_of s) p)))
+pub noted-holds : (s n m : Store) (p glue : ℕ) → IsPlace (stored_clauses s) p → HoldsClauses n (length s.words) (with_header (stored_clauses s) p (improved glue (header_at (stored_clauses s) p))) → HoldsClauses m (length n.words) (with_header (stored_clauses n) p (record (header_at (stored_clauses n) p) { active = true })) → HoldsClauses m (length s.words) (with_header (stored_clauses s) p (noted glue (header_at (stored_clauses s) p)))
 noted-holds s n m p glue at o q =
-    let h : Header = improved glue (header_at (clauses_of s) p) in
-    set-then s n p h at o m (record h { active = true }) (subst (λ (x : Header). Holds m (length n.words) (with_header (clauses_of n) p (record x { active = true }))) (set-header s n p h at o) q)
+    let h : Header = improved glue (header_at (stored_clauses s) p) in
+    set-then s n p h at o m (record h { active = true }) (subst (λ (x : Header). HoldsClauses m (length n.words) (with_header (stored_clauses n) p (record x { active = true }))) (set-header s n p h at o) q)
 
 -- and then its activity was raised
-module _ (s n : Store) (p : ℕ) (nodes : List ImplNode) (glue : ℕ) (e : glue ≡ glue_of nodes (literals_at (clauses_of s) p)) (o : Holds n (length s.words) (with_header (clauses_of s) p (noted glue (header_at (clauses_of s) p)))) where
-  pub bumped-clauses : clauses_of n ≡ with_header (clauses_of s) p (noted (glue_of nodes (literals_at (clauses_of s) p)) (header_at (clauses_of s) p))
-  bumped-clauses = o.clauses ∙ ap (λ (x : ℕ). with_header (clauses_of s) p (noted x (header_at (clauses_of s) p))) e
+module _ (s n : Store) (p : ℕ) (nodes : List ImplNode) (glue : ℕ) (e : glue ≡ glue_of nodes (literals_at (stored_clauses s) p)) (o : HoldsClauses n (length s.words) (with_header (stored_clauses s) p (noted glue (header_at (stored_clauses s) p)))) where
+  pub bumped-clauses : stored_clauses n ≡ with_header (stored_clauses s) p (noted (glue_of nodes (literals_at (stored_clauses s) p)) (header_at (stored_clauses s) p))
+  bumped-clauses = o.clauses ∙ ap (λ (x : ℕ). with_header (stored_clauses s) p (noted x (header_at (stored_clauses s) p))) e
 
-pub bumped-holds : (s n m : Store) (a : ActivityScale) (p : ℕ) (nodes : List ImplNode) (glue : ℕ) → glue ≡ glue_of nodes (literals_at (clauses_of s) p) → Holds n (length s.words) (with_header (clauses_of s) p (noted glue (header_at (clauses_of s) p))) → Holds m (length n.words) (with_bump p (scored n a)).clauses → Holds m (length s.words) (clause_bumped nodes p (scored s a)).clauses
+pub bumped-holds : (s n m : Store) (a : ActivityScale) (p : ℕ) (nodes : List ImplNode) (glue : ℕ) → glue ≡ glue_of nodes (literals_at (stored_clauses s) p) → HoldsClauses n (length s.words) (with_header (stored_clauses s) p (noted glue (header_at (stored_clauses s) p))) → HoldsClauses m (length n.words) (with_bump p (scored n a)).clauses → HoldsClauses m (length s.words) (clause_bumped nodes p (scored s a)).clauses
 bumped-holds s n m a p nodes glue e o q = record {
   sound = q.sound;
   words = q.words ∙ o.words;
@@ -221,9 +221,9 @@ bumped-snoc nodes (conflict.Long p ∷ names) f x = bumped-snoc nodes names f (c
 
 -- The store and the scale after the first of the named clauses were bumped.
 pub record AreBumped (nodes : List ImplNode) (names : List Conflict) (s t : Store) (d : Database) (a b : ActivityScale) : Type 0 where
-  pub store : Holds t (length s.words) (clauses_bumped nodes names (scored s a)).clauses
+  pub store : HoldsClauses t (length s.words) (clauses_bumped nodes names (scored s a)).clauses
   pub scale : b ≡ (clauses_bumped nodes names (scored s a)).scale
-  pub held : map held_clause (clauses_of t) ≡ map held_clause (clauses_of s)
+  pub held : map held_clause (stored_clauses t) ≡ map held_clause (stored_clauses s)
   pub tracks : Tracks d t
 
 pub none-bumped : (nodes : List ImplNode) (s : Store) (d : Database) (a : ActivityScale) → Tracks d s → AreBumped nodes [] s s d a a
@@ -232,34 +232,34 @@ none-bumped nodes s d a t = record { store = record { sound = t.sound; words = r
 module _ {nodes : List ImplNode} {names : List Conflict} {s t : Store} {d : Database} {a b : ActivityScale} (k : AreBumped nodes names s t d a b) where
   -- the clauses that are not deleted
   pub bumped-headers : SameButHeaders (live_clauses s) (live_clauses t)
-  bumped-headers = live-headers (clauses_of s) (clauses_of t) k.held
+  bumped-headers = live-headers (stored_clauses s) (stored_clauses t) k.held
 
   -- a clause that was named is there still
   pub bumped-live : (p : ℕ) → IsPlace (live_clauses s) p → IsPlace (live_clauses t) p
   bumped-live p h = headers-place (live_clauses s) (live_clauses t) p bumped-headers h
 
-  pub bumped-place : (p : ℕ) → IsPlace (live_clauses s) p → IsPlace (clauses_of t) p
-  bumped-place p h = live-place (clauses_of t) p (bumped-live p h)
+  pub bumped-place : (p : ℕ) → IsPlace (live_clauses s) p → IsPlace (stored_clauses t) p
+  bumped-place p h = live-place (stored_clauses t) p (bumped-live p h)
 
-  pub bumped-undeleted : (p : ℕ) → IsPlace (live_clauses s) p → (header_at (clauses_of t) p).deleted ≡ false
+  pub bumped-undeleted : (p : ℕ) → IsPlace (live_clauses s) p → (header_at (stored_clauses t) p).deleted ≡ false
   bumped-undeleted p h =
       ap (λ (x : StoredClause). x.header.deleted) (live-stored t p k.store.sound (bumped-live p h))
-      ∙ (live-∈ (clauses_of t) (stored_at (live_clauses t) p) (stored-∈ (live_clauses t) p (bumped-live p h))).1
+      ∙ (live-∈ (stored_clauses t) (stored_at (live_clauses t) p) (stored-∈ (live_clauses t) p (bumped-live p h))).1
 
-  pub bumped-literals : (p : ℕ) → IsPlace (live_clauses s) p → literals_at (clauses_of t) p ≡ literals_at (live_clauses s) p
+  pub bumped-literals : (p : ℕ) → IsPlace (live_clauses s) p → literals_at (stored_clauses t) p ≡ literals_at (live_clauses s) p
   bumped-literals p h = live-literals t p k.store.sound (bumped-live p h) ∙ headers-at (live_clauses s) (live_clauses t) bumped-headers p
 
   -- one more clause, which is not one of the store, or is
   pub other-bumped : (f : Conflict) → ((p : ℕ) → f ≡ conflict.Long p → ⊥) → AreBumped nodes (names ++ f ∷ []) s t d a b
   other-bumped (conflict.Long p) n = absurd (n p refl)
   other-bumped (conflict.Binary ms) n = record {
-    store = subst (λ (x : Scored). Holds t (length s.words) x.clauses) (sym (bumped-snoc nodes names (conflict.Binary ms) (scored s a))) k.store;
+    store = subst (λ (x : Scored). HoldsClauses t (length s.words) x.clauses) (sym (bumped-snoc nodes names (conflict.Binary ms) (scored s a))) k.store;
     scale = k.scale ∙ sym (ap (λ (x : Scored). x.scale) (bumped-snoc nodes names (conflict.Binary ms) (scored s a)));
     held = k.held;
     tracks = k.tracks;
   }
 
-  pub long-bumped : (p : ℕ) (u : Store) (e : Database) (c : ActivityScale) → Holds u (length t.words) (clause_bumped nodes p (scored t b)).clauses → c ≡ (clause_bumped nodes p (scored t b)).scale → Tracks e u → AreBumped nodes (names ++ conflict.Long p ∷ []) s u e a c
+  pub long-bumped : (p : ℕ) (u : Store) (e : Database) (c : ActivityScale) → HoldsClauses u (length t.words) (clause_bumped nodes p (scored t b)).clauses → c ≡ (clause_bumped nodes p (scored t b)).scale → Tracks e u → AreBumped nodes (names ++ conflict.Long p ∷ []) s u e a c
   long-bumped p u e c o q r =
       let before : scored t b ≡ clauses_bumped nodes names (scored s a) = ap₂ (λ (ks : List StoredClause) (y : ActivityScale). record { clauses = ks; scale = y }) k.store.clauses k.scale in
       let after : clause_bumped nodes p (scored t b) ≡ clauses_bumped nodes (names ++ conflict.Long p ∷ []) (scored s a) = ap (clause_bumped nodes p) before ∙ sym (bumped-snoc nodes names (conflict.Long p) (scored s a)) in
@@ -271,8 +271,8 @@ module _ {nodes : List ImplNode} {names : List Conflict} {s t : Store} {d : Data
       }
 
 -- The activities decay.
-pub decay-tracks : (d : Database) (s t : Store) (full : Bool) → Tracks d s → Holds t (length s.words) (clauses_rescaled full (clauses_of s)) → Tracks d t
-decay-tracks d s t full k o = tracks-read d s t k o.sound (ap (map tracked) o.clauses ∙ rescaled-same tracked full (clauses_of s) (λ x. refl))
+pub decay-tracks : (d : Database) (s t : Store) (full : Bool) → Tracks d s → HoldsClauses t (length s.words) (clauses_rescaled full (stored_clauses s)) → Tracks d t
+decay-tracks d s t full k o = tracks-read d s t k o.sound (ap (map tracked) o.clauses ∙ rescaled-same tracked full (stored_clauses s) (λ x. refl))
 
-pub decay-headers : (s t : Store) (full : Bool) → Holds t (length s.words) (clauses_rescaled full (clauses_of s)) → SameButHeaders (live_clauses s) (live_clauses t)
-decay-headers s t full o = live-headers (clauses_of s) (clauses_of t) (ap (map held_clause) o.clauses ∙ rescaled-same held_clause full (clauses_of s) (λ x. refl))
+pub decay-headers : (s t : Store) (full : Bool) → HoldsClauses t (length s.words) (clauses_rescaled full (stored_clauses s)) → SameButHeaders (live_clauses s) (live_clauses t)
+decay-headers s t full o = live-headers (stored_clauses s) (stored_clauses t) (ap (map held_clause) o.clauses ∙ rescaled-same held_clause full (stored_clauses s) (λ x. refl))

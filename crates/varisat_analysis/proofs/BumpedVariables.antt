@@ -9,7 +9,7 @@ use Rattle.varisat_prop.specs.declared.prop.graph.ImplNode.{ImplNode}
 use Rattle.varisat_prop.specs.declared.prop.graph.Conflict.{Conflict}
 use Rattle.varisat_clause.specs.Stored.{StoredClause}
 use Rattle.varisat_prop.specs.View.{View, kept, WellFormed}
-use Rattle.varisat_prop.specs.Changes.{named_in, IsNamed}
+use Rattle.varisat_prop.specs.Changes.{named_in, NamesKeptClause}
 use Rattle.varisat_vsids.specs.Activities.{Activities, bumped}
 use Rattle.varisat_analysis.specs.Flags.{IsFlagged}
 use Rattle.varisat_analysis.specs.Bumps.{bumped_each, literals_among, level_in, AreVariablesAbove, Bumping, bumping, MayBump, BumpsNew}
@@ -66,7 +66,7 @@ in-among ks (q ∷ ps) p l (inl e) i = ∈-append_left l (named_in ks q) (litera
 in-among ks (q ∷ ps) p l (inr h) i = ∈-append_right l (named_in ks q) (literals_among ks ps) (in-among ks ps p l h i)
 
 -- a literal of the clauses is one of a kept clause
-pub among-kept : (s : View) → WellFormed s → (ps : List Conflict) (l : Literal) → ((p : Conflict) → p ∈ ps → IsNamed s p) → l ∈ literals_among s.clauses ps → (c : Clause) × (c ∈ kept s) × (l ∈ c)
+pub among-kept : (s : View) → WellFormed s → (ps : List Conflict) (l : Literal) → ((p : Conflict) → p ∈ ps → NamesKeptClause s p) → l ∈ literals_among s.clauses ps → (c : Clause) × (c ∈ kept s) × (l ∈ c)
 among-kept s w [] l h i = absurd i
 among-kept s w (p ∷ ps) l h i =
     ⊎_elim

@@ -20,7 +20,7 @@ use Rattle.varisat_prop.proofs.LiteralValues.{made-inside}
 use Rattle.varisat_prop.proofs.ReadElements.{element, item-∈}
 use Rattle.varisat_prop.proofs.TrailValues.{trail-true}
 use Rattle.varisat_analysis.specs.Flags.{IsFlagged}
-use Rattle.varisat_analysis.specs.Learned.{clause_of, reason_clause}
+use Rattle.varisat_analysis.specs.Learned.{implying_clause, reason_clause}
 use Rattle.varisat_analysis.specs.FailedCores.{IsDecided, IsReachedFrom, ListsFailedCore, FlagsCauses, decided_by}
 use Rattle.varisat_analysis.proofs.AnalysisMarks.{take-grow, take-last, marked-old, marked-new}
 use Rattle.varisat_analysis.proofs.BumpedVariables.{clear-given-back}
@@ -101,10 +101,10 @@ pub record CoreWalk (s : View) (failed : Literal) (core : List Literal) (flags :
   pub distinct : IsDistinct core
 
 -- what a reason makes false is in its clause
-cause-in : (s : View) (l : Literal) (r : Reason) (m : Literal) → m ∈ causes_of s.clauses r → m ∈ clause_of s l r
+cause-in : (s : View) (l : Literal) (r : Reason) (m : Literal) → m ∈ causes_of s.clauses r → m ∈ implying_clause s l r
 cause-in s l reason.Unit m h = absurd h
 cause-in s l (reason.Binary ms) m h = inr h
-cause-in s l (reason.Long p) m h = other-in (clause_of s l (reason.Long p)) h
+cause-in s l (reason.Long p) m h = other-in (implying_clause s l (reason.Long p)) h
   where
     other-in : (c : Clause) → m ∈ others_of c → m ∈ c
     other-in [] i = absurd i
@@ -325,10 +325,10 @@ module _ (s : View) (w : WellFormed s) (failed : Literal) (false_now : opposite 
       (λ (a : (node_at s k).level ≤ 0). implied_alone held core (literal_at s k) (fixed-at s w held f (suc k) k (omega arith) h (omega (arith, a))))
       (cases_lt 0 (node_at s k).level)
     where
-      others : (q : Reason) → (node_at s k).reason ≡ q → ((o : ℕ) → o < n → o < length s.trail → IsReachedFrom s failed (literal_at s o) → Implied held core (literal_at s o)) → (m : Literal) → m ∈ clause_of s (literal_at s k) q → StandsBefore s k (opposite m) → Implied held core (opposite m)
+      others : (q : Reason) → (node_at s k).reason ≡ q → ((o : ℕ) → o < n → o < length s.trail → IsReachedFrom s failed (literal_at s o) → Implied held core (literal_at s o)) → (m : Literal) → m ∈ implying_clause s (literal_at s k) q → StandsBefore s k (opposite m) → Implied held core (opposite m)
       others q e rec m i (o, b, d) =
           let t : opposite m ∈ s.trail = subst (λ x. x ∈ s.trail) d (∈-get_or s.trail o 0 (omega (arith, b, h))) in
-          let i' : opposite (opposite m) ∈ reason_clause s (literal_at s k) = subst (λ x. x ∈ reason_clause s (literal_at s k)) (sym (opposite_twice m)) (subst (λ x. m ∈ clause_of s (literal_at s k) x) (sym e) i) in
+          let i' : opposite (opposite m) ∈ reason_clause s (literal_at s k) = subst (λ x. x ∈ reason_clause s (literal_at s k)) (sym (opposite_twice m)) (subst (λ x. m ∈ implying_clause s (literal_at s k) x) (sym e) i) in
           let y : IsReachedFrom s failed (opposite m) = InReason (literal_at s k) r (∈-get_or s.trail k 0 h) i' (λ z. no-clash s w (opposite m) t (subst (λ x. x ∈ s.trail) (sym z) (∈-get_or s.trail k 0 h))) in
           subst (λ x. Implied held core x) d (rec o (omega (arith, b, l)) (omega (arith, b, h)) (subst (IsReachedFrom s failed) (sym d) y))
 

@@ -6,7 +6,7 @@ use Rattle.varisat_theory.proofs.Members.{equal_or_not}
 use Rattle.varisat_clause.specs.Stored.{StoredClause, IsPlace, AreRising, stored_at, header_at}
 use Rattle.varisat_clause.specs.Collected.{live_of}
 use Rattle.varisat_clause.specs.Filters.{deleted_at}
-use Rattle.varisat_clause.specs.Reductions.{unmarked, all_deleted}
+use Rattle.varisat_clause.specs.Reductions.{unmarked_places, all_deleted}
 use Rattle.varisat_clause.proofs.StoredClauses.{clause-same, clause-other}
 use Rattle.varisat_clause.proofs.DatabaseTracks.{place-is}
 use Rattle.varisat_prop.proofs.SimplifiedPairs.{∈-filter}
@@ -63,12 +63,12 @@ deleted-from (p ∷ ps) ks q h e =
     (deleted-from ps (deleted_at ks p) q (λ x i. headers-place ks (deleted_at ks p) x (one-placed ks p) (h x (inr i))) e)
 
 -- the places that a reduction takes
-pub unmarked-∈ : (ks : List StoredClause) (n : ℕ) (ps : List ℕ) (q : ℕ) → q ∈ unmarked ks n ps → (q ∈ ps) × ((header_at ks q).mark ≡ false)
+pub unmarked-∈ : (ks : List StoredClause) (n : ℕ) (ps : List ℕ) (q : ℕ) → q ∈ unmarked_places ks n ps → (q ∈ ps) × ((header_at ks q).mark ≡ false)
 unmarked-∈ ks n [] q h = absurd h
 unmarked-∈ ks zero (p ∷ ps) q h = absurd h
 unmarked-∈ ks (suc n) (p ∷ ps) q h = go (header_at ks p).mark refl h (unmarked-∈ ks (suc n) ps q) (unmarked-∈ ks n ps q)
   where
-    go : (b : Bool) → (header_at ks p).mark ≡ b → q ∈ cond b (unmarked ks (suc n) ps) (p ∷ unmarked ks n ps) → (q ∈ unmarked ks (suc n) ps → (q ∈ ps) × ((header_at ks q).mark ≡ false)) → (q ∈ unmarked ks n ps → (q ∈ ps) × ((header_at ks q).mark ≡ false)) → (q ∈ (p ∷ ps)) × ((header_at ks q).mark ≡ false)
+    go : (b : Bool) → (header_at ks p).mark ≡ b → q ∈ cond b (unmarked_places ks (suc n) ps) (p ∷ unmarked_places ks n ps) → (q ∈ unmarked_places ks (suc n) ps → (q ∈ ps) × ((header_at ks q).mark ≡ false)) → (q ∈ unmarked_places ks n ps → (q ∈ ps) × ((header_at ks q).mark ≡ false)) → (q ∈ (p ∷ ps)) × ((header_at ks q).mark ≡ false)
     go true e i f g = let r = f i in (inr r.0, r.1)
     go false e (inl o) f g = (inl o, subst (λ (x : ℕ). (header_at ks x).mark ≡ false) (sym o) e)
     go false e (inr i) f g = let r = g i in (inr r.0, r.1)

@@ -5,7 +5,7 @@ use Rattle.std.proofs.Math.ListN.{drop_of_length-le}
 use Rattle.std.proofs.lemmas.Bool.{cases_lt}
 use Rattle.varisat_theory.specs.Literals.{variable_of}
 use Rattle.varisat_clause.specs.Stored.{StoredClause, no_clause}
-use Rattle.varisat_clause.specs.Stores.{Store, clauses_of, IsSound}
+use Rattle.varisat_clause.specs.Stores.{Store, stored_clauses, IsSound}
 use Rattle.varisat_clause.specs.Databases.{total, size_of}
 use Rattle.varisat_clause.specs.Collected.{live_of, live_clauses}
 use Rattle.varisat_analysis.proofs.DeletedPlaces.{same-head, same-tail}
@@ -13,14 +13,14 @@ use Rattle.varisat_clause.proofs.DatabaseTracks.{true-or-false, sizes-within}
 use Rattle.varisat_prop.specs.declared.prop.graph.Reason.TheVariants as reason
 use Rattle.varisat_prop.specs.declared.prop.graph.ImplNode.{ImplNode}
 use Rattle.varisat_prop.specs.View.{no_node}
-use Rattle.varisat_prop.specs.Watches.{at}
+use Rattle.varisat_prop.specs.Watches.{literal_in}
 use Rattle.varisat_analysis.specs.Reductions.{is_reason}
 use Rattle.varisat_analysis.specs.Collections.{repointed, repointed_each}
 
 -- one reason is moved, or is not
 module _ (values : List (Option Bool)) (ns : List ImplNode) (k : StoredClause) (q : ℕ) where
   abbrev v : ℕ
-  v = variable_of (at k.literals 0)
+  v = variable_of (literal_in k.literals 0)
 
   abbrev moved : List ImplNode
   moved = set ns v (record (get_or ns v no_node) { reason = reason.Long q })
@@ -31,7 +31,7 @@ module _ (values : List (Option Bool)) (ns : List ImplNode) (k : StoredClause) (
   pub repoint-not : is_reason values ns k ≡ false → repointed values ns k q ≡ ns
   repoint-not e = ap (λ b. cond b moved ns) e
 
-pub repoint-done : (values : List (Option Bool)) (ns ms : List ImplNode) (k : StoredClause) (v q : ℕ) → is_reason values ns k ≡ true → v ≡ variable_of (at k.literals 0) → ms ≡ set ns v (record (get_or ns v no_node) { reason = reason.Long q }) → ms ≡ repointed values ns k q
+pub repoint-done : (values : List (Option Bool)) (ns ms : List ImplNode) (k : StoredClause) (v q : ℕ) → is_reason values ns k ≡ true → v ≡ variable_of (literal_in k.literals 0) → ms ≡ set ns v (record (get_or ns v no_node) { reason = reason.Long q }) → ms ≡ repointed values ns k q
 repoint-done values ns ms k v q e f g = g ∙ ap (λ (x : ℕ). set ns x (record (get_or ns x no_node) { reason = reason.Long q })) f ∙ sym (repoint-is values ns k q e)
 
 -- the first clause of those that are left
@@ -73,14 +73,14 @@ left-none values ks js i ps ns e f = go (drop i ks) (sym f ∙ e)
 pub repoint-length : (values : List (Option Bool)) (ns : List ImplNode) (k : StoredClause) (q : ℕ) → length (repointed values ns k q) ≡ length ns
 repoint-length values ns k q =
     ⊎_elim
-    (λ e. ap length (repoint-is values ns k q e) ∙ length-set ns (variable_of (at k.literals 0)) (record (get_or ns (variable_of (at k.literals 0)) no_node) { reason = reason.Long q }))
+    (λ e. ap length (repoint-is values ns k q e) ∙ length-set ns (variable_of (literal_in k.literals 0)) (record (get_or ns (variable_of (literal_in k.literals 0)) no_node) { reason = reason.Long q }))
     (λ e. ap length (repoint-not values ns k q e))
     (true-or-false (is_reason values ns k))
 
 -- a store has no more clauses than words
 pub live-few : (s : Store) → IsSound s → length (live_clauses s) < 2 ^ 32
 live-few s ok =
-    let a = count (clauses_of s) in
+    let a = count (stored_clauses s) in
     let b = sizes-within s ok in
     let c = ok.small in
     omega (arith, a, b, c)

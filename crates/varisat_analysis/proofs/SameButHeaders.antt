@@ -7,10 +7,10 @@ use Rattle.varisat_theory.proofs.Members.{equal_or_not}
 use Rattle.varisat_clause.specs.declared.header.Tier.TheVariants as tier
 use Rattle.varisat_clause.specs.Tiers.{is_tier}
 use Rattle.varisat_clause.specs.Headers.{Header}
-use Rattle.varisat_clause.specs.Stored.{StoredClause, literals_of, literals_at, stored_at, header_at, with_clause, with_header, IsPlace, AreRising}
+use Rattle.varisat_clause.specs.Stored.{StoredClause, literals_of, literals_at, stored_at, header_at, with_stored, with_header, IsPlace, AreRising}
 use Rattle.varisat_clause.specs.Collected.{live_of}
 use Rattle.varisat_clause.proofs.StoredClauses.{stored-here, stored-later, clause-here, clause-later}
-use Rattle.varisat_prop.specs.Watches.{Watches, list_of, at, HasWatch, IsWatching}
+use Rattle.varisat_prop.specs.Watches.{Watches, watches_of, literal_in, HasWatch, IsWatching}
 use Rattle.varisat_analysis.specs.HeaderChanges.{kept_clause, PlacedClause, placed_clause, SameButHeaders}
 
 pub headers-refl : (ks : List StoredClause) → SameButHeaders ks ks
@@ -88,7 +88,7 @@ module _ (ks js : List StoredClause) (d : SameButHeaders ks js) where
   pub headers-watching : (W : Watches) → IsWatching W ks → IsWatching W js
   headers-watching W w = record {
     known = λ x y h. let k = w.known x y h in (headers-place ks js y.cref d k.0, subst (λ c. y.blocking ∈ c) (sym (headers-at y.cref)) k.1);
-    watched = λ i j h b. subst (λ c. HasWatch (list_of W (opposite (at c j))) i) (sym (headers-at i)) (w.watched i j (headers-place js ks i (sym d) h) b);
+    watched = λ i j h b. subst (λ c. HasWatch (watches_of W (opposite (literal_in c j))) i) (sym (headers-at i)) (w.watched i j (headers-place js ks i (sym d) h) b);
   }
 
 -- a clause without its header but for whether it is deleted
@@ -121,7 +121,7 @@ map-same look f [] h = refl
 map-same look f (k ∷ ks) h = ap₂ (λ x xs. x ∷ xs) (h k) (map-same look f ks h)
 
 -- one clause does
-pub with-same-look : {X : Type 0} (look : StoredClause → X) (ks : List StoredClause) (p : ℕ) (j : StoredClause) → look j ≡ look (stored_at ks p) → map look (with_clause ks p j) ≡ map look ks
+pub with-same-look : {X : Type 0} (look : StoredClause → X) (ks : List StoredClause) (p : ℕ) (j : StoredClause) → look j ≡ look (stored_at ks p) → map look (with_stored ks p j) ≡ map look ks
 with-same-look look [] p j e = refl
 with-same-look look (k ∷ ks) p j e =
     ⊎_elim

@@ -18,10 +18,10 @@ use Rattle.varisat_clause.proofs.StoredClauses.{reordered-old}
 use Rattle.varisat_prop.proofs.WellFormedChanges.{stored-kept, kept-here}
 use Rattle.varisat_prop.proofs.KeptPairs.{implied-kept}
 use Rattle.varisat_prop.specs.View.{View, pairs_from, kept, clause_at, literal_at, decision_at, no_node, node_of, node_at, level_of, is_clause, StandsBefore, Implies, IsReason, WellFormed, LevelsSettled, ViewFits}
-use Rattle.varisat_prop.specs.Changes.{NamesClause, NamesPlace, others_of, causes_of, named_in, IsNamed, IsConflicting}
+use Rattle.varisat_prop.specs.Changes.{NamesClause, NamesPlace, others_of, causes_of, named_in, NamesKeptClause, IsConflicting}
 use Rattle.varisat_prop.proofs.LiteralValues.{same-variable, variable-opposite, made-clash, made-inside}
 use Rattle.varisat_prop.proofs.TrailValues.{trail-true}
-use Rattle.varisat_analysis.specs.Learned.{current_level, clause_of, names_of, reason_clause}
+use Rattle.varisat_analysis.specs.Learned.{current_level, implying_clause, names_of, reason_clause}
 
 -- where kept clauses are reordered, each was kept before as a set
 pub kept-reordered : (s t : View) → AreReordered s.clauses t.clauses → t.binary ≡ s.binary → (c : Clause) → c ∈ kept t → (d : Clause) × (d ∈ kept s) × SameSet c d
@@ -32,11 +32,11 @@ kept-reordered s t a b c h =
     (∈-append_cases c (literals_of t.clauses) (pairs_from 0 t.binary) h)
 
 -- a clause that is named is kept, its literals in one of the orders
-pub named-kept : (s : View) → WellFormed s → (f : Conflict) → IsNamed s f → (d : Clause) × (d ∈ kept s) × SameSet d (named_in s.clauses f)
+pub named-kept : (s : View) → WellFormed s → (f : Conflict) → NamesKeptClause s f → (d : Clause) × (d ∈ kept s) × SameSet d (named_in s.clauses f)
 named-kept s w (conflict.Binary ms) (l, m, e, i) = subst (λ x. (d : Clause) × (d ∈ kept s) × SameSet d x) (sym e) (implied-kept s w l m i)
 named-kept s w (conflict.Long p) h = (clause_at s p, kept-here s p h, ((λ x i. i), (λ x i. i)))
 
-pub named-place : (s : View) (f : Conflict) → IsNamed s f → NamesPlace s.clauses f
+pub named-place : (s : View) (f : Conflict) → NamesKeptClause s f → NamesPlace s.clauses f
 named-place s (conflict.Binary ms) h = tt
 named-place s (conflict.Long p) h = h
 
@@ -112,7 +112,7 @@ module _ (s : View) (w : WellFormed s) where
       omega (arith, l, f, g)
 
   -- the other literals of a clause that is a reason stand before the literal
-  pub reason-before : (k : ℕ) (r : Reason) (m : Literal) → IsReason s k r → m ∈ clause_of s (literal_at s k) r → (m ≡ literal_at s k) ⊎ StandsBefore s k (opposite m)
+  pub reason-before : (k : ℕ) (r : Reason) (m : Literal) → IsReason s k r → m ∈ implying_clause s (literal_at s k) r → (m ≡ literal_at s k) ⊎ StandsBefore s k (opposite m)
   reason-before k reason.Unit m h i = absurd i
   reason-before k (reason.Binary ms) m (n, e, a, b) i = ⊎_elim
       inl
@@ -134,13 +134,13 @@ module _ (s : View) (w : WellFormed s) where
       (reason-before k (node_at s k).reason (opposite x) (w.reason_is k h) i)
 
   -- a reason's clause is kept
-  pub reason-kept : (k : ℕ) (r : Reason) → is_clause r ≡ true → IsReason s k r → (d : Clause) × (d ∈ kept s) × SameSet d (clause_of s (literal_at s k) r)
+  pub reason-kept : (k : ℕ) (r : Reason) → is_clause r ≡ true → IsReason s k r → (d : Clause) × (d ∈ kept s) × SameSet d (implying_clause s (literal_at s k) r)
   reason-kept k reason.Unit c h = absurd cc
   reason-kept k (reason.Binary ms) c (m, e, a, b) = subst (λ x. (d : Clause) × (d ∈ kept s) × SameSet d x) (ap (λ x. literal_at s k ∷ x ∷ []) (opposite_twice m) ∙ ap (λ x. literal_at s k ∷ x) (sym e)) (implied-kept s w (opposite m) (literal_at s k) a)
   reason-kept k (reason.Long p) c h = (clause_at s p, kept-here s p h.0, ((λ x i. i), (λ x i. i)))
 
   -- and has the literal first
-  pub reason-first : (k : ℕ) (r : Reason) → is_clause r ≡ true → IsReason s k r → literal_at s k ∈ clause_of s (literal_at s k) r
+  pub reason-first : (k : ℕ) (r : Reason) → is_clause r ≡ true → IsReason s k r → literal_at s k ∈ implying_clause s (literal_at s k) r
   reason-first k reason.Unit c h = absurd cc
   reason-first k (reason.Binary ms) c h = inl refl
   reason-first k (reason.Long p) c h = by (clause_at s p) h.1
@@ -150,7 +150,7 @@ module _ (s : View) (w : WellFormed s) where
       by (x ∷ d) g = inl (sym g.0)
 
   -- the clause is the literal and what the reason makes false, which is false by literals before it
-  pub reason-split : (k : ℕ) (r : Reason) (m : Literal) → IsReason s k r → m ∈ clause_of s (literal_at s k) r → (m ≡ literal_at s k) ⊎ ((m ∈ causes_of s.clauses r) × StandsBefore s k (opposite m))
+  pub reason-split : (k : ℕ) (r : Reason) (m : Literal) → IsReason s k r → m ∈ implying_clause s (literal_at s k) r → (m ≡ literal_at s k) ⊎ ((m ∈ causes_of s.clauses r) × StandsBefore s k (opposite m))
   reason-split k reason.Unit m h i = absurd i
   reason-split k (reason.Binary ms) m h (inl e) = inl e
   reason-split k (reason.Binary ms) m (n, e, a, b) (inr i) = inr (i, ⊎_elim (λ f. subst (λ x. StandsBefore s k (opposite x)) (sym f) b) (λ z. absurd z) (subst (λ x. m ∈ x) e i))
@@ -162,11 +162,11 @@ module _ (s : View) (w : WellFormed s) where
       by (x ∷ d) g (inr j) = inr (j, g.1 m j)
 
   -- a name of it names it
-  pub reason-named : (k : ℕ) (r : Reason) (g : Conflict) → IsReason s k r → g ∈ names_of (literal_at s k) r → IsNamed s g × (named_in s.clauses g ≡ clause_of s (literal_at s k) r)
+  pub reason-named : (k : ℕ) (r : Reason) (g : Conflict) → IsReason s k r → g ∈ names_of (literal_at s k) r → NamesKeptClause s g × (named_in s.clauses g ≡ implying_clause s (literal_at s k) r)
   reason-named k reason.Unit g h i = absurd i
-  reason-named k (reason.Binary ms) g (m, e, a, b) (inl f) = subst (λ x. IsNamed s x × (named_in s.clauses x ≡ literal_at s k ∷ ms)) (sym f) ((opposite m, literal_at s k, ap (λ x. literal_at s k ∷ x) e ∙ ap (λ x. literal_at s k ∷ x ∷ []) (sym (opposite_twice m)), a), refl)
+  reason-named k (reason.Binary ms) g (m, e, a, b) (inl f) = subst (λ x. NamesKeptClause s x × (named_in s.clauses x ≡ literal_at s k ∷ ms)) (sym f) ((opposite m, literal_at s k, ap (λ x. literal_at s k ∷ x) e ∙ ap (λ x. literal_at s k ∷ x ∷ []) (sym (opposite_twice m)), a), refl)
   reason-named k (reason.Binary ms) g h (inr z) = absurd z
-  reason-named k (reason.Long p) g h (inl f) = subst (λ x. IsNamed s x × (named_in s.clauses x ≡ clause_at s p)) (sym f) (h.0, refl)
+  reason-named k (reason.Long p) g h (inl f) = subst (λ x. NamesKeptClause s x × (named_in s.clauses x ≡ clause_at s p)) (sym f) (h.0, refl)
   reason-named k (reason.Long p) g h (inr z) = absurd z
 
   pub last-in : 0 < current_level s → length s.decisions - 1 < length s.decisions
@@ -215,7 +215,7 @@ module _ (s : View) (w : WellFormed s) where
       (cases_lt 0 (length s.decisions))
 
   -- a literal with a kept clause as its reason is implied where the opposites of the clause's others are
-  pub implied-by : (held : List Clause) (base : List Literal) → ViewFits held s → (k : ℕ) (r : Reason) → is_clause r ≡ true → IsReason s k r → ((m : Literal) → m ∈ clause_of s (literal_at s k) r → StandsBefore s k (opposite m) → Implied held base (opposite m)) → Implied held base (literal_at s k)
+  pub implied-by : (held : List Clause) (base : List Literal) → ViewFits held s → (k : ℕ) (r : Reason) → is_clause r ≡ true → IsReason s k r → ((m : Literal) → m ∈ implying_clause s (literal_at s k) r → StandsBefore s k (opposite m) → Implied held base (opposite m)) → Implied held base (literal_at s k)
   implied-by held base f k r c h g =
       let (x, y, z) = reason-kept k r c h in
       let (d, i, e) = f.stored x y in

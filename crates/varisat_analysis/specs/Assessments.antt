@@ -8,8 +8,8 @@ use Rattle.varisat_clause.specs.declared.header.Tier.TheVariants.{Irred, Core, M
 use Rattle.varisat_clause.specs.Tiers.{is_tier}
 use Rattle.varisat_clause.specs.Headers.{Header, no_header}
 use Rattle.varisat_clause.specs.Stored.{StoredClause, header_at, literals_at, with_header}
-use Rattle.varisat_clause.specs.Stores.{Store, clauses_of, Holds}
-use Rattle.varisat_clause.specs.ClauseActivities.{ActivityScale, with_activity, clauses_rescaled, scale_rescaled, reaches_limit}
+use Rattle.varisat_clause.specs.Stores.{Store, stored_clauses, HoldsClauses}
+use Rattle.varisat_clause.specs.ClauseActivities.{ActivityScale, with_activity, clauses_rescaled, scale_rescaled, reaches_clause_limit}
 use Rattle.varisat_prop.specs.declared.prop.graph.ImplNode.{ImplNode}
 use Rattle.varisat_prop.specs.declared.prop.graph.Conflict.{Conflict}
 use Rattle.varisat_prop.specs.declared.prop.graph.Conflict.TheVariants as conflict
@@ -52,8 +52,8 @@ activity_bumped p x = (header_at x.clauses p).activity + x.scale.increment
 -- The clause at the place has that activity; where it reaches the limit, all are shifted.
 abbrev pub with_bump : ℕ → Scored → Scored
 with_bump p x = record {
-  clauses = with_activity (clauses_rescaled (reaches_limit (activity_bumped p x)) x.clauses) p (if reaches_limit (activity_bumped p x) then activity_bumped p x / 2 ^ 16 else activity_bumped p x);
-  scale = scale_rescaled (reaches_limit (activity_bumped p x)) x.scale;
+  clauses = with_activity (clauses_rescaled (reaches_clause_limit (activity_bumped p x)) x.clauses) p (if reaches_clause_limit (activity_bumped p x) then activity_bumped p x / 2 ^ 16 else activity_bumped p x);
+  scale = scale_rescaled (reaches_clause_limit (activity_bumped p x)) x.scale;
 }
 
 -- The clause at the place takes part in a conflict: it is active, its glue and its tier are improved, and it is bumped.
@@ -73,8 +73,8 @@ increment_decayed x = x.scale.increment * 1000 / x.scale.decay
 -- Later bumps add more; where the increment reaches the limit, it and all activities are shifted.
 abbrev pub clauses_decayed : Scored → Scored
 clauses_decayed x = record {
-  clauses = clauses_rescaled (reaches_limit (increment_decayed x)) x.clauses;
-  scale = scale_rescaled (reaches_limit (increment_decayed x)) (record x.scale { increment = increment_decayed x });
+  clauses = clauses_rescaled (reaches_clause_limit (increment_decayed x)) x.clauses;
+  scale = scale_rescaled (reaches_clause_limit (increment_decayed x)) (record x.scale { increment = increment_decayed x });
 }
 
 -- The literals' variables have a level, each of these has a flag, and no flag is set.
@@ -85,11 +85,11 @@ pub record CanCount (nodes : List ImplNode) (lits : List Literal) (flags : List 
 
 -- the clauses of the store, with the scale
 abbrev pub scored : Store → ActivityScale → Scored
-scored s a = record { clauses = clauses_of s; scale = a }
+scored s a = record { clauses = stored_clauses s; scale = a }
 
 -- The named clauses of the store take part in a conflict, in turn, and then the activities decay.
 pub record BumpsClauses (nodes : List ImplNode) (names : List Conflict) (s t : Store) (a b : ActivityScale) : Type 0 where
-  pub store : Holds t (length s.words) (clauses_decayed (clauses_bumped nodes names (scored s a))).clauses
+  pub store : HoldsClauses t (length s.words) (clauses_decayed (clauses_bumped nodes names (scored s a))).clauses
   pub scale : b ≡ (clauses_decayed (clauses_bumped nodes names (scored s a))).scale
 
 -- the literal or its opposite is on the trail

@@ -7,7 +7,7 @@ use Rattle.varisat_prop.specs.declared.prop.graph.Reason.{Reason}
 use Rattle.varisat_prop.specs.declared.prop.graph.Reason.TheVariants as reason
 use Rattle.varisat_prop.specs.declared.prop.graph.ImplNode.{ImplNode}
 use Rattle.varisat_prop.specs.View.{View, no_node, node_at}
-use Rattle.varisat_prop.specs.Watches.{at}
+use Rattle.varisat_prop.specs.Watches.{literal_in}
 use Rattle.varisat_analysis.specs.Reductions.{is_reason}
 
 -- where the clause at the place of the first list stands in the second, in which the i-th is the i-th of the first
@@ -33,7 +33,7 @@ pub record Repacks (s t : View) : Type 0 where
 -- the clause is the reason of its first literal at the other place from now on, where it was so
 abbrev pub repointed : List (Option Bool) → List ImplNode → StoredClause → ℕ → List ImplNode
 repointed values nodes k q =
-    if is_reason values nodes k then slice_set nodes (variable_of (at k.literals 0)) (record (slice_index_or nodes (variable_of (at k.literals 0)) no_node) { reason = reason.Long q }) else nodes
+    if is_reason values nodes k then slice_set nodes (variable_of (literal_in k.literals 0)) (record (slice_index_or nodes (variable_of (literal_in k.literals 0)) no_node) { reason = reason.Long q }) else nodes
 
 -- each clause in turn, to the place of the one of the second list
 abbrev pub repointed_each : List (Option Bool) → List StoredClause → List StoredClause → List ImplNode → List ImplNode

@@ -12,7 +12,7 @@ use Rattle.varisat_prop.specs.declared.prop.graph.ImplNode.{ImplNode}
 use Rattle.varisat_clause.specs.Stores.{Store, IsSound}
 use Rattle.varisat_clause.specs.Collected.{live_clauses}
 use Rattle.varisat_prop.specs.Parts.{TrailParts}
-use Rattle.varisat_prop.specs.Changes.{named_in, IsNamed}
+use Rattle.varisat_prop.specs.Changes.{named_in, NamesKeptClause}
 use Rattle.varisat_prop.specs.View.{View, clause_at, literal_at, node_at, node_of, level_of, ViewFits}
 
 -- the learned clause, the clauses that it came from, and for how many variables there are flags
@@ -41,10 +41,10 @@ abbrev pub IsOfCurrentLevel : View → ℕ → Type 0
 IsOfCurrentLevel s k = (k < length s.trail) × ((node_at s k).level ≡ current_level s)
 
 -- the clause by which the literal is true for the reason, the empty one where there is none
-abbrev pub clause_of : View → Literal → Reason → Clause
-clause_of s l reason.Unit = []
-clause_of s l (reason.Binary ms) = l ∷ ms
-clause_of s l (reason.Long i) = clause_at s i
+abbrev pub implying_clause : View → Literal → Reason → Clause
+implying_clause s l reason.Unit = []
+implying_clause s l (reason.Binary ms) = l ∷ ms
+implying_clause s l (reason.Long i) = clause_at s i
 
 -- its name, if there is one
 abbrev pub names_of : Literal → Reason → List Conflict
@@ -54,7 +54,7 @@ names_of l (reason.Long i) = conflict.Long i ∷ []
 
 -- the clause that made the literal true, the empty one where none did
 abbrev pub reason_clause : View → Literal → Clause
-reason_clause s l = clause_of s l (node_of s l).reason
+reason_clause s l = implying_clause s l (node_of s l).reason
 
 -- the literal is one of the current level behind place k
 abbrev pub StandsBehind : View → ℕ → Literal → Type 0
@@ -89,7 +89,7 @@ pub record ListsInvolved (s : View) (f : Conflict) (involved : List Conflict) : 
   pub only : (g : Conflict) → g ∈ involved → IsInvolved s f place g
   pub all : (g : Conflict) → IsInvolved s f place g → g ∈ involved
   pub distinct : IsDistinct involved
-  pub named : (g : Conflict) → g ∈ involved → IsNamed s g
+  pub named : (g : Conflict) → g ∈ involved → NamesKeptClause s g
 
 -- The clauses from which a conflict's clause is learned: none at level 0.
 pub record AreInvolved (s : View) (f : Conflict) (involved : List Conflict) : Type 0 where

@@ -8,6 +8,7 @@ use Rattle.varisat_clause.specs.Stores.{IsSound}
 use Rattle.varisat_clause.specs.Collected.{live_clauses}
 use Rattle.varisat_prop.specs.Changes.{causes_of, IsConflicting}
 use Rattle.varisat_prop.specs.View.{View, literal_at, node_at, node_of, level_of, StandsBefore, WellFormed, LevelsSettled, ViewFits}
+use Rattle.varisat_analysis.specs.Flags.{IsFlagged}
 use Rattle.varisat_analysis.specs.declared.analyze_conflict.Parts.{Parts}
 use Rattle.varisat_analysis.specs.declared.analyze_conflict.Scratch.{Scratch}
 use Rattle.varisat_analysis.specs.Learned.{current_level, IsOfCurrentLevel, names_of, IsFirstPoint, ListsInvolved, IsAsserting}
@@ -46,10 +47,6 @@ pub record Marking : Type 0 where
 abbrev pub marking : {A : Type 0} → Scratch A → List Bool → Marking
 marking scratch flags = record { clause = scratch.clause.items; involved = scratch.involved.items; flags = flags; to_clean = scratch.to_clean.items; stack = scratch.stack.items }
 
--- the variable's flag is set
-abbrev pub IsMarked : List Bool → ℕ → Type 0
-IsMarked flags v = slice_index_or flags v false ≡ true
-
 -- no variable is marked, and no clause is begun
 pub record IsClean (x : Marking) : Type 0 where
   pub unmarked : (v : ℕ) → slice_index_or x.flags v false ≡ false
@@ -65,7 +62,7 @@ pub record MayBegin {A : Type 0} (s : View) (parts : Parts A) (f : Conflict) (x 
 
 -- each marked variable is listed, and each listed one has a flag
 pub record MarksAreListed (x : Marking) : Type 0 where
-  pub marked : (v : ℕ) → IsMarked x.flags v → v ∈ x.to_clean
+  pub marked : (v : ℕ) → IsFlagged x.flags v → v ∈ x.to_clean
   pub listed : (v : ℕ) → v ∈ x.to_clean → v < length x.flags
 
 -- the literal is false, at a level above 0 and below the current one
@@ -82,10 +79,10 @@ pub data IsMarkOf (s : View) (i : ℕ) (x : Marking) (v : ℕ) : Type 0 where
 -- The clause's literals are false, of levels between 0 and the current one. The marked variables are theirs, which are listed, and some of the current level that stand before place i.
 pub record Marks (s : View) (i : ℕ) (x : Marking) : Type 0 where
   pub lower : (m : Literal) → m ∈ x.clause → IsLower s m
-  pub marked : (m : Literal) → m ∈ x.clause → IsMarked x.flags (variable_of m)
+  pub marked : (m : Literal) → m ∈ x.clause → IsFlagged x.flags (variable_of m)
   pub distinct : IsDistinct x.clause
   pub listed : (v : ℕ) → v ∈ x.to_clean → v < length s.nodes
-  pub known : (v : ℕ) → IsMarked x.flags v → IsMarkOf s i x v
+  pub known : (v : ℕ) → IsFlagged x.flags v → IsMarkOf s i x v
 
 abbrev pub one_if : Bool → ℕ
 one_if false = 0
@@ -105,10 +102,10 @@ abbrev pub AreFalseBefore : View → ℕ → List Literal → Type 0
 AreFalseBefore s i lits = (m : Literal) → m ∈ lits → StandsBefore s i (opposite m)
 
 -- False literals were marked, those above level 0 in so far as they weren't, and joined the clause where they are below the current level. As many as `count` of the current level are new.
-pub record Adds (s : View) (lits : List Literal) (count : ℕ) (x y : Marking) : Type 0 where
-  pub more : (v : ℕ) → IsMarked x.flags v → IsMarked y.flags v
-  pub only : (v : ℕ) → IsMarked y.flags v → IsMarked x.flags v ⊎ ((m : Literal) × (m ∈ lits) × (variable_of m ≡ v))
-  pub all : (m : Literal) → m ∈ lits → 0 < level_of s m → IsMarked y.flags (variable_of m)
+pub record AddsMarks (s : View) (lits : List Literal) (count : ℕ) (x y : Marking) : Type 0 where
+  pub more : (v : ℕ) → IsFlagged x.flags v → IsFlagged y.flags v
+  pub only : (v : ℕ) → IsFlagged y.flags v → IsFlagged x.flags v ⊎ ((m : Literal) × (m ∈ lits) × (variable_of m ≡ v))
+  pub all : (m : Literal) → m ∈ lits → 0 < level_of s m → IsFlagged y.flags (variable_of m)
   pub longer : x.clause ⊆ y.clause
   pub marks : (i : ℕ) → AreFalseBefore s i lits → i ≤ length s.trail → Marks s i x → Marks s i y
   pub counted : (i : ℕ) → AreFalseBefore s i lits → i ≤ length s.trail → open_below s y.flags i ≡ open_below s x.flags i + count
@@ -117,7 +114,7 @@ pub record Adds (s : View) (lits : List Literal) (count : ℕ) (x y : Marking) :
 -- The literal's reason was listed, and the other literals of the reason added.
 pub record AddsReason (s : View) (l : Literal) (count : ℕ) (x y : Marking) : Type 0 where
   pub listed : y.involved ≡ x.involved ++ names_of l (node_of s l).reason
-  pub adds : Adds s (causes_of s.clauses (node_of s l).reason) count (record x { involved = y.involved }) y
+  pub adds : AddsMarks s (causes_of s.clauses (node_of s l).reason) count (record x { involved = y.involved }) y
 
 -- The clause that is left of the conflict's clause, once it was resolved down to the first unique implication point.
 pub record IsResolved (s : View) (f : Conflict) (first : Literal) (x : Marking) : Type 0 where

@@ -9,7 +9,7 @@ use Rattle.varisat_prop.specs.declared.prop.graph.Reason.{Reason}
 use Rattle.varisat_prop.specs.declared.prop.graph.Reason.TheVariants as reason
 use Rattle.varisat_prop.specs.declared.prop.graph.ImplNode.{ImplNode}
 use Rattle.varisat_prop.specs.View.{View, no_node, node_at}
-use Rattle.varisat_prop.specs.Watches.{at}
+use Rattle.varisat_prop.specs.Watches.{literal_in}
 use Rattle.varisat_analysis.specs.HeaderChanges.{SameButHeaders}
 
 -- the reason is the clause at the place
@@ -21,7 +21,7 @@ is_clause_at (reason.Long q) p = nat_eq q p
 -- The clause is the reason of its first literal, whose variable has a value.
 abbrev pub is_reason : List (Option Bool) → List ImplNode → StoredClause → Bool
 is_reason values nodes k =
-    is_some (slice_index_or values (variable_of (at k.literals 0)) None) && is_clause_at (slice_index_or nodes (variable_of (at k.literals 0)) no_node).reason k.place
+    is_some (slice_index_or values (variable_of (literal_in k.literals 0)) None) && is_clause_at (slice_index_or nodes (variable_of (literal_in k.literals 0)) no_node).reason k.place
 
 -- A clause that is not deleted is marked exactly where it is a reason.
 abbrev pub reason_marked : List (Option Bool) → List ImplNode → StoredClause → StoredClause

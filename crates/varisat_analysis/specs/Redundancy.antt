@@ -4,7 +4,8 @@ use Rattle.varisat_theory.specs.Membership.{◌∈◌, ◌⊆◌}
 use Rattle.varisat_theory.specs.Literals.{Literal, opposite, variable_of}
 use Rattle.varisat_prop.specs.Changes.{causes_of}
 use Rattle.varisat_prop.specs.View.{View, node_of, level_of, is_clause}
-use Rattle.varisat_analysis.specs.Marks.{IsMarked, Marking}
+use Rattle.varisat_analysis.specs.Flags.{IsFlagged}
+use Rattle.varisat_analysis.specs.Marks.{Marking}
 
 -- the literal is true, and a clause is its reason
 abbrev pub IsImplied : View → Literal → Type 0
@@ -13,20 +14,20 @@ IsImplied s x = (x ∈ s.trail) × (is_clause (node_of s x).reason ≡ true)
 -- a clause is the literal's reason, and its others are false at level 0 or marked
 abbrev pub IsReasoned : View → List Bool → Literal → Type 0
 IsReasoned s flags x =
-    (is_clause (node_of s x).reason ≡ true) × ((m : Literal) → m ∈ causes_of s.clauses (node_of s x).reason → (level_of s m ≡ 0) ⊎ IsMarked flags (variable_of m))
+    (is_clause (node_of s x).reason ≡ true) × ((m : Literal) → m ∈ causes_of s.clauses (node_of s x).reason → (level_of s m ≡ 0) ⊎ IsFlagged flags (variable_of m))
 
 -- how many flags are not set
-abbrev pub unmarked : List Bool → ℕ
-unmarked [] = 0
-unmarked (true ∷ flags) = unmarked flags
-unmarked (false ∷ flags) = unmarked flags + 1
+abbrev pub count_unmarked : List Bool → ℕ
+count_unmarked [] = 0
+count_unmarked (true ∷ flags) = count_unmarked flags
+count_unmarked (false ∷ flags) = count_unmarked flags + 1
 
 -- The variables that were marked since are those that were listed since, and none of them was marked before.
 pub record ListsNew (x y : Marking) : Type 0 where
-  pub more : (v : ℕ) → IsMarked x.flags v → IsMarked y.flags v
+  pub more : (v : ℕ) → IsFlagged x.flags v → IsFlagged y.flags v
   pub since : List ℕ
   pub longer : y.to_clean ≡ x.to_clean ++ since
-  pub listed : (v : ℕ) → IsMarked y.flags v → IsMarked x.flags v ⊎ (v ∈ since)
+  pub listed : (v : ℕ) → IsFlagged y.flags v → IsFlagged x.flags v ⊎ (v ∈ since)
   pub inside : (v : ℕ) → v ∈ since → v < length x.flags
   pub fresh : (v : ℕ) → v ∈ since → slice_index_or x.flags v false ≡ false
   pub clause : y.clause ≡ x.clause
@@ -35,17 +36,17 @@ pub record ListsNew (x y : Marking) : Type 0 where
 -- Of false literals those above level 0 were marked, in so far as they weren't, and their opposites, which are implied, put on the stack; all of them where it was `done`.
 pub record Explores (s : View) (lits : List Literal) (done : Bool) (x y : Marking) : Type 0 where
   pub list : ListsNew x y
-  pub new : (v : ℕ) → IsMarked y.flags v → IsMarked x.flags v ⊎ ((l : Literal) × (l ∈ y.stack) × IsImplied s l × (variable_of l ≡ v))
+  pub new : (v : ℕ) → IsFlagged y.flags v → IsFlagged x.flags v ⊎ ((l : Literal) × (l ∈ y.stack) × IsImplied s l × (variable_of l ≡ v))
   pub stacked : x.stack ⊆ y.stack
   pub grown : (l : Literal) → l ∈ y.stack → (l ∈ x.stack) ⊎ IsImplied s l
-  pub all : done ≡ true → (m : Literal) → m ∈ lits → (level_of s m ≡ 0) ⊎ IsMarked y.flags (variable_of m)
-  pub count : unmarked y.flags + length y.stack ≡ unmarked x.flags + length x.stack
+  pub all : done ≡ true → (m : Literal) → m ∈ lits → (level_of s m ≡ 0) ⊎ IsFlagged y.flags (variable_of m)
+  pub count : count_unmarked y.flags + length y.stack ≡ count_unmarked x.flags + length x.stack
 
 -- The literal's opposite and whatever was marked are reasoned.
 pub record IsRedundant (s : View) (l : Literal) (x y : Marking) : Type 0 where
   pub list : ListsNew x y
   pub reasoned : IsReasoned s y.flags (opposite l)
-  pub others : (m : Literal) → m ∈ s.trail → IsMarked y.flags (variable_of m) → IsMarked x.flags (variable_of m) ⊎ IsReasoned s y.flags m
+  pub others : (m : Literal) → m ∈ s.trail → IsFlagged y.flags (variable_of m) → IsFlagged x.flags (variable_of m) ⊎ IsReasoned s y.flags m
 
 -- Nothing more is marked.
 pub record IsAsBefore (x y : Marking) : Type 0 where

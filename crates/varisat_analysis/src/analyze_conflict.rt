@@ -6,7 +6,7 @@ ghost use Rattle.varisat_theory.specs.Propagation.{IsFalse};
 ghost use Rattle.varisat_prop.specs.View.{View, level_of, WellFormed, LevelsSettled};
 ghost use Rattle.varisat_prop.specs.Changes.{IsConflicting};
 ghost use Rattle.varisat_analysis.specs.Learned.{no_analysis, names_of, Shows, IsLevelOf, IsLearned, AreInvolved};
-ghost use Rattle.varisat_analysis.specs.Marks.{Sees, CanMark, marking, MayBegin, MarksAreListed, Marks, Adds, AddsReason, IsResolved, Minimizes, Teaches};
+ghost use Rattle.varisat_analysis.specs.Marks.{Sees, CanMark, marking, MayBegin, MarksAreListed, Marks, AddsMarks, AddsReason, IsResolved, Minimizes, Teaches};
 ghost use Rattle.varisat_analysis.specs.Redundancy.{Explores, TellsRedundancy};
 
 use crate::glue::LevelAbstraction;
@@ -128,7 +128,7 @@ fn add_literals<A: Allocator + Copy>(
     ghost s: { View }
     requires can { CanMark s parts var_flags.old }
     requires falsified { IsFalse s.trail lits.now }
-    ensures { IfOk result (λ count. Adds s lits.now count (marking scratch.old var_flags.old) (marking scratch.new var_flags.new)) }
+    ensures { IfOk result (λ count. AddsMarks s lits.now count (marking scratch.old var_flags.old) (marking scratch.new var_flags.new)) }
 {
     let current = parts.trail.current_level();
     let mut count = 0;

@@ -2,7 +2,7 @@
 ghost use Rattle.std.specs.Prelude.{◌≡◌, length, false, true, OnOk, OnErr};
 ghost use Rattle.varisat_theory.specs.Membership.{◌∈◌};
 ghost use Rattle.varisat_clause.specs.Stored.{IsPlace, header_at, literals_at, with_header};
-ghost use Rattle.varisat_clause.specs.Stores.{clauses_of, IsSound, Holds};
+ghost use Rattle.varisat_clause.specs.Stores.{stored_clauses, IsSound, HoldsClauses};
 ghost use Rattle.varisat_clause.specs.Databases.{Tracks};
 ghost use Rattle.varisat_clause.specs.Collected.{live_clauses};
 ghost use Rattle.varisat_prop.specs.Changes.{NamesPlace};
@@ -64,11 +64,11 @@ fn improve_glue<A: Allocator + Copy>(
     impl_graph: &ImplGraph<A>,
     cref: ClauseRef,
 ) -> Result<(), AllocError>
-    requires place { IsPlace (clauses_of alloc.old) cref }
-    requires live { (header_at (clauses_of alloc.old) cref).deleted ≡ false }
+    requires place { IsPlace (stored_clauses alloc.old) cref }
+    requires live { (header_at (stored_clauses alloc.old) cref).deleted ≡ false }
     requires tracks { Tracks db.old alloc.old }
-    requires count { CanCount impl_graph.now.nodes.items (literals_at (clauses_of alloc.old) cref) flags.old }
-    ensures improved { OnOk result (Holds alloc.new (length alloc.old.words) (with_header (clauses_of alloc.old) cref (improved (glue_of impl_graph.now.nodes.items (literals_at (clauses_of alloc.old) cref)) (header_at (clauses_of alloc.old) cref)))) }
+    requires count { CanCount impl_graph.now.nodes.items (literals_at (stored_clauses alloc.old) cref) flags.old }
+    ensures improved { OnOk result (HoldsClauses alloc.new (length alloc.old.words) (with_header (stored_clauses alloc.old) cref (improved (glue_of impl_graph.now.nodes.items (literals_at (stored_clauses alloc.old) cref)) (header_at (stored_clauses alloc.old) cref)))) }
     ensures refused { OnErr result (alloc.new ≡ alloc.old) }
     ensures refused_too { OnErr result (db.new ≡ db.old) }
     ensures flags { flags.new ≡ flags.old }
@@ -92,8 +92,8 @@ fn improve_glue<A: Allocator + Copy>(
 /// Says that the clause is active.
 fn set_active<A: Allocator + Copy>(alloc: &mut ClauseAlloc<A>, cref: ClauseRef)
     requires sound { IsSound alloc.old }
-    requires place { IsPlace (clauses_of alloc.old) cref }
-    ensures { Holds alloc.new (length alloc.old.words) (with_header (clauses_of alloc.old) cref (record (header_at (clauses_of alloc.old) cref) { active = true })) }
+    requires place { IsPlace (stored_clauses alloc.old) cref }
+    ensures { HoldsClauses alloc.new (length alloc.old.words) (with_header (stored_clauses alloc.old) cref (record (header_at (stored_clauses alloc.old) cref) { active = true })) }
 {
     let mut header = alloc.header(cref);
     header.set_active(true);
@@ -110,11 +110,11 @@ pub fn bump_clause<A: Allocator + Copy>(
     impl_graph: &ImplGraph<A>,
     cref: ClauseRef,
 ) -> Result<(), AllocError>
-    requires place { IsPlace (clauses_of alloc.old) cref }
-    requires live { (header_at (clauses_of alloc.old) cref).deleted ≡ false }
+    requires place { IsPlace (stored_clauses alloc.old) cref }
+    requires live { (header_at (stored_clauses alloc.old) cref).deleted ≡ false }
     requires tracks { Tracks db.old alloc.old }
-    requires count { CanCount impl_graph.now.nodes.items (literals_at (clauses_of alloc.old) cref) flags.old }
-    ensures bumped { OnOk result (Holds alloc.new (length alloc.old.words) (clause_bumped impl_graph.now.nodes.items cref (scored alloc.old activity.old)).clauses) }
+    requires count { CanCount impl_graph.now.nodes.items (literals_at (stored_clauses alloc.old) cref) flags.old }
+    ensures bumped { OnOk result (HoldsClauses alloc.new (length alloc.old.words) (clause_bumped impl_graph.now.nodes.items cref (scored alloc.old activity.old)).clauses) }
     ensures scale { OnOk result (activity.new ≡ (clause_bumped impl_graph.now.nodes.items cref (scored alloc.old activity.old)).scale) }
     ensures refused { OnErr result (alloc.new ≡ alloc.old) }
     ensures refused_too { OnErr result (db.new ≡ db.old) }
@@ -140,7 +140,7 @@ pub fn bump_named<A: Allocator + Copy>(
     requires tracks { Tracks db.old alloc.old }
     requires named { (f : Conflict) → f ∈ names.now → NamesPlace (live_clauses alloc.old) f }
     requires count { CanCount impl_graph.now.nodes.items (literals_among (live_clauses alloc.old) names.now) flags.old }
-    ensures bumped { OnOk result (Holds alloc.new (length alloc.old.words) (clauses_bumped impl_graph.now.nodes.items names.now (scored alloc.old activity.old)).clauses) }
+    ensures bumped { OnOk result (HoldsClauses alloc.new (length alloc.old.words) (clauses_bumped impl_graph.now.nodes.items names.now (scored alloc.old activity.old)).clauses) }
     ensures scale { OnOk result (activity.new ≡ (clauses_bumped impl_graph.now.nodes.items names.now (scored alloc.old activity.old)).scale) }
     ensures headers { SameButHeaders (live_clauses alloc.old) (live_clauses alloc.new) }
     ensures flags { flags.new ≡ flags.old }

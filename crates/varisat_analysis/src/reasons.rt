@@ -2,11 +2,11 @@
 ghost use Rattle.std.specs.Prelude.{◌≡◌, ◌<◌, false, length};
 ghost use Rattle.varisat_theory.specs.Membership.{◌∈◌};
 ghost use Rattle.varisat_theory.specs.Literals.{variable_of};
-ghost use Rattle.varisat_clause.specs.Stored.{StoredClause, IsPlace, stored_at, with_clause};
-ghost use Rattle.varisat_clause.specs.Stores.{clauses_of, IsSound, Holds};
+ghost use Rattle.varisat_clause.specs.Stored.{StoredClause, IsPlace, stored_at, with_stored};
+ghost use Rattle.varisat_clause.specs.Stores.{stored_clauses, IsSound, HoldsClauses};
 ghost use Rattle.varisat_clause.specs.Databases.{Database, Tracks};
 ghost use Rattle.varisat_clause.specs.Collected.{live_clauses};
-ghost use Rattle.varisat_prop.specs.Watches.{at};
+ghost use Rattle.varisat_prop.specs.Watches.{literal_in};
 ghost use Rattle.varisat_analysis.specs.Reductions.{is_reason, reason_marked, reasons_marked};
 ghost use Rattle.varisat_analysis.specs.Collections.{repointed, repointed_each};
 
@@ -19,8 +19,8 @@ use varisat_prop::prop::{Assignment, ImplGraph, Reason};
 /// The variable of the clause's first literal.
 pub fn first_var<A: Allocator + Copy>(clause_alloc: &ClauseAlloc<A>, cref: ClauseRef) -> Var
     requires sound { IsSound clause_alloc.now }
-    requires place { IsPlace (clauses_of clause_alloc.now) cref }
-    ensures { result ≡ variable_of (at (stored_at (clauses_of clause_alloc.now) cref).literals 0) }
+    requires place { IsPlace (stored_clauses clause_alloc.now) cref }
+    ensures { result ≡ variable_of (literal_in (stored_at (stored_clauses clause_alloc.now) cref).literals 0) }
 {
     clause_alloc.lits(cref)[0].var()
 }
@@ -33,10 +33,10 @@ pub fn is_reason_clause<A: Allocator + Copy>(
     cref: ClauseRef,
 ) -> bool
     requires sound { IsSound clause_alloc.now }
-    requires place { IsPlace (clauses_of clause_alloc.now) cref }
-    requires value { variable_of (at (stored_at (clauses_of clause_alloc.now) cref).literals 0) < length assignment.now.current }
-    requires node { variable_of (at (stored_at (clauses_of clause_alloc.now) cref).literals 0) < length impl_graph.now.nodes.items }
-    ensures { result ≡ is_reason assignment.now.current impl_graph.now.nodes.items (stored_at (clauses_of clause_alloc.now) cref) }
+    requires place { IsPlace (stored_clauses clause_alloc.now) cref }
+    requires value { variable_of (literal_in (stored_at (stored_clauses clause_alloc.now) cref).literals 0) < length assignment.now.current }
+    requires node { variable_of (literal_in (stored_at (stored_clauses clause_alloc.now) cref).literals 0) < length impl_graph.now.nodes.items }
+    ensures { result ≡ is_reason assignment.now.current impl_graph.now.nodes.items (stored_at (stored_clauses clause_alloc.now) cref) }
 {
     let var = first_var(clause_alloc, cref);
     if assignment.var_value(var).is_none() {
@@ -57,10 +57,10 @@ fn mark_reason<A: Allocator + Copy>(
     cref: ClauseRef,
 )
     requires sound { IsSound clause_alloc.old }
-    requires place { IsPlace (clauses_of clause_alloc.old) cref }
-    requires value { (stored_at (clauses_of clause_alloc.old) cref).header.deleted ≡ false → variable_of (at (stored_at (clauses_of clause_alloc.old) cref).literals 0) < length assignment.now.current }
+    requires place { IsPlace (stored_clauses clause_alloc.old) cref }
+    requires value { (stored_at (stored_clauses clause_alloc.old) cref).header.deleted ≡ false → variable_of (literal_in (stored_at (stored_clauses clause_alloc.old) cref).literals 0) < length assignment.now.current }
     requires nodes { length impl_graph.now.nodes.items ≡ length assignment.now.current }
-    ensures marked { Holds clause_alloc.new (length clause_alloc.old.words) (with_clause (clauses_of clause_alloc.old) cref (reason_marked assignment.now.current impl_graph.now.nodes.items (stored_at (clauses_of clause_alloc.old) cref))) }
+    ensures marked { HoldsClauses clause_alloc.new (length clause_alloc.old.words) (with_stored (stored_clauses clause_alloc.old) cref (reason_marked assignment.now.current impl_graph.now.nodes.items (stored_at (stored_clauses clause_alloc.old) cref))) }
     ensures tracks { (d : Database) → Tracks d clause_alloc.old → Tracks d clause_alloc.new }
 {
     let mut header = clause_alloc.header(cref);
@@ -78,9 +78,9 @@ pub fn mark_reasons<A: Allocator + Copy>(
     impl_graph: &ImplGraph<A>,
 )
     requires sound { IsSound clause_alloc.old }
-    requires values { (k : StoredClause) → k ∈ live_clauses clause_alloc.old → variable_of (at k.literals 0) < length assignment.now.current }
+    requires values { (k : StoredClause) → k ∈ live_clauses clause_alloc.old → variable_of (literal_in k.literals 0) < length assignment.now.current }
     requires nodes { length impl_graph.now.nodes.items ≡ length assignment.now.current }
-    ensures marked { Holds clause_alloc.new (length clause_alloc.old.words) (reasons_marked assignment.now.current impl_graph.now.nodes.items (clauses_of clause_alloc.old)) }
+    ensures marked { HoldsClauses clause_alloc.new (length clause_alloc.old.words) (reasons_marked assignment.now.current impl_graph.now.nodes.items (stored_clauses clause_alloc.old)) }
     ensures tracks { (d : Database) → Tracks d clause_alloc.old → Tracks d clause_alloc.new }
 {
     'clauses: for index in 0..clause_alloc.len() {
@@ -98,10 +98,10 @@ fn repoint_reason<A: Allocator + Copy>(
     new_cref: ClauseRef,
 )
     requires sound { IsSound clause_alloc.now }
-    requires place { IsPlace (clauses_of clause_alloc.now) cref }
-    requires value { variable_of (at (stored_at (clauses_of clause_alloc.now) cref).literals 0) < length assignment.now.current }
-    requires node { variable_of (at (stored_at (clauses_of clause_alloc.now) cref).literals 0) < length impl_graph.old.nodes.items }
-    ensures { impl_graph.new.nodes.items ≡ repointed assignment.now.current impl_graph.old.nodes.items (stored_at (clauses_of clause_alloc.now) cref) new_cref }
+    requires place { IsPlace (stored_clauses clause_alloc.now) cref }
+    requires value { variable_of (literal_in (stored_at (stored_clauses clause_alloc.now) cref).literals 0) < length assignment.now.current }
+    requires node { variable_of (literal_in (stored_at (stored_clauses clause_alloc.now) cref).literals 0) < length impl_graph.old.nodes.items }
+    ensures { impl_graph.new.nodes.items ≡ repointed assignment.now.current impl_graph.old.nodes.items (stored_at (stored_clauses clause_alloc.now) cref) new_cref }
 {
     if is_reason_clause(assignment, clause_alloc, impl_graph, cref) {
         let var = first_var(clause_alloc, cref);
@@ -118,10 +118,10 @@ pub fn repoint_reasons<A: Allocator + Copy>(
     new_alloc: &ClauseAlloc<A>,
 )
     requires sound { IsSound clause_alloc.now }
-    requires count { length (clauses_of new_alloc.now) ≡ length (live_clauses clause_alloc.now) }
-    requires values { (k : StoredClause) → k ∈ live_clauses clause_alloc.now → variable_of (at k.literals 0) < length assignment.now.current }
+    requires count { length (stored_clauses new_alloc.now) ≡ length (live_clauses clause_alloc.now) }
+    requires values { (k : StoredClause) → k ∈ live_clauses clause_alloc.now → variable_of (literal_in k.literals 0) < length assignment.now.current }
     requires nodes { length impl_graph.old.nodes.items ≡ length assignment.now.current }
-    ensures { impl_graph.new.nodes.items ≡ repointed_each assignment.now.current (live_clauses clause_alloc.now) (clauses_of new_alloc.now) impl_graph.old.nodes.items }
+    ensures { impl_graph.new.nodes.items ≡ repointed_each assignment.now.current (live_clauses clause_alloc.now) (stored_clauses new_alloc.now) impl_graph.old.nodes.items }
 {
     let mut index = 0;
     for cref in clauses_iter(clause_alloc) {

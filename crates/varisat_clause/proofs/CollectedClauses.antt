@@ -3,7 +3,7 @@ use Rattle.std.proofs.Common.{◌≡◌, ℕ, zero, suc, ◌+◌, ◌<◌, List,
 use Rattle.varisat_theory.specs.Membership.{◌∈◌}
 use Rattle.varisat_clause.specs.Headers.{Header}
 use Rattle.varisat_clause.specs.Stored.{StoredClause, IsPlace, no_clause, stored_at, header_at, literals_at}
-use Rattle.varisat_clause.specs.Stores.{Store, clause_in, clauses_of, IsSound, Adds, no_store}
+use Rattle.varisat_clause.specs.Stores.{Store, clause_in, stored_clauses, IsSound, AddsStored, no_store}
 use Rattle.varisat_clause.specs.Databases.{Database, total, size_of, Tracks}
 use Rattle.varisat_clause.specs.Collected.{live_of, packed, collected, live_size, IsCollected}
 use Rattle.varisat_clause.proofs.StoreWords.{found-at}
@@ -35,12 +35,12 @@ packed-more p (j ∷ ks) k q e = ap (λ xs. record { place = p; header = record 
 pub record IsCopied (n : Store) (d : Database) (ks : List StoredClause) : Type 0 where
   pub tracks : Tracks d n
   pub words : length n.words ≡ live_size ks
-  pub clauses : clauses_of n ≡ collected ks
+  pub clauses : stored_clauses n ≡ collected ks
 
 pub copied-none : (n : Store) (d : Database) → n ≡ no_store → Tracks d n → IsCopied n d []
-copied-none n d e t = record { tracks = t; words = ap (λ (s : Store). length s.words) e; clauses = ap clauses_of e }
+copied-none n d e t = record { tracks = t; words = ap (λ (s : Store). length s.words) e; clauses = ap stored_clauses e }
 
-pub copied-live : (n m : Store) (d e : Database) (ks : List StoredClause) (k : StoredClause) → IsCopied n d ks → k.header.deleted ≡ false → Adds n m (record { place = length n.words; header = record k.header { mark = false }; literals = k.literals }) → Tracks e m → IsCopied m e (ks ++ k ∷ [])
+pub copied-live : (n m : Store) (d e : Database) (ks : List StoredClause) (k : StoredClause) → IsCopied n d ks → k.header.deleted ≡ false → AddsStored n m (record { place = length n.words; header = record k.header { mark = false }; literals = k.literals }) → Tracks e m → IsCopied m e (ks ++ k ∷ [])
 copied-live n m d e ks k c live a t =
     let l = live-more ks k live in
     record {
@@ -55,7 +55,7 @@ copied-dead n m d e ks k c dead q t =
     record {
       tracks = t;
       words = ap (λ (s : Store). length s.words) q ∙ c.words ∙ sym (ap (total size_of) l);
-      clauses = ap clauses_of q ∙ c.clauses ∙ sym (ap (packed 0) l);
+      clauses = ap stored_clauses q ∙ c.clauses ∙ sym (ap (packed 0) l);
     }
 
 -- the first clauses and the next one
@@ -77,24 +77,24 @@ in-list (p ∷ ps) zero h = inl refl
 in-list (p ∷ ps) (suc i) h = inr (in-list ps i (omega arith))
 
 -- the clause of an index by its place
-pub clause-of-index : (s : Store) (i p : ℕ) → i < length s.places → p ≡ get_or s.places i 0 → get_or (clauses_of s) i no_clause ≡ stored_at (clauses_of s) p
+pub clause-of-index : (s : Store) (i p : ℕ) → i < length s.places → p ≡ get_or s.places i 0 → get_or (stored_clauses s) i no_clause ≡ stored_at (stored_clauses s) p
 clause-of-index s i p h e =
     place-of s.words s.places i h ∙ ap (clause_in s.words) (sym e) ∙ sym (found-at s.words s.places p (subst (λ (x : ℕ). x ∈ s.places) (sym e) (in-list s.places i h)))
 
-pub copied-next : (s n m : Store) (d e : Database) (i p : ℕ) → i < length s.places → p ≡ get_or s.places i 0 → IsCopied n d (take i (clauses_of s)) → ((header_at (clauses_of s) p).deleted ≡ false → Adds n m (record { place = length n.words; header = record (header_at (clauses_of s) p) { mark = false }; literals = literals_at (clauses_of s) p })) → ((header_at (clauses_of s) p).deleted ≡ true → m ≡ n) → Tracks e m → IsCopied m e (take (i + 1) (clauses_of s))
+pub copied-next : (s n m : Store) (d e : Database) (i p : ℕ) → i < length s.places → p ≡ get_or s.places i 0 → IsCopied n d (take i (stored_clauses s)) → ((header_at (stored_clauses s) p).deleted ≡ false → AddsStored n m (record { place = length n.words; header = record (header_at (stored_clauses s) p) { mark = false }; literals = literals_at (stored_clauses s) p })) → ((header_at (stored_clauses s) p).deleted ≡ true → m ≡ n) → Tracks e m → IsCopied m e (take (i + 1) (stored_clauses s))
 copied-next s n m d e i p h q c live dead t =
-    let k : StoredClause = stored_at (clauses_of s) p in
+    let k : StoredClause = stored_at (stored_clauses s) p in
     let l = length-places s.words s.places in
-    let f : take (i + 1) (clauses_of s) ≡ take i (clauses_of s) ++ k ∷ [] = take-next (clauses_of s) i no_clause (omega (arith, h, l)) ∙ ap (λ (x : StoredClause). take i (clauses_of s) ++ x ∷ []) (clause-of-index s i p h q) in
+    let f : take (i + 1) (stored_clauses s) ≡ take i (stored_clauses s) ++ k ∷ [] = take-next (stored_clauses s) i no_clause (omega (arith, h, l)) ∙ ap (λ (x : StoredClause). take i (stored_clauses s) ++ x ∷ []) (clause-of-index s i p h q) in
     subst (IsCopied m e) (sym f) (⊎_elim
-    (λ g. copied-dead n m d e (take i (clauses_of s)) k c g (dead g) t)
-    (λ g. copied-live n m d e (take i (clauses_of s)) k c g (live g) t)
+    (λ g. copied-dead n m d e (take i (stored_clauses s)) k c g (dead g) t)
+    (λ g. copied-live n m d e (take i (stored_clauses s)) k c g (live g) t)
     (true-or-false k.header.deleted))
 
-pub copied-all : (s n : Store) (d : Database) (i : ℕ) → i ≡ length s.places → IsCopied n d (take i (clauses_of s)) → IsCollected n d (clauses_of s)
+pub copied-all : (s n : Store) (d : Database) (i : ℕ) → i ≡ length s.places → IsCopied n d (take i (stored_clauses s)) → IsCollected n d (stored_clauses s)
 copied-all s n d i e c =
     let l = length-places s.words s.places in
-    let f : take i (clauses_of s) ≡ clauses_of s = take_all i (clauses_of s) (omega (arith, e, l)) in
+    let f : take i (stored_clauses s) ≡ stored_clauses s = take_all i (stored_clauses s) (omega (arith, e, l)) in
     let g = subst (IsCopied n d) f c in
     record { store = record { sound = g.tracks.sound; words = g.words; clauses = g.clauses }; tracks = g.tracks }
 
@@ -114,11 +114,11 @@ packed-literals p (k ∷ ks) zero = refl
 packed-literals p (k ∷ ks) (suc i) = packed-literals (p + size_of k) ks i
 
 -- a copy that was added
-pub copied-adds : (s n m : Store) (p q : ℕ) (h : Header) (c : List ℕ) → IsSound s → IsPlace (clauses_of s) p → h ≡ record (header_at (clauses_of s) p) { mark = false } → c ≡ literals_at (clauses_of s) p → Adds n m (record { place = q; header = record h { len = length c }; literals = c }) → Adds n m (record { place = length n.words; header = record (header_at (clauses_of s) p) { mark = false }; literals = literals_at (clauses_of s) p })
+pub copied-adds : (s n m : Store) (p q : ℕ) (h : Header) (c : List ℕ) → IsSound s → IsPlace (stored_clauses s) p → h ≡ record (header_at (stored_clauses s) p) { mark = false } → c ≡ literals_at (stored_clauses s) p → AddsStored n m (record { place = q; header = record h { len = length c }; literals = c }) → AddsStored n m (record { place = length n.words; header = record (header_at (stored_clauses s) p) { mark = false }; literals = literals_at (stored_clauses s) p })
 copied-adds s n m p q h c ok at eh ec a =
-    let k : StoredClause = stored_at (clauses_of s) p in
+    let k : StoredClause = stored_at (stored_clauses s) p in
     let el : length c ≡ k.header.len = ap length ec ∙ sym ((long-at s p ok at).1) in
     let eg : record h { len = length c } ≡ record k.header { mark = false } = ap (λ (x : Header). record x { len = length c }) eh ∙ ap (λ (x : ℕ). record k.header { mark = false; len = x }) el in
-    let a1 = subst (λ (x : ℕ). Adds n m (record { place = x; header = record h { len = length c }; literals = c })) a.place a in
-    let a2 = subst (λ (x : Header). Adds n m (record { place = length n.words; header = x; literals = c })) eg a1 in
-    subst (λ (x : List ℕ). Adds n m (record { place = length n.words; header = record k.header { mark = false }; literals = x })) ec a2
+    let a1 = subst (λ (x : ℕ). AddsStored n m (record { place = x; header = record h { len = length c }; literals = c })) a.place a in
+    let a2 = subst (λ (x : Header). AddsStored n m (record { place = length n.words; header = x; literals = c })) eg a1 in
+    subst (λ (x : List ℕ). AddsStored n m (record { place = length n.words; header = record k.header { mark = false }; literals = x })) ec a2

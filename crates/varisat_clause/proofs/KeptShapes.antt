@@ -5,8 +5,8 @@ use Rattle.varisat_theory.specs.Literals.{Clause}
 use Rattle.varisat_theory.proofs.Members.{equal_or_not}
 use Rattle.varisat_clause.specs.Tiers.{is_tier}
 use Rattle.varisat_clause.specs.Stored.{StoredClause, IsPlace, literals_at, with_literals}
-use Rattle.varisat_clause.specs.Stores.{Store, clauses_of, IsSound, Holds}
-use Rattle.varisat_clause.specs.Databases.{list_of, Database, is_live, total, Tracks}
+use Rattle.varisat_clause.specs.Stores.{Store, stored_clauses, IsSound, HoldsClauses}
+use Rattle.varisat_clause.specs.Databases.{tier_list, Database, is_live, total, Tracks}
 use Rattle.varisat_clause.specs.Shapes.{ClauseShape, shape_of, shapes_of, KeepsShapes}
 use Rattle.varisat_clause.proofs.StoredClauses.{stored-here, stored-later, with-here, with-later}
 
@@ -25,8 +25,8 @@ shapes-with (k ∷ ks) p c e =
     (λ n. ap shapes_of (with-later k ks p c n) ∙ ap (λ xs. shape_of k ∷ xs) (shapes-with ks p c (e ∙ ap (λ (x : StoredClause). length x.literals) (stored-later k ks p n))))
     (equal_or_not k.place p)
 
-pub shapes-changed : (s n : Store) (size p : ℕ) (c : Clause) → length c ≡ length (literals_at (clauses_of s) p) → Holds n size (with_literals (clauses_of s) p c) → KeepsShapes s n
-shapes-changed s n size p c e h = ap shapes_of h.clauses ∙ shapes-with (clauses_of s) p c e
+pub shapes-changed : (s n : Store) (size p : ℕ) (c : Clause) → length c ≡ length (literals_at (stored_clauses s) p) → HoldsClauses n size (with_literals (stored_clauses s) p c) → KeepsShapes s n
+shapes-changed s n size p c e h = ap shapes_of h.clauses ∙ shapes-with (stored_clauses s) p c e
 
 -- the shape of each clause is among the shapes, and each of these is that of a clause
 pub shape-∈ : (ks : List StoredClause) (k : StoredClause) → k ∈ ks → shape_of k ∈ shapes_of ks
@@ -61,11 +61,11 @@ total-same w ks js e = total-shapes w ks ∙ ap (shape-total w) e ∙ sym (total
 pub tracks-shapes : (d : Database) (s t : Store) → Tracks d s → IsSound t → KeepsShapes s t → Tracks d t
 tracks-shapes d s t k sound e = record {
   sound = sound;
-  counts = λ u. k.counts u ∙ total-same (λ x. cond (not x.header.deleted && is_tier u x.header.tier) 1 0) (clauses_of s) (clauses_of t) (sym e);
-  garbage = k.garbage ∙ total-same (λ x. cond x.header.deleted (3 + x.count) 0) (clauses_of s) (clauses_of t) (sym e);
+  counts = λ u. k.counts u ∙ total-same (λ x. cond (not x.header.deleted && is_tier u x.header.tier) 1 0) (stored_clauses s) (stored_clauses t) (sym e);
+  garbage = k.garbage ∙ total-same (λ x. cond x.header.deleted (3 + x.count) 0) (stored_clauses s) (stored_clauses t) (sym e);
   listed = λ x h live.
-      let (j, i, f) = shape-found (clauses_of t) (clauses_of s) x e h in
+      let (j, i, f) = shape-found (stored_clauses t) (stored_clauses s) x e h in
       let l : is_live j ≡ true = ap (λ (y : ClauseShape). not y.header.deleted) (sym f) ∙ live in
-      subst (λ (y : ClauseShape). y.place ∈ list_of y.header.tier d.lists) (sym f) (k.listed j i l);
-  known = λ u p h. shape-place (clauses_of s) (clauses_of t) p (sym e) (k.known u p h);
+      subst (λ (y : ClauseShape). y.place ∈ tier_list y.header.tier d.lists) (sym f) (k.listed j i l);
+  known = λ u p h. shape-place (stored_clauses s) (stored_clauses t) p (sym e) (k.known u p h);
 }

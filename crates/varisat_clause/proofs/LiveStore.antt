@@ -3,8 +3,8 @@ use Rattle.std.proofs.Common.{◌≡◌, ◌≢◌, ℕ, ◌≤◌, List, [], �
 use Rattle.varisat_theory.specs.Membership.{◌∈◌}
 use Rattle.varisat_theory.specs.Literals.{Clause}
 use Rattle.varisat_theory.proofs.Members.{equal_or_not}
-use Rattle.varisat_clause.specs.Stored.{StoredClause, IsPlace, stored_at, literals_at, with_literals, AreRising, Keeps}
-use Rattle.varisat_clause.specs.Stores.{Store, clauses_of, IsSound, Holds, Adds}
+use Rattle.varisat_clause.specs.Stored.{StoredClause, IsPlace, stored_at, literals_at, with_literals, AreRising, AppendsClause}
+use Rattle.varisat_clause.specs.Stores.{Store, stored_clauses, IsSound, HoldsClauses, AddsStored}
 use Rattle.varisat_clause.specs.Collected.{live_of, live_clauses}
 use Rattle.varisat_clause.proofs.StoredClauses.{stored-here, stored-later, stored-∈, with-here, with-later, place-later, place-last}
 use Rattle.varisat_clause.proofs.StoreSound.{are-rising, are-long}
@@ -76,29 +76,29 @@ live-with (j ∷ ks) p c r h =
 
 -- what is read at the place of a clause that is not deleted
 module _ (s : Store) (p : ℕ) (ok : IsSound s) (h : IsPlace (live_clauses s) p) where
-  pub live-stored : stored_at (clauses_of s) p ≡ stored_at (live_clauses s) p
-  live-stored = sym (live-at (clauses_of s) p (are-rising s ok) h)
+  pub live-stored : stored_at (stored_clauses s) p ≡ stored_at (live_clauses s) p
+  live-stored = sym (live-at (stored_clauses s) p (are-rising s ok) h)
 
-  pub live-literals : literals_at (clauses_of s) p ≡ literals_at (live_clauses s) p
+  pub live-literals : literals_at (stored_clauses s) p ≡ literals_at (live_clauses s) p
   live-literals = ap (λ (k : StoredClause). k.literals) live-stored
 
   -- its literals were changed
-  pub live-changed : (n : Store) (size : ℕ) (c : Clause) → Holds n size (with_literals (clauses_of s) p c) → live_clauses n ≡ with_literals (live_clauses s) p c
-  live-changed n size c w = ap live_of w.clauses ∙ live-with (clauses_of s) p c (are-rising s ok) h
+  pub live-changed : (n : Store) (size : ℕ) (c : Clause) → HoldsClauses n size (with_literals (stored_clauses s) p c) → live_clauses n ≡ with_literals (live_clauses s) p c
+  live-changed n size c w = ap live_of w.clauses ∙ live-with (stored_clauses s) p c (are-rising s ok) h
 
 pub are-live-rising : (s : Store) → IsSound s → AreRising (live_clauses s)
-are-live-rising s ok = live-rising (clauses_of s) (are-rising s ok)
+are-live-rising s ok = live-rising (stored_clauses s) (are-rising s ok)
 
 pub are-live-long : (s : Store) → IsSound s → (k : StoredClause) → k ∈ live_clauses s → 3 ≤ length k.literals
-are-live-long s ok k h = (are-long s ok k (live-∈ (clauses_of s) k h).0).0
+are-live-long s ok k h = (are-long s ok k (live-∈ (stored_clauses s) k h).0).0
 
 pub live-long-at : (s : Store) (p : ℕ) → IsSound s → IsPlace (live_clauses s) p → 3 ≤ length (literals_at (live_clauses s) p)
 live-long-at s p ok h = are-live-long s ok (stored_at (live_clauses s) p) (stored-∈ (live_clauses s) p h)
 
 -- a clause that is not deleted was added
-pub live-added : (s n : Store) (k : StoredClause) → Adds s n k → k.header.deleted ≡ false → Keeps (live_clauses s) (live_clauses n) k
-live-added s n k a d = (ap live_of a.clauses.0 ∙ live-more (clauses_of s) k d, λ j h. a.clauses.1 j (live-∈ (clauses_of s) j h).0)
+pub live-added : (s n : Store) (k : StoredClause) → AddsStored s n k → k.header.deleted ≡ false → AppendsClause (live_clauses s) (live_clauses n) k
+live-added s n k a d = (ap live_of a.clauses.0 ∙ live-more (stored_clauses s) k d, λ j h. a.clauses.1 j (live-∈ (stored_clauses s) j h).0)
 
 -- it stands at its place
-pub added-place : (s n : Store) (k : StoredClause) → Adds s n k → k.header.deleted ≡ false → IsPlace (live_clauses n) k.place
+pub added-place : (s n : Store) (k : StoredClause) → AddsStored s n k → k.header.deleted ≡ false → IsPlace (live_clauses n) k.place
 added-place s n k a d = subst (λ ks. IsPlace ks k.place) (sym (live-added s n k a d).0) (place-last (live_clauses s) k)

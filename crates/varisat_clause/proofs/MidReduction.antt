@@ -2,8 +2,8 @@
 use Rattle.std.proofs.Common.{◌≡◌, ℕ, length, Bool, true, false, cond, refl, sym, ap, ◌∙◌}
 use Rattle.varisat_clause.specs.declared.header.Tier.TheVariants.{Mid, Local}
 use Rattle.varisat_clause.specs.Headers.{Header}
-use Rattle.varisat_clause.specs.Stored.{StoredClause, stored_at, header_at, with_clause, with_header}
-use Rattle.varisat_clause.specs.Stores.{Store, clauses_of, IsSound, Holds}
+use Rattle.varisat_clause.specs.Stored.{StoredClause, stored_at, header_at, with_stored, with_header}
+use Rattle.varisat_clause.specs.Stores.{Store, stored_clauses, IsSound, HoldsClauses}
 use Rattle.varisat_clause.specs.Databases.{is_live_in}
 use Rattle.varisat_clause.specs.Reductions.{mid_reduced}
 use Rattle.varisat_clause.proofs.DatabaseTracks.{clause-self}
@@ -31,19 +31,19 @@ mid-moved k e f =
     ∙ ap (λ b. cond b (record k { header = record k.header { active = false } }) (record k { header = record k.header { tier = Local } })) f
 
 -- what the three cases leave
-pub holds-other : (s : Store) (p : ℕ) → IsSound s → is_live_in Mid (stored_at (clauses_of s) p) ≡ false → Holds s (length s.words) (with_clause (clauses_of s) p (mid_reduced (stored_at (clauses_of s) p)))
-holds-other s p ok e = record { sound = ok; words = refl; clauses = sym (ap (with_clause (clauses_of s) p) (mid-other (stored_at (clauses_of s) p) e) ∙ clause-self (clauses_of s) p) }
+pub holds-other : (s : Store) (p : ℕ) → IsSound s → is_live_in Mid (stored_at (stored_clauses s) p) ≡ false → HoldsClauses s (length s.words) (with_stored (stored_clauses s) p (mid_reduced (stored_at (stored_clauses s) p)))
+holds-other s p ok e = record { sound = ok; words = refl; clauses = sym (ap (with_stored (stored_clauses s) p) (mid-other (stored_at (stored_clauses s) p) e) ∙ clause-self (stored_clauses s) p) }
 
-pub holds-active : (s t : Store) (p : ℕ) (h : Header) → is_live_in Mid (stored_at (clauses_of s) p) ≡ true → (header_at (clauses_of s) p).active ≡ true → h ≡ record (header_at (clauses_of s) p) { active = false } → Holds t (length s.words) (with_header (clauses_of s) p h) → Holds t (length s.words) (with_clause (clauses_of s) p (mid_reduced (stored_at (clauses_of s) p)))
+pub holds-active : (s t : Store) (p : ℕ) (h : Header) → is_live_in Mid (stored_at (stored_clauses s) p) ≡ true → (header_at (stored_clauses s) p).active ≡ true → h ≡ record (header_at (stored_clauses s) p) { active = false } → HoldsClauses t (length s.words) (with_header (stored_clauses s) p h) → HoldsClauses t (length s.words) (with_stored (stored_clauses s) p (mid_reduced (stored_at (stored_clauses s) p)))
 holds-active s t p h e f q o = record {
   sound = o.sound;
   words = o.words;
-  clauses = o.clauses ∙ ap (with_header (clauses_of s) p) q ∙ sym (ap (with_clause (clauses_of s) p) (mid-active (stored_at (clauses_of s) p) e f));
+  clauses = o.clauses ∙ ap (with_header (stored_clauses s) p) q ∙ sym (ap (with_stored (stored_clauses s) p) (mid-active (stored_at (stored_clauses s) p) e f));
 }
 
-pub holds-moved : (s t : Store) (p : ℕ) → is_live_in Mid (stored_at (clauses_of s) p) ≡ true → (header_at (clauses_of s) p).active ≡ false → Holds t (length s.words) (with_header (clauses_of s) p (record (header_at (clauses_of s) p) { tier = Local })) → Holds t (length s.words) (with_clause (clauses_of s) p (mid_reduced (stored_at (clauses_of s) p)))
+pub holds-moved : (s t : Store) (p : ℕ) → is_live_in Mid (stored_at (stored_clauses s) p) ≡ true → (header_at (stored_clauses s) p).active ≡ false → HoldsClauses t (length s.words) (with_header (stored_clauses s) p (record (header_at (stored_clauses s) p) { tier = Local })) → HoldsClauses t (length s.words) (with_stored (stored_clauses s) p (mid_reduced (stored_at (stored_clauses s) p)))
 holds-moved s t p e f o = record {
   sound = o.sound;
   words = o.words;
-  clauses = o.clauses ∙ sym (ap (with_clause (clauses_of s) p) (mid-moved (stored_at (clauses_of s) p) e f));
+  clauses = o.clauses ∙ sym (ap (with_stored (stored_clauses s) p) (mid-moved (stored_at (stored_clauses s) p) e f));
 }

@@ -2,20 +2,20 @@
 use Rattle.std.proofs.Common.{◌≡◌, ◌≢◌, ℕ, zero, suc, ◌+◌, ◌-◌, ◌<◌, ◌≤◌, ◌^◌, List, [], ◌∷◌, length, take, drop, get_or, set, refl, sym, ap, ◌∙◌, subst, arith, length-set, length-drop}
 use Rattle.std.proofs.lemmas.List.{get_or-set_same, get_or-set_other}
 use Rattle.std.proofs.Math.ListN.{length-take}
-use Rattle.varisat_clause.specs.Headers.{Header, header_from, flags_of}
-use Rattle.varisat_clause.specs.Stored.{StoredClause, IsPlace, stored_at, header_at, literals_at, with_clause, with_header, shortened}
-use Rattle.varisat_clause.specs.Stores.{Store, len_at, header_in, clause_in, clauses_of, IsSound, Holds, header_written}
+use Rattle.varisat_clause.specs.Headers.{Header, header_of_words, flags_of}
+use Rattle.varisat_clause.specs.Stored.{StoredClause, IsPlace, stored_at, header_at, literals_at, with_stored, with_header, shortened}
+use Rattle.varisat_clause.specs.Stores.{Store, len_at, header_in, clause_in, stored_clauses, IsSound, HoldsClauses, header_written}
 use Rattle.varisat_clause.proofs.StoreWords.{found, Rewrites, rewritten, Same, window-same}
 
 -- the words of a clause are read from a copy of the store's
-module _ (s : Store) (p o : ℕ) (w : List ℕ) (ok : IsSound s) (h : IsPlace (clauses_of s) p) (ew : w ≡ s.words) (eo : o ≡ p) where
+module _ (s : Store) (p o : ℕ) (w : List ℕ) (ok : IsSound s) (h : IsPlace (stored_clauses s) p) (ew : w ≡ s.words) (eo : o ≡ p) where
   pub word-in : o + 2 < length w
   word-in = let f = found s p ok h in let l = ap length ew in omega (arith, f.ends, l, eo)
 
   pub flags-in : get_or w (o + 1) 0 < 2 ^ 11
   flags-in = rw (ew, eo) ((found s p ok h).flags)
 
-  pub header-read : header_in w o ≡ header_at (clauses_of s) p
+  pub header-read : header_in w o ≡ header_at (stored_clauses s) p
   header-read = rw (ew, eo) (ap (λ (x : StoredClause). x.header) (sym ((found s p ok h).is)))
 
   pub len-read : (n : ℕ) → n ≡ get_or w (o + 2) 0 → n ≡ len_at s.words p
@@ -24,7 +24,7 @@ module _ (s : Store) (p o : ℕ) (w : List ℕ) (ok : IsSound s) (h : IsPlace (c
   pub literals-end : (n : ℕ) → n ≡ get_or w (o + 2) 0 → o + 3 + n ≤ length w
   literals-end n e = let f = found s p ok h in let l = ap length ew in let k = len-read n e in omega (arith, f.ends, l, eo, k)
 
-  pub literals-read : (n : ℕ) → n ≡ get_or w (o + 2) 0 → take (o + 3 + n - (o + 3)) (drop (o + 3) w) ≡ literals_at (clauses_of s) p
+  pub literals-read : (n : ℕ) → n ≡ get_or w (o + 2) 0 → take (o + 3 + n - (o + 3)) (drop (o + 3) w) ≡ literals_at (stored_clauses s) p
   literals-read n e =
       let m : o + 3 + n - (o + 3) ≡ len_at s.words p = let k = len-read n e in omega (arith, k) in
       rw (m, ew, eo) (ap (λ (x : StoredClause). x.literals) (sym ((found s p ok h).is)))
@@ -60,7 +60,7 @@ module _ (ws : List ℕ) (p : ℕ) (h : Header) (room : p + 2 < length ws) where
   written-length = simp length-set
 
 -- a header of the same length is written
-pub header-put : (s n : Store) (p o : ℕ) (w : List ℕ) (h : Header) → IsSound s → IsPlace (clauses_of s) p → w ≡ s.words → o ≡ p → h.len ≡ (header_at (clauses_of s) p).len → flags_of h < 2 ^ 11 → header_from h.activity (flags_of h) h.len ≡ h → n.words ≡ header_written w o h → n.places ≡ s.places → Holds n (length s.words) (with_header (clauses_of s) p h)
+pub header-put : (s n : Store) (p o : ℕ) (w : List ℕ) (h : Header) → IsSound s → IsPlace (stored_clauses s) p → w ≡ s.words → o ≡ p → h.len ≡ (header_at (stored_clauses s) p).len → flags_of h < 2 ^ 11 → header_of_words h.activity (flags_of h) h.len ≡ h → n.words ≡ header_written w o h → n.places ≡ s.places → HoldsClauses n (length s.words) (with_header (stored_clauses s) p h)
 header-put s n p o w h ok at ew eo el small back en ep =
     let f = found s p ok at in
     let room : p + 2 < length s.words = omega (arith, f.ends) in
@@ -84,14 +84,14 @@ header-put s n p o w h ok at ew eo el small back en ep =
     let lits : take (len_at s.words p) (drop (p + 3) new) ≡ take (len_at s.words p) (drop (p + 3) s.words) = window-same s.words new (p + 3) (len_at s.words p) same in
     let hd : header_in new p ≡ h = rw (written-activity s.words p h room, written-flags s.words p h room, written-len s.words p h room) back in
     let li : take (len_at new p) (drop (p + 3) new) ≡ take (len_at s.words p) (drop (p + 3) s.words) = ap (λ (x : ℕ). take x (drop (p + 3) new)) (written-len s.words p h room ∙ long) ∙ lits in
-    let c : clause_in new p ≡ record (stored_at (clauses_of s) p) { header = h } =
+    let c : clause_in new p ≡ record (stored_at (stored_clauses s) p) { header = h } =
     ap (λ (x : Header). record { place = p; header = x; literals = take (len_at new p) (drop (p + 3) new) }) hd
     ∙ ap (λ (x : List ℕ). record { place = p; header = h; literals = x }) li
     ∙ ap (λ (x : StoredClause). record x { header = h }) (sym f.is) in
     record {
       sound = hold.sound;
       words = hold.words;
-      clauses = hold.clauses ∙ ap (λ (x : List ℕ). with_clause (clauses_of s) p (clause_in x p)) is ∙ ap (with_clause (clauses_of s) p) c;
+      clauses = hold.clauses ∙ ap (λ (x : List ℕ). with_stored (stored_clauses s) p (clause_in x p)) is ∙ ap (with_stored (stored_clauses s) p) c;
     }
 
 -- the first of a longer beginning
@@ -105,7 +105,7 @@ take-take (x ∷ xs) (suc m) zero h = absurd (omega (arith, h))
 take-take (x ∷ xs) (suc m) (suc n) h = ap (λ ys. x ∷ ys) (take-take xs m n (omega (arith, h)))
 
 -- a length is written
-pub length-put : (s n : Store) (p o c : ℕ) (w : List ℕ) → IsSound s → IsPlace (clauses_of s) p → w ≡ s.words → o ≡ p → 3 ≤ c → c ≤ (header_at (clauses_of s) p).len → n.words ≡ set w (o + 2) c → n.places ≡ s.places → Holds n (length s.words) (shortened (clauses_of s) p c)
+pub length-put : (s n : Store) (p o c : ℕ) (w : List ℕ) → IsSound s → IsPlace (stored_clauses s) p → w ≡ s.words → o ≡ p → 3 ≤ c → c ≤ (header_at (stored_clauses s) p).len → n.words ≡ set w (o + 2) c → n.places ≡ s.places → HoldsClauses n (length s.words) (shortened (stored_clauses s) p c)
 length-put s n p o c w ok at ew eo least most en ep =
     let f = found s p ok at in
     let room : p + 2 < length s.words = omega (arith, f.ends) in
@@ -133,9 +133,9 @@ length-put s n p o c w ok at ew eo least most en ep =
     let w0 : get_or new p 0 ≡ get_or s.words p 0 = other p (λ e. absurd (omega (arith, e))) in
     let w1 : get_or new (p + 1) 0 ≡ get_or s.words (p + 1) 0 = other (p + 1) (λ e. absurd (omega (arith, e))) in
     let j : StoredClause → StoredClause = λ (x : StoredClause). record { place = p; header = record x.header { len = c }; literals = take c x.literals } in
-    let e : clause_in new p ≡ j (stored_at (clauses_of s) p) = rw (w0, w1, here, lits) (ap j (sym f.is)) in
+    let e : clause_in new p ≡ j (stored_at (stored_clauses s) p) = rw (w0, w1, here, lits) (ap j (sym f.is)) in
     record {
       sound = hold.sound;
       words = hold.words;
-      clauses = hold.clauses ∙ ap (λ (x : List ℕ). with_clause (clauses_of s) p (clause_in x p)) is ∙ ap (with_clause (clauses_of s) p) e;
+      clauses = hold.clauses ∙ ap (λ (x : List ℕ). with_stored (stored_clauses s) p (clause_in x p)) is ∙ ap (with_stored (stored_clauses s) p) e;
     }

@@ -4,7 +4,7 @@ use Rattle.std.specs.Prelude.{◌&&◌}
 use Rattle.std.proofs.Math.ListN.{length-take}
 use Rattle.varisat_theory.specs.Membership.{◌∈◌}
 use Rattle.varisat_clause.specs.Stored.{StoredClause, IsPlace, AreRising, AreLong, no_clause}
-use Rattle.varisat_clause.specs.Stores.{Store, len_at, clause_in, clauses_of, Lies, Fits, IsSound, lies, fit, is_sound}
+use Rattle.varisat_clause.specs.Stores.{Store, len_at, clause_in, stored_clauses, Lies, FitsWords, IsSound, lies, fit, is_sound}
 use Rattle.varisat_clause.proofs.StoreWords.{lies-at, from-place, to-place}
 
 and-both : (a b : Bool) → a ≡ true → b ≡ true → (a && b) ≡ true
@@ -50,11 +50,11 @@ true-lies ws low high p h =
       flags = from-below (get_or ws (p + 1) 0) (2 ^ 11) (and-right (nat_le low p && nat_le 3 (len_at ws p) && nat_le (p + 3 + len_at ws p) high) (nat_lt (get_or ws (p + 1) 0) (2 ^ 11)) h);
     }
 
-fit-true : (ws : List ℕ) (low high : ℕ) (ps : List ℕ) → Fits ws low high ps → fit ws low high ps ≡ true
+fit-true : (ws : List ℕ) (low high : ℕ) (ps : List ℕ) → FitsWords ws low high ps → fit ws low high ps ≡ true
 fit-true ws low high [] f = at-most low high f
 fit-true ws low high (p ∷ ps) f = and-both (lies ws low high p) (fit ws (p + 3 + len_at ws p) high ps) (lies-true ws low high p f.0) (fit-true ws (p + 3 + len_at ws p) high ps f.1)
 
-true-fits : (ws : List ℕ) (low high : ℕ) (ps : List ℕ) → fit ws low high ps ≡ true → Fits ws low high ps
+true-fits : (ws : List ℕ) (low high : ℕ) (ps : List ℕ) → fit ws low high ps ≡ true → FitsWords ws low high ps
 true-fits ws low high [] h = from-most low high h
 true-fits ws low high (p ∷ ps) h = (true-lies ws low high p (and-left (lies ws low high p) (fit ws (p + 3 + len_at ws p) high ps) h), true-fits ws (p + 3 + len_at ws p) high ps (and-right (lies ws low high p) (fit ws (p + 3 + len_at ws p) high ps) h))
 
@@ -69,16 +69,16 @@ is-sound s h = record {
 }
 
 -- The places rise.
-rising-from : (ws : List ℕ) (low high : ℕ) (ps : List ℕ) → Fits ws low high ps → AreRising (map (clause_in ws) ps)
+rising-from : (ws : List ℕ) (low high : ℕ) (ps : List ℕ) → FitsWords ws low high ps → AreRising (map (clause_in ws) ps)
 rising-from ws low high [] f = tt
 rising-from ws low high (p ∷ ps) f =
     ((λ j h. let l = lies-at ws (p + 3 + len_at ws p) high ps j.place f.1 (from-place ws ps j.place (j, h, refl)) in omega (arith, l.begins)), rising-from ws (p + 3 + len_at ws p) high ps f.1)
 
-pub are-rising : (s : Store) → IsSound s → AreRising (clauses_of s)
+pub are-rising : (s : Store) → IsSound s → AreRising (stored_clauses s)
 are-rising s ok = rising-from s.words 0 (length s.words) s.places ok.fits
 
 -- Each clause has three literals or more, as its header says.
-long-from : (ws : List ℕ) (low high : ℕ) (ps : List ℕ) → high ≤ length ws → Fits ws low high ps → AreLong (map (clause_in ws) ps)
+long-from : (ws : List ℕ) (low high : ℕ) (ps : List ℕ) → high ≤ length ws → FitsWords ws low high ps → AreLong (map (clause_in ws) ps)
 long-from ws low high [] hi f k h = absurd h
 long-from ws low high (p ∷ ps) hi f k (inl e) =
     let l = f.0 in
@@ -86,19 +86,19 @@ long-from ws low high (p ∷ ps) hi f k (inl e) =
     let n : length (take (len_at ws p) (drop (p + 3) ws)) ≡ len_at ws p = simp (length-take, length-drop) (omega (arith, l.ends, hi)) in
     subst (λ (x : StoredClause). (3 ≤ length x.literals) × (x.header.len ≡ length x.literals)) (sym e) (omega (arith, l.long, n), sym n)
   where
-    places-high : (ws : List ℕ) (low high : ℕ) (ps : List ℕ) → Fits ws low high ps → low ≤ high
+    places-high : (ws : List ℕ) (low high : ℕ) (ps : List ℕ) → FitsWords ws low high ps → low ≤ high
     places-high ws low high [] f = f
     places-high ws low high (p ∷ ps) f = let l = f.0 in omega (arith, l.begins, l.ends)
 long-from ws low high (p ∷ ps) hi f k (inr h) = long-from ws (p + 3 + len_at ws p) high ps hi f.1 k h
 
-pub are-long : (s : Store) → IsSound s → AreLong (clauses_of s)
+pub are-long : (s : Store) → IsSound s → AreLong (stored_clauses s)
 are-long s ok = long-from s.words 0 (length s.words) s.places (omega arith) ok.fits
 
 -- a place is one of the list
-pub place-listed : (s : Store) (p : ℕ) → IsPlace (clauses_of s) p → p ∈ s.places
+pub place-listed : (s : Store) (p : ℕ) → IsPlace (stored_clauses s) p → p ∈ s.places
 place-listed s p h = from-place s.words s.places p h
 
-pub listed-place : (s : Store) (p : ℕ) → p ∈ s.places → IsPlace (clauses_of s) p
+pub listed-place : (s : Store) (p : ℕ) → p ∈ s.places → IsPlace (stored_clauses s) p
 listed-place s p h = to-place s.words s.places p h
 
 -- the place of a clause by its index

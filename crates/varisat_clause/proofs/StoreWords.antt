@@ -5,9 +5,9 @@ use Rattle.std.proofs.Math.ListN.{length-take, drop_of_length-le}
 use Rattle.std.proofs.Math.Seq.{take-length, drop-append-add, drop-append_seam, take-append_seam}
 use Rattle.varisat_theory.specs.Membership.{◌∈◌}
 use Rattle.varisat_theory.proofs.Members.{equal_or_not}
-use Rattle.varisat_clause.specs.Headers.{Header, header_from, flags_of}
-use Rattle.varisat_clause.specs.Stored.{StoredClause, IsPlace, stored_at, with_clause, with_literals}
-use Rattle.varisat_clause.specs.Stores.{Store, len_at, clause_in, clauses_of, Lies, Fits, IsSound, Holds, Adds, splice, put_words}
+use Rattle.varisat_clause.specs.Headers.{Header, header_of_words, flags_of}
+use Rattle.varisat_clause.specs.Stored.{StoredClause, IsPlace, stored_at, with_stored, with_literals}
+use Rattle.varisat_clause.specs.Stores.{Store, len_at, clause_in, stored_clauses, Lies, FitsWords, IsSound, HoldsClauses, AddsStored, splice, put_words}
 use Rattle.varisat_clause.proofs.StoredClauses.{stored-here, stored-later, clause-here, clause-later, literals-clause}
 
 -- the words from low to below high are the same
@@ -36,12 +36,12 @@ clause-stays buf new p s =
 pub narrow : (buf new : List ℕ) (low high low' high' : ℕ) → Same buf new low high → low ≤ low' → high' ≤ high → Same buf new low' high'
 narrow buf new low high low' high' s a b = record { words = λ k l h. s.words k (omega arith) (omega arith); room = omega (arith, s.room); new_room = omega (arith, s.new_room) }
 
-pub low-le : (buf : List ℕ) (low high : ℕ) (ps : List ℕ) → Fits buf low high ps → low ≤ high
+pub low-le : (buf : List ℕ) (low high : ℕ) (ps : List ℕ) → FitsWords buf low high ps → low ≤ high
 low-le buf low high [] f = f
 low-le buf low high (p ∷ ps) f = let l = f.0 in let r = low-le buf (p + 3 + len_at buf p) high ps f.1 in omega (arith, l.begins, r)
 
 -- all clauses stay where all their words stay
-pub clauses-stay : (buf new : List ℕ) (low high : ℕ) (ps : List ℕ) → Fits buf low high ps → Same buf new low high → (map (clause_in new) ps ≡ map (clause_in buf) ps) × Fits new low high ps
+pub clauses-stay : (buf new : List ℕ) (low high : ℕ) (ps : List ℕ) → FitsWords buf low high ps → Same buf new low high → (map (clause_in new) ps ≡ map (clause_in buf) ps) × FitsWords new low high ps
 clauses-stay buf new low high [] f s = (refl, f)
 clauses-stay buf new low high (p ∷ ps) f s =
     let l = f.0 in
@@ -57,19 +57,19 @@ pub longer : (buf xs : List ℕ) (low : ℕ) → Same buf (buf ++ xs) low (lengt
 longer buf xs low = record { words = λ k l h. get_or_append_left buf xs 0 k h; room = omega arith; new_room = omega (arith, length-append buf xs) }
 
 -- a further clause at the end
-pub Fits-push : (buf : List ℕ) (low : ℕ) (ps : List ℕ) (p high : ℕ) → Fits buf low p ps → Lies buf p high p → Fits buf low high (ps ++ p ∷ [])
+pub Fits-push : (buf : List ℕ) (low : ℕ) (ps : List ℕ) (p high : ℕ) → FitsWords buf low p ps → Lies buf p high p → FitsWords buf low high (ps ++ p ∷ [])
 Fits-push buf low [] p high f l = (record { begins = f; long = l.long; ends = l.ends; flags = l.flags }, l.ends)
 Fits-push buf low (q ∷ ps) p high f l =
     let k = f.0 in let e = l.ends in
     (record { begins = k.begins; long = k.long; ends = omega (arith, e, k.ends); flags = k.flags }, Fits-push buf (q + 3 + len_at buf q) ps p high f.1 l)
 
 -- the first clause may begin later than it has to
-pub Fits-lower : (buf : List ℕ) (low low' high : ℕ) (ps : List ℕ) → low' ≤ low → Fits buf low high ps → Fits buf low' high ps
+pub Fits-lower : (buf : List ℕ) (low low' high : ℕ) (ps : List ℕ) → low' ≤ low → FitsWords buf low high ps → FitsWords buf low' high ps
 Fits-lower buf low low' high [] h f = omega (arith, f)
 Fits-lower buf low low' high (p ∷ ps) h f = let l = f.0 in (record { begins = omega (arith, l.begins); long = l.long; ends = l.ends; flags = l.flags }, f.1)
 
 -- the clause at a place lies within the buffer
-pub lies-at : (buf : List ℕ) (low high : ℕ) (ps : List ℕ) (p : ℕ) → Fits buf low high ps → p ∈ ps → Lies buf low high p
+pub lies-at : (buf : List ℕ) (low high : ℕ) (ps : List ℕ) (p : ℕ) → FitsWords buf low high ps → p ∈ ps → Lies buf low high p
 lies-at buf low high [] p f h = absurd h
 lies-at buf low high (q ∷ ps) p f (inl e) = subst (Lies buf low high) (sym e) f.0
 lies-at buf low high (q ∷ ps) p f (inr h) =
@@ -101,20 +101,20 @@ pub record Found (s : Store) (p : ℕ) : Type 0 where
   pub ends : p + 3 + len_at s.words p ≤ length s.words
   pub long : 3 ≤ len_at s.words p
   pub flags : get_or s.words (p + 1) 0 < 2 ^ 11
-  pub is : stored_at (clauses_of s) p ≡ clause_in s.words p
+  pub is : stored_at (stored_clauses s) p ≡ clause_in s.words p
 
-pub found : (s : Store) (p : ℕ) → IsSound s → IsPlace (clauses_of s) p → Found s p
+pub found : (s : Store) (p : ℕ) → IsSound s → IsPlace (stored_clauses s) p → Found s p
 found s p ok h =
     let i = from-place s.words s.places p h in
     let l = lies-at s.words 0 (length s.words) s.places p ok.fits i in
     record { ends = l.ends; long = l.long; flags = l.flags; is = found-at s.words s.places p i }
 
 -- the places are below the end
-pub places-below : (buf : List ℕ) (low high : ℕ) (ps : List ℕ) → Fits buf low high ps → (k : StoredClause) → k ∈ map (clause_in buf) ps → k.place < high
+pub places-below : (buf : List ℕ) (low high : ℕ) (ps : List ℕ) → FitsWords buf low high ps → (k : StoredClause) → k ∈ map (clause_in buf) ps → k.place < high
 places-below buf low high ps f k h = let l = lies-at buf low high ps k.place f (from-place buf ps k.place (k, h, refl)) in let e = l.ends in omega (arith, e)
 
 -- what add_clause leaves
-pub added : (s n : Store) (h : Header) (c : List ℕ) → IsSound s → 3 ≤ length c → length s.words + 3 + length c < 2 ^ 32 → flags_of h < 2 ^ 11 → header_from h.activity (flags_of h) h.len ≡ h → n.words ≡ s.words ++ (h.activity ∷ flags_of h ∷ length c ∷ c) → n.places ≡ s.places ++ length s.words ∷ [] → Adds s n (record { place = length s.words; header = record h { len = length c }; literals = c })
+pub added : (s n : Store) (h : Header) (c : List ℕ) → IsSound s → 3 ≤ length c → length s.words + 3 + length c < 2 ^ 32 → flags_of h < 2 ^ 11 → header_of_words h.activity (flags_of h) h.len ≡ h → n.words ≡ s.words ++ (h.activity ∷ flags_of h ∷ length c ∷ c) → n.places ≡ s.places ++ length s.words ∷ [] → AddsStored s n (record { place = length s.words; header = record h { len = length c }; literals = c })
 added s n h c ok long small flags back ew ep =
     let buf : List ℕ = s.words in
     let ps : List ℕ = s.places in
@@ -126,7 +126,7 @@ added s n h c ok long small flags back ew ep =
     let r2 : get_or new (p + 2) 0 ≡ length c = get_or-append-add buf (h.activity ∷ flags_of h ∷ length c ∷ c) 2 0 in
     let d : drop (p + 3) new ≡ c = drop-append-add buf (h.activity ∷ flags_of h ∷ length c ∷ c) 3 in
     let j : Header = record h { len = length c } in
-    let g : header_from h.activity (flags_of h) (length c) ≡ j = ap (λ (x : Header). record x { len = length c }) back in
+    let g : header_of_words h.activity (flags_of h) (length c) ≡ j = ap (λ (x : Header). record x { len = length c }) back in
     let e : clause_in new p ≡ record { place = p; header = j; literals = c } = rw (r0, r1, r2, d, take-length) (ap (λ (x : Header). record { place = p; header = x; literals = c }) g) in
     let l : length new ≡ p + 3 + length c = omega (arith, length-append buf (h.activity ∷ flags_of h ∷ length c ∷ c)) in
     let m : map (clause_in new) (ps ++ p ∷ []) ≡ map (clause_in buf) ps ++ record { place = p; header = j; literals = c } ∷ [] = map-append (clause_in new) ps (p ∷ []) ∙ rw (k.0, e) refl in
@@ -175,15 +175,15 @@ pub record Rewrites (buf new : List ℕ) (p : ℕ) : Type 0 where
   pub long : 3 ≤ len_at new p
   pub flags : get_or new (p + 1) 0 < 2 ^ 11
 
-pub put-one : (buf new : List ℕ) (low high : ℕ) (ps : List ℕ) (p : ℕ) → Fits buf low high ps → high ≤ length buf → p ∈ ps → Rewrites buf new p → (map (clause_in new) ps ≡ with_clause (map (clause_in buf) ps) p (clause_in new p)) × Fits new low high ps
+pub put-one : (buf new : List ℕ) (low high : ℕ) (ps : List ℕ) (p : ℕ) → FitsWords buf low high ps → high ≤ length buf → p ∈ ps → Rewrites buf new p → (map (clause_in new) ps ≡ with_stored (map (clause_in buf) ps) p (clause_in new p)) × FitsWords new low high ps
 put-one buf new low high [] p f hi h s = absurd h
 put-one buf new low high (q ∷ ps) p f hi h s =
     ⊎_elim
-    (λ e. let eq : p ≡ q = sym e in subst (λ (x : ℕ). Rewrites buf new x → (map (clause_in new) (q ∷ ps) ≡ with_clause (map (clause_in buf) (q ∷ ps)) x (clause_in new x)) × Fits new low high (q ∷ ps)) e (here buf new low high q ps f hi) s)
+    (λ e. let eq : p ≡ q = sym e in subst (λ (x : ℕ). Rewrites buf new x → (map (clause_in new) (q ∷ ps) ≡ with_stored (map (clause_in buf) (q ∷ ps)) x (clause_in new x)) × FitsWords new low high (q ∷ ps)) e (here buf new low high q ps f hi) s)
     (λ n. there buf new low high q ps p f hi n (⊎_elim (λ e. absurd (n (sym e))) (λ i. i) h) s (put-one buf new (q + 3 + len_at buf q) high ps p f.1 hi (⊎_elim (λ e. absurd (n (sym e))) (λ i. i) h) s))
     (equal_or_not q p)
   where
-    here : (buf new : List ℕ) (low high q : ℕ) (ps : List ℕ) → Fits buf low high (q ∷ ps) → high ≤ length buf → Rewrites buf new q → (map (clause_in new) (q ∷ ps) ≡ with_clause (map (clause_in buf) (q ∷ ps)) q (clause_in new q)) × Fits new low high (q ∷ ps)
+    here : (buf new : List ℕ) (low high q : ℕ) (ps : List ℕ) → FitsWords buf low high (q ∷ ps) → high ≤ length buf → Rewrites buf new q → (map (clause_in new) (q ∷ ps) ≡ with_stored (map (clause_in buf) (q ∷ ps)) q (clause_in new q)) × FitsWords new low high (q ∷ ps)
     here buf new low high q ps f hi s =
         let l = f.0 in
         let up = low-le buf (q + 3 + len_at buf q) high ps f.1 in
@@ -193,7 +193,7 @@ put-one buf new low high (q ∷ ps) p f hi h s =
           (record { begins = l.begins; long = s.long; ends = omega (arith, l.ends, s.shorter); flags = s.flags }, Fits-lower new (q + 3 + len_at buf q) (q + 3 + len_at new q) high ps (omega (arith, s.shorter)) tail.1),
         )
 
-    there : (buf new : List ℕ) (low high q : ℕ) (ps : List ℕ) (p : ℕ) → Fits buf low high (q ∷ ps) → high ≤ length buf → q ≢ p → p ∈ ps → Rewrites buf new p → (map (clause_in new) ps ≡ with_clause (map (clause_in buf) ps) p (clause_in new p)) × Fits new (q + 3 + len_at buf q) high ps → (map (clause_in new) (q ∷ ps) ≡ with_clause (map (clause_in buf) (q ∷ ps)) p (clause_in new p)) × Fits new low high (q ∷ ps)
+    there : (buf new : List ℕ) (low high q : ℕ) (ps : List ℕ) (p : ℕ) → FitsWords buf low high (q ∷ ps) → high ≤ length buf → q ≢ p → p ∈ ps → Rewrites buf new p → (map (clause_in new) ps ≡ with_stored (map (clause_in buf) ps) p (clause_in new p)) × FitsWords new (q + 3 + len_at buf q) high ps → (map (clause_in new) (q ∷ ps) ≡ with_stored (map (clause_in buf) (q ∷ ps)) p (clause_in new p)) × FitsWords new low high (q ∷ ps)
     there buf new low high q ps p f hi n h s r =
         let l = f.0 in
         let m = lies-at buf (q + 3 + len_at buf q) high ps p f.1 h in
@@ -205,7 +205,7 @@ put-one buf new low high (q ∷ ps) p f hi h s =
         )
 
 -- the store after such a write
-pub rewritten : (s n : Store) (p : ℕ) → IsSound s → IsPlace (clauses_of s) p → n.places ≡ s.places → Rewrites s.words n.words p → Holds n (length s.words) (with_clause (clauses_of s) p (clause_in n.words p))
+pub rewritten : (s n : Store) (p : ℕ) → IsSound s → IsPlace (stored_clauses s) p → n.places ≡ s.places → Rewrites s.words n.words p → HoldsClauses n (length s.words) (with_stored (stored_clauses s) p (clause_in n.words p))
 rewritten s n p ok h e r =
     let i = from-place s.words s.places p h in
     let q = put-one s.words n.words 0 (length s.words) s.places p ok.fits (omega arith) i r in
@@ -216,7 +216,7 @@ rewritten s n p ok h e r =
     }
 
 -- a write to the literals of one clause
-pub literals-put : (s : Store) (p : ℕ) (ws : List ℕ) → IsSound s → IsPlace (clauses_of s) p → length ws ≡ len_at s.words p → Holds (put_words s (p + 3) ws) (length s.words) (with_literals (clauses_of s) p ws)
+pub literals-put : (s : Store) (p : ℕ) (ws : List ℕ) → IsSound s → IsPlace (stored_clauses s) p → length ws ≡ len_at s.words p → HoldsClauses (put_words s (p + 3) ws) (length s.words) (with_literals (stored_clauses s) p ws)
 literals-put s p ws ok h e =
     let f = found s p ok h in
     let sp = spliced s.words (p + 3) ws (omega (arith, f.ends)) in
@@ -234,10 +234,10 @@ literals-put s p ws ok h e =
     } in
     let hold = rewritten s (put_words s (p + 3) ws) p ok h refl r in
     let here : take (len_at s.words p) (drop (p + 3) n) ≡ ws = rw (← e) sp.here in
-    let c : clause_in n p ≡ record (stored_at (clauses_of s) p) { literals = ws } =
+    let c : clause_in n p ≡ record (stored_at (stored_clauses s) p) { literals = ws } =
     rw (w0, w1, w2, here) (ap (λ (x : StoredClause). record x { literals = ws }) (sym f.is)) in
     record {
       sound = hold.sound;
       words = hold.words;
-      clauses = hold.clauses ∙ ap (with_clause (clauses_of s) p) c ∙ literals-clause (clauses_of s) p ws;
+      clauses = hold.clauses ∙ ap (with_stored (stored_clauses s) p) c ∙ literals-clause (stored_clauses s) p ws;
     }

@@ -4,7 +4,7 @@ use Rattle.std.specs.Prelude.{cond}
 use Rattle.varisat_theory.specs.Membership.{◌∈◌, SameSet}
 use Rattle.varisat_theory.specs.Literals.{Clause}
 use Rattle.varisat_theory.proofs.Members.{equal_or_not}
-use Rattle.varisat_clause.specs.Stored.{StoredClause, literals_of, IsPlace, stored_at, literals_at, with_literals, with_clause, AreRising, AreReordered}
+use Rattle.varisat_clause.specs.Stored.{StoredClause, literals_of, IsPlace, stored_at, literals_at, with_literals, with_stored, AreRising, AreReordered}
 
 pub same-self : {X : Type 0} (xs : List X) → SameSet xs xs
 same-self xs = ((λ x i. i), (λ x i. i))
@@ -229,54 +229,54 @@ with-own (k ∷ ks) p =
     (equal_or_not k.place p)
 
 -- One clause is another.
-pub clause-here : (k : StoredClause) (ks : List StoredClause) (p : ℕ) (j : StoredClause) → k.place ≡ p → with_clause (k ∷ ks) p j ≡ j ∷ ks
-clause-here k ks p j e = ap (λ b. cond b (j ∷ ks) (k ∷ with_clause ks p j)) (is-same k.place p e)
+pub clause-here : (k : StoredClause) (ks : List StoredClause) (p : ℕ) (j : StoredClause) → k.place ≡ p → with_stored (k ∷ ks) p j ≡ j ∷ ks
+clause-here k ks p j e = ap (λ b. cond b (j ∷ ks) (k ∷ with_stored ks p j)) (is-same k.place p e)
 
-pub clause-later : (k : StoredClause) (ks : List StoredClause) (p : ℕ) (j : StoredClause) → k.place ≢ p → with_clause (k ∷ ks) p j ≡ k ∷ with_clause ks p j
-clause-later k ks p j n = ap (λ b. cond b (j ∷ ks) (k ∷ with_clause ks p j)) (is-other k.place p n)
+pub clause-later : (k : StoredClause) (ks : List StoredClause) (p : ℕ) (j : StoredClause) → k.place ≢ p → with_stored (k ∷ ks) p j ≡ k ∷ with_stored ks p j
+clause-later k ks p j n = ap (λ b. cond b (j ∷ ks) (k ∷ with_stored ks p j)) (is-other k.place p n)
 
 -- other literals are another clause
-pub literals-clause : (ks : List StoredClause) (p : ℕ) (c : Clause) → with_clause ks p (record (stored_at ks p) { literals = c }) ≡ with_literals ks p c
+pub literals-clause : (ks : List StoredClause) (p : ℕ) (c : Clause) → with_stored ks p (record (stored_at ks p) { literals = c }) ≡ with_literals ks p c
 literals-clause [] p c = refl
 literals-clause (k ∷ ks) p c =
     ⊎_elim
     (λ e. clause-here k ks p _ e ∙ ap (λ (x : StoredClause). record x { literals = c } ∷ ks) (stored-here k ks p e) ∙ sym (with-here k ks p c e))
-    (λ n. clause-later k ks p _ n ∙ ap (λ (x : StoredClause). k ∷ with_clause ks p (record x { literals = c })) (stored-later k ks p n) ∙ ap (λ xs. k ∷ xs) (literals-clause ks p c) ∙ sym (with-later k ks p c n))
+    (λ n. clause-later k ks p _ n ∙ ap (λ (x : StoredClause). k ∷ with_stored ks p (record x { literals = c })) (stored-later k ks p n) ∙ ap (λ xs. k ∷ xs) (literals-clause ks p c) ∙ sym (with-later k ks p c n))
     (equal_or_not k.place p)
 
 -- the other clause is found at the place, and no clause elsewhere changes
-pub clause-same : (ks : List StoredClause) (p : ℕ) (j : StoredClause) → IsPlace ks p → j.place ≡ p → stored_at (with_clause ks p j) p ≡ j
+pub clause-same : (ks : List StoredClause) (p : ℕ) (j : StoredClause) → IsPlace ks p → j.place ≡ p → stored_at (with_stored ks p j) p ≡ j
 clause-same [] p j (k, h, e) f = absurd h
 clause-same (k ∷ ks) p j h f =
     ⊎_elim
     (λ e. ap (λ xs. stored_at xs p) (clause-here k ks p j e) ∙ stored-here j ks p f)
-    (λ n. ap (λ xs. stored_at xs p) (clause-later k ks p j n) ∙ stored-later k (with_clause ks p j) p n ∙ clause-same ks p j (place-later k ks p h n) f)
+    (λ n. ap (λ xs. stored_at xs p) (clause-later k ks p j n) ∙ stored-later k (with_stored ks p j) p n ∙ clause-same ks p j (place-later k ks p h n) f)
     (equal_or_not k.place p)
 
-pub clause-other : (ks : List StoredClause) (p q : ℕ) (j : StoredClause) → j.place ≡ p → q ≢ p → stored_at (with_clause ks p j) q ≡ stored_at ks q
+pub clause-other : (ks : List StoredClause) (p q : ℕ) (j : StoredClause) → j.place ≡ p → q ≢ p → stored_at (with_stored ks p j) q ≡ stored_at ks q
 clause-other [] p q j f n = refl
 clause-other (k ∷ ks) p q j f n =
     ⊎_elim
     (λ e. let o : k.place ≢ q = λ g. n (sym g ∙ e) in let o2 : j.place ≢ q = λ g. n (sym g ∙ f) in
     ap (λ xs. stored_at xs q) (clause-here k ks p j e) ∙ stored-later j ks q o2 ∙ sym (stored-later k ks q o))
     (λ m. ap (λ xs. stored_at xs q) (clause-later k ks p j m) ∙ ⊎_elim
-    (λ e. stored-here k (with_clause ks p j) q e ∙ sym (stored-here k ks q e))
-    (λ o. stored-later k (with_clause ks p j) q o ∙ clause-other ks p q j f n ∙ sym (stored-later k ks q o))
+    (λ e. stored-here k (with_stored ks p j) q e ∙ sym (stored-here k ks q e))
+    (λ o. stored-later k (with_stored ks p j) q o ∙ clause-other ks p q j f n ∙ sym (stored-later k ks q o))
     (equal_or_not k.place q))
     (equal_or_not k.place p)
 
 -- an element of the new list is the other clause or an old one
-pub clause-cases : (ks : List StoredClause) (p : ℕ) (j k : StoredClause) → k ∈ with_clause ks p j → (k ≡ j) ⊎ (k ∈ ks)
+pub clause-cases : (ks : List StoredClause) (p : ℕ) (j k : StoredClause) → k ∈ with_stored ks p j → (k ≡ j) ⊎ (k ∈ ks)
 clause-cases [] p j k h = absurd h
 clause-cases (x ∷ ks) p j k h =
     ⊎_elim
     (λ e. let i : k ∈ (j ∷ ks) = subst (λ xs. k ∈ xs) (clause-here x ks p j e) h in ⊎_elim inl (λ m. inr (inr m)) i)
-    (λ n. let i : k ∈ (x ∷ with_clause ks p j) = subst (λ xs. k ∈ xs) (clause-later x ks p j n) h in
+    (λ n. let i : k ∈ (x ∷ with_stored ks p j) = subst (λ xs. k ∈ xs) (clause-later x ks p j n) h in
     ⊎_elim (λ e. inr (inl e)) (λ m. ⊎_elim inl (λ g. inr (inr g)) (clause-cases ks p j k m)) i)
     (equal_or_not x.place p)
 
 -- the places stay
-pub clause-place : (ks : List StoredClause) (p q : ℕ) (j : StoredClause) → j.place ≡ p → IsPlace ks q → IsPlace (with_clause ks p j) q
+pub clause-place : (ks : List StoredClause) (p q : ℕ) (j : StoredClause) → j.place ≡ p → IsPlace ks q → IsPlace (with_stored ks p j) q
 clause-place [] p q j f h = h
 clause-place (k ∷ ks) p q j f h =
     ⊎_elim
@@ -291,10 +291,10 @@ clause-place (k ∷ ks) p q j f h =
     (equal_or_not k.place p)
 
 -- of two clauses that are put there one after the other the second is left
-pub clause-twice : (ks : List StoredClause) (p : ℕ) (c j : StoredClause) → c.place ≡ p → with_clause (with_clause ks p c) p j ≡ with_clause ks p j
+pub clause-twice : (ks : List StoredClause) (p : ℕ) (c j : StoredClause) → c.place ≡ p → with_stored (with_stored ks p c) p j ≡ with_stored ks p j
 clause-twice [] p c j e = refl
 clause-twice (k ∷ ks) p c j e =
     ⊎_elim
-    (λ f. ap (λ xs. with_clause xs p j) (clause-here k ks p c f) ∙ clause-here c ks p j e ∙ sym (clause-here k ks p j f))
-    (λ n. ap (λ xs. with_clause xs p j) (clause-later k ks p c n) ∙ clause-later k (with_clause ks p c) p j n ∙ ap (λ xs. k ∷ xs) (clause-twice ks p c j e) ∙ sym (clause-later k ks p j n))
+    (λ f. ap (λ xs. with_stored xs p j) (clause-here k ks p c f) ∙ clause-here c ks p j e ∙ sym (clause-here k ks p j f))
+    (λ n. ap (λ xs. with_stored xs p j) (clause-later k ks p c n) ∙ clause-later k (with_stored ks p c) p j n ∙ ap (λ xs. k ∷ xs) (clause-twice ks p c j e) ∙ sym (clause-later k ks p j n))
     (equal_or_not k.place p)

@@ -9,7 +9,7 @@ use Rattle.varisat_theory.proofs.Members.{equal_or_not}
 use Rattle.varisat_theory.proofs.Places.{∈-contains, contains-∈, place_in}
 use Rattle.varisat_clause.specs.declared.header.Tier.{Tier}
 use Rattle.varisat_clause.specs.Stored.{StoredClause, IsPlace, AreRising, no_clause, stored_at}
-use Rattle.varisat_clause.specs.Stores.{Store, clauses_of, IsSound}
+use Rattle.varisat_clause.specs.Stores.{Store, stored_clauses, IsSound}
 use Rattle.varisat_clause.specs.Databases.{is_live_in}
 use Rattle.varisat_clause.specs.Reductions.{rank_in, places_in, ListsTier, AreRanked}
 use Rattle.varisat_clause.proofs.StoredClauses.{stored-here, stored-later, is-same, is-other}
@@ -82,12 +82,12 @@ tier-distinct t (k ∷ ks) r =
     (λ d. subst IsDistinct (sym (ap (λ b. cond b (k.place ∷ places_in t ks) (places_in t ks)) d)) (tier-distinct t ks r.1))
     (true-or-false (is_live_in t k))
 
-pub tier-listed : (t : Tier) (s : Store) → IsSound s → ListsTier t (clauses_of s) (places_in t (clauses_of s))
+pub tier-listed : (t : Tier) (s : Store) → IsSound s → ListsTier t (stored_clauses s) (places_in t (stored_clauses s))
 tier-listed t s ok = record {
-  known = tier-known t (clauses_of s);
-  live = λ p h. tier-live t (clauses_of s) p (are-rising s ok) h;
-  complete = tier-complete t (clauses_of s);
-  distinct = tier-distinct t (clauses_of s) (are-rising s ok);
+  known = tier-known t (stored_clauses s);
+  live = λ p h. tier-live t (stored_clauses s) p (are-rising s ok) h;
+  complete = tier-complete t (stored_clauses s);
+  distinct = tier-distinct t (stored_clauses s) (are-rising s ok);
 }
 
 -- how often a number stands in a list
@@ -150,7 +150,7 @@ rank-order a b p q hp hq h n =
     less : (a b p q : ℕ) → p < 2 ^ 32 → q < 2 ^ 32 → a * 2 ^ 32 + p ≤ b * 2 ^ 32 + q → (a ≡ b → ⊥) → a < b
     less a b p q hp hq h n = below a b (omega (arith, h, hp, hq)) n
 
-pub ranked-places : (s : Store) (ps : List ℕ) → IsSound s → ((p : ℕ) → p ∈ ps → IsPlace (clauses_of s) p) → IsDistinct ps → IsNonDecreasingBy (rank_in s.words) ps → AreRanked (clauses_of s) ps
+pub ranked-places : (s : Store) (ps : List ℕ) → IsSound s → ((p : ℕ) → p ∈ ps → IsPlace (stored_clauses s) p) → IsDistinct ps → IsNonDecreasingBy (rank_in s.words) ps → AreRanked (stored_clauses s) ps
 ranked-places s [] ok known d h = tt
 ranked-places s (p ∷ ps) ok known d h = (
   (λ q i.
@@ -167,18 +167,18 @@ ranked-places s (p ∷ ps) ok known d h = (
 )
 
 -- the places among the first clauses, and the next clause
-take-place : (s : Store) (i p : ℕ) → i < length s.places → p ≡ get_or s.places i 0 → take (i + 1) (clauses_of s) ≡ take i (clauses_of s) ++ stored_at (clauses_of s) p ∷ []
+take-place : (s : Store) (i p : ℕ) → i < length s.places → p ≡ get_or s.places i 0 → take (i + 1) (stored_clauses s) ≡ take i (stored_clauses s) ++ stored_at (stored_clauses s) p ∷ []
 take-place s i p h e =
     let l = length-places s.words s.places in
-    take-next (clauses_of s) i no_clause (omega (arith, h, l)) ∙ ap (λ (x : StoredClause). take i (clauses_of s) ++ x ∷ []) (clause-of-index s i p h e)
+    take-next (stored_clauses s) i no_clause (omega (arith, h, l)) ∙ ap (λ (x : StoredClause). take i (stored_clauses s) ++ x ∷ []) (clause-of-index s i p h e)
 
-pub tier-more : (t : Tier) (s : Store) (i p : ℕ) (xs ys : List ℕ) → i < length s.places → p ≡ get_or s.places i 0 → IsPlace (clauses_of s) p → xs ≡ places_in t (take i (clauses_of s)) → is_live_in t (stored_at (clauses_of s) p) ≡ true → ys ≡ xs ++ p ∷ [] → ys ≡ places_in t (take (i + 1) (clauses_of s))
+pub tier-more : (t : Tier) (s : Store) (i p : ℕ) (xs ys : List ℕ) → i < length s.places → p ≡ get_or s.places i 0 → IsPlace (stored_clauses s) p → xs ≡ places_in t (take i (stored_clauses s)) → is_live_in t (stored_at (stored_clauses s) p) ≡ true → ys ≡ xs ++ p ∷ [] → ys ≡ places_in t (take (i + 1) (stored_clauses s))
 tier-more t s i p xs ys h e at q live r =
-    r ∙ ap (λ (zs : List ℕ). zs ++ p ∷ []) q ∙ ap (λ (x : ℕ). places_in t (take i (clauses_of s)) ++ x ∷ []) (sym (place-is (clauses_of s) p at)) ∙ sym (places-more t (take i (clauses_of s)) (stored_at (clauses_of s) p) live) ∙ sym (ap (places_in t) (take-place s i p h e))
+    r ∙ ap (λ (zs : List ℕ). zs ++ p ∷ []) q ∙ ap (λ (x : ℕ). places_in t (take i (stored_clauses s)) ++ x ∷ []) (sym (place-is (stored_clauses s) p at)) ∙ sym (places-more t (take i (stored_clauses s)) (stored_at (stored_clauses s) p) live) ∙ sym (ap (places_in t) (take-place s i p h e))
 
-pub tier-same : (t : Tier) (s : Store) (i p : ℕ) (xs : List ℕ) → i < length s.places → p ≡ get_or s.places i 0 → xs ≡ places_in t (take i (clauses_of s)) → is_live_in t (stored_at (clauses_of s) p) ≡ false → xs ≡ places_in t (take (i + 1) (clauses_of s))
+pub tier-same : (t : Tier) (s : Store) (i p : ℕ) (xs : List ℕ) → i < length s.places → p ≡ get_or s.places i 0 → xs ≡ places_in t (take i (stored_clauses s)) → is_live_in t (stored_at (stored_clauses s) p) ≡ false → xs ≡ places_in t (take (i + 1) (stored_clauses s))
 tier-same t s i p xs h e q live =
-    q ∙ sym (places-same t (take i (clauses_of s)) (stored_at (clauses_of s) p) live) ∙ sym (ap (places_in t) (take-place s i p h e))
+    q ∙ sym (places-same t (take i (stored_clauses s)) (stored_at (stored_clauses s) p) live) ∙ sym (ap (places_in t) (take-place s i p h e))
 
-pub tier-all : (t : Tier) (s : Store) (i : ℕ) (xs : List ℕ) → length s.places ≤ i → xs ≡ places_in t (take i (clauses_of s)) → xs ≡ places_in t (clauses_of s)
-tier-all t s i xs h q = let l = length-places s.words s.places in q ∙ ap (places_in t) (take_all i (clauses_of s) (omega (arith, h, l)))
+pub tier-all : (t : Tier) (s : Store) (i : ℕ) (xs : List ℕ) → length s.places ≤ i → xs ≡ places_in t (take i (stored_clauses s)) → xs ≡ places_in t (stored_clauses s)
+tier-all t s i xs h q = let l = length-places s.words s.places in q ∙ ap (places_in t) (take_all i (stored_clauses s) (omega (arith, h, l)))

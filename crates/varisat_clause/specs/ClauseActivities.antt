@@ -3,12 +3,12 @@ use Rattle.std.specs.Prelude.{ℕ, ◌/◌, ◌^◌, ◌<◌, ◌≤◌, max, na
 use Rattle.varisat_clause.specs.Stored.{StoredClause, header_at, with_header}
 
 -- the increment at first, below which it never falls
-abbrev pub least_increment : ℕ
-least_increment = 2 ^ 10
+abbrev pub least_clause_increment : ℕ
+least_clause_increment = 2 ^ 10
 
 -- where an activity or the increment reaches it, all are shifted
-abbrev pub activity_limit : ℕ
-activity_limit = 2 ^ 28
+abbrev pub clause_activity_limit : ℕ
+clause_activity_limit = 2 ^ 28
 
 -- what a bump adds; and the decay, in thousandths
 pub record ActivityScale : Type 0 where
@@ -16,9 +16,9 @@ pub record ActivityScale : Type 0 where
   pub decay : ℕ
 
 -- what the numbers keep to between calls
-pub record AreWithinLimits (increment decay : ℕ) : Type 0 where
-  pub least : least_increment ≤ increment
-  pub small : increment < activity_limit
+pub record AreWithinClauseLimits (increment decay : ℕ) : Type 0 where
+  pub least : least_clause_increment ≤ increment
+  pub small : increment < clause_activity_limit
   pub slow : decay ≤ 999
   pub fast : 500 ≤ decay
 
@@ -30,20 +30,20 @@ abbrev pub activity_shifted : StoredClause → StoredClause
 activity_shifted k = record k { header = record k.header { activity = k.header.activity / 2 ^ 16 } }
 
 -- each activity is shifted right by 16
-abbrev pub shifted : List StoredClause → List StoredClause
-shifted ks = map activity_shifted ks
+abbrev pub clauses_shifted : List StoredClause → List StoredClause
+clauses_shifted ks = map activity_shifted ks
 
 -- the increment too, but no less than the least
 abbrev pub scale_shifted : ActivityScale → ActivityScale
-scale_shifted a = record a { increment = max least_increment (a.increment / 2 ^ 16) }
+scale_shifted a = record a { increment = max least_clause_increment (a.increment / 2 ^ 16) }
 
 -- where `full`, all activities and the increment are shifted
 abbrev pub clauses_rescaled : Bool → List StoredClause → List StoredClause
-clauses_rescaled full ks = if full then shifted ks else ks
+clauses_rescaled full ks = if full then clauses_shifted ks else ks
 
 abbrev pub scale_rescaled : Bool → ActivityScale → ActivityScale
 scale_rescaled full a = if full then scale_shifted a else a
 
 -- whether the number is at the limit or above
-abbrev pub reaches_limit : ℕ → Bool
-reaches_limit n = nat_le activity_limit n
+abbrev pub reaches_clause_limit : ℕ → Bool
+reaches_clause_limit n = nat_le clause_activity_limit n

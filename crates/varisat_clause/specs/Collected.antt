@@ -1,7 +1,7 @@
 -- A store after its garbage was collected.
 use Rattle.std.specs.Prelude.{ℕ, ◌+◌, false, if◌then◌else◌, List, [], ◌∷◌}
 use Rattle.varisat_clause.specs.Stored.{StoredClause}
-use Rattle.varisat_clause.specs.Stores.{Store, clauses_of, Holds}
+use Rattle.varisat_clause.specs.Stores.{Store, stored_clauses, HoldsClauses}
 use Rattle.varisat_clause.specs.Databases.{Database, total, size_of, Tracks}
 
 -- the clauses that are not deleted, in order
@@ -11,7 +11,7 @@ live_of (k ∷ ks) = if k.header.deleted then live_of ks else k ∷ live_of ks
 
 -- the clauses of a store that are not deleted, in order of places
 abbrev pub live_clauses : Store → List StoredClause
-live_clauses s = live_of (clauses_of s)
+live_clauses s = live_of (stored_clauses s)
 
 -- the same clauses one after another from the place on, without marks
 abbrev pub packed : ℕ → List StoredClause → List StoredClause
@@ -29,5 +29,5 @@ live_size ks = total size_of (live_of ks)
 
 -- a store and a database that are those of the clauses after a collection
 pub record IsCollected (new : Store) (d : Database) (ks : List StoredClause) : Type 0 where
-  pub store : Holds new (live_size ks) (collected ks)
+  pub store : HoldsClauses new (live_size ks) (collected ks)
   pub tracks : Tracks d new

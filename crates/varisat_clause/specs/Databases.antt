@@ -6,7 +6,7 @@ use Rattle.varisat_clause.specs.declared.header.Tier.TheVariants.{Irred, Core, M
 use Rattle.varisat_clause.specs.declared.db.TierCounts.{TierCounts}
 use Rattle.varisat_clause.specs.Tiers.{is_tier}
 use Rattle.varisat_clause.specs.Stored.{StoredClause, IsPlace}
-use Rattle.varisat_clause.specs.Stores.{Store, clauses_of, IsSound}
+use Rattle.varisat_clause.specs.Stores.{Store, stored_clauses, IsSound}
 
 -- the count of a tier
 abbrev pub count_of : Tier → TierCounts → ℕ
@@ -37,22 +37,22 @@ pub record ListsByTier : Type 0 where
 abbrev pub no_lists : ListsByTier
 no_lists = record { irred = []; core = []; mid = []; local = [] }
 
-abbrev pub list_of : Tier → ListsByTier → List ℕ
-list_of Irred l = l.irred
-list_of Core l = l.core
-list_of Mid l = l.mid
-list_of Local l = l.local
+abbrev pub tier_list : Tier → ListsByTier → List ℕ
+tier_list Irred l = l.irred
+tier_list Core l = l.core
+tier_list Mid l = l.mid
+tier_list Local l = l.local
 
 -- another list for a tier
-abbrev pub with_list : Tier → List ℕ → ListsByTier → ListsByTier
-with_list Irred ps l = record l { irred = ps }
-with_list Core ps l = record l { core = ps }
-with_list Mid ps l = record l { mid = ps }
-with_list Local ps l = record l { local = ps }
+abbrev pub with_tier_list : Tier → List ℕ → ListsByTier → ListsByTier
+with_tier_list Irred ps l = record l { irred = ps }
+with_tier_list Core ps l = record l { core = ps }
+with_tier_list Mid ps l = record l { mid = ps }
+with_tier_list Local ps l = record l { local = ps }
 
 -- a place behind the others of its tier
 abbrev pub pushed : Tier → ℕ → ListsByTier → ListsByTier
-pushed t p l = with_list t (list_of t l ++ p ∷ []) l
+pushed t p l = with_tier_list t (tier_list t l ++ p ∷ []) l
 
 -- The counts are of the clauses that are not deleted, and the garbage is the words of the others. A list may also name
 -- clauses that were deleted or are of another tier by now, and a clause twice.
@@ -107,7 +107,7 @@ garbage_of ks = total (λ k. cond k.header.deleted (size_of k) 0) ks
 -- list of its tier.
 pub record Tracks (d : Database) (s : Store) : Type 0 where
   pub sound : IsSound s
-  pub counts : (t : Tier) → count_of t d.counts ≡ live_count t (clauses_of s)
-  pub garbage : d.garbage ≡ garbage_of (clauses_of s)
-  pub listed : (k : StoredClause) → k ∈ clauses_of s → is_live k ≡ true → k.place ∈ list_of k.header.tier d.lists
-  pub known : (t : Tier) (p : ℕ) → p ∈ list_of t d.lists → IsPlace (clauses_of s) p
+  pub counts : (t : Tier) → count_of t d.counts ≡ live_count t (stored_clauses s)
+  pub garbage : d.garbage ≡ garbage_of (stored_clauses s)
+  pub listed : (k : StoredClause) → k ∈ stored_clauses s → is_live k ≡ true → k.place ∈ tier_list k.header.tier d.lists
+  pub known : (t : Tier) (p : ℕ) → p ∈ tier_list t d.lists → IsPlace (stored_clauses s) p

@@ -1,7 +1,7 @@
 -- What goes over the clauses of a store, and what a filter leaves of them.
 use Rattle.std.specs.Prelude.{◌≡◌, ℕ, Bool, true, false, not, List, [], ◌∷◌, ◌++◌, length, map}
-use Rattle.varisat_clause.specs.Stored.{StoredClause, stored_at, header_at, with_clause, with_header}
-use Rattle.varisat_clause.specs.Stores.{Store, clauses_of, Holds}
+use Rattle.varisat_clause.specs.Stored.{StoredClause, stored_at, header_at, with_stored, with_header}
+use Rattle.varisat_clause.specs.Stores.{Store, stored_clauses, HoldsClauses}
 use Rattle.varisat_clause.specs.Collected.{live_of}
 
 -- the places of the clauses that are not deleted
@@ -16,9 +16,9 @@ deleted_at ks p = with_header ks p (record (header_at ks p) { deleted = true })
 pub record Alters (old new : Store) (p : ℕ) : Type 0 where
   pub clause : StoredClause
   pub place : clause.place ≡ p
-  pub tier : clause.header.tier ≡ (header_at (clauses_of old) p).tier
+  pub tier : clause.header.tier ≡ (header_at (stored_clauses old) p).tier
   pub live : clause.header.deleted ≡ false
-  pub is : Holds new (length old.words) (with_clause (clauses_of old) p clause)
+  pub is : HoldsClauses new (length old.words) (with_stored (stored_clauses old) p clause)
 
 -- the clause stays, or it is deleted
 abbrev pub left_if : Bool → StoredClause → StoredClause
@@ -28,9 +28,9 @@ left_if stays k = record k { header = record k.header { deleted = not stays } }
 pub record FiltersAt {F : Type 0} (Leaves : F → StoredClause → StoredClause → F → Type 0) (f g : F) (old new : Store) (p : ℕ) : Type 0 where
   pub clause : StoredClause
   pub place : clause.place ≡ p
-  pub tier : clause.header.tier ≡ (header_at (clauses_of old) p).tier
-  pub left : Leaves f (stored_at (clauses_of old) p) clause g
-  pub is : Holds new (length old.words) (with_clause (clauses_of old) p clause)
+  pub tier : clause.header.tier ≡ (header_at (stored_clauses old) p).tier
+  pub left : Leaves f (stored_at (stored_clauses old) p) clause g
+  pub is : HoldsClauses new (length old.words) (with_stored (stored_clauses old) p clause)
 
 -- A filter f comes to the clause k, leaves j of it, and is g then. One that was deleted before is passed over. Another one
 -- keeps its place and its tier, and the rest is the filter's own relation.

@@ -4,7 +4,7 @@ use Rattle.varisat_clause.specs.declared.header.Tier.{Tier}
 use Rattle.varisat_clause.specs.declared.header.Tier.TheVariants.{Irred, Core, Mid, Local}
 use Rattle.varisat_clause.specs.declared.header.ClauseHeader.TheInside.{Inside}
 use Rattle.varisat_clause.specs.Tiers.{tier_index, tier_of}
-use Rattle.varisat_clause.specs.Headers.{header_from, bit, flags_of}
+use Rattle.varisat_clause.specs.Headers.{header_of_words, bit, flags_of}
 
 tier-back : (n : ℕ) → n < 4 → tier_index (tier_of n) ≡ n
 tier-back zero h = refl
@@ -28,7 +28,7 @@ flags-read f h =
     rw (t, d, m, a) (omega arith)
 
 -- the words of a header are those that it was read from
-pub flags-back : (h : Inside) → h.flags < 2 ^ 11 → record { activity = h.activity; flags = flags_of (header_from h.activity h.flags h.len); len = h.len } ≡ h
+pub flags-back : (h : Inside) → h.flags < 2 ^ 11 → record { activity = h.activity; flags = flags_of (header_of_words h.activity h.flags h.len); len = h.len } ≡ h
 flags-back h small = rw (flags-read h.flags small) refl
 
 -- the tier that is set is read back
@@ -45,7 +45,7 @@ tier-small Mid = omega arith
 tier-small Local = omega arith
 
 -- the tier alone is set
-pub tier-alone : (a f n : ℕ) (t : Tier) → f < 2 ^ 11 → header_from a (f - f % 4 + tier_index t) n ≡ record (header_from a f n) { tier = t }
+pub tier-alone : (a f n : ℕ) (t : Tier) → f < 2 ^ 11 → header_of_words a (f - f % 4 + tier_index t) n ≡ record (header_of_words a f n) { tier = t }
 tier-alone a f n t h =
     let s = tier-small t in
     let g : ℕ = f - f % 4 + tier_index t in

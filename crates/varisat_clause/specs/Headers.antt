@@ -19,8 +19,8 @@ no_header = record { activity = 0; tier = Irred; deleted = false; mark = false; 
 
 -- The header of three words: the activity, the flags, the length. Of the flags bits 0 and 1 are the tier, bit 2 is
 -- deleted, bit 3 the mark, bits 4 to 9 are the glue, and bit 10 is active.
-abbrev pub header_from : ℕ → ℕ → ℕ → Header
-header_from activity flags len = record {
+abbrev pub header_of_words : ℕ → ℕ → ℕ → Header
+header_of_words activity flags len = record {
   activity = activity;
   tier = tier_of (flags % 4);
   deleted = nat_eq (flags / 4 % 2) 1;

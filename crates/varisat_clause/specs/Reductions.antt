@@ -3,8 +3,8 @@ use Rattle.std.specs.Prelude.{◌≡◌, ℕ, zero, suc, ◌+◌, ◌*◌, ◌/�
 use Rattle.varisat_theory.specs.Membership.{◌∈◌, IsDistinct}
 use Rattle.varisat_clause.specs.declared.header.Tier.{Tier}
 use Rattle.varisat_clause.specs.declared.header.Tier.TheVariants.{Mid, Local}
-use Rattle.varisat_clause.specs.Stored.{StoredClause, IsPlace, stored_at, header_at, with_clause}
-use Rattle.varisat_clause.specs.Stores.{Store, clauses_of, IsSound, Holds}
+use Rattle.varisat_clause.specs.Stored.{StoredClause, IsPlace, stored_at, header_at, with_stored}
+use Rattle.varisat_clause.specs.Stores.{Store, stored_clauses, IsSound, HoldsClauses}
 use Rattle.varisat_clause.specs.Databases.{is_live_in}
 use Rattle.varisat_clause.specs.Filters.{deleted_at}
 
@@ -38,7 +38,7 @@ marked_as b k = record k { header = record k.header { mark = b } }
 
 -- the clause at the place is marked or unmarked
 abbrev pub with_mark : Bool → List StoredClause → ℕ → List StoredClause
-with_mark b ks p = with_clause ks p (marked_as b (stored_at ks p))
+with_mark b ks p = with_stored ks p (marked_as b (stored_at ks p))
 
 -- each clause of the tier that is not deleted is marked
 abbrev pub tier_marked : Tier → List StoredClause → List StoredClause
@@ -48,14 +48,14 @@ tier_marked t ks = map (λ k. if is_live_in t k then marked_as true k else k) ks
 -- that is not deleted is among them, and has no mark.
 pub record CanMarkTier (t : Tier) (s : Store) (ps : List ℕ) : Type 0 where
   pub sound : IsSound s
-  pub known : (p : ℕ) → p ∈ ps → IsPlace (clauses_of s) p
-  pub complete : (k : StoredClause) → k ∈ clauses_of s → is_live_in t k ≡ true → k.place ∈ ps
-  pub unmarked : AreUnmarkedIn t (clauses_of s)
+  pub known : (p : ℕ) → p ∈ ps → IsPlace (stored_clauses s) p
+  pub complete : (k : StoredClause) → k ∈ stored_clauses s → is_live_in t k ≡ true → k.place ∈ ps
+  pub unmarked : AreUnmarkedIn t (stored_clauses s)
 
 -- the places are those of the clauses of the tier that are not deleted, each once, and these clauses are marked
 pub record MarksTier (t : Tier) (old new : Store) (ps : List ℕ) : Type 0 where
-  pub listed : ListsTier t (clauses_of old) ps
-  pub marked : Holds new (length old.words) (tier_marked t (clauses_of old))
+  pub listed : ListsTier t (stored_clauses old) ps
+  pub marked : HoldsClauses new (length old.words) (tier_marked t (stored_clauses old))
 
 -- the clause at the first place is less active, or as active and before the other
 abbrev pub Precedes : List StoredClause → ℕ → ℕ → Type 0
@@ -67,10 +67,10 @@ AreRanked ks [] = Unit {0}
 AreRanked ks (p ∷ ps) = ((q : ℕ) → q ∈ ps → Precedes ks p q) × AreRanked ks ps
 
 -- the first n of the places at which the clause is not marked
-abbrev pub unmarked : List StoredClause → ℕ → List ℕ → List ℕ
-unmarked ks n [] = []
-unmarked ks zero (p ∷ ps) = []
-unmarked ks (suc n) (p ∷ ps) = if (header_at ks p).mark then unmarked ks (suc n) ps else p ∷ unmarked ks n ps
+abbrev pub unmarked_places : List StoredClause → ℕ → List ℕ → List ℕ
+unmarked_places ks n [] = []
+unmarked_places ks zero (p ∷ ps) = []
+unmarked_places ks (suc n) (p ∷ ps) = if (header_at ks p).mark then unmarked_places ks (suc n) ps else p ∷ unmarked_places ks n ps
 
 -- the clauses at the places are deleted
 abbrev pub all_deleted : List ℕ → List StoredClause → List StoredClause
@@ -81,9 +81,9 @@ all_deleted (p ∷ ps) ks = all_deleted ps (deleted_at ks p)
 -- deleted, the first ones that are not marked, or all such if they are fewer. No other clause changes.
 pub record ReducesLocals (old new : Store) : Type 0 where
   pub order : List ℕ
-  pub listed : ListsTier Local (clauses_of old) order
-  pub ranked : AreRanked (clauses_of old) order
-  pub deleted : Holds new (length old.words) (all_deleted (unmarked (clauses_of old) (length order / 2) order) (clauses_of old))
+  pub listed : ListsTier Local (stored_clauses old) order
+  pub ranked : AreRanked (stored_clauses old) order
+  pub deleted : HoldsClauses new (length old.words) (all_deleted (unmarked_places (stored_clauses old) (length order / 2) order) (stored_clauses old))
 
 -- A Mid clause that is active loses the flag, and one that is not becomes Local. Others stay.
 abbrev pub mid_reduced : StoredClause → StoredClause
@@ -93,7 +93,7 @@ abbrev pub mids_reduced : List StoredClause → List StoredClause
 mids_reduced ks = map mid_reduced ks
 
 -- the first i clauses are changed, and the others are not
-abbrev pub mapped : (StoredClause → StoredClause) → ℕ → List StoredClause → List StoredClause
-mapped f zero ks = ks
-mapped f (suc i) [] = []
-mapped f (suc i) (k ∷ ks) = f k ∷ mapped f i ks
+abbrev pub mapped_up_to : (StoredClause → StoredClause) → ℕ → List StoredClause → List StoredClause
+mapped_up_to f zero ks = ks
+mapped_up_to f (suc i) [] = []
+mapped_up_to f (suc i) (k ∷ ks) = f k ∷ mapped_up_to f i ks

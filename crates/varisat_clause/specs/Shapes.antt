@@ -2,7 +2,7 @@
 use Rattle.std.specs.Prelude.{◌≡◌, ℕ, List, length, map}
 use Rattle.varisat_clause.specs.Headers.{Header}
 use Rattle.varisat_clause.specs.Stored.{StoredClause}
-use Rattle.varisat_clause.specs.Stores.{Store, clauses_of}
+use Rattle.varisat_clause.specs.Stores.{Store, stored_clauses}
 
 -- where a clause stands, what is noted of it, and how many literals it has
 pub record ClauseShape : Type 0 where
@@ -18,4 +18,4 @@ shapes_of ks = map shape_of ks
 
 -- Each clause keeps its place, its header and its number of literals, and the clauses keep their order.
 abbrev pub KeepsShapes : Store → Store → Type 0
-KeepsShapes s t = shapes_of (clauses_of t) ≡ shapes_of (clauses_of s)
+KeepsShapes s t = shapes_of (stored_clauses t) ≡ shapes_of (stored_clauses s)

@@ -35,9 +35,9 @@ abbrev pub header_at : List StoredClause → ℕ → Header
 header_at ks p = (stored_at ks p).header
 
 -- another clause in place of the one at the place
-abbrev pub with_clause : List StoredClause → ℕ → StoredClause → List StoredClause
-with_clause [] p j = []
-with_clause (k ∷ ks) p j = if nat_eq k.place p then j ∷ ks else k ∷ with_clause ks p j
+abbrev pub with_stored : List StoredClause → ℕ → StoredClause → List StoredClause
+with_stored [] p j = []
+with_stored (k ∷ ks) p j = if nat_eq k.place p then j ∷ ks else k ∷ with_stored ks p j
 
 -- the clause at the place has other literals
 abbrev pub with_literals : List StoredClause → ℕ → Clause → List StoredClause
@@ -46,11 +46,11 @@ with_literals (k ∷ ks) p c = if nat_eq k.place p then record k { literals = c 
 
 -- the clause at the place has another header
 abbrev pub with_header : List StoredClause → ℕ → Header → List StoredClause
-with_header ks p h = with_clause ks p (record (stored_at ks p) { header = h })
+with_header ks p h = with_stored ks p (record (stored_at ks p) { header = h })
 
 -- the clause at the place keeps only its first n literals
 abbrev pub shortened : List StoredClause → ℕ → ℕ → List StoredClause
-shortened ks p n = with_clause ks p (record { place = p; header = record (header_at ks p) { len = n }; literals = take n (literals_at ks p) })
+shortened ks p n = with_stored ks p (record { place = p; header = record (header_at ks p) { len = n }; literals = take n (literals_at ks p) })
 
 -- each clause stands at a higher place than the one before it
 abbrev pub AreRising : List StoredClause → Type 0
@@ -62,8 +62,8 @@ abbrev pub AreLong : List StoredClause → Type 0
 AreLong ks = (k : StoredClause) → k ∈ ks → (3 ≤ length k.literals) × (k.header.len ≡ length k.literals)
 
 -- a clause is kept behind the others, at a higher place
-abbrev pub Keeps : List StoredClause → List StoredClause → StoredClause → Type 0
-Keeps old new k = (new ≡ old ++ k ∷ []) × ((j : StoredClause) → j ∈ old → j.place < k.place)
+abbrev pub AppendsClause : List StoredClause → List StoredClause → StoredClause → Type 0
+AppendsClause old new k = (new ≡ old ++ k ∷ []) × ((j : StoredClause) → j ∈ old → j.place < k.place)
 
 -- The clauses keep their places and headers, and are equal as sets: the order of a clause's literals may change.
 abbrev pub AreReordered : List StoredClause → List StoredClause → Type 0

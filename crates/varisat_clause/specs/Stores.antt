@@ -1,7 +1,7 @@
 -- A store of clauses: one list of words, and the places at which clauses begin in it.
 use Rattle.std.specs.Prelude.{◌≡◌, ℕ, ◌+◌, ◌^◌, ◌≤◌, ◌<◌, nat_le, nat_lt, List, [], ◌∷◌, ◌++◌, length, map, take, drop, Bool, ◌&&◌, slice_index, slice_set}
-use Rattle.varisat_clause.specs.Headers.{Header, header_from, flags_of}
-use Rattle.varisat_clause.specs.Stored.{StoredClause, Keeps}
+use Rattle.varisat_clause.specs.Headers.{Header, header_of_words, flags_of}
+use Rattle.varisat_clause.specs.Stored.{StoredClause, AppendsClause}
 
 -- A clause is three words for its header, and then its literals. A clause that was shortened leaves a gap behind it.
 pub record Store : Type 0 where
@@ -17,15 +17,15 @@ len_at ws p = slice_index ws (p + 2)
 
 -- the header at the place
 abbrev pub header_in : List ℕ → ℕ → Header
-header_in ws p = header_from (slice_index ws p) (slice_index ws (p + 1)) (len_at ws p)
+header_in ws p = header_of_words (slice_index ws p) (slice_index ws (p + 1)) (len_at ws p)
 
 -- the clause at the place
 abbrev pub clause_in : List ℕ → ℕ → StoredClause
 clause_in ws p = record { place = p; header = header_in ws p; literals = take (len_at ws p) (drop (p + 3) ws) }
 
 -- the clauses of a store, also those that are deleted
-abbrev pub clauses_of : Store → List StoredClause
-clauses_of s = map (clause_in s.words) s.places
+abbrev pub stored_clauses : Store → List StoredClause
+stored_clauses s = map (clause_in s.words) s.places
 
 -- a clause of three literals or more stands at the place, between low and high
 pub record Lies (ws : List ℕ) (low high p : ℕ) : Type 0 where
@@ -35,13 +35,13 @@ pub record Lies (ws : List ℕ) (low high p : ℕ) : Type 0 where
   pub flags : slice_index ws (p + 1) < 2 ^ 11
 
 -- clauses stand one after another between low and high
-abbrev pub Fits : List ℕ → ℕ → ℕ → List ℕ → Type 0
-Fits ws low high [] = low ≤ high
-Fits ws low high (p ∷ ps) = Lies ws low high p × Fits ws (p + 3 + len_at ws p) high ps
+abbrev pub FitsWords : List ℕ → ℕ → ℕ → List ℕ → Type 0
+FitsWords ws low high [] = low ≤ high
+FitsWords ws low high (p ∷ ps) = Lies ws low high p × FitsWords ws (p + 3 + len_at ws p) high ps
 
 -- What each call keeps. Words that are lent may break it.
 pub record IsSound (s : Store) : Type 0 where
-  pub fits : Fits s.words 0 (length s.words) s.places
+  pub fits : FitsWords s.words 0 (length s.words) s.places
   pub small : length s.words < 2 ^ 32
 
 -- the same as tests
@@ -56,17 +56,17 @@ abbrev pub is_sound : Store → Bool
 is_sound s = fit s.words 0 (length s.words) s.places && nat_lt (length s.words) (2 ^ 32)
 
 -- a sound store of so many words, with these clauses
-pub record Holds (s : Store) (size : ℕ) (ks : List StoredClause) : Type 0 where
+pub record HoldsClauses (s : Store) (size : ℕ) (ks : List StoredClause) : Type 0 where
   pub sound : IsSound s
   pub words : length s.words ≡ size
-  pub clauses : clauses_of s ≡ ks
+  pub clauses : stored_clauses s ≡ ks
 
 -- a clause stands behind the words that there were, and all else is as it was
-pub record Adds (old new : Store) (k : StoredClause) : Type 0 where
+pub record AddsStored (old new : Store) (k : StoredClause) : Type 0 where
   pub sound : IsSound new
   pub place : k.place ≡ length old.words
   pub words : length new.words ≡ length old.words + 3 + length k.literals
-  pub clauses : Keeps (clauses_of old) (clauses_of new) k
+  pub clauses : AppendsClause (stored_clauses old) (stored_clauses new) k
 
 -- the header written to the words from p on
 abbrev pub header_written : List ℕ → ℕ → Header → List ℕ

@@ -4,8 +4,8 @@
 //! 2^32 all are shifted, so that their order stays.
 ghost use Rattle.std.specs.Prelude.{◌≡◌, ℕ, ◌+◌, ◌*◌, ◌/◌, ◌^◌, ◌<◌, ◌≤◌, length, max, true, false};
 ghost use Rattle.varisat_clause.specs.Stored.{IsPlace, header_at};
-ghost use Rattle.varisat_clause.specs.Stores.{clauses_of, IsSound, Holds};
-ghost use Rattle.varisat_clause.specs.ClauseActivities.{ActivityScale, least_increment, activity_limit, AreWithinLimits, with_activity, shifted, scale_shifted, clauses_rescaled, scale_rescaled, reaches_limit};
+ghost use Rattle.varisat_clause.specs.Stores.{stored_clauses, IsSound, HoldsClauses};
+ghost use Rattle.varisat_clause.specs.ClauseActivities.{ActivityScale, least_clause_increment, clause_activity_limit, AreWithinClauseLimits, with_activity, clauses_shifted, scale_shifted, clauses_rescaled, scale_rescaled, reaches_clause_limit};
 
 use crate::alloc::{ClauseAlloc, ClauseRef};
 use std::alloc::Allocator;
@@ -25,7 +25,7 @@ pub struct ClauseActivity {
 }
 
 impl Model for ClauseActivity {
-    ghost use Rattle.varisat_clause.specs.ClauseActivities.{ActivityScale, AreWithinLimits};
+    ghost use Rattle.varisat_clause.specs.ClauseActivities.{ActivityScale, AreWithinClauseLimits};
 
     ghost Value = { ActivityScale };
 
@@ -33,13 +33,13 @@ impl Model for ClauseActivity {
 
     ghost inverse = { λ a. record { increment = a.increment; decay = a.decay } };
 
-    ghost invariant = { λ a. AreWithinLimits a.increment a.decay };
+    ghost invariant = { λ a. AreWithinClauseLimits a.increment a.decay };
 }
 
 impl ClauseActivity {
     /// The least increment, and a decay of 999 thousandths.
     pub fn new() -> ClauseActivity
-        ensures { result ≡ record { increment = least_increment; decay = 999 } }
+        ensures { result ≡ record { increment = least_clause_increment; decay = 999 } }
     {
         ClauseActivity {
             increment: LEAST_INCREMENT,
@@ -59,7 +59,7 @@ impl ClauseActivity {
     /// What a bump adds.
     pub fn increment(&self) -> u32
         ensures increment { result ≡ self.now.increment }
-        ensures limits { AreWithinLimits self.now.increment self.now.decay }
+        ensures limits { AreWithinClauseLimits self.now.increment self.now.decay }
     {
         self.increment
     }
@@ -67,7 +67,7 @@ impl ClauseActivity {
     /// The increment after a decay.
     fn decayed(&self) -> u64
         ensures decayed { result ≡ self.now.increment * 1000 / self.now.decay }
-        ensures least { least_increment ≤ result }
+        ensures least { least_clause_increment ≤ result }
         ensures small { result < 2 ^ 30 }
     {
         self.increment as u64 * 1000 / self.decay as u64
@@ -75,8 +75,8 @@ impl ClauseActivity {
 
     /// Sets the increment.
     fn set_increment(&mut self, increment: u32)
-        requires least { least_increment ≤ increment }
-        requires small { increment < activity_limit }
+        requires least { least_clause_increment ≤ increment }
+        requires small { increment < clause_activity_limit }
         ensures { self.new ≡ record self.old { increment = increment } }
     {
         self.increment = increment;
@@ -86,7 +86,7 @@ impl ClauseActivity {
 /// The increment shifted right by 16, but no less than the least.
 fn shifted_increment(increment: u64) -> u32
     requires { increment < 2 ^ 30 }
-    ensures { result ≡ max least_increment (increment / 2 ^ 16) }
+    ensures { result ≡ max least_clause_increment (increment / 2 ^ 16) }
 {
     LEAST_INCREMENT.max((increment >> 16) as u32)
 }
@@ -94,7 +94,7 @@ fn shifted_increment(increment: u64) -> u32
 /// Shifts the activities of all clauses right by 16.
 fn rescale<A: Allocator + Copy>(alloc: &mut ClauseAlloc<A>)
     requires { IsSound alloc.old }
-    ensures { Holds alloc.new (length alloc.old.words) (shifted (clauses_of alloc.old)) }
+    ensures { HoldsClauses alloc.new (length alloc.old.words) (clauses_shifted (stored_clauses alloc.old)) }
 {
     'clauses: for index in 0..alloc.len() {
         let cref = alloc.place(index);
@@ -107,8 +107,8 @@ fn rescale<A: Allocator + Copy>(alloc: &mut ClauseAlloc<A>)
 /// Sets the activity of the clause.
 fn set_activity<A: Allocator + Copy>(alloc: &mut ClauseAlloc<A>, cref: ClauseRef, activity: u32)
     requires sound { IsSound alloc.old }
-    requires place { IsPlace (clauses_of alloc.old) cref }
-    ensures { Holds alloc.new (length alloc.old.words) (with_activity (clauses_of alloc.old) cref activity) }
+    requires place { IsPlace (stored_clauses alloc.old) cref }
+    ensures { HoldsClauses alloc.new (length alloc.old.words) (with_activity (stored_clauses alloc.old) cref activity) }
 {
     let mut header = alloc.header(cref);
     header.set_activity(activity);
@@ -123,10 +123,10 @@ pub fn bump_clause_activity<A: Allocator + Copy>(
     cref: ClauseRef,
 )
     requires sound { IsSound alloc.old }
-    requires place { IsPlace (clauses_of alloc.old) cref }
-    ensures raised { reaches_limit ((header_at (clauses_of alloc.old) cref).activity + activity.old.increment) ≡ false → Holds alloc.new (length alloc.old.words) (with_activity (clauses_of alloc.old) cref ((header_at (clauses_of alloc.old) cref).activity + activity.old.increment)) }
-    ensures shifted { reaches_limit ((header_at (clauses_of alloc.old) cref).activity + activity.old.increment) ≡ true → Holds alloc.new (length alloc.old.words) (with_activity (shifted (clauses_of alloc.old)) cref (((header_at (clauses_of alloc.old) cref).activity + activity.old.increment) / 2 ^ 16)) }
-    ensures scale { activity.new ≡ scale_rescaled (reaches_limit ((header_at (clauses_of alloc.old) cref).activity + activity.old.increment)) activity.old }
+    requires place { IsPlace (stored_clauses alloc.old) cref }
+    ensures raised { reaches_clause_limit ((header_at (stored_clauses alloc.old) cref).activity + activity.old.increment) ≡ false → HoldsClauses alloc.new (length alloc.old.words) (with_activity (stored_clauses alloc.old) cref ((header_at (stored_clauses alloc.old) cref).activity + activity.old.increment)) }
+    ensures shifted { reaches_clause_limit ((header_at (stored_clauses alloc.old) cref).activity + activity.old.increment) ≡ true → HoldsClauses alloc.new (length alloc.old.words) (with_activity (clauses_shifted (stored_clauses alloc.old)) cref (((header_at (stored_clauses alloc.old) cref).activity + activity.old.increment) / 2 ^ 16)) }
+    ensures scale { activity.new ≡ scale_rescaled (reaches_clause_limit ((header_at (stored_clauses alloc.old) cref).activity + activity.old.increment)) activity.old }
 {
     let increment = activity.increment();
     let value = alloc.header(cref).activity() as u64 + increment as u64;
@@ -146,8 +146,8 @@ pub fn decay_clause_activities<A: Allocator + Copy>(
     activity: &mut ClauseActivity,
 )
     requires { IsSound alloc.old }
-    ensures clauses { Holds alloc.new (length alloc.old.words) (clauses_rescaled (reaches_limit (activity.old.increment * 1000 / activity.old.decay)) (clauses_of alloc.old)) }
-    ensures scale { activity.new ≡ scale_rescaled (reaches_limit (activity.old.increment * 1000 / activity.old.decay)) (record activity.old { increment = activity.old.increment * 1000 / activity.old.decay }) }
+    ensures clauses { HoldsClauses alloc.new (length alloc.old.words) (clauses_rescaled (reaches_clause_limit (activity.old.increment * 1000 / activity.old.decay)) (stored_clauses alloc.old)) }
+    ensures scale { activity.new ≡ scale_rescaled (reaches_clause_limit (activity.old.increment * 1000 / activity.old.decay)) (record activity.old { increment = activity.old.increment * 1000 / activity.old.decay }) }
 {
     let increment = activity.decayed();
     if increment < ACTIVITY_LIMIT {

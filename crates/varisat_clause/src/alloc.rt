@@ -2,10 +2,10 @@
 ghost use Rattle.std.specs.Prelude.{◌≡◌, ℕ, ◌+◌, ◌<◌, ◌≤◌, ◌^◌, ◌++◌, ◌∷◌, [], List, length, slice_index, ◌↔◌, IsTrue, IfOk, IfErr, OnErr, if◌then◌else◌};
 ghost use Rattle.std.specs.List.{swap};
 ghost use Rattle.varisat_clause.specs.declared.alloc.StoreError.TheVariants.{Memory};
-ghost use Rattle.varisat_clause.specs.Headers.{header_from, flags_of};
+ghost use Rattle.varisat_clause.specs.Headers.{header_of_words, flags_of};
 ghost use Rattle.varisat_clause.specs.Stored.{IsPlace, stored_at, header_at, literals_at, with_literals, with_header, shortened};
 ghost use Rattle.varisat_clause.specs.Reductions.{rank_in};
-ghost use Rattle.varisat_clause.specs.Stores.{Store, no_store, len_at, header_in, clauses_of, IsSound, Holds, Adds, header_written, put_words};
+ghost use Rattle.varisat_clause.specs.Stores.{Store, no_store, len_at, header_in, stored_clauses, IsSound, HoldsClauses, AddsStored, header_written, put_words};
 
 use crate::header::ClauseHeader;
 use std::alloc::{AllocError, Allocator};
@@ -107,7 +107,7 @@ fn write_header(words: &mut [Lit], place: usize, header: ClauseHeader)
     requires { place + 2 < length words.old }
     ensures words { words.new ≡ header_written words.old place header }
     ensures flags { flags_of header < 2 ^ 11 }
-    ensures back { header_from header.activity (flags_of header) header.len ≡ header }
+    ensures back { header_of_words header.activity (flags_of header) header.len ≡ header }
 {
     let [activity, flags, len] = header.words();
     words[place] = Lit::from_code(activity as usize);
@@ -120,7 +120,7 @@ fn append<A: Allocator + Copy>(buffer: &mut Vec<Lit, A>, header: ClauseHeader, l
     requires { length lits.now < 2 ^ 32 }
     ensures items { buffer.new.items ≡ (if result then buffer.old.items ++ (header.activity ∷ flags_of header ∷ length lits.now ∷ lits.now) else buffer.old.items) }
     ensures flags { flags_of header < 2 ^ 11 }
-    ensures back { header_from header.activity (flags_of header) header.len ≡ header }
+    ensures back { header_of_words header.activity (flags_of header) header.len ≡ header }
 {
     let len = buffer.len();
     let [activity, flags, _] = header.words();
@@ -143,7 +143,7 @@ impl<A: Allocator + Copy> ClauseAlloc<A> {
     /// No clauses. It takes no memory.
     pub fn new_in(alloc: A) -> ClauseAlloc<A>
         ensures empty { result ≡ no_store }
-        ensures sound { Holds result 0 [] }
+        ensures sound { HoldsClauses result 0 [] }
     {
         ClauseAlloc {
             buffer: Vec::new(alloc),
@@ -154,7 +154,7 @@ impl<A: Allocator + Copy> ClauseAlloc<A> {
     /// No clauses, and memory for as many words.
     pub fn with_capacity(alloc: A, words: usize) -> Result<ClauseAlloc<A>, AllocError>
         ensures empty { IfOk result (λ store. store ≡ no_store) }
-        ensures sound { IfOk result (λ store. Holds store 0 []) }
+        ensures sound { IfOk result (λ store. HoldsClauses store 0 []) }
     {
         let buffer = Vec::with_capacity(alloc, words)?;
         Ok(ClauseAlloc {
@@ -177,7 +177,7 @@ impl<A: Allocator + Copy> ClauseAlloc<A> {
 
     /// How many clauses there are, also deleted ones.
     pub fn len(&self) -> usize
-        ensures count { result ≡ length (clauses_of self.now) }
+        ensures count { result ≡ length (stored_clauses self.now) }
         ensures places { result ≡ length self.now.places }
     {
         self.places.len()
@@ -187,7 +187,7 @@ impl<A: Allocator + Copy> ClauseAlloc<A> {
     pub fn place(&self, index: usize) -> ClauseRef
         requires { index < length self.now.places }
         ensures place { result ≡ slice_index self.now.places index }
-        ensures known { IsPlace (clauses_of self.now) result }
+        ensures known { IsPlace (stored_clauses self.now) result }
     {
         self.places[index]
     }
@@ -211,7 +211,7 @@ impl<A: Allocator + Copy> ClauseAlloc<A> {
     ) -> Result<ClauseRef, StoreError>
         requires long { 3 ≤ length lits.now }
         requires sound { IsSound self.old }
-        ensures added { IfOk result (λ cref. Adds self.old self.new (record { place = cref; header = record header { len = length lits.now }; literals = lits.now })) }
+        ensures added { IfOk result (λ cref. AddsStored self.old self.new (record { place = cref; header = record header { len = length lits.now }; literals = lits.now })) }
         ensures room { IfOk result (λ cref. length self.old.words + 3 + length lits.now < 2 ^ 32) }
         ensures full { IfErr result (λ error. (error ≡ StoreError.Full) ↔ (2 ^ 32 ≤ length self.old.words + 3 + length lits.now)) }
         ensures refused { OnErr result (self.new ≡ self.old) }
@@ -236,8 +236,8 @@ impl<A: Allocator + Copy> ClauseAlloc<A> {
     /// The header of the clause.
     pub fn header(&self, cref: ClauseRef) -> ClauseHeader
         requires sound { IsSound self.now }
-        requires place { IsPlace (clauses_of self.now) cref }
-        ensures { result ≡ header_at (clauses_of self.now) cref }
+        requires place { IsPlace (stored_clauses self.now) cref }
+        ensures { result ≡ header_at (stored_clauses self.now) cref }
     {
         read_header(&self.buffer, cref.offset as usize)
     }
@@ -256,8 +256,8 @@ impl<A: Allocator + Copy> ClauseAlloc<A> {
     /// The literals of the clause.
     pub fn lits(&self, cref: ClauseRef) -> &[Lit]
         requires sound { IsSound self.now }
-        requires place { IsPlace (clauses_of self.now) cref }
-        ensures { result.now ≡ literals_at (clauses_of self.now) cref }
+        requires place { IsPlace (stored_clauses self.now) cref }
+        ensures { result.now ≡ literals_at (stored_clauses self.now) cref }
     {
         let begin = cref.offset as usize + HEADER_LEN;
         let len = word(&self.buffer, cref.offset as usize + 2) as usize;
@@ -267,10 +267,10 @@ impl<A: Allocator + Copy> ClauseAlloc<A> {
     /// The literals of the clause, to be changed.
     pub fn lits_mut(&mut self, cref: ClauseRef) -> &mut [Lit]
         requires sound { IsSound self.old }
-        requires place { IsPlace (clauses_of self.old) cref }
+        requires place { IsPlace (stored_clauses self.old) cref }
         ensures* lends { sem 𝓛 (lends_literals A.row A.Allocator self.entry cref result) }
-        ensures value { result.now ≡ literals_at (clauses_of self.old) cref }
-        ensures alone { (ws : List ℕ) → length ws ≡ length result.now → Holds (put_words self.old (cref + 3) ws) (length self.old.words) (with_literals (clauses_of self.old) cref ws) }
+        ensures value { result.now ≡ literals_at (stored_clauses self.old) cref }
+        ensures alone { (ws : List ℕ) → length ws ≡ length result.now → HoldsClauses (put_words self.old (cref + 3) ws) (length self.old.words) (with_literals (stored_clauses self.old) cref ws) }
     {
         let begin = cref.offset as usize + HEADER_LEN;
         let len = word(&self.buffer, cref.offset as usize + 2) as usize;
@@ -280,10 +280,10 @@ impl<A: Allocator + Copy> ClauseAlloc<A> {
     /// Exchanges two literals of the clause.
     pub fn swap_lits(&mut self, cref: ClauseRef, first: usize, second: usize)
         requires sound { IsSound self.old }
-        requires place { IsPlace (clauses_of self.old) cref }
-        requires first { first < length (literals_at (clauses_of self.old) cref) }
-        requires second { second < length (literals_at (clauses_of self.old) cref) }
-        ensures { Holds self.new (length self.old.words) (with_literals (clauses_of self.old) cref (swap (literals_at (clauses_of self.old) cref) first second)) }
+        requires place { IsPlace (stored_clauses self.old) cref }
+        requires first { first < length (literals_at (stored_clauses self.old) cref) }
+        requires second { second < length (literals_at (stored_clauses self.old) cref) }
+        ensures { HoldsClauses self.new (length self.old.words) (with_literals (stored_clauses self.old) cref (swap (literals_at (stored_clauses self.old) cref) first second)) }
     {
         let lits = self.lits_mut(cref);
         lits.swap(first, second);
@@ -292,9 +292,9 @@ impl<A: Allocator + Copy> ClauseAlloc<A> {
     /// Replaces the header of the clause by one of the same length.
     pub fn set_header(&mut self, cref: ClauseRef, header: ClauseHeader)
         requires sound { IsSound self.old }
-        requires place { IsPlace (clauses_of self.old) cref }
-        requires length { header.len ≡ (header_at (clauses_of self.old) cref).len }
-        ensures { Holds self.new (length self.old.words) (with_header (clauses_of self.old) cref header) }
+        requires place { IsPlace (stored_clauses self.old) cref }
+        requires length { header.len ≡ (header_at (stored_clauses self.old) cref).len }
+        ensures { HoldsClauses self.new (length self.old.words) (with_header (stored_clauses self.old) cref header) }
     {
         write_header(&mut self.buffer, cref.offset as usize, header);
     }
@@ -302,10 +302,10 @@ impl<A: Allocator + Copy> ClauseAlloc<A> {
     /// Drops the last literals of the clause, so that as many are left. It leaves a gap.
     pub fn shorten(&mut self, cref: ClauseRef, count: usize)
         requires sound { IsSound self.old }
-        requires place { IsPlace (clauses_of self.old) cref }
+        requires place { IsPlace (stored_clauses self.old) cref }
         requires least { 3 ≤ count }
-        requires most { count ≤ (header_at (clauses_of self.old) cref).len }
-        ensures { Holds self.new (length self.old.words) (shortened (clauses_of self.old) cref count) }
+        requires most { count ≤ (header_at (stored_clauses self.old) cref).len }
+        ensures { HoldsClauses self.new (length self.old.words) (shortened (stored_clauses self.old) cref count) }
     {
         self.buffer[cref.offset as usize + 2] = Lit::from_code(count);
     }

@@ -1,7 +1,7 @@
 //! A clause of a store, to be read or changed.
 ghost use Rattle.std.specs.Prelude.{◌≡◌, ℕ, ◌+◌, ◌<◌, ◌≤◌, ◌^◌, List, length, min};
 ghost use Rattle.varisat_clause.specs.Stored.{IsPlace, stored_at, header_at, literals_at, with_literals, with_header, shortened};
-ghost use Rattle.varisat_clause.specs.Stores.{clauses_of, IsSound, Holds, put_words};
+ghost use Rattle.varisat_clause.specs.Stores.{stored_clauses, IsSound, HoldsClauses, put_words};
 
 use crate::alloc::{ClauseAlloc, ClauseRef};
 use crate::header::{ClauseHeader, Tier};
@@ -52,9 +52,9 @@ impl<A: Allocator + Copy> ClauseAlloc<A> {
     /// The clause.
     pub fn clause(&self, cref: ClauseRef) -> Clause<'_>
         requires sound { IsSound self.now }
-        requires place { IsPlace (clauses_of self.now) cref }
-        ensures header { result.header ≡ header_at (clauses_of self.now) cref }
-        ensures literals { result.literals.now ≡ literals_at (clauses_of self.now) cref }
+        requires place { IsPlace (stored_clauses self.now) cref }
+        ensures header { result.header ≡ header_at (stored_clauses self.now) cref }
+        ensures literals { result.literals.now ≡ literals_at (stored_clauses self.now) cref }
     {
         Clause {
             header: self.header(cref),
@@ -88,8 +88,8 @@ impl<'a, A: Allocator + Copy> ClauseMut<'a, A> {
     /// The header.
     pub fn header(&self) -> ClauseHeader
         requires sound { IsSound self.now.alloc.now }
-        requires place { IsPlace (clauses_of self.now.alloc.now) self.now.cref }
-        ensures { result ≡ header_at (clauses_of self.now.alloc.now) self.now.cref }
+        requires place { IsPlace (stored_clauses self.now.alloc.now) self.now.cref }
+        ensures { result ≡ header_at (stored_clauses self.now.alloc.now) self.now.cref }
     {
         self.alloc.header(self.cref)
     }
@@ -107,8 +107,8 @@ impl<'a, A: Allocator + Copy> ClauseMut<'a, A> {
     /// The literals.
     pub fn lits(&self) -> &[Lit]
         requires sound { IsSound self.now.alloc.now }
-        requires place { IsPlace (clauses_of self.now.alloc.now) self.now.cref }
-        ensures { result.now ≡ literals_at (clauses_of self.now.alloc.now) self.now.cref }
+        requires place { IsPlace (stored_clauses self.now.alloc.now) self.now.cref }
+        ensures { result.now ≡ literals_at (stored_clauses self.now.alloc.now) self.now.cref }
     {
         self.alloc.lits(self.cref)
     }
@@ -116,10 +116,10 @@ impl<'a, A: Allocator + Copy> ClauseMut<'a, A> {
     /// The literals, to be changed.
     pub fn lits_mut(&mut self) -> &mut [Lit]
         requires sound { IsSound self.old.alloc.now }
-        requires place { IsPlace (clauses_of self.old.alloc.now) self.old.cref }
+        requires place { IsPlace (stored_clauses self.old.alloc.now) self.old.cref }
         ensures* lends { sem 𝓛 (lends_of_clause A.row A.Allocator self.entry result) }
-        ensures value { result.now ≡ literals_at (clauses_of self.old.alloc.now) self.old.cref }
-        ensures alone { (ws : List ℕ) → length ws ≡ length result.now → Holds (put_words self.old.alloc.now (self.old.cref + 3) ws) (length self.old.alloc.now.words) (with_literals (clauses_of self.old.alloc.now) self.old.cref ws) }
+        ensures value { result.now ≡ literals_at (stored_clauses self.old.alloc.now) self.old.cref }
+        ensures alone { (ws : List ℕ) → length ws ≡ length result.now → HoldsClauses (put_words self.old.alloc.now (self.old.cref + 3) ws) (length self.old.alloc.now.words) (with_literals (stored_clauses self.old.alloc.now) self.old.cref ws) }
     {
         let cref = self.cref;
         let alloc = &mut *self.alloc;
@@ -131,8 +131,8 @@ impl<'a, A: Allocator + Copy> ClauseHeaderMut<'a, A> {
     /// The header.
     pub fn header(&self) -> ClauseHeader
         requires sound { IsSound self.now.alloc.now }
-        requires place { IsPlace (clauses_of self.now.alloc.now) self.now.cref }
-        ensures { result ≡ header_at (clauses_of self.now.alloc.now) self.now.cref }
+        requires place { IsPlace (stored_clauses self.now.alloc.now) self.now.cref }
+        ensures { result ≡ header_at (stored_clauses self.now.alloc.now) self.now.cref }
     {
         self.alloc.header(self.cref)
     }
@@ -140,11 +140,11 @@ impl<'a, A: Allocator + Copy> ClauseHeaderMut<'a, A> {
     /// Replaces the header by one of the same length.
     pub fn set_header(&mut self, header: ClauseHeader)
         requires sound { IsSound self.old.alloc.now }
-        requires place { IsPlace (clauses_of self.old.alloc.now) self.old.cref }
-        requires length { header.len ≡ (header_at (clauses_of self.old.alloc.now) self.old.cref).len }
+        requires place { IsPlace (stored_clauses self.old.alloc.now) self.old.cref }
+        requires length { header.len ≡ (header_at (stored_clauses self.old.alloc.now) self.old.cref).len }
         ensures same_reference { self.new.alloc.ghost_name ≡ self.old.alloc.ghost_name }
         ensures same_place { self.new.cref ≡ self.old.cref }
-        ensures changed { Holds self.new.alloc.now (length self.old.alloc.now.words) (with_header (clauses_of self.old.alloc.now) self.old.cref header) }
+        ensures changed { HoldsClauses self.new.alloc.now (length self.old.alloc.now.words) (with_header (stored_clauses self.old.alloc.now) self.old.cref header) }
     {
         let cref = self.cref;
         let alloc = &mut *self.alloc;
@@ -154,12 +154,12 @@ impl<'a, A: Allocator + Copy> ClauseHeaderMut<'a, A> {
     /// Drops the last literals of the clause, so that as many are left.
     pub fn set_len(&mut self, count: usize)
         requires sound { IsSound self.old.alloc.now }
-        requires place { IsPlace (clauses_of self.old.alloc.now) self.old.cref }
+        requires place { IsPlace (stored_clauses self.old.alloc.now) self.old.cref }
         requires least { 3 ≤ count }
-        requires most { count ≤ (header_at (clauses_of self.old.alloc.now) self.old.cref).len }
+        requires most { count ≤ (header_at (stored_clauses self.old.alloc.now) self.old.cref).len }
         ensures same_reference { self.new.alloc.ghost_name ≡ self.old.alloc.ghost_name }
         ensures same_place { self.new.cref ≡ self.old.cref }
-        ensures changed { Holds self.new.alloc.now (length self.old.alloc.now.words) (shortened (clauses_of self.old.alloc.now) self.old.cref count) }
+        ensures changed { HoldsClauses self.new.alloc.now (length self.old.alloc.now.words) (shortened (stored_clauses self.old.alloc.now) self.old.cref count) }
     {
         let cref = self.cref;
         let alloc = &mut *self.alloc;
@@ -169,10 +169,10 @@ impl<'a, A: Allocator + Copy> ClauseHeaderMut<'a, A> {
     /// Says whether the clause is deleted.
     pub fn set_deleted(&mut self, deleted: bool)
         requires sound { IsSound self.old.alloc.now }
-        requires place { IsPlace (clauses_of self.old.alloc.now) self.old.cref }
+        requires place { IsPlace (stored_clauses self.old.alloc.now) self.old.cref }
         ensures same_reference { self.new.alloc.ghost_name ≡ self.old.alloc.ghost_name }
         ensures same_place { self.new.cref ≡ self.old.cref }
-        ensures changed { Holds self.new.alloc.now (length self.old.alloc.now.words) (with_header (clauses_of self.old.alloc.now) self.old.cref (record (header_at (clauses_of self.old.alloc.now) self.old.cref) { deleted = deleted })) }
+        ensures changed { HoldsClauses self.new.alloc.now (length self.old.alloc.now.words) (with_header (stored_clauses self.old.alloc.now) self.old.cref (record (header_at (stored_clauses self.old.alloc.now) self.old.cref) { deleted = deleted })) }
     {
         let mut header = self.header();
         header.set_deleted(deleted);
@@ -182,10 +182,10 @@ impl<'a, A: Allocator + Copy> ClauseHeaderMut<'a, A> {
     /// Sets the tier.
     pub fn set_tier(&mut self, tier: Tier)
         requires sound { IsSound self.old.alloc.now }
-        requires place { IsPlace (clauses_of self.old.alloc.now) self.old.cref }
+        requires place { IsPlace (stored_clauses self.old.alloc.now) self.old.cref }
         ensures same_reference { self.new.alloc.ghost_name ≡ self.old.alloc.ghost_name }
         ensures same_place { self.new.cref ≡ self.old.cref }
-        ensures changed { Holds self.new.alloc.now (length self.old.alloc.now.words) (with_header (clauses_of self.old.alloc.now) self.old.cref (record (header_at (clauses_of self.old.alloc.now) self.old.cref) { tier = tier })) }
+        ensures changed { HoldsClauses self.new.alloc.now (length self.old.alloc.now.words) (with_header (stored_clauses self.old.alloc.now) self.old.cref (record (header_at (stored_clauses self.old.alloc.now) self.old.cref) { tier = tier })) }
     {
         let mut header = self.header();
         header.set_tier(tier);
@@ -195,10 +195,10 @@ impl<'a, A: Allocator + Copy> ClauseHeaderMut<'a, A> {
     /// Marks or unmarks the clause.
     pub fn set_mark(&mut self, mark: bool)
         requires sound { IsSound self.old.alloc.now }
-        requires place { IsPlace (clauses_of self.old.alloc.now) self.old.cref }
+        requires place { IsPlace (stored_clauses self.old.alloc.now) self.old.cref }
         ensures same_reference { self.new.alloc.ghost_name ≡ self.old.alloc.ghost_name }
         ensures same_place { self.new.cref ≡ self.old.cref }
-        ensures changed { Holds self.new.alloc.now (length self.old.alloc.now.words) (with_header (clauses_of self.old.alloc.now) self.old.cref (record (header_at (clauses_of self.old.alloc.now) self.old.cref) { mark = mark })) }
+        ensures changed { HoldsClauses self.new.alloc.now (length self.old.alloc.now.words) (with_header (stored_clauses self.old.alloc.now) self.old.cref (record (header_at (stored_clauses self.old.alloc.now) self.old.cref) { mark = mark })) }
     {
         let mut header = self.header();
         header.set_mark(mark);
@@ -208,10 +208,10 @@ impl<'a, A: Allocator + Copy> ClauseHeaderMut<'a, A> {
     /// Sets or clears the flag active.
     pub fn set_active(&mut self, active: bool)
         requires sound { IsSound self.old.alloc.now }
-        requires place { IsPlace (clauses_of self.old.alloc.now) self.old.cref }
+        requires place { IsPlace (stored_clauses self.old.alloc.now) self.old.cref }
         ensures same_reference { self.new.alloc.ghost_name ≡ self.old.alloc.ghost_name }
         ensures same_place { self.new.cref ≡ self.old.cref }
-        ensures changed { Holds self.new.alloc.now (length self.old.alloc.now.words) (with_header (clauses_of self.old.alloc.now) self.old.cref (record (header_at (clauses_of self.old.alloc.now) self.old.cref) { active = active })) }
+        ensures changed { HoldsClauses self.new.alloc.now (length self.old.alloc.now.words) (with_header (stored_clauses self.old.alloc.now) self.old.cref (record (header_at (stored_clauses self.old.alloc.now) self.old.cref) { active = active })) }
     {
         let mut header = self.header();
         header.set_active(active);
@@ -221,10 +221,10 @@ impl<'a, A: Allocator + Copy> ClauseHeaderMut<'a, A> {
     /// Sets the glue to the number, or to 63 where that is less.
     pub fn set_glue(&mut self, glue: usize)
         requires sound { IsSound self.old.alloc.now }
-        requires place { IsPlace (clauses_of self.old.alloc.now) self.old.cref }
+        requires place { IsPlace (stored_clauses self.old.alloc.now) self.old.cref }
         ensures same_reference { self.new.alloc.ghost_name ≡ self.old.alloc.ghost_name }
         ensures same_place { self.new.cref ≡ self.old.cref }
-        ensures changed { Holds self.new.alloc.now (length self.old.alloc.now.words) (with_header (clauses_of self.old.alloc.now) self.old.cref (record (header_at (clauses_of self.old.alloc.now) self.old.cref) { glue = min glue 63 })) }
+        ensures changed { HoldsClauses self.new.alloc.now (length self.old.alloc.now.words) (with_header (stored_clauses self.old.alloc.now) self.old.cref (record (header_at (stored_clauses self.old.alloc.now) self.old.cref) { glue = min glue 63 })) }
     {
         let mut header = self.header();
         header.set_glue(glue);
@@ -234,10 +234,10 @@ impl<'a, A: Allocator + Copy> ClauseHeaderMut<'a, A> {
     /// Sets the activity.
     pub fn set_activity(&mut self, activity: u32)
         requires sound { IsSound self.old.alloc.now }
-        requires place { IsPlace (clauses_of self.old.alloc.now) self.old.cref }
+        requires place { IsPlace (stored_clauses self.old.alloc.now) self.old.cref }
         ensures same_reference { self.new.alloc.ghost_name ≡ self.old.alloc.ghost_name }
         ensures same_place { self.new.cref ≡ self.old.cref }
-        ensures changed { Holds self.new.alloc.now (length self.old.alloc.now.words) (with_header (clauses_of self.old.alloc.now) self.old.cref (record (header_at (clauses_of self.old.alloc.now) self.old.cref) { activity = activity })) }
+        ensures changed { HoldsClauses self.new.alloc.now (length self.old.alloc.now.words) (with_header (stored_clauses self.old.alloc.now) self.old.cref (record (header_at (stored_clauses self.old.alloc.now) self.old.cref) { activity = activity })) }
     {
         let mut header = self.header();
         header.set_activity(activity);

@@ -1,7 +1,7 @@
 //! The collection of the words of deleted clauses.
 ghost use Rattle.std.specs.Prelude.{◌≡◌, ℕ, ◌+◌, ◌*◌, ◌<◌, ◌≤◌, length, ◌↔◌, IsTrue, IfOk, OnOk, OnErr, true, false};
 ghost use Rattle.varisat_clause.specs.Stored.{IsPlace, header_at, literals_at};
-ghost use Rattle.varisat_clause.specs.Stores.{clauses_of, IsSound, Adds};
+ghost use Rattle.varisat_clause.specs.Stores.{stored_clauses, IsSound, AddsStored};
 ghost use Rattle.varisat_clause.specs.Databases.{Tracks};
 ghost use Rattle.varisat_clause.specs.Collected.{IsCollected};
 
@@ -24,10 +24,10 @@ fn copy_clause<A: Allocator + Copy>(
     new_db: &mut ClauseDb<A>,
 ) -> Result<(), AllocError>
     requires sound { IsSound alloc.now }
-    requires place { IsPlace (clauses_of alloc.now) cref }
+    requires place { IsPlace (stored_clauses alloc.now) cref }
     requires tracks { Tracks new_db.old new_alloc.old }
-    ensures copied { OnOk result ((header_at (clauses_of alloc.now) cref).deleted ≡ false → Adds new_alloc.old new_alloc.new (record { place = length new_alloc.old.words; header = record (header_at (clauses_of alloc.now) cref) { mark = false }; literals = literals_at (clauses_of alloc.now) cref })) }
-    ensures passed_over { (header_at (clauses_of alloc.now) cref).deleted ≡ true → new_alloc.new ≡ new_alloc.old }
+    ensures copied { OnOk result ((header_at (stored_clauses alloc.now) cref).deleted ≡ false → AddsStored new_alloc.old new_alloc.new (record { place = length new_alloc.old.words; header = record (header_at (stored_clauses alloc.now) cref) { mark = false }; literals = literals_at (stored_clauses alloc.now) cref })) }
+    ensures passed_over { (header_at (stored_clauses alloc.now) cref).deleted ≡ true → new_alloc.new ≡ new_alloc.old }
     ensures tracks { Tracks new_db.new new_alloc.new }
 {
     let mut header = alloc.header(cref);
@@ -48,7 +48,7 @@ pub fn collected<A: Allocator + Copy>(
     db: &ClauseDb<A>,
 ) -> Result<(ClauseAlloc<A>, ClauseDb<A>), AllocError>
     requires tracks { Tracks db.now alloc.now }
-    ensures { IfOk result (λ new. IsCollected new.0 new.1 (clauses_of alloc.now)) }
+    ensures { IfOk result (λ new. IsCollected new.0 new.1 (stored_clauses alloc.now)) }
 {
     let allocator = alloc.allocator();
     // As much again is free, so that the store does not grow at the next clause.
@@ -69,7 +69,7 @@ pub fn collect_garbage<A: Allocator + Copy>(
 ) -> Result<bool, AllocError>
     requires tracks { Tracks db.old alloc.old }
     ensures due { IfOk result (λ done. IsTrue done ↔ (length alloc.old.words < 2 * db.old.garbage)) }
-    ensures collected { IfOk result (λ done. done ≡ true → IsCollected alloc.new db.new (clauses_of alloc.old)) }
+    ensures collected { IfOk result (λ done. done ≡ true → IsCollected alloc.new db.new (stored_clauses alloc.old)) }
     ensures kept { IfOk result (λ done. done ≡ false → alloc.new ≡ alloc.old) }
     ensures kept_too { IfOk result (λ done. done ≡ false → db.new ≡ db.old) }
     ensures refused { OnErr result (alloc.new ≡ alloc.old) }

@@ -1,9 +1,9 @@
 //! The database of clauses: what is noted of a store's clauses as a whole.
 ghost use Rattle.std.specs.Prelude.{◌≡◌, ℕ, ◌+◌, ◌-◌, ◌<◌, ◌≤◌, ◌^◌, ◌++◌, ◌∷◌, [], List, length, ◌↔◌, IfOk, IfErr, OnOk, OnErr, true, false, not};
 ghost use Rattle.varisat_clause.specs.Stored.{IsPlace, header_at, literals_at, with_header};
-ghost use Rattle.varisat_clause.specs.Stores.{clauses_of, IsSound, Holds, Adds};
+ghost use Rattle.varisat_clause.specs.Stores.{stored_clauses, IsSound, HoldsClauses, AddsStored};
 ghost use Rattle.varisat_clause.specs.Additions.{AddsOrRefuses};
-ghost use Rattle.varisat_clause.specs.Databases.{ListsByTier, Database, count_of, raised, lowered, no_lists, list_of, with_list, pushed, no_database, with_added, with_moved, with_deleted, Tracks};
+ghost use Rattle.varisat_clause.specs.Databases.{ListsByTier, Database, count_of, raised, lowered, no_lists, tier_list, with_tier_list, pushed, no_database, with_added, with_moved, with_deleted, Tracks};
 
 use crate::alloc::{ClauseAlloc, ClauseRef, StoreError};
 use crate::header::{ClauseHeader, Tier};
@@ -126,8 +126,8 @@ impl<A: Allocator + Copy> TierLists<A> {
 
     /// Exchanges the list of the tier for the other one.
     fn exchange(&mut self, tier: Tier, list: &mut Vec<ClauseRef, A>)
-        ensures now { self.new ≡ with_list tier list.old.items self.old }
-        ensures before { list.new.items ≡ list_of tier self.old }
+        ensures now { self.new ≡ with_tier_list tier list.old.items self.old }
+        ensures before { list.new.items ≡ tier_list tier self.old }
     {
         match tier {
             Tier::Irred => mem::swap(&mut self.irred, list),
@@ -206,8 +206,8 @@ impl<A: Allocator + Copy> ClauseDb<A> {
 
     /// Exchanges the list of the tier for the other one.
     pub(crate) fn exchange_list(&mut self, tier: Tier, list: &mut Vec<ClauseRef, A>)
-        ensures now { self.new ≡ record self.old { lists = with_list tier list.old.items self.old.lists } }
-        ensures before { list.new.items ≡ list_of tier self.old.lists }
+        ensures now { self.new ≡ record self.old { lists = with_tier_list tier list.old.items self.old.lists } }
+        ensures before { list.new.items ≡ tier_list tier self.old.lists }
     {
         self.lists.exchange(tier, list);
     }
@@ -247,7 +247,7 @@ pub fn add_clause<A: Allocator + Copy>(
     requires long { 3 ≤ length lits.now }
     requires live { header.deleted ≡ false }
     requires tracks { Tracks db.old alloc.old }
-    ensures added { IfOk result (λ cref. Adds alloc.old alloc.new (record { place = cref; header = record header { len = length lits.now }; literals = lits.now })) }
+    ensures added { IfOk result (λ cref. AddsStored alloc.old alloc.new (record { place = cref; header = record header { len = length lits.now }; literals = lits.now })) }
     ensures noted { IfOk result (λ cref. db.new ≡ with_added header.tier cref db.old) }
     ensures room { IfOk result (λ cref. length alloc.old.words + 3 + length lits.now < 2 ^ 32) }
     ensures full { IfErr result (λ error. (error ≡ StoreError.Full) ↔ (2 ^ 32 ≤ length alloc.old.words + 3 + length lits.now)) }
@@ -267,10 +267,10 @@ pub fn set_clause_tier<A: Allocator + Copy>(
     cref: ClauseRef,
     tier: Tier,
 ) -> Result<(), AllocError>
-    requires place { IsPlace (clauses_of alloc.old) cref }
-    requires live { (header_at (clauses_of alloc.old) cref).deleted ≡ false }
+    requires place { IsPlace (stored_clauses alloc.old) cref }
+    requires live { (header_at (stored_clauses alloc.old) cref).deleted ≡ false }
     requires tracks { Tracks db.old alloc.old }
-    ensures moved { OnOk result (Holds alloc.new (length alloc.old.words) (with_header (clauses_of alloc.old) cref (record (header_at (clauses_of alloc.old) cref) { tier = tier }))) }
+    ensures moved { OnOk result (HoldsClauses alloc.new (length alloc.old.words) (with_header (stored_clauses alloc.old) cref (record (header_at (stored_clauses alloc.old) cref) { tier = tier }))) }
     ensures refused { OnErr result (alloc.new ≡ alloc.old) }
     ensures refused_too { OnErr result (db.new ≡ db.old) }
     ensures tracks { Tracks db.new alloc.new }
@@ -291,11 +291,11 @@ pub fn delete_clause<A: Allocator + Copy>(
     db: &mut ClauseDb<A>,
     cref: ClauseRef,
 )
-    requires place { IsPlace (clauses_of alloc.old) cref }
-    requires live { (header_at (clauses_of alloc.old) cref).deleted ≡ false }
+    requires place { IsPlace (stored_clauses alloc.old) cref }
+    requires live { (header_at (stored_clauses alloc.old) cref).deleted ≡ false }
     requires tracks { Tracks db.old alloc.old }
-    ensures deleted { Holds alloc.new (length alloc.old.words) (with_header (clauses_of alloc.old) cref (record (header_at (clauses_of alloc.old) cref) { deleted = true })) }
-    ensures noted { db.new ≡ with_deleted (header_at (clauses_of alloc.old) cref).tier (length (literals_at (clauses_of alloc.old) cref)) db.old }
+    ensures deleted { HoldsClauses alloc.new (length alloc.old.words) (with_header (stored_clauses alloc.old) cref (record (header_at (stored_clauses alloc.old) cref) { deleted = true })) }
+    ensures noted { db.new ≡ with_deleted (header_at (stored_clauses alloc.old) cref).tier (length (literals_at (stored_clauses alloc.old) cref)) db.old }
     ensures tracks { Tracks db.new alloc.new }
 {
     let mut header = alloc.header(cref);
@@ -312,11 +312,11 @@ pub fn try_delete_clause<A: Allocator + Copy>(
     cref: ClauseRef,
     is_reason: bool,
 ) -> bool
-    requires place { IsPlace (clauses_of alloc.old) cref }
-    requires live { (header_at (clauses_of alloc.old) cref).deleted ≡ false }
+    requires place { IsPlace (stored_clauses alloc.old) cref }
+    requires live { (header_at (stored_clauses alloc.old) cref).deleted ≡ false }
     requires tracks { Tracks db.old alloc.old }
     ensures deletes { result ≡ not is_reason }
-    ensures deleted { is_reason ≡ false → Holds alloc.new (length alloc.old.words) (with_header (clauses_of alloc.old) cref (record (header_at (clauses_of alloc.old) cref) { deleted = true })) }
+    ensures deleted { is_reason ≡ false → HoldsClauses alloc.new (length alloc.old.words) (with_header (stored_clauses alloc.old) cref (record (header_at (stored_clauses alloc.old) cref) { deleted = true })) }
     ensures kept { is_reason ≡ true → alloc.new ≡ alloc.old }
     ensures kept_too { is_reason ≡ true → db.new ≡ db.old }
     ensures tracks { Tracks db.new alloc.new }

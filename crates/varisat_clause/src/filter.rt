@@ -2,7 +2,7 @@
 ghost use Rattle.std.specs.Prelude.{◌≡◌, true, false, length, IfOk, OnOk, OnErr};
 ghost use Rattle.varisat_theory.specs.Membership.{◌∈◌};
 ghost use Rattle.varisat_clause.specs.Stored.{StoredClause, IsPlace, stored_at, header_at};
-ghost use Rattle.varisat_clause.specs.Stores.{clauses_of, IsSound};
+ghost use Rattle.varisat_clause.specs.Stores.{stored_clauses, IsSound};
 ghost use Rattle.varisat_clause.specs.Databases.{is_live, Tracks};
 ghost use Rattle.varisat_clause.specs.Filters.{Alters, left_if, FiltersAt, Filters, StopsWithin};
 
@@ -25,11 +25,11 @@ pub trait ClauseFilter<A: Allocator + Copy> {
     /// Whether the clause, which is not deleted, stays. An error changes no clause.
     fn filter(&mut self, alloc: &mut ClauseAlloc<A>, cref: ClauseRef) -> Result<bool, Self::Error>
         requires sound { IsSound alloc.old }
-        requires place { IsPlace (clauses_of alloc.old) cref }
-        requires live { (header_at (clauses_of alloc.old) cref).deleted ≡ false }
-        requires accepted { accepts self.old (stored_at (clauses_of alloc.old) cref) }
+        requires place { IsPlace (stored_clauses alloc.old) cref }
+        requires live { (header_at (stored_clauses alloc.old) cref).deleted ≡ false }
+        requires accepted { accepts self.old (stored_at (stored_clauses alloc.old) cref) }
         ensures altered { OnOk result (Alters alloc.old alloc.new cref) }
-        ensures left { IfOk result (λ stays. leaves self.old (stored_at (clauses_of alloc.old) cref) (left_if stays (stored_at (clauses_of alloc.new) cref)) self.new) }
+        ensures left { IfOk result (λ stays. leaves self.old (stored_at (stored_clauses alloc.old) cref) (left_if stays (stored_at (stored_clauses alloc.new) cref)) self.new) }
         ensures accepts_more { OnOk result ((k : StoredClause) → accepts self.old k → accepts self.new k) }
         ensures refused { OnErr result (alloc.new ≡ alloc.old) };
 }
@@ -42,9 +42,9 @@ fn filter_clause<A: Allocator + Copy, F: ClauseFilter<A>>(
     filter: &mut F,
 ) -> Result<(), F::Error>
     requires tracks { Tracks db.old alloc.old }
-    requires place { IsPlace (clauses_of alloc.old) cref }
-    requires live { (header_at (clauses_of alloc.old) cref).deleted ≡ false }
-    requires accepted { F.accepts filter.old (stored_at (clauses_of alloc.old) cref) }
+    requires place { IsPlace (stored_clauses alloc.old) cref }
+    requires live { (header_at (stored_clauses alloc.old) cref).deleted ≡ false }
+    requires accepted { F.accepts filter.old (stored_at (stored_clauses alloc.old) cref) }
     ensures changed { OnOk result (FiltersAt F.leaves filter.old filter.new alloc.old alloc.new cref) }
     ensures accepts_more { OnOk result ((k : StoredClause) → F.accepts filter.old k → F.accepts filter.new k) }
     ensures refused { OnErr result (alloc.new ≡ alloc.old) }
@@ -66,9 +66,9 @@ pub fn filter_clauses<A: Allocator + Copy, F: ClauseFilter<A>>(
     filter: &mut F,
 ) -> Result<(), F::Error>
     requires tracks { Tracks db.old alloc.old }
-    requires accepted { (k : StoredClause) → k ∈ clauses_of alloc.old → is_live k ≡ true → F.accepts filter.old k }
-    ensures filtered { OnOk result (Filters F.leaves filter.old (clauses_of alloc.old) (clauses_of alloc.new) filter.new) }
-    ensures stopped { OnErr result (StopsWithin F.leaves filter.old (clauses_of alloc.old) (clauses_of alloc.new)) }
+    requires accepted { (k : StoredClause) → k ∈ stored_clauses alloc.old → is_live k ≡ true → F.accepts filter.old k }
+    ensures filtered { OnOk result (Filters F.leaves filter.old (stored_clauses alloc.old) (stored_clauses alloc.new) filter.new) }
+    ensures stopped { OnErr result (StopsWithin F.leaves filter.old (stored_clauses alloc.old) (stored_clauses alloc.new)) }
     ensures size { length alloc.new.words ≡ length alloc.old.words }
     ensures tracks { Tracks db.new alloc.new }
 {

@@ -4,7 +4,7 @@
 //! the glue, and one bit for active.
 ghost use Rattle.std.specs.Prelude.{◌≡◌, ℕ, ◌<◌, ◌^◌, min, nat_eq, not, IfSome, IfNone, ◌≤◌, ◌∷◌, []};
 ghost use Rattle.varisat_clause.specs.Tiers.{tier_index, is_tier};
-ghost use Rattle.varisat_clause.specs.Headers.{Header, no_header, header_from, flags_of};
+ghost use Rattle.varisat_clause.specs.Headers.{Header, no_header, header_of_words, flags_of};
 
 use std::marker::Model;
 
@@ -60,12 +60,12 @@ pub struct ClauseHeader {
 
 impl Model for ClauseHeader {
     ghost use Rattle.std.specs.Prelude.{◌<◌, ◌^◌};
-    ghost use Rattle.varisat_clause.specs.Headers.{Header, header_from, flags_of};
+    ghost use Rattle.varisat_clause.specs.Headers.{Header, header_of_words, flags_of};
     ghost use Rattle.varisat_clause.specs.HeaderFlags.{flags-back};
 
     ghost Value = { Header };
 
-    ghost view = { λ h. header_from h.activity h.flags h.len };
+    ghost view = { λ h. header_of_words h.activity h.flags h.len };
 
     ghost invariant = { λ h. h.flags < 2 ^ 11 };
 
@@ -89,7 +89,7 @@ impl ClauseHeader {
     /// The header that stands in three words.
     pub(crate) fn from_words(activity: u32, flags: u32, len: u32) -> ClauseHeader
         requires { flags < 2 ^ 11 }
-        ensures { result ≡ header_from activity flags len }
+        ensures { result ≡ header_of_words activity flags len }
     {
         ClauseHeader {
             activity,
@@ -102,7 +102,7 @@ impl ClauseHeader {
     pub fn words(&self) -> [u32; 3]
         ensures words { result ≡ self.now.activity ∷ flags_of self.now ∷ self.now.len ∷ [] }
         ensures small { flags_of self.now < 2 ^ 11 }
-        ensures back { header_from self.now.activity (flags_of self.now) self.now.len ≡ self.now }
+        ensures back { header_of_words self.now.activity (flags_of self.now) self.now.len ≡ self.now }
     {
         [self.activity, self.flags, self.len]
     }

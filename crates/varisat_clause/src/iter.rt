@@ -1,7 +1,7 @@
 //! The clauses of a store that are not deleted, one after another.
 ghost use Rattle.std.specs.Prelude.{◌≡◌};
 ghost use Rattle.std.specs.Iterator.{YieldsFirst, item_count};
-ghost use Rattle.varisat_clause.specs.Stores.{clauses_of, IsSound};
+ghost use Rattle.varisat_clause.specs.Stores.{stored_clauses, IsSound};
 ghost use Rattle.varisat_clause.specs.Filters.{live_places};
 
 use crate::alloc::{ClauseAlloc, ClauseRef};
@@ -17,12 +17,12 @@ pub struct Clauses<'a, A: Allocator + Copy> {
 
 impl<'a, A: Allocator + Copy> Model for Clauses<'a, A> {
     ghost use Rattle.std.specs.Prelude.{ℕ, List, drop};
-    ghost use Rattle.varisat_clause.specs.Stores.{clauses_of, IsSound};
+    ghost use Rattle.varisat_clause.specs.Stores.{stored_clauses, IsSound};
     ghost use Rattle.varisat_clause.specs.Filters.{live_places};
 
     ghost Value = { List ℕ };
 
-    ghost view = { λ c. live_places (drop c.index (clauses_of c.alloc.now)) };
+    ghost view = { λ c. live_places (drop c.index (stored_clauses c.alloc.now)) };
 
     ghost invariant = { λ c. IsSound c.alloc.now };
 }
@@ -30,7 +30,7 @@ impl<'a, A: Allocator + Copy> Model for Clauses<'a, A> {
 /// The clauses of the store that are not deleted, in order.
 pub fn clauses_iter<A: Allocator + Copy>(alloc: &ClauseAlloc<A>) -> Clauses<'_, A>
     requires { IsSound alloc.now }
-    ensures { result ≡ live_places (clauses_of alloc.now) }
+    ensures { result ≡ live_places (stored_clauses alloc.now) }
 {
     Clauses { alloc, index: 0 }
 }

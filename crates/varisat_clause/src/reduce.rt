@@ -3,10 +3,10 @@
 ghost use Rattle.std.specs.Prelude.{◌≡◌, ℕ, ◌+◌, ◌*◌, ◌/◌, ◌^◌, ◌<◌, ◌≤◌, length, slice_index, take, map, true, false, OnOk, OnErr, IfOk, not, ◌&&◌};
 ghost use Rattle.std.specs.List.Sorted.{IsPermutation, IsNonDecreasingBy};
 ghost use Rattle.varisat_clause.specs.Tiers.{is_tier};
-ghost use Rattle.varisat_clause.specs.Stored.{IsPlace, stored_at, with_clause};
-ghost use Rattle.varisat_clause.specs.Stores.{clauses_of, IsSound, Holds};
-ghost use Rattle.varisat_clause.specs.Databases.{Database, list_of, with_list, Tracks};
-ghost use Rattle.varisat_clause.specs.Reductions.{rank_in, places_in, is_unmarked_in, AreUnmarkedIn, marked_as, with_mark, CanMarkTier, MarksTier, ListsTier, unmarked, all_deleted, ReducesLocals, mid_reduced, mids_reduced, mapped};
+ghost use Rattle.varisat_clause.specs.Stored.{IsPlace, stored_at, with_stored};
+ghost use Rattle.varisat_clause.specs.Stores.{stored_clauses, IsSound, HoldsClauses};
+ghost use Rattle.varisat_clause.specs.Databases.{Database, tier_list, with_tier_list, Tracks};
+ghost use Rattle.varisat_clause.specs.Reductions.{rank_in, places_in, is_unmarked_in, AreUnmarkedIn, marked_as, with_mark, CanMarkTier, MarksTier, ListsTier, unmarked_places, all_deleted, ReducesLocals, mid_reduced, mids_reduced, mapped_up_to};
 
 use crate::alloc::{ClauseAlloc, ClauseRef};
 use crate::db::{ClauseDb, delete_clause, set_clause_tier};
@@ -26,7 +26,7 @@ pub fn clauses_of_tier<A: Allocator + Copy>(
     tier: Tier,
 ) -> Result<Vec<ClauseRef, A>, AllocError>
     requires { IsSound alloc.now }
-    ensures { IfOk result (λ list. list.items ≡ places_in tier (clauses_of alloc.now)) }
+    ensures { IfOk result (λ list. list.items ≡ places_in tier (stored_clauses alloc.now)) }
 {
     let mut list = Vec::new(alloc.allocator());
     'clauses: for index in 0..alloc.len() {
@@ -42,8 +42,8 @@ pub fn clauses_of_tier<A: Allocator + Copy>(
 /// Marks or unmarks the clause.
 fn set_mark<A: Allocator + Copy>(alloc: &mut ClauseAlloc<A>, cref: ClauseRef, mark: bool)
     requires sound { IsSound alloc.old }
-    requires place { IsPlace (clauses_of alloc.old) cref }
-    ensures { Holds alloc.new (length alloc.old.words) (with_mark mark (clauses_of alloc.old) cref) }
+    requires place { IsPlace (stored_clauses alloc.old) cref }
+    ensures { HoldsClauses alloc.new (length alloc.old.words) (with_mark mark (stored_clauses alloc.old) cref) }
 {
     let mut header = alloc.header(cref);
     header.set_mark(mark);
@@ -53,8 +53,8 @@ fn set_mark<A: Allocator + Copy>(alloc: &mut ClauseAlloc<A>, cref: ClauseRef, ma
 /// Clears the marks of all clauses.
 pub fn clear_marks<A: Allocator + Copy>(alloc: &mut ClauseAlloc<A>)
     requires { IsSound alloc.old }
-    ensures cleared { Holds alloc.new (length alloc.old.words) (map (marked_as false) (clauses_of alloc.old)) }
-    ensures unmarked { (tier : Tier) → AreUnmarkedIn tier (clauses_of alloc.new) }
+    ensures cleared { HoldsClauses alloc.new (length alloc.old.words) (map (marked_as false) (stored_clauses alloc.old)) }
+    ensures unmarked { (tier : Tier) → AreUnmarkedIn tier (stored_clauses alloc.new) }
     ensures tracks { (db : Database) → Tracks db alloc.old → Tracks db alloc.new }
 {
     'clauses: for index in 0..alloc.len() {
@@ -66,9 +66,9 @@ pub fn clear_marks<A: Allocator + Copy>(alloc: &mut ClauseAlloc<A>)
 /// Marks the clause where it is of the tier, not deleted and not marked, and says whether it was.
 fn mark_new<A: Allocator + Copy>(alloc: &mut ClauseAlloc<A>, cref: ClauseRef, tier: Tier) -> bool
     requires sound { IsSound alloc.old }
-    requires place { IsPlace (clauses_of alloc.old) cref }
-    ensures new { result ≡ is_unmarked_in tier (stored_at (clauses_of alloc.old) cref) }
-    ensures marked { result ≡ true → Holds alloc.new (length alloc.old.words) (with_mark true (clauses_of alloc.old) cref) }
+    requires place { IsPlace (stored_clauses alloc.old) cref }
+    ensures new { result ≡ is_unmarked_in tier (stored_at (stored_clauses alloc.old) cref) }
+    ensures marked { result ≡ true → HoldsClauses alloc.new (length alloc.old.words) (with_mark true (stored_clauses alloc.old) cref) }
     ensures kept { result ≡ false → alloc.new ≡ alloc.old }
 {
     let header = alloc.header(cref);
@@ -110,9 +110,9 @@ pub fn dedup_and_mark_by_tier<A: Allocator + Copy>(
     tier: Tier,
 )
     requires tracks { Tracks db.old alloc.old }
-    requires unmarked { AreUnmarkedIn tier (clauses_of alloc.old) }
-    ensures marks { MarksTier tier alloc.old alloc.new (list_of tier db.new.lists) }
-    ensures others { db.new ≡ record db.old { lists = with_list tier (list_of tier db.new.lists) db.old.lists } }
+    requires unmarked { AreUnmarkedIn tier (stored_clauses alloc.old) }
+    ensures marks { MarksTier tier alloc.old alloc.new (tier_list tier db.new.lists) }
+    ensures others { db.new ≡ record db.old { lists = with_tier_list tier (tier_list tier db.new.lists) db.old.lists } }
     ensures tracks { Tracks db.new alloc.new }
 {
     let mut list = Vec::new(alloc.allocator());
@@ -138,8 +138,8 @@ fn delete_unmarked<A: Allocator + Copy>(
     count: usize,
 )
     requires tracks { Tracks db.old alloc.old }
-    requires listed { ListsTier Tier.Local (clauses_of alloc.old) list.now }
-    ensures deleted { Holds alloc.new (length alloc.old.words) (all_deleted (unmarked (clauses_of alloc.old) count list.now) (clauses_of alloc.old)) }
+    requires listed { ListsTier Tier.Local (stored_clauses alloc.old) list.now }
+    ensures deleted { HoldsClauses alloc.new (length alloc.old.words) (all_deleted (unmarked_places (stored_clauses alloc.old) count list.now) (stored_clauses alloc.old)) }
     ensures tracks { Tracks db.new alloc.new }
 {
     let mut left = count;
@@ -180,8 +180,8 @@ fn reduce_mid<A: Allocator + Copy>(
     cref: ClauseRef,
 ) -> Result<(), AllocError>
     requires tracks { Tracks db.old alloc.old }
-    requires place { IsPlace (clauses_of alloc.old) cref }
-    ensures reduced { OnOk result (Holds alloc.new (length alloc.old.words) (with_clause (clauses_of alloc.old) cref (mid_reduced (stored_at (clauses_of alloc.old) cref)))) }
+    requires place { IsPlace (stored_clauses alloc.old) cref }
+    ensures reduced { OnOk result (HoldsClauses alloc.new (length alloc.old.words) (with_stored (stored_clauses alloc.old) cref (mid_reduced (stored_at (stored_clauses alloc.old) cref)))) }
     ensures refused { OnErr result (alloc.new ≡ alloc.old) }
     ensures refused_too { OnErr result (db.new ≡ db.old) }
     ensures tracks { Tracks db.new alloc.new }
@@ -206,8 +206,8 @@ pub fn reduce_mids<A: Allocator + Copy>(
     db: &mut ClauseDb<A>,
 ) -> Result<(), AllocError>
     requires { Tracks db.old alloc.old }
-    ensures reduced { OnOk result (Holds alloc.new (length alloc.old.words) (mids_reduced (clauses_of alloc.old))) }
-    ensures refused { OnErr result ((i : ℕ) × Holds alloc.new (length alloc.old.words) (mapped mid_reduced i (clauses_of alloc.old))) }
+    ensures reduced { OnOk result (HoldsClauses alloc.new (length alloc.old.words) (mids_reduced (stored_clauses alloc.old))) }
+    ensures refused { OnErr result ((i : ℕ) × HoldsClauses alloc.new (length alloc.old.words) (mapped_up_to mid_reduced i (stored_clauses alloc.old))) }
     ensures tracks { Tracks db.new alloc.new }
 {
     'clauses: for index in 0..alloc.len() {

@@ -3,8 +3,8 @@
 
 ghost use Rattle.std.specs.Prelude.{◌≡◌, ◌↔◌, ◌-◌, ◌^◌, ◌<◌, IsErr};
 ghost use Rattle.std.specs.Fs.{file_type, IsDir};
-ghost use Rattle.varisat.specs.Decided.{fault_status, StatusIsTrue};
-ghost use Rattle.varisat_proof.specs.Verified.{GivesUnsatisfiable};
+ghost use Rattle.varisat.specs.Decided.{StatusIsTrue};
+ghost use Rattle.varisat_proof.specs.Verified.{GivesUnsatisfiable, fault_status};
 
 use std::fs::{File, Metadata};
 use std::io::{self, BufWriter, ErrorKind, Write};

@@ -43,7 +43,7 @@ greatest_value LubyRestartIntervalScale = 2 ^ 64 - 1
 greatest_value MaxSteps = 2 ^ 64 - 1
 
 -- each setting is within its range
-pub record AreInRange (s : Settings) : Type 0 where
+pub record AreSettingsInRange (s : Settings) : Type 0 where
   pub vsids_decay : (least_value VsidsDecay ≤ s.vsids_decay) × (s.vsids_decay ≤ greatest_value VsidsDecay)
   pub clause_activity_decay : (least_value ClauseActivityDecay ≤ s.clause_activity_decay) × (s.clause_activity_decay ≤ greatest_value ClauseActivityDecay)
   pub reduce_locals_interval : least_value ReduceLocalsInterval ≤ s.reduce_locals_interval

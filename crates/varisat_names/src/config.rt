@@ -1,6 +1,6 @@
 //! The settings of a solver, and updates of them.
 ghost use Rattle.std.specs.Prelude.{◌≡◌, ◌≢◌, ◌≤◌, ◌<◌, None, Some, true, false, MatchOption, MatchResult};
-ghost use Rattle.varisat_names.specs.Settings.{AreInRange, default_settings, may_take, first_bad, updated_settings, least_value, greatest_value, field_text, no_update, update_of};
+ghost use Rattle.varisat_names.specs.Settings.{AreSettingsInRange, default_settings, may_take, first_bad, updated_settings, least_value, greatest_value, field_text, no_update, update_of};
 
 use std::fmt;
 use std::marker::Model;
@@ -27,7 +27,7 @@ pub struct SolverConfig {
 }
 
 impl Model for SolverConfig {
-    ghost use Rattle.varisat_names.specs.Settings.{Settings, AreInRange};
+    ghost use Rattle.varisat_names.specs.Settings.{Settings, AreSettingsInRange};
 
     ghost Value = { Settings };
 
@@ -35,7 +35,7 @@ impl Model for SolverConfig {
 
     ghost inverse = { λ s. record { vsids_decay = s.vsids_decay; clause_activity_decay = s.clause_activity_decay; reduce_locals_interval = s.reduce_locals_interval; reduce_mids_interval = s.reduce_mids_interval; luby_restart_interval_scale = s.luby_restart_interval_scale; max_steps = s.max_steps } };
 
-    ghost invariant = { λ c. AreInRange (record { vsids_decay = c.vsids_decay; clause_activity_decay = c.clause_activity_decay; reduce_locals_interval = c.reduce_locals_interval; reduce_mids_interval = c.reduce_mids_interval; luby_restart_interval_scale = c.luby_restart_interval_scale; max_steps = c.max_steps }) };
+    ghost invariant = { λ c. AreSettingsInRange (record { vsids_decay = c.vsids_decay; clause_activity_decay = c.clause_activity_decay; reduce_locals_interval = c.reduce_locals_interval; reduce_mids_interval = c.reduce_mids_interval; luby_restart_interval_scale = c.luby_restart_interval_scale; max_steps = c.max_steps }) };
 }
 
 /// Which settings to change, and to what. The settings for which there is no value stay.
@@ -97,7 +97,7 @@ impl SolverConfig {
 
     /// Each setting is within its range.
     pub fn prove_in_range(&self)
-        ensures { AreInRange self.now }
+        ensures { AreSettingsInRange self.now }
     {
         let _ = &self.vsids_decay;
     }

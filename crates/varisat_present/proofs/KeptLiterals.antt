@@ -11,7 +11,7 @@ use Rattle.varisat_theory.proofs.Saturated.{saturated_no_conflict, complete_fewe
 use Rattle.varisat_theory.proofs.Implication.{implied_known, implied_clash, implied_more, implied_alone}
 use Rattle.varisat_theory.proofs.Growth.{conflicts_known}
 use Rattle.varisat_theory.proofs.Scans.{answers_true, answers_false}
-use Rattle.varisat_present.specs.Knowing.{AreImplied, Keeps, Settles, Assumes, Asks, IsSpare}
+use Rattle.varisat_present.specs.Knowing.{AreImplied, Keeps, Settles, TakesBase, Asks, IsSpare}
 use Rattle.varisat_present.proofs.KnownGrowth.{complete_both, grows_part, cut_back}
 
 -- 1. A clause joins.
@@ -87,10 +87,10 @@ pub empty_is : (P : List Clause) (base : List Literal) → base ≡ [] → (Conf
 empty_is P base e n = answers_false _ (λ c. n (subst (Conflicts P) e c))
 
 -- 5. Questions.
-from_base : (P : List Clause) (old base mid : List Literal) (b : Bool) → AreImplied P [] old → Assumes old base b mid → AreImplied P base mid
+from_base : (P : List Clause) (old base mid : List Literal) (b : Bool) → AreImplied P [] old → TakesBase old base b mid → AreImplied P base mid
 from_base P old base mid b h a = λ l m. ⊎_elim (λ i. implied_alone P base l (h l i)) (λ i. Known i) (a.from l m)
 
-pub asks_clash : (P : List Clause) (old base new : List Literal) → AreImplied P [] old → Assumes old base true new → Asks P old base true new
+pub asks_clash : (P : List Clause) (old base new : List Literal) → AreImplied P [] old → TakesBase old base true new → Asks P old base true new
 asks_clash P old base new h a =
     let (l, i, o) = a.clash refl in
     record {
@@ -99,11 +99,11 @@ asks_clash P old base new h a =
       right = answers_true _ (implied_clash P base l (Known i) (from_base P old base new true h a (opposite l) o));
     }
 
-asks_right : (P : List Clause) (old base mid new : List Literal) (found : Bool) → AreImplied P [] old → Assumes old base false mid → Settles P mid found new → IsTrue found ↔ Conflicts P base
+asks_right : (P : List Clause) (old base mid new : List Literal) (found : Bool) → AreImplied P [] old → TakesBase old base false mid → Settles P mid found new → IsTrue found ↔ Conflicts P base
 asks_right P old base mid new true h a s = answers_true _ (implied_known P base new (s.finds.grows.implied base (from_base P old base mid false h a)) (s.finds.conflict refl))
 asks_right P old base mid new false h a s = answers_false _ (saturated_no_conflict P base new (s.saturated refl) (λ l m. grows_part P mid new s.finds.grows l (a.all refl l m)))
 
-pub asks_settled : (P : List Clause) (old base mid new : List Literal) (found : Bool) → AreImplied P [] old → Assumes old base false mid → Settles P mid found new → Asks P old base found new
+pub asks_settled : (P : List Clause) (old base mid new : List Literal) (found : Bool) → AreImplied P [] old → TakesBase old base false mid → Settles P mid found new → Asks P old base found new
 asks_settled P old base mid new found h a s = record {
   more = a.more ++ s.finds.grows.more;
   joined = s.finds.grows.joined ∙ ap (λ x. x ++ s.finds.grows.more) a.joined ∙ append_assoc old a.more s.finds.grows.more;

@@ -10,7 +10,7 @@ use Rattle.varisat_theory.proofs.Values.{opposite_twice}
 use Rattle.varisat_theory.proofs.ConflictForms.{never_its_own}
 use Rattle.varisat_theory.proofs.Places.{∈-take_more, ∈-take_all}
 use Rattle.varisat_theory.proofs.PropagationRounds.{IsQuiet, quiet_known, quiet_open, unknown, unknown_fewer, unknown_less}
-use Rattle.varisat_present.specs.Knowing.{AreImplied, Grows, Finds, Settles, LeavesNew, Assumes, IsPassed, Joins, Passes}
+use Rattle.varisat_present.specs.Knowing.{AreImplied, GrowsKnown, Finds, Settles, LeavesNew, TakesBase, IsPassed, Joins, Passes}
 
 -- 1. One literal.
 no_clash_joined : (known : List Literal) (l : Literal) → (HasClash known → ⊥) → (opposite l ∈ known → ⊥) → HasClash (known ++ (l ∷ [])) → ⊥
@@ -25,10 +25,10 @@ implied_joined P known c l i j u base h = λ x m.
     ⊎_elim (h x) (λ a. ⊎_elim (λ e. subst (Implied P base) (sym e) (ByReason c i j (λ y k d. ⊎_elim (λ q. absurd (d q)) (λ o. h (opposite y) o) (u y k)))) (λ z. absurd z) a) (∈-append_cases x known (l ∷ []) m)
 
 -- 2. Growth.
-pub grows_none : (P : List Clause) (known : List Literal) → (HasClash known → ⊥) → Grows P known known
+pub grows_none : (P : List Clause) (known : List Literal) → (HasClash known → ⊥) → GrowsKnown P known known
 grows_none P known n = record { more = []; joined = sym (append-nil known); no_clash = n; implied = λ base h. h }
 
-pub grows_by : (P : List Clause) (known new : List Literal) (c : Clause) (l : Literal) → (HasClash known → ⊥) → c ∈ P → l ∈ c → (opposite l ∈ known → ⊥) → LeavesOnly known c l → new ≡ known ++ (l ∷ []) → Grows P known new
+pub grows_by : (P : List Clause) (known new : List Literal) (c : Clause) (l : Literal) → (HasClash known → ⊥) → c ∈ P → l ∈ c → (opposite l ∈ known → ⊥) → LeavesOnly known c l → new ≡ known ++ (l ∷ []) → GrowsKnown P known new
 grows_by P known new c l n i j o u e = record {
   more = l ∷ [];
   joined = e;
@@ -36,7 +36,7 @@ grows_by P known new c l n i j o u e = record {
   implied = λ base h. subst (λ (k : List Literal). AreImplied P base k) (sym e) (implied_joined P known c l i j u base h);
 }
 
-pub grows_on : (P : List Clause) (a b c : List Literal) → Grows P a b → Grows P b c → Grows P a c
+pub grows_on : (P : List Clause) (a b c : List Literal) → GrowsKnown P a b → GrowsKnown P b c → GrowsKnown P a c
 grows_on P a b c g h = record {
   more = g.more ++ h.more;
   joined = h.joined ∙ ap (λ x. x ++ h.more) g.joined ∙ append_assoc a g.more h.more;
@@ -44,10 +44,10 @@ grows_on P a b c g h = record {
   implied = λ base i. h.implied base (g.implied base i);
 }
 
-pub grows_part : (P : List Clause) (a b : List Literal) → Grows P a b → a ⊆ b
+pub grows_part : (P : List Clause) (a b : List Literal) → GrowsKnown P a b → a ⊆ b
 grows_part P a b g = λ x m. subst (λ k. x ∈ k) (sym g.joined) (∈-append_left x a g.more m)
 
-pub same_length : (P : List Clause) (a b : List Literal) → Grows P a b → length b ≡ length a → b ≡ a
+pub same_length : (P : List Clause) (a b : List Literal) → GrowsKnown P a b → length b ≡ length a → b ≡ a
 same_length P a b g e = ends a g.more b g.joined e
   where
     none : (xs ys : List Literal) → length (xs ++ ys) ≡ length xs → ys ≡ []
@@ -64,7 +64,7 @@ cut_back a b more e = ap (take (length a)) e ∙ take_at a more (length a) refl
 pub finds_none : (P : List Clause) (old : List Literal) → (HasClash old → ⊥) → Finds P old false old
 finds_none P old n = record { grows = grows_none P old n; conflict = λ e. absurd cc }
 
-pub finds_no_more : (P : List Clause) (old new : List Literal) → Grows P old new → Finds P old false new
+pub finds_no_more : (P : List Clause) (old new : List Literal) → GrowsKnown P old new → Finds P old false new
 finds_no_more P old new g = record { grows = g; conflict = λ e. absurd cc }
 
 pub finds_conflict : (P : List Clause) (old : List Literal) → (HasClash old → ⊥) → Conflicts P old → Finds P old true old
@@ -73,10 +73,10 @@ finds_conflict P old n k = record { grows = grows_none P old n; conflict = λ e.
 pub finds_left : (P : List Clause) (old new : List Literal) (l : Literal) → (HasClash old → ⊥) → LeavesNew P old l → new ≡ old ++ (l ∷ []) → Finds P old false new
 finds_left P old new l n w e = finds_no_more P old new (grows_by P old new w.clause l n w.is_present w.holds w.not_false w.leaves e)
 
-pub finds_found : (P : List Clause) (a b c : List Literal) → Grows P a b → Grows P b c → Conflicts P c → Finds P a true c
+pub finds_found : (P : List Clause) (a b c : List Literal) → GrowsKnown P a b → GrowsKnown P b c → Conflicts P c → Finds P a true c
 finds_found P a b c g h k = record { grows = grows_on P a b c g h; conflict = λ e. k }
 
-pub finds_on : (P : List Clause) (a b c : List Literal) (found : Bool) → Grows P a b → Finds P b found c → Finds P a found c
+pub finds_on : (P : List Clause) (a b c : List Literal) (found : Bool) → GrowsKnown P a b → Finds P b found c → Finds P a found c
 finds_on P a b c found g f = record { grows = grows_on P a b c g f.grows; conflict = f.conflict }
 
 -- 4. A watched clause.
@@ -112,7 +112,7 @@ complete_both P c known v w = record {
 }
 
 pub record Round (P : List Clause) (first known : List Literal) (passed : List Clause) : Type 0 where
-  pub grows : Grows P first known
+  pub grows : GrowsKnown P first known
   pub rest : ((known ≡ first) × IsComplete passed known) ⊎ Joins P first known
 
 pub round_start : (P : List Clause) (known : List Literal) → (HasClash known → ⊥) → Round P known known []
@@ -148,16 +148,16 @@ round_end P first known passed e r = record {
 }
 
 -- 6. Passes, until one finds nothing.
-pub settles_found : (P : List Clause) (a b c : List Literal) → Grows P a b → Grows P b c → Conflicts P c → Settles P a true c
+pub settles_found : (P : List Clause) (a b c : List Literal) → GrowsKnown P a b → GrowsKnown P b c → Conflicts P c → Settles P a true c
 settles_found P a b c g h k = record { finds = finds_found P a b c g h k; saturated = λ e. absurd cc }
 
-pub settles_end : (P : List Clause) (a b c : List Literal) → Grows P a b → Grows P b c → ((c ≡ b) × IsSaturated P c) ⊎ Joins P b c → length c ≡ length b → Settles P a false c
+pub settles_end : (P : List Clause) (a b c : List Literal) → GrowsKnown P a b → GrowsKnown P b c → ((c ≡ b) × IsSaturated P c) ⊎ Joins P b c → length c ≡ length b → Settles P a false c
 settles_end P a b c g h r e = record {
   finds = finds_no_more P a c (grows_on P a b c g h);
   saturated = λ t. ⊎_elim (λ w. w.1) (λ w. absurd (w.4 (subst (λ k. w.1 ∈ k) (same_length P b c h e) w.5))) r;
 }
 
-pub less_left : (P : List Clause) (a b c : List Literal) → Grows P a b → ((b ≡ a) × IsSaturated P b) ⊎ Joins P a b → (length b ≡ length a → ⊥) → Grows P b c → unknown P c < unknown P a
+pub less_left : (P : List Clause) (a b c : List Literal) → GrowsKnown P a b → ((b ≡ a) × IsSaturated P b) ⊎ Joins P a b → (length b ≡ length a → ⊥) → GrowsKnown P b c → unknown P c < unknown P a
 less_left P a b c g r n h =
     ⊎_elim
     (λ w. absurd (n (ap length w.0)))
@@ -170,7 +170,7 @@ less_left P a b c g r n h =
 pub settles_early : (P : List Clause) (a b : List Literal) (found : Bool) → found ≡ true → Finds P a found b → Settles P a true b
 settles_early P a b found e f = record { finds = subst (λ (x : Bool). Finds P a x b) e f; saturated = λ t. absurd cc }
 
-pub settles_on : (P : List Clause) (a b c : List Literal) (found : Bool) → Grows P a b → Settles P b found c → Settles P a found c
+pub settles_on : (P : List Clause) (a b c : List Literal) (found : Bool) → GrowsKnown P a b → Settles P b found c → Settles P a found c
 settles_on P a b c found g s = record { finds = finds_on P a b c found g s.finds; saturated = s.saturated }
 
 -- 7. Literals that are assumed.
@@ -202,7 +202,7 @@ assumed_more old base mid new i l q h o e w = subst (λ (k : List Literal). Assu
   all = λ x m. ⊎_elim (λ a. ∈-append_left x mid (l ∷ []) (w.all x a)) (λ f. ∈-append_right x mid (l ∷ []) (inl (f ∙ sym q))) (∈-take_more x base i 0 m);
 }
 
-pub assumes_clash : (old base seen new : List Literal) (l : Literal) → l ∈ base → opposite l ∈ new → Assumed old base seen new → Assumes old base true new
+pub assumes_clash : (old base seen new : List Literal) (l : Literal) → l ∈ base → opposite l ∈ new → Assumed old base seen new → TakesBase old base true new
 assumes_clash old base seen new l h o w = record {
   more = w.more;
   joined = w.joined;
@@ -212,7 +212,7 @@ assumes_clash old base seen new l h o w = record {
   clash = λ e. (l, h, o);
 }
 
-pub assumes_all : (old base new : List Literal) (i : ℕ) → length base ≤ i → Assumed old base (take i base) new → Assumes old base false new
+pub assumes_all : (old base new : List Literal) (i : ℕ) → length base ≤ i → Assumed old base (take i base) new → TakesBase old base false new
 assumes_all old base new i h w = record {
   more = w.more;
   joined = w.joined;

@@ -4,10 +4,10 @@ use Rattle.varisat_theory.specs.Literals.{Literal, Clause}
 use Rattle.varisat_theory.specs.Propagation.{Conflicts}
 use Rattle.varisat_present.specs.declared.propagation.Looked.{Looked}
 use Rattle.varisat_present.specs.declared.propagation.Looked.TheVariants as looked
-use Rattle.varisat_present.specs.Knowing.{Grows}
+use Rattle.varisat_present.specs.Knowing.{GrowsKnown}
 use Rattle.varisat_present.specs.Visits.{IsLook}
 
-pub look_grows : (P : List Clause) (old new : List Literal) (look : Looked) → IsLook P old look new → Grows P old new
+pub look_grows : (P : List Clause) (old new : List Literal) (look : Looked) → IsLook P old look new → GrowsKnown P old new
 look_grows P old new looked.Conflict f = f.grows
 look_grows P old new looked.Stays f = f.grows
 look_grows P old new looked.Gone f = f.grows

@@ -16,7 +16,7 @@ pub record Keeps (is_settled : Bool) (P : List Clause) (known : List Literal) : 
   pub settled : is_settled ≡ true → IsSaturated P known
 
 -- literals joined that P implies, and no two clash
-pub record Grows (P : List Clause) (old new : List Literal) : Type 0 where
+pub record GrowsKnown (P : List Clause) (old new : List Literal) : Type 0 where
   pub more : List Literal
   pub joined : new ≡ old ++ more
   pub no_clash : HasClash new → ⊥
@@ -24,7 +24,7 @@ pub record Grows (P : List Clause) (old new : List Literal) : Type 0 where
 
 -- a conflict was found
 pub record Finds (P : List Clause) (old : List Literal) (found : Bool) (new : List Literal) : Type 0 where
-  pub grows : Grows P old new
+  pub grows : GrowsKnown P old new
   pub conflict : found ≡ true → Conflicts P new
 
 -- the same, or else propagation has come to its end
@@ -42,7 +42,7 @@ pub record LeavesNew (P : List Clause) (known : List Literal) (l : Literal) : Ty
   pub is_new : l ∈ known → ⊥
 
 -- the base joins the known literals, or clashes with them or in itself
-pub record Assumes (old base : List Literal) (clashes : Bool) (new : List Literal) : Type 0 where
+pub record TakesBase (old base : List Literal) (clashes : Bool) (new : List Literal) : Type 0 where
   pub more : List Literal
   pub joined : new ≡ old ++ more
   pub no_clash : HasClash new → ⊥

@@ -9,15 +9,15 @@ present (None ∷ cs) = present cs
 present (Some v ∷ cs) = v.items ∷ present cs
 
 -- the literals, if there are any
-abbrev pub literals_of : {A : Type 0} → Option (Vec ℕ A) → Option Clause
-literals_of None = None
-literals_of (Some v) = Some v.items
+abbrev pub literals_there : {A : Type 0} → Option (Vec ℕ A) → Option Clause
+literals_there None = None
+literals_there (Some v) = Some v.items
 
 -- the clause at a place, if one is there
-abbrev pub clause_at : {A : Type 0} → List (Option (Vec ℕ A)) → ℕ → Option Clause
-clause_at [] i = None
-clause_at (o ∷ cs) zero = literals_of o
-clause_at (o ∷ cs) (suc i) = clause_at cs i
+abbrev pub present_at : {A : Type 0} → List (Option (Vec ℕ A)) → ℕ → Option Clause
+present_at [] i = None
+present_at (o ∷ cs) zero = literals_there o
+present_at (o ∷ cs) (suc i) = present_at cs i
 
 -- places are kept for literals below this code alone: 2 to the power of 22
 abbrev pub place_limit : ℕ

@@ -4,7 +4,7 @@ ghost use Rattle.varisat_theory.specs.Checking.{IsAbsent};
 ghost use Rattle.varisat_theory.specs.Held.{mentions, without};
 ghost use Rattle.varisat_theory.specs.Literals.{Clause};
 ghost use Rattle.varisat_theory.specs.Membership.{SameSet};
-ghost use Rattle.varisat_present.specs.Places.{present, clause_at};
+ghost use Rattle.varisat_present.specs.Places.{present, present_at};
 
 use crate::clause::{is_same_set, mentions};
 use std::alloc::Allocator;
@@ -15,7 +15,7 @@ pub fn clause_at<A: Allocator + Copy>(
     places: &[Option<Vec<Lit, A>>],
     place: usize,
 ) -> Option<&[Lit]>
-    ensures { MatchOption result (clause_at places.now place ≡ None) (λ c. clause_at places.now place ≡ Some c.now) }
+    ensures { MatchOption result (present_at places.now place ≡ None) (λ c. present_at places.now place ≡ Some c.now) }
 {
     if place >= places.len() {
         return None;
@@ -28,8 +28,8 @@ pub fn clause_at<A: Allocator + Copy>(
 
 /// Whether a clause is at the place.
 pub fn has_clause<A: Allocator + Copy>(places: &[Option<Vec<Lit, A>>], place: usize) -> bool
-    ensures yes { result ≡ true → (c : Clause) × (clause_at places.now place ≡ Some c) }
-    ensures no { result ≡ false → clause_at places.now place ≡ None }
+    ensures yes { result ≡ true → (c : Clause) × (present_at places.now place ≡ Some c) }
+    ensures no { result ≡ false → present_at places.now place ≡ None }
 {
     match clause_at(places, place) {
         None => false,
@@ -43,8 +43,8 @@ pub fn is_equal_at<A: Allocator + Copy>(
     place: usize,
     clause: &[Lit],
 ) -> bool
-    ensures yes { result ≡ true → (c : Clause) × (clause_at places.now place ≡ Some c) × SameSet c clause.now }
-    ensures no { result ≡ false → (c : Clause) → clause_at places.now place ≡ Some c → SameSet c clause.now → ⊥ }
+    ensures yes { result ≡ true → (c : Clause) × (present_at places.now place ≡ Some c) × SameSet c clause.now }
+    ensures no { result ≡ false → (c : Clause) → present_at places.now place ≡ Some c → SameSet c clause.now → ⊥ }
 {
     match clause_at(places, place) {
         None => false,
@@ -54,8 +54,8 @@ pub fn is_equal_at<A: Allocator + Copy>(
 
 /// Whether a clause with a literal of the variable is at the place.
 fn mentions_at<A: Allocator + Copy>(places: &[Option<Vec<Lit, A>>], place: usize, var: Var) -> bool
-    ensures yes { result ≡ true → (c : Clause) × (clause_at places.now place ≡ Some c) × (mentions var c ≡ true) }
-    ensures no { result ≡ false → (c : Clause) → clause_at places.now place ≡ Some c → mentions var c ≡ false }
+    ensures yes { result ≡ true → (c : Clause) × (present_at places.now place ≡ Some c) × (mentions var c ≡ true) }
+    ensures no { result ≡ false → (c : Clause) → present_at places.now place ≡ Some c → mentions var c ≡ false }
 {
     match clause_at(places, place) {
         None => false,
@@ -68,7 +68,7 @@ pub fn find_place<A: Allocator + Copy>(
     places: &[Option<Vec<Lit, A>>],
     clause: &[Lit],
 ) -> Option<usize>
-    ensures { MatchOption result (IsAbsent (present places.now) clause.now) (λ i. (c : Clause) × (clause_at places.now i ≡ Some c) × SameSet c clause.now) }
+    ensures { MatchOption result (IsAbsent (present places.now) clause.now) (λ i. (c : Clause) × (present_at places.now i ≡ Some c) × SameSet c clause.now) }
 {
     for place in 0..places.len() {
         if is_equal_at(places, place, clause) {

@@ -6,7 +6,7 @@ ghost use Rattle.varisat_theory.specs.Held.{without};
 ghost use Rattle.varisat_theory.specs.Literals.{Clause, opposites, IsUnit};
 ghost use Rattle.varisat_theory.specs.Membership.{◌∈◌, SameSet};
 ghost use Rattle.varisat_theory.specs.Propagation.{Conflicts, Follows, HasClash, IsComplete};
-ghost use Rattle.varisat_present.specs.Places.{present, clause_at};
+ghost use Rattle.varisat_present.specs.Places.{present, present_at};
 ghost use Rattle.varisat_present.specs.Knowing.{IsSpare, Asks, AreImplied, Keeps};
 
 use crate::clause::{is_quiet, status_of};
@@ -54,7 +54,7 @@ fn find_indexed<A: Allocator + Copy>(
     index: &ClauseIndex<A>,
     clause: &[Lit],
 ) -> Option<usize>
-    ensures { MatchOption result (result ≡ None) (λ i. (c : Clause) × (clause_at places.now i ≡ Some c) × SameSet c clause.now) }
+    ensures { MatchOption result (result ≡ None) (λ i. (c : Clause) × (present_at places.now i ≡ Some c) × SameSet c clause.now) }
 {
     let mut next = index.first(key_of(clause));
     for _ in 0..index.len() {
@@ -76,7 +76,7 @@ fn find_equal<A: Allocator + Copy>(
     index: &ClauseIndex<A>,
     clause: &[Lit],
 ) -> Option<usize>
-    ensures { MatchOption result (IsAbsent (present places.now) clause.now) (λ i. (c : Clause) × (clause_at places.now i ≡ Some c) × SameSet c clause.now) }
+    ensures { MatchOption result (IsAbsent (present places.now) clause.now) (λ i. (c : Clause) × (present_at places.now i ≡ Some c) × SameSet c clause.now) }
 {
     match find_indexed(places, index, clause) {
         Some(place) => Some(place),

@@ -5,7 +5,7 @@ ghost use Rattle.varisat_theory.specs.Membership.{◌∈◌};
 ghost use Rattle.varisat_theory.specs.Literals.{opposite};
 ghost use Rattle.varisat_theory.specs.Propagation.{HasClash};
 ghost use Rattle.varisat_present.specs.Places.{present};
-ghost use Rattle.varisat_present.specs.Knowing.{Finds, Settles, Passes, Assumes, IsPassed};
+ghost use Rattle.varisat_present.specs.Knowing.{Finds, Settles, Passes, TakesBase, IsPassed};
 ghost use Rattle.varisat_present.specs.Visits.{TellsVisit, IsLook};
 
 use crate::clause::{find_other, holds, status_of};
@@ -228,7 +228,7 @@ pub fn settle<A: Allocator + Copy>(
 /// Takes the literals as known. Returns whether one is false.
 pub fn assume<A: Allocator + Copy>(known: &mut Known<A>, base: &[Lit]) -> Result<bool, AllocError>
     requires { HasClash known.old → ⊥ }
-    ensures { IfOk result (λ clashes. Assumes known.old base.now clashes known.new) }
+    ensures { IfOk result (λ clashes. TakesBase known.old base.now clashes known.new) }
 {
     for l in base {
         if known.is_false(*l) {

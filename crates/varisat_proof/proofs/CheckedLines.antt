@@ -29,7 +29,7 @@ use Rattle.varisat_proof.specs.Grammar.{Accepted, Faulty, is_mark, is_tag}
 use Rattle.varisat_proof.specs.Machine.{Place, Parsed, ReaderState, line_at, number_event, event, begin_line, after_number, moved, last_symbol, put, at_end, happens, after, parsed, parsed_from, begin, last_event, last_place, last_offset}
 use Rattle.varisat_proof.specs.Means.{BytesMean, Means}
 use Rattle.varisat_proof.specs.Results.{step_number, result_of, StopsAt, Leaves, IsResult}
-use Rattle.varisat_proof.specs.Checks.{StandsBy, Stands, IsWrongLast, with_lines, HasRead, BreaksOff, EndsWith, result_at_end}
+use Rattle.varisat_proof.specs.Checks.{StandsBy, StandsAfterLines, IsWrongLast, with_lines, HasRead, BreaksOff, EndsWith, result_at_end}
 use Rattle.varisat_proof.proofs.TokenLines.{parsed_means}
 
 -- 1. Lines.
@@ -200,7 +200,7 @@ faulty f bytes lines o e = subst (λ t. Means f bytes t) e (parsed_means f bytes
 accepted : (f : ProofFormat) (bytes : List ℕ) (lines : List Line) → parsed f bytes ≡ record { lines = lines; fault = None } → Accepted f lines bytes
 accepted f bytes lines e = subst (λ t. Means f bytes t) e (parsed_means f bytes)
 
-pub reads_fault : (f : ProofFormat) (P : List Clause) (text more : List ℕ) (lines : List Line) (p : ReaderState) (b : ℕ) (Q : List Clause) (count : Count) → HasRead f text lines p → Fault ≡ happens p b → Stands P lines Q count → BreaksOff f P ((text ++ b ∷ []) ++ more) (Parse p.start) Q
+pub reads_fault : (f : ProofFormat) (P : List Clause) (text more : List ℕ) (lines : List Line) (p : ReaderState) (b : ℕ) (Q : List Clause) (count : Count) → HasRead f text lines p → Fault ≡ happens p b → StandsAfterLines P lines Q count → BreaksOff f P ((text ++ b ∷ []) ++ more) (Parse p.start) Q
 reads_fault f P text more lines p b Q count r h s = λ rest.
     fault_result count.refuted f P (((text ++ b ∷ []) ++ more) ++ rest) lines p.start Q count.steps
     (faulty f (((text ++ b ∷ []) ++ more) ++ rest) lines p.start
@@ -233,12 +233,12 @@ ends_line f text lines p q r h e = record {
       ∙ ap (λ x. let t : Parsed = record { lines = x; fault = (at_end q.at q.place).fault } in t) (sym (append_assoc lines (line_at q.place ∷ []) (at_end q.at q.place).lines));
 }
 
-pub ends_fault : (f : ProofFormat) (P : List Clause) (text : List ℕ) (lines : List Line) (p : ReaderState) (Q : List Clause) (count : Count) → HasRead f text lines p → Fault ≡ last_event p → Stands P lines Q count → EndsWith f P text (Err (Parse (last_offset p))) Q
+pub ends_fault : (f : ProofFormat) (P : List Clause) (text : List ℕ) (lines : List Line) (p : ReaderState) (Q : List Clause) (count : Count) → HasRead f text lines p → Fault ≡ last_event p → StandsAfterLines P lines Q count → EndsWith f P text (Err (Parse (last_offset p))) Q
 ends_fault f P text lines p Q count r h s =
     fault_result count.refuted f P text lines (last_offset p) Q count.steps
     (faulty f text lines (last_offset p) (closing_is f text lines p Fault r (sym h) ∙ ap (λ x. let t : Parsed = record { lines = x; fault = Some (last_offset p) } in t) (append-nil lines))) s
 
-ends_inside : (f : ProofFormat) (P : List Clause) (text : List ℕ) (lines : List Line) (q : ReaderState) (Q : List Clause) (count : Count) → ParsedWhole f text lines q → q.place.inside ≡ true → Stands P lines Q count → EndsWith f P text (Err (Parse q.at)) Q
+ends_inside : (f : ProofFormat) (P : List Clause) (text : List ℕ) (lines : List Line) (q : ReaderState) (Q : List Clause) (count : Count) → ParsedWhole f text lines q → q.place.inside ≡ true → StandsAfterLines P lines Q count → EndsWith f P text (Err (Parse q.at)) Q
 ends_inside f P text lines q Q count t h s =
     fault_result count.refuted f P text lines q.at Q count.steps
     (faulty f text lines q.at (t.whole ∙ ap (λ x. let t : Parsed = record { lines = lines ++ []; fault = if x then Some q.at else None } in t) h ∙ ap (λ x. let t : Parsed = record { lines = x; fault = Some q.at } in t) (append-nil lines))) s
@@ -246,7 +246,7 @@ ends_inside f P text lines q Q count t h s =
 whole : (f : ProofFormat) (text : List ℕ) (lines : List Line) (q : ReaderState) → ParsedWhole f text lines q → q.place.inside ≡ false → Accepted f lines text
 whole f text lines q t h = accepted f text lines (t.whole ∙ ap (λ x. let t : Parsed = record { lines = lines ++ []; fault = if x then Some q.at else None } in t) h ∙ ap (λ x. let t : Parsed = record { lines = x; fault = None } in t) (append-nil lines))
 
-ends_whole : (f : ProofFormat) (P : List Clause) (text : List ℕ) (lines : List Line) (q : ReaderState) (Q : List Clause) (count : Count) → ParsedWhole f text lines q → q.place.inside ≡ false → Stands P lines Q count → EndsWith f P text (Ok (if count.refuted then Refutation else Derivation)) Q
+ends_whole : (f : ProofFormat) (P : List Clause) (text : List ℕ) (lines : List Line) (q : ReaderState) (Q : List Clause) (count : Count) → ParsedWhole f text lines q → q.place.inside ≡ false → StandsAfterLines P lines Q count → EndsWith f P text (Ok (if count.refuted then Refutation else Derivation)) Q
 ends_whole f P text lines q Q count t h s = whole_result count.refuted f P text lines Q count.steps (whole f text lines q t h) s
 
 -- 5. In pieces.
@@ -258,7 +258,7 @@ piece_whole text piece i h = ap (λ x. x ++ drop (i + 1) piece) (piece_step text
 
 -- where a reader and a checker stand behind a text
 abbrev pub SoFar : ProofFormat → List Clause → List ℕ → List Clause → Count → ReaderState → Type 0
-SoFar f P text Q count p = (lines : List Line) × HasRead f text lines p × Stands P lines Q count
+SoFar f P text Q count p = (lines : List Line) × HasRead f text lines p × StandsAfterLines P lines Q count
 
 -- the line that ended there
 pub record LineEnds (q : ReaderState) (d : LineKind) (c : Clause) : Type 0 where
@@ -268,19 +268,19 @@ pub record LineEnds (q : ReaderState) (d : LineKind) (c : Clause) : Type 0 where
 line_ends : (q : ReaderState) (d : LineKind) (c : Clause) → LineEnds q d c → line_of_kind d c ≡ line_at q.place
 line_ends q d c w = ap (λ x. line_of_kind x c) w.kind ∙ ap (λ x. line_of_kind q.place.kind x) w.clause
 
-pub so_far_start : (f : ProofFormat) (P : List Clause) (text : List ℕ) (lines : List Line) (Q : List Clause) (count : Count) (p : ReaderState) → HasRead f text lines p → Stands P lines Q count → SoFar f P (text ++ []) Q count p
+pub so_far_start : (f : ProofFormat) (P : List Clause) (text : List ℕ) (lines : List Line) (Q : List Clause) (count : Count) (p : ReaderState) → HasRead f text lines p → StandsAfterLines P lines Q count → SoFar f P (text ++ []) Q count p
 so_far_start f P text lines Q count p r s = (lines, subst (λ x. HasRead f x lines p) (sym (append-nil text)) r, s)
 
 pub so_far_more : (f : ProofFormat) (P : List Clause) (text piece : List ℕ) (i : ℕ) (Q Q' : List Clause) (count count' : Count) (p q : ReaderState) → i < length piece → SoFar f P (text ++ take i piece) Q count p →
     More ≡ happens p (get_or piece i 0) → q ≡ after p (get_or piece i 0) → Q' ≡ Q → count' ≡ count → SoFar f P (text ++ take (i + 1) piece) Q' count' q
 so_far_more f P text piece i Q Q' count count' p q h s e g a b =
-    (s.0, subst (λ x. HasRead f x s.0 q) (piece_step text piece i h) (reads_more f (text ++ take i piece) s.0 p q (get_or piece i 0) s.1 e g), subst (λ x. Stands P s.0 x count') (sym a) (subst (λ x. Stands P s.0 Q x) (sym b) s.2))
+    (s.0, subst (λ x. HasRead f x s.0 q) (piece_step text piece i h) (reads_more f (text ++ take i piece) s.0 p q (get_or piece i 0) s.1 e g), subst (λ x. StandsAfterLines P s.0 x count') (sym a) (subst (λ x. StandsAfterLines P s.0 Q x) (sym b) s.2))
 
 pub so_far_line : (f : ProofFormat) (P : List Clause) (text piece : List ℕ) (i : ℕ) (Q Q' : List Clause) (count count' : Count) (p q : ReaderState) (d : LineKind) (c : Clause) → i < length piece → SoFar f P (text ++ take i piece) Q count p →
     Ended ≡ happens p (get_or piece i 0) → q ≡ after p (get_or piece i 0) → LineEnds q d c →
-    ((P : List Clause) (lines : List Line) → Stands P lines Q count → Stands P (lines ++ line_of_kind d c ∷ []) Q' count') → SoFar f P (text ++ take (i + 1) piece) Q' count' q
+    ((P : List Clause) (lines : List Line) → StandsAfterLines P lines Q count → StandsAfterLines P (lines ++ line_of_kind d c ∷ []) Q' count') → SoFar f P (text ++ take (i + 1) piece) Q' count' q
 so_far_line f P text piece i Q Q' count count' p q d c h s e g w t =
-    (s.0 ++ line_at q.place ∷ [], subst (λ x. HasRead f x (s.0 ++ line_at q.place ∷ []) q) (piece_step text piece i h) (reads_line f (text ++ take i piece) s.0 p q (get_or piece i 0) s.1 e g), subst (λ x. Stands P (s.0 ++ x ∷ []) Q' count') (line_ends q d c w) (t P s.0 s.2))
+    (s.0 ++ line_at q.place ∷ [], subst (λ x. HasRead f x (s.0 ++ line_at q.place ∷ []) q) (piece_step text piece i h) (reads_line f (text ++ take i piece) s.0 p q (get_or piece i 0) s.1 e g), subst (λ x. StandsAfterLines P (s.0 ++ x ∷ []) Q' count') (line_ends q d c w) (t P s.0 s.2))
 
 pub piece_fault : (f : ProofFormat) (P : List Clause) (text piece : List ℕ) (i : ℕ) (Q : List Clause) (count : Count) (p : ReaderState) (o : ℕ) → i < length piece → SoFar f P (text ++ take i piece) Q count p → Fault ≡ happens p (get_or piece i 0) → o ≡ p.start → BreaksOff f P (text ++ piece) (Parse o) Q
 piece_fault f P text piece i Q count p o h s e g =
@@ -288,7 +288,7 @@ piece_fault f P text piece i Q count p o h s e g =
 
 pub piece_wrong : (f : ProofFormat) (P : List Clause) (text piece : List ℕ) (i : ℕ) (Q Q' : List Clause) (count : Count) (p q : ReaderState) (d : LineKind) (c : Clause) (error : CheckerError) → i < length piece → SoFar f P (text ++ take i piece) Q count p →
     Ended ≡ happens p (get_or piece i 0) → q ≡ after p (get_or piece i 0) → LineEnds q d c →
-    ((P : List Clause) (lines : List Line) → Stands P lines Q count → IsWrongLast P (lines ++ line_of_kind d c ∷ []) error Q') → BreaksOff f P (text ++ piece) error Q'
+    ((P : List Clause) (lines : List Line) → StandsAfterLines P lines Q count → IsWrongLast P (lines ++ line_of_kind d c ∷ []) error Q') → BreaksOff f P (text ++ piece) error Q'
 piece_wrong f P text piece i Q Q' count p q d c error h s e g w t =
     subst (λ x. BreaksOff f P x error Q') (piece_whole text piece i h) (reads_wrong f P ((text ++ take i piece) ++ get_or piece i 0 ∷ []) (drop (i + 1) piece) (s.0 ++ line_at q.place ∷ []) q error Q'
     (reads_line f (text ++ take i piece) s.0 p q (get_or piece i 0) s.1 e g) (subst (λ x. IsWrongLast P (s.0 ++ x ∷ []) error Q') (line_ends q d c w) (t P s.0 s.2)))
@@ -298,22 +298,22 @@ piece_ends f P text piece i Q count p h s = subst (λ x. SoFar f P (text ++ x) Q
 
 -- 6. Where reader and checker stand at the end.
 abbrev pub EndsAt : ProofFormat → List Clause → List ℕ → List Clause → Count → ReaderState → Type 0
-EndsAt f P text Q count q = (lines : List Line) × ParsedWhole f text lines q × Stands P lines Q count
+EndsAt f P text Q count q = (lines : List Line) × ParsedWhole f text lines q × StandsAfterLines P lines Q count
 
-pub ends_at_more : (f : ProofFormat) (P : List Clause) (text : List ℕ) (lines : List Line) (Q Q' : List Clause) (count count' : Count) (p q : ReaderState) → HasRead f text lines p → Stands P lines Q count →
+pub ends_at_more : (f : ProofFormat) (P : List Clause) (text : List ℕ) (lines : List Line) (Q Q' : List Clause) (count count' : Count) (p q : ReaderState) → HasRead f text lines p → StandsAfterLines P lines Q count →
     More ≡ last_event p → q ≡ record p { place = last_place p } → Q' ≡ Q → count' ≡ count → EndsAt f P text Q' count' q
-ends_at_more f P text lines Q Q' count count' p q r s e g a b = (lines, ends_more f text lines p q r e g, subst (λ x. Stands P lines x count') (sym a) (subst (λ x. Stands P lines Q x) (sym b) s))
+ends_at_more f P text lines Q Q' count count' p q r s e g a b = (lines, ends_more f text lines p q r e g, subst (λ x. StandsAfterLines P lines x count') (sym a) (subst (λ x. StandsAfterLines P lines Q x) (sym b) s))
 
-pub ends_at_line : (f : ProofFormat) (P : List Clause) (text : List ℕ) (lines : List Line) (Q Q' Q'' : List Clause) (count count' count'' : Count) (p q : ReaderState) (d : LineKind) (c : Clause) → HasRead f text lines p → Stands P lines Q count →
+pub ends_at_line : (f : ProofFormat) (P : List Clause) (text : List ℕ) (lines : List Line) (Q Q' Q'' : List Clause) (count count' count'' : Count) (p q : ReaderState) (d : LineKind) (c : Clause) → HasRead f text lines p → StandsAfterLines P lines Q count →
     Ended ≡ last_event p → q ≡ record p { place = last_place p } → LineEnds q d c →
-    ((P : List Clause) (lines : List Line) → Stands P lines Q count → Stands P (lines ++ line_of_kind d c ∷ []) Q' count') → Q'' ≡ Q' → count'' ≡ count' → EndsAt f P text Q'' count'' q
+    ((P : List Clause) (lines : List Line) → StandsAfterLines P lines Q count → StandsAfterLines P (lines ++ line_of_kind d c ∷ []) Q' count') → Q'' ≡ Q' → count'' ≡ count' → EndsAt f P text Q'' count'' q
 ends_at_line f P text lines Q Q' Q'' count count' count'' p q d c r s e g w t a b =
     let all = lines ++ line_at q.place ∷ [] in
-    (all, ends_line f text lines p q r e g, subst (λ x. Stands P all x count'') (sym a) (subst (λ x. Stands P all Q' x) (sym b) (subst (λ x. Stands P (lines ++ x ∷ []) Q' count') (line_ends q d c w) (t P lines s))))
+    (all, ends_line f text lines p q r e g, subst (λ x. StandsAfterLines P all x count'') (sym a) (subst (λ x. StandsAfterLines P all Q' x) (sym b) (subst (λ x. StandsAfterLines P (lines ++ x ∷ []) Q' count') (line_ends q d c w) (t P lines s))))
 
-pub end_wrong : (f : ProofFormat) (P : List Clause) (text : List ℕ) (lines : List Line) (Q Q' : List Clause) (count : Count) (p q : ReaderState) (d : LineKind) (c : Clause) (error : CheckerError) → HasRead f text lines p → Stands P lines Q count →
+pub end_wrong : (f : ProofFormat) (P : List Clause) (text : List ℕ) (lines : List Line) (Q Q' : List Clause) (count : Count) (p q : ReaderState) (d : LineKind) (c : Clause) (error : CheckerError) → HasRead f text lines p → StandsAfterLines P lines Q count →
     Ended ≡ last_event p → q ≡ record p { place = last_place p } → LineEnds q d c → q.place.inside ≡ false →
-    ((P : List Clause) (lines : List Line) → Stands P lines Q count → IsWrongLast P (lines ++ line_of_kind d c ∷ []) error Q') → EndsWith f P text (Err error) Q'
+    ((P : List Clause) (lines : List Line) → StandsAfterLines P lines Q count → IsWrongLast P (lines ++ line_of_kind d c ∷ []) error Q') → EndsWith f P text (Err error) Q'
 end_wrong f P text lines Q Q' count p q d c error r s e g w o t = by_error error (subst (λ x. IsWrongLast P (lines ++ x ∷ []) error Q') (line_ends q d c w) (t P lines s))
   where
     all : List Line
@@ -386,5 +386,5 @@ last_outside p q e g = ap (λ x. x.place.inside) g ∙ by (p.part.count == 0) (s
     by true h = absurd cc
     by false h = symbol_outside p.format p.place.inside p.place.kind p.place.clause s h
 
-pub stands_along : (P : List Clause) (lines : List Line) (Q Q' : List Clause) (count count' : Count) → Stands P lines Q count → Q' ≡ Q → count' ≡ count → Stands P lines Q' count'
-stands_along P lines Q Q' count count' s a b = subst (λ x. Stands P lines x count') (sym a) (subst (λ x. Stands P lines Q x) (sym b) s)
+pub stands_along : (P : List Clause) (lines : List Line) (Q Q' : List Clause) (count count' : Count) → StandsAfterLines P lines Q count → Q' ≡ Q → count' ≡ count → StandsAfterLines P lines Q' count'
+stands_along P lines Q Q' count count' s a b = subst (λ x. StandsAfterLines P lines x count') (sym a) (subst (λ x. StandsAfterLines P lines Q x) (sym b) s)

@@ -9,7 +9,7 @@ use Rattle.varisat_proof.specs.declared.checker.error.CheckerError.{CheckerError
 use Rattle.varisat_proof.specs.declared.checker.error.CheckerError.TheVariants.{CheckFailed, NoSuchClause, OutOfMemory}
 use Rattle.varisat_proof.specs.declared.proof.step.ProofStep.{ProofStep}
 use Rattle.varisat_proof.specs.declared.proof.step.ProofStep.TheVariants.{AtClause, UnitClauses, DeleteClause, DeleteVar, FailedAssumptions}
-use Rattle.varisat_proof.specs.Steps.{unit_lines}
+use Rattle.varisat_theory.specs.StepLaws.{unit_lines}
 use Rattle.varisat_proof.specs.Calls.{CheckerState, IsStep, FailsAt}
 use Rattle.varisat_proof.specs.Checks.{ChecksLine, ChecksUnits, ChecksCore}
 

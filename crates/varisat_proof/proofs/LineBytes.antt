@@ -12,7 +12,8 @@ use Rattle.varisat_proof.specs.declared.proof.writer.WriteError.{WriteError}
 use Rattle.varisat_proof.specs.declared.proof.writer.WriteError.TheVariants.{Memory, Target}
 use Rattle.varisat_proof.specs.Written.{leb128, leb128_by, codes_bytes, line_of_kind, line_text, line_bytes, line_written}
 use Rattle.varisat_proof.specs.Machine.{scale}
-use Rattle.varisat_proof.specs.Steps.{unit_lines, lines_written, PutsLines}
+use Rattle.varisat_theory.specs.StepLaws.{unit_lines}
+use Rattle.varisat_proof.specs.Steps.{lines_written, PutsLines}
 
 pub room_less : (left rest : ℕ) → 0 < left → left ≤ 4 → rest < 128 * scale left → rest / 128 < 128 * scale (left - 1)
 room_less zero rest p h e = absurd (omega arith)

@@ -10,7 +10,7 @@ use Rattle.varisat_proof.specs.declared.checker.error.CheckerError.{CheckerError
 use Rattle.varisat_proof.specs.declared.checker.error.CheckerError.TheVariants.{CheckFailed, NoSuchClause, Parse, Io, OutOfMemory, Dimacs, Spent}
 use Rattle.varisat_proof.specs.Machine.{Parsed, parsed}
 use Rattle.varisat_proof.specs.Results.{result_of, IsResult, ResultOnce}
-use Rattle.varisat_proof.specs.Calls.{Standing, Checks, AtEnd, InText, SourceFailed, RanOut, IsOfBytes, is_io}
+use Rattle.varisat_proof.specs.Calls.{CheckerStanding, Checks, AtEnd, InText, SourceFailed, RanOut, IsOfBytes, is_io}
 use Rattle.varisat_proof.proofs.TokenLines.{only_parsed}
 
 same_parsed : (a b : List Line) (f g : Option ℕ) (t : Parsed) → t ≡ record { lines = a; fault = f } → t ≡ record { lines = b; fault = g } → (a ≡ b) × (f ≡ g)
@@ -40,7 +40,7 @@ not_io OutOfMemory i o = o
 not_io (Dimacs x) i o = o
 not_io Spent i o = o
 
-pub checks_exact : (f : ProofFormat) (old new : Standing) (bytes : List ℕ) (r : Result CheckVerdict CheckerError) → old.source.left ≡ Some bytes → IsOfBytes r → Checks f old r new → IsResult f old.checker.clauses bytes r new.checker.clauses
+pub checks_exact : (f : ProofFormat) (old new : CheckerStanding) (bytes : List ℕ) (r : Result CheckVerdict CheckerError) → old.source.left ≡ Some bytes → IsOfBytes r → Checks f old r new → IsResult f old.checker.clauses bytes r new.checker.clauses
 checks_exact f old new bytes r e i (AtEnd text reads a q k) =
     subst (λ x. IsResult f old.checker.clauses x r new.checker.clauses) (sym (ended_bytes new.source.left bytes text (subst (λ l. Consumes l new.source.left text) e reads.consumed) a.at_end)) k
 checks_exact f old new bytes r e i (InText text reads q k) =

@@ -94,7 +94,7 @@ IsStep old step (Err Spent) new = IsRefusal old Spent new
 
 -- 2. Proofs.
 -- a checker, and the source that it reads
-pub record Standing : Type 0 where
+pub record CheckerStanding : Type 0 where
   pub checker : CheckerState
   pub source : Stand
 
@@ -110,7 +110,7 @@ IsOfBytes (Err (Dimacs cause)) = ⊥
 IsOfBytes (Err Spent) = ⊥
 
 -- What a check of a proof returns, over what the source gave meanwhile.
-pub data Checks (format : ProofFormat) (old : Standing) (result : Result CheckVerdict CheckerError) (new : Standing) : Type 0 where
+pub data Checks (format : ProofFormat) (old : CheckerStanding) (result : Result CheckVerdict CheckerError) (new : CheckerStanding) : Type 0 where
   -- the source ended, and the result is that of all it gave
   AtEnd : (text : List ℕ) → streams.Reads old.source text new.source → HasEnded new.source → new.source.faults ≡ old.source.faults →
       IsResult format old.checker.clauses text result new.checker.clauses → Checks format old result new
@@ -144,7 +144,7 @@ AddsRead old reading (Err OutOfMemory) new = IsRefusal old OutOfMemory new
 AddsRead old reading (Err Spent) new = ⊥
 
 -- a text is added that a source gives; a spent checker reads nothing
-pub data AddsText (old : Standing) (result : Result (Unit {0}) CheckerError) (new : Standing) : Type 0 where
+pub data AddsText (old : CheckerStanding) (result : Result (Unit {0}) CheckerError) (new : CheckerStanding) : Type 0 where
   Added : (reading : Reading) → GivesReading old.source reading new.source → AddsRead old.checker reading result new.checker → AddsText old result new
   -- memory ran out for a clause that was read
   ClauseRanOut : (text : List ℕ) → streams.Reads old.source text new.source → result ≡ Err OutOfMemory → IsRefusal old.checker OutOfMemory new.checker → AddsText old result new

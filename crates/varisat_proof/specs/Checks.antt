@@ -16,7 +16,7 @@ use Rattle.varisat_proof.specs.declared.checker.error.CheckerError.TheVariants.{
 use Rattle.varisat_proof.specs.declared.checker.check.Count.{Count}
 use Rattle.varisat_proof.specs.Machine.{Parsed, ReaderState, parsed, parsed_from}
 use Rattle.varisat_proof.specs.Results.{step_number, Leaves, IsResult}
-use Rattle.varisat_proof.specs.Steps.{unit_lines}
+use Rattle.varisat_theory.specs.StepLaws.{unit_lines}
 use Rattle.varisat_proof.specs.Calls.{CheckerState, FailsAt}
 
 -- 1. Lines.
@@ -25,8 +25,8 @@ abbrev pub StandsBy : Bool → List Clause → List Line → List Clause → ℕ
 StandsBy true P lines Q steps = Leaves P lines plain.Refutation Q
 StandsBy false P lines Q steps = Derives P lines Q × (Refutes P lines → ⊥) × (Conflicts Q [] → ⊥) × (steps ≡ step_number (length lines))
 
-abbrev pub Stands : List Clause → List Line → List Clause → Count → Type 0
-Stands P lines Q count = StandsBy count.refuted P lines Q count.steps
+abbrev pub StandsAfterLines : List Clause → List Line → List Clause → Count → Type 0
+StandsAfterLines P lines Q count = StandsBy count.refuted P lines Q count.steps
 
 -- the lines have the verdict, with the number in the error
 pub record StopsWith (P : List Clause) (lines : List Line) (verdict : PlainVerdict) (Q : List Clause) : Type 0 where
@@ -45,7 +45,7 @@ IsWrongLast P lines Spent Q = ⊥
 
 -- a line more
 abbrev pub TakesLine : List Clause → List Line → Result (Unit {0}) CheckerError → List Clause → Count → Type 0
-TakesLine P lines (Ok u) Q count = Stands P lines Q count
+TakesLine P lines (Ok u) Q count = StandsAfterLines P lines Q count
 TakesLine P lines (Err e) Q count = IsWrongLast P lines e Q
 
 -- 2. Bytes.
@@ -74,7 +74,7 @@ pub record Position : Type 0 where
 
 -- a piece more of the text was read
 abbrev pub ReadsPiece : ProofFormat → List Clause → List ℕ → Result (Unit {0}) CheckerError → Position → Type 0
-ReadsPiece format P text (Ok u) at = (lines : List Line) × HasRead format text lines at.progress × Stands P lines at.present at.count
+ReadsPiece format P text (Ok u) at = (lines : List Line) × HasRead format text lines at.progress × StandsAfterLines P lines at.present at.count
 ReadsPiece format P text (Err e) at = BreaksOff format P text e at.present
 
 -- what a check returns where the bytes end, of which all lines were checked

@@ -2,6 +2,7 @@
 use Rattle.std.specs.Prelude.{◌≡◌, ℕ, ◌+◌, List, [], ◌∷◌, ◌++◌, map, take, flat_map, Result, Ok, Err}
 use Rattle.varisat_theory.specs.Literals.{Literal}
 use Rattle.varisat_theory.specs.Derivations.{Line, Add, Delete}
+use Rattle.varisat_theory.specs.StepLaws.{unit_lines}
 use Rattle.varisat_formula.specs.Streams.{Taken}
 use Rattle.varisat_proof.specs.declared.proof.format.ProofFormat.{ProofFormat}
 use Rattle.varisat_proof.specs.declared.proof.step.ProofStep.{ProofStep}
@@ -9,10 +10,6 @@ use Rattle.varisat_proof.specs.declared.proof.step.ProofStep.TheVariants.{AtClau
 use Rattle.varisat_proof.specs.declared.proof.writer.WriteError.{WriteError}
 use Rattle.varisat_proof.specs.declared.proof.writer.WriteError.TheVariants.{Memory, Target}
 use Rattle.varisat_proof.specs.Written.{line_written}
-
--- each literal is added as a clause of its own
-abbrev pub unit_lines : List Literal → List Line
-unit_lines units = map (λ l. Add (l ∷ [])) units
 
 -- the lines of a step
 abbrev pub lines_of : ProofStep → List Line

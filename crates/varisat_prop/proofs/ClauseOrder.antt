@@ -5,9 +5,9 @@ use Rattle.varisat_theory.specs.Literals.{Literal, Clause, variable_of}
 use Rattle.varisat_prop.specs.declared.prop.graph.Reason.TheVariants as reason
 use Rattle.varisat_clause.specs.Stored.{StoredClause, literals_of, IsPlace, with_literals, AreReordered}
 use Rattle.varisat_theory.proofs.Members.{∈-append_left, ∈-append_right, ∈-append_cases}
-use Rattle.varisat_prop.specs.View.{View, pairs_from, kept, IsTrueIn, clause_at, node_at, Implies, IsReason, WellFormed, ViewFits, Grows}
+use Rattle.varisat_prop.specs.View.{View, pairs_from, kept, IsTrueIn, clause_at, node_at, Implies, IsReason, WellFormed, ViewFits, GrowsTrail}
 use Rattle.varisat_prop.specs.Looks.{Propagates}
-use Rattle.varisat_prop.specs.Watches.{at, IsRearranged}
+use Rattle.varisat_prop.specs.Watches.{literal_in, IsRearranged}
 use Rattle.varisat_clause.proofs.StoredClauses.{same-trans, reordered-old, reordered-new, reordered-place, reordered-rising, with-reordered, with-other, with-cases, with-own}
 use Rattle.varisat_prop.proofs.PropagateSteps.{propagates-refl}
 use Rattle.varisat_prop.proofs.ViewGrowth.{grows-reordered}
@@ -30,10 +30,10 @@ abbrev pub reordered : View → ℕ → Clause → View
 reordered s i d = record s { clauses = with_literals s.clauses i d }
 
 -- a clause whose first literal isn't true is no reason
-pub unused : (s : View) (i : ℕ) → WellFormed s → (IsTrueIn s (at (clause_at s i) 0) → ⊥) → (k : ℕ) → k < length s.trail → (node_at s k).reason ≡ reason.Long i → ⊥
+pub unused : (s : View) (i : ℕ) → WellFormed s → (IsTrueIn s (literal_in (clause_at s i) 0) → ⊥) → (k : ℕ) → k < length s.trail → (node_at s k).reason ≡ reason.Long i → ⊥
 unused s i w n k h e = let r : IsReason s k (reason.Long i) = subst (IsReason s k) e (w.reason_is k h) in n (first-true (clause_at s i) r.1)
   where
-    first-true : (d : Clause) → Implies s d k → IsTrueIn s (at d 0)
+    first-true : (d : Clause) → Implies s d k → IsTrueIn s (literal_in d 0)
     first-true [] m = absurd m
     first-true (x ∷ d) (e, m) = subst (IsTrueIn s) (sym e) (w.is_true k h)
 
@@ -61,14 +61,14 @@ module _ (s : View) (i : ℕ) (d : Clause) (w : WellFormed s) (a : IsPlace s.cla
         reasons = λ k j h e m. (reordered-place s.clauses u.clauses j are-reordered m, with-other s.clauses i j d (λ q. n k h (e ∙ ap reason.Long q)));
       }) w.head
 
-  changed-grows : Grows s u
+  changed-grows : GrowsTrail s u
   changed-grows = grows-reordered s u.clauses are-reordered (λ held f. fits-reordered s u.clauses held are-reordered f)
 
   pub changed-unused : Propagates s u
   changed-unused = record { well = changed-well; grows = changed-grows; decisions = refl }
 
 -- a clause changes its order only where its first literal isn't true
-pub changed : (s : View) (i : ℕ) (d : Clause) → WellFormed s → IsPlace s.clauses i → IsRearranged (clause_at s i) d → (d ≡ clause_at s i) ⊎ (IsTrueIn s (at (clause_at s i) 0) → ⊥) → Propagates s (reordered s i d)
+pub changed : (s : View) (i : ℕ) (d : Clause) → WellFormed s → IsPlace s.clauses i → IsRearranged (clause_at s i) d → (d ≡ clause_at s i) ⊎ (IsTrueIn s (literal_in (clause_at s i) 0) → ⊥) → Propagates s (reordered s i d)
 changed s i d w a r o =
     ⊎_elim
     (λ e. let f : with_literals s.clauses i d ≡ s.clauses = ap (λ x. with_literals s.clauses i x) e ∙ with-own s.clauses i in subst (λ x. Propagates s (record s { clauses = x })) (sym f) (propagates-refl s w))

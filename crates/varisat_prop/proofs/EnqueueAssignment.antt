@@ -9,7 +9,7 @@ use Rattle.varisat_literals.specs.Numbers.{polarity_of}
 use Rattle.varisat_prop.specs.declared.prop.graph.Reason.{Reason}
 use Rattle.varisat_prop.specs.declared.prop.graph.Reason.TheVariants as reason
 use Rattle.varisat_clause.specs.Stored.{IsPlace}
-use Rattle.varisat_prop.specs.View.{View, implied_by, IsTrueIn, clause_at, literal_at, decision_at, node_at, Implies, IsReason, WellFormed, IsFixed, ViewFits, Grows}
+use Rattle.varisat_prop.specs.View.{View, implied_by, IsTrueIn, clause_at, literal_at, decision_at, node_at, Implies, IsReason, WellFormed, IsFixed, ViewFits, GrowsTrail}
 use Rattle.varisat_prop.specs.Changes.{enqueued, decided_on}
 use Rattle.varisat_prop.proofs.TrailExtend.{ext, ext-length, literal-old, literal-new, node-old, node-new, node-other, fresh, true-old, each-place, place-cases, Levels, ext-well, get_or-last}
 use Rattle.varisat_clause.proofs.StoredClauses.{reordered-refl}
@@ -75,7 +75,7 @@ module _ (s : View) (l : Literal) (r : Reason) (ds : List ℕ) (w : WellFormed s
       no-length [] h = refl
       no-length (x ∷ xs) h = absurd (omega (arith, h))
 
-  pub ext-grows : (r ≡ reason.Unit → ds ≡ [] → ⊥) → (more : List ℕ) → ds ≡ s.decisions ++ more → Grows s e
+  pub ext-grows : (r ≡ reason.Unit → ds ≡ [] → ⊥) → (more : List ℕ) → ds ≡ s.decisions ++ more → GrowsTrail s e
   ext-grows n more f = record {
     clauses = reordered-refl s.clauses;
     binary = refl;
@@ -146,5 +146,5 @@ module _ (s : View) (l : Literal) (w : WellFormed s) (inside : variable_of l < l
   pub decided-well : WellFormed (decided_on s l)
   decided-well = ext-well s l reason.Unit ds w inside free more-levels (inl (∈-append_right (length s.trail) s.decisions (length s.trail ∷ []) (inl refl)))
 
-  pub decided-grows : Grows s (decided_on s l)
+  pub decided-grows : GrowsTrail s (decided_on s l)
   decided-grows = ext-grows s l reason.Unit ds w inside free (λ a b. let n = ds-length in let m = ap (λ (x : List ℕ). length x) b in absurd (omega (arith, n, m))) (length s.trail ∷ []) refl

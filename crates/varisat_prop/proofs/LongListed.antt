@@ -15,27 +15,27 @@ use Rattle.varisat_prop.specs.declared.prop.long.Visit.TheVariants as visit
 use Rattle.varisat_prop.specs.declared.prop.graph.Conflict.TheVariants as conflict
 use Rattle.varisat_clause.specs.Stored.{IsPlace}
 use Rattle.varisat_clause.proofs.StoredClauses.{reordered-at, reordered-place, reordered-place-back}
-use Rattle.varisat_prop.specs.Watches.{Watches, list_of, with_list, at, HasWatch, IsSatisfied, IsSettledTo, IsWatched}
+use Rattle.varisat_prop.specs.Watches.{Watches, watches_of, with_watches, literal_in, HasWatch, IsSatisfied, IsSettledTo, IsWatched}
 use Rattle.varisat_prop.specs.Visits.{IsVisited, IsVisit}
-use Rattle.varisat_prop.specs.QueueSteps.{SearchParts, view_of_parts, KeepsParts, IsNext, GoesOnWith, IsWatchOf, IsVisitedAs}
+use Rattle.varisat_prop.specs.QueueSteps.{SearchParts, view_of_parts, KeepsParts, IsNext, GoesOnWith, IsWatchOf, IsVisitedAs, with_lists}
 use Rattle.varisat_prop.specs.Changes.{IsConflicting}
 use Rattle.varisat_prop.proofs.PropagateQueue.{kept-all}
 use Rattle.varisat_prop.proofs.WatchSettled.{IsSettledBut, settled-next, implied-longer, propagates-goes-on}
 
 pub record Listing (s t : View) (W : Watches) (q : ℕ) (l : Literal) (kept rest : List Watch) : Type 0 where
   pub propagates : Propagates s t
-  pub watched : IsWatched (with_list W l (kept ++ rest)) t q
+  pub watched : IsWatched (with_watches W l (kept ++ rest)) t q
   pub but : IsSettledBut t l rest
   pub head : literal_at t q ≡ l
   pub within : q < length t.trail
   pub inside : l < length W.lists
 
 -- all watches are to be visited
-pub listing-start : (s : View) (W : Watches) (q : ℕ) (l : Literal) (rest : List Watch) → Propagates s s → IsWatched (with_list W l rest) s q → literal_at s q ≡ l → q < length s.trail → l < length W.lists → Listing s s W q l [] rest
+pub listing-start : (s : View) (W : Watches) (q : ℕ) (l : Literal) (rest : List Watch) → Propagates s s → IsWatched (with_watches W l rest) s q → literal_at s q ≡ l → q < length s.trail → l < length W.lists → Listing s s W q l [] rest
 listing-start s W q l rest p w h a i = record {
   propagates = p;
   watched = w;
-  but = λ k j b c e. inl (subst (λ ws. HasWatch ws k) (get_or-set_same W.lists l rest [] i) (subst (λ x. HasWatch (list_of (with_list W l rest) x) k) (sym e) (w.watching.watched k j b c)));
+  but = λ k j b c e. inl (subst (λ ws. HasWatch ws k) (get_or-set_same W.lists l rest [] i) (subst (λ x. HasWatch (watches_of (with_watches W l rest) x) k) (sym e) (w.watching.watched k j b c)));
   head = h;
   within = a;
   inside = i;
@@ -56,15 +56,15 @@ module _ (s t : View) (W : Watches) (q : ℕ) (l : Literal) (kept rest : List Wa
   module _ (u : View) (V : Watches) (kept' : List Watch) (v : IsVisited t u W V w.cref)
       (old : (x : Watch) → x ∈ kept → x ∈ kept')
       (new : (x : Watch) → x ∈ kept' → (x ∈ kept) ⊎ ((x.cref ≡ w.cref) × (x.blocking ∈ clause_at u w.cref)))
-      (own : (j : ℕ) → j < 2 → (l ≡ opposite (at (clause_at u w.cref) j) → ⊥) ⊎ HasWatch kept' w.cref) where
+      (own : (j : ℕ) → j < 2 → (l ≡ opposite (literal_in (clause_at u w.cref) j) → ⊥) ⊎ HasWatch kept' w.cref) where
     abbrev i : ℕ
     i = w.cref
 
     abbrev A : Watches
-    A = with_list W l (kept ++ w ∷ rest)
+    A = with_watches W l (kept ++ w ∷ rest)
 
     abbrev B : Watches
-    B = with_list V l (kept' ++ rest)
+    B = with_watches V l (kept' ++ rest)
 
     inside' : l < length V.lists
     inside' = let n = v.adds.count in let m = g.inside in omega (arith, n, m)
@@ -75,17 +75,17 @@ module _ (s t : View) (W : Watches) (q : ℕ) (l : Literal) (kept rest : List Wa
     place-back : (k : ℕ) → IsPlace u.clauses k → IsPlace t.clauses k
     place-back k h = reordered-place-back t.clauses u.clauses k v.propagates.grows.clauses h
 
-    own-list : list_of B l ≡ kept' ++ rest
+    own-list : watches_of B l ≡ kept' ++ rest
     own-list = get_or-set_same V.lists l (kept' ++ rest) [] inside'
 
-    other-list : (x : Literal) → x ≢ l → list_of B x ≡ list_of V x
+    other-list : (x : Literal) → x ≢ l → watches_of B x ≡ watches_of V x
     other-list x n = get_or-set_other V.lists l x (kept' ++ rest) [] n
 
     -- a watch of another clause stays, and in another list each watch stays
-    has-other : (x : Literal) (k : ℕ) → x ≢ l → HasWatch (list_of A x) k → HasWatch (list_of B x) k
+    has-other : (x : Literal) (k : ℕ) → x ≢ l → HasWatch (watches_of A x) k → HasWatch (watches_of B x) k
     has-other x k n (y, h, e) = (y, subst (λ ws. y ∈ ws) (sym (other-list x n)) (v.adds.old x y (subst (λ ws. y ∈ ws) (get_or-set_other W.lists l x (kept ++ w ∷ rest) [] n) h)), e)
 
-    has-own : (k : ℕ) → k ≢ i → HasWatch (list_of A l) k → HasWatch (list_of B l) k
+    has-own : (k : ℕ) → k ≢ i → HasWatch (watches_of A l) k → HasWatch (watches_of B l) k
     has-own k n (y, h, e) = (
       y,
       subst (λ ws. y ∈ ws) (sym own-list) (⊎_elim
@@ -95,33 +95,33 @@ module _ (s t : View) (W : Watches) (q : ℕ) (l : Literal) (kept rest : List Wa
       e,
     )
 
-    has : (x : Literal) (k : ℕ) → k ≢ i → HasWatch (list_of A x) k → HasWatch (list_of B x) k
-    has x k n h = ⊎_elim (λ e. subst (λ y. HasWatch (list_of B y) k) (sym e) (has-own k n (subst (λ y. HasWatch (list_of A y) k) e h))) (λ m. has-other x k m h) (equal_or_not x l)
+    has : (x : Literal) (k : ℕ) → k ≢ i → HasWatch (watches_of A x) k → HasWatch (watches_of B x) k
+    has x k n h = ⊎_elim (λ e. subst (λ y. HasWatch (watches_of B y) k) (sym e) (has-own k n (subst (λ y. HasWatch (watches_of A y) k) e h))) (λ m. has-other x k m h) (equal_or_not x l)
 
-    in-own : (ws : List Watch) (k : ℕ) → ws ≡ kept' → HasWatch ws k → HasWatch (list_of B l) k
+    in-own : (ws : List Watch) (k : ℕ) → ws ≡ kept' → HasWatch ws k → HasWatch (watches_of B l) k
     in-own ws k e (y, h, f) = (y, subst (λ zs. y ∈ zs) (sym own-list) (∈-append_left y kept' rest (subst (λ zs. y ∈ zs) e h)), f)
 
     -- the visited clause is watched
-    has-visited : (j : ℕ) → j < 2 → HasWatch (list_of B (opposite (at (clause_at u i) j))) i
+    has-visited : (j : ℕ) → j < 2 → HasWatch (watches_of B (opposite (literal_in (clause_at u i) j))) i
     has-visited j b =
         ⊎_elim
-        (λ e. ⊎_elim (λ n. absurd (n (sym e))) (λ h. subst (λ y. HasWatch (list_of B y) i) (sym e) (in-own kept' i refl h)) (own j b))
+        (λ e. ⊎_elim (λ n. absurd (n (sym e))) (λ h. subst (λ y. HasWatch (watches_of B y) i) (sym e) (in-own kept' i refl h)) (own j b))
         (λ m. ⊎_elim
-        (λ (h, c, e). subst (λ y. HasWatch (list_of B (opposite y)) i) (sym e) (has-other (opposite (at (clause_at t i) h)) i (λ z. m (ap opposite e ∙ z)) (g.watched.watching.watched i h watch-known.0 c)))
-        (λ (y, h, e). (y, subst (λ ws. y ∈ ws) (sym (other-list (opposite (at (clause_at u i) j)) m)) h, e))
+        (λ (h, c, e). subst (λ y. HasWatch (watches_of B (opposite y)) i) (sym e) (has-other (opposite (literal_in (clause_at t i) h)) i (λ z. m (ap opposite e ∙ z)) (g.watched.watching.watched i h watch-known.0 c)))
+        (λ (y, h, e). (y, subst (λ ws. y ∈ ws) (sym (other-list (opposite (literal_in (clause_at u i) j)) m)) h, e))
         (v.pair j b))
-        (equal_or_not (opposite (at (clause_at u i) j)) l)
+        (equal_or_not (opposite (literal_in (clause_at u i) j)) l)
 
     same-in : (k : ℕ) (m : Literal) → m ∈ clause_at t k → m ∈ clause_at u k
     same-in k m n = (reordered-at t.clauses u.clauses k v.propagates.grows.clauses).1 m n
 
-    known-old : (x : Literal) (y : Watch) → y ∈ list_of A x → IsPlace u.clauses y.cref × (y.blocking ∈ clause_at u y.cref)
+    known-old : (x : Literal) (y : Watch) → y ∈ watches_of A x → IsPlace u.clauses y.cref × (y.blocking ∈ clause_at u y.cref)
     known-old x y h = let (a, b) = g.watched.watching.known x y h in (place-on y.cref a, same-in y.cref y.blocking b)
 
     known-new : (y : Watch) → (y.cref ≡ i) × (y.blocking ∈ clause_at u i) → IsPlace u.clauses y.cref × (y.blocking ∈ clause_at u y.cref)
     known-new y (e, h) = (subst (IsPlace u.clauses) (sym e) (place-on i watch-known.0), subst (λ k. y.blocking ∈ clause_at u k) (sym e) h)
 
-    known-is : (x : Literal) (y : Watch) → y ∈ list_of B x → IsPlace u.clauses y.cref × (y.blocking ∈ clause_at u y.cref)
+    known-is : (x : Literal) (y : Watch) → y ∈ watches_of B x → IsPlace u.clauses y.cref × (y.blocking ∈ clause_at u y.cref)
     known-is x y h =
         ⊎_elim
         (λ e. ⊎_elim
@@ -130,7 +130,7 @@ module _ (s t : View) (W : Watches) (q : ℕ) (l : Literal) (kept rest : List Wa
         (known-new y)
         (new y z))
         (λ z. known-old l y (subst (λ ws. y ∈ ws) (sym (get_or-set_same W.lists l (kept ++ w ∷ rest) [] g.inside)) (∈-append_right y kept (w ∷ rest) (inr z))))
-        (∈-append_cases y kept' rest (subst (λ ws. y ∈ ws) own-list (subst (λ z. y ∈ list_of B z) e h))))
+        (∈-append_cases y kept' rest (subst (λ ws. y ∈ ws) own-list (subst (λ z. y ∈ watches_of B z) e h))))
         (λ n. ⊎_elim
         (λ r. known-old x y (subst (λ ws. y ∈ ws) (sym (get_or-set_other W.lists l x (kept ++ w ∷ rest) [] n)) r))
         (known-new y)
@@ -150,8 +150,8 @@ module _ (s t : View) (W : Watches) (q : ℕ) (l : Literal) (kept rest : List Wa
       watching = record {
         known = known-is;
         watched = λ k j h b. ⊎_elim
-            (λ e. subst (λ z. HasWatch (list_of B (opposite (at (clause_at u z) j))) z) (sym e) (has-visited j b))
-            (λ n. subst (λ c. HasWatch (list_of B (opposite (at c j))) k) (sym (v.elsewhere k n)) (has (opposite (at (clause_at t k) j)) k n (g.watched.watching.watched k j (place-back k h) b)))
+            (λ e. subst (λ z. HasWatch (watches_of B (opposite (literal_in (clause_at u z) j))) z) (sym e) (has-visited j b))
+            (λ n. subst (λ c. HasWatch (watches_of B (opposite (literal_in c j))) k) (sym (v.elsewhere k n)) (has (opposite (literal_in (clause_at t k) j)) k n (g.watched.watching.watched k j (place-back k h) b)))
             (equal_or_not k i);
       };
       settled = v.settled q (let n = g.within in omega (arith, n)) g.watched.settled;
@@ -161,16 +161,16 @@ module _ (s t : View) (W : Watches) (q : ℕ) (l : Literal) (kept rest : List Wa
       queue = λ j h. let e = v.propagates.decisions in let n = ap (λ (x : List ℕ). length x) e in let m = ap (λ (x : List ℕ). get_or x j 0) e in let o = g.watched.queue j (omega (arith, h, n)) in omega (arith, o, m);
     }
 
-    pub listing-on : ((j : ℕ) → j < 2 → l ≡ opposite (at (clause_at u w.cref) j) → IsSatisfied u (clause_at u w.cref)) → Listing s u V q l kept' rest
+    pub listing-on : ((j : ℕ) → j < 2 → l ≡ opposite (literal_in (clause_at u w.cref) j) → IsSatisfied u (clause_at u w.cref)) → Listing s u V q l kept' rest
     listing-on sat = record {
       propagates = propagates-trans s t u g.propagates v.propagates;
       watched = watched-on;
       but = λ k j h b e. ⊎_elim
-          (λ f. inr (subst (λ z. IsSatisfied u (clause_at u z)) (sym f) (sat j b (subst (λ z. l ≡ opposite (at (clause_at u z) j)) f e))))
+          (λ f. inr (subst (λ z. IsSatisfied u (clause_at u z)) (sym f) (sat j b (subst (λ z. l ≡ opposite (literal_in (clause_at u z) j)) f e))))
           (λ n. ⊎_elim
           (λ (y, m, r). ⊎_elim (λ z. absurd (n (sym r ∙ ap (λ o. o.cref) z))) (λ z. inl (y, z, r)) m)
           (λ (y, m, r). inr (y, (let o = grows-longer t u v.propagates.grows in omega (arith, m, o)), subst (λ z. z ∈ clause_at u k) (sym (literal-stays t u v.propagates.grows y m)) (same-in k (literal_at t y) r)))
-          (g.but k j (place-back k h) b (e ∙ ap (λ c. opposite (at c j)) (v.elsewhere k n))))
+          (g.but k j (place-back k h) b (e ∙ ap (λ c. opposite (literal_in c j)) (v.elsewhere k n))))
           (equal_or_not k i);
       head = head-on;
       within = within-on;
@@ -180,7 +180,7 @@ module _ (s t : View) (W : Watches) (q : ℕ) (l : Literal) (kept rest : List Wa
   -- the watch isn't kept
   pub listing-dropped : (u : View) (V : Watches) → IsVisited t u W V w.cref → IsVisit u l w.cref visit.Dropped → Listing s u V q l kept rest
   listing-dropped u V v d =
-      let n : (j : ℕ) → j < 2 → l ≡ opposite (at (clause_at u w.cref) j) → ⊥ = λ j b e. d j b (sym (opposite_twice (at (clause_at u w.cref) j)) ∙ ap opposite (sym e)) in
+      let n : (j : ℕ) → j < 2 → l ≡ opposite (literal_in (clause_at u w.cref) j) → ⊥ = λ j b e. d j b (sym (opposite_twice (literal_in (clause_at u w.cref) j)) ∙ ap opposite (sym e)) in
       listing-on u V kept v (λ x h. h) (λ x h. inl h) (λ j b. inl (n j b)) (λ j b e. absurd (n j b e))
 
   -- the watch is kept, with another blocking literal
@@ -194,7 +194,7 @@ module _ (s t : View) (W : Watches) (q : ℕ) (l : Literal) (kept rest : List Wa
     pub listing-kept : IsSatisfied u (clause_at u w.cref) → Listing s u V q l (kept ++ x ∷ []) rest
     listing-kept sat = listing-on u V (kept ++ x ∷ []) v (λ y m. ∈-append_left y kept (x ∷ []) m) new-is (λ j b. inr (x, one-in, e)) (λ j b f. sat)
 
-    pub watched-kept : IsWatched (with_list V l ((kept ++ x ∷ []) ++ rest)) u q
+    pub watched-kept : IsWatched (with_watches V l ((kept ++ x ∷ []) ++ rest)) u q
     watched-kept = watched-on u V (kept ++ x ∷ []) v (λ y m. ∈-append_left y kept (x ∷ []) m) new-is (λ j b. inr (x, one-in, e))
 
 -- all watches were visited
@@ -210,7 +210,7 @@ pub record Visiting (p q : SearchParts) (W V : Watches) (l : Literal) (xs : List
   pub lists : length V.lists ≡ length W.lists
   pub keeps : KeepsParts p q
 
-pub visiting-start : (p : SearchParts) (W : Watches) (l : Literal) (xs : List Watch) → l < length W.lists → IsNext (with_list W l xs) (view_of_parts p) l → Visiting p p W W l xs 0 0
+pub visiting-start : (p : SearchParts) (W : Watches) (l : Literal) (xs : List Watch) → l < length W.lists → IsNext (with_watches W l xs) (view_of_parts p) l → Visiting p p W W l xs 0 0
 visiting-start p W l xs i n = record {
   listing = listing-start (view_of_parts p) W p.trail.queue_head l xs (propagates-refl (view_of_parts p) n.well) n.watched n.head n.within i;
   order = omega arith;
@@ -242,7 +242,7 @@ module _ {p q : SearchParts} {W V : Watches} {l : Literal} {xs : List Watch} {a 
           is_true = watch-true s t V q.trail.queue_head l (take a xs) (drop (r + 1) xs) w next;
         }
 
-    module _ {m : SearchParts} {X : Watches} {v : Visit} (k : IsVisitedAs q m V X l w.cref v) where
+    module _ {m : SearchParts} {X : Watches} {v : Visit} (k : IsVisitedAs (with_lists q V) (with_lists m X) l w.cref v) where
       -- what stays as it is, and the place of the next watch
       step : (ys : List Watch) (b : ℕ) → Listing s (view_of_parts m) X q.trail.queue_head l (take b ys) (drop (r + 1) ys) → b ≤ r + 1 → length ys ≡ length xs → Visiting p m W X l ys b (r + 1)
       step ys b h o n = record {
@@ -276,7 +276,7 @@ module _ {p q : SearchParts} {W V : Watches} {l : Literal} {xs : List Watch} {a 
           (let o = g.order in omega (arith, o)) (length-set xs a x)
 
       pub visiting-false : {b : Literal} {zs : List Watch} → v ≡ visit.Conflicting b → zs ≡ take (a + 1) (set xs a (record { cref = w.cref; blocking = b })) ++ drop (r + 1) (set xs a (record { cref = w.cref; blocking = b }))
-          → GoesOnWith p m (with_list X l zs) × IsConflicting (view_of_parts m) (conflict.Long w.cref)
+          → GoesOnWith p m (with_watches X l zs) × IsConflicting (view_of_parts m) (conflict.Long w.cref)
       visiting-false {b = b} {zs = zs} f z =
           let x : Watch = record { cref = w.cref; blocking = b } in
           let d = subst (IsVisit (view_of_parts m) l w.cref) f k.visit in
@@ -285,7 +285,7 @@ module _ {p q : SearchParts} {W V : Watches} {l : Literal} {xs : List Watch} {a 
             record {
               propagates = propagates-trans s t u g.listing.propagates k.visited.propagates;
               keeps = keeps-trans g.keeps k.keeps;
-              watched = subst (λ h. IsWatched (with_list X l zs) u h) (sym k.keeps.head) (subst (λ us. IsWatched (with_list X l us) u q.trail.queue_head) (sym is)
+              watched = subst (λ h. IsWatched (with_watches X l zs) u h) (sym k.keeps.head) (subst (λ us. IsWatched (with_watches X l us) u q.trail.queue_head) (sym is)
                   (watched-kept s t V q.trail.queue_head l (take a xs) (drop (r + 1) xs) w next u X x k.visited refl d.0));
             },
             (reordered-place t.clauses u.clauses w.cref k.visited.propagates.grows.clauses is-watch.place, d.1),
@@ -293,11 +293,11 @@ module _ {p q : SearchParts} {W V : Watches} {l : Literal} {xs : List Watch} {a 
 
   -- all were visited
   module _ (done : length xs ≤ r) where
-    pub visiting-done : {ys : List Watch} → ys ≡ take a xs → GoesOnWith p q (with_list V l ys)
+    pub visiting-done : {ys : List Watch} → ys ≡ take a xs → GoesOnWith p q (with_watches V l ys)
     visiting-done {ys = ys} e = record {
       propagates = g.listing.propagates;
       keeps = g.keeps;
-      watched = subst (λ zs. IsWatched (with_list V l zs) t q.trail.queue_head) (kept-all xs a r done ∙ sym e) g.listing.watched;
+      watched = subst (λ zs. IsWatched (with_watches V l zs) t q.trail.queue_head) (kept-all xs a r done ∙ sym e) g.listing.watched;
     }
 
     pub visiting-settled : IsSettledTo t (suc q.trail.queue_head)

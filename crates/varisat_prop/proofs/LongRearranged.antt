@@ -7,7 +7,7 @@ use Rattle.varisat_theory.specs.Literals.{Clause}
 use Rattle.varisat_theory.proofs.Places.{∈-get_or, place_in}
 use Rattle.varisat_theory.proofs.Members.{equal_or_not}
 use Rattle.varisat_prop.proofs.DistinctPlaces.{distinct-places, distinct-by-places}
-use Rattle.varisat_prop.specs.Watches.{at, IsRearranged}
+use Rattle.varisat_prop.specs.Watches.{literal_in, IsRearranged}
 
 pub rearranged-refl : (c : Clause) → IsRearranged c c
 rearranged-refl c = record { same = ((λ m h. h), (λ m h. h)); long = refl; distinct = λ h. h }
@@ -82,5 +82,5 @@ swap-rearranged c d a b p q e =
     }
 
 -- the literals after a swap, by places
-pub swap-at : (c d : Clause) (a b : ℕ) → a < length c → b < length c → d ≡ swap c a b → (at d a ≡ at c b) × (at d b ≡ at c a) × ((m : ℕ) → (m ≡ a → ⊥) → (m ≡ b → ⊥) → at d m ≡ at c m)
+pub swap-at : (c d : Clause) (a b : ℕ) → a < length c → b < length c → d ≡ swap c a b → (literal_in d a ≡ literal_in c b) × (literal_in d b ≡ literal_in c a) × ((m : ℕ) → (m ≡ a → ⊥) → (m ≡ b → ⊥) → literal_in d m ≡ literal_in c m)
 swap-at c d a b p q e = let s = swapped_from_swap c d a b 0 p q e in (s.0, s.1, s.2)

@@ -23,9 +23,9 @@ use Rattle.varisat_prop.specs.declared.prop.long.Found.{Found}
 use Rattle.varisat_prop.specs.declared.prop.long.Found.TheVariants as found
 use Rattle.varisat_prop.specs.declared.prop.long.Visit.{Visit}
 use Rattle.varisat_prop.specs.declared.prop.long.Visit.TheVariants as visit
-use Rattle.varisat_prop.specs.Watches.{Watches, list_of, with_list, at, HasWatch, IsSatisfied, IsRearranged}
+use Rattle.varisat_prop.specs.Watches.{Watches, watches_of, with_watches, literal_in, HasWatch, IsSatisfied, IsRearranged}
 use Rattle.varisat_prop.specs.Visits.{IsPair, IsFound, AddsWatches, IsVisited, IsVisit}
-use Rattle.varisat_prop.specs.QueueSteps.{SearchParts, view_of_parts, KeepsParts, IsWatchOf, IsReorderedAt, IsVisitedAs}
+use Rattle.varisat_prop.specs.QueueSteps.{SearchParts, view_of_parts, KeepsParts, IsWatchOf, IsReorderedAt, IsVisitedAs, with_lists}
 use Rattle.varisat_clause.specs.Stored.{StoredClause, IsPlace, literals_at}
 use Rattle.varisat_clause.specs.Stores.{Store}
 use Rattle.varisat_clause.specs.Collected.{live_clauses}
@@ -78,22 +78,22 @@ module _ (s : View) (W : Watches) (i : ℕ) (d : Clause) (l : Literal) (w : Well
   place-in r = reordered-place s.clauses u.clauses i (with-reordered s.clauses i d r.same) a
 
   -- the first literal was l or false
-  not-first : (x : Literal) → IsPair c x f → (IsTrueIn s x → ⊥) → IsTrueIn s (at c 0) → ⊥
+  not-first : (x : Literal) → IsPair c x f → (IsTrueIn s x → ⊥) → IsTrueIn s (literal_in c 0) → ⊥
   not-first x p n t = ⊎_elim (λ (g, h). n (subst (IsTrueIn s) g t)) (λ (g, h). f-false (subst (IsTrueIn s) h t)) p
 
-  pair-first : (x : Literal) → IsPair c x f → at d 0 ≡ x → (h : ℕ) × (h < 2) × (at d 0 ≡ at c h)
+  pair-first : (x : Literal) → IsPair c x f → literal_in d 0 ≡ x → (h : ℕ) × (h < 2) × (literal_in d 0 ≡ literal_in c h)
   pair-first x p e = ⊎_elim (λ (g, h). (0, omega arith, e ∙ sym g)) (λ (g, h). (1, omega arith, e ∙ sym g)) p
 
-  pair-second : (x : Literal) → IsPair c x f → at d 1 ≡ f → (h : ℕ) × (h < 2) × (at d 1 ≡ at c h)
+  pair-second : (x : Literal) → IsPair c x f → literal_in d 1 ≡ f → (h : ℕ) × (h < 2) × (literal_in d 1 ≡ literal_in c h)
   pair-second x p e = ⊎_elim (λ (g, h). (1, omega arith, e ∙ sym h)) (λ (g, h). (0, omega arith, e ∙ sym h)) p
 
   abbrev FromPair : Type 0
-  FromPair = (j : ℕ) → j < 2 → (h : ℕ) × (h < 2) × (at d j ≡ at c h)
+  FromPair = (j : ℕ) → j < 2 → (h : ℕ) × (h < 2) × (literal_in d j ≡ literal_in c h)
 
-  from-pair : (x : Literal) → IsPair c x f → at d 0 ≡ x → at d 1 ≡ f → FromPair
-  from-pair x p e g = two (λ j. (h : ℕ) × (h < 2) × (at d j ≡ at c h)) (pair-first x p e) (pair-second x p g)
+  from-pair : (x : Literal) → IsPair c x f → literal_in d 0 ≡ x → literal_in d 1 ≡ f → FromPair
+  from-pair x p e g = two (λ j. (h : ℕ) × (h < 2) × (literal_in d j ≡ literal_in c h)) (pair-first x p e) (pair-second x p g)
 
-  first-in : IsRearranged c d → (x : Literal) → at d 0 ≡ x → x ∈ clause_at u i
+  first-in : IsRearranged c d → (x : Literal) → literal_in d 0 ≡ x → x ∈ clause_at u i
   first-in r x e = subst (λ y. x ∈ y) (sym now-is) (subst (λ y. y ∈ d) e (∈-get_or d 0 0 (let n = r.long in let m = long in omega (arith, n, m))))
 
   -- the clause is watched as before, in another order
@@ -103,14 +103,14 @@ module _ (s : View) (W : Watches) (i : ℕ) (d : Clause) (l : Literal) (w : Well
     elsewhere = elsewhere-is;
     settled = λ q h st. settled-reordered s i q d r (λ j b. inl (p j b)) st;
     adds = adds-none W i (clause_at u i);
-    pair = λ j b. let (h, o, e) = p j b in inl (h, o, ap (λ x. at x j) now-is ∙ e);
+    pair = λ j b. let (h, o, e) = p j b in inl (h, o, ap (λ x. literal_in x j) now-is ∙ e);
   }
 
   pub found-stale : IsFound s.values c d f found.Stale → IsVisited s u W W i × IsVisit u l i visit.Dropped
   found-stale (e, m, n) =
       let r : IsRearranged c d = subst (IsRearranged c) (sym e) (record { same = ((λ x h. h), (λ x h. h)); long = refl; distinct = λ h. h }) in (
-        visited-turned r (λ j b. (j, b, ap (λ x. at x j) e)) (changed s i d w a r (inl e)),
-        two (λ j. at (clause_at u i) j ≢ f) (λ g. m (sym (ap (λ x. at x 0) (now-is ∙ e)) ∙ g)) (λ g. n (sym (ap (λ x. at x 1) (now-is ∙ e)) ∙ g)),
+        visited-turned r (λ j b. (j, b, ap (λ x. literal_in x j) e)) (changed s i d w a r (inl e)),
+        two (λ j. literal_in (clause_at u i) j ≢ f) (λ g. m (sym (ap (λ x. literal_in x 0) (now-is ∙ e)) ∙ g)) (λ g. n (sym (ap (λ x. literal_in x 1) (now-is ∙ e)) ∙ g)),
       )
 
   pub found-true : (x : Literal) → IsFound s.values c d f (found.True x) → IsVisited s u W W i × IsVisit u l i (visit.Keep x)
@@ -130,27 +130,27 @@ module _ (s : View) (W : Watches) (i : ℕ) (d : Clause) (l : Literal) (w : Well
   -- another literal is watched
   module _ (x m : Literal) (fd : IsFound s.values c d f (found.Other x m)) (inside : opposite m < length W.lists) where
     abbrev more : Watches
-    more = with_list W (opposite m) (list_of W (opposite m) ++ record { cref = i; blocking = x } ∷ [])
+    more = with_watches W (opposite m) (watches_of W (opposite m) ++ record { cref = i; blocking = x } ∷ [])
 
-    new-watch : HasWatch (list_of more (opposite m)) i
-    new-watch = (record { cref = i; blocking = x }, subst (λ ws. record { cref = i; blocking = x } ∈ ws) (sym (get_or-set_same W.lists (opposite m) (list_of W (opposite m) ++ record { cref = i; blocking = x } ∷ []) [] inside)) (∈-append_right (record { cref = i; blocking = x }) (list_of W (opposite m)) (record { cref = i; blocking = x } ∷ []) (inl refl)), refl)
+    new-watch : HasWatch (watches_of more (opposite m)) i
+    new-watch = (record { cref = i; blocking = x }, subst (λ ws. record { cref = i; blocking = x } ∈ ws) (sym (get_or-set_same W.lists (opposite m) (watches_of W (opposite m) ++ record { cref = i; blocking = x } ∷ []) [] inside)) (∈-append_right (record { cref = i; blocking = x }) (watches_of W (opposite m)) (record { cref = i; blocking = x } ∷ []) (inl refl)), refl)
 
     abbrev ws : List Watch
-    ws = list_of W (opposite m) ++ record { cref = i; blocking = x } ∷ []
+    ws = watches_of W (opposite m) ++ record { cref = i; blocking = x } ∷ []
 
     adds-one : AddsWatches W more i (clause_at u i)
     adds-one = record {
       enabled = refl;
       count = length-set W.lists (opposite m) ws;
       old = λ y v h. ⊎_elim
-          (λ e. subst (λ z. v ∈ list_of more z) (sym e) (subst (λ z. v ∈ z) (sym (get_or-set_same W.lists (opposite m) ws [] inside)) (∈-append_left v (list_of W (opposite m)) (record { cref = i; blocking = x } ∷ []) (subst (λ z. v ∈ list_of W z) e h))))
+          (λ e. subst (λ z. v ∈ watches_of more z) (sym e) (subst (λ z. v ∈ z) (sym (get_or-set_same W.lists (opposite m) ws [] inside)) (∈-append_left v (watches_of W (opposite m)) (record { cref = i; blocking = x } ∷ []) (subst (λ z. v ∈ watches_of W z) e h))))
           (λ n. subst (λ z. v ∈ z) (sym (get_or-set_other W.lists (opposite m) y ws [] n)) h)
           (equal_or_not y (opposite m));
       new = λ y v h. ⊎_elim
           (λ e. ⊎_elim
-          (λ k. inl (subst (λ z. v ∈ list_of W z) (sym e) k))
+          (λ k. inl (subst (λ z. v ∈ watches_of W z) (sym e) k))
           (λ k. ⊎_elim (λ z. inr (ap (λ q. q.cref) z, subst (λ q. q ∈ clause_at u i) (sym (ap (λ q. q.blocking) z)) (first-in fd.0 x fd.2))) (λ z. absurd z) k)
-          (∈-append_cases v (list_of W (opposite m)) (record { cref = i; blocking = x } ∷ []) (subst (λ z. v ∈ z) (get_or-set_same W.lists (opposite m) ws [] inside) (subst (λ z. v ∈ list_of more z) e h))))
+          (∈-append_cases v (watches_of W (opposite m)) (record { cref = i; blocking = x } ∷ []) (subst (λ z. v ∈ z) (get_or-set_same W.lists (opposite m) ws [] inside) (subst (λ z. v ∈ watches_of more z) e h))))
           (λ n. inl (subst (λ z. v ∈ z) (get_or-set_other W.lists (opposite m) y ws [] n) h))
           (equal_or_not y (opposite m));
     }
@@ -161,18 +161,18 @@ module _ (s : View) (W : Watches) (i : ℕ) (d : Clause) (l : Literal) (w : Well
           record {
             propagates = changed s i d w a r (inr (not-first x p n));
             elsewhere = elsewhere-is;
-            settled = λ q h st. settled-reordered s i q d r (two (λ j. ((h : ℕ) × (h < 2) × (at d j ≡ at c h)) ⊎ ((p : ℕ) → p < q → literal_at s p ≢ opposite (at d j))) (inl (pair-first x p e)) (inr (λ k b z. o (subst (IsTrueIn s) (z ∙ ap opposite g) (w.is_true k (omega (arith, b, h))))))) st;
+            settled = λ q h st. settled-reordered s i q d r (two (λ j. ((h : ℕ) × (h < 2) × (literal_in d j ≡ literal_in c h)) ⊎ ((p : ℕ) → p < q → literal_at s p ≢ opposite (literal_in d j))) (inl (pair-first x p e)) (inr (λ k b z. o (subst (IsTrueIn s) (z ∙ ap opposite g) (w.is_true k (omega (arith, b, h))))))) st;
             adds = adds-one;
-            pair = two (λ j. ((h : ℕ) × (h < 2) × (at (clause_at u i) j ≡ at c h)) ⊎ HasWatch (list_of more (opposite (at (clause_at u i) j))) i)
-                (let (h, b, z) = pair-first x p e in inl (h, b, ap (λ y. at y 0) now-is ∙ z))
-                (inr (subst (λ y. HasWatch (list_of more (opposite y)) i) (sym (ap (λ y. at y 1) now-is ∙ g)) new-watch));
+            pair = two (λ j. ((h : ℕ) × (h < 2) × (literal_in (clause_at u i) j ≡ literal_in c h)) ⊎ HasWatch (watches_of more (opposite (literal_in (clause_at u i) j))) i)
+                (let (h, b, z) = pair-first x p e in inl (h, b, ap (λ y. literal_in y 0) now-is ∙ z))
+                (inr (subst (λ y. HasWatch (watches_of more (opposite y)) i) (sym (ap (λ y. literal_in y 1) now-is ∙ g)) new-watch));
           },
-          two (λ j. at (clause_at u i) j ≢ f)
-              (λ z. differ p (sym e ∙ sym (ap (λ y. at y 0) now-is) ∙ z))
-              (λ z. o (subst (IsTrueIn s) (sym (opposite_twice l) ∙ ap opposite (sym z ∙ ap (λ y. at y 1) now-is ∙ g)) tr)),
+          two (λ j. literal_in (clause_at u i) j ≢ f)
+              (λ z. differ p (sym e ∙ sym (ap (λ y. literal_in y 0) now-is) ∙ z))
+              (λ z. o (subst (IsTrueIn s) (sym (opposite_twice l) ∙ ap opposite (sym z ∙ ap (λ y. literal_in y 1) now-is ∙ g)) tr)),
         )
       where
-        apart : at c 0 ≢ at c 1
+        apart : literal_in c 0 ≢ literal_in c 1
         apart = distinct-places c 0 (w.distinct c (kept-here s i a)) 0 1 (omega arith) (let n = long in omega (arith, n))
 
         differ : IsPair c x f → x ≢ f
@@ -198,7 +198,7 @@ module _ (s : View) (W : Watches) (i : ℕ) (d : Clause) (l : Literal) (w : Well
         let (others, z, y) = split d e (let k = r.long in let k' = long in omega (arith, k, k')) h in
         (place-in r, (others, now-is ∙ z, y))
       where
-        split : (b : Clause) → at b 0 ≡ x → 0 < length b → ((k : ℕ) → 1 ≤ k → k < length b → IsTrueIn s (opposite (at b k))) → (others : Clause) × (b ≡ x ∷ others) × ((m : Literal) → m ∈ others → IsTrueIn u (opposite m))
+        split : (b : Clause) → literal_in b 0 ≡ x → 0 < length b → ((k : ℕ) → 1 ≤ k → k < length b → IsTrueIn s (opposite (literal_in b k))) → (others : Clause) × (b ≡ x ∷ others) × ((m : Literal) → m ∈ others → IsTrueIn u (opposite m))
         split [] e z h = absurd (omega (arith, z))
         split (y ∷ b) e z h = (b, ap (λ q. q ∷ b) e, λ m k. let (j, v, q) = place_in m b 0 k in subst (λ y. IsTrueIn s (opposite y)) q (h (suc j) (omega arith) (omega (arith, v))))
 
@@ -254,7 +254,7 @@ module _ (p : SearchParts) {W : Watches} {l : Literal} {w : Watch} (g : IsWatchO
   pub watch-range : IsInRange p.values.current (clause_at s i)
   watch-range = g.well.in_range (clause_at s i) (kept-here s i g.place)
 
-  pub code-blocking : IsTrueIn s w.blocking → IsVisitedAs p p W W l i (visit.Keep w.blocking)
+  pub code-blocking : IsTrueIn s w.blocking → IsVisitedAs (with_lists p W) (with_lists p W) l i (visit.Keep w.blocking)
   code-blocking h = record { visited = visited-same s W i g.well; visit = kept-by-blocking s l w.blocking i g.well g.blocking h; keeps = keeps-refl p }
 
   module _ {m : Literal} (n : m ≡ opposite l) where
@@ -276,18 +276,18 @@ module _ (p : SearchParts) {W : Watches} {l : Literal} {w : Watch} (g : IsWatchO
       turn : IsFound s.values (clause_at s i) b (opposite l) o
       turn = subst (λ x. IsFound s.values (clause_at s i) b x o) n r.found
 
-      back : (V : Watches) (v : Visit) → IsVisited s (reordered s i b) W V i × IsVisit (reordered s i b) l i v → IsVisitedAs p q W V l i v
+      back : (V : Watches) (v : Visit) → IsVisited s (reordered s i b) W V i × IsVisit (reordered s i b) l i v → IsVisitedAs (with_lists p W) (with_lists q V) l i v
       back V v h =
           let h' = subst (λ x. IsVisited s x W V i × IsVisit x l i v) (sym is-reordered) h in
           record { visited = h'.0; visit = h'.1; keeps = record { last = refl; head = refl; units = refl; store = r.store } }
 
-    pub code-stale : {store : Store} → IsReorderedAt p.store store p.values.current i m found.Stale → IsVisitedAs p (record p { store = store }) W W l i visit.Dropped
+    pub code-stale : {store : Store} → IsReorderedAt p.store store p.values.current i m found.Stale → IsVisitedAs (with_lists p W) (with_lists (record p { store = store }) W) l i visit.Dropped
     code-stale r = back r W visit.Dropped (found-stale s W i (b r) l g.well g.place g.is_true (turn r))
 
-    pub code-true : {store : Store} {x : Literal} → IsReorderedAt p.store store p.values.current i m (found.True x) → IsVisitedAs p (record p { store = store }) W W l i (visit.Keep x)
+    pub code-true : {store : Store} {x : Literal} → IsReorderedAt p.store store p.values.current i m (found.True x) → IsVisitedAs (with_lists p W) (with_lists (record p { store = store }) W) l i (visit.Keep x)
     code-true {x = x} r = back r W (visit.Keep x) (found-true s W i (b r) l g.well g.place g.is_true x (turn r))
 
-    pub code-false : {store : Store} {x : Literal} → IsReorderedAt p.store store p.values.current i m (found.False x) → IsVisitedAs p (record p { store = store }) W W l i (visit.Conflicting x)
+    pub code-false : {store : Store} {x : Literal} → IsReorderedAt p.store store p.values.current i m (found.False x) → IsVisitedAs (with_lists p W) (with_lists (record p { store = store }) W) l i (visit.Conflicting x)
     code-false {x = x} r = back r W (visit.Conflicting x) (found-false s W i (b r) l g.well g.place g.is_true x (turn r))
 
     -- another literal is watched
@@ -300,11 +300,11 @@ module _ (p : SearchParts) {W : Watches} {l : Literal} {w : Watch} (g : IsWatchO
       pub other-listed : z < length W.lists
       other-listed = subst (λ v. v < length W.lists) (sym e) (let o = listed y (length s.values) other-inside in let k = g.lists in omega (arith, o, k))
 
-      pub code-other : {V : Watches} → V ≡ with_list W z (list_of W z ++ record { cref = i; blocking = x } ∷ []) → IsVisitedAs p (record p { store = store }) W V l i visit.Dropped
+      pub code-other : {V : Watches} → V ≡ with_watches W z (watches_of W z ++ record { cref = i; blocking = x } ∷ []) → IsVisitedAs (with_lists p W) (with_lists (record p { store = store }) V) l i visit.Dropped
       code-other {V = V} f =
           let o = subst (λ v. v < length W.lists) e other-listed in
-          subst (λ X. IsVisitedAs p (record p { store = store }) W X l i visit.Dropped) (sym (f ∙ ap (λ v. with_list W v (list_of W v ++ record { cref = i; blocking = x } ∷ [])) e))
-          (back r (with_list W (opposite y) (list_of W (opposite y) ++ record { cref = i; blocking = x } ∷ [])) visit.Dropped (found-other s W i (b r) l g.well g.place g.is_true x y (turn r) o))
+          subst (λ X. IsVisitedAs (with_lists p W) (with_lists (record p { store = store }) X) l i visit.Dropped) (sym (f ∙ ap (λ v. with_watches W v (watches_of W v ++ record { cref = i; blocking = x } ∷ [])) e))
+          (back r (with_watches W (opposite y) (watches_of W (opposite y) ++ record { cref = i; blocking = x } ∷ [])) visit.Dropped (found-other s W i (b r) l g.well g.place g.is_true x y (turn r) o))
 
     -- the first literal becomes true
     module _ {store : Store} {x : Literal} (r : IsReorderedAt p.store store p.values.current i m (found.Implied x)) where
@@ -314,7 +314,7 @@ module _ (p : SearchParts) {W : Watches} {l : Literal} {w : Watch} (g : IsWatchO
           let k = g.well.nodes_are in
           (h, omega (arith, h, k), implied-free s W i (b r) l g.well g.place g.is_true x (turn r))
 
-      pub code-implied : (t : SearchParts) → view_of_parts t ≡ enqueued (view_of_parts (record p { store = store })) x (reason.Long i) → KeepsParts p t → IsVisitedAs p t W W l i (visit.Keep x)
+      pub code-implied : (t : SearchParts) → view_of_parts t ≡ enqueued (view_of_parts (record p { store = store })) x (reason.Long i) → KeepsParts p t → IsVisitedAs (with_lists p W) (with_lists t W) l i (visit.Keep x)
       code-implied t e k =
           let f = found-implied s W i (b r) l g.well g.place g.is_true x (turn r) in
           let h = subst (λ v. IsVisited s v W W i × IsVisit v l i (visit.Keep x)) (sym (e ∙ ap (λ (v : View). enqueued v x (reason.Long i)) (is-reordered r))) f in

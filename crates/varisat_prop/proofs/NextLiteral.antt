@@ -13,7 +13,7 @@ use Rattle.varisat_prop.specs.declared.prop.watch.Watch.{Watch}
 use Rattle.varisat_prop.specs.Parts.{TrailParts}
 use Rattle.varisat_prop.specs.View.{View, IsTrueIn, implied_by, literal_at, WellFormed}
 use Rattle.varisat_prop.specs.Looks.{Propagates}
-use Rattle.varisat_prop.specs.Watches.{Watches, list_of, with_list, IsSettledTo, IsImpliedTo, IsWatched}
+use Rattle.varisat_prop.specs.Watches.{Watches, watches_of, with_watches, IsSettledTo, IsImpliedTo, IsWatched}
 use Rattle.varisat_prop.specs.QueueSteps.{SearchParts, view_of_parts, KeepsParts, IsNext, GoesOnWith, EndsPropagation}
 use Rattle.varisat_prop.proofs.LiteralValues.{made-inside}
 use Rattle.varisat_prop.proofs.TrailValues.{trail-short}
@@ -49,13 +49,13 @@ module _ {W : Watches} {s : View} {l : Literal} (n : IsNext W s l) where
   next-list = let h = next-inside in omega (arith, h, n.watched.lists)
 
   -- its list is taken out meanwhile
-  module _ {V : Watches} {ws : List Watch} (out : V ≡ with_list W l []) (is : ws ≡ list_of W l) where
+  module _ {V : Watches} {ws : List Watch} (out : V ≡ with_watches W l []) (is : ws ≡ watches_of W l) where
     pub taken-inside : l < length V.lists
     taken-inside = let h = next-list in let a = ap (λ (X : Watches). length X.lists) out in let b = length-set W.lists l [] in omega (arith, h, a, b)
 
-    pub taken-next : IsNext (with_list V l ws) s l
+    pub taken-next : IsNext (with_watches V l ws) s l
     taken-next =
-        let e : with_list V l ws ≡ W = ap (λ xs. with_list V l xs) is ∙ ap (λ (X : Watches). with_list X l (list_of W l)) out ∙ put-back W l in
+        let e : with_watches V l ws ≡ W = ap (λ xs. with_watches V l xs) is ∙ ap (λ (X : Watches). with_watches X l (watches_of W l)) out ∙ put-back W l in
         subst (λ X. IsNext X s l) (sym e) n
 
 -- and is put back

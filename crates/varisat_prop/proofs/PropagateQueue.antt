@@ -10,7 +10,7 @@ use Rattle.varisat_prop.specs.View.{View, WellFormed}
 use Rattle.varisat_prop.proofs.WatchSettled.{settled-longer, implied-longer, propagates-goes-on}
 use Rattle.varisat_prop.proofs.ViewGrowth.{append-nil}
 use Rattle.varisat_prop.specs.declared.prop.watch.Watch.{Watch}
-use Rattle.varisat_prop.specs.Watches.{Watches, list_of, with_list, IsWatching, IsSettledTo, IsImpliedTo, IsPropagated, IsWatched}
+use Rattle.varisat_prop.specs.Watches.{Watches, watches_of, with_watches, IsWatching, IsSettledTo, IsImpliedTo, IsPropagated, IsWatched}
 use Rattle.varisat_prop.specs.Looks.{Propagates}
 use Rattle.varisat_prop.proofs.WellFormedChanges.{well-moved}
 
@@ -50,8 +50,8 @@ propagates-next s u k p e a =
     }
 
 -- a list that was taken out and is put back
-pub put-back : (W : Watches) (l : Literal) → with_list (with_list W l []) l (list_of W l) ≡ W
-put-back W l = ap (λ (ls : List (List Watch)). record W { lists = ls }) (set-set W.lists l [] (list_of W l) ∙ set-get_or W.lists l [])
+pub put-back : (W : Watches) (l : Literal) → with_watches (with_watches W l []) l (watches_of W l) ≡ W
+put-back W l = ap (λ (ls : List (List Watch)). record W { lists = ls }) (set-set W.lists l [] (watches_of W l) ∙ set-get_or W.lists l [])
 
 pub kept-all : (xs : List Watch) (a r : ℕ) → length xs ≤ r → take a xs ++ drop r xs ≡ take a xs
 kept-all xs a r h = ap (λ ys. take a xs ++ ys) (drop_all r xs h) ∙ append-nil (take a xs)

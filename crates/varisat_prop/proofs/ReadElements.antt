@@ -3,7 +3,7 @@ use Rattle.std.proofs.Common.{◌≡◌, ℕ, zero, suc, ◌-◌, ◌<◌, ◌�
 use Rattle.std.proofs.Math.Seq.{take-length}
 use Rattle.varisat_theory.specs.Membership.{◌∈◌}
 use Rattle.varisat_clause.specs.Stored.{literals_at}
-use Rattle.varisat_clause.specs.Stores.{Store, clauses_of, IsSound}
+use Rattle.varisat_clause.specs.Stores.{Store, stored_clauses, IsSound}
 use Rattle.varisat_clause.specs.Collected.{live_clauses}
 use Rattle.varisat_clause.proofs.LiveStore.{live-literals}
 use Rattle.varisat_prop.specs.declared.prop.graph.Reason.{Reason}
@@ -26,7 +26,7 @@ others-read [] r e h = absurd (omega (arith, h))
 others-read (l ∷ c) r e h = subst (λ (x : List ℕ). take (length x - 1) (drop 1 x) ≡ c) (sym e) (let n : suc (length c) - 1 ≡ length c = omega arith in ap (λ (k : ℕ). take k c) n ∙ take-length c)
 
 -- the clause that a reason names, as it is read: it is not empty
-pub reason-read : {r : Reason} {s : Store} {p : ℕ} {c : List ℕ} → IsSound s → NamesClause (live_clauses s) r → r ≡ reason.Long p → c ≡ literals_at (clauses_of s) p → (c ≡ literals_at (live_clauses s) p) × (1 ≤ length c)
+pub reason-read : {r : Reason} {s : Store} {p : ℕ} {c : List ℕ} → IsSound s → NamesClause (live_clauses s) r → r ≡ reason.Long p → c ≡ literals_at (stored_clauses s) p → (c ≡ literals_at (live_clauses s) p) × (1 ≤ length c)
 reason-read {s = s} {p = p} ok n e q =
     let h = subst (NamesClause (live_clauses s)) e n in
     let f = q ∙ live-literals s p ok h.0 in

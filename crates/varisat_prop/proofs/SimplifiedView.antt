@@ -8,7 +8,7 @@ use Rattle.varisat_theory.proofs.Values.{opposite_twice}
 use Rattle.varisat_clause.specs.Stored.{StoredClause, literals_of, IsPlace, AreRising}
 use Rattle.varisat_prop.specs.declared.prop.graph.Reason.TheVariants as reason
 use Rattle.varisat_prop.specs.View.{View, pairs_from, kept, clause_at, literal_at, node_at, IsReason, WellFormed, LevelsSettled}
-use Rattle.varisat_prop.specs.Watches.{Watches, list_of, at, IsSettledTo, IsImpliedTo, IsPropagated}
+use Rattle.varisat_prop.specs.Watches.{Watches, watches_of, literal_in, IsSettledTo, IsImpliedTo, IsPropagated}
 use Rattle.varisat_prop.specs.Simplified.{is_unassigned, are_unassigned}
 use Rattle.varisat_prop.proofs.KeptPairs.{pair-in, implied-kept}
 use Rattle.varisat_prop.proofs.LiteralValues.{variable-opposite, none-made}
@@ -83,12 +83,12 @@ module _ (t : View) (w : WellFormed t) (free : (c : Clause) → c ∈ kept t →
   not-false : (c : Clause) → c ∈ kept t → (k : ℕ) → k < length t.trail → (l : Literal) → l ∈ c → literal_at t k ≢ opposite l
   not-false c h k b l i e = none-made t.values l (literal_at t k) (unassigned-none t.values l (free c h l i)) (ap variable_of e ∙ variable-opposite l) (w.is_true k b)
 
-  watched-in : (i j : ℕ) → IsPlace t.clauses i → j < 2 → at (clause_at t i) j ∈ clause_at t i
+  watched-in : (i j : ℕ) → IsPlace t.clauses i → j < 2 → literal_in (clause_at t i) j ∈ clause_at t i
   watched-in i j a l = ∈-get_or (clause_at t i) j 0 (let n = w.several (clause_at t i) (kept-here t i a) in omega (arith, l, n))
 
   -- what stands on the trail is settled
   pub settled-unassigned : IsSettledTo t t.queue_head
-  settled-unassigned i j p a l h g = absurd (not-false (clause_at t i) (kept-here t i a) p (let q = w.head in omega (arith, h, q)) (at (clause_at t i) j) (watched-in i j a l) g)
+  settled-unassigned i j p a l h g = absurd (not-false (clause_at t i) (kept-here t i a) p (let q = w.head in omega (arith, h, q)) (literal_in (clause_at t i) j) (watched-in i j a l) g)
 
   pub implied-unassigned : IsImpliedTo t t.queue_head
   implied-unassigned m p h i = absurd (
@@ -98,7 +98,7 @@ module _ (t : View) (w : WellFormed t) (free : (c : Clause) → c ∈ kept t →
       )
 
   -- The lists of watches are off.
-  pub propagated-unassigned : (W : Watches) → length W.lists ≡ 2 * length t.values → W.enabled ≡ false → ((x : Literal) → list_of W x ≡ []) → length t.binary ≡ 2 * length t.values → t.decisions ≡ [] → IsPropagated W t
+  pub propagated-unassigned : (W : Watches) → length W.lists ≡ 2 * length t.values → W.enabled ≡ false → ((x : Literal) → watches_of W x ≡ []) → length t.binary ≡ 2 * length t.values → t.decisions ≡ [] → IsPropagated W t
   propagated-unassigned W n off e b d = record {
     lists = n;
     watching = λ on. absurd (apart (sym off ∙ on));

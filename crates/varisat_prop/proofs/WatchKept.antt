@@ -13,7 +13,7 @@ use Rattle.varisat_clause.specs.Stored.{StoredClause, IsPlace, literals_at}
 use Rattle.varisat_prop.specs.View.{View, clause_at, literal_at, decision_at, WellFormed}
 use Rattle.varisat_prop.specs.Changes.{enqueued, decided_on}
 use Rattle.varisat_prop.specs.declared.prop.watch.Watch.{Watch}
-use Rattle.varisat_prop.specs.Watches.{Watches, list_of, with_list, at, HasWatch, IsWatching, IsCovered, IsSettledTo, IsImpliedTo, IsPropagated}
+use Rattle.varisat_prop.specs.Watches.{Watches, watches_of, with_watches, literal_in, HasWatch, IsWatching, IsCovered, IsSettledTo, IsImpliedTo, IsPropagated}
 use Rattle.varisat_prop.specs.Visits.{AddsWatches, WatchesClause}
 use Rattle.varisat_clause.proofs.StoredClauses.{place-cases-more, place-more, place-last, stored-more, stored-last}
 use Rattle.varisat_prop.proofs.TrailExtend.{get_or-last}
@@ -111,25 +111,25 @@ module _ (P : List StoredClause) (c : StoredClause) (last : (k : StoredClause) �
   new-at : literals_at more c.place ≡ c.literals
   new-at = ap (λ x. x.literals) (stored-last P c last)
 
-  pub watching-more : (W V : Watches) → IsWatching W P → AddsWatches W V c.place c.literals → ((j : ℕ) → j < 2 → HasWatch (list_of V (opposite (at c.literals j))) c.place) → IsWatching V more
+  pub watching-more : (W V : Watches) → IsWatching W P → AddsWatches W V c.place c.literals → ((j : ℕ) → j < 2 → HasWatch (watches_of V (opposite (literal_in c.literals j))) c.place) → IsWatching V more
   watching-more W V w v h = record {
     known = λ x y m. ⊎_elim
         (λ k. let (a, b) = w.known x y k in (place-more P c y.cref a, subst (λ d. y.blocking ∈ d) (sym (old-at y.cref a)) b))
         (λ (e, b). (subst (IsPlace more) (sym e) (place-last P c), subst (λ d. y.blocking ∈ d) (sym (ap (λ k. literals_at more k) e ∙ new-at)) b))
         (v.new x y m);
     watched = λ i j a b. ⊎_elim
-        (λ k. let (y, m, e) = w.watched i j k b in subst (λ d. HasWatch (list_of V (opposite (at d j))) i) (sym (old-at i k)) (y, v.old (opposite (at (literals_at P i) j)) y m, e))
-        (λ e. subst (λ k. HasWatch (list_of V (opposite (at (literals_at more k) j))) k) (sym e) (subst (λ d. HasWatch (list_of V (opposite (at d j))) c.place) (sym new-at) (h j b)))
+        (λ k. let (y, m, e) = w.watched i j k b in subst (λ d. HasWatch (watches_of V (opposite (literal_in d j))) i) (sym (old-at i k)) (y, v.old (opposite (literal_in (literals_at P i) j)) y m, e))
+        (λ e. subst (λ k. HasWatch (watches_of V (opposite (literal_in (literals_at more k) j))) k) (sym e) (subst (λ d. HasWatch (watches_of V (opposite (literal_in d j))) c.place) (sym new-at) (h j b)))
         (place-cases-more P c i a);
   }
 
   -- it is settled where each of its first two literals that is false below q has a true one beside it, at its level or a lower one
-  pub settled-more : (s : View) (q : ℕ) → s.clauses ≡ P → ((j p : ℕ) → j < 2 → p < q → literal_at s p ≡ opposite (at c.literals j) → IsCovered s c.literals p) → IsSettledTo s q → IsSettledTo (record s { clauses = more }) q
+  pub settled-more : (s : View) (q : ℕ) → s.clauses ≡ P → ((j p : ℕ) → j < 2 → p < q → literal_at s p ≡ opposite (literal_in c.literals j) → IsCovered s c.literals p) → IsSettledTo s q → IsSettledTo (record s { clauses = more }) q
   settled-more s q f n st = λ i j p a b h e. ⊎_elim
       (λ k. let g : literals_at more i ≡ clause_at s i = old-at i k ∙ ap (λ x. literals_at x i) (sym f) in
-      subst (λ d. IsCovered s d p) (sym g) (st i j p (subst (λ x. IsPlace x i) (sym f) k) b h (e ∙ ap (λ d. opposite (at d j)) g)))
+      subst (λ d. IsCovered s d p) (sym g) (st i j p (subst (λ x. IsPlace x i) (sym f) k) b h (e ∙ ap (λ d. opposite (literal_in d j)) g)))
       (λ k. let g : literals_at more i ≡ c.literals = ap (λ x. literals_at more x) k ∙ new-at in
-      subst (λ d. IsCovered s d p) (sym g) (n j p b h (e ∙ ap (λ d. opposite (at d j)) g)))
+      subst (λ d. IsCovered s d p) (sym g) (n j p b h (e ∙ ap (λ d. opposite (literal_in d j)) g)))
       (place-cases-more P c i a)
 
 -- watches of one more clause, whether the lists are on or off
@@ -137,8 +137,8 @@ module _ (W V : Watches) (s : View) (c : StoredClause) (w : IsPropagated W s) (l
   more-watching : V.enabled ≡ true → IsWatching V (s.clauses ++ c ∷ [])
   more-watching e = let o : W.enabled ≡ true = sym v.adds.enabled ∙ e in watching-more s.clauses c last W V (w.watching o) v.adds (v.pair o)
 
-  more-empty : V.enabled ≡ false → (x : Literal) → list_of V x ≡ []
-  more-empty e x = let o : W.enabled ≡ false = sym v.adds.enabled ∙ e in ap (λ X. list_of X x) (v.off o) ∙ w.empty o x
+  more-empty : V.enabled ≡ false → (x : Literal) → watches_of V x ≡ []
+  more-empty e x = let o : W.enabled ≡ false = sym v.adds.enabled ∙ e in ap (λ X. watches_of X x) (v.off o) ∙ w.empty o x
 
   -- A loaded clause, after which no literal counts as propagated.
   pub propagated-loaded : s.decisions ≡ [] → IsPropagated V (record s { clauses = s.clauses ++ c ∷ []; queue_head = 0 })
@@ -153,8 +153,8 @@ module _ (W V : Watches) (s : View) (c : StoredClause) (w : IsPropagated W s) (l
   }
 
   -- A learned clause, whose first literal becomes true with it. Where one of its first two is false, it is so at the present level.
-  pub propagated-learned : (l : Literal) (r : Reason) → WellFormed s → l ≡ at c.literals 0 → 0 < length c.literals
-      → ((j p : ℕ) → j < 2 → p < s.queue_head → literal_at s p ≡ opposite (at c.literals j) → (k : ℕ) → k < length s.decisions → decision_at s k ≤ p)
+  pub propagated-learned : (l : Literal) (r : Reason) → WellFormed s → l ≡ literal_in c.literals 0 → 0 < length c.literals
+      → ((j p : ℕ) → j < 2 → p < s.queue_head → literal_at s p ≡ opposite (literal_in c.literals j) → (k : ℕ) → k < length s.decisions → decision_at s k ≤ p)
       → IsPropagated V (enqueued (record s { clauses = s.clauses ++ c ∷ [] }) l r)
   propagated-learned l r f first long n =
       let t : View = enqueued s l r in
@@ -165,7 +165,7 @@ module _ (W V : Watches) (s : View) (c : StoredClause) (w : IsPropagated W s) (l
         empty = more-empty;
         settled = settled-more s.clauses c last t s.queue_head refl
             (λ j p a b e.
-            let e' : literal_at s p ≡ opposite (at c.literals j) = sym (get_or_append_left s.trail (l ∷ []) 0 p (let o = f.head in omega (arith, b, o))) ∙ e in
+            let e' : literal_at s p ≡ opposite (literal_in c.literals j) = sym (get_or_append_left s.trail (l ∷ []) 0 p (let o = f.head in omega (arith, b, o))) ∙ e in
             (length s.trail, omega (arith, m), subst (λ x. x ∈ c.literals) (sym (get_or-last s.trail l 0 ∙ first)) (∈-get_or c.literals 0 0 long), λ k d g. let o = n j p a b e' k d in absurd (omega (arith, o, g))))
             (settled-longer s t s.queue_head (enqueued-longer s l r) f.head w.settled);
         binary = (let o = length-set s.values (variable_of l) (Some (polarity_of l)) in let k = w.binary in omega (arith, k, o));
@@ -174,7 +174,7 @@ module _ (W V : Watches) (s : View) (c : StoredClause) (w : IsPropagated W s) (l
       }
 
 -- no clauses, and empty lists
-pub watching-none : (W : Watches) → ((x : Literal) → list_of W x ≡ []) → IsWatching W []
+pub watching-none : (W : Watches) → ((x : Literal) → watches_of W x ≡ []) → IsWatching W []
 watching-none W e = record {
   known = λ x w h. absurd (subst (λ ws. w ∈ ws) (e x) h);
   watched = λ i j (k, h, f) b. absurd h;
@@ -183,12 +183,12 @@ watching-none W e = record {
 -- one watch at the end of a list
 module _ (W : Watches) (x : Literal) (w : Watch) (inside : x < length W.lists) where
   abbrev ws : List Watch
-  ws = list_of W x ++ w ∷ []
+  ws = watches_of W x ++ w ∷ []
 
   abbrev pushed : Watches
-  pushed = with_list W x ws
+  pushed = with_watches W x ws
 
-  own : list_of pushed x ≡ ws
+  own : watches_of pushed x ≡ ws
   own = get_or-set_same W.lists x ws [] inside
 
   pub adds-pushed : (d : Clause) → w.blocking ∈ d → AddsWatches W pushed w.cref d
@@ -196,20 +196,20 @@ module _ (W : Watches) (x : Literal) (w : Watch) (inside : x < length W.lists) w
     enabled = refl;
     count = length-set W.lists x ws;
     old = λ y v h. ⊎_elim
-        (λ e. subst (λ z. v ∈ list_of pushed z) (sym e) (subst (λ z. v ∈ z) (sym own) (∈-append_left v (list_of W x) (w ∷ []) (subst (λ z. v ∈ list_of W z) e h))))
+        (λ e. subst (λ z. v ∈ watches_of pushed z) (sym e) (subst (λ z. v ∈ z) (sym own) (∈-append_left v (watches_of W x) (w ∷ []) (subst (λ z. v ∈ watches_of W z) e h))))
         (λ n. subst (λ z. v ∈ z) (sym (get_or-set_other W.lists x y ws [] n)) h)
         (equal_or_not y x);
     new = λ y v h. ⊎_elim
         (λ e. ⊎_elim
-        (λ k. inl (subst (λ z. v ∈ list_of W z) (sym e) k))
+        (λ k. inl (subst (λ z. v ∈ watches_of W z) (sym e) k))
         (λ k. ⊎_elim (λ z. inr (ap (λ q. q.cref) z, subst (λ q. q ∈ d) (sym (ap (λ q. q.blocking) z)) b)) (λ z. absurd z) k)
-        (∈-append_cases v (list_of W x) (w ∷ []) (subst (λ z. v ∈ z) own (subst (λ z. v ∈ list_of pushed z) e h))))
+        (∈-append_cases v (watches_of W x) (w ∷ []) (subst (λ z. v ∈ z) own (subst (λ z. v ∈ watches_of pushed z) e h))))
         (λ n. inl (subst (λ z. v ∈ z) (get_or-set_other W.lists x y ws [] n) h))
         (equal_or_not y x);
   }
 
-  pub has-pushed : HasWatch (list_of pushed x) w.cref
-  has-pushed = (w, subst (λ z. w ∈ z) (sym own) (∈-append_right w (list_of W x) (w ∷ []) (inl refl)), refl)
+  pub has-pushed : HasWatch (watches_of pushed x) w.cref
+  has-pushed = (w, subst (λ z. w ∈ z) (sym own) (∈-append_right w (watches_of W x) (w ∷ []) (inl refl)), refl)
 
 adds-trans : (W V U : Watches) (i : ℕ) (d : Clause) → AddsWatches W V i d → AddsWatches V U i d → AddsWatches W U i d
 adds-trans W V U i d a b = record {
@@ -228,27 +228,27 @@ watch-off W i d e = record { adds = adds-none W i d; pair = λ f. absurd cc; off
 
 -- the two watches of a clause
 pub watch-two : (W V U : Watches) (i : ℕ) (l m x y : Literal) → W.enabled ≡ true → x ≡ opposite l → y ≡ opposite m → x < length W.lists → y < length W.lists
-    → V ≡ with_list W x (list_of W x ++ record { cref = i; blocking = m } ∷ []) → U ≡ with_list V y (list_of V y ++ record { cref = i; blocking = l } ∷ [])
+    → V ≡ with_watches W x (watches_of W x ++ record { cref = i; blocking = m } ∷ []) → U ≡ with_watches V y (watches_of V y ++ record { cref = i; blocking = l } ∷ [])
     → WatchesClause W U i (l ∷ m ∷ [])
 watch-two W V U i l m x y on ex ey a b ev eu =
     let c : Clause = l ∷ m ∷ [] in
     let w : Watch = record { cref = i; blocking = m } in
     let z : Watch = record { cref = i; blocking = l } in
-    let n = length-set W.lists x (list_of W x ++ w ∷ []) in
+    let n = length-set W.lists x (watches_of W x ++ w ∷ []) in
     let o = ap (λ (X : Watches). length X.lists) ev in
     let b' : y < length V.lists = omega (arith, b, n, o) in
     let p : AddsWatches W V i c = subst (λ X. AddsWatches W X i c) (sym ev) (adds-pushed W x w a c (inr (inl refl))) in
     let q : AddsWatches V U i c = subst (λ X. AddsWatches V X i c) (sym eu) (adds-pushed V y z b' c (inl refl)) in
-    let h : HasWatch (list_of V x) i = subst (λ X. HasWatch (list_of X x) i) (sym ev) (has-pushed W x w a) in
-    let k : HasWatch (list_of U y) i = subst (λ X. HasWatch (list_of X y) i) (sym eu) (has-pushed V y z b') in
+    let h : HasWatch (watches_of V x) i = subst (λ X. HasWatch (watches_of X x) i) (sym ev) (has-pushed W x w a) in
+    let k : HasWatch (watches_of U y) i = subst (λ X. HasWatch (watches_of X y) i) (sym eu) (has-pushed V y z b') in
     record {
       adds = adds-trans W V U i c p q;
-      pair = λ e. two (λ j. HasWatch (list_of U (opposite (at c j))) i) (subst (λ v. HasWatch (list_of U v) i) ex (h.0, q.old x h.0 h.1, h.2)) (subst (λ v. HasWatch (list_of U v) i) ey k);
+      pair = λ e. two (λ j. HasWatch (watches_of U (opposite (literal_in c j))) i) (subst (λ v. HasWatch (watches_of U v) i) ex (h.0, q.old x h.0 h.1, h.2)) (subst (λ v. HasWatch (watches_of U v) i) ey k);
       off = λ e. absurd cc;
     }
 
 -- the first two literals are all that a watch reads of a clause
-pub watch-whole : (W V : Watches) (i : ℕ) (l m : Literal) (c : Clause) → 2 ≤ length c → l ≡ at c 0 → m ≡ at c 1 → WatchesClause W V i (l ∷ m ∷ []) → WatchesClause W V i c
+pub watch-whole : (W V : Watches) (i : ℕ) (l m : Literal) (c : Clause) → 2 ≤ length c → l ≡ literal_in c 0 → m ≡ literal_in c 1 → WatchesClause W V i (l ∷ m ∷ []) → WatchesClause W V i c
 watch-whole W V i l m c n el em v = record {
   adds = record {
     enabled = v.adds.enabled;
@@ -256,7 +256,7 @@ watch-whole W V i l m c n el em v = record {
     old = v.adds.old;
     new = λ x w h. ⊎_elim inl (λ (e, b). inr (e, inside w.blocking b)) (v.adds.new x w h);
   };
-  pair = λ e. two (λ j. HasWatch (list_of V (opposite (at c j))) i) (subst (λ x. HasWatch (list_of V (opposite x)) i) el (v.pair e 0 (omega arith))) (subst (λ x. HasWatch (list_of V (opposite x)) i) em (v.pair e 1 (omega arith)));
+  pair = λ e. two (λ j. HasWatch (watches_of V (opposite (literal_in c j))) i) (subst (λ x. HasWatch (watches_of V (opposite x)) i) el (v.pair e 0 (omega arith))) (subst (λ x. HasWatch (watches_of V (opposite x)) i) em (v.pair e 1 (omega arith)));
   off = v.off;
 }
   where

@@ -4,7 +4,7 @@ use Rattle.varisat_theory.specs.Membership.{◌∈◌}
 use Rattle.varisat_theory.specs.Literals.{Literal, opposite}
 use Rattle.varisat_clause.specs.Stored.{StoredClause, IsPlace, literals_at}
 use Rattle.varisat_prop.specs.declared.prop.watch.Watch.{Watch}
-use Rattle.varisat_prop.specs.Watches.{Watches, list_of, at, HasWatch, IsWatching}
+use Rattle.varisat_prop.specs.Watches.{Watches, watches_of, literal_in, HasWatch, IsWatching}
 use Rattle.varisat_prop.specs.Visits.{WatchesClause}
 
 -- an empty list changes no list
@@ -21,16 +21,16 @@ with_more W n = record W { lists = W.lists ++ replicate n [] }
 pub watching-variables : (W : Watches) (n : ℕ) (P : List StoredClause) → IsWatching W P → IsWatching (with_more W n) P
 watching-variables W n P w = record {
   known = λ x y h. w.known x y (subst (λ ws. y ∈ ws) (more-lists W.lists n x) h);
-  watched = λ i j a b. subst (λ ws. HasWatch ws i) (sym (more-lists W.lists n (opposite (at (literals_at P i) j)))) (w.watched i j a b);
+  watched = λ i j a b. subst (λ ws. HasWatch ws i) (sym (more-lists W.lists n (opposite (literal_in (literals_at P i) j)))) (w.watched i j a b);
 }
 
 -- As much of the lists as is made anew: all clauses are watched but those at the places that are left.
 pub record WatchingBut (W : Watches) (P : List StoredClause) (left : List ℕ) : Type 0 where
-  pub known : (x : Literal) (w : Watch) → w ∈ list_of W x → IsPlace P w.cref × (w.blocking ∈ literals_at P w.cref)
-  pub watched : (i j : ℕ) → IsPlace P i → j < 2 → (i ∈ left) ⊎ HasWatch (list_of W (opposite (at (literals_at P i) j))) i
+  pub known : (x : Literal) (w : Watch) → w ∈ watches_of W x → IsPlace P w.cref × (w.blocking ∈ literals_at P w.cref)
+  pub watched : (i j : ℕ) → IsPlace P i → j < 2 → (i ∈ left) ⊎ HasWatch (watches_of W (opposite (literal_in (literals_at P i) j))) i
   pub places : (i : ℕ) → i ∈ left → IsPlace P i
 
-pub but-all : (W : Watches) (P : List StoredClause) → ((x : Literal) → list_of W x ≡ []) → WatchingBut W P (map (λ k. k.place) P)
+pub but-all : (W : Watches) (P : List StoredClause) → ((x : Literal) → watches_of W x ≡ []) → WatchingBut W P (map (λ k. k.place) P)
 but-all W P e = record {
   known = λ x w h. absurd (subst (λ ws. w ∈ ws) (e x) h);
   watched = λ i j (k, a, f) b. inl (subst (λ x. x ∈ map (λ k. k.place) P) f (to-places P k a));
@@ -56,10 +56,10 @@ but-next W V P k left on w v = record {
       (v.adds.new x y h);
   watched = λ i j h l. ⊎_elim
       (λ c. ⊎_elim
-      (λ e. inr (subst (λ m. HasWatch (list_of V (opposite (at (literals_at P m) j))) m) (sym e) (v.pair on j l)))
+      (λ e. inr (subst (λ m. HasWatch (watches_of V (opposite (literal_in (literals_at P m) j))) m) (sym e) (v.pair on j l)))
       inl
       c)
-      (λ (y, m, e). inr (y, v.adds.old (opposite (at (literals_at P i) j)) y m, e))
+      (λ (y, m, e). inr (y, v.adds.old (opposite (literal_in (literals_at P i) j)) y m, e))
       (w.watched i j h l);
   places = λ i h. w.places i (inr h);
 }

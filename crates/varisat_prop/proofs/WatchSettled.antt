@@ -21,7 +21,7 @@ use Rattle.varisat_prop.proofs.ViewGrowth.{grows-longer, literal-stays}
 use Rattle.varisat_prop.proofs.WellFormedChanges.{kept-here}
 use Rattle.varisat_prop.proofs.KeptPairs.{pair-in}
 use Rattle.varisat_prop.proofs.ClauseOrder.{reordered}
-use Rattle.varisat_prop.specs.Watches.{at, HasWatch, IsSatisfied, IsCovered, IsSettledTo, IsImpliedTo, IsRearranged}
+use Rattle.varisat_prop.specs.Watches.{literal_in, HasWatch, IsSatisfied, IsCovered, IsSettledTo, IsImpliedTo, IsRearranged}
 
 pub two : (P : ℕ → Type 0) → P 0 → P 1 → (j : ℕ) → j < 2 → P j
 two P a b zero h = a
@@ -57,7 +57,7 @@ covered-longer s t c p g (k, a, m, d) = (
 pub settled-longer : (s t : View) (q : ℕ) → Lengthens s t → q ≤ length s.trail → IsSettledTo s q → IsSettledTo t q
 settled-longer s t q g n st = λ i j p a b h e.
     let f : clause_at t i ≡ clause_at s i = ap (λ P. literals_at P i) g.clauses in
-    subst (λ c. IsCovered t c p) (sym f) (covered-longer s t (clause_at s i) p (lengthens-goes-on s t g) (st i j p (subst (λ P. IsPlace P i) g.clauses a) b h (sym (g.keeps p (omega (arith, h, n))) ∙ e ∙ ap (λ c. opposite (at c j)) f)))
+    subst (λ c. IsCovered t c p) (sym f) (covered-longer s t (clause_at s i) p (lengthens-goes-on s t g) (st i j p (subst (λ P. IsPlace P i) g.clauses a) b h (sym (g.keeps p (omega (arith, h, n))) ∙ e ∙ ap (λ c. opposite (literal_in c j)) f)))
 
 pub implied-longer : (s t : View) (q : ℕ) → GoesOn s t → q ≤ length s.trail → IsImpliedTo s q → IsImpliedTo t q
 implied-longer s t q g n st = λ m p h i.
@@ -71,7 +71,7 @@ satisfied-longer s t c g (k, a, m) = (k, (let n = g.longer in omega (arith, a, n
 
 -- the literals of one clause change their order: a new one among the first two isn't false by a literal before q
 pub settled-reordered : (s : View) (i q : ℕ) (d : Clause) → IsRearranged (clause_at s i) d
-    → ((j : ℕ) → j < 2 → ((h : ℕ) × (h < 2) × (at d j ≡ at (clause_at s i) h)) ⊎ ((p : ℕ) → p < q → literal_at s p ≢ opposite (at d j)))
+    → ((j : ℕ) → j < 2 → ((h : ℕ) × (h < 2) × (literal_in d j ≡ literal_in (clause_at s i) h)) ⊎ ((p : ℕ) → p < q → literal_at s p ≢ opposite (literal_in d j)))
     → IsSettledTo s q → IsSettledTo (reordered s i d) q
 settled-reordered s i q d r w st = λ k j p a b h e.
     let a' : IsPlace s.clauses k = reordered-place-back s.clauses (with_literals s.clauses i d) k (with-reordered s.clauses i d r.same) a in
@@ -79,20 +79,20 @@ settled-reordered s i q d r w st = λ k j p a b h e.
     (λ f.
     let i' : IsPlace s.clauses i = subst (IsPlace s.clauses) f a' in
     let g : clause_at (reordered s i d) k ≡ d = ap (λ x. clause_at (reordered s i d) x) f ∙ with-same s.clauses i d i' in
-    let e' : literal_at s p ≡ opposite (at d j) = e ∙ ap (λ c. opposite (at c j)) g in
+    let e' : literal_at s p ≡ opposite (literal_in d j) = e ∙ ap (λ c. opposite (literal_in c j)) g in
     ⊎_elim
     (λ (x, y, z). let (m, u, v, o) = st i x p i' y h (e' ∙ ap opposite z) in (m, u, subst (λ c. literal_at s m ∈ c) (sym g) (r.same.1 (literal_at s m) v), o))
     (λ x. absurd (x p h e'))
     (w j b))
     (λ f.
     let g : clause_at (reordered s i d) k ≡ clause_at s k = with-other s.clauses i k d f in
-    let (m, u, v, o) = st k j p a' b h (e ∙ ap (λ c. opposite (at c j)) g) in
+    let (m, u, v, o) = st k j p a' b h (e ∙ ap (λ c. opposite (literal_in c j)) g) in
     (m, u, subst (λ c. literal_at s m ∈ c) (sym g) v, o))
     (equal_or_not k i)
 
 -- Of the clauses with a false literal l among the first two, those without a watch left are true.
 abbrev pub IsSettledBut : View → Literal → List Watch → Type 0
-IsSettledBut s l rest = (i j : ℕ) → IsPlace s.clauses i → j < 2 → l ≡ opposite (at (clause_at s i) j) → HasWatch rest i ⊎ IsSatisfied s (clause_at s i)
+IsSettledBut s l rest = (i j : ℕ) → IsPlace s.clauses i → j < 2 → l ≡ opposite (literal_in (clause_at s i) j) → HasWatch rest i ⊎ IsSatisfied s (clause_at s i)
 
 -- the next literal is settled too, where no decision stands behind it
 pub settled-next : (s : View) (q : ℕ) (l : Literal) → literal_at s q ≡ l → ((j : ℕ) → j < length s.decisions → decision_at s j ≤ q) → IsSettledTo s q → IsSettledBut s l [] → IsSettledTo s (suc q)
@@ -100,7 +100,7 @@ settled-next s q l e d st but = λ i j p a b h f.
     ⊎_elim
     (λ g. st i j p a b g f)
     (λ g. let o : p ≡ q = omega (arith, h, g) in
-    let x : l ≡ opposite (at (clause_at s i) j) = sym e ∙ ap (λ y. literal_at s y) (sym o) ∙ f in
+    let x : l ≡ opposite (literal_in (clause_at s i) j) = sym e ∙ ap (λ y. literal_at s y) (sym o) ∙ f in
     ⊎_elim (λ (w, m, n). absurd m) (λ (k, m, n). (k, m, n, λ y z v. let u = d y z in absurd (omega (arith, v, u, o)))) (but i j a b x))
     (cases_lt p q)
 
@@ -121,33 +121,33 @@ settled-complete s w st = record {
     long i a = w.several (clause_at s i) (kept-here s i a)
 
     -- a false literal among the first two has a true one beside it
-    beside : (i j : ℕ) → IsPlace s.clauses i → j < 2 → opposite (at (clause_at s i) j) ∈ s.trail → (m : Literal) × (m ∈ clause_at s i) × IsTrueIn s m
+    beside : (i j : ℕ) → IsPlace s.clauses i → j < 2 → opposite (literal_in (clause_at s i) j) ∈ s.trail → (m : Literal) × (m ∈ clause_at s i) × IsTrueIn s m
     beside i j a b h =
-        let (p, x, e) = place_in (opposite (at (clause_at s i) j)) s.trail 0 h in
+        let (p, x, e) = place_in (opposite (literal_in (clause_at s i) j)) s.trail 0 h in
         let (k, y, m, o) = st i j p a b x e in
         (literal_at s k, m, w.is_true k y)
 
-    first-in : (i j : ℕ) → IsPlace s.clauses i → j < 2 → at (clause_at s i) j ∈ clause_at s i
+    first-in : (i j : ℕ) → IsPlace s.clauses i → j < 2 → literal_in (clause_at s i) j ∈ clause_at s i
     first-in i j a b = ∈-get_or (clause_at s i) j 0 (let n = long i a in omega (arith, b, n))
 
     clash : (m : Literal) → IsTrueIn s m → opposite m ∈ s.trail → ⊥
     clash m t h = made-clash s.values m t (trail-true s w (opposite m) h)
 
     not-false : (i : ℕ) → IsPlace s.clauses i → IsFalse s.trail (clause_at s i) → ⊥
-    not-false i a f = let (m, h, t) = beside i 0 a (omega arith) (f (at (clause_at s i) 0) (first-in i 0 a (omega arith))) in clash m t (f m h)
+    not-false i a f = let (m, h, t) = beside i 0 a (omega arith) (f (literal_in (clause_at s i) 0) (first-in i 0 a (omega arith))) in clash m t (f m h)
 
-    differ : (i : ℕ) → IsPlace s.clauses i → at (clause_at s i) 0 ≢ at (clause_at s i) 1
+    differ : (i : ℕ) → IsPlace s.clauses i → literal_in (clause_at s i) 0 ≢ literal_in (clause_at s i) 1
     differ i a = distinct-places (clause_at s i) 0 (w.distinct (clause_at s i) (kept-here s i a)) 0 1 (omega arith) (let n = long i a in omega (arith, n))
 
-    from-false : (i j : ℕ) (l : Literal) → IsPlace s.clauses i → j < 2 → LeavesOnly s.trail (clause_at s i) l → opposite (at (clause_at s i) j) ∈ s.trail → l ∈ s.trail
+    from-false : (i j : ℕ) (l : Literal) → IsPlace s.clauses i → j < 2 → LeavesOnly s.trail (clause_at s i) l → opposite (literal_in (clause_at s i) j) ∈ s.trail → l ∈ s.trail
     from-false i j l a b u h = let (m, n, t) = beside i j a b h in ⊎_elim (λ e. subst (λ x. x ∈ s.trail) e (on-trail s w m t)) (λ z. absurd (clash m t z)) (u m n)
 
     closes : (i : ℕ) → IsPlace s.clauses i → (l : Literal) → LeavesOnly s.trail (clause_at s i) l → l ∈ s.trail
     closes i a l u =
         ⊎_elim
-        (λ e. ⊎_elim (λ f. absurd (differ i a (e ∙ sym f))) (from-false i 1 l a (omega arith) u) (u (at (clause_at s i) 1) (first-in i 1 a (omega arith))))
+        (λ e. ⊎_elim (λ f. absurd (differ i a (e ∙ sym f))) (from-false i 1 l a (omega arith) u) (u (literal_in (clause_at s i) 1) (first-in i 1 a (omega arith))))
         (from-false i 0 l a (omega arith) u)
-        (u (at (clause_at s i) 0) (first-in i 0 a (omega arith)))
+        (u (literal_in (clause_at s i) 0) (first-in i 0 a (omega arith)))
 
 -- what the next literal implies is true
 pub implied-next : (s : View) (q : ℕ) (l : Literal) → WellFormed s → literal_at s q ≡ l → ((j : ℕ) → j < length s.decisions → decision_at s j ≤ q) → IsImpliedTo s q → ((m : Literal) → m ∈ implied_by s l → m ∈ s.trail) → IsImpliedTo s (suc q)

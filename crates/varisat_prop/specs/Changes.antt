@@ -40,13 +40,13 @@ NamesPlace ks (conflict.Binary ms) = Unit {0}
 NamesPlace ks (conflict.Long p) = IsPlace ks p
 
 -- a kept clause is named
-abbrev pub IsNamed : View → Conflict → Type 0
-IsNamed s (conflict.Binary ms) = (l m : Literal) × (ms ≡ m ∷ opposite l ∷ []) × (m ∈ implied_by s l)
-IsNamed s (conflict.Long p) = IsPlace s.clauses p
+abbrev pub NamesKeptClause : View → Conflict → Type 0
+NamesKeptClause s (conflict.Binary ms) = (l m : Literal) × (ms ≡ m ∷ opposite l ∷ []) × (m ∈ implied_by s l)
+NamesKeptClause s (conflict.Long p) = IsPlace s.clauses p
 
 -- a kept clause is named, and all its literals are false
 abbrev pub IsConflicting : View → Conflict → Type 0
-IsConflicting s f = IsNamed s f × IsFalse s.trail (named_in s.clauses f)
+IsConflicting s f = NamesKeptClause s f × IsFalse s.trail (named_in s.clauses f)
 
 -- the literal's variable is one of those that there are, and has no value
 abbrev pub IsAssignable : List (Option Bool) → List ImplNode → Literal → Type 0

@@ -10,11 +10,11 @@ use Rattle.varisat_prop.specs.contracts.binary.BinaryClauses.{the_row as binary_
 use Rattle.varisat_prop.specs.contracts.prop.watch.Watch.{the_row as watch_row}
 use Rattle.varisat_prop.specs.contracts.prop.watch.Watchlists.{the_row as watchlists_row}
 use Rattle.varisat_prop.specs.declared.prop.watch.Watch.{Watch}
-use Rattle.varisat_prop.specs.Watches.{Watches, with_list}
+use Rattle.varisat_prop.specs.Watches.{Watches, with_watches}
 
 module _ (A : RattleType) (alloc : Ghosts A.Denot) (s : MutBor Watches) where
   abbrev pub lends_list : Literal → MutBor (Vec Watch A.Denot) → Fml
-  lends_list x r = Lends (watchlists_row A alloc) (vec.the_row watch_row A alloc) s r (λ v. with_list s.now x v.items)
+  lends_list x r = Lends (watchlists_row A alloc) (vec.the_row watch_row A alloc) s r (λ v. with_watches s.now x v.items)
 
 module _ (A : RattleType) (alloc : Ghosts A.Denot) (s : MutBor (List (List Literal))) where
   abbrev pub lends_implied : Literal → MutBor (Vec Literal A.Denot) → Fml

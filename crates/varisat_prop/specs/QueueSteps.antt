@@ -75,8 +75,16 @@ pub record IsReorderedAt (old new : Store) (values : List (Option Bool)) (i : �
   pub found : IsFound values (literals_at (live_clauses old) i) (literals_at (live_clauses new) i) f o
   pub store : KeepsShapes old new
 
+-- The parts of a search with the lists of its watches.
+pub record PartsWithLists : Type 0 where
+  pub parts : SearchParts
+  pub lists : Watches
+
+abbrev pub with_lists : SearchParts → Watches → PartsWithLists
+with_lists p W = record { parts = p; lists = W }
+
 -- The watch that l has of the clause at place i was visited, and came to v.
-pub record IsVisitedAs (p q : SearchParts) (W V : Watches) (l : Literal) (i : ℕ) (v : Visit) : Type 0 where
-  pub visited : IsVisited (view_of_parts p) (view_of_parts q) W V i
-  pub visit : IsVisit (view_of_parts q) l i v
-  pub keeps : KeepsParts p q
+pub record IsVisitedAs (x y : PartsWithLists) (l : Literal) (i : ℕ) (v : Visit) : Type 0 where
+  pub visited : IsVisited (view_of_parts x.parts) (view_of_parts y.parts) x.lists y.lists i
+  pub visit : IsVisit (view_of_parts y.parts) l i v
+  pub keeps : KeepsParts x.parts y.parts

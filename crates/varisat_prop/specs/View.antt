@@ -162,7 +162,7 @@ abbrev pub kinds : View → List Bool
 kinds s = map (λ l. is_implied (node_of s l)) s.trail
 
 -- The search went on without taking anything back, and added no clause.
-pub record Grows (s t : View) : Type 0 where
+pub record GrowsTrail (s t : View) : Type 0 where
   pub clauses : AreReordered s.clauses t.clauses
   pub binary : t.binary ≡ s.binary
   pub count : length t.values ≡ length s.values

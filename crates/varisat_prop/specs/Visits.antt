@@ -6,7 +6,7 @@ use Rattle.varisat_theory.specs.Propagation.{IsFalse}
 use Rattle.varisat_prop.specs.Parts.{IsMadeTrue}
 use Rattle.varisat_prop.specs.View.{View, clause_at}
 use Rattle.varisat_prop.specs.Looks.{Propagates, IsFalseAt}
-use Rattle.varisat_prop.specs.Watches.{Watches, list_of, at, HasWatch, IsSatisfied, IsSettledTo, IsRearranged}
+use Rattle.varisat_prop.specs.Watches.{Watches, watches_of, literal_in, HasWatch, IsSatisfied, IsSettledTo, IsRearranged}
 use Rattle.varisat_prop.specs.declared.prop.watch.Watch.{Watch}
 use Rattle.varisat_prop.specs.declared.prop.long.Found.{Found}
 use Rattle.varisat_prop.specs.declared.prop.long.Found.TheVariants as found
@@ -15,27 +15,27 @@ use Rattle.varisat_prop.specs.declared.prop.long.Visit.TheVariants as visit
 
 -- the first two literals are l and f, in one of the orders
 abbrev pub IsPair : Clause → Literal → Literal → Type 0
-IsPair c l f = ((at c 0 ≡ l) × (at c 1 ≡ f)) ⊎ ((at c 1 ≡ l) × (at c 0 ≡ f))
+IsPair c l f = ((literal_in c 0 ≡ l) × (literal_in c 1 ≡ f)) ⊎ ((literal_in c 1 ≡ l) × (literal_in c 0 ≡ f))
 
 -- what the clause c, reordered as d, comes to where its watched literal f is false
 abbrev pub IsFound : List (Option Bool) → Clause → Clause → Literal → Found → Type 0
-IsFound values c d f found.Stale = (d ≡ c) × (at c 0 ≢ f) × (at c 1 ≢ f)
-IsFound values c d f (found.True l) = IsRearranged c d × IsPair c l f × (at d 0 ≡ l) × (at d 1 ≡ f) × IsMadeTrue values l × (at c 0 ≡ l → d ≡ c)
-IsFound values c d f (found.Other l m) = IsRearranged c d × IsPair c l f × (at d 0 ≡ l) × (at d 1 ≡ m) × (IsMadeTrue values l → ⊥) × (IsMadeTrue values (opposite m) → ⊥)
-IsFound values c d f (found.False l) = IsRearranged c d × IsPair c l f × (at d 0 ≡ l) × (at d 1 ≡ f) × (IsMadeTrue values l → ⊥) × ((k : ℕ) → k < length d → IsFalseAt values d k)
-IsFound values c d f (found.Implied l) = IsRearranged c d × IsPair c l f × (at d 0 ≡ l) × (at d 1 ≡ f) × (IsMadeTrue values l → ⊥) × (IsMadeTrue values (opposite l) → ⊥) × ((k : ℕ) → 1 ≤ k → k < length d → IsFalseAt values d k)
+IsFound values c d f found.Stale = (d ≡ c) × (literal_in c 0 ≢ f) × (literal_in c 1 ≢ f)
+IsFound values c d f (found.True l) = IsRearranged c d × IsPair c l f × (literal_in d 0 ≡ l) × (literal_in d 1 ≡ f) × IsMadeTrue values l × (literal_in c 0 ≡ l → d ≡ c)
+IsFound values c d f (found.Other l m) = IsRearranged c d × IsPair c l f × (literal_in d 0 ≡ l) × (literal_in d 1 ≡ m) × (IsMadeTrue values l → ⊥) × (IsMadeTrue values (opposite m) → ⊥)
+IsFound values c d f (found.False l) = IsRearranged c d × IsPair c l f × (literal_in d 0 ≡ l) × (literal_in d 1 ≡ f) × (IsMadeTrue values l → ⊥) × ((k : ℕ) → k < length d → IsFalseAt values d k)
+IsFound values c d f (found.Implied l) = IsRearranged c d × IsPair c l f × (literal_in d 0 ≡ l) × (literal_in d 1 ≡ f) × (IsMadeTrue values l → ⊥) × (IsMadeTrue values (opposite l) → ⊥) × ((k : ℕ) → 1 ≤ k → k < length d → IsFalseAt values d k)
 
 -- Watches of the clause d at place i may have been added.
 pub record AddsWatches (W V : Watches) (i : ℕ) (d : Clause) : Type 0 where
   pub enabled : V.enabled ≡ W.enabled
   pub count : length V.lists ≡ length W.lists
-  pub old : (x : Literal) (w : Watch) → w ∈ list_of W x → w ∈ list_of V x
-  pub new : (x : Literal) (w : Watch) → w ∈ list_of V x → (w ∈ list_of W x) ⊎ ((w.cref ≡ i) × (w.blocking ∈ d))
+  pub old : (x : Literal) (w : Watch) → w ∈ watches_of W x → w ∈ watches_of V x
+  pub new : (x : Literal) (w : Watch) → w ∈ watches_of V x → (w ∈ watches_of W x) ⊎ ((w.cref ≡ i) × (w.blocking ∈ d))
 
 -- The clause d at place i is watched by its first two literals from now on, where the lists are kept up to date.
 pub record WatchesClause (W V : Watches) (i : ℕ) (d : Clause) : Type 0 where
   pub adds : AddsWatches W V i d
-  pub pair : W.enabled ≡ true → (j : ℕ) → j < 2 → HasWatch (list_of V (opposite (at d j))) i
+  pub pair : W.enabled ≡ true → (j : ℕ) → j < 2 → HasWatch (watches_of V (opposite (literal_in d j))) i
   pub off : W.enabled ≡ false → V ≡ W
 
 -- A visit of the clause at place i.
@@ -45,10 +45,10 @@ pub record IsVisited (s t : View) (W V : Watches) (i : ℕ) : Type 0 where
   pub settled : (q : ℕ) → q ≤ length s.trail → IsSettledTo s q → IsSettledTo t q
   pub adds : AddsWatches W V i (clause_at t i)
   -- the first two literals were so before, or have a new watch
-  pub pair : (j : ℕ) → j < 2 → ((h : ℕ) × (h < 2) × (at (clause_at t i) j ≡ at (clause_at s i) h)) ⊎ HasWatch (list_of V (opposite (at (clause_at t i) j))) i
+  pub pair : (j : ℕ) → j < 2 → ((h : ℕ) × (h < 2) × (literal_in (clause_at t i) j ≡ literal_in (clause_at s i) h)) ⊎ HasWatch (watches_of V (opposite (literal_in (clause_at t i) j))) i
 
 -- Whether the watch stays, and what of it: the clause is true, or false; or it isn't watched here any more.
 abbrev pub IsVisit : View → Literal → ℕ → Visit → Type 0
 IsVisit t l i (visit.Keep b) = (b ∈ clause_at t i) × IsSatisfied t (clause_at t i)
 IsVisit t l i (visit.Conflicting b) = (b ∈ clause_at t i) × IsFalse t.trail (clause_at t i)
-IsVisit t l i visit.Dropped = (j : ℕ) → j < 2 → at (clause_at t i) j ≢ opposite l
+IsVisit t l i visit.Dropped = (j : ℕ) → j < 2 → literal_in (clause_at t i) j ≢ opposite l

@@ -15,16 +15,16 @@ abbrev pub no_watches : Watches
 no_watches = record { lists = []; enabled = true }
 
 -- the watches of a literal
-abbrev pub list_of : Watches → Literal → List Watch
-list_of W x = slice_index_or W.lists x []
+abbrev pub watches_of : Watches → Literal → List Watch
+watches_of W x = slice_index_or W.lists x []
 
 -- the literal has these watches
-abbrev pub with_list : Watches → Literal → List Watch → Watches
-with_list W x ws = record W { lists = slice_set W.lists x ws }
+abbrev pub with_watches : Watches → Literal → List Watch → Watches
+with_watches W x ws = record W { lists = slice_set W.lists x ws }
 
 -- the literal at a place of a clause: those at places 0 and 1 are watched
-abbrev pub at : Clause → ℕ → Literal
-at c j = slice_index_or c j 0
+abbrev pub literal_in : Clause → ℕ → Literal
+literal_in c j = slice_index_or c j 0
 
 -- a watch of the clause at place i is among them
 abbrev pub HasWatch : List Watch → ℕ → Type 0
@@ -32,8 +32,8 @@ HasWatch ws i = (w : Watch) × (w ∈ ws) × (w.cref ≡ i)
 
 -- The lists watch the clauses: each watch names a clause and a literal of it, and each clause has a watch in the lists of the opposites of its first two literals.
 pub record IsWatching (W : Watches) (ks : List StoredClause) : Type 0 where
-  pub known : (x : Literal) (w : Watch) → w ∈ list_of W x → IsPlace ks w.cref × (w.blocking ∈ literals_at ks w.cref)
-  pub watched : (i j : ℕ) → IsPlace ks i → j < 2 → HasWatch (list_of W (opposite (at (literals_at ks i) j))) i
+  pub known : (x : Literal) (w : Watch) → w ∈ watches_of W x → IsPlace ks w.cref × (w.blocking ∈ literals_at ks w.cref)
+  pub watched : (i j : ℕ) → IsPlace ks i → j < 2 → HasWatch (watches_of W (opposite (literal_in (literals_at ks i) j))) i
 
 -- a literal of the clause is true
 abbrev pub IsSatisfied : View → Clause → Type 0
@@ -45,7 +45,7 @@ IsCovered s c p = (k : ℕ) × (k < length s.trail) × (literal_at s k ∈ c) ×
 
 -- Where one of a clause's first two literals is false by a literal before place q, the clause is true no later than at that literal's level.
 abbrev pub IsSettledTo : View → ℕ → Type 0
-IsSettledTo s q = (i j p : ℕ) → IsPlace s.clauses i → j < 2 → p < q → literal_at s p ≡ opposite (at (clause_at s i) j) → IsCovered s (clause_at s i) p
+IsSettledTo s q = (i j p : ℕ) → IsPlace s.clauses i → j < 2 → p < q → literal_at s p ≡ opposite (literal_in (clause_at s i) j) → IsCovered s (clause_at s i) p
 
 -- What a literal before place q implies by a clause of two literals is true no later than at its level.
 abbrev pub IsImpliedTo : View → ℕ → Type 0
@@ -66,7 +66,7 @@ pub record IsWatched (W : Watches) (s : View) (q : ℕ) : Type 0 where
 pub record IsPropagated (W : Watches) (s : View) : Type 0 where
   pub lists : length W.lists ≡ 2 * length s.values
   pub watching : W.enabled ≡ true → IsWatching W s.clauses
-  pub empty : W.enabled ≡ false → (x : Literal) → list_of W x ≡ []
+  pub empty : W.enabled ≡ false → (x : Literal) → watches_of W x ≡ []
   pub settled : IsSettledTo s s.queue_head
   pub binary : length s.binary ≡ 2 * length s.values
   pub implied : IsImpliedTo s s.queue_head

@@ -6,7 +6,7 @@ use Rattle.varisat_theory.proofs.Places.{∈-get_or, place_in}
 use Rattle.varisat_theory.proofs.Values.{not_both}
 use Rattle.varisat_prop.specs.declared.prop.graph.Reason.{Reason}
 use Rattle.varisat_prop.specs.declared.prop.graph.Reason.TheVariants as reason
-use Rattle.varisat_prop.specs.View.{View, literal_at, decision_at, node_at, is_clause, IsReason, WellFormed, ViewFits, Grows}
+use Rattle.varisat_prop.specs.View.{View, literal_at, decision_at, node_at, is_clause, IsReason, WellFormed, ViewFits, GrowsTrail}
 use Rattle.varisat_prop.proofs.TrailValues.{on-trail}
 use Rattle.varisat_search.specs.AssumptionParts.{AssumptionParts, HasAssumptions, TakesOutTrue, TakesOutImplied}
 use Rattle.varisat_analysis.proofs.WellFormedViews.{reason-kept, reason-before}
@@ -74,7 +74,7 @@ pub takes-same : (s : View) (x y : AssumptionParts) → y.user ≡ x.user → y.
 takes-same s x y u c e = record { user = u; user_core = c; part = λ l i. subst (λ ws. l ∈ ws) e i; implied = λ held f a sat made. subst (MakesTrue a) e made }
 
 -- what was taken out as the search went on
-pub takes-trans : (s t : View) (x y z : AssumptionParts) → Grows s t → TakesOutImplied s x y → TakesOutImplied t y z → TakesOutImplied s x z
+pub takes-trans : (s t : View) (x y z : AssumptionParts) → GrowsTrail s t → TakesOutImplied s x y → TakesOutImplied t y z → TakesOutImplied s x z
 takes-trans s t x y z g p q = record {
   user = q.user ∙ p.user;
   user_core = q.user_core ∙ p.user_core;
@@ -83,5 +83,5 @@ takes-trans s t x y z g p q = record {
 }
 
 -- and as it grew before any was taken out
-pub takes-after : (s t : View) (x y : AssumptionParts) → Grows s t → TakesOutImplied t x y → TakesOutImplied s x y
+pub takes-after : (s t : View) (x y : AssumptionParts) → GrowsTrail s t → TakesOutImplied t x y → TakesOutImplied s x y
 takes-after s t x y g p = takes-trans s t x x y g (takes-refl s x) p

@@ -4,7 +4,7 @@ use Rattle.std.proofs.lemmas.List.{get_or_append_left}
 use Rattle.std.proofs.lemmas.Bool.{cases_lt}
 use Rattle.varisat_theory.specs.Membership.{◌∈◌}
 use Rattle.varisat_theory.specs.Literals.{Literal, variable_of}
-use Rattle.varisat_prop.specs.View.{View, literal_at, decision_at, WellFormed, Grows}
+use Rattle.varisat_prop.specs.View.{View, literal_at, decision_at, WellFormed, GrowsTrail}
 use Rattle.varisat_prop.specs.Changes.{decided_on}
 use Rattle.varisat_prop.proofs.TrailExtend.{get_or-last}
 use Rattle.varisat_prop.proofs.ViewGrowth.{append-nil}
@@ -37,7 +37,7 @@ pub has-same-decisions : (s t : View) (x : AssumptionParts) (more : List ℕ) �
 has-same-decisions s t x more w e f n h = has-longer s t x more [] w e (f ∙ sym (append-nil s.decisions)) n (inl refl) h
 
 -- the search went on without a decision, or each assumption has its level
-pub has-grown : (s t : View) (x : AssumptionParts) → WellFormed s → Grows s t → (t.decisions ≡ s.decisions) ⊎ (x.levels ≡ length x.working) → HasAssumptions s x → HasAssumptions t x
+pub has-grown : (s t : View) (x : AssumptionParts) → WellFormed s → GrowsTrail s t → (t.decisions ≡ s.decisions) ⊎ (x.levels ≡ length x.working) → HasAssumptions s x → HasAssumptions t x
 has-grown s t x w g c h =
     let n = g.count in
     has-longer s t x g.trail_more.0 g.decisions_more.0 w g.trail_more.1 g.decisions_more.1 (omega (arith, n)) (⊎_elim (λ e. inl (none g.decisions_more.0 (let l = ap (λ (xs : List ℕ). length xs) (sym e ∙ g.decisions_more.1) in let m = length-append s.decisions g.decisions_more.0 in omega (arith, l, m)))) inr c) h

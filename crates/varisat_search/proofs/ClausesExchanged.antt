@@ -13,7 +13,7 @@ use Rattle.varisat_prop.specs.declared.prop.graph.Reason.{Reason}
 use Rattle.varisat_prop.specs.declared.prop.graph.Reason.TheVariants as reason
 use Rattle.varisat_prop.specs.declared.prop.graph.ImplNode.{ImplNode}
 use Rattle.varisat_prop.specs.View.{View, pairs_from, kept, clause_at, literal_at, decision_at, node_of, node_at, Implies, IsReason, WellFormed, LevelsSettled, is_clause, is_implied, kinds}
-use Rattle.varisat_prop.specs.Watches.{Watches, list_of, at, IsCovered, IsSettledTo, IsPropagated}
+use Rattle.varisat_prop.specs.Watches.{Watches, watches_of, literal_in, IsCovered, IsSettledTo, IsPropagated}
 use Rattle.varisat_vsids.specs.Activities.{Activities}
 use Rattle.varisat_search.specs.Decisions.{CanDecide, SameDecidable}
 use Rattle.varisat_analysis.specs.HeaderChanges.{kept_clause}
@@ -116,10 +116,10 @@ module _ (s : View) (ks : List StoredClause) (ns : List ImplNode) (w : WellForme
   settled-stays : (q : ℕ) → IsSettledTo s q → IsSettledTo t q
   settled-stays q f i j p a b c e =
       let (o, x, y) = place-of-literals s.clauses w.places (literals_at ks i) (m.fewer (literals_at ks i) (kept-at ks i a)) in
-      subst (λ d. IsCovered s d p) y (f o j p x b c (subst (λ d. literal_at s p ≡ opposite (at d j)) (sym y) e))
+      subst (λ d. IsCovered s d p) y (f o j p x b c (subst (λ d. literal_at s p ≡ opposite (literal_in d j)) (sym y) e))
 
   -- where the lists are switched off, propagation fills them from the other clauses
-  pub exchanged-off : (W V : Watches) → IsPropagated W s → length V.lists ≡ length W.lists → ((x : Literal) → list_of V x ≡ []) → V.enabled ≡ false → IsPropagated V t
+  pub exchanged-off : (W V : Watches) → IsPropagated W s → length V.lists ≡ length W.lists → ((x : Literal) → watches_of V x ≡ []) → V.enabled ≡ false → IsPropagated V t
   exchanged-off W V p n e o = record {
     lists = n ∙ p.lists;
     watching = λ on. absurd (let z : true ≡ false = sym on ∙ o in cc);

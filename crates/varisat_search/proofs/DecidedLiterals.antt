@@ -3,7 +3,7 @@ use Rattle.std.proofs.Common.{◌≡◌, ◌<◌, Bool, true, false, MatchBool, 
 use Rattle.varisat_theory.specs.Membership.{◌∈◌}
 use Rattle.varisat_theory.specs.Literals.{Literal}
 use Rattle.varisat_theory.specs.Propagation.{IsComplete}
-use Rattle.varisat_prop.specs.View.{View, kept, WellFormed, Grows}
+use Rattle.varisat_prop.specs.View.{View, kept, WellFormed, GrowsTrail}
 use Rattle.varisat_prop.specs.Changes.{decided_on}
 use Rattle.varisat_prop.proofs.EnqueueAssignment.{decided-grows, decided-well}
 use Rattle.varisat_search.specs.declared.context.Context.{Context}
@@ -18,8 +18,8 @@ use Rattle.varisat_search.proofs.StepOutcome.{decided-longer}
 
 -- the view grows by the literal
 module _ (s t : View) (w : WellFormed s) (l : Literal) (free : IsFree s l) (e : t ≡ decided_on s l) where
-  pub literal-grows : Grows s t
-  literal-grows = subst (Grows s) (sym e) (decided-grows s l w free.0 free.1)
+  pub literal-grows : GrowsTrail s t
+  literal-grows = subst (GrowsTrail s) (sym e) (decided-grows s l w free.0 free.1)
 
   pub literal-longer : length s.trail < length t.trail
   literal-longer = (decided-longer s t l (subst WellFormed (sym e) (decided-well s l w free.0 free.1)) e).0

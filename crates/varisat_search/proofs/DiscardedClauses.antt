@@ -13,10 +13,10 @@ use Rattle.varisat_clause.specs.declared.header.Tier.{Tier}
 use Rattle.varisat_clause.specs.declared.header.Tier.TheVariants as tier
 use Rattle.varisat_clause.specs.Tiers.{is_tier}
 use Rattle.varisat_clause.specs.Stored.{StoredClause, literals_of, literals_at, stored_at, header_at, IsPlace, AreRising}
-use Rattle.varisat_clause.specs.Stores.{Store, clauses_of, IsSound, Holds}
+use Rattle.varisat_clause.specs.Stores.{Store, stored_clauses, IsSound, HoldsClauses}
 use Rattle.varisat_clause.specs.Databases.{is_live_in}
 use Rattle.varisat_clause.specs.Collected.{live_of, live_clauses}
-use Rattle.varisat_clause.specs.Reductions.{unmarked, all_deleted, ReducesLocals}
+use Rattle.varisat_clause.specs.Reductions.{unmarked_places, all_deleted, ReducesLocals}
 use Rattle.varisat_clause.proofs.StoreSound.{are-rising}
 use Rattle.varisat_clause.proofs.StoredClauses.{same-self, is-same, stored-∈, stored-found, literals-∈, from-literals}
 use Rattle.varisat_clause.proofs.DatabaseTracks.{place-is, same-tier, true-or-false}
@@ -24,7 +24,7 @@ use Rattle.varisat_clause.proofs.LiveStore.{live-∈}
 use Rattle.varisat_prop.specs.declared.prop.graph.Reason.{Reason}
 use Rattle.varisat_prop.specs.declared.prop.graph.Reason.TheVariants as reason
 use Rattle.varisat_prop.specs.View.{View, pairs_from, clause_at, node_at, node_of, IsReason, WellFormed}
-use Rattle.varisat_prop.specs.Watches.{at}
+use Rattle.varisat_prop.specs.Watches.{literal_in}
 use Rattle.varisat_analysis.specs.HeaderChanges.{kept_clause}
 use Rattle.varisat_search.specs.Seen.{kept_pair, search_of}
 use Rattle.varisat_analysis.specs.HeaderChanges.{SameButHeaders}
@@ -95,27 +95,27 @@ discards-prove s t d =
     (lines, subst (λ x. Proves 0 (search_of s) x lines) (sym e) p)
 
 -- What a reduction takes out is learned, and no reason.
-module _ (s : View) (old marked new : Store) (w : WellFormed s) (ok : IsSound old) (are : s.clauses ≡ live_clauses old) (m : Holds marked (length old.words) (reasons_marked s.values s.nodes (clauses_of old))) (r : ReducesLocals marked new) where
+module _ (s : View) (old marked new : Store) (w : WellFormed s) (ok : IsSound old) (are : s.clauses ≡ live_clauses old) (m : HoldsClauses marked (length old.words) (reasons_marked s.values s.nodes (stored_clauses old))) (r : ReducesLocals marked new) where
   abbrev f : StoredClause → StoredClause
   f = reason_marked s.values s.nodes
 
   abbrev ks : List StoredClause
-  ks = clauses_of old
+  ks = stored_clauses old
 
   abbrev out : List ℕ
-  out = unmarked (clauses_of marked) (length r.order / 2) r.order
+  out = unmarked_places (stored_clauses marked) (length r.order / 2) r.order
 
   abbrev gone : ℕ → Bool
-  gone p = (header_at (clauses_of new) p).deleted
+  gone p = (header_at (stored_clauses new) p).deleted
 
-  out-places : (p : ℕ) → p ∈ out → IsPlace (clauses_of marked) p
-  out-places p h = r.listed.known p (unmarked-∈ (clauses_of marked) (length r.order / 2) r.order p h).0
+  out-places : (p : ℕ) → p ∈ out → IsPlace (stored_clauses marked) p
+  out-places p h = r.listed.known p (unmarked-∈ (stored_clauses marked) (length r.order / 2) r.order p h).0
 
   -- a clause as it is marked
-  marked-∈ : (k : StoredClause) → k ∈ ks → stored_at (clauses_of marked) k.place ≡ f k
+  marked-∈ : (k : StoredClause) → k ∈ ks → stored_at (stored_clauses marked) k.place ≡ f k
   marked-∈ k h =
-      ap (stored_at (clauses_of marked)) (sym (mark-place s.values s.nodes k))
-      ∙ stored-found (clauses_of marked) (are-rising marked m.sound) (f k) (subst (λ xs. f k ∈ xs) (sym m.clauses) (map-∈ ks h))
+      ap (stored_at (stored_clauses marked)) (sym (mark-place s.values s.nodes k))
+      ∙ stored-found (stored_clauses marked) (are-rising marked m.sound) (f k) (subst (λ xs. f k ∈ xs) (sym m.clauses) (map-∈ ks h))
     where
       map-∈ : (xs : List StoredClause) → k ∈ xs → f k ∈ map f xs
       map-∈ [] i = absurd i
@@ -125,17 +125,17 @@ module _ (s : View) (old marked new : Store) (w : WellFormed s) (ok : IsSound ol
   same-deleted : (k : StoredClause) → (f k).header.deleted ≡ k.header.deleted
   same-deleted k = ap (λ x. x.deleted) (mark-held s.values s.nodes k)
 
-  headers : SameButHeaders ks (clauses_of new)
+  headers : SameButHeaders ks (stored_clauses new)
   headers =
       subst (SameButHeaders ks) (sym r.deleted.clauses)
-      (headers-trans ks (clauses_of marked) (all_deleted out (clauses_of marked))
+      (headers-trans ks (stored_clauses marked) (all_deleted out (stored_clauses marked))
       (subst (SameButHeaders ks) (sym m.clauses) (map-same _ f ks (λ k. ap (λ x. x.placed) (mark-held s.values s.nodes k))))
-      (all-placed out (clauses_of marked)))
+      (all-placed out (stored_clauses marked)))
 
   stays-deleted : (k : StoredClause) → k ∈ ks → k.header.deleted ≡ true → gone k.place ≡ true
   stays-deleted k h e =
       subst (λ xs. (header_at xs k.place).deleted ≡ true) (sym r.deleted.clauses)
-      (deleted-stays out (clauses_of marked) k.place out-places (ap (λ (x : StoredClause). x.header.deleted) (marked-∈ k h) ∙ same-deleted k ∙ e))
+      (deleted-stays out (stored_clauses marked) k.place out-places (ap (λ (x : StoredClause). x.header.deleted) (marked-∈ k h) ∙ same-deleted k ∙ e))
 
   -- a clause that is gone is one of those that the reduction takes
   gone-out : (k : StoredClause) → k ∈ s.clauses → gone k.place ≡ true → (k ∈ ks) × (k.header.deleted ≡ false) × (k.place ∈ out)
@@ -146,7 +146,7 @@ module _ (s : View) (old marked new : Store) (w : WellFormed s) (ok : IsSound ol
         ⊎_elim
             (λ g. absurd (let z : true ≡ false = sym g ∙ ap (λ (x : StoredClause). x.header.deleted) (marked-∈ k i) ∙ same-deleted k ∙ live in cc))
             (λ o. o)
-            (deleted-from out (clauses_of marked) k.place out-places (subst (λ xs. (header_at xs k.place).deleted ≡ true) r.deleted.clauses e)),
+            (deleted-from out (stored_clauses marked) k.place out-places (subst (λ xs. (header_at xs k.place).deleted ≡ true) r.deleted.clauses e)),
       )
 
   second : (a b : Bool) → (a && b) ≡ true → b ≡ true
@@ -156,21 +156,21 @@ module _ (s : View) (old marked new : Store) (w : WellFormed s) (ok : IsSound ol
   gone-local : (k : StoredClause) → k ∈ s.clauses → gone k.place ≡ true → k.header.tier ≡ tier.Local
   gone-local k h e =
       let (i, live, o) = gone-out k h e in
-      let a = r.listed.live k.place (unmarked-∈ (clauses_of marked) (length r.order / 2) r.order k.place o).0 in
+      let a = r.listed.live k.place (unmarked-∈ (stored_clauses marked) (length r.order / 2) r.order k.place o).0 in
       let b = subst (λ (x : StoredClause). is_live_in tier.Local x ≡ true) (marked-∈ k i ∙ mark-live s.values s.nodes k live) a in
       sym (same-tier tier.Local k.header.tier (second (not k.header.deleted) (is_tier tier.Local k.header.tier) b))
 
   gone-unmarked : (k : StoredClause) → k ∈ s.clauses → gone k.place ≡ true → is_reason s.values s.nodes k ≡ false
   gone-unmarked k h e =
       let (i, live, o) = gone-out k h e in
-      sym (ap (λ (x : StoredClause). x.header.mark) (marked-∈ k i ∙ mark-live s.values s.nodes k live)) ∙ (unmarked-∈ (clauses_of marked) (length r.order / 2) r.order k.place o).1
+      sym (ap (λ (x : StoredClause). x.header.mark) (marked-∈ k i ∙ mark-live s.values s.nodes k live)) ∙ (unmarked-∈ (stored_clauses marked) (length r.order / 2) r.order k.place o).1
 
   is-used : (k : StoredClause) → k ∈ s.clauses → (i : ℕ) → i < length s.trail → (node_at s i).reason ≡ reason.Long k.place → is_reason s.values s.nodes k ≡ true
   is-used k h i l e =
       let q = reason-first s w k i h l e in
-      let v : is_some (get_or s.values (variable_of (at k.literals 0)) None) ≡ true = ap (λ (x : Literal). is_some (get_or s.values (variable_of x) None)) q ∙ ap (λ o. is_some o) (w.is_true i l) in
-      let n : is_clause_at (node_of s (at k.literals 0)).reason k.place ≡ true = ap (λ (x : Literal). is_clause_at (node_of s x).reason k.place) q ∙ ap (λ x. is_clause_at x k.place) e ∙ is-same k.place k.place refl in
-      ap (λ b. b && is_clause_at (node_of s (at k.literals 0)).reason k.place) v ∙ n
+      let v : is_some (get_or s.values (variable_of (literal_in k.literals 0)) None) ≡ true = ap (λ (x : Literal). is_some (get_or s.values (variable_of x) None)) q ∙ ap (λ o. is_some o) (w.is_true i l) in
+      let n : is_clause_at (node_of s (literal_in k.literals 0)).reason k.place ≡ true = ap (λ (x : Literal). is_clause_at (node_of s x).reason k.place) q ∙ ap (λ x. is_clause_at x k.place) e ∙ is-same k.place k.place refl in
+      ap (λ b. b && is_clause_at (node_of s (literal_in k.literals 0)).reason k.place) v ∙ n
 
   pub reduces-discards : (t : View) → t.clauses ≡ live_clauses new → t ≡ record s { clauses = t.clauses } → Discards s t
   reduces-discards t e rest = record {
@@ -178,7 +178,7 @@ module _ (s : View) (old marked new : Store) (w : WellFormed s) (ok : IsSound ol
     clauses =
         subst (λ xs. SameButHeaders (filter (λ k. not (gone k.place)) xs) t.clauses) (sym are)
         (subst (SameButHeaders (filter (λ k. not (gone k.place)) (live_of ks))) (sym e)
-        (live-filter gone ks (clauses_of new) headers (λ j i. sym (ap (λ (x : StoredClause). x.header.deleted) (stored-found (clauses_of new) (are-rising new r.deleted.sound) j i))) stays-deleted));
+        (live-filter gone ks (stored_clauses new) headers (λ j i. sym (ap (λ (x : StoredClause). x.header.deleted) (stored-found (stored_clauses new) (are-rising new r.deleted.sound) j i))) stays-deleted));
     learned = gone-local;
     unused = λ k h g i l q. let z : true ≡ false = sym (is-used k h i l q) ∙ gone-unmarked k h g in absurd cc;
     rest = rest;

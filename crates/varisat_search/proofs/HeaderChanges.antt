@@ -7,7 +7,7 @@ use Rattle.varisat_clause.specs.Stored.{StoredClause, literals_of}
 use Rattle.varisat_prop.specs.declared.prop.graph.Reason.{Reason}
 use Rattle.varisat_prop.specs.declared.prop.graph.Reason.TheVariants as reason
 use Rattle.varisat_prop.specs.View.{View, pairs_from, kept, literal_at, node_at, IsReason, WellFormed, LevelsSettled, IsFixed, ViewFits, kinds}
-use Rattle.varisat_prop.specs.Watches.{Watches, at, IsCovered, IsPropagated}
+use Rattle.varisat_prop.specs.Watches.{Watches, literal_in, IsCovered, IsPropagated}
 use Rattle.varisat_vsids.specs.Activities.{Activities}
 use Rattle.varisat_analysis.specs.HeaderChanges.{SameButHeaders, ChangesHeaders}
 use Rattle.varisat_analysis.proofs.SameButHeaders.{headers-place, headers-literals, headers-kept, headers-at, headers-rising, headers-watching}
@@ -53,7 +53,7 @@ module _ (s t : View) (w : WellFormed s) (d : ChangesHeaders s t) where
     empty = p.empty;
     settled = λ i j q a b c e.
         let f = headers-at s.clauses js d.clauses i in
-        subst (λ x. IsCovered s x q) (sym f) (p.settled i j q (headers-place js s.clauses i (sym d.clauses) a) b c (subst (λ x. literal_at s q ≡ opposite (at x j)) f e));
+        subst (λ x. IsCovered s x q) (sym f) (p.settled i j q (headers-place js s.clauses i (sym d.clauses) a) b c (subst (λ x. literal_at s q ≡ opposite (literal_in x j)) f e));
     binary = p.binary;
     implied = p.implied;
     queue = p.queue;

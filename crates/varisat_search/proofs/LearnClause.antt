@@ -19,7 +19,7 @@ use Rattle.varisat_clause.specs.declared.header.Tier.TheVariants as tier
 use Rattle.std.specs.Prelude.{not}
 use Rattle.varisat_clause.specs.Tiers.{is_tier}
 use Rattle.varisat_clause.specs.Headers.{Header}
-use Rattle.varisat_clause.specs.Stores.{Store, Adds}
+use Rattle.varisat_clause.specs.Stores.{Store, AddsStored}
 use Rattle.varisat_clause.specs.Collected.{live_clauses}
 use Rattle.varisat_clause.proofs.LiveStore.{live-added}
 use Rattle.varisat_prop.specs.Pairs.{with_pair}
@@ -33,7 +33,7 @@ use Rattle.varisat_prop.specs.Changes.{enqueued}
 use Rattle.varisat_literals.specs.Numbers.{polarity_of}
 use Rattle.varisat_prop.proofs.LiteralValues.{none-made, made-inside, made-clash, variable-opposite}
 use Rattle.varisat_prop.proofs.TrailValues.{trail-true}
-use Rattle.varisat_prop.specs.Watches.{Watches, at, IsPropagated}
+use Rattle.varisat_prop.specs.Watches.{Watches, literal_in, IsPropagated}
 use Rattle.varisat_prop.proofs.WatchKept.{propagated-enqueued, propagated-learned}
 use Rattle.varisat_prop.proofs.TrailExtend.{node-old, node-new, literal-old, literal-new}
 use Rattle.varisat_prop.proofs.EnqueueAssignment.{MayImply, enqueued-well}
@@ -181,7 +181,7 @@ kinds-enqueued t l r w inside free =
     map-equal f g (x ∷ xs) h = let e = h zero (omega arith) in let d = map-equal f g xs (λ k l. h (suc k) (omega (arith, l))) in cc
 
 -- a clause of three literals or more joins the store as Local
-pub stored-learned : (s n : Store) (B : List (List Literal)) (c : Clause) (p : ℕ) (h : Header) → 3 ≤ length c → is_tier h.tier tier.Irred ≡ false → h.deleted ≡ false → Adds s n (learned_at p h c) → IsKeptAsReason (record { clauses = live_clauses s; binary = B }) (record { clauses = live_clauses n; binary = B }) c (reason.Long p)
+pub stored-learned : (s n : Store) (B : List (List Literal)) (c : Clause) (p : ℕ) (h : Header) → 3 ≤ length c → is_tier h.tier tier.Irred ≡ false → h.deleted ≡ false → AddsStored s n (learned_at p h c) → IsKeptAsReason (record { clauses = live_clauses s; binary = B }) (record { clauses = live_clauses n; binary = B }) c (reason.Long p)
 stored-learned s n B [] p h l e d a = absurd (omega (arith, l))
 stored-learned s n B (x ∷ []) p h l e d a = absurd (omega (arith, l))
 stored-learned s n B (x ∷ y ∷ []) p h l e d a = absurd (omega (arith, l))
@@ -373,7 +373,7 @@ module _ (s t : View) (i : Conflict) (level : ℕ) (c : Clause) (w : WellFormed 
       kept-propagated V = go ms refl
         where
           -- its first two literals are false at no level below the present one
-          late : (j q : ℕ) → j < 2 → q < t.queue_head → literal_at t q ≡ opposite (at d j) → (k : ℕ) → k < length t.decisions → decision_at t k ≤ q
+          late : (j q : ℕ) → j < 2 → q < t.queue_head → literal_at t q ≡ opposite (literal_in d j) → (k : ℕ) → k < length t.decisions → decision_at t k ≤ q
           late zero q a f g k h = absurd (first-late q f g)
           late (suc zero) q a f g k h = second-late m second q f g k h
           late (suc (suc j)) q a f g k h = absurd (omega (arith, a))

@@ -16,7 +16,7 @@ use Rattle.varisat_prop.proofs.TrailValues.{trail-true}
 use Rattle.varisat_prop.proofs.LongVisited.{listed}
 use Rattle.varisat_prop.specs.View.{View, kept, WellFormed, LevelsSettled}
 use Rattle.varisat_prop.specs.Watches.{Watches, IsPropagated}
-use Rattle.varisat_prop.specs.Changes.{enqueued, IsNamed, NamesPlace, IsConflicting}
+use Rattle.varisat_prop.specs.Changes.{enqueued, NamesKeptClause, NamesPlace, IsConflicting}
 use Rattle.varisat_vsids.specs.Activities.{Activities}
 use Rattle.varisat_search.specs.declared.context.Context.{Context}
 use Rattle.varisat_search.specs.declared.state.SatState.TheVariants as verdict
@@ -174,9 +174,9 @@ analyzed-bumped {A} {x0} {x} {x1} {i} {level} d k f a q e =
 pub analysis-ready : {A : Type 0} {x0 x : Context A} → x ≡ record x0 { analyze_conflict = x.analyze_conflict } → IsReady x0 → x.analyze_conflict.var_count ≡ x0.analyze_conflict.var_count → IsReady x
 analysis-ready {x0 = x0} {x = x} k r n = subst IsReady (sym k) (ready-with x0 (record x0 { analyze_conflict = x.analyze_conflict }) r refl n refl r.propagated r.decidable r.assumed r.assumable)
 
-pub involved-named : {A : Type 0} (x0 x : Context A) (i : Conflict) → x ≡ record x0 { analyze_conflict = x.analyze_conflict } → AreInvolved (view x0) i x.analyze_conflict.involved → (f : Conflict) → f ∈ x.analyze_conflict.involved → IsNamed (view x) f
+pub involved-named : {A : Type 0} (x0 x : Context A) (i : Conflict) → x ≡ record x0 { analyze_conflict = x.analyze_conflict } → AreInvolved (view x0) i x.analyze_conflict.involved → (f : Conflict) → f ∈ x.analyze_conflict.involved → NamesKeptClause (view x) f
 involved-named {A} x0 x i k a f h =
-    subst (λ (y : Context A). IsNamed (view y) f) (sym k)
+    subst (λ (y : Context A). NamesKeptClause (view y) f) (sym k)
     (⊎_elim (λ o. (a.above o).named f h) (λ z. none-there (a.at_zero (omega (arith, z))) h) (cases_lt 0 (length (view x0).decisions)))
   where
     none-there : {X : Type 0} {fs : List Conflict} → fs ≡ [] → f ∈ fs → X

@@ -10,7 +10,7 @@ use Rattle.varisat_prop.specs.declared.prop.graph.Conflict.{Conflict}
 use Rattle.varisat_prop.specs.declared.prop.graph.Conflict.TheVariants as conflict
 use Rattle.varisat_prop.specs.Changes.{named_in}
 use Rattle.varisat_prop.specs.View.{View, node_of, WellFormed}
-use Rattle.varisat_analysis.specs.Learned.{clause_of, reason_clause, StandsBehind, IsReachedDownTo, IsImplicationPoint, IsFirstPoint, IsLevelOf, IsAsserting, IsLearned}
+use Rattle.varisat_analysis.specs.Learned.{implying_clause, reason_clause, StandsBehind, IsReachedDownTo, IsImplicationPoint, IsFirstPoint, IsLevelOf, IsAsserting, IsLearned}
 use Rattle.varisat_analysis.specs.HeaderChanges.{SameButHeaders, ChangesHeaders}
 use Rattle.varisat_analysis.proofs.SameButHeaders.{headers-at}
 use Rattle.varisat_search.proofs.HeaderChanges.{header-well, header-fits}
@@ -31,7 +31,7 @@ module _ (s : View) (ks js : List StoredClause) (e : SameButHeaders ks js) where
   named-same (conflict.Binary ms) = refl
   named-same (conflict.Long p) = headers-at ks js e p
 
-  clause-same : (l : Literal) (r : Reason) → clause_of b l r ≡ clause_of a l r
+  clause-same : (l : Literal) (r : Reason) → implying_clause b l r ≡ implying_clause a l r
   clause-same l reason.Unit = refl
   clause-same l (reason.Binary ms) = refl
   clause-same l (reason.Long p) = headers-at ks js e p

@@ -9,7 +9,7 @@ use Rattle.varisat_theory.proofs.Values.{parity}
 use Rattle.varisat_literals.specs.Numbers.{polarity_of}
 use Rattle.varisat_prop.specs.Parts.{is_true_value}
 use Rattle.varisat_clause.specs.Stored.{AreReordered}
-use Rattle.varisat_prop.specs.View.{View, kept, IsTrueIn, decision_at, WellFormed, LevelsSettled, Grows}
+use Rattle.varisat_prop.specs.View.{View, kept, IsTrueIn, decision_at, WellFormed, LevelsSettled, GrowsTrail}
 use Rattle.varisat_prop.specs.Changes.{decided_on}
 use Rattle.varisat_prop.proofs.LiteralValues.{variable-opposite, polarity-opposite}
 use Rattle.varisat_prop.proofs.TrailExtend.{get_or-last}
@@ -19,7 +19,7 @@ use Rattle.varisat_analysis.proofs.WellFormedViews.{kept-reordered}
 pub complete-reordered : (s t : View) (known : List Literal) → AreReordered s.clauses t.clauses → t.binary ≡ s.binary → IsComplete (kept s) known → IsComplete (kept t) known
 complete-reordered s t known a b = complete_shorter (kept s) (kept t) known (λ d h. let (c, i, e) = kept-reordered s t a b d h in (c, i, e.0, λ m k. inl (e.1 m k)))
 
-pub settled-grows : (s t : View) → WellFormed s → Grows s t → t.decisions ≡ s.decisions → LevelsSettled s → LevelsSettled t
+pub settled-grows : (s t : View) → WellFormed s → GrowsTrail s t → t.decisions ≡ s.decisions → LevelsSettled s → LevelsSettled t
 settled-grows s t w g e q j h =
     let n = ap (λ (x : List ℕ). length x) e in
     let h' : j < length s.decisions = omega (arith, h, n) in

@@ -64,3 +64,9 @@ pub mod MadeSteps
 pub mod ForgottenViews
 pub mod ForgottenValues
 pub mod ForgottenClauses
+pub mod GlobalValues
+pub mod KeptNames
+pub mod MentionedFlags
+pub mod NamedVariables
+pub mod SolverVariables
+pub mod TakenSolvers

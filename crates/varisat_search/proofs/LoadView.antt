@@ -6,9 +6,9 @@ use Rattle.varisat_theory.specs.Membership.{◌∈◌, IsDistinct}
 use Rattle.varisat_theory.specs.Literals.{Literal, Clause, opposite, variable_of}
 use Rattle.varisat_literals.specs.Numbers.{polarity_of}
 use Rattle.varisat_prop.specs.declared.prop.graph.Reason.TheVariants as reason
-use Rattle.varisat_prop.specs.Watches.{Watches, no_watches, list_of, IsWatching, IsPropagated}
+use Rattle.varisat_prop.specs.Watches.{Watches, no_watches, watches_of, IsWatching, IsPropagated}
 use Rattle.varisat_prop.proofs.WatchKept.{watching-none}
-use Rattle.varisat_clause.specs.Stored.{StoredClause, Keeps, literals_of}
+use Rattle.varisat_clause.specs.Stored.{StoredClause, AppendsClause, literals_of}
 use Rattle.varisat_prop.specs.Pairs.{with_pair}
 use Rattle.varisat_prop.specs.View.{View, pairs_from, kept, IsTrueIn, level_of, WellFormed, LevelsSettled, IsFixed}
 use Rattle.varisat_prop.specs.Looks.{IsInRange}
@@ -94,12 +94,12 @@ pub added-pair : (s t : View) (c : Clause) (before after : SatState) (l m : Lite
 added-pair s t c before after l m e h f g = subst (λ x. IsAdded s t x before after) (sym e) (subst (λ x. IsHeadAfter s.values x s.queue_head t.queue_head) e h, f, g)
 
 -- and a longer one
-pub added-long : (s t : View) (c : Clause) (before after : SatState) (j : StoredClause) → 3 ≤ length c → j.literals ≡ c → j.header ≡ record no_header { len = length j.literals } → Keeps s.clauses t.clauses j → IsHeadAfter s.values c s.queue_head t.queue_head → t ≡ record s { clauses = t.clauses; queue_head = t.queue_head } → after ≡ before → IsAdded s t c before after
+pub added-long : (s t : View) (c : Clause) (before after : SatState) (j : StoredClause) → 3 ≤ length c → j.literals ≡ c → j.header ≡ record no_header { len = length j.literals } → AppendsClause s.clauses t.clauses j → IsHeadAfter s.values c s.queue_head t.queue_head → t ≡ record s { clauses = t.clauses; queue_head = t.queue_head } → after ≡ before → IsAdded s t c before after
 added-long s t [] before after j n e h k q f g = absurd (omega (arith, n))
 added-long s t (l ∷ []) before after j n e h k q f g = absurd (omega (arith, n))
 added-long s t (l ∷ m ∷ []) before after j n e h k q f g = absurd (omega (arith, n))
 added-long s t (l ∷ m ∷ o ∷ c) before after j n e h k q f g =
-    (j.place, subst (Keeps s.clauses t.clauses) (ap (λ (x : Header). record { place = j.place; header = x; literals = j.literals }) h ∙ ap (loaded_at j.place) e) k, q, f, g)
+    (j.place, subst (AppendsClause s.clauses t.clauses) (ap (λ (x : Header). record { place = j.place; header = x; literals = j.literals }) h ∙ ap (loaded_at j.place) e) k, q, f, g)
 
 module _ (s t : View) (lits : Clause) (r : Restarted s t) (a : MayBeAdded t lits) where
   abbrev pub IsLoadedWell : View → Type 0
@@ -143,5 +143,5 @@ first-propagated W s e v k o d q = record {
   queue = λ j h. let n = ap (λ (x : List ℕ). length x) d in absurd (omega (arith, h, n));
 }
   where
-    none : (x : Literal) → list_of W x ≡ []
-    none x = ap (λ (X : Watches). list_of X x) e
+    none : (x : Literal) → watches_of W x ≡ []
+    none x = ap (λ (X : Watches). watches_of X x) e

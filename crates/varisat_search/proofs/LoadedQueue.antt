@@ -7,7 +7,7 @@ use Rattle.varisat_clause.specs.Stored.{StoredClause}
 use Rattle.varisat_prop.specs.Pairs.{with_pair}
 use Rattle.varisat_prop.specs.View.{View, IsTrueIn, literal_at, WellFormed}
 use Rattle.varisat_prop.specs.Visits.{WatchesClause}
-use Rattle.varisat_prop.specs.Watches.{Watches, at, IsPropagated}
+use Rattle.varisat_prop.specs.Watches.{Watches, literal_in, IsPropagated}
 use Rattle.varisat_prop.proofs.PairAdded.{implied-more, propagated-loaded-pair}
 use Rattle.varisat_prop.proofs.WatchKept.{settled-more, propagated-loaded}
 use Rattle.varisat_search.specs.Loading.{HasFalseLiteral, IsHeadAfter}
@@ -30,7 +30,7 @@ module _ (s : View) (f : WellFormed s) (none : s.decisions ≡ []) where
           lists = g.lists;
           watching = g.watching;
           empty = g.empty;
-          settled = settled-more s.clauses c last s s.queue_head refl (λ j p a b e. absurd (not-false c.literals (at c.literals j) p n (∈-get_or c.literals j 0 (omega (arith, a, long))) b e)) w.settled;
+          settled = settled-more s.clauses c last s s.queue_head refl (λ j p a b e. absurd (not-false c.literals (literal_in c.literals j) p n (∈-get_or c.literals j 0 (omega (arith, a, long))) b e)) w.settled;
           binary = w.binary;
           implied = w.implied;
           queue = w.queue;

@@ -1,7 +1,7 @@
 -- A step is made over what comes before it: units that are settled, or propagation and decisions up to a conflict or to an end.
 use Rattle.std.proofs.Common.{◌≡◌, [], inl, refl, ap, ◌∙◌, subst}
 use Rattle.varisat_theory.specs.Outcomes.{Steps}
-use Rattle.varisat_prop.specs.View.{Grows}
+use Rattle.varisat_prop.specs.View.{GrowsTrail}
 use Rattle.varisat_prop.proofs.ViewGrowth.{grows-refl}
 use Rattle.varisat_vsids.specs.Activities.{Activities}
 use Rattle.varisat_search.specs.declared.context.Context.{Context}
@@ -28,7 +28,7 @@ use Rattle.varisat_search.proofs.TrailExtensions.{remembers-grown}
 
 pub record Finds {A : Type 0} (x y : Context A) : Type 0 where
   pub ready : IsReady y
-  pub grows : Grows (view x) (view y)
+  pub grows : GrowsTrail (view x) (view y)
   pub taken : TakesOutImplied (view x) x.assumptions y.assumptions
   pub decidable : SameDecidable (view x) x.vsids (view y) y.vsids
   pub activities : y.vsids ≡ record x.vsids { available = y.vsids.available }

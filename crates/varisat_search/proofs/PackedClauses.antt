@@ -4,7 +4,7 @@ use Rattle.std.proofs.lemmas.List.{length-take}
 use Rattle.varisat_theory.specs.Membership.{◌∈◌}
 use Rattle.varisat_theory.proofs.Members.{equal_or_not}
 use Rattle.varisat_clause.specs.Stored.{StoredClause, IsPlace, AreRising, literals_of, literals_at}
-use Rattle.varisat_clause.specs.Stores.{Store, len_at, clause_in, Fits, IsSound}
+use Rattle.varisat_clause.specs.Stores.{Store, len_at, clause_in, FitsWords, IsSound}
 use Rattle.varisat_clause.specs.Databases.{size_of}
 use Rattle.varisat_clause.specs.Collected.{live_of, live_clauses, packed}
 use Rattle.varisat_clause.proofs.StoredClauses.{is-same, is-other, stored-here, stored-later, place-later}
@@ -70,7 +70,7 @@ AreBelow [] js = Unit {0}
 AreBelow (k ∷ ks) [] = ⊥
 AreBelow (k ∷ ks) (j ∷ js) = (j.place ≤ k.place) × AreBelow ks js
 
-below-from : (ws : List ℕ) (low high : ℕ) (ps : List ℕ) (q : ℕ) → Fits ws low high ps → q ≤ low → AreBelow (live_of (map (clause_in ws) ps)) (packed q (live_of (map (clause_in ws) ps)))
+below-from : (ws : List ℕ) (low high : ℕ) (ps : List ℕ) (q : ℕ) → FitsWords ws low high ps → q ≤ low → AreBelow (live_of (map (clause_in ws) ps)) (packed q (live_of (map (clause_in ws) ps)))
 below-from ws low high [] q f h = tt
 below-from ws low high (p ∷ ps) q f h =
     let k : StoredClause = clause_in ws p in

@@ -18,7 +18,7 @@ use Rattle.varisat_prop.specs.View.{View, IsTrueIn, literal_at, node_of, node_at
 use Rattle.varisat_prop.proofs.ViewGrowth.{append-nil}
 use Rattle.varisat_prop.proofs.SimplifiedPairs.{filter-∈}
 use Rattle.varisat_prop.proofs.TrailValues.{trail-true}
-use Rattle.varisat_analysis.specs.Learned.{clause_of}
+use Rattle.varisat_analysis.specs.Learned.{implying_clause}
 use Rattle.varisat_search.specs.Seen.{search_of}
 use Rattle.varisat_search.specs.ProvedUnits.{implied_units, ProvesUnits}
 use Rattle.varisat_search.proofs.DecidableVariables.{true-or-false}
@@ -119,7 +119,7 @@ module _ (s t : View) (w : WellFormed s) (none : s.decisions ≡ []) (d : Proves
         let (k, o, g) = clause_from S.kept c (subst (λ P. c ∈ P) (sym (seen_clauses s)) h) in (
           k,
           o,
-          subst (λ y. l ∈ y) (sym g) (q.1 l (subst (λ y. y ∈ clause_of s (literal_at s place) r) stands (reason-first s w place r is-clause i))),
+          subst (λ y. l ∈ y) (sym g) (q.1 l (subst (λ y. y ∈ implying_clause s (literal_at s place) r) stands (reason-first s w place r is-clause i))),
           λ m n.
               ⊎_elim
               (λ f. inl (f ∙ stands))

@@ -7,7 +7,7 @@ use Rattle.varisat_theory.specs.Propagation.{IsComplete}
 use Rattle.varisat_clause.specs.Databases.{Tracks}
 use Rattle.varisat_prop.specs.declared.prop.graph.ImplNode.{ImplNode}
 use Rattle.varisat_prop.specs.View.{View, kept, WellFormed, LevelsSettled}
-use Rattle.varisat_prop.specs.Watches.{list_of, IsPropagated}
+use Rattle.varisat_prop.specs.Watches.{watches_of, IsPropagated}
 use Rattle.varisat_prop.specs.Changes.{decided_on}
 use Rattle.varisat_prop.proofs.WatchKept.{propagated-decided}
 use Rattle.varisat_search.specs.declared.context.Context.{Context}
@@ -85,7 +85,7 @@ exchanged-ready x z r k well settled propagated tracks decidable =
     }
 
 -- They are, once clauses and reasons are exchanged for such that may stand for them, and the watch lists are off.
-pub unwatched-ready : {A : Type 0} (x z : Context A) (ns : List ImplNode) → IsReady x → KeepsValues x z → MayExchange (view x) (view z).clauses ns → view z ≡ record (view x) { clauses = (view z).clauses; nodes = ns } → Tracks z.clause_db z.clause_alloc → length z.watchlists.lists ≡ length x.watchlists.lists → ((l : Literal) → list_of z.watchlists l ≡ []) → z.watchlists.enabled ≡ false → IsReady z
+pub unwatched-ready : {A : Type 0} (x z : Context A) (ns : List ImplNode) → IsReady x → KeepsValues x z → MayExchange (view x) (view z).clauses ns → view z ≡ record (view x) { clauses = (view z).clauses; nodes = ns } → Tracks z.clause_db z.clause_alloc → length z.watchlists.lists ≡ length x.watchlists.lists → ((l : Literal) → watches_of z.watchlists l ≡ []) → z.watchlists.enabled ≡ false → IsReady z
 unwatched-ready x z ns r k m e tracks n none off =
     let s = view x in
     let ks = (view z).clauses in

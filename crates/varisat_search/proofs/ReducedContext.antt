@@ -8,7 +8,7 @@ use Rattle.varisat_clause.proofs.StoredClauses.{literals-∈}
 use Rattle.varisat_prop.proofs.WellFormedChanges.{stored-kept}
 use Rattle.varisat_clause.specs.Databases.{Tracks}
 use Rattle.varisat_prop.specs.View.{View, WellFormed}
-use Rattle.varisat_prop.specs.Watches.{list_of, at}
+use Rattle.varisat_prop.specs.Watches.{watches_of, literal_in}
 use Rattle.varisat_search.specs.declared.context.Context.{Context}
 use Rattle.varisat_search.specs.Contexts.{view, IsReady}
 use Rattle.varisat_analysis.specs.Reductions.{Discards}
@@ -16,11 +16,11 @@ use Rattle.varisat_search.proofs.DiscardedClauses.{discards-may}
 use Rattle.varisat_search.proofs.ReadyAfter.{keeps-values, unwatched-ready}
 
 -- it stays ready, with the watch lists off
-pub discards-ready : {A : Type 0} (x z : Context A) → IsReady x → Discards (view x) (view z) → Tracks z.clause_db z.clause_alloc → length z.watchlists.lists ≡ length x.watchlists.lists → ((l : Literal) → list_of z.watchlists l ≡ []) → z.watchlists.enabled ≡ false → z ≡ record x { binary_clauses = z.binary_clauses; clause_activity = z.clause_activity; clause_alloc = z.clause_alloc; clause_db = z.clause_db; impl_graph = z.impl_graph; watchlists = z.watchlists } → IsReady z
+pub discards-ready : {A : Type 0} (x z : Context A) → IsReady x → Discards (view x) (view z) → Tracks z.clause_db z.clause_alloc → length z.watchlists.lists ≡ length x.watchlists.lists → ((l : Literal) → watches_of z.watchlists l ≡ []) → z.watchlists.enabled ≡ false → z ≡ record x { binary_clauses = z.binary_clauses; clause_activity = z.clause_activity; clause_alloc = z.clause_alloc; clause_db = z.clause_db; impl_graph = z.impl_graph; watchlists = z.watchlists } → IsReady z
 discards-ready x z r d t n e o k = unwatched-ready x z (view x).nodes r (keeps-values x z k) (discards-may (view x) (view z) r.well d) d.rest t n e o
 
 -- the first literal of each clause is of a known variable
-pub first-known : (s : View) → WellFormed s → (k : StoredClause) → k ∈ s.clauses → variable_of (at k.literals 0) < length s.values
+pub first-known : (s : View) → WellFormed s → (k : StoredClause) → k ∈ s.clauses → variable_of (literal_in k.literals 0) < length s.values
 first-known s w k h =
     let c = stored-kept s k.literals (literals-∈ s.clauses k h) in
-    w.in_range k.literals c (at k.literals 0) (∈-get_or k.literals 0 0 (let n = w.several k.literals c in omega (arith, n)))
+    w.in_range k.literals c (literal_in k.literals 0) (∈-get_or k.literals 0 0 (let n = w.several k.literals c in omega (arith, n)))

@@ -4,7 +4,7 @@ use Rattle.varisat_clause.specs.declared.header.Tier.{Tier}
 use Rattle.varisat_clause.specs.declared.header.Tier.TheVariants as tier
 use Rattle.varisat_clause.specs.Tiers.{is_tier}
 use Rattle.varisat_clause.specs.Stored.{StoredClause}
-use Rattle.varisat_clause.specs.Stores.{Store, clauses_of, Holds}
+use Rattle.varisat_clause.specs.Stores.{Store, stored_clauses, HoldsClauses}
 use Rattle.varisat_clause.specs.Databases.{is_live_in}
 use Rattle.varisat_clause.specs.Collected.{live_of, live_clauses}
 use Rattle.varisat_clause.specs.Reductions.{mid_reduced, mids_reduced}
@@ -31,5 +31,5 @@ mid-held k =
     (λ e. ap held_clause (mid-other k e))
     (true-or-false (is_live_in tier.Mid k))
 
-pub mids-headers : (s t : Store) (size : ℕ) → Holds t size (mids_reduced (clauses_of s)) → SameButHeaders (live_clauses s) (live_clauses t)
-mids-headers s t size h = subst (λ ks. SameButHeaders (live_clauses s) (live_of ks)) (sym h.clauses) (live-map mid_reduced (clauses_of s) mid-held)
+pub mids-headers : (s t : Store) (size : ℕ) → HoldsClauses t size (mids_reduced (stored_clauses s)) → SameButHeaders (live_clauses s) (live_clauses t)
+mids-headers s t size h = subst (λ ks. SameButHeaders (live_clauses s) (live_of ks)) (sym h.clauses) (live-map mid_reduced (stored_clauses s) mid-held)

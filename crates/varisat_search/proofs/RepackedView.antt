@@ -12,7 +12,7 @@ use Rattle.varisat_prop.specs.declared.prop.graph.Reason.{Reason}
 use Rattle.varisat_prop.specs.declared.prop.graph.Reason.TheVariants as reason
 use Rattle.varisat_prop.specs.declared.prop.graph.ImplNode.{ImplNode}
 use Rattle.varisat_prop.specs.View.{View, pairs_from, no_node, clause_at, literal_at, node_at, IsReason, WellFormed, kinds}
-use Rattle.varisat_prop.specs.Watches.{at}
+use Rattle.varisat_prop.specs.Watches.{literal_in}
 use Rattle.varisat_prop.proofs.LiteralValues.{made-inside}
 use Rattle.varisat_analysis.specs.HeaderChanges.{kept_clause}
 use Rattle.varisat_search.specs.Seen.{kept_pair, search_of}
@@ -70,16 +70,16 @@ module _ (s : View) (w : WellFormed s) (js : List StoredClause) where
   seen-reason : (ns : List ImplNode) (k : StoredClause) (i : ℕ) → k ∈ s.clauses → i < length s.trail → node_in ns i ≡ node_at s i → (node_at s i).reason ≡ reason.Long k.place → is_reason s.values ns k ≡ true
   seen-reason ns k i m h e q =
       let f = reason-first s w k i m h q in
-      let v : is_some (get_or s.values (variable_of (at k.literals 0)) None) ≡ true = ap (λ (x : Literal). is_some (get_or s.values (variable_of x) None)) f ∙ ap (λ o. is_some o) (w.is_true i h) in
-      let n : is_clause_at (get_or ns (variable_of (at k.literals 0)) no_node).reason k.place ≡ true = ap (λ (x : Literal). is_clause_at (get_or ns (variable_of x) no_node).reason k.place) f ∙ ap (λ (x : ImplNode). is_clause_at x.reason k.place) e ∙ ap (λ x. is_clause_at x k.place) q ∙ is-same k.place k.place refl in
-      ap (λ b. b && is_clause_at (get_or ns (variable_of (at k.literals 0)) no_node).reason k.place) v ∙ n
+      let v : is_some (get_or s.values (variable_of (literal_in k.literals 0)) None) ≡ true = ap (λ (x : Literal). is_some (get_or s.values (variable_of x) None)) f ∙ ap (λ o. is_some o) (w.is_true i h) in
+      let n : is_clause_at (get_or ns (variable_of (literal_in k.literals 0)) no_node).reason k.place ≡ true = ap (λ (x : Literal). is_clause_at (get_or ns (variable_of x) no_node).reason k.place) f ∙ ap (λ (x : ImplNode). is_clause_at x.reason k.place) e ∙ ap (λ x. is_clause_at x k.place) q ∙ is-same k.place k.place refl in
+      ap (λ b. b && is_clause_at (get_or ns (variable_of (literal_in k.literals 0)) no_node).reason k.place) v ∙ n
 
   same-clause : (r : Reason) (p q : ℕ) → r ≡ reason.Long p → is_clause_at r q ≡ true → p ≡ q
   same-clause r p q e t = ⊎_elim (λ f. f) (λ n. absurd (let z : true ≡ false = sym t ∙ ap (λ x. is_clause_at x q) e ∙ is-other p q n in cc)) (equal_or_not p q)
 
   module _ (k : StoredClause) (left : List StoredClause) (b : ℕ) (ns : List ImplNode) (m : k ∈ s.clauses) (goes : new_place s.clauses js k.place ≡ b) (low : b ≤ k.place) (above : (y : StoredClause) → y ∈ left → k.place < y.place) (size : length ns ≡ length s.values) where
     abbrev v : ℕ
-    v = variable_of (at k.literals 0)
+    v = variable_of (literal_in k.literals 0)
 
     -- the clause is a reason
     module _ (is : is_reason s.values ns k ≡ true) where

@@ -5,14 +5,14 @@ use Rattle.varisat_theory.specs.Literals.{Literal, Clause}
 use Rattle.varisat_theory.specs.Propagation.{IsComplete}
 use Rattle.varisat_theory.specs.Outcomes.{Proves}
 use Rattle.varisat_clause.specs.Stored.{StoredClause}
-use Rattle.varisat_clause.specs.Stores.{clauses_of}
+use Rattle.varisat_clause.specs.Stores.{stored_clauses}
 use Rattle.varisat_clause.specs.Databases.{is_live, Tracks}
 use Rattle.varisat_clause.specs.Collected.{live_clauses}
 use Rattle.varisat_clause.proofs.LiveStore.{∈-live, are-live-long}
 use Rattle.varisat_clause.proofs.StoreSound.{sound-is}
 use Rattle.varisat_prop.specs.Simplified.{without_assigned}
 use Rattle.varisat_prop.specs.View.{View, kept, WellFormed, LevelsSettled}
-use Rattle.varisat_prop.specs.Watches.{list_of, IsPropagated}
+use Rattle.varisat_prop.specs.Watches.{watches_of, IsPropagated}
 use Rattle.varisat_prop.proofs.SimplifiedPairs.{unassigned-none}
 use Rattle.varisat_prop.proofs.SimplifiedView.{HasUnits, simplified, settled-undecided, propagated-unassigned}
 use Rattle.varisat_search.specs.declared.context.Context.{Context}
@@ -36,8 +36,8 @@ at-units x r d c u = record {
 
 module _ {A : Type 0} (x : Context A) (u : IsAtUnits (view x)) where
   -- what a filter of the store needs
-  pub live-open : (k : StoredClause) → k ∈ clauses_of x.clause_alloc → is_live k ≡ true → IsLeftOpen x.assignment.current k.literals
-  live-open k h e = stored-open (view x) u k (∈-live (clauses_of x.clause_alloc) k h (is-false k.header.deleted e))
+  pub live-open : (k : StoredClause) → k ∈ stored_clauses x.clause_alloc → is_live k ≡ true → IsLeftOpen x.assignment.current k.literals
+  live-open k h e = stored-open (view x) u k (∈-live (stored_clauses x.clause_alloc) k h (is-false k.header.deleted e))
 
   pub joining : (B : List (List Literal)) (ps : List Clause) → B ≡ without_assigned x.assignment.current x.binary_clauses → ps ≡ [] ++ left_pairs x.assignment.current (live_clauses x.clause_alloc) → (c : Clause) → c ∈ ps → IsPairIn B c
   joining B ps e f c h = subst (λ D. IsPairIn D c) (sym e) (pairs-in (view x) u c (subst (λ cs. c ∈ cs) f h))
@@ -87,7 +87,7 @@ module _ {A : Type 0} {x z : Context A} (d : Simplifies x z) where
     decidable = λ c h l i. let (k, j, o) = literal-kept s d.units c h l i in d.ready.decidable.decidable k j l o;
   }
 
-  pub simplified-ready : ((l : Literal) → list_of z.watchlists l ≡ []) → z.watchlists.enabled ≡ false → length z.watchlists.lists ≡ length x.watchlists.lists → IsReady z
+  pub simplified-ready : ((l : Literal) → watches_of z.watchlists l ≡ []) → z.watchlists.enabled ≡ false → length z.watchlists.lists ≡ length x.watchlists.lists → IsReady z
   simplified-ready e o n =
       exchanged-ready x z d.ready (subst (KeepsValues x) (sym d.rest) (keeps-values x (record x { binary_clauses = z.binary_clauses; clause_alloc = z.clause_alloc; clause_db = z.clause_db; watchlists = z.watchlists }) refl))
       (subst WellFormed (sym is-view) (still-well s d.units))

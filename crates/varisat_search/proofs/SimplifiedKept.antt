@@ -15,7 +15,7 @@ use Rattle.varisat_theory.proofs.StepChanges.{moves_prove}
 use Rattle.varisat_clause.specs.Stored.{StoredClause, literals_of}
 use Rattle.varisat_prop.specs.Pairs.{with_pair}
 use Rattle.varisat_prop.specs.View.{pairs_from}
-use Rattle.varisat_prop.specs.Watches.{at}
+use Rattle.varisat_prop.specs.Watches.{literal_in}
 use Rattle.varisat_prop.proofs.PairAdded.{inserts-pair, adds-pair}
 use Rattle.varisat_analysis.specs.HeaderChanges.{kept_clause}
 use Rattle.varisat_search.specs.Seen.{kept_pair}
@@ -28,16 +28,16 @@ use Rattle.varisat_search.proofs.ViewSearch.{seen_pairs}
 pub longer-pair : (B C : List (List Literal)) (c : Clause) → length C ≡ length B → IsPairIn B c → IsPairIn C c
 longer-pair B C c e q = record { is = q.is; first = let h = q.first in omega (arith, h, e); second = let h = q.second in omega (arith, h, e); other = q.other }
 
-pub joined-count : (B : List (List Literal)) (c : Clause) → IsPairIn B c → length (with_pair B (at c 0) (at c 1)) ≡ length B
-joined-count B c q = (adds-pair B (at c 0) (at c 1) q.first q.second).count
+pub joined-count : (B : List (List Literal)) (c : Clause) → IsPairIn B c → length (with_pair B (literal_in c 0) (literal_in c 1)) ≡ length B
+joined-count B c q = (adds-pair B (literal_in c 0) (literal_in c 1) q.first q.second).count
 
 pub pairs-same : (B : List (List Literal)) (cs : List Clause) → ((c : Clause) → c ∈ cs → IsPairIn B c) → SameClauses (cs ++ pairs_from 0 B) (pairs_from 0 (with_pairs B cs))
 pairs-same B [] f = same_clauses-self (pairs_from 0 B)
 pairs-same B (c ∷ cs) f =
     let q = f c (inl refl) in
-    let C = with_pair B (at c 0) (at c 1) in
-    let (p, i, same, is) = inserts-pair B (at c 0) (at c 1) q.first q.second q.other in
-    let here : SameSet c p = subst (λ d. SameSet d p) (sym q.is) (same_set-back p (at c 0 ∷ at c 1 ∷ []) same) in
+    let C = with_pair B (literal_in c 0) (literal_in c 1) in
+    let (p, i, same, is) = inserts-pair B (literal_in c 0) (literal_in c 1) q.first q.second q.other in
+    let here : SameSet c p = subst (λ d. SameSet d p) (sym q.is) (same_set-back p (literal_in c 0 ∷ literal_in c 1 ∷ []) same) in
     let one : SameClauses (c ∷ (cs ++ (i.front ++ i.back))) ((cs ++ i.front) ++ p ∷ i.back) = same_insert [] (cs ++ (i.front ++ i.back)) (cs ++ i.front) i.back c p here (same_equal (cs ++ (i.front ++ i.back)) ((cs ++ i.front) ++ i.back) (sym (append_assoc cs i.front i.back))) in
     let two : SameClauses (c ∷ (cs ++ pairs_from 0 B)) (cs ++ pairs_from 0 C) =
     subst (λ x. SameClauses (c ∷ (cs ++ x)) (cs ++ pairs_from 0 C)) (sym i.old)
@@ -45,12 +45,12 @@ pairs-same B (c ∷ cs) f =
     same_clauses-through (c ∷ (cs ++ pairs_from 0 B)) (cs ++ pairs_from 0 C) (pairs_from 0 (with_pairs C cs)) two
     (pairs-same C cs (λ d j. longer-pair B C d (joined-count B c q) (f d (inr j))))
 
-with-pairs-more : (B : List (List Literal)) (cs : List Clause) (c : Clause) → with_pairs B (cs ++ c ∷ []) ≡ with_pair (with_pairs B cs) (at c 0) (at c 1)
+with-pairs-more : (B : List (List Literal)) (cs : List Clause) (c : Clause) → with_pairs B (cs ++ c ∷ []) ≡ with_pair (with_pairs B cs) (literal_in c 0) (literal_in c 1)
 with-pairs-more B [] c = refl
-with-pairs-more B (d ∷ cs) c = with-pairs-more (with_pair B (at d 0) (at d 1)) cs c
+with-pairs-more B (d ∷ cs) c = with-pairs-more (with_pair B (literal_in d 0) (literal_in d 1)) cs c
 
-pub joined-on : (B C : List (List Literal)) (cs : List Clause) (c : Clause) → C ≡ with_pairs B cs → with_pair C (at c 0) (at c 1) ≡ with_pairs B (cs ++ c ∷ [])
-joined-on B C cs c e = ap (λ D. with_pair D (at c 0) (at c 1)) e ∙ sym (with-pairs-more B cs c)
+pub joined-on : (B C : List (List Literal)) (cs : List Clause) (c : Clause) → C ≡ with_pairs B cs → with_pair C (literal_in c 0) (literal_in c 1) ≡ with_pairs B (cs ++ c ∷ [])
+joined-on B C cs c e = ap (λ D. with_pair D (literal_in c 0) (literal_in c 1)) e ∙ sym (with-pairs-more B cs c)
 
 -- one more element of a list that is read
 pub next-taken : (cs : List Clause) (i : ℕ) (c : Clause) → i < length cs → c ≡ get_or cs i c → take i cs ++ c ∷ [] ≡ take (i + 1) cs

@@ -16,7 +16,7 @@ use Rattle.varisat_clause.proofs.StoredClauses.{from-literals, literals-∈}
 use Rattle.varisat_prop.specs.Pairs.{with_pair}
 use Rattle.varisat_prop.specs.Simplified.{is_unassigned, are_unassigned, without_assigned}
 use Rattle.varisat_prop.specs.View.{View, IsTrueIn, pairs_from, kept, node_of, WellFormed}
-use Rattle.varisat_prop.specs.Watches.{at}
+use Rattle.varisat_prop.specs.Watches.{literal_in}
 use Rattle.varisat_prop.proofs.LongVisited.{listed}
 use Rattle.varisat_prop.proofs.SimplifiedPairs.{UnassignedPairs, ∈-filter, each-unassigned, unassigned-length, pairs-left, pairs-unassigned, pairs-joined}
 use Rattle.varisat_prop.proofs.SimplifiedClauses.{leaves-two, pair-satisfied}
@@ -75,14 +75,14 @@ all-joined : (values : List (Option Bool)) (C : List (List Literal)) (cs : List 
 all-joined values C [] f g u = u
 all-joined values C (c ∷ cs) f g u =
     let q = f c (inl refl) in
-    let first : at c 0 ∈ c = subst (λ d. at c 0 ∈ d) (sym q.is) (inl refl) in
-    let second : at c 1 ∈ c = subst (λ d. at c 1 ∈ d) (sym q.is) (inr (inl refl)) in
-    let (i, e) = g c (inl refl) (at c 0) first in
-    let (j, d) = g c (inl refl) (at c 1) second in
-    all-joined values (with_pair C (at c 0) (at c 1)) cs
-    (λ x h. longer-pair C (with_pair C (at c 0) (at c 1)) x (joined-count C c q) (f x (inr h)))
+    let first : literal_in c 0 ∈ c = subst (λ d. literal_in c 0 ∈ d) (sym q.is) (inl refl) in
+    let second : literal_in c 1 ∈ c = subst (λ d. literal_in c 1 ∈ d) (sym q.is) (inr (inl refl)) in
+    let (i, e) = g c (inl refl) (literal_in c 0) first in
+    let (j, d) = g c (inl refl) (literal_in c 1) second in
+    all-joined values (with_pair C (literal_in c 0) (literal_in c 1)) cs
+    (λ x h. longer-pair C (with_pair C (literal_in c 0) (literal_in c 1)) x (joined-count C c q) (f x (inr h)))
     (λ x h. g x (inr h))
-    (pairs-joined values C (at c 0) (at c 1) q.first q.second q.other u i j e d)
+    (pairs-joined values C (literal_in c 0) (literal_in c 1) q.first q.second q.other u i j e d)
 
 -- 2. At level 0, after complete propagation, where each literal of the trail is a unit.
 pub record IsAtUnits (s : View) : Type 0 where
@@ -132,11 +132,11 @@ module _ (s : View) (u : IsAtUnits s) where
       inside : (l : Literal) → variable_of l < length s.values → opposite l < length B
       inside l h = let i = listed l (length s.values) h in let a = B-count in let b = u.lists in omega (arith, i, a, b)
 
-      pair-of : (c : Clause) → (at c 0 ∷ at c 1 ∷ []) ≡ c → IsDistinct c → ((l : Literal) → l ∈ c → variable_of l < length s.values) → IsPairIn B c
+      pair-of : (c : Clause) → (literal_in c 0 ∷ literal_in c 1 ∷ []) ≡ c → IsDistinct c → ((l : Literal) → l ∈ c → variable_of l < length s.values) → IsPairIn B c
       pair-of c e d r = record {
         is = sym e;
-        first = inside (at c 0) (r (at c 0) (subst (λ x. at c 0 ∈ x) e (inl refl)));
-        second = inside (at c 1) (r (at c 1) (subst (λ x. at c 1 ∈ x) e (inr (inl refl))));
+        first = inside (literal_in c 0) (r (literal_in c 0) (subst (λ x. literal_in c 0 ∈ x) e (inl refl)));
+        second = inside (literal_in c 1) (r (literal_in c 1) (subst (λ x. literal_in c 1 ∈ x) e (inr (inl refl))));
         other = λ f. (subst IsDistinct (sym e) d).0 (inl f);
       }
 
@@ -178,7 +178,7 @@ module _ (s : View) (u : IsAtUnits s) where
       all-count D [] f = refl
       all-count D (c ∷ cs) f =
           let n = joined-count D c (f c (inl refl)) in
-          all-count (with_pair D (at c 0) (at c 1)) cs (λ x h. longer-pair D (with_pair D (at c 0) (at c 1)) x n (f x (inr h))) ∙ n
+          all-count (with_pair D (literal_in c 0) (literal_in c 1)) cs (λ x h. longer-pair D (with_pair D (literal_in c 0) (literal_in c 1)) x n (f x (inr h))) ∙ n
 
   -- 3. The lines.
   true-proved : (l : Literal) → IsTrueIn s l → IsProved s l

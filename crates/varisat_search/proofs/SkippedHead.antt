@@ -7,7 +7,7 @@ use Rattle.varisat_theory.specs.Membership.{◌∈◌}
 use Rattle.varisat_theory.specs.Literals.{Literal, Clause, variable_of, opposite}
 use Rattle.varisat_theory.proofs.Places.{∈-get_or}
 use Rattle.varisat_prop.specs.View.{View, clause_at, literal_at, implied_by, kept, WellFormed}
-use Rattle.varisat_prop.specs.Watches.{Watches, at, IsSettledTo, IsImpliedTo, IsPropagated}
+use Rattle.varisat_prop.specs.Watches.{Watches, literal_in, IsSettledTo, IsImpliedTo, IsPropagated}
 use Rattle.varisat_prop.proofs.KeptPairs.{implied-kept}
 use Rattle.varisat_prop.proofs.LiteralValues.{variable-opposite}
 use Rattle.varisat_prop.proofs.WellFormedChanges.{kept-here, well-moved}
@@ -30,7 +30,7 @@ module _ (s : View) (l : Literal) (w : WellFormed s) (here : slice_get s.trail s
       let c = clause_at s i in
       let k = kept-here s i a in
       let long = w.several c k in
-      absurd (unmentioned c k (at c j) (∈-get_or c j 0 (omega (arith, b, long))) (sym (variable-opposite (at c j)) ∙ ap variable_of (sym e ∙ at-head p h g))))
+      absurd (unmentioned c k (literal_in c j) (∈-get_or c j 0 (omega (arith, b, long))) (sym (variable-opposite (literal_in c j)) ∙ ap variable_of (sym e ∙ at-head p h g))))
       (cases_lt p s.queue_head)
 
   skipped-implied : IsImpliedTo s s.queue_head → IsImpliedTo skipped (s.queue_head + 1)

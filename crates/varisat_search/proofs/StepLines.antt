@@ -4,7 +4,7 @@ use Rattle.varisat_theory.specs.Membership.{◌∈◌}
 use Rattle.varisat_theory.specs.Literals.{Literal, Clause, opposite}
 use Rattle.varisat_theory.specs.Propagation.{IsComplete}
 use Rattle.varisat_theory.specs.Derivations.{Line}
-use Rattle.varisat_prop.specs.View.{View, kept, WellFormed, Grows}
+use Rattle.varisat_prop.specs.View.{View, kept, WellFormed, GrowsTrail}
 use Rattle.varisat_prop.proofs.TrailValues.{on-trail, trail-true}
 use Rattle.varisat_search.specs.Steps.{IsTotal, assignment_of}
 use Rattle.varisat_search.specs.Seen.{search_of}
@@ -29,5 +29,5 @@ model-steps s w q o =
     (λ l h. makes-true s l (trail-true s w l h))
 
 -- the search went on before
-pub steps-after : (s u t : View) (v : Outcome) (lines : List Line) → WellFormed s → WellFormed u → Grows s u → Steps (search_of u) (search_of t) v lines → Steps (search_of s) (search_of t) v lines
+pub steps-after : (s u t : View) (v : Outcome) (lines : List Line) → WellFormed s → WellFormed u → GrowsTrail s u → Steps (search_of u) (search_of t) v lines → Steps (search_of s) (search_of t) v lines
 steps-after s u t v lines w x g p = part_step (search_of s) (search_of u) (search_of t) v [] lines (grows_prove s u w x g) p

@@ -4,7 +4,7 @@ use Rattle.varisat_theory.specs.Literals.{Literal, variable_of, literal_of}
 use Rattle.varisat_theory.specs.Propagation.{IsComplete}
 use Rattle.varisat_literals.specs.Numbers.{polarity_of}
 use Rattle.varisat_clause.specs.Databases.{Tracks}
-use Rattle.varisat_prop.specs.View.{View, kept, WellFormed, LevelsSettled, Grows}
+use Rattle.varisat_prop.specs.View.{View, kept, WellFormed, LevelsSettled, GrowsTrail}
 use Rattle.varisat_prop.specs.Watches.{IsPropagated}
 use Rattle.varisat_prop.specs.Changes.{decided_on}
 use Rattle.varisat_prop.specs.Looks.{Propagates}
@@ -22,7 +22,7 @@ use Rattle.varisat_search.proofs.LevelsSettled.{settled-grows, settled-decided}
 pub record Finding (s t : View) : Type 0 where
   pub well : WellFormed t
   pub settled : LevelsSettled t
-  pub grows : Grows s t
+  pub grows : GrowsTrail s t
 
 -- a ready search, in which nothing was looked for yet
 pub finding-begins : {A : Type 0} {x : Context A} → IsReady x → Finding (view x) (view x)

@@ -3,7 +3,7 @@ use Rattle.std.proofs.Common.{◌++◌, map, ap, ◌≡◌, ℕ, ◌<◌, ◌≤
 use Rattle.varisat_theory.specs.Rank.{rank}
 use Rattle.varisat_theory.proofs.Ranks.{rank_grows, rank_steady}
 use Rattle.std.proofs.lemmas.List.{length-map}
-use Rattle.varisat_prop.specs.View.{View, WellFormed, Grows, node_of, is_implied, kinds}
+use Rattle.varisat_prop.specs.View.{View, WellFormed, GrowsTrail, node_of, is_implied, kinds}
 use Rattle.varisat_prop.proofs.ViewGrowth.{kinds-more}
 use Rattle.varisat_prop.proofs.TrailValues.{trail-short}
 
@@ -22,5 +22,5 @@ rises-longer s u t more w x y e d c r n h =
     rank_steady m n (kinds s) (kinds t) (kinds-short s m (omega (arith, k, d))) (kinds-short t m (omega (arith, l, c))) (kinds-short s n h) (omega (arith, a, b, p))
 
 -- the search went on before it learned
-pub rises-after : (s u t : View) → WellFormed s → WellFormed u → WellFormed t → Grows s u → length t.values ≡ length u.values → ((n : ℕ) → length u.trail ≤ n → rank n (kinds u) < rank n (kinds t)) → (n : ℕ) → length s.trail ≤ n → rank n (kinds s) < rank n (kinds t)
+pub rises-after : (s u t : View) → WellFormed s → WellFormed u → WellFormed t → GrowsTrail s u → length t.values ≡ length u.values → ((n : ℕ) → length u.trail ≤ n → rank n (kinds u) < rank n (kinds t)) → (n : ℕ) → length s.trail ≤ n → rank n (kinds s) < rank n (kinds t)
 rises-after s u t w x y g = rises-longer s u t (map (λ l. is_implied (node_of u l)) g.trail_more.0) w x y (kinds-more s u g) g.count

@@ -4,7 +4,7 @@ use Rattle.varisat_theory.specs.Membership.{◌∈◌, IsDistinct}
 use Rattle.varisat_theory.specs.Literals.{Literal, Clause, IsUnit}
 use Rattle.varisat_theory.proofs.Members.{∈-append_left, ∈-append_right, ∈-append_cases}
 use Rattle.varisat_theory.proofs.Places.{∈-get_or, place_in}
-use Rattle.varisat_prop.specs.View.{View, kept, literal_at, node_of, level_of, WellFormed, IsFixed, ViewFits, Grows}
+use Rattle.varisat_prop.specs.View.{View, kept, literal_at, node_of, level_of, WellFormed, IsFixed, ViewFits, GrowsTrail}
 use Rattle.varisat_prop.proofs.ViewGrowth.{literal-stays, grows-longer}
 use Rattle.varisat_prop.proofs.TrailValues.{trail-true}
 use Rattle.varisat_theory.specs.Outcomes.{Proves}
@@ -30,7 +30,7 @@ no_unit l [] n q u = omega (arith, n)
 no_unit l (a ∷ []) n q u = omega (arith, n)
 no_unit l (a ∷ b ∷ d) n q u = q.0 (inl (u.1 a (inl refl) ∙ sym (u.1 b (inr (inl refl)))))
 
-module _ (s t : View) (w : WellFormed s) (v : WellFormed t) (g : Grows s t) where
+module _ (s t : View) (w : WellFormed s) (v : WellFormed t) (g : GrowsTrail s t) where
   -- the least that is held
   abbrev least : List Clause
   least = kept s ++ unit_clauses (search_of s).proved

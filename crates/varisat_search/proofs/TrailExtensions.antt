@@ -1,6 +1,6 @@
 -- What is remembered as a search goes on.
 use Rattle.std.proofs.Common.{◌≡◌, ℕ, Bool, Option, List, [], ◌++◌, length, sym, ap, ◌∙◌, append_assoc}
-use Rattle.varisat_prop.specs.View.{View, WellFormed, Grows}
+use Rattle.varisat_prop.specs.View.{View, WellFormed, GrowsTrail}
 use Rattle.varisat_prop.proofs.ViewGrowth.{append-nil}
 use Rattle.varisat_theory.specs.Literals.{Literal}
 use Rattle.varisat_search.specs.Steps.{SavesSome, ExtendsTrail, Remembers}
@@ -27,10 +27,10 @@ extends-same s t w e f g = record {
   decisions_more = ([], g ∙ sym (append-nil s.decisions));
 }
 
-pub extends-grown : (s t : View) → WellFormed t → Grows s t → ExtendsTrail s t
+pub extends-grown : (s t : View) → WellFormed t → GrowsTrail s t → ExtendsTrail s t
 extends-grown s t w g = record { count = g.count; is_true = w.is_true; trail_more = g.trail_more; decisions_more = g.decisions_more }
 
-pub remembers-grown : (s u : View) (old new : List Bool) → WellFormed u → Grows s u → SavesSome u old new → Remembers s old new
+pub remembers-grown : (s u : View) (old new : List Bool) → WellFormed u → GrowsTrail s u → SavesSome u old new → Remembers s old new
 remembers-grown s u old new w g v = (u, extends-grown s u w g, v)
 
 pub remembers-after : (s t : View) (old new : List Bool) → ExtendsTrail s t → Remembers t old new → Remembers s old new

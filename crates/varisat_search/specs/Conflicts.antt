@@ -6,8 +6,8 @@ use Rattle.varisat_prop.specs.declared.prop.graph.Reason.TheVariants as reason
 use Rattle.varisat_clause.specs.declared.header.Tier.TheVariants as tier
 use Rattle.varisat_clause.specs.Tiers.{is_tier}
 use Rattle.varisat_clause.specs.Headers.{Header}
-use Rattle.varisat_clause.specs.Stored.{StoredClause, Keeps}
-use Rattle.varisat_clause.specs.Stores.{Store, Adds}
+use Rattle.varisat_clause.specs.Stored.{StoredClause, AppendsClause}
+use Rattle.varisat_clause.specs.Stores.{Store, AddsStored}
 use Rattle.varisat_prop.specs.View.{View}
 use Rattle.varisat_prop.specs.Changes.{IsConflicting}
 use Rattle.varisat_prop.specs.Pairs.{with_pair}
@@ -36,13 +36,13 @@ abbrev pub IsKeptAsReason : Keeping → Keeping → Clause → Reason → Type 0
 IsKeptAsReason old new [] r = (new ≡ old) × (r ≡ reason.Unit)
 IsKeptAsReason old new (l ∷ []) r = (new ≡ old) × (r ≡ reason.Unit)
 IsKeptAsReason old new (l ∷ m ∷ []) r = (new ≡ record old { binary = with_pair old.binary l m }) × (r ≡ reason.Binary (m ∷ []))
-IsKeptAsReason old new (l ∷ m ∷ n ∷ c) r = (new.binary ≡ old.binary) × ((p : ℕ) × (h : Header) × (is_tier h.tier tier.Irred ≡ false) × Keeps old.clauses new.clauses (learned_at p h (l ∷ m ∷ n ∷ c)) × (r ≡ reason.Long p))
+IsKeptAsReason old new (l ∷ m ∷ n ∷ c) r = (new.binary ≡ old.binary) × ((p : ℕ) × (h : Header) × (is_tier h.tier tier.Irred ≡ false) × AppendsClause old.clauses new.clauses (learned_at p h (l ∷ m ∷ n ∷ c)) × (r ≡ reason.Long p))
 
 -- the clause is added to the store with the header where the reason names it there
 abbrev pub IsStoredAsReason : Store → Store → Header → Clause → Reason → Type 0
 IsStoredAsReason s t h c reason.Unit = t ≡ s
 IsStoredAsReason s t h c (reason.Binary ms) = t ≡ s
-IsStoredAsReason s t h c (reason.Long p) = Adds s t (learned_at p h c)
+IsStoredAsReason s t h c (reason.Long p) = AddsStored s t (learned_at p h c)
 
 -- the clause is watched where it is kept as the reason
 abbrev pub IsWatchedAsReason : Watches → Watches → Clause → Reason → Type 0

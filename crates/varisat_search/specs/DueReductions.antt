@@ -2,7 +2,7 @@
 use Rattle.std.specs.Prelude.{◌≡◌, ◌≢◌, ◌*◌, ◌%◌, ◌<◌, ◌≤◌, List, length}
 use Rattle.varisat_theory.specs.Derivations.{Line}
 use Rattle.varisat_theory.specs.Outcomes.{Proves}
-use Rattle.varisat_clause.specs.Stores.{Store, clauses_of, Holds}
+use Rattle.varisat_clause.specs.Stores.{Store, stored_clauses, HoldsClauses}
 use Rattle.varisat_clause.specs.Collected.{IsCollected}
 use Rattle.varisat_clause.specs.Reductions.{ReducesLocals, mids_reduced}
 use Rattle.varisat_search.specs.declared.context.Context.{Context}
@@ -19,20 +19,20 @@ use Rattle.varisat_search.specs.SettledUnits.{SettlesFirst}
 -- At each step whose number is a multiple of the interval half of the Local clauses go, but for reasons, and at others
 -- nothing changes.
 pub record ReducesLocalsIfDue {A : Type 0} (x y : Context A) : Type 0 where
-  pub reduced : x.schedule.steps % x.solver_config.reduce_locals_interval ≡ 0 → (marked : Store) × Holds marked (length x.clause_alloc.words) (reasons_marked x.assignment.current x.impl_graph.nodes.items (clauses_of x.clause_alloc)) × ReducesLocals marked y.clause_alloc
+  pub reduced : x.schedule.steps % x.solver_config.reduce_locals_interval ≡ 0 → (marked : Store) × HoldsClauses marked (length x.clause_alloc.words) (reasons_marked x.assignment.current x.impl_graph.nodes.items (stored_clauses x.clause_alloc)) × ReducesLocals marked y.clause_alloc
   pub discards : x.schedule.steps % x.solver_config.reduce_locals_interval ≡ 0 → Discards (view x) (view y)
   pub stays : x.schedule.steps % x.solver_config.reduce_locals_interval ≢ 0 → y ≡ x
 
 -- At each step whose number is a multiple of the interval Mid clauses become Local or lose their flag, and at others
 -- nothing changes.
 pub record ReducesMidsIfDue {A : Type 0} (x y : Context A) : Type 0 where
-  pub reduced : x.schedule.steps % x.solver_config.reduce_mids_interval ≡ 0 → Holds y.clause_alloc (length x.clause_alloc.words) (mids_reduced (clauses_of x.clause_alloc))
+  pub reduced : x.schedule.steps % x.solver_config.reduce_mids_interval ≡ 0 → HoldsClauses y.clause_alloc (length x.clause_alloc.words) (mids_reduced (stored_clauses x.clause_alloc))
   pub headers : x.schedule.steps % x.solver_config.reduce_mids_interval ≡ 0 → ChangesHeaders (view x) (view y)
   pub stays : x.schedule.steps % x.solver_config.reduce_mids_interval ≢ 0 → y ≡ x
 
 -- Where more than half of the words are garbage it is collected, and else nothing changes.
 pub record CollectsIfDue {A : Type 0} (x y : Context A) : Type 0 where
-  pub collected : length x.clause_alloc.words < 2 * x.clause_db.garbage → IsCollected y.clause_alloc y.clause_db (clauses_of x.clause_alloc)
+  pub collected : length x.clause_alloc.words < 2 * x.clause_db.garbage → IsCollected y.clause_alloc y.clause_db (stored_clauses x.clause_alloc)
   pub repacks : length x.clause_alloc.words < 2 * x.clause_db.garbage → Repacks (view x) (view y)
   pub stays : 2 * x.clause_db.garbage ≤ length x.clause_alloc.words → y ≡ x
 

@@ -1,11 +1,12 @@
 -- What a search is once it forgets variables: `gone` says of each variable whether it leaves.
-use Rattle.std.specs.Prelude.{◌≡◌, Bool, false, not, None, List, length}
+use Rattle.std.specs.Prelude.{◌≡◌, ◌↔◌, ◌⊎◌, ℕ, Bool, false, not, None, List, [], length, slice_index_or}
 use Rattle.std.specs.List.{filter, list_any}
 use Rattle.varisat_theory.specs.Membership.{◌∈◌}
 use Rattle.varisat_theory.specs.Literals.{Literal, Clause, variable_of}
 use Rattle.varisat_theory.specs.Searches.{Search}
 use Rattle.varisat_prop.specs.Leaving.{leaves, staying, cleared, AreRenumbered}
-use Rattle.varisat_prop.specs.View.{View}
+use Rattle.varisat_prop.specs.View.{View, kept}
+use Rattle.varisat_analysis.specs.Flags.{IsFlagged}
 use Rattle.varisat_vsids.specs.Activities.{Activities}
 
 -- no literal is of a variable that leaves
@@ -28,3 +29,22 @@ search_without gone x = record x { fixed = staying gone x.fixed; proved = stayin
 -- the clauses that name no variable that leaves
 abbrev pub clauses_without : List Bool → List Clause → List Clause
 clauses_without gone P = filter (λ c. not (list_any (λ l. leaves gone (variable_of l)) c)) P
+
+-- one of the clauses names the variable
+abbrev pub IsMentioned : List Clause → ℕ → Type 0
+IsMentioned P v = (c : Clause) × (c ∈ P) × (l : Literal) × (l ∈ c) × (variable_of l ≡ v)
+
+-- For each variable it says whether a kept clause names it.
+pub record FlagsMentioned (s : View) (flags : List Bool) : Type 0 where
+  pub count : length flags ≡ length s.values
+  pub flagged : (v : ℕ) → IsFlagged flags v ↔ IsMentioned (kept s) v
+
+-- The flags of just those variables were set that one of the clauses names.
+pub record FlagsAlso (P : List Clause) (old new : List Bool) : Type 0 where
+  pub count : length new ≡ length old
+  pub flagged : (v : ℕ) → IsFlagged new v ↔ (IsFlagged old v ⊎ IsMentioned P v)
+
+-- The flags of just those variables were set of which a literal implies others.
+pub record FlagsImplying (B : List (List Literal)) (old new : List Bool) : Type 0 where
+  pub count : length new ≡ length old
+  pub flagged : (v : ℕ) → IsFlagged new v ↔ (IsFlagged old v ⊎ ((l m : Literal) × (m ∈ slice_index_or B l []) × (variable_of l ≡ v)))

@@ -13,3 +13,6 @@ pub mod AssumptionParts
 pub mod ProvedUnits
 pub mod Simplifications
 pub mod SettledUnits
+pub mod GlobalModels
+pub mod NamesAndModes
+pub mod SolverVariables

@@ -5,7 +5,7 @@ use Rattle.varisat_theory.specs.Literals.{Literal, Clause, opposite}
 use Rattle.varisat_theory.specs.Outcomes.{Outcome, Unknown, Unsat}
 use Rattle.varisat_prop.specs.declared.prop.graph.Reason.TheVariants as reason
 use Rattle.varisat_clause.specs.Headers.{no_header}
-use Rattle.varisat_clause.specs.Stored.{StoredClause, Keeps}
+use Rattle.varisat_clause.specs.Stored.{StoredClause, AppendsClause}
 use Rattle.varisat_prop.specs.Parts.{IsMadeTrue}
 use Rattle.varisat_prop.specs.View.{View, kept, IsTrueIn}
 use Rattle.varisat_prop.specs.Changes.{enqueued}
@@ -38,7 +38,7 @@ abbrev pub IsAdded : View → View → Clause → SatState → SatState → Type
 IsAdded s t [] before after = (t ≡ s) × (after ≡ verdict.Unsat)
 IsAdded s t (l ∷ []) before after = (IsTrueIn s (opposite l) × (t ≡ s) × (after ≡ verdict.Unsat)) ⊎ (IsFree s l × (t ≡ enqueued s l reason.Unit) × (after ≡ before))
 IsAdded s t (l ∷ m ∷ []) before after = IsHeadAfter s.values (l ∷ m ∷ []) s.queue_head t.queue_head × (t ≡ record s { binary = with_pair s.binary l m; queue_head = t.queue_head }) × (after ≡ before)
-IsAdded s t (l ∷ m ∷ n ∷ c) before after = (p : ℕ) × Keeps s.clauses t.clauses (loaded_at p (l ∷ m ∷ n ∷ c)) × IsHeadAfter s.values (l ∷ m ∷ n ∷ c) s.queue_head t.queue_head × (t ≡ record s { clauses = t.clauses; queue_head = t.queue_head }) × (after ≡ before)
+IsAdded s t (l ∷ m ∷ n ∷ c) before after = (p : ℕ) × AppendsClause s.clauses t.clauses (loaded_at p (l ∷ m ∷ n ∷ c)) × IsHeadAfter s.values (l ∷ m ∷ n ∷ c) s.queue_head t.queue_head × (t ≡ record s { clauses = t.clauses; queue_head = t.queue_head }) × (after ≡ before)
 
 -- A single literal is loaded: the kept clauses stay, and where nothing was decided the trail has at most this literal more, and the queue's head stays.
 pub record LoadsUnit (s t : View) (l : Literal) : Type 0 where

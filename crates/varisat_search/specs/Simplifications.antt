@@ -10,7 +10,7 @@ use Rattle.varisat_prop.specs.Parts.{value_in, is_true_value}
 use Rattle.varisat_prop.specs.Looks.{IsInRange}
 use Rattle.varisat_prop.specs.Pairs.{with_pair}
 use Rattle.varisat_prop.specs.View.{View, pairs_from, kept}
-use Rattle.varisat_prop.specs.Watches.{at}
+use Rattle.varisat_prop.specs.Watches.{literal_in}
 use Rattle.varisat_prop.specs.Simplified.{is_unassigned, are_unassigned, without_assigned}
 
 -- a literal of the clause is true
@@ -46,7 +46,7 @@ left_pairs values ks = map (λ k. unassigned values k.literals) (filter (λ k. b
 -- the clauses of two literals are kept too
 abbrev pub with_pairs : List (List Literal) → List Clause → List (List Literal)
 with_pairs B [] = B
-with_pairs B (c ∷ cs) = with_pairs (with_pair B (at c 0) (at c 1)) cs
+with_pairs B (c ∷ cs) = with_pairs (with_pair B (literal_in c 0) (literal_in c 1)) cs
 
 -- Of the clauses of two literals those without assigned ones are kept. Of the others those without true literals are
 -- kept, without the false ones; where two literals are left, as a clause of two literals.
@@ -84,7 +84,7 @@ pub record LeavesOpen (values : List (Option Bool)) (k j : StoredClause) (before
 
 -- The clause has two different literals, for whose opposites there are lists.
 pub record IsPairIn (B : List (List Literal)) (c : Clause) : Type 0 where
-  pub is : c ≡ at c 0 ∷ at c 1 ∷ []
-  pub first : opposite (at c 0) < length B
-  pub second : opposite (at c 1) < length B
-  pub other : at c 0 ≢ at c 1
+  pub is : c ≡ literal_in c 0 ∷ literal_in c 1 ∷ []
+  pub first : opposite (literal_in c 0) < length B
+  pub second : opposite (literal_in c 1) < length B
+  pub other : literal_in c 0 ≢ literal_in c 1

@@ -1,7 +1,7 @@
 //! What a conflict does to the activities of variables.
 ghost use Rattle.std.specs.Prelude.{◌≡◌, ◌<◌, [], length};
 ghost use Rattle.varisat_theory.specs.Membership.{◌∈◌};
-ghost use Rattle.varisat_prop.specs.Changes.{IsNamed};
+ghost use Rattle.varisat_prop.specs.Changes.{NamesKeptClause};
 ghost use Rattle.varisat_analysis.specs.Bumps.{BumpsInvolved};
 ghost use Rattle.varisat_search.specs.Contexts.{view, IsReady};
 ghost use Rattle.varisat_search.specs.Decisions.{HasActivities};
@@ -14,7 +14,7 @@ use varisat_analysis::bumps::bump_each_once;
 /// decay. Without decisions nothing happens.
 pub fn bump_involved<A: Allocator + Copy>(ctx: &mut Context<A>)
     requires ready { IsReady ctx.old }
-    requires named { (f : _) → f ∈ ctx.old.analyze_conflict.involved → IsNamed (view ctx.old) f }
+    requires named { (f : _) → f ∈ ctx.old.analyze_conflict.involved → NamesKeptClause (view ctx.old) f }
     ensures undecided { ctx.old.trail.decisions ≡ [] → ctx.new ≡ ctx.old }
     ensures bumps { 0 < length ctx.old.trail.decisions → BumpsInvolved (view ctx.old) ctx.old.analyze_conflict.involved ctx.old.vsids ctx.new.vsids }
     ensures available { ctx.new.vsids.available ≡ ctx.old.vsids.available }

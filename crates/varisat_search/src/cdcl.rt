@@ -8,7 +8,7 @@ ghost use Rattle.varisat_clause.specs.Tiers.{is_tier};
 ghost use Rattle.varisat_clause.specs.Stores.{Store};
 ghost use Rattle.varisat_clause.specs.Databases.{Tracks};
 ghost use Rattle.varisat_clause.specs.Collected.{live_clauses};
-ghost use Rattle.varisat_prop.specs.View.{View, kept, Grows};
+ghost use Rattle.varisat_prop.specs.View.{View, kept, GrowsTrail};
 ghost use Rattle.varisat_prop.specs.Changes.{IsConflicting};
 ghost use Rattle.varisat_analysis.specs.Learned.{IsLearned, AreInvolved};
 ghost use Rattle.varisat_search.specs.Contexts.{view, KeepsSchedule, IsReady};
@@ -55,7 +55,7 @@ fn decide<A: Allocator + Copy>(
     requires complete { IsComplete (kept (view ctx.old)) ctx.old.trail.literals }
     requires propagated { ctx.old.trail.queue_head ≡ length ctx.old.trail.literals }
     ensures ready { OnOk result (IsReady ctx.new) }
-    ensures grows { OnOk result (Grows (view ctx.old) (view ctx.new)) }
+    ensures grows { OnOk result (GrowsTrail (view ctx.old) (view ctx.new)) }
     ensures taken { OnOk result (TakesOutImplied (view ctx.old) ctx.old.assumptions ctx.new.assumptions) }
     ensures decided { IfOk result (λ decided. MatchResult decided
         (λ made. MatchBool made (length ctx.old.trail.literals < length ctx.new.trail.literals) ((view ctx.new ≡ view ctx.old) × EndsAssumed (view ctx.new) ctx.new.assumptions))
@@ -82,7 +82,7 @@ fn find_conflict<A: Allocator + Copy>(
 ) -> Result<Result<(), FoundConflict>, AllocError>
     requires { IsReady ctx.old }
     ensures ready { OnOk result (IsReady ctx.new) }
-    ensures grows { OnOk result (Grows (view ctx.old) (view ctx.new)) }
+    ensures grows { OnOk result (GrowsTrail (view ctx.old) (view ctx.new)) }
     ensures taken { OnOk result (TakesOutImplied (view ctx.old) ctx.old.assumptions ctx.new.assumptions) }
     ensures found { IfOk result (λ found. MatchResult found
         (λ _. IsComplete (kept (view ctx.new)) ctx.new.trail.literals × EndsAssumed (view ctx.new) ctx.new.assumptions)

@@ -1,6 +1,6 @@
 //! The collection of the words of deleted clauses in a search.
 ghost use Rattle.std.specs.Prelude.{◌≡◌, ◌<◌, ◌≤◌, ◌*◌, length, OnOk, OnErr};
-ghost use Rattle.varisat_clause.specs.Stores.{clauses_of};
+ghost use Rattle.varisat_clause.specs.Stores.{stored_clauses};
 ghost use Rattle.varisat_clause.specs.Collected.{IsCollected};
 ghost use Rattle.varisat_analysis.specs.Collections.{Repacks};
 ghost use Rattle.varisat_search.specs.Contexts.{view, IsReady};
@@ -14,7 +14,7 @@ use varisat_clause::collect::{collected, is_collection_due};
 /// the watch lists are switched off, since they name clauses by their old places. A refused growth changes nothing.
 fn collect<A: Allocator + Copy>(ctx: &mut Context<A>) -> Result<(), AllocError>
     requires { IsReady ctx.old }
-    ensures collected { OnOk result (IsCollected ctx.new.clause_alloc ctx.new.clause_db (clauses_of ctx.old.clause_alloc)) }
+    ensures collected { OnOk result (IsCollected ctx.new.clause_alloc ctx.new.clause_db (stored_clauses ctx.old.clause_alloc)) }
     ensures repacks { OnOk result (Repacks (view ctx.old) (view ctx.new)) }
     ensures ready { OnOk result (IsReady ctx.new) }
     ensures kept { ctx.new ≡ record ctx.old { clause_alloc = ctx.new.clause_alloc; clause_db = ctx.new.clause_db; impl_graph = ctx.new.impl_graph; watchlists = ctx.new.watchlists } }
@@ -37,7 +37,7 @@ fn collect<A: Allocator + Copy>(ctx: &mut Context<A>) -> Result<(), AllocError>
 /// was refused.
 pub fn collect_garbage<A: Allocator + Copy>(ctx: &mut Context<A>) -> Result<(), AllocError>
     requires { IsReady ctx.old }
-    ensures collected { OnOk result (length ctx.old.clause_alloc.words < 2 * ctx.old.clause_db.garbage → IsCollected ctx.new.clause_alloc ctx.new.clause_db (clauses_of ctx.old.clause_alloc)) }
+    ensures collected { OnOk result (length ctx.old.clause_alloc.words < 2 * ctx.old.clause_db.garbage → IsCollected ctx.new.clause_alloc ctx.new.clause_db (stored_clauses ctx.old.clause_alloc)) }
     ensures repacks { OnOk result (length ctx.old.clause_alloc.words < 2 * ctx.old.clause_db.garbage → Repacks (view ctx.old) (view ctx.new)) }
     ensures stays { OnOk result (2 * ctx.old.clause_db.garbage ≤ length ctx.old.clause_alloc.words → ctx.new ≡ ctx.old) }
     ensures ready { OnOk result (IsReady ctx.new) }

@@ -1,20 +1,26 @@
 //! Forgetting variables: a search goes on without them, and they may come into use again.
-ghost use Rattle.std.specs.Prelude.{◌≡◌, ℕ, List, ◌<◌, ◌≤◌, ◌+◌, ◌-◌, ◌^◌, ◌↔◌, None, false, length, map, min};
+ghost use Rattle.std.specs.Prelude.{◌≡◌, ℕ, List, ◌<◌, ◌≤◌, ◌+◌, ◌-◌, ◌*◌, ◌^◌, ◌↔◌, ◌∷◌, None, [], false, length, map, min, IfOk};
 ghost use Rattle.varisat_theory.specs.Membership.{◌∈◌, IsDistinct};
 ghost use Rattle.varisat_theory.specs.Literals.{Literal, Clause, variable_of};
 ghost use Rattle.varisat_theory.specs.Searches.{Fits};
 ghost use Rattle.varisat_literals.specs.Numbers.{variable_limit};
+ghost use Rattle.varisat_clause.specs.Stored.{literals_of};
+ghost use Rattle.varisat_clause.specs.Stores.{IsSound};
+ghost use Rattle.varisat_clause.specs.Collected.{live_clauses};
 ghost use Rattle.varisat_prop.specs.Leaving.{leaves, cleared, AreRenumbered};
 ghost use Rattle.varisat_prop.specs.View.{kept};
 ghost use Rattle.varisat_search.specs.Contexts.{view, IsReady};
 ghost use Rattle.varisat_search.specs.Decisions.{IsDecidable};
-ghost use Rattle.varisat_search.specs.Forgotten.{AreStaying, IsWithout, forgotten_activities, search_without, clauses_without};
+ghost use Rattle.varisat_search.specs.Forgotten.{AreStaying, IsWithout, FlagsMentioned, FlagsAlso, FlagsImplying, forgotten_activities, search_without, clauses_without};
 ghost use Rattle.varisat_search.specs.Seen.{search_of};
 ghost use Rattle.varisat_search.specs.SettledUnits.{IsSettledDown};
 
 use crate::context::Context;
-use std::alloc::Allocator;
+use std::alloc::{AllocError, Allocator};
+use varisat_clause::alloc::ClauseAlloc;
+use varisat_clause::iter::clauses_iter;
 use varisat_literals::{Lit, Var};
+use varisat_prop::binary::BinaryClauses;
 use varisat_prop::prop::{Assignment, ImplGraph};
 use varisat_vsids::Vsids;
 
@@ -86,4 +92,53 @@ pub fn drop_variables<A: Allocator + Copy>(ctx: &mut Context<A>, gone: &[bool])
     renumber(&mut ctx.impl_graph, ctx.trail.trail());
     forget_values(&mut ctx.assignment, gone);
     forget_activities(&mut ctx.vsids, gone);
+}
+
+/// Sets the flags of the literals' variables.
+fn flag_clause(flags: &mut [bool], lits: &[Lit])
+    requires { (l : Literal) → l ∈ lits.now → variable_of l < length flags.old }
+    ensures { FlagsAlso (lits.now ∷ []) flags.old flags.new }
+{
+    for lit in lits {
+        flags[lit.index()] = true;
+    }
+}
+
+/// Sets the flags of the variables that clauses of the store name, where these are not deleted.
+fn flag_stored<A: Allocator + Copy>(flags: &mut [bool], clause_alloc: &ClauseAlloc<A>)
+    requires sound { IsSound clause_alloc.now }
+    requires known { (c : Clause) → c ∈ literals_of (live_clauses clause_alloc.now) → (l : Literal) → l ∈ c → variable_of l < length flags.old }
+    ensures { FlagsAlso (literals_of (live_clauses clause_alloc.now)) flags.old flags.new }
+{
+    for cref in clauses_iter(clause_alloc) {
+        flag_clause(flags, clause_alloc.lits(cref));
+    }
+}
+
+/// Sets the flags of the variables of which a literal implies others, as the opposite of each literal of a clause of two
+/// does.
+fn flag_implying<A: Allocator + Copy>(flags: &mut [bool], binary_clauses: &BinaryClauses<A>)
+    requires known { length binary_clauses.now ≤ 2 * length flags.old }
+    requires small { length flags.old ≤ variable_limit }
+    ensures { FlagsImplying binary_clauses.now flags.old flags.new }
+{
+    for code in 0..binary_clauses.len() {
+        let lit = Lit::from_code(code);
+        if !binary_clauses.implied(lit).is_empty() {
+            flags[lit.index()] = true;
+        }
+    }
+}
+
+/// Says of each variable whether a kept clause names it.
+pub fn flag_mentioned<A: Allocator + Copy>(ctx: &Context<A>) -> Result<Vec<bool, A>, AllocError>
+    requires { IsReady ctx.now }
+    ensures { IfOk result (λ flags. FlagsMentioned (view ctx.now) flags.items) }
+{
+    let alloc = *ctx.tmp_data.lits.allocator();
+    let mut flags = Vec::new(alloc);
+    flags.resize(ctx.assignment.assignment().len(), false)?;
+    flag_stored(&mut flags, &ctx.clause_alloc);
+    flag_implying(&mut flags, &ctx.binary_clauses);
+    Ok(flags)
 }

@@ -11,9 +11,12 @@ pub mod decision;
 pub mod forgetting;
 pub mod levels;
 pub mod load;
+pub mod model;
 pub mod reduce;
 pub mod schedule;
+pub mod solver_variables;
 pub mod state;
 pub mod unit_simplify;
+pub mod variables;
 
 pub use varisat_analysis::{analyze_conflict, glue, tmp};

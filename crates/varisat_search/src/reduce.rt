@@ -2,7 +2,7 @@
 ghost use Rattle.std.specs.Prelude.{◌≡◌, length, OnOk, List};
 ghost use Rattle.varisat_theory.specs.Derivations.{Line};
 ghost use Rattle.varisat_theory.specs.Outcomes.{Proves};
-ghost use Rattle.varisat_clause.specs.Stores.{Store, clauses_of, Holds};
+ghost use Rattle.varisat_clause.specs.Stores.{Store, stored_clauses, HoldsClauses};
 ghost use Rattle.varisat_clause.specs.Reductions.{ReducesLocals, mids_reduced};
 ghost use Rattle.varisat_analysis.specs.HeaderChanges.{ChangesHeaders};
 ghost use Rattle.varisat_analysis.specs.Reductions.{reasons_marked, Discards};
@@ -20,7 +20,7 @@ use varisat_clause::reduce;
 /// deleted clauses. Where a growth was refused only marks change.
 pub fn reduce_locals<A: Allocator + Copy>(ctx: &mut Context<A>) -> Result<(), AllocError>
     requires { IsReady ctx.old }
-    ensures reduced { OnOk result ((marked : Store) × Holds marked (length ctx.old.clause_alloc.words) (reasons_marked ctx.old.assignment.current ctx.old.impl_graph.nodes.items (clauses_of ctx.old.clause_alloc)) × ReducesLocals marked ctx.new.clause_alloc) }
+    ensures reduced { OnOk result ((marked : Store) × HoldsClauses marked (length ctx.old.clause_alloc.words) (reasons_marked ctx.old.assignment.current ctx.old.impl_graph.nodes.items (stored_clauses ctx.old.clause_alloc)) × ReducesLocals marked ctx.new.clause_alloc) }
     ensures discards { OnOk result (Discards (view ctx.old) (view ctx.new)) }
     ensures proves { OnOk result ((lines : List Line) × Proves 0 (search_of (view ctx.old)) (search_of (view ctx.new)) lines) }
     ensures ready { OnOk result (IsReady ctx.new) }
@@ -36,7 +36,7 @@ pub fn reduce_locals<A: Allocator + Copy>(ctx: &mut Context<A>) -> Result<(), Al
 /// growth was refused this is done for the first clauses alone.
 pub fn reduce_mids<A: Allocator + Copy>(ctx: &mut Context<A>) -> Result<(), AllocError>
     requires { IsReady ctx.old }
-    ensures reduced { OnOk result (Holds ctx.new.clause_alloc (length ctx.old.clause_alloc.words) (mids_reduced (clauses_of ctx.old.clause_alloc))) }
+    ensures reduced { OnOk result (HoldsClauses ctx.new.clause_alloc (length ctx.old.clause_alloc.words) (mids_reduced (stored_clauses ctx.old.clause_alloc))) }
     ensures headers { OnOk result (ChangesHeaders (view ctx.old) (view ctx.new)) }
     ensures ready { OnOk result (IsReady ctx.new) }
     ensures kept { ctx.new ≡ record ctx.old { clause_alloc = ctx.new.clause_alloc; clause_db = ctx.new.clause_db } }

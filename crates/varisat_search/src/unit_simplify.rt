@@ -5,8 +5,8 @@ ghost use Rattle.varisat_theory.specs.Literals.{Literal, Clause, variable_of};
 ghost use Rattle.varisat_theory.specs.Propagation.{IsComplete};
 ghost use Rattle.varisat_theory.specs.Outcomes.{Proves};
 ghost use Rattle.varisat_theory.specs.StepLaws.{unit_lines};
-ghost use Rattle.varisat_clause.specs.Stored.{IsPlace, stored_at, literals_at, with_clause};
-ghost use Rattle.varisat_clause.specs.Stores.{clauses_of, IsSound, Holds};
+ghost use Rattle.varisat_clause.specs.Stored.{IsPlace, stored_at, literals_at, with_stored};
+ghost use Rattle.varisat_clause.specs.Stores.{stored_clauses, IsSound, HoldsClauses};
 ghost use Rattle.varisat_prop.specs.declared.prop.graph.Reason.TheVariants as reason;
 ghost use Rattle.varisat_prop.specs.Looks.{IsInRange};
 ghost use Rattle.varisat_prop.specs.View.{kept, node_at};
@@ -82,10 +82,10 @@ fn write_front(lits: &mut [Lit], front: &[Lit])
 /// Leaves these literals of the clause, three or more. The words of the others become a gap.
 fn shrink<A: Allocator + Copy>(alloc: &mut ClauseAlloc<A>, cref: ClauseRef, left: &[Lit])
     requires sound { IsSound alloc.old }
-    requires place { IsPlace (clauses_of alloc.old) cref }
+    requires place { IsPlace (stored_clauses alloc.old) cref }
     requires least { 3 ≤ length left.now }
-    requires most { length left.now ≤ length (literals_at (clauses_of alloc.old) cref) }
-    ensures { Holds alloc.new (length alloc.old.words) (with_clause (clauses_of alloc.old) cref (shortened_to left.now (stored_at (clauses_of alloc.old) cref))) }
+    requires most { length left.now ≤ length (literals_at (stored_clauses alloc.old) cref) }
+    ensures { HoldsClauses alloc.new (length alloc.old.words) (with_stored (stored_clauses alloc.old) cref (shortened_to left.now (stored_at (stored_clauses alloc.old) cref))) }
 {
     write_front(alloc.lits_mut(cref), left);
     alloc.shorten(cref, left.len());

@@ -80,6 +80,7 @@ fn sift(activity: &[u64], heap: &mut [Var], position: &mut [u32], len: usize, at
     ensures heap { IsHeap activity.now heap.new position.new len }
     ensures available { availability len position.new ≡ availability len position.old }
 {
+    // One of the two loops does nothing: a variable that rises had no greater child, nor has it one where it comes to.
     let mut place = at;
     'up: while let Some(above) = lesser_parent(activity, heap, place) {
         exchange(heap, position, place, above);
@@ -111,6 +112,7 @@ pub fn take_out(activity: &[u64], heap: &mut [Var], position: &mut [u32], len: u
     ensures heap { IsHeap activity.now heap.new position.new (len - 1) }
     ensures available { availability (len - 1) position.new ≡ slice_set (availability len position.old) (slice_index heap.old place) false }
 {
+    // The last one takes its place. As it comes from another branch it may belong above that place as well as below it.
     let last = len - 1;
     exchange(heap, position, place, last);
     if place < last {

@@ -87,6 +87,7 @@ impl<A: Allocator + Copy> Vsids<A> {
         ensures raised { OnOk result (self.new ≡ raised_to count self.old) }
         ensures refused { OnErr result (self.new ≡ self.old) }
     {
+        // All lists get their room before the first one grows, so that a refusal leaves them equally long.
         let more = count - self.activity.len();
         self.activity.reserve(more)?;
         self.heap.reserve(more)?;
@@ -143,6 +144,7 @@ impl<A: Allocator + Copy> Vsids<A> {
         ensures decayed { self.new ≡ decayed self.old }
         ensures count { length self.new.activity ≡ length self.old.activity }
     {
+        // The product may be 2^64 or more, the quotient is not: the increment is below 2^60, and the decay at least 500.
         self.increment = (self.increment as u128 * 1000 / self.decay as u128) as u64;
         if self.increment >= ACTIVITY_LIMIT {
             self.increment = rescale(&mut self.activity, self.increment);

@@ -329,6 +329,7 @@ fn release_and_delete<A: Allocator + Copy>(
     ensures names_refused { OnErr result (names.new.pairs ≡ names.old.pairs) }
     ensures globals_refused { OnErr result (globals.new.kept ≡ globals.old.kept) }
 {
+    // Both lists of what is free may have to grow. Where the second may not, the variable comes back as it was.
     let kept = *globals.data(variable);
     globals.delete(variable)?;
     if let Err(error) = names.release(variable, name) {

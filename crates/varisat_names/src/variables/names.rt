@@ -88,6 +88,7 @@ impl<A: Allocator + Copy> NameSpace<A> {
         ensures refused { OnErr result (self.new.pairs ≡ self.old.pairs) }
         ensures listed { AreFree self.new.pairs.forward self.new.free }
     {
+        // A name at the watermark is on no list.
         let watermark = self.pairs.fwd().watermark();
         self.pairs.insert(variable, name)?;
         if name.index() < watermark {
@@ -104,6 +105,7 @@ impl<A: Allocator + Copy> NameSpace<A> {
         ensures refused { OnErr result (self.new.pairs ≡ self.old.pairs) }
         ensures listed { AreFree self.new.pairs.forward self.new.free }
     {
+        // Only the list may have to grow, so it comes first.
         self.free.insert(name.index())?;
         self.pairs.remove(name);
         Ok(())

@@ -204,6 +204,7 @@ impl<A: Allocator + Copy> VarBiMap<A> {
         ensures joined { OnOk result (IsJoined self.old self.new from into) }
         ensures refused { OnErr result (self.new ≡ self.old) }
     {
+        // Both maps grow before either says anything, and the first one shrinks again where the second may not grow.
         let watermark = self.fwd.watermark();
         self.fwd.reach(from)?;
         if let Err(error) = self.bwd.reach(into) {

@@ -1,7 +1,7 @@
 //! Filters over a clause store, and the list of a tier brought up to date: worked rows, and memory that is refused.
 ghost use Rattle.std.specs.Prelude.{◌≡◌, false, nat_lt};
 ghost use Rattle.varisat_clause.specs.Databases.{Tracks};
-ghost use Rattle.varisat_clause.specs.Stores.{clauses_of, IsSound};
+ghost use Rattle.varisat_clause.specs.Stores.{stored_clauses, IsSound};
 
 use super::clause::{FOUR_TIERS, add_all, counts, delete, is_deleted, set_tiers};
 use linked_list_allocator::LocalHeap;

@@ -11,7 +11,7 @@ ghost use Rattle.varisat_proof.specs.declared.checker.error.CheckVerdict.TheVari
 ghost use Rattle.varisat_proof.specs.declared.checker.error.CheckerError.TheVariants.{OutOfMemory, Spent};
 ghost use Rattle.varisat_proof.specs.Written.{line_of_kind};
 ghost use Rattle.varisat_proof.specs.Results.{IsResult};
-ghost use Rattle.varisat_proof.specs.Checks.{Stands, TakesLine, HasRead, ReadsPiece, EndsWith, result_at_end, ChecksLine, ChecksUnits, ChecksCore, RefusesText};
+ghost use Rattle.varisat_proof.specs.Checks.{StandsAfterLines, TakesLine, HasRead, ReadsPiece, EndsWith, result_at_end, ChecksLine, ChecksUnits, ChecksCore, RefusesText};
 ghost use Rattle.varisat_proof.specs.Calls.{CheckerState, IsRefusal, BecomesOrRefuses, AddsRead, AddsText, IsStep, Checks, IsOfBytes, spends};
 
 use crate::checker::error::{CheckVerdict, CheckerError};
@@ -254,7 +254,7 @@ impl<A: Allocator + Copy> Checker<A> {
         kind: LineKind,
         clause: &[Lit],
     ) -> Result<(), CheckerError>
-        ensures takes { (P : List Clause) (lines : List Line) → Stands P lines self.old.clauses count.old → TakesLine P (lines ++ line_of_kind kind clause.now ∷ []) result self.new.clauses count.new }
+        ensures takes { (P : List Clause) (lines : List Line) → StandsAfterLines P lines self.old.clauses count.old → TakesLine P (lines ++ line_of_kind kind clause.now ∷ []) result self.new.clauses count.new }
         ensures spent { self.new.spent ≡ self.old.spent }
     {
         if count.refuted {
@@ -288,7 +288,7 @@ impl<A: Allocator + Copy> Checker<A> {
         count: &mut Count,
         piece: &[u8],
     ) -> Result<(), CheckerError>
-        ensures reads { (f : ProofFormat) (P : List Clause) (text : List ℕ) (lines : List Line) → HasRead f text lines reader.old → Stands P lines self.old.clauses count.old → ReadsPiece f P (text ++ piece.now) result (record { present = self.new.clauses; count = count.new; progress = reader.new }) }
+        ensures reads { (f : ProofFormat) (P : List Clause) (text : List ℕ) (lines : List Line) → HasRead f text lines reader.old → StandsAfterLines P lines self.old.clauses count.old → ReadsPiece f P (text ++ piece.now) result (record { present = self.new.clauses; count = count.new; progress = reader.new }) }
         ensures spent { self.new.spent ≡ self.old.spent }
     {
         for b in piece {
@@ -315,7 +315,7 @@ impl<A: Allocator + Copy> Checker<A> {
         reader: &mut ProofReader<A>,
         count: &mut Count,
     ) -> Result<CheckVerdict, CheckerError>
-        ensures ends { (f : ProofFormat) (P : List Clause) (text : List ℕ) (lines : List Line) → HasRead f text lines reader.old → Stands P lines self.old.clauses count.old → EndsWith f P text result self.new.clauses }
+        ensures ends { (f : ProofFormat) (P : List Clause) (text : List ℕ) (lines : List Line) → HasRead f text lines reader.old → StandsAfterLines P lines self.old.clauses count.old → EndsWith f P text result self.new.clauses }
         ensures spent { self.new.spent ≡ self.old.spent }
     {
         let last = reader.last_fault();

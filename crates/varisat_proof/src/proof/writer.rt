@@ -4,7 +4,8 @@ ghost use Rattle.varisat_literals.specs.Numbers.{literal_text};
 ghost use Rattle.varisat_formula.specs.Written.{spaced_literals};
 ghost use Rattle.varisat_proof.specs.declared.proof.format.ProofFormat.TheVariants.{Drat, BinaryDrat};
 ghost use Rattle.varisat_proof.specs.Written.{leb128, leb128_by, codes_bytes, line_of_kind, line_text, line_bytes, line_written};
-ghost use Rattle.varisat_proof.specs.Steps.{lines_of, unit_lines, PutsLines};
+ghost use Rattle.varisat_proof.specs.Steps.{lines_of, PutsLines};
+ghost use Rattle.varisat_theory.specs.StepLaws.{unit_lines};
 
 use crate::proof::format::{LineKind, ProofFormat};
 use crate::proof::step::ProofStep;

@@ -7,9 +7,9 @@ ghost use Rattle.varisat_clause.specs.Collected.{live_clauses};
 ghost use Rattle.varisat_prop.specs.Parts.{IsMadeTrue};
 ghost use Rattle.varisat_prop.specs.View.{view_of};
 ghost use Rattle.varisat_prop.specs.Looks.{IsInRange, IsFalseAt};
-ghost use Rattle.varisat_prop.specs.Watches.{with_list, at, IsRearranged, IsSettledTo};
+ghost use Rattle.varisat_prop.specs.Watches.{with_watches, literal_in, IsRearranged, IsSettledTo};
 ghost use Rattle.varisat_prop.specs.Visits.{IsPair, IsFound};
-ghost use Rattle.varisat_prop.specs.QueueSteps.{parts_of, IsNext, GoesOnWith, EndsPropagation, IsWatchOf, IsReorderedAt, IsVisitedAs};
+ghost use Rattle.varisat_prop.specs.QueueSteps.{parts_of, IsNext, GoesOnWith, EndsPropagation, IsWatchOf, IsReorderedAt, IsVisitedAs, with_lists};
 
 use crate::binary::BinaryClauses;
 use crate::clause::{ClauseAlloc, ClauseRef};
@@ -51,9 +51,9 @@ pub enum Visit {
 fn put_second(lits: &mut [Lit], false_lit: Lit) -> bool
     requires { 2 ≤ length lits.old }
     ensures rearranged { IsRearranged lits.old lits.new }
-    ensures second { IsTrue result → IsPair lits.old (at lits.new 0) false_lit × (at lits.new 1 ≡ false_lit) }
-    ensures same { at lits.old 0 ≢ false_lit → lits.new ≡ lits.old }
-    ensures stale { (IsTrue result → ⊥) → (at lits.old 0 ≢ false_lit) × (at lits.old 1 ≢ false_lit) }
+    ensures second { IsTrue result → IsPair lits.old (literal_in lits.new 0) false_lit × (literal_in lits.new 1 ≡ false_lit) }
+    ensures same { literal_in lits.old 0 ≢ false_lit → lits.new ≡ lits.old }
+    ensures stale { (IsTrue result → ⊥) → (literal_in lits.old 0 ≢ false_lit) × (literal_in lits.old 1 ≢ false_lit) }
 {
     if lits[0] == false_lit {
         lits.swap(0, 1);
@@ -67,10 +67,10 @@ fn find_other<A: Allocator + Copy>(lits: &mut [Lit], assignment: &Assignment<A>)
     requires long { 2 ≤ length lits.old }
     requires within { IsInRange assignment.now.current lits.old }
     ensures rearranged { IsRearranged lits.old lits.new }
-    ensures first { at lits.new 0 ≡ at lits.old 0 }
+    ensures first { literal_in lits.new 0 ≡ literal_in lits.old 0 }
     ensures found { MatchOption result
         ((lits.new ≡ lits.old) × ((k : ℕ) → 2 ≤ k → k < length lits.old → IsFalseAt assignment.now.current lits.old k))
-        (λ m. (at lits.new 1 ≡ m) × (IsMadeTrue assignment.now.current (opposite m) → ⊥)) }
+        (λ m. (literal_in lits.new 1 ≡ m) × (IsMadeTrue assignment.now.current (opposite m) → ⊥)) }
 {
     for place in 2..lits.len() {
         let lit = lits[place];
@@ -143,7 +143,7 @@ fn visit_watch<A: Allocator + Copy>(
     watch: Watch,
 ) -> Result<Visit, AllocError>
     requires { IsWatchOf watchlists.old (view_of clause_alloc.old binary_clauses.now assignment.old trail.old impl_graph.old) lit watch }
-    ensures { IfOk result (λ visit. IsVisitedAs (parts_of clause_alloc.old binary_clauses.now assignment.old trail.old impl_graph.old) (parts_of clause_alloc.new binary_clauses.now assignment.new trail.new impl_graph.new) watchlists.old watchlists.new lit watch.cref visit) }
+    ensures { IfOk result (λ visit. IsVisitedAs (with_lists (parts_of clause_alloc.old binary_clauses.now assignment.old trail.old impl_graph.old) watchlists.old) (with_lists (parts_of clause_alloc.new binary_clauses.now assignment.new trail.new impl_graph.new) watchlists.new) lit watch.cref visit) }
 {
     if assignment.lit_is_true(watch.blocking) {
         return Ok(Visit::Keep(watch.blocking));
@@ -191,8 +191,8 @@ fn visit_watches<A: Allocator + Copy>(
     lit: Lit,
 ) -> Result<Result<(), Conflict>, AllocError>
     requires inside { lit < length watchlists.old.lists }
-    requires next { IsNext (with_list watchlists.old lit list.old.items) (view_of clause_alloc.old binary_clauses.now assignment.old trail.old impl_graph.old) lit }
-    ensures goes { OnOk result (GoesOnWith (parts_of clause_alloc.old binary_clauses.now assignment.old trail.old impl_graph.old) (parts_of clause_alloc.new binary_clauses.now assignment.new trail.new impl_graph.new) (with_list watchlists.new lit list.new.items)) }
+    requires next { IsNext (with_watches watchlists.old lit list.old.items) (view_of clause_alloc.old binary_clauses.now assignment.old trail.old impl_graph.old) lit }
+    ensures goes { OnOk result (GoesOnWith (parts_of clause_alloc.old binary_clauses.now assignment.old trail.old impl_graph.old) (parts_of clause_alloc.new binary_clauses.now assignment.new trail.new impl_graph.new) (with_watches watchlists.new lit list.new.items)) }
     ensures ends { IfOk result (λ end. EndsPropagation (λ s. IsSettledTo s (suc s.queue_head)) (view_of clause_alloc.new binary_clauses.now assignment.new trail.new impl_graph.new) end) }
     ensures lists { OnOk result (length watchlists.new.lists ≡ length watchlists.old.lists) }
 {

@@ -10,7 +10,7 @@ ghost use Rattle.varisat_clause.specs.Shapes.{KeepsShapes};
 ghost use Rattle.varisat_prop.specs.View.{view_of, kept, WellFormed};
 ghost use Rattle.varisat_prop.specs.Changes.{IsConflicting};
 ghost use Rattle.varisat_prop.specs.Looks.{Propagates};
-ghost use Rattle.varisat_prop.specs.Watches.{list_of, IsWatching, IsSettledTo, IsImpliedTo, IsPropagated};
+ghost use Rattle.varisat_prop.specs.Watches.{watches_of, IsWatching, IsSettledTo, IsImpliedTo, IsPropagated};
 ghost use Rattle.varisat_prop.specs.QueueSteps.{parts_of, IsNext, GoesOnWith, EndsPropagation};
 
 use crate::binary::BinaryClauses;
@@ -32,7 +32,7 @@ pub fn enable_watchlists<A: Allocator + Copy>(
 ) -> Result<(), AllocError>
     requires sound { IsSound clause_alloc.now }
     requires within { (c : Clause) → c ∈ literals_of (live_clauses clause_alloc.now) → (l : Literal) → l ∈ c → opposite l < length watchlists.old.lists }
-    requires empty { watchlists.old.enabled ≡ false → (x : Literal) → list_of watchlists.old x ≡ [] }
+    requires empty { watchlists.old.enabled ≡ false → (x : Literal) → watches_of watchlists.old x ≡ [] }
     ensures enabled { OnOk result (watchlists.new.enabled ≡ true) }
     ensures count { OnOk result (length watchlists.new.lists ≡ length watchlists.old.lists) }
     ensures same { OnOk result (watchlists.old.enabled ≡ true → watchlists.new ≡ watchlists.old) }

@@ -3,7 +3,7 @@
 ghost use Rattle.std.specs.Prelude.{◌≡◌, ◌<◌, ◌*◌, ◌≤◌, ◌-◌, ◌++◌, ◌∷◌, true, false, [], length, replicate, OnOk};
 ghost use Rattle.varisat_theory.specs.Membership.{◌∈◌};
 ghost use Rattle.varisat_theory.specs.Literals.{Literal, opposite};
-ghost use Rattle.varisat_prop.specs.Watches.{no_watches, list_of, with_list};
+ghost use Rattle.varisat_prop.specs.Watches.{no_watches, watches_of, with_watches};
 ghost use Rattle.varisat_prop.specs.Visits.{WatchesClause};
 
 use crate::clause::ClauseRef;
@@ -76,7 +76,7 @@ impl<A: Allocator + Copy> Watchlists<A> {
     /// Takes all watches out. No list is kept up to date from now on, until propagation fills them anew.
     pub fn disable(&mut self)
         ensures count { length self.new.lists ≡ length self.old.lists }
-        ensures empty { (x : Literal) → list_of self.new x ≡ [] }
+        ensures empty { (x : Literal) → watches_of self.new x ≡ [] }
         ensures enabled { self.new.enabled ≡ false }
     {
         for place in 0..self.len() {
@@ -99,7 +99,7 @@ impl<A: Allocator + Copy> Watchlists<A> {
     fn list_mut(&mut self, place: usize) -> &mut Vec<Watch, A>
         requires { place < length self.old.lists }
         ensures* lends { sem 𝓛 (lends_list A.row A.Allocator self.entry place result) }
-        ensures value { result.now.items ≡ list_of self.old place }
+        ensures value { result.now.items ≡ watches_of self.old place }
     {
         &mut self.watches[place]
     }
@@ -108,7 +108,7 @@ impl<A: Allocator + Copy> Watchlists<A> {
     pub fn watched_by_mut(&mut self, lit: Lit) -> &mut Vec<Watch, A>
         requires { lit < length self.old.lists }
         ensures* lends { sem 𝓛 (lends_list A.row A.Allocator self.entry lit result) }
-        ensures value { result.now.items ≡ list_of self.old lit }
+        ensures value { result.now.items ≡ watches_of self.old lit }
     {
         self.list_mut(lit.code())
     }
@@ -116,8 +116,8 @@ impl<A: Allocator + Copy> Watchlists<A> {
     /// Takes the watches of the literal out.
     pub fn take_list(&mut self, lit: Lit) -> Vec<Watch, A>
         requires { lit < length self.old.lists }
-        ensures list { result.items ≡ list_of self.old lit }
-        ensures taken { self.new ≡ with_list self.old lit [] }
+        ensures list { result.items ≡ watches_of self.old lit }
+        ensures taken { self.new ≡ with_watches self.old lit [] }
     {
         let alloc = *self.watches.allocator();
         mem::replace(self.watched_by_mut(lit), Vec::new(alloc))
@@ -126,7 +126,7 @@ impl<A: Allocator + Copy> Watchlists<A> {
     /// Puts the watches of the literal back.
     pub fn put_list(&mut self, lit: Lit, list: Vec<Watch, A>)
         requires { lit < length self.old.lists }
-        ensures { self.new ≡ with_list self.old lit list.items }
+        ensures { self.new ≡ with_watches self.old lit list.items }
     {
         *self.watched_by_mut(lit) = list;
     }
@@ -134,7 +134,7 @@ impl<A: Allocator + Copy> Watchlists<A> {
     /// One more watch of the literal.
     pub fn add_watch(&mut self, lit: Lit, watch: Watch) -> Result<(), AllocError>
         requires { lit < length self.old.lists }
-        ensures { OnOk result (self.new ≡ with_list self.old lit (list_of self.old lit ++ watch ∷ [])) }
+        ensures { OnOk result (self.new ≡ with_watches self.old lit (watches_of self.old lit ++ watch ∷ [])) }
     {
         self.watched_by_mut(lit).push(watch)?;
         Ok(())

@@ -1,11 +1,11 @@
 use Rattle.std.proofs.Common.{◌≤◌, take}
-use Rattle.varisat_analysis.specs.Marks.{marking, Adds}
+use Rattle.varisat_analysis.specs.Marks.{marking, AddsMarks}
 use Rattle.varisat_analysis.proofs.analyze_conflict.add_literals.Given as goal
 
 abbrev pub invariant-loop-lit : goal.invariant-loop-lit
 invariant-loop-lit g l =
     record {
-      adds : Adds g.s (take l.lit-index l.lits) l.count (marking l.fn.scratch l.fn.var_flags) (marking l.scratch l.var_flags);
+      adds : AddsMarks g.s (take l.lit-index l.lits) l.count (marking l.fn.scratch l.fn.var_flags) (marking l.scratch l.var_flags);
       small : l.count ≤ l.lit-index;
     }
 

@@ -1,7 +1,7 @@
 use Rattle.std.proofs.Common.{ℕ, true, ap, ◌∙◌, refl}
 use Rattle.varisat_clause.specs.Headers.{Header}
 use Rattle.varisat_clause.specs.Stored.{IsPlace, header_at, literals_at}
-use Rattle.varisat_clause.specs.Stores.{Store, clauses_of}
+use Rattle.varisat_clause.specs.Stores.{Store, stored_clauses}
 use Rattle.varisat_clause.specs.Databases.{Tracks}
 use Rattle.varisat_clause.proofs.DatabaseTracks.{tracks-header}
 use Rattle.varisat_prop.specs.declared.prop.graph.ImplGraph.{ImplGraph}
@@ -11,17 +11,17 @@ use Rattle.varisat_analysis.proofs.assess.bump_clause.Goals as goal
 
 -- the glue of the clause
 abbrev own : {A : Type 0} → ImplGraph A → Store → ℕ → ℕ
-own graph s p = glue_of graph.nodes.items (literals_at (clauses_of s) p)
+own graph s p = glue_of graph.nodes.items (literals_at (stored_clauses s) p)
 
 pub set_active-requires-clause-place : goal.set_active-requires-clause-place
 set_active-requires-clause-place g c =
-    set-place c.args.alloc.now c.improve_glue.new.alloc c.args.cref (improved (own c.args.impl_graph.now c.args.alloc.now c.args.cref) (header_at (clauses_of c.args.alloc.now) c.args.cref)) c.requires.place c.in_ok-improve_glue.ensures.improved
+    set-place c.args.alloc.now c.improve_glue.new.alloc c.args.cref (improved (own c.args.impl_graph.now c.args.alloc.now c.args.cref) (header_at (stored_clauses c.args.alloc.now) c.args.cref)) c.requires.place c.in_ok-improve_glue.ensures.improved
 
 pub bump_clause_activity-requires-clause-place : goal.bump_clause_activity-requires-clause-place
 bump_clause_activity-requires-clause-place g c =
     let n = c.improve_glue.new.alloc in
-    set-place n c.set_active.new.alloc c.args.cref (record (header_at (clauses_of n) c.args.cref) { active = true })
-    (set-place c.args.alloc.now n c.args.cref (improved (own c.args.impl_graph.now c.args.alloc.now c.args.cref) (header_at (clauses_of c.args.alloc.now) c.args.cref)) c.requires.place c.in_ok-improve_glue.ensures.improved)
+    set-place n c.set_active.new.alloc c.args.cref (record (header_at (stored_clauses n) c.args.cref) { active = true })
+    (set-place c.args.alloc.now n c.args.cref (improved (own c.args.impl_graph.now c.args.alloc.now c.args.cref) (header_at (stored_clauses c.args.alloc.now) c.args.cref)) c.requires.place c.in_ok-improve_glue.ensures.improved)
     c.set_active.ensures
 
 pub returns-clause-bumped : goal.returns-clause-bumped
@@ -53,7 +53,7 @@ returns-clause-tracks g c =
     let m = c.bump_clause_activity.new.alloc in
     let p = c.args.cref in
     let d = c.improve_glue.new.db in
-    let h : Header = record (header_at (clauses_of k) p) { active = true } in
-    let at : IsPlace (clauses_of k) p = set-place s k p (improved (own c.args.impl_graph.now c.args.alloc.now c.args.cref) (header_at (clauses_of s) p)) c.requires.place c.in_ok-improve_glue.ensures.improved in
+    let h : Header = record (header_at (stored_clauses k) p) { active = true } in
+    let at : IsPlace (stored_clauses k) p = set-place s k p (improved (own c.args.impl_graph.now c.args.alloc.now c.args.cref) (header_at (stored_clauses s) p)) c.requires.place c.in_ok-improve_glue.ensures.improved in
     let t : Tracks d n = tracks-header d k n p h c.improve_glue.ensures.tracks at refl refl c.set_active.ensures in
     bump-tracks d n m c.args.activity.now p t (bump-holds n m c.args.activity.now p c.bump_clause_activity.ensures.raised c.bump_clause_activity.ensures.shifted)

@@ -1,20 +1,20 @@
 use Rattle.std.proofs.Common.{◌≡◌, true, refl, sym, ap, ◌∙◌}
 use Rattle.varisat_clause.specs.Headers.{Header}
-use Rattle.varisat_clause.specs.Stored.{stored_at, with_clause}
-use Rattle.varisat_clause.specs.Stores.{clauses_of}
+use Rattle.varisat_clause.specs.Stored.{stored_at, with_stored}
+use Rattle.varisat_clause.specs.Stores.{stored_clauses}
 use Rattle.varisat_clause.proofs.DatabaseTracks.{clause-self, tracks-header}
 use Rattle.varisat_analysis.proofs.MarkedReasons.{mark-dead}
 use Rattle.varisat_analysis.proofs.reasons.mark_reason.Goals as goal
 
 pub returns-then-deleted-clause-marked : goal.returns-then-deleted-clause-marked
 returns-then-deleted-clause-marked g c =
-    let ks = clauses_of c.args.clause_alloc.now in
+    let ks = stored_clauses c.args.clause_alloc.now in
     let p = c.args.cref in
     let dead : (stored_at ks p).header.deleted ≡ true = sym (ap (λ (h : Header). h.deleted) c.header-header.ensures) ∙ sym c.deleted.ensures ∙ c.if-deleted.true in
     record {
       sound = c.requires.sound;
       words = refl;
-      clauses = sym (ap (with_clause ks p) (mark-dead c.args.assignment.now.current c.args.impl_graph.now.nodes.items (stored_at ks p) dead) ∙ clause-self ks p);
+      clauses = sym (ap (with_stored ks p) (mark-dead c.args.assignment.now.current c.args.impl_graph.now.nodes.items (stored_at ks p) dead) ∙ clause-self ks p);
     }
 
 pub returns-clause-tracks : goal.returns-clause-tracks

@@ -5,7 +5,7 @@ use Rattle.varisat_clause.specs.contracts.header.Tier.{the_type}
 use Rattle.varisat_clause.specs.declared.header.Tier.{Tier}
 use Rattle.varisat_clause.specs.Headers.{Header}
 use Rattle.varisat_clause.specs.Stored.{header_at, with_header}
-use Rattle.varisat_clause.specs.Stores.{Holds, clauses_of}
+use Rattle.varisat_clause.specs.Stores.{HoldsClauses, stored_clauses}
 use Rattle.varisat_clause.specs.Databases.{count_of}
 use Rattle.varisat_clause.proofs.DatabaseTracks.{count-small, count-lowered, counted, header-self, tracks-moved}
 use Rattle.varisat_clause.proofs.db.set_clause_tier.Goals as goal
@@ -25,7 +25,7 @@ pub returns-in_ok-note_moved-clause-tracks : goal.returns-in_ok-note_moved-claus
 returns-in_ok-note_moved-clause-tracks g c =
     tracks-moved c.args.db.now c.note_moved.new.self c.args.alloc.now c.set_header.new.self c.args.cref c.header-header.result c.args.tier c.requires.tracks c.requires.place c.requires.live c.header-header.ensures
     (c.in_ok-note_moved.ensures.moved ∙ rw c.tier-old_tier.ensures refl)
-    (subst (λ (x : Header). Holds c.set_header.new.self (length c.args.alloc.now.words) (with_header (clauses_of c.args.alloc.now) c.args.cref x)) c.set_tier.ensures c.set_header.ensures)
+    (subst (λ (x : Header). HoldsClauses c.set_header.new.self (length c.args.alloc.now.words) (with_header (stored_clauses c.args.alloc.now) c.args.cref x)) c.set_tier.ensures c.set_header.ensures)
 
 not-false : (b : Bool) → false ≡ not b → b ≡ true
 not-false true e = refl
@@ -34,10 +34,10 @@ not-false false e = absurd (cc)
 pub returns-else-ne-clause-moved : goal.returns-else-ne-clause-moved
 returns-else-ne-clause-moved g c =
     let same : c.tier-old_tier.result ≡ c.args.tier = same_true the_type (search rules) _ _ (not-false (sameb the_type c.tier-old_tier.result c.args.tier) c.if-ne.ensures) in
-    let h : Header = header_at (clauses_of c.args.alloc.now) c.args.cref in
+    let h : Header = header_at (stored_clauses c.args.alloc.now) c.args.cref in
     let e : c.args.tier ≡ h.tier = sym same ∙ c.tier-old_tier.ensures ∙ ap (λ (x : Header). x.tier) c.header-header.ensures in
     record {
       sound = c.requires.tracks.sound;
       words = refl;
-      clauses = sym (header-self (clauses_of c.args.alloc.now) c.args.cref (record h { tier = c.args.tier }) (ap (λ (x : Tier). record h { tier = x }) e));
+      clauses = sym (header-self (stored_clauses c.args.alloc.now) c.args.cref (record h { tier = c.args.tier }) (ap (λ (x : Tier). record h { tier = x }) e));
     }

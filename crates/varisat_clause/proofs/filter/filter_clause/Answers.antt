@@ -1,6 +1,6 @@
 use Rattle.std.proofs.Common.{Bool, true, false, subst}
 use Rattle.varisat_clause.specs.Stored.{stored_at}
-use Rattle.varisat_clause.specs.Stores.{clauses_of}
+use Rattle.varisat_clause.specs.Stores.{stored_clauses}
 use Rattle.varisat_clause.specs.Filters.{left_if}
 use Rattle.varisat_clause.proofs.FilteredClauses.{altered-place, altered-live, tracks-altered, changes-kept, changes-deleted}
 use Rattle.varisat_clause.proofs.filter.filter_clause.Goals as goal
@@ -24,10 +24,10 @@ returns-then-stays-clause-tracks g c =
 pub returns-then-stays-clause-changed : goal.returns-then-stays-clause-changed
 returns-then-stays-clause-changed g c =
     changes-kept g.F.ClauseFilter.leaves c.args.filter.now c.filter.new.self c.args.db.now c.args.alloc.now c.filter.new.alloc c.args.cref c.requires.tracks c.requires.place c.requires.live c.in_ok-stays.ensures.altered
-    (subst (λ (b : Bool). g.F.ClauseFilter.leaves c.args.filter.now (stored_at (clauses_of c.args.alloc.now) c.args.cref) (left_if b (stored_at (clauses_of c.filter.new.alloc) c.args.cref)) c.filter.new.self) c.if-stays.true c.in_ok-stays.ensures.left)
+    (subst (λ (b : Bool). g.F.ClauseFilter.leaves c.args.filter.now (stored_at (stored_clauses c.args.alloc.now) c.args.cref) (left_if b (stored_at (stored_clauses c.filter.new.alloc) c.args.cref)) c.filter.new.self) c.if-stays.true c.in_ok-stays.ensures.left)
 
 pub returns-clause-changed : goal.returns-clause-changed
 returns-clause-changed g c =
     changes-deleted g.F.ClauseFilter.leaves c.args.filter.now c.filter.new.self c.args.db.now c.args.alloc.now c.filter.new.alloc c.args.cref c.requires.tracks c.requires.place c.requires.live c.in_ok-stays.ensures.altered c.delete_clause.new.alloc
-    (subst (λ (b : Bool). g.F.ClauseFilter.leaves c.args.filter.now (stored_at (clauses_of c.args.alloc.now) c.args.cref) (left_if b (stored_at (clauses_of c.filter.new.alloc) c.args.cref)) c.filter.new.self) c.if-stays.false c.in_ok-stays.ensures.left)
+    (subst (λ (b : Bool). g.F.ClauseFilter.leaves c.args.filter.now (stored_at (stored_clauses c.args.alloc.now) c.args.cref) (left_if b (stored_at (stored_clauses c.filter.new.alloc) c.args.cref)) c.filter.new.self) c.if-stays.false c.in_ok-stays.ensures.left)
     c.delete_clause.ensures.deleted

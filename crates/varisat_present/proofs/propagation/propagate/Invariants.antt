@@ -1,6 +1,6 @@
 use Rattle.varisat_present.specs.Places.{present}
-use Rattle.varisat_present.specs.Knowing.{Grows}
+use Rattle.varisat_present.specs.Knowing.{GrowsKnown}
 use Rattle.varisat_present.proofs.propagation.propagate.Given as goal
 
 abbrev pub invariant-loop-place : goal.invariant-loop-place
-invariant-loop-place g l = Grows (present l.places) l.fn.known l.known
+invariant-loop-place g l = GrowsKnown (present l.places) l.fn.known l.known

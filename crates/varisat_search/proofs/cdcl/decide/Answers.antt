@@ -1,6 +1,6 @@
 use Rattle.std.proofs.Common.{◌≡◌, length, sym, ap, ◌∙◌, subst}
 use Rattle.varisat_theory.specs.Propagation.{IsComplete}
-use Rattle.varisat_prop.specs.View.{View, kept, Grows}
+use Rattle.varisat_prop.specs.View.{View, kept, GrowsTrail}
 use Rattle.varisat_prop.proofs.ViewGrowth.{grows-refl}
 use Rattle.varisat_search.specs.declared.context.Context.{Context}
 use Rattle.varisat_search.specs.AssumptionParts.{ComesToNext}
@@ -20,7 +20,7 @@ returns-in-Conflict-clause-grows g c =
     let s = view c.args.ctx.now in
     let x = c.enqueue_assumption.new.ctx in
     let n = subst (ComesToNext s (view x) x.assumptions) c.in-Conflict.is c.in_ok-enqueue_assumption.ensures.next in
-    subst (Grows s) (sym n.0) (grows-refl s)
+    subst (GrowsTrail s) (sym n.0) (grows-refl s)
 
 pub returns-clause-ready : goal.returns-clause-ready
 returns-clause-ready g c =
@@ -40,5 +40,5 @@ returns-clause-grows g c =
     let z = c.make_decision.new.ctx in
     let n = subst (ComesToNext (view c.args.ctx.now) (view x) x.assumptions) c.in-Done.is c.in_ok-enqueue_assumption.ensures.next in
     made-or-not c.in_ok-made.made _ _ _ c.in_ok-made.ensures.decided
-    (λ p. subst (λ (t : View). Grows t (view z)) n.0 (literal-grows (view x) (view z) c.in_ok-enqueue_assumption.ensures.ready.well p.0 p.1 p.2))
-    (λ p. subst (Grows (view c.args.ctx.now)) (sym (ap (λ (y : Context g.row.A.Denot). view y) p.0 ∙ n.0)) (grows-refl (view c.args.ctx.now)))
+    (λ p. subst (λ (t : View). GrowsTrail t (view z)) n.0 (literal-grows (view x) (view z) c.in_ok-enqueue_assumption.ensures.ready.well p.0 p.1 p.2))
+    (λ p. subst (GrowsTrail (view c.args.ctx.now)) (sym (ap (λ (y : Context g.row.A.Denot). view y) p.0 ∙ n.0)) (grows-refl (view c.args.ctx.now)))

@@ -1,5 +1,5 @@
 use Rattle.std.proofs.Common.{refl, ap, ◌∙◌, arith}
-use Rattle.varisat_prop.specs.View.{Grows}
+use Rattle.varisat_prop.specs.View.{GrowsTrail}
 use Rattle.varisat_prop.proofs.ViewGrowth.{grows-refl, grows-trans, grows-longer}
 use Rattle.varisat_prop.proofs.TrailValues.{trail-short}
 use Rattle.varisat_search.specs.declared.context.Context.{Context}
@@ -22,7 +22,7 @@ propagated : (g : Over) (c : In_ok-propagated g) → Finding (view c.levels.ctx)
 propagated g c =
     finding-propagated (view c.levels.ctx) (view c.levels.ctx) (view (mid g c)) (finding-begins c.levels.invariant.ready) c.in_ok-propagated.ensures.propagates
 
-grown : (g : Over) (c : In_ok-propagated g) → Grows (view c.args.ctx.now) (view (mid g c))
+grown : (g : Over) (c : In_ok-propagated g) → GrowsTrail (view c.args.ctx.now) (view (mid g c))
 grown g c = grows-trans (view c.args.ctx.now) (view c.levels.ctx) (view (mid g c)) c.levels.invariant.grows (propagated g c).grows
 
 -- propagation keeps the same variables decidable

@@ -1,5 +1,5 @@
 use Rattle.std.proofs.Common.{rules, ℕ, ◌≤◌, List, length, subst}
-use Rattle.varisat_clause.specs.Stores.{Adds}
+use Rattle.varisat_clause.specs.Stores.{AddsStored}
 use Rattle.varisat_search.specs.Conflicts.{learned_at}
 use Rattle.varisat_search.proofs.LearnClause.{stored-learned}
 use Rattle.varisat_search.proofs.cdcl.keep_learned.Goals as goal
@@ -9,9 +9,9 @@ returns-clause-reason g c =
     let x = c.args.ctx.now in
     let n = c.add_clause.new.alloc in
     let long : 3 ≤ length x.analyze_conflict.clause = search rules in
-    let added = subst (λ (d : List ℕ). Adds x.clause_alloc n (learned_at c.in_ok-cref.cref c.args.header d)) c.clause-2.ensures c.in_ok-cref.ensures.added in
+    let added = subst (λ (d : List ℕ). AddsStored x.clause_alloc n (learned_at c.in_ok-cref.cref c.args.header d)) c.clause-2.ensures c.in_ok-cref.ensures.added in
     stored-learned x.clause_alloc n x.binary_clauses x.analyze_conflict.clause c.in_ok-cref.cref c.args.header long c.requires.redundant c.requires.live added
 
 pub returns-clause-stored : goal.returns-clause-stored
 returns-clause-stored g c =
-    subst (λ (d : List ℕ). Adds c.args.ctx.now.clause_alloc c.add_clause.new.alloc (learned_at c.in_ok-cref.cref c.args.header d)) c.clause-2.ensures c.in_ok-cref.ensures.added
+    subst (λ (d : List ℕ). AddsStored c.args.ctx.now.clause_alloc c.add_clause.new.alloc (learned_at c.in_ok-cref.cref c.args.header d)) c.clause-2.ensures c.in_ok-cref.ensures.added

@@ -1,7 +1,7 @@
 use Rattle.std.proofs.Common.{◌≡◌, ◌++◌, Bool, Option, List, refl, ap, ◌∙◌, arith}
 use Rattle.varisat_theory.specs.Literals.{Clause, Literal}
 use Rattle.varisat_clause.specs.Stored.{StoredClause}
-use Rattle.varisat_clause.specs.Stores.{Store, clauses_of}
+use Rattle.varisat_clause.specs.Stores.{Store, stored_clauses}
 use Rattle.varisat_clause.specs.Collected.{live_clauses}
 use Rattle.varisat_prop.specs.Simplified.{without_assigned}
 use Rattle.varisat_search.specs.declared.context.Context.{Context}
@@ -36,7 +36,7 @@ left g c =
     filtered-left (λ (f : UnitFilter g.row.A.Denot). f.assignment.now.current) (λ (f : UnitFilter g.row.A.Denot). f.pairs.items)
     (λ (f : UnitFilter g.row.A.Denot) (k j : StoredClause) (h : UnitFilter g.row.A.Denot). (h.assignment ≡ f.assignment) × LeavesOpen f.assignment.now.current k j f.pairs.items h.pairs.items)
     (λ f k j h o. (ap (λ a. a.now.current) o.0, o.1))
-    _ c.filter_clauses.new.filter (clauses_of c.args.ctx.now.clause_alloc) (clauses_of c.filter_clauses.new.alloc) c.in_ok-filter_clauses.ensures.filtered
+    _ c.filter_clauses.new.filter (stored_clauses c.args.ctx.now.clause_alloc) (stored_clauses c.filter_clauses.new.alloc) c.in_ok-filter_clauses.ensures.filtered
 
 pub add_pairs-requires : goal.add_pairs-requires
 add_pairs-requires g c =

@@ -7,11 +7,11 @@ use Rattle.varisat.proofs.Additions.{told-error}
 use Rattle.varisat.proofs.VariableStates.{unassumed-state, change-refused, hide-state, kept-after}
 use Rattle.varisat.proofs.solver.Solver.hide_var.Goals as goal
 
-pub hide_named-requires : goal.hide_named-requires
-hide_named-requires g c = c.in_ok-check_change.ensures
+pub set_named_mode-requires : goal.set_named_mode-requires
+set_named_mode-requires g c = c.in_ok-check_change.ensures
 
 pub invariant_of-self : goal.invariant_of-self
-invariant_of-self g c v = kept-after c.self.inside.ctx c.self.inside.variables c.hide_named.new.variables (c.self.invariant c.if-self.false) ((c.in-Ok.ensures {u = tt}).stays)
+invariant_of-self g c v = kept-after c.self.inside.ctx c.self.inside.variables c.set_named_mode.new.variables (c.self.invariant c.if-self.false) ((c.in-Ok.ensures {u = tt}).set.stays)
 
 pub returns-in_err-check_change : goal.returns-in_err-check_change
 returns-in_err-check_change g c s st =
@@ -28,7 +28,7 @@ returns-in-Ok g c s st =
     let may = c.in_ok-check_change.ensures in (
       t,
       (k.valid, may.in_range, unassumed-state c.args.var k may.unassumed, like-refl t),
-      record { ledger = k.ledger; fits = λ _. hide-state c.hide_named.new.variables c.args.var k (c.in-Ok.ensures {u = tt}) },
+      record { ledger = k.ledger; fits = λ _. hide-state c.set_named_mode.new.variables c.args.var k (c.in-Ok.ensures {u = tt}).set },
     )
 
 pub returns-in-Err : goal.returns-in-Err

@@ -2,12 +2,14 @@ use Rattle.std.proofs.Common.{◌∙◌, not, sym, ap, arith, true, false, lengt
 use Rattle.varisat_theory.specs.Literals.{variable_of}
 use Rattle.varisat_names.specs.VarMap.{at}
 use Rattle.varisat_search.specs.Contexts.{view}
+use Rattle.varisat_search.proofs.NamedVariables.{unmapped-near, unmapped-same}
 use Rattle.varisat.specs.Summaries.{Summary, spaces}
 use Rattle.varisat.specs.States.{Ledger}
 use Rattle.varisat.specs.Names.{name_one}
 use Rattle.varisat.specs.Calls.{with_naming, start}
 use Rattle.varisat.proofs.AcceptClause.{with_tables, ledger-free}
-use Rattle.varisat.proofs.PlainTables.{is-there, there-is, given-keeps, assumed-keeps, marked-keeps}
+use Rattle.varisat_search.proofs.KeptNames.{given-keeps}
+use Rattle.varisat.proofs.PlainTables.{is-there, there-is, assumed-keeps, marked-keeps}
 use Rattle.varisat.proofs.KeptCounts.{given-most}
 use Rattle.varisat.proofs.CallStates.{stands-valid, like-refl, broken, broken-invalid}
 use Rattle.varisat.proofs.SolverCalls.{least-free, new-named}
@@ -17,17 +19,19 @@ use Rattle.varisat.proofs.solver.Solver.new_var.Goals as goal
 pub invariant_of-self : goal.invariant_of-self
 invariant_of-self g c v =
     let k = c.self.invariant c.if-self.false in
-    let t = (c.in-Ok.ensures {u = tt}).given in
+    let least = (c.in-Ok.ensures {u = tt}).given in
+    let t = least.given in
     let old = c.self.inside.variables in
-    let new = c.give_user_var.new.self in
-    let u = c.next_unmapped_user-user.result in
-    let x = c.in-Ok.field-0 in
-    let keeps = given-keeps old new u x c.next_unmapped_user-user.ensures.least.0 t in
+    let new = c.new_user_var.new.variables in
+    let u = c.in-Ok.user in
+    let x = least.global in
+    let same = unmapped-same old.users.forward u c.next_unmapped_user-next.result least.least c.next_unmapped_user-next.ensures.least in
+    let keeps = given-keeps old new u x least.least.0 t in
     let w = t.users.forward.watermark in
     let m = given-most old new u x t in
     record {
       bounded = record {
-        users = omega (arith, w, k.bounded.users, c.index.ensures.index, c.max_count.ensures, c.if-index-max_count.false);
+        users = omega (arith, w, k.bounded.users, same, c.index.ensures.index, c.max_count.ensures, c.if-index-max_count.false);
         globals = omega (arith, m, c.global_watermark.ensures, c.max_count-else-index-max_count.ensures, c.if-global_watermark-max_count.false);
         solvers = let q = ap (λ m. length m.backward) t.solvers in omega (arith, q, k.bounded.solvers);
       };
@@ -44,15 +48,16 @@ returns-in-Ok g c s st =
     let q = rw (← c.self.view_is) at st in
     let old : Summary = record { tables = c.self.inside.variables; search = view c.self.inside.ctx; assumed = c.self.inside.ctx.assumptions; sat_state = c.self.inside.ctx.solver_state.sat_state; ledger = s.ledger } in
     let f = q.fits (ap not c.if-self.false) in
-    let u = c.next_unmapped_user-user.result in
-    let e = c.next_unmapped_user-user.ensures in
+    let u = c.in-Ok.user in
+    let new = c.new_user_var.new.variables in
     let t = (c.in-Ok.ensures {u = tt}).given in
-    let (w, n) = new-named old s c.give_user_var.new.self u c.in-Ok.field-0 f e.least e.near t in (
+    let same = unmapped-same old.tables.users.forward u c.next_unmapped_user-next.result t.least c.next_unmapped_user-next.ensures.least in
+    let (w, n) = new-named old s new u t.global f t.least (unmapped-near old.tables.users.forward u t.least) t.given in (
       start (with_naming (name_one u s.naming) s),
-      (stands-valid _ s q (ap not c.if-self.false), least-free old s u f e.least, omega (arith, c.index.ensures.index, c.max_count.ensures, c.if-index-max_count.false), like-refl (start (with_naming (name_one u s.naming) s))),
+      (stands-valid _ s q (ap not c.if-self.false), least-free old s u f t.least, omega (arith, same, c.index.ensures.index, c.max_count.ensures, c.if-index-max_count.false), like-refl (start (with_naming (name_one u s.naming) s))),
       record {
         ledger = ap (λ (x : Ledger). record x { started = true }) q.ledger;
-        fits = λ _. (w, ledger-free w (spaces (with_tables c.give_user_var.new.self old)) (with_naming (name_one u s.naming) s) (record (with_naming (name_one u s.naming) s).ledger { started = true }) n);
+        fits = λ _. (w, ledger-free w (spaces (with_tables new old)) (with_naming (name_one u s.naming) s) (record (with_naming (name_one u s.naming) s).ledger { started = true }) n);
       },
     )
 
@@ -61,8 +66,8 @@ returns-in-Err g c s st =
     let q = rw (← c.self.view_is) at st in
     let old : Summary = record { tables = c.self.inside.variables; search = view c.self.inside.ctx; assumed = c.self.inside.ctx.assumptions; sat_state = c.self.inside.ctx.solver_state.sat_state; ledger = s.ledger } in
     let f = q.fits (ap not c.if-self.false) in
-    let u = c.next_unmapped_user-user.result in
-    let e = c.next_unmapped_user-user.ensures in (
+    let u = c.next_unmapped_user-next.result in
+    let e = c.next_unmapped_user-next.ensures in (
       broken s,
       ((u, least-free old s u f e.least, omega (arith, c.index.ensures.index, c.max_count.ensures, c.if-index-max_count.false)), broken-invalid s (stands-valid _ s q (ap not c.if-self.false)) f.1.well_formed),
       record { ledger = ap (λ (x : Ledger). record x { valid = false }) q.ledger; fits = λ e. absurd cc },

@@ -5,7 +5,7 @@ use Rattle.varisat.specs.Usage.{name_var, SetsMode}
 use Rattle.varisat.specs.VariableCalls.{named, with_mode}
 use Rattle.varisat.proofs.CallStates.{begins, like-refl, broken, broken-invalid}
 use Rattle.varisat.proofs.Additions.{told-error}
-use Rattle.varisat.proofs.VariableStates.{unassumed-state, free-state, mode-refused, mode-state, kept-after}
+use Rattle.varisat.proofs.VariableStates.{unassumed-state, free-state, mode-refused, not-hide, mode-state, kept-after}
 use Rattle.varisat.proofs.solver.Solver.set_mode.Goals as goal
 
 pub set_named_mode-requires : goal.set_named_mode-requires
@@ -42,6 +42,6 @@ returns-in-Err g c s st =
     let u = c.args.var in
     let may = c.in_ok-check_change.ensures in (
       broken s,
-      ((may.in_range, unassumed-state u k may.unassumed, broken-invalid s k.valid k.fits.1.well_formed), λ e. free-state u k ((c.in-Err.ensures {u = tt}).free)),
+      ((may.in_range, unassumed-state u k may.unassumed, broken-invalid s k.valid k.fits.1.well_formed), λ e. free-state u k ((c.in-Err.ensures {u = tt}).free (not-hide c.args.mode (mode_of c.args.mode) c.requires))),
       record { ledger = ap (λ (x : Ledger). record x { valid = false }) k.ledger; fits = λ e. absurd cc },
     )

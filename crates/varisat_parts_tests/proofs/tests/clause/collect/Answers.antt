@@ -1,11 +1,11 @@
 use Rattle.std.proofs.Common.{◌≡◌, Bool, true, false, refl, sym, subst}
-use Rattle.varisat_clause.specs.Stores.{Store, clauses_of}
+use Rattle.varisat_clause.specs.Stores.{Store, stored_clauses}
 use Rattle.varisat_clause.specs.Databases.{Database, Tracks}
 use Rattle.varisat_clause.specs.Collected.{IsCollected}
 use Rattle.varisat_parts_tests.proofs.tests.clause.collect.Goals as goal
 
 -- a database fits its store also after a collection, whether it was due or not
-tracks-collected : (b : Bool) (d e : Database) (s n : Store) → (b ≡ true → IsCollected n e (clauses_of s)) → (b ≡ false → n ≡ s) → (b ≡ false → e ≡ d) → Tracks d s → Tracks e n
+tracks-collected : (b : Bool) (d e : Database) (s n : Store) → (b ≡ true → IsCollected n e (stored_clauses s)) → (b ≡ false → n ≡ s) → (b ≡ false → e ≡ d) → Tracks d s → Tracks e n
 tracks-collected true d e s n f g h t = (f refl).tracks
 tracks-collected false d e s n f g h t = subst (λ (x : Database). Tracks x n) (sym (h refl)) (subst (λ (x : Store). Tracks d x) (sym (g refl)) t)
 

@@ -2,7 +2,7 @@ use Rattle.std.proofs.Common.{◌≡◌, ◌<◌, length, sym, ◌∙◌, subst,
 use Rattle.varisat_prop.specs.Parts.{IsMadeTrue}
 use Rattle.varisat_prop.proofs.LiteralValues.{made-clash}
 use Rattle.varisat_prop.proofs.ReadElements.{element}
-use Rattle.varisat_prop.specs.Watches.{at}
+use Rattle.varisat_prop.specs.Watches.{literal_in}
 use Rattle.varisat_prop.specs.Visits.{IsPair}
 use Rattle.varisat_prop.proofs.LongRearranged.{rearranged-trans}
 use Rattle.varisat_prop.proofs.prop.long.reorder.Goals as goal
@@ -17,7 +17,7 @@ returns-then-lit_is_true-clause-found g c =
     let vs = c.args.assignment.now.current in
     let s = c.put_second.ensures.second c.if-not-put_second.false in
     let long : 0 < length d = let n = c.put_second.ensures.rearranged.long in omega (arith, n, c.requires.long) in
-    let e : l ≡ at d 0 = element d 0 l long c.index-lits-0.is in
+    let e : l ≡ literal_in d 0 = element d 0 l long c.index-lits-0.is in
     let t : IsMadeTrue vs l = c.if-lit_is_true.ensures.0 refl in (
       c.put_second.ensures.rearranged,
       subst (λ x. IsPair c.args.lits.now x c.args.false_lit) (sym e) s.0,
@@ -33,7 +33,7 @@ returns-in-Some-clause-found g c =
     let l = c.index-lits-0.result in
     let s = c.put_second.ensures.second c.if-not-put_second.false in
     let long : 0 < length d = let n = c.put_second.ensures.rearranged.long in omega (arith, n, c.requires.long) in
-    let e : l ≡ at d 0 = element d 0 l long c.index-lits-0.is in (
+    let e : l ≡ literal_in d 0 = element d 0 l long c.index-lits-0.is in (
       rearranged-trans c.args.lits.now d c.find_other.new.lits c.put_second.ensures.rearranged c.find_other.ensures.rearranged,
       subst (λ x. IsPair c.args.lits.now x c.args.false_lit) (sym e) s.0,
       c.find_other.ensures.first ∙ sym e,

@@ -1,6 +1,6 @@
 use Rattle.std.proofs.Common.{◌+◌, ◌≤◌, ap, length, sym, ◌∙◌, subst}
 use Rattle.varisat_clause.specs.Stored.{literals_at, with_literals}
-use Rattle.varisat_clause.specs.Stores.{clauses_of, put_words}
+use Rattle.varisat_clause.specs.Stores.{stored_clauses, put_words}
 use Rattle.varisat_clause.specs.Collected.{live_clauses}
 use Rattle.varisat_clause.proofs.KeptShapes.{shapes-changed}
 use Rattle.varisat_clause.proofs.StoredClauses.{with-same}
@@ -10,7 +10,7 @@ use Rattle.varisat_prop.specs.Visits.{IsFound}
 use Rattle.varisat_prop.proofs.prop.long.reorder_clause.Goals as goal
 
 pub lits_mut-lits-requires-clause-place : goal.lits_mut-lits-requires-clause-place
-lits_mut-lits-requires-clause-place g c = live-place (clauses_of c.args.clause_alloc.now) c.args.cref c.requires.place
+lits_mut-lits-requires-clause-place g c = live-place (stored_clauses c.args.clause_alloc.now) c.args.cref c.requires.place
 
 pub reorder-requires-clause-long : goal.reorder-requires-clause-long
 reorder-requires-clause-long g c = subst (λ x. 2 ≤ length x) (sym (c.lits_mut-lits.ensures.value ∙ live-literals c.args.clause_alloc.now c.args.cref c.requires.sound c.requires.place)) c.requires.long

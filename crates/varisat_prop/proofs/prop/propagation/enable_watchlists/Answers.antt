@@ -1,18 +1,18 @@
 use Rattle.std.proofs.Common.{◌≡◌, ℕ, false, List, length, ap, sym, ◌∙◌, subst, refl, inl, arith}
 use Rattle.varisat_theory.specs.Membership.{◌∈◌}
 use Rattle.varisat_clause.specs.Stored.{literals_at}
-use Rattle.varisat_clause.specs.Stores.{clauses_of}
+use Rattle.varisat_clause.specs.Stores.{stored_clauses}
 use Rattle.varisat_clause.specs.Collected.{live_clauses}
 use Rattle.varisat_clause.proofs.StoredClauses.{kept-at}
 use Rattle.varisat_clause.proofs.LiveStore.{live-place, live-literals, live-long-at}
-use Rattle.varisat_prop.specs.Watches.{Watches, list_of}
+use Rattle.varisat_prop.specs.Watches.{Watches, watches_of}
 use Rattle.varisat_prop.specs.Visits.{WatchesClause}
 use Rattle.varisat_prop.proofs.WatchRebuilt.{WatchingBut, but-all, but-next, but-none}
 use Rattle.varisat_prop.proofs.prop.propagation.enable_watchlists.Goals as goal
 
 pub lits-requires-clause-place : goal.lits-requires-clause-place
 lits-requires-clause-place g c =
-    live-place (clauses_of c.args.clause_alloc.now) c.in-Some.cref (c.loop-cref.invariant.but.places c.in-Some.cref (subst (λ (xs : List ℕ). c.in-Some.cref ∈ xs) (sym c.in-Some.ensures.steps) (inl refl)))
+    live-place (stored_clauses c.args.clause_alloc.now) c.in-Some.cref (c.loop-cref.invariant.but.places c.in-Some.cref (subst (λ (xs : List ℕ). c.in-Some.cref ∈ xs) (sym c.in-Some.ensures.steps) (inl refl)))
 
 pub watch_clause-requires-clause-several : goal.watch_clause-requires-clause-several
 watch_clause-requires-clause-several g c =
@@ -53,7 +53,7 @@ loop-cref-init g c =
     let off : c.args.watchlists.now.enabled ≡ false = sym c.enabled.ensures ∙ c.if-enabled.false in
     let lists = ap (λ (x : Watches). x.lists) c.enable.ensures in
     record {
-      but = subst (λ (xs : List ℕ). WatchingBut c.enable.new.self (live_clauses s) xs) (sym (c.into_iter-cref-iterator.ensures.into_iter_gives ∙ c.clauses_iter-cref-items.ensures)) (but-all c.enable.new.self (live_clauses s) (λ x. ap (λ (X : Watches). list_of X x) c.enable.ensures ∙ c.requires.empty off x));
+      but = subst (λ (xs : List ℕ). WatchingBut c.enable.new.self (live_clauses s) xs) (sym (c.into_iter-cref-iterator.ensures.into_iter_gives ∙ c.clauses_iter-cref-items.ensures)) (but-all c.enable.new.self (live_clauses s) (λ x. ap (λ (X : Watches). watches_of X x) c.enable.ensures ∙ c.requires.empty off x));
       enabled = ap (λ (x : Watches). x.enabled) c.enable.ensures;
       count = ap length lists;
     }

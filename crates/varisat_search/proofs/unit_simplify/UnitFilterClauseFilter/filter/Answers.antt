@@ -1,7 +1,7 @@
 use Rattle.std.proofs.Common.{◌≡◌, ◌≢◌, ◌≤◌, ◌++◌, ◌∷◌, Bool, Option, List, [], true, false, length, refl, sym, ap, ◌∙◌, subst, arith}
 use Rattle.varisat_theory.specs.Literals.{Clause}
 use Rattle.varisat_clause.specs.Stored.{StoredClause, stored_at}
-use Rattle.varisat_clause.specs.Stores.{clauses_of}
+use Rattle.varisat_clause.specs.Stores.{stored_clauses}
 use Rattle.varisat_clause.specs.Filters.{left_if}
 use Rattle.varisat_clause.proofs.FilteredClauses.{alters-same}
 use Rattle.varisat_prop.specs.Simplified.{is_unassigned}
@@ -17,7 +17,7 @@ abbrev values : (g : Over) (c : After-len g) → List (Option Bool)
 values g c = c.args.self.now.assignment.now.current
 
 abbrev clause : (g : Over) (c : After-len g) → StoredClause
-clause g c = stored_at (clauses_of c.args.alloc.now) c.args.cref
+clause g c = stored_at (stored_clauses c.args.alloc.now) c.args.cref
 
 -- what is left of the clause
 left-is : (g : Over) (c : After-len g) → c.copy_unassigned.new.left.items ≡ unassigned (values g c) (clause g c).literals
@@ -44,7 +44,7 @@ returns-then-is_satisfied-clause-altered g c = alters-same c.args.alloc.now c.ar
 pub returns-then-is_satisfied-clause-left : goal.returns-then-is_satisfied-clause-left
 returns-then-is_satisfied-clause-left g c =
     let values = c.args.self.now.assignment.now.current in
-    let k = stored_at (clauses_of c.args.alloc.now) c.args.cref in
+    let k = stored_at (stored_clauses c.args.alloc.now) c.args.cref in
     (refl, leaves-none values k c.args.self.now.pairs.items k (satisfied-read values c.lits-lits.result.now k.literals c.lits-lits.ensures (c.if-is_satisfied.ensures.0 refl)))
 
 pub returns-then-len-eq2-clause-altered : goal.returns-then-len-eq2-clause-altered
@@ -74,7 +74,7 @@ pub returns-then-len-lits-clause-left : goal.returns-then-len-lits-clause-left
 returns-then-len-lits-clause-left g c =
     let here = (goal.at.returns-then-len-lits-clause-left g c).After-len in
     let shrunk = shrunk-stored c.args.alloc.now c.shrink.new.alloc c.args.cref c.deref.result.now c.requires.place c.shrink.ensures in
-    (refl, stays g here (stored_at (clauses_of c.shrink.new.alloc) c.args.cref) c.if-len-eq2.false (shrunk ∙ ap (λ (d : Clause). shortened_to d (clause g here)) (c.deref.ensures.value ∙ left-is g here)))
+    (refl, stays g here (stored_at (stored_clauses c.shrink.new.alloc) c.args.cref) c.if-len-eq2.false (shrunk ∙ ap (λ (d : Clause). shortened_to d (clause g here)) (c.deref.ensures.value ∙ left-is g here)))
 
 pub returns-else-len-lits-clause-altered : goal.returns-else-len-lits-clause-altered
 returns-else-len-lits-clause-altered g c = alters-same c.args.alloc.now c.args.cref c.requires.sound c.requires.place c.requires.live

@@ -1,5 +1,5 @@
 use Rattle.std.proofs.Common.{sym, ap, ◌∙◌, subst}
-use Rattle.varisat_clause.specs.Stores.{clauses_of}
+use Rattle.varisat_clause.specs.Stores.{stored_clauses}
 use Rattle.varisat_clause.specs.Collected.{live_clauses}
 use Rattle.varisat_clause.proofs.LiveStore.{live-place, live-literals}
 use Rattle.varisat_prop.specs.declared.prop.graph.Conflict.{Conflict}
@@ -7,7 +7,7 @@ use Rattle.varisat_prop.specs.Changes.{NamesPlace, named_in}
 use Rattle.varisat_prop.proofs.prop.graph.Conflict.lits.Goals as goal
 
 pub lits-requires-clause-place : goal.lits-requires-clause-place
-lits-requires-clause-place g c = live-place (clauses_of c.args.clause_alloc.now) c.in-Long.cref (subst (NamesPlace (live_clauses c.args.clause_alloc.now)) c.in-Long.is c.requires.place)
+lits-requires-clause-place g c = live-place (stored_clauses c.args.clause_alloc.now) c.in-Long.cref (subst (NamesPlace (live_clauses c.args.clause_alloc.now)) c.in-Long.is c.requires.place)
 
 pub returns-in-Long : goal.returns-in-Long
 returns-in-Long g c =

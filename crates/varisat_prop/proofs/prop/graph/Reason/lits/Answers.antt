@@ -1,6 +1,6 @@
 use Rattle.std.proofs.Common.{◌≤◌, length, sym, ap, ◌∙◌, subst}
 use Rattle.varisat_clause.specs.Stored.{literals_at}
-use Rattle.varisat_clause.specs.Stores.{clauses_of}
+use Rattle.varisat_clause.specs.Stores.{stored_clauses}
 use Rattle.varisat_clause.specs.Collected.{live_clauses}
 use Rattle.varisat_clause.proofs.LiveStore.{live-place}
 use Rattle.varisat_prop.specs.declared.prop.graph.Reason.{Reason}
@@ -9,7 +9,7 @@ use Rattle.varisat_prop.proofs.ReadElements.{others-read, reason-read}
 use Rattle.varisat_prop.proofs.prop.graph.Reason.lits.Goals as goal
 
 pub lits-requires-clause-place : goal.lits-requires-clause-place
-lits-requires-clause-place g c = live-place (clauses_of c.args.clause_alloc.now) c.in-Long.cref (subst (NamesClause (live_clauses c.args.clause_alloc.now)) c.in-Long.is c.requires.clause).0
+lits-requires-clause-place g c = live-place (stored_clauses c.args.clause_alloc.now) c.in-Long.cref (subst (NamesClause (live_clauses c.args.clause_alloc.now)) c.in-Long.is c.requires.clause).0
 
 pub slice_bounds-result-count : goal.slice_bounds-result-count
 slice_bounds-result-count g c = (reason-read c.requires.sound c.requires.clause c.in-Long.is c.lits.ensures).1

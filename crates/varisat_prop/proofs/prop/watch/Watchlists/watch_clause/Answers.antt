@@ -1,5 +1,5 @@
 use Rattle.std.proofs.Common.{◌≡◌, ◌<◌, ◌++◌, [], ◌∷◌, length, ap, sym, ◌∙◌, subst, arith, length-set}
-use Rattle.varisat_prop.specs.Watches.{Watches, list_of, at}
+use Rattle.varisat_prop.specs.Watches.{Watches, watches_of, literal_in}
 use Rattle.varisat_prop.proofs.ReadElements.{element, item-∈}
 use Rattle.varisat_prop.proofs.WatchKept.{watch-two, watch-whole, watch-off}
 use Rattle.varisat_prop.proofs.prop.watch.Watchlists.watch_clause.Goals as goal
@@ -18,7 +18,7 @@ add_watch-requires-2 g c =
     let first = c.requires.listed c.index-lits-0.result (item-∈ c.args.lits.now 0 c.index-lits-0.result (omega (arith, c.requires.several)) c.index-lits-0.is) in
     let h = c.requires.listed c.index-lits-1.result (item-∈ c.args.lits.now 1 c.index-lits-1.result (omega (arith, c.requires.several)) c.index-lits-1.is) in
     let n = ap (λ (x : Watches). length x.lists) c.in_ok-add_watch.ensures in
-    let m = length-set W.lists c.not.result (list_of W c.not.result ++ record { cref = c.args.cref; blocking = c.index-lits-1.result } ∷ []) in
+    let m = length-set W.lists c.not.result (watches_of W c.not.result ++ record { cref = c.args.cref; blocking = c.index-lits-1.result } ∷ []) in
     let e = c.not-2.ensures in
     let k : c.not-2.result < length W.lists = subst (λ x. x < length W.lists) (sym e) h in
     omega (arith, k, n, m)
@@ -27,8 +27,8 @@ pub returns : goal.returns
 returns g c =
     let W = c.args.self.now in
     let lits = c.args.lits.now in
-    let first : c.index-lits-0.result ≡ at lits 0 = element lits 0 c.index-lits-0.result (omega (arith, c.requires.several)) c.index-lits-0.is in
-    let second : c.index-lits-1.result ≡ at lits 1 = element lits 1 c.index-lits-1.result (omega (arith, c.requires.several)) c.index-lits-1.is in
+    let first : c.index-lits-0.result ≡ literal_in lits 0 = element lits 0 c.index-lits-0.result (omega (arith, c.requires.several)) c.index-lits-0.is in
+    let second : c.index-lits-1.result ≡ literal_in lits 1 = element lits 1 c.index-lits-1.result (omega (arith, c.requires.several)) c.index-lits-1.is in
     let h = c.requires.listed c.index-lits-0.result (item-∈ lits 0 c.index-lits-0.result (omega (arith, c.requires.several)) c.index-lits-0.is) in
     let k = c.requires.listed c.index-lits-1.result (item-∈ lits 1 c.index-lits-1.result (omega (arith, c.requires.several)) c.index-lits-1.is) in
     watch-whole W c.add_watch-2.new.self c.args.cref c.index-lits-0.result c.index-lits-1.result lits c.requires.several first second

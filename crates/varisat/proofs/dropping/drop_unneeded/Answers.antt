@@ -1,0 +1,91 @@
+use Rattle.std.proofs.Common.{◌≡◌, ◌<◌, ◌↔◌, Bool, false, Option, List, length, map, sym, ap, ◌∙◌, subst}
+use Rattle.varisat_theory.specs.Membership.{◌∈◌, IsDistinct}
+use Rattle.varisat_theory.specs.Literals.{variable_of}
+use Rattle.varisat_prop.specs.Leaving.{leaves}
+use Rattle.varisat_search.specs.declared.context.Context.{Context}
+use Rattle.varisat_search.specs.Decisions.{IsDecidable}
+use Rattle.varisat_search.specs.Forgotten.{IsWithout, search_without}
+use Rattle.varisat_search.specs.Seen.{search_of}
+use Rattle.varisat_search.specs.Contexts.{view}
+use Rattle.varisat.specs.Dropping.{FlagsVariables, ListsUnneeded, AreReleased, LeavesTables}
+use Rattle.varisat.proofs.DroppedUnneeded.{unneeded-inside, unneeded-taken, unneeded-unmentioned, named-stay, kept-released, needed-left, stands-released}
+use Rattle.varisat.proofs.dropping.drop_unneeded.Given.{Over}
+use Rattle.varisat.proofs.dropping.drop_unneeded.Goals.{In_ok-gone, In_ok-list_unneeded, In_ok-release_solver_vars}
+use Rattle.varisat.proofs.dropping.drop_unneeded.Goals as goal
+
+-- the literals are of just the hidden variables that no kept clause names
+listed : (g : Over) (c : In_ok-list_unneeded g) → ListsUnneeded c.args.variables.now c.in_ok-mentioned.mentioned.items c.list_unneeded.new.unneeded.items
+listed g c = subst (λ fs. ListsUnneeded c.args.variables.now fs c.list_unneeded.new.unneeded.items) c.deref.ensures.value (c.in_ok-list_unneeded.ensures {u = tt})
+
+-- and these are flagged
+flags : (g : Over) (c : In_ok-gone g) → FlagsVariables (length c.in_ok-mentioned.mentioned.items) c.list_unneeded.new.unneeded.items c.in_ok-gone.gone.items
+flags g c = subst (λ n. FlagsVariables n c.list_unneeded.new.unneeded.items c.in_ok-gone.gone.items) (sym c.in_ok-mentioned.ensures.count)
+    (subst (λ ls. FlagsVariables (length c.args.ctx.now.assignment.current) ls c.in_ok-gone.gone.items) c.deref-2.ensures.value
+    (subst (λ (vs : List (Option Bool)). FlagsVariables (length vs) c.deref-2.result.now c.in_ok-gone.gone.items) c.assignment.ensures (c.in_ok-gone.ensures {u = tt})))
+
+pub flag_variables-requires : goal.flag_variables-requires
+flag_variables-requires g c l h =
+    let here = (goal.at.flag_variables-requires g c).In_ok-list_unneeded in
+    let inside = unneeded-inside c.args.variables.now c.in_ok-mentioned.mentioned.items c.list_unneeded.new.unneeded.items (listed g here) l (subst (λ xs. l ∈ xs) c.deref-2.ensures.value h) in
+    subst (λ n. variable_of l < n) (c.in_ok-mentioned.ensures.count ∙ ap (λ (vs : List (Option Bool)). length vs) (sym c.assignment.ensures)) inside
+
+pub drop_variables-requires-clause-unmentioned : goal.drop_variables-requires-clause-unmentioned
+drop_variables-requires-clause-unmentioned g c d h l i =
+    let here = (goal.at.drop_variables-requires-clause-unmentioned g c).In_ok-gone in
+    let before = (goal.at.drop_variables-requires-clause-unmentioned g c).In_ok-list_unneeded in
+    subst (λ fs. leaves fs (variable_of l) ≡ false) (sym c.deref-3.ensures.value)
+    (unneeded-unmentioned c.args.variables.now c.in_ok-mentioned.mentioned.items c.list_unneeded.new.unneeded.items (listed g before) (view c.args.ctx.now) c.in_ok-gone.gone.items c.in_ok-mentioned.ensures (flags g here) d h l i)
+
+pub drop_variables-requires-clause-unassumed : goal.drop_variables-requires-clause-unassumed
+drop_variables-requires-clause-unassumed g c l h =
+    let here = (goal.at.drop_variables-requires-clause-unassumed g c).In_ok-gone in
+    let before = (goal.at.drop_variables-requires-clause-unassumed g c).In_ok-list_unneeded in
+    subst (λ fs. leaves fs (variable_of l) ≡ false) (sym c.deref-3.ensures.value)
+    (named-stay c.args.variables.now c.in_ok-mentioned.mentioned.items c.list_unneeded.new.unneeded.items (listed g before) (view c.args.ctx.now) c.in_ok-gone.gone.items c.in_ok-mentioned.ensures (flags g here) c.args.ctx.now.assumptions.working c.requires.kept.working l h)
+
+pub release_solver_vars-requires-clause-taken : goal.release_solver_vars-requires-clause-taken
+release_solver_vars-requires-clause-taken g c l h =
+    let before = (goal.at.release_solver_vars-requires-clause-taken g c).In_ok-list_unneeded in
+    unneeded-taken c.args.variables.now c.in_ok-mentioned.mentioned.items c.list_unneeded.new.unneeded.items (listed g before) l (subst (λ xs. l ∈ xs) c.deref-4.ensures.value h)
+
+pub release_solver_vars-requires-clause-distinct : goal.release_solver_vars-requires-clause-distinct
+release_solver_vars-requires-clause-distinct g c =
+    let before = (goal.at.release_solver_vars-requires-clause-distinct g c).In_ok-list_unneeded in
+    subst (λ xs. IsDistinct (map variable_of xs)) (sym c.deref-4.ensures.value) (listed g before).distinct
+
+left : (g : Over) (c : In_ok-release_solver_vars g) → LeavesTables c.list_unneeded.new.unneeded.items c.args.variables.now c.release_solver_vars.new.variables
+left g c = subst (λ xs. LeavesTables xs c.args.variables.now c.release_solver_vars.new.variables) c.deref-4.ensures.value (c.in_ok-release_solver_vars.ensures {u = tt}).rest
+
+pub returns-clause-kept : goal.returns-clause-kept
+returns-clause-kept g c =
+    let here = (goal.at.returns-clause-kept g c).In_ok-release_solver_vars in
+    let flagged = (goal.at.returns-clause-kept g c).In_ok-gone in
+    let before = (goal.at.returns-clause-kept g c).In_ok-list_unneeded in
+    let x = c.args.ctx.now in
+    let y = c.drop_variables.new.ctx in
+    let e = c.drop_variables.ensures in
+    kept-released c.args.variables.now c.release_solver_vars.new.variables x y c.in_ok-mentioned.mentioned.items c.in_ok-gone.gone.items c.list_unneeded.new.unneeded.items c.prove_linked.ensures c.requires.kept c.requires.left c.in_ok-mentioned.ensures (listed g before) (flags g flagged) (subst (λ fs. IsWithout fs (view x) (view y)) c.deref-3.ensures.value e.dropped) (ap (λ (z : Context g.row.A.Denot). z.assumptions) e.kept) (left g here) e.ready
+    (λ v. subst (λ fs. IsDecidable (view y) y.vsids v ↔ (IsDecidable (view x) x.vsids v × (leaves fs v ≡ false))) c.deref-3.ensures.value (e.decidable v))
+
+pub returns-clause-left : goal.returns-clause-left
+returns-clause-left g c =
+    let here = (goal.at.returns-clause-left g c).In_ok-release_solver_vars in
+    let flagged = (goal.at.returns-clause-left g c).In_ok-gone in
+    let before = (goal.at.returns-clause-left g c).In_ok-list_unneeded in
+    let x = c.args.ctx.now in
+    let y = c.drop_variables.new.ctx in
+    let e = c.drop_variables.ensures in
+    needed-left c.args.variables.now c.release_solver_vars.new.variables x y c.in_ok-mentioned.mentioned.items c.in_ok-gone.gone.items c.list_unneeded.new.unneeded.items c.prove_linked.ensures c.requires.kept c.requires.left c.in_ok-mentioned.ensures (listed g before) (flags g flagged) (subst (λ fs. IsWithout fs (view x) (view y)) c.deref-3.ensures.value e.dropped) (ap (λ (z : Context g.row.A.Denot). z.assumptions) e.kept) (left g here)
+
+pub returns-clause-stands : goal.returns-clause-stands
+returns-clause-stands g c s fit =
+    let here = (goal.at.returns-clause-stands g c).In_ok-release_solver_vars in
+    let flagged = (goal.at.returns-clause-stands g c).In_ok-gone in
+    let before = (goal.at.returns-clause-stands g c).In_ok-list_unneeded in
+    let x = c.args.ctx.now in
+    let y = c.drop_variables.new.ctx in
+    let e = c.drop_variables.ensures in
+    let n = c.release_solver_vars.new.variables in
+    stands-released c.args.variables.now n x y c.in_ok-mentioned.mentioned.items c.in_ok-gone.gone.items c.list_unneeded.new.unneeded.items c.prove_linked.ensures c.requires.kept c.requires.left c.in_ok-mentioned.ensures (listed g before) (flags g flagged) (subst (λ fs. IsWithout fs (view x) (view y)) c.deref-3.ensures.value e.dropped) (ap (λ (z : Context g.row.A.Denot). z.assumptions) e.kept) (left g here)
+    (subst (λ xs. AreReleased xs c.args.variables.now n) c.deref-4.ensures.value (c.in_ok-release_solver_vars.ensures {u = tt}).released)
+    (subst (λ fs. search_of (view y) ≡ search_without fs (search_of (view x))) c.deref-3.ensures.value e.seen) s fit

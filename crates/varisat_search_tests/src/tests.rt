@@ -5,6 +5,7 @@ mod decisions;
 mod forgetting;
 mod levels;
 mod loading;
+mod naming;
 mod reductions;
 mod searches;
 mod simplifying;

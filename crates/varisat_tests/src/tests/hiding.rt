@@ -91,6 +91,38 @@ fn hides_often(solver: &mut TestSolver) -> Checked {
     Ok(holds)
 }
 
+// Each round hides one of two variables of a clause, makes the other true and hides it, so that no name is left that can
+// speak of either. The search never has more variables than those of a round and the two of the round before.
+fn hides_satisfied_clauses(solver: &mut TestSolver) -> Checked {
+    let mut holds = true;
+    for _ in 0..1000 {
+        solver.add_clause(&lits![1, 2])?;
+        solver.hide_var(var!(1))?;
+        solver.add_clause(&lits![2])?;
+        solver.hide_var(var!(2))?;
+        let is_satisfiable = solver.solve()?;
+        holds &= is_satisfiable & (solver.solver_watermark() <= 2);
+    }
+    Ok(holds)
+}
+
+// The only clause that names a hidden variable is satisfied, so that the variable leaves the search.
+fn leaves(solver: &mut TestSolver) -> Checked {
+    solver.add_clause(&lits![1, 2])?;
+    solver.hide_var(var!(1))?;
+    solver.add_clause(&lits![2])?;
+    solver.solve()
+}
+
+// It comes back, and may be constrained.
+fn comes_back(solver: &mut TestSolver) -> Checked {
+    let is_shown = shows(solver, &[var!(1)])?;
+    solver.sample_var(var!(1))?;
+    solver.add_clause(&lits![-1])?;
+    let is_satisfiable = solver.solve()?;
+    Ok(is_shown & is_satisfiable & tells(solver, &lits![-1, 2]))
+}
+
 // Each row has a solver of its own.
 fn rows(alloc: Global) -> [bool; 4] {
     let mut first = Solver::new_in(alloc);
@@ -105,7 +137,23 @@ fn rows(alloc: Global) -> [bool; 4] {
     ]
 }
 
+// One solver of many rounds, and one whose variable leaves and comes back.
+fn rows_of_leaving(alloc: Global) -> [bool; 3] {
+    let mut first = Solver::new_in(alloc);
+    let mut second = Solver::new_in(alloc);
+    [
+        matches!(hides_satisfied_clauses(&mut first), Ok(true)),
+        matches!(leaves(&mut second), Ok(true)),
+        matches!(comes_back(&mut second), Ok(true)),
+    ]
+}
+
 #[test]
 fn variables_are_hidden(rt: HostRuntime) {
     assert!(rt; rows(rt.alloc()) == [true; 4]);
+}
+
+#[test]
+fn hidden_variables_leave(rt: HostRuntime) {
+    assert!(rt; rows_of_leaving(rt.alloc()) == [true; 3]);
 }

@@ -34,9 +34,12 @@ fn has_model<A: Allocator + Copy>(solver: &Solver<MemoryTarget<A>, A>) -> Option
     }
 }
 
-fn outcome<A: Allocator + Copy>(solver: &mut Solver<MemoryTarget<A>, A>) -> Outcome {
+// A text for which the room suffices that the clause before it left, and one that wants more.
+const TEXTS: [&str; 2] = ["1 -2 0\n3 0\n", "1 -2 0\n3 0\n4 5 6 7 0\n-4 8 9 0\n"];
+
+fn outcome<A: Allocator + Copy>(solver: &mut Solver<MemoryTarget<A>, A>, text: &str) -> Outcome {
     let clause = refusal(&solver.add_clause(&lits![1, 2, -3]));
-    let mut source = ReadSource::new(b"1 -2 0\n3 0\n".as_slice());
+    let mut source = ReadSource::new(text.as_bytes());
     let text = refusal(&solver.add_dimacs_cnf(&mut source));
     let first = refusal(&solver.solve());
     let second = refusal(&solver.solve());
@@ -47,29 +50,30 @@ fn outcome<A: Allocator + Copy>(solver: &mut Solver<MemoryTarget<A>, A>) -> Outc
     )
 }
 
-fn outcome_in<A: Allocator + Copy>(alloc: A) -> Outcome {
+fn outcome_in<A: Allocator + Copy>(alloc: A, text: &str) -> Outcome {
     let mut solver = Solver::new_in(alloc);
-    outcome(&mut solver)
+    outcome(&mut solver, text)
 }
 
 // The place in the table of what happens on a heap of that many times 16 bytes.
-fn place_with(alloc: Global, room: u8) -> Result<Option<usize>, AllocError> {
+fn place_with(alloc: Global, room: u16, text: &str) -> Result<Option<usize>, AllocError> {
     let heap = LocalHeap::new(alloc, 16 * usize::from(room))?;
-    let outcome = outcome_in(&heap);
+    let outcome = outcome_in(&heap, text);
     Ok(OUTCOMES.iter().position(|row| *row == outcome))
 }
 
 #[test]
 fn each_growth_may_be_refused(rt: HostRuntime) {
     let mut reached = [false; 5];
-    for room in 0..250 {
-        match place_with(rt.alloc(), room) {
-            Ok(Some(place)) if place < 5 => reached[place] = true,
-            _ => panic!(rt; "with {room}"),
+    for text in TEXTS {
+        for room in 0..400 {
+            match place_with(rt.alloc(), room, text) {
+                Ok(Some(place)) if place < 5 => reached[place] = true,
+                _ => panic!(rt; "with {room}"),
+            }
         }
     }
-    // The list of a model is shorter than what was given back meanwhile, so it is refused on a full heap alone.
-    assert!(rt; reached[0] && reached[1] && reached[2] && reached[4]);
+    assert!(rt; reached == [true; 5]);
 }
 
 // Blocks of a heap, until it has none left.
@@ -90,7 +94,7 @@ fn models_in<A: Allocator + Copy>(
     heap: A,
 ) -> Result<(Option<bool>, bool, Option<bool>), AllocError> {
     let mut solver = Solver::new_in(heap);
-    let _ = outcome(&mut solver);
+    let _ = outcome(&mut solver, TEXTS[0]);
     let told = model_when_full(alloc, heap, &solver)?;
     Ok((told, solver.is_valid(), has_model(&solver)))
 }

@@ -1,0 +1,182 @@
+//! Names that come into use, modes that are set, hidden variables that come back, and the model of global variables.
+ghost use Rattle.std.specs.Prelude.{◌≡◌, ◌≤◌, false, length, IsTrue};
+ghost use Rattle.varisat_names.specs.VarData.{kept_at};
+
+use linked_list_allocator::LocalHeap;
+use std::alloc::{AllocError, Allocator, Global};
+use std::test::Fail;
+use varisat_literals::{Lit, Var, lit, var};
+use varisat_names::variables::{LinkedVariables, SamplingMode};
+use varisat_search::model::{Model, reconstruct_global_model};
+use varisat_search::variables::{
+    global_from_user, new_user_var, observe_internal_vars, set_sampling_mode,
+};
+
+/// Whether the global variable is live.
+fn is_live<A: Allocator + Copy>(variables: &LinkedVariables<A>, global: Var) -> bool
+    ensures { IsTrue result → (kept_at variables.now.kept global).deleted ≡ false }
+{
+    global.index() < variables.global_watermark() && !variables.var_data_global(global).deleted
+}
+
+/// Whether there are at most a hundred names and variables.
+fn are_few<A: Allocator + Copy>(variables: &LinkedVariables<A>) -> bool
+    ensures names { IsTrue result → length variables.now.users.forward ≤ 100 }
+    ensures globals { IsTrue result → length variables.now.kept ≤ 100 }
+{
+    variables.user_watermark() <= 100 && variables.global_watermark() <= 100
+}
+
+/// The variable of the name 3, and the name that comes into use next.
+fn names<A: Allocator + Copy>(
+    variables: &mut LinkedVariables<A>,
+) -> Result<[Option<Var>; 2], AllocError> {
+    let mut names = [None; 2];
+    if are_few(variables) {
+        names[0] = Some(global_from_user(variables, var!(3))?);
+    }
+    if are_few(variables) {
+        names[1] = Some(new_user_var(variables)?);
+    }
+    Ok(names)
+}
+
+/// Sets the mode of the variable, and returns what name it got.
+fn set<A: Allocator + Copy>(
+    variables: &mut LinkedVariables<A>,
+    global: Var,
+    mode: SamplingMode,
+) -> Result<Option<Var>, AllocError> {
+    if !is_live(variables, global) || !are_few(variables) {
+        return Ok(None);
+    }
+    set_sampling_mode(variables, global, mode)
+}
+
+/// Hides the variables of 1 and 3, where clauses hold that of 1, and returns the name that then comes into use.
+fn hide<A: Allocator + Copy>(
+    variables: &mut LinkedVariables<A>,
+) -> Result<[Option<Var>; 3], AllocError> {
+    if is_live(variables, var!(1)) {
+        variables.set_isolated(var!(1), false);
+    }
+    let first = set(variables, var!(1), SamplingMode::Hide)?;
+    let third = set(variables, var!(3), SamplingMode::Hide)?;
+    let mut next = None;
+    if are_few(variables) {
+        next = Some(new_user_var(variables)?);
+    }
+    Ok([first, third, next])
+}
+
+/// The names under which hidden variables come back.
+fn observe<A: Allocator + Copy>(
+    variables: &mut LinkedVariables<A>,
+    alloc: A,
+) -> Result<Option<Vec<Var, A>>, AllocError> {
+    if !are_few(variables) {
+        return Ok(None);
+    }
+    let shown = observe_internal_vars(variables, alloc)?;
+    Ok(Some(shown))
+}
+
+/// Whether the name of a hidden variable is used again, and the variable comes back under the least free one.
+fn is_named_anew<A: Allocator + Copy>(alloc: A) -> Result<bool, AllocError> {
+    let mut variables = LinkedVariables::new_in(alloc);
+    let named = names(&mut variables)?;
+    let hidden = hide(&mut variables)?;
+    let shown = observe(&mut variables, alloc)?;
+    let is_shown = matches!(&shown, Some(names) if names.as_slice() == [var!(3)].as_slice());
+    let witness = set(&mut variables, var!(1), SamplingMode::Witness)?;
+    Ok(
+        named == [Some(var!(3)), Some(var!(4))]
+            && hidden == [None, None, Some(var!(1))]
+            && is_shown
+            && witness.is_none(),
+    )
+}
+
+#[test]
+fn a_hidden_variable_gets_the_least_free_name(rt: HostRuntime) {
+    assert!(rt; matches!(is_named_anew(rt.alloc()), Ok(true)));
+}
+
+/// Four variables: 1 has a solver variable, 2 a unit, 3 neither, and 4 is not live any more.
+fn make_four<A: Allocator + Copy>(variables: &mut LinkedVariables<A>) -> Result<(), AllocError> {
+    if are_few(variables) {
+        global_from_user(variables, var!(4))?;
+    }
+    let is_free = variables.solver_from_global().get(var!(1)).is_none();
+    if is_live(variables, var!(1)) && is_free && variables.solver_watermark() <= 100 {
+        variables.take_solver_var(var!(1))?;
+    }
+    if is_live(variables, var!(2)) {
+        variables.set_unit(var!(2), true);
+    }
+    set(variables, var!(4), SamplingMode::Hide)?;
+    Ok(())
+}
+
+/// Which of the literals of four variables are true in the model.
+fn true_literals<A: Allocator + Copy>(model: &Model<A>) -> [bool; 8] {
+    let literals = [
+        lit!(1),
+        lit!(-1),
+        lit!(2),
+        lit!(-2),
+        lit!(3),
+        lit!(-3),
+        lit!(4),
+        lit!(-4),
+    ];
+    let mut are_true = [false; 8];
+    for place in 0..8 {
+        let literal: Lit = literals[place];
+        if literal.index() < model.assignment().len() {
+            are_true[place] = model.lit_is_true(literal);
+        }
+    }
+    are_true
+}
+
+/// Whether the model has the value of the solver variable, the unit, false, and none.
+fn is_modelled<A: Allocator + Copy>(alloc: A) -> Result<bool, AllocError> {
+    let mut variables = LinkedVariables::new_in(alloc);
+    make_four(&mut variables)?;
+    if !are_few(&variables) {
+        return Ok(false);
+    }
+    let model = reconstruct_global_model(alloc, &variables, &[Some(true)])?;
+    let values = [Some(true), Some(true), Some(false), None];
+    let are_true = [true, false, true, false, false, true, false, false];
+    Ok(model.assignment() == values.as_slice() && true_literals(&model) == are_true)
+}
+
+#[test]
+fn a_model_has_each_live_variable(rt: HostRuntime) {
+    assert!(rt; matches!(is_modelled(rt.alloc()), Ok(true)));
+}
+
+/// Whether both are right on a heap of that many bytes.
+fn are_right_with(alloc: Global, size: usize) -> Result<bool, AllocError> {
+    let heap = LocalHeap::new(alloc, size)?;
+    Ok(is_named_anew(&heap)? && is_modelled(&heap)?)
+}
+
+#[test]
+fn each_growth_of_names_may_be_refused(rt: HostRuntime) -> Result<(), Fail> {
+    let mut refused = false;
+    let mut right = false;
+    for room in 0..160 {
+        match are_right_with(rt.alloc(), 16 * room) {
+            Ok(both) => {
+                assert!(rt; both, "with {room}");
+                right = true;
+            }
+            Err(_) => refused = true,
+        }
+    }
+    assert!(rt; right && refused);
+    Ok(())
+}

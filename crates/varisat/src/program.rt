@@ -84,7 +84,8 @@ pub fn solve_lines<A: Allocator + Copy, S: ByteSource, W: Write, E: Write>(
 }
 
 /// Decides a DIMACS CNF text.
-// The new solver has a function of its own: its memory is given back in one place, not at each return of `decide_in`.
+// The new solver has a function of its own: it is dropped in one place and in one step, not at each return of `decide_in`
+// and part by part.
 fn decide<A: Allocator + Copy, S: ByteSource>(
     alloc: A,
     cnf: &mut S,
@@ -94,7 +95,9 @@ fn decide<A: Allocator + Copy, S: ByteSource>(
     ensures { IfOk result (λ report. Decides (allowed_steps options.max_steps) (S.stand cnf.old) (S.stand cnf.new) (concluded report)) }
 {
     let mut solver: Solver<MemoryTarget<A>, A> = Solver::new_in(alloc);
-    decide_in(&mut solver, cnf, options)
+    let report = decide_in(&mut solver, cnf, options);
+    drop(solver);
+    report
 }
 
 /// The same in a new solver.
@@ -181,7 +184,9 @@ fn answer_lines<A: Allocator + Copy, R: Read + Drop, W: Write>(
 ) -> io::Result<()> {
     let mut reader = BufReader::new(alloc, input)?;
     let mut solver: Solver<MemoryTarget<A>, A> = Solver::new_in(alloc);
-    answer_lines_in(alloc, &mut solver, &mut reader, out)
+    let written = answer_lines_in(alloc, &mut solver, &mut reader, out);
+    drop(solver);
+    written
 }
 
 /// Makes the calls of the lines in turn, and writes their answers.

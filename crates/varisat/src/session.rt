@@ -114,7 +114,9 @@ pub fn answers_of<W: ProofTarget, S: ByteSource, A: Allocator + Copy>(
     ensures run { IfOk result (λ answers. (t : State) × Run S.stand empty_state calls.items answers.items t) }
     ensures truth { IfOk result (λ answers. AreTrue S.stand empty_past calls.items answers.items) }
 {
-    // One return: the solver's memory is given back in one place.
     let mut solver: Solver<W, A> = Solver::new_in(*calls.allocator());
-    run(&mut solver, calls)
+    let answers = run(&mut solver, calls);
+    // In one step: at the end of a scope each part of it would be one.
+    drop(solver);
+    answers
 }

@@ -47,7 +47,8 @@ pub fn check_lines<A: Allocator + Copy, S: ByteSource, P: ByteSource, W: Write, 
 }
 
 /// Whether the proof refutes the clauses of the text.
-// The new checker has a function of its own: its memory is given back in one place, not at each return of `verify_in`.
+// The new checker has a function of its own: it is dropped in one place and in one step, not at each return of `verify_in`
+// and part by part.
 fn verify<A: Allocator + Copy, S: ByteSource, P: ByteSource>(
     alloc: A,
     cnf: &mut S,
@@ -59,7 +60,9 @@ fn verify<A: Allocator + Copy, S: ByteSource, P: ByteSource>(
     ensures { IfOk result (λ verified. Verifies format (record { cnf = S.stand cnf.old; proof = P.stand proof.old }) (record { cnf = S.stand cnf.new; proof = P.stand proof.new }) verified) }
 {
     let mut checker = Checker::new_in(alloc);
-    verify_in(&mut checker, cnf, proof, format)
+    let verified = verify_in(&mut checker, cnf, proof, format);
+    drop(checker);
+    verified
 }
 
 /// Whether the proof is verified that a check returned this for, or its fault.

@@ -136,7 +136,9 @@ fn reads_cut(alloc: Global, text: &[u8], place: usize, outcome: &Outcome) -> boo
     let (front, back) = text.split_at(place.min(text.len()));
     let _ = parser.feed(front);
     let _ = parser.feed(back);
-    ends(&mut parser, outcome)
+    let is_right = ends(&mut parser, outcome);
+    drop(parser);
+    is_right
 }
 
 fn reads_bytes(alloc: Global, text: &[u8], outcome: &Outcome) -> bool {
@@ -144,13 +146,17 @@ fn reads_bytes(alloc: Global, text: &[u8], outcome: &Outcome) -> bool {
     for i in 0..text.len() {
         let _ = parser.feed(&text[i..i + 1]);
     }
-    ends(&mut parser, outcome)
+    let is_right = ends(&mut parser, outcome);
+    drop(parser);
+    is_right
 }
 
 fn reads_whole(alloc: Global, text: &[u8], outcome: &Outcome) -> bool {
     let mut parser = DimacsParser::new_in(alloc);
     let _ = parser.feed(text);
-    ends(&mut parser, outcome)
+    let is_right = ends(&mut parser, outcome);
+    drop(parser);
+    is_right
 }
 
 /// Whether the text gives this whole, in pieces of one byte, and cut in two at every place.
@@ -287,25 +293,33 @@ fn is_over(parser: &mut DimacsParser<Global>) -> bool {
 #[test]
 fn after_the_end(rt: HostRuntime) {
     let mut parser = DimacsParser::new_in(rt.alloc());
-    assert!(rt; reads_on(&mut parser));
+    let is_right = reads_on(&mut parser);
+    drop(parser);
+    assert!(rt; is_right);
 }
 
 #[test]
 fn after_a_fault(rt: HostRuntime) {
     let mut parser = DimacsParser::new_in(rt.alloc());
-    assert!(rt; stays_faulty(&mut parser));
+    let is_right = stays_faulty(&mut parser);
+    drop(parser);
+    assert!(rt; is_right);
 }
 
 #[test]
 fn broken_off(rt: HostRuntime) {
     let mut parser = DimacsParser::new_in(rt.alloc());
-    assert!(rt; breaks_off(&mut parser));
+    let is_right = breaks_off(&mut parser);
+    drop(parser);
+    assert!(rt; is_right);
 }
 
 #[test]
 fn broken_off_after_the_end(rt: HostRuntime) {
     let mut parser = DimacsParser::new_in(rt.alloc());
-    assert!(rt; is_over(&mut parser));
+    let is_right = is_over(&mut parser);
+    drop(parser);
+    assert!(rt; is_right);
 }
 
 /// A source that gives the text and then fails.
@@ -351,6 +365,7 @@ fn fails_after_pieces(alloc: Global) -> Result<bool, FormulaError> {
     let mut parser = DimacsParser::new_in(alloc);
     let fails = gives_two_pieces(&mut parser, &mut failing(b"1 0\n2"));
     let is_taken = is_one_clause(alloc, &parser.take_formula());
+    drop(parser);
     if fails { is_taken } else { Ok(false) }
 }
 
@@ -500,6 +515,7 @@ fn read_with(alloc: Global, room: u8) -> Result<Reached, AllocError> {
     let heap = LocalHeap::new(alloc, 16 * usize::from(room))?;
     let mut parser = DimacsParser::new_in(&heap);
     let reached = read_five(&mut parser);
+    drop(parser);
     Ok(reached)
 }
 

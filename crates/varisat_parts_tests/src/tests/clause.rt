@@ -182,7 +182,10 @@ fn tier_counts_in(
 fn tier_counts(rt_alloc: Global) -> (bool, [[usize; 4]; 2]) {
     let mut alloc = ClauseAlloc::new_in(rt_alloc);
     let mut db = ClauseDb::new_in(rt_alloc);
-    tier_counts_in(&mut alloc, &mut db)
+    let counts = tier_counts_in(&mut alloc, &mut db);
+    drop(alloc);
+    drop(db);
+    counts
 }
 
 #[test]
@@ -272,7 +275,10 @@ fn layouts_in(
 fn layouts(rt_alloc: Global) -> (bool, [Option<Layout>; 2]) {
     let mut alloc = ClauseAlloc::new_in(rt_alloc);
     let mut db = ClauseDb::new_in(rt_alloc);
-    layouts_in(&mut alloc, &mut db)
+    let layouts = layouts_in(&mut alloc, &mut db);
+    drop(alloc);
+    drop(db);
+    layouts
 }
 
 #[test]
@@ -341,7 +347,10 @@ fn reduced_in(
 fn reduced(rt_alloc: Global, marked: bool) -> (bool, [bool; 5]) {
     let mut alloc = ClauseAlloc::new_in(rt_alloc);
     let mut db = ClauseDb::new_in(rt_alloc);
-    reduced_in(&mut alloc, &mut db, marked)
+    let reduced = reduced_in(&mut alloc, &mut db, marked);
+    drop(alloc);
+    drop(db);
+    reduced
 }
 
 #[test]
@@ -393,7 +402,10 @@ fn mids_in(
 fn mids(rt_alloc: Global) -> (bool, [Option<(Tier, bool)>; 2]) {
     let mut alloc = ClauseAlloc::new_in(rt_alloc);
     let mut db = ClauseDb::new_in(rt_alloc);
-    mids_in(&mut alloc, &mut db)
+    let mids = mids_in(&mut alloc, &mut db);
+    drop(alloc);
+    drop(db);
+    mids
 }
 
 #[test]
@@ -466,7 +478,9 @@ fn activities_in(alloc: &mut ClauseAlloc<Global>) -> ([Option<u32>; 2], u32)
 fn activities(rt_alloc: Global) -> (bool, ([Option<u32>; 2], u32)) {
     let mut alloc = ClauseAlloc::new_in(rt_alloc);
     let is_added = add_local(&mut alloc);
-    (is_added, activities_in(&mut alloc))
+    let activities = activities_in(&mut alloc);
+    drop(alloc);
+    (is_added, activities)
 }
 
 #[test]
@@ -507,6 +521,8 @@ fn added_with(rt_alloc: Global, room: u8) -> Result<(usize, usize, bool), AllocE
     let mut alloc = ClauseAlloc::new_in(&heap);
     let mut db = ClauseDb::new_in(&heap);
     let told = added_in(&mut alloc, &mut db);
+    drop(alloc);
+    drop(db);
     Ok(told)
 }
 

@@ -87,7 +87,10 @@ fn left_of<B: Allocator + Copy>(rt_alloc: Global, heap: B) -> (Left, bool) {
     };
     let rows = [(Tier::Irred, 0, 3), (Tier::Mid, 0, 5), (Tier::Local, 0, 4)];
     let is_added = add_all(&mut alloc, &mut db, &rows);
-    (left_in(&mut alloc, &mut db, &mut filter), is_added)
+    let left = left_in(&mut alloc, &mut db, &mut filter);
+    drop(alloc);
+    drop(db);
+    (left, is_added)
 }
 
 /// What is left of clauses of 3, 5 and 4 literals.
@@ -174,7 +177,10 @@ fn marks_in(alloc: &mut ClauseAlloc<Global>, db: &mut ClauseDb<Global>) -> (bool
 fn marks(rt_alloc: Global) -> (bool, [[bool; 4]; 2]) {
     let mut alloc = ClauseAlloc::new_in(rt_alloc);
     let mut db = ClauseDb::new_in(rt_alloc);
-    marks_in(&mut alloc, &mut db)
+    let marks = marks_in(&mut alloc, &mut db);
+    drop(alloc);
+    drop(db);
+    marks
 }
 
 #[test]

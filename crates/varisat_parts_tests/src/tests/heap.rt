@@ -81,7 +81,9 @@ fn later_bumps_count(vsids: &mut Vsids<Global>) -> bool
 #[test]
 fn later_bumps_add_more(rt: HostRuntime) -> Result<(), AllocError> {
     let mut vsids = eight(rt.alloc(), 500)?;
-    assert!(rt; later_bumps_count(&mut vsids));
+    let is_right = later_bumps_count(&mut vsids);
+    drop(vsids);
+    assert!(rt; is_right);
     Ok(())
 }
 
@@ -104,7 +106,9 @@ fn calls_count(vsids: &mut Vsids<Global>) -> bool
 #[test]
 fn each_call_of_the_heap(rt: HostRuntime) -> Result<(), AllocError> {
     let mut vsids = eight(rt.alloc(), 999)?;
-    assert!(rt; calls_count(&mut vsids));
+    let is_right = calls_count(&mut vsids);
+    drop(vsids);
+    assert!(rt; is_right);
     Ok(())
 }
 
@@ -132,7 +136,9 @@ fn shifts_keep_order(vsids: &mut Vsids<Global>) -> bool
 #[test]
 fn activities_are_shifted(rt: HostRuntime) -> Result<(), AllocError> {
     let mut vsids = eight(rt.alloc(), 500)?;
-    assert!(rt; shifts_keep_order(&mut vsids));
+    let is_kept = shifts_keep_order(&mut vsids);
+    drop(vsids);
+    assert!(rt; is_kept);
     Ok(())
 }
 
@@ -142,6 +148,7 @@ fn count_with(alloc: Global, room: u8) -> Result<(bool, usize), AllocError> {
     let mut vsids = Vsids::new_in(&heap);
     let is_grown = vsids.set_var_count(8).is_ok();
     let count = vsids.var_count();
+    drop(vsids);
     Ok((is_grown, count))
 }
 

@@ -176,14 +176,18 @@ fn lead(variables: &mut LinkedVariables<Global>) -> Result<bool, AllocError> {
 #[test]
 fn names_lead_to_variables(rt: HostRuntime) {
     let mut variables = LinkedVariables::new_in(rt.alloc());
-    assert!(rt; matches!(lead(&mut variables), Ok(true)));
+    let is_right = matches!(lead(&mut variables), Ok(true));
+    drop(variables);
+    assert!(rt; is_right);
 }
 
 /// Whether the names are right on a heap of that many times 16 bytes.
 fn is_named_with(alloc: Global, room: u8) -> Result<bool, AllocError> {
     let heap = LocalHeap::new(alloc, 16 * usize::from(room))?;
     let mut variables = LinkedVariables::new_in(&heap);
-    is_named(&mut variables)
+    let is_right = is_named(&mut variables);
+    drop(variables);
+    is_right
 }
 
 #[test]
@@ -243,7 +247,9 @@ fn changes(variables: &mut LinkedVariables<Global>) -> Result<bool, AllocError> 
 #[test]
 fn what_is_kept_changes(rt: HostRuntime) {
     let mut variables = LinkedVariables::new_in(rt.alloc());
-    assert!(rt; matches!(changes(&mut variables), Ok(true)));
+    let is_right = matches!(changes(&mut variables), Ok(true));
+    drop(variables);
+    assert!(rt; is_right);
 }
 
 /// Whether a pair can be found from both sides, and neither once it is taken out.
@@ -268,7 +274,9 @@ fn goes_both_ways(map: &mut VarBiMap<Global>) -> Result<bool, AllocError>
 #[test]
 fn maps_go_both_ways(rt: HostRuntime) {
     let mut map = VarBiMap::new_in(rt.alloc());
-    assert!(rt; matches!(goes_both_ways(&mut map), Ok(true)));
+    let is_right = matches!(goes_both_ways(&mut map), Ok(true));
+    drop(map);
+    assert!(rt; is_right);
 }
 
 /// Whether a high name brings as many names and global variables, and no solver variable.
@@ -282,7 +290,9 @@ fn is_high(variables: &mut LinkedVariables<Global>) -> Result<bool, AllocError>
 #[test]
 fn many_names_are_cheap(rt: HostRuntime) {
     let mut variables = LinkedVariables::new_in(rt.alloc());
-    assert!(rt; matches!(is_high(&mut variables), Ok(true)));
+    let is_right = matches!(is_high(&mut variables), Ok(true));
+    drop(variables);
+    assert!(rt; is_right);
 }
 
 #[test]

@@ -52,7 +52,9 @@ fn keeps_pairs<A: Allocator + Copy>(lists: &mut BinaryClauses<A>) -> Result<bool
 #[test]
 fn pairs_are_kept(rt: HostRuntime) {
     let mut lists = BinaryClauses::new_in(rt.alloc());
-    assert!(rt; matches!(keeps_pairs(&mut lists), Ok(true)));
+    let is_right = matches!(keeps_pairs(&mut lists), Ok(true));
+    drop(lists);
+    assert!(rt; is_right);
 }
 
 /// Whether only the clause without the first variable is left once that one has a value.
@@ -84,14 +86,19 @@ fn drops_pairs<A: Allocator + Copy>(
 fn pairs_with_a_value_are_dropped(rt: HostRuntime) {
     let mut lists = BinaryClauses::new_in(rt.alloc());
     let mut assignment = Assignment::new_in(rt.alloc());
-    assert!(rt; matches!(drops_pairs(&mut lists, &mut assignment), Ok(true)));
+    let is_right = matches!(drops_pairs(&mut lists, &mut assignment), Ok(true));
+    drop(lists);
+    drop(assignment);
+    assert!(rt; is_right);
 }
 
 /// Whether the lists are right on a heap of that many times 16 bytes.
 fn keeps_pairs_with(alloc: Global, room: u8) -> Result<bool, AllocError> {
     let heap = LocalHeap::new(alloc, 16 * usize::from(room))?;
     let mut lists = BinaryClauses::new_in(&heap);
-    keeps_pairs(&mut lists)
+    let is_right = keeps_pairs(&mut lists);
+    drop(lists);
+    is_right
 }
 
 #[test]

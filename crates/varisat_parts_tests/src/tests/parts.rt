@@ -63,7 +63,9 @@ fn keeps_values(assignment: &mut Assignment<Global>) -> Result<bool, AllocError>
 #[test]
 fn values(rt: HostRuntime) {
     let mut assignment = Assignment::new_in(rt.alloc());
-    assert!(rt; matches!(keeps_values(&mut assignment), Ok(true)));
+    let is_right = matches!(keeps_values(&mut assignment), Ok(true));
+    drop(assignment);
+    assert!(rt; is_right);
 }
 
 /// Whether all is propagated, the first literal that is not, and the level.
@@ -130,7 +132,9 @@ fn keeps_trail(trail: &mut Trail<Global>) -> Result<bool, AllocError>
 #[test]
 fn trails(rt: HostRuntime) {
     let mut trail = Trail::new_in(rt.alloc());
-    assert!(rt; matches!(keeps_trail(&mut trail), Ok(true)));
+    let is_right = matches!(keeps_trail(&mut trail), Ok(true));
+    drop(trail);
+    assert!(rt; is_right);
 }
 
 /// Whether reasons and units that were taken off are kept.
@@ -160,7 +164,9 @@ fn keeps_nodes(graph: &mut ImplGraph<Global>) -> Result<bool, AllocError>
 #[test]
 fn nodes(rt: HostRuntime) {
     let mut graph = ImplGraph::new_in(rt.alloc());
-    assert!(rt; matches!(keeps_nodes(&mut graph), Ok(true)));
+    let is_right = matches!(keeps_nodes(&mut graph), Ok(true));
+    drop(graph);
+    assert!(rt; is_right);
 }
 
 /// Whether the order of the literals of a clause of three can be changed.
@@ -204,7 +210,9 @@ fn names_clauses(clauses: &mut ClauseAlloc<Global>) -> Result<bool, StoreError>
 #[test]
 fn clauses(rt: HostRuntime) {
     let mut clauses = ClauseAlloc::new_in(rt.alloc());
-    assert!(rt; matches!(names_clauses(&mut clauses), Ok(true)));
+    let is_right = matches!(names_clauses(&mut clauses), Ok(true));
+    drop(clauses);
+    assert!(rt; is_right);
 }
 
 /// Makes a literal true, and says whether it is noted.
@@ -232,7 +240,11 @@ fn is_enqueued<A: Allocator + Copy>(alloc: A) -> Result<bool, AllocError> {
     let mut assignment = Assignment::new_in(alloc);
     let mut graph = ImplGraph::new_in(alloc);
     let mut trail = Trail::new_in(alloc);
-    enqueue(&mut assignment, &mut graph, &mut trail)
+    let is_right = enqueue(&mut assignment, &mut graph, &mut trail);
+    drop(assignment);
+    drop(graph);
+    drop(trail);
+    is_right
 }
 
 /// Makes a literal true on a heap of that many times 16 bytes.

@@ -89,8 +89,7 @@ fn is_used_again<A: Allocator + Copy>(
 
 #[test]
 fn what_is_used_again_starts_fresh(rt: HostRuntime) {
-    let mut variables = LinkedVariables::new_in(rt.alloc());
-    assert!(rt; matches!(is_used_again(&mut variables), Ok(true)));
+    assert!(rt; matches!(is_new_one_used_again(rt.alloc()), Ok(true)));
 }
 
 /// Whether a hidden variable that clauses hold gets the least free name as a witness.
@@ -118,17 +117,29 @@ fn is_shown<A: Allocator + Copy>(variables: &mut LinkedVariables<A>) -> Result<b
 
 #[test]
 fn a_hidden_variable_is_shown(rt: HostRuntime) {
-    let mut variables = LinkedVariables::new_in(rt.alloc());
-    assert!(rt; matches!(is_shown(&mut variables), Ok(true)));
+    assert!(rt; matches!(is_new_one_shown(rt.alloc()), Ok(true)));
+}
+
+/// Whether names are hidden and used again.
+fn is_new_one_used_again<A: Allocator + Copy>(alloc: A) -> Result<bool, AllocError> {
+    let mut variables = LinkedVariables::new_in(alloc);
+    let is_right = is_used_again(&mut variables);
+    drop(variables);
+    is_right
+}
+
+/// Whether a hidden variable is shown.
+fn is_new_one_shown<A: Allocator + Copy>(alloc: A) -> Result<bool, AllocError> {
+    let mut variables = LinkedVariables::new_in(alloc);
+    let is_right = is_shown(&mut variables);
+    drop(variables);
+    is_right
 }
 
 /// Whether names are hidden, shown and used again on a heap of that many times 16 bytes.
 fn is_right_with(alloc: Global, room: u8) -> Result<bool, AllocError> {
     let heap = LocalHeap::new(alloc, 16 * usize::from(room))?;
-    let mut first = LinkedVariables::new_in(&heap);
-    let is_first_right = is_used_again(&mut first)?;
-    let mut second = LinkedVariables::new_in(&heap);
-    Ok(is_first_right && is_shown(&mut second)?)
+    Ok(is_new_one_used_again(&heap)? && is_new_one_shown(&heap)?)
 }
 
 #[test]
@@ -221,7 +232,9 @@ fn is_lent(variables: &mut Variables<Global>) -> Result<bool, AllocError> {
 #[test]
 fn parts_are_lent(rt: HostRuntime) {
     let mut variables = Variables::new_in(rt.alloc());
-    assert!(rt; matches!(is_lent(&mut variables), Ok(true)));
+    let is_right = matches!(is_lent(&mut variables), Ok(true));
+    drop(variables);
+    assert!(rt; is_right);
 }
 
 #[test]

@@ -122,14 +122,18 @@ fn keeps_watches<A: Allocator + Copy>(lists: &mut Watchlists<A>) -> Result<bool,
 #[test]
 fn watches_are_kept(rt: HostRuntime) {
     let mut lists = Watchlists::new_in(rt.alloc());
-    assert!(rt; matches!(keeps_watches(&mut lists), Ok(true)));
+    let is_right = matches!(keeps_watches(&mut lists), Ok(true));
+    drop(lists);
+    assert!(rt; is_right);
 }
 
 /// Whether the lists are right on a heap of that many times 16 bytes.
 fn keeps_watches_with(alloc: Global, room: u8) -> Result<bool, AllocError> {
     let heap = LocalHeap::new(alloc, 16 * usize::from(room))?;
     let mut lists = Watchlists::new_in(&heap);
-    keeps_watches(&mut lists)
+    let is_right = keeps_watches(&mut lists);
+    drop(lists);
+    is_right
 }
 
 #[test]

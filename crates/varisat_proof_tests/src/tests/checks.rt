@@ -159,7 +159,9 @@ fn check(alloc: Global, row: &Row, first: usize, size: usize) -> Outcome {
         size,
         fails: false,
     };
-    outcome_of(&checker.check_proof(&mut ReadSource::new(reader), row.1))
+    let outcome = outcome_of(&checker.check_proof(&mut ReadSource::new(reader), row.1));
+    drop(checker);
+    outcome
 }
 
 /// Whether the row's check returns its outcome whole, in pieces of one byte, and cut in two at every place.
@@ -193,10 +195,14 @@ fn check_formula(
     bytes: &'static [u8],
 ) -> Outcome {
     let mut checker = Checker::new_in(alloc);
-    if checker.add_formula(formula).is_err() {
-        return Outcome::OutOfMemory;
+    let is_added = checker.add_formula(formula).is_ok();
+    let outcome = outcome_of(&checker.check_proof(&mut ReadSource::new(bytes), format));
+    drop(checker);
+    if is_added {
+        outcome
+    } else {
+        Outcome::OutOfMemory
     }
-    outcome_of(&checker.check_proof(&mut ReadSource::new(bytes), format))
 }
 
 fn formula_outcomes(alloc: Global) -> Result<bool, FormulaError> {

@@ -43,7 +43,9 @@ fn fails_behind(alloc: Global, bytes: &'static [u8]) -> (Outcome, bool) {
         fails: true,
     };
     let outcome = outcome_of(&checker.check_proof(&mut ReadSource::new(reader), ProofFormat::Drat));
-    (outcome, is_spent(&mut checker))
+    let spent = is_spent(&mut checker);
+    drop(checker);
+    (outcome, spent)
 }
 
 #[test]
@@ -58,8 +60,7 @@ fn sources_that_fail(rt: HostRuntime) {
 }
 
 /// Whether lines that fail leave the clauses that the lines before left.
-fn keeps_clauses(alloc: Global) -> bool {
-    let mut checker = Checker::new_in(alloc);
+fn keeps_clauses(checker: &mut Checker<Global>) -> bool {
     let _ = checker.add_clause(&lits![1, 2]);
     let proof = b"1 2 3 0 d 2 1 0 4 0".as_slice();
     let failed = checker.check_proof(&mut ReadSource::new(proof), ProofFormat::Drat);
@@ -76,12 +77,14 @@ fn keeps_clauses(alloc: Global) -> bool {
 
 #[test]
 fn lines_that_fail(rt: HostRuntime) {
-    assert!(rt; keeps_clauses(rt.alloc()));
+    let mut checker = Checker::new_in(rt.alloc());
+    let are_kept = keeps_clauses(&mut checker);
+    drop(checker);
+    assert!(rt; are_kept);
 }
 
 /// Whether a text's fault leaves the clauses before it, and is no end of the checker.
-fn keeps_text(alloc: Global) -> bool {
-    let mut checker = Checker::new_in(alloc);
+fn keeps_text(checker: &mut Checker<Global>) -> bool {
     let fault = checker.add_dimacs_cnf(&mut ReadSource::new(b"1 -2 0\n2".as_slice()));
     refusal(&fault) == Some(Outcome::Dimacs)
         && checker.len() == 1
@@ -91,7 +94,10 @@ fn keeps_text(alloc: Global) -> bool {
 
 #[test]
 fn texts_with_faults(rt: HostRuntime) {
-    assert!(rt; keeps_text(rt.alloc()));
+    let mut checker = Checker::new_in(rt.alloc());
+    let is_kept = keeps_text(&mut checker);
+    drop(checker);
+    assert!(rt; is_kept);
 }
 
 #[test]
@@ -153,6 +159,7 @@ fn outcome_in<A: Allocator + Copy>(alloc: A) -> MemoryOutcome {
     let proof = b"2 1 0 d 1 2 0 2 0".as_slice();
     let checked = outcome_of(&checker.check_proof(&mut ReadSource::new(proof), ProofFormat::Drat));
     let spent = is_spent(&mut checker);
+    drop(checker);
     (added, checked, spent)
 }
 

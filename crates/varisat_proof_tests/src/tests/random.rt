@@ -133,7 +133,9 @@ fn checker_outcome(
     for clause in clauses {
         let _ = checker.add_clause(clause);
     }
-    outcome_of(&checker.check_proof(&mut ReadSource::new(bytes), format))
+    let outcome = outcome_of(&checker.check_proof(&mut ReadSource::new(bytes), format));
+    drop(checker);
+    outcome
 }
 
 /// Whether the checker comes to this with the proof in both formats.

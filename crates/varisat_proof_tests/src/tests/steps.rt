@@ -101,7 +101,9 @@ fn check(alloc: Global, cnf: &'static [u8], step: &ProofStep<'_>) -> (Option<Out
         Ok(()) => None,
         Err(error) => Some(refusal_of(&error)),
     };
-    (outcome, checker.len())
+    let count = checker.len();
+    drop(checker);
+    (outcome, count)
 }
 
 #[test]
@@ -142,12 +144,12 @@ fn writes_refutation(alloc: Global, literal: Lit) -> Option<CheckVerdict> {
     let mut checker = Checker::new_in(alloc);
     let square = b"1 2 0 -1 2 0 1 -2 0 -1 -2 0".as_slice();
     let _ = checker.add_dimacs_cnf(&mut ReadSource::new(square));
-    checker
-        .check_proof(
-            &mut ReadSource::new(target.bytes()),
-            ProofFormat::BinaryDrat,
-        )
-        .ok()
+    let verdict = checker.check_proof(
+        &mut ReadSource::new(target.bytes()),
+        ProofFormat::BinaryDrat,
+    );
+    drop(checker);
+    verdict.ok()
 }
 
 #[test]

@@ -23,8 +23,13 @@ fn searched<A: Allocator + Copy>(
     ensures { IfOk result (λ ctx. IsReady ctx) }
 {
     let mut ctx = loaded(alloc, 5, clauses)?;
-    take_steps(&mut ctx, assumptions, steps)?;
-    Ok(ctx)
+    match take_steps(&mut ctx, assumptions, steps) {
+        Ok(()) => Ok(ctx),
+        Err(error) => {
+            drop(ctx);
+            Err(error)
+        }
+    }
 }
 
 /// Makes so many steps under the assumptions.
@@ -65,6 +70,7 @@ fn comes_to<A: Allocator + Copy>(ctx: &Context<A>, row: &Row) -> bool {
 fn holds(alloc: Global, row: &Row) -> Result<bool, StoreError> {
     let ctx = searched(alloc, row.clauses, row.assumptions, 1)?;
     let is_right = comes_to(&ctx, row);
+    drop(ctx);
     Ok(is_right)
 }
 
@@ -85,6 +91,7 @@ fn fails_with(
     let ctx = searched(alloc, clauses, assumptions, 2)?;
     let [first, second] = core;
     let fails = is_core(&ctx, first, second) && ctx.assumptions.user_assumptions() == assumptions;
+    drop(ctx);
     Ok(fails)
 }
 
@@ -153,6 +160,7 @@ fn lone_core(
         [lit] => Some(*lit),
         _ => None,
     };
+    drop(ctx);
     Ok(core)
 }
 
@@ -176,6 +184,7 @@ fn keeps_assumptions(alloc: Global) -> Result<bool, StoreError> {
     let clauses: &[&[Lit]] = &[&lits![1, 2], &lits![3, 4]];
     let mut ctx = searched(alloc, clauses, &lits![-5, 2], 1)?;
     let kept = restarts_to(&mut ctx, &lits![-5, 2, 1, 3, 4], &lits![-5, 2]);
+    drop(ctx);
     Ok(kept)
 }
 
@@ -208,8 +217,9 @@ fn keeps_no_decision(alloc: Global) -> Result<bool, StoreError> {
         &lits![1, 5],
     ];
     let mut ctx = searched(alloc, clauses, &lits![5], 1)?;
-    let undone = undoes_decision(&mut ctx, &lits![-1], &lits![-1, 5])?;
-    Ok(undone)
+    let undone = undoes_decision(&mut ctx, &lits![-1], &lits![-1, 5]);
+    drop(ctx);
+    undone
 }
 
 // -1 is learned at level 0 and implies 5, so that no assumption is left, and 2 is decided at the level that 5 had.
@@ -229,6 +239,7 @@ fn fail<A: Allocator + Copy>(alloc: A) -> Result<SatState, StoreError> {
     ];
     let ctx = searched(alloc, clauses, &lits![3, 4], 3)?;
     let verdict = ctx.solver_state.sat_state;
+    drop(ctx);
     Ok(verdict)
 }
 

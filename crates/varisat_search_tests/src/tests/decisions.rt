@@ -51,7 +51,9 @@ fn bumps<A: Allocator + Copy>(ctx: &mut Context<A>) -> Result<bool, StoreError>
 
 fn bumps_loaded(alloc: Global) -> Result<bool, StoreError> {
     let mut ctx = loaded_conflict(alloc)?;
-    bumps(&mut ctx)
+    let is_bumped = bumps(&mut ctx);
+    drop(ctx);
+    is_bumped
 }
 
 // 1 is decided and implies 2, 3 is decided and implies 4 and 5, and -1 -4 -5 is false: with it and the reason of 5 the
@@ -92,7 +94,9 @@ fn decides_of_two<A: Allocator + Copy>(ctx: &mut Context<A>) -> Result<bool, Sto
 
 fn decides_in_new(alloc: Global) -> Result<bool, StoreError> {
     let mut ctx = Context::new_in(alloc);
-    decides_of_two(&mut ctx)
+    let is_decided = decides_of_two(&mut ctx);
+    drop(ctx);
+    is_decided
 }
 
 // 1 is not available, and 2 is decided as false, since it had no value before.

@@ -66,19 +66,30 @@ fn values<A: Allocator + Copy>(ctx: &Context<A>) -> [Option<bool>; 5] {
 }
 
 /// Whether two units are forgotten, and the values after a step.
-fn forgets<A: Allocator + Copy>(alloc: A) -> Result<(bool, [Option<bool>; 5]), StoreError> {
+fn forgets<A: Allocator + Copy>(
+    alloc: A,
+    ctx: &mut Context<A>,
+) -> Result<(bool, [Option<bool>; 5]), StoreError>
+    requires { IsReady ctx.old }
+{
+    let is_settled = forget_units(alloc, ctx)?;
+    let is_empty = ctx.trail.trail().is_empty() && values(ctx) == [None; 5];
+    step(ctx)?;
+    Ok((is_settled && is_empty, values(ctx)))
+}
+
+fn forgets_loaded<A: Allocator + Copy>(alloc: A) -> Result<(bool, [Option<bool>; 5]), StoreError> {
     let clauses: &[&[Lit]] = &[&lits![1], &lits![2, 3, 4], &lits![-1, 5]];
     let mut ctx = loaded(alloc, 5, clauses)?;
-    let is_settled = forget_units(alloc, &mut ctx)?;
-    let is_empty = ctx.trail.trail().is_empty() && values(&ctx) == [None; 5];
-    step(&mut ctx)?;
-    Ok((is_settled && is_empty, values(&ctx)))
+    let found = forgets(alloc, &mut ctx);
+    drop(ctx);
+    found
 }
 
 // 1 is a unit and implies 5. Both leave the search, and only the others are decided after that.
 #[test]
 fn units_are_forgotten(rt: HostRuntime) -> Result<(), Fail> {
-    let (is_forgotten, values) = forgets(rt.alloc())?;
+    let (is_forgotten, values) = forgets_loaded(rt.alloc())?;
     assert!(rt; is_forgotten);
     assert!(rt; values.map(|value| value.is_some()) == [false, true, true, true, false]);
     Ok(())

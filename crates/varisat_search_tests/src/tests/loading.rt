@@ -48,7 +48,9 @@ fn verdicts<A: Allocator + Copy>(
 
 fn verdicts_on_units(alloc: Global) -> Result<([usize; 4], SatState, usize, SatState), StoreError> {
     let mut ctx = loaded(alloc, 3, &[])?;
-    verdicts(&mut ctx)
+    let verdicts = verdicts(&mut ctx);
+    drop(ctx);
+    verdicts
 }
 
 #[test]
@@ -63,7 +65,9 @@ fn count_stored(alloc: Global, count: usize, clauses: &[&[Lit]]) -> Result<usize
     requires { count ≤ variable_limit }
 {
     let ctx = loaded(alloc, count, clauses)?;
-    Ok(ctx.clause_alloc.len())
+    let stored = ctx.clause_alloc.len();
+    drop(ctx);
+    Ok(stored)
 }
 
 /// Whether the literal implies just these by clauses of two literals.
@@ -72,22 +76,26 @@ fn implies<A: Allocator + Copy>(ctx: &Context<A>, lit: Lit, wanted: &[Lit]) -> b
 }
 
 /// Whether two clauses of two literals are listed by these, and stored nowhere else.
-fn are_listed(alloc: Global) -> Result<bool, StoreError> {
+fn are_listed<A: Allocator + Copy>(ctx: &Context<A>) -> bool {
+    ctx.clause_alloc.len() == 0
+        && implies(ctx, lit!(-1), &lits![2])
+        && implies(ctx, lit!(-2), &lits![1])
+        && implies(ctx, lit!(1), &lits![3])
+        && implies(ctx, lit!(-3), &lits![-1])
+        && implies(ctx, lit!(4), &[])
+}
+
+fn are_loaded_ones_listed(alloc: Global) -> Result<bool, StoreError> {
     let clauses: &[&[Lit]] = &[&lits![1, 2], &lits![-1, 3, 3], &lits![4, -4]];
     let ctx = loaded(alloc, 4, clauses)?;
-    Ok(
-        ctx.clause_alloc.len() == 0
-            && implies(&ctx, lit!(-1), &lits![2])
-            && implies(&ctx, lit!(-2), &lits![1])
-            && implies(&ctx, lit!(1), &lits![3])
-            && implies(&ctx, lit!(-3), &lits![-1])
-            && implies(&ctx, lit!(4), &[]),
-    )
+    let are_listed = are_listed(&ctx);
+    drop(ctx);
+    Ok(are_listed)
 }
 
 #[test]
 fn clauses_of_two_literals(rt: HostRuntime) -> Result<(), StoreError> {
-    assert!(rt; are_listed(rt.alloc())?);
+    assert!(rt; are_loaded_ones_listed(rt.alloc())?);
     Ok(())
 }
 

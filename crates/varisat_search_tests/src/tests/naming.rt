@@ -82,13 +82,15 @@ fn observe<A: Allocator + Copy>(
 }
 
 /// Whether the name of a hidden variable is used again, and the variable comes back under the least free one.
-fn is_named_anew<A: Allocator + Copy>(alloc: A) -> Result<bool, AllocError> {
-    let mut variables = LinkedVariables::new_in(alloc);
-    let named = names(&mut variables)?;
-    let hidden = hide(&mut variables)?;
-    let shown = observe(&mut variables, alloc)?;
+fn is_named_anew<A: Allocator + Copy>(
+    alloc: A,
+    variables: &mut LinkedVariables<A>,
+) -> Result<bool, AllocError> {
+    let named = names(variables)?;
+    let hidden = hide(variables)?;
+    let shown = observe(variables, alloc)?;
     let is_shown = matches!(&shown, Some(names) if names.as_slice() == [var!(3)].as_slice());
-    let witness = set(&mut variables, var!(1), SamplingMode::Witness)?;
+    let witness = set(variables, var!(1), SamplingMode::Witness)?;
     Ok(
         named == [Some(var!(3)), Some(var!(4))]
             && hidden == [None, None, Some(var!(1))]
@@ -97,9 +99,16 @@ fn is_named_anew<A: Allocator + Copy>(alloc: A) -> Result<bool, AllocError> {
     )
 }
 
+fn is_new_one_named_anew<A: Allocator + Copy>(alloc: A) -> Result<bool, AllocError> {
+    let mut variables = LinkedVariables::new_in(alloc);
+    let is_right = is_named_anew(alloc, &mut variables);
+    drop(variables);
+    is_right
+}
+
 #[test]
 fn a_hidden_variable_gets_the_least_free_name(rt: HostRuntime) {
-    assert!(rt; matches!(is_named_anew(rt.alloc()), Ok(true)));
+    assert!(rt; matches!(is_new_one_named_anew(rt.alloc()), Ok(true)));
 }
 
 /// Four variables: 1 has a solver variable, 2 a unit, 3 neither, and 4 is not live any more.
@@ -141,27 +150,36 @@ fn true_literals<A: Allocator + Copy>(model: &Model<A>) -> [bool; 8] {
 }
 
 /// Whether the model has the value of the solver variable, the unit, false, and none.
-fn is_modelled<A: Allocator + Copy>(alloc: A) -> Result<bool, AllocError> {
-    let mut variables = LinkedVariables::new_in(alloc);
-    make_four(&mut variables)?;
-    if !are_few(&variables) {
+fn is_modelled<A: Allocator + Copy>(
+    alloc: A,
+    variables: &mut LinkedVariables<A>,
+) -> Result<bool, AllocError> {
+    make_four(variables)?;
+    if !are_few(variables) {
         return Ok(false);
     }
-    let model = reconstruct_global_model(alloc, &variables, &[Some(true)])?;
+    let model = reconstruct_global_model(alloc, variables, &[Some(true)])?;
     let values = [Some(true), Some(true), Some(false), None];
     let are_true = [true, false, true, false, false, true, false, false];
     Ok(model.assignment() == values.as_slice() && true_literals(&model) == are_true)
 }
 
+fn is_new_one_modelled<A: Allocator + Copy>(alloc: A) -> Result<bool, AllocError> {
+    let mut variables = LinkedVariables::new_in(alloc);
+    let is_right = is_modelled(alloc, &mut variables);
+    drop(variables);
+    is_right
+}
+
 #[test]
 fn a_model_has_each_live_variable(rt: HostRuntime) {
-    assert!(rt; matches!(is_modelled(rt.alloc()), Ok(true)));
+    assert!(rt; matches!(is_new_one_modelled(rt.alloc()), Ok(true)));
 }
 
 /// Whether both are right on a heap of that many bytes.
 fn are_right_with(alloc: Global, size: usize) -> Result<bool, AllocError> {
     let heap = LocalHeap::new(alloc, size)?;
-    Ok(is_named_anew(&heap)? && is_modelled(&heap)?)
+    Ok(is_new_one_named_anew(&heap)? && is_new_one_modelled(&heap)?)
 }
 
 #[test]

@@ -91,8 +91,9 @@ fn verdict_on_pigeons<A: Allocator + Copy>(ctx: &mut Context<A>) -> Result<SatSt
 
 fn refute_pigeons<A: Allocator + Copy>(alloc: A) -> Result<SatState, StoreError> {
     let mut ctx = loaded(alloc, 20, &[])?;
-    let verdict = verdict_on_pigeons(&mut ctx)?;
-    Ok(verdict)
+    let verdict = verdict_on_pigeons(&mut ctx);
+    drop(ctx);
+    verdict
 }
 
 #[test]

@@ -65,8 +65,13 @@ pub fn loaded<A: Allocator + Copy>(
     ensures { IfOk result (λ ctx. IsReady ctx) }
 {
     let mut ctx = Context::new_in(alloc);
-    load_all(&mut ctx, count, clauses)?;
-    Ok(ctx)
+    match load_all(&mut ctx, count, clauses) {
+        Ok(()) => Ok(ctx),
+        Err(error) => {
+            drop(ctx);
+            Err(error)
+        }
+    }
 }
 
 /// Gives a search with no variable so many, and loads the clauses that name no other.
@@ -97,8 +102,7 @@ pub fn loaded_conflict<A: Allocator + Copy>(alloc: A) -> Result<Context<A>, Stor
         &lits![-2, -4, 5],
         &lits![-1, -4, -5],
     ];
-    let ctx = loaded(alloc, 5, clauses)?;
-    Ok(ctx)
+    loaded(alloc, 5, clauses)
 }
 
 /// Makes a step, unless there is a verdict.

@@ -29,6 +29,32 @@ fn len_of<A: Allocator + Copy>(ctx: &Context<A>, index: usize) -> Option<usize>
 /// The lengths of the stored clauses, how many are counted, the words of the deleted ones, and whether the lists of two
 /// literals are as they should be.
 fn simplified<A: Allocator + Copy>(
+    ctx: &mut Context<A>,
+) -> Result<([Option<usize>; 4], usize, usize, bool), StoreError>
+    requires { IsReady ctx.old }
+{
+    step(ctx)?;
+    let lens = [
+        len_of(ctx, 0),
+        len_of(ctx, 1),
+        len_of(ctx, 2),
+        len_of(ctx, 3),
+    ];
+    let is_listed = implies(ctx, lit!(1), &[])
+        && implies(ctx, lit!(2), &[])
+        && implies(ctx, lit!(3), &lits![5])
+        && implies(ctx, lit!(-3), &lits![4])
+        && implies(ctx, lit!(-4), &lits![3]);
+    Ok((
+        lens,
+        ctx.clause_db.count_by_tier(Tier::Irred),
+        ctx.clause_db.garbage(),
+        is_listed,
+    ))
+}
+
+/// The same of a search into which the clauses are loaded.
+fn loaded_and_simplified<A: Allocator + Copy>(
     alloc: A,
 ) -> Result<([Option<usize>; 4], usize, usize, bool), StoreError> {
     let clauses: &[&[Lit]] = &[
@@ -42,24 +68,9 @@ fn simplified<A: Allocator + Copy>(
         &lits![1],
     ];
     let mut ctx = loaded(alloc, 7, clauses)?;
-    step(&mut ctx)?;
-    let lens = [
-        len_of(&ctx, 0),
-        len_of(&ctx, 1),
-        len_of(&ctx, 2),
-        len_of(&ctx, 3),
-    ];
-    let is_listed = implies(&ctx, lit!(1), &[])
-        && implies(&ctx, lit!(2), &[])
-        && implies(&ctx, lit!(3), &lits![5])
-        && implies(&ctx, lit!(-3), &lits![4])
-        && implies(&ctx, lit!(-4), &lits![3]);
-    Ok((
-        lens,
-        ctx.clause_db.count_by_tier(Tier::Irred),
-        ctx.clause_db.garbage(),
-        is_listed,
-    ))
+    let found = simplified(&mut ctx);
+    drop(ctx);
+    found
 }
 
 // 1 implies 2, and that 6. The first stored clause becomes one of two literals, the second loses a literal, and the
@@ -67,7 +78,7 @@ fn simplified<A: Allocator + Copy>(
 #[test]
 fn clauses_are_simplified(rt: HostRuntime) -> Result<(), Fail> {
     let wanted = ([None, Some(3), None, Some(3)], 2, 12, true);
-    assert!(rt; simplified(rt.alloc())? == wanted);
+    assert!(rt; loaded_and_simplified(rt.alloc())? == wanted);
     Ok(())
 }
 
@@ -78,7 +89,7 @@ fn each_growth_of_simplification_may_be_refused(rt: HostRuntime) -> Result<(), F
     let mut refused = false;
     for room in 0..200 {
         let heap = LocalHeap::new(rt.alloc(), 16 * room)?;
-        match simplified(&heap) {
+        match loaded_and_simplified(&heap) {
             Ok(found) => {
                 assert!(rt; found == wanted, "with {room}");
                 simple = true;

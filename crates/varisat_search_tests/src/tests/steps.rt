@@ -41,8 +41,9 @@ fn learns<A: Allocator + Copy>(
     requires { count ≤ variable_limit }
 {
     let mut ctx = loaded(alloc, count, clauses)?;
-    let is_learned = teaches(&mut ctx, learned, level)?;
-    Ok(is_learned)
+    let is_learned = teaches(&mut ctx, learned, level);
+    drop(ctx);
+    is_learned
 }
 
 /// The verdicts before and after a step.
@@ -57,8 +58,9 @@ fn verdicts<A: Allocator + Copy>(ctx: &mut Context<A>) -> Result<[SatState; 2], 
 fn verdicts_on_units(alloc: Global) -> Result<[SatState; 2], StoreError> {
     let clauses: &[&[Lit]] = &[&lits![1, 2, 3], &lits![-1], &lits![1, -2], &lits![2, -3]];
     let mut ctx = loaded(alloc, 3, clauses)?;
-    let verdicts = verdicts(&mut ctx)?;
-    Ok(verdicts)
+    let verdicts = verdicts(&mut ctx);
+    drop(ctx);
+    verdicts
 }
 
 #[test]
@@ -80,8 +82,9 @@ fn verdict_after_two<A: Allocator + Copy>(ctx: &mut Context<A>) -> Result<SatSta
 fn refute<A: Allocator + Copy>(alloc: A) -> Result<SatState, StoreError> {
     let clauses: &[&[Lit]] = &[&lits![1, 2], &lits![-1, 2], &lits![1, -2], &lits![-1, -2]];
     let mut ctx = loaded(alloc, 2, clauses)?;
-    let verdict = verdict_after_two(&mut ctx)?;
-    Ok(verdict)
+    let verdict = verdict_after_two(&mut ctx);
+    drop(ctx);
+    verdict
 }
 
 #[test]
@@ -112,8 +115,9 @@ fn finds_first<A: Allocator + Copy>(ctx: &mut Context<A>) -> Result<bool, StoreE
 
 fn finds_model(alloc: Global) -> Result<bool, StoreError> {
     let mut ctx = loaded(alloc, 2, &[&lits![1, 2], &lits![1, -2]])?;
-    let is_found = finds_first(&mut ctx)?;
-    Ok(is_found)
+    let is_found = finds_first(&mut ctx);
+    drop(ctx);
+    is_found
 }
 
 #[test]
@@ -144,8 +148,9 @@ fn learns_from_long(alloc: Global) -> Result<bool, StoreError> {
         Conflict::Long(ClauseRef::from_offset(6)),
         Conflict::Long(ClauseRef::from_offset(0)),
     ];
-    let is_right = teaches_from(&mut ctx, &lits![-4, -1], 1, &involved, &lits![1, 2, -4])?;
-    Ok(is_right)
+    let is_right = teaches_from(&mut ctx, &lits![-4, -1], 1, &involved, &lits![1, 2, -4]);
+    drop(ctx);
+    is_right
 }
 
 #[test]
@@ -161,8 +166,9 @@ fn learns_from_pairs(alloc: Global) -> Result<bool, StoreError> {
         Conflict::Binary([lit!(-2), lit!(-1)]),
         Conflict::Binary([lit!(2), lit!(-1)]),
     ];
-    let is_right = teaches_from(&mut ctx, &lits![-1], 0, &involved, &lits![-1])?;
-    Ok(is_right)
+    let is_right = teaches_from(&mut ctx, &lits![-1], 0, &involved, &lits![-1]);
+    drop(ctx);
+    is_right
 }
 
 #[test]
@@ -224,8 +230,9 @@ fn level_zero_is_left_out(rt: HostRuntime) -> Result<(), StoreError> {
 
 fn learns_nothing(alloc: Global) -> Result<bool, StoreError> {
     let mut ctx = loaded(alloc, 2, &[&lits![-1, 2], &lits![-1, -2], &lits![1]])?;
-    let is_right = teaches_from(&mut ctx, &[], 0, &[], &lits![1, 2])?;
-    Ok(is_right)
+    let is_right = teaches_from(&mut ctx, &[], 0, &[], &lits![1, 2]);
+    drop(ctx);
+    is_right
 }
 
 #[test]

@@ -38,8 +38,17 @@ fn step_down<A: Allocator + Copy>(ctx: &mut Context<A>) -> Result<(), StoreError
     Ok(())
 }
 
-/// What is noted of the third clause, which the first step learns from the two. Its decisions make variables true, the
-/// lowest first.
+/// What is noted of the third clause after a step, whose decisions make variables true, the lowest first.
+fn notes_after_step<A: Allocator + Copy>(
+    ctx: &mut Context<A>,
+) -> Result<Option<(Tier, usize, bool)>, StoreError>
+    requires { IsReady ctx.old }
+{
+    step_down(ctx)?;
+    Ok(notes_of(ctx, 2))
+}
+
+/// The same where two clauses are loaded, from which the step learns the third.
 fn learned_notes<A: Allocator + Copy>(
     alloc: A,
     count: usize,
@@ -48,9 +57,9 @@ fn learned_notes<A: Allocator + Copy>(
     requires { count ≤ variable_limit }
 {
     let mut ctx = loaded(alloc, count, clauses)?;
-    step_down(&mut ctx)?;
-    let notes = notes_of(&ctx, 2);
-    Ok(notes)
+    let notes = notes_after_step(&mut ctx);
+    drop(ctx);
+    notes
 }
 
 // 1 implies 2 and 3, so that the clause of 2, 3 and 4 has two levels.
@@ -125,8 +134,13 @@ fn two_conflicts<A: Allocator + Copy>(alloc: A) -> Result<Context<A>, StoreError
         &lits![4, -3, -6],
     ];
     let mut ctx = loaded(alloc, 6, clauses)?;
-    step_twice(&mut ctx)?;
-    Ok(ctx)
+    match step_twice(&mut ctx) {
+        Ok(()) => Ok(ctx),
+        Err(error) => {
+            drop(ctx);
+            Err(error)
+        }
+    }
 }
 
 /// Whether the user's four clauses are active, and the two learned ones are of the tier Core, of which the first took
@@ -153,6 +167,7 @@ fn are_counted<A: Allocator + Copy>(ctx: &Context<A>) -> bool {
 fn lowers_glue<A: Allocator + Copy>(alloc: A) -> Result<bool, StoreError> {
     let ctx = two_conflicts(alloc)?;
     let is_lowered = are_noted(&ctx) && are_counted(&ctx);
+    drop(ctx);
     Ok(is_lowered)
 }
 
@@ -180,6 +195,7 @@ fn raises_activities(alloc: Global) -> Result<bool, StoreError> {
     let ctx = two_conflicts(alloc)?;
     let is_raised = have_activities(&ctx, &[1024, 1024, 1025, 1025, 1025, 0])
         && ctx.clause_activity.increment() == 1026;
+    drop(ctx);
     Ok(is_raised)
 }
 

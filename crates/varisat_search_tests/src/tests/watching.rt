@@ -106,8 +106,9 @@ fn is_right<A: Allocator + Copy>(
 /// Whether the row is right, whether or not the clauses are watched anew before.
 fn holds<A: Allocator + Copy>(alloc: A, row: &Row, is_rebuilt: bool) -> Result<bool, StoreError> {
     let mut ctx = loaded(alloc, 4, row.clauses)?;
-    let is_right = is_right(&mut ctx, row, is_rebuilt)?;
-    Ok(is_right)
+    let is_right = is_right(&mut ctx, row, is_rebuilt);
+    drop(ctx);
+    is_right
 }
 
 fn holds_always(alloc: Global, row: &Row) -> Result<bool, StoreError> {

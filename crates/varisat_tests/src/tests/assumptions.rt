@@ -31,31 +31,54 @@ fn fails(solver: &mut TestSolver, assumed: &[Lit], wanted: &[Lit]) -> Result<boo
     Ok(!is_satisfiable & has_core(solver, wanted))
 }
 
-// The cores of small formulas, which are exact.
-fn cores(alloc: Global, settings: &SolverConfigUpdate) -> Result<[bool; 5], SolverError> {
-    let mut solver = new_solver(alloc);
+// Opposite assumptions, and one that a unit clause makes false.
+fn lone_cores(solver: &mut TestSolver, settings: &SolverConfigUpdate) -> Result<bool, SolverError> {
     solver.config(settings)?;
-    let opposite = fails(&mut solver, &lits![1, -1], &lits![1, -1])?;
+    let opposite = fails(solver, &lits![1, -1], &lits![1, -1])?;
     solver.add_clause(&lits![-2])?;
-    let unit = fails(&mut solver, &lits![2], &lits![2])?;
+    let unit = fails(solver, &lits![2], &lits![2])?;
+    Ok(opposite & unit)
+}
+
+// Assumptions of which one implies the opposite of the other.
+fn implied_core(
+    solver: &mut TestSolver,
+    settings: &SolverConfigUpdate,
+) -> Result<bool, SolverError> {
+    solver.config(settings)?;
+    solver.add_clause(&lits![-1, 2])?;
+    fails(solver, &lits![1, -2], &lits![1, -2])
+}
+
+// Assumptions that fail all together, and a core that stays one as another clause joins.
+fn whole_core(solver: &mut TestSolver, settings: &SolverConfigUpdate) -> Result<bool, SolverError> {
+    solver.config(settings)?;
+    solver.add_clause(&lits![-1, -2, -3])?;
+    let all = fails(solver, &lits![1, 2, 3], &lits![1, 2, 3])?;
+    solver.add_clause(&lits![-1, 4])?;
+    Ok(all & has_core(solver, &lits![1, 2, 3]))
+}
+
+// The cores of small formulas, which are exact.
+fn cores(alloc: Global, settings: &SolverConfigUpdate) -> [bool; 3] {
+    let mut first = new_solver(alloc);
     let mut second = new_solver(alloc);
-    second.config(settings)?;
-    second.add_clause(&lits![-1, 2])?;
-    let implied = fails(&mut second, &lits![1, -2], &lits![1, -2])?;
     let mut third = new_solver(alloc);
-    third.config(settings)?;
-    third.add_clause(&lits![-1, -2, -3])?;
-    let all = fails(&mut third, &lits![1, 2, 3], &lits![1, 2, 3])?;
-    third.add_clause(&lits![-1, 4])?;
-    let still = has_core(&third, &lits![1, 2, 3]);
-    Ok([opposite, unit, implied, all, still])
+    let are_exact = [
+        matches!(lone_cores(&mut first, settings), Ok(true)),
+        matches!(implied_core(&mut second, settings), Ok(true)),
+        matches!(whole_core(&mut third, settings), Ok(true)),
+    ];
+    drop(first);
+    drop(second);
+    drop(third);
+    are_exact
 }
 
 #[test]
 fn cores_are_exact(rt: HostRuntime) {
     for settings in rare_and_frequent() {
-        let outcomes = cores(rt.alloc(), &settings);
-        assert!(rt; matches!(outcomes, Ok(outcomes) if outcomes == [true; 5]));
+        assert!(rt; cores(rt.alloc(), &settings) == [true; 3]);
     }
 }
 
@@ -79,14 +102,21 @@ fn add_clauses(solver: &mut TestSolver) -> Result<(), SolverError> {
     Ok(())
 }
 
-// Whether the clauses have a model in which the literals are true, by a solver that has them as unit clauses.
-fn is_satisfiable_with(alloc: Global, literals: &[Lit]) -> Result<bool, SolverError> {
-    let mut solver = new_solver(alloc);
-    add_clauses(&mut solver)?;
+// Whether the clauses have a model in which the literals are true, which are unit clauses of the solver.
+fn is_satisfiable(solver: &mut TestSolver, literals: &[Lit]) -> Result<bool, SolverError> {
+    add_clauses(solver)?;
     for literal in literals {
         solver.add_clause(&[*literal])?;
     }
     solver.solve()
+}
+
+// The same by a new solver.
+fn is_satisfiable_with(alloc: Global, literals: &[Lit]) -> Result<bool, SolverError> {
+    let mut solver = new_solver(alloc);
+    let answer = is_satisfiable(&mut solver, literals);
+    drop(solver);
+    answer
 }
 
 // Whether the solver tells a core of some of the literals, and finds it false again as assumptions.
@@ -158,7 +188,9 @@ fn are_answered_with(
 
 fn rounds(alloc: Global, interval: u64, count: usize) -> Result<bool, SolverError> {
     let mut solver = new_solver(alloc);
-    are_answered_with(alloc, &mut solver, interval, count)
+    let right = are_answered_with(alloc, &mut solver, interval, count);
+    drop(solver);
+    right
 }
 
 #[test]

@@ -130,7 +130,9 @@ fn runs(
 
 fn runs_in_new(alloc: Global, settings: SolverConfigUpdate, wanted: &[u8]) -> Option<bool> {
     let mut solver = Solver::new_in(alloc);
-    runs(&mut solver, alloc, settings, wanted)
+    let right = runs(&mut solver, alloc, settings, wanted);
+    drop(solver);
+    right
 }
 
 // Whether a new solver gives the refused calls these answers.

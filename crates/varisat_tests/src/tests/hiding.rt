@@ -129,23 +129,31 @@ fn rows(alloc: Global) -> [bool; 4] {
     let mut second = Solver::new_in(alloc);
     let mut third = Solver::new_in(alloc);
     let mut fourth = Solver::new_in(alloc);
-    [
+    let are_right = [
         matches!(comes_back_as_witness(alloc, &mut first), Ok(true)),
         matches!(tells_shown(&mut second), Ok(true)),
         matches!(tells_first_witness(alloc, &mut third), Ok(true)),
         matches!(hides_often(&mut fourth), Ok(true)),
-    ]
+    ];
+    drop(first);
+    drop(second);
+    drop(third);
+    drop(fourth);
+    are_right
 }
 
 // One solver of many rounds, and one whose variable leaves and comes back.
 fn rows_of_leaving(alloc: Global) -> [bool; 3] {
     let mut first = Solver::new_in(alloc);
     let mut second = Solver::new_in(alloc);
-    [
+    let are_right = [
         matches!(hides_satisfied_clauses(&mut first), Ok(true)),
         matches!(leaves(&mut second), Ok(true)),
         matches!(comes_back(&mut second), Ok(true)),
-    ]
+    ];
+    drop(first);
+    drop(second);
+    are_right
 }
 
 #[test]

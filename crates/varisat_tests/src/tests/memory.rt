@@ -52,7 +52,9 @@ fn outcome<A: Allocator + Copy>(solver: &mut Solver<MemoryTarget<A>, A>, text: &
 
 fn outcome_in<A: Allocator + Copy>(alloc: A, text: &str) -> Outcome {
     let mut solver = Solver::new_in(alloc);
-    outcome(&mut solver, text)
+    let outcome = outcome(&mut solver, text);
+    drop(solver);
+    outcome
 }
 
 // The place in the table of what happens on a heap of that many times 16 bytes.
@@ -89,14 +91,23 @@ fn filled<A: Allocator + Copy>(alloc: Global, heap: A) -> Result<Vec<Vec<u8, A>>
 }
 
 // What is said of a model on a full heap, whether the solver is valid then, and what is said once there is room again.
-fn models_in<A: Allocator + Copy>(
+type Models = (Option<bool>, bool, Option<bool>);
+
+fn models_of<A: Allocator + Copy>(
     alloc: Global,
     heap: A,
-) -> Result<(Option<bool>, bool, Option<bool>), AllocError> {
+    solver: &mut Solver<MemoryTarget<A>, A>,
+) -> Result<Models, AllocError> {
+    let _ = outcome(solver, TEXTS[0]);
+    let told = model_when_full(alloc, heap, solver)?;
+    Ok((told, solver.is_valid(), has_model(solver)))
+}
+
+fn models_in<A: Allocator + Copy>(alloc: Global, heap: A) -> Result<Models, AllocError> {
     let mut solver = Solver::new_in(heap);
-    let _ = outcome(&mut solver, TEXTS[0]);
-    let told = model_when_full(alloc, heap, &solver)?;
-    Ok((told, solver.is_valid(), has_model(&solver)))
+    let models = models_of(alloc, heap, &mut solver);
+    drop(solver);
+    models
 }
 
 fn model_when_full<A: Allocator + Copy>(
@@ -108,7 +119,7 @@ fn model_when_full<A: Allocator + Copy>(
     Ok(has_model(solver))
 }
 
-fn models(alloc: Global) -> Result<(Option<bool>, bool, Option<bool>), AllocError> {
+fn models(alloc: Global) -> Result<Models, AllocError> {
     let heap = LocalHeap::new(alloc, 6000)?;
     models_in(alloc, &heap)
 }

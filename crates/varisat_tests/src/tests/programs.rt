@@ -307,7 +307,9 @@ fn status_with_reductions(alloc: Global, text: &'static str, max_steps: Option<u
     let mut settings = reducing_every(1);
     settings.max_steps = max_steps;
     let mut solver = Solver::new_in(alloc);
-    match is_satisfiable(&mut solver, text, &settings) {
+    let answer = is_satisfiable(&mut solver, text, &settings);
+    drop(solver);
+    match answer {
         Ok(true) => 10,
         Ok(false) => 20,
         Err(SolverError::Interrupted) => 0,

@@ -200,7 +200,9 @@ fn is_right(
 // The same of a new solver.
 fn is_new_right(alloc: Global, numbers: &mut Numbers) -> Result<bool, AllocError> {
     let mut solver = Solver::new_in(alloc);
-    is_right(alloc, &mut solver, numbers)
+    let is_right = is_right(alloc, &mut solver, numbers);
+    drop(solver);
+    is_right
 }
 
 #[test]

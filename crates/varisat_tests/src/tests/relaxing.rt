@@ -130,7 +130,9 @@ fn are_relaxed(
 // So it is in a new solver.
 fn are_relaxed_in_new(alloc: Global, settings: &SolverConfigUpdate, rest: &mut Vec<Lit>) -> bool {
     let mut solver = Solver::new_in(alloc);
-    matches!(are_relaxed(&mut solver, settings, rest), Ok(true))
+    let is_right = matches!(are_relaxed(&mut solver, settings, rest), Ok(true));
+    drop(solver);
+    is_right
 }
 
 fn are_relaxed_with(alloc: Global, settings: &SolverConfigUpdate) -> Result<bool, AllocError> {

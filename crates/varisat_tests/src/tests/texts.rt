@@ -54,7 +54,9 @@ fn goes_on_in_new<R: Read + Drop>(
     wanted: DimacsErrorKind,
 ) -> bool {
     let mut solver = Solver::new_in(alloc);
-    goes_on(&mut solver, settings, reader, wanted)
+    let goes_on = goes_on(&mut solver, settings, reader, wanted);
+    drop(solver);
+    goes_on
 }
 
 fn is_cut_in_pieces(alloc: Global, settings: &SolverConfigUpdate, size: usize) -> bool {

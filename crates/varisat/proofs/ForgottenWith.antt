@@ -1,21 +1,12 @@
 -- Clauses that mention a variable, which are forgotten as it leaves. Its unit clause is one of them.
-use Rattle.std.proofs.Common.{◌≡◌, ◌≢◌, ℕ, ◌/◌, ◌||◌, nat_eq, not, Bool, true, false, List, [], ◌∷◌, inl, inr, sym, ap, ◌∙◌, subst, refl, map, eq-eqb}
+use Rattle.std.proofs.Common.{◌≡◌, ◌≢◌, ℕ, not, Bool, true, false, List, [], ◌∷◌, inl, inr, sym, ap, ◌∙◌, subst, refl, map}
 use Rattle.varisat_theory.specs.Membership.{◌∈◌}
 use Rattle.varisat_theory.specs.Literals.{Literal, Clause, variable_of, IsUnit}
 use Rattle.varisat_theory.specs.Held.{SameClauses, mentions, unless}
 use Rattle.varisat_theory.specs.Renaming.{rename}
 use Rattle.varisat_theory.proofs.Held.{same_clauses-back, same_clauses_find}
 use Rattle.varisat_theory.proofs.Renaming.{∈-map, map-∈}
-use Rattle.varisat.proofs.ReachedHeld.{only}
-
-or-true : (b : Bool) → (b || true) ≡ true
-or-true true = refl
-or-true false = refl
-
-mentioned : (v : ℕ) (c : Clause) (l : Literal) → l ∈ c → variable_of l ≡ v → mentions v c ≡ true
-mentioned v [] l h e = absurd h
-mentioned v (m ∷ c) l (inl q) e = ap (λ b. b || mentions v c) (eq-eqb (m / 2) v (ap variable_of (sym q) ∙ e))
-mentioned v (m ∷ c) l (inr h) e = ap (λ b. nat_eq (m / 2) v || b) (mentioned v c l h e) ∙ or-true (nat_eq (m / 2) v)
+use Rattle.varisat.proofs.ReachedHeld.{only, mentioned}
 
 pub not-over : (v : ℕ) (c : Clause) (l : Literal) → mentions v c ≡ false → l ∈ c → variable_of l ≢ v
 not-over v c l n h e = let z : true ≡ false = sym (mentioned v c l h e) ∙ n in cc

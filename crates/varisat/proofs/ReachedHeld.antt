@@ -44,7 +44,7 @@ or-true : (b : Bool) → (b || true) ≡ true
 or-true true = refl
 or-true false = refl
 
-mentioned : (v : ℕ) (c : Clause) (l : Literal) → l ∈ c → variable_of l ≡ v → mentions v c ≡ true
+pub mentioned : (v : ℕ) (c : Clause) (l : Literal) → l ∈ c → variable_of l ≡ v → mentions v c ≡ true
 mentioned v [] l h e = absurd h
 mentioned v (m ∷ c) l (inl q) e = ap (λ b. b || mentions v c) (eq-eqb (m / 2) v (ap variable_of (sym q) ∙ e))
 mentioned v (m ∷ c) l (inr h) e = ap (λ b. nat_eq (m / 2) v || b) (mentioned v c l h e) ∙ or-true (nat_eq (m / 2) v)

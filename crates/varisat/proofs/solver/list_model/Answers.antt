@@ -1,4 +1,4 @@
-use Rattle.std.proofs.Common.{◌≡◌, ◌+◌, ◌++◌, ◌∷◌, [], suc, Some, None, true, sym, ap, ap₂, ◌∙◌, refl, get_or, arith}
+use Rattle.std.proofs.Common.{◌≡◌, ◌+◌, ◌++◌, ◌∷◌, [], suc, Some, None, true, sym, ap, ap₂, ◌∙◌, refl, get_or, arith, rules}
 use Rattle.std.proofs.lemmas.List.{append-nil}
 use Rattle.varisat_theory.specs.Literals.{Assignment, literal_of, variable_of}
 use Rattle.varisat_prop.specs.Parts.{is_true_value}
@@ -44,3 +44,6 @@ loop-index-preserved g c =
           let n : at t.users.forward i ≡ None = sym got ∙ w.in_default.is in
           ap (λ l. l.items) w.list-is ∙ c.loop-index.invariant ∙ sym (append-nil (list_tables t vs 0 i)) ∙ ap (λ o. list_tables t vs 0 i ++ put_name i o m []) (sym n) ∙ sym next
     ]
+
+pub loop-index-init : goal.loop-index-init
+loop-index-init g c = search rules

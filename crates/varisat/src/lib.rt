@@ -52,7 +52,8 @@ pub mod variables {
     };
     pub use varisat_search::variables::{
         global_from_user, initialize_solver_var, new_user_var, observe_internal_vars,
-        set_sampling_mode, solver_from_global, solver_from_user, solver_from_user_lits,
+        remove_solver_var, set_sampling_mode, solver_from_global, solver_from_user,
+        solver_from_user_lits,
     };
 }
 

@@ -1,19 +1,22 @@
 //! Solver variables, which variables take once a clause or an assumption names them.
-ghost use Rattle.std.specs.Prelude.{◌≡◌, ◌≢◌, ◌<◌, false, length, OnOk, IfOk, MatchOption};
-ghost use Rattle.varisat_theory.specs.Literals.{Literal, variable_of, literal_of};
+ghost use Rattle.std.specs.Prelude.{◌≡◌, ◌≢◌, ◌<◌, None, false, length, slice_index_or, IsSome, OnOk, IfOk, OnErr, MatchOption};
+ghost use Rattle.varisat_theory.specs.Membership.{◌∈◌};
+ghost use Rattle.varisat_theory.specs.Literals.{Clause, Literal, variable_of, literal_of};
 ghost use Rattle.varisat_theory.specs.Searches.{IsLiteralOf};
 ghost use Rattle.varisat_literals.specs.Numbers.{variable_limit};
 ghost use Rattle.varisat_names.specs.Maps.{chain};
 ghost use Rattle.varisat_names.specs.VarMap.{at};
 ghost use Rattle.varisat_names.specs.VarData.{kept_at};
-ghost use Rattle.varisat_names.specs.Variables.{Tables, IsNamed};
+ghost use Rattle.varisat_names.specs.Variables.{Tables, IsNamed, IsDropped};
+ghost use Rattle.varisat_prop.specs.View.{kept};
+ghost use Rattle.varisat_vsids.specs.Activities.{with_available};
 ghost use Rattle.varisat_search.specs.Contexts.{view, IsReady, KeepsSchedule};
 ghost use Rattle.varisat_search.specs.Decisions.{IsDecidable, SameDecidableBut};
 ghost use Rattle.varisat_search.specs.Seen.{search_of};
 ghost use Rattle.varisat_search.specs.SolverVariables.{HasRoom, HasRoomFor, HasVariables, KeepsSeen, HasUnitAgain, HasSolverVariable, NameHasSolver, HaveSolversInTurn, AreOver};
 
 use crate::context::Context;
-use crate::decision::{add_variables, make_available};
+use crate::decision::{add_variables, make_available, remove_var};
 use crate::load::resurrect_unit;
 use crate::variables::global_from_user;
 use std::alloc::{AllocError, Allocator};
@@ -108,4 +111,27 @@ pub fn solver_from_user_lits<A: Allocator + Copy>(
         solver_lits.push(solver.lit(lit.is_positive()))?;
     }
     Ok(())
+}
+
+/// Takes the solver variable from its global variable, which is returned and may be used again where it has no name and
+/// is isolated. The search does not decide the solver variable any more, and goes on where no kept clause and no
+/// assumption names it. Where memory is refused nothing changes.
+pub fn remove_solver_var<A: Allocator + Copy>(
+    ctx: &mut Context<A>,
+    variables: &mut LinkedVariables<A>,
+    solver: Var,
+) -> Result<Var, AllocError>
+    requires ready { IsReady ctx.old }
+    requires known { solver < length ctx.old.assignment.current }
+    requires taken { IsSome (at variables.old.solvers.backward solver) }
+    ensures dropped { IfOk result (λ global. IsDropped variables.old variables.new global solver) }
+    ensures removed { OnOk result (ctx.new ≡ record ctx.old { vsids = with_available solver false ctx.old.vsids }) }
+    ensures not_decidable { OnOk result (slice_index_or ctx.old.assignment.current solver None ≡ None → IsDecidable (view ctx.new) ctx.new.vsids solver → ⊥) }
+    ensures others { OnOk result (SameDecidableBut solver (view ctx.old) ctx.old.vsids (view ctx.new) ctx.new.vsids) }
+    ensures ready { OnOk result (((c : Clause) → c ∈ kept (view ctx.old) → (l : Literal) → l ∈ c → variable_of l ≢ solver) → ((l : Literal) → l ∈ ctx.old.assumptions.working → variable_of l ≢ solver) → IsReady ctx.new) }
+    ensures refused { OnErr result ((variables.new ≡ variables.old) × (ctx.new ≡ ctx.old)) }
+{
+    let global = variables.drop_solver_var(solver)?;
+    remove_var(ctx, solver);
+    Ok(global)
 }

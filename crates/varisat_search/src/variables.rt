@@ -6,7 +6,8 @@ ghost use Rattle.varisat_names.specs.Variables.{AreNextGiven, IsNamed};
 ghost use Rattle.varisat_search.specs.NamesAndModes.{IsLeastGiven, MovesName, SetsModeOf, AreShownInTurn, ShowsAllHidden, ShowsOne};
 
 pub use crate::solver_variables::{
-    initialize_solver_var, solver_from_global, solver_from_user, solver_from_user_lits,
+    initialize_solver_var, remove_solver_var, solver_from_global, solver_from_user,
+    solver_from_user_lits,
 };
 use std::alloc::{AllocError, Allocator};
 use varisat_literals::Var;

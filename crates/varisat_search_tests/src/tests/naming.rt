@@ -1,15 +1,20 @@
-//! Names that come into use, modes that are set, hidden variables that come back, and the model of global variables.
+//! Names that come into use, modes that are set, hidden variables that come back, solver variables that are taken away,
+//! and the model of global variables.
 ghost use Rattle.std.specs.Prelude.{◌≡◌, ◌≤◌, false, length, IsTrue};
 ghost use Rattle.varisat_names.specs.VarData.{kept_at};
+ghost use Rattle.varisat_search.specs.Contexts.{IsReady};
 
+use super::searches::loaded;
 use linked_list_allocator::LocalHeap;
 use std::alloc::{AllocError, Allocator, Global};
 use std::test::Fail;
 use varisat_literals::{Lit, Var, lit, var};
 use varisat_names::variables::{LinkedVariables, SamplingMode};
+use varisat_prop::clause::StoreError;
+use varisat_search::context::Context;
 use varisat_search::model::{Model, reconstruct_global_model};
 use varisat_search::variables::{
-    global_from_user, new_user_var, observe_internal_vars, set_sampling_mode,
+    global_from_user, new_user_var, observe_internal_vars, remove_solver_var, set_sampling_mode,
 };
 
 /// Whether the global variable is live.
@@ -176,10 +181,51 @@ fn a_model_has_each_live_variable(rt: HostRuntime) {
     assert!(rt; matches!(is_new_one_modelled(rt.alloc()), Ok(true)));
 }
 
-/// Whether both are right on a heap of that many bytes.
-fn are_right_with(alloc: Global, size: usize) -> Result<bool, AllocError> {
+/// Whether the solver variable of 1 is taken from it, and stands for none then.
+fn is_removed<A: Allocator + Copy>(
+    ctx: &mut Context<A>,
+    variables: &mut LinkedVariables<A>,
+) -> Result<bool, AllocError>
+    requires { IsReady ctx.old }
+{
+    make_four(variables)?;
+    let is_taken = variables.global_from_solver().get(var!(1)).is_some();
+    if !is_taken || ctx.assignment.assignment().is_empty() {
+        return Ok(false);
+    }
+    let global = remove_solver_var(ctx, variables, var!(1))?;
+    let is_free = variables.solver_from_global().get(var!(1)).is_none();
+    let is_given_back = variables.global_from_solver().get(var!(1)).is_none();
+    Ok(global == var!(1) && is_free && is_given_back)
+}
+
+fn is_removed_with<A: Allocator + Copy>(alloc: A, ctx: &mut Context<A>) -> Result<bool, AllocError>
+    requires { IsReady ctx.old }
+{
+    let mut variables = LinkedVariables::new_in(alloc);
+    let is_right = is_removed(ctx, &mut variables);
+    drop(variables);
+    is_right
+}
+
+fn is_removed_in<A: Allocator + Copy>(alloc: A) -> Result<bool, StoreError> {
+    let mut ctx = loaded(alloc, 1, &[])?;
+    let is_right = is_removed_with(alloc, &mut ctx);
+    drop(ctx);
+    Ok(is_right?)
+}
+
+#[test]
+fn a_solver_variable_is_removed(rt: HostRuntime) {
+    assert!(rt; matches!(is_removed_in(rt.alloc()), Ok(true)));
+}
+
+/// Whether all three are right on a heap of that many bytes.
+fn are_right_with(alloc: Global, size: usize) -> Result<bool, StoreError> {
     let heap = LocalHeap::new(alloc, size)?;
-    Ok(is_new_one_named_anew(&heap)? && is_new_one_modelled(&heap)?)
+    let is_named = is_new_one_named_anew(&heap)?;
+    let is_modelled = is_new_one_modelled(&heap)?;
+    Ok(is_named && is_modelled && is_removed_in(&heap)?)
 }
 
 #[test]
@@ -188,8 +234,8 @@ fn each_growth_of_names_may_be_refused(rt: HostRuntime) -> Result<(), Fail> {
     let mut right = false;
     for room in 0..160 {
         match are_right_with(rt.alloc(), 16 * room) {
-            Ok(both) => {
-                assert!(rt; both, "with {room}");
+            Ok(all) => {
+                assert!(rt; all, "with {room}");
                 right = true;
             }
             Err(_) => refused = true,

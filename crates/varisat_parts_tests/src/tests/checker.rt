@@ -117,11 +117,17 @@ const ROWS: &[Row] = &[
     ),
 ];
 
+/// Whether the row is right.
+fn is_judged(alloc: Global, row: &Row) -> Result<bool, AllocError> {
+    let (lists, words, wanted) = *row;
+    Ok(verdict(alloc, lists, words)? == wanted)
+}
+
 #[test]
 fn lines_are_judged(rt: HostRuntime) -> Result<(), AllocError> {
     for (index, row) in ROWS.iter().enumerate() {
-        let (lists, words, wanted) = *row;
-        assert!(rt; verdict(rt.alloc(), lists, words)? == wanted, "row {index}");
+        let is_right = is_judged(rt.alloc(), row)?;
+        assert!(rt; is_right, "row {index}");
     }
     Ok(())
 }
@@ -170,11 +176,15 @@ fn conflicts_with(alloc: Global, held: &[Vec<u32>], numbers: &[i32]) -> Result<b
     conflicts(alloc, held, &base)
 }
 
+fn conflicts_in(alloc: Global, held: &[Vec<u32>]) -> Result<(bool, bool), AllocError> {
+    let both = conflicts_with(alloc, held, &[1, 3])?;
+    let one = conflicts_with(alloc, held, &[1])?;
+    Ok((both, one))
+}
+
 fn conflict(alloc: Global) -> Result<(bool, bool), AllocError> {
     let held = clauses(alloc, ALL)?;
-    let both = conflicts_with(alloc, &held, &[1, 3])?;
-    let one = conflicts_with(alloc, &held, &[1])?;
-    Ok((both, one))
+    conflicts_in(alloc, &held)
 }
 
 #[test]

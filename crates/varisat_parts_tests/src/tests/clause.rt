@@ -28,9 +28,8 @@ fn local_flags() -> (u32, usize) {
 fn flags_stand_in_bits(rt: HostRuntime) {
     assert!(rt; local_flags() == (2035, 63));
     assert!(rt;
-        Tier::count() == 4
-            && Tier::from_index(3) == Some(Tier::Local)
-            && Tier::from_index(4).is_none()
+        (Tier::count() == 4)
+            & ([Tier::from_index(3), Tier::from_index(4)] == [Some(Tier::Local), None])
     );
 }
 
@@ -533,9 +532,10 @@ fn each_growth_of_the_store_may_be_refused(rt: HostRuntime) -> Result<(), AllocE
     for room in 0..60 {
         let (left, added, collected) = added_with(rt.alloc(), room)?;
         assert!(rt; left == added.saturating_sub(1), "with {room}");
-        refused = refused || added < 2 || !collected;
-        all = all || (added == 2 && collected);
+        let is_done = (added == 2) & collected;
+        refused |= !is_done;
+        all |= is_done;
     }
-    assert!(rt; refused && all);
+    assert!(rt; refused & all);
     Ok(())
 }

@@ -1,5 +1,5 @@
 //! Filters over a clause store, and the list of a tier brought up to date: worked rows, and memory that is refused.
-ghost use Rattle.std.specs.Prelude.{◌≡◌, false, nat_lt};
+ghost use Rattle.std.specs.Prelude.{◌≡◌, ◌<◌, false, nat_lt};
 ghost use Rattle.varisat_clause.specs.Databases.{Tracks};
 ghost use Rattle.varisat_clause.specs.Stores.{stored_clauses, IsSound};
 
@@ -107,19 +107,31 @@ fn a_filter_shortens_and_deletes(rt: HostRuntime) {
     assert!(rt; left_of(rt.alloc(), rt.alloc()) == (FILTERED, true));
 }
 
+/// Whether the filter stopped as it should where memory for its notes was refused: the third clause stays as it is
+/// where its literals are not noted, and the second where those of the first are not.
+fn is_stopped(left: &Left) -> bool {
+    let third = (left.lens == [Some(3), None, Some(4)]) & (left.garbage == 8);
+    let first = (left.lens == [Some(3), Some(5), Some(4)]) & (left.garbage == 0);
+    !left.is_done & (first | third)
+}
+
+/// Filters with a heap of that many times 16 bytes. Whether what is left is right, and whether the filter was done.
+fn is_filtered_with(alloc: Global, room: usize) -> Result<(bool, bool), AllocError>
+    requires { room < 10 }
+{
+    let heap = LocalHeap::new(alloc, 16 * room)?;
+    let (left, is_added) = left_of(alloc, &heap);
+    let is_right = is_added & ((left == FILTERED) | is_stopped(&left));
+    Ok((is_right, left.is_done))
+}
+
 #[test]
 fn a_filter_may_be_refused_memory(rt: HostRuntime) -> Result<(), AllocError> {
     let mut refused = false;
     for room in 0..10 {
-        let heap = LocalHeap::new(rt.alloc(), 16 * room)?;
-        let (left, is_added) = left_of(rt.alloc(), &heap);
-        // the third clause stays as it is where its literals are not noted, and the second where those of the first are
-        // not
-        let third = left.lens == [Some(3), None, Some(4)] && left.garbage == 8;
-        let first = left.lens == [Some(3), Some(5), Some(4)] && left.garbage == 0;
-        let stopped = !left.is_done && (first || third);
-        assert!(rt; is_added && (left == FILTERED || stopped), "with {room}");
-        refused = refused || !left.is_done;
+        let (is_right, is_done) = is_filtered_with(rt.alloc(), room)?;
+        assert!(rt; is_right, "with {room}");
+        refused |= !is_done;
     }
     assert!(rt; refused);
     Ok(())

@@ -75,7 +75,7 @@ fn later_bumps_count(vsids: &mut Vsids<Global>) -> bool
         bump_times(vsids, index, 8 - index);
     }
     let second = come(vsids, &[0, 1, 2, 3]);
-    first && second && next_index(vsids).is_none()
+    first & second & next_index(vsids).is_none()
 }
 
 #[test]
@@ -100,7 +100,7 @@ fn calls_count(vsids: &mut Vsids<Global>) -> bool
     vsids.make_available(Var::from_index(7));
     vsids.make_available(Var::from_index(7));
     let others = come(vsids, &[7, 5, 4, 2, 1]);
-    count == 8 && third == Some(3) && others
+    (count == 8) & (third == Some(3)) & others
 }
 
 #[test]
@@ -158,7 +158,7 @@ fn each_growth_of_the_heap_may_be_refused(rt: HostRuntime) -> Result<(), AllocEr
     for room in 0..20 {
         let (is_grown, count) = count_with(rt.alloc(), room)?;
         assert!(rt; count == if is_grown { 8 } else { 0 }, "with {room}");
-        refused = refused || !is_grown;
+        refused |= !is_grown;
     }
     assert!(rt; refused);
     Ok(())

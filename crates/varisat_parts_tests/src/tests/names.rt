@@ -8,20 +8,28 @@ use linked_list_allocator::LocalHeap;
 use std::alloc::{AllocError, Allocator, Global};
 use std::mem::size_of;
 use varisat_literals::{Var, var};
-use varisat_names::variables::LinkedVariables;
 use varisat_names::variables::data::{SamplingMode, VarData};
 use varisat_names::variables::var_map::VarBiMap;
+use varisat_names::variables::{LinkedVariables, Variables};
 
-/// Takes a solver variable for the global variable, if it is live and has none.
+/// The number of the variable, and 0 where there is none.
+pub fn number(var: Option<Var>) -> isize {
+    match var {
+        Some(var) => var.to_dimacs(),
+        None => 0,
+    }
+}
+
+/// Takes a solver variable for the global variable, if it is live and has none. The number of that, or 0.
 pub fn take<A: Allocator + Copy>(
     variables: &mut LinkedVariables<A>,
     global: Var,
-) -> Result<Option<Var>, AllocError> {
+) -> Result<isize, AllocError> {
     let is_free = variables.solver_from_global().get(global).is_none();
     if !is_free || variables.solver_watermark() > 100 || !is_live(variables, global) {
-        return Ok(None);
+        return Ok(0);
     }
-    Ok(Some(variables.take_solver_var(global)?))
+    Ok(variables.take_solver_var(global)?.to_dimacs())
 }
 
 /// Whether the global variable is live.
@@ -58,32 +66,33 @@ pub fn hide<A: Allocator + Copy>(
     }
 }
 
-/// The least name, global variable and solver variable that are free.
-fn next<A: Allocator + Copy>(variables: &LinkedVariables<A>) -> Option<(Var, Var, Var)> {
+/// The numbers of the least name, global variable and solver variable that are free.
+fn next<A: Allocator + Copy>(variables: &LinkedVariables<A>) -> Option<[isize; 3]> {
     let parts = variables.variables();
     let highest = parts.user_watermark().max(parts.global_watermark());
     if highest > 100 || parts.solver_watermark() > 100 {
         return None;
     }
-    Some((
-        parts.next_unmapped_user(),
-        parts.next_unmapped_global(),
-        parts.next_unmapped_solver(),
-    ))
+    Some([
+        parts.next_unmapped_user().to_dimacs(),
+        parts.next_unmapped_global().to_dimacs(),
+        parts.next_unmapped_solver().to_dimacs(),
+    ])
 }
 
-/// The solver variable of the name, and the name of that, if there are any.
+/// The numbers of the name's solver variable, and of the name of that, if there are any.
 fn there_and_back<A: Allocator + Copy>(
     variables: &LinkedVariables<A>,
     user: Var,
-) -> Option<(Var, Var)> {
+) -> Option<[isize; 2]> {
     let parts = variables.variables();
     let global = parts.global_from_user().get(user)?;
     parts.solver_from_global().get(global)?;
     let solver = parts.existing_solver_from_user(user);
     let back = parts.global_from_solver().get(solver)?;
     parts.user_from_global().get(back)?;
-    Some((solver, parts.existing_user_from_solver(solver)))
+    let user = parts.existing_user_from_solver(solver);
+    Some([solver.to_dimacs(), user.to_dimacs()])
 }
 
 /// Whether the maps lead from two of three names to the solver variables 2 and 1 and back.
@@ -101,9 +110,7 @@ fn is_mapped<A: Allocator + Copy>(variables: &LinkedVariables<A>) -> bool {
         parts.solver_var_present(var!(2)),
         parts.solver_var_present(var!(3)),
     ];
-    globals == [Some(var!(2)), Some(var!(1))]
-        && names == [Some(var!(3)), Some(var!(1))]
-        && present == [true, false]
+    (globals.map(number) == [2, 1]) & (names.map(number) == [3, 1]) & (present == [true, false])
 }
 
 /// Whether the third name leads to its solver variable and back, the second to none, and what is free is as it should
@@ -111,19 +118,23 @@ fn is_mapped<A: Allocator + Copy>(variables: &LinkedVariables<A>) -> bool {
 fn is_joined<A: Allocator + Copy>(variables: &LinkedVariables<A>) -> bool {
     let third = there_and_back(variables, var!(3));
     let second = there_and_back(variables, var!(2));
-    third == Some((var!(1), var!(3)))
-        && second.is_none()
-        && next(variables) == Some((var!(4), var!(4), var!(3)))
+    ([third, second] == [Some([1, 3]), None]) & (next(variables) == Some([4, 4, 3]))
+}
+
+/// Names three names. Says whether that was done, also for a lower one then.
+fn name_three<A: Allocator + Copy>(variables: &mut LinkedVariables<A>) -> Result<bool, AllocError> {
+    let third = name(variables, var!(3))?;
+    let second = name(variables, var!(2))?;
+    Ok(third & second)
 }
 
 /// Names three names and takes two solver variables.
 fn is_named<A: Allocator + Copy>(variables: &mut LinkedVariables<A>) -> Result<bool, AllocError> {
-    let third_named = name(variables, var!(3))?;
-    let second_named = name(variables, var!(2))?;
+    let named = name_three(variables)?;
     let third = take(variables, var!(3))?;
     let first = take(variables, var!(1))?;
-    let taken = [third, first] == [Some(var!(1)), Some(var!(2))];
-    Ok(third_named && second_named && taken && is_mapped(variables) && is_joined(variables))
+    let is_taken = [third, first] == [1, 2];
+    Ok(named & is_taken & is_mapped(variables) & is_joined(variables))
 }
 
 /// Hides two of the three names, one of which has a solver variable. Says whether what is free is as it should be.
@@ -131,8 +142,8 @@ fn is_freed<A: Allocator + Copy>(variables: &mut LinkedVariables<A>) -> Result<b
     let third = hide(variables, var!(3))?;
     let second = hide(variables, var!(2))?;
     let live = [is_live(variables, var!(2)), is_live(variables, var!(3))];
-    let free = next(variables) == Some((var!(2), var!(2), var!(3)));
-    Ok(third && second && live == [false, true] && free)
+    let is_free = next(variables) == Some([2, 2, 3]);
+    Ok(third & second & (live == [false, true]) & is_free)
 }
 
 /// Hides those names, and names one again and another.
@@ -145,32 +156,26 @@ fn is_hidden<A: Allocator + Copy>(variables: &mut LinkedVariables<A>) -> Result<
         variables.global_from_user().get(var!(4)),
         variables.global_from_user().get(var!(3)),
     ];
-    Ok(
-        freed
-            && second
-            && fifth
-            && globals == [Some(var!(2)), Some(var!(4)), None]
-            && next(variables) == Some((var!(3), var!(6), var!(3))),
-    )
+    let are_led = globals.map(number) == [2, 4, 0];
+    Ok(freed & second & fifth & are_led & (next(variables) == Some([3, 6, 3])))
 }
 
 /// One above the highest name, global variable and solver variable.
-fn watermarks(variables: &LinkedVariables<Global>) -> [usize; 3] {
-    let parts = variables.variables();
+pub fn watermarks(variables: &Variables<Global>) -> [usize; 3] {
     [
-        parts.user_watermark(),
-        parts.global_watermark(),
-        parts.solver_watermark(),
+        variables.user_watermark(),
+        variables.global_watermark(),
+        variables.solver_watermark(),
     ]
 }
 
 /// Whether names lead to variables, as long as they are in use.
 fn lead(variables: &mut LinkedVariables<Global>) -> Result<bool, AllocError> {
-    let first = next(variables);
+    let is_new = next(variables) == Some([1, 1, 1]);
     let named = is_named(variables)?;
     let hidden = is_hidden(variables)?;
-    let none = first == Some((var!(1), var!(1), var!(1)));
-    Ok(none && named && hidden && watermarks(variables) == [5, 5, 2])
+    let are_in_use = watermarks(variables.variables()) == [5, 5, 2];
+    Ok(is_new & named & hidden & are_in_use)
 }
 
 #[test]
@@ -237,11 +242,8 @@ fn changes(variables: &mut LinkedVariables<Global>) -> Result<bool, AllocError> 
     change(variables);
     let first = (Some(false), [false, true, false], SamplingMode::Witness);
     let second = (None, [true, false, false], SamplingMode::Sample);
-    Ok(
-        variables.variables().global_watermark() == 2
-            && kept(variables, var!(1)) == Some(first)
-            && kept(variables, var!(2)) == Some(second),
-    )
+    let are_kept = [kept(variables, var!(1)), kept(variables, var!(2))];
+    Ok((variables.global_watermark() == 2) & (are_kept == [Some(first), Some(second)]))
 }
 
 #[test]
@@ -258,17 +260,19 @@ fn goes_both_ways(map: &mut VarBiMap<Global>) -> Result<bool, AllocError>
 {
     map.insert(var!(7), var!(2))?;
     let watermarks = (map.fwd().watermark(), map.bwd().watermark());
-    let there = [map.fwd().get(var!(2)), map.bwd().get(var!(7))];
-    let absent = [map.fwd().get(var!(1)), map.fwd().get(var!(9))];
-    let removed = [map.remove(var!(2)), map.remove(var!(2))];
-    let left = map.bwd().get(var!(7));
-    Ok(
-        watermarks == (2, 7)
-            && there == [Some(var!(7)), Some(var!(2))]
-            && absent == [None, None]
-            && removed == [Some(var!(7)), None]
-            && left.is_none(),
-    )
+    let found = [
+        map.fwd().get(var!(2)),
+        map.bwd().get(var!(7)),
+        map.fwd().get(var!(1)),
+        map.fwd().get(var!(9)),
+    ];
+    let removed = [
+        map.remove(var!(2)),
+        map.remove(var!(2)),
+        map.bwd().get(var!(7)),
+    ];
+    let are_found = found.map(number) == [7, 2, 0, 0];
+    Ok((watermarks == (2, 7)) & are_found & (removed.map(number) == [7, 0, 0]))
 }
 
 #[test]
@@ -284,7 +288,7 @@ fn is_high(variables: &mut LinkedVariables<Global>) -> Result<bool, AllocError>
     requires { variables.old ≡ no_variables }
 {
     variables.name_user_var(Var::from_index(99_999))?;
-    Ok(watermarks(variables) == [100_000, 100_000, 0])
+    Ok(watermarks(variables.variables()) == [100_000, 100_000, 0])
 }
 
 #[test]

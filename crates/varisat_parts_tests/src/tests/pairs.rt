@@ -21,6 +21,17 @@ fn add<A: Allocator + Copy>(
     Ok(())
 }
 
+/// Keeps these clauses.
+fn add_all<A: Allocator + Copy>(
+    lists: &mut BinaryClauses<A>,
+    clauses: &[[Lit; 2]],
+) -> Result<(), AllocError> {
+    for clause in clauses {
+        add(lists, *clause)?;
+    }
+    Ok(())
+}
+
 /// Whether the literal implies these, in this order.
 fn implies<A: Allocator + Copy>(lists: &BinaryClauses<A>, lit: Lit, wanted: &[Lit]) -> bool {
     lit.code() < lists.len() && lists.implied(lit) == wanted
@@ -32,21 +43,22 @@ fn keeps_pairs<A: Allocator + Copy>(lists: &mut BinaryClauses<A>) -> Result<bool
 {
     let began = lists.len();
     lists.set_var_count(3)?;
-    add(lists, [lit!(1), lit!(-2)])?;
-    add(lists, [lit!(3), lit!(1)])?;
+    add_all(lists, &[lits![1, -2], lits![3, 1]])?;
     let count = lists.len();
     if count > 8 {
         return Ok(false);
     }
     lists.set_var_count(4)?;
-    Ok(
-        [began, count, lists.len()] == [0, 6, 8]
-            && implies(lists, lit!(-1), &lits![-2, 3])
-            && implies(lists, lit!(2), &lits![1])
-            && implies(lists, lit!(-3), &lits![1])
-            && implies(lists, lit!(1), &[])
-            && implies(lists, lit!(-4), &[]),
-    )
+    Ok(([began, count, lists.len()] == [0, 6, 8]) & are_listed(lists))
+}
+
+/// Whether those clauses are listed by these, in the order of adding.
+fn are_listed<A: Allocator + Copy>(lists: &BinaryClauses<A>) -> bool {
+    implies(lists, lit!(-1), &lits![-2, 3])
+        & implies(lists, lit!(2), &lits![1])
+        & implies(lists, lit!(-3), &lits![1])
+        & implies(lists, lit!(1), &[])
+        & implies(lists, lit!(-4), &[])
 }
 
 #[test]
@@ -57,6 +69,21 @@ fn pairs_are_kept(rt: HostRuntime) {
     assert!(rt; is_right);
 }
 
+/// Keeps three clauses, and gives the first variable a value.
+fn add_and_assign<A: Allocator + Copy>(
+    lists: &mut BinaryClauses<A>,
+    assignment: &mut Assignment<A>,
+) -> Result<(), AllocError>
+    requires lists { lists.old ≡ [] }
+    requires assignment { assignment.old ≡ no_values }
+{
+    lists.set_var_count(3)?;
+    add_all(lists, &[lits![1, -2], lits![3, 1], lits![-2, 3]])?;
+    assignment.set_var_count(3)?;
+    assignment.assign_lit(lit!(1));
+    Ok(())
+}
+
 /// Whether only the clause without the first variable is left once that one has a value.
 fn drops_pairs<A: Allocator + Copy>(
     lists: &mut BinaryClauses<A>,
@@ -65,20 +92,15 @@ fn drops_pairs<A: Allocator + Copy>(
     requires lists { lists.old ≡ [] }
     requires assignment { assignment.old ≡ no_values }
 {
-    lists.set_var_count(3)?;
-    assignment.set_var_count(3)?;
-    add(lists, [lit!(1), lit!(-2)])?;
-    add(lists, [lit!(3), lit!(1)])?;
-    add(lists, [lit!(-2), lit!(3)])?;
-    assignment.assign_lit(lit!(1));
+    add_and_assign(lists, assignment)?;
     if lists.len() > 6 {
         return Ok(false);
     }
     lists.simplify(assignment);
     Ok(
         implies(lists, lit!(-1), &[])
-            && implies(lists, lit!(2), &lits![3])
-            && implies(lists, lit!(-3), &lits![-2]),
+            & implies(lists, lit!(2), &lits![3])
+            & implies(lists, lit!(-3), &lits![-2]),
     )
 }
 
@@ -114,5 +136,5 @@ fn each_growth_of_pairs_may_be_refused(rt: HostRuntime) {
             Err(_) => refused = true,
         }
     }
-    assert!(rt; kept && refused);
+    assert!(rt; kept & refused);
 }

@@ -24,6 +24,13 @@ fn told(assignment: &Assignment<Global>, literal: Lit) -> (Option<bool>, [bool; 
     (assignment.lit_value(literal), flags)
 }
 
+/// What is told of a true literal, a false one and one without a value.
+const TOLD: [(Option<bool>, [bool; 3]); 3] = [
+    (Some(true), [true, false, false]),
+    (Some(false), [false, true, false]),
+    (None, [false, false, true]),
+];
+
 /// Whether a literal is told as true once it is made true.
 fn is_assigned(assignment: &mut Assignment<Global>) -> bool
     requires { length assignment.old.current ≡ 3 }
@@ -31,10 +38,12 @@ fn is_assigned(assignment: &mut Assignment<Global>) -> bool
 {
     assignment.assign_lit(lit!(-2));
     let is_listed = assignment.assignment() == [None, Some(false), None].as_slice();
-    is_listed
-        && told(assignment, lit!(-2)) == (Some(true), [true, false, false])
-        && told(assignment, lit!(2)) == (Some(false), [false, true, false])
-        && told(assignment, lit!(3)) == (None, [false, false, true])
+    let are_told = [
+        told(assignment, lit!(-2)),
+        told(assignment, lit!(2)),
+        told(assignment, lit!(3)),
+    ];
+    is_listed & (are_told == TOLD)
 }
 
 /// Whether a value that is released is remembered, and one that is taken away is gone.
@@ -50,14 +59,14 @@ fn is_taken_away(assignment: &mut Assignment<Global>) -> bool
     ];
     assignment.unassign_var(var!(2));
     let unassigned = assignment.var_value(var!(2));
-    released.is_none() && last == [true, false] && unassigned.is_none()
+    ([released, unassigned] == [None, None]) & (last == [true, false])
 }
 
 fn keeps_values(assignment: &mut Assignment<Global>) -> Result<bool, AllocError>
     requires { assignment.old ≡ no_values }
 {
     assignment.set_var_count(3)?;
-    Ok(is_assigned(assignment) && is_taken_away(assignment))
+    Ok(is_assigned(assignment) & is_taken_away(assignment))
 }
 
 #[test]
@@ -68,10 +77,18 @@ fn values(rt: HostRuntime) {
     assert!(rt; is_right);
 }
 
-/// Whether all is propagated, the first literal that is not, and the level.
-fn state(trail: &Trail<Global>) -> (bool, Option<Lit>, usize) {
-    let is_done = trail.fully_propagated();
-    (is_done, trail.queue_head(), trail.current_level())
+/// The number of the literal, and 0 where there is none.
+fn number(literal: Option<Lit>) -> isize {
+    match literal {
+        Some(literal) => literal.to_dimacs(),
+        None => 0,
+    }
+}
+
+/// Whether all is propagated, the number of the first literal that is not, and the level.
+fn state(trail: &Trail<Global>) -> (bool, isize, usize) {
+    let head = number(trail.queue_head());
+    (trail.fully_propagated(), head, trail.current_level())
 }
 
 /// Whether a trail of a literal and a decision is told as it is, and which literals are propagated.
@@ -83,13 +100,9 @@ fn is_pushed(trail: &mut Trail<Global>) -> Result<bool, AllocError>
     trail.push(lit!(3))?;
     trail.new_decision_level()?;
     trail.push(lit!(-1))?;
-    let head = trail.pop_queue();
-    Ok(
-        empty == (true, None, 0)
-            && head == Some(lit!(3))
-            && state(trail) == (false, Some(lit!(-1)), 1)
-            && trail.trail() == lits![3, -1].as_slice(),
-    )
+    let head = number(trail.pop_queue());
+    let states = [empty, state(trail)] == [(true, 0, 0), (false, -1, 1)];
+    Ok((head == 3) & states & (trail.trail() == lits![3, -1].as_slice()))
 }
 
 /// Whether the queue of that trail ends and begins again.
@@ -97,15 +110,12 @@ fn is_queued(trail: &mut Trail<Global>) -> bool
     requires { trail.old ≡ record { literals = 4 ∷ 1 ∷ []; queue_head = 1; decisions = 1 ∷ []; units_removed = 0 } }
     ensures { trail.new ≡ record { literals = 4 ∷ 1 ∷ []; queue_head = 0; decisions = 1 ∷ []; units_removed = 0 } }
 {
-    let last = trail.pop_queue();
+    let last = number(trail.pop_queue());
     let ended = state(trail);
-    let none = trail.pop_queue();
+    let none = number(trail.pop_queue());
     trail.reset_queue();
-    let again = state(trail);
-    last == Some(lit!(-1))
-        && ended == (true, None, 1)
-        && none.is_none()
-        && again == (false, Some(lit!(3)), 1)
+    let states = [ended, state(trail)];
+    ([last, none] == [-1, 0]) & (states == [(true, 0, 1), (false, 3, 1)])
 }
 
 /// Whether that trail is taken off down to its level 0, and then whole.
@@ -114,10 +124,11 @@ fn is_taken_off(trail: &mut Trail<Global>) -> bool
 {
     let places = [trail.top_level_assignment_count(), trail.level_end(0)];
     trail.truncate(0);
-    let is_cut = trail.trail() == lits![3].as_slice() && trail.current_level() == 0;
+    let is_cut = (trail.trail() == lits![3].as_slice()) & (trail.current_level() == 0);
     trail.clear();
-    let is_clear = trail.trail().is_empty() && trail.fully_propagated();
-    places == [1, 1] && is_cut && is_clear && trail.top_level_assignment_count() == 1
+    let is_clear = trail.trail().is_empty() & trail.fully_propagated();
+    let count = trail.top_level_assignment_count();
+    (places == [1, 1]) & is_cut & is_clear & (count == 1)
 }
 
 fn keeps_trail(trail: &mut Trail<Global>) -> Result<bool, AllocError>
@@ -126,7 +137,7 @@ fn keeps_trail(trail: &mut Trail<Global>) -> Result<bool, AllocError>
     let pushed = is_pushed(trail)?;
     let queued = is_queued(trail);
     let taken_off = is_taken_off(trail);
-    Ok(pushed && queued && taken_off)
+    Ok(pushed & queued & taken_off)
 }
 
 #[test]
@@ -144,21 +155,17 @@ fn keeps_nodes(graph: &mut ImplGraph<Global>) -> Result<bool, AllocError>
     graph.set_var_count(2)?;
     let is_unit = graph.reason(var!(2)).is_unit();
     let began = (graph.level(var!(2)), graph.depth(var!(2)));
-    let was_removed = graph.is_removed_unit(var!(2));
+    let before = graph.is_removed_unit(var!(2));
     graph.update_reason(var!(2), Reason::Long(ClauseRef::from_offset(4)));
     let reason = *graph.reason(var!(2));
     graph.update_removed_unit(var!(2));
     let removed = [
+        before,
         graph.is_removed_unit(var!(1)),
         graph.is_removed_unit(var!(2)),
     ];
-    Ok(
-        is_unit
-            && began == (0, 0)
-            && !was_removed
-            && reason == Reason::Long(ClauseRef::from_offset(4))
-            && removed == [false, true],
-    )
+    let is_long = reason == Reason::Long(ClauseRef::from_offset(4));
+    Ok(is_unit & (began == (0, 0)) & is_long & (removed == [false, false, true]))
 }
 
 #[test]
@@ -182,8 +189,8 @@ fn is_turned(literals: &mut [Lit]) -> bool {
 fn is_pair_named(clauses: &ClauseAlloc<Global>) -> bool
     requires { IsSound clauses.now }
 {
-    Reason::Binary([lit!(-2)]).lits(clauses) == lits![-2].as_slice()
-        && Conflict::Binary([lit!(1), lit!(-2)]).lits(clauses) == lits![1, -2].as_slice()
+    (Reason::Binary(lits![-2]).lits(clauses) == lits![-2].as_slice())
+        & (Conflict::Binary(lits![1, -2]).lits(clauses) == lits![1, -2].as_slice())
 }
 
 /// Whether a clause of the store is named by its place, as a reason and as a conflict.
@@ -192,8 +199,8 @@ fn is_long_named(clauses: &ClauseAlloc<Global>, cref: ClauseRef) -> bool
     requires place { IsPlace (live_clauses clauses.now) cref }
     requires long { 3 ≤ length (literals_at (live_clauses clauses.now) cref) }
 {
-    Reason::Long(cref).lits(clauses) == lits![-2, 3].as_slice()
-        && Conflict::Long(cref).lits(clauses) == lits![1, -2, 3].as_slice()
+    (Reason::Long(cref).lits(clauses) == lits![-2, 3].as_slice())
+        & (Conflict::Long(cref).lits(clauses) == lits![1, -2, 3].as_slice())
 }
 
 /// Whether clauses are named, and the literals of one can be put into another order.
@@ -202,9 +209,9 @@ fn names_clauses(clauses: &mut ClauseAlloc<Global>) -> Result<bool, StoreError>
 {
     clauses.add_clause(ClauseHeader::new(), &lits![-1, 3, 2])?;
     let cref = clauses.add_clause(ClauseHeader::new(), &lits![1, -2, 3])?;
-    let is_named = is_pair_named(clauses) && is_long_named(clauses, cref);
+    let is_named = is_pair_named(clauses) & is_long_named(clauses, cref);
     let is_turned = is_turned(clauses.lits_mut(cref));
-    Ok(is_named && is_turned)
+    Ok(is_named & is_turned)
 }
 
 #[test]
@@ -213,6 +220,14 @@ fn clauses(rt: HostRuntime) {
     let is_right = matches!(names_clauses(&mut clauses), Ok(true));
     drop(clauses);
     assert!(rt; is_right);
+}
+
+/// Whether the second variable is noted as a decision at the first level.
+fn is_noted<A: Allocator + Copy>(graph: &ImplGraph<A>) -> bool {
+    match graph.nodes.get(1) {
+        Some(node) => node.reason.is_unit() & (node.level == 1) & (node.depth == 1),
+        None => false,
+    }
 }
 
 /// Makes a literal true, and says whether it is noted.
@@ -228,11 +243,8 @@ fn enqueue<A: Allocator + Copy>(
     graph.set_var_count(2)?;
     trail.new_decision_level()?;
     enqueue_assignment(assignment, graph, trail, lit!(-2), Reason::Unit)?;
-    let is_noted = match graph.nodes.get(1) {
-        Some(node) => node.reason.is_unit() && node.level == 1 && node.depth == 1,
-        None => false,
-    };
-    Ok(is_noted && assignment.assignment() == [None, Some(false)].as_slice())
+    let is_assigned = assignment.assignment() == [None, Some(false)].as_slice();
+    Ok(is_assigned & is_noted(graph))
 }
 
 /// Makes a literal true. Says whether there was memory for it.

@@ -23,18 +23,29 @@ fn update_one(
     SolverConfigUpdate::one(field, value).apply(config)
 }
 
+const REFUSED: Result<(), ConfigError> = Err(ConfigError {
+    field: ConfigField::VsidsDecay,
+});
+
+/// Values of the first setting, what an update with each comes to, and what the setting is then.
+const DECAYS: &[(u64, Result<(), ConfigError>, u64)] = &[
+    (499, REFUSED, 950),
+    (1000, REFUSED, 950),
+    (500, Ok(()), 500),
+    (999, Ok(()), 999),
+];
+
+/// What comes of an interval of 0, and what the interval is then.
+fn refuse_interval(config: &mut SolverConfig) -> (Result<(), ConfigError>, u64) {
+    let applied = update_one(config, ConfigField::LubyRestartIntervalScale, 0);
+    (applied, config.luby_restart_interval_scale())
+}
+
 #[test]
 fn ranges_are_kept(rt: HostRuntime) {
     let mut config = SolverConfig::default();
-    let refused = Err(ConfigError {
-        field: ConfigField::VsidsDecay,
-    });
-    for (value, wanted, kept) in [
-        (499u64, refused, 950u64),
-        (1000, refused, 950),
-        (500, Ok(()), 500),
-        (999, Ok(()), 999),
-    ] {
+    for row in DECAYS {
+        let (value, wanted, kept) = *row;
         let applied = update_one(&mut config, ConfigField::VsidsDecay, value);
         assert!(rt;
             (applied, config.vsids_decay()) == (wanted, kept),
@@ -44,8 +55,7 @@ fn ranges_are_kept(rt: HostRuntime) {
     let refused = Err(ConfigError {
         field: ConfigField::LubyRestartIntervalScale,
     });
-    assert!(rt; update_one(&mut config, ConfigField::LubyRestartIntervalScale, 0) == refused);
-    assert!(rt; config.luby_restart_interval_scale() == 128);
+    assert!(rt; refuse_interval(&mut config) == (refused, 128));
 }
 
 /// An update of two settings that are out of range.
@@ -77,10 +87,10 @@ fn update_with(reduce_mids_interval: Option<u64>) -> SolverConfigUpdate {
 #[test]
 fn a_good_field_beside_a_bad_one_stays(rt: HostRuntime) {
     let mut config = SolverConfig::new();
-    assert!(rt; update_with(Some(0)).apply(&mut config).is_err());
-    assert!(rt; config == SolverConfig::new());
-    assert!(rt; update_with(None).apply(&mut config).is_ok());
-    assert!(rt; told(&config) == [600, 999, 15000, 10000, 128, 7]);
+    let is_refused = update_with(Some(0)).apply(&mut config).is_err();
+    assert!(rt; is_refused & (config == SolverConfig::new()));
+    let is_applied = update_with(None).apply(&mut config).is_ok();
+    assert!(rt; is_applied & (told(&config) == [600, 999, 15000, 10000, 128, 7]));
 }
 
 fn is_name(alloc: Global, field: ConfigField, name: &str) -> Result<bool, AllocError> {
@@ -103,23 +113,28 @@ fn is_refusal(alloc: Global, told: &str, name: &str) -> Result<bool, AllocError>
 
 fn is_named(alloc: Global, name: &str) -> Result<bool, AllocError> {
     match ConfigField::from_name(name.as_bytes()) {
-        Some(field) => Ok(is_name(alloc, field, name)? && is_told(alloc, field, name)?),
+        Some(field) => Ok(is_name(alloc, field, name)? & is_told(alloc, field, name)?),
         None => Ok(false),
     }
 }
 
+const NAMES: &[&str] = &[
+    "vsids_decay",
+    "clause_activity_decay",
+    "reduce_locals_interval",
+    "reduce_mids_interval",
+    "luby_restart_interval_scale",
+    "max_steps",
+];
+
 #[test]
 fn refusals_are_told(rt: HostRuntime) {
-    for name in [
-        "vsids_decay",
-        "clause_activity_decay",
-        "reduce_locals_interval",
-        "reduce_mids_interval",
-        "luby_restart_interval_scale",
-        "max_steps",
-    ] {
+    for name in NAMES {
         assert!(rt; matches!(is_named(rt.alloc(), name), Ok(true)), "at {name}");
     }
-    assert!(rt; ConfigField::from_name(b"max_step").is_none());
-    assert!(rt; ConfigField::from_name(b"").is_none());
+    let others = [
+        ConfigField::from_name(b"max_step"),
+        ConfigField::from_name(b""),
+    ];
+    assert!(rt; others == [None, None]);
 }

@@ -1,6 +1,6 @@
 //! Names that are hidden, shown and used again, maps and data that are lent, and what the iterators list.
 
-use super::names::{hide, is_live, name, take};
+use super::names::{hide, is_live, name, number, take, watermarks};
 use linked_list_allocator::LocalHeap;
 use std::alloc::{AllocError, Allocator, Global};
 use varisat_literals::{Var, var};
@@ -22,69 +22,78 @@ fn data_begins_as_it_should(rt: HostRuntime) {
     assert!(rt; told(VarData::user_default()) == named);
 }
 
-/// Drops the solver variable, if a global variable has it.
+/// Drops the solver variable, if a global variable has it. The number of that, or 0.
 fn drop_var<A: Allocator + Copy>(
     variables: &mut LinkedVariables<A>,
     solver: Var,
-) -> Result<Option<Var>, AllocError> {
+) -> Result<isize, AllocError> {
     if variables.variables().solver_var_present(solver) {
-        return Ok(Some(variables.drop_solver_var(solver)?));
+        return Ok(variables.drop_solver_var(solver)?.to_dimacs());
     }
-    Ok(None)
+    Ok(0)
 }
 
-/// Shows the global variable as a witness, if it is live and has no name.
+/// Shows the global variable as a witness, if it is live and has no name. The number of the name that it got, or 0.
 fn show<A: Allocator + Copy>(
     variables: &mut LinkedVariables<A>,
     global: Var,
-) -> Result<Option<Var>, AllocError> {
+) -> Result<isize, AllocError> {
     let is_named = variables
         .variables()
         .user_from_global()
         .get(global)
         .is_some();
     if is_named || variables.user_watermark() > 100 || !is_live(variables, global) {
-        return Ok(None);
+        return Ok(0);
     }
-    Ok(Some(variables.show(global, SamplingMode::Witness)?))
+    Ok(variables.show(global, SamplingMode::Witness)?.to_dimacs())
 }
 
-/// The first three names in use, and the first three live global variables.
-fn listed<A: Allocator + Copy>(variables: &Variables<A>) -> ([Option<Var>; 3], [Option<Var>; 3]) {
+/// The numbers of the first three names in use, and of the first three live global variables.
+fn listed<A: Allocator + Copy>(variables: &Variables<A>) -> ([isize; 3], [isize; 3]) {
     let mut users = variables.user_var_iter();
     let mut globals = variables.global_var_iter();
     let names = [users.next(), users.next(), users.next()];
-    (names, [globals.next(), globals.next(), globals.next()])
+    let globals = [globals.next(), globals.next(), globals.next()];
+    (names.map(number), globals.map(number))
 }
 
-/// Whether a hidden variable keeps its solver variable, and is used again afresh once it has lost that too.
-fn is_used_again<A: Allocator + Copy>(
-    variables: &mut LinkedVariables<A>,
-) -> Result<bool, AllocError> {
+/// Names two names, and hides the first, which has a solver variable and a unit by then. Says whether that was done.
+fn hide_first<A: Allocator + Copy>(variables: &mut LinkedVariables<A>) -> Result<bool, AllocError> {
     let named = name(variables, var!(2))?;
     let taken = take(variables, var!(1))?;
     if is_live(variables, var!(1)) {
         variables.set_unit(var!(1), true);
     }
     let hidden = hide(variables, var!(1))?;
-    let left = listed(variables.variables());
+    Ok(named & (taken == 1) & hidden)
+}
+
+/// Whether the global variable is live and has no unit.
+fn is_fresh<A: Allocator + Copy>(variables: &LinkedVariables<A>, global: Var) -> bool {
+    is_live(variables, global) && variables.var_data_global(global).unit.is_none()
+}
+
+/// Whether the hidden variable leaves the lists once it loses its solver variable, and its name is used afresh then.
+fn is_named_again<A: Allocator + Copy>(
+    variables: &mut LinkedVariables<A>,
+) -> Result<bool, AllocError> {
     let global = drop_var(variables, var!(1))?;
     let dropped = listed(variables.variables());
-    let again = name(variables, var!(1))?;
-    let is_fresh = is_live(variables, var!(1)) && variables.var_data_global(var!(1)).unit.is_none();
-    let is_left = left
-        == (
-            [Some(var!(2)), None, None],
-            [Some(var!(1)), Some(var!(2)), None],
-        );
-    let is_dropped = dropped == ([Some(var!(2)), None, None], [Some(var!(2)), None, None]);
-    let is_back = listed(variables.variables())
-        == (
-            [Some(var!(1)), Some(var!(2)), None],
-            [Some(var!(1)), Some(var!(2)), None],
-        );
-    let numbers = [taken, global] == [Some(var!(1)), Some(var!(1))];
-    Ok(named && hidden && again && is_fresh && numbers && is_left && is_dropped && is_back)
+    let named = name(variables, var!(1))?;
+    let is_dropped = (global == 1) & (dropped == ([2, 0, 0], [2, 0, 0]));
+    Ok(is_dropped & named & is_fresh(variables, var!(1)))
+}
+
+/// Whether a hidden variable keeps its solver variable, and is used again afresh once it has lost that too.
+fn is_used_again<A: Allocator + Copy>(
+    variables: &mut LinkedVariables<A>,
+) -> Result<bool, AllocError> {
+    let hidden = hide_first(variables)?;
+    let is_left = listed(variables.variables()) == ([2, 0, 0], [1, 2, 0]);
+    let named = is_named_again(variables)?;
+    let is_back = listed(variables.variables()) == ([1, 2, 0], [1, 2, 0]);
+    Ok(hidden & is_left & named & is_back)
 }
 
 #[test]
@@ -92,27 +101,39 @@ fn what_is_used_again_starts_fresh(rt: HostRuntime) {
     assert!(rt; matches!(is_new_one_used_again(rt.alloc()), Ok(true)));
 }
 
-/// Whether a hidden variable that clauses hold gets the least free name as a witness.
-fn is_shown<A: Allocator + Copy>(variables: &mut LinkedVariables<A>) -> Result<bool, AllocError> {
+/// Names three names, and hides the third, whose variable clauses hold, and the second. Says whether that was done.
+fn hide_two<A: Allocator + Copy>(variables: &mut LinkedVariables<A>) -> Result<bool, AllocError> {
     let named = name(variables, var!(3))?;
     if is_live(variables, var!(3)) {
         variables.set_isolated(var!(3), false);
     }
-    let hidden = [hide(variables, var!(3))?, hide(variables, var!(2))?];
+    let third = hide(variables, var!(3))?;
+    let second = hide(variables, var!(2))?;
+    Ok(named & third & second)
+}
+
+/// The names that the third variable gets as it is shown twice, and the second one, which is not live.
+fn show_two<A: Allocator + Copy>(
+    variables: &mut LinkedVariables<A>,
+) -> Result<[isize; 3], AllocError> {
     let shown = show(variables, var!(3))?;
-    let twice = [show(variables, var!(3))?, show(variables, var!(2))?];
-    let is_witness = is_live(variables, var!(3))
-        && variables.var_data_global(var!(3)).sampling_mode == SamplingMode::Witness;
-    let names = [Some(var!(1)), Some(var!(2)), None];
-    let globals = [Some(var!(1)), Some(var!(3)), None];
-    Ok(
-        named
-            && is_witness
-            && hidden == [true, true]
-            && shown == Some(var!(2))
-            && twice == [None, None]
-            && listed(variables.variables()) == (names, globals),
-    )
+    let again = show(variables, var!(3))?;
+    let second = show(variables, var!(2))?;
+    Ok([shown, again, second])
+}
+
+/// Whether the global variable is live, as a witness.
+fn is_witness<A: Allocator + Copy>(variables: &LinkedVariables<A>, global: Var) -> bool {
+    is_live(variables, global)
+        && variables.var_data_global(global).sampling_mode == SamplingMode::Witness
+}
+
+/// Whether a hidden variable that clauses hold gets the least free name as a witness.
+fn is_shown<A: Allocator + Copy>(variables: &mut LinkedVariables<A>) -> Result<bool, AllocError> {
+    let hidden = hide_two(variables)?;
+    let names = show_two(variables)?;
+    let is_listed = listed(variables.variables()) == ([1, 2, 0], [1, 3, 0]);
+    Ok(hidden & (names == [2, 0, 0]) & is_listed & is_witness(variables, var!(3)))
 }
 
 #[test]
@@ -139,7 +160,7 @@ fn is_new_one_shown<A: Allocator + Copy>(alloc: A) -> Result<bool, AllocError> {
 /// Whether names are hidden, shown and used again on a heap of that many times 16 bytes.
 fn is_right_with(alloc: Global, room: u8) -> Result<bool, AllocError> {
     let heap = LocalHeap::new(alloc, 16 * usize::from(room))?;
-    Ok(is_new_one_used_again(&heap)? && is_new_one_shown(&heap)?)
+    Ok(is_new_one_used_again(&heap)? & is_new_one_shown(&heap)?)
 }
 
 #[test]
@@ -154,16 +175,24 @@ fn each_growth_may_be_refused(rt: HostRuntime) {
     assert!(rt; refused);
 }
 
+/// Whether a pair is in both maps, or in neither where memory for it is refused.
+fn is_left<A: Allocator + Copy>(map: &mut VarBiMap<A>) -> bool {
+    let is_free = map.fwd().get(var!(9)).is_none() & map.bwd().get(var!(90)).is_none();
+    if !is_free {
+        return false;
+    }
+    let is_refused = map.bwd_mut().insert(var!(9), var!(90)).is_err();
+    let watermarks = (map.fwd().watermark(), map.bwd().watermark());
+    watermarks == if is_refused { (0, 0) } else { (9, 90) }
+}
+
 /// Whether a refused pair leaves both maps of a heap of that many times 16 bytes as they were.
 fn is_left_with(alloc: Global, room: u8) -> Result<bool, AllocError> {
     let heap = LocalHeap::new(alloc, 16 * usize::from(room))?;
     let mut map = VarBiMap::new_in(&heap);
-    if map.fwd().get(var!(9)).is_some() || map.bwd().get(var!(90)).is_some() {
-        return Ok(false);
-    }
-    let is_refused = map.bwd_mut().insert(var!(9), var!(90)).is_err();
-    let watermarks = (map.fwd().watermark(), map.bwd().watermark());
-    Ok(watermarks == if is_refused { (0, 0) } else { (9, 90) })
+    let is_right = is_left(&mut map);
+    drop(map);
+    Ok(is_right)
 }
 
 #[test]
@@ -184,11 +213,11 @@ fn join(
     solver: Var,
 ) -> Result<(), AllocError> {
     let named = variables.user_from_global().get(global);
-    if named.is_none() && variables.global_from_user().get(user).is_none() {
+    if named.is_none() & variables.global_from_user().get(user).is_none() {
         variables.global_from_user_mut().insert(global, user)?;
     }
     let taken = variables.global_from_solver().get(solver);
-    if taken.is_none() && variables.solver_from_global().get(global).is_none() {
+    if taken.is_none() & variables.solver_from_global().get(global).is_none() {
         variables.global_from_solver_mut().insert(global, solver)?;
     }
     Ok(())
@@ -206,27 +235,32 @@ fn change(variables: &mut Variables<Global>, global: Var, solver: Var) {
     }
 }
 
-/// Whether maps and data that are lent change, and nothing else does.
-fn is_lent(variables: &mut Variables<Global>) -> Result<bool, AllocError> {
+/// Joins the second name to the third of four global variables and that to the first solver variable, and changes what
+/// is kept of it.
+fn change_lent(variables: &mut Variables<Global>) -> Result<(), AllocError> {
     variables.reach_global(var!(4))?;
     join(variables, var!(2), var!(3), var!(1))?;
     change(variables, var!(3), var!(1));
-    let before = listed(variables);
+    Ok(())
+}
+
+/// The name and the solver variable that are removed from the third global variable, and what is removed again.
+fn remove_lent(variables: &mut Variables<Global>) -> [isize; 3] {
     let removed = [
         variables.user_from_global_mut().remove(var!(3)),
         variables.solver_from_global_mut().remove(var!(3)),
         variables.solver_from_global_mut().remove(var!(3)),
     ];
-    let after = listed(variables);
-    let watermarks = [
-        variables.user_watermark(),
-        variables.global_watermark(),
-        variables.solver_watermark(),
-    ];
-    let were_listed = before == ([Some(var!(2)), None, None], [Some(var!(3)), None, None]);
-    let are_listed = after == ([None, None, None], [Some(var!(3)), None, None]);
-    let were_removed = removed == [Some(var!(2)), Some(var!(1)), None];
-    Ok(watermarks == [2, 4, 1] && were_removed && were_listed && are_listed)
+    removed.map(number)
+}
+
+/// Whether maps and data that are lent change, and nothing else does.
+fn is_lent(variables: &mut Variables<Global>) -> Result<bool, AllocError> {
+    change_lent(variables)?;
+    let were_listed = listed(variables) == ([2, 0, 0], [3, 0, 0]);
+    let were_removed = remove_lent(variables) == [2, 1, 0];
+    let are_listed = listed(variables) == ([0, 0, 0], [3, 0, 0]);
+    Ok(were_listed & were_removed & are_listed & (watermarks(variables) == [2, 4, 1]))
 }
 
 #[test]
@@ -237,9 +271,16 @@ fn parts_are_lent(rt: HostRuntime) {
     assert!(rt; is_right);
 }
 
+/// What comes of the names of a map with none.
+fn no_names(map: &VarBiMap<Global>) -> [Option<Var>; 2] {
+    let mut names = UserVars::new(map.fwd());
+    [names.next(), names.next()]
+}
+
 #[test]
 fn an_iterator_stays_at_its_end(rt: HostRuntime) {
     let map = VarBiMap::new_in(rt.alloc());
-    let mut names = UserVars::new(map.fwd());
-    assert!(rt; [names.next(), names.next()] == [None, None]);
+    let names = no_names(&map);
+    drop(map);
+    assert!(rt; names == [None, None]);
 }

@@ -17,10 +17,9 @@ fn watch_on(place: u32, blocking: Lit) -> Watch {
 }
 
 /// Whether the watches are on the clauses at these places, with these blocking literals.
-fn are(watches: &[Watch], wanted: &[(u32, Lit)]) -> bool {
+fn are(watches: &[Watch], wanted: &[(usize, isize)]) -> bool {
     for (watch, pair) in watches.iter().zip(wanted) {
-        let (place, blocking) = *pair;
-        if watch.cref != ClauseRef::from_offset(place) || watch.blocking != blocking {
+        if (watch.cref.offset(), watch.blocking.to_dimacs()) != *pair {
             return false;
         }
     }
@@ -28,11 +27,25 @@ fn are(watches: &[Watch], wanted: &[(u32, Lit)]) -> bool {
 }
 
 /// Whether the literal has these watches.
-fn has<A: Allocator + Copy>(lists: &mut Watchlists<A>, lit: Lit, wanted: &[(u32, Lit)]) -> bool {
+fn has<A: Allocator + Copy>(
+    lists: &mut Watchlists<A>,
+    lit: Lit,
+    wanted: &[(usize, isize)],
+) -> bool {
     if lists.len() <= lit.code() {
         return false;
     }
     are(lists.watched_by_mut(lit), wanted)
+}
+
+/// Whether the literals of four variables have these watches, in the order of the codes, and no other has a list.
+fn have<A: Allocator + Copy>(lists: &mut Watchlists<A>, wanted: &[&[(usize, isize)]]) -> bool {
+    for code in 0..8 {
+        if code < wanted.len() && !has(lists, Lit::from_code(code), wanted[code]) {
+            return false;
+        }
+    }
+    lists.len() == wanted.len()
 }
 
 /// Watches the clause, where there are lists for its literals.
@@ -56,21 +69,15 @@ fn watch<A: Allocator + Copy>(
 fn are_watched<A: Allocator + Copy>(lists: &mut Watchlists<A>) -> Result<bool, AllocError>
     requires { lists.old ≡ no_watches }
 {
-    let began = (lists.len(), lists.enabled());
+    let is_new = (lists.len() == 0) & lists.enabled();
     lists.set_var_count(3)?;
     watch(lists, 4, &lits![1, -2, 3])?;
     watch(lists, 5, &lits![-3, 1])?;
-    Ok(
-        began == (0, true)
-            && lists.len() == 6
-            && has(lists, lit!(-1), &[(4, lit!(-2)), (5, lit!(-3))])
-            && has(lists, lit!(2), &[(4, lit!(1))])
-            && has(lists, lit!(3), &[(5, lit!(1))])
-            && has(lists, lit!(1), &[])
-            && has(lists, lit!(-2), &[])
-            && has(lists, lit!(-3), &[]),
-    )
+    Ok(is_new & have(lists, WATCHED))
 }
+
+/// The watches then, of 1, -1, 2, -2 and so on.
+const WATCHED: &[&[(usize, isize)]] = &[&[], &[(4, -2), (5, -3)], &[(4, 1)], &[], &[(5, 1)], &[]];
 
 /// Whether a list is taken out and put back as another literal's, with one more watch.
 fn are_moved<A: Allocator + Copy>(lists: &mut Watchlists<A>) -> Result<bool, AllocError> {
@@ -82,33 +89,36 @@ fn are_moved<A: Allocator + Copy>(lists: &mut Watchlists<A>) -> Result<bool, All
     lists.put_list(lit!(-2), list);
     lists.add_watch(lit!(-2), watch_on(7, lit!(3)))?;
     lists.set_var_count(4)?;
-    Ok(
-        is_out
-            && lists.len() == 8
-            && has(lists, lit!(-1), &[])
-            && has(
-                lists,
-                lit!(-2),
-                &[(4, lit!(-2)), (5, lit!(-3)), (7, lit!(3))],
-            )
-            && has(lists, lit!(-4), &[]),
-    )
+    Ok(is_out & have(lists, MOVED))
 }
+
+/// The watches then, of 1, -1, 2, -2 and so on.
+const MOVED: &[&[(usize, isize)]] = &[
+    &[],
+    &[],
+    &[(4, 1)],
+    &[(4, -2), (5, -3), (7, 3)],
+    &[(5, 1)],
+    &[],
+    &[],
+    &[],
+];
+
+/// No watches of four variables.
+const OFF: &[&[(usize, isize)]] = &[&[], &[], &[], &[], &[], &[], &[], &[]];
 
 /// Whether lists that are off have no watches and get none, and get some once they are kept up to date again.
 fn are_off<A: Allocator + Copy>(lists: &mut Watchlists<A>) -> Result<bool, AllocError> {
     lists.disable();
     watch(lists, 6, &lits![1, 2])?;
-    let is_off = !lists.enabled() && has(lists, lit!(-1), &[]) && has(lists, lit!(-2), &[]);
+    let is_off = !lists.enabled() & have(lists, OFF);
     lists.enable();
     watch(lists, 6, &lits![1, 2])?;
-    Ok(
-        is_off
-            && lists.enabled()
-            && has(lists, lit!(-1), &[(6, lit!(2))])
-            && has(lists, lit!(-2), &[(6, lit!(1))]),
-    )
+    Ok(is_off & lists.enabled() & have(lists, KEPT_AGAIN))
 }
+
+/// The watches then, of 1, -1, 2, -2 and so on.
+const KEPT_AGAIN: &[&[(usize, isize)]] = &[&[], &[(6, 2)], &[], &[(6, 1)], &[], &[], &[], &[]];
 
 fn keeps_watches<A: Allocator + Copy>(lists: &mut Watchlists<A>) -> Result<bool, AllocError>
     requires { lists.old ≡ no_watches }
@@ -116,7 +126,7 @@ fn keeps_watches<A: Allocator + Copy>(lists: &mut Watchlists<A>) -> Result<bool,
     let watched = are_watched(lists)?;
     let moved = are_moved(lists)?;
     let off = are_off(lists)?;
-    Ok(watched && moved && off)
+    Ok(watched & moved & off)
 }
 
 #[test]
@@ -149,5 +159,5 @@ fn each_growth_of_watches_may_be_refused(rt: HostRuntime) {
             Err(_) => refused = true,
         }
     }
-    assert!(rt; kept && refused);
+    assert!(rt; kept & refused);
 }

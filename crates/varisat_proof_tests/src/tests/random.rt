@@ -1,6 +1,8 @@
 //! Random proofs, whose verdict the plain checker over lines gives too.
 
 use super::checks::{Outcome, outcome_of};
+use rand_core::Rng;
+use rand_pcg::Pcg32;
 use std::alloc::{AllocError, Global};
 use varisat_formula::io::{MemoryTarget, ProofTarget, ReadSource};
 use varisat_literals::{Lit, lit, lits};
@@ -8,26 +10,9 @@ use varisat_proof::checker::Checker;
 use varisat_proof::proof::{ProofFormat, ProofStep, write_binary_step, write_step};
 use varisat_theory::checker::{PlainLine, PlainVerdict, check_lines};
 
-/// Numbers that look random, always the same from the same start.
-#[derive(Drop)]
-struct Numbers {
-    state: u64,
-}
-
-impl Numbers {
-    /// A number below 2^16.
-    fn next(&mut self) -> usize {
-        self.state = self
-            .state
-            .wrapping_mul(6_364_136_223_846_793_005)
-            .wrapping_add(1_442_695_040_888_963_407);
-        (self.state / 0x1_0000_0000_0000) as usize
-    }
-
-    /// A literal of one of six variables.
-    fn literal(&mut self) -> Lit {
-        Lit::from_code(self.next() % 12)
-    }
+/// A random literal of one of six variables.
+fn next_literal(numbers: &mut Pcg32) -> Lit {
+    Lit::from_code(numbers.next_u32() as usize % 12)
 }
 
 /// A proof in three forms: as lines, as text and as bytes of the binary format.
@@ -76,21 +61,33 @@ impl Forms {
 
 /// Lines of which most are right where the clause of the first literal alone is present.
 fn random_proof(alloc: Global, start: u64, length: usize) -> Result<Forms, AllocError> {
-    let mut numbers = Numbers { state: start };
+    let mut numbers = Pcg32::new(start, 0);
     let mut forms = Forms::new(alloc);
     let mut last = [Lit::from_code(0); 3];
     for _ in 0..length {
-        let kind = numbers.next() % 32;
+        let kind = numbers.next_u32() % 32;
         if kind == 0 {
-            forms.push(alloc, false, &[numbers.literal(), numbers.literal()])?;
+            forms.push(
+                alloc,
+                false,
+                &[next_literal(&mut numbers), next_literal(&mut numbers)],
+            )?;
         } else if kind == 1 {
-            forms.push(alloc, true, &[numbers.literal(), numbers.literal()])?;
+            forms.push(
+                alloc,
+                true,
+                &[next_literal(&mut numbers), next_literal(&mut numbers)],
+            )?;
         } else if kind < 10 {
             // The clause that was added last, in another order; it is there once.
             forms.push(alloc, true, &[last[2], last[0], last[1], last[2]])?;
             forms.push(alloc, false, &last)?;
         } else {
-            last = [numbers.literal(), Lit::from_code(0), numbers.literal()];
+            last = [
+                next_literal(&mut numbers),
+                Lit::from_code(0),
+                next_literal(&mut numbers),
+            ];
             forms.push(alloc, false, &last)?;
         }
     }
@@ -182,14 +179,14 @@ fn chain() -> [[Lit; 3]; 6] {
 fn push_right_lines(
     alloc: Global,
     forms: &mut Forms,
-    numbers: &mut Numbers,
+    numbers: &mut Pcg32,
     count: usize,
 ) -> Result<(), AllocError> {
     let mut copies = [1_usize; 5];
     for _ in 0..count {
-        let from = numbers.next() % 5;
+        let from = numbers.next_u32() as usize % 5;
         let implication = [Lit::from_code(2 * from + 1), Lit::from_code(2 * from + 2)];
-        let kind = numbers.next() % 4;
+        let kind = numbers.next_u32() % 4;
         if kind == 0 && copies[from] < 3 {
             copies[from] += 1;
             forms.push(alloc, false, &implication)?;
@@ -198,9 +195,9 @@ fn push_right_lines(
             forms.push(alloc, true, &implication)?;
         } else {
             let added = [
-                numbers.literal(),
+                next_literal(numbers),
                 Lit::from_code(2 * from),
-                numbers.literal(),
+                next_literal(numbers),
             ];
             forms.push(alloc, false, &added)?;
             forms.push(alloc, true, &[added[2], added[0], added[1], added[2]])?;
@@ -216,7 +213,7 @@ fn long_outcome(
     last: Option<(bool, Lit)>,
 ) -> Result<(Outcome, bool, u64), AllocError> {
     let mut forms = Forms::new(alloc);
-    let mut numbers = Numbers { state: 7 };
+    let mut numbers = Pcg32::new(7, 0);
     push_right_lines(alloc, &mut forms, &mut numbers, rounds)?;
     if let Some((deletes, literal)) = last {
         forms.push(alloc, deletes, &[literal])?;

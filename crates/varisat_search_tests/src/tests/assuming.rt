@@ -2,11 +2,10 @@
 ghost use Rattle.std.specs.Prelude.{◌≡◌, OnOk, IfOk};
 ghost use Rattle.varisat_search.specs.Contexts.{IsReady};
 
-use super::searches::{assume, loaded, prefer_lower_true, step};
+use super::searches::{are, assume, loaded, note, prefer_lower_true, step, unless_refused};
 use linked_list_allocator::LocalHeap;
 use std::alloc::{Allocator, Global};
-use std::test::Fail;
-use varisat_literals::{Lit, lit, lits};
+use varisat_literals::{Lit, lit};
 use varisat_prop::clause::StoreError;
 use varisat_search::context::Context;
 use varisat_search::levels::restart;
@@ -16,26 +15,21 @@ use varisat_search::state::SatState;
 /// assumptions.
 fn searched<A: Allocator + Copy>(
     alloc: A,
-    clauses: &[&[Lit]],
-    assumptions: &[Lit],
+    clauses: &[&[i8]],
+    assumptions: &[i8],
     steps: usize,
 ) -> Result<Context<A>, StoreError>
     ensures { IfOk result (λ ctx. IsReady ctx) }
 {
     let mut ctx = loaded(alloc, 5, clauses)?;
-    match take_steps(&mut ctx, assumptions, steps) {
-        Ok(()) => Ok(ctx),
-        Err(error) => {
-            drop(ctx);
-            Err(error)
-        }
-    }
+    let done = take_steps(&mut ctx, assumptions, steps);
+    unless_refused(ctx, done)
 }
 
 /// Makes so many steps under the assumptions.
 fn take_steps<A: Allocator + Copy>(
     ctx: &mut Context<A>,
-    assumptions: &[Lit],
+    assumptions: &[i8],
     steps: usize,
 ) -> Result<(), StoreError>
     requires { IsReady ctx.old }
@@ -52,19 +46,19 @@ fn take_steps<A: Allocator + Copy>(
 /// Clauses over five variables, assumptions, and what one step under them comes to.
 #[derive(Drop)]
 struct Row<'a> {
-    clauses: &'a [&'a [Lit]],
-    assumptions: &'a [Lit],
+    clauses: &'a [&'a [i8]],
+    assumptions: &'a [i8],
     verdict: SatState,
     /// The assumptions that are not taken out.
-    left: &'a [Lit],
-    trail: &'a [Lit],
+    left: &'a [i8],
+    trail: &'a [i8],
 }
 
 /// Whether the step comes to what the row says.
 fn comes_to<A: Allocator + Copy>(ctx: &Context<A>, row: &Row) -> bool {
-    ctx.solver_state.sat_state == row.verdict
-        && ctx.assumptions.assumptions() == row.left
-        && ctx.trail.trail() == row.trail
+    (ctx.solver_state.sat_state == row.verdict)
+        & are(ctx.assumptions.assumptions(), row.left)
+        & are(ctx.trail.trail(), row.trail)
 }
 
 fn holds(alloc: Global, row: &Row) -> Result<bool, StoreError> {
@@ -75,48 +69,49 @@ fn holds(alloc: Global, row: &Row) -> Result<bool, StoreError> {
 }
 
 /// Whether the core has just these two literals.
-fn is_core<A: Allocator + Copy>(ctx: &Context<A>, first: Lit, second: Lit) -> bool {
+fn is_core<A: Allocator + Copy>(ctx: &Context<A>, first: i8, second: i8) -> bool {
     let core = ctx.assumptions.failed_core();
-    ctx.solver_state.sat_state == SatState::UnsatUnderAssumptions
-        && (core == [first, second].as_slice() || core == [second, first].as_slice())
+    let has_both = are(core, &[first, second]) | are(core, &[second, first]);
+    (ctx.solver_state.sat_state == SatState::UnsatUnderAssumptions) & has_both
 }
 
 /// Whether after two steps the core has just these two literals, and the assumptions stand as they were given.
 fn fails_with(
     alloc: Global,
-    clauses: &[&[Lit]],
-    assumptions: &[Lit],
-    core: [Lit; 2],
+    clauses: &[&[i8]],
+    assumptions: &[i8],
+    core: [i8; 2],
 ) -> Result<bool, StoreError> {
     let ctx = searched(alloc, clauses, assumptions, 2)?;
     let [first, second] = core;
-    let fails = is_core(&ctx, first, second) && ctx.assumptions.user_assumptions() == assumptions;
+    let is_given = are(ctx.assumptions.user_assumptions(), assumptions);
+    let fails = is_given & is_core(&ctx, first, second);
     drop(ctx);
     Ok(fails)
 }
 
 #[test]
 fn opposites_fail(rt: HostRuntime) -> Result<(), StoreError> {
-    assert!(rt; fails_with(rt.alloc(), &[&lits![1, 2]], &lits![3, 1, -1], lits![1, -1])?);
+    assert!(rt; fails_with(rt.alloc(), &[&[1, 2]], &[3, 1, -1], [1, -1])?);
     Ok(())
 }
 
 // 1 implies 2 and that -4, so that 3, which is decided between them, takes no part.
 #[test]
 fn the_core_has_what_implies(rt: HostRuntime) -> Result<(), StoreError> {
-    let clauses: &[&[Lit]] = &[&lits![-1, 2], &lits![-2, -4, 5], &lits![-2, -4, -5]];
-    assert!(rt; fails_with(rt.alloc(), clauses, &lits![1, 3, 4], lits![1, 4])?);
+    let clauses: &[&[i8]] = &[&[-1, 2], &[-2, -4, 5], &[-2, -4, -5]];
+    assert!(rt; fails_with(rt.alloc(), clauses, &[1, 3, 4], [1, 4])?);
     Ok(())
 }
 
 #[test]
 fn repeated_ones_are_taken_out(rt: HostRuntime) -> Result<(), StoreError> {
     let row = Row {
-        clauses: &[&lits![1, 2]],
-        assumptions: &lits![-2, -2, -2],
+        clauses: &[&[1, 2]],
+        assumptions: &[-2, -2, -2],
         verdict: SatState::Sat,
-        left: &lits![-2],
-        trail: &lits![-2, 1],
+        left: &[-2],
+        trail: &[-2, 1],
     };
     assert!(rt; holds(rt.alloc(), &row)?);
     Ok(())
@@ -126,11 +121,11 @@ fn repeated_ones_are_taken_out(rt: HostRuntime) -> Result<(), StoreError> {
 #[test]
 fn implied_ones_are_taken_out(rt: HostRuntime) -> Result<(), StoreError> {
     let row = Row {
-        clauses: &[&lits![-1, 2]],
-        assumptions: &lits![1, 2, -3],
+        clauses: &[&[-1, 2]],
+        assumptions: &[1, 2, -3],
         verdict: SatState::Sat,
-        left: &lits![1, -3],
-        trail: &lits![1, 2, -3],
+        left: &[1, -3],
+        trail: &[1, 2, -3],
     };
     assert!(rt; holds(rt.alloc(), &row)?);
     Ok(())
@@ -139,11 +134,11 @@ fn implied_ones_are_taken_out(rt: HostRuntime) -> Result<(), StoreError> {
 #[test]
 fn units_are_assumed(rt: HostRuntime) -> Result<(), StoreError> {
     let row = Row {
-        clauses: &[&lits![1]],
-        assumptions: &lits![1],
+        clauses: &[&[1]],
+        assumptions: &[1],
         verdict: SatState::Sat,
         left: &[],
-        trail: &lits![1],
+        trail: &[1],
     };
     assert!(rt; holds(rt.alloc(), &row)?);
     Ok(())
@@ -152,8 +147,8 @@ fn units_are_assumed(rt: HostRuntime) -> Result<(), StoreError> {
 /// The core after one step, if it has one literal.
 fn lone_core(
     alloc: Global,
-    clauses: &[&[Lit]],
-    assumptions: &[Lit],
+    clauses: &[&[i8]],
+    assumptions: &[i8],
 ) -> Result<Option<Lit>, StoreError> {
     let ctx = searched(alloc, clauses, assumptions, 1)?;
     let core = match ctx.assumptions.failed_core() {
@@ -166,24 +161,25 @@ fn lone_core(
 
 #[test]
 fn a_false_one_fails_alone(rt: HostRuntime) -> Result<(), StoreError> {
-    let core = lone_core(rt.alloc(), &[&lits![1]], &lits![2, -1])?;
+    let core = lone_core(rt.alloc(), &[&[1]], &[2, -1])?;
     assert!(rt; core == Some(lit!(-1)));
     Ok(())
 }
 
 /// Whether the trail is this one, and after a restart has these literals, each at a level of its own.
-fn restarts_to<A: Allocator + Copy>(ctx: &mut Context<A>, trail: &[Lit], kept: &[Lit]) -> bool
+fn restarts_to<A: Allocator + Copy>(ctx: &mut Context<A>, trail: &[i8], kept: &[i8]) -> bool
     requires { IsReady ctx.old }
 {
-    let is_found = ctx.solver_state.sat_state == SatState::Sat && ctx.trail.trail() == trail;
+    let is_found = (ctx.solver_state.sat_state == SatState::Sat) & are(ctx.trail.trail(), trail);
     restart(ctx);
-    is_found && ctx.trail.trail() == kept && ctx.trail.current_level() == kept.len()
+    let is_kept = are(ctx.trail.trail(), kept) & (ctx.trail.current_level() == kept.len());
+    is_found & is_kept
 }
 
 fn keeps_assumptions(alloc: Global) -> Result<bool, StoreError> {
-    let clauses: &[&[Lit]] = &[&lits![1, 2], &lits![3, 4]];
-    let mut ctx = searched(alloc, clauses, &lits![-5, 2], 1)?;
-    let kept = restarts_to(&mut ctx, &lits![-5, 2, 1, 3, 4], &lits![-5, 2]);
+    let clauses: &[&[i8]] = &[&[1, 2], &[3, 4]];
+    let mut ctx = searched(alloc, clauses, &[-5, 2], 1)?;
+    let kept = restarts_to(&mut ctx, &[-5, 2, 1, 3, 4], &[-5, 2]);
     drop(ctx);
     Ok(kept)
 }
@@ -197,27 +193,22 @@ fn a_restart_keeps_assumptions(rt: HostRuntime) -> Result<(), StoreError> {
 /// Whether the search is at a unit alone, goes on to a model with a decision, and a restart undoes that.
 fn undoes_decision<A: Allocator + Copy>(
     ctx: &mut Context<A>,
-    unit: &[Lit],
-    kept: &[Lit],
+    unit: &[i8],
+    kept: &[i8],
 ) -> Result<bool, StoreError>
     requires { IsReady ctx.old }
 {
-    let is_learned = ctx.trail.trail() == unit && ctx.assumptions.assumption_levels() == 0;
+    let is_learned = are(ctx.trail.trail(), unit) & (ctx.assumptions.assumption_levels() == 0);
     step(ctx)?;
-    let is_found = ctx.solver_state.sat_state == SatState::Sat && ctx.trail.current_level() > 0;
+    let is_found = (ctx.solver_state.sat_state == SatState::Sat) & (ctx.trail.current_level() > 0);
     restart(ctx);
-    Ok(is_learned && is_found && ctx.trail.trail() == kept)
+    Ok(is_learned & is_found & are(ctx.trail.trail(), kept))
 }
 
 fn keeps_no_decision(alloc: Global) -> Result<bool, StoreError> {
-    let clauses: &[&[Lit]] = &[
-        &lits![-1, 2, 3],
-        &lits![-1, -2],
-        &lits![-1, -3],
-        &lits![1, 5],
-    ];
-    let mut ctx = searched(alloc, clauses, &lits![5], 1)?;
-    let undone = undoes_decision(&mut ctx, &lits![-1], &lits![-1, 5]);
+    let clauses: &[&[i8]] = &[&[-1, 2, 3], &[-1, -2], &[-1, -3], &[1, 5]];
+    let mut ctx = searched(alloc, clauses, &[5], 1)?;
+    let undone = undoes_decision(&mut ctx, &[-1], &[-1, 5]);
     drop(ctx);
     undone
 }
@@ -231,32 +222,25 @@ fn a_restart_keeps_no_decision(rt: HostRuntime) -> Result<(), StoreError> {
 
 // The verdict on four clauses of two variables and an assumption beside them, after two steps.
 fn fail<A: Allocator + Copy>(alloc: A) -> Result<SatState, StoreError> {
-    let clauses: &[&[Lit]] = &[
-        &lits![1, 2, -3],
-        &lits![-1, 2],
-        &lits![1, -2],
-        &lits![-1, -2, -4],
-    ];
-    let ctx = searched(alloc, clauses, &lits![3, 4], 3)?;
+    let clauses: &[&[i8]] = &[&[1, 2, -3], &[-1, 2], &[1, -2], &[-1, -2, -4]];
+    let ctx = searched(alloc, clauses, &[3, 4], 3)?;
     let verdict = ctx.solver_state.sat_state;
     drop(ctx);
     Ok(verdict)
 }
 
+/// Whether the assumptions fail on a heap of that many bytes.
+fn is_failed_with(alloc: Global, size: usize) -> Result<bool, StoreError> {
+    let heap = LocalHeap::new(alloc, size)?;
+    Ok(fail(&heap)? == SatState::UnsatUnderAssumptions)
+}
+
 #[test]
-fn each_growth_may_be_refused(rt: HostRuntime) -> Result<(), Fail> {
-    let mut failed = false;
-    let mut refused = false;
+fn each_growth_may_be_refused(rt: HostRuntime) {
+    let mut seen = [false; 2];
     for room in 0..200 {
-        let heap = LocalHeap::new(rt.alloc(), 16 * room)?;
-        match fail(&heap) {
-            Ok(verdict) => {
-                assert_eq!(rt; verdict, SatState::UnsatUnderAssumptions, "with {room}");
-                failed = true;
-            }
-            Err(_) => refused = true,
-        }
+        let is_right = note(&mut seen, is_failed_with(rt.alloc(), 16 * room));
+        assert!(rt; is_right, "with {room}");
     }
-    assert!(rt; failed && refused);
-    Ok(())
+    assert!(rt; seen == [true, true]);
 }

@@ -2,9 +2,9 @@
 ghost use Rattle.std.specs.Prelude.{◌≡◌, length, OnOk};
 ghost use Rattle.varisat_search.specs.Contexts.{IsReady};
 
-use super::searches::{loaded_conflict, prefer_lower_true};
+use super::searches::{are, loaded_conflict, prefer_lower_true};
 use std::alloc::{Allocator, Global};
-use varisat_literals::{Var, lits, var};
+use varisat_literals::{Var, var};
 use varisat_prop::clause::StoreError;
 use varisat_search::cdcl::conflict_step;
 use varisat_search::context::{Context, set_var_count};
@@ -45,7 +45,7 @@ fn bumps<A: Allocator + Copy>(ctx: &mut Context<A>) -> Result<bool, StoreError>
     requires { IsReady ctx.old }
 {
     step_and_restart(ctx)?;
-    let is_learned = ctx.analyze_conflict.clause() == lits![-4, -1].as_slice();
+    let is_learned = are(ctx.analyze_conflict.clause(), &[-4, -1]);
     Ok(is_learned & is_third_last(&mut ctx.vsids))
 }
 
@@ -80,7 +80,7 @@ fn decides_second<A: Allocator + Copy>(ctx: &mut Context<A>) -> Result<bool, Sto
     requires { IsReady ctx.old }
 {
     let is_made = make_decision(ctx)?;
-    Ok(is_made & (ctx.trail.trail() == lits![-2].as_slice()))
+    Ok(is_made & are(ctx.trail.trail(), &[-2]))
 }
 
 /// The same of two variables of which the first is not available.

@@ -6,7 +6,6 @@ ghost use Rattle.varisat_search.specs.SettledUnits.{IsSettledDown};
 use super::searches::{loaded, step};
 use std::alloc::{AllocError, Allocator};
 use std::test::Fail;
-use varisat_literals::{Lit, lits};
 use varisat_prop::clause::StoreError;
 use varisat_prop::prop::Assignment;
 use varisat_search::cdcl::settle;
@@ -28,6 +27,18 @@ fn assigned<A: Allocator + Copy>(
     Ok(gone)
 }
 
+/// Forgets the variables, which are those that have a value, where nothing is assumed.
+fn forget<A: Allocator + Copy>(ctx: &mut Context<A>, gone: &[bool])
+    requires ready { IsReady ctx.old }
+    requires settled { IsSettledDown (view ctx.old) }
+    requires assigned { gone.now ≡ map is_some ctx.old.assignment.current }
+    ensures { IsReady ctx.new }
+{
+    if ctx.assumptions.assumptions().is_empty() {
+        drop_variables(ctx, gone);
+    }
+}
+
 /// Forgets the variables that have a value, where nothing is assumed.
 fn forget_assigned<A: Allocator + Copy>(alloc: A, ctx: &mut Context<A>) -> Result<(), AllocError>
     requires ready { IsReady ctx.old }
@@ -35,9 +46,7 @@ fn forget_assigned<A: Allocator + Copy>(alloc: A, ctx: &mut Context<A>) -> Resul
     ensures { OnOk result (IsReady ctx.new) }
 {
     let gone = assigned(alloc, &ctx.assignment)?;
-    if ctx.assumptions.assumptions().is_empty() {
-        drop_variables(ctx, &gone);
-    }
+    forget(ctx, &gone);
     Ok(())
 }
 
@@ -73,13 +82,13 @@ fn forgets<A: Allocator + Copy>(
     requires { IsReady ctx.old }
 {
     let is_settled = forget_units(alloc, ctx)?;
-    let is_empty = ctx.trail.trail().is_empty() && values(ctx) == [None; 5];
+    let is_empty = ctx.trail.trail().is_empty() & (values(ctx) == [None; 5]);
     step(ctx)?;
-    Ok((is_settled && is_empty, values(ctx)))
+    Ok((is_settled & is_empty, values(ctx)))
 }
 
 fn forgets_loaded<A: Allocator + Copy>(alloc: A) -> Result<(bool, [Option<bool>; 5]), StoreError> {
-    let clauses: &[&[Lit]] = &[&lits![1], &lits![2, 3, 4], &lits![-1, 5]];
+    let clauses: &[&[i8]] = &[&[1], &[2, 3, 4], &[-1, 5]];
     let mut ctx = loaded(alloc, 5, clauses)?;
     let found = forgets(alloc, &mut ctx);
     drop(ctx);
@@ -90,7 +99,7 @@ fn forgets_loaded<A: Allocator + Copy>(alloc: A) -> Result<(bool, [Option<bool>;
 #[test]
 fn units_are_forgotten(rt: HostRuntime) -> Result<(), Fail> {
     let (is_forgotten, values) = forgets_loaded(rt.alloc())?;
-    assert!(rt; is_forgotten);
-    assert!(rt; values.map(|value| value.is_some()) == [false, true, true, true, false]);
+    let are_assigned = values.map(|value| value.is_some());
+    assert!(rt; (is_forgotten, are_assigned) == (true, [false, true, true, true, false]));
     Ok(())
 }

@@ -3,22 +3,18 @@ ghost use Rattle.std.specs.Prelude.{◌≤◌, OnOk};
 ghost use Rattle.varisat_search.specs.Contexts.{IsReady};
 ghost use Rattle.varisat_literals.specs.Numbers.{variable_limit};
 
-use super::searches::{load, loaded};
+use super::searches::{implies, load_numbers, loaded};
 use std::alloc::{Allocator, Global};
-use varisat_literals::{Lit, lit, lits};
 use varisat_prop::clause::StoreError;
 use varisat_search::context::Context;
 use varisat_search::state::SatState;
 
 /// Loads the clause, and returns how many literals are true then.
-fn true_after<A: Allocator + Copy>(
-    ctx: &mut Context<A>,
-    clause: &[Lit],
-) -> Result<usize, StoreError>
+fn true_after<A: Allocator + Copy>(ctx: &mut Context<A>, clause: &[i8]) -> Result<usize, StoreError>
     requires { IsReady ctx.old }
     ensures { OnOk result (IsReady ctx.new) }
 {
-    load(ctx, clause)?;
+    load_numbers(ctx, clause)?;
     Ok(ctx.trail.trail().len())
 }
 
@@ -27,10 +23,10 @@ fn true_after_each<A: Allocator + Copy>(ctx: &mut Context<A>) -> Result<[usize; 
     requires { IsReady ctx.old }
     ensures { OnOk result (IsReady ctx.new) }
 {
-    let first = true_after(ctx, &lits![1])?;
-    let tautology = true_after(ctx, &lits![3, -3])?;
-    let second = true_after(ctx, &lits![-2])?;
-    let again = true_after(ctx, &lits![1, 1])?;
+    let first = true_after(ctx, &[1])?;
+    let tautology = true_after(ctx, &[3, -3])?;
+    let second = true_after(ctx, &[-2])?;
+    let again = true_after(ctx, &[1, 1])?;
     Ok([first, tautology, second, again])
 }
 
@@ -42,7 +38,7 @@ fn verdicts<A: Allocator + Copy>(
 {
     let counts = true_after_each(ctx)?;
     let before = ctx.solver_state.sat_state;
-    let count = true_after(ctx, &lits![2])?;
+    let count = true_after(ctx, &[2])?;
     Ok((counts, before, count, ctx.solver_state.sat_state))
 }
 
@@ -61,7 +57,7 @@ fn units(rt: HostRuntime) -> Result<(), StoreError> {
 }
 
 /// How many of the clauses are stored.
-fn count_stored(alloc: Global, count: usize, clauses: &[&[Lit]]) -> Result<usize, StoreError>
+fn count_stored(alloc: Global, count: usize, clauses: &[&[i8]]) -> Result<usize, StoreError>
     requires { count ≤ variable_limit }
 {
     let ctx = loaded(alloc, count, clauses)?;
@@ -70,23 +66,18 @@ fn count_stored(alloc: Global, count: usize, clauses: &[&[Lit]]) -> Result<usize
     Ok(stored)
 }
 
-/// Whether the literal implies just these by clauses of two literals.
-fn implies<A: Allocator + Copy>(ctx: &Context<A>, lit: Lit, wanted: &[Lit]) -> bool {
-    lit.code() < ctx.binary_clauses.len() && ctx.binary_clauses.implied(lit) == wanted
-}
-
 /// Whether two clauses of two literals are listed by these, and stored nowhere else.
 fn are_listed<A: Allocator + Copy>(ctx: &Context<A>) -> bool {
-    ctx.clause_alloc.len() == 0
-        && implies(ctx, lit!(-1), &lits![2])
-        && implies(ctx, lit!(-2), &lits![1])
-        && implies(ctx, lit!(1), &lits![3])
-        && implies(ctx, lit!(-3), &lits![-1])
-        && implies(ctx, lit!(4), &[])
+    (ctx.clause_alloc.len() == 0)
+        & implies(ctx, -1, &[2])
+        & implies(ctx, -2, &[1])
+        & implies(ctx, 1, &[3])
+        & implies(ctx, -3, &[-1])
+        & implies(ctx, 4, &[])
 }
 
 fn are_loaded_ones_listed(alloc: Global) -> Result<bool, StoreError> {
-    let clauses: &[&[Lit]] = &[&lits![1, 2], &lits![-1, 3, 3], &lits![4, -4]];
+    let clauses: &[&[i8]] = &[&[1, 2], &[-1, 3, 3], &[4, -4]];
     let ctx = loaded(alloc, 4, clauses)?;
     let are_listed = are_listed(&ctx);
     drop(ctx);
@@ -101,7 +92,7 @@ fn clauses_of_two_literals(rt: HostRuntime) -> Result<(), StoreError> {
 
 #[test]
 fn clauses_of_three_literals(rt: HostRuntime) -> Result<(), StoreError> {
-    let clauses: &[&[Lit]] = &[&lits![1, 2, 3], &lits![-2, 3, 3, 4], &lits![4, -5, 5, 2]];
+    let clauses: &[&[i8]] = &[&[1, 2, 3], &[-2, 3, 3, 4], &[4, -5, 5, 2]];
     assert!(rt; count_stored(rt.alloc(), 5, clauses)? == 2);
     Ok(())
 }

@@ -1,13 +1,12 @@
 //! Names that come into use, modes that are set, hidden variables that come back, solver variables that are taken away,
 //! and the model of global variables.
-ghost use Rattle.std.specs.Prelude.{◌≡◌, ◌≤◌, false, length, IsTrue};
+ghost use Rattle.std.specs.Prelude.{◌≡◌, ◌≤◌, ◌<◌, false, length, IsTrue};
 ghost use Rattle.varisat_names.specs.VarData.{kept_at};
 ghost use Rattle.varisat_search.specs.Contexts.{IsReady};
 
-use super::searches::loaded;
+use super::searches::{loaded, note};
 use linked_list_allocator::LocalHeap;
 use std::alloc::{AllocError, Allocator, Global};
-use std::test::Fail;
 use varisat_literals::{Lit, Var, lit, var};
 use varisat_names::variables::{LinkedVariables, SamplingMode};
 use varisat_prop::clause::StoreError;
@@ -32,18 +31,27 @@ fn are_few<A: Allocator + Copy>(variables: &LinkedVariables<A>) -> bool
     variables.user_watermark() <= 100 && variables.global_watermark() <= 100
 }
 
-/// The variable of the name 3, and the name that comes into use next.
-fn names<A: Allocator + Copy>(
+/// Takes the name into use, and returns its variable.
+fn use_name<A: Allocator + Copy>(
     variables: &mut LinkedVariables<A>,
-) -> Result<[Option<Var>; 2], AllocError> {
-    let mut names = [None; 2];
-    if are_few(variables) {
-        names[0] = Some(global_from_user(variables, var!(3))?);
+    user: Var,
+) -> Result<Option<Var>, AllocError>
+    requires { user < 100 }
+{
+    if !are_few(variables) {
+        return Ok(None);
     }
-    if are_few(variables) {
-        names[1] = Some(new_user_var(variables)?);
+    Ok(Some(global_from_user(variables, user)?))
+}
+
+/// The name that comes into use next.
+fn next_name<A: Allocator + Copy>(
+    variables: &mut LinkedVariables<A>,
+) -> Result<Option<Var>, AllocError> {
+    if !are_few(variables) {
+        return Ok(None);
     }
-    Ok(names)
+    Ok(Some(new_user_var(variables)?))
 }
 
 /// Sets the mode of the variable, and returns what name it got.
@@ -58,32 +66,36 @@ fn set<A: Allocator + Copy>(
     set_sampling_mode(variables, global, mode)
 }
 
-/// Hides the variables of 1 and 3, where clauses hold that of 1, and returns the name that then comes into use.
-fn hide<A: Allocator + Copy>(
-    variables: &mut LinkedVariables<A>,
-) -> Result<[Option<Var>; 3], AllocError> {
+/// Hides the variables of 1 and 3, where clauses hold that of 1. Whether both lose their names, and 1 is the next then.
+fn is_hidden<A: Allocator + Copy>(variables: &mut LinkedVariables<A>) -> Result<bool, AllocError> {
     if is_live(variables, var!(1)) {
         variables.set_isolated(var!(1), false);
     }
     let first = set(variables, var!(1), SamplingMode::Hide)?;
     let third = set(variables, var!(3), SamplingMode::Hide)?;
-    let mut next = None;
-    if are_few(variables) {
-        next = Some(new_user_var(variables)?);
-    }
-    Ok([first, third, next])
+    let next = next_name(variables)?;
+    Ok([first, third, next] == [None, None, Some(var!(1))])
 }
 
-/// The names under which hidden variables come back.
-fn observe<A: Allocator + Copy>(
+/// Whether a hidden variable comes back, under the third name.
+fn is_observed<A: Allocator + Copy>(
     variables: &mut LinkedVariables<A>,
     alloc: A,
-) -> Result<Option<Vec<Var, A>>, AllocError> {
+) -> Result<bool, AllocError> {
     if !are_few(variables) {
-        return Ok(None);
+        return Ok(false);
     }
     let shown = observe_internal_vars(variables, alloc)?;
-    Ok(Some(shown))
+    Ok(shown.as_slice() == [var!(3)].as_slice())
+}
+
+/// Whether the name 3 leads to the variable 3, and 4 comes into use next.
+fn is_third_named<A: Allocator + Copy>(
+    variables: &mut LinkedVariables<A>,
+) -> Result<bool, AllocError> {
+    let third = use_name(variables, var!(3))?;
+    let next = next_name(variables)?;
+    Ok([third, next] == [Some(var!(3)), Some(var!(4))])
 }
 
 /// Whether the name of a hidden variable is used again, and the variable comes back under the least free one.
@@ -91,17 +103,11 @@ fn is_named_anew<A: Allocator + Copy>(
     alloc: A,
     variables: &mut LinkedVariables<A>,
 ) -> Result<bool, AllocError> {
-    let named = names(variables)?;
-    let hidden = hide(variables)?;
-    let shown = observe(variables, alloc)?;
-    let is_shown = matches!(&shown, Some(names) if names.as_slice() == [var!(3)].as_slice());
+    let is_named = is_third_named(variables)?;
+    let is_hidden = is_hidden(variables)?;
+    let is_shown = is_observed(variables, alloc)?;
     let witness = set(variables, var!(1), SamplingMode::Witness)?;
-    Ok(
-        named == [Some(var!(3)), Some(var!(4))]
-            && hidden == [None, None, Some(var!(1))]
-            && is_shown
-            && witness.is_none(),
-    )
+    Ok(is_named & is_hidden & is_shown & witness.is_none())
 }
 
 fn is_new_one_named_anew<A: Allocator + Copy>(alloc: A) -> Result<bool, AllocError> {
@@ -116,15 +122,22 @@ fn a_hidden_variable_gets_the_least_free_name(rt: HostRuntime) {
     assert!(rt; matches!(is_new_one_named_anew(rt.alloc()), Ok(true)));
 }
 
+/// Takes a solver variable for the variable, if it is live and has none.
+fn take<A: Allocator + Copy>(
+    variables: &mut LinkedVariables<A>,
+    global: Var,
+) -> Result<(), AllocError> {
+    let is_free = variables.solver_from_global().get(global).is_none();
+    if is_free && is_live(variables, global) && variables.solver_watermark() <= 100 {
+        variables.take_solver_var(global)?;
+    }
+    Ok(())
+}
+
 /// Four variables: 1 has a solver variable, 2 a unit, 3 neither, and 4 is not live any more.
 fn make_four<A: Allocator + Copy>(variables: &mut LinkedVariables<A>) -> Result<(), AllocError> {
-    if are_few(variables) {
-        global_from_user(variables, var!(4))?;
-    }
-    let is_free = variables.solver_from_global().get(var!(1)).is_none();
-    if is_live(variables, var!(1)) && is_free && variables.solver_watermark() <= 100 {
-        variables.take_solver_var(var!(1))?;
-    }
+    use_name(variables, var!(4))?;
+    take(variables, var!(1))?;
     if is_live(variables, var!(2)) {
         variables.set_unit(var!(2), true);
     }
@@ -155,6 +168,13 @@ fn true_literals<A: Allocator + Copy>(model: &Model<A>) -> [bool; 8] {
 }
 
 /// Whether the model has the value of the solver variable, the unit, false, and none.
+fn is_right<A: Allocator + Copy>(model: &Model<A>) -> bool {
+    let values = [Some(true), Some(true), Some(false), None];
+    let are_true = [true, false, true, false, false, true, false, false];
+    (model.assignment() == values.as_slice()) & (true_literals(model) == are_true)
+}
+
+/// Whether four variables get the model that they should.
 fn is_modelled<A: Allocator + Copy>(
     alloc: A,
     variables: &mut LinkedVariables<A>,
@@ -164,9 +184,7 @@ fn is_modelled<A: Allocator + Copy>(
         return Ok(false);
     }
     let model = reconstruct_global_model(alloc, variables, &[Some(true)])?;
-    let values = [Some(true), Some(true), Some(false), None];
-    let are_true = [true, false, true, false, false, true, false, false];
-    Ok(model.assignment() == values.as_slice() && true_literals(&model) == are_true)
+    Ok(is_right(&model))
 }
 
 fn is_new_one_modelled<A: Allocator + Copy>(alloc: A) -> Result<bool, AllocError> {
@@ -181,6 +199,21 @@ fn a_model_has_each_live_variable(rt: HostRuntime) {
     assert!(rt; matches!(is_new_one_modelled(rt.alloc()), Ok(true)));
 }
 
+/// Takes the first solver variable away, if there is one. Says whether it was that of 1.
+fn remove<A: Allocator + Copy>(
+    ctx: &mut Context<A>,
+    variables: &mut LinkedVariables<A>,
+) -> Result<bool, AllocError>
+    requires { IsReady ctx.old }
+{
+    let is_taken = variables.global_from_solver().get(var!(1)).is_some();
+    if !is_taken || ctx.assignment.assignment().is_empty() {
+        return Ok(false);
+    }
+    let global = remove_solver_var(ctx, variables, var!(1))?;
+    Ok(global == var!(1))
+}
+
 /// Whether the solver variable of 1 is taken from it, and stands for none then.
 fn is_removed<A: Allocator + Copy>(
     ctx: &mut Context<A>,
@@ -189,14 +222,10 @@ fn is_removed<A: Allocator + Copy>(
     requires { IsReady ctx.old }
 {
     make_four(variables)?;
-    let is_taken = variables.global_from_solver().get(var!(1)).is_some();
-    if !is_taken || ctx.assignment.assignment().is_empty() {
-        return Ok(false);
-    }
-    let global = remove_solver_var(ctx, variables, var!(1))?;
+    let removed = remove(ctx, variables)?;
     let is_free = variables.solver_from_global().get(var!(1)).is_none();
     let is_given_back = variables.global_from_solver().get(var!(1)).is_none();
-    Ok(global == var!(1) && is_free && is_given_back)
+    Ok(removed & is_free & is_given_back)
 }
 
 fn is_removed_with<A: Allocator + Copy>(alloc: A, ctx: &mut Context<A>) -> Result<bool, AllocError>
@@ -220,27 +249,25 @@ fn a_solver_variable_is_removed(rt: HostRuntime) {
     assert!(rt; matches!(is_removed_in(rt.alloc()), Ok(true)));
 }
 
+/// Whether all three are right.
+fn are_right<A: Allocator + Copy>(alloc: A) -> Result<bool, StoreError> {
+    let is_named = is_new_one_named_anew(alloc)?;
+    let is_modelled = is_new_one_modelled(alloc)?;
+    Ok(is_named & is_modelled & is_removed_in(alloc)?)
+}
+
 /// Whether all three are right on a heap of that many bytes.
 fn are_right_with(alloc: Global, size: usize) -> Result<bool, StoreError> {
     let heap = LocalHeap::new(alloc, size)?;
-    let is_named = is_new_one_named_anew(&heap)?;
-    let is_modelled = is_new_one_modelled(&heap)?;
-    Ok(is_named && is_modelled && is_removed_in(&heap)?)
+    are_right(&heap)
 }
 
 #[test]
-fn each_growth_of_names_may_be_refused(rt: HostRuntime) -> Result<(), Fail> {
-    let mut refused = false;
-    let mut right = false;
+fn each_growth_of_names_may_be_refused(rt: HostRuntime) {
+    let mut seen = [false; 2];
     for room in 0..160 {
-        match are_right_with(rt.alloc(), 16 * room) {
-            Ok(all) => {
-                assert!(rt; all, "with {room}");
-                right = true;
-            }
-            Err(_) => refused = true,
-        }
+        let is_right = note(&mut seen, are_right_with(rt.alloc(), 16 * room));
+        assert!(rt; is_right, "with {room}");
     }
-    assert!(rt; right && refused);
-    Ok(())
+    assert!(rt; seen == [true, true]);
 }

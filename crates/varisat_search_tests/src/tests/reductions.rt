@@ -2,9 +2,9 @@
 ghost use Rattle.std.specs.Prelude.{◌<◌, OnOk};
 ghost use Rattle.varisat_search.specs.Contexts.{IsReady};
 
-use super::searches::{load, loaded};
+use super::searches::{load, loaded, note};
 use linked_list_allocator::LocalHeap;
-use std::alloc::Allocator;
+use std::alloc::{Allocator, Global};
 use std::test::Fail;
 use varisat_literals::Lit;
 use varisat_names::config::SolverConfigUpdate;
@@ -102,20 +102,18 @@ fn refuted_with_reductions(rt: HostRuntime) -> Result<(), Fail> {
     Ok(())
 }
 
+/// Whether they are refuted on a heap of that many bytes.
+fn is_refuted_with(alloc: Global, size: usize) -> Result<bool, StoreError> {
+    let heap = LocalHeap::new(alloc, size)?;
+    Ok(refute_pigeons(&heap)? == SatState::Unsat)
+}
+
 #[test]
-fn each_growth_of_a_reduction_may_be_refused(rt: HostRuntime) -> Result<(), Fail> {
-    let mut refuted = false;
-    let mut refused = false;
+fn each_growth_of_a_reduction_may_be_refused(rt: HostRuntime) {
+    let mut seen = [false; 2];
     for room in 0..160 {
-        let heap = LocalHeap::new(rt.alloc(), 128 * room)?;
-        match refute_pigeons(&heap) {
-            Ok(verdict) => {
-                assert_eq!(rt; verdict, SatState::Unsat, "with {room}");
-                refuted = true;
-            }
-            Err(_) => refused = true,
-        }
+        let is_right = note(&mut seen, is_refuted_with(rt.alloc(), 128 * room));
+        assert!(rt; is_right, "with {room}");
     }
-    assert!(rt; refuted && refused);
-    Ok(())
+    assert!(rt; seen == [true, true]);
 }

@@ -6,7 +6,7 @@ ghost use Rattle.varisat_search.specs.Decisions.{AreDecidable};
 ghost use Rattle.varisat_literals.specs.Numbers.{variable_limit};
 
 use std::alloc::{AllocError, Allocator};
-use varisat_literals::{Lit, Var, lits};
+use varisat_literals::{Lit, Var};
 use varisat_prop::clause::StoreError;
 use varisat_prop::prop::Assignment;
 use varisat_search::assumptions::set_assumptions;
@@ -16,6 +16,33 @@ use varisat_search::decision::make_available;
 use varisat_search::load::load_clause;
 use varisat_search::state::SatState;
 use varisat_vsids::Vsids;
+
+/// The literal with the DIMACS number, which is not 0.
+pub fn literal(number: i8) -> Lit {
+    let variable = usize::from(number.unsigned_abs());
+    Lit::from_index(variable.saturating_sub(1), number > 0)
+}
+
+/// The literals with these numbers, of which there are at most nine.
+fn literals(numbers: &[i8]) -> [Lit; 9] {
+    let mut literals = [literal(1); 9];
+    for index in 0..9 {
+        if index < numbers.len() {
+            literals[index] = literal(numbers[index]);
+        }
+    }
+    literals
+}
+
+/// Whether the literals have these numbers, in this order.
+pub fn are(lits: &[Lit], numbers: &[i8]) -> bool {
+    for (lit, number) in lits.iter().zip(numbers) {
+        if lit.to_dimacs() != isize::from(*number) {
+            return false;
+        }
+    }
+    lits.len() == numbers.len()
+}
 
 /// Makes the literals' variables available, where they are those of the search, and says whether they are.
 fn make_all_available<A: Allocator + Copy>(ctx: &mut Context<A>, lits: &[Lit]) -> bool
@@ -44,11 +71,25 @@ pub fn load<A: Allocator + Copy>(ctx: &mut Context<A>, lits: &[Lit]) -> Result<(
     Ok(())
 }
 
-/// Makes the literals' variables available and assumes the literals, where their variables are those of the search.
-pub fn assume<A: Allocator + Copy>(ctx: &mut Context<A>, lits: &[Lit]) -> Result<(), AllocError>
+/// Loads the clause of the literals with these numbers, of which there are at most nine.
+pub fn load_numbers<A: Allocator + Copy>(
+    ctx: &mut Context<A>,
+    numbers: &[i8],
+) -> Result<(), StoreError>
     requires { IsReady ctx.old }
     ensures { OnOk result (IsReady ctx.new) }
 {
+    load(ctx, &literals(numbers)[..numbers.len().min(9)])
+}
+
+/// Makes the variables of the literals with these numbers available and assumes the literals, where their variables are
+/// those of the search. There are at most nine.
+pub fn assume<A: Allocator + Copy>(ctx: &mut Context<A>, numbers: &[i8]) -> Result<(), AllocError>
+    requires { IsReady ctx.old }
+    ensures { OnOk result (IsReady ctx.new) }
+{
+    let literals = literals(numbers);
+    let lits = &literals[..numbers.len().min(9)];
     if make_all_available(ctx, lits) {
         set_assumptions(ctx, lits, lits)?;
     }
@@ -59,13 +100,25 @@ pub fn assume<A: Allocator + Copy>(ctx: &mut Context<A>, lits: &[Lit]) -> Result
 pub fn loaded<A: Allocator + Copy>(
     alloc: A,
     count: usize,
-    clauses: &[&[Lit]],
+    clauses: &[&[i8]],
 ) -> Result<Context<A>, StoreError>
     requires { count ≤ variable_limit }
     ensures { IfOk result (λ ctx. IsReady ctx) }
 {
     let mut ctx = Context::new_in(alloc);
-    match load_all(&mut ctx, count, clauses) {
+    let done = load_all(&mut ctx, count, clauses);
+    unless_refused(ctx, done)
+}
+
+/// The search, unless what was done with it was refused.
+pub fn unless_refused<A: Allocator + Copy>(
+    ctx: Context<A>,
+    done: Result<(), StoreError>,
+) -> Result<Context<A>, StoreError>
+    requires { OnOk done (IsReady ctx) }
+    ensures { IfOk result (λ ctx. IsReady ctx) }
+{
+    match done {
         Ok(()) => Ok(ctx),
         Err(error) => {
             drop(ctx);
@@ -78,7 +131,7 @@ pub fn loaded<A: Allocator + Copy>(
 fn load_all<A: Allocator + Copy>(
     ctx: &mut Context<A>,
     count: usize,
-    clauses: &[&[Lit]],
+    clauses: &[&[i8]],
 ) -> Result<(), StoreError>
     requires ready { IsReady ctx.old }
     requires empty { length ctx.old.assignment.current ≡ 0 }
@@ -87,7 +140,7 @@ fn load_all<A: Allocator + Copy>(
 {
     set_var_count(ctx, count)?;
     for clause in clauses {
-        load(ctx, clause)?;
+        load_numbers(ctx, clause)?;
     }
     Ok(())
 }
@@ -96,13 +149,14 @@ fn load_all<A: Allocator + Copy>(
 pub fn loaded_conflict<A: Allocator + Copy>(alloc: A) -> Result<Context<A>, StoreError>
     ensures { IfOk result (λ ctx. IsReady ctx) }
 {
-    let clauses: &[&[Lit]] = &[
-        &lits![-1, 2],
-        &lits![-3, 4],
-        &lits![-2, -4, 5],
-        &lits![-1, -4, -5],
-    ];
+    let clauses: &[&[i8]] = &[&[-1, 2], &[-3, 4], &[-2, -4, 5], &[-1, -4, -5]];
     loaded(alloc, 5, clauses)
+}
+
+/// Whether the literal with the number implies just these by clauses of two literals.
+pub fn implies<A: Allocator + Copy>(ctx: &Context<A>, number: i8, wanted: &[i8]) -> bool {
+    let lit = literal(number);
+    lit.code() < ctx.binary_clauses.len() && are(ctx.binary_clauses.implied(lit), wanted)
 }
 
 /// Makes a step, unless there is a verdict.
@@ -154,4 +208,19 @@ pub fn prefer_lower_true<A: Allocator + Copy>(ctx: &mut Context<A>)
 {
     prefer_lower(&mut ctx.vsids);
     prefer_true(&mut ctx.assignment);
+}
+
+/// Notes in the first flag that a room sufficed, and in the second that memory was refused. Says whether what came of
+/// the room is right, where it sufficed.
+pub fn note(seen: &mut [bool; 2], outcome: Result<bool, StoreError>) -> bool {
+    match outcome {
+        Ok(right) => {
+            seen[0] = true;
+            right
+        }
+        Err(_) => {
+            seen[1] = true;
+            true
+        }
+    }
 }

@@ -3,10 +3,10 @@ ghost use Rattle.std.specs.Prelude.{◌≤◌};
 ghost use Rattle.varisat_search.specs.Contexts.{IsReady};
 ghost use Rattle.varisat_literals.specs.Numbers.{variable_limit};
 
-use super::searches::{loaded, loaded_conflict, prefer_lower_true, step};
+use super::searches::{are, loaded, loaded_conflict, note, prefer_lower_true, step};
 use linked_list_allocator::LocalHeap;
 use std::alloc::{Allocator, Global};
-use varisat_literals::{Lit, lit, lits};
+use varisat_literals::lit;
 use varisat_prop::clause::{ClauseRef, StoreError};
 use varisat_prop::prop::Conflict;
 use varisat_search::cdcl::conflict_step;
@@ -17,7 +17,7 @@ use varisat_search::state::SatState;
 /// the level.
 fn teaches<A: Allocator + Copy>(
     ctx: &mut Context<A>,
-    clause: &[Lit],
+    clause: &[i8],
     level: usize,
 ) -> Result<bool, StoreError>
     requires { IsReady ctx.old }
@@ -27,15 +27,15 @@ fn teaches<A: Allocator + Copy>(
         return Ok(false);
     };
     conflict_step(ctx)?;
-    Ok(ctx.analyze_conflict.clause() == clause && ctx.trail.current_level() == level)
+    Ok(are(ctx.analyze_conflict.clause(), clause) & (ctx.trail.current_level() == level))
 }
 
 /// Whether the first step learns the clause and backtracks to the level.
 fn learns<A: Allocator + Copy>(
     alloc: A,
     count: usize,
-    clauses: &[&[Lit]],
-    learned: &[Lit],
+    clauses: &[&[i8]],
+    learned: &[i8],
     level: usize,
 ) -> Result<bool, StoreError>
     requires { count ≤ variable_limit }
@@ -56,7 +56,7 @@ fn verdicts<A: Allocator + Copy>(ctx: &mut Context<A>) -> Result<[SatState; 2], 
 }
 
 fn verdicts_on_units(alloc: Global) -> Result<[SatState; 2], StoreError> {
-    let clauses: &[&[Lit]] = &[&lits![1, 2, 3], &lits![-1], &lits![1, -2], &lits![2, -3]];
+    let clauses: &[&[i8]] = &[&[1, 2, 3], &[-1], &[1, -2], &[2, -3]];
     let mut ctx = loaded(alloc, 3, clauses)?;
     let verdicts = verdicts(&mut ctx);
     drop(ctx);
@@ -80,29 +80,27 @@ fn verdict_after_two<A: Allocator + Copy>(ctx: &mut Context<A>) -> Result<SatSta
 
 // The verdict on the four clauses of two variables, after at most two steps.
 fn refute<A: Allocator + Copy>(alloc: A) -> Result<SatState, StoreError> {
-    let clauses: &[&[Lit]] = &[&lits![1, 2], &lits![-1, 2], &lits![1, -2], &lits![-1, -2]];
+    let clauses: &[&[i8]] = &[&[1, 2], &[-1, 2], &[1, -2], &[-1, -2]];
     let mut ctx = loaded(alloc, 2, clauses)?;
     let verdict = verdict_after_two(&mut ctx);
     drop(ctx);
     verdict
 }
 
+/// Whether they are refuted on a heap of that many bytes.
+fn is_refuted_with(alloc: Global, size: usize) -> Result<bool, StoreError> {
+    let heap = LocalHeap::new(alloc, size)?;
+    Ok(refute(&heap)? == SatState::Unsat)
+}
+
 #[test]
-fn each_growth_may_be_refused(rt: HostRuntime) -> Result<(), StoreError> {
-    let mut refuted = false;
-    let mut refused = false;
+fn each_growth_may_be_refused(rt: HostRuntime) {
+    let mut seen = [false; 2];
     for room in 0..120 {
-        let heap = LocalHeap::new(rt.alloc(), 16 * room)?;
-        match refute(&heap) {
-            Ok(verdict) => {
-                assert_eq!(rt; verdict, SatState::Unsat, "with {room}");
-                refuted = true;
-            }
-            Err(_) => refused = true,
-        }
+        let is_right = note(&mut seen, is_refuted_with(rt.alloc(), 16 * room));
+        assert!(rt; is_right, "with {room}");
     }
-    assert!(rt; refuted && refused);
-    Ok(())
+    assert!(rt; seen == [true, true]);
 }
 
 /// Whether two steps find a model, and the first variable is true in it.
@@ -110,11 +108,12 @@ fn finds_first<A: Allocator + Copy>(ctx: &mut Context<A>) -> Result<bool, StoreE
     requires { IsReady ctx.old }
 {
     let verdict = verdict_after_two(ctx)?;
-    Ok(verdict == SatState::Sat && ctx.assignment.assignment().first() == Some(&Some(true)))
+    let is_true = ctx.assignment.assignment().first() == Some(&Some(true));
+    Ok((verdict == SatState::Sat) & is_true)
 }
 
 fn finds_model(alloc: Global) -> Result<bool, StoreError> {
-    let mut ctx = loaded(alloc, 2, &[&lits![1, 2], &lits![1, -2]])?;
+    let mut ctx = loaded(alloc, 2, &[&[1, 2], &[1, -2]])?;
     let is_found = finds_first(&mut ctx);
     drop(ctx);
     is_found
@@ -129,15 +128,16 @@ fn model(rt: HostRuntime) -> Result<(), StoreError> {
 /// Whether the next step learns the clause from these, backtracks to the level, and leaves the trail.
 fn teaches_from<A: Allocator + Copy>(
     ctx: &mut Context<A>,
-    clause: &[Lit],
+    clause: &[i8],
     level: usize,
     involved: &[Conflict],
-    trail: &[Lit],
+    trail: &[i8],
 ) -> Result<bool, StoreError>
     requires { IsReady ctx.old }
 {
     let is_learned = teaches(ctx, clause, level)?;
-    Ok(is_learned && ctx.analyze_conflict.involved() == involved && ctx.trail.trail() == trail)
+    let is_involved = ctx.analyze_conflict.involved() == involved;
+    Ok(is_learned & is_involved & are(ctx.trail.trail(), trail))
 }
 
 // 1 is decided and implies 2, 3 is decided and implies 4 and 5, and -1 -4 -5 is false.
@@ -148,7 +148,7 @@ fn learns_from_long(alloc: Global) -> Result<bool, StoreError> {
         Conflict::Long(ClauseRef::from_offset(6)),
         Conflict::Long(ClauseRef::from_offset(0)),
     ];
-    let is_right = teaches_from(&mut ctx, &lits![-4, -1], 1, &involved, &lits![1, 2, -4]);
+    let is_right = teaches_from(&mut ctx, &[-4, -1], 1, &involved, &[1, 2, -4]);
     drop(ctx);
     is_right
 }
@@ -161,12 +161,12 @@ fn learned(rt: HostRuntime) -> Result<(), StoreError> {
 
 // 1 is decided and implies 2 and -2: the conflict is over a clause of two literals, and so is the reason of 2.
 fn learns_from_pairs(alloc: Global) -> Result<bool, StoreError> {
-    let mut ctx = loaded(alloc, 2, &[&lits![-1, 2], &lits![-1, -2]])?;
+    let mut ctx = loaded(alloc, 2, &[&[-1, 2], &[-1, -2]])?;
     let involved = [
         Conflict::Binary([lit!(-2), lit!(-1)]),
         Conflict::Binary([lit!(2), lit!(-1)]),
     ];
-    let is_right = teaches_from(&mut ctx, &lits![-1], 0, &involved, &lits![-1]);
+    let is_right = teaches_from(&mut ctx, &[-1], 0, &involved, &[-1]);
     drop(ctx);
     is_right
 }
@@ -180,57 +180,51 @@ fn learned_from_two_literals(rt: HostRuntime) -> Result<(), StoreError> {
 // 3 is implied by 2 and that by 1, so that -3 is left out over two reasons.
 #[test]
 fn chain_is_left_out(rt: HostRuntime) -> Result<(), StoreError> {
-    let clauses: &[&[Lit]] = &[
-        &lits![-1, 2],
-        &lits![-2, 3],
-        &lits![-4, 5],
-        &lits![-3, -5, 6],
-        &lits![-1, -5, -6],
-    ];
-    assert!(rt; learns(rt.alloc(), 6, clauses, &lits![-5, -1], 1)?);
+    let clauses: &[&[i8]] = &[&[-1, 2], &[-2, 3], &[-4, 5], &[-3, -5, 6], &[-1, -5, -6]];
+    assert!(rt; learns(rt.alloc(), 6, clauses, &[-5, -1], 1)?);
     Ok(())
 }
 
 // As before, but 2 implies 3 together with 7, which is true at level 0.
 #[test]
 fn chain_with_level_zero_is_left_out(rt: HostRuntime) -> Result<(), StoreError> {
-    let clauses: &[&[Lit]] = &[
-        &lits![-1, 2],
-        &lits![-2, -7, 3],
-        &lits![-4, 5],
-        &lits![-3, -5, 6],
-        &lits![-1, -5, -6],
-        &lits![7],
+    let clauses: &[&[i8]] = &[
+        &[-1, 2],
+        &[-2, -7, 3],
+        &[-4, 5],
+        &[-3, -5, 6],
+        &[-1, -5, -6],
+        &[7],
     ];
-    assert!(rt; learns(rt.alloc(), 7, clauses, &lits![-5, -1], 1)?);
+    assert!(rt; learns(rt.alloc(), 7, clauses, &[-5, -1], 1)?);
     Ok(())
 }
 
 // 2 is of level 1 and 4 of level 2, and each has a decision behind it that is not in the clause.
 #[test]
 fn highest_level_stands_second(rt: HostRuntime) -> Result<(), StoreError> {
-    let clauses: &[&[Lit]] = &[
-        &lits![-1, 2],
-        &lits![-2, -3, 4],
-        &lits![-5, 6],
-        &lits![-4, -6, 7],
-        &lits![-2, -6, -7],
+    let clauses: &[&[i8]] = &[
+        &[-1, 2],
+        &[-2, -3, 4],
+        &[-5, 6],
+        &[-4, -6, 7],
+        &[-2, -6, -7],
     ];
-    assert!(rt; learns(rt.alloc(), 7, clauses, &lits![-6, -4, -2], 2)?);
+    assert!(rt; learns(rt.alloc(), 7, clauses, &[-6, -4, -2], 2)?);
     Ok(())
 }
 
 // 9 is true at level 0, and is left out.
 #[test]
 fn level_zero_is_left_out(rt: HostRuntime) -> Result<(), StoreError> {
-    let clauses: &[&[Lit]] = &[&lits![-1, -9, 2], &lits![-1, -2, -9], &lits![9]];
-    assert!(rt; learns(rt.alloc(), 9, clauses, &lits![-1], 0)?);
+    let clauses: &[&[i8]] = &[&[-1, -9, 2], &[-1, -2, -9], &[9]];
+    assert!(rt; learns(rt.alloc(), 9, clauses, &[-1], 0)?);
     Ok(())
 }
 
 fn learns_nothing(alloc: Global) -> Result<bool, StoreError> {
-    let mut ctx = loaded(alloc, 2, &[&lits![-1, 2], &lits![-1, -2], &lits![1]])?;
-    let is_right = teaches_from(&mut ctx, &[], 0, &[], &lits![1, 2]);
+    let mut ctx = loaded(alloc, 2, &[&[-1, 2], &[-1, -2], &[1]])?;
+    let is_right = teaches_from(&mut ctx, &[], 0, &[], &[1, 2]);
     drop(ctx);
     is_right
 }

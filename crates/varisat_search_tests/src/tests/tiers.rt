@@ -1,12 +1,11 @@
 //! Glue, tiers and activities of clauses, as conflicts leave them.
-ghost use Rattle.std.specs.Prelude.{◌<◌, ◌≤◌, OnOk, IfOk};
+ghost use Rattle.std.specs.Prelude.{◌≤◌, OnOk, IfOk};
 ghost use Rattle.varisat_search.specs.Contexts.{IsReady};
 ghost use Rattle.varisat_literals.specs.Numbers.{variable_limit};
 
-use super::searches::{loaded, prefer_lower_true, step};
+use super::searches::{loaded, note, prefer_lower_true, step, unless_refused};
 use linked_list_allocator::LocalHeap;
-use std::alloc::{AllocError, Allocator, Global};
-use varisat_literals::{Lit, lits};
+use std::alloc::{Allocator, Global};
 use varisat_prop::clause::{ClauseHeader, StoreError, Tier};
 use varisat_search::context::Context;
 
@@ -52,7 +51,7 @@ fn notes_after_step<A: Allocator + Copy>(
 fn learned_notes<A: Allocator + Copy>(
     alloc: A,
     count: usize,
-    clauses: &[&[Lit]],
+    clauses: &[&[i8]],
 ) -> Result<Option<(Tier, usize, bool)>, StoreError>
     requires { count ≤ variable_limit }
 {
@@ -65,51 +64,52 @@ fn learned_notes<A: Allocator + Copy>(
 // 1 implies 2 and 3, so that the clause of 2, 3 and 4 has two levels.
 #[test]
 fn two_levels(rt: HostRuntime) -> Result<(), StoreError> {
-    let clauses: &[&[Lit]] = &[
-        &lits![-1, 2],
-        &lits![-1, 3],
-        &lits![-2, -3, -4, 5],
-        &lits![-2, -3, -4, -5],
-    ];
+    let clauses: &[&[i8]] = &[&[-1, 2], &[-1, 3], &[-2, -3, -4, 5], &[-2, -3, -4, -5]];
     let notes = learned_notes(rt.alloc(), 5, clauses)?;
     assert!(rt; notes == Some((Tier::Core, 1, false)));
     Ok(())
 }
 
-/// The clause that one of the first variables is false or the literal true.
-fn implies_last<A: Allocator + Copy>(
-    alloc: A,
-    count: usize,
-    last: Lit,
-) -> Result<Vec<Lit, A>, AllocError>
-    requires { count < variable_limit }
-{
-    let mut lits = Vec::new(alloc);
-    for index in 0..count {
-        lits.push(Lit::from_index(index, false))?;
-    }
-    lits.push(last)?;
-    Ok(lits)
-}
+/// How many variables two clauses have, the clauses, and what is noted of the clause learned from all variables but the
+/// last, which imply that and its opposite. Each is decided at a level of its own.
+type Row = (u8, [&'static [i8]; 2], Option<(Tier, usize, bool)>);
 
-/// What is noted of the clause learned from so many variables, which imply the next one and its opposite. Each is
-/// decided at a level of its own.
-fn notes_of_levels(alloc: Global, count: usize) -> Result<Option<(Tier, usize, bool)>, StoreError>
-    requires { count < variable_limit }
-{
-    let last = Lit::from_index(count, true);
-    let first = implies_last(alloc, count, last)?;
-    let second = implies_last(alloc, count, !last)?;
-    let notes = learned_notes(alloc, count + 1, &[&first, &second])?;
-    Ok(notes)
-}
+const LEVELS: &[Row] = &[
+    (
+        4,
+        [&[-1, -2, -3, 4], &[-1, -2, -3, -4]],
+        Some((Tier::Core, 2, false)),
+    ),
+    (
+        5,
+        [&[-1, -2, -3, -4, 5], &[-1, -2, -3, -4, -5]],
+        Some((Tier::Mid, 3, false)),
+    ),
+    (
+        8,
+        [
+            &[-1, -2, -3, -4, -5, -6, -7, 8],
+            &[-1, -2, -3, -4, -5, -6, -7, -8],
+        ],
+        Some((Tier::Mid, 6, false)),
+    ),
+    (
+        9,
+        [
+            &[-1, -2, -3, -4, -5, -6, -7, -8, 9],
+            &[-1, -2, -3, -4, -5, -6, -7, -8, -9],
+        ],
+        Some((Tier::Local, 7, false)),
+    ),
+];
 
 #[test]
 fn more_levels(rt: HostRuntime) -> Result<(), StoreError> {
-    assert!(rt; notes_of_levels(rt.alloc(), 3)? == Some((Tier::Core, 2, false)));
-    assert!(rt; notes_of_levels(rt.alloc(), 4)? == Some((Tier::Mid, 3, false)));
-    assert!(rt; notes_of_levels(rt.alloc(), 7)? == Some((Tier::Mid, 6, false)));
-    assert!(rt; notes_of_levels(rt.alloc(), 8)? == Some((Tier::Local, 7, false)));
+    for row in LEVELS {
+        let (count, clauses, wanted) = *row;
+        let notes = learned_notes(rt.alloc(), usize::from(count), &clauses)?;
+        assert!(rt; notes == wanted, "with {count}");
+    }
     Ok(())
 }
 
@@ -127,20 +127,15 @@ fn step_twice<A: Allocator + Copy>(ctx: &mut Context<A>) -> Result<(), StoreErro
 fn two_conflicts<A: Allocator + Copy>(alloc: A) -> Result<Context<A>, StoreError>
     ensures { IfOk result (λ ctx. IsReady ctx) }
 {
-    let clauses: &[&[Lit]] = &[
-        &lits![-1, -2, -3, -4, 5],
-        &lits![-1, -2, -3, -4, -5],
-        &lits![4, -3, 6],
-        &lits![4, -3, -6],
+    let clauses: &[&[i8]] = &[
+        &[-1, -2, -3, -4, 5],
+        &[-1, -2, -3, -4, -5],
+        &[4, -3, 6],
+        &[4, -3, -6],
     ];
     let mut ctx = loaded(alloc, 6, clauses)?;
-    match step_twice(&mut ctx) {
-        Ok(()) => Ok(ctx),
-        Err(error) => {
-            drop(ctx);
-            Err(error)
-        }
-    }
+    let done = step_twice(&mut ctx);
+    unless_refused(ctx, done)
 }
 
 /// Whether the user's four clauses are active, and the two learned ones are of the tier Core, of which the first took
@@ -153,20 +148,23 @@ fn are_noted<A: Allocator + Copy>(ctx: &Context<A>) -> bool
             return false;
         }
     }
-    notes_of(ctx, 4) == Some((Tier::Core, 2, true))
-        && notes_of(ctx, 5) == Some((Tier::Core, 2, false))
+    (notes_of(ctx, 4) == Some((Tier::Core, 2, true)))
+        & (notes_of(ctx, 5) == Some((Tier::Core, 2, false)))
 }
 
 /// Whether so many clauses are of the tiers Irred, Core and Mid.
 fn are_counted<A: Allocator + Copy>(ctx: &Context<A>) -> bool {
-    ctx.clause_db.count_by_tier(Tier::Irred) == 4
-        && ctx.clause_db.count_by_tier(Tier::Core) == 2
-        && ctx.clause_db.count_by_tier(Tier::Mid) == 0
+    let counts = [
+        ctx.clause_db.count_by_tier(Tier::Irred),
+        ctx.clause_db.count_by_tier(Tier::Core),
+        ctx.clause_db.count_by_tier(Tier::Mid),
+    ];
+    counts == [4, 2, 0]
 }
 
 fn lowers_glue<A: Allocator + Copy>(alloc: A) -> Result<bool, StoreError> {
     let ctx = two_conflicts(alloc)?;
-    let is_lowered = are_noted(&ctx) && are_counted(&ctx);
+    let is_lowered = are_noted(&ctx) & are_counted(&ctx);
     drop(ctx);
     Ok(is_lowered)
 }
@@ -194,7 +192,7 @@ fn have_activities<A: Allocator + Copy>(ctx: &Context<A>, wanted: &[u32]) -> boo
 fn raises_activities(alloc: Global) -> Result<bool, StoreError> {
     let ctx = two_conflicts(alloc)?;
     let is_raised = have_activities(&ctx, &[1024, 1024, 1025, 1025, 1025, 0])
-        && ctx.clause_activity.increment() == 1026;
+        & (ctx.clause_activity.increment() == 1026);
     drop(ctx);
     Ok(is_raised)
 }
@@ -206,20 +204,18 @@ fn activities(rt: HostRuntime) -> Result<(), StoreError> {
     Ok(())
 }
 
+/// Whether the glue is lower on a heap of that many bytes.
+fn lowers_glue_with(alloc: Global, size: usize) -> Result<bool, StoreError> {
+    let heap = LocalHeap::new(alloc, size)?;
+    lowers_glue(&heap)
+}
+
 #[test]
-fn each_growth_may_be_refused(rt: HostRuntime) -> Result<(), StoreError> {
-    let mut lowered = false;
-    let mut refused = false;
+fn each_growth_may_be_refused(rt: HostRuntime) {
+    let mut seen = [false; 2];
     for room in 0..200 {
-        let heap = LocalHeap::new(rt.alloc(), 16 * room)?;
-        match lowers_glue(&heap) {
-            Ok(right) => {
-                assert!(rt; right, "with {room}");
-                lowered = true;
-            }
-            Err(_) => refused = true,
-        }
+        let is_right = note(&mut seen, lowers_glue_with(rt.alloc(), 16 * room));
+        assert!(rt; is_right, "with {room}");
     }
-    assert!(rt; lowered && refused);
-    Ok(())
+    assert!(rt; seen == [true, true]);
 }

@@ -2,10 +2,10 @@
 ghost use Rattle.std.specs.Prelude.{OnOk};
 ghost use Rattle.varisat_search.specs.Contexts.{IsReady};
 
-use super::searches::loaded;
+use super::searches::{are, literal, loaded, note};
 use linked_list_allocator::LocalHeap;
 use std::alloc::{Allocator, Global};
-use varisat_literals::{Lit, lit, lits};
+use varisat_literals::{Lit, lit};
 use varisat_prop::clause::{ClauseRef, StoreError};
 use varisat_prop::prop::{Conflict, Reason, Watchlists, enable_watchlists, propagate};
 use varisat_search::context::Context;
@@ -14,11 +14,11 @@ use varisat_search::context::Context;
 /// and at which places the clauses stand that literals watch.
 #[derive(Drop)]
 struct Row<'a> {
-    clauses: &'a [&'a [Lit]],
+    clauses: &'a [&'a [i8]],
     end: Result<(), Conflict>,
-    trail: &'a [Lit],
+    trail: &'a [i8],
     reason: Reason,
-    watched: &'a [(Lit, &'a [usize])],
+    watched: &'a [(i8, &'a [usize])],
 }
 
 /// Takes out all watches, and watches the clauses by their first two literals anew.
@@ -46,10 +46,10 @@ fn watches<A: Allocator + Copy>(lists: &mut Watchlists<A>, lit: Lit, places: &[u
 }
 
 /// Whether these literals watch the clauses at these places.
-fn watch<A: Allocator + Copy>(lists: &mut Watchlists<A>, watched: &[(Lit, &[usize])]) -> bool {
+fn watch<A: Allocator + Copy>(lists: &mut Watchlists<A>, watched: &[(i8, &[usize])]) -> bool {
     for pair in watched {
-        let (literal, places) = *pair;
-        if !watches(lists, literal, places) {
+        let (number, places) = *pair;
+        if !watches(lists, literal(number), places) {
             return false;
         }
     }
@@ -79,13 +79,9 @@ fn comes_to<A: Allocator + Copy>(ctx: &mut Context<A>, row: &Row) -> Result<bool
         &ctx.binary_clauses,
         &mut ctx.watchlists,
     )?;
-    Ok(
-        end == row.end
-            && ctx.trail.fully_propagated() == row.end.is_ok()
-            && ctx.trail.trail() == row.trail
-            && is_reason(ctx, row.reason)
-            && watch(&mut ctx.watchlists, row.watched),
-    )
+    let is_propagated = ctx.trail.fully_propagated() == row.end.is_ok();
+    let is_end = (end == row.end) & is_propagated & are(ctx.trail.trail(), row.trail);
+    Ok(is_end & is_reason(ctx, row.reason) & watch(&mut ctx.watchlists, row.watched))
 }
 
 /// Whether clauses are watched by their first two literals, and propagation comes to what the row says.
@@ -112,18 +108,18 @@ fn holds<A: Allocator + Copy>(alloc: A, row: &Row, is_rebuilt: bool) -> Result<b
 }
 
 fn holds_always(alloc: Global, row: &Row) -> Result<bool, StoreError> {
-    Ok(holds(alloc, row, false)? && holds(alloc, row, true)?)
+    Ok(holds(alloc, row, false)? & holds(alloc, row, true)?)
 }
 
 // 1 is false, so that 3 takes its place beside 2.
 #[test]
 fn a_watch_moves(rt: HostRuntime) -> Result<(), StoreError> {
     let row = Row {
-        clauses: &[&lits![1, 2, 3], &lits![-1]],
+        clauses: &[&[1, 2, 3], &[-1]],
         end: Ok(()),
-        trail: &lits![-1],
+        trail: &[-1],
         reason: Reason::Unit,
-        watched: &[(lit!(-1), &[]), (lit!(-2), &[0]), (lit!(-3), &[0])],
+        watched: &[(-1, &[]), (-2, &[0]), (-3, &[0])],
     };
     assert!(rt; holds_always(rt.alloc(), &row)?);
     Ok(())
@@ -133,11 +129,11 @@ fn a_watch_moves(rt: HostRuntime) -> Result<(), StoreError> {
 #[test]
 fn a_true_clause_stays(rt: HostRuntime) -> Result<(), StoreError> {
     let row = Row {
-        clauses: &[&lits![1, 2, 3], &lits![2], &lits![-1]],
+        clauses: &[&[1, 2, 3], &[2], &[-1]],
         end: Ok(()),
-        trail: &lits![2, -1],
+        trail: &[2, -1],
         reason: Reason::Unit,
-        watched: &[(lit!(-1), &[0]), (lit!(-2), &[0]), (lit!(-3), &[])],
+        watched: &[(-1, &[0]), (-2, &[0]), (-3, &[])],
     };
     assert!(rt; holds_always(rt.alloc(), &row)?);
     Ok(())
@@ -146,11 +142,11 @@ fn a_true_clause_stays(rt: HostRuntime) -> Result<(), StoreError> {
 #[test]
 fn the_last_literal_is_implied(rt: HostRuntime) -> Result<(), StoreError> {
     let row = Row {
-        clauses: &[&lits![1, 2, 3], &lits![-1], &lits![-2]],
+        clauses: &[&[1, 2, 3], &[-1], &[-2]],
         end: Ok(()),
-        trail: &lits![-1, -2, 3],
+        trail: &[-1, -2, 3],
         reason: Reason::Long(ClauseRef::from_offset(0)),
-        watched: &[(lit!(-1), &[]), (lit!(-2), &[0]), (lit!(-3), &[0])],
+        watched: &[(-1, &[]), (-2, &[0]), (-3, &[0])],
     };
     assert!(rt; holds_always(rt.alloc(), &row)?);
     Ok(())
@@ -160,22 +156,16 @@ fn the_last_literal_is_implied(rt: HostRuntime) -> Result<(), StoreError> {
 /// to its end, and go on watching it.
 fn is_conflict_found<A: Allocator + Copy>(alloc: A, is_rebuilt: bool) -> Result<bool, StoreError> {
     let row = Row {
-        clauses: &[
-            &lits![1, 2, 4],
-            &lits![-2, 3, 4],
-            &lits![-2, -3, 4],
-            &lits![-4],
-            &lits![-1],
-        ],
+        clauses: &[&[1, 2, 4], &[-2, 3, 4], &[-2, -3, 4], &[-4], &[-1]],
         end: Err(Conflict::Long(ClauseRef::from_offset(12))),
-        trail: &lits![-4, -1, 2, 3],
+        trail: &[-4, -1, 2, 3],
         reason: Reason::Long(ClauseRef::from_offset(6)),
         watched: &[
-            (lit!(-1), &[0]),
-            (lit!(-2), &[0]),
-            (lit!(2), &[6, 12]),
-            (lit!(-3), &[6]),
-            (lit!(3), &[12]),
+            (-1, &[0]),
+            (-2, &[0]),
+            (2, &[6, 12]),
+            (-3, &[6]),
+            (3, &[12]),
         ],
     };
     holds(alloc, &row, is_rebuilt)
@@ -183,8 +173,8 @@ fn is_conflict_found<A: Allocator + Copy>(alloc: A, is_rebuilt: bool) -> Result<
 
 #[test]
 fn the_false_clause_is_told(rt: HostRuntime) -> Result<(), StoreError> {
-    assert!(rt; is_conflict_found(rt.alloc(), false)?);
-    assert!(rt; is_conflict_found(rt.alloc(), true)?);
+    let is_found = is_conflict_found(rt.alloc(), false)?;
+    assert!(rt; is_found & is_conflict_found(rt.alloc(), true)?);
     Ok(())
 }
 
@@ -192,30 +182,28 @@ fn the_false_clause_is_told(rt: HostRuntime) -> Result<(), StoreError> {
 #[test]
 fn a_false_clause_of_two_is_told(rt: HostRuntime) -> Result<(), StoreError> {
     let row = Row {
-        clauses: &[&lits![1, 2], &lits![-2, 3], &lits![-2, -3], &lits![-1]],
+        clauses: &[&[1, 2], &[-2, 3], &[-2, -3], &[-1]],
         end: Err(Conflict::Binary([lit!(-3), lit!(-2)])),
-        trail: &lits![-1, 2, 3],
+        trail: &[-1, 2, 3],
         reason: Reason::Binary([lit!(-2)]),
-        watched: &[(lit!(-1), &[]), (lit!(-2), &[]), (lit!(2), &[])],
+        watched: &[(-1, &[]), (-2, &[]), (2, &[])],
     };
     assert!(rt; holds_always(rt.alloc(), &row)?);
     Ok(())
 }
 
+/// Whether that clause is found on a heap of that many bytes.
+fn is_conflict_found_with(alloc: Global, size: usize) -> Result<bool, StoreError> {
+    let heap = LocalHeap::new(alloc, size)?;
+    is_conflict_found(&heap, true)
+}
+
 #[test]
-fn each_growth_of_lists_may_be_refused(rt: HostRuntime) -> Result<(), StoreError> {
-    let mut found = false;
-    let mut refused = false;
+fn each_growth_of_lists_may_be_refused(rt: HostRuntime) {
+    let mut seen = [false; 2];
     for room in 0..220 {
-        let heap = LocalHeap::new(rt.alloc(), 16 * room)?;
-        match is_conflict_found(&heap, true) {
-            Ok(right) => {
-                assert!(rt; right, "with {room}");
-                found = true;
-            }
-            Err(_) => refused = true,
-        }
+        let is_right = note(&mut seen, is_conflict_found_with(rt.alloc(), 16 * room));
+        assert!(rt; is_right, "with {room}");
     }
-    assert!(rt; found && refused);
-    Ok(())
+    assert!(rt; seen == [true, true]);
 }

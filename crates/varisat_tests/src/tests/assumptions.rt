@@ -1,7 +1,8 @@
 //! Assumptions and failed cores: the exact cores of small formulas, and random lists beside new solvers that have them
 //! as unit clauses.
-use super::numbers::Numbers;
 use super::settings::{rare_and_frequent, reducing_every};
+use rand_core::Rng;
+use rand_pcg::Pcg32;
 use std::alloc::Global;
 use varisat::solver::{Solver, SolverError};
 use varisat_formula::formula::{Lit, Var};
@@ -83,14 +84,14 @@ fn cores_are_exact(rt: HostRuntime) {
 }
 
 // A literal of one of 60 variables.
-fn next_literal(numbers: &mut Numbers) -> Lit {
-    let var = Var::from_index(numbers.below(60));
-    var.lit(numbers.below(2) == 0)
+fn next_literal(numbers: &mut Pcg32) -> Lit {
+    let var = Var::from_index(numbers.next_u32() as usize % 60);
+    var.lit(numbers.next_u32() % 2 == 0)
 }
 
 // Adds 230 clauses of three literals.
 fn add_clauses(solver: &mut TestSolver) -> Result<(), SolverError> {
-    let mut numbers = Numbers::after(7);
+    let mut numbers = Pcg32::new(7, 0);
     for _ in 0..230 {
         let clause = [
             next_literal(&mut numbers),
@@ -155,7 +156,7 @@ fn answers_as_new(
 }
 
 // The next six literals.
-fn next_literals(numbers: &mut Numbers) -> [Lit; 6] {
+fn next_literals(numbers: &mut Pcg32) -> [Lit; 6] {
     let mut literals = [next_literal(numbers); 6];
     for literal in &mut literals {
         *literal = next_literal(numbers);
@@ -165,7 +166,7 @@ fn next_literals(numbers: &mut Numbers) -> [Lit; 6] {
 
 // Whether the solver returns what a new one does in each round.
 fn are_answered(alloc: Global, solver: &mut TestSolver, count: usize) -> Result<bool, SolverError> {
-    let mut numbers = Numbers::after(11);
+    let mut numbers = Pcg32::new(11, 0);
     let mut right = true;
     for round in 0..count {
         let literals = next_literals(&mut numbers);

@@ -1,5 +1,5 @@
 //! Lists of calls with their answers, and the texts of refusals.
-ghost use Rattle.std.specs.Prelude.{◌≡◌, [], IfSome, OnOk};
+ghost use Rattle.std.specs.Prelude.{IfSome};
 ghost use Rattle.varisat.specs.Runs.{AreReadable};
 
 use super::readers::{Pieces, in_pieces};
@@ -38,40 +38,28 @@ fn are_lines(alloc: Global, answers: &[TextAnswer], wanted: &[u8]) -> bool {
     is_written & (out.as_slice() == wanted)
 }
 
-// Adds a small session: settings, a clause, a formula, a text that breaks off, a variable, a setting, the question, the
-// steps, the model, the flag, and the end of a proof that is not open.
-fn push_calls(
-    calls: &mut Vec<TextCall>,
-    settings: SolverConfigUpdate,
-    clause: Vec<Lit>,
-    formula: CnfFormula<Global>,
-) -> Result<(), AllocError>
-    requires { calls.old.items ≡ [] }
-    ensures { OnOk result (AreReadable (λ s. s) calls.new.items) }
-{
-    calls.push(Call::Config(settings))?;
-    calls.push(Call::AddClause(clause))?;
-    calls.push(Call::AddFormula(formula))?;
-    let text = in_pieces(b"6 0\n-2 0\n2", 3, false);
-    calls.push(Call::AddDimacsCnf(ReadSource::new(text)))?;
-    calls.push(Call::NewVar)?;
-    calls.push(Call::Config(SolverConfigUpdate::one(ConfigField::MaxSteps, 1)))?;
-    calls.push(Call::Solve)?;
-    calls.push(Call::Steps)?;
-    calls.push(Call::Model)?;
-    calls.push(Call::IsValid)?;
-    calls.push(Call::CloseProof)?;
-    Ok(())
-}
-
+// A small session: settings, a clause, a formula, a text that breaks off, a variable, a setting, the question, the steps,
+// the model, the flag, and the end of a proof that is not open.
 fn calls(alloc: Global, settings: SolverConfigUpdate) -> Option<Vec<TextCall>>
     ensures { IfSome result (λ calls. AreReadable (λ s. s) calls.items) }
 {
     let clause = Vec::from_slice(alloc, &lits![3, -1]).ok()?;
     let formula = cnf_formula!(in alloc; 4, -1; -5;).ok()?;
-    let mut calls = Vec::new(alloc);
-    push_calls(&mut calls, settings, clause, formula).ok()?;
-    Some(calls)
+    let text = in_pieces(b"6 0\n-2 0\n2", 3, false);
+    let calls = [
+        Call::Config(settings),
+        Call::AddClause(clause),
+        Call::AddFormula(formula),
+        Call::AddDimacsCnf(ReadSource::new(text)),
+        Call::NewVar,
+        Call::Config(SolverConfigUpdate::one(ConfigField::MaxSteps, 1)),
+        Call::Solve,
+        Call::Steps,
+        Call::Model,
+        Call::IsValid,
+        Call::CloseProof,
+    ];
+    Vec::from_array(alloc, calls).ok()
 }
 
 // An update of which two settings are out of range.
@@ -83,38 +71,27 @@ fn bad_update() -> SolverConfigUpdate {
     update
 }
 
-// Adds a session of refusals behind settings: a text with a fault in its middle and a good one, a formula with a name
-// past the limit and settings out of range. What stands before a fault stays, and refused settings change nothing, so
-// the budget is not spent.
-fn push_refused_calls(
-    calls: &mut Vec<TextCall>,
-    settings: SolverConfigUpdate,
-    formula: CnfFormula<Global>,
-) -> Result<(), AllocError>
-    requires { calls.old.items ≡ [] }
-    ensures { OnOk result (AreReadable (λ s. s) calls.new.items) }
-{
-    calls.push(Call::Config(settings))?;
-    let fault = in_pieces(b"1 0 x 2 0", 3, false);
-    calls.push(Call::AddDimacsCnf(ReadSource::new(fault)))?;
-    let comment = in_pieces(b"c a comment\n-1 3 0 \n", 3, false);
-    calls.push(Call::AddDimacsCnf(ReadSource::new(comment)))?;
-    calls.push(Call::Solve)?;
-    calls.push(Call::Model)?;
-    calls.push(Call::AddFormula(formula))?;
-    calls.push(Call::Config(bad_update()))?;
-    calls.push(Call::Solve)?;
-    calls.push(Call::Model)?;
-    Ok(())
-}
-
+// A session of refusals behind settings: a text with a fault in its middle and a good one, a formula with a name past the
+// limit and settings out of range. What stands before a fault stays, and refused settings change nothing, so the budget is
+// not spent.
 fn refused_calls(alloc: Global, settings: SolverConfigUpdate) -> Option<Vec<TextCall>>
     ensures { IfSome result (λ calls. AreReadable (λ s. s) calls.items) }
 {
     let formula = cnf_formula!(in alloc; 2; 268435457; -2;).ok()?;
-    let mut calls = Vec::new(alloc);
-    push_refused_calls(&mut calls, settings, formula).ok()?;
-    Some(calls)
+    let fault = in_pieces(b"1 0 x 2 0", 3, false);
+    let comment = in_pieces(b"c a comment\n-1 3 0 \n", 3, false);
+    let calls = [
+        Call::Config(settings),
+        Call::AddDimacsCnf(ReadSource::new(fault)),
+        Call::AddDimacsCnf(ReadSource::new(comment)),
+        Call::Solve,
+        Call::Model,
+        Call::AddFormula(formula),
+        Call::Config(bad_update()),
+        Call::Solve,
+        Call::Model,
+    ];
+    Vec::from_array(alloc, calls).ok()
 }
 
 // Whether the solver gives the calls these answers.
@@ -195,8 +172,8 @@ fn refusals() -> [(SolverError, &'static str); 9] {
     ]
 }
 
-/// Whether the refusal is printed so.
-pub fn has_text(alloc: Global, error: &SolverError, wanted: &str) -> Result<bool, AllocError> {
+// Whether the refusal is printed so.
+fn has_text(alloc: Global, error: &SolverError, wanted: &str) -> Result<bool, AllocError> {
     let text = error.to_string(alloc)?;
     Ok(text.as_str() == wanted)
 }

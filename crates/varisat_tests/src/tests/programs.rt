@@ -4,6 +4,8 @@ ghost use Rattle.std.specs.Prelude.{◌<◌, ◌-◌, ◌^◌};
 use super::readers::in_pieces;
 use super::settings::reducing_every;
 use linked_list_allocator::LocalHeap;
+use rand_core::Rng;
+use rand_pcg::Pcg32;
 use std::alloc::{AllocError, Global};
 use std::io::{Cursor, Read, Write};
 use std::str;
@@ -463,26 +465,25 @@ fn a_long_clause_takes_a_step(rt: HostRuntime) {
     }
 }
 
-// Adds a line of three literals over 40 variables, by a linear congruential generator, and returns its next state.
-fn push_clause(text: &mut String, state: u64) -> Option<u64> {
-    let mut state = state;
+// Adds a line of three random literals over 40 variables.
+fn push_clause(text: &mut String, numbers: &mut Pcg32) -> Option<()> {
     text.push_str("add").ok()?;
     for _ in 0..3 {
-        state = state
-            .wrapping_mul(6364136223846793005)
-            .wrapping_add(1442695040888963407);
-        let number = (state >> 33) % 40 + 1;
-        let sign = if (state >> 62) & 1 == 1 { " -" } else { " " };
+        let number = numbers.next_u32() % 40 + 1;
+        let sign = if numbers.next_u32() % 2 == 0 {
+            " -"
+        } else {
+            " "
+        };
         write!(text, "{sign}{number}").ok()?;
     }
-    text.push_str("\n").ok()?;
-    Some(state)
+    text.push_str("\n").ok()
 }
 
 fn push_clauses(text: &mut String) -> Option<()> {
-    let mut state = 1;
+    let mut numbers = Pcg32::new(1, 0);
     for _ in 0..10_000 {
-        state = push_clause(text, state)?;
+        push_clause(text, &mut numbers)?;
     }
     Some(())
 }

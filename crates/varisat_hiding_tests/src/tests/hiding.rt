@@ -1,6 +1,5 @@
 //! Variables that are hidden and brought back, by calls of a solver: the names that come back, the variable that a
 //! refusal tells, and many rounds. What sessions show stands with them.
-use super::calls::has_text;
 use std::alloc::Global;
 use varisat::solver::{Solver, SolverError};
 use varisat_formula::formula::{Lit, Var};
@@ -31,7 +30,10 @@ fn shows(solver: &mut TestSolver, wanted: &[Var]) -> Checked {
 fn is_refused(alloc: Global, answer: &Result<(), SolverError>, wanted: &str) -> bool {
     match answer {
         Ok(()) => false,
-        Err(error) => matches!(has_text(alloc, error, wanted), Ok(true)),
+        Err(error) => match error.to_string(alloc) {
+            Ok(text) => text.as_str() == wanted,
+            Err(_) => false,
+        },
     }
 }
 

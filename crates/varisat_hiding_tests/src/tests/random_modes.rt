@@ -2,8 +2,9 @@
 //! variables come back under which names isn't told, so there may be many states, of which one has to stay possible.
 ghost use Rattle.std.specs.Prelude.{◌<◌, ◌≤◌};
 
-use super::numbers::Numbers;
 use super::plain_states::{PlainState, Refusal, shown_states};
+use rand_core::Rng;
+use rand_pcg::Pcg32;
 use std::alloc::{AllocError, Global};
 use varisat::solver::{Solver, SolverError};
 use varisat_formula::formula::{Lit, Var};
@@ -116,23 +117,31 @@ fn solve(solver: &mut TestSolver, states: &mut [PlainState]) -> Result<(), Alloc
     Ok(())
 }
 
+// The next number below the bound.
+fn below(numbers: &mut Pcg32, bound: usize) -> usize
+    requires { 0 < bound }
+    ensures { result < bound }
+{
+    numbers.next_u32() as usize % bound
+}
+
 // One of the names.
-fn next_var(numbers: &mut Numbers, names: usize) -> Var
+fn next_var(numbers: &mut Pcg32, names: usize) -> Var
     requires positive { 0 < names }
     requires few { names ≤ 6 }
 {
-    Var::from_index(numbers.below(names))
+    Var::from_index(below(numbers, names))
 }
 
 // A literal of one of the names.
-fn next_literal(numbers: &mut Numbers, names: usize) -> Lit
+fn next_literal(numbers: &mut Pcg32, names: usize) -> Lit
     requires positive { 0 < names }
     requires few { names ≤ 6 }
 {
-    next_var(numbers, names).lit(numbers.below(2) == 0)
+    next_var(numbers, names).lit(below(numbers, 2) == 0)
 }
 
-fn next_literals(numbers: &mut Numbers, names: usize) -> [Lit; 3]
+fn next_literals(numbers: &mut Pcg32, names: usize) -> [Lit; 3]
     requires positive { 0 < names }
     requires few { names ≤ 6 }
 {
@@ -146,7 +155,7 @@ fn make_call(
     alloc: Global,
     solver: &mut TestSolver,
     states: &mut Vec<PlainState>,
-    numbers: &mut Numbers,
+    numbers: &mut Pcg32,
     names: usize,
 ) -> Result<(), AllocError>
     requires positive { 0 < names }
@@ -154,9 +163,9 @@ fn make_call(
 {
     let literals = next_literals(numbers, names);
     let var = literals[0].var();
-    match numbers.below(50) {
-        0..=16 => add_clause(solver, states, &literals[..1 + numbers.below(3)]),
-        17..=21 => assume(solver, states, &literals[..numbers.below(4)]),
+    match below(numbers, 50) {
+        0..=16 => add_clause(solver, states, &literals[..1 + below(numbers, 3)]),
+        17..=21 => assume(solver, states, &literals[..below(numbers, 4)]),
         22..=23 => new_var(solver, states),
         24..=26 => witness(solver, states, var),
         27..=29 => sample(solver, states, var),
@@ -181,9 +190,9 @@ fn is_over(states: &[PlainState]) -> bool {
 fn is_right(
     alloc: Global,
     solver: &mut TestSolver,
-    numbers: &mut Numbers,
+    numbers: &mut Pcg32,
 ) -> Result<bool, AllocError> {
-    let names = 2 + numbers.below(5);
+    let names = 2 + below(numbers, 5);
     let mut states = Vec::from_slice(alloc, &[PlainState::new()])?;
     for _ in 0..CALLS {
         make_call(alloc, solver, &mut states, numbers, names)?;
@@ -198,7 +207,7 @@ fn is_right(
 }
 
 // The same of a new solver.
-fn is_new_right(alloc: Global, numbers: &mut Numbers) -> Result<bool, AllocError> {
+fn is_new_right(alloc: Global, numbers: &mut Pcg32) -> Result<bool, AllocError> {
     let mut solver = Solver::new_in(alloc);
     let is_right = is_right(alloc, &mut solver, numbers);
     drop(solver);
@@ -207,7 +216,7 @@ fn is_new_right(alloc: Global, numbers: &mut Numbers) -> Result<bool, AllocError
 
 #[test]
 fn random_sessions_of_modes_are_answered(rt: HostRuntime) {
-    let mut numbers = Numbers::after(7);
+    let mut numbers = Pcg32::new(7, 0);
     for session in 0..2000 {
         assert!(rt;
             matches!(is_new_right(rt.alloc(), &mut numbers), Ok(true)),

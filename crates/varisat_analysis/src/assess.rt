@@ -8,7 +8,7 @@ ghost use Rattle.varisat_clause.specs.Collected.{live_clauses};
 ghost use Rattle.varisat_prop.specs.Changes.{NamesPlace};
 ghost use Rattle.varisat_analysis.specs.Bumps.{literals_among};
 ghost use Rattle.varisat_analysis.specs.HeaderChanges.{SameButHeaders};
-ghost use Rattle.varisat_analysis.specs.Assessments.{glue_of, tier_by_glue, assessed, improved, noted, scored, clause_bumped, clauses_bumped, CanCount};
+ghost use Rattle.varisat_analysis.specs.Assessments.{glue_of, tier_by_glue, assessed, improved, noted, scored, clause_bumped, clauses_bumped, CanBump, CanCount};
 
 use crate::glue::compute_glue;
 use std::alloc::{AllocError, Allocator};
@@ -64,10 +64,7 @@ fn improve_glue<A: Allocator + Copy>(
     impl_graph: &ImplGraph<A>,
     cref: ClauseRef,
 ) -> Result<(), AllocError>
-    requires place { IsPlace (stored_clauses alloc.old) cref }
-    requires live { (header_at (stored_clauses alloc.old) cref).deleted ≡ false }
-    requires tracks { Tracks db.old alloc.old }
-    requires count { CanCount impl_graph.now.nodes.items (literals_at (stored_clauses alloc.old) cref) flags.old }
+    requires { CanBump impl_graph.now.nodes.items alloc.old db.old flags.old cref }
     ensures improved { OnOk result (HoldsClauses alloc.new (length alloc.old.words) (with_header (stored_clauses alloc.old) cref (improved (glue_of impl_graph.now.nodes.items (literals_at (stored_clauses alloc.old) cref)) (header_at (stored_clauses alloc.old) cref)))) }
     ensures refused { OnErr result (alloc.new ≡ alloc.old) }
     ensures refused_too { OnErr result (db.new ≡ db.old) }
@@ -110,10 +107,7 @@ pub fn bump_clause<A: Allocator + Copy>(
     impl_graph: &ImplGraph<A>,
     cref: ClauseRef,
 ) -> Result<(), AllocError>
-    requires place { IsPlace (stored_clauses alloc.old) cref }
-    requires live { (header_at (stored_clauses alloc.old) cref).deleted ≡ false }
-    requires tracks { Tracks db.old alloc.old }
-    requires count { CanCount impl_graph.now.nodes.items (literals_at (stored_clauses alloc.old) cref) flags.old }
+    requires { CanBump impl_graph.now.nodes.items alloc.old db.old flags.old cref }
     ensures bumped { OnOk result (HoldsClauses alloc.new (length alloc.old.words) (clause_bumped impl_graph.now.nodes.items cref (scored alloc.old activity.old)).clauses) }
     ensures scale { OnOk result (activity.new ≡ (clause_bumped impl_graph.now.nodes.items cref (scored alloc.old activity.old)).scale) }
     ensures refused { OnErr result (alloc.new ≡ alloc.old) }

@@ -1,5 +1,6 @@
 //! Room for lists and flags that are needed for a short time.
 ghost use Rattle.std.specs.Prelude.{◌≡◌, ◌≤◌, ◌*◌, ◌-◌, ◌++◌, [], length, replicate, false, OnOk};
+ghost use Rattle.varisat_literals.specs.Numbers.{variable_limit};
 
 use std::alloc::{AllocError, Allocator};
 use varisat_literals::Lit;
@@ -40,7 +41,7 @@ impl<A: Allocator + Copy> TmpFlags<A> {
     /// Raises the count of variables. The new flags are false.
     pub fn set_var_count(&mut self, count: usize) -> Result<(), AllocError>
         requires raised { length self.old.flags.items ≤ 2 * count }
-        requires small { count ≤ 0x1000_0000 }
+        requires small { count ≤ variable_limit }
         ensures { OnOk result (self.new.flags.items ≡ self.old.flags.items ++ replicate (2 * count - length self.old.flags.items) false) }
     {
         self.flags.resize(2 * count, false)?;

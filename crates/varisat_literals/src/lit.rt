@@ -243,6 +243,7 @@ impl Not for Lit {
     fn not(self) -> Lit
         ensures { result ≡ opposite self }
     {
+        // `code ^ 1`, in the arithmetic in which the laws of literals are stated.
         if self.code % 2 == 0 {
             Lit {
                 code: self.code + 1,

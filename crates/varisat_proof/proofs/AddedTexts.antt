@@ -118,7 +118,7 @@ added_more old mid new front clauses w b = record {
   now = b.now ∙ ap (λ (x : CheckerState). record x { clauses = x.clauses ++ clauses }) w.now ∙ ap (λ cs. record old { clauses = cs }) (append_assoc old.clauses front clauses);
 }
 
--- a refusal of a checker that could be used is want of memory
+-- a refusal of a checker that could be used is out of memory
 pub ran_out : (old mid new : CheckerState) (front : List Clause) (e : CheckerError) → HasAdded old front mid → IsRefusal mid e new → (e ≡ OutOfMemory) × IsRefusal old OutOfMemory new
 ran_out old mid new front OutOfMemory w h = (refl, (w.usable, h.1))
 ran_out old mid new front Spent w h = absurd (let f : true ≡ false = sym h.0 ∙ ap (λ x. x.spent) w.now ∙ w.usable in cc)

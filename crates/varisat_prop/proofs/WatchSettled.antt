@@ -194,7 +194,7 @@ complete-both P Q known a b = record {
   closed = λ c l h k u. ⊎_elim (λ m. a.closed c l m k u) (λ m. b.closed c l m k u) (∈-append_cases c P Q h);
 }
 
--- going back to a level: what is left of the trail, and of what was settled
+-- backtracking to a level: what is left of the trail, and of what was settled
 module _ (s t : View) (level q : ℕ) (a : level < length s.decisions) (n : decision_at s level ≤ q) (m : decision_at s level ≤ length s.trail) where
   abbrev cut : View
   cut = record s { values = t.values; trail = take (decision_at s level) s.trail; queue_head = decision_at s level; decisions = take level s.decisions }

@@ -1,6 +1,7 @@
 //! The kept clauses of two literals, as what each literal implies by them.
 ghost use Rattle.std.specs.Prelude.{◌≡◌, ◌<◌, ◌≤◌, ◌*◌, ◌-◌, ◌++◌, ◌∷◌, [], length, replicate, OnOk, slice_set, slice_index_or};
 ghost use Rattle.varisat_theory.specs.Literals.{opposite};
+ghost use Rattle.varisat_literals.specs.Numbers.{variable_limit};
 ghost use Rattle.varisat_prop.specs.Simplified.{is_unassigned, unassigned_implied, without_assigned};
 
 use crate::lists::push_lists;
@@ -47,7 +48,7 @@ impl<A: Allocator + Copy> BinaryClauses<A> {
     /// Raises the count of variables. The new ones imply nothing.
     pub fn set_var_count(&mut self, count: usize) -> Result<(), AllocError>
         requires raised { length self.old ≤ 2 * count }
-        requires small { count ≤ 0x1000_0000 }
+        requires small { count ≤ variable_limit }
         ensures { OnOk result (self.new ≡ self.old ++ replicate (2 * count - length self.old) []) }
     {
         push_lists(&mut self.by_lit, 2 * count)?;

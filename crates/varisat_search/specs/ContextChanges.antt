@@ -1,5 +1,6 @@
 -- What calls do to a whole context.
 use Rattle.std.specs.Prelude.{◌≡◌, ℕ, ◌<◌, ◌≤◌, length}
+use Rattle.varisat_literals.specs.Numbers.{variable_limit}
 use Rattle.varisat_search.specs.declared.context.Context.{Context}
 use Rattle.varisat_search.specs.Contexts.{view, IsReady}
 use Rattle.varisat_search.specs.AssumptionParts.{with_levels_to}
@@ -19,6 +20,12 @@ pub record BacktracksTo {A : Type 0} (level : ℕ) (old new : Context A) : Type 
   pub units : new.trail.units_removed ≡ old.trail.units_removed
   pub assumptions : level < length old.trail.decisions → new.assumptions ≡ with_levels_to level old.assumptions
   pub kept : new ≡ record old { assignment = new.assignment; assumptions = new.assumptions; trail = new.trail; vsids = new.vsids }
+
+-- The count of variables may be raised to this one.
+pub record CanRaise {A : Type 0} (n : ℕ) (x : Context A) : Type 0 where
+  pub ready : IsReady x
+  pub raised : length x.assignment.current ≤ n
+  pub small : n ≤ variable_limit
 
 -- There are so many variables now, and a proof sees the search as it was.
 pub record IsRaisedTo {A : Type 0} (n : ℕ) (old new : Context A) : Type 0 where

@@ -16,6 +16,7 @@ ghost use Rattle.varisat_search.specs.Seen.{search_of};
 ghost use Rattle.varisat_search.specs.AssumptionParts.{no_assumptions, newly_assumed, with_levels_to, assumed_state, TakesOutImplied, TakesOutTrue, IsNextAssumption, ComesToNext};
 
 use crate::context::Context;
+use crate::decision::decide_lit;
 use crate::levels::full_restart;
 use std::alloc::{AllocError, Allocator};
 use std::marker::Model;
@@ -23,7 +24,7 @@ use varisat_analysis::failed_core::analyze_assumption_conflict;
 use varisat_analysis::tmp::TmpFlags;
 use varisat_literals::Lit;
 use varisat_prop::clause::ClauseAlloc;
-use varisat_prop::prop::{Assignment, ImplGraph, Reason, Trail, enqueue_assignment};
+use varisat_prop::prop::{Assignment, ImplGraph, Trail};
 
 /// The assumptions of a search, and for how many of them there is a level.
 #[derive(Drop)]
@@ -296,14 +297,7 @@ pub fn enqueue_assumption<A: Allocator + Copy>(
         find_failed_core(ctx, lit)?;
         return Ok(EnqueueAssumption::Conflict);
     }
-    ctx.trail.new_decision_level()?;
-    enqueue_assignment(
-        &mut ctx.assignment,
-        &mut ctx.impl_graph,
-        &mut ctx.trail,
-        lit,
-        Reason::Unit,
-    )?;
+    decide_lit(ctx, lit)?;
     ctx.assumptions.set_levels(ctx.trail.current_level());
     Ok(EnqueueAssumption::Enqueued)
 }

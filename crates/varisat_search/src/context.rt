@@ -3,10 +3,9 @@ ghost use Rattle.std.specs.Prelude.{◌≡◌, None, Some, MatchResult, ℕ, ◌
 ghost use Rattle.std.specs.Option.{unwrap_or};
 ghost use Rattle.varisat_search.specs.Contexts.{view, IsReady, first_state};
 ghost use Rattle.varisat_search.specs.AssumptionParts.{no_assumptions};
-ghost use Rattle.varisat_search.specs.ContextChanges.{IsRaisedTo};
+ghost use Rattle.varisat_search.specs.ContextChanges.{CanRaise, IsRaisedTo};
 ghost use Rattle.varisat_search.specs.Seen.{search_of, first_search};
 ghost use Rattle.varisat_search.specs.Decisions.{IsDecidable, SameDecidable};
-ghost use Rattle.varisat_literals.specs.Numbers.{variable_limit};
 ghost use Rattle.varisat_names.specs.Settings.{default_settings, first_bad, updated_settings};
 ghost use Rattle.varisat_schedule.specs.Plans.{first_plan};
 ghost use Rattle.varisat_vsids.specs.Activities.{no_activities, raised_to};
@@ -109,9 +108,7 @@ pub fn set_var_count<A: Allocator + Copy>(
     ctx: &mut Context<A>,
     count: usize,
 ) -> Result<(), AllocError>
-    requires ready { IsReady ctx.old }
-    requires raised { length ctx.old.assignment.current ≤ count }
-    requires small { count ≤ variable_limit }
+    requires { CanRaise count ctx.old }
     ensures raised { OnOk result (IsRaisedTo count ctx.old ctx.new) }
     ensures remembered { (v : ℕ) → slice_index_or ctx.new.assignment.last v false ≡ slice_index_or ctx.old.assignment.last v false }
     ensures last { OnOk result (ctx.new.assignment.last ≡ ctx.old.assignment.last ++ replicate (count - length ctx.old.assignment.current) false) }

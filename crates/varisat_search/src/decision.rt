@@ -2,18 +2,18 @@
 ghost use Rattle.std.specs.Prelude.{◌≡◌, ◌≢◌, ℕ, None, ◌<◌, ◌≤◌, true, false, length, slice_index_or, OnOk, IfOk, MatchBool};
 ghost use Rattle.varisat_theory.specs.Membership.{◌∈◌};
 ghost use Rattle.varisat_theory.specs.Literals.{Literal, Clause, variable_of};
-ghost use Rattle.varisat_literals.specs.Numbers.{polarity_of, variable_limit};
+ghost use Rattle.varisat_literals.specs.Numbers.{polarity_of};
 ghost use Rattle.varisat_prop.specs.View.{WellFormed, kept};
-ghost use Rattle.varisat_prop.specs.Changes.{decided_on};
+ghost use Rattle.varisat_prop.specs.Changes.{IsAssignable, decided_on};
 ghost use Rattle.varisat_vsids.specs.Activities.{with_available};
 ghost use Rattle.varisat_search.specs.Contexts.{view, IsReady};
-ghost use Rattle.varisat_search.specs.ContextChanges.{IsRaisedTo};
+ghost use Rattle.varisat_search.specs.ContextChanges.{CanRaise, IsRaisedTo};
 ghost use Rattle.varisat_search.specs.Steps.{IsFree, IsTotal};
 ghost use Rattle.varisat_search.specs.Decisions.{CanDecide, IsDecidable, SameDecidable, SameDecidableBut, AddsDecidable, IsNextDecision, TakesUnassigned, initialized};
 
 use crate::context::{Context, set_var_count};
 use std::alloc::{AllocError, Allocator};
-use varisat_literals::Var;
+use varisat_literals::{Lit, Var};
 use varisat_prop::prop::{Assignment, Reason, enqueue_assignment};
 pub use varisat_vsids::Vsids;
 
@@ -32,6 +32,25 @@ fn take_unassigned<A: Allocator + Copy>(
         }
     }
     None
+}
+
+/// Begins a level with the literal, which has no value. The queue stays as it was: the literal is still to be propagated.
+pub fn decide_lit<A: Allocator + Copy>(ctx: &mut Context<A>, lit: Lit) -> Result<(), AllocError>
+    requires { IsAssignable ctx.old.assignment.current ctx.old.impl_graph.nodes.items lit }
+    ensures decided { OnOk result (view ctx.new ≡ decided_on (view ctx.old) lit) }
+    ensures last { OnOk result (ctx.new.assignment.last ≡ ctx.old.assignment.last) }
+    ensures units { OnOk result (ctx.new.trail.units_removed ≡ ctx.old.trail.units_removed) }
+    ensures kept { ctx.new ≡ record ctx.old { assignment = ctx.new.assignment; impl_graph = ctx.new.impl_graph; trail = ctx.new.trail } }
+{
+    ctx.trail.new_decision_level()?;
+    enqueue_assignment(
+        &mut ctx.assignment,
+        &mut ctx.impl_graph,
+        &mut ctx.trail,
+        lit,
+        Reason::Unit,
+    )?;
+    Ok(())
 }
 
 /// Decides an available variable of greatest activity, as it was last assigned, and as false at first, so that a search
@@ -54,14 +73,7 @@ pub fn make_decision<A: Allocator + Copy>(ctx: &mut Context<A>) -> Result<bool, 
         return Ok(false);
     };
     let lit = var.lit(ctx.assignment.last_var_value(var));
-    ctx.trail.new_decision_level()?;
-    enqueue_assignment(
-        &mut ctx.assignment,
-        &mut ctx.impl_graph,
-        &mut ctx.trail,
-        lit,
-        Reason::Unit,
-    )?;
+    decide_lit(ctx, lit)?;
     Ok(true)
 }
 
@@ -99,12 +111,10 @@ pub fn add_variables<A: Allocator + Copy>(
     ctx: &mut Context<A>,
     count: usize,
 ) -> Result<(), AllocError>
-    requires ready { IsReady ctx.old }
-    requires raised { length ctx.old.assignment.current ≤ count }
-    requires small { count ≤ variable_limit }
+    requires { CanRaise count ctx.old }
     ensures raised { OnOk result (IsRaisedTo count ctx.old ctx.new) }
-    ensures remembered { (v : ℕ) → slice_index_or ctx.new.assignment.last v false ≡ slice_index_or ctx.old.assignment.last v false }
     ensures decidable { OnOk result (AddsDecidable (length ctx.old.assignment.current) count (view ctx.old) ctx.old.vsids (view ctx.new) ctx.new.vsids) }
+    ensures remembered { (v : ℕ) → slice_index_or ctx.new.assignment.last v false ≡ slice_index_or ctx.old.assignment.last v false }
     ensures kept { ctx.new ≡ record ctx.old { analyze_conflict = ctx.new.analyze_conflict; assignment = ctx.new.assignment; binary_clauses = ctx.new.binary_clauses; impl_graph = ctx.new.impl_graph; tmp_flags = ctx.new.tmp_flags; vsids = ctx.new.vsids; watchlists = ctx.new.watchlists } }
 {
     let first = ctx.assignment.assignment().len();

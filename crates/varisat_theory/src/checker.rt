@@ -79,6 +79,7 @@ fn take_out(present: &mut Vec<Vec<u32>>, clause: &[u32]) -> bool
     match place_of(present, clause) {
         None => false,
         Some(i) => {
+            // One copy leaves; others that are equal as sets stay.
             let _ = present.remove(i);
             true
         }
@@ -95,6 +96,7 @@ fn take_line(
 {
     match line {
         PlainLine::Adds(clause) => {
+            // It has to follow before it joins: a clause follows from itself.
             if !follows(alloc, present, clause)? {
                 return Ok(LineStatus::Unproved);
             }

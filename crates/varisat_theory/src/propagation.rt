@@ -61,6 +61,7 @@ fn status_of(known: &[u32], clause: &[u32]) -> ClauseStatus
                     left = Some(*l);
                 }
                 Some(m) => {
+                    // A literal that stands twice is one.
                     if m != *l {
                         return ClauseStatus::Open;
                     }
@@ -78,6 +79,8 @@ fn status_of(known: &[u32], clause: &[u32]) -> ClauseStatus
 pub fn conflicts(alloc: Global, clauses: &[Vec<u32>], base: &[u32]) -> Result<bool, AllocError>
     ensures { IfOk result (λ found. IsTrue found ↔ Conflicts (clause_lists clauses.now) base.now) }
 {
+    // The rounds look for false clauses alone. Opposite literals in the base, as of a tautology's negation, may make none
+    // false.
     if has_clash(base) {
         return Ok(true);
     }
@@ -97,6 +100,8 @@ pub fn conflicts(alloc: Global, clauses: &[Vec<u32>], base: &[u32]) -> Result<bo
                 ClauseStatus::Open => {}
             }
         }
+        // A clause before the one that made a literal known may say more now, so that only a round with nothing new is the
+        // last.
         if known.len() == before {
             return Ok(false);
         }

@@ -3,6 +3,7 @@
 ghost use Rattle.std.specs.Prelude.{◌≡◌, ◌<◌, ◌*◌, ◌≤◌, ◌-◌, ◌++◌, ◌∷◌, true, false, [], length, replicate, OnOk};
 ghost use Rattle.varisat_theory.specs.Membership.{◌∈◌};
 ghost use Rattle.varisat_theory.specs.Literals.{Literal, opposite};
+ghost use Rattle.varisat_literals.specs.Numbers.{variable_limit};
 ghost use Rattle.varisat_prop.specs.Watches.{no_watches, watches_of, with_watches};
 ghost use Rattle.varisat_prop.specs.Visits.{WatchesClause};
 
@@ -88,7 +89,7 @@ impl<A: Allocator + Copy> Watchlists<A> {
     /// Raises the count of variables. The new ones have no watches.
     pub fn set_var_count(&mut self, count: usize) -> Result<(), AllocError>
         requires raised { length self.old.lists ≤ 2 * count }
-        requires small { count ≤ 0x1000_0000 }
+        requires small { count ≤ variable_limit }
         ensures { OnOk result (self.new ≡ record self.old { lists = self.old.lists ++ replicate (2 * count - length self.old.lists) [] }) }
     {
         push_lists(&mut self.watches, 2 * count)?;

@@ -6,19 +6,22 @@ use Rattle.varisat_analysis.proofs.analyze_conflict.add_literals.Goals.{then-lev
 
 pub level_to_mark-requires : goal.level_to_mark-requires
 level_to_mark-requires g c κs within =
-    let p = is-at c.requires.1.0 c.requires.1.1 c.loop-lit-test.true c.lit-item.is c.loop-lit.auto.var_flags in
-    (within, (can-still c.requires.1.0 c.loop-lit.auto.var_flags, p.false_now))
+    let (_, (can, falsified)) = c.requires in
+    let p = is-at can falsified c.loop-lit-test.true c.lit-item.is c.loop-lit.auto.var_flags in
+    (within, (can-still can c.loop-lit.auto.var_flags, p.false_now))
 
 pub loop-lit-preserved-in_default : goal.loop-lit-preserved-in_default
 loop-lit-preserved-in_default g c =
-    let p = is-at c.requires.1.0 c.requires.1.1 c.loop-lit-test.true c.lit-item.is c.loop-lit.auto.var_flags in
+    let (_, (can, falsified)) = c.requires in
+    let p = is-at can falsified c.loop-lit-test.true c.lit-item.is c.loop-lit.auto.var_flags in
     let s = c.loop-lit.invariant.small in
-    record { adds = added-none c.requires.1.0.sees.well p c.loop-lit.invariant.adds c.in_default.ensures; small = omega (arith, s) }
+    record { adds = added-none can.sees.well p c.loop-lit.invariant.adds c.in_default.ensures; small = omega (arith, s) }
 
 pub loop-lit-preserved : goal.loop-lit-preserved
 loop-lit-preserved g c =
-    let sees = c.requires.1.0.sees in
-    let p = is-at c.requires.1.0 c.requires.1.1 c.loop-lit-test.true c.lit-item.is c.loop-lit.auto.var_flags in
+    let (_, (can, falsified)) = c.requires in
+    let sees = can.sees in
+    let p = is-at can falsified c.loop-lit-test.true c.lit-item.is c.loop-lit.auto.var_flags in
     let (lv, above, f, inside) = c.in-Some.ensures in
     let current = c.current_level-current.ensures ∙ ap (λ x. length x) sees.decisions_are in
     let marked = marking c.if-level-current.scratch (set c.loop-lit.var_flags c.index.result true) in

@@ -6,24 +6,24 @@ use Rattle.varisat_analysis.proofs.analyze_conflict.analyze_conflict.Goals as go
 
 pub returns-then-current_level-eq0-clause-learned : goal.returns-then-current_level-eq0-clause-learned
 returns-then-current_level-eq0-clause-learned g c =
-    learned-at-zero g.s c.requires.1.1.0 c.args.conflict c.clear.new.self.items 0 c.requires.1.1.1.1.0 (sym (ap (λ x. length x) c.requires.1.0.decisions_are) ∙ sym c.current_level.ensures ∙ c.if-current_level-eq0.true) c.clear.ensures.items refl
+    let (_, (shows, (well, (_, (conflict, _))))) = c.requires in
+    learned-at-zero g.s well c.args.conflict c.clear.new.self.items 0 conflict (sym (ap (λ x. length x) shows.decisions_are) ∙ sym c.current_level.ensures ∙ c.if-current_level-eq0.true) c.clear.ensures.items refl
 
 pub learn_and_clear-requires : goal.learn_and_clear-requires
 learn_and_clear-requires g c κs within =
+    let (_, (shows, (well, (settled, (conflict, flags))))) = c.requires in
     let value = ap (λ x. length x) c.deref_mut.ensures.value in
     let count = ap (λ (x : Analysis). x.var_count) c.analyze.view_is in
-    let shows = c.requires.1.0 in
     let nodes = ap (λ x. length x) shows.nodes_are in
     let decisions = ap (λ x. length x) shows.decisions_are in
-    let flags = c.requires.1.1.1.1.1 in
     let level = c.if-current_level-eq0.false in (
       within,
       record {
         can = record {
-          sees = record { well = c.requires.1.1.0; sound = shows.sound; clauses_are = shows.clauses_are; nodes_are = shows.nodes_are; trail_is = shows.trail_is; decisions_are = shows.decisions_are };
+          sees = record { well = well; sound = shows.sound; clauses_are = shows.clauses_are; nodes_are = shows.nodes_are; trail_is = shows.trail_is; decisions_are = shows.decisions_are };
           flags_are = omega (arith, value, count, flags, nodes);
         };
-        conflict = record { settled = c.requires.1.1.1.0; conflict = c.requires.1.1.1.1.0; deep = omega (arith, level, c.current_level.ensures, decisions) };
+        conflict = record { settled = settled; conflict = conflict; deep = omega (arith, level, c.current_level.ensures, decisions) };
         clean = record { unmarked = λ v. subst (λ x. get_or x v false ≡ false) (sym c.deref_mut.ensures.value) (c.analyze.invariant v); clause = c.clear.ensures.items; involved = c.clear-2.ensures.items; to_clean = c.clear-3.ensures.items };
       },
     )

@@ -6,17 +6,20 @@ use Rattle.varisat_analysis.proofs.analyze_conflict.level_to_mark.Goals.{then-le
 
 pub level-level-requires : goal.level-level-requires
 level-level-requires g c =
-    let sees = c.requires.1.0.sees in
-    read-inside g.s sees.well c.args.parts.impl_graph.now.nodes.items c.args.lit c.var.result sees.nodes_are c.var.ensures c.requires.1.1
+    let (_, (can, falsified)) = c.requires in
+    let sees = can.sees in
+    read-inside g.s sees.well c.args.parts.impl_graph.now.nodes.items c.args.lit c.var.result sees.nodes_are c.var.ensures falsified
 
 pub bounds-var_flags-index : goal.bounds-var_flags-index
 bounds-var_flags-index g c =
-    let i = has-flag c.requires.1.0 c.args.lit c.requires.1.1 in
+    let (_, (can, falsified)) = c.requires in
+    let i = has-flag can c.args.lit falsified in
     omega (arith, i, c.index.ensures.index)
 
 pub returns-then-level-eq0 : goal.returns-then-level-eq0
 returns-then-level-eq0 g c =
-    let sees = c.requires.1.0.sees in
+    let (_, (can, _)) = c.requires in
+    let sees = can.sees in
     let lv = level-read g.s c.args.parts.impl_graph.now.nodes.items c.args.lit c.var.result c.level-level.result sees.nodes_are c.var.ensures c.level-level.ensures in
     elim c.then-level-eq0.branch [
       | then-level-eq0-via-then-level-eq0 w ↦ inl (sym lv ∙ w.if-level-eq0.true)
@@ -25,7 +28,8 @@ returns-then-level-eq0 g c =
 
 pub returns : goal.returns
 returns g c =
-    let sees = c.requires.1.0.sees in
+    let (_, (can, falsified)) = c.requires in
+    let sees = can.sees in
     let lv = level-read g.s c.args.parts.impl_graph.now.nodes.items c.args.lit c.var.result c.level-level.result sees.nodes_are c.var.ensures c.level-level.ensures in
     let z = c.if-level-eq0.false in
-    (lv, omega (arith, z), subst (λ x. get_or c.args.var_flags.now x false ≡ false) c.index.ensures.index c.if-var_flags-index.false, has-flag c.requires.1.0 c.args.lit c.requires.1.1)
+    (lv, omega (arith, z), subst (λ x. get_or c.args.var_flags.now x false ≡ false) c.index.ensures.index c.if-var_flags-index.false, has-flag can c.args.lit falsified)

@@ -5,23 +5,27 @@ use Rattle.varisat_analysis.proofs.analyze_conflict.mark_causes.Goals as goal
 
 pub level_to_mark-requires : goal.level_to_mark-requires
 level_to_mark-requires g c κs within =
-    let p = is-at c.requires.1.0 c.requires.1.1 c.loop-lit-test.true c.lit-item.is c.loop-lit.auto.var_flags in
-    (within, (can-still c.requires.1.0 c.loop-lit.auto.var_flags, p.false_now))
+    let (_, (can, falsified)) = c.requires in
+    let p = is-at can falsified c.loop-lit-test.true c.lit-item.is c.loop-lit.auto.var_flags in
+    (within, (can-still can c.loop-lit.auto.var_flags, p.false_now))
 
 pub reason-requires : goal.reason-requires
 reason-requires g c =
-    let sees = c.requires.1.0.sees in
-    let p = is-at c.requires.1.0 c.requires.1.1 c.loop-lit-test.true c.lit-item.is c.loop-lit.auto.var_flags in
+    let (_, (can, falsified)) = c.requires in
+    let sees = can.sees in
+    let p = is-at can falsified c.loop-lit-test.true c.lit-item.is c.loop-lit.auto.var_flags in
     read-inside g.s sees.well c.args.parts.impl_graph.now.nodes.items c.lit-item.result c.var.result sees.nodes_are c.var.ensures p.false_now
 
 pub loop-lit-preserved-in_default : goal.loop-lit-preserved-in_default
 loop-lit-preserved-in_default g c =
-    let p = is-at c.requires.1.0 c.requires.1.1 c.loop-lit-test.true c.lit-item.is c.loop-lit.auto.var_flags in
+    let (_, (can, falsified)) = c.requires in
+    let p = is-at can falsified c.loop-lit-test.true c.lit-item.is c.loop-lit.auto.var_flags in
     explored-none p c.loop-lit.auto.var_flags c.loop-lit.invariant c.in_default.ensures
 
 pub loop-lit-preserved : goal.loop-lit-preserved
 loop-lit-preserved g c =
-    let p = is-at c.requires.1.0 c.requires.1.1 c.loop-lit-test.true c.lit-item.is c.loop-lit.auto.var_flags in
-    let r = reason-read g.s c.args.parts.impl_graph.now.nodes.items c.lit-item.result c.var.result c.reason.result.now c.requires.1.0.sees.nodes_are c.var.ensures c.reason.ensures in
+    let (_, (can, falsified)) = c.requires in
+    let p = is-at can falsified c.loop-lit-test.true c.lit-item.is c.loop-lit.auto.var_flags in
+    let r = reason-read g.s c.args.parts.impl_graph.now.nodes.items c.lit-item.result c.var.result c.reason.result.now can.sees.nodes_are c.var.ensures c.reason.ensures in
     explored-one p c.loop-lit.auto.var_flags c.loop-lit.invariant c.index.result c.reason.result.now c.index.ensures.index r (λ q. let b = c.if-is_unit.ensures.1 q in absurd cc) c.in-Some.ensures.2
     c.push.new.self.items c.push-in-loop-lit.new.self.items c.var-in-loop-lit.result c.not.result c.in_ok-push.ensures.items c.var-in-loop-lit.ensures c.in_ok-push-2.ensures.items c.not.ensures

@@ -8,16 +8,19 @@ use Rattle.varisat_analysis.proofs.analyze_conflict.minimize.Goals as goal
 use Rattle.varisat_analysis.proofs.analyze_conflict.minimize.Goals.{then-not-branch, else-not-branch}
 
 pub loop-place-init : goal.loop-place-init
-loop-place-init g c = minimizing-start c.requires.1.0.sees.well c.requires.1.0.flags_are c.requires.1.1
+loop-place-init g c =
+    let (_, (can, marks)) = c.requires in
+    minimizing-start can.sees.well can.flags_are marks
 
 pub is_redundant-requires : goal.is_redundant-requires
 is_redundant-requires g c κs within =
+    let (_, (can, _)) = c.requires in
     let ln : c.len-place-end.result ≡ length c.args.scratch.now.clause.items = c.len-place-end.ensures ∙ c.args.scratch.now.clause.ok.0 in
     let t0 = c.loop-place-test.true in
     let i : c.loop-place.place < length c.args.scratch.now.clause.items = omega (arith, ln, t0) in
     let lo = c.loop-place.invariant.long in
     let e = element c.loop-place.scratch.clause.items c.loop-place.place c.index-lit.result.now (omega (arith, i, lo)) c.index-lit.ensures in
-    (within, (can-still c.requires.1.0 c.loop-place.auto.var_flags, minimizing-false c.index-lit.result.now i e c.loop-place.invariant))
+    (within, (can-still can c.loop-place.auto.var_flags, minimizing-false c.index-lit.result.now i e c.loop-place.invariant))
 
 pub loop-place-preserved : goal.loop-place-preserved
 loop-place-preserved g c =
@@ -41,6 +44,7 @@ loop-place-preserved g c =
 
 pub returns : goal.returns
 returns g c =
+    let (_, (can, _)) = c.requires in
     let ln : c.len-place-end.result ≡ length c.args.scratch.now.clause.items = c.len-place-end.ensures ∙ c.args.scratch.now.clause.ok.0 in
     let t0 = c.loop-place-test.false in
-    minimizing-end c.truncate.new.self.items c.requires.1.0.sees.well (omega (arith, ln, t0)) c.truncate.ensures.items c.loop-place.invariant
+    minimizing-end c.truncate.new.self.items can.sees.well (omega (arith, ln, t0)) c.truncate.ensures.items c.loop-place.invariant

@@ -9,19 +9,20 @@ loop-lit-init g c = flags-start g.s c.args.flags.now
 
 pub level-requires : goal.level-requires
 level-requires g c =
-    let sees = c.requires.1.0 in
+    let (_, (sees, (_, falsified))) = c.requires in
     let m = c.lit-item.result in
-    let f = c.requires.1.1.1 m (item-∈ c.args.lits.now c.loop-lit.lit-index m c.loop-lit-test.true c.lit-item.is) in
+    let f = falsified m (item-∈ c.args.lits.now c.loop-lit.lit-index m c.loop-lit-test.true c.lit-item.is) in
     read-inside g.s sees.well c.args.parts.impl_graph.now.nodes.items m c.var.result sees.nodes_are c.var.ensures f
 
 pub bounds-flags-code : goal.bounds-flags-code
 bounds-flags-code g c =
-    let b = cause-flag g.s c.requires.1.0.well c.args.lits.now c.loop-lit.lit-index c.lit-item.result c.loop-lit.flags c.requires.1.1.1 (c.loop-lit.auto.flags ∙ c.requires.1.1.0) c.loop-lit-test.true c.lit-item.is in
+    let (_, (sees, (flags, falsified))) = c.requires in
+    let b = cause-flag g.s sees.well c.args.lits.now c.loop-lit.lit-index c.lit-item.result c.loop-lit.flags falsified (c.loop-lit.auto.flags ∙ flags) c.loop-lit-test.true c.lit-item.is in
     omega (arith, b, c.code.ensures.code, c.not-cause.ensures)
 
 pub loop-lit-preserved-then-level-eq0 : goal.loop-lit-preserved-then-level-eq0
 loop-lit-preserved-then-level-eq0 g c =
-    let sees = c.requires.1.0 in
+    let (_, (sees, (_, _))) = c.requires in
     let m = c.lit-item.result in
     let l = level-read g.s c.args.parts.impl_graph.now.nodes.items m c.var.result c.level.result sees.nodes_are c.var.ensures c.level.ensures in
     let z = c.if-level-eq0.true in
@@ -29,9 +30,9 @@ loop-lit-preserved-then-level-eq0 g c =
 
 pub loop-lit-preserved : goal.loop-lit-preserved
 loop-lit-preserved g c =
-    let sees = c.requires.1.0 in
+    let (_, (sees, (flags, falsified))) = c.requires in
     let m = c.lit-item.result in
-    let b = cause-flag g.s sees.well c.args.lits.now c.loop-lit.lit-index m c.loop-lit.flags c.requires.1.1.1 (c.loop-lit.auto.flags ∙ c.requires.1.1.0) c.loop-lit-test.true c.lit-item.is in
+    let b = cause-flag g.s sees.well c.args.lits.now c.loop-lit.lit-index m c.loop-lit.flags falsified (c.loop-lit.auto.flags ∙ flags) c.loop-lit-test.true c.lit-item.is in
     let l = level-read g.s c.args.parts.impl_graph.now.nodes.items m c.var.result c.level.result sees.nodes_are c.var.ensures c.level.ensures in
     let z = c.if-level-eq0.false in
     flags-set g.s c.args.lits.now c.loop-lit.lit-index m c.args.flags.now c.loop-lit.flags c.loop-lit-test.true c.lit-item.is c.loop-lit.invariant c.code.result (c.code.ensures.code ∙ c.not-cause.ensures) (omega (arith, b, c.code.ensures.code, c.not-cause.ensures)) (omega (arith, l, z))

@@ -7,8 +7,8 @@ use Rattle.varisat_search.proofs.cdcl.analyze.Goals as goal
 
 pub analyze_conflict-requires : goal.analyze_conflict-requires
 analyze_conflict-requires g c κs within =
+    let (_, (ready, (conflict, seen))) = c.requires in
     let x = c.args.ctx.now in
-    let e : view x ≡ g.s = sym c.requires.1.1.1 in
-    let ready = c.requires.1.0 in
-    let conflict = subst (λ (s : View). IsConflicting s c.args.conflict) e c.requires.1.1.0 in
+    let e : view x ≡ g.s = sym seen in
+    let conflict = subst (λ (s : View). IsConflicting s c.args.conflict) e conflict in
     (within, (shown x g.s ready e, (subst WellFormed e ready.well, (subst LevelsSettled e ready.settled, (conflict, ready.analysis ∙ sym ready.well.nodes_are)))))

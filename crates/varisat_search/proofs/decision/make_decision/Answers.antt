@@ -1,42 +1,36 @@
 use Rattle.std.proofs.Common.{◌≡◌, ◌<◌, Some, false, length, get_or, ⊎_elim, refl, sym, ap, ◌∙◌, subst, arith}
 use Rattle.varisat_theory.specs.Literals.{variable_of}
 use Rattle.varisat_literals.specs.Numbers.{polarity_of}
-use Rattle.varisat_prop.specs.declared.prop.graph.Reason.TheVariants as reason
-use Rattle.varisat_prop.specs.View.{View, view_of}
-use Rattle.varisat_prop.specs.Changes.{enqueued, decided_on}
+use Rattle.varisat_vsids.specs.Activities.{Activities}
+use Rattle.varisat_search.specs.declared.context.Context.{Context}
 use Rattle.varisat_search.specs.Contexts.{view}
 use Rattle.varisat_search.specs.Decisions.{TakesUnassigned, SameDecidable, CanDecide}
 use Rattle.varisat_search.proofs.DecidableVariables.{decided-same, none-same, decided-decidable, none-decidable}
 use Rattle.varisat_search.proofs.StepOutcome.{variable-literal, polarity-literal}
 use Rattle.varisat_search.proofs.decision.make_decision.Given.{Over}
-use Rattle.varisat_search.proofs.decision.make_decision.Goals.{In_ok-enqueue_assignment}
+use Rattle.varisat_search.proofs.decision.make_decision.Goals.{In_ok-decide_lit}
 use Rattle.varisat_search.proofs.decision.make_decision.Goals as goal
 
-variable-is : (g : Over) (c : In_ok-enqueue_assignment g) → variable_of c.lit-lit.result ≡ c.in-Some.var
+variable-is : (g : Over) (c : In_ok-decide_lit g) → variable_of c.lit-lit.result ≡ c.in-Some.var
 variable-is g c = ap variable_of c.lit-lit.ensures ∙ variable-literal c.in-Some.var c.last_var_value.result
 
-taken : (g : Over) (c : In_ok-enqueue_assignment g) → TakesUnassigned c.args.ctx.now.assignment.current c.args.ctx.now.vsids c.take_unassigned.new.vsids (Some (variable_of c.lit-lit.result))
+taken : (g : Over) (c : In_ok-decide_lit g) → TakesUnassigned c.args.ctx.now.assignment.current c.args.ctx.now.vsids c.take_unassigned.new.vsids (Some (variable_of c.lit-lit.result))
 taken g c = subst (λ v. TakesUnassigned c.args.ctx.now.assignment.current c.args.ctx.now.vsids c.take_unassigned.new.vsids (Some v)) (sym (variable-is g c)) c.in-Some.ensures
 
-inside : (g : Over) (c : In_ok-enqueue_assignment g) → variable_of c.lit-lit.result < length c.args.ctx.now.assignment.current
+inside : (g : Over) (c : In_ok-decide_lit g) → variable_of c.lit-lit.result < length c.args.ctx.now.assignment.current
 inside g c = let k = (taken g c).found.known in let n = c.requires.decidable.entries.activity in omega (arith, k, n)
 
-abbrev after : (g : Over) (c : In_ok-enqueue_assignment g) → View
-after g c = view_of c.args.ctx.now.clause_alloc c.args.ctx.now.binary_clauses c.enqueue_assignment.new.assignment c.enqueue_assignment.new.trail c.enqueue_assignment.new.impl_graph
-
-decided : (g : Over) (c : In_ok-enqueue_assignment g) → after g c ≡ decided_on (view c.args.ctx.now) c.lit-lit.result
-decided g c =
-    let x = c.args.ctx.now in
-    c.in_ok-enqueue_assignment.ensures.view x.clause_alloc x.binary_clauses ∙ ap (λ t. enqueued (view_of x.clause_alloc x.binary_clauses x.assignment t x.impl_graph) c.lit-lit.result reason.Unit) c.in_ok-new_decision_level.ensures
+stays : (g : Over) (c : In_ok-decide_lit g) → c.decide_lit.new.ctx.vsids ≡ c.take_unassigned.new.vsids
+stays g c = ap (λ (x : Context g.row.A.Denot). x.vsids) c.decide_lit.ensures.kept
 
 pub returns-clause-decided : goal.returns-clause-decided
 returns-clause-decided g c =
     let x = c.args.ctx.now in
-    let here = (goal.at.returns-clause-decided g c).In_ok-enqueue_assignment in
+    let here = (goal.at.returns-clause-decided g c).In_ok-decide_lit in
     let k = taken g here in (
       c.lit-lit.result,
       (inside g here, k.found.unassigned),
-      decided g here,
+      c.in_ok-decide_lit.ensures.decided,
       ap polarity_of c.lit-lit.ensures ∙ polarity-literal c.in-Some.var c.last_var_value.result ∙ c.last_var_value.ensures ∙ ap (λ v. get_or x.assignment.last v false) (sym (variable-is g here)),
       k.found,
     )
@@ -44,16 +38,20 @@ returns-clause-decided g c =
 pub returns-clause-same : goal.returns-clause-same
 returns-clause-same g c =
     let x = c.args.ctx.now in
-    let here = (goal.at.returns-clause-same g c).In_ok-enqueue_assignment in
-    subst (λ u. SameDecidable (view x) x.vsids u c.take_unassigned.new.vsids) (sym (decided g here))
-    (decided-same (view x) x.vsids c.take_unassigned.new.vsids c.requires.decidable c.lit-lit.result (inside g here) (taken g here))
+    let z = c.decide_lit.new.ctx in
+    let here = (goal.at.returns-clause-same g c).In_ok-decide_lit in
+    subst (λ (y : Activities). SameDecidable (view x) x.vsids (view z) y) (sym (stays g here))
+    (subst (λ u. SameDecidable (view x) x.vsids u c.take_unassigned.new.vsids) (sym c.in_ok-decide_lit.ensures.decided)
+    (decided-same (view x) x.vsids c.take_unassigned.new.vsids c.requires.decidable c.lit-lit.result (inside g here) (taken g here)))
 
 pub returns-clause-decidable : goal.returns-clause-decidable
 returns-clause-decidable g c =
     let x = c.args.ctx.now in
-    let here = (goal.at.returns-clause-decidable g c).In_ok-enqueue_assignment in
-    subst (λ u. CanDecide u c.take_unassigned.new.vsids) (sym (decided g here))
-    (decided-decidable (view x) x.vsids c.take_unassigned.new.vsids c.requires.decidable c.lit-lit.result (inside g here) (taken g here))
+    let z = c.decide_lit.new.ctx in
+    let here = (goal.at.returns-clause-decidable g c).In_ok-decide_lit in
+    subst (λ (y : Activities). CanDecide (view z) y) (sym (stays g here))
+    (subst (λ u. CanDecide u c.take_unassigned.new.vsids) (sym c.in_ok-decide_lit.ensures.decided)
+    (decided-decidable (view x) x.vsids c.take_unassigned.new.vsids c.requires.decidable c.lit-lit.result (inside g here) (taken g here)))
 
 pub returns-in_default-clause-decided : goal.returns-in_default-clause-decided
 returns-in_default-clause-decided g c =

@@ -10,11 +10,12 @@ use Rattle.varisat_search.specs.Decisions.{AddsDecidable}
 use Rattle.varisat_search.proofs.SolverVariables.{taken-decidable, taken-small, taken-room, in-use-all, solver-case}
 use Rattle.varisat_search.proofs.solver_variables.solver_from_global.Goals as goal
 
-pub add_variables-requires-clause-small : goal.add_variables-requires-clause-small
-add_variables-requires-clause-small g c =
+pub add_variables-requires : goal.add_variables-requires
+add_variables-requires g c =
     let k = c.requires.variables in
     let s = taken-small c.args.variables.now c.take_solver_var.new.self c.args.global c.in_ok-solver.solver c.prove_linked.ensures k.room k.solvers c.in_ok-solver.ensures.taken in
-    omega (arith, s, c.solver_watermark.ensures)
+    let w = c.in_ok-solver.ensures.taken.solvers.backward.watermark in
+    record { ready = k.ready; raised = omega (arith, k.count, w, c.solver_watermark.ensures); small = omega (arith, s, c.solver_watermark.ensures) }
 
 pub initialize_solver_var-requires-clause-unmentioned : goal.initialize_solver_var-requires-clause-unmentioned
 initialize_solver_var-requires-clause-unmentioned g c l h e =

@@ -23,7 +23,8 @@ use Rattle.varisat.specs.Carried.{carry, is_forced}
 use Rattle.varisat.specs.Spaces.{Spaces, Carrying, IsWide, IsApart, IsolationCase, NotIsolated, Apart, Forced, IsolationFits, Translation, translation, SearchHolds, CoreFits, without_core, VerdictFits, Links}
 use Rattle.varisat.proofs.SpacesMoves.{AreTaken, solver_literal, IsTouched, IsMarkedFor, accept, AreLong, AreInUse}
 use Rattle.varisat_names.proofs.Maps.{chain-some, chain-through}
-use Rattle.varisat.proofs.SpacesAgree.{identities-same, modes-same, units-same, isolation-same, marks-same}
+use Rattle.varisat.proofs.SearchLinks.{relinked-marks}
+use Rattle.varisat.proofs.SpacesAgree.{isolation-same, marks-same}
 use Rattle.varisat.proofs.Carried.{carry-at, carry-sign, carry-opposite, satisfied-carried, forced-value, wide-back}
 use Rattle.varisat.proofs.AcceptSolverVariables.{one-solver}
 use Rattle.varisat.proofs.ReachedHeld.{proved-on, reached-joined}
@@ -211,34 +212,30 @@ module _ (w : Carrying) (p : Spaces) (s : State) (d : Clause) (k : Links w p s) 
 
     stands : (t : Search) (v : Outcome) (m : ℕ → Bool) (x : Verdict) → SearchHolds (s.clauses ++ c ∷ []) r t (without_core v) → VerdictFits w.identity m v x → CoreFits s.naming.names p.core x → IsRight (s.clauses ++ c ∷ []) s.assumptions s.counted x → Links w (record p { kept = after; search = t; outcome = v; model = m }) (accept c x s)
     unfolding r c
-    stands t v m x holds fits core right = record {
-      identities = identities-same w.identity w.global p.kept after s.naming.made (λ x. ap (λ y. y.deleted) (touched.rest x)) k.identities;
-      names = k.names;
-      modes = modes-same w.identity p.global_from_user p.user_from_global p.global_from_user p.user_from_global p.kept after s.naming.modes (λ u. refl) (λ x. refl) (λ x. ap (λ y. y.sampling_mode) (touched.rest x)) k.modes;
-      watermark = k.watermark;
-      globals = k.globals;
-      units = units-same w.identity w.forced p.kept after s.counted (λ x. ap (λ y. y.unit) (touched.rest x)) k.units;
-      isolation = settled-more;
-      solvers = k.solvers;
-      holds = holds;
-      assumptions = k.assumptions;
-      marks = marks-same p.global_from_user p.global_from_user p.kept after p.assumptions (λ u. refl) (λ x. ap (λ y. y.assumed) (touched.rest x)) k.marks;
-      working = record { used = k.working.used; part = k.working.part; implied = λ a m t. k.working.implied a (satisfies_fewer a s.clauses (c ∷ []) m) t };
-      verdict = fits;
-      core = core;
-      right = right;
-      well_formed = record {
-        one_to_one = k.well_formed.one_to_one;
-        free = k.well_formed.free;
-        named = k.well_formed.named;
-        accepted = λ b l i j. ⊎_elim (λ q. k.well_formed.accepted b l q j) (λ q. ⊎_elim (λ z. made l (subst (λ y. l ∈ y) z j)) (λ z. absurd z) q) (∈-append_cases b s.clauses (c ∷ []) i);
-        assumed = k.well_formed.assumed;
-        counted = k.well_formed.counted;
-        once = k.well_formed.once;
-      };
-      few = k.few;
-      shown = λ o y h. ap (λ d. d.deleted) (touched.rest y) ∙ k.shown o y h;
-    }
+    stands t v m x holds fits core right =
+        relinked-marks w p (record p { kept = after; search = t; outcome = v; model = m }) s (accept c x s) k
+        (record { deleted = λ x. ap (λ y. y.deleted) (touched.rest x); sampling_mode = λ x. ap (λ y. y.sampling_mode) (touched.rest x); unit = λ x. ap (λ y. y.unit) (touched.rest x) })
+        settled-more
+        (marks-same p.global_from_user p.global_from_user p.kept after p.assumptions (λ u. refl) (λ x. ap (λ y. y.assumed) (touched.rest x)) k.marks)
+        (record {
+          one_to_one = k.well_formed.one_to_one;
+          free = k.well_formed.free;
+          named = k.well_formed.named;
+          accepted = λ b l i j. ⊎_elim (λ q. k.well_formed.accepted b l q j) (λ q. ⊎_elim (λ z. made l (subst (λ y. l ∈ y) z j)) (λ z. absurd z) q) (∈-append_cases b s.clauses (c ∷ []) i);
+          assumed = k.well_formed.assumed;
+          counted = k.well_formed.counted;
+          once = k.well_formed.once;
+        })
+        (record {
+          solvers = k.solvers;
+          holds = holds;
+          assumptions = k.assumptions;
+          working = record { used = k.working.used; part = k.working.part; implied = λ a m t. k.working.implied a (satisfies_fewer a s.clauses (c ∷ []) m) t };
+          verdict = fits;
+          core = core;
+          right = right;
+          few = k.few;
+        })
 
     pub loaded : (t : Search) (v : Outcome) (m : ℕ → Bool) (lines : List Line) → p.outcome ≡ outcome.Unknown → AreLong p.search → AreLong t → AreInUse p t → Loads p.search t (map (solver_literal p) d) v lines →
         (x : Verdict) × VerdictAfter s.clauses (map (through_names s.naming) d) Unknown x × Links w (record p { kept = after; search = t; outcome = v; model = m }) (accept (map (through_names s.naming) d) x s)
@@ -256,38 +253,34 @@ module _ (w : Carrying) (p : Spaces) (s : State) (d : Clause) (k : Links w p s) 
   module _ (after : ℕ → VarData) (marks : IsMarkedFor p d after) where
     pub assumed : (told : List Literal) → (s.verdict ≡ Unknown) ⊎ (s.verdict ≡ Unsat) → Links w (record p { kept = after; assumptions = d; core = told; working = map (solver_literal p) d }) (record s { assumptions = map (through_names s.naming) d })
     unfolding c e r
-    assumed told cases = record {
-      identities = identities-same w.identity w.global p.kept after s.naming.made (λ x. ap (λ y. y.deleted) (marks.rest x)) k.identities;
-      names = k.names;
-      modes = modes-same w.identity p.global_from_user p.user_from_global p.global_from_user p.user_from_global p.kept after s.naming.modes (λ u. refl) (λ x. refl) (λ x. ap (λ y. y.sampling_mode) (marks.rest x)) k.modes;
-      watermark = k.watermark;
-      globals = k.globals;
-      units = units-same w.identity w.forced p.kept after s.counted (λ x. ap (λ y. y.unit) (marks.rest x)) k.units;
-      isolation = isolation-same w.identity w.forced p.kept after s.clauses s.naming.made (λ x. ap (λ y. y.isolated) (marks.rest x)) k.isolation;
-      solvers = k.solvers;
-      holds = k.holds;
-      assumptions = record { agree = refl; taken = taken };
-      marks = marks.fit;
-      working = record {
-        used = of-clause;
-        part = λ l h. subst (λ xs. l ∈ xs) same-clause h;
-        implied = λ a m t. subst (MakesTrue a) same-clause t;
-      };
-      verdict = k.verdict;
-      core = ⊎_elim (λ q. subst (CoreFits s.naming.names told) (sym q) tt) (λ q. subst (CoreFits s.naming.names told) (sym q) tt) cases;
-      right = ⊎_elim
-          (λ q. subst (IsRight s.clauses (map (through_names s.naming) d) s.counted) (sym q) tt)
-          (λ q. subst (IsRight s.clauses (map (through_names s.naming) d) s.counted) (sym q) (subst (IsRight s.clauses s.assumptions s.counted) q k.right))
-          cases;
-      well_formed = record {
-        one_to_one = k.well_formed.one_to_one;
-        free = k.well_formed.free;
-        named = k.well_formed.named;
-        accepted = k.well_formed.accepted;
-        assumed = made;
-        counted = k.well_formed.counted;
-        once = k.well_formed.once;
-      };
-      few = k.few;
-      shown = λ o y h. ap (λ d. d.deleted) (marks.rest y) ∙ k.shown o y h;
-    }
+    assumed told cases =
+        relinked-marks w p (record p { kept = after; assumptions = d; core = told; working = map (solver_literal p) d }) s (record s { assumptions = map (through_names s.naming) d }) k
+        (record { deleted = λ x. ap (λ y. y.deleted) (marks.rest x); sampling_mode = λ x. ap (λ y. y.sampling_mode) (marks.rest x); unit = λ x. ap (λ y. y.unit) (marks.rest x) })
+        (isolation-same w.identity w.forced p.kept after s.clauses s.naming.made (λ x. ap (λ y. y.isolated) (marks.rest x)) k.isolation)
+        marks.fit
+        (record {
+          one_to_one = k.well_formed.one_to_one;
+          free = k.well_formed.free;
+          named = k.well_formed.named;
+          accepted = k.well_formed.accepted;
+          assumed = made;
+          counted = k.well_formed.counted;
+          once = k.well_formed.once;
+        })
+        (record {
+          solvers = k.solvers;
+          holds = k.holds;
+          assumptions = record { agree = refl; taken = taken };
+          working = record {
+            used = of-clause;
+            part = λ l h. subst (λ xs. l ∈ xs) same-clause h;
+            implied = λ a m t. subst (MakesTrue a) same-clause t;
+          };
+          verdict = k.verdict;
+          core = ⊎_elim (λ q. subst (CoreFits s.naming.names told) (sym q) tt) (λ q. subst (CoreFits s.naming.names told) (sym q) tt) cases;
+          right = ⊎_elim
+              (λ q. subst (IsRight s.clauses (map (through_names s.naming) d) s.counted) (sym q) tt)
+              (λ q. subst (IsRight s.clauses (map (through_names s.naming) d) s.counted) (sym q) (subst (IsRight s.clauses s.assumptions s.counted) q k.right))
+              cases;
+          few = k.few;
+        })

@@ -1,5 +1,5 @@
 -- A variable whose value is fixed leaves the search, and its value is kept. Where it has no name, its global variable may be used again.
-use Rattle.std.proofs.Common.{◌≡◌, ℕ, Bool, true, false, Some, None, inr, sym, ap, ◌∙◌, subst, refl, arith}
+use Rattle.std.proofs.Common.{◌≡◌, ℕ, Bool, true, false, Some, None, inr, sym, ap, ◌∙◌, subst, refl}
 use Rattle.varisat_theory.specs.Membership.{◌∈◌}
 use Rattle.varisat_theory.specs.Literals.{Literal, Assignment, variable_of, literal_of, SatisfiesAll}
 use Rattle.varisat_theory.specs.Searches.{Search, clauses_of}
@@ -18,7 +18,7 @@ use Rattle.varisat.specs.Spaces.{Spaces, Carrying, SearchHolds, without_core, tr
 use Rattle.varisat.specs.Dropping.{fixed_to}
 use Rattle.varisat.proofs.Carried.{true-value}
 use Rattle.varisat.proofs.SearchHeld.{agrees-through}
-use Rattle.varisat.proofs.SolveVerdict.{maps-same}
+use Rattle.varisat.proofs.SolveVerdict.{maps-alike, maps-same}
 use Rattle.varisat.proofs.VariableMoves.{leave_search, leave_all, recycle}
 use Rattle.varisat.proofs.RecycledGlobals.{recycled}
 use Rattle.varisat.proofs.DroppedSolvers.{IsWithout, left}
@@ -38,16 +38,9 @@ proved-value w p s v x i l k unknown pair at over proved a m =
 -- whatever is kept in between of the isolated global variable
 pub left-recycled : (w : Carrying) (p : Spaces) (s : State) (v x i : ℕ) (t : Search) (d : VarData) → Links w (leave_search v x t d p) s → w.identity x ≡ Some i → p.user_from_global x ≡ None → d.isolated ≡ true → SpacesFit (leave_all v x t p) s
 left-recycled w p s v x i t d k at unnamed alone =
-    maps-same (recycle x (leave_search v x t d p)) (leave_all v x t p) s (record {
-      global_from_user = λ u. refl;
-      user_from_global = λ y. refl;
-      watermark = refl;
-      globals = omega arith;
-      solver_from_global = λ y. refl;
-      global_from_solver = λ u. refl;
-      kept = λ y. updated-all (λ y a. a ≡ updated (updated p.kept x d) x dead y) p.kept x dead (sym (updated-at (updated p.kept x d) x dead)) y (λ n. sym (updated-other (updated p.kept x d) x dead y n ∙ updated-other p.kept x d y n));
-      model = λ a e y. refl;
-    }) refl (recycled w (leave_search v x t d p) s x i k at unnamed (updated-at p.solver_from_global x None) (ap (λ (a : VarData). a.isolated) (updated-at p.kept x d) ∙ alone))
+    maps-same (recycle x (leave_search v x t d p)) (leave_all v x t p) s (maps-alike (recycle x (leave_search v x t d p)) (leave_all v x t p) refl
+    (λ y. updated-all (λ y a. a ≡ updated (updated p.kept x d) x dead y) p.kept x dead (sym (updated-at (updated p.kept x d) x dead)) y (λ n. sym (updated-other (updated p.kept x d) x dead y n ∙ updated-other p.kept x d y n)))
+    (λ a e y. refl)) refl (recycled w (leave_search v x t d p) s x i k at unnamed (updated-at p.solver_from_global x None) (ap (λ (a : VarData). a.isolated) (updated-at p.kept x d) ∙ alone))
 
 -- The variable is not assumed, and its value is fixed at level 0.
 module _ (w : Carrying) (p : Spaces) (s : State) (v x : ℕ) (b : Bool) (t : Search) (k : Links w p s) (unknown : p.outcome ≡ outcome.Unknown) (pair : p.global_from_solver v ≡ Some x) (unassumed : (p.kept x).assumed ≡ false) (f : IsWithout v (Some b) p.search t) where

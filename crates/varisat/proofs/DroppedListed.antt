@@ -1,5 +1,5 @@
 -- The variables on the trail of a settled search that are not assumed, as they leave it.
-use Rattle.std.proofs.Common.{◌≡◌, ◌≢◌, ℕ, zero, suc, ◌<◌, ◌||◌, nat_eq, not, ◌&&◌, Bool, true, false, Option, Some, None, List, [], ◌∷◌, ◌↔◌, ◌⊎◌, inl, inr, length, map, sym, ap, ap₂, ◌∙◌, subst, refl, arith, eq-eqb, ne_eqb}
+use Rattle.std.proofs.Common.{◌≡◌, ◌≢◌, ℕ, zero, suc, ◌<◌, ◌||◌, nat_eq, not, ◌&&◌, Bool, true, false, Option, Some, None, List, [], ◌∷◌, ◌⊎◌, inl, inr, length, map, sym, ap, ap₂, ◌∙◌, subst, refl, arith, eq-eqb, ne_eqb}
 use Rattle.std.specs.Option.{IsSome}
 use Rattle.std.specs.Prelude.{slice_index_or}
 use Rattle.varisat_theory.specs.Membership.{◌∈◌, IsDistinct}
@@ -12,30 +12,26 @@ use Rattle.varisat_literals.specs.Numbers.{polarity_of}
 use Rattle.varisat_prop.specs.Leaving.{leaves, staying}
 use Rattle.varisat_prop.specs.View.{View, WellFormed, kept, node_at, node_of, level_of, is_clause}
 use Rattle.varisat_prop.specs.declared.prop.graph.Reason.TheVariants as reason
-use Rattle.varisat_prop.proofs.Leaving.{staying-was, was-staying, cleared-length}
+use Rattle.varisat_prop.proofs.Leaving.{staying-was, was-staying}
 use Rattle.varisat_prop.proofs.SimplifiedPairs.{filter-∈, ∈-filter}
-use Rattle.varisat_search.specs.Decisions.{IsDecidable}
-use Rattle.varisat_search.specs.Forgotten.{AreStaying, IsWithout, search_without}
+use Rattle.varisat_search.specs.Forgotten.{AreStaying, search_without}
 use Rattle.varisat_search.specs.Seen.{search_of, is_fixed, is_proved}
 use Rattle.varisat_search.specs.SettledUnits.{IsSettledDown}
 use Rattle.varisat_search.proofs.ForgottenViews.{trail-distinct, distinct-left}
 use Rattle.varisat_names.specs.VarMap.{at}
-use Rattle.varisat_names.specs.VarBiMap.{BiMap}
 use Rattle.varisat_names.specs.VarData.{kept_at}
-use Rattle.varisat_names.specs.Variables.{Tables, AreLinked}
-use Rattle.varisat_names.specs.declared.variables.data.VarData.{VarData}
+use Rattle.varisat_names.specs.Variables.{Tables}
 use Rattle.varisat_search.specs.declared.context.Context.{Context}
 use Rattle.varisat_search.specs.declared.state.SatState.TheVariants as verdict
 use Rattle.varisat_search.specs.AssumptionParts.{AssumptionParts}
-use Rattle.varisat_search.specs.Contexts.{view, IsReady}
+use Rattle.varisat_search.specs.Contexts.{view}
 use Rattle.varisat.specs.States.{State}
 use Rattle.varisat.specs.Spaces.{SpacesFit}
-use Rattle.varisat.specs.Accepting.{DecidesInUse}
 use Rattle.varisat.specs.Summaries.{spaces_of, IsKept}
-use Rattle.varisat.specs.Dropping.{leads_to_unassumed, unassumed_among, AreOverAssumed, FlagsVariables, AreDroppedAlone, LeavesTables}
+use Rattle.varisat.specs.Dropping.{leads_to_unassumed, unassumed_among, AreOverAssumed, FlagsVariables, AreDroppedAlone}
 use Rattle.varisat.proofs.DroppedAlone.{left-alone}
+use Rattle.varisat.proofs.DroppedKept.{true-or-not, HaveLeft, values-left, other-than, kept-left, over-left}
 use Rattle.varisat.proofs.DroppedTables.{AreWithout, variables-left}
-use Rattle.varisat.proofs.PlainTables.{there-is}
 use Rattle.varisat.proofs.Carried.{literal-parts}
 use Rattle.varisat.proofs.SearchViews.{of-kept}
 
@@ -47,10 +43,6 @@ unassumed-global m (Some x) e = (x, refl, go (kept_at m.kept x).assumed e)
     go : (b : Bool) → not b ≡ true → b ≡ false
     go true h = let z : false ≡ true = h in absurd cc
     go false h = refl
-
-pub true-or-not : (b : Bool) → (b ≡ true → ⊥) → b ≡ false
-true-or-not true n = absurd (n refl)
-true-or-not false n = refl
 
 -- no literal is over the variable
 pub unmentioned-by : (v : ℕ) (c : Clause) → ((l : Literal) → l ∈ c → variable_of l ≢ v) → mentions v c ≡ false
@@ -151,84 +143,28 @@ unassumed-taken m ls l h =
     subst IsSome (sym e) refl
 
 -- What a solver keeps, and stands for, once the variables on the trail that are not assumed left.
-module _ {A : Type 0} (m n : Tables) (x y : Context A) (gone : List Bool) (linked : AreLinked m) (k : IsKept m x) (d : IsSettledDown (view x)) (f : FlagsVariables (length x.assignment.current) (unassumed_among m x.trail.literals) gone) (ready : IsReady y) (p : IsWithout gone (view x) (view y)) (same : y.assumptions ≡ x.assumptions) (a : AreDroppedAlone (unassumed_among m x.trail.literals) m n) (tables : LeavesTables (unassumed_among m x.trail.literals) m n) where
-  values-count : length y.assignment.current ≡ length x.assignment.current
-  values-count = ap (λ (s : View). length s.values) p.rest ∙ cleared-length gone None x.assignment.current
-
+module _ {A : Type 0} {m n : Tables} {x y : Context A} {gone : List Bool} (h : HaveLeft m n x y gone (unassumed_among m x.trail.literals) (length x.assignment.current)) where
   listed-free : (l : Literal) → l ∈ unassumed_among m x.trail.literals → (z : ℕ) → at m.solvers.backward (variable_of l) ≡ Some z → (kept_at m.kept z).assumed ≡ false
-  listed-free l h z e =
-      let (on, u) = ∈-filter (λ l. leads_to_unassumed m (at m.solvers.backward (variable_of l))) x.trail.literals l h in
+  listed-free l i z e =
+      let (on, u) = ∈-filter (λ l. leads_to_unassumed m (at m.solvers.backward (variable_of l))) x.trail.literals l i in
       let (w, q, free) = unassumed-global m (at m.solvers.backward (variable_of l)) u in
       let r : Some w ≡ Some z = sym q ∙ e in
-      subst (λ z. (kept_at m.kept z).assumed ≡ false) (let i : w ≡ z = cc in i) free
+      subst (λ z. (kept_at m.kept z).assumed ≡ false) (let o : w ≡ z = cc in o) free
 
-  -- a global variable that is assumed is not among them
-  assumed-kept : (z : ℕ) → (kept_at m.kept z).assumed ≡ true → kept_at n.kept z ≡ kept_at m.kept z
-  assumed-kept z e = tables.others z (λ l h q. let i : true ≡ false = sym e ∙ listed-free l h z q in cc)
-
-  assumed-there : (v z : ℕ) → at m.solvers.backward v ≡ Some z → (kept_at m.kept z).assumed ≡ true → at n.solvers.backward v ≡ Some z
-  assumed-there v z e q = tables.stays v (λ l h o. let i : true ≡ false = sym q ∙ listed-free l h z (ap (at m.solvers.backward) o ∙ e) in cc) ∙ e
-
-  in-use : ((v : ℕ) → IsDecidable (view y) y.vsids v ↔ (IsDecidable (view x) x.vsids v × (leaves gone v ≡ false))) → DecidesInUse n (view y) y.vsids
-  in-use g v = (
-    λ h.
-        let (e, st) = (g v).0 h in
-        let q = tables.stays v (λ l i o. let z : true ≡ false = sym (dropped-is (view x) k.ready.well d m gone f v (subst (λ w. w ∈ map variable_of (unassumed_among m x.trail.literals)) o (∈-map variable_of l (unassumed_among m x.trail.literals) i))) ∙ st in cc) in
-        subst IsSome (sym q) ((k.decidable v).0 e),
-    λ h.
-        let (z, e) = there-is (at n.solvers.backward v) h in
-        (g v).1 (
-          (k.decidable v).1 (subst IsSome (sym (tables.fewer v z e)) refl),
-          true-or-not (leaves gone v) (λ o.
-              let (l, i, q) = (f.flagged v).0 o in
-              let r : None ≡ Some z = sym (tables.gone v l i q) ∙ e in
-              cc),
-        ),
-  )
-
-  pub kept-dropped : ((v : ℕ) → IsDecidable (view y) y.vsids v ↔ (IsDecidable (view x) x.vsids v × (leaves gone v ≡ false))) → IsKept n y
-  kept-dropped g = record {
-    bounded = (
-        let u = ap (λ (b : BiMap). length b.forward) tables.users in
-        let c = tables.count in
-        let v = tables.solvers in
-        record { users = omega (arith, u, k.bounded.users); globals = omega (arith, c, k.bounded.globals); solvers = omega (arith, v, k.bounded.solvers) });
-    ready = ready;
-    count = values-count ∙ k.count ∙ sym tables.solvers;
-    decidable = in-use g;
-    assumed = λ l h. subst (λ (b : BiMap). IsSome (at b.forward (variable_of l))) (sym tables.users) (k.assumed l (subst (λ (as' : AssumptionParts). l ∈ as'.user) same h));
-    marked = λ l z h e.
-        let before = k.marked l z (subst (λ (as' : AssumptionParts). l ∈ as'.user) same h) (ap (λ (b : BiMap). at b.forward (variable_of l)) (sym tables.users) ∙ e) in
-        ap (λ (c : VarData). c.assumed) (assumed-kept z before) ∙ before;
-    working = λ l h.
-        let (z, u, e, q, r) = k.working l (subst (λ (as' : AssumptionParts). l ∈ as'.working) same h) in
-        (z, u, assumed-there (variable_of l) z e r, ap (λ (b : BiMap). at b.backward z) tables.users ∙ q, ap (λ (c : VarData). c.assumed) (assumed-kept z r) ∙ r);
-  }
+  pub kept-dropped : IsKept n y
+  kept-dropped = kept-left h (λ l z u i e g a. let r : true ≡ false = sym a ∙ listed-free l i z e in cc)
 
   -- no variable that is not assumed has a literal on the trail any more
   pub none-left : AreOverAssumed n y.trail.literals
-  none-left l h = go (at m.solvers.backward (variable_of l)) refl
-    where
-      before : (l ∈ x.trail.literals) × (leaves gone (variable_of l) ≡ false)
-      before = staying-was gone x.trail.literals l (subst (λ ls. l ∈ ls) (ap (λ (s : View). s.trail) p.rest) h)
+  none-left = over-left h (λ l on e. true-or-not (leads_to_unassumed m (at m.solvers.backward (variable_of l))) (λ u. other-than h (variable_of l) e l (filter-∈ (λ l. leads_to_unassumed m (at m.solvers.backward (variable_of l))) x.trail.literals l on u) refl))
 
-      other : (j : Literal) → j ∈ unassumed_among m x.trail.literals → variable_of j ≢ variable_of l
-      other j i q = let z : true ≡ false = sym ((f.flagged (variable_of l)).1 (j, i, q)) ∙ before.1 in cc
-
-      go : (o : Option ℕ) → at m.solvers.backward (variable_of l) ≡ o → leads_to_unassumed n (at n.solvers.backward (variable_of l)) ≡ false
-      go None e = ap (leads_to_unassumed n) (tables.stays (variable_of l) other ∙ e)
-      go (Some z) e =
-          let was = true-or-not (leads_to_unassumed m (at m.solvers.backward (variable_of l))) (λ t. other l (filter-∈ (λ l. leads_to_unassumed m (at m.solvers.backward (variable_of l))) x.trail.literals l before.0 t) refl) in
-          let same = tables.others z (λ j i q. other j i (let r : Some (variable_of j) ≡ Some (variable_of l) = sym (linked.solvers.back z (variable_of j) q) ∙ linked.solvers.back z (variable_of l) e in cc)) in
-          ap (leads_to_unassumed n) (tables.stays (variable_of l) other ∙ e) ∙ ap (λ (d : VarData). not d.assumed) same ∙ sym (ap (leads_to_unassumed m) e) ∙ was
-
-  pub stands-dropped : search_of (view y) ≡ search_without gone (search_of (view x)) → (s : State) → SpacesFit (spaces_of m (view x) x.assumptions verdict.Unknown) s → SpacesFit (spaces_of n (view y) y.assumptions verdict.Unknown) s
-  stands-dropped seen s fit =
+  pub stands-dropped : IsSettledDown (view x) → AreDroppedAlone (unassumed_among m x.trail.literals) m n → search_of (view y) ≡ search_without gone (search_of (view x)) → (s : State) → SpacesFit (spaces_of m (view x) x.assumptions verdict.Unknown) s → SpacesFit (spaces_of n (view y) y.assumptions verdict.Unknown) s
+  stands-dropped d a seen s fit =
       let known : ℕ → Option Bool = (λ v. slice_index_or x.assignment.current v None) in
-      subst (λ (as' : AssumptionParts). SpacesFit (spaces_of n (view y) as' verdict.Unknown) s) (sym same)
+      subst (λ (as' : AssumptionParts). SpacesFit (spaces_of n (view y) as' verdict.Unknown) s) (sym h.assumptions)
       (variables-left known (map variable_of (unassumed_among m x.trail.literals)) m n (view x) (view y) x.assumptions s
-      (left-alone known (unassumed_among m x.trail.literals) m n (λ l h. on-value (view x) k.ready.well d l (∈-filter (λ l. leads_to_unassumed m (at m.solvers.backward (variable_of l))) x.trail.literals l h).0) a)
-      (without-these (view x) k.ready.well d m gone f (view y) seen)
-      values-count
-      (λ v z i e. let (l, h, q) = map-∈ variable_of v (unassumed_among m x.trail.literals) i in listed-free l h z (ap (at m.solvers.backward) (sym q) ∙ e))
+      (left-alone known (unassumed_among m x.trail.literals) m n (λ l i. on-value (view x) h.kept.ready.well d l (∈-filter (λ l. leads_to_unassumed m (at m.solvers.backward (variable_of l))) x.trail.literals l i).0) a)
+      (without-these (view x) h.kept.ready.well d m gone h.flags (view y) seen)
+      (values-left h)
+      (λ v z i e. let (l, j, q) = map-∈ variable_of v (unassumed_among m x.trail.literals) i in listed-free l j z (ap (at m.solvers.backward) (sym q) ∙ e))
       fit)

@@ -28,7 +28,7 @@ use Rattle.varisat.specs.Spaces.{Spaces, Carrying, Translation, SearchHolds, tra
 use Rattle.varisat.specs.Summaries.{spaces_of}
 use Rattle.varisat.specs.Dropping.{fixed_to}
 use Rattle.varisat.proofs.SpacesMoves.{with_search}
-use Rattle.varisat.proofs.SolveVerdict.{maps-same, spaces-same}
+use Rattle.varisat.proofs.SolveVerdict.{maps-alike, maps-same, recount}
 use Rattle.varisat.proofs.KeptCounts.{kept-most}
 use Rattle.varisat.proofs.SearchLinks.{relinked}
 use Rattle.varisat.proofs.VariableMoves.{leave_search, leave_all}
@@ -259,21 +259,8 @@ all-left known (v ∷ vs) old new search assumed s u t (mid, a, rest) f free fit
 -- Variables that are not assumed left the search, and their solver variables the tables: what is held stands for the same state as before.
 pub variables-left : (known : ℕ → Option Bool) (vs : List ℕ) (old new : Tables) (search after : View) (assumed : AssumptionParts) (s : State) → AreLeft known vs old new → AreWithout known vs (search_of search) (search_of after) → length after.values ≡ length search.values → ((v x : ℕ) → v ∈ vs → at old.solvers.backward v ≡ Some x → (kept_at old.kept x).assumed ≡ false) → SpacesFit (spaces_of old search assumed verdict.Unknown) s → SpacesFit (spaces_of new after assumed verdict.Unknown) s
 variables-left known vs old new search after assumed s a f count free fit =
-    spaces-same (between new search assumed (search_of after)) (spaces_of new after assumed verdict.Unknown) s (record {
-      maps = record {
-        global_from_user = λ u. refl;
-        user_from_global = λ x. refl;
-        watermark = refl;
-        globals = omega arith;
-        solver_from_global = λ x. refl;
-        global_from_solver = λ v. refl;
-        kept = λ x. refl;
-        model = λ b e y. absurd (let z : outcome.Unknown ≡ outcome.Sat b = e in cc);
-      };
-      assumptions = refl;
-      core = refl;
-      working = refl;
-      search = refl;
-      outcome = refl;
-      var_count = count;
-    }) (all-left known vs old new search assumed s (search_of search) (search_of after) a f free fit)
+    let p = between new search assumed (search_of after) in
+    let (w, k) = all-left known vs old new search assumed s (search_of search) (search_of after) a f free fit in
+    maps-same (record p { var_count = length after.values }) (spaces_of new after assumed verdict.Unknown) s
+    (maps-alike (record p { var_count = length after.values }) (spaces_of new after assumed verdict.Unknown) refl (λ x. refl) (λ b e y. absurd (let z : outcome.Unknown ≡ outcome.Sat b = e in cc)))
+    refl (w, recount w p (length search.values) (length after.values) s count k)

@@ -1,5 +1,5 @@
 -- The hidden variables that no kept clause names, as they leave the search.
-use Rattle.std.proofs.Common.{◌≡◌, ◌≢◌, ℕ, ◌+◌, ◌<◌, not, Bool, true, false, Option, Some, None, List, [], ◌∷◌, ◌++◌, ◌↔◌, ◌⊎◌, inl, inr, ⊎_elim, length, map, sym, ap, ◌∙◌, subst, refl, arith}
+use Rattle.std.proofs.Common.{◌≡◌, ℕ, ◌+◌, ◌<◌, not, Bool, true, false, Option, Some, None, List, [], ◌∷◌, ◌++◌, ◌↔◌, ◌⊎◌, inl, inr, ⊎_elim, length, map, sym, ap, ◌∙◌, subst, refl, arith}
 use Rattle.std.proofs.lemmas.List.{map-append}
 use Rattle.std.specs.Option.{IsSome, is_none}
 use Rattle.std.specs.Prelude.{slice_index_or}
@@ -11,28 +11,27 @@ use Rattle.varisat_theory.proofs.Renaming.{∈-map, map-∈}
 use Rattle.varisat.proofs.Counted.{distinct-push}
 use Rattle.varisat_prop.specs.Leaving.{leaves}
 use Rattle.varisat_prop.specs.View.{View, kept}
-use Rattle.varisat_prop.proofs.Leaving.{staying-was, was-staying, cleared-length}
+use Rattle.varisat_prop.proofs.Leaving.{staying-was, was-staying}
 use Rattle.varisat_prop.proofs.SimplifiedPairs.{∈-filter}
-use Rattle.varisat_search.specs.Decisions.{IsDecidable}
-use Rattle.varisat_search.specs.Forgotten.{AreStaying, IsWithout, IsMentioned, FlagsMentioned, search_without}
+use Rattle.varisat_search.specs.Forgotten.{AreStaying, IsMentioned, FlagsMentioned, search_without}
 use Rattle.varisat_search.specs.Seen.{search_of, is_fixed}
 use Rattle.varisat_names.specs.VarMap.{at}
 use Rattle.varisat_names.specs.VarBiMap.{BiMap}
 use Rattle.varisat_names.specs.VarData.{kept_at}
-use Rattle.varisat_names.specs.Variables.{Tables, AreLinked, IsDropped}
-use Rattle.varisat_names.specs.declared.variables.data.VarData.{VarData}
+use Rattle.varisat_names.specs.Variables.{Tables, IsDropped}
 use Rattle.varisat_names.proofs.Maps.{chain-some}
 use Rattle.varisat_names.proofs.VarMap.{at-inside}
 use Rattle.varisat_search.specs.declared.context.Context.{Context}
 use Rattle.varisat_search.specs.declared.state.SatState.TheVariants as verdict
 use Rattle.varisat_search.specs.AssumptionParts.{AssumptionParts}
-use Rattle.varisat_search.specs.Contexts.{view, IsReady}
+use Rattle.varisat_search.specs.Contexts.{view}
 use Rattle.varisat.specs.States.{State}
 use Rattle.varisat.specs.Spaces.{SpacesFit}
-use Rattle.varisat.specs.Accepting.{DecidesInUse, HasUser, IsAssumedSolver}
+use Rattle.varisat.specs.Accepting.{HasUser, IsAssumedSolver}
 use Rattle.varisat.specs.Summaries.{spaces_of, IsKept}
-use Rattle.varisat.specs.Dropping.{leads_to_unassumed, AreOverAssumed, FlagsVariables, leads_to_hidden, ListsUnneeded, AreReleased, LeavesNeeded, LeavesTables}
-use Rattle.varisat.proofs.DroppedListed.{true-or-not, unmentioned-by}
+use Rattle.varisat.specs.Dropping.{leads_to_unassumed, AreOverAssumed, FlagsVariables, leads_to_hidden, ListsUnneeded, AreReleased, LeavesNeeded}
+use Rattle.varisat.proofs.DroppedListed.{unmentioned-by}
+use Rattle.varisat.proofs.DroppedKept.{true-or-not, HaveLeft, values-left, kept-left, over-left}
 use Rattle.varisat.proofs.DroppedTables.{AreLeft, AreWithout, variables-left}
 use Rattle.varisat.proofs.PlainTables.{there-is}
 use Rattle.varisat.proofs.SearchViews.{of-kept}
@@ -124,96 +123,39 @@ module _ (m : Tables) (mentioned : List Bool) (ls : List Literal) (u : ListsUnne
             cc)
 
 -- What a solver keeps, and stands for, once they left.
-module _ {A : Type 0} (m n : Tables) (x y : Context A) (mentioned gone : List Bool) (ls : List Literal) (linked : AreLinked m) (k : IsKept m x) (over : AreOverAssumed m x.trail.literals) (p : FlagsMentioned (view x) mentioned) (u : ListsUnneeded m mentioned ls) (f : FlagsVariables (length mentioned) ls gone) (w : IsWithout gone (view x) (view y)) (same : y.assumptions ≡ x.assumptions) (tables : LeavesTables ls m n) where
-  values-count : length y.assignment.current ≡ length x.assignment.current
-  values-count = ap (λ (s : View). length s.values) w.rest ∙ cleared-length gone None x.assignment.current
-
-  other : (v : ℕ) → leaves gone v ≡ false → (l : Literal) → l ∈ ls → variable_of l ≢ v
-  other v e l h q = let z : true ≡ false = sym ((f.flagged v).1 (l, h, q)) ∙ e in cc
-
-  named-kept : (z v : ℕ) → at m.users.backward z ≡ Some v → kept_at n.kept z ≡ kept_at m.kept z
-  named-kept z v e = tables.others z (λ l h q. not-named m mentioned ls u l z v h q e)
-
-  named-stays : (v z q : ℕ) → at m.solvers.backward v ≡ Some z → at m.users.backward z ≡ Some q → at n.solvers.backward v ≡ Some z
-  named-stays v z q e g = tables.stays v (λ l h o. not-named m mentioned ls u l z q h (ap (at m.solvers.backward) o ∙ e) g) ∙ e
-
-  in-use : ((v : ℕ) → IsDecidable (view y) y.vsids v ↔ (IsDecidable (view x) x.vsids v × (leaves gone v ≡ false))) → DecidesInUse n (view y) y.vsids
-  in-use g v = (
-    λ h.
-        let (e, st) = (g v).0 h in
-        subst IsSome (sym (tables.stays v (other v st))) ((k.decidable v).0 e),
-    λ h.
-        let (z, e) = there-is (at n.solvers.backward v) h in
-        (g v).1 (
-          (k.decidable v).1 (subst IsSome (sym (tables.fewer v z e)) refl),
-          true-or-not (leaves gone v) (λ o.
-              let (l, i, q) = (f.flagged v).0 o in
-              let r : None ≡ Some z = sym (tables.gone v l i q) ∙ e in
-              cc),
-        ),
-  )
-
-  pub kept-released : IsReady y → ((v : ℕ) → IsDecidable (view y) y.vsids v ↔ (IsDecidable (view x) x.vsids v × (leaves gone v ≡ false))) → IsKept n y
-  kept-released ready g = record {
-    bounded = (
-        let b = ap (λ (b : BiMap). length b.forward) tables.users in
-        let c = tables.count in
-        let v = tables.solvers in
-        record { users = omega (arith, b, k.bounded.users); globals = omega (arith, c, k.bounded.globals); solvers = omega (arith, v, k.bounded.solvers) });
-    ready = ready;
-    count = values-count ∙ k.count ∙ sym tables.solvers;
-    decidable = in-use g;
-    assumed = λ l h. subst (λ (b : BiMap). IsSome (at b.forward (variable_of l))) (sym tables.users) (k.assumed l (subst (λ (as' : AssumptionParts). l ∈ as'.user) same h));
-    marked = λ l z h e.
-        let was = ap (λ (b : BiMap). at b.forward (variable_of l)) (sym tables.users) ∙ e in
-        ap (λ (c : VarData). c.assumed) (named-kept z (variable_of l) (linked.users.there (variable_of l) z was)) ∙ k.marked l z (subst (λ (as' : AssumptionParts). l ∈ as'.user) same h) was;
-    working = λ l h.
-        let (z, q, e, g, r) = k.working l (subst (λ (as' : AssumptionParts). l ∈ as'.working) same h) in
-        (z, q, named-stays (variable_of l) z q e g, ap (λ (b : BiMap). at b.backward z) tables.users ∙ g, ap (λ (c : VarData). c.assumed) (named-kept z q g) ∙ r);
-  }
-
-  -- what is left on the trail is assumed as before
-  over-left : AreOverAssumed n y.trail.literals
-  over-left l h = go (at m.solvers.backward (variable_of l)) refl
-    where
-      before : (l ∈ x.trail.literals) × (leaves gone (variable_of l) ≡ false)
-      before = staying-was gone x.trail.literals l (subst (λ ls. l ∈ ls) (ap (λ (s : View). s.trail) w.rest) h)
-
-      go : (o : Option ℕ) → at m.solvers.backward (variable_of l) ≡ o → leads_to_unassumed n (at n.solvers.backward (variable_of l)) ≡ false
-      go None e = ap (leads_to_unassumed n) (tables.stays (variable_of l) (other (variable_of l) before.1) ∙ e)
-      go (Some z) e =
-          let fixed = tables.others z (λ j i q. other (variable_of l) before.1 j i (let r : Some (variable_of j) ≡ Some (variable_of l) = sym (linked.solvers.back z (variable_of j) q) ∙ linked.solvers.back z (variable_of l) e in cc)) in
-          ap (leads_to_unassumed n) (tables.stays (variable_of l) (other (variable_of l) before.1) ∙ e) ∙ ap (λ (d : VarData). not d.assumed) fixed ∙ sym (ap (leads_to_unassumed m) e) ∙ over l before.0
+module _ {A : Type 0} {m n : Tables} {x y : Context A} {mentioned gone : List Bool} {ls : List Literal} (over : AreOverAssumed m x.trail.literals) (p : FlagsMentioned (view x) mentioned) (u : ListsUnneeded m mentioned ls) (h : HaveLeft m n x y gone ls (length mentioned)) where
+  pub kept-released : IsKept n y
+  kept-released = kept-left h (λ l z v i e g a. not-named m mentioned ls u l z v i e g)
 
   -- a variable in use has a name, or a kept clause names it
   needed : (v : ℕ) → IsSome (at n.solvers.backward v) → HasUser n v ⊎ IsMentioned (kept (view y)) v
-  needed v h =
-      let (z, e) = there-is (at n.solvers.backward v) h in
-      let was = tables.fewer v z e in
-      let inside : v < length mentioned = (let a = at-inside m.solvers.backward v z was in let b = k.count in let c = p.count in omega (arith, a, b, c)) in
+  needed v i =
+      let (z, e) = there-is (at n.solvers.backward v) i in
+      let was = h.tables.fewer v z e in
+      let inside : v < length mentioned = (let a = at-inside m.solvers.backward v z was in let b = h.kept.count in let c = p.count in omega (arith, a, b, c)) in
       go z e was inside (slice_index_or mentioned v false) refl (leads_to_hidden m (at m.solvers.backward v)) refl
     where
       go : (z : ℕ) → at n.solvers.backward v ≡ Some z → at m.solvers.backward v ≡ Some z → v < length mentioned → (a : Bool) → slice_index_or mentioned v false ≡ a → (b : Bool) → leads_to_hidden m (at m.solvers.backward v) ≡ b → HasUser n v ⊎ IsMentioned (kept (view y)) v
-      go z e was inside true a b q = inr (subst (λ cs. IsMentioned cs v) (sym (ap kept w.rest)) ((p.flagged v).0 a))
+      go z e was inside true a b q = inr (subst (λ cs. IsMentioned cs v) (sym (ap kept h.without.rest)) ((p.flagged v).0 a))
       go z e was inside false a true q =
           let (l, i, o) = map-∈ variable_of v ls ((u.listed v).1 (inside, a, q)) in
-          let r : None ≡ Some z = sym (tables.gone v l i (sym o)) ∙ e in
+          let r : None ≡ Some z = sym (h.tables.gone v l i (sym o)) ∙ e in
           absurd cc
       go z e was inside false a false q =
           let (t, o) = named-there (at m.users.backward z) (sym (ap (leads_to_hidden m) was) ∙ q) in
-          inl (t, chain-some (at n.solvers.backward) (at n.users.backward) v z e ∙ ap (λ (b : BiMap). at b.backward z) tables.users ∙ o)
+          inl (t, chain-some (at n.solvers.backward) (at n.users.backward) v z e ∙ ap (λ (b : BiMap). at b.backward z) h.tables.users ∙ o)
 
   pub needed-left : LeavesNeeded n (view y)
-  needed-left = record { assumed = over-left; needed = needed }
+  needed-left = record { assumed = over-left h (λ l on e. over l on); needed = needed }
 
   pub stands-released : AreReleased ls m n → search_of (view y) ≡ search_without gone (search_of (view x)) → (s : State) → SpacesFit (spaces_of m (view x) x.assumptions verdict.Unknown) s → SpacesFit (spaces_of n (view y) y.assumptions verdict.Unknown) s
   stands-released a seen s (c, links) =
       let free : (v z : ℕ) → v ∈ map variable_of ls → at m.solvers.backward v ≡ Some z → (kept_at m.kept z).assumed ≡ false = (λ v z i e. true-or-not (kept_at m.kept z).assumed (λ t.
-      let (l, h, q) = links.marks.only z t in
-      let (j, h', o) = map-∈ variable_of v ls i in
-      not-named m mentioned ls u j z (variable_of l) h' (ap (at m.solvers.backward) (sym o) ∙ e) (linked.users.there (variable_of l) z q))) in
-      subst (λ (as' : AssumptionParts). SpacesFit (spaces_of n (view y) as' verdict.Unknown) s) (sym same)
-      (variables-left (λ v. None) (map variable_of ls) m n (view x) (view y) x.assumptions s (released-left ls m n a) (without-unneeded m mentioned ls u (view x) gone p f (view y) over free seen) values-count free (c, links))
+      let (l, g, q) = links.marks.only z t in
+      let (j, f, o) = map-∈ variable_of v ls i in
+      not-named m mentioned ls u j z (variable_of l) f (ap (at m.solvers.backward) (sym o) ∙ e) (h.linked.users.there (variable_of l) z q))) in
+      subst (λ (as' : AssumptionParts). SpacesFit (spaces_of n (view y) as' verdict.Unknown) s) (sym h.assumptions)
+      (variables-left (λ v. None) (map variable_of ls) m n (view x) (view y) x.assumptions s (released-left ls m n a) (without-unneeded m mentioned ls u (view x) gone p h.flags (view y) over free seen) (values-left h) free (c, links))
 
 -- Of each hidden variable below n whose flag is not set there is one literal.
 pub record ListsBelow (n : ℕ) (t : Tables) (flags : List Bool) (ls : List Literal) : Type 0 where

@@ -10,6 +10,7 @@ pub mod Counted
 pub mod DroppedAlone
 pub mod DroppedApart
 pub mod DroppedFixed
+pub mod DroppedKept
 pub mod DroppedListed
 pub mod DroppedSolvers
 pub mod DroppedTables

@@ -1,5 +1,5 @@
 -- A variable of which the value is kept comes back to the search, with its unit clause.
-use Rattle.std.proofs.Common.{◌≡◌, ◌≢◌, ℕ, Bool, false, Option, Some, None, List, [], ◌∷◌, ◌++◌, ◌⊎◌, inl, inr, ⊎_elim, sym, ap, ◌∙◌, subst, refl, map}
+use Rattle.std.proofs.Common.{◌≡◌, ◌≢◌, ℕ, Bool, false, Some, None, List, [], ◌∷◌, ◌++◌, ◌⊎◌, inl, inr, ⊎_elim, sym, ap, ◌∙◌, subst, refl, map}
 use Rattle.std.proofs.lemmas.List.{map-append}
 use Rattle.varisat_theory.specs.Membership.{◌∈◌, ◌⊆◌, SameSet}
 use Rattle.varisat_theory.specs.Literals.{Literal, Clause, variable_of, literal_of, IsUnit}
@@ -23,7 +23,7 @@ use Rattle.varisat_names.specs.Maps.{updated, chain}
 use Rattle.varisat_names.proofs.Maps.{updated-all, chain-some, chain-through}
 use Rattle.varisat.specs.States.{State}
 use Rattle.varisat.specs.Carried.{carry, is_forced}
-use Rattle.varisat.specs.Spaces.{Spaces, Carrying, Translation, translation, IsReachedWithForgotten, SearchHolds, without_core, Links}
+use Rattle.varisat.specs.Spaces.{Spaces, Carrying, translation, IsReachedWithForgotten, SearchHolds, without_core, Links}
 use Rattle.varisat.proofs.SpacesMoves.{AreLong, take_solver}
 use Rattle.varisat.proofs.Carried.{carry-at, carry-sign, carry-opposite, value-true}
 use Rattle.varisat.proofs.SearchHeld.{answers-covers, fixed-alone, fixed-on}
@@ -36,18 +36,6 @@ unit-of j i b c m u s e =
     sym (variable-literal j b) ∙ ap variable_of (⊎_elim (λ q. q) (λ z. absurd z) (s.0 (literal_of j b) u.0)) ∙ e
 
 module _ (w : Carrying) (p : Spaces) (s : State) (x i v : ℕ) (b : Bool) (t : Search) (lines : List Line) (k : Links w p s) (is : w.identity x ≡ Some i) (spoken : i ∈ s.counted) (unsolved : p.solver_from_global x ≡ None) (free : p.global_from_solver v ≡ None) (unit : (p.kept x).unit ≡ Some b) (unknown : without_core p.outcome ≡ outcome.Unknown) (long : AreLong t) (in-use : (l : Literal) → IsLiteralOf t l → (y : ℕ) × (updated p.global_from_solver v (Some x) (variable_of l) ≡ Some y)) (loads : Loads p.search t (literal_of v b ∷ []) outcome.Unknown lines) where
-  to : ℕ → Option ℕ
-  to = chain p.global_from_solver w.identity
-
-  to' : ℕ → Option ℕ
-  to' = chain (updated p.global_from_solver v (Some x)) w.identity
-
-  r : Translation
-  r = translation w p s.ever_hidden
-
-  r' : Translation
-  r' = translation w (take_solver x v p) s.ever_hidden
-
   h : SearchHolds s.clauses (translation w p s.ever_hidden) p.search outcome.Unknown
   h = subst (SearchHolds s.clauses (translation w p s.ever_hidden) p.search) unknown k.holds
 
@@ -55,12 +43,10 @@ module _ (w : Carrying) (p : Spaces) (s : State) (x i v : ℕ) (b : Bool) (t : S
   forced = k.units.unit x i is ∙ unit
 
   -- the unit's literal, and how it is carried
-  at-v : to' (variable_of (literal_of v b)) ≡ Some i
-  unfolding to'
+  at-v : chain (updated p.global_from_solver v (Some x)) w.identity (variable_of (literal_of v b)) ≡ Some i
   at-v = ap (chain (updated p.global_from_solver v (Some x)) w.identity) (variable-literal v b) ∙ to-new w p s x i v k is spoken unsolved free
 
-  carried : carry to' (literal_of v b) ≡ literal_of i b
-  unfolding to'
+  carried : carry (chain (updated p.global_from_solver v (Some x)) w.identity) (literal_of v b) ≡ literal_of i b
   carried = same-literal (carry (chain (updated p.global_from_solver v (Some x)) w.identity) (literal_of v b)) (literal_of i b)
       (carry-at (chain (updated p.global_from_solver v (Some x)) w.identity) (literal_of v b) i at-v ∙ sym (variable-literal i b))
       (carry-sign (chain (updated p.global_from_solver v (Some x)) w.identity) (literal_of v b) ∙ polarity-literal v b ∙ sym (polarity-literal i b))
@@ -73,8 +59,7 @@ module _ (w : Carrying) (p : Spaces) (s : State) (x i v : ℕ) (b : Bool) (t : S
   now-fixed = fixed-alone t (literal_of v b) long (loads.answers [] (λ c z. absurd z) (literal_of v b ∷ []) (inl refl))
 
   -- no solver variable stood for the identity
-  none-there : (u : ℕ) → to u ≢ Some i
-  unfolding to
+  none-there : (u : ℕ) → chain p.global_from_solver w.identity u ≢ Some i
   none-there u e =
       let (y, f, g) = chain-through p.global_from_solver w.identity u i e in
       let q : Some y ≡ Some x = sym (k.identities.one_to_one.there y i g) ∙ k.identities.one_to_one.there x i is in
@@ -82,8 +67,7 @@ module _ (w : Carrying) (p : Spaces) (s : State) (x i v : ℕ) (b : Bool) (t : S
       cc
 
   -- The unit clause comes back from what was forgotten.
-  back : IsReachedWithForgotten s.clauses r h.held → IsReachedWithForgotten s.clauses r' (without v h.held ++ (literal_of v b ∷ []) ∷ [])
-  unfolding r r' to to'
+  back : IsReachedWithForgotten s.clauses (translation w p s.ever_hidden) h.held → IsReachedWithForgotten s.clauses (translation w (take_solver x v p) s.ever_hidden) (without v h.held ++ (literal_of v b ∷ []) ∷ [])
   back q =
       let f = carry (chain p.global_from_solver w.identity) in
       let g = carry (chain (updated p.global_from_solver v (Some x)) w.identity) in
@@ -102,8 +86,7 @@ module _ (w : Carrying) (p : Spaces) (s : State) (x i v : ℕ) (b : Bool) (t : S
             (c', ⊎_elim (λ a. a) (λ a. let same = unit-of j i y c' (g (literal_of v b)) u' a (ap variable_of carried ∙ variable-literal i b) in absurd (n v (to-new w p s x i v k is spoken unsolved free ∙ ap Some (sym same)))) stays-there, u');
       }
 
-  holds-on : SearchHolds s.clauses r' t outcome.Unknown
-  unfolding r r' to'
+  holds-on : SearchHolds s.clauses (translation w (take_solver x v p) s.ever_hidden) t outcome.Unknown
   holds-on =
       let (after, d, o) = loads.holds (without v h.held) (fits-apart w p s x i v k is spoken unsolved free h.held h.holds) in
       let begun = without v h.held ++ (literal_of v b ∷ []) ∷ [] in
@@ -137,5 +120,4 @@ module _ (w : Carrying) (p : Spaces) (s : State) (x i v : ℕ) (b : Bool) (t : S
           (λ n e. let z = k.solvers.live u y e in (z.0, z.1))
 
   pub resurrected : Links w (record (take_solver x v p) { search = t }) s
-  unfolding r'
   resurrected = taken-with w p s x i v k is spoken unsolved free t (subst (SearchHolds s.clauses (translation w (take_solver x v p) s.ever_hidden) t) (sym unknown) holds-on)

@@ -1,8 +1,10 @@
 -- The search goes on, and the verdict of the state with it: what was said of the names stays.
-use Rattle.std.proofs.Common.{◌≤◌, length}
-use Rattle.varisat.specs.States.{State, HasRightVerdict}
-use Rattle.varisat.specs.Spaces.{Spaces, Carrying, translation, SolversFit, SearchHolds, AssumptionsFit, WorkingFits, CoreFits, VerdictFits, without_core, Links}
+use Rattle.std.proofs.Common.{◌≡◌, ◌≤◌, ℕ, length, ◌∙◌, refl}
+use Rattle.varisat_names.specs.declared.variables.data.VarData.{VarData}
+use Rattle.varisat.specs.States.{State, HasRightVerdict, IsWellFormed}
+use Rattle.varisat.specs.Spaces.{Spaces, Carrying, translation, SolversFit, SearchHolds, AssumptionsFit, IsolationFits, MarksFit, WorkingFits, CoreFits, VerdictFits, without_core, Links}
 use Rattle.varisat.proofs.CallStates.{told_as, told-well}
+use Rattle.varisat.proofs.SpacesAgree.{identities-same, modes-same, units-same}
 
 -- the spaces, with the solver variables and the search of others
 abbrev pub with_search_side : Spaces → Spaces → Spaces
@@ -48,4 +50,41 @@ relinked w p q s t k l = record {
   well_formed = told-well s t k.well_formed;
   few = l.few;
   shown = k.shown;
+}
+
+-- Of what is kept of global variables nothing changed but whether they are isolated and whether they are assumed.
+pub record AreRemarked (kept after : ℕ → VarData) : Type 0 where
+  pub deleted : (x : ℕ) → (after x).deleted ≡ (kept x).deleted
+  pub sampling_mode : (x : ℕ) → (after x).sampling_mode ≡ (kept x).sampling_mode
+  pub unit : (x : ℕ) → (after x).unit ≡ (kept x).unit
+
+-- the spaces, with the marks and the assumptions of others as well
+abbrev pub with_marks : Spaces → Spaces → Spaces
+with_marks q p = record (with_search_side q p) { kept = q.kept; assumptions = q.assumptions }
+
+-- the state, with the clauses, the assumptions and the verdict of another
+abbrev pub asked_as : State → State → State
+asked_as t s = record s { clauses = t.clauses; assumptions = t.assumptions; verdict = t.verdict }
+
+-- Marks changed too, and what the state was asked: what was said of the names and the units stays.
+pub relinked-marks : (w : Carrying) (p q : Spaces) (s t : State) → Links w p s → AreRemarked p.kept q.kept → IsolationFits w.identity w.forced q.kept t.clauses s.naming.made → MarksFit p.global_from_user q.kept q.assumptions → IsWellFormed (asked_as t s) → SearchLinks w (with_marks q p) (asked_as t s) → Links w (with_marks q p) (asked_as t s)
+relinked-marks w p q s t k a isolation marks well l = record {
+  identities = identities-same w.identity w.global p.kept q.kept s.naming.made a.deleted k.identities;
+  names = k.names;
+  modes = modes-same w.identity p.global_from_user p.user_from_global p.global_from_user p.user_from_global p.kept q.kept s.naming.modes (λ u. refl) (λ x. refl) a.sampling_mode k.modes;
+  watermark = k.watermark;
+  globals = k.globals;
+  units = units-same w.identity w.forced p.kept q.kept s.counted a.unit k.units;
+  isolation = isolation;
+  solvers = l.solvers;
+  holds = l.holds;
+  assumptions = l.assumptions;
+  marks = marks;
+  working = l.working;
+  verdict = l.verdict;
+  core = l.core;
+  right = l.right;
+  well_formed = well;
+  few = l.few;
+  shown = λ o y h. a.deleted y ∙ k.shown o y h;
 }

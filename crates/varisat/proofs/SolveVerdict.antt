@@ -221,6 +221,19 @@ pub record HaveSameMaps (p q : Spaces) : Type 0 where
   pub kept : (x : ℕ) → q.kept x ≡ p.kept x
   pub model : (found : Assignment) → p.outcome ≡ outcome.Sat found → (x : ℕ) → q.model x ≡ p.model x
 
+-- they do where the spaces differ in the search and its parts alone, and what is kept and the model agree
+pub maps-alike : (p q : Spaces) → q ≡ record p { kept = q.kept; model = q.model; assumptions = q.assumptions; core = q.core; working = q.working; search = q.search; outcome = q.outcome; var_count = q.var_count } → ((x : ℕ) → q.kept x ≡ p.kept x) → ((found : Assignment) → p.outcome ≡ outcome.Sat found → (x : ℕ) → q.model x ≡ p.model x) → HaveSameMaps p q
+maps-alike p q e kept model = record {
+  global_from_user = λ u. ap (λ (y : Spaces). y.global_from_user u) e;
+  user_from_global = λ x. ap (λ (y : Spaces). y.user_from_global x) e;
+  watermark = ap (λ (y : Spaces). y.watermark) e;
+  globals = let g = ap (λ (y : Spaces). y.globals) e in omega (arith, g);
+  solver_from_global = λ x. ap (λ (y : Spaces). y.solver_from_global x) e;
+  global_from_solver = λ v. ap (λ (y : Spaces). y.global_from_solver v) e;
+  kept = kept;
+  model = model;
+}
+
 -- Two spaces agree at each place.
 pub record AreSame (p q : Spaces) : Type 0 where
   pub maps : HaveSameMaps p q
@@ -268,3 +281,7 @@ maps-same p q s m e = spaces-same p q s (record {
   outcome = ap (λ (x : Spaces). x.outcome) e;
   var_count = ap (λ (x : Spaces). x.var_count) e;
 })
+
+-- as many variables as before
+pub recount : (w : Carrying) (p : Spaces) (m n : ℕ) (s : State) → n ≡ m → Links w (record p { var_count = m }) s → Links w (record p { var_count = n }) s
+recount w p m n s e k = subst (λ c. Links w (record p { var_count = c }) s) (sym e) k

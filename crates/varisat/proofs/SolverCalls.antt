@@ -47,14 +47,14 @@ use Rattle.std.specs.declared.alloc.AllocError.{AllocError}
 use Rattle.varisat.specs.Carried.{carry, value_or}
 use Rattle.varisat.specs.Accepting.{HasUser}
 use Rattle.varisat.specs.Searches.{answer_at, FindsVerdict}
-use Rattle.varisat.specs.Spaces.{Spaces, Carrying, translation, CoreFits, VerdictFits, Links, SpacesFit, list_globals}
+use Rattle.varisat.specs.Spaces.{Carrying, translation, CoreFits, VerdictFits, Links, SpacesFit, list_globals}
 use Rattle.varisat.specs.Summaries.{Summary, IsKept, StandsFor, spaces, spaces_of, list_tables}
 use Rattle.varisat.proofs.AcceptLoad.{map-map}
 use Rattle.varisat.proofs.CallStates.{ledger_of, like-refl}
 use Rattle.varisat.proofs.VerdictAnswers.{right-false, right-core, core-answer}
 use Rattle.varisat.proofs.Carried.{carry-at, carry-sign}
 use Rattle.varisat.proofs.SettingsCalls.{summary_of}
-use Rattle.varisat.proofs.SolveVerdict.{spaces-same, sat-found, unsat-found, core-found, found, went-on}
+use Rattle.varisat.proofs.SolveVerdict.{maps-alike, recount, spaces-same, sat-found, unsat-found, core-found, found, went-on}
 use Rattle.varisat.proofs.ModelsFit.{told, is-sat, is-unsat, is-core, is-unknown}
 use Rattle.varisat.proofs.PlainTables.{assumed-named}
 use Rattle.varisat.proofs.AcceptClause.{with_tables, name-below, name-above, given-spaces}
@@ -144,10 +144,6 @@ new-named g s new u x f least b t =
 
 -- 3. A verdict.
 
--- as many variables as before
-recount : (w : Carrying) (p : Spaces) (m n : ℕ) (s : State) → n ≡ m → Links w (record p { var_count = m }) s → Links w (record p { var_count = n }) s
-recount w p m n s e k = subst (λ c. Links w (record p { var_count = c }) s) (sym e) k
-
 -- the state of a solver once the search found a verdict or none
 abbrev pub after_steps : Summary → View → AssumptionParts → SatState → Summary
 after_steps g t z after = record g { search = t; assumed = z; sat_state = after }
@@ -170,16 +166,7 @@ left-spaces g s t y z after v f =
     let (w, k) = f in
     let p = record (spaces g) { search = search_of t; outcome = outcome_of t y.failed_core after; model = (spaces (after_steps g t z after)).model; working = y.working; core = z.user_core } in
     spaces-same (record p { var_count = length t.values }) (spaces (after_steps g t z after)) s (record {
-      maps = record {
-        global_from_user = λ u. refl;
-        user_from_global = λ x. refl;
-        watermark = refl;
-        globals = omega arith;
-        solver_from_global = λ x. refl;
-        global_from_solver = λ u. refl;
-        kept = λ x. refl;
-        model = λ a e x. refl;
-      };
+      maps = maps-alike (record p { var_count = length t.values }) (spaces (after_steps g t z after)) refl (λ x. refl) (λ a e x. refl);
       assumptions = ap (λ (x : AssumptionParts). x.user) v.rest ∙ v.assumes.user;
       core = refl;
       working = ap (λ (x : AssumptionParts). x.working) v.rest;
@@ -323,8 +310,9 @@ sat-right g s st valid e =
     let r = subst (IsRight s.clauses s.assumptions s.counted) v k.right in
     (a, r.0, r.1)
 
-pub found-true : (g : Summary) (s : State) (t : View) (y z : AssumptionParts) (after : SatState) → answer_at after ≡ Some true → StandsFor g s → g.ledger.valid ≡ true → StepsMade g t y z after → IsSatisfiableWith s.clauses s.assumptions
-found-true g s t y z after e st v f = let d = decided g s t y z after true e st v f in go d.verdict d.answer d.right
+-- the verdict that a search came to says so of the state
+pub found-true : (g : Summary) (s : State) → Decided g s true → IsSatisfiableWith s.clauses s.assumptions
+found-true g s d = go d.verdict d.answer d.right
   where
     go : (v : Verdict) → answer_of v ≡ Some true → IsRight s.clauses s.assumptions s.counted v → IsSatisfiableWith s.clauses s.assumptions
     go Unknown q r = absurd cc
@@ -332,8 +320,8 @@ found-true g s t y z after e st v f = let d = decided g s t y z after true e st 
     go Unsat q r = absurd cc
     go (UnsatUnderAssumptions core) q r = absurd cc
 
-pub found-false : (g : Summary) (s : State) (t : View) (y z : AssumptionParts) (after : SatState) → answer_at after ≡ Some false → StandsFor g s → g.ledger.valid ≡ true → StepsMade g t y z after → IsSatisfiableWith s.clauses s.assumptions → ⊥
-found-false g s t y z after e st v f = let d = decided g s t y z after false e st v f in right-false s.clauses s.assumptions s.counted d.verdict d.answer d.right
+pub found-false : (g : Summary) (s : State) → Decided g s false → IsSatisfiableWith s.clauses s.assumptions → ⊥
+found-false g s d = right-false s.clauses s.assumptions s.counted d.verdict d.answer d.right
 
 pub sat-answer : (g : Summary) (s : State) → StandsFor g s → g.ledger.valid ≡ true → g.sat_state ≡ verdict.Sat → answer_of s.verdict ≡ Some true
 sat-answer g s st v e = let (w, k) = st.fits v in ap answer_of (is-sat w.identity (spaces g).model (assignment_of g.search) s.verdict (subst (λ y. VerdictFits w.identity (spaces g).model y s.verdict) (ap (outcome_of g.search g.assumed.failed_core) e) k.verdict)).1

@@ -42,7 +42,7 @@ use Rattle.varisat.proofs.NamesComing.{one-watermark, next-below, all-made}
 use Rattle.varisat.proofs.PlainTables.{is-there, there-is, assumed-keeps, marked-keeps}
 use Rattle.varisat.proofs.AcceptClause.{with_tables, named-one, HasNoModel, taken-one, raised, counted-spaces}
 use Rattle.varisat.proofs.AcceptSolverVariables.{solvers-few}
-use Rattle.varisat.proofs.ReturnedVariables.{no-model, returned, unsat-or-not, state-back, parts-back}
+use Rattle.varisat.proofs.ReturnedVariables.{kept-verdict, no-model, returned, unsat-or-not, state-back, parts-back}
 use Rattle.varisat.proofs.SearchViews.{view-long}
 
 -- 1. There is room.
@@ -258,10 +258,15 @@ have-solvers (l ∷ d) old new none linked k (mid, v, h, rest) =
 
 -- 5. Before and after.
 
-pub has-variables : {A : Type 0} (t : Tables) (c : Context A) → IsKept t c → HasVariables {A = A} (record { tables = t; context = c })
-has-variables t c k = record { room = (k.bounded.users, k.bounded.globals); solvers = k.bounded.solvers; ready = k.ready; count = k.count; decidable = k.decidable }
+pub has-variables : {A : Type 0} (t : Tables) (c : Context A) (state : SolverState) → IsKept t c → HasVariables {A = A} (record { tables = t; context = record c { solver_state = state } })
+has-variables t c state k = record { room = (k.bounded.users, k.bounded.globals); solvers = k.bounded.solvers; ready = (kept-verdict t c (record c { solver_state = state }) refl k).ready; count = k.count; decidable = k.decidable }
 
-module _ {A : Type 0} (list literals : List Literal) (t : Tables) (c : Context A) (k : IsKept t c) (over : AreOver (chain (at t.users.forward) (at t.solvers.forward)) list literals) where
+-- names get solver variables once the verdict changed
+pub have-solvers-then : {A : Type 0} (d : List Literal) (t : Tables) (c : Context A) (state : SolverState) (new : Searched A) → state.sat_state ≢ verdict.Sat → AreLinked t → IsKept t c → HaveSolversInTurn d (record { tables = t; context = record c { solver_state = state } }) new → HaveSolvers d (record { tables = t; context = record c { solver_state = state } }) new
+have-solvers-then d t c state new none linked k e = have-solvers d (record { tables = t; context = record c { solver_state = state } }) new none linked (kept-verdict t c (record c { solver_state = state }) refl k) e
+
+-- Names that have solver variables, carried to literals over these.
+module _ {A : Type 0} {t : Tables} {c : Context A} (list literals : List Literal) (k : IsKept t c) (over : AreOver (chain (at t.users.forward) (at t.solvers.forward)) list literals) where
   pub all-named : HasNames list t
   all-named = record {
     bounded = k.bounded;

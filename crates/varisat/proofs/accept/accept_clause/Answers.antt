@@ -1,5 +1,5 @@
 -- What each part did to the maps and to the search.
-use Rattle.std.proofs.Common.{◌≢◌, false, [], sym, ap, ap₂, ◌∙◌, subst, refl, length, map}
+use Rattle.std.proofs.Common.{◌≢◌, false, [], sym, ap, ap₂, ◌∙◌, subst, length, map}
 use Rattle.std.specs.Option.{IsSome}
 use Rattle.varisat_theory.specs.Membership.{◌∈◌}
 use Rattle.varisat_theory.specs.Literals.{variable_of}
@@ -19,8 +19,8 @@ use Rattle.varisat.specs.Names.{name_all, through_names}
 use Rattle.varisat.specs.Calls.{with_naming, reopened_verdict, with_verdict}
 use Rattle.varisat.specs.Spaces.{SpacesFit}
 use Rattle.varisat.specs.Summaries.{Summary, spaces_of}
-use Rattle.varisat.proofs.ReturnedVariables.{kept-verdict, reopened-not, no-model-reopened, reopened-spaces, verdict-after}
-use Rattle.varisat.proofs.SolversInTurn.{HaveSolvers, have-solvers, has-variables, can-have-room, over-leads, over-carried, all-named, literals-within, literals-decidable}
+use Rattle.varisat.proofs.ReturnedVariables.{reopened-not, no-model-reopened, reopened-spaces, verdict-after}
+use Rattle.varisat.proofs.SolversInTurn.{HaveSolvers, have-solvers-then, has-variables, can-have-room, over-leads, over-carried, all-named, literals-within, literals-decidable}
 use Rattle.varisat.proofs.TableMarks.{marks-bounded, joined-same, assumed-joined}
 use Rattle.varisat.proofs.AcceptClause.{clause-accepted}
 use Rattle.varisat.proofs.VariablesInUse.{same-in-use, tables-in-use}
@@ -30,9 +30,7 @@ use Rattle.varisat.proofs.accept.accept_clause.Goals.{In_ok-solver_from_user_lit
 use Rattle.varisat.proofs.accept.accept_clause.Goals as goal
 
 pub solver_from_user_lits-requires-clause-variables : goal.solver_from_user_lits-requires-clause-variables
-solver_from_user_lits-requires-clause-variables g c =
-    let now = record c.args.ctx.now { solver_state = c.reopen.new.self } in
-    has-variables c.args.variables.now now (kept-verdict c.args.variables.now c.args.ctx.now now refl c.requires.kept)
+solver_from_user_lits-requires-clause-variables g c = has-variables c.args.variables.now c.args.ctx.now c.reopen.new.self c.requires.kept
 
 pub solver_from_user_lits-requires-clause-room : goal.solver_from_user_lits-requires-clause-room
 solver_from_user_lits-requires-clause-room g c = can-have-room c.args.clause.now c.args.variables.now c.requires.names
@@ -40,31 +38,29 @@ solver_from_user_lits-requires-clause-room g c = can-have-room c.args.clause.now
 -- the names have solver variables
 have : (g : Over) (c : In_ok-solver_from_user_lits g) → HaveSolvers {A = g.row.A.Denot} c.args.clause.now (record { tables = c.args.variables.now; context = record c.args.ctx.now { solver_state = c.reopen.new.self } }) (record { tables = c.solver_from_user_lits.new.variables; context = c.solver_from_user_lits.new.ctx })
 have g c =
-    let now = record c.args.ctx.now { solver_state = c.reopen.new.self } in
-    have-solvers c.args.clause.now (record { tables = c.args.variables.now; context = now }) (record { tables = c.solver_from_user_lits.new.variables; context = c.solver_from_user_lits.new.ctx })
-    (λ e. no-model-reopened c.args.ctx.now.solver_state.sat_state (ap (λ (x : SolverState). x.sat_state) (sym c.reopen.ensures) ∙ e))
-    c.prove_linked.ensures (kept-verdict c.args.variables.now c.args.ctx.now now refl c.requires.kept) (c.in_ok-solver_from_user_lits.ensures {u = tt}).in_turn
+    have-solvers-then c.args.clause.now c.args.variables.now c.args.ctx.now c.reopen.new.self (record { tables = c.solver_from_user_lits.new.variables; context = c.solver_from_user_lits.new.ctx }) (λ e. no-model-reopened c.args.ctx.now.solver_state.sat_state (ap (λ (x : SolverState). x.sat_state) (sym c.reopen.ensures) ∙ e))
+    c.prove_linked.ensures c.requires.kept (c.in_ok-solver_from_user_lits.ensures {u = tt}).in_turn
+
+pub mark_joined-requires : goal.mark_joined-requires
+mark_joined-requires g c =
+    let here = (goal.at.mark_joined-requires g c).In_ok-solver_from_user_lits in
+    all-named c.args.clause.now c.solver_from_user_lits.new.solver_lits.items (have g here).kept (c.in_ok-solver_from_user_lits.ensures {u = tt}).literals
+
+pub load_clause-requires-clause-in_range : goal.load_clause-requires-clause-in_range
+load_clause-requires-clause-in_range g c l h =
+    let here = (goal.at.load_clause-requires-clause-in_range g c).In_ok-solver_from_user_lits in
+    literals-within c.args.clause.now c.solver_from_user_lits.new.solver_lits.items (have g here).kept (c.in_ok-solver_from_user_lits.ensures {u = tt}).literals c.prove_linked-2.ensures l (subst (λ ls. l ∈ ls) c.deref.ensures.value h)
+
+pub load_clause-requires-clause-decidable : goal.load_clause-requires-clause-decidable
+load_clause-requires-clause-decidable g c l h =
+    let here = (goal.at.load_clause-requires-clause-decidable g c).In_ok-solver_from_user_lits in
+    literals-decidable c.args.clause.now c.solver_from_user_lits.new.solver_lits.items (have g here).kept (c.in_ok-solver_from_user_lits.ensures {u = tt}).literals c.prove_linked-2.ensures l (subst (λ ls. l ∈ ls) c.deref.ensures.value h)
 
 -- the verdict is not Unsat when the clause is loaded
 opened : (g : Over) (c : In_ok-solver_from_user_lits g) → c.solver_from_user_lits.new.ctx.solver_state.sat_state ≢ verdict.Unsat
 opened g c e =
     reopened-not c.args.ctx.now.solver_state.sat_state c.requires.unsettled
     (ap (λ (x : SolverState). x.sat_state) (sym c.reopen.ensures) ∙ ap (λ (x : SolverState). x.sat_state) (sym (have g c).verdict.state) ∙ e)
-
-pub mark_joined-requires : goal.mark_joined-requires
-mark_joined-requires g c =
-    let here = (goal.at.mark_joined-requires g c).In_ok-solver_from_user_lits in
-    all-named c.args.clause.now c.solver_from_user_lits.new.solver_lits.items c.solver_from_user_lits.new.variables c.solver_from_user_lits.new.ctx (have g here).kept (c.in_ok-solver_from_user_lits.ensures {u = tt}).literals
-
-pub load_clause-requires-clause-in_range : goal.load_clause-requires-clause-in_range
-load_clause-requires-clause-in_range g c l h =
-    let here = (goal.at.load_clause-requires-clause-in_range g c).In_ok-solver_from_user_lits in
-    literals-within c.args.clause.now c.solver_from_user_lits.new.solver_lits.items c.solver_from_user_lits.new.variables c.solver_from_user_lits.new.ctx (have g here).kept (c.in_ok-solver_from_user_lits.ensures {u = tt}).literals c.prove_linked-2.ensures l (subst (λ ls. l ∈ ls) c.deref.ensures.value h)
-
-pub load_clause-requires-clause-decidable : goal.load_clause-requires-clause-decidable
-load_clause-requires-clause-decidable g c l h =
-    let here = (goal.at.load_clause-requires-clause-decidable g c).In_ok-solver_from_user_lits in
-    literals-decidable c.args.clause.now c.solver_from_user_lits.new.solver_lits.items c.solver_from_user_lits.new.variables c.solver_from_user_lits.new.ctx (have g here).kept (c.in_ok-solver_from_user_lits.ensures {u = tt}).literals c.prove_linked-2.ensures l (subst (λ ls. l ∈ ls) c.deref.ensures.value h)
 
 pub returns-clause-state : goal.returns-clause-state
 returns-clause-state g c =

@@ -1,5 +1,5 @@
 -- What each part did to the maps, the marks and the search.
-use Rattle.std.proofs.Common.{true, false, sym, ap, ap₂, ◌∙◌, subst, refl, length, map}
+use Rattle.std.proofs.Common.{true, false, sym, ap, ap₂, ◌∙◌, subst, length, map}
 use Rattle.varisat_theory.specs.Membership.{◌∈◌}
 use Rattle.varisat_theory.specs.Literals.{variable_of}
 use Rattle.varisat_names.specs.Maps.{chain}
@@ -14,8 +14,8 @@ use Rattle.varisat.specs.Calls.{with_naming, assumed_verdict, with_assumptions, 
 use Rattle.varisat.specs.Spaces.{SpacesFit}
 use Rattle.varisat.specs.Summaries.{Summary, spaces_of}
 use Rattle.varisat.proofs.AssumeList.{forgets, list-assumed}
-use Rattle.varisat.proofs.ReturnedVariables.{kept-verdict, no-model-assumed, assumed-again}
-use Rattle.varisat.proofs.SolversInTurn.{HaveSolvers, have-solvers, has-variables, can-have-room, over-leads, over-carried, all-named, literals-within, literals-decidable}
+use Rattle.varisat.proofs.ReturnedVariables.{no-model-assumed, assumed-again}
+use Rattle.varisat.proofs.SolversInTurn.{HaveSolvers, have-solvers-then, has-variables, can-have-room, over-leads, over-carried, all-named, literals-within, literals-decidable}
 use Rattle.varisat.proofs.VariablesInUse.{same-in-use, tables-in-use}
 use Rattle.varisat.proofs.TableMarks.{names-marked, marked-same, assumed-listed}
 use Rattle.varisat.proofs.accept.assume_list.Given.{Over}
@@ -23,9 +23,7 @@ use Rattle.varisat.proofs.accept.assume_list.Goals.{In_ok-solver_from_user_lits}
 use Rattle.varisat.proofs.accept.assume_list.Goals as goal
 
 pub solver_from_user_lits-requires-clause-variables : goal.solver_from_user_lits-requires-clause-variables
-solver_from_user_lits-requires-clause-variables g c =
-    let now = record c.args.ctx.now { solver_state = c.assume.new.self } in
-    has-variables c.args.variables.now now (kept-verdict c.args.variables.now c.args.ctx.now now refl c.requires.kept)
+solver_from_user_lits-requires-clause-variables g c = has-variables c.args.variables.now c.args.ctx.now c.assume.new.self c.requires.kept
 
 pub solver_from_user_lits-requires-clause-room : goal.solver_from_user_lits-requires-clause-room
 solver_from_user_lits-requires-clause-room g c = can-have-room c.args.list.now c.args.variables.now c.requires.names
@@ -33,10 +31,8 @@ solver_from_user_lits-requires-clause-room g c = can-have-room c.args.list.now c
 -- the names have solver variables
 have : (g : Over) (c : In_ok-solver_from_user_lits g) → HaveSolvers {A = g.row.A.Denot} c.args.list.now (record { tables = c.args.variables.now; context = record c.args.ctx.now { solver_state = c.assume.new.self } }) (record { tables = c.solver_from_user_lits.new.variables; context = c.solver_from_user_lits.new.ctx })
 have g c =
-    let now = record c.args.ctx.now { solver_state = c.assume.new.self } in
-    have-solvers c.args.list.now (record { tables = c.args.variables.now; context = now }) (record { tables = c.solver_from_user_lits.new.variables; context = c.solver_from_user_lits.new.ctx })
-    (λ e. no-model-assumed c.args.ctx.now.solver_state.sat_state (ap (λ (x : SolverState). x.sat_state) (sym c.assume.ensures) ∙ e))
-    c.prove_linked.ensures (kept-verdict c.args.variables.now c.args.ctx.now now refl c.requires.kept) (c.in_ok-solver_from_user_lits.ensures {u = tt}).in_turn
+    have-solvers-then c.args.list.now c.args.variables.now c.args.ctx.now c.assume.new.self (record { tables = c.solver_from_user_lits.new.variables; context = c.solver_from_user_lits.new.ctx }) (λ e. no-model-assumed c.args.ctx.now.solver_state.sat_state (ap (λ (x : SolverState). x.sat_state) (sym c.assume.ensures) ∙ e))
+    c.prove_linked.ensures c.requires.kept (c.in_ok-solver_from_user_lits.ensures {u = tt}).in_turn
 
 pub mark_assumed-requires : goal.mark_assumed-requires
 mark_assumed-requires g c =
@@ -46,7 +42,7 @@ mark_assumed-requires g c =
 
 -- the names of the list are in use
 in-use : (g : Over) (c : In_ok-solver_from_user_lits g) → HasNames c.args.list.now c.solver_from_user_lits.new.variables
-in-use g c = all-named c.args.list.now c.solver_from_user_lits.new.solver_lits.items c.solver_from_user_lits.new.variables c.solver_from_user_lits.new.ctx (have g c).kept (c.in_ok-solver_from_user_lits.ensures {u = tt}).literals
+in-use g c = all-named c.args.list.now c.solver_from_user_lits.new.solver_lits.items (have g c).kept (c.in_ok-solver_from_user_lits.ensures {u = tt}).literals
 
 pub mark_assumed-requires-2 : goal.mark_assumed-requires-2
 mark_assumed-requires-2 g c =
@@ -57,12 +53,12 @@ mark_assumed-requires-2 g c =
 pub set_assumptions-requires-clause-in_range : goal.set_assumptions-requires-clause-in_range
 set_assumptions-requires-clause-in_range g c l h =
     let here = (goal.at.set_assumptions-requires-clause-in_range g c).In_ok-solver_from_user_lits in
-    literals-within c.args.list.now c.solver_from_user_lits.new.solver_lits.items c.solver_from_user_lits.new.variables c.solver_from_user_lits.new.ctx (have g here).kept (c.in_ok-solver_from_user_lits.ensures {u = tt}).literals c.prove_linked-2.ensures l (subst (λ ls. l ∈ ls) c.deref.ensures.value h)
+    literals-within c.args.list.now c.solver_from_user_lits.new.solver_lits.items (have g here).kept (c.in_ok-solver_from_user_lits.ensures {u = tt}).literals c.prove_linked-2.ensures l (subst (λ ls. l ∈ ls) c.deref.ensures.value h)
 
 pub set_assumptions-requires-clause-decidable : goal.set_assumptions-requires-clause-decidable
 set_assumptions-requires-clause-decidable g c l h =
     let here = (goal.at.set_assumptions-requires-clause-decidable g c).In_ok-solver_from_user_lits in
-    literals-decidable c.args.list.now c.solver_from_user_lits.new.solver_lits.items c.solver_from_user_lits.new.variables c.solver_from_user_lits.new.ctx (have g here).kept (c.in_ok-solver_from_user_lits.ensures {u = tt}).literals c.prove_linked-2.ensures l (subst (λ ls. l ∈ ls) c.deref.ensures.value h)
+    literals-decidable c.args.list.now c.solver_from_user_lits.new.solver_lits.items (have g here).kept (c.in_ok-solver_from_user_lits.ensures {u = tt}).literals c.prove_linked-2.ensures l (subst (λ ls. l ∈ ls) c.deref.ensures.value h)
 
 pub returns-clause-state : goal.returns-clause-state
 returns-clause-state g c =

@@ -1,15 +1,15 @@
-use Rattle.std.proofs.Common.{◌≡◌, ◌<◌, ◌↔◌, Bool, false, Option, List, length, map, sym, ap, ◌∙◌, subst}
+use Rattle.std.proofs.Common.{◌≡◌, ◌<◌, Bool, false, Option, List, length, map, sym, ap, ◌∙◌, subst}
 use Rattle.varisat_theory.specs.Membership.{◌∈◌, IsDistinct}
 use Rattle.varisat_theory.specs.Literals.{variable_of}
 use Rattle.varisat_prop.specs.Leaving.{leaves}
 use Rattle.varisat_prop.proofs.SimplifiedPairs.{∈-filter}
 use Rattle.varisat_names.specs.VarMap.{at}
 use Rattle.varisat_search.specs.declared.context.Context.{Context}
-use Rattle.varisat_search.specs.Decisions.{IsDecidable}
-use Rattle.varisat_search.specs.Forgotten.{IsWithout, search_without}
+use Rattle.varisat_search.specs.Forgotten.{search_without}
 use Rattle.varisat_search.specs.Seen.{search_of}
 use Rattle.varisat_search.specs.Contexts.{view}
 use Rattle.varisat.specs.Dropping.{leads_to_unassumed, unassumed_among, FlagsVariables, AreDroppedAlone, LeavesTables}
+use Rattle.varisat.proofs.DroppedKept.{HaveLeft, have-left}
 use Rattle.varisat.proofs.DroppedListed.{on-inside, unmentioned, assumed-stay, unassumed-distinct, unassumed-taken, kept-dropped, none-left, stands-dropped}
 use Rattle.varisat.proofs.dropping.drop_listed.Given.{Over}
 use Rattle.varisat.proofs.dropping.drop_listed.Goals.{In_ok-gone, In_ok-drop_solver_vars}
@@ -55,43 +55,36 @@ drop_solver_vars-requires-clause-distinct g c =
     subst (λ ls. IsDistinct (map variable_of ls)) (sym (c.deref-3.ensures.value ∙ c.in_ok-list_unassumed.ensures {u = tt} ∙ ap (unassumed_among m) c.trail.ensures))
     (unassumed-distinct (view c.args.ctx.now) c.requires.kept.ready.well c.requires.settled m)
 
+-- just these were dropped from the tables
 dropped : (g : Over) (c : In_ok-drop_solver_vars g) → AreDroppedAlone (unassumed_among c.args.variables.now c.args.ctx.now.trail.literals) c.args.variables.now c.drop_solver_vars.new.variables
 dropped g c =
     let m = c.args.variables.now in
     subst (λ ls. AreDroppedAlone ls m c.drop_solver_vars.new.variables) (c.deref-3.ensures.value ∙ c.in_ok-list_unassumed.ensures {u = tt} ∙ ap (unassumed_among m) c.trail.ensures) (c.in_ok-drop_solver_vars.ensures {u = tt}).dropped
 
-left : (g : Over) (c : In_ok-drop_solver_vars g) → LeavesTables (unassumed_among c.args.variables.now c.args.ctx.now.trail.literals) c.args.variables.now c.drop_solver_vars.new.variables
-left g c =
+-- they left the tables and the search
+left : (g : Over) (c : In_ok-drop_solver_vars g) → FlagsVariables (length c.args.ctx.now.assignment.current) (unassumed_among c.args.variables.now c.args.ctx.now.trail.literals) c.in_ok-gone.gone.items → HaveLeft c.args.variables.now c.drop_solver_vars.new.variables c.args.ctx.now c.drop_variables.new.ctx c.in_ok-gone.gone.items (unassumed_among c.args.variables.now c.args.ctx.now.trail.literals) (length c.args.ctx.now.assignment.current)
+left g c f =
     let m = c.args.variables.now in
-    subst (λ ls. LeavesTables ls m c.drop_solver_vars.new.variables) (c.deref-3.ensures.value ∙ c.in_ok-list_unassumed.ensures {u = tt} ∙ ap (unassumed_among m) c.trail.ensures) (c.in_ok-drop_solver_vars.ensures {u = tt}).rest
+    let x = c.args.ctx.now in
+    let e = c.drop_variables.ensures in
+    have-left m c.drop_solver_vars.new.variables x c.drop_variables.new.ctx c.deref-2.result.now c.in_ok-gone.gone.items (unassumed_among m x.trail.literals) (length x.assignment.current) c.deref-2.ensures.value c.prove_linked.ensures c.requires.kept f
+    (subst (λ ls. LeavesTables ls m c.drop_solver_vars.new.variables) (c.deref-3.ensures.value ∙ c.in_ok-list_unassumed.ensures {u = tt} ∙ ap (unassumed_among m) c.trail.ensures) (c.in_ok-drop_solver_vars.ensures {u = tt}).rest)
+    e.dropped (ap (λ (z : Context g.row.A.Denot). z.assumptions) e.kept) e.ready e.decidable
 
 pub returns-clause-kept : goal.returns-clause-kept
 returns-clause-kept g c =
-    let here = (goal.at.returns-clause-kept g c).In_ok-drop_solver_vars in
-    let flagged = (goal.at.returns-clause-kept g c).In_ok-gone in
-    let x = c.args.ctx.now in
-    let y = c.drop_variables.new.ctx in
-    let e = c.drop_variables.ensures in
-    let gone = c.in_ok-gone.gone.items in
-    kept-dropped c.args.variables.now c.drop_solver_vars.new.variables x y gone c.prove_linked.ensures c.requires.kept c.requires.settled (flags g flagged) e.ready (subst (λ fs. IsWithout fs (view x) (view y)) c.deref-2.ensures.value e.dropped) (ap (λ (z : Context g.row.A.Denot). z.assumptions) e.kept) (dropped g here) (left g here)
-    (λ v. subst (λ fs. IsDecidable (view y) y.vsids v ↔ (IsDecidable (view x) x.vsids v × (leaves fs v ≡ false))) c.deref-2.ensures.value (e.decidable v))
+    let here = goal.at.returns-clause-kept g c in
+    kept-dropped (left g here.In_ok-drop_solver_vars (flags g here.In_ok-gone))
 
 pub returns-clause-left : goal.returns-clause-left
 returns-clause-left g c =
-    let here = (goal.at.returns-clause-left g c).In_ok-drop_solver_vars in
-    let flagged = (goal.at.returns-clause-left g c).In_ok-gone in
-    let x = c.args.ctx.now in
-    let y = c.drop_variables.new.ctx in
-    let e = c.drop_variables.ensures in
-    none-left c.args.variables.now c.drop_solver_vars.new.variables x y c.in_ok-gone.gone.items c.prove_linked.ensures c.requires.kept c.requires.settled (flags g flagged) e.ready (subst (λ fs. IsWithout fs (view x) (view y)) c.deref-2.ensures.value e.dropped) (ap (λ (z : Context g.row.A.Denot). z.assumptions) e.kept) (dropped g here) (left g here)
+    let here = goal.at.returns-clause-left g c in
+    none-left (left g here.In_ok-drop_solver_vars (flags g here.In_ok-gone))
 
 pub returns-clause-stands : goal.returns-clause-stands
 returns-clause-stands g c s fit =
-    let here = (goal.at.returns-clause-stands g c).In_ok-drop_solver_vars in
-    let flagged = (goal.at.returns-clause-stands g c).In_ok-gone in
+    let here = goal.at.returns-clause-stands g c in
     let x = c.args.ctx.now in
     let y = c.drop_variables.new.ctx in
-    let e = c.drop_variables.ensures in
-    let gone = c.in_ok-gone.gone.items in
-    stands-dropped c.args.variables.now c.drop_solver_vars.new.variables x y gone c.prove_linked.ensures c.requires.kept c.requires.settled (flags g flagged) e.ready (subst (λ fs. IsWithout fs (view x) (view y)) c.deref-2.ensures.value e.dropped) (ap (λ (z : Context g.row.A.Denot). z.assumptions) e.kept) (dropped g here) (left g here)
-    (subst (λ fs. search_of (view y) ≡ search_without fs (search_of (view x))) c.deref-2.ensures.value e.seen) s fit
+    stands-dropped (left g here.In_ok-drop_solver_vars (flags g here.In_ok-gone)) c.requires.settled (dropped g here.In_ok-drop_solver_vars)
+    (subst (λ fs. search_of (view y) ≡ search_without fs (search_of (view x))) c.deref-2.ensures.value c.drop_variables.ensures.seen) s fit

@@ -1,13 +1,13 @@
-use Rattle.std.proofs.Common.{◌≡◌, ◌<◌, ◌↔◌, Bool, false, Option, List, length, map, sym, ap, ◌∙◌, subst}
+use Rattle.std.proofs.Common.{◌≡◌, ◌<◌, Bool, false, Option, List, length, map, sym, ap, ◌∙◌, subst}
 use Rattle.varisat_theory.specs.Membership.{◌∈◌, IsDistinct}
 use Rattle.varisat_theory.specs.Literals.{variable_of}
 use Rattle.varisat_prop.specs.Leaving.{leaves}
 use Rattle.varisat_search.specs.declared.context.Context.{Context}
-use Rattle.varisat_search.specs.Decisions.{IsDecidable}
-use Rattle.varisat_search.specs.Forgotten.{IsWithout, search_without}
+use Rattle.varisat_search.specs.Forgotten.{search_without}
 use Rattle.varisat_search.specs.Seen.{search_of}
 use Rattle.varisat_search.specs.Contexts.{view}
 use Rattle.varisat.specs.Dropping.{FlagsVariables, ListsUnneeded, AreReleased, LeavesTables}
+use Rattle.varisat.proofs.DroppedKept.{HaveLeft, have-left}
 use Rattle.varisat.proofs.DroppedUnneeded.{unneeded-inside, unneeded-taken, unneeded-unmentioned, named-stay, kept-released, needed-left, stands-released}
 use Rattle.varisat.proofs.dropping.drop_unneeded.Given.{Over}
 use Rattle.varisat.proofs.dropping.drop_unneeded.Goals.{In_ok-gone, In_ok-list_unneeded, In_ok-release_solver_vars}
@@ -53,39 +53,30 @@ release_solver_vars-requires-clause-distinct g c =
     let before = (goal.at.release_solver_vars-requires-clause-distinct g c).In_ok-list_unneeded in
     subst (λ xs. IsDistinct (map variable_of xs)) (sym c.deref-4.ensures.value) (listed g before).distinct
 
-left : (g : Over) (c : In_ok-release_solver_vars g) → LeavesTables c.list_unneeded.new.unneeded.items c.args.variables.now c.release_solver_vars.new.variables
-left g c = subst (λ xs. LeavesTables xs c.args.variables.now c.release_solver_vars.new.variables) c.deref-4.ensures.value (c.in_ok-release_solver_vars.ensures {u = tt}).rest
+-- they left the tables and the search
+left : (g : Over) (c : In_ok-release_solver_vars g) → FlagsVariables (length c.in_ok-mentioned.mentioned.items) c.list_unneeded.new.unneeded.items c.in_ok-gone.gone.items → HaveLeft c.args.variables.now c.release_solver_vars.new.variables c.args.ctx.now c.drop_variables.new.ctx c.in_ok-gone.gone.items c.list_unneeded.new.unneeded.items (length c.in_ok-mentioned.mentioned.items)
+left g c f =
+    let x = c.args.ctx.now in
+    let e = c.drop_variables.ensures in
+    have-left c.args.variables.now c.release_solver_vars.new.variables x c.drop_variables.new.ctx c.deref-3.result.now c.in_ok-gone.gone.items c.list_unneeded.new.unneeded.items (length c.in_ok-mentioned.mentioned.items) c.deref-3.ensures.value c.prove_linked.ensures c.requires.kept f
+    (subst (λ xs. LeavesTables xs c.args.variables.now c.release_solver_vars.new.variables) c.deref-4.ensures.value (c.in_ok-release_solver_vars.ensures {u = tt}).rest)
+    e.dropped (ap (λ (z : Context g.row.A.Denot). z.assumptions) e.kept) e.ready e.decidable
 
 pub returns-clause-kept : goal.returns-clause-kept
 returns-clause-kept g c =
-    let here = (goal.at.returns-clause-kept g c).In_ok-release_solver_vars in
-    let flagged = (goal.at.returns-clause-kept g c).In_ok-gone in
-    let before = (goal.at.returns-clause-kept g c).In_ok-list_unneeded in
-    let x = c.args.ctx.now in
-    let y = c.drop_variables.new.ctx in
-    let e = c.drop_variables.ensures in
-    kept-released c.args.variables.now c.release_solver_vars.new.variables x y c.in_ok-mentioned.mentioned.items c.in_ok-gone.gone.items c.list_unneeded.new.unneeded.items c.prove_linked.ensures c.requires.kept c.requires.left c.in_ok-mentioned.ensures (listed g before) (flags g flagged) (subst (λ fs. IsWithout fs (view x) (view y)) c.deref-3.ensures.value e.dropped) (ap (λ (z : Context g.row.A.Denot). z.assumptions) e.kept) (left g here) e.ready
-    (λ v. subst (λ fs. IsDecidable (view y) y.vsids v ↔ (IsDecidable (view x) x.vsids v × (leaves fs v ≡ false))) c.deref-3.ensures.value (e.decidable v))
+    let here = goal.at.returns-clause-kept g c in
+    kept-released c.requires.left c.in_ok-mentioned.ensures (listed g here.In_ok-list_unneeded) (left g here.In_ok-release_solver_vars (flags g here.In_ok-gone))
 
 pub returns-clause-left : goal.returns-clause-left
 returns-clause-left g c =
-    let here = (goal.at.returns-clause-left g c).In_ok-release_solver_vars in
-    let flagged = (goal.at.returns-clause-left g c).In_ok-gone in
-    let before = (goal.at.returns-clause-left g c).In_ok-list_unneeded in
-    let x = c.args.ctx.now in
-    let y = c.drop_variables.new.ctx in
-    let e = c.drop_variables.ensures in
-    needed-left c.args.variables.now c.release_solver_vars.new.variables x y c.in_ok-mentioned.mentioned.items c.in_ok-gone.gone.items c.list_unneeded.new.unneeded.items c.prove_linked.ensures c.requires.kept c.requires.left c.in_ok-mentioned.ensures (listed g before) (flags g flagged) (subst (λ fs. IsWithout fs (view x) (view y)) c.deref-3.ensures.value e.dropped) (ap (λ (z : Context g.row.A.Denot). z.assumptions) e.kept) (left g here)
+    let here = goal.at.returns-clause-left g c in
+    needed-left c.requires.left c.in_ok-mentioned.ensures (listed g here.In_ok-list_unneeded) (left g here.In_ok-release_solver_vars (flags g here.In_ok-gone))
 
 pub returns-clause-stands : goal.returns-clause-stands
 returns-clause-stands g c s fit =
-    let here = (goal.at.returns-clause-stands g c).In_ok-release_solver_vars in
-    let flagged = (goal.at.returns-clause-stands g c).In_ok-gone in
-    let before = (goal.at.returns-clause-stands g c).In_ok-list_unneeded in
+    let here = goal.at.returns-clause-stands g c in
     let x = c.args.ctx.now in
     let y = c.drop_variables.new.ctx in
-    let e = c.drop_variables.ensures in
-    let n = c.release_solver_vars.new.variables in
-    stands-released c.args.variables.now n x y c.in_ok-mentioned.mentioned.items c.in_ok-gone.gone.items c.list_unneeded.new.unneeded.items c.prove_linked.ensures c.requires.kept c.requires.left c.in_ok-mentioned.ensures (listed g before) (flags g flagged) (subst (λ fs. IsWithout fs (view x) (view y)) c.deref-3.ensures.value e.dropped) (ap (λ (z : Context g.row.A.Denot). z.assumptions) e.kept) (left g here)
-    (subst (λ xs. AreReleased xs c.args.variables.now n) c.deref-4.ensures.value (c.in_ok-release_solver_vars.ensures {u = tt}).released)
-    (subst (λ fs. search_of (view y) ≡ search_without fs (search_of (view x))) c.deref-3.ensures.value e.seen) s fit
+    stands-released c.requires.left c.in_ok-mentioned.ensures (listed g here.In_ok-list_unneeded) (left g here.In_ok-release_solver_vars (flags g here.In_ok-gone))
+    (subst (λ xs. AreReleased xs c.args.variables.now c.release_solver_vars.new.variables) c.deref-4.ensures.value (c.in_ok-release_solver_vars.ensures {u = tt}).released)
+    (subst (λ fs. search_of (view y) ≡ search_without fs (search_of (view x))) c.deref-3.ensures.value c.drop_variables.ensures.seen) s fit

@@ -3,7 +3,7 @@ use Rattle.varisat_theory.specs.Literals.{variable_of}
 use Rattle.varisat_names.specs.VarMap.{at}
 use Rattle.varisat_search.specs.Contexts.{view}
 use Rattle.varisat_search.proofs.NamedVariables.{unmapped-near, unmapped-same}
-use Rattle.varisat.specs.Summaries.{Summary, spaces}
+use Rattle.varisat.specs.Summaries.{spaces}
 use Rattle.varisat.specs.States.{Ledger}
 use Rattle.varisat.specs.Names.{name_one}
 use Rattle.varisat.specs.Calls.{with_naming, start}
@@ -12,6 +12,7 @@ use Rattle.varisat_search.proofs.KeptNames.{given-keeps}
 use Rattle.varisat.proofs.PlainTables.{is-there, there-is, assumed-keeps, marked-keeps}
 use Rattle.varisat.proofs.KeptCounts.{given-most}
 use Rattle.varisat.proofs.CallStates.{stands-valid, like-refl, broken, broken-invalid}
+use Rattle.varisat.proofs.SettingsCalls.{summary_of}
 use Rattle.varisat.proofs.SolverCalls.{least-free, new-named}
 use Rattle.varisat.proofs.VariablesInUse.{tables-in-use}
 use Rattle.varisat.proofs.solver.Solver.new_var.Goals as goal
@@ -46,7 +47,7 @@ invariant_of-self g c v =
 pub returns-in-Ok : goal.returns-in-Ok
 returns-in-Ok g c s st =
     let q = rw (← c.self.view_is) at st in
-    let old : Summary = record { tables = c.self.inside.variables; search = view c.self.inside.ctx; assumed = c.self.inside.ctx.assumptions; sat_state = c.self.inside.ctx.solver_state.sat_state; ledger = s.ledger } in
+    let old = summary_of c.self.inside.variables c.self.inside.started c.self.inside.ctx in
     let f = q.fits (ap not c.if-self.false) in
     let u = c.in-Ok.user in
     let new = c.new_user_var.new.variables in
@@ -64,11 +65,9 @@ returns-in-Ok g c s st =
 pub returns-in-Err : goal.returns-in-Err
 returns-in-Err g c s st =
     let q = rw (← c.self.view_is) at st in
-    let old : Summary = record { tables = c.self.inside.variables; search = view c.self.inside.ctx; assumed = c.self.inside.ctx.assumptions; sat_state = c.self.inside.ctx.solver_state.sat_state; ledger = s.ledger } in
     let f = q.fits (ap not c.if-self.false) in
-    let u = c.next_unmapped_user-next.result in
-    let e = c.next_unmapped_user-next.ensures in (
+    let least = least-free (summary_of c.self.inside.variables c.self.inside.started c.self.inside.ctx) s c.next_unmapped_user-next.result f c.next_unmapped_user-next.ensures.least in (
       broken s,
-      ((u, least-free old s u f e.least, omega (arith, c.index.ensures.index, c.max_count.ensures, c.if-index-max_count.false)), broken-invalid s (stands-valid _ s q (ap not c.if-self.false)) f.1.well_formed),
+      ((c.next_unmapped_user-next.result, least, omega (arith, c.index.ensures.index, c.max_count.ensures, c.if-index-max_count.false)), broken-invalid s (stands-valid _ s q (ap not c.if-self.false)) f.1.well_formed),
       record { ledger = ap (λ (x : Ledger). record x { valid = false }) q.ledger; fits = λ e. absurd cc },
     )

@@ -8,24 +8,19 @@ use Rattle.varisat.proofs.Additions.{told-error}
 use Rattle.varisat.proofs.VariableStates.{unassumed-state, free-state, mode-refused, not-hide, mode-state, kept-after}
 use Rattle.varisat.proofs.solver.Solver.set_mode.Goals as goal
 
-pub set_named_mode-requires : goal.set_named_mode-requires
-set_named_mode-requires g c = c.in_ok-check_change.ensures
-
 pub invariant_of-self : goal.invariant_of-self
 invariant_of-self g c v = kept-after c.self.inside.ctx c.self.inside.variables c.set_named_mode.new.variables (c.self.invariant c.if-self.false) ((c.in-Ok.ensures {u = tt}).set.stays)
 
 pub returns-in_err-check_change : goal.returns-in_err-check_change
 returns-in_err-check_change g c s st =
-    let q = rw (← c.self.view_is) at st in
-    let k = begins q (ap not c.if-self.false) in
+    let k = begins (rw (← c.self.view_is) at st) (ap not c.if-self.false) in
     let n = mode_of c.args.mode in
     let refused = told-error c.from_residual.result c.in_err-check_change.field-0.0 c.from_residual.ensures in
     (s, subst (λ r. SetsMode named n s c.args.var r s) (sym refused) (mode-refused n c.args.var c.in_err-check_change.field-0.0 k c.in_err-check_change.ensures), st)
 
 pub returns-in-Ok : goal.returns-in-Ok
 returns-in-Ok g c s st =
-    let q = rw (← c.self.view_is) at st in
-    let k = begins q (ap not c.if-self.false) in
+    let k = begins (rw (← c.self.view_is) at st) (ap not c.if-self.false) in
     let u = c.args.var in
     let m = c.args.mode in
     let may = c.in_ok-check_change.ensures in
@@ -37,8 +32,7 @@ returns-in-Ok g c s st =
 
 pub returns-in-Err : goal.returns-in-Err
 returns-in-Err g c s st =
-    let q = rw (← c.self.view_is) at st in
-    let k = begins q (ap not c.if-self.false) in
+    let k = begins (rw (← c.self.view_is) at st) (ap not c.if-self.false) in
     let u = c.args.var in
     let may = c.in_ok-check_change.ensures in (
       broken s,

@@ -1,31 +1,68 @@
-use Rattle.std.proofs.Common.{◌≡◌, ◌∙◌, Ok, Err, Some, true, false, not, length, refl, sym, ap, subst}
+use Rattle.std.proofs.Common.{◌≡◌, ◌∙◌, Bool, Ok, Err, Option, Some, None, true, false, not, length, refl, sym, ap, subst}
 use Rattle.varisat_clause.specs.declared.alloc.StoreError.TheVariants.{Memory}
 use Rattle.varisat_schedule.specs.Plans.{Plan}
+use Rattle.varisat_search.specs.declared.context.Context.{Context}
+use Rattle.varisat_search.specs.declared.state.SatState.TheVariants as verdict
 use Rattle.varisat_search.specs.declared.state.SolverState.{SolverState}
 use Rattle.varisat_search.specs.Contexts.{view}
 use Rattle.varisat.specs.Budgets.{told_verdict}
-use Rattle.varisat.specs.States.{Ledger, Unknown}
+use Rattle.varisat.specs.States.{State, Ledger, Unknown}
+use Rattle.varisat.specs.Searches.{FindsVerdict}
 use Rattle.varisat.specs.Spaces.{SpacesFit}
-use Rattle.varisat.specs.Summaries.{spaces_of}
+use Rattle.varisat.specs.Summaries.{Summary, StandsFor, spaces_of}
 use Rattle.varisat.specs.Calls.{with_verdict, with_steps, Solves}
 use Rattle.varisat.specs.declared.solver.SolverError.TheVariants.{Interrupted}
 use Rattle.varisat.specs.Refusals.{store_refusal}
 use Rattle.varisat.proofs.AcceptClause.{ledger-free}
 use Rattle.varisat.proofs.CallStates.{ledger-is, stands-valid, like-refl, told-well, broken, broken-invalid, solves-broken}
 use Rattle.varisat.proofs.SettingsCalls.{summary_of}
-use Rattle.varisat.proofs.SolverCalls.{StepsMade, decided, counted-call, interrupted, was-unknown, sat-model, sat-right, found-true, found-false, known-told, false-right, false-core, answered-true, answered-false, answered-none, finds-made, dropped-stands}
+use Rattle.varisat.proofs.SolverCalls.{StepsMade, Decided, after_steps, decided, counted-call, interrupted, was-unknown, sat-model, sat-right, found-true, found-false, known-told, false-right, false-core, answered-true, answered-false, answered-none, finds-made, dropped-stands}
 use Rattle.varisat.proofs.FindVerdictSteps.{none-counted}
 use Rattle.varisat.proofs.SearchVerdicts.{kept-found}
+use Rattle.varisat.proofs.solver.Solver.solve.Given.{Over}
+use Rattle.varisat.proofs.solver.Solver.solve.Goals.{In_default, In-Ok-Some, In-Ok-None}
 use Rattle.varisat.proofs.solver.Solver.solve.Goals as goal
+
+-- The search begins once the variables whose values are fixed have left it.
+abbrev as-search-begins : (g : Over) (c : In_default g) → Summary
+as-search-begins g c = summary_of c.drop_fixed.new.variables c.self.inside.started c.drop_fixed.new.ctx
+
+-- then the solver is valid
+still-valid : (g : Over) (c : In_default g) → not c.drop_fixed.new.ctx.solver_state.state_is_invalid ≡ true
+still-valid g c = ap (λ (x : SolverState). not x.state_is_invalid) c.drop_fixed.ensures.state ∙ ap not c.if-self.false
+
+-- knows no verdict
+still-unknown : (g : Over) (c : In_default g) → c.drop_fixed.new.ctx.solver_state.sat_state ≡ verdict.Unknown
+still-unknown g c = ap (λ (x : SolverState). x.sat_state) c.drop_fixed.ensures.state ∙ c.in-Unknown.is
+
+-- and stands for the state that it stood for
+still-stands : (g : Over) (c : In_default g) (s : State) → StandsFor (summary_of c.self.inside.variables c.self.inside.started c.self.inside.ctx) s → StandsFor (as-search-begins g c) s
+still-stands g c s st = dropped-stands c.self.inside.variables c.drop_fixed.new.variables c.self.inside.started c.self.inside.ctx c.drop_fixed.new.ctx s c.drop_fixed.ensures.state c.drop_fixed.ensures.schedule c.in-Unknown.is (c.in_default.ensures {u = tt}).stands st
+
+-- what the search did, where it found a verdict
+found-some : (g : Over) (c : In-Ok-Some g) → FindsVerdict c.drop_fixed.new.variables c.drop_fixed.new.ctx c.find_named_verdict.new.ctx (Some c.in-Ok-Some.found)
+found-some g c = rw c.in-Ok-Some.field-0-is at c.in-Ok-Some.ensures.found
+
+-- and where it was interrupted
+found-none : (g : Over) (c : In-Ok-None g) → FindsVerdict c.drop_fixed.new.variables c.drop_fixed.new.ctx c.find_named_verdict.new.ctx None
+found-none g c = rw c.in-Ok-None.field-0-is at c.in-Ok-None.ensures.found
+
+-- its steps, said of the maps too
+steps-made : (g : Over) (c : In_default g) (new : Context g.row.A.Denot) (found : Option Bool) (f : FindsVerdict c.drop_fixed.new.variables c.drop_fixed.new.ctx new found) → StepsMade (as-search-begins g c) (view new) f.parts new.assumptions new.solver_state.sat_state
+steps-made g c new found f = finds-made c.drop_fixed.new.variables c.self.inside.started c.drop_fixed.new.ctx new found f (c.in_default.ensures {u = tt}).kept (still-unknown g c)
+
+-- a verdict that it found is one of the state
+found-decided : (g : Over) (c : In_default g) (new : Context g.row.A.Denot) (found : Bool) (f : FindsVerdict c.drop_fixed.new.variables c.drop_fixed.new.ctx new (Some found)) (s : State) → StandsFor (summary_of c.self.inside.variables c.self.inside.started c.self.inside.ctx) s → Decided (after_steps (as-search-begins g c) (view new) new.assumptions new.solver_state.sat_state) s found
+found-decided g c new found f s st = decided (as-search-begins g c) s (view new) f.parts new.assumptions new.solver_state.sat_state found (sym f.answer) (still-stands g c s st) (still-valid g c) (steps-made g c new _ f)
 
 pub invariant_of-self-in-Ok-Some : goal.invariant_of-self-in-Ok-Some
 invariant_of-self-in-Ok-Some g c _ =
-    let f = rw c.in-Ok-Some.field-0-is at c.in-Ok-Some.ensures.found in
+    let f = found-some g c in
     kept-found c.drop_fixed.new.variables c.drop_fixed.new.ctx c.find_named_verdict.new.ctx _ (c.in_default.ensures {u = tt}).kept f
 
 pub invariant_of-self-in-Ok-None : goal.invariant_of-self-in-Ok-None
 invariant_of-self-in-Ok-None g c _ =
-    let f = rw c.in-Ok-None.field-0-is at c.in-Ok-None.ensures.found in
+    let f = found-none g c in
     kept-found c.drop_fixed.new.variables c.drop_fixed.new.ctx c.find_named_verdict.new.ctx _ (c.in_default.ensures {u = tt}).kept f
 
 pub returns-in-Sat-clause-satisfiable : goal.returns-in-Sat-clause-satisfiable
@@ -45,14 +82,13 @@ returns-in-Unsat-clause-core g c e s st = let q = rw (← c.self.view_is) at st 
 
 pub returns-in-Ok-Some-clause-call : goal.returns-in-Ok-Some-clause-call
 returns-in-Ok-Some-clause-call g c s st =
-    let ok = ap (λ (x : SolverState). not x.state_is_invalid) c.drop_fixed.ensures.state ∙ ap not c.if-self.false in
-    let unknown-yet = ap (λ (x : SolverState). x.sat_state) c.drop_fixed.ensures.state ∙ c.in-Unknown.is in
-    let q = dropped-stands c.self.inside.variables c.drop_fixed.new.variables c.self.inside.started c.self.inside.ctx c.drop_fixed.new.ctx s c.drop_fixed.ensures.state c.drop_fixed.ensures.schedule c.in-Unknown.is (c.in_default.ensures {u = tt}).stands (rw (← c.self.view_is) at st) in
-    let f = rw c.in-Ok-Some.field-0-is at c.in-Ok-Some.ensures.found in
-    let new = c.find_named_verdict.new.ctx in
-    let was = was-unknown _ s q ok unknown-yet in
-    let n = new.schedule.steps in
-    let d = decided (summary_of c.drop_fixed.new.variables c.self.inside.started c.drop_fixed.new.ctx) s (view new) f.parts new.assumptions new.solver_state.sat_state c.in-Ok-Some.found (sym f.answer) q ok (finds-made c.drop_fixed.new.variables c.self.inside.started c.drop_fixed.new.ctx new _ f (c.in_default.ensures {u = tt}).kept unknown-yet) in
+    let here = (goal.at.returns-in-Ok-Some-clause-call g c).In_default in
+    let q = still-stands g here s (rw (← c.self.view_is) at st) in
+    let f = found-some g c in
+    let n = c.find_named_verdict.new.ctx.schedule.steps in
+    let ok = still-valid g here in
+    let was = was-unknown _ s q ok (still-unknown g here) in
+    let d = found-decided g here c.find_named_verdict.new.ctx _ f s (rw (← c.self.view_is) at st) in
     let counts = counted-call _ s c.max_steps-max_steps.result n (told_verdict c.find_named_verdict.result) (Ok c.in-Ok-Some.found) q ok c.max_steps-max_steps.ensures (ap told_verdict (c.in-Ok-Some.is ∙ ap Ok c.in-Ok-Some.field-0-is)) c.find_named_verdict.ensures.counted in
     let t = with_verdict d.verdict (with_steps n s) in (
       t,
@@ -65,49 +101,39 @@ returns-in-Ok-Some-clause-call g c s st =
 
 pub returns-in-Ok-Some-clause-satisfiable : goal.returns-in-Ok-Some-clause-satisfiable
 returns-in-Ok-Some-clause-satisfiable g c b s st =
-    let ok = ap (λ (x : SolverState). not x.state_is_invalid) c.drop_fixed.ensures.state ∙ ap not c.if-self.false in
-    let unknown-yet = ap (λ (x : SolverState). x.sat_state) c.drop_fixed.ensures.state ∙ c.in-Unknown.is in
-    let q = dropped-stands c.self.inside.variables c.drop_fixed.new.variables c.self.inside.started c.self.inside.ctx c.drop_fixed.new.ctx s c.drop_fixed.ensures.state c.drop_fixed.ensures.schedule c.in-Unknown.is (c.in_default.ensures {u = tt}).stands (rw (← c.self.view_is) at st) in
-    let f = rw c.in-Ok-Some.field-0-is at c.in-Ok-Some.ensures.found in
-    let new = c.find_named_verdict.new.ctx in
     let sat : c.in-Ok-Some.found ≡ true = cc in
-    found-true (summary_of c.drop_fixed.new.variables c.self.inside.started c.drop_fixed.new.ctx) s (view new) f.parts new.assumptions new.solver_state.sat_state (sym f.answer ∙ ap Some sat) q ok (finds-made c.drop_fixed.new.variables c.self.inside.started c.drop_fixed.new.ctx new _ f (c.in_default.ensures {u = tt}).kept unknown-yet)
+    found-true _ s (subst (Decided _ s) sat (found-decided g (goal.at.returns-in-Ok-Some-clause-satisfiable g c).In_default c.find_named_verdict.new.ctx _ (found-some g c) s (rw (← c.self.view_is) at st)))
 
 pub returns-in-Ok-Some-clause-unsatisfiable : goal.returns-in-Ok-Some-clause-unsatisfiable
 returns-in-Ok-Some-clause-unsatisfiable g c b s st =
-    let ok = ap (λ (x : SolverState). not x.state_is_invalid) c.drop_fixed.ensures.state ∙ ap not c.if-self.false in
-    let unknown-yet = ap (λ (x : SolverState). x.sat_state) c.drop_fixed.ensures.state ∙ c.in-Unknown.is in
-    let q = dropped-stands c.self.inside.variables c.drop_fixed.new.variables c.self.inside.started c.self.inside.ctx c.drop_fixed.new.ctx s c.drop_fixed.ensures.state c.drop_fixed.ensures.schedule c.in-Unknown.is (c.in_default.ensures {u = tt}).stands (rw (← c.self.view_is) at st) in
-    let f = rw c.in-Ok-Some.field-0-is at c.in-Ok-Some.ensures.found in
-    let new = c.find_named_verdict.new.ctx in
     let unsat : c.in-Ok-Some.found ≡ false = cc in
-    found-false (summary_of c.drop_fixed.new.variables c.self.inside.started c.drop_fixed.new.ctx) s (view new) f.parts new.assumptions new.solver_state.sat_state (sym f.answer ∙ ap Some unsat) q ok (finds-made c.drop_fixed.new.variables c.self.inside.started c.drop_fixed.new.ctx new _ f (c.in_default.ensures {u = tt}).kept unknown-yet)
+    found-false _ s (subst (Decided _ s) unsat (found-decided g (goal.at.returns-in-Ok-Some-clause-unsatisfiable g c).In_default c.find_named_verdict.new.ctx _ (found-some g c) s (rw (← c.self.view_is) at st)))
 
 pub returns-in-Ok-Some-clause-model : goal.returns-in-Ok-Some-clause-model
 returns-in-Ok-Some-clause-model g c b s st =
-    let f = rw c.in-Ok-Some.field-0-is at c.in-Ok-Some.ensures.found in
+    let f = found-some g c in
     let sat : c.in-Ok-Some.found ≡ true = cc in
-    let r = sat-model _ s st (ap (λ (x : SolverState). not x.state_is_invalid) f.state ∙ ap (λ (x : SolverState). not x.state_is_invalid) c.drop_fixed.ensures.state ∙ ap not c.if-self.false) (answered-true _ (sym f.answer ∙ ap Some sat)) in
+    let r = sat-model _ s st (ap (λ (x : SolverState). not x.state_is_invalid) f.state ∙ still-valid g (goal.at.returns-in-Ok-Some-clause-model g c).In_default) (answered-true _ (sym f.answer ∙ ap Some sat)) in
     (_, r.0, r.1)
 
 pub returns-in-Ok-Some-clause-core : goal.returns-in-Ok-Some-clause-core
 returns-in-Ok-Some-clause-core g c b s st =
-    let f = rw c.in-Ok-Some.field-0-is at c.in-Ok-Some.ensures.found in
+    let f = found-some g c in
     let unsat : c.in-Ok-Some.found ≡ false = cc in
-    false-core _ s st (ap (λ (x : SolverState). not x.state_is_invalid) f.state ∙ ap (λ (x : SolverState). not x.state_is_invalid) c.drop_fixed.ensures.state ∙ ap not c.if-self.false) (sym f.answer ∙ ap Some unsat)
+    false-core _ s st (ap (λ (x : SolverState). not x.state_is_invalid) f.state ∙ still-valid g (goal.at.returns-in-Ok-Some-clause-core g c).In_default) (sym f.answer ∙ ap Some unsat)
 
 pub returns-in-Ok-None-clause-call : goal.returns-in-Ok-None-clause-call
 returns-in-Ok-None-clause-call g c s st =
-    let ok = ap (λ (x : SolverState). not x.state_is_invalid) c.drop_fixed.ensures.state ∙ ap not c.if-self.false in
-    let unknown-yet = ap (λ (x : SolverState). x.sat_state) c.drop_fixed.ensures.state ∙ c.in-Unknown.is in
-    let q = dropped-stands c.self.inside.variables c.drop_fixed.new.variables c.self.inside.started c.self.inside.ctx c.drop_fixed.new.ctx s c.drop_fixed.ensures.state c.drop_fixed.ensures.schedule c.in-Unknown.is (c.in_default.ensures {u = tt}).stands (rw (← c.self.view_is) at st) in
-    let f = rw c.in-Ok-None.field-0-is at c.in-Ok-None.ensures.found in
+    let here = (goal.at.returns-in-Ok-None-clause-call g c).In_default in
+    let q = still-stands g here s (rw (← c.self.view_is) at st) in
+    let f = found-none g c in
     let new = c.find_named_verdict.new.ctx in
-    let was = was-unknown _ s q ok unknown-yet in
+    let ok = still-valid g here in
+    let was = was-unknown _ s q ok (still-unknown g here) in
     let unknown = answered-none _ (sym f.answer) in
     let n = new.schedule.steps in
-    let made = finds-made c.drop_fixed.new.variables c.self.inside.started c.drop_fixed.new.ctx new _ f (c.in_default.ensures {u = tt}).kept unknown-yet in
-    let k = interrupted (summary_of c.drop_fixed.new.variables c.self.inside.started c.drop_fixed.new.ctx) s (view new) f.parts new.assumptions q ok (subst (λ b. StepsMade (summary_of c.drop_fixed.new.variables c.self.inside.started c.drop_fixed.new.ctx) (view new) f.parts new.assumptions b) unknown made) in
+    let made = steps-made g here new _ f in
+    let k = interrupted (as-search-begins g here) s (view new) f.parts new.assumptions q ok (subst (λ b. StepsMade (as-search-begins g here) (view new) f.parts new.assumptions b) unknown made) in
     let counts = counted-call _ s c.max_steps-max_steps.result n (told_verdict c.find_named_verdict.result) (Err Interrupted) q ok c.max_steps-max_steps.ensures (ap told_verdict (c.in-Ok-None.is ∙ ap Ok c.in-Ok-None.field-0-is)) c.find_named_verdict.ensures.counted in
     let t = with_verdict Unknown (with_steps n s) in (
       t,
@@ -120,10 +146,10 @@ returns-in-Ok-None-clause-call g c s st =
 
 pub returns-in-Err-find_named_verdict-clause-call : goal.returns-in-Err-find_named_verdict-clause-call
 returns-in-Err-find_named_verdict-clause-call g c s st =
-    let ok = ap (λ (x : SolverState). not x.state_is_invalid) c.drop_fixed.ensures.state ∙ ap not c.if-self.false in
-    let unknown-yet = ap (λ (x : SolverState). x.sat_state) c.drop_fixed.ensures.state ∙ c.in-Unknown.is in
-    let q = dropped-stands c.self.inside.variables c.drop_fixed.new.variables c.self.inside.started c.self.inside.ctx c.drop_fixed.new.ctx s c.drop_fixed.ensures.state c.drop_fixed.ensures.schedule c.in-Unknown.is (c.in_default.ensures {u = tt}).stands (rw (← c.self.view_is) at st) in
-    let was = was-unknown _ s q ok unknown-yet in
+    let here = (goal.at.returns-in-Err-find_named_verdict-clause-call g c).In_default in
+    let ok = still-valid g here in
+    let q = still-stands g here s (rw (← c.self.view_is) at st) in
+    let was = was-unknown _ s q ok (still-unknown g here) in
     let n = c.find_named_verdict.new.ctx.schedule.steps in
     let counts = counted-call _ s c.max_steps-max_steps.result n (told_verdict c.find_named_verdict.result) (Err (store_refusal c.in-Err-find_named_verdict.error)) q ok c.max_steps-max_steps.ensures (ap told_verdict c.in-Err-find_named_verdict.is) c.find_named_verdict.ensures.counted in (
       broken (with_steps n s),

@@ -109,9 +109,13 @@ fn level_to_mark<A: Allocator + Copy>(
         ((level_of s lit ≡ 0) ⊎ (slice_index_or var_flags.now (variable_of lit) false ≡ true))
         (λ level. (level ≡ level_of s lit) × (0 < level) × (slice_index_or var_flags.now (variable_of lit) false ≡ false) × (variable_of lit < length var_flags.now)) }
 {
+    // The flag first, since it takes a byte, and a node many.
+    if var_flags[lit.index()] {
+        return None;
+    }
     let level = parts.impl_graph.level(lit.var());
     // What is false at level 0 is false by the clauses alone, and can be left out.
-    if level == 0 || var_flags[lit.index()] {
+    if level == 0 {
         return None;
     }
     Some(level)

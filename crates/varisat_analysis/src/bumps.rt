@@ -25,10 +25,11 @@ fn bump_literal<A: Allocator + Copy>(
     ensures count { length vsids.new.activity ≡ length vsids.old.activity }
 {
     let var = lit.var();
-    if impl_graph.level(var) == 0 {
+    // The flag first, since it takes a byte, and a node many.
+    if flags[var.index()] {
         return;
     }
-    if flags[var.index()] {
+    if impl_graph.level(var) == 0 {
         return;
     }
     flags[var.index()] = true;

@@ -244,14 +244,8 @@ impl Not for Lit {
         ensures { result ≡ opposite self }
     {
         // `code ^ 1`, in the arithmetic in which the laws of literals are stated.
-        if self.code % 2 == 0 {
-            Lit {
-                code: self.code + 1,
-            }
-        } else {
-            Lit {
-                code: self.code - 1,
-            }
+        Lit {
+            code: self.code / 2 * 2 + 1 - self.code % 2,
         }
     }
 }

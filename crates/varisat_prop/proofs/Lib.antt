@@ -2,6 +2,7 @@ pub mod BinaryPropagated
 pub mod ClauseOrder
 pub mod DistinctPlaces
 pub mod EnqueueAssignment
+mod FalseFlags
 pub mod KeptPairs
 pub mod Leaving
 pub mod LiteralValues

@@ -1,6 +1,7 @@
 -- What contracts see of the parts.
 use Rattle.std.specs.Prelude.{◌≡◌, ℕ, ◌+◌, Bool, false, Option, Some, None, List, [], length, option_map, slice_index_or}
 use Rattle.std.specs.Bool.{beq}
+use Rattle.std.specs.Option.{option_eq}
 use Rattle.varisat_theory.specs.Literals.{Literal, variable_of}
 use Rattle.varisat_literals.specs.Numbers.{polarity_of}
 
@@ -19,6 +20,10 @@ IsMadeTrue values l = slice_index_or values (variable_of l) None ≡ Some (polar
 -- what the value of its variable makes of the literal
 abbrev pub value_in : List (Option Bool) → Literal → Option Bool
 value_in values l = option_map (λ b. beq b (polarity_of l)) (slice_index_or values (variable_of l) None)
+
+-- the flags say of each literal whether it is false
+abbrev pub TellsFalse : List (Option Bool) → List Bool → Type 0
+TellsFalse values flags = (l : Literal) → slice_index_or flags l false ≡ option_eq beq (value_in values l) (Some false)
 
 abbrev pub is_true_value : Option Bool → Bool
 is_true_value None = false

@@ -60,6 +60,7 @@ impl<A: Allocator + Copy> DimacsParser<A> {
     }
 
     /// Reads the token that ends here, if there is one.
+    #[inline(always)]
     fn end_token(&mut self, word: Word) -> Result<(), AllocError>
         requires { self.old.reading.fault ≡ None }
         ensures ok { OnOk result (self.new ≡ record self.old { reading = read self.old.reading (word_items self.old.line word) }) }

@@ -58,6 +58,10 @@ fn grown(number: u64, digit: u64) -> Digits
     if number == 0 {
         return Digits::NoNumber;
     }
+    // What a clause names is far below, and needs no wide product.
+    if number < 0x1_0000_0000 {
+        return Digits::Number(number * 10 + digit);
+    }
     let next = u128::from(number) * 10 + u128::from(digit);
     if next < 0x1_0000_0000_0000_0000 {
         Digits::Number(next as u64)
@@ -124,7 +128,7 @@ impl Word {
     pub fn after(self, b: u8) -> Word
         ensures { result ≡ after_byte self b }
     {
-        if self.is_none() && b == b'-' {
+        if b == b'-' && self.is_none() {
             Word {
                 minus: true,
                 digits: Digits::Empty,

@@ -13,17 +13,19 @@ use varisat_literals::{Lit, Var};
 pub struct Assignment<A: Allocator + Copy> {
     assignment: Vec<Option<bool>, A>,
     last_value: Vec<bool, A>,
+    // For each literal whether it is false, so that propagation looks at one byte for it.
+    false_lits: Vec<bool, A>,
 }
 
 impl<A: Allocator + Copy> Model for Assignment<A> {
-    ghost use Rattle.std.specs.Prelude.{◌≡◌, length};
-    ghost use Rattle.varisat_prop.specs.Parts.{Values};
+    ghost use Rattle.std.specs.Prelude.{◌≡◌, ◌*◌, length};
+    ghost use Rattle.varisat_prop.specs.Parts.{Values, TellsFalse};
 
     ghost Value = { Values };
 
     ghost view = { λ a. record { current = a.assignment.items; last = a.last_value.items } };
 
-    ghost invariant = { λ a. length a.last_value.items ≡ length a.assignment.items };
+    ghost invariant = { λ a. (length a.last_value.items ≡ length a.assignment.items) × (length a.false_lits.items ≡ 2 * length a.assignment.items) × TellsFalse a.assignment.items a.false_lits.items };
 }
 
 impl<A: Allocator + Copy> Assignment<A> {
@@ -34,6 +36,7 @@ impl<A: Allocator + Copy> Assignment<A> {
         Assignment {
             assignment: Vec::new(alloc),
             last_value: Vec::new(alloc),
+            false_lits: Vec::new(alloc),
         }
     }
 
@@ -45,10 +48,18 @@ impl<A: Allocator + Copy> Assignment<A> {
         ensures last { OnOk result (self.new.last ≡ self.old.last ++ replicate (count - length self.old.current) false) }
         ensures refused { OnErr result (self.new ≡ self.old) }
     {
+        if count > usize::MAX / 2 {
+            return Err(AllocError);
+        }
         let old_count = self.assignment.len();
         self.assignment.resize(count, None)?;
         if let Err(error) = self.last_value.resize(count, false) {
             self.assignment.truncate(old_count);
+            return Err(error);
+        }
+        if let Err(error) = self.false_lits.resize(2 * count, false) {
+            self.assignment.truncate(old_count);
+            self.last_value.truncate(old_count);
             return Err(error);
         }
         Ok(())
@@ -109,7 +120,7 @@ impl<A: Allocator + Copy> Assignment<A> {
         requires { variable_of lit < length self.now.current }
         ensures { IsTrue result ↔ IsMadeTrue self.now.current lit }
     {
-        self.lit_value(lit) == Some(true)
+        self.lit_is_false(!lit)
     }
 
     /// Whether the literal is false.
@@ -117,7 +128,7 @@ impl<A: Allocator + Copy> Assignment<A> {
         requires { variable_of lit < length self.now.current }
         ensures { IsTrue result ↔ IsMadeTrue self.now.current (opposite lit) }
     {
-        self.lit_value(lit) == Some(false)
+        self.false_lits[lit.code()]
     }
 
     /// Whether the literal's variable has no value.
@@ -133,7 +144,7 @@ impl<A: Allocator + Copy> Assignment<A> {
         requires { variable_of lit < length self.old.current }
         ensures { self.new ≡ record self.old { current = slice_set self.old.current (variable_of lit) (Some (polarity_of lit)) } }
     {
-        self.assignment[lit.index()] = Some(lit.is_positive());
+        self.set_var(lit.var(), Some(lit.is_positive()));
     }
 
     /// Takes the variable's value away.
@@ -141,7 +152,7 @@ impl<A: Allocator + Copy> Assignment<A> {
         requires { var < length self.old.current }
         ensures { self.new ≡ record self.old { current = slice_set self.old.current var None } }
     {
-        self.assignment[var.index()] = None;
+        self.set_var(var, None);
     }
 
     /// Gives the variable the value, or takes its value away.
@@ -150,5 +161,7 @@ impl<A: Allocator + Copy> Assignment<A> {
         ensures { self.new ≡ record self.old { current = slice_set self.old.current var assignment } }
     {
         self.assignment[var.index()] = assignment;
+        self.false_lits[var.positive().code()] = assignment == Some(false);
+        self.false_lits[var.negative().code()] = assignment == Some(true);
     }
 }

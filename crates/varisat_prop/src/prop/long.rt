@@ -55,11 +55,15 @@ fn put_second(lits: &mut [Lit], false_lit: Lit) -> bool
     ensures same { literal_in lits.old 0 ≢ false_lit → lits.new ≡ lits.old }
     ensures stale { (IsTrue result → ⊥) → (literal_in lits.old 0 ≢ false_lit) × (literal_in lits.old 1 ≢ false_lit) }
 {
-    if lits[0] == false_lit {
-        lits.swap(0, 1);
-        return true;
-    }
-    lits[1] == false_lit
+    // Which of the two it is can't be predicted, so that both places are written without a branch.
+    let (first, second) = if lits[0] == false_lit {
+        (lits[1], lits[0])
+    } else {
+        (lits[0], lits[1])
+    };
+    lits[0] = first;
+    lits[1] = second;
+    second == false_lit
 }
 
 /// Puts a literal second that isn't false, where one stands behind the second.
@@ -169,6 +173,8 @@ fn visit_watch<A: Allocator + Copy>(
 }
 
 /// Takes out what stands from the first place on and before the second.
+#[cold]
+#[inline(never)]
 fn close_gap<A: Allocator + Copy>(list: &mut Vec<Watch, A>, start: usize, end: usize)
     requires order { start ≤ end }
     requires within { end ≤ length list.old.items }

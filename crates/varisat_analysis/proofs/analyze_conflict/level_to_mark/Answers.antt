@@ -2,7 +2,6 @@ use Rattle.std.proofs.Common.{◌≡◌, true, inl, inr, get_or, false, sym, ◌
 use Rattle.varisat_analysis.proofs.WellFormedViews.{read-inside, level-read}
 use Rattle.varisat_analysis.proofs.AnalysisMarks.{has-flag}
 use Rattle.varisat_analysis.proofs.analyze_conflict.level_to_mark.Goals as goal
-use Rattle.varisat_analysis.proofs.analyze_conflict.level_to_mark.Goals.{then-level-eq0-via-then-level-eq0, then-level-eq0-via-else-level-eq0+then-var_flags-index}
 
 pub level-level-requires : goal.level-level-requires
 level-level-requires g c =
@@ -16,15 +15,15 @@ bounds-var_flags-index g c =
     let i = has-flag can c.args.lit falsified in
     omega (arith, i, c.index.ensures.index)
 
+pub returns-then-var_flags-index : goal.returns-then-var_flags-index
+returns-then-var_flags-index g c = inr (subst (λ x. get_or c.args.var_flags.now x false ≡ true) c.index.ensures.index c.if-var_flags-index.true)
+
 pub returns-then-level-eq0 : goal.returns-then-level-eq0
 returns-then-level-eq0 g c =
     let (_, (can, _)) = c.requires in
     let sees = can.sees in
     let lv = level-read g.s c.args.parts.impl_graph.now.nodes.items c.args.lit c.var.result c.level-level.result sees.nodes_are c.var.ensures c.level-level.ensures in
-    elim c.then-level-eq0.branch [
-      | then-level-eq0-via-then-level-eq0 w ↦ inl (sym lv ∙ w.if-level-eq0.true)
-      | then-level-eq0-via-else-level-eq0+then-var_flags-index w ↦ inr (subst (λ x. get_or c.args.var_flags.now x false ≡ true) w.index.ensures.index w.if-var_flags-index.true)
-    ]
+    inl (sym lv ∙ c.if-level-eq0.true)
 
 pub returns : goal.returns
 returns g c =

@@ -1,8 +1,12 @@
-use Rattle.std.proofs.Common.{◌∙◌, ap, Some, false}
-use Rattle.std.specs.Bool.{beq}
-use Rattle.std.specs.Option.{option_eq}
+use Rattle.std.proofs.Common.{length, ap, arith}
+use Rattle.varisat_prop.proofs.FalseFlags.{flag-read}
 use Rattle.varisat_prop.proofs.LiteralValues.{false-value}
 use Rattle.varisat_prop.proofs.prop.assignment.Assignment.lit_is_false.Goals as goal
 
 pub returns : goal.returns
-returns g c = false-value c.args.self.now.current c.args.lit c.eq.result (c.eq.ensures ∙ ap (λ o. option_eq beq o (Some false)) c.lit_value.ensures)
+returns g c =
+    rw (← c.self.view_is) (false-value c.self.inside.assignment.items c.args.lit c.index.result.now
+    (flag-read c.self.inside.assignment.items c.self.inside.false_lits.items c.args.lit c.code.result c.index.result.now c.self.invariant.1 c.self.invariant.2
+    (omega (arith, c.requires, ap (λ a. length a.current) c.self.view_is))
+    c.code.ensures.code
+    c.index.ensures))

@@ -4,6 +4,7 @@ use Rattle.std.proofs.lemmas.Bool.{lt-ltb}
 use Rattle.varisat_theory.specs.Membership.{◌∈◌}
 use Rattle.varisat_theory.specs.Literals.{Literal, Clause, Assignment, variable_of}
 use Rattle.varisat_theory.specs.Searches.{IsLiteralOf}
+use Rattle.varisat_theory.specs.Derivations.{Line}
 use Rattle.varisat_theory.specs.Outcomes.{Loads}
 use Rattle.varisat_theory.specs.Outcomes as outcome
 use Rattle.varisat_theory.proofs.Renaming.{map-∈}
@@ -262,7 +263,8 @@ pub record Steps (g : Summary) (d : Clause) (joined : Tables) (new : View) (part
   pub well_before : WellFormed g.search
   pub well_new : WellFormed new
   pub in_use : (l : Literal) → IsLiteralOf (search_of new) l → (x : ℕ) × (at g.tables.solvers.backward (variable_of l) ≡ Some x)
-  pub loads : Loads (search_of g.search) (search_of new) (map (carry (chain (at joined.users.forward) (at joined.solvers.forward))) d) (loaded_outcome after) []
+  pub lines : List Line
+  pub loads : Loads (search_of g.search) (search_of new) (map (carry (chain (at joined.users.forward) (at joined.solvers.forward))) d) (loaded_outcome after) lines
   pub verdict : (after ≡ reopened_state g.sat_state) ⊎ (after ≡ verdict.Unsat)
   pub parts_stay : parts ≡ record g.assumed { levels = 0 }
 
@@ -283,8 +285,8 @@ clause-accepted g n d joined new parts after t (w1, k1) =
     let q = spaces_of joined new parts after in
     let (x, v, k6) = loaded w1 p s3 d k5 t.all (kept_at joined.kept)
     (record { rest = j.rest; fallen = j.fallen; wide = λ wide l x h e. j.joined (several d wide) l x h e })
-    (search_of new) (loaded_outcome after) q.model [] refl (view-long g.search t.well_before) (view-long new t.well_new) t.in_use
-    (subst (λ e. Loads (search_of g.search) (search_of new) e (loaded_outcome after) []) same-literals t.loads) in
+    (search_of new) (loaded_outcome after) q.model t.lines refl (view-long g.search t.well_before) (view-long new t.well_new) t.in_use
+    (subst (λ e. Loads (search_of g.search) (search_of new) e (loaded_outcome after) t.lines) same-literals t.loads) in
     let p6 = record p { kept = kept_at joined.kept; search = search_of new; model = q.model } in
     let (y, u, k7) = settled w1 p6 s3 c new g.search parts.failed_core g.assumed.failed_core w1.identity p1.model g.sat_state after n.verdict x k6 v k1.verdict t.verdict k1.core k1.right in (
       y,

@@ -430,10 +430,10 @@ told-refused-core s t core (Err e) h a = core-refused s t core e a
 -- 8. Units are settled before a step.
 
 -- The search went on by lines, without a step: what is held stands for the same state.
-pub settled-stands : {A : Type 0} (m : Tables) (x y : Context A) → IsKept m x → GoesOnByLines x y → y.assumptions ≡ x.assumptions → (s : State) → SpacesFit (spaces_of m (view x) x.assumptions verdict.Unknown) s → SpacesFit (spaces_of m (view y) y.assumptions verdict.Unknown) s
-settled-stands m x y kept goes same s (w, k) =
+pub settled-stands : {A : Type 0} (m : Tables) (are : List Line → Type 0) (x y : Context A) → IsKept m x → GoesOnByLines are x y → y.assumptions ≡ x.assumptions → (s : State) → SpacesFit (spaces_of m (view x) x.assumptions verdict.Unknown) s → SpacesFit (spaces_of m (view y) y.assumptions verdict.Unknown) s
+settled-stands m are x y kept goes same s (w, k) =
     let g : Summary = record { tables = m; search = view x; assumed = x.assumptions; sat_state = verdict.Unknown; ledger = s.ledger } in
-    let (lines, p) = goes.proves in
+    let (lines, p, i) = goes.proves in
     let made = part_after_made 0 (search_of (view x)) (search_of (view x)) (search_of (view y)) [] lines (none_made (search_of (view x))) p in
     let used = in-use-all m (view y) y.vsids (same-in-use m (view x) x.vsids (view y) y.vsids kept.decidable goes.decidable) goes.ready.decidable goes.ready.well in
     let v : StepsMade g (view y) x.assumptions x.assumptions verdict.Unknown = record {

@@ -22,6 +22,7 @@ use varisat_search::context::Context;
 use varisat_search::load::load_clause;
 use varisat_search::solver_variables::solver_from_user_lits;
 use varisat_search::state::SatState;
+use varisat_trace::NoTracer;
 
 /// The global variable of the literal's name, which is in use.
 fn global_of<A: Allocator + Copy>(variables: &LinkedVariables<A>, lit: Lit) -> Var
@@ -84,7 +85,8 @@ pub fn accept_clause<A: Allocator + Copy>(
     solver_from_user_lits(ctx, variables, literals, clause)?;
     variables.prove_linked();
     mark_joined(variables, clause);
-    load_clause(ctx, literals)?;
+    let mut proof = NoTracer {};
+    load_clause(ctx, &mut proof, literals)?;
     Ok(())
 }
 

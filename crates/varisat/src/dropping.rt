@@ -22,6 +22,7 @@ use varisat_search::cdcl::settle;
 use varisat_search::context::Context;
 use varisat_search::forgetting::{drop_variables, flag_mentioned};
 use varisat_search::state::SatState;
+use varisat_trace::NoTracer;
 
 /// Whether the solver variable is that of a global variable that is not assumed.
 fn is_unassumed<A: Allocator + Copy>(variables: &LinkedVariables<A>, solver: Var) -> bool
@@ -215,7 +216,13 @@ pub fn drop_fixed<A: Allocator + Copy>(
     if ctx.trail.current_level() > 0 || ctx.trail.fully_propagated() {
         return Ok(());
     }
-    if settle(ctx)?.is_err() {
+    let mut proof = NoTracer {};
+    let settled = match settle(ctx, &mut proof) {
+        Ok(settled) => settled,
+        // No clause is stored and nothing is handed on, so that only memory can be refused.
+        Err(_) => return Err(AllocError),
+    };
+    if settled.is_err() {
         return Ok(());
     }
     drop_listed(variables, ctx, literals)?;

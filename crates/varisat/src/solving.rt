@@ -25,6 +25,7 @@ use varisat_prop::clause::StoreError;
 use varisat_search::context::Context;
 use varisat_search::schedule::schedule_step;
 use varisat_search::state::SatState;
+use varisat_trace::NoTracer;
 
 /// Makes steps until it is known whether some assignment satisfies the clauses and makes the assumptions true, and
 /// returns that. None where `max_steps` steps were made before, or no more can be counted. Between two restarts each
@@ -49,12 +50,13 @@ fn find_verdict<A: Allocator + Copy>(
 {
     ctx.solver_config.prove_in_range();
     let first = ctx.schedule.steps();
+    let mut proof = NoTracer {};
     'steps: loop {
         let steps = ctx.schedule.steps();
         if steps - first == max_steps || steps == u64::MAX {
             return Ok(None);
         }
-        schedule_step(ctx)?;
+        schedule_step(ctx, &mut proof)?;
         match ctx.solver_state.sat_state {
             SatState::Unknown => {}
             SatState::Sat => return Ok(Some(true)),

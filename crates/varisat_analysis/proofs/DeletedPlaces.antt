@@ -35,7 +35,7 @@ module _ (ks : List StoredClause) (p q : ℕ) (h : IsPlace ks p) where
   abbrev dead : StoredClause
   dead = record (stored_at ks p) { header = record (header_at ks p) { deleted = true } }
 
-  one-stays : (header_at ks q).deleted ≡ true → (header_at (deleted_at ks p) q).deleted ≡ true
+  pub one-stays : (header_at ks q).deleted ≡ true → (header_at (deleted_at ks p) q).deleted ≡ true
   one-stays e =
       ⊎_elim
       (λ f. subst (λ (x : ℕ). (header_at (deleted_at ks p) x).deleted ≡ true) (sym f) (ap (λ (x : StoredClause). x.header.deleted) (clause-same ks p dead h (place-is ks p h))))
@@ -48,6 +48,9 @@ module _ (ks : List StoredClause) (p q : ℕ) (h : IsPlace ks p) where
       inr
       (λ n. inl (sym (ap (λ (x : StoredClause). x.header.deleted) (clause-other ks p q dead (place-is ks p h) n)) ∙ e))
       (equal_or_not q p)
+
+pub one-gone : (ks : List StoredClause) (p : ℕ) → IsPlace ks p → (header_at (deleted_at ks p) p).deleted ≡ true
+one-gone ks p h = ap (λ (x : StoredClause). x.header.deleted) (clause-same ks p (dead ks p p h) h (place-is ks p h))
 
 pub deleted-stays : (ps : List ℕ) (ks : List StoredClause) (q : ℕ) → ((p : ℕ) → p ∈ ps → IsPlace ks p) → (header_at ks q).deleted ≡ true → (header_at (all_deleted ps ks) q).deleted ≡ true
 deleted-stays [] ks q h e = e

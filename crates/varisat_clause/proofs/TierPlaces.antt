@@ -121,10 +121,10 @@ distinct-once [] h = tt
 distinct-once (x ∷ xs) h =
     ((λ i. let e = ap {B = ℕ} (λ b. cond b 1 0) (is-same x x refl) in let p = present x xs i in let o = h x in let m = occurs-more x x xs in absurd (omega (arith, e, p, o, m))), distinct-once xs (λ q. let o = h q in let m = occurs-more q x xs in omega (arith, o, m)))
 
-distinct-permutation : (xs ys : List ℕ) → IsPermutation xs ys → IsDistinct xs → IsDistinct ys
+pub distinct-permutation : (xs ys : List ℕ) → IsPermutation xs ys → IsDistinct xs → IsDistinct ys
 distinct-permutation xs ys m h = distinct-once ys (λ q. let a = once xs h q in let b = sum_by-IsPermutation (λ x. cond (nat_eq x q) 1 0) xs ys m in omega (arith, a, b))
 
-∈-permutation : (xs ys : List ℕ) (x : ℕ) → IsPermutation xs ys → x ∈ xs → x ∈ ys
+pub ∈-permutation : (xs ys : List ℕ) (x : ℕ) → IsPermutation xs ys → x ∈ xs → x ∈ ys
 ∈-permutation xs ys x m h = ∈-contains x ys (Contains-permutation xs ys x m (contains-∈ x xs h))
 
 -- in another order

@@ -6,7 +6,7 @@ ghost use Rattle.varisat_clause.specs.Tiers.{is_tier};
 ghost use Rattle.varisat_clause.specs.Stored.{IsPlace, stored_at, with_stored};
 ghost use Rattle.varisat_clause.specs.Stores.{stored_clauses, IsSound, HoldsClauses};
 ghost use Rattle.varisat_clause.specs.Databases.{Database, tier_list, with_tier_list, Tracks};
-ghost use Rattle.varisat_clause.specs.Reductions.{rank_in, places_in, is_unmarked_in, AreUnmarkedIn, marked_as, with_mark, CanMarkTier, MarksTier, ListsTier, unmarked_places, all_deleted, ReducesLocals, mid_reduced, mids_reduced, mapped_up_to};
+ghost use Rattle.varisat_clause.specs.Reductions.{rank_in, places_in, is_unmarked_in, AreUnmarkedIn, marked_as, with_mark, CanMarkTier, MarksTier, ListsTier, AreRanked, unmarked_places, all_deleted, ReducesLocals, mid_reduced, mids_reduced, mapped_up_to};
 
 use crate::alloc::{ClauseAlloc, ClauseRef};
 use crate::db::{ClauseDb, delete_clause, set_clause_tier};
@@ -130,8 +130,22 @@ fn sort_by_rank<A: Allocator + Copy>(alloc: &ClauseAlloc<A>, list: &mut [ClauseR
     list.sort_unstable_by_key(|cref| alloc.rank(*cref));
 }
 
+/// The Local clauses that are not deleted, the least active first, and of equally active ones the first. Fails where a
+/// growth was refused.
+pub fn ranked_locals<A: Allocator + Copy>(
+    alloc: &ClauseAlloc<A>,
+) -> Result<Vec<ClauseRef, A>, AllocError>
+    requires { IsSound alloc.now }
+    ensures listed { IfOk result (λ list. ListsTier Tier.Local (stored_clauses alloc.now) list.items) }
+    ensures ranked { IfOk result (λ list. AreRanked (stored_clauses alloc.now) list.items) }
+{
+    let mut locals = clauses_of_tier(alloc, Tier::Local)?;
+    sort_by_rank(alloc, &mut locals);
+    Ok(locals)
+}
+
 /// Deletes the first clauses of the list that are not marked, as many as `count`.
-fn delete_unmarked<A: Allocator + Copy>(
+pub fn delete_unmarked<A: Allocator + Copy>(
     alloc: &mut ClauseAlloc<A>,
     db: &mut ClauseDb<A>,
     list: &[ClauseRef],
@@ -167,8 +181,7 @@ pub fn reduce_locals<A: Allocator + Copy>(
     ensures refused_too { OnErr result (db.new ≡ db.old) }
     ensures tracks { Tracks db.new alloc.new }
 {
-    let mut locals = clauses_of_tier(alloc, Tier::Local)?;
-    sort_by_rank(alloc, &mut locals);
+    let locals = ranked_locals(alloc)?;
     delete_unmarked(alloc, db, &locals, locals.len() / 2);
     Ok(())
 }

@@ -7,8 +7,8 @@ use Rattle.varisat_theory.specs.declared.checker.LineStatus.TheVariants.{Unprove
 use Rattle.varisat_theory.proofs.Lines.{derives_append}
 use Rattle.varisat_proof.specs.declared.checker.error.CheckerError.{CheckerError}
 use Rattle.varisat_proof.specs.declared.checker.error.CheckerError.TheVariants.{CheckFailed, NoSuchClause, OutOfMemory}
-use Rattle.varisat_proof.specs.declared.proof.step.ProofStep.{ProofStep}
-use Rattle.varisat_proof.specs.declared.proof.step.ProofStep.TheVariants.{AtClause, UnitClauses, DeleteClause, DeleteVar, FailedAssumptions}
+use Rattle.varisat_trace.specs.declared.step.ProofStep.{ProofStep}
+use Rattle.varisat_trace.specs.declared.step.ProofStep.TheVariants.{AtClause, UnitClauses, DeleteClause, DeleteVar, FailedAssumptions}
 use Rattle.varisat_theory.specs.StepLaws.{unit_lines}
 use Rattle.varisat_proof.specs.Calls.{CheckerState, IsStep, FailsAt}
 use Rattle.varisat_proof.specs.Checks.{ChecksLine, ChecksUnits, ChecksCore}

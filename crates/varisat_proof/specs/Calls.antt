@@ -10,8 +10,8 @@ use Rattle.varisat_formula.specs.Dimacs.{Reading, dimacs, broken}
 use Rattle.varisat_formula.specs.Streams as streams
 use Rattle.varisat_formula.specs.Streams.{Stand, HasEnded}
 use Rattle.varisat_proof.specs.declared.proof.format.ProofFormat.{ProofFormat}
-use Rattle.varisat_proof.specs.declared.proof.step.ProofStep.{ProofStep}
-use Rattle.varisat_proof.specs.declared.proof.step.ProofStep.TheVariants.{AtClause, UnitClauses, DeleteClause, DeleteVar, FailedAssumptions}
+use Rattle.varisat_trace.specs.declared.step.ProofStep.{ProofStep}
+use Rattle.varisat_trace.specs.declared.step.ProofStep.TheVariants.{AtClause, UnitClauses, DeleteClause, DeleteVar, FailedAssumptions}
 use Rattle.varisat_proof.specs.declared.checker.error.CheckVerdict.{CheckVerdict}
 use Rattle.varisat_proof.specs.declared.checker.error.CheckerError.{CheckerError}
 use Rattle.varisat_proof.specs.declared.checker.error.CheckerError.TheVariants.{CheckFailed, NoSuchClause, Parse, Io, OutOfMemory, Dimacs, Spent}

@@ -1,15 +1,9 @@
 -- A search goes on without learned clauses that are no reasons.
-use Rattle.std.proofs.Common.{◌≡◌, ℕ, ◌<◌, ◌/◌, Bool, true, false, not, ◌&&◌, None, List, [], ◌∷◌, ◌++◌, length, map, get_or, cond, inl, inr, ⊎_elim, refl, sym, ap, ◌∙◌, subst, append_assoc}
+use Rattle.std.proofs.Common.{◌≡◌, ℕ, ◌<◌, ◌/◌, Bool, true, false, not, ◌&&◌, None, List, [], ◌∷◌, length, map, get_or, inl, inr, ⊎_elim, refl, sym, ap, ◌∙◌, subst}
 use Rattle.std.specs.Prelude.{is_some}
 use Rattle.std.specs.List.{filter}
 use Rattle.varisat_theory.specs.Membership.{◌∈◌}
 use Rattle.varisat_theory.specs.Literals.{Literal, variable_of}
-use Rattle.varisat_theory.specs.Derivations.{Line, Delete}
-use Rattle.varisat_theory.specs.Searches.{KeptClause, Search}
-use Rattle.varisat_theory.specs.Outcomes.{Proves}
-use Rattle.varisat_theory.proofs.StepParts.{parts_join}
-use Rattle.varisat_theory.proofs.StepChanges.{learned_is_deleted}
-use Rattle.varisat_clause.specs.declared.header.Tier.{Tier}
 use Rattle.varisat_clause.specs.declared.header.Tier.TheVariants as tier
 use Rattle.varisat_clause.specs.Tiers.{is_tier}
 use Rattle.varisat_clause.specs.Stored.{StoredClause, literals_of, literals_at, stored_at, header_at, IsPlace, AreRising}
@@ -18,18 +12,16 @@ use Rattle.varisat_clause.specs.Databases.{is_live_in}
 use Rattle.varisat_clause.specs.Collected.{live_of, live_clauses}
 use Rattle.varisat_clause.specs.Reductions.{unmarked_places, all_deleted, ReducesLocals}
 use Rattle.varisat_clause.proofs.StoreSound.{are-rising}
-use Rattle.varisat_clause.proofs.StoredClauses.{same-self, is-same, stored-∈, stored-found, literals-∈, from-literals}
+use Rattle.varisat_clause.proofs.StoredClauses.{is-same, stored-∈, stored-found, literals-∈, from-literals}
 use Rattle.varisat_clause.proofs.DatabaseTracks.{place-is, same-tier, true-or-false}
 use Rattle.varisat_clause.proofs.LiveStore.{live-∈}
 use Rattle.varisat_prop.specs.declared.prop.graph.Reason.{Reason}
 use Rattle.varisat_prop.specs.declared.prop.graph.Reason.TheVariants as reason
-use Rattle.varisat_prop.specs.View.{View, pairs_from, clause_at, node_at, node_of, IsReason, WellFormed}
+use Rattle.varisat_prop.specs.View.{View, clause_at, node_at, node_of, IsReason, WellFormed}
 use Rattle.varisat_prop.specs.Watches.{literal_in}
-use Rattle.varisat_analysis.specs.HeaderChanges.{kept_clause}
-use Rattle.varisat_search.specs.Seen.{kept_pair, search_of}
 use Rattle.varisat_analysis.specs.HeaderChanges.{SameButHeaders}
 use Rattle.varisat_analysis.specs.Reductions.{is_clause_at, is_reason, reason_marked, reasons_marked, Discards}
-use Rattle.varisat_analysis.proofs.SameButHeaders.{headers-trans, headers-place, headers-literals, headers-kept, headers-at, headers-rising, map-same}
+use Rattle.varisat_analysis.proofs.SameButHeaders.{headers-trans, headers-place, headers-literals, headers-at, headers-rising, map-same}
 use Rattle.varisat_search.proofs.ClausesExchanged.{SameReason, MayExchange}
 use Rattle.varisat_analysis.proofs.MarkedReasons.{mark-place, mark-held, mark-live, reason-first}
 use Rattle.varisat_prop.proofs.SimplifiedPairs.{filter-∈, ∈-filter}
@@ -71,28 +63,6 @@ module _ (s t : View) (w : WellFormed s) (d : Discards s t) where
     depth = λ k h. refl;
     same = λ k h. same-left k h (node_at s k).reason refl (w.reason_is k h);
   }
-
--- a line for each clause that is gone
-deletions : (gone : StoredClause → Bool) (s : Search) (front : List KeptClause) (ks : List StoredClause) (back : List KeptClause) → s.kept ≡ front ++ (map kept_clause ks ++ back) → ((k : StoredClause) → k ∈ ks → gone k ≡ true → (kept_clause k).learned ≡ true) → (lines : List Line) × Proves 0 s (record s { kept = front ++ (map kept_clause (filter (λ k. not (gone k)) ks) ++ back) }) lines
-deletions gone s front [] back e h = ([], subst (λ (ks : List KeptClause). Proves 0 s (record s { kept = ks }) []) e (record { holds = λ held f. (held, refl, f); covers = λ P c. c }))
-deletions gone s front (k ∷ ks) back e h =
-    go (gone k) refl
-    (λ g. deletions gone (record s { kept = front ++ (map kept_clause ks ++ back) }) front ks back refl (λ j i. h j (inr i)))
-    (deletions gone s (front ++ kept_clause k ∷ []) ks back (e ∙ sym (append_assoc front (kept_clause k ∷ []) (map kept_clause ks ++ back))) (λ j i. h j (inr i)))
-  where
-    go : (b : Bool) → gone k ≡ b → (gone k ≡ true → (lines : List Line) × Proves 0 (record s { kept = front ++ (map kept_clause ks ++ back) }) (record s { kept = front ++ (map kept_clause (filter (λ k. not (gone k)) ks) ++ back) }) lines) → (lines : List Line) × Proves 0 s (record s { kept = (front ++ kept_clause k ∷ []) ++ (map kept_clause (filter (λ k. not (gone k)) ks) ++ back) }) lines → (lines : List Line) × Proves 0 s (record s { kept = front ++ (map kept_clause (cond (not b) (k ∷ (filter (λ k. not (gone k)) ks)) (filter (λ k. not (gone k)) ks)) ++ back) }) lines
-    go true g f u =
-        let (lines, p) = f g in
-        (Delete k.literals ∷ lines, parts_join 0 0 s (record s { kept = front ++ (map kept_clause ks ++ back) }) (record s { kept = front ++ (map kept_clause (filter (λ k. not (gone k)) ks) ++ back) }) (Delete k.literals ∷ []) lines (learned_is_deleted s front (map kept_clause ks ++ back) (kept_clause k) k.literals e (same-self k.literals) (h k (inl refl) g)) p)
-    go false g f (lines, p) = (lines, subst (λ (js : List KeptClause). Proves 0 s (record s { kept = js }) lines) (append_assoc front (kept_clause k ∷ []) (map kept_clause (filter (λ k. not (gone k)) ks) ++ back)) p)
-
-pub discards-prove : (s t : View) → Discards s t → (lines : List Line) × Proves 0 (search_of s) (search_of t) lines
-discards-prove s t d =
-    let pairs : List KeptClause = map kept_pair (pairs_from 0 s.binary) in
-    let left : List StoredClause = filter (λ k. not (d.gone k)) s.clauses in
-    let (lines, p) = deletions d.gone (search_of s) [] s.clauses pairs refl (λ k i g. ap (λ (x : Tier). not (is_tier x tier.Irred)) (d.learned k i g)) in
-    let e : search_of t ≡ record (search_of s) { kept = map kept_clause left ++ pairs } = ap search_of d.rest ∙ ap (λ ks. record (search_of s) { kept = ks ++ pairs }) (headers-kept left t.clauses d.clauses) in
-    (lines, subst (λ x. Proves 0 (search_of s) x lines) (sym e) p)
 
 -- What a reduction takes out is learned, and no reason.
 module _ (s : View) (old marked new : Store) (w : WellFormed s) (ok : IsSound old) (are : s.clauses ≡ live_clauses old) (m : HoldsClauses marked (length old.words) (reasons_marked s.values s.nodes (stored_clauses old))) (r : ReducesLocals marked new) where
@@ -138,7 +108,7 @@ module _ (s : View) (old marked new : Store) (w : WellFormed s) (ok : IsSound ol
       (deleted-stays out (stored_clauses marked) k.place out-places (ap (λ (x : StoredClause). x.header.deleted) (marked-∈ k h) ∙ same-deleted k ∙ e))
 
   -- a clause that is gone is one of those that the reduction takes
-  gone-out : (k : StoredClause) → k ∈ s.clauses → gone k.place ≡ true → (k ∈ ks) × (k.header.deleted ≡ false) × (k.place ∈ out)
+  pub gone-out : (k : StoredClause) → k ∈ s.clauses → gone k.place ≡ true → (k ∈ ks) × (k.header.deleted ≡ false) × (k.place ∈ out)
   gone-out k h e =
       let (i, live) = live-∈ ks k (subst (λ xs. k ∈ xs) are h) in (
         i,
@@ -183,3 +153,7 @@ module _ (s : View) (old marked new : Store) (w : WellFormed s) (ok : IsSound ol
     unused = λ k h g i l q. let z : true ≡ false = sym (is-used k h i l q) ∙ gone-unmarked k h g in absurd cc;
     rest = rest;
   }
+
+  pub reduces-gone : (t : View) (e : t.clauses ≡ live_clauses new) (rest : t ≡ record s { clauses = t.clauses }) (k : StoredClause) → (reduces-discards t e rest).gone k ≡ (header_at (stored_clauses new) k.place).deleted
+  unfolding reduces-discards
+  reduces-gone t e rest k = refl

@@ -15,7 +15,6 @@ use Rattle.varisat_search.specs.Restarts.{KeepsAssignment}
 use Rattle.varisat_search.specs.DueReductions.{KeepsSearch}
 use Rattle.varisat_search.proofs.DecidableVariables.{same-refl, same-read, same-trans}
 use Rattle.varisat_search.proofs.HeaderChanges.{header-seen}
-use Rattle.varisat_search.proofs.DiscardedClauses.{discards-prove}
 use Rattle.varisat_search.proofs.RepackedView.{repacks-seen, repacks-kinds}
 use Rattle.varisat_vsids.specs.Activities.{Activities}
 
@@ -30,45 +29,53 @@ none-proved : (s t : View) → search_of t ≡ search_of s → Proves 0 (search_
 none-proved s t e = subst (λ x. Proves 0 (search_of s) x []) (sym e) (record { holds = λ held f. (held, refl, f); covers = λ P c. c })
 
 module _ {A : Type 0} (x y : Context A) (ready : IsReady y) (activities : y.vsids ≡ x.vsids) where
-  with-assigned : KeepsAssignment (view x) (view y) → (lines : List Line) × Proves 0 (search_of (view x)) (search_of (view y)) lines → KeepsSearch x y
-  with-assigned a p = record {
+  with-assigned : (P : List Line → Type 0) → KeepsAssignment (view x) (view y) → (lines : List Line) × Proves 0 (search_of (view x)) (search_of (view y)) lines × P lines → KeepsSearch P x y
+  with-assigned P a p = record {
     ready = ready;
     assigned = a;
     proves = p;
     decidable = same-read (view x) x.vsids (view y) y.vsids (ap (λ (s : View). s.values) a.rest) (ap (λ (b : Activities). b.available) activities);
   }
 
-  pub discards-keep : Discards (view x) (view y) → KeepsSearch x y
-  discards-keep d = with-assigned (clauses-only (view x) (view y) d.rest) (discards-prove (view x) (view y) d)
+  pub discards-keep : (P : List Line → Type 0) → Discards (view x) (view y) → (lines : List Line) × Proves 0 (search_of (view x)) (search_of (view y)) lines × P lines → KeepsSearch P x y
+  discards-keep P d p = with-assigned P (clauses-only (view x) (view y) d.rest) p
 
-  pub headers-keep : IsReady x → ChangesHeaders (view x) (view y) → KeepsSearch x y
-  headers-keep r d = with-assigned (clauses-only (view x) (view y) d.rest) ([], none-proved (view x) (view y) (header-seen (view x) (view y) r.well d))
+  pub headers-keep : IsReady x → ChangesHeaders (view x) (view y) → KeepsSearch (λ lines. lines ≡ []) x y
+  headers-keep r d = with-assigned (λ lines. lines ≡ []) (clauses-only (view x) (view y) d.rest) ([], none-proved (view x) (view y) (header-seen (view x) (view y) r.well d), refl)
 
-  pub repacks-keep : IsReady x → Repacks (view x) (view y) → KeepsSearch x y
-  repacks-keep r d = with-assigned (record { rest = d.rest; kinds_stay = repacks-kinds (view x) (view y) r.well d }) ([], none-proved (view x) (view y) (repacks-seen (view x) (view y) r.well d))
+  pub repacks-keep : IsReady x → Repacks (view x) (view y) → KeepsSearch (λ lines. lines ≡ []) x y
+  repacks-keep r d = with-assigned (λ lines. lines ≡ []) (record { rest = d.rest; kinds_stay = repacks-kinds (view x) (view y) r.well d }) ([], none-proved (view x) (view y) (repacks-seen (view x) (view y) r.well d), refl)
 
-pub keeps-refl : {A : Type 0} (x : Context A) → IsReady x → KeepsSearch x x
+-- what its lines lead to is a part of how they are
+pub keeps-with : {A : Type 0} (x y : Context A) (P : List Line → Type 0) → KeepsSearch P x y → KeepsSearch (λ lines. Proves 0 (search_of (view x)) (search_of (view y)) lines × P lines) x y
+keeps-with x y P k = let (lines, p, i) = k.proves in record { ready = k.ready; assigned = k.assigned; proves = (lines, p, (p, i)); decidable = k.decidable }
+
+pub keeps-refl : {A : Type 0} (x : Context A) → IsReady x → KeepsSearch (λ lines. lines ≡ []) x x
 keeps-refl x r = record {
   ready = r;
   assigned = record { rest = refl; kinds_stay = refl };
-  proves = ([], none-proved (view x) (view x) refl);
+  proves = ([], none-proved (view x) (view x) refl, refl);
   decidable = same-refl (view x) x.vsids;
 }
 
-pub keeps-same : {A : Type 0} (x y : Context A) → IsReady x → y ≡ x → KeepsSearch x y
-keeps-same x y r e = subst (KeepsSearch x) (sym e) (keeps-refl x r)
+pub keeps-same : {A : Type 0} (x y : Context A) → IsReady x → y ≡ x → KeepsSearch (λ lines. lines ≡ []) x y
+keeps-same x y r e = subst (KeepsSearch (λ lines. lines ≡ []) x) (sym e) (keeps-refl x r)
 
-pub keeps-trans : {A : Type 0} (x y z : Context A) → KeepsSearch x y → KeepsSearch y z → KeepsSearch x z
-keeps-trans x y z a b =
-    let (first, p) = a.proves in
-    let (more, q) = b.proves in
+-- a search that is kept without lines is so with lines that may be none
+pub keeps-none : {A : Type 0} (x y : Context A) (P : List Line → Type 0) → P [] → KeepsSearch (λ lines. lines ≡ []) x y → KeepsSearch P x y
+keeps-none x y P none a = let (lines, p, e) = a.proves in record { ready = a.ready; assigned = a.assigned; proves = (lines, p, subst P (sym e) none); decidable = a.decidable }
+
+pub keeps-trans : {A : Type 0} (x y z : Context A) (P Q R : List Line → Type 0) → ((first more : List Line) → P first → Q more → R (first ++ more)) → KeepsSearch P x y → KeepsSearch Q y z → KeepsSearch R x z
+keeps-trans x y z P Q R join a b =
+    let (first, p, i) = a.proves in
+    let (more, q, j) = b.proves in
     record {
       ready = b.ready;
       assigned = record {
         rest = b.assigned.rest ∙ ap (λ (s : View). record s { clauses = (view z).clauses; nodes = (view z).nodes }) a.assigned.rest;
         kinds_stay = b.assigned.kinds_stay ∙ a.assigned.kinds_stay;
       };
-      proves = (first ++ more, parts_join 0 0 (search_of (view x)) (search_of (view y)) (search_of (view z)) first more p q);
+      proves = (first ++ more, parts_join 0 0 (search_of (view x)) (search_of (view y)) (search_of (view z)) first more p q, join first more i j);
       decidable = same-trans (view x) x.vsids (view y) y.vsids (view z) z.vsids a.decidable b.decidable;
     }
 

@@ -41,7 +41,7 @@ use Rattle.varisat_search.proofs.LearnedHeaders.{learned-there}
 use Rattle.varisat_analysis.proofs.AssignedLevels.{involved-assigned}
 use Rattle.varisat_analysis.proofs.WellFormedViews.{named-place}
 use Rattle.varisat_search.specs.Steps.{IsCut, Saves, SavesSome, IsFree}
-use Rattle.varisat_theory.specs.Derivations.{Add}
+use Rattle.varisat_theory.specs.Derivations.{Line, Add}
 use Rattle.varisat_theory.specs.Outcomes.{Unknown, Unsat, Steps}
 use Rattle.varisat_theory.proofs.StepEnds.{contradiction_is_found}
 use Rattle.varisat_search.specs.Progress.{IsStepFurther}
@@ -270,12 +270,12 @@ module _ {A : Type 0} {x0 x1 : Context A} {i : Conflict} {level : ℕ} (y : Cont
       }
 
   -- a step from there is one from before
-  pub noted-further : (z : Context A) → IsStepFurther (with_store x0 y) z → IsStepFurther x0 z
-  noted-further z p = record {
+  pub noted-further : (z : Context A) (P : List Line → Type 0) → IsStepFurther P (with_store x0 y) z → IsStepFurther P x0 z
+  noted-further z P p = record {
     ready = p.ready;
     steps =
-        let (lines, q) = p.steps in
-        (lines, subst (λ u. Steps u (search_of (view z)) (outcome_of (view z) z.assumptions.failed_core z.solver_state.sat_state) lines) (header-seen (view x0) (view (with_store x0 y)) d.ready.well changes) q);
+        let (lines, q, j) = p.steps in
+        (lines, subst (λ u. Steps u (search_of (view z)) (outcome_of (view z) z.assumptions.failed_core z.solver_state.sat_state) lines) (header-seen (view x0) (view (with_store x0 y)) d.ready.well changes) q, j);
     known = p.known;
     assumptions = p.assumptions;
     rises = p.rises;
@@ -508,8 +508,8 @@ module _ {A : Type 0} {x0 x1 x2 x3 : Context A} {i : Conflict} {level : ℕ} {l 
         o in
         λ m j. decidable m (u m j)
 
-    pub learning-further : z.trail.units_removed ≡ x3.trail.units_removed → IsStepFurther x0 z
-    learning-further u =
+    pub learning-further : (P : List Line → Type 0) → P (Add (l ∷ others) ∷ []) → z.trail.units_removed ≡ x3.trail.units_removed → IsStepFurther P x0 z
+    learning-further P handed u =
         let q = learned-result (view x0) (view x2) i level l others b.begun.ready.well b.begun.ready.settled learned-is (cut-is b) x0.watchlists b.begun.ready.propagated (view z) (keeping_of (view x3)) r others refl kept-is last-view in
         let lines = learned-steps (view x0) (view x2) i level l others b.begun.ready.well b.begun.ready.settled learned-is (cut-is b) x0.watchlists b.begun.ready.propagated (view z) (keeping_of (view x3)) r others refl kept-is last-view in
         let watched = learned-propagated (view x0) (view x2) i level l others b.begun.ready.well b.begun.ready.settled learned-is (cut-is b) x0.watchlists b.begun.ready.propagated x3.watchlists (view z) (keeping_of (view x3)) r others refl kept-is watched-is last-view in
@@ -532,7 +532,7 @@ module _ {A : Type 0} {x0 x1 x2 x3 : Context A} {i : Conflict} {level : ℕ} {l 
             assumed = subst (HasAssumptions (view z)) (sym list) (has-same-decisions (view x2) (view z) x2.assumptions (l ∷ []) (backtracked-well b) (ap (λ (x : View). x.trail) last-view) (ap (λ (x : View). x.decisions) last-view) (let n = last-count in omega (arith, n)) (cut-assumptions b));
             assumable = still-assumable (view x0) x0.vsids (view z) z.vsids x0.assumptions.working z.assumptions.working last-same (same-working x0.assumptions z.assumptions same-list) b.begun.ready.assumable;
           };
-          steps = (Add (l ∷ others) ∷ [], subst (λ v. Steps (search_of (view x0)) (search_of (view z)) (outcome_of (view z) z.assumptions.failed_core v) (Add (l ∷ others) ∷ [])) (sym still) lines);
+          steps = (Add (l ∷ others) ∷ [], subst (λ v. Steps (search_of (view x0)) (search_of (view z)) (outcome_of (view z) z.assumptions.failed_core v) (Add (l ∷ others) ∷ [])) (sym still) lines, handed);
           known = inl still;
           assumptions = same-list;
           rises = λ f. q.rises;
@@ -564,13 +564,13 @@ module _ {A : Type 0} {x0 x1 x2 : Context A} {i : Conflict} {level : ℕ} (d : B
   refuted-same : view x2 ≡ view x0
   refuted-same = ap (λ (x : Context A). view x) refuted-stays ∙ same-view d
 
-  -- no line is written
-  refuted-steps : (t : View) → Steps (search_of (view x0)) (search_of t) Unsat []
+  -- the empty clause is added
+  refuted-steps : (t : View) → Steps (search_of (view x0)) (search_of t) Unsat (Add [] ∷ [])
   refuted-steps t =
-      (contradiction_is_found (search_of (view x0)) (search_of t) (λ held f. none-learned.follows held (view_reads (view x0) held d.begun.ready.well f))).0
+      (contradiction_is_found (search_of (view x0)) (search_of t) (λ held f. none-learned.follows held (view_reads (view x0) held d.begun.ready.well f))).1
 
-  pub refuted-further : IsStepFurther x0 (record x2 { solver_state = record x2.solver_state { sat_state = verdict.Unsat } })
-  refuted-further =
+  pub refuted-further : (P : List Line → Type 0) → P (Add [] ∷ []) → IsStepFurther P x0 (record x2 { solver_state = record x2.solver_state { sat_state = verdict.Unsat } })
+  refuted-further P handed =
       let count = ap (λ (s : View). length s.values) refuted-same in
       let ready = d.begun.ready in
       record {
@@ -585,7 +585,7 @@ module _ {A : Type 0} {x0 x1 x2 : Context A} {i : Conflict} {level : ℕ} (d : B
           assumed = cut-assumptions d;
           assumable = still-assumable (view x0) x0.vsids (view x2) x2.vsids x0.assumptions.working x2.assumptions.working (still-decidable d) (same-working x0.assumptions x2.assumptions (cut-list d)) ready.assumable;
         };
-        steps = ([], refuted-steps (view x2));
+        steps = (Add [] ∷ [], refuted-steps (view x2), handed);
         known = inr refl;
         assumptions = cut-list d;
         rises = λ f. absurd cc;

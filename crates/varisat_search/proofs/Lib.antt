@@ -70,3 +70,11 @@ pub mod MentionedFlags
 pub mod NamedVariables
 pub mod SolverVariables
 pub mod TakenSolvers
+pub mod TracedUnits
+pub mod TracedClauses
+pub mod TracedPlaces
+pub mod DeletedLines
+pub mod UnmarkedPlaces
+pub mod DeletedLocals
+pub mod LoadedTrue
+pub mod LeastHeld

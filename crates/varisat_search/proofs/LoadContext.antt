@@ -1,22 +1,25 @@
 -- The contexts of `load_clause`.
-use Rattle.std.proofs.Common.{◌≡◌, ◌≢◌, ◌*◌, ◌<◌, false, replicate, [], ◌∷◌, length, ◌⊎◌, inl, inr, ⊎_elim, refl, sym, ap, ◌∙◌, subst, arith}
+use Rattle.std.proofs.Common.{◌≡◌, ◌≢◌, ◌*◌, ◌<◌, ◌≤◌, false, replicate, List, [], ◌∷◌, length, ◌⊎◌, inl, inr, ⊎_elim, refl, sym, ap, ◌∙◌, subst, arith}
+use Rattle.std.specs.List.Sorted.{IsPermutation}
 use Rattle.varisat_theory.specs.Membership.{◌∈◌, SameSet, IsDistinct}
 use Rattle.varisat_theory.specs.Literals.{Literal, Clause, variable_of}
 use Rattle.varisat_theory.specs.Searches.{IsTautology}
-use Rattle.varisat_theory.specs.Outcomes.{Proves, Loads}
+use Rattle.varisat_theory.specs.Derivations.{Line, Delete}
+use Rattle.varisat_theory.specs.Outcomes.{Unknown, Proves}
 use Rattle.varisat_clause.specs.Databases.{Tracks}
 use Rattle.varisat_prop.specs.Looks.{IsInRange}
 use Rattle.varisat_prop.specs.View.{View, kept, IsTrueIn}
 use Rattle.varisat_prop.specs.Watches.{IsPropagated}
 use Rattle.varisat_prop.proofs.LongVisited.{listed}
 use Rattle.varisat_vsids.specs.Activities.{Activities}
+use Rattle.varisat_analysis.specs.declared.tmp.TmpData.{TmpData}
 use Rattle.varisat_search.specs.declared.context.Context.{Context}
 use Rattle.varisat_search.specs.declared.state.SatState.{SatState}
 use Rattle.varisat_search.specs.declared.state.SatState.TheVariants as verdict
 use Rattle.varisat_search.specs.declared.state.SolverState.{SolverState}
 use Rattle.varisat_search.specs.Contexts.{view, KeepsSchedule, IsReady}
 use Rattle.varisat_search.specs.Decisions.{HasActivities, AreDecidable, CanDecide, SameDecidable}
-use Rattle.varisat_search.specs.Loading.{loaded_outcome, IsAdded}
+use Rattle.varisat_search.specs.Loading.{loaded_outcome, IsAdded, LoadsClause}
 use Rattle.varisat_search.specs.Seen.{search_of}
 use Rattle.varisat_search.specs.Steps.{IsCut, SavesAll, reopened_state}
 use Rattle.varisat_search.specs.AssumptionParts.{AssumptionParts, HasAssumptions}
@@ -25,7 +28,8 @@ use Rattle.varisat_search.proofs.AssumptionContexts.{IsSameList, still-assumable
 use Rattle.varisat_search.proofs.DecidableVariables.{can-decide, same-trans}
 use Rattle.varisat_search.proofs.LoadDecisions.{added-same, added-kept}
 use Rattle.varisat_search.proofs.LoadView.{Restarted, restarted, restarted-kept, restarted-propagated, MayBeAdded, added-well, undecided-settled}
-use Rattle.varisat_search.proofs.LoadLines.{restart-moves, opened, lines-tautology, lines-satisfied, lines-added}
+use Rattle.varisat_search.proofs.LoadLines.{restart-moves, opened, lines-tautology, lines-satisfied, lines-deleted, lines-added}
+use Rattle.varisat_search.proofs.LoadedTrue.{permuted-set, loads-tautology, loads-unit, loads-open, loads-true}
 
 -- the verdict stays, or is Unsat
 added-verdict : (s t : View) (c : Clause) (before after : SatState) → IsAdded s t c before after → (after ≡ before) ⊎ (after ≡ verdict.Unsat)
@@ -58,9 +62,9 @@ pub record Loading {A : Type 0} (x0 x1 : Context A) (c lits : Clause) : Type 0 w
   pub literals : SameSet lits c
 
 -- What loading gives where the verdict was not Unsat.
-pub record Loaded {A : Type 0} (x0 z : Context A) (c : Clause) : Type 0 where
+pub record Loaded {A : Type 0} (ordered : Clause → Type 0) (are : List Line → Type 0) (x0 z : Context A) (c : Clause) : Type 0 where
   pub ready : IsReady z
-  pub lines : x0.solver_state.sat_state ≢ verdict.Unsat → Loads (search_of (view x0)) (search_of (view z)) c (loaded_outcome z.solver_state.sat_state) []
+  pub lines : x0.solver_state.sat_state ≢ verdict.Unsat → LoadsClause ordered are (search_of (view x0)) (search_of (view z)) c (loaded_outcome z.solver_state.sat_state)
   pub kept_verdict : (z.solver_state.sat_state ≡ reopened_state x0.solver_state.sat_state) ⊎ (z.solver_state.sat_state ≡ verdict.Unsat)
   pub assumptions : z.assumptions ≡ record x0.assumptions { levels = 0 }
   pub last : SavesAll (view x0) x0.assignment.last z.assignment.last
@@ -71,6 +75,31 @@ pub record Loaded {A : Type 0} (x0 z : Context A) (c : Clause) : Type 0 where
   pub schedule : KeepsSchedule x0 z
   pub decidable : SameDecidable (view x0) x0.vsids (view z) z.vsids
   pub decay : z.vsids.decay ≡ x0.vsids.decay
+
+-- The order of the literals that were copied, and where they stand, matter to nothing else.
+pub loading-other : {A : Type 0} {x0 x1 : Context A} {c lits : Clause} (other : TmpData A) → Loading x0 x1 c lits → Loading x0 (record x1 { tmp_data = other }) c lits
+loading-other other d = record {
+  ready = d.ready;
+  in_range = d.in_range;
+  same = d.same;
+  cut = d.cut;
+  decidable = d.decidable;
+  entries = d.entries;
+  stay_decidable = d.stay_decidable;
+  decay = d.decay;
+  last = d.last;
+  state = d.state;
+  units = d.units;
+  analysis = d.analysis;
+  flags = d.flags;
+  watches = d.watches;
+  tracks = d.tracks;
+  schedule = record { schedule = d.schedule.schedule; solver_config = d.schedule.solver_config };
+  same_list = d.same_list;
+  assumed = d.assumed;
+  distinct = d.distinct;
+  literals = d.literals;
+}
 
 module _ {A : Type 0} {x0 x1 : Context A} {c lits : Clause} (d : Loading x0 x1 c lits) where
   pub loading-restarted : Restarted (view x0) (view x1)
@@ -102,8 +131,8 @@ module _ {A : Type 0} {x0 x1 : Context A} {c lits : Clause} (d : Loading x0 x1 c
   literals-decidable l h = (d.stay_decidable (variable_of l)).0 (d.decidable l (d.literals.0 l h))
 
   -- the clause is not kept, since it has a literal and its opposite or is true
-  settled : (x0.solver_state.sat_state ≢ verdict.Unsat → Loads (search_of (view x0)) (search_of (view x1)) c (loaded_outcome x1.solver_state.sat_state) []) → Loaded x0 x1 c
-  settled p =
+  settled : (ordered : Clause → Type 0) (are : List Line → Type 0) → (x0.solver_state.sat_state ≢ verdict.Unsat → LoadsClause ordered are (search_of (view x0)) (search_of (view x1)) c (loaded_outcome x1.solver_state.sat_state)) → Loaded ordered are x0 x1 c
+  settled ordered are p =
       let r = loading-restarted in
       record {
         ready = record {
@@ -130,11 +159,28 @@ module _ {A : Type 0} {x0 x1 : Context A} {c lits : Clause} (d : Loading x0 x1 c
         decay = d.decay;
       }
 
-  pub loaded-tautology : IsTautology lits → Loaded x0 x1 c
-  loaded-tautology t = settled (λ n. lines-tautology (view x0) (view x1) c lits d.ready.well loading-restarted moves d.distinct d.literals x1.solver_state.sat_state (ap loaded_outcome verdict-is ∙ opened x0.solver_state.sat_state n) t)
+  still-open : x0.solver_state.sat_state ≢ verdict.Unsat → loaded_outcome x1.solver_state.sat_state ≡ Unknown
+  still-open n = ap loaded_outcome verdict-is ∙ opened x0.solver_state.sat_state n
 
-  pub loaded-satisfied : (l : Literal) → l ∈ lits → IsTrueIn (view x1) l → Loaded x0 x1 c
-  loaded-satisfied l i t = settled (λ n. lines-satisfied (view x0) (view x1) c lits d.ready.well loading-restarted moves d.distinct d.literals x1.solver_state.sat_state (ap loaded_outcome verdict-is ∙ opened x0.solver_state.sat_state n) l i t)
+  pub loaded-tautology : (ordered : Clause → Type 0) (are : List Line → Type 0) → are [] → IsTautology lits → Loaded ordered are x0 x1 c
+  loaded-tautology ordered are none t =
+      settled ordered are (λ n.
+      loads-tautology ordered are (view x0) (view x1) c lits d.ready.well loading-restarted d.distinct d.literals (view x1) (loaded_outcome x1.solver_state.sat_state) t
+      (lines-tautology (view x0) (view x1) c lits d.ready.well loading-restarted moves d.distinct d.literals x1.solver_state.sat_state (still-open n) t) none)
+
+  -- a unit that is true
+  pub loaded-satisfied : (ordered : Clause → Type 0) (are : List Line → Type 0) → are [] → (l : Literal) → l ∈ lits → IsTrueIn (view x1) l → length lits < 2 → Loaded ordered are x0 x1 c
+  loaded-satisfied ordered are none l i t short =
+      settled ordered are (λ n.
+      loads-unit ordered are (view x0) (view x1) c lits d.ready.well loading-restarted d.distinct d.literals (view x1) (loaded_outcome x1.solver_state.sat_state) l i short
+      (lines-satisfied (view x0) (view x1) c lits d.ready.well loading-restarted moves d.distinct d.literals x1.solver_state.sat_state (still-open n) l i t) none)
+
+  -- a longer clause with a true literal
+  pub loaded-deleted : (ordered : Clause → Type 0) (are : List Line → Type 0) (l : Literal) → l ∈ lits → IsTrueIn (view x1) l → (IsTautology lits → ⊥) → 2 ≤ length lits → (e : Clause) → IsPermutation lits e → ordered e → are (Delete e ∷ []) → Loaded ordered are x0 x1 c
+  loaded-deleted ordered are l i t open_clause long e m o one =
+      settled ordered are (λ n.
+      loads-true ordered are (view x0) (view x1) c lits d.ready.well loading-restarted d.distinct d.literals (view x1) (loaded_outcome x1.solver_state.sat_state) l i t open_clause long e m o
+      (lines-deleted (view x0) (view x1) c lits d.ready.well loading-restarted moves d.distinct d.literals x1.solver_state.sat_state (still-open n) l i t e (permuted-set lits e c m d.literals)) one)
 
   added-stay : (z : Context A) → z.vsids ≡ x1.vsids → IsAdded (view x1) (view z) lits x1.solver_state.sat_state z.solver_state.sat_state → SameDecidable (view x0) x0.vsids (view z) z.vsids
   added-stay z e a =
@@ -149,8 +195,8 @@ module _ {A : Type 0} {x0 x1 : Context A} {c lits : Clause} (d : Loading x0 x1 c
       (λ c h. ⊎_elim (still-decidable c) (λ f l i. d.decidable l (d.literals.0 l (f l i))) (added-kept (view x1) (view z) lits x1.solver_state.sat_state z.solver_state.sat_state loading-restarted.well d.distinct may.paired a c h))
 
   -- the clause was added
-  pub loaded-added : (z : Context A) → z ≡ record x1 { assignment = z.assignment; binary_clauses = z.binary_clauses; clause_alloc = z.clause_alloc; clause_db = z.clause_db; impl_graph = z.impl_graph; solver_state = z.solver_state; trail = z.trail; watchlists = z.watchlists } → IsPropagated z.watchlists (view z) → Tracks z.clause_db z.clause_alloc → z.solver_state ≡ record x1.solver_state { sat_state = z.solver_state.sat_state } → z.trail.units_removed ≡ x1.trail.units_removed → z.assignment.last ≡ x1.assignment.last → IsAdded (view x1) (view z) lits x1.solver_state.sat_state z.solver_state.sat_state → Loaded x0 z c
-  loaded-added z k p t s u l a =
+  pub loaded-added : (ordered : Clause → Type 0) (are : List Line → Type 0) → are [] → ((l : Literal) → l ∈ lits → IsTrueIn (view x1) l → ⊥) → (z : Context A) → z ≡ record x1 { assignment = z.assignment; binary_clauses = z.binary_clauses; clause_alloc = z.clause_alloc; clause_db = z.clause_db; impl_graph = z.impl_graph; solver_state = z.solver_state; trail = z.trail; watchlists = z.watchlists } → IsPropagated z.watchlists (view z) → Tracks z.clause_db z.clause_alloc → z.solver_state ≡ record x1.solver_state { sat_state = z.solver_state.sat_state } → z.trail.units_removed ≡ x1.trail.units_removed → z.assignment.last ≡ x1.assignment.last → IsAdded (view x1) (view z) lits x1.solver_state.sat_state z.solver_state.sat_state → Loaded ordered are x0 z c
+  loaded-added ordered are empty untrue z k p t s u l a =
       let r = loading-restarted in
       let may = loading-may in
       let vsids : z.vsids ≡ x1.vsids = ap (λ (x : Context A). x.vsids) k in
@@ -170,7 +216,10 @@ module _ {A : Type 0} {x0 x1 : Context A} {c lits : Clause} (d : Loading x0 x1 c
           assumed = subst (HasAssumptions (view z)) (sym (list ∙ none)) (has-undecided (view z) (record x0.assumptions { levels = 0 }) q.1 refl (λ l h. let i = d.ready.assumed.in_range l h in let n = q.2 in omega (arith, i, n)));
           assumable = still-assumable (view x0) x0.vsids (view z) z.vsids x0.assumptions.working z.assumptions.working (added-stay z vsids a) (λ l h. subst (λ (x : AssumptionParts). l ∈ x.working) (list ∙ none) h) d.ready.assumable;
         };
-        lines = λ n. lines-added (view x0) (view x1) c lits d.ready.well r moves d.distinct d.literals may (view z) lits (reopened_state x0.solver_state.sat_state) z.solver_state.sat_state (opened x0.solver_state.sat_state n) refl b;
+        lines = λ n.
+            loads-open ordered are (view x0) (view x1) c lits d.ready.well r d.distinct d.literals (view z) (loaded_outcome z.solver_state.sat_state) untrue
+            (lines-added (view x0) (view x1) c lits d.ready.well r moves d.distinct d.literals may (view z) lits (reopened_state x0.solver_state.sat_state) z.solver_state.sat_state (opened x0.solver_state.sat_state n) refl b)
+            empty;
         kept_verdict = added-verdict (view x1) (view z) lits (reopened_state x0.solver_state.sat_state) z.solver_state.sat_state b;
         assumptions = list ∙ none;
         last = subst (SavesAll (view x0) x0.assignment.last) (sym l) d.last;

@@ -1,8 +1,9 @@
--- The lines of `load_clause`, of which there are none.
+-- The lines of `load_clause`.
 use Rattle.std.proofs.Common.{◌≡◌, ◌≢◌, ℕ, ◌<◌, ◌≤◌, false, List, [], ◌∷◌, ◌++◌, length, inl, inr, ⊎_elim, refl, sym, ap, ◌∙◌, subst, arith}
 use Rattle.std.proofs.lemmas.Bool.{cases_lt}
 use Rattle.varisat_theory.specs.Membership.{◌∈◌, SameSet, IsDistinct}
 use Rattle.varisat_theory.specs.Literals.{Literal, Clause, opposite, IsUnit}
+use Rattle.varisat_theory.specs.Derivations.{Line, Delete}
 use Rattle.varisat_prop.specs.declared.prop.graph.Reason.TheVariants as reason
 use Rattle.varisat_prop.specs.Pairs.{with_pair}
 use Rattle.varisat_prop.specs.View.{View, IsTrueIn, WellFormed}
@@ -21,7 +22,7 @@ use Rattle.varisat_search.proofs.LearnLines.{cut_moves, unit_moves}
 use Rattle.varisat_theory.specs.Searches.{KeptClause, Search, IsTautology}
 use Rattle.varisat_theory.specs.Outcomes.{Outcome, Unknown, Unsat, Proves, Loads, IsContradicted}
 use Rattle.varisat_theory.proofs.Held.{same_set-self}
-use Rattle.varisat_theory.proofs.StepLoads.{loaded_is_kept, loaded_is_unit, loaded_is_settled, loaded_is_contradicted, part_load, load_part}
+use Rattle.varisat_theory.proofs.StepLoads.{loaded_is_kept, loaded_is_unit, loaded_is_settled, loaded_is_deleted, loaded_is_contradicted, part_load, load_part}
 
 abbrev pub LoadsAlone : View → View → Clause → SatState → Type 0
 LoadsAlone s t c after = Loads (search_of s) (search_of t) c (loaded_outcome after) []
@@ -51,12 +52,15 @@ module _ (s t : View) (c lits : Clause) (w : WellFormed s) (r : Restarted s t) (
   from-now : (x : Literal) → x ∈ (search_of t).fixed → IsTrueIn t x
   from-now x h = (fixed_from t r.well x h).0
 
-  before : (z : View) (v : Outcome) → Loads (search_of t) (search_of z) c v [] → Loads (search_of s) (search_of z) c v []
-  before z v q =
-      part_load (search_of s) (search_of t) (search_of z) c v [] p
+  before-lines : (z : View) (v : Outcome) (lines : List Line) → Loads (search_of t) (search_of z) c v lines → Loads (search_of s) (search_of z) c v lines
+  before-lines z v lines q =
+      part_load (search_of s) (search_of t) (search_of z) c v lines p
       (λ x h. now x (r.fixed_to x (fixed_from s w x h)))
       (λ x h. fixed_to s w x (r.fixed_from x (from-now x h)))
       q
+
+  before : (z : View) (v : Outcome) → Loads (search_of t) (search_of z) c v [] → Loads (search_of s) (search_of z) c v []
+  before z v q = before-lines z v [] q
 
   open-verdict : (b : SatState) (z : View) → loaded_outcome b ≡ Unknown → Loads (search_of s) (search_of z) c Unknown [] → LoadsAlone s z c b
   open-verdict b z e q = subst (λ v. Loads (search_of s) (search_of z) c v []) (sym e) q
@@ -69,13 +73,22 @@ module _ (s t : View) (c lits : Clause) (w : WellFormed s) (r : Restarted s t) (
       (λ (l, unit, f). own-opposite x (unit.1 (opposite x) (same.0 (opposite x) j) ∙ sym (unit.1 x (same.0 x i))))
       k)))
 
-  pub lines-satisfied : (b : SatState) → loaded_outcome b ≡ Unknown → (x : Literal) → x ∈ lits → IsTrueIn t x → LoadsAlone s t c b
-  lines-satisfied b e x i h =
-      open-verdict b t e (before t Unknown (loaded_is_settled (search_of t) c (inr (x, same.0 x i, now x h)) (λ k.
+  -- a clause with a true literal is not contradicted
+  true-open : (x : Literal) → x ∈ lits → IsTrueIn t x → IsContradicted (search_of t) c → ⊥
+  true-open x i h k =
       ⊎_elim
       (λ g. subst (λ y. x ∈ y) g (same.0 x i))
       (λ (l, unit, f). made-clash t.values x h (subst (λ y. IsTrueIn t (opposite y)) (sym (unit.1 x (same.0 x i))) (from-now (opposite l) f)))
-      k)))
+      k
+
+  pub lines-satisfied : (b : SatState) → loaded_outcome b ≡ Unknown → (x : Literal) → x ∈ lits → IsTrueIn t x → LoadsAlone s t c b
+  lines-satisfied b e x i h =
+      open-verdict b t e (before t Unknown (loaded_is_settled (search_of t) c (inr (x, same.0 x i, now x h)) (true-open x i h)))
+
+  pub lines-deleted : (b : SatState) → loaded_outcome b ≡ Unknown → (x : Literal) → x ∈ lits → IsTrueIn t x → (d : Clause) → SameSet d c → Loads (search_of s) (search_of t) c (loaded_outcome b) (Delete d ∷ [])
+  lines-deleted b e x i h d m =
+      subst (λ v. Loads (search_of s) (search_of t) c v (Delete d ∷ [])) (sym e)
+      (before-lines t Unknown (Delete d ∷ []) (loaded_is_deleted (search_of t) c d (inr (x, same.0 x i, now x h)) (true-open x i h) m))
 
   empty-set : lits ≡ [] → c ≡ []
   empty-set e = go c (λ m h. subst (λ y. m ∈ y) e (same.1 m h))

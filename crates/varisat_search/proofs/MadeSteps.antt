@@ -1,7 +1,10 @@
 -- A step is made over what comes before it: units that are settled, or propagation and decisions up to a conflict or to an end.
-use Rattle.std.proofs.Common.{◌≡◌, [], inl, refl, ap, ◌∙◌, subst}
+use Rattle.std.proofs.Common.{◌≡◌, List, [], ◌++◌, ◌⊎◌, ⊎_elim, inl, refl, ap, ◌∙◌, subst}
+use Rattle.varisat_theory.specs.Literals.{Literal}
+use Rattle.varisat_trace.specs.Traces.{verdict_entries}
+use Rattle.varisat_theory.specs.Derivations.{Line}
 use Rattle.varisat_theory.specs.Outcomes.{Steps}
-use Rattle.varisat_prop.specs.View.{GrowsTrail}
+use Rattle.varisat_prop.specs.View.{View, GrowsTrail}
 use Rattle.varisat_prop.proofs.ViewGrowth.{grows-refl}
 use Rattle.varisat_vsids.specs.Activities.{Activities}
 use Rattle.varisat_search.specs.declared.context.Context.{Context}
@@ -23,6 +26,40 @@ use Rattle.varisat_search.proofs.SettledUnits.{steps-settled, assumes-settled, r
 use Rattle.varisat_search.proofs.StepLines.{steps-after}
 use Rattle.varisat_search.proofs.StepRanks.{rises-after}
 use Rattle.varisat_search.proofs.TrailExtensions.{remembers-grown}
+
+-- the lines are so in another way too
+pub made-are : {A : Type 0} (x y : Context A) (P Q : List Line → Type 0) → ((lines : List Line) → P lines → Q lines) → MakesStep P x y → MakesStep Q x y
+made-are x y P Q are m = record {
+  ready = m.ready;
+  steps = let (lines, p, i) = m.steps in (lines, p, are lines i);
+  assumes = m.assumes;
+  rises = m.rises;
+  decidable = m.decidable;
+  decay = m.decay;
+  last = m.last;
+  count = m.count;
+  units = m.units;
+  state = m.state;
+}
+
+-- what its lines lead to is a part of how they are
+pub made-with : {A : Type 0} (x y : Context A) (P : List Line → Type 0) → MakesStep P x y → MakesStep (λ lines. Steps (search_of (view x)) (search_of (view y)) (outcome_of (view y) y.assumptions.failed_core y.solver_state.sat_state) lines × P lines) x y
+made-with x y P m = record {
+  ready = m.ready;
+  steps = let (lines, p, i) = m.steps in (lines, p, (p, i));
+  assumes = m.assumes;
+  rises = m.rises;
+  decidable = m.decidable;
+  decay = m.decay;
+  last = m.last;
+  count = m.count;
+  units = m.units;
+  state = m.state;
+}
+
+-- a step that learned has no core
+pub no-core-entry : (s : View) (core : List Literal) (b : SatState) → (b ≡ verdict.Unknown) ⊎ (b ≡ verdict.Unsat) → verdict_entries (outcome_of s core b) ≡ []
+no-core-entry s core b o = ⊎_elim (λ e. ap (λ c. verdict_entries (outcome_of s core c)) e) (λ e. ap (λ c. verdict_entries (outcome_of s core c)) e) o
 
 -- 1. Propagation and decisions, from x to y.
 
@@ -53,10 +90,10 @@ module _ {A : Type 0} (x y : Context A) (r : IsReady x) (f : Finds x y) where
   abbrev ended : SatState → Context A
   ended b = record y { solver_state = record y.solver_state { sat_state = b } }
 
-  pub made-ended : (b : SatState) → (b ≡ verdict.Unknown → ⊥) → Steps (search_of (view y)) (search_of (view y)) (outcome_of (view y) y.assumptions.failed_core b) [] → KeepsAssumptions (search_of (view x)) (outcome_of (view y) y.assumptions.failed_core b) x.assumptions y.assumptions → MakesStep x (ended b)
-  made-ended b known steps assumes = record {
+  pub made-ended : (b : SatState) (P : List Line → Type 0) → P [] → (b ≡ verdict.Unknown → ⊥) → Steps (search_of (view y)) (search_of (view y)) (outcome_of (view y) y.assumptions.failed_core b) [] → KeepsAssumptions (search_of (view x)) (outcome_of (view y) y.assumptions.failed_core b) x.assumptions y.assumptions → MakesStep P x (ended b)
+  made-ended b P none known steps assumes = record {
     ready = ready-with y (ended b) f.ready refl refl refl f.ready.propagated f.ready.decidable f.ready.assumed f.ready.assumable;
-    steps = ([], steps-after (view x) (view y) (view y) (outcome_of (view y) y.assumptions.failed_core b) [] r.well f.ready.well f.grows steps);
+    steps = ([], steps-after (view x) (view y) (view y) (outcome_of (view y) y.assumptions.failed_core b) [] r.well f.ready.well f.grows steps, none);
     assumes = assumes;
     rises = λ e. absurd (known e);
     decidable = f.decidable;
@@ -68,12 +105,12 @@ module _ {A : Type 0} (x y : Context A) (r : IsReady x) (f : Finds x y) where
   }
 
   -- A clause is learned after them.
-  pub made-learned : (z : Context A) → IsStepFurther y z → SavesSome (view y) y.assignment.last z.assignment.last → MakesStep x z
-  made-learned z e saves =
-      let (lines, p) = e.steps in
+  pub made-learned : (z : Context A) (P : List Line → Type 0) → IsStepFurther P y z → SavesSome (view y) y.assignment.last z.assignment.last → MakesStep P x z
+  made-learned z P e saves =
+      let (lines, p, i) = e.steps in
       record {
         ready = e.ready;
-        steps = (lines, steps-after (view x) (view y) (view z) (outcome_of (view z) z.assumptions.failed_core z.solver_state.sat_state) lines r.well f.ready.well f.grows p);
+        steps = (lines, steps-after (view x) (view y) (view z) (outcome_of (view z) z.assumptions.failed_core z.solver_state.sat_state) lines r.well f.ready.well f.grows p, i);
         assumes = keeps-learned (view x) (view z) x.assumptions y.assumptions z.assumptions z.assumptions.failed_core z.solver_state.sat_state r.well f.taken e.assumptions e.known;
         rises = λ u. rises-after (view x) (view y) (view z) r.well f.ready.well e.ready.well f.grows e.count (e.rises u);
         decidable = same-trans (view x) x.vsids (view y) y.vsids (view z) z.vsids f.decidable e.decidable;
@@ -85,23 +122,23 @@ module _ {A : Type 0} (x y : Context A) (r : IsReady x) (f : Finds x y) where
       }
 
 -- a clause is learned at once
-pub made-at-once : {A : Type 0} (y z : Context A) → IsReady y → IsStepFurther y z → SavesSome (view y) y.assignment.last z.assignment.last → MakesStep y z
-made-at-once y z r e saves = made-learned y y r (finds-refl y r) z e saves
+pub made-at-once : {A : Type 0} (y z : Context A) (P : List Line → Type 0) → IsReady y → IsStepFurther P y z → SavesSome (view y) y.assignment.last z.assignment.last → MakesStep P y z
+made-at-once y z P r e saves = made-learned y y r (finds-refl y r) z P e saves
 
 -- 2. Units that are settled, from x to y.
 
-pub made-settled : {A : Type 0} (x y z : Context A) → IsReady x → GoesOnByLines x y → y ≡ record x { assignment = y.assignment; binary_clauses = y.binary_clauses; clause_alloc = y.clause_alloc; clause_db = y.clause_db; impl_graph = y.impl_graph; trail = y.trail; watchlists = y.watchlists } → MakesStep y z → MakesStep x z
-made-settled {A} x y z r a k m =
+pub made-settled : {A : Type 0} (x y z : Context A) (P Q R : List Line → Type 0) → ((first more : List Line) → P first → Q more → R (first ++ more)) → IsReady x → GoesOnByLines P x y → y ≡ record x { assignment = y.assignment; binary_clauses = y.binary_clauses; clause_alloc = y.clause_alloc; clause_db = y.clause_db; impl_graph = y.impl_graph; trail = y.trail; watchlists = y.watchlists } → MakesStep Q y z → MakesStep R x z
+made-settled {A} x y z P Q R join r a k m =
     let v = outcome_of (view z) z.assumptions.failed_core z.solver_state.sat_state in
-    let (lines, p) = m.steps in
+    let (lines, p, i) = m.steps in
     record {
       ready = m.ready;
-      steps = steps-settled x y a (view z) v lines p;
-      assumes = assumes-settled x y a v z.assumptions (ap (λ (c : Context A). c.assumptions) k) m.assumes;
-      rises = λ u. rises-settled x y a (view z) r m.ready.well m.count (m.rises u);
+      steps = steps-settled x y P a (view z) v lines Q R join p i;
+      assumes = assumes-settled x y P a v z.assumptions (ap (λ (c : Context A). c.assumptions) k) m.assumes;
+      rises = λ u. rises-settled x y P a (view z) r m.ready.well m.count (m.rises u);
       decidable = same-trans (view x) x.vsids (view y) y.vsids (view z) z.vsids a.decidable m.decidable;
       decay = m.decay ∙ ap (λ (c : Context A). c.vsids.decay) k;
-      last = remembers-settled x y a z.assignment.last m.last;
+      last = remembers-settled x y P a z.assignment.last m.last;
       count = m.count ∙ a.extends.count;
       units = m.units ∙ a.units;
       state = m.state ∙ ap (λ (c : Context A). record c.solver_state { sat_state = z.solver_state.sat_state }) k;

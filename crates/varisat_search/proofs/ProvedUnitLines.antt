@@ -22,7 +22,7 @@ use Rattle.varisat_analysis.specs.Learned.{implying_clause}
 use Rattle.varisat_search.specs.Seen.{search_of}
 use Rattle.varisat_search.specs.ProvedUnits.{implied_units, ProvesUnits}
 use Rattle.varisat_search.proofs.DecidableVariables.{true-or-false}
-use Rattle.varisat_search.proofs.ProvedUnits.{unit-node, zero-level, units-well}
+use Rattle.varisat_search.proofs.ProvedUnits.{level-zero, unit-node, zero-level, units-well}
 use Rattle.varisat_search.proofs.ViewSearch.{no_clause, fixed_from, fixed_to, proved_from, proved_to, seen_clauses}
 use Rattle.varisat_analysis.proofs.WellFormedViews.{reason-kept, reason-first, reason-before}
 
@@ -62,7 +62,7 @@ before-split [] b j h = absurd (omega (arith, h))
 before-split (x ∷ a) b zero h = inl refl
 before-split (x ∷ a) b (suc j) h = inr (before-split a b j (omega (arith, h)))
 
-module _ (s t : View) (w : WellFormed s) (none : s.decisions ≡ []) (d : ProvesUnits s t) where
+module _ (s : View) (w : WellFormed s) (none : s.decisions ≡ []) where
   abbrev S : Search
   S = search_of s
 
@@ -71,7 +71,7 @@ module _ (s t : View) (w : WellFormed s) (none : s.decisions ≡ []) (d : Proves
 
   -- at level 0 each literal is fixed
   zero-of : (l : Literal) → l ∈ s.trail → level_of s l ≡ 0
-  zero-of l h = let (k, a, e) = place_in l s.trail 0 h in sym (ap (level_of s) e) ∙ zero-level s t w none d k a
+  zero-of l h = let (k, a, e) = place_in l s.trail 0 h in sym (ap (level_of s) e) ∙ level-zero s w none k a
 
   -- those that no clause implied are proved already
   proved-already : (l : Literal) → l ∈ s.trail → implied l ≡ false → l ∈ S.proved
@@ -127,13 +127,14 @@ module _ (s t : View) (w : WellFormed s) (none : s.decisions ≡ []) (d : Proves
               (reason-before s w place r m i (q.0 m (subst (λ y. m ∈ y) g n))),
         )
 
-  abbrev with_units : Search
+  abbrev pub with_units : Search
   with_units = record S { proved = S.proved ++ implied_units s }
 
   pub lines-prove : Proves 0 S with_units (unit_lines (implied_units s))
   lines-prove = units_are_proved S (implied_units s) (λ front back l e. (fixed front back l e, by-clause front back l e))
 
-  fixed-stays : (l : Literal) → l ∈ S.fixed → l ∈ (search_of t).fixed
+module _ (s t : View) (w : WellFormed s) (none : s.decisions ≡ []) (d : ProvesUnits s t) where
+  fixed-stays : (l : Literal) → l ∈ (search_of s).fixed → l ∈ (search_of t).fixed
   fixed-stays l h =
       let f = fixed_from s w l h in
       let v = units-well s t w none d in
@@ -141,23 +142,23 @@ module _ (s t : View) (w : WellFormed s) (none : s.decisions ≡ []) (d : Proves
       let z : level_of t l ≡ 0 = ap (λ (y : View). level_of y l) d.rest ∙ sym (ap (λ x. level_of (record s { nodes = t.nodes }) x) e) ∙ ap (λ n. n.level) (unit-node s t w none d k a) ∙ zero-level s t w none d k a in
       fixed_to t v l (subst (λ (y : View). IsTrueIn y l) (sym d.rest) f.0, z)
 
-  proved-back : (l : Literal) → l ∈ (search_of t).proved → l ∈ (S.proved ++ implied_units s)
+  proved-back : (l : Literal) → l ∈ (search_of t).proved → l ∈ ((search_of s).proved ++ implied_units s)
   proved-back l h =
       let i : l ∈ s.trail = subst (λ xs. l ∈ xs) (ap (λ (y : View). y.trail) d.rest) (proved_from t (units-well s t w none d) l h).0 in
       ⊎_elim
-      (λ c. ∈-append_right l S.proved (implied_units s) (filter-∈ implied s.trail l i c))
-      (λ c. ∈-append_left l S.proved (implied_units s) (proved-already l i c))
-      (true-or-false (implied l))
+      (λ c. ∈-append_right l (search_of s).proved (implied_units s) (filter-∈ (implied s w none) s.trail l i c))
+      (λ c. ∈-append_left l (search_of s).proved (implied_units s) (proved-already s w none l i c))
+      (true-or-false (implied s w none l))
 
-  same-kept : (search_of t).kept ≡ S.kept
+  same-kept : (search_of t).kept ≡ (search_of s).kept
   same-kept = ap (λ (y : View). (search_of y).kept) d.rest
 
   pub units-prove : Proves 0 (search_of s) (search_of t) (unit_lines (implied_units s))
   units-prove =
-      subst (Proves 0 S (search_of t)) (append-nil (unit_lines (implied_units s)))
-      (parts_join 0 0 S with_units (search_of t) (unit_lines (implied_units s)) [] lines-prove
-      (moves_prove with_units (search_of t)
-      (same_equal (clauses_of S.kept) (clauses_of (search_of t).kept) (ap clauses_of (sym same-kept)))
+      subst (Proves 0 (search_of s) (search_of t)) (append-nil (unit_lines (implied_units s)))
+      (parts_join 0 0 (search_of s) (with_units s w none) (search_of t) (unit_lines (implied_units s)) [] (lines-prove s w none)
+      (moves_prove (with_units s w none) (search_of t)
+      (same_equal (clauses_of (search_of s).kept) (clauses_of (search_of t).kept) (ap clauses_of (sym same-kept)))
       (λ k h n. (k, subst (λ ks. k ∈ ks) (sym same-kept) h, n, λ x o. o))
       fixed-stays
       proved-back))

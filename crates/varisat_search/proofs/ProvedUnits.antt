@@ -65,6 +65,13 @@ module _ (ls : List Literal) (l : Literal) (old new : List ImplNode) (inside : v
         (equal_or_not x v);
   }
 
+-- at level 0 each literal has level 0
+pub level-zero : (s : View) → WellFormed s → s.decisions ≡ [] → (k : ℕ) → k < length s.trail → (node_at s k).level ≡ 0
+level-zero s w none k h =
+    let a = w.levels_to k h in
+    let n = ap (λ (xs : List ℕ). length xs) none in
+    omega (arith, a, n)
+
 module _ (s t : View) (w : WellFormed s) (none : s.decisions ≡ []) (p : ProvesUnits s t) where
   abbrev u : View
   u = record s { nodes = t.nodes }
@@ -73,10 +80,7 @@ module _ (s t : View) (w : WellFormed s) (none : s.decisions ≡ []) (p : Proves
   unit-node k h = p.nodes.units (literal_at s k) (∈-get_or s.trail k 0 h)
 
   pub zero-level : (k : ℕ) → k < length s.trail → (node_at s k).level ≡ 0
-  zero-level k h =
-      let a = w.levels_to k h in
-      let n = ap (λ (xs : List ℕ). length xs) none in
-      omega (arith, a, n)
+  zero-level k h = level-zero s w none k h
 
   level-stays : (k : ℕ) → k < length s.trail → (node_at u k).level ≡ (node_at s k).level
   level-stays k h = ap (λ (n : ImplNode). n.level) (unit-node k h)

@@ -19,11 +19,11 @@ use Rattle.varisat_search.proofs.DecidableVariables.{same-trans}
 use Rattle.varisat_search.proofs.DueReductions.{rises-over}
 use Rattle.varisat_search.proofs.RestartSteps.{begun-view, begun-steps, begun-rises}
 
-module _ {A : Type 0} (x t u : Context A) (r : IsReady x) (b : RestartsIfDue x.schedule x.assumptions.levels (view x) (view t)) (k : KeepsSearch t u) where
-  pub scheduled-steps : (z : View) (v : Outcome) → ((more : List Line) × Steps (search_of (view u)) (search_of z) v more) → (lines : List Line) × Steps (search_of (view x)) (search_of z) v lines
-  scheduled-steps z v (more, h) =
-      let (first, p) = k.proves in
-      (first ++ more, begun-steps x.schedule x.assumptions.levels (view x) (view t) r.well r.settled b z v (first ++ more) (part_step (search_of (view t)) (search_of (view u)) (search_of z) v first more p h))
+module _ {A : Type 0} (x t u : Context A) (r : IsReady x) (b : RestartsIfDue x.schedule x.assumptions.levels (view x) (view t)) (P : List Line → Type 0) (k : KeepsSearch P t u) where
+  pub scheduled-steps : (z : View) (v : Outcome) (Q R : List Line → Type 0) → ((first more : List Line) → P first → Q more → R (first ++ more)) → ((more : List Line) × Steps (search_of (view u)) (search_of z) v more × Q more) → (lines : List Line) × Steps (search_of (view x)) (search_of z) v lines × R lines
+  scheduled-steps z v Q R join (more, h, j) =
+      let (first, p, i) = k.proves in
+      (first ++ more, begun-steps x.schedule x.assumptions.levels (view x) (view t) r.well r.settled b z v (first ++ more) (part_step (search_of (view t)) (search_of (view u)) (search_of z) v first more p h), join first more i j)
 
   pub scheduled-rises : (z : View) → ((n : ℕ) → length (view u).trail ≤ n → rank n (kinds (view u)) < rank n (kinds z)) → IsPlannedStep x.schedule (kinds (view x)) (kinds z)
   scheduled-rises z rises = begun-rises x.schedule x.assumptions.levels (view x) (view t) r.well r.settled b z (rises-over (view t) (view u) z k.assigned rises)
@@ -36,7 +36,7 @@ module _ {A : Type 0} (x t u : Context A) (r : IsReady x) (b : RestartsIfDue x.s
 
   pub scheduled-assumes : (v : Outcome) (a : AssumptionParts) → u.assumptions ≡ x.assumptions → KeepsAssumptions (search_of (view u)) v u.assumptions a → KeepsAssumptions (search_of (view x)) v x.assumptions a
   scheduled-assumes v a same h =
-      let (lines, q) = k.proves in
+      let (lines, q, i) = k.proves in
       let p = (begun-view x.schedule x.assumptions.levels (view x) (view t) r.well r.settled b).proves in
       keeps-after-part 0 (search_of (view x)) (search_of (view t)) [] v x.assumptions a p
       (keeps-after-part 0 (search_of (view t)) (search_of (view u)) lines v x.assumptions a q

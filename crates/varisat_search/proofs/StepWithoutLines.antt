@@ -11,15 +11,15 @@ use Rattle.varisat_theory.specs.Outcomes.{Proves}
 use Rattle.varisat_search.specs.Seen.{search_of, IsProved}
 use Rattle.varisat_search.proofs.ViewSearch.{proved_from, proved_to, view_moves}
 
-abbrev unit_clauses : List Literal → List Clause
+abbrev pub unit_clauses : List Literal → List Clause
 unit_clauses ls = map (λ l. l ∷ []) ls
 
-in_units : (ls : List Literal) (l : Literal) → l ∈ ls → (l ∷ []) ∈ unit_clauses ls
+pub in_units : (ls : List Literal) (l : Literal) → l ∈ ls → (l ∷ []) ∈ unit_clauses ls
 in_units [] l h = absurd h
 in_units (m ∷ ls) l (inl e) = inl (ap (λ x. x ∷ []) e)
 in_units (m ∷ ls) l (inr h) = inr (in_units ls l h)
 
-from_units : (ls : List Literal) (d : Clause) → d ∈ unit_clauses ls → (l : Literal) × (l ∈ ls) × (d ≡ l ∷ [])
+pub from_units : (ls : List Literal) (d : Clause) → d ∈ unit_clauses ls → (l : Literal) × (l ∈ ls) × (d ≡ l ∷ [])
 from_units [] d h = absurd h
 from_units (m ∷ ls) d (inl e) = (m, inl refl, e)
 from_units (m ∷ ls) d (inr h) = let (l, i, e) = from_units ls d h in (l, inr i, e)

@@ -1,5 +1,5 @@
 -- What the reductions and the collection that are due at a step do to a context.
-use Rattle.std.specs.Prelude.{◌≡◌, ◌≢◌, ◌*◌, ◌%◌, ◌<◌, ◌≤◌, List, length}
+use Rattle.std.specs.Prelude.{◌≡◌, ◌≢◌, ◌*◌, ◌%◌, ◌<◌, ◌≤◌, ◌++◌, List, length}
 use Rattle.varisat_theory.specs.Derivations.{Line}
 use Rattle.varisat_theory.specs.Outcomes.{Proves}
 use Rattle.varisat_clause.specs.Stores.{Store, stored_clauses, HoldsClauses}
@@ -44,19 +44,23 @@ pub record ReducesIfDue {A : Type 0} (x z : Context A) : Type 0 where
   pub mids : ReducesMidsIfDue after_locals after_mids
   pub collected : CollectsIfDue after_mids z
 
--- The search can go on as it was, and what goes from the proof goes by lines.
-pub record KeepsSearch {A : Type 0} (x y : Context A) : Type 0 where
+-- The search can go on as it was, and what goes from the proof goes by lines that are as is said.
+pub record KeepsSearch {A : Type 0} (are : List Line → Type 0) (x y : Context A) : Type 0 where
   pub ready : IsReady y
   pub assigned : KeepsAssignment (view x) (view y)
-  pub proves : (lines : List Line) × Proves 0 (search_of (view x)) (search_of (view y)) lines
+  pub proves : (lines : List Line) × Proves 0 (search_of (view x)) (search_of (view y)) lines × are lines
   pub decidable : SameDecidable (view x) x.vsids (view y) y.vsids
 
--- A step begins with a restart down to the last assumption, where that is due; then come the reductions and the collection; then, at level 0, units are settled; then lines lead from what is left to the search after the step.
-pub record GoesBySchedule {A : Type 0} (x z : Context A) : Type 0 where
+-- A step begins with a restart down to the last assumption, where that is due; then come the reductions and the collection, with a line for each clause that goes; then, at level 0, units are settled; then lines lead from what is left to the search after the step. The lines are these, in turn.
+pub record GoesBySchedule {A : Type 0} (lines : List Line) (x z : Context A) : Type 0 where
   pub begun : Context A
   pub reduced : Context A
   pub restarts : RestartsIfDue x.schedule x.assumptions.levels (view x) (view begun)
   pub begins : begun ≡ record x { assignment = begun.assignment; trail = begun.trail; vsids = begun.vsids; schedule = begun.schedule }
   pub reduces : ReducesIfDue begun reduced
-  pub settles : SettlesFirst reduced z
-  pub steps : StepsTo reduced z
+  pub first : List Line
+  pub rest : List Line
+  pub parts : lines ≡ first ++ rest
+  pub deletes : Proves 0 (search_of (view begun)) (search_of (view reduced)) first
+  pub settles : SettlesFirst rest reduced z
+  pub steps : StepsTo (λ ls. ls ≡ rest) reduced z

@@ -1,8 +1,10 @@
 -- What becomes of a clause's distinct literals.
 use Rattle.std.specs.Prelude.{◌≡◌, ℕ, Bool, Option, List, [], ◌∷◌, ◌++◌, ◌⊎◌, length}
-use Rattle.varisat_theory.specs.Membership.{◌∈◌}
-use Rattle.varisat_theory.specs.Literals.{Literal, Clause, opposite}
-use Rattle.varisat_theory.specs.Outcomes.{Outcome, Unknown, Unsat}
+use Rattle.varisat_theory.specs.Membership.{◌∈◌, SameSet, IsDistinct}
+use Rattle.varisat_theory.specs.Literals.{Literal, Clause, opposite, IsUnit}
+use Rattle.varisat_theory.specs.Derivations.{Line, Delete}
+use Rattle.varisat_theory.specs.Searches.{Search, IsTautology}
+use Rattle.varisat_theory.specs.Outcomes.{Outcome, Unknown, Unsat, Loads}
 use Rattle.varisat_prop.specs.declared.prop.graph.Reason.TheVariants as reason
 use Rattle.varisat_clause.specs.Headers.{no_header}
 use Rattle.varisat_clause.specs.Stored.{StoredClause, AppendsClause}
@@ -45,3 +47,23 @@ pub record LoadsUnit (s t : View) (l : Literal) : Type 0 where
   pub clauses : kept t ≡ kept s
   pub head : s.decisions ≡ [] → t.queue_head ≡ s.queue_head
   pub trail : s.decisions ≡ [] → (t.trail ≡ s.trail) ⊎ (t.trail ≡ s.trail ++ l ∷ [])
+
+-- A literal of the clause is true at level 0; and as a set the clause has two literals or more, of which none is another's opposite.
+pub record IsLoadedTrue (s : Search) (c : Clause) : Type 0 where
+  pub several : (l : Literal) → IsUnit l c → ⊥
+  pub open_clause : IsTautology c → ⊥
+  pub literal : Literal
+  pub inside : literal ∈ c
+  pub fixed : literal ∈ s.fixed
+
+-- Such a clause is deleted as it is loaded, with each of its literals once and in order. For another one there is no line.
+abbrev pub IsLoadLine : (Clause → Type 0) → Search → Clause → List Line → Type 0
+IsLoadLine ordered s c lines =
+    (IsLoadedTrue s c × ((d : Clause) × (lines ≡ Delete d ∷ []) × SameSet d c × IsDistinct d × ordered d)) ⊎ ((IsLoadedTrue s c → ⊥) × (lines ≡ []))
+
+-- The clause is loaded by the lines that are due, and they are as is said.
+pub record LoadsClause (ordered : Clause → Type 0) (are : List Line → Type 0) (s t : Search) (c : Clause) (v : Outcome) : Type 0 where
+  pub lines : List Line
+  pub due : IsLoadLine ordered s c lines
+  pub loads : Loads s t c v lines
+  pub written : are lines

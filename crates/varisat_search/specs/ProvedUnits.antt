@@ -5,11 +5,15 @@ use Rattle.varisat_theory.specs.Membership.{◌∈◌}
 use Rattle.varisat_theory.specs.Literals.{Literal, variable_of}
 use Rattle.varisat_prop.specs.declared.prop.graph.Reason.TheVariants as reason
 use Rattle.varisat_prop.specs.declared.prop.graph.ImplNode.{ImplNode}
-use Rattle.varisat_prop.specs.View.{View, no_node, node_of, is_clause}
+use Rattle.varisat_prop.specs.View.{View, no_node, is_clause}
+
+-- those of the literals that a clause implied, in order
+abbrev pub units_in : List ImplNode → List Literal → List Literal
+units_in nodes ls = filter (λ l. is_clause (slice_index_or nodes (variable_of l) no_node).reason) ls
 
 -- the literals of the trail that a clause implied, oldest first
 abbrev pub implied_units : View → List Literal
-implied_units s = filter (λ l. is_clause (node_of s l).reason) s.trail
+implied_units s = units_in s.nodes s.trail
 
 -- The variables of the literals keep their levels and their places, and no clause is their reason. No other node changes.
 pub record HaveUnits (ls : List Literal) (old new : List ImplNode) : Type 0 where

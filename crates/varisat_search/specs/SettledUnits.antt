@@ -25,29 +25,30 @@ IsUnsettled s = (s.decisions ≡ []) × (s.queue_head < length s.trail)
 
 -- Propagation came to its end or to a false clause, and each unit was proved, by one line for each that a clause implied.
 -- Then, unless a clause is false, the clauses were simplified, by a line for each that goes and each that is left of one.
-pub record SettlesUnits (s t : View) (end : Result (Unit {0}) Conflict) : Type 0 where
+-- These are the lines, in this order.
+pub record SettlesUnits (lines : List Line) (s t : View) (end : Result (Unit {0}) Conflict) : Type 0 where
   pub propagated : View
   pub proved : View
   pub propagates : Propagates s propagated
   pub units : ProvesUnits propagated proved
-  pub unit_proofs : Proves 0 (search_of s) (search_of proved) (unit_lines (implied_units propagated))
   pub ends : MatchResult end
-      (λ _. IsSimplified proved t × Proves 0 (search_of proved) (search_of t) (pair_lines proved ++ clause_lines proved))
-      (λ conflict. (t ≡ proved) × IsConflicting t conflict)
+      (λ _. IsSimplified proved t × (lines ≡ unit_lines (implied_units propagated) ++ (pair_lines proved ++ clause_lines proved)))
+      (λ conflict. (t ≡ proved) × IsConflicting t conflict × (lines ≡ unit_lines (implied_units propagated)))
 
--- The search goes on and takes nothing back; clauses may go from it and become shorter, by lines.
-pub record GoesOnByLines {A : Type 0} (x y : Context A) : Type 0 where
+-- The search goes on and takes nothing back; clauses may go from it and become shorter, by lines that are as is said.
+pub record GoesOnByLines {A : Type 0} (are : List Line → Type 0) (x y : Context A) : Type 0 where
   pub ready : IsReady y
-  pub proves : (lines : List Line) × Proves 0 (search_of (view x)) (search_of (view y)) lines
+  pub proves : (lines : List Line) × Proves 0 (search_of (view x)) (search_of (view y)) lines × are lines
   pub extends : ExtendsTrail (view x) (view y)
   pub kinds_more : (more : List Bool) × (kinds (view y) ≡ kinds (view x) ++ more)
   pub decidable : SameDecidable (view x) x.vsids (view y) y.vsids
   pub last : y.assignment.last ≡ x.assignment.last
   pub units : y.trail.units_removed ≡ x.trail.units_removed
 
--- A step that begins unsettled settles its units first, and goes on from there.
-abbrev pub SettlesFirst : {A : Type 0} → Context A → Context A → Type 0
-SettlesFirst {A} x z = IsUnsettled (view x) → (y : Context A) × (end : Result (Unit {0}) Conflict) × SettlesUnits (view x) (view y) end × StepsTo y z
+-- A step that begins unsettled settles its units first, and goes on from there: the lines are those of both, in turn.
+abbrev pub SettlesFirst : {A : Type 0} → List Line → Context A → Context A → Type 0
+SettlesFirst {A} lines x z =
+    IsUnsettled (view x) → (y : Context A) × (end : Result (Unit {0}) Conflict) × (first more : List Line) × (lines ≡ first ++ more) × SettlesUnits first (view x) (view y) end × StepsTo (λ ls. ls ≡ more) y z
 
 -- At level 0 all of the trail is propagated and proved, and no kept clause names a variable that has a value.
 pub record IsSettledDown (s : View) : Type 0 where

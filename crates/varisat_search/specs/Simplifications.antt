@@ -1,10 +1,10 @@
 -- What becomes of the kept clauses once literals are true for good, and the lines that say so.
-use Rattle.std.specs.Prelude.{◌≡◌, ◌≢◌, ◌<◌, ◌≤◌, Bool, false, not, ◌&&◌, nat_le, if◌then◌else◌, Option, None, List, [], ◌∷◌, ◌++◌, length, map, slice_index_or}
+use Rattle.std.specs.Prelude.{◌≡◌, ◌≢◌, ℕ, ◌<◌, ◌≤◌, Bool, false, not, ◌&&◌, nat_le, nat_lt, if◌then◌else◌, Option, None, List, [], ◌∷◌, ◌++◌, length, map, slice_index_or}
 use Rattle.std.specs.List.{filter, list_any}
 use Rattle.varisat_theory.specs.Membership.{◌∈◌}
 use Rattle.varisat_theory.specs.Literals.{Literal, Clause, variable_of, opposite}
 use Rattle.varisat_theory.specs.Derivations.{Line, Add, Delete}
-use Rattle.varisat_clause.specs.Stored.{StoredClause}
+use Rattle.varisat_clause.specs.Stored.{StoredClause, literals_at}
 use Rattle.varisat_clause.specs.Collected.{live_of}
 use Rattle.varisat_prop.specs.Parts.{value_in, is_true_value}
 use Rattle.varisat_prop.specs.Looks.{IsInRange}
@@ -48,6 +48,10 @@ abbrev pub with_pairs : List (List Literal) → List Clause → List (List Liter
 with_pairs B [] = B
 with_pairs B (c ∷ cs) = with_pairs (with_pair B (literal_in c 0) (literal_in c 1)) cs
 
+-- a deletion for each of the places
+abbrev pub deletion_lines : List StoredClause → List ℕ → List Line
+deletion_lines ks ps = map (λ p. Delete (literals_at ks p)) ps
+
 -- Of the clauses of two literals those without assigned ones are kept. Of the others those without true literals are
 -- kept, without the false ones; where two literals are left, as a clause of two literals.
 pub record IsSimplified (s t : View) : Type 0 where
@@ -56,9 +60,17 @@ pub record IsSimplified (s t : View) : Type 0 where
   pub rest : t ≡ record s { clauses = t.clauses; binary = t.binary }
   pub unassigned : (c : Clause) → c ∈ kept t → (l : Literal) → l ∈ c → slice_index_or s.values (variable_of l) None ≡ None
 
+-- the first literal comes before the other, and one of the two has a value
+abbrev pub is_gone_pair : List (Option Bool) → Literal → Literal → Bool
+is_gone_pair values l m = nat_lt l m && not (is_unassigned values l && is_unassigned values m)
+
+-- of the clauses of two literals each that has a literal with a value is deleted
+abbrev pub lines_of_pairs : List (Option Bool) → List Clause → List Line
+lines_of_pairs values cs = map Delete (filter (λ c. not (are_unassigned values c)) cs)
+
 -- each clause of two literals that goes is deleted
 abbrev pub pair_lines : View → List Line
-pair_lines s = map Delete (filter (λ c. not (are_unassigned s.values c)) (pairs_from 0 s.binary))
+pair_lines s = lines_of_pairs s.values (pairs_from 0 s.binary)
 
 -- a clause with a true literal is deleted, and one with a false literal is so once what is left of it was added
 abbrev pub lines_of_clause : List (Option Bool) → Clause → List Line

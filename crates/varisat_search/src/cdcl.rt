@@ -3,6 +3,7 @@ ghost use Rattle.std.specs.Prelude.{◌≡◌, ℕ, ◌<◌, false, length, [], 
 ghost use Rattle.varisat_theory.specs.Membership.{◌∈◌};
 ghost use Rattle.varisat_theory.specs.Literals.{Literal, opposite};
 ghost use Rattle.varisat_theory.specs.Propagation.{IsComplete};
+ghost use Rattle.varisat_theory.specs.Derivations.{Add};
 ghost use Rattle.varisat_clause.specs.declared.header.Tier.TheVariants as tier;
 ghost use Rattle.varisat_clause.specs.Tiers.{is_tier};
 ghost use Rattle.varisat_clause.specs.Stores.{Store};
@@ -13,6 +14,9 @@ ghost use Rattle.varisat_prop.specs.Changes.{IsConflicting};
 ghost use Rattle.varisat_analysis.specs.Learned.{IsLearned, AreInvolved};
 ghost use Rattle.varisat_search.specs.Contexts.{view, KeepsSchedule, IsReady};
 ghost use Rattle.varisat_search.specs.Steps.{SavesSome};
+ghost use Rattle.varisat_search.specs.Seen.{search_of, outcome_of};
+ghost use Rattle.varisat_theory.specs.Journals.{Fails};
+ghost use Rattle.varisat_trace.specs.Traces.{TakesLines, TakesStep, CanTake, CanFail, HoldsFor};
 ghost use Rattle.varisat_search.specs.Decisions.{SameDecidable};
 ghost use Rattle.varisat_analysis.specs.Bumps.{BumpsInvolved};
 ghost use Rattle.varisat_analysis.specs.Assessments.{glue_of, assessed, BumpsClauses};
@@ -27,6 +31,7 @@ use crate::assumptions::{EnqueueAssumption, enqueue_assumption};
 use crate::bumps::bump_involved;
 use crate::context::Context;
 use crate::decision::make_decision;
+use crate::error::StepError;
 use crate::levels::backtrack;
 use crate::state::SatState;
 use crate::unit_simplify::{prove_units, unit_simplify};
@@ -36,6 +41,7 @@ use varisat_clause::db::add_clause;
 use varisat_literals::Lit;
 use varisat_prop::clause::{ClauseHeader, StoreError};
 use varisat_prop::prop::{Conflict, Reason, enqueue_assignment, propagate};
+use varisat_trace::{ProofStep, ProofTracer, TraceError};
 
 /// Why a search for a model stopped.
 #[derive(Clone, Copy, Debug, PartialEq, Eq)]
@@ -181,13 +187,31 @@ fn analyze<A: Allocator + Copy>(
     Ok(level)
 }
 
+/// Hands on the learned clause.
+fn trace_learned<A: Allocator + Copy, P: ProofTracer>(
+    proof: &mut P,
+    ctx: &Context<A>,
+) -> Result<(), TraceError>
+    requires { CanTake (P.holds proof.old) (Add ctx.now.analyze_conflict.clause ∷ []) }
+    ensures { OnOk result (TakesLines P.takes proof.old (Add ctx.now.analyze_conflict.clause ∷ []) proof.new) }
+{
+    let clause = ctx.analyze_conflict.clause();
+    proof.add_step(&ProofStep::AtClause { clause })?;
+    Ok(())
+}
+
 /// Learns from the conflict: bumps variables and clauses, backtracks, keeps the learned clause, and makes its first
 /// literal true. The empty clause gives verdict Unsat.
-fn learn<A: Allocator + Copy>(ctx: &mut Context<A>, conflict: Conflict) -> Result<(), StoreError>
+fn learn<A: Allocator + Copy, P: ProofTracer>(
+    ctx: &mut Context<A>,
+    proof: &mut P,
+    conflict: Conflict,
+) -> Result<(), StepError>
     requires ready { IsReady ctx.old }
     requires conflict { IsConflicting (view ctx.old) conflict }
     requires unknown { ctx.old.solver_state.sat_state ≡ SatState.Unknown }
-    ensures further { OnOk result (IsStepFurther ctx.old ctx.new) }
+    requires holds { HoldsFor (P.holds proof.old) (search_of (view ctx.old)) }
+    ensures further { OnOk result (IsStepFurther (λ lines. TakesLines P.takes proof.old lines proof.new) ctx.old ctx.new) }
     // Above level 0 the variables of the clauses that the learned one came from are bumped, and activities decay.
     ensures bumps { OnOk result (0 < length ctx.old.trail.decisions → (b : Activities) × BumpsInvolved (view ctx.old) ctx.new.analyze_conflict.involved ctx.old.vsids b × (ctx.new.vsids ≡ record b { available = ctx.new.vsids.available })) }
     // So are the clauses of the store among them, and the learned one gets the glue of the conflict, and its tier.
@@ -197,6 +221,7 @@ fn learn<A: Allocator + Copy>(ctx: &mut Context<A>, conflict: Conflict) -> Resul
     ensures schedule { KeepsSchedule ctx.old ctx.new }
 {
     let level = analyze(ctx, conflict)?;
+    trace_learned(proof, ctx)?;
     bump_involved(ctx);
     bump_involved_clauses(ctx)?;
     // The glue of the learned clause is told by the levels at the conflict.
@@ -220,11 +245,15 @@ fn learn<A: Allocator + Copy>(ctx: &mut Context<A>, conflict: Conflict) -> Resul
 
 /// At level 0 propagates what is left to be propagated, proves the units and simplifies the clauses. Where a clause is
 /// false, it is returned and no clause is simplified.
-pub fn settle<A: Allocator + Copy>(ctx: &mut Context<A>) -> Result<Result<(), Conflict>, AllocError>
+pub fn settle<A: Allocator + Copy, P: ProofTracer>(
+    ctx: &mut Context<A>,
+    proof: &mut P,
+) -> Result<Result<(), Conflict>, StepError>
     requires ready { IsReady ctx.old }
     requires undecided { ctx.old.trail.decisions ≡ [] }
-    ensures goes_on { OnOk result (GoesOnByLines ctx.old ctx.new) }
-    ensures settles { IfOk result (λ end. SettlesUnits (view ctx.old) (view ctx.new) end) }
+    requires holds { HoldsFor (P.holds proof.old) (search_of (view ctx.old)) }
+    // The lines that it took are those of the units, and then those of simplification.
+    ensures goes_on { IfOk result (λ end. GoesOnByLines (λ lines. SettlesUnits lines (view ctx.old) (view ctx.new) end × TakesLines P.takes proof.old lines proof.new) ctx.old ctx.new) }
     ensures settled { IfOk result (λ end. MatchResult end (λ _. IsSettledDown (view ctx.new)) (λ _. Unit {0})) }
     ensures conflict { IfOk result (λ end. MatchResult end (λ _. Unit {0}) (λ conflict. IsConflicting (view ctx.new) conflict)) }
     ensures kept { ctx.new ≡ record ctx.old { assignment = ctx.new.assignment; binary_clauses = ctx.new.binary_clauses; clause_alloc = ctx.new.clause_alloc; clause_db = ctx.new.clause_db; impl_graph = ctx.new.impl_graph; trail = ctx.new.trail; watchlists = ctx.new.watchlists } }
@@ -237,22 +266,23 @@ pub fn settle<A: Allocator + Copy>(ctx: &mut Context<A>) -> Result<Result<(), Co
         &ctx.binary_clauses,
         &mut ctx.watchlists,
     )?;
-    prove_units(ctx);
+    prove_units(ctx, proof)?;
     if let Err(conflict) = propagated {
         return Ok(Err(conflict));
     }
-    unit_simplify(ctx)?;
+    unit_simplify(ctx, proof)?;
     Ok(Ok(()))
 }
 
 /// Settles the units of level 0, as `settle`. Nothing happens at another level, nor where nothing is left to be
 /// propagated.
-fn settle_units<A: Allocator + Copy>(
+fn settle_units<A: Allocator + Copy, P: ProofTracer>(
     ctx: &mut Context<A>,
-) -> Result<Result<(), Conflict>, AllocError>
-    requires { IsReady ctx.old }
-    ensures goes_on { OnOk result (GoesOnByLines ctx.old ctx.new) }
-    ensures settles { IfOk result (λ end. IsUnsettled (view ctx.old) → SettlesUnits (view ctx.old) (view ctx.new) end) }
+    proof: &mut P,
+) -> Result<Result<(), Conflict>, StepError>
+    requires ready { IsReady ctx.old }
+    requires holds { HoldsFor (P.holds proof.old) (search_of (view ctx.old)) }
+    ensures goes_on { IfOk result (λ end. GoesOnByLines (λ lines. (IsUnsettled (view ctx.old) → SettlesUnits lines (view ctx.old) (view ctx.new) end) × TakesLines P.takes proof.old lines proof.new) ctx.old ctx.new) }
     ensures stays { IfOk result (λ end. (IsUnsettled (view ctx.old) → ⊥) → (ctx.new ≡ ctx.old) × (end ≡ Ok tt)) }
     ensures conflict { IfOk result (λ end. MatchResult end (λ _. Unit {0}) (λ conflict. IsConflicting (view ctx.new) conflict)) }
     ensures kept { ctx.new ≡ record ctx.old { assignment = ctx.new.assignment; binary_clauses = ctx.new.binary_clauses; clause_alloc = ctx.new.clause_alloc; clause_db = ctx.new.clause_db; impl_graph = ctx.new.impl_graph; trail = ctx.new.trail; watchlists = ctx.new.watchlists } }
@@ -260,40 +290,63 @@ fn settle_units<A: Allocator + Copy>(
     if ctx.trail.current_level() > 0 || ctx.trail.fully_propagated() {
         return Ok(Ok(()));
     }
-    let end = settle(ctx)?;
+    let end = settle(ctx, proof)?;
     Ok(end)
 }
 
+/// Hands on the core of assumptions that fail.
+fn trace_core<A: Allocator + Copy, P: ProofTracer>(
+    proof: &mut P,
+    ctx: &Context<A>,
+) -> Result<(), TraceError>
+    requires { CanFail (P.holds proof.old) ctx.now.assumptions.failed_core }
+    ensures { OnOk result (P.takes proof.old (Fails ctx.now.assumptions.failed_core ∷ []) proof.new) }
+{
+    let failed_core = ctx.assumptions.failed_core();
+    proof.add_step(&ProofStep::FailedAssumptions { failed_core })?;
+    Ok(())
+}
+
 /// Finds a conflict and learns from it, or finds a model or that assumptions fail.
-fn find_and_learn<A: Allocator + Copy>(ctx: &mut Context<A>) -> Result<(), StoreError>
+fn find_and_learn<A: Allocator + Copy, P: ProofTracer>(
+    ctx: &mut Context<A>,
+    proof: &mut P,
+) -> Result<(), StepError>
     requires ready { IsReady ctx.old }
     requires unknown { ctx.old.solver_state.sat_state ≡ SatState.Unknown }
-    ensures made { OnOk result (MakesStep ctx.old ctx.new) }
+    requires holds { HoldsFor (P.holds proof.old) (search_of (view ctx.old)) }
+    ensures made { OnOk result (MakesStep (λ lines. TakesStep P.takes proof.old lines (outcome_of (view ctx.new) ctx.new.assumptions.failed_core ctx.new.solver_state.sat_state) proof.new) ctx.old ctx.new) }
     ensures schedule { KeepsSchedule ctx.old ctx.new }
 {
     match find_conflict(ctx)? {
         Ok(()) => ctx.solver_state.sat_state = SatState::Sat,
         Err(FoundConflict::Assumption) => {
+            trace_core(proof, ctx)?;
             ctx.solver_state.sat_state = SatState::UnsatUnderAssumptions;
         }
-        Err(FoundConflict::Conflict(conflict)) => learn(ctx, conflict)?,
+        Err(FoundConflict::Conflict(conflict)) => learn(ctx, proof, conflict)?,
     }
     Ok(())
 }
 
 /// Makes one step: settles the units of level 0, then finds a conflict and learns from it, or finds a model or that
 /// assumptions fail. A step that learns raises the rank of the trail, so that there are only finitely many of them.
-pub fn conflict_step<A: Allocator + Copy>(ctx: &mut Context<A>) -> Result<(), StoreError>
+pub fn conflict_step<A: Allocator + Copy, P: ProofTracer>(
+    ctx: &mut Context<A>,
+    proof: &mut P,
+) -> Result<(), StepError>
     requires ready { IsReady ctx.old }
     requires unknown { ctx.old.solver_state.sat_state ≡ SatState.Unknown }
-    ensures made { OnOk result (MakesStep ctx.old ctx.new) }
-    // At level 0 lines that prove units come first, and then those of simplification.
-    ensures settles { OnOk result (SettlesFirst ctx.old ctx.new) }
+    // The tracer may hold what fits the search.
+    requires holds { HoldsFor (P.holds proof.old) (search_of (view ctx.old)) }
+    // It took the lines of the step, and then the core, where assumptions failed. At level 0 lines that prove units come
+    // first, and then those of simplification.
+    ensures made { OnOk result (MakesStep (λ lines. SettlesFirst lines ctx.old ctx.new × TakesStep P.takes proof.old lines (outcome_of (view ctx.new) ctx.new.assumptions.failed_core ctx.new.solver_state.sat_state) proof.new) ctx.old ctx.new) }
     ensures schedule { KeepsSchedule ctx.old ctx.new }
 {
-    match settle_units(ctx)? {
-        Ok(()) => find_and_learn(ctx)?,
-        Err(conflict) => learn(ctx, conflict)?,
+    match settle_units(ctx, proof)? {
+        Ok(()) => find_and_learn(ctx, proof)?,
+        Err(conflict) => learn(ctx, proof, conflict)?,
     }
     Ok(())
 }

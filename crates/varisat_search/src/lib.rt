@@ -8,6 +8,7 @@ pub mod cdcl;
 pub mod collect;
 pub mod context;
 pub mod decision;
+pub mod error;
 pub mod forgetting;
 pub mod levels;
 pub mod load;
@@ -16,6 +17,7 @@ pub mod reduce;
 pub mod schedule;
 pub mod solver_variables;
 pub mod state;
+mod trace;
 pub mod unit_simplify;
 pub mod variables;
 

@@ -1,8 +1,10 @@
 //! Loading of clauses.
-ghost use Rattle.std.specs.Prelude.{◌≡◌, ◌≢◌, [], ◌∷◌, Ok, Some, length, slice_get, replicate, ◌+◌, ◌*◌, false, OnOk, IfOk, IsTrue, ◌↔◌, ◌⊎◌};
+ghost use Rattle.std.specs.Prelude.{◌≡◌, ◌≢◌, [], ◌∷◌, Ok, Some, length, slice_get, replicate, ◌+◌, ◌*◌, ◌<◌, ◌≤◌, false, OnOk, IfOk, IsTrue, ◌↔◌, ◌⊎◌};
 ghost use Rattle.varisat_theory.specs.Membership.{◌∈◌, SameSet, IsDistinct};
 ghost use Rattle.varisat_theory.specs.Literals.{Literal, Clause, variable_of, opposite};
 ghost use Rattle.varisat_theory.specs.Searches.{IsTautology};
+ghost use Rattle.std.specs.List.Sorted.{IsPermutation};
+ghost use Rattle.varisat_theory.specs.Derivations.{Delete};
 ghost use Rattle.varisat_theory.specs.Outcomes.{Loads};
 ghost use Rattle.varisat_theory.specs.Outcomes as outcome;
 ghost use Rattle.varisat_clause.specs.Databases.{Tracks};
@@ -13,11 +15,13 @@ ghost use Rattle.varisat_prop.specs.Watches.{IsPropagated};
 ghost use Rattle.varisat_search.specs.Contexts.{view, KeepsSchedule, IsReady};
 ghost use Rattle.varisat_search.specs.Steps.{SavesAll, reopened_state};
 ghost use Rattle.varisat_search.specs.Decisions.{AreDecidable, SameDecidable};
-ghost use Rattle.varisat_search.specs.Loading.{HasFalseLiteral, IsHeadAfter, IsAdded, LoadsUnit, loaded_outcome};
+ghost use Rattle.varisat_search.specs.Loading.{HasFalseLiteral, IsHeadAfter, IsAdded, LoadsUnit, LoadsClause, loaded_outcome};
+ghost use Rattle.varisat_trace.specs.Traces.{TakesLines, CanTake, HoldsWith};
 ghost use Rattle.varisat_search.specs.Seen.{search_of};
 
 use crate::cdcl::first_of;
 use crate::context::Context;
+use crate::error::StepError;
 use crate::levels::full_restart;
 use crate::state::SatState;
 use std::alloc::{AllocError, Allocator};
@@ -26,6 +30,7 @@ use varisat_clause::db::add_clause;
 use varisat_literals::Lit;
 use varisat_prop::clause::{ClauseHeader, StoreError};
 use varisat_prop::prop::{Assignment, Reason, Trail, enqueue_assignment};
+use varisat_trace::{NoTracer, ProofStep, ProofTracer, TraceError};
 
 /// Copies the clause's literals to `lits`, each once. Returns whether one of them is another's opposite.
 fn collect_distinct<A: Allocator + Copy>(
@@ -124,19 +129,37 @@ fn add_distinct<A: Allocator + Copy>(ctx: &mut Context<A>) -> Result<(), StoreEr
     Ok(())
 }
 
+/// Hands on the deletion of a clause with a true literal, unless it is a unit. The tracer orders the literals.
+fn trace_satisfied<P: ProofTracer>(proof: &mut P, lits: &mut [Lit]) -> Result<(), TraceError>
+    requires { CanTake (P.holds proof.old) (Delete lits.old ∷ []) }
+    ensures unit { OnOk result (length lits.old < 2 → TakesLines P.takes proof.old [] proof.new) }
+    ensures longer { OnOk result (2 ≤ length lits.old → IsPermutation lits.old lits.new × P.in_order proof.old lits.new × TakesLines P.takes proof.old (Delete lits.new ∷ []) proof.new) }
+{
+    if lits.len() < 2 {
+        return Ok(());
+    }
+    proof.sort(lits);
+    proof.add_step(&ProofStep::DeleteClause { clause: lits })?;
+    Ok(())
+}
+
 /// Loads a clause, and undoes all decisions. Assumptions stay, without a level. Literals that stand twice count once,
-/// and a clause with a literal and its opposite, or with one that is true at level 0, is not kept.
-pub fn load_clause<A: Allocator + Copy>(
+/// and a clause with a literal and its opposite, or with one that is true at level 0, is not kept. Where it has two
+/// literals or more and no opposites, and one is true at level 0, its deletion is handed on.
+pub fn load_clause<A: Allocator + Copy, P: ProofTracer>(
     ctx: &mut Context<A>,
+    proof: &mut P,
     lits: &[Lit],
-) -> Result<(), StoreError>
+) -> Result<(), StepError>
+    // The tracer may hold what fits the search and the clause itself.
+    requires holds { ctx.old.solver_state.sat_state ≢ SatState.Unsat → HoldsWith (P.holds proof.old) (search_of (view ctx.old)) lits.now }
     requires ready { IsReady ctx.old }
     requires in_range { IsInRange ctx.old.assignment.current lits.now }
     requires decidable { AreDecidable (view ctx.old) ctx.old.vsids lits.now }
     ensures ready { OnOk result (IsReady ctx.new) }
-    ensures unsat { ctx.old.solver_state.sat_state ≡ SatState.Unsat → (result ≡ Ok tt) × (ctx.new ≡ ctx.old) }
-    // No line is written. Under assumptions the verdict stays, unless it becomes Unsat.
-    ensures lines { OnOk result (ctx.old.solver_state.sat_state ≢ SatState.Unsat → Loads (search_of (view ctx.old)) (search_of (view ctx.new)) lits.now (loaded_outcome ctx.new.solver_state.sat_state) []) }
+    ensures unsat { ctx.old.solver_state.sat_state ≡ SatState.Unsat → (result ≡ Ok tt) × (ctx.new ≡ ctx.old) × (proof.new ≡ proof.old) }
+    // Under assumptions the verdict stays, unless it becomes Unsat.
+    ensures lines { OnOk result (ctx.old.solver_state.sat_state ≢ SatState.Unsat → LoadsClause (P.in_order proof.old) (λ lines. TakesLines P.takes proof.old lines proof.new) (search_of (view ctx.old)) (search_of (view ctx.new)) lits.now (loaded_outcome ctx.new.solver_state.sat_state)) }
     ensures verdict { OnOk result ((ctx.new.solver_state.sat_state ≡ reopened_state ctx.old.solver_state.sat_state) ⊎ (ctx.new.solver_state.sat_state ≡ SatState.Unsat)) }
     ensures assumptions { OnOk result (ctx.old.solver_state.sat_state ≢ SatState.Unsat → ctx.new.assumptions ≡ record ctx.old.assumptions { levels = 0 }) }
     ensures decidable { OnOk result (SameDecidable (view ctx.old) ctx.old.vsids (view ctx.new) ctx.new.vsids) }
@@ -158,6 +181,7 @@ pub fn load_clause<A: Allocator + Copy>(
         return Ok(());
     }
     if is_satisfied(&ctx.assignment, &ctx.tmp_data.lits) {
+        trace_satisfied(proof, &mut ctx.tmp_data.lits)?;
         return Ok(());
     }
     add_distinct(ctx)?;
@@ -199,7 +223,9 @@ pub fn resurrect_unit<A: Allocator + Copy>(ctx: &mut Context<A>, lit: Lit) -> Re
     if let SatState::Unsat = ctx.solver_state.sat_state {
         return Ok(());
     }
-    match load_clause(ctx, &[lit]) {
+    // For a unit there is no line.
+    let mut proof = NoTracer {};
+    match load_clause(ctx, &mut proof, &[lit]) {
         Ok(()) => {}
         // A unit clause is not stored, so that only memory can be refused.
         Err(_) => return Err(AllocError),

@@ -1,27 +1,28 @@
 //! The steps of a search by its schedule.
-ghost use Rattle.std.specs.Prelude.{◌≡◌, ◌-◌, ◌^◌, ◌<◌, List, length, OnOk, OnErr};
-ghost use Rattle.varisat_theory.specs.Derivations.{Line};
-ghost use Rattle.varisat_theory.specs.Outcomes.{Steps};
+ghost use Rattle.std.specs.Prelude.{◌≡◌, ◌-◌, ◌^◌, ◌<◌, List, [], length, OnOk, OnErr};
 ghost use Rattle.varisat_prop.specs.View.{kinds};
 ghost use Rattle.varisat_schedule.specs.Plans.{step_begun, next_plan};
 ghost use Rattle.varisat_schedule.specs.CallSteps.{IsPlannedStep};
 ghost use Rattle.varisat_search.specs.AssumptionParts.{KeepsAssumptions};
 ghost use Rattle.varisat_search.specs.Contexts.{view, IsReady};
 ghost use Rattle.varisat_search.specs.Decisions.{SameDecidable};
+ghost use Rattle.varisat_search.specs.Progress.{StepsTo};
 ghost use Rattle.varisat_search.specs.Restarts.{RestartsIfDue, SavesIfDue, RestartsAndRemembers};
 ghost use Rattle.varisat_search.specs.DueReductions.{ReducesLocalsIfDue, ReducesMidsIfDue, ReducesIfDue, KeepsSearch, GoesBySchedule};
 ghost use Rattle.varisat_search.specs.Seen.{search_of, outcome_of};
+ghost use Rattle.varisat_trace.specs.Traces.{TakesLines, TakesStep, HoldsFor};
 
 use crate::cdcl::conflict_step;
 use crate::collect::collect_garbage;
 use crate::context::Context;
+use crate::error::StepError;
 use crate::levels::restart;
 use crate::reduce::{reduce_locals, reduce_mids};
 use crate::state::SatState;
 use std::alloc::{AllocError, Allocator};
-use varisat_prop::clause::StoreError;
 pub use varisat_schedule::luby::LubySequence;
 pub use varisat_schedule::schedule::Schedule;
+use varisat_trace::ProofTracer;
 
 /// Begins a step of the schedule, which restarts the search where a restart is due. Assumptions keep their levels.
 fn restart_if_due<A: Allocator + Copy>(ctx: &mut Context<A>)
@@ -44,14 +45,18 @@ fn restart_if_due<A: Allocator + Copy>(ctx: &mut Context<A>)
 }
 
 /// Reduces the Local clauses where the number of steps made is a multiple of the interval for it.
-fn reduce_locals_if_due<A: Allocator + Copy>(ctx: &mut Context<A>) -> Result<(), AllocError>
-    requires { IsReady ctx.old }
+fn reduce_locals_if_due<A: Allocator + Copy, P: ProofTracer>(
+    ctx: &mut Context<A>,
+    proof: &mut P,
+) -> Result<(), StepError>
+    requires ready { IsReady ctx.old }
+    requires holds { HoldsFor (P.holds proof.old) (search_of (view ctx.old)) }
     ensures reduces { OnOk result (ReducesLocalsIfDue ctx.old ctx.new) }
-    ensures keeps { OnOk result (KeepsSearch ctx.old ctx.new) }
+    ensures keeps { OnOk result (KeepsSearch (λ lines. TakesLines P.takes proof.old lines proof.new) ctx.old ctx.new) }
     ensures kept { ctx.new ≡ record ctx.old { clause_alloc = ctx.new.clause_alloc; clause_db = ctx.new.clause_db; watchlists = ctx.new.watchlists } }
 {
     if ctx.schedule.steps() % ctx.solver_config.reduce_locals_interval() == 0 {
-        reduce_locals(ctx)?;
+        reduce_locals(ctx, proof)?;
     }
     Ok(())
 }
@@ -60,7 +65,7 @@ fn reduce_locals_if_due<A: Allocator + Copy>(ctx: &mut Context<A>) -> Result<(),
 fn reduce_mids_if_due<A: Allocator + Copy>(ctx: &mut Context<A>) -> Result<(), AllocError>
     requires { IsReady ctx.old }
     ensures reduces { OnOk result (ReducesMidsIfDue ctx.old ctx.new) }
-    ensures keeps { OnOk result (KeepsSearch ctx.old ctx.new) }
+    ensures keeps { OnOk result (KeepsSearch (λ lines. lines ≡ []) ctx.old ctx.new) }
     ensures kept { ctx.new ≡ record ctx.old { clause_alloc = ctx.new.clause_alloc; clause_db = ctx.new.clause_db } }
 {
     if ctx.schedule.steps() % ctx.solver_config.reduce_mids_interval() == 0 {
@@ -70,13 +75,17 @@ fn reduce_mids_if_due<A: Allocator + Copy>(ctx: &mut Context<A>) -> Result<(), A
 }
 
 /// Reduces the Local clauses and then the Mid ones, each where it is due, and then collects garbage where that is due.
-fn reduce_if_due<A: Allocator + Copy>(ctx: &mut Context<A>) -> Result<(), AllocError>
-    requires { IsReady ctx.old }
+fn reduce_if_due<A: Allocator + Copy, P: ProofTracer>(
+    ctx: &mut Context<A>,
+    proof: &mut P,
+) -> Result<(), StepError>
+    requires ready { IsReady ctx.old }
+    requires holds { HoldsFor (P.holds proof.old) (search_of (view ctx.old)) }
     ensures reduces { OnOk result (ReducesIfDue ctx.old ctx.new) }
-    ensures keeps { OnOk result (KeepsSearch ctx.old ctx.new) }
+    ensures keeps { OnOk result (KeepsSearch (λ lines. TakesLines P.takes proof.old lines proof.new) ctx.old ctx.new) }
     ensures kept { ctx.new ≡ record ctx.old { clause_alloc = ctx.new.clause_alloc; clause_db = ctx.new.clause_db; impl_graph = ctx.new.impl_graph; watchlists = ctx.new.watchlists } }
 {
-    reduce_locals_if_due(ctx)?;
+    reduce_locals_if_due(ctx, proof)?;
     reduce_mids_if_due(ctx)?;
     collect_garbage(ctx)?;
     Ok(())
@@ -84,13 +93,17 @@ fn reduce_if_due<A: Allocator + Copy>(ctx: &mut Context<A>) -> Result<(), AllocE
 
 /// Makes one step of the schedule: a restart, reductions of the learned clauses and a collection of garbage, each where
 /// it is due, then a conflict step. The step is counted, unless memory runs out.
-pub fn schedule_step<A: Allocator + Copy>(ctx: &mut Context<A>) -> Result<(), StoreError>
+pub fn schedule_step<A: Allocator + Copy, P: ProofTracer>(
+    ctx: &mut Context<A>,
+    proof: &mut P,
+) -> Result<(), StepError>
     requires ready { IsReady ctx.old }
+    requires holds { HoldsFor (P.holds proof.old) (search_of (view ctx.old)) }
     requires unknown { ctx.old.solver_state.sat_state ≡ SatState.Unknown }
     requires counted { ctx.old.schedule.steps < 2 ^ 64 - 1 }
     ensures ready { OnOk result (IsReady ctx.new) }
-    ensures steps { OnOk result ((lines : List Line) × Steps (search_of (view ctx.old)) (search_of (view ctx.new)) (outcome_of (view ctx.new) ctx.new.assumptions.failed_core ctx.new.solver_state.sat_state) lines) }
-    ensures reduces { OnOk result (GoesBySchedule ctx.old ctx.new) }
+    // The tracer took the lines of the step, in the order of its parts, and then the core, where assumptions failed.
+    ensures steps { OnOk result (StepsTo (λ lines. GoesBySchedule lines ctx.old ctx.new × TakesStep P.takes proof.old lines (outcome_of (view ctx.new) ctx.new.assumptions.failed_core ctx.new.solver_state.sat_state) proof.new) ctx.old ctx.new) }
     ensures assumes { OnOk result (KeepsAssumptions (search_of (view ctx.old)) (outcome_of (view ctx.new) ctx.new.assumptions.failed_core ctx.new.solver_state.sat_state) ctx.old.assumptions ctx.new.assumptions) }
     ensures rises { OnOk result (ctx.new.solver_state.sat_state ≡ SatState.Unknown → IsPlannedStep ctx.old.schedule (kinds (view ctx.old)) (kinds (view ctx.new))) }
     ensures decidable { OnOk result (SameDecidable (view ctx.old) ctx.old.vsids (view ctx.new) ctx.new.vsids) }
@@ -104,8 +117,8 @@ pub fn schedule_step<A: Allocator + Copy>(ctx: &mut Context<A>) -> Result<(), St
     ensures config { ctx.new.solver_config ≡ ctx.old.solver_config }
 {
     restart_if_due(ctx);
-    reduce_if_due(ctx)?;
-    conflict_step(ctx)?;
+    reduce_if_due(ctx, proof)?;
+    conflict_step(ctx, proof)?;
     ctx.schedule.end_step();
     Ok(())
 }

@@ -1,5 +1,5 @@
 //! Simplification by the literals of level 0: they become unit clauses, and the kept clauses lose what these say.
-ghost use Rattle.std.specs.Prelude.{◌≡◌, ◌<◌, ◌≤◌, ◌↔◌, ◌++◌, ℕ, IsTrue, [], length, drop, OnOk};
+ghost use Rattle.std.specs.Prelude.{◌≡◌, ◌<◌, ◌≤◌, ◌↔◌, ◌++◌, ℕ, IsTrue, [], length, drop, OnOk, IfOk};
 ghost use Rattle.varisat_theory.specs.Membership.{◌∈◌};
 ghost use Rattle.varisat_theory.specs.Literals.{Literal, Clause, variable_of};
 ghost use Rattle.varisat_theory.specs.Propagation.{IsComplete};
@@ -13,10 +13,13 @@ ghost use Rattle.varisat_prop.specs.View.{kept, node_at};
 ghost use Rattle.varisat_search.specs.Contexts.{view, IsReady};
 ghost use Rattle.varisat_search.specs.Decisions.{SameDecidable};
 ghost use Rattle.varisat_search.specs.Seen.{search_of};
-ghost use Rattle.varisat_search.specs.ProvedUnits.{implied_units, HaveUnits, ProvesUnits};
+ghost use Rattle.varisat_search.specs.ProvedUnits.{units_in, implied_units, HaveUnits, ProvesUnits};
+ghost use Rattle.varisat_trace.specs.Traces.{TakesLines, CanTake, HoldsFor};
 ghost use Rattle.varisat_search.specs.Simplifications.{unassigned, shortened_to, with_pairs, IsSimplified, pair_lines, clause_lines, IsPairIn, IsLeftOpen, LeavesOpen};
 
 use crate::context::Context;
+use crate::error::StepError;
+use crate::trace::{copy_unassigned, trace_simplification, trace_units};
 use std::alloc::{AllocError, Allocator};
 use varisat_analysis::clause_literals::is_satisfied;
 use varisat_clause::alloc::{ClauseAlloc, ClauseRef};
@@ -24,6 +27,7 @@ use varisat_clause::filter::{ClauseFilter, filter_clauses};
 use varisat_literals::Lit;
 use varisat_prop::binary::BinaryClauses;
 use varisat_prop::prop::{Assignment, ImplGraph, Reason};
+use varisat_trace::{ProofTracer, TraceError};
 
 /// Notes of the literals' variables that no clause is their reason.
 fn forget_reasons<A: Allocator + Copy>(impl_graph: &mut ImplGraph<A>, lits: &[Lit])
@@ -37,38 +41,26 @@ fn forget_reasons<A: Allocator + Copy>(impl_graph: &mut ImplGraph<A>, lits: &[Li
 
 /// Proves the literals of level 0: each that a clause implied is held as a unit clause from now on, and needs no other
 /// clause. Returns whether there are literals. Above level 0 nothing changes, and the result is false.
-pub fn prove_units<A: Allocator + Copy>(ctx: &mut Context<A>) -> bool
-    requires { IsReady ctx.old }
-    ensures found { IsTrue result ↔ ((ctx.old.trail.decisions ≡ []) × (0 < length ctx.old.trail.literals)) }
-    ensures proved { ctx.old.trail.decisions ≡ [] → ProvesUnits (view ctx.old) (view ctx.new) }
-    ensures proves { ctx.old.trail.decisions ≡ [] → Proves 0 (search_of (view ctx.old)) (search_of (view ctx.new)) (unit_lines (implied_units (view ctx.old))) }
-    ensures stays { 0 < length ctx.old.trail.decisions → ctx.new ≡ ctx.old }
-    ensures ready { IsReady ctx.new }
+pub fn prove_units<A: Allocator + Copy, P: ProofTracer>(
+    ctx: &mut Context<A>,
+    proof: &mut P,
+) -> Result<bool, TraceError>
+    requires ready { IsReady ctx.old }
+    requires holds { HoldsFor (P.holds proof.old) (search_of (view ctx.old)) }
+    ensures found { IfOk result (λ found. IsTrue found ↔ ((ctx.old.trail.decisions ≡ []) × (0 < length ctx.old.trail.literals))) }
+    ensures proved { OnOk result (ctx.old.trail.decisions ≡ [] → ProvesUnits (view ctx.old) (view ctx.new)) }
+    ensures proves { OnOk result (ctx.old.trail.decisions ≡ [] → Proves 0 (search_of (view ctx.old)) (search_of (view ctx.new)) (unit_lines (implied_units (view ctx.old)))) }
+    ensures takes { OnOk result (ctx.old.trail.decisions ≡ [] → TakesLines P.takes proof.old (unit_lines (implied_units (view ctx.old))) proof.new) }
+    ensures stays { 0 < length ctx.old.trail.decisions → (ctx.new ≡ ctx.old) × (proof.new ≡ proof.old) }
+    ensures ready { OnOk result (IsReady ctx.new) }
     ensures kept { ctx.new ≡ record ctx.old { impl_graph = ctx.new.impl_graph } }
 {
     if ctx.trail.current_level() > 0 {
-        return false;
+        return Ok(false);
     }
+    trace_units(proof, &ctx.impl_graph, ctx.trail.trail())?;
     forget_reasons(&mut ctx.impl_graph, ctx.trail.trail());
-    !ctx.trail.trail().is_empty()
-}
-
-/// Copies the literals that have no value.
-fn copy_unassigned<A: Allocator + Copy>(
-    left: &mut Vec<Lit, A>,
-    assignment: &Assignment<A>,
-    lits: &[Lit],
-) -> Result<(), AllocError>
-    requires { IsInRange assignment.now.current lits.now }
-    ensures { OnOk result (left.new.items ≡ unassigned assignment.now.current lits.now) }
-{
-    left.clear();
-    for lit in lits {
-        if assignment.lit_is_unk(*lit) {
-            left.push(*lit)?;
-        }
-    }
-    Ok(())
+    Ok(!ctx.trail.trail().is_empty())
 }
 
 /// Writes the literals over the first ones.
@@ -140,20 +132,33 @@ fn add_pairs<A: Allocator + Copy>(
 /// Takes out the clauses that a literal of level 0 satisfies, and from the others the false literals. A clause of which
 /// two literals are left joins those of two literals. The watch lists are switched off. Propagation has to have come to
 /// its end before, and each literal of the trail has to be a unit. Where a growth was refused clauses may be missing.
-pub fn unit_simplify<A: Allocator + Copy>(ctx: &mut Context<A>) -> Result<(), AllocError>
+pub fn unit_simplify<A: Allocator + Copy, P: ProofTracer>(
+    ctx: &mut Context<A>,
+    proof: &mut P,
+) -> Result<(), StepError>
     requires ready { IsReady ctx.old }
+    requires holds { HoldsFor (P.holds proof.old) (search_of (view ctx.old)) }
     requires undecided { ctx.old.trail.decisions ≡ [] }
     requires propagated { ctx.old.trail.queue_head ≡ length ctx.old.trail.literals }
     requires complete { IsComplete (kept (view ctx.old)) ctx.old.trail.literals }
     requires proved { (k : ℕ) → k < length ctx.old.trail.literals → (node_at (view ctx.old) k).reason ≡ reason.Unit }
     ensures simplified { OnOk result (IsSimplified (view ctx.old) (view ctx.new)) }
     ensures proves { OnOk result (Proves 0 (search_of (view ctx.old)) (search_of (view ctx.new)) (pair_lines (view ctx.old) ++ clause_lines (view ctx.old))) }
+    ensures takes { OnOk result (TakesLines P.takes proof.old (pair_lines (view ctx.old) ++ clause_lines (view ctx.old)) proof.new) }
     ensures ready { OnOk result (IsReady ctx.new) }
     ensures decidable { OnOk result (SameDecidable (view ctx.old) ctx.old.vsids (view ctx.new) ctx.new.vsids) }
     ensures kept { ctx.new ≡ record ctx.old { binary_clauses = ctx.new.binary_clauses; clause_alloc = ctx.new.clause_alloc; clause_db = ctx.new.clause_db; watchlists = ctx.new.watchlists } }
 {
-    ctx.binary_clauses.simplify(&ctx.assignment);
     let alloc = *ctx.tmp_data.lits.allocator();
+    // The lines are handed on first, while each clause still has the literals that it loses.
+    trace_simplification(
+        proof,
+        &ctx.assignment,
+        &ctx.binary_clauses,
+        &ctx.clause_alloc,
+        alloc,
+    )?;
+    ctx.binary_clauses.simplify(&ctx.assignment);
     let mut filter = UnitFilter {
         assignment: &ctx.assignment,
         left: Vec::new(alloc),

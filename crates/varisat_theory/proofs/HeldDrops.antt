@@ -6,7 +6,7 @@ use Rattle.varisat_theory.specs.Derivations.{TakesOut}
 use Rattle.varisat_theory.specs.Held.{SameClauses, mentions, unless, without}
 use Rattle.varisat_theory.proofs.Members.{equal_or_not}
 
-mentioned_literal : (v : ℕ) (c : Clause) → mentions v c ≡ true → (l : Literal) × (l ∈ c) × (l / 2 ≡ v)
+pub mentioned_literal : (v : ℕ) (c : Clause) → mentions v c ≡ true → (l : Literal) × (l ∈ c) × (l / 2 ≡ v)
 mentioned_literal v [] e = absurd (cc)
 mentioned_literal v (l ∷ c) e =
     ⊎_elim
@@ -18,7 +18,7 @@ or_true : (b : Bool) → (b || true) ≡ true
 or_true true = refl
 or_true false = refl
 
-literal_mentioned : (v : ℕ) (c : Clause) (l : Literal) → l ∈ c → l / 2 ≡ v → mentions v c ≡ true
+pub literal_mentioned : (v : ℕ) (c : Clause) (l : Literal) → l ∈ c → l / 2 ≡ v → mentions v c ≡ true
 literal_mentioned v [] l h e = absurd h
 literal_mentioned v (x ∷ c) l (inl q) e = ap (λ b. b || mentions v c) (eq-eqb (x / 2) v (ap (λ y. y / 2) (sym q) ∙ e))
 literal_mentioned v (x ∷ c) l (inr h) e = ap (λ b. nat_eq (x / 2) v || b) (literal_mentioned v c l h e) ∙ or_true (nat_eq (x / 2) v)
@@ -35,7 +35,7 @@ mentions_same v c d s = go (mentions v c) (mentions v d) refl refl
     go false true e f = absurd (let g = mentions_part v d c s.1 f in cc)
     go false false e f = e ∙ sym f
 
-without_append : (v : ℕ) (P Q : List Clause) → without v (P ++ Q) ≡ without v P ++ without v Q
+pub without_append : (v : ℕ) (P Q : List Clause) → without v (P ++ Q) ≡ without v P ++ without v Q
 without_append v [] Q = refl
 without_append v (c ∷ P) Q = ap (unless (mentions v c) c) (without_append v P Q) ∙ joined (mentions v c)
   where

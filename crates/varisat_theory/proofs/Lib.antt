@@ -35,3 +35,5 @@ pub mod StepDrops
 pub mod StepCovers
 pub mod StepsMade
 pub mod Reached
+pub mod Journals
+pub mod RenamedJournals

@@ -20,7 +20,7 @@ map-∈ f y [] h = absurd h
 map-∈ f y (x ∷ xs) (inl e) = (x, inl refl, e)
 map-∈ f y (x ∷ xs) (inr h) = let r = map-∈ f y xs h in (r.0, inr r.1, r.2)
 
-map-⊆ : {X Y : Type 0} (f : X → Y) (xs ys : List X) → xs ⊆ ys → map f xs ⊆ map f ys
+pub map-⊆ : {X Y : Type 0} (f : X → Y) (xs ys : List X) → xs ⊆ ys → map f xs ⊆ map f ys
 map-⊆ f xs ys s y h = let r = map-∈ f y xs h in subst (λ z. z ∈ map f ys) (sym r.2) (∈-map f r.0 ys (s r.0 r.1))
 
 even_or_odd : (l : ℕ) → (l ≡ 2 * (l / 2)) ⊎ (l ≡ opposite (2 * (l / 2)))
@@ -63,14 +63,14 @@ conflicts_renamed f w P known (FalseClause c h u) =
 conflicts_renamed f w P known (Propagate c l h i u k) =
     Propagate (map f c) (f l) (∈-map (map f) c P h) (∈-map f l c i) (λ m j. let r = map-∈ f m c j in ⊎_elim (λ e. inl (r.2 ∙ ap f e)) (λ o. inr (opposite_known f w known r.0 m r.2 o)) (u r.0 r.1)) (conflicts_renamed f w P (l ∷ known) k)
 
-map_opposites : (f : Literal → Literal) → KeepsOpposites f → (c : Clause) → map f (opposites c) ≡ opposites (map f c)
+pub map_opposites : (f : Literal → Literal) → KeepsOpposites f → (c : Clause) → map f (opposites c) ≡ opposites (map f c)
 map_opposites f w [] = refl
 map_opposites f w (l ∷ c) = let e = w l in let e' = map_opposites f w c in cc
 
 pub follows_renamed : (f : Literal → Literal) → KeepsOpposites f → (P : List Clause) (c : Clause) → Follows P c → Follows (rename f P) (map f c)
 follows_renamed f w P c k = subst (λ b. Conflicts (rename f P) b) (map_opposites f w c) (conflicts_renamed f w P (opposites c) k)
 
-takes_out_renamed : (f : Literal → Literal) (P : List Clause) (c : Clause) (Q : List Clause) → TakesOut P c Q → TakesOut (rename f P) (map f c) (rename f Q)
+pub takes_out_renamed : (f : Literal → Literal) (P : List Clause) (c : Clause) (Q : List Clause) → TakesOut P c Q → TakesOut (rename f P) (map f c) (rename f Q)
 takes_out_renamed f P c Q (front, d, back, e, s, e') =
     (rename f front, map f d, rename f back, ap (rename f) e ∙ map-append (map f) front (d ∷ back), (map-⊆ f d c s.0, map-⊆ f c d s.1), ap (rename f) e' ∙ map-append (map f) front back)
 

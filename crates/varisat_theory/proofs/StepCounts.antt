@@ -25,7 +25,7 @@ by_append n m P (Add c ∷ lines) Q more R (f, inl (i, d)) e = (f, inl (i, by_ap
 by_append n m P (Add c ∷ lines) Q more R (f, inr (j, g, d)) e = (f, inr (j + m, omega (arith, g), by_append j m (P ++ c ∷ []) lines Q more R d e))
 by_append n m P (Delete c ∷ lines) Q more R (S, t, d) e = (S, t, by_append n m S lines Q more R d e)
 
-minor_same : (P Q : List Clause) (c : Clause) → SameClauses P Q → IsMinor P c → IsMinor Q c
+pub minor_same : (P Q : List Clause) (c : Clause) → SameClauses P Q → IsMinor P c → IsMinor Q c
 minor_same P Q c s (inl u) = inl u
 minor_same P Q c s (inr (d, h, i)) = let (e, j, t) = same_clauses_find P Q s d h in inr (e, j, λ x k. t.1 x (i x k))
 

@@ -15,3 +15,5 @@ pub mod Counted
 pub mod Searches
 pub mod Outcomes
 pub mod StepLaws
+pub mod Journals
+pub mod JournalLaws

@@ -2,6 +2,7 @@
 
 pub mod growth;
 pub mod held;
+pub mod journals;
 pub mod learning;
 pub mod luby;
 pub mod rank;

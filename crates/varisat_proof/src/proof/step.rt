@@ -4,21 +4,7 @@ ghost use Rattle.varisat_proof.specs.Mapping.{MapsLits, MapsStep};
 
 use std::alloc::{AllocError, Allocator};
 use varisat_literals::{Lit, Var};
-
-/// A step of a proof. The last two are for a checker alone, and write nothing.
-#[derive(Clone, Copy)]
-pub enum ProofStep<'a> {
-    /// The clause follows from those that are present, and joins them.
-    AtClause { clause: &'a [Lit] },
-    /// Each of the literals follows in turn, as a clause of its own.
-    UnitClauses { units: &'a [Lit] },
-    /// One present clause that is equal as a set leaves.
-    DeleteClause { clause: &'a [Lit] },
-    /// The clauses with a literal of the variable leave.
-    DeleteVar { var: Var },
-    /// Propagation from the literals conflicts.
-    FailedAssumptions { failed_core: &'a [Lit] },
-}
+pub use varisat_trace::ProofStep;
 
 /// Renames the variables of steps. It holds the literals of the step that was mapped last.
 #[derive(Drop)]

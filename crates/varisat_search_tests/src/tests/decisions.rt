@@ -2,11 +2,10 @@
 ghost use Rattle.std.specs.Prelude.{◌≡◌, length, OnOk};
 ghost use Rattle.varisat_search.specs.Contexts.{IsReady};
 
-use super::searches::{are, loaded_conflict, prefer_lower_true};
+use super::searches::{are, loaded_conflict, prefer_lower_true, step};
 use std::alloc::{Allocator, Global};
 use varisat_literals::{Var, var};
 use varisat_prop::clause::StoreError;
-use varisat_search::cdcl::conflict_step;
 use varisat_search::context::{Context, set_var_count};
 use varisat_search::decision::{initialize_var, make_decision};
 use varisat_search::levels::full_restart;
@@ -21,7 +20,7 @@ fn step_and_restart<A: Allocator + Copy>(ctx: &mut Context<A>) -> Result<(), Sto
     let SatState::Unknown = ctx.solver_state.sat_state else {
         return Ok(());
     };
-    conflict_step(ctx)?;
+    step(ctx)?;
     full_restart(ctx);
     Ok(())
 }

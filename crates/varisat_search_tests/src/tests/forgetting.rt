@@ -11,6 +11,7 @@ use varisat_prop::prop::Assignment;
 use varisat_search::cdcl::settle;
 use varisat_search::context::Context;
 use varisat_search::forgetting::drop_variables;
+use varisat_trace::NoTracer;
 
 /// For each variable whether it has a value.
 fn assigned<A: Allocator + Copy>(
@@ -51,11 +52,11 @@ fn forget_assigned<A: Allocator + Copy>(alloc: A, ctx: &mut Context<A>) -> Resul
 }
 
 /// Settles the units at level 0 and forgets them.
-fn forget_units<A: Allocator + Copy>(alloc: A, ctx: &mut Context<A>) -> Result<bool, AllocError>
+fn forget_units<A: Allocator + Copy>(alloc: A, ctx: &mut Context<A>) -> Result<bool, StoreError>
     requires { IsReady ctx.old }
     ensures { OnOk result (IsReady ctx.new) }
 {
-    if ctx.trail.current_level() > 0 || settle(ctx)?.is_err() {
+    if ctx.trail.current_level() > 0 || settle(ctx, &mut NoTracer {})?.is_err() {
         return Ok(false);
     }
     forget_assigned(alloc, ctx)?;

@@ -12,6 +12,7 @@ use varisat_prop::clause::StoreError;
 use varisat_search::context::Context;
 use varisat_search::schedule::schedule_step;
 use varisat_search::state::SatState;
+use varisat_trace::NoTracer;
 
 /// The verdict after so many steps or fewer, before each of which clauses are reduced.
 fn verdict_after<A: Allocator + Copy>(
@@ -33,7 +34,7 @@ fn verdict_after<A: Allocator + Copy>(
         if ctx.schedule.steps() == u64::MAX {
             break;
         }
-        schedule_step(ctx)?;
+        schedule_step(ctx, &mut NoTracer {})?;
     }
     Ok(ctx.solver_state.sat_state)
 }

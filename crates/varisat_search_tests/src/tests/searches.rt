@@ -15,6 +15,7 @@ use varisat_search::context::{Context, set_var_count};
 use varisat_search::decision::make_available;
 use varisat_search::load::load_clause;
 use varisat_search::state::SatState;
+use varisat_trace::NoTracer;
 use varisat_vsids::Vsids;
 
 /// The literal with the DIMACS number, which is not 0.
@@ -66,7 +67,7 @@ pub fn load<A: Allocator + Copy>(ctx: &mut Context<A>, lits: &[Lit]) -> Result<(
     ensures { OnOk result (IsReady ctx.new) }
 {
     if make_all_available(ctx, lits) {
-        load_clause(ctx, lits)?;
+        load_clause(ctx, &mut NoTracer {}, lits)?;
     }
     Ok(())
 }
@@ -165,7 +166,7 @@ pub fn step<A: Allocator + Copy>(ctx: &mut Context<A>) -> Result<(), StoreError>
     ensures { OnOk result (IsReady ctx.new) }
 {
     if let SatState::Unknown = ctx.solver_state.sat_state {
-        conflict_step(ctx)?;
+        conflict_step(ctx, &mut NoTracer {})?;
     }
     Ok(())
 }

@@ -9,7 +9,6 @@ use std::alloc::{Allocator, Global};
 use varisat_literals::lit;
 use varisat_prop::clause::{ClauseRef, StoreError};
 use varisat_prop::prop::Conflict;
-use varisat_search::cdcl::conflict_step;
 use varisat_search::context::Context;
 use varisat_search::state::SatState;
 
@@ -26,7 +25,7 @@ fn teaches<A: Allocator + Copy>(
     let SatState::Unknown = ctx.solver_state.sat_state else {
         return Ok(false);
     };
-    conflict_step(ctx)?;
+    step(ctx)?;
     Ok(are(ctx.analyze_conflict.clause(), clause) & (ctx.trail.current_level() == level))
 }
 

@@ -1,5 +1,5 @@
 -- What each part did to the maps and to the search.
-use Rattle.std.proofs.Common.{◌≢◌, false, [], sym, ap, ap₂, ◌∙◌, subst, length, map}
+use Rattle.std.proofs.Common.{◌≢◌, false, sym, ap, ap₂, ◌∙◌, subst, length, map}
 use Rattle.std.specs.Option.{IsSome}
 use Rattle.varisat_theory.specs.Membership.{◌∈◌}
 use Rattle.varisat_theory.specs.Literals.{variable_of}
@@ -24,6 +24,7 @@ use Rattle.varisat.proofs.SolversInTurn.{HaveSolvers, have-solvers-then, has-var
 use Rattle.varisat.proofs.TableMarks.{marks-bounded, joined-same, assumed-joined}
 use Rattle.varisat.proofs.AcceptClause.{clause-accepted}
 use Rattle.varisat.proofs.VariablesInUse.{same-in-use, tables-in-use}
+use Rattle.varisat_search.proofs.LeastHeld.{anything-with}
 use Rattle.varisat_search.proofs.SolverVariables.{in-use-all}
 use Rattle.varisat.proofs.accept.accept_clause.Given.{Over}
 use Rattle.varisat.proofs.accept.accept_clause.Goals.{In_ok-solver_from_user_lits}
@@ -55,6 +56,9 @@ pub load_clause-requires-clause-decidable : goal.load_clause-requires-clause-dec
 load_clause-requires-clause-decidable g c l h =
     let here = (goal.at.load_clause-requires-clause-decidable g c).In_ok-solver_from_user_lits in
     literals-decidable c.args.clause.now c.solver_from_user_lits.new.solver_lits.items (have g here).kept (c.in_ok-solver_from_user_lits.ensures {u = tt}).literals c.prove_linked-2.ensures l (subst (λ ls. l ∈ ls) c.deref.ensures.value h)
+
+pub load_clause-requires-clause-holds : goal.load_clause-requires-clause-holds
+load_clause-requires-clause-holds g c n = anything-with (λ held. Unit {0}) (λ held. tt) (view c.solver_from_user_lits.new.ctx) c.deref.result.now
 
 -- the verdict is not Unsat when the clause is loaded
 opened : (g : Over) (c : In_ok-solver_from_user_lits g) → c.solver_from_user_lits.new.ctx.solver_state.sat_state ≢ verdict.Unsat
@@ -121,7 +125,8 @@ returns-clause-accepted g c s f =
       well_before = all.kept.ready.well;
       well_new = r.ready.well;
       in_use = in-use-all m (view new) new.vsids (same-in-use m (view mid) mid.vsids (view new) new.vsids all.kept.decidable r.decidable) r.ready.decidable r.ready.well;
-      loads = subst (λ xs. Loads (search_of (view mid)) (search_of (view new)) xs (loaded_outcome new.solver_state.sat_state) []) items (r.lines (opened g here));
+      lines = (r.lines (opened g here)).lines;
+      loads = subst (λ xs. Loads (search_of (view mid)) (search_of (view new)) xs (loaded_outcome new.solver_state.sat_state) (r.lines (opened g here)).lines) items (r.lines (opened g here)).loads;
       verdict = r.verdict;
       parts_stay = r.assumptions (opened g here);
     })

@@ -9,6 +9,7 @@ use Rattle.varisat_search.specs.Contexts.{view}
 use Rattle.varisat_search.specs.Decisions.{SameDecidable}
 use Rattle.varisat_search.specs.Seen.{search_of, outcome_of}
 use Rattle.varisat_search.proofs.AssumptionSteps.{keeps-refl}
+use Rattle.varisat_search.proofs.LeastHeld.{anything-for}
 use Rattle.varisat_search.proofs.DecidableVariables.{same-refl, same-trans}
 use Rattle.varisat.specs.Budgets.{CountsSteps}
 use Rattle.varisat.specs.Searches.{answer_at}
@@ -47,10 +48,13 @@ abbrev told : (g : Over) (c : In_ok-schedule_step g) → Outcome
 told g c = outcome_of (view c.schedule_step.new.ctx) c.schedule_step.new.ctx.assumptions.failed_core c.schedule_step.new.ctx.solver_state.sat_state
 
 lines-told : (g : Over) (c : In_ok-schedule_step g) → (lines : List Line) × MakesSteps (steps_since c.args.ctx.now.schedule c.schedule_step.new.ctx.schedule) (search_of (view c.args.ctx.now)) (search_of (view c.schedule_step.new.ctx)) (told g c) lines
-lines-told g c = stepping-lines (stepping g c) (told g c) c.in_ok-schedule_step.ensures.steps
+lines-told g c = let (lines, p, i) = c.in_ok-schedule_step.ensures.steps in stepping-lines (stepping g c) (told g c) (lines, p)
 
 keeps-told : (g : Over) (c : In_ok-schedule_step g) → KeepsAssumptions (search_of (view c.args.ctx.now)) (told g c) c.args.ctx.now.assumptions c.schedule_step.new.ctx.assumptions
 keeps-told g c = stepping-keeps (stepping g c) (told g c) c.in_ok-schedule_step.ensures.assumes
+
+pub schedule_step-requires-clause-holds : goal.schedule_step-requires-clause-holds
+schedule_step-requires-clause-holds g c = anything-for (λ held. Unit {0}) (λ held. tt) (view c.steps.ctx)
 
 pub steps-init : goal.steps-init
 steps-init g c =
@@ -83,7 +87,7 @@ steps-preserved g c =
       state = e.state ∙ ap (λ v. record y.solver_state { sat_state = v }) (c.in-Unknown.is ∙ sym (ap (λ (s : SolverState). s.sat_state) r.state ∙ c.requires.unknown)) ∙ r.state;
       config = e.config ∙ r.config;
       made = stepping-goes-on d (e.rises c.in-Unknown.is);
-      lines = stepping-lines d Unknown (subst (λ b. (lines : List Line) × Steps (search_of (view y)) (search_of (view z)) (outcome_of (view z) z.assumptions.failed_core b) lines) c.in-Unknown.is e.steps);
+      lines = stepping-lines d Unknown (subst (λ b. (lines : List Line) × Steps (search_of (view y)) (search_of (view z)) (outcome_of (view z) z.assumptions.failed_core b) lines) c.in-Unknown.is (let (lines, p, i) = e.steps in (lines, p)));
       assumes = stepping-keeps d Unknown (subst (λ b. KeepsAssumptions (search_of (view y)) (outcome_of (view z) z.assumptions.failed_core b) y.assumptions z.assumptions) c.in-Unknown.is e.assumes);
     }
 

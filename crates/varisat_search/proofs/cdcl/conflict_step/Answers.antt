@@ -1,20 +1,60 @@
-use Rattle.varisat_search.proofs.MadeSteps.{made-settled, made-at-once}
+use Rattle.std.proofs.Common.{refl}
+use Rattle.varisat_theory.specs.Outcomes.{Steps}
+use Rattle.varisat_search.specs.declared.context.Context.{Context}
+use Rattle.varisat_search.specs.Progress.{MakesStep}
+use Rattle.varisat_search.specs.SettledUnits.{IsUnsettled, SettlesUnits, SettlesFirst}
+use Rattle.varisat_search.specs.Contexts.{view}
+use Rattle.varisat_search.specs.Seen.{search_of, outcome_of}
+use Rattle.varisat_search.proofs.MadeSteps.{made-are, made-with, no-core-entry, made-settled, made-at-once}
+use Rattle.varisat_trace.specs.Traces.{TakesLines, TakesStep, HoldsFor}
+use Rattle.varisat_trace.proofs.Traced.{step-lines, step-more, holds_on}
+use Rattle.varisat_search.proofs.cdcl.conflict_step.Given.{Over}
+use Rattle.varisat_search.proofs.cdcl.conflict_step.Goals.{In_ok-settle_units}
 use Rattle.varisat_search.proofs.cdcl.conflict_step.Goals as goal
+
+-- what the tracer may hold fits the search once the units are settled
+holds : (g : Over) (c : In_ok-settle_units g) → HoldsFor (g.P.ProofTracer.holds c.settle_units.new.proof) (search_of (view c.settle_units.new.ctx))
+holds g c =
+    let (lines, p, (s, t)) = c.in_ok-settle_units.ensures.goes_on.proves in
+    holds_on g.P.ProofTracer.holds g.P.ProofTracer.takes g.met.P.ProofTracer.holds_after c.args.proof.now c.settle_units.new.proof 0 (search_of (view c.args.ctx.now)) (search_of (view c.settle_units.new.ctx)) lines c.requires.holds p t
+
+pub find_and_learn-requires-clause-holds : goal.find_and_learn-requires-clause-holds
+find_and_learn-requires-clause-holds g c = holds g (goal.at.find_and_learn-requires-clause-holds g c).In_ok-settle_units
+
+pub learn-requires-clause-holds : goal.learn-requires-clause-holds
+learn-requires-clause-holds g c = holds g (goal.at.learn-requires-clause-holds g c).In_ok-settle_units
+
+-- the units are settled, and a step is made from there
+after : (g : Over) (c : In_ok-settle_units g) (z : Context g.row.A.Denot) (p2 : g.row.P.Denot) → MakesStep (λ lines. TakesStep g.P.ProofTracer.takes c.settle_units.new.proof lines (outcome_of (view z) z.assumptions.failed_core z.solver_state.sat_state) p2) c.settle_units.new.ctx z → MakesStep (λ lines. SettlesFirst lines c.args.ctx.now z × TakesStep g.P.ProofTracer.takes c.args.proof.now lines (outcome_of (view z) z.assumptions.failed_core z.solver_state.sat_state) p2) c.args.ctx.now z
+after g c z p2 m =
+    let takes = g.P.ProofTracer.takes in
+    let x = c.args.ctx.now in
+    let y = c.settle_units.new.ctx in
+    let p0 = c.args.proof.now in
+    let p1 = c.settle_units.new.proof in
+    let v = outcome_of (view z) z.assumptions.failed_core z.solver_state.sat_state in
+    let end = c.in_ok-settle_units.field-0 in
+    made-settled x y z
+    (λ lines. (IsUnsettled (view x) → SettlesUnits lines (view x) (view y) end) × TakesLines takes p0 lines p1)
+    (λ lines. Steps (search_of (view y)) (search_of (view z)) v lines × TakesStep takes p1 lines v p2)
+    (λ lines. SettlesFirst lines x z × TakesStep takes p0 lines v p2)
+    (λ first more (s, i) (p, j). ((λ u. (y, end, first, more, refl, s u, (more, p, refl))), step-more takes g.met.P.ProofTracer.takes_more p0 p1 p2 first more v i j))
+    c.requires.ready c.in_ok-settle_units.ensures.goes_on c.settle_units.ensures.kept (made-with y z (λ lines. TakesStep takes p1 lines v p2) m)
 
 pub returns-in_ok-find_and_learn-in-Ok-clause-made : goal.returns-in_ok-find_and_learn-in-Ok-clause-made
 returns-in_ok-find_and_learn-in-Ok-clause-made g c =
-    made-settled c.args.ctx.now c.settle_units.new.ctx c.find_and_learn.new.ctx c.requires.ready c.in_ok-settle_units.ensures.goes_on c.settle_units.ensures.kept c.in_ok-find_and_learn-in-Ok.ensures.made
+    after g (goal.at.returns-in_ok-find_and_learn-in-Ok-clause-made g c).In_ok-settle_units c.find_and_learn.new.ctx c.find_and_learn.new.proof c.in_ok-find_and_learn-in-Ok.ensures.made
 
 pub returns-in_ok-learn-in-Err-clause-made : goal.returns-in_ok-learn-in-Err-clause-made
 returns-in_ok-learn-in-Err-clause-made g c =
-    let a = c.in_ok-settle_units.ensures.goes_on in
     let e = c.in_ok-learn-in-Err.ensures in
-    made-settled c.args.ctx.now c.settle_units.new.ctx c.learn.new.ctx c.requires.ready a c.settle_units.ensures.kept (made-at-once c.settle_units.new.ctx c.learn.new.ctx a.ready e.further e.last)
-
-pub returns-in_ok-find_and_learn-in-Ok-clause-settles : goal.returns-in_ok-find_and_learn-in-Ok-clause-settles
-returns-in_ok-find_and_learn-in-Ok-clause-settles g c unsettled =
-    (c.settle_units.new.ctx, c.in_ok-settle_units.field-0, c.in_ok-settle_units.ensures.settles unsettled, c.in_ok-find_and_learn-in-Ok.ensures.made.steps)
-
-pub returns-in_ok-learn-in-Err-clause-settles : goal.returns-in_ok-learn-in-Err-clause-settles
-returns-in_ok-learn-in-Err-clause-settles g c unsettled =
-    (c.settle_units.new.ctx, c.in_ok-settle_units.field-0, c.in_ok-settle_units.ensures.settles unsettled, c.in_ok-learn-in-Err.ensures.further.steps)
+    let takes = g.P.ProofTracer.takes in
+    let p1 = c.settle_units.new.proof in
+    let p2 = c.learn.new.proof in
+    let y = c.settle_units.new.ctx in
+    let z = c.learn.new.ctx in
+    let v = outcome_of (view z) z.assumptions.failed_core z.solver_state.sat_state in
+    after g (goal.at.returns-in_ok-learn-in-Err-clause-made g c).In_ok-settle_units z p2
+    (made-are y z (λ lines. TakesLines takes p1 lines p2) (λ lines. TakesStep takes p1 lines v p2)
+    (λ lines h. step-lines takes p1 p2 lines v (no-core-entry (view z) z.assumptions.failed_core z.solver_state.sat_state e.further.known) h)
+    (made-at-once y z (λ lines. TakesLines takes p1 lines p2) c.in_ok-settle_units.ensures.goes_on.ready e.further e.last))

@@ -1,16 +1,21 @@
-use Rattle.std.proofs.Common.{MatchResult, subst}
-use Rattle.varisat_theory.specs.Propagation.{IsComplete}
+use Rattle.std.proofs.Common.{MatchResult, List, sym, subst}
+use Rattle.varisat_theory.specs.Literals.{Clause}
+use Rattle.varisat_theory.specs.Propagation.{IsComplete, Conflicts}
 use Rattle.varisat_prop.specs.View.{kept}
 use Rattle.varisat_search.specs.declared.state.SatState.TheVariants as verdict
 use Rattle.varisat_search.specs.AssumptionParts.{EndsAssumed}
 use Rattle.varisat_search.specs.Contexts.{view}
 use Rattle.varisat_search.specs.Conflicts.{Stops}
 use Rattle.varisat_search.proofs.AssumptionOutcomes.{error-is, core-steps, keeps-model, keeps-core}
-use Rattle.varisat_search.proofs.MadeSteps.{Finds, made-ended, made-learned}
+use Rattle.varisat_search.proofs.MadeSteps.{Finds, made-are, no-core-entry, made-ended, made-learned}
+use Rattle.varisat_search.specs.Seen.{search_of, outcome_of}
+use Rattle.varisat_trace.proofs.Traced.{step-lines, holds_still}
+use Rattle.varisat_search.proofs.StepWithoutLines.{grows_prove}
 use Rattle.varisat_search.proofs.StepLines.{model-steps}
 use Rattle.varisat_search.proofs.cdcl.find_and_learn.Given.{Over}
 use Rattle.varisat_search.proofs.cdcl.find_and_learn.Goals.{In_ok-find_conflict}
 use Rattle.varisat_search.proofs.cdcl.find_and_learn.Goals as goal
+use Rattle.varisat_trace.specs.Traces.{TakesLines, TakesStep, HoldsFor}
 
 finds : (g : Over) (c : In_ok-find_conflict g) → Finds c.args.ctx.now c.find_conflict.new.ctx
 finds g c =
@@ -23,17 +28,17 @@ returns-in-Ok-clause-made g c =
     let y = c.find_conflict.new.ctx in
     let m = c.in_ok-find_conflict.ensures in
     let a = subst (λ r. MatchResult r (λ _. IsComplete (kept (view y)) y.trail.literals × EndsAssumed (view y) y.assumptions) (λ f. Stops (view y) y.assumptions f)) c.in-Ok.is m.found in
-    made-ended x y c.requires.ready (finds g (goal.at.returns-in-Ok-clause-made g c).In_ok-find_conflict) verdict.Sat (λ e. absurd cc)
+    made-ended x y c.requires.ready (finds g (goal.at.returns-in-Ok-clause-made g c).In_ok-find_conflict) verdict.Sat (λ lines. TakesStep g.P.ProofTracer.takes c.args.proof.now lines (outcome_of (view y) y.assumptions.failed_core verdict.Sat) c.args.proof.now) (g.met.P.ProofTracer.takes_none c.args.proof.now) (λ e. absurd cc)
     (model-steps (view y) m.ready.well a.0 a.1.0)
     (keeps-model (view x) (view y) x.assumptions y.assumptions c.requires.ready.well m.ready.well m.taken m.ready.assumed a.1.1)
 
-pub returns-in-Err-Assumption-clause-made : goal.returns-in-Err-Assumption-clause-made
-returns-in-Err-Assumption-clause-made g c =
+pub returns-in_ok-trace_core-in-Err-Assumption-clause-made : goal.returns-in_ok-trace_core-in-Err-Assumption-clause-made
+returns-in_ok-trace_core-in-Err-Assumption-clause-made g c =
     let x = c.args.ctx.now in
     let y = c.find_conflict.new.ctx in
     let m = c.in_ok-find_conflict.ensures in
     let b = error-is (IsComplete (kept (view y)) y.trail.literals × EndsAssumed (view y) y.assumptions) (Stops (view y) y.assumptions) c.in-Err-Assumption.is c.in-Err-Assumption.field-0-is m.found in
-    made-ended x y c.requires.ready (finds g (goal.at.returns-in-Err-Assumption-clause-made g c).In_ok-find_conflict) verdict.UnsatUnderAssumptions (λ e. absurd cc)
+    made-ended x y c.requires.ready (finds g (goal.at.returns-in_ok-trace_core-in-Err-Assumption-clause-made g c).In_ok-find_conflict) verdict.UnsatUnderAssumptions (λ lines. TakesStep g.P.ProofTracer.takes c.args.proof.now lines (outcome_of (view y) y.assumptions.failed_core verdict.UnsatUnderAssumptions) c.trace_core.new.proof) (c.in_ok-trace_core-in-Err-Assumption.ensures {u = tt}) (λ e. absurd cc)
     (core-steps (view y) y.assumptions m.ready.well b)
     (keeps-core (view x) (view y) x.assumptions y.assumptions c.requires.ready.well m.taken b)
 
@@ -41,4 +46,28 @@ pub returns-in_ok-learn-in-Err-Conflict-clause-made : goal.returns-in_ok-learn-i
 returns-in_ok-learn-in-Err-Conflict-clause-made g c =
     let here = (goal.at.returns-in_ok-learn-in-Err-Conflict-clause-made g c).In_ok-find_conflict in
     let e = c.in_ok-learn-in-Err-Conflict.ensures in
-    made-learned c.args.ctx.now c.find_conflict.new.ctx c.requires.ready (finds g here) c.learn.new.ctx e.further e.last
+    let z = c.learn.new.ctx in
+    let v = outcome_of (view z) z.assumptions.failed_core z.solver_state.sat_state in
+    made-are c.args.ctx.now z (λ lines. TakesLines g.P.ProofTracer.takes c.args.proof.now lines c.learn.new.proof) (λ lines. TakesStep g.P.ProofTracer.takes c.args.proof.now lines v c.learn.new.proof)
+    (λ lines h. step-lines g.P.ProofTracer.takes c.args.proof.now c.learn.new.proof lines v (no-core-entry (view z) z.assumptions.failed_core z.solver_state.sat_state e.further.known) h)
+    (made-learned c.args.ctx.now c.find_conflict.new.ctx c.requires.ready (finds g here) z (λ lines. TakesLines g.P.ProofTracer.takes c.args.proof.now lines c.learn.new.proof) e.further e.last)
+
+-- what the tracer may hold fits the search after propagation and decisions
+holds : (g : Over) (c : In_ok-find_conflict g) → HoldsFor (g.P.ProofTracer.holds c.args.proof.now) (search_of (view c.find_conflict.new.ctx))
+holds g c =
+    let x = c.args.ctx.now in
+    let y = c.find_conflict.new.ctx in
+    let m = c.in_ok-find_conflict.ensures in
+    holds_still (g.P.ProofTracer.holds c.args.proof.now) 0 (search_of (view x)) (search_of (view y)) c.requires.holds (grows_prove (view x) (view y) c.requires.ready.well m.ready.well m.grows)
+
+pub learn-requires-clause-holds : goal.learn-requires-clause-holds
+learn-requires-clause-holds g c = holds g (goal.at.learn-requires-clause-holds g c).In_ok-find_conflict
+
+pub trace_core-requires : goal.trace_core-requires
+trace_core-requires g c =
+    let y = c.find_conflict.new.ctx in
+    let m = c.in_ok-find_conflict.ensures in
+    let b = error-is (IsComplete (kept (view y)) y.trail.literals × EndsAssumed (view y) y.assumptions) (Stops (view y) y.assumptions) c.in-Err-Assumption.is c.in-Err-Assumption.field-0-is m.found in
+    let (held, h, f) = holds g (goal.at.trace_core-requires g c).In_ok-find_conflict in
+    let (after, d, i, n) = (core-steps (view y) y.assumptions m.ready.well b).holds held f in
+    (held, h, subst (λ (P : List Clause). Conflicts P y.assumptions.failed_core) (sym d) i.1)

@@ -1,5 +1,7 @@
-use Rattle.std.proofs.Common.{◌≡◌, List, refl, sym, ap, ◌∙◌, subst, arith}
-use Rattle.varisat_theory.specs.Literals.{Literal}
+use Rattle.std.proofs.Common.{◌≡◌, List, [], ◌∷◌, ◌++◌, refl, sym, ap, ◌∙◌, subst, arith}
+use Rattle.varisat_theory.specs.Literals.{Literal, Clause}
+use Rattle.varisat_theory.specs.Derivations.{Line, Add}
+use Rattle.varisat_search.proofs.ViewSearch.{view_reads}
 use Rattle.varisat_clause.specs.declared.header.Tier.TheVariants as tier
 use Rattle.varisat_clause.specs.Tiers.{is_tier}
 use Rattle.varisat_clause.specs.Headers.{Header}
@@ -18,6 +20,7 @@ use Rattle.varisat_search.proofs.LearnContext.{analysis-ready, involved-named, b
 use Rattle.varisat_search.proofs.cdcl.learn.Given.{Over}
 use Rattle.varisat_search.proofs.cdcl.learn.Goals.{After-backtrack, In_ok-reason, In_ok-enqueue_assignment}
 use Rattle.varisat_search.proofs.cdcl.learn.Goals as goal
+use Rattle.varisat_trace.specs.Traces.{TakesLines}
 
 pub bump_involved-requires-clause-ready : goal.bump_involved-requires-clause-ready
 bump_involved-requires-clause-ready g c = analysis-ready c.analyze.ensures.kept c.requires.ready c.analyze.ensures.count
@@ -74,8 +77,18 @@ undone g c =
       back = c.backtrack.ensures.kept;
     }
 
-further : (g : Over) (c : After-backtrack g) (z : Context g.row.A.Denot) → IsStepFurther (with_store c.args.ctx.now c.bump_involved_clauses.new.ctx) z → IsStepFurther c.args.ctx.now z
-further g c z p = noted-further c.bump_involved_clauses.new.ctx (begun g c) c.bump_involved_clauses.ensures.tracks c.bump_involved_clauses.ensures.headers z p
+-- the lines that were taken
+abbrev taken : (g : Over) (c : After-backtrack g) → List Line → Type 0
+taken g c lines = TakesLines g.P.ProofTracer.takes c.args.proof.now lines c.trace_learned.new.proof
+
+further : (g : Over) (c : After-backtrack g) (z : Context g.row.A.Denot) → IsStepFurther (taken g c) (with_store c.args.ctx.now c.bump_involved_clauses.new.ctx) z → IsStepFurther (taken g c) c.args.ctx.now z
+further g c z p = noted-further c.bump_involved_clauses.new.ctx (begun g c) c.bump_involved_clauses.ensures.tracks c.bump_involved_clauses.ensures.headers z (taken g c) p
+
+pub trace_learned-requires : goal.trace_learned-requires
+trace_learned-requires g c =
+    let (held, h, f) = c.requires.holds in
+    let d = c.analyze.new.ctx.analyze_conflict.clause in
+    (held, held ++ d ∷ [], h, (c.in_ok-level.ensures.learned.follows held (view_reads (view c.args.ctx.now) held c.requires.ready.well f), refl))
 
 saves : (g : Over) (c : After-backtrack g) → SavesSome (view c.args.ctx.now) c.args.ctx.now.assignment.last c.backtrack.new.ctx.assignment.last
 saves g c =
@@ -86,6 +99,11 @@ analysis-stays : (g : Over) (c : After-backtrack g) → c.backtrack.new.ctx.anal
 analysis-stays g c =
     let analysis : (x : Context g.row.A.Denot) → Analysis = λ x. x.analyze_conflict in
     ap analysis c.backtrack.ensures.kept ∙ ap analysis c.assess_learned-header.ensures.kept ∙ ap analysis c.bump_involved_clauses.ensures.kept ∙ ap analysis c.bump_involved.ensures.kept
+
+-- the line that was taken is that of the clause that is kept
+taken-is : (g : Over) (c : After-backtrack g) (d : Clause) → c.backtrack.new.ctx.analyze_conflict.clause ≡ d → taken g c (Add d ∷ [])
+taken-is g c d e =
+    subst (λ (x : Clause). taken g c (Add x ∷ [])) (sym (ap (λ (a : Analysis). a.clause) (analysis-stays g c)) ∙ e) (c.in_ok-trace_learned.ensures {u = tt})
 
 learning : (g : Over) (c : In_ok-reason g) → Backtracked (with_store c.args.ctx.now c.bump_involved_clauses.new.ctx) c.assess_learned-header.new.ctx c.backtrack.new.ctx c.args.conflict c.in_ok-level.level → Learning (with_store c.args.ctx.now c.bump_involved_clauses.new.ctx) c.assess_learned-header.new.ctx c.backtrack.new.ctx c.keep_learned.new.ctx c.args.conflict c.in_ok-level.level c.in-Some.first c.in-Some.ensures.0 c.in_ok-reason.reason
 learning g c b = record { before = b; split = sym c.clause.ensures ∙ c.in-Some.ensures.1; tracks = c.in_ok-reason.ensures.tracks; stored = c.keep_learned.ensures.kept; kept = c.in_ok-reason.ensures.reason; watched = c.in_ok-reason.ensures.watched }
@@ -118,7 +136,7 @@ returns-clause-further g c =
     let here = goal.at.returns-clause-further g c in
     let d = learning g here.In_ok-reason (undone g here.After-backtrack) in
     further g here.After-backtrack (last g here.In_ok-enqueue_assignment)
-    (learning-further d (last g here.In_ok-enqueue_assignment) refl (c.in_ok-enqueue_assignment.ensures.view c.keep_learned.new.ctx.clause_alloc c.keep_learned.new.ctx.binary_clauses) c.in_ok-enqueue_assignment.ensures.units)
+    (learning-further d (last g here.In_ok-enqueue_assignment) refl (c.in_ok-enqueue_assignment.ensures.view c.keep_learned.new.ctx.clause_alloc c.keep_learned.new.ctx.binary_clauses) (taken g here.After-backtrack) (taken-is g here.After-backtrack (c.in-Some.first ∷ c.in-Some.ensures.0) (sym c.clause.ensures ∙ c.in-Some.ensures.1)) c.in_ok-enqueue_assignment.ensures.units)
 
 pub returns-clause-bumps : goal.returns-clause-bumps
 returns-clause-bumps g c h =
@@ -185,7 +203,8 @@ returns-clause-last g c =
 pub returns-in_default-clause-further : goal.returns-in_default-clause-further
 returns-in_default-clause-further g c =
     let b = (goal.at.returns-in_default-clause-further g c).After-backtrack in
-    further g b _ (refuted-further (undone g b) (sym c.clause.ensures ∙ c.in_default.ensures))
+    let e = sym c.clause.ensures ∙ c.in_default.ensures in
+    further g b _ (refuted-further (undone g b) e (taken g b) (taken-is g b [] e))
 
 pub returns-in_default-clause-bumps : goal.returns-in_default-clause-bumps
 returns-in_default-clause-bumps g c h =

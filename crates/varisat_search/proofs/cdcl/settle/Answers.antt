@@ -1,4 +1,4 @@
-use Rattle.std.proofs.Common.{◌≡◌, Ok, Err, MatchResult, [], ◌++◌, length, refl, sym, ap, ◌∙◌, subst}
+use Rattle.std.proofs.Common.{◌≡◌, Ok, Err, MatchResult, List, [], ◌++◌, length, refl, sym, ap, ap₂, ◌∙◌, subst}
 use Rattle.varisat_theory.specs.Propagation.{IsComplete}
 use Rattle.varisat_theory.specs.Outcomes.{Proves}
 use Rattle.varisat_theory.specs.StepLaws.{unit_lines}
@@ -8,7 +8,12 @@ use Rattle.varisat_search.specs.declared.context.Context.{Context}
 use Rattle.varisat_search.specs.Contexts.{view, IsReady}
 use Rattle.varisat_search.specs.ProvedUnits.{implied_units, ProvesUnits}
 use Rattle.varisat_search.specs.Seen.{search_of}
+use Rattle.varisat_theory.specs.Derivations.{Line}
+use Rattle.varisat_search.specs.SettledUnits.{SettlesUnits}
 use Rattle.varisat_search.specs.Simplifications.{pair_lines, clause_lines}
+use Rattle.varisat_trace.specs.Traces.{TakesLines, HoldsFor}
+use Rattle.varisat_trace.proofs.Traced.{lines-more, holds_on, holds_still}
+use Rattle.varisat_search.proofs.StepWithoutLines.{grows_prove}
 use Rattle.varisat_search.proofs.PropagatedContext.{propagated-ready}
 use Rattle.varisat_search.proofs.ProvedUnits.{units-all}
 use Rattle.varisat_search.proofs.SettledUnits.{ProvedAfter, goes-trans, goes-simplified, goes-to-units, settles-to-units, still-conflicting, settled-down}
@@ -44,14 +49,37 @@ facts g h p r f l k =
       end_kept = k;
     }
 
-pub prove_units-requires : goal.prove_units-requires
-prove_units-requires g c = ready g (goal.at.prove_units-requires g c).In_ok-propagated
+-- what the tracer may hold fits the search after propagation
+holds : (g : Over) (c : In_ok-propagated g) → HoldsFor (g.P.ProofTracer.holds c.args.proof.now) (search_of (view (mid g c)))
+holds g c =
+    let x = c.args.ctx.now in
+    holds_still (g.P.ProofTracer.holds c.args.proof.now) 0 (search_of (view x)) (search_of (view (mid g c))) c.requires.holds
+    (grows_prove (view x) (view (mid g c)) c.requires.ready.well (ready g c).well c.in_ok-propagated.ensures.propagates.grows)
+
+pub prove_units-requires-clause-ready : goal.prove_units-requires-clause-ready
+prove_units-requires-clause-ready g c = ready g (goal.at.prove_units-requires-clause-ready g c).In_ok-propagated
+
+pub prove_units-requires-clause-holds : goal.prove_units-requires-clause-holds
+prove_units-requires-clause-holds g c = holds g (goal.at.prove_units-requires-clause-holds g c).In_ok-propagated
+
+pub unit_simplify-requires-clause-holds : goal.unit_simplify-requires-clause-holds
+unit_simplify-requires-clause-holds g c =
+    let h = (goal.at.unit_simplify-requires-clause-holds g c).In_ok-propagated in
+    let p = c.in_ok-prove_units.ensures in
+    let m = mid g h in
+    holds_on g.P.ProofTracer.holds g.P.ProofTracer.takes g.met.P.ProofTracer.holds_after c.args.proof.now c.prove_units.new.proof 0 (search_of (view m)) (search_of (view c.prove_units.new.ctx)) (unit_lines (implied_units (view m))) (holds g h) (p.proves (none g h)) (p.takes (none g h))
 
 pub returns-in-Err-clause-goes_on : goal.returns-in-Err-clause-goes_on
 returns-in-Err-clause-goes_on g c =
     let h = (goal.at.returns-in-Err-clause-goes_on g c).In_ok-propagated in
-    let p = c.prove_units.ensures in
-    goes-to-units c.args.ctx.now (mid g h) c.prove_units.new.ctx (facts g h c.prove_units.new.ctx p.ready p.proved p.proves p.kept)
+    let m = mid g h in
+    let p = c.in_ok-prove_units.ensures in
+    let t = view c.prove_units.new.ctx in
+    let d = facts g h c.prove_units.new.ctx p.ready p.proved p.proves c.prove_units.ensures.kept in
+    let ends = subst (λ r. MatchResult r (λ _. IsComplete (kept (view m)) m.trail.literals × (m.trail.queue_head ≡ length m.trail.literals)) (λ f. IsConflicting (view m) f)) c.in-Err.is c.in_ok-propagated.ensures.ends in
+    goes-to-units c.args.ctx.now m c.prove_units.new.ctx d
+    (λ lines. SettlesUnits lines (view c.args.ctx.now) t (Err c.in-Err.conflict) × TakesLines g.P.ProofTracer.takes c.args.proof.now lines c.prove_units.new.proof)
+    (settles-to-units c.args.ctx.now m c.prove_units.new.ctx d (unit_lines (implied_units (view m))) t (Err c.in-Err.conflict) (refl, still-conflicting (view m) t c.in-Err.conflict (p.proved (none g h)) ends, refl), p.takes (none g h))
 
 pub returns-in-Err-clause-conflict : goal.returns-in-Err-clause-conflict
 returns-in-Err-clause-conflict g c =
@@ -59,17 +87,7 @@ returns-in-Err-clause-conflict g c =
     let m = mid g h in
     let t = view c.prove_units.new.ctx in
     let ends = subst (λ r. MatchResult r (λ _. IsComplete (kept (view m)) m.trail.literals × (m.trail.queue_head ≡ length m.trail.literals)) (λ f. IsConflicting (view m) f)) c.in-Err.is c.in_ok-propagated.ensures.ends in
-    still-conflicting (view m) t c.in-Err.conflict (c.prove_units.ensures.proved (none g h)) ends
-
-pub returns-in-Err-clause-settles : goal.returns-in-Err-clause-settles
-returns-in-Err-clause-settles g c =
-    let h = (goal.at.returns-in-Err-clause-settles g c).In_ok-propagated in
-    let m = mid g h in
-    let p = c.prove_units.ensures in
-    let t = view c.prove_units.new.ctx in
-    let ends = subst (λ r. MatchResult r (λ _. IsComplete (kept (view m)) m.trail.literals × (m.trail.queue_head ≡ length m.trail.literals)) (λ f. IsConflicting (view m) f)) c.in-Err.is c.in_ok-propagated.ensures.ends in
-    settles-to-units c.args.ctx.now m c.prove_units.new.ctx (facts g h c.prove_units.new.ctx p.ready p.proved p.proves p.kept) t (Err c.in-Err.conflict)
-    (refl, still-conflicting (view m) t c.in-Err.conflict (p.proved (none g h)) ends)
+    still-conflicting (view m) t c.in-Err.conflict (c.in_ok-prove_units.ensures.proved (none g h)) ends
 
 pub unit_simplify-requires-clause-undecided : goal.unit_simplify-requires-clause-undecided
 unit_simplify-requires-clause-undecided g c =
@@ -79,34 +97,41 @@ unit_simplify-requires-clause-undecided g c =
 pub unit_simplify-requires-clause-proved : goal.unit_simplify-requires-clause-proved
 unit_simplify-requires-clause-proved g c =
     let h = (goal.at.unit_simplify-requires-clause-proved g c).In_ok-propagated in
-    units-all (view (mid g h)) (view c.prove_units.new.ctx) (ready g h).well (none g h) (c.prove_units.ensures.proved (none g h))
+    units-all (view (mid g h)) (view c.prove_units.new.ctx) (ready g h).well (none g h) (c.in_ok-prove_units.ensures.proved (none g h))
 
 pub returns-clause-goes_on : goal.returns-clause-goes_on
 returns-clause-goes_on g c =
     let h = (goal.at.returns-clause-goes_on g c).In_ok-propagated in
     let x = c.args.ctx.now in
+    let m = mid g h in
     let y = c.prove_units.new.ctx in
-    let p = c.prove_units.ensures in
+    let z = c.unit_simplify.new.ctx in
+    let p = c.in_ok-prove_units.ensures in
     let q = c.in_ok-unit_simplify.ensures in
-    goes-trans x y c.unit_simplify.new.ctx
-    (goes-to-units x (mid g h) y (facts g h y p.ready p.proved p.proves p.kept))
-    (goes-simplified y c.unit_simplify.new.ctx q.ready (pair_lines (view y) ++ clause_lines (view y)) q.proves q.decidable c.unit_simplify.ensures.kept)
-
-pub returns-clause-settles : goal.returns-clause-settles
-returns-clause-settles g c =
-    let h = (goal.at.returns-clause-settles g c).In_ok-propagated in
-    let p = c.prove_units.ensures in
-    let q = c.in_ok-unit_simplify.ensures in
-    settles-to-units c.args.ctx.now (mid g h) c.prove_units.new.ctx (facts g h c.prove_units.new.ctx p.ready p.proved p.proves p.kept) (view c.unit_simplify.new.ctx) (Ok tt) (q.simplified, q.proves)
+    let takes = g.P.ProofTracer.takes in
+    let p0 = c.args.proof.now in
+    let p1 = c.prove_units.new.proof in
+    let p2 = c.unit_simplify.new.proof in
+    let d = facts g h y p.ready p.proved p.proves c.prove_units.ensures.kept in
+    let units = unit_lines (implied_units (view m)) in
+    let left = pair_lines (view y) ++ clause_lines (view y) in
+    goes-trans x y z (λ lines. (lines ≡ units) × TakesLines takes p0 lines p1) (λ lines. (lines ≡ left) × TakesLines takes p1 lines p2)
+    (λ lines. SettlesUnits lines (view x) (view z) (Ok tt) × TakesLines takes p0 lines p2)
+    (λ first more (e, i) (f, j). (
+      settles-to-units x m y d (first ++ more) (view z) (Ok tt) (q.simplified, ap₂ (λ (xs ys : List Line). xs ++ ys) e f),
+      lines-more takes g.met.P.ProofTracer.takes_more p0 p1 p2 first more i j,
+    ))
+    (goes-to-units x m y d (λ lines. (lines ≡ units) × TakesLines takes p0 lines p1) (refl, p.takes (none g h)))
+    (goes-simplified y z (λ lines. (lines ≡ left) × TakesLines takes p1 lines p2) q.ready left q.proves (refl, q.takes) q.decidable c.unit_simplify.ensures.kept)
 
 pub returns-clause-settled : goal.returns-clause-settled
 returns-clause-settled g c =
     let h = (goal.at.returns-clause-settled g c).In_ok-propagated in
     let m = mid g h in
-    let p = c.prove_units.ensures in
+    let p = c.in_ok-prove_units.ensures in
     let ends = subst (λ r. MatchResult r (λ _. IsComplete (kept (view m)) m.trail.literals × (m.trail.queue_head ≡ length m.trail.literals)) (λ f. IsConflicting (view m) f)) c.in_default.is c.in_ok-propagated.ensures.ends in
     settled-down (view c.prove_units.new.ctx) (view c.unit_simplify.new.ctx)
-    (ap (λ (y : Context g.row.A.Denot). y.trail.decisions) p.kept ∙ none g h)
-    (ap (λ (y : Context g.row.A.Denot). y.trail.queue_head) p.kept ∙ ends.1 ∙ sym (ap (λ (y : Context g.row.A.Denot). length y.trail.literals) p.kept))
+    (ap (λ (y : Context g.row.A.Denot). y.trail.decisions) c.prove_units.ensures.kept ∙ none g h)
+    (ap (λ (y : Context g.row.A.Denot). y.trail.queue_head) c.prove_units.ensures.kept ∙ ends.1 ∙ sym (ap (λ (y : Context g.row.A.Denot). length y.trail.literals) c.prove_units.ensures.kept))
     (units-all (view m) (view c.prove_units.new.ctx) (ready g h).well (none g h) (p.proved (none g h)))
     c.in_ok-unit_simplify.ensures.simplified

@@ -1,14 +1,21 @@
-use Rattle.std.proofs.Common.{◌*◌, false, replicate, length, refl, sym, ap, ◌∙◌, subst, arith}
+use Rattle.std.specs.List.Sorted.{IsPermutation}
+use Rattle.std.specs.Vec.{with_items}
+use Rattle.std.proofs.Common.{◌*◌, ◌<◌, ◌≤◌, List, false, replicate, length, ⊎_elim, refl, sym, ap, ◌∙◌, subst, arith}
+use Rattle.std.proofs.lemmas.Bool.{cases_lt}
 use Rattle.varisat_theory.specs.Membership.{◌∈◌}
 use Rattle.varisat_clause.specs.Databases.{Tracks}
 use Rattle.varisat_search.specs.declared.context.Context.{Context}
 use Rattle.varisat_search.specs.Contexts.{view}
 use Rattle.varisat_search.proofs.AssumptionContexts.{cut-assumed, cut-same-list}
 use Rattle.varisat_search.proofs.LoadView.{Restarted, restarted}
-use Rattle.varisat_search.proofs.LoadContext.{Loading, loading-restarted, loading-propagated, loading-inside, loaded-tautology, loaded-satisfied, loaded-added}
+use Rattle.varisat_search.proofs.LoadContext.{Loading, Loaded, loading-other, loading-restarted, loading-propagated, loading-inside, loaded-tautology, loaded-satisfied, loaded-deleted, loaded-added}
+use Rattle.varisat_search.proofs.LoadedTrue.{can-delete-loaded}
+use Rattle.varisat_search.specs.Seen.{search_of}
+use Rattle.varisat_theory.specs.Derivations.{Line}
+use Rattle.varisat_trace.specs.Traces.{TakesLines}
 use Rattle.varisat_search.proofs.LoadedUnits.{loaded-none, loaded-one}
 use Rattle.varisat_search.proofs.load.load_clause.Given.{Over}
-use Rattle.varisat_search.proofs.load.load_clause.Goals.{After-full_restart, In_ok-collect_distinct}
+use Rattle.varisat_search.proofs.load.load_clause.Goals.{After-full_restart, In_ok-collect_distinct, In_ok-trace_satisfied}
 use Rattle.varisat_search.proofs.load.load_clause.Goals as goal
 
 abbrev copied : (g : Over) (c : In_ok-collect_distinct g) → Context g.row.A.Denot
@@ -61,18 +68,44 @@ collect_distinct-requires g c =
 pub returns-then-branch : goal.returns-then-branch
 returns-then-branch g c =
     let taut = c.in_ok-collect_distinct.ensures.tautology.0 c.if-branch.true in
-    let o = loaded-tautology (loading g (goal.at.returns-then-branch g c).In_ok-collect_distinct) taut in
+    let p = c.args.proof.now in
+    let o = loaded-tautology (loading g (goal.at.returns-then-branch g c).In_ok-collect_distinct) (g.P.ProofTracer.in_order p) (λ lines. TakesLines g.P.ProofTracer.takes p lines p) (g.met.P.ProofTracer.takes_none p) taut in
     record { ready = o.ready; unsat = λ e. absurd (c.in_default.not-Unsat e); lines = o.lines; verdict = o.kept_verdict; assumptions = λ n. o.assumptions; last = λ n. o.last; state = λ n. o.state; count = o.count; units = o.units; undecided = λ n. o.undecided; decidable = o.decidable; decay = o.decay; schedule = o.schedule; single = λ l e. loaded-none (loading g (goal.at.returns-then-branch g c).In_ok-collect_distinct) l e }
 
 pub is_satisfied-requires : goal.is_satisfied-requires
 is_satisfied-requires g c l h =
     loading-inside (loading g (goal.at.is_satisfied-requires g c).In_ok-collect_distinct) l (subst (λ ys. l ∈ ys) c.deref.ensures.value h)
 
+pub trace_satisfied-requires : goal.trace_satisfied-requires
+trace_satisfied-requires g c =
+    can-delete-loaded (g.P.ProofTracer.holds c.args.proof.now) (search_of (view c.args.ctx.now)) c.args.lits.now c.collect_distinct.new.ctx.tmp_data.lits.items c.deref_mut.result.now c.deref_mut.ensures.value c.in_ok-collect_distinct.ensures.same (c.requires.holds c.in_default.not-Unsat)
+
+-- the context once the literals were ordered
+abbrev ordered : (g : Over) (c : In_ok-trace_satisfied g) → Context g.row.A.Denot
+ordered g c = record c.collect_distinct.new.ctx { tmp_data = record { lits = with_items c.collect_distinct.new.ctx.tmp_data.lits c.trace_satisfied.new.lits } }
+
+-- whether there is a line or none
+satisfied : (g : Over) (c : In_ok-trace_satisfied g) → Loading c.args.ctx.now (ordered g c) c.args.lits.now c.collect_distinct.new.ctx.tmp_data.lits.items → Loaded (g.P.ProofTracer.in_order c.args.proof.now) (λ lines. TakesLines g.P.ProofTracer.takes c.args.proof.now lines c.trace_satisfied.new.proof) c.args.ctx.now (ordered g c) c.args.lits.now
+satisfied g c d =
+    let found = c.if-is_satisfied.ensures.0 refl in
+    let lits = c.collect_distinct.new.ctx.tmp_data.lits.items in
+    let i : found.0 ∈ lits = subst (λ ys. found.0 ∈ ys) c.deref.ensures.value found.1 in
+    let value = c.deref_mut.ensures.value in
+    let e = c.in_ok-trace_satisfied.ensures in
+    let in_order = g.P.ProofTracer.in_order c.args.proof.now in
+    let are : List Line → Type 0 = λ lines. TakesLines g.P.ProofTracer.takes c.args.proof.now lines c.trace_satisfied.new.proof in
+    ⊎_elim
+    (λ n. loaded-satisfied d in_order are (e.unit (subst (λ ys. length ys < 2) (sym value) n)) found.0 i found.2 n)
+    (λ n.
+    let f = e.longer (subst (λ ys. 2 ≤ length ys) (sym value) n) in
+    loaded-deleted d in_order are found.0 i found.2 (λ t. let b = c.in_ok-collect_distinct.ensures.tautology.1 t in absurd cc) n c.trace_satisfied.new.lits (subst (λ ys. IsPermutation ys c.trace_satisfied.new.lits) value f.0) f.1 f.2)
+    (cases_lt (length lits) 2)
+
 pub returns-then-is_satisfied : goal.returns-then-is_satisfied
 returns-then-is_satisfied g c =
-    let found = c.if-is_satisfied.ensures.0 refl in
-    let o = loaded-satisfied (loading g (goal.at.returns-then-is_satisfied g c).In_ok-collect_distinct) found.0 (subst (λ ys. found.0 ∈ ys) c.deref.ensures.value found.1) found.2 in
-    record { ready = o.ready; unsat = λ e. absurd (c.in_default.not-Unsat e); lines = o.lines; verdict = o.kept_verdict; assumptions = λ n. o.assumptions; last = λ n. o.last; state = λ n. o.state; count = o.count; units = o.units; undecided = λ n. o.undecided; decidable = o.decidable; decay = o.decay; schedule = o.schedule; single = λ l e. loaded-none (loading g (goal.at.returns-then-is_satisfied g c).In_ok-collect_distinct) l e }
+    let d = loading-other (ordered g c).tmp_data (loading g (goal.at.returns-then-is_satisfied g c).In_ok-collect_distinct) in
+    let o = satisfied g c d in
+    record { ready = o.ready; unsat = λ e. absurd (c.in_default.not-Unsat e); lines = o.lines; verdict = o.kept_verdict; assumptions = λ n. o.assumptions; last = λ n. o.last; state = λ n. o.state; count = o.count; units = o.units; undecided = λ n. o.undecided; decidable = o.decidable; decay = o.decay; schedule = o.schedule; single = λ l e. loaded-none d l e }
 
 pub add_distinct-requires : goal.add_distinct-requires
 add_distinct-requires g c =
@@ -91,5 +124,6 @@ pub returns : goal.returns
 returns g c =
     let e = c.in_ok-add_distinct.ensures in
     let k = c.add_distinct.ensures.kept in
-    let o = loaded-added (loading g (goal.at.returns g c).In_ok-collect_distinct) c.add_distinct.new.ctx k e.propagated e.tracks e.state e.units e.last e.added in
+    let p = c.args.proof.now in
+    let o = loaded-added (loading g (goal.at.returns g c).In_ok-collect_distinct) (g.P.ProofTracer.in_order p) (λ lines. TakesLines g.P.ProofTracer.takes p lines p) (g.met.P.ProofTracer.takes_none p) (λ l i t. let b = c.if-is_satisfied.ensures.1 (l, subst (λ ys. l ∈ ys) (sym c.deref.ensures.value) i, t) in absurd cc) c.add_distinct.new.ctx k e.propagated e.tracks e.state e.units e.last e.added in
     record { ready = o.ready; unsat = λ e. absurd (c.in_default.not-Unsat e); lines = o.lines; verdict = o.kept_verdict; assumptions = λ n. o.assumptions; last = λ n. o.last; state = λ n. o.state; count = o.count; units = o.units; undecided = λ n. o.undecided; decidable = o.decidable; decay = o.decay; schedule = o.schedule; single = λ l i. loaded-one (loading g (goal.at.returns g c).In_ok-collect_distinct) l i c.add_distinct.new.ctx c.collect_distinct.new.ctx.solver_state.sat_state c.add_distinct.new.ctx.solver_state.sat_state e.added }

@@ -1,10 +1,13 @@
-use Rattle.std.proofs.Common.{◌≡◌, length, true, false, refl, sym, ap, ◌∙◌, subst}
+use Rattle.std.proofs.Common.{◌≡◌, [], ◌∷◌, length, true, false, refl, sym, ap, ◌∙◌, subst}
 use Rattle.varisat_theory.specs.Membership.{◌∈◌}
 use Rattle.varisat_search.specs.declared.context.Context.{Context}
 use Rattle.varisat_search.specs.declared.state.SatState.{SatState}
 use Rattle.varisat_search.specs.Contexts.{view}
 use Rattle.varisat_search.specs.Seen.{search_of}
 use Rattle.varisat_search.specs.Steps.{reopened_state}
+use Rattle.varisat_search.specs.Loading.{loaded_outcome}
+use Rattle.varisat_search.proofs.LeastHeld.{anything-with}
+use Rattle.varisat_search.proofs.LoadedTrue.{unit-loads}
 use Rattle.varisat_search.proofs.ResurrectedUnits.{HoldsUnitAgain, unit-lines, unit-verdict, skipped-back, next-quiet, none-quiet, is-literal, literal-is}
 use Rattle.varisat_search.proofs.load.resurrect_unit.Given.{Over}
 use Rattle.varisat_search.proofs.load.resurrect_unit.Goals.{After-queue_head}
@@ -16,15 +19,19 @@ loaded g c =
     let z = c.load_clause.new.ctx in
     let e = c.in-Ok.ensures in
     let n = c.in_default.not-Unsat in
-    let v = unit-verdict (search_of (view x)) (search_of (view z)) c.args.lit (reopened_state x.solver_state.sat_state) z.solver_state.sat_state c.requires.unopposed (e.lines n) e.verdict in
+    let p = unit-loads _ _ (search_of (view x)) (search_of (view z)) c.args.lit (loaded_outcome z.solver_state.sat_state) (e.lines n) in
+    let v = unit-verdict (search_of (view x)) (search_of (view z)) c.args.lit (reopened_state x.solver_state.sat_state) z.solver_state.sat_state c.requires.unopposed p e.verdict in
     record {
-      lines = unit-lines (search_of (view x)) (search_of (view z)) c.args.lit (reopened_state x.solver_state.sat_state) z.solver_state.sat_state c.requires.unopposed (e.lines n) e.verdict;
+      lines = unit-lines (search_of (view x)) (search_of (view z)) c.args.lit (reopened_state x.solver_state.sat_state) z.solver_state.sat_state c.requires.unopposed p e.verdict;
       state = e.state n ∙ ap (λ (b : SatState). record x.solver_state { sat_state = b; formula_is_empty = false }) v;
       assumptions = e.assumptions n;
       decidable = e.decidable;
       count = e.count;
       schedule = c.load_clause.ensures.schedule;
     }
+
+pub load_clause-requires-clause-holds : goal.load_clause-requires-clause-holds
+load_clause-requires-clause-holds g c n = anything-with (λ held. Unit {0}) (λ held. tt) (view c.args.ctx.now) (c.args.lit ∷ [])
 
 pub skip_unmentioned-requires : goal.skip_unmentioned-requires
 skip_unmentioned-requires g c =

@@ -7,13 +7,32 @@ use Rattle.varisat_prop.specs.Simplified.{without_assigned}
 use Rattle.varisat_search.specs.declared.context.Context.{Context}
 use Rattle.varisat_search.specs.declared.unit_simplify.UnitFilter.{UnitFilter}
 use Rattle.varisat_search.specs.Contexts.{view}
-use Rattle.varisat_search.specs.Simplifications.{left_long, left_pairs, with_pairs, LeavesOpen}
+use Rattle.varisat_search.specs.Simplifications.{pair_lines, clause_lines, left_long, left_pairs, with_pairs, LeavesOpen}
 use Rattle.varisat_search.proofs.FilteredUnits.{filtered-left}
-use Rattle.varisat_search.proofs.SimplifiedSearch.{IsAtUnits}
+use Rattle.varisat_theory.proofs.Members.{∈-append_left}
+use Rattle.varisat_clause.specs.Stored.{literals_of}
+use Rattle.varisat_prop.specs.View.{pairs_from}
+use Rattle.varisat_trace.proofs.Traced.{can_take}
+use Rattle.varisat_search.specs.Seen.{search_of}
+use Rattle.varisat_search.proofs.SimplifiedSearch.{IsAtUnits, simplify-proves}
 use Rattle.varisat_search.proofs.SimplifiedContext.{Simplifies, at-units, live-open, joining, is-simplified, simplified-proves, simplified-decidable, simplified-ready}
 use Rattle.varisat_search.proofs.unit_simplify.unit_simplify.Given.{Over}
 use Rattle.varisat_search.proofs.unit_simplify.unit_simplify.Goals.{After-simplify, In_ok-filter_clauses, After-disable}
 use Rattle.varisat_search.proofs.unit_simplify.unit_simplify.Goals as goal
+
+pub trace_simplification-requires : goal.trace_simplification-requires
+trace_simplification-requires g c =
+    let x = c.args.ctx.now in
+    let s = view x in
+    let u = at-units x c.requires.ready c.requires.undecided c.requires.complete c.requires.proved in
+    let n = c.requires.ready.propagated.binary in
+    let m = c.requires.ready.well.small in
+    record {
+      sound = c.requires.ready.tracks.sound;
+      small = omega (arith, n, m);
+      in_range = λ d h. c.requires.ready.well.in_range d (∈-append_left d (literals_of s.clauses) (pairs_from 0 s.binary) h);
+      able = can_take (g.P.ProofTracer.holds c.args.proof.now) 0 (search_of s) _ (pair_lines s ++ clause_lines s) c.requires.holds (simplify-proves s u);
+    }
 
 pub simplify-requires : goal.simplify-requires
 simplify-requires g c =

@@ -1,4 +1,4 @@
-use Rattle.varisat_search.proofs.unit_simplify.copy_unassigned.Goals as goal
+use Rattle.varisat_search.proofs.trace.copy_unassigned.Goals as goal
 use Rattle.varisat_prop.proofs.ReadElements.{item-∈}
 
 pub lit_is_unk-requires : goal.lit_is_unk-requires

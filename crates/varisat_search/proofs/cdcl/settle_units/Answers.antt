@@ -1,0 +1,15 @@
+use Rattle.std.proofs.Common.{length, ap, arith}
+use Rattle.varisat_search.specs.Contexts.{view}
+use Rattle.varisat_search.specs.SettledUnits.{IsUnsettled}
+use Rattle.varisat_search.proofs.SettledUnits.{goes-refl}
+use Rattle.varisat_search.proofs.cdcl.settle_units.Goals as goal
+use Rattle.varisat_search.proofs.cdcl.settle_units.Goals.{then-current_level-gt0-via-then-current_level-gt0, then-current_level-gt0-via-else-current_level-gt0+then-fully_propagated}
+
+pub returns-then-current_level-gt0-clause-goes_on : goal.returns-then-current_level-gt0-clause-goes_on
+returns-then-current_level-gt0-clause-goes_on g c =
+    let settled : IsUnsettled (view c.args.ctx.now) → ⊥ = λ u.
+    elim c.then-current_level-gt0.branch [
+      | then-current_level-gt0-via-then-current_level-gt0 w ↦ (let n = ap length u.0 in omega (arith, n, c.current_level.ensures, w.if-current_level-gt0.true))
+      | then-current_level-gt0-via-else-current_level-gt0+then-fully_propagated w ↦ (let n = w.fully_propagated.ensures.0 w.if-fully_propagated.true in omega (arith, n, u.1))
+    ] in
+    goes-refl c.args.ctx.now _ c.requires.ready ((λ u. absurd (settled u)), g.met.P.ProofTracer.takes_none c.args.proof.now)

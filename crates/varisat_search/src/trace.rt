@@ -1,0 +1,213 @@
+//! The lines of a search that are handed on before it changes.
+ghost use Rattle.std.specs.Prelude.{◌≡◌, ℕ, ◌<◌, ◌≤◌, ◌++◌, List, Option, Bool, length, false, OnOk};
+ghost use Rattle.varisat_theory.specs.Membership.{◌∈◌};
+ghost use Rattle.varisat_theory.specs.Literals.{Literal, Clause, variable_of, opposite};
+ghost use Rattle.varisat_theory.specs.StepLaws.{unit_lines};
+ghost use Rattle.varisat_clause.specs.Stored.{IsPlace, literals_of};
+ghost use Rattle.varisat_clause.specs.Reductions.{unmarked_places};
+ghost use Rattle.varisat_clause.specs.Stores.{stored_clauses, IsSound};
+ghost use Rattle.varisat_clause.specs.Collected.{live_clauses};
+ghost use Rattle.varisat_prop.specs.Looks.{IsInRange};
+ghost use Rattle.varisat_prop.specs.Simplified.{is_unassigned};
+ghost use Rattle.varisat_prop.specs.View.{pairs_with, pairs_from};
+ghost use Rattle.varisat_search.specs.ProvedUnits.{units_in};
+ghost use Rattle.varisat_search.specs.Simplifications.{unassigned, is_gone_pair, deletion_lines, lines_of_pairs, lines_of_clause, lines_of_clauses};
+ghost use Rattle.varisat_trace.specs.Traces.{TakesLines, CanTake};
+
+use std::alloc::{AllocError, Allocator};
+use varisat_analysis::clause_literals::is_satisfied;
+use varisat_clause::alloc::{ClauseAlloc, ClauseRef};
+use varisat_literals::Lit;
+use varisat_prop::binary::BinaryClauses;
+use varisat_prop::prop::{Assignment, ImplGraph};
+use varisat_trace::{ProofStep, ProofTracer, TraceError};
+
+/// Hands on each of the literals of which a clause is the reason, as a clause of its own.
+pub fn trace_units<A: Allocator + Copy, P: ProofTracer>(
+    proof: &mut P,
+    impl_graph: &ImplGraph<A>,
+    lits: &[Lit],
+) -> Result<(), TraceError>
+    requires inside { (l : Literal) → l ∈ lits.now → variable_of l < length impl_graph.now.nodes.items }
+    requires able { CanTake (P.holds proof.old) (unit_lines (units_in impl_graph.now.nodes.items lits.now)) }
+    ensures { OnOk result (TakesLines P.takes proof.old (unit_lines (units_in impl_graph.now.nodes.items lits.now)) proof.new) }
+{
+    for lit in lits {
+        if impl_graph.reason(lit.var()).is_unit() {
+            continue;
+        }
+        proof.add_step(&ProofStep::UnitClauses { units: &[*lit] })?;
+    }
+    Ok(())
+}
+
+/// Whether the literal's variable has no value.
+fn has_no_value(values: &[Option<bool>], lit: Lit) -> bool
+    ensures { result ≡ is_unassigned values.now lit }
+{
+    !matches!(values.get(lit.index()), Some(Some(_)))
+}
+
+/// Whether the first literal comes before the other, and one of the two has a value.
+fn is_gone_pair(values: &[Option<bool>], first: Lit, other: Lit) -> bool
+    ensures { result ≡ is_gone_pair values.now first other }
+{
+    if first.code() >= other.code() {
+        return false;
+    }
+    !(has_no_value(values, first) && has_no_value(values, other))
+}
+
+/// Hands on the deletions of clauses that the literal and one of the list make, where the literal comes first and one
+/// of the two has a value.
+fn trace_pairs_with<P: ProofTracer>(
+    proof: &mut P,
+    values: &[Option<bool>],
+    first: Lit,
+    others: &[Lit],
+) -> Result<(), TraceError>
+    requires { CanTake (P.holds proof.old) (lines_of_pairs values.now (pairs_with first others.now)) }
+    ensures { OnOk result (TakesLines P.takes proof.old (lines_of_pairs values.now (pairs_with first others.now)) proof.new) }
+{
+    for other in others {
+        if !is_gone_pair(values, first, *other) {
+            continue;
+        }
+        proof.add_step(&ProofStep::DeleteClause {
+            clause: &[first, *other],
+        })?;
+    }
+    Ok(())
+}
+
+/// Hands on the deletions of the clauses of two literals of which one has a value.
+fn trace_pairs<A: Allocator + Copy, P: ProofTracer>(
+    proof: &mut P,
+    values: &[Option<bool>],
+    binary_clauses: &BinaryClauses<A>,
+) -> Result<(), TraceError>
+    requires small { length binary_clauses.now ≤ 0x2000_0000 }
+    requires able { CanTake (P.holds proof.old) (lines_of_pairs values.now (pairs_from 0 binary_clauses.now)) }
+    ensures { OnOk result (TakesLines P.takes proof.old (lines_of_pairs values.now (pairs_from 0 binary_clauses.now)) proof.new) }
+{
+    'lits: for code in 0..binary_clauses.len() {
+        let lit = Lit::from_code(code);
+        trace_pairs_with(proof, values, !lit, binary_clauses.implied(lit))?;
+    }
+    Ok(())
+}
+
+/// Copies the literals that have no value.
+pub fn copy_unassigned<A: Allocator + Copy>(
+    left: &mut Vec<Lit, A>,
+    assignment: &Assignment<A>,
+    lits: &[Lit],
+) -> Result<(), AllocError>
+    requires { IsInRange assignment.now.current lits.now }
+    ensures { OnOk result (left.new.items ≡ unassigned assignment.now.current lits.now) }
+{
+    left.clear();
+    for lit in lits {
+        if assignment.lit_is_unk(*lit) {
+            left.push(*lit)?;
+        }
+    }
+    Ok(())
+}
+
+/// Hands on what becomes of a clause: a satisfied one is deleted, and one with false literals is so once what is left
+/// of it was added.
+fn trace_clause<A: Allocator + Copy, P: ProofTracer>(
+    proof: &mut P,
+    assignment: &Assignment<A>,
+    left: &mut Vec<Lit, A>,
+    lits: &[Lit],
+) -> Result<(), TraceError>
+    requires in_range { IsInRange assignment.now.current lits.now }
+    requires able { CanTake (P.holds proof.old) (lines_of_clause assignment.now.current lits.now) }
+    ensures { OnOk result (TakesLines P.takes proof.old (lines_of_clause assignment.now.current lits.now) proof.new) }
+{
+    if is_satisfied(assignment, lits) {
+        proof.add_step(&ProofStep::DeleteClause { clause: lits })?;
+        return Ok(());
+    }
+    copy_unassigned(left, assignment, lits)?;
+    if left.len() < lits.len() {
+        proof.add_step(&ProofStep::AtClause { clause: left })?;
+        proof.add_step(&ProofStep::DeleteClause { clause: lits })?;
+    }
+    Ok(())
+}
+
+/// Hands on what becomes of the stored clauses.
+fn trace_clauses<A: Allocator + Copy, P: ProofTracer>(
+    proof: &mut P,
+    assignment: &Assignment<A>,
+    clause_alloc: &ClauseAlloc<A>,
+    left: &mut Vec<Lit, A>,
+) -> Result<(), TraceError>
+    requires sound { IsSound clause_alloc.now }
+    requires in_range { (c : Clause) → c ∈ literals_of (live_clauses clause_alloc.now) → IsInRange assignment.now.current c }
+    requires able { CanTake (P.holds proof.old) (lines_of_clauses assignment.now.current (live_clauses clause_alloc.now)) }
+    ensures { OnOk result (TakesLines P.takes proof.old (lines_of_clauses assignment.now.current (live_clauses clause_alloc.now)) proof.new) }
+{
+    'clauses: for index in 0..clause_alloc.len() {
+        let cref = clause_alloc.place(index);
+        if clause_alloc.header(cref).deleted() {
+            continue;
+        }
+        trace_clause(proof, assignment, left, clause_alloc.lits(cref))?;
+    }
+    Ok(())
+}
+
+/// Hands on what becomes of the clauses as they are simplified. A tracer that takes nothing costs nothing.
+pub fn trace_simplification<A: Allocator + Copy, P: ProofTracer>(
+    proof: &mut P,
+    assignment: &Assignment<A>,
+    binary_clauses: &BinaryClauses<A>,
+    clause_alloc: &ClauseAlloc<A>,
+    alloc: A,
+) -> Result<(), TraceError>
+    requires sound { IsSound clause_alloc.now }
+    requires small { length binary_clauses.now ≤ 0x2000_0000 }
+    requires in_range { (c : Clause) → c ∈ literals_of (live_clauses clause_alloc.now) → IsInRange assignment.now.current c }
+    requires able { CanTake (P.holds proof.old) (lines_of_pairs assignment.now.current (pairs_from 0 binary_clauses.now) ++ lines_of_clauses assignment.now.current (live_clauses clause_alloc.now)) }
+    ensures { OnOk result (TakesLines P.takes proof.old (lines_of_pairs assignment.now.current (pairs_from 0 binary_clauses.now) ++ lines_of_clauses assignment.now.current (live_clauses clause_alloc.now)) proof.new) }
+{
+    if !proof.is_active() {
+        return Ok(());
+    }
+    trace_pairs(proof, assignment.assignment(), binary_clauses)?;
+    let mut left = Vec::new(alloc);
+    trace_clauses(proof, assignment, clause_alloc, &mut left)?;
+    Ok(())
+}
+
+/// Hands on the deletions of the first clauses of the list that are not marked, as many as `count`.
+pub fn trace_deletions<A: Allocator + Copy, P: ProofTracer>(
+    proof: &mut P,
+    clause_alloc: &ClauseAlloc<A>,
+    list: &[ClauseRef],
+    count: usize,
+) -> Result<(), TraceError>
+    requires sound { IsSound clause_alloc.now }
+    requires listed { (p : ℕ) → p ∈ list.now → IsPlace (stored_clauses clause_alloc.now) p }
+    requires able { CanTake (P.holds proof.old) (deletion_lines (stored_clauses clause_alloc.now) (unmarked_places (stored_clauses clause_alloc.now) count list.now)) }
+    ensures { OnOk result (TakesLines P.takes proof.old (deletion_lines (stored_clauses clause_alloc.now) (unmarked_places (stored_clauses clause_alloc.now) count list.now)) proof.new) }
+{
+    let mut left = count;
+    'clauses: for cref in list {
+        if left == 0 {
+            continue;
+        }
+        if clause_alloc.header(*cref).mark() {
+            continue;
+        }
+        proof.add_step(&ProofStep::DeleteClause {
+            clause: clause_alloc.lits(*cref),
+        })?;
+        left -= 1;
+    }
+    Ok(())
+}

@@ -1,0 +1,5 @@
+use Rattle.varisat_theory.proofs.Journals.{leads_append, leads_cut, by_leads, by_leads_append}
+use Rattle.varisat_theory.proofs.laws.journals.journals_join.Goals as goal
+
+pub returns : goal.returns
+returns c = (leads_append, by_leads_append, leads_cut, by_leads)

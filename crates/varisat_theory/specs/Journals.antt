@@ -1,0 +1,93 @@
+-- What a proof can be told of a solver's life, entry by entry, and what is held after it.
+use Rattle.std.specs.Prelude.{◌≡◌, ℕ, suc, ◌*◌, List, [], ◌∷◌, ◌++◌, ◌⊎◌, map}
+use Rattle.varisat_theory.specs.Literals.{Literal, Clause, variable_of}
+use Rattle.varisat_theory.specs.Propagation.{Conflicts, Follows}
+use Rattle.varisat_theory.specs.Derivations.{Line, Add, Delete, TakesOut}
+use Rattle.varisat_theory.specs.Held.{without}
+use Rattle.varisat_theory.specs.Counted.{IsMinor}
+use Rattle.varisat_theory.specs.Renaming.{IsWithin, rename_line}
+
+pub data Entry : Type 0 where
+  -- a clause is accepted, as given
+  Accepts : Clause → Entry
+  -- a line of the proof
+  Writes : Line → Entry
+  -- a list of assumptions is accepted, as given
+  Assumes : List Literal → Entry
+  -- a step ends with this core
+  Fails : List Literal → Entry
+  -- a variable is gone for good, and the clauses that mention it go with it
+  Leaves : ℕ → Entry
+
+-- Where P is held before the entry, Q is held after it, and the entry is right.
+abbrev pub Follow : List Clause → Entry → List Clause → Type 0
+Follow P (Accepts c) Q = Q ≡ P ++ c ∷ []
+Follow P (Writes (Add c)) Q = Follows P c × (Q ≡ P ++ c ∷ [])
+Follow P (Writes (Delete c)) Q = TakesOut P c Q
+Follow P (Assumes a) Q = Q ≡ P
+Follow P (Fails core) Q = Conflicts P core × (Q ≡ P)
+Follow P (Leaves v) Q = Q ≡ without v P
+
+-- The entries lead from what is held to what is held after them, each in turn.
+abbrev pub Leads : List Clause → List Entry → List Clause → Type 0
+Leads P [] Q = P ≡ Q
+Leads P (e ∷ es) Q = (R : List Clause) × Follow P e R × Leads R es Q
+
+-- The entry adds no clause of its own weight: one that it adds is a single literal, or part of a clause of P.
+abbrev pub IsMinorEntry : List Clause → Entry → Type 0
+IsMinorEntry P (Writes (Add c)) = IsMinor P c
+IsMinorEntry P _ = Unit {0}
+
+-- As `Leads`, where at most n of the clauses that lines add are neither a single literal nor part of one that is held just before.
+abbrev pub LeadsBy : ℕ → List Clause → List Entry → List Clause → Type 0
+LeadsBy n P [] Q = P ≡ Q
+LeadsBy n P (e ∷ es) Q =
+    (R : List Clause) × Follow P e R × ((IsMinorEntry P e × LeadsBy n R es Q) ⊎ ((m : ℕ) × (n ≡ suc m) × LeadsBy m R es Q))
+
+-- the accepted clauses, in order
+abbrev pub accepted_of : List Entry → List Clause
+accepted_of [] = []
+accepted_of (Accepts c ∷ es) = c ∷ accepted_of es
+accepted_of (_ ∷ es) = accepted_of es
+
+-- the lines, in order
+abbrev pub lines_of : List Entry → List Line
+lines_of [] = []
+lines_of (Writes l ∷ es) = l ∷ lines_of es
+lines_of (_ ∷ es) = lines_of es
+
+-- no variable leaves
+abbrev pub NoneLeaves : List Entry → Type 0
+NoneLeaves [] = Unit {0}
+NoneLeaves (Leaves v ∷ es) = ⊥
+NoneLeaves (_ ∷ es) = NoneLeaves es
+
+-- the entry under new names
+abbrev pub rename_entry : (Literal → Literal) → Entry → Entry
+rename_entry f (Accepts c) = Accepts (map f c)
+rename_entry f (Writes l) = Writes (rename_line f l)
+rename_entry f (Assumes a) = Assumes (map f a)
+rename_entry f (Fails core) = Fails (map f core)
+rename_entry f (Leaves v) = Leaves (variable_of (f (2 * v)))
+
+-- the lines as entries
+abbrev pub written : List Line → List Entry
+written ls = map Writes ls
+
+-- From whatever the entries that were told lead to from nothing, the further ones lead on, and n of the clauses that they add or fewer count.
+abbrev pub GoesOn : ℕ → List Entry → List Entry → Type 0
+GoesOn n told es = (held : List Clause) → Leads [] told held → (after : List Clause) × LeadsBy n held es after
+
+-- each literal of which the entry speaks stands in the list, and so does its opposite
+abbrev pub IsEntryWithin : List Literal → Entry → Type 0
+IsEntryWithin ls (Accepts c) = IsWithin ls c
+IsEntryWithin ls (Writes (Add c)) = IsWithin ls c
+IsEntryWithin ls (Writes (Delete c)) = IsWithin ls c
+IsEntryWithin ls (Assumes a) = Unit {0}
+IsEntryWithin ls (Fails core) = IsWithin ls core
+IsEntryWithin ls (Leaves v) = IsWithin ls (2 * v ∷ [])
+
+-- so it is for each entry
+abbrev pub AreWithin : List Literal → List Entry → Type 0
+AreWithin ls [] = Unit {0}
+AreWithin ls (e ∷ es) = IsEntryWithin ls e × AreWithin ls es

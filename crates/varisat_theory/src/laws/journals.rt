@@ -1,0 +1,28 @@
+//! What a proof is told, entry by entry.
+
+ghost use Rattle.varisat_theory.specs.JournalLaws.{JournalDerives, JournalIsDetermined, JournalIsRenamed, JournalIsSound, JournalsJoin};
+
+/// Journals join and are cut, and what counts adds up.
+pub fn journals_join()
+    ensures { JournalsJoin }
+{}
+
+/// What is held is determined, but for order and spelling.
+pub fn journal_is_determined()
+    ensures { JournalIsDetermined }
+{}
+
+/// Where no variable leaves, the lines are a derivation from all clauses that are accepted.
+pub fn journal_derives()
+    ensures { JournalDerives }
+{}
+
+/// What satisfies the accepted clauses satisfies what is held.
+pub fn journal_is_sound()
+    ensures { JournalIsSound }
+{}
+
+/// A journal stays one under one-to-one names, and was one before.
+pub fn journal_is_renamed()
+    ensures { JournalIsRenamed }
+{}

@@ -1,0 +1,110 @@
+//! A tracer that keeps the lines.
+ghost use Rattle.std.specs.Prelude.{◌≡◌, ◌++◌, [], OnOk};
+ghost use Rattle.varisat_theory.specs.StepLaws.{unit_lines};
+ghost use Rattle.varisat_theory.specs.Derivations.{Add, Delete};
+ghost use Rattle.varisat_theory.specs.Journals.{lines_of};
+ghost use Rattle.std.specs.Prelude.{◌∷◌};
+
+use crate::step::ProofStep;
+use crate::tracer::{ProofTracer, TraceError};
+use std::alloc::{AllocError, Allocator};
+use std::marker::Model;
+use varisat_literals::Lit;
+
+/// The lines that were taken, in order. A contract sees them as a list.
+#[derive(Drop)]
+pub struct LineRecorder<A: Allocator + Copy> {
+    alloc: A,
+    /// Each line's clause, and whether the line deletes it.
+    lines: Vec<(bool, Vec<Lit, A>), A>,
+}
+
+impl<A: Allocator + Copy> Model for LineRecorder<A> {
+    ghost use Rattle.std.specs.Prelude.{List, map, if◌then◌else◌};
+    ghost use Rattle.varisat_theory.specs.Derivations.{Line, Add, Delete};
+
+    ghost Value = { List Line };
+
+    ghost view = { λ r. map (λ l. if l.0 then Delete l.1.items else Add l.1.items) r.lines.items };
+}
+
+impl<A: Allocator + Copy> LineRecorder<A> {
+    /// No lines. It takes no memory.
+    pub fn new_in(alloc: A) -> LineRecorder<A>
+        ensures { result ≡ [] }
+    {
+        LineRecorder {
+            alloc,
+            lines: Vec::new(alloc),
+        }
+    }
+
+    fn push_deletion(&mut self, clause: &[Lit]) -> Result<(), AllocError>
+        ensures { OnOk result (self.new ≡ self.old ++ Delete clause.now ∷ []) }
+    {
+        let mut copy = Vec::new(self.alloc);
+        copy.extend_from_slice(clause)?;
+        self.lines.push((true, copy))?;
+        Ok(())
+    }
+
+    fn push_addition(&mut self, clause: &[Lit]) -> Result<(), AllocError>
+        ensures { OnOk result (self.new ≡ self.old ++ Add clause.now ∷ []) }
+    {
+        let mut copy = Vec::new(self.alloc);
+        copy.extend_from_slice(clause)?;
+        self.lines.push((false, copy))?;
+        Ok(())
+    }
+
+    fn push_units(&mut self, units: &[Lit]) -> Result<(), AllocError>
+        ensures { OnOk result (self.new ≡ self.old ++ unit_lines units.now) }
+    {
+        for unit in units {
+            self.push_addition(&[*unit])?;
+        }
+        Ok(())
+    }
+}
+
+impl<A: Allocator + Copy> ProofTracer for LineRecorder<A> {
+    ghost use Rattle.std.specs.Prelude.{true, ◌≡◌, ◌++◌};
+    ghost use Rattle.std.specs.List.Sorted.{IsNonDecreasing};
+    ghost use Rattle.varisat_theory.specs.Journals.{lines_of};
+    ghost use Rattle.varisat_trace.specs.Recorded.{none_recorded, more_recorded, idle_recorded};
+
+    ghost active = { λ _. true };
+
+    ghost holds = { λ _ _. Unit {0} };
+
+    ghost takes = { λ x entries y. y ≡ x ++ lines_of entries };
+
+    ghost in_order = { λ _ clause. IsNonDecreasing clause };
+
+    fn is_active(&self) -> bool {
+        true
+    }
+
+    /// By code.
+    fn sort(&self, clause: &mut [Lit]) {
+        clause.sort_unstable_by_key(|lit| lit.code());
+    }
+
+    fn add_step(&mut self, step: &ProofStep<'_>) -> Result<(), TraceError> {
+        match step {
+            ProofStep::AtClause { clause } => self.push_addition(clause)?,
+            ProofStep::UnitClauses { units } => self.push_units(units)?,
+            ProofStep::DeleteClause { clause } => self.push_deletion(clause)?,
+            ProofStep::DeleteVar { .. } | ProofStep::FailedAssumptions { .. } => {}
+        }
+        Ok(())
+    }
+
+    ghost takes_none = { none_recorded };
+
+    ghost takes_more = { more_recorded };
+
+    ghost takes_idle = { idle_recorded };
+
+    ghost holds_after = { λ _ _ _ _ _ _ _ _. tt };
+}

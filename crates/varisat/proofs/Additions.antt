@@ -1,10 +1,9 @@
 -- Clauses that are added in turn.
-use Rattle.std.proofs.Common.{◌≡◌, inl, inr, List, [], ◌∷◌, ◌++◌, Result, Ok, Err, true, false, refl, sym, ap, subst, ◌∙◌}
+use Rattle.std.proofs.Common.{◌≡◌, inl, inr, List, [], ◌∷◌, ◌++◌, Result, Ok, Err, refl, sym, ap, subst, ◌∙◌}
 use Rattle.std.specs.Result.{IsErr, IsErrAnd}
 use Rattle.varisat_theory.specs.Literals.{Clause}
 use Rattle.varisat.specs.States.{State}
-use Rattle.varisat.specs.Additions.{InTurn, RefusedAtOnce}
-use Rattle.varisat.specs.Calls.{IsValid, Ignored, Accepted, AddsClause, AddsAll, AddsFormula}
+use Rattle.varisat.specs.Calls.{IsValid, Ignored, Accepted, AddsClause, AddsAll}
 use Rattle.varisat.specs.declared.solver.SolverError.{SolverError}
 
 -- more clauses behind those that were accepted
@@ -41,8 +40,3 @@ pub adds-valid : (s t : State) (P : List Clause) → IsValid s → AddsAll s P (
 adds-valid s t [] v a = subst IsValid (sym a.1) v
 adds-valid s t (c ∷ P) v (inl (u, a, rest)) = adds-valid u t P (clause-valid s u c a) rest
 adds-valid s t (c ∷ P) v (inr (e, k, a)) = absurd cc
-
--- in a valid state a formula's clauses are added in turn
-pub only-adds : (s t : State) (P : List Clause) (r : Result (Unit {0}) SolverError) → IsValid s → AddsFormula s P r t → AddsAll s P r t
-only-adds s t P r v (InTurn w a) = a
-only-adds s t P r v (RefusedAtOnce e (n, k)) = absurd (let q : true ≡ false = sym v ∙ n in cc)

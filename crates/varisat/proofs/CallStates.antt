@@ -1,5 +1,5 @@
 -- States after a call that changed nothing more, and after one that ran out of memory.
-use Rattle.std.proofs.Common.{◌≡◌, ◌≢◌, ◌∙◌, ℕ, Bool, true, false, Err, refl, ap}
+use Rattle.std.proofs.Common.{◌≡◌, ◌≢◌, ◌∙◌, ◌+◌, ◌-◌, ◌≤◌, arith, ℕ, Bool, true, false, Err, refl, ap}
 use Rattle.varisat_theory.specs.Literals.{Clause}
 use Rattle.varisat_clause.specs.declared.alloc.StoreError.{StoreError}
 use Rattle.varisat_clause.specs.declared.alloc.StoreError.TheVariants as store
@@ -14,12 +14,27 @@ pub like-refl : (s : State) → IsLike s s
 like-refl s = record { naming = refl; ever_hidden = refl; clauses = refl; assumptions = refl; counted = refl; verdict = refl; ledger = refl }
 
 -- a ledger by what it tells
-abbrev pub ledger_of : Bool → Bool → ℕ → Settings → Ledger
-ledger_of v b n c = record { valid = v; started = b; steps = n; settings = c }
+abbrev pub ledger_of : Bool → Bool → ℕ → ℕ → Settings → Ledger
+ledger_of v b n k c = record { valid = v; started = b; steps = n; since = k; settings = c }
 
-pub ledger-is : (l : Ledger) (v b : Bool) (n : ℕ) (c : Settings) → l.valid ≡ v → l.started ≡ b → l.steps ≡ n → l.settings ≡ c → l ≡ ledger_of v b n c
-ledger-is l v b n c d e f g =
-    ap (λ x. ledger_of x l.started l.steps l.settings) d ∙ ap (λ x. ledger_of v x l.steps l.settings) e ∙ ap (λ x. ledger_of v b x l.settings) f ∙ ap (λ x. ledger_of v b n x) g
+pub ledger-is : (l : Ledger) (v b : Bool) (n k : ℕ) (c : Settings) → l.valid ≡ v → l.started ≡ b → l.steps ≡ n → l.since ≡ k → l.settings ≡ c → l ≡ ledger_of v b n k c
+ledger-is l v b n k c d e f h g =
+    ap (λ x. ledger_of x l.started l.steps l.since l.settings) d ∙ ap (λ x. ledger_of v x l.steps l.since l.settings) e ∙ ap (λ x. ledger_of v b x l.since l.settings) f ∙ ap (λ x. ledger_of v b n x l.settings) h ∙ ap (λ x. ledger_of v b n k x) g
+
+-- where steps are counted anew, none was made since
+pub none-since : (changed_at steps : ℕ) → changed_at ≡ steps → 0 ≡ steps - changed_at
+none-since changed_at steps e = omega (arith, e)
+
+-- the steps since a change that came before them
+pub more-since : (changed_at before after since : ℕ) → changed_at ≤ before → before ≤ after → since ≡ before - changed_at → since + (after - before) ≡ after - changed_at
+more-since changed_at before after since l h e = omega (arith, l, h, e)
+
+pub none-more : (since steps : ℕ) → since ≡ since + (steps - steps)
+none-more since steps = omega arith
+
+-- no more since it
+pub same-since : (changed_at before after since : ℕ) → after ≡ before → since ≡ before - changed_at → since + (after - before) ≡ after - changed_at
+same-since changed_at before after since e h = omega (arith, e, h)
 
 -- a solver and a state for which it stands are valid alike
 pub stands-valid : (g : Summary) (s : State) → StandsFor g s → g.ledger.valid ≡ true → IsValid s

@@ -4,41 +4,36 @@ use Rattle.std.specs.Result.{IsErr}
 use Rattle.varisat_clause.specs.declared.alloc.StoreError.{StoreError}
 use Rattle.varisat_clause.specs.declared.alloc.StoreError.TheVariants as store
 use Rattle.std.proofs.lemmas.Bool.{cases_lt}
-use Rattle.std.proofs.lemmas.Nat.{pow_pos}
-use Rattle.std.proofs.lemmas.List.{length-map}
 use Rattle.varisat_theory.specs.Derivations.{Line}
 use Rattle.varisat_theory.specs.Searches.{Search}
 use Rattle.varisat_theory.specs.Outcomes.{Outcome, Unknown, Steps, MakesSteps}
 use Rattle.varisat_theory.proofs.StepsMade.{none_made, one_more_made}
 use Rattle.varisat_names.specs.Settings.{Settings}
 use Rattle.varisat_search.specs.declared.context.Context.{Context}
+use Rattle.varisat_search.specs.declared.state.SatState.TheVariants as verdict
 use Rattle.varisat_search.specs.AssumptionParts.{KeepsAssumptions}
 use Rattle.varisat_search.specs.Contexts.{view, IsReady}
+use Rattle.varisat_search.specs.Decisions.{SameDecidable}
 use Rattle.varisat_search.specs.Seen.{search_of}
 use Rattle.varisat_search.proofs.AssumptionSteps.{keeps-after-steps}
-use Rattle.varisat_prop.specs.View.{View, WellFormed, node_of, is_implied, kinds}
-use Rattle.varisat_prop.proofs.TrailValues.{trail-short}
-use Rattle.varisat_schedule.specs.Plans.{Plan, IsPlan, next_plan, PlannedCall}
-use Rattle.varisat_schedule.specs.CallSteps.{steps_since, IsPlannedStep, HasComeTo}
-use Rattle.varisat_schedule.proofs.CallSteps.{begins, is-short, goes-on}
+use Rattle.varisat_prop.specs.View.{kinds}
+use Rattle.varisat_schedule.specs.Plans.{Plan, IsPlan, next_plan}
+use Rattle.varisat_schedule.specs.CallSteps.{steps_since, IsPlannedStep}
 use Rattle.varisat.specs.Budgets.{told_verdict, CountsSteps}
+use Rattle.varisat.specs.SinceChange.{call_from, HasComeSince, GoesOnSince, CountsSince}
 use Rattle.varisat.specs.declared.solver.SolverError.{SolverError}
 use Rattle.varisat.specs.declared.solver.SolverError.TheVariants.{Interrupted}
 use Rattle.varisat.specs.Refusals.{store_refusal}
+use Rattle.varisat.proofs.SinceSteps.{come-now, come-step, few-since}
 
--- The call came to the plan within its budget, and the trail now has the flags.
-pub record HasMade (c : PlannedCall) (max_steps : ℕ) (q : Plan) (trail : List Bool) : Type 0 where
-  pub come : HasComeTo c q trail
-  pub budget : steps_since c.begins q ≤ max_steps
+-- The search came on within its budget, since whatever moment it came to the first context.
+pub record HasMade {A : Type 0} (x y : Context A) (max_steps : ℕ) : Type 0 where
+  pub plan : IsPlan x.schedule
+  pub since : GoesOnSince x y
+  pub budget : steps_since x.schedule y.schedule ≤ max_steps
 
-pub flags-short : (s : View) (n : ℕ) → WellFormed s → length s.values ≡ n → length (kinds s) ≤ n
-flags-short s n w e =
-    let b = length-map s.trail (λ l. is_implied (node_of s l)) in
-    let t = trail-short s w in
-    omega (arith, b, t, e)
-
-pub none-made : (c : PlannedCall) (max_steps : ℕ) (trail : List Bool) → IsPlan c.begins → HasMade c max_steps c.begins trail
-none-made c max_steps trail i = record { come = begins c trail i; budget = omega arith }
+pub none-made : {A : Type 0} (x : Context A) (max_steps : ℕ) → IsPlan x.schedule → HasMade x x max_steps
+none-made x max_steps i = record { plan = i; since = λ c k. k; budget = omega arith }
 
 -- a search that can't keep a clause isn't interrupted
 no-interrupt : (e : StoreError) (r : Result Bool SolverError) → r ≡ Err (store_refusal e) → r ≡ Err Interrupted → ⊥
@@ -46,19 +41,19 @@ no-interrupt store.Full r p f = let z = sym p ∙ f in cc
 no-interrupt store.Memory r p f = let z = sym p ∙ f in cc
 
 -- memory ran out before any step
-pub none-counted : (n max_steps before after : ℕ) → after ≡ before → CountsSteps n max_steps before after (Err (store_refusal store.Memory))
-none-counted n max_steps before after e = record {
+pub none-counted : (n max_steps since before after : ℕ) → since < 2 ^ (2 * n + 3) → after ≡ before → CountsSteps n max_steps since before after (Err (store_refusal store.Memory))
+none-counted n max_steps since before after h e = record {
   made = 0;
   count = omega (arith, e);
   budget = omega arith;
-  bounded = pow_pos (2 * n + 3);
+  bounded = omega (arith, h);
   found = λ a f. absurd cc;
   spent = λ f. absurd (no-interrupt store.Memory (Err (store_refusal store.Memory)) refl f);
 }
 
 -- a core that was found could not be kept
-pub counts-unnamed : (n max_steps before after : ℕ) (b : Bool) (e : StoreError) → CountsSteps n max_steps before after (Ok b) → CountsSteps n max_steps before after (Err (store_refusal e))
-counts-unnamed n max_steps before after b e k = record {
+pub counts-unnamed : (n max_steps since before after : ℕ) (b : Bool) (e : StoreError) → CountsSteps n max_steps since before after (Ok b) → CountsSteps n max_steps since before after (Err (store_refusal e))
+counts-unnamed n max_steps since before after b e k = record {
   made = k.made;
   count = k.count;
   budget = k.budget;
@@ -67,77 +62,82 @@ counts-unnamed n max_steps before after b e k = record {
   spent = λ f. absurd (no-interrupt e (Err (store_refusal e)) refl f);
 }
 
-module _ (c : PlannedCall) (max_steps : ℕ) (q : Plan) (trail : List Bool) (h : 0 < c.scale) (short : length trail ≤ c.variables) (m : HasMade c max_steps q trail) where
-  so-far : q.steps ≡ c.begins.steps + steps_since c.begins q
-  so-far = let k = m.come.counted in omega (arith, k)
+-- What is known as the search came from the first context to the second.
+pub record Searching {A : Type 0} (x y : Context A) (max_steps : ℕ) : Type 0 where
+  pub scaled : 0 < x.solver_config.luby_restart_interval_scale
+  pub begins : IsReady x
+  pub unknown : x.solver_state.sat_state ≡ verdict.Unknown
+  pub count : length y.assignment.current ≡ length x.assignment.current
+  pub config : y.solver_config ≡ x.solver_config
+  pub made : HasMade x y max_steps
 
-  -- the steps are spent
-  pub counts-spent : (steps_since c.begins q ≡ max_steps) ⊎ (q.steps ≡ 2 ^ 64 - 1) → (n : ℕ) → c.variables ≤ n → CountsSteps n max_steps c.begins.steps q.steps (Err Interrupted)
-  counts-spent s n v = record {
-    made = steps_since c.begins q;
-    count = so-far;
-    budget = m.budget;
-    bounded = let b = is-short c q trail n h short v m.come in omega (arith, b);
-    found = λ b e. absurd cc;
-    spent = λ _. s;
-  }
+pub searching-at : {A : Type 0} (x y : Context A) (max_steps : ℕ) → 0 < x.solver_config.luby_restart_interval_scale → IsReady x → x.solver_state.sat_state ≡ verdict.Unknown → length y.assignment.current ≡ length x.assignment.current → y.solver_config ≡ x.solver_config → HasMade x y max_steps → Searching x y max_steps
+searching-at x y max_steps h r u n f m = record { scaled = h; begins = r; unknown = u; count = n; config = f; made = m }
 
-  -- a clause could not be kept in the step behind them
-  pub counts-refused : (error : StoreError) (steps : ℕ) → steps ≡ q.steps → (n : ℕ) → c.variables ≤ n → CountsSteps n max_steps c.begins.steps steps (Err (store_refusal error))
-  counts-refused error steps e n v = record {
-    made = steps_since c.begins q;
-    count = e ∙ so-far;
-    budget = m.budget;
-    bounded = let b = is-short c q trail n h short v m.come in omega (arith, b);
-    found = λ b f. absurd cc;
-    spent = λ f. absurd (no-interrupt error (Err (store_refusal error)) refl f);
-  }
+module _ {A : Type 0} {x y : Context A} {max_steps : ℕ} (d : Searching x y max_steps) where
+  scaled-here : 0 < y.solver_config.luby_restart_interval_scale
+  scaled-here = let h = d.scaled in let e = ap (λ (s : Settings). s.luby_restart_interval_scale) d.config in omega (arith, h, e)
 
-  -- one more step is made
-  module _ (left : steps_since c.begins q ≢ max_steps) (r : Plan) (e : r ≡ next_plan c.scale q) where
-    one-more : steps_since c.begins r ≡ suc (steps_since c.begins q)
-    one-more = let k = m.come.counted in let d = ap (λ (x : Plan). x.steps) e in omega (arith, k, d)
+  from-first : HasComeSince (call_from x) y
+  from-first = d.made.since (call_from x) (come-now x d.begins d.made.plan)
 
-    within : suc (steps_since c.begins q) ≤ max_steps
-    within =
-        let k = m.budget in
-        ⊎_elim (λ (x : steps_since c.begins q < max_steps). omega (arith, x)) (λ (x : max_steps ≤ steps_since c.begins q). absurd (left (omega (arith, k, x)))) (cases_lt (steps_since c.begins q) max_steps)
+  pub not-less : x.schedule.steps ≤ y.schedule.steps
+  not-less = from-first.come.come.counted
 
-    -- it finds a verdict
-    pub counts-found : (b : Bool) (n : ℕ) → c.variables ≤ n → CountsSteps n max_steps c.begins.steps r.steps (Ok b)
-    counts-found b n v = record {
-      made = suc (steps_since c.begins q);
-      count = let k = so-far in let d = ap (λ (x : Plan). x.steps) e in omega (arith, k, d);
-      budget = within;
-      bounded = is-short c q trail n h short v m.come;
-      found = λ a f. omega arith;
-      spent = λ f. absurd cc;
+  pub so-far : y.schedule.steps ≡ x.schedule.steps + steps_since x.schedule y.schedule
+  so-far = let k = not-less in omega (arith, k)
+
+  -- the bound holds with one step more
+  few-made : suc (steps_since x.schedule y.schedule) < 2 ^ (2 * length x.assignment.current + 3)
+  few-made = few-since (call_from x) y (length x.assignment.current) scaled-here (let e = d.count in omega (arith, e)) from-first
+
+  module _ (changed_at : ℕ) (r : CountsSince changed_at x) where
+    few-here : (n : ℕ) → length x.assignment.current ≤ n → suc (y.schedule.steps - changed_at) < 2 ^ (2 * n + 3)
+    few-here n h =
+        let (c, e, k) = r.come d.unknown in
+        let b = few-since c y n scaled-here (let q = d.count in omega (arith, q, h)) (d.made.since c k) in
+        omega (arith, b, e)
+
+    few-both : (n : ℕ) → length x.assignment.current ≤ n → suc ((x.schedule.steps - changed_at) + steps_since x.schedule y.schedule) < 2 ^ (2 * n + 3)
+    few-both n h = let b = few-here n h in let l = r.low in let k = not-less in omega (arith, b, l, k)
+
+    -- where it stops here it can go on
+    pub since-stopped : CountsSince changed_at y
+    since-stopped = record {
+      low = let l = r.low in let k = not-less in omega (arith, l, k);
+      few = λ n h. let b = few-here n (let q = d.count in omega (arith, q, h)) in omega (arith, b);
+      come = λ u. let (c, e, k) = r.come d.unknown in (c, e, d.made.since c k);
     }
 
-    -- or the search goes on, and comes nearer to the bound
-    pub one-more-made : q.steps < 2 ^ 64 - 1 → (after : List Bool) → IsPlannedStep q trail after → HasMade c max_steps r after
-    one-more-made l after s =
-        subst (λ x. HasMade c max_steps x after) (sym e) (record {
-          come = goes-on c q trail after h l short s m.come;
-          budget = let a = within in let k = one-more in let d = ap (λ (x : Plan). x.steps) e in omega (arith, a, k, d);
-        })
+    -- the steps are spent
+    pub counts-spent : (steps_since x.schedule y.schedule ≡ max_steps) ⊎ (y.schedule.steps ≡ 2 ^ 64 - 1) → (n : ℕ) → length x.assignment.current ≤ n → CountsSteps n max_steps (x.schedule.steps - changed_at) x.schedule.steps y.schedule.steps (Err Interrupted)
+    counts-spent s n h = record {
+      made = steps_since x.schedule y.schedule;
+      count = so-far;
+      budget = d.made.budget;
+      bounded = let b = few-both n h in omega (arith, b);
+      found = λ b e. absurd cc;
+      spent = λ _. s;
+    }
 
-    pub made-shortens : 2 ^ (2 * c.variables + 3) - steps_since c.begins r < 2 ^ (2 * c.variables + 3) - steps_since c.begins q
-    made-shortens =
-        let b = is-short c q trail c.variables h short (omega arith) m.come in
-        let k = one-more in
-        omega (arith, b, k)
+    -- a clause could not be kept in the step behind them
+    pub counts-refused : (error : StoreError) (steps : ℕ) → steps ≡ y.schedule.steps → (n : ℕ) → length x.assignment.current ≤ n → CountsSteps n max_steps (x.schedule.steps - changed_at) x.schedule.steps steps (Err (store_refusal error))
+    counts-refused error steps e n h = record {
+      made = steps_since x.schedule y.schedule;
+      count = e ∙ so-far;
+      budget = d.made.budget;
+      bounded = let b = few-both n h in omega (arith, b);
+      found = λ b f. absurd cc;
+      spent = λ f. absurd (no-interrupt error (Err (store_refusal error)) refl f);
+    }
 
 -- the lines of the steps
 pub no-lines : (p : Plan) (s : Search) → (lines : List Line) × MakesSteps (steps_since p p) s s Unknown lines
 no-lines p s = let z : 0 ≡ steps_since p p = omega arith in ([], subst (λ k. MakesSteps k s s Unknown []) z (none_made s))
 
-pub more-lines : (c : PlannedCall) (q r : Plan) (trail : List Bool) (s t u : Search) (v : Outcome) → HasComeTo c q trail → r ≡ next_plan c.scale q → ((lines : List Line) × MakesSteps (steps_since c.begins q) s t Unknown lines) → ((lines : List Line) × Steps t u v lines) → (lines : List Line) × MakesSteps (steps_since c.begins r) s u v lines
-more-lines c q r trail s t u v h e (first, p) (second, k) =
-    let a = h.counted in
-    let d = ap (λ (x : Plan). x.steps) e in
-    let n : suc (steps_since c.begins q) ≡ steps_since c.begins r = omega (arith, a, d) in
-    (first ++ second, subst (λ m. MakesSteps m s u v (first ++ second)) n (one_more_made (steps_since c.begins q) s t u v first second p k))
+more-lines : (made : ℕ) (p r : Plan) (s t u : Search) (v : Outcome) → suc made ≡ steps_since p r → ((lines : List Line) × MakesSteps made s t Unknown lines) → ((lines : List Line) × Steps t u v lines) → (lines : List Line) × MakesSteps (steps_since p r) s u v lines
+more-lines made p r s t u v e (first, q) (second, k) =
+    (first ++ second, subst (λ m. MakesSteps m s u v (first ++ second)) e (one_more_made made s t u v first second q k))
 
 pub told-refused : (r : Result (Option Bool) StoreError) → IsErr r → (e : StoreError) × (told_verdict r ≡ Err (store_refusal e))
 told-refused (Ok x) h = absurd (let z : false ≡ true = h in cc)
@@ -151,41 +151,69 @@ pub room : (q : Plan) (steps : ℕ) → steps ≡ q.steps → steps < 2 ^ 64 →
 room q steps e l n =
     ⊎_elim (λ (a : steps < 2 ^ 64 - 1). omega (arith, e, a)) (λ (a : 2 ^ 64 - 1 ≤ steps). absurd (n (omega (arith, a, l)))) (cases_lt steps (2 ^ 64 - 1))
 
--- the call that begins with the context
-abbrev pub call_from : {A : Type 0} → Context A → PlannedCall
-call_from x = record { variables = length x.assignment.current; scale = x.solver_config.luby_restart_interval_scale; begins = x.schedule }
-
 -- The contexts of a step of the call that began with x: before it and after it.
 pub record Stepping {A : Type 0} (x y z : Context A) (max_steps : ℕ) : Type 0 where
-  pub scaled : 0 < x.solver_config.luby_restart_interval_scale
-  pub ready : IsReady y
-  pub count : length y.assignment.current ≡ length x.assignment.current
-  pub config : y.solver_config ≡ x.solver_config
-  pub made : HasMade (call_from x) max_steps y.schedule (kinds (view y))
+  pub searching : Searching x y max_steps
   pub lines : (lines : List Line) × MakesSteps (steps_since x.schedule y.schedule) (search_of (view x)) (search_of (view y)) Unknown lines
   pub assumes : KeepsAssumptions (search_of (view x)) Unknown x.assumptions y.assumptions
   pub left : steps_since x.schedule y.schedule ≢ max_steps
   pub countable : y.schedule.steps < 2 ^ 64 - 1
   pub next : z.schedule ≡ next_plan y.solver_config.luby_restart_interval_scale y.schedule
+  pub ready : IsReady z
+  pub same_config : z.solver_config ≡ y.solver_config
+  pub same_count : length z.assignment.current ≡ length y.assignment.current
+  pub decidable : SameDecidable (view y) y.vsids (view z) z.vsids
 
 module _ {A : Type 0} {x y z : Context A} {max_steps : ℕ} (d : Stepping x y z max_steps) where
-  plan : z.schedule ≡ next_plan x.solver_config.luby_restart_interval_scale y.schedule
-  plan = d.next ∙ ap (λ (s : Settings). next_plan s.luby_restart_interval_scale y.schedule) d.config
+  counted : z.schedule.steps ≡ suc y.schedule.steps
+  counted = ap (λ (p : Plan). p.steps) d.next
 
-  short : length (kinds (view y)) ≤ length x.assignment.current
-  short = flags-short (view y) (length x.assignment.current) d.ready.well d.count
+  one-more : suc (steps_since x.schedule y.schedule) ≡ steps_since x.schedule z.schedule
+  one-more = let k = not-less d.searching in let e = counted in omega (arith, k, e)
 
-  pub stepping-goes-on : IsPlannedStep y.schedule (kinds (view y)) (kinds (view z)) → HasMade (call_from x) max_steps z.schedule (kinds (view z))
-  stepping-goes-on s = one-more-made (call_from x) max_steps y.schedule (kinds (view y)) d.scaled short d.made d.left z.schedule plan d.countable (kinds (view z)) s
+  within : suc (steps_since x.schedule y.schedule) ≤ max_steps
+  within =
+      let k = d.searching.made.budget in
+      ⊎_elim (λ (a : steps_since x.schedule y.schedule < max_steps). omega (arith, a)) (λ (a : max_steps ≤ steps_since x.schedule y.schedule). absurd (d.left (omega (arith, k, a)))) (cases_lt (steps_since x.schedule y.schedule) max_steps)
+
+  pub stepping-goes-on : IsPlannedStep y.schedule (kinds (view y)) (kinds (view z)) → HasMade x z max_steps
+  stepping-goes-on s = record {
+    plan = d.searching.made.plan;
+    since = λ c k. come-step y z d.ready (scaled-here d.searching) d.countable s d.next d.same_config d.same_count d.decidable c (d.searching.made.since c k);
+    budget = let a = within in let k = one-more in omega (arith, a, k);
+  }
 
   pub stepping-lines : (v : Outcome) → ((lines : List Line) × Steps (search_of (view y)) (search_of (view z)) v lines) → (lines : List Line) × MakesSteps (steps_since x.schedule z.schedule) (search_of (view x)) (search_of (view z)) v lines
-  stepping-lines v k = more-lines (call_from x) y.schedule z.schedule (kinds (view y)) (search_of (view x)) (search_of (view y)) (search_of (view z)) v d.made.come plan d.lines k
+  stepping-lines v k = more-lines (steps_since x.schedule y.schedule) x.schedule z.schedule (search_of (view x)) (search_of (view y)) (search_of (view z)) v one-more d.lines k
 
   pub stepping-keeps : (v : Outcome) → KeepsAssumptions (search_of (view y)) v y.assumptions z.assumptions → KeepsAssumptions (search_of (view x)) v x.assumptions z.assumptions
   stepping-keeps v k = let (lines, made) = d.lines in keeps-after-steps (steps_since x.schedule y.schedule) (search_of (view x)) (search_of (view y)) lines v x.assumptions y.assumptions z.assumptions made d.assumes k
 
-  pub stepping-counts : (b : Bool) (n : ℕ) → length x.assignment.current ≤ n → CountsSteps n max_steps x.schedule.steps z.schedule.steps (Ok b)
-  stepping-counts b n h = counts-found (call_from x) max_steps y.schedule (kinds (view y)) d.scaled short d.made d.left z.schedule plan b n h
+  -- it finds a verdict
+  pub stepping-counts : (b : Bool) (n changed_at : ℕ) → length x.assignment.current ≤ n → CountsSince changed_at x → CountsSteps n max_steps (x.schedule.steps - changed_at) x.schedule.steps z.schedule.steps (Ok b)
+  stepping-counts b n changed_at h r = record {
+    made = suc (steps_since x.schedule y.schedule);
+    count = let k = so-far d.searching in let e = counted in omega (arith, k, e);
+    budget = within;
+    bounded = let k = few-both d.searching changed_at r n h in omega (arith, k);
+    found = λ a f. omega arith;
+    spent = λ f. absurd cc;
+  }
+
+  pub stepping-since : z.solver_state.sat_state ≢ verdict.Unknown → (changed_at : ℕ) → CountsSince changed_at x → CountsSince changed_at z
+  stepping-since known changed_at r = record {
+    low = let l = r.low in let k = not-less d.searching in let e = counted in omega (arith, l, k, e);
+    few = λ n h.
+        let a = d.same_count in
+        let q = d.searching.count in
+        let b = few-here d.searching changed_at r n (omega (arith, a, q, h)) in
+        let e = counted in
+        omega (arith, b, e);
+    come = λ u. absurd (known u);
+  }
 
   pub stepping-shortens : 2 ^ (2 * length x.assignment.current + 3) - steps_since x.schedule z.schedule < 2 ^ (2 * length x.assignment.current + 3) - steps_since x.schedule y.schedule
-  stepping-shortens = made-shortens (call_from x) max_steps y.schedule (kinds (view y)) d.scaled short d.made d.left z.schedule plan
+  stepping-shortens =
+      let b = few-made d.searching in
+      let k = one-more in
+      omega (arith, b, k)

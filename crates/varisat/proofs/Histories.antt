@@ -10,9 +10,9 @@ use Rattle.varisat.specs.States.{State, empty_state}
 use Rattle.varisat.specs.Told.{told_list, told_vars}
 use Rattle.varisat.specs.Names.{Sample, Witness}
 use Rattle.varisat.specs.Runs.{MakesCall, Run}
-use Rattle.varisat.specs.Pasts.{Past, empty_past}
+use Rattle.varisat.specs.Pasts.{Past, empty_past, count_anew}
 use Rattle.varisat.specs.Histories.{IsTrue, AreTrue}
-use Rattle.varisat.proofs.Pasts.{Agrees, Leads, add-clause, add-formula, add-text, make-var, set-usage, hide, observe, assume-list, solve, tell-model, tell-core, config, stays, empty-agrees}
+use Rattle.varisat.proofs.Pasts.{Agrees, Leads, add-clause, add-formula, add-text, make-var, set-usage, hide, observe, assume-list, solve, tell-model, tell-core, config, tell-since, close, stays, empty-agrees}
 
 -- what holds of each value with P
 pub of-ok : {X E : Type 0} (r : Result X E) (P Q : X → Type 0) → ((x : X) → P x → Q x) → IfOk r P → IfOk r Q
@@ -35,8 +35,9 @@ is-true seen call.Model (answer.Model r) p s t g m = tell-model p s t (told_list
 is-true seen call.FailedCore (answer.FailedCore r) p s t g m = tell-core p s t (told_list r) g m
 is-true seen (call.Config u) (answer.Config r) p s t g m = config p s t u r g m
 is-true seen call.Steps (answer.Steps n) p s t g (e, k) = (p, (e ∙ g.steps, refl), stays p s t k g)
+is-true seen call.StepsSinceChange (answer.StepsSinceChange n) p s t g m = tell-since p s t n g m
 is-true seen call.IsValid (answer.IsValid b) p s t g (e, k) = (p, (e ∙ g.valid, refl), stays p s t k g)
-is-true seen call.CloseProof (answer.CloseProof r) p s t g (e, k) = (p, (e, refl), stays p s t k g)
+is-true seen call.CloseProof (answer.CloseProof r) p s t g (e, k) = (count_anew p, (e, refl), close p s t g k)
 is-true seen _ _ p s t g m = absurd m
 
 are-true : {W S A : Type 0} (seen : S → Stand) (calls : List (Call S A)) (answers : List (Answer W S A)) (p : Past) (s t : State) → Agrees p s → Run seen s calls answers t → AreTrue seen p calls answers

@@ -49,6 +49,7 @@ pub mod ShownStates
 pub mod ShownInTurn
 pub mod SolveVerdict
 pub mod SolverCalls
+pub mod SinceSteps
 pub mod SpacesAgree
 pub mod SpacesMoves
 pub mod TableMarks

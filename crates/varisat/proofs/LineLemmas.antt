@@ -18,7 +18,7 @@ use Rattle.varisat_literals.specs.Numbers.{literal_text, variable_text}
 use Rattle.varisat_names.specs.declared.config.ConfigField.{ConfigField}
 use Rattle.varisat_names.specs.declared.config.ConfigField.TheVariants.{VsidsDecay, ClauseActivityDecay, ReduceLocalsInterval, ReduceMidsInterval, LubyRestartIntervalScale, MaxSteps}
 use Rattle.varisat_names.specs.Settings.{field_text}
-use Rattle.varisat.specs.Lines.{Command, Add, Assume, New, Sample, Witness, Hide, Observe, Solve, Model, Core, Config, Steps, Close, MeansCommand, MeansOneCommand, HasNumbersInRange, words, words_of, spelling}
+use Rattle.varisat.specs.Lines.{Command, Add, Assume, New, Sample, Witness, Hide, Observe, Solve, Model, Core, Config, Steps, Since, Close, MeansCommand, MeansOneCommand, HasNumbersInRange, words, words_of, spelling}
 
 abbrev pub NoSpace : List ℕ → Type 0
 NoSpace word = All (λ b. (b == 32) ≡ false) word
@@ -131,6 +131,7 @@ words_have_no_space Model h = (no_space (codes "model") (refl, (refl, (refl, (re
 words_have_no_space Core h = (no_space (codes "core") (from_spaceless (codes "core") refl), tt)
 words_have_no_space (Config field value) h = (no_space (codes "config") (from_spaceless (codes "config") refl), (name_has_no_space field, (number_has_no_space value h, tt)))
 words_have_no_space Steps h = (no_space (codes "steps") (from_spaceless (codes "steps") refl), tt)
+words_have_no_space Since h = (no_space (codes "since") (from_spaceless (codes "since") refl), tt)
 words_have_no_space Close h = (no_space (codes "close") (refl, (refl, (refl, (refl, (refl, tt))))), tt)
 
 -- words that are joined are parted again
@@ -151,6 +152,7 @@ words_of_spelled Model h = words_of_joined (codes "model") [] (words_have_no_spa
 words_of_spelled Core h = words_of_joined (codes "core") [] (words_have_no_space Core h)
 words_of_spelled (Config field value) h = words_of_joined (codes "config") (field_text field ∷ decimal value ∷ []) (words_have_no_space (Config field value) h)
 words_of_spelled Steps h = words_of_joined (codes "steps") [] (words_have_no_space Steps h)
+words_of_spelled Since h = words_of_joined (codes "since") [] (words_have_no_space Since h)
 words_of_spelled Close h = words_of_joined (codes "close") [] (words_have_no_space Close h)
 
 pub words_of_meant : (text : List ℕ) (command : Command) → MeansCommand text command → words_of text ≡ words command
@@ -208,6 +210,7 @@ words_apart Model Model h k e = refl
 words_apart Core Core h k e = refl
 words_apart (Config f m) (Config g n) h k e = settings_apart f g m n h k e
 words_apart Steps Steps h k e = refl
+words_apart Since Since h k e = refl
 words_apart Close Close h k e = refl
 words_apart a b h k e = let n : first_word_number (words a) ≡ first_word_number (words b) = ap first_word_number e in absurd (omega arith)
 

@@ -1,5 +1,5 @@
 -- What the calls and answers so far say of the state that a solver is in: each call moves both alike.
-use Rattle.std.proofs.Common.{◌≡◌, ◌≢◌, ℕ, zero, suc, ◌≤◌, ◌-◌, nat_lt, if◌then◌else◌, Bool, true, false, not, List, [], ◌∷◌, ◌++◌, ◌⊎◌, inl, inr, ⊎_elim, sym, ap, ◌∙◌, subst, refl, Option, Some, None, Result, Ok, Err, map, arith, length}
+use Rattle.std.proofs.Common.{◌≡◌, ◌≢◌, ℕ, zero, suc, ◌<◌, ◌≤◌, ◌+◌, ◌-◌, ◌*◌, ◌^◌, ap₂, nat_lt, if◌then◌else◌, Bool, true, false, not, List, [], ◌∷◌, ◌++◌, ◌⊎◌, inl, inr, ⊎_elim, sym, ap, ◌∙◌, subst, refl, Option, Some, None, Result, Ok, Err, map, arith, length}
 use Rattle.std.proofs.lemmas.Bool.{not-true, false_from_ne_true}
 use Rattle.std.specs.declared.alloc.AllocError.{AllocError}
 use Rattle.varisat_theory.specs.Membership.{◌∈◌}
@@ -14,7 +14,7 @@ use Rattle.varisat.specs.States.{State, Ledger, join_counted, Verdict, Unknown, 
 use Rattle.varisat.specs.Names.{Naming, Mode, bring, bring_next, bring_if_free, name_one, name_all, through_names, IsLeastFree, IsFirstWitness, free_name, set_mode, give_name, AreShown}
 use Rattle.varisat.specs.Models.{list_names, model_of, AreNamesInUse, IsCompletable, IsCoreToTell}
 use Rattle.varisat.specs.Additions as additions
-use Rattle.varisat.specs.Additions.{Gave, InTurn, RefusedAtOnce, NoFault, MemoryFault, Fault, ClauseRefused, ClausesAdded, RefusedEarly, FaultInText, Whole, MemoryRanOut, SourceFailed, Read, Unread}
+use Rattle.varisat.specs.Additions.{Gave, AllAdded, OneRefused, RefusedAtOnce, NoFault, MemoryFault, Fault, ClauseRefused, ClausesAdded, RefusedEarly, FaultInText, Whole, MemoryRanOut, SourceFailed, Read, Unread}
 use Rattle.varisat.specs.Calls as state
 use Rattle.varisat.specs.Calls.{IsPastLimit, MayConstrain, IsCrowded, IsLike, with_naming, start, with_steps, answer_of, reopened_verdict, assumed_verdict, VerdictAfter}
 use Rattle.varisat.specs.Budgets.{CountsSteps}
@@ -86,6 +86,7 @@ pub record Knows (p : Past) (s : State) : Type 0 where
 pub record Agrees (p : Past) (s : State) : Type 0 where
   pub valid : state.is_valid s ≡ p.valid
   pub steps : s.ledger.steps ≡ p.steps
+  pub since : s.ledger.since ≡ p.since
   pub settings : s.ledger.settings ≡ p.settings
   pub knows : p.valid ≡ true → Knows p s
 
@@ -103,11 +104,22 @@ false-true b e f = let z : true ≡ false = sym f ∙ e in cc
 pub stays : (p : Past) (s t : State) → t ≡ s → Agrees p s → Agrees p t
 stays p s t e g = subst (Agrees p) (sym e) g
 
+-- steps are counted anew
+anew : (p : Past) (s t : State) → t ≡ state.count_anew s → Agrees p s → Agrees (past.count_anew p) t
+anew p s t e g = subst (Agrees (past.count_anew p)) (sym e) (record {
+  valid = g.valid;
+  steps = g.steps;
+  since = refl;
+  settings = g.settings;
+  knows = λ v. let k = g.knows v in record { naming = k.naming; capped = k.capped; clauses = k.clauses; assumed = k.assumed; counted = k.counted; model = k.model; found = k.found; failed = k.failed; right = k.right };
+})
+
 -- the past keeps its flags, and the state too, but that it is in use now
-agrees-still : (p q : Past) (s t : State) → Agrees p s → t.ledger ≡ (start s).ledger → (q.valid ≡ p.valid) × (q.steps ≡ p.steps) × (q.settings ≡ p.settings) → Knows q t → Agrees q t
-agrees-still p q s t g e (v, c, u) k = record {
+agrees-still : (p q : Past) (s t : State) → Agrees p s → t.ledger ≡ (start s).ledger → (q.valid ≡ p.valid) × (q.steps ≡ p.steps) × (q.since ≡ 0) × (q.settings ≡ p.settings) → Knows q t → Agrees q t
+agrees-still p q s t g e (v, c, n, u) k = record {
   valid = ap (λ x. x.valid) e ∙ g.valid ∙ sym v;
   steps = ap (λ x. x.steps) e ∙ g.steps ∙ sym c;
+  since = ap (λ x. x.since) e ∙ sym n;
   settings = ap (λ x. x.settings) e ∙ g.settings ∙ sym u;
   knows = λ _. k;
 }
@@ -117,7 +129,7 @@ breaks : (p : Past) (s t : State) → Agrees p s → state.Invalidates s t → L
 breaks p s t g b = (
   record p { valid = false },
   (sym g.valid ∙ b.valid, refl),
-  record { valid = ap (λ x. x.valid) b.ledger; steps = ap (λ x. x.steps) b.ledger ∙ g.steps; settings = ap (λ x. x.settings) b.ledger ∙ g.settings; knows = λ e. absurd cc },
+  record { valid = ap (λ x. x.valid) b.ledger; steps = ap (λ x. x.steps) b.ledger ∙ g.steps; since = ap (λ x. x.since) b.ledger ∙ g.since; settings = ap (λ x. x.settings) b.ledger ∙ g.settings; knows = λ e. absurd cc },
 )
 
 right-like : (t : State) (P : List Clause) (A : List Literal) (C : List ℕ) (v : Verdict) → t.clauses ≡ P → t.assumptions ≡ A → t.counted ≡ C → t.verdict ≡ v → IsRight P A C v → HasRightVerdict t
@@ -138,7 +150,7 @@ accepted p s t d n (w, after, e) g v =
     let k = g.knows v in
     let c = map (through_names (name_all d s.naming)) d in
     let cases = after-cases s.clauses c s.verdict w after in
-    agrees-still p (accept d p) s t g e.ledger (refl, refl, refl)
+    agrees-still p (accept d p) s t g e.ledger (refl, refl, refl, refl)
     (record {
       naming = e.naming ∙ ap (name_all d) k.naming;
       capped = subst IsCapped (sym e.naming) (capped-all d s.naming k.capped);
@@ -172,7 +184,7 @@ crowded p s d k h = subst (λ (m : Naming). IsPastLimit d ⊎ IsCrowded (name_al
 
 pub add-clause : (p : Past) (s t : State) (d : Clause) (r : Result (Unit {0}) SolverError) → Agrees p s → state.AddsClause s d r t → Leads (past.AddsClause p d r) t
 add-clause p s t d (Ok u) g (v, state.Ignored n e) =
-    let w = sym g.valid ∙ v in (p, (w, past.Ignored (refuted p s (g.knows w) n) refl), stays p s t e g)
+    let w = sym g.valid ∙ v in (past.count_anew p, (w, past.Ignored (refuted p s (g.knows w) n) refl), anew p s t e g)
 add-clause p s t d (Ok u) g (v, state.Accepted n lim a) =
     let w = sym g.valid ∙ v in (accept d p, (w, past.Accepted (may-constrain p s d (g.knows w) lim) refl), accepted p s t d n a g w)
 add-clause p s t d (Err OutOfMemory) g a = breaks p s t g a.2
@@ -193,11 +205,12 @@ add-all p s t (c ∷ P) r g (inr (e, k, a)) =
     let (q, b, h) = add-clause p s t c (Err e) g a in (q, inr (e, k, b), h)
 
 pub add-formula : (p : Past) (s t : State) (P : List Clause) (r : Result (Unit {0}) SolverError) → Agrees p s → state.AddsFormula s P r t → Leads (past.AddsFormula p P r) t
-add-formula p s t P r g (InTurn v a) = let (q, b, h) = add-all p s t P r g a in (q, InTurn (sym g.valid ∙ v) b, h)
+add-formula p s t P r g (AllAdded v mid a e k) = let (q, b, h) = add-all p s mid P (Ok tt) g a in (past.count_anew q, AllAdded (sym g.valid ∙ v) q b e refl, anew q mid t k h)
+add-formula p s t P r g (OneRefused v x e a) = let (q, b, h) = add-all p s t P (Err x) g a in (q, OneRefused (sym g.valid ∙ v) x e b, h)
 add-formula p s t P r g (RefusedAtOnce e (v, k)) = (p, RefusedAtOnce e (sym g.valid ∙ v, refl), stays p s t k g)
 
 tell-fault : (p : Past) (s t : State) (x : Option DimacsError) (r : Result (Unit {0}) SolverError) → Agrees p s → state.TellsFault x s r t → Leads (λ q. additions.TellsFault past.adding x p r q) t
-tell-fault p s t x r g (NoFault n e k) = (p, NoFault n e refl, stays p s t k g)
+tell-fault p s t x r g (NoFault n e k) = (past.count_anew p, NoFault n e refl, anew p s t k g)
 tell-fault p s t x r g (MemoryFault y n m e b) = let (q, c, h) = breaks p s t g b in (q, MemoryFault y n m e c, h)
 tell-fault p s t x r g (Fault y n m e k) = (p, Fault y n m e refl, stays p s t k g)
 
@@ -223,8 +236,8 @@ add-text p s t old new r g (Unread e (v, k) n) = (p, Unread e (sym g.valid ∙ v
 -- 5. A new variable.
 
 -- The state has the names m now, and the past may have other flags. All else that is known stays.
-knows-like : (p : Past) (s t : State) (m : Naming) (b : Bool) (l : Ledger) (n : ℕ) (c : Settings) → IsLike (record s { naming = m; ever_hidden = b; ledger = l }) t → IsCapped m → Knows p s → Knows (record p { naming = m; steps = n; settings = c }) t
-knows-like p s t m b l n c e h k = record {
+knows-like : (p : Past) (s t : State) (m : Naming) (b : Bool) (l : Ledger) (n i : ℕ) (c : Settings) → IsLike (record s { naming = m; ever_hidden = b; ledger = l }) t → IsCapped m → Knows p s → Knows (record p { naming = m; steps = n; since = i; settings = c }) t
+knows-like p s t m b l n i c e h k = record {
   naming = e.naming;
   capped = subst IsCapped (sym e.naming) h;
   clauses = e.clauses ∙ k.clauses;
@@ -236,17 +249,17 @@ knows-like p s t m b l n c e h k = record {
   right = right-like t s.clauses s.assumptions s.counted s.verdict e.clauses e.assumptions e.counted e.verdict k.right;
 }
 
-named : (p : Past) (s t : State) (u : ℕ) → IsLike (start (with_naming (name_one u s.naming) s)) t → Knows p s → Knows (record p { naming = name_one u p.naming }) t
+named : (p : Past) (s t : State) (u : ℕ) → IsLike (start (with_naming (name_one u s.naming) s)) t → Knows p s → Knows (record p { naming = name_one u p.naming; since = 0 }) t
 named p s t u e k =
-    subst (λ (m : Naming). Knows (record p { naming = m }) t) (ap (name_one u) k.naming)
-    (knows-like p s t (name_one u s.naming) s.ever_hidden (start s).ledger p.steps p.settings e (capped-one u s.naming k.capped) k)
+    subst (λ (m : Naming). Knows (record p { naming = m; since = 0 }) t) (ap (name_one u) k.naming)
+    (knows-like p s t (name_one u s.naming) s.ever_hidden (start s).ledger p.steps 0 p.settings e (capped-one u s.naming k.capped) k)
 
 pub make-var : (p : Past) (s t : State) (r : Result ℕ SolverError) → Agrees p s → state.MakesVar s r t → Leads (past.MakesVar p r) t
 make-var p s t (Ok u) g (v, free, small, e) =
     let w = sym g.valid ∙ v in
     let k = g.knows w in
-    let q : Past = record p { naming = name_one u p.naming } in
-    (q, (w, subst (λ (m : Naming). IsLeastFree m u) k.naming free, small, refl), agrees-still p q s t g e.ledger (refl, refl, refl) (named p s t u e k))
+    let q : Past = record p { naming = name_one u p.naming; since = 0 } in
+    (q, (w, subst (λ (m : Naming). IsLeastFree m u) k.naming free, small, refl), agrees-still p q s t g e.ledger (refl, refl, refl, refl) (named p s t u e k))
 make-var p s t (Err OutOfMemory) g a = breaks p s t g a.1
 make-var p s t (Err Invalid) g a = (p, (sym g.valid ∙ a.0, refl), stays p s t a.1 g)
 make-var p s t (Err VariableLimit) g (v, full, same) =
@@ -257,12 +270,13 @@ make-var p s t (Err e) g a = absurd a
 -- 6. Modes of variables, and hidden ones.
 
 -- the state and the past have other names
-renamed : (p : Past) (s t : State) (m : Naming) (b : Bool) → IsLike (record s { naming = m; ever_hidden = b }) t → IsCapped m → Agrees p s → p.valid ≡ true → Agrees (record p { naming = m }) t
+renamed : (p : Past) (s t : State) (m : Naming) (b : Bool) → IsLike (record s { naming = m; ever_hidden = b; ledger = record s.ledger { since = 0 } }) t → IsCapped m → Agrees p s → p.valid ≡ true → Agrees (record p { naming = m; since = 0 }) t
 renamed p s t m b e c g v = record {
   valid = ap (λ x. x.valid) e.ledger ∙ g.valid;
   steps = ap (λ x. x.steps) e.ledger ∙ g.steps;
+  since = ap (λ x. x.since) e.ledger;
   settings = ap (λ x. x.settings) e.ledger ∙ g.settings;
-  knows = λ _. knows-like p s t m b s.ledger p.steps p.settings e c (g.knows v);
+  knows = λ _. knows-like p s t m b (record s.ledger { since = 0 }) p.steps 0 p.settings e c (g.knows v);
 }
 
 -- a name is assumed in both or in none
@@ -274,14 +288,14 @@ assumed-state p s u k (l, h, e) = (l, subst (λ A. l ∈ A) (sym k.assumed) h, s
 
 -- A name is named and then names change by f.
 changes-var : (f : Naming → Naming) (b : Bool → Bool) → ((m : Naming) → IsCapped m → IsCapped (f m)) → (p : Past) (s t : State) (u : ℕ) (r : Result (Unit {0}) SolverError) → Agrees p s →
-    usage.ChangesVar variables.named (λ x. record x { naming = f x.naming; ever_hidden = b x.ever_hidden }) s u r t →
-    Leads (usage.ChangesVar past.named (λ x. record x { naming = f x.naming }) p u r) t
+    usage.ChangesVar variables.named (λ x. record x { naming = f x.naming; ever_hidden = b x.ever_hidden; ledger = record x.ledger { since = 0 } }) s u r t →
+    Leads (usage.ChangesVar past.named (λ x. record x { naming = f x.naming; since = 0 }) p u r) t
 changes-var f b keeps p s t u (Ok x) g (v, small, free, e) =
     let w = sym g.valid ∙ v in
     let k = g.knows w in
     let m = f (name_one u s.naming) in (
-      record p { naming = m },
-      (w, small, (λ h. free (assumed-state p s u k h)), ap (λ (n : Naming). record p { naming = f (name_one u n) }) k.naming),
+      record p { naming = m; since = 0 },
+      (w, small, (λ h. free (assumed-state p s u k h)), ap (λ (n : Naming). record p { naming = f (name_one u n); since = 0 }) k.naming),
       renamed p s t m (b s.ever_hidden) e (keeps (name_one u s.naming) (capped-one u s.naming k.capped)) g w,
     )
 changes-var f b keeps p s t u (Err Invalid) g a = (p, (sym g.valid ∙ a.0, refl), stays p s t a.1 g)
@@ -312,7 +326,7 @@ pub observe : (p : Past) (s t : State) (r : Result (List ℕ) SolverError) → A
 observe p s t (Ok us) g (v, (m, shown, e)) =
     let w = sym g.valid ∙ v in
     let k = g.knows w in (
-      record p { naming = m },
+      record p { naming = m; since = 0 },
       (w, (m, subst (λ P. AreAllShown us P p.naming m) k.clauses (subst (λ (n : Naming). AreAllShown us s.clauses n m) k.naming shown), refl)),
       renamed p s t m s.ever_hidden e (capped-shown us s.naming m shown.in_turn k.capped) g w,
     )
@@ -328,7 +342,7 @@ assumed-list : (p : Past) (s t : State) (list : List Literal) → state.TakesAss
 assumed-list p s t list e g v =
     let k = g.knows v in
     let c = map (through_names (name_all list s.naming)) list in
-    agrees-still p (assume list p) s t g e.ledger (refl, refl, refl)
+    agrees-still p (assume list p) s t g e.ledger (refl, refl, refl, refl)
     (record {
       naming = e.naming ∙ ap (name_all list) k.naming;
       capped = subst IsCapped (sym e.naming) (capped-all list s.naming k.capped);
@@ -352,13 +366,18 @@ assume-list p s t list (Err e) g a = absurd a
 
 -- 8. An answer of `solve`.
 
+-- the steps since the last change
+since-told : (p : Past) (s t : State) → Agrees p s → t.ledger.since ≡ s.ledger.since + (t.ledger.steps - s.ledger.steps) → t.ledger.since ≡ p.since + (t.ledger.steps - p.steps)
+since-told p s t g e = e ∙ ap₂ (λ x y. x + (t.ledger.steps - y)) g.since g.steps
+
 -- the past behind an answer, where the state has the verdict that was told
-solved : (p : Past) (s t : State) (b : Bool) → Agrees p s → Knows p s → state.TellsVerdict s b t → Agrees (record p { has_model = b; has_core = not b; steps = t.ledger.steps }) t
+solved : (p : Past) (s t : State) (b : Bool) → Agrees p s → Knows p s → state.TellsVerdict s b t → Agrees (record (past.with_steps t.ledger.steps p) { has_model = b; has_core = not b }) t
 solved p s t b g k r =
     let e = r.rest in
     record {
       valid = ap (λ x. x.valid) e.ledger ∙ g.valid;
       steps = refl;
+      since = since-told p s t g (ap (λ x. x.since) e.ledger);
       settings = ap (λ x. x.settings) e.ledger ∙ g.settings;
       knows = λ _. record {
         naming = e.naming ∙ k.naming;
@@ -377,11 +396,12 @@ solved p s t b g k r =
     told b e = cc
 
 -- the steps of a call under the verdict Unknown
-counts : (p : Past) (s t : State) (r : Result Bool SolverError) → Agrees p s → Knows p s → state.CountsCall s r t → CountsSteps (length p.counted) p.settings.max_steps p.steps t.ledger.steps r
+counts : (p : Past) (s t : State) (r : Result Bool SolverError) → Agrees p s → Knows p s → state.CountsCall s r t → CountsSteps (length p.counted) p.settings.max_steps p.since p.steps t.ledger.steps r
 counts p s t r g k c =
-    subst (λ (xs : List ℕ). CountsSteps (length xs) p.settings.max_steps p.steps t.ledger.steps r) k.counted
-    (subst (λ (x : Settings). CountsSteps (length s.counted) x.max_steps p.steps t.ledger.steps r) g.settings
-    (subst (λ x. CountsSteps (length s.counted) s.ledger.settings.max_steps x t.ledger.steps r) g.steps c))
+    subst (λ (xs : List ℕ). CountsSteps (length xs) p.settings.max_steps p.since p.steps t.ledger.steps r) k.counted
+    (subst (λ (x : Settings). CountsSteps (length s.counted) x.max_steps p.since p.steps t.ledger.steps r) g.settings
+    (subst (λ x. CountsSteps (length s.counted) s.ledger.settings.max_steps x p.steps t.ledger.steps r) g.since
+    (subst (λ x. CountsSteps (length s.counted) s.ledger.settings.max_steps s.ledger.since x t.ledger.steps r) g.steps c)))
 
 -- neither a model nor a core was found last where the verdict is unknown
 no-model-yet : (p : Past) (s : State) → Knows p s → s.verdict ≡ Unknown → p.has_model ≡ false
@@ -390,7 +410,7 @@ no-model-yet p s k u = false_from_ne_true p.has_model (λ e. let z : None ≡ So
 no-core-yet : (p : Past) (s : State) → Knows p s → s.verdict ≡ Unknown → p.has_core ≡ false
 no-core-yet p s k u = false_from_ne_true p.has_core (λ e. let z : None ≡ Some false = ap answer_of (sym u) ∙ k.failed e in cc)
 
-few-steps : (p : Past) (s t : State) (b : Bool) → Agrees p s → Knows p s → state.TellsVerdict s b t → MakesFewSteps p b (record p { has_model = b; has_core = not b; steps = t.ledger.steps })
+few-steps : (p : Past) (s t : State) (b : Bool) → Agrees p s → Knows p s → state.TellsVerdict s b t → MakesFewSteps p b (record (past.with_steps t.ledger.steps p) { has_model = b; has_core = not b })
 few-steps p s t b g k r =
     ⊎_elim
     (λ u. inr (no-model-yet p s k u, no-core-yet p s k u, counts p s t (Ok b) g k (r.steps u)))
@@ -398,10 +418,10 @@ few-steps p s t b g k r =
     (is-unknown-or-not s.verdict)
 
 -- the ledger alone changes
-told-on : (p : Past) (s t : State) (n : ℕ) (c : Settings) → IsLike (record s { ledger = t.ledger }) t → Knows p s → Knows (record p { steps = n; settings = c }) t
-told-on p s t n c e k =
-    subst (λ (m : Naming). Knows (record p { naming = m; steps = n; settings = c }) t) k.naming
-    (knows-like p s t s.naming s.ever_hidden t.ledger n c e k.capped k)
+told-on : (p : Past) (s t : State) (n i : ℕ) (c : Settings) → IsLike (record s { ledger = t.ledger }) t → Knows p s → Knows (record p { steps = n; since = i; settings = c }) t
+told-on p s t n i c e k =
+    subst (λ (m : Naming). Knows (record p { naming = m; steps = n; since = i; settings = c }) t) k.naming
+    (knows-like p s t s.naming s.ever_hidden t.ledger n i c e k.capped k)
 
 like-told : (s t : State) (n : ℕ) → IsLike (with_steps n s) t → IsLike (record s { ledger = t.ledger }) t
 like-told s t n e = record { naming = e.naming; ever_hidden = e.ever_hidden; clauses = e.clauses; assumptions = e.assumptions; counted = e.counted; verdict = e.verdict; ledger = refl }
@@ -423,32 +443,33 @@ pub solve : (p : Past) (s t : State) (r : Result Bool SolverError) → Agrees p 
 solve p s t (Ok true) g r =
     let v = sym g.valid ∙ r.valid in
     let k = g.knows v in
-    (record p { has_model = true; has_core = false; steps = t.ledger.steps }, (v, some-with p s t k r, few-steps p s t true g k r, refl), solved p s t true g k r)
+    (record (past.with_steps t.ledger.steps p) { has_model = true; has_core = false }, (v, some-with p s t k r, few-steps p s t true g k r, refl), solved p s t true g k r)
 solve p s t (Ok false) g r =
     let v = sym g.valid ∙ r.valid in
     let k = g.knows v in
-    (record p { has_model = false; has_core = true; steps = t.ledger.steps }, (v, none-with p s t k r, few-steps p s t false g k r, refl), solved p s t false g k r)
+    (record (past.with_steps t.ledger.steps p) { has_model = false; has_core = true }, (v, none-with p s t k r, few-steps p s t false g k r, refl), solved p s t false g k r)
 solve p s t (Err OutOfMemory) g (u, c, b) =
     let k = knows-of p s g b.valid in (
-      record p { valid = false; steps = t.ledger.steps },
+      record (past.with_steps t.ledger.steps p) { valid = false },
       (counts p s t (Err OutOfMemory) g k c, (sym g.valid ∙ b.valid, refl)),
-      record { valid = ap (λ x. x.valid) b.ledger; steps = refl; settings = ap (λ x. x.settings) b.ledger ∙ g.settings; knows = λ e. absurd cc },
+      record { valid = ap (λ x. x.valid) b.ledger; steps = refl; since = since-told p s t g (ap (λ x. x.since) b.ledger); settings = ap (λ x. x.settings) b.ledger ∙ g.settings; knows = λ e. absurd cc },
     )
 solve p s t (Err ClauseStoreFull) g (u, c, b) =
     let k = knows-of p s g b.valid in (
-      record p { valid = false; steps = t.ledger.steps },
+      record (past.with_steps t.ledger.steps p) { valid = false },
       (counts p s t (Err ClauseStoreFull) g k c, (sym g.valid ∙ b.valid, refl)),
-      record { valid = ap (λ x. x.valid) b.ledger; steps = refl; settings = ap (λ x. x.settings) b.ledger ∙ g.settings; knows = λ e. absurd cc },
+      record { valid = ap (λ x. x.valid) b.ledger; steps = refl; since = since-told p s t g (ap (λ x. x.since) b.ledger); settings = ap (λ x. x.settings) b.ledger ∙ g.settings; knows = λ e. absurd cc },
     )
 solve p s t (Err Interrupted) g r =
     let k = knows-of p s g r.valid in (
-      record p { steps = t.ledger.steps },
+      past.with_steps t.ledger.steps p,
       (sym g.valid ∙ r.valid, no-model-yet p s k r.unknown, no-core-yet p s k r.unknown, counts p s t (Err Interrupted) g k r.steps, refl),
       record {
         valid = ap (λ x. x.valid) r.rest.ledger ∙ g.valid;
         steps = refl;
+        since = since-told p s t g (ap (λ x. x.since) r.rest.ledger);
         settings = ap (λ x. x.settings) r.rest.ledger ∙ g.settings;
-        knows = λ _. told-on p s t t.ledger.steps p.settings (like-told s t t.ledger.steps r.rest) k;
+        knows = λ _. told-on p s t t.ledger.steps (p.since + (t.ledger.steps - p.steps)) p.settings (like-told s t t.ledger.steps r.rest) k;
       },
     )
 solve p s t (Err (WitnessVar u)) g r = absurd r
@@ -467,8 +488,9 @@ config p s t u (Ok x) g (v, n, e) = (
   stays (past.with_update u p) (state.with_update u s) t e (record {
     valid = g.valid;
     steps = g.steps;
+    since = refl;
     settings = ap (λ c. updated_settings c u) g.settings;
-    knows = λ w. told-on p s (state.with_update u s) p.steps (updated_settings p.settings u) (like-refl (state.with_update u s)) (g.knows w);
+    knows = λ w. told-on p s (state.with_update u s) p.steps 0 (updated_settings p.settings u) (like-refl (state.with_update u s)) (g.knows w);
   }),
 )
 config p s t u (Err Invalid) g (v, e) = (p, (sym g.valid ∙ v, refl), stays p s t e g)
@@ -480,6 +502,18 @@ config p s t u (Err (WitnessVar v)) g r = absurd r
 config p s t u (Err VariableLimit) g r = absurd r
 config p s t u (Err (AssumedVar v)) g r = absurd r
 config p s t u (Err (Dimacs cause)) g r = absurd r
+
+-- what is told of the steps since the last change
+pub tell-since : (p : Past) (s t : State) (n : ℕ) → Agrees p s → state.TellsSince s n t → Leads (past.TellsSince p n) t
+tell-since p s t n g (e, few, same) = (
+  p,
+  (e ∙ g.since, (λ v. subst (λ (xs : List ℕ). n < 2 ^ (2 * length xs + 3)) (g.knows v).counted (few (g.valid ∙ v))), refl),
+  stays p s t same g,
+)
+
+-- no more is told of a proof that closes, but that steps are counted anew
+pub close : (p : Past) (s t : State) → Agrees p s → t ≡ state.count_anew s → Agrees (past.count_anew p) t
+close p s t g e = anew p s t e g
 
 -- 10. A model.
 
@@ -549,6 +583,7 @@ pub empty-agrees : Agrees empty_past empty_state
 empty-agrees = record {
   valid = refl;
   steps = refl;
+  since = refl;
   settings = refl;
   knows = λ _. record {
     naming = refl;

@@ -96,7 +96,7 @@ took n p q (c ∷ P) o (inl (mid, (v, past.Accepted l e), rest)) =
       assumptions = r.assumptions;
     }
 took n p q (c ∷ P) o (inl (mid, (v, past.Ignored u e), rest)) =
-    let r = took n p q P o (subst (λ (x : Past). additions.AddsAll past.adding x P done q) e rest) in
+    let r = took n (past.count_anew p) q P o (subst (λ (x : Past). additions.AddsAll past.adding x P done q) e rest) in
     record {
       more = r.more;
       part = λ a x y. r.part a x (λ d h. y d (inr h));
@@ -107,6 +107,10 @@ took n p q (c ∷ P) o (inl (mid, (v, past.Ignored u e), rest)) =
       settings = r.settings;
       assumptions = r.assumptions;
     }
+
+-- the same where steps are counted anew then
+took-anew : (n : ℕ) (P : List Clause) (p q : Past) → Took n P p q → Took n P p (past.count_anew q)
+took-anew n P p q r = record { more = r.more; part = r.part; whole = r.whole; counted = r.counted; once = r.once; steps = r.steps; settings = r.settings; assumptions = r.assumptions }
 
 none-true : (a : Assignment) (A : List Literal) → A ≡ [] → MakesTrue a A
 none-true a A e l h = let z : l ∈ [] = subst (λ x. l ∈ x) e h in absurd z
@@ -155,9 +159,13 @@ own-model P m assumptions counted model o k = record {
     below : (l : Literal) → l ∈ model → variable_of l < count-all 0 P
     below = in-use-below (count-all 0 P) m model o k.in_use
 
-reading-whole : (p q : Past) (R : Reading) → additions.AddsReading past.adding p R done q → (R.fault ≡ None) × additions.AddsAll past.adding p R.clauses done q
+-- all clauses were taken in, and then steps are counted anew
+abbrev AddsWhole : Past → List Clause → Past → Type 0
+AddsWhole p P q = (m : Past) × additions.AddsAll past.adding p P done m × (q ≡ past.count_anew m)
+
+reading-whole : (p q : Past) (R : Reading) → additions.AddsReading past.adding p R done q → (R.fault ≡ None) × AddsWhole p R.clauses q
 reading-whole p q R (ClauseRefused e k a) = absurd cc
-reading-whole p q R (ClausesAdded m a (NoFault n k e)) = (n, subst (λ x. additions.AddsAll past.adding p R.clauses done x) (sym e) a)
+reading-whole p q R (ClausesAdded m a (NoFault n k e)) = (n, (m, a, e))
 reading-whole p q R (ClausesAdded m a (MemoryFault y n k e b)) = absurd cc
 reading-whole p q R (ClausesAdded m a (Fault y n k e b)) = absurd cc
 
@@ -166,7 +174,7 @@ record Takes (old new : Stand) (p q : Past) : Type 0 where
   read : Gave old new
   ended : HasEnded new
   fine : (dimacs read.text).fault ≡ None
-  all : additions.AddsAll past.adding p (dimacs read.text).clauses done q
+  all : AddsWhole p (dimacs read.text).clauses q
 
 takes-given : (old new : Stand) (p q : Past) (g : Gave old new) → additions.AddsGiven past.adding g p done q → Takes old new p q
 takes-given old new p q g (RefusedEarly ended from e k a n) = absurd cc
@@ -194,8 +202,8 @@ pub record Asked (c : SolverConfigUpdate) (old new : Stand) (t u : State) (found
 abbrev begun : SolverConfigUpdate → Past
 begun c = past.with_update c empty_past
 
-begun-took : (c : SolverConfigUpdate) (q : Past) (P : List Clause) → additions.AddsAll past.adding (begun c) P done q → Took 0 P (begun c) q
-begun-took c q P a = took 0 (begun c) q P none-in-order a
+begun-took : (c : SolverConfigUpdate) (q : Past) (P : List Clause) → AddsWhole (begun c) P q → Took 0 P (begun c) q
+begun-took c q P (m, a, e) = subst (Took 0 P (begun c)) (sym e) (took-anew 0 P (begun c) m (took 0 (begun c) m P none-in-order a))
 
 module _ (c : SolverConfigUpdate) (old new : Stand) (t u : State) (found : Result Bool SolverError) (k : Asked c old new t u found) where
   configured : Agrees (begun c) k.mid
@@ -222,12 +230,12 @@ module _ (c : SolverConfigUpdate) (old new : Stand) (t u : State) (found : Resul
       let r = begun-took c q (dimacs w.read.text).clauses w.all in
       let names = named_variables [] (dimacs w.read.text).clauses in
       let fewer = length-distinct q.counted names (r.once tt) (r.counted [] (λ i h. h)) in
-      let early = spent-early (length q.counted) max_steps q.settings.max_steps q.steps z.steps few (ap (λ (s : Settings). s.max_steps) r.settings ∙ m) r.steps in
+      let early = spent-early (length q.counted) max_steps q.settings.max_steps q.since q.steps z.steps few (ap (λ (s : Settings). s.max_steps) r.settings ∙ m) r.steps in
       let power : 2 ^ (2 * length q.counted + 3) ≤ 2 ^ (2 * length names + 3) = pow_mono (omega (arith, fewer)) in
       record { read = w.read; ended = w.ended; fine = w.fine; found = omega (arith, early, power) }
     where
-      spent-early : (n max_steps own before after : ℕ) → CountsSteps n own before after (Err Interrupted) → own ≡ max_steps → before ≡ 0 → min max_steps (2 ^ 64 - 1) < 2 ^ (2 * n + 3)
-      spent-early n max_steps own before after k e z =
+      spent-early : (n max_steps own since before after : ℕ) → CountsSteps n own since before after (Err Interrupted) → own ≡ max_steps → before ≡ 0 → min max_steps (2 ^ 64 - 1) < 2 ^ (2 * n + 3)
+      spent-early n max_steps own since before after k e z =
           let b = k.bounded in
           let d = k.count in
           ⊎_elim (λ (s : k.made ≡ own). omega (arith, s, e, b)) (λ (s : after ≡ 2 ^ 64 - 1). omega (arith, s, d, z, b)) (k.spent refl)
@@ -239,7 +247,7 @@ decided-told {A = A} max_steps c old new t u v m a d =
     let k = takes old new (begun c) q x in
     outcome m k (begun-took c q (dimacs k.read.text).clauses k.all).whole (s.0, s.1) z w e h d
   where
-    outcome : (m : Option (Vec Literal A)) {q : Past} (k : Takes old new (begun c) q) → (IsSatisfiable q.clauses → ⊥) ⊎ ((q.clauses ≡ (dimacs k.read.text).clauses) × AreInOrder (count-all 0 (dimacs k.read.text).clauses) q.naming) → IsSatisfiable q.clauses → (z : Past) → q.valid ≡ true → z ≡ record q { has_model = true; has_core = false; steps = z.steps } → Agrees z u → state.TellsModel u (told_list (Ok m)) v → Decides max_steps old new (Decided (listed m))
+    outcome : (m : Option (Vec Literal A)) {q : Past} (k : Takes old new (begun c) q) → (IsSatisfiable q.clauses → ⊥) ⊎ ((q.clauses ≡ (dimacs k.read.text).clauses) × AreInOrder (count-all 0 (dimacs k.read.text).clauses) q.naming) → IsSatisfiable q.clauses → (z : Past) → q.valid ≡ true → z ≡ record (past.with_steps z.steps q) { has_model = true; has_core = false } → Agrees z u → state.TellsModel u (told_list (Ok m)) v → Decides max_steps old new (Decided (listed m))
     outcome m k (inl n) s z w e h d = absurd (n s)
     outcome None k (inr n) s z w e h d =
         let (y, (x, i), j) = tell-model z u v (Ok None) h d in absurd (let o : false ≡ true = sym (x (ap (λ y. y.valid) e ∙ w)) ∙ ap (λ y. y.has_model) e in cc)

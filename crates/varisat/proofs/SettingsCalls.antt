@@ -1,28 +1,54 @@
 -- A solver whose settings changed.
-use Rattle.std.proofs.Common.{◌≡◌, Bool, not, sym, ap, subst}
+use Rattle.std.proofs.Common.{◌≡◌, ◌∙◌, ◌-◌, ℕ, Bool, not, length, sym, ap, subst}
+use Rattle.varisat_theory.specs.Membership.{◌∈◌}
 use Rattle.varisat_names.specs.Settings.{updated_settings}
 use Rattle.varisat_names.specs.Variables.{Tables}
 use Rattle.varisat_names.specs.declared.config.SolverConfigUpdate.{SolverConfigUpdate}
 use Rattle.varisat_search.specs.declared.context.Context.{Context}
 use Rattle.varisat_clause.specs.ClauseActivities.{ActivityScale}
 use Rattle.varisat_vsids.specs.Activities.{Activities}
-use Rattle.varisat_search.specs.Contexts.{view}
+use Rattle.varisat_search.specs.AssumptionParts.{AssumptionParts}
+use Rattle.varisat_search.specs.Contexts.{view, IsReady}
+use Rattle.varisat_search.specs.Decisions.{SameDecidable}
 use Rattle.varisat.specs.States.{State, Ledger}
-use Rattle.varisat.specs.Calls.{with_update}
-use Rattle.varisat.specs.Summaries.{Summary, StandsFor, spaces_of}
+use Rattle.varisat.specs.Calls.{with_update, count_anew}
+use Rattle.varisat.specs.Summaries.{Summary, IsKept, StandsFor, spaces_of}
 use Rattle.varisat.proofs.AcceptClause.{ledger-free}
-use Rattle.varisat.proofs.CallStates.{ledger_of}
+use Rattle.varisat.proofs.CallStates.{ledger_of, none-since}
+use Rattle.varisat.proofs.VariablesInUse.{same-in-use}
 
 -- what a solver with the parts holds
-abbrev pub summary_of : {A : Type 0} → Tables → Bool → Context A → Summary
-summary_of tables started x = record { tables = tables; search = view x; assumed = x.assumptions; sat_state = x.solver_state.sat_state; ledger = ledger_of (not x.solver_state.state_is_invalid) started x.schedule.steps x.solver_config }
+abbrev pub summary_of : {A : Type 0} → Tables → Bool → ℕ → Context A → Summary
+summary_of tables started changed_at x = record { tables = tables; search = view x; assumed = x.assumptions; sat_state = x.solver_state.sat_state; ledger = ledger_of (not x.solver_state.state_is_invalid) started x.schedule.steps (x.schedule.steps - changed_at) x.solver_config }
 
-pub stands-updated : {A : Type 0} (tables : Tables) (started : Bool) (x y : Context A) (u : SolverConfigUpdate) (b : ActivityScale) (a : Activities) (s : State) → y ≡ record x { clause_activity = b; solver_config = updated_settings x.solver_config u; vsids = a } → StandsFor (summary_of tables started x) s → StandsFor (summary_of tables started y) (with_update u s)
-stands-updated {A = A} tables started x y u b a s e st =
-    subst (λ (z : Context A). StandsFor (summary_of tables started z) (with_update u s)) (sym e) (record {
-      ledger = ap (λ (l : Ledger). record l { settings = updated_settings l.settings u }) st.ledger;
-      fits = λ v. let (w, k) = st.fits v in (w, ledger-free w (spaces_of tables (view x) x.assumptions x.solver_state.sat_state) s (record s.ledger { settings = updated_settings s.ledger.settings u }) k);
+pub stands-updated : {A : Type 0} (tables : Tables) (started : Bool) (changed_at anew : ℕ) (x y : Context A) (u : SolverConfigUpdate) (b : ActivityScale) (a : Activities) (s : State) → y ≡ record x { clause_activity = b; solver_config = updated_settings x.solver_config u; vsids = a } → anew ≡ y.schedule.steps → StandsFor (summary_of tables started changed_at x) s → StandsFor (summary_of tables started anew y) (with_update u s)
+stands-updated {A = A} tables started changed_at anew x y u b a s e n st =
+    let same : anew ≡ x.schedule.steps = n ∙ ap (λ (z : Context A). z.schedule.steps) e in
+    subst (λ (z : Context A). StandsFor (summary_of tables started anew z) (with_update u s)) (sym e) (record {
+      ledger = ap (λ (l : Ledger). record l { since = 0; settings = updated_settings l.settings u }) st.ledger ∙ ap (λ k. ledger_of (not x.solver_state.state_is_invalid) started x.schedule.steps k (updated_settings x.solver_config u)) (none-since anew x.schedule.steps same);
+      fits = λ v. let (w, k) = st.fits v in (w, ledger-free w (spaces_of tables (view x) x.assumptions x.solver_state.sat_state) s (record s.ledger { since = 0; settings = updated_settings s.ledger.settings u }) k);
     })
 
-pub stands-same : {A : Type 0} (tables : Tables) (started : Bool) (x y : Context A) (s : State) → y ≡ x → StandsFor (summary_of tables started x) s → StandsFor (summary_of tables started y) s
-stands-same {A = A} tables started x y s e st = subst (λ (z : Context A). StandsFor (summary_of tables started z) s) (sym e) st
+pub stands-same : {A : Type 0} (tables : Tables) (started : Bool) (changed_at : ℕ) (x y : Context A) (s : State) → y ≡ x → StandsFor (summary_of tables started changed_at x) s → StandsFor (summary_of tables started changed_at y) s
+stands-same {A = A} tables started changed_at x y s e st = subst (λ (z : Context A). StandsFor (summary_of tables started changed_at z) s) (sym e) st
+
+-- the same solver, where steps are counted anew
+pub stands-anew : {A : Type 0} (tables : Tables) (started : Bool) (changed_at anew : ℕ) (x : Context A) (s : State) → anew ≡ x.schedule.steps → StandsFor (summary_of tables started changed_at x) s → StandsFor (summary_of tables started anew x) (count_anew s)
+stands-anew tables started changed_at anew x s n st = record {
+  ledger = ap (λ (l : Ledger). record l { since = 0 }) st.ledger ∙ ap (λ k. ledger_of (not x.solver_state.state_is_invalid) started x.schedule.steps k x.solver_config) (none-since anew x.schedule.steps n);
+  fits = λ v. let (w, k) = st.fits v in (w, ledger-free w (spaces_of tables (view x) x.assumptions x.solver_state.sat_state) s (record s.ledger { since = 0 }) k);
+}
+
+-- what a solver keeps with other settings
+pub kept-updated : {A : Type 0} (tables : Tables) (x y : Context A) (u : SolverConfigUpdate) (b : ActivityScale) (a : Activities) → y ≡ record x { clause_activity = b; solver_config = updated_settings x.solver_config u; vsids = a } → IsReady y → SameDecidable (view x) x.vsids (view y) y.vsids → IsKept tables x → IsKept tables y
+kept-updated {A} tables x y u b a e r g k =
+    let same = ap (λ (z : Context A). z.assumptions) e in
+    record {
+      bounded = k.bounded;
+      ready = r;
+      count = ap (λ (z : Context A). length z.assignment.current) e ∙ k.count;
+      decidable = same-in-use tables (view x) x.vsids (view y) y.vsids k.decidable g;
+      assumed = λ l h. k.assumed l (subst (λ (z : AssumptionParts). l ∈ z.user) same h);
+      marked = λ l v h f. k.marked l v (subst (λ (z : AssumptionParts). l ∈ z.user) same h) f;
+      working = λ l h. k.working l (subst (λ (z : AssumptionParts). l ∈ z.working) same h);
+    }

@@ -1,5 +1,5 @@
 -- What the solver's calls do to the states that it stands for.
-use Rattle.std.proofs.Common.{Result, Ok, Err, Vec, ◌≡◌, ◌↔◌, if◌then◌else◌, ℕ, zero, suc, ◌+◌, ◌-◌, ◌<◌, ◌≤◌, Bool, true, false, not, Option, Some, None, List, [], ◌++◌, ◌⊎◌, inl, inr, ⊎_elim, length, map, get_or, sym, ap, ◌∙◌, subst, refl, arith}
+use Rattle.std.proofs.Common.{Result, Ok, Err, Vec, ◌≡◌, ◌↔◌, if◌then◌else◌, ℕ, zero, suc, ◌+◌, ◌-◌, ◌*◌, ◌^◌, ◌<◌, ◌≤◌, Bool, true, false, not, Option, Some, None, List, [], ◌++◌, ◌⊎◌, inl, inr, ⊎_elim, length, map, get_or, sym, ap, ◌∙◌, subst, refl, arith}
 use Rattle.varisat_theory.specs.Membership.{◌∈◌}
 use Rattle.varisat_theory.specs.Literals.{Literal, Assignment, variable_of, literal_of, IsSatisfiableWith, IsFailedCore}
 use Rattle.varisat_literals.specs.Numbers.{polarity_of}
@@ -50,7 +50,7 @@ use Rattle.varisat.specs.Searches.{answer_at, FindsVerdict}
 use Rattle.varisat.specs.Spaces.{Carrying, translation, CoreFits, VerdictFits, Links, SpacesFit, list_globals}
 use Rattle.varisat.specs.Summaries.{Summary, IsKept, StandsFor, spaces, spaces_of, list_tables}
 use Rattle.varisat.proofs.AcceptLoad.{map-map}
-use Rattle.varisat.proofs.CallStates.{ledger_of, like-refl}
+use Rattle.varisat.proofs.CallStates.{ledger_of, ledger-is, none-more}
 use Rattle.varisat.proofs.VerdictAnswers.{right-false, right-core, core-answer}
 use Rattle.varisat.proofs.Carried.{carry-at, carry-sign}
 use Rattle.varisat.proofs.SettingsCalls.{summary_of}
@@ -233,14 +233,19 @@ decided-fits g s t y z verdict.UnsatUnderAssumptions b e (w, k) v =
 pub decided : (g : Summary) (s : State) (t : View) (y z : AssumptionParts) (after : SatState) (b : Bool) → answer_at after ≡ Some b → StandsFor g s → g.ledger.valid ≡ true → StepsMade g t y z after → Decided (after_steps g t z after) s b
 decided g s t y z after b e st v f = decided-fits g s t y z after b e (st.fits v) f
 
+-- few steps were made since the last change
+pub counted-few : (g : Summary) (s : State) → StandsFor g s → g.ledger.valid ≡ true → ((n : ℕ) → length g.search.values ≤ n → g.ledger.since < 2 ^ (2 * n + 3)) → s.ledger.since < 2 ^ (2 * length s.counted + 3)
+counted-few g s st v few = subst (λ k. k < 2 ^ (2 * length s.counted + 3)) (sym (ap (λ (l : Ledger). l.since) st.ledger)) (few (length s.counted) (st.fits v).1.few)
+
 -- how the steps are counted, for the state
-pub counted-call : (g : Summary) (s : State) (max_steps after : ℕ) (a r : Result Bool SolverError) → StandsFor g s → g.ledger.valid ≡ true → max_steps ≡ g.ledger.settings.max_steps → a ≡ r → ((n : ℕ) → length g.search.values ≤ n → CountsSteps n max_steps g.ledger.steps after a) → CountsSteps (length s.counted) s.ledger.settings.max_steps s.ledger.steps after r
+pub counted-call : (g : Summary) (s : State) (max_steps after : ℕ) (a r : Result Bool SolverError) → StandsFor g s → g.ledger.valid ≡ true → max_steps ≡ g.ledger.settings.max_steps → a ≡ r → ((n : ℕ) → length g.search.values ≤ n → CountsSteps n max_steps g.ledger.since g.ledger.steps after a) → CountsSteps (length s.counted) s.ledger.settings.max_steps s.ledger.since s.ledger.steps after r
 counted-call g s max_steps after a r st v m e c =
     let k = c (length s.counted) (st.fits v).1.few in
     let o = sym (ap (λ (l : Ledger). l.settings.max_steps) st.ledger) in
-    subst (λ x. CountsSteps (length s.counted) s.ledger.settings.max_steps x after r) (sym (ap (λ (l : Ledger). l.steps) st.ledger))
-    (subst (λ x. CountsSteps (length s.counted) x g.ledger.steps after r) (m ∙ o)
-    (subst (CountsSteps (length s.counted) max_steps g.ledger.steps after) e k))
+    subst (λ x. CountsSteps (length s.counted) s.ledger.settings.max_steps x s.ledger.steps after r) (sym (ap (λ (l : Ledger). l.since) st.ledger))
+    (subst (λ x. CountsSteps (length s.counted) s.ledger.settings.max_steps g.ledger.since x after r) (sym (ap (λ (l : Ledger). l.steps) st.ledger))
+    (subst (λ x. CountsSteps (length s.counted) x g.ledger.since g.ledger.steps after r) (m ∙ o)
+    (subst (CountsSteps (length s.counted) max_steps g.ledger.since g.ledger.steps after) e k)))
 
 -- the search can go on from where it was interrupted
 pub interrupted : (g : Summary) (s : State) (t : View) (y z : AssumptionParts) → StandsFor g s → g.ledger.valid ≡ true → StepsMade g t y z verdict.Unknown → SpacesFit (spaces (after_steps g t z verdict.Unknown)) (with_verdict Unknown s)
@@ -351,6 +356,11 @@ core-to-tell g s st v e =
     let (named, same) = subst (CoreFits s.naming.names g.assumed.user_core) q k.core in
     (named, ap core_of q ∙ ap Some same)
 
+pub unsat-known : (g : Summary) (s : State) → StandsFor g s → g.ledger.valid ≡ true → g.sat_state ≡ verdict.Unsat → s.verdict ≡ Unsat
+unsat-known g s st v e =
+    let (w, k) = st.fits v in
+    is-unsat w.identity (spaces g).model s.verdict (subst (λ y. VerdictFits w.identity (spaces g).model y s.verdict) (ap (outcome_of g.search g.assumed.failed_core) e) k.verdict)
+
 pub unsat-to-tell : (g : Summary) (s : State) → StandsFor g s → g.ledger.valid ≡ true → g.sat_state ≡ verdict.Unsat → IsCoreToTell s (Some [])
 unsat-to-tell g s st v e =
     let (w, k) = st.fits v in
@@ -379,7 +389,7 @@ known-told g s b st v e =
       steps = λ u. absurd (let z : None ≡ Some b = ap answer_of (sym u) ∙ a in cc);
       answer = a;
       right = (st.fits v).1.right;
-      rest = like-refl s;
+      rest = record { naming = refl; ever_hidden = refl; clauses = refl; assumptions = refl; counted = refl; verdict = refl; ledger = ledger-is s.ledger s.ledger.valid s.ledger.started s.ledger.steps (s.ledger.since + (s.ledger.steps - s.ledger.steps)) s.ledger.settings refl refl refl (none-more s.ledger.since s.ledger.steps) refl };
     }
 
 pub false-right : (g : Summary) (s : State) → StandsFor g s → g.ledger.valid ≡ true → answer_at g.sat_state ≡ Some false → IsSatisfiableWith s.clauses s.assumptions → ⊥
@@ -405,8 +415,8 @@ answered-false x (inl e) = ap answer_at e
 answered-false x (inr e) = ap answer_at e
 
 -- what a search that came to a verdict did
-pub finds-made : {A : Type 0} (t : Tables) (started : Bool) (x y : Context A) (answer : Option Bool) (f : FindsVerdict t x y answer) → IsKept t x → x.solver_state.sat_state ≡ verdict.Unknown → StepsMade (summary_of t started x) (view y) f.parts y.assumptions y.solver_state.sat_state
-finds-made t started x y answer f k unknown = record {
+pub finds-made : {A : Type 0} (t : Tables) (started : Bool) (changed_at : ℕ) (x y : Context A) (answer : Option Bool) (f : FindsVerdict t x y answer) → IsKept t x → x.solver_state.sat_state ≡ verdict.Unknown → StepsMade (summary_of t started changed_at x) (view y) f.parts y.assumptions y.solver_state.sat_state
+finds-made t started changed_at x y answer f k unknown = record {
   unknown = unknown;
   working = λ l h. assumed-named t (variable_of l) (k.working l h);
   same_count = f.count;
@@ -454,12 +464,12 @@ settled-stands m are x y kept goes same s (w, k) =
     (subst (λ (b : Verdict). SpacesFit (spaces_of m (view y) x.assumptions verdict.Unknown) (with_verdict b s)) (sym unknown) fits)
 
 -- Variables left the search, and nothing of what is told changed.
-pub dropped-stands : {A : Type 0} (m n : Tables) (started : Bool) (x y : Context A) (s : State) → y.solver_state ≡ x.solver_state → KeepsSchedule x y → x.solver_state.sat_state ≡ verdict.Unknown → ((s : State) → SpacesFit (spaces_of m (view x) x.assumptions verdict.Unknown) s → SpacesFit (spaces_of n (view y) y.assumptions verdict.Unknown) s) → StandsFor (summary_of m started x) s → StandsFor (summary_of n started y) s
-dropped-stands m n started x y s e k u f st = record {
+pub dropped-stands : {A : Type 0} (m n : Tables) (started : Bool) (changed_at : ℕ) (x y : Context A) (s : State) → y.solver_state ≡ x.solver_state → KeepsSchedule x y → x.solver_state.sat_state ≡ verdict.Unknown → ((s : State) → SpacesFit (spaces_of m (view x) x.assumptions verdict.Unknown) s → SpacesFit (spaces_of n (view y) y.assumptions verdict.Unknown) s) → StandsFor (summary_of m started changed_at x) s → StandsFor (summary_of n started changed_at y) s
+dropped-stands m n started changed_at x y s e k u f st = record {
   ledger = st.ledger ∙ (
-      ap (λ (b : SolverState). ledger_of (not b.state_is_invalid) started x.schedule.steps x.solver_config) (sym e)
-      ∙ ap (λ (p : Plan). ledger_of (not y.solver_state.state_is_invalid) started p.steps x.solver_config) (sym k.schedule)
-      ∙ ap (λ (c : Settings). ledger_of (not y.solver_state.state_is_invalid) started y.schedule.steps c) (sym k.solver_config));
+      ap (λ (b : SolverState). ledger_of (not b.state_is_invalid) started x.schedule.steps (x.schedule.steps - changed_at) x.solver_config) (sym e)
+      ∙ ap (λ (p : Plan). ledger_of (not y.solver_state.state_is_invalid) started p.steps (p.steps - changed_at) x.solver_config) (sym k.schedule)
+      ∙ ap (λ (c : Settings). ledger_of (not y.solver_state.state_is_invalid) started y.schedule.steps (y.schedule.steps - changed_at) c) (sym k.solver_config));
   fits = λ v.
       let before = st.fits (ap (λ (b : SolverState). not b.state_is_invalid) (sym e) ∙ v) in
       subst (λ b. SpacesFit (spaces_of n (view y) y.assumptions b) s) (sym (ap (λ (b : SolverState). b.sat_state) e ∙ u))

@@ -17,10 +17,11 @@ pub record Gave (old new : Stand) : Type 0 where
 abbrev pub IsBeginning : List Clause → List Clause → Type 0
 IsBeginning P clauses = (rest : List Clause) × (clauses ≡ P ++ rest)
 
--- How clauses are added to something: whether that is valid, what is left of it once memory ran out, and how one clause is added, with which answer.
+-- How clauses are added to something: whether that is valid, what is left of it once memory ran out, what it is once steps are counted anew, and how one clause is added, with which answer.
 pub record Adding (X : Type 0) : Type 1 where
   pub valid : X → Bool
   pub invalidates : X → X → Type 0
+  pub count_anew : X → X
   pub adds : X → Clause → Result (Unit {0}) SolverError → X → Type 0
 
 module _ {X : Type 0} (by : Adding X) where
@@ -33,14 +34,15 @@ module _ {X : Type 0} (by : Adding X) where
   abbrev pub IsRefusedInvalid : X → X → Type 0
   IsRefusedInvalid s t = (by.valid s ≡ false) × (t ≡ s)
 
-  -- a list of clauses is added
+  -- a list of clauses is added; also where it is empty steps are counted anew then
   pub data AddsList (s : X) (P : List Clause) (r : Result (Unit {0}) SolverError) (t : X) : Type 0 where
-    InTurn : by.valid s ≡ true → AddsAll s P r t → AddsList s P r t
+    AllAdded : by.valid s ≡ true → (mid : X) → AddsAll s P (Ok tt) mid → r ≡ Ok tt → t ≡ by.count_anew mid → AddsList s P r t
+    OneRefused : by.valid s ≡ true → (e : SolverError) → r ≡ Err e → AddsAll s P (Err e) t → AddsList s P r t
     RefusedAtOnce : r ≡ Err error.Invalid → IsRefusedInvalid s t → AddsList s P r t
 
-  -- How a text's fault is told, if there is one. Memory that ran out in the reader is told as in any call, and any other fault changes nothing.
+  -- How a text's fault is told, if there is one; else steps are counted anew. Memory that ran out in the reader is told as in any call, and any other fault changes nothing.
   pub data TellsFault (fault : Option DimacsError) (s : X) (r : Result (Unit {0}) SolverError) (t : X) : Type 0 where
-    NoFault : fault ≡ None → r ≡ Ok tt → t ≡ s → TellsFault fault s r t
+    NoFault : fault ≡ None → r ≡ Ok tt → t ≡ by.count_anew s → TellsFault fault s r t
     MemoryFault : (e : DimacsError) → fault ≡ Some e → e.kind ≡ kind.OutOfMemory → r ≡ Err error.OutOfMemory → by.invalidates s t → TellsFault fault s r t
     Fault : (e : DimacsError) → fault ≡ Some e → e.kind ≢ kind.OutOfMemory → r ≡ Err (error.Dimacs e) → t ≡ s → TellsFault fault s r t
 

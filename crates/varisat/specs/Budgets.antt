@@ -11,12 +11,13 @@ told_verdict (Ok (Some b)) = Ok b
 told_verdict (Ok None) = Err Interrupted
 told_verdict (Err e) = Err (store_refusal e)
 
--- How the call counts its steps that begins with the verdict Unknown, where n variables are counted and it may make `max_steps` of them.
-pub record CountsSteps (n max_steps before after : ℕ) (answer : Result Bool SolverError) : Type 0 where
+-- How the call counts its steps that begins with the verdict Unknown, where n variables are counted and it may make `max_steps` of them. Since the last change `since` were made before it.
+pub record CountsSteps (n max_steps since before after : ℕ) (answer : Result Bool SolverError) : Type 0 where
   pub made : ℕ
   pub count : after ≡ before + made
   pub budget : made ≤ max_steps
-  pub bounded : made < 2 ^ (2 * n + 3)
+  -- all calls since then make few steps together
+  pub bounded : since + made < 2 ^ (2 * n + 3)
   -- a verdict takes a step at least
   pub found : (b : Bool) → answer ≡ Ok b → 0 < made
   -- the call is interrupted only where the steps are spent: it made all that it may, or no more can be counted

@@ -1,7 +1,7 @@
 -- Which answer and which new state each call may give: one relation a call, with a case for each answer. A case that is ⊥ is an answer that the call never gives.
 --
 -- Refusals are looked for in this order: Invalid; then `add_clause` returns Ok under the verdict Unsat; VariableLimit; WitnessVar; ConfigOutOfRange; OutOfMemory or ClauseStoreFull; Interrupted.
-use Rattle.std.specs.Prelude.{◌≡◌, ◌≢◌, ℕ, ◌<◌, ◌≤◌, Bool, true, false, Option, Some, None, List, [], ◌∷◌, ◌++◌, ◌⊎◌, Result, Ok, Err, map, length}
+use Rattle.std.specs.Prelude.{◌≡◌, ◌≢◌, ℕ, ◌+◌, ◌-◌, ◌*◌, ◌^◌, ◌<◌, ◌≤◌, Bool, true, false, Option, Some, None, List, [], ◌∷◌, ◌++◌, ◌⊎◌, Result, Ok, Err, map, length}
 use Rattle.std.specs.declared.alloc.AllocError.{AllocError}
 use Rattle.varisat_theory.specs.Membership.{◌∈◌}
 use Rattle.varisat_theory.specs.Literals.{Literal, Clause, variable_of, opposite, IsUnit, IsSatisfiable}
@@ -46,9 +46,13 @@ pub record Invalidates (s t : State) : Type 0 where
 abbrev pub IsRefusedInvalid : State → State → Type 0
 IsRefusedInvalid s t = (is_valid s ≡ false) × (t ≡ s)
 
--- a clause, a variable or a list of assumptions was accepted
+-- a clause, a variable or a list of assumptions was accepted: steps are counted anew
 abbrev pub start : State → State
-start s = record s { ledger = record s.ledger { started = true } }
+start s = record s { ledger = record s.ledger { started = true; since = 0 } }
+
+-- steps are counted anew, as after each change
+abbrev pub count_anew : State → State
+count_anew s = record s { ledger = record s.ledger { since = 0 } }
 
 -- some literal's name is past the limit
 abbrev pub IsPastLimit : List Literal → Type 0
@@ -95,9 +99,9 @@ Accepts s d t =
     let named : Naming = name_all d s.naming in
     (w : Verdict) × VerdictAfter s.clauses (map (through_names named) d) s.verdict w × IsLike (start (append_clause (map (through_names named) d) w (with_naming named s))) t
 
--- a clause is accepted: under Unsat nothing changes
+-- a clause is accepted: under Unsat nothing changes, but that steps are counted anew
 pub data TakesClause (s : State) (d : Clause) (t : State) : Type 0 where
-  Ignored : s.verdict ≡ Unsat → t ≡ s → TakesClause s d t
+  Ignored : s.verdict ≡ Unsat → t ≡ count_anew s → TakesClause s d t
   Accepted : s.verdict ≢ Unsat → MayConstrain s.naming d → Accepts s d t → TakesClause s d t
 
 abbrev pub AddsClause : State → Clause → Result (Unit {0}) SolverError → State → Type 0
@@ -112,7 +116,7 @@ AddsClause s d (Err _) t = ⊥
 -- The calls `add_formula` and `add_dimacs_cnf`.
 
 abbrev pub adding : additions.Adding State
-adding = record { valid = is_valid; invalidates = Invalidates; adds = AddsClause }
+adding = record { valid = is_valid; invalidates = Invalidates; count_anew = count_anew; adds = AddsClause }
 
 -- the clauses in turn, up to the first refusal; those before it stay
 abbrev pub AddsAll : State → List Clause → Result (Unit {0}) SolverError → State → Type 0
@@ -183,13 +187,13 @@ answer_of (UnsatUnderAssumptions core) = Some false
 abbrev pub with_verdict : Verdict → State → State
 with_verdict v s = record s { verdict = v }
 
--- the same state after so many steps in all
+-- the same state after so many steps in all: the new ones were made since the last change, too
 abbrev pub with_steps : ℕ → State → State
-with_steps n s = record s { ledger = record s.ledger { steps = n } }
+with_steps n s = record s { ledger = record s.ledger { steps = n; since = s.ledger.since + (n - s.ledger.steps) } }
 
 -- how the steps are counted that a call makes under the verdict Unknown, by its answer
 abbrev pub CountsCall : State → Result Bool SolverError → State → Type 0
-CountsCall s r t = CountsSteps (length s.counted) s.ledger.settings.max_steps s.ledger.steps t.ledger.steps r
+CountsCall s r t = CountsSteps (length s.counted) s.ledger.settings.max_steps s.ledger.since s.ledger.steps t.ledger.steps r
 
 -- A verdict is returned, and is right. One that was known stays, and no step is made.
 pub record TellsVerdict (s : State) (b : Bool) (t : State) : Type 0 where
@@ -231,9 +235,9 @@ TellsCore s (Err _) t = IsValid s × (answer_of s.verdict ≡ Some false) × (t 
 
 -- The call `config`.
 
--- the settings are replaced for which the update has values
+-- the settings are replaced for which the update has values, and steps are counted anew
 abbrev pub with_update : SolverConfigUpdate → State → State
-with_update u s = record s { ledger = record s.ledger { settings = updated_settings s.ledger.settings u } }
+with_update u s = record s { ledger = record s.ledger { since = 0; settings = updated_settings s.ledger.settings u } }
 
 abbrev pub Configures : State → SolverConfigUpdate → Result (Unit {0}) SolverError → State → Type 0
 Configures s u r t = updates.Configures is_valid with_update s u r t
@@ -243,6 +247,12 @@ Configures s u r t = updates.Configures is_valid with_update s u r t
 abbrev pub TellsSteps : State → ℕ → State → Type 0
 TellsSteps s n t = (n ≡ s.ledger.steps) × (t ≡ s)
 
+-- The call `steps_since_change`.
+
+-- in a valid state the steps are few, over however many calls of `solve` they were made
+abbrev pub TellsSince : State → ℕ → State → Type 0
+TellsSince s n t = (n ≡ s.ledger.since) × (IsValid s → n < 2 ^ (2 * length s.counted + 3)) × (t ≡ s)
+
 -- The call `is_valid`.
 
 abbrev pub TellsValid : State → Bool → State → Type 0
@@ -251,4 +261,4 @@ TellsValid s b t = (b ≡ is_valid s) × (t ≡ s)
 -- The call `close_proof`: no proof can be open yet.
 
 abbrev pub ClosesProof : {W : Type 0} → State → Result (Option W) (SolverError × W) → State → Type 0
-ClosesProof s r t = (r ≡ Ok None) × (t ≡ s)
+ClosesProof s r t = (r ≡ Ok None) × (t ≡ count_anew s)

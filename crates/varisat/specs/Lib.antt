@@ -3,6 +3,7 @@ pub mod States
 pub mod Models
 pub mod Refusals
 pub mod Budgets
+pub mod SinceChange
 pub mod Updates
 pub mod Additions
 pub mod Calls

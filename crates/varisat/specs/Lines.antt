@@ -29,6 +29,7 @@ pub data Command : Type 0 where
   Core : Command
   Config : ConfigField → ℕ → Command
   Steps : Command
+  Since : Command
   Close : Command
 
 -- the words of a command, in order
@@ -45,6 +46,7 @@ words Model = codes "model" ∷ []
 words Core = codes "core" ∷ []
 words (Config field value) = codes "config" ∷ field_text field ∷ decimal value ∷ []
 words Steps = codes "steps" ∷ []
+words Since = codes "since" ∷ []
 words Close = codes "close" ∷ []
 
 -- its words, with one space between each two
@@ -65,6 +67,7 @@ HasNumbersInRange Model = Unit {0}
 HasNumbersInRange Core = Unit {0}
 HasNumbersInRange (Config field value) = value < 2 ^ 64
 HasNumbersInRange Steps = Unit {0}
+HasNumbersInRange Since = Unit {0}
 HasNumbersInRange Close = Unit {0}
 
 -- the text means the command
@@ -90,6 +93,7 @@ AsksFor call.Model Model = Unit {0}
 AsksFor call.FailedCore Core = Unit {0}
 AsksFor (call.Config update) (Config field value) = update ≡ update_of field value
 AsksFor call.Steps Steps = Unit {0}
+AsksFor call.StepsSinceChange Since = Unit {0}
 AsksFor call.CloseProof Close = Unit {0}
 AsksFor _ _ = ⊥
 
@@ -152,6 +156,7 @@ answer_text (answer.Model list) = list_text (told_list list)
 answer_text (answer.FailedCore list) = list_text (told_list list)
 answer_text (answer.Config done) = done_text done
 answer_text (answer.Steps steps) = codes "ok " ++ decimal steps
+answer_text (answer.StepsSinceChange steps) = codes "ok " ++ decimal steps
 answer_text (answer.IsValid b) = truth_text b
 answer_text (answer.CloseProof (Ok None)) = codes "ok none"
 answer_text (answer.CloseProof (Ok (Some target))) = codes "ok"

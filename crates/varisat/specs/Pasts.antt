@@ -1,5 +1,5 @@
 -- What the calls of a new solver and their answers say so far, and how a call moves it: no state of the solver is spoken of.
-use Rattle.std.specs.Prelude.{◌≡◌, ℕ, ◌<◌, ◌≤◌, Bool, true, false, Option, Some, None, List, [], ◌∷◌, ◌++◌, Result, Ok, Err, map, length, ◌⊎◌}
+use Rattle.std.specs.Prelude.{◌≡◌, ℕ, ◌+◌, ◌-◌, ◌*◌, ◌^◌, ◌<◌, ◌≤◌, Bool, true, false, Option, Some, None, List, [], ◌∷◌, ◌++◌, Result, Ok, Err, map, length, ◌⊎◌}
 use Rattle.std.specs.declared.alloc.AllocError.{AllocError}
 use Rattle.varisat_theory.specs.Literals.{Literal, Clause, variable_of, IsSatisfiable, IsSatisfiableWith, IsFailedCore}
 use Rattle.varisat_formula.specs.Streams.{Stand}
@@ -18,7 +18,7 @@ use Rattle.varisat_literals.specs.Numbers.{variable_limit}
 
 -- Clauses and assumptions are kept over identities, as the names that were in use carried them when they were given: a name that becomes free may come back for another variable, and what was said before still speaks of the first.
 --
--- `valid`: no call that changes the solver ran out of memory. `naming`: which identity each name has. `clauses` were accepted, and `assumptions` given last. `counted`: the different identities that these clauses and all lists of assumptions so far name. `has_model`: `solve` returned true, and no clause was accepted and nothing assumed since. `has_core`: it returned false, and nothing was assumed since. `steps`: how many steps were made in all. `settings`: those by which further steps are made.
+-- `valid`: no call that changes the solver ran out of memory. `naming`: which identity each name has. `clauses` were accepted, and `assumptions` given last. `counted`: the different identities that these clauses and all lists of assumptions so far name. `has_model`: `solve` returned true, and no clause was accepted and nothing assumed since. `has_core`: it returned false, and nothing was assumed since. `steps`: how many steps were made in all. `since`: how many of them since the last call that was not refused and did more than to solve or to tell something. `settings`: those by which further steps are made.
 pub record Past : Type 0 where
   pub valid : Bool
   pub naming : Naming
@@ -28,11 +28,12 @@ pub record Past : Type 0 where
   pub has_model : Bool
   pub has_core : Bool
   pub steps : ℕ
+  pub since : ℕ
   pub settings : Settings
 
 -- before the first call
 abbrev pub empty_past : Past
-empty_past = record { valid = true; naming = no_names; clauses = []; assumptions = []; counted = []; has_model = false; has_core = false; steps = 0; settings = default_settings }
+empty_past = record { valid = true; naming = no_names; clauses = []; assumptions = []; counted = []; has_model = false; has_core = false; steps = 0; since = 0; settings = default_settings }
 
 abbrev pub is_valid : Past → Bool
 is_valid p = p.valid
@@ -41,17 +42,21 @@ is_valid p = p.valid
 abbrev pub Invalidates : Past → Past → Type 0
 Invalidates p q = (p.valid ≡ true) × (q ≡ record p { valid = false })
 
+-- steps are counted anew
+abbrev pub count_anew : Past → Past
+count_anew p = record p { since = 0 }
+
 -- The names of the clause come into use, and it is accepted as they carry it to identities.
 abbrev pub accept : Clause → Past → Past
 accept c p =
     let named : Naming = name_all c p.naming in
     let carried : Clause = map (through_names named) c in
-    record p { naming = named; clauses = p.clauses ++ carried ∷ []; counted = join_counted p.counted (map variable_of carried); has_model = false }
+    record p { naming = named; clauses = p.clauses ++ carried ∷ []; counted = join_counted p.counted (map variable_of carried); has_model = false; since = 0 }
 
--- A clause is taken: it is accepted; or nothing changes, which happens only once no assignment satisfies those before it.
+-- A clause is taken: it is accepted; or nothing changes, but that steps are counted anew; this happens only once no assignment satisfies those before it.
 pub data TakesClause (p : Past) (c : Clause) (q : Past) : Type 0 where
   Accepted : MayConstrain p.naming c → q ≡ accept c p → TakesClause p c q
-  Ignored : (IsSatisfiable p.clauses → ⊥) → q ≡ p → TakesClause p c q
+  Ignored : (IsSatisfiable p.clauses → ⊥) → q ≡ count_anew p → TakesClause p c q
 
 abbrev pub AddsClause : Past → Clause → Result (Unit {0}) SolverError → Past → Type 0
 AddsClause p c (Ok _) q = (p.valid ≡ true) × TakesClause p c q
@@ -63,7 +68,7 @@ AddsClause p c (Err ClauseStoreFull) q = Invalidates p q
 AddsClause p c (Err _) q = ⊥
 
 abbrev pub adding : additions.Adding Past
-adding = record { valid = is_valid; invalidates = Invalidates; adds = AddsClause }
+adding = record { valid = is_valid; invalidates = Invalidates; count_anew = count_anew; adds = AddsClause }
 
 -- the clauses in turn, up to the first refusal; those before it were accepted
 abbrev pub AddsFormula : Past → List Clause → Result (Unit {0}) SolverError → Past → Type 0
@@ -75,7 +80,7 @@ AddsDimacs p old r new q = additions.AddsText adding p old r new q
 
 -- the least free name comes into use
 abbrev pub MakesVar : Past → Result ℕ SolverError → Past → Type 0
-MakesVar p (Ok u) q = (p.valid ≡ true) × IsLeastFree p.naming u × (u < variable_limit) × (q ≡ record p { naming = name_one u p.naming })
+MakesVar p (Ok u) q = (p.valid ≡ true) × IsLeastFree p.naming u × (u < variable_limit) × (q ≡ record p { naming = name_one u p.naming; since = 0 })
 MakesVar p (Err Invalid) q = (p.valid ≡ false) × (q ≡ p)
 MakesVar p (Err VariableLimit) q = (p.valid ≡ true) × ((u : ℕ) × IsLeastFree p.naming u × ((variable_limit ≤ u) ⊎ IsCrowded (name_one u p.naming))) × (q ≡ p)
 MakesVar p (Err OutOfMemory) q = Invalidates p q
@@ -83,14 +88,14 @@ MakesVar p (Err _) q = ⊥
 
 -- how calls move names and modes: a past doesn't tell whether a name was ever hidden
 abbrev pub named : usage.Named Past
-named = record { valid = is_valid; naming = λ p. p.naming; clauses = λ p. p.clauses; assumptions = λ p. p.assumptions; with_naming = λ m p. record p { naming = m }; once_hidden = λ p. p; like = λ p q. q ≡ p; invalidates = Invalidates }
+named = record { valid = is_valid; naming = λ p. p.naming; clauses = λ p. p.clauses; assumptions = λ p. p.assumptions; with_naming = λ m p. record p { naming = m; since = 0 }; once_hidden = λ p. p; like = λ p q. q ≡ p; invalidates = Invalidates }
 
 -- The names of the list come into use, and it is assumed as they carry it to identities, in place of the one before.
 abbrev pub assume : List Literal → Past → Past
 assume list p =
     let named : Naming = name_all list p.naming in
     let carried : List Literal = map (through_names named) list in
-    record p { naming = named; assumptions = carried; counted = join_counted p.counted (map variable_of carried); has_model = false; has_core = false }
+    record p { naming = named; assumptions = carried; counted = join_counted p.counted (map variable_of carried); has_model = false; has_core = false; since = 0 }
 
 abbrev pub Assumes : Past → List Literal → Result (Unit {0}) SolverError → Past → Type 0
 Assumes p list (Ok _) q = (p.valid ≡ true) × MayConstrain p.naming list × (q ≡ assume list p)
@@ -102,7 +107,11 @@ Assumes p list (Err _) q = ⊥
 
 -- how the steps are counted that a call makes before the verdict is known, by its answer
 abbrev pub CountsCall : Past → Result Bool SolverError → Past → Type 0
-CountsCall p r q = CountsSteps (length p.counted) p.settings.max_steps p.steps q.steps r
+CountsCall p r q = CountsSteps (length p.counted) p.settings.max_steps p.since p.steps q.steps r
+
+-- the same after so many steps in all
+abbrev pub with_steps : ℕ → Past → Past
+with_steps n p = record p { steps = n; since = p.since + (n - p.steps) }
 
 -- where the verdict is known no step is made; and it is known where a model or a core was found last
 abbrev pub MakesFewSteps : Past → Bool → Past → Type 0
@@ -110,12 +119,12 @@ MakesFewSteps p b q = (q.steps ≡ p.steps) ⊎ ((p.has_model ≡ false) × (p.h
 
 -- True is returned only if some assignment satisfies the clauses and the assumptions, false only if none does. A call is interrupted only where its steps are spent, and neither a model nor a core was found last.
 abbrev pub Solves : Past → Result Bool SolverError → Past → Type 0
-Solves p (Ok true) q = (p.valid ≡ true) × IsSatisfiableWith p.clauses p.assumptions × MakesFewSteps p true q × (q ≡ record p { has_model = true; has_core = false; steps = q.steps })
-Solves p (Ok false) q = (p.valid ≡ true) × (IsSatisfiableWith p.clauses p.assumptions → ⊥) × MakesFewSteps p false q × (q ≡ record p { has_model = false; has_core = true; steps = q.steps })
+Solves p (Ok true) q = (p.valid ≡ true) × IsSatisfiableWith p.clauses p.assumptions × MakesFewSteps p true q × (q ≡ record (with_steps q.steps p) { has_model = true; has_core = false })
+Solves p (Ok false) q = (p.valid ≡ true) × (IsSatisfiableWith p.clauses p.assumptions → ⊥) × MakesFewSteps p false q × (q ≡ record (with_steps q.steps p) { has_model = false; has_core = true })
 Solves p (Err Invalid) q = (p.valid ≡ false) × (q ≡ p)
-Solves p (Err OutOfMemory) q = CountsCall p (Err OutOfMemory) q × Invalidates (record p { steps = q.steps }) q
-Solves p (Err ClauseStoreFull) q = CountsCall p (Err ClauseStoreFull) q × Invalidates (record p { steps = q.steps }) q
-Solves p (Err Interrupted) q = (p.valid ≡ true) × (p.has_model ≡ false) × (p.has_core ≡ false) × CountsCall p (Err Interrupted) q × (q ≡ record p { steps = q.steps })
+Solves p (Err OutOfMemory) q = CountsCall p (Err OutOfMemory) q × Invalidates (with_steps q.steps p) q
+Solves p (Err ClauseStoreFull) q = CountsCall p (Err ClauseStoreFull) q × Invalidates (with_steps q.steps p) q
+Solves p (Err Interrupted) q = (p.valid ≡ true) × (p.has_model ≡ false) × (p.has_core ≡ false) × CountsCall p (Err Interrupted) q × (q ≡ with_steps q.steps p)
 Solves p (Err _) q = ⊥
 
 -- A model is told where one was found last, and nothing in an invalid solver: exactly the names in use, such that some assignment agrees with it through the names and satisfies the clauses and the assumptions.
@@ -130,6 +139,10 @@ TellsCore p (Ok (Some core)) q = (p.valid ≡ true) × (p.has_model ≡ false) �
 TellsCore p (Ok None) q = (p.valid ≡ true → p.has_core ≡ false) × (q ≡ p)
 TellsCore p (Err _) q = (p.valid ≡ true) × (p.has_model ≡ false) × (q ≡ p)
 
--- the settings are replaced for which the update has values
+-- the settings are replaced for which the update has values, and steps are counted anew
 abbrev pub with_update : SolverConfigUpdate → Past → Past
-with_update u p = record p { settings = updated_settings p.settings u }
+with_update u p = record p { since = 0; settings = updated_settings p.settings u }
+
+-- as long as the past is valid, calls of `solve` make few steps together that no change came between
+abbrev pub TellsSince : Past → ℕ → Past → Type 0
+TellsSince p n q = (n ≡ p.since) × (p.valid ≡ true → n < 2 ^ (2 * length p.counted + 3)) × (q ≡ p)

@@ -2,7 +2,7 @@
 use Rattle.std.specs.Prelude.{◌-◌, ◌^◌, ◌<◌, List, [], ◌∷◌}
 use Rattle.varisat_formula.specs.Streams.{Stand}
 use Rattle.varisat.specs.States.{State}
-use Rattle.varisat.specs.Calls.{adding, MakesVar, Assumes, Solves, TellsModel, TellsCore, with_update}
+use Rattle.varisat.specs.Calls.{adding, MakesVar, Assumes, Solves, TellsModel, TellsCore, TellsSince, with_update}
 use Rattle.varisat.specs.VariableCalls.{named}
 use Rattle.varisat.specs.Turns.{CallRules, Makes, MakesInTurn}
 use Rattle.varisat.specs.declared.session.Call.{Call}
@@ -11,7 +11,7 @@ use Rattle.varisat.specs.declared.session.Call.TheVariants as call
 
 -- the calls of a solver
 abbrev pub calling : CallRules State
-calling = record { adding = adding; named = named; makes_var = MakesVar; assumes = Assumes; solves = Solves; tells_model = TellsModel; tells_core = TellsCore; updated = with_update; steps = λ s. s.ledger.steps }
+calling = record { adding = adding; named = named; makes_var = MakesVar; assumes = Assumes; solves = Solves; tells_model = TellsModel; tells_core = TellsCore; updated = with_update; steps = λ s. s.ledger.steps; tells_since = TellsSince }
 
 abbrev pub MakesCall : {W S A : Type 0} → (S → Stand) → State → Call S A → Answer W S A → State → Type 0
 MakesCall seen s c a t = Makes calling seen s c a t

@@ -12,11 +12,12 @@ pub data Verdict : Type 0 where
   Unsat : Verdict
   UnsatUnderAssumptions : List Literal → Verdict
 
--- What is told of an invalid solver too. `valid`: no error came from which there is no way back. `started`: a clause, a variable or a list of assumptions was accepted. `steps`: how many steps were made in all. `settings`: those by which further steps are made.
+-- What is told of an invalid solver too. `valid`: no error came from which there is no way back. `started`: a clause, a variable or a list of assumptions was accepted. `steps`: how many steps were made in all. `since`: how many of them since the last change, which is the last call that was not refused and did more than to solve or to tell something. `settings`: those by which further steps are made.
 pub record Ledger : Type 0 where
   pub valid : Bool
   pub started : Bool
   pub steps : ℕ
+  pub since : ℕ
   pub settings : Settings
 
 -- `naming`: which identity each name has. `ever_hidden`: whether a name was ever freed while its variable lived on. `clauses`: those accepted, over identities. `assumptions`: the list as given, over identities. `counted`: the identities that accepted clauses and assumption lists have named so far, each once.
@@ -52,7 +53,7 @@ empty_state = record {
   assumptions = [];
   counted = [];
   verdict = Unknown;
-  ledger = record { valid = true; started = false; steps = 0; settings = default_settings };
+  ledger = record { valid = true; started = false; steps = 0; since = 0; settings = default_settings };
 }
 
 -- What is true of each state: names stand for different identities, none is in use from the watermark on, identities that are spoken of were made, and none is counted twice.

@@ -18,6 +18,7 @@ use Rattle.varisat.specs.Accepting.{AreBounded, DecidesInUse, IsAssumedSolver}
 use Rattle.varisat.specs.Models.{put_name}
 use Rattle.varisat.specs.Carried.{value_or}
 use Rattle.varisat.specs.Spaces.{Spaces, SpacesFit}
+use Rattle.varisat.specs.SinceChange.{CountsSince}
 
 -- The maps between names, global variables and solver variables with what is kept of the global variables; the search with its assumptions and its verdict; the flags.
 pub record Summary : Type 0 where
@@ -66,6 +67,11 @@ pub record IsKept {A : Type 0} (tables : Tables) (search : Context A) : Type 0 w
   pub assumed : (l : Literal) → l ∈ search.assumptions.user → IsSome (at tables.users.forward (variable_of l))
   pub marked : (l : Literal) (x : ℕ) → l ∈ search.assumptions.user → at tables.users.forward (variable_of l) ≡ Some x → (kept_at tables.kept x).assumed ≡ true
   pub working : (l : Literal) → l ∈ search.assumptions.working → IsAssumedSolver tables (variable_of l)
+
+-- What it keeps with its count of the steps since its last change, before which `changed_at` were made.
+pub record IsKeptSince {A : Type 0} (tables : Tables) (search : Context A) (changed_at : ℕ) : Type 0 where
+  pub kept : IsKept tables search
+  pub counts : CountsSince changed_at search
 
 -- The solver stands for the state: both have the same flags, and where they are valid, what the solver holds stands for it.
 pub record StandsFor (g : Summary) (s : State) : Type 0 where

@@ -15,7 +15,7 @@ use Rattle.varisat.specs.declared.session.Answer.{Answer}
 use Rattle.varisat.specs.declared.session.Call.TheVariants as call
 use Rattle.varisat.specs.declared.session.Answer.TheVariants as answer
 
--- How calls move something, and with which answers: how clauses are added to it, how its names are used, and each further call that can be refused; what an update of the settings makes of it, and how many steps were made.
+-- How calls move something, and with which answers: how clauses are added to it, how its names are used, and each further call that can be refused; what an update of the settings makes of it, how many steps were made, and what is told of those since the last change.
 pub record CallRules (X : Type 0) : Type 1 where
   pub adding : additions.Adding X
   pub named : usage.Named X
@@ -26,6 +26,7 @@ pub record CallRules (X : Type 0) : Type 1 where
   pub tells_core : X → Result (Option (List Literal)) AllocError → X → Type 0
   pub updated : SolverConfigUpdate → X → X
   pub steps : X → ℕ
+  pub tells_since : X → ℕ → X → Type 0
 
 module _ {X : Type 0} (by : CallRules X) where
   -- From s the call may get the answer and lead to t. `seen` tells how a source stands, as it was given and as it is given back.
@@ -44,8 +45,9 @@ module _ {X : Type 0} (by : CallRules X) where
   Makes seen s call.FailedCore (answer.FailedCore r) t = by.tells_core s (told_list r) t
   Makes seen s (call.Config u) (answer.Config r) t = Configures by.adding.valid by.updated s u r t
   Makes seen s call.Steps (answer.Steps n) t = (n ≡ by.steps s) × (t ≡ s)
+  Makes seen s call.StepsSinceChange (answer.StepsSinceChange n) t = by.tells_since s n t
   Makes seen s call.IsValid (answer.IsValid b) t = (b ≡ by.adding.valid s) × (t ≡ s)
-  Makes seen s call.CloseProof (answer.CloseProof r) t = (r ≡ Ok None) × (t ≡ s)
+  Makes seen s call.CloseProof (answer.CloseProof r) t = (r ≡ Ok None) × (t ≡ by.adding.count_anew s)
   Makes seen s _ _ t = ⊥
 
   -- the calls in turn get the answers in turn, one each, and lead to t

@@ -2,12 +2,13 @@
 use Rattle.std.specs.Prelude.{ℕ, true, List, Result}
 use Rattle.varisat.specs.States.{State}
 use Rattle.varisat.specs.Names.{Mode, Sample, Witness}
-use Rattle.varisat.specs.Calls.{is_valid, IsLike, Invalidates, with_naming}
+use Rattle.varisat.specs.Calls.{is_valid, IsLike, Invalidates, with_naming, count_anew}
 use Rattle.varisat.specs.Usage as usage
 use Rattle.varisat.specs.declared.solver.SolverError.{SolverError}
 
+-- other names come with steps that are counted anew
 abbrev pub named : usage.Named State
-named = record { valid = is_valid; naming = λ s. s.naming; clauses = λ s. s.clauses; assumptions = λ s. s.assumptions; with_naming = with_naming; once_hidden = λ s. record s { ever_hidden = true }; like = IsLike; invalidates = Invalidates }
+named = record { valid = is_valid; naming = λ s. s.naming; clauses = λ s. s.clauses; assumptions = λ s. s.assumptions; with_naming = λ m s. count_anew (with_naming m s); once_hidden = λ s. record s { ever_hidden = true }; like = IsLike; invalidates = Invalidates }
 
 abbrev pub IsAssumed : State → ℕ → Type 0
 IsAssumed s u = usage.IsAssumed named s u

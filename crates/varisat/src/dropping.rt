@@ -12,6 +12,7 @@ ghost use Rattle.varisat_search.specs.Contexts.{view, KeepsSchedule};
 ghost use Rattle.varisat_search.specs.SettledUnits.{IsSettledDown};
 ghost use Rattle.varisat.specs.States.{State};
 ghost use Rattle.varisat.specs.Spaces.{SpacesFit};
+ghost use Rattle.varisat.specs.SinceChange.{GoesOnSince};
 ghost use Rattle.varisat.specs.Summaries.{spaces_of, IsKept};
 ghost use Rattle.varisat.specs.Dropping.{leads_to_unassumed, unassumed_among, AreOverAssumed, FlagsVariables, AreDroppedAlone, leads_to_hidden, ListsUnneeded, AreReleased, LeavesNeeded, LeavesTables};
 
@@ -153,6 +154,7 @@ fn drop_listed<A: Allocator + Copy>(
     requires settled { IsSettledDown (view ctx.old) }
     ensures kept { OnOk result (IsKept variables.new ctx.new) }
     ensures schedule { KeepsSchedule ctx.old ctx.new }
+    ensures since { OnOk result (GoesOnSince ctx.old ctx.new) }
     ensures state { ctx.new.solver_state ≡ ctx.old.solver_state }
     ensures count { OnOk result (length ctx.new.assignment.current ≡ length ctx.old.assignment.current) }
     ensures settled { OnOk result (IsSettledDown (view ctx.new)) }
@@ -180,6 +182,7 @@ fn drop_unneeded<A: Allocator + Copy>(
     requires left { AreOverAssumed variables.old ctx.old.trail.literals }
     ensures kept { OnOk result (IsKept variables.new ctx.new) }
     ensures schedule { KeepsSchedule ctx.old ctx.new }
+    ensures since { OnOk result (GoesOnSince ctx.old ctx.new) }
     ensures state { ctx.new.solver_state ≡ ctx.old.solver_state }
     ensures count { OnOk result (length ctx.new.assignment.current ≡ length ctx.old.assignment.current) }
     ensures left { OnOk result (LeavesNeeded variables.new (view ctx.new)) }
@@ -208,6 +211,7 @@ pub fn drop_fixed<A: Allocator + Copy>(
     requires unknown { ctx.old.solver_state.sat_state ≡ SatState.Unknown }
     ensures kept { OnOk result (IsKept variables.new ctx.new) }
     ensures schedule { KeepsSchedule ctx.old ctx.new }
+    ensures since { OnOk result (GoesOnSince ctx.old ctx.new) }
     ensures state { ctx.new.solver_state ≡ ctx.old.solver_state }
     ensures count { OnOk result (length ctx.new.assignment.current ≡ length ctx.old.assignment.current) }
     ensures left { OnOk result (ctx.old.trail.decisions ≡ [] → ctx.old.trail.queue_head ≢ length ctx.old.trail.literals → ((conflict : Conflict) × IsConflicting (view ctx.new) conflict) ⊎ LeavesNeeded variables.new (view ctx.new)) }

@@ -97,6 +97,8 @@ fn parse_word<S: ByteSource, A: Allocator + Copy>(alloc: A, word: &[u8]) -> Opti
         Some(Call::CloseProof)
     } else if word == b"steps".as_slice() {
         Some(Call::Steps)
+    } else if word == b"since".as_slice() {
+        Some(Call::StepsSinceChange)
     } else if word == b"observe".as_slice() {
         Some(Call::ObserveInternalVars)
     } else {
@@ -221,7 +223,7 @@ pub fn write_answer<O: Write, W: ProofTarget, S: ByteSource, A: Allocator + Copy
             out.write_all(Buffer::new().format(var.to_dimacs()).as_bytes())
         }
         Answer::ObserveInternalVars(names) => write_names(out, names),
-        Answer::Steps(steps) => {
+        Answer::Steps(steps) | Answer::StepsSinceChange(steps) => {
             out.write_all(b"ok ")?;
             out.write_all(Buffer::new().format(*steps).as_bytes())
         }

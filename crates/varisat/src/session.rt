@@ -30,6 +30,7 @@ pub enum Call<S: ByteSource, A: Allocator + Copy> {
     FailedCore,
     Config(SolverConfigUpdate),
     Steps,
+    StepsSinceChange,
     IsValid,
     CloseProof,
 }
@@ -52,6 +53,7 @@ pub enum Answer<W: ProofTarget, S: ByteSource, A: Allocator + Copy> {
     FailedCore(Result<Option<Vec<Lit, A>>, AllocError>),
     Config(Result<(), SolverError>),
     Steps(u64),
+    StepsSinceChange(u64),
     IsValid(bool),
     CloseProof(Result<Option<W>, (SolverError, W)>),
 }
@@ -82,6 +84,7 @@ pub fn make_call<W: ProofTarget, S: ByteSource, A: Allocator + Copy>(
         Call::FailedCore => Answer::FailedCore(solver.copy_core()),
         Call::Config(update) => Answer::Config(solver.config(&update)),
         Call::Steps => Answer::Steps(solver.steps()),
+        Call::StepsSinceChange => Answer::StepsSinceChange(solver.steps_since_change()),
         Call::IsValid => Answer::IsValid(solver.is_valid()),
         Call::CloseProof => Answer::CloseProof(solver.close_proof()),
     }

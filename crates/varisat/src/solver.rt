@@ -133,21 +133,24 @@ pub struct Solver<W: ProofTarget, A: Allocator + Copy> {
     // Whether a clause, a variable or a list of assumptions was accepted. `write_proof`, which is to open a proof, will
     // be refused from then on; no other call reads it.
     started: bool,
+    // How many steps were made before the last change: a call that was not refused and did more than to solve or to
+    // tell something.
+    changed_at: u64,
     // Where an open proof goes: `write_proof` will set it, `add_clause` and `solve` will write to it, and `close_proof`
     // will give it back. No call reads it yet.
     target: Option<W>,
 }
 
 impl<W: ProofTarget, A: Allocator + Copy> Model for Solver<W, A> {
-    ghost use Rattle.std.specs.Prelude.{◌≡◌, not, false};
+    ghost use Rattle.std.specs.Prelude.{◌≡◌, ◌-◌, not, false};
     ghost use Rattle.varisat_search.specs.Contexts as contexts;
-    ghost use Rattle.varisat.specs.Summaries.{Summary, IsKept};
+    ghost use Rattle.varisat.specs.Summaries.{Summary, IsKeptSince};
 
     ghost Value = { Summary };
 
-    ghost view = { λ c. record { tables = c.variables; search = contexts.view c.ctx; assumed = c.ctx.assumptions; sat_state = c.ctx.solver_state.sat_state; ledger = record { valid = not c.ctx.solver_state.state_is_invalid; started = c.started; steps = c.ctx.schedule.steps; settings = c.ctx.solver_config } } };
+    ghost view = { λ c. record { tables = c.variables; search = contexts.view c.ctx; assumed = c.ctx.assumptions; sat_state = c.ctx.solver_state.sat_state; ledger = record { valid = not c.ctx.solver_state.state_is_invalid; started = c.started; steps = c.ctx.schedule.steps; since = c.ctx.schedule.steps - c.changed_at; settings = c.ctx.solver_config } } };
 
-    ghost invariant = { λ c. c.ctx.solver_state.state_is_invalid ≡ false → IsKept c.variables c.ctx };
+    ghost invariant = { λ c. c.ctx.solver_state.state_is_invalid ≡ false → IsKeptSince c.variables c.ctx c.changed_at };
 }
 
 impl<W: ProofTarget, A: Allocator + Copy> Solver<W, A> {
@@ -158,7 +161,7 @@ impl<W: ProofTarget, A: Allocator + Copy> Solver<W, A> {
     ghost use Rattle.varisat.specs.States.{State, empty_state};
     ghost use Rattle.varisat.specs.Models.{model_of, IsCompletable, core_of, AreNamesInUse};
     ghost use Rattle.varisat.specs.Names.{through_names};
-    ghost use Rattle.varisat.specs.Calls.{IsValid, AddsClause, AddsFormula, AddsDimacs, AddsReading, TellsFault, MakesVar, Assumes, Solves, TellsModel, TellsCore, Configures, TellsSteps, TellsValid, ClosesProof, answer_of};
+    ghost use Rattle.varisat.specs.Calls.{IsValid, count_anew, AddsClause, AddsAll, AddsFormula, AddsDimacs, AddsReading, TellsFault, MakesVar, Assumes, Solves, TellsModel, TellsCore, Configures, TellsSteps, TellsSince, TellsValid, ClosesProof, answer_of};
     ghost use Rattle.varisat.specs.Told.{told_list, lent_list};
     ghost use Rattle.varisat.specs.Summaries.{StandsFor};
 
@@ -172,6 +175,7 @@ impl<W: ProofTarget, A: Allocator + Copy> Solver<W, A> {
             variables: LinkedVariables::new_in(alloc),
             literals: Vec::new(alloc),
             started: false,
+            changed_at: 0,
             target: None,
         }
     }
@@ -188,6 +192,7 @@ impl<W: ProofTarget, A: Allocator + Copy> Solver<W, A> {
             Ok(()) => {}
             Err(error) => return Err(SolverError::ConfigOutOfRange { field: error.field }),
         }
+        self.changed_at = self.ctx.schedule.steps();
         Ok(())
     }
 
@@ -196,6 +201,22 @@ impl<W: ProofTarget, A: Allocator + Copy> Solver<W, A> {
         ensures { (s : State) → StandsFor self.now s → (t : State) × TellsSteps s result t × StandsFor self.now t }
     {
         self.ctx.schedule.steps()
+    }
+
+    /// How many steps calls of `solve` made together since the last change, which is the last other call that was not
+    /// refused and did more than to tell something, or accepted a clause before it was refused. They are fewer than
+    /// 2^(2n+3) where the clauses and all assumptions so far name n variables, however often a call was interrupted.
+    pub fn steps_since_change(&self) -> u64
+        ensures { (s : State) → StandsFor self.now s → (t : State) × TellsSince s result t × StandsFor self.now t }
+    {
+        self.ctx.schedule.steps().saturating_sub(self.changed_at)
+    }
+
+    /// Counts steps anew from here on.
+    fn begin_count(&mut self)
+        ensures { (s : State) → StandsFor self.old s → StandsFor self.new (count_anew s) }
+    {
+        self.changed_at = self.ctx.schedule.steps();
     }
 
     /// One above the highest variable that the search ever had. As `solve` begins with units that it has not propagated
@@ -225,6 +246,7 @@ impl<W: ProofTarget, A: Allocator + Copy> Solver<W, A> {
             return Err(SolverError::Invalid);
         }
         if let SatState::Unsat = self.ctx.solver_state.sat_state {
+            self.begin_count();
             return Ok(());
         }
         check_names(&self.variables, clause)?;
@@ -236,6 +258,7 @@ impl<W: ProofTarget, A: Allocator + Copy> Solver<W, A> {
         ) {
             Ok(()) => {
                 self.started = true;
+                self.changed_at = self.ctx.schedule.steps();
                 Ok(())
             }
             Err(error) => {
@@ -243,6 +266,20 @@ impl<W: ProofTarget, A: Allocator + Copy> Solver<W, A> {
                 Err(SolverError::from(error))
             }
         }
+    }
+
+    /// Accepts the clauses of a formula in turn, up to the first that is refused. Those before it stay. Refused as a
+    /// clause is.
+    fn add_clauses<B: Allocator + Copy>(
+        &mut self,
+        formula: &CnfFormula<B>,
+    ) -> Result<(), SolverError>
+        ensures { (s : State) → StandsFor self.old s → (t : State) × AddsAll s formula.now.clauses result t × StandsFor self.new t }
+    {
+        for clause in formula.iter() {
+            self.add_clause(clause)?;
+        }
+        Ok(())
     }
 
     /// Accepts the clauses of a formula in turn, up to the first that is refused. Those before it stay. Refused as a
@@ -256,9 +293,8 @@ impl<W: ProofTarget, A: Allocator + Copy> Solver<W, A> {
         if self.ctx.solver_state.state_is_invalid {
             return Err(SolverError::Invalid);
         }
-        for clause in formula.iter() {
-            self.add_clause(clause)?;
-        }
+        self.add_clauses(formula)?;
+        self.begin_count();
         Ok(())
     }
 
@@ -278,9 +314,12 @@ impl<W: ProofTarget, A: Allocator + Copy> Solver<W, A> {
         ensures { (s : State) → StandsFor self.old s → IsValid s → (p : Progress) × IsEnding parser.old p × (t : State) × AddsReading s p.reading result t × StandsFor self.new t }
     {
         let end = parser.finish();
-        self.add_formula(&parser.take_formula())?;
+        self.add_clauses(&parser.take_formula())?;
         match end {
-            Ok(()) => Ok(()),
+            Ok(()) => {
+                self.begin_count();
+                Ok(())
+            }
             Err(fault) => Err(self.refuse_text(fault)),
         }
     }
@@ -299,7 +338,7 @@ impl<W: ProofTarget, A: Allocator + Copy> Solver<W, A> {
         let mut buffer = [0; PIECE];
         'pieces: loop {
             let more = parser.next_piece(source, &mut buffer);
-            self.add_formula(&parser.take_formula())?;
+            self.add_clauses(&parser.take_formula())?;
             match more {
                 Ok(true) => {}
                 Ok(false) => break,
@@ -327,6 +366,7 @@ impl<W: ProofTarget, A: Allocator + Copy> Solver<W, A> {
         match new_user_var(&mut self.variables) {
             Ok(user) => {
                 self.started = true;
+                self.changed_at = self.ctx.schedule.steps();
                 Ok(user)
             }
             Err(_) => {
@@ -340,6 +380,7 @@ impl<W: ProofTarget, A: Allocator + Copy> Solver<W, A> {
     pub fn close_proof(&mut self) -> Result<Option<W>, (SolverError, W)>
         ensures { (s : State) → StandsFor self.old s → (t : State) × ClosesProof s result t × StandsFor self.new t }
     {
+        self.begin_count();
         Ok(None)
     }
 
@@ -355,6 +396,7 @@ impl<W: ProofTarget, A: Allocator + Copy> Solver<W, A> {
         match assume_list(&mut self.variables, &mut self.ctx, &mut self.literals, lits) {
             Ok(()) => {
                 self.started = true;
+                self.changed_at = self.ctx.schedule.steps();
                 Ok(())
             }
             Err(_) => {
@@ -481,7 +523,10 @@ impl<W: ProofTarget, A: Allocator + Copy> Solver<W, A> {
         }
         check_change(&self.variables, var)?;
         match set_named_mode(&mut self.variables, var, mode) {
-            Ok(()) => Ok(()),
+            Ok(()) => {
+                self.changed_at = self.ctx.schedule.steps();
+                Ok(())
+            }
             Err(_) => {
                 self.ctx.solver_state.state_is_invalid = true;
                 Err(SolverError::OutOfMemory)
@@ -515,7 +560,10 @@ impl<W: ProofTarget, A: Allocator + Copy> Solver<W, A> {
         }
         check_change(&self.variables, var)?;
         match set_named_mode(&mut self.variables, var, SamplingMode::Hide) {
-            Ok(()) => Ok(()),
+            Ok(()) => {
+                self.changed_at = self.ctx.schedule.steps();
+                Ok(())
+            }
             Err(_) => {
                 self.ctx.solver_state.state_is_invalid = true;
                 Err(SolverError::OutOfMemory)
@@ -535,7 +583,10 @@ impl<W: ProofTarget, A: Allocator + Copy> Solver<W, A> {
         }
         self.variables.prove_linked();
         match observe_internal_vars(&mut self.variables, self.alloc) {
-            Ok(shown) => Ok(shown),
+            Ok(shown) => {
+                self.changed_at = self.ctx.schedule.steps();
+                Ok(shown)
+            }
             Err(_) => {
                 self.ctx.solver_state.state_is_invalid = true;
                 Err(SolverError::OutOfMemory)

@@ -1,5 +1,5 @@
 //! The steps of the search, until the verdict is known or the steps are spent, and the core over names.
-ghost use Rattle.std.specs.Prelude.{◌≡◌, ◌≤◌, ℕ, List, length, map, OnOk, IfOk};
+ghost use Rattle.std.specs.Prelude.{◌≡◌, ◌≤◌, ◌-◌, ℕ, List, length, map, OnOk, IfOk};
 ghost use Rattle.varisat_theory.specs.Membership.{◌∈◌};
 ghost use Rattle.varisat_theory.specs.Literals.{Literal, variable_of};
 ghost use Rattle.varisat_theory.specs.Derivations.{Line};
@@ -12,6 +12,7 @@ ghost use Rattle.varisat_search.specs.Contexts.{view, IsReady};
 ghost use Rattle.varisat_search.specs.Decisions.{SameDecidable};
 ghost use Rattle.varisat_search.specs.Seen.{search_of, outcome_of};
 ghost use Rattle.varisat.specs.Budgets.{told_verdict, CountsSteps};
+ghost use Rattle.varisat.specs.SinceChange.{CountsSince};
 ghost use Rattle.varisat.specs.Searches.{answer_at, FindsVerdict};
 ghost use Rattle.varisat.specs.Accepting.{HasUser};
 ghost use Rattle.varisat.specs.Carried.{carry};
@@ -44,8 +45,9 @@ fn find_verdict<A: Allocator + Copy>(
     ensures found { IfOk result (λ found. found ≡ answer_at ctx.new.solver_state.sat_state) }
     ensures steps { OnOk result ((lines : List Line) × MakesSteps (steps_since ctx.old.schedule ctx.new.schedule) (search_of (view ctx.old)) (search_of (view ctx.new)) (outcome_of (view ctx.new) ctx.new.assumptions.failed_core ctx.new.solver_state.sat_state) lines) }
     ensures assumptions { OnOk result (KeepsAssumptions (search_of (view ctx.old)) (outcome_of (view ctx.new) ctx.new.assumptions.failed_core ctx.new.solver_state.sat_state) ctx.old.assumptions ctx.new.assumptions) }
-    // For each number that bounds the variables of the search.
-    ensures counted { (n : ℕ) → length ctx.old.assignment.current ≤ n → CountsSteps n max_steps ctx.old.schedule.steps ctx.new.schedule.steps (told_verdict result) }
+    // For each number that bounds the variables of the search, and wherever the last change was.
+    ensures counted { (n changed_at : ℕ) → length ctx.old.assignment.current ≤ n → CountsSince changed_at ctx.old → CountsSteps n max_steps (ctx.old.schedule.steps - changed_at) ctx.old.schedule.steps ctx.new.schedule.steps (told_verdict result) }
+    ensures since { OnOk result ((changed_at : ℕ) → CountsSince changed_at ctx.old → CountsSince changed_at ctx.new) }
     ensures config { ctx.new.solver_config ≡ ctx.old.solver_config }
 {
     ctx.solver_config.prove_in_range();
@@ -95,8 +97,9 @@ pub fn find_named_verdict<A: Allocator + Copy>(
     requires kept { IsKept variables.now ctx.old }
     requires unknown { ctx.old.solver_state.sat_state ≡ SatState.Unknown }
     ensures found { IfOk result (λ found. FindsVerdict variables.now ctx.old ctx.new found) }
-    // For each number that bounds the variables of the search.
-    ensures counted { (n : ℕ) → length ctx.old.assignment.current ≤ n → CountsSteps n max_steps ctx.old.schedule.steps ctx.new.schedule.steps (told_verdict result) }
+    // For each number that bounds the variables of the search, and wherever the last change was.
+    ensures counted { (n changed_at : ℕ) → length ctx.old.assignment.current ≤ n → CountsSince changed_at ctx.old → CountsSteps n max_steps (ctx.old.schedule.steps - changed_at) ctx.old.schedule.steps ctx.new.schedule.steps (told_verdict result) }
+    ensures since { OnOk result ((changed_at : ℕ) → CountsSince changed_at ctx.old → CountsSince changed_at ctx.new) }
     ensures config { ctx.new.solver_config ≡ ctx.old.solver_config }
 {
     let found = find_verdict(ctx, max_steps)?;

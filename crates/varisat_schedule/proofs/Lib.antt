@@ -1,3 +1,4 @@
 pub mod WalkPlaces
 pub mod RestartPlans
 pub mod CallSteps
+pub mod StepsWithout

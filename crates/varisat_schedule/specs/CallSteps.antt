@@ -1,6 +1,6 @@
 -- How many steps a call makes by a schedule, against the rank of the trail.
-use Rattle.std.specs.Prelude.{◌≡◌, ℕ, suc, ◌+◌, ◌-◌, ◌*◌, ◌^◌, ◌<◌, ◌≤◌, Bool, List, length, ◌⊎◌}
-use Rattle.varisat_theory.specs.Rank.{rank}
+use Rattle.std.specs.Prelude.{◌≡◌, ℕ, suc, ◌+◌, ◌-◌, ◌*◌, ◌^◌, ◌<◌, ◌≤◌, Bool, true, List, ◌++◌, length, replicate, ◌⊎◌}
+use Rattle.varisat_theory.specs.Rank.{rank, with_units}
 use Rattle.varisat_theory.specs.CallBounds.{CallProgress}
 use Rattle.varisat_schedule.specs.Plans.{Plan, IsPlan, IsDue, next_plan, plan_after, PlannedCall, setting_of}
 
@@ -28,6 +28,36 @@ CallBegins = (c : PlannedCall) (trail : List Bool) → IsPlan c.begins → HasCo
 abbrev pub CallGoesOn : Type 0
 CallGoesOn =
     (c : PlannedCall) (q : Plan) (before after : List Bool) → 0 < c.scale → q.steps < 2 ^ 64 - 1 → length before ≤ c.variables → IsPlannedStep q before after → HasComeTo c q before → HasComeTo c (next_plan c.scale q) after
+
+-- The call came to the plan, and in between units left the trail, which count as implied literals in front of it. The trail that is left has these flags, and with the units it is no longer than there are variables.
+pub record HasComeWithout (c : PlannedCall) (q : Plan) (units : ℕ) (trail : List Bool) : Type 0 where
+  pub come : HasComeTo c q (with_units units trail)
+  pub short : units + length trail ≤ c.variables
+
+-- A call may begin at any moment, before any unit left.
+abbrev pub BeginsAnywhere : Type 0
+BeginsAnywhere =
+    (c : PlannedCall) (trail : List Bool) → IsPlan c.begins → length trail ≤ c.variables → HasComeWithout c c.begins 0 trail
+
+-- Steps go on where units have left.
+abbrev pub GoesOnWithout : Type 0
+GoesOnWithout =
+    (c : PlannedCall) (q : Plan) (units : ℕ) (before after : List Bool) → 0 < c.scale → q.steps < 2 ^ 64 - 1 → IsPlannedStep q before after → units + length after ≤ c.variables → HasComeWithout c q units before → HasComeWithout c (next_plan c.scale q) units after
+
+-- Between steps literals may join the trail, as in propagation before a step.
+abbrev pub TrailMayGrow : Type 0
+TrailMayGrow =
+    (c : PlannedCall) (q : Plan) (units : ℕ) (trail more : List Bool) → units + length (trail ++ more) ≤ c.variables → HasComeWithout c q units trail → HasComeWithout c q units (trail ++ more)
+
+-- And where all literals of the trail are implied, some may leave it.
+abbrev pub UnitsMayLeave : Type 0
+UnitsMayLeave =
+    (c : PlannedCall) (q : Plan) (units left stay : ℕ) → HasComeWithout c q units (replicate (left + stay) true) → HasComeWithout c q (units + left) (replicate stay true)
+
+-- However often it was so, the steps are fewer than 2^(2n+3), even with one step more.
+abbrev pub IsShortWithout : Type 0
+IsShortWithout =
+    (c : PlannedCall) (q : Plan) (units : ℕ) (trail : List Bool) (n : ℕ) → 0 < c.scale → c.variables ≤ n → HasComeWithout c q units trail → suc (steps_since c.begins q) < 2 ^ (2 * n + 3)
 
 -- so fewer than 2^(2n+3) steps are made, even with one step more
 abbrev pub CallIsShort : Type 0

@@ -2,6 +2,7 @@ use Rattle.std.proofs.Common.{ap}
 use Rattle.varisat_search.specs.declared.context.Context.{Context}
 use Rattle.varisat_search.specs.Contexts.{view}
 use Rattle.varisat_search.proofs.LeastHeld.{anything-for}
+use Rattle.varisat.proofs.SinceSteps.{come-settled}
 use Rattle.varisat.proofs.SolverCalls.{settled-stands}
 use Rattle.varisat.proofs.dropping.drop_fixed.Goals as goal
 
@@ -23,3 +24,15 @@ returns-clause-stands g c s fit =
     (c.in_ok-drop_unneeded.ensures {u = tt}).stands s
     ((c.in_ok-drop_listed.ensures {u = tt}).stands s
     (settled-stands c.args.variables.now _ x y c.requires.kept (c.in-Ok.ensures {u = tt}).goes_on (ap (λ (z : Context g.row.A.Denot). z.assumptions) e) s fit))
+
+pub returns-then-is_err-clause-since : goal.returns-then-is_err-clause-since
+returns-then-is_err-clause-since g c =
+    let e = c.settle.ensures.kept in
+    come-settled _ c.args.ctx.now c.settle.new.ctx (c.in-Ok.ensures {u = tt}).goes_on (ap (λ (z : Context g.row.A.Denot). z.schedule) e) (ap (λ (z : Context g.row.A.Denot). z.solver_config) e)
+
+pub returns-clause-since : goal.returns-clause-since
+returns-clause-since g c i k =
+    let e = c.settle.ensures.kept in
+    (c.in_ok-drop_unneeded.ensures {u = tt}).since i
+    ((c.in_ok-drop_listed.ensures {u = tt}).since i
+    (come-settled _ c.args.ctx.now c.settle.new.ctx (c.in-Ok.ensures {u = tt}).goes_on (ap (λ (z : Context g.row.A.Denot). z.schedule) e) (ap (λ (z : Context g.row.A.Denot). z.solver_config) e) i k))

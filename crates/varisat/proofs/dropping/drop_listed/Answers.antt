@@ -10,6 +10,7 @@ use Rattle.varisat_search.specs.Seen.{search_of}
 use Rattle.varisat_search.specs.Contexts.{view}
 use Rattle.varisat.specs.Dropping.{leads_to_unassumed, unassumed_among, FlagsVariables, AreDroppedAlone, LeavesTables}
 use Rattle.varisat.proofs.DroppedKept.{HaveLeft, have-left}
+use Rattle.varisat.proofs.SinceSteps.{come-dropped}
 use Rattle.varisat.proofs.DroppedListed.{on-inside, unmentioned, assumed-stay, unassumed-distinct, unassumed-taken, kept-dropped, none-left, stands-dropped}
 use Rattle.varisat.proofs.dropping.drop_listed.Given.{Over}
 use Rattle.varisat.proofs.dropping.drop_listed.Goals.{In_ok-gone, In_ok-drop_solver_vars}
@@ -88,3 +89,8 @@ returns-clause-stands g c s fit =
     let y = c.drop_variables.new.ctx in
     stands-dropped (left g here.In_ok-drop_solver_vars (flags g here.In_ok-gone)) c.requires.settled (dropped g here.In_ok-drop_solver_vars)
     (subst (λ fs. search_of (view y) ≡ search_without fs (search_of (view x))) c.deref-2.ensures.value c.drop_variables.ensures.seen) s fit
+
+pub returns-clause-since : goal.returns-clause-since
+returns-clause-since g c =
+    let e = c.drop_variables.ensures in
+    come-dropped c.deref-2.result.now c.args.ctx.now c.drop_variables.new.ctx c.requires.kept.ready c.requires.settled e.ready e.dropped e.decidable (ap (λ (z : Context g.row.A.Denot). z.schedule) e.kept) (ap (λ (z : Context g.row.A.Denot). z.solver_config) e.kept)

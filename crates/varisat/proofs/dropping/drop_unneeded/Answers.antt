@@ -8,6 +8,7 @@ use Rattle.varisat_search.specs.Seen.{search_of}
 use Rattle.varisat_search.specs.Contexts.{view}
 use Rattle.varisat.specs.Dropping.{FlagsVariables, ListsUnneeded, AreReleased, LeavesTables}
 use Rattle.varisat.proofs.DroppedKept.{HaveLeft, have-left}
+use Rattle.varisat.proofs.SinceSteps.{come-dropped}
 use Rattle.varisat.proofs.DroppedUnneeded.{unneeded-inside, unneeded-taken, unneeded-unmentioned, named-stay, kept-released, needed-left, stands-released}
 use Rattle.varisat.proofs.dropping.drop_unneeded.Given.{Over}
 use Rattle.varisat.proofs.dropping.drop_unneeded.Goals.{In_ok-gone, In_ok-list_unneeded, In_ok-release_solver_vars}
@@ -80,3 +81,8 @@ returns-clause-stands g c s fit =
     stands-released c.requires.left c.in_ok-mentioned.ensures (listed g here.In_ok-list_unneeded) (left g here.In_ok-release_solver_vars (flags g here.In_ok-gone))
     (subst (λ xs. AreReleased xs c.args.variables.now c.release_solver_vars.new.variables) c.deref-4.ensures.value (c.in_ok-release_solver_vars.ensures {u = tt}).released)
     (subst (λ fs. search_of (view y) ≡ search_without fs (search_of (view x))) c.deref-3.ensures.value c.drop_variables.ensures.seen) s fit
+
+pub returns-clause-since : goal.returns-clause-since
+returns-clause-since g c =
+    let e = c.drop_variables.ensures in
+    come-dropped c.deref-3.result.now c.args.ctx.now c.drop_variables.new.ctx c.requires.kept.ready c.requires.settled e.ready e.dropped e.decidable (ap (λ (z : Context g.row.A.Denot). z.schedule) e.kept) (ap (λ (z : Context g.row.A.Denot). z.solver_config) e.kept)

@@ -56,3 +56,6 @@ returns-in-IsValid g c s st = rw c.in-IsValid.is (c.is_valid.ensures s st)
 
 pub returns-in-CloseProof : goal.returns-in-CloseProof
 returns-in-CloseProof g c s st = rw c.in-CloseProof.is (c.close_proof.ensures s st)
+
+pub returns-in-StepsSinceChange : goal.returns-in-StepsSinceChange
+returns-in-StepsSinceChange g c s st = rw c.in-StepsSinceChange.is (c.steps_since_change.ensures s st)

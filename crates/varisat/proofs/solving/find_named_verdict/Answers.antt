@@ -1,4 +1,4 @@
-use Rattle.std.proofs.Common.{List, Ok, false, sym, ap, ◌∙◌, subst, length}
+use Rattle.std.proofs.Common.{◌-◌, List, Ok, false, sym, ap, ◌∙◌, subst, length}
 use Rattle.varisat_theory.specs.Literals.{variable_of}
 use Rattle.varisat_theory.specs.Derivations.{Line}
 use Rattle.varisat_theory.specs.Outcomes.{MakesSteps}
@@ -10,10 +10,12 @@ use Rattle.varisat_search.specs.Contexts.{view, IsReady}
 use Rattle.varisat_search.specs.Decisions.{SameDecidable}
 use Rattle.varisat_search.specs.Seen.{search_of, outcome_of}
 use Rattle.varisat.specs.Budgets.{told_verdict, CountsSteps}
+use Rattle.varisat.specs.SinceChange.{CountsSince}
 use Rattle.varisat.specs.Searches.{answer_at}
 use Rattle.varisat.proofs.PlainTables.{assumed-named}
 use Rattle.varisat.proofs.FindVerdictSteps.{counts-unnamed, told-refused}
 use Rattle.varisat.proofs.SearchVerdicts.{ready-named, found-plainly}
+use Rattle.varisat.proofs.SinceSteps.{since-named}
 use Rattle.varisat.proofs.solving.find_named_verdict.Goals as goal
 
 pub name_core-requires : goal.name_core-requires
@@ -48,23 +50,32 @@ returns-in_default-clause-found g c =
     found-plainly c.args.variables.now c.args.ctx.now c.find_verdict.new.ctx _ e.ready e.count e.decidable e.state e.found e.steps e.assumptions c.in_default.not-UnsatUnderAssumptions
 
 pub returns-in_default-clause-counted : goal.returns-in_default-clause-counted
-returns-in_default-clause-counted g c n h =
-    subst (λ r. CountsSteps n c.args.max_steps c.args.ctx.now.schedule.steps c.find_verdict.new.ctx.schedule.steps (told_verdict r)) c.in_ok-found.was (c.find_verdict.ensures.counted n h)
+returns-in_default-clause-counted g c n changed_at h k =
+    let x = c.args.ctx.now in
+    subst (λ r. CountsSteps n c.args.max_steps (x.schedule.steps - changed_at) x.schedule.steps c.find_verdict.new.ctx.schedule.steps (told_verdict r)) c.in_ok-found.was (c.find_verdict.ensures.counted n changed_at h k)
 
 pub returns-clause-counted : goal.returns-clause-counted
-returns-clause-counted g c n h =
+returns-clause-counted g c n changed_at h k =
+    let x = c.args.ctx.now in
     let same = ap (λ (x : Context g.row.A.Denot). x.schedule.steps) c.name_core.ensures.kept in
-    subst (λ r. CountsSteps n c.args.max_steps c.args.ctx.now.schedule.steps c.name_core.new.ctx.schedule.steps (told_verdict r)) c.in_ok-found.was
-    (subst (λ k. CountsSteps n c.args.max_steps c.args.ctx.now.schedule.steps k (told_verdict c.find_verdict.result)) (sym same) (c.find_verdict.ensures.counted n h))
+    subst (λ r. CountsSteps n c.args.max_steps (x.schedule.steps - changed_at) x.schedule.steps c.name_core.new.ctx.schedule.steps (told_verdict r)) c.in_ok-found.was
+    (subst (λ j. CountsSteps n c.args.max_steps (x.schedule.steps - changed_at) x.schedule.steps j (told_verdict c.find_verdict.result)) (sym same) (c.find_verdict.ensures.counted n changed_at h k))
+
+pub returns-clause-since : goal.returns-clause-since
+returns-clause-since g c changed_at k =
+    let mid = c.find_verdict.new.ctx in
+    let e = c.in_ok-found.ensures {u = tt} in
+    subst (λ (x : Context g.row.A.Denot). CountsSince changed_at x) (sym c.name_core.ensures.kept) (since-named changed_at mid c.name_core.new.ctx.assumptions.user_core (e.since changed_at k))
 
 pub returns-in_err-name_core-clause-counted : goal.returns-in_err-name_core-clause-counted
-returns-in_err-name_core-clause-counted g c n h =
+returns-in_err-name_core-clause-counted g c n changed_at h k =
+    let x = c.args.ctx.now in
     let mid = c.find_verdict.new.ctx in
     let same = ap (λ (x : Context g.row.A.Denot). x.schedule.steps) c.name_core.ensures.kept in
     let e = c.in_ok-found.ensures {u = tt} in
     let answer = c.in_ok-found.was ∙ ap Ok (e.found ∙ ap answer_at c.in-UnsatUnderAssumptions.is) in
-    let (x, told) = told-refused c.from_residual-in_err-name_core.result c.from_residual-in_err-name_core.ensures.0 in
-    subst (λ k. CountsSteps n c.args.max_steps c.args.ctx.now.schedule.steps k (told_verdict c.from_residual-in_err-name_core.result)) (sym same)
-    (subst (λ r. CountsSteps n c.args.max_steps c.args.ctx.now.schedule.steps mid.schedule.steps r) (sym told)
-    (counts-unnamed n c.args.max_steps c.args.ctx.now.schedule.steps mid.schedule.steps false x
-    (subst (λ r. CountsSteps n c.args.max_steps c.args.ctx.now.schedule.steps mid.schedule.steps (told_verdict r)) answer (c.find_verdict.ensures.counted n h))))
+    let (y, told) = told-refused c.from_residual-in_err-name_core.result c.from_residual-in_err-name_core.ensures.0 in
+    subst (λ j. CountsSteps n c.args.max_steps (x.schedule.steps - changed_at) x.schedule.steps j (told_verdict c.from_residual-in_err-name_core.result)) (sym same)
+    (subst (λ r. CountsSteps n c.args.max_steps (x.schedule.steps - changed_at) x.schedule.steps mid.schedule.steps r) (sym told)
+    (counts-unnamed n c.args.max_steps (x.schedule.steps - changed_at) x.schedule.steps mid.schedule.steps false y
+    (subst (λ r. CountsSteps n c.args.max_steps (x.schedule.steps - changed_at) x.schedule.steps mid.schedule.steps (told_verdict r)) answer (c.find_verdict.ensures.counted n changed_at h k))))

@@ -1,8 +1,8 @@
-use Rattle.std.proofs.Common.{List, length, ◌∙◌, ⊎_elim, inl, inr, ap, sym, subst, refl, true, false, arith}
+use Rattle.std.proofs.Common.{◌≡◌, ◌-◌, List, ◌∙◌, ⊎_elim, inl, inr, ap, sym, subst, refl, true, false, arith}
 use Rattle.varisat_theory.specs.Derivations.{Line}
 use Rattle.varisat_theory.specs.Outcomes.{Outcome, Unknown, Steps, MakesSteps}
-use Rattle.varisat_prop.specs.View.{kinds}
 use Rattle.varisat_search.specs.declared.state.SolverState.{SolverState}
+use Rattle.varisat_search.specs.declared.state.SatState.TheVariants as verdict
 use Rattle.varisat_schedule.specs.CallSteps.{steps_since}
 use Rattle.varisat_search.specs.AssumptionParts.{KeepsAssumptions}
 use Rattle.varisat_search.specs.Contexts.{view}
@@ -13,7 +13,7 @@ use Rattle.varisat_search.proofs.LeastHeld.{anything-for}
 use Rattle.varisat_search.proofs.DecidableVariables.{same-refl, same-trans}
 use Rattle.varisat.specs.Budgets.{CountsSteps}
 use Rattle.varisat.specs.Searches.{answer_at}
-use Rattle.varisat.proofs.FindVerdictSteps.{call_from, Stepping, stepping-goes-on, stepping-lines, stepping-keeps, stepping-counts, stepping-shortens, flags-short, none-made, counts-spent, counts-refused, no-lines, told-refused, not-spent, room}
+use Rattle.varisat.proofs.FindVerdictSteps.{searching-at, not-less, Stepping, stepping-goes-on, stepping-lines, stepping-keeps, stepping-counts, stepping-since, stepping-shortens, none-made, counts-spent, counts-refused, since-stopped, no-lines, told-refused, not-spent, room}
 use Rattle.varisat.proofs.solving.find_verdict.Given.{Over}
 use Rattle.varisat.proofs.solving.find_verdict.Goals.{In_ok-schedule_step}
 use Rattle.varisat.proofs.solving.find_verdict.Goals as goal
@@ -24,16 +24,16 @@ stepping g c =
     let r = c.steps.invariant in
     let e = c.in_ok-schedule_step.ensures in
     record {
-      scaled = c.prove_in_range.ensures.luby_restart_interval_scale;
-      ready = r.ready;
-      count = r.count;
-      config = r.config;
-      made = r.made;
+      searching = searching-at c.args.ctx.now c.steps.ctx c.args.max_steps c.prove_in_range.ensures.luby_restart_interval_scale c.requires.ready c.requires.unknown r.count r.config r.made;
       lines = r.lines;
       assumes = r.assumes;
       left = not-spent c.args.ctx.now.schedule c.steps.ctx.schedule c.args.max_steps c.steps-first.result c.steps-steps.result c.steps-first.ensures.steps c.steps-steps.ensures.steps c.if-steps-first.false;
       countable = room c.steps.ctx.schedule c.steps-steps.result c.steps-steps.ensures.steps c.steps-steps.type_inv c.if-steps.false;
       next = e.schedule;
+      ready = e.ready;
+      same_config = e.config;
+      same_count = e.count;
+      decidable = e.decidable;
     }
 
 decidable-still : (g : Over) (c : In_ok-schedule_step g) → SameDecidable (view c.args.ctx.now) c.args.ctx.now.vsids (view c.schedule_step.new.ctx) c.schedule_step.new.ctx.vsids
@@ -65,10 +65,18 @@ steps-init g c =
       decidable = same-refl (view x) x.vsids;
       state = refl;
       config = refl;
-      made = none-made (call_from x) c.args.max_steps (kinds (view x)) c.steps-first.ensures.plan;
+      made = none-made x c.args.max_steps c.steps-first.ensures.plan;
       lines = no-lines x.schedule (search_of (view x));
       assumes = keeps-refl (search_of (view x)) x.assumptions;
     }
+
+pub overflow_sub-steps : goal.overflow_sub-steps
+overflow_sub-steps g c =
+    let r = c.steps.invariant in
+    let k = not-less (searching-at c.args.ctx.now c.steps.ctx c.args.max_steps c.prove_in_range.ensures.luby_restart_interval_scale c.requires.ready c.requires.unknown r.count r.config r.made) in
+    let a = c.steps-first.ensures.steps in
+    let b = c.steps-steps.ensures.steps in
+    omega (arith, k, a, b)
 
 pub steps-smaller : goal.steps-smaller
 steps-smaller g c = stepping-shortens (stepping g (goal.at.steps-smaller g c).In_ok-schedule_step)
@@ -112,19 +120,27 @@ returns-then-steps-first-clause-assumptions g c =
     subst (λ b. KeepsAssumptions (search_of (view x)) (outcome_of (view y) y.assumptions.failed_core b) x.assumptions y.assumptions) (sym unknown) c.steps.invariant.assumes
 
 pub returns-then-steps-first-clause-counted : goal.returns-then-steps-first-clause-counted
-returns-then-steps-first-clause-counted g c n h =
+returns-then-steps-first-clause-counted g c n changed_at h k =
     let x = c.args.ctx.now in
     let y = c.steps.ctx in
     let r = c.steps.invariant in
-    counts-spent (call_from x) c.args.max_steps y.schedule (kinds (view y)) c.prove_in_range.ensures.luby_restart_interval_scale (flags-short (view y) (length x.assignment.current) r.ready.well r.count) r.made
+    counts-spent (searching-at x y c.args.max_steps c.prove_in_range.ensures.luby_restart_interval_scale c.requires.ready c.requires.unknown r.count r.config r.made) changed_at k
     (elim c.then-steps-first.branch [
       | then-steps-first-via-then-steps-first w ↦ inl (let a = c.steps-first.ensures.steps in let b = c.steps-steps.ensures.steps in let d = w.if-steps-first.true in omega (arith, a, b, d))
       | then-steps-first-via-else-steps-first+then-steps w ↦ inr (sym c.steps-steps.ensures.steps ∙ w.if-steps.true)
     ])
     n h
 
+pub returns-then-steps-first-clause-since : goal.returns-then-steps-first-clause-since
+returns-then-steps-first-clause-since g c changed_at k =
+    let r = c.steps.invariant in
+    since-stopped (searching-at c.args.ctx.now c.steps.ctx c.args.max_steps c.prove_in_range.ensures.luby_restart_interval_scale c.requires.ready c.requires.unknown r.count r.config r.made) changed_at k
+
 pub returns-in-Sat-clause-counted : goal.returns-in-Sat-clause-counted
-returns-in-Sat-clause-counted g c n h = stepping-counts (stepping g (goal.at.returns-in-Sat-clause-counted g c).In_ok-schedule_step) true n h
+returns-in-Sat-clause-counted g c n changed_at h k = stepping-counts (stepping g (goal.at.returns-in-Sat-clause-counted g c).In_ok-schedule_step) true n changed_at h k
+
+pub returns-in-Sat-clause-since : goal.returns-in-Sat-clause-since
+returns-in-Sat-clause-since g c changed_at k = stepping-since (stepping g (goal.at.returns-in-Sat-clause-since g c).In_ok-schedule_step) (λ u. let z : verdict.Sat ≡ verdict.Unknown = sym c.in-Sat.is ∙ u in cc) changed_at k
 
 pub returns-in-Sat-clause-decidable : goal.returns-in-Sat-clause-decidable
 returns-in-Sat-clause-decidable g c = decidable-still g (goal.at.returns-in-Sat-clause-decidable g c).In_ok-schedule_step
@@ -157,13 +173,19 @@ pub returns-in-Unsat-clause-decidable : goal.returns-in-Unsat-clause-decidable
 returns-in-Unsat-clause-decidable g c = decidable-still g (goal.at.returns-in-Unsat-clause-decidable g c).In_ok-schedule_step
 
 pub returns-in-Unsat-clause-counted : goal.returns-in-Unsat-clause-counted
-returns-in-Unsat-clause-counted g c n h = stepping-counts (stepping g (goal.at.returns-in-Unsat-clause-counted g c).In_ok-schedule_step) false n h
+returns-in-Unsat-clause-counted g c n changed_at h k = stepping-counts (stepping g (goal.at.returns-in-Unsat-clause-counted g c).In_ok-schedule_step) false n changed_at h k
+
+pub returns-in-Unsat-clause-since : goal.returns-in-Unsat-clause-since
+returns-in-Unsat-clause-since g c changed_at k =
+    stepping-since (stepping g (goal.at.returns-in-Unsat-clause-since g c).In_ok-schedule_step)
+    (λ u. ⊎_elim (λ e. let z : verdict.Unsat ≡ verdict.Unknown = sym e ∙ u in absurd cc) (λ e. let z : verdict.UnsatUnderAssumptions ≡ verdict.Unknown = sym e ∙ u in absurd cc) c.in-Unsat.is)
+    changed_at k
 
 pub returns-in_err-schedule_step-clause-counted : goal.returns-in_err-schedule_step-clause-counted
-returns-in_err-schedule_step-clause-counted g c n h =
+returns-in_err-schedule_step-clause-counted g c n changed_at h k =
     let x = c.args.ctx.now in
     let y = c.steps.ctx in
     let r = c.steps.invariant in
     let (e, told) = told-refused c.from_residual.result c.from_residual.ensures.0 in
-    subst (λ a. CountsSteps n c.args.max_steps x.schedule.steps c.schedule_step.new.ctx.schedule.steps a) (sym told)
-    (counts-refused (call_from x) c.args.max_steps y.schedule (kinds (view y)) c.prove_in_range.ensures.luby_restart_interval_scale (flags-short (view y) (length x.assignment.current) r.ready.well r.count) r.made e c.schedule_step.new.ctx.schedule.steps (c.in_err-schedule_step.ensures {u = tt}).uncounted n h)
+    subst (λ a. CountsSteps n c.args.max_steps (x.schedule.steps - changed_at) x.schedule.steps c.schedule_step.new.ctx.schedule.steps a) (sym told)
+    (counts-refused (searching-at x y c.args.max_steps c.prove_in_range.ensures.luby_restart_interval_scale c.requires.ready c.requires.unknown r.count r.config r.made) changed_at k e c.schedule_step.new.ctx.schedule.steps (c.in_err-schedule_step.ensures {u = tt}).uncounted n h)

@@ -1,13 +1,12 @@
 use Rattle.std.proofs.Common.{◌≡◌, ◌+◌, ◌-◌, ◌*◌, ◌^◌, List, length}
 use Rattle.varisat_theory.specs.Derivations.{Line}
 use Rattle.varisat_theory.specs.Outcomes.{Unknown, MakesSteps}
-use Rattle.varisat_prop.specs.View.{kinds}
 use Rattle.varisat_schedule.specs.CallSteps.{steps_since}
 use Rattle.varisat_search.specs.AssumptionParts.{KeepsAssumptions}
 use Rattle.varisat_search.specs.Contexts.{view, IsReady}
 use Rattle.varisat_search.specs.Decisions.{SameDecidable}
 use Rattle.varisat_search.specs.Seen.{search_of}
-use Rattle.varisat.proofs.FindVerdictSteps.{HasMade, call_from}
+use Rattle.varisat.proofs.FindVerdictSteps.{HasMade}
 use Rattle.varisat.proofs.solving.find_verdict.Given as goal
 
 abbrev pub invariant-steps : goal.invariant-steps
@@ -17,7 +16,7 @@ invariant-steps g l = record {
   decidable : SameDecidable (view l.fn.ctx) l.fn.ctx.vsids (view l.ctx) l.ctx.vsids;
   state : l.ctx.solver_state ≡ l.fn.ctx.solver_state;
   config : l.ctx.solver_config ≡ l.fn.ctx.solver_config;
-  made : HasMade (call_from l.fn.ctx) l.max_steps l.ctx.schedule (kinds (view l.ctx));
+  made : HasMade l.fn.ctx l.ctx l.max_steps;
   lines : (lines : List Line) × MakesSteps (steps_since l.fn.ctx.schedule l.ctx.schedule) (search_of (view l.fn.ctx)) (search_of (view l.ctx)) Unknown lines;
   assumes : KeepsAssumptions (search_of (view l.fn.ctx)) Unknown l.fn.ctx.assumptions l.ctx.assumptions;
 }

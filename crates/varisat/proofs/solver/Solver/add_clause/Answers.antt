@@ -1,19 +1,26 @@
-use Rattle.std.proofs.Common.{Err, subst, ◌∙◌, not, refl, sym, ap, map, true}
+use Rattle.std.proofs.Common.{◌-◌, Err, subst, ◌∙◌, not, refl, sym, ap, map, true}
 use Rattle.varisat_search.specs.declared.state.SolverState.{SolverState}
 use Rattle.varisat_search.specs.Contexts.{view}
 use Rattle.varisat_schedule.specs.Plans.{Plan}
 use Rattle.varisat.specs.Summaries.{spaces_of}
 use Rattle.varisat.specs.States.{Ledger}
 use Rattle.varisat.specs.Names.{name_all, through_names}
-use Rattle.varisat.specs.Calls.{with_naming, start, append_clause, Accepted, AddsClause}
-use Rattle.varisat.proofs.CallStates.{ledger-is, stands-valid, like-refl, broken, broken-invalid, adds-broken}
+use Rattle.varisat.specs.Calls.{with_naming, start, append_clause, count_anew, Ignored, Accepted, AddsClause}
+use Rattle.varisat.proofs.CallStates.{ledger-is, none-since, stands-valid, like-refl, broken, broken-invalid, adds-broken}
 use Rattle.varisat.proofs.AcceptClause.{ledger-free, not-refuted}
 use Rattle.varisat.proofs.Additions.{told-error}
+use Rattle.varisat.proofs.SolverCalls.{unsat-known}
+use Rattle.varisat.proofs.SinceSteps.{since-now}
 use Rattle.varisat.proofs.RefusedNames.{may-constrain, clause-refused}
 use Rattle.varisat.proofs.solver.Solver.add_clause.Goals as goal
 
 pub accept_clause-requires-clause-names : goal.accept_clause-requires-clause-names
 accept_clause-requires-clause-names g c = c.in_ok-check_names.ensures.0
+
+pub invariant_of-self : goal.invariant_of-self
+invariant_of-self g c _ =
+    let e = c.in-Ok.ensures {u = tt} in
+    record { kept = e.kept; counts = since-now c.steps-self-inside.result c.accept_clause.new.ctx c.steps-self-inside.ensures.steps e.kept.ready c.steps-self-inside.ensures.plan }
 
 pub returns-in_err-check_names : goal.returns-in_err-check_names
 returns-in_err-check_names g c s st =
@@ -34,8 +41,8 @@ returns-in-Ok g c s st =
       start t,
       (stands-valid _ s q (ap not c.if-self.false), Accepted bad (may-constrain _ s q (ap not c.if-self.false) c.args.clause.now c.in_ok-check_names.ensures.0 c.in_ok-check_names.ensures.1) (x, v, like-refl (start t))),
       record {
-        ledger = ledger-is _ _ _ _ _ (ap (λ (x : Ledger). x.valid) q.ledger ∙ ap (λ (x : SolverState). not x.state_is_invalid) (sym e.state)) refl (ap (λ (x : Ledger). x.steps) q.ledger ∙ sym (ap (λ (x : Plan). x.steps) k'.schedule)) (ap (λ (x : Ledger). x.settings) q.ledger ∙ sym k'.solver_config);
-        fits = λ _. (w, ledger-free w (spaces_of c.accept_clause.new.variables (view c.accept_clause.new.ctx) c.accept_clause.new.ctx.assumptions c.accept_clause.new.ctx.solver_state.sat_state) t (record t.ledger { started = true }) k);
+        ledger = ledger-is _ _ _ _ _ _ (ap (λ (x : Ledger). x.valid) q.ledger ∙ ap (λ (x : SolverState). not x.state_is_invalid) (sym e.state)) refl (ap (λ (x : Ledger). x.steps) q.ledger ∙ sym (ap (λ (x : Plan). x.steps) k'.schedule)) (none-since c.steps-self-inside.result c.accept_clause.new.ctx.schedule.steps c.steps-self-inside.ensures.steps) (ap (λ (x : Ledger). x.settings) q.ledger ∙ sym k'.solver_config);
+        fits = λ _. (w, ledger-free w (spaces_of c.accept_clause.new.variables (view c.accept_clause.new.ctx) c.accept_clause.new.ctx.assumptions c.accept_clause.new.ctx.solver_state.sat_state) t (record t.ledger { started = true; since = 0 }) k);
       },
     )
 
@@ -48,7 +55,12 @@ returns-in-Err g c s st =
       subst (λ e. AddsClause s c.args.clause.now (Err e) (broken s)) (sym c.from.ensures)
           (adds-broken c.in-Err.error s (broken s) c.args.clause.now bad (may-constrain _ s q (ap not c.if-self.false) c.args.clause.now c.in_ok-check_names.ensures.0 c.in_ok-check_names.ensures.1) (broken-invalid s (stands-valid _ s q (ap not c.if-self.false)) (q.fits (ap not c.if-self.false)).1.well_formed)),
       record {
-        ledger = ledger-is _ _ _ _ _ refl (ap (λ (x : Ledger). x.started) q.ledger) (ap (λ (x : Ledger). x.steps) q.ledger ∙ sym (ap (λ (x : Plan). x.steps) k.schedule)) (ap (λ (x : Ledger). x.settings) q.ledger ∙ sym k.solver_config);
+        ledger = ledger-is _ _ _ _ _ _ refl (ap (λ (x : Ledger). x.started) q.ledger) (ap (λ (x : Ledger). x.steps) q.ledger ∙ sym (ap (λ (x : Plan). x.steps) k.schedule)) (ap (λ (x : Ledger). x.since) q.ledger ∙ sym (ap (λ (x : Plan). x.steps - c.self.inside.changed_at) k.schedule)) (ap (λ (x : Ledger). x.settings) q.ledger ∙ sym k.solver_config);
         fits = λ e. absurd cc;
       },
     )
+
+pub returns-in-Unsat : goal.returns-in-Unsat
+returns-in-Unsat g c s st =
+    let q = rw (← c.self.view_is) at st in
+    (count_anew s, (stands-valid _ s q (ap not c.if-self.false), Ignored (unsat-known _ s q (ap not c.if-self.false) c.in-Unsat.is) refl), c.begin_count.ensures s st)

@@ -2,7 +2,7 @@
 use Rattle.std.proofs.Common.{◌∙◌, ◌++◌, [], refl, ap, not, arith, Ok}
 use Rattle.varisat_formula.proofs.ParsedSources.{piece_told}
 use Rattle.varisat.specs.Additions.{Read}
-use Rattle.varisat.proofs.Additions.{told-error, adds-more, adds-valid, only-adds}
+use Rattle.varisat.proofs.Additions.{told-error, adds-more, adds-valid}
 use Rattle.varisat.proofs.CallStates.{stands-valid}
 use Rattle.varisat.proofs.AddTexts.{took, read-nothing, read-more, piece-refused, piece-fault, text-broken, text-ended}
 use Rattle.varisat.proofs.solver.Solver.add_dimacs_cnf.Goals as goal
@@ -13,13 +13,13 @@ pieces-init g c = record { front = []; read = read-nothing _ _ c.new_in-parser.e
 pub next_piece-more-requires-clause-few : goal.next_piece-more-requires-clause-few
 next_piece-more-requires-clause-few g c = omega (arith, c.pieces.invariant.read.quiet, c.requires)
 
-pub returns-in_err-add_formula : goal.returns-in_err-add_formula
-returns-in_err-add_formula g c s st =
+pub returns-in_err-add_clauses : goal.returns-in_err-add_clauses
+returns-in_err-add_clauses g c s st =
     let valid = stands-valid _ s (rw (← c.self.view_is) at st) (ap not c.if-self.false) in
     let (mid, a, q) = c.pieces.invariant.so_far s st in
-    let (t, b, w) = c.in_err-add_formula.ensures {u = tt} mid q in
-    let refused = told-error c.from_residual.result c.in_err-add_formula.field-0.0 c.from_residual.ensures in
-    (t, rw refused (Read valid _ (piece-refused s mid t _ _ _ _ _ _ _ _ _ _ c.pieces.invariant.read c.next_piece-more.ensures.takes (took _ _ _ c.take_formula.ensures.formula c.take_formula.ensures.rest c.take_formula.ensures.later) a (only-adds mid t _ _ (adds-valid s mid _ valid a) b))), w)
+    let (t, b, w) = c.in_err-add_clauses.ensures {u = tt} mid q in
+    let refused = told-error c.from_residual.result c.in_err-add_clauses.field-0.0 c.from_residual.ensures in
+    (t, rw refused (Read valid _ (piece-refused s mid t _ _ _ _ _ _ _ _ _ _ c.pieces.invariant.read c.next_piece-more.ensures.takes (took _ _ _ c.take_formula.ensures.formula c.take_formula.ensures.rest c.take_formula.ensures.later) a b)), w)
 
 pub pieces-smaller : goal.pieces-smaller
 pieces-smaller g c = (c.next_piece-more.ensures.takes.goes (c.in-Ok-true.is ∙ ap Ok c.in-Ok-true.field-0-test)).1
@@ -30,17 +30,17 @@ pieces-preserved g c = record {
   read = read-more _ _ _ _ _ _ _ _ _ _ c.pieces.invariant.read c.next_piece-more.ensures.takes c.in-Ok-true.is c.next_piece-more.ensures.open (took _ _ _ c.take_formula.ensures.formula c.take_formula.ensures.rest c.take_formula.ensures.later);
   so_far = λ s st.
       let (mid, a, q) = c.pieces.invariant.so_far s st in
-      let (t, b, w) = c.in_ok-add_formula.ensures {u = tt} mid q in
+      let (t, b, w) = c.in_ok-add_clauses.ensures {u = tt} mid q in
       let valid = stands-valid _ s (rw (← c.self.view_is) at st) (ap not c.if-self.false) in
-      (t, adds-more s mid t _ _ (Ok tt) a (only-adds mid t _ _ (adds-valid s mid _ valid a) b), w);
+      (t, adds-more s mid t _ _ (Ok tt) a b, w);
 }
 
 pub returns-in-Err : goal.returns-in-Err
 returns-in-Err g c s st =
     let valid = stands-valid _ s (rw (← c.self.view_is) at st) (ap not c.if-self.false) in
     let (mid, a, q) = c.pieces.invariant.so_far s st in
-    let (u, b, w) = c.in_ok-add_formula.ensures {u = tt} mid q in
-    let added = only-adds mid u _ _ (adds-valid s mid _ valid a) b in
+    let (u, b, w) = c.in_ok-add_clauses.ensures {u = tt} mid q in
+    let added = b in
     let (t, f, z) = c.refuse_text.ensures u w (adds-valid mid u _ (adds-valid s mid _ valid a) added) in
     let took = took _ _ _ c.take_formula.ensures.formula c.take_formula.ensures.rest c.take_formula.ensures.later in (
       t,
@@ -56,8 +56,8 @@ returns g c s st =
     let k = c.next_piece-more.ensures.takes in
     let ok = c.in-Ok-false.is ∙ ap Ok c.in-Ok-false.field-0-test in
     let (mid, a, q) = c.pieces.invariant.so_far s st in
-    let (u, b, w) = c.in_ok-add_formula.ensures {u = tt} mid q in
-    let all = adds-more s mid u _ _ (Ok tt) a (only-adds mid u _ _ (adds-valid s mid _ valid a) b) in
+    let (u, b, w) = c.in_ok-add_clauses.ensures {u = tt} mid q in
+    let all = adds-more s mid u _ _ (Ok tt) a b in
     let (p, e, t, d, z) = c.end_text.ensures u w (adds-valid s u _ valid all) in
     let read = read-more _ _ _ _ _ _ _ _ _ _ c.pieces.invariant.read k ok c.next_piece-more.ensures.open (took _ _ _ c.take_formula.ensures.formula c.take_formula.ensures.rest c.take_formula.ensures.later) in
     (t, Read valid _ (text-ended s u t _ _ _ p _ _ read (k.ends ok).1 e all d), z)

@@ -1,4 +1,4 @@
-use Rattle.std.proofs.Common.{◌∙◌, not, subst, refl, sym, ap, map, true}
+use Rattle.std.proofs.Common.{◌-◌, ◌∙◌, not, subst, refl, sym, ap, map, true}
 use Rattle.varisat_search.specs.declared.state.SolverState.{SolverState}
 use Rattle.varisat_search.specs.Contexts.{view}
 use Rattle.varisat_schedule.specs.Plans.{Plan}
@@ -6,14 +6,20 @@ use Rattle.varisat.specs.Summaries.{spaces_of}
 use Rattle.varisat.specs.States.{Ledger}
 use Rattle.varisat.specs.Names.{name_all, through_names}
 use Rattle.varisat.specs.Calls.{with_naming, start, with_assumptions, Assumes}
-use Rattle.varisat.proofs.CallStates.{ledger-is, stands-valid, like-refl, broken, broken-invalid}
+use Rattle.varisat.proofs.CallStates.{ledger-is, none-since, stands-valid, like-refl, broken, broken-invalid}
 use Rattle.varisat.proofs.AcceptClause.{ledger-free}
 use Rattle.varisat.proofs.Additions.{told-error}
+use Rattle.varisat.proofs.SinceSteps.{since-now}
 use Rattle.varisat.proofs.RefusedNames.{may-constrain, list-refused}
 use Rattle.varisat.proofs.solver.Solver.assume.Goals as goal
 
 pub assume_list-requires-clause-names : goal.assume_list-requires-clause-names
 assume_list-requires-clause-names g c = c.in_ok-check_names.ensures.0
+
+pub invariant_of-self : goal.invariant_of-self
+invariant_of-self g c _ =
+    let e = c.in-Ok.ensures {u = tt} in
+    record { kept = e.kept; counts = since-now c.steps-self-inside.result c.assume_list.new.ctx c.steps-self-inside.ensures.steps e.kept.ready c.steps-self-inside.ensures.plan }
 
 pub returns-in_err-check_names : goal.returns-in_err-check_names
 returns-in_err-check_names g c s st =
@@ -33,8 +39,8 @@ returns-in-Ok g c s st =
       start t,
       (stands-valid _ s q (ap not c.if-self.false), may-constrain _ s q (ap not c.if-self.false) c.args.lits.now c.in_ok-check_names.ensures.0 c.in_ok-check_names.ensures.1, like-refl (start t)),
       record {
-        ledger = ledger-is _ _ _ _ _ (ap (λ (x : Ledger). x.valid) q.ledger ∙ ap (λ (x : SolverState). not x.state_is_invalid) (sym e.state)) refl (ap (λ (x : Ledger). x.steps) q.ledger ∙ sym (ap (λ (x : Plan). x.steps) plan.schedule)) (ap (λ (x : Ledger). x.settings) q.ledger ∙ sym plan.solver_config);
-        fits = λ _. (w, ledger-free w (spaces_of c.assume_list.new.variables (view new) new.assumptions new.solver_state.sat_state) t (record t.ledger { started = true }) k);
+        ledger = ledger-is _ _ _ _ _ _ (ap (λ (x : Ledger). x.valid) q.ledger ∙ ap (λ (x : SolverState). not x.state_is_invalid) (sym e.state)) refl (ap (λ (x : Ledger). x.steps) q.ledger ∙ sym (ap (λ (x : Plan). x.steps) plan.schedule)) (none-since c.steps-self-inside.result c.assume_list.new.ctx.schedule.steps c.steps-self-inside.ensures.steps) (ap (λ (x : Ledger). x.settings) q.ledger ∙ sym plan.solver_config);
+        fits = λ _. (w, ledger-free w (spaces_of c.assume_list.new.variables (view new) new.assumptions new.solver_state.sat_state) t (record t.ledger { started = true; since = 0 }) k);
       },
     )
 
@@ -45,7 +51,7 @@ returns-in-Err g c s st =
       broken s,
       (may-constrain _ s q (ap not c.if-self.false) c.args.lits.now c.in_ok-check_names.ensures.0 c.in_ok-check_names.ensures.1, broken-invalid s (stands-valid _ s q (ap not c.if-self.false)) (q.fits (ap not c.if-self.false)).1.well_formed),
       record {
-        ledger = ledger-is _ _ _ _ _ refl (ap (λ (x : Ledger). x.started) q.ledger) (ap (λ (x : Ledger). x.steps) q.ledger ∙ sym (ap (λ (x : Plan). x.steps) plan.schedule)) (ap (λ (x : Ledger). x.settings) q.ledger ∙ sym plan.solver_config);
+        ledger = ledger-is _ _ _ _ _ _ refl (ap (λ (x : Ledger). x.started) q.ledger) (ap (λ (x : Ledger). x.steps) q.ledger ∙ sym (ap (λ (x : Plan). x.steps) plan.schedule)) (ap (λ (x : Ledger). x.since) q.ledger ∙ sym (ap (λ (x : Plan). x.steps - c.self.inside.changed_at) plan.schedule)) (ap (λ (x : Ledger). x.settings) q.ledger ∙ sym plan.solver_config);
         fits = λ e. absurd cc;
       },
     )

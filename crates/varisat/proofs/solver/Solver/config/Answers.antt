@@ -1,17 +1,30 @@
 use Rattle.std.proofs.Common.{not, refl, ap}
 use Rattle.varisat.specs.Calls.{with_update}
 use Rattle.varisat.proofs.CallStates.{stands-valid}
-use Rattle.varisat.proofs.SettingsCalls.{stands-updated, stands-same}
+use Rattle.varisat.proofs.SettingsCalls.{stands-updated, stands-same, kept-updated}
+use Rattle.varisat.proofs.SinceSteps.{since-now}
 use Rattle.varisat.proofs.solver.Solver.config.Goals as goal
 
 pub returns : goal.returns
 returns g c s st =
     let q = rw (← c.self.view_is) at st in
     let e = c.in-Ok.ensures.changed in
-    (with_update c.args.update.now s, (stands-valid _ s q (ap not c.if-self.false), e.0, refl), stands-updated c.self.inside.variables c.self.inside.started c.self.inside.ctx c.config_changed.new.self c.args.update.now _ _ s e.1 q)
+    (with_update c.args.update.now s, (stands-valid _ s q (ap not c.if-self.false), e.0, refl), stands-updated c.self.inside.variables c.self.inside.started c.self.inside.changed_at c.steps-self-inside.result c.self.inside.ctx c.config_changed.new.self c.args.update.now _ _ s e.1 c.steps-self-inside.ensures.steps q)
 
 pub returns-in-Err : goal.returns-in-Err
 returns-in-Err g c s st =
     let q = rw (← c.self.view_is) at st in
     let e = c.in-Err.ensures.changed in
-    (s, (stands-valid _ s q (ap not c.if-self.false), e.0, refl), stands-same c.self.inside.variables c.self.inside.started c.self.inside.ctx c.config_changed.new.self s e.1 q)
+    (s, (stands-valid _ s q (ap not c.if-self.false), e.0, refl), stands-same c.self.inside.variables c.self.inside.started c.self.inside.changed_at c.self.inside.ctx c.config_changed.new.self s e.1 q)
+
+pub invariant_of-self-2 : goal.invariant_of-self-2
+invariant_of-self-2 g c v =
+    let x = c.self.inside.ctx in
+    let y = c.config_changed.new.self in
+    let e = c.in-Ok.ensures.changed in
+    let k = (c.self.invariant c.if-self.false).kept in
+    let ready = c.config_changed.ensures.ready k.ready in
+    record {
+      kept = kept-updated c.self.inside.variables x y c.args.update.now _ _ e.1 ready c.config_changed.ensures.decidable k;
+      counts = since-now c.steps-self-inside.result y c.steps-self-inside.ensures.steps ready c.steps-self-inside.ensures.plan;
+    }

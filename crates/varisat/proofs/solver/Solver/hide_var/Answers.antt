@@ -2,13 +2,19 @@ use Rattle.std.proofs.Common.{not, subst, sym, ap, false}
 use Rattle.varisat.specs.States.{Ledger}
 use Rattle.varisat.specs.Usage.{name_var}
 use Rattle.varisat.specs.VariableCalls.{named, hide_name, HidesVar}
-use Rattle.varisat.proofs.CallStates.{begins, like-refl, broken, broken-invalid}
+use Rattle.varisat.proofs.CallStates.{ledger-is, none-since, begins, like-refl, broken, broken-invalid}
 use Rattle.varisat.proofs.Additions.{told-error}
+use Rattle.varisat.proofs.SinceSteps.{since-now}
 use Rattle.varisat.proofs.VariableStates.{unassumed-state, change-refused, hide-state, kept-after}
 use Rattle.varisat.proofs.solver.Solver.hide_var.Goals as goal
 
 pub invariant_of-self : goal.invariant_of-self
-invariant_of-self g c v = kept-after c.self.inside.ctx c.self.inside.variables c.set_named_mode.new.variables (c.self.invariant c.if-self.false) ((c.in-Ok.ensures {u = tt}).set.stays)
+invariant_of-self g c v =
+    let k = (c.self.invariant c.if-self.false).kept in
+    record {
+      kept = kept-after c.self.inside.ctx c.self.inside.variables c.set_named_mode.new.variables k ((c.in-Ok.ensures {u = tt}).set.stays);
+      counts = since-now c.steps-self-inside.result c.self.inside.ctx c.steps-self-inside.ensures.steps k.ready c.steps-self-inside.ensures.plan;
+    }
 
 pub returns-in_err-check_change : goal.returns-in_err-check_change
 returns-in_err-check_change g c s st =
@@ -23,7 +29,7 @@ returns-in-Ok g c s st =
     let may = c.in_ok-check_change.ensures in (
       t,
       (k.valid, may.in_range, unassumed-state c.args.var k may.unassumed, like-refl t),
-      record { ledger = k.ledger; fits = λ _. hide-state c.set_named_mode.new.variables c.args.var k (c.in-Ok.ensures {u = tt}).set },
+      record { ledger = ledger-is _ _ _ _ _ _ (ap (λ (x : Ledger). x.valid) k.ledger) (ap (λ (x : Ledger). x.started) k.ledger) (ap (λ (x : Ledger). x.steps) k.ledger) (none-since c.steps-self-inside.result c.self.inside.ctx.schedule.steps c.steps-self-inside.ensures.steps) (ap (λ (x : Ledger). x.settings) k.ledger); fits = λ _. hide-state c.set_named_mode.new.variables c.args.var k (c.in-Ok.ensures {u = tt}).set },
     )
 
 pub returns-in-Err : goal.returns-in-Err

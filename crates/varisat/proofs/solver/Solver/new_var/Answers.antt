@@ -1,4 +1,4 @@
-use Rattle.std.proofs.Common.{◌∙◌, not, sym, ap, arith, true, false, length}
+use Rattle.std.proofs.Common.{◌∙◌, refl, not, sym, ap, arith, true, false, length}
 use Rattle.varisat_theory.specs.Literals.{variable_of}
 use Rattle.varisat_names.specs.VarMap.{at}
 use Rattle.varisat_search.specs.Contexts.{view}
@@ -11,15 +11,16 @@ use Rattle.varisat.proofs.AcceptClause.{with_tables, ledger-free}
 use Rattle.varisat_search.proofs.KeptNames.{given-keeps}
 use Rattle.varisat.proofs.PlainTables.{is-there, there-is, assumed-keeps, marked-keeps}
 use Rattle.varisat.proofs.KeptCounts.{given-most}
-use Rattle.varisat.proofs.CallStates.{stands-valid, like-refl, broken, broken-invalid}
+use Rattle.varisat.proofs.CallStates.{ledger-is, none-since, stands-valid, like-refl, broken, broken-invalid}
 use Rattle.varisat.proofs.SettingsCalls.{summary_of}
 use Rattle.varisat.proofs.SolverCalls.{least-free, new-named}
+use Rattle.varisat.proofs.SinceSteps.{since-now}
 use Rattle.varisat.proofs.VariablesInUse.{tables-in-use}
 use Rattle.varisat.proofs.solver.Solver.new_var.Goals as goal
 
 pub invariant_of-self : goal.invariant_of-self
 invariant_of-self g c v =
-    let k = c.self.invariant c.if-self.false in
+    let k = (c.self.invariant c.if-self.false).kept in
     let least = (c.in-Ok.ensures {u = tt}).given in
     let t = least.given in
     let old = c.self.inside.variables in
@@ -31,23 +32,26 @@ invariant_of-self g c v =
     let w = t.users.forward.watermark in
     let m = given-most old new u x t in
     record {
-      bounded = record {
-        users = omega (arith, w, k.bounded.users, same, c.index.ensures.index, c.max_count.ensures, c.if-index-max_count.false);
-        globals = omega (arith, m, c.global_watermark.ensures, c.max_count-else-index-max_count.ensures, c.if-global_watermark-max_count.false);
-        solvers = let q = ap (λ m. length m.backward) t.solvers in omega (arith, q, k.bounded.solvers);
+      kept = record {
+        bounded = record {
+          users = omega (arith, w, k.bounded.users, same, c.index.ensures.index, c.max_count.ensures, c.if-index-max_count.false);
+          globals = omega (arith, m, c.global_watermark.ensures, c.max_count-else-index-max_count.ensures, c.if-global_watermark-max_count.false);
+          solvers = let q = ap (λ m. length m.backward) t.solvers in omega (arith, q, k.bounded.solvers);
+        };
+        ready = k.ready;
+        count = k.count ∙ ap (λ m. length m.backward) (sym t.solvers);
+        decidable = tables-in-use old new (view c.self.inside.ctx) c.self.inside.ctx.vsids t.solvers k.decidable;
+        assumed = λ l h. let (y, e) = there-is (at old.users.forward (variable_of l)) (k.assumed l h) in is-there (at new.users.forward (variable_of l)) y (keeps.named (variable_of l) y e);
+        marked = λ l y h f. let (z, e) = there-is (at old.users.forward (variable_of l)) (k.assumed l h) in marked-keeps old new (variable_of l) y z c.prove_linked.ensures keeps e (k.marked l z h e) f;
+        working = λ l h. assumed-keeps old new (variable_of l) c.prove_linked.ensures keeps (k.working l h);
       };
-      ready = k.ready;
-      count = k.count ∙ ap (λ m. length m.backward) (sym t.solvers);
-      decidable = tables-in-use old new (view c.self.inside.ctx) c.self.inside.ctx.vsids t.solvers k.decidable;
-      assumed = λ l h. let (y, e) = there-is (at old.users.forward (variable_of l)) (k.assumed l h) in is-there (at new.users.forward (variable_of l)) y (keeps.named (variable_of l) y e);
-      marked = λ l y h f. let (z, e) = there-is (at old.users.forward (variable_of l)) (k.assumed l h) in marked-keeps old new (variable_of l) y z c.prove_linked.ensures keeps e (k.marked l z h e) f;
-      working = λ l h. assumed-keeps old new (variable_of l) c.prove_linked.ensures keeps (k.working l h);
+      counts = since-now c.steps-self-inside.result c.self.inside.ctx c.steps-self-inside.ensures.steps k.ready c.steps-self-inside.ensures.plan;
     }
 
 pub returns-in-Ok : goal.returns-in-Ok
 returns-in-Ok g c s st =
     let q = rw (← c.self.view_is) at st in
-    let old = summary_of c.self.inside.variables c.self.inside.started c.self.inside.ctx in
+    let old = summary_of c.self.inside.variables c.self.inside.started c.self.inside.changed_at c.self.inside.ctx in
     let f = q.fits (ap not c.if-self.false) in
     let u = c.in-Ok.user in
     let new = c.new_user_var.new.variables in
@@ -57,8 +61,8 @@ returns-in-Ok g c s st =
       start (with_naming (name_one u s.naming) s),
       (stands-valid _ s q (ap not c.if-self.false), least-free old s u f t.least, omega (arith, same, c.index.ensures.index, c.max_count.ensures, c.if-index-max_count.false), like-refl (start (with_naming (name_one u s.naming) s))),
       record {
-        ledger = ap (λ (x : Ledger). record x { started = true }) q.ledger;
-        fits = λ _. (w, ledger-free w (spaces (with_tables new old)) (with_naming (name_one u s.naming) s) (record (with_naming (name_one u s.naming) s).ledger { started = true }) n);
+        ledger = ledger-is _ _ _ _ _ _ (ap (λ (x : Ledger). x.valid) q.ledger) refl (ap (λ (x : Ledger). x.steps) q.ledger) (none-since c.steps-self-inside.result c.self.inside.ctx.schedule.steps c.steps-self-inside.ensures.steps) (ap (λ (x : Ledger). x.settings) q.ledger);
+        fits = λ _. (w, ledger-free w (spaces (with_tables new old)) (with_naming (name_one u s.naming) s) (record (with_naming (name_one u s.naming) s).ledger { started = true; since = 0 }) n);
       },
     )
 
@@ -66,7 +70,7 @@ pub returns-in-Err : goal.returns-in-Err
 returns-in-Err g c s st =
     let q = rw (← c.self.view_is) at st in
     let f = q.fits (ap not c.if-self.false) in
-    let least = least-free (summary_of c.self.inside.variables c.self.inside.started c.self.inside.ctx) s c.next_unmapped_user-next.result f c.next_unmapped_user-next.ensures.least in (
+    let least = least-free (summary_of c.self.inside.variables c.self.inside.started c.self.inside.changed_at c.self.inside.ctx) s c.next_unmapped_user-next.result f c.next_unmapped_user-next.ensures.least in (
       broken s,
       ((c.next_unmapped_user-next.result, least, omega (arith, c.index.ensures.index, c.max_count.ensures, c.if-index-max_count.false)), broken-invalid s (stands-valid _ s q (ap not c.if-self.false)) f.1.well_formed),
       record { ledger = ap (λ (x : Ledger). record x { valid = false }) q.ledger; fits = λ e. absurd cc },

@@ -3,13 +3,19 @@ use Rattle.varisat.specs.States.{Ledger}
 use Rattle.varisat.specs.Accepting.{mode_of}
 use Rattle.varisat.specs.Usage.{name_var, SetsMode}
 use Rattle.varisat.specs.VariableCalls.{named, with_mode}
-use Rattle.varisat.proofs.CallStates.{begins, like-refl, broken, broken-invalid}
+use Rattle.varisat.proofs.CallStates.{ledger-is, none-since, begins, like-refl, broken, broken-invalid}
 use Rattle.varisat.proofs.Additions.{told-error}
+use Rattle.varisat.proofs.SinceSteps.{since-now}
 use Rattle.varisat.proofs.VariableStates.{unassumed-state, free-state, mode-refused, not-hide, mode-state, kept-after}
 use Rattle.varisat.proofs.solver.Solver.set_mode.Goals as goal
 
 pub invariant_of-self : goal.invariant_of-self
-invariant_of-self g c v = kept-after c.self.inside.ctx c.self.inside.variables c.set_named_mode.new.variables (c.self.invariant c.if-self.false) ((c.in-Ok.ensures {u = tt}).set.stays)
+invariant_of-self g c v =
+    let k = (c.self.invariant c.if-self.false).kept in
+    record {
+      kept = kept-after c.self.inside.ctx c.self.inside.variables c.set_named_mode.new.variables k ((c.in-Ok.ensures {u = tt}).set.stays);
+      counts = since-now c.steps-self-inside.result c.self.inside.ctx c.steps-self-inside.ensures.steps k.ready c.steps-self-inside.ensures.plan;
+    }
 
 pub returns-in_err-check_change : goal.returns-in_err-check_change
 returns-in_err-check_change g c s st =
@@ -27,7 +33,7 @@ returns-in-Ok g c s st =
     let t = with_mode u (mode_of m) (name_var named u s) in (
       t,
       ((k.valid, may.in_range, unassumed-state u k may.unassumed, like-refl t), λ e. absurd cc),
-      record { ledger = k.ledger; fits = λ _. mode-state c.set_named_mode.new.variables u m (mode_of m) k c.requires ((c.in-Ok.ensures {u = tt}).set) },
+      record { ledger = ledger-is _ _ _ _ _ _ (ap (λ (x : Ledger). x.valid) k.ledger) (ap (λ (x : Ledger). x.started) k.ledger) (ap (λ (x : Ledger). x.steps) k.ledger) (none-since c.steps-self-inside.result c.self.inside.ctx.schedule.steps c.steps-self-inside.ensures.steps) (ap (λ (x : Ledger). x.settings) k.ledger); fits = λ _. mode-state c.set_named_mode.new.variables u m (mode_of m) k c.requires ((c.in-Ok.ensures {u = tt}).set) },
     )
 
 pub returns-in-Err : goal.returns-in-Err

@@ -1,31 +1,34 @@
-use Rattle.std.proofs.Common.{◌≡◌, ◌∙◌, Bool, Ok, Err, Option, Some, None, true, false, not, length, refl, sym, ap, subst}
+use Rattle.std.proofs.Common.{◌≡◌, ◌∙◌, ◌+◌, ◌-◌, ℕ, arith, Result, Bool, Ok, Err, Option, Some, None, true, false, not, length, refl, sym, ap, subst}
 use Rattle.varisat_clause.specs.declared.alloc.StoreError.TheVariants.{Memory}
 use Rattle.varisat_schedule.specs.Plans.{Plan}
 use Rattle.varisat_search.specs.declared.context.Context.{Context}
 use Rattle.varisat_search.specs.declared.state.SatState.TheVariants as verdict
 use Rattle.varisat_search.specs.declared.state.SolverState.{SolverState}
 use Rattle.varisat_search.specs.Contexts.{view}
-use Rattle.varisat.specs.Budgets.{told_verdict}
+use Rattle.varisat.specs.Budgets.{told_verdict, CountsSteps}
+use Rattle.varisat.specs.SinceChange.{CountsSince}
 use Rattle.varisat.specs.States.{State, Ledger, Unknown}
 use Rattle.varisat.specs.Searches.{FindsVerdict}
 use Rattle.varisat.specs.Spaces.{SpacesFit}
 use Rattle.varisat.specs.Summaries.{Summary, StandsFor, spaces_of}
 use Rattle.varisat.specs.Calls.{with_verdict, with_steps, Solves}
+use Rattle.varisat.specs.declared.solver.SolverError.{SolverError}
 use Rattle.varisat.specs.declared.solver.SolverError.TheVariants.{Interrupted}
 use Rattle.varisat.specs.Refusals.{store_refusal}
 use Rattle.varisat.proofs.AcceptClause.{ledger-free}
-use Rattle.varisat.proofs.CallStates.{ledger-is, stands-valid, like-refl, told-well, broken, broken-invalid, solves-broken}
+use Rattle.varisat.proofs.CallStates.{ledger-is, more-since, same-since, stands-valid, like-refl, told-well, broken, broken-invalid, solves-broken}
 use Rattle.varisat.proofs.SettingsCalls.{summary_of}
-use Rattle.varisat.proofs.SolverCalls.{StepsMade, Decided, after_steps, decided, counted-call, interrupted, was-unknown, sat-model, sat-right, found-true, found-false, known-told, false-right, false-core, answered-true, answered-false, answered-none, finds-made, dropped-stands}
+use Rattle.varisat.proofs.SolverCalls.{StepsMade, Decided, after_steps, decided, counted-few, counted-call, interrupted, was-unknown, sat-model, sat-right, found-true, found-false, known-told, false-right, false-core, answered-true, answered-false, answered-none, finds-made, dropped-stands}
 use Rattle.varisat.proofs.FindVerdictSteps.{none-counted}
 use Rattle.varisat.proofs.SearchVerdicts.{kept-found}
+use Rattle.varisat.proofs.SinceSteps.{since-on}
 use Rattle.varisat.proofs.solver.Solver.solve.Given.{Over}
 use Rattle.varisat.proofs.solver.Solver.solve.Goals.{In_default, In-Ok-Some, In-Ok-None}
 use Rattle.varisat.proofs.solver.Solver.solve.Goals as goal
 
 -- The search begins once the variables whose values are fixed have left it.
 abbrev as-search-begins : (g : Over) (c : In_default g) → Summary
-as-search-begins g c = summary_of c.drop_fixed.new.variables c.self.inside.started c.drop_fixed.new.ctx
+as-search-begins g c = summary_of c.drop_fixed.new.variables c.self.inside.started c.self.inside.changed_at c.drop_fixed.new.ctx
 
 -- then the solver is valid
 still-valid : (g : Over) (c : In_default g) → not c.drop_fixed.new.ctx.solver_state.state_is_invalid ≡ true
@@ -36,8 +39,8 @@ still-unknown : (g : Over) (c : In_default g) → c.drop_fixed.new.ctx.solver_st
 still-unknown g c = ap (λ (x : SolverState). x.sat_state) c.drop_fixed.ensures.state ∙ c.in-Unknown.is
 
 -- and stands for the state that it stood for
-still-stands : (g : Over) (c : In_default g) (s : State) → StandsFor (summary_of c.self.inside.variables c.self.inside.started c.self.inside.ctx) s → StandsFor (as-search-begins g c) s
-still-stands g c s st = dropped-stands c.self.inside.variables c.drop_fixed.new.variables c.self.inside.started c.self.inside.ctx c.drop_fixed.new.ctx s c.drop_fixed.ensures.state c.drop_fixed.ensures.schedule c.in-Unknown.is (c.in_default.ensures {u = tt}).stands st
+still-stands : (g : Over) (c : In_default g) (s : State) → StandsFor (summary_of c.self.inside.variables c.self.inside.started c.self.inside.changed_at c.self.inside.ctx) s → StandsFor (as-search-begins g c) s
+still-stands g c s st = dropped-stands c.self.inside.variables c.drop_fixed.new.variables c.self.inside.started c.self.inside.changed_at c.self.inside.ctx c.drop_fixed.new.ctx s c.drop_fixed.ensures.state c.drop_fixed.ensures.schedule c.in-Unknown.is (c.in_default.ensures {u = tt}).stands st
 
 -- what the search did, where it found a verdict
 found-some : (g : Over) (c : In-Ok-Some g) → FindsVerdict c.drop_fixed.new.variables c.drop_fixed.new.ctx c.find_named_verdict.new.ctx (Some c.in-Ok-Some.found)
@@ -47,23 +50,44 @@ found-some g c = rw c.in-Ok-Some.field-0-is at c.in-Ok-Some.ensures.found
 found-none : (g : Over) (c : In-Ok-None g) → FindsVerdict c.drop_fixed.new.variables c.drop_fixed.new.ctx c.find_named_verdict.new.ctx None
 found-none g c = rw c.in-Ok-None.field-0-is at c.in-Ok-None.ensures.found
 
+-- the steps since the last change, as the search begins
+still-since : (g : Over) (c : In_default g) → CountsSince c.self.inside.changed_at c.drop_fixed.new.ctx
+still-since g c =
+    let e = c.in_default.ensures {u = tt} in
+    since-on c.self.inside.changed_at c.self.inside.ctx c.drop_fixed.new.ctx e.since c.drop_fixed.ensures.schedule.schedule e.count c.drop_fixed.ensures.state (c.self.invariant c.if-self.false).counts
+
 -- its steps, said of the maps too
 steps-made : (g : Over) (c : In_default g) (new : Context g.row.A.Denot) (found : Option Bool) (f : FindsVerdict c.drop_fixed.new.variables c.drop_fixed.new.ctx new found) → StepsMade (as-search-begins g c) (view new) f.parts new.assumptions new.solver_state.sat_state
-steps-made g c new found f = finds-made c.drop_fixed.new.variables c.self.inside.started c.drop_fixed.new.ctx new found f (c.in_default.ensures {u = tt}).kept (still-unknown g c)
+steps-made g c new found f = finds-made c.drop_fixed.new.variables c.self.inside.started c.self.inside.changed_at c.drop_fixed.new.ctx new found f (c.in_default.ensures {u = tt}).kept (still-unknown g c)
+
+-- how they are told for the state
+since-after : (g : Over) (c : In_default g) {s : State} {n : ℕ} {r : Result Bool SolverError} → StandsFor (as-search-begins g c) s → CountsSteps (length s.counted) s.ledger.settings.max_steps s.ledger.since s.ledger.steps n r → s.ledger.since + (n - s.ledger.steps) ≡ n - c.self.inside.changed_at
+since-after g c {s} {n} q k =
+    let since = ap (λ (x : Ledger). x.since) q.ledger in
+    let steps = ap (λ (x : Ledger). x.steps) q.ledger in
+    let low = (still-since g c).low in
+    let e = k.count in
+    more-since c.self.inside.changed_at s.ledger.steps n s.ledger.since (omega (arith, low, steps)) (omega (arith, e)) (omega (arith, since, steps))
 
 -- a verdict that it found is one of the state
-found-decided : (g : Over) (c : In_default g) (new : Context g.row.A.Denot) (found : Bool) (f : FindsVerdict c.drop_fixed.new.variables c.drop_fixed.new.ctx new (Some found)) (s : State) → StandsFor (summary_of c.self.inside.variables c.self.inside.started c.self.inside.ctx) s → Decided (after_steps (as-search-begins g c) (view new) new.assumptions new.solver_state.sat_state) s found
+found-decided : (g : Over) (c : In_default g) (new : Context g.row.A.Denot) (found : Bool) (f : FindsVerdict c.drop_fixed.new.variables c.drop_fixed.new.ctx new (Some found)) (s : State) → StandsFor (summary_of c.self.inside.variables c.self.inside.started c.self.inside.changed_at c.self.inside.ctx) s → Decided (after_steps (as-search-begins g c) (view new) new.assumptions new.solver_state.sat_state) s found
 found-decided g c new found f s st = decided (as-search-begins g c) s (view new) f.parts new.assumptions new.solver_state.sat_state found (sym f.answer) (still-stands g c s st) (still-valid g c) (steps-made g c new _ f)
 
 pub invariant_of-self-in-Ok-Some : goal.invariant_of-self-in-Ok-Some
 invariant_of-self-in-Ok-Some g c _ =
     let f = found-some g c in
-    kept-found c.drop_fixed.new.variables c.drop_fixed.new.ctx c.find_named_verdict.new.ctx _ (c.in_default.ensures {u = tt}).kept f
+    record {
+      kept = kept-found c.drop_fixed.new.variables c.drop_fixed.new.ctx c.find_named_verdict.new.ctx _ (c.in_default.ensures {u = tt}).kept f;
+      counts = c.in-Ok-Some.ensures.since c.self.inside.changed_at (still-since g (goal.at.invariant_of-self-in-Ok-Some g c).In_default);
+    }
 
 pub invariant_of-self-in-Ok-None : goal.invariant_of-self-in-Ok-None
 invariant_of-self-in-Ok-None g c _ =
     let f = found-none g c in
-    kept-found c.drop_fixed.new.variables c.drop_fixed.new.ctx c.find_named_verdict.new.ctx _ (c.in_default.ensures {u = tt}).kept f
+    record {
+      kept = kept-found c.drop_fixed.new.variables c.drop_fixed.new.ctx c.find_named_verdict.new.ctx _ (c.in_default.ensures {u = tt}).kept f;
+      counts = c.in-Ok-None.ensures.since c.self.inside.changed_at (still-since g (goal.at.invariant_of-self-in-Ok-None g c).In_default);
+    }
 
 pub returns-in-Sat-clause-satisfiable : goal.returns-in-Sat-clause-satisfiable
 returns-in-Sat-clause-satisfiable g c e s st = let q = rw (← c.self.view_is) at st in sat-right _ s q (ap not c.if-self.false) c.in-Sat.is
@@ -89,12 +113,12 @@ returns-in-Ok-Some-clause-call g c s st =
     let ok = still-valid g here in
     let was = was-unknown _ s q ok (still-unknown g here) in
     let d = found-decided g here c.find_named_verdict.new.ctx _ f s (rw (← c.self.view_is) at st) in
-    let counts = counted-call _ s c.max_steps-max_steps.result n (told_verdict c.find_named_verdict.result) (Ok c.in-Ok-Some.found) q ok c.max_steps-max_steps.ensures (ap told_verdict (c.in-Ok-Some.is ∙ ap Ok c.in-Ok-Some.field-0-is)) c.find_named_verdict.ensures.counted in
+    let counts = counted-call _ s c.max_steps-max_steps.result n (told_verdict c.find_named_verdict.result) (Ok c.in-Ok-Some.found) q ok c.max_steps-max_steps.ensures (ap told_verdict (c.in-Ok-Some.is ∙ ap Ok c.in-Ok-Some.field-0-is)) (λ m h. c.find_named_verdict.ensures.counted m c.self.inside.changed_at h (still-since g here)) in
     let t = with_verdict d.verdict (with_steps n s) in (
       t,
       record { valid = stands-valid _ s q ok; known = λ z. absurd (z was); steps = λ _. counts; answer = d.answer; right = d.right; rest = like-refl t },
       record {
-        ledger = ledger-is _ _ _ _ _ (ap (λ (x : Ledger). x.valid) q.ledger ∙ ap (λ (x : SolverState). not x.state_is_invalid) (sym f.state)) (ap (λ (x : Ledger). x.started) q.ledger) refl (ap (λ (x : Ledger). x.settings) q.ledger ∙ sym c.find_named_verdict.ensures.config);
+        ledger = ledger-is _ _ _ _ _ _ (ap (λ (x : Ledger). x.valid) q.ledger ∙ ap (λ (x : SolverState). not x.state_is_invalid) (sym f.state)) (ap (λ (x : Ledger). x.started) q.ledger) refl (since-after g here q counts) (ap (λ (x : Ledger). x.settings) q.ledger ∙ sym c.find_named_verdict.ensures.config);
         fits = λ _. (d.fits.0, ledger-free d.fits.0 _ (with_verdict d.verdict s) t.ledger d.fits.1);
       },
     )
@@ -134,12 +158,12 @@ returns-in-Ok-None-clause-call g c s st =
     let n = new.schedule.steps in
     let made = steps-made g here new _ f in
     let k = interrupted (as-search-begins g here) s (view new) f.parts new.assumptions q ok (subst (λ b. StepsMade (as-search-begins g here) (view new) f.parts new.assumptions b) unknown made) in
-    let counts = counted-call _ s c.max_steps-max_steps.result n (told_verdict c.find_named_verdict.result) (Err Interrupted) q ok c.max_steps-max_steps.ensures (ap told_verdict (c.in-Ok-None.is ∙ ap Ok c.in-Ok-None.field-0-is)) c.find_named_verdict.ensures.counted in
+    let counts = counted-call _ s c.max_steps-max_steps.result n (told_verdict c.find_named_verdict.result) (Err Interrupted) q ok c.max_steps-max_steps.ensures (ap told_verdict (c.in-Ok-None.is ∙ ap Ok c.in-Ok-None.field-0-is)) (λ m h. c.find_named_verdict.ensures.counted m c.self.inside.changed_at h (still-since g here)) in
     let t = with_verdict Unknown (with_steps n s) in (
       t,
       record { valid = stands-valid _ s q ok; unknown = was; steps = counts; rest = record { naming = refl; ever_hidden = refl; clauses = refl; assumptions = refl; counted = refl; verdict = sym was; ledger = refl } },
       record {
-        ledger = ledger-is _ _ _ _ _ (ap (λ (x : Ledger). x.valid) q.ledger ∙ ap (λ (x : SolverState). not x.state_is_invalid) (sym f.state)) (ap (λ (x : Ledger). x.started) q.ledger) refl (ap (λ (x : Ledger). x.settings) q.ledger ∙ sym c.find_named_verdict.ensures.config);
+        ledger = ledger-is _ _ _ _ _ _ (ap (λ (x : Ledger). x.valid) q.ledger ∙ ap (λ (x : SolverState). not x.state_is_invalid) (sym f.state)) (ap (λ (x : Ledger). x.started) q.ledger) refl (since-after g here q counts) (ap (λ (x : Ledger). x.settings) q.ledger ∙ sym c.find_named_verdict.ensures.config);
         fits = λ _. subst (λ b. SpacesFit (spaces_of c.drop_fixed.new.variables (view new) new.assumptions b) t) (sym unknown) (k.0, ledger-free k.0 _ (with_verdict Unknown s) t.ledger k.1);
       },
     )
@@ -151,12 +175,12 @@ returns-in-Err-find_named_verdict-clause-call g c s st =
     let q = still-stands g here s (rw (← c.self.view_is) at st) in
     let was = was-unknown _ s q ok (still-unknown g here) in
     let n = c.find_named_verdict.new.ctx.schedule.steps in
-    let counts = counted-call _ s c.max_steps-max_steps.result n (told_verdict c.find_named_verdict.result) (Err (store_refusal c.in-Err-find_named_verdict.error)) q ok c.max_steps-max_steps.ensures (ap told_verdict c.in-Err-find_named_verdict.is) c.find_named_verdict.ensures.counted in (
+    let counts = counted-call _ s c.max_steps-max_steps.result n (told_verdict c.find_named_verdict.result) (Err (store_refusal c.in-Err-find_named_verdict.error)) q ok c.max_steps-max_steps.ensures (ap told_verdict c.in-Err-find_named_verdict.is) (λ m h. c.find_named_verdict.ensures.counted m c.self.inside.changed_at h (still-since g here)) in (
       broken (with_steps n s),
       subst (λ e. Solves s (Err e) (broken (with_steps n s))) (sym c.from.ensures)
           (solves-broken c.in-Err-find_named_verdict.error s (broken (with_steps n s)) was counts (broken-invalid (with_steps n s) (stands-valid _ s q ok) (told-well s (with_steps n s) (q.fits ok).1.well_formed))),
       record {
-        ledger = ledger-is _ _ _ _ _ refl (ap (λ (x : Ledger). x.started) q.ledger) refl (ap (λ (x : Ledger). x.settings) q.ledger ∙ sym c.find_named_verdict.ensures.config);
+        ledger = ledger-is _ _ _ _ _ _ refl (ap (λ (x : Ledger). x.started) q.ledger) refl (since-after g here q counts) (ap (λ (x : Ledger). x.settings) q.ledger ∙ sym c.find_named_verdict.ensures.config);
         fits = λ e. absurd cc;
       },
     )
@@ -168,9 +192,9 @@ returns-in-Err-clause-call g c s st =
     let n = c.drop_fixed.new.ctx.schedule.steps in
     let same : n ≡ s.ledger.steps = ap (λ (x : Plan). x.steps) c.drop_fixed.ensures.schedule.schedule ∙ sym (ap (λ (x : Ledger). x.steps) q.ledger) in (
       broken (with_steps n s),
-      solves-broken Memory s (broken (with_steps n s)) was (none-counted (length s.counted) s.ledger.settings.max_steps s.ledger.steps n same) (broken-invalid (with_steps n s) (stands-valid _ s q (ap not c.if-self.false)) (told-well s (with_steps n s) (q.fits (ap not c.if-self.false)).1.well_formed)),
+      solves-broken Memory s (broken (with_steps n s)) was (none-counted (length s.counted) s.ledger.settings.max_steps s.ledger.since s.ledger.steps n (counted-few _ s q (ap not c.if-self.false) (λ m h. (c.self.invariant c.if-self.false).counts.few m h)) same) (broken-invalid (with_steps n s) (stands-valid _ s q (ap not c.if-self.false)) (told-well s (with_steps n s) (q.fits (ap not c.if-self.false)).1.well_formed)),
       record {
-        ledger = ledger-is _ _ _ _ _ refl (ap (λ (x : Ledger). x.started) q.ledger) refl (ap (λ (x : Ledger). x.settings) q.ledger ∙ sym c.drop_fixed.ensures.schedule.solver_config);
+        ledger = ledger-is _ _ _ _ _ _ refl (ap (λ (x : Ledger). x.started) q.ledger) refl (same-since c.self.inside.changed_at s.ledger.steps n s.ledger.since same (ap (λ (x : Ledger). x.since) q.ledger ∙ ap (λ k. k - c.self.inside.changed_at) (sym (ap (λ (x : Ledger). x.steps) q.ledger)))) (ap (λ (x : Ledger). x.settings) q.ledger ∙ sym c.drop_fixed.ensures.schedule.solver_config);
         fits = λ e. absurd cc;
       },
     )

@@ -3,7 +3,7 @@ use Rattle.std.proofs.Common.{◌≡◌, ◌++◌, map, Ok}
 use Rattle.varisat.specs.States.{State}
 use Rattle.varisat.specs.Calls.{AddsAll}
 use Rattle.varisat.specs.Summaries.{StandsFor}
-use Rattle.varisat.proofs.solver.Solver.add_formula.Given as goal
+use Rattle.varisat.proofs.solver.Solver.add_clauses.Given as goal
 
 abbrev pub invariant-loop-clause : goal.invariant-loop-clause
 invariant-loop-clause g l = record {

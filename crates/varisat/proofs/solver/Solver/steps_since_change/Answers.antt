@@ -1,0 +1,23 @@
+use Rattle.std.proofs.Common.{◌≡◌, ◌∙◌, ◌-◌, ◌<◌, ◌*◌, ◌^◌, ◌+◌, Bool, true, false, not, length, refl, sym, ap, subst}
+use Rattle.varisat.specs.States.{Ledger}
+use Rattle.varisat.proofs.SolverCalls.{counted-few}
+use Rattle.varisat.proofs.solver.Solver.steps_since_change.Goals as goal
+
+not-valid : (b : Bool) → not b ≡ true → b ≡ false
+not-valid true e = let z : false ≡ true = e in absurd cc
+not-valid false e = refl
+
+pub returns : goal.returns
+returns g c s st =
+    let q = rw (← c.self.view_is) at st in
+    let e = c.saturating_sub.ensures ∙ ap (λ k. k - c.self.inside.changed_at) c.steps.ensures.steps ∙ sym (ap (λ (x : Ledger). x.since) q.ledger) in (
+      s,
+      (
+        e,
+        (λ v.
+            let ok = sym (ap (λ (x : Ledger). x.valid) q.ledger) ∙ v in
+            subst (λ k. k < 2 ^ (2 * length s.counted + 3)) (sym e) (counted-few _ s q ok (λ n h. (c.self.invariant (not-valid c.self.inside.ctx.solver_state.state_is_invalid ok)).counts.few n h))),
+        refl,
+      ),
+      st,
+    )

@@ -1,0 +1,32 @@
+-- How a search came on since some moment, over calls of `solve`.
+use Rattle.std.specs.Prelude.{◌≡◌, ℕ, ◌+◌, ◌-◌, ◌*◌, ◌^◌, ◌<◌, ◌≤◌, List, length}
+use Rattle.varisat_theory.specs.Membership.{◌∈◌, IsDistinct}
+use Rattle.varisat_prop.specs.View.{kinds}
+use Rattle.varisat_schedule.specs.Plans.{PlannedCall}
+use Rattle.varisat_schedule.specs.CallSteps.{HasComeWithout}
+use Rattle.varisat_search.specs.declared.context.Context.{Context}
+use Rattle.varisat_search.specs.declared.state.SatState.TheVariants as verdict
+use Rattle.varisat_search.specs.Contexts.{view}
+use Rattle.varisat_search.specs.Decisions.{IsDecidable}
+
+-- what begins with the context as one call does
+abbrev pub call_from : {A : Type 0} → Context A → PlannedCall
+call_from x = record { variables = length x.assignment.current; scale = x.solver_config.luby_restart_interval_scale; begins = x.schedule }
+
+-- The search came here by steps of the schedule at one scale, with as many variables all the time. In between so many units left it, and what has left is not decided again: so with the units the trail is never longer than there are variables.
+pub record HasComeSince {A : Type 0} (c : PlannedCall) (x : Context A) : Type 0 where
+  pub units : ℕ
+  pub come : HasComeWithout c x.schedule units (kinds (view x))
+  pub scale : c.scale ≡ x.solver_config.luby_restart_interval_scale
+  pub variables : c.variables ≡ length x.assignment.current
+  pub room : (vs : List ℕ) → IsDistinct vs → ((v : ℕ) → v ∈ vs → IsDecidable (view x) x.vsids v) → units + length vs ≤ c.variables
+
+-- Whatever the moment was, the search has come from there to the second context too.
+abbrev pub GoesOnSince : {A : Type 0} → Context A → Context A → Type 0
+GoesOnSince x y = (c : PlannedCall) → HasComeSince c x → HasComeSince c y
+
+-- What a solver keeps of the steps since its last change, before which `changed_at` steps were made. They are few, for each number that bounds the variables of the search. And as long as no verdict is known the search came from there, so that it can go on.
+pub record CountsSince {A : Type 0} (changed_at : ℕ) (x : Context A) : Type 0 where
+  pub low : changed_at ≤ x.schedule.steps
+  pub few : (n : ℕ) → length x.assignment.current ≤ n → x.schedule.steps - changed_at < 2 ^ (2 * n + 3)
+  pub come : x.solver_state.sat_state ≡ verdict.Unknown → (c : PlannedCall) × (c.begins.steps ≡ changed_at) × HasComeSince c x

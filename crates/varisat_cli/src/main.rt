@@ -58,11 +58,12 @@ fn run(rt: &HostRuntime) -> u8 {
     }
 }
 
-// The format of the proof that `check` reads: text, or binary with `--binary`.
+// The format of the proof that `check` reads: text, binary with `--binary`, or marked text with `--marked`.
 fn proof_format(option: Option<&str>) -> Option<ProofFormat> {
     match option {
         None => Some(ProofFormat::Drat),
         Some("--binary") => Some(ProofFormat::BinaryDrat),
+        Some("--marked") => Some(ProofFormat::Marked),
         Some(_) => None,
     }
 }

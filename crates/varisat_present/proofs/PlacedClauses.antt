@@ -47,6 +47,9 @@ at_within (o ∷ cs) (suc i) c e = let h = at_within cs i c e in omega (arith, h
 pub unit_there : {A : Type 0} (cs : List (Option (Vec ℕ A))) (i l : ℕ) → ((c : Clause) × (present_at cs i ≡ Some c) × SameSet c (l ∷ [])) → (c : Clause) × (c ∈ present cs) × IsUnit l c
 unit_there cs i l w = (w.0, at_in cs i w.0 w.1, (w.2.1 l (inl refl), λ m k. ⊎_elim (λ q. q) (λ z. absurd z) (w.2.0 m k)))
 
+pub equal_there : {A : Type 0} (cs : List (Option (Vec ℕ A))) (i : ℕ) (c : Clause) → ((d : Clause) × (present_at cs i ≡ Some d) × SameSet d c) → (d : Clause) × (d ∈ present cs) × SameSet d c
+equal_there cs i c w = (w.0, at_in cs i w.0 w.1, w.2)
+
 -- 2. The places so far.
 present_suc : {A : Type 0} (cs : List (Option (Vec ℕ A))) (i : ℕ) → present (take (suc i) cs) ≡ present (take i cs) ++ option_to_list (present_at cs i)
 present_suc [] zero = refl

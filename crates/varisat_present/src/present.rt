@@ -214,6 +214,17 @@ impl<A: Allocator + Copy> PresentClauses<A> {
         Ok(())
     }
 
+    /// Whether a clause is equal as a set.
+    pub fn has(&self, clause: &[Lit]) -> bool
+        ensures yes { result ≡ true → (c : Clause) × (c ∈ self.now) × SameSet c clause.now }
+        ensures no { result ≡ false → IsAbsent self.now clause.now }
+    {
+        match find_equal(&self.places, &self.index, clause) {
+            None => false,
+            Some(_) => true,
+        }
+    }
+
     /// Takes out one clause that is equal as a set, or returns false where there is none.
     pub fn take_out(&mut self, clause: &[Lit]) -> bool
         ensures taken { result ≡ true → TakesOut self.old clause.now self.new }

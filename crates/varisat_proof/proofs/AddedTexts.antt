@@ -13,7 +13,7 @@ use Rattle.varisat_formula.specs.Parsed.{EndsInFault, TakesPiece}
 use Rattle.varisat_formula.proofs.ParserProgress.{begin_gives, gives_failed}
 use Rattle.varisat_formula.proofs.ParsedSources.{reads_none, reads_more}
 use Rattle.varisat_proof.specs.declared.checker.error.CheckerError.{CheckerError}
-use Rattle.varisat_proof.specs.declared.checker.error.CheckerError.TheVariants.{CheckFailed, NoSuchClause, Parse, Io, OutOfMemory, Dimacs, Spent}
+use Rattle.varisat_proof.specs.declared.checker.error.CheckerError.TheVariants.{CheckFailed, NoSuchClause, CoreNotAssumed, Parse, Io, OutOfMemory, Dimacs, Spent}
 use Rattle.varisat_proof.specs.Calls.{CheckerState, IsRefusal, Becomes, GivesReading, Whole, FaultInText, TextFailed, ReaderRanOut, AddsRead}
 use Rattle.varisat_proof.specs.Checks.{RefusesText}
 
@@ -124,6 +124,7 @@ ran_out old mid new front OutOfMemory w h = (refl, (w.usable, h.1))
 ran_out old mid new front Spent w h = absurd (let f : true ≡ false = sym h.0 ∙ ap (λ x. x.spent) w.now ∙ w.usable in cc)
 ran_out old mid new front (CheckFailed n) w h = absurd h
 ran_out old mid new front (NoSuchClause n) w h = absurd h
+ran_out old mid new front (CoreNotAssumed n) w h = absurd h
 ran_out old mid new front (Parse o) w h = absurd h
 ran_out old mid new front (Io x) w h = absurd h
 ran_out old mid new front (Dimacs x) w h = absurd h
@@ -134,6 +135,7 @@ refused_reading old mid new front R fault (Dimacs cause) w f h =
 refused_reading old mid new front R fault OutOfMemory w f h = (w.usable, h.1)
 refused_reading old mid new front R fault (CheckFailed n) w f h = absurd h
 refused_reading old mid new front R fault (NoSuchClause n) w f h = absurd h
+refused_reading old mid new front R fault (CoreNotAssumed n) w f h = absurd h
 refused_reading old mid new front R fault (Parse o) w f h = absurd h
 refused_reading old mid new front R fault (Io x) w f h = absurd h
 refused_reading old mid new front R fault Spent w f h = absurd h
@@ -143,6 +145,7 @@ reading_behind old mid new front R (Ok u) w h = (h.0, let m = added_more old mid
 reading_behind old mid new front R (Err (Dimacs cause)) w h = (h.0, h.1, let m = added_more old mid new front R.clauses w h.2 in record { usable = m.usable; now = m.now })
 reading_behind old mid new front R (Err (CheckFailed n)) w h = absurd h
 reading_behind old mid new front R (Err (NoSuchClause n)) w h = absurd h
+reading_behind old mid new front R (Err (CoreNotAssumed n)) w h = absurd h
 reading_behind old mid new front R (Err (Parse o)) w h = absurd h
 reading_behind old mid new front R (Err (Io x)) w h = absurd h
 reading_behind old mid new front R (Err OutOfMemory) w h = (w.usable, h.1)

@@ -2,8 +2,7 @@
 use Rattle.std.proofs.Common.{◌≡◌, ℕ, zero, suc, ◌+◌, ◌<◌, ◌≤◌, List, [], ◌∷◌, ◌++◌, length, take, drop, get_or, false, refl, sym, ap, subst, ◌∙◌, take_all, Result, Ok, Err, arith}
 use Rattle.varisat_theory.specs.Literals.{Clause}
 use Rattle.varisat_theory.specs.Derivations.{Line, Add, Delete, Derives}
-use Rattle.varisat_theory.specs.Checking.{IsWrong, IsLineStatus}
-use Rattle.varisat_theory.specs.declared.checker.LineStatus.TheVariants.{Unproved, Absent}
+use Rattle.varisat_theory.specs.Checking.{IsWrong}
 use Rattle.varisat_theory.proofs.Lines.{derives_append}
 use Rattle.varisat_proof.specs.declared.checker.error.CheckerError.{CheckerError}
 use Rattle.varisat_proof.specs.declared.checker.error.CheckerError.TheVariants.{CheckFailed, NoSuchClause, OutOfMemory}
@@ -13,16 +12,10 @@ use Rattle.varisat_theory.specs.StepLaws.{unit_lines}
 use Rattle.varisat_proof.specs.Calls.{CheckerState, IsStep, FailsAt}
 use Rattle.varisat_proof.specs.Checks.{ChecksLine, ChecksUnits, ChecksCore}
 
--- 1. One line.
-pub line_unproved : (old new : CheckerState) (line : Line) (n : ℕ) → IsLineStatus old.clauses line Unproved new.clauses → new ≡ old → ChecksLine old line n (Err (CheckFailed n)) new
-line_unproved old new (Add c) n h e = ((c, refl, h), refl, e)
-line_unproved old new (Delete c) n h e = absurd h
+pub checker_is : (new old : CheckerState) → new.clauses ≡ old.clauses → new.spent ≡ old.spent → new ≡ old
+checker_is new old e f = ap (λ x. let s : CheckerState = record { clauses = x; spent = new.spent } in s) e ∙ ap (λ x. let s : CheckerState = record { clauses = old.clauses; spent = x } in s) f
 
-pub line_absent : (old new : CheckerState) (line : Line) (n : ℕ) → IsLineStatus old.clauses line Absent new.clauses → new ≡ old → ChecksLine old line n (Err (NoSuchClause n)) new
-line_absent old new (Add c) n h e = absurd h
-line_absent old new (Delete c) n h e = ((c, refl, h), refl, e)
-
--- 2. Clauses of one literal.
+-- 1. Clauses of one literal.
 abbrev unit_line : ℕ → Line
 unit_line l = Add (l ∷ [])
 
@@ -73,7 +66,7 @@ units_fail old mid new ls i l n (NoSuchClause step) h e k d s w = absurd (let f 
 units_fail old mid new ls i l n OutOfMemory h e k d s w = w
 units_fail old mid new ls i l n error h e k d s w = absurd w
 
--- 3. Steps.
+-- 2. Steps.
 fails_at : (old new : CheckerState) (line : Line) (l : Line) (n : ℕ) → line ≡ l → IsWrong old.clauses l → n ≡ 1 → new ≡ old → FailsAt old.clauses (line ∷ []) n l new.clauses
 fails_at old new line l n e w k s = record {
   front = [];

@@ -1,3 +1,4 @@
+pub mod Elements
 pub mod TokenSymbols
 pub mod MachineTokens
 pub mod TokenLines
@@ -6,6 +7,10 @@ pub mod GrammarLaws
 pub mod LineBytes
 pub mod CheckedLines
 pub mod CheckedSources
+pub mod PlainResults
+pub mod MarkedReports
+pub mod MarkedOnce
+pub mod CheckResults
 pub mod RightResults
 pub mod CheckedSteps
 pub mod MappedSteps

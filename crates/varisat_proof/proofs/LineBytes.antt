@@ -1,16 +1,16 @@
 -- The bytes that the writer puts together.
 use Rattle.std.proofs.Common.{◌≡◌, ℕ, zero, suc, ◌+◌, ◌-◌, ◌*◌, ◌/◌, ◌%◌, ◌<◌, ◌≤◌, List, [], ◌∷◌, ◌++◌, length, get_or, take, drop, flat_map, Err, true, false, nat_lt, if◌then◌else◌, refl, sym, ap, ◌∙◌, append_assoc, append-nil, ◌⊎◌, inl, inr, take_all, arith, rules}
-use Rattle.varisat_theory.specs.Derivations.{Line, Add}
 use Rattle.varisat_literals.specs.Numbers.{literal_text}
 use Rattle.varisat_formula.specs.Streams.{Taken}
 use Rattle.varisat_formula.specs.Written.{spaced_literals}
 use Rattle.varisat_formula.proofs.TargetParts.{literals_more, begun_part, parts_split}
-use Rattle.varisat_proof.specs.declared.proof.format.ProofFormat.{ProofFormat}
+use Rattle.varisat_proof.specs.declared.proof.format.Encoding.{Encoding}
 use Rattle.varisat_proof.specs.declared.proof.format.LineKind.{LineKind}
-use Rattle.varisat_proof.specs.declared.proof.format.LineKind.TheVariants.{Adds, Deletes}
+use Rattle.varisat_proof.specs.declared.proof.format.LineKind.TheVariants.{Adds}
 use Rattle.varisat_proof.specs.declared.proof.writer.WriteError.{WriteError}
 use Rattle.varisat_proof.specs.declared.proof.writer.WriteError.TheVariants.{Memory, Target}
-use Rattle.varisat_proof.specs.Written.{leb128, leb128_by, codes_bytes, line_of_kind, line_text, line_bytes, line_written}
+use Rattle.varisat_proof.specs.Lines.{ProofLine, line_of_kind, plain_lines, letter}
+use Rattle.varisat_proof.specs.Written.{leb128, leb128_by, codes_bytes, mark_text, line_text, line_bytes, line_written}
 use Rattle.varisat_proof.specs.Machine.{scale}
 use Rattle.varisat_theory.specs.StepLaws.{unit_lines}
 use Rattle.varisat_proof.specs.Steps.{lines_written, PutsLines}
@@ -46,22 +46,13 @@ leb128_goes old new whole left rest b p h f e g =
 pub leb128_ends : (old new whole : List ℕ) (left rest b : ℕ) → (left ≡ 0) ⊎ (rest < 128) → b ≡ rest → new ≡ old ++ b ∷ [] → old ++ leb128_by left rest ≡ whole → new ≡ whole
 leb128_ends old new whole left rest b h f e g = e ∙ ap (λ x. old ++ x ∷ []) f ∙ ap (λ x. old ++ x) (sym (leb128_last left rest h)) ∙ g
 
--- what stands in front of a clause's literals
-abbrev pub mark_text : LineKind → List ℕ
-mark_text Adds = []
-mark_text Deletes = 100 ∷ 32 ∷ []
-
 pub text_more : (m old new : List ℕ) (ls : List ℕ) (i l : ℕ) → i < length ls → l ≡ get_or ls i l → old ≡ m ++ spaced_literals (take i ls) → new ≡ old ++ (literal_text l ++ 32 ∷ []) → new ≡ m ++ spaced_literals (take (i + 1) ls)
 text_more m old new ls i l h e f g =
     g ∙ ap (λ x. x ++ (literal_text l ++ 32 ∷ [])) f ∙ append_assoc m (spaced_literals (take i ls)) (literal_text l ++ 32 ∷ []) ∙ ap (λ x. m ++ x) (literals_more ls i l h e)
 
 pub text_ends : (d : LineKind) (old new : List ℕ) (ls : List ℕ) (i : ℕ) → length ls ≤ i → old ≡ mark_text d ++ spaced_literals (take i ls) → new ≡ old ++ (48 ∷ 10 ∷ []) → new ≡ line_text (line_of_kind d ls)
-text_ends Deletes old new ls i h f g = g ∙ ap (λ x. x ++ (48 ∷ 10 ∷ [])) f ∙ ap (λ x. 100 ∷ 32 ∷ (spaced_literals x ++ (48 ∷ 10 ∷ []))) (take_all i ls h)
-text_ends Adds old new ls i h f g = g ∙ ap (λ x. x ++ (48 ∷ 10 ∷ [])) f ∙ ap (λ x. spaced_literals x ++ (48 ∷ 10 ∷ [])) (take_all i ls h)
-
-abbrev pub tag : LineKind → ℕ
-tag Adds = 97
-tag Deletes = 100
+text_ends d old new ls i h f g =
+    g ∙ ap (λ x. x ++ (48 ∷ 10 ∷ [])) f ∙ ap (λ x. (mark_text d ++ spaced_literals x) ++ (48 ∷ 10 ∷ [])) (take_all i ls h) ∙ append_assoc (mark_text d) (spaced_literals ls) (48 ∷ 10 ∷ [])
 
 codes_more : (ls : List ℕ) (i l : ℕ) → i < length ls → l ≡ get_or ls i l → codes_bytes (take i ls) ++ leb128 (l + 2) ≡ codes_bytes (take (i + 1) ls)
 codes_more [] i l h e = absurd (omega arith)
@@ -76,55 +67,57 @@ pub binary_more : (m old new : List ℕ) (ls : List ℕ) (i l n : ℕ) → i < l
 binary_more m old new ls i l n h e k f g =
     g ∙ ap (λ x. x ++ leb128 n) f ∙ append_assoc m (codes_bytes (take i ls)) (leb128 n) ∙ ap (λ x. m ++ (codes_bytes (take i ls) ++ leb128 x)) k ∙ ap (λ x. m ++ x) (codes_more ls i l h e)
 
-pub binary_ends : (d : LineKind) (old new : List ℕ) (ls : List ℕ) (i : ℕ) → length ls ≤ i → old ≡ tag d ∷ codes_bytes (take i ls) → new ≡ old ++ 0 ∷ [] → new ≡ line_bytes (line_of_kind d ls)
-binary_ends Deletes old new ls i h f g = g ∙ ap (λ x. x ++ 0 ∷ []) f ∙ ap (λ x. 100 ∷ (codes_bytes x ++ 0 ∷ [])) (take_all i ls h)
-binary_ends Adds old new ls i h f g = g ∙ ap (λ x. x ++ 0 ∷ []) f ∙ ap (λ x. 97 ∷ (codes_bytes x ++ 0 ∷ [])) (take_all i ls h)
+pub binary_ends : (d : LineKind) (old new : List ℕ) (ls : List ℕ) (i : ℕ) → length ls ≤ i → old ≡ letter d ∷ codes_bytes (take i ls) → new ≡ old ++ 0 ∷ [] → new ≡ line_bytes (line_of_kind d ls)
+binary_ends d old new ls i h f g = g ∙ ap (λ x. x ++ 0 ∷ []) f ∙ ap (λ x. letter d ∷ (codes_bytes x ++ 0 ∷ [])) (take_all i ls h)
 
 -- clauses of one literal
-abbrev pub unit_line : ℕ → Line
-unit_line l = Add (l ∷ [])
+abbrev pub unit_line : ℕ → ProofLine
+unit_line l = line_of_kind Adds (l ∷ [])
 
-abbrev pub unit_bytes : ProofFormat → ℕ → List ℕ
+abbrev pub singles : List ℕ → List ProofLine
+singles ls = plain_lines (unit_lines ls)
+
+abbrev pub unit_bytes : Encoding → ℕ → List ℕ
 unit_bytes f l = line_written f (unit_line l)
 
-units_bytes : (f : ProofFormat) (ls : List ℕ) → lines_written f (unit_lines ls) ≡ flat_map (unit_bytes f) ls
+units_bytes : (f : Encoding) (ls : List ℕ) → lines_written f (singles ls) ≡ flat_map (unit_bytes f) ls
 units_bytes f [] = refl
 units_bytes f (l ∷ ls) = ap (λ x. unit_bytes f l ++ x) (units_bytes f ls)
 
-pub units_err : (f : ProofFormat) (old mid new : Taken) (e : WriteError) (ls : List ℕ) (i l : ℕ) → i < length ls → l ≡ get_or ls i l →
-    mid.bytes ≡ old.bytes ++ lines_written f (unit_lines (take i ls)) → mid.faults ≡ old.faults →
-    PutsLines f mid (Err e) (unit_line l ∷ []) new → PutsLines f old (Err e) (unit_lines ls) new
+pub units_err : (f : Encoding) (old mid new : Taken) (e : WriteError) (ls : List ℕ) (i l : ℕ) → i < length ls → l ≡ get_or ls i l →
+    mid.bytes ≡ old.bytes ++ lines_written f (singles (take i ls)) → mid.faults ≡ old.faults →
+    PutsLines f mid (Err e) (unit_line l ∷ []) new → PutsLines f old (Err e) (singles ls) new
 units_err f old mid new e ls i l h g put quiet p = by_error e p
   where
-    split : lines_written f (unit_lines (take i ls)) ++ (lines_written f (unit_line l ∷ []) ++ flat_map (unit_bytes f) (drop (suc i) ls)) ≡ lines_written f (unit_lines ls)
+    split : lines_written f (singles (take i ls)) ++ (lines_written f (unit_line l ∷ []) ++ flat_map (unit_bytes f) (drop (suc i) ls)) ≡ lines_written f (singles ls)
     split =
-        ap (λ x. lines_written f (unit_lines (take i ls)) ++ (x ++ flat_map (unit_bytes f) (drop (suc i) ls))) (append-nil (unit_bytes f l))
+        ap (λ x. lines_written f (singles (take i ls)) ++ (x ++ flat_map (unit_bytes f) (drop (suc i) ls))) (append-nil (unit_bytes f l))
         ∙ ap (λ x. x ++ (unit_bytes f l ++ flat_map (unit_bytes f) (drop (suc i) ls))) (units_bytes f (take i ls))
         ∙ ap (λ x. flat_map (unit_bytes f) (take i ls) ++ (unit_bytes f x ++ flat_map (unit_bytes f) (drop (suc i) ls))) g
         ∙ parts_split (unit_bytes f) ls i l h ∙ sym (units_bytes f ls)
 
-    begun : (n : ℕ) → new.bytes ≡ mid.bytes ++ take n (lines_written f (unit_line l ∷ [])) → (m : ℕ) × (new.bytes ≡ old.bytes ++ take m (lines_written f (unit_lines ls)))
-    begun n k = begun_part old.bytes mid.bytes new.bytes (lines_written f (unit_lines (take i ls))) (lines_written f (unit_line l ∷ [])) (flat_map (unit_bytes f) (drop (suc i) ls)) (lines_written f (unit_lines ls)) n put k split
+    begun : (n : ℕ) → new.bytes ≡ mid.bytes ++ take n (lines_written f (unit_line l ∷ [])) → (m : ℕ) × (new.bytes ≡ old.bytes ++ take m (lines_written f (singles ls)))
+    begun n k = begun_part old.bytes mid.bytes new.bytes (lines_written f (singles (take i ls))) (lines_written f (unit_line l ∷ [])) (flat_map (unit_bytes f) (drop (suc i) ls)) (lines_written f (singles ls)) n put k split
 
-    by_error : (e : WriteError) → PutsLines f mid (Err e) (unit_line l ∷ []) new → PutsLines f old (Err e) (unit_lines ls) new
+    by_error : (e : WriteError) → PutsLines f mid (Err e) (unit_line l ∷ []) new → PutsLines f old (Err e) (singles ls) new
     by_error Memory q = (begun q.0.0 q.0.1, q.1 ∙ quiet)
     by_error (Target x) q = (begun q.0.0 q.0.1, q.1 ∙ ap (λ n. n + 1) quiet)
 
-pub units_more : (f : ProofFormat) (old mid new : Taken) (ls : List ℕ) (i l : ℕ) → i < length ls → l ≡ get_or ls i l →
-    mid.bytes ≡ old.bytes ++ lines_written f (unit_lines (take i ls)) → new.bytes ≡ mid.bytes ++ lines_written f (unit_line l ∷ []) → new.bytes ≡ old.bytes ++ lines_written f (unit_lines (take (i + 1) ls))
+pub units_more : (f : Encoding) (old mid new : Taken) (ls : List ℕ) (i l : ℕ) → i < length ls → l ≡ get_or ls i l →
+    mid.bytes ≡ old.bytes ++ lines_written f (singles (take i ls)) → new.bytes ≡ mid.bytes ++ lines_written f (unit_line l ∷ []) → new.bytes ≡ old.bytes ++ lines_written f (singles (take (i + 1) ls))
 units_more f old mid new ls i l h g put k =
-    k ∙ ap (λ x. x ++ lines_written f (unit_line l ∷ [])) put ∙ append_assoc old.bytes (lines_written f (unit_lines (take i ls))) (lines_written f (unit_line l ∷ []))
+    k ∙ ap (λ x. x ++ lines_written f (unit_line l ∷ [])) put ∙ append_assoc old.bytes (lines_written f (singles (take i ls))) (lines_written f (unit_line l ∷ []))
     ∙ ap (λ x. old.bytes ++ x) (taken ls i h g)
   where
     more : (i : ℕ) → suc (i + 1) ≡ suc i + 1
     more i = omega arith
 
-    taken : (ls : List ℕ) (i : ℕ) → i < length ls → l ≡ get_or ls i l → lines_written f (unit_lines (take i ls)) ++ lines_written f (unit_line l ∷ []) ≡ lines_written f (unit_lines (take (i + 1) ls))
+    taken : (ls : List ℕ) (i : ℕ) → i < length ls → l ≡ get_or ls i l → lines_written f (singles (take i ls)) ++ lines_written f (unit_line l ∷ []) ≡ lines_written f (singles (take (i + 1) ls))
     taken [] i h g = absurd (omega arith)
     taken (x ∷ ls) zero h g = ap (λ y. lines_written f (unit_line y ∷ [])) g
     taken (x ∷ ls) (suc i) h g =
-        append_assoc (unit_bytes f x) (lines_written f (unit_lines (take i ls))) (lines_written f (unit_line l ∷ []))
-        ∙ ap (λ ys. unit_bytes f x ++ ys) (taken ls i (omega arith) g) ∙ ap (λ k. lines_written f (unit_lines (take k (x ∷ ls)))) (more i)
+        append_assoc (unit_bytes f x) (lines_written f (singles (take i ls))) (lines_written f (unit_line l ∷ []))
+        ∙ ap (λ ys. unit_bytes f x ++ ys) (taken ls i (omega arith) g) ∙ ap (λ k. lines_written f (singles (take k (x ∷ ls)))) (more i)
 
-pub units_all : (f : ProofFormat) (ls : List ℕ) (i : ℕ) → length ls ≤ i → lines_written f (unit_lines (take i ls)) ≡ lines_written f (unit_lines ls)
-units_all f ls i h = ap (λ x. lines_written f (unit_lines x)) (take_all i ls h)
+pub units_all : (f : Encoding) (ls : List ℕ) (i : ℕ) → length ls ≤ i → lines_written f (singles (take i ls)) ≡ lines_written f (singles ls)
+units_all f ls i h = ap (λ x. lines_written f (singles x)) (take_all i ls h)

@@ -6,13 +6,14 @@ use Rattle.varisat_formula.specs.declared.dimacs.token.Meaning.TheVariants.{End,
 use Rattle.varisat_formula.specs.Dimacs.{is_blank, meaning, next}
 use Rattle.varisat_formula.specs.Machine.{no_word, after_byte, word_from}
 use Rattle.varisat_formula.proofs.TokenBytes.{meaning_agrees}
-use Rattle.varisat_proof.specs.declared.proof.format.ProofFormat.{ProofFormat}
-use Rattle.varisat_proof.specs.declared.proof.format.ProofFormat.TheVariants.{Drat, BinaryDrat}
+use Rattle.varisat_proof.specs.declared.proof.format.Encoding.{Encoding}
+use Rattle.varisat_proof.specs.declared.proof.format.Encoding.TheVariants.{Text, Binary}
 use Rattle.varisat_proof.specs.declared.checker.token.Symbol.{Symbol}
 use Rattle.varisat_proof.specs.declared.checker.token.Symbol.TheVariants.{Mark, Number, Cut, Bad}
 use Rattle.varisat_proof.specs.declared.checker.token.Event.TheVariants.{More}
 use Rattle.varisat_proof.specs.declared.checker.token.Part.{Part}
-use Rattle.varisat_proof.specs.Grammar.{is_mark, meant, text_symbol, value_of, is_none, binary_symbol, text_token, text_tokens, cut_token, ends_number, binary_tokens, tokens, end_of}
+use Rattle.varisat_proof.specs.Lines.{letter_kind}
+use Rattle.varisat_proof.specs.Grammar.{is_kind, meant, text_symbol, value_of, is_none, binary_symbol, text_token, text_tokens, cut_token, ends_number, binary_tokens, tokens, end_of}
 use Rattle.varisat_proof.specs.Machine.{Place, Parsed, line_at, event, moved, put, at_end, fault_offset, read, between, no_part, after_text, part_symbol, scale, grown_value, after_binary, number_symbol, ReaderState, ended_token, parsed_from, parsed}
 
 -- 1. Tokens.
@@ -36,87 +37,88 @@ unfolding part_from
 part_behind first w [] = refl
 part_behind first w (b ∷ bs) = part_behind first (after_byte w b) bs
 
-token_agrees : (b : ℕ) (bs : List ℕ) → part_symbol (part_of (b ∷ bs)) ≡ text_symbol (b ∷ bs)
-unfolding part_from
-token_agrees b [] = ap (λ m. if is_mark b then Mark b else meant m) (sym (meaning_agrees (b ∷ [])))
-token_agrees b (c ∷ bs) = ap part_symbol (part_behind b (after_byte (after_byte no_word b) c) bs) ∙ ap meant (sym (meaning_agrees (b ∷ c ∷ bs)))
+module _ (marked : Bool) where
+  token_agrees : (b : ℕ) (bs : List ℕ) → part_symbol marked (part_of (b ∷ bs)) ≡ text_symbol marked (b ∷ bs)
+  unfolding part_from
+  token_agrees b [] = ap (λ m. if is_kind (letter_kind marked b) then Mark b else meant m) (sym (meaning_agrees (b ∷ [])))
+  token_agrees b (c ∷ bs) = ap (λ p. part_symbol marked p) (part_behind b (after_byte (after_byte no_word b) c) bs) ∙ ap meant (sym (meaning_agrees (b ∷ c ∷ bs)))
 
-some_part : (b : ℕ) (bs : List ℕ) → ((part_of (b ∷ bs)).count == 0) ≡ false
-unfolding part_from
-some_part b [] = refl
-some_part b (c ∷ bs) = ap (λ p. p.count == 0) (part_behind b (after_byte (after_byte no_word b) c) bs)
+  some_part : (b : ℕ) (bs : List ℕ) → ((part_of (b ∷ bs)).count == 0) ≡ false
+  unfolding part_from
+  some_part b [] = refl
+  some_part b (c ∷ bs) = ap (λ p. p.count == 0) (part_behind b (after_byte (after_byte no_word b) c) bs)
 
-meant_offset : (inside : Bool) (m : Meaning) (at end : ℕ) → fault_offset inside (meant m) at end ≡ at
-meant_offset inside End at end = refl
-meant_offset inside (Literal l) at end = refl
-meant_offset inside TooLarge at end = refl
-meant_offset inside Wrong at end = refl
+  meant_offset : (inside : Bool) (m : Meaning) (at end : ℕ) → fault_offset inside (meant m) at end ≡ at
+  meant_offset inside End at end = refl
+  meant_offset inside (Literal l) at end = refl
+  meant_offset inside TooLarge at end = refl
+  meant_offset inside Wrong at end = refl
 
-mark_offset : (t inside : Bool) (b : ℕ) (m : Meaning) (at end : ℕ) → fault_offset inside (if t then Mark b else meant m) at end ≡ at
-mark_offset true inside b m at end = refl
-mark_offset false inside b m at end = meant_offset inside m at end
+  mark_offset : (t inside : Bool) (b : ℕ) (m : Meaning) (at end : ℕ) → fault_offset inside (if t then Mark b else meant m) at end ≡ at
+  mark_offset true inside b m at end = refl
+  mark_offset false inside b m at end = meant_offset inside m at end
 
-text_offset : (inside : Bool) (b : ℕ) (bs : List ℕ) (at end : ℕ) → fault_offset inside (text_symbol (b ∷ bs)) at end ≡ at
-text_offset inside b [] at end = mark_offset (is_mark b) inside b (meaning (b ∷ [])) at end
-text_offset inside b (c ∷ bs) at end = meant_offset inside (meaning (b ∷ c ∷ bs)) at end
+  text_offset : (inside : Bool) (b : ℕ) (bs : List ℕ) (at end : ℕ) → fault_offset inside (text_symbol marked (b ∷ bs)) at end ≡ at
+  text_offset inside b [] at end = mark_offset (is_kind (letter_kind marked b)) inside b (meaning (b ∷ [])) at end
+  text_offset inside b (c ∷ bs) at end = meant_offset inside (meaning (b ∷ c ∷ bs)) at end
 
-abbrev text_at : ℕ → ℕ → Part → Place → ReaderState
-text_at at start part place = record { format = Drat; at = at; start = start; part = part; place = place }
+  abbrev text_at : ℕ → ℕ → Part → Place → ReaderState
+  text_at at start part place = record { encoding = (Text marked); at = at; start = start; part = part; place = place }
 
--- what is parsed of a token, and then of the rest
-abbrev token_parsed : ℕ → Place → ℕ → Symbol → (Place → Parsed) → Parsed
-token_parsed end place start symbol rest = put (event Drat place.inside symbol) (line_at (moved Drat place symbol)) (fault_offset place.inside symbol start end) (rest (moved Drat place symbol))
+  -- what is parsed of a token, and then of the rest
+  abbrev token_parsed : ℕ → Place → ℕ → Symbol → (Place → Parsed) → Parsed
+  token_parsed end place start symbol rest = put (event (Text marked) place.inside symbol) (line_at (moved (Text marked) place symbol)) (fault_offset place.inside symbol start end) (rest (moved (Text marked) place symbol))
 
--- the machine behind a byte
-abbrev text_step : Bool → Bool → ℕ → ℕ → Part → Place → ℕ → List ℕ → Parsed
-text_step blank empty at start part place b bs =
-    let here : ReaderState = text_at at start part place in
-    let then_ : ReaderState = if blank && not empty then ended_token here (moved Drat place (part_symbol part)) else (if blank then ended_token here place else text_at (next at) start (after_text part b) place) in
-    put (if blank && not empty then event Drat place.inside (part_symbol part) else More) (line_at then_.place) start (parsed_from then_ bs)
+  -- the machine behind a byte
+  abbrev text_step : Bool → Bool → ℕ → ℕ → Part → Place → ℕ → List ℕ → Parsed
+  text_step blank empty at start part place b bs =
+      let here : ReaderState = text_at at start part place in
+      let then_ : ReaderState = if blank && not empty then ended_token here (moved (Text marked) place (part_symbol marked part)) else (if blank then ended_token here place else text_at (next at) start (after_text part b) place) in
+      put (if blank && not empty then event (Text marked) place.inside (part_symbol marked part) else More) (line_at then_.place) start (parsed_from then_ bs)
 
-abbrev text_read : Bool → ℕ → ℕ → ℕ → List ℕ → Place → ℕ → List ℕ → Parsed
-text_read blank end at start word place b bs =
-    read Drat end place (if blank then text_token start word ++ text_tokens (next at) (next at) [] bs else text_tokens (next at) start (word ++ b ∷ []) bs)
+  abbrev text_read : Bool → ℕ → ℕ → ℕ → List ℕ → Place → ℕ → List ℕ → Parsed
+  text_read blank end at start word place b bs =
+      read (Text marked) end place (if blank then text_token marked start word ++ text_tokens marked (next at) (next at) [] bs else text_tokens marked (next at) start (word ++ b ∷ []) bs)
 
--- the same for all of a rest
-abbrev TextAgrees : List ℕ → Type 0
-TextAgrees bs = (at start : ℕ) (word : List ℕ) (place : Place) → parsed_from (text_at at start (part_of word) place) bs ≡ read Drat (end_of at bs) place (text_tokens at start word bs)
+  -- the same for all of a rest
+  abbrev TextAgrees : List ℕ → Type 0
+  TextAgrees bs = (at start : ℕ) (word : List ℕ) (place : Place) → parsed_from (text_at at start (part_of word) place) bs ≡ read (Text marked) (end_of at bs) place (text_tokens marked at start word bs)
 
-text_blank : (at start : ℕ) (word : List ℕ) (place : Place) (b : ℕ) (bs : List ℕ) → TextAgrees bs →
-    text_step true ((part_of word).count == 0) at start (part_of word) place b bs ≡ text_read true (end_of (next at) bs) at start word place b bs
-unfolding part_from
-text_blank at start [] place b bs h = h (next at) (next at) [] place
-text_blank at start (c ∷ cs) place b bs h =
-    let end = end_of (next at) bs in
-    let word = c ∷ cs in
-    let rest : Place → Parsed = λ q. parsed_from (text_at (next at) (next at) no_part q) bs in
-    let us = text_tokens (next at) (next at) [] bs in
-    ap (λ t. text_step true t at start (part_of word) place b bs) (some_part c cs)
-    ∙ ap (λ s. put (event Drat place.inside s) (line_at (moved Drat place s)) start (rest (moved Drat place s))) (token_agrees c cs)
-    ∙ ap (λ o. put (event Drat place.inside (text_symbol word)) (line_at (moved Drat place (text_symbol word))) o (rest (moved Drat place (text_symbol word)))) (sym (text_offset place.inside c cs start end))
-    ∙ ap (λ t. put (event Drat place.inside (text_symbol word)) (line_at (moved Drat place (text_symbol word))) (fault_offset place.inside (text_symbol word) start end) t) (h (next at) (next at) [] (moved Drat place (text_symbol word)))
+  text_blank : (at start : ℕ) (word : List ℕ) (place : Place) (b : ℕ) (bs : List ℕ) → TextAgrees bs →
+      text_step true ((part_of word).count == 0) at start (part_of word) place b bs ≡ text_read true (end_of (next at) bs) at start word place b bs
+  unfolding part_from
+  text_blank at start [] place b bs h = h (next at) (next at) [] place
+  text_blank at start (c ∷ cs) place b bs h =
+      let end = end_of (next at) bs in
+      let word = c ∷ cs in
+      let rest : Place → Parsed = λ q. parsed_from (text_at (next at) (next at) no_part q) bs in
+      let us = text_tokens marked (next at) (next at) [] bs in
+      ap (λ t. text_step true t at start (part_of word) place b bs) (some_part c cs)
+      ∙ ap (λ s. put (event (Text marked) place.inside s) (line_at (moved (Text marked) place s)) start (rest (moved (Text marked) place s))) (token_agrees c cs)
+      ∙ ap (λ o. put (event (Text marked) place.inside (text_symbol marked word)) (line_at (moved (Text marked) place (text_symbol marked word))) o (rest (moved (Text marked) place (text_symbol marked word)))) (sym (text_offset place.inside c cs start end))
+      ∙ ap (λ t. put (event (Text marked) place.inside (text_symbol marked word)) (line_at (moved (Text marked) place (text_symbol marked word))) (fault_offset place.inside (text_symbol marked word) start end) t) (h (next at) (next at) [] (moved (Text marked) place (text_symbol marked word)))
 
-text_more : (at start : ℕ) (word : List ℕ) (place : Place) (b : ℕ) (bs : List ℕ) → TextAgrees bs →
-    text_step false ((part_of word).count == 0) at start (part_of word) place b bs ≡ text_read false (end_of (next at) bs) at start word place b bs
-text_more at start word place b bs h =
-    ap (λ p. parsed_from (text_at (next at) start p place) bs) (sym (part_more no_part word b)) ∙ h (next at) start (word ++ b ∷ []) place
+  text_more : (at start : ℕ) (word : List ℕ) (place : Place) (b : ℕ) (bs : List ℕ) → TextAgrees bs →
+      text_step false ((part_of word).count == 0) at start (part_of word) place b bs ≡ text_read false (end_of (next at) bs) at start word place b bs
+  text_more at start word place b bs h =
+      ap (λ p. parsed_from (text_at (next at) start p place) bs) (sym (part_more no_part word b)) ∙ h (next at) start (word ++ b ∷ []) place
 
-text_byte : (t : Bool) (at start : ℕ) (word : List ℕ) (place : Place) (b : ℕ) (bs : List ℕ) → TextAgrees bs →
-    text_step t ((part_of word).count == 0) at start (part_of word) place b bs ≡ text_read t (end_of (next at) bs) at start word place b bs
-text_byte true at start word place b bs h = text_blank at start word place b bs h
-text_byte false at start word place b bs h = text_more at start word place b bs h
+  text_byte : (t : Bool) (at start : ℕ) (word : List ℕ) (place : Place) (b : ℕ) (bs : List ℕ) → TextAgrees bs →
+      text_step t ((part_of word).count == 0) at start (part_of word) place b bs ≡ text_read t (end_of (next at) bs) at start word place b bs
+  text_byte true at start word place b bs h = text_blank at start word place b bs h
+  text_byte false at start word place b bs h = text_more at start word place b bs h
 
-text_closing : (at start : ℕ) (word : List ℕ) (place : Place) → parsed_from (text_at at start (part_of word) place) [] ≡ read Drat at place (text_token start word)
-unfolding part_from
-text_closing at start [] place = refl
-text_closing at start (c ∷ cs) place =
-    let s = text_symbol (c ∷ cs) in
-    let parsed : Bool → Symbol → Parsed = λ t s. put (if t then More else event Drat place.inside s) (line_at (if t then place else moved Drat place s)) (fault_offset place.inside s start at) (at_end at (if t then place else moved Drat place s)) in
-    ap (λ t. parsed t (part_symbol (part_of (c ∷ cs)))) (some_part c cs) ∙ ap (λ s. parsed false s) (token_agrees c cs)
+  text_closing : (at start : ℕ) (word : List ℕ) (place : Place) → parsed_from (text_at at start (part_of word) place) [] ≡ read (Text marked) at place (text_token marked start word)
+  unfolding part_from
+  text_closing at start [] place = refl
+  text_closing at start (c ∷ cs) place =
+      let s = text_symbol marked (c ∷ cs) in
+      let parsed : Bool → Symbol → Parsed = λ t s. put (if t then More else event (Text marked) place.inside s) (line_at (if t then place else moved (Text marked) place s)) (fault_offset place.inside s start at) (at_end at (if t then place else moved (Text marked) place s)) in
+      ap (λ t. parsed t (part_symbol marked (part_of (c ∷ cs)))) (some_part c cs) ∙ ap (λ s. parsed false s) (token_agrees c cs)
 
-text_agrees : (bs : List ℕ) → TextAgrees bs
-text_agrees [] = λ at start word place. text_closing at start word place
-text_agrees (b ∷ bs) = λ at start word place. text_byte (is_blank b) at start word place b bs (text_agrees bs)
+  text_agrees : (bs : List ℕ) → TextAgrees bs
+  text_agrees [] = λ at start word place. text_closing at start word place
+  text_agrees (b ∷ bs) = λ at start word place. text_byte (is_blank b) at start word place b bs (text_agrees bs)
 
 -- 2. Numbers.
 abbrev number_part : List ℕ → Part
@@ -156,21 +158,21 @@ number_offset true inside v at end = refl
 number_offset false inside v at end = refl
 
 abbrev binary_at : ℕ → ℕ → Part → Place → ReaderState
-binary_at at start part place = record { format = BinaryDrat; at = at; start = start; part = part; place = place }
+binary_at at start part place = record { encoding = Binary; at = at; start = start; part = part; place = place }
 
 abbrev binary_step : Bool → ℕ → ℕ → Part → Place → ℕ → List ℕ → Parsed
 binary_step e at start part place b bs =
     let here : ReaderState = binary_at at start part place in
-    let then_ : ReaderState = if e then ended_token here (moved BinaryDrat place (number_symbol part b)) else binary_at (next at) start (after_binary part b) place in
-    put (if e then event BinaryDrat place.inside (number_symbol part b) else More) (line_at then_.place) start (parsed_from then_ bs)
+    let then_ : ReaderState = if e then ended_token here (moved Binary place (number_symbol part b)) else binary_at (next at) start (after_binary part b) place in
+    put (if e then event Binary place.inside (number_symbol part b) else More) (line_at then_.place) start (parsed_from then_ bs)
 
 abbrev binary_read : Bool → ℕ → ℕ → ℕ → List ℕ → Place → ℕ → List ℕ → Parsed
 binary_read e end at start front place b bs =
-    read BinaryDrat end place (if e then record { at = start; symbol = binary_symbol front b } ∷ binary_tokens (next at) (next at) [] bs else binary_tokens (next at) start (front ++ b ∷ []) bs)
+    read Binary end place (if e then record { at = start; symbol = binary_symbol front b } ∷ binary_tokens (next at) (next at) [] bs else binary_tokens (next at) start (front ++ b ∷ []) bs)
 
 abbrev BinaryAgrees : List ℕ → Type 0
 BinaryAgrees bs =
-    (at start : ℕ) (front : List ℕ) (place : Place) → length front ≤ 4 → parsed_from (binary_at at start (number_part front) place) bs ≡ read BinaryDrat (end_of at bs) place (binary_tokens at start front bs)
+    (at start : ℕ) (front : List ℕ) (place : Place) → length front ≤ 4 → parsed_from (binary_at at start (number_part front) place) bs ≡ read Binary (end_of at bs) place (binary_tokens at start front bs)
 
 not_four : (c : Bool) (n : ℕ) → (c || n == 4) ≡ false → n ≤ 4 → n < 4
 not_four true n e h = absurd cc
@@ -189,18 +191,18 @@ binary_byte true at start front place b bs h few e =
     let end = end_of (next at) bs in
     let s = binary_symbol front b in
     let rest : Place → Parsed = λ q. parsed_from (binary_at (next at) (next at) no_part q) bs in
-    ap (λ s. put (event BinaryDrat place.inside s) (line_at (moved BinaryDrat place s)) start (rest (moved BinaryDrat place s))) (number_agrees front b few)
-    ∙ ap (λ o. put (event BinaryDrat place.inside s) (line_at (moved BinaryDrat place s)) o (rest (moved BinaryDrat place s))) (sym (number_offset (nat_lt b 128 && (nat_lt 0 b || is_none front) && nat_le (value_of (front ++ b ∷ [])) (2 ^ 29 + 1)) place.inside (value_of (front ++ b ∷ [])) start end))
-    ∙ ap (λ t. put (event BinaryDrat place.inside s) (line_at (moved BinaryDrat place s)) (fault_offset place.inside s start end) t) (h (next at) (next at) [] (moved BinaryDrat place s) (omega arith))
+    ap (λ s. put (event Binary place.inside s) (line_at (moved Binary place s)) start (rest (moved Binary place s))) (number_agrees front b few)
+    ∙ ap (λ o. put (event Binary place.inside s) (line_at (moved Binary place s)) o (rest (moved Binary place s))) (sym (number_offset (nat_lt b 128 && (nat_lt 0 b || is_none front) && nat_le (value_of (front ++ b ∷ [])) (2 ^ 29 + 1)) place.inside (value_of (front ++ b ∷ [])) start end))
+    ∙ ap (λ t. put (event Binary place.inside s) (line_at (moved Binary place s)) (fault_offset place.inside s start end) t) (h (next at) (next at) [] (moved Binary place s) (omega arith))
 binary_byte false at start front place b bs h few e =
     let l = length_more front b in
     let g = not_four (nat_lt b 128) (length front) e few in
     ap (λ p. parsed_from (binary_at (next at) start p place) bs) (part_grows front b few) ∙ h (next at) start (front ++ b ∷ []) place (omega (arith, l, g))
 
-binary_closing : (at start : ℕ) (front : List ℕ) (place : Place) → parsed_from (binary_at at start (number_part front) place) [] ≡ read BinaryDrat at place (cut_token start front)
+binary_closing : (at start : ℕ) (front : List ℕ) (place : Place) → parsed_from (binary_at at start (number_part front) place) [] ≡ read Binary at place (cut_token start front)
 binary_closing at start [] place = refl
 binary_closing at start (c ∷ cs) place =
-    let parsed : Bool → Parsed = λ t. put (if t then More else event BinaryDrat place.inside Cut) (line_at (if t then place else moved BinaryDrat place Cut)) (fault_offset place.inside Cut start at) (at_end at (if t then place else moved BinaryDrat place Cut)) in
+    let parsed : Bool → Parsed = λ t. put (if t then More else event Binary place.inside Cut) (line_at (if t then place else moved Binary place Cut)) (fault_offset place.inside Cut start at) (at_end at (if t then place else moved Binary place Cut)) in
     ap parsed (none_length (c ∷ cs))
 
 binary_agrees : (bs : List ℕ) → BinaryAgrees bs
@@ -208,7 +210,7 @@ binary_agrees [] = λ at start front place h. binary_closing at start front plac
 binary_agrees (b ∷ bs) = λ at start front place h. binary_byte (ends_number front b) at start front place b bs (binary_agrees bs) h refl
 
 -- the machine parses the same of bytes as of their tokens
-pub parsed_is : (f : ProofFormat) (bytes : List ℕ) → parsed f bytes ≡ read f (end_of 0 bytes) between (tokens f bytes)
+pub parsed_is : (f : Encoding) (bytes : List ℕ) → parsed f bytes ≡ read f (end_of 0 bytes) between (tokens f bytes)
 unfolding part_from
-parsed_is Drat bytes = text_agrees bytes 0 0 [] between
-parsed_is BinaryDrat bytes = binary_agrees bytes 0 0 [] between (omega arith)
+parsed_is (Text marked) bytes = text_agrees marked bytes 0 0 [] between
+parsed_is Binary bytes = binary_agrees bytes 0 0 [] between (omega arith)

@@ -1,18 +1,27 @@
 -- A text whose clauses a proof is checked against.
-use Rattle.std.proofs.Common.{◌≡◌, ℕ, List, [], Bool, true, false, Option, Some, None, Result, Ok, Err, refl, sym, ap, subst, ◌∙◌, arith}
+use Rattle.std.proofs.Common.{◌≡◌, ℕ, List, [], Bool, true, false, Option, Some, None, Result, Ok, Err, refl, sym, ap, subst, ◌∙◌, arith, ◌∷◌, ◌++◌, inl, ⊎_elim}
+use Rattle.varisat_theory.specs.Membership.{◌∈◌, SameSet}
+use Rattle.varisat_theory.specs.Literals.{Clause, IsSatisfiable}
+use Rattle.varisat_theory.proofs.Members.{∈-append_right, ∈-append_cases}
 use Rattle.varisat_formula.specs.declared.dimacs.error.DimacsErrorKind.{DimacsErrorKind}
 use Rattle.varisat_formula.specs.declared.dimacs.error.DimacsErrorKind.TheVariants as kind
 use Rattle.varisat_formula.specs.declared.dimacs.error.DimacsError.{DimacsError}
 use Rattle.varisat_formula.specs.Dimacs.{Reading, nothing, items, read, lines, last_line, BreaksOff, close_by, broken}
 use Rattle.varisat_formula.specs.Streams.{Stand}
 use Rattle.varisat_proof.specs.declared.proof.format.ProofFormat.{ProofFormat}
+use Rattle.varisat_proof.specs.declared.proof.format.ProofFormat.TheVariants.{Drat, BinaryDrat, Marked}
+use Rattle.varisat_proof.specs.declared.proof.format.Encoding.TheVariants.{Text}
+use Rattle.varisat_proof.specs.declared.checker.marked.MarkedReport.{MarkedReport}
 use Rattle.varisat_proof.specs.declared.checker.error.CheckVerdict.{CheckVerdict}
 use Rattle.varisat_proof.specs.declared.checker.error.CheckVerdict.TheVariants.{Refutation, Derivation}
 use Rattle.varisat_proof.specs.declared.checker.error.CheckerError.{CheckerError}
-use Rattle.varisat_proof.specs.declared.checker.error.CheckerError.TheVariants.{CheckFailed, NoSuchClause, Parse, Io, OutOfMemory, Dimacs, Spent}
-use Rattle.varisat_proof.specs.Calls.{CheckerState, Checks, GivesReading, Whole, FaultInText, TextFailed, ReaderRanOut, AddsText, Added, ClauseRanOut, Unread}
-use Rattle.varisat_proof.specs.Verified.{GivesClauses, GivesUnsatisfiable, Inputs, Verifies, verdict_of, verdict_status}
-use Rattle.varisat_proof.proofs.CheckedSources.{check_sound}
+use Rattle.varisat_proof.specs.declared.checker.error.CheckerError.TheVariants.{CheckFailed, NoSuchClause, CoreNotAssumed, Parse, Io, OutOfMemory, Dimacs, Spent}
+use Rattle.varisat_proof.specs.Calls.{CheckerState, Checks, ChecksBytes, ChecksMarked, IsMarkedResult, core_lists, GivesReading, Whole, FaultInText, TextFailed, ReaderRanOut, AddsText, Added, ClauseRanOut, Unread}
+use Rattle.varisat_proof.specs.Marked.{Told, nothing_told, IsCheckOf}
+use Rattle.varisat_proof.specs.Verified.{AreGiven, IsMarkedCheck, IsMarkedVerdict, VerifiesMarked, VerifiesBy, GivesClauses, GivesUnsatisfiable, Inputs, Verifies, verdict_of, verdict_status}
+use Rattle.varisat_proof.proofs.CheckResults.{checks_sound}
+use Rattle.varisat_proof.proofs.CheckedSources.{checks_ok, checks_err, checks_right}
+use Rattle.varisat_proof.proofs.MarkedReports.{refutation_sound}
 
 -- a text that breaks off has a fault
 closed_broken : (f : Option DimacsError) (x : DimacsErrorKind) (r : Reading) (n : ℕ) → r.fault ≡ f → (close_by f (BreaksOff x) r n).fault ≡ None → ⊥
@@ -63,6 +72,7 @@ is_refutation (Ok Refutation) e = refl
 is_refutation (Ok Derivation) e = absurd cc
 is_refutation (Err (CheckFailed n)) e = absurd cc
 is_refutation (Err (NoSuchClause n)) e = absurd cc
+is_refutation (Err (CoreNotAssumed n)) e = absurd cc
 is_refutation (Err (Parse o)) e = absurd cc
 is_refutation (Err (Io x)) e = absurd cc
 is_refutation (Err OutOfMemory) e = absurd cc
@@ -71,8 +81,49 @@ is_refutation (Err Spent) e = absurd cc
 
 pub verified_unsatisfiable : (f : ProofFormat) (old new : Inputs) (v : Bool) → v ≡ true → Verifies f old new v → GivesUnsatisfiable old.cnf new.cnf
 verified_unsatisfiable f old new v e w =
-    (w.clauses, w.given, check_sound f (record { checker = record { clauses = w.clauses; spent = false }; source = old.proof }) (record { checker = w.left; source = new.proof }) w.result_is (is_refutation w.result_is (w.verdict ∙ ap Some e)) w.checks)
+    (w.clauses, w.given, checks_sound f w.clauses w.left.clauses w.result_is old.proof new.proof (is_refutation w.result_is (w.verdict ∙ ap Some e)) w.checks)
 
-pub status_is_true : (f : ProofFormat) (old new : Inputs) (v : Bool) (n : ℕ) → n ≡ verdict_status v → Verifies f old new v → n ≡ 0 → GivesUnsatisfiable old.cnf new.cnf
-status_is_true f old new true n e w z = verified_unsatisfiable f old new true refl w
+-- a check of a marked proof by a new checker
+pub marked_ok : {A : Type 0} (other new : CheckerState) (report : MarkedReport A) (p q : Stand) → other ≡ record { clauses = []; spent = false } → (other.spent ≡ false → ChecksMarked (record { checker = other; source = p }) (Ok report) (record { checker = new; source = q })) →
+    ChecksBytes {V = CheckVerdict} (λ bytes. IsMarkedCheck bytes (Ok report.verdict) report.inputs.clauses new.clauses) p (Ok report.verdict) q
+marked_ok other new report p q e h =
+    checks_ok (λ bytes. IsMarkedResult other.clauses bytes (Ok report) new.clauses) (λ bytes. IsMarkedCheck bytes (Ok report.verdict) report.inputs.clauses new.clauses) p q report report.verdict
+    (λ bytes k. let t : Told = record { assumed = k.0; inputs = report.inputs; cores = core_lists report.cores.items } in (t, refl, subst (λ (P : List Clause). IsCheckOf (Text true) (record { present = P; told = nothing_told }) bytes (Ok report.verdict) (record { present = new.clauses; told = t })) (ap (λ x. x.clauses) e) k.1)) (h (ap (λ x. x.spent) e))
+
+pub marked_err : {A : Type 0} (other new : CheckerState) (x : CheckerError) (p q : Stand) → other ≡ record { clauses = []; spent = false } → (other.spent ≡ false → ChecksBytes {V = MarkedReport A} (λ bytes. (told : Told) × IsCheckOf (Text true) (record { present = other.clauses; told = nothing_told }) bytes (Err x) (record { present = new.clauses; told = told })) p (Err x) q) →
+    ChecksBytes {V = CheckVerdict} (λ bytes. IsMarkedCheck bytes (Err x) [] new.clauses) p (Err x) q
+marked_err other new x p q e h =
+    checks_err (λ bytes. (told : Told) × IsCheckOf (Text true) (record { present = other.clauses; told = nothing_told }) bytes (Err x) (record { present = new.clauses; told = told })) (λ bytes. IsMarkedCheck bytes (Err x) [] new.clauses) p q x
+    (λ bytes k. (k.0, subst (λ (P : List Clause). IsCheckOf (Text true) (record { present = P; told = nothing_told }) bytes (Err x) (record { present = new.clauses; told = k.0 })) (ap (λ x. x.clauses) e) k.1)) (h (ap (λ x. x.spent) e))
+
+pub verifies_marked : (s t p q : Stand) (start mid : CheckerState) (r : Result CheckVerdict CheckerError) (inputs Q : List Clause) (v : Bool) → start ≡ record { clauses = []; spent = false } →
+    AddsText (record { checker = start; source = s }) (Ok tt) (record { checker = mid; source = t }) → ChecksBytes {V = CheckVerdict} (λ bytes. IsMarkedCheck bytes r inputs Q) p r q → IsMarkedVerdict mid.clauses r inputs v →
+    VerifiesMarked (record { cnf = s; proof = p }) (record { cnf = t; proof = q }) v
+verifies_marked s t p q start mid r inputs Q v e a c d =
+    let w = took s t mid (subst (λ x. AddsText (record { checker = x; source = s }) (Ok tt) (record { checker = mid; source = t })) e a) in
+    record { clauses = mid.clauses; given = w.given; result_is = r; inputs = inputs; left = Q; checks = c; verdict = d }
+
+pub next_among : (xs rest all : List Clause) (c : Clause) → xs ++ c ∷ rest ≡ all → c ∈ all
+next_among xs rest all c e = subst (λ x. c ∈ x) e (∈-append_right c xs (c ∷ rest) (inl refl))
+
+pub given_more : (P cs : List Clause) (c : Clause) → AreGiven P cs → ((d : Clause) × (d ∈ P) × SameSet d c) → AreGiven P (cs ++ c ∷ [])
+given_more P cs c g w x m = ⊎_elim (λ k. g x k) (λ k. ⊎_elim (λ e. subst (λ y. (d : Clause) × (d ∈ P) × SameSet d y) (sym e) w) (λ z. absurd z) k) (∈-append_cases x cs (c ∷ []) m)
+
+given_satisfied : (P cs : List Clause) → AreGiven P cs → IsSatisfiable P → IsSatisfiable cs
+given_satisfied P cs g (a, s) = (a, λ c m. let w = g c m in let x = s w.0 w.1 in (x.0, w.2.0 x.0 x.1, x.2))
+
+marked_refutes : (P inputs Q : List Clause) (r : Result CheckVerdict CheckerError) (old new : Stand) → ChecksBytes {V = CheckVerdict} (λ bytes. IsMarkedCheck bytes r inputs Q) old r new → IsMarkedVerdict P r inputs true → IsSatisfiable P → ⊥
+marked_refutes P inputs Q (Ok v) old new c d i =
+    let h = d.0 refl in
+    let w = checks_right (λ bytes. IsMarkedCheck bytes (Ok v) inputs Q) old new v c in
+    refutation_sound [] Q w.0 w.1.0 v h.0 w.1.2 (subst IsSatisfiable (sym w.1.1) (given_satisfied P inputs h.1 i))
+marked_refutes P inputs Q (Err x) old new c d i = absurd (let z = d.1 in cc)
+
+pub unsatisfiable_by : (f : ProofFormat) (old new : Inputs) → VerifiesBy f old new true → GivesUnsatisfiable old.cnf new.cnf
+unsatisfiable_by Drat old new w = verified_unsatisfiable Drat old new true refl w
+unsatisfiable_by BinaryDrat old new w = verified_unsatisfiable BinaryDrat old new true refl w
+unsatisfiable_by Marked old new w = (w.clauses, w.given, marked_refutes w.clauses w.inputs w.left w.result_is old.proof new.proof w.checks w.verdict)
+
+pub status_is_true : (f : ProofFormat) (old new : Inputs) (v : Bool) (n : ℕ) → n ≡ verdict_status v → VerifiesBy f old new v → n ≡ 0 → GivesUnsatisfiable old.cnf new.cnf
+status_is_true f old new true n e w z = unsatisfiable_by f old new w
 status_is_true f old new false n e w z = absurd (omega arith)

@@ -1,6 +1,7 @@
 -- What the calls of a checker return, and what they make of it.
-use Rattle.std.specs.Prelude.{◌≡◌, ◌≢◌, ℕ, suc, ◌+◌, List, ◌∷◌, ◌++◌, length, Bool, true, false, Some, None, Result, Ok, Err}
-use Rattle.varisat_theory.specs.Literals.{Clause}
+use Rattle.std.specs.Prelude.{◌≡◌, ◌≢◌, ℕ, suc, ◌+◌, List, ◌∷◌, ◌++◌, length, take, map, Vec, Bool, true, false, Some, None, Result, Ok, Err}
+use Rattle.varisat_theory.specs.Membership.{◌∈◌}
+use Rattle.varisat_theory.specs.Literals.{Literal, Clause, IsSatisfiable, IsSatisfiableWith}
 use Rattle.varisat_theory.specs.Propagation.{Conflicts}
 use Rattle.varisat_theory.specs.Derivations.{Line, Add, Delete, Derives}
 use Rattle.varisat_theory.specs.Checking.{IsWrong}
@@ -12,11 +13,15 @@ use Rattle.varisat_formula.specs.Streams.{Stand, HasEnded}
 use Rattle.varisat_proof.specs.declared.proof.format.ProofFormat.{ProofFormat}
 use Rattle.varisat_trace.specs.declared.step.ProofStep.{ProofStep}
 use Rattle.varisat_trace.specs.declared.step.ProofStep.TheVariants.{AtClause, UnitClauses, DeleteClause, DeleteVar, FailedAssumptions}
+use Rattle.varisat_proof.specs.declared.proof.format.Encoding.TheVariants.{Text}
 use Rattle.varisat_proof.specs.declared.checker.error.CheckVerdict.{CheckVerdict}
+use Rattle.varisat_proof.specs.declared.checker.error.CheckVerdict.TheVariants.{Refutation}
+use Rattle.varisat_proof.specs.declared.checker.marked.MarkedReport.{MarkedReport}
 use Rattle.varisat_proof.specs.declared.checker.error.CheckerError.{CheckerError}
-use Rattle.varisat_proof.specs.declared.checker.error.CheckerError.TheVariants.{CheckFailed, NoSuchClause, Parse, Io, OutOfMemory, Dimacs, Spent}
-use Rattle.varisat_proof.specs.Steps.{lines_of}
+use Rattle.varisat_proof.specs.declared.checker.error.CheckerError.TheVariants.{CheckFailed, NoSuchClause, CoreNotAssumed, Parse, Io, OutOfMemory, Dimacs, Spent}
+use Rattle.varisat_proof.specs.Steps.{step_lines}
 use Rattle.varisat_proof.specs.Results.{IsResult}
+use Rattle.varisat_proof.specs.Marked.{Told, nothing_told, IsCheckOf}
 
 -- the present clauses, and whether the checker is spent
 pub record CheckerState : Type 0 where
@@ -29,6 +34,7 @@ IsRefusal old OutOfMemory new = (old.spent ≡ false) × (new.spent ≡ true)
 IsRefusal old Spent new = (old.spent ≡ true) × (new ≡ old)
 IsRefusal old (CheckFailed step) new = ⊥
 IsRefusal old (NoSuchClause step) new = ⊥
+IsRefusal old (CoreNotAssumed step) new = ⊥
 IsRefusal old (Parse offset) new = ⊥
 IsRefusal old (Io cause) new = ⊥
 IsRefusal old (Dimacs cause) new = ⊥
@@ -58,9 +64,9 @@ is_io error = false
 -- 1. Steps.
 -- what a step that is taken makes of the present clauses
 abbrev pub Takes : List Clause → ProofStep → List Clause → Type 0
-Takes P (AtClause c) Q = Derives P (lines_of (AtClause c)) Q
-Takes P (UnitClauses units) Q = Derives P (lines_of (UnitClauses units)) Q
-Takes P (DeleteClause c) Q = Derives P (lines_of (DeleteClause c)) Q
+Takes P (AtClause c) Q = Derives P (step_lines (AtClause c)) Q
+Takes P (UnitClauses units) Q = Derives P (step_lines (UnitClauses units)) Q
+Takes P (DeleteClause c) Q = Derives P (step_lines (DeleteClause c)) Q
 Takes P (DeleteVar v) Q = Q ≡ without v P
 Takes P (FailedAssumptions core) Q = Conflicts P core.now × (Q ≡ P)
 
@@ -75,8 +81,8 @@ pub record FailsAt (P : List Clause) (lines : List Line) (number : ℕ) (line : 
 
 -- a clause of the step does not follow, or its literals do not conflict
 abbrev pub DoesNotFollow : List Clause → ProofStep → ℕ → List Clause → Type 0
-DoesNotFollow P (AtClause c) number Q = (d : Clause) × FailsAt P (lines_of (AtClause c)) number (Add d) Q
-DoesNotFollow P (UnitClauses units) number Q = (d : Clause) × FailsAt P (lines_of (UnitClauses units)) number (Add d) Q
+DoesNotFollow P (AtClause c) number Q = (d : Clause) × FailsAt P (step_lines (AtClause c)) number (Add d) Q
+DoesNotFollow P (UnitClauses units) number Q = (d : Clause) × FailsAt P (step_lines (UnitClauses units)) number (Add d) Q
 DoesNotFollow P (DeleteClause c) number Q = ⊥
 DoesNotFollow P (DeleteVar v) number Q = ⊥
 DoesNotFollow P (FailedAssumptions core) number Q = (Conflicts P core.now → ⊥) × (number ≡ 1) × (Q ≡ P)
@@ -85,7 +91,8 @@ DoesNotFollow P (FailedAssumptions core) number Q = (Conflicts P core.now → �
 abbrev pub IsStep : CheckerState → ProofStep → Result (Unit {0}) CheckerError → CheckerState → Type 0
 IsStep old step (Ok u) new = Takes old.clauses step new.clauses × (old.spent ≡ false) × (new.spent ≡ false)
 IsStep old step (Err (CheckFailed number)) new = DoesNotFollow old.clauses step number new.clauses × (old.spent ≡ false) × (new.spent ≡ false)
-IsStep old step (Err (NoSuchClause number)) new = ((d : Clause) × FailsAt old.clauses (lines_of step) number (Delete d) new.clauses) × (old.spent ≡ false) × (new.spent ≡ false)
+IsStep old step (Err (NoSuchClause number)) new = ((d : Clause) × FailsAt old.clauses (step_lines step) number (Delete d) new.clauses) × (old.spent ≡ false) × (new.spent ≡ false)
+IsStep old step (Err (CoreNotAssumed number)) new = ⊥
 IsStep old step (Err (Parse offset)) new = ⊥
 IsStep old step (Err (Io cause)) new = ⊥
 IsStep old step (Err OutOfMemory) new = IsRefusal old OutOfMemory new
@@ -98,27 +105,50 @@ pub record CheckerStanding : Type 0 where
   pub checker : CheckerState
   pub source : Stand
 
--- a result that speaks of the bytes
-abbrev pub IsOfBytes : Result CheckVerdict CheckerError → Type 0
-IsOfBytes (Ok v) = Unit {0}
-IsOfBytes (Err (CheckFailed step)) = Unit {0}
-IsOfBytes (Err (NoSuchClause step)) = Unit {0}
-IsOfBytes (Err (Parse offset)) = Unit {0}
-IsOfBytes (Err (Io cause)) = ⊥
-IsOfBytes (Err OutOfMemory) = ⊥
-IsOfBytes (Err (Dimacs cause)) = ⊥
-IsOfBytes (Err Spent) = ⊥
+-- an error that speaks of the bytes
+abbrev pub is_of_bytes : CheckerError → Bool
+is_of_bytes (CheckFailed step) = true
+is_of_bytes (NoSuchClause step) = true
+is_of_bytes (CoreNotAssumed step) = true
+is_of_bytes (Parse offset) = true
+is_of_bytes error = false
 
--- What a check of a proof returns, over what the source gave meanwhile.
-pub data Checks (format : ProofFormat) (old : CheckerStanding) (result : Result CheckVerdict CheckerError) (new : CheckerStanding) : Type 0 where
+-- a result that does
+abbrev pub IsOfBytes : {V : Type 0} → Result V CheckerError → Type 0
+IsOfBytes (Ok v) = Unit {0}
+IsOfBytes (Err e) = is_of_bytes e ≡ true
+
+-- What a check of a source returns, where its result is right for some bytes, over what the source gave meanwhile.
+pub data ChecksBytes {V : Type 0} (is_right : List ℕ → Type 0) (old : Stand) (result : Result V CheckerError) (new : Stand) : Type 0 where
   -- the source ended, and the result is that of all it gave
-  AtEnd : (text : List ℕ) → streams.Reads old.source text new.source → HasEnded new.source → new.source.faults ≡ old.source.faults →
-      IsResult format old.checker.clauses text result new.checker.clauses → Checks format old result new
+  AtEnd : (text : List ℕ) → streams.Reads old text new → HasEnded new → new.faults ≡ old.faults → is_right text → ChecksBytes is_right old result new
   -- whatever comes behind what the source gave, this is the result
-  InText : (text : List ℕ) → streams.Reads old.source text new.source → new.source.faults ≡ old.source.faults →
-      ((rest : List ℕ) → IsResult format old.checker.clauses (text ++ rest) result new.checker.clauses) → Checks format old result new
-  SourceFailed : (text : List ℕ) → streams.Reads old.source text new.source → new.source.faults ≡ old.source.faults + 1 → (e : CheckerError) → result ≡ Err e → is_io e ≡ true → Checks format old result new
-  RanOut : (text : List ℕ) → streams.Reads old.source text new.source → new.source.faults ≡ old.source.faults → result ≡ Err OutOfMemory → Checks format old result new
+  InText : (text : List ℕ) → streams.Reads old text new → new.faults ≡ old.faults → ((rest : List ℕ) → is_right (text ++ rest)) → ChecksBytes is_right old result new
+  SourceFailed : (text : List ℕ) → streams.Reads old text new → new.faults ≡ old.faults + 1 → (e : CheckerError) → result ≡ Err e → is_io e ≡ true → ChecksBytes is_right old result new
+  RanOut : (text : List ℕ) → streams.Reads old text new → new.faults ≡ old.faults → result ≡ Err OutOfMemory → ChecksBytes is_right old result new
+
+-- what a check of a DRAT proof returns
+abbrev pub Checks : ProofFormat → CheckerStanding → Result CheckVerdict CheckerError → CheckerStanding → Type 0
+Checks format old result new = ChecksBytes (λ bytes. IsResult format old.checker.clauses bytes result new.checker.clauses) old.source result new.source
+
+-- the cores as lists
+abbrev pub core_lists : {A : Type 0} → List (ℕ × Vec ℕ A) → List (ℕ × List Literal)
+core_lists cores = map (λ core. (core.0, core.1.items)) cores
+
+-- The one right result of a check of a marked proof: its report has the clauses that were given and the cores up to where it stops.
+abbrev pub IsMarkedResult : {A : Type 0} → List Clause → List ℕ → Result (MarkedReport A) CheckerError → List Clause → Type 0
+IsMarkedResult P bytes (Ok report) Q =
+    (assumed : List Literal) × IsCheckOf (Text true) (record { present = P; told = nothing_told }) bytes (Ok report.verdict) (record { present = Q; told = record { assumed = assumed; inputs = report.inputs; cores = core_lists report.cores.items } })
+IsMarkedResult P bytes (Err e) Q = (told : Told) × IsCheckOf (Text true) (record { present = P; told = nothing_told }) bytes (Err e) (record { present = Q; told = told })
+
+-- what a check of a marked proof returns
+abbrev pub ChecksMarked : {A : Type 0} → CheckerStanding → Result (MarkedReport A) CheckerError → CheckerStanding → Type 0
+ChecksMarked old result new = ChecksBytes (λ bytes. IsMarkedResult old.checker.clauses bytes result new.checker.clauses) old.source result new.source
+
+-- A report is true: what is called a refutation is one, and no assignment satisfies a core together with the clauses that the checker held and those given before the core.
+pub record IsTrueReport {A : Type 0} (P : List Clause) (report : MarkedReport A) : Type 0 where
+  pub refutation : report.verdict ≡ Refutation → IsSatisfiable (P ++ report.inputs.clauses) → ⊥
+  pub cores : (core : ℕ × List Literal) → core ∈ core_lists report.cores.items → IsSatisfiableWith (P ++ take core.0 report.inputs.clauses) core.1 → ⊥
 
 -- 3. DIMACS texts.
 -- what a text gives, over what a source gave meanwhile
@@ -138,6 +168,7 @@ AddsRead old reading (Ok u) new = (reading.fault ≡ None) × Becomes old (old.c
 AddsRead old reading (Err (Dimacs cause)) new = (reading.fault ≡ Some cause) × (cause.kind ≢ kind.OutOfMemory) × Becomes old (old.clauses ++ reading.clauses) new
 AddsRead old reading (Err (CheckFailed step)) new = ⊥
 AddsRead old reading (Err (NoSuchClause step)) new = ⊥
+AddsRead old reading (Err (CoreNotAssumed step)) new = ⊥
 AddsRead old reading (Err (Parse offset)) new = ⊥
 AddsRead old reading (Err (Io cause)) new = ⊥
 AddsRead old reading (Err OutOfMemory) new = IsRefusal old OutOfMemory new

@@ -1,26 +1,26 @@
 -- What the formats promise.
 use Rattle.std.specs.Prelude.{◌≡◌, ℕ, List, ◌⊎◌}
-use Rattle.varisat_theory.specs.Derivations.{Line}
-use Rattle.varisat_proof.specs.declared.proof.format.ProofFormat.{ProofFormat}
+use Rattle.varisat_proof.specs.declared.proof.format.Encoding.{Encoding}
+use Rattle.varisat_proof.specs.Lines.{ProofLine, HasKinds}
 use Rattle.varisat_proof.specs.Grammar.{Accepted, Faulty, FaultAt}
 use Rattle.varisat_proof.specs.Written.{Written, AreInRange}
 
--- what is written for lines with variables up to 2^28 is accepted for just these
-abbrev pub WrittenIsAccepted : ProofFormat → Type 0
-WrittenIsAccepted format = (lines : List Line) (bytes : List ℕ) → AreInRange lines → Written format lines bytes → Accepted format lines bytes
+-- what is written for such lines with variables up to 2^28 is accepted for just these
+abbrev pub WrittenIsAccepted : Encoding → Type 0
+WrittenIsAccepted encoding = (lines : List ProofLine) (bytes : List ℕ) → HasKinds encoding lines → AreInRange lines → Written encoding lines bytes → Accepted encoding lines bytes
 
 -- bytes are accepted for at most one list of lines
-abbrev pub AcceptedOnce : ProofFormat → Type 0
-AcceptedOnce format = (bytes : List ℕ) (ls ms : List Line) → Accepted format ls bytes → Accepted format ms bytes → ls ≡ ms
+abbrev pub AcceptedOnce : Encoding → Type 0
+AcceptedOnce encoding = (bytes : List ℕ) (ls ms : List ProofLine) → Accepted encoding ls bytes → Accepted encoding ms bytes → ls ≡ ms
 
 -- bytes are accepted, or have a first fault
-abbrev pub AcceptedOrFaulty : ProofFormat → Type 0
-AcceptedOrFaulty format = (bytes : List ℕ) → ((lines : List Line) × Accepted format lines bytes) ⊎ ((offset : ℕ) × FaultAt format bytes offset)
+abbrev pub AcceptedOrFaulty : Encoding → Type 0
+AcceptedOrFaulty encoding = (bytes : List ℕ) → ((lines : List ProofLine) × Accepted encoding lines bytes) ⊎ ((offset : ℕ) × FaultAt encoding bytes offset)
 
 -- not both
-abbrev pub NotBoth : ProofFormat → Type 0
-NotBoth format = (bytes : List ℕ) (lines : List Line) (offset : ℕ) → Accepted format lines bytes → FaultAt format bytes offset → ⊥
+abbrev pub NotBoth : Encoding → Type 0
+NotBoth encoding = (bytes : List ℕ) (lines : List ProofLine) (offset : ℕ) → Accepted encoding lines bytes → FaultAt encoding bytes offset → ⊥
 
 -- the first fault is at one offset, behind one list of lines
-abbrev pub FaultyOnce : ProofFormat → Type 0
-FaultyOnce format = (bytes : List ℕ) (ls ms : List Line) (o p : ℕ) → Faulty format ls bytes o → Faulty format ms bytes p → (ls ≡ ms) × (o ≡ p)
+abbrev pub FaultyOnce : Encoding → Type 0
+FaultyOnce encoding = (bytes : List ℕ) (ls ms : List ProofLine) (o p : ℕ) → Faulty encoding ls bytes o → Faulty encoding ms bytes p → (ls ≡ ms) × (o ≡ p)

@@ -1,9 +1,11 @@
+pub mod Lines
 pub mod Written
 pub mod Grammar
 pub mod Machine
 pub mod Means
 pub mod Laws
 pub mod Steps
+pub mod Marked
 pub mod Results
 pub mod Calls
 pub mod Checks

@@ -1,20 +1,19 @@
 -- The lines of a proof, read a symbol at a time, and its bytes, read one at a time.
 use Rattle.std.specs.Prelude.{ℕ, ◌+◌, ◌-◌, ◌*◌, ◌%◌, ◌^◌, ◌<◌, nat_lt, nat_le, ◌==◌, Bool, true, false, not, ◌&&◌, ◌||◌, if◌then◌else◌, List, [], ◌∷◌, ◌++◌, Option, Some, None}
 use Rattle.varisat_theory.specs.Literals.{Clause}
-use Rattle.varisat_theory.specs.Derivations.{Line}
 use Rattle.varisat_formula.specs.Dimacs.{is_blank, next}
 use Rattle.varisat_formula.specs.Machine.{no_word, after_byte, word_says}
-use Rattle.varisat_proof.specs.declared.proof.format.ProofFormat.{ProofFormat}
+use Rattle.varisat_proof.specs.declared.proof.format.Encoding.{Encoding}
+use Rattle.varisat_proof.specs.declared.proof.format.Encoding.TheVariants.{Text, Binary}
 use Rattle.varisat_proof.specs.declared.proof.format.LineKind.{LineKind}
-use Rattle.varisat_proof.specs.declared.proof.format.LineKind.TheVariants.{Adds, Deletes}
-use Rattle.varisat_proof.specs.declared.proof.format.ProofFormat.TheVariants.{Drat, BinaryDrat}
+use Rattle.varisat_proof.specs.declared.proof.format.LineKind.TheVariants.{Adds}
 use Rattle.varisat_proof.specs.declared.checker.token.Symbol.{Symbol}
 use Rattle.varisat_proof.specs.declared.checker.token.Symbol.TheVariants.{Mark, Number, Cut, Bad}
 use Rattle.varisat_proof.specs.declared.checker.token.Event.{Event}
 use Rattle.varisat_proof.specs.declared.checker.token.Event.TheVariants.{More, Ended, Fault}
 use Rattle.varisat_proof.specs.declared.checker.token.Part.{Part}
-use Rattle.varisat_proof.specs.Written.{line_of_kind}
-use Rattle.varisat_proof.specs.Grammar.{Token, is_mark, is_tag, meant}
+use Rattle.varisat_proof.specs.Lines.{ProofLine, line_of_kind, letter_kind}
+use Rattle.varisat_proof.specs.Grammar.{Token, is_kind, tag_kind, meant}
 
 -- 1. Symbols.
 -- Where a reader stands: inside a line or between two, what kind of line it is, and its literals so far. Between two lines these are the last line's.
@@ -24,20 +23,25 @@ pub record Place : Type 0 where
   pub clause : Clause
 
 -- the line that a place has
-abbrev pub line_at : Place → Line
+abbrev pub line_at : Place → ProofLine
 line_at p = line_of_kind p.kind p.clause
 
 abbrev pub number_event : ℕ → Event
 number_event n = if n == 0 then Ended else (if n == 1 then Fault else More)
 
+-- what becomes of a symbol in front of a line, by the kind that it begins
+abbrev pub begin_event : Option LineKind → Event
+begin_event None = Fault
+begin_event (Some kind) = More
+
 -- what becomes of a symbol
-abbrev pub event : ProofFormat → Bool → Symbol → Event
-event Drat inside (Mark b) = if inside then Fault else (if is_mark b then More else Fault)
-event Drat inside (Number n) = number_event n
-event BinaryDrat inside (Mark b) = Fault
-event BinaryDrat inside (Number n) = if inside then number_event n else (if is_tag n then More else Fault)
-event format inside Cut = Fault
-event format inside Bad = Fault
+abbrev pub event : Encoding → Bool → Symbol → Event
+event encoding inside Cut = Fault
+event encoding inside Bad = Fault
+event (Text marked) inside (Mark b) = if inside then Fault else begin_event (letter_kind marked b)
+event (Text marked) inside (Number n) = number_event n
+event Binary inside (Mark b) = Fault
+event Binary inside (Number n) = if inside then number_event n else begin_event (tag_kind n)
 
 -- a number of a literal's code
 abbrev pub IsSmall : Symbol → Type 0
@@ -54,21 +58,25 @@ after_number p n =
     if n == 0 then record { inside = false; kind = p.kind; clause = p.clause } else (
     if n == 1 then p else record { inside = true; kind = p.kind; clause = p.clause ++ (n - 2) ∷ [] })
 
+abbrev pub begin_place : Option LineKind → Place → Place
+begin_place None p = p
+begin_place (Some kind) p = begin_line kind
+
 -- the place behind a symbol that fits
-abbrev pub moved : ProofFormat → Place → Symbol → Place
-moved Drat p (Mark b) = if p.inside then p else (if is_mark b then begin_line Deletes else p)
-moved Drat p (Number n) = after_number (if p.inside then p else begin_line Adds) n
-moved BinaryDrat p (Mark b) = p
-moved BinaryDrat p (Number n) = if p.inside then after_number p n else (if is_tag n then begin_line (if n == 100 then Deletes else Adds) else p)
-moved format p Cut = p
-moved format p Bad = p
+abbrev pub moved : Encoding → Place → Symbol → Place
+moved encoding p Cut = p
+moved encoding p Bad = p
+moved (Text marked) p (Mark b) = if p.inside then p else begin_place (letter_kind marked b) p
+moved (Text marked) p (Number n) = after_number (if p.inside then p else begin_line Adds) n
+moved Binary p (Mark b) = p
+moved Binary p (Number n) = if p.inside then after_number p n else begin_place (tag_kind n) p
 
 -- 2. What bytes have: the lines that ended, and the first fault.
 pub record Parsed : Type 0 where
-  pub lines : List Line
+  pub lines : List ProofLine
   pub fault : Option ℕ
 
-abbrev pub put : Event → Line → ℕ → Parsed → Parsed
+abbrev pub put : Event → ProofLine → ℕ → Parsed → Parsed
 put More line at parsed = parsed
 put Ended line at parsed = record { lines = line ∷ parsed.lines; fault = parsed.fault }
 put Fault line at parsed = record { lines = []; fault = Some at }
@@ -83,10 +91,10 @@ fault_offset inside (Number n) at end = at
 fault_offset inside Cut at end = if inside then end else at
 fault_offset inside Bad at end = at
 
-abbrev pub read : ProofFormat → ℕ → Place → List Token → Parsed
-read format end p [] = at_end end p
-read format end p (u ∷ us) =
-    put (event format p.inside u.symbol) (line_at (moved format p u.symbol)) (fault_offset p.inside u.symbol u.at end) (read format end (moved format p u.symbol) us)
+abbrev pub read : Encoding → ℕ → Place → List Token → Parsed
+read encoding end p [] = at_end end p
+read encoding end p (u ∷ us) =
+    put (event encoding p.inside u.symbol) (line_at (moved encoding p u.symbol)) (fault_offset p.inside u.symbol u.at end) (read encoding end (moved encoding p u.symbol) us)
 
 abbrev pub between : Place
 between = record { inside = false; kind = Adds; clause = [] }
@@ -100,8 +108,8 @@ no_part = record { count = 0; first = 0; word = no_word; value = 0 }
 abbrev pub after_text : Part → ℕ → Part
 after_text part b = record { count = if part.count == 0 then 1 else 2; first = if part.count == 0 then b else part.first; word = after_byte part.word b; value = 0 }
 
-abbrev pub part_symbol : Part → Symbol
-part_symbol part = if part.count == 1 && is_mark part.first then Mark part.first else meant (word_says part.word)
+abbrev pub part_symbol : Bool → Part → Symbol
+part_symbol marked part = if part.count == 1 && is_kind (letter_kind marked part.first) then Mark part.first else meant (word_says part.word)
 
 -- 128^k up to k = 4
 abbrev pub scale : ℕ → ℕ
@@ -117,59 +125,59 @@ abbrev pub number_symbol : Part → ℕ → Symbol
 number_symbol part b = if nat_lt b 128 && (nat_lt 0 b || part.count == 0) && nat_le (grown_value part b) (2 ^ 29 + 1) then Number (grown_value part b) else Bad
 
 -- whether a token ends at the byte, and what it says
-abbrev pub ends : ProofFormat → Part → ℕ → Bool
-ends Drat part b = is_blank b && not (part.count == 0)
-ends BinaryDrat part b = nat_lt b 128 || part.count == 4
+abbrev pub ends : Encoding → Part → ℕ → Bool
+ends (Text marked) part b = is_blank b && not (part.count == 0)
+ends Binary part b = nat_lt b 128 || part.count == 4
 
-abbrev pub symbol_of : ProofFormat → Part → ℕ → Symbol
-symbol_of Drat part b = part_symbol part
-symbol_of BinaryDrat part b = number_symbol part b
+abbrev pub symbol_of : Encoding → Part → ℕ → Symbol
+symbol_of (Text marked) part b = part_symbol marked part
+symbol_of Binary part b = number_symbol part b
 
 -- whether the byte stands between tokens
-abbrev pub is_between : ProofFormat → ℕ → Bool
-is_between Drat b = is_blank b
-is_between BinaryDrat b = false
+abbrev pub is_between : Encoding → ℕ → Bool
+is_between (Text marked) b = is_blank b
+is_between Binary b = false
 
-abbrev pub grown : ProofFormat → Part → ℕ → Part
-grown Drat part b = after_text part b
-grown BinaryDrat part b = after_binary part b
+abbrev pub grown : Encoding → Part → ℕ → Part
+grown (Text marked) part b = after_text part b
+grown Binary part b = after_binary part b
 
 -- How far a reader has come: the offset of the next byte, and of the first byte of the token that was begun.
 pub record ReaderState : Type 0 where
-  pub format : ProofFormat
+  pub encoding : Encoding
   pub at : ℕ
   pub start : ℕ
   pub part : Part
   pub place : Place
 
-abbrev pub begin : ProofFormat → ReaderState
-begin format = record { format = format; at = 0; start = 0; part = no_part; place = between }
+abbrev pub begin : Encoding → ReaderState
+begin encoding = record { encoding = encoding; at = 0; start = 0; part = no_part; place = between }
 
 abbrev pub happens : ReaderState → ℕ → Event
-happens p b = if ends p.format p.part b then event p.format p.place.inside (symbol_of p.format p.part b) else More
+happens p b = if ends p.encoding p.part b then event p.encoding p.place.inside (symbol_of p.encoding p.part b) else More
 
 abbrev pub ended_token : ReaderState → Place → ReaderState
-ended_token p place = record { format = p.format; at = next p.at; start = next p.at; part = no_part; place = place }
+ended_token p place = record { encoding = p.encoding; at = next p.at; start = next p.at; part = no_part; place = place }
 
 abbrev pub went_on : ReaderState → ℕ → ReaderState
-went_on p b = if is_between p.format b then ended_token p p.place else record { format = p.format; at = next p.at; start = p.start; part = grown p.format p.part b; place = p.place }
+went_on p b = if is_between p.encoding b then ended_token p p.place else record { encoding = p.encoding; at = next p.at; start = p.start; part = grown p.encoding p.part b; place = p.place }
 
 abbrev pub after : ReaderState → ℕ → ReaderState
-after p b = if ends p.format p.part b then ended_token p (moved p.format p.place (symbol_of p.format p.part b)) else went_on p b
+after p b = if ends p.encoding p.part b then ended_token p (moved p.encoding p.place (symbol_of p.encoding p.part b)) else went_on p b
 
 -- the end of the bytes: what the last token says, if there is one
-abbrev pub last_symbol : ProofFormat → Part → Symbol
-last_symbol Drat part = part_symbol part
-last_symbol BinaryDrat part = Cut
+abbrev pub last_symbol : Encoding → Part → Symbol
+last_symbol (Text marked) part = part_symbol marked part
+last_symbol Binary part = Cut
 
 abbrev pub last_event : ReaderState → Event
-last_event p = if p.part.count == 0 then More else event p.format p.place.inside (last_symbol p.format p.part)
+last_event p = if p.part.count == 0 then More else event p.encoding p.place.inside (last_symbol p.encoding p.part)
 
 abbrev pub last_place : ReaderState → Place
-last_place p = if p.part.count == 0 then p.place else moved p.format p.place (last_symbol p.format p.part)
+last_place p = if p.part.count == 0 then p.place else moved p.encoding p.place (last_symbol p.encoding p.part)
 
 abbrev pub last_offset : ReaderState → ℕ
-last_offset p = fault_offset p.place.inside (last_symbol p.format p.part) p.start p.at
+last_offset p = fault_offset p.place.inside (last_symbol p.encoding p.part) p.start p.at
 
 abbrev pub closing : ReaderState → Parsed
 closing p = put (last_event p) (line_at (last_place p)) (last_offset p) (at_end p.at (last_place p))
@@ -179,5 +187,5 @@ abbrev pub parsed_from : ReaderState → List ℕ → Parsed
 parsed_from p [] = closing p
 parsed_from p (b ∷ bs) = put (happens p b) (line_at (after p b).place) p.start (parsed_from (after p b) bs)
 
-abbrev pub parsed : ProofFormat → List ℕ → Parsed
-parsed format bytes = parsed_from (begin format) bytes
+abbrev pub parsed : Encoding → List ℕ → Parsed
+parsed encoding bytes = parsed_from (begin encoding) bytes

@@ -1,5 +1,5 @@
 -- The one right result of a check, over all bytes of a proof.
-use Rattle.std.specs.Prelude.{◌≡◌, ℕ, suc, min, ◌-◌, ◌^◌, List, [], ◌++◌, length, Option, Some, None, Result, Ok, Err}
+use Rattle.std.specs.Prelude.{◌≡◌, ℕ, suc, List, [], ◌++◌, length, Option, Some, None, Result, Ok, Err}
 use Rattle.varisat_theory.specs.Literals.{Clause}
 use Rattle.varisat_theory.specs.Derivations.{Line, Derives}
 use Rattle.varisat_theory.specs.Propagation.{Conflicts}
@@ -11,11 +11,8 @@ use Rattle.varisat_proof.specs.declared.checker.error.CheckVerdict.{CheckVerdict
 use Rattle.varisat_proof.specs.declared.checker.error.CheckVerdict.TheVariants.{Refutation, Derivation}
 use Rattle.varisat_proof.specs.declared.checker.error.CheckerError.{CheckerError}
 use Rattle.varisat_proof.specs.declared.checker.error.CheckerError.TheVariants.{CheckFailed, NoSuchClause, Parse}
+use Rattle.varisat_proof.specs.Lines.{plain_lines, plain_encoding, step_number}
 use Rattle.varisat_proof.specs.Means.{BytesMean}
-
--- numbers of lines stay at 2^64-1
-abbrev pub step_number : ℕ → ℕ
-step_number n = min n (2 ^ 64 - 1)
 
 -- A wrong line is returned first, and then a fault of the bytes.
 abbrev pub result_of : Option ℕ → PlainVerdict → Result CheckVerdict CheckerError
@@ -46,7 +43,7 @@ pub record IsResult (format : ProofFormat) (P : List Clause) (bytes : List ℕ) 
   pub lines : List Line
   pub fault : Option ℕ
   pub verdict : PlainVerdict
-  pub means : BytesMean format bytes lines fault
+  pub means : BytesMean (plain_encoding format) bytes (plain_lines lines) fault
   pub is_verdict : IsVerdict P lines verdict
   pub leaves : Leaves P lines verdict Q
   pub result_is : result ≡ result_of fault verdict

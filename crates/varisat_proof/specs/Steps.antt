@@ -1,29 +1,29 @@
 -- The lines of a solver's steps, and what writing them does to a target.
-use Rattle.std.specs.Prelude.{◌≡◌, ℕ, ◌+◌, List, [], ◌∷◌, ◌++◌, map, take, flat_map, Result, Ok, Err}
-use Rattle.varisat_theory.specs.Literals.{Literal}
+use Rattle.std.specs.Prelude.{◌≡◌, ℕ, ◌+◌, List, [], ◌∷◌, ◌++◌, take, flat_map, Result, Ok, Err}
 use Rattle.varisat_theory.specs.Derivations.{Line, Add, Delete}
 use Rattle.varisat_theory.specs.StepLaws.{unit_lines}
 use Rattle.varisat_formula.specs.Streams.{Taken}
-use Rattle.varisat_proof.specs.declared.proof.format.ProofFormat.{ProofFormat}
+use Rattle.varisat_proof.specs.declared.proof.format.Encoding.{Encoding}
 use Rattle.varisat_trace.specs.declared.step.ProofStep.{ProofStep}
 use Rattle.varisat_trace.specs.declared.step.ProofStep.TheVariants.{AtClause, UnitClauses, DeleteClause, DeleteVar, FailedAssumptions}
 use Rattle.varisat_proof.specs.declared.proof.writer.WriteError.{WriteError}
 use Rattle.varisat_proof.specs.declared.proof.writer.WriteError.TheVariants.{Memory, Target}
+use Rattle.varisat_proof.specs.Lines.{ProofLine}
 use Rattle.varisat_proof.specs.Written.{line_written}
 
 -- the lines of a step
-abbrev pub lines_of : ProofStep → List Line
-lines_of (AtClause c) = Add c.now ∷ []
-lines_of (UnitClauses units) = unit_lines units.now
-lines_of (DeleteClause c) = Delete c.now ∷ []
-lines_of (DeleteVar v) = []
-lines_of (FailedAssumptions core) = []
+abbrev pub step_lines : ProofStep → List Line
+step_lines (AtClause c) = Add c.now ∷ []
+step_lines (UnitClauses units) = unit_lines units.now
+step_lines (DeleteClause c) = Delete c.now ∷ []
+step_lines (DeleteVar v) = []
+step_lines (FailedAssumptions core) = []
 
-abbrev pub lines_written : ProofFormat → List Line → List ℕ
-lines_written format lines = flat_map (line_written format) lines
+abbrev pub lines_written : Encoding → List ProofLine → List ℕ
+lines_written encoding lines = flat_map (line_written encoding) lines
 
 -- The lines' bytes were appended; or a beginning of them, as memory ran out, or by a fault that the target counts.
-abbrev pub PutsLines : ProofFormat → Taken → Result (Unit {0}) WriteError → List Line → Taken → Type 0
-PutsLines format old (Ok u) lines new = (new.bytes ≡ old.bytes ++ lines_written format lines) × (new.faults ≡ old.faults)
-PutsLines format old (Err Memory) lines new = ((n : ℕ) × (new.bytes ≡ old.bytes ++ take n (lines_written format lines))) × (new.faults ≡ old.faults)
-PutsLines format old (Err (Target e)) lines new = ((n : ℕ) × (new.bytes ≡ old.bytes ++ take n (lines_written format lines))) × (new.faults ≡ old.faults + 1)
+abbrev pub PutsLines : Encoding → Taken → Result (Unit {0}) WriteError → List ProofLine → Taken → Type 0
+PutsLines encoding old (Ok u) lines new = (new.bytes ≡ old.bytes ++ lines_written encoding lines) × (new.faults ≡ old.faults)
+PutsLines encoding old (Err Memory) lines new = ((n : ℕ) × (new.bytes ≡ old.bytes ++ take n (lines_written encoding lines))) × (new.faults ≡ old.faults)
+PutsLines encoding old (Err (Target e)) lines new = ((n : ℕ) × (new.bytes ≡ old.bytes ++ take n (lines_written encoding lines))) × (new.faults ≡ old.faults + 1)

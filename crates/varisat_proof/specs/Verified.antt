@@ -1,15 +1,19 @@
 -- What the program's `check` finds out of a text and a proof, what it prints, and with which status it ends then.
-use Rattle.std.specs.Prelude.{◌≡◌, ℕ, List, Bool, true, false, Option, Some, None, Result, Ok, Err, codes}
+use Rattle.std.specs.Prelude.{◌≡◌, ℕ, List, Bool, true, false, Option, Some, None, Result, Ok, Err, IsTrue, ◌↔◌, [], codes}
+use Rattle.varisat_theory.specs.Membership.{◌∈◌, SameSet}
 use Rattle.varisat_theory.specs.Literals.{Clause, IsSatisfiable}
 use Rattle.varisat_formula.specs.Dimacs.{dimacs}
 use Rattle.varisat_formula.specs.Streams as streams
 use Rattle.varisat_formula.specs.Streams.{Stand, HasEnded}
 use Rattle.varisat_proof.specs.declared.proof.format.ProofFormat.{ProofFormat}
+use Rattle.varisat_proof.specs.declared.proof.format.ProofFormat.TheVariants.{Drat, BinaryDrat, Marked}
+use Rattle.varisat_proof.specs.declared.proof.format.Encoding.TheVariants.{Text}
 use Rattle.varisat_proof.specs.declared.checker.error.CheckVerdict.{CheckVerdict}
 use Rattle.varisat_proof.specs.declared.checker.error.CheckVerdict.TheVariants.{Refutation, Derivation}
 use Rattle.varisat_proof.specs.declared.checker.error.CheckerError.{CheckerError}
-use Rattle.varisat_proof.specs.declared.checker.error.CheckerError.TheVariants.{CheckFailed, NoSuchClause, Parse, Io, OutOfMemory, Dimacs, Spent}
-use Rattle.varisat_proof.specs.Calls.{CheckerState, Checks}
+use Rattle.varisat_proof.specs.declared.checker.error.CheckerError.TheVariants.{CheckFailed, NoSuchClause, CoreNotAssumed, Parse, Io, OutOfMemory, Dimacs, Spent}
+use Rattle.varisat_proof.specs.Calls.{CheckerState, Checks, ChecksBytes, is_of_bytes}
+use Rattle.varisat_proof.specs.Marked.{Told, nothing_told, IsCheckOf}
 
 -- the source gave a whole text without a fault, which has these clauses
 pub record GivesClauses (old : Stand) (clauses : List Clause) (new : Stand) : Type 0 where
@@ -25,6 +29,7 @@ verdict_of (Ok Refutation) = Some true
 verdict_of (Ok Derivation) = Some false
 verdict_of (Err (CheckFailed step)) = Some false
 verdict_of (Err (NoSuchClause step)) = Some false
+verdict_of (Err (CoreNotAssumed step)) = Some false
 verdict_of (Err (Parse offset)) = Some false
 verdict_of (Err (Io cause)) = None
 verdict_of (Err OutOfMemory) = None
@@ -44,6 +49,37 @@ pub record Verifies (format : ProofFormat) (old new : Inputs) (verified : Bool) 
   pub result_is : Result CheckVerdict CheckerError
   pub checks : Checks format (record { checker = record { clauses = clauses; spent = false }; source = old.proof }) result_is (record { checker = left; source = new.proof })
   pub verdict : verdict_of result_is ≡ Some verified
+
+-- each of the clauses is equal as a set to one of P
+abbrev pub AreGiven : List Clause → List Clause → Type 0
+AreGiven P clauses = (c : Clause) → c ∈ clauses → (d : Clause) × (d ∈ P) × SameSet d c
+
+-- the right result of a check of a marked proof from no clause, with the clauses that it was given up to where it stops
+abbrev pub IsMarkedCheck : List ℕ → Result CheckVerdict CheckerError → List Clause → List Clause → Type 0
+IsMarkedCheck bytes (Ok v) inputs Q =
+    (told : Told) × (told.inputs.clauses ≡ inputs) × IsCheckOf (Text true) (record { present = []; told = nothing_told }) bytes (Ok v) (record { present = Q; told = told })
+IsMarkedCheck bytes (Err e) inputs Q = (told : Told) × IsCheckOf (Text true) (record { present = []; told = nothing_told }) bytes (Err e) (record { present = Q; told = told })
+
+-- A marked proof is verified where it refutes and was given only clauses of the text; its wrong lines and bytes are none.
+abbrev pub IsMarkedVerdict : List Clause → Result CheckVerdict CheckerError → List Clause → Bool → Type 0
+IsMarkedVerdict clauses (Ok v) inputs verified = IsTrue verified ↔ ((v ≡ Refutation) × AreGiven clauses inputs)
+IsMarkedVerdict clauses (Err e) inputs verified = (is_of_bytes e ≡ true) × (verified ≡ false)
+
+-- The text has clauses, and a check of the marked proof from none gave the verdict.
+pub record VerifiesMarked (old new : Inputs) (verified : Bool) : Type 0 where
+  pub clauses : List Clause
+  pub given : GivesClauses old.cnf clauses new.cnf
+  pub result_is : Result CheckVerdict CheckerError
+  pub inputs : List Clause
+  pub left : List Clause
+  pub checks : ChecksBytes {V = CheckVerdict} (λ bytes. IsMarkedCheck bytes result_is inputs left) old.proof result_is new.proof
+  pub verdict : IsMarkedVerdict clauses result_is inputs verified
+
+-- the verdict of either
+abbrev pub VerifiesBy : ProofFormat → Inputs → Inputs → Bool → Type 0
+VerifiesBy Drat old new verified = Verifies Drat old new verified
+VerifiesBy BinaryDrat old new verified = Verifies BinaryDrat old new verified
+VerifiesBy Marked old new verified = VerifiesMarked old new verified
 
 -- the source gave a whole text without a fault, whose clauses no assignment satisfies
 abbrev pub GivesUnsatisfiable : Stand → Stand → Type 0

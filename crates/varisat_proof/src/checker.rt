@@ -2,8 +2,11 @@
 
 pub mod check;
 pub mod error;
+pub mod line;
+pub mod marked;
 pub mod reader;
 pub mod token;
 
 pub use check::Checker;
 pub use error::{CheckVerdict, CheckerError};
+pub use marked::MarkedReport;

@@ -1,5 +1,7 @@
 //! What the formats promise: each is the contract of a function with an empty body.
 ghost use Rattle.varisat_proof.specs.Laws.{WrittenIsAccepted, AcceptedOnce, AcceptedOrFaulty, NotBoth, FaultyOnce};
+ghost use Rattle.varisat_proof.specs.Lines.{encoding_of};
+ghost use Rattle.varisat_proof.specs.Marked.{CheckOnce};
 ghost use Rattle.varisat_proof.specs.Results.{ResultOnce};
 
 use crate::proof::format::ProofFormat;
@@ -7,14 +9,20 @@ use crate::proof::format::ProofFormat;
 /// Each byte string means one thing: it is accepted for one list of lines, or has its first fault at one offset, behind
 /// one list of lines. What is written for lines whose variables have numbers up to 2^28 is accepted for just these.
 pub fn bytes_mean_one_thing(_format: ProofFormat)
-    ensures written { WrittenIsAccepted _format }
-    ensures once { AcceptedOnce _format }
-    ensures one { AcceptedOrFaulty _format }
-    ensures not_both { NotBoth _format }
-    ensures fault_once { FaultyOnce _format }
+    ensures written { WrittenIsAccepted (encoding_of _format) }
+    ensures once { AcceptedOnce (encoding_of _format) }
+    ensures one { AcceptedOrFaulty (encoding_of _format) }
+    ensures not_both { NotBoth (encoding_of _format) }
+    ensures fault_once { FaultyOnce (encoding_of _format) }
 {}
 
 /// Over all bytes of a proof just one result of a check is right.
 pub fn one_result_is_right(_format: ProofFormat)
     ensures { ResultOnce _format }
+{}
+
+/// Over all bytes just one result of a check of marked lines is right, and the clauses and cores that were told up to
+/// where it stops are determined.
+pub fn one_check_is_right(_format: ProofFormat)
+    ensures { CheckOnce (encoding_of _format) }
 {}

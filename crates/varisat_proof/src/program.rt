@@ -1,13 +1,16 @@
 //! The program's command that checks proofs, over readers and writers.
-ghost use Rattle.std.specs.Prelude.{◌≡◌, ◌⊎◌, ◌-◌, ◌^◌, ◌<◌, [], Bool, true, false, Some, OnOk, IfOk};
+ghost use Rattle.std.specs.Prelude.{◌≡◌, ◌⊎◌, ◌-◌, ◌^◌, ◌<◌, [], Bool, true, false, Some, OnOk, IfOk, IsTrue, ◌↔◌};
 ghost use Rattle.std.specs.Io.KnownBytes.{Appends};
-ghost use Rattle.varisat_proof.specs.Verified.{Inputs, Verifies, GivesUnsatisfiable, verdict_of, verdict_text, verdict_status, fault_status};
+ghost use Rattle.varisat_proof.specs.declared.checker.error.CheckVerdict.TheVariants.{Refutation};
+ghost use Rattle.varisat_proof.specs.Calls.{is_of_bytes};
+ghost use Rattle.varisat_proof.specs.Verified.{Inputs, Verifies, VerifiesMarked, VerifiesBy, AreGiven, GivesUnsatisfiable, verdict_of, verdict_text, verdict_status, fault_status};
 
-use crate::checker::{CheckVerdict, Checker, CheckerError};
+use crate::checker::{CheckVerdict, Checker, CheckerError, MarkedReport};
 use crate::proof::ProofFormat;
 use std::alloc::Allocator;
 use std::fmt::Display;
 use std::io::{self, Write};
+use varisat_formula::formula::CnfFormula;
 use varisat_formula::io::ByteSource;
 
 /// The status of `check` for a proof that refutes the clauses.
@@ -21,7 +24,8 @@ pub const STATUS_FAULT: u8 = 2;
 
 /// Reads a DIMACS CNF text, and then checks a proof against its clauses. Prints `s VERIFIED`, status 0, where the proof
 /// refutes them, and `s NOT VERIFIED`, status 1, where it does not: no beginning of it conflicts, a line fails, or its
-/// bytes are no lines. A fault of the text, the sources or the writer, and out of memory, is printed on `err`, and the
+/// bytes are no lines. A marked proof is checked from no clause, and is verified where it refutes and each clause that it
+/// was given is equal as a set to one of the text. A fault of the text, the sources or the writer, and out of memory, is printed on `err`, and the
 /// status is 2. The status is 0 only where no assignment satisfies the text's clauses. Each source has to have counted
 /// fewer than 2^64-1 faults.
 pub fn check_lines<A: Allocator + Copy, S: ByteSource, P: ByteSource, W: Write, E: Write>(
@@ -34,16 +38,117 @@ pub fn check_lines<A: Allocator + Copy, S: ByteSource, P: ByteSource, W: Write, 
 ) -> u8
     requires cnf_faults { (S.stand cnf.old).faults < 2 ^ 64 - 1 }
     requires proof_faults { (P.stand proof.old).faults < 2 ^ 64 - 1 }
-    ensures outcome { (result ≡ fault_status) ⊎ ((verified : Bool) × Verifies format (record { cnf = S.stand cnf.old; proof = P.stand proof.old }) (record { cnf = S.stand cnf.new; proof = P.stand proof.new }) verified × (result ≡ verdict_status verified) × Appends (W.contents out.old) (W.contents out.new) (verdict_text verified)) }
+    ensures outcome { (result ≡ fault_status) ⊎ ((verified : Bool) × VerifiesBy format (record { cnf = S.stand cnf.old; proof = P.stand proof.old }) (record { cnf = S.stand cnf.new; proof = P.stand proof.new }) verified × (result ≡ verdict_status verified) × Appends (W.contents out.old) (W.contents out.new) (verdict_text verified)) }
     ensures truth { result ≡ 0 → GivesUnsatisfiable (S.stand cnf.old) (S.stand cnf.new) }
 {
-    match verify(alloc, cnf, proof, format) {
+    match verify_by(alloc, cnf, proof, format) {
         Ok(verified) => match write_verdict(out, verified) {
             Ok(status) => status,
             Err(error) => tell_fault(err, &error),
         },
         Err(error) => tell_fault(err, &error),
     }
+}
+
+/// Whether the proof of the format is verified.
+fn verify_by<A: Allocator + Copy, S: ByteSource, P: ByteSource>(
+    alloc: A,
+    cnf: &mut S,
+    proof: &mut P,
+    format: ProofFormat,
+) -> Result<bool, CheckerError>
+    requires cnf_faults { (S.stand cnf.old).faults < 2 ^ 64 - 1 }
+    requires proof_faults { (P.stand proof.old).faults < 2 ^ 64 - 1 }
+    ensures { IfOk result (λ verified. VerifiesBy format (record { cnf = S.stand cnf.old; proof = P.stand proof.old }) (record { cnf = S.stand cnf.new; proof = P.stand proof.new }) verified) }
+{
+    match format {
+        ProofFormat::Drat => verify(alloc, cnf, proof, ProofFormat::Drat),
+        ProofFormat::BinaryDrat => verify(alloc, cnf, proof, ProofFormat::BinaryDrat),
+        ProofFormat::Marked => verify_marked(alloc, cnf, proof),
+    }
+}
+
+/// Whether each clause of the formula is equal as a set to one that the checker has.
+fn are_given<A: Allocator + Copy>(given: &Checker<A>, formula: &CnfFormula<A>) -> bool
+    ensures { IsTrue result ↔ AreGiven given.now.clauses formula.now.clauses }
+{
+    for clause in formula.iter() {
+        if !given.has_clause(clause) {
+            return false;
+        }
+    }
+    true
+}
+
+/// Whether the marked proof is verified that this report is of.
+fn is_refuted_by<A: Allocator + Copy>(given: &Checker<A>, report: &MarkedReport<A>) -> bool
+    ensures { IsTrue result ↔ ((report.now.verdict ≡ Refutation) × AreGiven given.now.clauses report.now.inputs.clauses) }
+{
+    match report.verdict {
+        CheckVerdict::Refutation => are_given(given, &report.inputs),
+        CheckVerdict::Derivation => false,
+    }
+}
+
+/// A marked proof is not verified whose lines or bytes are wrong. Any other fault is returned.
+fn is_of_bytes(error: CheckerError) -> Result<bool, CheckerError>
+    ensures { IfOk result (λ verified. (is_of_bytes error ≡ true) × (verified ≡ false)) }
+{
+    match error {
+        CheckerError::CheckFailed { .. }
+        | CheckerError::NoSuchClause { .. }
+        | CheckerError::CoreNotAssumed { .. }
+        | CheckerError::Parse { .. } => Ok(false),
+        CheckerError::Io { .. }
+        | CheckerError::OutOfMemory
+        | CheckerError::Dimacs { .. }
+        | CheckerError::Spent => Err(error),
+    }
+}
+
+/// Whether the marked proof is verified against the text. Two new checkers are lent: one has the clauses of the text, by
+/// whose literals they are found, and the other checks the proof.
+fn verify_marked_in<A: Allocator + Copy, S: ByteSource, P: ByteSource>(
+    given: &mut Checker<A>,
+    checker: &mut Checker<A>,
+    cnf: &mut S,
+    proof: &mut P,
+) -> Result<bool, CheckerError>
+    requires new { given.old ≡ record { clauses = []; spent = false } }
+    requires checker_new { checker.old ≡ record { clauses = []; spent = false } }
+    requires cnf_faults { (S.stand cnf.old).faults < 2 ^ 64 - 1 }
+    requires proof_faults { (P.stand proof.old).faults < 2 ^ 64 - 1 }
+    ensures { IfOk result (λ verified. VerifiesMarked (record { cnf = S.stand cnf.old; proof = P.stand proof.old }) (record { cnf = S.stand cnf.new; proof = P.stand proof.new }) verified) }
+{
+    match given.add_dimacs_cnf(cnf) {
+        Ok(()) => {}
+        Err(error) => return Err(error),
+    }
+    match checker.check_marked(proof) {
+        Ok(report) => Ok(is_refuted_by(given, &report)),
+        Err(error) => {
+            let verified = is_of_bytes(error)?;
+            Ok(verified)
+        }
+    }
+}
+
+/// The same with new checkers.
+fn verify_marked<A: Allocator + Copy, S: ByteSource, P: ByteSource>(
+    alloc: A,
+    cnf: &mut S,
+    proof: &mut P,
+) -> Result<bool, CheckerError>
+    requires cnf_faults { (S.stand cnf.old).faults < 2 ^ 64 - 1 }
+    requires proof_faults { (P.stand proof.old).faults < 2 ^ 64 - 1 }
+    ensures { IfOk result (λ verified. VerifiesMarked (record { cnf = S.stand cnf.old; proof = P.stand proof.old }) (record { cnf = S.stand cnf.new; proof = P.stand proof.new }) verified) }
+{
+    let mut given = Checker::new_in(alloc);
+    let mut checker = Checker::new_in(alloc);
+    let verified = verify_marked_in(&mut given, &mut checker, cnf, proof);
+    drop(checker);
+    drop(given);
+    verified
 }
 
 /// Whether the proof refutes the clauses of the text.
@@ -74,6 +179,7 @@ fn is_verified(checked: Result<CheckVerdict, CheckerError>) -> Result<bool, Chec
         Ok(CheckVerdict::Derivation) => Ok(false),
         Err(CheckerError::CheckFailed { .. }) => Ok(false),
         Err(CheckerError::NoSuchClause { .. }) => Ok(false),
+        Err(CheckerError::CoreNotAssumed { .. }) => Ok(false),
         Err(CheckerError::Parse { .. }) => Ok(false),
         Err(error) => Err(error),
     }

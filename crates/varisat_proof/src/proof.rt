@@ -4,6 +4,6 @@ pub mod format;
 pub mod step;
 pub mod writer;
 
-pub use format::ProofFormat;
+pub use format::{LineKind, ProofFormat};
 pub use step::{MapStep, ProofStep};
 pub use writer::{WriteError, write_binary_step, write_step};

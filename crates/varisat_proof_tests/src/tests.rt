@@ -2,6 +2,7 @@
 
 mod checks;
 mod faults;
+mod marked;
 mod programs;
 mod random;
 mod steps;

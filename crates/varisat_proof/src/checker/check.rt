@@ -1,23 +1,29 @@
 //! The checker. It keeps the present clauses, and propagates over them for each line.
 ghost use Rattle.std.specs.Prelude.{◌≡◌, ◌≢◌, ℕ, List, [], ◌∷◌, ◌++◌, ◌+◌, ◌-◌, ◌<◌, ◌^◌, ◌↔◌, length, true, false, Ok, Err, Some, OnOk, OnErr, IfOk, IfErr, IsTrue, ◌||◌, slice_index_or};
+ghost use Rattle.varisat_theory.specs.Membership.{◌∈◌, SameSet};
 ghost use Rattle.varisat_theory.specs.Literals.{Clause, IsSatisfiable};
 ghost use Rattle.varisat_formula.specs.Rest.{Progress, IsEnding};
-ghost use Rattle.varisat_theory.specs.Derivations.{Line};
-ghost use Rattle.varisat_theory.specs.Propagation.{Conflicts};
-ghost use Rattle.varisat_theory.specs.Checking.{IsLineStatus};
+ghost use Rattle.varisat_theory.specs.Derivations.{Line, Add, Delete, TakesOut};
+ghost use Rattle.varisat_theory.specs.Propagation.{Conflicts, Follows};
+ghost use Rattle.varisat_theory.specs.Checking.{IsAbsent};
 ghost use Rattle.varisat_theory.specs.Held.{without};
-ghost use Rattle.varisat_theory.specs.declared.checker.LineStatus.TheVariants.{Taken};
+ghost use Rattle.varisat_proof.specs.declared.proof.format.LineKind.TheVariants.{Fails};
+ghost use Rattle.varisat_proof.specs.declared.proof.format.Encoding.TheVariants.{Text};
+ghost use Rattle.varisat_proof.specs.declared.checker.line.LineStatus.TheVariants.{Taken};
 ghost use Rattle.varisat_proof.specs.declared.checker.error.CheckVerdict.TheVariants.{Refutation};
 ghost use Rattle.varisat_proof.specs.declared.checker.error.CheckerError.TheVariants.{OutOfMemory, Spent};
-ghost use Rattle.varisat_proof.specs.Written.{line_of_kind};
+ghost use Rattle.varisat_proof.specs.Lines.{ProofLine, line_of_kind};
+ghost use Rattle.varisat_proof.specs.Marked.{ProofState, Told, IsCheckOf};
 ghost use Rattle.varisat_proof.specs.Results.{IsResult};
-ghost use Rattle.varisat_proof.specs.Checks.{StandsAfterLines, TakesLine, HasRead, ReadsPiece, EndsWith, result_at_end, ChecksLine, ChecksUnits, ChecksCore, RefusesText};
-ghost use Rattle.varisat_proof.specs.Calls.{CheckerState, IsRefusal, BecomesOrRefuses, AddsRead, AddsText, IsStep, Checks, IsOfBytes, spends};
+ghost use Rattle.varisat_proof.specs.Checks.{IsLineStatus, StandsAfterLines, TakesLine, HasRead, ReadsPiece, EndsWith, result_at_end, ChecksLine, ChecksUnits, ChecksCore, RefusesText};
+ghost use Rattle.varisat_proof.specs.Calls.{CheckerState, IsRefusal, BecomesOrRefuses, AddsRead, AddsText, IsStep, ChecksBytes, Checks, ChecksMarked, IsMarkedResult, IsTrueReport, IsOfBytes, spends};
 
 use crate::checker::error::{CheckVerdict, CheckerError};
+use crate::checker::line::LineStatus;
+use crate::checker::marked::{Journal, MarkedReport};
 use crate::checker::reader::ProofReader;
 use crate::checker::token::Event;
-use crate::proof::format::{LineKind, ProofFormat};
+use crate::proof::format::{Encoding, LineKind, ProofFormat};
 use crate::proof::step::ProofStep;
 use std::alloc::{AllocError, Allocator};
 use std::marker::Model;
@@ -26,7 +32,6 @@ use varisat_formula::formula::CnfFormula;
 use varisat_formula::io::ByteSource;
 use varisat_literals::{Lit, Var};
 use varisat_present::PresentClauses;
-use varisat_theory::checker::LineStatus;
 
 /// How many bytes of a source are asked for at a time.
 const PIECE: usize = 0x2000;
@@ -98,6 +103,14 @@ impl<A: Allocator + Copy> Checker<A> {
         ensures { result.now ≡ slice_index_or self.now.clauses i [] }
     {
         self.clauses.clause(i)
+    }
+
+    /// Whether a present clause is equal as a set.
+    pub fn has_clause(&self, clause: &[Lit]) -> bool
+        ensures yes { result ≡ true → (c : Clause) × (c ∈ self.now.clauses) × SameSet c clause.now }
+        ensures no { result ≡ false → IsAbsent self.now.clauses clause.now }
+    {
+        self.clauses.has(clause)
     }
 
     /// Adds a clause, without a check.
@@ -224,25 +237,84 @@ impl<A: Allocator + Copy> Checker<A> {
         Ok(found)
     }
 
-    /// Takes a line, if it adds what follows or deletes a present clause.
-    fn take_line(&mut self, kind: LineKind, clause: &[Lit]) -> Result<LineStatus, AllocError>
-        ensures status { IfOk result (λ status. IsLineStatus self.old.clauses (line_of_kind kind clause.now) status self.new.clauses) }
-        ensures stays { IfOk result (λ status. (status ≡ Taken → ⊥) → self.new.clauses ≡ self.old.clauses) }
+    /// Adds a clause, if it follows.
+    fn add_line(&mut self, clause: &[Lit]) -> Result<bool, AllocError>
+        ensures added { IfOk result (λ added. added ≡ true → Follows self.old.clauses clause.now × (self.new ≡ record self.old { clauses = self.old.clauses ++ clause.now ∷ [] })) }
+        ensures refused { IfOk result (λ added. added ≡ false → (Follows self.old.clauses clause.now → ⊥) × (self.new ≡ self.old)) }
+        ensures spent { self.new.spent ≡ self.old.spent }
+    {
+        if !self.clauses.follows(clause)? {
+            return Ok(false);
+        }
+        self.push_clause(clause)?;
+        Ok(true)
+    }
+
+    /// Takes out one present clause that is equal as a set, or returns false where there is none.
+    fn delete_line(&mut self, clause: &[Lit]) -> bool
+        ensures taken { result ≡ true → TakesOut self.old.clauses clause.now self.new.clauses }
+        ensures absent { result ≡ false → IsAbsent self.old.clauses clause.now }
+        ensures stays { result ≡ false → self.new.clauses ≡ self.old.clauses }
+        ensures spent { self.new.spent ≡ self.old.spent }
+    {
+        self.clauses.take_out(clause)
+    }
+
+    /// Reports a core, if it is assumed and propagation from it conflicts.
+    fn take_core(
+        &mut self,
+        journal: &mut Journal<A>,
+        core: &[Lit],
+    ) -> Result<LineStatus, AllocError>
+        ensures status { IfOk result (λ status. IsLineStatus (record { present = self.old.clauses; told = journal.old }) (line_of_kind Fails core.now) status (record { present = self.new.clauses; told = journal.new })) }
+        ensures spent { self.new.spent ≡ self.old.spent }
+    {
+        if !journal.assumes(core) {
+            return Ok(LineStatus::Unassumed);
+        }
+        let is_failed = self.clauses.conflicts(core)?;
+        if !is_failed {
+            return Ok(LineStatus::Unproved);
+        }
+        journal.push_core(core)?;
+        Ok(LineStatus::Taken)
+    }
+
+    /// Takes a line, unless it is wrong.
+    fn take_line(
+        &mut self,
+        journal: &mut Journal<A>,
+        kind: LineKind,
+        clause: &[Lit],
+    ) -> Result<LineStatus, AllocError>
+        ensures status { IfOk result (λ status. IsLineStatus (record { present = self.old.clauses; told = journal.old }) (line_of_kind kind clause.now) status (record { present = self.new.clauses; told = journal.new })) }
         ensures spent { self.new.spent ≡ self.old.spent }
     {
         match kind {
             LineKind::Adds => {
-                if !self.clauses.follows(clause)? {
+                if !self.add_line(clause)? {
                     return Ok(LineStatus::Unproved);
                 }
-                self.push_clause(clause)?;
                 Ok(LineStatus::Taken)
             }
             LineKind::Deletes => {
-                if !self.clauses.take_out(clause) {
+                if !self.delete_line(clause) {
                     return Ok(LineStatus::Absent);
                 }
                 Ok(LineStatus::Taken)
+            }
+            LineKind::Accepts => {
+                journal.push_input(clause)?;
+                self.push_clause(clause)?;
+                Ok(LineStatus::Taken)
+            }
+            LineKind::Assumes => {
+                journal.assume(clause)?;
+                Ok(LineStatus::Taken)
+            }
+            LineKind::Fails => {
+                let status = self.take_core(journal, clause)?;
+                Ok(status)
             }
         }
     }
@@ -250,24 +322,26 @@ impl<A: Allocator + Copy> Checker<A> {
     /// The next line of a proof. Once the present clauses conflict, lines are not looked at.
     fn next_line(
         &mut self,
+        journal: &mut Journal<A>,
         count: &mut Count,
         kind: LineKind,
         clause: &[Lit],
     ) -> Result<(), CheckerError>
-        ensures takes { (P : List Clause) (lines : List Line) → StandsAfterLines P lines self.old.clauses count.old → TakesLine P (lines ++ line_of_kind kind clause.now ∷ []) result self.new.clauses count.new }
+        ensures takes { (s : ProofState) (lines : List ProofLine) → StandsAfterLines s lines (record { present = self.old.clauses; told = journal.old }) count.old → TakesLine s (lines ++ line_of_kind kind clause.now ∷ []) result (record { present = self.new.clauses; told = journal.new }) count.new }
         ensures spent { self.new.spent ≡ self.old.spent }
     {
         if count.refuted {
             return Ok(());
         }
         let step = count.steps.saturating_add(1);
-        let status = match self.take_line(kind, clause) {
+        let status = match self.take_line(journal, kind, clause) {
             Ok(status) => status,
             Err(_) => return Err(CheckerError::OutOfMemory),
         };
         match status {
             LineStatus::Unproved => return Err(CheckerError::CheckFailed { step }),
             LineStatus::Absent => return Err(CheckerError::NoSuchClause { step }),
+            LineStatus::Unassumed => return Err(CheckerError::CoreNotAssumed { step }),
             LineStatus::Taken => {}
         }
         let refuted = match self.is_refuted() {
@@ -284,11 +358,12 @@ impl<A: Allocator + Copy> Checker<A> {
     /// The next piece of a proof.
     fn read_piece(
         &mut self,
+        journal: &mut Journal<A>,
         reader: &mut ProofReader<A>,
         count: &mut Count,
         piece: &[u8],
     ) -> Result<(), CheckerError>
-        ensures reads { (f : ProofFormat) (P : List Clause) (text : List ℕ) (lines : List Line) → HasRead f text lines reader.old → StandsAfterLines P lines self.old.clauses count.old → ReadsPiece f P (text ++ piece.now) result (record { present = self.new.clauses; count = count.new; progress = reader.new }) }
+        ensures reads { (e : Encoding) (s : ProofState) (text : List ℕ) (lines : List ProofLine) → HasRead e text lines reader.old → StandsAfterLines s lines (record { present = self.old.clauses; told = journal.old }) count.old → ReadsPiece e s (text ++ piece.now) result (record { state = record { present = self.new.clauses; told = journal.new }; count = count.new; progress = reader.new }) }
         ensures spent { self.new.spent ≡ self.old.spent }
     {
         for b in piece {
@@ -300,7 +375,12 @@ impl<A: Allocator + Copy> Checker<A> {
             match event {
                 Event::More => {}
                 Event::Fault => return Err(CheckerError::Parse { offset: start }),
-                Event::Ended => match self.next_line(count, reader.kind(), reader.clause()) {
+                Event::Ended => match self.next_line(
+                    journal,
+                    count,
+                    reader.kind(),
+                    reader.clause(),
+                ) {
                     Ok(()) => {}
                     Err(error) => return Err(error),
                 },
@@ -312,10 +392,11 @@ impl<A: Allocator + Copy> Checker<A> {
     /// The end of a proof.
     fn end_proof(
         &mut self,
+        journal: &mut Journal<A>,
         reader: &mut ProofReader<A>,
         count: &mut Count,
     ) -> Result<CheckVerdict, CheckerError>
-        ensures ends { (f : ProofFormat) (P : List Clause) (text : List ℕ) (lines : List Line) → HasRead f text lines reader.old → StandsAfterLines P lines self.old.clauses count.old → EndsWith f P text result self.new.clauses }
+        ensures ends { (e : Encoding) (s : ProofState) (text : List ℕ) (lines : List ProofLine) → HasRead e text lines reader.old → StandsAfterLines s lines (record { present = self.old.clauses; told = journal.old }) count.old → EndsWith e s text result (record { present = self.new.clauses; told = journal.new }) }
         ensures spent { self.new.spent ≡ self.old.spent }
     {
         let last = reader.last_fault();
@@ -326,7 +407,7 @@ impl<A: Allocator + Copy> Checker<A> {
         match event {
             Event::More => {}
             Event::Fault => return Err(CheckerError::Parse { offset: last }),
-            Event::Ended => match self.next_line(count, reader.kind(), reader.clause()) {
+            Event::Ended => match self.next_line(journal, count, reader.kind(), reader.clause()) {
                 Ok(()) => {}
                 Err(error) => return Err(error),
             },
@@ -337,11 +418,12 @@ impl<A: Allocator + Copy> Checker<A> {
     /// Reads all of the source as one proof.
     fn run<S: ByteSource>(
         &mut self,
+        journal: &mut Journal<A>,
         source: &mut S,
-        format: ProofFormat,
+        encoding: Encoding,
     ) -> Result<CheckVerdict, CheckerError>
         requires few { (S.stand source.old).faults < 2 ^ 64 - 1 }
-        ensures checks { Checks format (record { checker = self.old; source = S.stand source.old }) result (record { checker = self.new; source = S.stand source.new }) }
+        ensures checks { ChecksBytes (λ bytes. IsCheckOf encoding (record { present = self.old.clauses; told = journal.old }) bytes result (record { present = self.new.clauses; told = journal.new })) (S.stand source.old) result (S.stand source.new) }
         ensures spent { self.new.spent ≡ self.old.spent }
     {
         let refuted = match self.is_refuted() {
@@ -349,7 +431,7 @@ impl<A: Allocator + Copy> Checker<A> {
             Err(_) => return Err(CheckerError::OutOfMemory),
         };
         let mut count = Count { steps: 0, refuted };
-        let mut reader = ProofReader::new_in(self.alloc, format);
+        let mut reader = ProofReader::new_in(self.alloc, encoding);
         let mut buffer = [0; PIECE];
         'pieces: loop {
             let size = match source.fill(&mut buffer) {
@@ -359,27 +441,36 @@ impl<A: Allocator + Copy> Checker<A> {
             if size == 0 {
                 break;
             }
-            match self.read_piece(&mut reader, &mut count, &buffer[..size]) {
+            match self.read_piece(journal, &mut reader, &mut count, &buffer[..size]) {
                 Ok(()) => {}
                 Err(error) => return Err(error),
             }
         }
-        match self.end_proof(&mut reader, &mut count) {
+        match self.end_proof(journal, &mut reader, &mut count) {
             Ok(verdict) => Ok(verdict),
             Err(error) => Err(error),
         }
     }
 
-    /// Checks line number `step` of a step.
-    fn check_line(&mut self, kind: LineKind, clause: &[Lit], step: u64) -> Result<(), CheckerError>
-        ensures { ChecksLine self.old (line_of_kind kind clause.now) step result self.new }
+    /// Checks that the clause follows, as line number `step` of a step, and adds it.
+    fn check_added(&mut self, clause: &[Lit], step: u64) -> Result<(), CheckerError>
+        ensures { ChecksLine self.old (Add clause.now) step result self.new }
     {
-        match self.take_line(kind, clause) {
-            Ok(LineStatus::Taken) => Ok(()),
-            Ok(LineStatus::Unproved) => Err(CheckerError::CheckFailed { step }),
-            Ok(LineStatus::Absent) => Err(CheckerError::NoSuchClause { step }),
+        match self.add_line(clause) {
+            Ok(true) => Ok(()),
+            Ok(false) => Err(CheckerError::CheckFailed { step }),
             Err(_) => Err(self.run_out()),
         }
+    }
+
+    /// Checks that the clause is present, and takes it out.
+    fn check_deleted(&mut self, clause: &[Lit]) -> Result<(), CheckerError>
+        ensures { ChecksLine self.old (Delete clause.now) 1 result self.new }
+    {
+        if !self.delete_line(clause) {
+            return Err(CheckerError::NoSuchClause { step: 1 });
+        }
+        Ok(())
     }
 
     /// Checks each literal in turn as a clause of its own.
@@ -388,7 +479,7 @@ impl<A: Allocator + Copy> Checker<A> {
         ensures { ChecksUnits self.old units.now result self.new }
     {
         for (i, unit) in units.iter().enumerate() {
-            match self.check_line(LineKind::Adds, &[*unit], i as u64 + 1) {
+            match self.check_added(&[*unit], i as u64 + 1) {
                 Ok(()) => {}
                 Err(error) => return Err(error),
             }
@@ -416,9 +507,9 @@ impl<A: Allocator + Copy> Checker<A> {
             return Err(CheckerError::Spent);
         }
         match step {
-            ProofStep::AtClause { clause } => self.check_line(LineKind::Adds, clause, 1),
+            ProofStep::AtClause { clause } => self.check_added(clause, 1),
             ProofStep::UnitClauses { units } => self.check_units(units),
-            ProofStep::DeleteClause { clause } => self.check_line(LineKind::Deletes, clause, 1),
+            ProofStep::DeleteClause { clause } => self.check_deleted(clause),
             ProofStep::DeleteVar { var } => {
                 self.clauses.drop_mentions(*var);
                 Ok(())
@@ -434,6 +525,7 @@ impl<A: Allocator + Copy> Checker<A> {
         let spends = match error {
             CheckerError::CheckFailed { .. }
             | CheckerError::NoSuchClause { .. }
+            | CheckerError::CoreNotAssumed { .. }
             | CheckerError::Dimacs { .. }
             | CheckerError::Spent => false,
             CheckerError::Parse { .. } | CheckerError::Io { .. } | CheckerError::OutOfMemory =>
@@ -463,8 +555,41 @@ impl<A: Allocator + Copy> Checker<A> {
         if self.spent {
             return Err(CheckerError::Spent);
         }
-        match self.run(source, format) {
+        let mut journal = Journal::new_in(self.alloc);
+        match self.run(&mut journal, source, format.plain_encoding()) {
             Ok(verdict) => Ok(verdict),
+            Err(error) => {
+                self.end_with(&error);
+                Err(error)
+            }
+        }
+    }
+
+    /// Checks all of the source as one marked proof, as `check_proof` checks a proof of the format `Drat`. A clause of
+    /// an `i` line joins the present ones without a check. A `q` line has the list that is assumed from there on, which
+    /// is empty at first. An `f` line has a core: `CoreNotAssumed` where a literal of it is not assumed, and else
+    /// `CheckFailed` where propagation from it does not conflict. The report has the clauses of the `i` lines and the
+    /// cores, up to where the present clauses conflict. Where the verdict is Refutation no assignment satisfies the
+    /// clauses that were present as the call began together with those of the `i` lines; and none makes all literals of
+    /// a core true and satisfies these clauses, of the `i` lines those before the core.
+    pub fn check_marked<S: ByteSource>(
+        &mut self,
+        source: &mut S,
+    ) -> Result<MarkedReport<A>, CheckerError>
+        requires few { (S.stand source.old).faults < 2 ^ 64 - 1 }
+        ensures checks { self.old.spent ≡ false → ChecksMarked (record { checker = self.old; source = S.stand source.old }) result (record { checker = self.new; source = S.stand source.new }) }
+        ensures refused { self.old.spent ≡ true → (result ≡ Err Spent) × (self.new ≡ self.old) × (source.new ≡ source.old) }
+        ensures usable { OnOk result (self.new.spent ≡ self.old.spent) }
+        ensures spends { IfErr result (λ e. self.new.spent ≡ (self.old.spent || spends e)) }
+        ensures exact { (bytes : List ℕ) → self.old.spent ≡ false → (S.stand source.old).left ≡ Some bytes → IsOfBytes result → IsMarkedResult self.old.clauses bytes result self.new.clauses }
+        ensures sound { IfOk result (λ report. IsTrueReport self.old.clauses report) }
+    {
+        if self.spent {
+            return Err(CheckerError::Spent);
+        }
+        let mut journal = Journal::new_in(self.alloc);
+        match self.run(&mut journal, source, Encoding::Text { marked: true }) {
+            Ok(verdict) => Ok(journal.report(verdict)),
             Err(error) => {
                 self.end_with(&error);
                 Err(error)

@@ -17,12 +17,15 @@ pub enum CheckVerdict {
 /// Both stay at 2^64-1 once they are there.
 #[derive(Debug, Drop, Error)]
 pub enum CheckerError {
-    /// The line adds a clause that does not follow. The clauses are those that the lines before left.
+    /// The line adds a clause that does not follow, or propagation from its core does not conflict. The clauses are those that the lines before left.
     #[error("Step {step} does not follow")]
     CheckFailed { step: u64 },
     /// The line deletes a clause that is not present. The clauses are those that the lines before left.
     #[error("Step {step} deletes no clause")]
     NoSuchClause { step: u64 },
+    /// The line's core has a literal that is not assumed. The clauses are those that the lines before left.
+    #[error("Step {step} names a literal that is not assumed")]
+    CoreNotAssumed { step: u64 },
     /// The bytes are no lines: the token at the offset does not fit, or they end there inside a line. The checker is
     /// spent.
     #[error("Error in the proof at byte {offset}")]

@@ -1,20 +1,35 @@
 //! Reads the lines of a proof, a byte at a time.
 ghost use Rattle.std.specs.Prelude.{◌≡◌, ℕ, List, [], ◌∷◌, ◌++◌, ◌+◌, ◌*◌, ◌<◌, ◌≤◌, ◌^◌, OnOk, OnErr, IfOk, true, false, ◌==◌, if◌then◌else◌};
 ghost use Rattle.varisat_formula.specs.Dimacs.{next};
-ghost use Rattle.varisat_proof.specs.declared.proof.format.ProofFormat.TheVariants.{Drat, BinaryDrat};
-ghost use Rattle.varisat_proof.specs.Machine.{IsSmall, no_part, ends, symbol_of, is_between, grown, event, number_event, moved, after_number, begin_line, begin, happens, after, went_on, ended_token, last_symbol, last_event, last_place, last_offset, fault_offset};
+ghost use Rattle.varisat_proof.specs.declared.proof.format.Encoding.TheVariants.{Text, Binary};
+ghost use Rattle.varisat_proof.specs.Grammar.{tag_kind};
+ghost use Rattle.varisat_proof.specs.Lines.{letter_kind};
+ghost use Rattle.varisat_proof.specs.Machine.{IsSmall, no_part, ends, symbol_of, is_between, grown, event, number_event, begin_event, begin_place, moved, after_number, begin_line, begin, happens, after, went_on, ended_token, last_symbol, last_event, last_place, last_offset, fault_offset};
 
 use crate::checker::token::{Event, Part, Symbol};
-use crate::proof::format::{LineKind, ProofFormat};
+use crate::proof::format::{Encoding, LineKind, letter_kind};
 use std::alloc::{AllocError, Allocator};
 use std::marker::Model;
 use varisat_formula::dimacs::token::is_blank_byte;
 use varisat_literals::Lit;
 
+/// The kind of binary line that a tag begins.
+fn tag_kind(tag: u64) -> Option<LineKind>
+    ensures { result ≡ tag_kind tag }
+{
+    if tag == 0x61 {
+        Some(LineKind::Adds)
+    } else if tag == 0x64 {
+        Some(LineKind::Deletes)
+    } else {
+        None
+    }
+}
+
 /// A reader of the lines of a proof, which may come in any pieces. Beside the literals of one line it takes no memory.
 #[derive(Drop)]
 pub struct ProofReader<A: Allocator + Copy> {
-    format: ProofFormat,
+    encoding: Encoding,
     at: u64,
     start: u64,
     part: Part,
@@ -29,18 +44,18 @@ impl<A: Allocator + Copy> Model for ProofReader<A> {
 
     ghost Value = { ReaderState };
 
-    ghost view = { λ r. record { format = r.format; at = r.at; start = r.start; part = r.part; place = record { inside = r.inside; kind = r.kind; clause = r.clause.items } } };
+    ghost view = { λ r. record { encoding = r.encoding; at = r.at; start = r.start; part = r.part; place = record { inside = r.inside; kind = r.kind; clause = r.clause.items } } };
 
     ghost invariant = { λ r. (r.part.count ≤ 4) × (r.part.value ≤ r.part.count * 2 ^ 35) };
 }
 
 impl<A: Allocator + Copy> ProofReader<A> {
     /// A reader before the first byte. It takes no memory.
-    pub fn new_in(alloc: A, format: ProofFormat) -> ProofReader<A>
-        ensures { result ≡ begin format }
+    pub fn new_in(alloc: A, encoding: Encoding) -> ProofReader<A>
+        ensures { result ≡ begin encoding }
     {
         ProofReader {
-            format,
+            encoding,
             at: 0,
             start: 0,
             part: Part::new(),
@@ -111,19 +126,32 @@ impl<A: Allocator + Copy> ProofReader<A> {
         Ok(Event::More)
     }
 
+    /// A symbol in front of a line that begins the kind, or none.
+    fn begin(&mut self, kind: Option<LineKind>) -> Event
+        ensures event { result ≡ begin_event kind }
+        ensures place { self.new ≡ record self.old { place = begin_place kind self.old.place } }
+    {
+        match kind {
+            None => Event::Fault,
+            Some(kind) => {
+                self.begin_line(kind);
+                Event::More
+            }
+        }
+    }
+
     /// A symbol of text.
-    fn take_token(&mut self, symbol: Symbol) -> Result<Event, AllocError>
+    fn take_token(&mut self, marked: bool, symbol: Symbol) -> Result<Event, AllocError>
         requires small { IsSmall symbol }
-        ensures event { IfOk result (λ e. e ≡ event Drat self.old.place.inside symbol) }
-        ensures place { OnOk result (self.new ≡ record self.old { place = moved Drat self.old.place symbol }) }
+        ensures event { IfOk result (λ e. e ≡ event (Text marked) self.old.place.inside symbol) }
+        ensures place { OnOk result (self.new ≡ record self.old { place = moved (Text marked) self.old.place symbol }) }
     {
         match symbol {
             Symbol::Mark(letter) => {
-                if self.inside || letter != b'd' {
+                if self.inside {
                     return Ok(Event::Fault);
                 }
-                self.begin_line(LineKind::Deletes);
-                Ok(Event::More)
+                Ok(self.begin(letter_kind(marked, letter)))
             }
             Symbol::Number(number) => {
                 if !self.inside {
@@ -139,8 +167,8 @@ impl<A: Allocator + Copy> ProofReader<A> {
     /// A symbol of a binary proof.
     fn take_number_or_tag(&mut self, symbol: Symbol) -> Result<Event, AllocError>
         requires small { IsSmall symbol }
-        ensures event { IfOk result (λ e. e ≡ event BinaryDrat self.old.place.inside symbol) }
-        ensures place { OnOk result (self.new ≡ record self.old { place = moved BinaryDrat self.old.place symbol }) }
+        ensures event { IfOk result (λ e. e ≡ event Binary self.old.place.inside symbol) }
+        ensures place { OnOk result (self.new ≡ record self.old { place = moved Binary self.old.place symbol }) }
     {
         match symbol {
             Symbol::Number(number) => {
@@ -148,15 +176,7 @@ impl<A: Allocator + Copy> ProofReader<A> {
                     let event = self.take_number(number)?;
                     return Ok(event);
                 }
-                if number == 0x61 {
-                    self.begin_line(LineKind::Adds);
-                    Ok(Event::More)
-                } else if number == 0x64 {
-                    self.begin_line(LineKind::Deletes);
-                    Ok(Event::More)
-                } else {
-                    Ok(Event::Fault)
-                }
+                Ok(self.begin(tag_kind(number)))
             }
             Symbol::Mark(_) | Symbol::Cut | Symbol::Bad => Ok(Event::Fault),
         }
@@ -165,15 +185,15 @@ impl<A: Allocator + Copy> ProofReader<A> {
     /// What a token says.
     fn take(&mut self, symbol: Symbol) -> Result<Event, AllocError>
         requires small { IsSmall symbol }
-        ensures event { IfOk result (λ e. e ≡ event self.old.format self.old.place.inside symbol) }
-        ensures place { OnOk result (self.new ≡ record self.old { place = moved self.old.format self.old.place symbol }) }
+        ensures event { IfOk result (λ e. e ≡ event self.old.encoding self.old.place.inside symbol) }
+        ensures place { OnOk result (self.new ≡ record self.old { place = moved self.old.encoding self.old.place symbol }) }
     {
-        match self.format {
-            ProofFormat::Drat => {
-                let event = self.take_token(symbol)?;
+        match self.encoding {
+            Encoding::Text { marked } => {
+                let event = self.take_token(marked, symbol)?;
                 Ok(event)
             }
-            ProofFormat::BinaryDrat => {
+            Encoding::Binary => {
                 let event = self.take_number_or_tag(symbol)?;
                 Ok(event)
             }
@@ -183,8 +203,8 @@ impl<A: Allocator + Copy> ProofReader<A> {
     /// Takes what a token says that ends at this byte.
     fn end_token(&mut self, symbol: Symbol) -> Result<Event, AllocError>
         requires small { IsSmall symbol }
-        ensures event { IfOk result (λ e. e ≡ event self.old.format self.old.place.inside symbol) }
-        ensures ok { OnOk result (self.new ≡ ended_token self.old (moved self.old.format self.old.place symbol)) }
+        ensures event { IfOk result (λ e. e ≡ event self.old.encoding self.old.place.inside symbol) }
+        ensures ok { OnOk result (self.new ≡ ended_token self.old (moved self.old.encoding self.old.place symbol)) }
     {
         let event = self.take(symbol)?;
         self.at = self.at.saturating_add(1);
@@ -193,8 +213,8 @@ impl<A: Allocator + Copy> ProofReader<A> {
         Ok(event)
     }
 
-    fn text_byte(&mut self, b: u8) -> Result<Event, AllocError>
-        requires text { self.old.format ≡ Drat }
+    fn text_byte(&mut self, marked: bool, b: u8) -> Result<Event, AllocError>
+        requires text { self.old.encoding ≡ Text marked }
         ensures event { IfOk result (λ e. e ≡ happens self.old b) }
         ensures ok { OnOk result (self.new ≡ after self.old b) }
     {
@@ -205,7 +225,7 @@ impl<A: Allocator + Copy> ProofReader<A> {
                 self.part = Part::new();
                 return Ok(Event::More);
             }
-            let event = self.end_token(self.part.symbol())?;
+            let event = self.end_token(self.part.symbol(marked))?;
             return Ok(event);
         }
         self.part = self.part.after_text(b);
@@ -214,7 +234,7 @@ impl<A: Allocator + Copy> ProofReader<A> {
     }
 
     fn binary_byte(&mut self, b: u8) -> Result<Event, AllocError>
-        requires binary { self.old.format ≡ BinaryDrat }
+        requires binary { self.old.encoding ≡ Binary }
         ensures event { IfOk result (λ e. e ≡ happens self.old b) }
         ensures ok { OnOk result (self.new ≡ after self.old b) }
     {
@@ -233,12 +253,12 @@ impl<A: Allocator + Copy> ProofReader<A> {
         ensures event { IfOk result (λ e. e ≡ happens self.old b) }
         ensures ok { OnOk result (self.new ≡ after self.old b) }
     {
-        match self.format {
-            ProofFormat::Drat => {
-                let event = self.text_byte(b)?;
+        match self.encoding {
+            Encoding::Text { marked } => {
+                let event = self.text_byte(marked, b)?;
                 Ok(event)
             }
-            ProofFormat::BinaryDrat => {
+            Encoding::Binary => {
                 let event = self.binary_byte(b)?;
                 Ok(event)
             }
@@ -254,12 +274,12 @@ impl<A: Allocator + Copy> ProofReader<A> {
         if self.part.count == 0 {
             return Ok(Event::More);
         }
-        match self.format {
-            ProofFormat::Drat => {
-                let event = self.take_token(self.part.symbol())?;
+        match self.encoding {
+            Encoding::Text { marked } => {
+                let event = self.take_token(marked, self.part.symbol(marked))?;
                 Ok(event)
             }
-            ProofFormat::BinaryDrat => Ok(Event::Fault),
+            Encoding::Binary => Ok(Event::Fault),
         }
     }
 
@@ -267,9 +287,9 @@ impl<A: Allocator + Copy> ProofReader<A> {
     pub fn last_fault(&self) -> u64
         ensures { result ≡ last_offset self.now }
     {
-        match self.format {
-            ProofFormat::Drat => self.start,
-            ProofFormat::BinaryDrat => { if self.inside { self.at } else { self.start } }
+        match self.encoding {
+            Encoding::Text { .. } => self.start,
+            Encoding::Binary => { if self.inside { self.at } else { self.start } }
         }
     }
 }

@@ -1,8 +1,10 @@
 //! Tokens of a proof, a byte at a time.
 ghost use Rattle.std.specs.Prelude.{◌≡◌, ℕ, List, [], ◌∷◌, ◌++◌, ◌+◌, ◌*◌, ◌<◌, ◌≤◌, ◌^◌, true, false, ◌==◌, if◌then◌else◌};
-ghost use Rattle.varisat_proof.specs.Grammar.{meant};
+ghost use Rattle.varisat_proof.specs.Lines.{letter_kind};
+ghost use Rattle.varisat_proof.specs.Grammar.{is_kind, meant};
 ghost use Rattle.varisat_proof.specs.Machine.{IsSmall, scale, no_part, after_text, part_symbol, grown_value, after_binary, number_symbol};
 
+use crate::proof::format::letter_kind;
 use varisat_formula::dimacs::token::{Meaning, Word};
 
 /// What a token, a number or a tag byte says.
@@ -71,6 +73,13 @@ fn meant(meaning: Meaning) -> Symbol
     }
 }
 
+/// Whether the letter marks a line of text.
+fn is_mark(marked: bool, letter: u8) -> bool
+    ensures { result ≡ is_kind (letter_kind marked letter) }
+{
+    letter_kind(marked, letter).is_some()
+}
+
 impl Part {
     /// No byte.
     pub fn new() -> Part
@@ -99,11 +108,11 @@ impl Part {
     }
 
     /// What a token of text says, if it ends here.
-    pub fn symbol(self) -> Symbol
-        ensures symbol { result ≡ part_symbol self }
+    pub fn symbol(self, marked: bool) -> Symbol
+        ensures symbol { result ≡ part_symbol marked self }
         ensures small { IsSmall result }
     {
-        if self.count == 1 && self.first == b'd' {
+        if self.count == 1 && is_mark(marked, self.first) {
             Symbol::Mark(self.first)
         } else {
             meant(self.word.meaning())

@@ -1,13 +1,14 @@
 //! Writes the lines of a proof.
-ghost use Rattle.std.specs.Prelude.{◌≡◌, ℕ, List, [], ◌∷◌, ◌++◌, ◌+◌, ◌-◌, ◌<◌, ◌≤◌, ◌^◌, length, take, flat_map, OnOk};
+ghost use Rattle.std.specs.Prelude.{◌≡◌, false, ℕ, List, [], ◌∷◌, ◌++◌, ◌+◌, ◌-◌, ◌<◌, ◌≤◌, ◌^◌, length, take, flat_map, OnOk};
 ghost use Rattle.varisat_literals.specs.Numbers.{literal_text};
 ghost use Rattle.varisat_formula.specs.Written.{spaced_literals};
-ghost use Rattle.varisat_proof.specs.declared.proof.format.ProofFormat.TheVariants.{Drat, BinaryDrat};
-ghost use Rattle.varisat_proof.specs.Written.{leb128, leb128_by, codes_bytes, line_of_kind, line_text, line_bytes, line_written};
-ghost use Rattle.varisat_proof.specs.Steps.{lines_of, PutsLines};
+ghost use Rattle.varisat_proof.specs.declared.proof.format.Encoding.TheVariants.{Text, Binary};
+ghost use Rattle.varisat_proof.specs.Lines.{line_of_kind, plain_lines, letter};
+ghost use Rattle.varisat_proof.specs.Written.{leb128, leb128_by, codes_bytes, mark_text, line_text, line_bytes, line_written};
+ghost use Rattle.varisat_proof.specs.Steps.{step_lines, PutsLines};
 ghost use Rattle.varisat_theory.specs.StepLaws.{unit_lines};
 
-use crate::proof::format::{LineKind, ProofFormat};
+use crate::proof::format::{Encoding, LineKind};
 use crate::proof::step::ProofStep;
 use itoa::Buffer;
 use std::alloc::{AllocError, Allocator};
@@ -53,6 +54,9 @@ fn push_text<A: Allocator + Copy>(
     match kind {
         LineKind::Adds => {}
         LineKind::Deletes => buffer.extend_from_slice(b"d ")?,
+        LineKind::Accepts => buffer.extend_from_slice(b"i ")?,
+        LineKind::Assumes => buffer.extend_from_slice(b"q ")?,
+        LineKind::Fails => buffer.extend_from_slice(b"f ")?,
     }
     for literal in clause {
         push_literal(buffer, *literal)?;
@@ -89,6 +93,9 @@ fn push_binary<A: Allocator + Copy>(
     let tag = match kind {
         LineKind::Adds => b'a',
         LineKind::Deletes => b'd',
+        LineKind::Accepts => b'i',
+        LineKind::Assumes => b'q',
+        LineKind::Fails => b'f',
     };
     buffer.push(tag)?;
     for literal in clause {
@@ -101,15 +108,15 @@ fn push_binary<A: Allocator + Copy>(
 /// The bytes of a line.
 fn push_line<A: Allocator + Copy>(
     buffer: &mut Vec<u8, A>,
-    format: ProofFormat,
+    encoding: Encoding,
     kind: LineKind,
     clause: &[Lit],
 ) -> Result<(), AllocError>
-    ensures { OnOk result (buffer.new.items ≡ line_written format (line_of_kind kind clause.now)) }
+    ensures { OnOk result (buffer.new.items ≡ line_written encoding (line_of_kind kind clause.now)) }
 {
-    match format {
-        ProofFormat::Drat => push_text(buffer, kind, clause)?,
-        ProofFormat::BinaryDrat => push_binary(buffer, kind, clause)?,
+    match encoding {
+        Encoding::Text { .. } => push_text(buffer, kind, clause)?,
+        Encoding::Binary => push_binary(buffer, kind, clause)?,
     }
     Ok(())
 }
@@ -118,14 +125,14 @@ fn push_line<A: Allocator + Copy>(
 fn write_line<W: ProofTarget, A: Allocator + Copy>(
     target: &mut W,
     buffer: &mut Vec<u8, A>,
-    format: ProofFormat,
+    encoding: Encoding,
     kind: LineKind,
     clause: &[Lit],
 ) -> Result<(), WriteError>
     requires { (W.taken target.old).faults < 2 ^ 64 - 1 }
-    ensures { PutsLines format (W.taken target.old) result (line_of_kind kind clause.now ∷ []) (W.taken target.new) }
+    ensures { PutsLines encoding (W.taken target.old) result (line_of_kind kind clause.now ∷ []) (W.taken target.new) }
 {
-    match push_line(buffer, format, kind, clause) {
+    match push_line(buffer, encoding, kind, clause) {
         Ok(()) => {}
         Err(_) => return Err(WriteError::Memory),
     }
@@ -139,14 +146,14 @@ fn write_line<W: ProofTarget, A: Allocator + Copy>(
 fn write_units<W: ProofTarget, A: Allocator + Copy>(
     target: &mut W,
     buffer: &mut Vec<u8, A>,
-    format: ProofFormat,
+    encoding: Encoding,
     units: &[Lit],
 ) -> Result<(), WriteError>
     requires { (W.taken target.old).faults < 2 ^ 64 - 1 }
-    ensures { PutsLines format (W.taken target.old) result (unit_lines units.now) (W.taken target.new) }
+    ensures { PutsLines encoding (W.taken target.old) result (plain_lines (unit_lines units.now)) (W.taken target.new) }
 {
     for unit in units {
-        match write_line(target, buffer, format, LineKind::Adds, &[*unit]) {
+        match write_line(target, buffer, encoding, LineKind::Adds, &[*unit]) {
             Ok(()) => {}
             Err(error) => return Err(error),
         }
@@ -158,19 +165,19 @@ fn write_units<W: ProofTarget, A: Allocator + Copy>(
 fn write_lines<W: ProofTarget, A: Allocator + Copy>(
     target: &mut W,
     buffer: &mut Vec<u8, A>,
-    format: ProofFormat,
+    encoding: Encoding,
     step: &ProofStep<'_>,
 ) -> Result<(), WriteError>
     requires { (W.taken target.old).faults < 2 ^ 64 - 1 }
-    ensures { PutsLines format (W.taken target.old) result (lines_of step.now) (W.taken target.new) }
+    ensures { PutsLines encoding (W.taken target.old) result (plain_lines (step_lines step.now)) (W.taken target.new) }
 {
     match step {
         ProofStep::AtClause { clause } => {
-            write_line(target, buffer, format, LineKind::Adds, clause)
+            write_line(target, buffer, encoding, LineKind::Adds, clause)
         }
-        ProofStep::UnitClauses { units } => write_units(target, buffer, format, units),
+        ProofStep::UnitClauses { units } => write_units(target, buffer, encoding, units),
         ProofStep::DeleteClause { clause } => {
-            write_line(target, buffer, format, LineKind::Deletes, clause)
+            write_line(target, buffer, encoding, LineKind::Deletes, clause)
         }
         ProofStep::DeleteVar { .. } | ProofStep::FailedAssumptions { .. } => Ok(()),
     }
@@ -184,9 +191,9 @@ pub fn write_step<W: ProofTarget, A: Allocator + Copy>(
     step: &ProofStep<'_>,
 ) -> Result<(), WriteError>
     requires { (W.taken target.old).faults < 2 ^ 64 - 1 }
-    ensures { PutsLines Drat (W.taken target.old) result (lines_of step.now) (W.taken target.new) }
+    ensures { PutsLines (Text false) (W.taken target.old) result (plain_lines (step_lines step.now)) (W.taken target.new) }
 {
-    write_lines(target, buffer, ProofFormat::Drat, step)
+    write_lines(target, buffer, Encoding::Text { marked: false }, step)
 }
 
 /// Writes the lines of the step in the binary format, each by one `put`. The buffer is room to put a line together.
@@ -197,7 +204,7 @@ pub fn write_binary_step<W: ProofTarget, A: Allocator + Copy>(
     step: &ProofStep<'_>,
 ) -> Result<(), WriteError>
     requires { (W.taken target.old).faults < 2 ^ 64 - 1 }
-    ensures { PutsLines BinaryDrat (W.taken target.old) result (lines_of step.now) (W.taken target.new) }
+    ensures { PutsLines Binary (W.taken target.old) result (plain_lines (step_lines step.now)) (W.taken target.new) }
 {
-    write_lines(target, buffer, ProofFormat::BinaryDrat, step)
+    write_lines(target, buffer, Encoding::Binary, step)
 }

@@ -17,6 +17,7 @@ pub enum Outcome {
     Derivation,
     CheckFailed(u64),
     NoSuchClause(u64),
+    CoreNotAssumed(u64),
     Parse(u64),
     Io,
     OutOfMemory,
@@ -38,6 +39,7 @@ pub fn refusal_of(error: &CheckerError) -> Outcome {
     match error {
         CheckerError::CheckFailed { step } => Outcome::CheckFailed(*step),
         CheckerError::NoSuchClause { step } => Outcome::NoSuchClause(*step),
+        CheckerError::CoreNotAssumed { step } => Outcome::CoreNotAssumed(*step),
         CheckerError::Parse { offset } => Outcome::Parse(*offset),
         CheckerError::Io { .. } => Outcome::Io,
         CheckerError::OutOfMemory => Outcome::OutOfMemory,

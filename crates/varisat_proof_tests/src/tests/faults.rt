@@ -92,6 +92,25 @@ fn keeps_text(checker: &mut Checker<Global>) -> bool {
         && checker.len() == 2
 }
 
+/// Whether a core that is not assumed leaves the clauses that the lines before left.
+fn keeps_marked_clauses(checker: &mut Checker<Global>) -> bool {
+    let _ = checker.add_clause(&lits![1, 2]);
+    let proof = b"i 3 0 q 1 0 d 2 1 0 f 2 0 i 4 0".as_slice();
+    let failed = match checker.check_marked(&mut ReadSource::new(proof)) {
+        Ok(_) => false,
+        Err(error) => refusal_of(&error) == Outcome::CoreNotAssumed(4),
+    };
+    failed && checker.len() == 1 && checker.clause(0) == lits![3].as_slice()
+}
+
+#[test]
+fn cores_that_are_not_assumed(rt: HostRuntime) {
+    let mut checker = Checker::new_in(rt.alloc());
+    let are_kept = keeps_marked_clauses(&mut checker);
+    drop(checker);
+    assert!(rt; are_kept);
+}
+
 #[test]
 fn texts_with_faults(rt: HostRuntime) {
     let mut checker = Checker::new_in(rt.alloc());
@@ -111,6 +130,10 @@ fn printed_errors(rt: HostRuntime) {
         (
             CheckerError::CheckFailed { step: 7 },
             "Step 7 does not follow",
+        ),
+        (
+            CheckerError::CoreNotAssumed { step: 7 },
+            "Step 7 names a literal that is not assumed",
         ),
         (
             CheckerError::NoSuchClause { step: 8 },

@@ -5,7 +5,7 @@ use std::alloc::Global;
 use varisat_formula::io::ReadSource;
 use varisat_proof::program::check_lines;
 use varisat_proof::proof::ProofFormat;
-use varisat_proof::proof::ProofFormat::{BinaryDrat, Drat};
+use varisat_proof::proof::ProofFormat::{BinaryDrat, Drat, Marked};
 
 /// What the command prints, what it tells of a fault, and its status.
 type Printed = (&'static str, &'static str, u8);
@@ -19,7 +19,10 @@ const NOT_VERIFIED: Printed = ("s NOT VERIFIED\n", "", 1);
 
 const SQUARE: &[u8] = b"p cnf 2 4\n1 2 0\n-1 2 0\n1 -2 0\n-1 -2 0\n";
 
-const ROWS: [Row; 8] = [
+/// A marked proof that is given three clauses and has a core.
+const RUN: &[u8] = b"i 1 2 0\ni -1 0\nq -2 0\n2 0\nd 1 2 0\nf -2 0\ni -2 0\n";
+
+const ROWS: [Row; 17] = [
     (SQUARE, Drat, b"2 0\n0\n", VERIFIED),
     (SQUARE, BinaryDrat, b"\x61\x04\x00", VERIFIED),
     (b"1 0 -1 0", Drat, b"", VERIFIED),
@@ -27,6 +30,16 @@ const ROWS: [Row; 8] = [
     (SQUARE, Drat, b"0\n", NOT_VERIFIED),
     (SQUARE, Drat, b"d 3 0\n", NOT_VERIFIED),
     (SQUARE, Drat, b"2 0\nx", NOT_VERIFIED),
+    // A marked proof starts from no clause, and may be given clauses of the text alone, each as often as it likes.
+    (b"1 2 0 -1 0 -2 0", Marked, RUN, VERIFIED),
+    (b"-2 0 2 1 1 0 -1 0 7 0", Marked, RUN, VERIFIED),
+    (b"1 0 -1 0", Marked, b"i 1 0 i 1 0 i -1 0 i 5 0", VERIFIED),
+    (b"1 2 0 -1 0", Marked, RUN, NOT_VERIFIED),
+    (b"1 0 -1 0", Marked, b"", NOT_VERIFIED),
+    (b"1 0 -1 0", Marked, b"i 1 0 x", NOT_VERIFIED),
+    (b"1 0", Marked, b"q 1 0 f 2 0", NOT_VERIFIED),
+    (b"1 0", Marked, b"i 1 0 f 0", NOT_VERIFIED),
+    (b"1 0", Drat, b"i 1 0", NOT_VERIFIED),
     (
         b"1 2 0\n2",
         Drat,

@@ -1,7 +1,7 @@
 use Rattle.std.proofs.Common.{◌≡◌, ◌∷◌, take}
 use Rattle.varisat_proof.specs.Written.{codes_bytes}
-use Rattle.varisat_proof.proofs.LineBytes.{tag}
+use Rattle.varisat_proof.specs.Lines.{letter}
 use Rattle.varisat_proof.proofs.proof.writer.push_binary.Given as goal
 
 abbrev pub invariant-loop-literal : goal.invariant-loop-literal
-invariant-loop-literal g l = l.buffer.items ≡ tag l.fn.kind ∷ codes_bytes (take l.literal-index l.clause)
+invariant-loop-literal g l = l.buffer.items ≡ letter l.fn.kind ∷ codes_bytes (take l.literal-index l.clause)

@@ -1,4 +1,5 @@
-use Rattle.varisat_proof.proofs.LineBytes.{mark_text, text_more}
+use Rattle.varisat_proof.specs.Written.{mark_text}
+use Rattle.varisat_proof.proofs.LineBytes.{text_more}
 use Rattle.varisat_proof.proofs.proof.writer.push_text.Goals as goal
 
 pub loop-literal-preserved : goal.loop-literal-preserved

@@ -7,10 +7,10 @@ use Rattle.varisat_proof.proofs.checker.check.Checker.check_step.Goals as goal
 
 pub returns-in-AtClause : goal.returns-in-AtClause
 returns-in-AtClause g c =
-    subst (λ (s : ProofStep). IsStep c.args.self.now s c.check_line.result c.check_line.new.self) (sym c.in-AtClause.is)
-    (step_is c.args.self.now c.check_line.new.self (AtClause c.in-AtClause.clause) c.check_line.result (sym (ap (λ h. h.spent) c.self.view_is) ∙ c.if-self.false) c.check_line.ensures)
+    subst (λ (s : ProofStep). IsStep c.args.self.now s c.check_added.result c.check_added.new.self) (sym c.in-AtClause.is)
+    (step_is c.args.self.now c.check_added.new.self (AtClause c.in-AtClause.clause) c.check_added.result (sym (ap (λ h. h.spent) c.self.view_is) ∙ c.if-self.false) c.check_added.ensures)
 
 pub returns-in-DeleteClause : goal.returns-in-DeleteClause
 returns-in-DeleteClause g c =
-    subst (λ (s : ProofStep). IsStep c.args.self.now s c.check_line-in-DeleteClause.result c.check_line-in-DeleteClause.new.self) (sym c.in-DeleteClause.is)
-    (step_is c.args.self.now c.check_line-in-DeleteClause.new.self (DeleteClause c.in-DeleteClause.clause) c.check_line-in-DeleteClause.result (sym (ap (λ h. h.spent) c.self.view_is) ∙ c.if-self.false) c.check_line-in-DeleteClause.ensures)
+    subst (λ (s : ProofStep). IsStep c.args.self.now s c.check_deleted.result c.check_deleted.new.self) (sym c.in-DeleteClause.is)
+    (step_is c.args.self.now c.check_deleted.new.self (DeleteClause c.in-DeleteClause.clause) c.check_deleted.result (sym (ap (λ h. h.spent) c.self.view_is) ∙ c.if-self.false) c.check_deleted.ensures)

@@ -1,8 +1,8 @@
 use Rattle.std.proofs.Common.{◌≡◌, List, [], ◌∷◌, ◌++◌, sym, ap, subst, ◌∙◌}
 use Rattle.varisat_theory.specs.Literals.{Clause}
-use Rattle.varisat_theory.specs.declared.checker.LineStatus.TheVariants.{Taken}
-use Rattle.varisat_proof.specs.declared.checker.error.CheckerError.TheVariants.{CheckFailed, NoSuchClause}
-use Rattle.varisat_proof.specs.Written.{line_of_kind}
+use Rattle.varisat_proof.specs.declared.checker.line.LineStatus.TheVariants.{Taken}
+use Rattle.varisat_proof.specs.declared.checker.error.CheckerError.TheVariants.{CheckFailed, NoSuchClause, CoreNotAssumed}
+use Rattle.varisat_proof.specs.Lines.{line_of_kind}
 use Rattle.varisat_proof.specs.Checks.{StandsBy}
 use Rattle.varisat_proof.proofs.CheckedLines.{error_of, on_wrong, on_taken}
 use Rattle.varisat_proof.proofs.checker.check.Checker.next_line.Goals as goal
@@ -10,14 +10,19 @@ use Rattle.varisat_proof.proofs.checker.check.Checker.next_line.Goals as goal
 pub returns-in-Unproved-clause-takes : goal.returns-in-Unproved-clause-takes
 returns-in-Unproved-clause-takes g c =
     let n : c.in-Ok.status ≡ Taken → ⊥ = λ e. let h = sym c.in-Unproved.is ∙ e in absurd cc in
-    λ P lines s. on_wrong c.args.count.now.refuted P lines c.args.self.now.clauses c.take_line.new.self.clauses c.args.count.now.steps c.saturating_add-step.result c.args.kind c.args.clause.now c.if-count.false s c.saturating_add-step.ensures c.in-Ok.status (CheckFailed c.saturating_add-step.result) (ap (λ t. error_of t c.saturating_add-step.result) (sym c.in-Unproved.is)) n (c.in-Ok.ensures.stays n) c.in-Ok.ensures.status
+    λ s lines h. on_wrong c.args.count.now.refuted s lines (record { present = c.args.self.now.clauses; told = c.args.journal.now }) (record { present = c.take_line.new.self.clauses; told = c.take_line.new.journal }) c.args.count.now.steps c.saturating_add-step.result (line_of_kind c.args.kind c.args.clause.now) c.if-count.false h c.saturating_add-step.ensures c.in-Ok.status (CheckFailed c.saturating_add-step.result) (ap (λ t. error_of t c.saturating_add-step.result) (sym c.in-Unproved.is)) n c.in-Ok.ensures.status
 
 pub returns-in-Absent-clause-takes : goal.returns-in-Absent-clause-takes
 returns-in-Absent-clause-takes g c =
     let n : c.in-Ok.status ≡ Taken → ⊥ = λ e. let h = sym c.in-Absent.is ∙ e in absurd cc in
-    λ P lines s. on_wrong c.args.count.now.refuted P lines c.args.self.now.clauses c.take_line.new.self.clauses c.args.count.now.steps c.saturating_add-step.result c.args.kind c.args.clause.now c.if-count.false s c.saturating_add-step.ensures c.in-Ok.status (NoSuchClause c.saturating_add-step.result) (ap (λ t. error_of t c.saturating_add-step.result) (sym c.in-Absent.is)) n (c.in-Ok.ensures.stays n) c.in-Ok.ensures.status
+    λ s lines h. on_wrong c.args.count.now.refuted s lines (record { present = c.args.self.now.clauses; told = c.args.journal.now }) (record { present = c.take_line.new.self.clauses; told = c.take_line.new.journal }) c.args.count.now.steps c.saturating_add-step.result (line_of_kind c.args.kind c.args.clause.now) c.if-count.false h c.saturating_add-step.ensures c.in-Ok.status (NoSuchClause c.saturating_add-step.result) (ap (λ t. error_of t c.saturating_add-step.result) (sym c.in-Absent.is)) n c.in-Ok.ensures.status
+
+pub returns-in-Unassumed-clause-takes : goal.returns-in-Unassumed-clause-takes
+returns-in-Unassumed-clause-takes g c =
+    let n : c.in-Ok.status ≡ Taken → ⊥ = λ e. let h = sym c.in-Unassumed.is ∙ e in absurd cc in
+    λ s lines h. on_wrong c.args.count.now.refuted s lines (record { present = c.args.self.now.clauses; told = c.args.journal.now }) (record { present = c.take_line.new.self.clauses; told = c.take_line.new.journal }) c.args.count.now.steps c.saturating_add-step.result (line_of_kind c.args.kind c.args.clause.now) c.if-count.false h c.saturating_add-step.ensures c.in-Ok.status (CoreNotAssumed c.saturating_add-step.result) (ap (λ t. error_of t c.saturating_add-step.result) (sym c.in-Unassumed.is)) n c.in-Ok.ensures.status
 
 pub returns-clause-takes : goal.returns-clause-takes
 returns-clause-takes g c =
-    λ P lines s. subst (λ (Q : List Clause). StandsBy c.in-Ok-is_refuted.refuted P (lines ++ line_of_kind c.args.kind c.args.clause.now ∷ []) Q c.saturating_add-step.result) (sym (ap (λ h. h.clauses) c.is_refuted.ensures.stays))
-    (on_taken c.args.count.now.refuted P lines c.args.self.now.clauses c.take_line.new.self.clauses c.args.count.now.steps c.saturating_add-step.result c.args.kind c.args.clause.now c.if-count.false s c.saturating_add-step.ensures c.in-Ok.status c.in-Ok-is_refuted.refuted c.in-Taken.is c.in-Ok.ensures.status c.in-Ok-is_refuted.ensures.found)
+    λ s lines h. subst (λ (Q : List Clause). StandsBy c.in-Ok-is_refuted.refuted s (lines ++ line_of_kind c.args.kind c.args.clause.now ∷ []) (record { present = Q; told = c.take_line.new.journal }) c.saturating_add-step.result) (sym (ap (λ h. h.clauses) c.is_refuted.ensures.stays))
+    (on_taken c.args.count.now.refuted s lines (record { present = c.args.self.now.clauses; told = c.args.journal.now }) (record { present = c.take_line.new.self.clauses; told = c.take_line.new.journal }) c.args.count.now.steps c.saturating_add-step.result (line_of_kind c.args.kind c.args.clause.now) c.if-count.false h c.saturating_add-step.ensures c.in-Ok.status c.in-Ok-is_refuted.refuted c.in-Taken.is c.in-Ok.ensures.status c.in-Ok-is_refuted.ensures.found)

@@ -4,7 +4,7 @@ use Rattle.varisat_proof.proofs.checker.check.Checker.run.Given as goal
 
 abbrev pub invariant-pieces : goal.invariant-pieces
 invariant-pieces g l = record {
-  so : Underway l.fn.format (record { checker = l.fn.self; source = g.S.ByteSource.stand l.fn.source }) (record { checker = l.self; source = g.S.ByteSource.stand l.source }) l.count l.reader;
+  so : Underway l.fn.encoding (record { present = l.fn.self.clauses; told = l.fn.journal }) (record { present = l.self.clauses; told = l.journal }) (g.S.ByteSource.stand l.fn.source) (g.S.ByteSource.stand l.source) l.count l.reader;
   spent : l.self.spent ≡ l.fn.self.spent;
 }
 

@@ -1,7 +1,7 @@
-use Rattle.std.proofs.Common.{ap}
-use Rattle.varisat_proof.proofs.CheckedLines.{absent_status}
+use Rattle.varisat_proof.proofs.CheckedLines.{state_is, absent_status}
+use Rattle.std.proofs.Common.{refl}
 use Rattle.varisat_proof.proofs.checker.check.Checker.take_line.Goals as goal
 
-pub returns-then-not-take_out-clause-status : goal.returns-then-not-take_out-clause-status
-returns-then-not-take_out-clause-status g c =
-    absent_status _ c.args.self.now.clauses _ c.args.kind c.args.clause.now (ap (λ h. h.clauses) c.self-in-Deletes.view_is) c.in-Deletes.is (c.take_out.ensures.absent c.if-not-take_out.true)
+pub returns-then-not-delete_line-clause-status : goal.returns-then-not-delete_line-clause-status
+returns-then-not-delete_line-clause-status g c =
+    absent_status (record { present = c.args.self.now.clauses; told = c.args.journal.now }) (record { present = c.delete_line.new.self.clauses; told = c.args.journal.now }) c.args.kind c.args.clause.now c.in-Deletes.is (c.delete_line.ensures.absent c.if-not-delete_line.true) (state_is _ _ _ _ (c.delete_line.ensures.stays c.if-not-delete_line.true) refl)

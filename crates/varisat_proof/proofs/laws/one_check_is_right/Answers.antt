@@ -1,0 +1,6 @@
+use Rattle.varisat_proof.specs.Lines.{encoding_of}
+use Rattle.varisat_proof.proofs.MarkedOnce.{check_once}
+use Rattle.varisat_proof.proofs.laws.one_check_is_right.Goals as goal
+
+pub returns : goal.returns
+returns c = check_once (encoding_of c.args._format)

@@ -1,0 +1,95 @@
+-- Lines of all kinds: what each makes of the clauses that are present and of what was told, and where a check of them stops.
+use Rattle.std.specs.Prelude.{◌≡◌, ℕ, suc, List, [], ◌∷◌, ◌++◌, length, Option, Some, None, Result, Ok, Err, ◌⊎◌}
+use Rattle.varisat_theory.specs.Membership.{◌⊆◌}
+use Rattle.varisat_theory.specs.Literals.{Literal, Clause}
+use Rattle.varisat_theory.specs.Propagation.{Conflicts, Follows}
+use Rattle.varisat_theory.specs.Derivations.{TakesOut}
+use Rattle.varisat_theory.specs.Checking.{IsAbsent}
+use Rattle.varisat_formula.specs.Formulas.{Formula, no_clauses, with_one_more}
+use Rattle.varisat_proof.specs.declared.proof.format.Encoding.{Encoding}
+use Rattle.varisat_proof.specs.declared.proof.format.LineKind.{LineKind}
+use Rattle.varisat_proof.specs.declared.proof.format.LineKind.TheVariants.{Adds, Deletes, Accepts, Assumes, Fails}
+use Rattle.varisat_proof.specs.declared.checker.line.LineStatus.{LineStatus}
+use Rattle.varisat_proof.specs.declared.checker.line.LineStatus.TheVariants.{Unproved, Absent, Unassumed}
+use Rattle.varisat_proof.specs.declared.checker.error.CheckVerdict.{CheckVerdict}
+use Rattle.varisat_proof.specs.declared.checker.error.CheckVerdict.TheVariants.{Refutation, Derivation}
+use Rattle.varisat_proof.specs.declared.checker.error.CheckerError.{CheckerError}
+use Rattle.varisat_proof.specs.declared.checker.error.CheckerError.TheVariants.{CheckFailed, NoSuchClause, CoreNotAssumed, Parse}
+use Rattle.varisat_proof.specs.Lines.{ProofLine, step_number}
+use Rattle.varisat_proof.specs.Means.{BytesMean}
+
+-- 1. One line.
+-- What lines told: the list that is assumed, the clauses that were given, and the cores, each with the number of clauses given before.
+pub record Told : Type 0 where
+  pub assumed : List Literal
+  pub inputs : Formula
+  pub cores : List (ℕ × List Literal)
+
+abbrev pub nothing_told : Told
+nothing_told = record { assumed = []; inputs = no_clauses; cores = [] }
+
+-- the clauses that are present, and what was told
+pub record ProofState : Type 0 where
+  pub present : List Clause
+  pub told : Told
+
+-- A line is taken, after which t is there: an added clause follows, a deletion takes a clause out, a given clause joins as it is, a list replaces the one before, a core is assumed and conflicts.
+abbrev pub TakesKind : ProofState → LineKind → Clause → ProofState → Type 0
+TakesKind s Adds c t = Follows s.present c × (t ≡ record { present = s.present ++ c ∷ []; told = s.told })
+TakesKind s Deletes c t = (R : List Clause) × TakesOut s.present c R × (t ≡ record { present = R; told = s.told })
+TakesKind s Accepts c t = t ≡ record { present = s.present ++ c ∷ []; told = record { assumed = s.told.assumed; inputs = with_one_more s.told.inputs c; cores = s.told.cores } }
+TakesKind s Assumes ls t = t ≡ record { present = s.present; told = record { assumed = ls; inputs = s.told.inputs; cores = s.told.cores } }
+TakesKind s Fails ls t =
+    (ls ⊆ s.told.assumed) × Conflicts s.present ls × (t ≡ record { present = s.present; told = record { assumed = s.told.assumed; inputs = s.told.inputs; cores = s.told.cores ++ (length s.told.inputs.clauses, ls) ∷ [] } })
+
+abbrev pub Takes : ProofState → ProofLine → ProofState → Type 0
+Takes s line t = TakesKind s line.kind line.clause t
+
+-- a line is wrong: what it adds does not follow, it deletes what is absent, its core is not assumed, or is assumed and does not conflict
+abbrev pub IsWrongKind : ProofState → LineKind → Clause → LineStatus → Type 0
+IsWrongKind s Adds c Unproved = Follows s.present c → ⊥
+IsWrongKind s Deletes c Absent = IsAbsent s.present c
+IsWrongKind s Fails ls Unassumed = ls ⊆ s.told.assumed → ⊥
+IsWrongKind s Fails ls Unproved = (ls ⊆ s.told.assumed) × (Conflicts s.present ls → ⊥)
+IsWrongKind s kind c status = ⊥
+
+abbrev pub IsWrongBy : ProofState → ProofLine → LineStatus → Type 0
+IsWrongBy s line status = IsWrongKind s line.kind line.clause status
+
+-- 2. Lines.
+-- The lines are taken one after the other, and before none of them propagation conflicts.
+abbrev pub Goes : ProofState → List ProofLine → ProofState → Type 0
+Goes s [] t = s ≡ t
+Goes s (line ∷ lines) t = (Conflicts s.present [] → ⊥) × (r : ProofState) × Takes s line r × Goes r lines t
+
+-- behind so many lines the next one is looked at, is wrong, and has this number
+abbrev pub StopsBefore : LineStatus → ℕ → ProofState → List ProofLine → ℕ → Type 0
+StopsBefore status before t [] step = ⊥
+StopsBefore status before t (line ∷ lines) step = (Conflicts t.present [] → ⊥) × IsWrongBy t line status × (step ≡ step_number (suc before))
+
+-- Where a check stops that was handed lines up to a fault of the bytes, has taken so many of them, and has these before it: as soon as propagation conflicts it only reads on.
+abbrev pub Stops : Option ℕ → ℕ → ProofState → List ProofLine → Result CheckVerdict CheckerError → Type 0
+Stops fault before t back (Ok Refutation) = (fault ≡ None) × Conflicts t.present []
+Stops fault before t back (Ok Derivation) = (fault ≡ None) × (back ≡ []) × (Conflicts t.present [] → ⊥)
+Stops fault before t back (Err (CheckFailed step)) = StopsBefore Unproved before t back step
+Stops fault before t back (Err (NoSuchClause step)) = StopsBefore Absent before t back step
+Stops fault before t back (Err (CoreNotAssumed step)) = StopsBefore Unassumed before t back step
+Stops fault before t back (Err (Parse offset)) = (fault ≡ Some offset) × (Conflicts t.present [] ⊎ ((back ≡ []) × (Conflicts t.present [] → ⊥)))
+Stops fault before t back (Err error) = ⊥
+
+-- 3. Bytes.
+-- The lines in front of the bytes' first fault, that fault, and how many of the lines are taken from s on to t; and what the check returns there.
+pub record IsCheckOf (encoding : Encoding) (s : ProofState) (bytes : List ℕ) (result : Result CheckVerdict CheckerError) (t : ProofState) : Type 0 where
+  pub lines : List ProofLine
+  pub fault : Option ℕ
+  pub means : BytesMean encoding bytes lines fault
+  pub front : List ProofLine
+  pub back : List ProofLine
+  pub splits : lines ≡ front ++ back
+  pub goes : Goes s front t
+  pub stops : Stops fault (length front) t back result
+
+-- all bytes have one result from a state on, and what was told then is one thing too
+abbrev pub CheckOnce : Encoding → Type 0
+CheckOnce encoding =
+    (s : ProofState) (bytes : List ℕ) (r q : Result CheckVerdict CheckerError) (t u : ProofState) → IsCheckOf encoding s bytes r t → IsCheckOf encoding s bytes q u → (r ≡ q) × (t.told ≡ u.told)

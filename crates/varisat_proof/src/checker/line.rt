@@ -1,0 +1,14 @@
+//! What becomes of a line.
+
+/// What becomes of a line.
+#[derive(Clone, Copy)]
+pub enum LineStatus {
+    /// The present clauses, and what was told, are those after it.
+    Taken,
+    /// It adds a clause that does not follow, or propagation from its core does not conflict.
+    Unproved,
+    /// It deletes a clause that is not present.
+    Absent,
+    /// A literal of its core is not assumed.
+    Unassumed,
+}

@@ -1,0 +1,127 @@
+//! What marked lines tell beside the clauses that are present.
+ghost use Rattle.std.specs.Prelude.{◌≡◌, List, ◌∷◌, [], ◌++◌, length, ◌↔◌, IsTrue, OnOk, IfOk};
+ghost use Rattle.varisat_theory.specs.Membership.{◌∈◌, ◌⊆◌};
+ghost use Rattle.varisat_formula.specs.Formulas.{with_one_more};
+ghost use Rattle.varisat_proof.specs.Calls.{core_lists};
+ghost use Rattle.varisat_proof.specs.Marked.{nothing_told};
+
+use crate::checker::error::CheckVerdict;
+use std::alloc::{AllocError, Allocator};
+use std::marker::Model;
+use varisat_formula::formula::CnfFormula;
+use varisat_literals::Lit;
+
+/// What a marked proof is, and what its lines gave.
+#[derive(Drop)]
+pub struct MarkedReport<A: Allocator + Copy> {
+    /// Whether the proof refutes.
+    pub verdict: CheckVerdict,
+    /// The clauses that were given.
+    pub inputs: CnfFormula<A>,
+    /// The cores, each with the number of clauses that were given before it.
+    pub cores: Vec<(usize, Vec<Lit, A>), A>,
+}
+
+/// What the lines of a proof told so far.
+#[derive(Drop)]
+pub struct Journal<A: Allocator + Copy> {
+    alloc: A,
+    assumed: Vec<Lit, A>,
+    inputs: CnfFormula<A>,
+    cores: Vec<(usize, Vec<Lit, A>), A>,
+}
+
+impl<A: Allocator + Copy> Model for Journal<A> {
+    ghost use Rattle.varisat_proof.specs.Marked.{Told};
+    ghost use Rattle.varisat_proof.specs.Calls.{core_lists};
+
+    ghost Value = { Told };
+
+    ghost view = { λ j. record { assumed = j.assumed.items; inputs = j.inputs; cores = core_lists j.cores.items } };
+}
+
+/// Whether the list has the literal.
+fn has_literal(list: &[Lit], literal: Lit) -> bool
+    ensures { IsTrue result ↔ (literal ∈ list.now) }
+{
+    for l in list {
+        if l.code() == literal.code() {
+            return true;
+        }
+    }
+    false
+}
+
+/// Whether the list has each of the literals.
+fn has_literals(list: &[Lit], literals: &[Lit]) -> bool
+    ensures { IsTrue result ↔ (literals.now ⊆ list.now) }
+{
+    for l in literals {
+        if !has_literal(list, *l) {
+            return false;
+        }
+    }
+    true
+}
+
+impl<A: Allocator + Copy> Journal<A> {
+    /// Nothing was told. It takes no memory.
+    pub fn new_in(alloc: A) -> Journal<A>
+        ensures { result ≡ nothing_told }
+    {
+        Journal {
+            alloc,
+            assumed: Vec::new(alloc),
+            inputs: CnfFormula::new_in(alloc),
+            cores: Vec::new(alloc),
+        }
+    }
+
+    /// Whether all of the literals are assumed.
+    pub fn assumes(&self, literals: &[Lit]) -> bool
+        ensures { IsTrue result ↔ (literals.now ⊆ self.now.assumed) }
+    {
+        has_literals(&self.assumed, literals)
+    }
+
+    /// A clause is given.
+    pub fn push_input(&mut self, clause: &[Lit]) -> Result<(), AllocError>
+        ensures { OnOk result (self.new ≡ record self.old { inputs = with_one_more self.old.inputs clause.now }) }
+    {
+        match self.inputs.add_clause(clause) {
+            Ok(()) => Ok(()),
+            Err(_) => Err(AllocError),
+        }
+    }
+
+    /// The literals are the list of assumptions from here on.
+    pub fn assume(&mut self, literals: &[Lit]) -> Result<(), AllocError>
+        ensures { OnOk result (self.new ≡ record self.old { assumed = literals.now }) }
+    {
+        self.assumed.clear();
+        self.assumed.extend_from_slice(literals)?;
+        Ok(())
+    }
+
+    /// A core is reported.
+    pub fn push_core(&mut self, literals: &[Lit]) -> Result<(), AllocError>
+        ensures { OnOk result (self.new ≡ record self.old { cores = self.old.cores ++ (length self.old.inputs.clauses, literals.now) ∷ [] }) }
+    {
+        let copy = Vec::from_slice(self.alloc, literals)?;
+        self.cores.push((self.inputs.len(), copy))?;
+        Ok(())
+    }
+
+    /// The report of what was told.
+    pub fn report(self, verdict: CheckVerdict) -> MarkedReport<A>
+        ensures verdict { result.verdict ≡ verdict }
+        ensures inputs { result.inputs ≡ self.inputs }
+        ensures cores { core_lists result.cores.items ≡ self.cores }
+    {
+        MarkedReport {
+            verdict,
+            inputs: self.inputs,
+            cores: self.cores,
+        }
+    }
+}

@@ -29,6 +29,8 @@ use Rattle.varisat.specs.Names.{Naming, bring, bring_next, bring_if_free, name_o
 use Rattle.varisat.specs.Calls.{with_naming, VerdictAfter, Refuted, Reopened, append_clause, reopened_verdict, with_verdict}
 use Rattle.varisat.specs.Carried.{carry, value_or}
 use Rattle.varisat.specs.Spaces.{Spaces, Carrying, IsWide, translation, SearchHolds, CoreFits, without_core, VerdictFits, Links, SpacesFit}
+use Rattle.varisat_theory.specs.Journals.{Entry}
+use Rattle.varisat.specs.Journals.{retold, TellsMore}
 use Rattle.varisat.specs.Summaries.{Summary, spaces, spaces_of, StandsFor}
 use Rattle.varisat.specs.Accepting.{HasSolver, AreJoined}
 use Rattle.varisat.proofs.SpacesMoves.{give, take_solver, count, solver_literal, accept}
@@ -144,13 +146,14 @@ raised g s t (w, k) none seen few =
       w,
       relinked w p q s s k (record {
         solvers = k.solvers;
-        holds = subst (λ y. SearchHolds s.clauses (translation w p s.ever_hidden) (search_of t) (without_core y)) (sym o) (subst (λ y. SearchHolds s.clauses (translation w p s.ever_hidden) y (without_core p.outcome)) (sym seen) k.holds);
+        holds = subst (λ y. SearchHolds s.clauses (translation w p s.told) (search_of t) (without_core y)) (sym o) (subst (λ y. SearchHolds s.clauses (translation w p s.told) y (without_core p.outcome)) (sym seen) k.holds);
         assumptions = k.assumptions;
         working = k.working;
         verdict = subst (λ y. VerdictFits w.identity q.model y s.verdict) (sym o) (model-same w.identity p.model q.model p.outcome s.verdict (λ a e. absurd (none a e)) k.verdict);
         core = k.core;
         right = k.right;
         few = few;
+        told = k.told;
       }),
     )
 
@@ -159,7 +162,7 @@ raised g s t (w, k) none seen few =
 -- the flags do not matter
 pub ledger-free : (w : Carrying) (p : Spaces) (s : State) (l : Ledger) → Links w p s → Links w p (record s { ledger = l })
 ledger-free w p s l k =
-    relinked w p p s (record s { ledger = l }) k (record { solvers = k.solvers; holds = k.holds; assumptions = k.assumptions; working = k.working; verdict = k.verdict; core = k.core; right = k.right; few = k.few })
+    relinked w p p s (record s { ledger = l }) k (record { solvers = k.solvers; holds = k.holds; assumptions = k.assumptions; working = k.working; verdict = k.verdict; core = k.core; right = k.right; few = k.few; told = k.told })
 
 -- the names of a clause that are in use are counted with it
 pub counted-spaces : (g : Summary) (s : State) (d : Clause) → SpacesFit (spaces g) s → ((l : Literal) → l ∈ d → (x : ℕ) × (at g.tables.users.forward (variable_of l) ≡ Some x)) → SpacesFit (spaces g) (count (join_counted s.counted (map variable_of (map (through_names s.naming) d))) s)
@@ -270,7 +273,7 @@ pub record Steps (g : Summary) (d : Clause) (joined : Tables) (new : View) (part
 
 -- the identities of the clause are counted before it is loaded
 pub clause-accepted : (g : Summary) (n : State) (d : Clause) (joined : Tables) (new : View) (parts : AssumptionParts) (after : SatState) → Steps g d joined new parts after → SpacesFit (spaces g) (count (join_counted n.counted (map variable_of (map (through_names n.naming) d))) n) →
-    (x : Verdict) × VerdictAfter n.clauses (map (through_names n.naming) d) n.verdict x × SpacesFit (spaces_of joined new parts after) (append_clause (map (through_names n.naming) d) x n)
+    (x : Verdict) × (told : List Entry) × VerdictAfter n.clauses (map (through_names n.naming) d) n.verdict x × TellsMore 0 n.told told × SpacesFit (spaces_of joined new parts after) (retold told (append_clause (map (through_names n.naming) d) x n))
 clause-accepted g n d joined new parts after t (w1, k1) =
     let c = map (through_names n.naming) d in
     let p1 = spaces g in
@@ -283,15 +286,17 @@ clause-accepted g n d joined new parts after t (w1, k1) =
     let j = t.are_joined in
     let same-literals : map (carry (chain (at joined.users.forward) (at joined.solvers.forward))) d ≡ map (solver_literal p) d = ap₂ (λ (a b : BiMap). map (carry (chain (at a.forward) (at b.forward))) d) j.users j.solvers in
     let q = spaces_of joined new parts after in
-    let (x, v, k6) = loaded w1 p s3 d k5 t.all (kept_at joined.kept)
+    let (x, told, v, more, k6) = loaded w1 p s3 d k5 t.all (kept_at joined.kept)
     (record { rest = j.rest; fallen = j.fallen; wide = λ wide l x h e. j.joined (several d wide) l x h e })
     (search_of new) (loaded_outcome after) q.model t.lines refl (view-long g.search t.well_before) (view-long new t.well_new) t.in_use
     (subst (λ e. Loads (search_of g.search) (search_of new) e (loaded_outcome after) t.lines) same-literals t.loads) in
     let p6 = record p { kept = kept_at joined.kept; search = search_of new; model = q.model } in
-    let (y, u, k7) = settled w1 p6 s3 c new g.search parts.failed_core g.assumed.failed_core w1.identity p1.model g.sat_state after n.verdict x k6 v k1.verdict t.verdict k1.core k1.right in (
+    let (y, u, k7) = settled w1 p6 (retold told s3) c new g.search parts.failed_core g.assumed.failed_core w1.identity p1.model g.sat_state after n.verdict x k6 v k1.verdict t.verdict k1.core k1.right in (
       y,
+      told,
       u,
-      spaces-same (record p6 { outcome = outcome_of new parts.failed_core after }) q (append_clause c y n) (record {
+      more,
+      spaces-same (record p6 { outcome = outcome_of new parts.failed_core after }) q (retold told (append_clause c y n)) (record {
         maps = record {
           global_from_user = λ u. ap (λ m. at m.forward u) j.users;
           user_from_global = λ y. ap (λ m. at m.backward y) j.users;

@@ -1,9 +1,13 @@
 -- A clause is accepted, or a list assumed.
-use Rattle.std.proofs.Common.{◌≡◌, ◌≢◌, ℕ, ◌<◌, Bool, true, false, Some, List, [], ◌∷◌, ◌++◌, ◌⊎◌, inl, inr, ⊎_elim, sym, ap, ◌∙◌, subst, refl, map}
+use Rattle.std.proofs.Common.{◌≡◌, ◌≢◌, ℕ, ◌<◌, Bool, true, false, Some, List, [], ◌∷◌, ◌++◌, ◌⊎◌, inl, inr, ⊎_elim, sym, ap, ◌∙◌, subst, refl, map, append_assoc}
 use Rattle.varisat_theory.specs.Membership.{◌∈◌}
 use Rattle.varisat_theory.specs.Literals.{Literal, Clause, variable_of, opposite, IsUnit, Satisfies, MakesTrue}
 use Rattle.varisat_theory.specs.Derivations.{Line}
-use Rattle.varisat_theory.specs.Searches.{Search, Covers, CoversBy, IsCoveredBySearch, Tautology, KnownTrue, FixedTrue, Kept}
+use Rattle.varisat_theory.specs.Renaming.{rename_line}
+use Rattle.varisat_theory.specs.Journals.{Entry, Accepts, Assumes, GoesOn}
+use Rattle.varisat_theory.proofs.Journals.{goes_on_further}
+use Rattle.varisat.specs.Journals.{retold, TellsMore}
+use Rattle.varisat_theory.specs.Searches.{Search, Covers, CoversBy, IsLiteralOf, IsCoveredBySearch, Tautology, KnownTrue, FixedTrue, Kept}
 use Rattle.varisat_theory.specs.Outcomes.{Outcome, Loads}
 use Rattle.varisat_theory.specs.Outcomes as outcome
 use Rattle.varisat_theory.proofs.Members.{∈-or_not, ∈-append_cases, ∈-append_left, ∈-append_right}
@@ -20,14 +24,15 @@ use Rattle.varisat.specs.States.{State, Verdict, Unknown, Unsat, IsRight}
 use Rattle.varisat.specs.Names.{through_names}
 use Rattle.varisat.specs.Calls.{ContradictsUnit, VerdictAfter, Refuted, Reopened}
 use Rattle.varisat.specs.Carried.{carry, is_forced}
-use Rattle.varisat.specs.Spaces.{Spaces, Carrying, IsWide, IsApart, IsolationCase, NotIsolated, Apart, Forced, IsolationFits, Translation, translation, SearchHolds, CoreFits, without_core, VerdictFits, Links}
+use Rattle.varisat.specs.Spaces.{Spaces, Carrying, IsWide, IsApart, IsolationCase, NotIsolated, Apart, Forced, IsolationFits, Translation, translation, SharesHeld, IsTold, SearchHolds, CoreFits, without_core, VerdictFits, Links}
 use Rattle.varisat.proofs.SpacesMoves.{AreTaken, solver_literal, IsTouched, IsMarkedFor, accept, AreLong, AreInUse}
 use Rattle.varisat_names.proofs.Maps.{chain-some, chain-through}
 use Rattle.varisat.proofs.SearchLinks.{relinked-marks}
-use Rattle.varisat.proofs.SpacesAgree.{isolation-same, marks-same}
+use Rattle.varisat.proofs.SpacesAgree.{holds-same, isolation-same, marks-same}
 use Rattle.varisat.proofs.Carried.{carry-at, carry-sign, carry-opposite, satisfied-carried, forced-value, wide-back}
 use Rattle.varisat.proofs.AcceptSolverVariables.{one-solver}
-use Rattle.varisat.proofs.ReachedHeld.{proved-on, reached-joined}
+use Rattle.varisat.proofs.ReachedHeld.{told_lines, with_told, lines-lead, shares-after, shares-joined, told-quiet}
+use Rattle.varisat.proofs.ToldEntries.{accepts-goes, told-written, told-accepted, told-assumed}
 use Rattle.varisat.proofs.SearchHeld.{answers-covers, fixed-on, refuted}
 
 pub map-map : (f g h : Literal → Literal) (c : Clause) → ((l : Literal) → l ∈ c → f (g l) ≡ h l) → map f (map g c) ≡ map h c
@@ -40,7 +45,7 @@ map-empty f (l ∷ c) e = absurd cc
 
 module _ (w : Carrying) (p : Spaces) (s : State) (d : Clause) (k : Links w p s) (taken : AreTaken p d) where
   r : Translation
-  r = translation w p s.ever_hidden
+  r = translation w p s.told
 
   c : Clause
   c = map (through_names s.naming) d
@@ -99,7 +104,7 @@ module _ (w : Carrying) (p : Spaces) (s : State) (d : Clause) (k : Links w p s) 
   one-literal : (m n : Literal) (i : ℕ) → r.identity (variable_of m) ≡ Some i → (j : ℕ) → r.identity (variable_of n) ≡ Some j → carry r.identity n ≡ carry r.identity m → n ≡ m
   unfolding r
   one-literal m n i a j b q =
-      let to = (translation w p s.ever_hidden).identity in
+      let to = (translation w p s.told).identity in
       let z : j ≡ i = sym (carry-at to n j b) ∙ ap variable_of q ∙ carry-at to m i a in
       same-literal n m (one-solver w p s k (variable_of m) (variable_of n) i a (b ∙ ap Some z)) (sym (carry-sign to n) ∙ ap polarity_of q ∙ carry-sign to m)
 
@@ -156,21 +161,38 @@ module _ (w : Carrying) (p : Spaces) (s : State) (d : Clause) (k : Links w p s) 
         names_are_loaded p.search t e c lines (carry r.identity) (is_forced r.forced) s.clauses (carry-opposite r.identity) (subst (λ y. Loads p.search t e y lines) u loads)
         (λ l i. subst (λ y. carry r.identity l ∈ y) same-clause (∈-map (carry r.identity) l e i)) (h.covered (λ q. let z : outcome.Unknown ≡ outcome.Unsat = q in cc))
 
-    holds-more : SearchHolds (s.clauses ++ c ∷ []) r t v
-    unfolding r c
+    within-more : (l : Literal) → IsLiteralOf t l → (i : ℕ) × (r.identity (variable_of l) ≡ Some i)
+    unfolding r
+    within-more l a = let (x, b) = in-use l a in let q = k.solvers.live (variable_of l) x b in (q.0, chain-some p.global_from_solver w.identity (variable_of l) x b ∙ q.1)
+
+    plain : (core : List Literal) → v ≡ outcome.UnsatUnder core → ⊥
+    plain core q = ⊎_elim
+        (λ z. let y : outcome.Unsat ≡ outcome.UnsatUnder core = sym z.1 ∙ q in cc)
+        (λ z. let y : outcome.Unknown ≡ outcome.UnsatUnder core = sym z.1 ∙ q in cc)
+        loads.verdict
+
+    -- the clause joins, and then come the lines
+    joins : SharesHeld (with_told (r.told ++ Accepts c ∷ []) r) (h.held ++ e ∷ [])
+    joins = shares-joined r h.held c e same-clause of-clause h.told
+
+    goes-more : GoesOn 0 r.told ((Accepts c ∷ []) ++ told_lines r lines)
+    goes-more = let (last, g, o) = loads.holds h.held h.holds in goes_on_further 0 0 r.told (Accepts c ∷ []) (told_lines r lines) (accepts-goes r.told c) (lines-lead 0 (with_told (r.told ++ Accepts c ∷ []) r) (h.held ++ e ∷ []) lines last joins g).goes
+
+    holds-more : SearchHolds (s.clauses ++ c ∷ []) (with_told ((r.told ++ Accepts c ∷ []) ++ told_lines r lines) r) t v
     holds-more =
         let (last, g, o) = loads.holds h.held h.holds in
         let all = by_derives 0 (h.held ++ e ∷ []) lines last g in
+        let z = shares-after (with_told (r.told ++ Accepts c ∷ []) r) (h.held ++ e ∷ []) 0 lines last joins g t within-more v plain o in
         record {
-          held = last;
-          holds = o;
-          within = λ l a. let (x, b) = in-use l a in let q = k.solvers.live (variable_of l) x b in (q.0, chain-some p.global_from_solver w.identity (variable_of l) x b ∙ q.1);
-          implied = λ a b m g. derives_sound (h.held ++ e ∷ []) lines last b all (satisfies_more b h.held e (h.implied a b (satisfies_fewer a s.clauses (c ∷ []) m) g)
-              (satisfied-carried r.identity a b e of-clause g (subst (λ y. Satisfies a y) (sym same-clause) (m c (∈-append_right c s.clauses (c ∷ []) (inl refl))))));
+          held = z.share;
+          holds = z.holds;
+          within = within-more;
+          implied = λ a b m g y i. derives_sound (h.held ++ e ∷ []) lines last b all (satisfies_more b h.held e (h.implied a b (satisfies_fewer a s.clauses (c ∷ []) m) g)
+              (satisfied-carried r.identity a b e of-clause g (subst (λ y. Satisfies a y) (sym same-clause) (m c (∈-append_right c s.clauses (c ∷ []) (inl refl)))))) y (z.part y i);
           known = λ a m. h.known a (satisfies_fewer a s.clauses (c ∷ []) m);
           fixed = λ n l i a b. fixed-on s.clauses r p.search t v h long in-covers n l (h.fixed (λ q. let z : outcome.Unknown ≡ outcome.Unsat = q in cc) l i a b);
           covered = covers-more;
-          proved = λ z. proved-on (s.clauses ++ c ∷ []) r (h.held ++ e ∷ []) lines last t v (reached-joined s.clauses r h.held c e same-clause (h.proved z)) all o;
+          told = z.fits;
         }
 
   -- the identities of the literals were made
@@ -210,10 +232,10 @@ module _ (w : Carrying) (p : Spaces) (s : State) (d : Clause) (k : Links w p s) 
             (∈-or_not i (map variable_of (map (through_names s.naming) d)))
         go (Forced b e) = Forced b e
 
-    stands : (t : Search) (v : Outcome) (m : ℕ → Bool) (x : Verdict) → SearchHolds (s.clauses ++ c ∷ []) r t (without_core v) → VerdictFits w.identity m v x → CoreFits s.naming.names p.core x → IsRight (s.clauses ++ c ∷ []) s.assumptions s.counted x → Links w (record p { kept = after; search = t; outcome = v; model = m }) (accept c x s)
+    stands : (told : List Entry) → IsTold told (s.clauses ++ c ∷ []) s.ever_hidden → (t : Search) (v : Outcome) (m : ℕ → Bool) (x : Verdict) → SearchHolds (s.clauses ++ c ∷ []) (with_told told r) t (without_core v) → VerdictFits w.identity m v x → CoreFits s.naming.names p.core x → IsRight (s.clauses ++ c ∷ []) s.assumptions s.counted x → Links w (record p { kept = after; search = t; outcome = v; model = m }) (retold told (accept c x s))
     unfolding r c
-    stands t v m x holds fits core right =
-        relinked-marks w p (record p { kept = after; search = t; outcome = v; model = m }) s (accept c x s) k
+    stands told is-told t v m x holds fits core right =
+        relinked-marks w p (record p { kept = after; search = t; outcome = v; model = m }) s (retold told (accept c x s)) k
         (record { deleted = λ x. ap (λ y. y.deleted) (touched.rest x); sampling_mode = λ x. ap (λ y. y.sampling_mode) (touched.rest x); unit = λ x. ap (λ y. y.unit) (touched.rest x) })
         settled-more
         (marks-same p.global_from_user p.global_from_user p.kept after p.assumptions (λ u. refl) (λ x. ap (λ y. y.assumed) (touched.rest x)) k.marks)
@@ -235,26 +257,32 @@ module _ (w : Carrying) (p : Spaces) (s : State) (d : Clause) (k : Links w p s) 
           core = core;
           right = right;
           few = k.few;
+          told = is-told;
         })
 
     pub loaded : (t : Search) (v : Outcome) (m : ℕ → Bool) (lines : List Line) → p.outcome ≡ outcome.Unknown → AreLong p.search → AreLong t → AreInUse p t → Loads p.search t (map (solver_literal p) d) v lines →
-        (x : Verdict) × VerdictAfter s.clauses (map (through_names s.naming) d) Unknown x × Links w (record p { kept = after; search = t; outcome = v; model = m }) (accept (map (through_names s.naming) d) x s)
+        (x : Verdict) × (told : List Entry) × VerdictAfter s.clauses (map (through_names s.naming) d) Unknown x × TellsMore 0 s.told told × Links w (record p { kept = after; search = t; outcome = v; model = m }) (retold told (accept (map (through_names s.naming) d) x s))
     unfolding c e r
     loaded t v m lines o long-before long in-use loads =
-        let h = subst (SearchHolds s.clauses (translation w p s.ever_hidden) p.search) (ap without_core o) k.holds in
+        let h = subst (SearchHolds s.clauses (translation w p s.told) p.search) (ap without_core o) k.holds in
+        let ls = told_lines (translation w p s.told) lines in
+        let told = (s.told ++ Accepts (map (through_names s.naming) d) ∷ []) ++ ls in
+        let after' = translation w p told in
         let more = holds-more h t v lines loads long in-use in
+        let tells' : TellsMore 0 s.told told = record { entries = (Accepts (map (through_names s.naming) d) ∷ []) ++ ls; joined = append_assoc s.told (Accepts (map (through_names s.naming) d) ∷ []) ls; goes = goes-more h t v lines loads long in-use } in
+        let is-told = told-written (s.told ++ Accepts (map (through_names s.naming) d) ∷ []) (s.clauses ++ map (through_names s.naming) d ∷ []) s.ever_hidden (map (rename_line (carry (translation w p s.told).identity)) lines) (told-accepted s.told s.clauses s.ever_hidden (map (through_names s.naming) d) k.told) in
         ⊎_elim
-        (λ (q, u). let none = refuted (s.clauses ++ c ∷ []) (translation w p s.ever_hidden) t (subst (SearchHolds (s.clauses ++ c ∷ []) (translation w p s.ever_hidden) t) u more) in
-        (Unsat, Refuted refl none, stands t v m Unsat (subst (SearchHolds (s.clauses ++ c ∷ []) (translation w p s.ever_hidden) t) (u ∙ sym (ap without_core u)) more) (subst (λ y. VerdictFits w.identity m y Unsat) (sym u) tt) tt none))
-        (λ (q, u). (Unknown, Reopened refl (λ z. q (contradicted h long-before z)), stands t v m Unknown (subst (SearchHolds (s.clauses ++ c ∷ []) (translation w p s.ever_hidden) t) (u ∙ sym (ap without_core u)) more) (subst (λ y. VerdictFits w.identity m y Unknown) (sym u) tt) tt tt))
+        (λ (q, u). let none = refuted (s.clauses ++ map (through_names s.naming) d ∷ []) after' t (subst (SearchHolds (s.clauses ++ map (through_names s.naming) d ∷ []) after' t) u more) in
+        (Unsat, told, Refuted refl none, tells', stands told is-told t v m Unsat (subst (SearchHolds (s.clauses ++ map (through_names s.naming) d ∷ []) after' t) (u ∙ sym (ap without_core u)) more) (subst (λ y. VerdictFits w.identity m y Unsat) (sym u) tt) tt none))
+        (λ (q, u). (Unknown, told, Reopened refl (λ z. q (contradicted h long-before z)), tells', stands told is-told t v m Unknown (subst (SearchHolds (s.clauses ++ map (through_names s.naming) d ∷ []) after' t) (u ∙ sym (ap without_core u)) more) (subst (λ y. VerdictFits w.identity m y Unknown) (sym u) tt) tt tt))
         loads.verdict
 
   -- The list is assumed, of which the search has the literals. No verdict on the assumptions before is left.
   module _ (after : ℕ → VarData) (marks : IsMarkedFor p d after) where
-    pub assumed : (told : List Literal) → (s.verdict ≡ Unknown) ⊎ (s.verdict ≡ Unsat) → Links w (record p { kept = after; assumptions = d; core = told; working = map (solver_literal p) d }) (record s { assumptions = map (through_names s.naming) d })
+    pub assumed : (told : List Literal) → (s.verdict ≡ Unknown) ⊎ (s.verdict ≡ Unsat) → Links w (record p { kept = after; assumptions = d; core = told; working = map (solver_literal p) d }) (record s { assumptions = map (through_names s.naming) d; told = s.told ++ Assumes (map (through_names s.naming) d) ∷ [] })
     unfolding c e r
     assumed told cases =
-        relinked-marks w p (record p { kept = after; assumptions = d; core = told; working = map (solver_literal p) d }) s (record s { assumptions = map (through_names s.naming) d }) k
+        relinked-marks w p (record p { kept = after; assumptions = d; core = told; working = map (solver_literal p) d }) s (record s { assumptions = map (through_names s.naming) d; told = s.told ++ Assumes (map (through_names s.naming) d) ∷ [] }) k
         (record { deleted = λ x. ap (λ y. y.deleted) (marks.rest x); sampling_mode = λ x. ap (λ y. y.sampling_mode) (marks.rest x); unit = λ x. ap (λ y. y.unit) (marks.rest x) })
         (isolation-same w.identity w.forced p.kept after s.clauses s.naming.made (λ x. ap (λ y. y.isolated) (marks.rest x)) k.isolation)
         marks.fit
@@ -269,7 +297,7 @@ module _ (w : Carrying) (p : Spaces) (s : State) (d : Clause) (k : Links w p s) 
         })
         (record {
           solvers = k.solvers;
-          holds = k.holds;
+          holds = holds-same s.clauses (translation w p s.told) (translation w p (s.told ++ Assumes (map (through_names s.naming) d) ∷ [])) p.search (without_core p.outcome) (λ v. refl) (λ i. refl) (λ share q. told-quiet (translation w p s.told) (Assumes (map (through_names s.naming) d)) (λ held _. refl) share (without_core p.outcome) q) k.holds;
           assumptions = record { agree = refl; taken = taken };
           working = record {
             used = of-clause;
@@ -283,4 +311,5 @@ module _ (w : Carrying) (p : Spaces) (s : State) (d : Clause) (k : Links w p s) 
               (λ q. subst (IsRight s.clauses (map (through_names s.naming) d) s.counted) (sym q) (subst (IsRight s.clauses s.assumptions s.counted) q k.right))
               cases;
           few = k.few;
+          told = told-assumed s.told s.clauses s.ever_hidden (map (through_names s.naming) d) k.told;
         })

@@ -7,10 +7,8 @@ use Rattle.varisat_theory.specs.Renaming.{rename}
 use Rattle.varisat_theory.specs.Searches.{Search, Fits, IsLiteralOf, IsCoveredBySearch, Tautology, KnownTrue, FixedTrue, Kept}
 use Rattle.varisat_theory.specs.Outcomes.{Outcome}
 use Rattle.varisat_theory.specs.Outcomes as outcome
-use Rattle.varisat_theory.proofs.Members.{equal_or_not, ∈-append_right}
+use Rattle.varisat_theory.proofs.Members.{equal_or_not, ∈-append_left}
 use Rattle.varisat_theory.proofs.HeldDrops.{without_less}
-use Rattle.varisat_theory.proofs.StepDrops.{variable_is_dropped}
-use Rattle.varisat_prop.proofs.LiteralValues.{own-opposite}
 use Rattle.varisat_literals.specs.Numbers.{polarity_of}
 use Rattle.varisat_names.specs.Maps.{updated, onward, chain}
 use Rattle.varisat.specs.States.{State}
@@ -20,28 +18,19 @@ use Rattle.varisat.proofs.SpacesMoves.{take_solver}
 use Rattle.varisat_search.proofs.TakenSolvers.{few, below, below-count, ∈-below}
 use Rattle.varisat_names.proofs.Maps.{updated-at, updated-other, updated-all, joined, chain-some, chain-none, chain-through, is-some}
 use Rattle.varisat.proofs.SpacesAgree.{carry-same, working-same}
-use Rattle.varisat.proofs.ReachedHeld.{only, unmentioned, reached-apart}
+use Rattle.varisat.proofs.ReachedHeld.{only, fits-without, same-apart, inside-apart}
 use Rattle.varisat.proofs.SearchHeld.{with-model, without-model}
 use Rattle.varisat.proofs.NewNames.{linked}
 use Rattle.varisat.proofs.SearchLinks.{relinked}
 
 -- no two solver variables stand for one identity
-pub one-solver : (w : Carrying) (p : Spaces) (s : State) (k : Links w p s) (v v' i : ℕ) → (translation w p s.ever_hidden).identity v ≡ Some i → (translation w p s.ever_hidden).identity v' ≡ Some i → v' ≡ v
+pub one-solver : (w : Carrying) (p : Spaces) (s : State) (k : Links w p s) (v v' i : ℕ) → (translation w p s.told).identity v ≡ Some i → (translation w p s.told).identity v' ≡ Some i → v' ≡ v
 one-solver w p s k v v' i a b =
     let (x, e, f) = chain-through p.global_from_solver w.identity v i a in
     let (y, g, h) = chain-through p.global_from_solver w.identity v' i b in
     let q : Some y ≡ Some x = sym (k.identities.one_to_one.there y i h) ∙ k.identities.one_to_one.there x i f in
     let r : Some v' ≡ Some v = sym (k.solvers.one_to_one.back y v' g) ∙ ap p.solver_from_global (let z : y ≡ x = cc in z) ∙ k.solvers.one_to_one.back x v e in
     cc
-
--- the proved literals are fixed
-proved-fixed : (held : List Clause) (t : Search) → Fits held t → (l : Literal) → l ∈ t.proved → l ∈ t.fixed
-proved-fixed held t f l h =
-    let (d, i, u) = f.units l h in
-    ⊎_elim
-    (λ (m, j, o). absurd (own-opposite m (u.1 (opposite m) o ∙ sym (u.1 m j))))
-    (λ (m, j, o). subst (λ y. y ∈ t.fixed) (u.1 m j) o)
-    (f.settled d i)
 
 -- 1. A solver variable is taken.
 module _ (w : Carrying) (p : Spaces) (s : State) (x i v : ℕ) (k : Links w p s) (is : w.identity x ≡ Some i) (spoken : i ∈ s.counted) (unsolved : p.solver_from_global x ≡ None) (free : p.global_from_solver v ≡ None) where
@@ -52,10 +41,10 @@ module _ (w : Carrying) (p : Spaces) (s : State) (x i v : ℕ) (k : Links w p s)
   to' = chain (updated p.global_from_solver v (Some x)) w.identity
 
   r : Translation
-  r = translation w p s.ever_hidden
+  r = translation w p s.told
 
   r' : Translation
-  r' = translation w (take_solver x v p) s.ever_hidden
+  r' = translation w (take_solver x v p) s.told
 
   pub to-new : chain (updated p.global_from_solver v (Some x)) w.identity v ≡ Some i
   to-new = chain-some (updated p.global_from_solver v (Some x)) w.identity v x (updated-at p.global_from_solver v (Some x)) ∙ is
@@ -76,7 +65,7 @@ module _ (w : Carrying) (p : Spaces) (s : State) (x i v : ℕ) (k : Links w p s)
   -- so what is held fits without the clauses that mention v
   pub fits-apart : (held : List Clause) → Fits held p.search → Fits (without v held) p.search
   fits-apart held f =
-      variable_is_dropped p.search p.search v held refl (λ c a. unmentioned v c.clause (λ l b. other l (inr (c, a, b)))) (λ l a n. a) (λ l a. (a, other l (inl (proved-fixed held p.search f l a)))) f
+      fits-without v held p.search other f
 
   same : (l : Literal) → IsLiteralOf p.search l → carry to l ≡ carry to' l
   unfolding to to'
@@ -99,7 +88,7 @@ module _ (w : Carrying) (p : Spaces) (s : State) (x i v : ℕ) (k : Links w p s)
   }
 
   -- the links, once the search of the variables after is known
-  pub taken-with : (t : Search) → SearchHolds s.clauses (translation w (take_solver x v p) s.ever_hidden) t (without_core p.outcome) → Links w (record (take_solver x v p) { search = t }) s
+  pub taken-with : (t : Search) → SearchHolds s.clauses (translation w (take_solver x v p) s.told) t (without_core p.outcome) → Links w (record (take_solver x v p) { search = t }) s
   taken-with t holds =
       relinked w p (record (take_solver x v p) { search = t }) s s k (record {
         solvers = record {
@@ -116,6 +105,7 @@ module _ (w : Carrying) (p : Spaces) (s : State) (x i v : ℕ) (k : Links w p s)
         core = k.core;
         right = k.right;
         few = k.few;
+        told = k.told;
       })
 
   -- What is held and mentions v is forgotten.
@@ -134,13 +124,16 @@ module _ (w : Carrying) (p : Spaces) (s : State) (x i v : ℕ) (k : Links w p s)
         (λ n. h.fixed o l j (sym (to-other (variable_of l) n) ∙ a) b)
         (equal_or_not (variable_of l) v);
     covered = λ o c a. in-both c (h.covered o c a);
-    proved = λ z.
-        let q = h.proved z in
+    told =
+        let q = h.told in
         let old = rename (carry (chain p.global_from_solver w.identity)) (only v h.held) in
         record {
-          forgotten = old ++ q.forgotten;
-          reached = reached-apart s.clauses (translation w p s.ever_hidden) (translation w (take_solver x v p) s.ever_hidden) v h.held to-other q;
-          units = λ j b e n. let (c, a, u) = q.units j b e (λ u y. n u (stays u j y)) in (c, ∈-append_right c old q.forgotten a, u);
+          held = q.held;
+          led = q.led;
+          forgotten = q.forgotten ++ old;
+          same = same-apart (translation w p s.told) (translation w (take_solver x v p) s.told) v h.held to-other q;
+          inside = inside-apart (translation w p s.told) (translation w (take_solver x v p) s.told) v h.held to-other q;
+          units = λ j b y e g n. let (c, a, u) = q.units j b y e g (λ u z. n u (stays u j z)) in (c, ∈-append_left c q.forgotten old a, u);
         };
   }
 
@@ -155,7 +148,7 @@ module _ (w : Carrying) (p : Spaces) (s : State) (x i v : ℕ) (k : Links w p s)
     known = h.known;
     fixed = λ o. absurd (o refl);
     covered = λ o. absurd (o refl);
-    proved = h.proved;
+    told = h.told;
   }
 
   module _ (unfixed : ((p.kept x).unit ≡ None) ⊎ (p.outcome ≡ outcome.Unsat)) where
@@ -177,7 +170,7 @@ module _ (w : Carrying) (p : Spaces) (s : State) (x i v : ℕ) (k : Links w p s)
 -- where all solver variables below m are in use, m is at most the number of counted identities
 pub solvers-few : (w : Carrying) (p : Spaces) (s : State) (m : ℕ) → Links w p s → ((v : ℕ) → v < m → p.global_from_solver v ≢ None) → m ≤ length s.counted
 solvers-few w p s m k used =
-    few (translation w p s.ever_hidden).identity s.counted (λ v u i. one-solver w p s k v u i) m (λ v b.
+    few (translation w p s.told).identity s.counted (λ v u i. one-solver w p s k v u i) m (λ v b.
     ⊎_elim
     (λ e. absurd (used v b e))
     (λ (x, e). let r = k.solvers.live v x e in (r.0, chain-some p.global_from_solver w.identity v x e ∙ r.1, r.2))

@@ -1,5 +1,5 @@
 -- A list is assumed: its names come into use, their variables take solver variables and are marked, and the search has its literals.
-use Rattle.std.proofs.Common.{◌≡◌, ℕ, true, false, Some, List, [], ◌⊎◌, inl, inr, ⊎_elim, length, map, sym, ap, ◌∙◌, subst, refl, arith}
+use Rattle.std.proofs.Common.{◌≡◌, ℕ, true, false, Some, List, [], ◌⊎◌, inl, inr, ⊎_elim, length, map, sym, ap, ◌∙◌, subst, refl, arith, ◌++◌, ◌∷◌}
 use Rattle.varisat_theory.specs.Membership.{◌∈◌}
 use Rattle.varisat_theory.specs.Literals.{Literal, Assignment, variable_of}
 use Rattle.varisat_theory.specs.Outcomes as outcome
@@ -17,6 +17,8 @@ use Rattle.varisat.specs.States.{State, join_counted, Verdict, Unknown, Sat, Uns
 use Rattle.varisat.specs.Names.{through_names}
 use Rattle.varisat.specs.Calls.{assumed_verdict, with_assumptions, with_verdict}
 use Rattle.varisat.specs.Carried.{carry}
+use Rattle.varisat_theory.specs.Journals.{Assumes}
+use Rattle.varisat.specs.Journals.{retold}
 use Rattle.varisat.specs.Spaces.{Carrying, MarksFit, Links, SpacesFit}
 use Rattle.varisat.specs.Summaries.{Summary, spaces, spaces_of}
 use Rattle.varisat.specs.Accepting.{HasSolver, AreMarked}
@@ -89,7 +91,7 @@ pub record Assuming (g : Summary) (list : List Literal) (cleared marked : Tables
 
 -- the identities of the list are counted before it is assumed
 pub list-assumed : (g : Summary) (n : State) (list : List Literal) (cleared marked : Tables) (new : View) (parts : AssumptionParts) (after : SatState) → Assuming g list cleared marked new parts after → SpacesFit (spaces g) (count (join_counted n.counted (map variable_of (map (through_names n.naming) list))) n) →
-    SpacesFit (spaces_of marked new parts after) (with_assumptions (map (through_names n.naming) list) n)
+    SpacesFit (spaces_of marked new parts after) (retold (n.told ++ Assumes (map (through_names n.naming) list) ∷ []) (with_assumptions (map (through_names n.naming) list) n))
 list-assumed g n list cleared marked new parts after t (w1, k1) =
     let n1 = count (join_counted n.counted (map variable_of (map (through_names n.naming) list))) n in
     let g2 : Summary = record g { sat_state = assumed_state g.sat_state } in
@@ -106,7 +108,7 @@ list-assumed g n list cleared marked new parts after t (w1, k1) =
     let k6 = assumed w1 p5 (with_verdict (assumed_verdict n.verdict) n1) list k5 t.all (kept_at marked.kept) marks [] (forgotten-cases n.verdict) in
     let p6 = record p5 { kept = kept_at marked.kept; assumptions = list; core = []; working = map (solver_literal p5) list } in
     let g6 : Summary = record g { tables = marked; assumed = parts; sat_state = assumed_state g.sat_state } in
-    let s6 = with_assumptions (map (through_names n.naming) list) n in
+    let s6 = retold (n.told ++ Assumes (map (through_names n.naming) list) ∷ []) (with_assumptions (map (through_names n.naming) list) n) in
     let f6 : SpacesFit (spaces g6) s6 = spaces-same p6 (spaces g6) s6 (record {
       maps = record {
         global_from_user = λ u. ap (λ m. at m.forward u) users;

@@ -1,5 +1,5 @@
 -- States after a call that changed nothing more, and after one that ran out of memory.
-use Rattle.std.proofs.Common.{◌≡◌, ◌≢◌, ◌∙◌, ◌+◌, ◌-◌, ◌≤◌, arith, ℕ, Bool, true, false, Err, refl, ap}
+use Rattle.std.proofs.Common.{◌≡◌, ◌≢◌, ◌∙◌, ◌+◌, ◌-◌, ◌≤◌, arith, ℕ, Bool, true, false, List, Err, refl, ap}
 use Rattle.varisat_theory.specs.Literals.{Clause}
 use Rattle.varisat_clause.specs.declared.alloc.StoreError.{StoreError}
 use Rattle.varisat_clause.specs.declared.alloc.StoreError.TheVariants as store
@@ -7,11 +7,18 @@ use Rattle.varisat_names.specs.Settings.{Settings}
 use Rattle.varisat.specs.States.{State, Ledger, IsWellFormed, Unknown, Unsat}
 use Rattle.varisat.specs.Refusals.{store_refusal}
 use Rattle.varisat.specs.Calls.{IsLike, IsValid, Invalidates, MayConstrain, AddsClause, CountsCall, Solves, with_steps}
+use Rattle.varisat_theory.specs.Journals.{Entry}
+use Rattle.varisat.specs.Journals.{retold, TellsMore}
+use Rattle.varisat.proofs.ToldEntries.{tells-nothing}
 use Rattle.varisat.specs.Spaces.{SpacesFit}
 use Rattle.varisat.specs.Summaries.{Summary, spaces, StandsFor}
 
 pub like-refl : (s : State) → IsLike s s
-like-refl s = record { naming = refl; ever_hidden = refl; clauses = refl; assumptions = refl; counted = refl; verdict = refl; ledger = refl }
+like-refl s = record { naming = refl; ever_hidden = refl; clauses = refl; assumptions = refl; counted = refl; verdict = refl; ledger = refl; told = tells-nothing s.told }
+
+-- the same, but that more was told
+pub like-retold : (s : State) (told : List Entry) → TellsMore 0 s.told told → IsLike s (retold told s)
+like-retold s told m = record { naming = refl; ever_hidden = refl; clauses = refl; assumptions = refl; counted = refl; verdict = refl; ledger = refl; told = m }
 
 -- a ledger by what it tells
 abbrev pub ledger_of : Bool → Bool → ℕ → ℕ → Settings → Ledger
@@ -49,9 +56,9 @@ pub record Begins (g : Summary) (s : State) : Type 0 where
 pub begins : {g : Summary} {s : State} → StandsFor g s → g.ledger.valid ≡ true → Begins g s
 begins {g} {s} st v = record { valid = stands-valid g s st v; ledger = st.ledger; fits = st.fits v }
 
--- the state, with the verdict and the flags of another
+-- the state, with the verdict, the flags and what was told of another
 abbrev pub told_as : State → State → State
-told_as t s = record s { verdict = t.verdict; ledger = t.ledger }
+told_as t s = record s { verdict = t.verdict; ledger = t.ledger; told = t.told }
 
 pub told-well : (s t : State) → IsWellFormed s → IsWellFormed (told_as t s)
 told-well s t w = record { one_to_one = w.one_to_one; free = w.free; named = w.named; accepted = w.accepted; assumed = w.assumed; counted = w.counted; once = w.once }

@@ -18,12 +18,12 @@ use Rattle.varisat_names.specs.declared.variables.data.VarData.{VarData}
 use Rattle.varisat_names.proofs.Maps.{updated-at, updated-other, updated-all, parted, chain-some, chain-none, chain-through}
 use Rattle.varisat.specs.States.{State}
 use Rattle.varisat.specs.Carried.{carry, AgreesAlong, is_value, is_forced}
-use Rattle.varisat.specs.Spaces.{Spaces, Carrying, UnitsFit, IsolationCase, NotIsolated, Apart, Forced, IsolationFits, AssumptionsFit, Translation, IsReachedWithForgotten, SearchHolds, without_core, translation, Links}
+use Rattle.varisat.specs.Spaces.{Spaces, Carrying, UnitsFit, IsolationCase, NotIsolated, Apart, Forced, IsolationFits, AssumptionsFit, Translation, SharesHeld, SearchHolds, without_core, translation, Links}
 use Rattle.varisat.proofs.Carried.{carry-at, carry-sign, literal-parts, forced-value}
 use Rattle.varisat.proofs.SpacesAgree.{identities-same, modes-same, marks-same, working-same, carry-same, value-same}
 use Rattle.varisat.proofs.VariableMoves.{leave_search}
 use Rattle.varisat.proofs.HiddenStates.{field-same, identity-named}
-use Rattle.varisat.proofs.ReachedHeld.{left-apart, only, reached-apart}
+use Rattle.varisat.proofs.ReachedHeld.{left-apart, only, same-apart, inside-apart}
 use Rattle.varisat.proofs.ForgottenWith.{not-over, unit-forgotten}
 
 -- The search t is s without the variable, which no kept clause mentions. `known` is the value that it has at level 0, which is held as a unit clause.
@@ -58,10 +58,10 @@ module _ (w : Carrying) (p : Spaces) (s : State) (v x i : ℕ) (known : Option B
   forced' = updated w.forced i known
 
   r' : Translation
-  r' = record { identity = to'; forced = forced'; hidden = s.ever_hidden }
+  r' = record { identity = to'; global = w.global; forced = forced'; told = s.told }
 
-  h : SearchHolds s.clauses (translation w p s.ever_hidden) p.search outcome.Unknown
-  h = subst (SearchHolds s.clauses (translation w p s.ever_hidden) p.search) (ap without_core unknown) k.holds
+  h : SearchHolds s.clauses (translation w p s.told) p.search outcome.Unknown
+  h = subst (SearchHolds s.clauses (translation w p s.told) p.search) (ap without_core unknown) k.holds
 
   -- the variable leads to its identity, and then nowhere; the others lead where they led
   to-at : to v ≡ Some i
@@ -166,19 +166,22 @@ module _ (w : Carrying) (p : Spaces) (s : State) (v x i : ℕ) (known : Option B
       (c, subst (λ n. c ∈ rename (carry to) (only n h.held)) (variable-literal v b) y, subst (λ m. IsUnit m c) (unit-literal b) z)
 
   -- the clauses that mention the variable join those that were forgotten
-  forgotten-on : s.ever_hidden ≡ false → IsReachedWithForgotten s.clauses r' (without v h.held)
+  forgotten-on : SharesHeld r' (without v h.held)
   unfolding to to' forced' r'
-  forgotten-on hidden =
-      let before = h.proved hidden in
+  forgotten-on =
+      let before = h.told in
       let gone = rename (carry to) (only v h.held) in
       record {
-        forgotten = gone ++ before.forgotten;
-        reached = reached-apart s.clauses (translation w p s.ever_hidden) r' v h.held to-other before;
-        units = λ j b e none.
+        held = before.held;
+        led = before.led;
+        forgotten = before.forgotten ++ gone;
+        same = same-apart (translation w p s.told) r' v h.held to-other before;
+        inside = inside-apart (translation w p s.told) r' v h.held to-other before;
+        units = λ j b y e g none.
             ⊎_elim
             (λ q. let (c, a, u) = unit-of b (sym (updated-at w.forced i known) ∙ ap forced' (sym q) ∙ e) in
-            (c, ∈-append_left c gone before.forgotten a, subst (λ n. IsUnit (literal_of n b) c) (sym q) u))
-            (λ n. let (c, a, u) = before.units j b (sym (updated-other w.forced i known j n) ∙ e) (none-before j n none) in (c, ∈-append_right c gone before.forgotten a, u))
+            (c, ∈-append_right c before.forgotten gone a, subst (λ n. IsUnit (literal_of n b) c) (sym q) u))
+            (λ n. let (c, a, u) = before.units j b y (sym (updated-other w.forced i known j n) ∙ e) g (none-before j n none) in (c, ∈-append_left c before.forgotten gone a, u))
             (equal_or_not j i);
       }
 
@@ -213,7 +216,7 @@ module _ (w : Carrying) (p : Spaces) (s : State) (v x i : ℕ) (known : Option B
           (λ l a. ⊎_elim inl (λ (q, z). inr (fixed-forced l q z)) (f.stays l a))
           (λ l e. forced-true forced' l (forced-on (variable_of l) (polarity_of l) (forced-value w.forced l e)))
           (h.covered n) c e);
-      proved = forgotten-on;
+      told = forgotten-on;
     }
 
     units-on : UnitsFit w.identity forced' kept' s.counted
@@ -278,4 +281,5 @@ module _ (w : Carrying) (p : Spaces) (s : State) (v x i : ℕ) (known : Option B
       well_formed = k.well_formed;
       few = k.few;
       shown = λ e y m. field-same (λ a. a.deleted) p.kept x d (ap (λ a. a.deleted) told) y ∙ k.shown e y m;
+      told = k.told;
     }

@@ -24,6 +24,9 @@ use Rattle.varisat_names.specs.declared.variables.data.VarData.{VarData}
 use Rattle.varisat_names.proofs.Maps.{updated-at, updated-other, updated-all}
 use Rattle.varisat.specs.States.{State}
 use Rattle.varisat.specs.Carried.{carry, is_forced}
+use Rattle.varisat_theory.specs.Journals.{Entry}
+use Rattle.varisat.specs.Journals.{retold, TellsMore}
+use Rattle.varisat.proofs.ToldEntries.{tells-nothing, tells-through}
 use Rattle.varisat.specs.Spaces.{Spaces, Carrying, Translation, SearchHolds, translation, Links, SpacesFit}
 use Rattle.varisat.specs.Summaries.{spaces_of}
 use Rattle.varisat.specs.Dropping.{fixed_to}
@@ -102,10 +105,10 @@ loses (Some b) old new v (x, mid, c, n) =
 
 module _ (old new : Tables) (search : View) (assumed : AssumptionParts) (s : State) (u t : Search) (x v : ℕ) (d : VarData) (w : Carrying) (k : Links w (between old search assumed u) s) where
   -- whatever is kept of the variable
-  moved : (e : VarData) (m : ℕ → Bool) → LosesSolver old new x v e → SpacesFit (record (leave_search v x t e (between old search assumed u)) { model = m }) s → SpacesFit (between new search assumed t) s
-  moved e m n f =
+  moved : (told : List Entry) (e : VarData) (m : ℕ → Bool) → LosesSolver old new x v e → SpacesFit (record (leave_search v x t e (between old search assumed u)) { model = m }) (retold told s) → SpacesFit (between new search assumed t) (retold told s)
+  moved told e m n f =
       let live : (kept_at old.kept x).deleted ≡ false = (let (i, is, c) = k.solvers.live v x n.taken in k.identities.live x i is) in
-      maps-same (record (leave_search v x t e (between old search assumed u)) { model = m }) (between new search assumed t) s (record {
+      maps-same (record (leave_search v x t e (between old search assumed u)) { model = m }) (between new search assumed t) (retold told s) (record {
         global_from_user = λ y. ap (λ (b : BiMap). at b.forward y) n.users;
         user_from_global = λ y. ap (λ (b : BiMap). at b.backward y) n.users;
         watermark = ap (λ (b : BiMap). length b.forward) n.users;
@@ -117,15 +120,15 @@ module _ (old new : Tables) (search : View) (assumed : AssumptionParts) (s : Sta
       }) refl f
 
   -- Where it has no name and is isolated it may be used again, and else it stays.
-  gone : LosesSolver old new x v (without_solver (at old.users.backward x) d) → SpacesFit (leave_search v x t d (between old search assumed u)) s → (at old.users.backward x ≡ None → d.isolated ≡ true → SpacesFit (leave_all v x t (between old search assumed u)) s) → SpacesFit (between new search assumed t) s
+  gone : LosesSolver old new x v (without_solver (at old.users.backward x) d) → SpacesFit (leave_search v x t d (between old search assumed u)) s → (at old.users.backward x ≡ None → d.isolated ≡ true → (told : List Entry) × TellsMore 0 s.told told × SpacesFit (leave_all v x t (between old search assumed u)) (retold told s)) → (told : List Entry) × TellsMore 0 s.told told × SpacesFit (between new search assumed t) (retold told s)
   gone n stays recycled = go (at old.users.backward x) d.isolated refl refl
     where
-      go : (o : Option ℕ) (b : Bool) → at old.users.backward x ≡ o → d.isolated ≡ b → SpacesFit (between new search assumed t) s
-      go (Some y) b e q = moved d (between old search assumed u).model (subst (λ o. LosesSolver old new x v (without_solver o d)) e n) stays
-      go None true e q = moved dead (leave_all v x t (between old search assumed u)).model (subst (λ c. LosesSolver old new x v (if c then dead else d)) q (subst (λ o. LosesSolver old new x v (without_solver o d)) e n)) (recycled e q)
-      go None false e q = moved d (between old search assumed u).model (subst (λ c. LosesSolver old new x v (if c then dead else d)) q (subst (λ o. LosesSolver old new x v (without_solver o d)) e n)) stays
+      go : (o : Option ℕ) (b : Bool) → at old.users.backward x ≡ o → d.isolated ≡ b → (told : List Entry) × TellsMore 0 s.told told × SpacesFit (between new search assumed t) (retold told s)
+      go (Some y) b e q = (s.told, tells-nothing s.told, moved s.told d (between old search assumed u).model (subst (λ o. LosesSolver old new x v (without_solver o d)) e n) stays)
+      go None true e q = let (told, more, fits) = recycled e q in (told, more, moved told dead (leave_all v x t (between old search assumed u)).model (subst (λ c. LosesSolver old new x v (if c then dead else d)) q (subst (λ o. LosesSolver old new x v (without_solver o d)) e n)) fits)
+      go None false e q = (s.told, tells-nothing s.told, moved s.told d (between old search assumed u).model (subst (λ c. LosesSolver old new x v (if c then dead else d)) q (subst (λ o. LosesSolver old new x v (without_solver o d)) e n)) stays)
 
-one-left : (known : Option Bool) (v : ℕ) (old new : Tables) (search : View) (assumed : AssumptionParts) (s : State) (u t : Search) → IsLeft known old new v → IsWithout v known u t → ((x : ℕ) → at old.solvers.backward v ≡ Some x → (kept_at old.kept x).assumed ≡ false) → SpacesFit (between old search assumed u) s → SpacesFit (between new search assumed t) s
+one-left : (known : Option Bool) (v : ℕ) (old new : Tables) (search : View) (assumed : AssumptionParts) (s : State) (u t : Search) → IsLeft known old new v → IsWithout v known u t → ((x : ℕ) → at old.solvers.backward v ≡ Some x → (kept_at old.kept x).assumed ≡ false) → SpacesFit (between old search assumed u) s → (told : List Entry) × TellsMore 0 s.told told × SpacesFit (between new search assumed t) (retold told s)
 one-left (Some b) v old new search assumed s u t a f free (w, k) =
     let (x, n) = loses (Some b) old new v a in
     let p = between old search assumed u in
@@ -221,7 +224,7 @@ same-holds P r s t f h = record {
   known = h.known;
   fixed = λ n l i e z. on l (h.fixed n l i e z);
   covered = λ n. dropped_are_covered s t (carry r.identity) (is_forced r.forced) (is_forced r.forced) P f.kept (λ l a. inl (on l a)) (λ l e. e) (h.covered n);
-  proved = h.proved;
+  told = h.told;
 }
   where
     on : (l : Literal) → l ∈ s.fixed → l ∈ t.fixed
@@ -231,36 +234,40 @@ same-holds P r s t f h = record {
     before l (inl a) = inl (f.fixed l a).0
     before l (inr (k, a, b)) = inr (k, subst (λ ks. k ∈ ks) f.kept a, b)
 
-all-left : (known : ℕ → Option Bool) (vs : List ℕ) (old new : Tables) (search : View) (assumed : AssumptionParts) (s : State) (u t : Search) → AreLeft known vs old new → AreWithout known vs u t → ((v x : ℕ) → v ∈ vs → at old.solvers.backward v ≡ Some x → (kept_at old.kept x).assumed ≡ false) → SpacesFit (between old search assumed u) s → SpacesFit (between new search assumed t) s
+all-left : (known : ℕ → Option Bool) (vs : List ℕ) (old new : Tables) (search : View) (assumed : AssumptionParts) (s : State) (u t : Search) → AreLeft known vs old new → AreWithout known vs u t → ((v x : ℕ) → v ∈ vs → at old.solvers.backward v ≡ Some x → (kept_at old.kept x).assumed ≡ false) → SpacesFit (between old search assumed u) s → (told : List Entry) × TellsMore 0 s.told told × SpacesFit (between new search assumed t) (retold told s)
 all-left known [] old new search assumed s u t e f free (w, k) =
     let p = between old search assumed u in
     let same : AreWithout (λ v. None) [] u t = record { kept = f.kept; unmentioned = f.unmentioned; stays = λ l a. ⊎_elim inl (λ (i, q). absurd i) (f.stays l a); fixed = f.fixed; proved = f.proved; units = λ v b i. absurd i } in
-    subst (λ (a : Tables). SpacesFit (between a search assumed t) s) (sym e) (
+    (s.told, tells-nothing s.told, subst (λ (a : Tables). SpacesFit (between a search assumed t) s) (sym e) (
       w,
       relinked w p (between old search assumed t) s s k (record {
         solvers = k.solvers;
-        holds = same-holds s.clauses (translation w p s.ever_hidden) u t same k.holds;
+        holds = same-holds s.clauses (translation w p s.told) u t same k.holds;
         assumptions = k.assumptions;
         working = k.working;
         verdict = k.verdict;
         core = k.core;
         right = k.right;
         few = k.few;
+        told = k.told;
       }),
-    )
+    ))
 all-left known (v ∷ vs) old new search assumed s u t (mid, a, rest) f free fit =
     let (g, p) = loses (known v) old mid v a in
     let d = without_solver (at old.users.backward g) (with_known (known v) (kept_at old.kept g)) in
     let once = λ (i : v ∈ vs). let (x, e) = taken-before known vs mid new rest v i in (pair-before old mid v v x g d p e).1 refl in
-    all-left known vs mid new search assumed s (forget_variable v u) t rest (without-others known v vs u t once f)
+    let (first, more, mid-fits) = one-left (known v) v old mid search assumed s u (forget_variable v u) a (without-first known v vs u t f) (λ x e. free v x (inl refl) e) fit in
+    let (last, further, fits) = all-left known vs mid new search assumed (retold first s) (forget_variable v u) t rest (without-others known v vs u t once f)
     (λ y x i e. still-free (known v) old mid v g p x (free y x (inr i) (pair-before old mid v y x g d p e).0))
-    (one-left (known v) v old mid search assumed s u (forget_variable v u) a (without-first known v vs u t f) (λ x e. free v x (inl refl) e) fit)
+    mid-fits in
+    (last, tells-through 0 0 s.told first last more further, fits)
 
 -- Variables that are not assumed left the search, and their solver variables the tables: what is held stands for the same state as before.
-pub variables-left : (known : ℕ → Option Bool) (vs : List ℕ) (old new : Tables) (search after : View) (assumed : AssumptionParts) (s : State) → AreLeft known vs old new → AreWithout known vs (search_of search) (search_of after) → length after.values ≡ length search.values → ((v x : ℕ) → v ∈ vs → at old.solvers.backward v ≡ Some x → (kept_at old.kept x).assumed ≡ false) → SpacesFit (spaces_of old search assumed verdict.Unknown) s → SpacesFit (spaces_of new after assumed verdict.Unknown) s
+pub variables-left : (known : ℕ → Option Bool) (vs : List ℕ) (old new : Tables) (search after : View) (assumed : AssumptionParts) (s : State) → AreLeft known vs old new → AreWithout known vs (search_of search) (search_of after) → length after.values ≡ length search.values → ((v x : ℕ) → v ∈ vs → at old.solvers.backward v ≡ Some x → (kept_at old.kept x).assumed ≡ false) → SpacesFit (spaces_of old search assumed verdict.Unknown) s → (told : List Entry) × TellsMore 0 s.told told × SpacesFit (spaces_of new after assumed verdict.Unknown) (retold told s)
 variables-left known vs old new search after assumed s a f count free fit =
     let p = between new search assumed (search_of after) in
-    let (w, k) = all-left known vs old new search assumed s (search_of search) (search_of after) a f free fit in
-    maps-same (record p { var_count = length after.values }) (spaces_of new after assumed verdict.Unknown) s
+    let (told, more, fits) = all-left known vs old new search assumed s (search_of search) (search_of after) a f free fit in
+    let (w, k) = fits in
+    (told, more, maps-same (record p { var_count = length after.values }) (spaces_of new after assumed verdict.Unknown) (retold told s)
     (maps-alike (record p { var_count = length after.values }) (spaces_of new after assumed verdict.Unknown) refl (λ x. refl) (λ b e y. absurd (let z : outcome.Unknown ≡ outcome.Sat b = e in cc)))
-    refl (w, recount w p (length search.values) (length after.values) s count k)
+    refl (w, recount w p (length search.values) (length after.values) (retold told s) count k))

@@ -29,19 +29,6 @@ one-name f g u v x h a b = let q : Some v ≡ Some u = sym (h.there v x b) ∙ h
 pub identity-named : (w : Carrying) (p : Spaces) (s : State) (u x : ℕ) → Links w p s → p.global_from_user u ≡ Some x → (i : ℕ) × (w.identity x ≡ Some i) × (s.naming.names u ≡ Some i)
 identity-named w p s u x k e = let (i, r) = k.names.live u x e in (i, r, k.names.agree u ∙ chain-some p.global_from_user w.identity u x e ∙ r)
 
--- once a name was hidden, less is said of the search
-hidden-holds : (P : List Clause) (r : Translation) (s : Search) (v : Outcome) → SearchHolds P r s v → SearchHolds P (record r { hidden = true }) s v
-hidden-holds P r s v h = record {
-  held = h.held;
-  holds = h.holds;
-  within = h.within;
-  implied = h.implied;
-  known = h.known;
-  fixed = h.fixed;
-  covered = h.covered;
-  proved = λ e. absurd cc;
-}
-
 free-well : (u : ℕ) (s : State) → IsWellFormed s → IsWellFormed (hide_name u s)
 free-well u s f = record {
   one_to_one = λ u' v i. updated-all (λ u' o. o ≡ Some i → updated s.naming.names u None v ≡ Some i → u' ≡ v) s.naming.names u None
@@ -138,7 +125,7 @@ module _ (w : Carrying) (p : Spaces) (s : State) (u x : ℕ) (k : Links w p s) (
     units = units-same w.identity w.forced p.kept kept' s.counted (field-same (λ a. a.unit) p.kept x d refl) k.units;
     isolation = isolation-same w.identity w.forced p.kept kept' s.clauses s.naming.made (field-same (λ a. a.isolated) p.kept x d refl) k.isolation;
     solvers = k.solvers;
-    holds = hidden-holds s.clauses (translation w p s.ever_hidden) p.search (without_core p.outcome) k.holds;
+    holds = k.holds;
     assumptions = hidden-assumptions;
     marks = hidden-marks;
     working = k.working;
@@ -148,4 +135,5 @@ module _ (w : Carrying) (p : Spaces) (s : State) (u x : ℕ) (k : Links w p s) (
     well_formed = free-well u s k.well_formed;
     few = k.few;
     shown = λ e. absurd cc;
+    told = record { accepted = k.told.accepted; stays = λ e. absurd cc };
   }

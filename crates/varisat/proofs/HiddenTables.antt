@@ -1,5 +1,5 @@
 -- What the calls that hide, show and change a variable do to the tables, said of the states.
-use Rattle.std.proofs.Common.{◌≡◌, ◌≢◌, ℕ, ◌<◌, ◌≤◌, Bool, true, false, if◌then◌else◌, Option, Some, None, ◌⊎◌, ⊎_elim, length, sym, ap, ◌∙◌, subst, refl, arith}
+use Rattle.std.proofs.Common.{◌≡◌, ◌≢◌, ℕ, ◌<◌, ◌≤◌, Bool, true, false, if◌then◌else◌, Option, Some, None, ◌⊎◌, ⊎_elim, length, sym, ap, ◌∙◌, subst, refl, arith, List}
 use Rattle.varisat_theory.specs.Membership.{◌∈◌}
 use Rattle.varisat_theory.specs.Literals.{variable_of}
 use Rattle.varisat_theory.proofs.Renaming.{∈-map, map-∈}
@@ -18,6 +18,9 @@ use Rattle.varisat.specs.Names.{Mode, give_name, IsLeastFree, IsUnnamed}
 use Rattle.varisat.specs.Calls.{with_naming}
 use Rattle.varisat.specs.VariableCalls.{IsAssumed, with_mode, hide_name}
 use Rattle.varisat.specs.Carried.{carry, value_or}
+use Rattle.varisat_theory.specs.Journals.{Entry}
+use Rattle.varisat.specs.Journals.{retold, TellsMore}
+use Rattle.varisat.proofs.ToldEntries.{tells-nothing}
 use Rattle.varisat.specs.Spaces.{Spaces, Carrying, ModeFits, Links, SpacesFit}
 use Rattle.varisat.specs.Summaries.{Summary, spaces}
 use Rattle.varisat.proofs.Carried.{carry-at}
@@ -151,13 +154,14 @@ module _ (g : Summary) (s : State) (new : Tables) (u x : ℕ) (w : Carrying) (k 
     model = λ a e y. model-kept g new x (in_mode sampling.Hide (kept_at g.tables.kept x)) q refl n.solvers y;
   }) refl (w, hidden w (spaces g) s u x k named unassumed)
 
-  also-recycled : IsKeptAs g.tables.kept x dead new.kept → at g.tables.solvers.forward x ≡ None → (kept_at g.tables.kept x).isolated ≡ true → SpacesFit (spaces (with_tables new g)) (hide_name u s)
+  also-recycled : IsKeptAs g.tables.kept x dead new.kept → at g.tables.solvers.forward x ≡ None → (kept_at g.tables.kept x).isolated ≡ true → (told : List Entry) × TellsMore 0 s.told told × SpacesFit (spaces (with_tables new g)) (retold told (hide_name u s))
   unfolding away
   also-recycled q unsolved alone =
       let p = spaces g in
       let f = assignment_of g.search in
       let (i, is) = k.names.live u x named in
-      maps-same (recycle x (hide u x p)) (spaces (with_tables new g)) (hide_name u s) (record {
+      let (told, more, fits) = recycled w (hide u x p) (hide_name u s) x i (hidden w p s u x k named unassumed) is (updated-at p.user_from_global x None) unsolved (ap (λ (d : VarData). d.isolated) (updated-at p.kept x away) ∙ alone) in
+      (told, more, maps-same (recycle x (hide u x p)) (spaces (with_tables new g)) (retold told (hide_name u s)) (record {
         global_from_user = n.users.forward.at_each;
         user_from_global = n.users.backward.at_each;
         watermark = same-watermark;
@@ -169,14 +173,14 @@ module _ (g : Summary) (s : State) (new : Tables) (u x : ℕ) (w : Carrying) (k 
             (ap (λ (d : VarData). value_or d.unit f (at new.solvers.forward x)) (q.at_each x ∙ updated-at (kept_at g.tables.kept) x dead) ∙ ap (value_or None f) (same-solver x ∙ unsolved))
             y
             (λ m. ap (λ (d : VarData). value_or d.unit f (at new.solvers.forward y)) (q.at_each y ∙ updated-other (kept_at g.tables.kept) x dead y m) ∙ ap (value_or (kept_at g.tables.kept y).unit f) (same-solver y));
-      }) refl (recycled w (hide u x p) (hide_name u s) x i (hidden w p s u x k named unassumed) is (updated-at p.user_from_global x None) unsolved (ap (λ (d : VarData). d.isolated) (updated-at p.kept x away) ∙ alone))
+      }) refl fits)
 
-  by-use : (b : Bool) → unused (at g.tables.solvers.forward x) (kept_at g.tables.kept x) ≡ b → SpacesFit (spaces (with_tables new g)) (hide_name u s)
+  by-use : (b : Bool) → unused (at g.tables.solvers.forward x) (kept_at g.tables.kept x) ≡ b → (told : List Entry) × TellsMore 0 s.told told × SpacesFit (spaces (with_tables new g)) (retold told (hide_name u s))
   by-use true e = let (unsolved, alone) = is-unused (at g.tables.solvers.forward x) (kept_at g.tables.kept x) e in also-recycled (kept-as true e) unsolved alone
-  by-use false e = hidden-only (kept-as false e)
+  by-use false e = (s.told, tells-nothing s.told, hidden-only (kept-as false e))
 
-  links-hidden : SpacesFit (spaces (with_tables new g)) (hide_name u s)
+  links-hidden : (told : List Entry) × TellsMore 0 s.told told × SpacesFit (spaces (with_tables new g)) (retold told (hide_name u s))
   links-hidden = by-use (unused (at g.tables.solvers.forward x) (kept_at g.tables.kept x)) refl
 
-pub hidden-spaces : (g : Summary) (s : State) (new : Tables) (u x : ℕ) → SpacesFit (spaces g) s → at g.tables.users.forward u ≡ Some x → (kept_at g.tables.kept x).assumed ≡ false → IsHidden g.tables new u x → SpacesFit (spaces (with_tables new g)) (hide_name u s)
+pub hidden-spaces : (g : Summary) (s : State) (new : Tables) (u x : ℕ) → SpacesFit (spaces g) s → at g.tables.users.forward u ≡ Some x → (kept_at g.tables.kept x).assumed ≡ false → IsHidden g.tables new u x → (told : List Entry) × TellsMore 0 s.told told × SpacesFit (spaces (with_tables new g)) (retold told (hide_name u s))
 hidden-spaces g s new u x (w, k) named unassumed n = links-hidden g s new u x w k named unassumed n

@@ -33,6 +33,7 @@ pub mod NewNames
 pub mod Pasts
 pub mod PlainTables
 pub mod ProgramDecides
+pub mod ToldEntries
 pub mod ReachedHeld
 pub mod ReadPlaces
 pub mod RecycledGlobals
@@ -50,6 +51,8 @@ pub mod ShownInTurn
 pub mod SolveVerdict
 pub mod SolverCalls
 pub mod SinceSteps
+pub mod ToldJournals
+pub mod RunsTold
 pub mod SpacesAgree
 pub mod SpacesMoves
 pub mod TableMarks

@@ -14,7 +14,7 @@ use Rattle.varisat.specs.Carried.{carry}
 use Rattle.varisat.specs.Spaces.{Spaces, Carrying, ModeFits, IdentitiesFit, NamesFit, ModesFit, UnitsFit, IsolationCase, NotIsolated, Apart, Forced, IsolationFits, AssumptionsFit, MarksFit, without_core, translation, Links, SpacesFit}
 use Rattle.varisat.proofs.SpacesMoves.{give, give_next, AreDead}
 use Rattle.varisat_names.proofs.Maps.{updated-at, updated-other, updated-all, joined, chain-same, chain-some, chain-none, chain-through, is-some}
-use Rattle.varisat.proofs.SpacesAgree.{carry-same, map-same, working-same, core-same, holds-same, verdict-moved}
+use Rattle.varisat.proofs.SpacesAgree.{carry-same, map-same, working-same, core-same, holds-same, told-same, verdict-moved}
 
 -- what follows from the links
 
@@ -193,8 +193,11 @@ module _ (w : Carrying) (p : Spaces) (s : State) (u x : ℕ) (k : Links w p s) (
       units = new-units;
       isolation = new-isolation;
       solvers = record { one_to_one = k.solvers.one_to_one; live = λ v y h. let r = k.solvers.live v y h in (r.0, stays y r.0 r.1, r.2) };
-      holds = holds-same s.clauses (translation w p s.ever_hidden) (record { identity = chain p.global_from_solver id'; forced = w.forced; hidden = s.ever_hidden }) p.search (without_core p.outcome)
-          identity-same (λ i. refl) refl k.holds;
+      holds = holds-same s.clauses (translation w p s.told) (record { identity = chain p.global_from_solver id'; global = updated w.global s.naming.made (Some x); forced = w.forced; told = s.told }) p.search (without_core p.outcome)
+          identity-same (λ i. refl)
+          (λ share q. told-same (translation w p s.told) (record { identity = chain p.global_from_solver id'; global = updated w.global s.naming.made (Some x); forced = w.forced; told = s.told }) share (without_core p.outcome) identity-same (λ i. refl)
+          (λ i y b e g. (y, sym (updated-other w.global s.naming.made (Some x) i (λ o. let z : None ≡ Some b = sym unforced ∙ ap w.forced (sym o) ∙ e in absurd cc)) ∙ g)) refl q)
+          k.holds;
       assumptions = new-assumptions;
       marks = new-marks;
       working = working-same s.clauses (chain p.global_from_solver w.identity) (chain p.global_from_solver id') s.assumptions p.working (λ l h. identity-same (variable_of l)) k.working;
@@ -209,6 +212,7 @@ module _ (w : Carrying) (p : Spaces) (s : State) (u x : ℕ) (k : Links w p s) (
       well_formed = bring-well u s k.well_formed;
       few = k.few;
       shown = λ e y. updated-all (λ y o. o ≡ None → (kept' y).deleted ≡ true) p.user_from_global x (Some u) (λ q. absurd cc) y (λ n h. ap (λ d. d.deleted) (updated-other p.kept x fresh y n) ∙ k.shown e y h);
+      told = k.told;
     },
   )
 

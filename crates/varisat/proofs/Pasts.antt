@@ -16,6 +16,8 @@ use Rattle.varisat.specs.Models.{list_names, model_of, AreNamesInUse, IsCompleta
 use Rattle.varisat.specs.Additions as additions
 use Rattle.varisat.specs.Additions.{Gave, AllAdded, OneRefused, RefusedAtOnce, NoFault, MemoryFault, Fault, ClauseRefused, ClausesAdded, RefusedEarly, FaultInText, Whole, MemoryRanOut, SourceFailed, Read, Unread}
 use Rattle.varisat.specs.Calls as state
+use Rattle.varisat_theory.specs.Journals.{Entry}
+use Rattle.varisat.specs.Journals.{retold}
 use Rattle.varisat.specs.Calls.{IsPastLimit, MayConstrain, IsCrowded, IsLike, with_naming, start, with_steps, answer_of, reopened_verdict, assumed_verdict, VerdictAfter}
 use Rattle.varisat.specs.Budgets.{CountsSteps}
 use Rattle.varisat.specs.Updates as updates
@@ -236,8 +238,8 @@ add-text p s t old new r g (Unread e (v, k) n) = (p, Unread e (sym g.valid ∙ v
 -- 5. A new variable.
 
 -- The state has the names m now, and the past may have other flags. All else that is known stays.
-knows-like : (p : Past) (s t : State) (m : Naming) (b : Bool) (l : Ledger) (n i : ℕ) (c : Settings) → IsLike (record s { naming = m; ever_hidden = b; ledger = l }) t → IsCapped m → Knows p s → Knows (record p { naming = m; steps = n; since = i; settings = c }) t
-knows-like p s t m b l n i c e h k = record {
+knows-like : (p : Past) (s t : State) (m : Naming) (b : Bool) (l : Ledger) (told : List Entry) (n i : ℕ) (c : Settings) → IsLike (record s { naming = m; ever_hidden = b; ledger = l; told = told }) t → IsCapped m → Knows p s → Knows (record p { naming = m; steps = n; since = i; settings = c }) t
+knows-like p s t m b l told n i c e h k = record {
   naming = e.naming;
   capped = subst IsCapped (sym e.naming) h;
   clauses = e.clauses ∙ k.clauses;
@@ -252,7 +254,7 @@ knows-like p s t m b l n i c e h k = record {
 named : (p : Past) (s t : State) (u : ℕ) → IsLike (start (with_naming (name_one u s.naming) s)) t → Knows p s → Knows (record p { naming = name_one u p.naming; since = 0 }) t
 named p s t u e k =
     subst (λ (m : Naming). Knows (record p { naming = m; since = 0 }) t) (ap (name_one u) k.naming)
-    (knows-like p s t (name_one u s.naming) s.ever_hidden (start s).ledger p.steps 0 p.settings e (capped-one u s.naming k.capped) k)
+    (knows-like p s t (name_one u s.naming) s.ever_hidden (start s).ledger s.told p.steps 0 p.settings e (capped-one u s.naming k.capped) k)
 
 pub make-var : (p : Past) (s t : State) (r : Result ℕ SolverError) → Agrees p s → state.MakesVar s r t → Leads (past.MakesVar p r) t
 make-var p s t (Ok u) g (v, free, small, e) =
@@ -276,7 +278,7 @@ renamed p s t m b e c g v = record {
   steps = ap (λ x. x.steps) e.ledger ∙ g.steps;
   since = ap (λ x. x.since) e.ledger;
   settings = ap (λ x. x.settings) e.ledger ∙ g.settings;
-  knows = λ _. knows-like p s t m b (record s.ledger { since = 0 }) p.steps 0 p.settings e c (g.knows v);
+  knows = λ _. knows-like p s t m b (record s.ledger { since = 0 }) s.told p.steps 0 p.settings e c (g.knows v);
 }
 
 -- a name is assumed in both or in none
@@ -418,13 +420,13 @@ few-steps p s t b g k r =
     (is-unknown-or-not s.verdict)
 
 -- the ledger alone changes
-told-on : (p : Past) (s t : State) (n i : ℕ) (c : Settings) → IsLike (record s { ledger = t.ledger }) t → Knows p s → Knows (record p { steps = n; since = i; settings = c }) t
+told-on : (p : Past) (s t : State) (n i : ℕ) (c : Settings) → IsLike (record s { ledger = t.ledger; told = t.told }) t → Knows p s → Knows (record p { steps = n; since = i; settings = c }) t
 told-on p s t n i c e k =
     subst (λ (m : Naming). Knows (record p { naming = m; steps = n; since = i; settings = c }) t) k.naming
-    (knows-like p s t s.naming s.ever_hidden t.ledger n i c e k.capped k)
+    (knows-like p s t s.naming s.ever_hidden t.ledger t.told n i c e k.capped k)
 
-like-told : (s t : State) (n : ℕ) → IsLike (with_steps n s) t → IsLike (record s { ledger = t.ledger }) t
-like-told s t n e = record { naming = e.naming; ever_hidden = e.ever_hidden; clauses = e.clauses; assumptions = e.assumptions; counted = e.counted; verdict = e.verdict; ledger = refl }
+like-told : (s t : State) (n : ℕ) → IsLike (retold t.told (with_steps n s)) t → IsLike (record s { ledger = t.ledger; told = t.told }) t
+like-told s t n e = record { naming = e.naming; ever_hidden = e.ever_hidden; clauses = e.clauses; assumptions = e.assumptions; counted = e.counted; verdict = e.verdict; ledger = refl; told = e.told }
 
 -- some assignment satisfies the clauses and the assumptions where true is returned
 some-with : (p : Past) (s t : State) → Knows p s → state.TellsVerdict s true t → IsSatisfiableWith p.clauses p.assumptions

@@ -1,23 +1,31 @@
--- Lines to what is held, over identities, and to what was forgotten.
-use Rattle.std.proofs.Common.{◌≡◌, ℕ, ◌/◌, Bool, true, false, not, ◌||◌, nat_eq, List, [], ◌∷◌, ◌++◌, ◌⊎◌, inl, inr, ⊎_elim, sym, ap, ◌∙◌, subst, refl, map, append_assoc, eq-eqb, ne_eqb}
+-- What was told leads to what the search holds, over identities, and to what it forgot.
+use Rattle.std.proofs.Common.{◌≡◌, ℕ, ◌/◌, Bool, true, false, not, ◌||◌, nat_eq, Option, Some, None, List, [], ◌∷◌, ◌++◌, ◌⊎◌, inl, inr, ⊎_elim, sym, ap, ◌∙◌, subst, refl, map, append_assoc, eq-eqb, ne_eqb}
 use Rattle.std.proofs.lemmas.List.{map-append, append-nil}
-use Rattle.varisat_theory.specs.Membership.{◌∈◌, SameSet}
-use Rattle.varisat_theory.specs.Literals.{Literal, Clause, variable_of}
+use Rattle.varisat_theory.specs.Membership.{◌∈◌, ◌⊆◌, SameSet}
+use Rattle.varisat_theory.specs.Literals.{Literal, Clause, variable_of, opposite}
 use Rattle.varisat_theory.specs.Propagation.{Conflicts}
-use Rattle.varisat_theory.specs.Derivations.{Line, TakesOut, Derives}
+use Rattle.varisat_theory.specs.Derivations.{Line, TakesOut}
 use Rattle.varisat_theory.specs.Held.{SameClauses, mentions, unless, without}
-use Rattle.varisat_theory.specs.Renaming.{KeepsOpposites, rename}
-use Rattle.varisat_theory.specs.Searches.{Search}
-use Rattle.varisat_theory.specs.Outcomes.{Outcome, Holds, IsReached}
+use Rattle.varisat_theory.specs.Renaming.{KeepsOpposites, rename, rename_line}
+use Rattle.varisat_theory.specs.Counted.{DerivesBy}
+use Rattle.varisat_theory.specs.Journals.{Entry, Accepts, Leaves, Follow, Leads, LeadsBy, written, GoesOn}
+use Rattle.varisat_theory.specs.Searches.{Search, Fits, IsLiteralOf}
+use Rattle.varisat_theory.specs.Outcomes.{Outcome, Holds}
 use Rattle.varisat_theory.specs.Outcomes as outcome
 use Rattle.varisat_theory.proofs.Members.{∈-append_left, ∈-append_right, ∈-append_cases}
 use Rattle.varisat_theory.proofs.Growth.{conflicts_more, covered_by_more}
-use Rattle.varisat_theory.proofs.Held.{same_set-self, same_add, same_clauses-self, same_clauses-back}
-use Rattle.varisat_theory.proofs.Renaming.{conflicts_renamed, same_clauses_renamed}
-use Rattle.varisat_theory.proofs.Reached.{reached_self, reached_same, reached_one_more, reached_derived, reached_refuted, reached_renamed}
+use Rattle.varisat_theory.proofs.Held.{same_set-self, same_add, same_clauses-self, same_clauses-back, same_clauses-through, conflicts_same}
+use Rattle.varisat_theory.proofs.HeldDrops.{without_less, without_append, same_without}
+use Rattle.varisat_theory.proofs.Renaming.{map-∈, conflicts_renamed, same_clauses_renamed}
+use Rattle.varisat_theory.proofs.StepDrops.{variable_is_dropped}
+use Rattle.varisat_theory.proofs.Journals.{leads_append, by_leads, by_leads_same, written_by, goes_on, by_renamed, by_beside}
+use Rattle.varisat_prop.proofs.LiteralValues.{own-opposite}
+use Rattle.varisat_names.proofs.Maps.{is-some}
 use Rattle.varisat.specs.Carried.{carry}
-use Rattle.varisat.specs.Spaces.{Translation, IsReachedWithForgotten, HasProof}
-use Rattle.varisat.proofs.Carried.{carry-opposite}
+use Rattle.varisat.specs.Spaces.{Translation, SharesHeld, HeldFits}
+use Rattle.varisat.specs.Journals.{ToldConflict}
+use Rattle.varisat_search.proofs.StepOutcome.{variable-literal}
+use Rattle.varisat.proofs.Carried.{carry-at, carry-opposite}
 use Rattle.varisat.proofs.SpacesAgree.{carry-same, rename-same}
 
 -- 1. Lists that hold the same clauses.
@@ -32,11 +40,6 @@ same-more P Q (c ∷ R) s =
 pub same-after : (R P Q : List Clause) → SameClauses P Q → SameClauses (R ++ P) (R ++ Q)
 same-after [] P Q s = s
 same-after (c ∷ R) P Q s = (R ++ Q, ([], c, R ++ Q, refl, same_set-self c, refl), same-after R P Q s)
-
--- a clause behind others stands in front of them
-pub same-back : (P Q : List Clause) (c : Clause) → SameClauses ((P ++ Q) ++ c ∷ []) ((P ++ c ∷ []) ++ Q)
-same-back P Q c =
-    subst (λ x. SameClauses x ((P ++ c ∷ []) ++ Q)) (sym (append_assoc P Q (c ∷ []))) (subst (SameClauses (P ++ (Q ++ c ∷ []))) (sym (append_assoc P (c ∷ []) Q)) (same-after P (Q ++ c ∷ []) (c ∷ Q) (same_clauses-back (c ∷ Q) (Q ++ c ∷ []) (Q, (Q, c, [], refl, same_set-self c, sym (append-nil Q)), same_clauses-self Q))))
 
 -- 2. Clauses that mention a variable.
 
@@ -68,21 +71,21 @@ abbrev pub only : ℕ → List Clause → List Clause
 only v [] = []
 only v (c ∷ P) = unless (not (mentions v c)) c (only v P)
 
-pub divided : (v : ℕ) (P : List Clause) → SameClauses P (without v P ++ only v P)
+pub divided : (v : ℕ) (P : List Clause) → SameClauses P (only v P ++ without v P)
 divided v [] = refl
 divided v (c ∷ P) = go (mentions v c) (divided v P)
   where
-    go : (b : Bool) → SameClauses P (without v P ++ only v P) → SameClauses (c ∷ P) (unless b c (without v P) ++ unless (not b) c (only v P))
-    go true s = (without v P ++ only v P, (without v P, c, only v P, refl, same_set-self c, refl), s)
-    go false s = (without v P ++ only v P, ([], c, without v P ++ only v P, refl, same_set-self c, refl), s)
+    go : (b : Bool) → SameClauses P (only v P ++ without v P) → SameClauses (c ∷ P) (unless (not b) c (only v P) ++ unless b c (without v P))
+    go true s = (only v P ++ without v P, ([], c, only v P ++ without v P, refl, same_set-self c, refl), s)
+    go false s = (only v P ++ without v P, (only v P, c, without v P, refl, same_set-self c, refl), s)
 
 -- Where the variable gets another name, what mentions it keeps the old one among the forgotten clauses.
-pub renamed-apart : (v : ℕ) (f g : Literal → Literal) (held F : List Clause) → ((c : Clause) (l : Literal) → c ∈ without v held → l ∈ c → f l ≡ g l) → SameClauses (rename f held ++ F) (rename g (without v held) ++ (rename f (only v held) ++ F))
-renamed-apart v f g held F e =
-    let split = same_clauses_renamed f held (without v held ++ only v held) (divided v held) in
-    let names : rename f (without v held ++ only v held) ≡ rename g (without v held) ++ rename f (only v held) = map-append (map f) (without v held) (only v held) ∙ ap (λ x. x ++ rename f (only v held)) (rename-same f g (without v held) e) in
-    subst (SameClauses (rename f held ++ F)) (append_assoc (rename g (without v held)) (rename f (only v held)) F)
-    (same-more (rename f held) (rename g (without v held) ++ rename f (only v held)) F (subst (SameClauses (rename f held)) names split))
+pub renamed-apart : (v : ℕ) (f g : Literal → Literal) (share F : List Clause) → ((c : Clause) (l : Literal) → c ∈ without v share → l ∈ c → f l ≡ g l) → SameClauses (F ++ rename f share) ((F ++ rename f (only v share)) ++ rename g (without v share))
+renamed-apart v f g share F e =
+    let split = same_clauses_renamed f share (only v share ++ without v share) (divided v share) in
+    let names : rename f (only v share ++ without v share) ≡ rename f (only v share) ++ rename g (without v share) = map-append (map f) (only v share) (without v share) ∙ ap (λ x. rename f (only v share) ++ x) (rename-same f g (without v share) e) in
+    subst (SameClauses (F ++ rename f share)) (sym (append_assoc F (rename f (only v share)) (rename g (without v share))))
+    (same-after F (rename f share) (rename f (only v share) ++ rename g (without v share)) (subst (SameClauses (rename f share)) names split))
 
 -- 3. A clause that is taken out.
 
@@ -97,64 +100,244 @@ left-in P d Q c (front, x, back, e, s, f) h =
     i)
     (∈-append_cases c front (x ∷ back) (subst (λ y. c ∈ y) e h))
 
--- 4. Lines.
+-- 4. Clauses over solver variables that are not in use are forgotten.
 
--- a clause that was forgotten comes back
-pub reached-back : (P A F R : List Clause) (d : Clause) → IsReached P (A ++ F) → TakesOut F d R → IsReached P ((A ++ d ∷ []) ++ R)
-reached-back P A F R d r t =
-    reached_same P (A ++ F) ((A ++ d ∷ []) ++ R) r (subst (SameClauses (A ++ F)) (sym (append_assoc A (d ∷ []) R)) (same-after A F (d ∷ R) (same_clauses-back (d ∷ R) F (R, t, same_clauses-self R))))
+-- The search is over variables in use. What it shares of the clauses H, without clauses over the variables that are not.
+pub record Cleaned (to : ℕ → Option ℕ) (s : Search) (H share F : List Clause) (vs : List ℕ) : Type 0 where
+  pub clean : List Clause
+  pub forgotten : List Clause
+  pub same : SameClauses H (forgotten ++ rename (carry to) clean)
+  pub fits : Fits clean s
+  pub part : clean ⊆ share
+  pub more : F ⊆ forgotten
+  pub apart : (v : ℕ) → v ∈ vs → to v ≡ None → (c : Clause) (l : Literal) → c ∈ clean → l ∈ c → variable_of l ≡ v → ⊥
 
-pub reached-more : (P Q R : List Clause) → IsReached P Q → IsReached (P ++ R) (Q ++ R)
-reached-more P Q [] r = subst (λ x. IsReached x (Q ++ [])) (sym (append-nil P)) (subst (IsReached P) (sym (append-nil Q)) r)
-reached-more P Q (c ∷ R) r =
-    subst (λ x. IsReached x (Q ++ c ∷ R)) (append_assoc P (c ∷ []) R) (subst (IsReached ((P ++ c ∷ []) ++ R)) (append_assoc Q (c ∷ []) R) (reached-more (P ++ c ∷ []) (Q ++ c ∷ []) R (reached_one_more P Q c r)))
+-- the proved literals are fixed
+pub proved-fixed : (held : List Clause) (t : Search) → Fits held t → (l : Literal) → l ∈ t.proved → l ∈ t.fixed
+proved-fixed held t f l h =
+    let (d, i, u) = f.units l h in
+    ⊎_elim
+    (λ (m, j, o). absurd (own-opposite m (u.1 (opposite m) o ∙ sym (u.1 m j))))
+    (λ (m, j, o). subst (λ y. y ∈ t.fixed) (u.1 m j) o)
+    (f.settled d i)
 
-pub reached-through : (P Q R : List Clause) → IsReached P Q → IsReached Q R → IsReached P R
-reached-through P Q R r t = reached_same P t.last R (reached_derived P Q t.lines t.last r t.derives) t.same
+-- what fits a search that is not over the variable does so without the clauses that mention it
+pub fits-without : (v : ℕ) (share : List Clause) (s : Search) → ((l : Literal) → IsLiteralOf s l → variable_of l ≡ v → ⊥) → Fits share s → Fits (without v share) s
+fits-without v share s other f =
+    variable_is_dropped s s v share refl (λ c a. unmentioned v c.clause (λ l b. other l (inr (c, a, b)))) (λ l a n. a) (λ l a. (a, other l (inl (proved-fixed share s f l a)))) f
 
--- lines that stand for others under new names, beside more clauses
-pub reached-beside : (f : Literal → Literal) → KeepsOpposites f → (held : List Clause) (lines : List Line) (after F : List Clause) → Derives held lines after → IsReached (rename f held ++ F) (rename f after ++ F)
-reached-beside f o held lines after F d = reached-more (rename f held) (rename f after) F (reached_renamed f held after o (reached_derived held held lines after (reached_self held) d))
+module _ (to : ℕ → Option ℕ) (s : Search) (within : (l : Literal) → IsLiteralOf s l → (i : ℕ) × (to (variable_of l) ≡ Some i)) where
+  not-in : (v : ℕ) → to v ≡ None → (l : Literal) → IsLiteralOf s l → variable_of l ≡ v → ⊥
+  not-in v e l a q = let (i, f) = within l a in let z : None ≡ Some i = sym e ∙ ap to (sym q) ∙ f in cc
 
-pub conflicts-beside : (f : Literal → Literal) → KeepsOpposites f → (held F : List Clause) → Conflicts held [] → Conflicts (rename f held ++ F) []
-conflicts-beside f o held F k = conflicts_more (rename f held) (rename f held ++ F) [] [] (covered_by_more (rename f held) (rename f held ++ F) (λ c h. ∈-append_left c (rename f held) F h)) (λ l h. h) (conflicts_renamed f o held [] k)
+  -- one more variable that is in use
+  with-it : (v x : ℕ) (vs : List ℕ) (H share F : List Clause) → to v ≡ Some x → Cleaned to s H share F vs → Cleaned to s H share F (v ∷ vs)
+  with-it v x vs H share F e rest = record {
+    clean = rest.clean;
+    forgotten = rest.forgotten;
+    same = rest.same;
+    fits = rest.fits;
+    part = rest.part;
+    more = rest.more;
+    apart = λ u. elim [ inl q ↦ λ n. absurd (let z : None ≡ Some x = sym n ∙ ap to q ∙ e in cc) | inr h ↦ rest.apart u h ];
+  }
 
--- 5. What a search holds.
+  -- one more that is not, and that the clauses do not mention any more
+  without-it : (v : ℕ) (vs : List ℕ) (H share F : List Clause) → Cleaned to s H (without v share) (F ++ rename (carry to) (only v share)) vs → Cleaned to s H share F (v ∷ vs)
+  without-it v vs H share F rest = record {
+    clean = rest.clean;
+    forgotten = rest.forgotten;
+    same = rest.same;
+    fits = rest.fits;
+    part = λ c h. without_less v share c (rest.part c h);
+    more = λ c h. rest.more c (∈-append_left c F (rename (carry to) (only v share)) h);
+    apart = λ u. elim [ inl q ↦ λ n c l h i o. left-apart v share c l (rest.part c h) i (o ∙ q) | inr h ↦ rest.apart u h ];
+  }
 
--- lines go on from what is held
-pub reached-on : (P : List Clause) (r : Translation) (held : List Clause) (lines : List Line) (after : List Clause) → IsReachedWithForgotten P r held → Derives held lines after → IsReachedWithForgotten P r after
-reached-on P r held lines after q d =
+  pub cleaned : (vs : List ℕ) (H share F : List Clause) → SameClauses H (F ++ rename (carry to) share) → Fits share s → Cleaned to s H share F vs
+  cleaned [] H share F same fits = record { clean = share; forgotten = F; same = same; fits = fits; part = λ c h. h; more = λ c h. h; apart = λ v h. absurd h }
+  cleaned (v ∷ vs) H share F same fits =
+      let gone = rename (carry to) (only v share) in
+      ⊎_elim
+      (λ e. without-it v vs H share F (cleaned vs H (without v share) (F ++ gone) (same_clauses-through H (F ++ rename (carry to) share) ((F ++ gone) ++ rename (carry to) (without v share)) same (renamed-apart v (carry to) (carry to) share F (λ c l h i. refl))) (fits-without v share s (not-in v e) fits)))
+      (λ (x, e). with-it v x vs H share F e (cleaned vs H share F same fits))
+      (is-some (to v))
+
+-- the variables of the clauses
+abbrev variables_in : Clause → List ℕ
+variables_in c = map variable_of c
+
+abbrev all_variables : List Clause → List ℕ
+all_variables [] = []
+all_variables (c ∷ P) = variables_in c ++ all_variables P
+
+in-variables : (c : Clause) (l : Literal) → l ∈ c → variable_of l ∈ variables_in c
+in-variables [] l h = absurd h
+in-variables (m ∷ c) l (inl e) = inl (ap variable_of e)
+in-variables (m ∷ c) l (inr h) = inr (in-variables c l h)
+
+in-all : (P : List Clause) (c : Clause) (l : Literal) → c ∈ P → l ∈ c → variable_of l ∈ all_variables P
+in-all [] c l h i = absurd h
+in-all (d ∷ P) c l (inl e) i = ∈-append_left (variable_of l) (variables_in d) (all_variables P) (in-variables d l (subst (λ x. l ∈ x) e i))
+in-all (d ∷ P) c l (inr h) i = ∈-append_right (variable_of l) (variables_in d) (all_variables P) (in-all P c l h i)
+
+-- 5. What a search shares of what is held.
+
+-- the lines over identities, as entries
+abbrev pub told_lines : Translation → List Line → List Entry
+told_lines r lines = written (map (rename_line (carry r.identity)) lines)
+
+-- what the entries of lines lead to, from what is held
+pub record LinesLead (n : ℕ) (r : Translation) (F share : List Clause) (lines : List Line) (after : List Clause) : Type 0 where
+  pub held : List Clause
+  pub led : Leads [] (r.told ++ told_lines r lines) held
+  pub same : SameClauses held (F ++ rename (carry r.identity) after)
+  pub goes : GoesOn n r.told (told_lines r lines)
+
+pub lines-lead : (n : ℕ) (r : Translation) (share : List Clause) (lines : List Line) (after : List Clause) (q : SharesHeld r share) → DerivesBy n share lines after → LinesLead n r q.forgotten share lines after
+lines-lead n r share lines after q d =
     let f = carry r.identity in
+    let ls = map (rename_line f) lines in
+    let on = by_beside q.forgotten n (rename f share) ls (rename f after) (by_renamed f (carry-opposite r.identity) n share lines after d) in
+    let (H, by, s) = by_leads_same n (q.forgotten ++ rename f share) q.held (written ls) (q.forgotten ++ rename f after) (same_clauses-back q.held (q.forgotten ++ rename f share) q.same) (written_by n (q.forgotten ++ rename f share) ls (q.forgotten ++ rename f after) on) in
     record {
-      forgotten = q.forgotten;
-      reached = reached-through P (rename f held ++ q.forgotten) (rename f after ++ q.forgotten) q.reached (reached-beside f (carry-opposite r.identity) held lines after q.forgotten d);
-      units = q.units;
+      held = H;
+      led = leads_append [] r.told q.held (written ls) H q.led (by_leads n q.held (written ls) H by);
+      same = same_clauses-back (q.forgotten ++ rename f after) H s;
+      goes = goes_on n r.told (written ls) q.held H q.led by;
     }
 
--- and tell of it, whatever the verdict is
-pub proved-on : (P : List Clause) (r : Translation) (held : List Clause) (lines : List Line) (after : List Clause) (t : Search) (v : Outcome) → IsReachedWithForgotten P r held → Derives held lines after → Holds after t v → HasProof P r after v
-proved-on P r held lines after t outcome.Unknown q d h = reached-on P r held lines after q d
-proved-on P r held lines after t (outcome.Sat found) q d h = reached-on P r held lines after q d
-proved-on P r held lines after t (outcome.UnsatUnder core) q d h = reached-on P r held lines after q d
-proved-on P r held lines after t outcome.Unsat q d h =
-    let on = reached-on P r held lines after q d in
-    reached_refuted P (rename (carry r.identity) after ++ on.forgotten) on.reached (conflicts-beside (carry r.identity) (carry-opposite r.identity) after on.forgotten h)
+-- told once more
+abbrev pub with_told : List Entry → Translation → Translation
+with_told told r = record r { told = told }
+
+-- What a search shares after lines, by its verdict: the clauses over variables in use.
+pub record SharesAfter (r : Translation) (t : Search) (v : Outcome) (lines : List Line) (after : List Clause) : Type 0 where
+  pub share : List Clause
+  pub part : share ⊆ after
+  pub holds : Holds share t v
+  pub fits : HeldFits (with_told (r.told ++ told_lines r lines) r) share v
+
+module _ (r : Translation) (share : List Clause) (n : ℕ) (lines : List Line) (after : List Clause) (q : SharesHeld r share) (d : DerivesBy n share lines after) (t : Search) (within : (l : Literal) → IsLiteralOf t l → (i : ℕ) × (r.identity (variable_of l) ≡ Some i)) where
+  shares-fits : Fits after t → (clean : List Clause) × (clean ⊆ after) × Fits clean t × SharesHeld (with_told (r.told ++ told_lines r lines) r) clean
+  shares-fits fits =
+      let on = lines-lead n r share lines after q d in
+      let z = cleaned r.identity t within (all_variables after) on.held after q.forgotten on.same fits in
+      (z.clean, z.part, z.fits, record {
+        held = on.held;
+        led = on.led;
+        forgotten = z.forgotten;
+        same = z.same;
+        inside = λ c l h i. ⊎_elim (λ e. absurd (z.apart (variable_of l) (in-all after c l (z.part c h) i) e c l h i refl)) (λ e. e) (is-some (r.identity (variable_of l)));
+        units = λ i b x e g none. let (c, h, u) = q.units i b x e g none in (c, z.more c h, u);
+      })
+
+  told-conflict : Conflicts after [] → ToldConflict (r.told ++ told_lines r lines)
+  told-conflict k =
+      let on = lines-lead n r share lines after q d in
+      let f = carry r.identity in
+      let all = q.forgotten ++ rename f after in
+      (on.held, on.led, conflicts_same all on.held [] (same_clauses-back on.held all on.same) (conflicts_more (rename f after) all [] [] (covered_by_more (rename f after) all (λ c h. ∈-append_right c q.forgotten (rename f after) h)) (λ l h. h) (conflicts_renamed f (carry-opposite r.identity) after [] k)))
+
+  pub shares-after : (v : Outcome) → ((core : List Literal) → v ≡ outcome.UnsatUnder core → ⊥) → Holds after t v → SharesAfter r t v lines after
+  shares-after outcome.Unknown plain h = let (c, p, f, q) = shares-fits h in record { share = c; part = p; holds = f; fits = q }
+  shares-after (outcome.Sat found) plain h = let (c, p, f, q) = shares-fits h in record { share = c; part = p; holds = f; fits = q }
+  shares-after outcome.Unsat plain h = record { share = after; part = λ c i. i; holds = h; fits = told-conflict h }
+  shares-after (outcome.UnsatUnder core) plain h = absurd (plain core refl)
 
 -- an accepted clause joins what is held
-pub reached-joined : (P : List Clause) (r : Translation) (held : List Clause) (c d : Clause) → map (carry r.identity) d ≡ c → IsReachedWithForgotten P r held → IsReachedWithForgotten (P ++ c ∷ []) r (held ++ d ∷ [])
-reached-joined P r held c d e q =
+pub shares-joined : (r : Translation) (share : List Clause) (c d : Clause) → map (carry r.identity) d ≡ c → ((l : Literal) → l ∈ d → (i : ℕ) × (r.identity (variable_of l) ≡ Some i)) → SharesHeld r share → SharesHeld (with_told (r.told ++ Accepts c ∷ []) r) (share ++ d ∷ [])
+shares-joined r share c d e in-use q =
     let f = carry r.identity in
-    let names : rename f held ++ c ∷ [] ≡ rename f (held ++ d ∷ []) = ap (λ x. rename f held ++ x ∷ []) (sym e) ∙ sym (map-append (map f) held (d ∷ [])) in
+    let names : (q.forgotten ++ rename f share) ++ c ∷ [] ≡ q.forgotten ++ rename f (share ++ d ∷ []) = append_assoc q.forgotten (rename f share) (c ∷ []) ∙ ap (λ x. q.forgotten ++ (rename f share ++ x ∷ [])) (sym e) ∙ ap (λ x. q.forgotten ++ x) (sym (map-append (map f) share (d ∷ []))) in
     record {
+      held = q.held ++ c ∷ [];
+      led = leads_append [] r.told q.held (Accepts c ∷ []) (q.held ++ c ∷ []) q.led (q.held ++ c ∷ [], refl, refl);
       forgotten = q.forgotten;
-      reached = subst (λ x. IsReached (P ++ c ∷ []) (x ++ q.forgotten)) names (reached_same (P ++ c ∷ []) ((rename f held ++ q.forgotten) ++ c ∷ []) ((rename f held ++ c ∷ []) ++ q.forgotten) (reached_one_more P (rename f held ++ q.forgotten) c q.reached) (same-back (rename f held) q.forgotten c));
+      same = subst (SameClauses (q.held ++ c ∷ [])) names (same_add q.held (q.forgotten ++ rename f share) c c q.same (same_set-self c));
+      inside = λ x l h i. ⊎_elim (λ a. q.inside x l a i) (λ a. ⊎_elim (λ z. in-use l (subst (λ y. l ∈ y) z i)) (λ z. absurd z) a) (∈-append_cases x share (d ∷ []) h);
       units = q.units;
     }
 
--- A variable gets an identity. What is held and mentions it is forgotten, over the names before.
-pub reached-apart : (P : List Clause) (r r' : Translation) (v : ℕ) (held : List Clause) → ((u : ℕ) → (u ≡ v → ⊥) → r'.identity u ≡ r.identity u) → (q : IsReachedWithForgotten P r held) → IsReached P (rename (carry r'.identity) (without v held) ++ (rename (carry r.identity) (only v held) ++ q.forgotten))
-reached-apart P r r' v held other q =
+-- A variable gets an identity, or loses it. What is held and mentions it is forgotten, over the names before.
+pub same-apart : (r r' : Translation) (v : ℕ) (share : List Clause) → ((u : ℕ) → (u ≡ v → ⊥) → r'.identity u ≡ r.identity u) → (q : SharesHeld r share) → SameClauses q.held ((q.forgotten ++ rename (carry r.identity) (only v share)) ++ rename (carry r'.identity) (without v share))
+same-apart r r' v share other q =
     let f = carry r.identity in
     let g = carry r'.identity in
-    reached_same P (rename f held ++ q.forgotten) (rename g (without v held) ++ (rename f (only v held) ++ q.forgotten)) q.reached
-    (renamed-apart v f g held q.forgotten (λ c l h i. carry-same r.identity r'.identity l (sym (other (variable_of l) (left-apart v held c l h i)))))
+    same_clauses-through q.held (q.forgotten ++ rename f share) ((q.forgotten ++ rename f (only v share)) ++ rename g (without v share)) q.same
+    (renamed-apart v f g share q.forgotten (λ c l h i. carry-same r.identity r'.identity l (sym (other (variable_of l) (left-apart v share c l h i)))))
+
+-- what is left is over variables that are in use still
+pub inside-apart : (r r' : Translation) (v : ℕ) (share : List Clause) → ((u : ℕ) → (u ≡ v → ⊥) → r'.identity u ≡ r.identity u) → SharesHeld r share → (c : Clause) (l : Literal) → c ∈ without v share → l ∈ c → (i : ℕ) × (r'.identity (variable_of l) ≡ Some i)
+inside-apart r r' v share other q c l h i = let (j, e) = q.inside c l (without_less v share c h) i in (j, other (variable_of l) (left-apart v share c l h i) ∙ e)
+
+-- a clause that was forgotten comes back, behind all others
+pub taken-behind : (F A R : List Clause) (d : Clause) → TakesOut F d R → SameClauses (F ++ A) (R ++ (A ++ d ∷ []))
+taken-behind F A R d out =
+    let moved : SameClauses (d ∷ (R ++ A)) ((R ++ A) ++ d ∷ []) = (R ++ A, (R ++ A, d, [], refl, same_set-self d, sym (append-nil (R ++ A))), same_clauses-self (R ++ A)) in
+    subst (SameClauses (F ++ A)) (append_assoc R A (d ∷ []))
+    (same_clauses-through (F ++ A) (d ∷ (R ++ A)) ((R ++ A) ++ d ∷ []) (same-more F (d ∷ R) A (same_clauses-back (d ∷ R) F (R, out, same_clauses-self R))) moved)
+
+-- An entry is told that changes nothing of what is held.
+module _ (r : Translation) (e : Entry) (quiet : (held : List Clause) → Leads [] r.told held → Follow held e held) where
+  led-on : (held : List Clause) → Leads [] r.told held → Leads [] (r.told ++ e ∷ []) held
+  led-on held d = leads_append [] r.told held (e ∷ []) held d (held, quiet held d, refl)
+
+  shares-quiet : (share : List Clause) → SharesHeld r share → SharesHeld (with_told (r.told ++ e ∷ []) r) share
+  shares-quiet share q = record { held = q.held; led = led-on q.held q.led; forgotten = q.forgotten; same = q.same; inside = q.inside; units = q.units }
+
+  pub told-quiet : (share : List Clause) (v : Outcome) → HeldFits r share v → HeldFits (with_told (r.told ++ e ∷ []) r) share v
+  told-quiet share outcome.Unknown q = shares-quiet share q
+  told-quiet share (outcome.Sat found) q = shares-quiet share q
+  told-quiet share outcome.Unsat (held, d, c) = (held, led-on held d, c)
+  told-quiet share (outcome.UnsatUnder core) q = shares-quiet share q
+
+-- 6. An identity is gone for good.
+
+not-mentioned : (v : ℕ) (P : List Clause) → ((c : Clause) (l : Literal) → c ∈ P → l ∈ c → variable_of l ≡ v → ⊥) → without v P ≡ P
+not-mentioned v [] n = refl
+not-mentioned v (c ∷ P) n = ap (λ b. unless b c (without v P)) (unmentioned v c (λ l i e. n c l (inl refl) i e)) ∙ ap (λ x. c ∷ x) (not-mentioned v P (λ d l h i e. n d l (inr h) i e))
+
+still-there : (v : ℕ) (P : List Clause) (c : Clause) → c ∈ P → mentions v c ≡ false → c ∈ without v P
+still-there v [] c h e = absurd h
+still-there v (d ∷ P) c (inl q) e = subst (λ b. c ∈ unless b d (without v P)) (sym (ap (mentions v) (sym q) ∙ e)) (inl q)
+still-there v (d ∷ P) c (inr h) e = go (mentions v d) (still-there v P c h e)
+  where
+    go : (b : Bool) → c ∈ without v P → c ∈ unless b d (without v P)
+    go true i = i
+    go false i = inr i
+
+-- what is told as an identity is gone: under Unsat nothing
+abbrev pub leaving : Outcome → ℕ → List Entry
+leaving outcome.Unsat i = []
+leaving _ i = Leaves i ∷ []
+
+-- No solver variable stands for the identity i, which is live no longer; solver variables stand for what they stood for.
+module _ (r r' : Translation) (i : ℕ) (none : (v : ℕ) → r.identity v ≡ Some i → ⊥) (same : (v : ℕ) → r'.identity v ≡ r.identity v) (forced : (j : ℕ) → r'.forced j ≡ r.forced j) (live : (j x : ℕ) → r'.global j ≡ Some x → (j ≡ i → ⊥) × (r.global j ≡ Some x)) where
+  shares-gone : (share : List Clause) → r'.told ≡ r.told ++ Leaves i ∷ [] → SharesHeld r share → SharesHeld r' share
+  shares-gone share e q =
+      let f = carry r.identity in
+      let R = rename f share in
+      let apart : without i R ≡ R = not-mentioned i R (λ c l h a z.
+      let (d, b, o) = map-∈ (map f) c share h in
+      let (m, n, y) = map-∈ f l d (subst (λ x. l ∈ x) o a) in
+      let (j, g) = q.inside d m b n in
+      none (variable_of m) (g ∙ ap Some (sym (carry-at r.identity m j g) ∙ ap variable_of (sym y) ∙ z))) in
+      let left : SameClauses (without i q.held) (without i q.forgotten ++ R) = subst (SameClauses (without i q.held)) (without_append i q.forgotten R ∙ ap (λ x. without i q.forgotten ++ x) apart) (same_without i q.held (q.forgotten ++ R) q.same) in
+      record {
+        held = without i q.held;
+        led = subst (λ es. Leads [] es (without i q.held)) (sym e) (leads_append [] r.told q.held (Leaves i ∷ []) (without i q.held) q.led (without i q.held, refl, refl));
+        forgotten = without i q.forgotten;
+        same = subst (λ x. SameClauses (without i q.held) (without i q.forgotten ++ x)) (rename-same f (carry r'.identity) share (λ c l h a. sym (carry-same r'.identity r.identity l (same (variable_of l))))) left;
+        inside = λ c l h a. let (j, g) = q.inside c l h a in (j, same (variable_of l) ∙ g);
+        units = λ j b x o l n.
+            let (other, was) = live j x l in
+            let (c, h, u) = q.units j b x (sym (forced j) ∙ o) was (λ v g. n v (same v ∙ g)) in
+            (c, still-there i q.forgotten c h (unmentioned i c (λ m a z. other (sym (variable-literal j b) ∙ ap variable_of (sym (u.1 m a)) ∙ z))), u);
+      }
+
+  pub told-gone : (share : List Clause) (v : Outcome) → r'.told ≡ r.told ++ leaving v i → HeldFits r share v → HeldFits r' share v
+  told-gone share outcome.Unknown e q = shares-gone share e q
+  told-gone share (outcome.Sat found) e q = shares-gone share e q
+  told-gone share outcome.Unsat e q = subst ToldConflict (sym (e ∙ append-nil r.told)) q
+  told-gone share (outcome.UnsatUnder core) e q = shares-gone share e q

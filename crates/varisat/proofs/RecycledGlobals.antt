@@ -1,16 +1,21 @@
 -- A global variable without a name may be used again.
-use Rattle.std.proofs.Common.{◌≡◌, ℕ, ◌<◌, true, false, Option, Some, None, sym, ap, ◌∙◌, subst, refl}
+use Rattle.std.proofs.Common.{◌≡◌, ℕ, ◌<◌, true, false, Option, Some, None, List, ◌++◌, sym, ap, ◌∙◌, subst, refl}
 use Rattle.varisat_theory.specs.Membership.{◌∈◌}
 use Rattle.varisat_theory.specs.Literals.{Literal, variable_of}
 use Rattle.varisat_names.specs.Maps.{updated, chain}
 use Rattle.varisat_names.specs.VarData.{dead}
 use Rattle.varisat_names.specs.declared.variables.data.VarData.{VarData}
 use Rattle.varisat_names.specs.declared.variables.data.SamplingMode.TheVariants as sampling
-use Rattle.varisat_names.proofs.Maps.{updated-at, updated-other, updated-all, parted, chain-same}
+use Rattle.varisat_names.proofs.Maps.{updated-at, updated-other, updated-all, parted, chain-same, chain-through}
 use Rattle.varisat.specs.States.{State}
-use Rattle.varisat.specs.Spaces.{Spaces, Carrying, ModeFits, IdentitiesFit, NamesFit, ModesFit, UnitsFit, IsolationCase, NotIsolated, Apart, Forced, IsolationFits, MarksFit, without_core, translation, Links, SpacesFit}
+use Rattle.varisat.specs.Spaces.{Spaces, Carrying, ModeFits, IdentitiesFit, NamesFit, ModesFit, UnitsFit, IsolationCase, NotIsolated, Apart, Forced, IsolationFits, MarksFit, without_core, Translation, translation, Links, SpacesFit}
 use Rattle.varisat.proofs.SpacesAgree.{working-same, holds-same, verdict-moved}
+use Rattle.varisat_theory.specs.Journals.{Entry}
+use Rattle.varisat.specs.Journals.{retold, TellsMore}
 use Rattle.varisat.proofs.VariableMoves.{recycle}
+use Rattle.varisat.proofs.CallStates.{told-well}
+use Rattle.varisat.proofs.ReachedHeld.{leaving, told-gone}
+use Rattle.varisat.proofs.ToldEntries.{tells, leaving-goes, leaving-told}
 
 module _ (w : Carrying) (p : Spaces) (s : State) (x i : ℕ) (k : Links w p s) (at : w.identity x ≡ Some i) (unnamed : p.user_from_global x ≡ None) (unsolved : p.solver_from_global x ≡ None) (alone : (p.kept x).isolated ≡ true) where
   id' : ℕ → Option ℕ
@@ -85,10 +90,25 @@ module _ (w : Carrying) (p : Spaces) (s : State) (x i : ℕ) (k : Links w p s) (
   unfolding id'
   identity-same v = chain-same p.global_from_solver id' w.identity v (λ y h. updated-other w.identity x None y (solver-other v y h))
 
-  pub recycled : SpacesFit (recycle x p) s
+  none-for : (v : ℕ) → chain p.global_from_solver w.identity v ≡ Some i → ⊥
+  none-for v e =
+      let (y, f, g) = chain-through p.global_from_solver w.identity v i e in
+      let z : Some y ≡ Some x = sym (k.identities.one_to_one.there y i g) ∙ k.identities.one_to_one.there x i at in
+      solver-other v y f (let q : y ≡ x = cc in q)
+
+  -- a variable that had no name was hidden
+  was-hidden : s.ever_hidden ≡ false → ⊥
+  was-hidden e = let z : true ≡ false = sym (k.shown e x unnamed) ∙ k.identities.live x i at in cc
+
+  pub recycled : (told : List Entry) × TellsMore 0 s.told told × SpacesFit (recycle x p) (retold told s)
   unfolding id' kept'
-  recycled = (
-    record { identity = id'; global = updated w.global i None; forced = w.forced },
+  recycled =
+      let gone = leaving (without_core p.outcome) i in
+      let before = translation w p s.told in
+      let after : Translation = record { identity = chain p.global_from_solver id'; global = updated w.global i None; forced = w.forced; told = s.told ++ gone } in (
+    s.told ++ gone,
+    tells 0 s.told gone (leaving-goes s.told (without_core p.outcome) i),
+    (record { identity = id'; global = updated w.global i None; forced = w.forced },
     record {
       identities = left-identities;
       names = left-names;
@@ -98,8 +118,9 @@ module _ (w : Carrying) (p : Spaces) (s : State) (x i : ℕ) (k : Links w p s) (
       units = left-units;
       isolation = left-isolation;
       solvers = record { one_to_one = k.solvers.one_to_one; live = λ v y h. let (j, e, c) = k.solvers.live v y h in (j, left y j e (solver-other v y h), c) };
-      holds = holds-same s.clauses (translation w p s.ever_hidden) (record { identity = chain p.global_from_solver id'; forced = w.forced; hidden = s.ever_hidden }) p.search (without_core p.outcome)
-          identity-same (λ j. refl) refl k.holds;
+      holds = holds-same s.clauses before after p.search (without_core p.outcome) identity-same (λ j. refl)
+          (λ share q. told-gone before after i none-for identity-same (λ j. refl) (λ j y. updated-all (λ j o. o ≡ Some y → (j ≡ i → ⊥) × (w.global j ≡ Some y)) w.global i None (λ e. absurd cc) j (λ n e. (n, e))) share (without_core p.outcome) refl q)
+          k.holds;
       assumptions = k.assumptions;
       marks = left-marks;
       working = working-same s.clauses (chain p.global_from_solver w.identity) (chain p.global_from_solver id') s.assumptions p.working (λ l h. identity-same (variable_of l)) k.working;
@@ -108,8 +129,9 @@ module _ (w : Carrying) (p : Spaces) (s : State) (x i : ℕ) (k : Links w p s) (
           k.verdict;
       core = k.core;
       right = k.right;
-      well_formed = k.well_formed;
+      well_formed = told-well s (retold (s.told ++ gone) s) k.well_formed;
       few = k.few;
       shown = λ e y. updated-all (λ y d. p.user_from_global y ≡ None → d.deleted ≡ true) p.kept x dead (λ _. refl) y (λ n h. k.shown e y h);
-    },
+      told = leaving-told s.told s.clauses s.ever_hidden (without_core p.outcome) i was-hidden k.told;
+    }),
   )

@@ -79,6 +79,7 @@ module _ (g : Summary) (s : State) (new : Tables) (x v : ℕ) (b : Bool) (t : Vi
             (λ same. let n = k.few in omega (arith, n, r.count, r.count_before, same))
             (λ full. let n = solvers-few w moved s (length new.solvers.backward) k (λ u h e. full u h (r.is_taken.solvers.backward.at_each u ∙ e)) in omega (arith, n, r.count))
             (taken-full g.tables new x v r.is_taken);
+        told = k.told;
       })
 
   told : SpacesFit (record moved { var_count = length t.values }) s → SpacesFit (spaces_of new t parts g.sat_state) s
@@ -112,7 +113,7 @@ module _ (g : Summary) (s : State) (new : Tables) (x v : ℕ) (b : Bool) (t : Vi
         w,
         counted-on w (⊎_elim
             (λ (a, e). subst (λ y. Links w (record (take_solver x v (spaces g)) { search = y }) s) (sym (r.unsat a)) (taken w (spaces g) s x i v k is known r.was_left r.is_taken.least.0 (inr e)))
-            (λ (a, e). resurrected w (spaces g) s x i v b (search_of t) [] k is known r.was_left r.is_taken.least.0 r.unit e r.long
+            (λ (a, e). resurrected w (spaces g) s x i v b (search_of t) k is known r.was_left r.is_taken.least.0 r.unit e r.long
             (λ l h. let (y, q) = r.in_use l h in (y, sym (r.is_taken.solvers.backward.at_each (variable_of l)) ∙ q))
             (r.loads a))
             (unsat-or g.search g.assumed.failed_core g.sat_state r.no_model)),

@@ -1,12 +1,15 @@
 -- A search that goes on.
-use Rattle.std.proofs.Common.{◌≡◌, ◌≢◌, ℕ, false, Option, Some, List, [], ◌∷◌, ◌⊎◌, inl, inr, ⊎_elim, sym, ap, ◌∙◌, subst, refl}
+use Rattle.std.proofs.Common.{◌≡◌, ◌≢◌, ℕ, false, Option, Some, List, [], ◌∷◌, ◌++◌, ◌⊎◌, inl, inr, ⊎_elim, sym, ap, ◌∙◌, subst, refl}
 use Rattle.varisat_theory.specs.Membership.{◌∈◌, ◌⊆◌}
 use Rattle.varisat_theory.specs.Literals.{Literal, Clause, Assignment, variable_of, opposite, IsSatisfiable}
-use Rattle.varisat_theory.specs.Derivations.{Line, Derives}
+use Rattle.varisat_theory.specs.Derivations.{Line}
+use Rattle.varisat_theory.specs.Counted.{DerivesBy}
+use Rattle.varisat_theory.specs.Journals.{GoesOn}
 use Rattle.varisat_theory.specs.Searches.{Search, KeptClause, IsSettled, Covers, CoversBy, IsLiteralOf}
 use Rattle.varisat_theory.specs.Outcomes.{Outcome, Holds, Answers}
 use Rattle.varisat_theory.specs.Outcomes as outcome
 use Rattle.varisat_theory.proofs.Sound.{conflicts_sound, derives_sound}
+use Rattle.varisat_theory.proofs.StepCounts.{by_derives}
 use Rattle.varisat_theory.proofs.StepCovers.{still_covered}
 use Rattle.varisat_prop.proofs.LiteralValues.{own-opposite}
 use Rattle.varisat.specs.Names.{identity_of}
@@ -14,7 +17,7 @@ use Rattle.varisat.specs.Carried.{carry, AgreesAlong, is_forced}
 use Rattle.varisat.specs.Spaces.{Translation, SearchHolds}
 use Rattle.varisat.proofs.SpacesMoves.{AreLong}
 use Rattle.varisat.proofs.Carried.{carry-opposite}
-use Rattle.varisat.proofs.ReachedHeld.{proved-on}
+use Rattle.varisat.proofs.ReachedHeld.{told_lines, with_told, lines-lead, shares-after}
 
 -- a literal that is covered alone is fixed
 pub fixed-alone : (t : Search) (l : Literal) → AreLong t → IsSettled t (l ∷ []) ⊎ ((k : KeptClause) × (k ∈ t.kept) × (k.learned ≡ false) × (k.clause ⊆ (l ∷ []))) → l ∈ t.fixed
@@ -51,29 +54,34 @@ module _ (P : List Clause) (r : Translation) (s t : Search) (v : Outcome) (h : S
       (λ d g. covers n (d ∷ []) (λ x. elim [ inl e ↦ subst (λ y. IsSettled s y ⊎ ((k : KeptClause) × (k ∈ s.kept) × (k.learned ≡ false) × (k.clause ⊆ y))) (sym e) g | inr z ↦ absurd z ]) d (inl refl))
       c (h.covered (λ e. let q : outcome.Unknown ≡ outcome.Unsat = e in cc) c i)
 
-  -- the clauses that a proof holds after some lines
-  pub held-on : (lines : List Line) (after : List Clause) → Derives h.held lines after → Holds after t v → ((l : Literal) → IsLiteralOf t l → (i : ℕ) × (r.identity (variable_of l) ≡ Some i)) → SearchHolds P r t v
-  held-on lines after d holds within = record {
-    held = after;
-    holds = holds;
-    within = within;
-    implied = λ a b m g. derives_sound h.held lines after b d (h.implied a b m g);
-    known = h.known;
-    fixed = λ n l i e f. fixed-on n l (h.fixed (λ e. let q : outcome.Unknown ≡ outcome.Unsat = e in cc) l i e f);
-    covered = covered-on;
-    proved = λ z. proved-on P r h.held lines after t v (h.proved z) d holds;
-  }
+  -- the clauses that a proof holds after some lines, which it was told
+  pub held-on : (n : ℕ) (lines : List Line) (after : List Clause) → DerivesBy n h.held lines after → Holds after t v → ((core : List Literal) → v ≡ outcome.UnsatUnder core → ⊥) → ((l : Literal) → IsLiteralOf t l → (i : ℕ) × (r.identity (variable_of l) ≡ Some i)) → SearchHolds P (with_told (r.told ++ told_lines r lines) r) t v
+  held-on n lines after d holds plain within =
+      let z = shares-after r h.held n lines after h.told d t within v plain holds in
+      record {
+        held = z.share;
+        holds = z.holds;
+        within = within;
+        implied = λ a b m g c i. derives_sound h.held lines after b (by_derives n h.held lines after d) (h.implied a b m g) c (z.part c i);
+        known = h.known;
+        fixed = λ n l i e f. fixed-on n l (h.fixed (λ e. let q : outcome.Unknown ≡ outcome.Unsat = e in cc) l i e f);
+        covered = covered-on;
+        told = z.fits;
+      }
+
+  pub held-goes : (n : ℕ) (lines : List Line) (after : List Clause) → DerivesBy n h.held lines after → GoesOn n r.told (told_lines r lines)
+  held-goes n lines after d = (lines-lead n r h.held lines after h.told d).goes
 
 -- A model that was found says nothing of what is held.
 pub without-model : (P : List Clause) (r : Translation) (t : Search) (found : Assignment) → SearchHolds P r t (outcome.Sat found) → SearchHolds P r t outcome.Unknown
 without-model P r t found h =
     let o : outcome.Sat found ≢ outcome.Unsat = (λ q. let z : outcome.Sat found ≡ outcome.Unsat = q in cc) in
-    record { held = h.held; holds = h.holds; within = h.within; implied = h.implied; known = h.known; fixed = λ _. h.fixed o; covered = λ _. h.covered o; proved = h.proved }
+    record { held = h.held; holds = h.holds; within = h.within; implied = h.implied; known = h.known; fixed = λ _. h.fixed o; covered = λ _. h.covered o; told = h.told }
 
 pub with-model : (P : List Clause) (r : Translation) (t : Search) (found : Assignment) → SearchHolds P r t outcome.Unknown → SearchHolds P r t (outcome.Sat found)
 with-model P r t found h =
     let o : outcome.Unknown ≢ outcome.Unsat = (λ q. let z : outcome.Unknown ≡ outcome.Unsat = q in cc) in
-    record { held = h.held; holds = h.holds; within = h.within; implied = h.implied; known = h.known; fixed = λ _. h.fixed o; covered = λ _. h.covered o; proved = h.proved }
+    record { held = h.held; holds = h.holds; within = h.within; implied = h.implied; known = h.known; fixed = λ _. h.fixed o; covered = λ _. h.covered o; told = h.told }
 
 -- under Unsat no assignment satisfies the accepted clauses
 pub refuted : (P : List Clause) (r : Translation) (t : Search) → SearchHolds P r t outcome.Unsat → IsSatisfiable P → ⊥

@@ -2,7 +2,7 @@
 use Rattle.std.proofs.Common.{◌≡◌, ◌≤◌, ℕ, length, ◌∙◌, refl}
 use Rattle.varisat_names.specs.declared.variables.data.VarData.{VarData}
 use Rattle.varisat.specs.States.{State, HasRightVerdict, IsWellFormed}
-use Rattle.varisat.specs.Spaces.{Spaces, Carrying, translation, SolversFit, SearchHolds, AssumptionsFit, IsolationFits, MarksFit, WorkingFits, CoreFits, VerdictFits, without_core, Links}
+use Rattle.varisat.specs.Spaces.{Spaces, Carrying, translation, SolversFit, IsTold, SearchHolds, AssumptionsFit, IsolationFits, MarksFit, WorkingFits, CoreFits, VerdictFits, without_core, Links}
 use Rattle.varisat.proofs.CallStates.{told_as, told-well}
 use Rattle.varisat.proofs.SpacesAgree.{identities-same, modes-same, units-same}
 
@@ -22,13 +22,14 @@ with_search_side q p = record p {
 -- What links the search to the state.
 pub record SearchLinks (w : Carrying) (p : Spaces) (s : State) : Type 0 where
   pub solvers : SolversFit w.identity p.solver_from_global p.global_from_solver s.counted
-  pub holds : SearchHolds s.clauses (translation w p s.ever_hidden) p.search (without_core p.outcome)
+  pub holds : SearchHolds s.clauses (translation w p s.told) p.search (without_core p.outcome)
   pub assumptions : AssumptionsFit p.global_from_user p.solver_from_global s.naming.names p.assumptions s.assumptions
-  pub working : WorkingFits s.clauses (translation w p s.ever_hidden).identity s.assumptions p.working
+  pub working : WorkingFits s.clauses (translation w p s.told).identity s.assumptions p.working
   pub verdict : VerdictFits w.identity p.model p.outcome s.verdict
   pub core : CoreFits s.naming.names p.core s.verdict
   pub right : HasRightVerdict s
   pub few : p.var_count ≤ length s.counted
+  pub told : IsTold s.told s.clauses s.ever_hidden
 
 pub relinked : (w : Carrying) (p q : Spaces) (s t : State) → Links w p s → SearchLinks w (with_search_side q p) (told_as t s) → Links w (with_search_side q p) (told_as t s)
 relinked w p q s t k l = record {
@@ -50,6 +51,7 @@ relinked w p q s t k l = record {
   well_formed = told-well s t k.well_formed;
   few = l.few;
   shown = k.shown;
+  told = l.told;
 }
 
 -- Of what is kept of global variables nothing changed but whether they are isolated and whether they are assumed.
@@ -62,9 +64,9 @@ pub record AreRemarked (kept after : ℕ → VarData) : Type 0 where
 abbrev pub with_marks : Spaces → Spaces → Spaces
 with_marks q p = record (with_search_side q p) { kept = q.kept; assumptions = q.assumptions }
 
--- the state, with the clauses, the assumptions and the verdict of another
+-- the state, with the clauses, the assumptions, the verdict and what was told of another
 abbrev pub asked_as : State → State → State
-asked_as t s = record s { clauses = t.clauses; assumptions = t.assumptions; verdict = t.verdict }
+asked_as t s = record s { clauses = t.clauses; assumptions = t.assumptions; verdict = t.verdict; told = t.told }
 
 -- Marks changed too, and what the state was asked: what was said of the names and the units stays.
 pub relinked-marks : (w : Carrying) (p q : Spaces) (s t : State) → Links w p s → AreRemarked p.kept q.kept → IsolationFits w.identity w.forced q.kept t.clauses s.naming.made → MarksFit p.global_from_user q.kept q.assumptions → IsWellFormed (asked_as t s) → SearchLinks w (with_marks q p) (asked_as t s) → Links w (with_marks q p) (asked_as t s)
@@ -87,4 +89,5 @@ relinked-marks w p q s t k a isolation marks well l = record {
   well_formed = well;
   few = l.few;
   shown = λ o y h. a.deleted y ∙ k.shown o y h;
+  told = l.told;
 }

@@ -1,12 +1,20 @@
 -- A search that finds a verdict, and spaces that agree.
-use Rattle.std.proofs.Common.{◌≡◌, ◌≢◌, ℕ, ◌≤◌, Bool, true, Option, Some, List, [], ◌∷◌, inl, inr, ⊎_elim, sym, ap, ◌∙◌, subst, refl, map, length, arith}
+use Rattle.std.proofs.Common.{◌≡◌, ◌≢◌, ℕ, suc, ◌≤◌, Bool, true, Option, Some, List, [], ◌∷◌, ◌++◌, inl, inr, ⊎_elim, sym, ap, ◌∙◌, subst, refl, map, length, arith}
 use Rattle.varisat_theory.specs.Membership.{◌∈◌, ◌⊆◌}
 use Rattle.varisat_theory.specs.Literals.{Literal, Clause, Assignment, variable_of, literal_of, value, SatisfiesAll, MakesTrue, IsSatisfiableWith, IsFailedCore}
-use Rattle.varisat_theory.specs.Derivations.{Line}
+use Rattle.varisat_theory.specs.Derivations.{Line, Add, Delete}
+use Rattle.varisat_theory.specs.Propagation.{Conflicts}
+use Rattle.varisat_theory.specs.Renaming.{rename, rename_line}
+use Rattle.varisat_theory.specs.Journals.{Entry, Fails, Leads, lines_of}
+use Rattle.varisat_theory.specs.Counted.{added}
+use Rattle.varisat_theory.proofs.Journals.{leads_unique, written_lines}
+use Rattle.varisat_theory.proofs.Members.{∈-append_right}
+use Rattle.varisat_theory.proofs.Growth.{conflicts_more, covered_by_more}
+use Rattle.varisat_theory.proofs.Held.{same_clauses-back, conflicts_same}
 use Rattle.varisat_theory.specs.Searches.{Search, IsLiteralOf}
 use Rattle.varisat_theory.specs.Outcomes.{Outcome, Holds, MakesSteps}
 use Rattle.varisat_theory.specs.Outcomes as outcome
-use Rattle.varisat_theory.proofs.Renaming.{∈-map, map-∈}
+use Rattle.varisat_theory.proofs.Renaming.{∈-map, map-∈, conflicts_renamed}
 use Rattle.varisat_theory.proofs.Sound.{conflicts_sound, derives_sound}
 use Rattle.varisat_theory.proofs.StepCounts.{by_derives}
 use Rattle.varisat_theory.proofs.StepsMade.{names_satisfied}
@@ -19,21 +27,24 @@ use Rattle.varisat.specs.States.{State, Verdict, Unknown, Sat, Unsat, UnsatUnder
 use Rattle.varisat.specs.Names.{identity_of}
 use Rattle.varisat.specs.Calls.{with_verdict}
 use Rattle.varisat.specs.Carried.{carry, is_forced, value_or}
-use Rattle.varisat.specs.Spaces.{Spaces, Carrying, Translation, translation, SearchHolds, AssumptionsFit, MarksFit, WorkingFits, CoreFits, without_core, VerdictFits, Links, SpacesFit}
+use Rattle.varisat.specs.Spaces.{Spaces, Carrying, Translation, translation, IsTold, SearchHolds, AssumptionsFit, MarksFit, WorkingFits, CoreFits, without_core, VerdictFits, Links, SpacesFit}
+use Rattle.varisat.specs.Journals.{retold, TellsMore}
 use Rattle.varisat.proofs.SpacesMoves.{AreLong, AreInUse}
+use Rattle.varisat.proofs.ReachedHeld.{told_lines, lines-lead, told-quiet}
+use Rattle.varisat.proofs.ToldEntries.{tells-also, told-written, told-failed}
 use Rattle.varisat_names.proofs.Maps.{chain-some, chain-through, is-some}
-use Rattle.varisat.proofs.SpacesAgree.{identities-same, names-same, modes-same, units-same, isolation-same, solvers-same, assumptions-same, marks-same, working-same, holds-same, value-same}
-use Rattle.varisat.proofs.Carried.{value-true, true-value, value-carry, forced-value}
+use Rattle.varisat.proofs.SpacesAgree.{identities-same, names-same, modes-same, units-same, isolation-same, solvers-same, assumptions-same, marks-same, working-same, holds-same, told-same, value-same}
+use Rattle.varisat.proofs.Carried.{carry-opposite, value-true, true-value, value-carry, forced-value}
 use Rattle.varisat.proofs.SearchLinks.{relinked}
 use Rattle.varisat.proofs.SearchHeld.{answers-covers, agrees-through, held-on, without-model, refuted}
 
 -- the identity of the solver variable leads back to it
-there-back : (w : Carrying) (p : Spaces) (s : State) (k : Links w p s) (v i : ℕ) → (translation w p s.ever_hidden).identity v ≡ Some i → chain w.global p.solver_from_global i ≡ Some v
+there-back : (w : Carrying) (p : Spaces) (s : State) (k : Links w p s) (v i : ℕ) → (translation w p s.told).identity v ≡ Some i → chain w.global p.solver_from_global i ≡ Some v
 there-back w p s k v i e =
     let (x, f, g) = chain-through p.global_from_solver w.identity v i e in
     chain-some w.global p.solver_from_global i x (k.identities.one_to_one.there x i g) ∙ k.solvers.one_to_one.back x v f
 
-back-there : (w : Carrying) (p : Spaces) (s : State) (k : Links w p s) (v i : ℕ) → chain w.global p.solver_from_global i ≡ Some v → ((translation w p s.ever_hidden).identity v ≡ Some i) × (i ∈ s.counted)
+back-there : (w : Carrying) (p : Spaces) (s : State) (k : Links w p s) (v i : ℕ) → chain w.global p.solver_from_global i ≡ Some v → ((translation w p s.told).identity v ≡ Some i) × (i ∈ s.counted)
 back-there w p s k v i e =
     let (x, f, g) = chain-through w.global p.solver_from_global i v e in
     let h = k.solvers.one_to_one.there x v g in
@@ -41,22 +52,26 @@ back-there w p s k v i e =
     let q : Some r.0 ≡ Some i = sym r.1 ∙ k.identities.one_to_one.back x i f in
     (chain-some p.global_from_solver w.identity v x h ∙ k.identities.one_to_one.back x i f, subst (λ j. j ∈ s.counted) (let z : r.0 ≡ i = cc in z) r.2)
 
+-- what is told once steps were made with the lines
+abbrev pub told-with : Carrying → Spaces → State → List Line → List Entry
+told-with w p s lines = s.told ++ told_lines (translation w p s.told) lines
+
 -- the spaces with a verdict that was found
 abbrev pub decide : Search → Outcome → (ℕ → Bool) → List Literal → List Literal → Spaces → Spaces
 decide t v m working core p = record p { search = t; outcome = v; model = m; working = working; core = core }
 
 -- another verdict of the state, which is right
-decided : (w : Carrying) (p : Spaces) (s : State) (t : Search) (v : Outcome) (m : ℕ → Bool) (ws core : List Literal) (x : Verdict) → Links w p s → SearchHolds s.clauses (translation w p s.ever_hidden) t (without_core v) → WorkingFits s.clauses (translation w p s.ever_hidden).identity s.assumptions ws → VerdictFits w.identity m v x → CoreFits s.naming.names core x → IsRight s.clauses s.assumptions s.counted x → Links w (decide t v m ws core p) (with_verdict x s)
-decided w p s t v m ws core x k holds working fits told right =
-    relinked w p (decide t v m ws core p) s (with_verdict x s) k (record { solvers = k.solvers; holds = holds; assumptions = k.assumptions; working = working; verdict = fits; core = told; right = right; few = k.few })
+decided : (w : Carrying) (p : Spaces) (s : State) (told : List Entry) → IsTold told s.clauses s.ever_hidden → (t : Search) (v : Outcome) (m : ℕ → Bool) (ws core : List Literal) (x : Verdict) → Links w p s → SearchHolds s.clauses (translation w p told) t (without_core v) → WorkingFits s.clauses (translation w p s.told).identity s.assumptions ws → VerdictFits w.identity m v x → CoreFits s.naming.names core x → IsRight s.clauses s.assumptions s.counted x → Links w (decide t v m ws core p) (retold told (with_verdict x s))
+decided w p s told is-told t v m ws core x k holds working fits names right =
+    relinked w p (decide t v m ws core p) s (retold told (with_verdict x s)) k (record { solvers = k.solvers; holds = holds; assumptions = k.assumptions; working = working; verdict = fits; core = names; right = right; few = k.few; told = is-told })
 
 -- where the verdict isn't Unsat, what was found may be forgotten
 pub forgotten : (w : Carrying) (p : Spaces) (s : State) → Links w p s → s.verdict ≢ Unsat → Links w (decide p.search outcome.Unknown p.model p.working p.core p) (with_verdict Unknown s)
-forgotten w p s k n = decided w p s p.search outcome.Unknown p.model p.working p.core Unknown k (go p.outcome s.verdict k.holds k.verdict n) k.working tt tt tt
+forgotten w p s k n = decided w p s s.told k.told p.search outcome.Unknown p.model p.working p.core Unknown k (go p.outcome s.verdict k.holds k.verdict n) k.working tt tt tt
   where
-    go : (v : Outcome) (x : Verdict) → SearchHolds s.clauses (translation w p s.ever_hidden) p.search (without_core v) → VerdictFits w.identity p.model v x → x ≢ Unsat → SearchHolds s.clauses (translation w p s.ever_hidden) p.search outcome.Unknown
+    go : (v : Outcome) (x : Verdict) → SearchHolds s.clauses (translation w p s.told) p.search (without_core v) → VerdictFits w.identity p.model v x → x ≢ Unsat → SearchHolds s.clauses (translation w p s.told) p.search outcome.Unknown
     go outcome.Unknown x h f n = h
-    go (outcome.Sat found) x h f n = without-model s.clauses (translation w p s.ever_hidden) p.search found h
+    go (outcome.Sat found) x h f n = without-model s.clauses (translation w p s.told) p.search found h
     go outcome.Unsat Unknown h f n = absurd f
     go outcome.Unsat (Sat a) h f n = absurd f
     go outcome.Unsat Unsat h f n = absurd (n refl)
@@ -66,7 +81,19 @@ forgotten w p s k n = decided w p s p.search outcome.Unknown p.model p.working p
 -- and where the state has a core, it may come back
 pub core-known : (w : Carrying) (p : Spaces) (s : State) (found core : List Literal) → Links w p s → p.outcome ≡ outcome.Unknown → CoreFits s.naming.names p.core (UnsatUnderAssumptions core) → IsFailedCore s.clauses s.assumptions core → Links w (record p { outcome = outcome.UnsatUnder found }) (with_verdict (UnsatUnderAssumptions core) s)
 core-known w p s found core k unknown told right =
-    decided w p s p.search (outcome.UnsatUnder found) p.model p.working p.core (UnsatUnderAssumptions core) k (subst (SearchHolds s.clauses (translation w p s.ever_hidden) p.search) (ap without_core unknown) k.holds) k.working tt told right
+    decided w p s s.told k.told p.search (outcome.UnsatUnder found) p.model p.working p.core (UnsatUnderAssumptions core) k (subst (SearchHolds s.clauses (translation w p s.told) p.search) (ap without_core unknown) k.holds) k.working tt told right
+
+added-renamed : (f : Literal → Literal) (lines : List Line) → added (map (rename_line f) lines) ≡ added lines
+added-renamed f [] = refl
+added-renamed f (Add c ∷ lines) = ap (λ n. suc n) (added-renamed f lines)
+added-renamed f (Delete c ∷ lines) = added-renamed f lines
+
+-- without its core a verdict has none
+plain-without : (v : Outcome) (core : List Literal) → without_core v ≡ outcome.UnsatUnder core → ⊥
+plain-without outcome.Unknown core e = let z : outcome.Unknown ≡ outcome.UnsatUnder core = e in cc
+plain-without (outcome.Sat found) core e = let z : outcome.Sat found ≡ outcome.UnsatUnder core = e in cc
+plain-without outcome.Unsat core e = let z : outcome.Unsat ≡ outcome.UnsatUnder core = e in cc
+plain-without (outcome.UnsatUnder found) core e = let z : outcome.Unknown ≡ outcome.UnsatUnder core = e in cc
 
 -- what is held says as much without the core
 holds-without : (held : List Clause) (t : Search) (v : Outcome) → Holds held t v → Holds held t (without_core v)
@@ -94,35 +121,62 @@ working-on P r s v as' x y h k f = record {
 
 -- Steps were made, and left some of the assumptions.
 module _ (w : Carrying) (p : Spaces) (s : State) (k : Links w p s) (unknown : p.outcome ≡ outcome.Unknown) (t : Search) (v : Outcome) (n : ℕ) (lines : List Line) (made : MakesSteps n p.search t v lines) (long : AreLong t) (in-use : AreInUse p t) where
-  before : SearchHolds s.clauses (translation w p s.ever_hidden) p.search outcome.Unknown
-  before = subst (SearchHolds s.clauses (translation w p s.ever_hidden) p.search) (ap without_core unknown) k.holds
+  before : SearchHolds s.clauses (translation w p s.told) p.search outcome.Unknown
+  before = subst (SearchHolds s.clauses (translation w p s.told) p.search) (ap without_core unknown) k.holds
 
   -- what the search holds after the steps
-  pub steps-hold : SearchHolds s.clauses (translation w p s.ever_hidden) t (without_core v)
+  pub steps-hold : SearchHolds s.clauses (translation w p (told-with w p s lines)) t (without_core v)
   steps-hold =
       let (after, d, o) = made.holds before.held before.holds in
-      held-on s.clauses (translation w p s.ever_hidden) p.search t (without_core v) before long
+      held-on s.clauses (translation w p s.told) p.search t (without_core v) before long
       (λ e Q g. answers-covers Q t v (λ q. e (ap without_core q)) (made.answers Q g))
-      lines after (by_derives n before.held lines after d) (holds-without after t v o)
+      n lines after d (holds-without after t v o) (plain-without v)
       (λ l a. let (x, b) = in-use l a in let q = k.solvers.live (variable_of l) x b in (q.0, chain-some p.global_from_solver w.identity (variable_of l) x b ∙ q.1))
 
+  pub steps-tell : TellsMore n s.told (told-with w p s lines)
+  steps-tell = let (after, d, o) = made.holds before.held before.holds in record { entries = told_lines (translation w p s.told) lines; joined = refl; goes = (lines-lead n (translation w p s.told) before.held lines after before.told d).goes }
+
+  -- where the search goes on, each step added a clause at least
+  pub steps-add : v ≡ outcome.Unknown → n ≤ added (lines_of steps-tell.entries)
+  unfolding steps-tell
+  steps-add e = subst (λ m. n ≤ m) (sym (ap added (written_lines (map (rename_line (carry (translation w p s.told).identity)) lines)) ∙ added-renamed (carry (translation w p s.told).identity) lines)) (made.adds before.held before.holds e)
+
+  pub steps-are-told : IsTold (told-with w p s lines) s.clauses s.ever_hidden
+  steps-are-told = told-written s.told s.clauses s.ever_hidden (map (rename_line (carry (translation w p s.told).identity)) lines) k.told
+
+  -- the core that is found, over identities, conflicts with what is held
+  core-conflicts : (found : List Literal) → v ≡ outcome.UnsatUnder found → (held : List Clause) → Leads [] (told-with w p s lines) held → Conflicts held (map (carry (translation w p s.told).identity) found)
+  core-conflicts found e held led =
+      let (after, d, o) = made.holds before.held before.holds in
+      let on = lines-lead n (translation w p s.told) before.held lines after before.told d in
+      let f = carry (translation w p s.told).identity in
+      let all = before.told.forgotten ++ rename f after in
+      let core = map f found in
+      conflicts_same on.held held core (leads_unique [] [] (s.told ++ told_lines (translation w p s.told) lines) on.held held refl on.led led)
+      (conflicts_same all on.held core (same_clauses-back on.held all on.same)
+      (conflicts_more (rename f after) all core core (covered_by_more (rename f after) all (λ c h. ∈-append_right c before.told.forgotten (rename f after) h)) (λ l h. h)
+      (conflicts_renamed f (carry-opposite (translation w p s.told).identity) after found (subst (Holds after t) e o).1)))
+
   module _ (x y : AssumptionParts) (same : p.working ≡ x.working) (keeps : KeepsAssumptions p.search v x y) where
-    pub left : WorkingFits s.clauses (translation w p s.ever_hidden).identity s.assumptions y.working
-    left = working-on s.clauses (translation w p s.ever_hidden) p.search v s.assumptions x y before keeps (subst (WorkingFits s.clauses (translation w p s.ever_hidden).identity s.assumptions) same k.working)
+    pub left : WorkingFits s.clauses (translation w p s.told).identity s.assumptions y.working
+    left = working-on s.clauses (translation w p s.told) p.search v s.assumptions x y before keeps (subst (WorkingFits s.clauses (translation w p s.told).identity s.assumptions) same k.working)
 
     -- without a verdict
-    pub went-on : (m : ℕ → Bool) (core : List Literal) → v ≡ outcome.Unknown → Links w (decide t v m y.working core p) (with_verdict Unknown s)
-    went-on m core e = decided w p s t v m y.working core Unknown k steps-hold left (subst (λ y. VerdictFits w.identity m y Unknown) (sym e) tt) tt tt
+    pub went-on : (m : ℕ → Bool) (core : List Literal) → v ≡ outcome.Unknown → Links w (decide t v m y.working core p) (retold (told-with w p s lines) (with_verdict Unknown s))
+    went-on m core e = decided w p s (told-with w p s lines) steps-are-told t v m y.working core Unknown k steps-hold left (subst (λ y. VerdictFits w.identity m y Unknown) (sym e) tt) tt tt
 
-    pub unsat-found : (m : ℕ → Bool) (core : List Literal) → v ≡ outcome.Unsat → Links w (decide t v m y.working core p) (with_verdict Unsat s)
+    pub unsat-found : (m : ℕ → Bool) (core : List Literal) → v ≡ outcome.Unsat → Links w (decide t v m y.working core p) (retold (told-with w p s lines) (with_verdict Unsat s))
     unsat-found m core e =
-        let none = refuted s.clauses (translation w p s.ever_hidden) t (subst (SearchHolds s.clauses (translation w p s.ever_hidden) t) (ap without_core e) steps-hold) in
-        decided w p s t v m y.working core Unsat k steps-hold left (subst (λ y. VerdictFits w.identity m y Unsat) (sym e) tt) tt none
+        let none = refuted s.clauses (translation w p (told-with w p s lines)) t (subst (SearchHolds s.clauses (translation w p (told-with w p s lines)) t) (ap without_core e) steps-hold) in
+        decided w p s (told-with w p s lines) steps-are-told t v m y.working core Unsat k steps-hold left (subst (λ y. VerdictFits w.identity m y Unsat) (sym e) tt) tt none
 
     -- a core was found, which is told over names in use
-    pub core-found : (m : ℕ → Bool) (found told : List Literal) → v ≡ outcome.UnsatUnder found → ((l : Literal) → l ∈ told → (i : ℕ) × (s.naming.names (variable_of l) ≡ Some i)) → map (carry s.naming.names) told ≡ map (carry (translation w p s.ever_hidden).identity) found → Links w (decide t v m y.working told p) (with_verdict (UnsatUnderAssumptions (map (carry s.naming.names) told)) s)
+    pub core-tells : (found told : List Literal) → v ≡ outcome.UnsatUnder found → map (carry s.naming.names) told ≡ map (carry (translation w p s.told).identity) found → TellsMore n s.told ((told-with w p s lines) ++ Fails (map (carry s.naming.names) told) ∷ [])
+    core-tells found told e same-core = tells-also n s.told (told-with w p s lines) (Fails (map (carry s.naming.names) told) ∷ []) steps-tell (λ held d. (held, (held, (subst (Conflicts held) (sym same-core) (core-conflicts found e held d), refl), inl (tt, refl))))
+
+    pub core-found : (m : ℕ → Bool) (found told : List Literal) → v ≡ outcome.UnsatUnder found → ((l : Literal) → l ∈ told → (i : ℕ) × (s.naming.names (variable_of l) ≡ Some i)) → map (carry s.naming.names) told ≡ map (carry (translation w p s.told).identity) found → Links w (decide t v m y.working told p) (retold ((told-with w p s lines) ++ Fails (map (carry s.naming.names) told) ∷ []) (with_verdict (UnsatUnderAssumptions (map (carry s.naming.names) told)) s))
     core-found m found told e named same-core =
-        let to = (translation w p s.ever_hidden).identity in
+        let to = (translation w p s.told).identity in
         let as' = s.assumptions in
         let part : map (carry s.naming.names) told ⊆ as' = (λ l i.
         let (z, j, q) = map-∈ (carry to) l found (subst (λ xs. l ∈ xs) same-core i) in
@@ -132,20 +186,24 @@ module _ (w : Carrying) (p : Spaces) (s : State) (k : Links w p s) (unknown : p.
         let (after, d, o) = made.holds before.held before.holds in
         let all = derives_sound before.held lines after b (by_derives n before.held lines after d) (before.implied a b sat (agrees-through to a)) in
         conflicts_sound after found b all (carried-true to a found (subst (MakesTrue a) same-core true-core)) (subst (Holds after t) e o).1) in
-        decided w p s t v m y.working told (UnsatUnderAssumptions (map (carry s.naming.names) told)) k steps-hold left (subst (λ y. VerdictFits w.identity m y (UnsatUnderAssumptions (map (carry s.naming.names) told))) (sym e) tt) (named, refl) (part, none)
+        let last = Fails (map (carry s.naming.names) told) in
+        decided w p s ((told-with w p s lines) ++ last ∷ []) (told-failed (told-with w p s lines) s.clauses s.ever_hidden (map (carry s.naming.names) told) steps-are-told) t v m y.working told (UnsatUnderAssumptions (map (carry s.naming.names) told)) k
+        (holds-same s.clauses (translation w p (told-with w p s lines)) (translation w p ((told-with w p s lines) ++ last ∷ [])) t (without_core v) (λ u. refl) (λ i. refl)
+        (λ share q. told-quiet (translation w p (told-with w p s lines)) last (λ held d. (subst (Conflicts held) (sym same-core) (core-conflicts found e held d), refl)) share (without_core v) q) steps-hold)
+        left (subst (λ y. VerdictFits w.identity m y (UnsatUnderAssumptions (map (carry s.naming.names) told))) (sym e) tt) (named, refl) (part, none)
 
 module _ (w : Carrying) (p : Spaces) (s : State) (k : Links w p s) (unknown : p.outcome ≡ outcome.Unknown) (t : Search) (f : Assignment) (n : ℕ) (lines : List Line) (made : MakesSteps n p.search t (outcome.Sat f) lines) (long : AreLong t) (in-use : AreInUse p t) where
   pub found : Assignment
   found i = value_or (w.forced i) f (chain w.global p.solver_from_global i)
 
-  found-solved : (v i : ℕ) → (translation w p s.ever_hidden).identity v ≡ Some i → found i ≡ f v
+  found-solved : (v i : ℕ) → (translation w p s.told).identity v ≡ Some i → found i ≡ f v
   unfolding found
   found-solved v i e = ap (value_or (w.forced i) f) (there-back w p s k v i e)
 
-  found-literal : (l : Literal) → IsLiteralOf p.search l → value found (carry (translation w p s.ever_hidden).identity l) ≡ value f l
+  found-literal : (l : Literal) → IsLiteralOf p.search l → value found (carry (translation w p s.told).identity l) ≡ value f l
   found-literal l a =
       let (i, e) = k.holds.within l a in
-      value-carry (translation w p s.ever_hidden).identity found l ∙ value-same (λ v. found (identity_of ((translation w p s.ever_hidden).identity v))) f l (ap (λ o. found (identity_of o)) e ∙ found-solved (variable_of l) i e)
+      value-carry (translation w p s.told).identity found l ∙ value-same (λ v. found (identity_of ((translation w p s.told).identity v))) f l (ap (λ o. found (identity_of o)) e ∙ found-solved (variable_of l) i e)
 
   found-forced : (l : Literal) → is_forced w.forced l ≡ true → value found l ≡ true
   unfolding found
@@ -159,7 +217,7 @@ module _ (w : Carrying) (p : Spaces) (s : State) (k : Links w p s) (unknown : p.
           let q = (back-there w p s k v i o).0 in
           let h = before w p s k unknown t (outcome.Sat f) n lines made long in-use in
           let m = literal_of v b in
-          let z = h.fixed (λ q. let z : outcome.Unknown ≡ outcome.Unsat = q in cc) m i (ap (translation w p s.ever_hidden).identity (variable-literal v b) ∙ q) (e ∙ ap Some (sym (polarity-literal v b))) in
+          let z = h.fixed (λ q. let z : outcome.Unknown ≡ outcome.Unsat = q in cc) m i (ap (translation w p s.told).identity (variable-literal v b) ∙ q) (e ∙ ap Some (sym (polarity-literal v b))) in
           let (l, a, y) = (made.answers ((m ∷ []) ∷ []) (λ c. elim [ inl e ↦ inl (inr (m, subst (λ x. m ∈ x) (sym e) (inl refl), z)) | inr z ↦ absurd z ])).1 (m ∷ []) (inl refl) in
           let only : l ≡ m = ⊎_elim (λ e. e) (λ z. absurd z) a in
           ap (value_or (w.forced i) f) o ∙ ap f (sym (variable-literal v b)) ∙ true-value f m (subst (λ x. value f x ≡ true) only y) ∙ polarity-literal v b)
@@ -167,25 +225,25 @@ module _ (w : Carrying) (p : Spaces) (s : State) (k : Links w p s) (unknown : p.
 
   found-satisfies : SatisfiesAll found s.clauses
   found-satisfies =
-      names_satisfied n p.search t f found lines (carry (translation w p s.ever_hidden).identity) (is_forced w.forced) s.clauses made
+      names_satisfied n p.search t f found lines (carry (translation w p s.told).identity) (is_forced w.forced) s.clauses made
       ((before w p s k unknown t (outcome.Sat f) n lines made long in-use).covered (λ q. let z : outcome.Unknown ≡ outcome.Unsat = q in cc))
       found-literal found-forced
 
   pub sat-found : (x y : AssumptionParts) → p.working ≡ x.working → KeepsAssumptions p.search (outcome.Sat f) x y → (core : List Literal) →
-      Links w (decide t (outcome.Sat f) (λ x. value_or (p.kept x).unit f (p.solver_from_global x)) y.working core p) (with_verdict (Sat found) s)
+      Links w (decide t (outcome.Sat f) (λ x. value_or (p.kept x).unit f (p.solver_from_global x)) y.working core p) (retold (told-with w p s lines) (with_verdict (Sat found) s))
   unfolding found
   sat-found x y same keeps core =
       let fits = left w p s k unknown t (outcome.Sat f) n lines made long in-use x y same keeps in
-      decided w p s t (outcome.Sat f) (λ x. value_or (p.kept x).unit f (p.solver_from_global x)) y.working core (Sat found) k
+      decided w p s (told-with w p s lines) (steps-are-told w p s k unknown t (outcome.Sat f) n lines made long in-use) t (outcome.Sat f) (λ x. value_or (p.kept x).unit f (p.solver_from_global x)) y.working core (Sat found) k
       (steps-hold w p s k unknown t (outcome.Sat f) n lines made long in-use)
       fits
       (λ x i e. ap (λ o. value_or o f (chain w.global p.solver_from_global i)) (k.units.unit x i e) ∙ ap (value_or (p.kept x).unit f) (chain-some w.global p.solver_from_global i x (k.identities.one_to_one.there x i e)))
       tt (
         found-satisfies,
         fits.implied found found-satisfies (λ l h.
-            let (g, b, e) = map-∈ (carry (translation w p s.ever_hidden).identity) l y.working h in
+            let (g, b, e) = map-∈ (carry (translation w p s.told).identity) l y.working h in
             let (i, c) = fits.used g b in
-            ap (value found) e ∙ value-carry (translation w p s.ever_hidden).identity found g ∙ value-same (λ v. found (identity_of ((translation w p s.ever_hidden).identity v))) f g (ap (λ o. found (identity_of o)) c ∙ found-solved (variable_of g) i c) ∙ keeps.model f refl g b),
+            ap (value found) e ∙ value-carry (translation w p s.told).identity found g ∙ value-same (λ v. found (identity_of ((translation w p s.told).identity v))) f g (ap (λ o. found (identity_of o)) c ∙ found-solved (variable_of g) i c) ∙ keeps.model f refl g b),
         λ i h. ⊎_elim
             (λ e. ap (value_or (w.forced i) f) e ∙ ⊎_elim (λ u. ap is_true_value u) (λ (b, u). absurd (h (k.units.is_counted i b u))) (is-some (w.forced i)))
             (λ (v, e). absurd (h (back-there w p s k v i e).1))
@@ -256,17 +314,19 @@ spaces-same p q s e (w, k) = (
     units = units-same w.identity w.forced p.kept q.kept s.counted (λ x. ap (λ y. y.unit) (e.maps.kept x)) k.units;
     isolation = isolation-same w.identity w.forced p.kept q.kept s.clauses s.naming.made (λ x. ap (λ y. y.isolated) (e.maps.kept x)) k.isolation;
     solvers = solvers-same w.identity p.solver_from_global p.global_from_solver q.solver_from_global q.global_from_solver s.counted e.maps.solver_from_global e.maps.global_from_solver k.solvers;
-    holds = subst (λ t. SearchHolds s.clauses (translation w q s.ever_hidden) t (without_core q.outcome)) (sym e.search) (subst (λ o. SearchHolds s.clauses (translation w q s.ever_hidden) p.search (without_core o)) (sym e.outcome)
-        (holds-same s.clauses (translation w p s.ever_hidden) (translation w q s.ever_hidden) p.search (without_core p.outcome) (λ v. ap (λ y. onward y w.identity) (e.maps.global_from_solver v)) (λ i. refl) refl k.holds));
+    holds = subst (λ t. SearchHolds s.clauses (translation w q s.told) t (without_core q.outcome)) (sym e.search) (subst (λ o. SearchHolds s.clauses (translation w q s.told) p.search (without_core o)) (sym e.outcome)
+        (holds-same s.clauses (translation w p s.told) (translation w q s.told) p.search (without_core p.outcome) (λ v. ap (λ y. onward y w.identity) (e.maps.global_from_solver v)) (λ i. refl)
+        (λ share z. told-same (translation w p s.told) (translation w q s.told) share (without_core p.outcome) (λ v. ap (λ y. onward y w.identity) (e.maps.global_from_solver v)) (λ i. refl) (λ i y b o g. (y, g)) refl z) k.holds));
     assumptions = subst (λ y. AssumptionsFit q.global_from_user q.solver_from_global s.naming.names y s.assumptions) (sym e.assumptions) (assumptions-same p.global_from_user p.solver_from_global q.global_from_user q.solver_from_global s.naming.names p.assumptions s.assumptions e.maps.global_from_user e.maps.solver_from_global k.assumptions);
     marks = subst (MarksFit q.global_from_user q.kept) (sym e.assumptions) (marks-same p.global_from_user q.global_from_user p.kept q.kept p.assumptions e.maps.global_from_user (λ x. ap (λ y. y.assumed) (e.maps.kept x)) k.marks);
-    working = subst (WorkingFits s.clauses (translation w q s.ever_hidden).identity s.assumptions) (sym e.working) (working-same s.clauses (translation w p s.ever_hidden).identity (translation w q s.ever_hidden).identity s.assumptions p.working (λ l h. ap (λ y. onward y w.identity) (e.maps.global_from_solver (variable_of l))) k.working);
+    working = subst (WorkingFits s.clauses (translation w q s.told).identity s.assumptions) (sym e.working) (working-same s.clauses (translation w p s.told).identity (translation w q s.told).identity s.assumptions p.working (λ l h. ap (λ y. onward y w.identity) (e.maps.global_from_solver (variable_of l))) k.working);
     verdict = subst (λ y. VerdictFits w.identity q.model y s.verdict) (sym e.outcome) (model-same w.identity p.model q.model p.outcome s.verdict e.maps.model k.verdict);
     core = subst (λ c. CoreFits s.naming.names c s.verdict) (sym e.core) k.core;
     right = k.right;
     well_formed = k.well_formed;
     few = subst (λ n. n ≤ length s.counted) (sym e.var_count) k.few;
     shown = λ h x n. ap (λ y. y.deleted) (e.maps.kept x) ∙ k.shown h x (sym (e.maps.user_from_global x) ∙ n);
+    told = k.told;
   },
 )
 

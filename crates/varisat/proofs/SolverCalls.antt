@@ -1,13 +1,12 @@
 -- What the solver's calls do to the states that it stands for.
-use Rattle.std.proofs.Common.{Result, Ok, Err, Vec, ◌≡◌, ◌↔◌, if◌then◌else◌, ℕ, zero, suc, ◌+◌, ◌-◌, ◌*◌, ◌^◌, ◌<◌, ◌≤◌, Bool, true, false, not, Option, Some, None, List, [], ◌++◌, ◌⊎◌, inl, inr, ⊎_elim, length, map, get_or, sym, ap, ◌∙◌, subst, refl, arith}
+use Rattle.std.proofs.Common.{Result, Ok, Err, Vec, ◌≡◌, ◌↔◌, if◌then◌else◌, ℕ, zero, suc, ◌+◌, ◌-◌, ◌*◌, ◌^◌, ◌<◌, ◌≤◌, Bool, true, false, not, Option, Some, None, List, [], ◌∷◌, ◌++◌, ◌⊎◌, inl, inr, ⊎_elim, length, map, get_or, sym, ap, ◌∙◌, subst, refl, arith}
 use Rattle.varisat_theory.specs.Membership.{◌∈◌}
-use Rattle.varisat_theory.specs.Literals.{Literal, Assignment, variable_of, literal_of, IsSatisfiableWith, IsFailedCore}
+use Rattle.varisat_theory.specs.Literals.{Literal, Clause, Assignment, variable_of, literal_of, IsSatisfiableWith, IsFailedCore}
 use Rattle.varisat_literals.specs.Numbers.{polarity_of}
 use Rattle.varisat_theory.specs.Derivations.{Line}
 use Rattle.varisat_theory.specs.Searches.{IsLiteralOf}
-use Rattle.varisat_theory.specs.Outcomes.{MakesSteps}
+use Rattle.varisat_theory.specs.Outcomes.{Outcome, MakesSteps}
 use Rattle.varisat_theory.specs.Outcomes as outcome
-use Rattle.varisat_theory.proofs.Reached.{reached_self}
 use Rattle.varisat_theory.proofs.Renaming.{map-∈}
 use Rattle.varisat_prop.proofs.LiteralValues.{same-literal}
 use Rattle.varisat_theory.proofs.StepStands.{first_stands}
@@ -47,14 +46,18 @@ use Rattle.std.specs.declared.alloc.AllocError.{AllocError}
 use Rattle.varisat.specs.Carried.{carry, value_or}
 use Rattle.varisat.specs.Accepting.{HasUser}
 use Rattle.varisat.specs.Searches.{answer_at, FindsVerdict}
-use Rattle.varisat.specs.Spaces.{Carrying, translation, CoreFits, VerdictFits, Links, SpacesFit, list_globals}
+use Rattle.varisat_theory.specs.Journals.{Entry, Fails, lines_of}
+use Rattle.varisat_theory.specs.Counted.{added}
+use Rattle.varisat.specs.Journals.{retold, TellsMore, ToldConflict}
+use Rattle.varisat.proofs.ToldEntries.{tells-nothing}
+use Rattle.varisat.specs.Spaces.{Carrying, Translation, HeldFits, translation, without_core, CoreFits, VerdictFits, Links, SpacesFit, list_globals}
 use Rattle.varisat.specs.Summaries.{Summary, IsKept, StandsFor, spaces, spaces_of, list_tables}
 use Rattle.varisat.proofs.AcceptLoad.{map-map}
 use Rattle.varisat.proofs.CallStates.{ledger_of, ledger-is, none-more}
 use Rattle.varisat.proofs.VerdictAnswers.{right-false, right-core, core-answer}
 use Rattle.varisat.proofs.Carried.{carry-at, carry-sign}
 use Rattle.varisat.proofs.SettingsCalls.{summary_of}
-use Rattle.varisat.proofs.SolveVerdict.{maps-alike, recount, spaces-same, sat-found, unsat-found, core-found, found, went-on}
+use Rattle.varisat.proofs.SolveVerdict.{told-with, steps-tell, steps-add, core-tells, maps-alike, recount, spaces-same, sat-found, unsat-found, core-found, found, went-on}
 use Rattle.varisat.proofs.ModelsFit.{told, is-sat, is-unsat, is-core, is-unknown}
 use Rattle.varisat.proofs.PlainTables.{assumed-named}
 use Rattle.varisat.proofs.AcceptClause.{with_tables, name-below, name-above, given-spaces}
@@ -97,7 +100,7 @@ first-spaces s e n =
           known = λ a m i b e. absurd (let z : None ≡ Some b = e in cc);
           fixed = λ o l i e. absurd (let z : None ≡ Some i = e in cc);
           covered = λ o c h. absurd h;
-          proved = λ z. record { forgotten = []; reached = reached_self []; units = λ i b e. absurd (let z : None ≡ Some b = e in cc) };
+          told = record { held = []; led = refl; forgotten = []; same = refl; inside = λ c l h. absurd h; units = λ i b x e. absurd (let z : None ≡ Some b = e in cc) };
         };
         assumptions = record { agree = refl; taken = λ l h. absurd h };
         marks = record { marked = λ l x h. absurd h; only = λ x e. absurd (let z : false ≡ true = e in cc) };
@@ -108,6 +111,7 @@ first-spaces s e n =
         well_formed = record { one_to_one = λ u v i e. absurd (let z : None ≡ Some i = e in cc); free = λ u h. refl; named = λ u i e. absurd (let z : None ≡ Some i = e in cc); accepted = λ c l h. absurd h; assumed = λ l h. absurd h; counted = λ i h. absurd h; once = tt };
         few = omega (arith, n);
         shown = λ o x h. refl;
+        told = record { accepted = refl; stays = λ e. tt };
       },
     )
   where
@@ -178,7 +182,7 @@ left-spaces g s t y z after v f =
 -- the names of the solver variables of a core, carried to identities, are what the core is carried to
 module _ (g : Summary) (s : State) (w : Carrying) (k : Links w (spaces g) s) (names : (l : Literal) → l ∈ g.assumed.working → HasUser g.tables (variable_of l)) where
   -- where a solver variable leads
-  core-leads : (m : Literal) → m ∈ g.assumed.working → (u i : ℕ) × (chain (at g.tables.solvers.backward) (at g.tables.users.backward) (variable_of m) ≡ Some u) × ((translation w (spaces g) s.ever_hidden).identity (variable_of m) ≡ Some i) × (s.naming.names u ≡ Some i)
+  core-leads : (m : Literal) → m ∈ g.assumed.working → (u i : ℕ) × (chain (at g.tables.solvers.backward) (at g.tables.users.backward) (variable_of m) ≡ Some u) × ((translation w (spaces g) s.told).identity (variable_of m) ≡ Some i) × (s.naming.names u ≡ Some i)
   core-leads m a =
       let (i, t) = k.working.used m a in
       let (x, b, c) = chain-through (at g.tables.solvers.backward) w.identity (variable_of m) i t in
@@ -190,26 +194,30 @@ module _ (g : Summary) (s : State) (w : Carrying) (k : Links w (spaces g) s) (na
       (u, i, e, t, k.names.agree u ∙ chain-some (at g.tables.users.forward) w.identity u x used ∙ c)
 
   names-carried : (core told : List Literal) → ((l : Literal) → l ∈ core → l ∈ g.assumed.working) → told ≡ map (carry (chain (at g.tables.solvers.backward) (at g.tables.users.backward))) core →
-      ((l : Literal) → l ∈ told → (i : ℕ) × (s.naming.names (variable_of l) ≡ Some i)) × (map (carry s.naming.names) told ≡ map (carry (translation w (spaces g) s.ever_hidden).identity) core)
+      ((l : Literal) → l ∈ told → (i : ℕ) × (s.naming.names (variable_of l) ≡ Some i)) × (map (carry s.naming.names) told ≡ map (carry (translation w (spaces g) s.told).identity) core)
   names-carried core told part e = (
     λ l h.
         let (m, a, q) = map-∈ (carry (chain (at g.tables.solvers.backward) (at g.tables.users.backward))) l core (subst (λ xs. l ∈ xs) e h) in
         let (u, i, r, t, n) = core-leads m (part m a) in
         (i, ap s.naming.names (ap variable_of q ∙ carry-at (chain (at g.tables.solvers.backward) (at g.tables.users.backward)) m u r) ∙ n),
-    ap (map (carry s.naming.names)) e ∙ map-map (carry s.naming.names) (carry (chain (at g.tables.solvers.backward) (at g.tables.users.backward))) (carry (translation w (spaces g) s.ever_hidden).identity) core (λ m a.
+    ap (map (carry s.naming.names)) e ∙ map-map (carry s.naming.names) (carry (chain (at g.tables.solvers.backward) (at g.tables.users.backward))) (carry (translation w (spaces g) s.told).identity) core (λ m a.
         let f = chain (at g.tables.solvers.backward) (at g.tables.users.backward) in
-        let to = (translation w (spaces g) s.ever_hidden).identity in
+        let to = (translation w (spaces g) s.told).identity in
         let (u, i, r, t, n) = core-leads m (part m a) in
         same-literal (carry s.naming.names (carry f m)) (carry to m) (carry-at s.naming.names (carry f m) i (ap s.naming.names (carry-at f m u r) ∙ n) ∙ sym (carry-at to m i t)) (carry-sign s.naming.names (carry f m) ∙ carry-sign f m ∙ sym (carry-sign to m))),
   )
 
-pub record Decided (g : Summary) (s : State) (b : Bool) : Type 0 where
+-- what the state is then, after so many steps
+pub record Decided (g : Summary) (s : State) (b : Bool) (n : ℕ) : Type 0 where
   pub verdict : Verdict
   pub answer : answer_of verdict ≡ Some b
   pub right : HasRightVerdict (with_verdict verdict s)
-  pub fits : SpacesFit (spaces g) (with_verdict verdict s)
+  pub told : List Entry
+  pub more : TellsMore n s.told told
+  pub refuted : verdict ≡ Unsat → ToldConflict told
+  pub fits : SpacesFit (spaces g) (retold told (with_verdict verdict s))
 
-decided-fits : (g : Summary) (s : State) (t : View) (y z : AssumptionParts) (after : SatState) (b : Bool) → answer_at after ≡ Some b → SpacesFit (spaces g) s → StepsMade g t y z after → Decided (after_steps g t z after) s b
+decided-fits : (g : Summary) (s : State) (t : View) (y z : AssumptionParts) (after : SatState) (b : Bool) → answer_at after ≡ Some b → SpacesFit (spaces g) s → (v : StepsMade g t y z after) → Decided (after_steps g t z after) s b v.steps.0
 decided-fits g s t y z verdict.Unknown b e (w, k) v = absurd cc
 decided-fits g s t y z verdict.Sat b e (w, k) v =
     let (j, lines, made) = v.steps in
@@ -217,20 +225,24 @@ decided-fits g s t y z verdict.Sat b e (w, k) v =
     let long = view-long t v.well in
     let a = found w (spaces g) s k unknown (search_of t) (assignment_of t) j lines made long v.in_use in
     let links = sat-found w (spaces g) s k unknown (search_of t) (assignment_of t) j lines made long v.in_use g.assumed y refl v.assumes z.user_core in
-    record { verdict = Sat a; answer = e; right = links.right; fits = left-spaces g (with_verdict (Sat a) s) t y z verdict.Sat v (w, links) }
+    let more = steps-tell w (spaces g) s k unknown (search_of t) (outcome.Sat (assignment_of t)) j lines made long v.in_use in
+    record { verdict = Sat a; answer = e; right = links.right; told = told-with w (spaces g) s lines; more = more; refuted = λ q. let z : Sat a ≡ Unsat = q in absurd cc; fits = left-spaces g (retold (told-with w (spaces g) s lines) (with_verdict (Sat a) s)) t y z verdict.Sat v (w, links) }
 decided-fits g s t y z verdict.Unsat b e (w, k) v =
     let (j, lines, made) = v.steps in
     let links = unsat-found w (spaces g) s k (ap (outcome_of g.search g.assumed.failed_core) v.unknown) (search_of t) outcome.Unsat j lines made (view-long t v.well) v.in_use g.assumed y refl v.assumes (spaces (after_steps g t z verdict.Unsat)).model z.user_core refl in
-    record { verdict = Unsat; answer = e; right = links.right; fits = left-spaces g (with_verdict Unsat s) t y z verdict.Unsat v (w, links) }
+    let more = steps-tell w (spaces g) s k (ap (outcome_of g.search g.assumed.failed_core) v.unknown) (search_of t) outcome.Unsat j lines made (view-long t v.well) v.in_use in
+    record { verdict = Unsat; answer = e; right = links.right; told = told-with w (spaces g) s lines; more = more; refuted = λ _. links.holds.told; fits = left-spaces g (retold (told-with w (spaces g) s lines) (with_verdict Unsat s)) t y z verdict.Unsat v (w, links) }
 decided-fits g s t y z verdict.UnsatUnderAssumptions b e (w, k) v =
     let (j, lines, made) = v.steps in
     let told = z.user_core in
     let (named, same) = names-carried g s w k v.working y.failed_core told (v.assumes.core y.failed_core refl) (v.named refl) in
     let links = core-found w (spaces g) s k (ap (outcome_of g.search g.assumed.failed_core) v.unknown) (search_of t) (outcome.UnsatUnder y.failed_core) j lines made (view-long t v.well) v.in_use g.assumed y refl v.assumes (spaces (after_steps g t z verdict.UnsatUnderAssumptions)).model y.failed_core told refl named same in
     let core = UnsatUnderAssumptions (map (carry s.naming.names) told) in
-    record { verdict = core; answer = e; right = links.right; fits = left-spaces g (with_verdict core s) t y z verdict.UnsatUnderAssumptions v (w, links) }
+    let more = core-tells w (spaces g) s k (ap (outcome_of g.search g.assumed.failed_core) v.unknown) (search_of t) (outcome.UnsatUnder y.failed_core) j lines made (view-long t v.well) v.in_use g.assumed y refl v.assumes y.failed_core told refl same in
+    let all = told-with w (spaces g) s lines ++ Fails (map (carry s.naming.names) told) ∷ [] in
+    record { verdict = core; answer = e; right = links.right; told = all; more = more; refuted = λ q. let z : core ≡ Unsat = q in absurd cc; fits = left-spaces g (retold all (with_verdict core s)) t y z verdict.UnsatUnderAssumptions v (w, links) }
 
-pub decided : (g : Summary) (s : State) (t : View) (y z : AssumptionParts) (after : SatState) (b : Bool) → answer_at after ≡ Some b → StandsFor g s → g.ledger.valid ≡ true → StepsMade g t y z after → Decided (after_steps g t z after) s b
+pub decided : (g : Summary) (s : State) (t : View) (y z : AssumptionParts) (after : SatState) (b : Bool) → answer_at after ≡ Some b → StandsFor g s → g.ledger.valid ≡ true → (f : StepsMade g t y z after) → Decided (after_steps g t z after) s b f.steps.0
 decided g s t y z after b e st v f = decided-fits g s t y z after b e (st.fits v) f
 
 -- few steps were made since the last change
@@ -248,12 +260,24 @@ counted-call g s max_steps after a r st v m e c =
     (subst (CountsSteps (length s.counted) max_steps g.ledger.since g.ledger.steps after) e k)))
 
 -- the search can go on from where it was interrupted
-pub interrupted : (g : Summary) (s : State) (t : View) (y z : AssumptionParts) → StandsFor g s → g.ledger.valid ≡ true → StepsMade g t y z verdict.Unknown → SpacesFit (spaces (after_steps g t z verdict.Unknown)) (with_verdict Unknown s)
+pub interrupted : (g : Summary) (s : State) (t : View) (y z : AssumptionParts) → StandsFor g s → g.ledger.valid ≡ true → (v : StepsMade g t y z verdict.Unknown) → (told : List Entry) × (more : TellsMore v.steps.0 s.told told) × (v.steps.0 ≤ added (lines_of more.entries)) × SpacesFit (spaces (after_steps g t z verdict.Unknown)) (retold told (with_verdict Unknown s))
 interrupted g s t y z st valid v =
     let (w, k) = st.fits valid in
     let (j, lines, made) = v.steps in
-    left-spaces g (with_verdict Unknown s) t y z verdict.Unknown v
-    (w, went-on w (spaces g) s k (ap (outcome_of g.search g.assumed.failed_core) v.unknown) (search_of t) outcome.Unknown j lines made (view-long t v.well) v.in_use g.assumed y refl v.assumes (spaces (after_steps g t z verdict.Unknown)).model z.user_core refl)
+    let unknown = ap (outcome_of g.search g.assumed.failed_core) v.unknown in
+    let long = view-long t v.well in (
+      told-with w (spaces g) s lines,
+      steps-tell w (spaces g) s k unknown (search_of t) outcome.Unknown j lines made long v.in_use,
+      steps-add w (spaces g) s k unknown (search_of t) outcome.Unknown j lines made long v.in_use refl,
+      left-spaces g (retold (told-with w (spaces g) s lines) (with_verdict Unknown s)) t y z verdict.Unknown v
+          (w, went-on w (spaces g) s k unknown (search_of t) outcome.Unknown j lines made long v.in_use g.assumed y refl v.assumes (spaces (after_steps g t z verdict.Unknown)).model z.user_core refl),
+    )
+
+pub interrupted-at : (g : Summary) (s : State) (t : View) (y z : AssumptionParts) (after : SatState) → after ≡ verdict.Unknown → StandsFor g s → g.ledger.valid ≡ true → (v : StepsMade g t y z after) → (told : List Entry) × (more : TellsMore v.steps.0 s.told told) × (v.steps.0 ≤ added (lines_of more.entries)) × SpacesFit (spaces (after_steps g t z verdict.Unknown)) (retold told (with_verdict Unknown s))
+interrupted-at g s t y z verdict.Unknown e st valid v = interrupted g s t y z st valid v
+interrupted-at g s t y z verdict.Sat e st valid v = absurd cc
+interrupted-at g s t y z verdict.Unsat e st valid v = absurd cc
+interrupted-at g s t y z verdict.UnsatUnderAssumptions e st valid v = absurd cc
 
 -- before that the verdict was unknown
 pub was-unknown : (g : Summary) (s : State) → StandsFor g s → g.ledger.valid ≡ true → g.sat_state ≡ verdict.Unknown → s.verdict ≡ Unknown
@@ -316,8 +340,8 @@ sat-right g s st valid e =
     (a, r.0, r.1)
 
 -- the verdict that a search came to says so of the state
-pub found-true : (g : Summary) (s : State) → Decided g s true → IsSatisfiableWith s.clauses s.assumptions
-found-true g s d = go d.verdict d.answer d.right
+pub found-true : (g : Summary) (s : State) (n : ℕ) → Decided g s true n → IsSatisfiableWith s.clauses s.assumptions
+found-true g s n d = go d.verdict d.answer d.right
   where
     go : (v : Verdict) → answer_of v ≡ Some true → IsRight s.clauses s.assumptions s.counted v → IsSatisfiableWith s.clauses s.assumptions
     go Unknown q r = absurd cc
@@ -325,8 +349,14 @@ found-true g s d = go d.verdict d.answer d.right
     go Unsat q r = absurd cc
     go (UnsatUnderAssumptions core) q r = absurd cc
 
-pub found-false : (g : Summary) (s : State) → Decided g s false → IsSatisfiableWith s.clauses s.assumptions → ⊥
-found-false g s d = right-false s.clauses s.assumptions s.counted d.verdict d.answer d.right
+pub found-false : (g : Summary) (s : State) (n : ℕ) → Decided g s false n → IsSatisfiableWith s.clauses s.assumptions → ⊥
+found-false g s n d = right-false s.clauses s.assumptions s.counted d.verdict d.answer d.right
+
+pub found-true-at : (g : Summary) (s : State) (n : ℕ) (b : Bool) → b ≡ true → Decided g s b n → IsSatisfiableWith s.clauses s.assumptions
+found-true-at g s n b e d = found-true g s n (subst (λ x. Decided g s x n) e d)
+
+pub found-false-at : (g : Summary) (s : State) (n : ℕ) (b : Bool) → b ≡ false → Decided g s b n → IsSatisfiableWith s.clauses s.assumptions → ⊥
+found-false-at g s n b e d = found-false g s n (subst (λ x. Decided g s x n) e d)
 
 pub sat-answer : (g : Summary) (s : State) → StandsFor g s → g.ledger.valid ≡ true → g.sat_state ≡ verdict.Sat → answer_of s.verdict ≡ Some true
 sat-answer g s st v e = let (w, k) = st.fits v in ap answer_of (is-sat w.identity (spaces g).model (assignment_of g.search) s.verdict (subst (λ y. VerdictFits w.identity (spaces g).model y s.verdict) (ap (outcome_of g.search g.assumed.failed_core) e) k.verdict)).1
@@ -380,6 +410,16 @@ none-to-tell s n = go s.verdict n
 -- 7. What is told where the verdict is known.
 
 -- it stays, and no step is made
+-- under Unsat what was told leads to a conflict
+unsat-told : (id : ℕ → Option ℕ) (m : ℕ → Bool) (r : Translation) (share : List Clause) (o : Outcome) (x : Verdict) → x ≡ Unsat → VerdictFits id m o x → HeldFits r share (without_core o) → ToldConflict r.told
+unsat-told id m r share outcome.Unsat x e f h = h
+unsat-told id m r share outcome.Unknown x e f h = absurd (subst (VerdictFits id m outcome.Unknown) e f)
+unsat-told id m r share (outcome.Sat found) x e f h = absurd (subst (VerdictFits id m (outcome.Sat found)) e f)
+unsat-told id m r share (outcome.UnsatUnder core) x e f h = absurd (subst (VerdictFits id m (outcome.UnsatUnder core)) e f)
+
+pub told-refuted : (g : Summary) (s : State) → StandsFor g s → g.ledger.valid ≡ true → s.verdict ≡ Unsat → ToldConflict s.told
+told-refuted g s st v e = let (w, k) = st.fits v in unsat-told w.identity (spaces g).model (translation w (spaces g) s.told) k.holds.held (spaces g).outcome s.verdict e k.verdict k.holds.told
+
 pub known-told : (g : Summary) (s : State) (b : Bool) → StandsFor g s → g.ledger.valid ≡ true → answer_at g.sat_state ≡ Some b → TellsVerdict s b s
 known-told g s b st v e =
     let a = answers-alike g s st v ∙ e in
@@ -389,7 +429,9 @@ known-told g s b st v e =
       steps = λ u. absurd (let z : None ≡ Some b = ap answer_of (sym u) ∙ a in cc);
       answer = a;
       right = (st.fits v).1.right;
-      rest = record { naming = refl; ever_hidden = refl; clauses = refl; assumptions = refl; counted = refl; verdict = refl; ledger = ledger-is s.ledger s.ledger.valid s.ledger.started s.ledger.steps (s.ledger.since + (s.ledger.steps - s.ledger.steps)) s.ledger.settings refl refl refl (none-more s.ledger.since s.ledger.steps) refl };
+      rest = record { naming = refl; ever_hidden = refl; clauses = refl; assumptions = refl; counted = refl; verdict = refl; ledger = ledger-is s.ledger s.ledger.valid s.ledger.started s.ledger.steps (s.ledger.since + (s.ledger.steps - s.ledger.steps)) s.ledger.settings refl refl refl (none-more s.ledger.since s.ledger.steps) refl; told = tells-nothing s.told };
+      told = let z : 0 ≡ s.ledger.steps - s.ledger.steps = omega arith in subst (λ n. TellsMore n s.told s.told) z (tells-nothing s.told);
+      refuted = told-refuted g s st v;
     }
 
 pub false-right : (g : Summary) (s : State) → StandsFor g s → g.ledger.valid ≡ true → answer_at g.sat_state ≡ Some false → IsSatisfiableWith s.clauses s.assumptions → ⊥
@@ -428,6 +470,10 @@ finds-made t started changed_at x y answer f k unknown = record {
   named = f.core;
 }
 
+pub finds-count : {A : Type 0} (t : Tables) (started : Bool) (changed_at : ℕ) (x y : Context A) (answer : Option Bool) (f : FindsVerdict t x y answer) (k : IsKept t x) (unknown : x.solver_state.sat_state ≡ verdict.Unknown) → (finds-made t started changed_at x y answer f k unknown).steps.0 ≡ y.schedule.steps - x.schedule.steps
+unfolding finds-made
+finds-count t started changed_at x y answer f k unknown = refl
+
 -- a copy of the core that is refused
 core-refused : (s t : State) (core : List Literal) (e : AllocError) → TellsCore s (Ok (Some core)) t → TellsCore s (Err e) s
 core-refused s t core e (inl (v, x), same) = (v, core-answer s.verdict (map (through_names s.naming) core) x.1, refl)
@@ -440,7 +486,7 @@ told-refused-core s t core (Err e) h a = core-refused s t core e a
 -- 8. Units are settled before a step.
 
 -- The search went on by lines, without a step: what is held stands for the same state.
-pub settled-stands : {A : Type 0} (m : Tables) (are : List Line → Type 0) (x y : Context A) → IsKept m x → GoesOnByLines are x y → y.assumptions ≡ x.assumptions → (s : State) → SpacesFit (spaces_of m (view x) x.assumptions verdict.Unknown) s → SpacesFit (spaces_of m (view y) y.assumptions verdict.Unknown) s
+pub settled-stands : {A : Type 0} (m : Tables) (are : List Line → Type 0) (x y : Context A) → IsKept m x → GoesOnByLines are x y → y.assumptions ≡ x.assumptions → (s : State) → SpacesFit (spaces_of m (view x) x.assumptions verdict.Unknown) s → (told : List Entry) × TellsMore 0 s.told told × SpacesFit (spaces_of m (view y) y.assumptions verdict.Unknown) (retold told s)
 settled-stands m are x y kept goes same s (w, k) =
     let g : Summary = record { tables = m; search = view x; assumed = x.assumptions; sat_state = verdict.Unknown; ledger = s.ledger } in
     let (lines, p, i) = goes.proves in
@@ -459,19 +505,26 @@ settled-stands m are x y kept goes same s (w, k) =
     } in
     let links = went-on w (spaces g) s k refl (search_of (view y)) outcome.Unknown 0 lines made (view-long (view y) goes.ready.well) used x.assumptions x.assumptions refl (keeps-refl (search_of (view x)) x.assumptions) (spaces (after_steps g (view y) x.assumptions verdict.Unknown)).model x.assumptions.user_core refl in
     let unknown : s.verdict ≡ Unknown = is-unknown w.identity (spaces g).model s.verdict k.verdict in
-    let fits = left-spaces g (with_verdict Unknown s) (view y) x.assumptions x.assumptions verdict.Unknown v (w, links) in
-    subst (λ (a : AssumptionParts). SpacesFit (spaces_of m (view y) a verdict.Unknown) s) (sym same)
-    (subst (λ (b : Verdict). SpacesFit (spaces_of m (view y) x.assumptions verdict.Unknown) (with_verdict b s)) (sym unknown) fits)
+    let told = told-with w (spaces g) s lines in
+    let fits = left-spaces g (retold told (with_verdict Unknown s)) (view y) x.assumptions x.assumptions verdict.Unknown v (w, links) in (
+      told,
+      steps-tell w (spaces g) s k refl (search_of (view y)) outcome.Unknown 0 lines made (view-long (view y) goes.ready.well) used,
+      subst (λ (a : AssumptionParts). SpacesFit (spaces_of m (view y) a verdict.Unknown) (retold told s)) (sym same)
+          (subst (λ (b : Verdict). SpacesFit (spaces_of m (view y) x.assumptions verdict.Unknown) (retold told (with_verdict b s))) (sym unknown) fits),
+    )
 
--- Variables left the search, and nothing of what is told changed.
-pub dropped-stands : {A : Type 0} (m n : Tables) (started : Bool) (changed_at : ℕ) (x y : Context A) (s : State) → y.solver_state ≡ x.solver_state → KeepsSchedule x y → x.solver_state.sat_state ≡ verdict.Unknown → ((s : State) → SpacesFit (spaces_of m (view x) x.assumptions verdict.Unknown) s → SpacesFit (spaces_of n (view y) y.assumptions verdict.Unknown) s) → StandsFor (summary_of m started changed_at x) s → StandsFor (summary_of n started changed_at y) s
-dropped-stands m n started changed_at x y s e k u f st = record {
-  ledger = st.ledger ∙ (
-      ap (λ (b : SolverState). ledger_of (not b.state_is_invalid) started x.schedule.steps (x.schedule.steps - changed_at) x.solver_config) (sym e)
-      ∙ ap (λ (p : Plan). ledger_of (not y.solver_state.state_is_invalid) started p.steps (p.steps - changed_at) x.solver_config) (sym k.schedule)
-      ∙ ap (λ (c : Settings). ledger_of (not y.solver_state.state_is_invalid) started y.schedule.steps (y.schedule.steps - changed_at) c) (sym k.solver_config));
-  fits = λ v.
-      let before = st.fits (ap (λ (b : SolverState). not b.state_is_invalid) (sym e) ∙ v) in
-      subst (λ b. SpacesFit (spaces_of n (view y) y.assumptions b) s) (sym (ap (λ (b : SolverState). b.sat_state) e ∙ u))
-      (f s (subst (λ b. SpacesFit (spaces_of m (view x) x.assumptions b) s) u before));
-}
+-- Variables left the search.
+pub dropped-stands : {A : Type 0} (m n : Tables) (started : Bool) (changed_at : ℕ) (x y : Context A) (s : State) → y.solver_state ≡ x.solver_state → KeepsSchedule x y → x.solver_state.sat_state ≡ verdict.Unknown → not x.solver_state.state_is_invalid ≡ true → ((s : State) → SpacesFit (spaces_of m (view x) x.assumptions verdict.Unknown) s → (told : List Entry) × TellsMore 0 s.told told × SpacesFit (spaces_of n (view y) y.assumptions verdict.Unknown) (retold told s)) → StandsFor (summary_of m started changed_at x) s →
+    (told : List Entry) × TellsMore 0 s.told told × StandsFor (summary_of n started changed_at y) (retold told s)
+dropped-stands m n started changed_at x y s e k u ok f st =
+    let (told, more, fits) = f s (subst (λ b. SpacesFit (spaces_of m (view x) x.assumptions b) s) u (st.fits ok)) in (
+      told,
+      more,
+      record {
+        ledger = st.ledger ∙ (
+            ap (λ (b : SolverState). ledger_of (not b.state_is_invalid) started x.schedule.steps (x.schedule.steps - changed_at) x.solver_config) (sym e)
+            ∙ ap (λ (p : Plan). ledger_of (not y.solver_state.state_is_invalid) started p.steps (p.steps - changed_at) x.solver_config) (sym k.schedule)
+            ∙ ap (λ (c : Settings). ledger_of (not y.solver_state.state_is_invalid) started y.schedule.steps (y.schedule.steps - changed_at) c) (sym k.solver_config));
+        fits = λ v. subst (λ b. SpacesFit (spaces_of n (view y) y.assumptions b) (retold told s)) (sym (ap (λ (b : SolverState). b.sat_state) e ∙ u)) fits;
+      },
+    )

@@ -4,7 +4,9 @@ use Rattle.varisat_theory.specs.Membership.{◌∈◌, ◌⊆◌}
 use Rattle.varisat_theory.specs.Literals.{Literal, Clause, Assignment, variable_of, value, MakesTrue}
 use Rattle.varisat_theory.specs.Renaming.{rename}
 use Rattle.varisat_theory.specs.Searches.{Search, IsCoveredBySearch, Tautology, KnownTrue, FixedTrue, Kept}
-use Rattle.varisat_theory.specs.Outcomes.{Outcome, IsReached}
+use Rattle.varisat_theory.specs.Held.{SameClauses}
+use Rattle.varisat_theory.specs.Journals.{Leads}
+use Rattle.varisat_theory.specs.Outcomes.{Outcome}
 use Rattle.varisat_theory.specs.Outcomes as outcome
 use Rattle.varisat_literals.specs.Numbers.{polarity_of}
 use Rattle.varisat_names.specs.Maps.{onward, chain}
@@ -14,7 +16,8 @@ use Rattle.varisat.specs.Names.{Mode}
 use Rattle.varisat.specs.States.{Verdict, Unknown, Sat, Unsat, UnsatUnderAssumptions}
 use Rattle.varisat.specs.Names.{identity_of}
 use Rattle.varisat.specs.Carried.{carry, is_value, is_forced}
-use Rattle.varisat.specs.Spaces.{ModeFits, IdentitiesFit, NamesFit, ModesFit, UnitsFit, IsolationCase, NotIsolated, Apart, Forced, IsolationFits, SolversFit, Translation, IsReachedWithForgotten, HasProof, SearchHolds, AssumptionsFit, MarksFit, WorkingFits, CoreFits, VerdictFits}
+use Rattle.varisat.specs.Journals.{ToldConflict}
+use Rattle.varisat.specs.Spaces.{ModeFits, IdentitiesFit, NamesFit, ModesFit, UnitsFit, IsolationCase, NotIsolated, Apart, Forced, IsolationFits, SolversFit, Translation, SharesHeld, HeldFits, SearchHolds, AssumptionsFit, MarksFit, WorkingFits, CoreFits, VerdictFits}
 
 pub identities-same : (id gl : ℕ → Option ℕ) (k k' : ℕ → VarData) (top : ℕ) → ((x : ℕ) → (k' x).deleted ≡ (k x).deleted) → IdentitiesFit id gl k top → IdentitiesFit id gl k' top
 identities-same id gl k k' top e f = record { one_to_one = f.one_to_one; live = λ x i h. e x ∙ f.live x i h; deleted = λ x h. e x ∙ f.deleted x h; below = f.below }
@@ -129,20 +132,23 @@ covered-same s f g known more c a b m (KnownTrue l i e) = KnownTrue l i (m l e)
 covered-same s f g known more c a b m (FixedTrue l i j) = FixedTrue l i (subst (λ x. x ∈ c) (a l i) j)
 covered-same s f g known more c a b m (Kept k i e w) = Kept k i e (λ l j. subst (λ x. x ∈ c) (b k.clause l j w) (w l j))
 
-pub reached-same : (P : List Clause) (r r' : Translation) (held : List Clause) → ((x : ℕ) → r'.identity x ≡ r.identity x) → ((i : ℕ) → r'.forced i ≡ r.forced i) → IsReachedWithForgotten P r held → IsReachedWithForgotten P r' held
-reached-same P r r' held a f q = record {
+pub shares-same : (r r' : Translation) (share : List Clause) → ((x : ℕ) → r'.identity x ≡ r.identity x) → ((i : ℕ) → r'.forced i ≡ r.forced i) → ((i x : ℕ) (b : Bool) → r.forced i ≡ Some b → r'.global i ≡ Some x → (y : ℕ) × (r.global i ≡ Some y)) → r'.told ≡ r.told → SharesHeld r share → SharesHeld r' share
+shares-same r r' share a f g n q = record {
+  held = q.held;
+  led = subst (λ es. Leads [] es q.held) (sym n) q.led;
   forgotten = q.forgotten;
-  reached = subst (λ x. IsReached P (x ++ q.forgotten)) (rename-same (carry r.identity) (carry r'.identity) held (λ c l i j. sym (carry-same r'.identity r.identity l (a (variable_of l))))) q.reached;
-  units = λ i b e n. q.units i b (sym (f i) ∙ e) (λ v z. n v (a v ∙ z));
+  same = subst (λ x. SameClauses q.held (q.forgotten ++ x)) (rename-same (carry r.identity) (carry r'.identity) share (λ c l i j. sym (carry-same r'.identity r.identity l (a (variable_of l))))) q.same;
+  inside = λ c l h i. let (j, e) = q.inside c l h i in (j, a (variable_of l) ∙ e);
+  units = λ i b x e l none. let (y, z) = g i x b (sym (f i) ∙ e) l in q.units i b y (sym (f i) ∙ e) z (λ v o. none v (a v ∙ o));
 }
 
-pub proved-same : (P : List Clause) (r r' : Translation) (held : List Clause) (v : Outcome) → ((x : ℕ) → r'.identity x ≡ r.identity x) → ((i : ℕ) → r'.forced i ≡ r.forced i) → HasProof P r held v → HasProof P r' held v
-proved-same P r r' held outcome.Unknown a f q = reached-same P r r' held a f q
-proved-same P r r' held (outcome.Sat found) a f q = reached-same P r r' held a f q
-proved-same P r r' held outcome.Unsat a f q = q
-proved-same P r r' held (outcome.UnsatUnder core) a f q = reached-same P r r' held a f q
+pub told-same : (r r' : Translation) (share : List Clause) (v : Outcome) → ((x : ℕ) → r'.identity x ≡ r.identity x) → ((i : ℕ) → r'.forced i ≡ r.forced i) → ((i x : ℕ) (b : Bool) → r.forced i ≡ Some b → r'.global i ≡ Some x → (y : ℕ) × (r.global i ≡ Some y)) → r'.told ≡ r.told → HeldFits r share v → HeldFits r' share v
+told-same r r' share outcome.Unknown a f g n q = shares-same r r' share a f g n q
+told-same r r' share (outcome.Sat found) a f g n q = shares-same r r' share a f g n q
+told-same r r' share outcome.Unsat a f g n q = subst ToldConflict (sym n) q
+told-same r r' share (outcome.UnsatUnder core) a f g n q = shares-same r r' share a f g n q
 
-pub holds-same : (P : List Clause) (r r' : Translation) (s : Search) (v : Outcome) → ((x : ℕ) → r'.identity x ≡ r.identity x) → ((i : ℕ) → r'.forced i ≡ r.forced i) → r'.hidden ≡ r.hidden → SearchHolds P r s v → SearchHolds P r' s v
+pub holds-same : (P : List Clause) (r r' : Translation) (s : Search) (v : Outcome) → ((x : ℕ) → r'.identity x ≡ r.identity x) → ((i : ℕ) → r'.forced i ≡ r.forced i) → ((share : List Clause) → HeldFits r share v → HeldFits r' share v) → SearchHolds P r s v → SearchHolds P r' s v
 holds-same P r r' s v a f n h =
     let to = λ (l : Literal). sym (carry-same r'.identity r.identity l (a (variable_of l))) in
     record {
@@ -153,5 +159,5 @@ holds-same P r r' s v a f n h =
       known = λ x m i y e. h.known x m i y (sym (f i) ∙ e);
       fixed = λ o l i e g. h.fixed o l i (sym (a (variable_of l)) ∙ e) (sym (f i) ∙ g);
       covered = λ o c i. covered-same s (carry r.identity) (carry r'.identity) (is_forced r.forced) (is_forced r'.forced) c (λ l j. to l) (λ d l j w. to l) (λ l e. ap (λ y. is_value y (polarity_of l)) (f (variable_of l)) ∙ e) (h.covered o c i);
-      proved = λ z. proved-same P r r' h.held v a f (h.proved (sym n ∙ z));
+      told = n h.held h.told;
     }

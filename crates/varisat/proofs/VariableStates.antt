@@ -19,6 +19,8 @@ use Rattle.varisat.specs.VariableCalls.{named, IsAssumed, with_mode, hide_name}
 use Rattle.varisat_search.specs.NamesAndModes.{AreShownInTurn, ShowsAllHidden}
 use Rattle.varisat.specs.VariableChanges.{IsMarkedAssumed, IsMarkedName, ChecksChange, StaysKept, SetsNamedMode}
 use Rattle.varisat.specs.Accepting.{AreBounded, naming_of}
+use Rattle.varisat_theory.specs.Journals.{Entry}
+use Rattle.varisat.specs.Journals.{retold, TellsMore}
 use Rattle.varisat.specs.Spaces.{Carrying, ModeFits, Links, SpacesFit}
 use Rattle.varisat.specs.Summaries.{Summary, IsKept, spaces}
 use Rattle.varisat.specs.declared.solver.SolverError.{SolverError}
@@ -76,7 +78,7 @@ pub mode-state : {g : Summary} {s : State} (new : Tables) (u : ℕ) (m : Samplin
 mode-state {g} {s} new u m n b fit c =
     mode-spaces (with_tables c.mid g) (with_naming (name_one u s.naming) s) new u c.global m n (named-one g s c.mid u b.fits c.named.named) c.named.leads fit (c.changed (not-hide m n fit))
 
-pub hide-state : {g : Summary} {s : State} (new : Tables) (u : ℕ) → Begins g s → SetsNamedMode u sampling.Hide g.tables new → SpacesFit (spaces (with_tables new g)) (hide_name u (name_var named u s))
+pub hide-state : {g : Summary} {s : State} (new : Tables) (u : ℕ) → Begins g s → SetsNamedMode u sampling.Hide g.tables new → (told : List Entry) × TellsMore 0 s.told told × SpacesFit (spaces (with_tables new g)) (retold told (hide_name u (name_var named u s)))
 hide-state {g} {s} new u b c =
     hidden-spaces (with_tables c.mid g) (with_naming (name_one u s.naming) s) new u c.global (named-one g s c.mid u b.fits c.named.named) c.named.leads c.named.unassumed (c.hidden refl)
 

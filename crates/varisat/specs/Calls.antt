@@ -5,6 +5,10 @@ use Rattle.std.specs.Prelude.{◌≡◌, ◌≢◌, ℕ, ◌+◌, ◌-◌, ◌*�
 use Rattle.std.specs.declared.alloc.AllocError.{AllocError}
 use Rattle.varisat_theory.specs.Membership.{◌∈◌}
 use Rattle.varisat_theory.specs.Literals.{Literal, Clause, variable_of, opposite, IsUnit, IsSatisfiable}
+use Rattle.varisat_theory.specs.Counted.{added}
+use Rattle.varisat_theory.specs.Journals.{lines_of}
+use Rattle.varisat_theory.specs.Journals.{Assumes as Assumed}
+use Rattle.varisat.specs.Journals.{retold, TellsMore, ToldConflict}
 use Rattle.varisat_formula.specs.Dimacs.{Reading}
 use Rattle.varisat_formula.specs.Streams.{Stand}
 use Rattle.varisat.specs.States.{State, join_counted, Verdict, Unknown, Sat, Unsat, UnsatUnderAssumptions, HasRightVerdict, IsWellFormed}
@@ -26,7 +30,7 @@ is_valid s = s.ledger.valid
 abbrev pub IsValid : State → Type 0
 IsValid s = is_valid s ≡ true
 
--- What a user can know in t is what it is in s, but for what a call writes beside, which is nothing yet.
+-- What a user can know in t is what it is in s, but for what a call tells beside: entries that add no clause that counts.
 pub record IsLike (s t : State) : Type 0 where
   pub naming : t.naming ≡ s.naming
   pub ever_hidden : t.ever_hidden ≡ s.ever_hidden
@@ -35,6 +39,7 @@ pub record IsLike (s t : State) : Type 0 where
   pub counted : t.counted ≡ s.counted
   pub verdict : t.verdict ≡ s.verdict
   pub ledger : t.ledger ≡ s.ledger
+  pub told : TellsMore 0 s.told t.told
 
 -- An error from which there is no way back: from then on the state is invalid. Nothing else is told of it but that it is well-formed, and what the ledger tells.
 pub record Invalidates (s t : State) : Type 0 where
@@ -164,7 +169,7 @@ with_assumptions list s = record s { assumptions = list; counted = join_counted 
 abbrev pub TakesAssumptions : State → List Literal → State → Type 0
 TakesAssumptions s list t =
     let named : Naming = name_all list s.naming in
-    IsLike (start (with_assumptions (map (through_names named) list) (with_naming named s))) t
+    IsLike (start (retold (s.told ++ Assumed (map (through_names named) list) ∷ []) (with_assumptions (map (through_names named) list) (with_naming named s)))) t
 
 abbrev pub Assumes : State → List Literal → Result (Unit {0}) SolverError → State → Type 0
 Assumes s list (Ok _) t = IsValid s × MayConstrain s.naming list × TakesAssumptions s list t
@@ -202,14 +207,21 @@ pub record TellsVerdict (s : State) (b : Bool) (t : State) : Type 0 where
   pub steps : s.verdict ≡ Unknown → CountsCall s (Ok b) t
   pub answer : answer_of t.verdict ≡ Some b
   pub right : HasRightVerdict t
-  pub rest : IsLike (with_verdict t.verdict (with_steps t.ledger.steps s)) t
+  pub rest : IsLike (retold t.told (with_verdict t.verdict (with_steps t.ledger.steps s))) t
+  -- of the clauses that it told to be added as many count as steps were made
+  pub told : TellsMore (t.ledger.steps - s.ledger.steps) s.told t.told
+  -- under Unsat propagation over what is held conflicts
+  pub refuted : t.verdict ≡ Unsat → ToldConflict t.told
 
 -- The steps are spent before a verdict is known. The search can go on from there.
 pub record IsInterrupted (s t : State) : Type 0 where
   pub valid : IsValid s
   pub unknown : s.verdict ≡ Unknown
   pub steps : CountsCall s (Err Interrupted) t
-  pub rest : IsLike (with_steps t.ledger.steps s) t
+  pub rest : IsLike (retold t.told (with_steps t.ledger.steps s)) t
+  -- of the clauses that it told to be added as many count as steps were made, and as many were added at least
+  pub told : TellsMore (t.ledger.steps - s.ledger.steps) s.told t.told
+  pub adds : t.ledger.steps - s.ledger.steps ≤ added (lines_of told.entries)
 
 abbrev pub Solves : State → Result Bool SolverError → State → Type 0
 Solves s (Ok b) t = TellsVerdict s b t

@@ -18,6 +18,7 @@ pub mod Accepting
 pub mod Summaries
 pub mod Carried
 pub mod Spaces
+pub mod Journals
 pub mod Usage
 pub mod VariableCalls
 pub mod VariableChanges

@@ -5,9 +5,10 @@ use Rattle.std.specs.Prelude.{◌≡◌, ◌≢◌, ℕ, zero, suc, ◌<◌, ◌
 use Rattle.varisat_theory.specs.Membership.{◌∈◌, ◌⊆◌}
 use Rattle.varisat_theory.specs.Literals.{Literal, Clause, Assignment, variable_of, literal_of, IsUnit, SatisfiesAll, MakesTrue}
 use Rattle.varisat_theory.specs.Renaming.{rename}
-use Rattle.varisat_theory.specs.Derivations.{Line, Refutes}
+use Rattle.varisat_theory.specs.Held.{SameClauses}
+use Rattle.varisat_theory.specs.Journals.{Entry, Leads, accepted_of, NoneLeaves}
 use Rattle.varisat_theory.specs.Searches.{Search, IsTautology, CoversBy, IsLiteralOf}
-use Rattle.varisat_theory.specs.Outcomes.{Outcome, Holds, IsReached}
+use Rattle.varisat_theory.specs.Outcomes.{Outcome, Holds}
 use Rattle.varisat_theory.specs.Outcomes as outcome
 use Rattle.varisat_literals.specs.Numbers.{polarity_of}
 use Rattle.varisat_names.specs.Maps.{IsInverse, chain}
@@ -17,6 +18,7 @@ use Rattle.varisat_names.specs.declared.variables.data.VarData.{VarData}
 use Rattle.varisat.specs.States.{State, Verdict, Unknown, Sat, Unsat, UnsatUnderAssumptions, HasRightVerdict, IsWellFormed}
 use Rattle.varisat.specs.Names.{Mode, Sample, Witness}
 use Rattle.varisat.specs.Models.{put_name}
+use Rattle.varisat.specs.Journals.{ToldConflict}
 use Rattle.varisat.specs.Carried.{carry, AgreesAlong, is_forced}
 
 -- The maps as functions; how many global variables were made, what is kept of each of them, and its value in the model found last; the assumptions as given and the core found last, over names; those of the assumptions by which the search goes, and the search with its verdict, over solver variables, and how many variables it has.
@@ -95,22 +97,26 @@ pub record SolversFit (identity from_global to_global : ℕ → Option ℕ) (cou
   pub one_to_one : IsInverse from_global to_global
   pub live : (v x : ℕ) → to_global v ≡ Some x → (i : ℕ) × (identity x ≡ Some i) × (i ∈ counted)
 
--- How what the search says is translated to identities: `identity` of each solver variable in use, the values that are forced, and whether a name was ever hidden.
+-- How what the search says is translated to identities: `identity` of each solver variable in use, `global` of each identity that is live, the values that are forced, and what was told of the clauses that are held.
 pub record Translation : Type 0 where
   pub identity : ℕ → Option ℕ
+  pub global : ℕ → Option ℕ
   pub forced : ℕ → Option Bool
-  pub hidden : Bool
+  pub told : List Entry
 
--- Lines lead from the accepted clauses to what the search holds, over identities, and to clauses that it forgot with a variable that left. Among these is a unit clause for each forced value of an identity without a solver variable.
-pub record IsReachedWithForgotten (P : List Clause) (r : Translation) (held : List Clause) : Type 0 where
+-- What was told leads to some clauses over identities: those of the search, which are over solver variables in use, and others that it forgot with variables that left. Among these is a unit clause for each forced value of a live identity without a solver variable.
+pub record SharesHeld (r : Translation) (share : List Clause) : Type 0 where
+  pub held : List Clause
+  pub led : Leads [] r.told held
   pub forgotten : List Clause
-  pub reached : IsReached P (rename (carry r.identity) held ++ forgotten)
-  pub units : (i : ℕ) (b : Bool) → r.forced i ≡ Some b → ((v : ℕ) → r.identity v ≢ Some i) → (c : Clause) × (c ∈ forgotten) × IsUnit (literal_of i b) c
+  pub same : SameClauses held (forgotten ++ rename (carry r.identity) share)
+  pub inside : (c : Clause) (l : Literal) → c ∈ share → l ∈ c → (i : ℕ) × (r.identity (variable_of l) ≡ Some i)
+  pub units : (i : ℕ) (b : Bool) (x : ℕ) → r.forced i ≡ Some b → r.global i ≡ Some x → ((v : ℕ) → r.identity v ≢ Some i) → (c : Clause) × (c ∈ forgotten) × IsUnit (literal_of i b) c
 
--- how a proof tells of what is held: under Unsat its lines refute the accepted clauses
-abbrev pub HasProof : List Clause → Translation → List Clause → Outcome → Type 0
-HasProof P r held outcome.Unsat = (lines : List Line) × Refutes P lines
-HasProof P r held _ = IsReachedWithForgotten P r held
+-- What was told of the clauses that the search holds. Under Unsat it leads to a conflict, and nothing more is told of clauses.
+abbrev pub HeldFits : Translation → List Clause → Outcome → Type 0
+HeldFits r share outcome.Unsat = ToldConflict r.told
+HeldFits r share _ = SharesHeld r share
 
 -- What the search with its verdict says of the accepted clauses: it holds some clauses, as a proof would.
 pub record SearchHolds (P : List Clause) (r : Translation) (s : Search) (v : Outcome) : Type 0 where
@@ -125,8 +131,8 @@ pub record SearchHolds (P : List Clause) (r : Translation) (s : Search) (v : Out
   pub fixed : v ≢ outcome.Unsat → (l : Literal) (i : ℕ) → r.identity (variable_of l) ≡ Some i → r.forced i ≡ Some (polarity_of l) → l ∈ s.fixed
   -- each accepted clause is true, or is kept
   pub covered : v ≢ outcome.Unsat → CoversBy (carry r.identity) (is_forced r.forced) P s
-  -- where nothing was hidden, lines lead from the accepted clauses to what is held
-  pub proved : r.hidden ≡ false → HasProof P r held v
+  -- what was told leads to these clauses and to what was forgotten
+  pub told : HeldFits r held v
 
 -- The list, which is given over names with solver variables, is the state's over identities.
 pub record AssumptionsFit (from_user from_global names : ℕ → Option ℕ) (given assumptions : List Literal) : Type 0 where
@@ -167,8 +173,13 @@ VerdictFits identity model (outcome.UnsatUnder found) (UnsatUnderAssumptions cor
 VerdictFits identity model _ _ = ⊥
 
 -- by way of global variables
-abbrev pub translation : Carrying → Spaces → Bool → Translation
-translation w p hidden = record { identity = chain p.global_from_solver w.identity; forced = w.forced; hidden = hidden }
+abbrev pub translation : Carrying → Spaces → List Entry → Translation
+translation w p told = record { identity = chain p.global_from_solver w.identity; global = w.global; forced = w.forced; told = told }
+
+-- The accepted clauses are those that were told, in order; and no variable left as long as nothing was hidden.
+pub record IsTold (told : List Entry) (clauses : List Clause) (ever_hidden : Bool) : Type 0 where
+  pub accepted : accepted_of told ≡ clauses
+  pub stays : ever_hidden ≡ false → NoneLeaves told
 
 pub record Links (w : Carrying) (p : Spaces) (s : State) : Type 0 where
   pub identities : IdentitiesFit w.identity w.global p.kept s.naming.made
@@ -180,10 +191,10 @@ pub record Links (w : Carrying) (p : Spaces) (s : State) : Type 0 where
   pub units : UnitsFit w.identity w.forced p.kept s.counted
   pub isolation : IsolationFits w.identity w.forced p.kept s.clauses s.naming.made
   pub solvers : SolversFit w.identity p.solver_from_global p.global_from_solver s.counted
-  pub holds : SearchHolds s.clauses (translation w p s.ever_hidden) p.search (without_core p.outcome)
+  pub holds : SearchHolds s.clauses (translation w p s.told) p.search (without_core p.outcome)
   pub assumptions : AssumptionsFit p.global_from_user p.solver_from_global s.naming.names p.assumptions s.assumptions
   pub marks : MarksFit p.global_from_user p.kept p.assumptions
-  pub working : WorkingFits s.clauses (translation w p s.ever_hidden).identity s.assumptions p.working
+  pub working : WorkingFits s.clauses (translation w p s.told).identity s.assumptions p.working
   pub verdict : VerdictFits w.identity p.model p.outcome s.verdict
   pub core : CoreFits s.naming.names p.core s.verdict
   pub right : HasRightVerdict s
@@ -192,6 +203,7 @@ pub record Links (w : Carrying) (p : Spaces) (s : State) : Type 0 where
   pub few : p.var_count ≤ length s.counted
   -- where nothing was ever hidden, each live global variable has a name
   pub shown : s.ever_hidden ≡ false → (x : ℕ) → p.user_from_global x ≡ None → (p.kept x).deleted ≡ true
+  pub told : IsTold s.told s.clauses s.ever_hidden
 
 -- the spaces stand for the state
 abbrev pub SpacesFit : Spaces → State → Type 0

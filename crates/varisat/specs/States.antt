@@ -2,6 +2,7 @@
 use Rattle.std.specs.Prelude.{◌≡◌, ℕ, ◌<◌, ◌≤◌, Bool, true, false, ◌||◌, nat_eq, if◌then◌else◌, Some, None, List, [], ◌∷◌, ◌++◌}
 use Rattle.varisat_theory.specs.Membership.{◌∈◌, IsDistinct}
 use Rattle.varisat_theory.specs.Literals.{Literal, Clause, Assignment, variable_of, SatisfiesAll, MakesTrue, IsSatisfiable, IsFailedCore}
+use Rattle.varisat_theory.specs.Journals.{Entry}
 use Rattle.varisat_names.specs.Settings.{Settings, default_settings}
 use Rattle.varisat.specs.Names.{Naming, no_names}
 
@@ -20,7 +21,7 @@ pub record Ledger : Type 0 where
   pub since : ℕ
   pub settings : Settings
 
--- `naming`: which identity each name has. `ever_hidden`: whether a name was ever freed while its variable lived on. `clauses`: those accepted, over identities. `assumptions`: the list as given, over identities. `counted`: the identities that accepted clauses and assumption lists have named so far, each once.
+-- `naming`: which identity each name has. `ever_hidden`: whether a name was ever freed while its variable lived on. `clauses`: those accepted, over identities. `assumptions`: the list as given, over identities. `counted`: the identities that accepted clauses and assumption lists have named so far, each once. `told`: what a proof that was opened at the beginning would have been told, over identities.
 pub record State : Type 0 where
   pub naming : Naming
   pub ever_hidden : Bool
@@ -29,6 +30,7 @@ pub record State : Type 0 where
   pub counted : List ℕ
   pub verdict : Verdict
   pub ledger : Ledger
+  pub told : List Entry
 
 -- whether the number is one of the list
 abbrev pub is_member : ℕ → List ℕ → Bool
@@ -54,6 +56,7 @@ empty_state = record {
   counted = [];
   verdict = Unknown;
   ledger = record { valid = true; started = false; steps = 0; since = 0; settings = default_settings };
+  told = [];
 }
 
 -- What is true of each state: names stand for different identities, none is in use from the watermark on, identities that are spoken of were made, and none is counted twice.

@@ -1,6 +1,6 @@
 //! What an accepted clause and a list of assumptions bring: their names, the solver variables of these, and the clause
 //! or the list itself.
-ghost use Rattle.std.specs.Prelude.{◌≡◌, ◌≢◌, ◌<◌, ◌∷◌, [], Some, None, false, length, map, IsSome, OnOk};
+ghost use Rattle.std.specs.Prelude.{◌≡◌, ◌≢◌, ◌<◌, ◌∷◌, ◌++◌, [], List, Some, None, false, length, map, IsSome, OnOk};
 ghost use Rattle.varisat_theory.specs.Membership.{◌∈◌};
 ghost use Rattle.varisat_theory.specs.Literals.{Literal, variable_of};
 ghost use Rattle.varisat_names.specs.VarData.{kept_at};
@@ -10,6 +10,8 @@ ghost use Rattle.varisat.specs.States.{State, Verdict};
 ghost use Rattle.varisat.specs.Names.{name_all, through_names};
 ghost use Rattle.varisat.specs.Calls.{with_naming, VerdictAfter, append_clause, with_assumptions};
 ghost use Rattle.varisat.specs.Spaces.{SpacesFit};
+ghost use Rattle.varisat.specs.Journals.{retold, TellsMore};
+ghost use Rattle.varisat_theory.specs.Journals.{Entry, Assumes};
 ghost use Rattle.varisat.specs.Summaries.{spaces_of, IsKept};
 ghost use Rattle.varisat.specs.Accepting.{CanBeNamed, HasNames, AreJoined, AreMarked};
 
@@ -77,7 +79,7 @@ pub fn accept_clause<A: Allocator + Copy>(
     ensures state { OnOk result (ctx.new.solver_state ≡ record ctx.old.solver_state { sat_state = ctx.new.solver_state.sat_state; formula_is_empty = false }) }
     ensures schedule { KeepsSchedule ctx.old ctx.new }
     ensures accepted { OnOk result ((s : State) → SpacesFit (spaces_of variables.old (view ctx.old) ctx.old.assumptions ctx.old.solver_state.sat_state) s →
-        (x : Verdict) × VerdictAfter s.clauses (map (through_names (name_all clause.now s.naming)) clause.now) s.verdict x × SpacesFit (spaces_of variables.new (view ctx.new) ctx.new.assumptions ctx.new.solver_state.sat_state) (append_clause (map (through_names (name_all clause.now s.naming)) clause.now) x (with_naming (name_all clause.now s.naming) s))) }
+        (x : Verdict) × (told : List Entry) × VerdictAfter s.clauses (map (through_names (name_all clause.now s.naming)) clause.now) s.verdict x × TellsMore 0 s.told told × SpacesFit (spaces_of variables.new (view ctx.new) ctx.new.assumptions ctx.new.solver_state.sat_state) (retold told (append_clause (map (through_names (name_all clause.now s.naming)) clause.now) x (with_naming (name_all clause.now s.naming) s)))) }
 {
     // A model that was found may not satisfy the clause.
     ctx.solver_state.reopen();
@@ -104,7 +106,7 @@ pub fn assume_list<A: Allocator + Copy>(
     ensures state { OnOk result (ctx.new.solver_state ≡ record ctx.old.solver_state { sat_state = ctx.new.solver_state.sat_state; formula_is_empty = ctx.new.solver_state.formula_is_empty }) }
     ensures schedule { KeepsSchedule ctx.old ctx.new }
     ensures assumed { OnOk result ((s : State) → SpacesFit (spaces_of variables.old (view ctx.old) ctx.old.assumptions ctx.old.solver_state.sat_state) s →
-        SpacesFit (spaces_of variables.new (view ctx.new) ctx.new.assumptions ctx.new.solver_state.sat_state) (with_assumptions (map (through_names (name_all list.now s.naming)) list.now) (with_naming (name_all list.now s.naming) s))) }
+        SpacesFit (spaces_of variables.new (view ctx.new) ctx.new.assumptions ctx.new.solver_state.sat_state) (retold (s.told ++ Assumes (map (through_names (name_all list.now s.naming)) list.now) ∷ []) (with_assumptions (map (through_names (name_all list.now s.naming)) list.now) (with_naming (name_all list.now s.naming) s)))) }
 {
     // What was found under the assumptions before says nothing of these.
     ctx.solver_state.assume();

@@ -1,7 +1,7 @@
 //! Which variables leave the search as a call of `solve` begins: those whose values are fixed, unless they are assumed,
 //! and hidden ones that no kept clause names. Fixed values are kept for the model and for clauses to come, and what
 //! stands for hidden variables may be used again.
-ghost use Rattle.std.specs.Prelude.{◌≡◌, ◌≢◌, ◌<◌, ◌≤◌, ◌⊎◌, [], length, map, IsSome, OnOk, IfOk};
+ghost use Rattle.std.specs.Prelude.{◌≡◌, ◌≢◌, ◌<◌, ◌≤◌, ◌⊎◌, List, [], length, map, IsSome, OnOk, IfOk};
 ghost use Rattle.varisat_theory.specs.Membership.{◌∈◌, IsDistinct};
 ghost use Rattle.varisat_theory.specs.Literals.{Literal, variable_of};
 ghost use Rattle.varisat_literals.specs.Numbers.{variable_limit};
@@ -13,6 +13,8 @@ ghost use Rattle.varisat_search.specs.SettledUnits.{IsSettledDown};
 ghost use Rattle.varisat.specs.States.{State};
 ghost use Rattle.varisat.specs.Spaces.{SpacesFit};
 ghost use Rattle.varisat.specs.SinceChange.{GoesOnSince};
+ghost use Rattle.varisat.specs.Journals.{retold, TellsMore};
+ghost use Rattle.varisat_theory.specs.Journals.{Entry};
 ghost use Rattle.varisat.specs.Summaries.{spaces_of, IsKept};
 ghost use Rattle.varisat.specs.Dropping.{leads_to_unassumed, unassumed_among, AreOverAssumed, FlagsVariables, AreDroppedAlone, leads_to_hidden, ListsUnneeded, AreReleased, LeavesNeeded, LeavesTables};
 
@@ -159,7 +161,7 @@ fn drop_listed<A: Allocator + Copy>(
     ensures count { OnOk result (length ctx.new.assignment.current ≡ length ctx.old.assignment.current) }
     ensures settled { OnOk result (IsSettledDown (view ctx.new)) }
     ensures left { OnOk result (AreOverAssumed variables.new ctx.new.trail.literals) }
-    ensures stands { OnOk result ((s : State) → SpacesFit (spaces_of variables.old (view ctx.old) ctx.old.assumptions SatState.Unknown) s → SpacesFit (spaces_of variables.new (view ctx.new) ctx.new.assumptions SatState.Unknown) s) }
+    ensures stands { OnOk result ((s : State) → SpacesFit (spaces_of variables.old (view ctx.old) ctx.old.assumptions SatState.Unknown) s → (told : List Entry) × TellsMore 0 s.told told × SpacesFit (spaces_of variables.new (view ctx.new) ctx.new.assumptions SatState.Unknown) (retold told s)) }
 {
     variables.prove_linked();
     list_unassumed(variables, ctx.trail.trail(), literals)?;
@@ -186,7 +188,7 @@ fn drop_unneeded<A: Allocator + Copy>(
     ensures state { ctx.new.solver_state ≡ ctx.old.solver_state }
     ensures count { OnOk result (length ctx.new.assignment.current ≡ length ctx.old.assignment.current) }
     ensures left { OnOk result (LeavesNeeded variables.new (view ctx.new)) }
-    ensures stands { OnOk result ((s : State) → SpacesFit (spaces_of variables.old (view ctx.old) ctx.old.assumptions SatState.Unknown) s → SpacesFit (spaces_of variables.new (view ctx.new) ctx.new.assumptions SatState.Unknown) s) }
+    ensures stands { OnOk result ((s : State) → SpacesFit (spaces_of variables.old (view ctx.old) ctx.old.assumptions SatState.Unknown) s → (told : List Entry) × TellsMore 0 s.told told × SpacesFit (spaces_of variables.new (view ctx.new) ctx.new.assumptions SatState.Unknown) (retold told s)) }
 {
     variables.prove_linked();
     let mentioned = flag_mentioned(ctx)?;
@@ -215,7 +217,7 @@ pub fn drop_fixed<A: Allocator + Copy>(
     ensures state { ctx.new.solver_state ≡ ctx.old.solver_state }
     ensures count { OnOk result (length ctx.new.assignment.current ≡ length ctx.old.assignment.current) }
     ensures left { OnOk result (ctx.old.trail.decisions ≡ [] → ctx.old.trail.queue_head ≢ length ctx.old.trail.literals → ((conflict : Conflict) × IsConflicting (view ctx.new) conflict) ⊎ LeavesNeeded variables.new (view ctx.new)) }
-    ensures stands { OnOk result ((s : State) → SpacesFit (spaces_of variables.old (view ctx.old) ctx.old.assumptions SatState.Unknown) s → SpacesFit (spaces_of variables.new (view ctx.new) ctx.new.assumptions SatState.Unknown) s) }
+    ensures stands { OnOk result ((s : State) → SpacesFit (spaces_of variables.old (view ctx.old) ctx.old.assumptions SatState.Unknown) s → (told : List Entry) × TellsMore 0 s.told told × SpacesFit (spaces_of variables.new (view ctx.new) ctx.new.assumptions SatState.Unknown) (retold told s)) }
 {
     if ctx.trail.current_level() > 0 || ctx.trail.fully_propagated() {
         return Ok(());

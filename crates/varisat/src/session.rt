@@ -1,6 +1,8 @@
 //! Any list of calls of a solver.
 ghost use Rattle.std.specs.Prelude.{◌≡◌, [], IfOk, OnErr};
 ghost use Rattle.varisat.specs.States.{State, empty_state};
+ghost use Rattle.varisat.specs.Calls.{IsValid};
+ghost use Rattle.varisat.specs.Journals.{IsJournal, IsToldWithin};
 ghost use Rattle.varisat.specs.Summaries.{StandsFor};
 ghost use Rattle.varisat.specs.Runs.{MakesCall, Run, IsReadable, AreReadable};
 ghost use Rattle.varisat.specs.Pasts.{empty_past};
@@ -114,7 +116,7 @@ pub fn answers_of<W: ProofTarget, S: ByteSource, A: Allocator + Copy>(
     calls: Vec<Call<S, A>, A>,
 ) -> Result<Vec<Answer<W, S, A>, A>, AllocError>
     requires { AreReadable S.stand calls.items }
-    ensures run { IfOk result (λ answers. (t : State) × Run S.stand empty_state calls.items answers.items t) }
+    ensures run { IfOk result (λ answers. (t : State) × Run S.stand empty_state calls.items answers.items t × (IsValid t → IsJournal t × IsToldWithin t.ledger.steps t.told)) }
     ensures truth { IfOk result (λ answers. AreTrue S.stand empty_past calls.items answers.items) }
 {
     let mut solver: Solver<W, A> = Solver::new_in(*calls.allocator());

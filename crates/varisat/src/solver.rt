@@ -164,6 +164,7 @@ impl<W: ProofTarget, A: Allocator + Copy> Solver<W, A> {
     ghost use Rattle.varisat.specs.Calls.{IsValid, count_anew, AddsClause, AddsAll, AddsFormula, AddsDimacs, AddsReading, TellsFault, MakesVar, Assumes, Solves, TellsModel, TellsCore, Configures, TellsSteps, TellsSince, TellsValid, ClosesProof, answer_of};
     ghost use Rattle.varisat.specs.Told.{told_list, lent_list};
     ghost use Rattle.varisat.specs.Summaries.{StandsFor};
+    ghost use Rattle.varisat.specs.Journals.{IsJournal};
 
     /// A solver with no clause. It takes no memory.
     pub fn new_in(alloc: A) -> Self
@@ -234,6 +235,14 @@ impl<W: ProofTarget, A: Allocator + Copy> Solver<W, A> {
         ensures { (s : State) → StandsFor self.now s → (t : State) × TellsValid s result t × StandsFor self.now t }
     {
         !self.ctx.solver_state.state_is_invalid
+    }
+
+    /// What a proof would have been told of the solver so far is right, and where nothing was ever hidden its lines are
+    /// a derivation from the accepted clauses, which refutes them once they are known to be unsatisfiable.
+    pub fn prove_journal(&self)
+        ensures { (s : State) → StandsFor self.now s → IsValid s → IsJournal s }
+    {
+        let _is_valid = !self.ctx.solver_state.state_is_invalid;
     }
 
     /// Accepts a clause, and brings its names into use. Once the clauses are known to be unsatisfiable a clause is

@@ -116,7 +116,7 @@ returns-clause-accepted g c s f =
     let begins = subst (λ y. SpacesFit (spaces_of c.args.variables.now (view old) old.assumptions y) (with_verdict (reopened_verdict s.verdict) s)) (sym (ap (λ (x : SolverState). x.sat_state) c.reopen.ensures)) (reopened-spaces first s f) in
     let n = with_naming (name_all list s.naming) s in
     let n2 = with_verdict (reopened_verdict s.verdict) n in
-    let (x, v, k) = clause-accepted (record { tables = m; search = view mid; assumed = mid.assumptions; sat_state = mid.solver_state.sat_state; ledger = s.ledger }) n2 list joined (view new) new.assumptions new.solver_state.sat_state
+    let (x, told, v, more, k) = clause-accepted (record { tables = m; search = view mid; assumed = mid.assumptions; sat_state = mid.solver_state.sat_state; ledger = s.ledger }) n2 list joined (view new) new.assumptions new.solver_state.sat_state
     (record {
       not_unsat = opened g here;
       all = over-leads to list c.solver_from_user_lits.new.solver_lits.items over;
@@ -131,4 +131,4 @@ returns-clause-accepted g c s f =
       parts_stay = r.assumptions (opened g here);
     })
     (all.stands (with_verdict (reopened_verdict s.verdict) s) begins) in
-    (x, verdict-after s.clauses (map (through_names n.naming) list) s.verdict x v, k)
+    (x, told, verdict-after s.clauses (map (through_names n.naming) list) s.verdict x v, more, k)

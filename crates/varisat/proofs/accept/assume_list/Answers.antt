@@ -1,5 +1,5 @@
 -- What each part did to the maps, the marks and the search.
-use Rattle.std.proofs.Common.{true, false, sym, ap, ap₂, ◌∙◌, subst, length, map}
+use Rattle.std.proofs.Common.{true, false, sym, ap, ap₂, ◌∙◌, subst, length, map, ◌++◌, ◌∷◌, []}
 use Rattle.varisat_theory.specs.Membership.{◌∈◌}
 use Rattle.varisat_theory.specs.Literals.{variable_of}
 use Rattle.varisat_names.specs.Maps.{chain}
@@ -11,6 +11,8 @@ use Rattle.varisat_search.specs.Contexts.{view}
 use Rattle.varisat.specs.Accepting.{HasNames, AreMarked}
 use Rattle.varisat.specs.Names.{name_all, through_names}
 use Rattle.varisat.specs.Calls.{with_naming, assumed_verdict, with_assumptions, with_verdict}
+use Rattle.varisat_theory.specs.Journals.{Assumes}
+use Rattle.varisat.specs.Journals.{retold}
 use Rattle.varisat.specs.Spaces.{SpacesFit}
 use Rattle.varisat.specs.Summaries.{Summary, spaces_of}
 use Rattle.varisat.proofs.AssumeList.{forgets, list-assumed}
@@ -112,7 +114,7 @@ returns-clause-assumed g c s f =
     let begins = subst (λ y. SpacesFit (spaces_of c.args.variables.now (view old) old.assumptions y) (with_verdict (assumed_verdict s.verdict) s)) (sym (ap (λ (x : SolverState). x.sat_state) c.assume.ensures)) (w, forgets w first s old.solver_state.sat_state s.verdict k) in
     let n = with_naming (name_all list s.naming) s in
     let n2 = with_verdict (assumed_verdict s.verdict) n in
-    subst (λ v. SpacesFit (spaces_of c.mark_assumed-2.new.variables (view new) new.assumptions new.solver_state.sat_state) (with_verdict v (with_assumptions (map (through_names n.naming) list) n))) (assumed-again s.verdict)
+    subst (λ v. SpacesFit (spaces_of c.mark_assumed-2.new.variables (view new) new.assumptions new.solver_state.sat_state) (with_verdict v (retold (s.told ++ Assumes (map (through_names n.naming) list) ∷ []) (with_assumptions (map (through_names n.naming) list) n)))) (assumed-again s.verdict)
     (list-assumed (record { tables = m; search = view mid; assumed = mid.assumptions; sat_state = mid.solver_state.sat_state; ledger = s.ledger }) n2 list c.mark_assumed.new.variables c.mark_assumed-2.new.variables (view new) new.assumptions new.solver_state.sat_state
     (record {
       all = over-leads to list c.solver_from_user_lits.new.solver_lits.items over;

@@ -3,6 +3,8 @@ use Rattle.varisat_search.specs.declared.context.Context.{Context}
 use Rattle.varisat_search.specs.Contexts.{view}
 use Rattle.varisat_search.proofs.LeastHeld.{anything-for}
 use Rattle.varisat.proofs.SinceSteps.{come-settled}
+use Rattle.varisat.specs.Journals.{retold}
+use Rattle.varisat.proofs.ToldEntries.{tells-through}
 use Rattle.varisat.proofs.SolverCalls.{settled-stands}
 use Rattle.varisat.proofs.dropping.drop_fixed.Goals as goal
 
@@ -21,9 +23,10 @@ returns-clause-stands g c s fit =
     let x = c.args.ctx.now in
     let y = c.settle.new.ctx in
     let e = c.settle.ensures.kept in
-    (c.in_ok-drop_unneeded.ensures {u = tt}).stands s
-    ((c.in_ok-drop_listed.ensures {u = tt}).stands s
-    (settled-stands c.args.variables.now _ x y c.requires.kept (c.in-Ok.ensures {u = tt}).goes_on (ap (λ (z : Context g.row.A.Denot). z.assumptions) e) s fit))
+    let (first, a, begun) = settled-stands c.args.variables.now _ x y c.requires.kept (c.in-Ok.ensures {u = tt}).goes_on (ap (λ (z : Context g.row.A.Denot). z.assumptions) e) s fit in
+    let (second, b, mid) = (c.in_ok-drop_listed.ensures {u = tt}).stands (retold first s) begun in
+    let (third, d, last) = (c.in_ok-drop_unneeded.ensures {u = tt}).stands (retold second s) mid in
+    (third, tells-through 0 0 s.told second third (tells-through 0 0 s.told first second a b) d, last)
 
 pub returns-then-is_err-clause-since : goal.returns-then-is_err-clause-since
 returns-then-is_err-clause-since g c =

@@ -1,9 +1,12 @@
-use Rattle.varisat.specs.States.{empty_state}
+use Rattle.std.proofs.Common.{ap, sym, ◌∙◌}
+use Rattle.varisat.specs.States.{Ledger, empty_state}
+use Rattle.varisat.proofs.ToldJournals.{journal-of}
+use Rattle.varisat.proofs.RunsTold.{run-counts}
 use Rattle.varisat.proofs.Histories.{of-ok, run-is-true}
 use Rattle.varisat.proofs.session.answers_of.Goals as goal
 
 pub returns-clause-run : goal.returns-clause-run
-returns-clause-run g c = of-ok c.run-answers.result _ _ (λ answers h. let (t, r, q) = h empty_state c.new_in-solver.ensures in (t, r)) c.run-answers.ensures.run
+returns-clause-run g c = of-ok c.run-answers.result _ _ (λ answers h. let (t, r, q) = h empty_state c.new_in-solver.ensures in (t, r, λ v. (journal-of _ t q (ap (λ (l : Ledger). l.valid) (sym q.ledger) ∙ v), run-counts _ c.args.calls.items answers.items t r v))) c.run-answers.ensures.run
 
 pub returns-clause-truth : goal.returns-clause-truth
 returns-clause-truth g c = of-ok c.run-answers.result _ _ (λ answers h. let (t, r, q) = h empty_state c.new_in-solver.ensures in run-is-true _ c.args.calls.items answers.items t r) c.run-answers.ensures.run

@@ -5,8 +5,9 @@ use Rattle.varisat_schedule.specs.Plans.{Plan}
 use Rattle.varisat.specs.Summaries.{spaces_of}
 use Rattle.varisat.specs.States.{Ledger}
 use Rattle.varisat.specs.Names.{name_all, through_names}
+use Rattle.varisat.specs.Journals.{retold}
 use Rattle.varisat.specs.Calls.{with_naming, start, append_clause, count_anew, Ignored, Accepted, AddsClause}
-use Rattle.varisat.proofs.CallStates.{ledger-is, none-since, stands-valid, like-refl, broken, broken-invalid, adds-broken}
+use Rattle.varisat.proofs.CallStates.{ledger-is, none-since, stands-valid, like-retold, broken, broken-invalid, adds-broken}
 use Rattle.varisat.proofs.AcceptClause.{ledger-free, not-refuted}
 use Rattle.varisat.proofs.Additions.{told-error}
 use Rattle.varisat.proofs.SolverCalls.{unsat-known}
@@ -33,13 +34,14 @@ pub returns-in-Ok : goal.returns-in-Ok
 returns-in-Ok g c s st =
     let q = rw (← c.self.view_is) at st in
     let e = c.in-Ok.ensures {u = tt} in
-    let (x, v, (w, k)) = e.accepted s (q.fits (ap not c.if-self.false)) in
+    let (x, told, v, more, (w, k)) = e.accepted s (q.fits (ap not c.if-self.false)) in
     let bad = not-refuted _ s q (ap not c.if-self.false) c.in_default.not-Unsat in
     let n = name_all c.args.clause.now s.naming in
     let k' = c.accept_clause.ensures.schedule in
-    let t = append_clause (map (through_names n) c.args.clause.now) x (with_naming n s) in (
+    let u = append_clause (map (through_names n) c.args.clause.now) x (with_naming n s) in
+    let t = retold told u in (
       start t,
-      (stands-valid _ s q (ap not c.if-self.false), Accepted bad (may-constrain _ s q (ap not c.if-self.false) c.args.clause.now c.in_ok-check_names.ensures.0 c.in_ok-check_names.ensures.1) (x, v, like-refl (start t))),
+      (stands-valid _ s q (ap not c.if-self.false), Accepted bad (may-constrain _ s q (ap not c.if-self.false) c.args.clause.now c.in_ok-check_names.ensures.0 c.in_ok-check_names.ensures.1) (x, v, like-retold (start u) told more)),
       record {
         ledger = ledger-is _ _ _ _ _ _ (ap (λ (x : Ledger). x.valid) q.ledger ∙ ap (λ (x : SolverState). not x.state_is_invalid) (sym e.state)) refl (ap (λ (x : Ledger). x.steps) q.ledger ∙ sym (ap (λ (x : Plan). x.steps) k'.schedule)) (none-since c.steps-self-inside.result c.accept_clause.new.ctx.schedule.steps c.steps-self-inside.ensures.steps) (ap (λ (x : Ledger). x.settings) q.ledger ∙ sym k'.solver_config);
         fits = λ _. (w, ledger-free w (spaces_of c.accept_clause.new.variables (view c.accept_clause.new.ctx) c.accept_clause.new.ctx.assumptions c.accept_clause.new.ctx.solver_state.sat_state) t (record t.ledger { started = true; since = 0 }) k);

@@ -1,10 +1,12 @@
-use Rattle.std.proofs.Common.{◌-◌, ◌∙◌, not, subst, refl, sym, ap, map, true}
+use Rattle.std.proofs.Common.{◌-◌, ◌∙◌, not, subst, refl, sym, ap, map, true, ◌++◌, ◌∷◌, []}
 use Rattle.varisat_search.specs.declared.state.SolverState.{SolverState}
 use Rattle.varisat_search.specs.Contexts.{view}
 use Rattle.varisat_schedule.specs.Plans.{Plan}
 use Rattle.varisat.specs.Summaries.{spaces_of}
 use Rattle.varisat.specs.States.{Ledger}
 use Rattle.varisat.specs.Names.{name_all, through_names}
+use Rattle.varisat.specs.Journals.{retold}
+use Rattle.varisat_theory.specs.Journals.{Assumes as Assumed}
 use Rattle.varisat.specs.Calls.{with_naming, start, with_assumptions, Assumes}
 use Rattle.varisat.proofs.CallStates.{ledger-is, none-since, stands-valid, like-refl, broken, broken-invalid}
 use Rattle.varisat.proofs.AcceptClause.{ledger-free}
@@ -35,7 +37,7 @@ returns-in-Ok g c s st =
     let n = name_all c.args.lits.now s.naming in
     let plan = c.assume_list.ensures.schedule in
     let new = c.assume_list.new.ctx in
-    let t = with_assumptions (map (through_names n) c.args.lits.now) (with_naming n s) in (
+    let t = retold (s.told ++ Assumed (map (through_names n) c.args.lits.now) ∷ []) (with_assumptions (map (through_names n) c.args.lits.now) (with_naming n s)) in (
       start t,
       (stands-valid _ s q (ap not c.if-self.false), may-constrain _ s q (ap not c.if-self.false) c.args.lits.now c.in_ok-check_names.ensures.0 c.in_ok-check_names.ensures.1, like-refl (start t)),
       record {

@@ -1,8 +1,9 @@
 use Rattle.std.proofs.Common.{not, subst, sym, ap, false}
 use Rattle.varisat.specs.States.{Ledger}
+use Rattle.varisat.specs.Journals.{retold}
 use Rattle.varisat.specs.Usage.{name_var}
 use Rattle.varisat.specs.VariableCalls.{named, hide_name, HidesVar}
-use Rattle.varisat.proofs.CallStates.{ledger-is, none-since, begins, like-refl, broken, broken-invalid}
+use Rattle.varisat.proofs.CallStates.{ledger-is, none-since, begins, like-retold, broken, broken-invalid}
 use Rattle.varisat.proofs.Additions.{told-error}
 use Rattle.varisat.proofs.SinceSteps.{since-now}
 use Rattle.varisat.proofs.VariableStates.{unassumed-state, change-refused, hide-state, kept-after}
@@ -25,11 +26,13 @@ returns-in_err-check_change g c s st =
 pub returns-in-Ok : goal.returns-in-Ok
 returns-in-Ok g c s st =
     let k = begins (rw (← c.self.view_is) at st) (ap not c.if-self.false) in
-    let t = hide_name c.args.var (name_var named c.args.var s) in
+    let (told, more, fits) = hide-state c.set_named_mode.new.variables c.args.var k (c.in-Ok.ensures {u = tt}).set in
+    let u = hide_name c.args.var (name_var named c.args.var s) in
+    let t = retold told u in
     let may = c.in_ok-check_change.ensures in (
       t,
-      (k.valid, may.in_range, unassumed-state c.args.var k may.unassumed, like-refl t),
-      record { ledger = ledger-is _ _ _ _ _ _ (ap (λ (x : Ledger). x.valid) k.ledger) (ap (λ (x : Ledger). x.started) k.ledger) (ap (λ (x : Ledger). x.steps) k.ledger) (none-since c.steps-self-inside.result c.self.inside.ctx.schedule.steps c.steps-self-inside.ensures.steps) (ap (λ (x : Ledger). x.settings) k.ledger); fits = λ _. hide-state c.set_named_mode.new.variables c.args.var k (c.in-Ok.ensures {u = tt}).set },
+      (k.valid, may.in_range, unassumed-state c.args.var k may.unassumed, like-retold u told more),
+      record { ledger = ledger-is _ _ _ _ _ _ (ap (λ (x : Ledger). x.valid) k.ledger) (ap (λ (x : Ledger). x.started) k.ledger) (ap (λ (x : Ledger). x.steps) k.ledger) (none-since c.steps-self-inside.result c.self.inside.ctx.schedule.steps c.steps-self-inside.ensures.steps) (ap (λ (x : Ledger). x.settings) k.ledger); fits = λ _. fits },
     )
 
 pub returns-in-Err : goal.returns-in-Err

@@ -1,0 +1,215 @@
+-- What the calls of a run tell together.
+use Rattle.std.proofs.Common.{◌≡◌, ℕ, ◌+◌, ◌-◌, Bool, true, false, Option, List, [], ◌∷◌, ◌++◌, map, ◌≢◌, ◌⊎◌, inl, inr, ⊎_elim, Result, Ok, Err, sym, ap, ◌∙◌, subst, refl, arith}
+use Rattle.varisat_theory.specs.Literals.{Literal, Clause}
+use Rattle.std.specs.declared.alloc.AllocError.{AllocError}
+use Rattle.varisat_theory.specs.Journals.{Assumes, LeadsBy}
+use Rattle.varisat_formula.specs.Dimacs.{Reading}
+use Rattle.varisat_formula.specs.Streams.{Stand}
+use Rattle.varisat.specs.States.{State, Ledger, empty_state}
+use Rattle.varisat.specs.Additions.{Gave, AllAdded, OneRefused, RefusedAtOnce, NoFault, MemoryFault, Fault, ClauseRefused, ClausesAdded, RefusedEarly, FaultInText, Whole, MemoryRanOut, SourceFailed, Read, Unread}
+use Rattle.varisat.specs.Additions as additions
+use Rattle.varisat.specs.Usage as usage
+use Rattle.varisat.specs.Calls as state
+use Rattle.varisat.specs.Names.{Naming, Sample, Witness, set_mode, free_name, name_all, through_names}
+use Rattle.varisat.specs.Told.{told_list, told_vars}
+use Rattle.varisat.specs.Runs.{MakesCall, Run}
+use Rattle.varisat.specs.declared.session.Call.{Call}
+use Rattle.varisat.specs.declared.session.Answer.{Answer}
+use Rattle.varisat.specs.declared.session.Call.TheVariants as call
+use Rattle.varisat.specs.declared.session.Answer.TheVariants as answer
+use Rattle.varisat_names.specs.declared.config.SolverConfigUpdate.{SolverConfigUpdate}
+use Rattle.varisat_formula.specs.declared.dimacs.error.DimacsError.{DimacsError}
+use Rattle.varisat.specs.VariableCalls as variables
+use Rattle.varisat.specs.Journals.{TellsMore}
+use Rattle.varisat.specs.declared.solver.SolverError.{SolverError}
+use Rattle.varisat.specs.declared.solver.SolverError.TheVariants.{OutOfMemory, Invalid, ClauseStoreFull, WitnessVar, AssumedVar, VariableLimit, Interrupted, ConfigOutOfRange, Dimacs}
+use Rattle.varisat.proofs.VerdictAnswers.{is-unknown-or-not}
+use Rattle.varisat.proofs.ToldEntries.{tells-nothing, tells-through, tells, assumes-goes}
+
+-- From a valid state steps were made, and as many clauses that lines added count at most.
+pub record TellsOn (s t : State) : Type 0 where
+  pub valid : state.IsValid s
+  pub made : ℕ
+  pub count : t.ledger.steps ≡ s.ledger.steps + made
+  pub told : TellsMore made s.told t.told
+
+tells-same : (s t : State) → t ≡ s → state.IsValid t → TellsOn s t
+tells-same s t e v = record {
+  valid = subst state.IsValid e v;
+  made = 0;
+  count = let z = ap (λ (x : State). x.ledger.steps) e in omega (arith, z);
+  told = subst (λ (x : State). TellsMore 0 s.told x.told) (sym e) (tells-nothing s.told);
+}
+
+-- steps are counted anew, and nothing is told
+tells-anew : (s t : State) → t ≡ state.count_anew s → state.IsValid t → TellsOn s t
+tells-anew s t e v = record {
+  valid = subst state.IsValid e v;
+  made = 0;
+  count = let z = ap (λ (x : State). x.ledger.steps) e in omega (arith, z);
+  told = subst (λ (x : State). TellsMore 0 s.told x.told) (sym e) (tells-nothing s.told);
+}
+
+-- the count stays, and nothing that is told counts
+tells-plainly : (s t : State) → state.IsValid s → t.ledger.steps ≡ s.ledger.steps → TellsMore 0 s.told t.told → TellsOn s t
+tells-plainly s t v e m = record { valid = v; made = 0; count = omega (arith, e); told = m }
+
+through : (s m t : State) → TellsOn s m → TellsOn m t → TellsOn s t
+through s m t a b = record {
+  valid = a.valid;
+  made = a.made + b.made;
+  count = let x = a.count in let y = b.count in omega (arith, x, y);
+  told = tells-through a.made b.made s.told m.told t.told a.told b.told;
+}
+
+no-way : (s t : State) → state.Invalidates s t → state.IsValid t → ⊥
+no-way s t b v = let z : false ≡ true = sym (ap (λ (x : Ledger). x.valid) b.ledger) ∙ v in cc
+
+-- 1. Clauses.
+
+add-clause : (s t : State) (d : Clause) (r : Result (Unit {0}) SolverError) → state.AddsClause s d r t → state.IsValid t → TellsOn s t
+add-clause s t d (Ok u) (v, state.Ignored n e) w = tells-anew s t e w
+add-clause s t d (Ok u) (v, state.Accepted n lim (x, after, e)) w = tells-plainly s t v (ap (λ (x : Ledger). x.steps) e.ledger) e.told
+add-clause s t d (Err OutOfMemory) a w = absurd (no-way s t a.2 w)
+add-clause s t d (Err ClauseStoreFull) a w = absurd (no-way s t a.2 w)
+add-clause s t d (Err Invalid) a w = tells-same s t a.1 w
+add-clause s t d (Err VariableLimit) a w = tells-same s t a.3 w
+add-clause s t d (Err (WitnessVar u)) a w = tells-same s t a.4 w
+add-clause s t d (Err e) a w = absurd a
+
+add-all : (s t : State) (P : List Clause) (r : Result (Unit {0}) SolverError) → state.AddsAll s P r t → state.IsValid t → TellsOn s t
+add-all s t [] r a w = tells-same s t a.1 w
+add-all s t (c ∷ P) r (inl (mid, a, rest)) w = let second = add-all mid t P r rest w in through s mid t (add-clause s mid c (Ok tt) a second.valid) second
+add-all s t (c ∷ P) r (inr (e, k, a)) w = add-clause s t c (Err e) a w
+
+add-formula : (s t : State) (P : List Clause) (r : Result (Unit {0}) SolverError) → state.AddsFormula s P r t → state.IsValid t → TellsOn s t
+add-formula s t P r (AllAdded v mid a e k) w = let second = tells-anew mid t k w in through s mid t (add-all s mid P (Ok tt) a second.valid) second
+add-formula s t P r (OneRefused v x e a) w = add-all s t P (Err x) a w
+add-formula s t P r (RefusedAtOnce e (v, k)) w = tells-same s t k w
+
+tell-fault : (s t : State) (x : Option DimacsError) (r : Result (Unit {0}) SolverError) → state.TellsFault x s r t → state.IsValid t → TellsOn s t
+tell-fault s t x r (NoFault n e k) w = tells-anew s t k w
+tell-fault s t x r (MemoryFault y n m e b) w = absurd (no-way s t b w)
+tell-fault s t x r (Fault y n m e k) w = tells-same s t k w
+
+add-reading : (s t : State) (R : Reading) (r : Result (Unit {0}) SolverError) → additions.AddsReading state.adding s R r t → state.IsValid t → TellsOn s t
+add-reading s t R r (ClauseRefused e k a) w = add-all s t R.clauses (Err e) a w
+add-reading s t R r (ClausesAdded mid a f) w = let second = tell-fault mid t R.fault r f w in through s mid t (add-all s mid R.clauses (Ok tt) a second.valid) second
+
+add-given : (s t : State) (old new : Stand) (g : Gave old new) (r : Result (Unit {0}) SolverError) → additions.AddsGiven state.adding g s r t → state.IsValid t → TellsOn s t
+add-given s t old new g r (RefusedEarly ended from e k a n) w = add-all s t ended (Err e) a w
+add-given s t old new g r (FaultInText R from x a n) w = add-reading s t R r a w
+add-given s t old new g r (Whole end a n) w = add-reading s t _ r a w
+add-given s t old new g r (MemoryRanOut front rest e a n) w = add-reading s t _ r a w
+add-given s t old new g r (SourceFailed a n) w = add-reading s t _ r a w
+
+add-text : (s t : State) (old new : Stand) (r : Result (Unit {0}) SolverError) → state.AddsDimacs s old r new t → state.IsValid t → TellsOn s t
+add-text s t old new r (Read v g a) w = add-given s t old new g r a w
+add-text s t old new r (Unread e (v, k) n) w = tells-same s t k w
+
+-- 2. Variables and assumptions.
+
+make-var : (s t : State) (r : Result ℕ SolverError) → state.MakesVar s r t → state.IsValid t → TellsOn s t
+make-var s t (Ok u) (v, free, small, e) w = tells-plainly s t v (ap (λ (x : Ledger). x.steps) e.ledger) e.told
+make-var s t (Err OutOfMemory) a w = absurd (no-way s t a.1 w)
+make-var s t (Err Invalid) a w = tells-same s t a.1 w
+make-var s t (Err VariableLimit) a w = tells-same s t a.2 w
+make-var s t (Err e) a w = absurd a
+
+changes-var : (f : Naming → Naming) (b : Bool → Bool) (s t : State) (u : ℕ) (r : Result (Unit {0}) SolverError) → usage.ChangesVar variables.named (λ x. record x { naming = f x.naming; ever_hidden = b x.ever_hidden; ledger = record x.ledger { since = 0 } }) s u r t → state.IsValid t → TellsOn s t
+changes-var f b s t u (Ok x) (v, small, free, e) w = tells-plainly s t v (ap (λ (x : Ledger). x.steps) e.ledger) e.told
+changes-var f b s t u (Err Invalid) a w = tells-same s t a.1 w
+changes-var f b s t u (Err VariableLimit) a w = tells-same s t a.2 w
+changes-var f b s t u (Err (AssumedVar x)) a w = tells-same s t a.4 w
+changes-var f b s t u (Err OutOfMemory) a w = absurd (no-way s t a.2 w)
+changes-var f b s t u (Err e) a w = absurd a
+
+observe : (s t : State) (r : Result (List ℕ) SolverError) → usage.Observes variables.named s r t → state.IsValid t → TellsOn s t
+observe s t (Ok us) (v, (m, shown, e)) w = tells-plainly s t v (ap (λ (x : Ledger). x.steps) e.ledger) e.told
+observe s t (Err Invalid) a w = tells-same s t a.1 w
+observe s t (Err VariableLimit) a w = tells-same s t a.2 w
+observe s t (Err OutOfMemory) a w = absurd (no-way s t a w)
+observe s t (Err e) a w = absurd a
+
+assume-list : (s t : State) (list : List Literal) (r : Result (Unit {0}) SolverError) → state.Assumes s list r t → state.IsValid t → TellsOn s t
+assume-list s t list (Ok u) (v, lim, e) w =
+    let l = map (through_names (name_all list s.naming)) list in
+    tells-plainly s t v (ap (λ (x : Ledger). x.steps) e.ledger) (tells-through 0 0 s.told (s.told ++ Assumes l ∷ []) t.told (tells 0 s.told (Assumes l ∷ []) (assumes-goes s.told l)) e.told)
+assume-list s t list (Err OutOfMemory) a w = absurd (no-way s t a.1 w)
+assume-list s t list (Err Invalid) a w = tells-same s t a.1 w
+assume-list s t list (Err VariableLimit) a w = tells-same s t a.2 w
+assume-list s t list (Err (WitnessVar u)) a w = tells-same s t a.3 w
+assume-list s t list (Err e) a w = absurd a
+
+-- 3. Steps.
+
+solve : (s t : State) (r : Result Bool SolverError) → state.Solves s r t → state.IsValid t → TellsOn s t
+solve s t (Ok b) r w = record {
+  valid = r.valid;
+  made = t.ledger.steps - s.ledger.steps;
+  count = ⊎_elim (λ u. let c = (r.steps u).count in omega (arith, c)) (λ n. let c = (r.known n).1 in omega (arith, c)) (is-unknown-or-not s.verdict);
+  told = r.told;
+}
+solve s t (Err OutOfMemory) (u, c, b) w = absurd (no-way (state.with_steps t.ledger.steps s) t b w)
+solve s t (Err ClauseStoreFull) (u, c, b) w = absurd (no-way (state.with_steps t.ledger.steps s) t b w)
+solve s t (Err Interrupted) r w = record {
+  valid = r.valid;
+  made = t.ledger.steps - s.ledger.steps;
+  count = let c = r.steps.count in omega (arith, c);
+  told = r.told;
+}
+solve s t (Err Invalid) a w = tells-same s t a.1 w
+solve s t (Err e) a w = absurd a
+
+tell-model : (s t : State) (r : Result (Option (List Literal)) AllocError) → state.TellsModel s r t → state.IsValid t → TellsOn s t
+tell-model s t (Ok m) a w = tells-same s t a.1 w
+tell-model s t (Err e) a w = tells-same s t a.2 w
+
+tell-core : (s t : State) (r : Result (Option (List Literal)) AllocError) → state.TellsCore s r t → state.IsValid t → TellsOn s t
+tell-core s t (Ok m) a w = tells-same s t a.1 w
+tell-core s t (Err e) a w = tells-same s t a.2 w
+
+config : (s t : State) (u : SolverConfigUpdate) (r : Result (Unit {0}) SolverError) → state.Configures s u r t → state.IsValid t → TellsOn s t
+config s t u (Ok x) (v, n, e) w = tells-plainly s t v (ap (λ (x : State). x.ledger.steps) e) (subst (λ (x : State). TellsMore 0 s.told x.told) (sym e) (tells-nothing s.told))
+config s t u (Err Invalid) a w = tells-same s t a.1 w
+config s t u (Err (ConfigOutOfRange field)) a w = tells-same s t a.2 w
+config s t u (Err e) a w = absurd a
+
+-- 4. Runs.
+
+call-tells : {W S A : Type 0} (seen : S → Stand) (c : Call S A) (a : Answer W S A) (s t : State) → MakesCall seen s c a t → state.IsValid t → TellsOn s t
+call-tells seen (call.AddClause d) (answer.AddClause r) s t m w = add-clause s t d.items r m w
+call-tells seen (call.AddFormula f) (answer.AddFormula r) s t m w = add-formula s t f.clauses r m w
+call-tells seen (call.AddDimacsCnf source) (answer.AddDimacsCnf r back) s t m w = add-text s t (seen source) (seen back) r m w
+call-tells seen call.NewVar (answer.NewVar r) s t m w = make-var s t r m w
+call-tells seen (call.SampleVar u) (answer.SampleVar r) s t m w = changes-var (set_mode u Sample) (λ b. b) s t u r m.0 w
+call-tells seen (call.WitnessVar u) (answer.WitnessVar r) s t m w = changes-var (set_mode u Witness) (λ b. b) s t u r m.0 w
+call-tells seen (call.HideVar u) (answer.HideVar r) s t m w = changes-var (free_name u) (λ b. true) s t u r m w
+call-tells seen call.ObserveInternalVars (answer.ObserveInternalVars r) s t m w = observe s t (told_vars r) m w
+call-tells seen (call.Assume list) (answer.Assume r) s t m w = assume-list s t list.items r m w
+call-tells seen call.Solve (answer.Solve r) s t m w = solve s t r m w
+call-tells seen call.Model (answer.Model r) s t m w = tell-model s t (told_list r) m w
+call-tells seen call.FailedCore (answer.FailedCore r) s t m w = tell-core s t (told_list r) m w
+call-tells seen (call.Config u) (answer.Config r) s t m w = config s t u r m w
+call-tells seen call.Steps (answer.Steps n) s t m w = tells-same s t m.1 w
+call-tells seen call.StepsSinceChange (answer.StepsSinceChange n) s t m w = tells-same s t m.2 w
+call-tells seen call.IsValid (answer.IsValid b) s t m w = tells-same s t m.1 w
+call-tells seen call.CloseProof (answer.CloseProof r) s t m w = tells-anew s t m.1 w
+call-tells seen _ _ s t m w = absurd m
+
+pub run-tells : {W S A : Type 0} (seen : S → Stand) (calls : List (Call S A)) (answers : List (Answer W S A)) (s t : State) → Run seen s calls answers t → state.IsValid t → TellsOn s t
+run-tells seen [] [] s t r w = tells-same s t r w
+run-tells seen [] (a ∷ answers) s t r w = absurd r
+run-tells seen (c ∷ calls) [] s t r w = absurd r
+run-tells seen (c ∷ calls) (a ∷ answers) s t (mid, m, r) w =
+    let second = run-tells seen calls answers mid t r w in
+    through s mid t (call-tells seen c a s mid m second.valid) second
+
+-- from the beginning: as many count at most as steps were made in all
+pub run-counts : {W S A : Type 0} (seen : S → Stand) (calls : List (Call S A)) (answers : List (Answer W S A)) (t : State) → Run seen empty_state calls answers t → state.IsValid t → (held : List Clause) × LeadsBy t.ledger.steps [] t.told held
+run-counts seen calls answers t r w =
+    let all = run-tells seen calls answers empty_state t r w in
+    let (held, led) = all.told.goes [] refl in
+    let c = all.count in
+    let n : all.made ≡ t.ledger.steps = omega (arith, c) in
+    (held, subst (λ k. LeadsBy k [] t.told held) n (subst (λ es. LeadsBy all.made [] es held) (sym all.told.joined) led))

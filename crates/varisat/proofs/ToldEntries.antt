@@ -1,0 +1,103 @@
+-- What is told further, and what it makes of what was told.
+use Rattle.std.proofs.Common.{◌≡◌, ℕ, ◌+◌, ◌≤◌, Bool, true, false, List, [], ◌∷◌, ◌++◌, inl, sym, ap, ap₂, ◌∙◌, subst, refl, append_assoc, arith}
+use Rattle.std.proofs.lemmas.List.{append-nil}
+use Rattle.varisat_theory.specs.Literals.{Literal, Clause}
+use Rattle.varisat_theory.specs.Derivations.{Line}
+use Rattle.varisat_theory.specs.Counted.{added}
+use Rattle.varisat_theory.specs.Propagation.{Conflicts}
+use Rattle.varisat_theory.specs.Held.{without}
+use Rattle.varisat_theory.specs.Journals.{Entry, Accepts, Assumes, Leaves, Fails, Leads, LeadsBy, accepted_of, lines_of, NoneLeaves, written, GoesOn}
+use Rattle.varisat_theory.proofs.Journals.{goes_on_further, accepted_append, lines_append, stays_append, written_accepts, written_stays}
+use Rattle.varisat_theory.specs.Outcomes.{Outcome}
+use Rattle.varisat_theory.specs.Outcomes as outcome
+use Rattle.varisat_theory.proofs.StepStands.{added_append}
+use Rattle.varisat.specs.Spaces.{IsTold}
+use Rattle.varisat.proofs.ReachedHeld.{leaving}
+use Rattle.varisat.specs.Journals.{TellsMore}
+
+pub tells-nothing : (told : List Entry) → TellsMore 0 told told
+tells-nothing told = record { entries = []; joined = sym (append-nil told); goes = λ held d. (held, refl) }
+
+pub tells-through : (n m : ℕ) (a b c : List Entry) → TellsMore n a b → TellsMore m b c → TellsMore (n + m) a c
+tells-through n m a b c s t = record {
+  entries = s.entries ++ t.entries;
+  joined = t.joined ∙ ap (λ x. x ++ t.entries) s.joined ∙ append_assoc a s.entries t.entries;
+  goes = goes_on_further n m a s.entries t.entries s.goes (subst (λ x. GoesOn m x t.entries) s.joined t.goes);
+}
+
+pub tells : (n : ℕ) (told es : List Entry) → GoesOn n told es → TellsMore n told (told ++ es)
+tells n told es g = record { entries = es; joined = refl; goes = g }
+
+-- and then others of which nothing counts
+pub tells-also : (n : ℕ) (a b : List Entry) (es : List Entry) → TellsMore n a b → GoesOn 0 b es → TellsMore n a (b ++ es)
+tells-also n a b es s g = subst (λ m. TellsMore m a (b ++ es)) (let z : n + 0 ≡ n = omega arith in z) (tells-through n 0 a b (b ++ es) s (tells 0 b es g))
+
+-- steps follow entries of which nothing counts; n is how many were made
+pub steps-follow : (k n : ℕ) (a b c : List Entry) → TellsMore 0 a b → (t : TellsMore k b c) → k ≡ n → TellsMore n a c
+steps-follow k n a b c s t e = subst (λ m. TellsMore m a c) (let z : 0 + k ≡ n = omega (arith, e) in z) (tells-through 0 k a b c s t)
+
+pub steps-follow-adding : (k n : ℕ) (a b c : List Entry) → TellsMore 0 a b → (t : TellsMore k b c) → k ≡ n → k ≤ added (lines_of t.entries) → (u : TellsMore n a c) × (n ≤ added (lines_of u.entries))
+steps-follow-adding k n a b c s t e l =
+    let all = lines_append s.entries t.entries in
+    let sum = added_append (lines_of s.entries) (lines_of t.entries) in
+    let same = ap added all in (
+      record {
+        entries = s.entries ++ t.entries;
+        joined = t.joined ∙ ap (λ x. x ++ t.entries) s.joined ∙ append_assoc a s.entries t.entries;
+        goes = subst (λ m. GoesOn m a (s.entries ++ t.entries)) (let z : 0 + k ≡ n = omega (arith, e) in z) (goes_on_further 0 k a s.entries t.entries s.goes (subst (λ x. GoesOn k x t.entries) s.joined t.goes));
+      },
+      omega (arith, same, sum, l, e),
+    )
+
+pub accepts-goes : (told : List Entry) (c : Clause) → GoesOn 0 told (Accepts c ∷ [])
+accepts-goes told c held d = (held ++ c ∷ [], (held ++ c ∷ [], refl, inl (tt, refl)))
+
+pub leaves-goes : (told : List Entry) (v : ℕ) → GoesOn 0 told (Leaves v ∷ [])
+leaves-goes told v held d = (without v held, (without v held, refl, inl (tt, refl)))
+
+pub assumes-goes : (told : List Entry) (a : List Literal) → GoesOn 0 told (Assumes a ∷ [])
+assumes-goes told a held d = (held, (held, refl, inl (tt, refl)))
+
+-- of the accepted clauses, and of whether variables left
+
+pub told-written : (told : List Entry) (P : List Clause) (hidden : Bool) (lines : List Line) → IsTold told P hidden → IsTold (told ++ written lines) P hidden
+told-written told P hidden lines t = record {
+  accepted = accepted_append told (written lines) ∙ ap (λ x. accepted_of told ++ x) (written_accepts lines) ∙ append-nil (accepted_of told) ∙ t.accepted;
+  stays = λ e. stays_append told (written lines) (t.stays e) (written_stays lines);
+}
+
+pub told-accepted : (told : List Entry) (P : List Clause) (hidden : Bool) (c : Clause) → IsTold told P hidden → IsTold (told ++ Accepts c ∷ []) (P ++ c ∷ []) hidden
+told-accepted told P hidden c t = record {
+  accepted = accepted_append told (Accepts c ∷ []) ∙ ap (λ x. x ++ c ∷ []) t.accepted;
+  stays = λ e. stays_append told (Accepts c ∷ []) (t.stays e) tt;
+}
+
+pub told-assumed : (told : List Entry) (P : List Clause) (hidden : Bool) (a : List Literal) → IsTold told P hidden → IsTold (told ++ Assumes a ∷ []) P hidden
+told-assumed told P hidden a t = record {
+  accepted = accepted_append told (Assumes a ∷ []) ∙ append-nil (accepted_of told) ∙ t.accepted;
+  stays = λ e. stays_append told (Assumes a ∷ []) (t.stays e) tt;
+}
+
+pub told-failed : (told : List Entry) (P : List Clause) (hidden : Bool) (core : List Literal) → IsTold told P hidden → IsTold (told ++ Fails core ∷ []) P hidden
+told-failed told P hidden core t = record {
+  accepted = accepted_append told (Fails core ∷ []) ∙ append-nil (accepted_of told) ∙ t.accepted;
+  stays = λ e. stays_append told (Fails core ∷ []) (t.stays e) tt;
+}
+
+pub told-left : (told : List Entry) (P : List Clause) (hidden : Bool) (v : ℕ) → (hidden ≡ false → ⊥) → IsTold told P hidden → IsTold (told ++ Leaves v ∷ []) P hidden
+told-left told P hidden v n t = record {
+  accepted = accepted_append told (Leaves v ∷ []) ∙ append-nil (accepted_of told) ∙ t.accepted;
+  stays = λ e. absurd (n e);
+}
+
+pub leaving-goes : (told : List Entry) (v : Outcome) (i : ℕ) → GoesOn 0 told (leaving v i)
+leaving-goes told outcome.Unknown i = leaves-goes told i
+leaving-goes told (outcome.Sat found) i = leaves-goes told i
+leaving-goes told outcome.Unsat i = λ held d. (held, refl)
+leaving-goes told (outcome.UnsatUnder core) i = leaves-goes told i
+
+pub leaving-told : (told : List Entry) (P : List Clause) (hidden : Bool) (v : Outcome) (i : ℕ) → (hidden ≡ false → ⊥) → IsTold told P hidden → IsTold (told ++ leaving v i) P hidden
+leaving-told told P hidden outcome.Unknown i n t = told-left told P hidden i n t
+leaving-told told P hidden (outcome.Sat found) i n t = told-left told P hidden i n t
+leaving-told told P hidden outcome.Unsat i n t = subst (λ x. IsTold x P hidden) (sym (append-nil told)) t
+leaving-told told P hidden (outcome.UnsatUnder core) i n t = told-left told P hidden i n t

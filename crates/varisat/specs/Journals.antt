@@ -1,0 +1,33 @@
+-- What a call tells: entries that go on from what was told before.
+use Rattle.std.specs.Prelude.{◌≡◌, ℕ, false, List, [], ◌++◌}
+use Rattle.varisat_theory.specs.Literals.{Clause}
+use Rattle.varisat_theory.specs.Propagation.{Conflicts}
+use Rattle.varisat_theory.specs.Journals.{Entry, Leads, LeadsBy, accepted_of, lines_of, GoesOn}
+use Rattle.varisat_theory.specs.Derivations.{IsDerivation, Refutes}
+use Rattle.varisat.specs.States.{State, Unsat}
+
+-- the same state once more was told
+abbrev pub retold : List Entry → State → State
+retold told s = record s { told = told }
+
+-- Further entries are told. Each is right where it stands, and n of the clauses that their lines add or fewer are neither a single literal nor part of one that is held just before.
+pub record TellsMore (n : ℕ) (before after : List Entry) : Type 0 where
+  pub entries : List Entry
+  pub joined : after ≡ before ++ entries
+  pub goes : GoesOn n before entries
+
+-- what was told leads to clauses over which propagation conflicts
+abbrev pub ToldConflict : List Entry → Type 0
+ToldConflict told = (held : List Clause) × Leads [] told held × Conflicts held []
+
+-- What was told is right, entry by entry. Its clauses are those accepted, in order. Where nothing was ever hidden its lines are a derivation from these, and under Unsat they refute them.
+pub record IsJournal (s : State) : Type 0 where
+  pub held : List Clause
+  pub led : Leads [] s.told held
+  pub accepted : accepted_of s.told ≡ s.clauses
+  pub derives : s.ever_hidden ≡ false → IsDerivation s.clauses (lines_of s.told)
+  pub refutes : s.ever_hidden ≡ false → s.verdict ≡ Unsat → Refutes s.clauses (lines_of s.told)
+
+-- all of it is right, and n of the clauses that its lines add or fewer are neither a single literal nor part of one that is held just before
+abbrev pub IsToldWithin : ℕ → List Entry → Type 0
+IsToldWithin n told = (held : List Clause) × LeadsBy n [] told held

@@ -10,7 +10,7 @@ use Rattle.varisat_theory.proofs.Members.{equal_or_not, ∈-append_cases, ∈-ap
 use Rattle.varisat_theory.proofs.Saturated.{saturated_no_conflict, complete_fewer}
 use Rattle.varisat_theory.proofs.Implication.{implied_known, implied_clash, implied_more, implied_alone}
 use Rattle.varisat_theory.proofs.Growth.{conflicts_known}
-use Rattle.varisat_theory.proofs.Scans.{answers_true, answers_false}
+use Rattle.varisat_plain.proofs.Scans.{answers_true, answers_false}
 use Rattle.varisat_present.specs.Knowing.{AreImplied, Keeps, Settles, TakesBase, Asks, IsSpare}
 use Rattle.varisat_present.proofs.KnownGrowth.{complete_both, grows_part, cut_back}
 

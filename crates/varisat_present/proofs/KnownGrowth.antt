@@ -9,7 +9,7 @@ use Rattle.varisat_theory.proofs.Members.{∈-append_cases, ∈-append_left, ∈
 use Rattle.varisat_theory.proofs.Values.{opposite_twice}
 use Rattle.varisat_theory.proofs.ConflictForms.{never_its_own}
 use Rattle.varisat_theory.proofs.Places.{∈-take_more, ∈-take_all}
-use Rattle.varisat_theory.proofs.PropagationRounds.{IsQuiet, quiet_known, quiet_open, unknown, unknown_fewer, unknown_less}
+use Rattle.varisat_plain.proofs.PropagationRounds.{IsQuiet, quiet_known, quiet_open, unknown, unknown_fewer, unknown_less}
 use Rattle.varisat_present.specs.Knowing.{AreImplied, GrowsKnown, Finds, Settles, LeavesNew, TakesBase, IsPassed, Joins, Passes}
 
 -- 1. One literal.

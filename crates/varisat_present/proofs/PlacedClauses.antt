@@ -5,7 +5,7 @@ use Rattle.varisat_theory.specs.Membership.{◌∈◌, SameSet}
 use Rattle.varisat_theory.specs.Literals.{Clause, IsUnit}
 use Rattle.varisat_theory.specs.Derivations.{TakesOut}
 use Rattle.varisat_theory.specs.Held.{mentions, unless, without}
-use Rattle.varisat_theory.specs.Checking.{IsAbsent}
+use Rattle.varisat_plain.specs.Checking.{IsAbsent}
 use Rattle.varisat_theory.proofs.Members.{∈-append_cases}
 use Rattle.varisat_present.specs.Places.{present, present_at, literals_there}
 

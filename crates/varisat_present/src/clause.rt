@@ -1,6 +1,6 @@
 //! One clause, under literals that are known to be true.
 ghost use Rattle.std.specs.Prelude.{◌≡◌, ◌≢◌, ◌↔◌, ◌⊎◌, IsTrue, true, false, MatchOption, [], ◌∷◌};
-ghost use Rattle.varisat_theory.specs.Checking.{IsClauseStatus};
+ghost use Rattle.varisat_plain.specs.Checking.{IsClauseStatus};
 ghost use Rattle.varisat_theory.specs.Held.{mentions};
 ghost use Rattle.varisat_theory.specs.Literals.{opposite};
 ghost use Rattle.varisat_theory.specs.Membership.{◌∈◌, ◌⊆◌, SameSet};
@@ -9,7 +9,7 @@ ghost use Rattle.varisat_theory.specs.Propagation.{LeavesOnly, IsComplete};
 use crate::known::Known;
 use std::alloc::Allocator;
 use varisat_literals::{Lit, Var};
-use varisat_theory::propagation::ClauseStatus;
+use varisat_plain::propagation::ClauseStatus;
 
 /// Whether the literal is one of the list.
 pub fn holds(literals: &[Lit], literal: Lit) -> bool

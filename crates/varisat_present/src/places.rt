@@ -1,6 +1,6 @@
 //! Clauses at places. A place is empty once its clause is deleted, so that places stay as they are.
 ghost use Rattle.std.specs.Prelude.{◌≡◌, length, MatchOption, Some, None, true, false};
-ghost use Rattle.varisat_theory.specs.Checking.{IsAbsent};
+ghost use Rattle.varisat_plain.specs.Checking.{IsAbsent};
 ghost use Rattle.varisat_theory.specs.Held.{mentions, without};
 ghost use Rattle.varisat_theory.specs.Literals.{Clause};
 ghost use Rattle.varisat_theory.specs.Membership.{SameSet};

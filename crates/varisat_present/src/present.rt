@@ -1,6 +1,6 @@
 //! Present clauses, and what propagation over them came to.
 ghost use Rattle.std.specs.Prelude.{◌≡◌, ◌↔◌, ◌++◌, ◌∷◌, ◌<◌, ℕ, [], length, slice_index_or, IfOk, OnOk, OnErr, IsTrue, true, false, MatchOption, Some, None};
-ghost use Rattle.varisat_theory.specs.Checking.{IsAbsent};
+ghost use Rattle.varisat_plain.specs.Checking.{IsAbsent};
 ghost use Rattle.varisat_theory.specs.Derivations.{TakesOut};
 ghost use Rattle.varisat_theory.specs.Held.{without};
 ghost use Rattle.varisat_theory.specs.Literals.{Clause, opposites, IsUnit};
@@ -18,7 +18,7 @@ use crate::watches::Watches;
 use std::alloc::{AllocError, Allocator};
 use std::marker::Model;
 use varisat_literals::{Lit, Var};
-use varisat_theory::propagation::ClauseStatus;
+use varisat_plain::propagation::ClauseStatus;
 
 /// Present clauses, in the order in which they were added. What they imply by propagation alone is kept between calls,
 /// so that a question costs in proportion to what is propagated for it. A deletion of the only clause that implied a

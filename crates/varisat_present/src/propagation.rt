@@ -14,7 +14,7 @@ use crate::places::clause_at;
 use crate::watches::{Watch, Watches};
 use std::alloc::{AllocError, Allocator};
 use varisat_literals::Lit;
-use varisat_theory::propagation::ClauseStatus;
+use varisat_plain::propagation::ClauseStatus;
 
 /// What a watched clause comes to whose one watched literal is false.
 #[derive(Clone, Copy)]

@@ -3,7 +3,7 @@ use Rattle.std.proofs.Common.{◌≡◌, ℕ, suc, ◌+◌, ◌-◌, ◌^◌, �
 use Rattle.std.proofs.lemmas.List.{take-append-drop, take_more}
 use Rattle.varisat_theory.specs.Literals.{Clause}
 use Rattle.varisat_theory.specs.Propagation.{Conflicts}
-use Rattle.varisat_theory.specs.Checking.{IsAbsent}
+use Rattle.varisat_plain.specs.Checking.{IsAbsent}
 use Rattle.varisat_proof.specs.declared.proof.format.Encoding.{Encoding}
 use Rattle.varisat_proof.specs.declared.proof.format.Encoding.TheVariants.{Text, Binary}
 use Rattle.varisat_proof.specs.declared.proof.format.LineKind.{LineKind}

@@ -3,10 +3,10 @@ use Rattle.std.proofs.Common.{◌≡◌, ℕ, suc, List, [], ◌∷◌, ◌++◌
 use Rattle.varisat_theory.specs.Literals.{Clause, IsSatisfiable}
 use Rattle.varisat_theory.specs.Propagation.{Conflicts}
 use Rattle.varisat_theory.specs.Derivations.{Line, Add, Delete, Derives, Refutes}
-use Rattle.varisat_theory.specs.Checking.{IsVerdict}
-use Rattle.varisat_theory.specs.declared.checker.PlainVerdict.{PlainVerdict}
-use Rattle.varisat_theory.specs.declared.checker.PlainVerdict.TheVariants as plain
-use Rattle.varisat_theory.proofs.Checking.{Checked, checked_start, checked_more, refutation_found, derivation_found, wrong_found}
+use Rattle.varisat_plain.specs.Checking.{IsVerdict}
+use Rattle.varisat_plain.specs.declared.checker.PlainVerdict.{PlainVerdict}
+use Rattle.varisat_plain.specs.declared.checker.PlainVerdict.TheVariants as plain
+use Rattle.varisat_plain.proofs.Checking.{Checked, checked_start, checked_more, refutation_found, derivation_found, wrong_found}
 use Rattle.varisat_theory.proofs.Lines.{refutes_sound}
 use Rattle.varisat_proof.specs.declared.proof.format.ProofFormat.{ProofFormat}
 use Rattle.varisat_proof.specs.declared.proof.format.ProofFormat.TheVariants.{Drat, BinaryDrat, Marked}

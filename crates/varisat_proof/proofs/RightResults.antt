@@ -1,8 +1,8 @@
 -- The result of a check is the one right one.
 use Rattle.std.proofs.Common.{◌≡◌, ℕ, List, [], ◌∷◌, refl, sym, ap, subst, ◌∙◌, Option}
 use Rattle.varisat_theory.specs.Derivations.{Line, Add, Delete}
-use Rattle.varisat_theory.specs.Checking.{IsVerdict}
-use Rattle.varisat_theory.proofs.Checking.{exact}
+use Rattle.varisat_plain.specs.Checking.{IsVerdict}
+use Rattle.varisat_plain.proofs.Checking.{exact}
 use Rattle.varisat_proof.specs.declared.proof.format.ProofFormat.{ProofFormat}
 use Rattle.varisat_proof.specs.Lines.{ProofLine, plain_line, plain_lines, plain_encoding}
 use Rattle.varisat_proof.specs.Machine.{Parsed, parsed}

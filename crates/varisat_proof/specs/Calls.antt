@@ -4,7 +4,7 @@ use Rattle.varisat_theory.specs.Membership.{◌∈◌}
 use Rattle.varisat_theory.specs.Literals.{Literal, Clause, IsSatisfiable, IsSatisfiableWith}
 use Rattle.varisat_theory.specs.Propagation.{Conflicts}
 use Rattle.varisat_theory.specs.Derivations.{Line, Add, Delete, Derives}
-use Rattle.varisat_theory.specs.Checking.{IsWrong}
+use Rattle.varisat_plain.specs.Checking.{IsWrong}
 use Rattle.varisat_theory.specs.Held.{without}
 use Rattle.varisat_formula.specs.declared.dimacs.error.DimacsErrorKind.TheVariants as kind
 use Rattle.varisat_formula.specs.Dimacs.{Reading, dimacs, broken}

@@ -2,7 +2,7 @@
 use Rattle.std.specs.Prelude.{◌≡◌, ◌≢◌, ℕ, suc, List, [], ◌∷◌, ◌++◌, length, Bool, true, false, if◌then◌else◌, Result, Ok, Err}
 use Rattle.varisat_theory.specs.Literals.{Literal, Clause}
 use Rattle.varisat_theory.specs.Derivations.{Line, Add, Delete, Derives}
-use Rattle.varisat_theory.specs.Checking.{IsWrong}
+use Rattle.varisat_plain.specs.Checking.{IsWrong}
 use Rattle.varisat_theory.specs.Propagation.{Conflicts}
 use Rattle.varisat_formula.specs.declared.dimacs.error.DimacsError.{DimacsError}
 use Rattle.varisat_formula.specs.declared.dimacs.error.DimacsErrorKind.TheVariants as kind

@@ -4,7 +4,7 @@ use Rattle.varisat_theory.specs.Membership.{◌⊆◌}
 use Rattle.varisat_theory.specs.Literals.{Literal, Clause}
 use Rattle.varisat_theory.specs.Propagation.{Conflicts, Follows}
 use Rattle.varisat_theory.specs.Derivations.{TakesOut}
-use Rattle.varisat_theory.specs.Checking.{IsAbsent}
+use Rattle.varisat_plain.specs.Checking.{IsAbsent}
 use Rattle.varisat_formula.specs.Formulas.{Formula, no_clauses, with_one_more}
 use Rattle.varisat_proof.specs.declared.proof.format.Encoding.{Encoding}
 use Rattle.varisat_proof.specs.declared.proof.format.LineKind.{LineKind}

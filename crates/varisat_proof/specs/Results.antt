@@ -3,9 +3,9 @@ use Rattle.std.specs.Prelude.{◌≡◌, ℕ, suc, List, [], ◌++◌, length, O
 use Rattle.varisat_theory.specs.Literals.{Clause}
 use Rattle.varisat_theory.specs.Derivations.{Line, Derives}
 use Rattle.varisat_theory.specs.Propagation.{Conflicts}
-use Rattle.varisat_theory.specs.Checking.{IsVerdict}
-use Rattle.varisat_theory.specs.declared.checker.PlainVerdict.{PlainVerdict}
-use Rattle.varisat_theory.specs.declared.checker.PlainVerdict.TheVariants as plain
+use Rattle.varisat_plain.specs.Checking.{IsVerdict}
+use Rattle.varisat_plain.specs.declared.checker.PlainVerdict.{PlainVerdict}
+use Rattle.varisat_plain.specs.declared.checker.PlainVerdict.TheVariants as plain
 use Rattle.varisat_proof.specs.declared.proof.format.ProofFormat.{ProofFormat}
 use Rattle.varisat_proof.specs.declared.checker.error.CheckVerdict.{CheckVerdict}
 use Rattle.varisat_proof.specs.declared.checker.error.CheckVerdict.TheVariants.{Refutation, Derivation}

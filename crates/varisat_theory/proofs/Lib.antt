@@ -20,10 +20,6 @@ pub mod Places
 pub mod Renaming
 pub mod CallBounds
 pub mod RestartPoints
-pub mod ClauseStatuses
-pub mod PropagationRounds
-pub mod Scans
-pub mod Checking
 pub mod StepCounts
 pub mod StepParts
 pub mod SearchFits

@@ -10,7 +10,6 @@ pub mod Luby
 pub mod Rank
 pub mod CallBounds
 pub mod Laws
-pub mod Checking
 pub mod Counted
 pub mod Searches
 pub mod Outcomes

@@ -1,7 +1,7 @@
 //! Worked rows. Literals are written as signed variable numbers from 1.
 use std::alloc::{AllocError, Global};
-use varisat_theory::checker::{PlainLine, PlainVerdict, check_lines};
-use varisat_theory::propagation::{conflicts, follows};
+use varisat_plain::checker::{PlainLine, PlainVerdict, check_lines};
+use varisat_plain::propagation::{conflicts, follows};
 
 fn code(number: i32) -> u32 {
     let index = number.unsigned_abs().saturating_sub(1);

@@ -5,7 +5,7 @@ ghost use Rattle.varisat_theory.specs.Literals.{Clause, IsSatisfiable};
 ghost use Rattle.varisat_formula.specs.Rest.{Progress, IsEnding};
 ghost use Rattle.varisat_theory.specs.Derivations.{Line, Add, Delete, TakesOut};
 ghost use Rattle.varisat_theory.specs.Propagation.{Conflicts, Follows};
-ghost use Rattle.varisat_theory.specs.Checking.{IsAbsent};
+ghost use Rattle.varisat_plain.specs.Checking.{IsAbsent};
 ghost use Rattle.varisat_theory.specs.Held.{without};
 ghost use Rattle.varisat_proof.specs.declared.proof.format.LineKind.TheVariants.{Fails};
 ghost use Rattle.varisat_proof.specs.declared.proof.format.Encoding.TheVariants.{Text};

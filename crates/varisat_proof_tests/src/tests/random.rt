@@ -8,7 +8,7 @@ use varisat_formula::io::{MemoryTarget, ProofTarget, ReadSource};
 use varisat_literals::{Lit, lit, lits};
 use varisat_proof::checker::Checker;
 use varisat_proof::proof::{ProofFormat, ProofStep, write_binary_step, write_step};
-use varisat_theory::checker::{PlainLine, PlainVerdict, check_lines};
+use varisat_plain::checker::{PlainLine, PlainVerdict, check_lines};
 
 /// A random literal of one of six variables.
 fn next_literal(numbers: &mut Pcg32) -> Lit {

@@ -1,3 +1,4 @@
+use Rattle.std.proofs.lemmas.Grind.{common_steps}
 use Rattle.std.proofs.Common.{arith}
 use Rattle.varisat_clause.proofs.DatabaseTracks.{garbage-small}
 use Rattle.varisat_clause.proofs.CollectedClauses.{copied-next}
@@ -11,3 +12,6 @@ overflow_sub-words g c =
 pub clauses-preserved : goal.clauses-preserved
 clauses-preserved g c =
     copied-next c.args.alloc.now c.clauses.new_alloc c.copy_clause.new.new_alloc c.clauses.new_db c.copy_clause.new.new_db c.clauses.index c.place.result (omega arith) c.place.ensures.place c.clauses.invariant (c.in_ok-copy_clause.ensures.copied) (c.in_ok-copy_clause.ensures.passed_over) c.in_ok-copy_clause.ensures.tracks
+
+pub returns : goal.returns
+returns g c = grind (arith, common_steps)

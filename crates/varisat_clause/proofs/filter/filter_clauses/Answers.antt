@@ -1,3 +1,4 @@
+use Rattle.std.proofs.lemmas.Grind.{common_steps}
 use Rattle.std.proofs.Common.{◌≡◌, true, false, ap, sym, ◌∙◌, arith}
 use Rattle.varisat_clause.specs.Headers.{Header}
 use Rattle.varisat_clause.specs.Stored.{header_at}
@@ -22,3 +23,6 @@ pub clauses-preserved : goal.clauses-preserved
 clauses-preserved g c =
     let live : (header_at (stored_clauses c.clauses.alloc) c.place-cref.result).deleted ≡ false = ap (λ (h : Header). h.deleted) (sym c.header.ensures) ∙ sym c.deleted.ensures ∙ c.if-deleted.false in
     filtering-on g.F.ClauseFilter.leaves g.F.ClauseFilter.accepts c.args.filter.now c.clauses.filter c.args.alloc.now c.clauses.alloc c.clauses.db c.clauses.index c.place-cref.result c.clauses.invariant (omega arith) c.place-cref.ensures.place c.filter_clause.new.filter c.filter_clause.new.alloc c.filter_clause.new.db c.place-cref.ensures.known live c.in_ok-filter_clause.ensures.changed c.in_ok-filter_clause.ensures.accepts_more c.in_ok-filter_clause.ensures.tracks
+
+pub returns-clause-filtered : goal.returns-clause-filtered
+returns-clause-filtered g c = grind (arith, common_steps)

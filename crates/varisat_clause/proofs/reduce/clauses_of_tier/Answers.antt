@@ -1,3 +1,4 @@
+use Rattle.std.proofs.lemmas.Grind.{common_steps}
 use Rattle.std.proofs.Common.{◌≡◌, true, false, ap, sym, ◌∙◌, arith}
 use Rattle.std.specs.Prelude.{not, ◌&&◌}
 use Rattle.varisat_clause.specs.Tiers.{is_tier}
@@ -17,3 +18,6 @@ pub clauses-preserved : goal.clauses-preserved
 clauses-preserved g c =
     let live : is_live_in c.args.tier (stored_at (stored_clauses c.args.alloc.now) c.place-cref.result) ≡ true = ap (λ (h : Header). not h.deleted && is_tier c.args.tier h.tier) (sym c.header.ensures) ∙ sym c.is_live_in.ensures ∙ c.if-not-is_live_in.false in
     tier-more c.args.tier c.args.alloc.now c.clauses.index c.place-cref.result c.clauses.list.items c.push.new.self.items (omega arith) c.place-cref.ensures.place c.place-cref.ensures.known c.clauses.invariant live c.in_ok-push.ensures.items
+
+pub returns : goal.returns
+returns g c = grind (arith, common_steps)

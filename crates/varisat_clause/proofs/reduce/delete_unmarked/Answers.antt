@@ -1,3 +1,4 @@
+use Rattle.std.proofs.lemmas.Grind.{common_steps}
 use Rattle.std.proofs.Common.{◌≡◌, ℕ, List, ◌+◌, drop, true, false, ap, sym, subst, inl, inr, ◌∙◌, arith}
 use Rattle.varisat_clause.specs.Headers.{Header}
 use Rattle.varisat_clause.specs.Stored.{header_at}
@@ -31,3 +32,15 @@ clauses-preserved g c =
       state = reducing-deleted _ c.args.alloc.now c.clauses.alloc c.delete_clause.new.alloc c.clauses.left c.cref-item.result (drop (c.clauses.cref-index + 1) c.args.list.now) (subst (λ (xs : List ℕ). IsReducing (all_deleted (unmarked_places (stored_clauses c.args.alloc.now) c.args.count c.args.list.now) (stored_clauses c.args.alloc.now)) c.args.alloc.now c.clauses.alloc c.clauses.left xs) e c.clauses.invariant.state) (omega arith) m c.delete_clause.ensures.deleted;
       tracks = c.delete_clause.ensures.tracks;
     }
+
+pub header-requires-clause-place : goal.header-requires-clause-place
+header-requires-clause-place g c = grind (arith, common_steps)
+
+pub delete_clause-requires-clause-place : goal.delete_clause-requires-clause-place
+delete_clause-requires-clause-place g c = grind (arith, common_steps)
+
+pub delete_clause-requires-clause-live : goal.delete_clause-requires-clause-live
+delete_clause-requires-clause-live g c = grind (arith, common_steps)
+
+pub returns-clause-deleted : goal.returns-clause-deleted
+returns-clause-deleted g c = grind (arith, common_steps)

@@ -1,4 +1,4 @@
-use Rattle.varisat_theory.proofs.Scans.{granted}
+use Rattle.varisat_plain.proofs.Scans.{granted}
 use Rattle.varisat_present.proofs.clause.is_same_set.Goals as goal
 
 pub returns-then-is_part : goal.returns-then-is_part

@@ -2,8 +2,8 @@ use Rattle.std.proofs.Common.{get_or, Some, subst, sym, ap, ◌∙◌}
 use Rattle.varisat_theory.specs.Literals.{opposite}
 use Rattle.varisat_theory.specs.Membership.{◌∈◌}
 use Rattle.varisat_theory.proofs.Places.{∈-get_or}
-use Rattle.varisat_theory.proofs.Scans.{refused, granted}
-use Rattle.varisat_theory.proofs.ClauseStatuses.{Seen, seen_first, seen_again, seen_false, seen_end_none, seen_end_some}
+use Rattle.varisat_plain.proofs.Scans.{refused, granted}
+use Rattle.varisat_plain.proofs.ClauseStatuses.{Seen, seen_first, seen_again, seen_false, seen_end_none, seen_end_some}
 use Rattle.std.proofs.lemmas.List.{get_or_read}
 use Rattle.varisat_present.proofs.clause.status_of.Goals as goal
 use Rattle.varisat_present.proofs.clause.status_of.Goals.{then-not-is_false+in-None, then-not-is_false+in-Some+else-m-code, else-not-is_false}

@@ -1,4 +1,4 @@
-use Rattle.varisat_theory.proofs.ClauseStatuses.{Seen}
+use Rattle.varisat_plain.proofs.ClauseStatuses.{Seen}
 use Rattle.varisat_present.proofs.clause.status_of.Given as goal
 
 abbrev pub invariant-loop-l : goal.invariant-loop-l

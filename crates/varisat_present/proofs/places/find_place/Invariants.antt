@@ -1,5 +1,5 @@
 use Rattle.std.proofs.Common.{take}
-use Rattle.varisat_theory.specs.Checking.{IsAbsent}
+use Rattle.varisat_plain.specs.Checking.{IsAbsent}
 use Rattle.varisat_present.specs.Places.{present}
 use Rattle.varisat_present.proofs.places.find_place.Given as goal
 

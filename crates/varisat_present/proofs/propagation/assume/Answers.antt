@@ -1,6 +1,6 @@
 use Rattle.std.proofs.Common.{subst, take}
 use Rattle.varisat_theory.specs.Membership.{◌∈◌}
-use Rattle.varisat_theory.proofs.Scans.{refused, granted}
+use Rattle.varisat_plain.proofs.Scans.{refused, granted}
 use Rattle.std.proofs.lemmas.List.{get_or_read}
 use Rattle.varisat_present.proofs.Elements.{element_in}
 use Rattle.varisat_present.proofs.KnownGrowth.{assumed_start, assumed_known, assumed_more, assumes_clash, assumes_all}

@@ -1,4 +1,4 @@
-use Rattle.varisat_theory.proofs.PropagationRounds.{unknown}
+use Rattle.varisat_plain.proofs.PropagationRounds.{unknown}
 use Rattle.varisat_present.specs.Places.{present}
 use Rattle.varisat_present.specs.Knowing.{GrowsKnown}
 use Rattle.varisat_present.proofs.propagation.settle.Given as goal

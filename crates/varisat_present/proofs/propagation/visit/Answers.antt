@@ -1,4 +1,4 @@
-use Rattle.varisat_theory.proofs.Scans.{refused, granted}
+use Rattle.varisat_plain.proofs.Scans.{refused, granted}
 use Rattle.varisat_present.specs.Places.{present}
 use Rattle.varisat_present.proofs.PlacedClauses.{at_in}
 use Rattle.varisat_present.proofs.KnownGrowth.{visit_conflict, leaves_new}

@@ -19,3 +19,6 @@ returns-clause-added g c =
     let ep : n.places ≡ s.places ++ length s.words ∷ [] = rw (← v, ← w) p in
     let room : length s.words + 3 + length c.args.lits.now < 2 ^ 32 = rw (← v) (omega arith) in
     rw o (added s n h c.args.lits.now c.requires.sound c.requires.long room c.append.ensures.flags c.append.ensures.back ew ep)
+
+pub returns-then-not-append-clause-refused : goal.returns-then-not-append-clause-refused
+returns-then-not-append-clause-refused g c = grind (arith, common_steps)

@@ -1,7 +1,7 @@
 use Rattle.std.proofs.Common.{◌<◌, ℕ, List, length, sym, subst, ◌∙◌, arith}
 use Rattle.std.proofs.lemmas.List.{get_or_read}
 use Rattle.varisat_theory.specs.Membership.{◌∈◌}
-use Rattle.varisat_theory.proofs.Scans.{answers_true, answers_false}
+use Rattle.varisat_plain.proofs.Scans.{answers_true, answers_false}
 use Rattle.varisat_present.proofs.KnownPlaces.{not_outside, at_place, held_there}
 use Rattle.varisat_present.proofs.known.Known.holds.Goals as goal
 

@@ -1,5 +1,5 @@
 use Rattle.std.proofs.Common.{refl, ap, ◌∙◌}
-use Rattle.varisat_theory.proofs.Scans.{granted}
+use Rattle.varisat_plain.proofs.Scans.{granted}
 use Rattle.varisat_present.specs.Places.{present}
 use Rattle.varisat_present.proofs.KeptLiterals.{refuted_more, found_there}
 use Rattle.varisat_present.proofs.present.PresentClauses.conflicts.Goals as goal

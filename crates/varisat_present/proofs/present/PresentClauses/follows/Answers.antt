@@ -1,7 +1,7 @@
 use Rattle.std.proofs.Common.{ap, refl, ◌∙◌}
 use Rattle.std.proofs.lemmas.List.{take_all}
 use Rattle.varisat_theory.specs.Literals.{opposite, opposites}
-use Rattle.varisat_theory.proofs.Scans.{opposites_more}
+use Rattle.varisat_plain.proofs.Scans.{opposites_more}
 use Rattle.std.proofs.lemmas.List.{get_or_read}
 use Rattle.varisat_present.proofs.KeptLiterals.{found_there}
 use Rattle.varisat_present.proofs.present.PresentClauses.follows.Goals as goal

@@ -2,7 +2,7 @@ use Rattle.std.proofs.Common.{subst}
 use Rattle.varisat_theory.specs.Membership.{◌∈◌}
 use Rattle.std.proofs.lemmas.List.{get_or_read}
 use Rattle.varisat_proof.proofs.Elements.{element_in}
-use Rattle.varisat_theory.proofs.Scans.{answers_true, answers_false, refused, granted, part_more, part_all}
+use Rattle.varisat_plain.proofs.Scans.{answers_true, answers_false, refused, granted, part_more, part_all}
 use Rattle.varisat_proof.proofs.checker.marked.has_literals.Goals as goal
 
 pub returns-then-not-has_literal : goal.returns-then-not-has_literal

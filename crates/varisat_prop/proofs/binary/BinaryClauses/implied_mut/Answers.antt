@@ -1,3 +1,5 @@
+use Rattle.std.proofs.Common.{arith}
+use Rattle.std.proofs.lemmas.Grind.{common_steps}
 use Rattle.std.proofs.Common.{refl, map}
 use Rattle.std.specs.declared.vec.Vec.{Vec}
 use Rattle.varisat_theory.specs.Literals.{Literal}
@@ -14,3 +16,6 @@ returns g c =
         value = read vs c.args.self.now c.code.result c.args.lit c.index_mut.result.now c.self.view_is c.code.ensures.code c.requires c.index_mut.ensures.value;
       },
     )
+
+pub index_mut-requires : goal.index_mut-requires
+index_mut-requires g c = grind (arith, common_steps)

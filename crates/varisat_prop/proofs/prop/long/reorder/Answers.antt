@@ -1,3 +1,4 @@
+use Rattle.std.proofs.lemmas.Grind.{common_steps}
 use Rattle.std.proofs.Common.{◌≡◌, ◌<◌, length, sym, ◌∙◌, subst, refl, arith}
 use Rattle.varisat_prop.specs.Parts.{IsMadeTrue}
 use Rattle.varisat_prop.proofs.LiteralValues.{made-clash}
@@ -41,3 +42,15 @@ returns-in-Some-clause-found g c =
       (λ t. let b = c.if-lit_is_true.ensures.1 t in cc),
       c.in-Some.ensures.found.1,
     )
+
+pub lit_is_true-requires : goal.lit_is_true-requires
+lit_is_true-requires g c = grind (arith, common_steps)
+
+pub lit_is_false-requires : goal.lit_is_false-requires
+lit_is_false-requires g c = grind (arith, common_steps)
+
+pub returns-then-lit_is_false-clause-found : goal.returns-then-lit_is_false-clause-found
+returns-then-lit_is_false-clause-found g c = grind (arith, common_steps)
+
+pub returns-else-lit_is_false-clause-found : goal.returns-else-lit_is_false-clause-found
+returns-else-lit_is_false-clause-found g c = grind (arith, common_steps)

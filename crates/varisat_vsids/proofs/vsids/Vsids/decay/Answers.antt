@@ -1,3 +1,4 @@
+use Rattle.std.proofs.lemmas.Grind.{common_steps}
 use Rattle.std.proofs.Common.{ℕ, ◌≡◌, ◌*◌, ◌/◌, ◌^◌, ◌∙◌, ap, arith, map, refl, false}
 use Rattle.std.proofs.lemmas.List.{with_items_is}
 use Rattle.std.specs.Vec.{with_items}
@@ -24,3 +25,9 @@ pub returns-else-self-ge-ACTIVITY_LIMIT-clause-decayed : goal.returns-else-self-
 returns-else-self-ge-ACTIVITY_LIMIT-clause-decayed g c =
     let s = c.self.inside in
     rw (← c.self.view_is) (decayed_is false s.activity.items (availability s.len s.position.items) s.increment s.decay c.self.invariant.1 (under (s.increment * 1000 / s.decay) (omega arith)))
+
+pub returns-then-self-ge-ACTIVITY_LIMIT-clause-decayed : goal.returns-then-self-ge-ACTIVITY_LIMIT-clause-decayed
+returns-then-self-ge-ACTIVITY_LIMIT-clause-decayed g c = grind (arith, common_steps)
+
+pub returns-then-self-ge-ACTIVITY_LIMIT-clause-count : goal.returns-then-self-ge-ACTIVITY_LIMIT-clause-count
+returns-then-self-ge-ACTIVITY_LIMIT-clause-count g c = grind (arith, common_steps)

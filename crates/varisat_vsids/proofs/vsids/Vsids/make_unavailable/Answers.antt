@@ -1,3 +1,4 @@
+use Rattle.std.proofs.lemmas.Grind.{common_steps}
 use Rattle.std.proofs.Common.{◌-◌, ◌∙◌, ap, arith, refl, length, false, ◌<◌}
 use Rattle.std.proofs.lemmas.Bool.Decides.{nat_tests}
 use Rattle.std.proofs.lemmas.List.{with_items_is}
@@ -17,3 +18,6 @@ returns-then-place-self g c =
 pub returns-else-place-self : goal.returns-else-place-self
 returns-else-place-self g c =
     rw (← c.self.view_is) (stays_as _ c.self.inside.heap.items c.self.inside.position.items c.self.inside.len _ _ c.index.result c.args.var c.index-2.result.now false c.self.invariant.0.linked (omega (arith, c.self.invariant.0.known, c.requires, ap (λ a. length a.activity) c.self.view_is)) c.index.ensures.index c.index-2.ensures (grind (arith, nat_tests)))
+
+pub invariant_of-self : goal.invariant_of-self
+invariant_of-self g c = grind (arith, common_steps)

@@ -1,3 +1,4 @@
+use Rattle.std.proofs.lemmas.Grind.{common_steps}
 use Rattle.std.proofs.Common.{ℕ, List, ◌≡◌, ◌/◌, ◌<◌, ◌^◌, ◌∙◌, ap, arith, get_or, set, length, map, refl, true, false}
 use Rattle.std.proofs.lemmas.List.{with_items_is}
 use Rattle.std.specs.Vec.{with_items, with_item}
@@ -58,3 +59,6 @@ returns-else-value-ge-ACTIVITY_LIMIT-clause-below g c h =
     let stays = ap (availability s.len) (with_items_is s.position c.reorder.new.position (omega (arith, c.reorder.auto.position, c.deref_mut-2.ensures.len)))
     ∙ c.reorder.ensures.available ∙ ap (availability s.len) c.deref_mut-2.ensures.value in
     rw (← c.self.view_is) (same_activities _ _ _ _ _ _ s.decay (ap (λ (v : ℕ). set s.activity.items v c.args.value) c.index.ensures.index) stays refl)
+
+pub invariant_of-self-else-value-ge-ACTIVITY_LIMIT : goal.invariant_of-self-else-value-ge-ACTIVITY_LIMIT
+invariant_of-self-else-value-ge-ACTIVITY_LIMIT g c = grind (arith, common_steps)

@@ -1,3 +1,5 @@
+use Rattle.std.proofs.Common.{arith}
+use Rattle.std.proofs.lemmas.Grind.{common_steps}
 use Rattle.std.proofs.Common.{refl, ap, List, map}
 use Rattle.std.specs.declared.vec.Vec.{Vec}
 use Rattle.varisat_prop.specs.declared.prop.watch.Watch.{Watch}
@@ -15,3 +17,6 @@ returns g c =
         value = read vs c.args.self.now.lists c.args.place c.args.place c.index_mut.result.now (ap (λ (x : Watches). x.lists) c.self.view_is) refl c.requires c.index_mut.ensures.value;
       },
     )
+
+pub index_mut-requires : goal.index_mut-requires
+index_mut-requires g c = grind (arith, common_steps)

@@ -1,0 +1,4 @@
+pub mod ClauseStatuses
+pub mod PropagationRounds
+pub mod Scans
+pub mod Checking

@@ -1,0 +1,5 @@
+//! A slow and readable checker of proofs, over plain lists.
+#![tactic(auto)]
+
+pub mod checker;
+pub mod propagation;

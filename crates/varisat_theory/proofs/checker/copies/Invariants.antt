@@ -1,6 +1,0 @@
-use Rattle.std.proofs.Common.{◌≡◌, take}
-use Rattle.varisat_theory.specs.Checking.{clause_lists}
-use Rattle.varisat_theory.proofs.checker.copies.Given as goal
-
-abbrev pub invariant-loop-clause : goal.invariant-loop-clause
-invariant-loop-clause l = clause_lists l.made.items ≡ take l.clause-index (clause_lists l.clauses)

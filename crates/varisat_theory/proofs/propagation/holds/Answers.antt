@@ -1,5 +1,0 @@
-use Rattle.varisat_theory.proofs.Scans.{found}
-use Rattle.varisat_theory.proofs.propagation.holds.Goals as goal
-
-pub returns : goal.returns
-returns c = found c.args.literal c.args.literals.now c.contains.result c.contains.ensures.value

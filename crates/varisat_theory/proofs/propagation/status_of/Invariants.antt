@@ -1,5 +1,0 @@
-use Rattle.varisat_theory.proofs.ClauseStatuses.{Seen}
-use Rattle.varisat_theory.proofs.propagation.status_of.Given as goal
-
-abbrev pub invariant-loop-l : goal.invariant-loop-l
-invariant-loop-l l = Seen l.known l.clause l.l-index l.left

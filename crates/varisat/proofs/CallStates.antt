@@ -1,11 +1,11 @@
 -- States after a call that changed nothing more, and after one that ran out of memory.
 use Rattle.std.proofs.Common.{◌≡◌, ◌≢◌, ◌∙◌, ◌+◌, ◌-◌, ◌≤◌, arith, ℕ, Bool, true, false, List, Err, refl, ap}
 use Rattle.varisat_theory.specs.Literals.{Clause}
-use Rattle.varisat_clause.specs.declared.alloc.StoreError.{StoreError}
-use Rattle.varisat_clause.specs.declared.alloc.StoreError.TheVariants as store
+use Rattle.varisat_search.specs.declared.error.StepError.{StepError}
+use Rattle.varisat_search.specs.declared.error.StepError.TheVariants as step
 use Rattle.varisat_names.specs.Settings.{Settings}
 use Rattle.varisat.specs.States.{State, Ledger, IsWellFormed, Unknown, Unsat}
-use Rattle.varisat.specs.Refusals.{store_refusal}
+use Rattle.varisat.specs.Refusals.{step_refusal}
 use Rattle.varisat.specs.Calls.{IsLike, IsValid, Invalidates, MayConstrain, AddsClause, CountsCall, Solves, with_steps}
 use Rattle.varisat_theory.specs.Journals.{Entry}
 use Rattle.varisat.specs.Journals.{retold, TellsMore}
@@ -71,10 +71,12 @@ pub broken-invalid : (s : State) → s.ledger.valid ≡ true → IsWellFormed s 
 broken-invalid s v w = record { valid = v; ledger = refl; well_formed = told-well s (broken s) w }
 
 -- a clause could not be kept
-pub adds-broken : (e : StoreError) (s t : State) (d : Clause) → s.verdict ≢ Unsat → MayConstrain s.naming d → Invalidates s t → AddsClause s d (Err (store_refusal e)) t
-adds-broken store.Full s t d n l b = (n, l, b)
-adds-broken store.Memory s t d n l b = (n, l, b)
+pub adds-broken : (e : StepError) (s t : State) (d : Clause) → s.verdict ≢ Unsat → MayConstrain s.naming d → Invalidates s t → AddsClause s d (Err (step_refusal e)) t
+adds-broken step.Full s t d n l b = (n, l, b)
+adds-broken step.Memory s t d n l b = (n, l, b)
+adds-broken (step.Target cause) s t d n l b = (n, l, b)
 
-pub solves-broken : (e : StoreError) (s t : State) → s.verdict ≡ Unknown → CountsCall s (Err (store_refusal e)) t → Invalidates (with_steps t.ledger.steps s) t → Solves s (Err (store_refusal e)) t
-solves-broken store.Full s t u c b = (u, c, b)
-solves-broken store.Memory s t u c b = (u, c, b)
+pub solves-broken : (e : StepError) (s t : State) → s.verdict ≡ Unknown → CountsCall s (Err (step_refusal e)) t → Invalidates (with_steps t.ledger.steps s) t → Solves s (Err (step_refusal e)) t
+solves-broken step.Full s t u c b = (u, c, b)
+solves-broken step.Memory s t u c b = (u, c, b)
+solves-broken (step.Target cause) s t u c b = (u, c, b)

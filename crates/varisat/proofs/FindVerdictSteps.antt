@@ -1,8 +1,8 @@
 -- The steps of a search for a verdict.
 use Rattle.std.proofs.Common.{◌≡◌, ◌≢◌, ℕ, suc, ◌+◌, ◌-◌, ◌*◌, ◌^◌, ◌<◌, ◌≤◌, Bool, true, false, List, [], ◌++◌, length, ◌⊎◌, ⊎_elim, Option, Result, Ok, Err, refl, ap, ◌∙◌, subst, sym, arith}
 use Rattle.std.specs.Result.{IsErr}
-use Rattle.varisat_clause.specs.declared.alloc.StoreError.{StoreError}
-use Rattle.varisat_clause.specs.declared.alloc.StoreError.TheVariants as store
+use Rattle.varisat_search.specs.declared.error.StepError.{StepError}
+use Rattle.varisat_search.specs.declared.error.StepError.TheVariants as step
 use Rattle.std.proofs.lemmas.Bool.{cases_lt}
 use Rattle.varisat_theory.specs.Derivations.{Line}
 use Rattle.varisat_theory.specs.Searches.{Search}
@@ -23,7 +23,7 @@ use Rattle.varisat.specs.Budgets.{told_verdict, CountsSteps}
 use Rattle.varisat.specs.SinceChange.{call_from, HasComeSince, GoesOnSince, CountsSince}
 use Rattle.varisat.specs.declared.solver.SolverError.{SolverError}
 use Rattle.varisat.specs.declared.solver.SolverError.TheVariants.{Interrupted}
-use Rattle.varisat.specs.Refusals.{store_refusal}
+use Rattle.varisat.specs.Refusals.{step_refusal}
 use Rattle.varisat.proofs.SinceSteps.{come-now, come-step, few-since}
 
 -- The search came on within its budget, since whatever moment it came to the first context.
@@ -36,30 +36,31 @@ pub none-made : {A : Type 0} (x : Context A) (max_steps : ℕ) → IsPlan x.sche
 none-made x max_steps i = record { plan = i; since = λ c k. k; budget = omega arith }
 
 -- a search that can't keep a clause isn't interrupted
-no-interrupt : (e : StoreError) (r : Result Bool SolverError) → r ≡ Err (store_refusal e) → r ≡ Err Interrupted → ⊥
-no-interrupt store.Full r p f = let z = sym p ∙ f in cc
-no-interrupt store.Memory r p f = let z = sym p ∙ f in cc
+no-interrupt : (e : StepError) (r : Result Bool SolverError) → r ≡ Err (step_refusal e) → r ≡ Err Interrupted → ⊥
+no-interrupt step.Full r p f = let z = sym p ∙ f in cc
+no-interrupt step.Memory r p f = let z = sym p ∙ f in cc
+no-interrupt (step.Target cause) r p f = let z = sym p ∙ f in cc
 
 -- memory ran out before any step
-pub none-counted : (n max_steps since before after : ℕ) → since < 2 ^ (2 * n + 3) → after ≡ before → CountsSteps n max_steps since before after (Err (store_refusal store.Memory))
+pub none-counted : (n max_steps since before after : ℕ) → since < 2 ^ (2 * n + 3) → after ≡ before → CountsSteps n max_steps since before after (Err (step_refusal step.Memory))
 none-counted n max_steps since before after h e = record {
   made = 0;
   count = omega (arith, e);
   budget = omega arith;
   bounded = omega (arith, h);
   found = λ a f. absurd cc;
-  spent = λ f. absurd (no-interrupt store.Memory (Err (store_refusal store.Memory)) refl f);
+  spent = λ f. absurd (no-interrupt step.Memory (Err (step_refusal step.Memory)) refl f);
 }
 
 -- a core that was found could not be kept
-pub counts-unnamed : (n max_steps since before after : ℕ) (b : Bool) (e : StoreError) → CountsSteps n max_steps since before after (Ok b) → CountsSteps n max_steps since before after (Err (store_refusal e))
+pub counts-unnamed : (n max_steps since before after : ℕ) (b : Bool) (e : StepError) → CountsSteps n max_steps since before after (Ok b) → CountsSteps n max_steps since before after (Err (step_refusal e))
 counts-unnamed n max_steps since before after b e k = record {
   made = k.made;
   count = k.count;
   budget = k.budget;
   bounded = k.bounded;
   found = λ a f. absurd cc;
-  spent = λ f. absurd (no-interrupt e (Err (store_refusal e)) refl f);
+  spent = λ f. absurd (no-interrupt e (Err (step_refusal e)) refl f);
 }
 
 -- What is known as the search came from the first context to the second.
@@ -121,14 +122,14 @@ module _ {A : Type 0} {x y : Context A} {max_steps : ℕ} (d : Searching x y max
     }
 
     -- a clause could not be kept in the step behind them
-    pub counts-refused : (error : StoreError) (steps : ℕ) → steps ≡ y.schedule.steps → (n : ℕ) → length x.assignment.current ≤ n → CountsSteps n max_steps (x.schedule.steps - changed_at) x.schedule.steps steps (Err (store_refusal error))
+    pub counts-refused : (error : StepError) (steps : ℕ) → steps ≡ y.schedule.steps → (n : ℕ) → length x.assignment.current ≤ n → CountsSteps n max_steps (x.schedule.steps - changed_at) x.schedule.steps steps (Err (step_refusal error))
     counts-refused error steps e n h = record {
       made = steps_since x.schedule y.schedule;
       count = e ∙ so-far;
       budget = d.made.budget;
       bounded = let b = few-both n h in omega (arith, b);
       found = λ b f. absurd cc;
-      spent = λ f. absurd (no-interrupt error (Err (store_refusal error)) refl f);
+      spent = λ f. absurd (no-interrupt error (Err (step_refusal error)) refl f);
     }
 
 -- the lines of the steps
@@ -139,7 +140,7 @@ more-lines : (made : ℕ) (p r : Plan) (s t u : Search) (v : Outcome) → suc ma
 more-lines made p r s t u v e (first, q) (second, k) =
     (first ++ second, subst (λ m. MakesSteps m s u v (first ++ second)) e (one_more_made made s t u v first second q k))
 
-pub told-refused : (r : Result (Option Bool) StoreError) → IsErr r → (e : StoreError) × (told_verdict r ≡ Err (store_refusal e))
+pub told-refused : (r : Result (Option Bool) StepError) → IsErr r → (e : StepError) × (told_verdict r ≡ Err (step_refusal e))
 told-refused (Ok x) h = absurd (let z : false ≡ true = h in cc)
 told-refused (Err e) h = (e, refl)
 

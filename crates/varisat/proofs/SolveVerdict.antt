@@ -1,5 +1,6 @@
 -- A search that finds a verdict, and spaces that agree.
 use Rattle.std.proofs.Common.{◌≡◌, ◌≢◌, ℕ, suc, ◌≤◌, Bool, true, Option, Some, List, [], ◌∷◌, ◌++◌, inl, inr, ⊎_elim, sym, ap, ◌∙◌, subst, refl, map, length, arith}
+use Rattle.varisat_theory.proofs.StepStands.{new_are_added}
 use Rattle.varisat_theory.specs.Membership.{◌∈◌, ◌⊆◌}
 use Rattle.varisat_theory.specs.Literals.{Literal, Clause, Assignment, variable_of, literal_of, value, SatisfiesAll, MakesTrue, IsSatisfiableWith, IsFailedCore}
 use Rattle.varisat_theory.specs.Derivations.{Line, Add, Delete}
@@ -139,7 +140,7 @@ module _ (w : Carrying) (p : Spaces) (s : State) (k : Links w p s) (unknown : p.
   -- where the search goes on, each step added a clause at least
   pub steps-add : v ≡ outcome.Unknown → n ≤ added (lines_of steps-tell.entries)
   unfolding steps-tell
-  steps-add e = subst (λ m. n ≤ m) (sym (ap added (written_lines (map (rename_line (carry (translation w p s.told).identity)) lines)) ∙ added-renamed (carry (translation w p s.told).identity) lines)) (made.adds before.held before.holds e)
+  steps-add e = subst (λ m. n ≤ m) (sym (ap added (written_lines (map (rename_line (carry (translation w p s.told).identity)) lines)) ∙ added-renamed (carry (translation w p s.told).identity) lines)) (new_are_added n before.held lines (made.adds before.held before.holds e))
 
   pub steps-are-told : IsTold (told-with w p s lines) s.clauses s.ever_hidden
   steps-are-told = told-written s.told s.clauses s.ever_hidden (map (rename_line (carry (translation w p s.told).identity)) lines) k.told

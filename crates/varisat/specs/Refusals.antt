@@ -1,7 +1,7 @@
 -- The numbers under which the refusals are told, and the refusals of a search.
 use Rattle.std.specs.Prelude.{ℕ}
-use Rattle.varisat_clause.specs.declared.alloc.StoreError.{StoreError}
-use Rattle.varisat_clause.specs.declared.alloc.StoreError.TheVariants as store
+use Rattle.varisat_search.specs.declared.error.StepError.{StepError}
+use Rattle.varisat_search.specs.declared.error.StepError.TheVariants as step
 use Rattle.varisat.specs.declared.solver.SolverError.{SolverError}
 use Rattle.varisat.specs.declared.solver.SolverError.TheVariants.{Interrupted, OutOfMemory, Invalid, ClauseStoreFull, WitnessVar, VariableLimit, AssumedVar, ConfigOutOfRange, Dimacs}
 
@@ -16,7 +16,8 @@ refusal_number (AssumedVar var) = 8
 refusal_number (ConfigOutOfRange field) = 12
 refusal_number (Dimacs cause) = 13
 
--- how it is told why the store of clauses took no more
-abbrev pub store_refusal : StoreError → SolverError
-store_refusal store.Full = ClauseStoreFull
-store_refusal store.Memory = OutOfMemory
+-- How it is told why a step of the search came to no end. Where the search hands on nothing no target fails.
+abbrev pub step_refusal : StepError → SolverError
+step_refusal step.Full = ClauseStoreFull
+step_refusal step.Memory = OutOfMemory
+step_refusal (step.Target cause) = OutOfMemory

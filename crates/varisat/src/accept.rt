@@ -18,9 +18,9 @@ ghost use Rattle.varisat.specs.Accepting.{CanBeNamed, HasNames, AreJoined, AreMa
 use std::alloc::{AllocError, Allocator};
 use varisat_literals::{Lit, Var};
 use varisat_names::variables::LinkedVariables;
-use varisat_prop::clause::StoreError;
 use varisat_search::assumptions::set_assumptions;
 use varisat_search::context::Context;
+use varisat_search::error::StepError;
 use varisat_search::load::load_clause;
 use varisat_search::solver_variables::solver_from_user_lits;
 use varisat_search::state::SatState;
@@ -71,7 +71,7 @@ pub fn accept_clause<A: Allocator + Copy>(
     ctx: &mut Context<A>,
     literals: &mut Vec<Lit, A>,
     clause: &[Lit],
-) -> Result<(), StoreError>
+) -> Result<(), StepError>
     requires kept { IsKept variables.old ctx.old }
     requires unsettled { ctx.old.solver_state.sat_state ≢ SatState.Unsat }
     requires names { CanBeNamed clause.now variables.old }

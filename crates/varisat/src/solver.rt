@@ -18,9 +18,9 @@ use varisat_literals::{Lit, Var};
 use varisat_names::config::{ConfigField, SolverConfigUpdate};
 use varisat_names::variables::LinkedVariables;
 use varisat_names::variables::data::SamplingMode;
-use varisat_prop::clause::StoreError;
 use varisat_search::assumptions::copied;
 use varisat_search::context::Context;
+use varisat_search::error::StepError;
 use varisat_search::model::reconstruct_global_model;
 use varisat_search::state::SatState;
 use varisat_search::variables::{new_user_var, observe_internal_vars};
@@ -51,15 +51,16 @@ pub enum SolverError {
     Dimacs { cause: DimacsError },
 }
 
-impl From<StoreError> for SolverError {
-    ghost use Rattle.varisat.specs.Refusals.{store_refusal};
+impl From<StepError> for SolverError {
+    ghost use Rattle.varisat.specs.Refusals.{step_refusal};
 
-    ghost from_gives = { λ error result. result ≡ store_refusal error };
+    ghost from_gives = { λ error result. result ≡ step_refusal error };
 
-    fn from(error: StoreError) -> SolverError {
+    fn from(error: StepError) -> SolverError {
         match error {
-            StoreError::Full => SolverError::ClauseStoreFull,
-            StoreError::Memory => SolverError::OutOfMemory,
+            StepError::Full => SolverError::ClauseStoreFull,
+            // The search hands on nothing, so that no target fails.
+            StepError::Memory | StepError::Target(_) => SolverError::OutOfMemory,
         }
     }
 }

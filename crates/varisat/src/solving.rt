@@ -22,8 +22,8 @@ use crate::carrying::carry_literals;
 use std::alloc::{AllocError, Allocator};
 use varisat_literals::Lit;
 use varisat_names::variables::LinkedVariables;
-use varisat_prop::clause::StoreError;
 use varisat_search::context::Context;
+use varisat_search::error::StepError;
 use varisat_search::schedule::schedule_step;
 use varisat_search::state::SatState;
 use varisat_trace::NoTracer;
@@ -35,7 +35,7 @@ use varisat_trace::NoTracer;
 fn find_verdict<A: Allocator + Copy>(
     ctx: &mut Context<A>,
     max_steps: u64,
-) -> Result<Option<bool>, StoreError>
+) -> Result<Option<bool>, StepError>
     requires ready { IsReady ctx.old }
     requires unknown { ctx.old.solver_state.sat_state ≡ SatState.Unknown }
     ensures ready { OnOk result (IsReady ctx.new) }
@@ -93,7 +93,7 @@ pub fn find_named_verdict<A: Allocator + Copy>(
     ctx: &mut Context<A>,
     literals: &mut Vec<Lit, A>,
     max_steps: u64,
-) -> Result<Option<bool>, StoreError>
+) -> Result<Option<bool>, StepError>
     requires kept { IsKept variables.now ctx.old }
     requires unknown { ctx.old.solver_state.sat_state ≡ SatState.Unknown }
     ensures found { IfOk result (λ found. FindsVerdict variables.now ctx.old ctx.new found) }

@@ -9,9 +9,9 @@ use Rattle.varisat_prop.specs.View.{View, literal_at, node_at, level_of, StandsB
 use Rattle.varisat_prop.proofs.LiteralValues.{variable-opposite}
 use Rattle.varisat_prop.proofs.ReadElements.{element, item-∈}
 use Rattle.varisat_analysis.specs.Flags.{IsFlagged}
-use Rattle.varisat_analysis.specs.Learned.{current_level}
+use Rattle.varisat_analysis.specs.Learned.{current_level, IsOfKept}
 use Rattle.varisat_analysis.specs.declared.analyze_conflict.Parts.{Parts}
-use Rattle.varisat_analysis.specs.Marks.{CanMark, Marking, IsMarkOf, OfClause, OfCurrentLevel, IsLower, open_below, AreFalseBefore, AddsMarks}
+use Rattle.varisat_analysis.specs.Marks.{CanMark, Marking, IsMarkOf, OfClause, OfCurrentLevel, IsLower, open_below, AreFalseBefore, AreOfKept, AddsMarks}
 use Rattle.varisat_analysis.proofs.CopiedLiterals.{distinct-push}
 use Rattle.varisat_analysis.proofs.WellFormedViews.{inside, level-small, level-opposite, level-same, same-place}
 use Rattle.varisat_analysis.proofs.AnalysisOpen.{open-is, closed-unmarked, open-same, open-elsewhere, count-same, count-more}
@@ -56,7 +56,7 @@ adds-start s x = record {
   only = λ v m. inl m;
   all = λ m h. absurd h;
   longer = λ m h. h;
-  marks = λ i h o k. k;
+  marks = λ i h y o k. k;
   counted = λ i h l. omega arith;
   involved = refl;
 }
@@ -68,7 +68,7 @@ adds-none s m x o = record {
   only = λ v k. inl k;
   all = λ l h a. ⊎_elim (λ (e : l ≡ m). ⊎_elim (λ z. let g = ap (level_of s) e in absurd (omega (arith, z, g, a))) (λ k. subst (λ y. IsFlagged x.flags (variable_of y)) (sym e) k) o) (λ z. absurd z) h;
   longer = λ l h. h;
-  marks = λ i h o k. k;
+  marks = λ i h y o k. k;
   counted = λ i h l. omega arith;
   involved = refl;
 }
@@ -96,7 +96,7 @@ module _ (s : View) (w : WellFormed s) (m : Literal) (x : Marking) (h : variable
     only = only-one;
     all = all-one;
     longer = λ y i. i;
-    marks = λ i a o k. record {
+    marks = λ i a y0 o k. record {
       lower = k.lower;
       marked = λ y j. still (variable_of y) (k.marked y j);
       distinct = k.distinct;
@@ -134,8 +134,8 @@ module _ (s : View) (w : WellFormed s) (m : Literal) (x : Marking) (h : variable
     only = only-one;
     all = all-one;
     longer = λ y i. ∈-append_left y x.clause (m ∷ []) i;
-    marks = λ i q z0 k. record {
-      lower = λ y j. ⊎_elim (k.lower y) (λ o. ⊎_elim (λ e. subst (IsLower s) (sym e) (record { false_now = fm; above = a; below = b })) (λ z. absurd z) o) (∈-append_cases y x.clause (m ∷ []) j);
+    marks = λ i q y0 z0 k. record {
+      lower = λ y j. ⊎_elim (k.lower y) (λ o. ⊎_elim (λ e. subst (IsLower s) (sym e) (record { false_now = fm; above = a; below = b; of_kept = y0 m (inl refl) })) (λ z. absurd z) o) (∈-append_cases y x.clause (m ∷ []) j);
       marked = λ y j. ⊎_elim (λ o. still (variable_of y) (k.marked y o)) (λ o. all-one y o (⊎_elim (λ e. let z = ap (level_of s) e in omega (arith, z, a)) (λ z. absurd z) o)) (∈-append_cases y x.clause (m ∷ []) j);
       distinct = distinct-push x.clause m k.distinct (λ o. not-marked (k.marked m o));
       listed = λ v j. ⊎_elim (k.listed v) (λ o. ⊎_elim (λ e. let z = inside s w m fm in omega (arith, e, z)) (λ z. absurd z) o) (∈-append_cases v x.to_clean (variable_of m ∷ []) j);
@@ -165,13 +165,16 @@ adds-more s lits k m n d x y z l e a b = record {
       (b.only v j);
   all = λ j i o. ⊎_elim (λ p. b.more (variable_of j) (a.all j p o)) (λ p. b.all j (inl (p ∙ sym e)) o) (∈-take_more j lits k 0 i);
   longer = λ j i. b.longer j (a.longer j i);
-  marks = λ i h o q. b.marks i (one i h) o (a.marks i (front i h) o q);
+  marks = λ i h y0 o q. b.marks i (one i h) (kept-one y0) o (a.marks i (front i h) (λ j n. y0 j (take-grow k lits j n)) o q);
   counted = λ i h o. let p = a.counted i (front i h) o in let q = b.counted i (one i h) o in omega (arith, p, q);
   involved = b.involved ∙ a.involved;
 }
   where
     last : m ∈ take (k + 1) lits
     last = subst (λ o. o ∈ take (k + 1) lits) (sym e) (take-last k lits l)
+
+    kept-one : AreOfKept s (take (k + 1) lits) → AreOfKept s (m ∷ [])
+    kept-one y0 o j = ⊎_elim (λ g. subst (IsOfKept s) (sym g) (y0 m last)) (λ g. absurd g) j
 
     front : (i : ℕ) → AreFalseBefore s i (take (k + 1) lits) → AreFalseBefore s i (take k lits)
     front i h o j = h o (take-grow k lits o j)

@@ -1,5 +1,5 @@
 -- The clause that `analyze_conflict` learns, from what each part of the analysis found.
-use Rattle.std.proofs.Common.{◌≡◌, ℕ, ◌+◌, ◌<◌, ◌≤◌, Bool, false, List, [], ◌∷◌, length, get_or, inl, inr, ⊎_elim, refl, sym, ap, ◌∙◌, subst, arith}
+use Rattle.std.proofs.Common.{◌≡◌, ℕ, ◌+◌, ◌<◌, ◌≤◌, Bool, true, false, List, [], ◌∷◌, length, get_or, inl, inr, ⊎_elim, refl, sym, ap, ◌∙◌, subst, arith}
 use Rattle.std.proofs.lemmas.Bool.{cases_lt, cases_Bool}
 use Rattle.varisat_theory.specs.Membership.{◌∈◌, SameSet, IsDistinct}
 use Rattle.varisat_theory.specs.Literals.{Literal, Clause, opposite}
@@ -10,14 +10,17 @@ use Rattle.varisat_theory.proofs.Members.{∈-or_not}
 use Rattle.varisat_theory.proofs.Places.{∈-get_or, place_in}
 use Rattle.varisat_theory.proofs.Values.{opposite_twice}
 use Rattle.varisat_prop.specs.declared.prop.graph.Conflict.{Conflict}
-use Rattle.varisat_prop.specs.Changes.{IsConflicting}
-use Rattle.varisat_prop.specs.View.{View, literal_at, level_of, WellFormed, ViewFits}
+use Rattle.varisat_theory.specs.Analysis.{Reached, AtStart, InReason}
+use Rattle.varisat_prop.specs.declared.prop.graph.Reason.{Reason}
+use Rattle.varisat_prop.specs.declared.prop.graph.Reason.TheVariants as reason
+use Rattle.varisat_prop.specs.Changes.{named_in, NamesKeptClause, IsConflicting}
+use Rattle.varisat_prop.specs.View.{View, literal_at, node_of, level_of, is_clause, WellFormed, ViewFits}
 use Rattle.varisat_prop.specs.Watches.{IsRearranged}
 use Rattle.varisat_prop.proofs.LongRearranged.{swap-rearranged, swap-at}
 use Rattle.std.specs.List.{swap}
-use Rattle.varisat_analysis.specs.Learned.{current_level, IsLevelOf, IsAsserting, IsLearned, ListsInvolved}
+use Rattle.varisat_analysis.specs.Learned.{current_level, implying_clause, reason_clause, StandsBehind, IsOfConflict, IsLevelOf, IsAsserting, IsOfKept, IsLearned, ListsInvolved}
 use Rattle.varisat_analysis.specs.Marks.{Marking, MarksAreListed, IsLower, IsResolved, Minimizes, Teaches}
-use Rattle.varisat_analysis.proofs.WellFormedViews.{named-kept, level-opposite, level-small, fixed-implied}
+use Rattle.varisat_analysis.proofs.WellFormedViews.{named-kept, reason-kept, level-opposite, level-small, fixed-implied}
 
 -- a literal of the highest level was put first
 pub record IsFronted (c d : Clause) (p : ℕ) : Type 0 where
@@ -53,6 +56,21 @@ highest-new s c best place h l a = record {
   above = λ k o. ⊎_elim (λ (b : k < place). let z = a.above k b in omega (arith, z, l)) (λ (b : place ≤ k). let e : k ≡ place = omega (arith, b, o) in let g = ap (λ i. level_of s (get_or c i 0)) e in omega (arith, g)) (cases_lt k place);
 }
 
+-- a clause with a literal is a reason's
+has-literal : (l m : Literal) (s : View) (r : Reason) → m ∈ implying_clause s l r → is_clause r ≡ true
+has-literal l m s reason.Unit h = absurd h
+has-literal l m s (reason.Binary ms) h = refl
+has-literal l m s (reason.Long p) h = refl
+
+-- the opposite of a reached literal is one of a kept clause
+reached-of-kept : (s : View) (w : WellFormed s) (cf : Conflict) (k : ℕ) (l : Literal) → NamesKeptClause s cf → Reached (named_in s.clauses cf) (reason_clause s) (StandsBehind s k) l → IsOfKept s (opposite l)
+reached-of-kept s w cf k l n (AtStart h) = let (d, i, same) = named-kept s w cf n in (d, i, same.1 (opposite l) h)
+reached-of-kept s w cf k l n (InReason m r (j, a, c, e) h o) =
+    let here : opposite l ∈ implying_clause s (literal_at s j) (node_of s (literal_at s j)).reason = subst (λ x. opposite l ∈ reason_clause s x) (sym e) h in
+    let p = has-literal (literal_at s j) (opposite l) s (node_of s (literal_at s j)).reason here in
+    let (d, i, same) = reason-kept s w j (node_of s (literal_at s j)).reason p (w.reason_is j c.0) in
+    (d, i, same.1 (opposite l) here)
+
 -- the clause is the first literal and what minimization left, in another order
 module _ {s : View} {cf : Conflict} {first : Literal} {x y : Marking} (w : WellFormed s) (a : IsResolved s cf first x) (b : Minimizes s x y) (c new : Clause) (same : SameSet c y.clause) (distinct : IsDistinct c) (e : new ≡ first ∷ c) where
   lower : (m : Literal) → m ∈ c → IsLower s m
@@ -86,9 +104,15 @@ module _ {s : View} {cf : Conflict} {first : Literal} {x y : Marking} (w : WellF
       first-level : level_of s first ≡ current_level s
       first-level = sym (level-opposite s first) ∙ ap (level_of s) (sym here) ∙ a.point.point.current.1
 
+  first-of-kept : IsOfKept s first
+  first-of-kept =
+      let n = a.involved.named cf (a.involved.all cf (IsOfConflict refl)) in
+      subst (IsOfKept s) (sym a.opposite_is) (reached-of-kept s w cf a.place (literal_at s a.place) n a.point.point.reached)
+
   pub learned-teaches : (level : ℕ) (involved : List Conflict) → IsLevelOf s c level → involved ≡ y.involved → Teaches s cf new involved level
   learned-teaches level involved l i = record {
     follows = learned-follows;
+    of_kept = λ m i. ⊎_elim (λ q. subst (IsOfKept s) (sym q) first-of-kept) (λ j. (lower m j).of_kept) (subst (λ d. m ∈ d) e i);
     asserting = learned-asserting level l;
     involves = subst (ListsInvolved s cf) (sym (i ∙ b.involved)) a.involved;
   }
@@ -100,6 +124,7 @@ learned-at-zero s w cf c level h z e l = subst (λ x. IsLearned s cf x level) (s
       let (x, y, same) = named-kept s w cf h.0 in
       let (d, i, o) = k.stored x y in
       implied_false held [] d i (λ m j. let g = h.1 m (same.0 m (o.0 m j)) in fixed-implied s w held k m g (let x = level-small s w m g in omega (arith, x, z)));
+  of_kept = λ m i. absurd i;
   at_zero = λ _. (refl, l);
   above = λ d. absurd (omega (arith, d, z));
 }

@@ -18,7 +18,7 @@ use Rattle.varisat_prop.specs.View.{View, clause_at, literal_at, decision_at, no
 use Rattle.varisat_prop.proofs.LiteralValues.{variable-opposite}
 use Rattle.varisat_analysis.specs.Flags.{IsFlagged}
 use Rattle.varisat_analysis.specs.Learned.{current_level, IsOfCurrentLevel, implying_clause, names_of, reason_clause, IsReachedDownTo, IsImplicationPoint, IsFirstPoint, IsInvolved, IsOfConflict, IsReasonOf}
-use Rattle.varisat_analysis.specs.Marks.{Marking, IsDeepConflict, IsClean, IsMarkOf, OfClause, OfCurrentLevel, Marks, is_open, open_below, one_if, AreFalseBefore, AddsMarks, AddsReason, IsResolved}
+use Rattle.varisat_analysis.specs.Marks.{Marking, IsDeepConflict, IsClean, IsMarkOf, OfClause, OfCurrentLevel, Marks, is_open, open_below, one_if, AreFalseBefore, AreOfKept, AddsMarks, AddsReason, IsResolved}
 use Rattle.varisat_analysis.proofs.CopiedLiterals.{distinct-push}
 use Rattle.varisat_analysis.proofs.AnalysisMarks.{mark-of}
 use Rattle.varisat_analysis.proofs.WellFormedViews.{named-kept, reason-kept, reason-first, reason-named, inside-at, level-opposite, level-same, same-place, place-of, stands-∈, no-clash, true-same, false-same, level-small, causes-before, has-late, fixed-implied, last-in}
@@ -225,6 +225,9 @@ module _ (s : View) (w : WellFormed s) (cf : Conflict) where
       before : AreFalseBefore s (length s.trail) (named_in s.clauses cf)
       before m i = place-of s w (opposite m) (h.1 m i)
 
+      of-conflict : AreOfKept s (named_in s.clauses cf)
+      of-conflict m i = let (x, y, same) = named-kept s w cf h.0 in (x, y, same.1 m i)
+
       none : (v : ℕ) → IsFlagged mark.flags v → ⊥
       none v i = let z = sym (clean.unmarked v) ∙ i in absurd cc
 
@@ -241,7 +244,7 @@ module _ (s : View) (w : WellFormed s) (cf : Conflict) where
       }
 
       marks-now : Marks s (length s.trail) next
-      marks-now = a.marks (length s.trail) before (omega arith) marks-old
+      marks-now = a.marks (length s.trail) before of-conflict (omega arith) marks-old
 
       zero-open : open_below s mark.flags (length s.trail) ≡ 0
       zero-open = ⊎_elim
@@ -539,8 +542,11 @@ module _ (s : View) (w : WellFormed s) (cf : Conflict) where
             a : AddsMarks s lits e (record cleared { involved = next.involved }) next
             a = subst (λ x. AddsMarks s (causes_of s.clauses x) e (record cleared { involved = next.involved }) next) is ar.adds
 
+            of-reason : AreOfKept s lits
+            of-reason m i = let (x, y, same) = reason-kept s w j r c why in (x, y, same.1 m (join m i).0)
+
             marks-now : Marks s j next
-            marks-now = a.marks j false-before (omega (arith, at)) (marks-with s j cleared next.involved marks-here)
+            marks-now = a.marks j false-before of-reason (omega (arith, at)) (marks-with s j cleared next.involved marks-here)
 
             name : (g : Conflict) × (names ≡ g ∷ [])
             name = clause-named (literal_at s j) r c

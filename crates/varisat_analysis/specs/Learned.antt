@@ -13,7 +13,7 @@ use Rattle.varisat_clause.specs.Stores.{Store, IsSound}
 use Rattle.varisat_clause.specs.Collected.{live_clauses}
 use Rattle.varisat_prop.specs.Parts.{TrailParts}
 use Rattle.varisat_prop.specs.Changes.{named_in, NamesKeptClause}
-use Rattle.varisat_prop.specs.View.{View, clause_at, literal_at, node_at, node_of, level_of, ViewFits}
+use Rattle.varisat_prop.specs.View.{View, kept, clause_at, literal_at, node_at, node_of, level_of, ViewFits}
 
 -- the learned clause, the clauses that it came from, and for how many variables there are flags
 pub record Analysis : Type 0 where
@@ -117,8 +117,13 @@ pub record IsAsserting (s : View) (f : Conflict) (c : Clause) (level : ℕ) : Ty
   pub point : IsFirstPoint s f place
   pub opposite_is : first ≡ opposite (literal_at s place)
 
--- The clause that a conflict teaches: it follows from whatever clauses a proof holds, and is the empty one at level 0.
+-- the literal is one of a kept clause
+abbrev pub IsOfKept : View → Literal → Type 0
+IsOfKept s m = (c : Clause) × (c ∈ kept s) × (m ∈ c)
+
+-- The clause that a conflict teaches: it follows from whatever clauses a proof holds, its literals are those of kept clauses, and it is the empty one at level 0.
 pub record IsLearned (s : View) (f : Conflict) (c : Clause) (level : ℕ) : Type 0 where
   pub follows : (held : List Clause) → ViewFits held s → Follows held c
+  pub of_kept : (m : Literal) → m ∈ c → IsOfKept s m
   pub at_zero : current_level s ≡ 0 → (c ≡ []) × (level ≡ 0)
   pub above : 0 < current_level s → IsAsserting s f c level

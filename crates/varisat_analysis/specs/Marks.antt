@@ -11,7 +11,7 @@ use Rattle.varisat_prop.specs.View.{View, literal_at, node_at, node_of, level_of
 use Rattle.varisat_analysis.specs.Flags.{IsFlagged}
 use Rattle.varisat_analysis.specs.declared.analyze_conflict.Parts.{Parts}
 use Rattle.varisat_analysis.specs.declared.analyze_conflict.Scratch.{Scratch}
-use Rattle.varisat_analysis.specs.Learned.{current_level, IsOfCurrentLevel, names_of, IsFirstPoint, ListsInvolved, IsAsserting}
+use Rattle.varisat_analysis.specs.Learned.{current_level, IsOfCurrentLevel, names_of, IsFirstPoint, ListsInvolved, IsAsserting, IsOfKept}
 
 -- The search that analysis reads is a well-formed one, with the clauses of this sound store and these nodes, literals and decisions.
 pub record Sees {A : Type 0} (s : View) (parts : Parts A) : Type 0 where
@@ -65,11 +65,12 @@ pub record MarksAreListed (x : Marking) : Type 0 where
   pub marked : (v : ℕ) → IsFlagged x.flags v → v ∈ x.to_clean
   pub listed : (v : ℕ) → v ∈ x.to_clean → v < length x.flags
 
--- the literal is false, at a level above 0 and below the current one
+-- the literal is false, at a level above 0 and below the current one, and one of a kept clause
 pub record IsLower (s : View) (m : Literal) : Type 0 where
   pub false_now : opposite m ∈ s.trail
   pub above : 0 < level_of s m
   pub below : level_of s m < current_level s
+  pub of_kept : IsOfKept s m
 
 -- The variable is that of a literal of the clause and listed, or that of a literal of the current level before place i.
 pub data IsMarkOf (s : View) (i : ℕ) (x : Marking) (v : ℕ) : Type 0 where
@@ -101,13 +102,17 @@ open_below s flags (suc i) = open_below s flags i + one_if (is_open s flags i)
 abbrev pub AreFalseBefore : View → ℕ → List Literal → Type 0
 AreFalseBefore s i lits = (m : Literal) → m ∈ lits → StandsBefore s i (opposite m)
 
+-- the literals are those of kept clauses
+abbrev pub AreOfKept : View → List Literal → Type 0
+AreOfKept s lits = (m : Literal) → m ∈ lits → IsOfKept s m
+
 -- False literals were marked, those above level 0 in so far as they weren't, and joined the clause where they are below the current level. As many as `count` of the current level are new.
 pub record AddsMarks (s : View) (lits : List Literal) (count : ℕ) (x y : Marking) : Type 0 where
   pub more : (v : ℕ) → IsFlagged x.flags v → IsFlagged y.flags v
   pub only : (v : ℕ) → IsFlagged y.flags v → IsFlagged x.flags v ⊎ ((m : Literal) × (m ∈ lits) × (variable_of m ≡ v))
   pub all : (m : Literal) → m ∈ lits → 0 < level_of s m → IsFlagged y.flags (variable_of m)
   pub longer : x.clause ⊆ y.clause
-  pub marks : (i : ℕ) → AreFalseBefore s i lits → i ≤ length s.trail → Marks s i x → Marks s i y
+  pub marks : (i : ℕ) → AreFalseBefore s i lits → AreOfKept s lits → i ≤ length s.trail → Marks s i x → Marks s i y
   pub counted : (i : ℕ) → AreFalseBefore s i lits → i ≤ length s.trail → open_below s y.flags i ≡ open_below s x.flags i + count
   pub involved : y.involved ≡ x.involved
 
@@ -140,5 +145,6 @@ pub record Minimizes (s : View) (x y : Marking) : Type 0 where
 -- What a conflict above level 0 teaches, and from which clauses.
 pub record Teaches (s : View) (f : Conflict) (c : Clause) (involved : List Conflict) (level : ℕ) : Type 0 where
   pub follows : (held : List Clause) → ViewFits held s → Follows held c
+  pub of_kept : AreOfKept s c
   pub asserting : IsAsserting s f c level
   pub involves : ListsInvolved s f involved

@@ -5,7 +5,7 @@ use Rattle.varisat_theory.specs.Membership.{◌∈◌, IsDistinct}
 use Rattle.varisat_theory.specs.Derivations.{Delete}
 use Rattle.varisat_theory.specs.Searches.{KeptClause, Search}
 use Rattle.varisat_theory.specs.Outcomes.{Proves}
-use Rattle.varisat_theory.proofs.StepParts.{parts_join}
+use Rattle.varisat_theory.proofs.StepParts.{no_part, parts_join}
 use Rattle.varisat_theory.proofs.StepChanges.{learned_is_deleted}
 use Rattle.varisat_clause.specs.Stored.{StoredClause, literals_at, stored_at, IsPlace, AreRising}
 use Rattle.varisat_clause.proofs.StoredClauses.{same-self, is-same, is-other, stored-∈, stored-found}
@@ -74,7 +74,7 @@ lines-still ks p (q ∷ ps) r n a =
     ∙ ap (λ ls. Delete (literals_at ks q) ∷ ls) (lines-still ks p ps r (λ h. n (inr h)) (λ x h. a x (inr h)))
 
 pub places-go : (s : Search) (ks : List StoredClause) (back : List KeptClause) (ps : List ℕ) → AreRising ks → s.kept ≡ map kept_clause ks ++ back → IsDistinct ps → ((p : ℕ) → p ∈ ps → IsPlace ks p) → ((p : ℕ) → p ∈ ps → (kept_clause (stored_at ks p)).learned ≡ true) → Proves 0 s (record s { kept = map kept_clause (without_places ps ks) ++ back }) (deletion_lines ks ps)
-places-go s ks back [] r e d a l = subst (λ (js : List KeptClause). Proves 0 s (record s { kept = js }) []) e (record { holds = λ held f. (held, refl, f); covers = λ P c. c })
+places-go s ks back [] r e d a l = subst (λ (js : List KeptClause). Proves 0 s (record s { kept = js }) []) e (no_part s)
 places-go s ks back (p ∷ ps) r e d a l =
     let k = stored_at ks p in
     let at : k.place ≡ p = place-is ks p (a p (inl refl)) in

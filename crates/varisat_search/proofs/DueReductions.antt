@@ -3,7 +3,7 @@ use Rattle.std.proofs.Common.{◌≡◌, ℕ, ◌<◌, ◌≤◌, List, [], ◌+
 use Rattle.varisat_theory.specs.Rank.{rank}
 use Rattle.varisat_theory.specs.Derivations.{Line}
 use Rattle.varisat_theory.specs.Outcomes.{Proves}
-use Rattle.varisat_theory.proofs.StepParts.{parts_join}
+use Rattle.varisat_theory.proofs.StepParts.{no_part, parts_join}
 use Rattle.varisat_prop.specs.View.{View, kinds}
 use Rattle.varisat_search.specs.declared.context.Context.{Context}
 use Rattle.varisat_search.specs.Contexts.{view, IsReady}
@@ -26,7 +26,7 @@ clauses-only s t e = record {
 }
 
 none-proved : (s t : View) → search_of t ≡ search_of s → Proves 0 (search_of s) (search_of t) []
-none-proved s t e = subst (λ x. Proves 0 (search_of s) x []) (sym e) (record { holds = λ held f. (held, refl, f); covers = λ P c. c })
+none-proved s t e = subst (λ x. Proves 0 (search_of s) x []) (sym e) (no_part (search_of s))
 
 module _ {A : Type 0} (x y : Context A) (ready : IsReady y) (activities : y.vsids ≡ x.vsids) where
   with-assigned : (P : List Line → Type 0) → KeepsAssignment (view x) (view y) → (lines : List Line) × Proves 0 (search_of (view x)) (search_of (view y)) lines × P lines → KeepsSearch P x y

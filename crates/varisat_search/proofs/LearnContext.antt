@@ -39,7 +39,8 @@ use Rattle.varisat_search.proofs.HeaderChanges.{header-seen}
 use Rattle.varisat_search.proofs.HeaderContexts.{store-view, headers-ready}
 use Rattle.varisat_search.proofs.LearnedHeaders.{learned-there}
 use Rattle.varisat_analysis.proofs.AssignedLevels.{involved-assigned}
-use Rattle.varisat_analysis.proofs.WellFormedViews.{named-place}
+use Rattle.varisat_analysis.proofs.WellFormedViews.{named-place, no-clash, inside}
+use Rattle.varisat_search.proofs.ClauseLengths.{clause-short}
 use Rattle.varisat_search.specs.Steps.{IsCut, Saves, SavesSome, IsFree}
 use Rattle.varisat_theory.specs.Derivations.{Line, Add}
 use Rattle.varisat_theory.specs.Outcomes.{Unknown, Unsat, Steps}
@@ -121,9 +122,9 @@ module _ (s t : View) (i : Conflict) (level : ℕ) (l : Literal) (others : Claus
     -- the line that is written
     pub learned-steps : (z : View) (K : Keeping) (r : Reason) (o : Clause) → others ≡ o → IsKeptAsReason (keeping_of t) K (l ∷ o) r → z ≡ enqueued (keeping t K) l r → Steps (search_of s) (search_of z) Unknown (Add (l ∷ others) ∷ [])
     learned-steps z K r [] e (f, g) h =
-        subst (λ y. Steps (search_of s) (search_of y) Unknown (Add (l ∷ others) ∷ [])) (sym (unit-is z K r f g h)) (steps_unit s t i level (l ∷ others) w v asserting deep (cut below) d.follows (sym others-are ∙ e))
+        subst (λ y. Steps (search_of s) (search_of y) Unknown (Add (l ∷ others) ∷ [])) (sym (unit-is z K r f g h)) (steps_unit s t i level (l ∷ others) w v asserting deep (cut below) d.follows d.of_kept (sym others-are ∙ e))
     learned-steps z K r (m ∷ ms) e k h =
-        subst (λ y. Steps (search_of s) (search_of y) Unknown (Add (l ∷ others) ∷ [])) (sym (first-here z K r h)) (steps_kept s t i level (l ∷ others) w v asserting deep (cut below) d.follows W p m ms (sym others-are ∙ e) K r (here K r (m ∷ ms) k))
+        subst (λ y. Steps (search_of s) (search_of y) Unknown (Add (l ∷ others) ∷ [])) (sym (first-here z K r h)) (steps_kept s t i level (l ∷ others) w v asserting deep (cut below) d.follows d.of_kept W p m ms (sym others-are ∙ e) K r (here K r (m ∷ ms) k))
 
     -- a clause that is kept was so before, as a set, or is the learned one
     pub kept-or-learned : (z : View) (K : Keeping) (r : Reason) (o : Clause) → others ≡ o → IsKeptAsReason (keeping_of t) K (l ∷ o) r → z ≡ enqueued (keeping t K) l r → (c : Clause) → c ∈ kept z → (x : Clause) × ((x ∈ kept t) ⊎ (x ≡ l ∷ others)) × (c ⊆ x)
@@ -380,6 +381,22 @@ module _ {A : Type 0} {x0 x1 x2 : Context A} {i : Conflict} {level : ℕ} (d : B
 
   cut-is : level < length (view x0).decisions → IsCut (view x0) (view x2) level
   cut-is h = subst (λ s. IsCut s (view x2) level) same-view (d.cut (subst (λ (s : View). level < length s.decisions) (sym same-view) h))
+
+  -- the learned clause has no more literals than there are variables
+  pub learned-length : (l : Literal) (others : Clause) → x2.analyze_conflict.clause ≡ l ∷ others → length x2.analyze_conflict.clause ≤ length x2.assignment.current
+  learned-length l others e =
+      let f = clause-is (l ∷ others) e in
+      let s = view x0 in
+      let w = d.begun.ready.well in
+      let deep = is-above s i level l others f in
+      let b = f.above deep in
+      let below = (second-level s b.others level (length s.decisions) b.second b.lower deep).0 in
+      let short = clause-short (l ∷ others) (length s.values) b.distinct
+      (λ (m, h, k). no-clash s w (opposite m) (b.false_now m h) (b.false_now (opposite m) k))
+      (λ m h. let r = inside s w m (b.false_now m h) in let n = w.nodes_are in omega (arith, r, n)) in
+      let count = (cut-is below).count in
+      let same = ap (λ (c : Clause). length c) e in
+      omega (arith, short, count, same)
 
   -- the same variables are decidable once the levels are undone
   still-decidable : SameDecidable (view x0) x0.vsids (view x2) x2.vsids

@@ -13,17 +13,17 @@ use Rattle.varisat_prop.specs.declared.prop.graph.Reason.TheVariants as reason
 use Rattle.varisat_prop.specs.declared.prop.graph.Conflict.{Conflict}
 use Rattle.varisat_clause.specs.Stored.{AreReordered}
 use Rattle.varisat_prop.specs.Watches.{Watches, IsPropagated}
-use Rattle.varisat_prop.specs.View.{View, kept, is_clause, decision_at, node_of, WellFormed, LevelsSettled, IsFixed, ViewFits}
+use Rattle.varisat_prop.specs.View.{View, IsTrueIn, kept, is_clause, decision_at, node_of, level_of, WellFormed, LevelsSettled, IsFixed, ViewFits}
 use Rattle.varisat_prop.specs.Changes.{enqueued}
 use Rattle.varisat_clause.proofs.StoredClauses.{reordered-refl}
 use Rattle.varisat_prop.proofs.TrailExtend.{literal-new, node-new, node-other, fresh, true-old, true-new}
 use Rattle.varisat_search.specs.Conflicts.{Keeping, IsKeptAsReason}
-use Rattle.varisat_analysis.specs.Learned.{IsAsserting, IsLevelOf}
+use Rattle.varisat_analysis.specs.Learned.{IsAsserting, IsLevelOf, IsOfKept}
 use Rattle.varisat_search.specs.Steps.{IsCut}
 use Rattle.varisat_search.proofs.Backtrack.{cut-well, fixed-cut}
 use Rattle.varisat_search.proofs.LearnClause.{keeping, keeping_of, learned, level-below, first-free, first-inside, no-part, unit-result, joins, kept-result}
 use Rattle.varisat_search.proofs.PairSearch.{from-kept}
-use Rattle.varisat_theory.specs.Searches.{Search, clauses_of}
+use Rattle.varisat_theory.specs.Searches.{Search, clauses_of, IsLiteralOf}
 use Rattle.varisat_theory.specs.Outcomes.{Unknown, Proves, Steps}
 use Rattle.varisat_theory.specs.StepLaws.{FollowsFrom, IsNewTo}
 use Rattle.varisat_theory.proofs.SearchFits.{same_equal}
@@ -31,7 +31,8 @@ use Rattle.varisat_theory.proofs.StepChanges.{moves_prove}
 use Rattle.varisat_theory.proofs.StepEnds.{learned_kept, learned_unit}
 use Rattle.varisat_theory.proofs.StepStands.{step_part}
 use Rattle.varisat_search.specs.Seen.{search_of, IsProved}
-use Rattle.varisat_search.proofs.ViewSearch.{fixed_from, fixed_to, proved_from, proved_to, view_reads, view_moves}
+use Rattle.varisat_search.proofs.ViewSearch.{fixed_from, fixed_to, proved_from, proved_to, of_search, view_reads, view_moves}
+use Rattle.varisat_prop.proofs.TrailValues.{on-trail, trail-true}
 
 proved_cut : (s t : View) (level : ℕ) (x : Literal) → IsCut s t level → IsProved t x → IsProved s x
 proved_cut s t level x c q =
@@ -42,6 +43,13 @@ proved_cut s t level x c q =
 fixed_after_cut : (s t : View) (level : ℕ) (x : Literal) → WellFormed s → level < length s.decisions → IsCut s t level → IsFixed s x → IsFixed t x
 fixed_after_cut s t level x w h c f = subst (λ (y : View). IsFixed y x) (sym c.rest) (fixed-cut s t level w h c x f)
 
+-- nothing else is fixed after that
+fixed_before_cut : (s t : View) (level : ℕ) (x : Literal) → WellFormed s → level < length s.decisions → IsCut s t level → IsFixed t x → IsFixed s x
+fixed_before_cut s t level x w h c (q, z) =
+    let i = subst (λ (ls : List Literal). x ∈ ls) (ap (λ (y : View). y.trail) c.rest) (on-trail t (cut-well s t level w h c) x q) in
+    let (j, a, b, e) = place_in_take x s.trail (decision_at s level) 0 i in
+    (trail-true s w x (subst (λ y. y ∈ s.trail) e (∈-get_or s.trail j 0 b)), ap (λ (y : View). level_of y x) (sym c.rest) ∙ z)
+
 same_clauses : (s t : View) (level : ℕ) → IsCut s t level → t.clauses ≡ s.clauses
 same_clauses s t level c = ap (λ (x : View). x.clauses) c.rest
 
@@ -51,6 +59,7 @@ cut_moves s t level w h c =
     (ap (λ (x : View). x.binary) c.rest)
     (λ l f. fixed_after_cut s t level l w h c f)
     (λ l q. proved_cut s t level l c q)
+    (λ l f. inl (fixed_to s w l (fixed_before_cut s t level l w h c f)))
 
 -- one more literal on the trail
 module _ (u : View) (l : Literal) (r : Reason) (w : WellFormed u) (inside : variable_of l < length u.values) (free : get_or u.values (variable_of l) None ≡ None) where
@@ -72,6 +81,16 @@ module _ (u : View) (l : Literal) (r : Reason) (w : WellFormed u) (inside : vari
       (λ a. ⊎_elim (λ e. inr (e, sym (ap (λ y. y.reason) node_last) ∙ sym (ap (λ y. (node_of (enqueued u l r) y).reason) e) ∙ q)) (λ y. absurd y) a)
       (∈-append_cases x u.trail (l ∷ []) i)
 
+  fixed_old : (x : Literal) → WellFormed (enqueued u l r) → IsFixed (enqueued u l r) x → IsFixed u x ⊎ (x ≡ l)
+  fixed_old x v (q, z) =
+      ⊎_elim
+      (λ a.
+      let (k, h, p) = place_in x u.trail 0 a in
+      let n = node-other u l r u.decisions w inside free x (λ g. fresh u l r u.decisions w inside free k h (ap variable_of p ∙ g)) in
+      inl (trail-true u w x a, sym (ap (λ y. y.level) n) ∙ z))
+      (λ a. ⊎_elim inr (λ y. absurd y) a)
+      (∈-append_cases x u.trail (l ∷ []) (on-trail (enqueued u l r) v x q))
+
 -- a unit that is enqueued where there is no decision
 pub unit_moves : (t : View) (l : Literal) (w : WellFormed t) (inside : variable_of l < length t.values) (free : get_or t.values (variable_of l) None ≡ None) → t.decisions ≡ [] → WellFormed (enqueued t l reason.Unit) → Proves 0 (record (search_of t) { fixed = (search_of t).fixed ++ l ∷ []; proved = (search_of t).proved ++ l ∷ [] }) (search_of (enqueued t l reason.Unit)) []
 unit_moves t l w inside free none wz =
@@ -91,8 +110,13 @@ unit_moves t l w inside free none wz =
     (λ q. ∈-append_left x (search_of t).proved (l ∷ []) (proved_to t w x q))
     (λ (q, n). ∈-append_right x (search_of t).proved (l ∷ []) (inl q))
     (proved_old t l reason.Unit w inside free x (proved_from z wz x h)))
+    (λ x h.
+    ⊎_elim
+    (λ q. inl (∈-append_left x (search_of t).fixed (l ∷ []) (fixed_to t w x q)))
+    (λ q. inl (∈-append_right x (search_of t).fixed (l ∷ []) (inl q)))
+    (fixed_old t l reason.Unit w inside free x wz (fixed_from z wz x h)))
 
-module _ (s t : View) (i : Conflict) (level : ℕ) (c : Clause) (w : WellFormed s) (v : LevelsSettled s) (a : IsAsserting s i c level) (deep : 0 < length s.decisions) (ct : IsCut s t level) (follows : (held : List Clause) → ViewFits held s → Follows held c) where
+module _ (s t : View) (i : Conflict) (level : ℕ) (c : Clause) (w : WellFormed s) (v : LevelsSettled s) (a : IsAsserting s i c level) (deep : 0 < length s.decisions) (ct : IsCut s t level) (follows : (held : List Clause) → ViewFits held s → Follows held c) (of_kept : (m : Literal) → m ∈ c → IsOfKept s m) where
   S : Search
   S = search_of s
 
@@ -114,6 +138,9 @@ module _ (s t : View) (i : Conflict) (level : ℕ) (c : Clause) (w : WellFormed 
   new_to : IsNewTo (search_of s) c
   new_to held f = no-part s t i level c w v a deep ct held (view_reads s held w f)
 
+  literals_of_search : (m : Literal) → m ∈ c → IsLiteralOf (search_of s) m
+  literals_of_search m h = of_search s m (of_kept m h)
+
   -- the clauses that are kept are those from before the levels are undone
   kept_still : (search_of t).kept ≡ (search_of s).kept
   kept_still = ap (λ (x : View). (search_of x).kept) ct.rest
@@ -128,7 +155,7 @@ module _ (s t : View) (i : Conflict) (level : ℕ) (c : Clause) (w : WellFormed 
       let whole : c ≡ a.first ∷ m ∷ ms = a.split ∙ ap (λ o. a.first ∷ o) e in
       let same : SameClauses (kept s ++ c ∷ []) (kept z) = subst (λ P. SameClauses (P ++ c ∷ []) (kept z)) (ap kept ct.rest) (subst (λ x. SameClauses (kept t ++ x ∷ []) (kept z)) (sym whole) j.same) in
       step_part (search_of s) S1 (search_of z) (Add c ∷ []) []
-      (learned_kept (search_of s) c k (same_set-self c) follows_from new_to)
+      (learned_kept (search_of s) c k (same_set-self c) follows_from new_to literals_of_search)
       (moves_prove S1 (search_of z)
       (from-kept s z k same)
       (λ x h n. j.seen x (subst (λ y. x ∈ ((search_of t).kept ++ learned y ∷ [])) whole (subst (λ ks. x ∈ (ks ++ k ∷ [])) (sym kept_still) h)) n)
@@ -137,7 +164,12 @@ module _ (s t : View) (i : Conflict) (level : ℕ) (c : Clause) (w : WellFormed 
       ⊎_elim
       (λ q. proved_to s w x (proved_cut s t level x ct q))
       (λ (q, n). absurd (let y : is_clause reason.Unit ≡ true = ap is_clause (sym n) ∙ j.clause in cc))
-      (proved_old (keeping t K) a.first r j.well inside free x (proved_from z wz x h))))
+      (proved_old (keeping t K) a.first r j.well inside free x (proved_from z wz x h)))
+      (λ x h.
+      ⊎_elim
+      (λ q. inl (fixed_to s w x (fixed_before_cut s t level x w below ct q)))
+      (λ q. inr (k, ∈-append_right k (search_of s).kept (k ∷ []) (inl refl), subst (λ y. y ∈ c) (sym q) (subst (λ d. a.first ∈ d) (sym a.split) (inl refl))))
+      (fixed_old (keeping t K) a.first r j.well inside free x wz (fixed_from z wz x h))))
 
   pub steps_unit : a.others ≡ [] → Steps (search_of s) (search_of (enqueued t a.first reason.Unit)) Unknown (Add c ∷ [])
   steps_unit e =
@@ -151,7 +183,7 @@ module _ (s t : View) (i : Conflict) (level : ℕ) (c : Clause) (w : WellFormed 
       let fixed : IsFixed z l = (true-new t l reason.Unit t.decisions wt inside free, ap (λ n. n.level) (node_last t l reason.Unit wt inside free) ∙ ap (λ (x : List ℕ). length x) none) in
       let S1 : Search = record (search_of s) { fixed = (search_of s).fixed ++ l ∷ []; proved = (search_of s).proved ++ l ∷ [] } in
       step_part (search_of s) S1 (search_of z) (Add c ∷ []) []
-      (learned_unit (search_of s) c l unit follows_from new_to)
+      (learned_unit (search_of s) c l unit follows_from new_to literals_of_search)
       (moves_prove S1 (search_of z)
       (same_equal (clauses_of S1.kept) (clauses_of (search_of t).kept) (ap clauses_of (sym kept_still)))
       (λ j h n. (j, subst (λ ks. j ∈ ks) (sym kept_still) h, n, λ x o. o))
@@ -164,4 +196,9 @@ module _ (s t : View) (i : Conflict) (level : ℕ) (c : Clause) (w : WellFormed 
       ⊎_elim
       (λ q. ∈-append_left x (search_of s).proved (l ∷ []) (proved_to s w x (proved_cut s t level x ct q)))
       (λ (q, n). ∈-append_right x (search_of s).proved (l ∷ []) (inl q))
-      (proved_old t l reason.Unit wt inside free x (proved_from z wz x h))))
+      (proved_old t l reason.Unit wt inside free x (proved_from z wz x h)))
+      (λ x h.
+      ⊎_elim
+      (λ q. inl (∈-append_left x (search_of s).fixed (l ∷ []) (fixed_to s w x (fixed_before_cut s t level x w below ct q))))
+      (λ q. inl (∈-append_right x (search_of s).fixed (l ∷ []) (inl q)))
+      (fixed_old t l reason.Unit wt inside free x wz (fixed_from z wz x h))))

@@ -13,7 +13,7 @@ use Rattle.varisat_prop.specs.View.{View, node_of, WellFormed}
 use Rattle.varisat_analysis.specs.Learned.{implying_clause, reason_clause, StandsBehind, IsReachedDownTo, IsImplicationPoint, IsFirstPoint, IsLevelOf, IsAsserting, IsLearned}
 use Rattle.varisat_analysis.specs.HeaderChanges.{SameButHeaders, ChangesHeaders}
 use Rattle.varisat_analysis.proofs.SameButHeaders.{headers-at}
-use Rattle.varisat_search.proofs.HeaderChanges.{header-well, header-fits}
+use Rattle.varisat_search.proofs.HeaderChanges.{header-kept, header-well, header-fits}
 
 -- from more literals more are reached
 reached-more : (c d : Clause) (r q : Literal → Clause) (R : Literal → Type 0) → c ⊆ d → ((m : Literal) → r m ⊆ q m) → (l : Literal) → Reached c r R l → Reached d q R l
@@ -80,6 +80,7 @@ learned-there s t f c level w h d =
     let back : ChangesHeaders u s = record { clauses = sym h.clauses; rest = refl } in
     subst (λ (x : View). IsLearned x f c level) (sym h.rest) (record {
       follows = λ held g. d.follows held (header-fits u s (header-well s u w there) back held g);
+      of_kept = λ m i. let (k, j, e) = d.of_kept m i in (k, subst (λ P. k ∈ P) (sym (header-kept s u w there)) j, e);
       at_zero = d.at_zero;
       above = λ o. asserting-there s s.clauses t.clauses h.clauses f c level (d.above o);
     })

@@ -1,4 +1,6 @@
 pub mod AddedClause
+pub mod ClauseLengths
+pub mod StepErrors
 pub mod Backtrack
 pub mod BacktrackValues
 pub mod LearnClause
@@ -53,6 +55,7 @@ pub mod ShrunkClauses
 pub mod FilteredUnits
 pub mod SimplifiedSearch
 pub mod SimplifiedContext
+pub mod SimplifiedBinary
 pub mod SettledUnits
 pub mod LoadedQueue
 pub mod LoadedUnits

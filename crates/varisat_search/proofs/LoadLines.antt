@@ -22,6 +22,7 @@ use Rattle.varisat_search.proofs.LearnLines.{cut_moves, unit_moves}
 use Rattle.varisat_theory.specs.Searches.{KeptClause, Search, IsTautology}
 use Rattle.varisat_theory.specs.Outcomes.{Outcome, Unknown, Unsat, Proves, Loads, IsContradicted}
 use Rattle.varisat_theory.proofs.Held.{same_set-self}
+use Rattle.varisat_theory.proofs.StepParts.{no_part}
 use Rattle.varisat_theory.proofs.StepLoads.{loaded_is_kept, loaded_is_unit, loaded_is_settled, loaded_is_deleted, loaded_is_contradicted, part_load, load_part}
 
 abbrev pub LoadsAlone : View → View → Clause → SatState → Type 0
@@ -32,7 +33,7 @@ pub restart-moves : (s t : View) → WellFormed s → (s.decisions ≡ [] → t 
 restart-moves s t w same cut =
     ⊎_elim
     (λ h. cut_moves s t 0 w h (cut h))
-    (λ h. subst (λ x. Proves 0 (search_of s) (search_of x) []) (sym (same (no-length s.decisions h))) (record { holds = λ held f. (held, refl, f); covers = λ P v. v }))
+    (λ h. subst (λ x. Proves 0 (search_of s) (search_of x) []) (sym (same (no-length s.decisions h))) (no_part (search_of s)))
     (cases_lt 0 (length s.decisions))
   where
     no-length : (xs : List ℕ) → length xs ≤ 0 → xs ≡ []
@@ -136,8 +137,8 @@ module _ (s t : View) (c lits : Clause) (w : WellFormed s) (r : Restarted s t) (
       let k : KeptClause = record { clause = lits; learned = false } in
       let is : SameSet lits (l ∷ m ∷ []) = subst (SameSet lits) e (same_set-self lits) in
       kept-lines z y l m [] after e f (ap loaded_outcome g ∙ u)
-      (pair-moves t y l m k (q.paired l (inl refl)) (q.paired m (inr (inl refl))) (first-other t l m [] q) is refl refl (λ x h. h) (λ x h. h))
+      (pair-moves t y l m k (q.paired l (inl refl)) (q.paired m (inr (inl refl))) (first-other t l m [] q) is refl refl (λ x h. h) (λ x h. h) (λ x h. h))
   lines-added a z (l ∷ m ∷ n ∷ ms) b after u e (p, i, h, f, g) =
       let y = record t { clauses = t.clauses ++ loaded_at p lits ∷ []; queue_head = z.queue_head } in
       let f' : z ≡ y = f ∙ ap (λ x. record t { clauses = x; queue_head = z.queue_head }) i.0 ∙ ap (λ x. record t { clauses = t.clauses ++ loaded_at p x ∷ []; queue_head = z.queue_head }) (sym e) in
-      kept-lines z y l m (n ∷ ms) after e f' (ap loaded_outcome g ∙ u) (long-moves t y (loaded_at p lits) refl refl (λ x h. h) (λ x h. h))
+      kept-lines z y l m (n ∷ ms) after e f' (ap loaded_outcome g ∙ u) (long-moves t y (loaded_at p lits) refl refl (λ x h. h) (λ x h. h) (λ x h. h))

@@ -74,8 +74,9 @@ module _ (s z : View) (a b : Literal) (k : KeptClause) (first : opposite a < len
       (∈-append_cases j (search_of s).kept (k ∷ []) h))
 
   -- The search with the clause at its end is that of the view which has it among its pairs, without a line.
-  pub pair-moves : (search_of s).fixed ⊆ (search_of z).fixed → (search_of z).proved ⊆ (search_of s).proved → Proves 0 (with_clause (search_of s) k) (search_of z) []
-  pair-moves x p = moves_prove (with_clause (search_of s) k) (search_of z) (from-kept s z k pair-same) pair-seen x p
+  pub pair-moves : (search_of s).fixed ⊆ (search_of z).fixed → (search_of z).proved ⊆ (search_of s).proved → (search_of z).fixed ⊆ (search_of s).fixed → Proves 0 (with_clause (search_of s) k) (search_of z) []
+  pair-moves x p y =
+      moves_prove (with_clause (search_of s) k) (search_of z) (from-kept s z k pair-same) pair-seen x p (λ l h. inl (y l h))
 
 -- 2. A clause of three literals or more.
 module _ (s z : View) (i : StoredClause) (clauses : z.clauses ≡ s.clauses ++ i ∷ []) (binary : z.binary ≡ s.binary) where
@@ -100,5 +101,6 @@ module _ (s z : View) (i : StoredClause) (clauses : z.clauses ≡ s.clauses ++ i
         λ x y. y,
       )
 
-  pub long-moves : (search_of s).fixed ⊆ (search_of z).fixed → (search_of z).proved ⊆ (search_of s).proved → Proves 0 (with_clause (search_of s) (kept_clause i)) (search_of z) []
-  long-moves x p = moves_prove (with_clause (search_of s) (kept_clause i)) (search_of z) (from-kept s z (kept_clause i) long-same) long-seen x p
+  pub long-moves : (search_of s).fixed ⊆ (search_of z).fixed → (search_of z).proved ⊆ (search_of s).proved → (search_of z).fixed ⊆ (search_of s).fixed → Proves 0 (with_clause (search_of s) (kept_clause i)) (search_of z) []
+  long-moves x p y =
+      moves_prove (with_clause (search_of s) (kept_clause i)) (search_of z) (from-kept s z (kept_clause i) long-same) long-seen x p (λ l h. inl (y l h))

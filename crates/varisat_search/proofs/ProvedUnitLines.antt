@@ -142,6 +142,13 @@ module _ (s t : View) (w : WellFormed s) (none : s.decisions ≡ []) (d : Proves
       let z : level_of t l ≡ 0 = ap (λ (y : View). level_of y l) d.rest ∙ sym (ap (λ x. level_of (record s { nodes = t.nodes }) x) e) ∙ ap (λ n. n.level) (unit-node s t w none d k a) ∙ zero-level s t w none d k a in
       fixed_to t v l (subst (λ (y : View). IsTrueIn y l) (sym d.rest) f.0, z)
 
+  fixed-back : (l : Literal) → l ∈ (search_of t).fixed → l ∈ (search_of s).fixed
+  fixed-back l h =
+      let f = fixed_from t (units-well s t w none d) l h in
+      let true-now : IsTrueIn s l = subst (λ (y : View). IsTrueIn y l) d.rest f.0 in
+      let (k, a, e) = w.stands l true-now in
+      fixed_to s w l (true-now, ap (level_of s) (sym e) ∙ zero-level s t w none d k a)
+
   proved-back : (l : Literal) → l ∈ (search_of t).proved → l ∈ ((search_of s).proved ++ implied_units s)
   proved-back l h =
       let i : l ∈ s.trail = subst (λ xs. l ∈ xs) (ap (λ (y : View). y.trail) d.rest) (proved_from t (units-well s t w none d) l h).0 in
@@ -161,4 +168,5 @@ module _ (s t : View) (w : WellFormed s) (none : s.decisions ≡ []) (d : Proves
       (same_equal (clauses_of (search_of s).kept) (clauses_of (search_of t).kept) (ap clauses_of (sym same-kept)))
       (λ k h n. (k, subst (λ ks. k ∈ ks) (sym same-kept) h, n, λ x o. o))
       fixed-stays
-      proved-back))
+      proved-back
+      (λ l h. inl (fixed-back l h))))

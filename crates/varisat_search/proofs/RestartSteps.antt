@@ -16,6 +16,7 @@ use Rattle.varisat_search.specs.Seen.{search_of}
 use Rattle.varisat_search.specs.Steps.{IsCut}
 use Rattle.varisat_search.proofs.Backtrack.{end-inside, cut-length, cut-well, cut-settled, cut-propagated}
 use Rattle.varisat_search.proofs.LearnLines.{cut_moves}
+use Rattle.varisat_theory.proofs.StepParts.{no_part}
 
 -- What the step finds once it has begun.
 pub record Begun (s t : View) : Type 0 where
@@ -26,7 +27,7 @@ pub record Begun (s t : View) : Type 0 where
   pub proves : Proves 0 (search_of s) (search_of t) []
 
 begun-same : (s : View) → WellFormed s → LevelsSettled s → Begun s s
-begun-same s w v = record { well = w; settled = v; count = refl; shorter = omega arith; proves = record { holds = λ held f. (held, refl, f); covers = λ P c. c } }
+begun-same s w v = record { well = w; settled = v; count = refl; shorter = omega arith; proves = no_part (search_of s) }
 
 begun-cut : (s t : View) (level : ℕ) → WellFormed s → LevelsSettled s → (h : level < length s.decisions) → IsCut s t level → Begun s t
 begun-cut s t level w v h c =

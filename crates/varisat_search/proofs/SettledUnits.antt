@@ -4,7 +4,7 @@ use Rattle.varisat_theory.specs.Derivations.{Line}
 use Rattle.varisat_theory.specs.Outcomes.{Outcome, Proves, Steps}
 use Rattle.varisat_theory.specs.Rank.{rank}
 use Rattle.varisat_theory.specs.StepLaws.{unit_lines}
-use Rattle.varisat_theory.proofs.StepParts.{parts_join}
+use Rattle.varisat_theory.proofs.StepParts.{no_part, parts_join}
 use Rattle.varisat_theory.proofs.StepStands.{part_step}
 use Rattle.varisat_prop.specs.declared.prop.graph.Conflict.{Conflict}
 use Rattle.varisat_prop.specs.declared.prop.graph.Conflict.TheVariants as conflict
@@ -33,7 +33,7 @@ use Rattle.varisat_search.proofs.TrailExtensions.{extends-trans, extends-same, e
 pub goes-refl : {A : Type 0} (x : Context A) (P : List Line → Type 0) → IsReady x → P [] → GoesOnByLines P x x
 goes-refl x P r none = record {
   ready = r;
-  proves = ([], record { holds = λ held f. (held, refl, f); covers = λ Q c. c }, none);
+  proves = ([], no_part (search_of (view x)), none);
   extends = extends-same (view x) (view x) r.well refl refl refl;
   kinds_more = ([], sym (append-nil (kinds (view x))));
   decidable = same-refl (view x) x.vsids;

@@ -211,4 +211,4 @@ module _ (values : List (Option Bool)) (ks : List StoredClause) (B : List (List 
       (∈-append_cases k (left_each values ks) (map kept_pair (pairs_from 0 B)) h)
 
   pub mixed-prove : (s : Search) → Proves 0 (record s { kept = mixed }) (record s { kept = apart }) []
-  mixed-prove s = moves_prove (record s { kept = mixed }) (record s { kept = apart }) mixed-same mixed-seen (λ l i. i) (λ l i. i)
+  mixed-prove s = moves_prove (record s { kept = mixed }) (record s { kept = apart }) mixed-same mixed-seen (λ l i. i) (λ l i. i) (λ l i. inl i)

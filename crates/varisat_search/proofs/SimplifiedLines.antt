@@ -8,7 +8,7 @@ use Rattle.varisat_theory.specs.Derivations.{Add, Delete}
 use Rattle.varisat_theory.specs.Searches.{KeptClause, Search}
 use Rattle.varisat_theory.specs.Outcomes.{Proves}
 use Rattle.varisat_theory.proofs.Held.{same_set-self}
-use Rattle.varisat_theory.proofs.StepParts.{parts_join}
+use Rattle.varisat_theory.proofs.StepParts.{no_part, parts_join}
 use Rattle.varisat_theory.proofs.StepChanges.{satisfied_is_deleted, is_shortened}
 use Rattle.varisat_clause.specs.Stored.{StoredClause}
 use Rattle.varisat_prop.specs.Parts.{IsMadeTrue}
@@ -20,7 +20,7 @@ use Rattle.varisat_search.proofs.UnassignedLiterals.{some-true, left-part, left-
 
 -- no line changes nothing
 no-lines : (s : Search) (ks : List KeptClause) → s.kept ≡ ks → Proves 0 s (record s { kept = ks }) []
-no-lines s ks e = subst (λ (js : List KeptClause). Proves 0 s (record s { kept = js }) []) e (record { holds = λ held f. (held, refl, f); covers = λ P c. c })
+no-lines s ks e = subst (λ (js : List KeptClause). Proves 0 s (record s { kept = js }) []) e (no_part s)
 
 -- 1. Clauses of two literals that are satisfied go.
 

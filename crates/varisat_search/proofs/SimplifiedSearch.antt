@@ -198,14 +198,21 @@ module _ (s : View) (u : IsAtUnits s) where
   abbrev Q : List Clause
   Q = filter (are_unassigned s.values) (pairs_from 0 s.binary)
 
+  -- the satisfied clauses of two literals go
+  pairs-first : Proves 0 S (record S { kept = map kept_clause s.clauses ++ map kept_pair Q }) (pair_lines s)
+  pairs-first = pairs-go (are_unassigned s.values) S (map kept_clause s.clauses) (pairs_from 0 s.binary) refl (λ c i e.
+      let (l, j, t) = pair-satisfied s u.well u.done c i e in
+      (l, j, has-proved.fixed l (trail-true s u.well l t)))
+
+  pub pairs-prove : Proves 0 (search_of s) (record (search_of s) { kept = map kept_clause s.clauses ++ map kept_pair (pairs_from 0 B) }) (pair_lines s)
+  pairs-prove = subst (λ (cs : List Clause). Proves 0 S (record S { kept = map kept_clause s.clauses ++ map kept_pair cs }) (pair_lines s)) (sym (pairs-left s.values s.binary)) pairs-first
+
   pub simplify-proves : Proves 0 (search_of s) (record (search_of s) { kept = map kept_clause P ++ map kept_pair (pairs_from 0 C) }) (pair_lines s ++ clause_lines s)
   simplify-proves =
       let S1 = record S { kept = map kept_clause s.clauses ++ map kept_pair Q } in
       let S2 = record S { kept = left_each s.values s.clauses ++ map kept_pair Q } in
       let S3 = record S { kept = map kept_clause P ++ map kept_pair (pairs_from 0 C) } in
-      let first : Proves 0 S S1 (pair_lines s) = pairs-go (are_unassigned s.values) S (map kept_clause s.clauses) (pairs_from 0 s.binary) refl (λ c i e.
-      let (l, j, t) = pair-satisfied s u.well u.done c i e in
-      (l, j, has-proved.fixed l (trail-true s u.well l t))) in
+      let first : Proves 0 S S1 (pair_lines s) = pairs-first in
       let second : Proves 0 S1 S2 (clause_lines s) = each-left s.values S1 [] s.clauses (map kept_pair Q) refl (record { fixed = has-proved.fixed; proved = has-proved.proved }) u.long in
       let third : Proves 0 S2 S3 [] = subst (λ (cs : List Clause). Proves 0 (record S { kept = left_each s.values s.clauses ++ map kept_pair cs }) S3 []) (pairs-left s.values s.binary) (mixed-prove s.values s.clauses B pairs-in S) in
       let all : Proves 0 S S3 (pair_lines s ++ (clause_lines s ++ [])) = parts_join 0 0 S S1 S3 (pair_lines s) (clause_lines s ++ []) first (parts_join 0 0 S1 S2 S3 (clause_lines s) [] second third) in

@@ -99,6 +99,18 @@ in-use-all m s a d c w l h =
     (λ (k, i, j). c.decidable k.clause (subst (λ P. k.clause ∈ P) (seen_clauses s) (clause_in (search_of s).kept k i)) l j)
     h))
 
+-- Which variables may be decided says nothing of a unit that is held again.
+pub unit-over : {A : Type 0} (old mid new : Context A) (a : Activities) (l : Literal) → mid ≡ record old { vsids = a } → HasUnitAgain l mid new → HasUnitAgain l old new
+unit-over {A} old mid new a l e h = go (subst (λ (x : Context A). HasUnitAgain l x new) e h)
+  where
+    go : HasUnitAgain l (record old { vsids = a }) new → HasUnitAgain l old new
+    go k = record {
+      unsat = λ u. let m = k.unsat u in record { seen = m.seen; state = m.state; assumptions = m.assumptions };
+      lines = k.lines;
+      state = k.state;
+      assumptions = k.assumptions;
+    }
+
 -- A solver variable was taken and initialized.
 pub solver-case : {A : Type 0} (x v : ℕ) (m n : Tables) (c mid d : Context A) (unit : Option Bool) → at m.solvers.forward x ≡ None → IsTaken m n x v → (kept_at m.kept x).unit ≡ unit → KeepsSeen c mid → MatchOption unit (KeepsSeen mid d) (λ b. HasUnitAgain (literal_of v b) mid d) → HasSolverVariable {A = A} x (record { tables = m; context = c }) (record { tables = n; context = d }) v
 solver-case x v m n c mid d None left t e k r = TookOne left t e (record { seen = r.seen ∙ k.seen; state = r.state ∙ k.state; assumptions = r.assumptions ∙ k.assumptions })

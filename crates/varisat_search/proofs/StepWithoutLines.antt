@@ -1,15 +1,20 @@
 -- A search that goes on from one view to a later one writes no line.
-use Rattle.std.proofs.Common.{◌≡◌, ◌<◌, ◌≤◌, List, [], ◌∷◌, ◌++◌, length, map, inl, inr, ⊎_elim, sym, ap, ◌∙◌, subst, refl, arith}
+use Rattle.std.proofs.Common.{◌≡◌, ◌<◌, ◌≤◌, true, List, [], ◌∷◌, ◌++◌, ◌⊎◌, length, map, inl, inr, ⊎_elim, sym, ap, ◌∙◌, subst, refl, arith}
 use Rattle.varisat_theory.specs.Membership.{◌∈◌, IsDistinct}
 use Rattle.varisat_theory.specs.Literals.{Literal, Clause, IsUnit}
 use Rattle.varisat_theory.proofs.Members.{∈-append_left, ∈-append_right, ∈-append_cases}
 use Rattle.varisat_theory.proofs.Places.{∈-get_or, place_in}
-use Rattle.varisat_prop.specs.View.{View, kept, literal_at, node_of, level_of, WellFormed, IsFixed, ViewFits, GrowsTrail}
+use Rattle.varisat_prop.specs.View.{View, kept, literal_at, node_of, node_at, level_of, is_clause, WellFormed, IsFixed, ViewFits, GrowsTrail}
 use Rattle.varisat_prop.proofs.ViewGrowth.{literal-stays, grows-longer}
-use Rattle.varisat_prop.proofs.TrailValues.{trail-true}
+use Rattle.varisat_prop.specs.declared.prop.graph.Reason.{Reason}
+use Rattle.varisat_prop.specs.declared.prop.graph.Reason.TheVariants as reason
+use Rattle.varisat_prop.proofs.TrailValues.{on-trail, trail-true}
+use Rattle.varisat_analysis.specs.Learned.{implying_clause}
+use Rattle.varisat_analysis.proofs.WellFormedViews.{kept-reordered, reason-kept, reason-first}
+use Rattle.varisat_theory.specs.Searches.{IsLiteralOf}
 use Rattle.varisat_theory.specs.Outcomes.{Proves}
 use Rattle.varisat_search.specs.Seen.{search_of, IsProved}
-use Rattle.varisat_search.proofs.ViewSearch.{proved_from, proved_to, view_moves}
+use Rattle.varisat_search.proofs.ViewSearch.{fixed_to, proved_from, proved_to, of_search, view_moves}
 
 abbrev pub unit_clauses : List Literal → List Clause
 unit_clauses ls = map (λ l. l ∷ []) ls
@@ -29,6 +34,12 @@ no_unit : (l : Literal) (d : Clause) → 2 ≤ length d → IsDistinct d → IsU
 no_unit l [] n q u = omega (arith, n)
 no_unit l (a ∷ []) n q u = omega (arith, n)
 no_unit l (a ∷ b ∷ d) n q u = q.0 (inl (u.1 a (inl refl) ∙ sym (u.1 b (inr (inl refl)))))
+
+-- a reason is a clause or none
+clause_or_none : (r : Reason) → (is_clause r ≡ true) ⊎ (r ≡ reason.Unit)
+clause_or_none reason.Unit = inr refl
+clause_or_none (reason.Binary ms) = inl refl
+clause_or_none (reason.Long p) = inl refl
 
 module _ (s t : View) (w : WellFormed s) (v : WellFormed t) (g : GrowsTrail s t) where
   -- the least that is held
@@ -74,5 +85,20 @@ module _ (s t : View) (w : WellFormed s) (v : WellFormed t) (g : GrowsTrail s t)
       let on : x ∈ t.trail = subst (λ y. y ∈ t.trail) same (∈-get_or t.trail k 0 h) in
       (trail-true t v x on, sym (ap (λ y. level_of t y) same) ∙ ap (λ y. y.level) (g.nodes k a) ∙ ap (λ y. level_of s y) e ∙ z)
 
+  -- what a clause implies stands in a kept one, and what none does was proved before
+  fixed_of_search : (x : Literal) → IsFixed t x → IsLiteralOf (search_of s) x
+  fixed_of_search x (q, z) =
+      let (k, a, e) = v.stands x q in
+      ⊎_elim
+      (λ c.
+      let (d, i, same) = reason-kept t v k (node_at t k).reason c (v.reason_is k a) in
+      let (f, j, more) = kept-reordered s t g.clauses g.binary d i in
+      of_search s x (f, j, more.0 x (same.1 x (subst (λ y. y ∈ implying_clause t (literal_at t k) (node_at t k).reason) e (reason-first t v k (node_at t k).reason c (v.reason_is k a))))))
+      (λ r. inl (fixed_to s w x (proved_fixed (proved_back x (on-trail t v x q, z, sym (ap (λ y. (node_of t y).reason) e) ∙ r)))))
+      (clause_or_none (node_at t k).reason)
+    where
+      proved_fixed : IsProved s x → IsFixed s x
+      proved_fixed (i, y, r) = (trail-true s w x i, y)
+
   pub grows_prove : Proves 0 (search_of s) (search_of t) []
-  grows_prove = view_moves s t w v g.clauses g.binary fixed_on proved_back
+  grows_prove = view_moves s t w v g.clauses g.binary fixed_on proved_back fixed_of_search

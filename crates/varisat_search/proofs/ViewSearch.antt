@@ -18,12 +18,13 @@ use Rattle.varisat_prop.specs.View.{View, pairs_from, kept, literal_at, node_of,
 use Rattle.varisat_prop.proofs.SimplifiedPairs.{filter-∈, ∈-filter}
 use Rattle.varisat_prop.proofs.TrailValues.{on-trail, trail-true}
 use Rattle.varisat_analysis.proofs.WellFormedViews.{fixed-implied, level-opposite}
-use Rattle.varisat_theory.specs.Searches.{KeptClause, clauses_of, Fits}
+use Rattle.varisat_theory.specs.Searches.{KeptClause, clauses_of, Fits, IsLiteralOf}
 use Rattle.varisat_theory.specs.Outcomes.{Proves}
 use Rattle.varisat_theory.specs.StepLaws.{IsGrounded}
-use Rattle.varisat_theory.proofs.SearchFits.{same_front}
+use Rattle.varisat_theory.proofs.SearchFits.{same_front, clause_from}
 use Rattle.varisat_theory.proofs.StepChanges.{moves_prove}
 use Rattle.varisat_analysis.specs.HeaderChanges.{kept_clause}
+use Rattle.varisat_analysis.specs.Learned.{IsOfKept}
 use Rattle.varisat_search.specs.Seen.{kept_pair, is_fixed, is_proved, search_of, IsProved}
 
 is_zero : (n : ℕ) → nat_eq n 0 ≡ true → n ≡ 0
@@ -70,6 +71,12 @@ seen_both (k ∷ ks) ps = ap (λ l. k.literals ∷ l) (seen_both ks ps)
 
 pub seen_clauses : (s : View) → clauses_of (search_of s).kept ≡ kept s
 seen_clauses s = seen_both s.clauses (pairs_from 0 s.binary)
+
+-- a literal of a kept clause is one of the search
+pub of_search : (s : View) (l : Literal) → IsOfKept s l → IsLiteralOf (search_of s) l
+of_search s l (c, h, i) =
+    let (k, j, e) = clause_from (search_of s).kept c (subst (λ P. c ∈ P) (sym (seen_clauses s)) h) in
+    inr (k, j, subst (λ d. l ∈ d) (sym e) i)
 
 unit_same : (l : Literal) (c d : Clause) → SameSet c d → IsUnit l c → IsUnit l d
 unit_same l c d q u = (q.0 l u.0, λ m h. u.1 m (q.1 m h))
@@ -130,10 +137,11 @@ kept_seen s t a b k h e =
     (λ i. (k, ∈-append_right k (map kept_clause t.clauses) (map kept_pair (pairs_from 0 t.binary)) (subst (λ B. k ∈ map kept_pair (pairs_from 0 B)) (sym b) i), e, λ l o. o))
     (∈-append_cases k (map kept_clause s.clauses) (map kept_pair (pairs_from 0 s.binary)) h)
 
-pub view_moves : (s t : View) → WellFormed s → WellFormed t → AreReordered s.clauses t.clauses → t.binary ≡ s.binary → ((l : Literal) → IsFixed s l → IsFixed t l) → ((l : Literal) → IsProved t l → IsProved s l) → Proves 0 (search_of s) (search_of t) []
-view_moves s t w v a b x p =
+pub view_moves : (s t : View) → WellFormed s → WellFormed t → AreReordered s.clauses t.clauses → t.binary ≡ s.binary → ((l : Literal) → IsFixed s l → IsFixed t l) → ((l : Literal) → IsProved t l → IsProved s l) → ((l : Literal) → IsFixed t l → IsLiteralOf (search_of s) l) → Proves 0 (search_of s) (search_of t) []
+view_moves s t w v a b x p y =
     moves_prove (search_of s) (search_of t)
     (subst (λ P. SameClauses P (clauses_of (search_of t).kept)) (sym (seen_clauses s)) (subst (SameClauses (kept s)) (sym (seen_clauses t)) (kept_same s t a b)))
     (kept_seen s t a b)
     (λ l h. fixed_to t v l (x l (fixed_from s w l h)))
     (λ l h. proved_to s w l (p l (proved_from t v l h)))
+    (λ l h. y l (fixed_from t v l h))

@@ -16,3 +16,4 @@ pub mod SettledUnits
 pub mod GlobalModels
 pub mod NamesAndModes
 pub mod SolverVariables
+pub mod StepErrors

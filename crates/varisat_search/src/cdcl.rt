@@ -1,5 +1,5 @@
 //! One step of the search: propagate and decide to a conflict or a model, and learn.
-ghost use Rattle.std.specs.Prelude.{◌≡◌, ℕ, ◌<◌, false, length, [], ◌∷◌, List, Ok, OnOk, IfOk, MatchBool, MatchOption, MatchResult};
+ghost use Rattle.std.specs.Prelude.{◌≡◌, ℕ, ◌+◌, ◌^◌, ◌<◌, ◌≤◌, false, length, [], ◌∷◌, List, Ok, OnOk, IfOk, IfErr, MatchBool, MatchOption, MatchResult};
 ghost use Rattle.varisat_theory.specs.Membership.{◌∈◌};
 ghost use Rattle.varisat_theory.specs.Literals.{Literal, opposite};
 ghost use Rattle.varisat_theory.specs.Propagation.{IsComplete};
@@ -23,6 +23,7 @@ ghost use Rattle.varisat_analysis.specs.Assessments.{glue_of, assessed, BumpsCla
 ghost use Rattle.varisat_search.specs.AssumptionParts.{TakesOutImplied, EndsAssumed, HasFailed};
 ghost use Rattle.varisat_search.specs.Conflicts.{Stops, Keeping, IsKeptAsReason, IsStoredAsReason, IsWatchedAsReason};
 ghost use Rattle.varisat_search.specs.SettledUnits.{IsUnsettled, SettlesUnits, GoesOnByLines, IsSettledDown, SettlesFirst};
+ghost use Rattle.varisat_search.specs.StepErrors.{HasNoRoom};
 ghost use Rattle.varisat_search.specs.Progress.{IsStepFurther, MakesStep};
 ghost use Rattle.varisat_vsids.specs.Activities.{Activities};
 
@@ -143,6 +144,7 @@ fn keep_learned<A: Allocator + Copy>(
     ensures reason { IfOk result (λ reason. IsKeptAsReason (record { clauses = live_clauses ctx.old.clause_alloc; binary = ctx.old.binary_clauses }) (record { clauses = live_clauses ctx.new.clause_alloc; binary = ctx.new.binary_clauses }) ctx.old.analyze_conflict.clause reason) }
     ensures stored { IfOk result (λ reason. IsStoredAsReason ctx.old.clause_alloc ctx.new.clause_alloc header ctx.old.analyze_conflict.clause reason) }
     ensures watched { IfOk result (λ reason. IsWatchedAsReason ctx.old.watchlists ctx.new.watchlists ctx.old.analyze_conflict.clause reason) }
+    ensures full { IfErr result (λ error. error ≡ StoreError.Full → 2 ^ 32 ≤ length ctx.new.clause_alloc.words + 3 + length ctx.old.analyze_conflict.clause) }
 {
     match ctx.analyze_conflict.clause() {
         [] | [_] => return Ok(Reason::Unit),
@@ -219,6 +221,8 @@ fn learn<A: Allocator + Copy, P: ProofTracer>(
     ensures involved { OnOk result (AreInvolved (view ctx.old) conflict ctx.new.analyze_conflict.involved) }
     ensures last { OnOk result (SavesSome (view ctx.old) ctx.old.assignment.last ctx.new.assignment.last) }
     ensures schedule { KeepsSchedule ctx.old ctx.new }
+    // It fails with `Full` only where the store has no room for a clause over the variables that there are.
+    ensures full { IfErr result (λ error. error ≡ StepError.Full → HasNoRoom ctx.new) }
 {
     let level = analyze(ctx, conflict)?;
     trace_learned(proof, ctx)?;
@@ -248,7 +252,7 @@ fn learn<A: Allocator + Copy, P: ProofTracer>(
 pub fn settle<A: Allocator + Copy, P: ProofTracer>(
     ctx: &mut Context<A>,
     proof: &mut P,
-) -> Result<Result<(), Conflict>, StepError>
+) -> Result<Result<(), Conflict>, TraceError>
     requires ready { IsReady ctx.old }
     requires undecided { ctx.old.trail.decisions ≡ [] }
     requires holds { HoldsFor (P.holds proof.old) (search_of (view ctx.old)) }
@@ -279,7 +283,7 @@ pub fn settle<A: Allocator + Copy, P: ProofTracer>(
 fn settle_units<A: Allocator + Copy, P: ProofTracer>(
     ctx: &mut Context<A>,
     proof: &mut P,
-) -> Result<Result<(), Conflict>, StepError>
+) -> Result<Result<(), Conflict>, TraceError>
     requires ready { IsReady ctx.old }
     requires holds { HoldsFor (P.holds proof.old) (search_of (view ctx.old)) }
     ensures goes_on { IfOk result (λ end. GoesOnByLines (λ lines. (IsUnsettled (view ctx.old) → SettlesUnits lines (view ctx.old) (view ctx.new) end) × TakesLines P.takes proof.old lines proof.new) ctx.old ctx.new) }
@@ -317,6 +321,7 @@ fn find_and_learn<A: Allocator + Copy, P: ProofTracer>(
     requires holds { HoldsFor (P.holds proof.old) (search_of (view ctx.old)) }
     ensures made { OnOk result (MakesStep (λ lines. TakesStep P.takes proof.old lines (outcome_of (view ctx.new) ctx.new.assumptions.failed_core ctx.new.solver_state.sat_state) proof.new) ctx.old ctx.new) }
     ensures schedule { KeepsSchedule ctx.old ctx.new }
+    ensures full { IfErr result (λ error. error ≡ StepError.Full → HasNoRoom ctx.new) }
 {
     match find_conflict(ctx)? {
         Ok(()) => ctx.solver_state.sat_state = SatState::Sat,
@@ -343,6 +348,8 @@ pub fn conflict_step<A: Allocator + Copy, P: ProofTracer>(
     // first, and then those of simplification.
     ensures made { OnOk result (MakesStep (λ lines. SettlesFirst lines ctx.old ctx.new × TakesStep P.takes proof.old lines (outcome_of (view ctx.new) ctx.new.assumptions.failed_core ctx.new.solver_state.sat_state) proof.new) ctx.old ctx.new) }
     ensures schedule { KeepsSchedule ctx.old ctx.new }
+    // It fails with `Full` only where the store has no room for a clause over the variables that there are.
+    ensures full { IfErr result (λ error. error ≡ StepError.Full → HasNoRoom ctx.new) }
 {
     match settle_units(ctx, proof)? {
         Ok(()) => find_and_learn(ctx, proof)?,

@@ -1,12 +1,11 @@
 //! Why a step of a search came to no end.
-ghost use Rattle.std.specs.Prelude.{◌≡◌};
 
 use std::alloc::AllocError;
 use std::io;
 use varisat_prop::clause::StoreError;
 use varisat_trace::TraceError;
 
-/// Why a step came to no end.
+/// Why a step came to no end. A target failed only where the tracer told so.
 #[derive(Debug, Drop)]
 pub enum StepError {
     /// The clause store is full.
@@ -17,23 +16,23 @@ pub enum StepError {
     Target(io::Error),
 }
 
-/// Of a search that hands on nothing, whose tracer has no target.
-impl From<StepError> for StoreError {
-    fn from(error: StepError) -> StoreError {
-        match error {
-            StepError::Full => StoreError::Full,
-            StepError::Memory | StepError::Target(_) => StoreError::Memory,
-        }
-    }
-}
-
 impl From<AllocError> for StepError {
+    ghost use Rattle.std.specs.Prelude.{◌≡◌};
+    ghost use Rattle.varisat_search.specs.declared.error.StepError.TheVariants.{Memory};
+
+    ghost from_gives = { λ _ e. e ≡ Memory };
+
     fn from(_error: AllocError) -> StepError {
         StepError::Memory
     }
 }
 
 impl From<StoreError> for StepError {
+    ghost use Rattle.std.specs.Prelude.{◌≡◌};
+    ghost use Rattle.varisat_search.specs.StepErrors.{step_error_of_store};
+
+    ghost from_gives = { λ error result. result ≡ step_error_of_store error };
+
     fn from(error: StoreError) -> StepError {
         match error {
             StoreError::Full => StepError::Full,
@@ -43,6 +42,11 @@ impl From<StoreError> for StepError {
 }
 
 impl From<TraceError> for StepError {
+    ghost use Rattle.std.specs.Prelude.{◌≡◌};
+    ghost use Rattle.varisat_search.specs.StepErrors.{step_error_of_trace};
+
+    ghost from_gives = { λ error result. result ≡ step_error_of_trace error };
+
     fn from(error: TraceError) -> StepError {
         match error {
             TraceError::Memory => StepError::Memory,

@@ -1,5 +1,5 @@
 //! Loading of clauses.
-ghost use Rattle.std.specs.Prelude.{◌≡◌, ◌≢◌, [], ◌∷◌, Ok, Some, length, slice_get, replicate, ◌+◌, ◌*◌, ◌<◌, ◌≤◌, false, OnOk, IfOk, IsTrue, ◌↔◌, ◌⊎◌};
+ghost use Rattle.std.specs.Prelude.{◌≡◌, ◌≢◌, [], ◌∷◌, Ok, Some, length, slice_get, replicate, ◌+◌, ◌*◌, ◌^◌, ◌<◌, ◌≤◌, false, OnOk, IfOk, IfErr, IsTrue, ◌↔◌, ◌⊎◌};
 ghost use Rattle.varisat_theory.specs.Membership.{◌∈◌, SameSet, IsDistinct};
 ghost use Rattle.varisat_theory.specs.Literals.{Literal, Clause, variable_of, opposite};
 ghost use Rattle.varisat_theory.specs.Searches.{IsTautology};
@@ -17,6 +17,7 @@ ghost use Rattle.varisat_search.specs.Steps.{SavesAll, reopened_state};
 ghost use Rattle.varisat_search.specs.Decisions.{AreDecidable, SameDecidable};
 ghost use Rattle.varisat_search.specs.Loading.{HasFalseLiteral, IsHeadAfter, IsAdded, LoadsUnit, LoadsClause, loaded_outcome};
 ghost use Rattle.varisat_trace.specs.Traces.{TakesLines, CanTake, HoldsWith};
+ghost use Rattle.varisat_search.specs.StepErrors.{HasNoRoom};
 ghost use Rattle.varisat_search.specs.Seen.{search_of};
 
 use crate::cdcl::first_of;
@@ -94,6 +95,7 @@ fn add_distinct<A: Allocator + Copy>(ctx: &mut Context<A>) -> Result<(), StoreEr
     ensures units { OnOk result (ctx.new.trail.units_removed ≡ ctx.old.trail.units_removed) }
     ensures last { OnOk result (ctx.new.assignment.last ≡ ctx.old.assignment.last) }
     ensures added { OnOk result (IsAdded (view ctx.old) (view ctx.new) ctx.old.tmp_data.lits.items ctx.old.solver_state.sat_state ctx.new.solver_state.sat_state) }
+    ensures full { IfErr result (λ error. error ≡ StoreError.Full → (2 ^ 32 ≤ length ctx.new.clause_alloc.words + 3 + length ctx.old.tmp_data.lits.items) × (ctx.new.assignment.current ≡ ctx.old.assignment.current)) }
 {
     let Some(first) = first_of(&ctx.tmp_data.lits) else {
         ctx.solver_state.sat_state = SatState::Unsat;
@@ -171,6 +173,8 @@ pub fn load_clause<A: Allocator + Copy, P: ProofTracer>(
     ensures undecided { OnOk result (ctx.old.solver_state.sat_state ≢ SatState.Unsat → ctx.new.trail.decisions ≡ []) }
     ensures single { OnOk result ((l : Literal) → lits.now ≡ l ∷ [] → LoadsUnit (view ctx.old) (view ctx.new) l) }
     ensures schedule { KeepsSchedule ctx.old ctx.new }
+    // It fails with `Full` only where the store has no room for a clause over the variables that there are.
+    ensures full { IfErr result (λ error. error ≡ StepError.Full → HasNoRoom ctx.new) }
 {
     if let SatState::Unsat = ctx.solver_state.sat_state {
         return Ok(());

@@ -11,13 +11,12 @@ ghost use Rattle.varisat_search.specs.Seen.{search_of};
 ghost use Rattle.varisat_trace.specs.Traces.{TakesLines, HoldsFor};
 
 use crate::context::Context;
-use crate::error::StepError;
 use crate::trace::trace_deletions;
 use std::alloc::{AllocError, Allocator};
 use varisat_analysis::reasons::mark_reasons;
 pub use varisat_analysis::reasons::{first_var, is_reason_clause};
 use varisat_clause::reduce;
-use varisat_trace::ProofTracer;
+use varisat_trace::{ProofTracer, TraceError};
 
 /// Deletes half of the clauses of the tier Local, rounded down: the least active first, and of equally active ones the
 /// first. One that is the reason of its first literal is passed over. The watch lists are switched off, since they name
@@ -25,7 +24,7 @@ use varisat_trace::ProofTracer;
 pub fn reduce_locals<A: Allocator + Copy, P: ProofTracer>(
     ctx: &mut Context<A>,
     proof: &mut P,
-) -> Result<(), StepError>
+) -> Result<(), TraceError>
     requires ready { IsReady ctx.old }
     requires holds { HoldsFor (P.holds proof.old) (search_of (view ctx.old)) }
     ensures reduced { OnOk result ((marked : Store) × HoldsClauses marked (length ctx.old.clause_alloc.words) (reasons_marked ctx.old.assignment.current ctx.old.impl_graph.nodes.items (stored_clauses ctx.old.clause_alloc)) × ReducesLocals marked ctx.new.clause_alloc) }

@@ -1,5 +1,5 @@
 //! The steps of a search by its schedule.
-ghost use Rattle.std.specs.Prelude.{◌≡◌, ◌-◌, ◌^◌, ◌<◌, List, [], length, OnOk, OnErr};
+ghost use Rattle.std.specs.Prelude.{◌≡◌, ◌-◌, ◌^◌, ◌<◌, List, [], length, OnOk, OnErr, IfErr};
 ghost use Rattle.varisat_prop.specs.View.{kinds};
 ghost use Rattle.varisat_schedule.specs.Plans.{step_begun, next_plan};
 ghost use Rattle.varisat_schedule.specs.CallSteps.{IsPlannedStep};
@@ -9,6 +9,7 @@ ghost use Rattle.varisat_search.specs.Decisions.{SameDecidable};
 ghost use Rattle.varisat_search.specs.Progress.{StepsTo};
 ghost use Rattle.varisat_search.specs.Restarts.{RestartsIfDue, SavesIfDue, RestartsAndRemembers};
 ghost use Rattle.varisat_search.specs.DueReductions.{ReducesLocalsIfDue, ReducesMidsIfDue, ReducesIfDue, KeepsSearch, GoesBySchedule};
+ghost use Rattle.varisat_search.specs.StepErrors.{HasNoRoom};
 ghost use Rattle.varisat_search.specs.Seen.{search_of, outcome_of};
 ghost use Rattle.varisat_trace.specs.Traces.{TakesLines, TakesStep, HoldsFor};
 
@@ -22,7 +23,7 @@ use crate::state::SatState;
 use std::alloc::{AllocError, Allocator};
 pub use varisat_schedule::luby::LubySequence;
 pub use varisat_schedule::schedule::Schedule;
-use varisat_trace::ProofTracer;
+use varisat_trace::{ProofTracer, TraceError};
 
 /// Begins a step of the schedule, which restarts the search where a restart is due. Assumptions keep their levels.
 fn restart_if_due<A: Allocator + Copy>(ctx: &mut Context<A>)
@@ -48,7 +49,7 @@ fn restart_if_due<A: Allocator + Copy>(ctx: &mut Context<A>)
 fn reduce_locals_if_due<A: Allocator + Copy, P: ProofTracer>(
     ctx: &mut Context<A>,
     proof: &mut P,
-) -> Result<(), StepError>
+) -> Result<(), TraceError>
     requires ready { IsReady ctx.old }
     requires holds { HoldsFor (P.holds proof.old) (search_of (view ctx.old)) }
     ensures reduces { OnOk result (ReducesLocalsIfDue ctx.old ctx.new) }
@@ -78,7 +79,7 @@ fn reduce_mids_if_due<A: Allocator + Copy>(ctx: &mut Context<A>) -> Result<(), A
 fn reduce_if_due<A: Allocator + Copy, P: ProofTracer>(
     ctx: &mut Context<A>,
     proof: &mut P,
-) -> Result<(), StepError>
+) -> Result<(), TraceError>
     requires ready { IsReady ctx.old }
     requires holds { HoldsFor (P.holds proof.old) (search_of (view ctx.old)) }
     ensures reduces { OnOk result (ReducesIfDue ctx.old ctx.new) }
@@ -115,6 +116,8 @@ pub fn schedule_step<A: Allocator + Copy, P: ProofTracer>(
     ensures schedule { OnOk result (ctx.new.schedule ≡ next_plan ctx.old.solver_config.luby_restart_interval_scale ctx.old.schedule) }
     ensures uncounted { OnErr result (ctx.new.schedule.steps ≡ ctx.old.schedule.steps) }
     ensures config { ctx.new.solver_config ≡ ctx.old.solver_config }
+    // It fails with `Full` only where the store has no room for a clause over the variables that there are.
+    ensures full { IfErr result (λ error. error ≡ StepError.Full → HasNoRoom ctx.new) }
 {
     restart_if_due(ctx);
     reduce_if_due(ctx, proof)?;

@@ -1,5 +1,5 @@
 //! The lines of a search that are handed on before it changes.
-ghost use Rattle.std.specs.Prelude.{◌≡◌, ℕ, ◌<◌, ◌≤◌, ◌++◌, List, Option, Bool, length, false, OnOk};
+ghost use Rattle.std.specs.Prelude.{◌≡◌, ℕ, ◌<◌, ◌≤◌, List, Option, Bool, length, false, OnOk};
 ghost use Rattle.varisat_theory.specs.Membership.{◌∈◌};
 ghost use Rattle.varisat_theory.specs.Literals.{Literal, Clause, variable_of, opposite};
 ghost use Rattle.varisat_theory.specs.StepLaws.{unit_lines};
@@ -81,7 +81,7 @@ fn trace_pairs_with<P: ProofTracer>(
 }
 
 /// Hands on the deletions of the clauses of two literals of which one has a value.
-fn trace_pairs<A: Allocator + Copy, P: ProofTracer>(
+fn trace_each_pair<A: Allocator + Copy, P: ProofTracer>(
     proof: &mut P,
     values: &[Option<bool>],
     binary_clauses: &BinaryClauses<A>,
@@ -161,24 +161,39 @@ fn trace_clauses<A: Allocator + Copy, P: ProofTracer>(
     Ok(())
 }
 
-/// Hands on what becomes of the clauses as they are simplified. A tracer that takes nothing costs nothing.
-pub fn trace_simplification<A: Allocator + Copy, P: ProofTracer>(
+/// Hands on the deletions of the clauses of two literals of which one has a value. A tracer that takes nothing costs
+/// nothing.
+pub fn trace_pairs<A: Allocator + Copy, P: ProofTracer>(
     proof: &mut P,
     assignment: &Assignment<A>,
     binary_clauses: &BinaryClauses<A>,
-    clause_alloc: &ClauseAlloc<A>,
-    alloc: A,
 ) -> Result<(), TraceError>
-    requires sound { IsSound clause_alloc.now }
     requires small { length binary_clauses.now ≤ 0x2000_0000 }
-    requires in_range { (c : Clause) → c ∈ literals_of (live_clauses clause_alloc.now) → IsInRange assignment.now.current c }
-    requires able { CanTake (P.holds proof.old) (lines_of_pairs assignment.now.current (pairs_from 0 binary_clauses.now) ++ lines_of_clauses assignment.now.current (live_clauses clause_alloc.now)) }
-    ensures { OnOk result (TakesLines P.takes proof.old (lines_of_pairs assignment.now.current (pairs_from 0 binary_clauses.now) ++ lines_of_clauses assignment.now.current (live_clauses clause_alloc.now)) proof.new) }
+    requires able { CanTake (P.holds proof.old) (lines_of_pairs assignment.now.current (pairs_from 0 binary_clauses.now)) }
+    ensures { OnOk result (TakesLines P.takes proof.old (lines_of_pairs assignment.now.current (pairs_from 0 binary_clauses.now)) proof.new) }
 {
     if !proof.is_active() {
         return Ok(());
     }
-    trace_pairs(proof, assignment.assignment(), binary_clauses)?;
+    trace_each_pair(proof, assignment.assignment(), binary_clauses)?;
+    Ok(())
+}
+
+/// Hands on what becomes of the stored clauses as they are simplified. A tracer that takes nothing costs nothing.
+pub fn trace_shortened<A: Allocator + Copy, P: ProofTracer>(
+    proof: &mut P,
+    assignment: &Assignment<A>,
+    clause_alloc: &ClauseAlloc<A>,
+    alloc: A,
+) -> Result<(), TraceError>
+    requires sound { IsSound clause_alloc.now }
+    requires in_range { (c : Clause) → c ∈ literals_of (live_clauses clause_alloc.now) → IsInRange assignment.now.current c }
+    requires able { CanTake (P.holds proof.old) (lines_of_clauses assignment.now.current (live_clauses clause_alloc.now)) }
+    ensures { OnOk result (TakesLines P.takes proof.old (lines_of_clauses assignment.now.current (live_clauses clause_alloc.now)) proof.new) }
+{
+    if !proof.is_active() {
+        return Ok(());
+    }
     let mut left = Vec::new(alloc);
     trace_clauses(proof, assignment, clause_alloc, &mut left)?;
     Ok(())

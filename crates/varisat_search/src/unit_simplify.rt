@@ -9,6 +9,7 @@ ghost use Rattle.varisat_clause.specs.Stored.{IsPlace, stored_at, literals_at, w
 ghost use Rattle.varisat_clause.specs.Stores.{stored_clauses, IsSound, HoldsClauses};
 ghost use Rattle.varisat_prop.specs.declared.prop.graph.Reason.TheVariants as reason;
 ghost use Rattle.varisat_prop.specs.Looks.{IsInRange};
+ghost use Rattle.varisat_prop.specs.Simplified.{without_assigned};
 ghost use Rattle.varisat_prop.specs.View.{kept, node_at};
 ghost use Rattle.varisat_search.specs.Contexts.{view, IsReady};
 ghost use Rattle.varisat_search.specs.Decisions.{SameDecidable};
@@ -18,8 +19,7 @@ ghost use Rattle.varisat_trace.specs.Traces.{TakesLines, CanTake, HoldsFor};
 ghost use Rattle.varisat_search.specs.Simplifications.{unassigned, shortened_to, with_pairs, IsSimplified, pair_lines, clause_lines, IsPairIn, IsLeftOpen, LeavesOpen};
 
 use crate::context::Context;
-use crate::error::StepError;
-use crate::trace::{copy_unassigned, trace_simplification, trace_units};
+use crate::trace::{copy_unassigned, trace_pairs, trace_shortened, trace_units};
 use std::alloc::{AllocError, Allocator};
 use varisat_analysis::clause_literals::is_satisfied;
 use varisat_clause::alloc::{ClauseAlloc, ClauseRef};
@@ -129,13 +129,70 @@ fn add_pairs<A: Allocator + Copy>(
     Ok(())
 }
 
+/// Takes out the clauses of two literals of which one has a value: at level 0 after complete propagation, where each
+/// literal of the trail is a unit, each of them is satisfied. Their deletions are handed on as the literals with lists
+/// come, each with the literal of the smaller code first.
+pub fn simplify_binary<A: Allocator + Copy, P: ProofTracer>(
+    ctx: &mut Context<A>,
+    proof: &mut P,
+) -> Result<(), TraceError>
+    requires ready { IsReady ctx.old }
+    requires holds { HoldsFor (P.holds proof.old) (search_of (view ctx.old)) }
+    requires undecided { ctx.old.trail.decisions ≡ [] }
+    requires complete { IsComplete (kept (view ctx.old)) ctx.old.trail.literals }
+    requires proved { (k : ℕ) → k < length ctx.old.trail.literals → (node_at (view ctx.old) k).reason ≡ reason.Unit }
+    ensures simplified { OnOk result (ctx.new.binary_clauses ≡ without_assigned ctx.old.assignment.current ctx.old.binary_clauses) }
+    ensures proves { OnOk result (Proves 0 (search_of (view ctx.old)) (search_of (view ctx.new)) (pair_lines (view ctx.old))) }
+    ensures takes { OnOk result (TakesLines P.takes proof.old (pair_lines (view ctx.old)) proof.new) }
+    ensures ready { OnOk result (IsReady ctx.new) }
+    ensures kept { ctx.new ≡ record ctx.old { binary_clauses = ctx.new.binary_clauses } }
+{
+    // The lines are handed on first, while each clause is there.
+    trace_pairs(proof, &ctx.assignment, &ctx.binary_clauses)?;
+    ctx.binary_clauses.simplify(&ctx.assignment);
+    Ok(())
+}
+
+/// Takes out of the store the clauses that a literal of level 0 satisfies, and from its others the false literals, once
+/// the clauses of two literals are simplified. A clause of which two literals are left joins those.
+fn simplify_stored<A: Allocator + Copy, P: ProofTracer>(
+    ctx: &mut Context<A>,
+    proof: &mut P,
+) -> Result<(), TraceError>
+    requires ready { IsReady ctx.old }
+    requires holds { HoldsFor (P.holds proof.old) (search_of (view ctx.old)) }
+    requires undecided { ctx.old.trail.decisions ≡ [] }
+    requires complete { IsComplete (kept (view ctx.old)) ctx.old.trail.literals }
+    requires proved { (k : ℕ) → k < length ctx.old.trail.literals → (node_at (view ctx.old) k).reason ≡ reason.Unit }
+    requires left { without_assigned ctx.old.assignment.current ctx.old.binary_clauses ≡ ctx.old.binary_clauses }
+    ensures simplified { OnOk result (IsSimplified (view ctx.old) (view ctx.new)) }
+    ensures proves { OnOk result (Proves 0 (search_of (view ctx.old)) (search_of (view ctx.new)) (clause_lines (view ctx.old))) }
+    ensures takes { OnOk result (TakesLines P.takes proof.old (clause_lines (view ctx.old)) proof.new) }
+    ensures ready { OnOk result (IsReady ctx.new) }
+    ensures decidable { OnOk result (SameDecidable (view ctx.old) ctx.old.vsids (view ctx.new) ctx.new.vsids) }
+    ensures kept { ctx.new ≡ record ctx.old { binary_clauses = ctx.new.binary_clauses; clause_alloc = ctx.new.clause_alloc; clause_db = ctx.new.clause_db; watchlists = ctx.new.watchlists } }
+{
+    let alloc = *ctx.tmp_data.lits.allocator();
+    // The lines are handed on first, while each clause still has the literals that it loses.
+    trace_shortened(proof, &ctx.assignment, &ctx.clause_alloc, alloc)?;
+    let mut filter = UnitFilter {
+        assignment: &ctx.assignment,
+        left: Vec::new(alloc),
+        pairs: Vec::new(alloc),
+    };
+    filter_clauses(&mut ctx.clause_alloc, &mut ctx.clause_db, &mut filter)?;
+    add_pairs(&mut ctx.binary_clauses, &filter.pairs)?;
+    ctx.watchlists.disable();
+    Ok(())
+}
+
 /// Takes out the clauses that a literal of level 0 satisfies, and from the others the false literals. A clause of which
 /// two literals are left joins those of two literals. The watch lists are switched off. Propagation has to have come to
 /// its end before, and each literal of the trail has to be a unit. Where a growth was refused clauses may be missing.
 pub fn unit_simplify<A: Allocator + Copy, P: ProofTracer>(
     ctx: &mut Context<A>,
     proof: &mut P,
-) -> Result<(), StepError>
+) -> Result<(), TraceError>
     requires ready { IsReady ctx.old }
     requires holds { HoldsFor (P.holds proof.old) (search_of (view ctx.old)) }
     requires undecided { ctx.old.trail.decisions ≡ [] }
@@ -149,23 +206,7 @@ pub fn unit_simplify<A: Allocator + Copy, P: ProofTracer>(
     ensures decidable { OnOk result (SameDecidable (view ctx.old) ctx.old.vsids (view ctx.new) ctx.new.vsids) }
     ensures kept { ctx.new ≡ record ctx.old { binary_clauses = ctx.new.binary_clauses; clause_alloc = ctx.new.clause_alloc; clause_db = ctx.new.clause_db; watchlists = ctx.new.watchlists } }
 {
-    let alloc = *ctx.tmp_data.lits.allocator();
-    // The lines are handed on first, while each clause still has the literals that it loses.
-    trace_simplification(
-        proof,
-        &ctx.assignment,
-        &ctx.binary_clauses,
-        &ctx.clause_alloc,
-        alloc,
-    )?;
-    ctx.binary_clauses.simplify(&ctx.assignment);
-    let mut filter = UnitFilter {
-        assignment: &ctx.assignment,
-        left: Vec::new(alloc),
-        pairs: Vec::new(alloc),
-    };
-    filter_clauses(&mut ctx.clause_alloc, &mut ctx.clause_db, &mut filter)?;
-    add_pairs(&mut ctx.binary_clauses, &filter.pairs)?;
-    ctx.watchlists.disable();
+    simplify_binary(ctx, proof)?;
+    simplify_stored(ctx, proof)?;
     Ok(())
 }

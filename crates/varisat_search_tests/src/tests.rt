@@ -11,4 +11,5 @@ mod searches;
 mod simplifying;
 mod steps;
 mod tiers;
+mod tracing;
 mod watching;

@@ -23,6 +23,7 @@ pub mod RestartPoints
 pub mod StepCounts
 pub mod StepParts
 pub mod SearchFits
+pub mod Spoken
 pub mod StepChanges
 pub mod StepEnds
 pub mod StepLoads

@@ -13,8 +13,9 @@ use Rattle.varisat_theory.proofs.Learning.{follows_at_zero}
 use Rattle.varisat_theory.proofs.Implication.{implied_follows, implied_more}
 use Rattle.varisat_theory.proofs.Held.{same_set-back, same_clauses-through}
 use Rattle.varisat_theory.specs.Counted.{IsMinor}
-use Rattle.varisat_theory.specs.Searches.{KeptClause, Search, clauses_of, IsSettled, Fits, Covers}
+use Rattle.varisat_theory.specs.Searches.{KeptClause, Search, clauses_of, IsSettled, Fits, Covers, IsLiteralOf}
 use Rattle.varisat_theory.specs.Outcomes.{Proves}
+use Rattle.varisat_theory.proofs.Spoken.{moved_within, fewer_within, at_place, part_within}
 use Rattle.varisat_theory.proofs.SearchFits.{same_insert, same_front, same_equal, clauses_at, clauses_join, clause_in, plain, carried, proved_implied}
 
 -- what is settled stays so where more literals are fixed
@@ -38,8 +39,8 @@ pub more_settled : (t : Search) (O : List Clause) (c : Clause) → ((d : Clause)
 more_settled t O c f g d h =
     ⊎_elim (f d) (λ i. ⊎_elim (λ e. subst (IsSettled t) (sym e) g) (λ z. absurd z) i) (∈-append_cases d O (c ∷ []) h)
 
-pub moves_prove : (s t : Search) → SameClauses (clauses_of s.kept) (clauses_of t.kept) → ((k : KeptClause) → k ∈ s.kept → k.learned ≡ false → (j : KeptClause) × (j ∈ t.kept) × (j.learned ≡ false) × (j.clause ⊆ k.clause)) → s.fixed ⊆ t.fixed → t.proved ⊆ s.proved → Proves 0 s t []
-moves_prove s t q g x p = record {
+pub moves_prove : (s t : Search) → SameClauses (clauses_of s.kept) (clauses_of t.kept) → ((k : KeptClause) → k ∈ s.kept → k.learned ≡ false → (j : KeptClause) × (j ∈ t.kept) × (j.learned ≡ false) × (j.clause ⊆ k.clause)) → s.fixed ⊆ t.fixed → t.proved ⊆ s.proved → ((l : Literal) → l ∈ t.fixed → IsLiteralOf s l) → Proves 0 s t []
+moves_prove s t q g x p y = record {
   holds = λ held f. (
     held,
     refl,
@@ -55,6 +56,8 @@ moves_prove s t q g x p = record {
       (λ a. inl (settled_more s t c x a))
       (λ (k, i, e, w). let (j, i', e', w') = g k i e in inr (j, i', e', λ m r. w m (w' m r)))
       (v c h);
+  speaks = tt;
+  within = moved_within s t q y;
 }
 
 -- a literal that is false by proved ones is implied to be
@@ -84,6 +87,8 @@ unit_is_proved s l k x h i u = record {
         },
       );
   covers = λ P v. v;
+  speaks = (λ m j. ⊎_elim (λ e. inl (subst (λ y. y ∈ s.fixed) (sym e) x)) (λ z. absurd z) j, tt);
+  within = λ m j. j;
 }
 
 -- What is covered stays so where other clauses take a kept one's place, if they cover what it did.
@@ -119,6 +124,8 @@ is_deleted s front back k c e q w = record {
         },
       );
   covers = covers_replaced s front back [] k e (λ d n r. inl (⊎_elim (λ y. absurd (let z : true ≡ false = sym y ∙ n in cc)) (settled_wider s k.clause d r) w));
+  speaks = (λ l i. inr (k, at_place s front back k e, q.1 l i), tt);
+  within = fewer_within s front back k e;
 }
 
 pub satisfied_is_deleted : (s : Search) (front back : List KeptClause) (k : KeptClause) (c : Clause) (l : Literal) → s.kept ≡ front ++ (k ∷ back) → SameSet k.clause c → l ∈ k.clause → l ∈ s.fixed → Proves 0 s (record s { kept = front ++ back }) (Delete c ∷ [])
@@ -158,6 +165,8 @@ is_shortened s front back k j c d e q r w g y = record {
         },
       );
   covers = covers_replaced s front back (j ∷ []) k e (λ a n p. inr (j, inl refl, is_false j.learned (λ u. let z : true ≡ false = sym (y u) ∙ n in cc), λ x u. p x (w x u)));
+  speaks = (λ l i. inr (k, at_place s front back k e, w l (r.1 l i)), (λ l i. inr (k, at_place s front back k e, q.1 l i), tt));
+  within = part_within s front back k j e w;
 }
   where
     moved : (F B : List Clause) (a b : Clause) → SameSet a b → SameClauses ((F ++ B) ++ b ∷ []) (F ++ (a ∷ B))

@@ -10,7 +10,7 @@ use Rattle.varisat_theory.proofs.HeldDrops.{same_without, without_less}
 use Rattle.varisat_theory.specs.Searches.{KeptClause, Search, clauses_of, IsSettled, Fits}
 use Rattle.varisat_theory.specs.Outcomes.{Proves}
 use Rattle.varisat_theory.specs.StepLaws.{unit_lines}
-use Rattle.varisat_theory.proofs.StepParts.{parts_join}
+use Rattle.varisat_theory.proofs.StepParts.{no_part, parts_join}
 use Rattle.varisat_theory.proofs.StepChanges.{unit_is_proved}
 
 none : (P : List Literal) → P ++ [] ≡ P
@@ -19,7 +19,7 @@ none (x ∷ P) = ap (λ l. x ∷ l) (none P)
 
 pub units_are_proved : (s : Search) (ls : List Literal) → ((front back : List Literal) (l : Literal) → ls ≡ front ++ (l ∷ back) → (l ∈ s.fixed) × ((k : KeptClause) × (k ∈ s.kept) × (l ∈ k.clause) × LeavesOnly (s.proved ++ front) k.clause l)) → Proves 0 s (record s { proved = s.proved ++ ls }) (unit_lines ls)
 units_are_proved s [] f =
-    subst (λ x. Proves 0 s (record s { proved = x }) []) (sym (none s.proved)) (record { holds = λ held g. (held, refl, g); covers = λ P v. v })
+    subst (λ x. Proves 0 s (record s { proved = x }) []) (sym (none s.proved)) (no_part s)
 units_are_proved s (l ∷ ls) f =
     let (x, (k, h, i, u)) = f [] ls l refl in
     let t = record s { proved = s.proved ++ l ∷ [] } in

@@ -10,10 +10,11 @@ use Rattle.varisat_theory.proofs.Held.{same_set-back, same_clauses-through, same
 use Rattle.varisat_theory.proofs.Assigned.{assigned_satisfies, same_set_satisfied, tautology_satisfied}
 use Rattle.varisat_theory.proofs.Implication.{implied_false}
 use Rattle.varisat_theory.specs.Counted.{IsNew, AddsNew}
-use Rattle.varisat_theory.specs.Searches.{KeptClause, Search, clauses_of, IsSettled, Fits, Covers}
+use Rattle.varisat_theory.specs.Searches.{KeptClause, Search, clauses_of, IsSettled, Fits, Covers, IsLiteralOf}
 use Rattle.varisat_theory.specs.Outcomes.{Unknown, Sat, Unsat, UnsatUnder, Steps}
 use Rattle.varisat_theory.specs.StepLaws.{FollowsFrom, IsNewTo, IsFresh, IsSolution}
 use Rattle.varisat_theory.proofs.SearchFits.{same_between, clauses_last, clause_from, plain, proved_implied}
+use Rattle.varisat_theory.proofs.Spoken.{kept_within, unit_within}
 use Rattle.varisat_theory.proofs.StepChanges.{settled_more, more_units, more_settled, in_plain}
 
 -- no held clause is a part of a fresh one
@@ -72,18 +73,22 @@ covers_unit s l P v d h =
 new_line : (held : List Clause) (c : Clause) → IsNew held c → AddsNew held (Add c ∷ [])
 new_line held c n = ([], [], c, held, refl, refl, n)
 
-pub learned_kept : (s : Search) (c : Clause) (k : KeptClause) → SameSet k.clause c → FollowsFrom s c → IsNewTo s c → Steps s (record s { kept = s.kept ++ k ∷ [] }) Unknown (Add c ∷ [])
-learned_kept s c k q g n = record {
+pub learned_kept : (s : Search) (c : Clause) (k : KeptClause) → SameSet k.clause c → FollowsFrom s c → IsNewTo s c → ((l : Literal) → l ∈ c → IsLiteralOf s l) → Steps s (record s { kept = s.kept ++ k ∷ [] }) Unknown (Add c ∷ [])
+learned_kept s c k q g n w = record {
   holds = λ held f.
       (held ++ c ∷ [], (g held f, inr (0, refl, refl)), fits_kept s held c k q f, λ e. new_line held c (n held f));
   answers = covers_kept s k;
+  speaks = (w, tt);
+  within = λ u. kept_within s (IsLiteralOf s) k (λ l h. h) (λ l h. w l (q.0 l h));
 }
 
-pub learned_unit : (s : Search) (c : Clause) (l : Literal) → IsUnit l c → FollowsFrom s c → IsNewTo s c → Steps s (record s { fixed = s.fixed ++ l ∷ []; proved = s.proved ++ l ∷ [] }) Unknown (Add c ∷ [])
-learned_unit s c l u g n = record {
+pub learned_unit : (s : Search) (c : Clause) (l : Literal) → IsUnit l c → FollowsFrom s c → IsNewTo s c → ((m : Literal) → m ∈ c → IsLiteralOf s m) → Steps s (record s { fixed = s.fixed ++ l ∷ []; proved = s.proved ++ l ∷ [] }) Unknown (Add c ∷ [])
+learned_unit s c l u g n w = record {
   holds = λ held f.
       (held ++ c ∷ [], (g held f, inl (inl (l, u), refl)), fits_unit s held c l u f, λ e. new_line held c (n held f));
   answers = covers_unit s l;
+  speaks = (w, tt);
+  within = λ y. unit_within s (IsLiteralOf s) l (λ m h. h) (w l u.0);
 }
 
 pub empty_is_added : (s t : Search) (k : KeptClause) → k ∈ s.kept → IsFalse s.proved k.clause → Steps s t Unsat (Add [] ∷ [])
@@ -92,15 +97,19 @@ empty_is_added s t k h z = record {
       let now : Conflicts held [] = conflicts_same (plain held s f) held [] (same_clauses-back held (plain held s f) f.same) (implied_false (plain held s f) [] k.clause (in_plain s held f k h) (λ m i. proved_implied held s (opposite m) f (z m i))) in
       (held ++ [] ∷ [], (now, inr (0, refl, refl)), FalseClause [] (∈-append_right [] held ([] ∷ []) (inl refl)) (λ m i. absurd i), λ e. absurd (let y : Unsat ≡ Unknown = e in cc));
   answers = λ P v. tt;
+  speaks = (λ l h. absurd h, tt);
+  within = λ u. absurd (u refl);
 }
 
 -- the empty clause follows, and is added or not
 pub contradiction_is_found : (s t : Search) → FollowsFrom s [] → Steps s t Unsat [] × Steps s t Unsat (Add [] ∷ [])
 contradiction_is_found s t g = (
-  record { holds = λ held f. (held, refl, g held f, λ e. absurd (let y : Unsat ≡ Unknown = e in cc)); answers = λ P v. tt },
+  record { holds = λ held f. (held, refl, g held f, λ e. absurd (let y : Unsat ≡ Unknown = e in cc)); answers = λ P v. tt; speaks = tt; within = λ u. absurd (u refl) },
   record {
     holds = λ held f. (held ++ [] ∷ [], (g held f, inr (0, refl, refl)), FalseClause [] (∈-append_right [] held ([] ∷ []) (inl refl)) (λ m i. absurd i), λ e. absurd (let y : Unsat ≡ Unknown = e in cc));
     answers = λ P v. tt;
+    speaks = (λ l h. absurd h, tt);
+    within = λ u. absurd (u refl);
   },
 )
 
@@ -126,10 +135,14 @@ pub model_is_found : (s : Search) (known : List Literal) (a : Assignment) → Is
 model_is_found s known a n m = record {
   holds = λ held f. (held, refl, f, λ e. absurd (let y : Sat a ≡ Unknown = e in cc));
   answers = λ P v. (v, model_satisfies s known a P n m v);
+  speaks = tt;
+  within = λ u l h. h;
 }
 
 pub core_is_found : (s : Search) (core : List Literal) → ((held : List Clause) → Fits held s → Conflicts held core) → Steps s s (UnsatUnder core) []
 core_is_found s core g = record {
   holds = λ held f. (held, refl, (f, g held f), λ e. absurd (let y : UnsatUnder core ≡ Unknown = e in cc));
   answers = λ P v. v;
+  speaks = tt;
+  within = λ u l h. h;
 }

@@ -7,11 +7,12 @@ use Rattle.varisat_theory.specs.Analysis.{Implied}
 use Rattle.varisat_theory.proofs.Members.{∈-append_left, ∈-append_right, ∈-append_cases}
 use Rattle.varisat_theory.proofs.Implication.{implied_false, implied_more}
 use Rattle.varisat_theory.proofs.Held.{same_set-back}
-use Rattle.varisat_theory.specs.Searches.{KeptClause, Search, IsSettled, Covers}
+use Rattle.varisat_theory.specs.Searches.{KeptClause, Search, IsSettled, Covers, IsLiteralOf}
 use Rattle.varisat_theory.specs.Counted.{DerivesBy}
-use Rattle.varisat_theory.specs.Outcomes.{Outcome, Unknown, Unsat, Holds, Proves, Loads, IsContradicted}
+use Rattle.varisat_theory.specs.Outcomes.{Outcome, Unknown, Unsat, Holds, Proves, Loads, IsContradicted, IsLiteralOfBoth}
 use Rattle.varisat_theory.proofs.StepCounts.{by_append}
 use Rattle.varisat_theory.specs.StepLaws.{IsGrounded}
+use Rattle.varisat_theory.proofs.Spoken.{spoken_wider, spoken_after, kept_within, unit_within}
 use Rattle.varisat_theory.proofs.StepEnds.{fits_kept, covers_kept, fits_settled, with_unit, fits_unit, covers_unit}
 
 -- one more clause is covered
@@ -26,6 +27,8 @@ loaded_is_kept s c k q e n = record {
       let t = record s { kept = s.kept ++ k ∷ [] } in
       one_more t P c (covers_kept s k P v) (inr (k, ∈-append_right k s.kept (k ∷ []) (inl refl), e, q.0));
   verdict = inr (n, refl);
+  speaks = tt;
+  within = λ y. kept_within s (IsLiteralOfBoth s c) k (λ l h. inl h) (λ l h. inr (q.0 l h));
 }
 
 pub loaded_is_unit : (s : Search) (c : Clause) (l : Literal) → IsUnit l c → (opposite l ∈ s.fixed → ⊥) → Loads s (record s { fixed = s.fixed ++ l ∷ []; proved = s.proved ++ l ∷ [] }) c Unknown []
@@ -33,6 +36,8 @@ loaded_is_unit s c l u n = record {
   holds = λ held f. (held ++ c ∷ [], refl, fits_unit s held c l u f);
   answers = λ P v. one_more (with_unit s l) P c (covers_unit s l P v) (inl (inr (l, u.0, ∈-append_right l s.fixed (l ∷ []) (inl refl))));
   verdict = inr (λ w. ⊎_elim (λ e. let z : l ∈ [] = subst (λ x. l ∈ x) e u.0 in absurd z) (λ (m, v, o). n (subst (λ x. opposite x ∈ s.fixed) (u.1 m v.0) o)) w, refl);
+  speaks = tt;
+  within = λ y. unit_within s (IsLiteralOfBoth s c) l (λ m h. inl h) (inr u.0);
 }
 
 pub loaded_is_settled : (s : Search) (c : Clause) → IsSettled s c → (IsContradicted s c → ⊥) → Loads s s c Unknown []
@@ -40,6 +45,8 @@ loaded_is_settled s c a n = record {
   holds = λ held f. (held ++ c ∷ [], refl, fits_settled s held c a f);
   answers = λ P v. one_more s P c v (inl a);
   verdict = inr (n, refl);
+  speaks = tt;
+  within = λ y l h. inl h;
 }
 
 pub loaded_is_deleted : (s : Search) (c d : Clause) → IsSettled s c → (IsContradicted s c → ⊥) → SameSet d c → Loads s s c Unknown (Delete d ∷ [])
@@ -47,6 +54,8 @@ loaded_is_deleted s c d a n q = record {
   holds = λ held f. (held, (held, (held, c, [], refl, same_set-back d c q, sym (none held)), refl), f);
   answers = λ P v. one_more s P c v (inl a);
   verdict = inr (n, refl);
+  speaks = (λ l h. inr (q.0 l h), tt);
+  within = λ y l h. inl h;
 }
   where
     none : (P : List Clause) → P ++ [] ≡ P
@@ -60,6 +69,8 @@ loaded_is_contradicted s t c r w = record {
       (held ++ c ∷ [], refl, implied_false (held ++ c ∷ []) [] c (∈-append_right c held (c ∷ []) (inl refl)) (λ m i. fixed (opposite m) (opposed m i w)));
   answers = λ P v. tt;
   verdict = inl (w, refl);
+  speaks = tt;
+  within = λ u. absurd (u refl);
 }
   where
     opposed : (m : Literal) → m ∈ c → IsContradicted s c → opposite m ∈ s.fixed
@@ -77,8 +88,14 @@ part_load s t u c v lines p x y q = record {
       (λ (a, e). inl (other t s y a, e))
       (λ (n, e). inr (λ a. n (other s t x a), e))
       q.verdict;
+  speaks = spoken_wider (IsLiteralOfBoth t c) (IsLiteralOfBoth s c) lines wider q.speaks;
+  within = λ n l h. wider l (q.within n l h);
 }
   where
+    wider : (l : Literal) → IsLiteralOfBoth t c l → IsLiteralOfBoth s c l
+    wider l (inl h) = inl (p.within l h)
+    wider l (inr h) = inr h
+
     other : (a b : Search) → a.fixed ⊆ b.fixed → IsContradicted a c → IsContradicted b c
     other a b z (inl e) = inl e
     other a b z (inr (l, u', o)) = inr (l, u', z (opposite l) o)
@@ -91,4 +108,12 @@ load_part s t u c lines more p q = record {
       (after, by_append 0 0 (held ++ c ∷ []) lines mid more after d e, h);
   answers = λ P a. q.covers (P ++ c ∷ []) (p.answers P a);
   verdict = p.verdict;
+  speaks = spoken_after (IsLiteralOf t) (IsLiteralOfBoth s c) lines more inside p.speaks q.speaks;
+  within = λ n l h. inside l (q.within l h);
 }
+  where
+    open_is : Unknown ≡ Unsat → ⊥
+    open_is e = absurd (let y : Unknown ≡ Unsat = e in cc)
+
+    inside : (l : Literal) → IsLiteralOf t l → IsLiteralOfBoth s c l
+    inside = p.within open_is

@@ -1,15 +1,16 @@
 -- What follows for the accepted clauses.
-use Rattle.std.proofs.Common.{◌≡◌, ◌≢◌, ℕ, ◌+◌, ◌≤◌, List, [], ◌∷◌, ◌++◌, inl, sym, ap, ◌∙◌, subst, refl, append_assoc, arith}
+use Rattle.std.proofs.Common.{◌≡◌, ◌≢◌, ℕ, zero, suc, ◌+◌, ◌≤◌, List, [], ◌∷◌, ◌++◌, inl, sym, ap, ◌∙◌, subst, refl, append_assoc, arith}
 use Rattle.varisat_theory.specs.Literals.{Literal, Clause, Assignment, SatisfiesAll, IsSatisfiable, IsSatisfiableWith}
 use Rattle.varisat_theory.specs.Derivations.{Line, Add, Delete}
 use Rattle.varisat_theory.proofs.Members.{∈-append_left, ∈-append_right}
 use Rattle.varisat_theory.proofs.Growth.{conflicts_more, covered_by_more}
 use Rattle.varisat_theory.proofs.Sound.{derives_sound, conflicts_sound}
 use Rattle.varisat_theory.proofs.Assigned.{satisfies_more, satisfies_fewer}
-use Rattle.varisat_theory.specs.Counted.{DerivesBy, AddsNew, added}
-use Rattle.varisat_theory.specs.Searches.{Search, Fits, Covers}
+use Rattle.varisat_theory.specs.Counted.{DerivesBy, AddsNew, AddsManyNew, added}
+use Rattle.varisat_theory.specs.Searches.{Search, Fits, Covers, IsLiteralOf}
 use Rattle.varisat_theory.specs.Outcomes.{Outcome, Unknown, Sat, Unsat, UnsatUnder, Holds, Answers, Proves, Steps, Loads, Stands}
 use Rattle.varisat_theory.proofs.StepCounts.{by_derives, by_append, new_after}
+use Rattle.varisat_theory.proofs.Spoken.{spoken_after}
 
 pub part_step : (s t u : Search) (v : Outcome) (first second : List Line) → Proves 0 s t first → Steps t u v second → Steps s u v (first ++ second)
 part_step s t u v first second p q = record {
@@ -18,7 +19,13 @@ part_step s t u v first second p q = record {
       let (after, e, h, n) = q.holds mid g in
       (after, by_append 0 1 held first mid second after d e, h, λ y. new_after held first mid second (by_derives 0 held first mid d) (n y));
   answers = λ P c. q.answers P (p.covers P c);
+  speaks = spoken_after (IsLiteralOf t) (IsLiteralOf s) first second p.within p.speaks q.speaks;
+  within = λ n l h. p.within l (q.within n l h);
 }
+
+-- a verdict that is not Unsat
+pub unknown_is_open : Unknown ≢ Unsat
+unknown_is_open e = absurd (let y : Unknown ≡ Unsat = e in cc)
 
 new_before : (P : List Clause) (lines more : List Line) → AddsNew P lines → AddsNew P (lines ++ more)
 new_before P lines more (front, back, c, Q, e, p, n) =
@@ -31,12 +38,16 @@ step_part s t u first second p q = record {
       let (after, e, h) = q.holds mid g in
       (after, by_append 1 0 held first mid second after d e, h, λ y. new_before held first second (n y));
   answers = λ P c. q.covers P (p.answers P c);
+  speaks = spoken_after (IsLiteralOf t) (IsLiteralOf s) first second (p.within unknown_is_open) p.speaks q.speaks;
+  within = λ n l h. p.within unknown_is_open l (q.within l h);
 }
 
 pub step_is_part : (s t : Search) (lines : List Line) → Steps s t Unknown lines → Proves 1 s t lines
 step_is_part s t lines p = record {
   holds = λ held f. let (after, d, g, n) = p.holds held f in (after, d, g);
   covers = p.answers;
+  speaks = p.speaks;
+  within = p.within unknown_is_open;
 }
 
 pub added_append : (first second : List Line) → added (first ++ second) ≡ added first + added second
@@ -49,6 +60,14 @@ adds_one P lines (front, back, c, Q, e, p, n) =
     let g = ap added e in
     let h = added_append front (Add c ∷ back) in
     omega (arith, g, h)
+
+pub new_are_added : (k : ℕ) (P : List Clause) (lines : List Line) → AddsManyNew k P lines → k ≤ added lines
+new_are_added zero P lines n = omega arith
+new_are_added (suc k) P lines (front, back, c, Q, e, p, n, more) =
+    let g = ap added e in
+    let h = added_append front (Add c ∷ back) in
+    let i = new_are_added k P front more in
+    omega (arith, g, h, i)
 
 pub step_adds : (s t : Search) (lines : List Line) (held : List Clause) → Steps s t Unknown lines → Fits held s → 1 ≤ added lines
 step_adds s t lines held p f = adds_one held lines ((p.holds held f).3 refl)

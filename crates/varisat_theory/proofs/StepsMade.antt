@@ -1,20 +1,38 @@
 -- What k steps of a call give together.
-use Rattle.std.proofs.Common.{◌≡◌, ℕ, zero, suc, ◌+◌, ◌<◌, ◌≤◌, Bool, true, false, List, [], ◌∷◌, ◌++◌, inl, inr, sym, ap, ◌∙◌, subst, refl, arith}
+use Rattle.std.proofs.Common.{◌≡◌, ℕ, zero, suc, ◌+◌, ◌<◌, ◌≤◌, Bool, true, false, List, [], ◌∷◌, ◌++◌, inl, inr, sym, ap, ◌∙◌, subst, refl, append_assoc, arith}
 use Rattle.std.proofs.lemmas.List.{append-nil}
 use Rattle.varisat_theory.specs.Membership.{◌∈◌}
 use Rattle.varisat_theory.specs.Literals.{Literal, Clause, Assignment, value, Satisfies, SatisfiesAll}
-use Rattle.varisat_theory.specs.Derivations.{Line, Refutes}
-use Rattle.varisat_theory.specs.Counted.{DerivesBy, added}
+use Rattle.varisat_theory.specs.Derivations.{Line, Add, Derives, Refutes}
+use Rattle.varisat_theory.specs.Counted.{DerivesBy, AddsNew, AddsManyNew}
 use Rattle.varisat_theory.specs.Searches.{KeptClause, Search, Fits, Covers, IsCoveredBySearch, Tautology, KnownTrue, FixedTrue, Kept, CoversBy, IsLiteralOf}
 use Rattle.varisat_theory.specs.Outcomes.{Outcome, Unknown, Sat, Unsat, UnsatUnder, Proves, Steps, MakesSteps, Stands}
 use Rattle.varisat_theory.specs.StepLaws.{joined}
 use Rattle.varisat_theory.proofs.Assigned.{tautology_satisfied}
 use Rattle.varisat_theory.proofs.Lines.{refutes_from}
-use Rattle.varisat_theory.proofs.StepCounts.{by_derives, by_append}
-use Rattle.varisat_theory.proofs.StepStands.{step_adds, added_append, stands_after}
+use Rattle.varisat_theory.proofs.StepCounts.{by_derives, by_append, present_append}
+use Rattle.varisat_theory.proofs.StepStands.{unknown_is_open, stands_after}
+use Rattle.varisat_theory.proofs.Spoken.{spoken_after}
+
+-- new ones stay so whatever comes after them
+many_before : (k : ℕ) (P : List Clause) (lines more : List Line) → AddsManyNew k P lines → AddsManyNew k P (lines ++ more)
+many_before zero P lines more n = tt
+many_before (suc k) P lines more (front, back, c, Q, e, p, n, m) =
+    (front, back ++ more, c, Q, ap (λ l. l ++ more) e ∙ append_assoc front (Add c ∷ back) more, p, n, m)
+
+-- those of later lines count after earlier ones
+many_after : (k : ℕ) (P : List Clause) (lines : List Line) (Q : List Clause) (more : List Line) → Derives P lines Q → AddsManyNew k Q more → AddsManyNew k P (lines ++ more)
+many_after zero P lines Q more d n = tt
+many_after (suc k) P lines Q more d (front, back, c, R, e, p, n, m) =
+    (lines ++ front, back, c, R, ap (λ l. lines ++ l) e ∙ sym (append_assoc lines front (Add c ∷ back)), present_append P lines Q front R d p, n, many_after k P lines Q front d m)
+
+-- one more after them
+many_and_one : (k : ℕ) (P : List Clause) (lines : List Line) (Q : List Clause) (more : List Line) → Derives P lines Q → AddsManyNew k P lines → AddsNew Q more → AddsManyNew (suc k) P (lines ++ more)
+many_and_one k P lines Q more d m (front, back, c, R, e, p, n) =
+    (lines ++ front, back, c, R, ap (λ l. lines ++ l) e ∙ sym (append_assoc lines front (Add c ∷ back)), present_append P lines Q front R d p, n, many_before k P lines front m)
 
 pub none_made : (s : Search) → MakesSteps 0 s s Unknown []
-none_made s = record { holds = λ held f. (held, refl, f); answers = λ P c. c; adds = λ held f e. omega arith }
+none_made s = record { holds = λ held f. (held, refl, f); answers = λ P c. c; adds = λ held f e. tt; speaks = tt; within = λ n l h. h }
 
 pub one_more_made : (k : ℕ) (s t u : Search) (v : Outcome) (first second : List Line) → MakesSteps k s t Unknown first → Steps t u v second → MakesSteps (suc k) s u v (first ++ second)
 one_more_made k s t u v first second p q = record {
@@ -26,10 +44,10 @@ one_more_made k s t u v first second p q = record {
   answers = λ P c. q.answers P (p.answers P c);
   adds = λ held f y.
       let (mid, d, g) = p.holds held f in
-      let a = p.adds held f refl in
-      let b = step_adds t u second mid (subst (λ x. Steps t u x second) y q) g in
-      let c = added_append first second in
-      omega (arith, a, b, c);
+      let (after, e, h, n) = q.holds mid g in
+      many_and_one k held first mid second (by_derives k held first mid d) (p.adds held f refl) (n y);
+  speaks = spoken_after (IsLiteralOf t) (IsLiteralOf s) first second (p.within unknown_is_open) p.speaks q.speaks;
+  within = λ n l h. p.within unknown_is_open l (q.within n l h);
 }
 
 pub steps_of_call : (k : ℕ) (s : ℕ → Search) (lines : ℕ → List Line) → ((i : ℕ) → i < k → Steps (s i) (s (suc i)) Unknown (lines i)) → MakesSteps k (s 0) (s k) Unknown (joined k lines)
@@ -47,9 +65,9 @@ part_before_made k s t u v first second p q = record {
   answers = λ P c. q.answers P (p.covers P c);
   adds = λ held f y.
       let (mid, d, g) = p.holds held f in
-      let a = q.adds mid g y in
-      let b = added_append first second in
-      omega (arith, a, b);
+      many_after k held first mid second (by_derives 0 held first mid d) (q.adds mid g y);
+  speaks = spoken_after (IsLiteralOf t) (IsLiteralOf s) first second p.within p.speaks q.speaks;
+  within = λ n l h. p.within l (q.within n l h);
 }
 
 -- the lines of a part after lines that may leave a search behind
@@ -63,10 +81,9 @@ pub part_after_made : (k : ℕ) (s t u : Search) (first second : List Line) → 
 part_after_made k s t u first second p q = record {
   holds = λ held f. after_made k held t u first second (p.holds held f) q;
   answers = λ P c. q.covers P (p.answers P c);
-  adds = λ held f y.
-      let a = p.adds held f y in
-      let b = added_append first second in
-      omega (arith, a, b);
+  adds = λ held f y. many_before k held first second (p.adds held f y);
+  speaks = spoken_after (IsLiteralOf t) (IsLiteralOf s) first second (p.within unknown_is_open) p.speaks q.speaks;
+  within = λ n l h. p.within unknown_is_open l (q.within l h);
 }
 
 abbrev IsFound : Outcome → Type 0
@@ -78,14 +95,19 @@ IsFound (UnsatUnder core) = ⊥
 not_unknown : (found : Assignment) → Sat found ≡ Unknown → ⊥
 not_unknown found e = subst IsFound e tt
 
+found_is_open : (found : Assignment) → Sat found ≡ Unsat → ⊥
+found_is_open found e = absurd (let y : Sat found ≡ Unsat = e in cc)
+
 pub part_after_found : (k : ℕ) (s t u : Search) (found : Assignment) (first second : List Line) → MakesSteps k s t (Sat found) first → Proves 0 t u second → MakesSteps k s u (Sat found) (first ++ second)
 part_after_found k s t u found first second p q = record {
   holds = λ held f. after_made k held t u first second (p.holds held f) q;
   answers = λ P c. let (a, m) = p.answers P c in (q.covers P a, m);
   adds = λ held f y. absurd (not_unknown found y);
+  speaks = spoken_after (IsLiteralOf t) (IsLiteralOf s) first second (p.within (found_is_open found)) p.speaks q.speaks;
+  within = λ n l h. p.within (found_is_open found) l (q.within l h);
 }
 
-pub steps_stand : (k : ℕ) (P held : List Clause) (s t : Search) (v : Outcome) (lines : List Line) → Stands P held s Unknown → MakesSteps k s t v lines → (after : List Clause) × DerivesBy k held lines after × Stands P after t v × (v ≡ Unknown → k ≤ added lines)
+pub steps_stand : (k : ℕ) (P held : List Clause) (s t : Search) (v : Outcome) (lines : List Line) → Stands P held s Unknown → MakesSteps k s t v lines → (after : List Clause) × DerivesBy k held lines after × Stands P after t v × (v ≡ Unknown → AddsManyNew k held lines)
 steps_stand k P held s t v lines w p =
     let (after, d, h) = p.holds held w.holds in
     (after, d, stands_after k P held after s t v lines w d h (p.answers P w.answers), p.adds held w.holds)

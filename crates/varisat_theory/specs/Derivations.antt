@@ -1,7 +1,7 @@
 -- The lines of a proof: what is present after them, and when they are a derivation.
 use Rattle.std.specs.Prelude.{◌≡◌, List, [], ◌∷◌, ◌++◌}
-use Rattle.varisat_theory.specs.Membership.{SameSet}
-use Rattle.varisat_theory.specs.Literals.{Clause}
+use Rattle.varisat_theory.specs.Membership.{◌∈◌, SameSet}
+use Rattle.varisat_theory.specs.Literals.{Literal, Clause}
 use Rattle.varisat_theory.specs.Propagation.{Conflicts, Follows}
 
 -- a line of a proof adds a clause or deletes one
@@ -37,3 +37,9 @@ abbrev pub Derives : List Clause → List Line → List Clause → Type 0
 Derives P [] Q = P ≡ Q
 Derives P (Add c ∷ lines) Q = Follows P c × Derives (P ++ (c ∷ [])) lines Q
 Derives P (Delete c ∷ lines) Q = (R : List Clause) × TakesOut P c R × Derives R lines Q
+
+-- each literal of the clauses that the lines add or delete is as is said
+abbrev pub SpeakOf : (Literal → Type 0) → List Line → Type 0
+SpeakOf are [] = Unit {0}
+SpeakOf are (Add c ∷ lines) = ((l : Literal) → l ∈ c → are l) × SpeakOf are lines
+SpeakOf are (Delete c ∷ lines) = ((l : Literal) → l ∈ c → are l) × SpeakOf are lines

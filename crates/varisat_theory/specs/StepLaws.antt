@@ -7,7 +7,7 @@ use Rattle.varisat_theory.specs.Derivations.{Line, Add, Delete, Derives, Refutes
 use Rattle.varisat_theory.specs.Held.{SameClauses, mentions, without}
 use Rattle.varisat_theory.specs.Analysis.{Implied}
 use Rattle.varisat_theory.specs.Renaming.{KeepsOpposites, rename}
-use Rattle.varisat_theory.specs.Counted.{IsNew, DerivesBy, added}
+use Rattle.varisat_theory.specs.Counted.{IsNew, DerivesBy, AddsManyNew, added}
 use Rattle.varisat_theory.specs.Searches.{KeptClause, Search, clauses_of, IsTautology, IsSettled, Fits, Covers, CoversBy, IsLiteralOf}
 use Rattle.varisat_theory.specs.Outcomes.{Outcome, Unknown, Sat, Unsat, UnsatUnder, Proves, Steps, Loads, IsContradicted, Stands, MakesSteps, IsReached}
 
@@ -27,10 +27,10 @@ abbrev pub StepIsPart : Type 0
 StepIsPart =
     ((s t : Search) (lines : List Line) → Steps s t Unknown lines → Proves 1 s t lines) × ((s t : Search) (lines : List Line) (held : List Clause) → Steps s t Unknown lines → Fits held s → 1 ≤ added lines) × ((first second : List Line) → added (first ++ second) ≡ added first + added second)
 
--- Kept clauses may move, their literals too; more literals may be fixed.
+-- Kept clauses may move, their literals too; more literals of the search may be fixed.
 abbrev pub MovesProve : Type 0
 MovesProve =
-    (s t : Search) → SameClauses (clauses_of s.kept) (clauses_of t.kept) → ((k : KeptClause) → k ∈ s.kept → k.learned ≡ false → (j : KeptClause) × (j ∈ t.kept) × (j.learned ≡ false) × (j.clause ⊆ k.clause)) → s.fixed ⊆ t.fixed → t.proved ⊆ s.proved → Proves 0 s t []
+    (s t : Search) → SameClauses (clauses_of s.kept) (clauses_of t.kept) → ((k : KeptClause) → k ∈ s.kept → k.learned ≡ false → (j : KeptClause) × (j ∈ t.kept) × (j.learned ≡ false) × (j.clause ⊆ k.clause)) → s.fixed ⊆ t.fixed → t.proved ⊆ s.proved → ((l : Literal) → l ∈ t.fixed → IsLiteralOf s l) → Proves 0 s t []
 
 -- 2. Parts of a step.
 
@@ -79,10 +79,10 @@ FollowsFrom s c = (held : List Clause) → Fits held s → Follows held c
 abbrev pub IsNewTo : Search → Clause → Type 0
 IsNewTo s c = (held : List Clause) → Fits held s → IsNew held c
 
--- a clause is learned and kept, or it is a unit that is true at level 0 from then on
+-- a clause of literals of the search is learned and kept, or it is a unit that is true at level 0 from then on
 abbrev pub ClauseIsLearned : Type 0
 ClauseIsLearned =
-    ((s : Search) (c : Clause) (k : KeptClause) → SameSet k.clause c → FollowsFrom s c → IsNewTo s c → Steps s (record s { kept = s.kept ++ k ∷ [] }) Unknown (Add c ∷ [])) × ((s : Search) (c : Clause) (l : Literal) → IsUnit l c → FollowsFrom s c → IsNewTo s c → Steps s (record s { fixed = s.fixed ++ l ∷ []; proved = s.proved ++ l ∷ [] }) Unknown (Add c ∷ []))
+    ((s : Search) (c : Clause) (k : KeptClause) → SameSet k.clause c → FollowsFrom s c → IsNewTo s c → ((l : Literal) → l ∈ c → IsLiteralOf s l) → Steps s (record s { kept = s.kept ++ k ∷ [] }) Unknown (Add c ∷ [])) × ((s : Search) (c : Clause) (l : Literal) → IsUnit l c → FollowsFrom s c → IsNewTo s c → ((l : Literal) → l ∈ c → IsLiteralOf s l) → Steps s (record s { fixed = s.fixed ++ l ∷ []; proved = s.proved ++ l ∷ [] }) Unknown (Add c ∷ []))
 
 -- No kept clause is a part of it, it is no tautology, and no literal of it is true at level 0.
 pub record IsFresh (s : Search) (c : Clause) : Type 0 where
@@ -161,6 +161,10 @@ abbrev pub StepIsMade : Type 0
 StepIsMade =
     (k : ℕ) (s t u : Search) (v : Outcome) (first second : List Line) → MakesSteps k s t Unknown first → Steps t u v second → MakesSteps (suc k) s u v (first ++ second)
 
+-- many new clauses are many added ones
+abbrev pub NewAreAdded : Type 0
+NewAreAdded = (k : ℕ) (P : List Clause) (lines : List Line) → AddsManyNew k P lines → k ≤ added lines
+
 -- the lines of k steps
 abbrev pub joined : ℕ → (ℕ → List Line) → List Line
 joined zero lines = []
@@ -199,7 +203,7 @@ StepStands =
 -- So do k steps.
 abbrev pub StepsStand : Type 0
 StepsStand =
-    (k : ℕ) (P held : List Clause) (s t : Search) (v : Outcome) (lines : List Line) → Stands P held s Unknown → MakesSteps k s t v lines → (after : List Clause) × DerivesBy k held lines after × Stands P after t v × (v ≡ Unknown → k ≤ added lines)
+    (k : ℕ) (P held : List Clause) (s t : Search) (v : Outcome) (lines : List Line) → Stands P held s Unknown → MakesSteps k s t v lines → (after : List Clause) × DerivesBy k held lines after × Stands P after t v × (v ≡ Unknown → AddsManyNew k held lines)
 
 -- Loading adds a clause to them.
 abbrev pub LoadStands : Type 0

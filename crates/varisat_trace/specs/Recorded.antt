@@ -2,9 +2,20 @@
 use Rattle.std.specs.Prelude.{◌≡◌, Bool, true, false, List, [], ◌∷◌, ◌++◌, refl}
 use Rattle.std.proofs.Common.{sym, ap, ◌∙◌, append_assoc, subst}
 use Rattle.std.proofs.lemmas.List.{append-nil}
-use Rattle.varisat_theory.specs.Derivations.{Line}
+use Rattle.varisat_theory.specs.Literals.{Clause}
+use Rattle.varisat_theory.specs.Derivations.{Line, Add, Delete}
 use Rattle.varisat_theory.specs.Journals.{Entry, lines_of}
 use Rattle.varisat_theory.proofs.Journals.{lines_append}
+
+-- the clause that the line adds or deletes
+abbrev pub clause_of : Line → Clause
+clause_of (Add c) = c
+clause_of (Delete c) = c
+
+-- whether it deletes it
+abbrev pub is_deletion : Line → Bool
+is_deletion (Add c) = false
+is_deletion (Delete c) = true
 
 pub none_recorded : (x : List Line) → x ≡ x ++ []
 none_recorded x = sym (append-nil x)

@@ -1,9 +1,10 @@
 //! A tracer that keeps the lines.
-ghost use Rattle.std.specs.Prelude.{◌≡◌, ◌++◌, [], OnOk};
+ghost use Rattle.std.specs.Prelude.{◌≡◌, ◌<◌, ◌++◌, [], length, slice_index_or, OnOk};
 ghost use Rattle.varisat_theory.specs.StepLaws.{unit_lines};
 ghost use Rattle.varisat_theory.specs.Derivations.{Add, Delete};
 ghost use Rattle.varisat_theory.specs.Journals.{lines_of};
 ghost use Rattle.std.specs.Prelude.{◌∷◌};
+ghost use Rattle.varisat_trace.specs.Recorded.{clause_of, is_deletion};
 
 use crate::step::ProofStep;
 use crate::tracer::{ProofTracer, TraceError};
@@ -37,6 +38,29 @@ impl<A: Allocator + Copy> LineRecorder<A> {
             alloc,
             lines: Vec::new(alloc),
         }
+    }
+
+    /// How many lines were taken.
+    pub fn len(&self) -> usize
+        ensures { result ≡ length self.now }
+    {
+        self.lines.len()
+    }
+
+    /// The literals of the line's clause.
+    pub fn lits(&self, index: usize) -> &[Lit]
+        requires { index < length self.now }
+        ensures { result.now ≡ clause_of (slice_index_or self.now index (Add [])) }
+    {
+        self.lines[index].1.as_slice()
+    }
+
+    /// Whether the line deletes its clause.
+    pub fn deletes(&self, index: usize) -> bool
+        requires { index < length self.now }
+        ensures { result ≡ is_deletion (slice_index_or self.now index (Add [])) }
+    {
+        self.lines[index].0
     }
 
     fn push_deletion(&mut self, clause: &[Lit]) -> Result<(), AllocError>

@@ -6,8 +6,8 @@ use super::searches::{are, assume, loaded, note, prefer_lower_true, step, unless
 use linked_list_allocator::LocalHeap;
 use std::alloc::{Allocator, Global};
 use varisat_literals::{Lit, lit};
-use varisat_prop::clause::StoreError;
 use varisat_search::context::Context;
+use varisat_search::error::StepError;
 use varisat_search::levels::restart;
 use varisat_search::state::SatState;
 
@@ -18,7 +18,7 @@ fn searched<A: Allocator + Copy>(
     clauses: &[&[i8]],
     assumptions: &[i8],
     steps: usize,
-) -> Result<Context<A>, StoreError>
+) -> Result<Context<A>, StepError>
     ensures { IfOk result (λ ctx. IsReady ctx) }
 {
     let mut ctx = loaded(alloc, 5, clauses)?;
@@ -31,7 +31,7 @@ fn take_steps<A: Allocator + Copy>(
     ctx: &mut Context<A>,
     assumptions: &[i8],
     steps: usize,
-) -> Result<(), StoreError>
+) -> Result<(), StepError>
     requires { IsReady ctx.old }
     ensures { OnOk result (IsReady ctx.new) }
 {
@@ -61,7 +61,7 @@ fn comes_to<A: Allocator + Copy>(ctx: &Context<A>, row: &Row) -> bool {
         & are(ctx.trail.trail(), row.trail)
 }
 
-fn holds(alloc: Global, row: &Row) -> Result<bool, StoreError> {
+fn holds(alloc: Global, row: &Row) -> Result<bool, StepError> {
     let ctx = searched(alloc, row.clauses, row.assumptions, 1)?;
     let is_right = comes_to(&ctx, row);
     drop(ctx);
@@ -81,7 +81,7 @@ fn fails_with(
     clauses: &[&[i8]],
     assumptions: &[i8],
     core: [i8; 2],
-) -> Result<bool, StoreError> {
+) -> Result<bool, StepError> {
     let ctx = searched(alloc, clauses, assumptions, 2)?;
     let [first, second] = core;
     let is_given = are(ctx.assumptions.user_assumptions(), assumptions);
@@ -91,21 +91,21 @@ fn fails_with(
 }
 
 #[test]
-fn opposites_fail(rt: HostRuntime) -> Result<(), StoreError> {
+fn opposites_fail(rt: HostRuntime) -> Result<(), StepError> {
     assert!(rt; fails_with(rt.alloc(), &[&[1, 2]], &[3, 1, -1], [1, -1])?);
     Ok(())
 }
 
 // 1 implies 2 and that -4, so that 3, which is decided between them, takes no part.
 #[test]
-fn the_core_has_what_implies(rt: HostRuntime) -> Result<(), StoreError> {
+fn the_core_has_what_implies(rt: HostRuntime) -> Result<(), StepError> {
     let clauses: &[&[i8]] = &[&[-1, 2], &[-2, -4, 5], &[-2, -4, -5]];
     assert!(rt; fails_with(rt.alloc(), clauses, &[1, 3, 4], [1, 4])?);
     Ok(())
 }
 
 #[test]
-fn repeated_ones_are_taken_out(rt: HostRuntime) -> Result<(), StoreError> {
+fn repeated_ones_are_taken_out(rt: HostRuntime) -> Result<(), StepError> {
     let row = Row {
         clauses: &[&[1, 2]],
         assumptions: &[-2, -2, -2],
@@ -119,7 +119,7 @@ fn repeated_ones_are_taken_out(rt: HostRuntime) -> Result<(), StoreError> {
 
 // 2 is implied by 1 when its turn comes, and 3 takes its place.
 #[test]
-fn implied_ones_are_taken_out(rt: HostRuntime) -> Result<(), StoreError> {
+fn implied_ones_are_taken_out(rt: HostRuntime) -> Result<(), StepError> {
     let row = Row {
         clauses: &[&[-1, 2]],
         assumptions: &[1, 2, -3],
@@ -132,7 +132,7 @@ fn implied_ones_are_taken_out(rt: HostRuntime) -> Result<(), StoreError> {
 }
 
 #[test]
-fn units_are_assumed(rt: HostRuntime) -> Result<(), StoreError> {
+fn units_are_assumed(rt: HostRuntime) -> Result<(), StepError> {
     let row = Row {
         clauses: &[&[1]],
         assumptions: &[1],
@@ -149,7 +149,7 @@ fn lone_core(
     alloc: Global,
     clauses: &[&[i8]],
     assumptions: &[i8],
-) -> Result<Option<Lit>, StoreError> {
+) -> Result<Option<Lit>, StepError> {
     let ctx = searched(alloc, clauses, assumptions, 1)?;
     let core = match ctx.assumptions.failed_core() {
         [lit] => Some(*lit),
@@ -160,7 +160,7 @@ fn lone_core(
 }
 
 #[test]
-fn a_false_one_fails_alone(rt: HostRuntime) -> Result<(), StoreError> {
+fn a_false_one_fails_alone(rt: HostRuntime) -> Result<(), StepError> {
     let core = lone_core(rt.alloc(), &[&[1]], &[2, -1])?;
     assert!(rt; core == Some(lit!(-1)));
     Ok(())
@@ -176,7 +176,7 @@ fn restarts_to<A: Allocator + Copy>(ctx: &mut Context<A>, trail: &[i8], kept: &[
     is_found & is_kept
 }
 
-fn keeps_assumptions(alloc: Global) -> Result<bool, StoreError> {
+fn keeps_assumptions(alloc: Global) -> Result<bool, StepError> {
     let clauses: &[&[i8]] = &[&[1, 2], &[3, 4]];
     let mut ctx = searched(alloc, clauses, &[-5, 2], 1)?;
     let kept = restarts_to(&mut ctx, &[-5, 2, 1, 3, 4], &[-5, 2]);
@@ -185,7 +185,7 @@ fn keeps_assumptions(alloc: Global) -> Result<bool, StoreError> {
 }
 
 #[test]
-fn a_restart_keeps_assumptions(rt: HostRuntime) -> Result<(), StoreError> {
+fn a_restart_keeps_assumptions(rt: HostRuntime) -> Result<(), StepError> {
     assert!(rt; keeps_assumptions(rt.alloc())?);
     Ok(())
 }
@@ -195,7 +195,7 @@ fn undoes_decision<A: Allocator + Copy>(
     ctx: &mut Context<A>,
     unit: &[i8],
     kept: &[i8],
-) -> Result<bool, StoreError>
+) -> Result<bool, StepError>
     requires { IsReady ctx.old }
 {
     let is_learned = are(ctx.trail.trail(), unit) & (ctx.assumptions.assumption_levels() == 0);
@@ -205,7 +205,7 @@ fn undoes_decision<A: Allocator + Copy>(
     Ok(is_learned & is_found & are(ctx.trail.trail(), kept))
 }
 
-fn keeps_no_decision(alloc: Global) -> Result<bool, StoreError> {
+fn keeps_no_decision(alloc: Global) -> Result<bool, StepError> {
     let clauses: &[&[i8]] = &[&[-1, 2, 3], &[-1, -2], &[-1, -3], &[1, 5]];
     let mut ctx = searched(alloc, clauses, &[5], 1)?;
     let undone = undoes_decision(&mut ctx, &[-1], &[-1, 5]);
@@ -215,13 +215,13 @@ fn keeps_no_decision(alloc: Global) -> Result<bool, StoreError> {
 
 // -1 is learned at level 0 and implies 5, so that no assumption is left, and 2 is decided at the level that 5 had.
 #[test]
-fn a_restart_keeps_no_decision(rt: HostRuntime) -> Result<(), StoreError> {
+fn a_restart_keeps_no_decision(rt: HostRuntime) -> Result<(), StepError> {
     assert!(rt; keeps_no_decision(rt.alloc())?);
     Ok(())
 }
 
 // The verdict on four clauses of two variables and an assumption beside them, after two steps.
-fn fail<A: Allocator + Copy>(alloc: A) -> Result<SatState, StoreError> {
+fn fail<A: Allocator + Copy>(alloc: A) -> Result<SatState, StepError> {
     let clauses: &[&[i8]] = &[&[1, 2, -3], &[-1, 2], &[1, -2], &[-1, -2, -4]];
     let ctx = searched(alloc, clauses, &[3, 4], 3)?;
     let verdict = ctx.solver_state.sat_state;
@@ -230,7 +230,7 @@ fn fail<A: Allocator + Copy>(alloc: A) -> Result<SatState, StoreError> {
 }
 
 /// Whether the assumptions fail on a heap of that many bytes.
-fn is_failed_with(alloc: Global, size: usize) -> Result<bool, StoreError> {
+fn is_failed_with(alloc: Global, size: usize) -> Result<bool, StepError> {
     let heap = LocalHeap::new(alloc, size)?;
     Ok(fail(&heap)? == SatState::UnsatUnderAssumptions)
 }

@@ -5,15 +5,15 @@ ghost use Rattle.varisat_search.specs.Contexts.{IsReady};
 use super::searches::{are, loaded_conflict, prefer_lower_true, step};
 use std::alloc::{Allocator, Global};
 use varisat_literals::{Var, var};
-use varisat_prop::clause::StoreError;
 use varisat_search::context::{Context, set_var_count};
 use varisat_search::decision::{initialize_var, make_decision};
+use varisat_search::error::StepError;
 use varisat_search::levels::full_restart;
 use varisat_search::state::SatState;
 use varisat_vsids::Vsids;
 
 /// Makes a step whose decisions make variables true, the lowest first, and undoes all decisions.
-fn step_and_restart<A: Allocator + Copy>(ctx: &mut Context<A>) -> Result<(), StoreError>
+fn step_and_restart<A: Allocator + Copy>(ctx: &mut Context<A>) -> Result<(), StepError>
     requires { IsReady ctx.old }
 {
     prefer_lower_true(ctx);
@@ -40,7 +40,7 @@ fn is_third_last<A: Allocator + Copy>(vsids: &mut Vsids<A>) -> bool {
 }
 
 /// Whether a step learns from a conflict, and the variable that is not bumped by that is taken out last.
-fn bumps<A: Allocator + Copy>(ctx: &mut Context<A>) -> Result<bool, StoreError>
+fn bumps<A: Allocator + Copy>(ctx: &mut Context<A>) -> Result<bool, StepError>
     requires { IsReady ctx.old }
 {
     step_and_restart(ctx)?;
@@ -48,7 +48,7 @@ fn bumps<A: Allocator + Copy>(ctx: &mut Context<A>) -> Result<bool, StoreError>
     Ok(is_learned & is_third_last(&mut ctx.vsids))
 }
 
-fn bumps_loaded(alloc: Global) -> Result<bool, StoreError> {
+fn bumps_loaded(alloc: Global) -> Result<bool, StepError> {
     let mut ctx = loaded_conflict(alloc)?;
     let is_bumped = bumps(&mut ctx);
     drop(ctx);
@@ -63,7 +63,7 @@ fn bumped_come_first(rt: HostRuntime) {
 }
 
 /// Gives a search with no variable two, of which the second is available.
-fn add_two<A: Allocator + Copy>(ctx: &mut Context<A>) -> Result<(), StoreError>
+fn add_two<A: Allocator + Copy>(ctx: &mut Context<A>) -> Result<(), StepError>
     requires ready { IsReady ctx.old }
     requires empty { length ctx.old.assignment.current ≡ 0 }
     ensures { OnOk result (IsReady ctx.new) }
@@ -75,7 +75,7 @@ fn add_two<A: Allocator + Copy>(ctx: &mut Context<A>) -> Result<(), StoreError>
 }
 
 /// Whether the second variable is decided as false.
-fn decides_second<A: Allocator + Copy>(ctx: &mut Context<A>) -> Result<bool, StoreError>
+fn decides_second<A: Allocator + Copy>(ctx: &mut Context<A>) -> Result<bool, StepError>
     requires { IsReady ctx.old }
 {
     let is_made = make_decision(ctx)?;
@@ -83,7 +83,7 @@ fn decides_second<A: Allocator + Copy>(ctx: &mut Context<A>) -> Result<bool, Sto
 }
 
 /// The same of two variables of which the first is not available.
-fn decides_of_two<A: Allocator + Copy>(ctx: &mut Context<A>) -> Result<bool, StoreError>
+fn decides_of_two<A: Allocator + Copy>(ctx: &mut Context<A>) -> Result<bool, StepError>
     requires ready { IsReady ctx.old }
     requires empty { length ctx.old.assignment.current ≡ 0 }
 {
@@ -91,7 +91,7 @@ fn decides_of_two<A: Allocator + Copy>(ctx: &mut Context<A>) -> Result<bool, Sto
     decides_second(ctx)
 }
 
-fn decides_in_new(alloc: Global) -> Result<bool, StoreError> {
+fn decides_in_new(alloc: Global) -> Result<bool, StepError> {
     let mut ctx = Context::new_in(alloc);
     let is_decided = decides_of_two(&mut ctx);
     drop(ctx);

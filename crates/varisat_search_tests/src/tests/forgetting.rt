@@ -6,10 +6,10 @@ ghost use Rattle.varisat_search.specs.SettledUnits.{IsSettledDown};
 use super::searches::{loaded, step};
 use std::alloc::{AllocError, Allocator};
 use std::test::Fail;
-use varisat_prop::clause::StoreError;
 use varisat_prop::prop::Assignment;
 use varisat_search::cdcl::settle;
 use varisat_search::context::Context;
+use varisat_search::error::StepError;
 use varisat_search::forgetting::drop_variables;
 use varisat_trace::NoTracer;
 
@@ -52,7 +52,7 @@ fn forget_assigned<A: Allocator + Copy>(alloc: A, ctx: &mut Context<A>) -> Resul
 }
 
 /// Settles the units at level 0 and forgets them.
-fn forget_units<A: Allocator + Copy>(alloc: A, ctx: &mut Context<A>) -> Result<bool, StoreError>
+fn forget_units<A: Allocator + Copy>(alloc: A, ctx: &mut Context<A>) -> Result<bool, StepError>
     requires { IsReady ctx.old }
     ensures { OnOk result (IsReady ctx.new) }
 {
@@ -79,7 +79,7 @@ fn values<A: Allocator + Copy>(ctx: &Context<A>) -> [Option<bool>; 5] {
 fn forgets<A: Allocator + Copy>(
     alloc: A,
     ctx: &mut Context<A>,
-) -> Result<(bool, [Option<bool>; 5]), StoreError>
+) -> Result<(bool, [Option<bool>; 5]), StepError>
     requires { IsReady ctx.old }
 {
     let is_settled = forget_units(alloc, ctx)?;
@@ -88,7 +88,7 @@ fn forgets<A: Allocator + Copy>(
     Ok((is_settled & is_empty, values(ctx)))
 }
 
-fn forgets_loaded<A: Allocator + Copy>(alloc: A) -> Result<(bool, [Option<bool>; 5]), StoreError> {
+fn forgets_loaded<A: Allocator + Copy>(alloc: A) -> Result<(bool, [Option<bool>; 5]), StepError> {
     let clauses: &[&[i8]] = &[&[1], &[2, 3, 4], &[-1, 5]];
     let mut ctx = loaded(alloc, 5, clauses)?;
     let found = forgets(alloc, &mut ctx);

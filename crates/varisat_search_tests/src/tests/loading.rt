@@ -5,12 +5,12 @@ ghost use Rattle.varisat_literals.specs.Numbers.{variable_limit};
 
 use super::searches::{implies, load_numbers, loaded};
 use std::alloc::{Allocator, Global};
-use varisat_prop::clause::StoreError;
 use varisat_search::context::Context;
+use varisat_search::error::StepError;
 use varisat_search::state::SatState;
 
 /// Loads the clause, and returns how many literals are true then.
-fn true_after<A: Allocator + Copy>(ctx: &mut Context<A>, clause: &[i8]) -> Result<usize, StoreError>
+fn true_after<A: Allocator + Copy>(ctx: &mut Context<A>, clause: &[i8]) -> Result<usize, StepError>
     requires { IsReady ctx.old }
     ensures { OnOk result (IsReady ctx.new) }
 {
@@ -19,7 +19,7 @@ fn true_after<A: Allocator + Copy>(ctx: &mut Context<A>, clause: &[i8]) -> Resul
 }
 
 /// Loads units and a tautology, and returns how many literals are true after each.
-fn true_after_each<A: Allocator + Copy>(ctx: &mut Context<A>) -> Result<[usize; 4], StoreError>
+fn true_after_each<A: Allocator + Copy>(ctx: &mut Context<A>) -> Result<[usize; 4], StepError>
     requires { IsReady ctx.old }
     ensures { OnOk result (IsReady ctx.new) }
 {
@@ -33,7 +33,7 @@ fn true_after_each<A: Allocator + Copy>(ctx: &mut Context<A>) -> Result<[usize; 
 /// The counts after each, those after the opposite of a unit, and the verdicts before and after that.
 fn verdicts<A: Allocator + Copy>(
     ctx: &mut Context<A>,
-) -> Result<([usize; 4], SatState, usize, SatState), StoreError>
+) -> Result<([usize; 4], SatState, usize, SatState), StepError>
     requires { IsReady ctx.old }
 {
     let counts = true_after_each(ctx)?;
@@ -42,7 +42,7 @@ fn verdicts<A: Allocator + Copy>(
     Ok((counts, before, count, ctx.solver_state.sat_state))
 }
 
-fn verdicts_on_units(alloc: Global) -> Result<([usize; 4], SatState, usize, SatState), StoreError> {
+fn verdicts_on_units(alloc: Global) -> Result<([usize; 4], SatState, usize, SatState), StepError> {
     let mut ctx = loaded(alloc, 3, &[])?;
     let verdicts = verdicts(&mut ctx);
     drop(ctx);
@@ -50,14 +50,14 @@ fn verdicts_on_units(alloc: Global) -> Result<([usize; 4], SatState, usize, SatS
 }
 
 #[test]
-fn units(rt: HostRuntime) -> Result<(), StoreError> {
+fn units(rt: HostRuntime) -> Result<(), StepError> {
     let wanted = ([1, 1, 2, 2], SatState::Unknown, 2, SatState::Unsat);
     assert!(rt; verdicts_on_units(rt.alloc())? == wanted);
     Ok(())
 }
 
 /// How many of the clauses are stored.
-fn count_stored(alloc: Global, count: usize, clauses: &[&[i8]]) -> Result<usize, StoreError>
+fn count_stored(alloc: Global, count: usize, clauses: &[&[i8]]) -> Result<usize, StepError>
     requires { count ≤ variable_limit }
 {
     let ctx = loaded(alloc, count, clauses)?;
@@ -76,7 +76,7 @@ fn are_listed<A: Allocator + Copy>(ctx: &Context<A>) -> bool {
         & implies(ctx, 4, &[])
 }
 
-fn are_loaded_ones_listed(alloc: Global) -> Result<bool, StoreError> {
+fn are_loaded_ones_listed(alloc: Global) -> Result<bool, StepError> {
     let clauses: &[&[i8]] = &[&[1, 2], &[-1, 3, 3], &[4, -4]];
     let ctx = loaded(alloc, 4, clauses)?;
     let are_listed = are_listed(&ctx);
@@ -85,13 +85,13 @@ fn are_loaded_ones_listed(alloc: Global) -> Result<bool, StoreError> {
 }
 
 #[test]
-fn clauses_of_two_literals(rt: HostRuntime) -> Result<(), StoreError> {
+fn clauses_of_two_literals(rt: HostRuntime) -> Result<(), StepError> {
     assert!(rt; are_loaded_ones_listed(rt.alloc())?);
     Ok(())
 }
 
 #[test]
-fn clauses_of_three_literals(rt: HostRuntime) -> Result<(), StoreError> {
+fn clauses_of_three_literals(rt: HostRuntime) -> Result<(), StepError> {
     let clauses: &[&[i8]] = &[&[1, 2, 3], &[-2, 3, 3, 4], &[4, -5, 5, 2]];
     assert!(rt; count_stored(rt.alloc(), 5, clauses)? == 2);
     Ok(())

@@ -9,8 +9,8 @@ use linked_list_allocator::LocalHeap;
 use std::alloc::{AllocError, Allocator, Global};
 use varisat_literals::{Lit, Var, lit, var};
 use varisat_names::variables::{LinkedVariables, SamplingMode};
-use varisat_prop::clause::StoreError;
 use varisat_search::context::Context;
+use varisat_search::error::StepError;
 use varisat_search::model::{Model, reconstruct_global_model};
 use varisat_search::variables::{
     global_from_user, new_user_var, observe_internal_vars, remove_solver_var, set_sampling_mode,
@@ -237,7 +237,7 @@ fn is_removed_with<A: Allocator + Copy>(alloc: A, ctx: &mut Context<A>) -> Resul
     is_right
 }
 
-fn is_removed_in<A: Allocator + Copy>(alloc: A) -> Result<bool, StoreError> {
+fn is_removed_in<A: Allocator + Copy>(alloc: A) -> Result<bool, StepError> {
     let mut ctx = loaded(alloc, 1, &[])?;
     let is_right = is_removed_with(alloc, &mut ctx);
     drop(ctx);
@@ -250,14 +250,14 @@ fn a_solver_variable_is_removed(rt: HostRuntime) {
 }
 
 /// Whether all three are right.
-fn are_right<A: Allocator + Copy>(alloc: A) -> Result<bool, StoreError> {
+fn are_right<A: Allocator + Copy>(alloc: A) -> Result<bool, StepError> {
     let is_named = is_new_one_named_anew(alloc)?;
     let is_modelled = is_new_one_modelled(alloc)?;
     Ok(is_named & is_modelled & is_removed_in(alloc)?)
 }
 
 /// Whether all three are right on a heap of that many bytes.
-fn are_right_with(alloc: Global, size: usize) -> Result<bool, StoreError> {
+fn are_right_with(alloc: Global, size: usize) -> Result<bool, StepError> {
     let heap = LocalHeap::new(alloc, size)?;
     are_right(&heap)
 }

@@ -8,8 +8,8 @@ use std::alloc::{Allocator, Global};
 use std::test::Fail;
 use varisat_literals::Lit;
 use varisat_names::config::SolverConfigUpdate;
-use varisat_prop::clause::StoreError;
 use varisat_search::context::Context;
+use varisat_search::error::StepError;
 use varisat_search::schedule::schedule_step;
 use varisat_search::state::SatState;
 use varisat_trace::NoTracer;
@@ -18,7 +18,7 @@ use varisat_trace::NoTracer;
 fn verdict_after<A: Allocator + Copy>(
     ctx: &mut Context<A>,
     count: usize,
-) -> Result<SatState, StoreError>
+) -> Result<SatState, StepError>
     requires { IsReady ctx.old }
 {
     let mut update = SolverConfigUpdate::new();
@@ -48,7 +48,7 @@ fn in_hole(pigeon: usize, hole: usize) -> Lit
 }
 
 /// Loads that no two pigeons are in the hole.
-fn keep_apart<A: Allocator + Copy>(ctx: &mut Context<A>, hole: usize) -> Result<(), StoreError>
+fn keep_apart<A: Allocator + Copy>(ctx: &mut Context<A>, hole: usize) -> Result<(), StepError>
     requires ready { IsReady ctx.old }
     requires hole { hole < 4 }
     ensures { OnOk result (IsReady ctx.new) }
@@ -62,7 +62,7 @@ fn keep_apart<A: Allocator + Copy>(ctx: &mut Context<A>, hole: usize) -> Result<
 }
 
 /// Loads that each pigeon is in a hole, and no two are in one.
-fn load_pigeons<A: Allocator + Copy>(ctx: &mut Context<A>) -> Result<(), StoreError>
+fn load_pigeons<A: Allocator + Copy>(ctx: &mut Context<A>) -> Result<(), StepError>
     requires { IsReady ctx.old }
     ensures { OnOk result (IsReady ctx.new) }
 {
@@ -82,7 +82,7 @@ fn load_pigeons<A: Allocator + Copy>(ctx: &mut Context<A>) -> Result<(), StoreEr
 }
 
 /// The verdict on the pigeons, which don't fit.
-fn verdict_on_pigeons<A: Allocator + Copy>(ctx: &mut Context<A>) -> Result<SatState, StoreError>
+fn verdict_on_pigeons<A: Allocator + Copy>(ctx: &mut Context<A>) -> Result<SatState, StepError>
     requires { IsReady ctx.old }
 {
     load_pigeons(ctx)?;
@@ -90,7 +90,7 @@ fn verdict_on_pigeons<A: Allocator + Copy>(ctx: &mut Context<A>) -> Result<SatSt
     Ok(verdict)
 }
 
-fn refute_pigeons<A: Allocator + Copy>(alloc: A) -> Result<SatState, StoreError> {
+fn refute_pigeons<A: Allocator + Copy>(alloc: A) -> Result<SatState, StepError> {
     let mut ctx = loaded(alloc, 20, &[])?;
     let verdict = verdict_on_pigeons(&mut ctx);
     drop(ctx);
@@ -104,7 +104,7 @@ fn refuted_with_reductions(rt: HostRuntime) -> Result<(), Fail> {
 }
 
 /// Whether they are refuted on a heap of that many bytes.
-fn is_refuted_with(alloc: Global, size: usize) -> Result<bool, StoreError> {
+fn is_refuted_with(alloc: Global, size: usize) -> Result<bool, StepError> {
     let heap = LocalHeap::new(alloc, size)?;
     Ok(refute_pigeons(&heap)? == SatState::Unsat)
 }

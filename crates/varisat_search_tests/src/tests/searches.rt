@@ -7,12 +7,12 @@ ghost use Rattle.varisat_literals.specs.Numbers.{variable_limit};
 
 use std::alloc::{AllocError, Allocator};
 use varisat_literals::{Lit, Var};
-use varisat_prop::clause::StoreError;
 use varisat_prop::prop::Assignment;
 use varisat_search::assumptions::set_assumptions;
 use varisat_search::cdcl::conflict_step;
 use varisat_search::context::{Context, set_var_count};
 use varisat_search::decision::make_available;
+use varisat_search::error::StepError;
 use varisat_search::load::load_clause;
 use varisat_search::state::SatState;
 use varisat_trace::NoTracer;
@@ -25,7 +25,7 @@ pub fn literal(number: i8) -> Lit {
 }
 
 /// The literals with these numbers, of which there are at most nine.
-fn literals(numbers: &[i8]) -> [Lit; 9] {
+pub fn literals(numbers: &[i8]) -> [Lit; 9] {
     let mut literals = [literal(1); 9];
     for index in 0..9 {
         if index < numbers.len() {
@@ -46,7 +46,7 @@ pub fn are(lits: &[Lit], numbers: &[i8]) -> bool {
 }
 
 /// Makes the literals' variables available, where they are those of the search, and says whether they are.
-fn make_all_available<A: Allocator + Copy>(ctx: &mut Context<A>, lits: &[Lit]) -> bool
+pub fn make_all_available<A: Allocator + Copy>(ctx: &mut Context<A>, lits: &[Lit]) -> bool
     requires { IsReady ctx.old }
     ensures ready { IsReady ctx.new }
     ensures known { result ≡ true → IsInRange ctx.new.assignment.current lits.now }
@@ -62,7 +62,7 @@ fn make_all_available<A: Allocator + Copy>(ctx: &mut Context<A>, lits: &[Lit]) -
 }
 
 /// Makes the clause's variables available and loads the clause, where its variables are those of the search.
-pub fn load<A: Allocator + Copy>(ctx: &mut Context<A>, lits: &[Lit]) -> Result<(), StoreError>
+pub fn load<A: Allocator + Copy>(ctx: &mut Context<A>, lits: &[Lit]) -> Result<(), StepError>
     requires { IsReady ctx.old }
     ensures { OnOk result (IsReady ctx.new) }
 {
@@ -76,7 +76,7 @@ pub fn load<A: Allocator + Copy>(ctx: &mut Context<A>, lits: &[Lit]) -> Result<(
 pub fn load_numbers<A: Allocator + Copy>(
     ctx: &mut Context<A>,
     numbers: &[i8],
-) -> Result<(), StoreError>
+) -> Result<(), StepError>
     requires { IsReady ctx.old }
     ensures { OnOk result (IsReady ctx.new) }
 {
@@ -102,7 +102,7 @@ pub fn loaded<A: Allocator + Copy>(
     alloc: A,
     count: usize,
     clauses: &[&[i8]],
-) -> Result<Context<A>, StoreError>
+) -> Result<Context<A>, StepError>
     requires { count ≤ variable_limit }
     ensures { IfOk result (λ ctx. IsReady ctx) }
 {
@@ -114,8 +114,8 @@ pub fn loaded<A: Allocator + Copy>(
 /// The search, unless what was done with it was refused.
 pub fn unless_refused<A: Allocator + Copy>(
     ctx: Context<A>,
-    done: Result<(), StoreError>,
-) -> Result<Context<A>, StoreError>
+    done: Result<(), StepError>,
+) -> Result<Context<A>, StepError>
     requires { OnOk done (IsReady ctx) }
     ensures { IfOk result (λ ctx. IsReady ctx) }
 {
@@ -133,7 +133,7 @@ fn load_all<A: Allocator + Copy>(
     ctx: &mut Context<A>,
     count: usize,
     clauses: &[&[i8]],
-) -> Result<(), StoreError>
+) -> Result<(), StepError>
     requires ready { IsReady ctx.old }
     requires empty { length ctx.old.assignment.current ≡ 0 }
     requires small { count ≤ variable_limit }
@@ -147,7 +147,7 @@ fn load_all<A: Allocator + Copy>(
 }
 
 /// A search that conflicts once 1 and 3 are decided as true: 1 implies 2, 3 implies 4 and 5, and -1 -4 -5 is false.
-pub fn loaded_conflict<A: Allocator + Copy>(alloc: A) -> Result<Context<A>, StoreError>
+pub fn loaded_conflict<A: Allocator + Copy>(alloc: A) -> Result<Context<A>, StepError>
     ensures { IfOk result (λ ctx. IsReady ctx) }
 {
     let clauses: &[&[i8]] = &[&[-1, 2], &[-3, 4], &[-2, -4, 5], &[-1, -4, -5]];
@@ -161,7 +161,7 @@ pub fn implies<A: Allocator + Copy>(ctx: &Context<A>, number: i8, wanted: &[i8])
 }
 
 /// Makes a step, unless there is a verdict.
-pub fn step<A: Allocator + Copy>(ctx: &mut Context<A>) -> Result<(), StoreError>
+pub fn step<A: Allocator + Copy>(ctx: &mut Context<A>) -> Result<(), StepError>
     requires { IsReady ctx.old }
     ensures { OnOk result (IsReady ctx.new) }
 {
@@ -213,7 +213,7 @@ pub fn prefer_lower_true<A: Allocator + Copy>(ctx: &mut Context<A>)
 
 /// Notes in the first flag that a room sufficed, and in the second that memory was refused. Says whether what came of
 /// the room is right, where it sufficed.
-pub fn note(seen: &mut [bool; 2], outcome: Result<bool, StoreError>) -> bool {
+pub fn note(seen: &mut [bool; 2], outcome: Result<bool, StepError>) -> bool {
     match outcome {
         Ok(right) => {
             seen[0] = true;

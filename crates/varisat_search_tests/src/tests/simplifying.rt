@@ -6,8 +6,8 @@ use linked_list_allocator::LocalHeap;
 use std::alloc::{Allocator, Global};
 use std::test::Fail;
 use varisat_clause::header::Tier;
-use varisat_prop::clause::StoreError;
 use varisat_search::context::Context;
+use varisat_search::error::StepError;
 
 /// The length of the stored clause with the index; None where it is deleted, or there is none.
 fn len_of<A: Allocator + Copy>(ctx: &Context<A>, index: usize) -> Option<usize>
@@ -45,7 +45,7 @@ fn are_listed<A: Allocator + Copy>(ctx: &Context<A>) -> bool {
 /// literals are as they should be.
 fn simplified<A: Allocator + Copy>(
     ctx: &mut Context<A>,
-) -> Result<([Option<usize>; 4], usize, usize, bool), StoreError>
+) -> Result<([Option<usize>; 4], usize, usize, bool), StepError>
     requires { IsReady ctx.old }
 {
     step(ctx)?;
@@ -60,7 +60,7 @@ fn simplified<A: Allocator + Copy>(
 /// The same of a search into which the clauses are loaded.
 fn loaded_and_simplified<A: Allocator + Copy>(
     alloc: A,
-) -> Result<([Option<usize>; 4], usize, usize, bool), StoreError> {
+) -> Result<([Option<usize>; 4], usize, usize, bool), StepError> {
     let clauses: &[&[i8]] = &[
         &[-1, 2],
         &[-2, 6],
@@ -94,7 +94,7 @@ fn clauses_are_simplified(rt: HostRuntime) -> Result<(), Fail> {
 }
 
 /// Whether the clauses are simplified on a heap of that many bytes.
-fn is_simplified_with(alloc: Global, size: usize) -> Result<bool, StoreError> {
+fn is_simplified_with(alloc: Global, size: usize) -> Result<bool, StepError> {
     let heap = LocalHeap::new(alloc, size)?;
     Ok(loaded_and_simplified(&heap)? == SIMPLIFIED)
 }

@@ -7,9 +7,10 @@ use super::searches::{are, loaded, loaded_conflict, note, prefer_lower_true, ste
 use linked_list_allocator::LocalHeap;
 use std::alloc::{Allocator, Global};
 use varisat_literals::lit;
-use varisat_prop::clause::{ClauseRef, StoreError};
+use varisat_prop::clause::ClauseRef;
 use varisat_prop::prop::Conflict;
 use varisat_search::context::Context;
+use varisat_search::error::StepError;
 use varisat_search::state::SatState;
 
 /// Whether the next step, whose decisions make variables true, the lowest first, learns the clause and backtracks to
@@ -18,7 +19,7 @@ fn teaches<A: Allocator + Copy>(
     ctx: &mut Context<A>,
     clause: &[i8],
     level: usize,
-) -> Result<bool, StoreError>
+) -> Result<bool, StepError>
     requires { IsReady ctx.old }
 {
     prefer_lower_true(ctx);
@@ -36,7 +37,7 @@ fn learns<A: Allocator + Copy>(
     clauses: &[&[i8]],
     learned: &[i8],
     level: usize,
-) -> Result<bool, StoreError>
+) -> Result<bool, StepError>
     requires { count ≤ variable_limit }
 {
     let mut ctx = loaded(alloc, count, clauses)?;
@@ -46,7 +47,7 @@ fn learns<A: Allocator + Copy>(
 }
 
 /// The verdicts before and after a step.
-fn verdicts<A: Allocator + Copy>(ctx: &mut Context<A>) -> Result<[SatState; 2], StoreError>
+fn verdicts<A: Allocator + Copy>(ctx: &mut Context<A>) -> Result<[SatState; 2], StepError>
     requires { IsReady ctx.old }
 {
     let before = ctx.solver_state.sat_state;
@@ -54,7 +55,7 @@ fn verdicts<A: Allocator + Copy>(ctx: &mut Context<A>) -> Result<[SatState; 2], 
     Ok([before, ctx.solver_state.sat_state])
 }
 
-fn verdicts_on_units(alloc: Global) -> Result<[SatState; 2], StoreError> {
+fn verdicts_on_units(alloc: Global) -> Result<[SatState; 2], StepError> {
     let clauses: &[&[i8]] = &[&[1, 2, 3], &[-1], &[1, -2], &[2, -3]];
     let mut ctx = loaded(alloc, 3, clauses)?;
     let verdicts = verdicts(&mut ctx);
@@ -63,13 +64,13 @@ fn verdicts_on_units(alloc: Global) -> Result<[SatState; 2], StoreError> {
 }
 
 #[test]
-fn refuted_at_once(rt: HostRuntime) -> Result<(), StoreError> {
+fn refuted_at_once(rt: HostRuntime) -> Result<(), StepError> {
     assert!(rt; verdicts_on_units(rt.alloc())? == [SatState::Unknown, SatState::Unsat]);
     Ok(())
 }
 
 /// The verdict after at most two steps.
-fn verdict_after_two<A: Allocator + Copy>(ctx: &mut Context<A>) -> Result<SatState, StoreError>
+fn verdict_after_two<A: Allocator + Copy>(ctx: &mut Context<A>) -> Result<SatState, StepError>
     requires { IsReady ctx.old }
 {
     step(ctx)?;
@@ -78,7 +79,7 @@ fn verdict_after_two<A: Allocator + Copy>(ctx: &mut Context<A>) -> Result<SatSta
 }
 
 // The verdict on the four clauses of two variables, after at most two steps.
-fn refute<A: Allocator + Copy>(alloc: A) -> Result<SatState, StoreError> {
+fn refute<A: Allocator + Copy>(alloc: A) -> Result<SatState, StepError> {
     let clauses: &[&[i8]] = &[&[1, 2], &[-1, 2], &[1, -2], &[-1, -2]];
     let mut ctx = loaded(alloc, 2, clauses)?;
     let verdict = verdict_after_two(&mut ctx);
@@ -87,7 +88,7 @@ fn refute<A: Allocator + Copy>(alloc: A) -> Result<SatState, StoreError> {
 }
 
 /// Whether they are refuted on a heap of that many bytes.
-fn is_refuted_with(alloc: Global, size: usize) -> Result<bool, StoreError> {
+fn is_refuted_with(alloc: Global, size: usize) -> Result<bool, StepError> {
     let heap = LocalHeap::new(alloc, size)?;
     Ok(refute(&heap)? == SatState::Unsat)
 }
@@ -103,7 +104,7 @@ fn each_growth_may_be_refused(rt: HostRuntime) {
 }
 
 /// Whether two steps find a model, and the first variable is true in it.
-fn finds_first<A: Allocator + Copy>(ctx: &mut Context<A>) -> Result<bool, StoreError>
+fn finds_first<A: Allocator + Copy>(ctx: &mut Context<A>) -> Result<bool, StepError>
     requires { IsReady ctx.old }
 {
     let verdict = verdict_after_two(ctx)?;
@@ -111,7 +112,7 @@ fn finds_first<A: Allocator + Copy>(ctx: &mut Context<A>) -> Result<bool, StoreE
     Ok((verdict == SatState::Sat) & is_true)
 }
 
-fn finds_model(alloc: Global) -> Result<bool, StoreError> {
+fn finds_model(alloc: Global) -> Result<bool, StepError> {
     let mut ctx = loaded(alloc, 2, &[&[1, 2], &[1, -2]])?;
     let is_found = finds_first(&mut ctx);
     drop(ctx);
@@ -119,7 +120,7 @@ fn finds_model(alloc: Global) -> Result<bool, StoreError> {
 }
 
 #[test]
-fn model(rt: HostRuntime) -> Result<(), StoreError> {
+fn model(rt: HostRuntime) -> Result<(), StepError> {
     assert!(rt; finds_model(rt.alloc())?);
     Ok(())
 }
@@ -131,7 +132,7 @@ fn teaches_from<A: Allocator + Copy>(
     level: usize,
     involved: &[Conflict],
     trail: &[i8],
-) -> Result<bool, StoreError>
+) -> Result<bool, StepError>
     requires { IsReady ctx.old }
 {
     let is_learned = teaches(ctx, clause, level)?;
@@ -140,7 +141,7 @@ fn teaches_from<A: Allocator + Copy>(
 }
 
 // 1 is decided and implies 2, 3 is decided and implies 4 and 5, and -1 -4 -5 is false.
-fn learns_from_long(alloc: Global) -> Result<bool, StoreError> {
+fn learns_from_long(alloc: Global) -> Result<bool, StepError> {
     let mut ctx = loaded_conflict(alloc)?;
     // The conflict, and the reason of 5.
     let involved = [
@@ -153,13 +154,13 @@ fn learns_from_long(alloc: Global) -> Result<bool, StoreError> {
 }
 
 #[test]
-fn learned(rt: HostRuntime) -> Result<(), StoreError> {
+fn learned(rt: HostRuntime) -> Result<(), StepError> {
     assert!(rt; learns_from_long(rt.alloc())?);
     Ok(())
 }
 
 // 1 is decided and implies 2 and -2: the conflict is over a clause of two literals, and so is the reason of 2.
-fn learns_from_pairs(alloc: Global) -> Result<bool, StoreError> {
+fn learns_from_pairs(alloc: Global) -> Result<bool, StepError> {
     let mut ctx = loaded(alloc, 2, &[&[-1, 2], &[-1, -2]])?;
     let involved = [
         Conflict::Binary([lit!(-2), lit!(-1)]),
@@ -171,14 +172,14 @@ fn learns_from_pairs(alloc: Global) -> Result<bool, StoreError> {
 }
 
 #[test]
-fn learned_from_two_literals(rt: HostRuntime) -> Result<(), StoreError> {
+fn learned_from_two_literals(rt: HostRuntime) -> Result<(), StepError> {
     assert!(rt; learns_from_pairs(rt.alloc())?);
     Ok(())
 }
 
 // 3 is implied by 2 and that by 1, so that -3 is left out over two reasons.
 #[test]
-fn chain_is_left_out(rt: HostRuntime) -> Result<(), StoreError> {
+fn chain_is_left_out(rt: HostRuntime) -> Result<(), StepError> {
     let clauses: &[&[i8]] = &[&[-1, 2], &[-2, 3], &[-4, 5], &[-3, -5, 6], &[-1, -5, -6]];
     assert!(rt; learns(rt.alloc(), 6, clauses, &[-5, -1], 1)?);
     Ok(())
@@ -186,7 +187,7 @@ fn chain_is_left_out(rt: HostRuntime) -> Result<(), StoreError> {
 
 // As before, but 2 implies 3 together with 7, which is true at level 0.
 #[test]
-fn chain_with_level_zero_is_left_out(rt: HostRuntime) -> Result<(), StoreError> {
+fn chain_with_level_zero_is_left_out(rt: HostRuntime) -> Result<(), StepError> {
     let clauses: &[&[i8]] = &[
         &[-1, 2],
         &[-2, -7, 3],
@@ -201,7 +202,7 @@ fn chain_with_level_zero_is_left_out(rt: HostRuntime) -> Result<(), StoreError> 
 
 // 2 is of level 1 and 4 of level 2, and each has a decision behind it that is not in the clause.
 #[test]
-fn highest_level_stands_second(rt: HostRuntime) -> Result<(), StoreError> {
+fn highest_level_stands_second(rt: HostRuntime) -> Result<(), StepError> {
     let clauses: &[&[i8]] = &[
         &[-1, 2],
         &[-2, -3, 4],
@@ -215,13 +216,13 @@ fn highest_level_stands_second(rt: HostRuntime) -> Result<(), StoreError> {
 
 // 9 is true at level 0, and is left out.
 #[test]
-fn level_zero_is_left_out(rt: HostRuntime) -> Result<(), StoreError> {
+fn level_zero_is_left_out(rt: HostRuntime) -> Result<(), StepError> {
     let clauses: &[&[i8]] = &[&[-1, -9, 2], &[-1, -2, -9], &[9]];
     assert!(rt; learns(rt.alloc(), 9, clauses, &[-1], 0)?);
     Ok(())
 }
 
-fn learns_nothing(alloc: Global) -> Result<bool, StoreError> {
+fn learns_nothing(alloc: Global) -> Result<bool, StepError> {
     let mut ctx = loaded(alloc, 2, &[&[-1, 2], &[-1, -2], &[1]])?;
     let is_right = teaches_from(&mut ctx, &[], 0, &[], &[1, 2]);
     drop(ctx);
@@ -229,7 +230,7 @@ fn learns_nothing(alloc: Global) -> Result<bool, StoreError> {
 }
 
 #[test]
-fn conflict_at_level_zero(rt: HostRuntime) -> Result<(), StoreError> {
+fn conflict_at_level_zero(rt: HostRuntime) -> Result<(), StepError> {
     assert!(rt; learns_nothing(rt.alloc())?);
     Ok(())
 }

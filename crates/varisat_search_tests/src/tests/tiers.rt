@@ -6,8 +6,9 @@ ghost use Rattle.varisat_literals.specs.Numbers.{variable_limit};
 use super::searches::{loaded, note, prefer_lower_true, step, unless_refused};
 use linked_list_allocator::LocalHeap;
 use std::alloc::{Allocator, Global};
-use varisat_prop::clause::{ClauseHeader, StoreError, Tier};
+use varisat_prop::clause::{ClauseHeader, Tier};
 use varisat_search::context::Context;
+use varisat_search::error::StepError;
 
 /// The header of the stored clause with the index.
 fn header_of<A: Allocator + Copy>(ctx: &Context<A>, index: usize) -> Option<ClauseHeader>
@@ -28,7 +29,7 @@ fn notes_of<A: Allocator + Copy>(ctx: &Context<A>, index: usize) -> Option<(Tier
 }
 
 /// Makes a step whose decisions make variables true, the lowest first.
-fn step_down<A: Allocator + Copy>(ctx: &mut Context<A>) -> Result<(), StoreError>
+fn step_down<A: Allocator + Copy>(ctx: &mut Context<A>) -> Result<(), StepError>
     requires { IsReady ctx.old }
     ensures { OnOk result (IsReady ctx.new) }
 {
@@ -40,7 +41,7 @@ fn step_down<A: Allocator + Copy>(ctx: &mut Context<A>) -> Result<(), StoreError
 /// What is noted of the third clause after a step, whose decisions make variables true, the lowest first.
 fn notes_after_step<A: Allocator + Copy>(
     ctx: &mut Context<A>,
-) -> Result<Option<(Tier, usize, bool)>, StoreError>
+) -> Result<Option<(Tier, usize, bool)>, StepError>
     requires { IsReady ctx.old }
 {
     step_down(ctx)?;
@@ -52,7 +53,7 @@ fn learned_notes<A: Allocator + Copy>(
     alloc: A,
     count: usize,
     clauses: &[&[i8]],
-) -> Result<Option<(Tier, usize, bool)>, StoreError>
+) -> Result<Option<(Tier, usize, bool)>, StepError>
     requires { count ≤ variable_limit }
 {
     let mut ctx = loaded(alloc, count, clauses)?;
@@ -63,7 +64,7 @@ fn learned_notes<A: Allocator + Copy>(
 
 // 1 implies 2 and 3, so that the clause of 2, 3 and 4 has two levels.
 #[test]
-fn two_levels(rt: HostRuntime) -> Result<(), StoreError> {
+fn two_levels(rt: HostRuntime) -> Result<(), StepError> {
     let clauses: &[&[i8]] = &[&[-1, 2], &[-1, 3], &[-2, -3, -4, 5], &[-2, -3, -4, -5]];
     let notes = learned_notes(rt.alloc(), 5, clauses)?;
     assert!(rt; notes == Some((Tier::Core, 1, false)));
@@ -104,7 +105,7 @@ const LEVELS: &[Row] = &[
 ];
 
 #[test]
-fn more_levels(rt: HostRuntime) -> Result<(), StoreError> {
+fn more_levels(rt: HostRuntime) -> Result<(), StepError> {
     for row in LEVELS {
         let (count, clauses, wanted) = *row;
         let notes = learned_notes(rt.alloc(), usize::from(count), &clauses)?;
@@ -114,7 +115,7 @@ fn more_levels(rt: HostRuntime) -> Result<(), StoreError> {
 }
 
 /// Makes two such steps.
-fn step_twice<A: Allocator + Copy>(ctx: &mut Context<A>) -> Result<(), StoreError>
+fn step_twice<A: Allocator + Copy>(ctx: &mut Context<A>) -> Result<(), StepError>
     requires { IsReady ctx.old }
     ensures { OnOk result (IsReady ctx.new) }
 {
@@ -124,7 +125,7 @@ fn step_twice<A: Allocator + Copy>(ctx: &mut Context<A>) -> Result<(), StoreErro
 }
 
 /// Two steps: the first learns -4 -3 -2 -1, and at the second conflict this is the reason of -4 at the level of 3.
-fn two_conflicts<A: Allocator + Copy>(alloc: A) -> Result<Context<A>, StoreError>
+fn two_conflicts<A: Allocator + Copy>(alloc: A) -> Result<Context<A>, StepError>
     ensures { IfOk result (λ ctx. IsReady ctx) }
 {
     let clauses: &[&[i8]] = &[
@@ -162,7 +163,7 @@ fn are_counted<A: Allocator + Copy>(ctx: &Context<A>) -> bool {
     counts == [4, 2, 0]
 }
 
-fn lowers_glue<A: Allocator + Copy>(alloc: A) -> Result<bool, StoreError> {
+fn lowers_glue<A: Allocator + Copy>(alloc: A) -> Result<bool, StepError> {
     let ctx = two_conflicts(alloc)?;
     let is_lowered = are_noted(&ctx) & are_counted(&ctx);
     drop(ctx);
@@ -171,7 +172,7 @@ fn lowers_glue<A: Allocator + Copy>(alloc: A) -> Result<bool, StoreError> {
 
 // The learned clause had four levels and has three now. Clauses of the user took part too.
 #[test]
-fn lower_glue(rt: HostRuntime) -> Result<(), StoreError> {
+fn lower_glue(rt: HostRuntime) -> Result<(), StepError> {
     assert!(rt; lowers_glue(rt.alloc())?);
     Ok(())
 }
@@ -189,7 +190,7 @@ fn have_activities<A: Allocator + Copy>(ctx: &Context<A>, wanted: &[u32]) -> boo
     true
 }
 
-fn raises_activities(alloc: Global) -> Result<bool, StoreError> {
+fn raises_activities(alloc: Global) -> Result<bool, StepError> {
     let ctx = two_conflicts(alloc)?;
     let is_raised = have_activities(&ctx, &[1024, 1024, 1025, 1025, 1025, 0])
         & (ctx.clause_activity.increment() == 1026);
@@ -199,13 +200,13 @@ fn raises_activities(alloc: Global) -> Result<bool, StoreError> {
 
 // A bump adds 1024 at the first conflict, and 1024000 / 999 at the second.
 #[test]
-fn activities(rt: HostRuntime) -> Result<(), StoreError> {
+fn activities(rt: HostRuntime) -> Result<(), StepError> {
     assert!(rt; raises_activities(rt.alloc())?);
     Ok(())
 }
 
 /// Whether the glue is lower on a heap of that many bytes.
-fn lowers_glue_with(alloc: Global, size: usize) -> Result<bool, StoreError> {
+fn lowers_glue_with(alloc: Global, size: usize) -> Result<bool, StepError> {
     let heap = LocalHeap::new(alloc, size)?;
     lowers_glue(&heap)
 }

@@ -6,9 +6,10 @@ use super::searches::{are, literal, loaded, note};
 use linked_list_allocator::LocalHeap;
 use std::alloc::{Allocator, Global};
 use varisat_literals::{Lit, lit};
-use varisat_prop::clause::{ClauseRef, StoreError};
+use varisat_prop::clause::ClauseRef;
 use varisat_prop::prop::{Conflict, Reason, Watchlists, enable_watchlists, propagate};
 use varisat_search::context::Context;
+use varisat_search::error::StepError;
 
 /// Clauses over four variables, how propagation over them ends, which literals are true then, why the last of them is,
 /// and at which places the clauses stand that literals watch.
@@ -22,7 +23,7 @@ struct Row<'a> {
 }
 
 /// Takes out all watches, and watches the clauses by their first two literals anew.
-fn rebuild<A: Allocator + Copy>(ctx: &mut Context<A>) -> Result<(), StoreError>
+fn rebuild<A: Allocator + Copy>(ctx: &mut Context<A>) -> Result<(), StepError>
     requires { IsReady ctx.old }
     ensures { OnOk result (IsReady ctx.new) }
 {
@@ -68,7 +69,7 @@ fn is_reason<A: Allocator + Copy>(ctx: &Context<A>, reason: Reason) -> bool {
 }
 
 /// Whether propagation comes to what the row says. It ends only where each literal was propagated.
-fn comes_to<A: Allocator + Copy>(ctx: &mut Context<A>, row: &Row) -> Result<bool, StoreError>
+fn comes_to<A: Allocator + Copy>(ctx: &mut Context<A>, row: &Row) -> Result<bool, StepError>
     requires { IsReady ctx.old }
 {
     let end = propagate(
@@ -89,7 +90,7 @@ fn is_right<A: Allocator + Copy>(
     ctx: &mut Context<A>,
     row: &Row,
     is_rebuilt: bool,
-) -> Result<bool, StoreError>
+) -> Result<bool, StepError>
     requires { IsReady ctx.old }
 {
     if is_rebuilt {
@@ -100,20 +101,20 @@ fn is_right<A: Allocator + Copy>(
 }
 
 /// Whether the row is right, whether or not the clauses are watched anew before.
-fn holds<A: Allocator + Copy>(alloc: A, row: &Row, is_rebuilt: bool) -> Result<bool, StoreError> {
+fn holds<A: Allocator + Copy>(alloc: A, row: &Row, is_rebuilt: bool) -> Result<bool, StepError> {
     let mut ctx = loaded(alloc, 4, row.clauses)?;
     let is_right = is_right(&mut ctx, row, is_rebuilt);
     drop(ctx);
     is_right
 }
 
-fn holds_always(alloc: Global, row: &Row) -> Result<bool, StoreError> {
+fn holds_always(alloc: Global, row: &Row) -> Result<bool, StepError> {
     Ok(holds(alloc, row, false)? & holds(alloc, row, true)?)
 }
 
 // 1 is false, so that 3 takes its place beside 2.
 #[test]
-fn a_watch_moves(rt: HostRuntime) -> Result<(), StoreError> {
+fn a_watch_moves(rt: HostRuntime) -> Result<(), StepError> {
     let row = Row {
         clauses: &[&[1, 2, 3], &[-1]],
         end: Ok(()),
@@ -127,7 +128,7 @@ fn a_watch_moves(rt: HostRuntime) -> Result<(), StoreError> {
 
 // 2 is true as 1 becomes false, so that the clause stays as it is.
 #[test]
-fn a_true_clause_stays(rt: HostRuntime) -> Result<(), StoreError> {
+fn a_true_clause_stays(rt: HostRuntime) -> Result<(), StepError> {
     let row = Row {
         clauses: &[&[1, 2, 3], &[2], &[-1]],
         end: Ok(()),
@@ -140,7 +141,7 @@ fn a_true_clause_stays(rt: HostRuntime) -> Result<(), StoreError> {
 }
 
 #[test]
-fn the_last_literal_is_implied(rt: HostRuntime) -> Result<(), StoreError> {
+fn the_last_literal_is_implied(rt: HostRuntime) -> Result<(), StepError> {
     let row = Row {
         clauses: &[&[1, 2, 3], &[-1], &[-2]],
         end: Ok(()),
@@ -154,7 +155,7 @@ fn the_last_literal_is_implied(rt: HostRuntime) -> Result<(), StoreError> {
 
 /// Whether a clause is found false that comes behind one that implied a literal. Both watch 2, which was not propagated
 /// to its end, and go on watching it.
-fn is_conflict_found<A: Allocator + Copy>(alloc: A, is_rebuilt: bool) -> Result<bool, StoreError> {
+fn is_conflict_found<A: Allocator + Copy>(alloc: A, is_rebuilt: bool) -> Result<bool, StepError> {
     let row = Row {
         clauses: &[&[1, 2, 4], &[-2, 3, 4], &[-2, -3, 4], &[-4], &[-1]],
         end: Err(Conflict::Long(ClauseRef::from_offset(12))),
@@ -172,7 +173,7 @@ fn is_conflict_found<A: Allocator + Copy>(alloc: A, is_rebuilt: bool) -> Result<
 }
 
 #[test]
-fn the_false_clause_is_told(rt: HostRuntime) -> Result<(), StoreError> {
+fn the_false_clause_is_told(rt: HostRuntime) -> Result<(), StepError> {
     let is_found = is_conflict_found(rt.alloc(), false)?;
     assert!(rt; is_found & is_conflict_found(rt.alloc(), true)?);
     Ok(())
@@ -180,7 +181,7 @@ fn the_false_clause_is_told(rt: HostRuntime) -> Result<(), StoreError> {
 
 // Clauses of two literals are not watched. 2 implies 3 and -3, in the order of adding.
 #[test]
-fn a_false_clause_of_two_is_told(rt: HostRuntime) -> Result<(), StoreError> {
+fn a_false_clause_of_two_is_told(rt: HostRuntime) -> Result<(), StepError> {
     let row = Row {
         clauses: &[&[1, 2], &[-2, 3], &[-2, -3], &[-1]],
         end: Err(Conflict::Binary([lit!(-3), lit!(-2)])),
@@ -193,7 +194,7 @@ fn a_false_clause_of_two_is_told(rt: HostRuntime) -> Result<(), StoreError> {
 }
 
 /// Whether that clause is found on a heap of that many bytes.
-fn is_conflict_found_with(alloc: Global, size: usize) -> Result<bool, StoreError> {
+fn is_conflict_found_with(alloc: Global, size: usize) -> Result<bool, StepError> {
     let heap = LocalHeap::new(alloc, size)?;
     is_conflict_found(&heap, true)
 }

@@ -1,7 +1,7 @@
 //! What the lines of a step, of a call and of loading do to the clauses that a proof holds, and what that says of the
 //! accepted ones.
 
-ghost use Rattle.varisat_theory.specs.StepLaws.{PartsJoin, PartsJoinStep, StepIsPart, MovesProve, UnitIsProved, UnitsAreProved, SatisfiedIsDeleted, LearnedIsDeleted, ClauseIsShortened, VariableIsDropped, ClauseIsLearned, FreshIsNew, EmptyIsAdded, ContradictionIsFound, ModelIsFound, CoreIsFound, LoadedIsKept, LoadedIsUnit, LoadedIsSettled, LoadedIsDeleted, LoadedIsContradicted, PartsJoinLoad, NoStepIsMade, StepIsMade, StepsOfCall, PartsJoinSteps, StepsRefute, FirstStands, PartStands, StepStands, StepsStand, LoadStands, VerdictsAreRight, CountedDerives, KeptAreHeld, NamesAreCovered, NamesStayCovered, NamesAreLoaded, DroppedAreCovered, NamesAreSatisfied, AcceptedAreReached, OneMoreIsReached, DerivedAreReached, SameAreReached, ReachedAreSatisfied, ReachedAreRefuted, RenamedAreReached};
+ghost use Rattle.varisat_theory.specs.StepLaws.{PartsJoin, PartsJoinStep, StepIsPart, MovesProve, UnitIsProved, UnitsAreProved, SatisfiedIsDeleted, LearnedIsDeleted, ClauseIsShortened, VariableIsDropped, ClauseIsLearned, FreshIsNew, EmptyIsAdded, ContradictionIsFound, ModelIsFound, CoreIsFound, LoadedIsKept, LoadedIsUnit, LoadedIsSettled, LoadedIsDeleted, LoadedIsContradicted, PartsJoinLoad, NoStepIsMade, StepIsMade, NewAreAdded, StepsOfCall, PartsJoinSteps, StepsRefute, FirstStands, PartStands, StepStands, StepsStand, LoadStands, VerdictsAreRight, CountedDerives, KeptAreHeld, NamesAreCovered, NamesStayCovered, NamesAreLoaded, DroppedAreCovered, NamesAreSatisfied, AcceptedAreReached, OneMoreIsReached, DerivedAreReached, SameAreReached, ReachedAreSatisfied, ReachedAreRefuted, RenamedAreReached};
 
 /// Two parts of a step in turn are one.
 pub fn parts_join()
@@ -121,6 +121,11 @@ pub fn no_step_is_made()
 /// One more step is made.
 pub fn step_is_made()
     ensures { StepIsMade }
+{}
+
+/// Many new clauses are many added ones.
+pub fn new_are_added()
+    ensures { NewAreAdded }
 {}
 
 /// Steps that go on, one after another, are made.

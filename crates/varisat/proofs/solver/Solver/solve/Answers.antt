@@ -1,5 +1,5 @@
 use Rattle.std.proofs.Common.{◌≡◌, ◌∙◌, ◌+◌, ◌-◌, ℕ, arith, Result, List, Bool, Ok, Err, Option, Some, None, true, false, not, length, refl, sym, ap, subst}
-use Rattle.varisat_clause.specs.declared.alloc.StoreError.TheVariants.{Memory}
+use Rattle.varisat_search.specs.declared.error.StepError.TheVariants.{Memory}
 use Rattle.varisat_schedule.specs.Plans.{Plan}
 use Rattle.varisat_search.specs.declared.context.Context.{Context}
 use Rattle.varisat_search.specs.declared.state.SatState.TheVariants as verdict
@@ -14,7 +14,7 @@ use Rattle.varisat.specs.Summaries.{Summary, StandsFor, spaces_of}
 use Rattle.varisat.specs.Calls.{with_verdict, with_steps, Solves}
 use Rattle.varisat.specs.declared.solver.SolverError.{SolverError}
 use Rattle.varisat.specs.declared.solver.SolverError.TheVariants.{Interrupted}
-use Rattle.varisat.specs.Refusals.{store_refusal}
+use Rattle.varisat.specs.Refusals.{step_refusal}
 use Rattle.varisat.proofs.AcceptClause.{ledger-free}
 use Rattle.varisat.proofs.CallStates.{ledger-is, more-since, same-since, stands-valid, like-refl, told-well, broken, broken-invalid, solves-broken}
 use Rattle.varisat.proofs.SettingsCalls.{summary_of}
@@ -189,7 +189,7 @@ returns-in-Err-find_named_verdict-clause-call g c s st =
     let (first, more, q) = still-stands g here s (rw (← c.self.view_is) at st) in
     let was = was-unknown _ (retold first s) q ok (still-unknown g here) in
     let n = c.find_named_verdict.new.ctx.schedule.steps in
-    let counts = counted-call _ (retold first s) c.max_steps-max_steps.result n (told_verdict c.find_named_verdict.result) (Err (store_refusal c.in-Err-find_named_verdict.error)) q ok c.max_steps-max_steps.ensures (ap told_verdict c.in-Err-find_named_verdict.is) (λ m h. c.find_named_verdict.ensures.counted m c.self.inside.changed_at h (still-since g here)) in (
+    let counts = counted-call _ (retold first s) c.max_steps-max_steps.result n (told_verdict c.find_named_verdict.result) (Err (step_refusal c.in-Err-find_named_verdict.error)) q ok c.max_steps-max_steps.ensures (ap told_verdict c.in-Err-find_named_verdict.is) (λ m h. c.find_named_verdict.ensures.counted m c.self.inside.changed_at h (still-since g here)) in (
       broken (with_steps n s),
       subst (λ e. Solves s (Err e) (broken (with_steps n s))) (sym c.from.ensures)
           (solves-broken c.in-Err-find_named_verdict.error s (broken (with_steps n s)) was counts (broken-invalid (with_steps n s) (stands-valid _ (retold first s) q ok) (told-well (retold first s) (with_steps n s) (q.fits ok).1.well_formed))),

@@ -1,0 +1,88 @@
+use Rattle.std.proofs.Common.{◌≡◌, ◌++◌, Bool, Option, List, refl, sym, ap, ◌∙◌}
+use Rattle.varisat_theory.specs.Literals.{Clause, Literal}
+use Rattle.varisat_clause.specs.Stored.{StoredClause}
+use Rattle.varisat_clause.specs.Stores.{Store, stored_clauses}
+use Rattle.varisat_clause.specs.Collected.{live_clauses}
+use Rattle.varisat_prop.specs.Simplified.{without_assigned}
+use Rattle.varisat_search.specs.declared.context.Context.{Context}
+use Rattle.varisat_search.specs.declared.unit_simplify.UnitFilter.{UnitFilter}
+use Rattle.varisat_search.specs.Contexts.{view}
+use Rattle.varisat_search.specs.Simplifications.{clause_lines, left_long, left_pairs, with_pairs, LeavesOpen}
+use Rattle.varisat_search.proofs.FilteredUnits.{filtered-left}
+use Rattle.varisat_theory.proofs.Members.{∈-append_left}
+use Rattle.varisat_clause.specs.Stored.{literals_of}
+use Rattle.varisat_prop.specs.View.{pairs_from}
+use Rattle.varisat_trace.proofs.Traced.{can_take}
+use Rattle.varisat_search.specs.Seen.{search_of}
+use Rattle.varisat_search.proofs.SimplifiedBinary.{stored-prove, without-pair-lines}
+use Rattle.varisat_search.proofs.SimplifiedSearch.{IsAtUnits}
+use Rattle.varisat_search.proofs.SimplifiedContext.{Simplifies, at-units, live-open, joining, is-simplified, simplified-proves, simplified-decidable, simplified-ready}
+use Rattle.varisat_search.proofs.unit_simplify.simplify_stored.Given.{Over}
+use Rattle.varisat_search.proofs.unit_simplify.simplify_stored.Goals.{In_ok-trace_shortened, In_ok-filter_clauses, After-disable}
+use Rattle.varisat_search.proofs.unit_simplify.simplify_stored.Goals as goal
+
+pub trace_shortened-requires : goal.trace_shortened-requires
+trace_shortened-requires g c =
+    let x = c.args.ctx.now in
+    let s = view x in
+    let u = at-units x c.requires.ready c.requires.undecided c.requires.complete c.requires.proved in
+    record {
+      sound = c.requires.ready.tracks.sound;
+      in_range = λ d h. c.requires.ready.well.in_range d (∈-append_left d (literals_of s.clauses) (pairs_from 0 s.binary) h);
+      able = can_take (g.P.ProofTracer.holds c.args.proof.now) 0 (search_of s) _ (clause_lines s) c.requires.holds (stored-prove s c.requires.left u);
+    }
+
+at : (g : Over) (c : In_ok-trace_shortened g) → IsAtUnits (view c.args.ctx.now)
+at g c = at-units c.args.ctx.now c.requires.ready c.requires.undecided c.requires.complete c.requires.proved
+
+pub filter_clauses-requires-clause-accepted : goal.filter_clauses-requires-clause-accepted
+filter_clauses-requires-clause-accepted g c = live-open c.args.ctx.now (at g (goal.at.filter_clauses-requires-clause-accepted g c).In_ok-trace_shortened)
+
+-- what the filter left
+abbrev IsLeft : List (Option Bool) → Store → Store → List Clause → List Clause → Type 0
+IsLeft values old new before pairs = (live_clauses new ≡ left_long values (live_clauses old)) × (pairs ≡ before ++ left_pairs values (live_clauses old))
+
+left : (g : Over) (c : In_ok-filter_clauses g) → IsLeft c.args.ctx.now.assignment.current c.args.ctx.now.clause_alloc c.filter_clauses.new.alloc c.new-2.result.items c.filter_clauses.new.filter.pairs.items
+left g c =
+    filtered-left (λ (f : UnitFilter g.row.A.Denot). f.assignment.now.current) (λ (f : UnitFilter g.row.A.Denot). f.pairs.items)
+    (λ (f : UnitFilter g.row.A.Denot) (k j : StoredClause) (h : UnitFilter g.row.A.Denot). (h.assignment ≡ f.assignment) × LeavesOpen f.assignment.now.current k j f.pairs.items h.pairs.items)
+    (λ f k j h o. (ap (λ a. a.now.current) o.0, o.1))
+    _ c.filter_clauses.new.filter (stored_clauses c.args.ctx.now.clause_alloc) (stored_clauses c.filter_clauses.new.alloc) c.in_ok-filter_clauses.ensures.filtered
+
+pub add_pairs-requires : goal.add_pairs-requires
+add_pairs-requires g c =
+    let here = goal.at.add_pairs-requires g c in
+    joining c.args.ctx.now (at g here.In_ok-trace_shortened) c.args.ctx.now.binary_clauses c.deref.result.now (sym c.requires.left)
+    (c.deref.ensures.value ∙ (left g here.In_ok-filter_clauses).1 ∙ ap (λ (cs : List Clause). cs ++ left_pairs c.args.ctx.now.assignment.current (live_clauses c.args.ctx.now.clause_alloc)) c.new-2.ensures.items)
+
+-- the lists of what literals imply
+joined : (g : Over) (c : After-disable g) → IsLeft c.args.ctx.now.assignment.current c.args.ctx.now.clause_alloc c.filter_clauses.new.alloc c.new-2.result.items c.filter_clauses.new.filter.pairs.items → c.add_pairs.new.binary_clauses ≡ with_pairs (without_assigned c.args.ctx.now.assignment.current c.args.ctx.now.binary_clauses) (left_pairs c.args.ctx.now.assignment.current (live_clauses c.args.ctx.now.clause_alloc))
+joined g c l =
+    c.in_ok-add_pairs.ensures
+    ∙ ap (λ (D : List (List Literal)). with_pairs D c.deref.result.now) (sym c.requires.left)
+    ∙ ap (with_pairs (without_assigned c.args.ctx.now.assignment.current c.args.ctx.now.binary_clauses)) (c.deref.ensures.value ∙ l.1 ∙ ap (λ (cs : List Clause). cs ++ left_pairs c.args.ctx.now.assignment.current (live_clauses c.args.ctx.now.clause_alloc)) c.new-2.ensures.items)
+
+-- the search after it
+abbrev after : (g : Over) (c : After-disable g) → Context g.row.A.Denot
+after g c = record c.args.ctx.now { binary_clauses = c.add_pairs.new.binary_clauses; clause_alloc = c.filter_clauses.new.alloc; clause_db = c.filter_clauses.new.db; watchlists = c.disable.new.self }
+
+simplifies : (g : Over) (c : After-disable g) → IsAtUnits (view c.args.ctx.now) → IsLeft c.args.ctx.now.assignment.current c.args.ctx.now.clause_alloc c.filter_clauses.new.alloc c.new-2.result.items c.filter_clauses.new.filter.pairs.items → Simplifies c.args.ctx.now (after g c)
+simplifies g c u l = record { ready = c.requires.ready; units = u; tracks = c.filter_clauses.ensures.tracks; clauses = l.0; binary = joined g c l; rest = refl }
+
+pub returns-clause-simplified : goal.returns-clause-simplified
+returns-clause-simplified g c = let here = goal.at.returns-clause-simplified g c in is-simplified (simplifies g here.After-disable (at g here.In_ok-trace_shortened) (left g here.In_ok-filter_clauses))
+
+pub returns-clause-ready : goal.returns-clause-ready
+returns-clause-ready g c =
+    let here = goal.at.returns-clause-ready g c in
+    let d = c.disable.ensures in
+    simplified-ready (simplifies g here.After-disable (at g here.In_ok-trace_shortened) (left g here.In_ok-filter_clauses)) d.empty d.enabled d.count
+
+pub returns-clause-proves : goal.returns-clause-proves
+returns-clause-proves g c =
+    let here = goal.at.returns-clause-proves g c in
+    let x = c.args.ctx.now in
+    without-pair-lines (view x) c.requires.left (view (after g here.After-disable)) (simplified-proves (simplifies g here.After-disable (at g here.In_ok-trace_shortened) (left g here.In_ok-filter_clauses)))
+
+pub returns-clause-decidable : goal.returns-clause-decidable
+returns-clause-decidable g c = let here = goal.at.returns-clause-decidable g c in simplified-decidable (simplifies g here.After-disable (at g here.In_ok-trace_shortened) (left g here.In_ok-filter_clauses))

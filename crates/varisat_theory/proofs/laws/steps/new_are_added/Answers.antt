@@ -1,0 +1,5 @@
+use Rattle.varisat_theory.proofs.StepStands.{new_are_added}
+use Rattle.varisat_theory.proofs.laws.steps.new_are_added.Goals as goal
+
+pub returns : goal.returns
+returns c = new_are_added

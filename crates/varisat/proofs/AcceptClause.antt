@@ -29,7 +29,10 @@ use Rattle.varisat.specs.Names.{Naming, bring, bring_next, bring_if_free, name_o
 use Rattle.varisat.specs.Calls.{with_naming, VerdictAfter, Refuted, Reopened, append_clause, reopened_verdict, with_verdict}
 use Rattle.varisat.specs.Carried.{carry, value_or}
 use Rattle.varisat.specs.Spaces.{Spaces, Carrying, IsWide, translation, SearchHolds, CoreFits, without_core, VerdictFits, Links, SpacesFit}
-use Rattle.varisat_theory.specs.Journals.{Entry}
+use Rattle.varisat_theory.specs.Journals.{Entry, Accepts, written}
+use Rattle.varisat_tracer.specs.Carried.{told_as}
+use Rattle.varisat_tracer.specs.Tracing.{global_literal}
+use Rattle.varisat.specs.OpenProofs.{OpenProof}
 use Rattle.varisat.specs.Journals.{retold, TellsMore}
 use Rattle.varisat.specs.Summaries.{Summary, spaces, spaces_of, StandsFor}
 use Rattle.varisat.specs.Accepting.{HasSolver, AreJoined}
@@ -69,7 +72,7 @@ given-spaces g s new u x (w, k) free n =
           (ap (λ d. value_or d.unit f (at new.solvers.forward x)) (n.kept.at_each x ∙ updated-at (kept_at g.tables.kept) x fresh) ∙ ap (value_or None f) (solver x ∙ unsolved))
           y
           (λ m. ap (λ d. value_or d.unit f (at new.solvers.forward y)) (n.kept.at_each y ∙ updated-other (kept_at g.tables.kept) x fresh y m) ∙ ap (value_or (kept_at g.tables.kept y).unit f) (solver y));
-    }) refl (given w p s u x k free n.unused.0)
+    }) refl (given w p s u x k free n.unused.0 n.unused.1)
 
 pub next-spaces : (k : ℕ) (g : Summary) (s : State) (new : Tables) → SpacesFit (spaces g) s → AreNextGiven k g.tables new → SpacesFit (spaces (with_tables new g)) (with_naming (bring_next k s.naming) s)
 next-spaces zero g s new f e = subst (λ t. SpacesFit (spaces (with_tables t g)) s) (sym e) f
@@ -163,6 +166,11 @@ raised g s t (w, k) none seen few =
 pub ledger-free : (w : Carrying) (p : Spaces) (s : State) (l : Ledger) → Links w p s → Links w p (record s { ledger = l })
 ledger-free w p s l k =
     relinked w p p s (record s { ledger = l }) k (record { solvers = k.solvers; holds = k.holds; assumptions = k.assumptions; working = k.working; verdict = k.verdict; core = k.core; right = k.right; few = k.few; told = k.told })
+
+-- nor does the open proof
+pub proof-free : (w : Carrying) (p : Spaces) (s : State) (proof : Option OpenProof) → Links w p s → Links w p (record s { proof = proof })
+proof-free w p s proof k =
+    relinked w p p s (record s { proof = proof }) k (record { solvers = k.solvers; holds = k.holds; assumptions = k.assumptions; working = k.working; verdict = k.verdict; core = k.core; right = k.right; few = k.few; told = k.told })
 
 -- the names of a clause that are in use are counted with it
 pub counted-spaces : (g : Summary) (s : State) (d : Clause) → SpacesFit (spaces g) s → ((l : Literal) → l ∈ d → (x : ℕ) × (at g.tables.users.forward (variable_of l) ≡ Some x)) → SpacesFit (spaces g) (count (join_counted s.counted (map variable_of (map (through_names s.naming) d))) s)
@@ -272,8 +280,8 @@ pub record Steps (g : Summary) (d : Clause) (joined : Tables) (new : View) (part
   pub parts_stay : parts ≡ record g.assumed { levels = 0 }
 
 -- the identities of the clause are counted before it is loaded
-pub clause-accepted : (g : Summary) (n : State) (d : Clause) (joined : Tables) (new : View) (parts : AssumptionParts) (after : SatState) → Steps g d joined new parts after → SpacesFit (spaces g) (count (join_counted n.counted (map variable_of (map (through_names n.naming) d))) n) →
-    (x : Verdict) × (told : List Entry) × VerdictAfter n.clauses (map (through_names n.naming) d) n.verdict x × TellsMore 0 n.told told × SpacesFit (spaces_of joined new parts after) (retold told (append_clause (map (through_names n.naming) d) x n))
+pub clause-accepted : (g : Summary) (n : State) (d : Clause) (joined : Tables) (new : View) (parts : AssumptionParts) (after : SatState) (t : Steps g d joined new parts after) → SpacesFit (spaces g) (count (join_counted n.counted (map variable_of (map (through_names n.naming) d))) n) →
+    (x : Verdict) × (told : List Entry) × VerdictAfter n.clauses (map (through_names n.naming) d) n.verdict x × TellsMore 0 (n.told ++ Accepts (map (through_names n.naming) d) ∷ []) told × (n.ever_hidden ≡ false → told ≡ n.told ++ told_as (global_literal g.tables) (Accepts (map (carry (chain (at joined.users.forward) (at joined.solvers.forward))) d) ∷ written t.lines)) × SpacesFit (spaces_of joined new parts after) (retold told (append_clause (map (through_names n.naming) d) x n))
 clause-accepted g n d joined new parts after t (w1, k1) =
     let c = map (through_names n.naming) d in
     let p1 = spaces g in
@@ -286,7 +294,7 @@ clause-accepted g n d joined new parts after t (w1, k1) =
     let j = t.are_joined in
     let same-literals : map (carry (chain (at joined.users.forward) (at joined.solvers.forward))) d ≡ map (solver_literal p) d = ap₂ (λ (a b : BiMap). map (carry (chain (at a.forward) (at b.forward))) d) j.users j.solvers in
     let q = spaces_of joined new parts after in
-    let (x, told, v, more, k6) = loaded w1 p s3 d k5 t.all (kept_at joined.kept)
+    let (x, told, v, more, plain, k6) = loaded w1 p s3 d k5 t.all (kept_at joined.kept)
     (record { rest = j.rest; fallen = j.fallen; wide = λ wide l x h e. j.joined (several d wide) l x h e })
     (search_of new) (loaded_outcome after) q.model t.lines refl (view-long g.search t.well_before) (view-long new t.well_new) t.in_use
     (subst (λ e. Loads (search_of g.search) (search_of new) e (loaded_outcome after) t.lines) same-literals t.loads) in
@@ -296,6 +304,7 @@ clause-accepted g n d joined new parts after t (w1, k1) =
       told,
       u,
       more,
+      λ shown. plain shown ∙ ap (λ e. n.told ++ told_as (global_literal g.tables) (Accepts e ∷ written t.lines)) (sym same-literals),
       spaces-same (record p6 { outcome = outcome_of new parts.failed_core after }) q (retold told (append_clause c y n)) (record {
         maps = record {
           global_from_user = λ u. ap (λ m. at m.forward u) j.users;

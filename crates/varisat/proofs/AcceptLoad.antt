@@ -4,8 +4,7 @@ use Rattle.varisat_theory.specs.Membership.{◌∈◌}
 use Rattle.varisat_theory.specs.Literals.{Literal, Clause, variable_of, opposite, IsUnit, Satisfies, MakesTrue}
 use Rattle.varisat_theory.specs.Derivations.{Line}
 use Rattle.varisat_theory.specs.Renaming.{rename_line}
-use Rattle.varisat_theory.specs.Journals.{Entry, Accepts, Assumes, GoesOn}
-use Rattle.varisat_theory.proofs.Journals.{goes_on_further}
+use Rattle.varisat_theory.specs.Journals.{Entry, Accepts, Assumes, GoesOn, written}
 use Rattle.varisat.specs.Journals.{retold, TellsMore}
 use Rattle.varisat_theory.specs.Searches.{Search, Covers, CoversBy, IsLiteralOf, IsCoveredBySearch, Tautology, KnownTrue, FixedTrue, Kept}
 use Rattle.varisat_theory.specs.Outcomes.{Outcome, Loads}
@@ -32,7 +31,10 @@ use Rattle.varisat.proofs.SpacesAgree.{holds-same, isolation-same, marks-same}
 use Rattle.varisat.proofs.Carried.{carry-at, carry-sign, carry-opposite, satisfied-carried, forced-value, wide-back}
 use Rattle.varisat.proofs.AcceptSolverVariables.{one-solver}
 use Rattle.varisat.proofs.ReachedHeld.{told_lines, with_told, lines-lead, shares-after, shares-joined, told-quiet}
-use Rattle.varisat.proofs.ToldEntries.{accepts-goes, told-written, told-accepted, told-assumed}
+use Rattle.varisat.proofs.ToldEntries.{told-written, told-accepted, told-assumed}
+use Rattle.varisat_tracer.specs.Carried.{told_as}
+use Rattle.varisat_tracer.specs.Carried as global
+use Rattle.varisat.proofs.PlainTold.{plain-literals, plain-lines}
 use Rattle.varisat.proofs.SearchHeld.{answers-covers, fixed-on, refuted}
 
 pub map-map : (f g h : Literal → Literal) (c : Clause) → ((l : Literal) → l ∈ c → f (g l) ≡ h l) → map f (map g c) ≡ map h c
@@ -175,8 +177,8 @@ module _ (w : Carrying) (p : Spaces) (s : State) (d : Clause) (k : Links w p s) 
     joins : SharesHeld (with_told (r.told ++ Accepts c ∷ []) r) (h.held ++ e ∷ [])
     joins = shares-joined r h.held c e same-clause of-clause h.told
 
-    goes-more : GoesOn 0 r.told ((Accepts c ∷ []) ++ told_lines r lines)
-    goes-more = let (last, g, o) = loads.holds h.held h.holds in goes_on_further 0 0 r.told (Accepts c ∷ []) (told_lines r lines) (accepts-goes r.told c) (lines-lead 0 (with_told (r.told ++ Accepts c ∷ []) r) (h.held ++ e ∷ []) lines last joins g).goes
+    goes-more : GoesOn 0 (r.told ++ Accepts c ∷ []) (told_lines r lines)
+    goes-more = let (last, g, o) = loads.holds h.held h.holds in (lines-lead 0 (with_told (r.told ++ Accepts c ∷ []) r) (h.held ++ e ∷ []) lines last joins g).goes
 
     holds-more : SearchHolds (s.clauses ++ c ∷ []) (with_told ((r.told ++ Accepts c ∷ []) ++ told_lines r lines) r) t v
     holds-more =
@@ -260,8 +262,17 @@ module _ (w : Carrying) (p : Spaces) (s : State) (d : Clause) (k : Links w p s) 
           told = is-told;
         })
 
+    -- where nothing was ever hidden the clause and the lines are told as they are over global variables
+    plain-told : (lines : List Line) → s.ever_hidden ≡ false → (s.told ++ Accepts (map (through_names s.naming) d) ∷ []) ++ told_lines (translation w p s.told) lines ≡ s.told ++ told_as (global.carry p.global_from_solver) (Accepts (map (solver_literal p) d) ∷ written lines)
+    unfolding c e r
+    plain-told lines shown =
+        let ls = told_lines (translation w p s.told) lines in
+        append_assoc s.told (Accepts (map (through_names s.naming) d) ∷ []) ls
+        ∙ ap (λ (y : Clause). s.told ++ Accepts y ∷ ls) (sym same-clause ∙ plain-literals w p s k shown (map (solver_literal p) d))
+        ∙ ap (λ (es : List Entry). s.told ++ Accepts (map (global.carry p.global_from_solver) (map (solver_literal p) d)) ∷ es) (plain-lines w p s k shown lines)
+
     pub loaded : (t : Search) (v : Outcome) (m : ℕ → Bool) (lines : List Line) → p.outcome ≡ outcome.Unknown → AreLong p.search → AreLong t → AreInUse p t → Loads p.search t (map (solver_literal p) d) v lines →
-        (x : Verdict) × (told : List Entry) × VerdictAfter s.clauses (map (through_names s.naming) d) Unknown x × TellsMore 0 s.told told × Links w (record p { kept = after; search = t; outcome = v; model = m }) (retold told (accept (map (through_names s.naming) d) x s))
+        (x : Verdict) × (told : List Entry) × VerdictAfter s.clauses (map (through_names s.naming) d) Unknown x × TellsMore 0 (s.told ++ Accepts (map (through_names s.naming) d) ∷ []) told × (s.ever_hidden ≡ false → told ≡ s.told ++ told_as (global.carry p.global_from_solver) (Accepts (map (solver_literal p) d) ∷ written lines)) × Links w (record p { kept = after; search = t; outcome = v; model = m }) (retold told (accept (map (through_names s.naming) d) x s))
     unfolding c e r
     loaded t v m lines o long-before long in-use loads =
         let h = subst (SearchHolds s.clauses (translation w p s.told) p.search) (ap without_core o) k.holds in
@@ -269,12 +280,13 @@ module _ (w : Carrying) (p : Spaces) (s : State) (d : Clause) (k : Links w p s) 
         let told = (s.told ++ Accepts (map (through_names s.naming) d) ∷ []) ++ ls in
         let after' = translation w p told in
         let more = holds-more h t v lines loads long in-use in
-        let tells' : TellsMore 0 s.told told = record { entries = (Accepts (map (through_names s.naming) d) ∷ []) ++ ls; joined = append_assoc s.told (Accepts (map (through_names s.naming) d) ∷ []) ls; goes = goes-more h t v lines loads long in-use } in
+        let tells' : TellsMore 0 (s.told ++ Accepts (map (through_names s.naming) d) ∷ []) told = record { entries = ls; joined = refl; goes = goes-more h t v lines loads long in-use } in
+        let plainly = plain-told lines in
         let is-told = told-written (s.told ++ Accepts (map (through_names s.naming) d) ∷ []) (s.clauses ++ map (through_names s.naming) d ∷ []) s.ever_hidden (map (rename_line (carry (translation w p s.told).identity)) lines) (told-accepted s.told s.clauses s.ever_hidden (map (through_names s.naming) d) k.told) in
         ⊎_elim
         (λ (q, u). let none = refuted (s.clauses ++ map (through_names s.naming) d ∷ []) after' t (subst (SearchHolds (s.clauses ++ map (through_names s.naming) d ∷ []) after' t) u more) in
-        (Unsat, told, Refuted refl none, tells', stands told is-told t v m Unsat (subst (SearchHolds (s.clauses ++ map (through_names s.naming) d ∷ []) after' t) (u ∙ sym (ap without_core u)) more) (subst (λ y. VerdictFits w.identity m y Unsat) (sym u) tt) tt none))
-        (λ (q, u). (Unknown, told, Reopened refl (λ z. q (contradicted h long-before z)), tells', stands told is-told t v m Unknown (subst (SearchHolds (s.clauses ++ map (through_names s.naming) d ∷ []) after' t) (u ∙ sym (ap without_core u)) more) (subst (λ y. VerdictFits w.identity m y Unknown) (sym u) tt) tt tt))
+        (Unsat, told, Refuted refl none, tells', plainly, stands told is-told t v m Unsat (subst (SearchHolds (s.clauses ++ map (through_names s.naming) d ∷ []) after' t) (u ∙ sym (ap without_core u)) more) (subst (λ y. VerdictFits w.identity m y Unsat) (sym u) tt) tt none))
+        (λ (q, u). (Unknown, told, Reopened refl (λ z. q (contradicted h long-before z)), tells', plainly, stands told is-told t v m Unknown (subst (SearchHolds (s.clauses ++ map (through_names s.naming) d ∷ []) after' t) (u ∙ sym (ap without_core u)) more) (subst (λ y. VerdictFits w.identity m y Unknown) (sym u) tt) tt tt))
         loads.verdict
 
   -- The list is assumed, of which the search has the literals. No verdict on the assumptions before is left.

@@ -1,5 +1,5 @@
 -- States after a call that changed nothing more, and after one that ran out of memory.
-use Rattle.std.proofs.Common.{◌≡◌, ◌≢◌, ◌∙◌, ◌+◌, ◌-◌, ◌≤◌, arith, ℕ, Bool, true, false, List, Err, refl, ap}
+use Rattle.std.proofs.Common.{◌≡◌, ◌≢◌, ◌∙◌, ◌+◌, ◌-◌, ◌≤◌, arith, ℕ, Bool, true, false, Option, List, Err, refl, ap}
 use Rattle.varisat_theory.specs.Literals.{Clause}
 use Rattle.varisat_search.specs.declared.error.StepError.{StepError}
 use Rattle.varisat_search.specs.declared.error.StepError.TheVariants as step
@@ -9,16 +9,26 @@ use Rattle.varisat.specs.Refusals.{step_refusal}
 use Rattle.varisat.specs.Calls.{IsLike, IsValid, Invalidates, MayConstrain, AddsClause, CountsCall, Solves, with_steps}
 use Rattle.varisat_theory.specs.Journals.{Entry}
 use Rattle.varisat.specs.Journals.{retold, TellsMore}
+use Rattle.varisat.specs.OpenProofs.{OpenProof, IsOpen, GoesOnWriting, ProofFits}
+use Rattle.varisat.proofs.OpenProofs.{goes-on-none}
 use Rattle.varisat.proofs.ToldEntries.{tells-nothing}
 use Rattle.varisat.specs.Spaces.{SpacesFit}
 use Rattle.varisat.specs.Summaries.{Summary, spaces, StandsFor}
 
 pub like-refl : (s : State) → IsLike s s
-like-refl s = record { naming = refl; ever_hidden = refl; clauses = refl; assumptions = refl; counted = refl; verdict = refl; ledger = refl; told = tells-nothing s.told }
+like-refl s = record { naming = refl; ever_hidden = refl; clauses = refl; assumptions = refl; counted = refl; verdict = refl; ledger = refl; told = tells-nothing s.told; proof = goes-on-none s.proof }
+
+-- the same, but that an open proof has further bytes
+pub like-grown : (s : State) (proof : Option OpenProof) → GoesOnWriting s.proof proof → IsLike s (record s { proof = proof })
+like-grown s proof g = record { naming = refl; ever_hidden = refl; clauses = refl; assumptions = refl; counted = refl; verdict = refl; ledger = refl; told = tells-nothing s.told; proof = g }
+
+-- and that more was told
+pub like-told : (s : State) (told : List Entry) (proof : Option OpenProof) → TellsMore 0 s.told told → GoesOnWriting s.proof proof → IsLike s (record s { told = told; proof = proof })
+like-told s told proof m g = record { naming = refl; ever_hidden = refl; clauses = refl; assumptions = refl; counted = refl; verdict = refl; ledger = refl; told = m; proof = g }
 
 -- the same, but that more was told
 pub like-retold : (s : State) (told : List Entry) → TellsMore 0 s.told told → IsLike s (retold told s)
-like-retold s told m = record { naming = refl; ever_hidden = refl; clauses = refl; assumptions = refl; counted = refl; verdict = refl; ledger = refl; told = m }
+like-retold s told m = record { naming = refl; ever_hidden = refl; clauses = refl; assumptions = refl; counted = refl; verdict = refl; ledger = refl; told = m; proof = goes-on-none s.proof }
 
 -- a ledger by what it tells
 abbrev pub ledger_of : Bool → Bool → ℕ → ℕ → Settings → Ledger
@@ -52,13 +62,14 @@ pub record Begins (g : Summary) (s : State) : Type 0 where
   pub valid : IsValid s
   pub ledger : s.ledger ≡ g.ledger
   pub fits : SpacesFit (spaces g) s
+  pub proof : ProofFits g.opened s.ever_hidden s.told s.proof
 
 pub begins : {g : Summary} {s : State} → StandsFor g s → g.ledger.valid ≡ true → Begins g s
-begins {g} {s} st v = record { valid = stands-valid g s st v; ledger = st.ledger; fits = st.fits v }
+begins {g} {s} st v = record { valid = stands-valid g s st v; ledger = st.ledger; fits = st.fits v; proof = st.proof v }
 
--- the state, with the verdict, the flags and what was told of another
+-- the state, with the verdict, the flags, what was told and the open proof of another
 abbrev pub told_as : State → State → State
-told_as t s = record s { verdict = t.verdict; ledger = t.ledger; told = t.told }
+told_as t s = record s { verdict = t.verdict; ledger = t.ledger; told = t.told; proof = t.proof }
 
 pub told-well : (s t : State) → IsWellFormed s → IsWellFormed (told_as t s)
 told-well s t w = record { one_to_one = w.one_to_one; free = w.free; named = w.named; accepted = w.accepted; assumed = w.assumed; counted = w.counted; once = w.once }
@@ -71,12 +82,14 @@ pub broken-invalid : (s : State) → s.ledger.valid ≡ true → IsWellFormed s 
 broken-invalid s v w = record { valid = v; ledger = refl; well_formed = told-well s (broken s) w }
 
 -- a clause could not be kept
-pub adds-broken : (e : StepError) (s t : State) (d : Clause) → s.verdict ≢ Unsat → MayConstrain s.naming d → Invalidates s t → AddsClause s d (Err (step_refusal e)) t
-adds-broken step.Full s t d n l b = (n, l, b)
-adds-broken step.Memory s t d n l b = (n, l, b)
-adds-broken (step.Target cause) s t d n l b = (n, l, b)
+pub adds-broken : (e : StepError) (b : Bool) (s t : State) (d : Clause) → (b ≡ true → IsOpen s.proof) → s.verdict ≢ Unsat → MayConstrain s.naming d → Invalidates s t → AddsClause s d (Err (step_refusal b e)) t
+adds-broken step.Full b s t d o n l i = (n, l, i)
+adds-broken step.Memory b s t d o n l i = (n, l, i)
+adds-broken (step.Target cause) true s t d o n l i = (o refl, n, l, i)
+adds-broken (step.Target cause) false s t d o n l i = (n, l, i)
 
-pub solves-broken : (e : StepError) (s t : State) → s.verdict ≡ Unknown → CountsCall s (Err (step_refusal e)) t → Invalidates (with_steps t.ledger.steps s) t → Solves s (Err (step_refusal e)) t
-solves-broken step.Full s t u c b = (u, c, b)
-solves-broken step.Memory s t u c b = (u, c, b)
-solves-broken (step.Target cause) s t u c b = (u, c, b)
+pub solves-broken : (e : StepError) (b : Bool) (s t : State) → (b ≡ true → IsOpen s.proof) → s.verdict ≡ Unknown → CountsCall s (Err (step_refusal b e)) t → Invalidates (with_steps t.ledger.steps s) t → Solves s (Err (step_refusal b e)) t
+solves-broken step.Full b s t o u c i = (u, c, i)
+solves-broken step.Memory b s t o u c i = (u, c, i)
+solves-broken (step.Target cause) true s t o u c i = (o refl, u, c, i)
+solves-broken (step.Target cause) false s t o u c i = (u, c, i)

@@ -88,5 +88,6 @@ counted w p s is k m b d = record {
   well_formed = record { one_to_one = k.well_formed.one_to_one; free = k.well_formed.free; named = k.well_formed.named; accepted = k.well_formed.accepted; assumed = k.well_formed.assumed; counted = b; once = d };
   few = let n = length-distinct s.counted is k.well_formed.once m in let f = k.few in omega (arith, n, f);
   shown = k.shown;
+  plain = k.plain;
   told = k.told;
 }

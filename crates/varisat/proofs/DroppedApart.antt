@@ -8,7 +8,7 @@ use Rattle.varisat_names.proofs.Maps.{is-some}
 use Rattle.varisat.specs.States.{State}
 use Rattle.varisat.specs.Spaces.{Spaces, Carrying, Links, SpacesFit}
 use Rattle.varisat_theory.specs.Journals.{Entry}
-use Rattle.varisat.specs.Journals.{retold, TellsMore}
+use Rattle.varisat.specs.Journals.{retold, TellsLeaving}
 use Rattle.varisat.proofs.VariableMoves.{leave_search, leave_all}
 use Rattle.varisat.proofs.DroppedSolvers.{IsWithout, still-forced, left}
 use Rattle.varisat.proofs.DroppedFixed.{left-recycled}
@@ -25,7 +25,7 @@ pub apart-left : (w : Carrying) (p : Spaces) (s : State) (v x : ℕ) (t : Search
 apart-left w p s v x t k unknown pair unassumed f = let (i, at, c) = k.solvers.live v x pair in (record w { forced = updated w.forced i None }, links-left w p s v x i t k unknown pair at c unassumed f)
 
 -- it may be used again
-pub apart-recycled : (w : Carrying) (p : Spaces) (s : State) (v x : ℕ) (t : Search) → Links w p s → p.outcome ≡ outcome.Unknown → p.global_from_solver v ≡ Some x → (p.kept x).assumed ≡ false → p.user_from_global x ≡ None → (p.kept x).isolated ≡ true → IsWithout v None p.search t → (told : List Entry) × TellsMore 0 s.told told × SpacesFit (leave_all v x t p) (retold told s)
+pub apart-recycled : (w : Carrying) (p : Spaces) (s : State) (v x : ℕ) (t : Search) → Links w p s → p.outcome ≡ outcome.Unknown → p.global_from_solver v ≡ Some x → (p.kept x).assumed ≡ false → p.user_from_global x ≡ None → (p.kept x).isolated ≡ true → IsWithout v None p.search t → (told : List Entry) × TellsLeaving s.ever_hidden s.told told × SpacesFit (leave_all v x t p) (retold told s)
 apart-recycled w p s v x t k unknown pair unassumed unnamed alone f =
     let (i, at, c) = k.solvers.live v x pair in
     left-recycled (record w { forced = updated w.forced i None }) p s v x i t (p.kept x) (links-left w p s v x i t k unknown pair at c unassumed f) at unnamed alone

@@ -20,7 +20,7 @@ use Rattle.varisat.proofs.Carried.{true-value}
 use Rattle.varisat.proofs.SearchHeld.{agrees-through}
 use Rattle.varisat.proofs.SolveVerdict.{maps-alike, maps-same}
 use Rattle.varisat_theory.specs.Journals.{Entry}
-use Rattle.varisat.specs.Journals.{retold, TellsMore}
+use Rattle.varisat.specs.Journals.{retold, TellsLeaving}
 use Rattle.varisat.proofs.VariableMoves.{leave_search, leave_all, recycle}
 use Rattle.varisat.proofs.RecycledGlobals.{recycled}
 use Rattle.varisat.proofs.DroppedSolvers.{IsWithout, left}
@@ -38,12 +38,15 @@ proved-value w p s v x i l k unknown pair at over proved a m =
     sym (ap (λ o. a (identity_of o)) (ap to over ∙ chain-some p.global_from_solver w.identity v x pair ∙ at)) ∙ ap (λ m. read (variable_of m)) (sym same) ∙ true-value read n z ∙ ap polarity_of same
 
 -- whatever is kept in between of the isolated global variable
-pub left-recycled : (w : Carrying) (p : Spaces) (s : State) (v x i : ℕ) (t : Search) (d : VarData) → Links w (leave_search v x t d p) s → w.identity x ≡ Some i → p.user_from_global x ≡ None → d.isolated ≡ true → (told : List Entry) × TellsMore 0 s.told told × SpacesFit (leave_all v x t p) (retold told s)
+pub left-recycled : (w : Carrying) (p : Spaces) (s : State) (v x i : ℕ) (t : Search) (d : VarData) → Links w (leave_search v x t d p) s → w.identity x ≡ Some i → p.user_from_global x ≡ None → d.isolated ≡ true → (told : List Entry) × TellsLeaving s.ever_hidden s.told told × SpacesFit (leave_all v x t p) (retold told s)
 left-recycled w p s v x i t d k at unnamed alone =
-    let (told, more, fits) = recycled w (leave_search v x t d p) s x i k at unnamed (updated-at p.solver_from_global x None) (ap (λ (a : VarData). a.isolated) (updated-at p.kept x d) ∙ alone) in
-    (told, more, maps-same (recycle x (leave_search v x t d p)) (leave_all v x t p) (retold told s) (maps-alike (recycle x (leave_search v x t d p)) (leave_all v x t p) refl
-    (λ y. updated-all (λ y a. a ≡ updated (updated p.kept x d) x dead y) p.kept x dead (sym (updated-at (updated p.kept x d) x dead)) y (λ n. sym (updated-other (updated p.kept x d) x dead y n ∙ updated-other p.kept x d y n)))
-    (λ a e y. refl)) refl fits)
+    let (told, more, fits) = recycled w (leave_search v x t d p) s x i k at unnamed (updated-at p.solver_from_global x None) (ap (λ (a : VarData). a.isolated) (updated-at p.kept x d) ∙ alone) in (
+      told,
+      more,
+      maps-same (recycle x (leave_search v x t d p)) (leave_all v x t p) (retold told s) (maps-alike (recycle x (leave_search v x t d p)) (leave_all v x t p) refl
+          (λ y. updated-all (λ y a. a ≡ updated (updated p.kept x d) x dead y) p.kept x dead (sym (updated-at (updated p.kept x d) x dead)) y (λ n. sym (updated-other (updated p.kept x d) x dead y n ∙ updated-other p.kept x d y n)))
+          (λ a e y. refl)) refl fits,
+    )
 
 -- The variable is not assumed, and its value is fixed at level 0.
 module _ (w : Carrying) (p : Spaces) (s : State) (v x : ℕ) (b : Bool) (t : Search) (k : Links w p s) (unknown : p.outcome ≡ outcome.Unknown) (pair : p.global_from_solver v ≡ Some x) (unassumed : (p.kept x).assumed ≡ false) (f : IsWithout v (Some b) p.search t) where
@@ -58,7 +61,7 @@ module _ (w : Carrying) (p : Spaces) (s : State) (v x : ℕ) (b : Bool) (t : Sea
   fixed-stays = let (i, at, c) = k.solvers.live v x pair in (record w { forced = updated w.forced i (Some b) }, links-left i at c)
 
   -- a hidden one may be used again
-  pub fixed-left : p.user_from_global x ≡ None → (told : List Entry) × TellsMore 0 s.told told × SpacesFit (leave_all v x t p) (retold told s)
+  pub fixed-left : p.user_from_global x ≡ None → (told : List Entry) × TellsLeaving s.ever_hidden s.told told × SpacesFit (leave_all v x t p) (retold told s)
   fixed-left unnamed =
       let (i, at, c) = k.solvers.live v x pair in
       left-recycled (record w { forced = updated w.forced i (Some b) }) p s v x i t (fixed_to b (p.kept x)) (links-left i at c) at unnamed refl

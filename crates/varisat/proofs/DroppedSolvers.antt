@@ -281,5 +281,6 @@ module _ (w : Carrying) (p : Spaces) (s : State) (v x i : ℕ) (known : Option B
       well_formed = k.well_formed;
       few = k.few;
       shown = λ e y m. field-same (λ a. a.deleted) p.kept x d (ap (λ a. a.deleted) told) y ∙ k.shown e y m;
+      plain = k.plain;
       told = k.told;
     }

@@ -25,8 +25,8 @@ use Rattle.varisat_names.proofs.Maps.{updated-at, updated-other, updated-all}
 use Rattle.varisat.specs.States.{State}
 use Rattle.varisat.specs.Carried.{carry, is_forced}
 use Rattle.varisat_theory.specs.Journals.{Entry}
-use Rattle.varisat.specs.Journals.{retold, TellsMore}
-use Rattle.varisat.proofs.ToldEntries.{tells-nothing, tells-through}
+use Rattle.varisat.specs.Journals.{retold, TellsLeaving}
+use Rattle.varisat.proofs.ToldEntries.{leaving-nothing, leaving-through}
 use Rattle.varisat.specs.Spaces.{Spaces, Carrying, Translation, SearchHolds, translation, Links, SpacesFit}
 use Rattle.varisat.specs.Summaries.{spaces_of}
 use Rattle.varisat.specs.Dropping.{fixed_to}
@@ -120,15 +120,15 @@ module _ (old new : Tables) (search : View) (assumed : AssumptionParts) (s : Sta
       }) refl f
 
   -- Where it has no name and is isolated it may be used again, and else it stays.
-  gone : LosesSolver old new x v (without_solver (at old.users.backward x) d) → SpacesFit (leave_search v x t d (between old search assumed u)) s → (at old.users.backward x ≡ None → d.isolated ≡ true → (told : List Entry) × TellsMore 0 s.told told × SpacesFit (leave_all v x t (between old search assumed u)) (retold told s)) → (told : List Entry) × TellsMore 0 s.told told × SpacesFit (between new search assumed t) (retold told s)
+  gone : LosesSolver old new x v (without_solver (at old.users.backward x) d) → SpacesFit (leave_search v x t d (between old search assumed u)) s → (at old.users.backward x ≡ None → d.isolated ≡ true → (told : List Entry) × TellsLeaving s.ever_hidden s.told told × SpacesFit (leave_all v x t (between old search assumed u)) (retold told s)) → (told : List Entry) × TellsLeaving s.ever_hidden s.told told × SpacesFit (between new search assumed t) (retold told s)
   gone n stays recycled = go (at old.users.backward x) d.isolated refl refl
     where
-      go : (o : Option ℕ) (b : Bool) → at old.users.backward x ≡ o → d.isolated ≡ b → (told : List Entry) × TellsMore 0 s.told told × SpacesFit (between new search assumed t) (retold told s)
-      go (Some y) b e q = (s.told, tells-nothing s.told, moved s.told d (between old search assumed u).model (subst (λ o. LosesSolver old new x v (without_solver o d)) e n) stays)
+      go : (o : Option ℕ) (b : Bool) → at old.users.backward x ≡ o → d.isolated ≡ b → (told : List Entry) × TellsLeaving s.ever_hidden s.told told × SpacesFit (between new search assumed t) (retold told s)
+      go (Some y) b e q = (s.told, leaving-nothing s.ever_hidden s.told, moved s.told d (between old search assumed u).model (subst (λ o. LosesSolver old new x v (without_solver o d)) e n) stays)
       go None true e q = let (told, more, fits) = recycled e q in (told, more, moved told dead (leave_all v x t (between old search assumed u)).model (subst (λ c. LosesSolver old new x v (if c then dead else d)) q (subst (λ o. LosesSolver old new x v (without_solver o d)) e n)) fits)
-      go None false e q = (s.told, tells-nothing s.told, moved s.told d (between old search assumed u).model (subst (λ c. LosesSolver old new x v (if c then dead else d)) q (subst (λ o. LosesSolver old new x v (without_solver o d)) e n)) stays)
+      go None false e q = (s.told, leaving-nothing s.ever_hidden s.told, moved s.told d (between old search assumed u).model (subst (λ c. LosesSolver old new x v (if c then dead else d)) q (subst (λ o. LosesSolver old new x v (without_solver o d)) e n)) stays)
 
-one-left : (known : Option Bool) (v : ℕ) (old new : Tables) (search : View) (assumed : AssumptionParts) (s : State) (u t : Search) → IsLeft known old new v → IsWithout v known u t → ((x : ℕ) → at old.solvers.backward v ≡ Some x → (kept_at old.kept x).assumed ≡ false) → SpacesFit (between old search assumed u) s → (told : List Entry) × TellsMore 0 s.told told × SpacesFit (between new search assumed t) (retold told s)
+one-left : (known : Option Bool) (v : ℕ) (old new : Tables) (search : View) (assumed : AssumptionParts) (s : State) (u t : Search) → IsLeft known old new v → IsWithout v known u t → ((x : ℕ) → at old.solvers.backward v ≡ Some x → (kept_at old.kept x).assumed ≡ false) → SpacesFit (between old search assumed u) s → (told : List Entry) × TellsLeaving s.ever_hidden s.told told × SpacesFit (between new search assumed t) (retold told s)
 one-left (Some b) v old new search assumed s u t a f free (w, k) =
     let (x, n) = loses (Some b) old new v a in
     let p = between old search assumed u in
@@ -234,24 +234,27 @@ same-holds P r s t f h = record {
     before l (inl a) = inl (f.fixed l a).0
     before l (inr (k, a, b)) = inr (k, subst (λ ks. k ∈ ks) f.kept a, b)
 
-all-left : (known : ℕ → Option Bool) (vs : List ℕ) (old new : Tables) (search : View) (assumed : AssumptionParts) (s : State) (u t : Search) → AreLeft known vs old new → AreWithout known vs u t → ((v x : ℕ) → v ∈ vs → at old.solvers.backward v ≡ Some x → (kept_at old.kept x).assumed ≡ false) → SpacesFit (between old search assumed u) s → (told : List Entry) × TellsMore 0 s.told told × SpacesFit (between new search assumed t) (retold told s)
+all-left : (known : ℕ → Option Bool) (vs : List ℕ) (old new : Tables) (search : View) (assumed : AssumptionParts) (s : State) (u t : Search) → AreLeft known vs old new → AreWithout known vs u t → ((v x : ℕ) → v ∈ vs → at old.solvers.backward v ≡ Some x → (kept_at old.kept x).assumed ≡ false) → SpacesFit (between old search assumed u) s → (told : List Entry) × TellsLeaving s.ever_hidden s.told told × SpacesFit (between new search assumed t) (retold told s)
 all-left known [] old new search assumed s u t e f free (w, k) =
     let p = between old search assumed u in
-    let same : AreWithout (λ v. None) [] u t = record { kept = f.kept; unmentioned = f.unmentioned; stays = λ l a. ⊎_elim inl (λ (i, q). absurd i) (f.stays l a); fixed = f.fixed; proved = f.proved; units = λ v b i. absurd i } in
-    (s.told, tells-nothing s.told, subst (λ (a : Tables). SpacesFit (between a search assumed t) s) (sym e) (
-      w,
-      relinked w p (between old search assumed t) s s k (record {
-        solvers = k.solvers;
-        holds = same-holds s.clauses (translation w p s.told) u t same k.holds;
-        assumptions = k.assumptions;
-        working = k.working;
-        verdict = k.verdict;
-        core = k.core;
-        right = k.right;
-        few = k.few;
-        told = k.told;
-      }),
-    ))
+    let same : AreWithout (λ v. None) [] u t = record { kept = f.kept; unmentioned = f.unmentioned; stays = λ l a. ⊎_elim inl (λ (i, q). absurd i) (f.stays l a); fixed = f.fixed; proved = f.proved; units = λ v b i. absurd i } in (
+      s.told,
+      leaving-nothing s.ever_hidden s.told,
+      subst (λ (a : Tables). SpacesFit (between a search assumed t) s) (sym e) (
+        w,
+        relinked w p (between old search assumed t) s s k (record {
+          solvers = k.solvers;
+          holds = same-holds s.clauses (translation w p s.told) u t same k.holds;
+          assumptions = k.assumptions;
+          working = k.working;
+          verdict = k.verdict;
+          core = k.core;
+          right = k.right;
+          few = k.few;
+          told = k.told;
+        }),
+      ),
+    )
 all-left known (v ∷ vs) old new search assumed s u t (mid, a, rest) f free fit =
     let (g, p) = loses (known v) old mid v a in
     let d = without_solver (at old.users.backward g) (with_known (known v) (kept_at old.kept g)) in
@@ -260,14 +263,17 @@ all-left known (v ∷ vs) old new search assumed s u t (mid, a, rest) f free fit
     let (last, further, fits) = all-left known vs mid new search assumed (retold first s) (forget_variable v u) t rest (without-others known v vs u t once f)
     (λ y x i e. still-free (known v) old mid v g p x (free y x (inr i) (pair-before old mid v y x g d p e).0))
     mid-fits in
-    (last, tells-through 0 0 s.told first last more further, fits)
+    (last, leaving-through s.ever_hidden s.told first last more further, fits)
 
 -- Variables that are not assumed left the search, and their solver variables the tables: what is held stands for the same state as before.
-pub variables-left : (known : ℕ → Option Bool) (vs : List ℕ) (old new : Tables) (search after : View) (assumed : AssumptionParts) (s : State) → AreLeft known vs old new → AreWithout known vs (search_of search) (search_of after) → length after.values ≡ length search.values → ((v x : ℕ) → v ∈ vs → at old.solvers.backward v ≡ Some x → (kept_at old.kept x).assumed ≡ false) → SpacesFit (spaces_of old search assumed verdict.Unknown) s → (told : List Entry) × TellsMore 0 s.told told × SpacesFit (spaces_of new after assumed verdict.Unknown) (retold told s)
+pub variables-left : (known : ℕ → Option Bool) (vs : List ℕ) (old new : Tables) (search after : View) (assumed : AssumptionParts) (s : State) → AreLeft known vs old new → AreWithout known vs (search_of search) (search_of after) → length after.values ≡ length search.values → ((v x : ℕ) → v ∈ vs → at old.solvers.backward v ≡ Some x → (kept_at old.kept x).assumed ≡ false) → SpacesFit (spaces_of old search assumed verdict.Unknown) s → (told : List Entry) × TellsLeaving s.ever_hidden s.told told × SpacesFit (spaces_of new after assumed verdict.Unknown) (retold told s)
 variables-left known vs old new search after assumed s a f count free fit =
     let p = between new search assumed (search_of after) in
     let (told, more, fits) = all-left known vs old new search assumed s (search_of search) (search_of after) a f free fit in
-    let (w, k) = fits in
-    (told, more, maps-same (record p { var_count = length after.values }) (spaces_of new after assumed verdict.Unknown) (retold told s)
-    (maps-alike (record p { var_count = length after.values }) (spaces_of new after assumed verdict.Unknown) refl (λ x. refl) (λ b e y. absurd (let z : outcome.Unknown ≡ outcome.Sat b = e in cc)))
-    refl (w, recount w p (length search.values) (length after.values) (retold told s) count k))
+    let (w, k) = fits in (
+      told,
+      more,
+      maps-same (record p { var_count = length after.values }) (spaces_of new after assumed verdict.Unknown) (retold told s)
+          (maps-alike (record p { var_count = length after.values }) (spaces_of new after assumed verdict.Unknown) refl (λ x. refl) (λ b e y. absurd (let z : outcome.Unknown ≡ outcome.Sat b = e in cc)))
+          refl (w, recount w p (length search.values) (length after.values) (retold told s) count k),
+    )

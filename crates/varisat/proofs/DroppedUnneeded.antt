@@ -27,7 +27,7 @@ use Rattle.varisat_search.specs.AssumptionParts.{AssumptionParts}
 use Rattle.varisat_search.specs.Contexts.{view}
 use Rattle.varisat.specs.States.{State}
 use Rattle.varisat_theory.specs.Journals.{Entry}
-use Rattle.varisat.specs.Journals.{retold, TellsMore}
+use Rattle.varisat.specs.Journals.{retold, TellsLeaving}
 use Rattle.varisat.specs.Spaces.{SpacesFit}
 use Rattle.varisat.specs.Accepting.{HasUser, IsAssumedSolver}
 use Rattle.varisat.specs.Summaries.{spaces_of, IsKept}
@@ -150,13 +150,13 @@ module _ {A : Type 0} {m n : Tables} {x y : Context A} {mentioned gone : List Bo
   pub needed-left : LeavesNeeded n (view y)
   needed-left = record { assumed = over-left h (λ l on e. over l on); needed = needed }
 
-  pub stands-released : AreReleased ls m n → search_of (view y) ≡ search_without gone (search_of (view x)) → (s : State) → SpacesFit (spaces_of m (view x) x.assumptions verdict.Unknown) s → (told : List Entry) × TellsMore 0 s.told told × SpacesFit (spaces_of n (view y) y.assumptions verdict.Unknown) (retold told s)
+  pub stands-released : AreReleased ls m n → search_of (view y) ≡ search_without gone (search_of (view x)) → (s : State) → SpacesFit (spaces_of m (view x) x.assumptions verdict.Unknown) s → (told : List Entry) × TellsLeaving s.ever_hidden s.told told × SpacesFit (spaces_of n (view y) y.assumptions verdict.Unknown) (retold told s)
   stands-released a seen s (c, links) =
       let free : (v z : ℕ) → v ∈ map variable_of ls → at m.solvers.backward v ≡ Some z → (kept_at m.kept z).assumed ≡ false = (λ v z i e. true-or-not (kept_at m.kept z).assumed (λ t.
       let (l, g, q) = links.marks.only z t in
       let (j, f, o) = map-∈ variable_of v ls i in
       not-named m mentioned ls u j z (variable_of l) f (ap (at m.solvers.backward) (sym o) ∙ e) (h.linked.users.there (variable_of l) z q))) in
-      subst (λ (as' : AssumptionParts). (told : List Entry) × TellsMore 0 s.told told × SpacesFit (spaces_of n (view y) as' verdict.Unknown) (retold told s)) (sym h.assumptions)
+      subst (λ (as' : AssumptionParts). (told : List Entry) × TellsLeaving s.ever_hidden s.told told × SpacesFit (spaces_of n (view y) as' verdict.Unknown) (retold told s)) (sym h.assumptions)
       (variables-left (λ v. None) (map variable_of ls) m n (view x) (view y) x.assumptions s (released-left ls m n a) (without-unneeded m mentioned ls u (view x) gone p h.flags (view y) over free seen) (values-left h) free (c, links))
 
 -- Of each hidden variable below n whose flag is not set there is one literal.

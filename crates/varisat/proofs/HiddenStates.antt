@@ -2,8 +2,6 @@
 use Rattle.std.proofs.Common.{◌≡◌, ℕ, ◌<◌, true, false, Option, Some, None, List, sym, ap, ◌∙◌, subst, refl}
 use Rattle.varisat_theory.specs.Membership.{◌∈◌}
 use Rattle.varisat_theory.specs.Literals.{Literal, Clause, variable_of}
-use Rattle.varisat_theory.specs.Searches.{Search}
-use Rattle.varisat_theory.specs.Outcomes.{Outcome}
 use Rattle.varisat_theory.proofs.Renaming.{∈-map, map-∈}
 use Rattle.varisat_names.specs.Maps.{updated, IsInverse, onward, chain}
 use Rattle.varisat_names.specs.declared.variables.data.VarData.{VarData}
@@ -12,7 +10,7 @@ use Rattle.varisat_names.proofs.Maps.{updated-at, updated-other, updated-all, pa
 use Rattle.varisat.specs.States.{State, Verdict, Unknown, Sat, Unsat, UnsatUnderAssumptions, IsRight, IsWellFormed}
 use Rattle.varisat.specs.VariableCalls.{hide_name}
 use Rattle.varisat.specs.Carried.{carry}
-use Rattle.varisat.specs.Spaces.{Spaces, Carrying, ModeFits, NamesFit, ModesFit, AssumptionsFit, MarksFit, CoreFits, Translation, SearchHolds, without_core, translation, Links}
+use Rattle.varisat.specs.Spaces.{Spaces, Carrying, ModeFits, NamesFit, ModesFit, AssumptionsFit, MarksFit, CoreFits, Links}
 use Rattle.varisat.proofs.Carried.{carry-at}
 use Rattle.varisat.proofs.SpacesAgree.{identities-same, units-same, isolation-same, carry-same, map-same}
 use Rattle.varisat.proofs.VariableMoves.{in_mode, hide}
@@ -135,5 +133,6 @@ module _ (w : Carrying) (p : Spaces) (s : State) (u x : ℕ) (k : Links w p s) (
     well_formed = free-well u s k.well_formed;
     few = k.few;
     shown = λ e. absurd cc;
+    plain = λ e. absurd cc;
     told = record { accepted = k.told.accepted; stays = λ e. absurd cc };
   }

@@ -160,20 +160,23 @@ module _ (g : Summary) (s : State) (new : Tables) (u x : ℕ) (w : Carrying) (k 
       let p = spaces g in
       let f = assignment_of g.search in
       let (i, is) = k.names.live u x named in
-      let (told, more, fits) = recycled w (hide u x p) (hide_name u s) x i (hidden w p s u x k named unassumed) is (updated-at p.user_from_global x None) unsolved (ap (λ (d : VarData). d.isolated) (updated-at p.kept x away) ∙ alone) in
-      (told, more, maps-same (recycle x (hide u x p)) (spaces (with_tables new g)) (retold told (hide_name u s)) (record {
-        global_from_user = n.users.forward.at_each;
-        user_from_global = n.users.backward.at_each;
-        watermark = same-watermark;
-        globals = kept-most g.tables.kept new.kept x dead (named-live w p s u x k named) q;
-        solver_from_global = same-solver;
-        global_from_solver = λ v. ap (λ (b : BiMap). at b.backward v) n.solvers;
-        kept = λ y. q.at_each y ∙ updated-all (λ y a. a ≡ updated (updated p.kept x away) x dead y) p.kept x dead (sym (updated-at (updated p.kept x away) x dead)) y (λ m. sym (updated-other (updated p.kept x away) x dead y m ∙ updated-other p.kept x away y m));
-        model = λ a e y. updated-all (λ y b. value_or (kept_at new.kept y).unit f (at new.solvers.forward y) ≡ b) p.model x false
-            (ap (λ (d : VarData). value_or d.unit f (at new.solvers.forward x)) (q.at_each x ∙ updated-at (kept_at g.tables.kept) x dead) ∙ ap (value_or None f) (same-solver x ∙ unsolved))
-            y
-            (λ m. ap (λ (d : VarData). value_or d.unit f (at new.solvers.forward y)) (q.at_each y ∙ updated-other (kept_at g.tables.kept) x dead y m) ∙ ap (value_or (kept_at g.tables.kept y).unit f) (same-solver y));
-      }) refl fits)
+      let (told, more, fits) = recycled w (hide u x p) (hide_name u s) x i (hidden w p s u x k named unassumed) is (updated-at p.user_from_global x None) unsolved (ap (λ (d : VarData). d.isolated) (updated-at p.kept x away) ∙ alone) in (
+        told,
+        more.more,
+        maps-same (recycle x (hide u x p)) (spaces (with_tables new g)) (retold told (hide_name u s)) (record {
+          global_from_user = n.users.forward.at_each;
+          user_from_global = n.users.backward.at_each;
+          watermark = same-watermark;
+          globals = kept-most g.tables.kept new.kept x dead (named-live w p s u x k named) q;
+          solver_from_global = same-solver;
+          global_from_solver = λ v. ap (λ (b : BiMap). at b.backward v) n.solvers;
+          kept = λ y. q.at_each y ∙ updated-all (λ y a. a ≡ updated (updated p.kept x away) x dead y) p.kept x dead (sym (updated-at (updated p.kept x away) x dead)) y (λ m. sym (updated-other (updated p.kept x away) x dead y m ∙ updated-other p.kept x away y m));
+          model = λ a e y. updated-all (λ y b. value_or (kept_at new.kept y).unit f (at new.solvers.forward y) ≡ b) p.model x false
+              (ap (λ (d : VarData). value_or d.unit f (at new.solvers.forward x)) (q.at_each x ∙ updated-at (kept_at g.tables.kept) x dead) ∙ ap (value_or None f) (same-solver x ∙ unsolved))
+              y
+              (λ m. ap (λ (d : VarData). value_or d.unit f (at new.solvers.forward y)) (q.at_each y ∙ updated-other (kept_at g.tables.kept) x dead y m) ∙ ap (value_or (kept_at g.tables.kept y).unit f) (same-solver y));
+        }) refl fits,
+      )
 
   by-use : (b : Bool) → unused (at g.tables.solvers.forward x) (kept_at g.tables.kept x) ≡ b → (told : List Entry) × TellsMore 0 s.told told × SpacesFit (spaces (with_tables new g)) (retold told (hide_name u s))
   by-use true e = let (unsolved, alone) = is-unused (at g.tables.solvers.forward x) (kept_at g.tables.kept x) e in also-recycled (kept-as true e) unsolved alone

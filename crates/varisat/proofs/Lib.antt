@@ -34,6 +34,8 @@ pub mod Pasts
 pub mod PlainTables
 pub mod ProgramDecides
 pub mod ToldEntries
+pub mod PlainTold
+pub mod OpenProofs
 pub mod ReachedHeld
 pub mod ReadPlaces
 pub mod RecycledGlobals

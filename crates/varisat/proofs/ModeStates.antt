@@ -60,5 +60,6 @@ module _ (w : Carrying) (p : Spaces) (s : State) (u x : ℕ) (k : Links w p s) (
         well_formed = record { one_to_one = k.well_formed.one_to_one; free = k.well_formed.free; named = k.well_formed.named; accepted = k.well_formed.accepted; assumed = k.well_formed.assumed; counted = k.well_formed.counted; once = k.well_formed.once };
         few = k.few;
         shown = λ e y h. field-same (λ a. a.deleted) p.kept x d refl y ∙ k.shown e y h;
+        plain = k.plain;
         told = k.told;
       }

@@ -1,5 +1,6 @@
 -- A name gets a variable.
-use Rattle.std.proofs.Common.{◌≡◌, ℕ, ◌+◌, ◌<◌, max, true, false, Option, Some, None, List, [], ◌∷◌, ⊎_elim, sym, ap, ◌∙◌, subst, refl, length, arith}
+use Rattle.std.proofs.Common.{◌≡◌, ℕ, ◌+◌, ◌<◌, ◌≤◌, max, true, false, Option, Some, None, List, ⊎_elim, sym, ap, ◌∙◌, subst, refl, arith}
+use Rattle.std.proofs.lemmas.Bool.{cases_lt}
 use Rattle.varisat_theory.specs.Membership.{◌∈◌}
 use Rattle.varisat_theory.specs.Literals.{Literal, Clause, Assignment, variable_of}
 use Rattle.varisat_theory.proofs.Members.{equal_or_not}
@@ -8,11 +9,11 @@ use Rattle.varisat_names.specs.VarData.{fresh}
 use Rattle.varisat_names.specs.declared.variables.data.VarData.{VarData}
 use Rattle.varisat_names.specs.declared.variables.data.SamplingMode.TheVariants as sampling
 use Rattle.varisat.specs.States.{State, Verdict, Sat, IsRight, IsWellFormed}
-use Rattle.varisat.specs.Names.{Sample, bring, bring_next}
+use Rattle.varisat.specs.Names.{Sample, bring}
 use Rattle.varisat.specs.Calls.{with_naming}
 use Rattle.varisat.specs.Carried.{carry}
-use Rattle.varisat.specs.Spaces.{Spaces, Carrying, ModeFits, IdentitiesFit, NamesFit, ModesFit, UnitsFit, IsolationCase, NotIsolated, Apart, Forced, IsolationFits, AssumptionsFit, MarksFit, without_core, translation, Links, SpacesFit}
-use Rattle.varisat.proofs.SpacesMoves.{give, give_next, AreDead}
+use Rattle.varisat.specs.Spaces.{Spaces, Carrying, ModeFits, IdentitiesFit, NamesFit, ModesFit, UnitsFit, IsolationCase, NotIsolated, Apart, Forced, IsolationFits, AssumptionsFit, MarksFit, without_core, translation, IsPlain, Links, SpacesFit}
+use Rattle.varisat.proofs.SpacesMoves.{give}
 use Rattle.varisat_names.proofs.Maps.{updated-at, updated-other, updated-all, joined, chain-same, chain-some, chain-none, chain-through, is-some}
 use Rattle.varisat.proofs.SpacesAgree.{carry-same, map-same, working-same, core-same, holds-same, told-same, verdict-moved}
 
@@ -48,7 +49,7 @@ bring-well u s f = record {
 uncounted : (P : List Clause) (A : List Literal) (C : List ℕ) (v : Verdict) (i : ℕ) → (i ∈ C → ⊥) → IsRight P A C v → (a : Assignment) → v ≡ Sat a → a i ≡ false
 uncounted P A C v i n r a e = (subst (IsRight P A C) e r).2 i n
 
-module _ (w : Carrying) (p : Spaces) (s : State) (u x : ℕ) (k : Links w p s) (free : p.global_from_user u ≡ None) (dead : (p.kept x).deleted ≡ true) where
+module _ (w : Carrying) (p : Spaces) (s : State) (u x : ℕ) (k : Links w p s) (free : p.global_from_user u ≡ None) (dead : (p.kept x).deleted ≡ true) (lowest : (y : ℕ) → y < x → (p.kept y).deleted ≡ false) where
   id' : ℕ → Option ℕ
   id' = updated w.identity x (Some s.naming.made)
 
@@ -176,6 +177,27 @@ module _ (w : Carrying) (p : Spaces) (s : State) (u x : ℕ) (k : Links w p s) (
         (λ n h. let (l, a, b) = k.marks.only y h in (l, a, updated-other p.global_from_user u (Some x) (variable_of l) (not-new l a) ∙ b));
   }
 
+  -- where nothing was ever hidden the variable has the number of the new identity
+  new-number : IsPlain w.identity s.naming.made → s.naming.made ≡ x
+  new-number f =
+      ⊎_elim
+      (λ (h : s.naming.made < x). let (i, e) = linked w p s s.naming.made k (lowest s.naming.made h) in let b = k.identities.below s.naming.made i e in let q = f.only s.naming.made i e in absurd (omega (arith, b, q)))
+      (λ (h : x ≤ s.naming.made).
+      ⊎_elim
+      (λ (l : x < s.naming.made). let z : None ≡ Some x = sym none ∙ f.all x l in absurd cc)
+      (λ (l : s.naming.made ≤ x). omega (arith, h, l))
+      (cases_lt x s.naming.made))
+      (cases_lt s.naming.made x)
+
+  new-plain : IsPlain w.identity s.naming.made → IsPlain id' (s.naming.made + 1)
+  unfolding id'
+  new-plain f =
+      let n = new-number f in
+      record {
+        all = λ i h. updated-all (λ i o. i < s.naming.made + 1 → o ≡ Some i) w.identity x (Some s.naming.made) (λ _. ap Some n) i (λ m l. f.all i (omega (arith, l, m, n))) h;
+        only = λ y i. updated-all (λ y o. o ≡ Some i → i ≡ y) w.identity x (Some s.naming.made) (λ e. let q : s.naming.made ≡ i = cc in sym q ∙ n) y (λ m. f.only y i);
+      }
+
   identity-same : (v : ℕ) → chain p.global_from_solver id' v ≡ chain p.global_from_solver w.identity v
   unfolding id'
   identity-same v = chain-same p.global_from_solver id' w.identity v (λ y h. let r = k.solvers.live v y h in stays y r.0 r.1 ∙ sym r.1)
@@ -212,13 +234,7 @@ module _ (w : Carrying) (p : Spaces) (s : State) (u x : ℕ) (k : Links w p s) (
       well_formed = bring-well u s k.well_formed;
       few = k.few;
       shown = λ e y. updated-all (λ y o. o ≡ None → (kept' y).deleted ≡ true) p.user_from_global x (Some u) (λ q. absurd cc) y (λ n h. ap (λ d. d.deleted) (updated-other p.kept x fresh y n) ∙ k.shown e y h);
+      plain = λ e. new-plain (k.plain e);
       told = k.told;
     },
   )
-
--- names in a row
-pub next-given : (xs : List ℕ) (p : Spaces) (s : State) → SpacesFit p s → AreDead xs p → SpacesFit (give_next xs p) (with_naming (bring_next (length xs) s.naming) s)
-next-given [] p s f d = f
-next-given (x ∷ xs) p s (w, k) d =
-    let free : p.global_from_user p.watermark ≡ None = k.names.free p.watermark (let e = k.watermark in omega (arith, e)) in
-    next-given xs (give p.watermark x p) (with_naming (bring s.naming.watermark s.naming) s) (subst (λ n. SpacesFit (give p.watermark x p) (with_naming (bring n s.naming) s)) (sym k.watermark) (given w p s p.watermark x k free d.0)) d.1

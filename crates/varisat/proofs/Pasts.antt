@@ -27,7 +27,7 @@ use Rattle.varisat.specs.Usage.{AreAllShown, NeedsNamePastLimit}
 use Rattle.varisat.specs.VariableCalls as variables
 use Rattle.varisat.specs.Pasts.{Past, empty_past, accept, assume, MakesFewSteps}
 use Rattle.varisat.specs.declared.solver.SolverError.{SolverError}
-use Rattle.varisat.specs.declared.solver.SolverError.TheVariants.{Interrupted, OutOfMemory, Invalid, ClauseStoreFull, WitnessVar, VariableLimit, AssumedVar, ConfigOutOfRange, Dimacs}
+use Rattle.varisat.specs.declared.solver.SolverError.TheVariants.{Interrupted, ProofIoError, OutOfMemory, Invalid, ClauseStoreFull, WitnessVar, VariableLimit, AssumedVar, ConfigOutOfRange, Dimacs}
 use Rattle.varisat_literals.specs.Numbers.{variable_limit}
 use Rattle.varisat.proofs.CallStates.{like-refl}
 use Rattle.varisat.proofs.VerdictAnswers.{is-unknown-or-not, answer-sat, right-false, told-fails, core-answer, no-core, reopened-not-true, reopened-false, right-reopened, assumed-not-true, right-assumed}
@@ -191,6 +191,7 @@ add-clause p s t d (Ok u) g (v, state.Accepted n lim a) =
     let w = sym g.valid ∙ v in (accept d p, (w, past.Accepted (may-constrain p s d (g.knows w) lim) refl), accepted p s t d n a g w)
 add-clause p s t d (Err OutOfMemory) g a = breaks p s t g a.2
 add-clause p s t d (Err ClauseStoreFull) g a = breaks p s t g a.2
+add-clause p s t d (Err (ProofIoError cause)) g a = breaks p s t g a.3
 add-clause p s t d (Err Invalid) g a = (p, (sym g.valid ∙ a.0, refl), stays p s t a.1 g)
 add-clause p s t d (Err VariableLimit) g a = (p, (sym g.valid ∙ a.0, crowded p s d (knows-of p s g a.0) a.2, refl), stays p s t a.3 g)
 add-clause p s t d (Err (WitnessVar u)) g a = (p, (sym g.valid ∙ a.0, a.2, first-witness p s d u (knows-of p s g a.0) a.3, refl), stays p s t a.4 g)
@@ -426,7 +427,7 @@ told-on p s t n i c e k =
     (knows-like p s t s.naming s.ever_hidden t.ledger t.told n i c e k.capped k)
 
 like-told : (s t : State) (n : ℕ) → IsLike (retold t.told (with_steps n s)) t → IsLike (record s { ledger = t.ledger; told = t.told }) t
-like-told s t n e = record { naming = e.naming; ever_hidden = e.ever_hidden; clauses = e.clauses; assumptions = e.assumptions; counted = e.counted; verdict = e.verdict; ledger = refl; told = e.told }
+like-told s t n e = record { naming = e.naming; ever_hidden = e.ever_hidden; clauses = e.clauses; assumptions = e.assumptions; counted = e.counted; verdict = e.verdict; ledger = refl; told = e.told; proof = e.proof }
 
 -- some assignment satisfies the clauses and the assumptions where true is returned
 some-with : (p : Past) (s t : State) → Knows p s → state.TellsVerdict s true t → IsSatisfiableWith p.clauses p.assumptions
@@ -460,6 +461,12 @@ solve p s t (Err ClauseStoreFull) g (u, c, b) =
     let k = knows-of p s g b.valid in (
       record (past.with_steps t.ledger.steps p) { valid = false },
       (counts p s t (Err ClauseStoreFull) g k c, (sym g.valid ∙ b.valid, refl)),
+      record { valid = ap (λ x. x.valid) b.ledger; steps = refl; since = since-told p s t g (ap (λ x. x.since) b.ledger); settings = ap (λ x. x.settings) b.ledger ∙ g.settings; knows = λ e. absurd cc },
+    )
+solve p s t (Err (ProofIoError cause)) g (o, u, c, b) =
+    let k = knows-of p s g b.valid in (
+      record (past.with_steps t.ledger.steps p) { valid = false },
+      (counts p s t (Err (ProofIoError cause)) g k c, (sym g.valid ∙ b.valid, refl)),
       record { valid = ap (λ x. x.valid) b.ledger; steps = refl; since = since-told p s t g (ap (λ x. x.since) b.ledger); settings = ap (λ x. x.settings) b.ledger ∙ g.settings; knows = λ e. absurd cc },
     )
 solve p s t (Err Interrupted) g r =
@@ -500,6 +507,7 @@ config p s t u (Err (ConfigOutOfRange field)) g (v, n, e) = (p, (sym g.valid ∙
 config p s t u (Err Interrupted) g r = absurd r
 config p s t u (Err OutOfMemory) g r = absurd r
 config p s t u (Err ClauseStoreFull) g r = absurd r
+config p s t u (Err (ProofIoError cause)) g r = absurd r
 config p s t u (Err (WitnessVar v)) g r = absurd r
 config p s t u (Err VariableLimit) g r = absurd r
 config p s t u (Err (AssumedVar v)) g r = absurd r

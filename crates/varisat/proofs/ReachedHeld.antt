@@ -6,9 +6,9 @@ use Rattle.varisat_theory.specs.Literals.{Literal, Clause, variable_of, opposite
 use Rattle.varisat_theory.specs.Propagation.{Conflicts}
 use Rattle.varisat_theory.specs.Derivations.{Line, TakesOut}
 use Rattle.varisat_theory.specs.Held.{SameClauses, mentions, unless, without}
-use Rattle.varisat_theory.specs.Renaming.{KeepsOpposites, rename, rename_line}
+use Rattle.varisat_theory.specs.Renaming.{rename, rename_line}
 use Rattle.varisat_theory.specs.Counted.{DerivesBy}
-use Rattle.varisat_theory.specs.Journals.{Entry, Accepts, Leaves, Follow, Leads, LeadsBy, written, GoesOn}
+use Rattle.varisat_theory.specs.Journals.{Entry, Accepts, Leaves, Follow, Leads, written, GoesOn}
 use Rattle.varisat_theory.specs.Searches.{Search, Fits, IsLiteralOf}
 use Rattle.varisat_theory.specs.Outcomes.{Outcome, Holds}
 use Rattle.varisat_theory.specs.Outcomes as outcome
@@ -222,15 +222,19 @@ module _ (r : Translation) (share : List Clause) (n : ℕ) (lines : List Line) (
   shares-fits : Fits after t → (clean : List Clause) × (clean ⊆ after) × Fits clean t × SharesHeld (with_told (r.told ++ told_lines r lines) r) clean
   shares-fits fits =
       let on = lines-lead n r share lines after q d in
-      let z = cleaned r.identity t within (all_variables after) on.held after q.forgotten on.same fits in
-      (z.clean, z.part, z.fits, record {
-        held = on.held;
-        led = on.led;
-        forgotten = z.forgotten;
-        same = z.same;
-        inside = λ c l h i. ⊎_elim (λ e. absurd (z.apart (variable_of l) (in-all after c l (z.part c h) i) e c l h i refl)) (λ e. e) (is-some (r.identity (variable_of l)));
-        units = λ i b x e g none. let (c, h, u) = q.units i b x e g none in (c, z.more c h, u);
-      })
+      let z = cleaned r.identity t within (all_variables after) on.held after q.forgotten on.same fits in (
+        z.clean,
+        z.part,
+        z.fits,
+        record {
+          held = on.held;
+          led = on.led;
+          forgotten = z.forgotten;
+          same = z.same;
+          inside = λ c l h i. ⊎_elim (λ e. absurd (z.apart (variable_of l) (in-all after c l (z.part c h) i) e c l h i refl)) (λ e. e) (is-some (r.identity (variable_of l)));
+          units = λ i b x e g none. let (c, h, u) = q.units i b x e g none in (c, z.more c h, u);
+        },
+      )
 
   told-conflict : Conflicts after [] → ToldConflict (r.told ++ told_lines r lines)
   told-conflict k =

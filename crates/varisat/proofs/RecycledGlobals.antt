@@ -11,7 +11,7 @@ use Rattle.varisat.specs.States.{State}
 use Rattle.varisat.specs.Spaces.{Spaces, Carrying, ModeFits, IdentitiesFit, NamesFit, ModesFit, UnitsFit, IsolationCase, NotIsolated, Apart, Forced, IsolationFits, MarksFit, without_core, Translation, translation, Links, SpacesFit}
 use Rattle.varisat.proofs.SpacesAgree.{working-same, holds-same, verdict-moved}
 use Rattle.varisat_theory.specs.Journals.{Entry}
-use Rattle.varisat.specs.Journals.{retold, TellsMore}
+use Rattle.varisat.specs.Journals.{retold, TellsLeaving}
 use Rattle.varisat.proofs.VariableMoves.{recycle}
 use Rattle.varisat.proofs.CallStates.{told-well}
 use Rattle.varisat.proofs.ReachedHeld.{leaving, told-gone}
@@ -100,38 +100,41 @@ module _ (w : Carrying) (p : Spaces) (s : State) (x i : ℕ) (k : Links w p s) (
   was-hidden : s.ever_hidden ≡ false → ⊥
   was-hidden e = let z : true ≡ false = sym (k.shown e x unnamed) ∙ k.identities.live x i at in cc
 
-  pub recycled : (told : List Entry) × TellsMore 0 s.told told × SpacesFit (recycle x p) (retold told s)
+  pub recycled : (told : List Entry) × TellsLeaving s.ever_hidden s.told told × SpacesFit (recycle x p) (retold told s)
   unfolding id' kept'
   recycled =
       let gone = leaving (without_core p.outcome) i in
       let before = translation w p s.told in
       let after : Translation = record { identity = chain p.global_from_solver id'; global = updated w.global i None; forced = w.forced; told = s.told ++ gone } in (
-    s.told ++ gone,
-    tells 0 s.told gone (leaving-goes s.told (without_core p.outcome) i),
-    (record { identity = id'; global = updated w.global i None; forced = w.forced },
-    record {
-      identities = left-identities;
-      names = left-names;
-      modes = left-modes;
-      watermark = k.watermark;
-      globals = k.globals;
-      units = left-units;
-      isolation = left-isolation;
-      solvers = record { one_to_one = k.solvers.one_to_one; live = λ v y h. let (j, e, c) = k.solvers.live v y h in (j, left y j e (solver-other v y h), c) };
-      holds = holds-same s.clauses before after p.search (without_core p.outcome) identity-same (λ j. refl)
-          (λ share q. told-gone before after i none-for identity-same (λ j. refl) (λ j y. updated-all (λ j o. o ≡ Some y → (j ≡ i → ⊥) × (w.global j ≡ Some y)) w.global i None (λ e. absurd cc) j (λ n e. (n, e))) share (without_core p.outcome) refl q)
-          k.holds;
-      assumptions = k.assumptions;
-      marks = left-marks;
-      working = working-same s.clauses (chain p.global_from_solver w.identity) (chain p.global_from_solver id') s.assumptions p.working (λ l h. identity-same (variable_of l)) k.working;
-      verdict = verdict-moved w.identity id' p.model (updated p.model x false) p.outcome s.verdict
-          (λ a e f y j. updated-all (λ y o. o ≡ Some j → a j ≡ updated p.model x false y) w.identity x None (λ q. absurd cc) y (λ n h. f y j h ∙ sym (updated-other p.model x false y n)))
-          k.verdict;
-      core = k.core;
-      right = k.right;
-      well_formed = told-well s (retold (s.told ++ gone) s) k.well_formed;
-      few = k.few;
-      shown = λ e y. updated-all (λ y d. p.user_from_global y ≡ None → d.deleted ≡ true) p.kept x dead (λ _. refl) y (λ n h. k.shown e y h);
-      told = leaving-told s.told s.clauses s.ever_hidden (without_core p.outcome) i was-hidden k.told;
-    }),
-  )
+        s.told ++ gone,
+        record { more = tells 0 s.told gone (leaving-goes s.told (without_core p.outcome) i); quiet = λ e. absurd (was-hidden e) },
+        (
+          record { identity = id'; global = updated w.global i None; forced = w.forced },
+          record {
+            identities = left-identities;
+            names = left-names;
+            modes = left-modes;
+            watermark = k.watermark;
+            globals = k.globals;
+            units = left-units;
+            isolation = left-isolation;
+            solvers = record { one_to_one = k.solvers.one_to_one; live = λ v y h. let (j, e, c) = k.solvers.live v y h in (j, left y j e (solver-other v y h), c) };
+            holds = holds-same s.clauses before after p.search (without_core p.outcome) identity-same (λ j. refl)
+                (λ share q. told-gone before after i none-for identity-same (λ j. refl) (λ j y. updated-all (λ j o. o ≡ Some y → (j ≡ i → ⊥) × (w.global j ≡ Some y)) w.global i None (λ e. absurd cc) j (λ n e. (n, e))) share (without_core p.outcome) refl q)
+                k.holds;
+            assumptions = k.assumptions;
+            marks = left-marks;
+            working = working-same s.clauses (chain p.global_from_solver w.identity) (chain p.global_from_solver id') s.assumptions p.working (λ l h. identity-same (variable_of l)) k.working;
+            verdict = verdict-moved w.identity id' p.model (updated p.model x false) p.outcome s.verdict
+                (λ a e f y j. updated-all (λ y o. o ≡ Some j → a j ≡ updated p.model x false y) w.identity x None (λ q. absurd cc) y (λ n h. f y j h ∙ sym (updated-other p.model x false y n)))
+                k.verdict;
+            core = k.core;
+            right = k.right;
+            well_formed = told-well s (retold (s.told ++ gone) s) k.well_formed;
+            few = k.few;
+            shown = λ e y. updated-all (λ y d. p.user_from_global y ≡ None → d.deleted ≡ true) p.kept x dead (λ _. refl) y (λ n h. k.shown e y h);
+            plain = λ e. absurd (was-hidden e);
+            told = leaving-told s.told s.clauses s.ever_hidden (without_core p.outcome) i was-hidden k.told;
+          },
+        ),
+      )

@@ -1,8 +1,8 @@
 -- What the calls of a run tell together.
-use Rattle.std.proofs.Common.{◌≡◌, ℕ, ◌+◌, ◌-◌, Bool, true, false, Option, List, [], ◌∷◌, ◌++◌, map, ◌≢◌, ◌⊎◌, inl, inr, ⊎_elim, Result, Ok, Err, sym, ap, ◌∙◌, subst, refl, arith}
+use Rattle.std.proofs.Common.{◌≡◌, ℕ, ◌+◌, ◌-◌, Bool, true, false, Option, List, [], ◌∷◌, ◌++◌, map, inl, inr, ⊎_elim, Result, Ok, Err, sym, ap, ◌∙◌, subst, refl, arith}
 use Rattle.varisat_theory.specs.Literals.{Literal, Clause}
 use Rattle.std.specs.declared.alloc.AllocError.{AllocError}
-use Rattle.varisat_theory.specs.Journals.{Assumes, LeadsBy}
+use Rattle.varisat_theory.specs.Journals.{Accepts, Assumes, LeadsBy}
 use Rattle.varisat_formula.specs.Dimacs.{Reading}
 use Rattle.varisat_formula.specs.Streams.{Stand}
 use Rattle.varisat.specs.States.{State, Ledger, empty_state}
@@ -22,9 +22,9 @@ use Rattle.varisat_formula.specs.declared.dimacs.error.DimacsError.{DimacsError}
 use Rattle.varisat.specs.VariableCalls as variables
 use Rattle.varisat.specs.Journals.{TellsMore}
 use Rattle.varisat.specs.declared.solver.SolverError.{SolverError}
-use Rattle.varisat.specs.declared.solver.SolverError.TheVariants.{OutOfMemory, Invalid, ClauseStoreFull, WitnessVar, AssumedVar, VariableLimit, Interrupted, ConfigOutOfRange, Dimacs}
+use Rattle.varisat.specs.declared.solver.SolverError.TheVariants.{OutOfMemory, Invalid, ProofIoError, ClauseStoreFull, WitnessVar, AssumedVar, VariableLimit, Interrupted, ConfigOutOfRange}
 use Rattle.varisat.proofs.VerdictAnswers.{is-unknown-or-not}
-use Rattle.varisat.proofs.ToldEntries.{tells-nothing, tells-through, tells, assumes-goes}
+use Rattle.varisat.proofs.ToldEntries.{tells-nothing, tells-through, tells, accepts-goes, assumes-goes}
 
 -- From a valid state steps were made, and as many clauses that lines added count at most.
 pub record TellsOn (s t : State) : Type 0 where
@@ -69,9 +69,12 @@ no-way s t b v = let z : false ≡ true = sym (ap (λ (x : Ledger). x.valid) b.l
 
 add-clause : (s t : State) (d : Clause) (r : Result (Unit {0}) SolverError) → state.AddsClause s d r t → state.IsValid t → TellsOn s t
 add-clause s t d (Ok u) (v, state.Ignored n e) w = tells-anew s t e w
-add-clause s t d (Ok u) (v, state.Accepted n lim (x, after, e)) w = tells-plainly s t v (ap (λ (x : Ledger). x.steps) e.ledger) e.told
+add-clause s t d (Ok u) (v, state.Accepted n lim (x, after, e)) w =
+    let c = map (through_names (name_all d s.naming)) d in
+    tells-plainly s t v (ap (λ (x : Ledger). x.steps) e.ledger) (tells-through 0 0 s.told (s.told ++ Accepts c ∷ []) t.told (tells 0 s.told (Accepts c ∷ []) (accepts-goes s.told c)) e.told)
 add-clause s t d (Err OutOfMemory) a w = absurd (no-way s t a.2 w)
 add-clause s t d (Err ClauseStoreFull) a w = absurd (no-way s t a.2 w)
+add-clause s t d (Err (ProofIoError cause)) a w = absurd (no-way s t a.3 w)
 add-clause s t d (Err Invalid) a w = tells-same s t a.1 w
 add-clause s t d (Err VariableLimit) a w = tells-same s t a.3 w
 add-clause s t d (Err (WitnessVar u)) a w = tells-same s t a.4 w
@@ -152,6 +155,7 @@ solve s t (Ok b) r w = record {
 }
 solve s t (Err OutOfMemory) (u, c, b) w = absurd (no-way (state.with_steps t.ledger.steps s) t b w)
 solve s t (Err ClauseStoreFull) (u, c, b) w = absurd (no-way (state.with_steps t.ledger.steps s) t b w)
+solve s t (Err (ProofIoError cause)) (o, u, c, b) w = absurd (no-way (state.with_steps t.ledger.steps s) t b w)
 solve s t (Err Interrupted) r w = record {
   valid = r.valid;
   made = t.ledger.steps - s.ledger.steps;

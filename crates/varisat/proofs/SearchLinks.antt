@@ -51,6 +51,7 @@ relinked w p q s t k l = record {
   well_formed = told-well s t k.well_formed;
   few = l.few;
   shown = k.shown;
+  plain = k.plain;
   told = l.told;
 }
 
@@ -89,5 +90,6 @@ relinked-marks w p q s t k a isolation marks well l = record {
   well_formed = well;
   few = l.few;
   shown = λ o y h. a.deleted y ∙ k.shown o y h;
+  plain = k.plain;
   told = l.told;
 }

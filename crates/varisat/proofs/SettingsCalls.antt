@@ -3,6 +3,7 @@ use Rattle.std.proofs.Common.{◌≡◌, ◌∙◌, ◌-◌, ℕ, Bool, not, len
 use Rattle.varisat_theory.specs.Membership.{◌∈◌}
 use Rattle.varisat_names.specs.Settings.{updated_settings}
 use Rattle.varisat_names.specs.Variables.{Tables}
+use Rattle.varisat_tracer.specs.Tracing.{TracerState}
 use Rattle.varisat_names.specs.declared.config.SolverConfigUpdate.{SolverConfigUpdate}
 use Rattle.varisat_search.specs.declared.context.Context.{Context}
 use Rattle.varisat_clause.specs.ClauseActivities.{ActivityScale}
@@ -18,25 +19,27 @@ use Rattle.varisat.proofs.CallStates.{ledger_of, none-since}
 use Rattle.varisat.proofs.VariablesInUse.{same-in-use}
 
 -- what a solver with the parts holds
-abbrev pub summary_of : {A : Type 0} → Tables → Bool → ℕ → Context A → Summary
-summary_of tables started changed_at x = record { tables = tables; search = view x; assumed = x.assumptions; sat_state = x.solver_state.sat_state; ledger = ledger_of (not x.solver_state.state_is_invalid) started x.schedule.steps (x.schedule.steps - changed_at) x.solver_config }
+abbrev pub summary_of : {A : Type 0} → TracerState → Bool → ℕ → Context A → Summary
+summary_of parts started changed_at x = record { tables = parts.tables; opened = parts.proof.opened; search = view x; assumed = x.assumptions; sat_state = x.solver_state.sat_state; ledger = ledger_of (not x.solver_state.state_is_invalid) started x.schedule.steps (x.schedule.steps - changed_at) x.solver_config }
 
-pub stands-updated : {A : Type 0} (tables : Tables) (started : Bool) (changed_at anew : ℕ) (x y : Context A) (u : SolverConfigUpdate) (b : ActivityScale) (a : Activities) (s : State) → y ≡ record x { clause_activity = b; solver_config = updated_settings x.solver_config u; vsids = a } → anew ≡ y.schedule.steps → StandsFor (summary_of tables started changed_at x) s → StandsFor (summary_of tables started anew y) (with_update u s)
-stands-updated {A = A} tables started changed_at anew x y u b a s e n st =
+pub stands-updated : {A : Type 0} (parts : TracerState) (started : Bool) (changed_at anew : ℕ) (x y : Context A) (u : SolverConfigUpdate) (b : ActivityScale) (a : Activities) (s : State) → y ≡ record x { clause_activity = b; solver_config = updated_settings x.solver_config u; vsids = a } → anew ≡ y.schedule.steps → StandsFor (summary_of parts started changed_at x) s → StandsFor (summary_of parts started anew y) (with_update u s)
+stands-updated {A = A} parts started changed_at anew x y u b a s e n st =
     let same : anew ≡ x.schedule.steps = n ∙ ap (λ (z : Context A). z.schedule.steps) e in
-    subst (λ (z : Context A). StandsFor (summary_of tables started anew z) (with_update u s)) (sym e) (record {
+    subst (λ (z : Context A). StandsFor (summary_of parts started anew z) (with_update u s)) (sym e) (record {
       ledger = ap (λ (l : Ledger). record l { since = 0; settings = updated_settings l.settings u }) st.ledger ∙ ap (λ k. ledger_of (not x.solver_state.state_is_invalid) started x.schedule.steps k (updated_settings x.solver_config u)) (none-since anew x.schedule.steps same);
-      fits = λ v. let (w, k) = st.fits v in (w, ledger-free w (spaces_of tables (view x) x.assumptions x.solver_state.sat_state) s (record s.ledger { since = 0; settings = updated_settings s.ledger.settings u }) k);
+      fits = λ v. let (w, k) = st.fits v in (w, ledger-free w (spaces_of parts.tables (view x) x.assumptions x.solver_state.sat_state) s (record s.ledger { since = 0; settings = updated_settings s.ledger.settings u }) k);
+      proof = st.proof;
     })
 
-pub stands-same : {A : Type 0} (tables : Tables) (started : Bool) (changed_at : ℕ) (x y : Context A) (s : State) → y ≡ x → StandsFor (summary_of tables started changed_at x) s → StandsFor (summary_of tables started changed_at y) s
-stands-same {A = A} tables started changed_at x y s e st = subst (λ (z : Context A). StandsFor (summary_of tables started changed_at z) s) (sym e) st
+pub stands-same : {A : Type 0} (parts : TracerState) (started : Bool) (changed_at : ℕ) (x y : Context A) (s : State) → y ≡ x → StandsFor (summary_of parts started changed_at x) s → StandsFor (summary_of parts started changed_at y) s
+stands-same {A = A} parts started changed_at x y s e st = subst (λ (z : Context A). StandsFor (summary_of parts started changed_at z) s) (sym e) st
 
 -- the same solver, where steps are counted anew
-pub stands-anew : {A : Type 0} (tables : Tables) (started : Bool) (changed_at anew : ℕ) (x : Context A) (s : State) → anew ≡ x.schedule.steps → StandsFor (summary_of tables started changed_at x) s → StandsFor (summary_of tables started anew x) (count_anew s)
-stands-anew tables started changed_at anew x s n st = record {
+pub stands-anew : {A : Type 0} (parts : TracerState) (started : Bool) (changed_at anew : ℕ) (x : Context A) (s : State) → anew ≡ x.schedule.steps → StandsFor (summary_of parts started changed_at x) s → StandsFor (summary_of parts started anew x) (count_anew s)
+stands-anew parts started changed_at anew x s n st = record {
   ledger = ap (λ (l : Ledger). record l { since = 0 }) st.ledger ∙ ap (λ k. ledger_of (not x.solver_state.state_is_invalid) started x.schedule.steps k x.solver_config) (none-since anew x.schedule.steps n);
-  fits = λ v. let (w, k) = st.fits v in (w, ledger-free w (spaces_of tables (view x) x.assumptions x.solver_state.sat_state) s (record s.ledger { since = 0 }) k);
+  fits = λ v. let (w, k) = st.fits v in (w, ledger-free w (spaces_of parts.tables (view x) x.assumptions x.solver_state.sat_state) s (record s.ledger { since = 0 }) k);
+  proof = st.proof;
 }
 
 -- what a solver keeps with other settings

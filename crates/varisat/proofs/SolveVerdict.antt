@@ -327,6 +327,7 @@ spaces-same p q s e (w, k) = (
     well_formed = k.well_formed;
     few = subst (λ n. n ≤ length s.counted) (sym e.var_count) k.few;
     shown = λ h x n. ap (λ y. y.deleted) (e.maps.kept x) ∙ k.shown h x (sym (e.maps.user_from_global x) ∙ n);
+    plain = k.plain;
     told = k.told;
   },
 )

@@ -22,16 +22,6 @@ give u x p = record p {
   model = updated p.model x false;
 }
 
--- the names from the watermark on come into use with these variables in turn
-abbrev pub give_next : List ℕ → Spaces → Spaces
-give_next [] p = p
-give_next (x ∷ xs) p = give_next xs (give p.watermark x p)
-
--- each of them is not live when its turn comes
-abbrev pub AreDead : List ℕ → Spaces → Type 0
-AreDead [] p = Unit {0}
-AreDead (x ∷ xs) p = ((p.kept x).deleted ≡ true) × AreDead xs (give p.watermark x p)
-
 -- the global variable gets the solver variable
 abbrev pub take_solver : ℕ → ℕ → Spaces → Spaces
 take_solver x v p = record p { solver_from_global = updated p.solver_from_global x (Some v); global_from_solver = updated p.global_from_solver v (Some x) }

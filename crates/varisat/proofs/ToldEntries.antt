@@ -1,19 +1,18 @@
 -- What is told further, and what it makes of what was told.
-use Rattle.std.proofs.Common.{◌≡◌, ℕ, ◌+◌, ◌≤◌, Bool, true, false, List, [], ◌∷◌, ◌++◌, inl, sym, ap, ap₂, ◌∙◌, subst, refl, append_assoc, arith}
+use Rattle.std.proofs.Common.{◌≡◌, ℕ, ◌+◌, ◌≤◌, Bool, false, List, [], ◌∷◌, ◌++◌, inl, sym, ap, ◌∙◌, subst, refl, append_assoc, arith}
 use Rattle.std.proofs.lemmas.List.{append-nil}
 use Rattle.varisat_theory.specs.Literals.{Literal, Clause}
 use Rattle.varisat_theory.specs.Derivations.{Line}
 use Rattle.varisat_theory.specs.Counted.{added}
-use Rattle.varisat_theory.specs.Propagation.{Conflicts}
 use Rattle.varisat_theory.specs.Held.{without}
-use Rattle.varisat_theory.specs.Journals.{Entry, Accepts, Assumes, Leaves, Fails, Leads, LeadsBy, accepted_of, lines_of, NoneLeaves, written, GoesOn}
+use Rattle.varisat_theory.specs.Journals.{Entry, Accepts, Assumes, Leaves, Fails, accepted_of, lines_of, written, GoesOn}
 use Rattle.varisat_theory.proofs.Journals.{goes_on_further, accepted_append, lines_append, stays_append, written_accepts, written_stays}
 use Rattle.varisat_theory.specs.Outcomes.{Outcome}
 use Rattle.varisat_theory.specs.Outcomes as outcome
 use Rattle.varisat_theory.proofs.StepStands.{added_append}
 use Rattle.varisat.specs.Spaces.{IsTold}
 use Rattle.varisat.proofs.ReachedHeld.{leaving}
-use Rattle.varisat.specs.Journals.{TellsMore}
+use Rattle.varisat.specs.Journals.{TellsMore, TellsLeaving}
 
 pub tells-nothing : (told : List Entry) → TellsMore 0 told told
 tells-nothing told = record { entries = []; joined = sym (append-nil told); goes = λ held d. (held, refl) }
@@ -27,6 +26,13 @@ tells-through n m a b c s t = record {
 
 pub tells : (n : ℕ) (told es : List Entry) → GoesOn n told es → TellsMore n told (told ++ es)
 tells n told es g = record { entries = es; joined = refl; goes = g }
+
+-- as variables leave
+pub leaving-nothing : (hidden : Bool) (told : List Entry) → TellsLeaving hidden told told
+leaving-nothing hidden told = record { more = tells-nothing told; quiet = λ e. refl }
+
+pub leaving-through : (hidden : Bool) (a b c : List Entry) → TellsLeaving hidden a b → TellsLeaving hidden b c → TellsLeaving hidden a c
+leaving-through hidden a b c s t = record { more = tells-through 0 0 a b c s.more t.more; quiet = λ e. t.quiet e ∙ s.quiet e }
 
 -- and then others of which nothing counts
 pub tells-also : (n : ℕ) (a b : List Entry) (es : List Entry) → TellsMore n a b → GoesOn 0 b es → TellsMore n a (b ++ es)

@@ -1,5 +1,5 @@
 -- What was told as a whole.
-use Rattle.std.proofs.Common.{◌≡◌, true, false, List, [], refl, subst}
+use Rattle.std.proofs.Common.{◌≡◌, true, List, [], subst}
 use Rattle.varisat_theory.specs.Literals.{Clause}
 use Rattle.varisat_theory.specs.Derivations.{IsDerivation, Refutes}
 use Rattle.varisat_theory.specs.Journals.{Leads, lines_of}
@@ -27,6 +27,7 @@ journal-of g s st v =
       held = held;
       led = led;
       accepted = k.told.accepted;
+      written = (st.proof v).written;
       derives = λ e.
           let (last, d, same) = leads_derives [] s.told held (k.told.stays e) led in
           subst (λ P. IsDerivation P (lines_of s.told)) k.told.accepted (derives_derivation _ (lines_of s.told) last d);

@@ -1,15 +1,15 @@
 -- How many steps a call of `solve` makes.
-use Rattle.std.specs.Prelude.{◌≡◌, ℕ, ◌+◌, ◌-◌, ◌*◌, ◌^◌, ◌<◌, ◌≤◌, Bool, Option, Some, None, ◌⊎◌, Result, Ok, Err}
+use Rattle.std.specs.Prelude.{◌≡◌, ℕ, ◌+◌, ◌-◌, ◌*◌, ◌^◌, ◌<◌, ◌≤◌, Bool, true, Option, Some, None, ◌⊎◌, Result, Ok, Err}
 use Rattle.varisat_search.specs.declared.error.StepError.{StepError}
 use Rattle.varisat.specs.declared.solver.SolverError.{SolverError}
 use Rattle.varisat.specs.declared.solver.SolverError.TheVariants.{Interrupted}
 use Rattle.varisat.specs.Refusals.{step_refusal}
 
--- What the call returns where the search found a verdict or none, or could not keep a clause.
+-- What the call returns where the search found a verdict or none, or came to no end.
 abbrev pub told_verdict : Result (Option Bool) StepError → Result Bool SolverError
 told_verdict (Ok (Some b)) = Ok b
 told_verdict (Ok None) = Err Interrupted
-told_verdict (Err e) = Err (step_refusal e)
+told_verdict (Err e) = Err (step_refusal true e)
 
 -- How the call counts its steps that begins with the verdict Unknown, where n variables are counted and it may make `max_steps` of them. Since the last change `since` were made before it.
 pub record CountsSteps (n max_steps since before after : ℕ) (answer : Result Bool SolverError) : Type 0 where

@@ -8,7 +8,9 @@ use Rattle.varisat_theory.specs.Literals.{Literal, Clause, variable_of, opposite
 use Rattle.varisat_theory.specs.Counted.{added}
 use Rattle.varisat_theory.specs.Journals.{lines_of}
 use Rattle.varisat_theory.specs.Journals.{Assumes as Assumed}
+use Rattle.varisat_theory.specs.Journals as entry
 use Rattle.varisat.specs.Journals.{retold, TellsMore, ToldConflict}
+use Rattle.varisat.specs.OpenProofs.{IsOpen, GoesOnWriting}
 use Rattle.varisat_formula.specs.Dimacs.{Reading}
 use Rattle.varisat_formula.specs.Streams.{Stand}
 use Rattle.varisat.specs.States.{State, join_counted, Verdict, Unknown, Sat, Unsat, UnsatUnderAssumptions, HasRightVerdict, IsWellFormed}
@@ -21,7 +23,7 @@ use Rattle.varisat.specs.Updates as updates
 use Rattle.varisat.specs.Budgets.{CountsSteps}
 use Rattle.varisat.specs.Additions as additions
 use Rattle.varisat.specs.declared.solver.SolverError.{SolverError}
-use Rattle.varisat.specs.declared.solver.SolverError.TheVariants.{Interrupted, OutOfMemory, Invalid, ClauseStoreFull, WitnessVar, VariableLimit}
+use Rattle.varisat.specs.declared.solver.SolverError.TheVariants.{Interrupted, ProofIoError, OutOfMemory, Invalid, ClauseStoreFull, WitnessVar, VariableLimit}
 use Rattle.varisat_literals.specs.Numbers.{variable_limit}
 
 abbrev pub is_valid : State → Bool
@@ -30,7 +32,7 @@ is_valid s = s.ledger.valid
 abbrev pub IsValid : State → Type 0
 IsValid s = is_valid s ≡ true
 
--- What a user can know in t is what it is in s, but for what a call tells beside: entries that add no clause that counts.
+-- What a user can know in t is what it is in s, but for what a call tells beside, entries that add no clause that counts, and for further bytes of an open proof.
 pub record IsLike (s t : State) : Type 0 where
   pub naming : t.naming ≡ s.naming
   pub ever_hidden : t.ever_hidden ≡ s.ever_hidden
@@ -40,6 +42,7 @@ pub record IsLike (s t : State) : Type 0 where
   pub verdict : t.verdict ≡ s.verdict
   pub ledger : t.ledger ≡ s.ledger
   pub told : TellsMore 0 s.told t.told
+  pub proof : GoesOnWriting s.proof t.proof
 
 -- An error from which there is no way back: from then on the state is invalid. Nothing else is told of it but that it is well-formed, and what the ledger tells.
 pub record Invalidates (s t : State) : Type 0 where
@@ -94,9 +97,9 @@ pub data VerdictAfter (clauses : List Clause) (c : Clause) (v w : Verdict) : Typ
   Refuted : w ≡ Unsat → (IsSatisfiable (clauses ++ c ∷ []) → ⊥) → VerdictAfter clauses c v w
   Reopened : w ≡ reopened_verdict v → (ContradictsUnit clauses c → ⊥) → VerdictAfter clauses c v w
 
--- the clause, over identities, is accepted
+-- the clause, over identities, is accepted, and told so
 abbrev pub append_clause : Clause → Verdict → State → State
-append_clause c w s = record s { clauses = s.clauses ++ c ∷ []; counted = join_counted s.counted (map variable_of c); verdict = w }
+append_clause c w s = record s { clauses = s.clauses ++ c ∷ []; counted = join_counted s.counted (map variable_of c); verdict = w; told = s.told ++ entry.Accepts c ∷ [] }
 
 -- the names of the clause are named, and it is accepted as they carry it to identities
 abbrev pub Accepts : State → Clause → State → Type 0
@@ -116,6 +119,7 @@ AddsClause s d (Err VariableLimit) t = IsValid s × (s.verdict ≢ Unsat) × (Is
 AddsClause s d (Err (WitnessVar u)) t = IsValid s × (s.verdict ≢ Unsat) × (IsPastLimit d → ⊥) × IsFirstWitness s.naming d u × (t ≡ s)
 AddsClause s d (Err OutOfMemory) t = (s.verdict ≢ Unsat) × MayConstrain s.naming d × Invalidates s t
 AddsClause s d (Err ClauseStoreFull) t = (s.verdict ≢ Unsat) × MayConstrain s.naming d × Invalidates s t
+AddsClause s d (Err (ProofIoError cause)) t = IsOpen s.proof × (s.verdict ≢ Unsat) × MayConstrain s.naming d × Invalidates s t
 AddsClause s d (Err _) t = ⊥
 
 -- The calls `add_formula` and `add_dimacs_cnf`.
@@ -228,6 +232,7 @@ Solves s (Ok b) t = TellsVerdict s b t
 Solves s (Err Invalid) t = IsRefusedInvalid s t
 Solves s (Err OutOfMemory) t = (s.verdict ≡ Unknown) × CountsCall s (Err OutOfMemory) t × Invalidates (with_steps t.ledger.steps s) t
 Solves s (Err ClauseStoreFull) t = (s.verdict ≡ Unknown) × CountsCall s (Err ClauseStoreFull) t × Invalidates (with_steps t.ledger.steps s) t
+Solves s (Err (ProofIoError cause)) t = IsOpen s.proof × (s.verdict ≡ Unknown) × CountsCall s (Err (ProofIoError cause)) t × Invalidates (with_steps t.ledger.steps s) t
 Solves s (Err Interrupted) t = IsInterrupted s t
 Solves s (Err _) t = ⊥
 

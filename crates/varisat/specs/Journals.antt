@@ -1,9 +1,11 @@
 -- What a call tells: entries that go on from what was told before.
-use Rattle.std.specs.Prelude.{◌≡◌, ℕ, false, List, [], ◌++◌}
+use Rattle.std.specs.Prelude.{◌≡◌, ℕ, Bool, false, List, [], ◌++◌}
 use Rattle.varisat_theory.specs.Literals.{Clause}
 use Rattle.varisat_theory.specs.Propagation.{Conflicts}
 use Rattle.varisat_theory.specs.Journals.{Entry, Leads, LeadsBy, accepted_of, lines_of, GoesOn}
 use Rattle.varisat_theory.specs.Derivations.{IsDerivation, Refutes}
+use Rattle.varisat_proof.specs.Proving.{ProofParts, IsTold}
+use Rattle.varisat.specs.OpenProofs.{IsWrittenIf}
 use Rattle.varisat.specs.States.{State, Unsat}
 
 -- the same state once more was told
@@ -16,15 +18,27 @@ pub record TellsMore (n : ℕ) (before after : List Entry) : Type 0 where
   pub joined : after ≡ before ++ entries
   pub goes : GoesOn n before entries
 
+-- Entries are told as variables leave: nothing as long as none was ever hidden.
+pub record TellsLeaving (hidden : Bool) (before after : List Entry) : Type 0 where
+  pub more : TellsMore 0 before after
+  pub quiet : hidden ≡ false → after ≡ before
+
+-- An open proof, and a checker, were told entries over global variables. As long as nothing was ever hidden these are the further entries themselves.
+pub record TellsProof (hidden : Bool) (before after : List Entry) (old new : ProofParts) : Type 0 where
+  pub given : List Entry
+  pub told : IsTold old given new
+  pub plain : hidden ≡ false → after ≡ before ++ given
+
 -- what was told leads to clauses over which propagation conflicts
 abbrev pub ToldConflict : List Entry → Type 0
 ToldConflict told = (held : List Clause) × Leads [] told held × Conflicts held []
 
--- What was told is right, entry by entry. Its clauses are those accepted, in order. Where nothing was ever hidden its lines are a derivation from these, and under Unsat they refute them.
+-- What was told is right, entry by entry, and an open proof has its lines since it was opened, as long as nothing was ever hidden. Its clauses are those accepted, in order. Where nothing was ever hidden its lines are a derivation from these, and under Unsat they refute them.
 pub record IsJournal (s : State) : Type 0 where
   pub held : List Clause
   pub led : Leads [] s.told held
   pub accepted : accepted_of s.told ≡ s.clauses
+  pub written : IsWrittenIf s.ever_hidden s.told s.proof
   pub derives : s.ever_hidden ≡ false → IsDerivation s.clauses (lines_of s.told)
   pub refutes : s.ever_hidden ≡ false → s.verdict ≡ Unsat → Refutes s.clauses (lines_of s.told)
 

@@ -1,4 +1,5 @@
 pub mod Names
+pub mod OpenProofs
 pub mod States
 pub mod Models
 pub mod Refusals

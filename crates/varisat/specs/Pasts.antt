@@ -13,7 +13,7 @@ use Rattle.varisat.specs.Calls.{IsPastLimit, MayConstrain, IsCrowded}
 use Rattle.varisat.specs.Additions as additions
 use Rattle.varisat.specs.Usage as usage
 use Rattle.varisat.specs.declared.solver.SolverError.{SolverError}
-use Rattle.varisat.specs.declared.solver.SolverError.TheVariants.{Interrupted, OutOfMemory, Invalid, ClauseStoreFull, WitnessVar, VariableLimit}
+use Rattle.varisat.specs.declared.solver.SolverError.TheVariants.{Interrupted, ProofIoError, OutOfMemory, Invalid, ClauseStoreFull, WitnessVar, VariableLimit}
 use Rattle.varisat_literals.specs.Numbers.{variable_limit}
 
 -- Clauses and assumptions are kept over identities, as the names that were in use carried them when they were given: a name that becomes free may come back for another variable, and what was said before still speaks of the first.
@@ -65,6 +65,7 @@ AddsClause p c (Err VariableLimit) q = (p.valid ≡ true) × (IsPastLimit c ⊎ 
 AddsClause p c (Err (WitnessVar u)) q = (p.valid ≡ true) × (IsPastLimit c → ⊥) × IsFirstWitness p.naming c u × (q ≡ p)
 AddsClause p c (Err OutOfMemory) q = Invalidates p q
 AddsClause p c (Err ClauseStoreFull) q = Invalidates p q
+AddsClause p c (Err (ProofIoError cause)) q = Invalidates p q
 AddsClause p c (Err _) q = ⊥
 
 abbrev pub adding : additions.Adding Past
@@ -124,6 +125,7 @@ Solves p (Ok false) q = (p.valid ≡ true) × (IsSatisfiableWith p.clauses p.ass
 Solves p (Err Invalid) q = (p.valid ≡ false) × (q ≡ p)
 Solves p (Err OutOfMemory) q = CountsCall p (Err OutOfMemory) q × Invalidates (with_steps q.steps p) q
 Solves p (Err ClauseStoreFull) q = CountsCall p (Err ClauseStoreFull) q × Invalidates (with_steps q.steps p) q
+Solves p (Err (ProofIoError cause)) q = CountsCall p (Err (ProofIoError cause)) q × Invalidates (with_steps q.steps p) q
 Solves p (Err Interrupted) q = (p.valid ≡ true) × (p.has_model ≡ false) × (p.has_core ≡ false) × CountsCall p (Err Interrupted) q × (q ≡ with_steps q.steps p)
 Solves p (Err _) q = ⊥
 

@@ -181,6 +181,12 @@ pub record IsTold (told : List Entry) (clauses : List Clause) (ever_hidden : Boo
   pub accepted : accepted_of told ≡ clauses
   pub stays : ever_hidden ≡ false → NoneLeaves told
 
+-- Each identity that was made is that of the global variable of its number, as long as none leaves.
+pub record IsPlain (identity : ℕ → Option ℕ) (made : ℕ) : Type 0 where
+  pub all : (i : ℕ) → i < made → identity i ≡ Some i
+  pub only : (x i : ℕ) → identity x ≡ Some i → i ≡ x
+
+-- What a solver holds stands for the state.
 pub record Links (w : Carrying) (p : Spaces) (s : State) : Type 0 where
   pub identities : IdentitiesFit w.identity w.global p.kept s.naming.made
   pub names : NamesFit w.identity p.global_from_user p.user_from_global s.naming.names s.naming.watermark
@@ -203,6 +209,8 @@ pub record Links (w : Carrying) (p : Spaces) (s : State) : Type 0 where
   pub few : p.var_count ≤ length s.counted
   -- where nothing was ever hidden, each live global variable has a name
   pub shown : s.ever_hidden ≡ false → (x : ℕ) → p.user_from_global x ≡ None → (p.kept x).deleted ≡ true
+  -- and stands for the identity of its number
+  pub plain : s.ever_hidden ≡ false → IsPlain w.identity s.naming.made
   pub told : IsTold s.told s.clauses s.ever_hidden
 
 -- the spaces stand for the state

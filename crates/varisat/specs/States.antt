@@ -1,10 +1,11 @@
 -- What a user can know of a solver.
-use Rattle.std.specs.Prelude.{◌≡◌, ℕ, ◌<◌, ◌≤◌, Bool, true, false, ◌||◌, nat_eq, if◌then◌else◌, Some, None, List, [], ◌∷◌, ◌++◌}
+use Rattle.std.specs.Prelude.{◌≡◌, ℕ, ◌<◌, ◌≤◌, Bool, true, false, ◌||◌, nat_eq, if◌then◌else◌, Option, Some, None, List, [], ◌∷◌, ◌++◌}
 use Rattle.varisat_theory.specs.Membership.{◌∈◌, IsDistinct}
 use Rattle.varisat_theory.specs.Literals.{Literal, Clause, Assignment, variable_of, SatisfiesAll, MakesTrue, IsSatisfiable, IsFailedCore}
 use Rattle.varisat_theory.specs.Journals.{Entry}
 use Rattle.varisat_names.specs.Settings.{Settings, default_settings}
 use Rattle.varisat.specs.Names.{Naming, no_names}
+use Rattle.varisat.specs.OpenProofs.{OpenProof}
 
 -- What is known of the accepted clauses and the assumptions. Under `Sat` an assignment of the identities was found, under `UnsatUnderAssumptions` a failed core over identities.
 pub data Verdict : Type 0 where
@@ -21,7 +22,7 @@ pub record Ledger : Type 0 where
   pub since : ℕ
   pub settings : Settings
 
--- `naming`: which identity each name has. `ever_hidden`: whether a name was ever freed while its variable lived on. `clauses`: those accepted, over identities. `assumptions`: the list as given, over identities. `counted`: the identities that accepted clauses and assumption lists have named so far, each once. `told`: what a proof that was opened at the beginning would have been told, over identities.
+-- `naming`: which identity each name has. `ever_hidden`: whether a name was ever freed while its variable lived on. `clauses`: those accepted, over identities. `assumptions`: the list as given, over identities. `counted`: the identities that accepted clauses and assumption lists have named so far, each once. `told`: what a proof that was opened at the beginning would have been told, over identities. `proof`: the proof that is open.
 pub record State : Type 0 where
   pub naming : Naming
   pub ever_hidden : Bool
@@ -31,6 +32,7 @@ pub record State : Type 0 where
   pub verdict : Verdict
   pub ledger : Ledger
   pub told : List Entry
+  pub proof : Option OpenProof
 
 -- whether the number is one of the list
 abbrev pub is_member : ℕ → List ℕ → Bool
@@ -57,6 +59,7 @@ empty_state = record {
   verdict = Unknown;
   ledger = record { valid = true; started = false; steps = 0; since = 0; settings = default_settings };
   told = [];
+  proof = None;
 }
 
 -- What is true of each state: names stand for different identities, none is in use from the watermark on, identities that are spoken of were made, and none is counted twice.

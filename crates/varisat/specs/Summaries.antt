@@ -13,6 +13,9 @@ use Rattle.varisat_search.specs.Seen.{search_of, outcome_of}
 use Rattle.varisat_names.specs.VarMap.{at}
 use Rattle.varisat_names.specs.VarData.{kept_at}
 use Rattle.varisat_names.specs.Variables.{Tables}
+use Rattle.varisat_proof.specs.Proving.{OpenState, ProofParts}
+use Rattle.varisat.specs.OpenProofs.{ProofFits}
+use Rattle.varisat_tracer.specs.Tracing.{CanTell}
 use Rattle.varisat.specs.States.{State, Ledger}
 use Rattle.varisat.specs.Accepting.{AreBounded, DecidesInUse, IsAssumedSolver}
 use Rattle.varisat.specs.Models.{put_name}
@@ -20,9 +23,10 @@ use Rattle.varisat.specs.Carried.{value_or}
 use Rattle.varisat.specs.Spaces.{Spaces, SpacesFit}
 use Rattle.varisat.specs.SinceChange.{CountsSince}
 
--- The maps between names, global variables and solver variables with what is kept of the global variables; the search with its assumptions and its verdict; the flags.
+-- The maps between names, global variables and solver variables with what is kept of the global variables; the proof that is open; the search with its assumptions and its verdict; the flags.
 pub record Summary : Type 0 where
   pub tables : Tables
+  pub opened : Option OpenState
   pub search : View
   pub assumed : AssumptionParts
   pub sat_state : SatState
@@ -68,12 +72,14 @@ pub record IsKept {A : Type 0} (tables : Tables) (search : Context A) : Type 0 w
   pub marked : (l : Literal) (x : ℕ) → l ∈ search.assumptions.user → at tables.users.forward (variable_of l) ≡ Some x → (kept_at tables.kept x).assumed ≡ true
   pub working : (l : Literal) → l ∈ search.assumptions.working → IsAssumedSolver tables (variable_of l)
 
--- What it keeps with its count of the steps since its last change, before which `changed_at` were made.
-pub record IsKeptSince {A : Type 0} (tables : Tables) (search : Context A) (changed_at : ℕ) : Type 0 where
+-- What it keeps with its proof, which can be told of its search, and with its count of the steps since its last change, before which `changed_at` were made.
+pub record IsKeptSince {A : Type 0} (tables : Tables) (proof : ProofParts) (search : Context A) (changed_at : ℕ) : Type 0 where
   pub kept : IsKept tables search
+  pub tells : CanTell proof
   pub counts : CountsSince changed_at search
 
 -- The solver stands for the state: both have the same flags, and where they are valid, what the solver holds stands for it.
 pub record StandsFor (g : Summary) (s : State) : Type 0 where
   pub ledger : s.ledger ≡ g.ledger
   pub fits : g.ledger.valid ≡ true → SpacesFit (spaces g) s
+  pub proof : g.ledger.valid ≡ true → ProofFits g.opened s.ever_hidden s.told s.proof

@@ -10,12 +10,14 @@ ghost use Rattle.varisat.specs.States.{State, Verdict};
 ghost use Rattle.varisat.specs.Names.{name_all, through_names};
 ghost use Rattle.varisat.specs.Calls.{with_naming, VerdictAfter, append_clause, with_assumptions};
 ghost use Rattle.varisat.specs.Spaces.{SpacesFit};
-ghost use Rattle.varisat.specs.Journals.{retold, TellsMore};
-ghost use Rattle.varisat_theory.specs.Journals.{Entry, Assumes};
+ghost use Rattle.varisat.specs.Journals.{retold, TellsMore, TellsProof};
+ghost use Rattle.varisat_theory.specs.Journals.{Entry, Accepts, Assumes};
+ghost use Rattle.varisat_tracer.specs.Tracing.{parts_of, TakesGlobally, CanTell};
 ghost use Rattle.varisat.specs.Summaries.{spaces_of, IsKept};
 ghost use Rattle.varisat.specs.Accepting.{CanBeNamed, HasNames, AreJoined, AreMarked};
 
 use std::alloc::{AllocError, Allocator};
+use varisat_formula::io::ProofTarget;
 use varisat_literals::{Lit, Var};
 use varisat_names::variables::LinkedVariables;
 use varisat_search::assumptions::set_assumptions;
@@ -24,7 +26,7 @@ use varisat_search::error::StepError;
 use varisat_search::load::load_clause;
 use varisat_search::solver_variables::solver_from_user_lits;
 use varisat_search::state::SatState;
-use varisat_trace::NoTracer;
+use varisat_tracer::SolverTracer;
 
 /// The global variable of the literal's name, which is in use.
 fn global_of<A: Allocator + Copy>(variables: &LinkedVariables<A>, lit: Lit) -> Var
@@ -64,31 +66,46 @@ fn mark_assumed<A: Allocator + Copy>(
     }
 }
 
+/// Tells the proof an accepted clause, which is over solver variables.
+fn tell_clause<W: ProofTarget, A: Allocator + Copy>(
+    tracer: &mut SolverTracer<W, A>,
+    clause: &[Lit],
+) -> Result<(), StepError>
+    requires { CanTell tracer.old.proof }
+    ensures { OnOk result (TakesGlobally (parts_of tracer.old) (Accepts clause.now ∷ []) (parts_of tracer.new)) }
+{
+    tracer.add_clause(clause)?;
+    Ok(())
+}
+
 /// Brings the names of the clause into use, takes solver variables for them, and loads the clause over these.
 /// `literals` is overwritten.
-pub fn accept_clause<A: Allocator + Copy>(
-    variables: &mut LinkedVariables<A>,
+pub fn accept_clause<W: ProofTarget, A: Allocator + Copy>(
+    tracer: &mut SolverTracer<W, A>,
     ctx: &mut Context<A>,
     literals: &mut Vec<Lit, A>,
     clause: &[Lit],
 ) -> Result<(), StepError>
-    requires kept { IsKept variables.old ctx.old }
+    requires kept { IsKept tracer.old.variables ctx.old }
+    requires tells { CanTell tracer.old.proof }
     requires unsettled { ctx.old.solver_state.sat_state ≢ SatState.Unsat }
-    requires names { CanBeNamed clause.now variables.old }
-    ensures kept { OnOk result (IsKept variables.new ctx.new) }
+    requires names { CanBeNamed clause.now tracer.old.variables }
+    ensures kept { OnOk result (IsKept tracer.new.variables ctx.new) }
+    ensures tells { OnOk result (CanTell tracer.new.proof) }
     ensures state { OnOk result (ctx.new.solver_state ≡ record ctx.old.solver_state { sat_state = ctx.new.solver_state.sat_state; formula_is_empty = false }) }
     ensures schedule { KeepsSchedule ctx.old ctx.new }
-    ensures accepted { OnOk result ((s : State) → SpacesFit (spaces_of variables.old (view ctx.old) ctx.old.assumptions ctx.old.solver_state.sat_state) s →
-        (x : Verdict) × (told : List Entry) × VerdictAfter s.clauses (map (through_names (name_all clause.now s.naming)) clause.now) s.verdict x × TellsMore 0 s.told told × SpacesFit (spaces_of variables.new (view ctx.new) ctx.new.assumptions ctx.new.solver_state.sat_state) (retold told (append_clause (map (through_names (name_all clause.now s.naming)) clause.now) x (with_naming (name_all clause.now s.naming) s)))) }
+    ensures accepted { OnOk result ((s : State) → SpacesFit (spaces_of tracer.old.variables (view ctx.old) ctx.old.assumptions ctx.old.solver_state.sat_state) s →
+        (x : Verdict) × (told : List Entry) × VerdictAfter s.clauses (map (through_names (name_all clause.now s.naming)) clause.now) s.verdict x × TellsMore 0 (s.told ++ Accepts (map (through_names (name_all clause.now s.naming)) clause.now) ∷ []) told × TellsProof s.ever_hidden s.told told tracer.old.proof tracer.new.proof × SpacesFit (spaces_of tracer.new.variables (view ctx.new) ctx.new.assumptions ctx.new.solver_state.sat_state) (retold told (append_clause (map (through_names (name_all clause.now s.naming)) clause.now) x (with_naming (name_all clause.now s.naming) s)))) }
 {
     // A model that was found may not satisfy the clause.
     ctx.solver_state.reopen();
-    variables.prove_linked();
-    solver_from_user_lits(ctx, variables, literals, clause)?;
-    variables.prove_linked();
-    mark_joined(variables, clause);
-    let mut proof = NoTracer {};
-    load_clause(ctx, &mut proof, literals)?;
+    tracer.variables.prove_linked();
+    solver_from_user_lits(ctx, &mut tracer.variables, literals, clause)?;
+    tracer.variables.prove_linked();
+    mark_joined(&mut tracer.variables, clause);
+    let lits = literals.as_slice();
+    tell_clause(tracer, lits)?;
+    load_clause(ctx, tracer, lits)?;
     Ok(())
 }
 

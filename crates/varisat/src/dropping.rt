@@ -13,19 +13,22 @@ ghost use Rattle.varisat_search.specs.SettledUnits.{IsSettledDown};
 ghost use Rattle.varisat.specs.States.{State};
 ghost use Rattle.varisat.specs.Spaces.{SpacesFit};
 ghost use Rattle.varisat.specs.SinceChange.{GoesOnSince};
-ghost use Rattle.varisat.specs.Journals.{retold, TellsMore};
+ghost use Rattle.varisat.specs.Journals.{retold, TellsMore, TellsLeaving, TellsProof};
 ghost use Rattle.varisat_theory.specs.Journals.{Entry};
+ghost use Rattle.varisat_tracer.specs.Tracing.{CanTell};
 ghost use Rattle.varisat.specs.Summaries.{spaces_of, IsKept};
 ghost use Rattle.varisat.specs.Dropping.{leads_to_unassumed, unassumed_among, AreOverAssumed, FlagsVariables, AreDroppedAlone, leads_to_hidden, ListsUnneeded, AreReleased, LeavesNeeded, LeavesTables};
 
 use std::alloc::{AllocError, Allocator};
+use varisat_formula::io::ProofTarget;
 use varisat_literals::{Lit, Var};
 use varisat_names::variables::LinkedVariables;
 use varisat_search::cdcl::settle;
 use varisat_search::context::Context;
+use varisat_search::error::StepError;
 use varisat_search::forgetting::{drop_variables, flag_mentioned};
 use varisat_search::state::SatState;
-use varisat_trace::NoTracer;
+use varisat_tracer::SolverTracer;
 
 /// Whether the solver variable is that of a global variable that is not assumed.
 fn is_unassumed<A: Allocator + Copy>(variables: &LinkedVariables<A>, solver: Var) -> bool
@@ -161,7 +164,7 @@ fn drop_listed<A: Allocator + Copy>(
     ensures count { OnOk result (length ctx.new.assignment.current ≡ length ctx.old.assignment.current) }
     ensures settled { OnOk result (IsSettledDown (view ctx.new)) }
     ensures left { OnOk result (AreOverAssumed variables.new ctx.new.trail.literals) }
-    ensures stands { OnOk result ((s : State) → SpacesFit (spaces_of variables.old (view ctx.old) ctx.old.assumptions SatState.Unknown) s → (told : List Entry) × TellsMore 0 s.told told × SpacesFit (spaces_of variables.new (view ctx.new) ctx.new.assumptions SatState.Unknown) (retold told s)) }
+    ensures stands { OnOk result ((s : State) → SpacesFit (spaces_of variables.old (view ctx.old) ctx.old.assumptions SatState.Unknown) s → (told : List Entry) × TellsLeaving s.ever_hidden s.told told × SpacesFit (spaces_of variables.new (view ctx.new) ctx.new.assumptions SatState.Unknown) (retold told s)) }
 {
     variables.prove_linked();
     list_unassumed(variables, ctx.trail.trail(), literals)?;
@@ -188,7 +191,7 @@ fn drop_unneeded<A: Allocator + Copy>(
     ensures state { ctx.new.solver_state ≡ ctx.old.solver_state }
     ensures count { OnOk result (length ctx.new.assignment.current ≡ length ctx.old.assignment.current) }
     ensures left { OnOk result (LeavesNeeded variables.new (view ctx.new)) }
-    ensures stands { OnOk result ((s : State) → SpacesFit (spaces_of variables.old (view ctx.old) ctx.old.assumptions SatState.Unknown) s → (told : List Entry) × TellsMore 0 s.told told × SpacesFit (spaces_of variables.new (view ctx.new) ctx.new.assumptions SatState.Unknown) (retold told s)) }
+    ensures stands { OnOk result ((s : State) → SpacesFit (spaces_of variables.old (view ctx.old) ctx.old.assumptions SatState.Unknown) s → (told : List Entry) × TellsLeaving s.ever_hidden s.told told × SpacesFit (spaces_of variables.new (view ctx.new) ctx.new.assumptions SatState.Unknown) (retold told s)) }
 {
     variables.prove_linked();
     let mentioned = flag_mentioned(ctx)?;
@@ -204,34 +207,34 @@ fn drop_unneeded<A: Allocator + Copy>(
 /// have a value and are not assumed, and the hidden ones that no kept clause names. Does nothing at another level or
 /// where there is no such news, so that a call of `solve` passes over all clauses no more often than its first step
 /// would. Lets none leave where a clause is false. `literals` is overwritten.
-pub fn drop_fixed<A: Allocator + Copy>(
-    variables: &mut LinkedVariables<A>,
+pub fn drop_fixed<W: ProofTarget, A: Allocator + Copy>(
+    tracer: &mut SolverTracer<W, A>,
     ctx: &mut Context<A>,
     literals: &mut Vec<Lit, A>,
-) -> Result<(), AllocError>
-    requires kept { IsKept variables.old ctx.old }
+) -> Result<(), StepError>
+    requires kept { IsKept tracer.old.variables ctx.old }
+    requires tells { CanTell tracer.old.proof }
     requires unknown { ctx.old.solver_state.sat_state ≡ SatState.Unknown }
-    ensures kept { OnOk result (IsKept variables.new ctx.new) }
+    ensures kept { OnOk result (IsKept tracer.new.variables ctx.new) }
+    ensures tells { OnOk result (CanTell tracer.new.proof) }
     ensures schedule { KeepsSchedule ctx.old ctx.new }
     ensures since { OnOk result (GoesOnSince ctx.old ctx.new) }
     ensures state { ctx.new.solver_state ≡ ctx.old.solver_state }
     ensures count { OnOk result (length ctx.new.assignment.current ≡ length ctx.old.assignment.current) }
-    ensures left { OnOk result (ctx.old.trail.decisions ≡ [] → ctx.old.trail.queue_head ≢ length ctx.old.trail.literals → ((conflict : Conflict) × IsConflicting (view ctx.new) conflict) ⊎ LeavesNeeded variables.new (view ctx.new)) }
-    ensures stands { OnOk result ((s : State) → SpacesFit (spaces_of variables.old (view ctx.old) ctx.old.assumptions SatState.Unknown) s → (told : List Entry) × TellsMore 0 s.told told × SpacesFit (spaces_of variables.new (view ctx.new) ctx.new.assumptions SatState.Unknown) (retold told s)) }
+    ensures left { OnOk result (ctx.old.trail.decisions ≡ [] → ctx.old.trail.queue_head ≢ length ctx.old.trail.literals → ((conflict : Conflict) × IsConflicting (view ctx.new) conflict) ⊎ LeavesNeeded tracer.new.variables (view ctx.new)) }
+    ensures stands { OnOk result ((s : State) → SpacesFit (spaces_of tracer.old.variables (view ctx.old) ctx.old.assumptions SatState.Unknown) s → (told : List Entry) × TellsMore 0 s.told told × TellsProof s.ever_hidden s.told told tracer.old.proof tracer.new.proof × SpacesFit (spaces_of tracer.new.variables (view ctx.new) ctx.new.assumptions SatState.Unknown) (retold told s)) }
 {
     if ctx.trail.current_level() > 0 || ctx.trail.fully_propagated() {
         return Ok(());
     }
-    let mut proof = NoTracer {};
-    let settled = match settle(ctx, &mut proof) {
+    let settled = match settle(ctx, tracer) {
         Ok(settled) => settled,
-        // No clause is stored and nothing is handed on, so that only memory can be refused.
-        Err(_) => return Err(AllocError),
+        Err(error) => return Err(StepError::from(error)),
     };
     if settled.is_err() {
         return Ok(());
     }
-    drop_listed(variables, ctx, literals)?;
-    drop_unneeded(variables, ctx, literals)?;
+    drop_listed(&mut tracer.variables, ctx, literals)?;
+    drop_unneeded(&mut tracer.variables, ctx, literals)?;
     Ok(())
 }

@@ -1,6 +1,7 @@
 //! The solver, and the calls that a user makes.
 ghost use Rattle.std.specs.Prelude.{◌≡◌, length, IfOk};
 ghost use Rattle.varisat.specs.Accepting.{AreBounded};
+ghost use Rattle.varisat.specs.Refusals.{step_refusal};
 ghost use Rattle.varisat.specs.Summaries.{list_tables};
 
 use crate::accept::{accept_clause, assume_list};
@@ -9,6 +10,7 @@ use crate::naming::check_names;
 use crate::solving::find_named_verdict;
 use crate::usage::{check_change, set_named_mode};
 use std::alloc::{AllocError, Allocator};
+use std::io;
 use std::marker::Model;
 use thiserror::Error;
 use varisat_formula::dimacs::{DimacsError, DimacsErrorKind, DimacsParser};
@@ -24,6 +26,7 @@ use varisat_search::error::StepError;
 use varisat_search::model::reconstruct_global_model;
 use varisat_search::state::SatState;
 use varisat_search::variables::{new_user_var, observe_internal_vars};
+use varisat_tracer::SolverTracer;
 
 /// How many bytes of a text are asked for at a time.
 const PIECE: usize = 0x2000;
@@ -33,6 +36,8 @@ const PIECE: usize = 0x2000;
 pub enum SolverError {
     #[error("The solver was interrupted")]
     Interrupted,
+    #[error("Error writing proof file: {cause}")]
+    ProofIoError { cause: io::Error },
     #[error("Out of memory")]
     OutOfMemory,
     #[error("The solver is invalid after an unrecoverable error")]
@@ -51,16 +56,19 @@ pub enum SolverError {
     Dimacs { cause: DimacsError },
 }
 
-impl From<StepError> for SolverError {
-    ghost use Rattle.varisat.specs.Refusals.{step_refusal};
-
-    ghost from_gives = { λ error result. result ≡ step_refusal error };
-
-    fn from(error: StepError) -> SolverError {
-        match error {
-            StepError::Full => SolverError::ClauseStoreFull,
-            // The search hands on nothing, so that no target fails.
-            StepError::Memory | StepError::Target(_) => SolverError::OutOfMemory,
+/// The refusal for the error of a step. The target of a proof fails only where one is open.
+fn refused(error: StepError, is_open: bool) -> SolverError
+    ensures { result ≡ step_refusal is_open error }
+{
+    match error {
+        StepError::Full => SolverError::ClauseStoreFull,
+        StepError::Memory => SolverError::OutOfMemory,
+        StepError::Target(cause) => {
+            if is_open {
+                SolverError::ProofIoError { cause }
+            } else {
+                SolverError::OutOfMemory
+            }
         }
     }
 }
@@ -75,6 +83,7 @@ impl SolverError {
     {
         match self {
             SolverError::Interrupted => 1,
+            SolverError::ProofIoError { .. } => 2,
             SolverError::OutOfMemory => 3,
             SolverError::Invalid => 4,
             SolverError::ClauseStoreFull => 5,
@@ -91,7 +100,10 @@ impl SolverError {
         ensures { IsTrue result ↔ ((refusal_number self.now < 2) ⊎ (5 < refusal_number self.now)) }
     {
         match self {
-            SolverError::OutOfMemory | SolverError::Invalid | SolverError::ClauseStoreFull => false,
+            SolverError::ProofIoError { .. }
+            | SolverError::OutOfMemory
+            | SolverError::Invalid
+            | SolverError::ClauseStoreFull => false,
             SolverError::Interrupted
             | SolverError::WitnessVar { .. }
             | SolverError::VariableLimit
@@ -128,7 +140,8 @@ fn list_model<A: Allocator + Copy>(
 pub struct Solver<W: ProofTarget, A: Allocator + Copy> {
     alloc: A,
     ctx: Context<A>,
-    variables: LinkedVariables<A>,
+    // The names and variables, and the proof that is open, if any. No proof can be opened yet.
+    tracer: SolverTracer<W, A>,
     // The clause or the assumptions that are being accepted, over solver variables, and a core over names.
     literals: Vec<Lit, A>,
     // Whether a clause, a variable or a list of assumptions was accepted. `write_proof`, which is to open a proof, will
@@ -137,9 +150,6 @@ pub struct Solver<W: ProofTarget, A: Allocator + Copy> {
     // How many steps were made before the last change: a call that was not refused and did more than to solve or to
     // tell something.
     changed_at: u64,
-    // Where an open proof goes: `write_proof` will set it, `add_clause` and `solve` will write to it, and `close_proof`
-    // will give it back. No call reads it yet.
-    target: Option<W>,
 }
 
 impl<W: ProofTarget, A: Allocator + Copy> Model for Solver<W, A> {
@@ -149,9 +159,9 @@ impl<W: ProofTarget, A: Allocator + Copy> Model for Solver<W, A> {
 
     ghost Value = { Summary };
 
-    ghost view = { λ c. record { tables = c.variables; search = contexts.view c.ctx; assumed = c.ctx.assumptions; sat_state = c.ctx.solver_state.sat_state; ledger = record { valid = not c.ctx.solver_state.state_is_invalid; started = c.started; steps = c.ctx.schedule.steps; since = c.ctx.schedule.steps - c.changed_at; settings = c.ctx.solver_config } } };
+    ghost view = { λ c. record { tables = c.tracer.variables; opened = c.tracer.proof.opened; search = contexts.view c.ctx; assumed = c.ctx.assumptions; sat_state = c.ctx.solver_state.sat_state; ledger = record { valid = not c.ctx.solver_state.state_is_invalid; started = c.started; steps = c.ctx.schedule.steps; since = c.ctx.schedule.steps - c.changed_at; settings = c.ctx.solver_config } } };
 
-    ghost invariant = { λ c. c.ctx.solver_state.state_is_invalid ≡ false → IsKeptSince c.variables c.ctx c.changed_at };
+    ghost invariant = { λ c. c.ctx.solver_state.state_is_invalid ≡ false → IsKeptSince c.tracer.variables c.tracer.proof c.ctx c.changed_at };
 }
 
 impl<W: ProofTarget, A: Allocator + Copy> Solver<W, A> {
@@ -174,11 +184,10 @@ impl<W: ProofTarget, A: Allocator + Copy> Solver<W, A> {
         Solver {
             alloc,
             ctx: Context::new_in(alloc),
-            variables: LinkedVariables::new_in(alloc),
+            tracer: SolverTracer::new_in(alloc),
             literals: Vec::new(alloc),
             started: false,
             changed_at: 0,
-            target: None,
         }
     }
 
@@ -227,7 +236,7 @@ impl<W: ProofTarget, A: Allocator + Copy> Solver<W, A> {
     pub fn solver_watermark(&self) -> usize
         ensures { result ≡ length self.now.tables.solvers.backward }
     {
-        self.variables.solver_watermark()
+        self.tracer.variables.solver_watermark()
     }
 
     /// False once memory ran out in a call that changes the solver. From then on the other calls are refused, and
@@ -259,13 +268,9 @@ impl<W: ProofTarget, A: Allocator + Copy> Solver<W, A> {
             self.begin_count();
             return Ok(());
         }
-        check_names(&self.variables, clause)?;
-        match accept_clause(
-            &mut self.variables,
-            &mut self.ctx,
-            &mut self.literals,
-            clause,
-        ) {
+        check_names(&self.tracer.variables, clause)?;
+        let is_open = self.tracer.proof.is_open();
+        match accept_clause(&mut self.tracer, &mut self.ctx, &mut self.literals, clause) {
             Ok(()) => {
                 self.started = true;
                 self.changed_at = self.ctx.schedule.steps();
@@ -273,7 +278,7 @@ impl<W: ProofTarget, A: Allocator + Copy> Solver<W, A> {
             }
             Err(error) => {
                 self.ctx.solver_state.state_is_invalid = true;
-                Err(SolverError::from(error))
+                Err(refused(error, is_open))
             }
         }
     }
@@ -366,14 +371,14 @@ impl<W: ProofTarget, A: Allocator + Copy> Solver<W, A> {
         if self.ctx.solver_state.state_is_invalid {
             return Err(SolverError::Invalid);
         }
-        let next = self.variables.next_unmapped_user();
+        let next = self.tracer.variables.next_unmapped_user();
         if next.index() >= Var::max_count()
-            || self.variables.global_watermark() >= Var::max_count()
+            || self.tracer.variables.global_watermark() >= Var::max_count()
         {
             return Err(SolverError::VariableLimit);
         }
-        self.variables.prove_linked();
-        match new_user_var(&mut self.variables) {
+        self.tracer.variables.prove_linked();
+        match new_user_var(&mut self.tracer.variables) {
             Ok(user) => {
                 self.started = true;
                 self.changed_at = self.ctx.schedule.steps();
@@ -402,8 +407,13 @@ impl<W: ProofTarget, A: Allocator + Copy> Solver<W, A> {
         if self.ctx.solver_state.state_is_invalid {
             return Err(SolverError::Invalid);
         }
-        check_names(&self.variables, lits)?;
-        match assume_list(&mut self.variables, &mut self.ctx, &mut self.literals, lits) {
+        check_names(&self.tracer.variables, lits)?;
+        match assume_list(
+            &mut self.tracer.variables,
+            &mut self.ctx,
+            &mut self.literals,
+            lits,
+        ) {
             Ok(()) => {
                 self.started = true;
                 self.changed_at = self.ctx.schedule.steps();
@@ -434,18 +444,19 @@ impl<W: ProofTarget, A: Allocator + Copy> Solver<W, A> {
             SatState::Sat => Ok(true),
             SatState::Unsat | SatState::UnsatUnderAssumptions => Ok(false),
             SatState::Unknown => {
+                let is_open = self.tracer.proof.is_open();
                 // What is fixed need not be searched any more.
-                if let Err(AllocError) = drop_fixed(
-                    &mut self.variables,
+                if let Err(error) = drop_fixed(
+                    &mut self.tracer,
                     &mut self.ctx,
                     &mut self.literals,
                 ) {
                     self.ctx.solver_state.state_is_invalid = true;
-                    return Err(SolverError::OutOfMemory);
+                    return Err(refused(error, is_open));
                 }
                 let max_steps = self.ctx.solver_config.max_steps();
                 match find_named_verdict(
-                    &self.variables,
+                    &mut self.tracer,
                     &mut self.ctx,
                     &mut self.literals,
                     max_steps,
@@ -454,7 +465,7 @@ impl<W: ProofTarget, A: Allocator + Copy> Solver<W, A> {
                     Ok(None) => Err(SolverError::Interrupted),
                     Err(error) => {
                         self.ctx.solver_state.state_is_invalid = true;
-                        Err(SolverError::from(error))
+                        Err(refused(error, is_open))
                     }
                 }
             }
@@ -474,7 +485,7 @@ impl<W: ProofTarget, A: Allocator + Copy> Solver<W, A> {
         match self.ctx.solver_state.sat_state {
             SatState::Sat => {
                 let values = self.ctx.assignment.assignment();
-                let list = list_model(self.alloc, &self.variables, values)?;
+                let list = list_model(self.alloc, &self.tracer.variables, values)?;
                 Ok(Some(list))
             }
             SatState::Unknown | SatState::Unsat | SatState::UnsatUnderAssumptions => Ok(None),
@@ -531,8 +542,8 @@ impl<W: ProofTarget, A: Allocator + Copy> Solver<W, A> {
         if self.ctx.solver_state.state_is_invalid {
             return Err(SolverError::Invalid);
         }
-        check_change(&self.variables, var)?;
-        match set_named_mode(&mut self.variables, var, mode) {
+        check_change(&self.tracer.variables, var)?;
+        match set_named_mode(&mut self.tracer.variables, var, mode) {
             Ok(()) => {
                 self.changed_at = self.ctx.schedule.steps();
                 Ok(())
@@ -568,8 +579,8 @@ impl<W: ProofTarget, A: Allocator + Copy> Solver<W, A> {
         if self.ctx.solver_state.state_is_invalid {
             return Err(SolverError::Invalid);
         }
-        check_change(&self.variables, var)?;
-        match set_named_mode(&mut self.variables, var, SamplingMode::Hide) {
+        check_change(&self.tracer.variables, var)?;
+        match set_named_mode(&mut self.tracer.variables, var, SamplingMode::Hide) {
             Ok(()) => {
                 self.changed_at = self.ctx.schedule.steps();
                 Ok(())
@@ -591,8 +602,8 @@ impl<W: ProofTarget, A: Allocator + Copy> Solver<W, A> {
         if self.ctx.solver_state.state_is_invalid {
             return Err(SolverError::Invalid);
         }
-        self.variables.prove_linked();
-        match observe_internal_vars(&mut self.variables, self.alloc) {
+        self.tracer.variables.prove_linked();
+        match observe_internal_vars(&mut self.tracer.variables, self.alloc) {
             Ok(shown) => {
                 self.changed_at = self.ctx.schedule.steps();
                 Ok(shown)

@@ -11,3 +11,6 @@ pub mod Calls
 pub mod Checks
 pub mod Mapping
 pub mod Verified
+pub mod Telling
+pub mod Present
+pub mod Proving

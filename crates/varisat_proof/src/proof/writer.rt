@@ -7,6 +7,8 @@ ghost use Rattle.varisat_proof.specs.Lines.{line_of_kind, plain_lines, letter};
 ghost use Rattle.varisat_proof.specs.Written.{leb128, leb128_by, codes_bytes, mark_text, line_text, line_bytes, line_written};
 ghost use Rattle.varisat_proof.specs.Steps.{step_lines, PutsLines};
 ghost use Rattle.varisat_theory.specs.StepLaws.{unit_lines};
+ghost use Rattle.varisat_trace.specs.Traces.{entries_of};
+ghost use Rattle.varisat_proof.specs.Telling.{marked_line, lines_told};
 
 use crate::proof::format::{Encoding, LineKind};
 use crate::proof::step::ProofStep;
@@ -180,6 +182,48 @@ fn write_lines<W: ProofTarget, A: Allocator + Copy>(
             write_line(target, buffer, encoding, LineKind::Deletes, clause)
         }
         ProofStep::DeleteVar { .. } | ProofStep::FailedAssumptions { .. } => Ok(()),
+    }
+}
+
+/// Writes a line that only marked text has; in other encodings nothing.
+pub(crate) fn write_marked<W: ProofTarget, A: Allocator + Copy>(
+    target: &mut W,
+    buffer: &mut Vec<u8, A>,
+    encoding: Encoding,
+    kind: LineKind,
+    literals: &[Lit],
+) -> Result<(), WriteError>
+    requires { (W.taken target.old).faults < 2 ^ 64 - 1 }
+    ensures { PutsLines encoding (W.taken target.old) result (marked_line encoding (line_of_kind kind literals.now)) (W.taken target.new) }
+{
+    match encoding {
+        Encoding::Text { marked: true } => write_line(target, buffer, encoding, kind, literals),
+        Encoding::Text { marked: false } | Encoding::Binary => Ok(()),
+    }
+}
+
+/// Writes the lines that the step has in the encoding, among them a core in marked text.
+pub(crate) fn write_entries<W: ProofTarget, A: Allocator + Copy>(
+    target: &mut W,
+    buffer: &mut Vec<u8, A>,
+    encoding: Encoding,
+    step: &ProofStep<'_>,
+) -> Result<(), WriteError>
+    requires { (W.taken target.old).faults < 2 ^ 64 - 1 }
+    ensures { PutsLines encoding (W.taken target.old) result (lines_told encoding (entries_of step.now)) (W.taken target.new) }
+{
+    match step {
+        ProofStep::AtClause { clause } => {
+            write_line(target, buffer, encoding, LineKind::Adds, clause)
+        }
+        ProofStep::UnitClauses { units } => write_units(target, buffer, encoding, units),
+        ProofStep::DeleteClause { clause } => {
+            write_line(target, buffer, encoding, LineKind::Deletes, clause)
+        }
+        ProofStep::FailedAssumptions { failed_core } => {
+            write_marked(target, buffer, encoding, LineKind::Fails, failed_core)
+        }
+        ProofStep::DeleteVar { .. } => Ok(()),
     }
 }
 

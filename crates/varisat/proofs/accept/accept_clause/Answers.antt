@@ -1,5 +1,5 @@
 -- What each part did to the maps and to the search.
-use Rattle.std.proofs.Common.{◌≢◌, false, sym, ap, ap₂, ◌∙◌, subst, length, map}
+use Rattle.std.proofs.Common.{None, ◌≡◌, ◌≢◌, ◌++◌, ◌∷◌, [], List, false, sym, ap, ap₂, ◌∙◌, subst, length, map}
 use Rattle.std.specs.Option.{IsSome}
 use Rattle.varisat_theory.specs.Membership.{◌∈◌}
 use Rattle.varisat_theory.specs.Literals.{variable_of}
@@ -8,6 +8,15 @@ use Rattle.varisat_names.specs.Maps.{chain}
 use Rattle.varisat_names.specs.VarMap.{at}
 use Rattle.varisat_names.specs.VarBiMap.{BiMap}
 use Rattle.varisat_names.specs.declared.variables.data.VarData.{VarData}
+use Rattle.varisat_names.specs.Variables.{Tables}
+use Rattle.varisat_theory.specs.Literals.{Literal}
+use Rattle.varisat_theory.specs.Journals.{Accepts, written}
+use Rattle.varisat_tracer.specs.Carried.{told_as}
+use Rattle.varisat_tracer.specs.Carried as global
+use Rattle.varisat_tracer.specs.Tracing.{TracerState, parts_of, global_literal, Relies, CanTell}
+use Rattle.varisat_tracer.specs.TracerLaws.{takes-more}
+use Rattle.varisat.proofs.PlainTold.{proof-told}
+use Rattle.varisat_tracer.proofs.Telling.{relies-any, tells-on}
 use Rattle.varisat_search.specs.declared.state.SatState.TheVariants as verdict
 use Rattle.varisat_search.specs.declared.state.SolverState.{SolverState}
 use Rattle.varisat_search.specs.AssumptionParts.{AssumptionParts}
@@ -16,9 +25,10 @@ use Rattle.varisat_search.specs.Loading.{loaded_outcome}
 use Rattle.varisat_search.specs.Seen.{search_of}
 use Rattle.varisat.specs.Carried.{carry}
 use Rattle.varisat.specs.Names.{name_all, through_names}
-use Rattle.varisat.specs.Calls.{with_naming, reopened_verdict, with_verdict}
+use Rattle.varisat.specs.Calls.{with_naming, append_clause, reopened_verdict, with_verdict}
+use Rattle.varisat.specs.Journals.{retold}
 use Rattle.varisat.specs.Spaces.{SpacesFit}
-use Rattle.varisat.specs.Summaries.{Summary, spaces_of}
+use Rattle.varisat.specs.Summaries.{Summary, spaces_of, IsKept}
 use Rattle.varisat.proofs.ReturnedVariables.{reopened-not, no-model-reopened, reopened-spaces, verdict-after}
 use Rattle.varisat.proofs.SolversInTurn.{HaveSolvers, have-solvers-then, has-variables, can-have-room, over-leads, over-carried, all-named, literals-within, literals-decidable}
 use Rattle.varisat.proofs.TableMarks.{marks-bounded, joined-same, assumed-joined}
@@ -27,19 +37,19 @@ use Rattle.varisat.proofs.VariablesInUse.{same-in-use, tables-in-use}
 use Rattle.varisat_search.proofs.LeastHeld.{anything-with}
 use Rattle.varisat_search.proofs.SolverVariables.{in-use-all}
 use Rattle.varisat.proofs.accept.accept_clause.Given.{Over}
-use Rattle.varisat.proofs.accept.accept_clause.Goals.{In_ok-solver_from_user_lits}
+use Rattle.varisat.proofs.accept.accept_clause.Goals.{In_ok-solver_from_user_lits, In_ok-tell_clause, In_ok-load_clause}
 use Rattle.varisat.proofs.accept.accept_clause.Goals as goal
 
 pub solver_from_user_lits-requires-clause-variables : goal.solver_from_user_lits-requires-clause-variables
-solver_from_user_lits-requires-clause-variables g c = has-variables c.args.variables.now c.args.ctx.now c.reopen.new.self c.requires.kept
+solver_from_user_lits-requires-clause-variables g c = has-variables c.args.tracer.now.variables c.args.ctx.now c.reopen.new.self c.requires.kept
 
 pub solver_from_user_lits-requires-clause-room : goal.solver_from_user_lits-requires-clause-room
-solver_from_user_lits-requires-clause-room g c = can-have-room c.args.clause.now c.args.variables.now c.requires.names
+solver_from_user_lits-requires-clause-room g c = can-have-room c.args.clause.now c.args.tracer.now.variables c.requires.names
 
 -- the names have solver variables
-have : (g : Over) (c : In_ok-solver_from_user_lits g) → HaveSolvers {A = g.row.A.Denot} c.args.clause.now (record { tables = c.args.variables.now; context = record c.args.ctx.now { solver_state = c.reopen.new.self } }) (record { tables = c.solver_from_user_lits.new.variables; context = c.solver_from_user_lits.new.ctx })
+have : (g : Over) (c : In_ok-solver_from_user_lits g) → HaveSolvers {A = g.row.A.Denot} c.args.clause.now (record { tables = c.args.tracer.now.variables; context = record c.args.ctx.now { solver_state = c.reopen.new.self } }) (record { tables = c.solver_from_user_lits.new.variables; context = c.solver_from_user_lits.new.ctx })
 have g c =
-    have-solvers-then c.args.clause.now c.args.variables.now c.args.ctx.now c.reopen.new.self (record { tables = c.solver_from_user_lits.new.variables; context = c.solver_from_user_lits.new.ctx }) (λ e. no-model-reopened c.args.ctx.now.solver_state.sat_state (ap (λ (x : SolverState). x.sat_state) (sym c.reopen.ensures) ∙ e))
+    have-solvers-then c.args.clause.now c.args.tracer.now.variables c.args.ctx.now c.reopen.new.self (record { tables = c.solver_from_user_lits.new.variables; context = c.solver_from_user_lits.new.ctx }) (λ e. no-model-reopened c.args.ctx.now.solver_state.sat_state (ap (λ (x : SolverState). x.sat_state) (sym c.reopen.ensures) ∙ e))
     c.prove_linked.ensures c.requires.kept (c.in_ok-solver_from_user_lits.ensures {u = tt}).in_turn
 
 pub mark_joined-requires : goal.mark_joined-requires
@@ -50,21 +60,31 @@ mark_joined-requires g c =
 pub load_clause-requires-clause-in_range : goal.load_clause-requires-clause-in_range
 load_clause-requires-clause-in_range g c l h =
     let here = (goal.at.load_clause-requires-clause-in_range g c).In_ok-solver_from_user_lits in
-    literals-within c.args.clause.now c.solver_from_user_lits.new.solver_lits.items (have g here).kept (c.in_ok-solver_from_user_lits.ensures {u = tt}).literals c.prove_linked-2.ensures l (subst (λ ls. l ∈ ls) c.deref.ensures.value h)
+    literals-within c.args.clause.now c.solver_from_user_lits.new.solver_lits.items (have g here).kept (c.in_ok-solver_from_user_lits.ensures {u = tt}).literals c.prove_linked-2.ensures l (subst (λ ls. l ∈ ls) c.as_slice-lits.ensures.value h)
 
 pub load_clause-requires-clause-decidable : goal.load_clause-requires-clause-decidable
 load_clause-requires-clause-decidable g c l h =
     let here = (goal.at.load_clause-requires-clause-decidable g c).In_ok-solver_from_user_lits in
-    literals-decidable c.args.clause.now c.solver_from_user_lits.new.solver_lits.items (have g here).kept (c.in_ok-solver_from_user_lits.ensures {u = tt}).literals c.prove_linked-2.ensures l (subst (λ ls. l ∈ ls) c.deref.ensures.value h)
+    literals-decidable c.args.clause.now c.solver_from_user_lits.new.solver_lits.items (have g here).kept (c.in_ok-solver_from_user_lits.ensures {u = tt}).literals c.prove_linked-2.ensures l (subst (λ ls. l ∈ ls) c.as_slice-lits.ensures.value h)
+
+-- the proof can be told of the search once the clause was
+can-tell : (g : Over) (c : In_ok-tell_clause g) → CanTell c.tell_clause.new.tracer.proof
+can-tell g c = tells-on (record { tables = c.mark_joined.new.variables; proof = c.args.tracer.now.proof }) (parts_of c.tell_clause.new.tracer) _ c.in_ok-tell_clause.ensures c.requires.tells
 
 pub load_clause-requires-clause-holds : goal.load_clause-requires-clause-holds
-load_clause-requires-clause-holds g c n = anything-with (λ held. Unit {0}) (λ held. tt) (view c.solver_from_user_lits.new.ctx) c.deref.result.now
+load_clause-requires-clause-holds g c n = let x = parts_of c.tell_clause.new.tracer in anything-with (Relies x) (relies-any x (can-tell g (goal.at.load_clause-requires-clause-holds g c).In_ok-tell_clause)) (view c.solver_from_user_lits.new.ctx) c.as_slice-lits.result.now
 
 -- the verdict is not Unsat when the clause is loaded
 opened : (g : Over) (c : In_ok-solver_from_user_lits g) → c.solver_from_user_lits.new.ctx.solver_state.sat_state ≢ verdict.Unsat
 opened g c e =
     reopened-not c.args.ctx.now.solver_state.sat_state c.requires.unsettled
     (ap (λ (x : SolverState). x.sat_state) (sym c.reopen.ensures) ∙ ap (λ (x : SolverState). x.sat_state) (sym (have g c).verdict.state) ∙ e)
+
+-- names and variables stay as the clause is told and loaded
+same-tables : (g : Over) (c : In_ok-load_clause g) → c.load_clause.new.proof.variables ≡ c.mark_joined.new.variables
+same-tables g c =
+    let here = (goal.at.returns-clause-kept g c).In_ok-solver_from_user_lits in
+    ((c.in_ok-load_clause.ensures {u = tt}).lines (opened g here)).written.tables ∙ c.in_ok-tell_clause.ensures.tables
 
 pub returns-clause-state : goal.returns-clause-state
 returns-clause-state g c =
@@ -87,7 +107,7 @@ returns-clause-kept g c =
     let r = c.in_ok-load_clause.ensures {u = tt} in
     let parts = r.assumptions (opened g here) in
     let user = ap (λ (x : AssumptionParts). x.user) parts in
-    record {
+    subst (λ (t : Tables). IsKept t new) (sym (same-tables g c)) (record {
       bounded = marks-bounded taken joined k.bounded marks;
       ready = r.ready;
       count = r.count ∙ k.count ∙ sym long;
@@ -95,7 +115,12 @@ returns-clause-kept g c =
       assumed = λ l h. subst (λ (m : BiMap). IsSome (at m.forward (variable_of l))) (sym mark.users) (k.assumed l (subst (λ ls. l ∈ ls) user h));
       marked = λ l z h f. ap (λ (d : VarData). d.assumed) (mark.rest z) ∙ k.marked l z (subst (λ ls. l ∈ ls) user h) (ap (λ (m : BiMap). at m.forward (variable_of l)) (sym mark.users) ∙ f);
       working = λ l h. assumed-joined c.args.clause.now taken joined (variable_of l) mark (k.working l (subst (λ ls. l ∈ ls) (ap (λ (x : AssumptionParts). x.working) parts) h));
-    }
+    })
+
+pub returns-clause-tells : goal.returns-clause-tells
+returns-clause-tells g c =
+    let here = goal.at.returns-clause-tells g c in
+    tells-on (parts_of c.tell_clause.new.tracer) (parts_of c.load_clause.new.proof) _ ((c.in_ok-load_clause.ensures {u = tt}).lines (opened g here.In_ok-solver_from_user_lits)).written (can-tell g here.In_ok-tell_clause)
 
 pub returns-clause-accepted : goal.returns-clause-accepted
 returns-clause-accepted g c s f =
@@ -111,12 +136,16 @@ returns-clause-accepted g c s f =
     let list = c.args.clause.now in
     let to = chain (at m.users.forward) (at m.solvers.forward) in
     let carried = ap₂ (λ (x y : BiMap). map (carry (chain (at x.forward) (at y.forward))) list) (sym c.mark_joined.ensures.users) (sym c.mark_joined.ensures.solvers) in
-    let items = c.deref.ensures.value ∙ over-carried to list c.solver_from_user_lits.new.solver_lits.items over ∙ carried in
-    let first : Summary = record { tables = c.args.variables.now; search = view old; assumed = old.assumptions; sat_state = old.solver_state.sat_state; ledger = s.ledger } in
-    let begins = subst (λ y. SpacesFit (spaces_of c.args.variables.now (view old) old.assumptions y) (with_verdict (reopened_verdict s.verdict) s)) (sym (ap (λ (x : SolverState). x.sat_state) c.reopen.ensures)) (reopened-spaces first s f) in
+    let items = c.as_slice-lits.ensures.value ∙ over-carried to list c.solver_from_user_lits.new.solver_lits.items over ∙ carried in
+    let first : Summary = record { tables = c.args.tracer.now.variables; opened = None; search = view old; assumed = old.assumptions; sat_state = old.solver_state.sat_state; ledger = s.ledger } in
+    let begins = subst (λ y. SpacesFit (spaces_of c.args.tracer.now.variables (view old) old.assumptions y) (with_verdict (reopened_verdict s.verdict) s)) (sym (ap (λ (x : SolverState). x.sat_state) c.reopen.ensures)) (reopened-spaces first s f) in
     let n = with_naming (name_all list s.naming) s in
+    let lines = (r.lines (opened g here)).lines in
+    let before : TracerState = record { tables = joined; proof = c.args.tracer.now.proof } in
+    let after = parts_of c.load_clause.new.proof in
+    let taken = takes-more before (parts_of c.tell_clause.new.tracer) after (Accepts c.as_slice-lits.result.now ∷ []) (written lines) c.in_ok-tell_clause.ensures (r.lines (opened g here)).written in
     let n2 = with_verdict (reopened_verdict s.verdict) n in
-    let (x, told, v, more, k) = clause-accepted (record { tables = m; search = view mid; assumed = mid.assumptions; sat_state = mid.solver_state.sat_state; ledger = s.ledger }) n2 list joined (view new) new.assumptions new.solver_state.sat_state
+    let (x, told, v, more, plain, k) = clause-accepted (record { tables = m; opened = None; search = view mid; assumed = mid.assumptions; sat_state = mid.solver_state.sat_state; ledger = s.ledger }) n2 list joined (view new) new.assumptions new.solver_state.sat_state
     (record {
       not_unsat = opened g here;
       all = over-leads to list c.solver_from_user_lits.new.solver_lits.items over;
@@ -131,4 +160,4 @@ returns-clause-accepted g c s f =
       parts_stay = r.assumptions (opened g here);
     })
     (all.stands (with_verdict (reopened_verdict s.verdict) s) begins) in
-    (x, told, verdict-after s.clauses (map (through_names n.naming) list) s.verdict x v, more, k)
+    (x, told, verdict-after s.clauses (map (through_names n.naming) list) s.verdict x v, more, proof-told before after (Accepts c.as_slice-lits.result.now ∷ written lines) s.ever_hidden s.told told taken (λ e. plain e ∙ ap (λ (ls : List Literal). s.told ++ told_as (global_literal m) (Accepts ls ∷ written lines)) (sym items) ∙ ap (λ (b : BiMap). s.told ++ told_as (global.carry (at b.backward)) (Accepts c.as_slice-lits.result.now ∷ written lines)) (sym c.mark_joined.ensures.solvers)), subst (λ (t : Tables). SpacesFit (spaces_of t (view new) new.assumptions new.solver_state.sat_state) (retold told (append_clause (map (through_names n.naming) list) x n))) (sym (same-tables g c)) k)

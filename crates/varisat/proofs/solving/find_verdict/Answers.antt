@@ -1,6 +1,7 @@
 use Rattle.std.proofs.Common.{◌≡◌, ◌-◌, List, ◌∙◌, ⊎_elim, inl, inr, ap, sym, subst, refl, true, false, arith}
 use Rattle.varisat_theory.specs.Derivations.{Line}
-use Rattle.varisat_theory.specs.Outcomes.{Outcome, Unknown, Steps, MakesSteps}
+use Rattle.varisat_theory.specs.Outcomes.{Outcome, Unknown, Steps}
+use Rattle.varisat_trace.specs.Traces.{TakesStep}
 use Rattle.varisat_search.specs.declared.state.SolverState.{SolverState}
 use Rattle.varisat_search.specs.declared.state.SatState.TheVariants as verdict
 use Rattle.varisat_schedule.specs.CallSteps.{steps_since}
@@ -9,11 +10,10 @@ use Rattle.varisat_search.specs.Contexts.{view}
 use Rattle.varisat_search.specs.Decisions.{SameDecidable}
 use Rattle.varisat_search.specs.Seen.{search_of, outcome_of}
 use Rattle.varisat_search.proofs.AssumptionSteps.{keeps-refl}
-use Rattle.varisat_search.proofs.LeastHeld.{anything-for}
 use Rattle.varisat_search.proofs.DecidableVariables.{same-refl, same-trans}
 use Rattle.varisat.specs.Budgets.{CountsSteps}
-use Rattle.varisat.specs.Searches.{answer_at}
-use Rattle.varisat.proofs.FindVerdictSteps.{searching-at, not-less, Stepping, stepping-goes-on, stepping-lines, stepping-keeps, stepping-counts, stepping-since, stepping-shortens, none-made, counts-spent, counts-refused, since-stopped, no-lines, told-refused, not-spent, room}
+use Rattle.varisat.specs.Searches.{answer_at, MakesTold}
+use Rattle.varisat.proofs.FindVerdictSteps.{searching-at, not-less, Stepping, stepping-goes-on, stepping-lines, stepping-keeps, stepping-counts, stepping-since, stepping-shortens, none-made, counts-spent, counts-refused, since-stopped, no-lines, holds-step, told-refused, not-spent, room}
 use Rattle.varisat.proofs.solving.find_verdict.Given.{Over}
 use Rattle.varisat.proofs.solving.find_verdict.Goals.{In_ok-schedule_step}
 use Rattle.varisat.proofs.solving.find_verdict.Goals as goal
@@ -25,7 +25,6 @@ stepping g c =
     let e = c.in_ok-schedule_step.ensures in
     record {
       searching = searching-at c.args.ctx.now c.steps.ctx c.args.max_steps c.prove_in_range.ensures.luby_restart_interval_scale c.requires.ready c.requires.unknown r.count r.config r.made;
-      lines = r.lines;
       assumes = r.assumes;
       left = not-spent c.args.ctx.now.schedule c.steps.ctx.schedule c.args.max_steps c.steps-first.result c.steps-steps.result c.steps-first.ensures.steps c.steps-steps.ensures.steps c.if-steps-first.false;
       countable = room c.steps.ctx.schedule c.steps-steps.result c.steps-steps.ensures.steps c.steps-steps.type_inv c.if-steps.false;
@@ -47,14 +46,18 @@ decidable-still g c =
 abbrev told : (g : Over) (c : In_ok-schedule_step g) → Outcome
 told g c = outcome_of (view c.schedule_step.new.ctx) c.schedule_step.new.ctx.assumptions.failed_core c.schedule_step.new.ctx.solver_state.sat_state
 
-lines-told : (g : Over) (c : In_ok-schedule_step g) → (lines : List Line) × MakesSteps (steps_since c.args.ctx.now.schedule c.schedule_step.new.ctx.schedule) (search_of (view c.args.ctx.now)) (search_of (view c.schedule_step.new.ctx)) (told g c) lines
-lines-told g c = let (lines, p, i) = c.in_ok-schedule_step.ensures.steps in stepping-lines (stepping g c) (told g c) (lines, p)
+-- the lines of the step, which the tracer took
+taken : (g : Over) (c : In_ok-schedule_step g) → (lines : List Line) × Steps (search_of (view c.steps.ctx)) (search_of (view c.schedule_step.new.ctx)) (told g c) lines × TakesStep g.P.ProofTracer.takes c.steps.proof lines (told g c) c.schedule_step.new.proof
+taken g c = let (lines, p, i) = c.in_ok-schedule_step.ensures.steps in (lines, p, i.1)
+
+lines-told : (g : Over) (c : In_ok-schedule_step g) → MakesTold g.P.ProofTracer.takes c.args.proof.now c.schedule_step.new.proof (steps_since c.args.ctx.now.schedule c.schedule_step.new.ctx.schedule) (search_of (view c.args.ctx.now)) (search_of (view c.schedule_step.new.ctx)) (told g c)
+lines-told g c = stepping-lines (stepping g c) g.P.ProofTracer.holds g.P.ProofTracer.takes g.met.P.ProofTracer.takes_more c.args.proof.now c.steps.proof c.schedule_step.new.proof (told g c) c.steps.invariant.lines (taken g c)
 
 keeps-told : (g : Over) (c : In_ok-schedule_step g) → KeepsAssumptions (search_of (view c.args.ctx.now)) (told g c) c.args.ctx.now.assumptions c.schedule_step.new.ctx.assumptions
-keeps-told g c = stepping-keeps (stepping g c) (told g c) c.in_ok-schedule_step.ensures.assumes
+keeps-told g c = let made = c.steps.invariant.lines in stepping-keeps (stepping g c) made.0 made.1 (told g c) c.in_ok-schedule_step.ensures.assumes
 
 pub schedule_step-requires-clause-holds : goal.schedule_step-requires-clause-holds
-schedule_step-requires-clause-holds g c = anything-for (λ held. Unit {0}) (λ held. tt) (view c.steps.ctx)
+schedule_step-requires-clause-holds g c = c.steps.invariant.holds
 
 pub steps-init : goal.steps-init
 steps-init g c =
@@ -66,7 +69,8 @@ steps-init g c =
       state = refl;
       config = refl;
       made = none-made x c.args.max_steps c.steps-first.ensures.plan;
-      lines = no-lines x.schedule (search_of (view x));
+      holds = c.requires.holds;
+      lines = no-lines g.P.ProofTracer.holds g.P.ProofTracer.takes g.met.P.ProofTracer.takes_none c.args.proof.now x.schedule (search_of (view x));
       assumes = keeps-refl (search_of (view x)) x.assumptions;
     }
 
@@ -87,7 +91,8 @@ steps-preserved g c =
     let z = c.schedule_step.new.ctx in
     let r = c.steps.invariant in
     let e = c.in_ok-schedule_step.ensures in
-    let d = stepping g (goal.at.steps-preserved g c).In_ok-schedule_step in
+    let h = (goal.at.steps-preserved g c).In_ok-schedule_step in
+    let d = stepping g h in
     record {
       ready = e.ready;
       count = e.count ∙ r.count;
@@ -95,8 +100,9 @@ steps-preserved g c =
       state = e.state ∙ ap (λ v. record y.solver_state { sat_state = v }) (c.in-Unknown.is ∙ sym (ap (λ (s : SolverState). s.sat_state) r.state ∙ c.requires.unknown)) ∙ r.state;
       config = e.config ∙ r.config;
       made = stepping-goes-on d (e.rises c.in-Unknown.is);
-      lines = stepping-lines d Unknown (subst (λ b. (lines : List Line) × Steps (search_of (view y)) (search_of (view z)) (outcome_of (view z) z.assumptions.failed_core b) lines) c.in-Unknown.is (let (lines, p, i) = e.steps in (lines, p)));
-      assumes = stepping-keeps d Unknown (subst (λ b. KeepsAssumptions (search_of (view y)) (outcome_of (view z) z.assumptions.failed_core b) y.assumptions z.assumptions) c.in-Unknown.is e.assumes);
+      holds = holds-step g.P.ProofTracer.holds g.P.ProofTracer.takes g.met.P.ProofTracer.holds_after c.steps.proof c.schedule_step.new.proof (search_of (view y)) (search_of (view z)) (told g h) (ap (outcome_of (view z) z.assumptions.failed_core) c.in-Unknown.is) r.holds (taken g h);
+      lines = subst (λ b. MakesTold g.P.ProofTracer.takes c.args.proof.now c.schedule_step.new.proof (steps_since c.args.ctx.now.schedule z.schedule) (search_of (view c.args.ctx.now)) (search_of (view z)) (outcome_of (view z) z.assumptions.failed_core b)) c.in-Unknown.is (lines-told g h);
+      assumes = stepping-keeps d r.lines.0 r.lines.1 Unknown (subst (λ b. KeepsAssumptions (search_of (view y)) (outcome_of (view z) z.assumptions.failed_core b) y.assumptions z.assumptions) c.in-Unknown.is e.assumes);
     }
 
 pub returns-then-steps-first-clause-state : goal.returns-then-steps-first-clause-state
@@ -110,7 +116,7 @@ returns-then-steps-first-clause-steps g c =
     let x = c.args.ctx.now in
     let y = c.steps.ctx in
     let unknown = ap (λ (s : SolverState). s.sat_state) c.steps.invariant.state ∙ c.requires.unknown in
-    subst (λ b. (lines : List Line) × MakesSteps (steps_since x.schedule y.schedule) (search_of (view x)) (search_of (view y)) (outcome_of (view y) y.assumptions.failed_core b) lines) (sym unknown) c.steps.invariant.lines
+    subst (λ b. MakesTold g.P.ProofTracer.takes c.args.proof.now c.steps.proof (steps_since x.schedule y.schedule) (search_of (view x)) (search_of (view y)) (outcome_of (view y) y.assumptions.failed_core b)) (sym unknown) c.steps.invariant.lines
 
 pub returns-then-steps-first-clause-assumptions : goal.returns-then-steps-first-clause-assumptions
 returns-then-steps-first-clause-assumptions g c =

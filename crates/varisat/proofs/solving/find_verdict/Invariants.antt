@@ -1,11 +1,12 @@
-use Rattle.std.proofs.Common.{◌≡◌, ◌+◌, ◌-◌, ◌*◌, ◌^◌, List, length}
-use Rattle.varisat_theory.specs.Derivations.{Line}
-use Rattle.varisat_theory.specs.Outcomes.{Unknown, MakesSteps}
+use Rattle.std.proofs.Common.{◌≡◌, ◌+◌, ◌-◌, ◌*◌, ◌^◌, length}
+use Rattle.varisat_theory.specs.Outcomes.{Unknown}
+use Rattle.varisat_trace.specs.Traces.{HoldsFor}
 use Rattle.varisat_schedule.specs.CallSteps.{steps_since}
 use Rattle.varisat_search.specs.AssumptionParts.{KeepsAssumptions}
 use Rattle.varisat_search.specs.Contexts.{view, IsReady}
 use Rattle.varisat_search.specs.Decisions.{SameDecidable}
 use Rattle.varisat_search.specs.Seen.{search_of}
+use Rattle.varisat.specs.Searches.{MakesTold}
 use Rattle.varisat.proofs.FindVerdictSteps.{HasMade}
 use Rattle.varisat.proofs.solving.find_verdict.Given as goal
 
@@ -17,7 +18,8 @@ invariant-steps g l = record {
   state : l.ctx.solver_state ≡ l.fn.ctx.solver_state;
   config : l.ctx.solver_config ≡ l.fn.ctx.solver_config;
   made : HasMade l.fn.ctx l.ctx l.max_steps;
-  lines : (lines : List Line) × MakesSteps (steps_since l.fn.ctx.schedule l.ctx.schedule) (search_of (view l.fn.ctx)) (search_of (view l.ctx)) Unknown lines;
+  holds : HoldsFor (g.P.ProofTracer.holds l.proof) (search_of (view l.ctx));
+  lines : MakesTold g.P.ProofTracer.takes l.fn.proof l.proof (steps_since l.fn.ctx.schedule l.ctx.schedule) (search_of (view l.fn.ctx)) (search_of (view l.ctx)) Unknown;
   assumes : KeepsAssumptions (search_of (view l.fn.ctx)) Unknown l.fn.ctx.assumptions l.ctx.assumptions;
 }
 

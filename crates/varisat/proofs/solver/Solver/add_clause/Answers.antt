@@ -7,8 +7,9 @@ use Rattle.varisat.specs.States.{Ledger}
 use Rattle.varisat.specs.Names.{name_all, through_names}
 use Rattle.varisat.specs.Journals.{retold}
 use Rattle.varisat.specs.Calls.{with_naming, start, append_clause, count_anew, Ignored, Accepted, AddsClause}
-use Rattle.varisat.proofs.CallStates.{ledger-is, none-since, stands-valid, like-retold, broken, broken-invalid, adds-broken}
-use Rattle.varisat.proofs.AcceptClause.{ledger-free, not-refuted}
+use Rattle.varisat.proofs.CallStates.{ledger-is, none-since, stands-valid, like-told, broken, broken-invalid, adds-broken}
+use Rattle.varisat.proofs.AcceptClause.{ledger-free, proof-free, not-refuted}
+use Rattle.varisat.proofs.OpenProofs.{proof-goes-on, open-there}
 use Rattle.varisat.proofs.Additions.{told-error}
 use Rattle.varisat.proofs.SolverCalls.{unsat-known}
 use Rattle.varisat.proofs.SinceSteps.{since-now}
@@ -21,7 +22,7 @@ accept_clause-requires-clause-names g c = c.in_ok-check_names.ensures.0
 pub invariant_of-self : goal.invariant_of-self
 invariant_of-self g c _ =
     let e = c.in-Ok.ensures {u = tt} in
-    record { kept = e.kept; counts = since-now c.steps-self-inside.result c.accept_clause.new.ctx c.steps-self-inside.ensures.steps e.kept.ready c.steps-self-inside.ensures.plan }
+    record { kept = e.kept; tells = e.tells; counts = since-now c.steps-self-inside.result c.accept_clause.new.ctx c.steps-self-inside.ensures.steps e.kept.ready c.steps-self-inside.ensures.plan }
 
 pub returns-in_err-check_names : goal.returns-in_err-check_names
 returns-in_err-check_names g c s st =
@@ -34,17 +35,19 @@ pub returns-in-Ok : goal.returns-in-Ok
 returns-in-Ok g c s st =
     let q = rw (← c.self.view_is) at st in
     let e = c.in-Ok.ensures {u = tt} in
-    let (x, told, v, more, (w, k)) = e.accepted s (q.fits (ap not c.if-self.false)) in
+    let (x, told, v, more, proof, (w, k)) = e.accepted s (q.fits (ap not c.if-self.false)) in
     let bad = not-refuted _ s q (ap not c.if-self.false) c.in_default.not-Unsat in
     let n = name_all c.args.clause.now s.naming in
     let k' = c.accept_clause.ensures.schedule in
     let u = append_clause (map (through_names n) c.args.clause.now) x (with_naming n s) in
-    let t = retold told u in (
+    let (now, grows, goes) = proof-goes-on c.self.inside.tracer.proof c.accept_clause.new.tracer.proof s.ever_hidden s.told told s.proof (q.proof (ap not c.if-self.false)) proof in
+    let t = record (retold told u) { proof = now } in (
       start t,
-      (stands-valid _ s q (ap not c.if-self.false), Accepted bad (may-constrain _ s q (ap not c.if-self.false) c.args.clause.now c.in_ok-check_names.ensures.0 c.in_ok-check_names.ensures.1) (x, v, like-retold (start u) told more)),
+      (stands-valid _ s q (ap not c.if-self.false), Accepted bad (may-constrain _ s q (ap not c.if-self.false) c.args.clause.now c.in_ok-check_names.ensures.0 c.in_ok-check_names.ensures.1) (x, v, like-told (start u) told now more grows)),
       record {
         ledger = ledger-is _ _ _ _ _ _ (ap (λ (x : Ledger). x.valid) q.ledger ∙ ap (λ (x : SolverState). not x.state_is_invalid) (sym e.state)) refl (ap (λ (x : Ledger). x.steps) q.ledger ∙ sym (ap (λ (x : Plan). x.steps) k'.schedule)) (none-since c.steps-self-inside.result c.accept_clause.new.ctx.schedule.steps c.steps-self-inside.ensures.steps) (ap (λ (x : Ledger). x.settings) q.ledger ∙ sym k'.solver_config);
-        fits = λ _. (w, ledger-free w (spaces_of c.accept_clause.new.variables (view c.accept_clause.new.ctx) c.accept_clause.new.ctx.assumptions c.accept_clause.new.ctx.solver_state.sat_state) t (record t.ledger { started = true; since = 0 }) k);
+        fits = λ _. (w, ledger-free w (spaces_of c.accept_clause.new.tracer.variables (view c.accept_clause.new.ctx) c.accept_clause.new.ctx.assumptions c.accept_clause.new.ctx.solver_state.sat_state) t (record t.ledger { started = true; since = 0 }) (proof-free w _ (retold told u) now k));
+        proof = λ _. goes;
       },
     )
 
@@ -54,11 +57,12 @@ returns-in-Err g c s st =
     let bad = not-refuted _ s q (ap not c.if-self.false) c.in_default.not-Unsat in
     let k = c.accept_clause.ensures.schedule in (
       broken s,
-      subst (λ e. AddsClause s c.args.clause.now (Err e) (broken s)) (sym c.from.ensures)
-          (adds-broken c.in-Err.error s (broken s) c.args.clause.now bad (may-constrain _ s q (ap not c.if-self.false) c.args.clause.now c.in_ok-check_names.ensures.0 c.in_ok-check_names.ensures.1) (broken-invalid s (stands-valid _ s q (ap not c.if-self.false)) (q.fits (ap not c.if-self.false)).1.well_formed)),
+      subst (λ e. AddsClause s c.args.clause.now (Err e) (broken s)) (sym c.refused.ensures)
+          (adds-broken c.in-Err.error c.is_open-is_open.result s (broken s) c.args.clause.now (open-there _ s.ever_hidden s.told s.proof _ (q.proof (ap not c.if-self.false)) c.is_open-is_open.ensures) bad (may-constrain _ s q (ap not c.if-self.false) c.args.clause.now c.in_ok-check_names.ensures.0 c.in_ok-check_names.ensures.1) (broken-invalid s (stands-valid _ s q (ap not c.if-self.false)) (q.fits (ap not c.if-self.false)).1.well_formed)),
       record {
         ledger = ledger-is _ _ _ _ _ _ refl (ap (λ (x : Ledger). x.started) q.ledger) (ap (λ (x : Ledger). x.steps) q.ledger ∙ sym (ap (λ (x : Plan). x.steps) k.schedule)) (ap (λ (x : Ledger). x.since) q.ledger ∙ sym (ap (λ (x : Plan). x.steps - c.self.inside.changed_at) k.schedule)) (ap (λ (x : Ledger). x.settings) q.ledger ∙ sym k.solver_config);
         fits = λ e. absurd cc;
+        proof = λ e. absurd cc;
       },
     )
 

@@ -8,6 +8,7 @@ use Rattle.varisat.specs.Names.{name_all, through_names}
 use Rattle.varisat.specs.Journals.{retold}
 use Rattle.varisat_theory.specs.Journals.{Assumes as Assumed}
 use Rattle.varisat.specs.Calls.{with_naming, start, with_assumptions, Assumes}
+use Rattle.varisat.proofs.OpenProofs.{assumed-fits}
 use Rattle.varisat.proofs.CallStates.{ledger-is, none-since, stands-valid, like-refl, broken, broken-invalid}
 use Rattle.varisat.proofs.AcceptClause.{ledger-free}
 use Rattle.varisat.proofs.Additions.{told-error}
@@ -21,7 +22,7 @@ assume_list-requires-clause-names g c = c.in_ok-check_names.ensures.0
 pub invariant_of-self : goal.invariant_of-self
 invariant_of-self g c _ =
     let e = c.in-Ok.ensures {u = tt} in
-    record { kept = e.kept; counts = since-now c.steps-self-inside.result c.assume_list.new.ctx c.steps-self-inside.ensures.steps e.kept.ready c.steps-self-inside.ensures.plan }
+    record { kept = e.kept; tells = (c.self.invariant c.if-self.false).tells; counts = since-now c.steps-self-inside.result c.assume_list.new.ctx c.steps-self-inside.ensures.steps e.kept.ready c.steps-self-inside.ensures.plan }
 
 pub returns-in_err-check_names : goal.returns-in_err-check_names
 returns-in_err-check_names g c s st =
@@ -43,6 +44,7 @@ returns-in-Ok g c s st =
       record {
         ledger = ledger-is _ _ _ _ _ _ (ap (λ (x : Ledger). x.valid) q.ledger ∙ ap (λ (x : SolverState). not x.state_is_invalid) (sym e.state)) refl (ap (λ (x : Ledger). x.steps) q.ledger ∙ sym (ap (λ (x : Plan). x.steps) plan.schedule)) (none-since c.steps-self-inside.result c.assume_list.new.ctx.schedule.steps c.steps-self-inside.ensures.steps) (ap (λ (x : Ledger). x.settings) q.ledger ∙ sym plan.solver_config);
         fits = λ _. (w, ledger-free w (spaces_of c.assume_list.new.variables (view new) new.assumptions new.solver_state.sat_state) t (record t.ledger { started = true; since = 0 }) k);
+        proof = λ v. assumed-fits _ s.ever_hidden s.told (map (through_names n) c.args.lits.now) s.proof (q.proof (ap not c.if-self.false));
       },
     )
 
@@ -55,5 +57,6 @@ returns-in-Err g c s st =
       record {
         ledger = ledger-is _ _ _ _ _ _ refl (ap (λ (x : Ledger). x.started) q.ledger) (ap (λ (x : Ledger). x.steps) q.ledger ∙ sym (ap (λ (x : Plan). x.steps) plan.schedule)) (ap (λ (x : Ledger). x.since) q.ledger ∙ sym (ap (λ (x : Plan). x.steps - c.self.inside.changed_at) plan.schedule)) (ap (λ (x : Ledger). x.settings) q.ledger ∙ sym plan.solver_config);
         fits = λ e. absurd cc;
+        proof = λ e. absurd cc;
       },
     )

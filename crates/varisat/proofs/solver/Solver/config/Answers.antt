@@ -1,4 +1,5 @@
 use Rattle.std.proofs.Common.{not, refl, ap}
+use Rattle.varisat_tracer.specs.Tracing.{parts_of}
 use Rattle.varisat.specs.Calls.{with_update}
 use Rattle.varisat.proofs.CallStates.{stands-valid}
 use Rattle.varisat.proofs.SettingsCalls.{stands-updated, stands-same, kept-updated}
@@ -9,13 +10,13 @@ pub returns : goal.returns
 returns g c s st =
     let q = rw (← c.self.view_is) at st in
     let e = c.in-Ok.ensures.changed in
-    (with_update c.args.update.now s, (stands-valid _ s q (ap not c.if-self.false), e.0, refl), stands-updated c.self.inside.variables c.self.inside.started c.self.inside.changed_at c.steps-self-inside.result c.self.inside.ctx c.config_changed.new.self c.args.update.now _ _ s e.1 c.steps-self-inside.ensures.steps q)
+    (with_update c.args.update.now s, (stands-valid _ s q (ap not c.if-self.false), e.0, refl), stands-updated (parts_of c.self.inside.tracer) c.self.inside.started c.self.inside.changed_at c.steps-self-inside.result c.self.inside.ctx c.config_changed.new.self c.args.update.now _ _ s e.1 c.steps-self-inside.ensures.steps q)
 
 pub returns-in-Err : goal.returns-in-Err
 returns-in-Err g c s st =
     let q = rw (← c.self.view_is) at st in
     let e = c.in-Err.ensures.changed in
-    (s, (stands-valid _ s q (ap not c.if-self.false), e.0, refl), stands-same c.self.inside.variables c.self.inside.started c.self.inside.changed_at c.self.inside.ctx c.config_changed.new.self s e.1 q)
+    (s, (stands-valid _ s q (ap not c.if-self.false), e.0, refl), stands-same (parts_of c.self.inside.tracer) c.self.inside.started c.self.inside.changed_at c.self.inside.ctx c.config_changed.new.self s e.1 q)
 
 pub invariant_of-self-2 : goal.invariant_of-self-2
 invariant_of-self-2 g c v =
@@ -25,6 +26,7 @@ invariant_of-self-2 g c v =
     let k = (c.self.invariant c.if-self.false).kept in
     let ready = c.config_changed.ensures.ready k.ready in
     record {
-      kept = kept-updated c.self.inside.variables x y c.args.update.now _ _ e.1 ready c.config_changed.ensures.decidable k;
+      kept = kept-updated c.self.inside.tracer.variables x y c.args.update.now _ _ e.1 ready c.config_changed.ensures.decidable k;
+      tells = (c.self.invariant c.if-self.false).tells;
       counts = since-now c.steps-self-inside.result y c.steps-self-inside.ensures.steps ready c.steps-self-inside.ensures.plan;
     }

@@ -3,6 +3,7 @@ use Rattle.varisat.specs.States.{Ledger}
 use Rattle.varisat.specs.Journals.{retold}
 use Rattle.varisat.specs.Usage.{name_var}
 use Rattle.varisat.specs.VariableCalls.{named, hide_name, HidesVar}
+use Rattle.varisat.proofs.OpenProofs.{hidden-fits}
 use Rattle.varisat.proofs.CallStates.{ledger-is, none-since, begins, like-retold, broken, broken-invalid}
 use Rattle.varisat.proofs.Additions.{told-error}
 use Rattle.varisat.proofs.SinceSteps.{since-now}
@@ -13,7 +14,8 @@ pub invariant_of-self : goal.invariant_of-self
 invariant_of-self g c v =
     let k = (c.self.invariant c.if-self.false).kept in
     record {
-      kept = kept-after c.self.inside.ctx c.self.inside.variables c.set_named_mode.new.variables k ((c.in-Ok.ensures {u = tt}).set.stays);
+      kept = kept-after c.self.inside.ctx c.self.inside.tracer.variables c.set_named_mode.new.variables k ((c.in-Ok.ensures {u = tt}).set.stays);
+      tells = (c.self.invariant c.if-self.false).tells;
       counts = since-now c.steps-self-inside.result c.self.inside.ctx c.steps-self-inside.ensures.steps k.ready c.steps-self-inside.ensures.plan;
     }
 
@@ -32,7 +34,7 @@ returns-in-Ok g c s st =
     let may = c.in_ok-check_change.ensures in (
       t,
       (k.valid, may.in_range, unassumed-state c.args.var k may.unassumed, like-retold u told more),
-      record { ledger = ledger-is _ _ _ _ _ _ (ap (λ (x : Ledger). x.valid) k.ledger) (ap (λ (x : Ledger). x.started) k.ledger) (ap (λ (x : Ledger). x.steps) k.ledger) (none-since c.steps-self-inside.result c.self.inside.ctx.schedule.steps c.steps-self-inside.ensures.steps) (ap (λ (x : Ledger). x.settings) k.ledger); fits = λ _. fits },
+      record { ledger = ledger-is _ _ _ _ _ _ (ap (λ (x : Ledger). x.valid) k.ledger) (ap (λ (x : Ledger). x.started) k.ledger) (ap (λ (x : Ledger). x.steps) k.ledger) (none-since c.steps-self-inside.result c.self.inside.ctx.schedule.steps c.steps-self-inside.ensures.steps) (ap (λ (x : Ledger). x.settings) k.ledger); fits = λ _. fits; proof = λ _. hidden-fits _ s.ever_hidden s.told told s.proof k.proof },
     )
 
 pub returns-in-Err : goal.returns-in-Err
@@ -41,5 +43,5 @@ returns-in-Err g c s st =
     let may = c.in_ok-check_change.ensures in (
       broken s,
       (may.in_range, unassumed-state c.args.var k may.unassumed, broken-invalid s k.valid k.fits.1.well_formed),
-      record { ledger = ap (λ (x : Ledger). record x { valid = false }) k.ledger; fits = λ e. absurd cc },
+      record { ledger = ap (λ (x : Ledger). record x { valid = false }) k.ledger; fits = λ e. absurd cc; proof = λ e. absurd cc },
     )

@@ -3,6 +3,7 @@ use Rattle.varisat_theory.specs.Literals.{variable_of}
 use Rattle.varisat_names.specs.VarMap.{at}
 use Rattle.varisat_search.specs.Contexts.{view}
 use Rattle.varisat_search.proofs.NamedVariables.{unmapped-near, unmapped-same}
+use Rattle.varisat_tracer.specs.Tracing.{parts_of}
 use Rattle.varisat.specs.Summaries.{spaces}
 use Rattle.varisat.specs.States.{Ledger}
 use Rattle.varisat.specs.Names.{name_one}
@@ -23,7 +24,7 @@ invariant_of-self g c v =
     let k = (c.self.invariant c.if-self.false).kept in
     let least = (c.in-Ok.ensures {u = tt}).given in
     let t = least.given in
-    let old = c.self.inside.variables in
+    let old = c.self.inside.tracer.variables in
     let new = c.new_user_var.new.variables in
     let u = c.in-Ok.user in
     let x = least.global in
@@ -45,13 +46,14 @@ invariant_of-self g c v =
         marked = λ l y h f. let (z, e) = there-is (at old.users.forward (variable_of l)) (k.assumed l h) in marked-keeps old new (variable_of l) y z c.prove_linked.ensures keeps e (k.marked l z h e) f;
         working = λ l h. assumed-keeps old new (variable_of l) c.prove_linked.ensures keeps (k.working l h);
       };
+      tells = (c.self.invariant c.if-self.false).tells;
       counts = since-now c.steps-self-inside.result c.self.inside.ctx c.steps-self-inside.ensures.steps k.ready c.steps-self-inside.ensures.plan;
     }
 
 pub returns-in-Ok : goal.returns-in-Ok
 returns-in-Ok g c s st =
     let q = rw (← c.self.view_is) at st in
-    let old = summary_of c.self.inside.variables c.self.inside.started c.self.inside.changed_at c.self.inside.ctx in
+    let old = summary_of (parts_of c.self.inside.tracer) c.self.inside.started c.self.inside.changed_at c.self.inside.ctx in
     let f = q.fits (ap not c.if-self.false) in
     let u = c.in-Ok.user in
     let new = c.new_user_var.new.variables in
@@ -63,6 +65,7 @@ returns-in-Ok g c s st =
       record {
         ledger = ledger-is _ _ _ _ _ _ (ap (λ (x : Ledger). x.valid) q.ledger) refl (ap (λ (x : Ledger). x.steps) q.ledger) (none-since c.steps-self-inside.result c.self.inside.ctx.schedule.steps c.steps-self-inside.ensures.steps) (ap (λ (x : Ledger). x.settings) q.ledger);
         fits = λ _. (w, ledger-free w (spaces (with_tables new old)) (with_naming (name_one u s.naming) s) (record (with_naming (name_one u s.naming) s).ledger { started = true; since = 0 }) n);
+        proof = q.proof;
       },
     )
 
@@ -70,8 +73,8 @@ pub returns-in-Err : goal.returns-in-Err
 returns-in-Err g c s st =
     let q = rw (← c.self.view_is) at st in
     let f = q.fits (ap not c.if-self.false) in
-    let least = least-free (summary_of c.self.inside.variables c.self.inside.started c.self.inside.changed_at c.self.inside.ctx) s c.next_unmapped_user-next.result f c.next_unmapped_user-next.ensures.least in (
+    let least = least-free (summary_of (parts_of c.self.inside.tracer) c.self.inside.started c.self.inside.changed_at c.self.inside.ctx) s c.next_unmapped_user-next.result f c.next_unmapped_user-next.ensures.least in (
       broken s,
       ((c.next_unmapped_user-next.result, least, omega (arith, c.index.ensures.index, c.max_count.ensures, c.if-index-max_count.false)), broken-invalid s (stands-valid _ s q (ap not c.if-self.false)) f.1.well_formed),
-      record { ledger = ap (λ (x : Ledger). record x { valid = false }) q.ledger; fits = λ e. absurd cc },
+      record { ledger = ap (λ (x : Ledger). record x { valid = false }) q.ledger; fits = λ e. absurd cc; proof = λ e. absurd cc },
     )

@@ -1,0 +1,102 @@
+-- An open proof as entries are told.
+use Rattle.std.proofs.Common.{◌≡◌, ℕ, Bool, true, false, Option, Some, None, List, [], ◌∷◌, ◌++◌, refl, sym, ap, ◌∙◌, subst, append_assoc}
+use Rattle.std.specs.Prelude.{flat_map, is_some}
+use Rattle.std.proofs.lemmas.List.{append-nil, map-append}
+use Rattle.varisat_theory.specs.Literals.{Literal}
+use Rattle.varisat_theory.specs.Derivations.{Line}
+use Rattle.varisat_theory.specs.Journals.{Entry, Accepts, Writes, Assumes, Fails, Leaves, lines_of}
+use Rattle.varisat_theory.proofs.Journals.{lines_append}
+use Rattle.varisat_formula.specs.Streams.{Taken}
+use Rattle.varisat_proof.specs.declared.proof.format.ProofFormat.{ProofFormat}
+use Rattle.varisat_proof.specs.declared.proof.format.ProofFormat.TheVariants.{Drat, BinaryDrat, Marked}
+use Rattle.varisat_proof.specs.Lines.{encoding_of, plain_line, plain_lines}
+use Rattle.varisat_proof.specs.Steps.{lines_written}
+use Rattle.varisat_proof.specs.Written.{line_written}
+use Rattle.varisat_proof.specs.Telling.{lines_told}
+use Rattle.varisat_proof.specs.Proving.{OpenState, ProofParts, told}
+use Rattle.varisat_proof.specs.Proving as proving
+use Rattle.varisat.specs.OpenProofs.{OpenProof, opened_state, IsOpen, IsDrat, IsWrittenIf, ProofFits, GoesOnWriting}
+use Rattle.varisat.specs.Journals.{TellsProof}
+
+-- 1. Bytes of lines.
+flat-append : {X Y : Type 0} (f : X → List Y) (xs ys : List X) → flat_map f (xs ++ ys) ≡ flat_map f xs ++ flat_map f ys
+flat-append f [] ys = refl
+flat-append f (x ∷ xs) ys = ap (λ zs. f x ++ zs) (flat-append f xs ys) ∙ sym (append_assoc (f x) (flat_map f xs) (flat_map f ys))
+
+bytes-more : (f : ProofFormat) (first more : List Line) → lines_written (encoding_of f) (plain_lines (first ++ more)) ≡ lines_written (encoding_of f) (plain_lines first) ++ lines_written (encoding_of f) (plain_lines more)
+bytes-more f first more = ap (λ ls. flat_map (line_written (encoding_of f)) ls) (map-append plain_line first more) ∙ flat-append (line_written (encoding_of f)) (plain_lines first) (plain_lines more)
+
+-- in DRAT entries have no other lines
+plainly-told : (f : ProofFormat) → IsDrat f → (es : List Entry) → lines_told (encoding_of f) es ≡ plain_lines (lines_of es)
+plainly-told f d [] = refl
+plainly-told f d (Writes l ∷ es) = ap (λ ls. plain_line l ∷ ls) (plainly-told f d es)
+plainly-told Drat d (Accepts c ∷ es) = plainly-told Drat d es
+plainly-told Drat d (Assumes a ∷ es) = plainly-told Drat d es
+plainly-told Drat d (Fails core ∷ es) = plainly-told Drat d es
+plainly-told Drat d (Leaves v ∷ es) = plainly-told Drat d es
+plainly-told BinaryDrat d (Accepts c ∷ es) = plainly-told BinaryDrat d es
+plainly-told BinaryDrat d (Assumes a ∷ es) = plainly-told BinaryDrat d es
+plainly-told BinaryDrat d (Fails core ∷ es) = plainly-told BinaryDrat d es
+plainly-told BinaryDrat d (Leaves v ∷ es) = plainly-told BinaryDrat d es
+plainly-told Marked d (e ∷ es) = absurd d
+
+-- 2. Further bytes.
+pub goes-on-none : (p : Option OpenProof) → GoesOnWriting p p
+goes-on-none None = refl
+goes-on-none (Some p) = ([], ap (λ (xs : List ℕ). let q : OpenProof = record p { bytes = xs } in Some q) (sym (append-nil p.bytes)))
+
+pub goes-on-through : (p q r : Option OpenProof) → GoesOnWriting p q → GoesOnWriting q r → GoesOnWriting p r
+goes-on-through None q r e h = subst (λ (x : Option OpenProof). GoesOnWriting x r) e h
+goes-on-through (Some p) q r (more, e) h =
+    let (further, f) = subst (λ (x : Option OpenProof). GoesOnWriting x r) e h in
+    (more ++ further, f ∙ ap (λ (xs : List ℕ). let q : OpenProof = record p { bytes = xs } in Some q) (append_assoc p.bytes more further))
+
+-- 3. What fits.
+-- entries were told to it
+on-told : (hidden : Bool) (before after given : List Entry) (proof : Option OpenProof) (new : Option OpenState) → IsWrittenIf hidden before proof → proving.IsWrittenIf (opened_state proof) (told given) new → (hidden ≡ false → after ≡ before ++ given) →
+    (now : Option OpenProof) × GoesOnWriting proof now × ProofFits new hidden after now
+on-told hidden before after given None new w e plain = (None, refl, record { same = e; written = tt })
+on-told hidden before after given (Some p) None w e plain = absurd e
+on-told hidden before after given (Some p) (Some o) w e plain =
+    let more = lines_written (encoding_of p.format) (lines_told (encoding_of p.format) given) in
+    let now : OpenProof = record p { bytes = p.bytes ++ more } in
+    let plainer = plainly-told p.format w.drat given in (
+      Some now,
+      (more, refl),
+      record {
+        same =
+            ap (λ (x : OpenState). Some x) e.rest
+            ∙ ap (λ (x : Taken). let y : OpenState = record { format = p.format; taken = x; searched = p.searched } in Some y)
+            (ap (λ (xs : List ℕ). let t : Taken = record { bytes = xs; faults = o.taken.faults } in t) (e.bytes ∙ append_assoc p.first p.bytes more) ∙ ap (λ (n : ℕ). let t : Taken = record { bytes = p.first ++ (p.bytes ++ more); faults = n } in t) e.faults);
+        written = record {
+          drat = w.drat;
+          lines = w.lines ++ lines_of given;
+          bytes = ap (λ xs. xs ++ more) w.bytes ∙ ap (λ ls. lines_written (encoding_of p.format) (plain_lines w.lines) ++ lines_written (encoding_of p.format) ls) plainer ∙ sym (bytes-more p.format w.lines (lines_of given));
+          told_since = λ h. ap lines_of (plain h) ∙ lines_append before given ∙ ap (λ ls. ls ++ lines_of given) (w.told_since h) ∙ append_assoc (lines_of p.before) w.lines (lines_of given);
+        };
+      },
+    )
+
+pub proof-goes-on : (p q : ProofParts) (hidden : Bool) (before after : List Entry) (proof : Option OpenProof) → ProofFits p.opened hidden before proof → TellsProof hidden before after p q → (now : Option OpenProof) × GoesOnWriting proof now × ProofFits q.opened hidden after now
+proof-goes-on p q hidden before after proof f t = on-told hidden before after t.given proof q.opened f.written (subst (λ (o : Option OpenState). proving.IsWrittenIf o (told t.given) q.opened) f.same t.told.written) t.plain
+
+-- no line was told
+other-told : (hidden : Bool) (before after : List Entry) (proof : Option OpenProof) → (hidden ≡ false → lines_of after ≡ lines_of before) → IsWrittenIf hidden before proof → IsWrittenIf hidden after proof
+other-told hidden before after None e w = tt
+other-told hidden before after (Some p) e w = record { drat = w.drat; lines = w.lines; bytes = w.bytes; told_since = λ h. e h ∙ w.told_since h }
+
+pub assumed-fits : (o : Option OpenState) (hidden : Bool) (told : List Entry) (a : List Literal) (proof : Option OpenProof) → ProofFits o hidden told proof → ProofFits o hidden (told ++ Assumes a ∷ []) proof
+assumed-fits o hidden told a proof f = record { same = f.same; written = other-told hidden told (told ++ Assumes a ∷ []) proof (λ h. lines_append told (Assumes a ∷ []) ∙ append-nil (lines_of told)) f.written }
+
+-- something was hidden
+once-hidden : (hidden : Bool) (before after : List Entry) (proof : Option OpenProof) → IsWrittenIf hidden before proof → IsWrittenIf true after proof
+once-hidden hidden before after None w = tt
+once-hidden hidden before after (Some p) w = record { drat = w.drat; lines = w.lines; bytes = w.bytes; told_since = λ h. absurd cc }
+
+pub hidden-fits : (o : Option OpenState) (hidden : Bool) (before after : List Entry) (proof : Option OpenProof) → ProofFits o hidden before proof → ProofFits o true after proof
+hidden-fits o hidden before after proof f = record { same = f.same; written = once-hidden hidden before after proof f.written }
+
+-- where something holds a proof, one is open
+pub open-there : (o : Option OpenState) (hidden : Bool) (told : List Entry) (proof : Option OpenProof) (b : Bool) → ProofFits o hidden told proof → b ≡ is_some o → b ≡ true → IsOpen proof
+open-there o hidden told None b f e t = let z : true ≡ false = sym t ∙ e ∙ ap (λ (x : Option OpenState). is_some x) f.same in absurd cc
+open-there o hidden told (Some p) b f e t = (p, refl)

@@ -1,0 +1,52 @@
+-- What a user can know of an open DRAT proof, and what a call makes of it.
+use Rattle.std.specs.Prelude.{◌≡◌, ℕ, Bool, false, Option, Some, None, List, ◌++◌}
+use Rattle.varisat_theory.specs.Derivations.{Line}
+use Rattle.varisat_theory.specs.Journals.{Entry, lines_of}
+use Rattle.varisat_proof.specs.declared.proof.format.ProofFormat.{ProofFormat}
+use Rattle.varisat_proof.specs.declared.proof.format.ProofFormat.TheVariants.{Drat, BinaryDrat, Marked}
+use Rattle.varisat_proof.specs.Lines.{encoding_of, plain_lines}
+use Rattle.varisat_proof.specs.Steps.{lines_written}
+use Rattle.varisat_proof.specs.Proving.{OpenState}
+
+-- `format`, and how often the target failed in all. `first`: the bytes that the target had when the proof was opened, and `bytes`: those since then. `searched`: whether `solve` was called since then. `before`: what was told before.
+pub record OpenProof : Type 0 where
+  pub format : ProofFormat
+  pub faults : ℕ
+  pub first : List ℕ
+  pub bytes : List ℕ
+  pub searched : Bool
+  pub before : List Entry
+
+-- what holds the proof, if one is open
+abbrev pub opened_state : Option OpenProof → Option OpenState
+opened_state None = None
+opened_state (Some p) = Some (record { format = p.format; taken = record { bytes = p.first ++ p.bytes; faults = p.faults }; searched = p.searched })
+
+abbrev pub IsOpen : Option OpenProof → Type 0
+IsOpen proof = (p : OpenProof) × (proof ≡ Some p)
+
+abbrev pub IsDrat : ProofFormat → Type 0
+IsDrat Drat = Unit {0}
+IsDrat BinaryDrat = Unit {0}
+IsDrat Marked = ⊥
+
+-- The bytes are those of lines. As long as nothing was ever hidden these are the lines that were told since the proof was opened.
+pub record IsWrittenAs (hidden : Bool) (told : List Entry) (p : OpenProof) : Type 0 where
+  pub drat : IsDrat p.format
+  pub lines : List Line
+  pub bytes : p.bytes ≡ lines_written (encoding_of p.format) (plain_lines lines)
+  pub told_since : hidden ≡ false → lines_of told ≡ lines_of p.before ++ lines
+
+abbrev pub IsWrittenIf : Bool → List Entry → Option OpenProof → Type 0
+IsWrittenIf hidden told None = Unit {0}
+IsWrittenIf hidden told (Some p) = IsWrittenAs hidden told p
+
+-- What holds the proof fits what a user knows of it.
+pub record ProofFits (opened : Option OpenState) (hidden : Bool) (told : List Entry) (proof : Option OpenProof) : Type 0 where
+  pub same : opened ≡ opened_state proof
+  pub written : IsWrittenIf hidden told proof
+
+-- A proof that is open stays so, with further bytes.
+abbrev pub GoesOnWriting : Option OpenProof → Option OpenProof → Type 0
+GoesOnWriting None new = new ≡ None
+GoesOnWriting (Some p) new = (more : List ℕ) × (new ≡ Some (record p { bytes = p.bytes ++ more }))

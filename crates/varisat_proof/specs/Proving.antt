@@ -1,0 +1,119 @@
+-- What an open proof and a checker inside a solver make of the entries that they are told.
+use Rattle.std.specs.Prelude.{◌≡◌, ℕ, ◌+◌, ◌-◌, ◌<◌, ◌^◌, Bool, true, false, ◌||◌, List, [], ◌∷◌, ◌++◌, flat_map, take, Option, Some, None, Result, Ok, Err}
+use Rattle.varisat_theory.specs.Literals.{Clause}
+use Rattle.varisat_theory.specs.Held.{SameClauses}
+use Rattle.varisat_formula.specs.Streams.{Taken}
+use Rattle.varisat_theory.specs.Journals.{Entry}
+use Rattle.varisat_trace.specs.declared.tracer.TraceError.{TraceError}
+use Rattle.varisat_trace.specs.declared.tracer.TraceError.TheVariants.{Memory, Target}
+use Rattle.varisat_proof.specs.declared.proof.format.ProofFormat.{ProofFormat}
+use Rattle.varisat_proof.specs.Calls.{CheckerState}
+use Rattle.varisat_proof.specs.Present.{IsLeftAfter}
+use Rattle.varisat_proof.specs.declared.proof.format.Encoding.{Encoding}
+use Rattle.varisat_proof.specs.Lines.{ProofLine, encoding_of}
+use Rattle.varisat_proof.specs.Steps.{lines_written}
+use Rattle.varisat_proof.specs.Telling.{lines_told}
+
+-- an open proof: its format, what its target took, and whether a search ran under it
+pub record OpenState : Type 0 where
+  pub format : ProofFormat
+  pub taken : Taken
+  pub searched : Bool
+
+-- the proof that is open and the checker that runs
+pub record ProofParts : Type 0 where
+  pub opened : Option OpenState
+  pub checker : Option CheckerState
+
+abbrev pub is_there : {X : Type 0} → Option X → Bool
+is_there None = false
+is_there (Some x) = true
+
+-- whether a proof is open or a checker runs
+abbrev pub is_telling : ProofParts → Bool
+is_telling p = is_there p.opened || is_there p.checker
+
+-- 1. A target.
+-- The target took these lines.
+pub record IsWritten (old : OpenState) (lines : List ProofLine) (new : OpenState) : Type 0 where
+  pub rest : new ≡ record old { taken = new.taken }
+  pub bytes : new.taken.bytes ≡ old.taken.bytes ++ lines_written (encoding_of old.format) lines
+  pub faults : new.taken.faults ≡ old.taken.faults
+
+-- It took a beginning of them, and this many faults came.
+pub record IsBegun (old : OpenState) (lines : List ProofLine) (more : ℕ) (new : OpenState) : Type 0 where
+  pub rest : new ≡ record old { taken = new.taken }
+  pub bytes : (n : ℕ) × (new.taken.bytes ≡ old.taken.bytes ++ take n (lines_written (encoding_of old.format) lines))
+  pub faults : new.taken.faults ≡ old.taken.faults + more
+
+-- 2. An open proof and a checker, if there are such.
+-- the lines of its encoding were written
+abbrev pub IsWrittenIf : Option OpenState → (Encoding → List ProofLine) → Option OpenState → Type 0
+IsWrittenIf None lines new = new ≡ None
+IsWrittenIf (Some old) lines None = ⊥
+IsWrittenIf (Some old) lines (Some new) = IsWritten old (lines (encoding_of old.format)) new
+
+abbrev pub IsBegunIf : Option OpenState → (Encoding → List ProofLine) → ℕ → Option OpenState → Type 0
+IsBegunIf None lines more new = (new ≡ None) × (more ≡ 0)
+IsBegunIf (Some old) lines more None = ⊥
+IsBegunIf (Some old) lines more (Some new) = IsBegun old (lines (encoding_of old.format)) more new
+
+-- What writing returns and leaves: after an error a beginning of the lines stands in the target, and a fault comes only from there.
+abbrev pub WritesLines : Option OpenState → (Encoding → List ProofLine) → Result (Unit {0}) TraceError → Option OpenState → Type 0
+WritesLines old lines (Ok u) new = IsWrittenIf old lines new
+WritesLines old lines (Err Memory) new = IsBegunIf old lines 0 new
+WritesLines old lines (Err (Target cause)) new = IsBegunIf old lines 1 new
+
+-- the lines of the entries, by encoding
+abbrev pub told : List Entry → Encoding → List ProofLine
+told entries e = lines_told e entries
+
+-- the checker took the entries
+abbrev pub IsCheckedIf : Option CheckerState → List Entry → Option CheckerState → Type 0
+IsCheckedIf None entries new = new ≡ None
+IsCheckedIf (Some old) entries None = ⊥
+IsCheckedIf (Some old) entries (Some new) = IsLeftAfter old.clauses entries new.clauses × (new.spent ≡ old.spent)
+
+-- The entries were told to both.
+pub record IsTold (old : ProofParts) (entries : List Entry) (new : ProofParts) : Type 0 where
+  pub written : IsWrittenIf old.opened (told entries) new.opened
+  pub checked : IsCheckedIf old.checker entries new.checker
+
+-- What telling entries returns and leaves. After an error a beginning of the lines stands in the target; where that failed, the checker was told nothing.
+abbrev pub Tells : ProofParts → List Entry → Result (Unit {0}) TraceError → ProofParts → Type 0
+Tells old entries (Ok u) new = IsTold old entries new
+Tells old entries (Err Memory) new = IsBegunIf old.opened (told entries) 0 new.opened
+Tells old entries (Err (Target cause)) new = IsBegunIf old.opened (told entries) 1 new.opened × (new.checker ≡ old.checker)
+
+-- 3. What can be told.
+-- a target can be used that may still count a fault
+abbrev pub HasRoom : Option OpenState → Type 0
+HasRoom None = Unit {0}
+HasRoom (Some p) = p.taken.faults < 2 ^ 64 - 1
+
+-- The clauses that a checker may hold: the same as sets that it has, each as often, in whatever order. Where none runs it may be any.
+abbrev pub MayHold : Option CheckerState → List Clause → Type 0
+MayHold None held = Unit {0}
+MayHold (Some c) held = SameClauses held c.clauses × (c.spent ≡ false)
+
+-- a checker that runs is not spent
+abbrev pub IsUsable : Option CheckerState → Type 0
+IsUsable None = Unit {0}
+IsUsable (Some c) = c.spent ≡ false
+
+-- 4. How a proof opens and closes.
+-- the open proof, if any, as one under which a search ran
+abbrev pub marked_searched : Option OpenState → Option OpenState
+marked_searched None = None
+marked_searched (Some p) = Some (record p { searched = true })
+
+abbrev pub searched_under : ProofParts → ProofParts
+searched_under p = record p { opened = marked_searched p.opened }
+
+-- What closing returns: the target, or its fault with it, and nothing where no proof is open.
+abbrev pub IsClosed : {W E : Type 0} → (W → Taken) → Option OpenState → Result (Option W) (E × W) → Type 0
+IsClosed taken None (Ok None) = Unit {0}
+IsClosed taken None result = ⊥
+IsClosed taken (Some p) (Ok None) = ⊥
+IsClosed taken (Some p) (Ok (Some w)) = taken w ≡ p.taken
+IsClosed taken (Some p) (Err e) = taken e.1 ≡ record p.taken { faults = p.taken.faults + 1 }

@@ -1,0 +1,77 @@
+-- Steps over global variables, literal by literal, and that they can be told and what telling them is.
+use Rattle.std.proofs.Common.{◌≡◌, ℕ, ◌+◌, ◌<◌, List, [], ◌∷◌, ◌++◌, length, take, get_or, refl, sym, ap, ◌∙◌, subst, map}
+use Rattle.std.proofs.lemmas.List.{map-append, take_more, get_or_read}
+use Rattle.varisat_theory.specs.Literals.{Literal, Clause}
+use Rattle.varisat_theory.specs.Propagation.{Conflicts}
+use Rattle.varisat_theory.specs.Derivations.{Line, Add, Delete, Derives}
+use Rattle.varisat_theory.specs.StepLaws.{unit_lines}
+use Rattle.varisat_theory.specs.Renaming.{rename_line}
+use Rattle.varisat_theory.specs.Journals.{Entry, Writes, Fails, Leads, written}
+use Rattle.varisat_trace.specs.Traces.{CanTake, CanFail}
+use Rattle.varisat_trace.proofs.Traced.{lines-lead}
+use Rattle.varisat_proof.specs.Proving.{IsTold, MayHold}
+use Rattle.varisat_tracer.specs.Carried.{told_as}
+use Rattle.varisat_tracer.specs.Tracing.{TracerState, global_literal, Relies, TakesGlobally}
+use Rattle.varisat_tracer.specs.TracerLaws.{leads-globally}
+
+pub mapped-more : (f : Literal → Literal) (ls old new : List Literal) (i l m : ℕ) → i < length ls → l ≡ get_or ls i l → old ≡ map f (take i ls) → new ≡ old ++ m ∷ [] → m ≡ f l → new ≡ map f (take (i + 1) ls)
+mapped-more f ls old new i l m h e o n w =
+    n ∙ ap (λ xs. xs ++ m ∷ []) o ∙ ap (λ x. map f (take i ls) ++ x ∷ []) (w ∙ ap f (get_or_read ls i l h e 0)) ∙ sym (map-append f (take i ls) (get_or ls i 0 ∷ [])) ∙ ap (map f) (sym (take_more ls i 0 h))
+
+-- 1. Lines as entries, and back.
+lead-lines : (P : List Clause) (lines : List Line) (Q : List Clause) → Leads P (written lines) Q → Derives P lines Q
+lead-lines P [] Q e = e
+lead-lines P (Add c ∷ lines) Q (R, (f, e), d) = (f, subst (λ (X : List Clause). Derives X lines Q) e (lead-lines R lines Q d))
+lead-lines P (Delete c ∷ lines) Q (R, t, d) = (R, t, lead-lines R lines Q d)
+
+told-lines : (f : Literal → Literal) (lines : List Line) → told_as f (written lines) ≡ written (map (rename_line f) lines)
+told-lines f [] = refl
+told-lines f (line ∷ lines) = ap (λ es. Writes (rename_line f line) ∷ es) (told-lines f lines)
+
+unit-names : (f : Literal → Literal) (ls : List Literal) → map (rename_line f) (unit_lines ls) ≡ unit_lines (map f ls)
+unit-names f [] = refl
+unit-names f (l ∷ ls) = ap (λ xs. Add (f l ∷ []) ∷ xs) (unit-names f ls)
+
+pub told-units : (f : Literal → Literal) (ls : List Literal) → told_as f (written (unit_lines ls)) ≡ written (unit_lines (map f ls))
+told-units f ls = told-lines f (unit_lines ls) ∙ ap written (unit-names f ls)
+
+-- 2. What is right over solver variables is so over global ones.
+pub lines-globally : (x : TracerState) (lines others : List Line) → map (rename_line (global_literal x.tables)) lines ≡ others → CanTake (Relies x) lines → CanTake (MayHold x.proof.checker) others
+lines-globally x lines others e (held, after, r, d) =
+    let f = global_literal x.tables in
+    let (now, next, h, l) = leads-globally x (written lines) held after r (lines-lead held lines after d) in
+    (now, next, h, lead-lines now others next (subst (λ es. Leads now es next) (told-lines f lines ∙ ap written e) l))
+
+pub units-globally : (x : TracerState) (ls ms : List Literal) → ms ≡ map (global_literal x.tables) ls → CanTake (Relies x) (unit_lines ls) → CanTake (MayHold x.proof.checker) (unit_lines ms)
+units-globally x ls ms e h = lines-globally x (unit_lines ls) (unit_lines ms) (unit-names (global_literal x.tables) ls ∙ ap unit_lines (sym e)) h
+
+pub added-globally : (x : TracerState) (c d : Clause) → d ≡ map (global_literal x.tables) c → CanTake (Relies x) (Add c ∷ []) → CanTake (MayHold x.proof.checker) (Add d ∷ [])
+added-globally x c d e h = lines-globally x (Add c ∷ []) (Add d ∷ []) (ap (λ y. Add y ∷ []) (sym e)) h
+
+pub deleted-globally : (x : TracerState) (c d : Clause) → d ≡ map (global_literal x.tables) c → CanTake (Relies x) (Delete c ∷ []) → CanTake (MayHold x.proof.checker) (Delete d ∷ [])
+deleted-globally x c d e h = lines-globally x (Delete c ∷ []) (Delete d ∷ []) (ap (λ y. Delete y ∷ []) (sym e)) h
+
+pub fails-globally : (x : TracerState) (core others : List Literal) → others ≡ map (global_literal x.tables) core → CanFail (Relies x) core → CanFail (MayHold x.proof.checker) others
+fails-globally x core others e (held, r, k) =
+    let (now, next, h, l) = leads-globally x (Fails core ∷ []) held held r (held, (k, refl), refl) in
+    (now, h, subst (λ y. Conflicts now y) (sym e) l.1.0)
+
+-- 3. The entries that were told.
+pub takes-told : (x y : TracerState) (entries others : List Entry) → y.tables ≡ x.tables → others ≡ told_as (global_literal x.tables) entries → IsTold x.proof others y.proof → TakesGlobally x entries y
+takes-told x y entries others e o t = record { tables = e; told = subst (λ es. IsTold x.proof es y.proof) o t }
+
+-- 4. The same of a tracer's parts.
+pub added-parts : (x y : TracerState) (c d : Clause) → y ≡ x → d ≡ map (global_literal y.tables) c → CanTake (Relies x) (Add c ∷ []) → CanTake (MayHold y.proof.checker) (Add d ∷ [])
+added-parts x y c d e f h = added-globally y c d f (subst (λ (z : TracerState). CanTake (Relies z) (Add c ∷ [])) (sym e) h)
+
+pub units-parts : (x y : TracerState) (ls ms : List Literal) → y ≡ x → ms ≡ map (global_literal y.tables) ls → CanTake (Relies x) (unit_lines ls) → CanTake (MayHold y.proof.checker) (unit_lines ms)
+units-parts x y ls ms e f h = units-globally y ls ms f (subst (λ (z : TracerState). CanTake (Relies z) (unit_lines ls)) (sym e) h)
+
+pub deleted-parts : (x y : TracerState) (c d : Clause) → y ≡ x → d ≡ map (global_literal y.tables) c → CanTake (Relies x) (Delete c ∷ []) → CanTake (MayHold y.proof.checker) (Delete d ∷ [])
+deleted-parts x y c d e f h = deleted-globally y c d f (subst (λ (z : TracerState). CanTake (Relies z) (Delete c ∷ [])) (sym e) h)
+
+pub fails-parts : (x y : TracerState) (core others : List Literal) → y ≡ x → others ≡ map (global_literal y.tables) core → CanFail (Relies x) core → CanFail (MayHold y.proof.checker) others
+fails-parts x y core others e f h = fails-globally y core others f (subst (λ (z : TracerState). CanFail (Relies z) core) (sym e) h)
+
+pub takes-parts : (x y z : TracerState) (entries others : List Entry) → y ≡ x → z.tables ≡ y.tables → others ≡ told_as (global_literal y.tables) entries → IsTold y.proof others z.proof → TakesGlobally x entries z
+takes-parts x y z entries others e f o t = subst (λ (w : TracerState). TakesGlobally w entries z) e (takes-told y z entries others f o t)

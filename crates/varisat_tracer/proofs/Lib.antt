@@ -1,0 +1,2 @@
+pub mod GlobalSteps
+pub mod Telling

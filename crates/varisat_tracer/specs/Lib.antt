@@ -1,0 +1,5 @@
+pub mod Carried
+pub mod Tracing
+pub mod Told
+pub mod Relying
+pub mod TracerLaws

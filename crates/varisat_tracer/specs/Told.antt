@@ -1,0 +1,103 @@
+-- Entries that are told in turn, none, or to nothing.
+use Rattle.std.specs.Prelude.{◌≡◌, ◌||◌, Bool, true, false, List, [], ◌∷◌, ◌++◌, map, flat_map, Option, Some, None, refl}
+use Rattle.std.proofs.Common.{sym, ap, ◌∙◌, append_assoc, subst}
+use Rattle.varisat_theory.specs.Literals.{Literal, Clause}
+use Rattle.varisat_theory.specs.Derivations.{Add, Delete}
+use Rattle.varisat_theory.specs.Held.{without}
+use Rattle.varisat_theory.specs.Renaming.{rename_line}
+use Rattle.varisat_theory.specs.Journals.{Entry, Accepts, Writes, Assumes, Fails, Leaves}
+use Rattle.varisat_proof.specs.declared.proof.format.ProofFormat.{ProofFormat}
+use Rattle.varisat_proof.specs.declared.proof.format.Encoding.{Encoding}
+use Rattle.varisat_proof.specs.Lines.{encoding_of}
+use Rattle.varisat_proof.specs.Written.{line_written}
+use Rattle.varisat_proof.specs.Steps.{lines_written}
+use Rattle.varisat_proof.specs.Calls.{CheckerState}
+use Rattle.varisat_proof.specs.Telling.{entry_lines, lines_told}
+use Rattle.varisat_proof.specs.Present.{IsLeftAfter}
+use Rattle.varisat_proof.specs.Proving.{OpenState, ProofParts, is_there, IsWrittenIf, IsCheckedIf, IsTold, told}
+use Rattle.varisat_tracer.specs.Carried.{told_as}
+
+append-nil : {X : Type 0} (xs : List X) → xs ++ [] ≡ xs
+append-nil [] = refl
+append-nil (x ∷ xs) = ap (λ ys. x ∷ ys) (append-nil xs)
+
+flat_map-append : {X Y : Type 0} (f : X → List Y) (xs ys : List X) → flat_map f (xs ++ ys) ≡ flat_map f xs ++ flat_map f ys
+flat_map-append f [] ys = refl
+flat_map-append f (x ∷ xs) ys = ap (λ zs. f x ++ zs) (flat_map-append f xs ys) ∙ sym (append_assoc (f x) (flat_map f xs) (flat_map f ys))
+
+bytes-append : (e : Encoding) (first second : List Entry) → lines_written e (lines_told e (first ++ second)) ≡ lines_written e (lines_told e first) ++ lines_written e (lines_told e second)
+bytes-append e first second =
+    ap (λ ls. flat_map (line_written e) ls) (flat_map-append (entry_lines e) first second) ∙ flat_map-append (line_written e) (lines_told e first) (lines_told e second)
+
+pub told_as-append : (f : Literal → Literal) (first second : List Entry) → told_as f (first ++ second) ≡ told_as f first ++ told_as f second
+told_as-append f [] second = refl
+told_as-append f (Accepts c ∷ es) second = ap (λ xs. Accepts (map f c) ∷ xs) (told_as-append f es second)
+told_as-append f (Writes line ∷ es) second = ap (λ xs. Writes (rename_line f line) ∷ xs) (told_as-append f es second)
+told_as-append f (Assumes a ∷ es) second = ap (λ xs. Assumes (map f a) ∷ xs) (told_as-append f es second)
+told_as-append f (Fails core ∷ es) second = ap (λ xs. Fails (map f core) ∷ xs) (told_as-append f es second)
+told_as-append f (Leaves v ∷ es) second = told_as-append f es second
+
+-- 1. None.
+written-none : (o : Option OpenState) → IsWrittenIf o (told []) o
+written-none None = refl
+written-none (Some p) = record { rest = refl; bytes = sym (append-nil p.taken.bytes); faults = refl }
+
+checked-none : (k : Option CheckerState) → IsCheckedIf k [] k
+checked-none None = refl
+checked-none (Some c) = (refl, refl)
+
+pub told-none : (p : ProofParts) → IsTold p [] p
+told-none p = record { written = written-none p.opened; checked = checked-none p.checker }
+
+-- 2. In turn.
+written-more : (o p q : Option OpenState) (first second : List Entry) → IsWrittenIf o (told first) p → IsWrittenIf p (told second) q → IsWrittenIf o (told (first ++ second)) q
+written-more None p q first second h k = subst (λ x. IsWrittenIf x (told second) q) h k
+written-more (Some a) None q first second h k = absurd h
+written-more (Some a) (Some b) None first second h k = absurd k
+written-more (Some a) (Some b) (Some c) first second h k =
+    let same : b.format ≡ a.format = ap (λ (x : OpenState). x.format) h.rest in
+    let more : c.taken.bytes ≡ b.taken.bytes ++ lines_written (encoding_of a.format) (lines_told (encoding_of a.format) second) =
+    subst (λ (f : ProofFormat). c.taken.bytes ≡ b.taken.bytes ++ lines_written (encoding_of f) (lines_told (encoding_of f) second)) same k.bytes in
+    record {
+      rest = k.rest ∙ ap (λ (x : OpenState). let y : OpenState = record x { taken = c.taken } in y) h.rest;
+      bytes =
+          more ∙ ap (λ xs. xs ++ lines_written (encoding_of a.format) (lines_told (encoding_of a.format) second)) h.bytes
+          ∙ append_assoc a.taken.bytes (lines_written (encoding_of a.format) (lines_told (encoding_of a.format) first)) (lines_written (encoding_of a.format) (lines_told (encoding_of a.format) second))
+          ∙ ap (λ xs. a.taken.bytes ++ xs) (sym (bytes-append (encoding_of a.format) first second));
+      faults = k.faults ∙ h.faults;
+    }
+
+pub left_more : (P Q R : List Clause) (first second : List Entry) → IsLeftAfter P first Q → IsLeftAfter Q second R → IsLeftAfter P (first ++ second) R
+left_more P Q R [] second e h = subst (λ (X : List Clause). IsLeftAfter X second R) (sym e) h
+left_more P Q R (Accepts c ∷ first) second e h = left_more (P ++ c ∷ []) Q R first second e h
+left_more P Q R (Writes (Add c) ∷ first) second e h = left_more (P ++ c ∷ []) Q R first second e h
+left_more P Q R (Writes (Delete c) ∷ first) second (S, t, e) h = (S, t, left_more S Q R first second e h)
+left_more P Q R (Assumes a ∷ first) second e h = left_more P Q R first second e h
+left_more P Q R (Fails core ∷ first) second e h = left_more P Q R first second e h
+left_more P Q R (Leaves v ∷ first) second e h = left_more (without v P) Q R first second e h
+
+checked-more : (o p q : Option CheckerState) (first second : List Entry) → IsCheckedIf o first p → IsCheckedIf p second q → IsCheckedIf o (first ++ second) q
+checked-more None p q first second h k = subst (λ x. IsCheckedIf x second q) h k
+checked-more (Some a) None q first second h k = absurd h
+checked-more (Some a) (Some b) None first second h k = absurd k
+checked-more (Some a) (Some b) (Some c) first second h k = (left_more a.clauses b.clauses c.clauses first second h.0 k.0, k.1 ∙ h.1)
+
+pub told-more : (p q r : ProofParts) (first second : List Entry) → IsTold p first q → IsTold q second r → IsTold p (first ++ second) r
+told-more p q r first second h k = record {
+  written = written-more p.opened q.opened r.opened first second h.written k.written;
+  checked = checked-more p.checker q.checker r.checker first second h.checked k.checked;
+}
+
+-- 3. To nothing.
+IsNo : Bool → Type 0
+IsNo true = ⊥
+IsNo false = Unit {0}
+
+idle : (o : Option OpenState) (k : Option CheckerState) (entries : List Entry) → (is_there o || is_there k) ≡ false → IsWrittenIf o (told entries) o × IsCheckedIf k entries k
+unfolding IsNo
+idle None None entries h = (refl, refl)
+idle None (Some c) entries h = absurd (subst IsNo (sym h) tt)
+idle (Some p) k entries h = absurd (subst IsNo (sym h) tt)
+
+pub told-idle : (p : ProofParts) (entries : List Entry) → (is_there p.opened || is_there p.checker) ≡ false → IsTold p entries p
+told-idle p entries h = let i = idle p.opened p.checker entries h in record { written = i.0; checked = i.1 }

@@ -1,0 +1,44 @@
+-- What a solver's tracer holds and takes.
+use Rattle.std.specs.Prelude.{◌≡◌, None, List, ◌++◌}
+use Rattle.std.specs.List.Sorted.{IsNonDecreasingBy}
+use Rattle.varisat_theory.specs.Literals.{Literal, Clause}
+use Rattle.varisat_theory.specs.Renaming.{rename}
+use Rattle.varisat_theory.specs.Journals.{Entry}
+use Rattle.varisat_names.specs.VarMap.{at}
+use Rattle.varisat_names.specs.Variables.{Tables}
+use Rattle.varisat_proof.specs.Proving.{ProofParts, IsTold, HasRoom, IsUsable, MayHold}
+use Rattle.varisat_tracer.specs.declared.tracer.SolverTracer.{SolverTracer}
+use Rattle.varisat_tracer.specs.Carried.{carry, told_as}
+
+-- the names and variables of a solver, and its proof
+pub record TracerState : Type 0 where
+  pub tables : Tables
+  pub proof : ProofParts
+
+abbrev pub parts_of : {W A : Type 0} → SolverTracer W A → TracerState
+parts_of t = record { tables = t.variables; proof = t.proof }
+
+-- the literal of the global variable that the solver variable stands for
+abbrev pub global_literal : Tables → Literal → Literal
+global_literal t = carry (at t.solvers.backward)
+
+-- A clause's literals stand in increasing order of the variable numbers that a line writes.
+abbrev pub IsInOrder : TracerState → Clause → Type 0
+IsInOrder x clause = IsNonDecreasingBy (global_literal x.tables) clause
+
+-- Clauses that a search may rely on: with others that it knows nothing of they are, over global variables, what the checker has. What writes and checks can be used.
+pub record Relies (x : TracerState) (held : List Clause) : Type 0 where
+  pub room : HasRoom x.proof.opened
+  pub usable : IsUsable x.proof.checker
+  pub others : List Clause
+  pub holds : MayHold x.proof.checker (others ++ rename (global_literal x.tables) held)
+
+-- The entries were told to the proof, over global variables; names and variables stay.
+pub record TakesGlobally (x : TracerState) (entries : List Entry) (y : TracerState) : Type 0 where
+  pub tables : y.tables ≡ x.tables
+  pub told : IsTold x.proof (told_as (global_literal x.tables) entries) y.proof
+
+-- A target that may still count a fault, if a proof is open, and no checker, so that any clauses may be relied on.
+pub record CanTell (p : ProofParts) : Type 0 where
+  pub room : HasRoom p.opened
+  pub unchecked : p.checker ≡ None

@@ -1,0 +1,167 @@
+//! The tracer of a solver: it hands the steps of a search on to the proof that the solver writes and to the checker
+//! inside it, over global variables.
+ghost use Rattle.std.specs.Prelude.{◌≡◌, map, IfOk, OnOk, true, Some, None, [], ◌∷◌};
+ghost use Rattle.varisat_names.specs.VarMap.{at};
+ghost use Rattle.varisat_names.specs.Variables.{no_variables};
+ghost use Rattle.varisat_tracer.specs.Carried.{carry, variable_or_first};
+ghost use Rattle.varisat_theory.specs.Journals.{Accepts, Assumes};
+ghost use Rattle.varisat_proof.specs.Proving.{HasRoom, IsUsable};
+ghost use Rattle.varisat_tracer.specs.Tracing.{global_literal, parts_of, TakesGlobally};
+
+use std::alloc::{AllocError, Allocator};
+use varisat_formula::io::ProofTarget;
+use varisat_literals::{Lit, Var};
+use varisat_names::variables::LinkedVariables;
+use varisat_proof::proof::{Proof, add_assumptions, add_clause, add_step};
+use varisat_trace::{ProofStep, ProofTracer, TraceError};
+
+/// The global variable of a solver variable, or the first where it has none.
+fn global_var<A: Allocator + Copy>(variables: &LinkedVariables<A>, solver: Var) -> Var
+    ensures { result ≡ variable_or_first (at variables.now.solvers.backward solver) }
+{
+    match variables.global_from_solver().get(solver) {
+        Some(global) => global,
+        None => Var::from_index(0),
+    }
+}
+
+/// The literal of the global variable.
+fn global_lit<A: Allocator + Copy>(variables: &LinkedVariables<A>, literal: Lit) -> Lit
+    ensures { result ≡ global_literal variables.now literal }
+{
+    global_var(variables, literal.var()).lit(literal.is_positive())
+}
+
+/// The literals over global variables.
+fn map_lits<A: Allocator + Copy>(
+    variables: &LinkedVariables<A>,
+    literals: &[Lit],
+    mapped: &mut Vec<Lit, A>,
+) -> Result<(), AllocError>
+    ensures { OnOk result (mapped.new.items ≡ map (global_literal variables.now) literals.now) }
+{
+    mapped.clear();
+    for literal in literals {
+        mapped.push(global_lit(variables, *literal))?;
+    }
+    Ok(())
+}
+
+/// The names and variables of a solver with its proof. It owns both, so that a search borrows one thing; with no proof
+/// open and no checker running steps pass.
+#[derive(Drop)]
+pub struct SolverTracer<W: ProofTarget, A: Allocator + Copy> {
+    pub variables: LinkedVariables<A>,
+    pub proof: Proof<W, A>,
+    /// The literals of a step over global variables.
+    pub literals: Vec<Lit, A>,
+}
+
+impl<W: ProofTarget, A: Allocator + Copy> SolverTracer<W, A> {
+    /// No variables, no proof and no checker. It takes no memory.
+    pub fn new_in(alloc: A) -> SolverTracer<W, A>
+        ensures variables { result.variables ≡ no_variables }
+        ensures proof { result.proof ≡ record { opened = None; checker = None } }
+    {
+        SolverTracer {
+            variables: LinkedVariables::new_in(alloc),
+            proof: Proof::new_in(alloc),
+            literals: Vec::new(alloc),
+        }
+    }
+
+    /// Tells an accepted clause, which is over solver variables.
+    pub fn add_clause(&mut self, clause: &[Lit]) -> Result<(), TraceError>
+        requires room { HasRoom self.old.proof.opened }
+        requires usable { IsUsable self.old.proof.checker }
+        ensures { OnOk result (TakesGlobally (parts_of self.old) (Accepts clause.now ∷ []) (parts_of self.new)) }
+    {
+        if !self.proof.is_active() {
+            return Ok(());
+        }
+        map_lits(&self.variables, clause, &mut self.literals)?;
+        let clause = self.literals.as_slice();
+        add_clause(&mut self.proof, clause)?;
+        Ok(())
+    }
+
+    /// Tells an accepted list of assumptions, which is over solver variables.
+    pub fn add_assumptions(&mut self, assumptions: &[Lit]) -> Result<(), TraceError>
+        requires room { HasRoom self.old.proof.opened }
+        requires usable { IsUsable self.old.proof.checker }
+        ensures { OnOk result (TakesGlobally (parts_of self.old) (Assumes assumptions.now ∷ []) (parts_of self.new)) }
+    {
+        if !self.proof.is_active() {
+            return Ok(());
+        }
+        map_lits(&self.variables, assumptions, &mut self.literals)?;
+        let assumptions = self.literals.as_slice();
+        add_assumptions(&mut self.proof, assumptions)?;
+        Ok(())
+    }
+}
+
+impl<W: ProofTarget, A: Allocator + Copy> ProofTracer for SolverTracer<W, A> {
+    ghost use Rattle.varisat_proof.specs.Proving.{is_telling};
+    ghost use Rattle.varisat_tracer.specs.Tracing.{parts_of, IsInOrder, Relies, TakesGlobally};
+    ghost use Rattle.varisat_tracer.specs.TracerLaws.{takes-none, takes-more, takes-idle, relies-after};
+
+    ghost active = { λ x. is_telling x.proof };
+
+    ghost holds = { λ x held. Relies (parts_of x) held };
+
+    ghost takes = { λ x entries y. TakesGlobally (parts_of x) entries (parts_of y) };
+
+    ghost in_order = { λ x clause. IsInOrder (parts_of x) clause };
+
+    fn is_active(&self) -> bool {
+        self.proof.is_active()
+    }
+
+    /// By the global variables.
+    fn sort(&self, clause: &mut [Lit]) {
+        clause.sort_unstable_by_key(|literal| global_lit(&self.variables, *literal).code());
+    }
+
+    /// That a solver variable leaves the search is not handed on, since its global variable may live on.
+    fn add_step(&mut self, step: &ProofStep<'_>) -> Result<(), TraceError> {
+        if !self.proof.is_active() {
+            return Ok(());
+        }
+        match step {
+            ProofStep::AtClause { clause } => {
+                map_lits(&self.variables, clause, &mut self.literals)?;
+                let clause = self.literals.as_slice();
+                add_step(&mut self.proof, &ProofStep::AtClause { clause })?;
+            }
+            ProofStep::UnitClauses { units } => {
+                map_lits(&self.variables, units, &mut self.literals)?;
+                let units = self.literals.as_slice();
+                add_step(&mut self.proof, &ProofStep::UnitClauses { units })?;
+            }
+            ProofStep::DeleteClause { clause } => {
+                map_lits(&self.variables, clause, &mut self.literals)?;
+                let clause = self.literals.as_slice();
+                add_step(&mut self.proof, &ProofStep::DeleteClause { clause })?;
+            }
+            ProofStep::FailedAssumptions { failed_core } => {
+                map_lits(&self.variables, failed_core, &mut self.literals)?;
+                let failed_core = self.literals.as_slice();
+                add_step(
+                    &mut self.proof,
+                    &ProofStep::FailedAssumptions { failed_core },
+                )?;
+            }
+            ProofStep::DeleteVar { .. } => {}
+        }
+        Ok(())
+    }
+
+    ghost takes_none = { λ x. takes-none (parts_of x) };
+
+    ghost takes_more = { λ x y z. takes-more (parts_of x) (parts_of y) (parts_of z) };
+
+    ghost takes_idle = { λ x. takes-idle (parts_of x) };
+
+    ghost holds_after = { λ x y. relies-after (parts_of x) (parts_of y) };
+}

@@ -1,7 +1,7 @@
 -- What a run says of the answers alone.
 use Rattle.std.proofs.Common.{List, [], ◌∷◌, refl, ◌∙◌, Result, Ok, Err}
 use Rattle.std.specs.Result.{IfOk}
-use Rattle.varisat_formula.specs.Streams.{Stand}
+use Rattle.varisat_formula.specs.Streams.{Stand, Taken}
 use Rattle.varisat.specs.declared.session.Call.{Call}
 use Rattle.varisat.specs.declared.session.Answer.{Answer}
 use Rattle.varisat.specs.declared.session.Call.TheVariants as call
@@ -10,7 +10,7 @@ use Rattle.varisat.specs.States.{State, empty_state}
 use Rattle.varisat.specs.Told.{told_list, told_vars}
 use Rattle.varisat.specs.Names.{Sample, Witness}
 use Rattle.varisat.specs.Runs.{MakesCall, Run}
-use Rattle.varisat.specs.Pasts.{Past, empty_past, count_anew}
+use Rattle.varisat.specs.Pasts.{Past, empty_past}
 use Rattle.varisat.specs.Histories.{IsTrue, AreTrue}
 use Rattle.varisat.proofs.Pasts.{Agrees, Leads, add-clause, add-formula, add-text, make-var, set-usage, hide, observe, assume-list, solve, tell-model, tell-core, config, tell-since, close, stays, empty-agrees}
 
@@ -20,35 +20,35 @@ of-ok (Ok x) P Q f h = f x h
 of-ok (Err e) P Q f h = tt
 
 -- a call moves the past and the state alike
-is-true : {W S A : Type 0} (seen : S → Stand) (c : Call S A) (a : Answer W S A) (p : Past) (s t : State) → Agrees p s → MakesCall seen s c a t → Leads (IsTrue seen p c a) t
-is-true seen (call.AddClause d) (answer.AddClause r) p s t g m = add-clause p s t d.items r g m
-is-true seen (call.AddFormula f) (answer.AddFormula r) p s t g m = add-formula p s t f.clauses r g m
-is-true seen (call.AddDimacsCnf source) (answer.AddDimacsCnf r back) p s t g m = add-text p s t (seen source) (seen back) r g m
-is-true seen call.NewVar (answer.NewVar r) p s t g m = make-var p s t r g m
-is-true seen (call.SampleVar u) (answer.SampleVar r) p s t g m = set-usage Sample p s t u r g m
-is-true seen (call.WitnessVar u) (answer.WitnessVar r) p s t g m = set-usage Witness p s t u r g m
-is-true seen (call.HideVar u) (answer.HideVar r) p s t g m = hide p s t u r g m
-is-true seen call.ObserveInternalVars (answer.ObserveInternalVars r) p s t g m = observe p s t (told_vars r) g m
-is-true seen (call.Assume list) (answer.Assume r) p s t g m = assume-list p s t list.items r g m
-is-true seen call.Solve (answer.Solve r) p s t g m = solve p s t r g m
-is-true seen call.Model (answer.Model r) p s t g m = tell-model p s t (told_list r) g m
-is-true seen call.FailedCore (answer.FailedCore r) p s t g m = tell-core p s t (told_list r) g m
-is-true seen (call.Config u) (answer.Config r) p s t g m = config p s t u r g m
-is-true seen call.Steps (answer.Steps n) p s t g (e, k) = (p, (e ∙ g.steps, refl), stays p s t k g)
-is-true seen call.StepsSinceChange (answer.StepsSinceChange n) p s t g m = tell-since p s t n g m
-is-true seen call.IsValid (answer.IsValid b) p s t g (e, k) = (p, (e ∙ g.valid, refl), stays p s t k g)
-is-true seen call.CloseProof (answer.CloseProof r) p s t g (e, k) = (count_anew p, (e, refl), close p s t g k)
-is-true seen _ _ p s t g m = absurd m
+is-true : {W S A : Type 0} (seen : S → Stand) (taken : W → Taken) (c : Call S A) (a : Answer W S A) (p : Past) (s t : State) → Agrees p s → MakesCall seen taken s c a t → Leads (IsTrue seen taken p c a) t
+is-true seen taken (call.AddClause d) (answer.AddClause r) p s t g m = add-clause p s t d.items r g m
+is-true seen taken (call.AddFormula f) (answer.AddFormula r) p s t g m = add-formula p s t f.clauses r g m
+is-true seen taken (call.AddDimacsCnf source) (answer.AddDimacsCnf r back) p s t g m = add-text p s t (seen source) (seen back) r g m
+is-true seen taken call.NewVar (answer.NewVar r) p s t g m = make-var p s t r g m
+is-true seen taken (call.SampleVar u) (answer.SampleVar r) p s t g m = set-usage Sample p s t u r g m
+is-true seen taken (call.WitnessVar u) (answer.WitnessVar r) p s t g m = set-usage Witness p s t u r g m
+is-true seen taken (call.HideVar u) (answer.HideVar r) p s t g m = hide p s t u r g m
+is-true seen taken call.ObserveInternalVars (answer.ObserveInternalVars r) p s t g m = observe p s t (told_vars r) g m
+is-true seen taken (call.Assume list) (answer.Assume r) p s t g m = assume-list p s t list.items r g m
+is-true seen taken call.Solve (answer.Solve r) p s t g m = solve p s t r g m
+is-true seen taken call.Model (answer.Model r) p s t g m = tell-model p s t (told_list r) g m
+is-true seen taken call.FailedCore (answer.FailedCore r) p s t g m = tell-core p s t (told_list r) g m
+is-true seen taken (call.Config u) (answer.Config r) p s t g m = config p s t u r g m
+is-true seen taken call.Steps (answer.Steps n) p s t g (e, k) = (p, (e ∙ g.steps, refl), stays p s t k g)
+is-true seen taken call.StepsSinceChange (answer.StepsSinceChange n) p s t g m = tell-since p s t n g m
+is-true seen taken call.IsValid (answer.IsValid b) p s t g (e, k) = (p, (e ∙ g.valid, refl), stays p s t k g)
+is-true seen taken call.CloseProof (answer.CloseProof r) p s t g m = close taken p s t r g m
+is-true seen taken _ _ p s t g m = absurd m
 
-are-true : {W S A : Type 0} (seen : S → Stand) (calls : List (Call S A)) (answers : List (Answer W S A)) (p : Past) (s t : State) → Agrees p s → Run seen s calls answers t → AreTrue seen p calls answers
-are-true seen [] [] p s t g r = (p, refl)
-are-true seen [] (a ∷ answers) p s t g r = absurd r
-are-true seen (c ∷ calls) [] p s t g r = absurd r
-are-true seen (c ∷ calls) (a ∷ answers) p s t g (mid, m, r) =
-    let (q, x, h) = is-true seen c a p s mid g m in
-    let (last, rest) = are-true seen calls answers q mid t h r in
+are-true : {W S A : Type 0} (seen : S → Stand) (taken : W → Taken) (calls : List (Call S A)) (answers : List (Answer W S A)) (p : Past) (s t : State) → Agrees p s → Run seen taken s calls answers t → AreTrue seen taken p calls answers
+are-true seen taken [] [] p s t g r = (p, refl)
+are-true seen taken [] (a ∷ answers) p s t g r = absurd r
+are-true seen taken (c ∷ calls) [] p s t g r = absurd r
+are-true seen taken (c ∷ calls) (a ∷ answers) p s t g (mid, m, r) =
+    let (q, x, h) = is-true seen taken c a p s mid g m in
+    let (last, rest) = are-true seen taken calls answers q mid t h r in
     (last, (q, x, rest))
 
 -- each run of a new solver gives answers that are true
-pub run-is-true : {W S A : Type 0} (seen : S → Stand) (calls : List (Call S A)) (answers : List (Answer W S A)) (t : State) → Run seen empty_state calls answers t → AreTrue seen empty_past calls answers
-run-is-true seen calls answers t r = are-true seen calls answers empty_past empty_state t empty-agrees r
+pub run-is-true : {W S A : Type 0} (seen : S → Stand) (taken : W → Taken) (calls : List (Call S A)) (answers : List (Answer W S A)) (t : State) → Run seen taken empty_state calls answers t → AreTrue seen taken empty_past calls answers
+run-is-true seen taken calls answers t r = are-true seen taken calls answers empty_past empty_state t empty-agrees r

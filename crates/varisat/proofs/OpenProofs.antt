@@ -1,5 +1,5 @@
 -- An open proof as entries are told.
-use Rattle.std.proofs.Common.{◌≡◌, ℕ, Bool, true, false, Option, Some, None, List, [], ◌∷◌, ◌++◌, refl, sym, ap, ◌∙◌, subst, append_assoc}
+use Rattle.std.proofs.Common.{◌≡◌, ℕ, ◌+◌, Bool, true, false, Option, Some, None, List, [], ◌∷◌, ◌++◌, Ok, Err, refl, sym, ap, ◌∙◌, subst, append_assoc}
 use Rattle.std.specs.Prelude.{flat_map, is_some}
 use Rattle.std.proofs.lemmas.List.{append-nil, map-append}
 use Rattle.varisat_theory.specs.Literals.{Literal}
@@ -15,7 +15,7 @@ use Rattle.varisat_proof.specs.Written.{line_written}
 use Rattle.varisat_proof.specs.Telling.{lines_told}
 use Rattle.varisat_proof.specs.Proving.{OpenState, ProofParts, told}
 use Rattle.varisat_proof.specs.Proving as proving
-use Rattle.varisat.specs.OpenProofs.{OpenProof, opened_state, IsOpen, IsDrat, IsWrittenIf, ProofFits, GoesOnWriting}
+use Rattle.varisat.specs.OpenProofs.{OpenProof, opened_state, IsOpen, IsDrat, IsWrittenIf, ProofFits, GoesOnWriting, searched_in, first_proof, taken_of, HandsBack}
 use Rattle.varisat.specs.Journals.{TellsProof}
 
 -- 1. Bytes of lines.
@@ -100,3 +100,43 @@ hidden-fits o hidden before after proof f = record { same = f.same; written = on
 pub open-there : (o : Option OpenState) (hidden : Bool) (told : List Entry) (proof : Option OpenProof) (b : Bool) → ProofFits o hidden told proof → b ≡ is_some o → b ≡ true → IsOpen proof
 open-there o hidden told None b f e t = let z : true ≡ false = sym t ∙ e ∙ ap (λ (x : Option OpenState). is_some x) f.same in absurd cc
 open-there o hidden told (Some p) b f e t = (p, refl)
+
+-- 4. How a proof opens and closes.
+
+-- more is written under the same searches
+pub same-search : (p q : Option OpenProof) → GoesOnWriting p q → searched_in q ≡ searched_in p
+same-search None q e = ap searched_in e
+same-search (Some p) q (more, e) = ap searched_in e
+
+pub first-same : (f : ProofFormat) (t : Taken) (told : List Entry) → (let o : OpenState = record { format = f; taken = t; searched = false } in Some o) ≡ opened_state (Some (first_proof f t told))
+first-same f t told = ap (λ (xs : List ℕ). let o : OpenState = record { format = f; taken = record { bytes = xs; faults = t.faults }; searched = false } in Some o) (sym (append-nil t.bytes))
+
+pub first-written : (hidden : Bool) (f : ProofFormat) (t : Taken) (told : List Entry) → IsDrat f → IsWrittenIf hidden told (Some (first_proof f t told))
+first-written hidden f t told d = record { drat = d; lines = []; bytes = refl; told_since = λ h. sym (append-nil (lines_of told)) }
+
+-- a proof was closed
+pub closed-back : {W : Type 0} (E : Type 0) (taken : W → Taken) (opened : Option OpenState) (proof : Option OpenProof) (back : Option W) → opened ≡ opened_state proof → proving.IsClosed {E = E} taken opened (Ok back) → HandsBack taken proof back
+closed-back {W} E taken opened proof back e h = go proof back (subst (λ o. proving.IsClosed {E = E} taken o (Ok back)) e h)
+  where
+    go : (proof : Option OpenProof) (back : Option W) → proving.IsClosed {E = E} taken (opened_state proof) (Ok back) → HandsBack taken proof back
+    go None None h = tt
+    go None (Some w) h = h
+    go (Some p) None h = h
+    go (Some p) (Some w) h = h
+
+-- and could not be flushed
+pub closed-fails : {W E : Type 0} (taken : W → Taken) (opened : Option OpenState) (proof : Option OpenProof) (cause : E) (w : W) → opened ≡ opened_state proof → proving.IsClosed taken opened (Err (cause, w)) → (p : OpenProof) × (proof ≡ Some p) × (taken w ≡ record (taken_of p) { faults = p.faults + 1 })
+closed-fails {W} {E} taken opened proof cause w e h = go proof (subst (λ o. proving.IsClosed taken o (Err (cause, w))) e h)
+  where
+    go : (proof : Option OpenProof) → proving.IsClosed taken (opened_state proof) (Err (cause, w)) → (p : OpenProof) × (proof ≡ Some p) × (taken w ≡ record (taken_of p) { faults = p.faults + 1 })
+    go None h = absurd h
+    go (Some p) h = (p, refl, h)
+
+-- where nothing holds a proof, none is open
+pub none-there : (o : Option OpenState) (proof : Option OpenProof) → o ≡ opened_state proof → is_some o ≡ false → proof ≡ None
+none-there o None e f = refl
+none-there o (Some p) e f = let z : true ≡ false = ap (λ (x : Option OpenState). is_some x) (sym e) ∙ f in absurd cc
+
+pub none-opened : (o : Option OpenState) → is_some o ≡ false → o ≡ None
+none-opened None f = refl
+none-opened (Some o) f = let z : true ≡ false = f in absurd cc

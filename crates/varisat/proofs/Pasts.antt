@@ -6,7 +6,10 @@ use Rattle.varisat_theory.specs.Membership.{◌∈◌}
 use Rattle.varisat_theory.specs.Literals.{Literal, Clause, Assignment, variable_of, SatisfiesAll, MakesTrue, IsSatisfiable, IsSatisfiableWith, IsFailedCore}
 use Rattle.varisat_formula.specs.declared.dimacs.error.DimacsError.{DimacsError}
 use Rattle.varisat_formula.specs.Dimacs.{Reading}
-use Rattle.varisat_formula.specs.Streams.{Stand}
+use Rattle.varisat_formula.specs.Streams.{Stand, Taken}
+use Rattle.varisat.specs.OpenProofs.{OpenProof, searched_in, HandsBack}
+use Rattle.varisat.specs.ProofCalls.{with_proof, ClosesProof}
+use Rattle.varisat.proofs.OpenProofs.{same-search}
 use Rattle.varisat_names.specs.declared.config.SolverConfigUpdate.{SolverConfigUpdate}
 use Rattle.varisat_names.specs.Settings.{Settings, updated_settings}
 use Rattle.varisat_names.proofs.Maps.{updated-other, updated-all}
@@ -27,7 +30,7 @@ use Rattle.varisat.specs.Usage.{AreAllShown, NeedsNamePastLimit}
 use Rattle.varisat.specs.VariableCalls as variables
 use Rattle.varisat.specs.Pasts.{Past, empty_past, accept, assume, MakesFewSteps}
 use Rattle.varisat.specs.declared.solver.SolverError.{SolverError}
-use Rattle.varisat.specs.declared.solver.SolverError.TheVariants.{Interrupted, ProofIoError, OutOfMemory, Invalid, ClauseStoreFull, WitnessVar, VariableLimit, AssumedVar, ConfigOutOfRange, Dimacs}
+use Rattle.varisat.specs.declared.solver.SolverError.TheVariants.{Interrupted, ProofIoError, OutOfMemory, Invalid, ClauseStoreFull, WitnessVar, VariableLimit, AssumedVar, ClauseAfterSolve, ProofOpen, ProofTooLate, ConfigOutOfRange, Dimacs}
 use Rattle.varisat_literals.specs.Numbers.{variable_limit}
 use Rattle.varisat.proofs.CallStates.{like-refl}
 use Rattle.varisat.proofs.VerdictAnswers.{is-unknown-or-not, answer-sat, right-false, told-fails, core-answer, no-core, reopened-not-true, reopened-false, right-reopened, assumed-not-true, right-assumed}
@@ -82,6 +85,7 @@ pub record Knows (p : Past) (s : State) : Type 0 where
   model : p.has_model ≡ true → answer_of s.verdict ≡ Some true
   found : answer_of s.verdict ≡ Some true → p.has_model ≡ true
   failed : p.has_core ≡ true → answer_of s.verdict ≡ Some false
+  proof : searched_in s.proof ≡ p.proof
   right : HasRightVerdict s
 
 -- the state is one that the past leads to
@@ -113,7 +117,7 @@ anew p s t e g = subst (Agrees (past.count_anew p)) (sym e) (record {
   steps = g.steps;
   since = refl;
   settings = g.settings;
-  knows = λ v. let k = g.knows v in record { naming = k.naming; capped = k.capped; clauses = k.clauses; assumed = k.assumed; counted = k.counted; model = k.model; found = k.found; failed = k.failed; right = k.right };
+  knows = λ v. let k = g.knows v in record { naming = k.naming; capped = k.capped; clauses = k.clauses; assumed = k.assumed; counted = k.counted; model = k.model; found = k.found; failed = k.failed; proof = k.proof; right = k.right };
 })
 
 -- the past keeps its flags, and the state too, but that it is in use now
@@ -163,6 +167,7 @@ accepted p s t d n (w, after, e) g v =
       found = λ h. absurd (⊎_elim
           (λ r. let z : Some false ≡ Some true = ap answer_of (sym (e.verdict ∙ r.0)) ∙ h in let y : false ≡ true = cc in cc)
           (λ r. reopened-not-true s.verdict (ap answer_of (sym (e.verdict ∙ r)) ∙ h)) cases);
+      proof = same-search s.proof t.proof e.proof ∙ k.proof;
       failed = λ h. ⊎_elim (λ r. ap answer_of (e.verdict ∙ r.0)) (λ r. ap answer_of (e.verdict ∙ r) ∙ reopened-false s.verdict (k.failed h)) cases;
       right = ⊎_elim
           (λ r. right-like t (s.clauses ++ c ∷ []) s.assumptions t.counted Unsat e.clauses e.assumptions refl (e.verdict ∙ r.0) r.1)
@@ -249,6 +254,7 @@ knows-like p s t m b l told n i c e h k = record {
   model = λ x. ap answer_of e.verdict ∙ k.model x;
   found = λ x. k.found (sym (ap answer_of e.verdict) ∙ x);
   failed = λ x. ap answer_of e.verdict ∙ k.failed x;
+  proof = same-search s.proof t.proof e.proof ∙ k.proof;
   right = right-like t s.clauses s.assumptions s.counted s.verdict e.clauses e.assumptions e.counted e.verdict k.right;
 }
 
@@ -355,6 +361,7 @@ assumed-list p s t list e g v =
       model = λ x. absurd cc;
       found = λ x. absurd (assumed-not-true s.verdict (sym (ap answer_of e.verdict) ∙ x));
       failed = λ x. absurd cc;
+      proof = same-search s.proof t.proof e.proof ∙ k.proof;
       right = right-like t s.clauses t.assumptions t.counted (assumed_verdict s.verdict) e.clauses refl refl e.verdict (right-assumed s.clauses s.assumptions t.assumptions s.counted t.counted s.verdict k.right);
     })
 
@@ -391,6 +398,7 @@ solved p s t b g k r =
         model = λ x. r.answer ∙ ap Some x;
         found = λ x. told b (sym r.answer ∙ x);
         failed = λ x. r.answer ∙ ap Some (not-true b x);
+        proof = same-search s.proof t.proof e.proof ∙ k.proof;
         right = r.right;
       };
     }
@@ -483,6 +491,9 @@ solve p s t (Err Interrupted) g r =
     )
 solve p s t (Err (WitnessVar u)) g r = absurd r
 solve p s t (Err (AssumedVar u)) g r = absurd r
+solve p s t (Err ClauseAfterSolve) g r = absurd r
+solve p s t (Err ProofOpen) g r = absurd r
+solve p s t (Err ProofTooLate) g r = absurd r
 solve p s t (Err (ConfigOutOfRange field)) g r = absurd r
 solve p s t (Err Invalid) g r = (p, (sym g.valid ∙ r.0, refl), stays p s t r.1 g)
 solve p s t (Err VariableLimit) g r = absurd r
@@ -511,6 +522,9 @@ config p s t u (Err (ProofIoError cause)) g r = absurd r
 config p s t u (Err (WitnessVar v)) g r = absurd r
 config p s t u (Err VariableLimit) g r = absurd r
 config p s t u (Err (AssumedVar v)) g r = absurd r
+config p s t u (Err ClauseAfterSolve) g r = absurd r
+config p s t u (Err ProofOpen) g r = absurd r
+config p s t u (Err ProofTooLate) g r = absurd r
 config p s t u (Err (Dimacs cause)) g r = absurd r
 
 -- what is told of the steps since the last change
@@ -521,9 +535,30 @@ tell-since p s t n g (e, few, same) = (
   stays p s t same g,
 )
 
--- no more is told of a proof that closes, but that steps are counted anew
-pub close : (p : Past) (s t : State) → Agrees p s → t ≡ state.count_anew s → Agrees (past.count_anew p) t
-close p s t g e = anew p s t e g
+-- A proof closes.
+closes : (p : Past) (s t : State) → Agrees p s → t ≡ state.count_anew (with_proof None s) → Agrees (past.closed p) t
+closes p s t g e = subst (Agrees (past.closed p)) (sym e) (record {
+  valid = g.valid;
+  steps = g.steps;
+  since = refl;
+  settings = g.settings;
+  knows = λ v. let k = g.knows v in record { naming = k.naming; capped = k.capped; clauses = k.clauses; assumed = k.assumed; counted = k.counted; model = k.model; found = k.found; failed = k.failed; proof = refl; right = k.right };
+})
+
+hands-back : {W : Type 0} (taken : W → Taken) (proof : Option OpenProof) (back : Option W) → HandsBack taken proof back → past.HandsBack (searched_in proof) back
+hands-back taken None None h = tt
+hands-back taken None (Some w) h = h
+hands-back taken (Some p) None h = h
+hands-back taken (Some p) (Some w) h = tt
+
+pub close : {W : Type 0} (taken : W → Taken) (p : Past) (s t : State) (r : Result (Option W) (SolverError × W)) → Agrees p s → ClosesProof taken s r t → Leads (past.ClosesProof taken p r) t
+close taken p s t (Ok back) g (inl (v, h), e) =
+    (past.closed p, ((λ w. subst (λ x. past.HandsBack x back) (g.knows w).proof (hands-back taken s.proof back h)), refl), closes p s t g e)
+close taken p s t (Ok back) g (inr v, e) = (past.closed p, ((λ w. absurd (false-true p.valid (sym g.valid ∙ v) w)), refl), closes p s t g e)
+close taken p s t (Err (ProofIoError cause, target)) g (o, is, took, b) =
+    let (q, c, h) = breaks p s t g b in
+    (q, ((o.searched, sym (knows-of p s g b.valid).proof ∙ ap searched_in is), c), h)
+close taken p s t (Err e) g a = absurd a
 
 -- 10. A model.
 
@@ -604,6 +639,7 @@ empty-agrees = record {
     model = λ e. absurd cc;
     found = λ e. absurd cc;
     failed = λ e. absurd cc;
+    proof = refl;
     right = tt;
   };
 }

@@ -4,7 +4,7 @@ use Rattle.varisat_theory.specs.Literals.{Literal, Clause}
 use Rattle.std.specs.declared.alloc.AllocError.{AllocError}
 use Rattle.varisat_theory.specs.Journals.{Accepts, Assumes, LeadsBy}
 use Rattle.varisat_formula.specs.Dimacs.{Reading}
-use Rattle.varisat_formula.specs.Streams.{Stand}
+use Rattle.varisat_formula.specs.Streams.{Stand, Taken}
 use Rattle.varisat.specs.States.{State, Ledger, empty_state}
 use Rattle.varisat.specs.Additions.{Gave, AllAdded, OneRefused, RefusedAtOnce, NoFault, MemoryFault, Fault, ClauseRefused, ClausesAdded, RefusedEarly, FaultInText, Whole, MemoryRanOut, SourceFailed, Read, Unread}
 use Rattle.varisat.specs.Additions as additions
@@ -20,6 +20,7 @@ use Rattle.varisat.specs.declared.session.Answer.TheVariants as answer
 use Rattle.varisat_names.specs.declared.config.SolverConfigUpdate.{SolverConfigUpdate}
 use Rattle.varisat_formula.specs.declared.dimacs.error.DimacsError.{DimacsError}
 use Rattle.varisat.specs.VariableCalls as variables
+use Rattle.varisat.specs.ProofCalls.{ClosesProof}
 use Rattle.varisat.specs.Journals.{TellsMore}
 use Rattle.varisat.specs.declared.solver.SolverError.{SolverError}
 use Rattle.varisat.specs.declared.solver.SolverError.TheVariants.{OutOfMemory, Invalid, ProofIoError, ClauseStoreFull, WitnessVar, AssumedVar, VariableLimit, Interrupted, ConfigOutOfRange}
@@ -179,40 +180,46 @@ config s t u (Err Invalid) a w = tells-same s t a.1 w
 config s t u (Err (ConfigOutOfRange field)) a w = tells-same s t a.2 w
 config s t u (Err e) a w = absurd a
 
+-- a proof closes, and nothing is told
+close : {W : Type 0} (taken : W → Taken) (s t : State) (r : Result (Option W) (SolverError × W)) → ClosesProof taken s r t → state.IsValid t → TellsOn s t
+close taken s t (Ok back) (h, e) w = tells-plainly s t (subst state.IsValid e w) (ap (λ (x : State). x.ledger.steps) e) (subst (λ (x : State). TellsMore 0 s.told x.told) (sym e) (tells-nothing s.told))
+close taken s t (Err (ProofIoError cause, target)) (p, is, took, b) w = absurd (no-way s t b w)
+close taken s t (Err e) a w = absurd a
+
 -- 4. Runs.
 
-call-tells : {W S A : Type 0} (seen : S → Stand) (c : Call S A) (a : Answer W S A) (s t : State) → MakesCall seen s c a t → state.IsValid t → TellsOn s t
-call-tells seen (call.AddClause d) (answer.AddClause r) s t m w = add-clause s t d.items r m w
-call-tells seen (call.AddFormula f) (answer.AddFormula r) s t m w = add-formula s t f.clauses r m w
-call-tells seen (call.AddDimacsCnf source) (answer.AddDimacsCnf r back) s t m w = add-text s t (seen source) (seen back) r m w
-call-tells seen call.NewVar (answer.NewVar r) s t m w = make-var s t r m w
-call-tells seen (call.SampleVar u) (answer.SampleVar r) s t m w = changes-var (set_mode u Sample) (λ b. b) s t u r m.0 w
-call-tells seen (call.WitnessVar u) (answer.WitnessVar r) s t m w = changes-var (set_mode u Witness) (λ b. b) s t u r m.0 w
-call-tells seen (call.HideVar u) (answer.HideVar r) s t m w = changes-var (free_name u) (λ b. true) s t u r m w
-call-tells seen call.ObserveInternalVars (answer.ObserveInternalVars r) s t m w = observe s t (told_vars r) m w
-call-tells seen (call.Assume list) (answer.Assume r) s t m w = assume-list s t list.items r m w
-call-tells seen call.Solve (answer.Solve r) s t m w = solve s t r m w
-call-tells seen call.Model (answer.Model r) s t m w = tell-model s t (told_list r) m w
-call-tells seen call.FailedCore (answer.FailedCore r) s t m w = tell-core s t (told_list r) m w
-call-tells seen (call.Config u) (answer.Config r) s t m w = config s t u r m w
-call-tells seen call.Steps (answer.Steps n) s t m w = tells-same s t m.1 w
-call-tells seen call.StepsSinceChange (answer.StepsSinceChange n) s t m w = tells-same s t m.2 w
-call-tells seen call.IsValid (answer.IsValid b) s t m w = tells-same s t m.1 w
-call-tells seen call.CloseProof (answer.CloseProof r) s t m w = tells-anew s t m.1 w
-call-tells seen _ _ s t m w = absurd m
+call-tells : {W S A : Type 0} (seen : S → Stand) (taken : W → Taken) (c : Call S A) (a : Answer W S A) (s t : State) → MakesCall seen taken s c a t → state.IsValid t → TellsOn s t
+call-tells seen taken (call.AddClause d) (answer.AddClause r) s t m w = add-clause s t d.items r m w
+call-tells seen taken (call.AddFormula f) (answer.AddFormula r) s t m w = add-formula s t f.clauses r m w
+call-tells seen taken (call.AddDimacsCnf source) (answer.AddDimacsCnf r back) s t m w = add-text s t (seen source) (seen back) r m w
+call-tells seen taken call.NewVar (answer.NewVar r) s t m w = make-var s t r m w
+call-tells seen taken (call.SampleVar u) (answer.SampleVar r) s t m w = changes-var (set_mode u Sample) (λ b. b) s t u r m.0 w
+call-tells seen taken (call.WitnessVar u) (answer.WitnessVar r) s t m w = changes-var (set_mode u Witness) (λ b. b) s t u r m.0 w
+call-tells seen taken (call.HideVar u) (answer.HideVar r) s t m w = changes-var (free_name u) (λ b. true) s t u r m w
+call-tells seen taken call.ObserveInternalVars (answer.ObserveInternalVars r) s t m w = observe s t (told_vars r) m w
+call-tells seen taken (call.Assume list) (answer.Assume r) s t m w = assume-list s t list.items r m w
+call-tells seen taken call.Solve (answer.Solve r) s t m w = solve s t r m w
+call-tells seen taken call.Model (answer.Model r) s t m w = tell-model s t (told_list r) m w
+call-tells seen taken call.FailedCore (answer.FailedCore r) s t m w = tell-core s t (told_list r) m w
+call-tells seen taken (call.Config u) (answer.Config r) s t m w = config s t u r m w
+call-tells seen taken call.Steps (answer.Steps n) s t m w = tells-same s t m.1 w
+call-tells seen taken call.StepsSinceChange (answer.StepsSinceChange n) s t m w = tells-same s t m.2 w
+call-tells seen taken call.IsValid (answer.IsValid b) s t m w = tells-same s t m.1 w
+call-tells seen taken call.CloseProof (answer.CloseProof r) s t m w = close taken s t r m w
+call-tells seen taken _ _ s t m w = absurd m
 
-pub run-tells : {W S A : Type 0} (seen : S → Stand) (calls : List (Call S A)) (answers : List (Answer W S A)) (s t : State) → Run seen s calls answers t → state.IsValid t → TellsOn s t
-run-tells seen [] [] s t r w = tells-same s t r w
-run-tells seen [] (a ∷ answers) s t r w = absurd r
-run-tells seen (c ∷ calls) [] s t r w = absurd r
-run-tells seen (c ∷ calls) (a ∷ answers) s t (mid, m, r) w =
-    let second = run-tells seen calls answers mid t r w in
-    through s mid t (call-tells seen c a s mid m second.valid) second
+pub run-tells : {W S A : Type 0} (seen : S → Stand) (taken : W → Taken) (calls : List (Call S A)) (answers : List (Answer W S A)) (s t : State) → Run seen taken s calls answers t → state.IsValid t → TellsOn s t
+run-tells seen taken [] [] s t r w = tells-same s t r w
+run-tells seen taken [] (a ∷ answers) s t r w = absurd r
+run-tells seen taken (c ∷ calls) [] s t r w = absurd r
+run-tells seen taken (c ∷ calls) (a ∷ answers) s t (mid, m, r) w =
+    let second = run-tells seen taken calls answers mid t r w in
+    through s mid t (call-tells seen taken c a s mid m second.valid) second
 
 -- from the beginning: as many count at most as steps were made in all
-pub run-counts : {W S A : Type 0} (seen : S → Stand) (calls : List (Call S A)) (answers : List (Answer W S A)) (t : State) → Run seen empty_state calls answers t → state.IsValid t → (held : List Clause) × LeadsBy t.ledger.steps [] t.told held
-run-counts seen calls answers t r w =
-    let all = run-tells seen calls answers empty_state t r w in
+pub run-counts : {W S A : Type 0} (seen : S → Stand) (taken : W → Taken) (calls : List (Call S A)) (answers : List (Answer W S A)) (t : State) → Run seen taken empty_state calls answers t → state.IsValid t → (held : List Clause) × LeadsBy t.ledger.steps [] t.told held
+run-counts seen taken calls answers t r w =
+    let all = run-tells seen taken calls answers empty_state t r w in
     let (held, led) = all.told.goes [] refl in
     let c = all.count in
     let n : all.made ≡ t.ledger.steps = omega (arith, c) in

@@ -1,5 +1,5 @@
 -- What was told as a whole.
-use Rattle.std.proofs.Common.{◌≡◌, true, List, [], subst}
+use Rattle.std.proofs.Common.{◌≡◌, true, Option, Some, List, [], subst}
 use Rattle.varisat_theory.specs.Literals.{Clause}
 use Rattle.varisat_theory.specs.Derivations.{IsDerivation, Refutes}
 use Rattle.varisat_theory.specs.Journals.{Leads, lines_of}
@@ -9,6 +9,8 @@ use Rattle.varisat_theory.proofs.Lines.{derives_derivation}
 use Rattle.varisat_theory.proofs.Journals.{leads_derives, leads_refutes}
 use Rattle.varisat.specs.States.{State}
 use Rattle.varisat.specs.Journals.{IsJournal}
+use Rattle.varisat.specs.OpenProofs.{OpenProof, IsWrittenAs, IsWrittenIf}
+use Rattle.varisat.specs.ProofCalls.{IsProofOf}
 use Rattle.varisat.specs.Spaces.{Translation, HeldFits, without_core}
 use Rattle.varisat.specs.Summaries.{Summary, spaces, StandsFor}
 use Rattle.varisat.proofs.SolverCalls.{told-refuted}
@@ -34,4 +36,15 @@ journal-of g s st v =
       refutes = λ e u.
           let (all, on, conflict) = told-refuted g s st v u in
           subst (λ P. Refutes P (lines_of s.told)) k.told.accepted (leads_refutes [] s.told all (k.told.stays e) on conflict);
+    }
+
+-- the bytes of a proof
+pub proof-of : (s : State) (p : OpenProof) → IsJournal s → s.proof ≡ Some p → IsProofOf s p
+proof-of s p j e =
+    let w : IsWrittenAs s.ever_hidden s.told p = subst (IsWrittenIf s.ever_hidden s.told) e j.written in
+    record {
+      lines = w.lines;
+      bytes = w.bytes;
+      derives = λ h. subst (IsDerivation s.clauses) (w.told_since h) (j.derives h);
+      refutes = λ h u. subst (Refutes s.clauses) (w.told_since h) (j.refutes h u);
     }

@@ -274,8 +274,3 @@ TellsSince s n t = (n ≡ s.ledger.since) × (IsValid s → n < 2 ^ (2 * length 
 
 abbrev pub TellsValid : State → Bool → State → Type 0
 TellsValid s b t = (b ≡ is_valid s) × (t ≡ s)
-
--- The call `close_proof`: no proof can be open yet.
-
-abbrev pub ClosesProof : {W : Type 0} → State → Result (Option W) (SolverError × W) → State → Type 0
-ClosesProof s r t = (r ≡ Ok None) × (t ≡ count_anew s)

@@ -1,19 +1,19 @@
 -- What the answers of a new solver say, with no state in between.
 use Rattle.std.specs.Prelude.{List}
-use Rattle.varisat_formula.specs.Streams.{Stand}
-use Rattle.varisat.specs.Pasts.{Past, adding, named, MakesVar, Assumes, Solves, TellsModel, TellsCore, TellsSince, with_update}
+use Rattle.varisat_formula.specs.Streams.{Stand, Taken}
+use Rattle.varisat.specs.Pasts.{Past, adding, named, MakesVar, Assumes, Solves, TellsModel, TellsCore, TellsSince, with_update, ClosesProof}
 use Rattle.varisat.specs.Turns.{CallRules, Makes, MakesInTurn}
 use Rattle.varisat.specs.declared.session.Call.{Call}
 use Rattle.varisat.specs.declared.session.Answer.{Answer}
 
 -- what calls and their answers say
 abbrev pub telling : CallRules Past
-telling = record { adding = adding; named = named; makes_var = MakesVar; assumes = Assumes; solves = Solves; tells_model = TellsModel; tells_core = TellsCore; updated = with_update; steps = λ p. p.steps; tells_since = TellsSince }
+telling = record { adding = adding; named = named; makes_var = MakesVar; assumes = Assumes; solves = Solves; tells_model = TellsModel; tells_core = TellsCore; updated = with_update; steps = λ p. p.steps; tells_since = TellsSince; closes = ClosesProof }
 
--- Where the past was p, the call may get the answer, and then the past is q. `seen` tells how a source stands.
-abbrev pub IsTrue : {W S A : Type 0} → (S → Stand) → Past → Call S A → Answer W S A → Past → Type 0
-IsTrue seen p c a q = Makes telling seen p c a q
+-- Where the past was p, the call may get the answer, and then the past is q. `seen` tells how a source stands, and `taken` what a target took.
+abbrev pub IsTrue : {W S A : Type 0} → (S → Stand) → (W → Taken) → Past → Call S A → Answer W S A → Past → Type 0
+IsTrue seen taken p c a q = Makes telling seen taken p c a q
 
 -- Where the past was p, the calls in turn may get the answers in turn, one each.
-abbrev pub AreTrue : {W S A : Type 0} → (S → Stand) → Past → List (Call S A) → List (Answer W S A) → Type 0
-AreTrue seen p calls answers = (q : Past) × MakesInTurn telling seen p calls answers q
+abbrev pub AreTrue : {W S A : Type 0} → (S → Stand) → (W → Taken) → Past → List (Call S A) → List (Answer W S A) → Type 0
+AreTrue seen taken p calls answers = (q : Past) × MakesInTurn telling seen taken p calls answers q

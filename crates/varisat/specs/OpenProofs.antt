@@ -1,6 +1,7 @@
 -- What a user can know of an open DRAT proof, and what a call makes of it.
-use Rattle.std.specs.Prelude.{◌≡◌, ℕ, Bool, false, Option, Some, None, List, ◌++◌}
+use Rattle.std.specs.Prelude.{◌≡◌, ℕ, Bool, false, Option, Some, None, List, [], ◌++◌}
 use Rattle.varisat_theory.specs.Derivations.{Line}
+use Rattle.varisat_formula.specs.Streams.{Taken}
 use Rattle.varisat_theory.specs.Journals.{Entry, lines_of}
 use Rattle.varisat_proof.specs.declared.proof.format.ProofFormat.{ProofFormat}
 use Rattle.varisat_proof.specs.declared.proof.format.ProofFormat.TheVariants.{Drat, BinaryDrat, Marked}
@@ -50,3 +51,23 @@ pub record ProofFits (opened : Option OpenState) (hidden : Bool) (told : List En
 abbrev pub GoesOnWriting : Option OpenProof → Option OpenProof → Type 0
 GoesOnWriting None new = new ≡ None
 GoesOnWriting (Some p) new = (more : List ℕ) × (new ≡ Some (record p { bytes = p.bytes ++ more }))
+
+-- whether `solve` was called since the open proof was opened
+abbrev pub searched_in : Option OpenProof → Option Bool
+searched_in None = None
+searched_in (Some p) = Some p.searched
+
+-- a proof that was just opened: its target has what it had, and this was told before
+abbrev pub first_proof : ProofFormat → Taken → List Entry → OpenProof
+first_proof format taken told = record { format = format; faults = taken.faults; first = taken.bytes; bytes = []; searched = false; before = told }
+
+-- what the target of an open proof took: what it had before, and the bytes of the proof
+abbrev pub taken_of : OpenProof → Taken
+taken_of p = record { bytes = p.first ++ p.bytes; faults = p.faults }
+
+-- The target of the open proof comes back, and nothing where none is open.
+abbrev pub HandsBack : {W : Type 0} → (W → Taken) → Option OpenProof → Option W → Type 0
+HandsBack taken None None = Unit {0}
+HandsBack taken None (Some target) = ⊥
+HandsBack taken (Some p) None = ⊥
+HandsBack taken (Some p) (Some target) = taken target ≡ taken_of p

@@ -2,7 +2,7 @@
 use Rattle.std.specs.Prelude.{◌≡◌, ℕ, ◌+◌, ◌-◌, ◌*◌, ◌^◌, ◌<◌, ◌≤◌, Bool, true, false, Option, Some, None, List, [], ◌∷◌, ◌++◌, Result, Ok, Err, map, length, ◌⊎◌}
 use Rattle.std.specs.declared.alloc.AllocError.{AllocError}
 use Rattle.varisat_theory.specs.Literals.{Literal, Clause, variable_of, IsSatisfiable, IsSatisfiableWith, IsFailedCore}
-use Rattle.varisat_formula.specs.Streams.{Stand}
+use Rattle.varisat_formula.specs.Streams.{Stand, Taken}
 use Rattle.varisat_names.specs.declared.config.SolverConfigUpdate.{SolverConfigUpdate}
 use Rattle.varisat_names.specs.Settings.{Settings, default_settings, updated_settings}
 use Rattle.varisat.specs.Names.{Naming, no_names, name_one, name_all, through_names, IsLeastFree, IsFirstWitness}
@@ -18,7 +18,7 @@ use Rattle.varisat_literals.specs.Numbers.{variable_limit}
 
 -- Clauses and assumptions are kept over identities, as the names that were in use carried them when they were given: a name that becomes free may come back for another variable, and what was said before still speaks of the first.
 --
--- `valid`: no call that changes the solver ran out of memory. `naming`: which identity each name has. `clauses` were accepted, and `assumptions` given last. `counted`: the different identities that these clauses and all lists of assumptions so far name. `has_model`: `solve` returned true, and no clause was accepted and nothing assumed since. `has_core`: it returned false, and nothing was assumed since. `steps`: how many steps were made in all. `since`: how many of them since the last call that was not refused and did more than to solve or to tell something. `settings`: those by which further steps are made.
+-- `valid`: no call that changes the solver ran out of memory. `naming`: which identity each name has. `clauses` were accepted, and `assumptions` given last. `counted`: the different identities that these clauses and all lists of assumptions so far name. `has_model`: `solve` returned true, and no clause was accepted and nothing assumed since. `has_core`: it returned false, and nothing was assumed since. `steps`: how many steps were made in all. `since`: how many of them since the last call that was not refused and did more than to solve or to tell something. `settings`: those by which further steps are made. `proof`: whether `solve` was called since the proof was opened that is open.
 pub record Past : Type 0 where
   pub valid : Bool
   pub naming : Naming
@@ -30,10 +30,11 @@ pub record Past : Type 0 where
   pub steps : ℕ
   pub since : ℕ
   pub settings : Settings
+  pub proof : Option Bool
 
 -- before the first call
 abbrev pub empty_past : Past
-empty_past = record { valid = true; naming = no_names; clauses = []; assumptions = []; counted = []; has_model = false; has_core = false; steps = 0; since = 0; settings = default_settings }
+empty_past = record { valid = true; naming = no_names; clauses = []; assumptions = []; counted = []; has_model = false; has_core = false; steps = 0; since = 0; settings = default_settings; proof = None }
 
 abbrev pub is_valid : Past → Bool
 is_valid p = p.valid
@@ -148,3 +149,20 @@ with_update u p = record p { since = 0; settings = updated_settings p.settings u
 -- as long as the past is valid, calls of `solve` make few steps together that no change came between
 abbrev pub TellsSince : Past → ℕ → Past → Type 0
 TellsSince p n q = (n ≡ p.since) × (p.valid ≡ true → n < 2 ^ (2 * length p.counted + 3)) × (q ≡ p)
+
+-- a target comes back just where a proof is open
+abbrev pub HandsBack : {W : Type 0} → Option Bool → Option W → Type 0
+HandsBack None None = Unit {0}
+HandsBack None (Some target) = ⊥
+HandsBack (Some searched) None = ⊥
+HandsBack (Some searched) (Some target) = Unit {0}
+
+-- no proof is open any more
+abbrev pub closed : Past → Past
+closed p = record p { proof = None; since = 0 }
+
+-- The target of an open proof comes back, also where it can't be flushed. Nothing is told of what an invalid solver hands back.
+abbrev pub ClosesProof : {W : Type 0} → (W → Taken) → Past → Result (Option W) (SolverError × W) → Past → Type 0
+ClosesProof taken p (Ok back) q = (p.valid ≡ true → HandsBack p.proof back) × (q ≡ closed p)
+ClosesProof taken p (Err (ProofIoError cause, target)) q = ((searched : Bool) × (p.proof ≡ Some searched)) × Invalidates p q
+ClosesProof taken p (Err _) q = ⊥

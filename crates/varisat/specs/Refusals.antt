@@ -3,7 +3,7 @@ use Rattle.std.specs.Prelude.{ℕ, Bool, true, false}
 use Rattle.varisat_search.specs.declared.error.StepError.{StepError}
 use Rattle.varisat_search.specs.declared.error.StepError.TheVariants as step
 use Rattle.varisat.specs.declared.solver.SolverError.{SolverError}
-use Rattle.varisat.specs.declared.solver.SolverError.TheVariants.{Interrupted, ProofIoError, OutOfMemory, Invalid, ClauseStoreFull, WitnessVar, VariableLimit, AssumedVar, ConfigOutOfRange, Dimacs}
+use Rattle.varisat.specs.declared.solver.SolverError.TheVariants.{Interrupted, ProofIoError, OutOfMemory, Invalid, ClauseStoreFull, WitnessVar, VariableLimit, AssumedVar, ClauseAfterSolve, ProofOpen, ProofTooLate, ConfigOutOfRange, Dimacs}
 
 abbrev pub refusal_number : SolverError → ℕ
 refusal_number Interrupted = 1
@@ -14,6 +14,9 @@ refusal_number ClauseStoreFull = 5
 refusal_number (WitnessVar var) = 6
 refusal_number VariableLimit = 7
 refusal_number (AssumedVar var) = 8
+refusal_number ClauseAfterSolve = 9
+refusal_number ProofOpen = 10
+refusal_number ProofTooLate = 11
 refusal_number (ConfigOutOfRange field) = 12
 refusal_number (Dimacs cause) = 13
 

@@ -1,8 +1,9 @@
 -- Runs: which answers a list of calls may get, and to which state it leads.
 use Rattle.std.specs.Prelude.{◌-◌, ◌^◌, ◌<◌, List, [], ◌∷◌}
-use Rattle.varisat_formula.specs.Streams.{Stand}
+use Rattle.varisat_formula.specs.Streams.{Stand, Taken}
 use Rattle.varisat.specs.States.{State}
 use Rattle.varisat.specs.Calls.{adding, MakesVar, Assumes, Solves, TellsModel, TellsCore, TellsSince, with_update}
+use Rattle.varisat.specs.ProofCalls.{ClosesProof}
 use Rattle.varisat.specs.VariableCalls.{named}
 use Rattle.varisat.specs.Turns.{CallRules, Makes, MakesInTurn}
 use Rattle.varisat.specs.declared.session.Call.{Call}
@@ -11,13 +12,13 @@ use Rattle.varisat.specs.declared.session.Call.TheVariants as call
 
 -- the calls of a solver
 abbrev pub calling : CallRules State
-calling = record { adding = adding; named = named; makes_var = MakesVar; assumes = Assumes; solves = Solves; tells_model = TellsModel; tells_core = TellsCore; updated = with_update; steps = λ s. s.ledger.steps; tells_since = TellsSince }
+calling = record { adding = adding; named = named; makes_var = MakesVar; assumes = Assumes; solves = Solves; tells_model = TellsModel; tells_core = TellsCore; updated = with_update; steps = λ s. s.ledger.steps; tells_since = TellsSince; closes = ClosesProof }
 
-abbrev pub MakesCall : {W S A : Type 0} → (S → Stand) → State → Call S A → Answer W S A → State → Type 0
-MakesCall seen s c a t = Makes calling seen s c a t
+abbrev pub MakesCall : {W S A : Type 0} → (S → Stand) → (W → Taken) → State → Call S A → Answer W S A → State → Type 0
+MakesCall seen taken s c a t = Makes calling seen taken s c a t
 
-abbrev pub Run : {W S A : Type 0} → (S → Stand) → State → List (Call S A) → List (Answer W S A) → State → Type 0
-Run seen s calls answers t = MakesInTurn calling seen s calls answers t
+abbrev pub Run : {W S A : Type 0} → (S → Stand) → (W → Taken) → State → List (Call S A) → List (Answer W S A) → State → Type 0
+Run seen taken s calls answers t = MakesInTurn calling seen taken s calls answers t
 
 -- a source that is read has counted fewer than 2^64-1 faults
 abbrev pub IsReadable : {S A : Type 0} → (S → Stand) → Call S A → Type 0

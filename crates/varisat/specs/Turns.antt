@@ -1,8 +1,8 @@
 -- Calls in turn with their answers, where it is known what each call does.
-use Rattle.std.specs.Prelude.{◌≡◌, ℕ, Bool, Option, None, List, [], ◌∷◌, Result, Ok}
+use Rattle.std.specs.Prelude.{◌≡◌, ℕ, Bool, Option, List, [], ◌∷◌, Result}
 use Rattle.std.specs.declared.alloc.AllocError.{AllocError}
 use Rattle.varisat_theory.specs.Literals.{Literal}
-use Rattle.varisat_formula.specs.Streams.{Stand}
+use Rattle.varisat_formula.specs.Streams.{Stand, Taken}
 use Rattle.varisat_names.specs.declared.config.SolverConfigUpdate.{SolverConfigUpdate}
 use Rattle.varisat.specs.Updates.{Configures}
 use Rattle.varisat.specs.Additions as additions
@@ -15,7 +15,7 @@ use Rattle.varisat.specs.declared.session.Answer.{Answer}
 use Rattle.varisat.specs.declared.session.Call.TheVariants as call
 use Rattle.varisat.specs.declared.session.Answer.TheVariants as answer
 
--- How calls move something, and with which answers: how clauses are added to it, how its names are used, and each further call that can be refused; what an update of the settings makes of it, how many steps were made, and what is told of those since the last change.
+-- How calls move something, and with which answers: how clauses are added to it, how its names are used, and each further call that can be refused; what an update of the settings makes of it, how many steps were made, and what is told of those since the last change; and how a proof closes, where it is known what each target took.
 pub record CallRules (X : Type 0) : Type 1 where
   pub adding : additions.Adding X
   pub named : usage.Named X
@@ -27,31 +27,32 @@ pub record CallRules (X : Type 0) : Type 1 where
   pub updated : SolverConfigUpdate → X → X
   pub steps : X → ℕ
   pub tells_since : X → ℕ → X → Type 0
+  pub closes : {W : Type 0} → (W → Taken) → X → Result (Option W) (SolverError × W) → X → Type 0
 
 module _ {X : Type 0} (by : CallRules X) where
-  -- From s the call may get the answer and lead to t. `seen` tells how a source stands, as it was given and as it is given back.
-  abbrev pub Makes : {W S A : Type 0} → (S → Stand) → X → Call S A → Answer W S A → X → Type 0
-  Makes seen s (call.AddClause c) (answer.AddClause r) t = by.adding.adds s c.items r t
-  Makes seen s (call.AddFormula f) (answer.AddFormula r) t = additions.AddsList by.adding s f.clauses r t
-  Makes seen s (call.AddDimacsCnf source) (answer.AddDimacsCnf r back) t = additions.AddsText by.adding s (seen source) r (seen back) t
-  Makes seen s call.NewVar (answer.NewVar r) t = by.makes_var s r t
-  Makes seen s (call.SampleVar u) (answer.SampleVar r) t = usage.SetsMode by.named Sample s u r t
-  Makes seen s (call.WitnessVar u) (answer.WitnessVar r) t = usage.SetsMode by.named Witness s u r t
-  Makes seen s (call.HideVar u) (answer.HideVar r) t = usage.Hides by.named s u r t
-  Makes seen s call.ObserveInternalVars (answer.ObserveInternalVars r) t = usage.Observes by.named s (told_vars r) t
-  Makes seen s (call.Assume list) (answer.Assume r) t = by.assumes s list.items r t
-  Makes seen s call.Solve (answer.Solve r) t = by.solves s r t
-  Makes seen s call.Model (answer.Model r) t = by.tells_model s (told_list r) t
-  Makes seen s call.FailedCore (answer.FailedCore r) t = by.tells_core s (told_list r) t
-  Makes seen s (call.Config u) (answer.Config r) t = Configures by.adding.valid by.updated s u r t
-  Makes seen s call.Steps (answer.Steps n) t = (n ≡ by.steps s) × (t ≡ s)
-  Makes seen s call.StepsSinceChange (answer.StepsSinceChange n) t = by.tells_since s n t
-  Makes seen s call.IsValid (answer.IsValid b) t = (b ≡ by.adding.valid s) × (t ≡ s)
-  Makes seen s call.CloseProof (answer.CloseProof r) t = (r ≡ Ok None) × (t ≡ by.adding.count_anew s)
-  Makes seen s _ _ t = ⊥
+  -- From s the call may get the answer and lead to t. `seen` tells how a source stands, as it was given and as it is given back, and `taken` what a target took.
+  abbrev pub Makes : {W S A : Type 0} → (S → Stand) → (W → Taken) → X → Call S A → Answer W S A → X → Type 0
+  Makes seen taken s (call.AddClause c) (answer.AddClause r) t = by.adding.adds s c.items r t
+  Makes seen taken s (call.AddFormula f) (answer.AddFormula r) t = additions.AddsList by.adding s f.clauses r t
+  Makes seen taken s (call.AddDimacsCnf source) (answer.AddDimacsCnf r back) t = additions.AddsText by.adding s (seen source) r (seen back) t
+  Makes seen taken s call.NewVar (answer.NewVar r) t = by.makes_var s r t
+  Makes seen taken s (call.SampleVar u) (answer.SampleVar r) t = usage.SetsMode by.named Sample s u r t
+  Makes seen taken s (call.WitnessVar u) (answer.WitnessVar r) t = usage.SetsMode by.named Witness s u r t
+  Makes seen taken s (call.HideVar u) (answer.HideVar r) t = usage.Hides by.named s u r t
+  Makes seen taken s call.ObserveInternalVars (answer.ObserveInternalVars r) t = usage.Observes by.named s (told_vars r) t
+  Makes seen taken s (call.Assume list) (answer.Assume r) t = by.assumes s list.items r t
+  Makes seen taken s call.Solve (answer.Solve r) t = by.solves s r t
+  Makes seen taken s call.Model (answer.Model r) t = by.tells_model s (told_list r) t
+  Makes seen taken s call.FailedCore (answer.FailedCore r) t = by.tells_core s (told_list r) t
+  Makes seen taken s (call.Config u) (answer.Config r) t = Configures by.adding.valid by.updated s u r t
+  Makes seen taken s call.Steps (answer.Steps n) t = (n ≡ by.steps s) × (t ≡ s)
+  Makes seen taken s call.StepsSinceChange (answer.StepsSinceChange n) t = by.tells_since s n t
+  Makes seen taken s call.IsValid (answer.IsValid b) t = (b ≡ by.adding.valid s) × (t ≡ s)
+  Makes seen taken s call.CloseProof (answer.CloseProof r) t = by.closes taken s r t
+  Makes seen taken s _ _ t = ⊥
 
   -- the calls in turn get the answers in turn, one each, and lead to t
-  abbrev pub MakesInTurn : {W S A : Type 0} → (S → Stand) → X → List (Call S A) → List (Answer W S A) → X → Type 0
-  MakesInTurn seen s [] [] t = t ≡ s
-  MakesInTurn seen s (c ∷ cs) (a ∷ answers) t = (mid : X) × Makes seen s c a mid × MakesInTurn seen mid cs answers t
-  MakesInTurn seen s _ _ t = ⊥
+  abbrev pub MakesInTurn : {W S A : Type 0} → (S → Stand) → (W → Taken) → X → List (Call S A) → List (Answer W S A) → X → Type 0
+  MakesInTurn seen taken s [] [] t = t ≡ s
+  MakesInTurn seen taken s (c ∷ cs) (a ∷ answers) t = (mid : X) × Makes seen taken s c a mid × MakesInTurn seen taken mid cs answers t
+  MakesInTurn seen taken s _ _ t = ⊥

@@ -20,6 +20,7 @@ use varisat_literals::{Lit, Var};
 use varisat_names::config::{ConfigField, SolverConfigUpdate};
 use varisat_names::variables::LinkedVariables;
 use varisat_names::variables::data::SamplingMode;
+use varisat_proof::proof::{ProofFormat, close_proof, take_target};
 use varisat_search::assumptions::copied;
 use varisat_search::context::Context;
 use varisat_search::error::StepError;
@@ -50,6 +51,12 @@ pub enum SolverError {
     VariableLimit,
     #[error("Variable {var} is assumed and its mode cannot change")]
     AssumedVar { var: Var },
+    #[error("A clause cannot be added after solve under an open proof")]
+    ClauseAfterSolve,
+    #[error("A proof is open")]
+    ProofOpen,
+    #[error("A proof must begin before any clause, variable or assumption")]
+    ProofTooLate,
     #[error("Configuration value out of range: {field}")]
     ConfigOutOfRange { field: ConfigField },
     #[error("Error in DIMACS input: {cause}")]
@@ -90,6 +97,9 @@ impl SolverError {
             SolverError::WitnessVar { .. } => 6,
             SolverError::VariableLimit => 7,
             SolverError::AssumedVar { .. } => 8,
+            SolverError::ClauseAfterSolve => 9,
+            SolverError::ProofOpen => 10,
+            SolverError::ProofTooLate => 11,
             SolverError::ConfigOutOfRange { .. } => 12,
             SolverError::Dimacs { .. } => 13,
         }
@@ -108,6 +118,9 @@ impl SolverError {
             | SolverError::WitnessVar { .. }
             | SolverError::VariableLimit
             | SolverError::AssumedVar { .. }
+            | SolverError::ClauseAfterSolve
+            | SolverError::ProofOpen
+            | SolverError::ProofTooLate
             | SolverError::ConfigOutOfRange { .. }
             | SolverError::Dimacs { .. } => true,
         }
@@ -140,12 +153,12 @@ fn list_model<A: Allocator + Copy>(
 pub struct Solver<W: ProofTarget, A: Allocator + Copy> {
     alloc: A,
     ctx: Context<A>,
-    // The names and variables, and the proof that is open, if any. No proof can be opened yet.
+    // The names and variables, and the proof that is open, if any.
     tracer: SolverTracer<W, A>,
     // The clause or the assumptions that are being accepted, over solver variables, and a core over names.
     literals: Vec<Lit, A>,
-    // Whether a clause, a variable or a list of assumptions was accepted. `write_proof`, which is to open a proof, will
-    // be refused from then on; no other call reads it.
+    // Whether a clause, a variable or a list of assumptions was accepted. From then on no proof can be opened; no other
+    // call reads it.
     started: bool,
     // How many steps were made before the last change: a call that was not refused and did more than to solve or to
     // tell something.
@@ -172,10 +185,12 @@ impl<W: ProofTarget, A: Allocator + Copy> Solver<W, A> {
     ghost use Rattle.varisat.specs.States.{State, empty_state};
     ghost use Rattle.varisat.specs.Models.{model_of, IsCompletable, core_of, AreNamesInUse};
     ghost use Rattle.varisat.specs.Names.{through_names};
-    ghost use Rattle.varisat.specs.Calls.{IsValid, count_anew, AddsClause, AddsAll, AddsFormula, AddsDimacs, AddsReading, TellsFault, MakesVar, Assumes, Solves, TellsModel, TellsCore, Configures, TellsSteps, TellsSince, TellsValid, ClosesProof, answer_of};
+    ghost use Rattle.varisat.specs.Calls.{IsValid, count_anew, AddsClause, AddsAll, AddsFormula, AddsDimacs, AddsReading, TellsFault, MakesVar, Assumes, Solves, TellsModel, TellsCore, Configures, TellsSteps, TellsSince, TellsValid, answer_of};
     ghost use Rattle.varisat.specs.Told.{told_list, lent_list};
     ghost use Rattle.varisat.specs.Summaries.{StandsFor};
     ghost use Rattle.varisat.specs.Journals.{IsJournal};
+    ghost use Rattle.varisat.specs.OpenProofs.{OpenProof, IsDrat};
+    ghost use Rattle.varisat.specs.ProofCalls.{OpensProof, ClosesProof, IsProofOf};
 
     /// A solver with no clause. It takes no memory.
     pub fn new_in(alloc: A) -> Self
@@ -391,12 +406,52 @@ impl<W: ProofTarget, A: Allocator + Copy> Solver<W, A> {
         }
     }
 
-    /// Closes the proof, and gives its target back; None as no proof can be opened yet.
-    pub fn close_proof(&mut self) -> Result<Option<W>, (SolverError, W)>
-        ensures { (s : State) → StandsFor self.old s → (t : State) × ClosesProof s result t × StandsFor self.new t }
+    /// Opens a proof, to which the lines of the search are written from here on. Its format is one of DRAT: marked
+    /// proofs are not written yet. Refused in an invalid solver, where a proof is open, and where a clause, a variable or
+    /// a list of assumptions was accepted before; then nothing changes, and the target is handed back.
+    pub fn write_proof(
+        &mut self,
+        target: W,
+        format: ProofFormat,
+    ) -> Result<(), (SolverError, W)>
+        requires format { IsDrat format }
+        requires room { (W.taken target).faults < 2 ^ 64 - 1 }
+        ensures { (s : State) → StandsFor self.old s → (t : State) × OpensProof W.taken target format s result t × StandsFor self.new t }
     {
-        self.begin_count();
-        Ok(None)
+        if self.ctx.solver_state.state_is_invalid {
+            return Err((SolverError::Invalid, target));
+        }
+        if self.tracer.proof.is_open() {
+            return Err((SolverError::ProofOpen, target));
+        }
+        if self.started {
+            return Err((SolverError::ProofTooLate, target));
+        }
+        self.tracer.proof.write_proof(target, format);
+        self.changed_at = self.ctx.schedule.steps();
+        Ok(())
+    }
+
+    /// Closes the proof, if one is open: flushes its target and hands it back, also where that fails, which makes the
+    /// solver invalid. An invalid solver hands the target back without a flush.
+    pub fn close_proof(&mut self) -> Result<Option<W>, (SolverError, W)>
+        ensures call { (s : State) → StandsFor self.old s → (t : State) × ClosesProof W.taken s result t × StandsFor self.new t }
+        ensures written { (s : State) → StandsFor self.old s → IsValid s → (p : OpenProof) → s.proof ≡ Some p → IsProofOf s p }
+    {
+        if self.ctx.solver_state.state_is_invalid {
+            self.changed_at = self.ctx.schedule.steps();
+            return Ok(take_target(&mut self.tracer.proof));
+        }
+        match close_proof(&mut self.tracer.proof) {
+            Ok(target) => {
+                self.changed_at = self.ctx.schedule.steps();
+                Ok(target)
+            }
+            Err((cause, target)) => {
+                self.ctx.solver_state.state_is_invalid = true;
+                Err((SolverError::ProofIoError { cause }, target))
+            }
+        }
     }
 
     /// Assumes that these literals are true, in place of the assumptions before, and brings their names into use.

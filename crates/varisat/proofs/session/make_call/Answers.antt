@@ -55,7 +55,7 @@ pub returns-in-IsValid : goal.returns-in-IsValid
 returns-in-IsValid g c s st = rw c.in-IsValid.is (c.is_valid.ensures s st)
 
 pub returns-in-CloseProof : goal.returns-in-CloseProof
-returns-in-CloseProof g c s st = rw c.in-CloseProof.is (c.close_proof.ensures s st)
+returns-in-CloseProof g c s st = rw c.in-CloseProof.is (c.close_proof.ensures.call s st)
 
 pub returns-in-StepsSinceChange : goal.returns-in-StepsSinceChange
 returns-in-StepsSinceChange g c s st = rw c.in-StepsSinceChange.is (c.steps_since_change.ensures s st)

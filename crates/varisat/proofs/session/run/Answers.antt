@@ -7,7 +7,7 @@ use Rattle.varisat.proofs.session.run.Goals as goal
 
 pub loop-call-init : goal.loop-call-init
 loop-call-init g c = record {
-  so_far = λ s st. (s, (let none : c.in_ok-answers.answers.items ≡ [] = search rules in subst (λ answers. Run g.S.ByteSource.stand s [] answers s) (sym none) refl), st);
+  so_far = λ s st. (s, (let none : c.in_ok-answers.answers.items ≡ [] = search rules in subst (λ answers. Run g.S.ByteSource.stand g.W.ProofTarget.taken s [] answers s) (sym none) refl), st);
   room = search rules;
   left = search rules;
   whole = search rules;
@@ -23,7 +23,7 @@ loop-call-preserved g c = record {
   so_far = λ s st.
       let (t, r, q) = c.loop-call.invariant.so_far s st in
       let (u, p, w) = c.make_call.ensures t q in
-      (u, rw c.push_reserved.ensures.items (run-push _ s t u c.loop-call.yielded c.loop-call.answers.items c.in-Some.call c.make_call.result r p), w);
+      (u, rw c.push_reserved.ensures.items (run-push _ _ s t u c.loop-call.yielded c.loop-call.answers.items c.in-Some.call c.make_call.result r p), w);
   room = omega (arith, c.loop-call.invariant.room, c.in-Some.ensures.steps.1, c.push_reserved.ensures.len, c.push_reserved.ensures.capacity);
   left = let e = ap length c.in-Some.ensures.steps.0 in omega (arith, e, c.loop-call.invariant.left, c.in-Some.ensures.steps.1);
   whole = append_assoc c.loop-call.yielded (c.in-Some.call ∷ []) _ ∙ ap (λ xs. c.loop-call.yielded ++ xs) (sym c.in-Some.ensures.steps.0) ∙ c.loop-call.invariant.whole;
@@ -34,4 +34,4 @@ returns-clause-run g c s st =
     let none = nil_from_length (into_iter_items c.loop-call.call-iterator) (sym c.loop-call.invariant.left ∙ c.in-None.ensures.steps.0) in
     let e = sym (append-nil c.loop-call.yielded) ∙ ap (λ xs. c.loop-call.yielded ++ xs) (sym none) ∙ c.loop-call.invariant.whole in
     let (t, r, q) = c.loop-call.invariant.so_far s st in
-    (t, subst (λ cs. Run g.S.ByteSource.stand s cs c.loop-call.answers.items t) e r, q)
+    (t, subst (λ cs. Run g.S.ByteSource.stand g.W.ProofTarget.taken s cs c.loop-call.answers.items t) e r, q)

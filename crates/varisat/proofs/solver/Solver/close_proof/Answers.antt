@@ -1,6 +1,51 @@
-use Rattle.std.proofs.Common.{refl}
+use Rattle.std.proofs.Common.{◌∙◌, None, false, not, refl, sym, ap, subst, inl}
+use Rattle.std.specs.declared.io.Error.{Error}
+use Rattle.varisat_proof.specs.Proving.{ProofParts}
+use Rattle.varisat_tracer.specs.Tracing.{CanTell}
+use Rattle.varisat.specs.States.{Ledger}
 use Rattle.varisat.specs.Calls.{count_anew}
+use Rattle.varisat.specs.ProofCalls.{with_proof}
+use Rattle.varisat.proofs.CallStates.{stands-valid, broken, broken-invalid}
+use Rattle.varisat.proofs.OpenProofs.{closed-back, closed-fails}
+use Rattle.varisat.proofs.SettingsCalls.{stands-with-proof}
+use Rattle.varisat.proofs.SinceSteps.{since-now}
+use Rattle.varisat.proofs.ToldJournals.{journal-of, proof-of}
 use Rattle.varisat.proofs.solver.Solver.close_proof.Goals as goal
 
-pub returns : goal.returns
-returns g c s st = (count_anew s, (refl, refl), c.begin_count.ensures s st)
+pub close_proof-requires : goal.close_proof-requires
+close_proof-requires g c = (c.self.invariant c.if-self.false).tells.room
+
+pub invariant_of-self-in-Ok : goal.invariant_of-self-in-Ok
+invariant_of-self-in-Ok g c v =
+    let k = c.self.invariant v in
+    record {
+      kept = k.kept;
+      tells = subst CanTell (sym c.close_proof.ensures.closed) (record { room = tt; unchecked = k.tells.unchecked });
+      counts = since-now c.steps-self-inside-in-Ok.result c.self.inside.ctx c.steps-self-inside-in-Ok.ensures.steps k.kept.ready c.steps-self-inside-in-Ok.ensures.plan;
+    }
+
+pub returns-in-Ok-clause-call : goal.returns-in-Ok-clause-call
+returns-in-Ok-clause-call g c s st =
+    let q = rw (← c.self.view_is) at st in
+    let ok = ap not c.if-self.false in (
+      count_anew (with_proof None s),
+      (inl (stands-valid _ s q ok, closed-back Error g.W.ProofTarget.taken _ s.proof c.in-Ok.target (q.proof ok).same c.in-Ok.ensures.taken), refl),
+      stands-with-proof c.self.inside.tracer.variables c.self.inside.tracer.proof c.close_proof.new.proof c.self.inside.started c.self.inside.changed_at c.steps-self-inside-in-Ok.result c.self.inside.ctx s None c.steps-self-inside-in-Ok.ensures.steps
+          (ap (λ (p : ProofParts). p.opened) c.close_proof.ensures.closed) tt q,
+    )
+
+pub returns-in-Ok-clause-written : goal.returns-in-Ok-clause-written
+returns-in-Ok-clause-written g c s st v p e = let q = rw (← c.self.view_is) at st in proof-of s p (journal-of _ s q (ap not c.if-self.false)) e
+
+pub returns-in-Err-clause-call : goal.returns-in-Err-clause-call
+returns-in-Err-clause-call g c s st =
+    let q = rw (← c.self.view_is) at st in
+    let ok = ap not c.if-self.false in
+    let (p, is, took) = closed-fails g.W.ProofTarget.taken _ s.proof c.in-Err.cause c.in-Err.target (q.proof ok).same c.in-Err.ensures.taken in (
+      broken s,
+      (p, is, took, broken-invalid s (stands-valid _ s q ok) (q.fits ok).1.well_formed),
+      record { ledger = ap (λ (l : Ledger). record l { valid = false }) q.ledger; fits = λ v. absurd cc; proof = λ v. absurd cc },
+    )
+
+pub returns-in-Err-clause-written : goal.returns-in-Err-clause-written
+returns-in-Err-clause-written g c s st v p e = let q = rw (← c.self.view_is) at st in proof-of s p (journal-of _ s q (ap not c.if-self.false)) e

@@ -1,0 +1,34 @@
+use Rattle.std.proofs.Common.{◌∙◌, ◌∷◌, [], Some, not, refl, sym, ap, subst}
+use Rattle.varisat_proof.specs.Proving.{ProofParts}
+use Rattle.varisat_tracer.specs.Tracing.{CanTell}
+use Rattle.varisat.specs.OpenProofs.{first_proof}
+use Rattle.varisat.specs.States.{Ledger}
+use Rattle.varisat.specs.Calls.{count_anew}
+use Rattle.varisat.specs.ProofCalls.{with_proof}
+use Rattle.varisat.proofs.CallStates.{stands-valid}
+use Rattle.varisat.proofs.OpenProofs.{first-same, first-written, none-there, open-there}
+use Rattle.varisat.proofs.SettingsCalls.{stands-with-proof}
+use Rattle.varisat.proofs.SinceSteps.{since-now}
+use Rattle.varisat.proofs.solver.Solver.write_proof.Goals as goal
+
+pub invariant_of-self : goal.invariant_of-self
+invariant_of-self g c v =
+    let k = c.self.invariant v in
+    record {
+      kept = k.kept;
+      tells = subst CanTell (sym c.write_proof.ensures) (record { room = c.requires.room; unchecked = k.tells.unchecked });
+      counts = since-now c.steps-self-inside.result c.self.inside.ctx c.steps-self-inside.ensures.steps k.kept.ready c.steps-self-inside.ensures.plan;
+    }
+
+pub returns : goal.returns
+returns g c s st =
+    let q = rw (← c.self.view_is) at st in
+    let ok = ap not c.if-self.false in
+    let closed = sym c.is_open.ensures ∙ c.if-is_open.false in
+    let first = first_proof c.args.format (g.W.ProofTarget.taken c.args.target) s.told in (
+      count_anew (with_proof (Some first) s),
+      (stands-valid _ s q ok, none-there _ s.proof (q.proof ok).same closed, ap (λ (l : Ledger). l.started) q.ledger ∙ c.if-self-2.false, refl),
+      stands-with-proof c.self.inside.tracer.variables c.self.inside.tracer.proof c.write_proof.new.self c.self.inside.started c.self.inside.changed_at c.steps-self-inside.result c.self.inside.ctx s (Some first) c.steps-self-inside.ensures.steps
+          (ap (λ (p : ProofParts). p.opened) c.write_proof.ensures ∙ first-same c.args.format (g.W.ProofTarget.taken c.args.target) s.told)
+          (first-written s.ever_hidden c.args.format (g.W.ProofTarget.taken c.args.target) s.told c.requires.format) q,
+    )

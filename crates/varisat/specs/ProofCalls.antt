@@ -1,0 +1,40 @@
+-- Which answer and which new state the calls give that open and close a proof.
+use Rattle.std.specs.Prelude.{◌≡◌, ℕ, ◌+◌, Bool, true, false, Option, Some, None, List, ◌++◌, ◌⊎◌, Result, Ok, Err}
+use Rattle.varisat_theory.specs.Derivations.{Line, IsDerivation, Refutes}
+use Rattle.varisat_theory.specs.Journals.{lines_of}
+use Rattle.varisat_formula.specs.Streams.{Taken}
+use Rattle.varisat_proof.specs.declared.proof.format.ProofFormat.{ProofFormat}
+use Rattle.varisat_proof.specs.Lines.{encoding_of, plain_lines}
+use Rattle.varisat_proof.specs.Steps.{lines_written}
+use Rattle.varisat.specs.OpenProofs.{OpenProof, IsOpen, first_proof, taken_of, HandsBack}
+use Rattle.varisat.specs.States.{State, Unsat}
+use Rattle.varisat.specs.Calls.{is_valid, IsValid, Invalidates, IsRefusedInvalid, count_anew}
+use Rattle.varisat.specs.declared.solver.SolverError.{SolverError}
+use Rattle.varisat.specs.declared.solver.SolverError.TheVariants.{ProofIoError, Invalid, ProofOpen, ProofTooLate}
+
+-- the same state with another open proof, or none
+abbrev pub with_proof : Option OpenProof → State → State
+with_proof proof s = record s { proof = proof }
+
+-- A proof opens before anything is accepted, and has no bytes then. Each refusal hands the target back, and changes nothing.
+abbrev pub OpensProof : {W : Type 0} → (W → Taken) → W → ProofFormat → State → Result (Unit {0}) (SolverError × W) → State → Type 0
+OpensProof taken target format s (Ok _) t =
+    IsValid s × (s.proof ≡ None) × (s.ledger.started ≡ false) × (t ≡ count_anew (with_proof (Some (first_proof format (taken target) s.told)) s))
+OpensProof taken target format s (Err (Invalid, back)) t = (back ≡ target) × IsRefusedInvalid s t
+OpensProof taken target format s (Err (ProofOpen, back)) t = (back ≡ target) × IsValid s × IsOpen s.proof × (t ≡ s)
+OpensProof taken target format s (Err (ProofTooLate, back)) t = (back ≡ target) × IsValid s × (s.proof ≡ None) × (s.ledger.started ≡ true) × (t ≡ s)
+OpensProof taken target format s (Err _) t = ⊥
+
+-- The target comes back, with the bytes of the proof behind those that it had before; also where it can't be flushed, which makes the solver invalid. An invalid solver hands back without a flush what it has, of which nothing is told.
+abbrev pub ClosesProof : {W : Type 0} → (W → Taken) → State → Result (Option W) (SolverError × W) → State → Type 0
+ClosesProof taken s (Ok back) t = ((IsValid s × HandsBack taken s.proof back) ⊎ (is_valid s ≡ false)) × (t ≡ count_anew (with_proof None s))
+ClosesProof taken s (Err (ProofIoError cause, target)) t =
+    (p : OpenProof) × (s.proof ≡ Some p) × (taken target ≡ record (taken_of p) { faults = p.faults + 1 }) × Invalidates s t
+ClosesProof taken s (Err _) t = ⊥
+
+-- The bytes of an open proof are those of lines. As long as nothing was ever hidden these are, behind the lines that were told before it was opened, a derivation from the accepted clauses, which refutes them under Unsat.
+pub record IsProofOf (s : State) (p : OpenProof) : Type 0 where
+  pub lines : List Line
+  pub bytes : p.bytes ≡ lines_written (encoding_of p.format) (plain_lines lines)
+  pub derives : s.ever_hidden ≡ false → IsDerivation s.clauses (lines_of p.before ++ lines)
+  pub refutes : s.ever_hidden ≡ false → s.verdict ≡ Unsat → Refutes s.clauses (lines_of p.before ++ lines)

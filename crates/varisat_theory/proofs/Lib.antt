@@ -31,6 +31,5 @@ pub mod StepStands
 pub mod StepDrops
 pub mod StepCovers
 pub mod StepsMade
-pub mod Reached
 pub mod Journals
 pub mod RenamedJournals

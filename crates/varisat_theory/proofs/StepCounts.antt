@@ -4,7 +4,7 @@ use Rattle.varisat_theory.specs.Literals.{Clause}
 use Rattle.varisat_theory.specs.Derivations.{Line, Add, Delete, IsPresentAfter, Derives}
 use Rattle.varisat_theory.specs.Held.{SameClauses}
 use Rattle.varisat_theory.proofs.Held.{same_set-self, same_add, same_delete, same_clauses_find, same_clauses-back, follows_same}
-use Rattle.varisat_theory.specs.Counted.{IsMinor, IsNew, DerivesBy, AddsNew}
+use Rattle.varisat_theory.specs.Counted.{IsMinor, IsNew, DerivesBy, AddsNewBehind}
 
 -- what counts is a derivation
 pub by_derives : (n : ℕ) (P : List Clause) (lines : List Line) (Q : List Clause) → DerivesBy n P lines Q → Derives P lines Q
@@ -51,7 +51,27 @@ present_append P [] Q more R d e = subst (λ S. IsPresentAfter S more R) (sym d)
 present_append P (Add c ∷ lines) Q more R d e = present_append (P ++ c ∷ []) lines Q more R d.1 e
 present_append P (Delete c ∷ lines) Q more R d e = (d.0, d.1, present_append d.0 lines Q more R d.2 e)
 
--- what is added after other lines
-pub new_after : (P : List Clause) (lines : List Line) (Q : List Clause) (more : List Line) → Derives P lines Q → AddsNew Q more → AddsNew P (lines ++ more)
-new_after P lines Q more d (front, back, c, R, e, p, n) =
-    (lines ++ front, back, c, R, ap (λ l. lines ++ l) e ∙ sym (append_assoc lines front (Add c ∷ back)), present_append P lines Q front R d p, n)
+-- a new clause stays new whatever lines come behind it
+pub new_before : (P : List Clause) (front lines more : List Line) → AddsNewBehind P front lines → AddsNewBehind P front (lines ++ more)
+new_before P front lines more n = record {
+  clause = n.clause;
+  back = n.back ++ more;
+  present = n.present;
+  split = ap (λ l. l ++ more) n.split ∙ append_assoc front (Add n.clause ∷ n.back) more;
+  is_present = n.is_present;
+  is_new = n.is_new;
+}
+
+-- and is new behind the lines that led to what is present before it
+pub new_after : (P : List Clause) (lines : List Line) (Q : List Clause) (front more : List Line) →
+    Derives P lines Q →
+    AddsNewBehind Q front more →
+    AddsNewBehind P (lines ++ front) (lines ++ more)
+new_after P lines Q front more d n = record {
+  clause = n.clause;
+  back = n.back;
+  present = n.present;
+  split = ap (λ l. lines ++ l) n.split ∙ sym (append_assoc lines front (Add n.clause ∷ n.back));
+  is_present = present_append P lines Q front n.present d n.is_present;
+  is_new = n.is_new;
+}

@@ -71,7 +71,7 @@ covers_unit s l P v d h =
     ⊎_elim (λ a. inl (settled_more s (with_unit s l) d (λ x i. ∈-append_left x s.fixed (l ∷ []) i) a)) inr (v d h)
 
 new_line : (held : List Clause) (c : Clause) → IsNew held c → AddsNew held (Add c ∷ [])
-new_line held c n = ([], [], c, held, refl, refl, n)
+new_line held c n = ([], record { clause = c; back = []; present = held; split = refl; is_present = refl; is_new = n })
 
 pub learned_kept : (s : Search) (c : Clause) (k : KeptClause) → SameSet k.clause c → FollowsFrom s c → IsNewTo s c → ((l : Literal) → l ∈ c → IsLiteralOf s l) → Steps s (record s { kept = s.kept ++ k ∷ [] }) Unknown (Add c ∷ [])
 learned_kept s c k q g n w = record {

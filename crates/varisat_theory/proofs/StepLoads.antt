@@ -9,10 +9,11 @@ use Rattle.varisat_theory.proofs.Implication.{implied_false, implied_more}
 use Rattle.varisat_theory.proofs.Held.{same_set-back}
 use Rattle.varisat_theory.specs.Searches.{KeptClause, Search, IsSettled, Covers, IsLiteralOf}
 use Rattle.varisat_theory.specs.Counted.{DerivesBy}
-use Rattle.varisat_theory.specs.Outcomes.{Outcome, Unknown, Unsat, Holds, Proves, Loads, IsContradicted, IsLiteralOfBoth}
+use Rattle.varisat_theory.specs.Outcomes.{Outcome, Unknown, Unsat, Holds, Proves, Loads, IsContradicted, IsLiteralOfEither}
 use Rattle.varisat_theory.proofs.StepCounts.{by_append}
 use Rattle.varisat_theory.specs.StepLaws.{IsGrounded}
 use Rattle.varisat_theory.proofs.Spoken.{spoken_wider, spoken_after, kept_within, unit_within}
+use Rattle.varisat_theory.proofs.StepStands.{unknown_is_open}
 use Rattle.varisat_theory.proofs.StepEnds.{fits_kept, covers_kept, fits_settled, with_unit, fits_unit, covers_unit}
 
 -- one more clause is covered
@@ -28,7 +29,7 @@ loaded_is_kept s c k q e n = record {
       one_more t P c (covers_kept s k P v) (inr (k, ∈-append_right k s.kept (k ∷ []) (inl refl), e, q.0));
   verdict = inr (n, refl);
   speaks = tt;
-  within = λ y. kept_within s (IsLiteralOfBoth s c) k (λ l h. inl h) (λ l h. inr (q.0 l h));
+  within = λ y. kept_within s (IsLiteralOfEither s c) k (λ l h. inl h) (λ l h. inr (q.0 l h));
 }
 
 pub loaded_is_unit : (s : Search) (c : Clause) (l : Literal) → IsUnit l c → (opposite l ∈ s.fixed → ⊥) → Loads s (record s { fixed = s.fixed ++ l ∷ []; proved = s.proved ++ l ∷ [] }) c Unknown []
@@ -37,7 +38,7 @@ loaded_is_unit s c l u n = record {
   answers = λ P v. one_more (with_unit s l) P c (covers_unit s l P v) (inl (inr (l, u.0, ∈-append_right l s.fixed (l ∷ []) (inl refl))));
   verdict = inr (λ w. ⊎_elim (λ e. let z : l ∈ [] = subst (λ x. l ∈ x) e u.0 in absurd z) (λ (m, v, o). n (subst (λ x. opposite x ∈ s.fixed) (u.1 m v.0) o)) w, refl);
   speaks = tt;
-  within = λ y. unit_within s (IsLiteralOfBoth s c) l (λ m h. inl h) (inr u.0);
+  within = λ y. unit_within s (IsLiteralOfEither s c) l (λ m h. inl h) (inr u.0);
 }
 
 pub loaded_is_settled : (s : Search) (c : Clause) → IsSettled s c → (IsContradicted s c → ⊥) → Loads s s c Unknown []
@@ -88,11 +89,11 @@ part_load s t u c v lines p x y q = record {
       (λ (a, e). inl (other t s y a, e))
       (λ (n, e). inr (λ a. n (other s t x a), e))
       q.verdict;
-  speaks = spoken_wider (IsLiteralOfBoth t c) (IsLiteralOfBoth s c) lines wider q.speaks;
+  speaks = spoken_wider (IsLiteralOfEither t c) (IsLiteralOfEither s c) lines wider q.speaks;
   within = λ n l h. wider l (q.within n l h);
 }
   where
-    wider : (l : Literal) → IsLiteralOfBoth t c l → IsLiteralOfBoth s c l
+    wider : (l : Literal) → IsLiteralOfEither t c l → IsLiteralOfEither s c l
     wider l (inl h) = inl (p.within l h)
     wider l (inr h) = inr h
 
@@ -108,12 +109,9 @@ load_part s t u c lines more p q = record {
       (after, by_append 0 0 (held ++ c ∷ []) lines mid more after d e, h);
   answers = λ P a. q.covers (P ++ c ∷ []) (p.answers P a);
   verdict = p.verdict;
-  speaks = spoken_after (IsLiteralOf t) (IsLiteralOfBoth s c) lines more inside p.speaks q.speaks;
+  speaks = spoken_after (IsLiteralOf t) (IsLiteralOfEither s c) lines more inside p.speaks q.speaks;
   within = λ n l h. inside l (q.within l h);
 }
   where
-    open_is : Unknown ≡ Unsat → ⊥
-    open_is e = absurd (let y : Unknown ≡ Unsat = e in cc)
-
-    inside : (l : Literal) → IsLiteralOf t l → IsLiteralOfBoth s c l
-    inside = p.within open_is
+    inside : (l : Literal) → IsLiteralOf t l → IsLiteralOfEither s c l
+    inside = p.within unknown_is_open

@@ -1,15 +1,15 @@
 -- What follows for the accepted clauses.
-use Rattle.std.proofs.Common.{◌≡◌, ◌≢◌, ℕ, zero, suc, ◌+◌, ◌≤◌, List, [], ◌∷◌, ◌++◌, inl, sym, ap, ◌∙◌, subst, refl, append_assoc, arith}
+use Rattle.std.proofs.Common.{◌≡◌, ◌≢◌, ℕ, zero, suc, ◌+◌, ◌≤◌, List, [], ◌∷◌, ◌++◌, inl, sym, ap, subst, refl, arith}
 use Rattle.varisat_theory.specs.Literals.{Literal, Clause, Assignment, SatisfiesAll, IsSatisfiable, IsSatisfiableWith}
 use Rattle.varisat_theory.specs.Derivations.{Line, Add, Delete}
 use Rattle.varisat_theory.proofs.Members.{∈-append_left, ∈-append_right}
 use Rattle.varisat_theory.proofs.Growth.{conflicts_more, covered_by_more}
 use Rattle.varisat_theory.proofs.Sound.{derives_sound, conflicts_sound}
 use Rattle.varisat_theory.proofs.Assigned.{satisfies_more, satisfies_fewer}
-use Rattle.varisat_theory.specs.Counted.{DerivesBy, AddsNew, AddsManyNew, added}
+use Rattle.varisat_theory.specs.Counted.{DerivesBy, AddsNewBehind, AddsNew, AddsManyNew, added}
 use Rattle.varisat_theory.specs.Searches.{Search, Fits, Covers, IsLiteralOf}
 use Rattle.varisat_theory.specs.Outcomes.{Outcome, Unknown, Sat, Unsat, UnsatUnder, Holds, Answers, Proves, Steps, Loads, Stands}
-use Rattle.varisat_theory.proofs.StepCounts.{by_derives, by_append, new_after}
+use Rattle.varisat_theory.proofs.StepCounts.{by_derives, by_append, new_before, new_after}
 use Rattle.varisat_theory.proofs.Spoken.{spoken_after}
 
 pub part_step : (s t u : Search) (v : Outcome) (first second : List Line) → Proves 0 s t first → Steps t u v second → Steps s u v (first ++ second)
@@ -17,7 +17,7 @@ part_step s t u v first second p q = record {
   holds = λ held f.
       let (mid, d, g) = p.holds held f in
       let (after, e, h, n) = q.holds mid g in
-      (after, by_append 0 1 held first mid second after d e, h, λ y. new_after held first mid second (by_derives 0 held first mid d) (n y));
+      (after, by_append 0 1 held first mid second after d e, h, λ y. let (front, m) = n y in (first ++ front, new_after held first mid front second (by_derives 0 held first mid d) m));
   answers = λ P c. q.answers P (p.covers P c);
   speaks = spoken_after (IsLiteralOf t) (IsLiteralOf s) first second p.within p.speaks q.speaks;
   within = λ n l h. p.within l (q.within n l h);
@@ -27,16 +27,12 @@ part_step s t u v first second p q = record {
 pub unknown_is_open : Unknown ≢ Unsat
 unknown_is_open e = absurd (let y : Unknown ≡ Unsat = e in cc)
 
-new_before : (P : List Clause) (lines more : List Line) → AddsNew P lines → AddsNew P (lines ++ more)
-new_before P lines more (front, back, c, Q, e, p, n) =
-    (front, back ++ more, c, Q, ap (λ l. l ++ more) e ∙ append_assoc front (Add c ∷ back) more, p, n)
-
 pub step_part : (s t u : Search) (first second : List Line) → Steps s t Unknown first → Proves 0 t u second → Steps s u Unknown (first ++ second)
 step_part s t u first second p q = record {
   holds = λ held f.
       let (mid, d, g, n) = p.holds held f in
       let (after, e, h) = q.holds mid g in
-      (after, by_append 1 0 held first mid second after d e, h, λ y. new_before held first second (n y));
+      (after, by_append 1 0 held first mid second after d e, h, λ y. let (front, m) = n y in (front, new_before held front first second m));
   answers = λ P c. q.covers P (p.answers P c);
   speaks = spoken_after (IsLiteralOf t) (IsLiteralOf s) first second (p.within unknown_is_open) p.speaks q.speaks;
   within = λ n l h. p.within unknown_is_open l (q.within l h);
@@ -55,19 +51,21 @@ added_append [] second = omega arith
 added_append (Add c ∷ first) second = let e = added_append first second in omega (arith, e)
 added_append (Delete c ∷ first) second = added_append first second
 
-adds_one : (P : List Clause) (lines : List Line) → AddsNew P lines → 1 ≤ added lines
-adds_one P lines (front, back, c, Q, e, p, n) =
-    let g = ap added e in
-    let h = added_append front (Add c ∷ back) in
+new_is_added : (P : List Clause) (front lines : List Line) → AddsNewBehind P front lines → suc (added front) ≤ added lines
+new_is_added P front lines n =
+    let g = ap added n.split in
+    let h = added_append front (Add n.clause ∷ n.back) in
     omega (arith, g, h)
 
 pub new_are_added : (k : ℕ) (P : List Clause) (lines : List Line) → AddsManyNew k P lines → k ≤ added lines
 new_are_added zero P lines n = omega arith
-new_are_added (suc k) P lines (front, back, c, Q, e, p, n, more) =
-    let g = ap added e in
-    let h = added_append front (Add c ∷ back) in
-    let i = new_are_added k P front more in
-    omega (arith, g, h, i)
+new_are_added (suc k) P lines (front, n, more) =
+    let g = new_is_added P front lines n in
+    let h = new_are_added k P front more in
+    omega (arith, g, h)
+
+adds_one : (P : List Clause) (lines : List Line) → AddsNew P lines → 1 ≤ added lines
+adds_one P lines (front, n) = let g = new_is_added P front lines n in omega (arith, g)
 
 pub step_adds : (s t : Search) (lines : List Line) (held : List Clause) → Steps s t Unknown lines → Fits held s → 1 ≤ added lines
 step_adds s t lines held p f = adds_one held lines ((p.holds held f).3 refl)

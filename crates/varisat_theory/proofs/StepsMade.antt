@@ -1,35 +1,41 @@
 -- What k steps of a call give together.
-use Rattle.std.proofs.Common.{◌≡◌, ℕ, zero, suc, ◌+◌, ◌<◌, ◌≤◌, Bool, true, false, List, [], ◌∷◌, ◌++◌, inl, inr, sym, ap, ◌∙◌, subst, refl, append_assoc, arith}
+use Rattle.std.proofs.Common.{◌≡◌, ℕ, zero, suc, ◌+◌, ◌<◌, Bool, true, false, List, [], ◌∷◌, ◌++◌, inl, inr, sym, ap, ◌∙◌, subst, refl, arith}
 use Rattle.std.proofs.lemmas.List.{append-nil}
 use Rattle.varisat_theory.specs.Membership.{◌∈◌}
 use Rattle.varisat_theory.specs.Literals.{Literal, Clause, Assignment, value, Satisfies, SatisfiesAll}
-use Rattle.varisat_theory.specs.Derivations.{Line, Add, Derives, Refutes}
+use Rattle.varisat_theory.specs.Derivations.{Line, Derives, Refutes}
 use Rattle.varisat_theory.specs.Counted.{DerivesBy, AddsNew, AddsManyNew}
 use Rattle.varisat_theory.specs.Searches.{KeptClause, Search, Fits, Covers, IsCoveredBySearch, Tautology, KnownTrue, FixedTrue, Kept, CoversBy, IsLiteralOf}
 use Rattle.varisat_theory.specs.Outcomes.{Outcome, Unknown, Sat, Unsat, UnsatUnder, Proves, Steps, MakesSteps, Stands}
 use Rattle.varisat_theory.specs.StepLaws.{joined}
 use Rattle.varisat_theory.proofs.Assigned.{tautology_satisfied}
 use Rattle.varisat_theory.proofs.Lines.{refutes_from}
-use Rattle.varisat_theory.proofs.StepCounts.{by_derives, by_append, present_append}
+use Rattle.varisat_theory.proofs.StepCounts.{by_derives, by_append, new_before, new_after}
 use Rattle.varisat_theory.proofs.StepStands.{unknown_is_open, stands_after}
 use Rattle.varisat_theory.proofs.Spoken.{spoken_after}
 
--- new ones stay so whatever comes after them
+-- new clauses stay new whatever lines come behind them
 many_before : (k : ℕ) (P : List Clause) (lines more : List Line) → AddsManyNew k P lines → AddsManyNew k P (lines ++ more)
 many_before zero P lines more n = tt
-many_before (suc k) P lines more (front, back, c, Q, e, p, n, m) =
-    (front, back ++ more, c, Q, ap (λ l. l ++ more) e ∙ append_assoc front (Add c ∷ back) more, p, n, m)
+many_before (suc k) P lines more (front, n, m) = (front, new_before P front lines more n, m)
 
--- those of later lines count after earlier ones
-many_after : (k : ℕ) (P : List Clause) (lines : List Line) (Q : List Clause) (more : List Line) → Derives P lines Q → AddsManyNew k Q more → AddsManyNew k P (lines ++ more)
+-- those of later lines are new behind the earlier lines
+many_after : (k : ℕ) (P : List Clause) (lines : List Line) (Q : List Clause) (more : List Line) →
+    Derives P lines Q →
+    AddsManyNew k Q more →
+    AddsManyNew k P (lines ++ more)
 many_after zero P lines Q more d n = tt
-many_after (suc k) P lines Q more d (front, back, c, R, e, p, n, m) =
-    (lines ++ front, back, c, R, ap (λ l. lines ++ l) e ∙ sym (append_assoc lines front (Add c ∷ back)), present_append P lines Q front R d p, n, many_after k P lines Q front d m)
+many_after (suc k) P lines Q more d (front, n, m) =
+    (lines ++ front, new_after P lines Q front more d n, many_after k P lines Q front d m)
 
--- one more after them
-many_and_one : (k : ℕ) (P : List Clause) (lines : List Line) (Q : List Clause) (more : List Line) → Derives P lines Q → AddsManyNew k P lines → AddsNew Q more → AddsManyNew (suc k) P (lines ++ more)
-many_and_one k P lines Q more d m (front, back, c, R, e, p, n) =
-    (lines ++ front, back, c, R, ap (λ l. lines ++ l) e ∙ sym (append_assoc lines front (Add c ∷ back)), present_append P lines Q front R d p, n, many_before k P lines front m)
+-- one more behind them
+many_and_one : (k : ℕ) (P : List Clause) (lines : List Line) (Q : List Clause) (more : List Line) →
+    Derives P lines Q →
+    AddsManyNew k P lines →
+    AddsNew Q more →
+    AddsManyNew (suc k) P (lines ++ more)
+many_and_one k P lines Q more d m (front, n) =
+    (lines ++ front, new_after P lines Q front more d n, many_before k P lines front m)
 
 pub none_made : (s : Search) → MakesSteps 0 s s Unknown []
 none_made s = record { holds = λ held f. (held, refl, f); answers = λ P c. c; adds = λ held f e. tt; speaks = tt; within = λ n l h. h }

@@ -38,7 +38,7 @@ Derives P [] Q = P ≡ Q
 Derives P (Add c ∷ lines) Q = Follows P c × Derives (P ++ (c ∷ [])) lines Q
 Derives P (Delete c ∷ lines) Q = (R : List Clause) × TakesOut P c R × Derives R lines Q
 
--- each literal of the clauses that the lines add or delete is as is said
+-- `are` holds of each literal of the clauses that the lines add or delete
 abbrev pub SpeakOf : (Literal → Type 0) → List Line → Type 0
 SpeakOf are [] = Unit {0}
 SpeakOf are (Add c ∷ lines) = ((l : Literal) → l ∈ c → are l) × SpeakOf are lines

@@ -7,6 +7,7 @@ use Rattle.varisat_theory.specs.Held.{without}
 use Rattle.varisat_theory.specs.Counted.{IsMinor}
 use Rattle.varisat_theory.specs.Renaming.{IsWithin, rename_line}
 
+-- an entry of a journal
 pub data Entry : Type 0 where
   -- a clause is accepted, as given
   Accepts : Clause → Entry
@@ -19,7 +20,7 @@ pub data Entry : Type 0 where
   -- a variable is gone for good, and the clauses that mention it go with it
   Leaves : ℕ → Entry
 
--- Where P is held before the entry, Q is held after it, and the entry is right.
+-- Where P is held before the entry, the entry is right and Q is held after it.
 abbrev pub Follow : List Clause → Entry → List Clause → Type 0
 Follow P (Accepts c) Q = Q ≡ P ++ c ∷ []
 Follow P (Writes (Add c)) Q = Follows P c × (Q ≡ P ++ c ∷ [])
@@ -28,21 +29,23 @@ Follow P (Assumes a) Q = Q ≡ P
 Follow P (Fails core) Q = Conflicts P core × (Q ≡ P)
 Follow P (Leaves v) Q = Q ≡ without v P
 
--- The entries lead from what is held to what is held after them, each in turn.
+-- so it is for each of the entries in turn
 abbrev pub Leads : List Clause → List Entry → List Clause → Type 0
 Leads P [] Q = P ≡ Q
 Leads P (e ∷ es) Q = (R : List Clause) × Follow P e R × Leads R es Q
 
--- The entry adds no clause of its own weight: one that it adds is a single literal, or part of a clause of P.
+-- a clause that the entry adds by a line does not count: it is a single literal, or part of a clause of P
 abbrev pub IsMinorEntry : List Clause → Entry → Type 0
 IsMinorEntry P (Writes (Add c)) = IsMinor P c
 IsMinorEntry P _ = Unit {0}
 
--- As `Leads`, where at most n of the clauses that lines add are neither a single literal nor part of one that is held just before.
+-- `Leads`, where at most n of the clauses that lines add are neither a single literal nor part of one held just before
 abbrev pub LeadsBy : ℕ → List Clause → List Entry → List Clause → Type 0
 LeadsBy n P [] Q = P ≡ Q
 LeadsBy n P (e ∷ es) Q =
-    (R : List Clause) × Follow P e R × ((IsMinorEntry P e × LeadsBy n R es Q) ⊎ ((m : ℕ) × (n ≡ suc m) × LeadsBy m R es Q))
+    (R : List Clause)
+    × Follow P e R
+    × ((IsMinorEntry P e × LeadsBy n R es Q) ⊎ ((m : ℕ) × (n ≡ suc m) × LeadsBy m R es Q))
 
 -- the accepted clauses, in order
 abbrev pub accepted_of : List Entry → List Clause
@@ -74,11 +77,11 @@ rename_entry f (Leaves v) = Leaves (variable_of (f (2 * v)))
 abbrev pub written : List Line → List Entry
 written ls = map Writes ls
 
--- From whatever the entries that were told lead to from nothing, the further ones lead on, and n of the clauses that they add or fewer count.
+-- Whatever the entries told so far lead to from no clauses, the further ones lead on from it, with at most n that count.
 abbrev pub GoesOn : ℕ → List Entry → List Entry → Type 0
 GoesOn n told es = (held : List Clause) → Leads [] told held → (after : List Clause) × LeadsBy n held es after
 
--- each literal of which the entry speaks stands in the list, and so does its opposite
+-- each literal that the entry is right by stands in the list, and so does its opposite; assumptions change nothing held
 abbrev pub IsEntryWithin : List Literal → Entry → Type 0
 IsEntryWithin ls (Accepts c) = IsWithin ls c
 IsEntryWithin ls (Writes (Add c)) = IsWithin ls c

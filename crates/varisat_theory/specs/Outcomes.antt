@@ -3,8 +3,7 @@ use Rattle.std.specs.Prelude.{◌≡◌, ◌≢◌, ℕ, List, [], ◌∷◌, �
 use Rattle.varisat_theory.specs.Membership.{◌∈◌}
 use Rattle.varisat_theory.specs.Literals.{Literal, Clause, Assignment, opposite, IsUnit, SatisfiesAll}
 use Rattle.varisat_theory.specs.Propagation.{Conflicts}
-use Rattle.varisat_theory.specs.Derivations.{Line, Derives, SpeakOf}
-use Rattle.varisat_theory.specs.Held.{SameClauses}
+use Rattle.varisat_theory.specs.Derivations.{Line, SpeakOf}
 use Rattle.varisat_theory.specs.Counted.{DerivesBy, AddsNew, AddsManyNew}
 use Rattle.varisat_theory.specs.Searches.{Search, Fits, Covers, IsLiteralOf}
 
@@ -29,21 +28,25 @@ Answers P s (Sat found) = Covers P s × SatisfiesAll found P
 Answers P s Unsat = Unit {0}
 Answers P s (UnsatUnder core) = Covers P s
 
--- The lines lead from whatever clauses fit s to such as fit t, and n of the added ones or fewer count; and what s covers, t covers. The lines speak of literals of s alone, and t has no others.
+-- The lines lead from whatever clauses fit s to such as fit t, where at most n of the added ones count, and what s covers, t
+-- covers. The lines speak of literals of s alone, and t has no others.
 pub record Proves (n : ℕ) (s t : Search) (lines : List Line) : Type 0 where
   pub holds : (held : List Clause) → Fits held s → (after : List Clause) × DerivesBy n held lines after × Fits after t
   pub covers : (P : List Clause) → Covers P s → Covers P t
   pub speaks : SpeakOf (IsLiteralOf s) lines
   pub within : (l : Literal) → IsLiteralOf t l → IsLiteralOf s l
 
--- What a step with the lines gives, by the verdict after it: one of the added clauses counts or none, and under Unknown one is new. The lines speak of literals of s alone, and t has no others.
+-- What a step with the lines gives, by the verdict after it: at most one of the added clauses counts, and under Unknown one
+-- is new. The lines speak of literals of s alone, and t has no others. Under Unsat nothing more is asked of t.
 pub record Steps (s t : Search) (v : Outcome) (lines : List Line) : Type 0 where
-  pub holds : (held : List Clause) → Fits held s → (after : List Clause) × DerivesBy 1 held lines after × Holds after t v × (v ≡ Unknown → AddsNew held lines)
+  pub holds : (held : List Clause) → Fits held s →
+      (after : List Clause) × DerivesBy 1 held lines after × Holds after t v × (v ≡ Unknown → AddsNew held lines)
   pub answers : (P : List Clause) → Covers P s → Answers P t v
   pub speaks : SpeakOf (IsLiteralOf s) lines
   pub within : v ≢ Unsat → (l : Literal) → IsLiteralOf t l → IsLiteralOf s l
 
--- What k steps of a call give together: as many of the added clauses count at most, and where the last verdict is Unknown as many new ones are added at least. The lines speak of literals of s alone, and t has no others.
+-- What k steps of a call give together: at most k of the added clauses count, and where the last verdict is Unknown at least
+-- k new ones are added. Of the literals the same holds.
 pub record MakesSteps (k : ℕ) (s t : Search) (v : Outcome) (lines : List Line) : Type 0 where
   pub holds : (held : List Clause) → Fits held s → (after : List Clause) × DerivesBy k held lines after × Holds after t v
   pub answers : (P : List Clause) → Covers P s → Answers P t v
@@ -56,23 +59,19 @@ abbrev pub IsContradicted : Search → Clause → Type 0
 IsContradicted s c = (c ≡ []) ⊎ ((l : Literal) × IsUnit l c × (opposite l ∈ s.fixed))
 
 -- the literal is one of the search or of the clause
-abbrev pub IsLiteralOfBoth : Search → Clause → Literal → Type 0
-IsLiteralOfBoth s c l = IsLiteralOf s l ⊎ (l ∈ c)
+abbrev pub IsLiteralOfEither : Search → Clause → Literal → Type 0
+IsLiteralOfEither s c l = IsLiteralOf s l ⊎ (l ∈ c)
 
--- What loading a clause gives, where the verdict was not Unsat: it joins what is held, and then come the lines. Unsat comes just where it is contradicted. The lines speak of literals of s and of the clause alone, and t has no others.
+-- What loading a clause gives, where the verdict was not Unsat: it joins what is held, and then come the lines, none of which
+-- counts. Unsat comes just where it is contradicted. The lines speak of literals of s and of the clause alone, and t has no
+-- others.
 pub record Loads (s t : Search) (c : Clause) (v : Outcome) (lines : List Line) : Type 0 where
-  pub holds : (held : List Clause) → Fits held s → (after : List Clause) × DerivesBy 0 (held ++ c ∷ []) lines after × Holds after t v
+  pub holds : (held : List Clause) → Fits held s →
+      (after : List Clause) × DerivesBy 0 (held ++ c ∷ []) lines after × Holds after t v
   pub answers : (P : List Clause) → Covers P s → Answers (P ++ c ∷ []) t v
   pub verdict : (IsContradicted s c × (v ≡ Unsat)) ⊎ ((IsContradicted s c → ⊥) × (v ≡ Unknown))
-  pub speaks : SpeakOf (IsLiteralOfBoth s c) lines
-  pub within : v ≢ Unsat → (l : Literal) → IsLiteralOf t l → IsLiteralOfBoth s c l
-
--- Some lines lead from the accepted clauses P to the clauses that a proof holds, each as often, in whatever order.
-pub record IsReached (P held : List Clause) : Type 0 where
-  pub lines : List Line
-  pub last : List Clause
-  pub derives : Derives P lines last
-  pub same : SameClauses last held
+  pub speaks : SpeakOf (IsLiteralOfEither s c) lines
+  pub within : v ≢ Unsat → (l : Literal) → IsLiteralOf t l → IsLiteralOfEither s c l
 
 -- What a solver with accepted clauses P keeps of the clauses that a proof holds.
 pub record Stands (P held : List Clause) (s : Search) (v : Outcome) : Type 0 where

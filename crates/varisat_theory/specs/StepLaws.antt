@@ -6,10 +6,10 @@ use Rattle.varisat_theory.specs.Propagation.{Conflicts, Follows, IsFalse, HasFal
 use Rattle.varisat_theory.specs.Derivations.{Line, Add, Delete, Derives, Refutes}
 use Rattle.varisat_theory.specs.Held.{SameClauses, mentions, without}
 use Rattle.varisat_theory.specs.Analysis.{Implied}
-use Rattle.varisat_theory.specs.Renaming.{KeepsOpposites, rename}
+use Rattle.varisat_theory.specs.Renaming.{KeepsOpposites}
 use Rattle.varisat_theory.specs.Counted.{IsNew, DerivesBy, AddsManyNew, added}
 use Rattle.varisat_theory.specs.Searches.{KeptClause, Search, clauses_of, IsTautology, IsSettled, Fits, Covers, CoversBy, IsLiteralOf}
-use Rattle.varisat_theory.specs.Outcomes.{Outcome, Unknown, Sat, Unsat, UnsatUnder, Proves, Steps, Loads, IsContradicted, Stands, MakesSteps, IsReached}
+use Rattle.varisat_theory.specs.Outcomes.{Outcome, Unknown, Sat, Unsat, UnsatUnder, Proves, Steps, Loads, IsContradicted, Stands, MakesSteps}
 
 -- 1. How parts join.
 
@@ -27,10 +27,18 @@ abbrev pub StepIsPart : Type 0
 StepIsPart =
     ((s t : Search) (lines : List Line) → Steps s t Unknown lines → Proves 1 s t lines) × ((s t : Search) (lines : List Line) (held : List Clause) → Steps s t Unknown lines → Fits held s → 1 ≤ added lines) × ((first second : List Line) → added (first ++ second) ≡ added first + added second)
 
--- Kept clauses may move, their literals too; more literals of the search may be fixed.
+-- Kept clauses moved, their literals too, and more literals of the search are fixed, or fewer proved.
+pub record OnlyMoves (s t : Search) : Type 0 where
+  pub clauses : SameClauses (clauses_of s.kept) (clauses_of t.kept)
+  pub unlearned : (k : KeptClause) → k ∈ s.kept → k.learned ≡ false →
+      (j : KeptClause) × (j ∈ t.kept) × (j.learned ≡ false) × (j.clause ⊆ k.clause)
+  pub fixed : s.fixed ⊆ t.fixed
+  pub proved : t.proved ⊆ s.proved
+  pub within : (l : Literal) → l ∈ t.fixed → IsLiteralOf s l
+
+-- that takes no line
 abbrev pub MovesProve : Type 0
-MovesProve =
-    (s t : Search) → SameClauses (clauses_of s.kept) (clauses_of t.kept) → ((k : KeptClause) → k ∈ s.kept → k.learned ≡ false → (j : KeptClause) × (j ∈ t.kept) × (j.learned ≡ false) × (j.clause ⊆ k.clause)) → s.fixed ⊆ t.fixed → t.proved ⊆ s.proved → ((l : Literal) → l ∈ t.fixed → IsLiteralOf s l) → Proves 0 s t []
+MovesProve = (s t : Search) → OnlyMoves s t → Proves 0 s t []
 
 -- 2. Parts of a step.
 
@@ -79,10 +87,18 @@ FollowsFrom s c = (held : List Clause) → Fits held s → Follows held c
 abbrev pub IsNewTo : Search → Clause → Type 0
 IsNewTo s c = (held : List Clause) → Fits held s → IsNew held c
 
--- a clause of literals of the search is learned and kept, or it is a unit that is true at level 0 from then on
-abbrev pub ClauseIsLearned : Type 0
-ClauseIsLearned =
-    ((s : Search) (c : Clause) (k : KeptClause) → SameSet k.clause c → FollowsFrom s c → IsNewTo s c → ((l : Literal) → l ∈ c → IsLiteralOf s l) → Steps s (record s { kept = s.kept ++ k ∷ [] }) Unknown (Add c ∷ [])) × ((s : Search) (c : Clause) (l : Literal) → IsUnit l c → FollowsFrom s c → IsNewTo s c → ((l : Literal) → l ∈ c → IsLiteralOf s l) → Steps s (record s { fixed = s.fixed ++ l ∷ []; proved = s.proved ++ l ∷ [] }) Unknown (Add c ∷ []))
+-- The clause may be learned: it follows, it is new, and its literals are the search's.
+pub record IsLearnable (s : Search) (c : Clause) : Type 0 where
+  pub follows : FollowsFrom s c
+  pub is_new : IsNewTo s c
+  pub literals : (l : Literal) → l ∈ c → IsLiteralOf s l
+
+-- Such a clause is learned and kept, or it is a unit that is true at level 0 from then on.
+pub record ClauseIsLearned : Type 0 where
+  pub kept : (s : Search) (c : Clause) (k : KeptClause) → SameSet k.clause c → IsLearnable s c →
+      Steps s (record s { kept = s.kept ++ k ∷ [] }) Unknown (Add c ∷ [])
+  pub unit : (s : Search) (c : Clause) (l : Literal) → IsUnit l c → IsLearnable s c →
+      Steps s (record s { fixed = s.fixed ++ l ∷ []; proved = s.proved ++ l ∷ [] }) Unknown (Add c ∷ [])
 
 -- No kept clause is a part of it, it is no tautology, and no literal of it is true at level 0.
 pub record IsFresh (s : Search) (c : Clause) : Type 0 where
@@ -203,7 +219,10 @@ StepStands =
 -- So do k steps.
 abbrev pub StepsStand : Type 0
 StepsStand =
-    (k : ℕ) (P held : List Clause) (s t : Search) (v : Outcome) (lines : List Line) → Stands P held s Unknown → MakesSteps k s t v lines → (after : List Clause) × DerivesBy k held lines after × Stands P after t v × (v ≡ Unknown → AddsManyNew k held lines)
+    (k : ℕ) (P held : List Clause) (s t : Search) (v : Outcome) (lines : List Line) →
+    Stands P held s Unknown →
+    MakesSteps k s t v lines →
+    (after : List Clause) × DerivesBy k held lines after × Stands P after t v × (v ≡ Unknown → AddsManyNew k held lines)
 
 -- Loading adds a clause to them.
 abbrev pub LoadStands : Type 0
@@ -249,34 +268,3 @@ DroppedAreCovered =
 abbrev pub NamesAreSatisfied : Type 0
 NamesAreSatisfied =
     (k : ℕ) (s t : Search) (found a : Assignment) (lines : List Line) (to : Literal → Literal) (known : Literal → Bool) (P : List Clause) → MakesSteps k s t (Sat found) lines → CoversBy to known P s → ((l : Literal) → IsLiteralOf s l → value a (to l) ≡ value found l) → ((l : Literal) → known l ≡ true → value a l ≡ true) → SatisfiesAll a P
-
--- 8. What is held is reached from the accepted clauses.
-
--- the accepted clauses themselves are reached
-abbrev pub AcceptedAreReached : Type 0
-AcceptedAreReached = (P : List Clause) → IsReached P P
-
--- one more clause may be accepted, and is held
-abbrev pub OneMoreIsReached : Type 0
-OneMoreIsReached = (P held : List Clause) (c : Clause) → IsReached P held → IsReached (P ++ c ∷ []) (held ++ c ∷ [])
-
--- lines may lead on
-abbrev pub DerivedAreReached : Type 0
-DerivedAreReached = (P held : List Clause) (lines : List Line) (after : List Clause) → IsReached P held → Derives held lines after → IsReached P after
-
--- the same clauses may be accepted, and the same be held
-abbrev pub SameAreReached : Type 0
-SameAreReached =
-    ((P held other : List Clause) → IsReached P held → SameClauses held other → IsReached P other) × ((P Q held : List Clause) → SameClauses P Q → IsReached P held → IsReached Q held)
-
--- what satisfies the accepted clauses satisfies what is held
-abbrev pub ReachedAreSatisfied : Type 0
-ReachedAreSatisfied = (P held : List Clause) (a : Assignment) → IsReached P held → SatisfiesAll a P → SatisfiesAll a held
-
--- where propagation over what is held conflicts, some lines refute the accepted clauses
-abbrev pub ReachedAreRefuted : Type 0
-ReachedAreRefuted = (P held : List Clause) → IsReached P held → Conflicts held [] → (lines : List Line) × Refutes P lines
-
--- under other names too what is held is reached
-abbrev pub RenamedAreReached : Type 0
-RenamedAreReached = (to : Literal → Literal) (P held : List Clause) → KeepsOpposites to → IsReached P held → IsReached (rename to P) (rename to held)

@@ -1,7 +1,7 @@
 //! What the lines of a step, of a call and of loading do to the clauses that a proof holds, and what that says of the
 //! accepted ones.
 
-ghost use Rattle.varisat_theory.specs.StepLaws.{PartsJoin, PartsJoinStep, StepIsPart, MovesProve, UnitIsProved, UnitsAreProved, SatisfiedIsDeleted, LearnedIsDeleted, ClauseIsShortened, VariableIsDropped, ClauseIsLearned, FreshIsNew, EmptyIsAdded, ContradictionIsFound, ModelIsFound, CoreIsFound, LoadedIsKept, LoadedIsUnit, LoadedIsSettled, LoadedIsDeleted, LoadedIsContradicted, PartsJoinLoad, NoStepIsMade, StepIsMade, NewAreAdded, StepsOfCall, PartsJoinSteps, StepsRefute, FirstStands, PartStands, StepStands, StepsStand, LoadStands, VerdictsAreRight, CountedDerives, KeptAreHeld, NamesAreCovered, NamesStayCovered, NamesAreLoaded, DroppedAreCovered, NamesAreSatisfied, AcceptedAreReached, OneMoreIsReached, DerivedAreReached, SameAreReached, ReachedAreSatisfied, ReachedAreRefuted, RenamedAreReached};
+ghost use Rattle.varisat_theory.specs.StepLaws.{PartsJoin, PartsJoinStep, StepIsPart, MovesProve, UnitIsProved, UnitsAreProved, SatisfiedIsDeleted, LearnedIsDeleted, ClauseIsShortened, VariableIsDropped, ClauseIsLearned, FreshIsNew, EmptyIsAdded, ContradictionIsFound, ModelIsFound, CoreIsFound, LoadedIsKept, LoadedIsUnit, LoadedIsSettled, LoadedIsDeleted, LoadedIsContradicted, PartsJoinLoad, NoStepIsMade, StepIsMade, NewAreAdded, StepsOfCall, PartsJoinSteps, StepsRefute, FirstStands, PartStands, StepStands, StepsStand, LoadStands, VerdictsAreRight, CountedDerives, KeptAreHeld, NamesAreCovered, NamesStayCovered, NamesAreLoaded, DroppedAreCovered, NamesAreSatisfied};
 
 /// Two parts of a step in turn are one.
 pub fn parts_join()
@@ -206,39 +206,4 @@ pub fn dropped_are_covered()
 /// What steps found satisfies the clauses under other names.
 pub fn names_are_satisfied()
     ensures { NamesAreSatisfied }
-{}
-
-/// The accepted clauses are reached.
-pub fn accepted_are_reached()
-    ensures { AcceptedAreReached }
-{}
-
-/// One more accepted clause is reached.
-pub fn one_more_is_reached()
-    ensures { OneMoreIsReached }
-{}
-
-/// What lines derive is reached.
-pub fn derived_are_reached()
-    ensures { DerivedAreReached }
-{}
-
-/// The same clauses are reached, and from the same.
-pub fn same_are_reached()
-    ensures { SameAreReached }
-{}
-
-/// What is reached is satisfied.
-pub fn reached_are_satisfied()
-    ensures { ReachedAreSatisfied }
-{}
-
-/// Where what is reached conflicts, lines refute.
-pub fn reached_are_refuted()
-    ensures { ReachedAreRefuted }
-{}
-
-/// What is reached is so under other names.
-pub fn renamed_are_reached()
-    ensures { RenamedAreReached }
 {}

@@ -2,4 +2,4 @@ use Rattle.varisat_theory.proofs.Journals.{leads_derives, leads_refutes}
 use Rattle.varisat_theory.proofs.laws.journals.journal_derives.Goals as goal
 
 pub returns : goal.returns
-returns c = (leads_derives, leads_refutes)
+returns c = record { derives = leads_derives; refutes = leads_refutes }

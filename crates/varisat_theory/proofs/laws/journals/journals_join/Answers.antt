@@ -2,4 +2,4 @@ use Rattle.varisat_theory.proofs.Journals.{leads_append, leads_cut, by_leads, by
 use Rattle.varisat_theory.proofs.laws.journals.journals_join.Goals as goal
 
 pub returns : goal.returns
-returns c = (leads_append, by_leads_append, leads_cut, by_leads)
+returns c = record { join = leads_append; counts = by_leads_append; cut = leads_cut; counted_leads = by_leads }

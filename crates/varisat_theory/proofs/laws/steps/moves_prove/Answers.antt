@@ -2,4 +2,4 @@ use Rattle.varisat_theory.proofs.StepChanges.{moves_prove}
 use Rattle.varisat_theory.proofs.laws.steps.moves_prove.Goals as goal
 
 pub returns : goal.returns
-returns c = moves_prove
+returns c = λ s t m. moves_prove s t m.clauses m.unlearned m.fixed m.proved m.within

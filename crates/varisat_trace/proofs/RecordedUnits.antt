@@ -1,5 +1,5 @@
 -- The lines of units that were recorded one by one.
-use Rattle.std.proofs.Common.{◌≡◌, ℕ, suc, ◌+◌, ◌<◌, List, [], ◌∷◌, ◌++◌, length, take, get_or, refl, sym, ap, ◌∙◌, arith, append_assoc}
+use Rattle.std.proofs.Common.{◌≡◌, ℕ, ◌+◌, ◌<◌, List, [], ◌∷◌, ◌++◌, length, take, get_or, refl, sym, ap, ◌∙◌, append_assoc}
 use Rattle.varisat_theory.specs.Derivations.{Line, Add}
 use Rattle.varisat_theory.specs.StepLaws.{unit_lines}
 use Rattle.varisat_trace.proofs.TracedLists.{taken-one}
@@ -10,6 +10,5 @@ units-append (l ∷ ls) ms = ap (λ xs. Add (l ∷ []) ∷ xs) (units-append ls 
 
 pub units-next : (x y z : List Line) (ls : List ℕ) (k l : ℕ) → k < length ls → l ≡ get_or ls k l → y ≡ x ++ unit_lines (take k ls) → z ≡ y ++ Add (l ∷ []) ∷ [] → z ≡ x ++ unit_lines (take (k + 1) ls)
 units-next x y z ls k l h i e f =
-    let n : suc k ≡ k + 1 = omega arith in
     f ∙ ap (λ u. u ++ Add (l ∷ []) ∷ []) e ∙ append_assoc x (unit_lines (take k ls)) (Add (l ∷ []) ∷ [])
-    ∙ ap (λ u. x ++ u) (sym (units-append (take k ls) (l ∷ [])) ∙ ap unit_lines (sym (taken-one ls k l h i)) ∙ ap (λ j. unit_lines (take j ls)) n)
+    ∙ ap (λ u. x ++ u) (sym (units-append (take k ls) (l ∷ [])) ∙ ap unit_lines (sym (taken-one ls k l h i)))

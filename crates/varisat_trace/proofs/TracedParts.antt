@@ -1,5 +1,6 @@
 -- Lines that are handed on in turn, of a whole that is known beforehand.
-use Rattle.std.proofs.Common.{◌≡◌, List, [], ◌∷◌, ◌++◌, refl, sym, ap, ◌∙◌, subst, append_assoc}
+use Rattle.std.proofs.Common.{◌≡◌, List, [], ◌++◌, refl, sym, ap, ◌∙◌, subst, append_assoc}
+use Rattle.std.proofs.lemmas.List.{append-nil}
 use Rattle.varisat_theory.specs.Literals.{Clause}
 use Rattle.varisat_theory.specs.Derivations.{Line}
 use Rattle.varisat_theory.specs.Journals.{Entry, Leads}
@@ -34,7 +35,3 @@ module _ {Q : Type 0} (holds : Q → List Clause → Type 0) (takes : Q → List
 
   pub part-all : (rest : List Line) (first now : Q) → rest ≡ [] → TracesPart holds takes whole rest first now → TakesLines takes first whole now
   part-all rest first now e t = subst (λ ls. TakesLines takes first ls now) (sym (append-nil t.done) ∙ ap (λ ls. t.done ++ ls) (sym e) ∙ t.parts) t.taken
-    where
-      append-nil : (xs : List Line) → xs ++ [] ≡ xs
-      append-nil [] = refl
-      append-nil (x ∷ xs) = ap (λ ys. x ∷ ys) (append-nil xs)

@@ -1,2 +1,3 @@
 pub mod Traces
 pub mod Recorded
+pub mod RecorderLaws

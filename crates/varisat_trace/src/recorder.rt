@@ -1,9 +1,7 @@
-//! A tracer that keeps the lines.
-ghost use Rattle.std.specs.Prelude.{◌≡◌, ◌<◌, ◌++◌, [], length, slice_index_or, OnOk};
+//! A tracer that keeps the lines, for tests and for whoever wants to look at them.
+ghost use Rattle.std.specs.Prelude.{◌≡◌, ◌<◌, ◌++◌, ◌∷◌, [], length, slice_index_or, OnOk};
 ghost use Rattle.varisat_theory.specs.StepLaws.{unit_lines};
 ghost use Rattle.varisat_theory.specs.Derivations.{Add, Delete};
-ghost use Rattle.varisat_theory.specs.Journals.{lines_of};
-ghost use Rattle.std.specs.Prelude.{◌∷◌};
 ghost use Rattle.varisat_trace.specs.Recorded.{clause_of, is_deletion};
 
 use crate::step::ProofStep;
@@ -63,6 +61,7 @@ impl<A: Allocator + Copy> LineRecorder<A> {
         self.lines[index].0
     }
 
+    /// Puts a line at the end that deletes the clause.
     fn push_deletion(&mut self, clause: &[Lit]) -> Result<(), AllocError>
         ensures { OnOk result (self.new ≡ self.old ++ Delete clause.now ∷ []) }
     {
@@ -72,6 +71,7 @@ impl<A: Allocator + Copy> LineRecorder<A> {
         Ok(())
     }
 
+    /// Puts a line at the end that adds the clause.
     fn push_addition(&mut self, clause: &[Lit]) -> Result<(), AllocError>
         ensures { OnOk result (self.new ≡ self.old ++ Add clause.now ∷ []) }
     {
@@ -81,6 +81,7 @@ impl<A: Allocator + Copy> LineRecorder<A> {
         Ok(())
     }
 
+    /// Puts a line at the end for each literal, which adds it as a clause of its own.
     fn push_units(&mut self, units: &[Lit]) -> Result<(), AllocError>
         ensures { OnOk result (self.new ≡ self.old ++ unit_lines units.now) }
     {
@@ -95,7 +96,7 @@ impl<A: Allocator + Copy> ProofTracer for LineRecorder<A> {
     ghost use Rattle.std.specs.Prelude.{true, ◌≡◌, ◌++◌};
     ghost use Rattle.std.specs.List.Sorted.{IsNonDecreasing};
     ghost use Rattle.varisat_theory.specs.Journals.{lines_of};
-    ghost use Rattle.varisat_trace.specs.Recorded.{none_recorded, more_recorded, idle_recorded};
+    ghost use Rattle.varisat_trace.specs.RecorderLaws.{takes-none, takes-more, takes-idle};
 
     ghost active = { λ _. true };
 
@@ -109,7 +110,7 @@ impl<A: Allocator + Copy> ProofTracer for LineRecorder<A> {
         true
     }
 
-    /// By code.
+    /// By code, as names are of no matter here.
     fn sort(&self, clause: &mut [Lit]) {
         clause.sort_unstable_by_key(|lit| lit.code());
     }
@@ -124,11 +125,11 @@ impl<A: Allocator + Copy> ProofTracer for LineRecorder<A> {
         Ok(())
     }
 
-    ghost takes_none = { none_recorded };
+    ghost takes_none = { takes-none };
 
-    ghost takes_more = { more_recorded };
+    ghost takes_more = { takes-more };
 
-    ghost takes_idle = { idle_recorded };
+    ghost takes_idle = { takes-idle };
 
     ghost holds_after = { λ _ _ _ _ _ _ _ _. tt };
 }

@@ -2,7 +2,8 @@
 
 use varisat_literals::{Lit, Var};
 
-/// A step of a proof. The last two are for a checker alone, and write nothing.
+/// A step of a proof. No format has a line for a variable that leaves, and only marked proofs have one for a core: these are
+/// for a checker.
 #[derive(Clone, Copy)]
 pub enum ProofStep<'a> {
     /// The clause follows from those that are present, and joins them.

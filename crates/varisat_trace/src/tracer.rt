@@ -13,9 +13,9 @@ use varisat_literals::Lit;
 /// Why a step was not taken.
 #[derive(Debug, Drop)]
 pub enum TraceError {
-    /// A growth was refused.
+    /// Out of memory.
     Memory,
-    /// The target failed.
+    /// The target that the lines are written to failed.
     Target(io::Error),
 }
 
@@ -36,15 +36,15 @@ pub trait ProofTracer {
     /// It took the entries, in order, and is left as the other one.
     ghost takes: { Self → List Entry → Self → Type 0 };
 
-    /// The clause's literals stand in the order in which it writes such as have no other order.
+    /// The clause's literals stand in the order of the numbers that it writes.
     ghost in_order: { Self → Clause → Type 0 };
 
     /// Whether it takes steps. Where it doesn't, none need be put together.
     fn is_active(&self) -> bool
         ensures { result ≡ active self.now };
 
-    /// Brings a clause's literals into its order. It goes by the numbers that it writes, of which the search knows
-    /// nothing.
+    /// Brings a clause's literals into its order: for a clause that is deleted without having been kept, so that no order
+    /// of the search's says how it is written. Which numbers are written, the search doesn't know.
     fn sort(&self, clause: &mut [Lit])
         ensures moved { IsPermutation clause.old clause.new }
         ensures sorted { in_order self.now clause.new };
@@ -65,7 +65,11 @@ pub trait ProofTracer {
     ghost takes_idle: { (x : Self) (entries : List Entry) → active x ≡ false → takes x entries x };
 
     /// It may hold what is present after the entries.
-    ghost holds_after: { (x y : Self) (entries : List Entry) (held after : List Clause) → takes x entries y → holds x held → Leads held entries after → holds y after };
+    ghost holds_after: { (x y : Self) (entries : List Entry) (held after : List Clause) →
+        takes x entries y →
+        holds x held →
+        Leads held entries after →
+        holds y after };
 }
 
 /// Takes nothing.

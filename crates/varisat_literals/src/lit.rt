@@ -243,7 +243,7 @@ impl Not for Lit {
     fn not(self) -> Lit
         ensures { result ≡ opposite self }
     {
-        // `code ^ 1`, in the arithmetic in which the laws of literals are stated.
+        // `code ^ 1`, in the arithmetic in which the laws of literals are stated, and without a branch: it compiles to one `xor`.
         Lit {
             code: self.code / 2 * 2 + 1 - self.code % 2,
         }

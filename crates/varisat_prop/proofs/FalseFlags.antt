@@ -1,6 +1,6 @@
 -- The flags by which an assignment tells false literals.
 use Rattle.std.proofs.Common.{◌≡◌, ℕ, zero, suc, ◌+◌, ◌*◌, ◌-◌, ◌<◌, ◌≤◌, Bool, true, false, Option, Some, None, List, [], ◌∷◌, ◌++◌, ⊎_elim, length, get_or, set, replicate, take, refl, sym, ap, ◌∙◌, arith, length-set, length-append, get_or-set_same, get_or-set_other}
-use Rattle.std.proofs.lemmas.List.{length-replicate, take_all}
+use Rattle.std.proofs.lemmas.List.{length-replicate, take_all, get_or_default}
 use Rattle.std.specs.Bool.{beq}
 use Rattle.std.specs.Option.{option_eq, option_map}
 use Rattle.varisat_theory.specs.Literals.{Literal, variable_of}
@@ -91,9 +91,4 @@ parts-more vs ws last after fs gs count a b e (c, d, t) h x y z f i j =
 
 -- what is read of the flags
 pub flag-read : (vs : List (Option Bool)) (fs : List Bool) (l : Literal) (i : ℕ) (b : Bool) → (length fs ≡ 2 * length vs) → TellsFalse vs fs → variable_of l < length vs → i ≡ l → b ≡ get_or fs i b → b ≡ option_eq beq (value_in vs l) (Some false)
-flag-read vs fs l i b d t h e f = read fs l b (omega (arith, h, d)) (f ∙ ap (λ k. get_or fs k b) e) ∙ t l
-  where
-    read : (xs : List Bool) (i : ℕ) (v : Bool) → i < length xs → v ≡ get_or xs i v → v ≡ get_or xs i false
-    read [] i v h e = absurd (omega arith)
-    read (x ∷ xs) zero v h e = e
-    read (x ∷ xs) (suc i) v h e = read xs i v (omega (arith, h)) e
+flag-read vs fs l i b d t h e f = f ∙ ap (λ k. get_or fs k b) e ∙ get_or_default fs l b false (omega (arith, h, d)) ∙ t l

@@ -9,11 +9,15 @@ use std::marker::Model;
 use varisat_literals::{Lit, Var};
 
 /// The value of each variable, if it has one, and the value that it had before.
+// Propagation asks of nearly each literal that it meets whether it is false. The variable's value answers that in two bytes,
+// whether there is one and which, after a shift for the variable and a test of the literal's sign: two branches that can't be
+// predicted. So there is also a byte for each literal that says just this. It stands at the literal's code, and is read with
+// one look at memory and one branch. Writing a value costs two bytes more, but values are read far more often.
 #[derive(Drop)]
 pub struct Assignment<A: Allocator + Copy> {
     assignment: Vec<Option<bool>, A>,
     last_value: Vec<bool, A>,
-    // For each literal whether it is false, so that propagation looks at one byte for it.
+    // For each literal, at its code, whether it is false. `set_var` alone writes it, together with the value.
     false_lits: Vec<bool, A>,
 }
 
@@ -48,6 +52,7 @@ impl<A: Allocator + Copy> Assignment<A> {
         ensures last { OnOk result (self.new.last ≡ self.old.last ++ replicate (count - length self.old.current) false) }
         ensures refused { OnErr result (self.new ≡ self.old) }
     {
+        // There are twice as many literals.
         if count > usize::MAX / 2 {
             return Err(AllocError);
         }
@@ -120,6 +125,7 @@ impl<A: Allocator + Copy> Assignment<A> {
         requires { variable_of lit < length self.now.current }
         ensures { IsTrue result ↔ IsMadeTrue self.now.current lit }
     {
+        // The opposite's flag, so that this too reads one byte.
         self.lit_is_false(!lit)
     }
 

@@ -173,6 +173,8 @@ fn visit_watch<A: Allocator + Copy>(
 }
 
 /// Takes out what stands from the first place on and before the second.
+// A conflict needs it, once at the end of a propagation. It is kept out of the loop over the watches, in which its own loop
+// would take registers for each watch.
 #[cold]
 #[inline(never)]
 fn close_gap<A: Allocator + Copy>(list: &mut Vec<Watch, A>, start: usize, end: usize)

@@ -13,7 +13,7 @@ use Rattle.varisat_clause.proofs.DatabaseTracks.{place-is, true-or-false}
 use Rattle.varisat_prop.proofs.SimplifiedPairs.{filter-∈, ∈-filter}
 use Rattle.varisat_analysis.specs.HeaderChanges.{kept_clause}
 use Rattle.varisat_analysis.proofs.DeletedPlaces.{filter-rising}
-use Rattle.varisat_search.specs.Simplifications.{deletion_lines}
+use Rattle.varisat_search.specs.Deletions.{deletion_lines}
 
 abbrev pub other_place : ℕ → StoredClause → Bool
 other_place p k = not (nat_eq k.place p)

@@ -23,7 +23,7 @@ use Rattle.varisat_analysis.proofs.MarkedReasons.{mark-place, mark-held}
 use Rattle.varisat_analysis.proofs.SameButHeaders.{headers-place, headers-kept}
 use Rattle.varisat_analysis.proofs.DeletedPlaces.{one-placed, one-gone, deleted-stays, unmarked-∈}
 use Rattle.varisat_search.specs.Seen.{kept_pair, search_of}
-use Rattle.varisat_search.specs.Simplifications.{deletion_lines}
+use Rattle.varisat_search.specs.Deletions.{deletion_lines}
 use Rattle.varisat_search.proofs.DeletedLines.{without_places, places-go, without-is}
 use Rattle.varisat_search.proofs.DiscardedClauses.{gone-out}
 use Rattle.varisat_search.proofs.TracedPlaces.{live-there}

@@ -46,9 +46,9 @@ module _ {A : Type 0} (x y : Context A) (ready : IsReady y) (activities : y.vsid
   pub repacks-keep : IsReady x → Repacks (view x) (view y) → KeepsSearch (λ lines. lines ≡ []) x y
   repacks-keep r d = with-assigned (λ lines. lines ≡ []) (record { rest = d.rest; kinds_stay = repacks-kinds (view x) (view y) r.well d }) ([], none-proved (view x) (view y) (repacks-seen (view x) (view y) r.well d), refl)
 
--- what its lines lead to is a part of how they are
-pub keeps-with : {A : Type 0} (x y : Context A) (P : List Line → Type 0) → KeepsSearch P x y → KeepsSearch (λ lines. Proves 0 (search_of (view x)) (search_of (view y)) lines × P lines) x y
-keeps-with x y P k = let (lines, p, i) = k.proves in record { ready = k.ready; assigned = k.assigned; proves = (lines, p, (p, i)); decidable = k.decidable }
+-- more holds for its lines, of which it is known what they lead to
+pub keeps-are : {A : Type 0} {x y : Context A} {P : List Line → Type 0} (Q : List Line → Type 0) → ((lines : List Line) → Proves 0 (search_of (view x)) (search_of (view y)) lines → P lines → Q lines) → KeepsSearch P x y → KeepsSearch Q x y
+keeps-are Q are k = let (lines, p, i) = k.proves in record { ready = k.ready; assigned = k.assigned; proves = (lines, p, are lines p i); decidable = k.decidable }
 
 pub keeps-refl : {A : Type 0} (x : Context A) → IsReady x → KeepsSearch (λ lines. lines ≡ []) x x
 keeps-refl x r = record {

@@ -12,7 +12,7 @@ use Rattle.varisat_trace.specs.Traces.{CanTake, HoldsWith}
 use Rattle.varisat_theory.specs.Outcomes.{Outcome, Loads}
 use Rattle.varisat_clause.proofs.TierPlaces.{distinct-permutation, ∈-permutation}
 use Rattle.varisat_prop.specs.View.{View, IsTrueIn, WellFormed}
-use Rattle.varisat_search.specs.Loading.{IsLoadedTrue, LoadsClause}
+use Rattle.varisat_search.specs.Loading.{IsDeletedAtOnce, LoadsClause}
 use Rattle.varisat_search.specs.Seen.{search_of}
 use Rattle.varisat_search.proofs.LoadView.{Restarted}
 use Rattle.varisat_search.proofs.ViewSearch.{fixed_from, fixed_to}
@@ -33,7 +33,7 @@ permuted-delete H lits d m (held, after, h, (R, (front, e, back, whole, same, le
 
 module _ (ordered : Clause → Type 0) (are : List Line → Type 0) (s t : View) (c lits : Clause) (w : WellFormed s) (r : Restarted s t) (d : IsDistinct lits) (same : SameSet lits c) where
   -- a clause without a line
-  no-line : (z : View) (v : Outcome) → (IsLoadedTrue (search_of s) c → ⊥) → Loads (search_of s) (search_of z) c v [] → are [] → LoadsClause ordered are (search_of s) (search_of z) c v
+  no-line : (z : View) (v : Outcome) → (IsDeletedAtOnce (search_of s) c → ⊥) → Loads (search_of s) (search_of z) c v [] → are [] → LoadsClause ordered are (search_of s) (search_of z) c v
   no-line z v n p a = record { lines = []; due = inr (n, refl); loads = p; written = a }
 
   pub loads-tautology : (z : View) (v : Outcome) → IsTautology lits → Loads (search_of s) (search_of z) c v [] → are [] → LoadsClause ordered are (search_of s) (search_of z) c v

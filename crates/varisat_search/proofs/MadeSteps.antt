@@ -14,7 +14,7 @@ use Rattle.varisat_search.specs.declared.state.SolverState.{SolverState}
 use Rattle.varisat_search.specs.AssumptionParts.{KeepsAssumptions, TakesOutImplied}
 use Rattle.varisat_search.specs.Contexts.{view, IsReady}
 use Rattle.varisat_search.specs.Decisions.{SameDecidable}
-use Rattle.varisat_search.specs.Progress.{IsStepFurther, MakesStep}
+use Rattle.varisat_search.specs.Progress.{outcome_at, IsStepFurther, MakesStep}
 use Rattle.varisat_search.specs.Seen.{search_of, outcome_of}
 use Rattle.varisat_search.specs.SettledUnits.{GoesOnByLines}
 use Rattle.varisat_search.specs.Steps.{SavesSome}
@@ -43,7 +43,7 @@ made-are x y P Q are m = record {
 }
 
 -- what its lines lead to is a part of how they are
-pub made-with : {A : Type 0} (x y : Context A) (P : List Line → Type 0) → MakesStep P x y → MakesStep (λ lines. Steps (search_of (view x)) (search_of (view y)) (outcome_of (view y) y.assumptions.failed_core y.solver_state.sat_state) lines × P lines) x y
+pub made-with : {A : Type 0} (x y : Context A) (P : List Line → Type 0) → MakesStep P x y → MakesStep (λ lines. Steps (search_of (view x)) (search_of (view y)) (outcome_at y) lines × P lines) x y
 made-with x y P m = record {
   ready = m.ready;
   steps = let (lines, p, i) = m.steps in (lines, p, (p, i));
@@ -110,7 +110,7 @@ module _ {A : Type 0} (x y : Context A) (r : IsReady x) (f : Finds x y) where
       let (lines, p, i) = e.steps in
       record {
         ready = e.ready;
-        steps = (lines, steps-after (view x) (view y) (view z) (outcome_of (view z) z.assumptions.failed_core z.solver_state.sat_state) lines r.well f.ready.well f.grows p, i);
+        steps = (lines, steps-after (view x) (view y) (view z) (outcome_at z) lines r.well f.ready.well f.grows p, i);
         assumes = keeps-learned (view x) (view z) x.assumptions y.assumptions z.assumptions z.assumptions.failed_core z.solver_state.sat_state r.well f.taken e.assumptions e.known;
         rises = λ u. rises-after (view x) (view y) (view z) r.well f.ready.well e.ready.well f.grows e.count (e.rises u);
         decidable = same-trans (view x) x.vsids (view y) y.vsids (view z) z.vsids f.decidable e.decidable;
@@ -129,7 +129,7 @@ made-at-once y z P r e saves = made-learned y y r (finds-refl y r) z P e saves
 
 pub made-settled : {A : Type 0} (x y z : Context A) (P Q R : List Line → Type 0) → ((first more : List Line) → P first → Q more → R (first ++ more)) → IsReady x → GoesOnByLines P x y → y ≡ record x { assignment = y.assignment; binary_clauses = y.binary_clauses; clause_alloc = y.clause_alloc; clause_db = y.clause_db; impl_graph = y.impl_graph; trail = y.trail; watchlists = y.watchlists } → MakesStep Q y z → MakesStep R x z
 made-settled {A} x y z P Q R join r a k m =
-    let v = outcome_of (view z) z.assumptions.failed_core z.solver_state.sat_state in
+    let v = outcome_at z in
     let (lines, p, i) = m.steps in
     record {
       ready = m.ready;

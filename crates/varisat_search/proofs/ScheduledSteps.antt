@@ -19,7 +19,7 @@ use Rattle.varisat_search.proofs.DecidableVariables.{same-trans}
 use Rattle.varisat_search.proofs.DueReductions.{rises-over}
 use Rattle.varisat_search.proofs.RestartSteps.{begun-view, begun-steps, begun-rises}
 
-module _ {A : Type 0} (x t u : Context A) (r : IsReady x) (b : RestartsIfDue x.schedule x.assumptions.levels (view x) (view t)) (P : List Line → Type 0) (k : KeepsSearch P t u) where
+module _ {A : Type 0} (x t u : Context A) (r : IsReady x) (b : RestartsIfDue x.schedule x.assumptions.levels (view x) (view t)) {P : List Line → Type 0} (k : KeepsSearch P t u) where
   pub scheduled-steps : (z : View) (v : Outcome) (Q R : List Line → Type 0) → ((first more : List Line) → P first → Q more → R (first ++ more)) → ((more : List Line) × Steps (search_of (view u)) (search_of z) v more × Q more) → (lines : List Line) × Steps (search_of (view x)) (search_of z) v lines × R lines
   scheduled-steps z v Q R join (more, h, j) =
       let (first, p, i) = k.proves in

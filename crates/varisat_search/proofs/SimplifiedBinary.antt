@@ -23,6 +23,7 @@ use Rattle.varisat_search.specs.declared.context.Context.{Context}
 use Rattle.varisat_search.specs.Contexts.{view, IsReady}
 use Rattle.varisat_search.specs.Decisions.{CanDecide, SameDecidable}
 use Rattle.varisat_search.specs.Seen.{kept_pair, search_of}
+use Rattle.varisat_search.specs.SettledUnits.{CanSimplify}
 use Rattle.varisat_search.specs.Simplifications.{IsSimplified, left_long, left_pairs, with_pairs, lines_of_pairs, pair_lines, clause_lines}
 use Rattle.varisat_search.proofs.ReadyAfter.{KeepsValues, keeps-values, exchanged-ready}
 use Rattle.varisat_search.proofs.SimplifiedSearch.{IsAtUnits, pairs-prove, simplify-proves}
@@ -121,10 +122,7 @@ module _ (s : View) (w : WellFormed s) (none : s.decisions ≡ []) (units : HasU
 
 -- 3. The context with them.
 pub record SimplifiesBinary {A : Type 0} (x z : Context A) : Type 0 where
-  pub ready : IsReady x
-  pub undecided : x.trail.decisions ≡ []
-  pub complete : IsComplete (kept (view x)) x.trail.literals
-  pub units : HasUnits (view x)
+  pub can : CanSimplify x
   pub binary : z.binary_clauses ≡ without_assigned x.assignment.current x.binary_clauses
   pub rest : z ≡ record x { binary_clauses = z.binary_clauses }
 
@@ -133,40 +131,36 @@ module _ {A : Type 0} {x z : Context A} (d : SimplifiesBinary x z) where
   s = view x
 
   abbrev t : View
-  t = left s d.ready.well d.undecided d.units
+  t = left s d.can.ready.well d.can.undecided d.can.proved
 
   binary-view : view z ≡ t
   binary-view = ap (λ (y : Context A). view y) d.rest ∙ ap (λ (B : List (List Literal)). record s { binary = B }) d.binary
 
   can-decide : CanDecide t x.vsids
   can-decide = record {
-    entries = record { activity = d.ready.decidable.entries.activity; available = d.ready.decidable.entries.available };
-    decidable = λ c h. d.ready.decidable.decidable c (left-fewer s d.ready.well d.undecided d.units c h);
+    entries = record { activity = d.can.ready.decidable.entries.activity; available = d.can.ready.decidable.entries.available };
+    decidable = λ c h. d.can.ready.decidable.decidable c (left-fewer s d.can.ready.well d.can.undecided d.can.proved c h);
   }
 
   pub binary-ready : IsReady z
   binary-ready =
-      exchanged-ready x z d.ready (subst (KeepsValues x) (sym d.rest) (keeps-values x (record x { binary_clauses = z.binary_clauses }) refl))
-      (subst WellFormed (sym binary-view) (left-well s d.ready.well d.undecided d.units))
-      (subst LevelsSettled (sym binary-view) (settled-undecided t d.undecided))
-      (subst (λ (y : View). IsPropagated z.watchlists y) (sym binary-view) (subst (λ W. IsPropagated W t) (sym (ap (λ (y : Context A). y.watchlists) d.rest)) (left-propagated s d.ready.well d.undecided d.units x.watchlists d.ready.propagated)))
-      (subst (λ (y : Context A). Tracks y.clause_db y.clause_alloc) (sym d.rest) d.ready.tracks)
+      exchanged-ready x z d.can.ready (subst (KeepsValues x) (sym d.rest) (keeps-values x (record x { binary_clauses = z.binary_clauses }) refl))
+      (subst WellFormed (sym binary-view) (left-well s d.can.ready.well d.can.undecided d.can.proved))
+      (subst LevelsSettled (sym binary-view) (settled-undecided t d.can.undecided))
+      (subst (λ (y : View). IsPropagated z.watchlists y) (sym binary-view) (subst (λ W. IsPropagated W t) (sym (ap (λ (y : Context A). y.watchlists) d.rest)) (left-propagated s d.can.ready.well d.can.undecided d.can.proved x.watchlists d.can.ready.propagated)))
+      (subst (λ (y : Context A). Tracks y.clause_db y.clause_alloc) (sym d.rest) d.can.ready.tracks)
       (subst (λ (y : View). CanDecide y x.vsids) (sym binary-view) can-decide)
 
   pub binary-proves : IsAtUnits s → Proves 0 (search_of (view x)) (search_of (view z)) (pair_lines (view x))
   binary-proves u = subst (λ (y : View). Proves 0 (search_of s) (search_of y) (pair_lines s)) (sym binary-view) (pairs-prove s u)
 
-  pub binary-undecided : z.trail.decisions ≡ []
-  binary-undecided = ap (λ (y : Context A). y.trail.decisions) d.rest ∙ d.undecided
-
-  pub binary-queue : x.trail.queue_head ≡ length x.trail.literals → z.trail.queue_head ≡ length z.trail.literals
-  binary-queue e = subst (λ (y : Context A). y.trail.queue_head ≡ length y.trail.literals) (sym d.rest) e
-
-  pub binary-complete : IsComplete (kept (view z)) z.trail.literals
-  binary-complete = subst (λ (y : View). IsComplete (kept y) y.trail) (sym binary-view) (left-complete s d.ready.well d.undecided d.units d.complete)
-
-  pub binary-units : HasUnits (view z)
-  binary-units = subst HasUnits (sym binary-view) d.units
+  pub binary-can : CanSimplify z
+  binary-can = record {
+    ready = binary-ready;
+    undecided = ap (λ (y : Context A). y.trail.decisions) d.rest ∙ d.can.undecided;
+    complete = subst (λ (y : View). IsComplete (kept y) y.trail) (sym binary-view) (left-complete s d.can.ready.well d.can.undecided d.can.proved d.can.complete);
+    proved = subst HasUnits (sym binary-view) d.can.proved;
+  }
 
   pub binary-left : without_assigned z.assignment.current z.binary_clauses ≡ z.binary_clauses
   binary-left =

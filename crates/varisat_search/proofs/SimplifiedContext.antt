@@ -19,19 +19,20 @@ use Rattle.varisat_search.specs.declared.context.Context.{Context}
 use Rattle.varisat_search.specs.Contexts.{view, IsReady}
 use Rattle.varisat_search.specs.Decisions.{CanDecide, SameDecidable}
 use Rattle.varisat_search.specs.Seen.{search_of}
+use Rattle.varisat_search.specs.SettledUnits.{CanSimplify}
 use Rattle.varisat_search.specs.Simplifications.{left_long, left_pairs, with_pairs, IsLeftOpen, IsPairIn, IsSimplified, pair_lines, clause_lines}
 use Rattle.varisat_search.proofs.SimplifiedSearch.{is-false, IsAtUnits, stored-open, pairs-in, are-unassigned, still-well, still-free, C-count, simplify-proves, literal-kept}
 use Rattle.varisat_search.proofs.ReadyAfter.{KeepsValues, keeps-values, exchanged-ready}
 
 -- before it
-pub at-units : {A : Type 0} (x : Context A) → IsReady x → x.trail.decisions ≡ [] → IsComplete (kept (view x)) x.trail.literals → HasUnits (view x) → IsAtUnits (view x)
-at-units x r d c u = record {
-  well = r.well;
-  done = c;
-  undecided = d;
-  units = u;
-  lists = r.propagated.binary;
-  long = are-live-long x.clause_alloc r.tracks.sound;
+pub at-units : {A : Type 0} (x : Context A) → CanSimplify x → IsAtUnits (view x)
+at-units x c = record {
+  well = c.ready.well;
+  done = c.complete;
+  undecided = c.undecided;
+  units = c.proved;
+  lists = c.ready.propagated.binary;
+  long = are-live-long x.clause_alloc c.ready.tracks.sound;
 }
 
 module _ {A : Type 0} (x : Context A) (u : IsAtUnits (view x)) where

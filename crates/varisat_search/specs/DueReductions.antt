@@ -1,5 +1,5 @@
 -- What the reductions and the collection that are due at a step do to a context.
-use Rattle.std.specs.Prelude.{◌≡◌, ◌≢◌, ◌*◌, ◌%◌, ◌<◌, ◌≤◌, ◌++◌, List, length}
+use Rattle.std.specs.Prelude.{◌≡◌, ◌≢◌, ◌*◌, ◌/◌, ◌%◌, ◌<◌, ◌≤◌, ◌++◌, List, [], length}
 use Rattle.varisat_theory.specs.Derivations.{Line}
 use Rattle.varisat_theory.specs.Outcomes.{Proves}
 use Rattle.varisat_clause.specs.Stores.{Store, stored_clauses, HoldsClauses}
@@ -15,13 +15,25 @@ use Rattle.varisat_analysis.specs.Collections.{Repacks}
 use Rattle.varisat_search.specs.Progress.{StepsTo}
 use Rattle.varisat_search.specs.Restarts.{KeepsAssignment, RestartsIfDue}
 use Rattle.varisat_search.specs.SettledUnits.{SettlesFirst}
+use Rattle.varisat_search.specs.Deletions.{unmarked_deletions}
 
--- At each step whose number is a multiple of the interval half of the Local clauses go, but for reasons, and at others
--- nothing changes.
-pub record ReducesLocalsIfDue {A : Type 0} (x y : Context A) : Type 0 where
-  pub reduced : x.schedule.steps % x.solver_config.reduce_locals_interval ≡ 0 → (marked : Store) × HoldsClauses marked (length x.clause_alloc.words) (reasons_marked x.assignment.current x.impl_graph.nodes.items (stored_clauses x.clause_alloc)) × ReducesLocals marked y.clause_alloc
-  pub discards : x.schedule.steps % x.solver_config.reduce_locals_interval ≡ 0 → Discards (view x) (view y)
-  pub stays : x.schedule.steps % x.solver_config.reduce_locals_interval ≢ 0 → y ≡ x
+-- the store holds the context's clauses, and those that are reasons are marked
+abbrev pub MarksReasons : {A : Type 0} → Context A → Store → Type 0
+MarksReasons x marked =
+    HoldsClauses marked (length x.clause_alloc.words) (reasons_marked x.assignment.current x.impl_graph.nodes.items (stored_clauses x.clause_alloc))
+
+-- Half of the Local clauses go, but for reasons. The lines delete these clauses, in the order in which they go.
+pub record DropsLocals {A : Type 0} (lines : List Line) (x y : Context A) : Type 0 where
+  pub marked : Store
+  pub marks : MarksReasons x marked
+  pub reduces : ReducesLocals marked y.clause_alloc
+  pub deletes : lines ≡ unmarked_deletions (stored_clauses marked) (length reduces.order / 2) reduces.order
+  pub discards : Discards (view x) (view y)
+
+-- At each step whose number is a multiple of the interval Local clauses go, and at others nothing changes.
+pub record ReducesLocalsIfDue {A : Type 0} (lines : List Line) (x y : Context A) : Type 0 where
+  pub drops : x.schedule.steps % x.solver_config.reduce_locals_interval ≡ 0 → DropsLocals lines x y
+  pub stays : x.schedule.steps % x.solver_config.reduce_locals_interval ≢ 0 → (y ≡ x) × (lines ≡ [])
 
 -- At each step whose number is a multiple of the interval Mid clauses become Local or lose their flag, and at others
 -- nothing changes.
@@ -36,31 +48,33 @@ pub record CollectsIfDue {A : Type 0} (x y : Context A) : Type 0 where
   pub repacks : length x.clause_alloc.words < 2 * x.clause_db.garbage → Repacks (view x) (view y)
   pub stays : 2 * x.clause_db.garbage ≤ length x.clause_alloc.words → y ≡ x
 
--- the reductions in turn, and then the collection
-pub record ReducesIfDue {A : Type 0} (x z : Context A) : Type 0 where
+-- The reductions in turn, and then the collection. Lines come from the first alone.
+pub record ReducesIfDue {A : Type 0} (lines : List Line) (x z : Context A) : Type 0 where
   pub after_locals : Context A
   pub after_mids : Context A
-  pub locals : ReducesLocalsIfDue x after_locals
+  pub locals : ReducesLocalsIfDue lines x after_locals
   pub mids : ReducesMidsIfDue after_locals after_mids
   pub collected : CollectsIfDue after_mids z
 
--- The search can go on as it was, and what goes from the proof goes by lines that are as is said.
+-- The search can go on as it was, and what goes from the proof goes by lines for which `are` holds.
 pub record KeepsSearch {A : Type 0} (are : List Line → Type 0) (x y : Context A) : Type 0 where
   pub ready : IsReady y
   pub assigned : KeepsAssignment (view x) (view y)
   pub proves : (lines : List Line) × Proves 0 (search_of (view x)) (search_of (view y)) lines × are lines
   pub decidable : SameDecidable (view x) x.vsids (view y) y.vsids
 
--- A step begins with a restart down to the last assumption, where that is due; then come the reductions and the collection, with a line for each clause that goes; then, at level 0, units are settled; then lines lead from what is left to the search after the step. The lines are these, in turn.
+-- A step begins with a restart down to the last assumption, where that is due; then come the reductions, which delete
+-- clauses, and the collection; then, at level 0, units are settled; then lines lead from what is left to the search after
+-- the step. The lines are these, in turn.
 pub record GoesBySchedule {A : Type 0} (lines : List Line) (x z : Context A) : Type 0 where
   pub begun : Context A
   pub reduced : Context A
   pub restarts : RestartsIfDue x.schedule x.assumptions.levels (view x) (view begun)
   pub begins : begun ≡ record x { assignment = begun.assignment; trail = begun.trail; vsids = begun.vsids; schedule = begun.schedule }
-  pub reduces : ReducesIfDue begun reduced
   pub first : List Line
   pub rest : List Line
   pub parts : lines ≡ first ++ rest
+  pub reduces : ReducesIfDue first begun reduced
   pub deletes : Proves 0 (search_of (view begun)) (search_of (view reduced)) first
   pub settles : SettlesFirst rest reduced z
   pub steps : StepsTo (λ ls. ls ≡ rest) reduced z

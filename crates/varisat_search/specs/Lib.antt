@@ -12,6 +12,7 @@ pub mod DueReductions
 pub mod AssumptionParts
 pub mod ProvedUnits
 pub mod Simplifications
+pub mod Deletions
 pub mod SettledUnits
 pub mod GlobalModels
 pub mod NamesAndModes

@@ -48,22 +48,26 @@ pub record LoadsUnit (s t : View) (l : Literal) : Type 0 where
   pub head : s.decisions ≡ [] → t.queue_head ≡ s.queue_head
   pub trail : s.decisions ≡ [] → (t.trail ≡ s.trail) ⊎ (t.trail ≡ s.trail ++ l ∷ [])
 
--- A literal of the clause is true at level 0; and as a set the clause has two literals or more, of which none is another's opposite.
-pub record IsLoadedTrue (s : Search) (c : Clause) : Type 0 where
+-- A literal of the clause is true at level 0, so that it is deleted at once; and as a set the clause has two literals or
+-- more, of which none is another's opposite. (A unit stays held, as what proves its literal, and so does a tautology.)
+pub record IsDeletedAtOnce (s : Search) (c : Clause) : Type 0 where
   pub several : (l : Literal) → IsUnit l c → ⊥
   pub open_clause : IsTautology c → ⊥
   pub literal : Literal
   pub inside : literal ∈ c
   pub fixed : literal ∈ s.fixed
 
--- Such a clause is deleted as it is loaded, with each of its literals once and in order. For another one there is no line.
-abbrev pub IsLoadLine : (Clause → Type 0) → Search → Clause → List Line → Type 0
-IsLoadLine ordered s c lines =
-    (IsLoadedTrue s c × ((d : Clause) × (lines ≡ Delete d ∷ []) × SameSet d c × IsDistinct d × ordered d)) ⊎ ((IsLoadedTrue s c → ⊥) × (lines ≡ []))
+-- the one line deletes the clause, with each of its literals once and in order
+abbrev pub IsItsDeletion : (Clause → Type 0) → Clause → List Line → Type 0
+IsItsDeletion ordered c lines = (d : Clause) × (lines ≡ Delete d ∷ []) × SameSet d c × IsDistinct d × ordered d
 
--- The clause is loaded by the lines that are due, and they are as is said.
+-- the lines that are due as a clause is loaded: its deletion, or none
+abbrev pub AreLoadLines : (Clause → Type 0) → Search → Clause → List Line → Type 0
+AreLoadLines ordered s c lines = (IsDeletedAtOnce s c × IsItsDeletion ordered c lines) ⊎ ((IsDeletedAtOnce s c → ⊥) × (lines ≡ []))
+
+-- The clause is loaded by the lines that are due, and `are` holds for them.
 pub record LoadsClause (ordered : Clause → Type 0) (are : List Line → Type 0) (s t : Search) (c : Clause) (v : Outcome) : Type 0 where
   pub lines : List Line
-  pub due : IsLoadLine ordered s c lines
+  pub due : AreLoadLines ordered s c lines
   pub loads : Loads s t c v lines
   pub written : are lines

@@ -1,7 +1,7 @@
 -- What a step of the search comes to, from one context to the next.
 use Rattle.std.specs.Prelude.{◌≡◌, ℕ, ◌<◌, ◌≤◌, ◌⊎◌, List, length}
 use Rattle.varisat_theory.specs.Derivations.{Line}
-use Rattle.varisat_theory.specs.Outcomes.{Steps}
+use Rattle.varisat_theory.specs.Outcomes.{Outcome, Steps}
 use Rattle.varisat_theory.specs.Rank.{rank}
 use Rattle.varisat_prop.specs.View.{kinds}
 use Rattle.varisat_search.specs.declared.context.Context.{Context}
@@ -12,15 +12,19 @@ use Rattle.varisat_search.specs.Decisions.{SameDecidable}
 use Rattle.varisat_search.specs.Seen.{search_of, outcome_of}
 use Rattle.varisat_search.specs.Steps.{Remembers}
 
--- lines lead from the search to the next one, with its verdict, and they are as is said
+-- what the context's verdict says, with the model or the core that was found
+abbrev pub outcome_at : {A : Type 0} → Context A → Outcome
+outcome_at x = outcome_of (view x) x.assumptions.failed_core x.solver_state.sat_state
+
+-- lines for which `are` holds lead from the search to the next one, with its verdict
 abbrev pub StepsTo : {A : Type 0} → (List Line → Type 0) → Context A → Context A → Type 0
-StepsTo are x y = (lines : List Line) × Steps (search_of (view x)) (search_of (view y)) (outcome_of (view y) y.assumptions.failed_core y.solver_state.sat_state) lines × are lines
+StepsTo are x y = (lines : List Line) × Steps (search_of (view x)) (search_of (view y)) (outcome_at y) lines × are lines
 
 -- the trail's rank rises, over each number of variables that bounds the first trail
 abbrev pub RaisesRank : {A : Type 0} → Context A → Context A → Type 0
 RaisesRank x y = (n : ℕ) → length x.trail.literals ≤ n → rank n (kinds (view x)) < rank n (kinds (view y))
 
--- The search is ready again, a step further by lines that are as is said.
+-- The search is ready again, a step further by lines for which `are` holds.
 pub record IsStepFurther {A : Type 0} (are : List Line → Type 0) (x y : Context A) : Type 0 where
   pub ready : IsReady y
   pub steps : StepsTo are x y
@@ -33,11 +37,12 @@ pub record IsStepFurther {A : Type 0} (are : List Line → Type 0) (x y : Contex
   pub units : y.trail.units_removed ≡ x.trail.units_removed
   pub state : y.solver_state ≡ record x.solver_state { sat_state = y.solver_state.sat_state }
 
--- A step was made: lines that are as is said lead to the search after it, which is ready again, and what is remembered and assumed fits it. Where it goes on the rank rises.
+-- A step was made: lines for which `are` holds lead to the search after it, which is ready again, and what is remembered
+-- and assumed fits it. Where the search goes on the rank rises.
 pub record MakesStep {A : Type 0} (are : List Line → Type 0) (x y : Context A) : Type 0 where
   pub ready : IsReady y
   pub steps : StepsTo are x y
-  pub assumes : KeepsAssumptions (search_of (view x)) (outcome_of (view y) y.assumptions.failed_core y.solver_state.sat_state) x.assumptions y.assumptions
+  pub assumes : KeepsAssumptions (search_of (view x)) (outcome_at y) x.assumptions y.assumptions
   pub rises : y.solver_state.sat_state ≡ verdict.Unknown → RaisesRank x y
   pub decidable : SameDecidable (view x) x.vsids (view y) y.vsids
   pub decay : y.vsids.decay ≡ x.vsids.decay

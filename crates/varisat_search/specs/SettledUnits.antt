@@ -2,6 +2,7 @@
 use Rattle.std.specs.Prelude.{◌≡◌, ℕ, ◌<◌, ◌++◌, Bool, None, Result, MatchResult, List, [], length, slice_index_or}
 use Rattle.varisat_theory.specs.Membership.{◌∈◌}
 use Rattle.varisat_theory.specs.Literals.{Literal, Clause, variable_of}
+use Rattle.varisat_theory.specs.Propagation.{IsComplete}
 use Rattle.varisat_theory.specs.Derivations.{Line}
 use Rattle.varisat_theory.specs.Outcomes.{Proves}
 use Rattle.varisat_theory.specs.StepLaws.{unit_lines}
@@ -24,8 +25,8 @@ abbrev pub IsUnsettled : View → Type 0
 IsUnsettled s = (s.decisions ≡ []) × (s.queue_head < length s.trail)
 
 -- Propagation came to its end or to a false clause, and each unit was proved, by one line for each that a clause implied.
--- Then, unless a clause is false, the clauses were simplified, by a line for each that goes and each that is left of one.
--- These are the lines, in this order.
+-- Then, unless a clause is false, the clauses were simplified: one that goes is deleted, and one that becomes shorter is
+-- deleted once the shorter one was added. There are no other lines, and they come in this order.
 pub record SettlesUnits (lines : List Line) (s t : View) (end : Result (Unit {0}) Conflict) : Type 0 where
   pub propagated : View
   pub proved : View
@@ -35,7 +36,7 @@ pub record SettlesUnits (lines : List Line) (s t : View) (end : Result (Unit {0}
       (λ _. IsSimplified proved t × (lines ≡ unit_lines (implied_units propagated) ++ (pair_lines proved ++ clause_lines proved)))
       (λ conflict. (t ≡ proved) × IsConflicting t conflict × (lines ≡ unit_lines (implied_units propagated)))
 
--- The search goes on and takes nothing back; clauses may go from it and become shorter, by lines that are as is said.
+-- The search goes on and takes nothing back; clauses may go from it and become shorter, by lines for which `are` holds.
 pub record GoesOnByLines {A : Type 0} (are : List Line → Type 0) (x y : Context A) : Type 0 where
   pub ready : IsReady y
   pub proves : (lines : List Line) × Proves 0 (search_of (view x)) (search_of (view y)) lines × are lines
@@ -45,10 +46,26 @@ pub record GoesOnByLines {A : Type 0} (are : List Line → Type 0) (x y : Contex
   pub last : y.assignment.last ≡ x.assignment.last
   pub units : y.trail.units_removed ≡ x.trail.units_removed
 
--- A step that begins unsettled settles its units first, and goes on from there: the lines are those of both, in turn.
+-- Units are settled, and the step goes on from there: the lines are those of both, in turn.
+pub record SettlesThenSteps {A : Type 0} (lines : List Line) (x z : Context A) : Type 0 where
+  pub settled : Context A
+  pub end : Result (Unit {0}) Conflict
+  pub first : List Line
+  pub rest : List Line
+  pub parts : lines ≡ first ++ rest
+  pub settles : SettlesUnits first (view x) (view settled) end
+  pub steps : StepsTo (λ ls. ls ≡ rest) settled z
+
+-- a step that begins unsettled settles its units first
 abbrev pub SettlesFirst : {A : Type 0} → List Line → Context A → Context A → Type 0
-SettlesFirst {A} lines x z =
-    IsUnsettled (view x) → (y : Context A) × (end : Result (Unit {0}) Conflict) × (first more : List Line) × (lines ≡ first ++ more) × SettlesUnits first (view x) (view y) end × StepsTo (λ ls. ls ≡ more) y z
+SettlesFirst lines x z = IsUnsettled (view x) → SettlesThenSteps lines x z
+
+-- A search may be simplified: at level 0 propagation came to its end, and each literal of the trail is a unit.
+pub record CanSimplify {A : Type 0} (x : Context A) : Type 0 where
+  pub ready : IsReady x
+  pub undecided : x.trail.decisions ≡ []
+  pub complete : IsComplete (kept (view x)) x.trail.literals
+  pub proved : (k : ℕ) → k < length x.trail.literals → (node_at (view x) k).reason ≡ reason.Unit
 
 -- At level 0 all of the trail is propagated and proved, and no kept clause names a variable that has a value.
 pub record IsSettledDown (s : View) : Type 0 where

@@ -1,10 +1,10 @@
 -- What becomes of the kept clauses once literals are true for good, and the lines that say so.
-use Rattle.std.specs.Prelude.{◌≡◌, ◌≢◌, ℕ, ◌<◌, ◌≤◌, Bool, false, not, ◌&&◌, nat_le, nat_lt, if◌then◌else◌, Option, None, List, [], ◌∷◌, ◌++◌, length, map, slice_index_or}
+use Rattle.std.specs.Prelude.{◌≡◌, ◌≢◌, ◌<◌, ◌≤◌, Bool, false, not, ◌&&◌, nat_le, nat_lt, if◌then◌else◌, Option, None, List, [], ◌∷◌, ◌++◌, length, map, slice_index_or}
 use Rattle.std.specs.List.{filter, list_any}
 use Rattle.varisat_theory.specs.Membership.{◌∈◌}
 use Rattle.varisat_theory.specs.Literals.{Literal, Clause, variable_of, opposite}
 use Rattle.varisat_theory.specs.Derivations.{Line, Add, Delete}
-use Rattle.varisat_clause.specs.Stored.{StoredClause, literals_at}
+use Rattle.varisat_clause.specs.Stored.{StoredClause}
 use Rattle.varisat_clause.specs.Collected.{live_of}
 use Rattle.varisat_prop.specs.Parts.{value_in, is_true_value}
 use Rattle.varisat_prop.specs.Looks.{IsInRange}
@@ -48,10 +48,6 @@ abbrev pub with_pairs : List (List Literal) → List Clause → List (List Liter
 with_pairs B [] = B
 with_pairs B (c ∷ cs) = with_pairs (with_pair B (literal_in c 0) (literal_in c 1)) cs
 
--- a deletion for each of the places
-abbrev pub deletion_lines : List StoredClause → List ℕ → List Line
-deletion_lines ks ps = map (λ p. Delete (literals_at ks p)) ps
-
 -- Of the clauses of two literals those without assigned ones are kept. Of the others those without true literals are
 -- kept, without the false ones; where two literals are left, as a clause of two literals.
 pub record IsSimplified (s t : View) : Type 0 where
@@ -64,11 +60,11 @@ pub record IsSimplified (s t : View) : Type 0 where
 abbrev pub is_gone_pair : List (Option Bool) → Literal → Literal → Bool
 is_gone_pair values l m = nat_lt l m && not (is_unassigned values l && is_unassigned values m)
 
--- of the clauses of two literals each that has a literal with a value is deleted
+-- each of the clauses that has a literal with a value is deleted
 abbrev pub lines_of_pairs : List (Option Bool) → List Clause → List Line
 lines_of_pairs values cs = map Delete (filter (λ c. not (are_unassigned values c)) cs)
 
--- each clause of two literals that goes is deleted
+-- each clause of two literals that has a literal with a value is deleted
 abbrev pub pair_lines : View → List Line
 pair_lines s = lines_of_pairs s.values (pairs_from 0 s.binary)
 
@@ -77,10 +73,12 @@ abbrev pub lines_of_clause : List (Option Bool) → Clause → List Line
 lines_of_clause values c =
     if has_true values c then Delete c ∷ [] else (if are_unassigned values c then [] else Add (unassigned values c) ∷ Delete c ∷ [])
 
+-- what becomes of each of the clauses, in turn
 abbrev pub lines_of_clauses : List (Option Bool) → List StoredClause → List Line
 lines_of_clauses values [] = []
 lines_of_clauses values (k ∷ ks) = lines_of_clause values k.literals ++ lines_of_clauses values ks
 
+-- what becomes of each stored clause
 abbrev pub clause_lines : View → List Line
 clause_lines s = lines_of_clauses s.values s.clauses
 

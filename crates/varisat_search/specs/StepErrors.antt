@@ -1,5 +1,5 @@
--- Why a step came to no end, and when the store of clauses is full.
-use Rattle.std.specs.Prelude.{ℕ, ◌+◌, ◌^◌, ◌≤◌, length}
+-- Why a step failed, and when the clause store is full.
+use Rattle.std.specs.Prelude.{◌+◌, ◌^◌, ◌≤◌, length}
 use Rattle.varisat_clause.specs.declared.alloc.StoreError.{StoreError}
 use Rattle.varisat_clause.specs.declared.alloc.StoreError.TheVariants as store
 use Rattle.varisat_trace.specs.declared.tracer.TraceError.{TraceError}
@@ -13,11 +13,11 @@ abbrev pub step_error_of_store : StoreError → StepError
 step_error_of_store store.Full = step.Full
 step_error_of_store store.Memory = step.Memory
 
--- the error of one that was not handed on
+-- the error of a step whose line the tracer did not take
 abbrev pub step_error_of_trace : TraceError → StepError
 step_error_of_trace trace.Memory = step.Memory
 step_error_of_trace (trace.Target cause) = step.Target cause
 
--- The words of the store and a clause, with three words before its literals, are 2^32 or more. The clause has at most as many literals as there are variables.
+-- A clause of all variables, with the three words before its literals, would bring the store to 2^32 words or more.
 abbrev pub HasNoRoom : {A : Type 0} → Context A → Type 0
-HasNoRoom x = (l : ℕ) × (l ≤ length x.assignment.current) × (2 ^ 32 ≤ length x.clause_alloc.words + 3 + l)
+HasNoRoom x = 2 ^ 32 ≤ length x.clause_alloc.words + 3 + length x.assignment.current

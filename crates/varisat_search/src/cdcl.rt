@@ -14,7 +14,7 @@ ghost use Rattle.varisat_prop.specs.Changes.{IsConflicting};
 ghost use Rattle.varisat_analysis.specs.Learned.{IsLearned, AreInvolved};
 ghost use Rattle.varisat_search.specs.Contexts.{view, KeepsSchedule, IsReady};
 ghost use Rattle.varisat_search.specs.Steps.{SavesSome};
-ghost use Rattle.varisat_search.specs.Seen.{search_of, outcome_of};
+ghost use Rattle.varisat_search.specs.Seen.{search_of};
 ghost use Rattle.varisat_theory.specs.Journals.{Fails};
 ghost use Rattle.varisat_trace.specs.Traces.{TakesLines, TakesStep, CanTake, CanFail, HoldsFor};
 ghost use Rattle.varisat_search.specs.Decisions.{SameDecidable};
@@ -24,7 +24,7 @@ ghost use Rattle.varisat_search.specs.AssumptionParts.{TakesOutImplied, EndsAssu
 ghost use Rattle.varisat_search.specs.Conflicts.{Stops, Keeping, IsKeptAsReason, IsStoredAsReason, IsWatchedAsReason};
 ghost use Rattle.varisat_search.specs.SettledUnits.{IsUnsettled, SettlesUnits, GoesOnByLines, IsSettledDown, SettlesFirst};
 ghost use Rattle.varisat_search.specs.StepErrors.{HasNoRoom};
-ghost use Rattle.varisat_search.specs.Progress.{IsStepFurther, MakesStep};
+ghost use Rattle.varisat_search.specs.Progress.{outcome_at, IsStepFurther, MakesStep};
 ghost use Rattle.varisat_vsids.specs.Activities.{Activities};
 
 use crate::assess::{assess_learned, bump_involved_clauses};
@@ -189,7 +189,7 @@ fn analyze<A: Allocator + Copy>(
     Ok(level)
 }
 
-/// Hands on the learned clause.
+/// Adds the learned clause to the proof.
 fn trace_learned<A: Allocator + Copy, P: ProofTracer>(
     proof: &mut P,
     ctx: &Context<A>,
@@ -202,8 +202,8 @@ fn trace_learned<A: Allocator + Copy, P: ProofTracer>(
     Ok(())
 }
 
-/// Learns from the conflict: bumps variables and clauses, backtracks, keeps the learned clause, and makes its first
-/// literal true. The empty clause gives verdict Unsat.
+/// Learns from the conflict: adds the learned clause to the proof, bumps variables and clauses, backtracks, keeps the
+/// clause, and makes its first literal true. The empty clause gives verdict Unsat.
 fn learn<A: Allocator + Copy, P: ProofTracer>(
     ctx: &mut Context<A>,
     proof: &mut P,
@@ -221,7 +221,7 @@ fn learn<A: Allocator + Copy, P: ProofTracer>(
     ensures involved { OnOk result (AreInvolved (view ctx.old) conflict ctx.new.analyze_conflict.involved) }
     ensures last { OnOk result (SavesSome (view ctx.old) ctx.old.assignment.last ctx.new.assignment.last) }
     ensures schedule { KeepsSchedule ctx.old ctx.new }
-    // It fails with `Full` only where the store has no room for a clause over the variables that there are.
+    // The store is full only where it has no room for a clause of all variables.
     ensures full { IfErr result (λ error. error ≡ StepError.Full → HasNoRoom ctx.new) }
 {
     let level = analyze(ctx, conflict)?;
@@ -248,7 +248,7 @@ fn learn<A: Allocator + Copy, P: ProofTracer>(
 }
 
 /// At level 0 propagates what is left to be propagated, proves the units and simplifies the clauses. Where a clause is
-/// false, it is returned and no clause is simplified.
+/// false, it is returned and no clause is simplified. Fails where it is out of memory or the tracer fails.
 pub fn settle<A: Allocator + Copy, P: ProofTracer>(
     ctx: &mut Context<A>,
     proof: &mut P,
@@ -256,8 +256,10 @@ pub fn settle<A: Allocator + Copy, P: ProofTracer>(
     requires ready { IsReady ctx.old }
     requires undecided { ctx.old.trail.decisions ≡ [] }
     requires holds { HoldsFor (P.holds proof.old) (search_of (view ctx.old)) }
-    // The lines that it took are those of the units, and then those of simplification.
-    ensures goes_on { IfOk result (λ end. GoesOnByLines (λ lines. SettlesUnits lines (view ctx.old) (view ctx.new) end × TakesLines P.takes proof.old lines proof.new) ctx.old ctx.new) }
+    // Simplification relies on the unit clauses, so that their lines come first.
+    ensures goes_on { IfOk result (λ end. GoesOnByLines
+        (λ lines. SettlesUnits lines (view ctx.old) (view ctx.new) end × TakesLines P.takes proof.old lines proof.new)
+        ctx.old ctx.new) }
     ensures settled { IfOk result (λ end. MatchResult end (λ _. IsSettledDown (view ctx.new)) (λ _. Unit {0})) }
     ensures conflict { IfOk result (λ end. MatchResult end (λ _. Unit {0}) (λ conflict. IsConflicting (view ctx.new) conflict)) }
     ensures kept { ctx.new ≡ record ctx.old { assignment = ctx.new.assignment; binary_clauses = ctx.new.binary_clauses; clause_alloc = ctx.new.clause_alloc; clause_db = ctx.new.clause_db; impl_graph = ctx.new.impl_graph; trail = ctx.new.trail; watchlists = ctx.new.watchlists } }
@@ -286,7 +288,9 @@ fn settle_units<A: Allocator + Copy, P: ProofTracer>(
 ) -> Result<Result<(), Conflict>, TraceError>
     requires ready { IsReady ctx.old }
     requires holds { HoldsFor (P.holds proof.old) (search_of (view ctx.old)) }
-    ensures goes_on { IfOk result (λ end. GoesOnByLines (λ lines. (IsUnsettled (view ctx.old) → SettlesUnits lines (view ctx.old) (view ctx.new) end) × TakesLines P.takes proof.old lines proof.new) ctx.old ctx.new) }
+    ensures goes_on { IfOk result (λ end. GoesOnByLines
+        (λ lines. (IsUnsettled (view ctx.old) → SettlesUnits lines (view ctx.old) (view ctx.new) end) × TakesLines P.takes proof.old lines proof.new)
+        ctx.old ctx.new) }
     ensures stays { IfOk result (λ end. (IsUnsettled (view ctx.old) → ⊥) → (ctx.new ≡ ctx.old) × (end ≡ Ok tt)) }
     ensures conflict { IfOk result (λ end. MatchResult end (λ _. Unit {0}) (λ conflict. IsConflicting (view ctx.new) conflict)) }
     ensures kept { ctx.new ≡ record ctx.old { assignment = ctx.new.assignment; binary_clauses = ctx.new.binary_clauses; clause_alloc = ctx.new.clause_alloc; clause_db = ctx.new.clause_db; impl_graph = ctx.new.impl_graph; trail = ctx.new.trail; watchlists = ctx.new.watchlists } }
@@ -298,7 +302,7 @@ fn settle_units<A: Allocator + Copy, P: ProofTracer>(
     Ok(end)
 }
 
-/// Hands on the core of assumptions that fail.
+/// Tells the proof the core of assumptions that fail.
 fn trace_core<A: Allocator + Copy, P: ProofTracer>(
     proof: &mut P,
     ctx: &Context<A>,
@@ -319,7 +323,7 @@ fn find_and_learn<A: Allocator + Copy, P: ProofTracer>(
     requires ready { IsReady ctx.old }
     requires unknown { ctx.old.solver_state.sat_state ≡ SatState.Unknown }
     requires holds { HoldsFor (P.holds proof.old) (search_of (view ctx.old)) }
-    ensures made { OnOk result (MakesStep (λ lines. TakesStep P.takes proof.old lines (outcome_of (view ctx.new) ctx.new.assumptions.failed_core ctx.new.solver_state.sat_state) proof.new) ctx.old ctx.new) }
+    ensures made { OnOk result (MakesStep (λ lines. TakesStep P.takes proof.old lines (outcome_at ctx.new) proof.new) ctx.old ctx.new) }
     ensures schedule { KeepsSchedule ctx.old ctx.new }
     ensures full { IfErr result (λ error. error ≡ StepError.Full → HasNoRoom ctx.new) }
 {
@@ -335,7 +339,8 @@ fn find_and_learn<A: Allocator + Copy, P: ProofTracer>(
 }
 
 /// Makes one step: settles the units of level 0, then finds a conflict and learns from it, or finds a model or that
-/// assumptions fail. A step that learns raises the rank of the trail, so that there are only finitely many of them.
+/// assumptions fail. A step that learns raises the rank of the trail, so that there are only finitely many of them. Fails
+/// where it is out of memory, the clause store is full or the tracer fails.
 pub fn conflict_step<A: Allocator + Copy, P: ProofTracer>(
     ctx: &mut Context<A>,
     proof: &mut P,
@@ -344,11 +349,12 @@ pub fn conflict_step<A: Allocator + Copy, P: ProofTracer>(
     requires unknown { ctx.old.solver_state.sat_state ≡ SatState.Unknown }
     // The tracer may hold what fits the search.
     requires holds { HoldsFor (P.holds proof.old) (search_of (view ctx.old)) }
-    // It took the lines of the step, and then the core, where assumptions failed. At level 0 lines that prove units come
-    // first, and then those of simplification.
-    ensures made { OnOk result (MakesStep (λ lines. SettlesFirst lines ctx.old ctx.new × TakesStep P.takes proof.old lines (outcome_of (view ctx.new) ctx.new.assumptions.failed_core ctx.new.solver_state.sat_state) proof.new) ctx.old ctx.new) }
+    // It took the lines of the step, and then the core, where assumptions failed.
+    ensures made { OnOk result (MakesStep
+        (λ lines. SettlesFirst lines ctx.old ctx.new × TakesStep P.takes proof.old lines (outcome_at ctx.new) proof.new)
+        ctx.old ctx.new) }
     ensures schedule { KeepsSchedule ctx.old ctx.new }
-    // It fails with `Full` only where the store has no room for a clause over the variables that there are.
+    // The store is full only where it has no room for a clause of all variables.
     ensures full { IfErr result (λ error. error ≡ StepError.Full → HasNoRoom ctx.new) }
 {
     match settle_units(ctx, proof)? {

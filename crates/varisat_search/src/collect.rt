@@ -1,5 +1,5 @@
 //! The collection of the words of deleted clauses in a search.
-ghost use Rattle.std.specs.Prelude.{◌≡◌, ◌<◌, ◌≤◌, ◌*◌, length, OnOk, OnErr};
+ghost use Rattle.std.specs.Prelude.{◌≡◌, ◌<◌, ◌≤◌, ◌*◌, false, length, OnOk, OnErr};
 ghost use Rattle.varisat_clause.specs.Stores.{stored_clauses};
 ghost use Rattle.varisat_clause.specs.Collected.{IsCollected};
 ghost use Rattle.varisat_analysis.specs.Collections.{Repacks};
@@ -16,6 +16,7 @@ fn collect<A: Allocator + Copy>(ctx: &mut Context<A>) -> Result<(), AllocError>
     requires { IsReady ctx.old }
     ensures collected { OnOk result (IsCollected ctx.new.clause_alloc ctx.new.clause_db (stored_clauses ctx.old.clause_alloc)) }
     ensures repacks { OnOk result (Repacks (view ctx.old) (view ctx.new)) }
+    ensures off { OnOk result (ctx.new.watchlists.enabled ≡ false) }
     ensures ready { OnOk result (IsReady ctx.new) }
     ensures kept { ctx.new ≡ record ctx.old { clause_alloc = ctx.new.clause_alloc; clause_db = ctx.new.clause_db; impl_graph = ctx.new.impl_graph; watchlists = ctx.new.watchlists } }
     ensures refused { OnErr result (ctx.new ≡ ctx.old) }
@@ -33,12 +34,13 @@ fn collect<A: Allocator + Copy>(ctx: &mut Context<A>) -> Result<(), AllocError>
     Ok(())
 }
 
-/// Collects the garbage where it is more than half of the store's words, and else changes nothing, as where a growth
-/// was refused.
+/// Collects the garbage where it is more than half of the store's words, which switches the watch lists off, and else
+/// changes nothing, as where a growth was refused.
 pub fn collect_garbage<A: Allocator + Copy>(ctx: &mut Context<A>) -> Result<(), AllocError>
     requires { IsReady ctx.old }
     ensures collected { OnOk result (length ctx.old.clause_alloc.words < 2 * ctx.old.clause_db.garbage → IsCollected ctx.new.clause_alloc ctx.new.clause_db (stored_clauses ctx.old.clause_alloc)) }
     ensures repacks { OnOk result (length ctx.old.clause_alloc.words < 2 * ctx.old.clause_db.garbage → Repacks (view ctx.old) (view ctx.new)) }
+    ensures off { OnOk result (length ctx.old.clause_alloc.words < 2 * ctx.old.clause_db.garbage → ctx.new.watchlists.enabled ≡ false) }
     ensures stays { OnOk result (2 * ctx.old.clause_db.garbage ≤ length ctx.old.clause_alloc.words → ctx.new ≡ ctx.old) }
     ensures ready { OnOk result (IsReady ctx.new) }
     ensures kept { ctx.new ≡ record ctx.old { clause_alloc = ctx.new.clause_alloc; clause_db = ctx.new.clause_db; impl_graph = ctx.new.impl_graph; watchlists = ctx.new.watchlists } }

@@ -1,16 +1,17 @@
-//! Why a step of a search came to no end.
+//! Why a step of a search failed.
 
 use std::alloc::AllocError;
 use std::io;
 use varisat_prop::clause::StoreError;
 use varisat_trace::TraceError;
 
-/// Why a step came to no end. A target failed only where the tracer told so.
+/// Why a step failed. Contracts say when the clause store is full, but not when the target of the proof fails: a caller
+/// has to expect `Target` from any step, also where its tracer has no target.
 #[derive(Debug, Drop)]
 pub enum StepError {
-    /// The clause store is full.
+    /// The clause store has no room for a clause of all variables.
     Full,
-    /// A growth was refused.
+    /// It is out of memory.
     Memory,
     /// The target of the proof failed.
     Target(io::Error),

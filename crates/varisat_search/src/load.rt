@@ -95,7 +95,8 @@ fn add_distinct<A: Allocator + Copy>(ctx: &mut Context<A>) -> Result<(), StoreEr
     ensures units { OnOk result (ctx.new.trail.units_removed ≡ ctx.old.trail.units_removed) }
     ensures last { OnOk result (ctx.new.assignment.last ≡ ctx.old.assignment.last) }
     ensures added { OnOk result (IsAdded (view ctx.old) (view ctx.new) ctx.old.tmp_data.lits.items ctx.old.solver_state.sat_state ctx.new.solver_state.sat_state) }
-    ensures full { IfErr result (λ error. error ≡ StoreError.Full → (2 ^ 32 ≤ length ctx.new.clause_alloc.words + 3 + length ctx.old.tmp_data.lits.items) × (ctx.new.assignment.current ≡ ctx.old.assignment.current)) }
+    ensures full { IfErr result (λ error. error ≡ StoreError.Full →
+        (2 ^ 32 ≤ length ctx.new.clause_alloc.words + 3 + length ctx.old.tmp_data.lits.items) × (ctx.new.assignment.current ≡ ctx.old.assignment.current)) }
 {
     let Some(first) = first_of(&ctx.tmp_data.lits) else {
         ctx.solver_state.sat_state = SatState::Unsat;
@@ -131,11 +132,13 @@ fn add_distinct<A: Allocator + Copy>(ctx: &mut Context<A>) -> Result<(), StoreEr
     Ok(())
 }
 
-/// Hands on the deletion of a clause with a true literal, unless it is a unit. The tracer orders the literals.
+/// Deletes a clause with a true literal from the proof, unless it is a unit, which is what proves its literal. The tracer
+/// orders the literals.
 fn trace_satisfied<P: ProofTracer>(proof: &mut P, lits: &mut [Lit]) -> Result<(), TraceError>
     requires { CanTake (P.holds proof.old) (Delete lits.old ∷ []) }
     ensures unit { OnOk result (length lits.old < 2 → TakesLines P.takes proof.old [] proof.new) }
-    ensures longer { OnOk result (2 ≤ length lits.old → IsPermutation lits.old lits.new × P.in_order proof.old lits.new × TakesLines P.takes proof.old (Delete lits.new ∷ []) proof.new) }
+    ensures longer { OnOk result (2 ≤ length lits.old →
+        IsPermutation lits.old lits.new × P.in_order proof.old lits.new × TakesLines P.takes proof.old (Delete lits.new ∷ []) proof.new) }
 {
     if lits.len() < 2 {
         return Ok(());
@@ -147,7 +150,8 @@ fn trace_satisfied<P: ProofTracer>(proof: &mut P, lits: &mut [Lit]) -> Result<()
 
 /// Loads a clause, and undoes all decisions. Assumptions stay, without a level. Literals that stand twice count once,
 /// and a clause with a literal and its opposite, or with one that is true at level 0, is not kept. Where it has two
-/// literals or more and no opposites, and one is true at level 0, its deletion is handed on.
+/// literals or more and no opposites, and one is true at level 0, the proof deletes it. Under Unsat nothing changes. Fails
+/// where it is out of memory, the clause store is full or the tracer fails.
 pub fn load_clause<A: Allocator + Copy, P: ProofTracer>(
     ctx: &mut Context<A>,
     proof: &mut P,
@@ -161,7 +165,9 @@ pub fn load_clause<A: Allocator + Copy, P: ProofTracer>(
     ensures ready { OnOk result (IsReady ctx.new) }
     ensures unsat { ctx.old.solver_state.sat_state ≡ SatState.Unsat → (result ≡ Ok tt) × (ctx.new ≡ ctx.old) × (proof.new ≡ proof.old) }
     // Under assumptions the verdict stays, unless it becomes Unsat.
-    ensures lines { OnOk result (ctx.old.solver_state.sat_state ≢ SatState.Unsat → LoadsClause (P.in_order proof.old) (λ lines. TakesLines P.takes proof.old lines proof.new) (search_of (view ctx.old)) (search_of (view ctx.new)) lits.now (loaded_outcome ctx.new.solver_state.sat_state)) }
+    ensures lines { OnOk result (ctx.old.solver_state.sat_state ≢ SatState.Unsat → LoadsClause
+        (P.in_order proof.old) (λ lines. TakesLines P.takes proof.old lines proof.new)
+        (search_of (view ctx.old)) (search_of (view ctx.new)) lits.now (loaded_outcome ctx.new.solver_state.sat_state)) }
     ensures verdict { OnOk result ((ctx.new.solver_state.sat_state ≡ reopened_state ctx.old.solver_state.sat_state) ⊎ (ctx.new.solver_state.sat_state ≡ SatState.Unsat)) }
     ensures assumptions { OnOk result (ctx.old.solver_state.sat_state ≢ SatState.Unsat → ctx.new.assumptions ≡ record ctx.old.assumptions { levels = 0 }) }
     ensures decidable { OnOk result (SameDecidable (view ctx.old) ctx.old.vsids (view ctx.new) ctx.new.vsids) }
@@ -173,7 +179,7 @@ pub fn load_clause<A: Allocator + Copy, P: ProofTracer>(
     ensures undecided { OnOk result (ctx.old.solver_state.sat_state ≢ SatState.Unsat → ctx.new.trail.decisions ≡ []) }
     ensures single { OnOk result ((l : Literal) → lits.now ≡ l ∷ [] → LoadsUnit (view ctx.old) (view ctx.new) l) }
     ensures schedule { KeepsSchedule ctx.old ctx.new }
-    // It fails with `Full` only where the store has no room for a clause over the variables that there are.
+    // The store is full only where it has no room for a clause of all variables.
     ensures full { IfErr result (λ error. error ≡ StepError.Full → HasNoRoom ctx.new) }
 {
     if let SatState::Unsat = ctx.solver_state.sat_state {

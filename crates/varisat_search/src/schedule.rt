@@ -6,11 +6,11 @@ ghost use Rattle.varisat_schedule.specs.CallSteps.{IsPlannedStep};
 ghost use Rattle.varisat_search.specs.AssumptionParts.{KeepsAssumptions};
 ghost use Rattle.varisat_search.specs.Contexts.{view, IsReady};
 ghost use Rattle.varisat_search.specs.Decisions.{SameDecidable};
-ghost use Rattle.varisat_search.specs.Progress.{StepsTo};
+ghost use Rattle.varisat_search.specs.Progress.{outcome_at, StepsTo};
 ghost use Rattle.varisat_search.specs.Restarts.{RestartsIfDue, SavesIfDue, RestartsAndRemembers};
 ghost use Rattle.varisat_search.specs.DueReductions.{ReducesLocalsIfDue, ReducesMidsIfDue, ReducesIfDue, KeepsSearch, GoesBySchedule};
 ghost use Rattle.varisat_search.specs.StepErrors.{HasNoRoom};
-ghost use Rattle.varisat_search.specs.Seen.{search_of, outcome_of};
+ghost use Rattle.varisat_search.specs.Seen.{search_of};
 ghost use Rattle.varisat_trace.specs.Traces.{TakesLines, TakesStep, HoldsFor};
 
 use crate::cdcl::conflict_step;
@@ -52,8 +52,9 @@ fn reduce_locals_if_due<A: Allocator + Copy, P: ProofTracer>(
 ) -> Result<(), TraceError>
     requires ready { IsReady ctx.old }
     requires holds { HoldsFor (P.holds proof.old) (search_of (view ctx.old)) }
-    ensures reduces { OnOk result (ReducesLocalsIfDue ctx.old ctx.new) }
-    ensures keeps { OnOk result (KeepsSearch (λ lines. TakesLines P.takes proof.old lines proof.new) ctx.old ctx.new) }
+    ensures keeps { OnOk result (KeepsSearch
+        (λ lines. ReducesLocalsIfDue lines ctx.old ctx.new × TakesLines P.takes proof.old lines proof.new)
+        ctx.old ctx.new) }
     ensures kept { ctx.new ≡ record ctx.old { clause_alloc = ctx.new.clause_alloc; clause_db = ctx.new.clause_db; watchlists = ctx.new.watchlists } }
 {
     if ctx.schedule.steps() % ctx.solver_config.reduce_locals_interval() == 0 {
@@ -82,8 +83,9 @@ fn reduce_if_due<A: Allocator + Copy, P: ProofTracer>(
 ) -> Result<(), TraceError>
     requires ready { IsReady ctx.old }
     requires holds { HoldsFor (P.holds proof.old) (search_of (view ctx.old)) }
-    ensures reduces { OnOk result (ReducesIfDue ctx.old ctx.new) }
-    ensures keeps { OnOk result (KeepsSearch (λ lines. TakesLines P.takes proof.old lines proof.new) ctx.old ctx.new) }
+    ensures keeps { OnOk result (KeepsSearch
+        (λ lines. ReducesIfDue lines ctx.old ctx.new × TakesLines P.takes proof.old lines proof.new)
+        ctx.old ctx.new) }
     ensures kept { ctx.new ≡ record ctx.old { clause_alloc = ctx.new.clause_alloc; clause_db = ctx.new.clause_db; impl_graph = ctx.new.impl_graph; watchlists = ctx.new.watchlists } }
 {
     reduce_locals_if_due(ctx, proof)?;
@@ -93,7 +95,8 @@ fn reduce_if_due<A: Allocator + Copy, P: ProofTracer>(
 }
 
 /// Makes one step of the schedule: a restart, reductions of the learned clauses and a collection of garbage, each where
-/// it is due, then a conflict step. The step is counted, unless memory runs out.
+/// it is due, then a conflict step. The step is counted, unless it fails. Fails where it is out of memory, the clause store
+/// is full or the tracer fails.
 pub fn schedule_step<A: Allocator + Copy, P: ProofTracer>(
     ctx: &mut Context<A>,
     proof: &mut P,
@@ -104,8 +107,10 @@ pub fn schedule_step<A: Allocator + Copy, P: ProofTracer>(
     requires counted { ctx.old.schedule.steps < 2 ^ 64 - 1 }
     ensures ready { OnOk result (IsReady ctx.new) }
     // The tracer took the lines of the step, in the order of its parts, and then the core, where assumptions failed.
-    ensures steps { OnOk result (StepsTo (λ lines. GoesBySchedule lines ctx.old ctx.new × TakesStep P.takes proof.old lines (outcome_of (view ctx.new) ctx.new.assumptions.failed_core ctx.new.solver_state.sat_state) proof.new) ctx.old ctx.new) }
-    ensures assumes { OnOk result (KeepsAssumptions (search_of (view ctx.old)) (outcome_of (view ctx.new) ctx.new.assumptions.failed_core ctx.new.solver_state.sat_state) ctx.old.assumptions ctx.new.assumptions) }
+    ensures steps { OnOk result (StepsTo
+        (λ lines. GoesBySchedule lines ctx.old ctx.new × TakesStep P.takes proof.old lines (outcome_at ctx.new) proof.new)
+        ctx.old ctx.new) }
+    ensures assumes { OnOk result (KeepsAssumptions (search_of (view ctx.old)) (outcome_at ctx.new) ctx.old.assumptions ctx.new.assumptions) }
     ensures rises { OnOk result (ctx.new.solver_state.sat_state ≡ SatState.Unknown → IsPlannedStep ctx.old.schedule (kinds (view ctx.old)) (kinds (view ctx.new))) }
     ensures decidable { OnOk result (SameDecidable (view ctx.old) ctx.old.vsids (view ctx.new) ctx.new.vsids) }
     ensures decay { OnOk result (ctx.new.vsids.decay ≡ ctx.old.vsids.decay) }
@@ -116,7 +121,7 @@ pub fn schedule_step<A: Allocator + Copy, P: ProofTracer>(
     ensures schedule { OnOk result (ctx.new.schedule ≡ next_plan ctx.old.solver_config.luby_restart_interval_scale ctx.old.schedule) }
     ensures uncounted { OnErr result (ctx.new.schedule.steps ≡ ctx.old.schedule.steps) }
     ensures config { ctx.new.solver_config ≡ ctx.old.solver_config }
-    // It fails with `Full` only where the store has no room for a clause over the variables that there are.
+    // The store is full only where it has no room for a clause of all variables.
     ensures full { IfErr result (λ error. error ≡ StepError.Full → HasNoRoom ctx.new) }
 {
     restart_if_due(ctx);

@@ -1,17 +1,17 @@
-//! The lines of a search that are handed on before it changes.
+//! What a search tells its proof before clauses change.
 ghost use Rattle.std.specs.Prelude.{◌≡◌, ℕ, ◌<◌, ◌≤◌, List, Option, Bool, length, false, OnOk};
 ghost use Rattle.varisat_theory.specs.Membership.{◌∈◌};
 ghost use Rattle.varisat_theory.specs.Literals.{Literal, Clause, variable_of, opposite};
 ghost use Rattle.varisat_theory.specs.StepLaws.{unit_lines};
 ghost use Rattle.varisat_clause.specs.Stored.{IsPlace, literals_of};
-ghost use Rattle.varisat_clause.specs.Reductions.{unmarked_places};
+ghost use Rattle.varisat_search.specs.Deletions.{unmarked_deletions};
 ghost use Rattle.varisat_clause.specs.Stores.{stored_clauses, IsSound};
 ghost use Rattle.varisat_clause.specs.Collected.{live_clauses};
 ghost use Rattle.varisat_prop.specs.Looks.{IsInRange};
 ghost use Rattle.varisat_prop.specs.Simplified.{is_unassigned};
 ghost use Rattle.varisat_prop.specs.View.{pairs_with, pairs_from};
 ghost use Rattle.varisat_search.specs.ProvedUnits.{units_in};
-ghost use Rattle.varisat_search.specs.Simplifications.{unassigned, is_gone_pair, deletion_lines, lines_of_pairs, lines_of_clause, lines_of_clauses};
+ghost use Rattle.varisat_search.specs.Simplifications.{unassigned, is_gone_pair, lines_of_pairs, lines_of_clause, lines_of_clauses};
 ghost use Rattle.varisat_trace.specs.Traces.{TakesLines, CanTake};
 
 use std::alloc::{AllocError, Allocator};
@@ -22,7 +22,7 @@ use varisat_prop::binary::BinaryClauses;
 use varisat_prop::prop::{Assignment, ImplGraph};
 use varisat_trace::{ProofStep, ProofTracer, TraceError};
 
-/// Hands on each of the literals of which a clause is the reason, as a clause of its own.
+/// Adds each of the literals of which a clause is the reason to the proof, as a unit clause.
 pub fn trace_units<A: Allocator + Copy, P: ProofTracer>(
     proof: &mut P,
     impl_graph: &ImplGraph<A>,
@@ -36,6 +36,7 @@ pub fn trace_units<A: Allocator + Copy, P: ProofTracer>(
         if impl_graph.reason(lit.var()).is_unit() {
             continue;
         }
+        // At once, so that no list of them has to grow.
         proof.add_step(&ProofStep::UnitClauses { units: &[*lit] })?;
     }
     Ok(())
@@ -48,7 +49,8 @@ fn has_no_value(values: &[Option<bool>], lit: Lit) -> bool
     !matches!(values.get(lit.index()), Some(Some(_)))
 }
 
-/// Whether the first literal comes before the other, and one of the two has a value.
+/// Whether the clause of the two literals is deleted here: one of them has a value, and the first has the smaller code,
+/// as the clause stands in two lists.
 fn is_gone_pair(values: &[Option<bool>], first: Lit, other: Lit) -> bool
     ensures { result ≡ is_gone_pair values.now first other }
 {
@@ -58,7 +60,7 @@ fn is_gone_pair(values: &[Option<bool>], first: Lit, other: Lit) -> bool
     !(has_no_value(values, first) && has_no_value(values, other))
 }
 
-/// Hands on the deletions of clauses that the literal and one of the list make, where the literal comes first and one
+/// Deletes from the proof the clauses of the literal and one of the list, where the literal has the smaller code and one
 /// of the two has a value.
 fn trace_pairs_with<P: ProofTracer>(
     proof: &mut P,
@@ -80,7 +82,7 @@ fn trace_pairs_with<P: ProofTracer>(
     Ok(())
 }
 
-/// Hands on the deletions of the clauses of two literals of which one has a value.
+/// Deletes from the proof the clauses of two literals of which one has a value.
 fn trace_each_pair<A: Allocator + Copy, P: ProofTracer>(
     proof: &mut P,
     values: &[Option<bool>],
@@ -115,8 +117,8 @@ pub fn copy_unassigned<A: Allocator + Copy>(
     Ok(())
 }
 
-/// Hands on what becomes of a clause: a satisfied one is deleted, and one with false literals is so once what is left
-/// of it was added.
+/// Tells the proof what becomes of a clause: a satisfied one is deleted, and one with false literals is so once what is
+/// left of it was added.
 fn trace_clause<A: Allocator + Copy, P: ProofTracer>(
     proof: &mut P,
     assignment: &Assignment<A>,
@@ -139,7 +141,7 @@ fn trace_clause<A: Allocator + Copy, P: ProofTracer>(
     Ok(())
 }
 
-/// Hands on what becomes of the stored clauses.
+/// Tells the proof what becomes of the stored clauses.
 fn trace_clauses<A: Allocator + Copy, P: ProofTracer>(
     proof: &mut P,
     assignment: &Assignment<A>,
@@ -161,8 +163,8 @@ fn trace_clauses<A: Allocator + Copy, P: ProofTracer>(
     Ok(())
 }
 
-/// Hands on the deletions of the clauses of two literals of which one has a value. A tracer that takes nothing costs
-/// nothing.
+/// Deletes from the proof the clauses of two literals of which one has a value. Where the tracer takes nothing the lists
+/// are not even read.
 pub fn trace_pairs<A: Allocator + Copy, P: ProofTracer>(
     proof: &mut P,
     assignment: &Assignment<A>,
@@ -179,8 +181,9 @@ pub fn trace_pairs<A: Allocator + Copy, P: ProofTracer>(
     Ok(())
 }
 
-/// Hands on what becomes of the stored clauses as they are simplified. A tracer that takes nothing costs nothing.
-pub fn trace_shortened<A: Allocator + Copy, P: ProofTracer>(
+/// Tells the proof what becomes of the stored clauses as they are simplified. Where the tracer takes nothing they are not
+/// even read.
+pub fn trace_stored<A: Allocator + Copy, P: ProofTracer>(
     proof: &mut P,
     assignment: &Assignment<A>,
     clause_alloc: &ClauseAlloc<A>,
@@ -199,7 +202,7 @@ pub fn trace_shortened<A: Allocator + Copy, P: ProofTracer>(
     Ok(())
 }
 
-/// Hands on the deletions of the first clauses of the list that are not marked, as many as `count`.
+/// Deletes from the proof the first clauses of the list that are not marked, as many as `count`.
 pub fn trace_deletions<A: Allocator + Copy, P: ProofTracer>(
     proof: &mut P,
     clause_alloc: &ClauseAlloc<A>,
@@ -208,8 +211,8 @@ pub fn trace_deletions<A: Allocator + Copy, P: ProofTracer>(
 ) -> Result<(), TraceError>
     requires sound { IsSound clause_alloc.now }
     requires listed { (p : ℕ) → p ∈ list.now → IsPlace (stored_clauses clause_alloc.now) p }
-    requires able { CanTake (P.holds proof.old) (deletion_lines (stored_clauses clause_alloc.now) (unmarked_places (stored_clauses clause_alloc.now) count list.now)) }
-    ensures { OnOk result (TakesLines P.takes proof.old (deletion_lines (stored_clauses clause_alloc.now) (unmarked_places (stored_clauses clause_alloc.now) count list.now)) proof.new) }
+    requires able { CanTake (P.holds proof.old) (unmarked_deletions (stored_clauses clause_alloc.now) count list.now) }
+    ensures { OnOk result (TakesLines P.takes proof.old (unmarked_deletions (stored_clauses clause_alloc.now) count list.now) proof.new) }
 {
     let mut left = count;
     'clauses: for cref in list {

@@ -1,25 +1,23 @@
 //! Simplification by the literals of level 0: they become unit clauses, and the kept clauses lose what these say.
-ghost use Rattle.std.specs.Prelude.{◌≡◌, ◌<◌, ◌≤◌, ◌↔◌, ◌++◌, ℕ, IsTrue, [], length, drop, OnOk, IfOk};
+ghost use Rattle.std.specs.Prelude.{◌≡◌, ◌<◌, ◌≤◌, ◌↔◌, ◌++◌, IsTrue, false, [], length, drop, OnOk, OnErr, IfOk};
 ghost use Rattle.varisat_theory.specs.Membership.{◌∈◌};
 ghost use Rattle.varisat_theory.specs.Literals.{Literal, Clause, variable_of};
-ghost use Rattle.varisat_theory.specs.Propagation.{IsComplete};
 ghost use Rattle.varisat_theory.specs.Outcomes.{Proves};
 ghost use Rattle.varisat_theory.specs.StepLaws.{unit_lines};
 ghost use Rattle.varisat_clause.specs.Stored.{IsPlace, stored_at, literals_at, with_stored};
 ghost use Rattle.varisat_clause.specs.Stores.{stored_clauses, IsSound, HoldsClauses};
-ghost use Rattle.varisat_prop.specs.declared.prop.graph.Reason.TheVariants as reason;
 ghost use Rattle.varisat_prop.specs.Looks.{IsInRange};
 ghost use Rattle.varisat_prop.specs.Simplified.{without_assigned};
-ghost use Rattle.varisat_prop.specs.View.{kept, node_at};
 ghost use Rattle.varisat_search.specs.Contexts.{view, IsReady};
 ghost use Rattle.varisat_search.specs.Decisions.{SameDecidable};
 ghost use Rattle.varisat_search.specs.Seen.{search_of};
+ghost use Rattle.varisat_search.specs.SettledUnits.{CanSimplify};
 ghost use Rattle.varisat_search.specs.ProvedUnits.{units_in, implied_units, HaveUnits, ProvesUnits};
 ghost use Rattle.varisat_trace.specs.Traces.{TakesLines, CanTake, HoldsFor};
 ghost use Rattle.varisat_search.specs.Simplifications.{unassigned, shortened_to, with_pairs, IsSimplified, pair_lines, clause_lines, IsPairIn, IsLeftOpen, LeavesOpen};
 
 use crate::context::Context;
-use crate::trace::{copy_unassigned, trace_pairs, trace_shortened, trace_units};
+use crate::trace::{copy_unassigned, trace_pairs, trace_stored, trace_units};
 use std::alloc::{AllocError, Allocator};
 use varisat_analysis::clause_literals::is_satisfied;
 use varisat_clause::alloc::{ClauseAlloc, ClauseRef};
@@ -39,8 +37,9 @@ fn forget_reasons<A: Allocator + Copy>(impl_graph: &mut ImplGraph<A>, lits: &[Li
     }
 }
 
-/// Proves the literals of level 0: each that a clause implied is held as a unit clause from now on, and needs no other
-/// clause. Returns whether there are literals. Above level 0 nothing changes, and the result is false.
+/// Proves the literals of level 0: each that a clause implied is added to the proof as a unit clause, oldest first, and
+/// needs no other clause from now on. Returns whether there are literals. Above level 0 nothing changes, and the result is
+/// false. Fails where the tracer is out of memory or fails; then the search stays as it was.
 pub fn prove_units<A: Allocator + Copy, P: ProofTracer>(
     ctx: &mut Context<A>,
     proof: &mut P,
@@ -49,9 +48,11 @@ pub fn prove_units<A: Allocator + Copy, P: ProofTracer>(
     requires holds { HoldsFor (P.holds proof.old) (search_of (view ctx.old)) }
     ensures found { IfOk result (λ found. IsTrue found ↔ ((ctx.old.trail.decisions ≡ []) × (0 < length ctx.old.trail.literals))) }
     ensures proved { OnOk result (ctx.old.trail.decisions ≡ [] → ProvesUnits (view ctx.old) (view ctx.new)) }
-    ensures proves { OnOk result (ctx.old.trail.decisions ≡ [] → Proves 0 (search_of (view ctx.old)) (search_of (view ctx.new)) (unit_lines (implied_units (view ctx.old)))) }
+    ensures proves { OnOk result (ctx.old.trail.decisions ≡ [] →
+        Proves 0 (search_of (view ctx.old)) (search_of (view ctx.new)) (unit_lines (implied_units (view ctx.old)))) }
     ensures takes { OnOk result (ctx.old.trail.decisions ≡ [] → TakesLines P.takes proof.old (unit_lines (implied_units (view ctx.old))) proof.new) }
     ensures stays { 0 < length ctx.old.trail.decisions → (ctx.new ≡ ctx.old) × (proof.new ≡ proof.old) }
+    ensures failed { OnErr result (ctx.new ≡ ctx.old) }
     ensures ready { OnOk result (IsReady ctx.new) }
     ensures kept { ctx.new ≡ record ctx.old { impl_graph = ctx.new.impl_graph } }
 {
@@ -130,24 +131,22 @@ fn add_pairs<A: Allocator + Copy>(
 }
 
 /// Takes out the clauses of two literals of which one has a value: at level 0 after complete propagation, where each
-/// literal of the trail is a unit, each of them is satisfied. Their deletions are handed on as the literals with lists
-/// come, each with the literal of the smaller code first.
+/// literal of the trail is a unit, each of them is satisfied. The proof deletes them in the order of their lists, each with
+/// the literal of the smaller code first. Fails where the tracer is out of memory or fails; then the search stays as it was.
 pub fn simplify_binary<A: Allocator + Copy, P: ProofTracer>(
     ctx: &mut Context<A>,
     proof: &mut P,
 ) -> Result<(), TraceError>
-    requires ready { IsReady ctx.old }
+    requires can { CanSimplify ctx.old }
     requires holds { HoldsFor (P.holds proof.old) (search_of (view ctx.old)) }
-    requires undecided { ctx.old.trail.decisions ≡ [] }
-    requires complete { IsComplete (kept (view ctx.old)) ctx.old.trail.literals }
-    requires proved { (k : ℕ) → k < length ctx.old.trail.literals → (node_at (view ctx.old) k).reason ≡ reason.Unit }
     ensures simplified { OnOk result (ctx.new.binary_clauses ≡ without_assigned ctx.old.assignment.current ctx.old.binary_clauses) }
     ensures proves { OnOk result (Proves 0 (search_of (view ctx.old)) (search_of (view ctx.new)) (pair_lines (view ctx.old))) }
     ensures takes { OnOk result (TakesLines P.takes proof.old (pair_lines (view ctx.old)) proof.new) }
     ensures ready { OnOk result (IsReady ctx.new) }
+    ensures failed { OnErr result (ctx.new ≡ ctx.old) }
     ensures kept { ctx.new ≡ record ctx.old { binary_clauses = ctx.new.binary_clauses } }
 {
-    // The lines are handed on first, while each clause is there.
+    // Once the lists are simplified the clauses can't be read any more.
     trace_pairs(proof, &ctx.assignment, &ctx.binary_clauses)?;
     ctx.binary_clauses.simplify(&ctx.assignment);
     Ok(())
@@ -159,13 +158,11 @@ fn simplify_stored<A: Allocator + Copy, P: ProofTracer>(
     ctx: &mut Context<A>,
     proof: &mut P,
 ) -> Result<(), TraceError>
-    requires ready { IsReady ctx.old }
+    requires can { CanSimplify ctx.old }
     requires holds { HoldsFor (P.holds proof.old) (search_of (view ctx.old)) }
-    requires undecided { ctx.old.trail.decisions ≡ [] }
-    requires complete { IsComplete (kept (view ctx.old)) ctx.old.trail.literals }
-    requires proved { (k : ℕ) → k < length ctx.old.trail.literals → (node_at (view ctx.old) k).reason ≡ reason.Unit }
     requires left { without_assigned ctx.old.assignment.current ctx.old.binary_clauses ≡ ctx.old.binary_clauses }
     ensures simplified { OnOk result (IsSimplified (view ctx.old) (view ctx.new)) }
+    ensures off { OnOk result (ctx.new.watchlists.enabled ≡ false) }
     ensures proves { OnOk result (Proves 0 (search_of (view ctx.old)) (search_of (view ctx.new)) (clause_lines (view ctx.old))) }
     ensures takes { OnOk result (TakesLines P.takes proof.old (clause_lines (view ctx.old)) proof.new) }
     ensures ready { OnOk result (IsReady ctx.new) }
@@ -173,8 +170,8 @@ fn simplify_stored<A: Allocator + Copy, P: ProofTracer>(
     ensures kept { ctx.new ≡ record ctx.old { binary_clauses = ctx.new.binary_clauses; clause_alloc = ctx.new.clause_alloc; clause_db = ctx.new.clause_db; watchlists = ctx.new.watchlists } }
 {
     let alloc = *ctx.tmp_data.lits.allocator();
-    // The lines are handed on first, while each clause still has the literals that it loses.
-    trace_shortened(proof, &ctx.assignment, &ctx.clause_alloc, alloc)?;
+    // A line deletes each clause with the literals that it has before it is shortened.
+    trace_stored(proof, &ctx.assignment, &ctx.clause_alloc, alloc)?;
     let mut filter = UnitFilter {
         assignment: &ctx.assignment,
         left: Vec::new(alloc),
@@ -187,19 +184,17 @@ fn simplify_stored<A: Allocator + Copy, P: ProofTracer>(
 }
 
 /// Takes out the clauses that a literal of level 0 satisfies, and from the others the false literals. A clause of which
-/// two literals are left joins those of two literals. The watch lists are switched off. Propagation has to have come to
-/// its end before, and each literal of the trail has to be a unit. Where a growth was refused clauses may be missing.
+/// two literals are left joins those of two literals. The watch lists are switched off. The proof deletes what goes, and a
+/// clause that becomes shorter once the shorter one was added. Where it is out of memory or the tracer fails clauses may be
+/// missing.
 pub fn unit_simplify<A: Allocator + Copy, P: ProofTracer>(
     ctx: &mut Context<A>,
     proof: &mut P,
 ) -> Result<(), TraceError>
-    requires ready { IsReady ctx.old }
+    requires can { CanSimplify ctx.old }
     requires holds { HoldsFor (P.holds proof.old) (search_of (view ctx.old)) }
-    requires undecided { ctx.old.trail.decisions ≡ [] }
-    requires propagated { ctx.old.trail.queue_head ≡ length ctx.old.trail.literals }
-    requires complete { IsComplete (kept (view ctx.old)) ctx.old.trail.literals }
-    requires proved { (k : ℕ) → k < length ctx.old.trail.literals → (node_at (view ctx.old) k).reason ≡ reason.Unit }
     ensures simplified { OnOk result (IsSimplified (view ctx.old) (view ctx.new)) }
+    ensures off { OnOk result (ctx.new.watchlists.enabled ≡ false) }
     ensures proves { OnOk result (Proves 0 (search_of (view ctx.old)) (search_of (view ctx.new)) (pair_lines (view ctx.old) ++ clause_lines (view ctx.old))) }
     ensures takes { OnOk result (TakesLines P.takes proof.old (pair_lines (view ctx.old) ++ clause_lines (view ctx.old)) proof.new) }
     ensures ready { OnOk result (IsReady ctx.new) }

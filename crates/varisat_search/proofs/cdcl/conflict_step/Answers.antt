@@ -1,10 +1,10 @@
 use Rattle.std.proofs.Common.{refl}
 use Rattle.varisat_theory.specs.Outcomes.{Steps}
 use Rattle.varisat_search.specs.declared.context.Context.{Context}
-use Rattle.varisat_search.specs.Progress.{MakesStep}
+use Rattle.varisat_search.specs.Progress.{outcome_at, MakesStep}
 use Rattle.varisat_search.specs.SettledUnits.{IsUnsettled, SettlesUnits, SettlesFirst}
 use Rattle.varisat_search.specs.Contexts.{view}
-use Rattle.varisat_search.specs.Seen.{search_of, outcome_of}
+use Rattle.varisat_search.specs.Seen.{search_of}
 use Rattle.varisat_search.proofs.MadeSteps.{made-are, made-with, no-core-entry, made-settled, made-at-once}
 use Rattle.varisat_trace.specs.Traces.{TakesLines, TakesStep, HoldsFor}
 use Rattle.varisat_trace.proofs.Traced.{step-lines, step-more, holds_on}
@@ -25,20 +25,20 @@ pub learn-requires-clause-holds : goal.learn-requires-clause-holds
 learn-requires-clause-holds g c = holds g (goal.at.learn-requires-clause-holds g c).In_ok-settle_units
 
 -- the units are settled, and a step is made from there
-after : (g : Over) (c : In_ok-settle_units g) (z : Context g.row.A.Denot) (p2 : g.row.P.Denot) → MakesStep (λ lines. TakesStep g.P.ProofTracer.takes c.settle_units.new.proof lines (outcome_of (view z) z.assumptions.failed_core z.solver_state.sat_state) p2) c.settle_units.new.ctx z → MakesStep (λ lines. SettlesFirst lines c.args.ctx.now z × TakesStep g.P.ProofTracer.takes c.args.proof.now lines (outcome_of (view z) z.assumptions.failed_core z.solver_state.sat_state) p2) c.args.ctx.now z
+after : (g : Over) (c : In_ok-settle_units g) (z : Context g.row.A.Denot) (p2 : g.row.P.Denot) → MakesStep (λ lines. TakesStep g.P.ProofTracer.takes c.settle_units.new.proof lines (outcome_at z) p2) c.settle_units.new.ctx z → MakesStep (λ lines. SettlesFirst lines c.args.ctx.now z × TakesStep g.P.ProofTracer.takes c.args.proof.now lines (outcome_at z) p2) c.args.ctx.now z
 after g c z p2 m =
     let takes = g.P.ProofTracer.takes in
     let x = c.args.ctx.now in
     let y = c.settle_units.new.ctx in
     let p0 = c.args.proof.now in
     let p1 = c.settle_units.new.proof in
-    let v = outcome_of (view z) z.assumptions.failed_core z.solver_state.sat_state in
+    let v = outcome_at z in
     let end = c.in_ok-settle_units.field-0 in
     made-settled x y z
     (λ lines. (IsUnsettled (view x) → SettlesUnits lines (view x) (view y) end) × TakesLines takes p0 lines p1)
     (λ lines. Steps (search_of (view y)) (search_of (view z)) v lines × TakesStep takes p1 lines v p2)
     (λ lines. SettlesFirst lines x z × TakesStep takes p0 lines v p2)
-    (λ first more (s, i) (p, j). ((λ u. (y, end, first, more, refl, s u, (more, p, refl))), step-more takes g.met.P.ProofTracer.takes_more p0 p1 p2 first more v i j))
+    (λ first more (s, i) (p, j). ((λ u. record { settled = y; end = end; first = first; rest = more; parts = refl; settles = s u; steps = (more, p, refl) }), step-more takes g.met.P.ProofTracer.takes_more p0 p1 p2 first more v i j))
     c.requires.ready c.in_ok-settle_units.ensures.goes_on c.settle_units.ensures.kept (made-with y z (λ lines. TakesStep takes p1 lines v p2) m)
 
 pub returns-in_ok-find_and_learn-in-Ok-clause-made : goal.returns-in_ok-find_and_learn-in-Ok-clause-made
@@ -53,7 +53,7 @@ returns-in_ok-learn-in-Err-clause-made g c =
     let p2 = c.learn.new.proof in
     let y = c.settle_units.new.ctx in
     let z = c.learn.new.ctx in
-    let v = outcome_of (view z) z.assumptions.failed_core z.solver_state.sat_state in
+    let v = outcome_at z in
     after g (goal.at.returns-in_ok-learn-in-Err-clause-made g c).In_ok-settle_units z p2
     (made-are y z (λ lines. TakesLines takes p1 lines p2) (λ lines. TakesStep takes p1 lines v p2)
     (λ lines h. step-lines takes p1 p2 lines v (no-core-entry (view z) z.assumptions.failed_core z.solver_state.sat_state e.further.known) h)

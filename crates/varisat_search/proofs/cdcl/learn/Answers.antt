@@ -232,4 +232,4 @@ returns-in_err-reason-clause-full g c =
     let room = c.in_err-reason.ensures.full h in
     let short = learned-length (undone g (goal.at.returns-in_err-reason-clause-full g c).After-backtrack) c.in-Some.first c.in-Some.ensures.0 (sym c.clause.ensures ∙ c.in-Some.ensures.1) in
     let count = ap (λ (x : Context g.row.A.Denot). length x.assignment.current) c.keep_learned.ensures.kept in
-    (length w.analyze_conflict.clause, omega (arith, short, count), room))
+    omega (arith, room, short, count))

@@ -69,6 +69,21 @@ unit_simplify-requires-clause-holds g c =
     let m = mid g h in
     holds_on g.P.ProofTracer.holds g.P.ProofTracer.takes g.met.P.ProofTracer.holds_after c.args.proof.now c.prove_units.new.proof 0 (search_of (view m)) (search_of (view c.prove_units.new.ctx)) (unit_lines (implied_units (view m))) (holds g h) (p.proves (none g h)) (p.takes (none g h))
 
+pub unit_simplify-requires-clause-can : goal.unit_simplify-requires-clause-can
+unit_simplify-requires-clause-can g c =
+    let h = (goal.at.unit_simplify-requires-clause-can g c).In_ok-propagated in
+    let m = mid g h in
+    let y = c.prove_units.new.ctx in
+    let p = c.in_ok-prove_units.ensures in
+    let k = c.prove_units.ensures.kept in
+    let ends = subst (λ r. MatchResult r (λ _. IsComplete (kept (view m)) m.trail.literals × (m.trail.queue_head ≡ length m.trail.literals)) (λ f. IsConflicting (view m) f)) c.in_default.is c.in_ok-propagated.ensures.ends in
+    record {
+      ready = p.ready;
+      undecided = ap (λ (z : Context g.row.A.Denot). z.trail.decisions) k ∙ none g h;
+      complete = subst (λ (z : Context g.row.A.Denot). IsComplete (kept (view z)) z.trail.literals) (sym k) ends.0;
+      proved = units-all (view m) (view y) (ready g h).well (none g h) (p.proved (none g h));
+    }
+
 pub returns-in-Err-clause-goes_on : goal.returns-in-Err-clause-goes_on
 returns-in-Err-clause-goes_on g c =
     let h = (goal.at.returns-in-Err-clause-goes_on g c).In_ok-propagated in
@@ -88,16 +103,6 @@ returns-in-Err-clause-conflict g c =
     let t = view c.prove_units.new.ctx in
     let ends = subst (λ r. MatchResult r (λ _. IsComplete (kept (view m)) m.trail.literals × (m.trail.queue_head ≡ length m.trail.literals)) (λ f. IsConflicting (view m) f)) c.in-Err.is c.in_ok-propagated.ensures.ends in
     still-conflicting (view m) t c.in-Err.conflict (c.in_ok-prove_units.ensures.proved (none g h)) ends
-
-pub unit_simplify-requires-clause-undecided : goal.unit_simplify-requires-clause-undecided
-unit_simplify-requires-clause-undecided g c =
-    let h = (goal.at.unit_simplify-requires-clause-undecided g c).In_ok-propagated in
-    ap (λ (y : Context g.row.A.Denot). y.trail.decisions) c.prove_units.ensures.kept ∙ none g h
-
-pub unit_simplify-requires-clause-proved : goal.unit_simplify-requires-clause-proved
-unit_simplify-requires-clause-proved g c =
-    let h = (goal.at.unit_simplify-requires-clause-proved g c).In_ok-propagated in
-    units-all (view (mid g h)) (view c.prove_units.new.ctx) (ready g h).well (none g h) (c.in_ok-prove_units.ensures.proved (none g h))
 
 pub returns-clause-goes_on : goal.returns-clause-goes_on
 returns-clause-goes_on g c =

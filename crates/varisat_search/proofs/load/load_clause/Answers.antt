@@ -139,4 +139,4 @@ returns-in_err-add_distinct-clause-full g c =
     let (room, same) = c.in_err-add_distinct.ensures.full h in
     let short = clause-short x.tmp_data.lits.items (length x.assignment.current) d.distinct (λ t. let b = c.in_ok-collect_distinct.ensures.tautology.1 t in absurd cc) (loading-inside d) in
     let count = ap length same in
-    (length x.tmp_data.lits.items, omega (arith, short, count), room))
+    omega (arith, room, short, count))

@@ -4,7 +4,7 @@ use Rattle.varisat_clause.specs.declared.header.Tier.TheVariants.{Local}
 use Rattle.varisat_clause.specs.Stores.{stored_clauses, HoldsClauses}
 use Rattle.varisat_trace.proofs.Traced.{can_take}
 use Rattle.varisat_search.specs.Seen.{search_of}
-use Rattle.varisat_search.specs.Simplifications.{deletion_lines}
+use Rattle.varisat_search.specs.Deletions.{unmarked_deletions}
 use Rattle.varisat_search.proofs.DeletedLocals.{locals-go, locals-prove}
 use Rattle.varisat_search.specs.declared.context.Context.{Context}
 use Rattle.varisat_search.specs.Contexts.{view}
@@ -12,9 +12,11 @@ use Rattle.varisat_clause.specs.Reductions.{ListsTier, AreRanked, unmarked_place
 use Rattle.varisat_analysis.specs.Reductions.{Discards}
 use Rattle.varisat_search.proofs.HeaderContexts.{store-view}
 use Rattle.varisat_search.proofs.DiscardedClauses.{reduces-discards, reduces-gone}
+use Rattle.varisat_search.specs.DueReductions.{DropsLocals}
+use Rattle.varisat_search.proofs.DueReductions.{discards-keep}
 use Rattle.varisat_search.proofs.ReducedContext.{first-known, discards-ready}
 use Rattle.varisat_search.proofs.reduce.reduce_locals.Given.{Over}
-use Rattle.varisat_search.proofs.reduce.reduce_locals.Goals.{After-delete_unmarked}
+use Rattle.varisat_search.proofs.reduce.reduce_locals.Goals.{After-delete_unmarked, After-disable}
 use Rattle.varisat_search.proofs.reduce.reduce_locals.Goals as goal
 use Rattle.varisat_trace.specs.Traces.{TakesLines}
 
@@ -29,7 +31,7 @@ trace_deletions-requires g c =
     record {
       sound = c.mark_reasons.ensures.marked.sound;
       listed = l.known;
-      able = can_take (g.P.ProofTracer.holds c.args.proof.now) 0 (search_of (view x)) _ (deletion_lines (stored_clauses marked) (unmarked_places (stored_clauses marked) (c.len-count.result / 2) c.deref.result.now)) c.requires.holds
+      able = can_take (g.P.ProofTracer.holds c.args.proof.now) 0 (search_of (view x)) _ (unmarked_deletions (stored_clauses marked) (c.len-count.result / 2) c.deref.result.now) c.requires.holds
           (locals-go (view x) x.clause_alloc marked c.deref.result.now (c.len-count.result / 2) c.requires.ready.well refl c.mark_reasons.ensures.marked l);
     }
 
@@ -56,31 +58,31 @@ reduces g c =
 abbrev after : (g : Over) (c : After-delete_unmarked g) → Context g.row.A.Denot
 after g c = record c.args.ctx.now { clause_alloc = c.delete_unmarked.new.alloc; clause_db = c.delete_unmarked.new.db }
 
--- the view does not read the watch lists
 abbrev discards : (g : Over) (c : After-delete_unmarked g) → Discards (view c.args.ctx.now) (view (after g c))
 discards g c =
     let x = c.args.ctx.now in
     reduces-discards (view x) x.clause_alloc c.mark_reasons.new.clause_alloc c.delete_unmarked.new.alloc c.requires.ready.well c.requires.ready.tracks.sound refl c.mark_reasons.ensures.marked (reduces g c) (view (after g c)) refl
     (store-view x (after g c) c.requires.ready.tracks.sound c.delete_unmarked.ensures.tracks.sound refl)
 
-pub returns-clause-discards : goal.returns-clause-discards
-returns-clause-discards g c = discards g (goal.at.returns-clause-discards g c).After-delete_unmarked
+-- the view does not read the watch lists
+abbrev last : (g : Over) (c : After-disable g) → Context g.row.A.Denot
+last g c = record c.args.ctx.now { clause_alloc = c.delete_unmarked.new.alloc; clause_db = c.delete_unmarked.new.db; watchlists = c.disable.new.self }
 
-pub returns-clause-proves : goal.returns-clause-proves
-returns-clause-proves g c =
-    let here = (goal.at.returns-clause-proves g c).After-delete_unmarked in
+pub returns-clause-keeps : goal.returns-clause-keeps
+returns-clause-keeps g c =
+    let end = (goal.at.returns-clause-keeps g c).After-disable in
+    let here = (goal.at.returns-clause-keeps g c).After-delete_unmarked in
     let x = c.args.ctx.now in
     let marked = c.mark_reasons.new.clause_alloc in
-    let whole : (n : ℕ) → n ≡ length c.deref-2.result.now → deletion_lines (stored_clauses marked) (unmarked_places (stored_clauses marked) (n / 2) c.deref.result.now) ≡ deletion_lines (stored_clauses marked) (unmarked_places (stored_clauses marked) (length c.deref-2.result.now / 2) c.deref-2.result.now) =
-    λ n e. ap (λ (m : ℕ). deletion_lines (stored_clauses marked) (unmarked_places (stored_clauses marked) (m / 2) c.deref.result.now)) e ∙ ap (λ (ps : List ℕ). deletion_lines (stored_clauses marked) (unmarked_places (stored_clauses marked) (length c.deref-2.result.now / 2) ps)) (c.deref.ensures.value ∙ sym c.deref-2.ensures.value) in
-    let gone = reduces-gone (view x) x.clause_alloc marked c.delete_unmarked.new.alloc c.requires.ready.well c.requires.ready.tracks.sound refl c.mark_reasons.ensures.marked (reduces g here) (view (after g here)) refl (store-view x (after g here) c.requires.ready.tracks.sound c.delete_unmarked.ensures.tracks.sound refl) in (
-      deletion_lines (stored_clauses marked) (unmarked_places (stored_clauses marked) (length c.deref-2.result.now / 2) c.deref-2.result.now),
-      locals-prove (view x) (view (after g here)) x.clause_alloc marked c.delete_unmarked.new.alloc c.requires.ready.well c.requires.ready.tracks.sound refl c.mark_reasons.ensures.marked (reduces g here) (discards g here) gone,
-      subst (λ (ls : List Line). TakesLines g.P.ProofTracer.takes c.args.proof.now ls c.trace_deletions.new.proof) (whole c.len-count.result (count-is g here)) (c.in_ok-trace_deletions.ensures {u = tt}),
-    )
-
-pub returns-clause-ready : goal.returns-clause-ready
-returns-clause-ready g c =
-    let here = (goal.at.returns-clause-ready g c).After-delete_unmarked in
+    let deletions : ℕ → List ℕ → List Line = λ n ps. unmarked_deletions (stored_clauses marked) (n / 2) ps in
+    let order = c.deref-2.result.now in
+    let whole : deletions c.len-count.result c.deref.result.now ≡ deletions (length order) order =
+    ap (λ n. deletions n c.deref.result.now) (count-is g here) ∙ ap (deletions (length order)) (c.deref.ensures.value ∙ sym c.deref-2.ensures.value) in
     let d = c.disable.ensures in
-    discards-ready c.args.ctx.now (record (after g here) { watchlists = c.disable.new.self }) c.requires.ready (discards g here) c.delete_unmarked.ensures.tracks d.count d.empty d.enabled refl
+    let sound = c.requires.ready.tracks.sound in
+    let drops : DropsLocals (deletions (length order) order) x (last g end) = record { marked = marked; marks = c.mark_reasons.ensures.marked; reduces = reduces g here; deletes = refl; discards = discards g here } in
+    let gone = reduces-gone (view x) x.clause_alloc marked c.delete_unmarked.new.alloc c.requires.ready.well sound refl c.mark_reasons.ensures.marked (reduces g here) (view (after g here)) refl (store-view x (after g here) sound c.delete_unmarked.ensures.tracks.sound refl) in
+    let proves = locals-prove (view x) (view (after g here)) x.clause_alloc marked c.delete_unmarked.new.alloc c.requires.ready.well sound refl c.mark_reasons.ensures.marked (reduces g here) (discards g here) gone in
+    discards-keep x (last g end) (discards-ready x (last g end) c.requires.ready (discards g here) c.delete_unmarked.ensures.tracks d.count d.empty d.enabled refl) refl
+    (λ lines. DropsLocals lines x (last g end) × TakesLines g.P.ProofTracer.takes c.args.proof.now lines c.trace_deletions.new.proof) (discards g here)
+    (deletions (length order) order, proves, (drops, subst (λ (ls : List Line). TakesLines g.P.ProofTracer.takes c.args.proof.now ls c.trace_deletions.new.proof) whole (c.in_ok-trace_deletions.ensures {u = tt})))

@@ -2,30 +2,33 @@ use Rattle.std.proofs.Common.{◌≡◌, ◌*◌, List, [], ◌++◌, length, �
 use Rattle.varisat_theory.specs.Derivations.{Line}
 use Rattle.varisat_prop.proofs.ViewGrowth.{append-nil}
 use Rattle.varisat_search.proofs.schedule.reduce_if_due.Given.{Over}
-use Rattle.varisat_search.proofs.schedule.reduce_if_due.Goals.{In_ok-reduce_locals_if_due}
+use Rattle.varisat_search.proofs.schedule.reduce_if_due.Goals.{In_ok-collect_garbage}
 use Rattle.std.proofs.lemmas.Bool.{cases_lt}
 use Rattle.varisat_search.specs.declared.context.Context.{Context}
+use Rattle.varisat_search.specs.DueReductions.{ReducesIfDue}
 use Rattle.varisat_search.proofs.DueReductions.{repacks-keep, keeps-same, keeps-trans}
 use Rattle.varisat_search.proofs.schedule.reduce_if_due.Goals as goal
 use Rattle.varisat_trace.specs.Traces.{TakesLines}
 
--- the lines that were taken
-abbrev taken : (g : Over) (c : In_ok-reduce_locals_if_due g) → List Line → Type 0
-taken g c lines = TakesLines g.P.ProofTracer.takes c.args.proof.now lines c.reduce_locals_if_due.new.proof
-
 nothing : {X : Type 0} (P : List X → Type 0) (first more : List X) → P first → more ≡ [] → P (first ++ more)
 nothing P first more h e = subst P (sym (ap (λ xs. first ++ xs) e ∙ append-nil first)) h
 
+-- the lines are those of the reductions, and were taken
+abbrev are : (g : Over) (c : In_ok-collect_garbage g) → List Line → Type 0
+are g c lines = ReducesIfDue lines c.args.ctx.now c.collect_garbage.new.ctx × TakesLines g.P.ProofTracer.takes c.args.proof.now lines c.reduce_locals_if_due.new.proof
+
 pub returns-clause-keeps : goal.returns-clause-keeps
 returns-clause-keeps g c =
-    let h = (goal.at.returns-clause-keeps g c).In_ok-reduce_locals_if_due in
+    let h = (goal.at.returns-clause-keeps g c).In_ok-collect_garbage in
     let l = c.reduce_locals_if_due.new.ctx in
     let m = c.reduce_mids_if_due.new.ctx in
     let z = c.collect_garbage.new.ctx in
     let e = c.in_ok-collect_garbage.ensures in
     let r = c.in_ok-reduce_mids_if_due.ensures.keeps.ready in
     let none : List Line → Type 0 = λ lines. lines ≡ [] in
-    keeps-trans c.args.ctx.now l z (taken g h) none (taken g h) (λ first more i j. nothing (taken g h) first more i j) c.in_ok-reduce_locals_if_due.ensures.keeps
+    keeps-trans c.args.ctx.now l z _ none (are g h)
+    (λ first more (i, t) j. nothing (are g h) first more (record { after_locals = l; after_mids = m; locals = i; mids = c.in_ok-reduce_mids_if_due.ensures.reduces; collected = record { collected = e.collected; repacks = e.repacks; stays = e.stays } }, t) j)
+    c.in_ok-reduce_locals_if_due.ensures.keeps
     (keeps-trans l m z none none none (λ first more i j. nothing none first more i j) c.in_ok-reduce_mids_if_due.ensures.keeps (⊎_elim
     (λ h. repacks-keep m z e.ready (ap (λ (x : Context g.row.A.Denot). x.vsids) c.collect_garbage.ensures.kept) r (e.repacks h))
     (λ h. keeps-same m z r (e.stays h))

@@ -7,7 +7,7 @@ use Rattle.varisat_clause.specs.Stores.{stored_clauses}
 use Rattle.varisat_clause.specs.Reductions.{unmarked_places}
 use Rattle.varisat_prop.proofs.ReadElements.{item-∈}
 use Rattle.varisat_trace.proofs.TracedParts.{TracesPart, part-same, part-able, part-next}
-use Rattle.varisat_search.specs.Simplifications.{deletion_lines}
+use Rattle.varisat_search.specs.Deletions.{deletion_lines}
 use Rattle.varisat_search.proofs.UnmarkedPlaces.{unmarked-zero, unmarked-passed, unmarked-one}
 use Rattle.varisat_search.proofs.trace.trace_deletions.Given.{Over}
 use Rattle.varisat_search.proofs.trace.trace_deletions.Goals.{After-lits}

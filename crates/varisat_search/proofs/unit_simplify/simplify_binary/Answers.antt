@@ -15,25 +15,25 @@ pub trace_pairs-requires : goal.trace_pairs-requires
 trace_pairs-requires g c =
     let x = c.args.ctx.now in
     let s = view x in
-    let n = c.requires.ready.propagated.binary in
-    let m = c.requires.ready.well.small in
+    let n = c.requires.can.ready.propagated.binary in
+    let m = c.requires.can.ready.well.small in
     record {
       small = omega (arith, n, m);
-      able = can_take (g.P.ProofTracer.holds c.args.proof.now) 0 (search_of s) _ (pair_lines s) c.requires.holds (pairs-prove s (at-units x c.requires.ready c.requires.undecided c.requires.complete c.requires.proved));
+      able = can_take (g.P.ProofTracer.holds c.args.proof.now) 0 (search_of s) _ (pair_lines s) c.requires.holds (pairs-prove s (at-units x c.requires.can));
     }
 
 pub simplify-requires : goal.simplify-requires
 simplify-requires g c =
-    let n = c.requires.ready.propagated.binary in
-    let m = c.requires.ready.well.small in
+    let n = c.requires.can.ready.propagated.binary in
+    let m = c.requires.can.ready.well.small in
     omega (arith, n, m)
 
 simplifies : (g : Over) (c : After-simplify g) → SimplifiesBinary c.args.ctx.now (record c.args.ctx.now { binary_clauses = c.simplify.new.self })
-simplifies g c = record { ready = c.requires.ready; undecided = c.requires.undecided; complete = c.requires.complete; units = c.requires.proved; binary = c.simplify.ensures; rest = refl }
+simplifies g c = record { can = c.requires.can; binary = c.simplify.ensures; rest = refl }
 
 pub returns-clause-proves : goal.returns-clause-proves
 returns-clause-proves g c =
-    binary-proves (simplifies g (goal.at.returns-clause-proves g c).After-simplify) (at-units c.args.ctx.now c.requires.ready c.requires.undecided c.requires.complete c.requires.proved)
+    binary-proves (simplifies g (goal.at.returns-clause-proves g c).After-simplify) (at-units c.args.ctx.now c.requires.can)
 
 pub returns-clause-ready : goal.returns-clause-ready
 returns-clause-ready g c = binary-ready (simplifies g (goal.at.returns-clause-ready g c).After-simplify)

@@ -18,25 +18,25 @@ use Rattle.varisat_search.proofs.SimplifiedBinary.{stored-prove, without-pair-li
 use Rattle.varisat_search.proofs.SimplifiedSearch.{IsAtUnits}
 use Rattle.varisat_search.proofs.SimplifiedContext.{Simplifies, at-units, live-open, joining, is-simplified, simplified-proves, simplified-decidable, simplified-ready}
 use Rattle.varisat_search.proofs.unit_simplify.simplify_stored.Given.{Over}
-use Rattle.varisat_search.proofs.unit_simplify.simplify_stored.Goals.{In_ok-trace_shortened, In_ok-filter_clauses, After-disable}
+use Rattle.varisat_search.proofs.unit_simplify.simplify_stored.Goals.{In_ok-trace_stored, In_ok-filter_clauses, After-disable}
 use Rattle.varisat_search.proofs.unit_simplify.simplify_stored.Goals as goal
 
-pub trace_shortened-requires : goal.trace_shortened-requires
-trace_shortened-requires g c =
+pub trace_stored-requires : goal.trace_stored-requires
+trace_stored-requires g c =
     let x = c.args.ctx.now in
     let s = view x in
-    let u = at-units x c.requires.ready c.requires.undecided c.requires.complete c.requires.proved in
+    let u = at-units x c.requires.can in
     record {
-      sound = c.requires.ready.tracks.sound;
-      in_range = λ d h. c.requires.ready.well.in_range d (∈-append_left d (literals_of s.clauses) (pairs_from 0 s.binary) h);
+      sound = c.requires.can.ready.tracks.sound;
+      in_range = λ d h. c.requires.can.ready.well.in_range d (∈-append_left d (literals_of s.clauses) (pairs_from 0 s.binary) h);
       able = can_take (g.P.ProofTracer.holds c.args.proof.now) 0 (search_of s) _ (clause_lines s) c.requires.holds (stored-prove s c.requires.left u);
     }
 
-at : (g : Over) (c : In_ok-trace_shortened g) → IsAtUnits (view c.args.ctx.now)
-at g c = at-units c.args.ctx.now c.requires.ready c.requires.undecided c.requires.complete c.requires.proved
+at : (g : Over) (c : In_ok-trace_stored g) → IsAtUnits (view c.args.ctx.now)
+at g c = at-units c.args.ctx.now c.requires.can
 
 pub filter_clauses-requires-clause-accepted : goal.filter_clauses-requires-clause-accepted
-filter_clauses-requires-clause-accepted g c = live-open c.args.ctx.now (at g (goal.at.filter_clauses-requires-clause-accepted g c).In_ok-trace_shortened)
+filter_clauses-requires-clause-accepted g c = live-open c.args.ctx.now (at g (goal.at.filter_clauses-requires-clause-accepted g c).In_ok-trace_stored)
 
 -- what the filter left
 abbrev IsLeft : List (Option Bool) → Store → Store → List Clause → List Clause → Type 0
@@ -52,7 +52,7 @@ left g c =
 pub add_pairs-requires : goal.add_pairs-requires
 add_pairs-requires g c =
     let here = goal.at.add_pairs-requires g c in
-    joining c.args.ctx.now (at g here.In_ok-trace_shortened) c.args.ctx.now.binary_clauses c.deref.result.now (sym c.requires.left)
+    joining c.args.ctx.now (at g here.In_ok-trace_stored) c.args.ctx.now.binary_clauses c.deref.result.now (sym c.requires.left)
     (c.deref.ensures.value ∙ (left g here.In_ok-filter_clauses).1 ∙ ap (λ (cs : List Clause). cs ++ left_pairs c.args.ctx.now.assignment.current (live_clauses c.args.ctx.now.clause_alloc)) c.new-2.ensures.items)
 
 -- the lists of what literals imply
@@ -67,22 +67,22 @@ abbrev after : (g : Over) (c : After-disable g) → Context g.row.A.Denot
 after g c = record c.args.ctx.now { binary_clauses = c.add_pairs.new.binary_clauses; clause_alloc = c.filter_clauses.new.alloc; clause_db = c.filter_clauses.new.db; watchlists = c.disable.new.self }
 
 simplifies : (g : Over) (c : After-disable g) → IsAtUnits (view c.args.ctx.now) → IsLeft c.args.ctx.now.assignment.current c.args.ctx.now.clause_alloc c.filter_clauses.new.alloc c.new-2.result.items c.filter_clauses.new.filter.pairs.items → Simplifies c.args.ctx.now (after g c)
-simplifies g c u l = record { ready = c.requires.ready; units = u; tracks = c.filter_clauses.ensures.tracks; clauses = l.0; binary = joined g c l; rest = refl }
+simplifies g c u l = record { ready = c.requires.can.ready; units = u; tracks = c.filter_clauses.ensures.tracks; clauses = l.0; binary = joined g c l; rest = refl }
 
 pub returns-clause-simplified : goal.returns-clause-simplified
-returns-clause-simplified g c = let here = goal.at.returns-clause-simplified g c in is-simplified (simplifies g here.After-disable (at g here.In_ok-trace_shortened) (left g here.In_ok-filter_clauses))
+returns-clause-simplified g c = let here = goal.at.returns-clause-simplified g c in is-simplified (simplifies g here.After-disable (at g here.In_ok-trace_stored) (left g here.In_ok-filter_clauses))
 
 pub returns-clause-ready : goal.returns-clause-ready
 returns-clause-ready g c =
     let here = goal.at.returns-clause-ready g c in
     let d = c.disable.ensures in
-    simplified-ready (simplifies g here.After-disable (at g here.In_ok-trace_shortened) (left g here.In_ok-filter_clauses)) d.empty d.enabled d.count
+    simplified-ready (simplifies g here.After-disable (at g here.In_ok-trace_stored) (left g here.In_ok-filter_clauses)) d.empty d.enabled d.count
 
 pub returns-clause-proves : goal.returns-clause-proves
 returns-clause-proves g c =
     let here = goal.at.returns-clause-proves g c in
     let x = c.args.ctx.now in
-    without-pair-lines (view x) c.requires.left (view (after g here.After-disable)) (simplified-proves (simplifies g here.After-disable (at g here.In_ok-trace_shortened) (left g here.In_ok-filter_clauses)))
+    without-pair-lines (view x) c.requires.left (view (after g here.After-disable)) (simplified-proves (simplifies g here.After-disable (at g here.In_ok-trace_stored) (left g here.In_ok-filter_clauses)))
 
 pub returns-clause-decidable : goal.returns-clause-decidable
-returns-clause-decidable g c = let here = goal.at.returns-clause-decidable g c in simplified-decidable (simplifies g here.After-disable (at g here.In_ok-trace_shortened) (left g here.In_ok-filter_clauses))
+returns-clause-decidable g c = let here = goal.at.returns-clause-decidable g c in simplified-decidable (simplifies g here.After-disable (at g here.In_ok-trace_stored) (left g here.In_ok-filter_clauses))

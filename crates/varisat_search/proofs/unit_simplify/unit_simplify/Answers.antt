@@ -7,14 +7,14 @@ use Rattle.varisat_trace.proofs.Traced.{lines-more, holds_on}
 use Rattle.varisat_search.specs.Contexts.{view}
 use Rattle.varisat_search.specs.Seen.{search_of}
 use Rattle.varisat_search.specs.Simplifications.{pair_lines, clause_lines}
-use Rattle.varisat_search.proofs.SimplifiedBinary.{SimplifiesBinary, binary-undecided, binary-complete, binary-units, binary-left, binary-lines, all-simplified, all-decidable}
+use Rattle.varisat_search.proofs.SimplifiedBinary.{SimplifiesBinary, binary-can, binary-left, binary-lines, all-simplified, all-decidable}
 use Rattle.varisat_search.proofs.unit_simplify.unit_simplify.Given.{Over}
 use Rattle.varisat_search.proofs.unit_simplify.unit_simplify.Goals.{In_ok-simplify_binary}
 use Rattle.varisat_search.proofs.unit_simplify.unit_simplify.Goals as goal
 
 -- the clauses of two literals are simplified first
 first : (g : Over) (c : In_ok-simplify_binary g) → SimplifiesBinary c.args.ctx.now c.simplify_binary.new.ctx
-first g c = record { ready = c.requires.ready; undecided = c.requires.undecided; complete = c.requires.complete; units = c.requires.proved; binary = c.in_ok-simplify_binary.ensures.simplified; rest = c.simplify_binary.ensures.kept }
+first g c = record { can = c.requires.can; binary = c.in_ok-simplify_binary.ensures.simplified; rest = c.simplify_binary.ensures.kept }
 
 pub simplify_stored-requires : goal.simplify_stored-requires
 simplify_stored-requires g c =
@@ -23,11 +23,8 @@ simplify_stored-requires g c =
     let y = c.simplify_binary.new.ctx in
     let e = c.in_ok-simplify_binary.ensures in
     record {
-      ready = e.ready;
+      can = binary-can d;
       holds = holds_on g.P.ProofTracer.holds g.P.ProofTracer.takes g.met.P.ProofTracer.holds_after c.args.proof.now c.simplify_binary.new.proof 0 (search_of (view x)) (search_of (view y)) (pair_lines (view x)) c.requires.holds e.proves e.takes;
-      undecided = binary-undecided d;
-      complete = binary-complete d;
-      proved = binary-units d;
       left = binary-left d;
     }
 

@@ -203,7 +203,7 @@ impl<A: Allocator + Copy> ClauseAlloc<A> {
     }
 
     /// Adds a clause of three or more literals behind the others. Its header's length is set. `Full` where the words
-    /// would be more than 2^32 - 1, and `Memory` where a growth was refused; nothing is changed then.
+    /// would be more than 2^32 - 1, and `Memory` where it is out of memory; nothing is changed then.
     pub fn add_clause(
         &mut self,
         header: ClauseHeader,

@@ -42,7 +42,7 @@ fn copy_clause<A: Allocator + Copy>(
 }
 
 /// A new store and its database with the clauses that are not deleted, in order and without their marks, one after
-/// another. The i-th of them is the i-th that is not deleted here. Fails where a growth was refused.
+/// another. The i-th of them is the i-th that is not deleted here. The only error is out of memory.
 pub fn collected<A: Allocator + Copy>(
     alloc: &ClauseAlloc<A>,
     db: &ClauseDb<A>,

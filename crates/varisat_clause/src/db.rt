@@ -237,7 +237,7 @@ impl<A: Allocator + Copy> ClauseDb<A> {
 }
 
 /// Adds a clause of three or more literals that is not deleted behind the others. `Full` where the words would be more
-/// than 2^32 - 1, and `Memory` where a growth was refused; nothing is changed then.
+/// than 2^32 - 1, and `Memory` where it is out of memory; nothing is changed then.
 pub fn add_clause<A: Allocator + Copy>(
     alloc: &mut ClauseAlloc<A>,
     db: &mut ClauseDb<A>,

@@ -20,7 +20,7 @@ fn is_live_in(header: ClauseHeader, tier: Tier) -> bool
     !header.deleted() && tier.index() == header.tier().index()
 }
 
-/// The clauses of the tier that are not deleted, in order. Fails where a growth was refused.
+/// The clauses of the tier that are not deleted, in order. The only error is out of memory.
 pub fn clauses_of_tier<A: Allocator + Copy>(
     alloc: &ClauseAlloc<A>,
     tier: Tier,
@@ -130,8 +130,8 @@ fn sort_by_rank<A: Allocator + Copy>(alloc: &ClauseAlloc<A>, list: &mut [ClauseR
     list.sort_unstable_by_key(|cref| alloc.rank(*cref));
 }
 
-/// The Local clauses that are not deleted, the least active first, and of equally active ones the first. Fails where a
-/// growth was refused.
+/// The Local clauses that are not deleted, the least active first, and of equally active ones the first. The only
+/// error is out of memory.
 pub fn ranked_locals<A: Allocator + Copy>(
     alloc: &ClauseAlloc<A>,
 ) -> Result<Vec<ClauseRef, A>, AllocError>

@@ -60,6 +60,7 @@ impl<A: Allocator + Copy> DimacsParser<A> {
     }
 
     /// Reads the token that ends here, if there is one.
+    // Each blank comes here, and mostly there is a token, which stands in registers then.
     #[inline(always)]
     fn end_token(&mut self, word: Word) -> Result<(), AllocError>
         requires { self.old.reading.fault ≡ None }

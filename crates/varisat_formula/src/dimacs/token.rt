@@ -58,7 +58,8 @@ fn grown(number: u64, digit: u64) -> Digits
     if number == 0 {
         return Digits::NoNumber;
     }
-    // What a clause names is far below, and needs no wide product.
+    // Each number that names a variable is below 2^32, where the product fits. Only longer ones, which are faults, pay for a
+    // product of 128 bits.
     if number < 0x1_0000_0000 {
         return Digits::Number(number * 10 + digit);
     }

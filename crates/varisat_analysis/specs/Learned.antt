@@ -121,7 +121,8 @@ pub record IsAsserting (s : View) (f : Conflict) (c : Clause) (level : ℕ) : Ty
 abbrev pub IsOfKept : View → Literal → Type 0
 IsOfKept s m = (c : Clause) × (c ∈ kept s) × (m ∈ c)
 
--- The clause that a conflict teaches: it follows from whatever clauses a proof holds, its literals are those of kept clauses, and it is the empty one at level 0.
+-- The clause that a conflict teaches: it follows from whatever clauses a proof holds, its literals are those of kept clauses,
+-- and it is the empty one at level 0.
 pub record IsLearned (s : View) (f : Conflict) (c : Clause) (level : ℕ) : Type 0 where
   pub follows : (held : List Clause) → ViewFits held s → Follows held c
   pub of_kept : (m : Literal) → m ∈ c → IsOfKept s m

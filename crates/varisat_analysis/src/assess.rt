@@ -122,7 +122,7 @@ pub fn bump_clause<A: Allocator + Copy>(
     Ok(())
 }
 
-/// Each named clause of the store takes part in a conflict, in turn. Fails where a growth is refused.
+/// Each named clause of the store takes part in a conflict, in turn. The only error is out of memory.
 pub fn bump_named<A: Allocator + Copy>(
     alloc: &mut ClauseAlloc<A>,
     db: &mut ClauseDb<A>,

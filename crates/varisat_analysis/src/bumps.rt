@@ -25,7 +25,7 @@ fn bump_literal<A: Allocator + Copy>(
     ensures count { length vsids.new.activity ≡ length vsids.old.activity }
 {
     let var = lit.var();
-    // The flag first, since it takes a byte, and a node many.
+    // The flag first: it is one byte, and the level stands in a node of the graph, which is often not in the cache.
     if flags[var.index()] {
         return;
     }

@@ -64,6 +64,48 @@ fn the_most_active_come_first(rt: HostRuntime) -> Result<(), AllocError> {
     Ok(())
 }
 
+/// Whether three bumps after a decay by a quarter stay below four before it. The increment is 2^20 at first and then 4/3 of it,
+/// rounded down: rounded up, three would come to more.
+fn is_rounded_down(vsids: &mut Vsids<Global>) -> bool
+    requires count { length vsids.old.activity ≡ 8 }
+{
+    vsids.make_unavailable(Var::from_index(7));
+    vsids.make_unavailable(Var::from_index(6));
+    vsids.make_unavailable(Var::from_index(5));
+    vsids.decay();
+    bump_times(vsids, 0, 3);
+    come(vsids, &[4, 0, 3])
+}
+
+#[test]
+fn an_increment_is_rounded_down(rt: HostRuntime) -> Result<(), AllocError> {
+    let mut vsids = eight(rt.alloc(), 750)?;
+    let is_right = is_rounded_down(&mut vsids);
+    drop(vsids);
+    assert!(rt; is_right);
+    Ok(())
+}
+
+/// Whether variables are available only once that is said.
+fn is_told(vsids: &mut Vsids<Global>) -> Result<bool, AllocError>
+    requires { length vsids.old.activity ≡ 0 }
+{
+    vsids.set_var_count(2)?;
+    let none = vsids.next().is_none();
+    vsids.make_available(Var::from_index(1));
+    let one = next_index(vsids) == Some(1);
+    Ok(none & one & vsids.next().is_none())
+}
+
+#[test]
+fn new_variables_are_not_available(rt: HostRuntime) -> Result<(), AllocError> {
+    let mut vsids = Vsids::new_in(rt.alloc());
+    let told = is_told(&mut vsids);
+    drop(vsids);
+    assert!(rt; matches!(told, Ok(true)));
+    Ok(())
+}
+
 /// Whether the variables that are bumped later overtake those that were bumped more often.
 fn later_bumps_count(vsids: &mut Vsids<Global>) -> bool
     requires count { length vsids.old.activity ≡ 8 }

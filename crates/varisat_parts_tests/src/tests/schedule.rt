@@ -56,6 +56,8 @@ const RESTARTS: &[Row] = &[
     (128, 128, 641, &[0, 128, 256, 512, 640]),
     // A scale counts from the next point.
     (128, 10, 200, &[0, 128, 138, 158, 168, 178, 198]),
+    // Neighbouring points may be one step apart.
+    (1, 1, 13, &[0, 1, 2, 4, 5, 6, 8, 12]),
     // The largest scale restarts once.
     (u64::MAX, u64::MAX, 100, &[0]),
 ];

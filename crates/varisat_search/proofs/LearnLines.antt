@@ -13,7 +13,7 @@ use Rattle.varisat_prop.specs.declared.prop.graph.Reason.TheVariants as reason
 use Rattle.varisat_prop.specs.declared.prop.graph.Conflict.{Conflict}
 use Rattle.varisat_clause.specs.Stored.{AreReordered}
 use Rattle.varisat_prop.specs.Watches.{Watches, IsPropagated}
-use Rattle.varisat_prop.specs.View.{View, IsTrueIn, kept, is_clause, decision_at, node_of, level_of, WellFormed, LevelsSettled, IsFixed, ViewFits}
+use Rattle.varisat_prop.specs.View.{View, kept, is_clause, decision_at, node_of, level_of, WellFormed, LevelsSettled, IsFixed, ViewFits}
 use Rattle.varisat_prop.specs.Changes.{enqueued}
 use Rattle.varisat_clause.proofs.StoredClauses.{reordered-refl}
 use Rattle.varisat_prop.proofs.TrailExtend.{literal-new, node-new, node-other, fresh, true-old, true-new}

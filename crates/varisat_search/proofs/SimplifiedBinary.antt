@@ -1,18 +1,15 @@
 -- The clauses of two literals are simplified, and then those of the store.
-use Rattle.std.proofs.Common.{◌≡◌, ℕ, suc, ◌<◌, Bool, true, false, not, Option, List, [], ◌∷◌, ◌++◌, length, map, cond, inl, inr, ⊎_elim, refl, sym, ap, ◌∙◌, subst}
+use Rattle.std.proofs.Common.{◌≡◌, ℕ, suc, Bool, true, false, not, Option, List, [], ◌∷◌, ◌++◌, map, cond, ⊎_elim, refl, sym, ap, ◌∙◌, subst}
 use Rattle.std.specs.List.{filter}
-use Rattle.std.proofs.lemmas.List.{append-nil}
 use Rattle.varisat_theory.specs.Membership.{◌∈◌}
 use Rattle.varisat_theory.specs.Literals.{Literal, Clause}
 use Rattle.varisat_theory.specs.Propagation.{IsComplete}
 use Rattle.varisat_theory.specs.Derivations.{Line, Delete}
-use Rattle.varisat_theory.specs.Searches.{KeptClause}
 use Rattle.varisat_theory.specs.Outcomes.{Proves}
 use Rattle.varisat_theory.proofs.Members.{∈-append_left, ∈-append_right, ∈-append_cases}
 use Rattle.varisat_clause.specs.Stored.{literals_of}
 use Rattle.varisat_clause.specs.Databases.{Tracks}
-use Rattle.varisat_prop.specs.declared.prop.graph.Reason.TheVariants as reason
-use Rattle.varisat_prop.specs.View.{View, pairs_from, kept, literal_at, node_at, IsReason, WellFormed, LevelsSettled}
+use Rattle.varisat_prop.specs.View.{View, pairs_from, kept, literal_at, IsReason, WellFormed, LevelsSettled}
 use Rattle.varisat_prop.specs.Simplified.{is_unassigned, are_unassigned, unassigned_implied, unassigned_from, without_assigned}
 use Rattle.varisat_prop.specs.Watches.{Watches, IsPropagated}
 use Rattle.varisat_prop.proofs.WellFormedChanges.{kept-may, well-kept}

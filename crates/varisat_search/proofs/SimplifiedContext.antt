@@ -2,7 +2,6 @@
 use Rattle.std.proofs.Common.{◌≡◌, Bool, true, false, List, [], ◌++◌, length, refl, sym, ap, ap₂, ◌∙◌, subst}
 use Rattle.varisat_theory.specs.Membership.{◌∈◌}
 use Rattle.varisat_theory.specs.Literals.{Literal, Clause}
-use Rattle.varisat_theory.specs.Propagation.{IsComplete}
 use Rattle.varisat_theory.specs.Outcomes.{Proves}
 use Rattle.varisat_clause.specs.Stored.{StoredClause}
 use Rattle.varisat_clause.specs.Stores.{stored_clauses}
@@ -11,10 +10,10 @@ use Rattle.varisat_clause.specs.Collected.{live_clauses}
 use Rattle.varisat_clause.proofs.LiveStore.{∈-live, are-live-long}
 use Rattle.varisat_clause.proofs.StoreSound.{sound-is}
 use Rattle.varisat_prop.specs.Simplified.{without_assigned}
-use Rattle.varisat_prop.specs.View.{View, kept, WellFormed, LevelsSettled}
+use Rattle.varisat_prop.specs.View.{View, WellFormed, LevelsSettled}
 use Rattle.varisat_prop.specs.Watches.{watches_of, IsPropagated}
 use Rattle.varisat_prop.proofs.SimplifiedPairs.{unassigned-none}
-use Rattle.varisat_prop.proofs.SimplifiedView.{HasUnits, simplified, settled-undecided, propagated-unassigned}
+use Rattle.varisat_prop.proofs.SimplifiedView.{simplified, settled-undecided, propagated-unassigned}
 use Rattle.varisat_search.specs.declared.context.Context.{Context}
 use Rattle.varisat_search.specs.Contexts.{view, IsReady}
 use Rattle.varisat_search.specs.Decisions.{CanDecide, SameDecidable}

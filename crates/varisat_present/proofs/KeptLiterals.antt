@@ -15,7 +15,8 @@ use Rattle.varisat_present.specs.Knowing.{AreImplied, Keeps, Settles, TakesBase,
 use Rattle.varisat_present.proofs.KnownGrowth.{complete_both, grows_part, cut_back}
 
 -- 1. A clause joins.
-pub keeps_added : (b now : Bool) (P : List Clause) (c : Clause) (known : List Literal) → Keeps b P known → (now ≡ true → (b ≡ true) × IsComplete (c ∷ []) known) → Keeps now (P ++ (c ∷ [])) known
+pub keeps_added : (b now : Bool) (P : List Clause) (c : Clause) (known : List Literal) → Keeps b P known →
+    (now ≡ true → (b ≡ true) × IsComplete (c ∷ []) known) → Keeps now (P ++ (c ∷ [])) known
 keeps_added b now P c known k h = record {
   no_clash = k.no_clash;
   implied = λ l m. implied_more P (P ++ (c ∷ [])) [] [] l (λ x i. ∈-append_left x P (c ∷ []) i) (λ x i. i) (k.implied l m);
@@ -32,13 +33,15 @@ implied_is_known P known s l (Known m) = absurd m
 implied_is_known P known s l (ByReason c i j h) =
     s.complete.closed c l i j (λ m k. ⊎_elim inl (λ n. inr (implied_is_known P known s (opposite m) (h m k n))) (equal_or_not m l))
 
-replaced : (Q : List Clause) (c : Clause) (known : List Literal) (l : Literal) → IsSpare Q known c → ((m : Literal) → m ∈ c → m ≢ l → opposite m ∈ known) → Implied Q [] l
+replaced : (Q : List Clause) (c : Clause) (known : List Literal) (l : Literal) → IsSpare Q known c → ((m : Literal) → m ∈ c → m ≢ l → opposite m ∈ known) →
+    Implied Q [] l
 replaced Q c known l (inl (x, y, i, j, d, a, b)) f =
     ⊎_elim (λ e. absurd (b (f y j (λ g. d (e ∙ sym g))))) (λ n. absurd (a (f x i n))) (equal_or_not x l)
 replaced Q c known l (inr (x, u, i, a, v, w)) f =
     ⊎_elim (λ e. ByReason u v (subst (λ y. y ∈ u) e w.0) (λ m k n. absurd (n (w.1 m k ∙ e)))) (λ n. absurd (a (f x i n))) (equal_or_not x l)
 
-spare_implied : (P Q : List Clause) (c d : Clause) (known : List Literal) → IsSaturated P known → ((x : Clause) → x ∈ P → (x ∈ Q) ⊎ (x ≡ d)) → c ⊆ d → IsSpare Q known c → (l : Literal) → Implied P [] l → Implied Q [] l
+spare_implied : (P Q : List Clause) (c d : Clause) (known : List Literal) → IsSaturated P known → ((x : Clause) → x ∈ P → (x ∈ Q) ⊎ (x ≡ d)) → c ⊆ d →
+    IsSpare Q known c → (l : Literal) → Implied P [] l → Implied Q [] l
 spare_implied P Q c d known s q t w l (Known m) = absurd m
 spare_implied P Q c d known s q t w l (ByReason x i j h) =
     ⊎_elim
@@ -47,7 +50,8 @@ spare_implied P Q c d known s q t w l (ByReason x i j h) =
     (q x i)
 
 deleted_part : (P : List Clause) (c : Clause) (Q : List Clause) → TakesOut P c Q → Q ⊆ P
-deleted_part P c Q t = λ x m. subst (λ l. x ∈ l) (sym t.3) (⊎_elim (λ a. ∈-append_left x t.0 (t.1 ∷ t.2) a) (λ b. ∈-append_right x t.0 (t.1 ∷ t.2) (inr b)) (∈-append_cases x t.0 t.2 (subst (λ l. x ∈ l) t.5 m)))
+deleted_part P c Q t = λ x m. subst (λ l. x ∈ l) (sym t.3) (⊎_elim (λ a. ∈-append_left x t.0 (t.1 ∷ t.2) a) (λ b. ∈-append_right x t.0 (t.1 ∷ t.2) (inr b))
+    (∈-append_cases x t.0 t.2 (subst (λ l. x ∈ l) t.5 m)))
 
 left_cases : (P : List Clause) (c : Clause) (Q : List Clause) (t : TakesOut P c Q) → (x : Clause) → x ∈ P → (x ∈ Q) ⊎ (x ≡ t.1)
 left_cases P c Q t = λ x m.
@@ -56,7 +60,8 @@ left_cases P c Q t = λ x m.
     (λ a. ⊎_elim inr (λ b. inl (subst (λ l. x ∈ l) (sym t.5) (∈-append_right x t.0 t.2 b))) a)
     (∈-append_cases x t.0 (t.1 ∷ t.2) (subst (λ l. x ∈ l) t.3 m))
 
-pub keeps_without : (b : Bool) (P Q : List Clause) (c : Clause) (known : List Literal) → b ≡ true → TakesOut P c Q → IsSpare Q known c → Keeps b P known → Keeps b Q known
+pub keeps_without : (b : Bool) (P Q : List Clause) (c : Clause) (known : List Literal) → b ≡ true → TakesOut P c Q → IsSpare Q known c → Keeps b P known →
+    Keeps b Q known
 keeps_without b P Q c known e t w k =
     let s = k.settled e in
     record {
@@ -66,7 +71,8 @@ keeps_without b P Q c known e t w k =
     }
 
 -- 4. What the clauses alone imply.
-pub keeps_found : (b : Bool) (P : List Clause) (old new : List Literal) (found now : Bool) → Keeps b P old → Settles P old found new → (now ≡ true → found ≡ false) → Keeps now P new
+pub keeps_found : (b : Bool) (P : List Clause) (old new : List Literal) (found now : Bool) → Keeps b P old → Settles P old found new →
+    (now ≡ true → found ≡ false) → Keeps now P new
 keeps_found b P old new found now k s h = record {
   no_clash = s.finds.grows.no_clash;
   implied = s.finds.grows.implied [] k.implied;
@@ -99,23 +105,29 @@ asks_clash P old base new h a =
       right = answers_true _ (implied_clash P base l (Known i) (from_base P old base new true h a (opposite l) o));
     }
 
-asks_right : (P : List Clause) (old base mid new : List Literal) (found : Bool) → AreImplied P [] old → TakesBase old base false mid → Settles P mid found new → IsTrue found ↔ Conflicts P base
-asks_right P old base mid new true h a s = answers_true _ (implied_known P base new (s.finds.grows.implied base (from_base P old base mid false h a)) (s.finds.conflict refl))
-asks_right P old base mid new false h a s = answers_false _ (saturated_no_conflict P base new (s.saturated refl) (λ l m. grows_part P mid new s.finds.grows l (a.all refl l m)))
+asks_right : (P : List Clause) (old base mid new : List Literal) (found : Bool) → AreImplied P [] old → TakesBase old base false mid →
+    Settles P mid found new → IsTrue found ↔ Conflicts P base
+asks_right P old base mid new true h a s = answers_true _ (implied_known P base new (s.finds.grows.implied base (from_base P old base mid false h a))
+    (s.finds.conflict refl))
+asks_right P old base mid new false h a s = answers_false _ (saturated_no_conflict P base new (s.saturated refl)
+    (λ l m. grows_part P mid new s.finds.grows l (a.all refl l m)))
 
-pub asks_settled : (P : List Clause) (old base mid new : List Literal) (found : Bool) → AreImplied P [] old → TakesBase old base false mid → Settles P mid found new → Asks P old base found new
+pub asks_settled : (P : List Clause) (old base mid new : List Literal) (found : Bool) → AreImplied P [] old → TakesBase old base false mid →
+    Settles P mid found new → Asks P old base found new
 asks_settled P old base mid new found h a s = record {
   more = a.more ++ s.finds.grows.more;
   joined = s.finds.grows.joined ∙ ap (λ x. x ++ s.finds.grows.more) a.joined ∙ append_assoc old a.more s.finds.grows.more;
   right = asks_right P old base mid new found h a s;
 }
 
-pub keeps_cut : (b : Bool) (P : List Clause) (old base new : List Literal) (found : Bool) (n : ℕ) → n ≡ length old → Keeps b P old → Asks P old base found new → Keeps b P (take n new)
+pub keeps_cut : (b : Bool) (P : List Clause) (old base new : List Literal) (found : Bool) (n : ℕ) → n ≡ length old → Keeps b P old →
+    Asks P old base found new → Keeps b P (take n new)
 keeps_cut b P old base new found n e k a =
     subst (λ (x : List Literal). Keeps b P x) (sym (ap (λ i. take i new) e ∙ cut_back old new a.more a.joined)) k
 
 -- 6. Rewritten.
-pub spare_left : (P : List Clause) (known : List Literal) (c : Clause) (code l : Literal) → l ≡ code → (code ∈ c) × (opposite code ∈ known → ⊥) × LeavesOnly known c code → ((d : Clause) × (d ∈ P) × IsUnit l d) → IsSpare P known c
+pub spare_left : (P : List Clause) (known : List Literal) (c : Clause) (code l : Literal) → l ≡ code → (code ∈ c) × (opposite code ∈ known → ⊥)
+    × LeavesOnly known c code → ((d : Clause) × (d ∈ P) × IsUnit l d) → IsSpare P known c
 spare_left P known c code l q w u = inr (code, u.0, w.0, w.1, u.1, subst (λ (x : Literal). IsUnit x u.0) q u.2)
 
 pub not_true : (b : Bool) → not b ≡ true → b ≡ false
@@ -125,5 +137,7 @@ not_true false e = refl
 pub settles_there : (P Q : List Clause) (old new : List Literal) (found : Bool) → P ≡ Q → Settles P old found new → Settles Q old found new
 settles_there P Q old new found e s = subst (λ (x : List Clause). Settles x old found new) e s
 
-pub found_there : (P Q : List Clause) (base other : List Literal) (found : Bool) → P ≡ Q → base ≡ other → IsTrue found ↔ Conflicts P base → IsTrue found ↔ Conflicts Q other
-found_there P Q base other found e f h = subst (λ (x : List Clause). IsTrue found ↔ Conflicts x other) e (subst (λ (b : List Literal). IsTrue found ↔ Conflicts P b) f h)
+pub found_there : (P Q : List Clause) (base other : List Literal) (found : Bool) → P ≡ Q → base ≡ other → IsTrue found ↔ Conflicts P base →
+    IsTrue found ↔ Conflicts Q other
+found_there P Q base other found e f h = subst (λ (x : List Clause). IsTrue found ↔ Conflicts x other) e
+    (subst (λ (b : List Literal). IsTrue found ↔ Conflicts P b) f h)

@@ -16,19 +16,24 @@ use Rattle.varisat_present.specs.Knowing.{AreImplied, GrowsKnown, Finds, Settles
 no_clash_joined : (known : List Literal) (l : Literal) → (HasClash known → ⊥) → (opposite l ∈ known → ⊥) → HasClash (known ++ (l ∷ [])) → ⊥
 no_clash_joined known l n o w =
     ⊎_elim
-    (λ a. ⊎_elim (λ b. n (w.0, a, b)) (λ b. ⊎_elim (λ e. o (subst (λ y. y ∈ known) (sym (opposite_twice w.0) ∙ ap opposite e) a)) (λ z. z) b) (∈-append_cases (opposite w.0) known (l ∷ []) w.2))
-    (λ a. ⊎_elim (λ e. ⊎_elim (λ b. o (subst (λ y. opposite y ∈ known) e b)) (λ b. ⊎_elim (λ f. never_its_own w.0 (f ∙ sym e)) (λ z. z) b) (∈-append_cases (opposite w.0) known (l ∷ []) w.2)) (λ z. z) a)
+    (λ a. ⊎_elim (λ b. n (w.0, a, b)) (λ b. ⊎_elim (λ e. o (subst (λ y. y ∈ known) (sym (opposite_twice w.0) ∙ ap opposite e) a)) (λ z. z) b)
+    (∈-append_cases (opposite w.0) known (l ∷ []) w.2))
+    (λ a. ⊎_elim (λ e. ⊎_elim (λ b. o (subst (λ y. opposite y ∈ known) e b)) (λ b. ⊎_elim (λ f. never_its_own w.0 (f ∙ sym e)) (λ z. z) b)
+    (∈-append_cases (opposite w.0) known (l ∷ []) w.2)) (λ z. z) a)
     (∈-append_cases w.0 known (l ∷ []) w.1)
 
-implied_joined : (P : List Clause) (known : List Literal) (c : Clause) (l : Literal) → c ∈ P → l ∈ c → LeavesOnly known c l → (base : List Literal) → AreImplied P base known → AreImplied P base (known ++ (l ∷ []))
+implied_joined : (P : List Clause) (known : List Literal) (c : Clause) (l : Literal) → c ∈ P → l ∈ c → LeavesOnly known c l → (base : List Literal) →
+    AreImplied P base known → AreImplied P base (known ++ (l ∷ []))
 implied_joined P known c l i j u base h = λ x m.
-    ⊎_elim (h x) (λ a. ⊎_elim (λ e. subst (Implied P base) (sym e) (ByReason c i j (λ y k d. ⊎_elim (λ q. absurd (d q)) (λ o. h (opposite y) o) (u y k)))) (λ z. absurd z) a) (∈-append_cases x known (l ∷ []) m)
+    ⊎_elim (h x) (λ a. ⊎_elim (λ e. subst (Implied P base) (sym e) (ByReason c i j (λ y k d. ⊎_elim (λ q. absurd (d q)) (λ o. h (opposite y) o) (u y k))))
+    (λ z. absurd z) a) (∈-append_cases x known (l ∷ []) m)
 
 -- 2. Growth.
 pub grows_none : (P : List Clause) (known : List Literal) → (HasClash known → ⊥) → GrowsKnown P known known
 grows_none P known n = record { more = []; joined = sym (append-nil known); no_clash = n; implied = λ base h. h }
 
-pub grows_by : (P : List Clause) (known new : List Literal) (c : Clause) (l : Literal) → (HasClash known → ⊥) → c ∈ P → l ∈ c → (opposite l ∈ known → ⊥) → LeavesOnly known c l → new ≡ known ++ (l ∷ []) → GrowsKnown P known new
+pub grows_by : (P : List Clause) (known new : List Literal) (c : Clause) (l : Literal) → (HasClash known → ⊥) → c ∈ P → l ∈ c → (opposite l ∈ known → ⊥) →
+    LeavesOnly known c l → new ≡ known ++ (l ∷ []) → GrowsKnown P known new
 grows_by P known new c l n i j o u e = record {
   more = l ∷ [];
   joined = e;
@@ -70,7 +75,8 @@ finds_no_more P old new g = record { grows = g; conflict = λ e. absurd cc }
 pub finds_conflict : (P : List Clause) (old : List Literal) → (HasClash old → ⊥) → Conflicts P old → Finds P old true old
 finds_conflict P old n k = record { grows = grows_none P old n; conflict = λ e. k }
 
-pub finds_left : (P : List Clause) (old new : List Literal) (l : Literal) → (HasClash old → ⊥) → LeavesNew P old l → new ≡ old ++ (l ∷ []) → Finds P old false new
+pub finds_left : (P : List Clause) (old new : List Literal) (l : Literal) → (HasClash old → ⊥) → LeavesNew P old l → new ≡ old ++ (l ∷ []) →
+    Finds P old false new
 finds_left P old new l n w e = finds_no_more P old new (grows_by P old new w.clause l n w.is_present w.holds w.not_false w.leaves e)
 
 pub finds_found : (P : List Clause) (a b c : List Literal) → GrowsKnown P a b → GrowsKnown P b c → Conflicts P c → Finds P a true c
@@ -83,13 +89,16 @@ finds_on P a b c found g f = record { grows = grows_on P a b c g f.grows; confli
 pub visit_conflict : (P : List Clause) (known : List Literal) (c : Clause) (l : Literal) → c ∈ P → LeavesOnly known c l → opposite l ∈ known → Conflicts P known
 visit_conflict P known c l i u o = FalseClause c i (λ m j. ⊎_elim (λ e. subst (λ x. opposite x ∈ known) (sym e) o) (λ h. h) (u m j))
 
-pub other_more : (known : List Literal) (c : Clause) (i l : ℕ) → LeavesOnly known (take i c) l → (get_or c i 0 ≡ l) ⊎ (opposite (get_or c i 0) ∈ known) → LeavesOnly known (take (i + 1) c) l
-other_more known c i l u h = λ m j. ⊎_elim (u m) (λ e. ⊎_elim (λ a. inl (e ∙ a)) (λ a. inr (subst (λ x. opposite x ∈ known) (sym e) a)) h) (∈-take_more m c i 0 j)
+pub other_more : (known : List Literal) (c : Clause) (i l : ℕ) → LeavesOnly known (take i c) l → (get_or c i 0 ≡ l) ⊎ (opposite (get_or c i 0) ∈ known) →
+    LeavesOnly known (take (i + 1) c) l
+other_more known c i l u h = λ m j. ⊎_elim (u m) (λ e. ⊎_elim (λ a. inl (e ∙ a)) (λ a. inr (subst (λ x. opposite x ∈ known) (sym e) a)) h)
+    (∈-take_more m c i 0 j)
 
 pub other_all : (known : List Literal) (c : Clause) (i l : ℕ) → length c ≤ i → LeavesOnly known (take i c) l → LeavesOnly known c l
 other_all known c i l h u = λ m j. u m (∈-take_all m c i h j)
 
-pub leaves_new : (P : List Clause) (known : List Literal) (c : Clause) (l : Literal) → c ∈ P → l ∈ c → LeavesOnly known c l → (opposite l ∈ known → ⊥) → (l ∈ known → ⊥) → LeavesNew P known l
+pub leaves_new : (P : List Clause) (known : List Literal) (c : Clause) (l : Literal) → c ∈ P → l ∈ c → LeavesOnly known c l → (opposite l ∈ known → ⊥) →
+    (l ∈ known → ⊥) → LeavesNew P known l
 leaves_new P known c l i j u o n = record { clause = c; is_present = i; holds = j; leaves = u; not_false = o; is_new = n }
 
 quiet_complete : (known : List Literal) (c : Clause) → IsQuiet known c → IsComplete (c ∷ []) known
@@ -98,10 +107,12 @@ quiet_complete known c q = record {
   closed = λ d l h i u. ⊎_elim (λ e. q.closed l (subst (λ y. l ∈ y) e i) (subst (λ y. LeavesOnly known y l) e u)) (λ z. absurd z) h;
 }
 
-pub complete_left : (known : List Literal) (c : Clause) (l : Literal) → (l ∈ c) × (opposite l ∈ known → ⊥) × LeavesOnly known c l → l ∈ known → IsComplete (c ∷ []) known
+pub complete_left : (known : List Literal) (c : Clause) (l : Literal) → (l ∈ c) × (opposite l ∈ known → ⊥) × LeavesOnly known c l → l ∈ known →
+    IsComplete (c ∷ []) known
 complete_left known c l w k = quiet_complete known c (quiet_known known known c l refl k w)
 
-pub complete_open : (known : List Literal) (c : Clause) → ((m n : Literal) × (m ∈ c) × (n ∈ c) × (m ≢ n) × (opposite m ∈ known → ⊥) × (opposite n ∈ known → ⊥)) → IsComplete (c ∷ []) known
+pub complete_open : (known : List Literal) (c : Clause) → ((m n : Literal) × (m ∈ c) × (n ∈ c) × (m ≢ n) × (opposite m ∈ known → ⊥)
+    × (opposite n ∈ known → ⊥)) → IsComplete (c ∷ []) known
 complete_open known c w = quiet_complete known c (quiet_open known known c refl w)
 
 -- 5. A pass over all clauses.
@@ -118,10 +129,12 @@ pub record Round (P : List Clause) (first known : List Literal) (passed : List C
 pub round_start : (P : List Clause) (known : List Literal) → (HasClash known → ⊥) → Round P known known []
 round_start P known n = record { grows = grows_none P known n; rest = inl (refl, record { no_false = λ f. absurd f.1; closed = λ c l h i u. absurd h }) }
 
-pub round_same : (P : List Clause) (first known : List Literal) (passed passed' : List Clause) → passed' ≡ passed → Round P first known passed → Round P first known passed'
+pub round_same : (P : List Clause) (first known : List Literal) (passed passed' : List Clause) → passed' ≡ passed → Round P first known passed →
+    Round P first known passed'
 round_same P first known passed passed' e r = subst (λ (x : List Clause). Round P first known x) (sym e) r
 
-pub round_on : (P : List Clause) (first known known' : List Literal) (passed passed' : List Clause) (c : Clause) → c ∈ P → passed' ≡ passed ++ (c ∷ []) → Round P first known passed → IsPassed c known false known' → Round P first known' passed'
+pub round_on : (P : List Clause) (first known known' : List Literal) (passed passed' : List Clause) (c : Clause) → c ∈ P → passed' ≡ passed ++ (c ∷ []) →
+    Round P first known passed → IsPassed c known false known' → Round P first known' passed'
 round_on P first known known' passed passed' c i e r (inl w) =
     subst (λ (k : List Literal). Round P first k passed') (sym w.0) (subst (λ (x : List Clause). Round P first known x) (sym e) record {
       grows = r.grows;
@@ -134,7 +147,8 @@ round_on P first known known' passed passed' c i e r (inr (l, j, u, o, n, f)) =
       rest = inr (c, l, i, j, (λ m. n (part l m)), subst (λ k. l ∈ k) (sym f) (∈-append_right l known (l ∷ []) (inl refl)));
     }
 
-pub round_false : (P : List Clause) (first known known' : List Literal) (passed : List Clause) (c : Clause) → c ∈ P → Round P first known passed → IsPassed c known true known' → Passes P first true known'
+pub round_false : (P : List Clause) (first known known' : List Literal) (passed : List Clause) (c : Clause) → c ∈ P → Round P first known passed →
+    IsPassed c known true known' → Passes P first true known'
 round_false P first known known' passed c i r w =
     subst (λ (k : List Literal). Passes P first true k) (sym w.0) record {
       finds = record { grows = r.grows; conflict = λ e. FalseClause c i w.1 };
@@ -151,13 +165,15 @@ round_end P first known passed e r = record {
 pub settles_found : (P : List Clause) (a b c : List Literal) → GrowsKnown P a b → GrowsKnown P b c → Conflicts P c → Settles P a true c
 settles_found P a b c g h k = record { finds = finds_found P a b c g h k; saturated = λ e. absurd cc }
 
-pub settles_end : (P : List Clause) (a b c : List Literal) → GrowsKnown P a b → GrowsKnown P b c → ((c ≡ b) × IsSaturated P c) ⊎ Joins P b c → length c ≡ length b → Settles P a false c
+pub settles_end : (P : List Clause) (a b c : List Literal) → GrowsKnown P a b → GrowsKnown P b c → ((c ≡ b) × IsSaturated P c) ⊎ Joins P b c →
+    length c ≡ length b → Settles P a false c
 settles_end P a b c g h r e = record {
   finds = finds_no_more P a c (grows_on P a b c g h);
   saturated = λ t. ⊎_elim (λ w. w.1) (λ w. absurd (w.4 (subst (λ k. w.1 ∈ k) (same_length P b c h e) w.5))) r;
 }
 
-pub less_left : (P : List Clause) (a b c : List Literal) → GrowsKnown P a b → ((b ≡ a) × IsSaturated P b) ⊎ Joins P a b → (length b ≡ length a → ⊥) → GrowsKnown P b c → unknown P c < unknown P a
+pub less_left : (P : List Clause) (a b c : List Literal) → GrowsKnown P a b → ((b ≡ a) × IsSaturated P b) ⊎ Joins P a b → (length b ≡ length a → ⊥) →
+    GrowsKnown P b c → unknown P c < unknown P a
 less_left P a b c g r n h =
     ⊎_elim
     (λ w. absurd (n (ap length w.0)))
@@ -184,7 +200,8 @@ pub record Assumed (old base seen new : List Literal) : Type 0 where
 pub assumed_start : (old base : List Literal) → (HasClash old → ⊥) → Assumed old base [] old
 assumed_start old base n = record { more = []; joined = sym (append-nil old); no_clash = n; from = λ l m. inl m; all = λ l m. absurd m }
 
-pub assumed_known : (old base new : List Literal) (i : ℕ) → get_or base i 0 ∈ new → Assumed old base (take i base) new → Assumed old base (take (i + 1) base) new
+pub assumed_known : (old base new : List Literal) (i : ℕ) → get_or base i 0 ∈ new → Assumed old base (take i base) new →
+    Assumed old base (take (i + 1) base) new
 assumed_known old base new i h w = record {
   more = w.more;
   joined = w.joined;
@@ -193,7 +210,8 @@ assumed_known old base new i h w = record {
   all = λ x m. ⊎_elim (w.all x) (λ e. subst (λ y. y ∈ new) (sym e) h) (∈-take_more x base i 0 m);
 }
 
-pub assumed_more : (old base mid new : List Literal) (i l : ℕ) → l ≡ get_or base i 0 → l ∈ base → (opposite l ∈ mid → ⊥) → new ≡ mid ++ (l ∷ []) → Assumed old base (take i base) mid → Assumed old base (take (i + 1) base) new
+pub assumed_more : (old base mid new : List Literal) (i l : ℕ) → l ≡ get_or base i 0 → l ∈ base → (opposite l ∈ mid → ⊥) → new ≡ mid ++ (l ∷ []) →
+    Assumed old base (take i base) mid → Assumed old base (take (i + 1) base) new
 assumed_more old base mid new i l q h o e w = subst (λ (k : List Literal). Assumed old base (take (i + 1) base) k) (sym e) record {
   more = w.more ++ (l ∷ []);
   joined = ap (λ x. x ++ (l ∷ [])) w.joined ∙ append_assoc old w.more (l ∷ []);

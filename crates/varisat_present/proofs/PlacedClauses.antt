@@ -10,7 +10,8 @@ use Rattle.varisat_theory.proofs.Members.{∈-append_cases}
 use Rattle.varisat_present.specs.Places.{present, present_at, literals_there}
 
 -- 1. A place.
-pub at_read : {A : Type 0} (cs : List (Option (Vec ℕ A))) (i : ℕ) (o : Option (Vec ℕ A)) → i < length cs → o ≡ get_or cs i o → present_at cs i ≡ literals_there o
+pub at_read : {A : Type 0} (cs : List (Option (Vec ℕ A))) (i : ℕ) (o : Option (Vec ℕ A)) → i < length cs → o ≡ get_or cs i o →
+    present_at cs i ≡ literals_there o
 at_read [] i o h e = absurd (omega arith)
 at_read (x ∷ cs) zero o h e = ap literals_there (sym e)
 at_read (x ∷ cs) (suc i) o h e = at_read cs i o (omega arith) e
@@ -44,10 +45,12 @@ at_within [] i c e = absurd cc
 at_within (o ∷ cs) zero c e = omega arith
 at_within (o ∷ cs) (suc i) c e = let h = at_within cs i c e in omega (arith, h)
 
-pub unit_there : {A : Type 0} (cs : List (Option (Vec ℕ A))) (i l : ℕ) → ((c : Clause) × (present_at cs i ≡ Some c) × SameSet c (l ∷ [])) → (c : Clause) × (c ∈ present cs) × IsUnit l c
+pub unit_there : {A : Type 0} (cs : List (Option (Vec ℕ A))) (i l : ℕ) → ((c : Clause) × (present_at cs i ≡ Some c) × SameSet c (l ∷ [])) → (c : Clause)
+    × (c ∈ present cs) × IsUnit l c
 unit_there cs i l w = (w.0, at_in cs i w.0 w.1, (w.2.1 l (inl refl), λ m k. ⊎_elim (λ q. q) (λ z. absurd z) (w.2.0 m k)))
 
-pub equal_there : {A : Type 0} (cs : List (Option (Vec ℕ A))) (i : ℕ) (c : Clause) → ((d : Clause) × (present_at cs i ≡ Some d) × SameSet d c) → (d : Clause) × (d ∈ present cs) × SameSet d c
+pub equal_there : {A : Type 0} (cs : List (Option (Vec ℕ A))) (i : ℕ) (c : Clause) → ((d : Clause) × (present_at cs i ≡ Some d) × SameSet d c) →
+    (d : Clause) × (d ∈ present cs) × SameSet d c
 equal_there cs i c w = (w.0, at_in cs i w.0 w.1, w.2)
 
 -- 2. The places so far.
@@ -62,7 +65,8 @@ present_suc (Some v ∷ cs) (suc i) = ap (λ x. v.items ∷ x) (present_suc cs i
 suc_is : (i : ℕ) → i + 1 ≡ suc i
 suc_is i = omega arith
 
-pub present_more : {A : Type 0} (cs : List (Option (Vec ℕ A))) (i : ℕ) (c : Clause) → present_at cs i ≡ Some c → present (take (i + 1) cs) ≡ present (take i cs) ++ (c ∷ [])
+pub present_more : {A : Type 0} (cs : List (Option (Vec ℕ A))) (i : ℕ) (c : Clause) → present_at cs i ≡ Some c →
+    present (take (i + 1) cs) ≡ present (take i cs) ++ (c ∷ [])
 present_more cs i c e = ap (λ k. present (take k cs)) (suc_is i) ∙ present_suc cs i ∙ ap (λ o. present (take i cs) ++ option_to_list o) e
 
 pub present_same : {A : Type 0} (cs : List (Option (Vec ℕ A))) (i : ℕ) → present_at cs i ≡ None → present (take (i + 1) cs) ≡ present (take i cs)
@@ -72,19 +76,24 @@ present_same cs i e =
 pub present_all : {A : Type 0} (cs : List (Option (Vec ℕ A))) (i : ℕ) → length cs ≤ i → present (take i cs) ≡ present cs
 present_all cs i h = ap present (take_all i cs h)
 
-pub present_added : {A : Type 0} (cs : List (Option (Vec ℕ A))) (v : Vec ℕ A) (c : Clause) → v.items ≡ c → present (cs ++ (Some v ∷ [])) ≡ present cs ++ (c ∷ [])
+pub present_added : {A : Type 0} (cs : List (Option (Vec ℕ A))) (v : Vec ℕ A) (c : Clause) → v.items ≡ c →
+    present (cs ++ (Some v ∷ [])) ≡ present cs ++ (c ∷ [])
 present_added [] v c e = ap (λ x. x ∷ []) e
 present_added (None ∷ cs) v c e = present_added cs v c e
 present_added (Some w ∷ cs) v c e = ap (λ x. w.items ∷ x) (present_added cs v c e)
 
-pub absent_more : {A : Type 0} (cs : List (Option (Vec ℕ A))) (i : ℕ) (d c : Clause) → present_at cs i ≡ Some d → (SameSet d c → ⊥) → IsAbsent (present (take i cs)) c → IsAbsent (present (take (i + 1) cs)) c
+pub absent_more : {A : Type 0} (cs : List (Option (Vec ℕ A))) (i : ℕ) (d c : Clause) → present_at cs i ≡ Some d → (SameSet d c → ⊥) →
+    IsAbsent (present (take i cs)) c → IsAbsent (present (take (i + 1) cs)) c
 absent_more cs i d c e n w = λ x m s.
-    ⊎_elim (λ a. w x a s) (λ a. ⊎_elim (λ q. n (subst (λ y. SameSet y c) q s)) (λ z. z) a) (∈-append_cases x (present (take i cs)) (d ∷ []) (subst (λ L. x ∈ L) (present_more cs i d e) m))
+    ⊎_elim (λ a. w x a s) (λ a. ⊎_elim (λ q. n (subst (λ y. SameSet y c) q s)) (λ z. z) a)
+    (∈-append_cases x (present (take i cs)) (d ∷ []) (subst (λ L. x ∈ L) (present_more cs i d e) m))
 
-pub absent_same : {A : Type 0} (cs : List (Option (Vec ℕ A))) (i : ℕ) (c : Clause) → present_at cs i ≡ None → IsAbsent (present (take i cs)) c → IsAbsent (present (take (i + 1) cs)) c
+pub absent_same : {A : Type 0} (cs : List (Option (Vec ℕ A))) (i : ℕ) (c : Clause) → present_at cs i ≡ None → IsAbsent (present (take i cs)) c →
+    IsAbsent (present (take (i + 1) cs)) c
 absent_same cs i c e w = subst (λ L. IsAbsent L c) (sym (present_same cs i e)) w
 
-pub absent_on : {A : Type 0} (cs : List (Option (Vec ℕ A))) (i : ℕ) (c : Clause) → ((d : Clause) → present_at cs i ≡ Some d → SameSet d c → ⊥) → IsAbsent (present (take i cs)) c → IsAbsent (present (take (i + 1) cs)) c
+pub absent_on : {A : Type 0} (cs : List (Option (Vec ℕ A))) (i : ℕ) (c : Clause) → ((d : Clause) → present_at cs i ≡ Some d → SameSet d c → ⊥) →
+    IsAbsent (present (take i cs)) c → IsAbsent (present (take (i + 1) cs)) c
 absent_on cs i c n w = by_case (present_at cs i) refl
   where
     by_case : (o : Option Clause) → present_at cs i ≡ o → IsAbsent (present (take (i + 1) cs)) c
@@ -95,31 +104,36 @@ pub absent_all : {A : Type 0} (cs : List (Option (Vec ℕ A))) (i : ℕ) (c : Cl
 absent_all cs i c h w = subst (λ L. IsAbsent L c) (present_all cs i h) w
 
 -- how many, and which one
-pub nth_is : {A : Type 0} (cs : List (Option (Vec ℕ A))) (i : ℕ) (c d : Clause) → present_at cs i ≡ Some c → get_or (present cs) (length (present (take i cs))) d ≡ c
+pub nth_is : {A : Type 0} (cs : List (Option (Vec ℕ A))) (i : ℕ) (c d : Clause) → present_at cs i ≡ Some c →
+    get_or (present cs) (length (present (take i cs))) d ≡ c
 nth_is [] i c d e = absurd cc
 nth_is (None ∷ cs) zero c d e = absurd cc
 nth_is (Some v ∷ cs) zero c d e = some_is v.items c e
 nth_is (None ∷ cs) (suc i) c d e = nth_is cs i c d e
 nth_is (Some v ∷ cs) (suc i) c d e = nth_is cs i c d e
 
-pub count_more : {A : Type 0} (cs : List (Option (Vec ℕ A))) (i n : ℕ) (c : Clause) → present_at cs i ≡ Some c → n ≡ length (present (take i cs)) → n + 1 ≡ length (present (take (i + 1) cs))
+pub count_more : {A : Type 0} (cs : List (Option (Vec ℕ A))) (i n : ℕ) (c : Clause) → present_at cs i ≡ Some c → n ≡ length (present (take i cs)) →
+    n + 1 ≡ length (present (take (i + 1) cs))
 count_more cs i n c e h =
     let a = length-append (present (take i cs)) (c ∷ []) in
     let b = ap length (present_more cs i c e) in
     omega (arith, a, b, h)
 
-pub count_same : {A : Type 0} (cs : List (Option (Vec ℕ A))) (i n : ℕ) → present_at cs i ≡ None → n ≡ length (present (take i cs)) → n ≡ length (present (take (i + 1) cs))
+pub count_same : {A : Type 0} (cs : List (Option (Vec ℕ A))) (i n : ℕ) → present_at cs i ≡ None → n ≡ length (present (take i cs)) →
+    n ≡ length (present (take (i + 1) cs))
 count_same cs i n e h = h ∙ ap length (sym (present_same cs i e))
 
 -- 3. A place that becomes empty.
-cut : {A : Type 0} (cs : List (Option (Vec ℕ A))) (i : ℕ) (d : Clause) → present_at cs i ≡ Some d → (front : List Clause) × (back : List Clause) × (present cs ≡ front ++ (d ∷ back)) × (present (set cs i None) ≡ front ++ back)
+cut : {A : Type 0} (cs : List (Option (Vec ℕ A))) (i : ℕ) (d : Clause) → present_at cs i ≡ Some d → (front : List Clause) × (back : List Clause)
+    × (present cs ≡ front ++ (d ∷ back)) × (present (set cs i None) ≡ front ++ back)
 cut [] i d e = absurd cc
 cut (None ∷ cs) zero d e = absurd cc
 cut (Some v ∷ cs) zero d e = ([], present cs, ap (λ x. x ∷ present cs) (some_is v.items d e), refl)
 cut (None ∷ cs) (suc i) d e = cut cs i d e
 cut (Some v ∷ cs) (suc i) d e = let (f, b, x, y) = cut cs i d e in (v.items ∷ f, b, ap (λ z. v.items ∷ z) x, ap (λ z. v.items ∷ z) y)
 
-pub takes_out : {A : Type 0} (cs ds : List (Option (Vec ℕ A))) (i : ℕ) (d c : Clause) → present_at cs i ≡ Some d → SameSet d c → ds ≡ set cs i None → TakesOut (present cs) c (present ds)
+pub takes_out : {A : Type 0} (cs ds : List (Option (Vec ℕ A))) (i : ℕ) (d c : Clause) → present_at cs i ≡ Some d → SameSet d c → ds ≡ set cs i None →
+    TakesOut (present cs) c (present ds)
 takes_out cs ds i d c e s q =
     let (f, b, x, y) = cut cs i d e in
     (f, d, b, x, s, ap present q ∙ y)
@@ -167,25 +181,31 @@ dropped_none v i old new e w = record {
   dropped = present_same new i e ∙ w.dropped ∙ ap (without v) (sym (present_same old i (sym (same_at v i old new w) ∙ e)));
 }
 
-pub dropped_kept : {A : Type 0} (v i : ℕ) (old new : List (Option (Vec ℕ A))) (c : Clause) → present_at new i ≡ Some c → mentions v c ≡ false → Dropped v i old new → Dropped v (i + 1) old new
+pub dropped_kept : {A : Type 0} (v i : ℕ) (old new : List (Option (Vec ℕ A))) (c : Clause) → present_at new i ≡ Some c → mentions v c ≡ false →
+    Dropped v i old new → Dropped v (i + 1) old new
 dropped_kept v i old new c e f w = record {
   count = w.count;
   rest = rest_more v i old new w;
-  dropped = present_more new i c e ∙ ap (λ P. P ++ (c ∷ [])) w.dropped ∙ ap (λ t. without v (present (take i old)) ++ unless t c []) (sym f) ∙ sym (without_more v (present (take i old)) c) ∙ ap (without v) (sym (present_more old i c (sym (same_at v i old new w) ∙ e)));
+  dropped = present_more new i c e ∙ ap (λ P. P ++ (c ∷ [])) w.dropped ∙ ap (λ t. without v (present (take i old)) ++ unless t c []) (sym f) ∙
+      sym (without_more v (present (take i old)) c) ∙ ap (without v) (sym (present_more old i c (sym (same_at v i old new w) ∙ e)));
 }
 
-pub dropped_same : {A : Type 0} (v i : ℕ) (old new : List (Option (Vec ℕ A))) → ((c : Clause) → present_at new i ≡ Some c → mentions v c ≡ false) → Dropped v i old new → Dropped v (i + 1) old new
+pub dropped_same : {A : Type 0} (v i : ℕ) (old new : List (Option (Vec ℕ A))) → ((c : Clause) → present_at new i ≡ Some c → mentions v c ≡ false) →
+    Dropped v i old new → Dropped v (i + 1) old new
 dropped_same v i old new h w = by_case (present_at new i) refl
   where
     by_case : (o : Option Clause) → present_at new i ≡ o → Dropped v (i + 1) old new
     by_case None e = dropped_none v i old new e w
     by_case (Some c) e = dropped_kept v i old new c e (h c e) w
 
-pub dropped_out : {A : Type 0} (v i : ℕ) (old mid new : List (Option (Vec ℕ A))) → ((c : Clause) × (present_at mid i ≡ Some c) × (mentions v c ≡ true)) → new ≡ set mid i None → Dropped v i old mid → Dropped v (i + 1) old new
+pub dropped_out : {A : Type 0} (v i : ℕ) (old mid new : List (Option (Vec ℕ A))) → ((c : Clause) × (present_at mid i ≡ Some c) × (mentions v c ≡ true)) →
+    new ≡ set mid i None → Dropped v i old mid → Dropped v (i + 1) old new
 dropped_out {A = A} v i old mid new (c, e, f) q w = subst (λ (x : List (Option (Vec ℕ A))). Dropped v (i + 1) old x) (sym q) record {
   count = length-set mid i None ∙ w.count;
   rest = drop-set-lt (i + 1) mid i None (omega arith) ∙ rest_more v i old mid w;
-  dropped = present_same (set mid i None) i (at_set mid i) ∙ ap present (take-set-le i mid i None (omega arith)) ∙ w.dropped ∙ sym (append-nil (without v (present (take i old)))) ∙ ap (λ t. without v (present (take i old)) ++ unless t c []) (sym f) ∙ sym (without_more v (present (take i old)) c) ∙ ap (without v) (sym (present_more old i c (sym (same_at v i old mid w) ∙ e)));
+  dropped = present_same (set mid i None) i (at_set mid i) ∙ ap present (take-set-le i mid i None (omega arith)) ∙ w.dropped ∙
+      sym (append-nil (without v (present (take i old)))) ∙ ap (λ t. without v (present (take i old)) ++ unless t c []) (sym f) ∙
+      sym (without_more v (present (take i old)) c) ∙ ap (without v) (sym (present_more old i c (sym (same_at v i old mid w) ∙ e)));
 }
 
 pub dropped_all : {A : Type 0} (v i : ℕ) (old new : List (Option (Vec ℕ A))) → length old ≤ i → Dropped v i old new → present new ≡ without v (present old)

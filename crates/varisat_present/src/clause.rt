@@ -24,7 +24,7 @@ pub fn holds(literals: &[Lit], literal: Lit) -> bool
 }
 
 /// Whether each literal of the one clause is one of the other.
-fn is_part(part: &[Lit], clause: &[Lit]) -> bool
+pub fn is_part(part: &[Lit], clause: &[Lit]) -> bool
     ensures { IsTrue result ↔ (part.now ⊆ clause.now) }
 {
     for l in part {

@@ -2,7 +2,7 @@
 //! lines.
 #![tactic(auto)]
 
-mod clause;
+pub mod clause;
 mod index;
 mod known;
 mod places;

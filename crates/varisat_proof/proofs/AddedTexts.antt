@@ -40,11 +40,13 @@ pub record Took (p : Progress) (clauses : List Clause) (q : Progress) : Type 0 w
   pub later : (ending : Ending) (rest : List ℕ) → gives_from ending p rest ≡ with_front clauses (gives_from ending q rest)
   pub same_over : q.over ≡ p.over
 
-pub took : (p o : Progress) (f : Formula) → f ≡ record { var_count = p.reading.highest; clauses = p.reading.clauses } → o ≡ record p { reading = record p.reading { clauses = [] } } →
+pub took : (p o : Progress) (f : Formula) → f ≡ record { var_count = p.reading.highest; clauses = p.reading.clauses } →
+    o ≡ record p { reading = record p.reading { clauses = [] } } →
     ((ending : Ending) (rest : List ℕ) → gives_from ending p rest ≡ with_front f.clauses (gives_from ending o rest)) → Took p f.clauses o
 took p o f e n l = record { ended = ap (λ x. x.clauses) e; later = l; same_over = ap (λ x. x.over) n }
 
-piece_same : (a b : Stand) (q p : Progress) (front : List Clause) (piece : List ℕ) (w : ReadSo a b q front) → AdvancesBy q piece p → (ending : Ending) (rest : List ℕ) →
+piece_same : (a b : Stand) (q p : Progress) (front : List Clause) (piece : List ℕ) (w : ReadSo a b q front) → AdvancesBy q piece p →
+    (ending : Ending) (rest : List ℕ) →
     gives ending ((w.text ++ piece) ++ rest) ≡ with_front front (gives_from ending p rest)
 piece_same a b q p front piece w f ending rest =
     ap (λ x. gives ending x) (append_assoc w.text piece rest) ∙ w.same ending (piece ++ rest) ∙ ap (λ x. with_front front x) (sym (f.same ending rest))
@@ -52,13 +54,15 @@ piece_same a b q p front piece w f ending rest =
 fronts_join : (xs ys : List Clause) (r : Reading) → with_front xs (with_front ys r) ≡ with_front (xs ++ ys) r
 fronts_join xs ys r = ap (λ cs. record r { clauses = cs }) (sym (append_assoc xs ys r.clauses))
 
-pub read_more : (a b d : Stand) (q p o : Progress) (front clauses : List Clause) (more : Bool) (r : Result Bool DimacsError) → ReadSo a b q front → TakesPiece b q r d p → r ≡ Ok more → p.over ≡ q.over → Took p clauses o → ReadSo a d o (front ++ clauses)
+pub read_more : (a b d : Stand) (q p o : Progress) (front clauses : List Clause) (more : Bool) (r : Result Bool DimacsError) → ReadSo a b q front →
+    TakesPiece b q r d p → r ≡ Ok more → p.over ≡ q.over → Took p clauses o → ReadSo a d o (front ++ clauses)
 read_more a b d q p o front clauses more r w k e v t =
     let g = k.good more e in
     record {
       text = w.text ++ k.piece;
       reads = reads_more a b d w.text k.piece w.reads k.reads;
-      same = λ ending rest. piece_same a b q p front k.piece w g.0 ending rest ∙ ap (λ x. with_front front x) (t.later ending rest) ∙ fronts_join front clauses (gives_from ending o rest);
+      same = λ ending rest. piece_same a b q p front k.piece w g.0 ending rest ∙ ap (λ x. with_front front x) (t.later ending rest) ∙
+          fronts_join front clauses (gives_from ending o rest);
       open_still = t.same_over ∙ v ∙ w.open_still;
       quiet = g.2 ∙ w.quiet;
     }
@@ -72,7 +76,8 @@ pub gave_text : (a b d : Stand) (q p : Progress) (front : List Clause) (r : Resu
 gave_text a b d q p front r w k = record { text = w.text ++ k.piece; reads = reads_more a b d w.text k.piece w.reads k.reads }
 
 -- the text or the source has a fault
-pub text_broken : (a b d : Stand) (q p : Progress) (front : List Clause) (x : DimacsError) (out : Result Bool DimacsError) → ReadSo a b q front → TakesPiece b q out d p → out ≡ Err x → GivesReading a (with_front front p.reading) d
+pub text_broken : (a b d : Stand) (q p : Progress) (front : List Clause) (x : DimacsError) (out : Result Bool DimacsError) → ReadSo a b q front →
+    TakesPiece b q out d p → out ≡ Err x → GivesReading a (with_front front p.reading) d
 text_broken a b d q p front x out w k is = by_fault (k.bad x is).0 (k.bad x is).1 (k.bad x is).2
   where
     all : streams.Reads a (w.text ++ k.piece) d
@@ -85,7 +90,8 @@ text_broken a b d q p front x out w k is = by_fault (k.bad x is).0 (k.bad x is).
         (λ e. let v : Some x ≡ None = sym h ∙ e in cc)
     by_fault rise (why.PieceWantsRoom o h m) n =
         ReaderRanOut (w.text ++ take o.at k.piece) (drop o.at k.piece)
-        (subst (λ v. streams.Reads a v d) (sym (append_assoc w.text (take o.at k.piece) (drop o.at k.piece) ∙ ap (λ v. w.text ++ v) (take-append-drop o.at k.piece))) all)
+        (subst (λ v. streams.Reads a v d)
+        (sym (append_assoc w.text (take o.at k.piece) (drop o.at k.piece) ∙ ap (λ v. w.text ++ v) (take-append-drop o.at k.piece))) all)
         (let u = w.quiet in omega (arith, n, m, u))
         (sym (w.same (BreaksOff kind.OutOfMemory) (take o.at k.piece) ∙ ap (λ v. with_front front v) (sym o.out.reading)))
     by_fault rise (why.SourceFailed g h e m) n =
@@ -93,7 +99,8 @@ text_broken a b d q p front x out w k is = by_fault (k.bad x is).0 (k.bad x is).
         (sym (ap (λ v. broken kind.Io (w.text ++ v)) e ∙ w.same (BreaksOff kind.Io) [] ∙ ap (λ v. with_front front v) (sym g)))
 
 -- the source is at its end, and the text was ended
-pub text_ended : (a b : Stand) (q p : Progress) (front : List Clause) → ReadSo a b q front → HasEnded b → IsEnding q p → GivesReading a (with_front front p.reading) b
+pub text_ended : (a b : Stand) (q p : Progress) (front : List Clause) → ReadSo a b q front → HasEnded b → IsEnding q p →
+    GivesReading a (with_front front p.reading) b
 text_ended a b q p front w l k = by_end k
   where
     whole : (ending : Ending) → gives ending w.text ≡ with_front front (gives_from ending q [])
@@ -101,7 +108,8 @@ text_ended a b q p front w l k = by_end k
 
     by_end : IsEnding q p → GivesReading a (with_front front p.reading) b
     by_end (inl g) = Whole w.text w.reads l w.quiet (sym (whole Ends ∙ ap (λ v. with_front front v) (sym g)))
-    by_end (inr o) = ReaderRanOut w.text [] (subst (λ v. streams.Reads a v b) (sym (append-nil w.text)) w.reads) w.quiet (sym (whole (BreaksOff kind.OutOfMemory) ∙ ap (λ v. with_front front v) (sym o.reading)))
+    by_end (inr o) = ReaderRanOut w.text [] (subst (λ v. streams.Reads a v b) (sym (append-nil w.text)) w.reads) w.quiet
+        (sym (whole (BreaksOff kind.OutOfMemory) ∙ ap (λ v. with_front front v) (sym o.reading)))
 
 -- 2. What becomes of a checker.
 -- the clauses joined those that were present
@@ -112,14 +120,17 @@ pub record HasAdded (old : CheckerState) (front : List Clause) (mid : CheckerSta
 pub added_none : (old : CheckerState) → old.spent ≡ false → HasAdded old [] old
 added_none old f = record { usable = f; now = ap (λ cs. record old { clauses = cs }) (sym (append-nil old.clauses)) }
 
-pub added_more : (old mid new : CheckerState) (front clauses : List Clause) → HasAdded old front mid → Becomes mid (mid.clauses ++ clauses) new → HasAdded old (front ++ clauses) new
+pub added_more : (old mid new : CheckerState) (front clauses : List Clause) → HasAdded old front mid → Becomes mid (mid.clauses ++ clauses) new →
+    HasAdded old (front ++ clauses) new
 added_more old mid new front clauses w b = record {
   usable = w.usable;
-  now = b.now ∙ ap (λ (x : CheckerState). record x { clauses = x.clauses ++ clauses }) w.now ∙ ap (λ cs. record old { clauses = cs }) (append_assoc old.clauses front clauses);
+  now = b.now ∙ ap (λ (x : CheckerState). record x { clauses = x.clauses ++ clauses }) w.now ∙
+      ap (λ cs. record old { clauses = cs }) (append_assoc old.clauses front clauses);
 }
 
 -- a refusal of a checker that could be used is out of memory
-pub ran_out : (old mid new : CheckerState) (front : List Clause) (e : CheckerError) → HasAdded old front mid → IsRefusal mid e new → (e ≡ OutOfMemory) × IsRefusal old OutOfMemory new
+pub ran_out : (old mid new : CheckerState) (front : List Clause) (e : CheckerError) → HasAdded old front mid → IsRefusal mid e new → (e ≡ OutOfMemory)
+    × IsRefusal old OutOfMemory new
 ran_out old mid new front OutOfMemory w h = (refl, (w.usable, h.1))
 ran_out old mid new front Spent w h = absurd (let f : true ≡ false = sym h.0 ∙ ap (λ x. x.spent) w.now ∙ w.usable in cc)
 ran_out old mid new front (CheckFailed n) w h = absurd h
@@ -129,7 +140,8 @@ ran_out old mid new front (Parse o) w h = absurd h
 ran_out old mid new front (Io x) w h = absurd h
 ran_out old mid new front (Dimacs x) w h = absurd h
 
-pub refused_reading : (old mid new : CheckerState) (front : List Clause) (R : Reading) (fault : DimacsError) (e : CheckerError) → HasAdded old (front ++ R.clauses) mid → R.fault ≡ Some fault → RefusesText mid fault e new → AddsRead old (with_front front R) (Err e) new
+pub refused_reading : (old mid new : CheckerState) (front : List Clause) (R : Reading) (fault : DimacsError) (e : CheckerError) →
+    HasAdded old (front ++ R.clauses) mid → R.fault ≡ Some fault → RefusesText mid fault e new → AddsRead old (with_front front R) (Err e) new
 refused_reading old mid new front R fault (Dimacs cause) w f h =
     (f ∙ ap Some (sym h.0), subst (λ x. x.kind ≢ kind.OutOfMemory) (sym h.0) h.1, record { usable = w.usable; now = h.2 ∙ w.now })
 refused_reading old mid new front R fault OutOfMemory w f h = (w.usable, h.1)
@@ -140,9 +152,15 @@ refused_reading old mid new front R fault (Parse o) w f h = absurd h
 refused_reading old mid new front R fault (Io x) w f h = absurd h
 refused_reading old mid new front R fault Spent w f h = absurd h
 
-pub reading_behind : (old mid new : CheckerState) (front : List Clause) (R : Reading) (r : Result (Unit {0}) CheckerError) → HasAdded old front mid → AddsRead mid R r new → AddsRead old (with_front front R) r new
+pub reading_behind : (old mid new : CheckerState) (front : List Clause) (R : Reading) (r : Result (Unit {0}) CheckerError) → HasAdded old front mid →
+    AddsRead mid R r new → AddsRead old (with_front front R) r new
 reading_behind old mid new front R (Ok u) w h = (h.0, let m = added_more old mid new front R.clauses w h.1 in record { usable = m.usable; now = m.now })
-reading_behind old mid new front R (Err (Dimacs cause)) w h = (h.0, h.1, let m = added_more old mid new front R.clauses w h.2 in record { usable = m.usable; now = m.now })
+reading_behind old mid new front R (Err (Dimacs cause)) w h = (
+  h.0,
+  h.1,
+  let m = added_more old mid new front R.clauses w h.2 in
+      record { usable = m.usable; now = m.now },
+)
 reading_behind old mid new front R (Err (CheckFailed n)) w h = absurd h
 reading_behind old mid new front R (Err (NoSuchClause n)) w h = absurd h
 reading_behind old mid new front R (Err (CoreNotAssumed n)) w h = absurd h

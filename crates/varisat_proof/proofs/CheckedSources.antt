@@ -28,12 +28,18 @@ starts_by : (b : Bool) (s : ProofState) → IsTrue b ↔ Conflicts s.present [] 
 starts_by true s h = record { front = []; back = []; splits = refl; goes = refl; conflict = h.0 refl }
 starts_by false s h = (refl, (λ x. let y = h.1 x in absurd cc), refl)
 
-pub underway_start : (f : Encoding) (s t : ProofState) (source : Stand) (count : Count) (p : ReaderState) → t ≡ s → p ≡ begin f → count.steps ≡ 0 → IsTrue count.refuted ↔ Conflicts s.present [] → Underway f s t source source count p
+pub underway_start : (f : Encoding) (s t : ProofState) (source : Stand) (count : Count) (p : ReaderState) → t ≡ s → p ≡ begin f → count.steps ≡ 0 →
+    IsTrue count.refuted ↔ Conflicts s.present [] → Underway f s t source source count p
 underway_start f s t source count p e g z h = record {
   text = [];
   reads = reads_none source;
   quiet = refl;
-  so = ([], subst (λ x. HasRead f [] [] x) (sym g) (reads_start f), subst (λ (x : ProofState). StandsBy count.refuted s [] x count.steps) (sym e) (subst (λ n. StandsBy count.refuted s [] s n) (sym z) (starts_by count.refuted s h)));
+  so = (
+    [],
+    subst (λ x. HasRead f [] [] x) (sym g) (reads_start f),
+    subst (λ (x : ProofState). StandsBy count.refuted s [] x count.steps) (sym e)
+        (subst (λ n. StandsBy count.refuted s [] s n) (sym z) (starts_by count.refuted s h)),
+  );
 }
 
 -- a source gave a piece more
@@ -61,8 +67,10 @@ ended_here before n (b ∷ bs) e h =
 abbrev pub Right : Encoding → ProofState → ProofState → Result CheckVerdict CheckerError → List ℕ → Type 0
 Right f s t r bytes = IsCheckOf f s bytes r t
 
-pub underway_more : (f : Encoding) (s t t' : ProofState) (old mid new : Stand) (count count' : Count) (p q : ReaderState) (piece : List ℕ) → Underway f s t old mid count p → Gave mid piece new →
-    ((f : Encoding) (P : ProofState) (text : List ℕ) (lines : List ProofLine) → HasRead f text lines p → StandsAfterLines P lines t count → SoFar f P (text ++ piece) t' count' q) → Underway f s t' old new count' q
+pub underway_more : (f : Encoding) (s t t' : ProofState) (old mid new : Stand) (count count' : Count) (p q : ReaderState) (piece : List ℕ) →
+    Underway f s t old mid count p → Gave mid piece new →
+    ((f : Encoding) (P : ProofState) (text : List ℕ) (lines : List ProofLine) → HasRead f text lines p → StandsAfterLines P lines t count →
+    SoFar f P (text ++ piece) t' count' q) → Underway f s t' old new count' q
 underway_more f s t t' old mid new count count' p q piece w g h = record {
   text = w.text ++ piece;
   reads = reads_more old mid new w.text piece w.reads g.reads;
@@ -71,7 +79,8 @@ underway_more f s t t' old mid new count count' p q piece w g h = record {
 }
 
 -- a check that breaks off inside the text
-inside : (f : Encoding) (s t : ProofState) (old new : Stand) (text : List ℕ) (e : CheckerError) → streams.Reads old text new → new.faults ≡ old.faults → BreaksOff f s text e t → ChecksBytes {V = CheckVerdict} (Right f s t (Err e)) old (Err e) new
+inside : (f : Encoding) (s t : ProofState) (old new : Stand) (text : List ℕ) (e : CheckerError) → streams.Reads old text new → new.faults ≡ old.faults →
+    BreaksOff f s text e t → ChecksBytes {V = CheckVerdict} (Right f s t (Err e)) old (Err e) new
 inside f s t old new text (CheckFailed n) r q b = InText text r q b
 inside f s t old new text (NoSuchClause n) r q b = InText text r q b
 inside f s t old new text (CoreNotAssumed n) r q b = InText text r q b
@@ -81,16 +90,21 @@ inside f s t old new text OutOfMemory r q b = RanOut text r q refl
 inside f s t old new text (Dimacs x) r q b = InText text r q b
 inside f s t old new text Spent r q b = InText text r q b
 
-pub breaks_inside : (f : Encoding) (s t t' : ProofState) (old mid new : Stand) (count : Count) (p : ReaderState) (piece : List ℕ) (e : CheckerError) → Underway f s t old mid count p → Gave mid piece new →
-    ((f : Encoding) (P : ProofState) (text : List ℕ) (lines : List ProofLine) → HasRead f text lines p → StandsAfterLines P lines t count → BreaksOff f P (text ++ piece) e t') → ChecksBytes {V = CheckVerdict} (Right f s t' (Err e)) old (Err e) new
+pub breaks_inside : (f : Encoding) (s t t' : ProofState) (old mid new : Stand) (count : Count) (p : ReaderState) (piece : List ℕ) (e : CheckerError) →
+    Underway f s t old mid count p → Gave mid piece new →
+    ((f : Encoding) (P : ProofState) (text : List ℕ) (lines : List ProofLine) → HasRead f text lines p → StandsAfterLines P lines t count →
+    BreaksOff f P (text ++ piece) e t') → ChecksBytes {V = CheckVerdict} (Right f s t' (Err e)) old (Err e) new
 breaks_inside f s t t' old mid new count p piece e w g h =
     inside f s t' old new (w.text ++ piece) e (reads_more old mid new w.text piece w.reads g.reads) (g.quiet ∙ w.quiet) (h f s w.text w.so.0 w.so.1 w.so.2)
 
-pub source_fails : (f : Encoding) (s t : ProofState) (old mid new : Stand) (count : Count) (p : ReaderState) (e : CheckerError) → Underway f s t old mid count p → streams.Reads mid [] new → new.faults ≡ mid.faults + 1 → is_io e ≡ true → ChecksBytes {V = CheckVerdict} (Right f s t (Err e)) old (Err e) new
+pub source_fails : (f : Encoding) (s t : ProofState) (old mid new : Stand) (count : Count) (p : ReaderState) (e : CheckerError) →
+    Underway f s t old mid count p → streams.Reads mid [] new → new.faults ≡ mid.faults + 1 → is_io e ≡ true →
+    ChecksBytes {V = CheckVerdict} (Right f s t (Err e)) old (Err e) new
 source_fails f s t old mid new count p e w r n i =
     SourceFailed (w.text ++ []) (reads_more old mid new w.text [] w.reads r) (n ∙ ap (λ x. x + 1) w.quiet) e refl i
 
-ends : (f : Encoding) (s t : ProofState) (old new : Stand) (text : List ℕ) (r : Result CheckVerdict CheckerError) → streams.Reads old text new → new.faults ≡ old.faults → HasEnded new → EndsWith f s text r t → ChecksBytes {V = CheckVerdict} (Right f s t r) old r new
+ends : (f : Encoding) (s t : ProofState) (old new : Stand) (text : List ℕ) (r : Result CheckVerdict CheckerError) → streams.Reads old text new →
+    new.faults ≡ old.faults → HasEnded new → EndsWith f s text r t → ChecksBytes {V = CheckVerdict} (Right f s t r) old r new
 ends f s t old new text (Ok v) r q a b = AtEnd text r a q b
 ends f s t old new text (Err (CheckFailed n)) r q a b = AtEnd text r a q b
 ends f s t old new text (Err (NoSuchClause n)) r q a b = AtEnd text r a q b
@@ -101,23 +115,28 @@ ends f s t old new text (Err OutOfMemory) r q a b = RanOut text r q refl
 ends f s t old new text (Err (Dimacs x)) r q a b = AtEnd text r a q b
 ends f s t old new text (Err Spent) r q a b = AtEnd text r a q b
 
-pub ends_check : (f : Encoding) (s t t' : ProofState) (old mid new : Stand) (count : Count) (p : ReaderState) (r : Result CheckVerdict CheckerError) → Underway f s t old mid count p → Gave mid [] new → HasEnded new →
-    ((f : Encoding) (P : ProofState) (text : List ℕ) (lines : List ProofLine) → HasRead f text lines p → StandsAfterLines P lines t count → EndsWith f P text r t') → ChecksBytes {V = CheckVerdict} (Right f s t' r) old r new
+pub ends_check : (f : Encoding) (s t t' : ProofState) (old mid new : Stand) (count : Count) (p : ReaderState) (r : Result CheckVerdict CheckerError) →
+    Underway f s t old mid count p → Gave mid [] new → HasEnded new →
+    ((f : Encoding) (P : ProofState) (text : List ℕ) (lines : List ProofLine) → HasRead f text lines p → StandsAfterLines P lines t count →
+    EndsWith f P text r t') → ChecksBytes {V = CheckVerdict} (Right f s t' r) old r new
 ends_check f s t t' old mid new count p r w g a h =
     let reads = reads_more old mid new w.text [] w.reads g.reads in
     ends f s t' old new w.text r (subst (λ x. streams.Reads old x new) (append-nil w.text) reads) (g.quiet ∙ w.quiet) a (h f s w.text w.so.0 w.so.1 w.so.2)
 
-pub no_memory : (f : Encoding) (s t : ProofState) (source : Stand) → ChecksBytes {V = CheckVerdict} (Right f s t (Err OutOfMemory)) source (Err OutOfMemory) source
+pub no_memory : (f : Encoding) (s t : ProofState) (source : Stand) →
+    ChecksBytes {V = CheckVerdict} (Right f s t (Err OutOfMemory)) source (Err OutOfMemory) source
 no_memory f s t source = RanOut [] (reads_none source) refl refl
 
 -- what is right for the one result is right for the other
-pub checks_ok : {V W : Type 0} (is_right is : List ℕ → Type 0) (old new : Stand) (v : V) (w : W) → ((bytes : List ℕ) → is_right bytes → is bytes) → ChecksBytes is_right old (Ok v) new → ChecksBytes is old (Ok w) new
+pub checks_ok : {V W : Type 0} (is_right is : List ℕ → Type 0) (old new : Stand) (v : V) (w : W) → ((bytes : List ℕ) → is_right bytes → is bytes) →
+    ChecksBytes is_right old (Ok v) new → ChecksBytes is old (Ok w) new
 checks_ok is_right is old new v w h (AtEnd text a b c k) = AtEnd text a b c (h text k)
 checks_ok is_right is old new v w h (InText text a b k) = InText text a b (λ rest. h (text ++ rest) (k rest))
 checks_ok is_right is old new v w h (SourceFailed text a b e g i) = absurd cc
 checks_ok is_right is old new v w h (RanOut text a b g) = absurd cc
 
-pub checks_err : {V W : Type 0} (is_right is : List ℕ → Type 0) (old new : Stand) (e : CheckerError) → ((bytes : List ℕ) → is_right bytes → is bytes) → ChecksBytes {V = V} is_right old (Err e) new → ChecksBytes {V = W} is old (Err e) new
+pub checks_err : {V W : Type 0} (is_right is : List ℕ → Type 0) (old new : Stand) (e : CheckerError) → ((bytes : List ℕ) → is_right bytes → is bytes) →
+    ChecksBytes {V = V} is_right old (Err e) new → ChecksBytes {V = W} is old (Err e) new
 checks_err is_right is old new e h (AtEnd text a b c k) = AtEnd text a b c (h text k)
 checks_err is_right is old new e h (InText text a b k) = InText text a b (λ rest. h (text ++ rest) (k rest))
 checks_err is_right is old new e h (SourceFailed text a b x g i) = SourceFailed text a b x (let y : e ≡ x = cc in ap Err y) i
@@ -136,8 +155,10 @@ not_io : (e : CheckerError) → is_io e ≡ true → is_of_bytes e ≡ true → 
 not_io (Io x) i o = absurd cc
 not_io e i o = absurd cc
 
-pub checks_exact : {V : Type 0} (is_right : List ℕ → Type 0) (old new : Stand) (bytes : List ℕ) (r : Result V CheckerError) → old.left ≡ Some bytes → IsOfBytes r → ChecksBytes is_right old r new → is_right bytes
-checks_exact is_right old new bytes r e i (AtEnd text reads a q k) = subst is_right (sym (ended_bytes new.left bytes text (subst (λ l. Consumes l new.left text) e reads.consumed) a.at_end)) k
+pub checks_exact : {V : Type 0} (is_right : List ℕ → Type 0) (old new : Stand) (bytes : List ℕ) (r : Result V CheckerError) → old.left ≡ Some bytes →
+    IsOfBytes r → ChecksBytes is_right old r new → is_right bytes
+checks_exact is_right old new bytes r e i (AtEnd text reads a q k) = subst is_right
+    (sym (ended_bytes new.left bytes text (subst (λ l. Consumes l new.left text) e reads.consumed) a.at_end)) k
 checks_exact is_right old new bytes r e i (InText text reads q k) =
     let w = rest_bytes new.left bytes text (subst (λ l. Consumes l new.left text) e reads.consumed) in
     subst is_right (sym w.1) (k w.0)

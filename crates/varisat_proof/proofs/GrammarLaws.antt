@@ -9,14 +9,16 @@ use Rattle.varisat_proof.specs.Laws.{WrittenIsAccepted, AcceptedOnce, AcceptedOr
 use Rattle.varisat_proof.proofs.TokenLines.{only_parsed, parsed_means}
 use Rattle.varisat_proof.proofs.WrittenLines.{written_accepted}
 
-same_lines : (a b : List ProofLine) (f g : Option ℕ) (t : Parsed) → t ≡ record { lines = a; fault = f } → t ≡ record { lines = b; fault = g } → (a ≡ b) × (f ≡ g)
+same_lines : (a b : List ProofLine) (f g : Option ℕ) (t : Parsed) → t ≡ record { lines = a; fault = f } → t ≡ record { lines = b; fault = g } → (a ≡ b)
+    × (f ≡ g)
 same_lines a b f g t e h = (sym (ap (λ x. x.lines) e) ∙ ap (λ x. x.lines) h, sym (ap (λ x. x.fault) e) ∙ ap (λ x. x.fault) h)
 
 pub accepted_once : (f : Encoding) → AcceptedOnce f
 accepted_once f = λ bytes ls ms a b. (same_lines ls ms None None (parsed f bytes) (only_parsed f bytes ls None a) (only_parsed f bytes ms None b)).0
 
 pub not_both : (f : Encoding) → NotBoth f
-not_both f = λ bytes lines o a b. let e = (same_lines lines b.0 None (Some o) (parsed f bytes) (only_parsed f bytes lines None a) (only_parsed f bytes b.0 (Some o) b.1)).1 in absurd cc
+not_both f = λ bytes lines o a b. let e = (same_lines lines b.0 None (Some o) (parsed f bytes) (only_parsed f bytes lines None a)
+    (only_parsed f bytes b.0 (Some o) b.1)).1 in absurd cc
 
 pub fault_once : (f : Encoding) → FaultyOnce f
 fault_once f = λ bytes ls ms o p a b.
@@ -25,7 +27,8 @@ fault_once f = λ bytes ls ms o p a b.
     let k : o ≡ p = cc in
     (e.0, k)
 
-by_fault : (f : Encoding) (bytes : List ℕ) (lines : List ProofLine) (fault : Option ℕ) → BytesMean f bytes lines fault → ((ls : List ProofLine) × Accepted f ls bytes) ⊎ ((o : ℕ) × FaultAt f bytes o)
+by_fault : (f : Encoding) (bytes : List ℕ) (lines : List ProofLine) (fault : Option ℕ) → BytesMean f bytes lines fault →
+    ((ls : List ProofLine) × Accepted f ls bytes) ⊎ ((o : ℕ) × FaultAt f bytes o)
 by_fault f bytes lines None h = inl (lines, h)
 by_fault f bytes lines (Some o) h = inr (o, (lines, h))
 

@@ -16,5 +16,5 @@ pub mod CheckedSteps
 pub mod MappedSteps
 pub mod AddedTexts
 pub mod VerifiedTexts
-pub mod Telling
+pub mod StepLines
 pub mod ToldSteps

@@ -41,7 +41,8 @@ module _ (marked : Bool) where
   token_agrees : (b : ℕ) (bs : List ℕ) → part_symbol marked (part_of (b ∷ bs)) ≡ text_symbol marked (b ∷ bs)
   unfolding part_from
   token_agrees b [] = ap (λ m. if is_kind (letter_kind marked b) then Mark b else meant m) (sym (meaning_agrees (b ∷ [])))
-  token_agrees b (c ∷ bs) = ap (λ p. part_symbol marked p) (part_behind b (after_byte (after_byte no_word b) c) bs) ∙ ap meant (sym (meaning_agrees (b ∷ c ∷ bs)))
+  token_agrees b (c ∷ bs) = ap (λ p. part_symbol marked p) (part_behind b (after_byte (after_byte no_word b) c) bs) ∙
+      ap meant (sym (meaning_agrees (b ∷ c ∷ bs)))
 
   some_part : (b : ℕ) (bs : List ℕ) → ((part_of (b ∷ bs)).count == 0) ≡ false
   unfolding part_from
@@ -67,22 +68,27 @@ module _ (marked : Bool) where
 
   -- what is parsed of a token, and then of the rest
   abbrev token_parsed : ℕ → Place → ℕ → Symbol → (Place → Parsed) → Parsed
-  token_parsed end place start symbol rest = put (event (Text marked) place.inside symbol) (line_at (moved (Text marked) place symbol)) (fault_offset place.inside symbol start end) (rest (moved (Text marked) place symbol))
+  token_parsed end place start symbol rest = put (event (Text marked) place.inside symbol) (line_at (moved (Text marked) place symbol))
+      (fault_offset place.inside symbol start end) (rest (moved (Text marked) place symbol))
 
   -- the machine behind a byte
   abbrev text_step : Bool → Bool → ℕ → ℕ → Part → Place → ℕ → List ℕ → Parsed
   text_step blank empty at start part place b bs =
       let here : ReaderState = text_at at start part place in
-      let then_ : ReaderState = if blank && not empty then ended_token here (moved (Text marked) place (part_symbol marked part)) else (if blank then ended_token here place else text_at (next at) start (after_text part b) place) in
+      let then_ : ReaderState = if blank && not empty then ended_token here
+      (moved (Text marked) place (part_symbol marked part)) else (if blank then ended_token here place else text_at (next at) start (after_text part b)
+      place) in
       put (if blank && not empty then event (Text marked) place.inside (part_symbol marked part) else More) (line_at then_.place) start (parsed_from then_ bs)
 
   abbrev text_read : Bool → ℕ → ℕ → ℕ → List ℕ → Place → ℕ → List ℕ → Parsed
   text_read blank end at start word place b bs =
-      read (Text marked) end place (if blank then text_token marked start word ++ text_tokens marked (next at) (next at) [] bs else text_tokens marked (next at) start (word ++ b ∷ []) bs)
+      read (Text marked) end place (if blank then text_token marked start word ++ text_tokens marked (next at) (next at) [] bs else text_tokens marked
+      (next at) start (word ++ b ∷ []) bs)
 
   -- the same for all of a rest
   abbrev TextAgrees : List ℕ → Type 0
-  TextAgrees bs = (at start : ℕ) (word : List ℕ) (place : Place) → parsed_from (text_at at start (part_of word) place) bs ≡ read (Text marked) (end_of at bs) place (text_tokens marked at start word bs)
+  TextAgrees bs = (at start : ℕ) (word : List ℕ) (place : Place) →
+      parsed_from (text_at at start (part_of word) place) bs ≡ read (Text marked) (end_of at bs) place (text_tokens marked at start word bs)
 
   text_blank : (at start : ℕ) (word : List ℕ) (place : Place) (b : ℕ) (bs : List ℕ) → TextAgrees bs →
       text_step true ((part_of word).count == 0) at start (part_of word) place b bs ≡ text_read true (end_of (next at) bs) at start word place b bs
@@ -94,9 +100,13 @@ module _ (marked : Bool) where
       let rest : Place → Parsed = λ q. parsed_from (text_at (next at) (next at) no_part q) bs in
       let us = text_tokens marked (next at) (next at) [] bs in
       ap (λ t. text_step true t at start (part_of word) place b bs) (some_part c cs)
-      ∙ ap (λ s. put (event (Text marked) place.inside s) (line_at (moved (Text marked) place s)) start (rest (moved (Text marked) place s))) (token_agrees c cs)
-      ∙ ap (λ o. put (event (Text marked) place.inside (text_symbol marked word)) (line_at (moved (Text marked) place (text_symbol marked word))) o (rest (moved (Text marked) place (text_symbol marked word)))) (sym (text_offset place.inside c cs start end))
-      ∙ ap (λ t. put (event (Text marked) place.inside (text_symbol marked word)) (line_at (moved (Text marked) place (text_symbol marked word))) (fault_offset place.inside (text_symbol marked word) start end) t) (h (next at) (next at) [] (moved (Text marked) place (text_symbol marked word)))
+      ∙ ap (λ s. put (event (Text marked) place.inside s) (line_at (moved (Text marked) place s)) start (rest (moved (Text marked) place s)))
+      (token_agrees c cs)
+      ∙ ap (λ o. put (event (Text marked) place.inside (text_symbol marked word)) (line_at (moved (Text marked) place (text_symbol marked word))) o
+      (rest (moved (Text marked) place (text_symbol marked word)))) (sym (text_offset place.inside c cs start end))
+      ∙ ap (λ t. put (event (Text marked) place.inside (text_symbol marked word)) (line_at (moved (Text marked) place (text_symbol marked word)))
+      (fault_offset place.inside (text_symbol marked word) start end) t)
+      (h (next at) (next at) [] (moved (Text marked) place (text_symbol marked word)))
 
   text_more : (at start : ℕ) (word : List ℕ) (place : Place) (b : ℕ) (bs : List ℕ) → TextAgrees bs →
       text_step false ((part_of word).count == 0) at start (part_of word) place b bs ≡ text_read false (end_of (next at) bs) at start word place b bs
@@ -108,12 +118,15 @@ module _ (marked : Bool) where
   text_byte true at start word place b bs h = text_blank at start word place b bs h
   text_byte false at start word place b bs h = text_more at start word place b bs h
 
-  text_closing : (at start : ℕ) (word : List ℕ) (place : Place) → parsed_from (text_at at start (part_of word) place) [] ≡ read (Text marked) at place (text_token marked start word)
+  text_closing : (at start : ℕ) (word : List ℕ) (place : Place) →
+      parsed_from (text_at at start (part_of word) place) [] ≡ read (Text marked) at place (text_token marked start word)
   unfolding part_from
   text_closing at start [] place = refl
   text_closing at start (c ∷ cs) place =
       let s = text_symbol marked (c ∷ cs) in
-      let parsed : Bool → Symbol → Parsed = λ t s. put (if t then More else event (Text marked) place.inside s) (line_at (if t then place else moved (Text marked) place s)) (fault_offset place.inside s start at) (at_end at (if t then place else moved (Text marked) place s)) in
+      let parsed : Bool → Symbol → Parsed = λ t s. put (if t then More else event (Text marked) place.inside s)
+      (line_at (if t then place else moved (Text marked) place s)) (fault_offset place.inside s start at)
+      (at_end at (if t then place else moved (Text marked) place s)) in
       ap (λ t. parsed t (part_symbol marked (part_of (c ∷ cs)))) (some_part c cs) ∙ ap (λ s. parsed false s) (token_agrees c cs)
 
   text_agrees : (bs : List ℕ) → TextAgrees bs
@@ -163,16 +176,19 @@ binary_at at start part place = record { encoding = Binary; at = at; start = sta
 abbrev binary_step : Bool → ℕ → ℕ → Part → Place → ℕ → List ℕ → Parsed
 binary_step e at start part place b bs =
     let here : ReaderState = binary_at at start part place in
-    let then_ : ReaderState = if e then ended_token here (moved Binary place (number_symbol part b)) else binary_at (next at) start (after_binary part b) place in
+    let then_ : ReaderState = if e then ended_token here (moved Binary place (number_symbol part b)) else binary_at (next at) start (after_binary part b)
+    place in
     put (if e then event Binary place.inside (number_symbol part b) else More) (line_at then_.place) start (parsed_from then_ bs)
 
 abbrev binary_read : Bool → ℕ → ℕ → ℕ → List ℕ → Place → ℕ → List ℕ → Parsed
 binary_read e end at start front place b bs =
-    read Binary end place (if e then record { at = start; symbol = binary_symbol front b } ∷ binary_tokens (next at) (next at) [] bs else binary_tokens (next at) start (front ++ b ∷ []) bs)
+    read Binary end place (if e then record { at = start; symbol = binary_symbol front b } ∷ binary_tokens (next at) (next at) [] bs else binary_tokens
+    (next at) start (front ++ b ∷ []) bs)
 
 abbrev BinaryAgrees : List ℕ → Type 0
 BinaryAgrees bs =
-    (at start : ℕ) (front : List ℕ) (place : Place) → length front ≤ 4 → parsed_from (binary_at at start (number_part front) place) bs ≡ read Binary (end_of at bs) place (binary_tokens at start front bs)
+    (at start : ℕ) (front : List ℕ) (place : Place) → length front ≤ 4 →
+    parsed_from (binary_at at start (number_part front) place) bs ≡ read Binary (end_of at bs) place (binary_tokens at start front bs)
 
 not_four : (c : Bool) (n : ℕ) → (c || n == 4) ≡ false → n ≤ 4 → n < 4
 not_four true n e h = absurd cc
@@ -192,17 +208,22 @@ binary_byte true at start front place b bs h few e =
     let s = binary_symbol front b in
     let rest : Place → Parsed = λ q. parsed_from (binary_at (next at) (next at) no_part q) bs in
     ap (λ s. put (event Binary place.inside s) (line_at (moved Binary place s)) start (rest (moved Binary place s))) (number_agrees front b few)
-    ∙ ap (λ o. put (event Binary place.inside s) (line_at (moved Binary place s)) o (rest (moved Binary place s))) (sym (number_offset (nat_lt b 128 && (nat_lt 0 b || is_none front) && nat_le (value_of (front ++ b ∷ [])) (2 ^ 29 + 1)) place.inside (value_of (front ++ b ∷ [])) start end))
-    ∙ ap (λ t. put (event Binary place.inside s) (line_at (moved Binary place s)) (fault_offset place.inside s start end) t) (h (next at) (next at) [] (moved Binary place s) (omega arith))
+    ∙ ap (λ o. put (event Binary place.inside s) (line_at (moved Binary place s)) o (rest (moved Binary place s)))
+    (sym (number_offset (nat_lt b 128 && (nat_lt 0 b || is_none front) && nat_le (value_of (front ++ b ∷ [])) (2 ^ 29 + 1)) place.inside
+    (value_of (front ++ b ∷ [])) start end))
+    ∙ ap (λ t. put (event Binary place.inside s) (line_at (moved Binary place s)) (fault_offset place.inside s start end) t)
+    (h (next at) (next at) [] (moved Binary place s) (omega arith))
 binary_byte false at start front place b bs h few e =
     let l = length_more front b in
     let g = not_four (nat_lt b 128) (length front) e few in
     ap (λ p. parsed_from (binary_at (next at) start p place) bs) (part_grows front b few) ∙ h (next at) start (front ++ b ∷ []) place (omega (arith, l, g))
 
-binary_closing : (at start : ℕ) (front : List ℕ) (place : Place) → parsed_from (binary_at at start (number_part front) place) [] ≡ read Binary at place (cut_token start front)
+binary_closing : (at start : ℕ) (front : List ℕ) (place : Place) →
+    parsed_from (binary_at at start (number_part front) place) [] ≡ read Binary at place (cut_token start front)
 binary_closing at start [] place = refl
 binary_closing at start (c ∷ cs) place =
-    let parsed : Bool → Parsed = λ t. put (if t then More else event Binary place.inside Cut) (line_at (if t then place else moved Binary place Cut)) (fault_offset place.inside Cut start at) (at_end at (if t then place else moved Binary place Cut)) in
+    let parsed : Bool → Parsed = λ t. put (if t then More else event Binary place.inside Cut) (line_at (if t then place else moved Binary place Cut))
+    (fault_offset place.inside Cut start at) (at_end at (if t then place else moved Binary place Cut)) in
     ap parsed (none_length (c ∷ cs))
 
 binary_agrees : (bs : List ℕ) → BinaryAgrees bs

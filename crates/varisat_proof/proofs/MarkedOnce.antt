@@ -17,7 +17,7 @@ use Rattle.varisat_proof.specs.declared.checker.error.CheckerError.{CheckerError
 use Rattle.varisat_proof.specs.declared.checker.error.CheckerError.TheVariants.{CheckFailed, NoSuchClause, CoreNotAssumed, Parse}
 use Rattle.varisat_proof.specs.Lines.{ProofLine, step_number}
 use Rattle.varisat_proof.specs.Machine.{Parsed, parsed}
-use Rattle.varisat_proof.specs.Marked.{Told, ProofState, TakesKind, Takes, IsWrongKind, IsWrongBy, Goes, StopsBefore, Stops, CheckOnce}
+use Rattle.varisat_proof.specs.Marked.{MarkedTold, ProofState, TakesKind, Takes, IsWrongKind, IsWrongBy, Goes, StopsBefore, Stops, CheckOnce}
 use Rattle.varisat_proof.proofs.CheckedLines.{error_of}
 use Rattle.varisat_proof.proofs.TokenLines.{only_parsed}
 
@@ -34,21 +34,32 @@ same_by r r' s s' e f w = subst (λ x. Same x r') (sym e) (subst (λ x. Same s x
 
 same_taken : (s s' : ProofState) (kind : LineKind) (c : Clause) (r r' : ProofState) → Same s s' → TakesKind s kind c r → TakesKind s' kind c r' → Same r r'
 same_taken s s' Adds c r r' w h k = same_by r r' _ _ h.1 k.1 (record { present = same_add s.present s'.present c c w.present (same_set-self c); told = w.told })
-same_taken s s' Deletes c r r' w h k = same_by r r' _ _ h.2 k.2 (record { present = takes_out_unique s.present s'.present c h.0 k.0 w.present h.1 k.1; told = w.told })
+same_taken s s' Deletes c r r' w h k = same_by r r' _ _ h.2 k.2
+    (record { present = takes_out_unique s.present s'.present c h.0 k.0 w.present h.1 k.1; told = w.told })
 same_taken s s' Accepts c r r' w h k =
-    same_by r r' _ _ h k (record { present = same_add s.present s'.present c c w.present (same_set-self c); told = ap (λ x. let t : Told = record { assumed = x.assumed; inputs = with_one_more x.inputs c; cores = x.cores } in t) w.told })
-same_taken s s' Assumes c r r' w h k = same_by r r' _ _ h k (record { present = w.present; told = ap (λ x. let t : Told = record { assumed = c; inputs = x.inputs; cores = x.cores } in t) w.told })
+    same_by r r' _ _ h k (record {
+      present = same_add s.present s'.present c c w.present (same_set-self c);
+      told = ap (λ x. let t : MarkedTold = record { assumed = x.assumed; inputs = with_one_more x.inputs c; cores = x.cores } in t) w.told;
+    })
+same_taken s s' Assumes c r r' w h k = same_by r r' _ _ h k (record
+    { present = w.present; told = ap (λ x. let t : MarkedTold = record { assumed = c; inputs = x.inputs; cores = x.cores } in t) w.told })
 same_taken s s' Fails c r r' w h k =
-    same_by r r' _ _ h.2 k.2 (record { present = w.present; told = ap (λ x. let t : Told = record { assumed = x.assumed; inputs = x.inputs; cores = x.cores ++ (length x.inputs.clauses, c) ∷ [] } in t) w.told })
+    same_by r r' _ _ h.2 k.2
+    (record {
+      present = w.present;
+      told = ap (λ x. let t : MarkedTold = record
+          { assumed = x.assumed; inputs = x.inputs; cores = x.cores ++ (length x.inputs.clauses, c) ∷ [] } in t) w.told;
+    })
 
 -- a line that is wrong in the one is not taken in the other
-wrong_taken : (s s' : ProofState) (kind : LineKind) (c : Clause) (status : LineStatus) (r : ProofState) → Same s s' → IsWrongKind s kind c status → TakesKind s' kind c r → ⊥
+wrong_taken : (s s' : ProofState) (kind : LineKind) (c : Clause) (status : LineStatus) (r : ProofState) → Same s s' → IsWrongKind s kind c status →
+    TakesKind s' kind c r → ⊥
 wrong_taken s s' Adds c Unproved r w h k = h (follows_same s'.present s.present c c (same_clauses-back s.present s'.present w.present) (same_set-self c) k.0)
 wrong_taken s s' Deletes c Absent r w h k =
     let t = takes_from s'.present c k.0 k.1 in
     let u = same_clauses_find s'.present s.present (same_clauses-back s.present s'.present w.present) t.0 t.1 in
     h u.0 u.1 (same_set-through u.0 t.0 c u.2 t.2)
-wrong_taken s s' Fails c Unassumed r w h k = h (subst (λ (x : Told). c ⊆ x.assumed) (sym w.told) k.0)
+wrong_taken s s' Fails c Unassumed r w h k = h (subst (λ (x : MarkedTold). c ⊆ x.assumed) (sym w.told) k.0)
 wrong_taken s s' Fails c Unproved r w h k = h.1 (conflicts_same s'.present s.present c (same_clauses-back s.present s'.present w.present) k.1)
 wrong_taken s s' kind c status r w h k = absurd h
 
@@ -61,7 +72,8 @@ deletes_status : (s : ProofState) (c : Clause) (a : LineStatus) → IsWrongKind 
 deletes_status s c Absent h = refl
 deletes_status s c a h = absurd h
 
-fails_status : (s : ProofState) (c : Clause) (a : LineStatus) → IsWrongKind s Fails c a → ((a ≡ Unproved) × (c ⊆ s.told.assumed)) ⊎ ((a ≡ Unassumed) × (c ⊆ s.told.assumed → ⊥))
+fails_status : (s : ProofState) (c : Clause) (a : LineStatus) → IsWrongKind s Fails c a → ((a ≡ Unproved) × (c ⊆ s.told.assumed))
+    ⊎ ((a ≡ Unassumed) × (c ⊆ s.told.assumed → ⊥))
 fails_status s c Unproved h = inl (refl, h.0)
 fails_status s c Unassumed h = inr (refl, h)
 fails_status s c a h = absurd h
@@ -71,8 +83,8 @@ same_status s s' Adds c a b w h k = adds_status s c a h ∙ sym (adds_status s' 
 same_status s s' Deletes c a b w h k = deletes_status s c a h ∙ sym (deletes_status s' c b k)
 same_status s s' Fails c a b w h k =
     ⊎_elim
-    (λ x. ⊎_elim (λ y. x.0 ∙ sym y.0) (λ y. absurd (y.1 (subst (λ (z : Told). c ⊆ z.assumed) w.told x.1))) (fails_status s' c b k))
-    (λ x. ⊎_elim (λ y. absurd (x.1 (subst (λ (z : Told). c ⊆ z.assumed) (sym w.told) y.1))) (λ y. x.0 ∙ sym y.0) (fails_status s' c b k))
+    (λ x. ⊎_elim (λ y. x.0 ∙ sym y.0) (λ y. absurd (y.1 (subst (λ (z : MarkedTold). c ⊆ z.assumed) w.told x.1))) (fails_status s' c b k))
+    (λ x. ⊎_elim (λ y. absurd (x.1 (subst (λ (z : MarkedTold). c ⊆ z.assumed) (sym w.told) y.1))) (λ y. x.0 ∙ sym y.0) (fails_status s' c b k))
     (fails_status s c a h)
 same_status s s' kind c a b w h k = absurd h
 
@@ -88,13 +100,16 @@ ended_result (Some o) = Err (Parse o)
 data Halts (fault : Option ℕ) (n : ℕ) (t : ProofState) (back : List ProofLine) (r : Result CheckVerdict CheckerError) : Type 0 where
   Refuted : Conflicts t.present [] → r ≡ refuted_result fault → Halts fault n t back r
   AtEnd : (Conflicts t.present [] → ⊥) → back ≡ [] → r ≡ ended_result fault → Halts fault n t back r
-  AtLine : (Conflicts t.present [] → ⊥) → (line : ProofLine) → (lines : List ProofLine) → back ≡ line ∷ lines → (status : LineStatus) → IsWrongBy t line status → r ≡ Err (error_of status (step_number (suc n))) → Halts fault n t back r
+  AtLine : (Conflicts t.present [] → ⊥) → (line : ProofLine) → (lines : List ProofLine) → back ≡ line ∷ lines → (status : LineStatus) →
+      IsWrongBy t line status → r ≡ Err (error_of status (step_number (suc n))) → Halts fault n t back r
 
-before_line : (fault : Option ℕ) (n : ℕ) (t : ProofState) (back : List ProofLine) (status : LineStatus) (step : ℕ) → StopsBefore status n t back step → Halts fault n t back (Err (error_of status step))
+before_line : (fault : Option ℕ) (n : ℕ) (t : ProofState) (back : List ProofLine) (status : LineStatus) (step : ℕ) → StopsBefore status n t back step →
+    Halts fault n t back (Err (error_of status step))
 before_line fault n t [] status step s = absurd s
 before_line fault n t (line ∷ lines) status step s = AtLine s.0 line lines refl status s.1 (ap (λ x. Err (error_of status x)) s.2)
 
-halts : (fault : Option ℕ) (n : ℕ) (t : ProofState) (back : List ProofLine) (r : Result CheckVerdict CheckerError) → Stops fault n t back r → Halts fault n t back r
+halts : (fault : Option ℕ) (n : ℕ) (t : ProofState) (back : List ProofLine) (r : Result CheckVerdict CheckerError) → Stops fault n t back r →
+    Halts fault n t back r
 halts fault n t back (Ok Refutation) s = Refuted s.1 (sym (ap refuted_result s.0))
 halts fault n t back (Ok Derivation) s = AtEnd s.2 s.1 (sym (ap ended_result s.0))
 halts fault n t back (Err (CheckFailed step)) s = before_line fault n t back Unproved step s
@@ -104,7 +119,8 @@ halts fault n t back (Err (Parse o)) s = ⊎_elim (λ k. Refuted k (sym (ap refu
 halts fault n t back (Err error) s = absurd s
 
 -- it does not go on there
-stuck : (fault : Option ℕ) (n : ℕ) (s s' : ProofState) (line : ProofLine) (lines back : List ProofLine) (r : Result CheckVerdict CheckerError) (u : ProofState) → Same s s' → Halts fault n s back r → back ≡ line ∷ lines → (Conflicts s'.present [] → ⊥) → Takes s' line u → ⊥
+stuck : (fault : Option ℕ) (n : ℕ) (s s' : ProofState) (line : ProofLine) (lines back : List ProofLine) (r : Result CheckVerdict CheckerError)
+    (u : ProofState) → Same s s' → Halts fault n s back r → back ≡ line ∷ lines → (Conflicts s'.present [] → ⊥) → Takes s' line u → ⊥
 stuck fault n s s' line lines back r u w (Refuted k e) b none h = none (conflicts_same s.present s'.present [] w.present k)
 stuck fault n s s' line lines back r u w (AtEnd k z e) b none h = let f : [] ≡ line ∷ lines = sym z ∙ b in absurd cc
 stuck fault n s s' line lines back r u w (AtLine k l ls z status i e) b none h =
@@ -113,7 +129,8 @@ stuck fault n s s' line lines back r u w (AtLine k l ls z status i e) b none h =
     wrong_taken s s' line.kind line.clause status u w (subst (λ x. IsWrongBy s x status) g i) h
 
 -- two checks take the same lines
-walk : (fault : Option ℕ) (n m : ℕ) (front front' back back' : List ProofLine) (r q : Result CheckVerdict CheckerError) (s s' t t' : ProofState) → Same s s' → Goes s front t → Goes s' front' t' → front ++ back ≡ front' ++ back' → Halts fault n t back r → Halts fault m t' back' q →
+walk : (fault : Option ℕ) (n m : ℕ) (front front' back back' : List ProofLine) (r q : Result CheckVerdict CheckerError) (s s' t t' : ProofState) →
+    Same s s' → Goes s front t → Goes s' front' t' → front ++ back ≡ front' ++ back' → Halts fault n t back r → Halts fault m t' back' q →
     (front ≡ front') × (back ≡ back') × Same t t'
 walk fault n m [] [] back back' r q s s' t t' w g h e a b = (refl, e, same_by t t' s s' (sym g) (sym h) w)
 walk fault n m [] (l ∷ f) back back' r q s s' t t' w g h e a b =
@@ -128,14 +145,17 @@ walk fault n m (l ∷ f) (k ∷ f') back back' r q s s' t t' w g h e a b =
     (ap (λ z. z ∷ f) x ∙ ap (λ z. k ∷ z) rest.0, rest.1, rest.2)
 
 -- and return the same
-return_same : (fault : Option ℕ) (n : ℕ) (t t' : ProofState) (back : List ProofLine) (r q : Result CheckVerdict CheckerError) → Same t t' → Halts fault n t back r → Halts fault n t' back q → r ≡ q
+return_same : (fault : Option ℕ) (n : ℕ) (t t' : ProofState) (back : List ProofLine) (r q : Result CheckVerdict CheckerError) → Same t t' →
+    Halts fault n t back r → Halts fault n t' back q → r ≡ q
 return_same fault n t t' back r q w (Refuted k e) (Refuted l f) = e ∙ sym f
 return_same fault n t t' back r q w (Refuted k e) (AtEnd l z f) = absurd (l (conflicts_same t.present t'.present [] w.present k))
 return_same fault n t t' back r q w (Refuted k e) (AtLine l x y z a i f) = absurd (l (conflicts_same t.present t'.present [] w.present k))
-return_same fault n t t' back r q w (AtEnd k z e) (Refuted l f) = absurd (k (conflicts_same t'.present t.present [] (same_clauses-back t.present t'.present w.present) l))
+return_same fault n t t' back r q w (AtEnd k z e) (Refuted l f) = absurd
+    (k (conflicts_same t'.present t.present [] (same_clauses-back t.present t'.present w.present) l))
 return_same fault n t t' back r q w (AtEnd k z e) (AtEnd l y f) = e ∙ sym f
 return_same fault n t t' back r q w (AtEnd k z e) (AtLine l x y v a i f) = absurd (let h : [] ≡ x ∷ y = sym z ∙ v in cc)
-return_same fault n t t' back r q w (AtLine k x y z a i e) (Refuted l f) = absurd (k (conflicts_same t'.present t.present [] (same_clauses-back t.present t'.present w.present) l))
+return_same fault n t t' back r q w (AtLine k x y z a i e) (Refuted l f) = absurd
+    (k (conflicts_same t'.present t.present [] (same_clauses-back t.present t'.present w.present) l))
 return_same fault n t t' back r q w (AtLine k x y z a i e) (AtEnd l v f) = absurd (let h : [] ≡ x ∷ y = sym v ∙ z in cc)
 return_same fault n t t' back r q w (AtLine k x y z a i e) (AtLine l x' y' v b j f) =
     let h : x ∷ y ≡ x' ∷ y' = sym z ∙ v in
@@ -143,12 +163,14 @@ return_same fault n t t' back r q w (AtLine k x y z a i e) (AtLine l x' y' v b j
     let same = same_status t t' x.kind x.clause a b w i (subst (λ (o : ProofLine). IsWrongBy t' o b) (sym g) j) in
     e ∙ ap (λ o. Err (error_of o (step_number (suc n)))) same ∙ sym f
 
-same_parsed : (a b : List ProofLine) (f g : Option ℕ) (t : Parsed) → t ≡ record { lines = a; fault = f } → t ≡ record { lines = b; fault = g } → (a ≡ b) × (f ≡ g)
+same_parsed : (a b : List ProofLine) (f g : Option ℕ) (t : Parsed) → t ≡ record { lines = a; fault = f } → t ≡ record { lines = b; fault = g } → (a ≡ b)
+    × (f ≡ g)
 same_parsed a b f g t e h = (sym (ap (λ x. x.lines) e) ∙ ap (λ x. x.lines) h, sym (ap (λ x. x.fault) e) ∙ ap (λ x. x.fault) h)
 
 pub check_once : (e : Encoding) → CheckOnce e
 check_once e = λ s bytes r q t u a b.
-    let p = same_parsed a.lines b.lines a.fault b.fault (parsed e bytes) (only_parsed e bytes a.lines a.fault a.means) (only_parsed e bytes b.lines b.fault b.means) in
+    let p = same_parsed a.lines b.lines a.fault b.fault (parsed e bytes) (only_parsed e bytes a.lines a.fault a.means)
+    (only_parsed e bytes b.lines b.fault b.means) in
     let x = halts a.fault (length a.front) t a.back r a.stops in
     let y = subst (λ f. Halts f (length b.front) u b.back q) (sym p.1) (halts b.fault (length b.front) u b.back q b.stops) in
     let self : Same s s = record { present = same_clauses-self s.present; told = refl } in

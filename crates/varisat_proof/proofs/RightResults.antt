@@ -20,13 +20,18 @@ plain_same : (ls ms : List Line) → plain_lines ls ≡ plain_lines ms → ls �
 plain_same [] [] e = refl
 plain_same [] (m ∷ ms) e = absurd cc
 plain_same (l ∷ ls) [] e = absurd cc
-plain_same (l ∷ ls) (m ∷ ms) e = let h : plain_line l ≡ plain_line m = cc in let t : plain_lines ls ≡ plain_lines ms = cc in ap (λ x. x ∷ ls) (line_same l m h) ∙ ap (λ x. m ∷ x) (plain_same ls ms t)
+plain_same (l ∷ ls) (m ∷ ms) e = let h : plain_line l ≡ plain_line m = cc in let t : plain_lines ls ≡ plain_lines ms = cc in
+    ap (λ x. x ∷ ls) (line_same l m h) ∙ ap (λ x. m ∷ x) (plain_same ls ms t)
 
-same_parsed : (a b : List ProofLine) (f g : Option ℕ) (t : Parsed) → t ≡ record { lines = a; fault = f } → t ≡ record { lines = b; fault = g } → (a ≡ b) × (f ≡ g)
+same_parsed : (a b : List ProofLine) (f g : Option ℕ) (t : Parsed) → t ≡ record { lines = a; fault = f } → t ≡ record { lines = b; fault = g } → (a ≡ b)
+    × (f ≡ g)
 same_parsed a b f g t e h = (sym (ap (λ x. x.lines) e) ∙ ap (λ x. x.lines) h, sym (ap (λ x. x.fault) e) ∙ ap (λ x. x.fault) h)
 
 pub result_once : (f : ProofFormat) → ResultOnce f
 result_once f = λ P bytes r q Q R a b.
-    let t = same_parsed (plain_lines a.lines) (plain_lines b.lines) a.fault b.fault (parsed (plain_encoding f) bytes) (only_parsed (plain_encoding f) bytes (plain_lines a.lines) a.fault a.means) (only_parsed (plain_encoding f) bytes (plain_lines b.lines) b.fault b.means) in
-    let v : a.verdict ≡ b.verdict = (exact P a.lines a.verdict a.is_verdict b.verdict).1 (subst (λ l. IsVerdict P l b.verdict) (sym (plain_same a.lines b.lines t.0)) b.is_verdict) in
+    let t = same_parsed (plain_lines a.lines) (plain_lines b.lines) a.fault b.fault (parsed (plain_encoding f) bytes)
+    (only_parsed (plain_encoding f) bytes (plain_lines a.lines) a.fault a.means)
+    (only_parsed (plain_encoding f) bytes (plain_lines b.lines) b.fault b.means) in
+    let v : a.verdict ≡ b.verdict = (exact P a.lines a.verdict a.is_verdict b.verdict).1
+    (subst (λ l. IsVerdict P l b.verdict) (sym (plain_same a.lines b.lines t.0)) b.is_verdict) in
     a.result_is ∙ ap (λ x. result_of x a.verdict) t.1 ∙ ap (λ x. result_of b.fault x) v ∙ sym b.result_is

@@ -1,5 +1,5 @@
 -- What a checker that runs inside a solver makes of a step that is right, and how the written lines and the checker go together.
-use Rattle.std.proofs.Common.{◌≡◌, ℕ, ◌+◌, Bool, false, List, [], ◌∷◌, ◌++◌, length, take, refl, sym, ap, ◌∙◌, subst, take_all, Option, None, Some, Result, Ok, Err, OnOk, IfErr, arith}
+use Rattle.std.proofs.Common.{◌≡◌, ℕ, ◌+◌, Bool, false, List, [], ◌∷◌, ◌++◌, length, refl, sym, ap, ◌∙◌, subst, Option, None, Some, Result, Ok, Err, OnOk, IfErr, inr}
 use Rattle.varisat_theory.specs.Literals.{Literal, Clause}
 use Rattle.varisat_theory.specs.Propagation.{Conflicts}
 use Rattle.varisat_theory.specs.Derivations.{Line, Add, Delete, Derives, IsPresentAfter}
@@ -20,9 +20,9 @@ use Rattle.varisat_proof.specs.declared.checker.error.CheckerError.{CheckerError
 use Rattle.varisat_proof.specs.declared.checker.error.CheckerError.TheVariants.{CheckFailed, NoSuchClause, CoreNotAssumed, Parse, Io, OutOfMemory, Dimacs, Spent}
 use Rattle.varisat_proof.specs.Lines.{ProofLine, encoding_of}
 use Rattle.varisat_proof.specs.Steps.{step_lines, lines_written}
-use Rattle.varisat_proof.specs.Calls.{CheckerState, Takes, FailsAt, DoesNotFollow, IsStep}
+use Rattle.varisat_proof.specs.Calls.{CheckerState, IsStepTaken, FailsAt, DoesNotFollow, IsStep}
 use Rattle.varisat_proof.specs.Present.{IsLeftAfter}
-use Rattle.varisat_proof.specs.Proving.{OpenState, ProofParts, IsWritten, IsBegun, IsWrittenIf, IsBegunIf, IsCheckedIf, IsTold, Tells, told, MayHold, IsUsable}
+use Rattle.varisat_proof.specs.Proving.{OpenState, ProofParts, IsWritten, IsWrittenIf, IsCheckedIf, IsTold, Tells, told, MayHold, IsUsable, IsSpent, RunsOut}
 
 -- 1. A step that is taken.
 lines_left : (P : List Clause) (lines : List Line) (Q : List Clause) → IsPresentAfter P lines Q → IsLeftAfter P (written lines) Q
@@ -33,16 +33,24 @@ lines_left P (Delete c ∷ lines) Q (R, t, h) = (R, t, lines_left R lines Q h)
 derived_left : (P : List Clause) (lines : List Line) (Q : List Clause) → Derives P lines Q → IsLeftAfter P (written lines) Q
 derived_left P lines Q d = lines_left P lines Q (derives_present P lines Q d)
 
-taken_left : (P : List Clause) (step : ProofStep) (Q : List Clause) → Takes P step Q → IsLeftAfter P (entries_of step) Q
+taken_left : (P : List Clause) (step : ProofStep) (Q : List Clause) → IsStepTaken P step Q → IsLeftAfter P (entries_of step) Q
 taken_left P (AtClause c) Q d = derived_left P (Add c.now ∷ []) Q d
 taken_left P (UnitClauses units) Q d = derived_left P (unit_lines units.now) Q d
 taken_left P (DeleteClause c) Q d = derived_left P (Delete c.now ∷ []) Q d
 taken_left P (DeleteVar v) Q e = sym e
 taken_left P (FailedAssumptions core) Q (k, e) = sym e
 
-pub taken-step : (checker : Option CheckerState) (old new : CheckerState) (step : ProofStep) (r : Result (Unit {0}) CheckerError) → checker ≡ Some old → IsStep old step r new → OnOk r (IsCheckedIf checker (entries_of step) (Some new))
+pub taken-step : (checker : Option CheckerState) (old new : CheckerState) (step : ProofStep) (r : Result (Unit {0}) CheckerError) → checker ≡ Some old →
+    IsStep old step r new → OnOk r (IsCheckedIf checker (entries_of step) (Some new))
 taken-step checker old new step (Err e) is h = tt
-taken-step checker old new step (Ok u) is (t, a, b) = subst (λ k. IsCheckedIf k (entries_of step) (Some new)) (sym is) (taken_left old.clauses step new.clauses t, b ∙ sym a)
+taken-step checker old new step (Ok u) is (t, a, b) = subst (λ k. IsCheckedIf k (entries_of step) (Some new)) (sym is)
+    (taken_left old.clauses step new.clauses t, b ∙ sym a)
+
+-- an error of a step that is right spends the checker
+pub spent-step : (old new : CheckerState) (step : ProofStep) (r : Result (Unit {0}) CheckerError) → IfErr r (λ e. e ≡ OutOfMemory) →
+    IsStep old step r new → IfErr r (λ e. IsSpent (Some new))
+spent-step old new step (Ok u) m h = tt
+spent-step old new step (Err e) m h = let w : IsStep old step (Err OutOfMemory) new = subst (λ x. IsStep old step (Err x) new) m h in w.1
 
 -- 2. A step that is right is not answered to be wrong.
 wrong_line : (Q R : List Clause) (line : Line) (rest : List Line) (S : List Clause) → SameClauses R Q → IsWrong Q line → Derives R (line ∷ rest) S → ⊥
@@ -53,16 +61,19 @@ wrong_line Q R (Delete c) rest S s w d =
     w u.0 u.1 (same_set-through u.0 t.0 c u.2 t.2)
 
 -- lines that can be derived from what a checker may hold have no wrong one
-none-fails : (P : List Clause) (lines : List Line) (n : ℕ) (line : Line) (Q : List Clause) → CanTake (MayHold (Some (record { clauses = P; spent = false }))) lines → FailsAt P lines n line Q → ⊥
+none-fails : (P : List Clause) (lines : List Line) (n : ℕ) (line : Line) (Q : List Clause) →
+    CanTake (MayHold (Some (record { clauses = P; spent = false }))) lines → FailsAt P lines n line Q → ⊥
 none-fails P lines n line Q (held, after, h, d) f =
     let (S, e, s) = derives_same held P lines lines after h.0 (same_lines-self lines) d in
     let (R, front, rest) = derives_cut P f.front (line ∷ f.back) S (subst (λ ls. Derives P ls S) f.splits e) in
-    wrong_line Q R line f.back S (present_unique P P f.front R Q (same_clauses-self P) (derives_present P f.front R front) (derives_present P f.front Q f.derives)) f.wrong rest
+    wrong_line Q R line f.back S (present_unique P P f.front R Q (same_clauses-self P) (derives_present P f.front R front)
+    (derives_present P f.front Q f.derives)) f.wrong rest
 
 can_fail : (P : List Clause) (core : List Literal) → CanFail (MayHold (Some (record { clauses = P; spent = false }))) core → Conflicts P core
 can_fail P core (held, h, k) = conflicts_same held P core h.0 k
 
-right_follows : (P : List Clause) (step : ProofStep) (n : ℕ) (Q : List Clause) → CanTakeStep (MayHold (Some (record { clauses = P; spent = false }))) step → DoesNotFollow P step n Q → ⊥
+right_follows : (P : List Clause) (step : ProofStep) (n : ℕ) (Q : List Clause) →
+    CanTakeStep (MayHold (Some (record { clauses = P; spent = false }))) step → DoesNotFollow P step n Q → ⊥
 right_follows P (AtClause c) n Q h (d, f) = none-fails P (step_lines (AtClause c)) n (Add d) Q h f
 right_follows P (UnitClauses units) n Q h (d, f) = none-fails P (step_lines (UnitClauses units)) n (Add d) Q h f
 right_follows P (DeleteClause c) n Q h f = f
@@ -77,14 +88,17 @@ no_line P n line Q f = empty f.front f.splits
     empty [] e = cc
     empty (l ∷ front) e = cc
 
-right_deletes : (P : List Clause) (step : ProofStep) (n : ℕ) (d : Clause) (Q : List Clause) → CanTakeStep (MayHold (Some (record { clauses = P; spent = false }))) step → FailsAt P (step_lines step) n (Delete d) Q → ⊥
+right_deletes : (P : List Clause) (step : ProofStep) (n : ℕ) (d : Clause) (Q : List Clause) →
+    CanTakeStep (MayHold (Some (record { clauses = P; spent = false }))) step → FailsAt P (step_lines step) n (Delete d) Q → ⊥
 right_deletes P (AtClause c) n d Q h f = none-fails P (step_lines (AtClause c)) n (Delete d) Q h f
 right_deletes P (UnitClauses units) n d Q h f = none-fails P (step_lines (UnitClauses units)) n (Delete d) Q h f
 right_deletes P (DeleteClause c) n d Q h f = none-fails P (step_lines (DeleteClause c)) n (Delete d) Q h f
 right_deletes P (DeleteVar v) n d Q h f = no_line P n (Delete d) Q f
 right_deletes P (FailedAssumptions core) n d Q h f = no_line P n (Delete d) Q f
 
-right_error : (P : List Clause) (new : CheckerState) (step : ProofStep) (e : CheckerError) → CanTakeStep (MayHold (Some (record { clauses = P; spent = false }))) step → IsStep (record { clauses = P; spent = false }) step (Err e) new → e ≡ OutOfMemory
+right_error : (P : List Clause) (new : CheckerState) (step : ProofStep) (e : CheckerError) →
+    CanTakeStep (MayHold (Some (record { clauses = P; spent = false }))) step → IsStep (record { clauses = P; spent = false }) step (Err e) new →
+    e ≡ OutOfMemory
 right_error P new step (CheckFailed n) h s = absurd (right_follows P step n new.clauses h s.0)
 right_error P new step (NoSuchClause n) h s = absurd (right_deletes P step n s.0.0 new.clauses h s.0.1)
 right_error P new step (CoreNotAssumed n) h s = absurd s
@@ -94,34 +108,29 @@ right_error P new step OutOfMemory h s = refl
 right_error P new step (Dimacs cause) h s = absurd s
 right_error P new step Spent h s = absurd cc
 
-pub right-step : (checker : Option CheckerState) (old new : CheckerState) (step : ProofStep) (r : Result (Unit {0}) CheckerError) → checker ≡ Some old → IsUsable checker → CanTakeStep (MayHold checker) step → IsStep old step r new → IfErr r (λ e. e ≡ OutOfMemory)
+pub right-step : (checker : Option CheckerState) (old new : CheckerState) (step : ProofStep) (r : Result (Unit {0}) CheckerError) → checker ≡ Some old →
+    IsUsable checker → CanTakeStep (MayHold checker) step → IsStep old step r new → IfErr r (λ e. e ≡ OutOfMemory)
 right-step checker old new step (Ok u) is usable right h = tt
 right-step checker old new step (Err e) is usable right h =
     let unspent : old.spent ≡ false = subst IsUsable is usable in
-    let whole : old ≡ record { clauses = old.clauses; spent = false } = ap (λ (b : Bool). let s : CheckerState = record { clauses = old.clauses; spent = b } in s) unspent in
-    right_error old.clauses new step e (subst (λ (k : CheckerState). CanTakeStep (MayHold (Some k)) step) whole (subst (λ (k : Option CheckerState). CanTakeStep (MayHold k) step) is right)) (subst (λ (k : CheckerState). IsStep k step (Err e) new) whole h)
+    let whole : old ≡ record { clauses = old.clauses; spent = false } = ap (λ (b : Bool). let s : CheckerState = record
+    { clauses = old.clauses; spent = b } in s) unspent in
+    right_error old.clauses new step e (subst (λ (k : CheckerState). CanTakeStep (MayHold (Some k)) step) whole
+    (subst (λ (k : Option CheckerState). CanTakeStep (MayHold k) step) is right)) (subst (λ (k : CheckerState). IsStep k step (Err e) new) whole h)
 
 -- 3. The lines and the checker.
-begun : (old new : Option OpenState) (lines : Encoding → List ProofLine) → IsWrittenIf old lines new → IsBegunIf old lines 0 new
-begun None new lines e = (e, refl)
-begun (Some old) None lines e = e
-begun (Some old) (Some new) lines w =
-    let bytes = lines_written (encoding_of old.format) (lines (encoding_of old.format)) in
-    record {
-      rest = w.rest;
-      bytes = (length bytes, w.bytes ∙ ap (λ xs. old.taken.bytes ++ xs) (sym (take_all (length bytes) bytes (omega arith))));
-      faults = omega (arith, w.faults);
-    }
-
 -- other words for the same lines
-pub written-as : (old new : Option OpenState) (lines others : Encoding → List ProofLine) → ((e : Encoding) → lines e ≡ others e) → IsWrittenIf old lines new → IsWrittenIf old others new
+pub written-as : (old new : Option OpenState) (lines others : Encoding → List ProofLine) → ((e : Encoding) → lines e ≡ others e) →
+    IsWrittenIf old lines new → IsWrittenIf old others new
 written-as None new lines others same w = w
 written-as (Some old) None lines others same w = w
 written-as (Some old) (Some new) lines others same w = subst (λ ls. IsWritten old ls new) (same (encoding_of old.format)) w
 
-pub tells-ok : (old parts new : ProofParts) (entries : List Entry) (r : Result (Unit {0}) TraceError) → parts ≡ old → r ≡ Ok tt → IsWrittenIf parts.opened (told entries) new.opened → IsCheckedIf parts.checker entries new.checker → Tells old entries r new
-tells-ok old parts new entries r e is w k = subst (λ x. Tells old entries x new) (sym is) (subst (λ p. IsTold p entries new) e record { written = w; checked = k })
+pub tells-ok : (old parts new : ProofParts) (entries : List Entry) (r : Result (Unit {0}) TraceError) → parts ≡ old → r ≡ Ok tt →
+    IsWrittenIf parts.opened (told entries) new.opened → IsCheckedIf parts.checker entries new.checker → Tells old entries r new
+tells-ok old parts new entries r e is w k = subst (λ x. Tells old entries x new) (sym is)
+    (subst (λ p. IsTold p entries new) e record { written = w; checked = k })
 
-pub tells-memory : (old parts new : ProofParts) (entries : List Entry) (r : Result (Unit {0}) TraceError) → parts ≡ old → r ≡ Err Memory → IsWrittenIf parts.opened (told entries) new.opened → Tells old entries r new
-tells-memory old parts new entries r e is w =
-    subst (λ x. Tells old entries x new) (sym is) (subst (λ (p : ProofParts). IsBegunIf p.opened (told entries) 0 new.opened) e (begun parts.opened new.opened (told entries) w))
+pub tells-spent : (old parts new : ProofParts) (entries : List Entry) (r : Result (Unit {0}) TraceError) → parts ≡ old → r ≡ Err Memory →
+    IsWrittenIf parts.opened (told entries) new.opened → IsSpent new.checker → Tells old entries r new
+tells-spent old parts new entries r e is w k = subst (λ x. Tells old entries x new) (sym is) (subst (λ (p : ProofParts). RunsOut p entries new) e (inr (w, k)))

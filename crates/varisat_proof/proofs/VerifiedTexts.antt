@@ -17,8 +17,8 @@ use Rattle.varisat_proof.specs.declared.checker.error.CheckVerdict.TheVariants.{
 use Rattle.varisat_proof.specs.declared.checker.error.CheckerError.{CheckerError}
 use Rattle.varisat_proof.specs.declared.checker.error.CheckerError.TheVariants.{CheckFailed, NoSuchClause, CoreNotAssumed, Parse, Io, OutOfMemory, Dimacs, Spent}
 use Rattle.varisat_proof.specs.Calls.{CheckerState, Checks, ChecksBytes, ChecksMarked, IsMarkedResult, core_lists, GivesReading, Whole, FaultInText, TextFailed, ReaderRanOut, AddsText, Added, ClauseRanOut, Unread}
-use Rattle.varisat_proof.specs.Marked.{Told, nothing_told, IsCheckOf}
-use Rattle.varisat_proof.specs.Verified.{AreGiven, IsMarkedCheck, IsMarkedVerdict, VerifiesMarked, VerifiesBy, GivesClauses, GivesUnsatisfiable, Inputs, Verifies, verdict_of, verdict_status}
+use Rattle.varisat_proof.specs.Marked.{MarkedTold, nothing_told, IsCheckOf, state_of}
+use Rattle.varisat_proof.specs.Verified.{AreGiven, IsMarkedCheck, IsMarkedVerdict, VerifiesMarked, VerifiesBy, GivesClauses, GivesUnsatisfiable, Sources, Verifies, verdict_of, verdict_status}
 use Rattle.varisat_proof.proofs.CheckResults.{checks_sound}
 use Rattle.varisat_proof.proofs.CheckedSources.{checks_ok, checks_err, checks_right}
 use Rattle.varisat_proof.proofs.MarkedReports.{refutation_sound}
@@ -33,7 +33,14 @@ broken_fails x text e =
     let r : Reading = read nothing (items false 1 (lines text)) in closed_broken r.fault x r (last_line 1 (lines text)) refl e
 
 whole_text : (s t : Stand) (reading : Reading) → GivesReading s reading t → reading.fault ≡ None → GivesClauses s reading.clauses t
-whole_text s t reading (Whole text r h q e) f = record { text = text; reads = r; ended = h; fine = ap (λ x. x.fault) (sym e) ∙ f; clauses_are = ap (λ x. x.clauses) e }
+whole_text s t reading (Whole text r h q e) f = record {
+  text = text;
+  reads = r;
+  ended = h;
+  fine = ap (λ x. x.fault) (sym e) ∙
+      f;
+  clauses_are = ap (λ x. x.clauses) e;
+}
 whole_text s t reading (FaultInText text r q e n) f = absurd (n f)
 whole_text s t reading (TextFailed text r q e) f = absurd (broken_fails kind.Io text (ap (λ x. x.fault) (sym e) ∙ f))
 whole_text s t reading (ReaderRanOut front rest r q e) f = absurd (broken_fails kind.OutOfMemory front (ap (λ x. x.fault) (sym e) ∙ f))
@@ -43,7 +50,8 @@ record Took (s t : Stand) (mid : CheckerState) : Type 0 where
   given : GivesClauses s mid.clauses t
   now : mid ≡ record { clauses = mid.clauses; spent = false }
 
-took : (s t : Stand) (mid : CheckerState) → AddsText (record { checker = record { clauses = []; spent = false }; source = s }) (Ok tt) (record { checker = mid; source = t }) → Took s t mid
+took : (s t : Stand) (mid : CheckerState) → AddsText (record { checker = record { clauses = []; spent = false }; source = s }) (Ok tt)
+    (record { checker = mid; source = t }) → Took s t mid
 took s t mid (Added reading g a) =
     let e : mid ≡ record { clauses = reading.clauses; spent = false } = a.1.now in
     record {
@@ -53,8 +61,10 @@ took s t mid (Added reading g a) =
 took s t mid (ClauseRanOut text r e h) = absurd cc
 took s t mid (Unread e h g) = absurd cc
 
-pub verifies : (f : ProofFormat) (s t p q : Stand) (start mid new : CheckerState) (r : Result CheckVerdict CheckerError) (v : Bool) → start ≡ record { clauses = []; spent = false } →
-    AddsText (record { checker = start; source = s }) (Ok tt) (record { checker = mid; source = t }) → (mid.spent ≡ false → Checks f (record { checker = mid; source = p }) r (record { checker = new; source = q })) →
+pub verifies : (f : ProofFormat) (s t p q : Stand) (start mid new : CheckerState) (r : Result CheckVerdict CheckerError) (v : Bool) →
+    start ≡ record { clauses = []; spent = false } →
+    AddsText (record { checker = start; source = s }) (Ok tt) (record { checker = mid; source = t }) →
+    (mid.spent ≡ false → Checks f (record { checker = mid; source = p }) r (record { checker = new; source = q })) →
     verdict_of r ≡ Some v → Verifies f (record { cnf = s; proof = p }) (record { cnf = t; proof = q }) v
 verifies f s t p q start mid new r v e a c d =
     let w = took s t mid (subst (λ x. AddsText (record { checker = x; source = s }) (Ok tt) (record { checker = mid; source = t })) e a) in
@@ -79,25 +89,41 @@ is_refutation (Err OutOfMemory) e = absurd cc
 is_refutation (Err (Dimacs x)) e = absurd cc
 is_refutation (Err Spent) e = absurd cc
 
-pub verified_unsatisfiable : (f : ProofFormat) (old new : Inputs) (v : Bool) → v ≡ true → Verifies f old new v → GivesUnsatisfiable old.cnf new.cnf
+pub verified_unsatisfiable : (f : ProofFormat) (old new : Sources) (v : Bool) → v ≡ true → Verifies f old new v → GivesUnsatisfiable old.cnf new.cnf
 verified_unsatisfiable f old new v e w =
     (w.clauses, w.given, checks_sound f w.clauses w.left.clauses w.result_is old.proof new.proof (is_refutation w.result_is (w.verdict ∙ ap Some e)) w.checks)
 
 -- a check of a marked proof by a new checker
-pub marked_ok : {A : Type 0} (other new : CheckerState) (report : MarkedReport A) (p q : Stand) → other ≡ record { clauses = []; spent = false } → (other.spent ≡ false → ChecksMarked (record { checker = other; source = p }) (Ok report) (record { checker = new; source = q })) →
+pub marked_ok : {A : Type 0} (other new : CheckerState) (report : MarkedReport A) (p q : Stand) → other ≡ record { clauses = []; spent = false } →
+    (other.spent ≡ false → ChecksMarked (record { checker = other; source = p }) (Ok report) (record { checker = new; source = q })) →
     ChecksBytes {V = CheckVerdict} (λ bytes. IsMarkedCheck bytes (Ok report.verdict) report.inputs.clauses new.clauses) p (Ok report.verdict) q
 marked_ok other new report p q e h =
-    checks_ok (λ bytes. IsMarkedResult other.clauses bytes (Ok report) new.clauses) (λ bytes. IsMarkedCheck bytes (Ok report.verdict) report.inputs.clauses new.clauses) p q report report.verdict
-    (λ bytes k. let t : Told = record { assumed = k.0; inputs = report.inputs; cores = core_lists report.cores.items } in (t, refl, subst (λ (P : List Clause). IsCheckOf (Text true) (record { present = P; told = nothing_told }) bytes (Ok report.verdict) (record { present = new.clauses; told = t })) (ap (λ x. x.clauses) e) k.1)) (h (ap (λ x. x.spent) e))
+    checks_ok (λ bytes. IsMarkedResult other.clauses bytes (Ok report) new.clauses)
+    (λ bytes. IsMarkedCheck bytes (Ok report.verdict) report.inputs.clauses new.clauses) p q report report.verdict
+    (λ bytes k. let t : MarkedTold = record { assumed = k.0; inputs = report.inputs; cores = core_lists report.cores.items } in (
+      t,
+      refl,
+      subst (λ (P : List Clause). IsCheckOf (Text true) (state_of P nothing_told) bytes (Ok report.verdict) (state_of new.clauses t))
+          (ap (λ x. x.clauses) e) k.1,
+    )) (h (ap (λ x. x.spent) e))
 
-pub marked_err : {A : Type 0} (other new : CheckerState) (x : CheckerError) (p q : Stand) → other ≡ record { clauses = []; spent = false } → (other.spent ≡ false → ChecksBytes {V = MarkedReport A} (λ bytes. (told : Told) × IsCheckOf (Text true) (record { present = other.clauses; told = nothing_told }) bytes (Err x) (record { present = new.clauses; told = told })) p (Err x) q) →
+pub marked_err : {A : Type 0} (other new : CheckerState) (x : CheckerError) (p q : Stand) → other ≡ record { clauses = []; spent = false } →
+    (other.spent ≡ false → ChecksBytes {V = MarkedReport A} (λ bytes. (told : MarkedTold)
+    × IsCheckOf (Text true) (state_of other.clauses nothing_told) bytes (Err x) (state_of new.clauses told)) p (Err x) q) →
     ChecksBytes {V = CheckVerdict} (λ bytes. IsMarkedCheck bytes (Err x) [] new.clauses) p (Err x) q
 marked_err other new x p q e h =
-    checks_err (λ bytes. (told : Told) × IsCheckOf (Text true) (record { present = other.clauses; told = nothing_told }) bytes (Err x) (record { present = new.clauses; told = told })) (λ bytes. IsMarkedCheck bytes (Err x) [] new.clauses) p q x
-    (λ bytes k. (k.0, subst (λ (P : List Clause). IsCheckOf (Text true) (record { present = P; told = nothing_told }) bytes (Err x) (record { present = new.clauses; told = k.0 })) (ap (λ x. x.clauses) e) k.1)) (h (ap (λ x. x.spent) e))
+    checks_err (λ bytes. (told : MarkedTold) × IsCheckOf (Text true) (state_of other.clauses nothing_told) bytes (Err x) (state_of new.clauses told))
+    (λ bytes. IsMarkedCheck bytes (Err x) [] new.clauses) p q x
+    (λ bytes k. (
+      k.0,
+      subst (λ (P : List Clause). IsCheckOf (Text true) (state_of P nothing_told) bytes (Err x) (state_of new.clauses k.0))
+          (ap (λ x. x.clauses) e) k.1,
+    )) (h (ap (λ x. x.spent) e))
 
-pub verifies_marked : (s t p q : Stand) (start mid : CheckerState) (r : Result CheckVerdict CheckerError) (inputs Q : List Clause) (v : Bool) → start ≡ record { clauses = []; spent = false } →
-    AddsText (record { checker = start; source = s }) (Ok tt) (record { checker = mid; source = t }) → ChecksBytes {V = CheckVerdict} (λ bytes. IsMarkedCheck bytes r inputs Q) p r q → IsMarkedVerdict mid.clauses r inputs v →
+pub verifies_marked : (s t p q : Stand) (start mid : CheckerState) (r : Result CheckVerdict CheckerError) (inputs Q : List Clause) (v : Bool) →
+    start ≡ record { clauses = []; spent = false } →
+    AddsText (record { checker = start; source = s }) (Ok tt) (record { checker = mid; source = t }) →
+    ChecksBytes {V = CheckVerdict} (λ bytes. IsMarkedCheck bytes r inputs Q) p r q → IsMarkedVerdict mid.clauses r inputs v →
     VerifiesMarked (record { cnf = s; proof = p }) (record { cnf = t; proof = q }) v
 verifies_marked s t p q start mid r inputs Q v e a c d =
     let w = took s t mid (subst (λ x. AddsText (record { checker = x; source = s }) (Ok tt) (record { checker = mid; source = t })) e a) in
@@ -107,23 +133,26 @@ pub next_among : (xs rest all : List Clause) (c : Clause) → xs ++ c ∷ rest �
 next_among xs rest all c e = subst (λ x. c ∈ x) e (∈-append_right c xs (c ∷ rest) (inl refl))
 
 pub given_more : (P cs : List Clause) (c : Clause) → AreGiven P cs → ((d : Clause) × (d ∈ P) × SameSet d c) → AreGiven P (cs ++ c ∷ [])
-given_more P cs c g w x m = ⊎_elim (λ k. g x k) (λ k. ⊎_elim (λ e. subst (λ y. (d : Clause) × (d ∈ P) × SameSet d y) (sym e) w) (λ z. absurd z) k) (∈-append_cases x cs (c ∷ []) m)
+given_more P cs c g w x m = ⊎_elim (λ k. g x k) (λ k. ⊎_elim (λ e. subst (λ y. (d : Clause) × (d ∈ P) × SameSet d y) (sym e) w) (λ z. absurd z) k)
+    (∈-append_cases x cs (c ∷ []) m)
 
 given_satisfied : (P cs : List Clause) → AreGiven P cs → IsSatisfiable P → IsSatisfiable cs
 given_satisfied P cs g (a, s) = (a, λ c m. let w = g c m in let x = s w.0 w.1 in (x.0, w.2.0 x.0 x.1, x.2))
 
-marked_refutes : (P inputs Q : List Clause) (r : Result CheckVerdict CheckerError) (old new : Stand) → ChecksBytes {V = CheckVerdict} (λ bytes. IsMarkedCheck bytes r inputs Q) old r new → IsMarkedVerdict P r inputs true → IsSatisfiable P → ⊥
+marked_refutes : (P inputs Q : List Clause) (r : Result CheckVerdict CheckerError) (old new : Stand) →
+    ChecksBytes {V = CheckVerdict} (λ bytes. IsMarkedCheck bytes r inputs Q) old r new → IsMarkedVerdict P r inputs true → IsSatisfiable P → ⊥
 marked_refutes P inputs Q (Ok v) old new c d i =
     let h = d.0 refl in
     let w = checks_right (λ bytes. IsMarkedCheck bytes (Ok v) inputs Q) old new v c in
     refutation_sound [] Q w.0 w.1.0 v h.0 w.1.2 (subst IsSatisfiable (sym w.1.1) (given_satisfied P inputs h.1 i))
 marked_refutes P inputs Q (Err x) old new c d i = absurd (let z = d.1 in cc)
 
-pub unsatisfiable_by : (f : ProofFormat) (old new : Inputs) → VerifiesBy f old new true → GivesUnsatisfiable old.cnf new.cnf
+pub unsatisfiable_by : (f : ProofFormat) (old new : Sources) → VerifiesBy f old new true → GivesUnsatisfiable old.cnf new.cnf
 unsatisfiable_by Drat old new w = verified_unsatisfiable Drat old new true refl w
 unsatisfiable_by BinaryDrat old new w = verified_unsatisfiable BinaryDrat old new true refl w
 unsatisfiable_by Marked old new w = (w.clauses, w.given, marked_refutes w.clauses w.inputs w.left w.result_is old.proof new.proof w.checks w.verdict)
 
-pub status_is_true : (f : ProofFormat) (old new : Inputs) (v : Bool) (n : ℕ) → n ≡ verdict_status v → VerifiesBy f old new v → n ≡ 0 → GivesUnsatisfiable old.cnf new.cnf
+pub status_is_true : (f : ProofFormat) (old new : Sources) (v : Bool) (n : ℕ) → n ≡ verdict_status v → VerifiesBy f old new v → n ≡ 0 →
+    GivesUnsatisfiable old.cnf new.cnf
 status_is_true f old new true n e w z = unsatisfiable_by f old new w
 status_is_true f old new false n e w z = absurd (omega arith)

@@ -1,5 +1,5 @@
 -- What the calls of a checker return, and what they make of it.
-use Rattle.std.specs.Prelude.{◌≡◌, ◌≢◌, ℕ, suc, ◌+◌, List, ◌∷◌, ◌++◌, length, take, map, Vec, Bool, true, false, Some, None, Result, Ok, Err}
+use Rattle.std.specs.Prelude.{◌≡◌, ◌≢◌, ℕ, suc, ◌+◌, List, [], ◌∷◌, ◌++◌, length, take, map, Vec, Bool, true, false, Some, None, Result, Ok, Err}
 use Rattle.varisat_theory.specs.Membership.{◌∈◌}
 use Rattle.varisat_theory.specs.Literals.{Literal, Clause, IsSatisfiable, IsSatisfiableWith}
 use Rattle.varisat_theory.specs.Propagation.{Conflicts}
@@ -21,23 +21,22 @@ use Rattle.varisat_proof.specs.declared.checker.error.CheckerError.{CheckerError
 use Rattle.varisat_proof.specs.declared.checker.error.CheckerError.TheVariants.{CheckFailed, NoSuchClause, CoreNotAssumed, Parse, Io, OutOfMemory, Dimacs, Spent}
 use Rattle.varisat_proof.specs.Steps.{step_lines}
 use Rattle.varisat_proof.specs.Results.{IsResult}
-use Rattle.varisat_proof.specs.Marked.{Told, nothing_told, IsCheckOf}
+use Rattle.varisat_proof.specs.Marked.{MarkedTold, nothing_told, state_of, IsCheckOf}
 
 -- the present clauses, and whether the checker is spent
 pub record CheckerState : Type 0 where
   pub clauses : List Clause
   pub spent : Bool
 
+-- a checker with one clause more
+abbrev pub with_clause : CheckerState → Clause → CheckerState
+with_clause c clause = record c { clauses = c.clauses ++ clause ∷ [] }
+
 -- A call is refused: by a spent checker, which stays as it is, or as memory runs out, which spends it.
 abbrev pub IsRefusal : CheckerState → CheckerError → CheckerState → Type 0
 IsRefusal old OutOfMemory new = (old.spent ≡ false) × (new.spent ≡ true)
 IsRefusal old Spent new = (old.spent ≡ true) × (new ≡ old)
-IsRefusal old (CheckFailed step) new = ⊥
-IsRefusal old (NoSuchClause step) new = ⊥
-IsRefusal old (CoreNotAssumed step) new = ⊥
-IsRefusal old (Parse offset) new = ⊥
-IsRefusal old (Io cause) new = ⊥
-IsRefusal old (Dimacs cause) new = ⊥
+IsRefusal old error new = ⊥
 
 -- the present clauses become these, and nothing else changes
 pub record Becomes (old : CheckerState) (clauses : List Clause) (new : CheckerState) : Type 0 where
@@ -63,12 +62,12 @@ is_io error = false
 
 -- 1. Steps.
 -- what a step that is taken makes of the present clauses
-abbrev pub Takes : List Clause → ProofStep → List Clause → Type 0
-Takes P (AtClause c) Q = Derives P (step_lines (AtClause c)) Q
-Takes P (UnitClauses units) Q = Derives P (step_lines (UnitClauses units)) Q
-Takes P (DeleteClause c) Q = Derives P (step_lines (DeleteClause c)) Q
-Takes P (DeleteVar v) Q = Q ≡ without v P
-Takes P (FailedAssumptions core) Q = Conflicts P core.now × (Q ≡ P)
+abbrev pub IsStepTaken : List Clause → ProofStep → List Clause → Type 0
+IsStepTaken P (AtClause c) Q = Derives P (step_lines (AtClause c)) Q
+IsStepTaken P (UnitClauses units) Q = Derives P (step_lines (UnitClauses units)) Q
+IsStepTaken P (DeleteClause c) Q = Derives P (step_lines (DeleteClause c)) Q
+IsStepTaken P (DeleteVar v) Q = Q ≡ without v P
+IsStepTaken P (FailedAssumptions core) Q = Conflicts P core.now × (Q ≡ P)
 
 -- Line number `number` of the step, counted from 1, is wrong: the lines before it are taken, after which Q is present.
 pub record FailsAt (P : List Clause) (lines : List Line) (number : ℕ) (line : Line) (Q : List Clause) : Type 0 where
@@ -89,21 +88,22 @@ DoesNotFollow P (FailedAssumptions core) number Q = (Conflicts P core.now → �
 
 -- a step is taken, or it is wrong, or the call is refused
 abbrev pub IsStep : CheckerState → ProofStep → Result (Unit {0}) CheckerError → CheckerState → Type 0
-IsStep old step (Ok u) new = Takes old.clauses step new.clauses × (old.spent ≡ false) × (new.spent ≡ false)
+IsStep old step (Ok u) new = IsStepTaken old.clauses step new.clauses × (old.spent ≡ false) × (new.spent ≡ false)
 IsStep old step (Err (CheckFailed number)) new = DoesNotFollow old.clauses step number new.clauses × (old.spent ≡ false) × (new.spent ≡ false)
-IsStep old step (Err (NoSuchClause number)) new = ((d : Clause) × FailsAt old.clauses (step_lines step) number (Delete d) new.clauses) × (old.spent ≡ false) × (new.spent ≡ false)
-IsStep old step (Err (CoreNotAssumed number)) new = ⊥
-IsStep old step (Err (Parse offset)) new = ⊥
-IsStep old step (Err (Io cause)) new = ⊥
+IsStep old step (Err (NoSuchClause number)) new = ((d : Clause) × FailsAt old.clauses (step_lines step) number (Delete d) new.clauses)
+    × (old.spent ≡ false) × (new.spent ≡ false)
 IsStep old step (Err OutOfMemory) new = IsRefusal old OutOfMemory new
-IsStep old step (Err (Dimacs cause)) new = ⊥
 IsStep old step (Err Spent) new = IsRefusal old Spent new
+IsStep old step (Err error) new = ⊥
 
 -- 2. Proofs.
 -- a checker, and the source that it reads
 pub record CheckerStanding : Type 0 where
   pub checker : CheckerState
   pub source : Stand
+
+abbrev pub standing_of : CheckerState → Stand → CheckerStanding
+standing_of checker source = record { checker = checker; source = source }
 
 -- an error that speaks of the bytes
 abbrev pub is_of_bytes : CheckerError → Bool
@@ -123,8 +123,10 @@ pub data ChecksBytes {V : Type 0} (is_right : List ℕ → Type 0) (old : Stand)
   -- the source ended, and the result is that of all it gave
   AtEnd : (text : List ℕ) → streams.Reads old text new → HasEnded new → new.faults ≡ old.faults → is_right text → ChecksBytes is_right old result new
   -- whatever comes behind what the source gave, this is the result
-  InText : (text : List ℕ) → streams.Reads old text new → new.faults ≡ old.faults → ((rest : List ℕ) → is_right (text ++ rest)) → ChecksBytes is_right old result new
-  SourceFailed : (text : List ℕ) → streams.Reads old text new → new.faults ≡ old.faults + 1 → (e : CheckerError) → result ≡ Err e → is_io e ≡ true → ChecksBytes is_right old result new
+  InText : (text : List ℕ) → streams.Reads old text new → new.faults ≡ old.faults → ((rest : List ℕ) → is_right (text ++ rest)) →
+      ChecksBytes is_right old result new
+  SourceFailed : (text : List ℕ) → streams.Reads old text new → new.faults ≡ old.faults + 1 → (e : CheckerError) → result ≡ Err e → is_io e ≡ true →
+      ChecksBytes is_right old result new
   RanOut : (text : List ℕ) → streams.Reads old text new → new.faults ≡ old.faults → result ≡ Err OutOfMemory → ChecksBytes is_right old result new
 
 -- what a check of a DRAT proof returns
@@ -135,20 +137,28 @@ Checks format old result new = ChecksBytes (λ bytes. IsResult format old.checke
 abbrev pub core_lists : {A : Type 0} → List (ℕ × Vec ℕ A) → List (ℕ × List Literal)
 core_lists cores = map (λ core. (core.0, core.1.items)) cores
 
+-- what a report tells, with the list that is assumed where the check stops
+abbrev pub reported : {A : Type 0} → List Literal → MarkedReport A → MarkedTold
+reported assumed report = record { assumed = assumed; inputs = report.inputs; cores = core_lists report.cores.items }
+
 -- The one right result of a check of a marked proof: its report has the clauses that were given and the cores up to where it stops.
 abbrev pub IsMarkedResult : {A : Type 0} → List Clause → List ℕ → Result (MarkedReport A) CheckerError → List Clause → Type 0
 IsMarkedResult P bytes (Ok report) Q =
-    (assumed : List Literal) × IsCheckOf (Text true) (record { present = P; told = nothing_told }) bytes (Ok report.verdict) (record { present = Q; told = record { assumed = assumed; inputs = report.inputs; cores = core_lists report.cores.items } })
-IsMarkedResult P bytes (Err e) Q = (told : Told) × IsCheckOf (Text true) (record { present = P; told = nothing_told }) bytes (Err e) (record { present = Q; told = told })
+    (assumed : List Literal)
+    × IsCheckOf (Text true) (state_of P nothing_told) bytes (Ok report.verdict) (state_of Q (reported assumed report))
+IsMarkedResult P bytes (Err e) Q = (told : MarkedTold) × IsCheckOf (Text true) (state_of P nothing_told) bytes (Err e) (state_of Q told)
 
 -- what a check of a marked proof returns
 abbrev pub ChecksMarked : {A : Type 0} → CheckerStanding → Result (MarkedReport A) CheckerError → CheckerStanding → Type 0
 ChecksMarked old result new = ChecksBytes (λ bytes. IsMarkedResult old.checker.clauses bytes result new.checker.clauses) old.source result new.source
 
--- A report is true: what is called a refutation is one, and no assignment satisfies a core together with the clauses that the checker held and those given before the core.
+-- A report is true: what is called a refutation is one, and no assignment satisfies a core together with the clauses that the checker
+-- held and those given before the core.
 pub record IsTrueReport {A : Type 0} (P : List Clause) (report : MarkedReport A) : Type 0 where
   pub refutation : report.verdict ≡ Refutation → IsSatisfiable (P ++ report.inputs.clauses) → ⊥
-  pub cores : (core : ℕ × List Literal) → core ∈ core_lists report.cores.items → IsSatisfiableWith (P ++ take core.0 report.inputs.clauses) core.1 → ⊥
+  pub cores :
+      (core : ℕ × List Literal) → core ∈ core_lists report.cores.items
+      → IsSatisfiableWith (P ++ take core.0 report.inputs.clauses) core.1 → ⊥
 
 -- 3. DIMACS texts.
 -- what a text gives, over what a source gave meanwhile
@@ -156,27 +166,26 @@ pub data GivesReading (old : Stand) (reading : Reading) (new : Stand) : Type 0 w
   -- the source ended, and this is the whole text
   Whole : (text : List ℕ) → streams.Reads old text new → HasEnded new → new.faults ≡ old.faults → reading ≡ dimacs text → GivesReading old reading new
   -- the text has a fault, whatever comes behind
-  FaultInText : (text : List ℕ) → streams.Reads old text new → new.faults ≡ old.faults → ((rest : List ℕ) → dimacs (text ++ rest) ≡ reading) → reading.fault ≢ None → GivesReading old reading new
+  FaultInText : (text : List ℕ) → streams.Reads old text new → new.faults ≡ old.faults → ((rest : List ℕ) → dimacs (text ++ rest) ≡ reading) →
+      reading.fault ≢ None → GivesReading old reading new
   -- the source failed behind the text
   TextFailed : (text : List ℕ) → streams.Reads old text new → new.faults ≡ old.faults + 1 → reading ≡ broken kind.Io text → GivesReading old reading new
   -- memory ran out in the reader behind this front of it
-  ReaderRanOut : (front rest : List ℕ) → streams.Reads old (front ++ rest) new → new.faults ≡ old.faults → reading ≡ broken kind.OutOfMemory front → GivesReading old reading new
+  ReaderRanOut : (front rest : List ℕ) → streams.Reads old (front ++ rest) new → new.faults ≡ old.faults → reading ≡ broken kind.OutOfMemory front →
+      GivesReading old reading new
 
 -- The clauses of a text join the present ones; its fault, if there is one, is returned.
 abbrev pub AddsRead : CheckerState → Reading → Result (Unit {0}) CheckerError → CheckerState → Type 0
 AddsRead old reading (Ok u) new = (reading.fault ≡ None) × Becomes old (old.clauses ++ reading.clauses) new
-AddsRead old reading (Err (Dimacs cause)) new = (reading.fault ≡ Some cause) × (cause.kind ≢ kind.OutOfMemory) × Becomes old (old.clauses ++ reading.clauses) new
-AddsRead old reading (Err (CheckFailed step)) new = ⊥
-AddsRead old reading (Err (NoSuchClause step)) new = ⊥
-AddsRead old reading (Err (CoreNotAssumed step)) new = ⊥
-AddsRead old reading (Err (Parse offset)) new = ⊥
-AddsRead old reading (Err (Io cause)) new = ⊥
+AddsRead old reading (Err (Dimacs cause)) new = (reading.fault ≡ Some cause) × (cause.kind ≢ kind.OutOfMemory)
+    × Becomes old (old.clauses ++ reading.clauses) new
 AddsRead old reading (Err OutOfMemory) new = IsRefusal old OutOfMemory new
-AddsRead old reading (Err Spent) new = ⊥
+AddsRead old reading (Err error) new = ⊥
 
 -- a text is added that a source gives; a spent checker reads nothing
 pub data AddsText (old : CheckerStanding) (result : Result (Unit {0}) CheckerError) (new : CheckerStanding) : Type 0 where
   Added : (reading : Reading) → GivesReading old.source reading new.source → AddsRead old.checker reading result new.checker → AddsText old result new
   -- memory ran out for a clause that was read
-  ClauseRanOut : (text : List ℕ) → streams.Reads old.source text new.source → result ≡ Err OutOfMemory → IsRefusal old.checker OutOfMemory new.checker → AddsText old result new
+  ClauseRanOut : (text : List ℕ) → streams.Reads old.source text new.source → result ≡ Err OutOfMemory → IsRefusal old.checker OutOfMemory new.checker →
+      AddsText old result new
   Unread : result ≡ Err Spent → IsRefusal old.checker Spent new.checker → new.source ≡ old.source → AddsText old result new

@@ -103,43 +103,24 @@ abbrev pub ChecksLine : CheckerState → Line → ℕ → Result (Unit {0}) Chec
 ChecksLine old line number (Ok u) new = Derives old.clauses (line ∷ []) new.clauses × (new.spent ≡ old.spent)
 ChecksLine old line number (Err (CheckFailed step)) new = ((c : Clause) × (line ≡ Add c) × IsWrong old.clauses (Add c)) × (step ≡ number) × (new ≡ old)
 ChecksLine old line number (Err (NoSuchClause step)) new = ((c : Clause) × (line ≡ Delete c) × IsWrong old.clauses (Delete c)) × (step ≡ number) × (new ≡ old)
-ChecksLine old line number (Err (CoreNotAssumed step)) new = ⊥
-ChecksLine old line number (Err (Parse offset)) new = ⊥
-ChecksLine old line number (Err (Io cause)) new = ⊥
 ChecksLine old line number (Err OutOfMemory) new = new.spent ≡ true
-ChecksLine old line number (Err (Dimacs cause)) new = ⊥
-ChecksLine old line number (Err Spent) new = ⊥
+ChecksLine old line number (Err error) new = ⊥
 
 abbrev pub ChecksUnits : CheckerState → List Literal → Result (Unit {0}) CheckerError → CheckerState → Type 0
 ChecksUnits old units (Ok u) new = Derives old.clauses (unit_lines units) new.clauses × (new.spent ≡ false)
 ChecksUnits old units (Err (CheckFailed step)) new = ((c : Clause) × FailsAt old.clauses (unit_lines units) step (Add c) new.clauses) × (new.spent ≡ false)
-ChecksUnits old units (Err (NoSuchClause step)) new = ⊥
-ChecksUnits old units (Err (CoreNotAssumed step)) new = ⊥
-ChecksUnits old units (Err (Parse offset)) new = ⊥
-ChecksUnits old units (Err (Io cause)) new = ⊥
 ChecksUnits old units (Err OutOfMemory) new = new.spent ≡ true
-ChecksUnits old units (Err (Dimacs cause)) new = ⊥
-ChecksUnits old units (Err Spent) new = ⊥
+ChecksUnits old units (Err error) new = ⊥
 
 abbrev pub ChecksCore : CheckerState → List Literal → Result (Unit {0}) CheckerError → CheckerState → Type 0
 ChecksCore old core (Ok u) new = Conflicts old.clauses core × (new ≡ old)
 ChecksCore old core (Err (CheckFailed step)) new = (Conflicts old.clauses core → ⊥) × (step ≡ 1) × (new ≡ old)
-ChecksCore old core (Err (NoSuchClause step)) new = ⊥
-ChecksCore old core (Err (CoreNotAssumed step)) new = ⊥
-ChecksCore old core (Err (Parse offset)) new = ⊥
-ChecksCore old core (Err (Io cause)) new = ⊥
 ChecksCore old core (Err OutOfMemory) new = new.spent ≡ true
-ChecksCore old core (Err (Dimacs cause)) new = ⊥
-ChecksCore old core (Err Spent) new = ⊥
+ChecksCore old core (Err error) new = ⊥
 
 -- 4. Texts.
 -- how the fault of a text is returned: memory that ran out in the reader spends the checker
 abbrev pub RefusesText : CheckerState → DimacsError → CheckerError → CheckerState → Type 0
 RefusesText old fault (Dimacs cause) new = (cause ≡ fault) × (fault.kind ≢ kind.OutOfMemory) × (new ≡ old)
 RefusesText old fault OutOfMemory new = (fault.kind ≡ kind.OutOfMemory) × (new.spent ≡ true)
-RefusesText old fault (CheckFailed step) new = ⊥
-RefusesText old fault (NoSuchClause step) new = ⊥
-RefusesText old fault (CoreNotAssumed step) new = ⊥
-RefusesText old fault (Parse offset) new = ⊥
-RefusesText old fault (Io cause) new = ⊥
-RefusesText old fault Spent new = ⊥
+RefusesText old fault error new = ⊥

@@ -69,7 +69,8 @@ ends_number front b = nat_lt b 128 || length front == 4
 abbrev pub binary_tokens : ℕ → ℕ → List ℕ → List ℕ → List Token
 binary_tokens at start front [] = cut_token start front
 binary_tokens at start front (b ∷ bs) =
-    if ends_number front b then record { at = start; symbol = binary_symbol front b } ∷ binary_tokens (next at) (next at) [] bs else binary_tokens (next at) start (front ++ b ∷ []) bs
+    if ends_number front b then record { at = start; symbol = binary_symbol front b } ∷ binary_tokens (next at) (next at) [] bs else binary_tokens
+    (next at) start (front ++ b ∷ []) bs
 
 abbrev pub tokens : Encoding → List ℕ → List Token
 tokens (Text marked) bytes = text_tokens marked 0 0 [] bytes

@@ -7,7 +7,8 @@ use Rattle.varisat_proof.specs.Written.{Written, AreInRange}
 
 -- what is written for such lines with variables up to 2^28 is accepted for just these
 abbrev pub WrittenIsAccepted : Encoding → Type 0
-WrittenIsAccepted encoding = (lines : List ProofLine) (bytes : List ℕ) → HasKinds encoding lines → AreInRange lines → Written encoding lines bytes → Accepted encoding lines bytes
+WrittenIsAccepted encoding = (lines : List ProofLine) (bytes : List ℕ) → HasKinds encoding lines → AreInRange lines → Written encoding lines bytes →
+    Accepted encoding lines bytes
 
 -- bytes are accepted for at most one list of lines
 abbrev pub AcceptedOnce : Encoding → Type 0

@@ -59,7 +59,9 @@ letter Fails = 102
 -- the kind of line that a letter of text marks
 abbrev pub letter_kind : Bool → ℕ → Option LineKind
 letter_kind marked b =
-    if b == 100 then Some Deletes else (if marked then (if b == 105 then Some Accepts else (if b == 113 then Some Assumes else (if b == 102 then Some Fails else None))) else None)
+    if b == 100 then Some
+    Deletes else (if marked then (if b == 105 then Some Accepts else (if b == 113 then Some
+    Assumes else (if b == 102 then Some Fails else None))) else None)
 
 -- numbers of lines stay at 2^64-1
 abbrev pub step_number : ℕ → ℕ

@@ -94,7 +94,8 @@ fault_offset inside Bad at end = at
 abbrev pub read : Encoding → ℕ → Place → List Token → Parsed
 read encoding end p [] = at_end end p
 read encoding end p (u ∷ us) =
-    put (event encoding p.inside u.symbol) (line_at (moved encoding p u.symbol)) (fault_offset p.inside u.symbol u.at end) (read encoding end (moved encoding p u.symbol) us)
+    put (event encoding p.inside u.symbol) (line_at (moved encoding p u.symbol)) (fault_offset p.inside u.symbol u.at end)
+    (read encoding end (moved encoding p u.symbol) us)
 
 abbrev pub between : Place
 between = record { inside = false; kind = Adds; clause = [] }
@@ -106,7 +107,12 @@ no_part = record { count = 0; first = 0; word = no_word; value = 0 }
 
 -- a byte more of a token, of which it is enough to count two
 abbrev pub after_text : Part → ℕ → Part
-after_text part b = record { count = if part.count == 0 then 1 else 2; first = if part.count == 0 then b else part.first; word = after_byte part.word b; value = 0 }
+after_text part b = record {
+  count = if part.count == 0 then 1 else 2;
+  first = if part.count == 0 then b else part.first;
+  word = after_byte part.word b;
+  value = 0;
+}
 
 abbrev pub part_symbol : Bool → Part → Symbol
 part_symbol marked part = if part.count == 1 && is_kind (letter_kind marked part.first) then Mark part.first else meant (word_says part.word)
@@ -160,7 +166,8 @@ abbrev pub ended_token : ReaderState → Place → ReaderState
 ended_token p place = record { encoding = p.encoding; at = next p.at; start = next p.at; part = no_part; place = place }
 
 abbrev pub went_on : ReaderState → ℕ → ReaderState
-went_on p b = if is_between p.encoding b then ended_token p p.place else record { encoding = p.encoding; at = next p.at; start = p.start; part = grown p.encoding p.part b; place = p.place }
+went_on p b = if is_between p.encoding b then ended_token p p.place else record
+    { encoding = p.encoding; at = next p.at; start = p.start; part = grown p.encoding p.part b; place = p.place }
 
 abbrev pub after : ReaderState → ℕ → ReaderState
 after p b = if ends p.encoding p.part b then ended_token p (moved p.encoding p.place (symbol_of p.encoding p.part b)) else went_on p b

@@ -19,28 +19,33 @@ use Rattle.varisat_proof.specs.Lines.{ProofLine, step_number}
 use Rattle.varisat_proof.specs.Means.{BytesMean}
 
 -- 1. One line.
--- What lines told: the list that is assumed, the clauses that were given, and the cores, each with the number of clauses given before.
-pub record Told : Type 0 where
+-- What marked lines told: the list that is assumed, the clauses that were given, and the cores, each with the number of clauses before it.
+pub record MarkedTold : Type 0 where
   pub assumed : List Literal
   pub inputs : Formula
   pub cores : List (ℕ × List Literal)
 
-abbrev pub nothing_told : Told
+abbrev pub nothing_told : MarkedTold
 nothing_told = record { assumed = []; inputs = no_clauses; cores = [] }
 
 -- the clauses that are present, and what was told
 pub record ProofState : Type 0 where
   pub present : List Clause
-  pub told : Told
+  pub told : MarkedTold
 
--- A line is taken, after which t is there: an added clause follows, a deletion takes a clause out, a given clause joins as it is, a list replaces the one before, a core is assumed and conflicts.
+abbrev pub state_of : List Clause → MarkedTold → ProofState
+state_of present told = record { present = present; told = told }
+
+-- A line is taken, after which t is there: an added clause follows, a deletion takes a clause out, a given clause joins as it is,
+-- a list replaces the one before, a core is assumed and conflicts.
 abbrev pub TakesKind : ProofState → LineKind → Clause → ProofState → Type 0
-TakesKind s Adds c t = Follows s.present c × (t ≡ record { present = s.present ++ c ∷ []; told = s.told })
-TakesKind s Deletes c t = (R : List Clause) × TakesOut s.present c R × (t ≡ record { present = R; told = s.told })
-TakesKind s Accepts c t = t ≡ record { present = s.present ++ c ∷ []; told = record { assumed = s.told.assumed; inputs = with_one_more s.told.inputs c; cores = s.told.cores } }
-TakesKind s Assumes ls t = t ≡ record { present = s.present; told = record { assumed = ls; inputs = s.told.inputs; cores = s.told.cores } }
+TakesKind s Adds c t = Follows s.present c × (t ≡ record s { present = s.present ++ c ∷ [] })
+TakesKind s Deletes c t = (R : List Clause) × TakesOut s.present c R × (t ≡ record s { present = R })
+TakesKind s Accepts c t = t ≡ state_of (s.present ++ c ∷ []) (record s.told { inputs = with_one_more s.told.inputs c })
+TakesKind s Assumes ls t = t ≡ state_of s.present (record s.told { assumed = ls })
 TakesKind s Fails ls t =
-    (ls ⊆ s.told.assumed) × Conflicts s.present ls × (t ≡ record { present = s.present; told = record { assumed = s.told.assumed; inputs = s.told.inputs; cores = s.told.cores ++ (length s.told.inputs.clauses, ls) ∷ [] } })
+    (ls ⊆ s.told.assumed) × Conflicts s.present ls
+    × (t ≡ state_of s.present (record s.told { cores = s.told.cores ++ (length s.told.inputs.clauses, ls) ∷ [] }))
 
 abbrev pub Takes : ProofState → ProofLine → ProofState → Type 0
 Takes s line t = TakesKind s line.kind line.clause t
@@ -67,7 +72,8 @@ abbrev pub StopsBefore : LineStatus → ℕ → ProofState → List ProofLine �
 StopsBefore status before t [] step = ⊥
 StopsBefore status before t (line ∷ lines) step = (Conflicts t.present [] → ⊥) × IsWrongBy t line status × (step ≡ step_number (suc before))
 
--- Where a check stops that was handed lines up to a fault of the bytes, has taken so many of them, and has these before it: as soon as propagation conflicts it only reads on.
+-- Where a check stops that was handed lines up to a fault of the bytes, has taken so many of them, and has these before it: as soon as
+-- propagation conflicts it only reads on.
 abbrev pub Stops : Option ℕ → ℕ → ProofState → List ProofLine → Result CheckVerdict CheckerError → Type 0
 Stops fault before t back (Ok Refutation) = (fault ≡ None) × Conflicts t.present []
 Stops fault before t back (Ok Derivation) = (fault ≡ None) × (back ≡ []) × (Conflicts t.present [] → ⊥)
@@ -78,7 +84,8 @@ Stops fault before t back (Err (Parse offset)) = (fault ≡ Some offset) × (Con
 Stops fault before t back (Err error) = ⊥
 
 -- 3. Bytes.
--- The lines in front of the bytes' first fault, that fault, and how many of the lines are taken from s on to t; and what the check returns there.
+-- The lines in front of the bytes' first fault, that fault, and how many of the lines are taken from s on to t; and what the check
+-- returns there.
 pub record IsCheckOf (encoding : Encoding) (s : ProofState) (bytes : List ℕ) (result : Result CheckVerdict CheckerError) (t : ProofState) : Type 0 where
   pub lines : List ProofLine
   pub fault : Option ℕ
@@ -92,4 +99,5 @@ pub record IsCheckOf (encoding : Encoding) (s : ProofState) (bytes : List ℕ) (
 -- all bytes have one result from a state on, and what was told then is one thing too
 abbrev pub CheckOnce : Encoding → Type 0
 CheckOnce encoding =
-    (s : ProofState) (bytes : List ℕ) (r q : Result CheckVerdict CheckerError) (t u : ProofState) → IsCheckOf encoding s bytes r t → IsCheckOf encoding s bytes q u → (r ≡ q) × (t.told ≡ u.told)
+    (s : ProofState) (bytes : List ℕ) (r q : Result CheckVerdict CheckerError) (t u : ProofState)
+    → IsCheckOf encoding s bytes r t → IsCheckOf encoding s bytes q u → (r ≡ q) × (t.told ≡ u.told)

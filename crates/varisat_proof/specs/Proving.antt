@@ -1,5 +1,5 @@
--- What an open proof and a checker inside a solver make of the entries that they are told.
-use Rattle.std.specs.Prelude.{◌≡◌, ℕ, ◌+◌, ◌-◌, ◌<◌, ◌^◌, Bool, true, false, ◌||◌, List, [], ◌∷◌, ◌++◌, flat_map, take, Option, Some, None, Result, Ok, Err}
+-- What telling entries makes of an open proof, of which only the bytes and the count of faults change, and of the checker in a solver.
+use Rattle.std.specs.Prelude.{◌≡◌, ◌⊎◌, ℕ, ◌+◌, ◌-◌, ◌<◌, ◌^◌, Bool, true, false, ◌||◌, List, [], ◌∷◌, ◌++◌, flat_map, take, Option, Some, None, Result, Ok, Err}
 use Rattle.varisat_theory.specs.Literals.{Clause}
 use Rattle.varisat_theory.specs.Held.{SameClauses}
 use Rattle.varisat_formula.specs.Streams.{Taken}
@@ -79,10 +79,22 @@ pub record IsTold (old : ProofParts) (entries : List Entry) (new : ProofParts) :
   pub written : IsWrittenIf old.opened (told entries) new.opened
   pub checked : IsCheckedIf old.checker entries new.checker
 
--- What telling entries returns and leaves. After an error a beginning of the lines stands in the target; where that failed, the checker was told nothing.
+-- a checker that ran out of memory
+abbrev pub IsSpent : Option CheckerState → Type 0
+IsSpent None = ⊥
+IsSpent (Some c) = c.spent ≡ true
+
+-- Memory ran out: for a line, so that a beginning of the lines was written and the checker was told nothing; or in the checker, behind all
+-- the lines.
+abbrev pub RunsOut : ProofParts → List Entry → ProofParts → Type 0
+RunsOut old entries new =
+    (IsBegunIf old.opened (told entries) 0 new.opened × (new.checker ≡ old.checker))
+    ⊎ (IsWrittenIf old.opened (told entries) new.opened × IsSpent new.checker)
+
+-- What telling entries returns and leaves. Where the target failed, a beginning of the lines was written and the checker was told nothing.
 abbrev pub Tells : ProofParts → List Entry → Result (Unit {0}) TraceError → ProofParts → Type 0
 Tells old entries (Ok u) new = IsTold old entries new
-Tells old entries (Err Memory) new = IsBegunIf old.opened (told entries) 0 new.opened
+Tells old entries (Err Memory) new = RunsOut old entries new
 Tells old entries (Err (Target cause)) new = IsBegunIf old.opened (told entries) 1 new.opened × (new.checker ≡ old.checker)
 
 -- 3. What can be told.

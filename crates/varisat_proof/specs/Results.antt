@@ -31,7 +31,7 @@ StopsAt (plain.DoesNotFollow number) front back Q = number ≡ suc (length front
 StopsAt (plain.DeletesNothing number) front back Q = number ≡ suc (length front)
 
 -- Q is present where a checker stops
-pub record Leaves (P : List Clause) (lines : List Line) (verdict : PlainVerdict) (Q : List Clause) : Type 0 where
+pub record LeavesPresent (P : List Clause) (lines : List Line) (verdict : PlainVerdict) (Q : List Clause) : Type 0 where
   pub front : List Line
   pub back : List Line
   pub splits : lines ≡ front ++ back
@@ -45,9 +45,10 @@ pub record IsResult (format : ProofFormat) (P : List Clause) (bytes : List ℕ) 
   pub verdict : PlainVerdict
   pub means : BytesMean (plain_encoding format) bytes (plain_lines lines) fault
   pub is_verdict : IsVerdict P lines verdict
-  pub leaves : Leaves P lines verdict Q
+  pub leaves : LeavesPresent P lines verdict Q
   pub result_is : result ≡ result_of fault verdict
 
 -- all bytes have one result
 abbrev pub ResultOnce : ProofFormat → Type 0
-ResultOnce format = (P : List Clause) (bytes : List ℕ) (r q : Result CheckVerdict CheckerError) (Q R : List Clause) → IsResult format P bytes r Q → IsResult format P bytes q R → r ≡ q
+ResultOnce format = (P : List Clause) (bytes : List ℕ) (r q : Result CheckVerdict CheckerError) (Q R : List Clause) → IsResult format P bytes r Q →
+    IsResult format P bytes q R → r ≡ q

@@ -1,5 +1,6 @@
 -- What the program's `check` finds out of a text and a proof, what it prints, and with which status it ends then.
-use Rattle.std.specs.Prelude.{◌≡◌, ℕ, List, Bool, true, false, Option, Some, None, Result, Ok, Err, IsTrue, ◌↔◌, [], codes}
+use Rattle.std.specs.Prelude.{◌≡◌, ◌⊎◌, ℕ, List, Bool, true, false, Option, Some, None, Result, Ok, Err, IsTrue, ◌↔◌, [], codes}
+use Rattle.std.specs.Io.KnownBytes.{Appends}
 use Rattle.varisat_theory.specs.Membership.{◌∈◌, SameSet}
 use Rattle.varisat_theory.specs.Literals.{Clause, IsSatisfiable}
 use Rattle.varisat_formula.specs.Dimacs.{dimacs}
@@ -12,8 +13,8 @@ use Rattle.varisat_proof.specs.declared.checker.error.CheckVerdict.{CheckVerdict
 use Rattle.varisat_proof.specs.declared.checker.error.CheckVerdict.TheVariants.{Refutation, Derivation}
 use Rattle.varisat_proof.specs.declared.checker.error.CheckerError.{CheckerError}
 use Rattle.varisat_proof.specs.declared.checker.error.CheckerError.TheVariants.{CheckFailed, NoSuchClause, CoreNotAssumed, Parse, Io, OutOfMemory, Dimacs, Spent}
-use Rattle.varisat_proof.specs.Calls.{CheckerState, Checks, ChecksBytes, is_of_bytes}
-use Rattle.varisat_proof.specs.Marked.{Told, nothing_told, IsCheckOf}
+use Rattle.varisat_proof.specs.Calls.{CheckerState, standing_of, Checks, ChecksBytes, is_of_bytes}
+use Rattle.varisat_proof.specs.Marked.{MarkedTold, nothing_told, state_of, IsCheckOf}
 
 -- the source gave a whole text without a fault, which has these clauses
 pub record GivesClauses (old : Stand) (clauses : List Clause) (new : Stand) : Type 0 where
@@ -37,17 +38,20 @@ verdict_of (Err (Dimacs cause)) = None
 verdict_of (Err Spent) = None
 
 -- the sources of a text and of a proof
-pub record Inputs : Type 0 where
+pub record Sources : Type 0 where
   pub cnf : Stand
   pub proof : Stand
 
+abbrev pub sources_of : Stand → Stand → Sources
+sources_of cnf proof = record { cnf = cnf; proof = proof }
+
 -- The text has clauses, and a check of the proof from these on gave the verdict.
-pub record Verifies (format : ProofFormat) (old new : Inputs) (verified : Bool) : Type 0 where
+pub record Verifies (format : ProofFormat) (old new : Sources) (verified : Bool) : Type 0 where
   pub clauses : List Clause
   pub given : GivesClauses old.cnf clauses new.cnf
   pub left : CheckerState
   pub result_is : Result CheckVerdict CheckerError
-  pub checks : Checks format (record { checker = record { clauses = clauses; spent = false }; source = old.proof }) result_is (record { checker = left; source = new.proof })
+  pub checks : Checks format (standing_of (record { clauses = clauses; spent = false }) old.proof) result_is (standing_of left new.proof)
   pub verdict : verdict_of result_is ≡ Some verified
 
 -- each of the clauses is equal as a set to one of P
@@ -57,8 +61,9 @@ AreGiven P clauses = (c : Clause) → c ∈ clauses → (d : Clause) × (d ∈ P
 -- the right result of a check of a marked proof from no clause, with the clauses that it was given up to where it stops
 abbrev pub IsMarkedCheck : List ℕ → Result CheckVerdict CheckerError → List Clause → List Clause → Type 0
 IsMarkedCheck bytes (Ok v) inputs Q =
-    (told : Told) × (told.inputs.clauses ≡ inputs) × IsCheckOf (Text true) (record { present = []; told = nothing_told }) bytes (Ok v) (record { present = Q; told = told })
-IsMarkedCheck bytes (Err e) inputs Q = (told : Told) × IsCheckOf (Text true) (record { present = []; told = nothing_told }) bytes (Err e) (record { present = Q; told = told })
+    (told : MarkedTold) × (told.inputs.clauses ≡ inputs)
+    × IsCheckOf (Text true) (state_of [] nothing_told) bytes (Ok v) (state_of Q told)
+IsMarkedCheck bytes (Err e) inputs Q = (told : MarkedTold) × IsCheckOf (Text true) (state_of [] nothing_told) bytes (Err e) (state_of Q told)
 
 -- A marked proof is verified where it refutes and was given only clauses of the text; its wrong lines and bytes are none.
 abbrev pub IsMarkedVerdict : List Clause → Result CheckVerdict CheckerError → List Clause → Bool → Type 0
@@ -66,7 +71,7 @@ IsMarkedVerdict clauses (Ok v) inputs verified = IsTrue verified ↔ ((v ≡ Ref
 IsMarkedVerdict clauses (Err e) inputs verified = (is_of_bytes e ≡ true) × (verified ≡ false)
 
 -- The text has clauses, and a check of the marked proof from none gave the verdict.
-pub record VerifiesMarked (old new : Inputs) (verified : Bool) : Type 0 where
+pub record VerifiesMarked (old new : Sources) (verified : Bool) : Type 0 where
   pub clauses : List Clause
   pub given : GivesClauses old.cnf clauses new.cnf
   pub result_is : Result CheckVerdict CheckerError
@@ -76,7 +81,7 @@ pub record VerifiesMarked (old new : Inputs) (verified : Bool) : Type 0 where
   pub verdict : IsMarkedVerdict clauses result_is inputs verified
 
 -- the verdict of either
-abbrev pub VerifiesBy : ProofFormat → Inputs → Inputs → Bool → Type 0
+abbrev pub VerifiesBy : ProofFormat → Sources → Sources → Bool → Type 0
 VerifiesBy Drat old new verified = Verifies Drat old new verified
 VerifiesBy BinaryDrat old new verified = Verifies BinaryDrat old new verified
 VerifiesBy Marked old new verified = VerifiesMarked old new verified
@@ -97,3 +102,10 @@ verdict_status false = 1
 -- the status where there was a fault
 abbrev pub fault_status : ℕ
 fault_status = 2
+
+-- How the command ends, of which `before` and `after` are what its writer holds: it writes the verdict, and the status is the verdict's; or
+-- it met a fault, and wrote nothing unless it had come to a verdict.
+abbrev pub EndsCheck : ProofFormat → Sources → Sources → ℕ → Option (List ℕ) → Option (List ℕ) → Type 0
+EndsCheck format old new status before after =
+    ((status ≡ fault_status) × ((after ≡ before) ⊎ ((verified : Bool) × VerifiesBy format old new verified)))
+    ⊎ ((verified : Bool) × VerifiesBy format old new verified × (status ≡ verdict_status verified) × Appends before after (verdict_text verified))

@@ -3,7 +3,7 @@ ghost use Rattle.std.specs.Prelude.{◌≡◌, ◌⊎◌, ◌-◌, ◌^◌, ◌<
 ghost use Rattle.std.specs.Io.KnownBytes.{Appends};
 ghost use Rattle.varisat_proof.specs.declared.checker.error.CheckVerdict.TheVariants.{Refutation};
 ghost use Rattle.varisat_proof.specs.Calls.{is_of_bytes};
-ghost use Rattle.varisat_proof.specs.Verified.{Inputs, Verifies, VerifiesMarked, VerifiesBy, AreGiven, GivesUnsatisfiable, verdict_of, verdict_text, verdict_status, fault_status};
+ghost use Rattle.varisat_proof.specs.Verified.{sources_of, Verifies, VerifiesMarked, VerifiesBy, AreGiven, EndsCheck, GivesUnsatisfiable, verdict_of, verdict_text, verdict_status, fault_status};
 
 use crate::checker::{CheckVerdict, Checker, CheckerError, MarkedReport};
 use crate::proof::ProofFormat;
@@ -24,10 +24,10 @@ pub const STATUS_FAULT: u8 = 2;
 
 /// Reads a DIMACS CNF text, and then checks a proof against its clauses. Prints `s VERIFIED`, status 0, where the proof
 /// refutes them, and `s NOT VERIFIED`, status 1, where it does not: no beginning of it conflicts, a line fails, or its
-/// bytes are no lines. A marked proof is checked from no clause, and is verified where it refutes and each clause that it
-/// was given is equal as a set to one of the text. A fault of the text, the sources or the writer, and out of memory, is printed on `err`, and the
-/// status is 2. The status is 0 only where no assignment satisfies the text's clauses. Each source has to have counted
-/// fewer than 2^64-1 faults.
+/// bytes are no lines. A marked proof is checked from no clause, and is verified where it refutes and each clause of its
+/// `i` lines is equal as a set to one of the text. A fault of the text, the sources or the writer, and out of memory, is
+/// printed on `err`, and the status is 2; nothing is written to `out` then, unless it is `out` that failed. The status is
+/// 0 only where no assignment satisfies the text's clauses. Each source has to have counted fewer than 2^64-1 faults.
 pub fn check_lines<A: Allocator + Copy, S: ByteSource, P: ByteSource, W: Write, E: Write>(
     alloc: A,
     cnf: &mut S,
@@ -38,7 +38,8 @@ pub fn check_lines<A: Allocator + Copy, S: ByteSource, P: ByteSource, W: Write, 
 ) -> u8
     requires cnf_faults { (S.stand cnf.old).faults < 2 ^ 64 - 1 }
     requires proof_faults { (P.stand proof.old).faults < 2 ^ 64 - 1 }
-    ensures outcome { (result ≡ fault_status) ⊎ ((verified : Bool) × VerifiesBy format (record { cnf = S.stand cnf.old; proof = P.stand proof.old }) (record { cnf = S.stand cnf.new; proof = P.stand proof.new }) verified × (result ≡ verdict_status verified) × Appends (W.contents out.old) (W.contents out.new) (verdict_text verified)) }
+    ensures outcome { EndsCheck format (sources_of (S.stand cnf.old) (P.stand proof.old)) (sources_of (S.stand cnf.new) (P.stand proof.new))
+        result (W.contents out.old) (W.contents out.new) }
     ensures truth { result ≡ 0 → GivesUnsatisfiable (S.stand cnf.old) (S.stand cnf.new) }
 {
     match verify_by(alloc, cnf, proof, format) {
@@ -59,7 +60,8 @@ fn verify_by<A: Allocator + Copy, S: ByteSource, P: ByteSource>(
 ) -> Result<bool, CheckerError>
     requires cnf_faults { (S.stand cnf.old).faults < 2 ^ 64 - 1 }
     requires proof_faults { (P.stand proof.old).faults < 2 ^ 64 - 1 }
-    ensures { IfOk result (λ verified. VerifiesBy format (record { cnf = S.stand cnf.old; proof = P.stand proof.old }) (record { cnf = S.stand cnf.new; proof = P.stand proof.new }) verified) }
+    ensures { IfOk result (λ verified.
+        VerifiesBy format (sources_of (S.stand cnf.old) (P.stand proof.old)) (sources_of (S.stand cnf.new) (P.stand proof.new)) verified) }
 {
     match format {
         ProofFormat::Drat => verify(alloc, cnf, proof, ProofFormat::Drat),
@@ -80,7 +82,7 @@ fn are_given<A: Allocator + Copy>(given: &Checker<A>, formula: &CnfFormula<A>) -
     true
 }
 
-/// Whether the marked proof is verified that this report is of.
+/// Whether a marked proof with this report is verified: it refutes, and its inputs are clauses of the text.
 fn is_refuted_by<A: Allocator + Copy>(given: &Checker<A>, report: &MarkedReport<A>) -> bool
     ensures { IsTrue result ↔ ((report.now.verdict ≡ Refutation) × AreGiven given.now.clauses report.now.inputs.clauses) }
 {
@@ -90,7 +92,7 @@ fn is_refuted_by<A: Allocator + Copy>(given: &Checker<A>, report: &MarkedReport<
     }
 }
 
-/// A marked proof is not verified whose lines or bytes are wrong. Any other fault is returned.
+/// A wrong line, or bytes that are no lines: the proof is not verified. Any other fault is returned.
 fn is_of_bytes(error: CheckerError) -> Result<bool, CheckerError>
     ensures { IfOk result (λ verified. (is_of_bytes error ≡ true) × (verified ≡ false)) }
 {
@@ -106,8 +108,8 @@ fn is_of_bytes(error: CheckerError) -> Result<bool, CheckerError>
     }
 }
 
-/// Whether the marked proof is verified against the text. Two new checkers are lent: one has the clauses of the text, by
-/// whose literals they are found, and the other checks the proof.
+/// Whether the marked proof is verified against the text. Two new checkers are lent: one keeps the clauses of the text, of
+/// which it finds an equal one by their literals, and the other checks the proof.
 fn verify_marked_in<A: Allocator + Copy, S: ByteSource, P: ByteSource>(
     given: &mut Checker<A>,
     checker: &mut Checker<A>,
@@ -118,7 +120,8 @@ fn verify_marked_in<A: Allocator + Copy, S: ByteSource, P: ByteSource>(
     requires checker_new { checker.old ≡ record { clauses = []; spent = false } }
     requires cnf_faults { (S.stand cnf.old).faults < 2 ^ 64 - 1 }
     requires proof_faults { (P.stand proof.old).faults < 2 ^ 64 - 1 }
-    ensures { IfOk result (λ verified. VerifiesMarked (record { cnf = S.stand cnf.old; proof = P.stand proof.old }) (record { cnf = S.stand cnf.new; proof = P.stand proof.new }) verified) }
+    ensures { IfOk result (λ verified.
+        VerifiesMarked (sources_of (S.stand cnf.old) (P.stand proof.old)) (sources_of (S.stand cnf.new) (P.stand proof.new)) verified) }
 {
     match given.add_dimacs_cnf(cnf) {
         Ok(()) => {}
@@ -133,7 +136,8 @@ fn verify_marked_in<A: Allocator + Copy, S: ByteSource, P: ByteSource>(
     }
 }
 
-/// The same with new checkers.
+/// Whether the marked proof is verified against the text.
+// The new checkers have a function of their own, as in `verify`.
 fn verify_marked<A: Allocator + Copy, S: ByteSource, P: ByteSource>(
     alloc: A,
     cnf: &mut S,
@@ -141,7 +145,8 @@ fn verify_marked<A: Allocator + Copy, S: ByteSource, P: ByteSource>(
 ) -> Result<bool, CheckerError>
     requires cnf_faults { (S.stand cnf.old).faults < 2 ^ 64 - 1 }
     requires proof_faults { (P.stand proof.old).faults < 2 ^ 64 - 1 }
-    ensures { IfOk result (λ verified. VerifiesMarked (record { cnf = S.stand cnf.old; proof = P.stand proof.old }) (record { cnf = S.stand cnf.new; proof = P.stand proof.new }) verified) }
+    ensures { IfOk result (λ verified.
+        VerifiesMarked (sources_of (S.stand cnf.old) (P.stand proof.old)) (sources_of (S.stand cnf.new) (P.stand proof.new)) verified) }
 {
     let mut given = Checker::new_in(alloc);
     let mut checker = Checker::new_in(alloc);
@@ -162,7 +167,8 @@ fn verify<A: Allocator + Copy, S: ByteSource, P: ByteSource>(
 ) -> Result<bool, CheckerError>
     requires cnf_faults { (S.stand cnf.old).faults < 2 ^ 64 - 1 }
     requires proof_faults { (P.stand proof.old).faults < 2 ^ 64 - 1 }
-    ensures { IfOk result (λ verified. Verifies format (record { cnf = S.stand cnf.old; proof = P.stand proof.old }) (record { cnf = S.stand cnf.new; proof = P.stand proof.new }) verified) }
+    ensures { IfOk result (λ verified.
+        Verifies format (sources_of (S.stand cnf.old) (P.stand proof.old)) (sources_of (S.stand cnf.new) (P.stand proof.new)) verified) }
 {
     let mut checker = Checker::new_in(alloc);
     let verified = verify_in(&mut checker, cnf, proof, format);
@@ -185,7 +191,7 @@ fn is_verified(checked: Result<CheckVerdict, CheckerError>) -> Result<bool, Chec
     }
 }
 
-/// The same with a new checker.
+/// Whether the proof refutes the clauses of the text, with a new checker that is lent.
 fn verify_in<A: Allocator + Copy, S: ByteSource, P: ByteSource>(
     checker: &mut Checker<A>,
     cnf: &mut S,
@@ -195,7 +201,8 @@ fn verify_in<A: Allocator + Copy, S: ByteSource, P: ByteSource>(
     requires new { checker.old ≡ record { clauses = []; spent = false } }
     requires cnf_faults { (S.stand cnf.old).faults < 2 ^ 64 - 1 }
     requires proof_faults { (P.stand proof.old).faults < 2 ^ 64 - 1 }
-    ensures { IfOk result (λ verified. Verifies format (record { cnf = S.stand cnf.old; proof = P.stand proof.old }) (record { cnf = S.stand cnf.new; proof = P.stand proof.new }) verified) }
+    ensures { IfOk result (λ verified.
+        Verifies format (sources_of (S.stand cnf.old) (P.stand proof.old)) (sources_of (S.stand cnf.new) (P.stand proof.new)) verified) }
 {
     match checker.add_dimacs_cnf(cnf) {
         Ok(()) => {}

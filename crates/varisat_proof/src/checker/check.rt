@@ -13,14 +13,14 @@ ghost use Rattle.varisat_proof.specs.declared.checker.line.LineStatus.TheVariant
 ghost use Rattle.varisat_proof.specs.declared.checker.error.CheckVerdict.TheVariants.{Refutation};
 ghost use Rattle.varisat_proof.specs.declared.checker.error.CheckerError.TheVariants.{OutOfMemory, Spent};
 ghost use Rattle.varisat_proof.specs.Lines.{ProofLine, line_of_kind};
-ghost use Rattle.varisat_proof.specs.Marked.{ProofState, Told, IsCheckOf};
+ghost use Rattle.varisat_proof.specs.Marked.{ProofState, state_of, IsCheckOf};
 ghost use Rattle.varisat_proof.specs.Results.{IsResult};
 ghost use Rattle.varisat_proof.specs.Checks.{IsLineStatus, StandsAfterLines, TakesLine, HasRead, ReadsPiece, EndsWith, result_at_end, ChecksLine, ChecksUnits, ChecksCore, RefusesText};
-ghost use Rattle.varisat_proof.specs.Calls.{CheckerState, IsRefusal, BecomesOrRefuses, AddsRead, AddsText, IsStep, ChecksBytes, Checks, ChecksMarked, IsMarkedResult, IsTrueReport, IsOfBytes, spends};
+ghost use Rattle.varisat_proof.specs.Calls.{with_clause, standing_of, BecomesOrRefuses, AddsRead, AddsText, IsStep, ChecksBytes, Checks, ChecksMarked, IsMarkedResult, IsTrueReport, IsOfBytes, spends};
 
 use crate::checker::error::{CheckVerdict, CheckerError};
 use crate::checker::line::LineStatus;
-use crate::checker::marked::{Journal, MarkedReport};
+use crate::checker::marked::{MarkedReport, ReportBuilder};
 use crate::checker::reader::ProofReader;
 use crate::checker::token::Event;
 use crate::proof::format::{Encoding, LineKind, ProofFormat};
@@ -115,7 +115,7 @@ impl<A: Allocator + Copy> Checker<A> {
 
     /// Adds a clause, without a check.
     fn push_clause(&mut self, clause: &[Lit]) -> Result<(), AllocError>
-        ensures ok { OnOk result (self.new ≡ record self.old { clauses = self.old.clauses ++ clause.now ∷ [] }) }
+        ensures ok { OnOk result (self.new ≡ with_clause self.old clause.now) }
         ensures err { OnErr result (self.new ≡ self.old) }
     {
         self.clauses.push(clause)?;
@@ -193,7 +193,7 @@ impl<A: Allocator + Copy> Checker<A> {
     /// clauses that ended before it stay. Where memory runs out, also in the reader, the checker is spent.
     pub fn add_dimacs_cnf<S: ByteSource>(&mut self, source: &mut S) -> Result<(), CheckerError>
         requires { (S.stand source.old).faults < 2 ^ 64 - 1 }
-        ensures { AddsText (record { checker = self.old; source = S.stand source.old }) result (record { checker = self.new; source = S.stand source.new }) }
+        ensures { AddsText (standing_of self.old (S.stand source.old)) result (standing_of self.new (S.stand source.new)) }
     {
         if self.spent {
             return Err(CheckerError::Spent);
@@ -239,7 +239,7 @@ impl<A: Allocator + Copy> Checker<A> {
 
     /// Adds a clause, if it follows.
     fn add_line(&mut self, clause: &[Lit]) -> Result<bool, AllocError>
-        ensures added { IfOk result (λ added. added ≡ true → Follows self.old.clauses clause.now × (self.new ≡ record self.old { clauses = self.old.clauses ++ clause.now ∷ [] })) }
+        ensures added { IfOk result (λ added. added ≡ true → Follows self.old.clauses clause.now × (self.new ≡ with_clause self.old clause.now)) }
         ensures refused { IfOk result (λ added. added ≡ false → (Follows self.old.clauses clause.now → ⊥) × (self.new ≡ self.old)) }
         ensures spent { self.new.spent ≡ self.old.spent }
     {
@@ -263,31 +263,33 @@ impl<A: Allocator + Copy> Checker<A> {
     /// Reports a core, if it is assumed and propagation from it conflicts.
     fn take_core(
         &mut self,
-        journal: &mut Journal<A>,
+        builder: &mut ReportBuilder<A>,
         core: &[Lit],
     ) -> Result<LineStatus, AllocError>
-        ensures status { IfOk result (λ status. IsLineStatus (record { present = self.old.clauses; told = journal.old }) (line_of_kind Fails core.now) status (record { present = self.new.clauses; told = journal.new })) }
+        ensures status { IfOk result (λ status.
+            IsLineStatus (state_of self.old.clauses builder.old) (line_of_kind Fails core.now) status (state_of self.new.clauses builder.new)) }
         ensures spent { self.new.spent ≡ self.old.spent }
     {
-        if !journal.assumes(core) {
+        if !builder.assumes(core) {
             return Ok(LineStatus::Unassumed);
         }
         let is_failed = self.clauses.conflicts(core)?;
         if !is_failed {
             return Ok(LineStatus::Unproved);
         }
-        journal.push_core(core)?;
+        builder.push_core(core)?;
         Ok(LineStatus::Taken)
     }
 
     /// Takes a line, unless it is wrong.
     fn take_line(
         &mut self,
-        journal: &mut Journal<A>,
+        builder: &mut ReportBuilder<A>,
         kind: LineKind,
         clause: &[Lit],
     ) -> Result<LineStatus, AllocError>
-        ensures status { IfOk result (λ status. IsLineStatus (record { present = self.old.clauses; told = journal.old }) (line_of_kind kind clause.now) status (record { present = self.new.clauses; told = journal.new })) }
+        ensures status { IfOk result (λ status.
+            IsLineStatus (state_of self.old.clauses builder.old) (line_of_kind kind clause.now) status (state_of self.new.clauses builder.new)) }
         ensures spent { self.new.spent ≡ self.old.spent }
     {
         match kind {
@@ -304,16 +306,16 @@ impl<A: Allocator + Copy> Checker<A> {
                 Ok(LineStatus::Taken)
             }
             LineKind::Accepts => {
-                journal.push_input(clause)?;
+                builder.push_input(clause)?;
                 self.push_clause(clause)?;
                 Ok(LineStatus::Taken)
             }
             LineKind::Assumes => {
-                journal.assume(clause)?;
+                builder.assume(clause)?;
                 Ok(LineStatus::Taken)
             }
             LineKind::Fails => {
-                let status = self.take_core(journal, clause)?;
+                let status = self.take_core(builder, clause)?;
                 Ok(status)
             }
         }
@@ -322,19 +324,21 @@ impl<A: Allocator + Copy> Checker<A> {
     /// The next line of a proof. Once the present clauses conflict, lines are not looked at.
     fn next_line(
         &mut self,
-        journal: &mut Journal<A>,
+        builder: &mut ReportBuilder<A>,
         count: &mut Count,
         kind: LineKind,
         clause: &[Lit],
     ) -> Result<(), CheckerError>
-        ensures takes { (s : ProofState) (lines : List ProofLine) → StandsAfterLines s lines (record { present = self.old.clauses; told = journal.old }) count.old → TakesLine s (lines ++ line_of_kind kind clause.now ∷ []) result (record { present = self.new.clauses; told = journal.new }) count.new }
+        ensures takes { (s : ProofState) (lines : List ProofLine) →
+            StandsAfterLines s lines (state_of self.old.clauses builder.old) count.old →
+            TakesLine s (lines ++ line_of_kind kind clause.now ∷ []) result (state_of self.new.clauses builder.new) count.new }
         ensures spent { self.new.spent ≡ self.old.spent }
     {
         if count.refuted {
             return Ok(());
         }
         let step = count.steps.saturating_add(1);
-        let status = match self.take_line(journal, kind, clause) {
+        let status = match self.take_line(builder, kind, clause) {
             Ok(status) => status,
             Err(_) => return Err(CheckerError::OutOfMemory),
         };
@@ -358,12 +362,14 @@ impl<A: Allocator + Copy> Checker<A> {
     /// The next piece of a proof.
     fn read_piece(
         &mut self,
-        journal: &mut Journal<A>,
+        builder: &mut ReportBuilder<A>,
         reader: &mut ProofReader<A>,
         count: &mut Count,
         piece: &[u8],
     ) -> Result<(), CheckerError>
-        ensures reads { (e : Encoding) (s : ProofState) (text : List ℕ) (lines : List ProofLine) → HasRead e text lines reader.old → StandsAfterLines s lines (record { present = self.old.clauses; told = journal.old }) count.old → ReadsPiece e s (text ++ piece.now) result (record { state = record { present = self.new.clauses; told = journal.new }; count = count.new; progress = reader.new }) }
+        ensures reads { (e : Encoding) (s : ProofState) (text : List ℕ) (lines : List ProofLine) → HasRead e text lines reader.old →
+            StandsAfterLines s lines (state_of self.old.clauses builder.old) count.old →
+            ReadsPiece e s (text ++ piece.now) result (record { state = state_of self.new.clauses builder.new; count = count.new; progress = reader.new }) }
         ensures spent { self.new.spent ≡ self.old.spent }
     {
         for b in piece {
@@ -376,7 +382,7 @@ impl<A: Allocator + Copy> Checker<A> {
                 Event::More => {}
                 Event::Fault => return Err(CheckerError::Parse { offset: start }),
                 Event::Ended => match self.next_line(
-                    journal,
+                    builder,
                     count,
                     reader.kind(),
                     reader.clause(),
@@ -392,11 +398,13 @@ impl<A: Allocator + Copy> Checker<A> {
     /// The end of a proof.
     fn end_proof(
         &mut self,
-        journal: &mut Journal<A>,
+        builder: &mut ReportBuilder<A>,
         reader: &mut ProofReader<A>,
         count: &mut Count,
     ) -> Result<CheckVerdict, CheckerError>
-        ensures ends { (e : Encoding) (s : ProofState) (text : List ℕ) (lines : List ProofLine) → HasRead e text lines reader.old → StandsAfterLines s lines (record { present = self.old.clauses; told = journal.old }) count.old → EndsWith e s text result (record { present = self.new.clauses; told = journal.new }) }
+        ensures ends { (e : Encoding) (s : ProofState) (text : List ℕ) (lines : List ProofLine) → HasRead e text lines reader.old →
+            StandsAfterLines s lines (state_of self.old.clauses builder.old) count.old →
+            EndsWith e s text result (state_of self.new.clauses builder.new) }
         ensures spent { self.new.spent ≡ self.old.spent }
     {
         let last = reader.last_fault();
@@ -407,7 +415,7 @@ impl<A: Allocator + Copy> Checker<A> {
         match event {
             Event::More => {}
             Event::Fault => return Err(CheckerError::Parse { offset: last }),
-            Event::Ended => match self.next_line(journal, count, reader.kind(), reader.clause()) {
+            Event::Ended => match self.next_line(builder, count, reader.kind(), reader.clause()) {
                 Ok(()) => {}
                 Err(error) => return Err(error),
             },
@@ -418,12 +426,14 @@ impl<A: Allocator + Copy> Checker<A> {
     /// Reads all of the source as one proof.
     fn run<S: ByteSource>(
         &mut self,
-        journal: &mut Journal<A>,
+        builder: &mut ReportBuilder<A>,
         source: &mut S,
         encoding: Encoding,
     ) -> Result<CheckVerdict, CheckerError>
         requires few { (S.stand source.old).faults < 2 ^ 64 - 1 }
-        ensures checks { ChecksBytes (λ bytes. IsCheckOf encoding (record { present = self.old.clauses; told = journal.old }) bytes result (record { present = self.new.clauses; told = journal.new })) (S.stand source.old) result (S.stand source.new) }
+        ensures checks { ChecksBytes
+            (λ bytes. IsCheckOf encoding (state_of self.old.clauses builder.old) bytes result (state_of self.new.clauses builder.new))
+            (S.stand source.old) result (S.stand source.new) }
         ensures spent { self.new.spent ≡ self.old.spent }
     {
         let refuted = match self.is_refuted() {
@@ -441,12 +451,12 @@ impl<A: Allocator + Copy> Checker<A> {
             if size == 0 {
                 break;
             }
-            match self.read_piece(journal, &mut reader, &mut count, &buffer[..size]) {
+            match self.read_piece(builder, &mut reader, &mut count, &buffer[..size]) {
                 Ok(()) => {}
                 Err(error) => return Err(error),
             }
         }
-        match self.end_proof(journal, &mut reader, &mut count) {
+        match self.end_proof(builder, &mut reader, &mut count) {
             Ok(verdict) => Ok(verdict),
             Err(error) => Err(error),
         }
@@ -545,18 +555,19 @@ impl<A: Allocator + Copy> Checker<A> {
         format: ProofFormat,
     ) -> Result<CheckVerdict, CheckerError>
         requires few { (S.stand source.old).faults < 2 ^ 64 - 1 }
-        ensures checks { self.old.spent ≡ false → Checks format (record { checker = self.old; source = S.stand source.old }) result (record { checker = self.new; source = S.stand source.new }) }
+        ensures checks { self.old.spent ≡ false → Checks format (standing_of self.old (S.stand source.old)) result (standing_of self.new (S.stand source.new)) }
         ensures refused { self.old.spent ≡ true → (result ≡ Err Spent) × (self.new ≡ self.old) × (source.new ≡ source.old) }
         ensures usable { OnOk result (self.new.spent ≡ self.old.spent) }
         ensures spends { IfErr result (λ e. self.new.spent ≡ (self.old.spent || spends e)) }
-        ensures exact { (bytes : List ℕ) → self.old.spent ≡ false → (S.stand source.old).left ≡ Some bytes → IsOfBytes result → IsResult format self.old.clauses bytes result self.new.clauses }
+        ensures exact { (bytes : List ℕ) → self.old.spent ≡ false → (S.stand source.old).left ≡ Some bytes → IsOfBytes result →
+            IsResult format self.old.clauses bytes result self.new.clauses }
         ensures sound { result ≡ Ok Refutation → IsSatisfiable self.old.clauses → ⊥ }
     {
         if self.spent {
             return Err(CheckerError::Spent);
         }
-        let mut journal = Journal::new_in(self.alloc);
-        match self.run(&mut journal, source, format.plain_encoding()) {
+        let mut builder = ReportBuilder::new_in(self.alloc);
+        match self.run(&mut builder, source, format.plain_encoding()) {
             Ok(verdict) => Ok(verdict),
             Err(error) => {
                 self.end_with(&error);
@@ -577,19 +588,20 @@ impl<A: Allocator + Copy> Checker<A> {
         source: &mut S,
     ) -> Result<MarkedReport<A>, CheckerError>
         requires few { (S.stand source.old).faults < 2 ^ 64 - 1 }
-        ensures checks { self.old.spent ≡ false → ChecksMarked (record { checker = self.old; source = S.stand source.old }) result (record { checker = self.new; source = S.stand source.new }) }
+        ensures checks { self.old.spent ≡ false → ChecksMarked (standing_of self.old (S.stand source.old)) result (standing_of self.new (S.stand source.new)) }
         ensures refused { self.old.spent ≡ true → (result ≡ Err Spent) × (self.new ≡ self.old) × (source.new ≡ source.old) }
         ensures usable { OnOk result (self.new.spent ≡ self.old.spent) }
         ensures spends { IfErr result (λ e. self.new.spent ≡ (self.old.spent || spends e)) }
-        ensures exact { (bytes : List ℕ) → self.old.spent ≡ false → (S.stand source.old).left ≡ Some bytes → IsOfBytes result → IsMarkedResult self.old.clauses bytes result self.new.clauses }
+        ensures exact { (bytes : List ℕ) → self.old.spent ≡ false → (S.stand source.old).left ≡ Some bytes → IsOfBytes result →
+            IsMarkedResult self.old.clauses bytes result self.new.clauses }
         ensures sound { IfOk result (λ report. IsTrueReport self.old.clauses report) }
     {
         if self.spent {
             return Err(CheckerError::Spent);
         }
-        let mut journal = Journal::new_in(self.alloc);
-        match self.run(&mut journal, source, Encoding::Text { marked: true }) {
-            Ok(verdict) => Ok(journal.report(verdict)),
+        let mut builder = ReportBuilder::new_in(self.alloc);
+        match self.run(&mut builder, source, Encoding::Text { marked: true }) {
+            Ok(verdict) => Ok(builder.report(verdict)),
             Err(error) => {
                 self.end_with(&error);
                 Err(error)

@@ -1,6 +1,6 @@
 //! What marked lines tell beside the clauses that are present.
 ghost use Rattle.std.specs.Prelude.{◌≡◌, List, ◌∷◌, [], ◌++◌, length, ◌↔◌, IsTrue, OnOk, IfOk};
-ghost use Rattle.varisat_theory.specs.Membership.{◌∈◌, ◌⊆◌};
+ghost use Rattle.varisat_theory.specs.Membership.{◌⊆◌};
 ghost use Rattle.varisat_formula.specs.Formulas.{with_one_more};
 ghost use Rattle.varisat_proof.specs.Calls.{core_lists};
 ghost use Rattle.varisat_proof.specs.Marked.{nothing_told};
@@ -10,6 +10,7 @@ use std::alloc::{AllocError, Allocator};
 use std::marker::Model;
 use varisat_formula::formula::CnfFormula;
 use varisat_literals::Lit;
+use varisat_present::clause::is_part;
 
 /// What a marked proof is, and what its lines gave.
 #[derive(Drop)]
@@ -24,52 +25,28 @@ pub struct MarkedReport<A: Allocator + Copy> {
 
 /// What the lines of a proof told so far.
 #[derive(Drop)]
-pub struct Journal<A: Allocator + Copy> {
+pub struct ReportBuilder<A: Allocator + Copy> {
     alloc: A,
     assumed: Vec<Lit, A>,
     inputs: CnfFormula<A>,
     cores: Vec<(usize, Vec<Lit, A>), A>,
 }
 
-impl<A: Allocator + Copy> Model for Journal<A> {
-    ghost use Rattle.varisat_proof.specs.Marked.{Told};
+impl<A: Allocator + Copy> Model for ReportBuilder<A> {
+    ghost use Rattle.varisat_proof.specs.Marked.{MarkedTold};
     ghost use Rattle.varisat_proof.specs.Calls.{core_lists};
 
-    ghost Value = { Told };
+    ghost Value = { MarkedTold };
 
     ghost view = { λ j. record { assumed = j.assumed.items; inputs = j.inputs; cores = core_lists j.cores.items } };
 }
 
-/// Whether the list has the literal.
-fn has_literal(list: &[Lit], literal: Lit) -> bool
-    ensures { IsTrue result ↔ (literal ∈ list.now) }
-{
-    for l in list {
-        if l.code() == literal.code() {
-            return true;
-        }
-    }
-    false
-}
-
-/// Whether the list has each of the literals.
-fn has_literals(list: &[Lit], literals: &[Lit]) -> bool
-    ensures { IsTrue result ↔ (literals.now ⊆ list.now) }
-{
-    for l in literals {
-        if !has_literal(list, *l) {
-            return false;
-        }
-    }
-    true
-}
-
-impl<A: Allocator + Copy> Journal<A> {
+impl<A: Allocator + Copy> ReportBuilder<A> {
     /// Nothing was told. It takes no memory.
-    pub fn new_in(alloc: A) -> Journal<A>
+    pub fn new_in(alloc: A) -> ReportBuilder<A>
         ensures { result ≡ nothing_told }
     {
-        Journal {
+        ReportBuilder {
             alloc,
             assumed: Vec::new(alloc),
             inputs: CnfFormula::new_in(alloc),
@@ -81,7 +58,7 @@ impl<A: Allocator + Copy> Journal<A> {
     pub fn assumes(&self, literals: &[Lit]) -> bool
         ensures { IsTrue result ↔ (literals.now ⊆ self.now.assumed) }
     {
-        has_literals(&self.assumed, literals)
+        is_part(literals, &self.assumed)
     }
 
     /// A clause is given.

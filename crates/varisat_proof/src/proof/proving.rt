@@ -9,7 +9,7 @@ ghost use Rattle.varisat_proof.specs.Lines.{encoding_of, line_of_kind};
 ghost use Rattle.varisat_proof.specs.Steps.{PutsLines};
 ghost use Rattle.varisat_proof.specs.Telling.{marked_line, lines_told};
 ghost use Rattle.varisat_proof.specs.Present.{IsLeftAfter};
-ghost use Rattle.varisat_proof.specs.Proving.{is_telling, searched_under, WritesLines, told, Tells, HasRoom, MayHold, IsUsable, IsCheckedIf, IsClosed};
+ghost use Rattle.varisat_proof.specs.Proving.{is_telling, searched_under, WritesLines, told, Tells, HasRoom, MayHold, IsUsable, IsCheckedIf, IsSpent, IsClosed};
 
 use crate::checker::{Checker, CheckerError};
 use crate::proof::format::{LineKind, ProofFormat};
@@ -46,7 +46,8 @@ impl<W: ProofTarget> OpenProof<W> {
         step: &ProofStep<'_>,
     ) -> Result<(), WriteError>
         requires { self.old.taken.faults < 2 ^ 64 - 1 }
-        ensures puts { PutsLines (encoding_of self.old.format) self.old.taken result (lines_told (encoding_of self.old.format) (entries_of step.now)) self.new.taken }
+        ensures puts { PutsLines (encoding_of self.old.format) self.old.taken result
+            (lines_told (encoding_of self.old.format) (entries_of step.now)) self.new.taken }
         ensures rest { self.new ≡ record self.old { taken = self.new.taken } }
     {
         write_entries(&mut self.target, buffer, self.format.encoding(), step)
@@ -60,7 +61,8 @@ impl<W: ProofTarget> OpenProof<W> {
         literals: &[Lit],
     ) -> Result<(), WriteError>
         requires { self.old.taken.faults < 2 ^ 64 - 1 }
-        ensures puts { PutsLines (encoding_of self.old.format) self.old.taken result (marked_line (encoding_of self.old.format) (line_of_kind kind literals.now)) self.new.taken }
+        ensures puts { PutsLines (encoding_of self.old.format) self.old.taken result
+            (marked_line (encoding_of self.old.format) (line_of_kind kind literals.now)) self.new.taken }
         ensures rest { self.new ≡ record self.old { taken = self.new.taken } }
     {
         write_marked(
@@ -112,8 +114,8 @@ fn write_marked_if<W: ProofTarget, A: Allocator + Copy>(
     }
 }
 
-/// Has the checker take the step, if one runs. The step is right for what the checker has, so want of memory is the
-/// only error.
+/// Has the checker take the step, if one runs. The step is right for what the checker has, so the only error is out of
+/// memory, which spends the checker.
 fn check_step_if<A: Allocator + Copy>(
     checker: &mut Option<Checker<A>>,
     step: &ProofStep<'_>,
@@ -122,6 +124,7 @@ fn check_step_if<A: Allocator + Copy>(
     requires right { CanTakeStep (MayHold checker.old) step.now }
     ensures taken { OnOk result (IsCheckedIf checker.old (entries_of step.now) checker.new) }
     ensures right { IfErr result (λ e. e ≡ OutOfMemory) }
+    ensures spent { IfErr result (λ e. IsSpent checker.new) }
 {
     let Some(checker) = checker else {
         return Ok(());
@@ -129,7 +132,7 @@ fn check_step_if<A: Allocator + Copy>(
     checker.check_step(step)
 }
 
-/// Has the checker keep an accepted clause, if one runs. Want of memory is the only error.
+/// Has the checker keep an accepted clause, if one runs. The only error is out of memory, which spends the checker.
 fn keep_clause_if<A: Allocator + Copy>(
     checker: &mut Option<Checker<A>>,
     clause: &[Lit],
@@ -137,6 +140,7 @@ fn keep_clause_if<A: Allocator + Copy>(
     requires usable { IsUsable checker.old }
     ensures taken { OnOk result (IsCheckedIf checker.old (Accepts clause.now ∷ []) checker.new) }
     ensures right { IfErr result (λ e. e ≡ OutOfMemory) }
+    ensures spent { IfErr result (λ e. IsSpent checker.new) }
 {
     let Some(checker) = checker else {
         return Ok(());
@@ -218,7 +222,8 @@ impl<W: ProofTarget, A: Allocator + Copy> Proof<W, A> {
     }
 }
 
-/// Tells an accepted clause: the checker keeps it, and marked text has a line of it.
+/// Tells an accepted clause: marked text has a line of it, and then the checker keeps it. `Target`: the target failed, and
+/// the checker was told nothing. `Memory`: a line was not put together, or the checker is spent.
 pub fn add_clause<W: ProofTarget, A: Allocator + Copy>(
     proof: &mut Proof<W, A>,
     clause: &[Lit],
@@ -239,7 +244,8 @@ pub fn add_clause<W: ProofTarget, A: Allocator + Copy>(
     }
 }
 
-/// Tells an accepted list of assumptions, of which marked text has a line.
+/// Tells an accepted list of assumptions, of which marked text has a line; the checker does not keep it. Errors are those
+/// of `add_clause`.
 pub fn add_assumptions<W: ProofTarget, A: Allocator + Copy>(
     proof: &mut Proof<W, A>,
     assumptions: &[Lit],
@@ -257,7 +263,7 @@ pub fn add_assumptions<W: ProofTarget, A: Allocator + Copy>(
 }
 
 /// Tells a step, which is right for what the checker has: its lines are written, each by one `put`, and then the
-/// checker takes it.
+/// checker takes it. Errors are those of `add_clause`; behind one, some of the lines may stand in the target.
 pub fn add_step<W: ProofTarget, A: Allocator + Copy>(
     proof: &mut Proof<W, A>,
     step: &ProofStep<'_>,
@@ -274,7 +280,7 @@ pub fn add_step<W: ProofTarget, A: Allocator + Copy>(
     }
 }
 
-/// Flushes the target, if a proof is open.
+/// Flushes the target, if a proof is open. `Target` is the only error: the flush failed.
 pub fn flush_proof<W: ProofTarget, A: Allocator + Copy>(
     proof: &mut Proof<W, A>,
 ) -> Result<(), TraceError>
@@ -291,7 +297,7 @@ pub fn flush_proof<W: ProofTarget, A: Allocator + Copy>(
     }
 }
 
-/// Ends a search: an open proof is marked as one under which a search ran, and flushed.
+/// Ends a search: an open proof is marked as one under which a search ran, and flushed. `Target`: the flush failed.
 pub fn solve_finished<W: ProofTarget, A: Allocator + Copy>(
     proof: &mut Proof<W, A>,
 ) -> Result<(), TraceError>
@@ -305,7 +311,7 @@ pub fn solve_finished<W: ProofTarget, A: Allocator + Copy>(
     flush_proof(proof)
 }
 
-/// Takes the target out of the open proof, without a flush.
+/// Closes the open proof without a flush, and hands its target back. `None`: no proof is open.
 pub fn take_target<W: ProofTarget, A: Allocator + Copy>(proof: &mut Proof<W, A>) -> Option<W>
     ensures taken { IsClosed {E = Unit {0}} W.taken proof.old.opened (Ok result) }
     ensures closed { proof.new ≡ record proof.old { opened = None } }
@@ -316,7 +322,8 @@ pub fn take_target<W: ProofTarget, A: Allocator + Copy>(proof: &mut Proof<W, A>)
     }
 }
 
-/// Closes the open proof: flushes the target and hands it back, also where that fails.
+/// Closes the open proof: flushes the target and hands it back, also where the flush fails, with its fault. `None`: no
+/// proof is open.
 pub fn close_proof<W: ProofTarget, A: Allocator + Copy>(
     proof: &mut Proof<W, A>,
 ) -> Result<Option<W>, (io::Error, W)>

@@ -163,29 +163,7 @@ fn write_units<W: ProofTarget, A: Allocator + Copy>(
     Ok(())
 }
 
-/// Writes the lines of the step.
-fn write_lines<W: ProofTarget, A: Allocator + Copy>(
-    target: &mut W,
-    buffer: &mut Vec<u8, A>,
-    encoding: Encoding,
-    step: &ProofStep<'_>,
-) -> Result<(), WriteError>
-    requires { (W.taken target.old).faults < 2 ^ 64 - 1 }
-    ensures { PutsLines encoding (W.taken target.old) result (plain_lines (step_lines step.now)) (W.taken target.new) }
-{
-    match step {
-        ProofStep::AtClause { clause } => {
-            write_line(target, buffer, encoding, LineKind::Adds, clause)
-        }
-        ProofStep::UnitClauses { units } => write_units(target, buffer, encoding, units),
-        ProofStep::DeleteClause { clause } => {
-            write_line(target, buffer, encoding, LineKind::Deletes, clause)
-        }
-        ProofStep::DeleteVar { .. } | ProofStep::FailedAssumptions { .. } => Ok(()),
-    }
-}
-
-/// Writes a line that only marked text has; in other encodings nothing.
+/// Writes a line of a kind that only marked text has, and nothing in another encoding.
 pub(crate) fn write_marked<W: ProofTarget, A: Allocator + Copy>(
     target: &mut W,
     buffer: &mut Vec<u8, A>,
@@ -202,7 +180,7 @@ pub(crate) fn write_marked<W: ProofTarget, A: Allocator + Copy>(
     }
 }
 
-/// Writes the lines that the step has in the encoding, among them a core in marked text.
+/// Writes the lines that the step has in the encoding, each by one `put`: only marked text has one for a core.
 pub(crate) fn write_entries<W: ProofTarget, A: Allocator + Copy>(
     target: &mut W,
     buffer: &mut Vec<u8, A>,
@@ -237,7 +215,7 @@ pub fn write_step<W: ProofTarget, A: Allocator + Copy>(
     requires { (W.taken target.old).faults < 2 ^ 64 - 1 }
     ensures { PutsLines (Text false) (W.taken target.old) result (plain_lines (step_lines step.now)) (W.taken target.new) }
 {
-    write_lines(target, buffer, Encoding::Text { marked: false }, step)
+    write_entries(target, buffer, Encoding::Text { marked: false }, step)
 }
 
 /// Writes the lines of the step in the binary format, each by one `put`. The buffer is room to put a line together.
@@ -250,5 +228,5 @@ pub fn write_binary_step<W: ProofTarget, A: Allocator + Copy>(
     requires { (W.taken target.old).faults < 2 ^ 64 - 1 }
     ensures { PutsLines Binary (W.taken target.old) result (plain_lines (step_lines step.now)) (W.taken target.new) }
 {
-    write_lines(target, buffer, Encoding::Binary, step)
+    write_entries(target, buffer, Encoding::Binary, step)
 }

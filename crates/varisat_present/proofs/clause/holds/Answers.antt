@@ -14,7 +14,8 @@ returns-then-code c =
 pub loop-l-preserved : goal.loop-l-preserved
 loop-l-preserved c =
     λ m. ⊎_elim c.loop-l.invariant
-    (λ q. c.if-code.false (c.code.ensures.code ∙ get_or_read c.args.literals.now c.loop-l.l-index c.l-item.result c.loop-l-test.true c.l-item.is 0 ∙ sym q ∙ sym c.code-in-loop-l.ensures.code))
+    (λ q. c.if-code.false (c.code.ensures.code ∙ get_or_read c.args.literals.now c.loop-l.l-index c.l-item.result c.loop-l-test.true c.l-item.is 0 ∙ sym q
+    ∙ sym c.code-in-loop-l.ensures.code))
     (∈-take_more c.args.literal c.args.literals.now c.loop-l.l-index 0 m)
 
 pub returns : goal.returns

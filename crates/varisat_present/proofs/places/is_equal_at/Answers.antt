@@ -9,4 +9,5 @@ returns-in-Some-clause-yes g c = λ e. (c.in-Some.held.now, c.in-Some.ensures, g
 
 pub returns-in-Some-clause-no : goal.returns-in-Some-clause-no
 returns-in-Some-clause-no g c =
-    λ e d q s. refused _ c.is_same_set.result e c.is_same_set.ensures (subst (λ y. SameSet y c.args.clause.now) (same_clause c.args.places.now c.args.place d c.in-Some.held.now q c.in-Some.ensures) s)
+    λ e d q s. refused _ c.is_same_set.result e c.is_same_set.ensures
+    (subst (λ y. SameSet y c.args.clause.now) (same_clause c.args.places.now c.args.place d c.in-Some.held.now q c.in-Some.ensures) s)

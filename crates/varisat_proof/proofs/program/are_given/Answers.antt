@@ -12,8 +12,11 @@ returns-then-not-has_clause g c =
 
 pub loop-clause-preserved : goal.loop-clause-preserved
 loop-clause-preserved g c =
-    let seen : map (λ c. c.now) (c.loop-clause.yielded ++ c.in-Some.clause ∷ []) ≡ map (λ c. c.now) c.loop-clause.yielded ++ c.in-Some.clause.now ∷ [] = map-append _ _ _ in
+    let seen : map (λ c. c.now) (c.loop-clause.yielded ++ c.in-Some.clause ∷ []) ≡ map (λ c. c.now)
+    c.loop-clause.yielded ++ c.in-Some.clause.now ∷ [] = map-append _ _ _ in
     record {
-      so_far = subst (λ cs. AreGiven c.args.given.now.clauses cs) (sym seen) (given_more c.args.given.now.clauses _ c.in-Some.clause.now c.loop-clause.invariant.so_far (c.has_clause.ensures.yes c.if-not-has_clause.false));
-      whole = ap (λ P. P ++ c.next.new.self) seen ∙ append_assoc (map (λ c. c.now) c.loop-clause.yielded) (c.in-Some.clause.now ∷ []) c.next.new.self ∙ ap (λ xs. map (λ c. c.now) c.loop-clause.yielded ++ xs) (sym c.in-Some.ensures.steps) ∙ c.loop-clause.invariant.whole;
+      so_far = subst (λ cs. AreGiven c.args.given.now.clauses cs) (sym seen)
+          (given_more c.args.given.now.clauses _ c.in-Some.clause.now c.loop-clause.invariant.so_far (c.has_clause.ensures.yes c.if-not-has_clause.false));
+      whole = ap (λ P. P ++ c.next.new.self) seen ∙ append_assoc (map (λ c. c.now) c.loop-clause.yielded) (c.in-Some.clause.now ∷ []) c.next.new.self ∙
+          ap (λ xs. map (λ c. c.now) c.loop-clause.yielded ++ xs) (sym c.in-Some.ensures.steps) ∙ c.loop-clause.invariant.whole;
     }

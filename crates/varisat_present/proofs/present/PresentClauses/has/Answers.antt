@@ -10,4 +10,5 @@ returns-in-None-clause-no g c = λ e d m. c.in-None.ensures d (subst (λ (P : Li
 
 pub returns-in-Some-clause-yes : goal.returns-in-Some-clause-yes
 returns-in-Some-clause-yes g c =
-    λ e. subst (λ (P : List Clause). (x : Clause) × (x ∈ P) × SameSet x c.args.clause.now) (ap present c.deref.ensures.value ∙ c.self.view_is) (equal_there c.deref.result.now c.in-Some.field-0 c.args.clause.now c.in-Some.ensures)
+    λ e. subst (λ (P : List Clause). (x : Clause) × (x ∈ P) × SameSet x c.args.clause.now) (ap present c.deref.ensures.value ∙ c.self.view_is)
+    (equal_there c.deref.result.now c.in-Some.field-0 c.args.clause.now c.in-Some.ensures)

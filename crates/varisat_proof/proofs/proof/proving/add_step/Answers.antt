@@ -2,7 +2,7 @@ use Rattle.std.proofs.Common.{[], ◌∷◌}
 use Rattle.varisat_theory.specs.Journals.{Accepts}
 use Rattle.varisat_trace.specs.Traces.{entries_of}
 use Rattle.varisat_proof.specs.Proving.{ProofParts}
-use Rattle.varisat_proof.proofs.ToldSteps.{tells-ok, tells-memory}
+use Rattle.varisat_proof.proofs.ToldSteps.{tells-ok, tells-spent}
 use Rattle.varisat_proof.proofs.proof.proving.add_step.Goals as goal
 use Rattle.varisat_proof.proofs.proof.proving.add_step.Goals.{in-Ok, in-Err}
 
@@ -11,6 +11,8 @@ returns g c =
     let old : ProofParts = record { opened = c.proof.inside.open; checker = c.proof.inside.checker } in
     let new : ProofParts = record { opened = c.write_step_if.new.opened; checker = c.check_step_if.new.checker } in
     elim c.match-check_step_if.branch [
-      | in-Ok w ↦ tells-ok c.args.proof.now old new (entries_of c.args.step.now) c.match-check_step_if.result c.proof.view_is w.result-is c.in_ok-write_step_if.ensures w.in-Ok.ensures.taken
-      | in-Err w ↦ tells-memory c.args.proof.now old new (entries_of c.args.step.now) c.match-check_step_if.result c.proof.view_is w.result-is c.in_ok-write_step_if.ensures
+      | in-Ok w ↦ tells-ok c.args.proof.now old new (entries_of c.args.step.now) c.match-check_step_if.result c.proof.view_is w.result-is
+          c.in_ok-write_step_if.ensures w.in-Ok.ensures.taken
+      | in-Err w ↦ tells-spent c.args.proof.now old new (entries_of c.args.step.now) c.match-check_step_if.result c.proof.view_is w.result-is
+          c.in_ok-write_step_if.ensures w.in-Err.ensures.spent
     ]

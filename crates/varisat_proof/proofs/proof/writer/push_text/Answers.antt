@@ -4,4 +4,5 @@ use Rattle.varisat_proof.proofs.proof.writer.push_text.Goals as goal
 
 pub loop-literal-preserved : goal.loop-literal-preserved
 loop-literal-preserved g c =
-    text_more (mark_text c.args.kind) c.loop-literal.buffer.items c.push_literal.new.buffer.items c.args.clause.now c.loop-literal.literal-index c.literal-item.result c.loop-literal-test.true c.literal-item.is c.loop-literal.invariant c.in_ok-push_literal.ensures
+    text_more (mark_text c.args.kind) c.loop-literal.buffer.items c.push_literal.new.buffer.items c.args.clause.now c.loop-literal.literal-index
+    c.literal-item.result c.loop-literal-test.true c.literal-item.is c.loop-literal.invariant c.in_ok-push_literal.ensures

@@ -6,6 +6,7 @@ use Rattle.varisat_proof.proofs.proof.writer.write_units.Given as goal
 
 abbrev pub invariant-loop-unit : goal.invariant-loop-unit
 invariant-loop-unit g l = record {
-  put : (g.W.ProofTarget.taken l.target).bytes ≡ (g.W.ProofTarget.taken l.fn.target).bytes ++ lines_written l.encoding (plain_lines (unit_lines (take l.unit-index l.units)));
+  put : (g.W.ProofTarget.taken l.target).bytes ≡ (g.W.ProofTarget.taken l.fn.target).bytes ++ lines_written l.encoding
+      (plain_lines (unit_lines (take l.unit-index l.units)));
   quiet : (g.W.ProofTarget.taken l.target).faults ≡ (g.W.ProofTarget.taken l.fn.target).faults;
 }

@@ -5,10 +5,14 @@ use Rattle.varisat_proof.proofs.checker.check.Checker.check_units.Goals as goal
 
 pub returns-in-Err : goal.returns-in-Err
 returns-in-Err g c =
-    units_fail c.args.self.now c.loop-i.self c.check_added.new.self c.args.units.now c.loop-i.i c.index-units-i.result _ c.in-Err.error c.loop-i-test.true (get_or_read c.args.units.now c.loop-i.i c.index-units-i.result c.loop-i-test.true c.index-units-i.is 0) refl c.loop-i.invariant.derives c.loop-i.invariant.usable c.in-Err.ensures
+    units_fail c.args.self.now c.loop-i.self c.check_added.new.self c.args.units.now c.loop-i.i c.index-units-i.result _ c.in-Err.error c.loop-i-test.true
+    (get_or_read c.args.units.now c.loop-i.i c.index-units-i.result c.loop-i-test.true c.index-units-i.is 0) refl c.loop-i.invariant.derives
+    c.loop-i.invariant.usable c.in-Err.ensures
 
 pub loop-i-preserved : goal.loop-i-preserved
 loop-i-preserved g c = record {
-  derives = units_more c.args.self.now.clauses c.loop-i.self.clauses c.check_added.new.self.clauses c.args.units.now c.loop-i.i c.index-units-i.result c.loop-i-test.true (get_or_read c.args.units.now c.loop-i.i c.index-units-i.result c.loop-i-test.true c.index-units-i.is 0) c.loop-i.invariant.derives c.in-Ok.ensures.0;
+  derives = units_more c.args.self.now.clauses c.loop-i.self.clauses c.check_added.new.self.clauses c.args.units.now c.loop-i.i c.index-units-i.result
+      c.loop-i-test.true (get_or_read c.args.units.now c.loop-i.i c.index-units-i.result c.loop-i-test.true c.index-units-i.is 0)
+      c.loop-i.invariant.derives c.in-Ok.ensures.0;
   usable = c.in-Ok.ensures.1 ∙ c.loop-i.invariant.usable;
 }

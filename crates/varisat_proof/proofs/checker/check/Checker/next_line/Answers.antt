@@ -5,24 +5,38 @@ use Rattle.varisat_proof.specs.declared.checker.error.CheckerError.TheVariants.{
 use Rattle.varisat_proof.specs.Lines.{line_of_kind}
 use Rattle.varisat_proof.specs.Checks.{StandsBy}
 use Rattle.varisat_proof.proofs.CheckedLines.{error_of, on_wrong, on_taken}
+use Rattle.varisat_proof.specs.Marked.{state_of}
 use Rattle.varisat_proof.proofs.checker.check.Checker.next_line.Goals as goal
 
 pub returns-in-Unproved-clause-takes : goal.returns-in-Unproved-clause-takes
 returns-in-Unproved-clause-takes g c =
     let n : c.in-Ok.status ≡ Taken → ⊥ = λ e. let h = sym c.in-Unproved.is ∙ e in absurd cc in
-    λ s lines h. on_wrong c.args.count.now.refuted s lines (record { present = c.args.self.now.clauses; told = c.args.journal.now }) (record { present = c.take_line.new.self.clauses; told = c.take_line.new.journal }) c.args.count.now.steps c.saturating_add-step.result (line_of_kind c.args.kind c.args.clause.now) c.if-count.false h c.saturating_add-step.ensures c.in-Ok.status (CheckFailed c.saturating_add-step.result) (ap (λ t. error_of t c.saturating_add-step.result) (sym c.in-Unproved.is)) n c.in-Ok.ensures.status
+    λ s lines h. on_wrong c.args.count.now.refuted s lines (state_of c.args.self.now.clauses c.args.builder.now)
+    (state_of c.take_line.new.self.clauses c.take_line.new.builder) c.args.count.now.steps c.saturating_add-step.result
+    (line_of_kind c.args.kind c.args.clause.now) c.if-count.false h c.saturating_add-step.ensures c.in-Ok.status
+    (CheckFailed c.saturating_add-step.result) (ap (λ t. error_of t c.saturating_add-step.result) (sym c.in-Unproved.is)) n c.in-Ok.ensures.status
 
 pub returns-in-Absent-clause-takes : goal.returns-in-Absent-clause-takes
 returns-in-Absent-clause-takes g c =
     let n : c.in-Ok.status ≡ Taken → ⊥ = λ e. let h = sym c.in-Absent.is ∙ e in absurd cc in
-    λ s lines h. on_wrong c.args.count.now.refuted s lines (record { present = c.args.self.now.clauses; told = c.args.journal.now }) (record { present = c.take_line.new.self.clauses; told = c.take_line.new.journal }) c.args.count.now.steps c.saturating_add-step.result (line_of_kind c.args.kind c.args.clause.now) c.if-count.false h c.saturating_add-step.ensures c.in-Ok.status (NoSuchClause c.saturating_add-step.result) (ap (λ t. error_of t c.saturating_add-step.result) (sym c.in-Absent.is)) n c.in-Ok.ensures.status
+    λ s lines h. on_wrong c.args.count.now.refuted s lines (state_of c.args.self.now.clauses c.args.builder.now)
+    (state_of c.take_line.new.self.clauses c.take_line.new.builder) c.args.count.now.steps c.saturating_add-step.result
+    (line_of_kind c.args.kind c.args.clause.now) c.if-count.false h c.saturating_add-step.ensures c.in-Ok.status
+    (NoSuchClause c.saturating_add-step.result) (ap (λ t. error_of t c.saturating_add-step.result) (sym c.in-Absent.is)) n c.in-Ok.ensures.status
 
 pub returns-in-Unassumed-clause-takes : goal.returns-in-Unassumed-clause-takes
 returns-in-Unassumed-clause-takes g c =
     let n : c.in-Ok.status ≡ Taken → ⊥ = λ e. let h = sym c.in-Unassumed.is ∙ e in absurd cc in
-    λ s lines h. on_wrong c.args.count.now.refuted s lines (record { present = c.args.self.now.clauses; told = c.args.journal.now }) (record { present = c.take_line.new.self.clauses; told = c.take_line.new.journal }) c.args.count.now.steps c.saturating_add-step.result (line_of_kind c.args.kind c.args.clause.now) c.if-count.false h c.saturating_add-step.ensures c.in-Ok.status (CoreNotAssumed c.saturating_add-step.result) (ap (λ t. error_of t c.saturating_add-step.result) (sym c.in-Unassumed.is)) n c.in-Ok.ensures.status
+    λ s lines h. on_wrong c.args.count.now.refuted s lines (state_of c.args.self.now.clauses c.args.builder.now)
+    (state_of c.take_line.new.self.clauses c.take_line.new.builder) c.args.count.now.steps c.saturating_add-step.result
+    (line_of_kind c.args.kind c.args.clause.now) c.if-count.false h c.saturating_add-step.ensures c.in-Ok.status
+    (CoreNotAssumed c.saturating_add-step.result) (ap (λ t. error_of t c.saturating_add-step.result) (sym c.in-Unassumed.is)) n c.in-Ok.ensures.status
 
 pub returns-clause-takes : goal.returns-clause-takes
 returns-clause-takes g c =
-    λ s lines h. subst (λ (Q : List Clause). StandsBy c.in-Ok-is_refuted.refuted s (lines ++ line_of_kind c.args.kind c.args.clause.now ∷ []) (record { present = Q; told = c.take_line.new.journal }) c.saturating_add-step.result) (sym (ap (λ h. h.clauses) c.is_refuted.ensures.stays))
-    (on_taken c.args.count.now.refuted s lines (record { present = c.args.self.now.clauses; told = c.args.journal.now }) (record { present = c.take_line.new.self.clauses; told = c.take_line.new.journal }) c.args.count.now.steps c.saturating_add-step.result (line_of_kind c.args.kind c.args.clause.now) c.if-count.false h c.saturating_add-step.ensures c.in-Ok.status c.in-Ok-is_refuted.refuted c.in-Taken.is c.in-Ok.ensures.status c.in-Ok-is_refuted.ensures.found)
+    λ s lines h. subst (λ (Q : List Clause). StandsBy c.in-Ok-is_refuted.refuted s (lines ++ line_of_kind c.args.kind c.args.clause.now ∷ [])
+    (state_of Q c.take_line.new.builder) c.saturating_add-step.result) (sym (ap (λ h. h.clauses) c.is_refuted.ensures.stays))
+    (on_taken c.args.count.now.refuted s lines (state_of c.args.self.now.clauses c.args.builder.now)
+    (state_of c.take_line.new.self.clauses c.take_line.new.builder) c.args.count.now.steps c.saturating_add-step.result
+    (line_of_kind c.args.kind c.args.clause.now) c.if-count.false h c.saturating_add-step.ensures c.in-Ok.status c.in-Ok-is_refuted.refuted
+    c.in-Taken.is c.in-Ok.ensures.status c.in-Ok-is_refuted.ensures.found)

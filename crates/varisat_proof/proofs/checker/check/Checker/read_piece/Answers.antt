@@ -1,3 +1,4 @@
+use Rattle.varisat_proof.specs.Marked.{state_of}
 use Rattle.std.proofs.Common.{sym, ap, ◌∙◌}
 use Rattle.varisat_proof.proofs.CheckedLines.{state_is, stands_along, so_far_more, so_far_line, piece_fault, piece_wrong}
 use Rattle.varisat_proof.proofs.checker.check.Checker.read_piece.Goals as goal
@@ -5,17 +6,31 @@ use Rattle.varisat_proof.proofs.checker.check.Checker.read_piece.Goals.{in-More,
 
 pub returns-in-Fault-clause-reads : goal.returns-in-Fault-clause-reads
 returns-in-Fault-clause-reads g c = λ f P text lines r s.
-    piece_fault f P text c.args.piece.now c.loop-b.b-index (record { present = c.loop-b.self.clauses; told = c.loop-b.journal }) c.loop-b.count c.loop-b.reader c.start-start.result c.loop-b-test.true (c.loop-b.invariant.so f P text lines r s) (sym c.in-Fault.is ∙ c.in-Ok.ensures.event) c.start-start.ensures
+    piece_fault f P text c.args.piece.now c.loop-b.b-index (state_of c.loop-b.self.clauses c.loop-b.builder) c.loop-b.count c.loop-b.reader
+    c.start-start.result c.loop-b-test.true (c.loop-b.invariant.so f P text lines r s) (sym c.in-Fault.is ∙ c.in-Ok.ensures.event)
+    c.start-start.ensures
 
 pub returns-in-Err-next_line-clause-reads : goal.returns-in-Err-next_line-clause-reads
 returns-in-Err-next_line-clause-reads g c = λ f P text lines r s.
-    piece_wrong f P text c.args.piece.now c.loop-b.b-index (record { present = c.loop-b.self.clauses; told = c.loop-b.journal }) (record { present = c.next_line.new.self.clauses; told = c.next_line.new.journal }) c.loop-b.count c.loop-b.reader c.byte.new.self c.kind.result c.clause.result.now c.in-Err-next_line.error c.loop-b-test.true (c.loop-b.invariant.so f P text lines r s) (sym c.in-Ended.is ∙ c.in-Ok.ensures.event) c.in-Ok.ensures.ok (record { kind = c.kind.ensures; clause = c.clause.ensures }) c.in-Err-next_line.ensures.takes
+    piece_wrong f P text c.args.piece.now c.loop-b.b-index (state_of c.loop-b.self.clauses c.loop-b.builder)
+    (state_of c.next_line.new.self.clauses c.next_line.new.builder) c.loop-b.count c.loop-b.reader c.byte.new.self c.kind.result c.clause.result.now
+    c.in-Err-next_line.error c.loop-b-test.true (c.loop-b.invariant.so f P text lines r s) (sym c.in-Ended.is ∙ c.in-Ok.ensures.event)
+    c.in-Ok.ensures.ok (record { kind = c.kind.ensures; clause = c.clause.ensures }) c.in-Err-next_line.ensures.takes
 
 pub loop-b-preserved : goal.loop-b-preserved
 loop-b-preserved g c = record {
   so = λ f P text lines r s. elim c.match-event.branch [
-    | in-More w ↦ so_far_more f P text c.args.piece.now c.loop-b.b-index (record { present = c.loop-b.self.clauses; told = c.loop-b.journal }) (record { present = c.match-event.self.clauses; told = c.match-event.journal }) c.loop-b.count c.match-event.count c.loop-b.reader c.byte.new.self c.loop-b-test.true (c.loop-b.invariant.so f P text lines r s) (sym w.in-More.is ∙ c.in-Ok.ensures.event) c.in-Ok.ensures.ok (state_is _ _ _ _ (ap (λ h. h.clauses) w.self-is) w.journal-is) w.count-is
-    | in-Ended+in-Ok-next_line w ↦ so_far_line f P text c.args.piece.now c.loop-b.b-index (record { present = c.loop-b.self.clauses; told = c.loop-b.journal }) (record { present = c.match-event.self.clauses; told = c.match-event.journal }) c.loop-b.count c.match-event.count c.loop-b.reader c.byte.new.self w.kind.result w.clause.result.now c.loop-b-test.true (c.loop-b.invariant.so f P text lines r s) (sym w.in-Ended.is ∙ c.in-Ok.ensures.event) c.in-Ok.ensures.ok (record { kind = w.kind.ensures; clause = w.clause.ensures }) (λ P' ls t. stands_along P' _ (record { present = w.next_line.new.self.clauses; told = w.next_line.new.journal }) (record { present = c.match-event.self.clauses; told = c.match-event.journal }) w.next_line.new.count c.match-event.count (w.in-Ok-next_line.ensures.takes P' ls t) (state_is _ _ _ _ (ap (λ h. h.clauses) w.self-is) w.journal-is) w.count-is)
+    | in-More w ↦ so_far_more f P text c.args.piece.now c.loop-b.b-index (state_of c.loop-b.self.clauses c.loop-b.builder)
+        (state_of c.match-event.self.clauses c.match-event.builder) c.loop-b.count c.match-event.count c.loop-b.reader c.byte.new.self c.loop-b-test.true
+        (c.loop-b.invariant.so f P text lines r s) (sym w.in-More.is ∙ c.in-Ok.ensures.event) c.in-Ok.ensures.ok
+        (state_is _ _ _ _ (ap (λ h. h.clauses) w.self-is) w.builder-is) w.count-is
+    | in-Ended+in-Ok-next_line w ↦ so_far_line f P text c.args.piece.now c.loop-b.b-index (state_of c.loop-b.self.clauses c.loop-b.builder)
+        (state_of c.match-event.self.clauses c.match-event.builder) c.loop-b.count c.match-event.count c.loop-b.reader c.byte.new.self w.kind.result
+        w.clause.result.now c.loop-b-test.true (c.loop-b.invariant.so f P text lines r s) (sym w.in-Ended.is ∙ c.in-Ok.ensures.event) c.in-Ok.ensures.ok
+        (record { kind = w.kind.ensures; clause = w.clause.ensures })
+        (λ P' ls t. stands_along P' _ (state_of w.next_line.new.self.clauses w.next_line.new.builder)
+        (state_of c.match-event.self.clauses c.match-event.builder) w.next_line.new.count c.match-event.count (w.in-Ok-next_line.ensures.takes P' ls t)
+        (state_is _ _ _ _ (ap (λ h. h.clauses) w.self-is) w.builder-is) w.count-is)
   ];
   spent = elim c.match-event.branch [
     | in-More w ↦ ap (λ h. h.spent) w.self-is ∙ c.loop-b.invariant.spent

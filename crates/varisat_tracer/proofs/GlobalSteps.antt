@@ -1,5 +1,5 @@
 -- Steps over global variables, literal by literal, and that they can be told and what telling them is.
-use Rattle.std.proofs.Common.{◌≡◌, ℕ, ◌+◌, ◌<◌, List, [], ◌∷◌, ◌++◌, length, take, get_or, refl, sym, ap, ◌∙◌, subst, map}
+use Rattle.std.proofs.Common.{◌≡◌, ℕ, ◌+◌, ◌<◌, List, [], ◌∷◌, ◌++◌, length, take, get_or, refl, sym, ap, ◌∙◌, subst, map, append-nil, arith, inl, Option, Some, None, Result, Ok, Err}
 use Rattle.std.proofs.lemmas.List.{map-append, take_more, get_or_read}
 use Rattle.varisat_theory.specs.Literals.{Literal, Clause}
 use Rattle.varisat_theory.specs.Propagation.{Conflicts}
@@ -9,14 +9,20 @@ use Rattle.varisat_theory.specs.Renaming.{rename_line}
 use Rattle.varisat_theory.specs.Journals.{Entry, Writes, Fails, Leads, written}
 use Rattle.varisat_trace.specs.Traces.{CanTake, CanFail}
 use Rattle.varisat_trace.proofs.Traced.{lines-lead}
-use Rattle.varisat_proof.specs.Proving.{IsTold, MayHold}
+use Rattle.varisat_trace.specs.declared.tracer.TraceError.{TraceError}
+use Rattle.varisat_trace.specs.declared.tracer.TraceError.TheVariants.{Memory}
+use Rattle.varisat_proof.specs.declared.proof.format.Encoding.{Encoding}
+use Rattle.varisat_proof.specs.Lines.{ProofLine}
+use Rattle.varisat_proof.specs.Proving.{OpenState, IsTold, IsBegunIf, Tells, MayHold, told}
 use Rattle.varisat_tracer.specs.Carried.{told_as}
-use Rattle.varisat_tracer.specs.Tracing.{TracerState, global_literal, Relies, TakesGlobally}
+use Rattle.varisat_tracer.specs.Tracing.{TracerState, global_literal, Relies, TakesGlobally, TellsGlobally}
 use Rattle.varisat_tracer.specs.TracerLaws.{leads-globally}
 
-pub mapped-more : (f : Literal → Literal) (ls old new : List Literal) (i l m : ℕ) → i < length ls → l ≡ get_or ls i l → old ≡ map f (take i ls) → new ≡ old ++ m ∷ [] → m ≡ f l → new ≡ map f (take (i + 1) ls)
+pub mapped-more : (f : Literal → Literal) (ls old new : List Literal) (i l m : ℕ) → i < length ls → l ≡ get_or ls i l → old ≡ map f (take i ls) →
+    new ≡ old ++ m ∷ [] → m ≡ f l → new ≡ map f (take (i + 1) ls)
 mapped-more f ls old new i l m h e o n w =
-    n ∙ ap (λ xs. xs ++ m ∷ []) o ∙ ap (λ x. map f (take i ls) ++ x ∷ []) (w ∙ ap f (get_or_read ls i l h e 0)) ∙ sym (map-append f (take i ls) (get_or ls i 0 ∷ [])) ∙ ap (map f) (sym (take_more ls i 0 h))
+    n ∙ ap (λ xs. xs ++ m ∷ []) o ∙ ap (λ x. map f (take i ls) ++ x ∷ []) (w ∙ ap f (get_or_read ls i l h e 0)) ∙
+    sym (map-append f (take i ls) (get_or ls i 0 ∷ [])) ∙ ap (map f) (sym (take_more ls i 0 h))
 
 -- 1. Lines as entries, and back.
 lead-lines : (P : List Clause) (lines : List Line) (Q : List Clause) → Leads P (written lines) Q → Derives P lines Q
@@ -36,42 +42,67 @@ pub told-units : (f : Literal → Literal) (ls : List Literal) → told_as f (wr
 told-units f ls = told-lines f (unit_lines ls) ∙ ap written (unit-names f ls)
 
 -- 2. What is right over solver variables is so over global ones.
-pub lines-globally : (x : TracerState) (lines others : List Line) → map (rename_line (global_literal x.tables)) lines ≡ others → CanTake (Relies x) lines → CanTake (MayHold x.proof.checker) others
+pub lines-globally : (x : TracerState) (lines others : List Line) → map (rename_line (global_literal x.tables)) lines ≡ others → CanTake (Relies x) lines →
+    CanTake (MayHold x.proof.checker) others
 lines-globally x lines others e (held, after, r, d) =
     let f = global_literal x.tables in
     let (now, next, h, l) = leads-globally x (written lines) held after r (lines-lead held lines after d) in
     (now, next, h, lead-lines now others next (subst (λ es. Leads now es next) (told-lines f lines ∙ ap written e) l))
 
-pub units-globally : (x : TracerState) (ls ms : List Literal) → ms ≡ map (global_literal x.tables) ls → CanTake (Relies x) (unit_lines ls) → CanTake (MayHold x.proof.checker) (unit_lines ms)
+pub units-globally : (x : TracerState) (ls ms : List Literal) → ms ≡ map (global_literal x.tables) ls → CanTake (Relies x) (unit_lines ls) →
+    CanTake (MayHold x.proof.checker) (unit_lines ms)
 units-globally x ls ms e h = lines-globally x (unit_lines ls) (unit_lines ms) (unit-names (global_literal x.tables) ls ∙ ap unit_lines (sym e)) h
 
-pub added-globally : (x : TracerState) (c d : Clause) → d ≡ map (global_literal x.tables) c → CanTake (Relies x) (Add c ∷ []) → CanTake (MayHold x.proof.checker) (Add d ∷ [])
+pub added-globally : (x : TracerState) (c d : Clause) → d ≡ map (global_literal x.tables) c → CanTake (Relies x) (Add c ∷ []) →
+    CanTake (MayHold x.proof.checker) (Add d ∷ [])
 added-globally x c d e h = lines-globally x (Add c ∷ []) (Add d ∷ []) (ap (λ y. Add y ∷ []) (sym e)) h
 
-pub deleted-globally : (x : TracerState) (c d : Clause) → d ≡ map (global_literal x.tables) c → CanTake (Relies x) (Delete c ∷ []) → CanTake (MayHold x.proof.checker) (Delete d ∷ [])
+pub deleted-globally : (x : TracerState) (c d : Clause) → d ≡ map (global_literal x.tables) c → CanTake (Relies x) (Delete c ∷ []) →
+    CanTake (MayHold x.proof.checker) (Delete d ∷ [])
 deleted-globally x c d e h = lines-globally x (Delete c ∷ []) (Delete d ∷ []) (ap (λ y. Delete y ∷ []) (sym e)) h
 
-pub fails-globally : (x : TracerState) (core others : List Literal) → others ≡ map (global_literal x.tables) core → CanFail (Relies x) core → CanFail (MayHold x.proof.checker) others
+pub fails-globally : (x : TracerState) (core others : List Literal) → others ≡ map (global_literal x.tables) core → CanFail (Relies x) core →
+    CanFail (MayHold x.proof.checker) others
 fails-globally x core others e (held, r, k) =
     let (now, next, h, l) = leads-globally x (Fails core ∷ []) held held r (held, (k, refl), refl) in
     (now, h, subst (λ y. Conflicts now y) (sym e) l.1.0)
 
 -- 3. The entries that were told.
-pub takes-told : (x y : TracerState) (entries others : List Entry) → y.tables ≡ x.tables → others ≡ told_as (global_literal x.tables) entries → IsTold x.proof others y.proof → TakesGlobally x entries y
+pub takes-told : (x y : TracerState) (entries others : List Entry) → y.tables ≡ x.tables → others ≡ told_as (global_literal x.tables) entries →
+    IsTold x.proof others y.proof → TakesGlobally x entries y
 takes-told x y entries others e o t = record { tables = e; told = subst (λ es. IsTold x.proof es y.proof) o t }
 
 -- 4. The same of a tracer's parts.
-pub added-parts : (x y : TracerState) (c d : Clause) → y ≡ x → d ≡ map (global_literal y.tables) c → CanTake (Relies x) (Add c ∷ []) → CanTake (MayHold y.proof.checker) (Add d ∷ [])
+pub added-parts : (x y : TracerState) (c d : Clause) → y ≡ x → d ≡ map (global_literal y.tables) c → CanTake (Relies x) (Add c ∷ []) →
+    CanTake (MayHold y.proof.checker) (Add d ∷ [])
 added-parts x y c d e f h = added-globally y c d f (subst (λ (z : TracerState). CanTake (Relies z) (Add c ∷ [])) (sym e) h)
 
-pub units-parts : (x y : TracerState) (ls ms : List Literal) → y ≡ x → ms ≡ map (global_literal y.tables) ls → CanTake (Relies x) (unit_lines ls) → CanTake (MayHold y.proof.checker) (unit_lines ms)
+pub units-parts : (x y : TracerState) (ls ms : List Literal) → y ≡ x → ms ≡ map (global_literal y.tables) ls → CanTake (Relies x) (unit_lines ls) →
+    CanTake (MayHold y.proof.checker) (unit_lines ms)
 units-parts x y ls ms e f h = units-globally y ls ms f (subst (λ (z : TracerState). CanTake (Relies z) (unit_lines ls)) (sym e) h)
 
-pub deleted-parts : (x y : TracerState) (c d : Clause) → y ≡ x → d ≡ map (global_literal y.tables) c → CanTake (Relies x) (Delete c ∷ []) → CanTake (MayHold y.proof.checker) (Delete d ∷ [])
+pub deleted-parts : (x y : TracerState) (c d : Clause) → y ≡ x → d ≡ map (global_literal y.tables) c → CanTake (Relies x) (Delete c ∷ []) →
+    CanTake (MayHold y.proof.checker) (Delete d ∷ [])
 deleted-parts x y c d e f h = deleted-globally y c d f (subst (λ (z : TracerState). CanTake (Relies z) (Delete c ∷ [])) (sym e) h)
 
-pub fails-parts : (x y : TracerState) (core others : List Literal) → y ≡ x → others ≡ map (global_literal y.tables) core → CanFail (Relies x) core → CanFail (MayHold y.proof.checker) others
+pub fails-parts : (x y : TracerState) (core others : List Literal) → y ≡ x → others ≡ map (global_literal y.tables) core → CanFail (Relies x) core →
+    CanFail (MayHold y.proof.checker) others
 fails-parts x y core others e f h = fails-globally y core others f (subst (λ (z : TracerState). CanFail (Relies z) core) (sym e) h)
 
-pub takes-parts : (x y z : TracerState) (entries others : List Entry) → y ≡ x → z.tables ≡ y.tables → others ≡ told_as (global_literal y.tables) entries → IsTold y.proof others z.proof → TakesGlobally x entries z
+pub takes-parts : (x y z : TracerState) (entries others : List Entry) → y ≡ x → z.tables ≡ y.tables → others ≡ told_as (global_literal y.tables) entries →
+    IsTold y.proof others z.proof → TakesGlobally x entries z
 takes-parts x y z entries others e f o t = subst (λ (w : TracerState). TakesGlobally w entries z) e (takes-told y z entries others f o t)
+
+-- 5. What telling returns.
+pub tells-told : (x y : TracerState) (entries others : List Entry) (r : Result (Unit {0}) TraceError) → y.tables ≡ x.tables →
+    others ≡ told_as (global_literal x.tables) entries → Tells x.proof others r y.proof → TellsGlobally x entries r y
+tells-told x y entries others (Ok u) e o t = takes-told x y entries others e o t
+tells-told x y entries others (Err z) e o t = (e, subst (λ es. Tells x.proof es (Err z) y.proof) o t)
+
+nothing-begun : (o : Option OpenState) (lines : Encoding → List ProofLine) → IsBegunIf o lines 0 o
+nothing-begun None lines = (refl, refl)
+nothing-begun (Some p) lines = record { rest = refl; bytes = (0, sym (append-nil p.taken.bytes)); faults = omega arith }
+
+-- memory ran out before anything was told
+pub untold : (x : TracerState) (entries : List Entry) → TellsGlobally x entries (Err Memory) x
+untold x entries = (refl, inl (nothing-begun x.proof.opened (told (told_as (global_literal x.tables) entries)), refl))

@@ -4,6 +4,7 @@ use Rattle.varisat_theory.specs.Literals.{Literal, variable_of}
 use Rattle.varisat_theory.specs.Renaming.{rename_line}
 use Rattle.varisat_theory.specs.Journals.{Entry, Accepts, Writes, Assumes, Fails, Leaves}
 
+-- the variable, or the first where there is none
 abbrev pub variable_or_first : Option ℕ → ℕ
 variable_or_first None = 0
 variable_or_first (Some v) = v
@@ -12,7 +13,8 @@ variable_or_first (Some v) = v
 abbrev pub carry : (ℕ → Option ℕ) → Literal → Literal
 carry f l = 2 * variable_or_first (f (variable_of l)) + l % 2
 
--- The entries of a search as a proof is told them, under other names for the variables. That a variable leaves the search is not told: what it stands for may live on.
+-- The entries of a search as a proof is told them, under other names for the variables. That a variable leaves the search is not told:
+-- what it stands for may live on.
 abbrev pub told_as : (Literal → Literal) → List Entry → List Entry
 told_as f [] = []
 told_as f (Accepts c ∷ es) = Accepts (map f c) ∷ told_as f es

@@ -1,6 +1,7 @@
--- Entries that are told in turn, none, or to nothing.
+-- Laws of telling entries to a proof: none, some in turn, and any to a proof that is idle.
 use Rattle.std.specs.Prelude.{◌≡◌, ◌||◌, Bool, true, false, List, [], ◌∷◌, ◌++◌, map, flat_map, Option, Some, None, refl}
-use Rattle.std.proofs.Common.{sym, ap, ◌∙◌, append_assoc, subst}
+use Rattle.std.proofs.Common.{sym, ap, ◌∙◌, append_assoc, append-nil, subst}
+use Rattle.std.proofs.lemmas.Grind.{flat_map-append}
 use Rattle.varisat_theory.specs.Literals.{Literal, Clause}
 use Rattle.varisat_theory.specs.Derivations.{Add, Delete}
 use Rattle.varisat_theory.specs.Held.{without}
@@ -17,17 +18,11 @@ use Rattle.varisat_proof.specs.Present.{IsLeftAfter}
 use Rattle.varisat_proof.specs.Proving.{OpenState, ProofParts, is_there, IsWrittenIf, IsCheckedIf, IsTold, told}
 use Rattle.varisat_tracer.specs.Carried.{told_as}
 
-append-nil : {X : Type 0} (xs : List X) → xs ++ [] ≡ xs
-append-nil [] = refl
-append-nil (x ∷ xs) = ap (λ ys. x ∷ ys) (append-nil xs)
-
-flat_map-append : {X Y : Type 0} (f : X → List Y) (xs ys : List X) → flat_map f (xs ++ ys) ≡ flat_map f xs ++ flat_map f ys
-flat_map-append f [] ys = refl
-flat_map-append f (x ∷ xs) ys = ap (λ zs. f x ++ zs) (flat_map-append f xs ys) ∙ sym (append_assoc (f x) (flat_map f xs) (flat_map f ys))
-
-bytes-append : (e : Encoding) (first second : List Entry) → lines_written e (lines_told e (first ++ second)) ≡ lines_written e (lines_told e first) ++ lines_written e (lines_told e second)
+bytes-append : (e : Encoding) (first second : List Entry) → lines_written e (lines_told e (first ++ second)) ≡ lines_written e
+    (lines_told e first) ++ lines_written e (lines_told e second)
 bytes-append e first second =
-    ap (λ ls. flat_map (line_written e) ls) (flat_map-append (entry_lines e) first second) ∙ flat_map-append (line_written e) (lines_told e first) (lines_told e second)
+    ap (λ ls. flat_map (line_written e) ls) (flat_map-append (entry_lines e) first second) ∙
+    flat_map-append (line_written e) (lines_told e first) (lines_told e second)
 
 pub told_as-append : (f : Literal → Literal) (first second : List Entry) → told_as f (first ++ second) ≡ told_as f first ++ told_as f second
 told_as-append f [] second = refl
@@ -50,7 +45,8 @@ pub told-none : (p : ProofParts) → IsTold p [] p
 told-none p = record { written = written-none p.opened; checked = checked-none p.checker }
 
 -- 2. In turn.
-written-more : (o p q : Option OpenState) (first second : List Entry) → IsWrittenIf o (told first) p → IsWrittenIf p (told second) q → IsWrittenIf o (told (first ++ second)) q
+written-more : (o p q : Option OpenState) (first second : List Entry) → IsWrittenIf o (told first) p → IsWrittenIf p (told second) q →
+    IsWrittenIf o (told (first ++ second)) q
 written-more None p q first second h k = subst (λ x. IsWrittenIf x (told second) q) h k
 written-more (Some a) None q first second h k = absurd h
 written-more (Some a) (Some b) None first second h k = absurd k
@@ -62,7 +58,8 @@ written-more (Some a) (Some b) (Some c) first second h k =
       rest = k.rest ∙ ap (λ (x : OpenState). let y : OpenState = record x { taken = c.taken } in y) h.rest;
       bytes =
           more ∙ ap (λ xs. xs ++ lines_written (encoding_of a.format) (lines_told (encoding_of a.format) second)) h.bytes
-          ∙ append_assoc a.taken.bytes (lines_written (encoding_of a.format) (lines_told (encoding_of a.format) first)) (lines_written (encoding_of a.format) (lines_told (encoding_of a.format) second))
+          ∙ append_assoc a.taken.bytes (lines_written (encoding_of a.format) (lines_told (encoding_of a.format) first))
+          (lines_written (encoding_of a.format) (lines_told (encoding_of a.format) second))
           ∙ ap (λ xs. a.taken.bytes ++ xs) (sym (bytes-append (encoding_of a.format) first second));
       faults = k.faults ∙ h.faults;
     }
@@ -93,7 +90,8 @@ IsNo : Bool → Type 0
 IsNo true = ⊥
 IsNo false = Unit {0}
 
-idle : (o : Option OpenState) (k : Option CheckerState) (entries : List Entry) → (is_there o || is_there k) ≡ false → IsWrittenIf o (told entries) o × IsCheckedIf k entries k
+idle : (o : Option OpenState) (k : Option CheckerState) (entries : List Entry) → (is_there o || is_there k) ≡ false → IsWrittenIf o (told entries) o
+    × IsCheckedIf k entries k
 unfolding IsNo
 idle None None entries h = (refl, refl)
 idle None (Some c) entries h = absurd (subst IsNo (sym h) tt)

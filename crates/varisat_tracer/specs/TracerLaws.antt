@@ -1,4 +1,5 @@
--- The laws of a solver's tracer.
+-- The laws of a solver's tracer, as `ProofTracer` asks for them: it takes nothing, takes entries in turn, passes them where it is idle, and what
+-- a search may rely on follows them.
 use Rattle.std.specs.Prelude.{◌≡◌, ◌<◌, ◌-◌, ◌^◌, false, List, [], ◌++◌, Option, Some, None, refl}
 use Rattle.std.proofs.Common.{sym, ◌∙◌, subst}
 use Rattle.varisat_theory.specs.Literals.{Literal, Clause}
@@ -12,7 +13,7 @@ use Rattle.varisat_proof.specs.Proving.{OpenState, is_telling, IsWrittenIf, IsCh
 use Rattle.varisat_tracer.specs.Carried.{told_as}
 use Rattle.varisat_tracer.specs.Tracing.{TracerState, global_literal, Relies, TakesGlobally}
 use Rattle.varisat_tracer.specs.Told.{told_as-append, told-none, told-more, told-idle}
-use Rattle.varisat_tracer.specs.Relying.{carry-opposites, left_same, leads-renamed}
+use Rattle.varisat_tracer.specs.RenamedEntries.{carry-opposites, left_same, leads-renamed}
 
 pub takes-none : (x : TracerState) → TakesGlobally x [] x
 takes-none x = record { tables = refl; told = told-none x.proof }
@@ -40,17 +41,27 @@ usable-stays None p entries e h = subst IsUsable (sym e) tt
 usable-stays (Some a) None entries k h = absurd k
 usable-stays (Some a) (Some b) entries k h = k.1 ∙ h
 
-holds-on : (f : Literal → Literal) → KeepsOpposites f → (o p : Option CheckerState) (entries : List Entry) (held after others : List Clause) → IsCheckedIf o (told_as f entries) p → MayHold o (others ++ rename f held) → Leads held entries after → (more : List Clause) × MayHold p (more ++ rename f after)
+holds-on : (f : Literal → Literal) → KeepsOpposites f → (o p : Option CheckerState) (entries : List Entry) (held after others : List Clause) →
+    IsCheckedIf o (told_as f entries) p → MayHold o (others ++ rename f held) → Leads held entries after → (more : List Clause)
+    × MayHold p (more ++ rename f after)
 holds-on f keeps None p entries held after others e h d = (others, subst (λ k. MayHold k (others ++ rename f after)) (sym e) tt)
 holds-on f keeps (Some a) None entries held after others k h d = absurd k
 holds-on f keeps (Some a) (Some b) entries held after others k h d =
-    let (Q, more, l, t) = leads-renamed f keeps entries held after others (others ++ rename f held) (same_clauses-self (others ++ rename f held)) d in
-    (more, (same_clauses-through (more ++ rename f after) Q b.clauses t (left_same a.clauses b.clauses (told_as f entries) (others ++ rename f held) Q k.0 h.0 l), k.1 ∙ h.1))
+    let (Q, more, l, t) = leads-renamed f keeps entries held after others (others ++ rename f held) (same_clauses-self (others ++ rename f held)) d in (
+      more,
+      (
+        same_clauses-through (more ++ rename f after) Q b.clauses t
+            (left_same a.clauses b.clauses (told_as f entries) (others ++ rename f held) Q k.0 h.0 l),
+        k.1 ∙ h.1,
+      ),
+    )
 
-pub relies-after : (x y : TracerState) (entries : List Entry) (held after : List Clause) → TakesGlobally x entries y → Relies x held → Leads held entries after → Relies y after
+pub relies-after : (x y : TracerState) (entries : List Entry) (held after : List Clause) → TakesGlobally x entries y → Relies x held →
+    Leads held entries after → Relies y after
 relies-after x y entries held after h r d =
     let f = global_literal x.tables in
-    let (more, m) = holds-on f (carry-opposites (at x.tables.solvers.backward)) x.proof.checker y.proof.checker entries held after r.others h.told.checked r.holds d in
+    let (more, m) = holds-on f (carry-opposites (at x.tables.solvers.backward)) x.proof.checker y.proof.checker entries held after r.others h.told.checked
+    r.holds d in
     record {
       room = room-stays x.proof.opened y.proof.opened (told_as f entries) h.told.written r.room;
       usable = usable-stays x.proof.checker y.proof.checker (told_as f entries) h.told.checked r.usable;
@@ -59,7 +70,8 @@ relies-after x y entries held after h r d =
     }
 
 -- what a search relies on leads on by entries, and so does what the checker may hold by those that it is told
-pub leads-globally : (x : TracerState) (entries : List Entry) (held after : List Clause) → Relies x held → Leads held entries after → (now next : List Clause) × MayHold x.proof.checker now × Leads now (told_as (global_literal x.tables) entries) next
+pub leads-globally : (x : TracerState) (entries : List Entry) (held after : List Clause) → Relies x held → Leads held entries after →
+    (now next : List Clause) × MayHold x.proof.checker now × Leads now (told_as (global_literal x.tables) entries) next
 leads-globally x entries held after r d =
     let f = global_literal x.tables in
     let now = r.others ++ rename f held in

@@ -1,12 +1,13 @@
 -- What a solver's tracer holds and takes.
-use Rattle.std.specs.Prelude.{◌≡◌, None, List, ◌++◌}
+use Rattle.std.specs.Prelude.{◌≡◌, None, List, ◌++◌, Result, Ok, Err}
 use Rattle.std.specs.List.Sorted.{IsNonDecreasingBy}
 use Rattle.varisat_theory.specs.Literals.{Literal, Clause}
 use Rattle.varisat_theory.specs.Renaming.{rename}
 use Rattle.varisat_theory.specs.Journals.{Entry}
+use Rattle.varisat_trace.specs.declared.tracer.TraceError.{TraceError}
 use Rattle.varisat_names.specs.VarMap.{at}
 use Rattle.varisat_names.specs.Variables.{Tables}
-use Rattle.varisat_proof.specs.Proving.{ProofParts, IsTold, HasRoom, IsUsable, MayHold}
+use Rattle.varisat_proof.specs.Proving.{ProofParts, IsTold, Tells, HasRoom, IsUsable, MayHold}
 use Rattle.varisat_tracer.specs.declared.tracer.SolverTracer.{SolverTracer}
 use Rattle.varisat_tracer.specs.Carried.{carry, told_as}
 
@@ -26,7 +27,8 @@ global_literal t = carry (at t.solvers.backward)
 abbrev pub IsInOrder : TracerState → Clause → Type 0
 IsInOrder x clause = IsNonDecreasingBy (global_literal x.tables) clause
 
--- Clauses that a search may rely on: with others that it knows nothing of they are, over global variables, what the checker has. What writes and checks can be used.
+-- Clauses that a search may rely on: with others that it knows nothing of they are, over global variables, what the checker has. The target
+-- can still count a fault, and the checker is not spent.
 pub record Relies (x : TracerState) (held : List Clause) : Type 0 where
   pub room : HasRoom x.proof.opened
   pub usable : IsUsable x.proof.checker
@@ -37,6 +39,11 @@ pub record Relies (x : TracerState) (held : List Clause) : Type 0 where
 pub record TakesGlobally (x : TracerState) (entries : List Entry) (y : TracerState) : Type 0 where
   pub tables : y.tables ≡ x.tables
   pub told : IsTold x.proof (told_as (global_literal x.tables) entries) y.proof
+
+-- What telling entries over global variables returns and leaves. Names and variables stay also after an error.
+abbrev pub TellsGlobally : TracerState → List Entry → Result (Unit {0}) TraceError → TracerState → Type 0
+TellsGlobally x entries (Ok u) y = TakesGlobally x entries y
+TellsGlobally x entries (Err e) y = (y.tables ≡ x.tables) × Tells x.proof (told_as (global_literal x.tables) entries) (Err e) y.proof
 
 -- A target that may still count a fault, if a proof is open, and no checker, so that any clauses may be relied on.
 pub record CanTell (p : ProofParts) : Type 0 where

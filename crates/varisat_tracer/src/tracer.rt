@@ -1,12 +1,12 @@
 //! The tracer of a solver: it hands the steps of a search on to the proof that the solver writes and to the checker
 //! inside it, over global variables.
-ghost use Rattle.std.specs.Prelude.{◌≡◌, map, IfOk, OnOk, true, Some, None, [], ◌∷◌};
+ghost use Rattle.std.specs.Prelude.{◌≡◌, map, OnOk, None, [], ◌∷◌};
 ghost use Rattle.varisat_names.specs.VarMap.{at};
 ghost use Rattle.varisat_names.specs.Variables.{no_variables};
 ghost use Rattle.varisat_tracer.specs.Carried.{carry, variable_or_first};
 ghost use Rattle.varisat_theory.specs.Journals.{Accepts, Assumes};
 ghost use Rattle.varisat_proof.specs.Proving.{HasRoom, IsUsable};
-ghost use Rattle.varisat_tracer.specs.Tracing.{global_literal, parts_of, TakesGlobally};
+ghost use Rattle.varisat_tracer.specs.Tracing.{global_literal, parts_of, TellsGlobally};
 
 use std::alloc::{AllocError, Allocator};
 use varisat_formula::io::ProofTarget;
@@ -15,7 +15,8 @@ use varisat_names::variables::LinkedVariables;
 use varisat_proof::proof::{Proof, add_assumptions, add_clause, add_step};
 use varisat_trace::{ProofStep, ProofTracer, TraceError};
 
-/// The global variable of a solver variable, or the first where it has none.
+/// The global variable of a solver variable. Each that a search uses has one; for any other it is the first, which spares
+/// the callers a condition.
 fn global_var<A: Allocator + Copy>(variables: &LinkedVariables<A>, solver: Var) -> Var
     ensures { result ≡ variable_or_first (at variables.now.solvers.backward solver) }
 {
@@ -25,14 +26,14 @@ fn global_var<A: Allocator + Copy>(variables: &LinkedVariables<A>, solver: Var) 
     }
 }
 
-/// The literal of the global variable.
+/// The literal of the global variable that the solver variable stands for.
 fn global_lit<A: Allocator + Copy>(variables: &LinkedVariables<A>, literal: Lit) -> Lit
     ensures { result ≡ global_literal variables.now literal }
 {
     global_var(variables, literal.var()).lit(literal.is_positive())
 }
 
-/// The literals over global variables.
+/// Puts the literals over global variables in place of those of `mapped`.
 fn map_lits<A: Allocator + Copy>(
     variables: &LinkedVariables<A>,
     literals: &[Lit],
@@ -70,34 +71,39 @@ impl<W: ProofTarget, A: Allocator + Copy> SolverTracer<W, A> {
         }
     }
 
-    /// Tells an accepted clause, which is over solver variables.
+    /// Tells the proof an accepted clause, which is over solver variables. `Target`: the target failed. `Memory`: out of
+    /// memory, which may have spent the checker. A beginning of the clause's line may stand in the target after an error.
     pub fn add_clause(&mut self, clause: &[Lit]) -> Result<(), TraceError>
         requires room { HasRoom self.old.proof.opened }
         requires usable { IsUsable self.old.proof.checker }
-        ensures { OnOk result (TakesGlobally (parts_of self.old) (Accepts clause.now ∷ []) (parts_of self.new)) }
+        ensures { TellsGlobally (parts_of self.old) (Accepts clause.now ∷ []) result (parts_of self.new) }
     {
         if !self.proof.is_active() {
             return Ok(());
         }
-        map_lits(&self.variables, clause, &mut self.literals)?;
+        match map_lits(&self.variables, clause, &mut self.literals) {
+            Ok(()) => {}
+            Err(_) => return Err(TraceError::Memory),
+        }
         let clause = self.literals.as_slice();
-        add_clause(&mut self.proof, clause)?;
-        Ok(())
+        add_clause(&mut self.proof, clause)
     }
 
-    /// Tells an accepted list of assumptions, which is over solver variables.
+    /// Tells the proof an accepted list of assumptions, which is over solver variables. Errors are those of `add_clause`.
     pub fn add_assumptions(&mut self, assumptions: &[Lit]) -> Result<(), TraceError>
         requires room { HasRoom self.old.proof.opened }
         requires usable { IsUsable self.old.proof.checker }
-        ensures { OnOk result (TakesGlobally (parts_of self.old) (Assumes assumptions.now ∷ []) (parts_of self.new)) }
+        ensures { TellsGlobally (parts_of self.old) (Assumes assumptions.now ∷ []) result (parts_of self.new) }
     {
         if !self.proof.is_active() {
             return Ok(());
         }
-        map_lits(&self.variables, assumptions, &mut self.literals)?;
+        match map_lits(&self.variables, assumptions, &mut self.literals) {
+            Ok(()) => {}
+            Err(_) => return Err(TraceError::Memory),
+        }
         let assumptions = self.literals.as_slice();
-        add_assumptions(&mut self.proof, assumptions)?;
-        Ok(())
+        add_assumptions(&mut self.proof, assumptions)
     }
 }
 
@@ -118,12 +124,12 @@ impl<W: ProofTarget, A: Allocator + Copy> ProofTracer for SolverTracer<W, A> {
         self.proof.is_active()
     }
 
-    /// By the global variables.
+    /// By the literals over global variables, which the lines write.
     fn sort(&self, clause: &mut [Lit]) {
         clause.sort_unstable_by_key(|literal| global_lit(&self.variables, *literal).code());
     }
 
-    /// That a solver variable leaves the search is not handed on, since its global variable may live on.
+    // `DeleteVar` is not handed on: it says that a solver variable leaves the search, and its global variable may live on.
     fn add_step(&mut self, step: &ProofStep<'_>) -> Result<(), TraceError> {
         if !self.proof.is_active() {
             return Ok(());

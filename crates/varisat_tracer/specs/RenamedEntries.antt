@@ -1,4 +1,5 @@
--- Clauses that a search relies on, and what a checker has of them over global variables, go on together.
+-- Entries lead on alike under other names for the variables, also beside clauses of which nothing is known: so what a search relies on and
+-- what a checker has of it over global variables go on together.
 use Rattle.std.specs.Prelude.{◌≡◌, ℕ, ◌+◌, ◌-◌, ◌*◌, ◌/◌, ◌%◌, Bool, true, false, List, [], ◌∷◌, ◌++◌, map, Option, refl}
 use Rattle.std.proofs.Common.{sym, ap, ◌∙◌, append_assoc, subst, arith}
 use Rattle.std.proofs.lemmas.List.{map-append}
@@ -32,7 +33,8 @@ carry-opposites f l = ap (λ v. 2 * variable_or_first (f v) + (l + 1 - 2 * (l % 
 one_more : (P held R : List Clause) (c : Clause) → SameClauses held P → R ≡ held ++ c ∷ [] → SameClauses R (P ++ c ∷ [])
 one_more P held R c s e = subst (λ (X : List Clause). SameClauses X (P ++ c ∷ [])) (sym e) (same_add held P c c s (same_set-self c))
 
-pub left_same : (P Q : List Clause) (entries : List Entry) (held after : List Clause) → IsLeftAfter P entries Q → SameClauses held P → Leads held entries after → SameClauses after Q
+pub left_same : (P Q : List Clause) (entries : List Entry) (held after : List Clause) → IsLeftAfter P entries Q → SameClauses held P →
+    Leads held entries after → SameClauses after Q
 left_same P Q [] held after e s d = subst (λ (X : List Clause). SameClauses X Q) d (subst (SameClauses held) e s)
 left_same P Q (Accepts c ∷ es) held after e s (R, f, d) = left_same (P ++ c ∷ []) Q es R after e (one_more P held R c s f) d
 left_same P Q (Writes (Add c) ∷ es) held after e s (R, f, d) = left_same (P ++ c ∷ []) Q es R after e (one_more P held R c s f.1) d
@@ -67,33 +69,44 @@ parted v (c ∷ P) = let (M, s) = parted v P in by (mentions v c) M s
 
 -- 5. Entries lead on under other names.
 module _ (f : Literal → Literal) (keeps : KeepsOpposites f) where
-  line-renamed : (P held R others : List Clause) (line : Line) → SameClauses (others ++ rename f held) P → Follow held (Writes line) R → (Q : List Clause) × Follow P (Writes (rename_line f line)) Q × SameClauses (others ++ rename f R) Q
+  line-renamed : (P held R others : List Clause) (line : Line) → SameClauses (others ++ rename f held) P → Follow held (Writes line) R → (Q : List Clause)
+      × Follow P (Writes (rename_line f line)) Q × SameClauses (others ++ rename f R) Q
   line-renamed P held R others line s w =
-      let d = derives_beside others (rename f held) (rename_line f line ∷ []) (rename f R) (derives_renamed f keeps held (line ∷ []) R (line-follow held line R w)) in
-      let (Q, e, t) = derives_same (others ++ rename f held) P (rename_line f line ∷ []) (rename_line f line ∷ []) (others ++ rename f R) s (same_lines-self (rename_line f line ∷ [])) d in
+      let d = derives_beside others (rename f held) (rename_line f line ∷ []) (rename f R)
+      (derives_renamed f keeps held (line ∷ []) R (line-follow held line R w)) in
+      let (Q, e, t) = derives_same (others ++ rename f held) P (rename_line f line ∷ []) (rename_line f line ∷ []) (others ++ rename f R) s
+      (same_lines-self (rename_line f line ∷ [])) d in
       (Q, follow-line P (rename_line f line) Q e, t)
 
-  conflict-renamed : (P held others : List Clause) (core : List Literal) → SameClauses (others ++ rename f held) P → Conflicts held core → Conflicts P (map f core)
+  conflict-renamed : (P held others : List Clause) (core : List Literal) → SameClauses (others ++ rename f held) P → Conflicts held core →
+      Conflicts P (map f core)
   conflict-renamed P held others core s k =
       conflicts_same (others ++ rename f held) P (map f core) s
-      (conflicts_more (rename f held) (others ++ rename f held) (map f core) (map f core) (covered_by_more (rename f held) (others ++ rename f held) (λ c h. ∈-append_right c others (rename f held) h)) (λ l h. h) (conflicts_renamed f keeps held core k))
+      (conflicts_more (rename f held) (others ++ rename f held) (map f core) (map f core)
+      (covered_by_more (rename f held) (others ++ rename f held) (λ c h. ∈-append_right c others (rename f held) h)) (λ l h. h)
+      (conflicts_renamed f keeps held core k))
 
-  accepted-renamed : (P held R others : List Clause) (c : Clause) → SameClauses (others ++ rename f held) P → R ≡ held ++ c ∷ [] → SameClauses (others ++ rename f R) (P ++ map f c ∷ [])
+  accepted-renamed : (P held R others : List Clause) (c : Clause) → SameClauses (others ++ rename f held) P → R ≡ held ++ c ∷ [] →
+      SameClauses (others ++ rename f R) (P ++ map f c ∷ [])
   accepted-renamed P held R others c s e =
       one_more P (others ++ rename f held) (others ++ rename f R) (map f c) s
       (ap (λ xs. others ++ xs) (ap (rename f) e ∙ map-append (map f) held (c ∷ [])) ∙ sym (append_assoc others (rename f held) (map f c ∷ [])))
 
-  left-renamed : (P held R others : List Clause) (v : ℕ) → SameClauses (others ++ rename f held) P → R ≡ without v held → (more : List Clause) × SameClauses (more ++ rename f R) P
+  left-renamed : (P held R others : List Clause) (v : ℕ) → SameClauses (others ++ rename f held) P → R ≡ without v held → (more : List Clause)
+      × SameClauses (more ++ rename f R) P
   left-renamed P held R others v s e =
       let (M, t) = parted v held in
-      let u : SameClauses (rename f held) (rename f M ++ rename f (without v held)) = subst (λ (X : List Clause). SameClauses (rename f held) X) (map-append (map f) M (without v held)) (same_clauses_renamed f held (M ++ without v held) t) in
+      let u : SameClauses (rename f held) (rename f M ++ rename f (without v held)) = subst (λ (X : List Clause). SameClauses (rename f held) X)
+      (map-append (map f) M (without v held)) (same_clauses_renamed f held (M ++ without v held) t) in
       let w : SameClauses ((others ++ rename f M) ++ rename f (without v held)) P =
       subst (λ (X : List Clause). SameClauses X P) (sym (append_assoc others (rename f M) (rename f (without v held))))
       (same_clauses-through (others ++ (rename f M ++ rename f (without v held))) (others ++ rename f held) P
-      (same_clauses-back (others ++ rename f held) (others ++ (rename f M ++ rename f (without v held))) (same_beside others (rename f held) (rename f M ++ rename f (without v held)) u)) s) in
+      (same_clauses-back (others ++ rename f held) (others ++ (rename f M ++ rename f (without v held)))
+      (same_beside others (rename f held) (rename f M ++ rename f (without v held)) u)) s) in
       (others ++ rename f M, subst (λ (X : List Clause). SameClauses ((others ++ rename f M) ++ rename f X) P) (sym e) w)
 
-  pub leads-renamed : (entries : List Entry) (held after others P : List Clause) → SameClauses (others ++ rename f held) P → Leads held entries after → (Q more : List Clause) × Leads P (told_as f entries) Q × SameClauses (more ++ rename f after) Q
+  pub leads-renamed : (entries : List Entry) (held after others P : List Clause) → SameClauses (others ++ rename f held) P → Leads held entries after →
+      (Q more : List Clause) × Leads P (told_as f entries) Q × SameClauses (more ++ rename f after) Q
   leads-renamed [] held after others P s e = (P, others, refl, subst (λ (X : List Clause). SameClauses (others ++ rename f X) P) e s)
   leads-renamed (Accepts c ∷ es) held after others P s (R, e, d) =
       let (Q, more, l, t) = leads-renamed es R after others (P ++ map f c ∷ []) (accepted-renamed P held R others c s e) d in

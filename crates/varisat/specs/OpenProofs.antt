@@ -9,7 +9,7 @@ use Rattle.varisat_proof.specs.Lines.{encoding_of, plain_lines}
 use Rattle.varisat_proof.specs.Steps.{lines_written}
 use Rattle.varisat_proof.specs.Proving.{OpenState}
 
--- `format`, and how often the target failed in all. `first`: the bytes that the target had when the proof was opened, and `bytes`: those since then. `searched`: whether `solve` was called since then. `before`: what was told before.
+-- `format`: how its lines are written. `faults`: how often the target failed in all. `first`: the bytes that the target had when the proof was opened, and `bytes`: those since then. `searched`: whether the proof is marked as one under which a search came to its end, which no call does yet. `before`: what was told before it was opened.
 pub record OpenProof : Type 0 where
   pub format : ProofFormat
   pub faults : ℕ
@@ -52,7 +52,7 @@ abbrev pub GoesOnWriting : Option OpenProof → Option OpenProof → Type 0
 GoesOnWriting None new = new ≡ None
 GoesOnWriting (Some p) new = (more : List ℕ) × (new ≡ Some (record p { bytes = p.bytes ++ more }))
 
--- whether `solve` was called since the open proof was opened
+-- whether the open proof is marked as one under which a search came to its end
 abbrev pub searched_in : Option OpenProof → Option Bool
 searched_in None = None
 searched_in (Some p) = Some p.searched

@@ -18,7 +18,7 @@ use Rattle.varisat_literals.specs.Numbers.{variable_limit}
 
 -- Clauses and assumptions are kept over identities, as the names that were in use carried them when they were given: a name that becomes free may come back for another variable, and what was said before still speaks of the first.
 --
--- `valid`: no call that changes the solver ran out of memory. `naming`: which identity each name has. `clauses` were accepted, and `assumptions` given last. `counted`: the different identities that these clauses and all lists of assumptions so far name. `has_model`: `solve` returned true, and no clause was accepted and nothing assumed since. `has_core`: it returned false, and nothing was assumed since. `steps`: how many steps were made in all. `since`: how many of them since the last call that was not refused and did more than to solve or to tell something. `settings`: those by which further steps are made. `proof`: whether `solve` was called since the proof was opened that is open.
+-- `valid`: no call failed from which there is no way back. `naming`: which identity each name has. `clauses` were accepted, and `assumptions` given last. `counted`: the different identities that these clauses and all lists of assumptions so far name. `has_model`: `solve` returned true, and no clause was accepted and nothing assumed since. `has_core`: it returned false, and nothing was assumed since. `steps`: how many steps were made in all. `since`: how many of them since the last call that was not refused and did more than to solve or to tell something. `settings`: those by which further steps are made. `proof`: of an open proof, whether it is marked as one under which a search came to its end.
 pub record Past : Type 0 where
   pub valid : Bool
   pub naming : Naming
@@ -39,7 +39,7 @@ empty_past = record { valid = true; naming = no_names; clauses = []; assumptions
 abbrev pub is_valid : Past → Bool
 is_valid p = p.valid
 
--- memory ran out: nothing more is accepted
+-- a call failed from which there is no way back: nothing more is accepted
 abbrev pub Invalidates : Past → Past → Type 0
 Invalidates p q = (p.valid ≡ true) × (q ≡ record p { valid = false })
 

@@ -25,7 +25,7 @@ OpensProof taken target format s (Err (ProofOpen, back)) t = (back ≡ target) �
 OpensProof taken target format s (Err (ProofTooLate, back)) t = (back ≡ target) × IsValid s × (s.proof ≡ None) × (s.ledger.started ≡ true) × (t ≡ s)
 OpensProof taken target format s (Err _) t = ⊥
 
--- The target comes back, with the bytes of the proof behind those that it had before; also where it can't be flushed, which makes the solver invalid. An invalid solver hands back without a flush what it has, of which nothing is told.
+-- The target of the open proof comes back, with the bytes of the proof behind those that it had before, and nothing where none is open. It comes back too where it can't be flushed, which makes the solver invalid. What an invalid state says of its proof need not be true any more, so nothing is told of what comes back from it.
 abbrev pub ClosesProof : {W : Type 0} → (W → Taken) → State → Result (Option W) (SolverError × W) → State → Type 0
 ClosesProof taken s (Ok back) t = ((IsValid s × HandsBack taken s.proof back) ⊎ (is_valid s ≡ false)) × (t ≡ count_anew (with_proof None s))
 ClosesProof taken s (Err (ProofIoError cause, target)) t =

@@ -9,11 +9,11 @@ use Rattle.varisat_search.specs.declared.state.SatState.TheVariants as verdict
 use Rattle.varisat_search.specs.Contexts.{view}
 use Rattle.varisat_search.specs.Decisions.{IsDecidable}
 
--- what begins with the context as one call does
+-- a stretch of steps that begins with the context
 abbrev pub call_from : {A : Type 0} → Context A → PlannedCall
 call_from x = record { variables = length x.assignment.current; scale = x.solver_config.luby_restart_interval_scale; begins = x.schedule }
 
--- The search came here by steps of the schedule at one scale, with as many variables all the time. In between so many units left it, and what has left is not decided again: so with the units the trail is never longer than there are variables.
+-- The search came here by steps of the schedule at one scale, with as many variables all the time. In between some units left it, and a variable that has left is not decided again: so those units and the trail are together never more than the variables. It is said of all that may be decided, since any of it may come to the trail.
 pub record HasComeSince {A : Type 0} (c : PlannedCall) (x : Context A) : Type 0 where
   pub units : ℕ
   pub come : HasComeWithout c x.schedule units (kinds (view x))
@@ -21,7 +21,7 @@ pub record HasComeSince {A : Type 0} (c : PlannedCall) (x : Context A) : Type 0 
   pub variables : c.variables ≡ length x.assignment.current
   pub room : (vs : List ℕ) → IsDistinct vs → ((v : ℕ) → v ∈ vs → IsDecidable (view x) x.vsids v) → units + length vs ≤ c.variables
 
--- Whatever the moment was, the search has come from there to the second context too.
+-- Whatever the first context came from, the second has come from there too.
 abbrev pub GoesOnSince : {A : Type 0} → Context A → Context A → Type 0
 GoesOnSince x y = (c : PlannedCall) → HasComeSince c x → HasComeSince c y
 

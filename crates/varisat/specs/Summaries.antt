@@ -23,7 +23,7 @@ use Rattle.varisat.specs.Carried.{value_or}
 use Rattle.varisat.specs.Spaces.{Spaces, SpacesFit}
 use Rattle.varisat.specs.SinceChange.{CountsSince}
 
--- The maps between names, global variables and solver variables with what is kept of the global variables; the proof that is open; the search with its assumptions and its verdict; the flags.
+-- The maps between names, global variables and solver variables with what is kept of the global variables; the proof that is open; the search with its assumptions and its verdict; what is told of an invalid solver too.
 pub record Summary : Type 0 where
   pub tables : Tables
   pub opened : Option OpenState
@@ -59,7 +59,7 @@ abbrev pub list_tables : Tables → List (Option Bool) → ℕ → ℕ → List 
 list_tables t values u zero = []
 list_tables t values u (suc k) = put_name u (at t.users.forward u) (λ x. value_or (kept_at t.kept x).unit (λ v. is_true_value (slice_index_or values v None)) (at t.solvers.forward x)) (list_tables t values (suc u) k)
 
--- what a valid solver keeps
+-- what a valid solver keeps of its names, its variables and its search
 pub record IsKept {A : Type 0} (tables : Tables) (search : Context A) : Type 0 where
   pub bounded : AreBounded tables
   pub ready : IsReady search
@@ -72,13 +72,13 @@ pub record IsKept {A : Type 0} (tables : Tables) (search : Context A) : Type 0 w
   pub marked : (l : Literal) (x : ℕ) → l ∈ search.assumptions.user → at tables.users.forward (variable_of l) ≡ Some x → (kept_at tables.kept x).assumed ≡ true
   pub working : (l : Literal) → l ∈ search.assumptions.working → IsAssumedSolver tables (variable_of l)
 
--- What it keeps with its proof, which can be told of its search, and with its count of the steps since its last change, before which `changed_at` were made.
+-- What it keeps beside that: its proof can be told entries, and it counts the steps since its last change, before which `changed_at` were made.
 pub record IsKeptSince {A : Type 0} (tables : Tables) (proof : ProofParts) (search : Context A) (changed_at : ℕ) : Type 0 where
   pub kept : IsKept tables search
   pub tells : CanTell proof
   pub counts : CountsSince changed_at search
 
--- The solver stands for the state: both have the same flags, and where they are valid, what the solver holds stands for it.
+-- The solver stands for the state: both have the same ledger, and where it is valid, what the solver holds stands for it, and an open proof has the bytes that the state says.
 pub record StandsFor (g : Summary) (s : State) : Type 0 where
   pub ledger : s.ledger ≡ g.ledger
   pub fits : g.ledger.valid ≡ true → SpacesFit (spaces g) s

@@ -6,7 +6,7 @@ use Rattle.varisat.specs.Calls.{is_valid, IsLike, Invalidates, with_naming, coun
 use Rattle.varisat.specs.Usage as usage
 use Rattle.varisat.specs.declared.solver.SolverError.{SolverError}
 
--- other names come with steps that are counted anew
+-- What has names is the state. With other names steps are counted anew.
 abbrev pub named : usage.Named State
 named = record { valid = is_valid; naming = λ s. s.naming; clauses = λ s. s.clauses; assumptions = λ s. s.assumptions; with_naming = λ m s. count_anew (with_naming m s); once_hidden = λ s. record s { ever_hidden = true }; like = IsLike; invalidates = Invalidates }
 

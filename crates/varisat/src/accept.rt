@@ -66,7 +66,7 @@ fn mark_assumed<A: Allocator + Copy>(
     }
 }
 
-/// Tells the proof an accepted clause, which is over solver variables.
+/// Tells the proof of an accepted clause, which is over solver variables.
 fn tell_clause<W: ProofTarget, A: Allocator + Copy>(
     tracer: &mut SolverTracer<W, A>,
     clause: &[Lit],
@@ -78,8 +78,8 @@ fn tell_clause<W: ProofTarget, A: Allocator + Copy>(
     Ok(())
 }
 
-/// Brings the names of the clause into use, takes solver variables for them, and loads the clause over these.
-/// `literals` is overwritten.
+/// Brings the names of the clause into use, takes solver variables for them, tells the proof of the clause, and loads
+/// it over these variables. `literals` is overwritten.
 pub fn accept_clause<W: ProofTarget, A: Allocator + Copy>(
     tracer: &mut SolverTracer<W, A>,
     ctx: &mut Context<A>,

@@ -203,10 +203,10 @@ fn drop_unneeded<A: Allocator + Copy>(
     Ok(())
 }
 
-/// At level 0, where literals are still to be propagated, settles the units and lets the variables leave the search that
-/// have a value and are not assumed, and the hidden ones that no kept clause names. Does nothing at another level or
-/// where there is no such news, so that a call of `solve` passes over all clauses no more often than its first step
-/// would. Lets none leave where a clause is false. `literals` is overwritten.
+/// At level 0, where literals are still to be propagated, settles the units and lets the variables leave the search
+/// that have a value and are not assumed, and the hidden ones that no kept clause names. The tracer takes the lines of
+/// settling. Does nothing at another level or where there is no such news, so that a call of `solve` passes over all
+/// clauses no more often than its first step would. Lets none leave where a clause is false. `literals` is overwritten.
 pub fn drop_fixed<W: ProofTarget, A: Allocator + Copy>(
     tracer: &mut SolverTracer<W, A>,
     ctx: &mut Context<A>,

@@ -62,8 +62,8 @@ pub use varisat_formula::formula::{CnfFormula, ExtendFormula};
 pub use varisat_formula::{cnf, cnf_formula, dimacs, formula, io};
 pub use varisat_literals::{Lit, Var, lit, lits, var};
 pub use varisat_names::config;
-pub use varisat_proof::{checker, proof};
 pub use varisat_proof::proof::ProofFormat;
+pub use varisat_proof::{checker, proof};
 pub use varisat_prop::clause;
 pub use varisat_search::{
     analyze_conflict, assess, assumptions, cdcl, collect, context, decision, glue, load, model,

@@ -15,7 +15,8 @@ use varisat_formula::io::{ByteSource, ProofTarget};
 use varisat_literals::{Lit, Var};
 use varisat_names::config::SolverConfigUpdate;
 
-/// A call of a solver, with what it is given. A text is given by its source. No call takes a proof's target yet.
+/// A call of a solver, with what it is given. A text is given by its source. No call takes a proof's target yet, so a
+/// proof is closed here only where it was opened before.
 #[derive(Drop)]
 pub enum Call<S: ByteSource, A: Allocator + Copy> {
     AddClause(Vec<Lit, A>),
@@ -110,8 +111,8 @@ pub fn run<W: ProofTarget, S: ByteSource, A: Allocator + Copy>(
 }
 
 /// The answers of a new solver to the calls. Each is true of what the calls and answers before it say: of the clauses
-/// that were accepted until then, those of formulas and texts among them, and of the names in use. Of sources the same
-/// is asked as by `run`.
+/// that were accepted until then, those of formulas and texts among them, of the names in use, and of the steps since
+/// the last change. Of sources the same is asked as by `run`.
 pub fn answers_of<W: ProofTarget, S: ByteSource, A: Allocator + Copy>(
     calls: Vec<Call<S, A>, A>,
 ) -> Result<Vec<Answer<W, S, A>, A>, AllocError>

@@ -32,7 +32,7 @@ use varisat_tracer::SolverTracer;
 /// How many bytes of a text are asked for at a time.
 const PIECE: usize = 0x2000;
 
-/// Why a call was refused.
+/// Why a call was refused. No call returns `ClauseAfterSolve` yet.
 #[derive(Debug, Drop, Error)]
 pub enum SolverError {
     #[error("The solver was interrupted")]
@@ -63,7 +63,8 @@ pub enum SolverError {
     Dimacs { cause: DimacsError },
 }
 
-/// The refusal for the error of a step. The target of a proof fails only where one is open.
+/// The refusal for the error of a step. Where no proof is open no target can have failed, and out of memory is
+/// returned.
 fn refused(error: StepError, is_open: bool) -> SolverError
     ensures { result ≡ step_refusal is_open error }
 {
@@ -160,8 +161,8 @@ pub struct Solver<W: ProofTarget, A: Allocator + Copy> {
     // Whether a clause, a variable or a list of assumptions was accepted. From then on no proof can be opened; no other
     // call reads it.
     started: bool,
-    // How many steps were made before the last change: a call that was not refused and did more than to solve or to
-    // tell something.
+    // How many steps were made before the last change: a call but `solve` and those that only tell something, which was
+    // not refused, or accepted a clause before it was.
     changed_at: u64,
 }
 
@@ -229,9 +230,10 @@ impl<W: ProofTarget, A: Allocator + Copy> Solver<W, A> {
         self.ctx.schedule.steps()
     }
 
-    /// How many steps calls of `solve` made together since the last change, which is the last other call that was not
-    /// refused and did more than to tell something, or accepted a clause before it was refused. They are fewer than
-    /// 2^(2n+3) where the clauses and all assumptions so far name n variables, however often a call was interrupted.
+    /// How many steps calls of `solve` made together since the last change. A change is any call but `solve` and those
+    /// that only tell something, unless it was refused; and one that accepted a clause before it was refused. In a
+    /// valid solver they are fewer than 2^(2n+3) where the clauses and all assumptions so far name n variables, however
+    /// often a call was interrupted.
     pub fn steps_since_change(&self) -> u64
         ensures { (s : State) → StandsFor self.now s → (t : State) × TellsSince s result t × StandsFor self.now t }
     {
@@ -254,16 +256,18 @@ impl<W: ProofTarget, A: Allocator + Copy> Solver<W, A> {
         self.tracer.variables.solver_watermark()
     }
 
-    /// False once memory ran out in a call that changes the solver. From then on the other calls are refused, and
-    /// `model` tells nothing.
+    /// False once a call that changes the solver failed with an error from which there is no way back: out of memory, a
+    /// full clause store, or the target of a proof. From then on the calls that change it are refused, `model` and
+    /// `failed_core` return None, and `close_proof` hands back the target as it is.
     pub fn is_valid(&self) -> bool
         ensures { (s : State) → StandsFor self.now s → (t : State) × TellsValid s result t × StandsFor self.now t }
     {
         !self.ctx.solver_state.state_is_invalid
     }
 
-    /// What a proof would have been told of the solver so far is right, and where nothing was ever hidden its lines are
-    /// a derivation from the accepted clauses, which refutes them once they are known to be unsatisfiable.
+    /// Does nothing when it runs. Its contract says of a valid solver that what a proof would have been told so far is
+    /// right, and that where no variable was ever hidden its lines are a derivation from the accepted clauses, which
+    /// refutes them once they are known to be unsatisfiable.
     pub fn prove_journal(&self)
         ensures { (s : State) → StandsFor self.now s → IsValid s → IsJournal s }
     {
@@ -271,8 +275,10 @@ impl<W: ProofTarget, A: Allocator + Copy> Solver<W, A> {
     }
 
     /// Accepts a clause, and brings its names into use. Once the clauses are known to be unsatisfiable a clause is
-    /// accepted without a change. Refused in an invalid solver; where a name is past the limit of 2^28 names, and then
-    /// nothing changes; and where memory runs out.
+    /// accepted without a change, but that steps are counted anew. Refused in an invalid solver, where a name is past
+    /// the limit of 2^28 names or there is no room for its variables, and where a name is a witness: then nothing
+    /// changes. Where memory runs out, the clause store is full or the target of an open proof fails, the solver is
+    /// invalid.
     pub fn add_clause(&mut self, clause: &[Lit]) -> Result<(), SolverError>
         ensures { (s : State) → StandsFor self.old s → (t : State) × AddsClause s clause.now result t × StandsFor self.new t }
     {
@@ -298,8 +304,8 @@ impl<W: ProofTarget, A: Allocator + Copy> Solver<W, A> {
         }
     }
 
-    /// Accepts the clauses of a formula in turn, up to the first that is refused. Those before it stay. Refused as a
-    /// clause is.
+    /// Accepts the clauses in turn, up to the first that is refused. Those before it stay. Steps are counted anew only
+    /// as each clause is accepted, so that a text which accepts none before its fault changes nothing.
     fn add_clauses<B: Allocator + Copy>(
         &mut self,
         formula: &CnfFormula<B>,
@@ -378,8 +384,8 @@ impl<W: ProofTarget, A: Allocator + Copy> Solver<W, A> {
         self.end_text(&mut parser)
     }
 
-    /// Brings the least free name into use. Refused in an invalid solver, and where all 2^28 names are in use or so many
-    /// variables were made.
+    /// Brings the least free name into use. Refused in an invalid solver, where all 2^28 names are in use or so many
+    /// variables were made, and then nothing changes; and where memory runs out, which makes the solver invalid.
     pub fn new_var(&mut self) -> Result<Var, SolverError>
         ensures { (s : State) → StandsFor self.old s → (t : State) × MakesVar s result t × StandsFor self.new t }
     {
@@ -406,14 +412,11 @@ impl<W: ProofTarget, A: Allocator + Copy> Solver<W, A> {
         }
     }
 
-    /// Opens a proof, to which the lines of the search are written from here on. Its format is one of DRAT: marked
-    /// proofs are not written yet. Refused in an invalid solver, where a proof is open, and where a clause, a variable or
-    /// a list of assumptions was accepted before; then nothing changes, and the target is handed back.
-    pub fn write_proof(
-        &mut self,
-        target: W,
-        format: ProofFormat,
-    ) -> Result<(), (SolverError, W)>
+    /// Opens a proof, to which the lines of the search are written from here on. They are flushed as it closes. Its
+    /// format is one of DRAT: marked proofs are not written yet. Refused in an invalid solver; where a proof is open;
+    /// and where a clause, a variable or a list of assumptions was accepted before: then nothing changes, and the
+    /// target is handed back. The target has to have counted fewer than 2^64-1 faults.
+    pub fn write_proof(&mut self, target: W, format: ProofFormat) -> Result<(), (SolverError, W)>
         requires format { IsDrat format }
         requires room { (W.taken target).faults < 2 ^ 64 - 1 }
         ensures { (s : State) → StandsFor self.old s → (t : State) × OpensProof W.taken target format s result t × StandsFor self.new t }
@@ -433,7 +436,7 @@ impl<W: ProofTarget, A: Allocator + Copy> Solver<W, A> {
     }
 
     /// Closes the proof, if one is open: flushes its target and hands it back, also where that fails, which makes the
-    /// solver invalid. An invalid solver hands the target back without a flush.
+    /// solver invalid. An invalid solver hands the target back without a flush. None where no proof is open.
     pub fn close_proof(&mut self) -> Result<Option<W>, (SolverError, W)>
         ensures call { (s : State) → StandsFor self.old s → (t : State) × ClosesProof W.taken s result t × StandsFor self.new t }
         ensures written { (s : State) → StandsFor self.old s → IsValid s → (p : OpenProof) → s.proof ≡ Some p → IsProofOf s p }
@@ -454,8 +457,9 @@ impl<W: ProofTarget, A: Allocator + Copy> Solver<W, A> {
         }
     }
 
-    /// Assumes that these literals are true, in place of the assumptions before, and brings their names into use.
-    /// Refused as a clause is, and then the assumptions before stay.
+    /// Assumes that these literals are true, in place of the assumptions before, and brings their names into use. An
+    /// open proof is told nothing. Refused in an invalid solver and for its names as a clause is, and then the
+    /// assumptions before stay; and where memory runs out, which makes the solver invalid.
     pub fn assume(&mut self, lits: &[Lit]) -> Result<(), SolverError>
         ensures { (s : State) → StandsFor self.old s → (t : State) × Assumes s lits.now result t × StandsFor self.new t }
     {
@@ -482,9 +486,10 @@ impl<W: ProofTarget, A: Allocator + Copy> Solver<W, A> {
     }
 
     /// Whether some assignment satisfies the accepted clauses and makes the assumptions true. A call makes fewer than
-    /// 2^(2n+3) steps, where the clauses and all assumptions so far name n variables. Refused in an invalid solver,
-    /// where memory runs out or the clause store is full, and where the steps are spent before that is known:
-    /// `max_steps` of the settings, or 2^64-1 in all. The next call then goes on.
+    /// 2^(2n+3) steps, where the clauses and all assumptions so far name n variables. The lines of the steps are
+    /// written to an open proof. Refused in an invalid solver, and where the steps are spent before that is known:
+    /// `max_steps` of the settings, or 2^64-1 in all. The next call then goes on. Where memory runs out, the clause
+    /// store is full or the target of an open proof fails, the solver is invalid.
     pub fn solve(&mut self) -> Result<bool, SolverError>
         ensures call { (s : State) → StandsFor self.old s → (t : State) × Solves s result t × StandsFor self.new t }
         ensures satisfiable { result ≡ Ok true → (s : State) → StandsFor self.old s → IsSatisfiableWith s.clauses s.assumptions }

@@ -31,9 +31,10 @@ use varisat_trace::ProofTracer;
 use varisat_tracer::SolverTracer;
 
 /// Makes steps until it is known whether some assignment satisfies the clauses and makes the assumptions true, and
-/// returns that. None where `max_steps` steps were made before, or no more can be counted. Between two restarts each
-/// step raises the rank of the trail, and the intervals between restarts follow the Luby sequence: so the steps come to
-/// an end.
+/// returns that; the tracer takes the lines of the steps, and a core. None where `max_steps` steps were made before, or
+/// no more can be counted. An error is out of memory, a full clause store or the tracer's target. Between two restarts
+/// each step raises the rank of the trail, and the intervals between restarts follow the Luby sequence: so the steps
+/// come to an end.
 fn find_verdict<A: Allocator + Copy, P: ProofTracer>(
     ctx: &mut Context<A>,
     proof: &mut P,

@@ -53,7 +53,13 @@ const ROWS: [Row; 23] = [
     // A list replaces the one before, also an empty one.
     (b"-1 0", b"q 1 0 q 2 0 f 1 0", CoreNotAssumed(3), &[], &[]),
     (b"-1 0", b"q 1 0 q 0 f 1 0", CoreNotAssumed(3), &[], &[]),
-    (b"-1 0", b"q 2 1 1 0 f 1 1 0", Derivation, &[], &[(0, &[1, 1])]),
+    (
+        b"-1 0",
+        b"q 2 1 1 0 f 1 1 0",
+        Derivation,
+        &[],
+        &[(0, &[1, 1])],
+    ),
     // A core is no clause, and its clause does not follow from it.
     (
         b"-1 -2 0",
@@ -81,7 +87,13 @@ const ROWS: [Row; 23] = [
     ),
     (b"1 0 -1 0", b"i 2 0 f 3 0", Refutation, &[], &[]),
     (b"1 0 -1 0", b"i 2 0 f 3", Parse(9), &[], &[]),
-    (b"", b"i 1 -1 2 0 d 2 1 -1 0 d 2 0", NoSuchClause(3), &[], &[]),
+    (
+        b"",
+        b"i 1 -1 2 0 d 2 1 -1 0 d 2 0",
+        NoSuchClause(3),
+        &[],
+        &[],
+    ),
     // Marks.
     (b"", b"i i 0", Parse(2), &[], &[]),
     (b"", b"1 i 0", Parse(2), &[], &[]),

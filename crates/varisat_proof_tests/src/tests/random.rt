@@ -6,9 +6,9 @@ use rand_pcg::Pcg32;
 use std::alloc::{AllocError, Global};
 use varisat_formula::io::{MemoryTarget, ProofTarget, ReadSource};
 use varisat_literals::{Lit, lit, lits};
+use varisat_plain::checker::{PlainLine, PlainVerdict, check_lines};
 use varisat_proof::checker::Checker;
 use varisat_proof::proof::{ProofFormat, ProofStep, write_binary_step, write_step};
-use varisat_plain::checker::{PlainLine, PlainVerdict, check_lines};
 
 /// A random literal of one of six variables.
 fn next_literal(numbers: &mut Pcg32) -> Lit {

@@ -15,7 +15,7 @@ use Rattle.varisat_proof.specs.Written.{line_written}
 use Rattle.varisat_proof.specs.Telling.{lines_told}
 use Rattle.varisat_proof.specs.Proving.{OpenState, ProofParts, told}
 use Rattle.varisat_proof.specs.Proving as proving
-use Rattle.varisat.specs.OpenProofs.{OpenProof, opened_state, IsOpen, IsDrat, IsWrittenIf, ProofFits, GoesOnWriting, searched_in, first_proof, taken_of, HandsBack}
+use Rattle.varisat.specs.OpenProofs.{OpenProof, opened_state, IsOpen, IsDrat, IsWrittenIf, ProofFits, GoesOnWriting, searched_in, first_proof}
 use Rattle.varisat.specs.Journals.{TellsProof}
 
 -- 1. Bytes of lines.
@@ -114,23 +114,17 @@ first-same f t told = ap (λ (xs : List ℕ). let o : OpenState = record { forma
 pub first-written : (hidden : Bool) (f : ProofFormat) (t : Taken) (told : List Entry) → IsDrat f → IsWrittenIf hidden told (Some (first_proof f t told))
 first-written hidden f t told d = record { drat = d; lines = []; bytes = refl; told_since = λ h. sym (append-nil (lines_of told)) }
 
--- a proof was closed
-pub closed-back : {W : Type 0} (E : Type 0) (taken : W → Taken) (opened : Option OpenState) (proof : Option OpenProof) (back : Option W) → opened ≡ opened_state proof → proving.IsClosed {E = E} taken opened (Ok back) → HandsBack taken proof back
-closed-back {W} E taken opened proof back e h = go proof back (subst (λ o. proving.IsClosed {E = E} taken o (Ok back)) e h)
-  where
-    go : (proof : Option OpenProof) (back : Option W) → proving.IsClosed {E = E} taken (opened_state proof) (Ok back) → HandsBack taken proof back
-    go None None h = tt
-    go None (Some w) h = h
-    go (Some p) None h = h
-    go (Some p) (Some w) h = h
+-- what comes back as a proof closes, whatever errors may be
+pub closed-back : {W : Type 0} (D E : Type 0) (taken : W → Taken) (opened : Option OpenState) (back : Option W) → proving.IsClosed {E = D} taken opened (Ok back) → proving.IsClosed {E = E} taken opened (Ok back)
+closed-back D E taken None None h = tt
+closed-back D E taken None (Some w) h = h
+closed-back D E taken (Some p) None h = h
+closed-back D E taken (Some p) (Some w) h = h
 
--- and could not be flushed
-pub closed-fails : {W E : Type 0} (taken : W → Taken) (opened : Option OpenState) (proof : Option OpenProof) (cause : E) (w : W) → opened ≡ opened_state proof → proving.IsClosed taken opened (Err (cause, w)) → (p : OpenProof) × (proof ≡ Some p) × (taken w ≡ record (taken_of p) { faults = p.faults + 1 })
-closed-fails {W} {E} taken opened proof cause w e h = go proof (subst (λ o. proving.IsClosed taken o (Err (cause, w))) e h)
-  where
-    go : (proof : Option OpenProof) → proving.IsClosed taken (opened_state proof) (Err (cause, w)) → (p : OpenProof) × (proof ≡ Some p) × (taken w ≡ record (taken_of p) { faults = p.faults + 1 })
-    go None h = absurd h
-    go (Some p) h = (p, refl, h)
+-- and where it could not be flushed
+pub closed-fails : {W D E : Type 0} (taken : W → Taken) (opened : Option OpenState) (d : D) (e : E) (w : W) → proving.IsClosed taken opened (Err (d, w)) → proving.IsClosed taken opened (Err (e, w))
+closed-fails taken None d e w h = h
+closed-fails taken (Some p) d e w h = h
 
 -- where nothing holds a proof, none is open
 pub none-there : (o : Option OpenState) (proof : Option OpenProof) → o ≡ opened_state proof → is_some o ≡ false → proof ≡ None

@@ -1,5 +1,6 @@
 -- What the calls and answers so far say of the state that a solver is in: each call moves both alike.
 use Rattle.std.proofs.Common.{◌≡◌, ◌≢◌, ℕ, zero, suc, ◌<◌, ◌≤◌, ◌+◌, ◌-◌, ◌*◌, ◌^◌, ap₂, nat_lt, if◌then◌else◌, Bool, true, false, not, List, [], ◌∷◌, ◌++◌, ◌⊎◌, inl, inr, ⊎_elim, sym, ap, ◌∙◌, subst, refl, Option, Some, None, Result, Ok, Err, map, arith, length}
+use Rattle.std.specs.Prelude.{is_some}
 use Rattle.std.proofs.lemmas.Bool.{not-true, false_from_ne_true}
 use Rattle.std.specs.declared.alloc.AllocError.{AllocError}
 use Rattle.varisat_theory.specs.Membership.{◌∈◌}
@@ -7,7 +8,8 @@ use Rattle.varisat_theory.specs.Literals.{Literal, Clause, Assignment, variable_
 use Rattle.varisat_formula.specs.declared.dimacs.error.DimacsError.{DimacsError}
 use Rattle.varisat_formula.specs.Dimacs.{Reading}
 use Rattle.varisat_formula.specs.Streams.{Stand, Taken}
-use Rattle.varisat.specs.OpenProofs.{OpenProof, searched_in, HandsBack}
+use Rattle.varisat_proof.specs.Proving.{IsClosed}
+use Rattle.varisat.specs.OpenProofs.{OpenProof, opened_state, IsOpen, searched_in}
 use Rattle.varisat.specs.ProofCalls.{with_proof, ClosesProof}
 use Rattle.varisat.proofs.OpenProofs.{same-search}
 use Rattle.varisat_names.specs.declared.config.SolverConfigUpdate.{SolverConfigUpdate}
@@ -22,7 +24,7 @@ use Rattle.varisat.specs.Calls as state
 use Rattle.varisat_theory.specs.Journals.{Entry}
 use Rattle.varisat.specs.Journals.{retold}
 use Rattle.varisat.specs.Calls.{IsPastLimit, MayConstrain, IsCrowded, IsLike, with_naming, start, with_steps, answer_of, reopened_verdict, assumed_verdict, VerdictAfter}
-use Rattle.varisat.specs.Budgets.{CountsSteps}
+use Rattle.varisat.specs.Budgets.{CountsSteps, TellsSince}
 use Rattle.varisat.specs.Updates as updates
 use Rattle.varisat.specs.Pasts as past
 use Rattle.varisat.specs.Usage as usage
@@ -189,6 +191,10 @@ first-witness p s d u k h = subst (λ (m : Naming). IsFirstWitness m d u) k.nami
 crowded : (p : Past) (s : State) (d : List Literal) → Knows p s → IsPastLimit d ⊎ IsCrowded (name_all d s.naming) → IsPastLimit d ⊎ IsCrowded (name_all d p.naming)
 crowded p s d k h = subst (λ (m : Naming). IsPastLimit d ⊎ IsCrowded (name_all d m)) k.naming h
 
+-- a proof that is open
+has-open : (p : Past) (s : State) → Knows p s → IsOpen s.proof → past.HasOpenProof p
+has-open p s k (o, is) = (o.searched, sym k.proof ∙ ap searched_in is)
+
 pub add-clause : (p : Past) (s t : State) (d : Clause) (r : Result (Unit {0}) SolverError) → Agrees p s → state.AddsClause s d r t → Leads (past.AddsClause p d r) t
 add-clause p s t d (Ok u) g (v, state.Ignored n e) =
     let w = sym g.valid ∙ v in (past.count_anew p, (w, past.Ignored (refuted p s (g.knows w) n) refl), anew p s t e g)
@@ -196,7 +202,8 @@ add-clause p s t d (Ok u) g (v, state.Accepted n lim a) =
     let w = sym g.valid ∙ v in (accept d p, (w, past.Accepted (may-constrain p s d (g.knows w) lim) refl), accepted p s t d n a g w)
 add-clause p s t d (Err OutOfMemory) g a = breaks p s t g a.2
 add-clause p s t d (Err ClauseStoreFull) g a = breaks p s t g a.2
-add-clause p s t d (Err (ProofIoError cause)) g a = breaks p s t g a.3
+add-clause p s t d (Err (ProofIoError cause)) g a =
+    let (q, c, h) = breaks p s t g a.3 in (q, (has-open p s (knows-of p s g a.3.valid) a.0, c), h)
 add-clause p s t d (Err Invalid) g a = (p, (sym g.valid ∙ a.0, refl), stays p s t a.1 g)
 add-clause p s t d (Err VariableLimit) g a = (p, (sym g.valid ∙ a.0, crowded p s d (knows-of p s g a.0) a.2, refl), stays p s t a.3 g)
 add-clause p s t d (Err (WitnessVar u)) g a = (p, (sym g.valid ∙ a.0, a.2, first-witness p s d u (knows-of p s g a.0) a.3, refl), stays p s t a.4 g)
@@ -474,7 +481,7 @@ solve p s t (Err ClauseStoreFull) g (u, c, b) =
 solve p s t (Err (ProofIoError cause)) g (o, u, c, b) =
     let k = knows-of p s g b.valid in (
       record (past.with_steps t.ledger.steps p) { valid = false },
-      (counts p s t (Err (ProofIoError cause)) g k c, (sym g.valid ∙ b.valid, refl)),
+      (has-open p s k o, counts p s t (Err (ProofIoError cause)) g k c, (sym g.valid ∙ b.valid, refl)),
       record { valid = ap (λ x. x.valid) b.ledger; steps = refl; since = since-told p s t g (ap (λ x. x.since) b.ledger); settings = ap (λ x. x.settings) b.ledger ∙ g.settings; knows = λ e. absurd cc },
     )
 solve p s t (Err Interrupted) g r =
@@ -528,7 +535,7 @@ config p s t u (Err ProofTooLate) g r = absurd r
 config p s t u (Err (Dimacs cause)) g r = absurd r
 
 -- what is told of the steps since the last change
-pub tell-since : (p : Past) (s t : State) (n : ℕ) → Agrees p s → state.TellsSince s n t → Leads (past.TellsSince p n) t
+pub tell-since : (p : Past) (s t : State) (n : ℕ) → Agrees p s → state.TellsSince s n t → Leads (TellsSince past.is_valid (λ p. p.since) (λ p. p.counted) p n) t
 tell-since p s t n g (e, few, same) = (
   p,
   (e ∙ g.since, (λ v. subst (λ (xs : List ℕ). n < 2 ^ (2 * length xs + 3)) (g.knows v).counted (few (g.valid ∙ v))), refl),
@@ -545,19 +552,22 @@ closes p s t g e = subst (Agrees (past.closed p)) (sym e) (record {
   knows = λ v. let k = g.knows v in record { naming = k.naming; capped = k.capped; clauses = k.clauses; assumed = k.assumed; counted = k.counted; model = k.model; found = k.found; failed = k.failed; proof = refl; right = k.right };
 })
 
-hands-back : {W : Type 0} (taken : W → Taken) (proof : Option OpenProof) (back : Option W) → HandsBack taken proof back → past.HandsBack (searched_in proof) back
-hands-back taken None None h = tt
-hands-back taken None (Some w) h = h
-hands-back taken (Some p) None h = h
-hands-back taken (Some p) (Some w) h = tt
+hands-back : {W : Type 0} (taken : W → Taken) (proof : Option OpenProof) (back : Option W) → IsClosed {E = SolverError} taken (opened_state proof) (Ok back) → is_some back ≡ is_some (searched_in proof)
+hands-back taken None None h = refl
+hands-back taken None (Some w) h = absurd h
+hands-back taken (Some p) None h = absurd h
+hands-back taken (Some p) (Some w) h = refl
 
-pub close : {W : Type 0} (taken : W → Taken) (p : Past) (s t : State) (r : Result (Option W) (SolverError × W)) → Agrees p s → ClosesProof taken s r t → Leads (past.ClosesProof taken p r) t
-close taken p s t (Ok back) g (inl (v, h), e) =
-    (past.closed p, ((λ w. subst (λ x. past.HandsBack x back) (g.knows w).proof (hands-back taken s.proof back h)), refl), closes p s t g e)
-close taken p s t (Ok back) g (inr v, e) = (past.closed p, ((λ w. absurd (false-true p.valid (sym g.valid ∙ v) w)), refl), closes p s t g e)
-close taken p s t (Err (ProofIoError cause, target)) g (o, is, took, b) =
+failed-open : {W : Type 0} (taken : W → Taken) (proof : Option OpenProof) (e : SolverError) (w : W) → IsClosed taken (opened_state proof) (Err (e, w)) → IsOpen proof
+failed-open taken None e w h = absurd h
+failed-open taken (Some p) e w h = (p, refl)
+
+pub close : {W : Type 0} (taken : W → Taken) (p : Past) (s t : State) (r : Result (Option W) (SolverError × W)) → Agrees p s → ClosesProof taken s r t → Leads (past.ProofCloses taken p r) t
+close taken p s t (Ok back) g (h, e) =
+    (past.closed p, ((λ w. hands-back taken s.proof back (h (g.valid ∙ w)) ∙ ap (λ (x : Option Bool). is_some x) (g.knows w).proof), refl), closes p s t g e)
+close taken p s t (Err (ProofIoError cause, target)) g (closed, b) =
     let (q, c, h) = breaks p s t g b in
-    (q, ((o.searched, sym (knows-of p s g b.valid).proof ∙ ap searched_in is), c), h)
+    (q, (has-open p s (knows-of p s g b.valid) (failed-open taken s.proof (ProofIoError cause) target closed), c), h)
 close taken p s t (Err e) g a = absurd a
 
 -- 10. A model.

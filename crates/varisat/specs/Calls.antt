@@ -7,7 +7,6 @@ use Rattle.varisat_theory.specs.Membership.{◌∈◌}
 use Rattle.varisat_theory.specs.Literals.{Literal, Clause, variable_of, opposite, IsUnit, IsSatisfiable}
 use Rattle.varisat_theory.specs.Counted.{added}
 use Rattle.varisat_theory.specs.Journals.{lines_of}
-use Rattle.varisat_theory.specs.Journals.{Assumes as Assumed}
 use Rattle.varisat_theory.specs.Journals as entry
 use Rattle.varisat.specs.Journals.{retold, TellsMore, ToldConflict}
 use Rattle.varisat.specs.OpenProofs.{IsOpen, GoesOnWriting}
@@ -21,6 +20,7 @@ use Rattle.varisat_names.specs.declared.config.SolverConfigUpdate.{SolverConfigU
 use Rattle.varisat_names.specs.Settings.{updated_settings}
 use Rattle.varisat.specs.Updates as updates
 use Rattle.varisat.specs.Budgets.{CountsSteps}
+use Rattle.varisat.specs.Budgets as budgets
 use Rattle.varisat.specs.Additions as additions
 use Rattle.varisat.specs.declared.solver.SolverError.{SolverError}
 use Rattle.varisat.specs.declared.solver.SolverError.TheVariants.{Interrupted, ProofIoError, OutOfMemory, Invalid, ClauseStoreFull, WitnessVar, VariableLimit}
@@ -99,7 +99,12 @@ pub data VerdictAfter (clauses : List Clause) (c : Clause) (v w : Verdict) : Typ
 
 -- the clause, over identities, is accepted, and told so
 abbrev pub append_clause : Clause → Verdict → State → State
-append_clause c w s = record s { clauses = s.clauses ++ c ∷ []; counted = join_counted s.counted (map variable_of c); verdict = w; told = s.told ++ entry.Accepts c ∷ [] }
+append_clause c w s = record s {
+  clauses = s.clauses ++ c ∷ [];
+  counted = join_counted s.counted (map variable_of c);
+  verdict = w;
+  told = s.told ++ entry.Accepts c ∷ [];
+}
 
 -- the names of the clause are named, and it is accepted as they carry it to identities
 abbrev pub Accepts : State → Clause → State → Type 0
@@ -173,7 +178,8 @@ with_assumptions list s = record s { assumptions = list; counted = join_counted 
 abbrev pub TakesAssumptions : State → List Literal → State → Type 0
 TakesAssumptions s list t =
     let named : Naming = name_all list s.naming in
-    IsLike (start (retold (s.told ++ Assumed (map (through_names named) list) ∷ []) (with_assumptions (map (through_names named) list) (with_naming named s)))) t
+    let carried : List Literal = map (through_names named) list in
+    IsLike (start (retold (s.told ++ entry.Assumes carried ∷ []) (with_assumptions carried (with_naming named s)))) t
 
 abbrev pub Assumes : State → List Literal → Result (Unit {0}) SolverError → State → Type 0
 Assumes s list (Ok _) t = IsValid s × MayConstrain s.naming list × TakesAssumptions s list t
@@ -232,7 +238,8 @@ Solves s (Ok b) t = TellsVerdict s b t
 Solves s (Err Invalid) t = IsRefusedInvalid s t
 Solves s (Err OutOfMemory) t = (s.verdict ≡ Unknown) × CountsCall s (Err OutOfMemory) t × Invalidates (with_steps t.ledger.steps s) t
 Solves s (Err ClauseStoreFull) t = (s.verdict ≡ Unknown) × CountsCall s (Err ClauseStoreFull) t × Invalidates (with_steps t.ledger.steps s) t
-Solves s (Err (ProofIoError cause)) t = IsOpen s.proof × (s.verdict ≡ Unknown) × CountsCall s (Err (ProofIoError cause)) t × Invalidates (with_steps t.ledger.steps s) t
+Solves s (Err (ProofIoError cause)) t =
+    IsOpen s.proof × (s.verdict ≡ Unknown) × CountsCall s (Err (ProofIoError cause)) t × Invalidates (with_steps t.ledger.steps s) t
 Solves s (Err Interrupted) t = IsInterrupted s t
 Solves s (Err _) t = ⊥
 
@@ -266,9 +273,8 @@ TellsSteps s n t = (n ≡ s.ledger.steps) × (t ≡ s)
 
 -- The call `steps_since_change`.
 
--- in a valid state the steps are few, over however many calls of `solve` they were made
 abbrev pub TellsSince : State → ℕ → State → Type 0
-TellsSince s n t = (n ≡ s.ledger.since) × (IsValid s → n < 2 ^ (2 * length s.counted + 3)) × (t ≡ s)
+TellsSince s n t = budgets.TellsSince is_valid (λ s. s.ledger.since) (λ s. s.counted) s n t
 
 -- The call `is_valid`.
 

@@ -12,7 +12,14 @@ use Rattle.varisat_names.specs.VarMap.{at}
 use Rattle.varisat_names.specs.VarData.{kept_at}
 use Rattle.varisat_names.specs.Variables.{Tables, IsChangedTo, IsDropped}
 use Rattle.varisat_names.specs.declared.variables.data.VarData.{VarData}
+use Rattle.varisat_theory.specs.Journals.{Entry}
+use Rattle.varisat_search.specs.declared.context.Context.{Context}
 use Rattle.varisat.specs.Accepting.{HasUser}
+use Rattle.varisat.specs.Journals.{retold, TellsLeaving}
+use Rattle.varisat.specs.SinceChange.{GoesOnSince}
+use Rattle.varisat.specs.Spaces.{SpacesFit}
+use Rattle.varisat.specs.States.{State}
+use Rattle.varisat.specs.Summaries.{undecided_spaces, IsKept}
 
 -- whether a global variable stands there that is not assumed
 abbrev pub leads_to_unassumed : Tables → Option ℕ → Bool
@@ -74,3 +81,11 @@ pub record LeavesTables (ls : List Literal) (old new : Tables) : Type 0 where
   pub stays : (v : ℕ) → ((l : Literal) → l ∈ ls → variable_of l ≢ v) → at new.solvers.backward v ≡ at old.solvers.backward v
   pub fewer : (v x : ℕ) → at new.solvers.backward v ≡ Some x → at old.solvers.backward v ≡ Some x
   pub others : (x : ℕ) → ((l : Literal) → l ∈ ls → at old.solvers.backward (variable_of l) ≢ Some x) → kept_at new.kept x ≡ kept_at old.kept x
+
+-- Variables left the search and the tables. What a valid solver keeps stays true, the search goes on with as many variables, and the solver stands for the same states, to which it was told what left.
+pub record LetsLeave {A : Type 0} (t : Tables) (x : Context A) (u : Tables) (y : Context A) : Type 0 where
+  pub kept : IsKept u y
+  pub since : GoesOnSince x y
+  pub count : length y.assignment.current ≡ length x.assignment.current
+  pub stands : (s : State) → SpacesFit (undecided_spaces t x) s →
+      (told : List Entry) × TellsLeaving s.ever_hidden s.told told × SpacesFit (undecided_spaces u y) (retold told s)

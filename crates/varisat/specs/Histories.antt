@@ -1,14 +1,27 @@
 -- What the answers of a new solver say, with no state in between.
 use Rattle.std.specs.Prelude.{List}
 use Rattle.varisat_formula.specs.Streams.{Stand, Taken}
-use Rattle.varisat.specs.Pasts.{Past, adding, named, MakesVar, Assumes, Solves, TellsModel, TellsCore, TellsSince, with_update, ClosesProof}
+use Rattle.varisat.specs.Pasts.{Past, adding, named, MakesVar, Assumes, Solves, TellsModel, TellsCore, with_update, ProofCloses}
 use Rattle.varisat.specs.Turns.{CallRules, Makes, MakesInTurn}
 use Rattle.varisat.specs.declared.session.Call.{Call}
 use Rattle.varisat.specs.declared.session.Answer.{Answer}
 
 -- what calls and their answers say
 abbrev pub telling : CallRules Past
-telling = record { adding = adding; named = named; makes_var = MakesVar; assumes = Assumes; solves = Solves; tells_model = TellsModel; tells_core = TellsCore; updated = with_update; steps = λ p. p.steps; tells_since = TellsSince; closes = ClosesProof }
+telling = record {
+  adding = adding;
+  named = named;
+  makes_var = MakesVar;
+  assumes = Assumes;
+  solves = Solves;
+  tells_model = TellsModel;
+  tells_core = TellsCore;
+  updated = with_update;
+  steps = λ p. p.steps;
+  since = λ p. p.since;
+  counted = λ p. p.counted;
+  closes = ProofCloses;
+}
 
 -- Where the past was p, the call may get the answer, and then the past is q. `seen` tells how a source stands, and `taken` what a target took.
 abbrev pub IsTrue : {W S A : Type 0} → (S → Stand) → (W → Taken) → Past → Call S A → Answer W S A → Past → Type 0

@@ -16,6 +16,7 @@ pub mod Runs
 pub mod Histories
 pub mod Laws
 pub mod Searches
+pub mod Accepted
 pub mod Accepting
 pub mod Summaries
 pub mod Carried

@@ -18,10 +18,14 @@ pub record OpenProof : Type 0 where
   pub searched : Bool
   pub before : List Entry
 
+-- what the target of an open proof took: what it had before, and the bytes of the proof
+abbrev pub taken_of : OpenProof → Taken
+taken_of p = record { bytes = p.first ++ p.bytes; faults = p.faults }
+
 -- what holds the proof, if one is open
 abbrev pub opened_state : Option OpenProof → Option OpenState
 opened_state None = None
-opened_state (Some p) = Some (record { format = p.format; taken = record { bytes = p.first ++ p.bytes; faults = p.faults }; searched = p.searched })
+opened_state (Some p) = Some (record { format = p.format; taken = taken_of p; searched = p.searched })
 
 abbrev pub IsOpen : Option OpenProof → Type 0
 IsOpen proof = (p : OpenProof) × (proof ≡ Some p)
@@ -59,15 +63,5 @@ searched_in (Some p) = Some p.searched
 
 -- a proof that was just opened: its target has what it had, and this was told before
 abbrev pub first_proof : ProofFormat → Taken → List Entry → OpenProof
-first_proof format taken told = record { format = format; faults = taken.faults; first = taken.bytes; bytes = []; searched = false; before = told }
-
--- what the target of an open proof took: what it had before, and the bytes of the proof
-abbrev pub taken_of : OpenProof → Taken
-taken_of p = record { bytes = p.first ++ p.bytes; faults = p.faults }
-
--- The target of the open proof comes back, and nothing where none is open.
-abbrev pub HandsBack : {W : Type 0} → (W → Taken) → Option OpenProof → Option W → Type 0
-HandsBack taken None None = Unit {0}
-HandsBack taken None (Some target) = ⊥
-HandsBack taken (Some p) None = ⊥
-HandsBack taken (Some p) (Some target) = taken target ≡ taken_of p
+first_proof format taken told =
+    record { format = format; faults = taken.faults; first = taken.bytes; bytes = []; searched = false; before = told }

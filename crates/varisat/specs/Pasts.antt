@@ -1,5 +1,5 @@
 -- What the calls of a new solver and their answers say so far, and how a call moves it: no state of the solver is spoken of.
-use Rattle.std.specs.Prelude.{◌≡◌, ℕ, ◌+◌, ◌-◌, ◌*◌, ◌^◌, ◌<◌, ◌≤◌, Bool, true, false, Option, Some, None, List, [], ◌∷◌, ◌++◌, Result, Ok, Err, map, length, ◌⊎◌}
+use Rattle.std.specs.Prelude.{◌≡◌, ℕ, ◌+◌, ◌-◌, ◌*◌, ◌^◌, ◌<◌, ◌≤◌, Bool, true, false, Option, Some, None, List, [], ◌∷◌, ◌++◌, Result, Ok, Err, map, length, ◌⊎◌, is_some}
 use Rattle.std.specs.declared.alloc.AllocError.{AllocError}
 use Rattle.varisat_theory.specs.Literals.{Literal, Clause, variable_of, IsSatisfiable, IsSatisfiableWith, IsFailedCore}
 use Rattle.varisat_formula.specs.Streams.{Stand, Taken}
@@ -34,7 +34,19 @@ pub record Past : Type 0 where
 
 -- before the first call
 abbrev pub empty_past : Past
-empty_past = record { valid = true; naming = no_names; clauses = []; assumptions = []; counted = []; has_model = false; has_core = false; steps = 0; since = 0; settings = default_settings; proof = None }
+empty_past = record {
+  valid = true;
+  naming = no_names;
+  clauses = [];
+  assumptions = [];
+  counted = [];
+  has_model = false;
+  has_core = false;
+  steps = 0;
+  since = 0;
+  settings = default_settings;
+  proof = None;
+}
 
 abbrev pub is_valid : Past → Bool
 is_valid p = p.valid
@@ -42,6 +54,10 @@ is_valid p = p.valid
 -- a call failed from which there is no way back: nothing more is accepted
 abbrev pub Invalidates : Past → Past → Type 0
 Invalidates p q = (p.valid ≡ true) × (q ≡ record p { valid = false })
+
+-- a proof is open
+abbrev pub HasOpenProof : Past → Type 0
+HasOpenProof p = (searched : Bool) × (p.proof ≡ Some searched)
 
 -- steps are counted anew
 abbrev pub count_anew : Past → Past
@@ -52,7 +68,13 @@ abbrev pub accept : Clause → Past → Past
 accept c p =
     let named : Naming = name_all c p.naming in
     let carried : Clause = map (through_names named) c in
-    record p { naming = named; clauses = p.clauses ++ carried ∷ []; counted = join_counted p.counted (map variable_of carried); has_model = false; since = 0 }
+    record p {
+      naming = named;
+      clauses = p.clauses ++ carried ∷ [];
+      counted = join_counted p.counted (map variable_of carried);
+      has_model = false;
+      since = 0;
+    }
 
 -- A clause is taken: it is accepted; or nothing changes, but that steps are counted anew; this happens only once no assignment satisfies those before it.
 pub data TakesClause (p : Past) (c : Clause) (q : Past) : Type 0 where
@@ -66,7 +88,7 @@ AddsClause p c (Err VariableLimit) q = (p.valid ≡ true) × (IsPastLimit c ⊎ 
 AddsClause p c (Err (WitnessVar u)) q = (p.valid ≡ true) × (IsPastLimit c → ⊥) × IsFirstWitness p.naming c u × (q ≡ p)
 AddsClause p c (Err OutOfMemory) q = Invalidates p q
 AddsClause p c (Err ClauseStoreFull) q = Invalidates p q
-AddsClause p c (Err (ProofIoError cause)) q = Invalidates p q
+AddsClause p c (Err (ProofIoError cause)) q = HasOpenProof p × Invalidates p q
 AddsClause p c (Err _) q = ⊥
 
 abbrev pub adding : additions.Adding Past
@@ -90,14 +112,30 @@ MakesVar p (Err _) q = ⊥
 
 -- how calls move names and modes: a past doesn't tell whether a name was ever hidden
 abbrev pub named : usage.Named Past
-named = record { valid = is_valid; naming = λ p. p.naming; clauses = λ p. p.clauses; assumptions = λ p. p.assumptions; with_naming = λ m p. record p { naming = m; since = 0 }; once_hidden = λ p. p; like = λ p q. q ≡ p; invalidates = Invalidates }
+named = record {
+  valid = is_valid;
+  naming = λ p. p.naming;
+  clauses = λ p. p.clauses;
+  assumptions = λ p. p.assumptions;
+  with_naming = λ m p. record p { naming = m; since = 0 };
+  once_hidden = λ p. p;
+  like = λ p q. q ≡ p;
+  invalidates = Invalidates;
+}
 
 -- The names of the list come into use, and it is assumed as they carry it to identities, in place of the one before.
 abbrev pub assume : List Literal → Past → Past
 assume list p =
     let named : Naming = name_all list p.naming in
     let carried : List Literal = map (through_names named) list in
-    record p { naming = named; assumptions = carried; counted = join_counted p.counted (map variable_of carried); has_model = false; has_core = false; since = 0 }
+    record p {
+      naming = named;
+      assumptions = carried;
+      counted = join_counted p.counted (map variable_of carried);
+      has_model = false;
+      has_core = false;
+      since = 0;
+    }
 
 abbrev pub Assumes : Past → List Literal → Result (Unit {0}) SolverError → Past → Type 0
 Assumes p list (Ok _) q = (p.valid ≡ true) × MayConstrain p.naming list × (q ≡ assume list p)
@@ -121,12 +159,16 @@ MakesFewSteps p b q = (q.steps ≡ p.steps) ⊎ ((p.has_model ≡ false) × (p.h
 
 -- True is returned only if some assignment satisfies the clauses and the assumptions, false only if none does. A call is interrupted only where its steps are spent, and neither a model nor a core was found last.
 abbrev pub Solves : Past → Result Bool SolverError → Past → Type 0
-Solves p (Ok true) q = (p.valid ≡ true) × IsSatisfiableWith p.clauses p.assumptions × MakesFewSteps p true q × (q ≡ record (with_steps q.steps p) { has_model = true; has_core = false })
-Solves p (Ok false) q = (p.valid ≡ true) × (IsSatisfiableWith p.clauses p.assumptions → ⊥) × MakesFewSteps p false q × (q ≡ record (with_steps q.steps p) { has_model = false; has_core = true })
+Solves p (Ok true) q =
+    (p.valid ≡ true) × IsSatisfiableWith p.clauses p.assumptions × MakesFewSteps p true q
+    × (q ≡ record (with_steps q.steps p) { has_model = true; has_core = false })
+Solves p (Ok false) q =
+    (p.valid ≡ true) × (IsSatisfiableWith p.clauses p.assumptions → ⊥) × MakesFewSteps p false q
+    × (q ≡ record (with_steps q.steps p) { has_model = false; has_core = true })
 Solves p (Err Invalid) q = (p.valid ≡ false) × (q ≡ p)
 Solves p (Err OutOfMemory) q = CountsCall p (Err OutOfMemory) q × Invalidates (with_steps q.steps p) q
 Solves p (Err ClauseStoreFull) q = CountsCall p (Err ClauseStoreFull) q × Invalidates (with_steps q.steps p) q
-Solves p (Err (ProofIoError cause)) q = CountsCall p (Err (ProofIoError cause)) q × Invalidates (with_steps q.steps p) q
+Solves p (Err (ProofIoError cause)) q = HasOpenProof p × CountsCall p (Err (ProofIoError cause)) q × Invalidates (with_steps q.steps p) q
 Solves p (Err Interrupted) q = (p.valid ≡ true) × (p.has_model ≡ false) × (p.has_core ≡ false) × CountsCall p (Err Interrupted) q × (q ≡ with_steps q.steps p)
 Solves p (Err _) q = ⊥
 
@@ -146,23 +188,12 @@ TellsCore p (Err _) q = (p.valid ≡ true) × (p.has_model ≡ false) × (q ≡ 
 abbrev pub with_update : SolverConfigUpdate → Past → Past
 with_update u p = record p { since = 0; settings = updated_settings p.settings u }
 
--- as long as the past is valid, calls of `solve` make few steps together that no change came between
-abbrev pub TellsSince : Past → ℕ → Past → Type 0
-TellsSince p n q = (n ≡ p.since) × (p.valid ≡ true → n < 2 ^ (2 * length p.counted + 3)) × (q ≡ p)
-
--- a target comes back just where a proof is open
-abbrev pub HandsBack : {W : Type 0} → Option Bool → Option W → Type 0
-HandsBack None None = Unit {0}
-HandsBack None (Some target) = ⊥
-HandsBack (Some searched) None = ⊥
-HandsBack (Some searched) (Some target) = Unit {0}
-
 -- no proof is open any more
 abbrev pub closed : Past → Past
 closed p = record p { proof = None; since = 0 }
 
--- The target of an open proof comes back, also where it can't be flushed. Nothing is told of what an invalid solver hands back.
-abbrev pub ClosesProof : {W : Type 0} → (W → Taken) → Past → Result (Option W) (SolverError × W) → Past → Type 0
-ClosesProof taken p (Ok back) q = (p.valid ≡ true → HandsBack p.proof back) × (q ≡ closed p)
-ClosesProof taken p (Err (ProofIoError cause, target)) q = ((searched : Bool) × (p.proof ≡ Some searched)) × Invalidates p q
-ClosesProof taken p (Err _) q = ⊥
+-- A target comes back just where a proof is open, also where it can't be flushed. Nothing is told of what an invalid solver hands back.
+abbrev pub ProofCloses : {W : Type 0} → (W → Taken) → Past → Result (Option W) (SolverError × W) → Past → Type 0
+ProofCloses taken p (Ok back) q = (p.valid ≡ true → is_some back ≡ is_some p.proof) × (q ≡ closed p)
+ProofCloses taken p (Err (ProofIoError cause, target)) q = HasOpenProof p × Invalidates p q
+ProofCloses taken p (Err _) q = ⊥

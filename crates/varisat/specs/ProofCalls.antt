@@ -1,14 +1,15 @@
 -- Which answer and which new state the calls give that open and close a proof.
-use Rattle.std.specs.Prelude.{◌≡◌, ℕ, ◌+◌, Bool, true, false, Option, Some, None, List, ◌++◌, ◌⊎◌, Result, Ok, Err}
+use Rattle.std.specs.Prelude.{◌≡◌, true, false, Option, Some, None, List, ◌++◌, Result, Ok, Err}
 use Rattle.varisat_theory.specs.Derivations.{Line, IsDerivation, Refutes}
 use Rattle.varisat_theory.specs.Journals.{lines_of}
 use Rattle.varisat_formula.specs.Streams.{Taken}
 use Rattle.varisat_proof.specs.declared.proof.format.ProofFormat.{ProofFormat}
 use Rattle.varisat_proof.specs.Lines.{encoding_of, plain_lines}
 use Rattle.varisat_proof.specs.Steps.{lines_written}
-use Rattle.varisat.specs.OpenProofs.{OpenProof, IsOpen, first_proof, taken_of, HandsBack}
+use Rattle.varisat_proof.specs.Proving.{IsClosed}
+use Rattle.varisat.specs.OpenProofs.{OpenProof, opened_state, IsOpen, first_proof}
 use Rattle.varisat.specs.States.{State, Unsat}
-use Rattle.varisat.specs.Calls.{is_valid, IsValid, Invalidates, IsRefusedInvalid, count_anew}
+use Rattle.varisat.specs.Calls.{IsValid, Invalidates, IsRefusedInvalid, count_anew}
 use Rattle.varisat.specs.declared.solver.SolverError.{SolverError}
 use Rattle.varisat.specs.declared.solver.SolverError.TheVariants.{ProofIoError, Invalid, ProofOpen, ProofTooLate}
 
@@ -27,9 +28,10 @@ OpensProof taken target format s (Err _) t = ⊥
 
 -- The target of the open proof comes back, with the bytes of the proof behind those that it had before, and nothing where none is open. It comes back too where it can't be flushed, which makes the solver invalid. What an invalid state says of its proof need not be true any more, so nothing is told of what comes back from it.
 abbrev pub ClosesProof : {W : Type 0} → (W → Taken) → State → Result (Option W) (SolverError × W) → State → Type 0
-ClosesProof taken s (Ok back) t = ((IsValid s × HandsBack taken s.proof back) ⊎ (is_valid s ≡ false)) × (t ≡ count_anew (with_proof None s))
+ClosesProof taken s (Ok back) t =
+    (IsValid s → IsClosed {E = SolverError} taken (opened_state s.proof) (Ok back)) × (t ≡ count_anew (with_proof None s))
 ClosesProof taken s (Err (ProofIoError cause, target)) t =
-    (p : OpenProof) × (s.proof ≡ Some p) × (taken target ≡ record (taken_of p) { faults = p.faults + 1 }) × Invalidates s t
+    IsClosed taken (opened_state s.proof) (Err (ProofIoError cause, target)) × Invalidates s t
 ClosesProof taken s (Err _) t = ⊥
 
 -- The bytes of an open proof are those of lines. As long as nothing was ever hidden these are, behind the lines that were told before it was opened, a derivation from the accepted clauses, which refutes them under Unsat.

@@ -2,7 +2,7 @@
 use Rattle.std.specs.Prelude.{◌-◌, ◌^◌, ◌<◌, List, [], ◌∷◌}
 use Rattle.varisat_formula.specs.Streams.{Stand, Taken}
 use Rattle.varisat.specs.States.{State}
-use Rattle.varisat.specs.Calls.{adding, MakesVar, Assumes, Solves, TellsModel, TellsCore, TellsSince, with_update}
+use Rattle.varisat.specs.Calls.{adding, MakesVar, Assumes, Solves, TellsModel, TellsCore, with_update}
 use Rattle.varisat.specs.ProofCalls.{ClosesProof}
 use Rattle.varisat.specs.VariableCalls.{named}
 use Rattle.varisat.specs.Turns.{CallRules, Makes, MakesInTurn}
@@ -12,7 +12,20 @@ use Rattle.varisat.specs.declared.session.Call.TheVariants as call
 
 -- the calls of a solver
 abbrev pub calling : CallRules State
-calling = record { adding = adding; named = named; makes_var = MakesVar; assumes = Assumes; solves = Solves; tells_model = TellsModel; tells_core = TellsCore; updated = with_update; steps = λ s. s.ledger.steps; tells_since = TellsSince; closes = ClosesProof }
+calling = record {
+  adding = adding;
+  named = named;
+  makes_var = MakesVar;
+  assumes = Assumes;
+  solves = Solves;
+  tells_model = TellsModel;
+  tells_core = TellsCore;
+  updated = with_update;
+  steps = λ s. s.ledger.steps;
+  since = λ s. s.ledger.since;
+  counted = λ s. s.counted;
+  closes = ClosesProof;
+}
 
 abbrev pub MakesCall : {W S A : Type 0} → (S → Stand) → (W → Taken) → State → Call S A → Answer W S A → State → Type 0
 MakesCall seen taken s c a t = Makes calling seen taken s c a t

@@ -40,7 +40,9 @@ pub record FindsVerdict {A : Type 0} (p q : TracerState) (x y : Context A) (foun
   pub tables : q.tables ≡ p.tables
   -- the assumptions that are left, and the core over solver variables
   pub parts : AssumptionParts
-  pub steps : MakesTold TakesGlobally p q (steps_since x.schedule y.schedule) (search_of (view x)) (search_of (view y)) (outcome_of (view y) parts.failed_core y.solver_state.sat_state)
+  pub steps : MakesTold TakesGlobally p q (steps_since x.schedule y.schedule) (search_of (view x)) (search_of (view y))
+      (outcome_of (view y) parts.failed_core y.solver_state.sat_state)
   pub assumes : KeepsAssumptions (search_of (view x)) (outcome_of (view y) parts.failed_core y.solver_state.sat_state) x.assumptions parts
   pub rest : y.assumptions ≡ record parts { user_core = y.assumptions.user_core }
-  pub core : y.solver_state.sat_state ≡ verdict.UnsatUnderAssumptions → y.assumptions.user_core ≡ map (carry (chain (at p.tables.solvers.backward) (at p.tables.users.backward))) parts.failed_core
+  pub core : y.solver_state.sat_state ≡ verdict.UnsatUnderAssumptions →
+      y.assumptions.user_core ≡ map (carry (chain (at p.tables.solvers.backward) (at p.tables.users.backward))) parts.failed_core

@@ -1,5 +1,5 @@
--- How a search came on since some moment, over calls of `solve`.
-use Rattle.std.specs.Prelude.{◌≡◌, ℕ, ◌+◌, ◌-◌, ◌*◌, ◌^◌, ◌<◌, ◌≤◌, List, length}
+-- How a search came on since the last change, over calls of `solve`, and how its steps are counted.
+use Rattle.std.specs.Prelude.{◌≡◌, ℕ, ◌+◌, ◌-◌, ◌*◌, ◌^◌, ◌<◌, ◌≤◌, Bool, List, length, Result}
 use Rattle.varisat_theory.specs.Membership.{◌∈◌, IsDistinct}
 use Rattle.varisat_prop.specs.View.{kinds}
 use Rattle.varisat_schedule.specs.Plans.{PlannedCall}
@@ -8,6 +8,8 @@ use Rattle.varisat_search.specs.declared.context.Context.{Context}
 use Rattle.varisat_search.specs.declared.state.SatState.TheVariants as verdict
 use Rattle.varisat_search.specs.Contexts.{view}
 use Rattle.varisat_search.specs.Decisions.{IsDecidable}
+use Rattle.varisat.specs.Budgets.{CountsSteps}
+use Rattle.varisat.specs.declared.solver.SolverError.{SolverError}
 
 -- a stretch of steps that begins with the context
 abbrev pub call_from : {A : Type 0} → Context A → PlannedCall
@@ -30,3 +32,13 @@ pub record CountsSince {A : Type 0} (changed_at : ℕ) (x : Context A) : Type 0 
   pub low : changed_at ≤ x.schedule.steps
   pub few : (n : ℕ) → length x.assignment.current ≤ n → x.schedule.steps - changed_at < 2 ^ (2 * n + 3)
   pub come : x.solver_state.sat_state ≡ verdict.Unknown → (c : PlannedCall) × (c.begins.steps ≡ changed_at) × HasComeSince c x
+
+-- Wherever the last change was, the steps since then are counted on.
+abbrev pub CountsOnSince : {A : Type 0} → Context A → Context A → Type 0
+CountsOnSince x y = (changed_at : ℕ) → CountsSince changed_at x → CountsSince changed_at y
+
+-- How the steps are counted that lead from one context to the other, of which `max_steps` may be made: for each number that bounds the variables of the search, and wherever the last change was.
+abbrev pub CountsStepsFrom : {A : Type 0} → ℕ → Context A → Context A → Result Bool SolverError → Type 0
+CountsStepsFrom max_steps x y answer =
+    (n changed_at : ℕ) → length x.assignment.current ≤ n → CountsSince changed_at x →
+    CountsSteps n max_steps (x.schedule.steps - changed_at) x.schedule.steps y.schedule.steps answer

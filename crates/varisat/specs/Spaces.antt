@@ -111,7 +111,8 @@ pub record SharesHeld (r : Translation) (share : List Clause) : Type 0 where
   pub forgotten : List Clause
   pub same : SameClauses held (forgotten ++ rename (carry r.identity) share)
   pub inside : (c : Clause) (l : Literal) → c ∈ share → l ∈ c → (i : ℕ) × (r.identity (variable_of l) ≡ Some i)
-  pub units : (i : ℕ) (b : Bool) (x : ℕ) → r.forced i ≡ Some b → r.global i ≡ Some x → ((v : ℕ) → r.identity v ≢ Some i) → (c : Clause) × (c ∈ forgotten) × IsUnit (literal_of i b) c
+  pub units : (i : ℕ) (b : Bool) (x : ℕ) → r.forced i ≡ Some b → r.global i ≡ Some x → ((v : ℕ) → r.identity v ≢ Some i) →
+      (c : Clause) × (c ∈ forgotten) × IsUnit (literal_of i b) c
 
 -- What was told of the clauses that the search holds. Under Unsat it leads to a conflict, and nothing more is told of clauses.
 abbrev pub HeldFits : Translation → List Clause → Outcome → Type 0

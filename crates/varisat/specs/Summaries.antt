@@ -6,6 +6,7 @@ use Rattle.varisat_prop.specs.Parts.{is_true_value}
 use Rattle.varisat_prop.specs.View.{View}
 use Rattle.varisat_search.specs.declared.context.Context.{Context}
 use Rattle.varisat_search.specs.declared.state.SatState.{SatState}
+use Rattle.varisat_search.specs.declared.state.SatState.TheVariants as verdict
 use Rattle.varisat_search.specs.Contexts.{view, IsReady}
 use Rattle.varisat_search.specs.AssumptionParts.{AssumptionParts}
 use Rattle.varisat_search.specs.Steps.{assignment_of}
@@ -50,6 +51,14 @@ spaces_of t search assumed sat_state = record {
   outcome = outcome_of search assumed.failed_core sat_state;
   var_count = length search.values;
 }
+
+-- so it is where the search is with its verdict
+abbrev pub spaces_with : {A : Type 0} → Tables → Context A → Spaces
+spaces_with t x = spaces_of t (view x) x.assumptions x.solver_state.sat_state
+
+-- and while no verdict is known
+abbrev pub undecided_spaces : {A : Type 0} → Tables → Context A → Spaces
+undecided_spaces t x = spaces_of t (view x) x.assumptions verdict.Unknown
 
 abbrev pub spaces : Summary → Spaces
 spaces g = spaces_of g.tables g.search g.assumed g.sat_state

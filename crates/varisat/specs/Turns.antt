@@ -5,6 +5,7 @@ use Rattle.varisat_theory.specs.Literals.{Literal}
 use Rattle.varisat_formula.specs.Streams.{Stand, Taken}
 use Rattle.varisat_names.specs.declared.config.SolverConfigUpdate.{SolverConfigUpdate}
 use Rattle.varisat.specs.Updates.{Configures}
+use Rattle.varisat.specs.Budgets.{TellsSince}
 use Rattle.varisat.specs.Additions as additions
 use Rattle.varisat.specs.Told.{told_list, told_vars}
 use Rattle.varisat.specs.Names.{Sample, Witness}
@@ -15,7 +16,7 @@ use Rattle.varisat.specs.declared.session.Answer.{Answer}
 use Rattle.varisat.specs.declared.session.Call.TheVariants as call
 use Rattle.varisat.specs.declared.session.Answer.TheVariants as answer
 
--- How calls move something, and with which answers: how clauses are added to it, how its names are used, and each further call that can be refused; what an update of the settings makes of it, how many steps were made, and what is told of those since the last change; and how a proof closes, where it is known what each target took.
+-- How calls move something, and with which answers: how clauses are added to it, how its names are used, and each further call that can be refused; what an update of the settings makes of it, how many steps were made, how many of them since the last change, and which variables are counted; and how a proof closes, where it is known what each target took.
 pub record CallRules (X : Type 0) : Type 1 where
   pub adding : additions.Adding X
   pub named : usage.Named X
@@ -26,7 +27,8 @@ pub record CallRules (X : Type 0) : Type 1 where
   pub tells_core : X → Result (Option (List Literal)) AllocError → X → Type 0
   pub updated : SolverConfigUpdate → X → X
   pub steps : X → ℕ
-  pub tells_since : X → ℕ → X → Type 0
+  pub since : X → ℕ
+  pub counted : X → List ℕ
   pub closes : {W : Type 0} → (W → Taken) → X → Result (Option W) (SolverError × W) → X → Type 0
 
 module _ {X : Type 0} (by : CallRules X) where
@@ -46,7 +48,7 @@ module _ {X : Type 0} (by : CallRules X) where
   Makes seen taken s call.FailedCore (answer.FailedCore r) t = by.tells_core s (told_list r) t
   Makes seen taken s (call.Config u) (answer.Config r) t = Configures by.adding.valid by.updated s u r t
   Makes seen taken s call.Steps (answer.Steps n) t = (n ≡ by.steps s) × (t ≡ s)
-  Makes seen taken s call.StepsSinceChange (answer.StepsSinceChange n) t = by.tells_since s n t
+  Makes seen taken s call.StepsSinceChange (answer.StepsSinceChange n) t = TellsSince by.adding.valid by.since by.counted s n t
   Makes seen taken s call.IsValid (answer.IsValid b) t = (b ≡ by.adding.valid s) × (t ≡ s)
   Makes seen taken s call.CloseProof (answer.CloseProof r) t = by.closes taken s r t
   Makes seen taken s _ _ t = ⊥

@@ -8,7 +8,16 @@ use Rattle.varisat.specs.declared.solver.SolverError.{SolverError}
 
 -- What has names is the state. With other names steps are counted anew.
 abbrev pub named : usage.Named State
-named = record { valid = is_valid; naming = λ s. s.naming; clauses = λ s. s.clauses; assumptions = λ s. s.assumptions; with_naming = λ m s. count_anew (with_naming m s); once_hidden = λ s. record s { ever_hidden = true }; like = IsLike; invalidates = Invalidates }
+named = record {
+  valid = is_valid;
+  naming = λ s. s.naming;
+  clauses = λ s. s.clauses;
+  assumptions = λ s. s.assumptions;
+  with_naming = λ m s. count_anew (with_naming m s);
+  once_hidden = λ s. record s { ever_hidden = true };
+  like = IsLike;
+  invalidates = Invalidates;
+}
 
 abbrev pub IsAssumed : State → ℕ → Type 0
 IsAssumed s u = usage.IsAssumed named s u

@@ -1,19 +1,15 @@
 //! What an accepted clause and a list of assumptions bring: their names, the solver variables of these, and the clause
 //! or the list itself.
-ghost use Rattle.std.specs.Prelude.{◌≡◌, ◌≢◌, ◌<◌, ◌∷◌, ◌++◌, [], List, Some, None, false, length, map, IsSome, OnOk};
+ghost use Rattle.std.specs.Prelude.{◌≡◌, ◌≢◌, ◌<◌, ◌∷◌, [], Some, false, OnOk};
 ghost use Rattle.varisat_theory.specs.Membership.{◌∈◌};
 ghost use Rattle.varisat_theory.specs.Literals.{Literal, variable_of};
 ghost use Rattle.varisat_names.specs.VarData.{kept_at};
 ghost use Rattle.varisat_names.specs.VarMap.{at};
-ghost use Rattle.varisat_search.specs.Contexts.{view, KeepsSchedule};
-ghost use Rattle.varisat.specs.States.{State, Verdict};
-ghost use Rattle.varisat.specs.Names.{name_all, through_names};
-ghost use Rattle.varisat.specs.Calls.{with_naming, VerdictAfter, append_clause, with_assumptions};
-ghost use Rattle.varisat.specs.Spaces.{SpacesFit};
-ghost use Rattle.varisat.specs.Journals.{retold, TellsMore, TellsProof};
-ghost use Rattle.varisat_theory.specs.Journals.{Entry, Accepts, Assumes};
+ghost use Rattle.varisat_search.specs.Contexts.{KeepsSchedule};
+ghost use Rattle.varisat.specs.Accepted.{StandsOnceAccepted, StandsOnceAssumed};
+ghost use Rattle.varisat_theory.specs.Journals.{Accepts};
 ghost use Rattle.varisat_tracer.specs.Tracing.{parts_of, TakesGlobally, CanTell};
-ghost use Rattle.varisat.specs.Summaries.{spaces_of, IsKept};
+ghost use Rattle.varisat.specs.Summaries.{IsKept};
 ghost use Rattle.varisat.specs.Accepting.{CanBeNamed, HasNames, AreJoined, AreMarked};
 
 use std::alloc::{AllocError, Allocator};
@@ -92,10 +88,10 @@ pub fn accept_clause<W: ProofTarget, A: Allocator + Copy>(
     requires names { CanBeNamed clause.now tracer.old.variables }
     ensures kept { OnOk result (IsKept tracer.new.variables ctx.new) }
     ensures tells { OnOk result (CanTell tracer.new.proof) }
-    ensures state { OnOk result (ctx.new.solver_state ≡ record ctx.old.solver_state { sat_state = ctx.new.solver_state.sat_state; formula_is_empty = false }) }
+    ensures state { OnOk result (ctx.new.solver_state ≡
+        record ctx.old.solver_state { sat_state = ctx.new.solver_state.sat_state; formula_is_empty = false }) }
     ensures schedule { KeepsSchedule ctx.old ctx.new }
-    ensures accepted { OnOk result ((s : State) → SpacesFit (spaces_of tracer.old.variables (view ctx.old) ctx.old.assumptions ctx.old.solver_state.sat_state) s →
-        (x : Verdict) × (told : List Entry) × VerdictAfter s.clauses (map (through_names (name_all clause.now s.naming)) clause.now) s.verdict x × TellsMore 0 (s.told ++ Accepts (map (through_names (name_all clause.now s.naming)) clause.now) ∷ []) told × TellsProof s.ever_hidden s.told told tracer.old.proof tracer.new.proof × SpacesFit (spaces_of tracer.new.variables (view ctx.new) ctx.new.assumptions ctx.new.solver_state.sat_state) (retold told (append_clause (map (through_names (name_all clause.now s.naming)) clause.now) x (with_naming (name_all clause.now s.naming) s)))) }
+    ensures accepted { OnOk result (StandsOnceAccepted clause.now (parts_of tracer.old) ctx.old (parts_of tracer.new) ctx.new) }
 {
     // A model that was found may not satisfy the clause.
     ctx.solver_state.reopen();
@@ -120,10 +116,10 @@ pub fn assume_list<A: Allocator + Copy>(
     requires kept { IsKept variables.old ctx.old }
     requires names { CanBeNamed list.now variables.old }
     ensures kept { OnOk result (IsKept variables.new ctx.new) }
-    ensures state { OnOk result (ctx.new.solver_state ≡ record ctx.old.solver_state { sat_state = ctx.new.solver_state.sat_state; formula_is_empty = ctx.new.solver_state.formula_is_empty }) }
+    ensures state { OnOk result (ctx.new.solver_state ≡
+        record ctx.old.solver_state { sat_state = ctx.new.solver_state.sat_state; formula_is_empty = ctx.new.solver_state.formula_is_empty }) }
     ensures schedule { KeepsSchedule ctx.old ctx.new }
-    ensures assumed { OnOk result ((s : State) → SpacesFit (spaces_of variables.old (view ctx.old) ctx.old.assumptions ctx.old.solver_state.sat_state) s →
-        SpacesFit (spaces_of variables.new (view ctx.new) ctx.new.assumptions ctx.new.solver_state.sat_state) (retold (s.told ++ Assumes (map (through_names (name_all list.now s.naming)) list.now) ∷ []) (with_assumptions (map (through_names (name_all list.now s.naming)) list.now) (with_naming (name_all list.now s.naming) s)))) }
+    ensures assumed { OnOk result (StandsOnceAssumed list.now variables.old ctx.old variables.new ctx.new) }
 {
     // What was found under the assumptions before says nothing of these.
     ctx.solver_state.assume();

@@ -13,11 +13,11 @@ ghost use Rattle.varisat_search.specs.SettledUnits.{IsSettledDown};
 ghost use Rattle.varisat.specs.States.{State};
 ghost use Rattle.varisat.specs.Spaces.{SpacesFit};
 ghost use Rattle.varisat.specs.SinceChange.{GoesOnSince};
-ghost use Rattle.varisat.specs.Journals.{retold, TellsMore, TellsLeaving, TellsProof};
+ghost use Rattle.varisat.specs.Journals.{retold, TellsMore, TellsProof};
 ghost use Rattle.varisat_theory.specs.Journals.{Entry};
 ghost use Rattle.varisat_tracer.specs.Tracing.{CanTell};
-ghost use Rattle.varisat.specs.Summaries.{spaces_of, IsKept};
-ghost use Rattle.varisat.specs.Dropping.{leads_to_unassumed, unassumed_among, AreOverAssumed, FlagsVariables, AreDroppedAlone, leads_to_hidden, ListsUnneeded, AreReleased, LeavesNeeded, LeavesTables};
+ghost use Rattle.varisat.specs.Summaries.{undecided_spaces, IsKept};
+ghost use Rattle.varisat.specs.Dropping.{leads_to_unassumed, unassumed_among, AreOverAssumed, FlagsVariables, AreDroppedAlone, leads_to_hidden, ListsUnneeded, AreReleased, LeavesNeeded, LeavesTables, LetsLeave};
 
 use std::alloc::{AllocError, Allocator};
 use varisat_formula::io::ProofTarget;
@@ -157,14 +157,11 @@ fn drop_listed<A: Allocator + Copy>(
 ) -> Result<(), AllocError>
     requires kept { IsKept variables.old ctx.old }
     requires settled { IsSettledDown (view ctx.old) }
-    ensures kept { OnOk result (IsKept variables.new ctx.new) }
+    ensures leave { OnOk result (LetsLeave variables.old ctx.old variables.new ctx.new) }
     ensures schedule { KeepsSchedule ctx.old ctx.new }
-    ensures since { OnOk result (GoesOnSince ctx.old ctx.new) }
     ensures state { ctx.new.solver_state ≡ ctx.old.solver_state }
-    ensures count { OnOk result (length ctx.new.assignment.current ≡ length ctx.old.assignment.current) }
     ensures settled { OnOk result (IsSettledDown (view ctx.new)) }
     ensures left { OnOk result (AreOverAssumed variables.new ctx.new.trail.literals) }
-    ensures stands { OnOk result ((s : State) → SpacesFit (spaces_of variables.old (view ctx.old) ctx.old.assumptions SatState.Unknown) s → (told : List Entry) × TellsLeaving s.ever_hidden s.told told × SpacesFit (spaces_of variables.new (view ctx.new) ctx.new.assumptions SatState.Unknown) (retold told s)) }
 {
     variables.prove_linked();
     list_unassumed(variables, ctx.trail.trail(), literals)?;
@@ -185,13 +182,10 @@ fn drop_unneeded<A: Allocator + Copy>(
     requires kept { IsKept variables.old ctx.old }
     requires settled { IsSettledDown (view ctx.old) }
     requires left { AreOverAssumed variables.old ctx.old.trail.literals }
-    ensures kept { OnOk result (IsKept variables.new ctx.new) }
+    ensures leave { OnOk result (LetsLeave variables.old ctx.old variables.new ctx.new) }
     ensures schedule { KeepsSchedule ctx.old ctx.new }
-    ensures since { OnOk result (GoesOnSince ctx.old ctx.new) }
     ensures state { ctx.new.solver_state ≡ ctx.old.solver_state }
-    ensures count { OnOk result (length ctx.new.assignment.current ≡ length ctx.old.assignment.current) }
     ensures left { OnOk result (LeavesNeeded variables.new (view ctx.new)) }
-    ensures stands { OnOk result ((s : State) → SpacesFit (spaces_of variables.old (view ctx.old) ctx.old.assumptions SatState.Unknown) s → (told : List Entry) × TellsLeaving s.ever_hidden s.told told × SpacesFit (spaces_of variables.new (view ctx.new) ctx.new.assumptions SatState.Unknown) (retold told s)) }
 {
     variables.prove_linked();
     let mentioned = flag_mentioned(ctx)?;
@@ -221,8 +215,11 @@ pub fn drop_fixed<W: ProofTarget, A: Allocator + Copy>(
     ensures since { OnOk result (GoesOnSince ctx.old ctx.new) }
     ensures state { ctx.new.solver_state ≡ ctx.old.solver_state }
     ensures count { OnOk result (length ctx.new.assignment.current ≡ length ctx.old.assignment.current) }
-    ensures left { OnOk result (ctx.old.trail.decisions ≡ [] → ctx.old.trail.queue_head ≢ length ctx.old.trail.literals → ((conflict : Conflict) × IsConflicting (view ctx.new) conflict) ⊎ LeavesNeeded tracer.new.variables (view ctx.new)) }
-    ensures stands { OnOk result ((s : State) → SpacesFit (spaces_of tracer.old.variables (view ctx.old) ctx.old.assumptions SatState.Unknown) s → (told : List Entry) × TellsMore 0 s.told told × TellsProof s.ever_hidden s.told told tracer.old.proof tracer.new.proof × SpacesFit (spaces_of tracer.new.variables (view ctx.new) ctx.new.assumptions SatState.Unknown) (retold told s)) }
+    ensures left { OnOk result (ctx.old.trail.decisions ≡ [] → ctx.old.trail.queue_head ≢ length ctx.old.trail.literals →
+        ((conflict : Conflict) × IsConflicting (view ctx.new) conflict) ⊎ LeavesNeeded tracer.new.variables (view ctx.new)) }
+    ensures stands { OnOk result ((s : State) → SpacesFit (undecided_spaces tracer.old.variables ctx.old) s →
+        (told : List Entry) × TellsMore 0 s.told told × TellsProof s.ever_hidden s.told told tracer.old.proof tracer.new.proof
+        × SpacesFit (undecided_spaces tracer.new.variables ctx.new) (retold told s)) }
 {
     if ctx.trail.current_level() > 0 || ctx.trail.fully_propagated() {
         return Ok(());

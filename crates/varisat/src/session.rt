@@ -100,7 +100,8 @@ pub fn run<W: ProofTarget, S: ByteSource, A: Allocator + Copy>(
     calls: Vec<Call<S, A>, A>,
 ) -> Result<Vec<Answer<W, S, A>, A>, AllocError>
     requires { AreReadable S.stand calls.items }
-    ensures run { IfOk result (λ answers. (s : State) → StandsFor solver.old s → (t : State) × Run S.stand W.taken s calls.items answers.items t × StandsFor solver.new t) }
+    ensures run { IfOk result (λ answers. (s : State) → StandsFor solver.old s →
+        (t : State) × Run S.stand W.taken s calls.items answers.items t × StandsFor solver.new t) }
     ensures err { OnErr result (solver.new ≡ solver.old) }
 {
     let mut answers = Vec::with_capacity(*calls.allocator(), calls.len())?;
@@ -117,7 +118,8 @@ pub fn answers_of<W: ProofTarget, S: ByteSource, A: Allocator + Copy>(
     calls: Vec<Call<S, A>, A>,
 ) -> Result<Vec<Answer<W, S, A>, A>, AllocError>
     requires { AreReadable S.stand calls.items }
-    ensures run { IfOk result (λ answers. (t : State) × Run S.stand W.taken empty_state calls.items answers.items t × (IsValid t → IsJournal t × IsToldWithin t.ledger.steps t.told)) }
+    ensures run { IfOk result (λ answers. (t : State) × Run S.stand W.taken empty_state calls.items answers.items t
+        × (IsValid t → IsJournal t × IsToldWithin t.ledger.steps t.told)) }
     ensures truth { IfOk result (λ answers. AreTrue S.stand W.taken empty_past calls.items answers.items) }
 {
     let mut solver: Solver<W, A> = Solver::new_in(*calls.allocator());

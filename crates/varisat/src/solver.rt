@@ -173,7 +173,20 @@ impl<W: ProofTarget, A: Allocator + Copy> Model for Solver<W, A> {
 
     ghost Value = { Summary };
 
-    ghost view = { λ c. record { tables = c.tracer.variables; opened = c.tracer.proof.opened; search = contexts.view c.ctx; assumed = c.ctx.assumptions; sat_state = c.ctx.solver_state.sat_state; ledger = record { valid = not c.ctx.solver_state.state_is_invalid; started = c.started; steps = c.ctx.schedule.steps; since = c.ctx.schedule.steps - c.changed_at; settings = c.ctx.solver_config } } };
+    ghost view = { λ c. record {
+      tables = c.tracer.variables;
+      opened = c.tracer.proof.opened;
+      search = contexts.view c.ctx;
+      assumed = c.ctx.assumptions;
+      sat_state = c.ctx.solver_state.sat_state;
+      ledger = record {
+        valid = not c.ctx.solver_state.state_is_invalid;
+        started = c.started;
+        steps = c.ctx.schedule.steps;
+        since = c.ctx.schedule.steps - c.changed_at;
+        settings = c.ctx.solver_config;
+      };
+    } };
 
     ghost invariant = { λ c. c.ctx.solver_state.state_is_invalid ≡ false → IsKeptSince c.tracer.variables c.tracer.proof c.ctx c.changed_at };
 }
@@ -191,6 +204,7 @@ impl<W: ProofTarget, A: Allocator + Copy> Solver<W, A> {
     ghost use Rattle.varisat.specs.Summaries.{StandsFor};
     ghost use Rattle.varisat.specs.Journals.{IsJournal};
     ghost use Rattle.varisat.specs.OpenProofs.{OpenProof, IsDrat};
+    ghost use Rattle.varisat_proof.specs.Proving.{IsClosed};
     ghost use Rattle.varisat.specs.ProofCalls.{OpensProof, ClosesProof, IsProofOf};
 
     /// A solver with no clause. It takes no memory.
@@ -439,6 +453,8 @@ impl<W: ProofTarget, A: Allocator + Copy> Solver<W, A> {
     /// solver invalid. An invalid solver hands the target back without a flush. None where no proof is open.
     pub fn close_proof(&mut self) -> Result<Option<W>, (SolverError, W)>
         ensures call { (s : State) → StandsFor self.old s → (t : State) × ClosesProof W.taken s result t × StandsFor self.new t }
+        // Also an invalid solver hands back just the target that it has, with what this took.
+        ensures handed { IsClosed W.taken self.old.opened result }
         ensures written { (s : State) → StandsFor self.old s → IsValid s → (p : OpenProof) → s.proof ≡ Some p → IsProofOf s p }
     {
         if self.ctx.solver_state.state_is_invalid {

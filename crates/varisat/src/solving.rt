@@ -9,8 +9,8 @@ ghost use Rattle.varisat_search.specs.AssumptionParts.{KeepsAssumptions};
 ghost use Rattle.varisat_search.specs.Contexts.{view, IsReady};
 ghost use Rattle.varisat_search.specs.Decisions.{SameDecidable};
 ghost use Rattle.varisat_search.specs.Seen.{search_of, outcome_of};
-ghost use Rattle.varisat.specs.Budgets.{told_verdict, CountsSteps};
-ghost use Rattle.varisat.specs.SinceChange.{CountsSince};
+ghost use Rattle.varisat.specs.Budgets.{told_verdict};
+ghost use Rattle.varisat.specs.SinceChange.{CountsOnSince, CountsStepsFrom};
 ghost use Rattle.varisat_trace.specs.Traces.{HoldsFor};
 ghost use Rattle.varisat_tracer.specs.Tracing.{parts_of, CanTell};
 ghost use Rattle.varisat.specs.Searches.{answer_at, MakesTold, FindsVerdict};
@@ -50,11 +50,13 @@ fn find_verdict<A: Allocator + Copy, P: ProofTracer>(
     ensures state { OnOk result (ctx.new.solver_state ≡ record ctx.old.solver_state { sat_state = ctx.new.solver_state.sat_state }) }
     ensures found { IfOk result (λ found. found ≡ answer_at ctx.new.solver_state.sat_state) }
     // The tracer took the lines of all steps, and then the core, where assumptions failed.
-    ensures steps { OnOk result (MakesTold P.takes proof.old proof.new (steps_since ctx.old.schedule ctx.new.schedule) (search_of (view ctx.old)) (search_of (view ctx.new)) (outcome_of (view ctx.new) ctx.new.assumptions.failed_core ctx.new.solver_state.sat_state)) }
-    ensures assumptions { OnOk result (KeepsAssumptions (search_of (view ctx.old)) (outcome_of (view ctx.new) ctx.new.assumptions.failed_core ctx.new.solver_state.sat_state) ctx.old.assumptions ctx.new.assumptions) }
-    // For each number that bounds the variables of the search, and wherever the last change was.
-    ensures counted { (n changed_at : ℕ) → length ctx.old.assignment.current ≤ n → CountsSince changed_at ctx.old → CountsSteps n max_steps (ctx.old.schedule.steps - changed_at) ctx.old.schedule.steps ctx.new.schedule.steps (told_verdict result) }
-    ensures since { OnOk result ((changed_at : ℕ) → CountsSince changed_at ctx.old → CountsSince changed_at ctx.new) }
+    ensures steps { OnOk result (MakesTold P.takes proof.old proof.new (steps_since ctx.old.schedule ctx.new.schedule)
+        (search_of (view ctx.old)) (search_of (view ctx.new))
+        (outcome_of (view ctx.new) ctx.new.assumptions.failed_core ctx.new.solver_state.sat_state)) }
+    ensures assumptions { OnOk result (KeepsAssumptions (search_of (view ctx.old))
+        (outcome_of (view ctx.new) ctx.new.assumptions.failed_core ctx.new.solver_state.sat_state) ctx.old.assumptions ctx.new.assumptions) }
+    ensures counted { CountsStepsFrom max_steps ctx.old ctx.new (told_verdict result) }
+    ensures since { OnOk result (CountsOnSince ctx.old ctx.new) }
     ensures config { ctx.new.solver_config ≡ ctx.old.solver_config }
 {
     ctx.solver_config.prove_in_range();
@@ -81,7 +83,8 @@ fn name_core<A: Allocator + Copy>(
 ) -> Result<(), AllocError>
     requires { (l : Literal) → l ∈ ctx.old.assumptions.failed_core → HasUser variables.now (variable_of l) }
     ensures kept { ctx.new ≡ record ctx.old { assumptions = record ctx.old.assumptions { user_core = ctx.new.assumptions.user_core } } }
-    ensures named { OnOk result (ctx.new.assumptions.user_core ≡ map (carry (chain (at variables.now.solvers.backward) (at variables.now.users.backward))) ctx.old.assumptions.failed_core) }
+    ensures named { OnOk result (ctx.new.assumptions.user_core ≡
+        map (carry (chain (at variables.now.solvers.backward) (at variables.now.users.backward))) ctx.old.assumptions.failed_core) }
 {
     carry_literals(
         variables.global_from_solver(),
@@ -105,9 +108,8 @@ pub fn find_named_verdict<W: ProofTarget, A: Allocator + Copy>(
     requires unknown { ctx.old.solver_state.sat_state ≡ SatState.Unknown }
     ensures found { IfOk result (λ found. FindsVerdict (parts_of tracer.old) (parts_of tracer.new) ctx.old ctx.new found) }
     ensures tells { OnOk result (CanTell tracer.new.proof) }
-    // For each number that bounds the variables of the search, and wherever the last change was.
-    ensures counted { (n changed_at : ℕ) → length ctx.old.assignment.current ≤ n → CountsSince changed_at ctx.old → CountsSteps n max_steps (ctx.old.schedule.steps - changed_at) ctx.old.schedule.steps ctx.new.schedule.steps (told_verdict result) }
-    ensures since { OnOk result ((changed_at : ℕ) → CountsSince changed_at ctx.old → CountsSince changed_at ctx.new) }
+    ensures counted { CountsStepsFrom max_steps ctx.old ctx.new (told_verdict result) }
+    ensures since { OnOk result (CountsOnSince ctx.old ctx.new) }
     ensures config { ctx.new.solver_config ≡ ctx.old.solver_config }
 {
     let found = find_verdict(ctx, tracer, max_steps)?;

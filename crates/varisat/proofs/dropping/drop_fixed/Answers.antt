@@ -52,6 +52,16 @@ returns-then-is_err-clause-kept g c = kept g (goal.at.returns-then-is_err-clause
 pub drop_listed-requires-clause-kept : goal.drop_listed-requires-clause-kept
 drop_listed-requires-clause-kept g c = kept g (goal.at.drop_listed-requires-clause-kept g c).In-Ok
 
+pub drop_unneeded-requires-clause-kept : goal.drop_unneeded-requires-clause-kept
+drop_unneeded-requires-clause-kept g c = (c.in_ok-drop_listed.ensures {u = tt}).leave.kept
+
+pub returns-clause-kept : goal.returns-clause-kept
+returns-clause-kept g c = (c.in_ok-drop_unneeded.ensures {u = tt}).leave.kept
+
+pub returns-clause-count : goal.returns-clause-count
+returns-clause-count g c =
+    (c.in_ok-drop_unneeded.ensures {u = tt}).leave.count ∙ (c.in_ok-drop_listed.ensures {u = tt}).leave.count ∙ (c.in-Ok.ensures {u = tt}).goes_on.extends.count
+
 pub returns-then-is_err-clause-stands : goal.returns-then-is_err-clause-stands
 returns-then-is_err-clause-stands g c s fit = begun g (goal.at.returns-then-is_err-clause-stands g c).In-Ok s fit
 
@@ -59,8 +69,8 @@ pub returns-clause-stands : goal.returns-clause-stands
 returns-clause-stands g c s fit =
     let q = c.settle.new.proof.proof in
     let (first, a, proof, fits) = begun g (goal.at.returns-clause-stands g c).In-Ok s fit in
-    let (second, b, mid) = (c.in_ok-drop_listed.ensures {u = tt}).stands (retold first s) fits in
-    let (third, d, last) = (c.in_ok-drop_unneeded.ensures {u = tt}).stands (retold second s) mid in (
+    let (second, b, mid) = (c.in_ok-drop_listed.ensures {u = tt}).leave.stands (retold first s) fits in
+    let (third, d, last) = (c.in_ok-drop_unneeded.ensures {u = tt}).leave.stands (retold second s) mid in (
       third,
       tells-through 0 0 s.told second third (tells-through 0 0 s.told first second a b.more) d.more,
       proof-through s.ever_hidden s.told first third c.args.tracer.now.proof q q proof (proof-quiet s.ever_hidden first third q (λ e. d.quiet e ∙ b.quiet e)),
@@ -75,6 +85,6 @@ returns-then-is_err-clause-since g c =
 pub returns-clause-since : goal.returns-clause-since
 returns-clause-since g c i k =
     let e = c.settle.ensures.kept in
-    (c.in_ok-drop_unneeded.ensures {u = tt}).since i
-    ((c.in_ok-drop_listed.ensures {u = tt}).since i
+    (c.in_ok-drop_unneeded.ensures {u = tt}).leave.since i
+    ((c.in_ok-drop_listed.ensures {u = tt}).leave.since i
     (come-settled _ c.args.ctx.now c.settle.new.ctx (c.in-Ok.ensures {u = tt}).goes_on (ap (λ (z : Context g.row.A.Denot). z.schedule) e) (ap (λ (z : Context g.row.A.Denot). z.solver_config) e) i k))

@@ -9,7 +9,7 @@ use Rattle.varisat_search.specs.Forgotten.{search_without}
 use Rattle.varisat_search.specs.Seen.{search_of}
 use Rattle.varisat_search.specs.Contexts.{view}
 use Rattle.varisat.specs.Dropping.{leads_to_unassumed, unassumed_among, FlagsVariables, AreDroppedAlone, LeavesTables}
-use Rattle.varisat.proofs.DroppedKept.{HaveLeft, have-left}
+use Rattle.varisat.proofs.DroppedKept.{HaveLeft, have-left, values-left}
 use Rattle.varisat.proofs.SinceSteps.{come-dropped}
 use Rattle.varisat.proofs.DroppedListed.{on-inside, unmentioned, assumed-stay, unassumed-distinct, unassumed-taken, kept-dropped, none-left, stands-dropped}
 use Rattle.varisat.proofs.dropping.drop_listed.Given.{Over}
@@ -72,25 +72,24 @@ left g c f =
     (subst (λ ls. LeavesTables ls m c.drop_solver_vars.new.variables) (c.deref-3.ensures.value ∙ c.in_ok-list_unassumed.ensures {u = tt} ∙ ap (unassumed_among m) c.trail.ensures) (c.in_ok-drop_solver_vars.ensures {u = tt}).rest)
     e.dropped (ap (λ (z : Context g.row.A.Denot). z.assumptions) e.kept) e.ready e.decidable
 
-pub returns-clause-kept : goal.returns-clause-kept
-returns-clause-kept g c =
-    let here = goal.at.returns-clause-kept g c in
-    kept-dropped (left g here.In_ok-drop_solver_vars (flags g here.In_ok-gone))
-
 pub returns-clause-left : goal.returns-clause-left
 returns-clause-left g c =
     let here = goal.at.returns-clause-left g c in
     none-left (left g here.In_ok-drop_solver_vars (flags g here.In_ok-gone))
 
-pub returns-clause-stands : goal.returns-clause-stands
-returns-clause-stands g c s fit =
-    let here = goal.at.returns-clause-stands g c in
+pub returns-clause-leave : goal.returns-clause-leave
+returns-clause-leave g c =
+    let here = goal.at.returns-clause-leave g c in
     let x = c.args.ctx.now in
     let y = c.drop_variables.new.ctx in
-    stands-dropped (left g here.In_ok-drop_solver_vars (flags g here.In_ok-gone)) c.requires.settled (dropped g here.In_ok-drop_solver_vars)
-    (subst (λ fs. search_of (view y) ≡ search_without fs (search_of (view x))) c.deref-2.ensures.value c.drop_variables.ensures.seen) s fit
-
-pub returns-clause-since : goal.returns-clause-since
-returns-clause-since g c =
     let e = c.drop_variables.ensures in
-    come-dropped c.deref-2.result.now c.args.ctx.now c.drop_variables.new.ctx c.requires.kept.ready c.requires.settled e.ready e.dropped e.decidable (ap (λ (z : Context g.row.A.Denot). z.schedule) e.kept) (ap (λ (z : Context g.row.A.Denot). z.solver_config) e.kept)
+    let gone = left g here.In_ok-drop_solver_vars (flags g here.In_ok-gone) in
+    record {
+      kept = kept-dropped gone;
+      since = come-dropped c.deref-2.result.now x y c.requires.kept.ready c.requires.settled e.ready e.dropped e.decidable
+          (ap (λ (z : Context g.row.A.Denot). z.schedule) e.kept) (ap (λ (z : Context g.row.A.Denot). z.solver_config) e.kept);
+      count = values-left gone;
+      stands = λ s fit.
+          stands-dropped gone c.requires.settled (dropped g here.In_ok-drop_solver_vars)
+          (subst (λ fs. search_of (view y) ≡ search_without fs (search_of (view x))) c.deref-2.ensures.value e.seen) s fit;
+    }

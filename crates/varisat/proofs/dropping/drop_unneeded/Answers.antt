@@ -7,7 +7,7 @@ use Rattle.varisat_search.specs.Forgotten.{search_without}
 use Rattle.varisat_search.specs.Seen.{search_of}
 use Rattle.varisat_search.specs.Contexts.{view}
 use Rattle.varisat.specs.Dropping.{FlagsVariables, ListsUnneeded, AreReleased, LeavesTables}
-use Rattle.varisat.proofs.DroppedKept.{HaveLeft, have-left}
+use Rattle.varisat.proofs.DroppedKept.{HaveLeft, have-left, values-left}
 use Rattle.varisat.proofs.SinceSteps.{come-dropped}
 use Rattle.varisat.proofs.DroppedUnneeded.{unneeded-inside, unneeded-taken, unneeded-unmentioned, named-stay, kept-released, needed-left, stands-released}
 use Rattle.varisat.proofs.dropping.drop_unneeded.Given.{Over}
@@ -63,26 +63,26 @@ left g c f =
     (subst (λ xs. LeavesTables xs c.args.variables.now c.release_solver_vars.new.variables) c.deref-4.ensures.value (c.in_ok-release_solver_vars.ensures {u = tt}).rest)
     e.dropped (ap (λ (z : Context g.row.A.Denot). z.assumptions) e.kept) e.ready e.decidable
 
-pub returns-clause-kept : goal.returns-clause-kept
-returns-clause-kept g c =
-    let here = goal.at.returns-clause-kept g c in
-    kept-released c.requires.left c.in_ok-mentioned.ensures (listed g here.In_ok-list_unneeded) (left g here.In_ok-release_solver_vars (flags g here.In_ok-gone))
-
 pub returns-clause-left : goal.returns-clause-left
 returns-clause-left g c =
     let here = goal.at.returns-clause-left g c in
     needed-left c.requires.left c.in_ok-mentioned.ensures (listed g here.In_ok-list_unneeded) (left g here.In_ok-release_solver_vars (flags g here.In_ok-gone))
 
-pub returns-clause-stands : goal.returns-clause-stands
-returns-clause-stands g c s fit =
-    let here = goal.at.returns-clause-stands g c in
+pub returns-clause-leave : goal.returns-clause-leave
+returns-clause-leave g c =
+    let here = goal.at.returns-clause-leave g c in
     let x = c.args.ctx.now in
     let y = c.drop_variables.new.ctx in
-    stands-released c.requires.left c.in_ok-mentioned.ensures (listed g here.In_ok-list_unneeded) (left g here.In_ok-release_solver_vars (flags g here.In_ok-gone))
-    (subst (λ xs. AreReleased xs c.args.variables.now c.release_solver_vars.new.variables) c.deref-4.ensures.value (c.in_ok-release_solver_vars.ensures {u = tt}).released)
-    (subst (λ fs. search_of (view y) ≡ search_without fs (search_of (view x))) c.deref-3.ensures.value c.drop_variables.ensures.seen) s fit
-
-pub returns-clause-since : goal.returns-clause-since
-returns-clause-since g c =
     let e = c.drop_variables.ensures in
-    come-dropped c.deref-3.result.now c.args.ctx.now c.drop_variables.new.ctx c.requires.kept.ready c.requires.settled e.ready e.dropped e.decidable (ap (λ (z : Context g.row.A.Denot). z.schedule) e.kept) (ap (λ (z : Context g.row.A.Denot). z.solver_config) e.kept)
+    let list = listed g here.In_ok-list_unneeded in
+    let gone = left g here.In_ok-release_solver_vars (flags g here.In_ok-gone) in
+    record {
+      kept = kept-released c.requires.left c.in_ok-mentioned.ensures list gone;
+      since = come-dropped c.deref-3.result.now x y c.requires.kept.ready c.requires.settled e.ready e.dropped e.decidable
+          (ap (λ (z : Context g.row.A.Denot). z.schedule) e.kept) (ap (λ (z : Context g.row.A.Denot). z.solver_config) e.kept);
+      count = values-left gone;
+      stands = λ s fit.
+          stands-released c.requires.left c.in_ok-mentioned.ensures list gone
+          (subst (λ xs. AreReleased xs c.args.variables.now c.release_solver_vars.new.variables) c.deref-4.ensures.value (c.in_ok-release_solver_vars.ensures {u = tt}).released)
+          (subst (λ fs. search_of (view y) ≡ search_without fs (search_of (view x))) c.deref-3.ensures.value e.seen) s fit;
+    }

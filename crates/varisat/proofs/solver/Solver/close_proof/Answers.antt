@@ -1,7 +1,10 @@
-use Rattle.std.proofs.Common.{◌∙◌, None, false, not, refl, sym, ap, subst, inl}
+use Rattle.std.proofs.Common.{◌∙◌, None, Ok, Err, false, not, refl, sym, ap, subst}
 use Rattle.std.specs.declared.io.Error.{Error}
-use Rattle.varisat_proof.specs.Proving.{ProofParts}
+use Rattle.varisat_proof.specs.Proving.{ProofParts, IsClosed}
 use Rattle.varisat_tracer.specs.Tracing.{CanTell}
+use Rattle.varisat.specs.OpenProofs.{opened_state}
+use Rattle.varisat.specs.declared.solver.SolverError.{SolverError}
+use Rattle.varisat.specs.declared.solver.SolverError.TheVariants.{ProofIoError}
 use Rattle.varisat.specs.States.{Ledger}
 use Rattle.varisat.specs.Calls.{count_anew}
 use Rattle.varisat.specs.ProofCalls.{with_proof}
@@ -29,10 +32,21 @@ returns-in-Ok-clause-call g c s st =
     let q = rw (← c.self.view_is) at st in
     let ok = ap not c.if-self.false in (
       count_anew (with_proof None s),
-      (inl (stands-valid _ s q ok, closed-back Error g.W.ProofTarget.taken _ s.proof c.in-Ok.target (q.proof ok).same c.in-Ok.ensures.taken), refl),
+      (
+        (λ v.
+            closed-back Error SolverError g.W.ProofTarget.taken (opened_state s.proof) c.in-Ok.target
+            (subst (λ o. IsClosed {E = Error} g.W.ProofTarget.taken o (Ok c.in-Ok.target)) (q.proof ok).same c.in-Ok.ensures.taken)),
+        refl,
+      ),
       stands-with-proof c.self.inside.tracer.variables c.self.inside.tracer.proof c.close_proof.new.proof c.self.inside.started c.self.inside.changed_at c.steps-self-inside-in-Ok.result c.self.inside.ctx s None c.steps-self-inside-in-Ok.ensures.steps
           (ap (λ (p : ProofParts). p.opened) c.close_proof.ensures.closed) tt q,
     )
+
+pub returns-in-Ok-clause-handed : goal.returns-in-Ok-clause-handed
+returns-in-Ok-clause-handed g c = rw (← c.self.view_is) (closed-back Error SolverError g.W.ProofTarget.taken _ c.in-Ok.target c.in-Ok.ensures.taken)
+
+pub returns-in-Err-clause-handed : goal.returns-in-Err-clause-handed
+returns-in-Err-clause-handed g c = rw (← c.self.view_is) (closed-fails g.W.ProofTarget.taken _ c.in-Err.cause (ProofIoError c.in-Err.cause) c.in-Err.target c.in-Err.ensures.taken)
 
 pub returns-in-Ok-clause-written : goal.returns-in-Ok-clause-written
 returns-in-Ok-clause-written g c s st v p e = let q = rw (← c.self.view_is) at st in proof-of s p (journal-of _ s q (ap not c.if-self.false)) e
@@ -41,9 +55,9 @@ pub returns-in-Err-clause-call : goal.returns-in-Err-clause-call
 returns-in-Err-clause-call g c s st =
     let q = rw (← c.self.view_is) at st in
     let ok = ap not c.if-self.false in
-    let (p, is, took) = closed-fails g.W.ProofTarget.taken _ s.proof c.in-Err.cause c.in-Err.target (q.proof ok).same c.in-Err.ensures.taken in (
+    let closed = subst (λ o. IsClosed g.W.ProofTarget.taken o (Err (c.in-Err.cause, c.in-Err.target))) (q.proof ok).same c.in-Err.ensures.taken in (
       broken s,
-      (p, is, took, broken-invalid s (stands-valid _ s q ok) (q.fits ok).1.well_formed),
+      (closed-fails g.W.ProofTarget.taken (opened_state s.proof) c.in-Err.cause (ProofIoError c.in-Err.cause) c.in-Err.target closed, broken-invalid s (stands-valid _ s q ok) (q.fits ok).1.well_formed),
       record { ledger = ap (λ (l : Ledger). record l { valid = false }) q.ledger; fits = λ v. absurd cc; proof = λ v. absurd cc },
     )
 

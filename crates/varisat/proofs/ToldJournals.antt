@@ -1,5 +1,5 @@
 -- What was told as a whole.
-use Rattle.std.proofs.Common.{◌≡◌, true, Option, Some, List, [], subst}
+use Rattle.std.proofs.Common.{◌≡◌, true, Some, List, [], subst}
 use Rattle.varisat_theory.specs.Literals.{Clause}
 use Rattle.varisat_theory.specs.Derivations.{IsDerivation, Refutes}
 use Rattle.varisat_theory.specs.Journals.{Leads, lines_of}

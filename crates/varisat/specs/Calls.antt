@@ -1,7 +1,7 @@
 -- Which answer and which new state each call may give: one relation a call, with a case for each answer. A case that is ⊥ is an answer that the call never gives.
 --
 -- Refusals are looked for in this order: Invalid; then `add_clause` returns Ok under the verdict Unsat; VariableLimit; WitnessVar; ConfigOutOfRange; OutOfMemory, ClauseStoreFull or ProofIoError, whichever comes first; Interrupted.
-use Rattle.std.specs.Prelude.{◌≡◌, ◌≢◌, ℕ, ◌+◌, ◌-◌, ◌*◌, ◌^◌, ◌<◌, ◌≤◌, Bool, true, false, Option, Some, None, List, [], ◌∷◌, ◌++◌, ◌⊎◌, Result, Ok, Err, map, length}
+use Rattle.std.specs.Prelude.{◌≡◌, ◌≢◌, ℕ, ◌+◌, ◌-◌, ◌<◌, ◌≤◌, Bool, true, false, Option, Some, None, List, [], ◌∷◌, ◌++◌, ◌⊎◌, Result, Ok, Err, map, length}
 use Rattle.std.specs.declared.alloc.AllocError.{AllocError}
 use Rattle.varisat_theory.specs.Membership.{◌∈◌}
 use Rattle.varisat_theory.specs.Literals.{Literal, Clause, variable_of, opposite, IsUnit, IsSatisfiable}

@@ -1,5 +1,5 @@
 -- What the calls of a new solver and their answers say so far, and how a call moves it: no state of the solver is spoken of.
-use Rattle.std.specs.Prelude.{◌≡◌, ℕ, ◌+◌, ◌-◌, ◌*◌, ◌^◌, ◌<◌, ◌≤◌, Bool, true, false, Option, Some, None, List, [], ◌∷◌, ◌++◌, Result, Ok, Err, map, length, ◌⊎◌, is_some}
+use Rattle.std.specs.Prelude.{◌≡◌, ℕ, ◌+◌, ◌-◌, ◌<◌, ◌≤◌, Bool, true, false, Option, Some, None, List, [], ◌∷◌, ◌++◌, Result, Ok, Err, map, length, ◌⊎◌, is_some}
 use Rattle.std.specs.declared.alloc.AllocError.{AllocError}
 use Rattle.varisat_theory.specs.Literals.{Literal, Clause, variable_of, IsSatisfiable, IsSatisfiableWith, IsFailedCore}
 use Rattle.varisat_formula.specs.Streams.{Stand, Taken}

@@ -1,4 +1,4 @@
-use Rattle.std.proofs.Common.{◌∙◌, None, Ok, Err, false, not, refl, sym, ap, subst}
+use Rattle.std.proofs.Common.{None, Ok, Err, false, not, refl, sym, ap, subst}
 use Rattle.std.specs.declared.io.Error.{Error}
 use Rattle.varisat_proof.specs.Proving.{ProofParts, IsClosed}
 use Rattle.varisat_tracer.specs.Tracing.{CanTell}

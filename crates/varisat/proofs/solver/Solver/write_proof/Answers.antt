@@ -1,4 +1,4 @@
-use Rattle.std.proofs.Common.{◌∙◌, ◌∷◌, [], Some, not, refl, sym, ap, subst}
+use Rattle.std.proofs.Common.{◌∙◌, Some, not, refl, sym, ap, subst}
 use Rattle.varisat_proof.specs.Proving.{ProofParts}
 use Rattle.varisat_tracer.specs.Tracing.{CanTell}
 use Rattle.varisat.specs.OpenProofs.{first_proof}
@@ -6,7 +6,7 @@ use Rattle.varisat.specs.States.{Ledger}
 use Rattle.varisat.specs.Calls.{count_anew}
 use Rattle.varisat.specs.ProofCalls.{with_proof}
 use Rattle.varisat.proofs.CallStates.{stands-valid}
-use Rattle.varisat.proofs.OpenProofs.{first-same, first-written, none-there, open-there}
+use Rattle.varisat.proofs.OpenProofs.{first-same, first-written, none-there}
 use Rattle.varisat.proofs.SettingsCalls.{stands-with-proof}
 use Rattle.varisat.proofs.SinceSteps.{since-now}
 use Rattle.varisat.proofs.solver.Solver.write_proof.Goals as goal

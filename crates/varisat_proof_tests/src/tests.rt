@@ -4,5 +4,6 @@ mod checks;
 mod faults;
 mod marked;
 mod programs;
+mod proofs;
 mod random;
 mod steps;

@@ -1,0 +1,176 @@
+//! The proof of a solver: by which calls its target takes the lines, and when it is flushed.
+ghost use Rattle.std.specs.Prelude.{◌≡◌, ◌+◌, ◌-◌, ◌<◌, ◌^◌};
+
+use std::alloc::Global;
+use std::io;
+use std::io::ErrorKind;
+use varisat_formula::io::ProofTarget;
+use varisat_literals::lits;
+use varisat_proof::proof::ProofFormat::{self, BinaryDrat, Drat, Marked};
+use varisat_proof::proof::{
+    Proof, ProofStep, WriteError, add_assumptions, add_clause, close_proof, flush_proof,
+    solve_finished, take_target, write_step,
+};
+
+/// A target that counts its calls. The `put` of the given number, from 1 on, takes nothing and fails (0: none does), and
+/// each `flush` fails where that is set.
+#[derive(Drop)]
+struct CountingTarget {
+    bytes: Vec<u8, Global>,
+    faults: u64,
+    puts: u64,
+    flushes: u64,
+    failing_put: u64,
+    flush_fails: bool,
+}
+
+impl CountingTarget {
+    fn new(alloc: Global, failing_put: u64, flush_fails: bool) -> CountingTarget
+        ensures { result.faults ≡ 0 }
+    {
+        CountingTarget {
+            bytes: Vec::new(alloc),
+            faults: 0,
+            puts: 0,
+            flushes: 0,
+            failing_put,
+            flush_fails,
+        }
+    }
+
+    /// Counts a fault.
+    fn fault(&mut self) -> io::Error
+        requires { self.old.faults < 2 ^ 64 - 1 }
+        ensures faults { self.new.faults ≡ self.old.faults + 1 }
+        ensures bytes { self.new.bytes ≡ self.old.bytes }
+    {
+        self.faults += 1;
+        io::Error::from(ErrorKind::Other)
+    }
+}
+
+impl ProofTarget for CountingTarget {
+    ghost taken = { λ t. record { bytes = t.bytes.items; faults = t.faults } };
+
+    fn put(&mut self, bytes: &[u8]) -> io::Result<()> {
+        self.puts = self.puts.saturating_add(1);
+        if self.puts == self.failing_put {
+            return Err(self.fault());
+        }
+        match self.bytes.extend_from_slice(bytes) {
+            Ok(()) => Ok(()),
+            Err(_) => Err(self.fault()),
+        }
+    }
+
+    fn flush(&mut self) -> io::Result<()> {
+        self.flushes = self.flushes.saturating_add(1);
+        if self.flush_fails {
+            return Err(self.fault());
+        }
+        Ok(())
+    }
+
+    fn faults(&self) -> u64 {
+        self.faults
+    }
+}
+
+/// Whether the lines of three units are written as these bytes by so many calls of `put`, where the one of the given
+/// number fails.
+fn writes_units(alloc: Global, failing_put: u64, bytes: &[u8], puts: u64) -> bool {
+    let mut buffer: Vec<u8> = Vec::new(alloc);
+    let mut target = CountingTarget::new(alloc, failing_put, false);
+    let units = lits![1, -2, 3];
+    let step = ProofStep::UnitClauses { units: &units };
+    let is_right = match write_step(&mut target, &mut buffer, &step) {
+        Ok(()) => failing_put == 0,
+        Err(WriteError::Target(_)) => failing_put > 0,
+        Err(WriteError::Memory) => false,
+    };
+    is_right && target.bytes.as_slice() == bytes && target.puts == puts
+}
+
+// Each line is one `put`, and none follows one that failed.
+#[test]
+fn puts_of_units(rt: HostRuntime) {
+    let alloc = rt.alloc();
+    assert!(rt; writes_units(alloc, 0, b"1 0\n-2 0\n3 0\n", 3));
+    assert!(rt; writes_units(alloc, 1, b"", 1));
+    assert!(rt; writes_units(alloc, 2, b"1 0\n", 2));
+    assert!(rt; writes_units(alloc, 3, b"1 0\n-2 0\n", 3));
+}
+
+/// Whether the proof's target took these bytes, and was flushed so many times.
+fn took(proof: &mut Proof<CountingTarget, Global>, bytes: &[u8], flushes: u64) -> bool {
+    match take_target(proof) {
+        None => false,
+        Some(target) => target.bytes.as_slice() == bytes && target.flushes == flushes,
+    }
+}
+
+/// Whether an accepted clause is written as these bytes, without a flush.
+fn writes_clause(alloc: Global, format: ProofFormat, bytes: &[u8]) -> bool {
+    let mut proof = Proof::new_in(alloc);
+    proof.write_proof(CountingTarget::new(alloc, 0, false), format);
+    let is_told = add_clause(&mut proof, &lits![1, -2, 1]).is_ok();
+    is_told && took(&mut proof, bytes, 0)
+}
+
+/// Whether assumptions are written as these bytes, without a flush.
+fn writes_assumptions(alloc: Global, format: ProofFormat, bytes: &[u8]) -> bool {
+    let mut proof = Proof::new_in(alloc);
+    proof.write_proof(CountingTarget::new(alloc, 0, false), format);
+    let is_told = add_assumptions(&mut proof, &lits![-2, 2]).is_ok();
+    is_told && took(&mut proof, bytes, 0)
+}
+
+// Only marked text has lines of what a solver accepts. The literals keep their order, and each stands as often as it was
+// given.
+#[test]
+fn written_inputs(rt: HostRuntime) {
+    let alloc = rt.alloc();
+    assert!(rt; writes_clause(alloc, Marked, b"i 1 -2 1 0\n"));
+    assert!(rt; writes_clause(alloc, Drat, b""));
+    assert!(rt; writes_clause(alloc, BinaryDrat, b""));
+    assert!(rt; writes_assumptions(alloc, Marked, b"q -2 2 0\n"));
+    assert!(rt; writes_assumptions(alloc, Drat, b""));
+    assert!(rt; writes_assumptions(alloc, BinaryDrat, b""));
+}
+
+/// How often a target is flushed at the end of a search, or else by `flush_proof`, and whether the call returns Ok.
+fn flushes(alloc: Global, is_search_end: bool, fails: bool) -> (u64, bool) {
+    let mut proof = Proof::new_in(alloc);
+    proof.write_proof(CountingTarget::new(alloc, 0, fails), Drat);
+    let is_ok = if is_search_end {
+        solve_finished(&mut proof).is_ok()
+    } else {
+        flush_proof(&mut proof).is_ok()
+    };
+    match take_target(&mut proof) {
+        None => (0, false),
+        Some(target) => (target.flushes, is_ok),
+    }
+}
+
+/// How often a target is flushed as its proof is closed, and whether that returns Ok.
+fn flushes_of_close(alloc: Global, fails: bool) -> (u64, bool) {
+    let mut proof = Proof::new_in(alloc);
+    proof.write_proof(CountingTarget::new(alloc, 0, fails), Drat);
+    match close_proof(&mut proof) {
+        Ok(None) => (0, false),
+        Ok(Some(target)) => (target.flushes, true),
+        Err((_, target)) => (target.flushes, false),
+    }
+}
+
+#[test]
+fn flushed_targets(rt: HostRuntime) {
+    let alloc = rt.alloc();
+    for is_search_end in [false, true] {
+        assert!(rt; flushes(alloc, is_search_end, false) == (1, true));
+        assert!(rt; flushes(alloc, is_search_end, true) == (1, false));
+    }
+    assert!(rt; flushes_of_close(alloc, false) == (1, true));
+    assert!(rt; flushes_of_close(alloc, true) == (1, false));
+}

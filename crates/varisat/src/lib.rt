@@ -13,42 +13,67 @@ pub mod solver;
 mod solving;
 mod usage;
 
+/// The clauses of two literals.
+pub mod binary {
+    pub use varisat_prop::binary::BinaryClauses;
+    pub use varisat_search::unit_simplify::simplify_binary;
+}
+
+/// The store of the clauses of three or more literals: headers, tiers, activities, reductions and the collector.
+pub mod clause {
+    pub use varisat_clause::activity::{
+        ClauseActivity, bump_clause_activity, decay_clause_activities,
+    };
+    pub use varisat_clause::alloc::{ClauseAlloc, ClauseRef, StoreError};
+    pub use varisat_clause::clause::{Clause, ClauseHeaderMut, ClauseMut};
+    pub use varisat_clause::db::{
+        ClauseDb, add_clause, delete_clause, set_clause_tier, try_delete_clause,
+    };
+    pub use varisat_clause::filter::{ClauseFilter, filter_clauses};
+    pub use varisat_clause::header::{ClauseHeader, Tier};
+    pub use varisat_clause::iter::{Clauses, clauses_iter};
+    pub use varisat_clause::reduce::{clear_marks, dedup_and_mark_by_tier};
+    pub use varisat_search::assess::{assess_learned_clause, bump_clause};
+    pub use varisat_search::collect::collect_garbage;
+    pub use varisat_search::reduce::{reduce_locals, reduce_mids};
+}
+
 /// The parts of a search that propagate, and backtracking.
 pub mod prop {
     pub use varisat_prop::prop::{
-        Assignment, Conflict, ImplGraph, ImplNode, Reason, Trail, enqueue_assignment, propagate,
+        Assignment, Conflict, ImplGraph, ImplNode, Reason, Trail, Watch, Watchlists,
+        enable_watchlists, enqueue_assignment, propagate, propagate_binary, propagate_long,
     };
     pub use varisat_search::levels::{backtrack, full_restart, restart};
 }
 
-/// The parts of a search that learn.
+/// One search: learning, deciding, assuming, loading, simplifying, and the steps of its schedule.
 pub mod search {
     pub use varisat_search::analyze_conflict::{AnalyzeConflict, analyze_conflict};
-    pub use varisat_search::assess::{assess_learned_clause, bump_clause};
     pub use varisat_search::assumptions::{
         Assumptions, EnqueueAssumption, enqueue_assumption, set_assumptions,
     };
     pub use varisat_search::cdcl::{FoundConflict, conflict_step};
-    pub use varisat_search::collect::collect_garbage;
     pub use varisat_search::context::{Context, set_var_count};
     pub use varisat_search::decision::{
         Vsids, initialize_var, make_available, make_decision, remove_var,
     };
+    pub use varisat_search::error::StepError;
     pub use varisat_search::glue::{LevelAbstraction, compute_glue};
     pub use varisat_search::load::{load_clause, resurrect_unit};
     pub use varisat_search::model::{Model, reconstruct_global_model};
-    pub use varisat_search::reduce::{reduce_locals, reduce_mids};
     pub use varisat_search::schedule::{LubySequence, Schedule, schedule_step};
     pub use varisat_search::state::{SatState, SolverState};
     pub use varisat_search::tmp::{TmpData, TmpFlags};
     pub use varisat_search::unit_simplify::{prove_units, unit_simplify};
+    pub use varisat_trace::{NoTracer, ProofTracer, TraceError};
 }
 
 /// The maps between names, global variables and solver variables, and what is kept of global variables.
 pub mod variables {
     pub use varisat_names::variables::{
         Direction, GlobalVars, LinkedVariables, SamplingMode, UserVars, VarBiMap, VarBiMapMut,
-        VarData, VarMap, Variables, data, iter, linked, var_map,
+        VarData, VarMap, Variables,
     };
     pub use varisat_search::variables::{
         global_from_user, initialize_solver_var, new_user_var, observe_internal_vars,
@@ -57,15 +82,10 @@ pub mod variables {
     };
 }
 
-pub use solver::{Solver, SolverError};
+pub use solver::Solver;
 pub use varisat_formula::formula::{CnfFormula, ExtendFormula};
 pub use varisat_formula::{cnf, cnf_formula, dimacs, formula, io};
 pub use varisat_literals::{Lit, Var, lit, lits, var};
 pub use varisat_names::config;
 pub use varisat_proof::proof::ProofFormat;
 pub use varisat_proof::{checker, proof};
-pub use varisat_prop::clause;
-pub use varisat_search::{
-    analyze_conflict, assess, assumptions, cdcl, collect, context, decision, glue, load, model,
-    reduce, schedule, state, tmp,
-};

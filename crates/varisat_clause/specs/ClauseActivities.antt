@@ -15,6 +15,10 @@ pub record ActivityScale : Type 0 where
   pub increment : ℕ
   pub decay : ℕ
 
+-- the scale of a new store
+abbrev pub first_scale : ActivityScale
+first_scale = record { increment = least_clause_increment; decay = 999 }
+
 -- what the numbers keep to between calls
 pub record AreWithinClauseLimits (increment decay : ℕ) : Type 0 where
   pub least : least_clause_increment ≤ increment

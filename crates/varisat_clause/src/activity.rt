@@ -5,7 +5,7 @@
 ghost use Rattle.std.specs.Prelude.{◌≡◌, ℕ, ◌+◌, ◌*◌, ◌/◌, ◌^◌, ◌<◌, ◌≤◌, length, max, true, false};
 ghost use Rattle.varisat_clause.specs.Stored.{IsPlace, header_at};
 ghost use Rattle.varisat_clause.specs.Stores.{stored_clauses, IsSound, HoldsClauses};
-ghost use Rattle.varisat_clause.specs.ClauseActivities.{ActivityScale, least_clause_increment, clause_activity_limit, AreWithinClauseLimits, with_activity, clauses_shifted, scale_shifted, clauses_rescaled, scale_rescaled, reaches_clause_limit};
+ghost use Rattle.varisat_clause.specs.ClauseActivities.{ActivityScale, least_clause_increment, clause_activity_limit, first_scale, AreWithinClauseLimits, with_activity, clauses_shifted, scale_shifted, clauses_rescaled, scale_rescaled, reaches_clause_limit};
 
 use crate::alloc::{ClauseAlloc, ClauseRef};
 use std::alloc::Allocator;
@@ -36,10 +36,22 @@ impl Model for ClauseActivity {
     ghost invariant = { λ a. AreWithinClauseLimits a.increment a.decay };
 }
 
+impl Default for ClauseActivity {
+    ghost use Rattle.std.specs.Prelude.{◌≡◌};
+    ghost use Rattle.varisat_clause.specs.ClauseActivities.{first_scale};
+
+    ghost is_default = { λ a. a ≡ first_scale };
+
+    /// As `new`.
+    fn default() -> ClauseActivity {
+        ClauseActivity::new()
+    }
+}
+
 impl ClauseActivity {
     /// The least increment, and a decay of 999 thousandths.
     pub fn new() -> ClauseActivity
-        ensures { result ≡ record { increment = least_clause_increment; decay = 999 } }
+        ensures { result ≡ first_scale }
     {
         ClauseActivity {
             increment: LEAST_INCREMENT,

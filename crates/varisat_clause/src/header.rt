@@ -74,6 +74,18 @@ impl Model for ClauseHeader {
     ghost inverse_ok = { λ h small. flags-back h small };
 }
 
+impl Default for ClauseHeader {
+    ghost use Rattle.std.specs.Prelude.{◌≡◌};
+    ghost use Rattle.varisat_clause.specs.Headers.{no_header};
+
+    ghost is_default = { λ h. h ≡ no_header };
+
+    /// As `new`.
+    fn default() -> ClauseHeader {
+        ClauseHeader::new()
+    }
+}
+
 impl ClauseHeader {
     /// The header of an `Irred` clause that is neither deleted, marked nor active, with activity, glue and length 0.
     pub fn new() -> ClauseHeader

@@ -1,5 +1,6 @@
 pub mod BinaryPropagated
 pub mod ClauseOrder
+mod CountedPairs
 pub mod DistinctPlaces
 pub mod EnqueueAssignment
 mod FalseFlags

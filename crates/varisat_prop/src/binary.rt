@@ -27,7 +27,7 @@ impl<A: Allocator + Copy> Model for BinaryClauses<A> {
 impl<A: Allocator + Copy> BinaryClauses<A> {
     ghost use Rattle.std.specs.Borrow.{sem};
     ghost use Rattle.varisat_prop.specs.Lending.{lends_implied};
-    ghost use Rattle.varisat_prop.specs.Pairs.{with_pair};
+    ghost use Rattle.varisat_prop.specs.Pairs.{with_pair, pair_count};
 
     /// No lists. It takes no memory.
     pub fn new_in(alloc: A) -> BinaryClauses<A>
@@ -53,6 +53,26 @@ impl<A: Allocator + Copy> BinaryClauses<A> {
     {
         push_lists(&mut self.by_lit, 2 * count)?;
         Ok(())
+    }
+
+    /// The list at the place.
+    fn list(&self, place: usize) -> &[Lit]
+        requires { place < length self.now }
+        ensures { result.now ≡ slice_index_or self.now place [] }
+    {
+        self.by_lit[place].as_slice()
+    }
+
+    /// How many clauses there are.
+    pub fn count(&self) -> usize
+        ensures { result ≡ pair_count self.now }
+    {
+        let mut entries: usize = 0;
+        'lists: for place in 0..self.len() {
+            entries = entries.saturating_add(self.list(place).len());
+        }
+        // Each clause stands in two lists.
+        entries / 2
     }
 
     /// What the literal implies, to be added to.
@@ -90,7 +110,7 @@ impl<A: Allocator + Copy> BinaryClauses<A> {
         requires { lit < length self.now }
         ensures { result.now ≡ slice_index_or self.now lit [] }
     {
-        self.by_lit[lit.code()].as_slice()
+        self.list(lit.code())
     }
 
     /// Takes from the literal's list what has a value, and all of it where the literal has one itself.

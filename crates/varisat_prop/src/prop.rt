@@ -10,6 +10,7 @@ pub mod trail;
 pub mod watch;
 
 pub use assignment::Assignment;
+pub use binary::propagate_binary;
 pub use enqueue::enqueue_assignment;
 pub use graph::{Conflict, ImplGraph, ImplNode, Reason};
 pub use long::propagate_long;

@@ -1,6 +1,6 @@
 use Rattle.std.proofs.Common.{arith}
 use Rattle.std.proofs.lemmas.Grind.{common_steps}
-use Rattle.varisat_prop.proofs.binary.BinaryClauses.implied.Goals as goal
+use Rattle.varisat_prop.proofs.binary.BinaryClauses.list.Goals as goal
 
 pub index-requires : goal.index-requires
 index-requires g c = grind (arith, common_steps)

@@ -1,4 +1,5 @@
-use Rattle.std.proofs.Common.{sym, subst}
+use Rattle.std.proofs.lemmas.Grind.{common_steps}
+use Rattle.std.proofs.Common.{sym, subst, arith}
 use Rattle.varisat_names.specs.VarData.{AreDeleted}
 use Rattle.varisat_names.proofs.variables.globals.Globals.delete.Goals as goal
 
@@ -6,3 +7,6 @@ pub returns-in_err-insert-clause-listed : goal.returns-in_err-insert-clause-list
 returns-in_err-insert-clause-listed g c =
     let listed = subst (λ k. AreDeleted k.kept k.free) (sym c.self.view_is) c.requires.listed in
     subst (λ ks. AreDeleted c.self.inside.data.items (record { keys = ks })) (sym c.in_err-insert.ensures.err) listed
+
+pub returns-clause-deleted : goal.returns-clause-deleted
+returns-clause-deleted g c = grind (arith, common_steps)

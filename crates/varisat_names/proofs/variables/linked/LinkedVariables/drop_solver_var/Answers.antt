@@ -1,4 +1,5 @@
-use Rattle.std.proofs.Common.{sym, ap, ◌∙◌, refl, true}
+use Rattle.std.proofs.lemmas.Grind.{common_steps}
+use Rattle.std.proofs.Common.{sym, ap, ◌∙◌, refl, true, arith}
 use Rattle.varisat_names.specs.VarMap.{at}
 use Rattle.varisat_names.specs.VarBiMap.{turned}
 use Rattle.varisat_names.proofs.Tables.{live-inside}
@@ -41,3 +42,6 @@ invariant_of-self-2 g c =
           (λ r. same-tables _ _ (turned solvers) _ refl (ap turned r) refl linked),
       record { users = listed.users; solvers = c.release.ensures.listed; globals = listed.globals },
     )
+
+pub returns-clause-dropped : goal.returns-clause-dropped
+returns-clause-dropped g c = grind (arith, common_steps)

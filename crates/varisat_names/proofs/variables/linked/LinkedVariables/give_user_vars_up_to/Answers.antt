@@ -1,3 +1,4 @@
+use Rattle.std.proofs.lemmas.Grind.{common_steps}
 use Rattle.std.proofs.Common.{length, subst, arith}
 use Rattle.varisat_names.specs.Variables.{IsGiven, AreNextGiven}
 use Rattle.varisat_names.proofs.Tables.{one-more}
@@ -19,3 +20,6 @@ returns-clause-given g c =
     let ended = c.loop-index-test.false in
     let bounded = c.loop-index.invariant.bounded in
     subst (λ k. AreNextGiven k c.args.self.now c.loop-index.self) (omega (arith, ended, bounded, c.index-index-end.ensures.index)) c.loop-index.invariant.names
+
+pub give_user_var-requires-clause-free : goal.give_user_var-requires-clause-free
+give_user_var-requires-clause-free g c = grind (arith, common_steps)

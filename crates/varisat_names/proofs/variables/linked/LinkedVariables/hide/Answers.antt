@@ -1,4 +1,5 @@
-use Rattle.std.proofs.Common.{sym, ap, ◌∙◌, refl, true}
+use Rattle.std.proofs.lemmas.Grind.{common_steps}
+use Rattle.std.proofs.Common.{sym, ap, ◌∙◌, refl, true, arith}
 use Rattle.varisat_names.specs.VarMap.{at}
 use Rattle.varisat_names.proofs.Tables.{live-inside}
 use Rattle.varisat_names.proofs.Linked.{free-users, hide-users, same-tables, on-either-two, unused-none}
@@ -38,3 +39,6 @@ invariant_of-self-2 g c =
     let named = named-before same c.self.invariant c.args.user c.args.global c.self.view_is c.requires in
     let live = named-live same c.self.invariant c.args.user c.args.global c.self.view_is c.requires in
     (hide-users _ c.release.new.self.pairs c.set_data.new.self.kept c.args.user c.args.global _ linked (ap (λ d. d.deleted) c.data-kept.ensures ∙ live) named c.in_ok-release.ensures.parted c.set_data.ensures.kept, record { users = c.release.ensures.listed; solvers = listed.solvers; globals = c.set_data.ensures.listed })
+
+pub set_data-requires-clause-made : goal.set_data-requires-clause-made
+set_data-requires-clause-made g c = grind (arith, common_steps)

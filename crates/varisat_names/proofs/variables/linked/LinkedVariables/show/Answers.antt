@@ -1,4 +1,5 @@
-use Rattle.std.proofs.Common.{ap, ◌∙◌}
+use Rattle.std.proofs.lemmas.Grind.{common_steps}
+use Rattle.std.proofs.Common.{ap, ◌∙◌, arith}
 use Rattle.varisat_names.specs.VarMap.{at}
 use Rattle.varisat_names.specs.VarData.{kept_at}
 use Rattle.varisat_names.proofs.Linked.{keep-live, join-users}
@@ -18,3 +19,9 @@ invariant_of-self-2 g c =
     let free = ap (λ s. at s.variables.tables.users.forward user) w ∙ c.next_unmapped_user-user.ensures.least.0 in
     let given = join-users _ c.give.new.self.pairs user c.args.global linked live free unnamed c.in_ok-give.ensures.joined in
     (keep-live _ c.set_data.new.self.kept c.args.global _ given (ap (λ d. d.deleted) c.data-kept.ensures ∙ live) c.set_data.ensures.kept, record { users = c.give.ensures.listed; solvers = listed.solvers; globals = c.set_data.ensures.listed })
+
+pub data-kept-requires : goal.data-kept-requires
+data-kept-requires g c = grind (arith, common_steps)
+
+pub set_data-requires-clause-made : goal.set_data-requires-clause-made
+set_data-requires-clause-made g c = grind (arith, common_steps)

@@ -1,4 +1,5 @@
-use Rattle.std.proofs.Common.{ap, sym, ◌∙◌, subst}
+use Rattle.std.proofs.lemmas.Grind.{common_steps}
+use Rattle.std.proofs.Common.{ap, sym, ◌∙◌, subst, arith}
 use Rattle.varisat_names.specs.VarMap.{at}
 use Rattle.varisat_names.specs.Maps.{IsInverse}
 use Rattle.varisat_names.specs.VarBiMap.{IsJoined}
@@ -24,3 +25,12 @@ pub invariant_of-self-in-Err : goal.invariant_of-self-in-Err
 invariant_of-self-in-Err g c =
     let fwd = cut-back c.self.inside.fwd _ c.reach.new.self c.cut.new.self c.watermark-watermark.result c.watermark-watermark.ensures c.in_ok-reach.ensures.reached c.cut.ensures in
     subst (λ f. IsInverse (at f) (at c.reach-2.new.self)) (sym fwd) (subst (λ b. IsInverse (at c.self.inside.fwd) (at b)) (sym c.in-Err.ensures.refused) c.self.invariant)
+
+pub returns-in-Err-clause-refused : goal.returns-in-Err-clause-refused
+returns-in-Err-clause-refused g c = grind (arith, common_steps)
+
+pub put-requires : goal.put-requires
+put-requires g c = grind (arith, common_steps)
+
+pub put-requires-2 : goal.put-requires-2
+put-requires-2 g c = grind (arith, common_steps)

@@ -1,3 +1,4 @@
+use Rattle.std.proofs.lemmas.Grind.{common_steps}
 use Rattle.std.proofs.Common.{true, length, set, sym, ap, ◌∙◌, arith}
 use Rattle.varisat_analysis.specs.Marks.{marking}
 use Rattle.varisat_analysis.proofs.AnalysisMarks.{is-at, can-still, added-none, added-late, added-lower}
@@ -36,3 +37,6 @@ loop-lit-preserved g c =
         small = let x = w.count-is in omega (arith, s, x);
       }
     ]
+
+pub returns : goal.returns
+returns g c = grind (arith, common_steps)

@@ -1,3 +1,4 @@
+use Rattle.std.proofs.lemmas.Grind.{common_steps}
 use Rattle.std.proofs.Common.{◌≡◌, false, length, drop, get_or, refl, sym, ap, ◌∙◌, subst, arith}
 use Rattle.varisat_analysis.specs.Learned.{Analysis}
 use Rattle.varisat_analysis.proofs.AnalysisFlags.{given-back}
@@ -34,3 +35,12 @@ invariant_of-analyze-2 g c =
     let value = ap (λ x. length x) c.deref_mut.ensures.value in
     let count = c.analyze.inside.var_flags.ok.0 in
     given-back c.learn_and_clear.new.var_flags (drop (length c.learn_and_clear.new.var_flags) c.analyze.inside.var_flags.items) c.analyze.inside.var_flags.len (omega (arith, long, value, count)) c.learn_and_clear.ensures.unmarked
+
+pub invariant_of-analyze-in_err-level : goal.invariant_of-analyze-in_err-level
+invariant_of-analyze-in_err-level g c = grind (arith, common_steps)
+
+pub returns-in_err-level-clause-count : goal.returns-in_err-level-clause-count
+returns-in_err-level-clause-count g c = grind (arith, common_steps)
+
+pub returns-clause-count : goal.returns-clause-count
+returns-clause-count g c = grind (arith, common_steps)

@@ -1,3 +1,4 @@
+use Rattle.std.proofs.lemmas.Grind.{common_steps}
 use Rattle.std.proofs.Common.{length, ap, arith}
 use Rattle.varisat_prop.proofs.ReadElements.{item-∈}
 use Rattle.varisat_analysis.proofs.analyze_conflict.highest_place.Goals as goal
@@ -15,3 +16,6 @@ level-requires g c =
     let i = range c.index-clause-highest.result (item-∈ c.args.clause.now c.loop-place.highest c.index-clause-highest.result c.loop-place.invariant.within c.index-clause-highest.is) in
     let n = ap (λ x. length x) sees.nodes_are in
     omega (arith, i, n, c.var-in-loop-place.ensures)
+
+pub loop-place-preserved : goal.loop-place-preserved
+loop-place-preserved g c = grind (arith, common_steps)

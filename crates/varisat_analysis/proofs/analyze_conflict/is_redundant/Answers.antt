@@ -1,3 +1,4 @@
+use Rattle.std.proofs.lemmas.Grind.{common_steps}
 use Rattle.std.proofs.Common.{◌≡◌, [], ◌∷◌, ◌++◌, length, ap, ◌∙◌, subst, arith}
 use Rattle.varisat_clause.specs.Collected.{live_clauses}
 use Rattle.varisat_analysis.specs.Marks.{marking}
@@ -75,3 +76,12 @@ pub returns : goal.returns
 returns g c =
     let z : length c.search.scratch.stack.items ≡ 0 = omega (arith, c.in_default.ensures.cases.0, c.search.scratch.stack.ok.0) in
     search-found c.pop.new.self.items (empty-list c.search.scratch.stack.items z) c.search.invariant
+
+pub offset_bounds-deref-top : goal.offset_bounds-deref-top
+offset_bounds-deref-top g c = grind (arith, common_steps)
+
+pub slice_bounds-clear_flags-count : goal.slice_bounds-clear_flags-count
+slice_bounds-clear_flags-count g c = grind (arith, common_steps)
+
+pub slice_bounds-clear_flags-start : goal.slice_bounds-clear_flags-start
+slice_bounds-clear_flags-start g c = grind (arith, common_steps)

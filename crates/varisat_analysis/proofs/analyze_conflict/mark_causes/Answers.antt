@@ -1,3 +1,5 @@
+use Rattle.std.proofs.lemmas.Grind.{common_steps}
+use Rattle.std.proofs.Common.{arith}
 use Rattle.varisat_analysis.proofs.WellFormedViews.{read-inside, reason-read}
 use Rattle.varisat_analysis.proofs.AnalysisMarks.{is-at, can-still}
 use Rattle.varisat_analysis.proofs.AnalysisSearch.{explored-none, explored-one}
@@ -29,3 +31,6 @@ loop-lit-preserved g c =
     let r = reason-read g.s c.args.parts.impl_graph.now.nodes.items c.lit-item.result c.var.result c.reason.result.now can.sees.nodes_are c.var.ensures c.reason.ensures in
     explored-one p c.loop-lit.auto.var_flags c.loop-lit.invariant c.index.result c.reason.result.now c.index.ensures.index r (λ q. let b = c.if-is_unit.ensures.1 q in absurd cc) c.in-Some.ensures.2
     c.push.new.self.items c.push-in-loop-lit.new.self.items c.var-in-loop-lit.result c.not.result c.in_ok-push.ensures.items c.var-in-loop-lit.ensures c.in_ok-push-2.ensures.items c.not.ensures
+
+pub returns : goal.returns
+returns g c = grind (arith, common_steps)

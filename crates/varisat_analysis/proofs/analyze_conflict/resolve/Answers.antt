@@ -1,3 +1,4 @@
+use Rattle.std.proofs.lemmas.Grind.{common_steps}
 use Rattle.std.proofs.Common.{◌-◌, ◌+◌, false, length, length-set, refl, sym, ap, ◌∙◌, subst, arith}
 use Rattle.varisat_theory.specs.Propagation.{IsFalse}
 use Rattle.varisat_prop.specs.Changes.{NamesPlace, named_in}
@@ -63,3 +64,6 @@ places-preserved g c =
     let sees = c.requires.1.can.sees in
     let r = reads-before c.places.invariant (c.trail.ensures ∙ sees.trail_is) c.index-trail-place.is c.index.ensures.index in
     read-resolve sees.well c.requires.1.conflict.deep (c.places.auto.var_flags ∙ c.add_literals.auto.var_flags ∙ c.requires.1.can.flags_are) c.places.invariant r c.if-not-var_flags-index.false c.index-in-places.result c.index-in-places.ensures.index c.if-count-eq0.false c.in_ok-count-2.field-0 (c.places.count - 1 + c.in_ok-count-2.field-0) (marking c.add_reason.new.scratch c.add_reason.new.var_flags) refl (c.in_ok-count-2.ensures {u = tt})
+
+pub bounds-var_flags-index-in-places : goal.bounds-var_flags-index-in-places
+bounds-var_flags-index-in-places g c = grind (arith, common_steps)

@@ -1,4 +1,5 @@
-use Rattle.std.proofs.Common.{refl}
+use Rattle.std.proofs.lemmas.Grind.{common_steps}
+use Rattle.std.proofs.Common.{refl, arith}
 use Rattle.varisat_prop.specs.Parts.{IsMadeTrue}
 use Rattle.varisat_prop.proofs.ReadElements.{item-∈}
 use Rattle.varisat_analysis.proofs.FoundLiterals.{one-found, none-so-far}
@@ -12,3 +13,6 @@ returns-then-lit_is_true g c = one-found (IsMadeTrue c.args.assignment.now.curre
 
 pub loop-lit-preserved : goal.loop-lit-preserved
 loop-lit-preserved g c = none-so-far (IsMadeTrue c.args.assignment.now.current) c.args.lits.now c.loop-lit-test.true c.lit-item.is c.loop-lit.invariant (λ t. let b = c.if-lit_is_true.ensures.1 t in cc)
+
+pub returns : goal.returns
+returns g c = grind (arith, common_steps)

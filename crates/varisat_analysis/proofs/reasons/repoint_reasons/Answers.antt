@@ -1,3 +1,4 @@
+use Rattle.std.proofs.lemmas.Grind.{common_steps}
 use Rattle.std.proofs.Common.{◌≡◌, ◌<◌, ◌+◌, length, drop, get_or, sym, ap, ◌∙◌, subst, arith}
 use Rattle.varisat_theory.specs.Literals.{variable_of}
 use Rattle.varisat_theory.proofs.Places.{∈-get_or}
@@ -76,3 +77,6 @@ loop-cref-preserved g c =
 pub returns : goal.returns
 returns g c =
     left-none c.args.assignment.now.current (live_clauses c.args.clause_alloc.now) (stored_clauses c.args.new_alloc.now) c.loop-cref.index c.loop-cref.cref-iterator c.loop-cref.impl_graph.nodes.items (c.in-None.ensures {u = tt}).steps.0 c.loop-cref.invariant.left ∙ c.loop-cref.invariant.nodes
+
+pub place-new_cref-requires : goal.place-new_cref-requires
+place-new_cref-requires g c = grind (arith, common_steps)

@@ -1,4 +1,5 @@
-use Rattle.std.proofs.Common.{sym, ap, ◌∙◌}
+use Rattle.std.proofs.lemmas.Grind.{common_steps}
+use Rattle.std.proofs.Common.{sym, ap, ◌∙◌, arith}
 use Rattle.varisat_theory.specs.Literals.{variable_of}
 use Rattle.std.proofs.lemmas.List.{get_or_read}
 use Rattle.varisat_present.proofs.Mentions.{mentioned, not_mentioned}
@@ -12,3 +13,6 @@ pub loop-l-preserved : goal.loop-l-preserved
 loop-l-preserved c =
     not_mentioned c.args.var c.args.clause.now c.loop-l.l-index c.loop-l-test.true
     (λ e. c.if-index.false (c.index.ensures.index ∙ ap variable_of (get_or_read c.args.clause.now c.loop-l.l-index c.l-item.result c.loop-l-test.true c.l-item.is 0) ∙ e ∙ sym c.index-in-loop-l.ensures.index)) c.loop-l.invariant
+
+pub returns : goal.returns
+returns c = grind (arith, common_steps)

@@ -1,4 +1,5 @@
-use Rattle.std.proofs.Common.{◌∷◌, [], ◌++◌}
+use Rattle.std.proofs.lemmas.Grind.{common_steps}
+use Rattle.std.proofs.Common.{◌∷◌, [], ◌++◌, arith}
 use Rattle.varisat_formula.specs.Written.{spaced_literals, clauses_text}
 use Rattle.varisat_formula.proofs.WrittenTexts.{reads_back}
 use Rattle.varisat_formula.proofs.TargetParts.{header_begun, begun_part, clause_parts}
@@ -22,3 +23,6 @@ returns-in-Err-write_clause-clause-read_back g c = λ h. reads_back c.args.formu
 
 pub returns-clause-read_back : goal.returns-clause-read_back
 returns-clause-read_back g c = λ h. reads_back c.args.formula.now h c.len.ensures.small c.var_count.ensures.below
+
+pub loop-clause-preserved : goal.loop-clause-preserved
+loop-clause-preserved g c = grind (arith, common_steps)

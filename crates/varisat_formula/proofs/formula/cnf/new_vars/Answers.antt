@@ -1,3 +1,4 @@
+use Rattle.std.proofs.lemmas.Grind.{common_steps}
 use Rattle.std.proofs.Common.{◌<◌, length, take, sym, subst, arith, ◌∙◌, Ok}
 use Rattle.std.specs.List.{FoldsTo}
 use Rattle.std.proofs.Math.ListN.{length-set}
@@ -20,3 +21,9 @@ loop-i-preserved g c =
           (FoldsTo-push (λ s v t. g.F.ExtendFormula.makes_var s (Ok v) t) _ _ _ _ _ c.loop-i.invariant.made c.in-Ok.ensures);
       whole = length-set _ _ _ ∙ w;
     }
+
+pub loop-i-init : goal.loop-i-init
+loop-i-init g c = grind (arith, common_steps)
+
+pub returns-clause-ok : goal.returns-clause-ok
+returns-clause-ok g c = grind (arith, common_steps)

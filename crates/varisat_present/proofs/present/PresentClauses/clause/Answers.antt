@@ -1,3 +1,4 @@
+use Rattle.std.proofs.lemmas.Grind.{common_steps}
 use Rattle.std.proofs.Common.{ℕ, List, [], ◌∙◌, sym, ap, get_or, length, take, arith}
 use Rattle.varisat_theory.specs.Literals.{Clause}
 use Rattle.varisat_present.specs.Places.{present}
@@ -17,3 +18,6 @@ pub loop-place-preserved : goal.loop-place-preserved
 loop-place-preserved g c =
     let e = at_in_slice c.deref.result.now c.self.inside.places.items c.loop-place.place c.in-Some.clause.now c.deref.ensures.value c.in-Some.ensures in
     (count_more c.self.inside.places.items c.loop-place.place c.loop-place.before c.in-Some.clause.now e c.loop-place.invariant.0, omega (arith, c.if-before-i.false, c.loop-place.invariant.1))
+
+pub returns : goal.returns
+returns g c = grind (arith, common_steps)

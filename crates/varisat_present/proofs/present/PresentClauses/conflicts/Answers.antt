@@ -1,4 +1,5 @@
-use Rattle.std.proofs.Common.{refl, ap, ◌∙◌}
+use Rattle.std.proofs.lemmas.Grind.{common_steps}
+use Rattle.std.proofs.Common.{refl, ap, ◌∙◌, arith}
 use Rattle.varisat_plain.proofs.Scans.{granted}
 use Rattle.varisat_present.specs.Places.{present}
 use Rattle.varisat_present.proofs.KeptLiterals.{refuted_more, found_there}
@@ -12,3 +13,9 @@ pub returns-in-Ok-clause-found : goal.returns-in-Ok-clause-found
 returns-in-Ok-clause-found g c =
     found_there (present c.deref.result.now) c.args.self.now c.args.base.now c.args.base.now c.in-Ok.found
     (ap present c.deref.ensures.value ∙ c.self.view_is ∙ c.is_refuted.ensures.stays) refl c.in-Ok.ensures.right
+
+pub returns-then-is_empty-clause-found : goal.returns-then-is_empty-clause-found
+returns-then-is_empty-clause-found g c = grind (arith, common_steps)
+
+pub invariant_of-self : goal.invariant_of-self
+invariant_of-self g c = grind (arith, common_steps)

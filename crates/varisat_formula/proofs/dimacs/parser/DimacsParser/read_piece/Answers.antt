@@ -1,4 +1,5 @@
-use Rattle.std.proofs.Common.{sym, inl, inr}
+use Rattle.std.proofs.lemmas.Grind.{common_steps}
+use Rattle.std.proofs.Common.{sym, inl, inr, arith}
 use Rattle.varisat_formula.proofs.ParserMemory.{ran_out_in}
 use Rattle.varisat_formula.proofs.ParserProgress.{stopped}
 use Rattle.varisat_formula.proofs.dimacs.parser.DimacsParser.read_piece.Goals as goal
@@ -10,3 +11,9 @@ returns-in-Err-clause-reads g c =
 
 pub returns-in-Some-clause-reads : goal.returns-in-Some-clause-reads
 returns-in-Some-clause-reads g c = inl (stopped _ c.loop-b.self _ c.args.piece.now c.loop-b.b-index c.in-Some.fault c.loop-b-test.true c.loop-b.invariant.so_far c.in-Ok.ensures.ok (sym c.in-Some.ensures))
+
+pub loop-b-preserved : goal.loop-b-preserved
+loop-b-preserved g c = grind (arith, common_steps)
+
+pub returns-clause-reads : goal.returns-clause-reads
+returns-clause-reads g c = grind (arith, common_steps)

@@ -207,19 +207,30 @@ fn check_formula(
     }
 }
 
-fn formula_outcomes(alloc: Global) -> Result<bool, FormulaError> {
+/// The proof's format and bytes, and what its check against a formula returns.
+const FORMULA_ROWS: [(ProofFormat, &[u8], Outcome); 8] = [
+    (Drat, b"", Derivation),
+    (Drat, b"2 0", Refutation),
+    (Drat, b"0", CheckFailed(1)),
+    (BinaryDrat, b"\x61\x04\x00", Refutation),
+    (BinaryDrat, b"\x61\x84\x00\x00", Parse(1)),
+    (BinaryDrat, b"\x61\x01\x00", Parse(1)),
+    (BinaryDrat, b"\x62\x00", Parse(0)),
+    (BinaryDrat, b"\x61\x04", Parse(2)),
+];
+
+fn are_formula_outcomes(alloc: Global) -> Result<bool, FormulaError> {
     let formula = square(alloc)?;
-    Ok(
-        check_formula(alloc, &formula, Drat, b"2 0") == Refutation
-            && check_formula(alloc, &formula, Drat, b"0") == CheckFailed(1)
-            && check_formula(alloc, &formula, BinaryDrat, b"\x61\x04\x00") == Refutation
-            && check_formula(alloc, &formula, BinaryDrat, b"\x62\x00") == Parse(0),
-    )
+    let mut are_right = true;
+    for (format, bytes, outcome) in &FORMULA_ROWS {
+        are_right &= check_formula(alloc, &formula, *format, *bytes) == *outcome;
+    }
+    Ok(are_right)
 }
 
 #[test]
 fn proofs_from_formulas(rt: HostRuntime) {
-    assert!(rt; matches!(formula_outcomes(rt.alloc()), Ok(true)));
+    assert!(rt; matches!(are_formula_outcomes(rt.alloc()), Ok(true)));
 }
 
 const CUT_PROOF: &[u8] = b"2 0\nd 1 2 0\n";

@@ -1,12 +1,12 @@
 -- States after a call that changed nothing more, and after one that ran out of memory.
-use Rattle.std.proofs.Common.{◌≡◌, ◌≢◌, ◌∙◌, ◌+◌, ◌-◌, ◌≤◌, arith, ℕ, Bool, true, false, Option, List, Err, refl, ap}
+use Rattle.std.proofs.Common.{◌≡◌, ◌∙◌, ◌+◌, ◌-◌, ◌≤◌, arith, ℕ, Bool, true, false, Option, List, Err, refl, ap}
 use Rattle.varisat_theory.specs.Literals.{Clause}
 use Rattle.varisat_search.specs.declared.error.StepError.{StepError}
 use Rattle.varisat_search.specs.declared.error.StepError.TheVariants as step
 use Rattle.varisat_names.specs.Settings.{Settings}
-use Rattle.varisat.specs.States.{State, Ledger, IsWellFormed, Unknown, Unsat}
+use Rattle.varisat.specs.States.{State, Ledger, IsWellFormed, Unknown}
 use Rattle.varisat.specs.Refusals.{step_refusal}
-use Rattle.varisat.specs.Calls.{IsLike, IsValid, Invalidates, MayConstrain, AddsClause, CountsCall, Solves, with_steps}
+use Rattle.varisat.specs.Calls.{IsLike, IsValid, Invalidates, MayConstrain, IsExtensible, AddsClause, CountsCall, Searches, with_steps}
 use Rattle.varisat_theory.specs.Journals.{Entry}
 use Rattle.varisat.specs.Journals.{retold, TellsMore}
 use Rattle.varisat.specs.OpenProofs.{OpenProof, IsOpen, GoesOnWriting, ProofFits}
@@ -82,14 +82,15 @@ pub broken-invalid : (s : State) → s.ledger.valid ≡ true → IsWellFormed s 
 broken-invalid s v w = record { valid = v; ledger = refl; well_formed = told-well s (broken s) w }
 
 -- a clause could not be kept
-pub adds-broken : (e : StepError) (b : Bool) (s t : State) (d : Clause) → (b ≡ true → IsOpen s.proof) → s.verdict ≢ Unsat → MayConstrain s.naming d → Invalidates s t → AddsClause s d (Err (step_refusal b e)) t
+pub adds-broken : (e : StepError) (b : Bool) (s t : State) (d : Clause) → (b ≡ true → IsOpen s.proof) → IsExtensible s → MayConstrain s.naming d → Invalidates s t → AddsClause s d (Err (step_refusal b e)) t
 adds-broken step.Full b s t d o n l i = (n, l, i)
 adds-broken step.Memory b s t d o n l i = (n, l, i)
 adds-broken (step.Target cause) true s t d o n l i = (o refl, n, l, i)
 adds-broken (step.Target cause) false s t d o n l i = (n, l, i)
 
-pub solves-broken : (e : StepError) (b : Bool) (s t : State) → (b ≡ true → IsOpen s.proof) → s.verdict ≡ Unknown → CountsCall s (Err (step_refusal b e)) t → Invalidates (with_steps t.ledger.steps s) t → Solves s (Err (step_refusal b e)) t
-solves-broken step.Full b s t o u c i = (u, c, i)
-solves-broken step.Memory b s t o u c i = (u, c, i)
-solves-broken (step.Target cause) true s t o u c i = (o refl, u, c, i)
-solves-broken (step.Target cause) false s t o u c i = (u, c, i)
+-- so it is where a step came to no end
+pub searches-broken : (e : StepError) (b : Bool) (s t : State) → (b ≡ true → IsOpen s.proof) → s.verdict ≡ Unknown → CountsCall s (Err (step_refusal b e)) t → Invalidates (with_steps t.ledger.steps s) t → Searches s (Err (step_refusal b e)) t
+searches-broken step.Full b s t o u c i = (u, c, i)
+searches-broken step.Memory b s t o u c i = (u, c, i)
+searches-broken (step.Target cause) true s t o u c i = (o refl, u, c, i)
+searches-broken (step.Target cause) false s t o u c i = (u, c, i)

@@ -44,6 +44,7 @@ pub mod SearchLinks
 pub mod ResurrectedVariables
 pub mod ReturnedVariables
 pub mod Runs
+pub mod SearchEnds
 pub mod SearchHeld
 pub mod SearchVerdicts
 pub mod SearchViews

@@ -13,9 +13,9 @@ use Rattle.varisat_proof.specs.Lines.{encoding_of, plain_line, plain_lines}
 use Rattle.varisat_proof.specs.Steps.{lines_written}
 use Rattle.varisat_proof.specs.Written.{line_written}
 use Rattle.varisat_proof.specs.Telling.{lines_told}
-use Rattle.varisat_proof.specs.Proving.{OpenState, ProofParts, told}
+use Rattle.varisat_proof.specs.Proving.{OpenState, ProofParts, told, is_searched, marked_searched}
 use Rattle.varisat_proof.specs.Proving as proving
-use Rattle.varisat.specs.OpenProofs.{OpenProof, opened_state, IsOpen, IsDrat, IsWrittenIf, ProofFits, GoesOnWriting, searched_in, first_proof}
+use Rattle.varisat.specs.OpenProofs.{OpenProof, opened_state, IsOpen, IsDrat, IsWrittenIf, ProofFits, GoesOnWriting, IsSearched, searched_in, searched_under, first_proof, taken_of}
 use Rattle.varisat.specs.Journals.{TellsProof}
 
 -- 1. Bytes of lines.
@@ -134,3 +134,58 @@ none-there o (Some p) e f = let z : true ≡ false = ap (λ (x : Option OpenStat
 pub none-opened : (o : Option OpenState) → is_some o ≡ false → o ≡ None
 none-opened None f = refl
 none-opened (Some o) f = let z : true ≡ false = f in absurd cc
+
+-- 5. How a search ends under a proof.
+pub searched-state : (o : Option OpenProof) → marked_searched (opened_state o) ≡ opened_state (searched_under o)
+searched-state None = refl
+searched-state (Some p) = refl
+
+searched-written : (hidden : Bool) (told : List Entry) (o : Option OpenProof) → IsWrittenIf hidden told o → IsWrittenIf hidden told (searched_under o)
+searched-written hidden told None w = tt
+searched-written hidden told (Some p) w = record { drat = w.drat; lines = w.lines; bytes = w.bytes; told_since = w.told_since }
+
+pub searched-fits : (o : Option OpenState) (hidden : Bool) (told : List Entry) (proof : Option OpenProof) → ProofFits o hidden told proof → ProofFits (marked_searched o) hidden told (searched_under proof)
+searched-fits o hidden told proof f = record { same = ap marked_searched f.same ∙ searched-state proof; written = searched-written hidden told proof f.written }
+
+-- some proof fitted before it was marked
+pub fitted-before : (o : Option OpenState) (hidden : Bool) (told : List Entry) (proof : Option OpenProof) → ProofFits (marked_searched o) hidden told proof → (before : Option OpenProof) × ProofFits o hidden told before
+fitted-before o hidden told proof f = go o proof f.same f.written
+  where
+    go : (o : Option OpenState) (proof : Option OpenProof) → marked_searched o ≡ opened_state proof → IsWrittenIf hidden told proof → (before : Option OpenProof) × ProofFits o hidden told before
+    go None proof e w = (None, record { same = refl; written = tt })
+    go (Some a) None e w = absurd cc
+    go (Some a) (Some p) e w =
+        let q : OpenProof = record p { searched = a.searched } in
+        let was : OpenState = record a { searched = true } in
+        let is : OpenState = record { format = p.format; taken = taken_of p; searched = p.searched } in
+        let some : Some was ≡ Some is = e in
+        let same : was ≡ is = cc in (
+          Some q,
+          record {
+            same = ap (λ (x : OpenState). let y : OpenState = record x { searched = a.searched } in Some y) same;
+            written = record { drat = w.drat; lines = w.lines; bytes = w.bytes; told_since = w.told_since };
+          },
+        )
+
+pub goes-on-searched : (p q : Option OpenProof) → GoesOnWriting p q → GoesOnWriting (searched_under p) (searched_under q)
+goes-on-searched None q e = ap searched_under e
+goes-on-searched (Some p) q (more, e) = (more, ap searched_under e)
+
+pub open-before : (p q : Option OpenProof) → GoesOnWriting p q → IsOpen q → IsOpen p
+open-before None q e (o, is) = let z : None ≡ Some o = sym e ∙ is in absurd cc
+open-before (Some p) q e o = (p, refl)
+
+-- whether `solve` was called under the open proof
+searched-same : (o : Option OpenProof) → IsSearched o → is_searched (opened_state o) ≡ true
+searched-same None e = absurd cc
+searched-same (Some p) e = let z : Some p.searched ≡ Some true = e in cc
+
+same-searched : (o : Option OpenProof) → is_searched (opened_state o) ≡ true → IsSearched o
+same-searched None e = absurd cc
+same-searched (Some p) e = ap Some e
+
+pub searched-there : (o : Option OpenState) (hidden : Bool) (told : List Entry) (proof : Option OpenProof) (b : Bool) → ProofFits o hidden told proof → b ≡ is_searched o → b ≡ true → IsSearched proof
+searched-there o hidden told proof b f e t = same-searched proof (ap is_searched (sym f.same) ∙ sym e ∙ t)
+
+pub unsearched-there : (o : Option OpenState) (hidden : Bool) (told : List Entry) (proof : Option OpenProof) (b : Bool) → ProofFits o hidden told proof → b ≡ is_searched o → b ≡ false → IsSearched proof → ⊥
+unsearched-there o hidden told proof b f e n s = let z : false ≡ true = sym n ∙ e ∙ ap is_searched f.same ∙ searched-same proof s in cc

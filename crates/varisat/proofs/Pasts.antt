@@ -9,7 +9,7 @@ use Rattle.varisat_formula.specs.declared.dimacs.error.DimacsError.{DimacsError}
 use Rattle.varisat_formula.specs.Dimacs.{Reading}
 use Rattle.varisat_formula.specs.Streams.{Stand, Taken}
 use Rattle.varisat_proof.specs.Proving.{IsClosed}
-use Rattle.varisat.specs.OpenProofs.{OpenProof, opened_state, IsOpen, searched_in}
+use Rattle.varisat.specs.OpenProofs.{OpenProof, opened_state, IsOpen, IsSearched, searched_in, searched_under}
 use Rattle.varisat.specs.ProofCalls.{with_proof, ClosesProof}
 use Rattle.varisat.proofs.OpenProofs.{same-search}
 use Rattle.varisat_names.specs.declared.config.SolverConfigUpdate.{SolverConfigUpdate}
@@ -30,12 +30,12 @@ use Rattle.varisat.specs.Pasts as past
 use Rattle.varisat.specs.Usage as usage
 use Rattle.varisat.specs.Usage.{AreAllShown, NeedsNamePastLimit}
 use Rattle.varisat.specs.VariableCalls as variables
-use Rattle.varisat.specs.Pasts.{Past, empty_past, accept, assume, MakesFewSteps}
+use Rattle.varisat.specs.Pasts.{Past, empty_past, accept, assume, IsUndecided}
 use Rattle.varisat.specs.declared.solver.SolverError.{SolverError}
 use Rattle.varisat.specs.declared.solver.SolverError.TheVariants.{Interrupted, ProofIoError, OutOfMemory, Invalid, ClauseStoreFull, WitnessVar, VariableLimit, AssumedVar, ClauseAfterSolve, ProofOpen, ProofTooLate, ConfigOutOfRange, Dimacs}
 use Rattle.varisat_literals.specs.Numbers.{variable_limit}
 use Rattle.varisat.proofs.CallStates.{like-refl}
-use Rattle.varisat.proofs.VerdictAnswers.{is-unknown-or-not, answer-sat, right-false, told-fails, core-answer, no-core, reopened-not-true, reopened-false, right-reopened, assumed-not-true, right-assumed}
+use Rattle.varisat.proofs.VerdictAnswers.{is-unknown-or-not, answer-sat, right-false, told-fails, core-answer, no-core, reopened-core, assumed-no-core, reopened-not-true, reopened-false, right-reopened, assumed-not-true, right-assumed}
 use Rattle.varisat.proofs.ModelsFit.{completable}
 
 -- 1. No name is in use from the watermark on.
@@ -87,6 +87,7 @@ pub record Knows (p : Past) (s : State) : Type 0 where
   model : p.has_model ≡ true → answer_of s.verdict ≡ Some true
   found : answer_of s.verdict ≡ Some true → p.has_model ≡ true
   failed : p.has_core ≡ true → answer_of s.verdict ≡ Some false
+  core : (l : List Literal) → s.verdict ≡ UnsatUnderAssumptions l → p.has_core ≡ true
   proof : searched_in s.proof ≡ p.proof
   right : HasRightVerdict s
 
@@ -119,7 +120,7 @@ anew p s t e g = subst (Agrees (past.count_anew p)) (sym e) (record {
   steps = g.steps;
   since = refl;
   settings = g.settings;
-  knows = λ v. let k = g.knows v in record { naming = k.naming; capped = k.capped; clauses = k.clauses; assumed = k.assumed; counted = k.counted; model = k.model; found = k.found; failed = k.failed; proof = k.proof; right = k.right };
+  knows = λ v. let k = g.knows v in record { naming = k.naming; capped = k.capped; clauses = k.clauses; assumed = k.assumed; counted = k.counted; model = k.model; found = k.found; failed = k.failed; core = k.core; proof = k.proof; right = k.right };
 })
 
 -- the past keeps its flags, and the state too, but that it is in use now
@@ -171,6 +172,9 @@ accepted p s t d n (w, after, e) g v =
           (λ r. reopened-not-true s.verdict (ap answer_of (sym (e.verdict ∙ r)) ∙ h)) cases);
       proof = same-search s.proof t.proof e.proof ∙ k.proof;
       failed = λ h. ⊎_elim (λ r. ap answer_of (e.verdict ∙ r.0)) (λ r. ap answer_of (e.verdict ∙ r) ∙ reopened-false s.verdict (k.failed h)) cases;
+      core = λ l h. ⊎_elim
+          (λ r. let z : Unsat ≡ UnsatUnderAssumptions l = sym (e.verdict ∙ r.0) ∙ h in absurd cc)
+          (λ r. k.core l (reopened-core s.verdict l (sym (e.verdict ∙ r) ∙ h))) cases;
       right = ⊎_elim
           (λ r. right-like t (s.clauses ++ c ∷ []) s.assumptions t.counted Unsat e.clauses e.assumptions refl (e.verdict ∙ r.0) r.1)
           (λ r. right-like t (s.clauses ++ c ∷ []) s.assumptions t.counted (reopened_verdict s.verdict) e.clauses e.assumptions refl (e.verdict ∙ r) (right-reopened s.clauses c s.assumptions s.counted t.counted s.verdict n k.right))
@@ -195,18 +199,38 @@ crowded p s d k h = subst (λ (m : Naming). IsPastLimit d ⊎ IsCrowded (name_al
 has-open : (p : Past) (s : State) → Knows p s → IsOpen s.proof → past.HasOpenProof p
 has-open p s k (o, is) = (o.searched, sym k.proof ∙ ap searched_in is)
 
+-- none under which `solve` was called
+unsearched : (p : Past) (s : State) → Knows p s → (IsSearched s.proof → ⊥) → past.IsSearched p → ⊥
+unsearched p s k n is = n (k.proof ∙ is)
+
+open-unsearched : (p : Past) (s : State) → Knows p s → IsOpen s.proof → (IsSearched s.proof → ⊥) → p.proof ≡ Some false
+open-unsearched p s k (o, is) n =
+    sym k.proof ∙ ap searched_in is ∙ ap Some (false_from_ne_true o.searched (λ b. n (ap searched_in is ∙ ap Some b)))
+
+-- and none at all
+none-open : (p : Past) (s : State) → Knows p s → s.proof ≡ None → p.proof ≡ None
+none-open p s k n = sym k.proof ∙ ap searched_in n
+
 pub add-clause : (p : Past) (s t : State) (d : Clause) (r : Result (Unit {0}) SolverError) → Agrees p s → state.AddsClause s d r t → Leads (past.AddsClause p d r) t
 add-clause p s t d (Ok u) g (v, state.Ignored n e) =
     let w = sym g.valid ∙ v in (past.count_anew p, (w, past.Ignored (refuted p s (g.knows w) n) refl), anew p s t e g)
 add-clause p s t d (Ok u) g (v, state.Accepted n lim a) =
-    let w = sym g.valid ∙ v in (accept d p, (w, past.Accepted (may-constrain p s d (g.knows w) lim) refl), accepted p s t d n a g w)
-add-clause p s t d (Err OutOfMemory) g a = breaks p s t g a.2
-add-clause p s t d (Err ClauseStoreFull) g a = breaks p s t g a.2
-add-clause p s t d (Err (ProofIoError cause)) g a =
-    let (q, c, h) = breaks p s t g a.3 in (q, (has-open p s (knows-of p s g a.3.valid) a.0, c), h)
+    let w = sym g.valid ∙ v in (accept d p, (w, past.Accepted (unsearched p s (g.knows w) n.unsearched) (may-constrain p s d (g.knows w) lim) refl), accepted p s t d n.unrefuted a g w)
+add-clause p s t d (Err OutOfMemory) g (n, lim, b) =
+    let k = knows-of p s g b.valid in
+    let (q, c, h) = breaks p s t g b in (q, (unsearched p s k n.unsearched, may-constrain p s d k lim, c), h)
+add-clause p s t d (Err ClauseStoreFull) g (n, lim, b) =
+    let k = knows-of p s g b.valid in
+    let (q, c, h) = breaks p s t g b in (q, (unsearched p s k n.unsearched, may-constrain p s d k lim, c), h)
+add-clause p s t d (Err (ProofIoError cause)) g (o, n, lim, b) =
+    let k = knows-of p s g b.valid in
+    let (q, c, h) = breaks p s t g b in (q, (open-unsearched p s k o n.unsearched, may-constrain p s d k lim, c), h)
+add-clause p s t d (Err ClauseAfterSolve) g (v, n, is, e) = (p, (sym g.valid ∙ v, sym (knows-of p s g v).proof ∙ is, refl), stays p s t e g)
 add-clause p s t d (Err Invalid) g a = (p, (sym g.valid ∙ a.0, refl), stays p s t a.1 g)
-add-clause p s t d (Err VariableLimit) g a = (p, (sym g.valid ∙ a.0, crowded p s d (knows-of p s g a.0) a.2, refl), stays p s t a.3 g)
-add-clause p s t d (Err (WitnessVar u)) g a = (p, (sym g.valid ∙ a.0, a.2, first-witness p s d u (knows-of p s g a.0) a.3, refl), stays p s t a.4 g)
+add-clause p s t d (Err VariableLimit) g (v, n, over, e) =
+    let k = knows-of p s g v in (p, (sym g.valid ∙ v, unsearched p s k n.unsearched, crowded p s d k over, refl), stays p s t e g)
+add-clause p s t d (Err (WitnessVar u)) g (v, n, within, is, e) =
+    let k = knows-of p s g v in (p, (sym g.valid ∙ v, unsearched p s k n.unsearched, within, first-witness p s d u k is, refl), stays p s t e g)
 add-clause p s t d (Err e) g a = absurd a
 
 -- 4. Formulas and texts.
@@ -261,6 +285,7 @@ knows-like p s t m b l told n i c e h k = record {
   model = λ x. ap answer_of e.verdict ∙ k.model x;
   found = λ x. k.found (sym (ap answer_of e.verdict) ∙ x);
   failed = λ x. ap answer_of e.verdict ∙ k.failed x;
+  core = λ l h. k.core l (sym e.verdict ∙ h);
   proof = same-search s.proof t.proof e.proof ∙ k.proof;
   right = right-like t s.clauses s.assumptions s.counted s.verdict e.clauses e.assumptions e.counted e.verdict k.right;
 }
@@ -368,17 +393,24 @@ assumed-list p s t list e g v =
       model = λ x. absurd cc;
       found = λ x. absurd (assumed-not-true s.verdict (sym (ap answer_of e.verdict) ∙ x));
       failed = λ x. absurd cc;
+      core = λ l h. absurd (assumed-no-core s.verdict l (sym e.verdict ∙ h));
       proof = same-search s.proof t.proof e.proof ∙ k.proof;
       right = right-like t s.clauses t.assumptions t.counted (assumed_verdict s.verdict) e.clauses refl refl e.verdict (right-assumed s.clauses s.assumptions t.assumptions s.counted t.counted s.verdict k.right);
     })
 
 pub assume-list : (p : Past) (s t : State) (list : List Literal) (r : Result (Unit {0}) SolverError) → Agrees p s → state.Assumes s list r t → Leads (past.Assumes p list r) t
-assume-list p s t list (Ok u) g (v, lim, e) =
-    let w = sym g.valid ∙ v in (assume list p, (w, may-constrain p s list (g.knows w) lim, refl), assumed-list p s t list e g w)
-assume-list p s t list (Err OutOfMemory) g a = breaks p s t g a.1
+assume-list p s t list (Ok u) g (v, n, lim, e) =
+    let w = sym g.valid ∙ v in
+    let k = g.knows w in (assume list p, (w, none-open p s k n, may-constrain p s list k lim, refl), assumed-list p s t list e g w)
+assume-list p s t list (Err OutOfMemory) g (n, lim, b) =
+    let k = knows-of p s g b.valid in
+    let (q, c, h) = breaks p s t g b in (q, (none-open p s k n, may-constrain p s list k lim, c), h)
 assume-list p s t list (Err Invalid) g a = (p, (sym g.valid ∙ a.0, refl), stays p s t a.1 g)
-assume-list p s t list (Err VariableLimit) g a = (p, (sym g.valid ∙ a.0, crowded p s list (knows-of p s g a.0) a.1, refl), stays p s t a.2 g)
-assume-list p s t list (Err (WitnessVar u)) g a = (p, (sym g.valid ∙ a.0, a.1, first-witness p s list u (knows-of p s g a.0) a.2, refl), stays p s t a.3 g)
+assume-list p s t list (Err ProofOpen) g (v, o, e) = (p, (sym g.valid ∙ v, has-open p s (knows-of p s g v) o, refl), stays p s t e g)
+assume-list p s t list (Err VariableLimit) g (v, n, over, e) =
+    let k = knows-of p s g v in (p, (sym g.valid ∙ v, none-open p s k n, crowded p s list k over, refl), stays p s t e g)
+assume-list p s t list (Err (WitnessVar u)) g (v, n, within, is, e) =
+    let k = knows-of p s g v in (p, (sym g.valid ∙ v, none-open p s k n, within, first-witness p s list u k is, refl), stays p s t e g)
 assume-list p s t list (Err e) g a = absurd a
 
 -- 8. An answer of `solve`.
@@ -405,6 +437,7 @@ solved p s t b g k r =
         model = λ x. r.answer ∙ ap Some x;
         found = λ x. told b (sym r.answer ∙ x);
         failed = λ x. r.answer ∙ ap Some (not-true b x);
+        core = λ l h. told-false b (sym r.answer ∙ ap answer_of h);
         proof = same-search s.proof t.proof e.proof ∙ k.proof;
         right = r.right;
       };
@@ -412,6 +445,9 @@ solved p s t b g k r =
   where
     told : (b : Bool) → Some b ≡ Some true → b ≡ true
     told b e = cc
+
+    told-false : (b : Bool) → Some b ≡ Some false → not b ≡ true
+    told-false b e = let z : b ≡ false = cc in ap not z
 
 -- the steps of a call under the verdict Unknown
 counts : (p : Past) (s t : State) (r : Result Bool SolverError) → Agrees p s → Knows p s → state.CountsCall s r t → CountsSteps (length p.counted) p.settings.max_steps p.since p.steps t.ledger.steps r
@@ -428,11 +464,25 @@ no-model-yet p s k u = false_from_ne_true p.has_model (λ e. let z : None ≡ So
 no-core-yet : (p : Past) (s : State) → Knows p s → s.verdict ≡ Unknown → p.has_core ≡ false
 no-core-yet p s k u = false_from_ne_true p.has_core (λ e. let z : None ≡ Some false = ap answer_of (sym u) ∙ k.failed e in cc)
 
-few-steps : (p : Past) (s t : State) (b : Bool) → Agrees p s → Knows p s → state.TellsVerdict s b t → MakesFewSteps p b (record (past.with_steps t.ledger.steps p) { has_model = b; has_core = not b })
-few-steps p s t b g k r =
+undecided : (p : Past) (s : State) → Knows p s → s.verdict ≡ Unknown → IsUndecided p
+undecided p s k u = record { no_model = no-model-yet p s k u; no_core = no-core-yet p s k u }
+
+-- and where it is known a model or a core was, or no assignment satisfies the clauses
+known-by : (p : Past) (s : State) → Knows p s → s.verdict ≢ Unknown → (p.has_model ≡ true) ⊎ ((p.has_core ≡ true) ⊎ (IsSatisfiable p.clauses → ⊥))
+known-by p s k n = go s.verdict refl
+  where
+    go : (v : Verdict) → s.verdict ≡ v → (p.has_model ≡ true) ⊎ ((p.has_core ≡ true) ⊎ (IsSatisfiable p.clauses → ⊥))
+    go Unknown e = absurd (n e)
+    go (Sat a) e = inl (k.found (ap answer_of e))
+    go Unsat e = inr (inr (refuted p s k e))
+    go (UnsatUnderAssumptions core) e = inr (inl (k.core core e))
+
+-- how the steps are counted of a call whether or not the verdict is known
+counted-if : (p q : Past) (s t : State) (r : Result Bool SolverError) → Agrees p s → Knows p s → q.steps ≡ t.ledger.steps → (s.verdict ≢ Unknown → t.ledger.steps ≡ s.ledger.steps) → (s.verdict ≡ Unknown → state.CountsCall s r t) → past.CountsIfUnknown p r q
+counted-if p q s t r g k e known unknown =
     ⊎_elim
-    (λ u. inr (no-model-yet p s k u, no-core-yet p s k u, counts p s t (Ok b) g k (r.steps u)))
-    (λ n. inl ((r.known n).1 ∙ g.steps))
+    (λ u. past.Searched (undecided p s k u) (subst (λ n. CountsSteps (length p.counted) p.settings.max_steps p.since p.steps n r) (sym e) (counts p s t r g k (unknown u))))
+    (λ n. past.Known (known-by p s k n) (e ∙ known n ∙ g.steps))
     (is-unknown-or-not s.verdict)
 
 -- the ledger alone changes
@@ -457,43 +507,69 @@ none-with p s t k r =
     subst (λ P. IsSatisfiableWith P p.assumptions → ⊥) (r.rest.clauses ∙ k.clauses)
     (subst (λ A. IsSatisfiableWith t.clauses A → ⊥) (r.rest.assumptions ∙ k.assumed) (right-false t.clauses t.assumptions t.counted t.verdict r.answer r.right))
 
+-- `solve` was called under an open proof
+searched-same : (o : Option OpenProof) → searched_in (searched_under o) ≡ past.searched_under (searched_in o)
+searched-same None = refl
+searched-same (Some p) = refl
+
+searched : (p : Past) (s : State) → Agrees p s → Agrees (past.once_searched p) (state.once_searched s)
+searched p s g = record {
+  valid = g.valid;
+  steps = g.steps;
+  since = g.since;
+  settings = g.settings;
+  knows = λ v. let k = g.knows v in record { naming = k.naming; capped = k.capped; clauses = k.clauses; assumed = k.assumed; counted = k.counted; model = k.model; found = k.found; failed = k.failed; core = k.core; proof = searched-same s.proof ∙ ap past.searched_under k.proof; right = k.right };
+}
+
+-- no way leads back, and steps were counted
+breaks-after : (p : Past) (s t : State) → Agrees p s → state.Invalidates (with_steps t.ledger.steps s) t → past.Invalidates (past.with_steps t.ledger.steps p) (record (past.with_steps t.ledger.steps p) { valid = false }) × Agrees (record (past.with_steps t.ledger.steps p) { valid = false }) t
+breaks-after p s t g b = (
+  (sym g.valid ∙ b.valid, refl),
+  record { valid = ap (λ x. x.valid) b.ledger; steps = refl; since = since-told p s t g (ap (λ x. x.since) b.ledger); settings = ap (λ x. x.settings) b.ledger ∙ g.settings; knows = λ e. absurd cc },
+)
+
+solved-as : (p : Past) (s t : State) (b : Bool) → Agrees p s → state.TellsVerdict (state.once_searched s) b t → (v : p.valid ≡ true) → Knows p s → past.CountsIfUnknown p (Ok b) (record (past.with_steps t.ledger.steps (past.once_searched p)) { has_model = b; has_core = not b }) × Agrees (record (past.with_steps t.ledger.steps (past.once_searched p)) { has_model = b; has_core = not b }) t
+solved-as p s t b g r v k =
+    let h = searched p s g in (
+      counted-if p (record (past.with_steps t.ledger.steps (past.once_searched p)) { has_model = b; has_core = not b }) s t (Ok b) g k refl (λ n. (r.known n).1) r.steps,
+      solved (past.once_searched p) (state.once_searched s) t b h (h.knows v) r,
+    )
+
 pub solve : (p : Past) (s t : State) (r : Result Bool SolverError) → Agrees p s → state.Solves s r t → Leads (past.Solves p r) t
 solve p s t (Ok true) g r =
     let v = sym g.valid ∙ r.valid in
     let k = g.knows v in
-    (record (past.with_steps t.ledger.steps p) { has_model = true; has_core = false }, (v, some-with p s t k r, few-steps p s t true g k r, refl), solved p s t true g k r)
+    let (few, h) = solved-as p s t true g r v k in
+    (record (past.with_steps t.ledger.steps (past.once_searched p)) { has_model = true; has_core = false }, (v, some-with (past.once_searched p) (state.once_searched s) t ((searched p s g).knows v) r, few, refl), h)
 solve p s t (Ok false) g r =
     let v = sym g.valid ∙ r.valid in
     let k = g.knows v in
-    (record (past.with_steps t.ledger.steps p) { has_model = false; has_core = true }, (v, none-with p s t k r, few-steps p s t false g k r, refl), solved p s t false g k r)
+    let (few, h) = solved-as p s t false g r v k in
+    (record (past.with_steps t.ledger.steps (past.once_searched p)) { has_model = false; has_core = true }, (v, none-with (past.once_searched p) (state.once_searched s) t ((searched p s g).knows v) r, few, refl), h)
 solve p s t (Err OutOfMemory) g (u, c, b) =
-    let k = knows-of p s g b.valid in (
-      record (past.with_steps t.ledger.steps p) { valid = false },
-      (counts p s t (Err OutOfMemory) g k c, (sym g.valid ∙ b.valid, refl)),
-      record { valid = ap (λ x. x.valid) b.ledger; steps = refl; since = since-told p s t g (ap (λ x. x.since) b.ledger); settings = ap (λ x. x.settings) b.ledger ∙ g.settings; knows = λ e. absurd cc },
-    )
+    let k = knows-of p s g b.valid in
+    let (invalid, h) = breaks-after p s t g b in
+    (record (past.with_steps t.ledger.steps p) { valid = false }, (undecided p s k u, counts p s t (Err OutOfMemory) g k c, invalid), h)
 solve p s t (Err ClauseStoreFull) g (u, c, b) =
-    let k = knows-of p s g b.valid in (
-      record (past.with_steps t.ledger.steps p) { valid = false },
-      (counts p s t (Err ClauseStoreFull) g k c, (sym g.valid ∙ b.valid, refl)),
-      record { valid = ap (λ x. x.valid) b.ledger; steps = refl; since = since-told p s t g (ap (λ x. x.since) b.ledger); settings = ap (λ x. x.settings) b.ledger ∙ g.settings; knows = λ e. absurd cc },
-    )
-solve p s t (Err (ProofIoError cause)) g (o, u, c, b) =
-    let k = knows-of p s g b.valid in (
-      record (past.with_steps t.ledger.steps p) { valid = false },
-      (has-open p s k o, counts p s t (Err (ProofIoError cause)) g k c, (sym g.valid ∙ b.valid, refl)),
-      record { valid = ap (λ x. x.valid) b.ledger; steps = refl; since = since-told p s t g (ap (λ x. x.since) b.ledger); settings = ap (λ x. x.settings) b.ledger ∙ g.settings; knows = λ e. absurd cc },
-    )
+    let k = knows-of p s g b.valid in
+    let (invalid, h) = breaks-after p s t g b in
+    (record (past.with_steps t.ledger.steps p) { valid = false }, (undecided p s k u, counts p s t (Err ClauseStoreFull) g k c, invalid), h)
+solve p s t (Err (ProofIoError cause)) g (o, c, b) =
+    let k = knows-of p s g b.valid in
+    let (invalid, h) = breaks-after p s t g b in
+    let q = record (past.with_steps t.ledger.steps p) { valid = false } in
+    (q, (has-open p s k o, counted-if p q s t (Err (ProofIoError cause)) g k refl c.known c.unknown, invalid), h)
 solve p s t (Err Interrupted) g r =
-    let k = knows-of p s g r.valid in (
-      past.with_steps t.ledger.steps p,
-      (sym g.valid ∙ r.valid, no-model-yet p s k r.unknown, no-core-yet p s k r.unknown, counts p s t (Err Interrupted) g k r.steps, refl),
+    let k = knows-of p s g r.valid in
+    let h = searched p s g in (
+      past.with_steps t.ledger.steps (past.once_searched p),
+      (sym g.valid ∙ r.valid, undecided p s k r.unknown, counts p s t (Err Interrupted) g k r.steps, refl),
       record {
         valid = ap (λ x. x.valid) r.rest.ledger ∙ g.valid;
         steps = refl;
         since = since-told p s t g (ap (λ x. x.since) r.rest.ledger);
         settings = ap (λ x. x.settings) r.rest.ledger ∙ g.settings;
-        knows = λ _. told-on p s t t.ledger.steps (p.since + (t.ledger.steps - p.steps)) p.settings (like-told s t t.ledger.steps r.rest) k;
+        knows = λ v. told-on (past.once_searched p) (state.once_searched s) t t.ledger.steps (p.since + (t.ledger.steps - p.steps)) p.settings (like-told (state.once_searched s) t t.ledger.steps r.rest) (h.knows (sym g.valid ∙ r.valid));
       },
     )
 solve p s t (Err (WitnessVar u)) g r = absurd r
@@ -549,7 +625,7 @@ closes p s t g e = subst (Agrees (past.closed p)) (sym e) (record {
   steps = g.steps;
   since = refl;
   settings = g.settings;
-  knows = λ v. let k = g.knows v in record { naming = k.naming; capped = k.capped; clauses = k.clauses; assumed = k.assumed; counted = k.counted; model = k.model; found = k.found; failed = k.failed; proof = refl; right = k.right };
+  knows = λ v. let k = g.knows v in record { naming = k.naming; capped = k.capped; clauses = k.clauses; assumed = k.assumed; counted = k.counted; model = k.model; found = k.found; failed = k.failed; core = k.core; proof = refl; right = k.right };
 })
 
 hands-back : {W : Type 0} (taken : W → Taken) (proof : Option OpenProof) (back : Option W) → IsClosed {E = SolverError} taken (opened_state proof) (Ok back) → is_some back ≡ is_some (searched_in proof)
@@ -649,6 +725,7 @@ empty-agrees = record {
     model = λ e. absurd cc;
     found = λ e. absurd cc;
     failed = λ e. absurd cc;
+    core = λ l e. absurd cc;
     proof = refl;
     right = tt;
   };

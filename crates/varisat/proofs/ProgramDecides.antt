@@ -80,7 +80,7 @@ took n p q [] o (u, e) =
       assumptions = refl;
     })
 took n p q (c ∷ P) o (inr (e, k, a)) = absurd cc
-took n p q (c ∷ P) o (inl (mid, (v, past.Accepted l e), rest)) =
+took n p q (c ∷ P) o (inl (mid, (v, past.Accepted u l e), rest)) =
     let (order, own) = stay-in-order n p.naming c o in
     let clauses : (accept c p).clauses ≡ p.clauses ++ c ∷ [] = ap (λ x. p.clauses ++ x ∷ []) own in
     let counted : (accept c p).counted ≡ join_counted p.counted (map variable_of c) = ap (λ x. join_counted p.counted (map variable_of x)) own in
@@ -225,7 +225,7 @@ module _ (c : SolverConfigUpdate) (old new : Stand) (t u : State) (found : Resul
   pub decided-unknown : (max_steps : ℕ) → (updated_settings default_settings c).max_steps ≡ max_steps → found ≡ Err Interrupted → Decides max_steps old new Unknown
   decided-unknown max_steps m f =
       let (q, x, g) = text-taken in
-      let (z, (v, n, o, few, e), h) = solve q t u (Err Interrupted) g (subst (λ r. state.Solves t r u) f k.solves) in
+      let (z, (v, o, few, e), h) = solve q t u (Err Interrupted) g (subst (λ r. state.Solves t r u) f k.solves) in
       let w = takes old new (begun c) q x in
       let r = begun-took c q (dimacs w.read.text).clauses w.all in
       let names = named_variables [] (dimacs w.read.text).clauses in
@@ -247,7 +247,7 @@ decided-told {A = A} max_steps c old new t u v m a d =
     let k = takes old new (begun c) q x in
     outcome m k (begun-took c q (dimacs k.read.text).clauses k.all).whole (s.0, s.1) z w e h d
   where
-    outcome : (m : Option (Vec Literal A)) {q : Past} (k : Takes old new (begun c) q) → (IsSatisfiable q.clauses → ⊥) ⊎ ((q.clauses ≡ (dimacs k.read.text).clauses) × AreInOrder (count-all 0 (dimacs k.read.text).clauses) q.naming) → IsSatisfiable q.clauses → (z : Past) → q.valid ≡ true → z ≡ record (past.with_steps z.steps q) { has_model = true; has_core = false } → Agrees z u → state.TellsModel u (told_list (Ok m)) v → Decides max_steps old new (Decided (listed m))
+    outcome : (m : Option (Vec Literal A)) {q : Past} (k : Takes old new (begun c) q) → (IsSatisfiable q.clauses → ⊥) ⊎ ((q.clauses ≡ (dimacs k.read.text).clauses) × AreInOrder (count-all 0 (dimacs k.read.text).clauses) q.naming) → IsSatisfiable q.clauses → (z : Past) → q.valid ≡ true → z ≡ record (past.with_steps z.steps (past.once_searched q)) { has_model = true; has_core = false } → Agrees z u → state.TellsModel u (told_list (Ok m)) v → Decides max_steps old new (Decided (listed m))
     outcome m k (inl n) s z w e h d = absurd (n s)
     outcome None k (inr n) s z w e h d =
         let (y, (x, i), j) = tell-model z u v (Ok None) h d in absurd (let o : false ≡ true = sym (x (ap (λ y. y.valid) e ∙ w)) ∙ ap (λ y. y.has_model) e in cc)

@@ -23,7 +23,7 @@ use Rattle.varisat.specs.VariableCalls as variables
 use Rattle.varisat.specs.ProofCalls.{ClosesProof}
 use Rattle.varisat.specs.Journals.{TellsMore}
 use Rattle.varisat.specs.declared.solver.SolverError.{SolverError}
-use Rattle.varisat.specs.declared.solver.SolverError.TheVariants.{OutOfMemory, Invalid, ProofIoError, ClauseStoreFull, WitnessVar, AssumedVar, VariableLimit, Interrupted, ConfigOutOfRange}
+use Rattle.varisat.specs.declared.solver.SolverError.TheVariants.{OutOfMemory, Invalid, ProofIoError, ClauseStoreFull, WitnessVar, AssumedVar, VariableLimit, ClauseAfterSolve, ProofOpen, Interrupted, ConfigOutOfRange}
 use Rattle.varisat.proofs.VerdictAnswers.{is-unknown-or-not}
 use Rattle.varisat.proofs.ToldEntries.{tells-nothing, tells-through, tells, accepts-goes, assumes-goes}
 
@@ -77,6 +77,7 @@ add-clause s t d (Err OutOfMemory) a w = absurd (no-way s t a.2 w)
 add-clause s t d (Err ClauseStoreFull) a w = absurd (no-way s t a.2 w)
 add-clause s t d (Err (ProofIoError cause)) a w = absurd (no-way s t a.3 w)
 add-clause s t d (Err Invalid) a w = tells-same s t a.1 w
+add-clause s t d (Err ClauseAfterSolve) a w = tells-same s t a.3 w
 add-clause s t d (Err VariableLimit) a w = tells-same s t a.3 w
 add-clause s t d (Err (WitnessVar u)) a w = tells-same s t a.4 w
 add-clause s t d (Err e) a w = absurd a
@@ -136,13 +137,14 @@ observe s t (Err OutOfMemory) a w = absurd (no-way s t a w)
 observe s t (Err e) a w = absurd a
 
 assume-list : (s t : State) (list : List Literal) (r : Result (Unit {0}) SolverError) → state.Assumes s list r t → state.IsValid t → TellsOn s t
-assume-list s t list (Ok u) (v, lim, e) w =
+assume-list s t list (Ok u) (v, o, lim, e) w =
     let l = map (through_names (name_all list s.naming)) list in
     tells-plainly s t v (ap (λ (x : Ledger). x.steps) e.ledger) (tells-through 0 0 s.told (s.told ++ Assumes l ∷ []) t.told (tells 0 s.told (Assumes l ∷ []) (assumes-goes s.told l)) e.told)
-assume-list s t list (Err OutOfMemory) a w = absurd (no-way s t a.1 w)
+assume-list s t list (Err OutOfMemory) a w = absurd (no-way s t a.2 w)
 assume-list s t list (Err Invalid) a w = tells-same s t a.1 w
-assume-list s t list (Err VariableLimit) a w = tells-same s t a.2 w
-assume-list s t list (Err (WitnessVar u)) a w = tells-same s t a.3 w
+assume-list s t list (Err ProofOpen) a w = tells-same s t a.2 w
+assume-list s t list (Err VariableLimit) a w = tells-same s t a.3 w
+assume-list s t list (Err (WitnessVar u)) a w = tells-same s t a.4 w
 assume-list s t list (Err e) a w = absurd a
 
 -- 3. Steps.
@@ -156,7 +158,7 @@ solve s t (Ok b) r w = record {
 }
 solve s t (Err OutOfMemory) (u, c, b) w = absurd (no-way (state.with_steps t.ledger.steps s) t b w)
 solve s t (Err ClauseStoreFull) (u, c, b) w = absurd (no-way (state.with_steps t.ledger.steps s) t b w)
-solve s t (Err (ProofIoError cause)) (o, u, c, b) w = absurd (no-way (state.with_steps t.ledger.steps s) t b w)
+solve s t (Err (ProofIoError cause)) (o, c, b) w = absurd (no-way (state.with_steps t.ledger.steps s) t b w)
 solve s t (Err Interrupted) r w = record {
   valid = r.valid;
   made = t.ledger.steps - s.ledger.steps;

@@ -83,6 +83,12 @@ reopened-false (Sat a) e = absurd (let z : true ≡ false = cc in cc)
 reopened-false Unsat e = e
 reopened-false (UnsatUnderAssumptions core) e = e
 
+pub reopened-core : (v : Verdict) (core : List Literal) → reopened_verdict v ≡ UnsatUnderAssumptions core → v ≡ UnsatUnderAssumptions core
+reopened-core Unknown core e = e
+reopened-core (Sat a) core e = absurd cc
+reopened-core Unsat core e = e
+reopened-core (UnsatUnderAssumptions d) core e = e
+
 pub right-reopened : (P : List Clause) (c : Clause) (A : List Literal) (C D : List ℕ) (v : Verdict) → v ≢ Unsat → IsRight P A C v → IsRight (P ++ c ∷ []) A D (reopened_verdict v)
 right-reopened P c A C D Unknown n r = tt
 right-reopened P c A C D (Sat a) n r = tt
@@ -102,6 +108,12 @@ assumed-not-true Unknown e = cc
 assumed-not-true (Sat a) e = cc
 assumed-not-true Unsat e = let z : false ≡ true = cc in cc
 assumed-not-true (UnsatUnderAssumptions core) e = cc
+
+pub assumed-no-core : (v : Verdict) (core : List Literal) → assumed_verdict v ≡ UnsatUnderAssumptions core → ⊥
+assumed-no-core Unknown core e = cc
+assumed-no-core (Sat a) core e = cc
+assumed-no-core Unsat core e = cc
+assumed-no-core (UnsatUnderAssumptions d) core e = cc
 
 pub right-assumed : (P : List Clause) (A B : List Literal) (C D : List ℕ) (v : Verdict) → IsRight P A C v → IsRight P B D (assumed_verdict v)
 right-assumed P A B C D Unknown r = tt

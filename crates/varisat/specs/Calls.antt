@@ -1,6 +1,6 @@
 -- Which answer and which new state each call may give: one relation a call, with a case for each answer. A case that is ⊥ is an answer that the call never gives.
 --
--- Refusals are looked for in this order: Invalid; then `add_clause` returns Ok under the verdict Unsat; VariableLimit; WitnessVar; ConfigOutOfRange; OutOfMemory, ClauseStoreFull or ProofIoError, whichever comes first; Interrupted.
+-- Refusals are looked for in this order: Invalid; then `add_clause` returns Ok under the verdict Unsat; ClauseAfterSolve; ProofOpen; VariableLimit; WitnessVar; ConfigOutOfRange; OutOfMemory, ClauseStoreFull or ProofIoError, whichever comes first; Interrupted.
 use Rattle.std.specs.Prelude.{◌≡◌, ◌≢◌, ℕ, ◌+◌, ◌-◌, ◌<◌, ◌≤◌, Bool, true, false, Option, Some, None, List, [], ◌∷◌, ◌++◌, ◌⊎◌, Result, Ok, Err, map, length}
 use Rattle.std.specs.declared.alloc.AllocError.{AllocError}
 use Rattle.varisat_theory.specs.Membership.{◌∈◌}
@@ -9,7 +9,7 @@ use Rattle.varisat_theory.specs.Counted.{added}
 use Rattle.varisat_theory.specs.Journals.{lines_of}
 use Rattle.varisat_theory.specs.Journals as entry
 use Rattle.varisat.specs.Journals.{retold, TellsMore, ToldConflict}
-use Rattle.varisat.specs.OpenProofs.{IsOpen, GoesOnWriting}
+use Rattle.varisat.specs.OpenProofs.{IsOpen, IsSearched, searched_under, GoesOnWriting}
 use Rattle.varisat_formula.specs.Dimacs.{Reading}
 use Rattle.varisat_formula.specs.Streams.{Stand}
 use Rattle.varisat.specs.States.{State, join_counted, Verdict, Unknown, Sat, Unsat, UnsatUnderAssumptions, HasRightVerdict, IsWellFormed}
@@ -23,7 +23,7 @@ use Rattle.varisat.specs.Budgets.{CountsSteps}
 use Rattle.varisat.specs.Budgets as budgets
 use Rattle.varisat.specs.Additions as additions
 use Rattle.varisat.specs.declared.solver.SolverError.{SolverError}
-use Rattle.varisat.specs.declared.solver.SolverError.TheVariants.{Interrupted, ProofIoError, OutOfMemory, Invalid, ClauseStoreFull, WitnessVar, VariableLimit}
+use Rattle.varisat.specs.declared.solver.SolverError.TheVariants.{Interrupted, ProofIoError, OutOfMemory, Invalid, ClauseStoreFull, WitnessVar, VariableLimit, ClauseAfterSolve, ProofOpen}
 use Rattle.varisat_literals.specs.Numbers.{variable_limit}
 
 abbrev pub is_valid : State → Bool
@@ -112,19 +112,25 @@ Accepts s d t =
     let named : Naming = name_all d s.naming in
     (w : Verdict) × VerdictAfter s.clauses (map (through_names named) d) s.verdict w × IsLike (start (append_clause (map (through_names named) d) w (with_naming named s))) t
 
+-- One more clause may join those accepted: these are not known to be unsatisfiable, and `solve` was not called under an open proof.
+pub record IsExtensible (s : State) : Type 0 where
+  pub unrefuted : s.verdict ≢ Unsat
+  pub unsearched : IsSearched s.proof → ⊥
+
 -- a clause is accepted: under Unsat nothing changes, but that steps are counted anew
 pub data TakesClause (s : State) (d : Clause) (t : State) : Type 0 where
   Ignored : s.verdict ≡ Unsat → t ≡ count_anew s → TakesClause s d t
-  Accepted : s.verdict ≢ Unsat → MayConstrain s.naming d → Accepts s d t → TakesClause s d t
+  Accepted : IsExtensible s → MayConstrain s.naming d → Accepts s d t → TakesClause s d t
 
 abbrev pub AddsClause : State → Clause → Result (Unit {0}) SolverError → State → Type 0
 AddsClause s d (Ok _) t = IsValid s × TakesClause s d t
 AddsClause s d (Err Invalid) t = IsRefusedInvalid s t
-AddsClause s d (Err VariableLimit) t = IsValid s × (s.verdict ≢ Unsat) × (IsPastLimit d ⊎ IsCrowded (name_all d s.naming)) × (t ≡ s)
-AddsClause s d (Err (WitnessVar u)) t = IsValid s × (s.verdict ≢ Unsat) × (IsPastLimit d → ⊥) × IsFirstWitness s.naming d u × (t ≡ s)
-AddsClause s d (Err OutOfMemory) t = (s.verdict ≢ Unsat) × MayConstrain s.naming d × Invalidates s t
-AddsClause s d (Err ClauseStoreFull) t = (s.verdict ≢ Unsat) × MayConstrain s.naming d × Invalidates s t
-AddsClause s d (Err (ProofIoError cause)) t = IsOpen s.proof × (s.verdict ≢ Unsat) × MayConstrain s.naming d × Invalidates s t
+AddsClause s d (Err ClauseAfterSolve) t = IsValid s × (s.verdict ≢ Unsat) × IsSearched s.proof × (t ≡ s)
+AddsClause s d (Err VariableLimit) t = IsValid s × IsExtensible s × (IsPastLimit d ⊎ IsCrowded (name_all d s.naming)) × (t ≡ s)
+AddsClause s d (Err (WitnessVar u)) t = IsValid s × IsExtensible s × (IsPastLimit d → ⊥) × IsFirstWitness s.naming d u × (t ≡ s)
+AddsClause s d (Err OutOfMemory) t = IsExtensible s × MayConstrain s.naming d × Invalidates s t
+AddsClause s d (Err ClauseStoreFull) t = IsExtensible s × MayConstrain s.naming d × Invalidates s t
+AddsClause s d (Err (ProofIoError cause)) t = IsOpen s.proof × IsExtensible s × MayConstrain s.naming d × Invalidates s t
 AddsClause s d (Err _) t = ⊥
 
 -- The calls `add_formula` and `add_dimacs_cnf`.
@@ -181,12 +187,14 @@ TakesAssumptions s list t =
     let carried : List Literal = map (through_names named) list in
     IsLike (start (retold (s.told ++ entry.Assumes carried ∷ []) (with_assumptions carried (with_naming named s)))) t
 
+-- No proof is open: assumptions would be no part of what it says.
 abbrev pub Assumes : State → List Literal → Result (Unit {0}) SolverError → State → Type 0
-Assumes s list (Ok _) t = IsValid s × MayConstrain s.naming list × TakesAssumptions s list t
+Assumes s list (Ok _) t = IsValid s × (s.proof ≡ None) × MayConstrain s.naming list × TakesAssumptions s list t
 Assumes s list (Err Invalid) t = IsRefusedInvalid s t
-Assumes s list (Err VariableLimit) t = IsValid s × (IsPastLimit list ⊎ IsCrowded (name_all list s.naming)) × (t ≡ s)
-Assumes s list (Err (WitnessVar u)) t = IsValid s × (IsPastLimit list → ⊥) × IsFirstWitness s.naming list u × (t ≡ s)
-Assumes s list (Err OutOfMemory) t = MayConstrain s.naming list × Invalidates s t
+Assumes s list (Err ProofOpen) t = IsValid s × IsOpen s.proof × (t ≡ s)
+Assumes s list (Err VariableLimit) t = IsValid s × (s.proof ≡ None) × (IsPastLimit list ⊎ IsCrowded (name_all list s.naming)) × (t ≡ s)
+Assumes s list (Err (WitnessVar u)) t = IsValid s × (s.proof ≡ None) × (IsPastLimit list → ⊥) × IsFirstWitness s.naming list u × (t ≡ s)
+Assumes s list (Err OutOfMemory) t = (s.proof ≡ None) × MayConstrain s.naming list × Invalidates s t
 Assumes s list (Err _) t = ⊥
 
 -- The call `solve`.
@@ -233,14 +241,35 @@ pub record IsInterrupted (s t : State) : Type 0 where
   pub told : TellsMore (t.ledger.steps - s.ledger.steps) s.told t.told
   pub adds : t.ledger.steps - s.ledger.steps ≤ added (lines_of told.entries)
 
-abbrev pub Solves : State → Result Bool SolverError → State → Type 0
-Solves s (Ok b) t = TellsVerdict s b t
-Solves s (Err Invalid) t = IsRefusedInvalid s t
-Solves s (Err OutOfMemory) t = (s.verdict ≡ Unknown) × CountsCall s (Err OutOfMemory) t × Invalidates (with_steps t.ledger.steps s) t
-Solves s (Err ClauseStoreFull) t = (s.verdict ≡ Unknown) × CountsCall s (Err ClauseStoreFull) t × Invalidates (with_steps t.ledger.steps s) t
-Solves s (Err (ProofIoError cause)) t =
+-- What the steps of a call come to.
+abbrev pub Searches : State → Result Bool SolverError → State → Type 0
+Searches s (Ok b) t = TellsVerdict s b t
+Searches s (Err Invalid) t = IsRefusedInvalid s t
+Searches s (Err OutOfMemory) t = (s.verdict ≡ Unknown) × CountsCall s (Err OutOfMemory) t × Invalidates (with_steps t.ledger.steps s) t
+Searches s (Err ClauseStoreFull) t = (s.verdict ≡ Unknown) × CountsCall s (Err ClauseStoreFull) t × Invalidates (with_steps t.ledger.steps s) t
+Searches s (Err (ProofIoError cause)) t =
     IsOpen s.proof × (s.verdict ≡ Unknown) × CountsCall s (Err (ProofIoError cause)) t × Invalidates (with_steps t.ledger.steps s) t
-Solves s (Err Interrupted) t = IsInterrupted s t
+Searches s (Err Interrupted) t = IsInterrupted s t
+Searches s (Err _) t = ⊥
+
+-- the same state, in which `solve` was called under an open proof
+abbrev pub once_searched : State → State
+once_searched s = record s { proof = searched_under s.proof }
+
+-- how the steps are counted that a call makes, by its answer: none where the verdict is known
+pub record CountsIfUnknown (s : State) (r : Result Bool SolverError) (t : State) : Type 0 where
+  pub known : s.verdict ≢ Unknown → t.ledger.steps ≡ s.ledger.steps
+  pub unknown : s.verdict ≡ Unknown → CountsCall s r t
+
+-- Steps are made, and then an open proof is marked as one under which `solve` was called, and flushed, also where the verdict was known. Its target may fail in a step, or as it is flushed.
+abbrev pub Solves : State → Result Bool SolverError → State → Type 0
+Solves s (Ok b) t = TellsVerdict (once_searched s) b t
+Solves s (Err Invalid) t = IsRefusedInvalid s t
+Solves s (Err OutOfMemory) t = Searches s (Err OutOfMemory) t
+Solves s (Err ClauseStoreFull) t = Searches s (Err ClauseStoreFull) t
+Solves s (Err (ProofIoError cause)) t =
+    IsOpen s.proof × CountsIfUnknown s (Err (ProofIoError cause)) t × Invalidates (with_steps t.ledger.steps s) t
+Solves s (Err Interrupted) t = IsInterrupted (once_searched s) t
 Solves s (Err _) t = ⊥
 
 -- The call `model`.

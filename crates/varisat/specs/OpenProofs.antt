@@ -1,5 +1,5 @@
 -- What a user can know of an open DRAT proof, and what a call makes of it.
-use Rattle.std.specs.Prelude.{◌≡◌, ℕ, Bool, false, Option, Some, None, List, [], ◌++◌}
+use Rattle.std.specs.Prelude.{◌≡◌, ℕ, Bool, true, false, Option, Some, None, List, [], ◌++◌}
 use Rattle.varisat_theory.specs.Derivations.{Line}
 use Rattle.varisat_formula.specs.Streams.{Taken}
 use Rattle.varisat_theory.specs.Journals.{Entry, lines_of}
@@ -9,7 +9,7 @@ use Rattle.varisat_proof.specs.Lines.{encoding_of, plain_lines}
 use Rattle.varisat_proof.specs.Steps.{lines_written}
 use Rattle.varisat_proof.specs.Proving.{OpenState}
 
--- `format`: how its lines are written. `faults`: how often the target failed in all. `first`: the bytes that the target had when the proof was opened, and `bytes`: those since then. `searched`: whether the proof is marked as one under which a search came to its end, which no call does yet. `before`: what was told before it was opened.
+-- `format`: how its lines are written. `faults`: how often the target failed in all. `first`: the bytes that the target had when the proof was opened, and `bytes`: those since then. `searched`: whether `solve` was called since it was opened. `before`: what was told before it was opened.
 pub record OpenProof : Type 0 where
   pub format : ProofFormat
   pub faults : ℕ
@@ -56,10 +56,18 @@ abbrev pub GoesOnWriting : Option OpenProof → Option OpenProof → Type 0
 GoesOnWriting None new = new ≡ None
 GoesOnWriting (Some p) new = (more : List ℕ) × (new ≡ Some (record p { bytes = p.bytes ++ more }))
 
--- whether the open proof is marked as one under which a search came to its end
+-- of an open proof, whether `solve` was called under it
 abbrev pub searched_in : Option OpenProof → Option Bool
 searched_in None = None
 searched_in (Some p) = Some p.searched
+
+abbrev pub IsSearched : Option OpenProof → Type 0
+IsSearched proof = searched_in proof ≡ Some true
+
+-- the open proof, if any, as one under which `solve` was called
+abbrev pub searched_under : Option OpenProof → Option OpenProof
+searched_under None = None
+searched_under (Some p) = Some (record p { searched = true })
 
 -- a proof that was just opened: its target has what it had, and this was told before
 abbrev pub first_proof : ProofFormat → Taken → List Entry → OpenProof

@@ -13,12 +13,12 @@ use Rattle.varisat.specs.Calls.{IsPastLimit, MayConstrain, IsCrowded}
 use Rattle.varisat.specs.Additions as additions
 use Rattle.varisat.specs.Usage as usage
 use Rattle.varisat.specs.declared.solver.SolverError.{SolverError}
-use Rattle.varisat.specs.declared.solver.SolverError.TheVariants.{Interrupted, ProofIoError, OutOfMemory, Invalid, ClauseStoreFull, WitnessVar, VariableLimit}
+use Rattle.varisat.specs.declared.solver.SolverError.TheVariants.{Interrupted, ProofIoError, OutOfMemory, Invalid, ClauseStoreFull, WitnessVar, VariableLimit, ClauseAfterSolve, ProofOpen}
 use Rattle.varisat_literals.specs.Numbers.{variable_limit}
 
 -- Clauses and assumptions are kept over identities, as the names that were in use carried them when they were given: a name that becomes free may come back for another variable, and what was said before still speaks of the first.
 --
--- `valid`: no call failed from which there is no way back. `naming`: which identity each name has. `clauses` were accepted, and `assumptions` given last. `counted`: the different identities that these clauses and all lists of assumptions so far name. `has_model`: `solve` returned true, and no clause was accepted and nothing assumed since. `has_core`: it returned false, and nothing was assumed since. `steps`: how many steps were made in all. `since`: how many of them since the last call that was not refused and did more than to solve or to tell something. `settings`: those by which further steps are made. `proof`: of an open proof, whether it is marked as one under which a search came to its end.
+-- `valid`: no call failed from which there is no way back. `naming`: which identity each name has. `clauses` were accepted, and `assumptions` given last. `counted`: the different identities that these clauses and all lists of assumptions so far name. `has_model`: `solve` returned true, and no clause was accepted and nothing assumed since. `has_core`: it returned false, and nothing was assumed since. `steps`: how many steps were made in all. `since`: how many of them since the last call that was not refused and did more than to solve or to tell something. `settings`: those by which further steps are made. `proof`: of an open proof, whether `solve` was called under it.
 pub record Past : Type 0 where
   pub valid : Bool
   pub naming : Naming
@@ -76,19 +76,24 @@ accept c p =
       since = 0;
     }
 
+-- `solve` was called under an open proof
+abbrev pub IsSearched : Past → Type 0
+IsSearched p = p.proof ≡ Some true
+
 -- A clause is taken: it is accepted; or nothing changes, but that steps are counted anew; this happens only once no assignment satisfies those before it.
 pub data TakesClause (p : Past) (c : Clause) (q : Past) : Type 0 where
-  Accepted : MayConstrain p.naming c → q ≡ accept c p → TakesClause p c q
+  Accepted : (IsSearched p → ⊥) → MayConstrain p.naming c → q ≡ accept c p → TakesClause p c q
   Ignored : (IsSatisfiable p.clauses → ⊥) → q ≡ count_anew p → TakesClause p c q
 
 abbrev pub AddsClause : Past → Clause → Result (Unit {0}) SolverError → Past → Type 0
 AddsClause p c (Ok _) q = (p.valid ≡ true) × TakesClause p c q
 AddsClause p c (Err Invalid) q = (p.valid ≡ false) × (q ≡ p)
-AddsClause p c (Err VariableLimit) q = (p.valid ≡ true) × (IsPastLimit c ⊎ IsCrowded (name_all c p.naming)) × (q ≡ p)
-AddsClause p c (Err (WitnessVar u)) q = (p.valid ≡ true) × (IsPastLimit c → ⊥) × IsFirstWitness p.naming c u × (q ≡ p)
-AddsClause p c (Err OutOfMemory) q = Invalidates p q
-AddsClause p c (Err ClauseStoreFull) q = Invalidates p q
-AddsClause p c (Err (ProofIoError cause)) q = HasOpenProof p × Invalidates p q
+AddsClause p c (Err ClauseAfterSolve) q = (p.valid ≡ true) × IsSearched p × (q ≡ p)
+AddsClause p c (Err VariableLimit) q = (p.valid ≡ true) × (IsSearched p → ⊥) × (IsPastLimit c ⊎ IsCrowded (name_all c p.naming)) × (q ≡ p)
+AddsClause p c (Err (WitnessVar u)) q = (p.valid ≡ true) × (IsSearched p → ⊥) × (IsPastLimit c → ⊥) × IsFirstWitness p.naming c u × (q ≡ p)
+AddsClause p c (Err OutOfMemory) q = (IsSearched p → ⊥) × MayConstrain p.naming c × Invalidates p q
+AddsClause p c (Err ClauseStoreFull) q = (IsSearched p → ⊥) × MayConstrain p.naming c × Invalidates p q
+AddsClause p c (Err (ProofIoError cause)) q = (p.proof ≡ Some false) × MayConstrain p.naming c × Invalidates p q
 AddsClause p c (Err _) q = ⊥
 
 abbrev pub adding : additions.Adding Past
@@ -138,12 +143,23 @@ assume list p =
     }
 
 abbrev pub Assumes : Past → List Literal → Result (Unit {0}) SolverError → Past → Type 0
-Assumes p list (Ok _) q = (p.valid ≡ true) × MayConstrain p.naming list × (q ≡ assume list p)
+Assumes p list (Ok _) q = (p.valid ≡ true) × (p.proof ≡ None) × MayConstrain p.naming list × (q ≡ assume list p)
 Assumes p list (Err Invalid) q = (p.valid ≡ false) × (q ≡ p)
-Assumes p list (Err VariableLimit) q = (p.valid ≡ true) × (IsPastLimit list ⊎ IsCrowded (name_all list p.naming)) × (q ≡ p)
-Assumes p list (Err (WitnessVar u)) q = (p.valid ≡ true) × (IsPastLimit list → ⊥) × IsFirstWitness p.naming list u × (q ≡ p)
-Assumes p list (Err OutOfMemory) q = Invalidates p q
+Assumes p list (Err ProofOpen) q = (p.valid ≡ true) × HasOpenProof p × (q ≡ p)
+Assumes p list (Err VariableLimit) q = (p.valid ≡ true) × (p.proof ≡ None) × (IsPastLimit list ⊎ IsCrowded (name_all list p.naming)) × (q ≡ p)
+Assumes p list (Err (WitnessVar u)) q = (p.valid ≡ true) × (p.proof ≡ None) × (IsPastLimit list → ⊥) × IsFirstWitness p.naming list u × (q ≡ p)
+Assumes p list (Err OutOfMemory) q = (p.proof ≡ None) × MayConstrain p.naming list × Invalidates p q
 Assumes p list (Err _) q = ⊥
+
+-- neither a model nor a core was found last
+pub record IsUndecided (p : Past) : Type 0 where
+  pub no_model : p.has_model ≡ false
+  pub no_core : p.has_core ≡ false
+
+-- of an open proof, that `solve` was called under it
+abbrev pub searched_under : Option Bool → Option Bool
+searched_under None = None
+searched_under (Some searched) = Some true
 
 -- how the steps are counted that a call makes before the verdict is known, by its answer
 abbrev pub CountsCall : Past → Result Bool SolverError → Past → Type 0
@@ -153,23 +169,28 @@ CountsCall p r q = CountsSteps (length p.counted) p.settings.max_steps p.since p
 abbrev pub with_steps : ℕ → Past → Past
 with_steps n p = record p { steps = n; since = p.since + (n - p.steps) }
 
--- where the verdict is known no step is made; and it is known where a model or a core was found last
-abbrev pub MakesFewSteps : Past → Bool → Past → Type 0
-MakesFewSteps p b q = (q.steps ≡ p.steps) ⊎ ((p.has_model ≡ false) × (p.has_core ≡ false) × CountsCall p (Ok b) q)
+-- No step is made where the verdict is known, which it is only where a model or a core was found last, or no assignment satisfies the clauses; else the call's steps are counted. It is known wherever a model or a core was found last.
+pub data CountsIfUnknown (p : Past) (r : Result Bool SolverError) (q : Past) : Type 0 where
+  Known : (p.has_model ≡ true) ⊎ ((p.has_core ≡ true) ⊎ (IsSatisfiable p.clauses → ⊥)) → q.steps ≡ p.steps → CountsIfUnknown p r q
+  Searched : IsUndecided p → CountsCall p r q → CountsIfUnknown p r q
 
--- True is returned only if some assignment satisfies the clauses and the assumptions, false only if none does. A call is interrupted only where its steps are spent, and neither a model nor a core was found last.
+-- the same past, in which `solve` was called under an open proof
+abbrev pub once_searched : Past → Past
+once_searched p = record p { proof = searched_under p.proof }
+
+-- True is returned only if some assignment satisfies the clauses and the assumptions, false only if none does. A call is interrupted only where its steps are spent, and neither a model nor a core was found last. An open proof is one then under which `solve` was called. Its target may fail in a step, or as it is flushed.
 abbrev pub Solves : Past → Result Bool SolverError → Past → Type 0
 Solves p (Ok true) q =
-    (p.valid ≡ true) × IsSatisfiableWith p.clauses p.assumptions × MakesFewSteps p true q
-    × (q ≡ record (with_steps q.steps p) { has_model = true; has_core = false })
+    (p.valid ≡ true) × IsSatisfiableWith p.clauses p.assumptions × CountsIfUnknown p (Ok true) q
+    × (q ≡ record (with_steps q.steps (once_searched p)) { has_model = true; has_core = false })
 Solves p (Ok false) q =
-    (p.valid ≡ true) × (IsSatisfiableWith p.clauses p.assumptions → ⊥) × MakesFewSteps p false q
-    × (q ≡ record (with_steps q.steps p) { has_model = false; has_core = true })
+    (p.valid ≡ true) × (IsSatisfiableWith p.clauses p.assumptions → ⊥) × CountsIfUnknown p (Ok false) q
+    × (q ≡ record (with_steps q.steps (once_searched p)) { has_model = false; has_core = true })
 Solves p (Err Invalid) q = (p.valid ≡ false) × (q ≡ p)
-Solves p (Err OutOfMemory) q = CountsCall p (Err OutOfMemory) q × Invalidates (with_steps q.steps p) q
-Solves p (Err ClauseStoreFull) q = CountsCall p (Err ClauseStoreFull) q × Invalidates (with_steps q.steps p) q
-Solves p (Err (ProofIoError cause)) q = HasOpenProof p × CountsCall p (Err (ProofIoError cause)) q × Invalidates (with_steps q.steps p) q
-Solves p (Err Interrupted) q = (p.valid ≡ true) × (p.has_model ≡ false) × (p.has_core ≡ false) × CountsCall p (Err Interrupted) q × (q ≡ with_steps q.steps p)
+Solves p (Err OutOfMemory) q = IsUndecided p × CountsCall p (Err OutOfMemory) q × Invalidates (with_steps q.steps p) q
+Solves p (Err ClauseStoreFull) q = IsUndecided p × CountsCall p (Err ClauseStoreFull) q × Invalidates (with_steps q.steps p) q
+Solves p (Err (ProofIoError cause)) q = HasOpenProof p × CountsIfUnknown p (Err (ProofIoError cause)) q × Invalidates (with_steps q.steps p) q
+Solves p (Err Interrupted) q = (p.valid ≡ true) × IsUndecided p × CountsCall p (Err Interrupted) q × (q ≡ with_steps q.steps (once_searched p))
 Solves p (Err _) q = ⊥
 
 -- A model is told where one was found last, and nothing in an invalid solver: exactly the names in use, such that some assignment agrees with it through the names and satisfies the clauses and the assumptions.

@@ -1,5 +1,5 @@
 -- What a solver holds, and which states it stands for.
-use Rattle.std.specs.Prelude.{◌≡◌, ℕ, zero, suc, Bool, true, Option, Some, None, List, [], length, slice_index_or, IsSome}
+use Rattle.std.specs.Prelude.{◌≡◌, ℕ, zero, suc, Bool, true, false, Option, Some, None, List, [], length, slice_index_or, IsSome, is_some, Result, Ok, Err}
 use Rattle.varisat_theory.specs.Membership.{◌∈◌}
 use Rattle.varisat_theory.specs.Literals.{Literal, variable_of}
 use Rattle.varisat_prop.specs.Parts.{is_true_value}
@@ -14,7 +14,7 @@ use Rattle.varisat_search.specs.Seen.{search_of, outcome_of}
 use Rattle.varisat_names.specs.VarMap.{at}
 use Rattle.varisat_names.specs.VarData.{kept_at}
 use Rattle.varisat_names.specs.Variables.{Tables}
-use Rattle.varisat_proof.specs.Proving.{OpenState, ProofParts}
+use Rattle.varisat_proof.specs.Proving.{OpenState, ProofParts, marked_searched}
 use Rattle.varisat.specs.OpenProofs.{ProofFits}
 use Rattle.varisat_tracer.specs.Tracing.{CanTell}
 use Rattle.varisat.specs.States.{State, Ledger}
@@ -23,6 +23,8 @@ use Rattle.varisat.specs.Models.{put_name}
 use Rattle.varisat.specs.Carried.{value_or}
 use Rattle.varisat.specs.Spaces.{Spaces, SpacesFit}
 use Rattle.varisat.specs.SinceChange.{CountsSince}
+use Rattle.varisat.specs.declared.solver.SolverError.{SolverError}
+use Rattle.varisat.specs.declared.solver.SolverError.TheVariants.{ProofIoError}
 
 -- The maps between names, global variables and solver variables with what is kept of the global variables; the proof that is open; the search with its assumptions and its verdict; what is told of an invalid solver too.
 pub record Summary : Type 0 where
@@ -92,3 +94,9 @@ pub record StandsFor (g : Summary) (s : State) : Type 0 where
   pub ledger : s.ledger ≡ g.ledger
   pub fits : g.ledger.valid ≡ true → SpacesFit (spaces g) s
   pub proof : g.ledger.valid ≡ true → ProofFits g.opened s.ever_hidden s.told s.proof
+
+-- A search ends in a valid solver: an open proof is one under which `solve` was called. Where it can't be flushed the solver is invalid.
+abbrev pub EndsSearch : Summary → Result (Unit {0}) SolverError → Summary → Type 0
+EndsSearch g (Ok _) h = h ≡ record g { opened = marked_searched g.opened }
+EndsSearch g (Err (ProofIoError cause)) h = (is_some g.opened ≡ true) × (h ≡ record g { opened = h.opened; ledger = record g.ledger { valid = false } })
+EndsSearch g (Err _) h = ⊥

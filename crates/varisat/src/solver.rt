@@ -21,7 +21,7 @@ use varisat_names::config::{ConfigField, SolverConfigUpdate};
 use varisat_names::variables::LinkedVariables;
 use varisat_names::variables::data::SamplingMode;
 pub use varisat_proof::proof::ProofFormat;
-use varisat_proof::proof::{close_proof, take_target};
+use varisat_proof::proof::{close_proof, solve_finished, take_target};
 use varisat_search::assumptions::copied;
 use varisat_search::context::Context;
 use varisat_search::error::StepError;
@@ -33,7 +33,7 @@ use varisat_tracer::SolverTracer;
 /// How many bytes of a text are asked for at a time.
 const PIECE: usize = 0x2000;
 
-/// Why a call was refused. No call returns `ClauseAfterSolve` yet.
+/// Why a call was refused.
 #[derive(Debug, Drop, Error)]
 pub enum SolverError {
     #[error("The solver was interrupted")]
@@ -200,9 +200,9 @@ impl<W: ProofTarget, A: Allocator + Copy> Solver<W, A> {
     ghost use Rattle.varisat.specs.States.{State, empty_state};
     ghost use Rattle.varisat.specs.Models.{model_of, IsCompletable, core_of, AreNamesInUse};
     ghost use Rattle.varisat.specs.Names.{through_names};
-    ghost use Rattle.varisat.specs.Calls.{IsValid, count_anew, AddsClause, AddsAll, AddsFormula, AddsDimacs, AddsReading, TellsFault, MakesVar, Assumes, Solves, TellsModel, TellsCore, Configures, TellsSteps, TellsSince, TellsValid, answer_of};
+    ghost use Rattle.varisat.specs.Calls.{IsValid, count_anew, AddsClause, AddsAll, AddsFormula, AddsDimacs, AddsReading, TellsFault, MakesVar, Assumes, Searches, Solves, TellsModel, TellsCore, Configures, TellsSteps, TellsSince, TellsValid, answer_of};
     ghost use Rattle.varisat.specs.Told.{told_list, lent_list};
-    ghost use Rattle.varisat.specs.Summaries.{StandsFor};
+    ghost use Rattle.varisat.specs.Summaries.{StandsFor, EndsSearch};
     ghost use Rattle.varisat.specs.Journals.{IsJournal};
     ghost use Rattle.varisat.specs.OpenProofs.{OpenProof, IsDrat};
     ghost use Rattle.varisat_proof.specs.Proving.{IsClosed};
@@ -290,10 +290,10 @@ impl<W: ProofTarget, A: Allocator + Copy> Solver<W, A> {
     }
 
     /// Accepts a clause, and brings its names into use. Once the clauses are known to be unsatisfiable a clause is
-    /// accepted without a change, but that steps are counted anew. Refused in an invalid solver, where a name is past
-    /// the limit of 2^28 names or there is no room for its variables, and where a name is a witness: then nothing
-    /// changes. Where memory runs out, the clause store is full or the target of an open proof fails, the solver is
-    /// invalid.
+    /// accepted without a change, but that steps are counted anew. Refused in an invalid solver; where `solve` was
+    /// called since the open proof was opened; where a name is past the limit of 2^28 names or there is no room for its
+    /// variables; and where a name is a witness: then nothing changes. Where memory runs out, the clause store is full
+    /// or the target of an open proof fails, the solver is invalid.
     pub fn add_clause(&mut self, clause: &[Lit]) -> Result<(), SolverError>
         ensures { (s : State) → StandsFor self.old s → (t : State) × AddsClause s clause.now result t × StandsFor self.new t }
     {
@@ -303,6 +303,9 @@ impl<W: ProofTarget, A: Allocator + Copy> Solver<W, A> {
         if let SatState::Unsat = self.ctx.solver_state.sat_state {
             self.begin_count();
             return Ok(());
+        }
+        if self.tracer.proof.is_searched() {
+            return Err(SolverError::ClauseAfterSolve);
         }
         check_names(&self.tracer.variables, clause)?;
         let is_open = self.tracer.proof.is_open();
@@ -427,9 +430,9 @@ impl<W: ProofTarget, A: Allocator + Copy> Solver<W, A> {
         }
     }
 
-    /// Opens a proof, to which the lines of the search are written from here on. They are flushed as it closes. Its
-    /// format is one of DRAT: marked proofs are not written yet. Refused in an invalid solver; where a proof is open;
-    /// and where a clause, a variable or a list of assumptions was accepted before: then nothing changes, and the
+    /// Opens a proof, to which the lines of the search are written from here on. `solve` and `close_proof` flush them.
+    /// Its format is one of DRAT: marked proofs are not written yet. Refused in an invalid solver; where a proof is
+    /// open; and where a clause, a variable or a list of assumptions was accepted before: then nothing changes, and the
     /// target is handed back. The target has to have counted fewer than 2^64-1 faults.
     pub fn write_proof(&mut self, target: W, format: ProofFormat) -> Result<(), (SolverError, W)>
         requires format { IsDrat format }
@@ -474,14 +477,17 @@ impl<W: ProofTarget, A: Allocator + Copy> Solver<W, A> {
         }
     }
 
-    /// Assumes that these literals are true, in place of the assumptions before, and brings their names into use. An
-    /// open proof is told nothing. Refused in an invalid solver and for its names as a clause is, and then the
-    /// assumptions before stay; and where memory runs out, which makes the solver invalid.
+    /// Assumes that these literals are true, in place of the assumptions before, and brings their names into use.
+    /// Refused in an invalid solver, where a proof is open, and for its names as a clause is: then nothing changes, and
+    /// the assumptions before stay. Where memory runs out, the solver is invalid.
     pub fn assume(&mut self, lits: &[Lit]) -> Result<(), SolverError>
         ensures { (s : State) → StandsFor self.old s → (t : State) × Assumes s lits.now result t × StandsFor self.new t }
     {
         if self.ctx.solver_state.state_is_invalid {
             return Err(SolverError::Invalid);
+        }
+        if self.tracer.proof.is_open() {
+            return Err(SolverError::ProofOpen);
         }
         check_names(&self.tracer.variables, lits)?;
         match assume_list(
@@ -504,11 +510,44 @@ impl<W: ProofTarget, A: Allocator + Copy> Solver<W, A> {
 
     /// Whether some assignment satisfies the accepted clauses and makes the assumptions true. A call makes fewer than
     /// 2^(2n+3) steps, where the clauses and all assumptions so far name n variables. The lines of the steps are
-    /// written to an open proof. Refused in an invalid solver, and where the steps are spent before that is known:
-    /// `max_steps` of the settings, or 2^64-1 in all. The next call then goes on. Where memory runs out, the clause
-    /// store is full or the target of an open proof fails, the solver is invalid.
+    /// written to an open proof, which is then flushed, also where nothing is left to search. Refused in an invalid
+    /// solver, and where the steps are spent before it is known: `max_steps` of the settings, or 2^64-1 in all. The
+    /// next call then goes on. Where memory runs out, the clause store is full or the target of an open proof fails,
+    /// the solver is invalid; a proof that cannot be flushed is told in place of spent steps.
     pub fn solve(&mut self) -> Result<bool, SolverError>
         ensures call { (s : State) → StandsFor self.old s → (t : State) × Solves s result t × StandsFor self.new t }
+        ensures satisfiable { result ≡ Ok true → (s : State) → StandsFor self.old s → IsSatisfiableWith s.clauses s.assumptions }
+        ensures unsatisfiable { result ≡ Ok false → (s : State) → StandsFor self.old s → IsSatisfiableWith s.clauses s.assumptions → ⊥ }
+        ensures model { result ≡ Ok true → (s : State) → StandsFor self.new s → (m : List ℕ) × (model_of s.naming s.verdict ≡ Some m) × IsCompletable s.naming s.clauses s.assumptions s.counted m }
+        ensures core { result ≡ Ok false → (s : State) → StandsFor self.new s → (core : List ℕ) × (core_of s.verdict ≡ Some core) × IsFailedCore s.clauses s.assumptions core }
+    {
+        let found = self.seek();
+        if self.ctx.solver_state.state_is_invalid {
+            return found;
+        }
+        self.end_search()?;
+        found
+    }
+
+    /// Marks an open proof as one under which `solve` was called, and flushes it. Where that fails the solver is
+    /// invalid.
+    fn end_search(&mut self) -> Result<(), SolverError>
+        requires { self.old.ledger.valid ≡ true }
+        ensures { EndsSearch self.old result self.new }
+    {
+        match solve_finished(&mut self.tracer.proof) {
+            Ok(()) => Ok(()),
+            Err(cause) => {
+                self.ctx.solver_state.state_is_invalid = true;
+                Err(SolverError::ProofIoError { cause })
+            }
+        }
+    }
+
+    /// Makes steps until it is known whether some assignment satisfies the accepted clauses and makes the assumptions
+    /// true; none where that is known. Errors are those of `solve`, but for that of a flush.
+    fn seek(&mut self) -> Result<bool, SolverError>
+        ensures call { (s : State) → StandsFor self.old s → (t : State) × Searches s result t × StandsFor self.new t }
         ensures satisfiable { result ≡ Ok true → (s : State) → StandsFor self.old s → IsSatisfiableWith s.clauses s.assumptions }
         ensures unsatisfiable { result ≡ Ok false → (s : State) → StandsFor self.old s → IsSatisfiableWith s.clauses s.assumptions → ⊥ }
         ensures model { result ≡ Ok true → (s : State) → StandsFor self.new s → (m : List ℕ) × (model_of s.naming s.verdict ≡ Some m) × IsCompletable s.naming s.clauses s.assumptions s.counted m }

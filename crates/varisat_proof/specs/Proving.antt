@@ -113,14 +113,26 @@ abbrev pub IsUsable : Option CheckerState → Type 0
 IsUsable None = Unit {0}
 IsUsable (Some c) = c.spent ≡ false
 
--- 4. How a proof opens and closes.
+-- 4. How a search ends under a proof, and how that closes.
+-- whether a proof is open under which a search ran
+abbrev pub is_searched : Option OpenState → Bool
+is_searched None = false
+is_searched (Some p) = p.searched
+
 -- the open proof, if any, as one under which a search ran
 abbrev pub marked_searched : Option OpenState → Option OpenState
 marked_searched None = None
 marked_searched (Some p) = Some (record p { searched = true })
 
-abbrev pub searched_under : ProofParts → ProofParts
-searched_under p = record p { opened = marked_searched p.opened }
+-- the target took the same, and failed once more
+abbrev pub with_fault : Taken → Taken
+with_fault taken = record taken { faults = taken.faults + 1 }
+
+-- What a flush returns and leaves: an error is a fault of the target, and comes only where a proof is open.
+abbrev pub Flushes : {E : Type 0} → Option OpenState → Result (Unit {0}) E → Option OpenState → Type 0
+Flushes old (Ok u) new = new ≡ old
+Flushes None (Err e) new = ⊥
+Flushes (Some p) (Err e) new = new ≡ Some (record p { taken = with_fault p.taken })
 
 -- What closing returns: the target, or its fault with it, and nothing where no proof is open.
 abbrev pub IsClosed : {W E : Type 0} → (W → Taken) → Option OpenState → Result (Option W) (E × W) → Type 0
@@ -128,4 +140,4 @@ IsClosed taken None (Ok None) = Unit {0}
 IsClosed taken None result = ⊥
 IsClosed taken (Some p) (Ok None) = ⊥
 IsClosed taken (Some p) (Ok (Some w)) = taken w ≡ p.taken
-IsClosed taken (Some p) (Err e) = taken e.1 ≡ record p.taken { faults = p.taken.faults + 1 }
+IsClosed taken (Some p) (Err e) = taken e.1 ≡ with_fault p.taken

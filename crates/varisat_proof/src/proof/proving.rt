@@ -9,7 +9,7 @@ ghost use Rattle.varisat_proof.specs.Lines.{encoding_of, line_of_kind};
 ghost use Rattle.varisat_proof.specs.Steps.{PutsLines};
 ghost use Rattle.varisat_proof.specs.Telling.{marked_line, lines_told};
 ghost use Rattle.varisat_proof.specs.Present.{IsLeftAfter};
-ghost use Rattle.varisat_proof.specs.Proving.{is_telling, searched_under, WritesLines, told, Tells, HasRoom, MayHold, IsUsable, IsCheckedIf, IsSpent, IsClosed};
+ghost use Rattle.varisat_proof.specs.Proving.{is_telling, is_searched, marked_searched, WritesLines, told, Tells, Flushes, HasRoom, MayHold, IsUsable, IsCheckedIf, IsSpent, IsClosed};
 
 use crate::checker::{Checker, CheckerError};
 use crate::proof::format::{LineKind, ProofFormat};
@@ -214,6 +214,16 @@ impl<W: ProofTarget, A: Allocator + Copy> Proof<W, A> {
         self.open.is_some()
     }
 
+    /// Whether a proof is open under which a search ran.
+    pub fn is_searched(&self) -> bool
+        ensures { result ≡ is_searched self.now.opened }
+    {
+        match &self.open {
+            Some(open) => open.searched,
+            None => false,
+        }
+    }
+
     /// The checker that runs.
     pub fn checker(&self) -> Option<&Checker<A>>
         ensures { option_copied result ≡ self.now.checker }
@@ -280,30 +290,29 @@ pub fn add_step<W: ProofTarget, A: Allocator + Copy>(
     }
 }
 
-/// Flushes the target, if a proof is open. `Target` is the only error: the flush failed.
-pub fn flush_proof<W: ProofTarget, A: Allocator + Copy>(
-    proof: &mut Proof<W, A>,
-) -> Result<(), TraceError>
-    requires room { HasRoom proof.old.opened }
-    requires usable { IsUsable proof.old.checker }
-    ensures { Tells proof.old [] result proof.new }
+/// Flushes the target, if a proof is open. It takes no memory, and an error is the target's.
+pub fn flush_proof<W: ProofTarget, A: Allocator + Copy>(proof: &mut Proof<W, A>) -> io::Result<()>
+    requires { HasRoom proof.old.opened }
+    ensures flushed { Flushes proof.old.opened result proof.new.opened }
+    ensures rest { proof.new ≡ record proof.old { opened = proof.new.opened } }
 {
     let Some(open) = &mut proof.open else {
         return Ok(());
     };
     match open.target.flush() {
         Ok(()) => Ok(()),
-        Err(cause) => Err(TraceError::Target(cause)),
+        Err(cause) => Err(cause),
     }
 }
 
-/// Ends a search: an open proof is marked as one under which a search ran, and flushed. `Target`: the flush failed.
+/// Ends a search: an open proof is marked as one under which a search ran, and flushed. It takes no memory, and an error
+/// is the target's.
 pub fn solve_finished<W: ProofTarget, A: Allocator + Copy>(
     proof: &mut Proof<W, A>,
-) -> Result<(), TraceError>
-    requires room { HasRoom proof.old.opened }
-    requires usable { IsUsable proof.old.checker }
-    ensures { Tells (searched_under proof.old) [] result proof.new }
+) -> io::Result<()>
+    requires { HasRoom proof.old.opened }
+    ensures flushed { Flushes (marked_searched proof.old.opened) result proof.new.opened }
+    ensures rest { proof.new ≡ record proof.old { opened = proof.new.opened } }
 {
     if let Some(open) = &mut proof.open {
         open.searched = true;

@@ -6,10 +6,10 @@ use Rattle.varisat.specs.Summaries.{spaces_of}
 use Rattle.varisat.specs.States.{Ledger}
 use Rattle.varisat.specs.Names.{name_all, through_names}
 use Rattle.varisat.specs.Journals.{retold}
-use Rattle.varisat.specs.Calls.{with_naming, start, append_clause, count_anew, Ignored, Accepted, AddsClause}
+use Rattle.varisat.specs.Calls.{with_naming, start, append_clause, count_anew, IsExtensible, Ignored, Accepted, AddsClause}
 use Rattle.varisat.proofs.CallStates.{ledger-is, none-since, stands-valid, like-told, broken, broken-invalid, adds-broken}
 use Rattle.varisat.proofs.AcceptClause.{ledger-free, proof-free, not-refuted}
-use Rattle.varisat.proofs.OpenProofs.{proof-goes-on, open-there}
+use Rattle.varisat.proofs.OpenProofs.{proof-goes-on, open-there, searched-there, unsearched-there}
 use Rattle.varisat.proofs.Additions.{told-error}
 use Rattle.varisat.proofs.SolverCalls.{unsat-known}
 use Rattle.varisat.proofs.SinceSteps.{since-now}
@@ -27,7 +27,11 @@ invariant_of-self g c _ =
 pub returns-in_err-check_names : goal.returns-in_err-check_names
 returns-in_err-check_names g c s st =
     let q = rw (← c.self.view_is) at st in
-    let bad = not-refuted _ s q (ap not c.if-self.false) c.in_default.not-Unsat in
+    let ok = ap not c.if-self.false in
+    let bad : IsExtensible s = record {
+      unrefuted = not-refuted _ s q ok c.in_default.not-Unsat;
+      unsearched = unsearched-there _ s.ever_hidden s.told s.proof c.is_searched.result (q.proof ok) c.is_searched.ensures c.if-is_searched.false;
+    } in
     let refused = told-error c.from_residual.result c.in_err-check_names.field-0.0 c.from_residual.ensures in
     (s, subst (λ r. AddsClause s c.args.clause.now r s) (sym refused) (clause-refused _ s q (ap not c.if-self.false) c.args.clause.now bad c.in_err-check_names.field-0.0 c.in_err-check_names.ensures), st)
 
@@ -36,7 +40,11 @@ returns-in-Ok g c s st =
     let q = rw (← c.self.view_is) at st in
     let e = c.in-Ok.ensures {u = tt} in
     let (x, told, v, more, proof, (w, k)) = e.accepted s (q.fits (ap not c.if-self.false)) in
-    let bad = not-refuted _ s q (ap not c.if-self.false) c.in_default.not-Unsat in
+    let ok = ap not c.if-self.false in
+    let bad : IsExtensible s = record {
+      unrefuted = not-refuted _ s q ok c.in_default.not-Unsat;
+      unsearched = unsearched-there _ s.ever_hidden s.told s.proof c.is_searched.result (q.proof ok) c.is_searched.ensures c.if-is_searched.false;
+    } in
     let n = name_all c.args.clause.now s.naming in
     let k' = c.accept_clause.ensures.schedule in
     let u = append_clause (map (through_names n) c.args.clause.now) x (with_naming n s) in
@@ -54,7 +62,11 @@ returns-in-Ok g c s st =
 pub returns-in-Err : goal.returns-in-Err
 returns-in-Err g c s st =
     let q = rw (← c.self.view_is) at st in
-    let bad = not-refuted _ s q (ap not c.if-self.false) c.in_default.not-Unsat in
+    let ok = ap not c.if-self.false in
+    let bad : IsExtensible s = record {
+      unrefuted = not-refuted _ s q ok c.in_default.not-Unsat;
+      unsearched = unsearched-there _ s.ever_hidden s.told s.proof c.is_searched.result (q.proof ok) c.is_searched.ensures c.if-is_searched.false;
+    } in
     let k = c.accept_clause.ensures.schedule in (
       broken s,
       subst (λ e. AddsClause s c.args.clause.now (Err e) (broken s)) (sym c.refused.ensures)
@@ -70,3 +82,12 @@ pub returns-in-Unsat : goal.returns-in-Unsat
 returns-in-Unsat g c s st =
     let q = rw (← c.self.view_is) at st in
     (count_anew s, (stands-valid _ s q (ap not c.if-self.false), Ignored (unsat-known _ s q (ap not c.if-self.false) c.in-Unsat.is) refl), c.begin_count.ensures s st)
+
+pub returns-then-is_searched : goal.returns-then-is_searched
+returns-then-is_searched g c s st =
+    let q = rw (← c.self.view_is) at st in
+    let ok = ap not c.if-self.false in (
+      s,
+      (stands-valid _ s q ok, not-refuted _ s q ok c.in_default.not-Unsat, searched-there _ s.ever_hidden s.told s.proof c.is_searched.result (q.proof ok) c.is_searched.ensures c.if-is_searched.true, refl),
+      st,
+    )

@@ -8,7 +8,7 @@ use Rattle.varisat.specs.Names.{name_all, through_names}
 use Rattle.varisat.specs.Journals.{retold}
 use Rattle.varisat_theory.specs.Journals.{Assumes as Assumed}
 use Rattle.varisat.specs.Calls.{with_naming, start, with_assumptions, Assumes}
-use Rattle.varisat.proofs.OpenProofs.{assumed-fits}
+use Rattle.varisat.proofs.OpenProofs.{assumed-fits, none-there, open-there}
 use Rattle.varisat.proofs.CallStates.{ledger-is, none-since, stands-valid, like-refl, broken, broken-invalid}
 use Rattle.varisat.proofs.AcceptClause.{ledger-free}
 use Rattle.varisat.proofs.Additions.{told-error}
@@ -28,7 +28,7 @@ pub returns-in_err-check_names : goal.returns-in_err-check_names
 returns-in_err-check_names g c s st =
     let q = rw (← c.self.view_is) at st in
     let refused = told-error c.from_residual.result c.in_err-check_names.field-0.0 c.from_residual.ensures in
-    (s, subst (λ r. Assumes s c.args.lits.now r s) (sym refused) (list-refused _ s q (ap not c.if-self.false) c.args.lits.now c.in_err-check_names.field-0.0 c.in_err-check_names.ensures), st)
+    (s, subst (λ r. Assumes s c.args.lits.now r s) (sym refused) (list-refused _ s q (ap not c.if-self.false) c.args.lits.now (none-there _ s.proof (q.proof (ap not c.if-self.false)).same (sym c.is_open.ensures ∙ c.if-is_open.false)) c.in_err-check_names.field-0.0 c.in_err-check_names.ensures), st)
 
 pub returns-in-Ok : goal.returns-in-Ok
 returns-in-Ok g c s st =
@@ -40,7 +40,7 @@ returns-in-Ok g c s st =
     let new = c.assume_list.new.ctx in
     let t = retold (s.told ++ Assumed (map (through_names n) c.args.lits.now) ∷ []) (with_assumptions (map (through_names n) c.args.lits.now) (with_naming n s)) in (
       start t,
-      (stands-valid _ s q (ap not c.if-self.false), may-constrain _ s q (ap not c.if-self.false) c.args.lits.now c.in_ok-check_names.ensures.0 c.in_ok-check_names.ensures.1, like-refl (start t)),
+      (stands-valid _ s q (ap not c.if-self.false), none-there _ s.proof (q.proof (ap not c.if-self.false)).same (sym c.is_open.ensures ∙ c.if-is_open.false), may-constrain _ s q (ap not c.if-self.false) c.args.lits.now c.in_ok-check_names.ensures.0 c.in_ok-check_names.ensures.1, like-refl (start t)),
       record {
         ledger = ledger-is _ _ _ _ _ _ (ap (λ (x : Ledger). x.valid) q.ledger ∙ ap (λ (x : SolverState). not x.state_is_invalid) (sym e.state)) refl (ap (λ (x : Ledger). x.steps) q.ledger ∙ sym (ap (λ (x : Plan). x.steps) plan.schedule)) (none-since c.steps-self-inside.result c.assume_list.new.ctx.schedule.steps c.steps-self-inside.ensures.steps) (ap (λ (x : Ledger). x.settings) q.ledger ∙ sym plan.solver_config);
         fits = λ _. (w, ledger-free w (spaces_of c.assume_list.new.variables (view new) new.assumptions new.solver_state.sat_state) t (record t.ledger { started = true; since = 0 }) k);
@@ -53,10 +53,16 @@ returns-in-Err g c s st =
     let q = rw (← c.self.view_is) at st in
     let plan = c.assume_list.ensures.schedule in (
       broken s,
-      (may-constrain _ s q (ap not c.if-self.false) c.args.lits.now c.in_ok-check_names.ensures.0 c.in_ok-check_names.ensures.1, broken-invalid s (stands-valid _ s q (ap not c.if-self.false)) (q.fits (ap not c.if-self.false)).1.well_formed),
+      (none-there _ s.proof (q.proof (ap not c.if-self.false)).same (sym c.is_open.ensures ∙ c.if-is_open.false), may-constrain _ s q (ap not c.if-self.false) c.args.lits.now c.in_ok-check_names.ensures.0 c.in_ok-check_names.ensures.1, broken-invalid s (stands-valid _ s q (ap not c.if-self.false)) (q.fits (ap not c.if-self.false)).1.well_formed),
       record {
         ledger = ledger-is _ _ _ _ _ _ refl (ap (λ (x : Ledger). x.started) q.ledger) (ap (λ (x : Ledger). x.steps) q.ledger ∙ sym (ap (λ (x : Plan). x.steps) plan.schedule)) (ap (λ (x : Ledger). x.since) q.ledger ∙ sym (ap (λ (x : Plan). x.steps - c.self.inside.changed_at) plan.schedule)) (ap (λ (x : Ledger). x.settings) q.ledger ∙ sym plan.solver_config);
         fits = λ e. absurd cc;
         proof = λ e. absurd cc;
       },
     )
+
+pub returns-then-is_open : goal.returns-then-is_open
+returns-then-is_open g c s st =
+    let q = rw (← c.self.view_is) at st in
+    let ok = ap not c.if-self.false in
+    (s, (stands-valid _ s q ok, open-there _ s.ever_hidden s.told s.proof c.is_open.result (q.proof ok) c.is_open.ensures c.if-is_open.true, refl), st)

@@ -1,0 +1,151 @@
+-- How a call of `solve` ends, once its steps came to something: an open proof is marked and flushed.
+use Rattle.std.proofs.Common.{◌≡◌, ◌∙◌, Bool, true, false, Option, Result, Ok, Err, refl, sym, ap, subst}
+use Rattle.std.specs.declared.io.Error.{Error}
+use Rattle.varisat_proof.specs.Proving.{marked_searched}
+use Rattle.varisat.specs.OpenProofs.{OpenProof, IsOpen, searched_under}
+use Rattle.varisat.specs.States.{State, Ledger, IsWellFormed}
+use Rattle.varisat.specs.ProofCalls.{with_proof}
+use Rattle.varisat.specs.Summaries.{Summary, StandsFor, EndsSearch, spaces}
+use Rattle.varisat.specs.Calls.{IsLike, IsValid, is_valid, Invalidates, CountsCall, Searches, Solves, with_steps, once_searched}
+use Rattle.varisat.specs.declared.solver.SolverError.{SolverError}
+use Rattle.varisat.specs.declared.solver.SolverError.TheVariants.{Interrupted, ProofIoError, OutOfMemory, Invalid, ClauseStoreFull}
+use Rattle.varisat.proofs.AcceptClause.{proof-free}
+use Rattle.varisat.proofs.CallStates.{stands-valid, told-well, broken}
+use Rattle.varisat.proofs.OpenProofs.{goes-on-searched, open-before, open-there, searched-fits, fitted-before}
+
+-- 1. States.
+
+invalid-valid : (s t : State) → Invalidates s t → IsValid t → ⊥
+invalid-valid s t b v = let z : false ≡ true = sym (ap (λ (l : Ledger). l.valid) b.ledger) ∙ v in cc
+
+like-searched : (s t : State) → IsLike s t → IsLike (once_searched s) (once_searched t)
+like-searched s t k = record {
+  naming = k.naming;
+  ever_hidden = k.ever_hidden;
+  clauses = k.clauses;
+  assumptions = k.assumptions;
+  counted = k.counted;
+  verdict = k.verdict;
+  ledger = k.ledger;
+  told = k.told;
+  proof = goes-on-searched s.proof t.proof k.proof;
+}
+
+-- an open proof was marked and flushed
+pub ends-well : (s t : State) (r : Result Bool SolverError) → Searches s r t → IsValid t → Solves s r (once_searched t)
+ends-well s t (Ok b) h v = record {
+  valid = h.valid;
+  known = h.known;
+  steps = h.steps;
+  answer = h.answer;
+  right = h.right;
+  rest = like-searched _ t h.rest;
+  told = h.told;
+  refuted = h.refuted;
+}
+ends-well s t (Err Interrupted) h v = record {
+  valid = h.valid;
+  unknown = h.unknown;
+  steps = h.steps;
+  rest = like-searched _ t h.rest;
+  told = h.told;
+  adds = h.adds;
+}
+ends-well s t (Err Invalid) h v = let z : false ≡ true = sym h.0 ∙ ap (λ (x : State). is_valid x) (sym h.1) ∙ v in absurd cc
+ends-well s t (Err OutOfMemory) h v = absurd (invalid-valid _ t h.2 v)
+ends-well s t (Err ClauseStoreFull) h v = absurd (invalid-valid _ t h.2 v)
+ends-well s t (Err (ProofIoError cause)) h v = absurd (invalid-valid _ t h.3 v)
+ends-well s t (Err e) h v = absurd h
+
+-- no way led back from a step, or the solver was invalid
+pub ends-early : (s t : State) (r : Result Bool SolverError) → Searches s r t → is_valid t ≡ false → Solves s r t
+ends-early s t (Ok b) h v = let z : true ≡ false = sym h.valid ∙ ap (λ (l : Ledger). l.valid) (sym h.rest.ledger) ∙ v in absurd cc
+ends-early s t (Err Interrupted) h v = let z : true ≡ false = sym h.valid ∙ ap (λ (l : Ledger). l.valid) (sym h.rest.ledger) ∙ v in absurd cc
+ends-early s t (Err Invalid) h v = h
+ends-early s t (Err OutOfMemory) h v = h
+ends-early s t (Err ClauseStoreFull) h v = h
+ends-early s t (Err (ProofIoError cause)) (o, u, c, b) v = (o, record { known = λ n. absurd (n u); unknown = λ _. c }, b)
+ends-early s t (Err e) h v = absurd h
+
+-- the steps are counted alike, whatever the call returns then
+counts-otherwise : (s t : State) (r : Result Bool SolverError) (cause : Error) → CountsCall s r t → CountsCall s (Err (ProofIoError cause)) t
+counts-otherwise s t r cause k = record {
+  made = k.made;
+  count = k.count;
+  budget = k.budget;
+  bounded = k.bounded;
+  found = λ b e. absurd cc;
+  spent = λ e. absurd cc;
+}
+
+broken-after : (s t : State) → IsValid s → t.ledger ≡ (with_steps t.ledger.steps s).ledger → IsWellFormed t →
+    Invalidates (with_steps t.ledger.steps s) (broken t)
+broken-after s t v e w = record { valid = v; ledger = ap (λ (l : Ledger). record l { valid = false }) e; well_formed = told-well t (broken t) w }
+
+-- the open proof could not be flushed
+pub ends-badly : (s t : State) (r : Result Bool SolverError) (cause : Error) → Searches s r t → IsValid t → IsOpen t.proof → IsWellFormed t →
+    Solves s (Err (ProofIoError cause)) (broken t)
+ends-badly s t (Ok b) cause h v o w = (
+  open-before s.proof t.proof h.rest.proof o,
+  record { known = λ n. (h.known n).1; unknown = λ u. counts-otherwise s t (Ok b) cause (h.steps u) },
+  broken-after s t h.valid h.rest.ledger w,
+)
+ends-badly s t (Err Interrupted) cause h v o w = (
+  open-before s.proof t.proof h.rest.proof o,
+  record { known = λ n. absurd (n h.unknown); unknown = λ _. counts-otherwise s t (Err Interrupted) cause h.steps },
+  broken-after s t h.valid h.rest.ledger w,
+)
+ends-badly s t (Err Invalid) cause h v o w = let z : false ≡ true = sym h.0 ∙ ap (λ (x : State). is_valid x) (sym h.1) ∙ v in absurd cc
+ends-badly s t (Err OutOfMemory) cause h v o w = absurd (invalid-valid _ t h.2 v)
+ends-badly s t (Err ClauseStoreFull) cause h v o w = absurd (invalid-valid _ t h.2 v)
+ends-badly s t (Err (ProofIoError first)) cause h v o w = absurd (invalid-valid _ t h.3 v)
+ends-badly s t (Err e) cause h v o w = absurd h
+
+-- 2. What stands for them.
+
+-- the same solver, where `solve` was called under an open proof
+pub stands-searched : (g : Summary) (s : State) → StandsFor g s → StandsFor (record g { opened = marked_searched g.opened }) (once_searched s)
+stands-searched g s st = record {
+  ledger = st.ledger;
+  fits = λ v. let (w, k) = st.fits v in (w, proof-free w (spaces g) s (searched_under s.proof) k);
+  proof = λ v. searched-fits g.opened s.ever_hidden s.told s.proof (st.proof v);
+}
+
+-- before that it stood for such a state too
+pub stood-before : (g : Summary) (s : State) → g.ledger.valid ≡ true → StandsFor (record g { opened = marked_searched g.opened }) s →
+    (proof : Option OpenProof) × StandsFor g (with_proof proof s)
+stood-before g s v st =
+    let (before, f) = fitted-before g.opened s.ever_hidden s.told s.proof (st.proof v) in (
+      before,
+      record {
+        ledger = st.ledger;
+        fits = λ v. let (w, k) = st.fits v in (w, proof-free w (spaces g) s before k);
+        proof = λ _. f;
+      },
+    )
+
+-- the solver became invalid
+stands-broken : (g h : Summary) (s : State) → h ≡ record g { opened = h.opened; ledger = record g.ledger { valid = false } } → StandsFor g s →
+    StandsFor h (broken s)
+stands-broken g h s e st =
+    let same : h.ledger ≡ record g.ledger { valid = false } = ap (λ (x : Summary). x.ledger) e in
+    let bad : h.ledger.valid ≡ false = ap (λ (l : Ledger). l.valid) same in
+    record {
+      ledger = ap (λ (l : Ledger). record l { valid = false }) st.ledger ∙ sym same;
+      fits = λ v. absurd (let z : false ≡ true = sym bad ∙ v in cc);
+      proof = λ v. absurd (let z : false ≡ true = sym bad ∙ v in cc);
+    }
+
+pub solve-ends : (g h : Summary) (s t : State) (r : Result Bool SolverError) → Searches s r t → StandsFor g t → g.ledger.valid ≡ true →
+    EndsSearch g (Ok tt) h → (u : State) × Solves s r u × StandsFor h u
+solve-ends g h s t r k st v e =
+    (once_searched t, ends-well s t r k (stands-valid g t st v), subst (λ (x : Summary). StandsFor x (once_searched t)) (sym e) (stands-searched g t st))
+
+pub solve-fails : (g h : Summary) (s t : State) (r : Result Bool SolverError) (e : SolverError) → Searches s r t → StandsFor g t →
+    g.ledger.valid ≡ true → EndsSearch g (Err e) h → (u : State) × Solves s (Err e) u × StandsFor h u
+solve-fails g h s t r (ProofIoError cause) k st v (o, e) = (
+  broken t,
+  ends-badly s t r cause k (stands-valid g t st v) (open-there g.opened t.ever_hidden t.told t.proof true (st.proof v) (sym o) refl) (st.fits v).1.well_formed,
+  stands-broken g h t e st,
+)
+solve-fails g h s t r e k st v f = absurd f

@@ -1,6 +1,6 @@
 //! What an accepted clause and a list of assumptions bring: their names, the solver variables of these, and the clause
 //! or the list itself.
-ghost use Rattle.std.specs.Prelude.{◌≡◌, ◌≢◌, ◌<◌, ◌∷◌, [], Some, false, OnOk};
+ghost use Rattle.std.specs.Prelude.{◌≡◌, ◌≢◌, ◌<◌, ◌∷◌, [], Some, false, OnOk, IfErr};
 ghost use Rattle.varisat_theory.specs.Membership.{◌∈◌};
 ghost use Rattle.varisat_theory.specs.Literals.{Literal, variable_of};
 ghost use Rattle.varisat_names.specs.VarData.{kept_at};
@@ -8,7 +8,8 @@ ghost use Rattle.varisat_names.specs.VarMap.{at};
 ghost use Rattle.varisat_search.specs.Contexts.{KeepsSchedule};
 ghost use Rattle.varisat.specs.Accepted.{StandsOnceAccepted, StandsOnceAssumed};
 ghost use Rattle.varisat_theory.specs.Journals.{Accepts};
-ghost use Rattle.varisat_tracer.specs.Tracing.{parts_of, TakesGlobally, CanTell};
+ghost use Rattle.varisat_tracer.specs.Tracing.{parts_of, TakesGlobally, BreaksProof, CanTell};
+ghost use Rattle.varisat_search.specs.StepErrors.{step_faults, HasNoRoom};
 ghost use Rattle.varisat.specs.Summaries.{IsKept};
 ghost use Rattle.varisat.specs.Accepting.{CanBeNamed, HasNames, AreJoined, AreMarked};
 
@@ -68,7 +69,8 @@ fn tell_clause<W: ProofTarget, A: Allocator + Copy>(
     clause: &[Lit],
 ) -> Result<(), StepError>
     requires { CanTell tracer.old.proof }
-    ensures { OnOk result (TakesGlobally (parts_of tracer.old) (Accepts clause.now ∷ []) (parts_of tracer.new)) }
+    ensures told { OnOk result (TakesGlobally (parts_of tracer.old) (Accepts clause.now ∷ []) (parts_of tracer.new)) }
+    ensures broken { IfErr result (λ error. BreaksProof tracer.old.proof (step_faults error) tracer.new.proof) }
 {
     tracer.add_clause(clause)?;
     Ok(())
@@ -92,6 +94,9 @@ pub fn accept_clause<W: ProofTarget, A: Allocator + Copy>(
         record ctx.old.solver_state { sat_state = ctx.new.solver_state.sat_state; formula_is_empty = false }) }
     ensures schedule { KeepsSchedule ctx.old ctx.new }
     ensures accepted { OnOk result (StandsOnceAccepted clause.now (parts_of tracer.old) ctx.old (parts_of tracer.new) ctx.new) }
+    // What the target of an open proof has after an error.
+    ensures broken { IfErr result (λ error. BreaksProof tracer.old.proof (step_faults error) tracer.new.proof) }
+    ensures full { IfErr result (λ error. error ≡ StepError.Full → HasNoRoom ctx.new) }
 {
     // A model that was found may not satisfy the clause.
     ctx.solver_state.reopen();

@@ -1,7 +1,7 @@
 //! Which variables leave the search as a call of `solve` begins: those whose values are fixed, unless they are assumed,
 //! and hidden ones that no kept clause names. Fixed values are kept for the model and for clauses to come, and what
 //! stands for hidden variables may be used again.
-ghost use Rattle.std.specs.Prelude.{◌≡◌, ◌≢◌, ◌<◌, ◌≤◌, ◌⊎◌, List, [], length, map, IsSome, OnOk, IfOk};
+ghost use Rattle.std.specs.Prelude.{◌≡◌, ◌≢◌, ◌<◌, ◌≤◌, ◌⊎◌, List, [], length, map, IsSome, OnOk, IfOk, IfErr};
 ghost use Rattle.varisat_theory.specs.Membership.{◌∈◌, IsDistinct};
 ghost use Rattle.varisat_theory.specs.Literals.{Literal, variable_of};
 ghost use Rattle.varisat_literals.specs.Numbers.{variable_limit};
@@ -15,7 +15,8 @@ ghost use Rattle.varisat.specs.Spaces.{SpacesFit};
 ghost use Rattle.varisat.specs.SinceChange.{GoesOnSince};
 ghost use Rattle.varisat.specs.Journals.{retold, TellsMore, TellsProof};
 ghost use Rattle.varisat_theory.specs.Journals.{Entry};
-ghost use Rattle.varisat_tracer.specs.Tracing.{CanTell};
+ghost use Rattle.varisat_tracer.specs.Tracing.{BreaksProof, CanTell};
+ghost use Rattle.varisat_search.specs.StepErrors.{step_faults};
 ghost use Rattle.varisat.specs.Summaries.{undecided_spaces, IsKept};
 ghost use Rattle.varisat.specs.Dropping.{leads_to_unassumed, unassumed_among, AreOverAssumed, FlagsVariables, AreDroppedAlone, leads_to_hidden, ListsUnneeded, AreReleased, LeavesNeeded, LeavesTables, LetsLeave};
 
@@ -220,6 +221,8 @@ pub fn drop_fixed<W: ProofTarget, A: Allocator + Copy>(
     ensures stands { OnOk result ((s : State) → SpacesFit (undecided_spaces tracer.old.variables ctx.old) s →
         (told : List Entry) × TellsMore 0 s.told told × TellsProof s.ever_hidden s.told told tracer.old.proof tracer.new.proof
         × SpacesFit (undecided_spaces tracer.new.variables ctx.new) (retold told s)) }
+    // What the target of an open proof has after an error.
+    ensures broken { IfErr result (λ error. BreaksProof tracer.old.proof (step_faults error) tracer.new.proof) }
 {
     if ctx.trail.current_level() > 0 || ctx.trail.fully_propagated() {
         return Ok(());

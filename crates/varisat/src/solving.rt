@@ -1,5 +1,5 @@
 //! The steps of the search, until the verdict is known or the steps are spent, and the core over names.
-ghost use Rattle.std.specs.Prelude.{◌≡◌, ◌≤◌, ◌-◌, ℕ, length, map, OnOk, IfOk};
+ghost use Rattle.std.specs.Prelude.{◌≡◌, ◌≤◌, ◌-◌, ℕ, length, map, OnOk, IfOk, IfErr};
 ghost use Rattle.varisat_theory.specs.Membership.{◌∈◌};
 ghost use Rattle.varisat_theory.specs.Literals.{Literal, variable_of};
 ghost use Rattle.varisat_schedule.specs.CallSteps.{steps_since};
@@ -9,10 +9,11 @@ ghost use Rattle.varisat_search.specs.AssumptionParts.{KeepsAssumptions};
 ghost use Rattle.varisat_search.specs.Contexts.{view, IsReady};
 ghost use Rattle.varisat_search.specs.Decisions.{SameDecidable};
 ghost use Rattle.varisat_search.specs.Seen.{search_of, outcome_of};
+ghost use Rattle.varisat_search.specs.StepErrors.{step_faults, HasNoRoom};
 ghost use Rattle.varisat.specs.Budgets.{told_verdict};
 ghost use Rattle.varisat.specs.SinceChange.{CountsOnSince, CountsStepsFrom};
-ghost use Rattle.varisat_trace.specs.Traces.{HoldsFor};
-ghost use Rattle.varisat_tracer.specs.Tracing.{parts_of, CanTell};
+ghost use Rattle.varisat_trace.specs.Traces.{BreaksOff, HoldsFor};
+ghost use Rattle.varisat_tracer.specs.Tracing.{parts_of, BreaksProof, CanTell};
 ghost use Rattle.varisat.specs.Searches.{answer_at, MakesTold, FindsVerdict};
 ghost use Rattle.varisat.specs.Accepting.{HasUser};
 ghost use Rattle.varisat.specs.Carried.{carry};
@@ -58,6 +59,8 @@ fn find_verdict<A: Allocator + Copy, P: ProofTracer>(
     ensures counted { CountsStepsFrom max_steps ctx.old ctx.new (told_verdict result) }
     ensures since { OnOk result (CountsOnSince ctx.old ctx.new) }
     ensures config { ctx.new.solver_config ≡ ctx.old.solver_config }
+    ensures broken { IfErr result (λ error. BreaksOff P.breaks_off proof.old (step_faults error) proof.new) }
+    ensures full { IfErr result (λ error. error ≡ StepError.Full → HasNoRoom ctx.new) }
 {
     ctx.solver_config.prove_in_range();
     let first = ctx.schedule.steps();
@@ -111,6 +114,9 @@ pub fn find_named_verdict<W: ProofTarget, A: Allocator + Copy>(
     ensures counted { CountsStepsFrom max_steps ctx.old ctx.new (told_verdict result) }
     ensures since { OnOk result (CountsOnSince ctx.old ctx.new) }
     ensures config { ctx.new.solver_config ≡ ctx.old.solver_config }
+    // What the target of an open proof has after an error.
+    ensures broken { IfErr result (λ error. BreaksProof tracer.old.proof (step_faults error) tracer.new.proof) }
+    ensures full { IfErr result (λ error. error ≡ StepError.Full → HasNoRoom ctx.new) }
 {
     let found = find_verdict(ctx, tracer, max_steps)?;
     let SatState::UnsatUnderAssumptions = ctx.solver_state.sat_state else {

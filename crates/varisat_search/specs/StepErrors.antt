@@ -1,5 +1,5 @@
 -- Why a step failed, and when the clause store is full.
-use Rattle.std.specs.Prelude.{◌+◌, ◌^◌, ◌≤◌, length}
+use Rattle.std.specs.Prelude.{ℕ, ◌+◌, ◌^◌, ◌≤◌, length}
 use Rattle.varisat_clause.specs.declared.alloc.StoreError.{StoreError}
 use Rattle.varisat_clause.specs.declared.alloc.StoreError.TheVariants as store
 use Rattle.varisat_trace.specs.declared.tracer.TraceError.{TraceError}
@@ -17,6 +17,12 @@ step_error_of_store store.Memory = step.Memory
 abbrev pub step_error_of_trace : TraceError → StepError
 step_error_of_trace trace.Memory = step.Memory
 step_error_of_trace (trace.Target cause) = step.Target cause
+
+-- how many faults at the tracer's target the error of a step tells
+abbrev pub step_faults : StepError → ℕ
+step_faults step.Full = 0
+step_faults step.Memory = 0
+step_faults (step.Target cause) = 1
 
 -- A clause of all variables, with the three words before its literals, would bring the store to 2^32 words or more.
 abbrev pub HasNoRoom : {A : Type 0} → Context A → Type 0

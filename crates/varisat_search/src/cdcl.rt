@@ -16,14 +16,14 @@ ghost use Rattle.varisat_search.specs.Contexts.{view, KeepsSchedule, IsReady};
 ghost use Rattle.varisat_search.specs.Steps.{SavesSome};
 ghost use Rattle.varisat_search.specs.Seen.{search_of};
 ghost use Rattle.varisat_theory.specs.Journals.{Fails};
-ghost use Rattle.varisat_trace.specs.Traces.{TakesLines, TakesStep, CanTake, CanFail, HoldsFor};
+ghost use Rattle.varisat_trace.specs.Traces.{TakesLines, TakesStep, TellsLines, BreaksOff, faults_of, CanTake, CanFail, HoldsFor};
 ghost use Rattle.varisat_search.specs.Decisions.{SameDecidable};
 ghost use Rattle.varisat_analysis.specs.Bumps.{BumpsInvolved};
 ghost use Rattle.varisat_analysis.specs.Assessments.{glue_of, assessed, BumpsClauses};
 ghost use Rattle.varisat_search.specs.AssumptionParts.{TakesOutImplied, EndsAssumed, HasFailed};
 ghost use Rattle.varisat_search.specs.Conflicts.{Stops, Keeping, IsKeptAsReason, IsStoredAsReason, IsWatchedAsReason};
 ghost use Rattle.varisat_search.specs.SettledUnits.{IsUnsettled, SettlesUnits, GoesOnByLines, IsSettledDown, SettlesFirst};
-ghost use Rattle.varisat_search.specs.StepErrors.{HasNoRoom};
+ghost use Rattle.varisat_search.specs.StepErrors.{HasNoRoom, step_faults};
 ghost use Rattle.varisat_search.specs.Progress.{outcome_at, IsStepFurther, MakesStep};
 ghost use Rattle.varisat_vsids.specs.Activities.{Activities};
 
@@ -195,7 +195,7 @@ fn trace_learned<A: Allocator + Copy, P: ProofTracer>(
     ctx: &Context<A>,
 ) -> Result<(), TraceError>
     requires { CanTake (P.holds proof.old) (Add ctx.now.analyze_conflict.clause ∷ []) }
-    ensures { OnOk result (TakesLines P.takes proof.old (Add ctx.now.analyze_conflict.clause ∷ []) proof.new) }
+    ensures { TellsLines P.takes P.breaks_off proof.old (Add ctx.now.analyze_conflict.clause ∷ []) result proof.new }
 {
     let clause = ctx.analyze_conflict.clause();
     proof.add_step(&ProofStep::AtClause { clause })?;
@@ -223,6 +223,7 @@ fn learn<A: Allocator + Copy, P: ProofTracer>(
     ensures schedule { KeepsSchedule ctx.old ctx.new }
     // The store is full only where it has no room for a clause of all variables.
     ensures full { IfErr result (λ error. error ≡ StepError.Full → HasNoRoom ctx.new) }
+    ensures broken { IfErr result (λ error. BreaksOff P.breaks_off proof.old (step_faults error) proof.new) }
 {
     let level = analyze(ctx, conflict)?;
     trace_learned(proof, ctx)?;
@@ -263,6 +264,7 @@ pub fn settle<A: Allocator + Copy, P: ProofTracer>(
     ensures settled { IfOk result (λ end. MatchResult end (λ _. IsSettledDown (view ctx.new)) (λ _. Unit {0})) }
     ensures conflict { IfOk result (λ end. MatchResult end (λ _. Unit {0}) (λ conflict. IsConflicting (view ctx.new) conflict)) }
     ensures kept { ctx.new ≡ record ctx.old { assignment = ctx.new.assignment; binary_clauses = ctx.new.binary_clauses; clause_alloc = ctx.new.clause_alloc; clause_db = ctx.new.clause_db; impl_graph = ctx.new.impl_graph; trail = ctx.new.trail; watchlists = ctx.new.watchlists } }
+    ensures broken { IfErr result (λ error. BreaksOff P.breaks_off proof.old (faults_of error) proof.new) }
 {
     let propagated = propagate(
         &mut ctx.assignment,
@@ -294,6 +296,7 @@ fn settle_units<A: Allocator + Copy, P: ProofTracer>(
     ensures stays { IfOk result (λ end. (IsUnsettled (view ctx.old) → ⊥) → (ctx.new ≡ ctx.old) × (end ≡ Ok tt)) }
     ensures conflict { IfOk result (λ end. MatchResult end (λ _. Unit {0}) (λ conflict. IsConflicting (view ctx.new) conflict)) }
     ensures kept { ctx.new ≡ record ctx.old { assignment = ctx.new.assignment; binary_clauses = ctx.new.binary_clauses; clause_alloc = ctx.new.clause_alloc; clause_db = ctx.new.clause_db; impl_graph = ctx.new.impl_graph; trail = ctx.new.trail; watchlists = ctx.new.watchlists } }
+    ensures broken { IfErr result (λ error. BreaksOff P.breaks_off proof.old (faults_of error) proof.new) }
 {
     if ctx.trail.current_level() > 0 || ctx.trail.fully_propagated() {
         return Ok(Ok(()));
@@ -308,7 +311,8 @@ fn trace_core<A: Allocator + Copy, P: ProofTracer>(
     ctx: &Context<A>,
 ) -> Result<(), TraceError>
     requires { CanFail (P.holds proof.old) ctx.now.assumptions.failed_core }
-    ensures { OnOk result (P.takes proof.old (Fails ctx.now.assumptions.failed_core ∷ []) proof.new) }
+    ensures taken { OnOk result (P.takes proof.old (Fails ctx.now.assumptions.failed_core ∷ []) proof.new) }
+    ensures broken { IfErr result (λ error. BreaksOff P.breaks_off proof.old (faults_of error) proof.new) }
 {
     let failed_core = ctx.assumptions.failed_core();
     proof.add_step(&ProofStep::FailedAssumptions { failed_core })?;
@@ -326,6 +330,7 @@ fn find_and_learn<A: Allocator + Copy, P: ProofTracer>(
     ensures made { OnOk result (MakesStep (λ lines. TakesStep P.takes proof.old lines (outcome_at ctx.new) proof.new) ctx.old ctx.new) }
     ensures schedule { KeepsSchedule ctx.old ctx.new }
     ensures full { IfErr result (λ error. error ≡ StepError.Full → HasNoRoom ctx.new) }
+    ensures broken { IfErr result (λ error. BreaksOff P.breaks_off proof.old (step_faults error) proof.new) }
 {
     match find_conflict(ctx)? {
         Ok(()) => ctx.solver_state.sat_state = SatState::Sat,
@@ -356,6 +361,7 @@ pub fn conflict_step<A: Allocator + Copy, P: ProofTracer>(
     ensures schedule { KeepsSchedule ctx.old ctx.new }
     // The store is full only where it has no room for a clause of all variables.
     ensures full { IfErr result (λ error. error ≡ StepError.Full → HasNoRoom ctx.new) }
+    ensures broken { IfErr result (λ error. BreaksOff P.breaks_off proof.old (step_faults error) proof.new) }
 {
     match settle_units(ctx, proof)? {
         Ok(()) => find_and_learn(ctx, proof)?,

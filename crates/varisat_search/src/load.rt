@@ -16,8 +16,8 @@ ghost use Rattle.varisat_search.specs.Contexts.{view, KeepsSchedule, IsReady};
 ghost use Rattle.varisat_search.specs.Steps.{SavesAll, reopened_state};
 ghost use Rattle.varisat_search.specs.Decisions.{AreDecidable, SameDecidable};
 ghost use Rattle.varisat_search.specs.Loading.{HasFalseLiteral, IsHeadAfter, IsAdded, LoadsUnit, LoadsClause, loaded_outcome};
-ghost use Rattle.varisat_trace.specs.Traces.{TakesLines, CanTake, HoldsWith};
-ghost use Rattle.varisat_search.specs.StepErrors.{HasNoRoom};
+ghost use Rattle.varisat_trace.specs.Traces.{TakesLines, BreaksOff, faults_of, CanTake, HoldsWith};
+ghost use Rattle.varisat_search.specs.StepErrors.{HasNoRoom, step_faults};
 ghost use Rattle.varisat_search.specs.Seen.{search_of};
 
 use crate::cdcl::first_of;
@@ -139,6 +139,7 @@ fn trace_satisfied<P: ProofTracer>(proof: &mut P, lits: &mut [Lit]) -> Result<()
     ensures unit { OnOk result (length lits.old < 2 → TakesLines P.takes proof.old [] proof.new) }
     ensures longer { OnOk result (2 ≤ length lits.old →
         IsPermutation lits.old lits.new × P.in_order proof.old lits.new × TakesLines P.takes proof.old (Delete lits.new ∷ []) proof.new) }
+    ensures broken { IfErr result (λ error. BreaksOff P.breaks_off proof.old (faults_of error) proof.new) }
 {
     if lits.len() < 2 {
         return Ok(());
@@ -181,6 +182,7 @@ pub fn load_clause<A: Allocator + Copy, P: ProofTracer>(
     ensures schedule { KeepsSchedule ctx.old ctx.new }
     // The store is full only where it has no room for a clause of all variables.
     ensures full { IfErr result (λ error. error ≡ StepError.Full → HasNoRoom ctx.new) }
+    ensures broken { IfErr result (λ error. BreaksOff P.breaks_off proof.old (step_faults error) proof.new) }
 {
     if let SatState::Unsat = ctx.solver_state.sat_state {
         return Ok(());

@@ -1,12 +1,12 @@
 //! The reductions of the learned clauses of a search.
-ghost use Rattle.std.specs.Prelude.{◌≡◌, false, length, OnOk, OnErr};
+ghost use Rattle.std.specs.Prelude.{◌≡◌, false, length, OnOk, OnErr, IfErr};
 ghost use Rattle.varisat_clause.specs.Stores.{stored_clauses, HoldsClauses};
 ghost use Rattle.varisat_clause.specs.Reductions.{mids_reduced};
 ghost use Rattle.varisat_analysis.specs.HeaderChanges.{ChangesHeaders};
 ghost use Rattle.varisat_search.specs.Contexts.{view, IsReady};
 ghost use Rattle.varisat_search.specs.DueReductions.{MarksReasons, DropsLocals, KeepsSearch};
 ghost use Rattle.varisat_search.specs.Seen.{search_of};
-ghost use Rattle.varisat_trace.specs.Traces.{TakesLines, HoldsFor};
+ghost use Rattle.varisat_trace.specs.Traces.{TakesLines, BreaksOff, faults_of, HoldsFor};
 
 use crate::context::Context;
 use crate::trace::trace_deletions;
@@ -32,6 +32,7 @@ pub fn reduce_locals<A: Allocator + Copy, P: ProofTracer>(
     ensures off { OnOk result (ctx.new.watchlists.enabled ≡ false) }
     ensures failed { OnErr result (MarksReasons ctx.old ctx.new.clause_alloc × (ctx.new ≡ record ctx.old { clause_alloc = ctx.new.clause_alloc })) }
     ensures kept { ctx.new ≡ record ctx.old { clause_alloc = ctx.new.clause_alloc; clause_db = ctx.new.clause_db; watchlists = ctx.new.watchlists } }
+    ensures broken { IfErr result (λ error. BreaksOff P.breaks_off proof.old (faults_of error) proof.new) }
 {
     mark_reasons(&ctx.assignment, &mut ctx.clause_alloc, &ctx.impl_graph);
     let locals = reduce::ranked_locals(&ctx.clause_alloc)?;

@@ -9,9 +9,9 @@ ghost use Rattle.varisat_search.specs.Decisions.{SameDecidable};
 ghost use Rattle.varisat_search.specs.Progress.{outcome_at, StepsTo};
 ghost use Rattle.varisat_search.specs.Restarts.{RestartsIfDue, SavesIfDue, RestartsAndRemembers};
 ghost use Rattle.varisat_search.specs.DueReductions.{ReducesLocalsIfDue, ReducesMidsIfDue, ReducesIfDue, KeepsSearch, GoesBySchedule};
-ghost use Rattle.varisat_search.specs.StepErrors.{HasNoRoom};
+ghost use Rattle.varisat_search.specs.StepErrors.{HasNoRoom, step_faults};
 ghost use Rattle.varisat_search.specs.Seen.{search_of};
-ghost use Rattle.varisat_trace.specs.Traces.{TakesLines, TakesStep, HoldsFor};
+ghost use Rattle.varisat_trace.specs.Traces.{TakesLines, TakesStep, BreaksOff, faults_of, HoldsFor};
 
 use crate::cdcl::conflict_step;
 use crate::collect::collect_garbage;
@@ -56,6 +56,7 @@ fn reduce_locals_if_due<A: Allocator + Copy, P: ProofTracer>(
         (λ lines. ReducesLocalsIfDue lines ctx.old ctx.new × TakesLines P.takes proof.old lines proof.new)
         ctx.old ctx.new) }
     ensures kept { ctx.new ≡ record ctx.old { clause_alloc = ctx.new.clause_alloc; clause_db = ctx.new.clause_db; watchlists = ctx.new.watchlists } }
+    ensures broken { IfErr result (λ error. BreaksOff P.breaks_off proof.old (faults_of error) proof.new) }
 {
     if ctx.schedule.steps() % ctx.solver_config.reduce_locals_interval() == 0 {
         reduce_locals(ctx, proof)?;
@@ -87,6 +88,7 @@ fn reduce_if_due<A: Allocator + Copy, P: ProofTracer>(
         (λ lines. ReducesIfDue lines ctx.old ctx.new × TakesLines P.takes proof.old lines proof.new)
         ctx.old ctx.new) }
     ensures kept { ctx.new ≡ record ctx.old { clause_alloc = ctx.new.clause_alloc; clause_db = ctx.new.clause_db; impl_graph = ctx.new.impl_graph; watchlists = ctx.new.watchlists } }
+    ensures broken { IfErr result (λ error. BreaksOff P.breaks_off proof.old (faults_of error) proof.new) }
 {
     reduce_locals_if_due(ctx, proof)?;
     reduce_mids_if_due(ctx)?;
@@ -123,6 +125,7 @@ pub fn schedule_step<A: Allocator + Copy, P: ProofTracer>(
     ensures config { ctx.new.solver_config ≡ ctx.old.solver_config }
     // The store is full only where it has no room for a clause of all variables.
     ensures full { IfErr result (λ error. error ≡ StepError.Full → HasNoRoom ctx.new) }
+    ensures broken { IfErr result (λ error. BreaksOff P.breaks_off proof.old (step_faults error) proof.new) }
 {
     restart_if_due(ctx);
     reduce_if_due(ctx, proof)?;

@@ -1,5 +1,5 @@
 //! Simplification by the literals of level 0: they become unit clauses, and the kept clauses lose what these say.
-ghost use Rattle.std.specs.Prelude.{◌≡◌, ◌<◌, ◌≤◌, ◌↔◌, ◌++◌, IsTrue, false, [], length, drop, OnOk, OnErr, IfOk};
+ghost use Rattle.std.specs.Prelude.{◌≡◌, ◌<◌, ◌≤◌, ◌↔◌, ◌++◌, IsTrue, false, [], length, drop, OnOk, OnErr, IfOk, IfErr};
 ghost use Rattle.varisat_theory.specs.Membership.{◌∈◌};
 ghost use Rattle.varisat_theory.specs.Literals.{Literal, Clause, variable_of};
 ghost use Rattle.varisat_theory.specs.Outcomes.{Proves};
@@ -13,7 +13,7 @@ ghost use Rattle.varisat_search.specs.Decisions.{SameDecidable};
 ghost use Rattle.varisat_search.specs.Seen.{search_of};
 ghost use Rattle.varisat_search.specs.SettledUnits.{CanSimplify};
 ghost use Rattle.varisat_search.specs.ProvedUnits.{units_in, implied_units, HaveUnits, ProvesUnits};
-ghost use Rattle.varisat_trace.specs.Traces.{TakesLines, CanTake, HoldsFor};
+ghost use Rattle.varisat_trace.specs.Traces.{TakesLines, BreaksOff, faults_of, CanTake, HoldsFor};
 ghost use Rattle.varisat_search.specs.Simplifications.{unassigned, shortened_to, with_pairs, IsSimplified, pair_lines, clause_lines, IsPairIn, IsLeftOpen, LeavesOpen};
 
 use crate::context::Context;
@@ -55,6 +55,7 @@ pub fn prove_units<A: Allocator + Copy, P: ProofTracer>(
     ensures failed { OnErr result (ctx.new ≡ ctx.old) }
     ensures ready { OnOk result (IsReady ctx.new) }
     ensures kept { ctx.new ≡ record ctx.old { impl_graph = ctx.new.impl_graph } }
+    ensures broken { IfErr result (λ error. BreaksOff P.breaks_off proof.old (faults_of error) proof.new) }
 {
     if ctx.trail.current_level() > 0 {
         return Ok(false);
@@ -145,6 +146,7 @@ pub fn simplify_binary<A: Allocator + Copy, P: ProofTracer>(
     ensures ready { OnOk result (IsReady ctx.new) }
     ensures failed { OnErr result (ctx.new ≡ ctx.old) }
     ensures kept { ctx.new ≡ record ctx.old { binary_clauses = ctx.new.binary_clauses } }
+    ensures broken { IfErr result (λ error. BreaksOff P.breaks_off proof.old (faults_of error) proof.new) }
 {
     // Once the lists are simplified the clauses can't be read any more.
     trace_pairs(proof, &ctx.assignment, &ctx.binary_clauses)?;
@@ -168,6 +170,7 @@ fn simplify_stored<A: Allocator + Copy, P: ProofTracer>(
     ensures ready { OnOk result (IsReady ctx.new) }
     ensures decidable { OnOk result (SameDecidable (view ctx.old) ctx.old.vsids (view ctx.new) ctx.new.vsids) }
     ensures kept { ctx.new ≡ record ctx.old { binary_clauses = ctx.new.binary_clauses; clause_alloc = ctx.new.clause_alloc; clause_db = ctx.new.clause_db; watchlists = ctx.new.watchlists } }
+    ensures broken { IfErr result (λ error. BreaksOff P.breaks_off proof.old (faults_of error) proof.new) }
 {
     let alloc = *ctx.tmp_data.lits.allocator();
     // A line deletes each clause with the literals that it has before it is shortened.
@@ -200,6 +203,7 @@ pub fn unit_simplify<A: Allocator + Copy, P: ProofTracer>(
     ensures ready { OnOk result (IsReady ctx.new) }
     ensures decidable { OnOk result (SameDecidable (view ctx.old) ctx.old.vsids (view ctx.new) ctx.new.vsids) }
     ensures kept { ctx.new ≡ record ctx.old { binary_clauses = ctx.new.binary_clauses; clause_alloc = ctx.new.clause_alloc; clause_db = ctx.new.clause_db; watchlists = ctx.new.watchlists } }
+    ensures broken { IfErr result (λ error. BreaksOff P.breaks_off proof.old (faults_of error) proof.new) }
 {
     simplify_binary(ctx, proof)?;
     simplify_stored(ctx, proof)?;

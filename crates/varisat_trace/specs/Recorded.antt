@@ -1,7 +1,8 @@
 -- What a recorded line is.
-use Rattle.std.specs.Prelude.{Bool, true, false}
+use Rattle.std.specs.Prelude.{◌≡◌, ℕ, Bool, true, false, List, ◌++◌, take}
 use Rattle.varisat_theory.specs.Literals.{Clause}
 use Rattle.varisat_theory.specs.Derivations.{Line, Add, Delete}
+use Rattle.varisat_theory.specs.Journals.{Entry, lines_of}
 
 -- the clause that the line adds or deletes
 abbrev pub clause_of : Line → Clause
@@ -12,3 +13,7 @@ clause_of (Delete c) = c
 abbrev pub is_deletion : Line → Bool
 is_deletion (Add c) = false
 is_deletion (Delete c) = true
+
+-- Some of the first lines of the entries were recorded. A recorder has no target that could fail.
+abbrev pub BreaksOffAt : List Line → List Entry → ℕ → List Line → Type 0
+BreaksOffAt x entries faults y = ((n : ℕ) × (y ≡ x ++ take n (lines_of entries))) × (faults ≡ 0)

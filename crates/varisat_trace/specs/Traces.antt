@@ -1,5 +1,5 @@
 -- The entries of a solver's steps, and when they can be handed on.
-use Rattle.std.specs.Prelude.{List, [], ◌∷◌, ◌++◌}
+use Rattle.std.specs.Prelude.{◌≡◌, ℕ, Bool, true, List, [], ◌∷◌, ◌++◌, Result, Ok, Err}
 use Rattle.varisat_theory.specs.Literals.{Literal, Clause}
 use Rattle.varisat_theory.specs.Propagation.{Conflicts}
 use Rattle.varisat_theory.specs.Derivations.{Line, Add, Delete, Derives}
@@ -7,6 +7,8 @@ use Rattle.varisat_theory.specs.Outcomes.{Outcome, Unknown, Sat, Unsat, UnsatUnd
 use Rattle.varisat_theory.specs.Searches.{Search, Fits}
 use Rattle.varisat_theory.specs.StepLaws.{unit_lines}
 use Rattle.varisat_theory.specs.Journals.{Entry, Writes, Fails, Leaves, written}
+use Rattle.varisat_trace.specs.declared.tracer.TraceError.{TraceError}
+use Rattle.varisat_trace.specs.declared.tracer.TraceError.TheVariants.{Memory, Target}
 use Rattle.varisat_trace.specs.declared.step.ProofStep.{ProofStep}
 use Rattle.varisat_trace.specs.declared.step.ProofStep.TheVariants.{AtClause, UnitClauses, DeleteClause, DeleteVar, FailedAssumptions}
 
@@ -32,6 +34,25 @@ TakesLines takes x lines y = takes x (written lines) y
 -- It took the lines of a step, and then the core that the step ended with, where it ended with one.
 abbrev pub TakesStep : {Q : Type 0} → (Q → List Entry → Q → Type 0) → Q → List Line → Outcome → Q → Type 0
 TakesStep takes x lines v y = takes x (written lines ++ verdict_entries v) y
+
+-- how many faults at the target an error tells
+abbrev pub faults_of : TraceError → ℕ
+faults_of Memory = 0
+faults_of (Target cause) = 1
+
+-- What taking a step's entries returns and leaves: they were taken, or a tracer that is active broke off in them.
+abbrev pub TellsStep : {Q : Type 0} → Bool → (Q → List Entry → Q → Type 0) → (Q → List Entry → ℕ → Q → Type 0) → Q → List Entry → Result (Unit {0}) TraceError → Q → Type 0
+TellsStep active takes breaks x entries (Ok u) y = takes x entries y
+TellsStep active takes breaks x entries (Err e) y = (active ≡ true) × breaks x entries (faults_of e) y
+
+-- It took some entries, and then a beginning of the next, as so many faults came at its target.
+abbrev pub BreaksOff : {Q : Type 0} → (Q → List Entry → ℕ → Q → Type 0) → Q → ℕ → Q → Type 0
+BreaksOff breaks x faults y = (entries : List Entry) × breaks x entries faults y
+
+-- What handing lines on returns and leaves: they were taken, or the tracer broke off in some.
+abbrev pub TellsLines : {Q : Type 0} → (Q → List Entry → Q → Type 0) → (Q → List Entry → ℕ → Q → Type 0) → Q → List Line → Result (Unit {0}) TraceError → Q → Type 0
+TellsLines takes breaks x lines (Ok u) y = TakesLines takes x lines y
+TellsLines takes breaks x lines (Err e) y = BreaksOff breaks x (faults_of e) y
 
 -- The lines are a derivation from clauses that may be held.
 abbrev pub CanTake : (List Clause → Type 0) → List Line → Type 0

@@ -1,5 +1,5 @@
 //! A tracer that keeps the lines, for tests and for whoever wants to look at them.
-ghost use Rattle.std.specs.Prelude.{◌≡◌, ◌<◌, ◌++◌, ◌∷◌, [], length, slice_index_or, OnOk};
+ghost use Rattle.std.specs.Prelude.{◌≡◌, ◌<◌, ◌++◌, ◌∷◌, [], length, slice_index_or, ℕ, take, OnOk, OnErr};
 ghost use Rattle.varisat_theory.specs.StepLaws.{unit_lines};
 ghost use Rattle.varisat_theory.specs.Derivations.{Add, Delete};
 ghost use Rattle.varisat_trace.specs.Recorded.{clause_of, is_deletion};
@@ -61,9 +61,10 @@ impl<A: Allocator + Copy> LineRecorder<A> {
         self.lines[index].0
     }
 
-    /// Puts a line at the end that deletes the clause.
+    /// Puts a line at the end that deletes the clause. A refused growth changes nothing.
     fn push_deletion(&mut self, clause: &[Lit]) -> Result<(), AllocError>
-        ensures { OnOk result (self.new ≡ self.old ++ Delete clause.now ∷ []) }
+        ensures pushed { OnOk result (self.new ≡ self.old ++ Delete clause.now ∷ []) }
+        ensures refused { OnErr result (self.new ≡ self.old) }
     {
         let mut copy = Vec::new(self.alloc);
         copy.extend_from_slice(clause)?;
@@ -71,9 +72,10 @@ impl<A: Allocator + Copy> LineRecorder<A> {
         Ok(())
     }
 
-    /// Puts a line at the end that adds the clause.
+    /// Puts a line at the end that adds the clause. A refused growth changes nothing.
     fn push_addition(&mut self, clause: &[Lit]) -> Result<(), AllocError>
-        ensures { OnOk result (self.new ≡ self.old ++ Add clause.now ∷ []) }
+        ensures pushed { OnOk result (self.new ≡ self.old ++ Add clause.now ∷ []) }
+        ensures refused { OnErr result (self.new ≡ self.old) }
     {
         let mut copy = Vec::new(self.alloc);
         copy.extend_from_slice(clause)?;
@@ -81,9 +83,11 @@ impl<A: Allocator + Copy> LineRecorder<A> {
         Ok(())
     }
 
-    /// Puts a line at the end for each literal, which adds it as a clause of its own.
+    /// Puts a line at the end for each literal, which adds it as a clause of its own. Where a growth is
+    /// refused it does so for the first of them.
     fn push_units(&mut self, units: &[Lit]) -> Result<(), AllocError>
-        ensures { OnOk result (self.new ≡ self.old ++ unit_lines units.now) }
+        ensures pushed { OnOk result (self.new ≡ self.old ++ unit_lines units.now) }
+        ensures refused { OnErr result ((n : ℕ) × (self.new ≡ self.old ++ take n (unit_lines units.now))) }
     {
         for unit in units {
             self.push_addition(&[*unit])?;
@@ -96,13 +100,16 @@ impl<A: Allocator + Copy> ProofTracer for LineRecorder<A> {
     ghost use Rattle.std.specs.Prelude.{true, ◌≡◌, ◌++◌};
     ghost use Rattle.std.specs.List.Sorted.{IsNonDecreasing};
     ghost use Rattle.varisat_theory.specs.Journals.{lines_of};
-    ghost use Rattle.varisat_trace.specs.RecorderLaws.{takes-none, takes-more, takes-idle};
+    ghost use Rattle.varisat_trace.specs.Recorded.{BreaksOffAt};
+    ghost use Rattle.varisat_trace.specs.RecorderLaws.{takes-none, takes-more, takes-idle, breaks-none, breaks-behind, breaks-idle};
 
     ghost active = { λ _. true };
 
     ghost holds = { λ _ _. Unit {0} };
 
     ghost takes = { λ x entries y. y ≡ x ++ lines_of entries };
+
+    ghost breaks_off = { λ x entries faults y. BreaksOffAt x entries faults y };
 
     ghost in_order = { λ _ clause. IsNonDecreasing clause };
 
@@ -130,6 +137,12 @@ impl<A: Allocator + Copy> ProofTracer for LineRecorder<A> {
     ghost takes_more = { takes-more };
 
     ghost takes_idle = { takes-idle };
+
+    ghost breaks_none = { breaks-none };
+
+    ghost breaks_behind = { breaks-behind };
+
+    ghost breaks_idle = { breaks-idle };
 
     ghost holds_after = { λ _ _ _ _ _ _ _ _. tt };
 }

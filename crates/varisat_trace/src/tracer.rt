@@ -1,9 +1,9 @@
 //! What takes the steps of a search's proof.
-ghost use Rattle.std.specs.Prelude.{◌≡◌, ◌++◌, [], List, Bool, false, OnOk};
+ghost use Rattle.std.specs.Prelude.{◌≡◌, ◌++◌, ℕ, [], List, Bool, false};
 ghost use Rattle.std.specs.List.Sorted.{IsPermutation};
 ghost use Rattle.varisat_theory.specs.Literals.{Clause};
 ghost use Rattle.varisat_theory.specs.Journals.{Entry, Leads};
-ghost use Rattle.varisat_trace.specs.Traces.{entries_of, CanTakeStep};
+ghost use Rattle.varisat_trace.specs.Traces.{entries_of, CanTakeStep, TellsStep};
 
 use crate::step::ProofStep;
 use std::alloc::AllocError;
@@ -20,6 +20,11 @@ pub enum TraceError {
 }
 
 impl From<AllocError> for TraceError {
+    ghost use Rattle.std.specs.Prelude.{◌≡◌};
+    ghost use Rattle.varisat_trace.specs.declared.tracer.TraceError.TheVariants.{Memory};
+
+    ghost from_gives = { λ _ e. e ≡ Memory };
+
     fn from(_error: AllocError) -> TraceError {
         TraceError::Memory
     }
@@ -36,6 +41,9 @@ pub trait ProofTracer {
     /// It took the entries, in order, and is left as the other one.
     ghost takes: { Self → List Entry → Self → Type 0 };
 
+    /// It took a beginning of the entries, and so many faults came at its target.
+    ghost breaks_off: { Self → List Entry → ℕ → Self → Type 0 };
+
     /// The clause's literals stand in the order of the numbers that it writes.
     ghost in_order: { Self → Clause → Type 0 };
 
@@ -50,10 +58,11 @@ pub trait ProofTracer {
         ensures sorted { in_order self.now clause.new };
 
     /// Takes the step. The step has to be right for some clauses that the tracer may hold; so no answer says that it is
-    /// wrong.
+    /// wrong. After an error a beginning of the step's entries was taken. `Target` is returned just where the target
+    /// failed, which is one fault more. One that is not active never fails.
     fn add_step(&mut self, step: &ProofStep<'_>) -> Result<(), TraceError>
         requires { CanTakeStep (holds self.old) step.now }
-        ensures { OnOk result (takes self.old (entries_of step.now) self.new) };
+        ensures { TellsStep (active self.old) takes breaks_off self.old (entries_of step.now) result self.new };
 
     /// No entry leaves it as it is.
     ghost takes_none: { (x : Self) → takes x [] x };
@@ -63,6 +72,18 @@ pub trait ProofTracer {
 
     /// One that is not active lets any entries pass.
     ghost takes_idle: { (x : Self) (entries : List Entry) → active x ≡ false → takes x entries x };
+
+    /// It broke off before any entry, by no fault of its own.
+    ghost breaks_none: { (x : Self) → breaks_off x [] 0 x };
+
+    /// It breaks off behind what it took.
+    ghost breaks_behind: { (x y z : Self) (first second : List Entry) (faults : ℕ) →
+        takes x first y →
+        breaks_off y second faults z →
+        breaks_off x (first ++ second) faults z };
+
+    /// At one that is not active no fault comes.
+    ghost breaks_idle: { (x y : Self) (entries : List Entry) (faults : ℕ) → active x ≡ false → breaks_off x entries faults y → faults ≡ 0 };
 
     /// It may hold what is present after the entries.
     ghost holds_after: { (x y : Self) (entries : List Entry) (held after : List Clause) →
@@ -77,13 +98,15 @@ pub trait ProofTracer {
 pub struct NoTracer {}
 
 impl ProofTracer for NoTracer {
-    ghost use Rattle.std.specs.Prelude.{false};
+    ghost use Rattle.std.specs.Prelude.{◌≡◌, false, refl};
 
     ghost active = { λ _. false };
 
     ghost holds = { λ _ _. Unit {0} };
 
     ghost takes = { λ _ _ _. Unit {0} };
+
+    ghost breaks_off = { λ _ _ faults _. faults ≡ 0 };
 
     ghost in_order = { λ _ _. Unit {0} };
 
@@ -102,6 +125,12 @@ impl ProofTracer for NoTracer {
     ghost takes_more = { λ _ _ _ _ _ _ _. tt };
 
     ghost takes_idle = { λ _ _ _. tt };
+
+    ghost breaks_none = { λ _. refl };
+
+    ghost breaks_behind = { λ _ _ _ _ _ _ _ h. h };
+
+    ghost breaks_idle = { λ _ _ _ _ _ h. h };
 
     ghost holds_after = { λ _ _ _ _ _ _ _ _. tt };
 }

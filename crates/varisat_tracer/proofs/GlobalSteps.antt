@@ -1,5 +1,5 @@
 -- Steps over global variables, literal by literal, and that they can be told and what telling them is.
-use Rattle.std.proofs.Common.{◌≡◌, ℕ, ◌+◌, ◌<◌, List, [], ◌∷◌, ◌++◌, length, take, get_or, refl, sym, ap, ◌∙◌, subst, map, append-nil, arith, inl, Option, Some, None, Result, Ok, Err}
+use Rattle.std.proofs.Common.{◌≡◌, ℕ, ◌+◌, ◌<◌, List, [], ◌∷◌, ◌++◌, length, take, get_or, refl, sym, ap, ◌∙◌, subst, map, append-nil, take_all, arith, inl, ⊎_elim, Option, Some, None, Result, Ok, Err}
 use Rattle.std.proofs.lemmas.List.{map-append, take_more, get_or_read}
 use Rattle.varisat_theory.specs.Literals.{Literal, Clause}
 use Rattle.varisat_theory.specs.Propagation.{Conflicts}
@@ -7,15 +7,16 @@ use Rattle.varisat_theory.specs.Derivations.{Line, Add, Delete, Derives}
 use Rattle.varisat_theory.specs.StepLaws.{unit_lines}
 use Rattle.varisat_theory.specs.Renaming.{rename_line}
 use Rattle.varisat_theory.specs.Journals.{Entry, Writes, Fails, Leads, written}
-use Rattle.varisat_trace.specs.Traces.{CanTake, CanFail}
+use Rattle.varisat_trace.specs.Traces.{CanTake, CanFail, faults_of}
 use Rattle.varisat_trace.proofs.Traced.{lines-lead}
 use Rattle.varisat_trace.specs.declared.tracer.TraceError.{TraceError}
-use Rattle.varisat_trace.specs.declared.tracer.TraceError.TheVariants.{Memory}
+use Rattle.varisat_trace.specs.declared.tracer.TraceError.TheVariants.{Memory, Target}
 use Rattle.varisat_proof.specs.declared.proof.format.Encoding.{Encoding}
-use Rattle.varisat_proof.specs.Lines.{ProofLine}
-use Rattle.varisat_proof.specs.Proving.{OpenState, IsTold, IsBegunIf, Tells, MayHold, told}
+use Rattle.varisat_proof.specs.Lines.{ProofLine, encoding_of}
+use Rattle.varisat_proof.specs.Steps.{lines_written}
+use Rattle.varisat_proof.specs.Proving.{OpenState, ProofParts, IsTold, IsWrittenIf, IsBegunIf, Tells, MayHold, told}
 use Rattle.varisat_tracer.specs.Carried.{told_as}
-use Rattle.varisat_tracer.specs.Tracing.{TracerState, global_literal, Relies, TakesGlobally, TellsGlobally}
+use Rattle.varisat_tracer.specs.Tracing.{TracerState, global_literal, Relies, TakesGlobally, BreaksGlobally, TellsGlobally}
 use Rattle.varisat_tracer.specs.TracerLaws.{leads-globally}
 
 pub mapped-more : (f : Literal → Literal) (ls old new : List Literal) (i l m : ℕ) → i < length ls → l ≡ get_or ls i l → old ≡ map f (take i ls) →
@@ -106,3 +107,33 @@ nothing-begun (Some p) lines = record { rest = refl; bytes = (0, sym (append-nil
 -- memory ran out before anything was told
 pub untold : (x : TracerState) (entries : List Entry) → TellsGlobally x entries (Err Memory) x
 untold x entries = (refl, inl (nothing-begun x.proof.opened (told (told_as (global_literal x.tables) entries)), refl))
+
+-- 6. What stands in the target after an error.
+all-begun : (o p : Option OpenState) (lines : Encoding → List ProofLine) → IsWrittenIf o lines p → IsBegunIf o lines 0 p
+all-begun None p lines e = (e, refl)
+all-begun (Some a) None lines w = absurd w
+all-begun (Some a) (Some b) lines w =
+    let bytes = lines_written (encoding_of a.format) (lines (encoding_of a.format)) in
+    record {
+      rest = w.rest;
+      bytes = (length bytes, w.bytes ∙ ap (λ xs. a.taken.bytes ++ xs) (sym (take_all (length bytes) bytes (omega arith))));
+      faults = w.faults ∙ omega arith;
+    }
+
+begun-told : (p q : ProofParts) (entries : List Entry) (e : TraceError) → Tells p entries (Err e) q → IsBegunIf p.opened (told entries) (faults_of e) q.opened
+begun-told p q entries Memory h = ⊎_elim (λ b. b.0) (λ w. all-begun p.opened q.opened (told entries) w.0) h
+begun-told p q entries (Target cause) h = h.0
+
+pub breaks-told : (x y : TracerState) (entries others : List Entry) (e : TraceError) → y.tables ≡ x.tables → others ≡ told_as (global_literal x.tables) entries →
+    Tells x.proof others (Err e) y.proof → BreaksGlobally x entries (faults_of e) y
+breaks-told x y entries others e t o h = record {
+  tables = t;
+  begun = subst (λ es. IsBegunIf x.proof.opened (told es) (faults_of e) y.proof.opened) o (begun-told x.proof y.proof others e h);
+}
+
+pub breaks-before : (x : TracerState) (entries : List Entry) → BreaksGlobally x entries 0 x
+breaks-before x entries = record { tables = refl; begun = nothing-begun x.proof.opened (told (told_as (global_literal x.tables) entries)) }
+
+-- as an accepted clause or list is told
+pub breaks-told-globally : (x y : TracerState) (entries : List Entry) (e : TraceError) → TellsGlobally x entries (Err e) y → BreaksGlobally x entries (faults_of e) y
+breaks-told-globally x y entries e (t, h) = breaks-told x y entries (told_as (global_literal x.tables) entries) e t refl h

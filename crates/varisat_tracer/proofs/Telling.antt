@@ -1,12 +1,14 @@
 -- A tracer without a checker can be told of any clauses, and goes on so.
-use Rattle.std.proofs.Common.{◌≡◌, List, [], sym, subst, Option, None}
+use Rattle.std.proofs.Common.{◌≡◌, ℕ, List, [], ◌++◌, sym, subst, Option, None}
 use Rattle.varisat_theory.specs.Literals.{Clause}
 use Rattle.varisat_theory.specs.Journals.{Entry}
 use Rattle.varisat_theory.specs.Renaming.{rename}
 use Rattle.varisat_proof.specs.Calls.{CheckerState}
-use Rattle.varisat_proof.specs.Proving.{IsCheckedIf, IsUsable, MayHold}
+use Rattle.varisat_proof.specs.Proving.{ProofParts, IsBegunIf, IsTold, IsCheckedIf, IsUsable, MayHold, told}
+use Rattle.varisat_trace.specs.Traces.{BreaksOff}
+use Rattle.varisat_tracer.specs.Told.{begun-none, begun-behind}
 use Rattle.varisat_tracer.specs.Carried.{told_as}
-use Rattle.varisat_tracer.specs.Tracing.{TracerState, global_literal, Relies, TakesGlobally, CanTell}
+use Rattle.varisat_tracer.specs.Tracing.{TracerState, global_literal, Relies, TakesGlobally, BreaksGlobally, BreaksProof, CanTell}
 use Rattle.varisat_tracer.specs.TracerLaws.{room-stays}
 
 pub tells-usable : (k : Option CheckerState) → k ≡ None → IsUsable k
@@ -28,3 +30,17 @@ tells-on x y entries h t = record {
   room = room-stays x.proof.opened y.proof.opened (told_as (global_literal x.tables) entries) h.told.written t.room;
   unchecked = none-stays x.proof.checker y.proof.checker (told_as (global_literal x.tables) entries) h.told.checked t.unchecked;
 }
+
+-- What stands in the target of an open proof after an error.
+pub breaks-proof : (x y : TracerState) (faults : ℕ) → BreaksOff BreaksGlobally x faults y → BreaksProof x.proof faults y.proof
+breaks-proof x y faults (entries, b) = (told_as (global_literal x.tables) entries, b.begun)
+
+pub proof-unbroken : (p : ProofParts) → BreaksProof p 0 p
+proof-unbroken p = ([], begun-none p.opened)
+
+pub proof-breaks-on : (p q r : ProofParts) (entries : List Entry) (faults : ℕ) → IsTold p entries q → BreaksProof q faults r → BreaksProof p faults r
+proof-breaks-on p q r entries faults t (more, b) = (entries ++ more, begun-behind p.opened q.opened r.opened entries more faults t.written b)
+
+-- where no proof is open the target does not fail
+pub unopened-unbroken : (p q : ProofParts) (faults : ℕ) → p.opened ≡ None → BreaksProof p faults q → faults ≡ 0
+unopened-unbroken p q faults e (entries, b) = (subst (λ o. IsBegunIf o (told entries) faults q.opened) e b).1

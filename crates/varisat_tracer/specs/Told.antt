@@ -1,6 +1,7 @@
 -- Laws of telling entries to a proof: none, some in turn, and any to a proof that is idle.
-use Rattle.std.specs.Prelude.{◌≡◌, ◌||◌, Bool, true, false, List, [], ◌∷◌, ◌++◌, map, flat_map, Option, Some, None, refl}
-use Rattle.std.proofs.Common.{sym, ap, ◌∙◌, append_assoc, append-nil, subst}
+use Rattle.std.specs.Prelude.{◌≡◌, ℕ, ◌+◌, ◌||◌, Bool, true, false, List, [], ◌∷◌, ◌++◌, map, flat_map, length, take, Option, Some, None, refl}
+use Rattle.std.proofs.Common.{sym, ap, ◌∙◌, append_assoc, append-nil, subst, arith}
+use Rattle.std.proofs.Math.Seq.{take-append-add}
 use Rattle.std.proofs.lemmas.Grind.{flat_map-append}
 use Rattle.varisat_theory.specs.Literals.{Literal, Clause}
 use Rattle.varisat_theory.specs.Derivations.{Add, Delete}
@@ -9,13 +10,13 @@ use Rattle.varisat_theory.specs.Renaming.{rename_line}
 use Rattle.varisat_theory.specs.Journals.{Entry, Accepts, Writes, Assumes, Fails, Leaves}
 use Rattle.varisat_proof.specs.declared.proof.format.ProofFormat.{ProofFormat}
 use Rattle.varisat_proof.specs.declared.proof.format.Encoding.{Encoding}
-use Rattle.varisat_proof.specs.Lines.{encoding_of}
+use Rattle.varisat_proof.specs.Lines.{ProofLine, encoding_of}
 use Rattle.varisat_proof.specs.Written.{line_written}
 use Rattle.varisat_proof.specs.Steps.{lines_written}
 use Rattle.varisat_proof.specs.Calls.{CheckerState}
-use Rattle.varisat_proof.specs.Telling.{entry_lines, lines_told}
+use Rattle.varisat_proof.specs.Telling.{entry_lines, lines_told, bytes_told}
 use Rattle.varisat_proof.specs.Present.{IsLeftAfter}
-use Rattle.varisat_proof.specs.Proving.{OpenState, ProofParts, is_there, IsWrittenIf, IsCheckedIf, IsTold, told}
+use Rattle.varisat_proof.specs.Proving.{OpenState, ProofParts, is_there, IsWrittenIf, IsBegunIf, IsCheckedIf, IsTold, told}
 use Rattle.varisat_tracer.specs.Carried.{told_as}
 
 bytes-append : (e : Encoding) (first second : List Entry) → lines_written e (lines_told e (first ++ second)) ≡ lines_written e
@@ -99,3 +100,35 @@ idle (Some p) k entries h = absurd (subst IsNo (sym h) tt)
 
 pub told-idle : (p : ProofParts) (entries : List Entry) → (is_there p.opened || is_there p.checker) ≡ false → IsTold p entries p
 told-idle p entries h = let i = idle p.opened p.checker entries h in record { written = i.0; checked = i.1 }
+
+-- 4. Some of them, up to an error.
+pub begun-none : (o : Option OpenState) → IsBegunIf o (told []) 0 o
+begun-none None = (refl, refl)
+begun-none (Some p) = record { rest = refl; bytes = (0, sym (append-nil p.taken.bytes)); faults = omega arith }
+
+pub begun-behind : (o p q : Option OpenState) (first second : List Entry) (faults : ℕ) → IsWrittenIf o (told first) p →
+    IsBegunIf p (told second) faults q → IsBegunIf o (told (first ++ second)) faults q
+begun-behind None p q first second faults h k = subst (λ x. IsBegunIf x (told second) faults q) h k
+begun-behind (Some a) None q first second faults h k = absurd h
+begun-behind (Some a) (Some b) None first second faults h k = absurd k
+begun-behind (Some a) (Some b) (Some c) first second faults h k =
+    let same : b.format ≡ a.format = ap (λ (x : OpenState). x.format) h.rest in
+    let (n, e) : (n : ℕ) × (c.taken.bytes ≡ b.taken.bytes ++ take n (bytes_told a.format second)) =
+    subst (λ (f : ProofFormat). (n : ℕ) × (c.taken.bytes ≡ b.taken.bytes ++ take n (bytes_told f second))) same k.bytes in
+    record {
+      rest = k.rest ∙ ap (λ (x : OpenState). let y : OpenState = record x { taken = c.taken } in y) h.rest;
+      bytes = (
+        length (bytes_told a.format first) + n,
+        e ∙ ap (λ xs. xs ++ take n (bytes_told a.format second)) h.bytes
+            ∙ append_assoc a.taken.bytes (bytes_told a.format first) (take n (bytes_told a.format second))
+            ∙ ap (λ xs. a.taken.bytes ++ xs) (sym (take-append-add (bytes_told a.format first) (bytes_told a.format second) n)
+            ∙ ap (take (length (bytes_told a.format first) + n)) (sym (bytes-append (encoding_of a.format) first second))),
+      );
+      faults = k.faults ∙ ap (λ m. m + faults) h.faults;
+    }
+
+pub begun-idle : (o : Option OpenState) (k : Option CheckerState) (p : Option OpenState) (lines : Encoding → List ProofLine) (faults : ℕ) →
+    (is_there o || is_there k) ≡ false → IsBegunIf o lines faults p → faults ≡ 0
+unfolding IsNo
+begun-idle None k p lines faults h b = b.1
+begun-idle (Some a) k p lines faults h b = absurd (subst IsNo (sym h) tt)

@@ -1,6 +1,6 @@
 -- The laws of a solver's tracer, as `ProofTracer` asks for them: it takes nothing, takes entries in turn, passes them where it is idle, and what
 -- a search may rely on follows them.
-use Rattle.std.specs.Prelude.{◌≡◌, ◌<◌, ◌-◌, ◌^◌, false, List, [], ◌++◌, Option, Some, None, refl}
+use Rattle.std.specs.Prelude.{◌≡◌, ℕ, ◌<◌, ◌-◌, ◌^◌, false, List, [], ◌++◌, Option, Some, None, refl}
 use Rattle.std.proofs.Common.{sym, ◌∙◌, subst}
 use Rattle.varisat_theory.specs.Literals.{Literal, Clause}
 use Rattle.varisat_theory.specs.Renaming.{KeepsOpposites, rename}
@@ -9,10 +9,10 @@ use Rattle.varisat_theory.specs.Journals.{Entry, Leads}
 use Rattle.varisat_names.specs.VarMap.{at}
 use Rattle.varisat_names.specs.Variables.{Tables}
 use Rattle.varisat_proof.specs.Calls.{CheckerState}
-use Rattle.varisat_proof.specs.Proving.{OpenState, is_telling, IsWrittenIf, IsCheckedIf, IsTold, HasRoom, IsUsable, MayHold, told}
+use Rattle.varisat_proof.specs.Proving.{OpenState, is_telling, IsWrittenIf, IsCheckedIf, IsTold, IsBegunIf, HasRoom, IsUsable, MayHold, told}
 use Rattle.varisat_tracer.specs.Carried.{told_as}
-use Rattle.varisat_tracer.specs.Tracing.{TracerState, global_literal, Relies, TakesGlobally}
-use Rattle.varisat_tracer.specs.Told.{told_as-append, told-none, told-more, told-idle}
+use Rattle.varisat_tracer.specs.Tracing.{TracerState, global_literal, Relies, TakesGlobally, BreaksGlobally}
+use Rattle.varisat_tracer.specs.Told.{told_as-append, told-none, told-more, told-idle, begun-none, begun-behind, begun-idle}
 use Rattle.varisat_tracer.specs.RenamedEntries.{carry-opposites, left_same, leads-renamed}
 
 pub takes-none : (x : TracerState) → TakesGlobally x [] x
@@ -29,6 +29,24 @@ takes-more x y z first second h k = record {
 
 pub takes-idle : (x : TracerState) (entries : List Entry) → is_telling x.proof ≡ false → TakesGlobally x entries x
 takes-idle x entries h = record { tables = refl; told = told-idle x.proof (told_as (global_literal x.tables) entries) h }
+
+pub breaks-none : (x : TracerState) → BreaksGlobally x [] 0 x
+breaks-none x = record { tables = refl; begun = begun-none x.proof.opened }
+
+pub breaks-behind : (x y z : TracerState) (first second : List Entry) (faults : ℕ) → TakesGlobally x first y → BreaksGlobally y second faults z →
+    BreaksGlobally x (first ++ second) faults z
+breaks-behind x y z first second faults h k = record {
+  tables = k.tables ∙ h.tables;
+  begun =
+      subst (λ es. IsBegunIf x.proof.opened (told es) faults z.proof.opened) (sym (told_as-append (global_literal x.tables) first second))
+      (begun-behind x.proof.opened y.proof.opened z.proof.opened (told_as (global_literal x.tables) first) (told_as (global_literal x.tables) second) faults
+      h.told.written
+      (subst (λ (t : Tables). IsBegunIf y.proof.opened (told (told_as (global_literal t) second)) faults z.proof.opened) h.tables k.begun));
+}
+
+pub breaks-idle : (x y : TracerState) (entries : List Entry) (faults : ℕ) → is_telling x.proof ≡ false → BreaksGlobally x entries faults y → faults ≡ 0
+breaks-idle x y entries faults h b =
+    begun-idle x.proof.opened x.proof.checker y.proof.opened (told (told_as (global_literal x.tables) entries)) faults h b.begun
 
 -- what a target may take and whether a checker can be used stay
 pub room-stays : (o p : Option OpenState) (lines : List Entry) → IsWrittenIf o (told lines) p → HasRoom o → HasRoom p

@@ -1,5 +1,5 @@
 -- What a solver's tracer holds and takes.
-use Rattle.std.specs.Prelude.{◌≡◌, None, List, ◌++◌, Result, Ok, Err}
+use Rattle.std.specs.Prelude.{◌≡◌, ℕ, None, List, ◌++◌, Result, Ok, Err}
 use Rattle.std.specs.List.Sorted.{IsNonDecreasingBy}
 use Rattle.varisat_theory.specs.Literals.{Literal, Clause}
 use Rattle.varisat_theory.specs.Renaming.{rename}
@@ -7,7 +7,7 @@ use Rattle.varisat_theory.specs.Journals.{Entry}
 use Rattle.varisat_trace.specs.declared.tracer.TraceError.{TraceError}
 use Rattle.varisat_names.specs.VarMap.{at}
 use Rattle.varisat_names.specs.Variables.{Tables}
-use Rattle.varisat_proof.specs.Proving.{ProofParts, IsTold, Tells, HasRoom, IsUsable, MayHold}
+use Rattle.varisat_proof.specs.Proving.{ProofParts, IsTold, IsBegunIf, Tells, told, HasRoom, IsUsable, MayHold}
 use Rattle.varisat_tracer.specs.declared.tracer.SolverTracer.{SolverTracer}
 use Rattle.varisat_tracer.specs.Carried.{carry, told_as}
 
@@ -39,6 +39,17 @@ pub record Relies (x : TracerState) (held : List Clause) : Type 0 where
 pub record TakesGlobally (x : TracerState) (entries : List Entry) (y : TracerState) : Type 0 where
   pub tables : y.tables ≡ x.tables
   pub told : IsTold x.proof (told_as (global_literal x.tables) entries) y.proof
+
+-- It broke off in the entries: a beginning of their lines stands behind what the target had taken, and it has counted so many faults more.
+-- Names and variables stay.
+pub record BreaksGlobally (x : TracerState) (entries : List Entry) (faults : ℕ) (y : TracerState) : Type 0 where
+  pub tables : y.tables ≡ x.tables
+  pub begun : IsBegunIf x.proof.opened (told (told_as (global_literal x.tables) entries)) faults y.proof.opened
+
+-- So much of it as concerns the proof: a beginning of some entries' lines stands behind what the target had taken, and it has counted so many
+-- faults more. Where no proof is open there are none.
+abbrev pub BreaksProof : ProofParts → ℕ → ProofParts → Type 0
+BreaksProof p faults q = (entries : List Entry) × IsBegunIf p.opened (told entries) faults q.opened
 
 -- What telling entries over global variables returns and leaves. Names and variables stay also after an error.
 abbrev pub TellsGlobally : TracerState → List Entry → Result (Unit {0}) TraceError → TracerState → Type 0

@@ -109,14 +109,16 @@ impl<W: ProofTarget, A: Allocator + Copy> SolverTracer<W, A> {
 
 impl<W: ProofTarget, A: Allocator + Copy> ProofTracer for SolverTracer<W, A> {
     ghost use Rattle.varisat_proof.specs.Proving.{is_telling};
-    ghost use Rattle.varisat_tracer.specs.Tracing.{parts_of, IsInOrder, Relies, TakesGlobally};
-    ghost use Rattle.varisat_tracer.specs.TracerLaws.{takes-none, takes-more, takes-idle, relies-after};
+    ghost use Rattle.varisat_tracer.specs.Tracing.{parts_of, IsInOrder, Relies, TakesGlobally, BreaksGlobally};
+    ghost use Rattle.varisat_tracer.specs.TracerLaws.{takes-none, takes-more, takes-idle, breaks-none, breaks-behind, breaks-idle, relies-after};
 
     ghost active = { λ x. is_telling x.proof };
 
     ghost holds = { λ x held. Relies (parts_of x) held };
 
     ghost takes = { λ x entries y. TakesGlobally (parts_of x) entries (parts_of y) };
+
+    ghost breaks_off = { λ x entries faults y. BreaksGlobally (parts_of x) entries faults (parts_of y) };
 
     ghost in_order = { λ x clause. IsInOrder (parts_of x) clause };
 
@@ -168,6 +170,12 @@ impl<W: ProofTarget, A: Allocator + Copy> ProofTracer for SolverTracer<W, A> {
     ghost takes_more = { λ x y z. takes-more (parts_of x) (parts_of y) (parts_of z) };
 
     ghost takes_idle = { λ x. takes-idle (parts_of x) };
+
+    ghost breaks_none = { λ x. breaks-none (parts_of x) };
+
+    ghost breaks_behind = { λ x y z. breaks-behind (parts_of x) (parts_of y) (parts_of z) };
+
+    ghost breaks_idle = { λ x y. breaks-idle (parts_of x) (parts_of y) };
 
     ghost holds_after = { λ x y. relies-after (parts_of x) (parts_of y) };
 }

@@ -1,3 +1,6 @@
+use Rattle.varisat_search.specs.declared.error.StepError.TheVariants as step
+use Rattle.varisat_search.specs.StepErrors.{step_faults}
+use Rattle.varisat_trace.proofs.Broken.{passed-on}
 -- What each part did to the maps and to the search.
 use Rattle.std.proofs.Common.{None, ◌≡◌, ◌≢◌, ◌++◌, ◌∷◌, [], List, false, sym, ap, ap₂, ◌∙◌, subst, length, map}
 use Rattle.std.specs.Option.{IsSome}
@@ -13,10 +16,10 @@ use Rattle.varisat_theory.specs.Literals.{Literal}
 use Rattle.varisat_theory.specs.Journals.{Accepts, written}
 use Rattle.varisat_tracer.specs.Carried.{told_as}
 use Rattle.varisat_tracer.specs.Carried as global
-use Rattle.varisat_tracer.specs.Tracing.{TracerState, parts_of, global_literal, Relies, CanTell}
+use Rattle.varisat_tracer.specs.Tracing.{TracerState, parts_of, global_literal, Relies, CanTell, BreaksProof}
 use Rattle.varisat_tracer.specs.TracerLaws.{takes-more}
 use Rattle.varisat.proofs.PlainTold.{proof-told}
-use Rattle.varisat_tracer.proofs.Telling.{relies-any, tells-on}
+use Rattle.varisat_tracer.proofs.Telling.{relies-any, tells-on, breaks-proof, proof-unbroken, proof-breaks-on}
 use Rattle.varisat_search.specs.declared.state.SatState.TheVariants as verdict
 use Rattle.varisat_search.specs.declared.state.SolverState.{SolverState}
 use Rattle.varisat_search.specs.AssumptionParts.{AssumptionParts}
@@ -69,7 +72,7 @@ load_clause-requires-clause-decidable g c l h =
 
 -- the proof can be told of the search once the clause was
 can-tell : (g : Over) (c : In_ok-tell_clause g) → CanTell c.tell_clause.new.tracer.proof
-can-tell g c = tells-on (record { tables = c.mark_joined.new.variables; proof = c.args.tracer.now.proof }) (parts_of c.tell_clause.new.tracer) _ c.in_ok-tell_clause.ensures c.requires.tells
+can-tell g c = tells-on (record { tables = c.mark_joined.new.variables; proof = c.args.tracer.now.proof }) (parts_of c.tell_clause.new.tracer) _ (c.in_ok-tell_clause.ensures {u = tt}).told c.requires.tells
 
 pub load_clause-requires-clause-holds : goal.load_clause-requires-clause-holds
 load_clause-requires-clause-holds g c n = let x = parts_of c.tell_clause.new.tracer in anything-with (Relies x) (relies-any x (can-tell g (goal.at.load_clause-requires-clause-holds g c).In_ok-tell_clause)) (view c.solver_from_user_lits.new.ctx) c.as_slice-lits.result.now
@@ -84,7 +87,7 @@ opened g c e =
 same-tables : (g : Over) (c : In_ok-load_clause g) → c.load_clause.new.proof.variables ≡ c.mark_joined.new.variables
 same-tables g c =
     let here = (goal.at.returns-clause-kept g c).In_ok-solver_from_user_lits in
-    ((c.in_ok-load_clause.ensures {u = tt}).lines (opened g here)).written.tables ∙ c.in_ok-tell_clause.ensures.tables
+    ((c.in_ok-load_clause.ensures {u = tt}).lines (opened g here)).written.tables ∙ (c.in_ok-tell_clause.ensures {u = tt}).told.tables
 
 pub returns-clause-state : goal.returns-clause-state
 returns-clause-state g c =
@@ -143,7 +146,7 @@ returns-clause-accepted g c s f =
     let lines = (r.lines (opened g here)).lines in
     let before : TracerState = record { tables = joined; proof = c.args.tracer.now.proof } in
     let after = parts_of c.load_clause.new.proof in
-    let taken = takes-more before (parts_of c.tell_clause.new.tracer) after (Accepts c.as_slice-lits.result.now ∷ []) (written lines) c.in_ok-tell_clause.ensures (r.lines (opened g here)).written in
+    let taken = takes-more before (parts_of c.tell_clause.new.tracer) after (Accepts c.as_slice-lits.result.now ∷ []) (written lines) (c.in_ok-tell_clause.ensures {u = tt}).told (r.lines (opened g here)).written in
     let n2 = with_verdict (reopened_verdict s.verdict) n in
     let (x, told, v, more, plain, k) = clause-accepted (record { tables = m; opened = None; search = view mid; assumed = mid.assumptions; sat_state = mid.solver_state.sat_state; ledger = s.ledger }) n2 list joined (view new) new.assumptions new.solver_state.sat_state
     (record {
@@ -161,3 +164,24 @@ returns-clause-accepted g c s f =
     })
     (all.stands (with_verdict (reopened_verdict s.verdict) s) begins) in
     (x, told, verdict-after s.clauses (map (through_names n.naming) list) s.verdict x v, more, proof-told before after (Accepts c.as_slice-lits.result.now ∷ written lines) s.ever_hidden s.told told taken (λ e. plain e ∙ ap (λ (ls : List Literal). s.told ++ told_as (global_literal m) (Accepts ls ∷ written lines)) (sym items) ∙ ap (λ (b : BiMap). s.told ++ told_as (global.carry (at b.backward)) (Accepts c.as_slice-lits.result.now ∷ written lines)) (sym c.mark_joined.ensures.solvers)), subst (λ (t : Tables). SpacesFit (spaces_of t (view new) new.assumptions new.solver_state.sat_state) (retold told (append_clause (map (through_names n.naming) list) x n))) (sym (same-tables g c)) k)
+
+pub returns-in_err-solver_from_user_lits-clause-broken : goal.returns-in_err-solver_from_user_lits-clause-broken
+returns-in_err-solver_from_user_lits-clause-broken g c =
+    let p = c.args.tracer.now.proof in
+    passed-on c.from_residual.result step.Memory (λ z. BreaksProof p (step_faults z) p) c.from_residual.ensures
+    (proof-unbroken p)
+
+pub returns-in_err-tell_clause-clause-broken : goal.returns-in_err-tell_clause-clause-broken
+returns-in_err-tell_clause-clause-broken g c =
+    passed-on c.from_residual-in_err-tell_clause.result c.in_err-tell_clause.field-0.0 (λ z. BreaksProof c.args.tracer.now.proof (step_faults z) c.tell_clause.new.tracer.proof)
+    c.from_residual-in_err-tell_clause.ensures (c.in_err-tell_clause.ensures {u = tt}).broken
+
+pub returns-in_err-load_clause-clause-broken : goal.returns-in_err-load_clause-clause-broken
+returns-in_err-load_clause-clause-broken g c =
+    let e = c.in_err-load_clause.field-0.0 in
+    let p = c.args.tracer.now.proof in
+    let q = c.tell_clause.new.tracer in
+    let r = c.load_clause.new.proof in
+    passed-on c.from_residual-in_err-load_clause.result e (λ z. BreaksProof p (step_faults z) r.proof) c.from_residual-in_err-load_clause.ensures
+    (proof-breaks-on p q.proof r.proof _ (step_faults e) (c.in_ok-tell_clause.ensures {u = tt}).told.told
+    (breaks-proof (parts_of q) (parts_of r) (step_faults e) (c.in_err-load_clause.ensures {u = tt}).broken))

@@ -1,8 +1,13 @@
+use Rattle.varisat_search.specs.declared.error.StepError.TheVariants as step
+use Rattle.varisat_search.proofs.StepErrors.{trace-faults}
+use Rattle.varisat_search.specs.StepErrors.{step_faults}
+use Rattle.varisat_trace.proofs.Broken.{passed-on}
+use Rattle.varisat_trace.specs.Traces.{faults_of}
 use Rattle.std.proofs.Common.{List, ap, ◌∙◌, sym, subst}
 use Rattle.varisat_theory.specs.Journals.{Entry, written}
 use Rattle.varisat_names.specs.Variables.{Tables}
-use Rattle.varisat_tracer.specs.Tracing.{parts_of, Relies}
-use Rattle.varisat_tracer.proofs.Telling.{relies-any}
+use Rattle.varisat_tracer.specs.Tracing.{parts_of, Relies, BreaksProof}
+use Rattle.varisat_tracer.proofs.Telling.{relies-any, breaks-proof, proof-unbroken, proof-breaks-on}
 use Rattle.varisat_search.specs.declared.state.SatState.TheVariants as verdict
 use Rattle.varisat.specs.States.{State}
 use Rattle.varisat.specs.Spaces.{SpacesFit}
@@ -88,3 +93,25 @@ returns-clause-since g c i k =
     (c.in_ok-drop_unneeded.ensures {u = tt}).leave.since i
     ((c.in_ok-drop_listed.ensures {u = tt}).leave.since i
     (come-settled _ c.args.ctx.now c.settle.new.ctx (c.in-Ok.ensures {u = tt}).goes_on (ap (λ (z : Context g.row.A.Denot). z.schedule) e) (ap (λ (z : Context g.row.A.Denot). z.solver_config) e) i k))
+
+pub returns-in-Err-clause-broken : goal.returns-in-Err-clause-broken
+returns-in-Err-clause-broken g c =
+    let e = c.in-Err.error in
+    let p = c.args.tracer.now in
+    let q = c.settle.new.proof in
+    subst (λ z. BreaksProof p.proof (step_faults z) q.proof) (sym c.from.ensures)
+    (subst (λ n. BreaksProof p.proof n q.proof) (trace-faults e) (breaks-proof (parts_of p) (parts_of q) (faults_of e) (c.in-Err.ensures {u = tt}).broken))
+
+pub returns-in_err-drop_listed-clause-broken : goal.returns-in_err-drop_listed-clause-broken
+returns-in_err-drop_listed-clause-broken g c =
+    let p = c.args.tracer.now.proof in
+    let q = c.settle.new.proof.proof in
+    passed-on c.from_residual.result step.Memory (λ z. BreaksProof p (step_faults z) q) c.from_residual.ensures
+    (proof-breaks-on p q q _ 0 (c.in-Ok.ensures {u = tt}).goes_on.proves.2.1.told (proof-unbroken q))
+
+pub returns-in_err-drop_unneeded-clause-broken : goal.returns-in_err-drop_unneeded-clause-broken
+returns-in_err-drop_unneeded-clause-broken g c =
+    let p = c.args.tracer.now.proof in
+    let q = c.settle.new.proof.proof in
+    passed-on c.from_residual-in_err-drop_unneeded.result step.Memory (λ z. BreaksProof p (step_faults z) q) c.from_residual-in_err-drop_unneeded.ensures
+    (proof-breaks-on p q q _ 0 (c.in-Ok.ensures {u = tt}).goes_on.proves.2.1.told (proof-unbroken q))

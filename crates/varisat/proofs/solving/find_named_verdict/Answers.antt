@@ -1,10 +1,13 @@
+use Rattle.varisat_search.specs.declared.error.StepError.TheVariants as step
+use Rattle.varisat_search.specs.StepErrors.{step_faults}
+use Rattle.varisat_trace.proofs.Broken.{passed-on}
 use Rattle.std.proofs.Common.{◌-◌, Ok, false, map, sym, ap, ◌∙◌, subst, length}
 use Rattle.varisat_theory.specs.Literals.{variable_of}
 use Rattle.varisat_names.specs.Maps.{chain}
 use Rattle.varisat_names.specs.VarMap.{at}
 use Rattle.varisat_names.specs.Variables.{Tables}
-use Rattle.varisat_tracer.specs.Tracing.{parts_of, Relies, TakesGlobally}
-use Rattle.varisat_tracer.proofs.Telling.{relies-any, tells-on}
+use Rattle.varisat_tracer.specs.Tracing.{parts_of, Relies, TakesGlobally, BreaksProof}
+use Rattle.varisat_tracer.proofs.Telling.{relies-any, tells-on, breaks-proof, proof-unbroken, proof-breaks-on}
 use Rattle.varisat_search.proofs.LeastHeld.{anything-for}
 use Rattle.varisat.specs.Accepting.{HasUser}
 use Rattle.varisat.specs.Carried.{carry}
@@ -97,3 +100,18 @@ returns-in_err-name_core-clause-counted g c n changed_at h k =
     (subst (λ r. CountsSteps n c.args.max_steps (x.schedule.steps - changed_at) x.schedule.steps mid.schedule.steps r) (sym told)
     (counts-unnamed n c.args.max_steps (x.schedule.steps - changed_at) x.schedule.steps mid.schedule.steps false y
     (subst (λ r. CountsSteps n c.args.max_steps (x.schedule.steps - changed_at) x.schedule.steps mid.schedule.steps (told_verdict r)) answer (c.find_verdict.ensures.counted n changed_at h k))))
+
+pub returns-in_err-found-clause-broken : goal.returns-in_err-found-clause-broken
+returns-in_err-found-clause-broken g c =
+    let e = c.in_err-found.field-0.0 in
+    let p = c.args.tracer.now in
+    let q = c.find_verdict.new.proof in
+    passed-on c.from_residual.result e (λ z. BreaksProof p.proof (step_faults z) q.proof) c.from_residual.ensures
+    (breaks-proof (parts_of p) (parts_of q) (step_faults e) (c.in_err-found.ensures {u = tt}).broken)
+
+pub returns-in_err-name_core-clause-broken : goal.returns-in_err-name_core-clause-broken
+returns-in_err-name_core-clause-broken g c =
+    let p = c.args.tracer.now in
+    let q = c.find_verdict.new.proof in
+    passed-on c.from_residual-in_err-name_core.result step.Memory (λ z. BreaksProof p.proof (step_faults z) q.proof) c.from_residual-in_err-name_core.ensures
+    (proof-breaks-on p.proof q.proof q.proof _ 0 (c.in_ok-found.ensures {u = tt}).steps.2.told (proof-unbroken q.proof))

@@ -1,3 +1,5 @@
+use Rattle.varisat_search.proofs.StepErrors.{step-passed}
+use Rattle.varisat_trace.proofs.Broken.{breaks-on}
 use Rattle.std.proofs.Common.{◌≡◌, ◌-◌, List, ◌∙◌, ⊎_elim, inl, inr, ap, sym, subst, refl, true, false, arith}
 use Rattle.varisat_theory.specs.Derivations.{Line}
 use Rattle.varisat_theory.specs.Outcomes.{Outcome, Unknown, Steps}
@@ -195,3 +197,8 @@ returns-in_err-schedule_step-clause-counted g c n changed_at h k =
     let (e, told) = told-refused c.from_residual.result c.from_residual.ensures.0 in
     subst (λ a. CountsSteps n c.args.max_steps (x.schedule.steps - changed_at) x.schedule.steps c.schedule_step.new.ctx.schedule.steps a) (sym told)
     (counts-refused (searching-at x y c.args.max_steps c.prove_in_range.ensures.luby_restart_interval_scale c.requires.ready c.requires.unknown r.count r.config r.made) changed_at k e c.schedule_step.new.ctx.schedule.steps (c.in_err-schedule_step.ensures {u = tt}).uncounted n h)
+
+pub returns-in_err-schedule_step-clause-broken : goal.returns-in_err-schedule_step-clause-broken
+returns-in_err-schedule_step-clause-broken g c =
+    step-passed g.P.ProofTracer.breaks_off c.args.proof.now c.schedule_step.new.proof c.from_residual.result c.in_err-schedule_step.field-0.0 c.from_residual.ensures
+    (breaks-on g.P.ProofTracer.takes g.P.ProofTracer.breaks_off g.met.P.ProofTracer.breaks_behind c.steps.invariant.lines.2 (c.in_err-schedule_step.ensures {u = tt}).broken)

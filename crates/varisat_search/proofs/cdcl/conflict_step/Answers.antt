@@ -1,3 +1,5 @@
+use Rattle.varisat_trace.proofs.Broken.{breaks-on}
+use Rattle.varisat_search.proofs.StepErrors.{trace-broken, step-passed}
 use Rattle.std.proofs.Common.{refl}
 use Rattle.varisat_theory.specs.Outcomes.{Steps}
 use Rattle.varisat_search.specs.declared.context.Context.{Context}
@@ -58,3 +60,20 @@ returns-in_ok-learn-in-Err-clause-made g c =
     (made-are y z (λ lines. TakesLines takes p1 lines p2) (λ lines. TakesStep takes p1 lines v p2)
     (λ lines h. step-lines takes p1 p2 lines v (no-core-entry (view z) z.assumptions.failed_core z.solver_state.sat_state e.further.known) h)
     (made-at-once y z (λ lines. TakesLines takes p1 lines p2) c.in_ok-settle_units.ensures.goes_on.ready e.further e.last))
+
+pub returns-in_err-settle_units-clause-broken : goal.returns-in_err-settle_units-clause-broken
+returns-in_err-settle_units-clause-broken g c =
+    trace-broken g.P.ProofTracer.breaks_off c.args.proof.now c.settle_units.new.proof c.from_residual.result c.in_err-settle_units.field-0.0 c.from_residual.ensures
+    c.in_err-settle_units.ensures.broken
+
+pub returns-in_err-find_and_learn-in-Ok-clause-broken : goal.returns-in_err-find_and_learn-in-Ok-clause-broken
+returns-in_err-find_and_learn-in-Ok-clause-broken g c =
+    let (lines, p, (s, t)) = c.in_ok-settle_units.ensures.goes_on.proves in
+    step-passed g.P.ProofTracer.breaks_off c.args.proof.now c.find_and_learn.new.proof c.from_residual-in_err-find_and_learn-in-Ok.result c.in_err-find_and_learn-in-Ok.field-0.0 c.from_residual-in_err-find_and_learn-in-Ok.ensures
+    (breaks-on g.P.ProofTracer.takes g.P.ProofTracer.breaks_off g.met.P.ProofTracer.breaks_behind t c.in_err-find_and_learn-in-Ok.ensures.broken)
+
+pub returns-in_err-learn-in-Err-clause-broken : goal.returns-in_err-learn-in-Err-clause-broken
+returns-in_err-learn-in-Err-clause-broken g c =
+    let (lines, p, (s, t)) = c.in_ok-settle_units.ensures.goes_on.proves in
+    step-passed g.P.ProofTracer.breaks_off c.args.proof.now c.learn.new.proof c.from_residual-in_err-learn-in-Err.result c.in_err-learn-in-Err.field-0.0 c.from_residual-in_err-learn-in-Err.ensures
+    (breaks-on g.P.ProofTracer.takes g.P.ProofTracer.breaks_off g.met.P.ProofTracer.breaks_behind t c.in_err-learn-in-Err.ensures.broken)

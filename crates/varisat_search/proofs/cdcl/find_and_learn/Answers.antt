@@ -1,3 +1,5 @@
+use Rattle.varisat_trace.proofs.Broken.{breaks-not}
+use Rattle.varisat_search.proofs.StepErrors.{memory-broken, trace-broken, step-passed}
 use Rattle.std.proofs.Common.{MatchResult, List, sym, subst}
 use Rattle.varisat_theory.specs.Literals.{Clause}
 use Rattle.varisat_theory.specs.Propagation.{IsComplete, Conflicts}
@@ -38,7 +40,7 @@ returns-in_ok-trace_core-in-Err-Assumption-clause-made g c =
     let y = c.find_conflict.new.ctx in
     let m = c.in_ok-find_conflict.ensures in
     let b = error-is (IsComplete (kept (view y)) y.trail.literals × EndsAssumed (view y) y.assumptions) (Stops (view y) y.assumptions) c.in-Err-Assumption.is c.in-Err-Assumption.field-0-is m.found in
-    made-ended x y c.requires.ready (finds g (goal.at.returns-in_ok-trace_core-in-Err-Assumption-clause-made g c).In_ok-find_conflict) verdict.UnsatUnderAssumptions (λ lines. TakesStep g.P.ProofTracer.takes c.args.proof.now lines (outcome_of (view y) y.assumptions.failed_core verdict.UnsatUnderAssumptions) c.trace_core.new.proof) (c.in_ok-trace_core-in-Err-Assumption.ensures {u = tt}) (λ e. absurd cc)
+    made-ended x y c.requires.ready (finds g (goal.at.returns-in_ok-trace_core-in-Err-Assumption-clause-made g c).In_ok-find_conflict) verdict.UnsatUnderAssumptions (λ lines. TakesStep g.P.ProofTracer.takes c.args.proof.now lines (outcome_of (view y) y.assumptions.failed_core verdict.UnsatUnderAssumptions) c.trace_core.new.proof) ((c.in_ok-trace_core-in-Err-Assumption.ensures {u = tt}).taken) (λ e. absurd cc)
     (core-steps (view y) y.assumptions m.ready.well b)
     (keeps-core (view x) (view y) x.assumptions y.assumptions c.requires.ready.well m.taken b)
 
@@ -71,3 +73,18 @@ trace_core-requires g c =
     let (held, h, f) = holds g (goal.at.trace_core-requires g c).In_ok-find_conflict in
     let (after, d, i, n) = (core-steps (view y) y.assumptions m.ready.well b).holds held f in
     (held, h, subst (λ (P : List Clause). Conflicts P y.assumptions.failed_core) (sym d) i.1)
+
+pub returns-in_err-find_conflict-clause-broken : goal.returns-in_err-find_conflict-clause-broken
+returns-in_err-find_conflict-clause-broken g c =
+    memory-broken g.P.ProofTracer.breaks_off c.args.proof.now c.args.proof.now c.from_residual.result c.from_residual.ensures
+    (breaks-not g.P.ProofTracer.breaks_off g.met.P.ProofTracer.breaks_none c.args.proof.now)
+
+pub returns-in_err-trace_core-in-Err-Assumption-clause-broken : goal.returns-in_err-trace_core-in-Err-Assumption-clause-broken
+returns-in_err-trace_core-in-Err-Assumption-clause-broken g c =
+    trace-broken g.P.ProofTracer.breaks_off c.args.proof.now c.trace_core.new.proof c.from_residual-in_err-trace_core-in-Err-Assumption.result c.in_err-trace_core-in-Err-Assumption.field-0.0 c.from_residual-in_err-trace_core-in-Err-Assumption.ensures
+    c.in_err-trace_core-in-Err-Assumption.ensures.broken
+
+pub returns-in_err-learn-in-Err-Conflict-clause-broken : goal.returns-in_err-learn-in-Err-Conflict-clause-broken
+returns-in_err-learn-in-Err-Conflict-clause-broken g c =
+    step-passed g.P.ProofTracer.breaks_off c.args.proof.now c.learn.new.proof c.from_residual-in_err-learn-in-Err-Conflict.result c.in_err-learn-in-Err-Conflict.field-0.0 c.from_residual-in_err-learn-in-Err-Conflict.ensures
+    c.in_err-learn-in-Err-Conflict.ensures.broken

@@ -1,3 +1,5 @@
+use Rattle.varisat_trace.proofs.Broken.{breaks-on, breaks-not}
+use Rattle.varisat_search.proofs.StepErrors.{memory-broken, trace-broken, store-broken, full-told}
 use Rattle.std.proofs.Common.{◌≡◌, List, [], ◌∷◌, ◌++◌, refl, sym, ap, ◌∙◌, subst, length, arith}
 use Rattle.varisat_theory.specs.Literals.{Literal, Clause}
 use Rattle.varisat_theory.specs.Derivations.{Line, Add}
@@ -20,7 +22,6 @@ use Rattle.varisat_search.proofs.LearnContext.{analysis-ready, involved-named, b
 use Rattle.varisat_search.proofs.cdcl.learn.Given.{Over}
 use Rattle.varisat_search.proofs.cdcl.learn.Goals.{After-backtrack, In_ok-reason, In_ok-enqueue_assignment}
 use Rattle.varisat_search.proofs.cdcl.learn.Goals as goal
-use Rattle.varisat_search.proofs.StepErrors.{full-told}
 use Rattle.varisat_trace.specs.Traces.{TakesLines}
 
 pub bump_involved-requires-clause-ready : goal.bump_involved-requires-clause-ready
@@ -233,3 +234,28 @@ returns-in_err-reason-clause-full g c =
     let short = learned-length (undone g (goal.at.returns-in_err-reason-clause-full g c).After-backtrack) c.in-Some.first c.in-Some.ensures.0 (sym c.clause.ensures ∙ c.in-Some.ensures.1) in
     let count = ap (λ (x : Context g.row.A.Denot). length x.assignment.current) c.keep_learned.ensures.kept in
     omega (arith, room, short, count))
+
+pub returns-in_err-level-clause-broken : goal.returns-in_err-level-clause-broken
+returns-in_err-level-clause-broken g c =
+    memory-broken g.P.ProofTracer.breaks_off c.args.proof.now c.args.proof.now c.from_residual.result c.from_residual.ensures
+    (breaks-not g.P.ProofTracer.breaks_off g.met.P.ProofTracer.breaks_none c.args.proof.now)
+
+pub returns-in_err-trace_learned-clause-broken : goal.returns-in_err-trace_learned-clause-broken
+returns-in_err-trace_learned-clause-broken g c =
+    trace-broken g.P.ProofTracer.breaks_off c.args.proof.now c.trace_learned.new.proof c.from_residual-in_err-trace_learned.result c.in_err-trace_learned.field-0.0 c.from_residual-in_err-trace_learned.ensures
+    (c.in_err-trace_learned.ensures {u = tt})
+
+pub returns-in_err-bump_involved_clauses-clause-broken : goal.returns-in_err-bump_involved_clauses-clause-broken
+returns-in_err-bump_involved_clauses-clause-broken g c =
+    memory-broken g.P.ProofTracer.breaks_off c.args.proof.now c.trace_learned.new.proof c.from_residual-in_err-bump_involved_clauses.result c.from_residual-in_err-bump_involved_clauses.ensures
+    (breaks-on g.P.ProofTracer.takes g.P.ProofTracer.breaks_off g.met.P.ProofTracer.breaks_behind (c.in_ok-trace_learned.ensures {u = tt}) (breaks-not g.P.ProofTracer.breaks_off g.met.P.ProofTracer.breaks_none c.trace_learned.new.proof))
+
+pub returns-in_err-reason-clause-broken : goal.returns-in_err-reason-clause-broken
+returns-in_err-reason-clause-broken g c =
+    store-broken g.P.ProofTracer.breaks_off c.args.proof.now c.trace_learned.new.proof c.from_residual-in_err-reason.result c.in_err-reason.field-0.0 c.from_residual-in_err-reason.ensures
+    (breaks-on g.P.ProofTracer.takes g.P.ProofTracer.breaks_off g.met.P.ProofTracer.breaks_behind (c.in_ok-trace_learned.ensures {u = tt}) (breaks-not g.P.ProofTracer.breaks_off g.met.P.ProofTracer.breaks_none c.trace_learned.new.proof))
+
+pub returns-in_err-enqueue_assignment-clause-broken : goal.returns-in_err-enqueue_assignment-clause-broken
+returns-in_err-enqueue_assignment-clause-broken g c =
+    memory-broken g.P.ProofTracer.breaks_off c.args.proof.now c.trace_learned.new.proof c.from_residual-in_err-enqueue_assignment.result c.from_residual-in_err-enqueue_assignment.ensures
+    (breaks-on g.P.ProofTracer.takes g.P.ProofTracer.breaks_off g.met.P.ProofTracer.breaks_behind (c.in_ok-trace_learned.ensures {u = tt}) (breaks-not g.P.ProofTracer.breaks_off g.met.P.ProofTracer.breaks_none c.trace_learned.new.proof))

@@ -1,3 +1,5 @@
+use Rattle.varisat_trace.proofs.Broken.{error-broken, breaks-on, breaks-not}
+use Rattle.varisat_trace.specs.declared.tracer.TraceError.TheVariants.{Memory}
 use Rattle.std.proofs.Common.{◌≡◌, Ok, Err, MatchResult, List, [], ◌++◌, length, refl, sym, ap, ap₂, ◌∙◌, subst}
 use Rattle.varisat_theory.specs.Propagation.{IsComplete}
 use Rattle.varisat_theory.specs.Outcomes.{Proves}
@@ -140,3 +142,19 @@ returns-clause-settled g c =
     (ap (λ (y : Context g.row.A.Denot). y.trail.queue_head) c.prove_units.ensures.kept ∙ ends.1 ∙ sym (ap (λ (y : Context g.row.A.Denot). length y.trail.literals) c.prove_units.ensures.kept))
     (units-all (view m) (view c.prove_units.new.ctx) (ready g h).well (none g h) (p.proved (none g h)))
     c.in_ok-unit_simplify.ensures.simplified
+
+pub returns-in_err-propagated-clause-broken : goal.returns-in_err-propagated-clause-broken
+returns-in_err-propagated-clause-broken g c =
+    error-broken g.P.ProofTracer.breaks_off c.args.proof.now c.args.proof.now c.from_residual.result Memory c.from_residual.ensures
+    (breaks-not g.P.ProofTracer.breaks_off g.met.P.ProofTracer.breaks_none c.args.proof.now)
+
+pub returns-in_err-prove_units-clause-broken : goal.returns-in_err-prove_units-clause-broken
+returns-in_err-prove_units-clause-broken g c =
+    error-broken g.P.ProofTracer.breaks_off c.args.proof.now c.prove_units.new.proof c.from_residual-in_err-prove_units.result c.in_err-prove_units.field-0.0 c.from_residual-in_err-prove_units.ensures
+    c.in_err-prove_units.ensures.broken
+
+pub returns-in_err-unit_simplify-clause-broken : goal.returns-in_err-unit_simplify-clause-broken
+returns-in_err-unit_simplify-clause-broken g c =
+    let h = (goal.at.returns-in_err-unit_simplify-clause-broken g c).In_ok-propagated in
+    error-broken g.P.ProofTracer.breaks_off c.args.proof.now c.unit_simplify.new.proof c.from_residual-in_err-unit_simplify.result c.in_err-unit_simplify.field-0.0 c.from_residual-in_err-unit_simplify.ensures
+    (breaks-on g.P.ProofTracer.takes g.P.ProofTracer.breaks_off g.met.P.ProofTracer.breaks_behind (c.in_ok-prove_units.ensures.takes (none g h)) c.in_err-unit_simplify.ensures.broken)

@@ -1,3 +1,4 @@
+use Rattle.varisat_trace.proofs.Broken.{error-broken}
 use Rattle.std.proofs.Common.{length, ap, arith}
 use Rattle.varisat_search.specs.Contexts.{view}
 use Rattle.varisat_search.specs.SettledUnits.{IsUnsettled}
@@ -13,3 +14,8 @@ returns-then-current_level-gt0-clause-goes_on g c =
       | then-current_level-gt0-via-else-current_level-gt0+then-fully_propagated w ↦ (let n = w.fully_propagated.ensures.0 w.if-fully_propagated.true in omega (arith, n, u.1))
     ] in
     goes-refl c.args.ctx.now _ c.requires.ready ((λ u. absurd (settled u)), g.met.P.ProofTracer.takes_none c.args.proof.now)
+
+pub returns-in_err-end-clause-broken : goal.returns-in_err-end-clause-broken
+returns-in_err-end-clause-broken g c =
+    error-broken g.P.ProofTracer.breaks_off c.args.proof.now c.settle.new.proof c.from_residual.result c.in_err-end.field-0.0 c.from_residual.ensures
+    c.in_err-end.ensures.broken

@@ -1,3 +1,5 @@
+use Rattle.varisat_trace.proofs.Broken.{breaks-not}
+use Rattle.varisat_search.proofs.StepErrors.{memory-broken, trace-broken, store-broken, full-told}
 use Rattle.std.specs.List.Sorted.{IsPermutation}
 use Rattle.std.specs.Vec.{with_items}
 use Rattle.std.proofs.Common.{◌*◌, ◌<◌, ◌≤◌, List, false, replicate, length, ⊎_elim, refl, sym, ap, ◌∙◌, subst, arith}
@@ -10,7 +12,6 @@ use Rattle.varisat_search.proofs.AssumptionContexts.{cut-assumed, cut-same-list}
 use Rattle.varisat_search.proofs.LoadView.{Restarted, restarted}
 use Rattle.varisat_search.proofs.LoadContext.{Loading, Loaded, loading-other, loading-restarted, loading-propagated, loading-inside, loaded-tautology, loaded-satisfied, loaded-deleted, loaded-added}
 use Rattle.varisat_search.proofs.ClauseLengths.{clause-short}
-use Rattle.varisat_search.proofs.StepErrors.{full-told}
 use Rattle.varisat_search.proofs.LoadedTrue.{can-delete-loaded}
 use Rattle.varisat_search.specs.Seen.{search_of}
 use Rattle.varisat_theory.specs.Derivations.{Line}
@@ -72,7 +73,7 @@ returns-then-branch g c =
     let taut = c.in_ok-collect_distinct.ensures.tautology.0 c.if-branch.true in
     let p = c.args.proof.now in
     let o = loaded-tautology (loading g (goal.at.returns-then-branch g c).In_ok-collect_distinct) (g.P.ProofTracer.in_order p) (λ lines. TakesLines g.P.ProofTracer.takes p lines p) (g.met.P.ProofTracer.takes_none p) taut in
-    record { full = tt; ready = o.ready; unsat = λ e. absurd (c.in_default.not-Unsat e); lines = o.lines; verdict = o.kept_verdict; assumptions = λ n. o.assumptions; last = λ n. o.last; state = λ n. o.state; count = o.count; units = o.units; undecided = λ n. o.undecided; decidable = o.decidable; decay = o.decay; schedule = o.schedule; single = λ l e. loaded-none (loading g (goal.at.returns-then-branch g c).In_ok-collect_distinct) l e }
+    record { full = tt; broken = tt; ready = o.ready; unsat = λ e. absurd (c.in_default.not-Unsat e); lines = o.lines; verdict = o.kept_verdict; assumptions = λ n. o.assumptions; last = λ n. o.last; state = λ n. o.state; count = o.count; units = o.units; undecided = λ n. o.undecided; decidable = o.decidable; decay = o.decay; schedule = o.schedule; single = λ l e. loaded-none (loading g (goal.at.returns-then-branch g c).In_ok-collect_distinct) l e }
 
 pub is_satisfied-requires : goal.is_satisfied-requires
 is_satisfied-requires g c l h =
@@ -107,7 +108,7 @@ pub returns-then-is_satisfied : goal.returns-then-is_satisfied
 returns-then-is_satisfied g c =
     let d = loading-other (ordered g c).tmp_data (loading g (goal.at.returns-then-is_satisfied g c).In_ok-collect_distinct) in
     let o = satisfied g c d in
-    record { full = tt; ready = o.ready; unsat = λ e. absurd (c.in_default.not-Unsat e); lines = o.lines; verdict = o.kept_verdict; assumptions = λ n. o.assumptions; last = λ n. o.last; state = λ n. o.state; count = o.count; units = o.units; undecided = λ n. o.undecided; decidable = o.decidable; decay = o.decay; schedule = o.schedule; single = λ l e. loaded-none d l e }
+    record { full = tt; broken = tt; ready = o.ready; unsat = λ e. absurd (c.in_default.not-Unsat e); lines = o.lines; verdict = o.kept_verdict; assumptions = λ n. o.assumptions; last = λ n. o.last; state = λ n. o.state; count = o.count; units = o.units; undecided = λ n. o.undecided; decidable = o.decidable; decay = o.decay; schedule = o.schedule; single = λ l e. loaded-none d l e }
 
 pub add_distinct-requires : goal.add_distinct-requires
 add_distinct-requires g c =
@@ -128,7 +129,7 @@ returns g c =
     let k = c.add_distinct.ensures.kept in
     let p = c.args.proof.now in
     let o = loaded-added (loading g (goal.at.returns g c).In_ok-collect_distinct) (g.P.ProofTracer.in_order p) (λ lines. TakesLines g.P.ProofTracer.takes p lines p) (g.met.P.ProofTracer.takes_none p) (λ l i t. let b = c.if-is_satisfied.ensures.1 (l, subst (λ ys. l ∈ ys) (sym c.deref.ensures.value) i, t) in absurd cc) c.add_distinct.new.ctx k e.propagated e.tracks e.state e.units e.last e.added in
-    record { full = tt; ready = o.ready; unsat = λ e. absurd (c.in_default.not-Unsat e); lines = o.lines; verdict = o.kept_verdict; assumptions = λ n. o.assumptions; last = λ n. o.last; state = λ n. o.state; count = o.count; units = o.units; undecided = λ n. o.undecided; decidable = o.decidable; decay = o.decay; schedule = o.schedule; single = λ l i. loaded-one (loading g (goal.at.returns g c).In_ok-collect_distinct) l i c.add_distinct.new.ctx c.collect_distinct.new.ctx.solver_state.sat_state c.add_distinct.new.ctx.solver_state.sat_state e.added }
+    record { full = tt; broken = tt; ready = o.ready; unsat = λ e. absurd (c.in_default.not-Unsat e); lines = o.lines; verdict = o.kept_verdict; assumptions = λ n. o.assumptions; last = λ n. o.last; state = λ n. o.state; count = o.count; units = o.units; undecided = λ n. o.undecided; decidable = o.decidable; decay = o.decay; schedule = o.schedule; single = λ l i. loaded-one (loading g (goal.at.returns g c).In_ok-collect_distinct) l i c.add_distinct.new.ctx c.collect_distinct.new.ctx.solver_state.sat_state c.add_distinct.new.ctx.solver_state.sat_state e.added }
 
 pub returns-in_err-add_distinct-clause-full : goal.returns-in_err-add_distinct-clause-full
 returns-in_err-add_distinct-clause-full g c =
@@ -140,3 +141,18 @@ returns-in_err-add_distinct-clause-full g c =
     let short = clause-short x.tmp_data.lits.items (length x.assignment.current) d.distinct (λ t. let b = c.in_ok-collect_distinct.ensures.tautology.1 t in absurd cc) (loading-inside d) in
     let count = ap length same in
     omega (arith, room, short, count))
+
+pub returns-in_err-collect_distinct-clause-broken : goal.returns-in_err-collect_distinct-clause-broken
+returns-in_err-collect_distinct-clause-broken g c =
+    memory-broken g.P.ProofTracer.breaks_off c.args.proof.now c.args.proof.now c.from_residual.result c.from_residual.ensures
+    (breaks-not g.P.ProofTracer.breaks_off g.met.P.ProofTracer.breaks_none c.args.proof.now)
+
+pub returns-in_err-trace_satisfied-clause-broken : goal.returns-in_err-trace_satisfied-clause-broken
+returns-in_err-trace_satisfied-clause-broken g c =
+    trace-broken g.P.ProofTracer.breaks_off c.args.proof.now c.trace_satisfied.new.proof c.from_residual-in_err-trace_satisfied.result c.in_err-trace_satisfied.field-0.0 c.from_residual-in_err-trace_satisfied.ensures
+    c.in_err-trace_satisfied.ensures.broken
+
+pub returns-in_err-add_distinct-clause-broken : goal.returns-in_err-add_distinct-clause-broken
+returns-in_err-add_distinct-clause-broken g c =
+    store-broken g.P.ProofTracer.breaks_off c.args.proof.now c.args.proof.now c.from_residual-in_err-add_distinct.result c.in_err-add_distinct.field-0.0 c.from_residual-in_err-add_distinct.ensures
+    (breaks-not g.P.ProofTracer.breaks_off g.met.P.ProofTracer.breaks_none c.args.proof.now)

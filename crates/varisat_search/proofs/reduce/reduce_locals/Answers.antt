@@ -1,3 +1,5 @@
+use Rattle.varisat_trace.proofs.Broken.{error-broken, breaks-not}
+use Rattle.varisat_trace.specs.declared.tracer.TraceError.TheVariants.{Memory}
 use Rattle.std.proofs.Common.{◌≡◌, ◌/◌, ℕ, List, length, refl, sym, ap, ◌∙◌, subst, arith}
 use Rattle.varisat_theory.specs.Derivations.{Line}
 use Rattle.varisat_clause.specs.declared.header.Tier.TheVariants.{Local}
@@ -86,3 +88,13 @@ returns-clause-keeps g c =
     discards-keep x (last g end) (discards-ready x (last g end) c.requires.ready (discards g here) c.delete_unmarked.ensures.tracks d.count d.empty d.enabled refl) refl
     (λ lines. DropsLocals lines x (last g end) × TakesLines g.P.ProofTracer.takes c.args.proof.now lines c.trace_deletions.new.proof) (discards g here)
     (deletions (length order) order, proves, (drops, subst (λ (ls : List Line). TakesLines g.P.ProofTracer.takes c.args.proof.now ls c.trace_deletions.new.proof) whole (c.in_ok-trace_deletions.ensures {u = tt})))
+
+pub returns-in_err-locals-clause-broken : goal.returns-in_err-locals-clause-broken
+returns-in_err-locals-clause-broken g c =
+    error-broken g.P.ProofTracer.breaks_off c.args.proof.now c.args.proof.now c.from_residual.result Memory c.from_residual.ensures
+    (breaks-not g.P.ProofTracer.breaks_off g.met.P.ProofTracer.breaks_none c.args.proof.now)
+
+pub returns-in_err-trace_deletions-clause-broken : goal.returns-in_err-trace_deletions-clause-broken
+returns-in_err-trace_deletions-clause-broken g c =
+    error-broken g.P.ProofTracer.breaks_off c.args.proof.now c.trace_deletions.new.proof c.from_residual-in_err-trace_deletions.result c.in_err-trace_deletions.field-0.0 c.from_residual-in_err-trace_deletions.ensures
+    (c.in_err-trace_deletions.ensures {u = tt})

@@ -1,3 +1,5 @@
+use Rattle.varisat_trace.proofs.Broken.{error-broken, breaks-on, breaks-not}
+use Rattle.varisat_trace.specs.declared.tracer.TraceError.TheVariants.{Memory}
 use Rattle.std.proofs.Common.{◌≡◌, ◌*◌, List, [], ◌++◌, length, ⊎_elim, sym, ap, ◌∙◌, subst}
 use Rattle.varisat_theory.specs.Derivations.{Line}
 use Rattle.varisat_prop.proofs.ViewGrowth.{append-nil}
@@ -33,3 +35,20 @@ returns-clause-keeps g c =
     (λ h. repacks-keep m z e.ready (ap (λ (x : Context g.row.A.Denot). x.vsids) c.collect_garbage.ensures.kept) r (e.repacks h))
     (λ h. keeps-same m z r (e.stays h))
     (cases_lt (length m.clause_alloc.words) (2 * m.clause_db.garbage))))
+
+pub returns-in_err-reduce_locals_if_due-clause-broken : goal.returns-in_err-reduce_locals_if_due-clause-broken
+returns-in_err-reduce_locals_if_due-clause-broken g c =
+    error-broken g.P.ProofTracer.breaks_off c.args.proof.now c.reduce_locals_if_due.new.proof c.from_residual.result c.in_err-reduce_locals_if_due.field-0.0 c.from_residual.ensures
+    c.in_err-reduce_locals_if_due.ensures.broken
+
+pub returns-in_err-reduce_mids_if_due-clause-broken : goal.returns-in_err-reduce_mids_if_due-clause-broken
+returns-in_err-reduce_mids_if_due-clause-broken g c =
+    let (lines, p, (r, t)) = c.in_ok-reduce_locals_if_due.ensures.keeps.proves in
+    error-broken g.P.ProofTracer.breaks_off c.args.proof.now c.reduce_locals_if_due.new.proof c.from_residual-in_err-reduce_mids_if_due.result Memory c.from_residual-in_err-reduce_mids_if_due.ensures
+    (breaks-on g.P.ProofTracer.takes g.P.ProofTracer.breaks_off g.met.P.ProofTracer.breaks_behind t (breaks-not g.P.ProofTracer.breaks_off g.met.P.ProofTracer.breaks_none c.reduce_locals_if_due.new.proof))
+
+pub returns-in_err-collect_garbage-clause-broken : goal.returns-in_err-collect_garbage-clause-broken
+returns-in_err-collect_garbage-clause-broken g c =
+    let (lines, p, (r, t)) = c.in_ok-reduce_locals_if_due.ensures.keeps.proves in
+    error-broken g.P.ProofTracer.breaks_off c.args.proof.now c.reduce_locals_if_due.new.proof c.from_residual-in_err-collect_garbage.result Memory c.from_residual-in_err-collect_garbage.ensures
+    (breaks-on g.P.ProofTracer.takes g.P.ProofTracer.breaks_off g.met.P.ProofTracer.breaks_behind t (breaks-not g.P.ProofTracer.breaks_off g.met.P.ProofTracer.breaks_none c.reduce_locals_if_due.new.proof))

@@ -1,3 +1,5 @@
+use Rattle.varisat_trace.proofs.Broken.{breaks-on}
+use Rattle.varisat_search.proofs.StepErrors.{trace-broken, step-passed}
 use Rattle.std.proofs.Common.{List, ◌∙◌, ap, refl, sym}
 use Rattle.varisat_theory.specs.Derivations.{Line}
 use Rattle.varisat_theory.specs.Outcomes.{Proves, Steps}
@@ -80,3 +82,14 @@ returns-clause-assumes g c =
     let z = c.conflict_step.new.ctx in
     let assumed : (y : Context g.row.A.Denot) → AssumptionParts = λ y. y.assumptions in
     scheduled-assumes c.args.ctx.now c.restart_if_due.new.ctx c.reduce_if_due.new.ctx c.requires.ready c.restart_if_due.ensures.restarted c.in_ok-reduce_if_due.ensures.keeps (outcome_at z) z.assumptions (ap assumed c.reduce_if_due.ensures.kept ∙ ap assumed c.restart_if_due.ensures.kept) c.in_ok-conflict_step.ensures.made.assumes
+
+pub returns-in_err-reduce_if_due-clause-broken : goal.returns-in_err-reduce_if_due-clause-broken
+returns-in_err-reduce_if_due-clause-broken g c =
+    trace-broken g.P.ProofTracer.breaks_off c.args.proof.now c.reduce_if_due.new.proof c.from_residual.result c.in_err-reduce_if_due.field-0.0 c.from_residual.ensures
+    c.in_err-reduce_if_due.ensures.broken
+
+pub returns-in_err-conflict_step-clause-broken : goal.returns-in_err-conflict_step-clause-broken
+returns-in_err-conflict_step-clause-broken g c =
+    let (lines, p, (r, t)) = c.in_ok-reduce_if_due.ensures.keeps.proves in
+    step-passed g.P.ProofTracer.breaks_off c.args.proof.now c.conflict_step.new.proof c.from_residual-in_err-conflict_step.result c.in_err-conflict_step.field-0.0 c.from_residual-in_err-conflict_step.ensures
+    (breaks-on g.P.ProofTracer.takes g.P.ProofTracer.breaks_off g.met.P.ProofTracer.breaks_behind t c.in_err-conflict_step.ensures.broken)

@@ -1,3 +1,5 @@
+use Rattle.varisat_trace.proofs.Broken.{lines-broken, breaks-on, breaks-in, breaks-not}
+use Rattle.varisat_trace.specs.declared.tracer.TraceError.TheVariants.{Memory}
 use Rattle.std.proofs.Common.{◌≡◌, ◌<◌, false, List, [], ◌∷◌, length, refl, sym, ap, ◌∙◌, subst, arith}
 use Rattle.varisat_theory.specs.Literals.{Clause}
 use Rattle.varisat_theory.specs.Derivations.{Line, Add, Delete}
@@ -61,3 +63,23 @@ returns-else-len-lits g c =
     let n = ap (λ (d : Clause). length d) (c.in_ok-copy_unassigned.ensures {u = tt}) in
     let e = lines-same c.args.assignment.now.current c.args.lits.now (none-true g here) (omega (arith, n, c.if-len-lits.false, c.copy_unassigned.new.left.ok.0)) in
     subst (λ (ls : List Line). TakesLines g.P.ProofTracer.takes c.args.proof.now ls c.args.proof.now) (sym e) (g.met.P.ProofTracer.takes_none c.args.proof.now)
+
+pub returns-in_err-add_step : goal.returns-in_err-add_step
+returns-in_err-add_step g c =
+    lines-broken g.P.ProofTracer.takes g.P.ProofTracer.breaks_off c.args.proof.now c.add_step.new.self (lines_of_clause c.args.assignment.now.current c.args.lits.now) c.from_residual.result c.in_err-add_step.field-0.0 c.from_residual.ensures
+    (breaks-in g.P.ProofTracer.breaks_off (c.in_err-add_step.ensures {u = tt}))
+
+pub returns-in_err-copy_unassigned : goal.returns-in_err-copy_unassigned
+returns-in_err-copy_unassigned g c =
+    lines-broken g.P.ProofTracer.takes g.P.ProofTracer.breaks_off c.args.proof.now c.args.proof.now (lines_of_clause c.args.assignment.now.current c.args.lits.now) c.from_residual-in_err-copy_unassigned.result Memory c.from_residual-in_err-copy_unassigned.ensures
+    (breaks-not g.P.ProofTracer.breaks_off g.met.P.ProofTracer.breaks_none c.args.proof.now)
+
+pub returns-in_err-add_step-2 : goal.returns-in_err-add_step-2
+returns-in_err-add_step-2 g c =
+    lines-broken g.P.ProofTracer.takes g.P.ProofTracer.breaks_off c.args.proof.now c.add_step-then-len-lits.new.self (lines_of_clause c.args.assignment.now.current c.args.lits.now) c.from_residual-in_err-add_step-2.result c.in_err-add_step-2.field-0.0 c.from_residual-in_err-add_step-2.ensures
+    (breaks-in g.P.ProofTracer.breaks_off (c.in_err-add_step-2.ensures {u = tt}))
+
+pub returns-in_err-add_step-3 : goal.returns-in_err-add_step-3
+returns-in_err-add_step-3 g c =
+    lines-broken g.P.ProofTracer.takes g.P.ProofTracer.breaks_off c.args.proof.now c.add_step-then-len-lits-2.new.self (lines_of_clause c.args.assignment.now.current c.args.lits.now) c.from_residual-in_err-add_step-3.result c.in_err-add_step-3.field-0.0 c.from_residual-in_err-add_step-3.ensures
+    (breaks-on g.P.ProofTracer.takes g.P.ProofTracer.breaks_off g.met.P.ProofTracer.breaks_behind (c.in_ok-add_step-2.ensures {u = tt}) (breaks-in g.P.ProofTracer.breaks_off (c.in_err-add_step-3.ensures {u = tt})))

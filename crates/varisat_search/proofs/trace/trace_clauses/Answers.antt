@@ -1,3 +1,5 @@
+use Rattle.varisat_clause.specs.Collected.{live_clauses}
+use Rattle.varisat_trace.proofs.Broken.{lines-broken, breaks-on}
 use Rattle.std.proofs.Common.{◌≡◌, ◌<◌, cond, List, [], length, get_or, sym, ap, ◌∙◌, subst, arith}
 use Rattle.varisat_theory.specs.Membership.{◌∈◌}
 use Rattle.varisat_theory.specs.Literals.{Clause}
@@ -9,7 +11,7 @@ use Rattle.varisat_clause.proofs.CollectedClauses.{length-places}
 use Rattle.varisat_clause.proofs.StoredClauses.{stored-∈}
 use Rattle.varisat_trace.specs.Traces.{TakesLines, CanTake}
 use Rattle.varisat_trace.proofs.TracedLists.{traces-none, traces-able, traces-next, traces-over, traces-all}
-use Rattle.varisat_search.specs.Simplifications.{lines_of_clause}
+use Rattle.varisat_search.specs.Simplifications.{lines_of_clause, lines_of_clauses}
 use Rattle.varisat_search.proofs.TracedClauses.{stored_lines, each-clause}
 use Rattle.varisat_search.proofs.TracedPlaces.{place-read, live-literals-∈}
 use Rattle.varisat_search.proofs.trace.trace_clauses.Given.{Over}
@@ -74,3 +76,8 @@ returns g c =
     let n = length-places c.args.clause_alloc.now.words c.args.clause_alloc.now.places in
     subst (λ (ls : List Line). TakesLines g.P.ProofTracer.takes c.args.proof.now ls c.clauses.proof) (sym (each-clause c.args.assignment.now.current (stored_clauses c.args.clause_alloc.now)))
     (traces-all g.P.ProofTracer.holds g.P.ProofTracer.takes m.takes_none m.takes_more m.holds_after (stored_lines c.args.assignment.now.current) (stored_clauses c.args.clause_alloc.now) c.clauses.index c.args.proof.now c.clauses.proof (omega (arith, n, c.clauses-test.false, c.len-index-end.ensures.places)) c.clauses.invariant)
+
+pub returns-in_err-trace_clause : goal.returns-in_err-trace_clause
+returns-in_err-trace_clause g c =
+    lines-broken g.P.ProofTracer.takes g.P.ProofTracer.breaks_off c.args.proof.now c.trace_clause.new.proof (lines_of_clauses c.args.assignment.now.current (live_clauses c.args.clause_alloc.now)) c.from_residual.result c.in_err-trace_clause.field-0.0 c.from_residual.ensures
+    (breaks-on g.P.ProofTracer.takes g.P.ProofTracer.breaks_off g.met.P.ProofTracer.breaks_behind c.clauses.invariant.done (c.in_err-trace_clause.ensures {u = tt}))

@@ -1,3 +1,4 @@
+use Rattle.varisat_trace.proofs.Broken.{lines-broken, breaks-on, breaks-in}
 use Rattle.std.proofs.Common.{◌≡◌, ◌+◌, ◌-◌, List, [], ◌∷◌, ◌++◌, drop, true, false, sym, ap, ◌∙◌}
 use Rattle.varisat_theory.specs.Literals.{Clause}
 use Rattle.varisat_theory.specs.Derivations.{Line, Delete}
@@ -7,7 +8,7 @@ use Rattle.varisat_clause.specs.Stores.{stored_clauses}
 use Rattle.varisat_clause.specs.Reductions.{unmarked_places}
 use Rattle.varisat_prop.proofs.ReadElements.{item-∈}
 use Rattle.varisat_trace.proofs.TracedParts.{TracesPart, part-same, part-able, part-next}
-use Rattle.varisat_search.specs.Deletions.{deletion_lines}
+use Rattle.varisat_search.specs.Deletions.{deletion_lines, unmarked_deletions}
 use Rattle.varisat_search.proofs.UnmarkedPlaces.{unmarked-zero, unmarked-passed, unmarked-one}
 use Rattle.varisat_search.proofs.trace.trace_deletions.Given.{Over}
 use Rattle.varisat_search.proofs.trace.trace_deletions.Goals.{After-lits}
@@ -60,3 +61,8 @@ clauses-preserved g c =
     let ks = stored_clauses c.args.clause_alloc.now in
     let h = (goal.at.clauses-preserved g c).After-lits in
     part-next g.P.ProofTracer.holds g.P.ProofTracer.takes m.takes_none m.takes_more m.holds_after (deletion_lines ks (unmarked_places ks c.args.count c.args.list.now)) (Delete c.lits.result.now ∷ []) (more g h) c.args.proof.now c.clauses.proof c.add_step.new.self (at-next g h) (c.in_ok-add_step.ensures {u = tt})
+
+pub returns-in_err-add_step : goal.returns-in_err-add_step
+returns-in_err-add_step g c =
+    lines-broken g.P.ProofTracer.takes g.P.ProofTracer.breaks_off c.args.proof.now c.add_step.new.self (unmarked_deletions (stored_clauses c.args.clause_alloc.now) c.args.count c.args.list.now) c.from_residual.result c.in_err-add_step.field-0.0 c.from_residual.ensures
+    (breaks-on g.P.ProofTracer.takes g.P.ProofTracer.breaks_off g.met.P.ProofTracer.breaks_behind c.clauses.invariant.taken (breaks-in g.P.ProofTracer.breaks_off (c.in_err-add_step.ensures {u = tt})))

@@ -1,7 +1,8 @@
+use Rattle.varisat_trace.proofs.Broken.{lines-broken, breaks-on}
 use Rattle.std.proofs.Common.{◌≡◌, ◌<◌, ℕ, List, [], length, get_or, sym, ap, ◌∙◌, subst, arith}
 use Rattle.varisat_theory.specs.Literals.{Literal, opposite}
 use Rattle.varisat_theory.specs.Derivations.{Line}
-use Rattle.varisat_prop.specs.View.{pairs_with}
+use Rattle.varisat_prop.specs.View.{pairs_with, pairs_from}
 use Rattle.varisat_trace.specs.Traces.{TakesLines, CanTake}
 use Rattle.varisat_trace.proofs.TracedLists.{traces-none, traces-able, traces-next, traces-all}
 use Rattle.varisat_search.specs.Simplifications.{lines_of_pairs}
@@ -52,3 +53,8 @@ returns g c =
     let n = numbered-count c.args.values.now 0 c.args.binary_clauses.now in
     subst (λ (ls : List Line). TakesLines g.P.ProofTracer.takes c.args.proof.now ls c.lits.proof) (sym (each-list c.args.values.now 0 c.args.binary_clauses.now))
     (traces-all g.P.ProofTracer.holds g.P.ProofTracer.takes m.takes_none m.takes_more m.holds_after (list_lines c.args.values.now) (numbered c.args.values.now 0 c.args.binary_clauses.now) c.lits.code c.args.proof.now c.lits.proof (omega (arith, n, c.lits-test.false, c.len-code-end.ensures)) c.lits.invariant)
+
+pub returns-in_err-trace_pairs_with : goal.returns-in_err-trace_pairs_with
+returns-in_err-trace_pairs_with g c =
+    lines-broken g.P.ProofTracer.takes g.P.ProofTracer.breaks_off c.args.proof.now c.trace_pairs_with.new.proof (lines_of_pairs c.args.values.now (pairs_from 0 c.args.binary_clauses.now)) c.from_residual.result c.in_err-trace_pairs_with.field-0.0 c.from_residual.ensures
+    (breaks-on g.P.ProofTracer.takes g.P.ProofTracer.breaks_off g.met.P.ProofTracer.breaks_behind c.lits.invariant.done (c.in_err-trace_pairs_with.ensures {u = tt}))

@@ -1,3 +1,6 @@
+use Rattle.varisat_prop.specs.View.{pairs_with}
+use Rattle.varisat_search.specs.Simplifications.{lines_of_pairs}
+use Rattle.varisat_trace.proofs.Broken.{lines-broken, breaks-on, breaks-in}
 use Rattle.std.proofs.Common.{cond, List, [], ◌∷◌, sym, ap, ◌∙◌, subst}
 use Rattle.varisat_theory.specs.Derivations.{Line, Delete}
 use Rattle.varisat_trace.specs.Traces.{TakesLines, CanTake}
@@ -36,3 +39,8 @@ returns g c =
     let m = g.met.P.ProofTracer in
     subst (λ (ls : List Line). TakesLines g.P.ProofTracer.takes c.args.proof.now ls c.loop-other.proof) (sym (each-pair c.args.values.now c.args.first c.args.others.now))
     (traces-all g.P.ProofTracer.holds g.P.ProofTracer.takes m.takes_none m.takes_more m.holds_after (pair_line c.args.values.now c.args.first) c.args.others.now c.loop-other.other-index c.args.proof.now c.loop-other.proof c.loop-other-test.false c.loop-other.invariant)
+
+pub returns-in_err-add_step : goal.returns-in_err-add_step
+returns-in_err-add_step g c =
+    lines-broken g.P.ProofTracer.takes g.P.ProofTracer.breaks_off c.args.proof.now c.add_step.new.self (lines_of_pairs c.args.values.now (pairs_with c.args.first c.args.others.now)) c.from_residual.result c.in_err-add_step.field-0.0 c.from_residual.ensures
+    (breaks-on g.P.ProofTracer.takes g.P.ProofTracer.breaks_off g.met.P.ProofTracer.breaks_behind c.loop-other.invariant.done (breaks-in g.P.ProofTracer.breaks_off (c.in_err-add_step.ensures {u = tt})))

@@ -1,3 +1,6 @@
+use Rattle.varisat_theory.specs.StepLaws.{unit_lines}
+use Rattle.varisat_search.specs.ProvedUnits.{units_in}
+use Rattle.varisat_trace.proofs.Broken.{lines-broken, breaks-on, breaks-in}
 use Rattle.std.proofs.Common.{List, refl, sym, subst, arith}
 use Rattle.varisat_theory.specs.Derivations.{Line}
 use Rattle.varisat_prop.proofs.ReadElements.{item-∈}
@@ -42,3 +45,8 @@ returns g c =
     let m = g.met.P.ProofTracer in
     subst (λ (ls : List Line). TakesLines g.P.ProofTracer.takes c.args.proof.now ls c.loop-lit.proof) (sym (each-unit c.args.impl_graph.now.nodes.items c.args.lits.now))
     (traces-all g.P.ProofTracer.holds g.P.ProofTracer.takes m.takes_none m.takes_more m.holds_after (unit_line c.args.impl_graph.now.nodes.items) c.args.lits.now c.loop-lit.lit-index c.args.proof.now c.loop-lit.proof c.loop-lit-test.false c.loop-lit.invariant)
+
+pub returns-in_err-add_step : goal.returns-in_err-add_step
+returns-in_err-add_step g c =
+    lines-broken g.P.ProofTracer.takes g.P.ProofTracer.breaks_off c.args.proof.now c.add_step.new.self (unit_lines (units_in c.args.impl_graph.now.nodes.items c.args.lits.now)) c.from_residual.result c.in_err-add_step.field-0.0 c.from_residual.ensures
+    (breaks-on g.P.ProofTracer.takes g.P.ProofTracer.breaks_off g.met.P.ProofTracer.breaks_behind c.loop-lit.invariant.done (breaks-in g.P.ProofTracer.breaks_off (c.in_err-add_step.ensures {u = tt})))

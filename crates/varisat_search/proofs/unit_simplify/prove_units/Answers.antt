@@ -1,3 +1,4 @@
+use Rattle.varisat_trace.proofs.Broken.{error-broken}
 use Rattle.std.proofs.Common.{◌<◌, List, length, refl, sym, subst, arith}
 use Rattle.varisat_theory.specs.Membership.{◌∈◌}
 use Rattle.varisat_theory.specs.Literals.{Literal, variable_of}
@@ -51,3 +52,8 @@ returns-clause-ready g c =
     let here = (goal.at.returns-clause-ready g c).After-forget_reasons in
     let x = c.args.ctx.now in
     units-ready x (after g here) c.requires.ready (none-left x.trail.decisions (omega (arith, c.if-current_level-gt0.false, c.current_level.ensures))) (proved g here) refl c.requires.ready.tracks refl
+
+pub returns-in_err-trace_units-clause-broken : goal.returns-in_err-trace_units-clause-broken
+returns-in_err-trace_units-clause-broken g c =
+    error-broken g.P.ProofTracer.breaks_off c.args.proof.now c.trace_units.new.proof c.from_residual.result c.in_err-trace_units.field-0.0 c.from_residual.ensures
+    (c.in_err-trace_units.ensures {u = tt})

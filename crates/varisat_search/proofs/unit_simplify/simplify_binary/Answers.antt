@@ -1,3 +1,4 @@
+use Rattle.varisat_trace.proofs.Broken.{error-broken}
 use Rattle.std.proofs.Common.{refl, arith}
 use Rattle.varisat_trace.proofs.Traced.{can_take}
 use Rattle.varisat_search.specs.Contexts.{view}
@@ -36,3 +37,8 @@ returns-clause-proves g c =
 
 pub returns-clause-ready : goal.returns-clause-ready
 returns-clause-ready g c = binary-ready (simplifies g (goal.at.returns-clause-ready g c).After-simplify)
+
+pub returns-in_err-trace_pairs-clause-broken : goal.returns-in_err-trace_pairs-clause-broken
+returns-in_err-trace_pairs-clause-broken g c =
+    error-broken g.P.ProofTracer.breaks_off c.args.proof.now c.trace_pairs.new.proof c.from_residual.result c.in_err-trace_pairs.field-0.0 c.from_residual.ensures
+    (c.in_err-trace_pairs.ensures {u = tt})

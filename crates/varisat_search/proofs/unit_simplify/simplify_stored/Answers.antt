@@ -1,6 +1,8 @@
+use Rattle.varisat_trace.proofs.Broken.{error-broken, breaks-on, breaks-not}
+use Rattle.varisat_trace.specs.declared.tracer.TraceError.TheVariants.{Memory}
 use Rattle.std.proofs.Common.{◌≡◌, ◌++◌, Bool, Option, List, refl, sym, ap, ◌∙◌}
 use Rattle.varisat_theory.specs.Literals.{Clause, Literal}
-use Rattle.varisat_clause.specs.Stored.{StoredClause}
+use Rattle.varisat_clause.specs.Stored.{StoredClause, literals_of}
 use Rattle.varisat_clause.specs.Stores.{Store, stored_clauses}
 use Rattle.varisat_clause.specs.Collected.{live_clauses}
 use Rattle.varisat_prop.specs.Simplified.{without_assigned}
@@ -10,7 +12,6 @@ use Rattle.varisat_search.specs.Contexts.{view}
 use Rattle.varisat_search.specs.Simplifications.{clause_lines, left_long, left_pairs, with_pairs, LeavesOpen}
 use Rattle.varisat_search.proofs.FilteredUnits.{filtered-left}
 use Rattle.varisat_theory.proofs.Members.{∈-append_left}
-use Rattle.varisat_clause.specs.Stored.{literals_of}
 use Rattle.varisat_prop.specs.View.{pairs_from}
 use Rattle.varisat_trace.proofs.Traced.{can_take}
 use Rattle.varisat_search.specs.Seen.{search_of}
@@ -86,3 +87,18 @@ returns-clause-proves g c =
 
 pub returns-clause-decidable : goal.returns-clause-decidable
 returns-clause-decidable g c = let here = goal.at.returns-clause-decidable g c in simplified-decidable (simplifies g here.After-disable (at g here.In_ok-trace_stored) (left g here.In_ok-filter_clauses))
+
+pub returns-in_err-trace_stored-clause-broken : goal.returns-in_err-trace_stored-clause-broken
+returns-in_err-trace_stored-clause-broken g c =
+    error-broken g.P.ProofTracer.breaks_off c.args.proof.now c.trace_stored.new.proof c.from_residual.result c.in_err-trace_stored.field-0.0 c.from_residual.ensures
+    (c.in_err-trace_stored.ensures {u = tt})
+
+pub returns-in_err-filter_clauses-clause-broken : goal.returns-in_err-filter_clauses-clause-broken
+returns-in_err-filter_clauses-clause-broken g c =
+    error-broken g.P.ProofTracer.breaks_off c.args.proof.now c.trace_stored.new.proof c.from_residual-in_err-filter_clauses.result Memory c.from_residual-in_err-filter_clauses.ensures
+    (breaks-on g.P.ProofTracer.takes g.P.ProofTracer.breaks_off g.met.P.ProofTracer.breaks_behind (c.in_ok-trace_stored.ensures {u = tt}) (breaks-not g.P.ProofTracer.breaks_off g.met.P.ProofTracer.breaks_none c.trace_stored.new.proof))
+
+pub returns-in_err-add_pairs-clause-broken : goal.returns-in_err-add_pairs-clause-broken
+returns-in_err-add_pairs-clause-broken g c =
+    error-broken g.P.ProofTracer.breaks_off c.args.proof.now c.trace_stored.new.proof c.from_residual-in_err-add_pairs.result Memory c.from_residual-in_err-add_pairs.ensures
+    (breaks-on g.P.ProofTracer.takes g.P.ProofTracer.breaks_off g.met.P.ProofTracer.breaks_behind (c.in_ok-trace_stored.ensures {u = tt}) (breaks-not g.P.ProofTracer.breaks_off g.met.P.ProofTracer.breaks_none c.trace_stored.new.proof))

@@ -1,3 +1,4 @@
+use Rattle.varisat_trace.proofs.Broken.{error-broken, breaks-on}
 use Rattle.std.proofs.Common.{List, subst}
 use Rattle.varisat_theory.specs.Derivations.{Line}
 use Rattle.varisat_theory.specs.Outcomes.{Proves}
@@ -50,3 +51,13 @@ returns-clause-takes g c =
 pub returns-clause-decidable : goal.returns-clause-decidable
 returns-clause-decidable g c =
     all-decidable (first g (goal.at.returns-clause-decidable g c).In_ok-simplify_binary) c.simplify_stored.new.ctx c.in_ok-simplify_stored.ensures.decidable
+
+pub returns-in_err-simplify_binary-clause-broken : goal.returns-in_err-simplify_binary-clause-broken
+returns-in_err-simplify_binary-clause-broken g c =
+    error-broken g.P.ProofTracer.breaks_off c.args.proof.now c.simplify_binary.new.proof c.from_residual.result c.in_err-simplify_binary.field-0.0 c.from_residual.ensures
+    c.in_err-simplify_binary.ensures.broken
+
+pub returns-in_err-simplify_stored-clause-broken : goal.returns-in_err-simplify_stored-clause-broken
+returns-in_err-simplify_stored-clause-broken g c =
+    error-broken g.P.ProofTracer.breaks_off c.args.proof.now c.simplify_stored.new.proof c.from_residual-in_err-simplify_stored.result c.in_err-simplify_stored.field-0.0 c.from_residual-in_err-simplify_stored.ensures
+    (breaks-on g.P.ProofTracer.takes g.P.ProofTracer.breaks_off g.met.P.ProofTracer.breaks_behind c.in_ok-simplify_binary.ensures.takes c.in_err-simplify_stored.ensures.broken)

@@ -1,12 +1,24 @@
-use Rattle.std.proofs.Common.{List, ◌++◌, ap, sym, ◌∙◌}
+use Rattle.std.proofs.Common.{◌≡◌, List, ◌++◌, true, take, refl, ap, sym, ◌∙◌}
 use Rattle.varisat_theory.specs.Derivations.{Line}
 use Rattle.varisat_theory.specs.StepLaws.{unit_lines}
 use Rattle.varisat_trace.specs.declared.step.ProofStep.{ProofStep}
 use Rattle.varisat_theory.specs.Journals.{lines_of}
 use Rattle.varisat_theory.proofs.Journals.{written_lines}
 use Rattle.varisat_trace.specs.Traces.{entries_of}
+use Rattle.varisat_trace.specs.Recorded.{BreaksOffAt}
+use Rattle.varisat_trace.specs.declared.tracer.TraceError.TheVariants.{Memory}
+use Rattle.varisat_trace.proofs.Broken.{step-broken}
 use Rattle.varisat_trace.proofs.recorder.LineRecorderProofTracer.add_step.Goals as goal
 
 pub returns-in_ok-push_units-in-UnitClauses : goal.returns-in_ok-push_units-in-UnitClauses
 returns-in_ok-push_units-in-UnitClauses g c =
-    c.in_ok-push_units-in-UnitClauses.ensures ∙ ap (λ (ls : List Line). c.args.self.now ++ ls) (sym (written_lines (unit_lines c.in-UnitClauses.units.now)) ∙ ap (λ (s : ProofStep). lines_of (entries_of s)) (sym c.in-UnitClauses.is))
+    (c.in_ok-push_units-in-UnitClauses.ensures {u = tt}).pushed ∙ ap (λ (ls : List Line). c.args.self.now ++ ls) (sym (written_lines (unit_lines c.in-UnitClauses.units.now)) ∙ ap (λ (s : ProofStep). lines_of (entries_of s)) (sym c.in-UnitClauses.is))
+
+pub returns-in_err-push_units-in-UnitClauses : goal.returns-in_err-push_units-in-UnitClauses
+returns-in_err-push_units-in-UnitClauses g c =
+    let x = c.args.self.now in
+    let (n, e) = (c.in_err-push_units-in-UnitClauses.ensures {u = tt}).refused in
+    let es = entries_of c.args.step.now in
+    step-broken (λ a es b. b ≡ a ++ lines_of es) BreaksOffAt true x c.push_units.new.self es c.from_residual-in_err-push_units-in-UnitClauses.result Memory
+    c.from_residual-in_err-push_units-in-UnitClauses.ensures refl
+    ((n, e ∙ ap (λ (ls : List Line). x ++ take n ls) (sym (written_lines (unit_lines c.in-UnitClauses.units.now)) ∙ ap (λ (s : ProofStep). lines_of (entries_of s)) (sym c.in-UnitClauses.is))), refl)

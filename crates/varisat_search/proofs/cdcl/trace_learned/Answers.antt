@@ -1,0 +1,9 @@
+use Rattle.std.proofs.Common.{[], ◌∷◌}
+use Rattle.varisat_theory.specs.Derivations.{Add}
+use Rattle.varisat_trace.proofs.Broken.{lines-broken, breaks-in}
+use Rattle.varisat_search.proofs.cdcl.trace_learned.Goals as goal
+
+pub returns-in_err-add_step : goal.returns-in_err-add_step
+returns-in_err-add_step g c =
+    lines-broken g.P.ProofTracer.takes g.P.ProofTracer.breaks_off c.args.proof.now c.add_step.new.self (Add c.args.ctx.now.analyze_conflict.clause ∷ []) c.from_residual.result c.in_err-add_step.field-0.0 c.from_residual.ensures
+    (breaks-in g.P.ProofTracer.breaks_off (c.in_err-add_step.ensures {u = tt}))

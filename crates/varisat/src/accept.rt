@@ -71,6 +71,7 @@ fn tell_clause<W: ProofTarget, A: Allocator + Copy>(
     requires { CanTell tracer.old.proof }
     ensures told { OnOk result (TakesGlobally (parts_of tracer.old) (Accepts clause.now ∷ []) (parts_of tracer.new)) }
     ensures broken { IfErr result (λ error. BreaksProof tracer.old.proof (step_faults error) tracer.new.proof) }
+    ensures unstored { IfErr result (λ error. error ≢ StepError.Full) }
 {
     tracer.add_clause(clause)?;
     Ok(())

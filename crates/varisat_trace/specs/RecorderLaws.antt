@@ -30,11 +30,15 @@ pub breaks-behind : (x y z : List Line) (first second : List Entry) (faults : �
     y ≡ x ++ lines_of first →
     BreaksOffAt y second faults z →
     BreaksOffAt x (first ++ second) faults z
-breaks-behind x y z first second faults e ((n, f), g) =
-    ((length (lines_of first) + n,
+breaks-behind x y z first second faults e ((n, f), g) = (
+  (
+    length (lines_of first) + n,
     f ∙ ap (λ u. u ++ take n (lines_of second)) e ∙ append_assoc x (lines_of first) (take n (lines_of second))
-    ∙ ap (λ u. x ++ u) (sym (take-append-add (lines_of first) (lines_of second) n)
-    ∙ ap (take (length (lines_of first) + n)) (sym (lines_append first second)))), g)
+        ∙ ap (λ u. x ++ u) (sym (take-append-add (lines_of first) (lines_of second) n)
+        ∙ ap (take (length (lines_of first) + n)) (sym (lines_append first second))),
+  ),
+  g,
+)
 
 -- no fault comes at all
 pub breaks-idle : (x y : List Line) (entries : List Entry) (faults : ℕ) → true ≡ false → BreaksOffAt x entries faults y → faults ≡ 0

@@ -1,5 +1,5 @@
 use Rattle.varisat_search.specs.declared.error.StepError.TheVariants as step
-use Rattle.varisat_search.specs.StepErrors.{step_faults}
+use Rattle.varisat_search.specs.StepErrors.{step_faults, HasNoRoom}
 use Rattle.varisat_trace.proofs.Broken.{passed-on}
 -- What each part did to the maps and to the search.
 use Rattle.std.proofs.Common.{None, ◌≡◌, ◌≢◌, ◌++◌, ◌∷◌, [], List, false, sym, ap, ap₂, ◌∙◌, subst, length, map}
@@ -185,3 +185,8 @@ returns-in_err-load_clause-clause-broken g c =
     passed-on c.from_residual-in_err-load_clause.result e (λ z. BreaksProof p (step_faults z) r.proof) c.from_residual-in_err-load_clause.ensures
     (proof-breaks-on p q.proof r.proof _ (step_faults e) (c.in_ok-tell_clause.ensures {u = tt}).told.told
     (breaks-proof (parts_of q) (parts_of r) (step_faults e) (c.in_err-load_clause.ensures {u = tt}).broken))
+
+pub returns-in_err-tell_clause-clause-full : goal.returns-in_err-tell_clause-clause-full
+returns-in_err-tell_clause-clause-full g c =
+    passed-on c.from_residual-in_err-tell_clause.result c.in_err-tell_clause.field-0.0 (λ z. z ≡ step.Full → HasNoRoom c.solver_from_user_lits.new.ctx)
+    c.from_residual-in_err-tell_clause.ensures (λ f. absurd ((c.in_err-tell_clause.ensures {u = tt}).unstored f))

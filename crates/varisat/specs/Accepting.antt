@@ -31,7 +31,8 @@ mode_of sampling.Hide = Sample
 
 -- The names of the tables, as if global variables were identities, each used once.
 abbrev pub naming_of : Tables → Naming
-naming_of t = record { made = length t.kept; names = at t.users.forward; watermark = length t.users.forward; modes = λ x. mode_of (kept_at t.kept x).sampling_mode }
+naming_of t =
+    record { made = length t.kept; names = at t.users.forward; watermark = length t.users.forward; modes = λ x. mode_of (kept_at t.kept x).sampling_mode }
 
 -- The name is free and below the watermark, and none of the literals has it: once these were named, it comes into use alone.
 abbrev pub ComesAlone : Tables → List Literal → ℕ → Type 0
@@ -81,7 +82,8 @@ pub record AreMarked (list : List Literal) (assumed : Bool) (old new : Tables) :
   pub count : length new.kept ≡ length old.kept
   pub rest : (x : ℕ) → kept_at new.kept x ≡ record (kept_at old.kept x) { assumed = (kept_at new.kept x).assumed }
   pub marked : (l : Literal) (x : ℕ) → l ∈ list → at old.users.forward (variable_of l) ≡ Some x → (kept_at new.kept x).assumed ≡ assumed
-  pub others : (x : ℕ) → ((kept_at new.kept x).assumed ≡ (kept_at old.kept x).assumed) ⊎ ((l : Literal) × (l ∈ list) × (at old.users.forward (variable_of l) ≡ Some x))
+  pub others : (x : ℕ) → ((kept_at new.kept x).assumed ≡ (kept_at old.kept x).assumed)
+      ⊎ ((l : Literal) × (l ∈ list) × (at old.users.forward (variable_of l) ≡ Some x))
 
 -- the solver variable is that of a name whose variable is marked as assumed
 abbrev pub IsAssumedSolver : Tables → ℕ → Type 0

@@ -17,7 +17,8 @@ pub record Gave (old new : Stand) : Type 0 where
 abbrev pub IsBeginning : List Clause → List Clause → Type 0
 IsBeginning P clauses = (rest : List Clause) × (clauses ≡ P ++ rest)
 
--- How clauses are added to something: whether that is valid, what is left of it once memory ran out, what it is once steps are counted anew, and how one clause is added, with which answer.
+-- How clauses are added to something: whether that is valid, what is left of it once memory ran out, what it is once steps are
+-- counted anew, and how one clause is added, with which answer.
 pub record Adding (X : Type 0) : Type 1 where
   pub valid : X → Bool
   pub invalidates : X → X → Type 0
@@ -40,7 +41,8 @@ module _ {X : Type 0} (by : Adding X) where
     OneRefused : by.valid s ≡ true → (e : SolverError) → r ≡ Err e → AddsAll s P (Err e) t → AddsList s P r t
     RefusedAtOnce : r ≡ Err error.Invalid → IsRefusedInvalid s t → AddsList s P r t
 
-  -- How a text's fault is told, if there is one; else steps are counted anew. Memory that ran out in the reader is told as in any call, and any other fault changes nothing.
+  -- How a text's fault is told, if there is one; else steps are counted anew. Memory that ran out in the reader is told as in any
+  -- call, and any other fault changes nothing.
   pub data TellsFault (fault : Option DimacsError) (s : X) (r : Result (Unit {0}) SolverError) (t : X) : Type 0 where
     NoFault : fault ≡ None → r ≡ Ok tt → t ≡ by.count_anew s → TellsFault fault s r t
     MemoryFault : (e : DimacsError) → fault ≡ Some e → e.kind ≡ kind.OutOfMemory → r ≡ Err error.OutOfMemory → by.invalidates s t → TellsFault fault s r t
@@ -54,13 +56,16 @@ module _ {X : Type 0} (by : Adding X) where
   -- How what a source gave decides the answer.
   pub data AddsGiven {old new : Stand} (g : Gave old new) (s : X) (r : Result (Unit {0}) SolverError) (t : X) : Type 0 where
     -- a clause is refused that ended in it, whatever comes behind
-    RefusedEarly : (ended : List Clause) → ((rest : List ℕ) → IsBeginning ended (dimacs (g.text ++ rest)).clauses) → (e : SolverError) → r ≡ Err e → AddsAll s ended (Err e) t → new.faults ≡ old.faults → AddsGiven g s r t
+    RefusedEarly : (ended : List Clause) → ((rest : List ℕ) → IsBeginning ended (dimacs (g.text ++ rest)).clauses) → (e : SolverError) → r ≡ Err e →
+        AddsAll s ended (Err e) t → new.faults ≡ old.faults → AddsGiven g s r t
     -- it has a fault, whatever comes behind
-    FaultInText : (reading : Reading) → ((rest : List ℕ) → dimacs (g.text ++ rest) ≡ reading) → reading.fault ≢ None → AddsReading s reading r t → new.faults ≡ old.faults → AddsGiven g s r t
+    FaultInText : (reading : Reading) → ((rest : List ℕ) → dimacs (g.text ++ rest) ≡ reading) → reading.fault ≢ None → AddsReading s reading r t →
+        new.faults ≡ old.faults → AddsGiven g s r t
     -- it is the whole text
     Whole : HasEnded new → AddsReading s (dimacs g.text) r t → new.faults ≡ old.faults → AddsGiven g s r t
     -- memory ran out in the reader behind this front of it
-    MemoryRanOut : (front : List ℕ) → (rest : List ℕ) → front ++ rest ≡ g.text → AddsReading s (broken kind.OutOfMemory front) r t → new.faults ≡ old.faults → AddsGiven g s r t
+    MemoryRanOut : (front : List ℕ) → (rest : List ℕ) → front ++ rest ≡ g.text → AddsReading s (broken kind.OutOfMemory front) r t →
+        new.faults ≡ old.faults → AddsGiven g s r t
     -- the source failed behind it
     SourceFailed : AddsReading s (broken kind.Io g.text) r t → new.faults ≡ old.faults + 1 → AddsGiven g s r t
 

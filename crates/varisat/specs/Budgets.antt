@@ -11,7 +11,8 @@ told_verdict (Ok (Some b)) = Ok b
 told_verdict (Ok None) = Err Interrupted
 told_verdict (Err e) = Err (step_refusal true e)
 
--- How the call counts its steps that begins with the verdict Unknown, where n variables are counted and it may make `max_steps` of them. Since the last change `since` were made before it.
+-- How the call counts its steps that begins with the verdict Unknown, where n variables are counted and it may make `max_steps`
+-- of them. Since the last change `since` were made before it.
 pub record CountsSteps (n max_steps since before after : ℕ) (answer : Result Bool SolverError) : Type 0 where
   pub made : ℕ
   pub count : after ≡ before + made
@@ -23,7 +24,9 @@ pub record CountsSteps (n max_steps since before after : ℕ) (answer : Result B
   -- the call is interrupted only where the steps are spent: it made all that it may, or no more can be counted
   pub spent : answer ≡ Err Interrupted → (made ≡ max_steps) ⊎ (after ≡ 2 ^ 64 - 1)
 
--- What is told of the steps since the last change, by how many there were and which variables are counted: nothing changes, and in something valid they are few, over however many calls of `solve` they were made.
+-- What is told of the steps since the last change, by how many there were and which variables are counted: nothing changes, and
+-- in something valid they are few, over however many calls of `solve` they were made.
 module _ {X : Type 0} (valid : X → Bool) (since : X → ℕ) (counted : X → List ℕ) where
+  -- The count is the one that is kept, which in something valid is below 2^(2n+3), and nothing changes.
   abbrev pub TellsSince : X → ℕ → X → Type 0
   TellsSince s n t = (n ≡ since s) × (valid s ≡ true → n < 2 ^ (2 * length (counted s) + 3)) × (t ≡ s)

@@ -1,6 +1,9 @@
--- Which answer and which new state each call may give: one relation a call, with a case for each answer. A case that is ⊥ is an answer that the call never gives.
+-- Which answer and which new state each call may give: one relation a call, with a case for each answer. A case that is ⊥ is an
+-- answer that the call never gives.
 --
--- Refusals are looked for in this order: Invalid; then `add_clause` returns Ok under the verdict Unsat; ClauseAfterSolve; ProofOpen; VariableLimit; WitnessVar; ConfigOutOfRange; OutOfMemory, ClauseStoreFull or ProofIoError, whichever comes first; Interrupted.
+-- Refusals are looked for in this order: Invalid; then `add_clause` returns Ok under the verdict Unsat; ClauseAfterSolve;
+-- ProofOpen; VariableLimit; WitnessVar; ConfigOutOfRange; OutOfMemory, ClauseStoreFull or ProofIoError, whichever comes first;
+-- Interrupted.
 use Rattle.std.specs.Prelude.{◌≡◌, ◌≢◌, ℕ, ◌+◌, ◌-◌, ◌<◌, ◌≤◌, Bool, true, false, Option, Some, None, List, [], ◌∷◌, ◌++◌, ◌⊎◌, Result, Ok, Err, map, length}
 use Rattle.std.specs.declared.alloc.AllocError.{AllocError}
 use Rattle.varisat_theory.specs.Membership.{◌∈◌}
@@ -26,13 +29,16 @@ use Rattle.varisat.specs.declared.solver.SolverError.{SolverError}
 use Rattle.varisat.specs.declared.solver.SolverError.TheVariants.{Interrupted, ProofIoError, OutOfMemory, Invalid, ClauseStoreFull, WitnessVar, VariableLimit, ClauseAfterSolve, ProofOpen}
 use Rattle.varisat_literals.specs.Numbers.{variable_limit}
 
+-- whether no call failed from which there is no way back
 abbrev pub is_valid : State → Bool
 is_valid s = s.ledger.valid
 
+-- the same as a statement
 abbrev pub IsValid : State → Type 0
 IsValid s = is_valid s ≡ true
 
--- What a user can know in t is what it is in s, but for what a call tells beside, entries that add no clause that counts, and for further bytes of an open proof.
+-- What a user can know in t is what it is in s, but for what a call tells beside, entries that add no clause that counts, and for
+-- further bytes of an open proof.
 pub record IsLike (s t : State) : Type 0 where
   pub naming : t.naming ≡ s.naming
   pub ever_hidden : t.ever_hidden ≡ s.ever_hidden
@@ -44,7 +50,8 @@ pub record IsLike (s t : State) : Type 0 where
   pub told : TellsMore 0 s.told t.told
   pub proof : GoesOnWriting s.proof t.proof
 
--- An error from which there is no way back: from then on the state is invalid. Nothing else is told of it but that it is well-formed, and what the ledger tells.
+-- An error from which there is no way back: from then on the state is invalid. Nothing else is told of it but that it is
+-- well-formed, and what the ledger tells.
 pub record Invalidates (s t : State) : Type 0 where
   pub valid : IsValid s
   pub ledger : t.ledger ≡ record s.ledger { valid = false }
@@ -92,7 +99,8 @@ reopened_verdict (Sat found) = Unknown
 reopened_verdict Unsat = Unsat
 reopened_verdict (UnsatUnderAssumptions core) = UnsatUnderAssumptions core
 
--- What one more clause makes of a verdict. A clause that contradicts an accepted unit gives Unsat at once, and any other gives it only where no assignment is left.
+-- What one more clause makes of a verdict. A clause that contradicts an accepted unit gives Unsat at once, and any other gives it
+-- only where no assignment is left.
 pub data VerdictAfter (clauses : List Clause) (c : Clause) (v w : Verdict) : Type 0 where
   Refuted : w ≡ Unsat → (IsSatisfiable (clauses ++ c ∷ []) → ⊥) → VerdictAfter clauses c v w
   Reopened : w ≡ reopened_verdict v → (ContradictsUnit clauses c → ⊥) → VerdictAfter clauses c v w
@@ -110,7 +118,8 @@ append_clause c w s = record s {
 abbrev pub Accepts : State → Clause → State → Type 0
 Accepts s d t =
     let named : Naming = name_all d s.naming in
-    (w : Verdict) × VerdictAfter s.clauses (map (through_names named) d) s.verdict w × IsLike (start (append_clause (map (through_names named) d) w (with_naming named s))) t
+    (w : Verdict) × VerdictAfter s.clauses (map (through_names named) d) s.verdict w
+    × IsLike (start (append_clause (map (through_names named) d) w (with_naming named s))) t
 
 -- One more clause may join those accepted: these are not known to be unsatisfiable, and `solve` was not called under an open proof.
 pub record IsExtensible (s : State) : Type 0 where
@@ -122,6 +131,7 @@ pub data TakesClause (s : State) (d : Clause) (t : State) : Type 0 where
   Ignored : s.verdict ≡ Unsat → t ≡ count_anew s → TakesClause s d t
   Accepted : IsExtensible s → MayConstrain s.naming d → Accepts s d t → TakesClause s d t
 
+-- The clause is taken; or it is refused, for its names and before anything changes, or with an error after which the state is invalid.
 abbrev pub AddsClause : State → Clause → Result (Unit {0}) SolverError → State → Type 0
 AddsClause s d (Ok _) t = IsValid s × TakesClause s d t
 AddsClause s d (Err Invalid) t = IsRefusedInvalid s t
@@ -135,6 +145,7 @@ AddsClause s d (Err _) t = ⊥
 
 -- The calls `add_formula` and `add_dimacs_cnf`.
 
+-- how clauses are added one by one, for lists and texts of them
 abbrev pub adding : additions.Adding State
 adding = record { valid = is_valid; invalidates = Invalidates; count_anew = count_anew; adds = AddsClause }
 
@@ -142,6 +153,7 @@ adding = record { valid = is_valid; invalidates = Invalidates; count_anew = coun
 abbrev pub AddsAll : State → List Clause → Result (Unit {0}) SolverError → State → Type 0
 AddsAll s P r t = additions.AddsAll adding s P r t
 
+-- the clauses of a formula in turn, up to the first refusal; an invalid solver refuses an empty one too
 abbrev pub AddsFormula : State → List Clause → Result (Unit {0}) SolverError → State → Type 0
 AddsFormula s P r t = additions.AddsList adding s P r t
 
@@ -261,7 +273,8 @@ pub record CountsIfUnknown (s : State) (r : Result Bool SolverError) (t : State)
   pub known : s.verdict ≢ Unknown → t.ledger.steps ≡ s.ledger.steps
   pub unknown : s.verdict ≡ Unknown → CountsCall s r t
 
--- Steps are made, and then an open proof is marked as one under which `solve` was called, and flushed, also where the verdict was known. Its target may fail in a step, or as it is flushed.
+-- Steps are made, and then an open proof is marked as one under which `solve` was called, and flushed, also where the verdict was
+-- known. Its target may fail in a step, or as it is flushed.
 abbrev pub Solves : State → Result Bool SolverError → State → Type 0
 Solves s (Ok b) t = TellsVerdict (once_searched s) b t
 Solves s (Err Invalid) t = IsRefusedInvalid s t
@@ -292,20 +305,24 @@ TellsCore s (Err _) t = IsValid s × (answer_of s.verdict ≡ Some false) × (t 
 abbrev pub with_update : SolverConfigUpdate → State → State
 with_update u s = record s { ledger = record s.ledger { since = 0; settings = updated_settings s.ledger.settings u } }
 
+-- The settings are replaced for which the update has values, or the first one out of its range is told and nothing changes.
 abbrev pub Configures : State → SolverConfigUpdate → Result (Unit {0}) SolverError → State → Type 0
 Configures s u r t = updates.Configures is_valid with_update s u r t
 
 -- The call `steps`.
 
+-- the count of all steps is returned
 abbrev pub TellsSteps : State → ℕ → State → Type 0
 TellsSteps s n t = (n ≡ s.ledger.steps) × (t ≡ s)
 
 -- The call `steps_since_change`.
 
+-- the count of steps since the last change is returned, which is below 2^(2n+3) in a valid state
 abbrev pub TellsSince : State → ℕ → State → Type 0
 TellsSince s n t = budgets.TellsSince is_valid (λ s. s.ledger.since) (λ s. s.counted) s n t
 
 -- The call `is_valid`.
 
+-- the flag is returned
 abbrev pub TellsValid : State → Bool → State → Type 0
 TellsValid s b t = (b ≡ is_valid s) × (t ≡ s)

@@ -13,6 +13,7 @@ carry f l = 2 * identity_of (f (variable_of l)) + l % 2
 abbrev pub AgreesAlong : (ℕ → Option ℕ) → Assignment → Assignment → Type 0
 AgreesAlong f a b = (v i : ℕ) → f v ≡ Some i → b v ≡ a i
 
+-- a value is there, and makes a literal of this sign true
 abbrev pub is_value : Option Bool → Bool → Bool
 is_value None b = false
 is_value (Some true) b = b

@@ -22,7 +22,8 @@ listed (Some v) = Some v.items
 abbrev pub IsUpToHighest : List Clause → ℕ → Type 0
 IsUpToHighest P u = (c : Clause) × (l : Literal) × (c ∈ P) × (l ∈ c) × (u ≤ variable_of l)
 
--- A model of the clauses: exactly the variables up to the highest that they name, each once and in increasing order, such that some assignment agrees with the list and satisfies the clauses.
+-- A model of the clauses: exactly the variables up to the highest that they name, each once and in increasing order, such that
+-- some assignment agrees with the list and satisfies the clauses.
 pub record IsModel (P : List Clause) (model : List Literal) : Type 0 where
   pub rising : IsRising 0 model
   pub all_listed : (u : ℕ) → IsUpToHighest P u → (l : Literal) × (l ∈ model) × (variable_of l ≡ u)
@@ -53,7 +54,8 @@ abbrev pub named_variables : List ℕ → List Clause → List ℕ
 named_variables known [] = known
 named_variables known (c ∷ P) = named_variables (join_counted known (map variable_of c)) P
 
--- The conclusion is one for the clauses, where so many steps may be made, and 2^64-1 be counted: these are spent only where they are fewer than a call may come to.
+-- The conclusion is one for the clauses, where so many steps may be made, and 2^64-1 be counted: these are spent only where they
+-- are fewer than a call may come to.
 abbrev pub IsConclusion : ℕ → List Clause → Conclusion → Type 0
 IsConclusion max_steps P (Decided outcome) = IsOutcome P outcome
 IsConclusion max_steps P Unknown = min max_steps (2 ^ 64 - 1) < 2 ^ (2 * length (named_variables [] P) + 3)
@@ -65,6 +67,7 @@ pub record Decides (max_steps : ℕ) (old new : Stand) (conclusion : Conclusion)
   pub fine : (dimacs read.text).fault ≡ None
   pub found : IsConclusion max_steps (dimacs read.text).clauses conclusion
 
+-- what is printed where a model was found
 abbrev pub model_text : List Literal → List ℕ
 model_text model = codes "s SATISFIABLE\nv" ++ literals_text model ++ codes "\n"
 
@@ -83,11 +86,13 @@ abbrev pub conclusion_text : Conclusion → List ℕ
 conclusion_text (Decided outcome) = outcome_text outcome
 conclusion_text Unknown = codes "s UNKNOWN\n"
 
+-- the status of the program for it
 abbrev pub conclusion_status : Conclusion → ℕ
 conclusion_status (Decided outcome) = outcome_status outcome
 conclusion_status Unknown = 0
 
--- What a status says of the text that the source gave since, whatever is known of the source: 10 only at the end of a text without a fault whose clauses some assignment satisfies, 20 only of one whose clauses none does.
+-- What a status says of the text that the source gave since, whatever is known of the source: 10 only at the end of a text
+-- without a fault whose clauses some assignment satisfies, 20 only of one whose clauses none does.
 pub record StatusIsTrue (old new : Stand) (status : ℕ) : Type 0 where
   pub ended : status ≢ fault_status → new.ended ≡ true
   pub fine : (text : List ℕ) → new.given ≡ old.given ++ text → status ≢ fault_status → (dimacs text).fault ≡ None

@@ -1,4 +1,5 @@
--- What becomes of variables whose values are fixed, unless they are assumed: they leave the search. The values are kept, and what has no name may be used again.
+-- What becomes of variables whose values are fixed, unless they are assumed: they leave the search. The values are kept, and what
+-- has no name may be used again.
 use Rattle.std.specs.Prelude.{◌≡◌, ◌≢◌, ◌↔◌, ◌⊎◌, ℕ, ◌<◌, Bool, true, false, not, Option, Some, None, List, [], ◌∷◌, length, map, slice_index_or, IsSome}
 use Rattle.std.specs.Option.{is_none}
 use Rattle.std.specs.List.{filter}
@@ -45,7 +46,8 @@ fixed_to b d = record d { unit = Some b; isolated = true }
 
 -- The solver variable of the literal was dropped, once its global variable was kept as isolated and with the value that makes the literal true.
 abbrev pub IsDroppedAlone : Literal → Tables → Tables → Type 0
-IsDroppedAlone l old new = (x : ℕ) × (mid : Tables) × IsChangedTo old mid x (fixed_to (polarity_of l) (kept_at old.kept x)) × IsDropped mid new x (variable_of l)
+IsDroppedAlone l old new =
+    (x : ℕ) × (mid : Tables) × IsChangedTo old mid x (fixed_to (polarity_of l) (kept_at old.kept x)) × IsDropped mid new x (variable_of l)
 
 -- so were those of the literals, in turn
 abbrev pub AreDroppedAlone : List Literal → Tables → Tables → Type 0
@@ -60,7 +62,8 @@ leads_to_hidden t (Some x) = is_none (at t.users.backward x)
 -- Of each hidden variable whose flag is not set there is one literal, among those that have flags.
 pub record ListsUnneeded (t : Tables) (flags : List Bool) (ls : List Literal) : Type 0 where
   pub distinct : IsDistinct (map variable_of ls)
-  pub listed : (v : ℕ) → (v ∈ map variable_of ls) ↔ ((v < length flags) × (slice_index_or flags v false ≡ false) × (leads_to_hidden t (at t.solvers.backward v) ≡ true))
+  pub listed : (v : ℕ) → (v ∈ map variable_of ls) ↔ ((v < length flags) × (slice_index_or flags v false ≡ false)
+      × (leads_to_hidden t (at t.solvers.backward v) ≡ true))
 
 -- The solver variables of the literals were dropped in turn.
 abbrev pub AreReleased : List Literal → Tables → Tables → Type 0
@@ -72,7 +75,8 @@ pub record LeavesNeeded (t : Tables) (s : View) : Type 0 where
   pub assumed : AreOverAssumed t s.trail
   pub needed : (v : ℕ) → IsSome (at t.solvers.backward v) → HasUser t v ⊎ IsMentioned (kept s) v
 
--- What is left of the tables where the solver variables of the literals were dropped: names stay, and so do other solver variables and what is kept of their global variables.
+-- What is left of the tables where the solver variables of the literals were dropped: names stay, and so do other solver
+-- variables and what is kept of their global variables.
 pub record LeavesTables (ls : List Literal) (old new : Tables) : Type 0 where
   pub users : new.users ≡ old.users
   pub solvers : length new.solvers.backward ≡ length old.solvers.backward
@@ -82,7 +86,8 @@ pub record LeavesTables (ls : List Literal) (old new : Tables) : Type 0 where
   pub fewer : (v x : ℕ) → at new.solvers.backward v ≡ Some x → at old.solvers.backward v ≡ Some x
   pub others : (x : ℕ) → ((l : Literal) → l ∈ ls → at old.solvers.backward (variable_of l) ≢ Some x) → kept_at new.kept x ≡ kept_at old.kept x
 
--- Variables left the search and the tables. What a valid solver keeps stays true, the search goes on with as many variables, and the solver stands for the same states, to which it was told what left.
+-- Variables left the search and the tables. What a valid solver keeps stays true, the search goes on with as many variables, and
+-- the solver stands for the same states, to which it was told what left.
 pub record LetsLeave {A : Type 0} (t : Tables) (x : Context A) (u : Tables) (y : Context A) : Type 0 where
   pub kept : IsKept u y
   pub since : GoesOnSince x y

@@ -12,7 +12,8 @@ use Rattle.varisat.specs.States.{State, Unsat}
 abbrev pub retold : List Entry → State → State
 retold told s = record s { told = told }
 
--- Further entries are told. Each is right where it stands, and n of the clauses that their lines add or fewer are neither a single literal nor part of one that is held just before.
+-- Further entries are told. Each is right where it stands, and n of the clauses that their lines add or fewer are neither a
+-- single literal nor part of one that is held just before.
 pub record TellsMore (n : ℕ) (before after : List Entry) : Type 0 where
   pub entries : List Entry
   pub joined : after ≡ before ++ entries
@@ -33,7 +34,9 @@ pub record TellsProof (hidden : Bool) (before after : List Entry) (old new : Pro
 abbrev pub ToldConflict : List Entry → Type 0
 ToldConflict told = (held : List Clause) × Leads [] told held × Conflicts held []
 
--- What was told is right, entry by entry, and an open proof has its lines since it was opened, as long as nothing was ever hidden. Its clauses are those accepted, in order. Where nothing was ever hidden its lines are a derivation from these, and under Unsat they refute them.
+-- What was told is right, entry by entry, and an open proof has its lines since it was opened, as long as nothing was ever
+-- hidden. Its clauses are those accepted, in order. Where nothing was ever hidden its lines are a derivation from these, and
+-- under Unsat they refute them.
 pub record IsJournal (s : State) : Type 0 where
   pub held : List Clause
   pub led : Leads [] s.told held

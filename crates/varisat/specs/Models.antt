@@ -27,7 +27,9 @@ abbrev pub IsRising : ℕ → List Literal → Type 0
 IsRising low [] = Unit {0}
 IsRising low (l ∷ ls) = (low ≤ variable_of l) × IsRising (suc (variable_of l)) ls
 
--- A completable model: exactly the names in use, each once and in increasing order, such that some assignment agrees with the list through the names and satisfies the accepted clauses and the assumptions. A name whose identity is not counted is listed false.
+-- A completable model: exactly the names in use, each once and in increasing order, such that some assignment agrees with the
+-- list through the names and satisfies the accepted clauses and the assumptions. A name whose identity is not counted is listed
+-- false.
 pub record IsCompletable (m : Naming) (clauses : List Clause) (assumptions : List Literal) (counted : List ℕ) (model : List Literal) : Type 0 where
   pub rising : IsRising 0 model
   pub all_listed : (u i : ℕ) → m.names u ≡ Some i → (l : Literal) × (l ∈ model) × (variable_of l ≡ u)

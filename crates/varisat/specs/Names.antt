@@ -4,14 +4,16 @@ use Rattle.varisat_theory.specs.Membership.{◌∈◌}
 use Rattle.varisat_theory.specs.Literals.{Literal, variable_of}
 use Rattle.varisat_names.specs.Maps.{updated}
 
--- A name is a number by which the user speaks of a variable. An identity is a number that is given to a variable once and never again: a name may become free, and come back with another identity.
+-- A name is a number by which the user speaks of a variable. An identity is a number that is given to a variable once and never
+-- again: a name may become free, and come back with another identity.
 
 -- How a name in use may be used: clauses and assumptions may name a sampled one, and not a witness.
 pub data Mode : Type 0 where
   Sample : Mode
   Witness : Mode
 
--- The identities made are those below `made`. `names` gives the identity of each name in use, and `watermark` is one above the highest name ever in use. `modes`: the mode of each identity in use.
+-- The identities made are those below `made`. `names` gives the identity of each name in use, and `watermark` is one above the
+-- highest name ever in use. `modes`: the mode of each identity in use.
 pub record Naming : Type 0 where
   pub made : ℕ
   pub names : ℕ → Option ℕ
@@ -54,6 +56,7 @@ name_all (l ∷ ls) m = name_all ls (name_one (variable_of l) m)
 abbrev pub IsLeastFree : Naming → ℕ → Type 0
 IsLeastFree m u = (m.names u ≡ None) × ((v : ℕ) → v < u → m.names v ≢ None)
 
+-- the identity where there is one, else 0, which no clause that is accepted asks for
 abbrev pub identity_of : Option ℕ → ℕ
 identity_of None = 0
 identity_of (Some i) = i
@@ -72,7 +75,8 @@ NameNoWitness m ls = (l : Literal) → l ∈ ls → IsWitness m (variable_of l) 
 
 -- the first name of the literals in the given order that is in mode Witness
 abbrev pub IsFirstWitness : Naming → List Literal → ℕ → Type 0
-IsFirstWitness m ls u = (front : List Literal) × (l : Literal) × (rest : List Literal) × (ls ≡ front ++ l ∷ rest) × NameNoWitness m front × (variable_of l ≡ u) × IsWitness m u
+IsFirstWitness m ls u =
+    (front : List Literal) × (l : Literal) × (rest : List Literal) × (ls ≡ front ++ l ∷ rest) × NameNoWitness m front × (variable_of l ≡ u) × IsWitness m u
 
 -- Exactly the names below n are in use, each for the identity of that number, all in mode Sample: names come into use in order as long as none is freed.
 pub record AreInOrder (n : ℕ) (m : Naming) : Type 0 where

@@ -9,7 +9,9 @@ use Rattle.varisat_proof.specs.Lines.{encoding_of, plain_lines}
 use Rattle.varisat_proof.specs.Steps.{lines_written}
 use Rattle.varisat_proof.specs.Proving.{OpenState}
 
--- `format`: how its lines are written. `faults`: how often the target failed in all. `first`: the bytes that the target had when the proof was opened, and `bytes`: those since then. `searched`: whether `solve` was called since it was opened. `before`: what was told before it was opened.
+-- `format`: how its lines are written. `faults`: how often the target failed in all. `first`: the bytes that the target had when
+-- the proof was opened, and `bytes`: those since then. `searched`: whether `solve` was called since it was opened. `before`: what
+-- was told before it was opened.
 pub record OpenProof : Type 0 where
   pub format : ProofFormat
   pub faults : ℕ
@@ -27,9 +29,11 @@ abbrev pub opened_state : Option OpenProof → Option OpenState
 opened_state None = None
 opened_state (Some p) = Some (record { format = p.format; taken = taken_of p; searched = p.searched })
 
+-- a proof is open
 abbrev pub IsOpen : Option OpenProof → Type 0
 IsOpen proof = (p : OpenProof) × (proof ≡ Some p)
 
+-- one of the two DRAT formats
 abbrev pub IsDrat : ProofFormat → Type 0
 IsDrat Drat = Unit {0}
 IsDrat BinaryDrat = Unit {0}
@@ -42,6 +46,7 @@ pub record IsWrittenAs (hidden : Bool) (told : List Entry) (p : OpenProof) : Typ
   pub bytes : p.bytes ≡ lines_written (encoding_of p.format) (plain_lines lines)
   pub told_since : hidden ≡ false → lines_of told ≡ lines_of p.before ++ lines
 
+-- so it is where a proof is open
 abbrev pub IsWrittenIf : Bool → List Entry → Option OpenProof → Type 0
 IsWrittenIf hidden told None = Unit {0}
 IsWrittenIf hidden told (Some p) = IsWrittenAs hidden told p
@@ -61,6 +66,7 @@ abbrev pub searched_in : Option OpenProof → Option Bool
 searched_in None = None
 searched_in (Some p) = Some p.searched
 
+-- a proof is open, and `solve` was called under it
 abbrev pub IsSearched : Option OpenProof → Type 0
 IsSearched proof = searched_in proof ≡ Some true
 

@@ -16,9 +16,15 @@ use Rattle.varisat.specs.declared.solver.SolverError.{SolverError}
 use Rattle.varisat.specs.declared.solver.SolverError.TheVariants.{Interrupted, ProofIoError, OutOfMemory, Invalid, ClauseStoreFull, WitnessVar, VariableLimit, ClauseAfterSolve, ProofOpen}
 use Rattle.varisat_literals.specs.Numbers.{variable_limit}
 
--- Clauses and assumptions are kept over identities, as the names that were in use carried them when they were given: a name that becomes free may come back for another variable, and what was said before still speaks of the first.
+-- Clauses and assumptions are kept over identities, as the names that were in use carried them when they were given: a name that
+-- becomes free may come back for another variable, and what was said before still speaks of the first.
 --
--- `valid`: no call failed from which there is no way back. `naming`: which identity each name has. `clauses` were accepted, and `assumptions` given last. `counted`: the different identities that these clauses and all lists of assumptions so far name. `has_model`: `solve` returned true, and no clause was accepted and nothing assumed since. `has_core`: it returned false, and nothing was assumed since. `steps`: how many steps were made in all. `since`: how many of them since the last call that was not refused and did more than to solve or to tell something. `settings`: those by which further steps are made. `proof`: of an open proof, whether `solve` was called under it.
+-- `valid`: no call failed from which there is no way back. `naming`: which identity each name has. `clauses` were accepted, and
+-- `assumptions` given last. `counted`: the different identities that these clauses and all lists of assumptions so far name.
+-- `has_model`: `solve` returned true, and no clause was accepted and nothing assumed since. `has_core`: it returned false, and
+-- nothing was assumed since. `steps`: how many steps were made in all. `since`: how many of them since the last call that was not
+-- refused and did more than to solve or to tell something. `settings`: those by which further steps are made. `proof`: of an open
+-- proof, whether `solve` was called under it.
 pub record Past : Type 0 where
   pub valid : Bool
   pub naming : Naming
@@ -48,6 +54,7 @@ empty_past = record {
   proof = None;
 }
 
+-- whether no call failed from which there is no way back
 abbrev pub is_valid : Past → Bool
 is_valid p = p.valid
 
@@ -85,6 +92,7 @@ pub data TakesClause (p : Past) (c : Clause) (q : Past) : Type 0 where
   Accepted : (IsSearched p → ⊥) → MayConstrain p.naming c → q ≡ accept c p → TakesClause p c q
   Ignored : (IsSatisfiable p.clauses → ⊥) → q ≡ count_anew p → TakesClause p c q
 
+-- The clause is taken; or it is refused, for its names and before anything changes, or with an error after which nothing more is accepted.
 abbrev pub AddsClause : Past → Clause → Result (Unit {0}) SolverError → Past → Type 0
 AddsClause p c (Ok _) q = (p.valid ≡ true) × TakesClause p c q
 AddsClause p c (Err Invalid) q = (p.valid ≡ false) × (q ≡ p)
@@ -96,6 +104,7 @@ AddsClause p c (Err ClauseStoreFull) q = (IsSearched p → ⊥) × MayConstrain 
 AddsClause p c (Err (ProofIoError cause)) q = (p.proof ≡ Some false) × MayConstrain p.naming c × Invalidates p q
 AddsClause p c (Err _) q = ⊥
 
+-- how clauses are added one by one, for lists and texts of them
 abbrev pub adding : additions.Adding Past
 adding = record { valid = is_valid; invalidates = Invalidates; count_anew = count_anew; adds = AddsClause }
 
@@ -142,6 +151,7 @@ assume list p =
       since = 0;
     }
 
+-- The list is assumed in place of the one before; or it is refused as a clause is, and the one before stays.
 abbrev pub Assumes : Past → List Literal → Result (Unit {0}) SolverError → Past → Type 0
 Assumes p list (Ok _) q = (p.valid ≡ true) × (p.proof ≡ None) × MayConstrain p.naming list × (q ≡ assume list p)
 Assumes p list (Err Invalid) q = (p.valid ≡ false) × (q ≡ p)
@@ -169,7 +179,8 @@ CountsCall p r q = CountsSteps (length p.counted) p.settings.max_steps p.since p
 abbrev pub with_steps : ℕ → Past → Past
 with_steps n p = record p { steps = n; since = p.since + (n - p.steps) }
 
--- No step is made where the verdict is known, which it is only where a model or a core was found last, or no assignment satisfies the clauses; else the call's steps are counted. It is known wherever a model or a core was found last.
+-- No step is made where the verdict is known, which it is only where a model or a core was found last, or no assignment satisfies
+-- the clauses; else the call's steps are counted. It is known wherever a model or a core was found last.
 pub data CountsIfUnknown (p : Past) (r : Result Bool SolverError) (q : Past) : Type 0 where
   Known : (p.has_model ≡ true) ⊎ ((p.has_core ≡ true) ⊎ (IsSatisfiable p.clauses → ⊥)) → q.steps ≡ p.steps → CountsIfUnknown p r q
   Searched : IsUndecided p → CountsCall p r q → CountsIfUnknown p r q
@@ -178,7 +189,9 @@ pub data CountsIfUnknown (p : Past) (r : Result Bool SolverError) (q : Past) : T
 abbrev pub once_searched : Past → Past
 once_searched p = record p { proof = searched_under p.proof }
 
--- True is returned only if some assignment satisfies the clauses and the assumptions, false only if none does. A call is interrupted only where its steps are spent, and neither a model nor a core was found last. An open proof is one then under which `solve` was called. Its target may fail in a step, or as it is flushed.
+-- True is returned only if some assignment satisfies the clauses and the assumptions, false only if none does. A call is
+-- interrupted only where its steps are spent, and neither a model nor a core was found last. An open proof is one then under
+-- which `solve` was called. Its target may fail in a step, or as it is flushed.
 abbrev pub Solves : Past → Result Bool SolverError → Past → Type 0
 Solves p (Ok true) q =
     (p.valid ≡ true) × IsSatisfiableWith p.clauses p.assumptions × CountsIfUnknown p (Ok true) q
@@ -193,15 +206,19 @@ Solves p (Err (ProofIoError cause)) q = HasOpenProof p × CountsIfUnknown p (Err
 Solves p (Err Interrupted) q = (p.valid ≡ true) × IsUndecided p × CountsCall p (Err Interrupted) q × (q ≡ with_steps q.steps (once_searched p))
 Solves p (Err _) q = ⊥
 
--- A model is told where one was found last, and nothing in an invalid solver: exactly the names in use, such that some assignment agrees with it through the names and satisfies the clauses and the assumptions.
+-- A model is told where one was found last, and nothing in an invalid solver: exactly the names in use, such that some assignment
+-- agrees with it through the names and satisfies the clauses and the assumptions.
 abbrev pub TellsModel : Past → Result (Option (List Literal)) AllocError → Past → Type 0
 TellsModel p (Ok (Some model)) q = (p.valid ≡ true) × (p.has_model ≡ true) × IsCompletable p.naming p.clauses p.assumptions p.counted model × (q ≡ p)
 TellsModel p (Ok None) q = (p.valid ≡ true → p.has_model ≡ false) × (q ≡ p)
 TellsModel p (Err _) q = (p.valid ≡ true) × (p.has_model ≡ true) × (q ≡ p)
 
--- A core is told where `solve` returned false last, and nothing in an invalid solver. What is told are literals of names in use, which these carry to some of the assumptions that no assignment makes true together with the clauses.
+-- A core is told where `solve` returned false last, and nothing in an invalid solver. What is told are literals of names in use,
+-- which these carry to some of the assumptions that no assignment makes true together with the clauses.
 abbrev pub TellsCore : Past → Result (Option (List Literal)) AllocError → Past → Type 0
-TellsCore p (Ok (Some core)) q = (p.valid ≡ true) × (p.has_model ≡ false) × AreNamesInUse p.naming core × IsFailedCore p.clauses p.assumptions (map (through_names p.naming) core) × (q ≡ p)
+TellsCore p (Ok (Some core)) q =
+    (p.valid ≡ true) × (p.has_model ≡ false) × AreNamesInUse p.naming core × IsFailedCore p.clauses p.assumptions (map (through_names p.naming) core)
+    × (q ≡ p)
 TellsCore p (Ok None) q = (p.valid ≡ true → p.has_core ≡ false) × (q ≡ p)
 TellsCore p (Err _) q = (p.valid ≡ true) × (p.has_model ≡ false) × (q ≡ p)
 

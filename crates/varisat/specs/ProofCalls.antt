@@ -26,7 +26,9 @@ OpensProof taken target format s (Err (ProofOpen, back)) t = (back ≡ target) �
 OpensProof taken target format s (Err (ProofTooLate, back)) t = (back ≡ target) × IsValid s × (s.proof ≡ None) × (s.ledger.started ≡ true) × (t ≡ s)
 OpensProof taken target format s (Err _) t = ⊥
 
--- The target of the open proof comes back, with the bytes of the proof behind those that it had before, and nothing where none is open. It comes back too where it can't be flushed, which makes the solver invalid. What an invalid state says of its proof need not be true any more, so nothing is told of what comes back from it.
+-- The target of the open proof comes back, with the bytes of the proof behind those that it had before, and nothing where none is
+-- open. It comes back too where it can't be flushed, which makes the solver invalid. What an invalid state says of its proof need
+-- not be true any more, so nothing is told of what comes back from it.
 abbrev pub ClosesProof : {W : Type 0} → (W → Taken) → State → Result (Option W) (SolverError × W) → State → Type 0
 ClosesProof taken s (Ok back) t =
     (IsValid s → IsClosed {E = SolverError} taken (opened_state s.proof) (Ok back)) × (t ≡ count_anew (with_proof None s))
@@ -34,7 +36,8 @@ ClosesProof taken s (Err (ProofIoError cause, target)) t =
     IsClosed taken (opened_state s.proof) (Err (ProofIoError cause, target)) × Invalidates s t
 ClosesProof taken s (Err _) t = ⊥
 
--- The bytes of an open proof are those of lines. As long as nothing was ever hidden these are, behind the lines that were told before it was opened, a derivation from the accepted clauses, which refutes them under Unsat.
+-- The bytes of an open proof are those of lines. As long as nothing was ever hidden these are, behind the lines that were told
+-- before it was opened, a derivation from the accepted clauses, which refutes them under Unsat.
 pub record IsProofOf (s : State) (p : OpenProof) : Type 0 where
   pub lines : List Line
   pub bytes : p.bytes ≡ lines_written (encoding_of p.format) (plain_lines lines)

@@ -27,9 +27,11 @@ calling = record {
   closes = ClosesProof;
 }
 
+-- The call may get the answer, and leads from one state to the other.
 abbrev pub MakesCall : {W S A : Type 0} → (S → Stand) → (W → Taken) → State → Call S A → Answer W S A → State → Type 0
 MakesCall seen taken s c a t = Makes calling seen taken s c a t
 
+-- The calls in turn may get the answers in turn, one each, and lead from one state to the other.
 abbrev pub Run : {W S A : Type 0} → (S → Stand) → (W → Taken) → State → List (Call S A) → List (Answer W S A) → State → Type 0
 Run seen taken s calls answers t = MakesInTurn calling seen taken s calls answers t
 
@@ -38,6 +40,7 @@ abbrev pub IsReadable : {S A : Type 0} → (S → Stand) → Call S A → Type 0
 IsReadable seen (call.AddDimacsCnf source) = (seen source).faults < 2 ^ 64 - 1
 IsReadable seen _ = Unit {0}
 
+-- so is each source that the calls are given
 abbrev pub AreReadable : {S A : Type 0} → (S → Stand) → List (Call S A) → Type 0
 AreReadable seen [] = Unit {0}
 AreReadable seen (c ∷ cs) = IsReadable seen c × AreReadable seen cs

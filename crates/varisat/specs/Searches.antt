@@ -29,7 +29,8 @@ answer_at verdict.UnsatUnderAssumptions = Some false
 abbrev pub MakesTold : {Q : Type 0} → (Q → List Entry → Q → Type 0) → Q → Q → ℕ → Search → Search → Outcome → Type 0
 MakesTold takes p q n s t v = (lines : List Line) × MakesSteps n s t v lines × TakesStep takes p lines v q
 
--- Steps lead from one context to the other, which has a verdict or none, as a tracer that was p takes their lines and the core; and a core that was found is kept over names too.
+-- Steps lead from one context to the other, which has a verdict or none, as a tracer that was p takes their lines and the core;
+-- and a core that was found is kept over names too.
 pub record FindsVerdict {A : Type 0} (p q : TracerState) (x y : Context A) (found : Option Bool) : Type 0 where
   pub ready : IsReady y
   pub count : length y.assignment.current ≡ length x.assignment.current

@@ -15,7 +15,9 @@ use Rattle.varisat.specs.declared.solver.SolverError.{SolverError}
 abbrev pub call_from : {A : Type 0} → Context A → PlannedCall
 call_from x = record { variables = length x.assignment.current; scale = x.solver_config.luby_restart_interval_scale; begins = x.schedule }
 
--- The search came here by steps of the schedule at one scale, with as many variables all the time. In between some units left it, and a variable that has left is not decided again: so those units and the trail are together never more than the variables. It is said of all that may be decided, since any of it may come to the trail.
+-- The search came here by steps of the schedule at one scale, with as many variables all the time. In between some units left it,
+-- and a variable that has left is not decided again: so those units and the trail are together never more than the variables. It
+-- is said of all that may be decided, since any of it may come to the trail.
 pub record HasComeSince {A : Type 0} (c : PlannedCall) (x : Context A) : Type 0 where
   pub units : ℕ
   pub come : HasComeWithout c x.schedule units (kinds (view x))
@@ -27,7 +29,9 @@ pub record HasComeSince {A : Type 0} (c : PlannedCall) (x : Context A) : Type 0 
 abbrev pub GoesOnSince : {A : Type 0} → Context A → Context A → Type 0
 GoesOnSince x y = (c : PlannedCall) → HasComeSince c x → HasComeSince c y
 
--- What a solver keeps of the steps since its last change, before which `changed_at` steps were made. They are few, for each number that bounds the variables of the search. And as long as no verdict is known the search came from there, so that it can go on.
+-- What a solver keeps of the steps since its last change, before which `changed_at` steps were made. They are few, for each
+-- number that bounds the variables of the search. And as long as no verdict is known the search came from there, so that it can
+-- go on.
 pub record CountsSince {A : Type 0} (changed_at : ℕ) (x : Context A) : Type 0 where
   pub low : changed_at ≤ x.schedule.steps
   pub few : (n : ℕ) → length x.assignment.current ≤ n → x.schedule.steps - changed_at < 2 ^ (2 * n + 3)
@@ -37,7 +41,8 @@ pub record CountsSince {A : Type 0} (changed_at : ℕ) (x : Context A) : Type 0 
 abbrev pub CountsOnSince : {A : Type 0} → Context A → Context A → Type 0
 CountsOnSince x y = (changed_at : ℕ) → CountsSince changed_at x → CountsSince changed_at y
 
--- How the steps are counted that lead from one context to the other, of which `max_steps` may be made: for each number that bounds the variables of the search, and wherever the last change was.
+-- How the steps are counted that lead from one context to the other, of which `max_steps` may be made: for each number that
+-- bounds the variables of the search, and wherever the last change was.
 abbrev pub CountsStepsFrom : {A : Type 0} → ℕ → Context A → Context A → Result Bool SolverError → Type 0
 CountsStepsFrom max_steps x y answer =
     (n changed_at : ℕ) → length x.assignment.current ≤ n → CountsSince changed_at x →

@@ -1,6 +1,7 @@
 -- What a solver holds over its three name spaces, and which states it stands for.
 --
--- A name of the user leads to a global variable, which lasts as long as its identity may be spoken of, and a global variable to a solver variable while the search speaks of it. Identities are never used again, global and solver variables are.
+-- A name of the user leads to a global variable, which lasts as long as its identity may be spoken of, and a global variable to a
+-- solver variable while the search speaks of it. Identities are never used again, global and solver variables are.
 use Rattle.std.specs.Prelude.{◌≡◌, ◌≢◌, ℕ, zero, suc, ◌<◌, ◌≤◌, Bool, true, false, Option, Some, None, List, [], ◌++◌, length, map}
 use Rattle.varisat_theory.specs.Membership.{◌∈◌, ◌⊆◌}
 use Rattle.varisat_theory.specs.Literals.{Literal, Clause, Assignment, variable_of, literal_of, IsUnit, SatisfiesAll, MakesTrue}
@@ -21,7 +22,9 @@ use Rattle.varisat.specs.Models.{put_name}
 use Rattle.varisat.specs.Journals.{ToldConflict}
 use Rattle.varisat.specs.Carried.{carry, AgreesAlong, is_forced}
 
--- The maps as functions; how many global variables were made, what is kept of each of them, and its value in the model found last; the assumptions as given and the core found last, over names; those of the assumptions by which the search goes, and the search with its verdict, over solver variables, and how many variables it has.
+-- The maps as functions; how many global variables were made, what is kept of each of them, and its value in the model found
+-- last; the assumptions as given and the core found last, over names; those of the assumptions by which the search goes, and the
+-- search with its verdict, over solver variables, and how many variables it has.
 pub record Spaces : Type 0 where
   pub global_from_user : ℕ → Option ℕ
   pub user_from_global : ℕ → Option ℕ
@@ -38,7 +41,8 @@ pub record Spaces : Type 0 where
   pub outcome : Outcome
   pub var_count : ℕ
 
--- What no code keeps: the identity of each live global variable and the way back, and of identities, also of those that no global variable stands for any more, the value that a unit forces.
+-- What no code keeps: the identity of each live global variable and the way back, and of identities, also of those that no global
+-- variable stands for any more, the value that a unit forces.
 pub record Carrying : Type 0 where
   pub identity : ℕ → Option ℕ
   pub global : ℕ → Option ℕ
@@ -52,6 +56,7 @@ IsWide c = ((l m : Literal) × (l ∈ c) × (m ∈ c) × (l ≢ m)) × (IsTautol
 abbrev pub IsApart : List Clause → ℕ → Type 0
 IsApart P i = (c : Clause) (l : Literal) → c ∈ P → IsWide c → l ∈ c → variable_of l ≡ i → ⊥
 
+-- the mode in which a variable is kept is that of its identity; a hidden one has no name, and so no mode
 abbrev pub ModeFits : SamplingMode → Mode → Type 0
 ModeFits sampling.Sample Sample = Unit {0}
 ModeFits sampling.Witness Witness = Unit {0}
@@ -97,14 +102,17 @@ pub record SolversFit (identity from_global to_global : ℕ → Option ℕ) (cou
   pub one_to_one : IsInverse from_global to_global
   pub live : (v x : ℕ) → to_global v ≡ Some x → (i : ℕ) × (identity x ≡ Some i) × (i ∈ counted)
 
--- How what the search says is translated to identities: `identity` of each solver variable in use, `global` of each identity that is live, the values that are forced, and what was told of the clauses that are held.
+-- How what the search says is translated to identities: `identity` of each solver variable in use, `global` of each identity that
+-- is live, the values that are forced, and what was told of the clauses that are held.
 pub record Translation : Type 0 where
   pub identity : ℕ → Option ℕ
   pub global : ℕ → Option ℕ
   pub forced : ℕ → Option Bool
   pub told : List Entry
 
--- What was told leads to some clauses over identities: those of the search, which are over solver variables in use, and others that it forgot with variables that left. Among these is a unit clause for each forced value of a live identity without a solver variable.
+-- What was told leads to some clauses over identities: those of the search, which are over solver variables in use, and others
+-- that it forgot with variables that left. Among these is a unit clause for each forced value of a live identity without a solver
+-- variable.
 pub record SharesHeld (r : Translation) (share : List Clause) : Type 0 where
   pub held : List Clause
   pub led : Leads [] r.told held
@@ -145,7 +153,8 @@ pub record MarksFit (from_user : ℕ → Option ℕ) (kept : ℕ → VarData) (g
   pub marked : (l : Literal) (x : ℕ) → l ∈ given → from_user (variable_of l) ≡ Some x → (kept x).assumed ≡ true
   pub only : (x : ℕ) → (kept x).assumed ≡ true → (l : Literal) × (l ∈ given) × (from_user (variable_of l) ≡ Some x)
 
--- The assumptions by which the search goes are some of those of the state, and whatever satisfies the accepted clauses and makes them true makes all of these true.
+-- The assumptions by which the search goes are some of those of the state, and whatever satisfies the accepted clauses and makes
+-- them true makes all of these true.
 pub record WorkingFits (P : List Clause) (identity : ℕ → Option ℕ) (assumptions working : List Literal) : Type 0 where
   pub used : (l : Literal) → l ∈ working → (i : ℕ) × (identity (variable_of l) ≡ Some i)
   pub part : map (carry identity) working ⊆ assumptions

@@ -7,14 +7,18 @@ use Rattle.varisat_names.specs.Settings.{Settings, default_settings}
 use Rattle.varisat.specs.Names.{Naming, no_names}
 use Rattle.varisat.specs.OpenProofs.{OpenProof}
 
--- What is known of the accepted clauses and the assumptions. Under `Sat` an assignment of the identities was found, under `UnsatUnderAssumptions` a failed core over identities.
+-- What is known of the accepted clauses and the assumptions. Under `Sat` an assignment of the identities was found, under
+-- `UnsatUnderAssumptions` a failed core over identities.
 pub data Verdict : Type 0 where
   Unknown : Verdict
   Sat : Assignment → Verdict
   Unsat : Verdict
   UnsatUnderAssumptions : List Literal → Verdict
 
--- What is told of an invalid solver too. `valid`: no error came from which there is no way back. `started`: a clause, a variable or a list of assumptions was accepted. `steps`: how many steps were made in all. `since`: how many of them since the last change, which is the last call that was not refused and did more than to solve or to tell something. `settings`: those by which further steps are made.
+-- What is told of an invalid solver too. `valid`: no error came from which there is no way back. `started`: a clause, a variable
+-- or a list of assumptions was accepted. `steps`: how many steps were made in all. `since`: how many of them since the last
+-- change, which is the last call that was not refused and did more than to solve or to tell something. `settings`: those by which
+-- further steps are made.
 pub record Ledger : Type 0 where
   pub valid : Bool
   pub started : Bool
@@ -22,7 +26,10 @@ pub record Ledger : Type 0 where
   pub since : ℕ
   pub settings : Settings
 
--- `naming`: which identity each name has. `ever_hidden`: whether a name was ever freed while its variable lived on. `clauses`: those accepted, over identities. `assumptions`: the list as given, over identities. `counted`: the identities that accepted clauses and assumption lists have named so far, each once. `told`: what a proof that was opened at the beginning would have been told, over identities. `proof`: the proof that is open.
+-- `naming`: which identity each name has. `ever_hidden`: whether a name was ever freed while its variable lived on. `clauses`:
+-- those accepted, over identities. `assumptions`: the list as given, over identities. `counted`: the identities that accepted
+-- clauses and assumption lists have named so far, each once. `told`: what a proof that was opened at the beginning would have
+-- been told, over identities. `proof`: the proof that is open.
 pub record State : Type 0 where
   pub naming : Naming
   pub ever_hidden : Bool
@@ -62,7 +69,8 @@ empty_state = record {
   proof = None;
 }
 
--- What is true of each state: names stand for different identities, none is in use from the watermark on, identities that are spoken of were made, and none is counted twice.
+-- What is true of each state: names stand for different identities, none is in use from the watermark on, identities that are
+-- spoken of were made, and none is counted twice.
 pub record IsWellFormed (s : State) : Type 0 where
   pub one_to_one : (u v i : ℕ) → s.naming.names u ≡ Some i → s.naming.names v ≡ Some i → u ≡ v
   pub free : (u : ℕ) → s.naming.watermark ≤ u → s.naming.names u ≡ None
@@ -72,7 +80,9 @@ pub record IsWellFormed (s : State) : Type 0 where
   pub counted : (i : ℕ) → i ∈ s.counted → i < s.naming.made
   pub once : IsDistinct s.counted
 
--- What a verdict claims: an assignment that was found satisfies the clauses and the assumptions, and is false on each identity that is not counted; Unsat stands only where no assignment satisfies the clauses; and a core is one of the assumptions, which no assignment makes true together with the clauses.
+-- What a verdict claims: an assignment that was found satisfies the clauses and the assumptions, and is false on each identity
+-- that is not counted; Unsat stands only where no assignment satisfies the clauses; and a core is one of the assumptions, which
+-- no assignment makes true together with the clauses.
 abbrev pub IsRight : List Clause → List Literal → List ℕ → Verdict → Type 0
 IsRight clauses assumptions counted Unknown = Unit {0}
 IsRight clauses assumptions counted (Sat found) =
@@ -80,5 +90,6 @@ IsRight clauses assumptions counted (Sat found) =
 IsRight clauses assumptions counted Unsat = IsSatisfiable clauses → ⊥
 IsRight clauses assumptions counted (UnsatUnderAssumptions core) = IsFailedCore clauses assumptions core
 
+-- what the verdict of the state claims is right
 abbrev pub HasRightVerdict : State → Type 0
 HasRightVerdict s = IsRight s.clauses s.assumptions s.counted s.verdict

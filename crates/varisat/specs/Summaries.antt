@@ -26,7 +26,8 @@ use Rattle.varisat.specs.SinceChange.{CountsSince}
 use Rattle.varisat.specs.declared.solver.SolverError.{SolverError}
 use Rattle.varisat.specs.declared.solver.SolverError.TheVariants.{ProofIoError}
 
--- The maps between names, global variables and solver variables with what is kept of the global variables; the proof that is open; the search with its assumptions and its verdict; what is told of an invalid solver too.
+-- The maps between names, global variables and solver variables with what is kept of the global variables; the proof that is
+-- open; the search with its assumptions and its verdict; what is told of an invalid solver too.
 pub record Summary : Type 0 where
   pub tables : Tables
   pub opened : Option OpenState
@@ -62,13 +63,16 @@ spaces_with t x = spaces_of t (view x) x.assumptions x.solver_state.sat_state
 abbrev pub undecided_spaces : {A : Type 0} → Tables → Context A → Spaces
 undecided_spaces t x = spaces_of t (view x) x.assumptions verdict.Unknown
 
+-- so it is for the whole solver
 abbrev pub spaces : Summary → Spaces
 spaces g = spaces_of g.tables g.search g.assumed g.sat_state
 
 -- the model as it is listed: the names in use among the k names from u on
 abbrev pub list_tables : Tables → List (Option Bool) → ℕ → ℕ → List Literal
 list_tables t values u zero = []
-list_tables t values u (suc k) = put_name u (at t.users.forward u) (λ x. value_or (kept_at t.kept x).unit (λ v. is_true_value (slice_index_or values v None)) (at t.solvers.forward x)) (list_tables t values (suc u) k)
+list_tables t values u (suc k) =
+    put_name u (at t.users.forward u) (λ x. value_or (kept_at t.kept x).unit
+    (λ v. is_true_value (slice_index_or values v None)) (at t.solvers.forward x)) (list_tables t values (suc u) k)
 
 -- what a valid solver keeps of its names, its variables and its search
 pub record IsKept {A : Type 0} (tables : Tables) (search : Context A) : Type 0 where
@@ -89,7 +93,8 @@ pub record IsKeptSince {A : Type 0} (tables : Tables) (proof : ProofParts) (sear
   pub tells : CanTell proof
   pub counts : CountsSince changed_at search
 
--- The solver stands for the state: both have the same ledger, and where it is valid, what the solver holds stands for it, and an open proof has the bytes that the state says.
+-- The solver stands for the state: both have the same ledger, and where it is valid, what the solver holds stands for it, and an
+-- open proof has the bytes that the state says.
 pub record StandsFor (g : Summary) (s : State) : Type 0 where
   pub ledger : s.ledger ≡ g.ledger
   pub fits : g.ledger.valid ≡ true → SpacesFit (spaces g) s

@@ -16,7 +16,9 @@ use Rattle.varisat.specs.declared.session.Answer.{Answer}
 use Rattle.varisat.specs.declared.session.Call.TheVariants as call
 use Rattle.varisat.specs.declared.session.Answer.TheVariants as answer
 
--- How calls move something, and with which answers: how clauses are added to it, how its names are used, and each further call that can be refused; what an update of the settings makes of it, how many steps were made, how many of them since the last change, and which variables are counted; and how a proof closes, where it is known what each target took.
+-- How calls move something, and with which answers: how clauses are added to it, how its names are used, and each further call
+-- that can be refused; what an update of the settings makes of it, how many steps were made, how many of them since the last
+-- change, and which variables are counted; and how a proof closes, where it is known what each target took.
 pub record CallRules (X : Type 0) : Type 1 where
   pub adding : additions.Adding X
   pub named : usage.Named X
@@ -32,7 +34,8 @@ pub record CallRules (X : Type 0) : Type 1 where
   pub closes : {W : Type 0} → (W → Taken) → X → Result (Option W) (SolverError × W) → X → Type 0
 
 module _ {X : Type 0} (by : CallRules X) where
-  -- From s the call may get the answer and lead to t. `seen` tells how a source stands, as it was given and as it is given back, and `taken` what a target took.
+  -- From s the call may get the answer and lead to t. `seen` tells how a source stands, as it was given and as it is given back,
+  -- and `taken` what a target took.
   abbrev pub Makes : {W S A : Type 0} → (S → Stand) → (W → Taken) → X → Call S A → Answer W S A → X → Type 0
   Makes seen taken s (call.AddClause c) (answer.AddClause r) t = by.adding.adds s c.items r t
   Makes seen taken s (call.AddFormula f) (answer.AddFormula r) t = additions.AddsList by.adding s f.clauses r t

@@ -1,4 +1,5 @@
--- How the calls move names that set the mode of a variable, hide it, and bring hidden ones back, where it is known what has the names: a solver's state, or what calls and answers say so far.
+-- How the calls move names that set the mode of a variable, hide it, and bring hidden ones back, where it is known what has the
+-- names: a solver's state, or what calls and answers say so far.
 --
 -- Refusals are looked for in this order: Invalid; VariableLimit; AssumedVar; OutOfMemory.
 use Rattle.std.specs.Prelude.{◌≡◌, ℕ, ◌<◌, ◌≤◌, Bool, true, false, None, Some, List, ◌⊎◌, Result, Ok, Err}
@@ -25,7 +26,8 @@ pub record AreAllShown (us : List ℕ) (P : List Clause) (old new : Naming) : Ty
 abbrev pub NeedsNamePastLimit : Naming → Type 0
 NeedsNamePastLimit old = (us : List ℕ) × (new : Naming) × (u : ℕ) × AreShown us old new × (u ∈ us) × (variable_limit ≤ u)
 
--- What has names, and clauses and assumptions over identities: whether it is valid, the same with other names, the same once a name was hidden, what is like it for a user, and what is left of it once memory ran out.
+-- What has names, and clauses and assumptions over identities: whether it is valid, the same with other names, the same once a
+-- name was hidden, what is like it for a user, and what is left of it once memory ran out.
 pub record Named (X : Type 0) : Type 1 where
   pub valid : X → Bool
   pub naming : X → Naming

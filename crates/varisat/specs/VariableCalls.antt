@@ -19,23 +19,30 @@ named = record {
   invalidates = Invalidates;
 }
 
+-- the name is in use, and an assumption is over its variable
 abbrev pub IsAssumed : State → ℕ → Type 0
 IsAssumed s u = usage.IsAssumed named s u
 
+-- the state once the variable of the name has the mode
 abbrev pub with_mode : ℕ → Mode → State → State
 with_mode u mode s = usage.with_mode named u mode s
 
+-- the state once the name is free and its variable is hidden
 abbrev pub hide_name : ℕ → State → State
 hide_name u s = usage.hide_name named u s
 
+-- the call `sample_var`
 abbrev pub SamplesVar : State → ℕ → Result (Unit {0}) SolverError → State → Type 0
 SamplesVar s u r t = usage.SetsMode named Sample s u r t
 
+-- the call `witness_var`
 abbrev pub WitnessesVar : State → ℕ → Result (Unit {0}) SolverError → State → Type 0
 WitnessesVar s u r t = usage.SetsMode named Witness s u r t
 
+-- the call `hide_var`
 abbrev pub HidesVar : State → ℕ → Result (Unit {0}) SolverError → State → Type 0
 HidesVar s u r t = usage.Hides named s u r t
 
+-- the call `observe_internal_vars`
 abbrev pub Observes : State → Result (List ℕ) SolverError → State → Type 0
 Observes s r t = usage.Observes named s r t

@@ -48,7 +48,8 @@ pub fn parse_line<S: ByteSource, A: Allocator + Copy>(
 // The call of a command that does not begin with `add` or `assume` and a space.
 fn parse_short<S: ByteSource, A: Allocator + Copy>(alloc: A, text: &[u8]) -> Option<Call<S, A>>
     ensures command { IfSome result (λ call. (command : Command) × AsksFor call command × MeansCommand text.now command) }
-    ensures no_command { IfNone result ((command : Command) → MeansCommand text.now command → (take 4 text.now ≡ codes "add ") ⊎ (take 7 text.now ≡ codes "assume ")) }
+    ensures no_command { IfNone result ((command : Command) → MeansCommand text.now command → (take 4 text.now ≡ codes "add ")
+        ⊎ (take 7 text.now ≡ codes "assume ")) }
 {
     match text.strip_prefix(b"config ") {
         Some(setting) => Some(Call::Config(parse_setting(setting)?)),
@@ -108,7 +109,8 @@ fn parse_word<S: ByteSource, A: Allocator + Copy>(alloc: A, word: &[u8]) -> Opti
 
 // The update of a command that begins with `config` and a space, from what follows: a setting's name and a number.
 fn parse_setting(setting: &[u8]) -> Option<SolverConfigUpdate>
-    ensures command { IfSome result (λ update. (field : ConfigField) × (value : ℕ) × (update ≡ update_of field value) × MeansCommand (codes "config " ++ setting.now) (Config field value)) }
+    ensures command { IfSome result (λ update. (field : ConfigField) × (value : ℕ) × (update ≡ update_of field value)
+        × MeansCommand (codes "config " ++ setting.now) (Config field value)) }
     ensures no_command { IfNone result ((command : Command) → MeansCommand (codes "config " ++ setting.now) command → ⊥) }
 {
     let (name, number) = split_word(setting);

@@ -69,7 +69,8 @@ fn comes_alone<A: Allocator + Copy>(
 /// How many names come into use alone, each once, where those of the clause are named. The work grows with the square
 /// of the length.
 fn count_alone<A: Allocator + Copy>(variables: &LinkedVariables<A>, clause: &[Lit]) -> usize
-    ensures { (name_all clause.now (naming_of variables.now)).made ≡ length variables.now.kept + ((name_all clause.now (naming_of variables.now)).watermark - length variables.now.users.forward) + result }
+    ensures { (name_all clause.now (naming_of variables.now)).made ≡ length variables.now.kept +
+        ((name_all clause.now (naming_of variables.now)).watermark - length variables.now.users.forward) + result }
 {
     let mut count = 0;
     for index in 0..clause.len() {

@@ -71,7 +71,9 @@ pub fn solve_lines<A: Allocator + Copy, S: ByteSource, W: Write, E: Write>(
     requires { (S.stand cnf.old).faults < 2 ^ 64 - 1 }
     // Any other status is given only after the source gave a whole text, which was decided if the steps allowed it, and
     // the outcome printed.
-    ensures outcome { (result ≡ fault_status) ⊎ ((conclusion : Conclusion) × Decides (allowed_steps options.max_steps) (S.stand cnf.old) (S.stand cnf.new) conclusion × (result ≡ conclusion_status conclusion) × Appends (W.contents out.old) (W.contents out.new) (conclusion_text conclusion)) }
+    ensures outcome { (result ≡ fault_status)
+        ⊎ ((conclusion : Conclusion) × Decides (allowed_steps options.max_steps) (S.stand cnf.old) (S.stand cnf.new) conclusion
+        × (result ≡ conclusion_status conclusion) × Appends (W.contents out.old) (W.contents out.new) (conclusion_text conclusion)) }
     ensures truth { StatusIsTrue (S.stand cnf.old) (S.stand cnf.new) result }
 {
     match decide(alloc, cnf, options) {

@@ -365,7 +365,8 @@ impl<W: ProofTarget, A: Allocator + Copy> Solver<W, A> {
 
     /// Ends the text, accepts the clauses that it leaves, and returns its fault, if there is one.
     fn end_text(&mut self, parser: &mut DimacsParser<A>) -> Result<(), SolverError>
-        ensures { (s : State) → StandsFor self.old s → IsValid s → (p : Progress) × IsEnding parser.old p × (t : State) × AddsReading s p.reading result t × StandsFor self.new t }
+        ensures { (s : State) → StandsFor self.old s → IsValid s → (p : Progress) × IsEnding parser.old p × (t : State)
+            × AddsReading s p.reading result t × StandsFor self.new t }
     {
         let end = parser.finish();
         self.add_clauses(&parser.take_formula())?;
@@ -518,8 +519,10 @@ impl<W: ProofTarget, A: Allocator + Copy> Solver<W, A> {
         ensures call { (s : State) → StandsFor self.old s → (t : State) × Solves s result t × StandsFor self.new t }
         ensures satisfiable { result ≡ Ok true → (s : State) → StandsFor self.old s → IsSatisfiableWith s.clauses s.assumptions }
         ensures unsatisfiable { result ≡ Ok false → (s : State) → StandsFor self.old s → IsSatisfiableWith s.clauses s.assumptions → ⊥ }
-        ensures model { result ≡ Ok true → (s : State) → StandsFor self.new s → (m : List ℕ) × (model_of s.naming s.verdict ≡ Some m) × IsCompletable s.naming s.clauses s.assumptions s.counted m }
-        ensures core { result ≡ Ok false → (s : State) → StandsFor self.new s → (core : List ℕ) × (core_of s.verdict ≡ Some core) × IsFailedCore s.clauses s.assumptions core }
+        ensures model { result ≡ Ok true → (s : State) → StandsFor self.new s → (m : List ℕ) × (model_of s.naming s.verdict ≡ Some m)
+            × IsCompletable s.naming s.clauses s.assumptions s.counted m }
+        ensures core { result ≡ Ok false → (s : State) → StandsFor self.new s → (core : List ℕ) × (core_of s.verdict ≡ Some core)
+            × IsFailedCore s.clauses s.assumptions core }
     {
         let found = self.seek();
         if self.ctx.solver_state.state_is_invalid {
@@ -550,8 +553,10 @@ impl<W: ProofTarget, A: Allocator + Copy> Solver<W, A> {
         ensures call { (s : State) → StandsFor self.old s → (t : State) × Searches s result t × StandsFor self.new t }
         ensures satisfiable { result ≡ Ok true → (s : State) → StandsFor self.old s → IsSatisfiableWith s.clauses s.assumptions }
         ensures unsatisfiable { result ≡ Ok false → (s : State) → StandsFor self.old s → IsSatisfiableWith s.clauses s.assumptions → ⊥ }
-        ensures model { result ≡ Ok true → (s : State) → StandsFor self.new s → (m : List ℕ) × (model_of s.naming s.verdict ≡ Some m) × IsCompletable s.naming s.clauses s.assumptions s.counted m }
-        ensures core { result ≡ Ok false → (s : State) → StandsFor self.new s → (core : List ℕ) × (core_of s.verdict ≡ Some core) × IsFailedCore s.clauses s.assumptions core }
+        ensures model { result ≡ Ok true → (s : State) → StandsFor self.new s → (m : List ℕ) × (model_of s.naming s.verdict ≡ Some m)
+            × IsCompletable s.naming s.clauses s.assumptions s.counted m }
+        ensures core { result ≡ Ok false → (s : State) → StandsFor self.new s → (core : List ℕ) × (core_of s.verdict ≡ Some core)
+            × IsFailedCore s.clauses s.assumptions core }
     {
         if self.ctx.solver_state.state_is_invalid {
             return Err(SolverError::Invalid);
@@ -592,7 +597,8 @@ impl<W: ProofTarget, A: Allocator + Copy> Solver<W, A> {
     /// that the clauses are satisfiable; else None, as in an invalid solver. Where memory runs out nothing changes.
     pub fn model(&self) -> Result<Option<Vec<Lit, A>>, AllocError>
         ensures call { (s : State) → StandsFor self.now s → (t : State) × TellsModel s (told_list result) t × StandsFor self.now t }
-        ensures completable { (m : List ℕ) → told_list result ≡ Ok (Some m) → (s : State) → StandsFor self.now s → IsCompletable s.naming s.clauses s.assumptions s.counted m }
+        ensures completable { (m : List ℕ) → told_list result ≡ Ok (Some m) → (s : State) → StandsFor self.now s →
+            IsCompletable s.naming s.clauses s.assumptions s.counted m }
         ensures absent { told_list result ≡ Ok None → (s : State) → StandsFor self.now s → IsValid s → answer_of s.verdict ≡ Some true → ⊥ }
     {
         if self.ctx.solver_state.state_is_invalid {
@@ -613,7 +619,8 @@ impl<W: ProofTarget, A: Allocator + Copy> Solver<W, A> {
     /// are; else None, as in an invalid solver.
     pub fn failed_core(&self) -> Option<&[Lit]>
         ensures call { (s : State) → StandsFor self.now s → (t : State) × TellsCore s (Ok (lent_list result)) t × StandsFor self.now t }
-        ensures fails { (core : List ℕ) → lent_list result ≡ Some core → (s : State) → StandsFor self.now s → AreNamesInUse s.naming core × IsFailedCore s.clauses s.assumptions (map (through_names s.naming) core) }
+        ensures fails { (core : List ℕ) → lent_list result ≡ Some core → (s : State) → StandsFor self.now s → AreNamesInUse s.naming core
+            × IsFailedCore s.clauses s.assumptions (map (through_names s.naming) core) }
         ensures absent { lent_list result ≡ None → (s : State) → StandsFor self.now s → IsValid s → answer_of s.verdict ≡ Some false → ⊥ }
     {
         if self.ctx.solver_state.state_is_invalid {

@@ -53,7 +53,9 @@ activity_bumped p x = (header_at x.clauses p).activity + x.scale.increment
 -- The clause at the place has that activity; where it reaches the limit, all are shifted.
 abbrev pub with_bump : ℕ → Scored → Scored
 with_bump p x = record {
-  clauses = with_activity (clauses_rescaled (reaches_clause_limit (activity_bumped p x)) x.clauses) p (if reaches_clause_limit (activity_bumped p x) then activity_bumped p x / 2 ^ 16 else activity_bumped p x);
+  clauses =
+      with_activity (clauses_rescaled (reaches_clause_limit (activity_bumped p x)) x.clauses) p
+      (if reaches_clause_limit (activity_bumped p x) then activity_bumped p x / 2 ^ 16 else activity_bumped p x);
   scale = scale_rescaled (reaches_clause_limit (activity_bumped p x)) x.scale;
 }
 

@@ -41,6 +41,7 @@ pub record Bumping : Type 0 where
   pub flags : List Bool
   pub activities : Activities
 
+-- both together
 abbrev pub bumping : List Bool → Activities → Bumping
 bumping flags a = record { flags = flags; activities = a }
 

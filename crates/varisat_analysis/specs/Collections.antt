@@ -33,7 +33,8 @@ pub record Repacks (s t : View) : Type 0 where
 -- the clause is the reason of its first literal at the other place from now on, where it was so
 abbrev pub repointed : List (Option Bool) → List ImplNode → StoredClause → ℕ → List ImplNode
 repointed values nodes k q =
-    if is_reason values nodes k then slice_set nodes (variable_of (literal_in k.literals 0)) (record (slice_index_or nodes (variable_of (literal_in k.literals 0)) no_node) { reason = reason.Long q }) else nodes
+    if is_reason values nodes k then slice_set nodes (variable_of (literal_in k.literals 0))
+    (record (slice_index_or nodes (variable_of (literal_in k.literals 0)) no_node) { reason = reason.Long q }) else nodes
 
 -- each clause in turn, to the place of the one of the second list
 abbrev pub repointed_each : List (Option Bool) → List StoredClause → List StoredClause → List ImplNode → List ImplNode

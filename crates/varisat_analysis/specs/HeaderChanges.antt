@@ -15,6 +15,7 @@ pub record PlacedClause : Type 0 where
   pub place : ℕ
   pub kept : KeptClause
 
+-- a clause of the store with its place, as a proof sees it
 abbrev pub placed_clause : StoredClause → PlacedClause
 placed_clause k = record { place = k.place; kept = kept_clause k }
 

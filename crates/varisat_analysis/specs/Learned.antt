@@ -21,6 +21,7 @@ pub record Analysis : Type 0 where
   pub involved : List Conflict
   pub var_count : ℕ
 
+-- before the first conflict
 abbrev pub no_analysis : Analysis
 no_analysis = record { clause = []; involved = []; var_count = 0 }
 
@@ -80,7 +81,8 @@ pub data IsInvolved (s : View) (f : Conflict) (k : ℕ) (g : Conflict) : Type 0 
   -- it is the conflict's clause
   IsOfConflict : g ≡ f → IsInvolved s f k g
   -- it is the reason of a reached literal of the current level behind the implication point
-  IsReasonOf : (j : ℕ) → k < j → IsOfCurrentLevel s j → IsReachedDownTo s f k (literal_at s j) → g ∈ names_of (literal_at s j) (node_at s j).reason → IsInvolved s f k g
+  IsReasonOf : (j : ℕ) → k < j → IsOfCurrentLevel s j → IsReachedDownTo s f k (literal_at s j) → g ∈ names_of (literal_at s j) (node_at s j).reason →
+      IsInvolved s f k g
 
 -- The names are those of the clauses that are resolved down to the first unique implication point: all of them, each once, and no other.
 pub record ListsInvolved (s : View) (f : Conflict) (involved : List Conflict) : Type 0 where

@@ -44,8 +44,10 @@ pub record Marking : Type 0 where
   -- literals whose reasons are still to be looked at
   pub stack : List Literal
 
+-- what is in the scratch space, with these flags
 abbrev pub marking : {A : Type 0} → Scratch A → List Bool → Marking
-marking scratch flags = record { clause = scratch.clause.items; involved = scratch.involved.items; flags = flags; to_clean = scratch.to_clean.items; stack = scratch.stack.items }
+marking scratch flags =
+    record { clause = scratch.clause.items; involved = scratch.involved.items; flags = flags; to_clean = scratch.to_clean.items; stack = scratch.stack.items }
 
 -- no variable is marked, and no clause is begun
 pub record IsClean (x : Marking) : Type 0 where
@@ -77,7 +79,8 @@ pub data IsMarkOf (s : View) (i : ℕ) (x : Marking) (v : ℕ) : Type 0 where
   OfClause : (m : Literal) → m ∈ x.clause → variable_of m ≡ v → v ∈ x.to_clean → IsMarkOf s i x v
   OfCurrentLevel : (k : ℕ) → k < i → IsOfCurrentLevel s k → variable_of (literal_at s k) ≡ v → IsMarkOf s i x v
 
--- The clause's literals are false, of levels between 0 and the current one. The marked variables are theirs, which are listed, and some of the current level that stand before place i.
+-- The clause's literals are false, of levels between 0 and the current one. The marked variables are theirs, which are listed,
+-- and some of the current level that stand before place i.
 pub record Marks (s : View) (i : ℕ) (x : Marking) : Type 0 where
   pub lower : (m : Literal) → m ∈ x.clause → IsLower s m
   pub marked : (m : Literal) → m ∈ x.clause → IsFlagged x.flags (variable_of m)
@@ -85,6 +88,7 @@ pub record Marks (s : View) (i : ℕ) (x : Marking) : Type 0 where
   pub listed : (v : ℕ) → v ∈ x.to_clean → v < length s.nodes
   pub known : (v : ℕ) → IsFlagged x.flags v → IsMarkOf s i x v
 
+-- one where it holds, to count by
 abbrev pub one_if : Bool → ℕ
 one_if false = 0
 one_if true = 1
@@ -106,7 +110,8 @@ AreFalseBefore s i lits = (m : Literal) → m ∈ lits → StandsBefore s i (opp
 abbrev pub AreOfKept : View → List Literal → Type 0
 AreOfKept s lits = (m : Literal) → m ∈ lits → IsOfKept s m
 
--- False literals were marked, those above level 0 in so far as they weren't, and joined the clause where they are below the current level. As many as `count` of the current level are new.
+-- False literals were marked, those above level 0 in so far as they weren't, and joined the clause where they are below the
+-- current level. As many as `count` of the current level are new.
 pub record AddsMarks (s : View) (lits : List Literal) (count : ℕ) (x y : Marking) : Type 0 where
   pub more : (v : ℕ) → IsFlagged x.flags v → IsFlagged y.flags v
   pub only : (v : ℕ) → IsFlagged y.flags v → IsFlagged x.flags v ⊎ ((m : Literal) × (m ∈ lits) × (variable_of m ≡ v))

@@ -21,12 +21,14 @@ is_clause_at (reason.Long q) p = nat_eq q p
 -- The clause is the reason of its first literal, whose variable has a value.
 abbrev pub is_reason : List (Option Bool) → List ImplNode → StoredClause → Bool
 is_reason values nodes k =
-    is_some (slice_index_or values (variable_of (literal_in k.literals 0)) None) && is_clause_at (slice_index_or nodes (variable_of (literal_in k.literals 0)) no_node).reason k.place
+    is_some (slice_index_or values (variable_of (literal_in k.literals 0)) None) && is_clause_at
+    (slice_index_or nodes (variable_of (literal_in k.literals 0)) no_node).reason k.place
 
 -- A clause that is not deleted is marked exactly where it is a reason.
 abbrev pub reason_marked : List (Option Bool) → List ImplNode → StoredClause → StoredClause
 reason_marked values nodes k = if k.header.deleted then k else record k { header = record k.header { mark = is_reason values nodes k } }
 
+-- the clauses once each that is the reason of its first literal is marked
 abbrev pub reasons_marked : List (Option Bool) → List ImplNode → List StoredClause → List StoredClause
 reasons_marked values nodes ks = map (reason_marked values nodes) ks
 

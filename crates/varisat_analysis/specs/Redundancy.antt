@@ -14,7 +14,8 @@ IsImplied s x = (x ∈ s.trail) × (is_clause (node_of s x).reason ≡ true)
 -- a clause is the literal's reason, and its others are false at level 0 or marked
 abbrev pub IsReasoned : View → List Bool → Literal → Type 0
 IsReasoned s flags x =
-    (is_clause (node_of s x).reason ≡ true) × ((m : Literal) → m ∈ causes_of s.clauses (node_of s x).reason → (level_of s m ≡ 0) ⊎ IsFlagged flags (variable_of m))
+    (is_clause (node_of s x).reason ≡ true)
+    × ((m : Literal) → m ∈ causes_of s.clauses (node_of s x).reason → (level_of s m ≡ 0) ⊎ IsFlagged flags (variable_of m))
 
 -- how many flags are not set
 abbrev pub count_unmarked : List Bool → ℕ
@@ -33,7 +34,8 @@ pub record ListsNew (x y : Marking) : Type 0 where
   pub clause : y.clause ≡ x.clause
   pub involved : y.involved ≡ x.involved
 
--- Of false literals those above level 0 were marked, in so far as they weren't, and their opposites, which are implied, put on the stack; all of them where it was `done`.
+-- Of false literals those above level 0 were marked, in so far as they weren't, and their opposites, which are implied, put on
+-- the stack; all of them where it was `done`.
 pub record Explores (s : View) (lits : List Literal) (done : Bool) (x y : Marking) : Type 0 where
   pub list : ListsNew x y
   pub new : (v : ℕ) → IsFlagged y.flags v → IsFlagged x.flags v ⊎ ((l : Literal) × (l ∈ y.stack) × IsImplied s l × (variable_of l ≡ v))

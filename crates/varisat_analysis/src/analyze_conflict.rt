@@ -107,7 +107,8 @@ fn level_to_mark<A: Allocator + Copy>(
     requires falsified { opposite lit ∈ s.trail }
     ensures { MatchOption result
         ((level_of s lit ≡ 0) ⊎ (slice_index_or var_flags.now (variable_of lit) false ≡ true))
-        (λ level. (level ≡ level_of s lit) × (0 < level) × (slice_index_or var_flags.now (variable_of lit) false ≡ false) × (variable_of lit < length var_flags.now)) }
+        (λ level. (level ≡ level_of s lit) × (0 < level)
+        × (slice_index_or var_flags.now (variable_of lit) false ≡ false) × (variable_of lit < length var_flags.now)) }
 {
     // The flag first: it is one byte, and the level stands in a node of the graph, which is often not in the cache.
     if var_flags[lit.index()] {

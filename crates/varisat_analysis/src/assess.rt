@@ -65,7 +65,9 @@ fn improve_glue<A: Allocator + Copy>(
     cref: ClauseRef,
 ) -> Result<(), AllocError>
     requires { CanBump impl_graph.now.nodes.items alloc.old db.old flags.old cref }
-    ensures improved { OnOk result (HoldsClauses alloc.new (length alloc.old.words) (with_header (stored_clauses alloc.old) cref (improved (glue_of impl_graph.now.nodes.items (literals_at (stored_clauses alloc.old) cref)) (header_at (stored_clauses alloc.old) cref)))) }
+    ensures improved { OnOk result (HoldsClauses alloc.new (length alloc.old.words)
+        (with_header (stored_clauses alloc.old) cref
+        (improved (glue_of impl_graph.now.nodes.items (literals_at (stored_clauses alloc.old) cref)) (header_at (stored_clauses alloc.old) cref)))) }
     ensures refused { OnErr result (alloc.new ≡ alloc.old) }
     ensures refused_too { OnErr result (db.new ≡ db.old) }
     ensures flags { flags.new ≡ flags.old }
@@ -90,7 +92,8 @@ fn improve_glue<A: Allocator + Copy>(
 fn set_active<A: Allocator + Copy>(alloc: &mut ClauseAlloc<A>, cref: ClauseRef)
     requires sound { IsSound alloc.old }
     requires place { IsPlace (stored_clauses alloc.old) cref }
-    ensures { HoldsClauses alloc.new (length alloc.old.words) (with_header (stored_clauses alloc.old) cref (record (header_at (stored_clauses alloc.old) cref) { active = true })) }
+    ensures { HoldsClauses alloc.new (length alloc.old.words) (with_header (stored_clauses alloc.old) cref
+        (record (header_at (stored_clauses alloc.old) cref) { active = true })) }
 {
     let mut header = alloc.header(cref);
     header.set_active(true);
@@ -108,7 +111,8 @@ pub fn bump_clause<A: Allocator + Copy>(
     cref: ClauseRef,
 ) -> Result<(), AllocError>
     requires { CanBump impl_graph.now.nodes.items alloc.old db.old flags.old cref }
-    ensures bumped { OnOk result (HoldsClauses alloc.new (length alloc.old.words) (clause_bumped impl_graph.now.nodes.items cref (scored alloc.old activity.old)).clauses) }
+    ensures bumped { OnOk result (HoldsClauses alloc.new (length alloc.old.words)
+        (clause_bumped impl_graph.now.nodes.items cref (scored alloc.old activity.old)).clauses) }
     ensures scale { OnOk result (activity.new ≡ (clause_bumped impl_graph.now.nodes.items cref (scored alloc.old activity.old)).scale) }
     ensures refused { OnErr result (alloc.new ≡ alloc.old) }
     ensures refused_too { OnErr result (db.new ≡ db.old) }
@@ -134,7 +138,8 @@ pub fn bump_named<A: Allocator + Copy>(
     requires tracks { Tracks db.old alloc.old }
     requires named { (f : Conflict) → f ∈ names.now → NamesPlace (live_clauses alloc.old) f }
     requires count { CanCount impl_graph.now.nodes.items (literals_among (live_clauses alloc.old) names.now) flags.old }
-    ensures bumped { OnOk result (HoldsClauses alloc.new (length alloc.old.words) (clauses_bumped impl_graph.now.nodes.items names.now (scored alloc.old activity.old)).clauses) }
+    ensures bumped { OnOk result (HoldsClauses alloc.new (length alloc.old.words)
+        (clauses_bumped impl_graph.now.nodes.items names.now (scored alloc.old activity.old)).clauses) }
     ensures scale { OnOk result (activity.new ≡ (clauses_bumped impl_graph.now.nodes.items names.now (scored alloc.old activity.old)).scale) }
     ensures headers { SameButHeaders (live_clauses alloc.old) (live_clauses alloc.new) }
     ensures flags { flags.new ≡ flags.old }

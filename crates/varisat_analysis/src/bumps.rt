@@ -61,7 +61,8 @@ fn bump_clauses<A: Allocator + Copy>(
     names: &[Conflict],
 )
     requires { MayBumpNamed impl_graph.now.nodes.items clause_alloc.now names.now (bumping flags.old vsids.old) }
-    ensures bumps { BumpsNew impl_graph.now.nodes.items (literals_among (live_clauses clause_alloc.now) names.now) (bumping flags.old vsids.old) (bumping flags.new vsids.new) }
+    ensures bumps { BumpsNew impl_graph.now.nodes.items (literals_among (live_clauses clause_alloc.now) names.now) (bumping flags.old vsids.old)
+        (bumping flags.new vsids.new) }
     ensures count { length vsids.new.activity ≡ length vsids.old.activity }
 {
     for name in names {
@@ -108,7 +109,8 @@ pub fn bump_each_once<A: Allocator + Copy>(
 )
     requires may { MayBumpNamed impl_graph.now.nodes.items clause_alloc.now names.now (bumping flags.old vsids.old) }
     requires clear { (v : ℕ) → slice_index_or flags.old v false ≡ false }
-    ensures bumps { (vars : List ℕ) × AreVariablesAbove impl_graph.now.nodes.items (literals_among (live_clauses clause_alloc.now) names.now) vars × (vsids.new ≡ bumped_each vars vsids.old) }
+    ensures bumps { (vars : List ℕ) × AreVariablesAbove impl_graph.now.nodes.items (literals_among (live_clauses clause_alloc.now) names.now) vars
+        × (vsids.new ≡ bumped_each vars vsids.old) }
     ensures clear { (v : ℕ) → slice_index_or flags.new v false ≡ false }
     ensures count { length vsids.new.activity ≡ length vsids.old.activity }
 {

@@ -58,9 +58,12 @@ fn mark_reason<A: Allocator + Copy>(
 )
     requires sound { IsSound clause_alloc.old }
     requires place { IsPlace (stored_clauses clause_alloc.old) cref }
-    requires value { (stored_at (stored_clauses clause_alloc.old) cref).header.deleted ≡ false → variable_of (literal_in (stored_at (stored_clauses clause_alloc.old) cref).literals 0) < length assignment.now.current }
+    requires value { (stored_at (stored_clauses clause_alloc.old) cref).header.deleted ≡ false →
+        variable_of (literal_in (stored_at (stored_clauses clause_alloc.old) cref).literals 0) < length assignment.now.current }
     requires nodes { length impl_graph.now.nodes.items ≡ length assignment.now.current }
-    ensures marked { HoldsClauses clause_alloc.new (length clause_alloc.old.words) (with_stored (stored_clauses clause_alloc.old) cref (reason_marked assignment.now.current impl_graph.now.nodes.items (stored_at (stored_clauses clause_alloc.old) cref))) }
+    ensures marked { HoldsClauses clause_alloc.new (length clause_alloc.old.words)
+        (with_stored (stored_clauses clause_alloc.old) cref
+        (reason_marked assignment.now.current impl_graph.now.nodes.items (stored_at (stored_clauses clause_alloc.old) cref))) }
     ensures tracks { (d : Database) → Tracks d clause_alloc.old → Tracks d clause_alloc.new }
 {
     let mut header = clause_alloc.header(cref);
@@ -80,7 +83,8 @@ pub fn mark_reasons<A: Allocator + Copy>(
     requires sound { IsSound clause_alloc.old }
     requires values { (k : StoredClause) → k ∈ live_clauses clause_alloc.old → variable_of (literal_in k.literals 0) < length assignment.now.current }
     requires nodes { length impl_graph.now.nodes.items ≡ length assignment.now.current }
-    ensures marked { HoldsClauses clause_alloc.new (length clause_alloc.old.words) (reasons_marked assignment.now.current impl_graph.now.nodes.items (stored_clauses clause_alloc.old)) }
+    ensures marked { HoldsClauses clause_alloc.new (length clause_alloc.old.words)
+        (reasons_marked assignment.now.current impl_graph.now.nodes.items (stored_clauses clause_alloc.old)) }
     ensures tracks { (d : Database) → Tracks d clause_alloc.old → Tracks d clause_alloc.new }
 {
     'clauses: for index in 0..clause_alloc.len() {
@@ -101,7 +105,8 @@ fn repoint_reason<A: Allocator + Copy>(
     requires place { IsPlace (stored_clauses clause_alloc.now) cref }
     requires value { variable_of (literal_in (stored_at (stored_clauses clause_alloc.now) cref).literals 0) < length assignment.now.current }
     requires node { variable_of (literal_in (stored_at (stored_clauses clause_alloc.now) cref).literals 0) < length impl_graph.old.nodes.items }
-    ensures { impl_graph.new.nodes.items ≡ repointed assignment.now.current impl_graph.old.nodes.items (stored_at (stored_clauses clause_alloc.now) cref) new_cref }
+    ensures { impl_graph.new.nodes.items ≡ repointed assignment.now.current impl_graph.old.nodes.items
+        (stored_at (stored_clauses clause_alloc.now) cref) new_cref }
 {
     if is_reason_clause(assignment, clause_alloc, impl_graph, cref) {
         let var = first_var(clause_alloc, cref);
@@ -121,7 +126,8 @@ pub fn repoint_reasons<A: Allocator + Copy>(
     requires count { length (stored_clauses new_alloc.now) ≡ length (live_clauses clause_alloc.now) }
     requires values { (k : StoredClause) → k ∈ live_clauses clause_alloc.now → variable_of (literal_in k.literals 0) < length assignment.now.current }
     requires nodes { length impl_graph.old.nodes.items ≡ length assignment.now.current }
-    ensures { impl_graph.new.nodes.items ≡ repointed_each assignment.now.current (live_clauses clause_alloc.now) (stored_clauses new_alloc.now) impl_graph.old.nodes.items }
+    ensures { impl_graph.new.nodes.items ≡ repointed_each assignment.now.current (live_clauses clause_alloc.now)
+        (stored_clauses new_alloc.now) impl_graph.old.nodes.items }
 {
     let mut index = 0;
     for cref in clauses_iter(clause_alloc) {

@@ -30,6 +30,7 @@ pub record AreWithinClauseLimits (increment decay : ℕ) : Type 0 where
 abbrev pub with_activity : List StoredClause → ℕ → ℕ → List StoredClause
 with_activity ks p a = with_header ks p (record (header_at ks p) { activity = a })
 
+-- the clause with its activity divided by 2^16
 abbrev pub activity_shifted : StoredClause → StoredClause
 activity_shifted k = record k { header = record k.header { activity = k.header.activity / 2 ^ 16 } }
 
@@ -45,6 +46,7 @@ scale_shifted a = record a { increment = max least_clause_increment (a.increment
 abbrev pub clauses_rescaled : Bool → List StoredClause → List StoredClause
 clauses_rescaled full ks = if full then clauses_shifted ks else ks
 
+-- the increment is divided too where a number came to the limit
 abbrev pub scale_rescaled : Bool → ActivityScale → ActivityScale
 scale_rescaled full a = if full then scale_shifted a else a
 

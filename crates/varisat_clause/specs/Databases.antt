@@ -15,12 +15,14 @@ count_of Core c = c.core
 count_of Mid c = c.mid
 count_of Local c = c.local
 
+-- one clause more in the tier
 abbrev pub raised : Tier → TierCounts → TierCounts
 raised Irred c = record c { irred = c.irred + 1 }
 raised Core c = record c { core = c.core + 1 }
 raised Mid c = record c { mid = c.mid + 1 }
 raised Local c = record c { local = c.local + 1 }
 
+-- one clause less in the tier
 abbrev pub lowered : Tier → TierCounts → TierCounts
 lowered Irred c = record c { irred = c.irred - 1 }
 lowered Core c = record c { core = c.core - 1 }
@@ -34,9 +36,11 @@ pub record ListsByTier : Type 0 where
   pub mid : List ℕ
   pub local : List ℕ
 
+-- no clause in any list
 abbrev pub no_lists : ListsByTier
 no_lists = record { irred = []; core = []; mid = []; local = [] }
 
+-- the list of the tier
 abbrev pub tier_list : Tier → ListsByTier → List ℕ
 tier_list Irred l = l.irred
 tier_list Core l = l.core
@@ -61,9 +65,11 @@ pub record Database : Type 0 where
   pub garbage : ℕ
   pub lists : ListsByTier
 
+-- no clause of any tier
 abbrev pub no_counts : TierCounts
 no_counts = record { irred = 0; core = 0; mid = 0; local = 0 }
 
+-- before the first clause
 abbrev pub no_database : Database
 no_database = record { counts = no_counts; garbage = 0; lists = no_lists }
 
@@ -83,6 +89,7 @@ with_deleted t n d = record d { counts = lowered t d.counts; garbage = d.garbage
 abbrev pub is_live : StoredClause → Bool
 is_live k = not k.header.deleted
 
+-- the clause is of the tier and not deleted
 abbrev pub is_live_in : Tier → StoredClause → Bool
 is_live_in t k = is_live k && is_tier t k.header.tier
 

@@ -19,7 +19,8 @@ bit-back (suc zero) h = refl
 bit-back (suc (suc n)) h = absurd (omega arith)
 
 -- the flags that a header was read from
-pub flags-read : (f : ℕ) → f < 2 ^ 11 → tier_index (tier_of (f % 4)) + 4 * bit (nat_eq (f / 4 % 2) 1) + 8 * bit (nat_eq (f / 8 % 2) 1) + 16 * (f / 16 % 64) + 1024 * bit (nat_eq (f / 1024) 1) ≡ f
+pub flags-read : (f : ℕ) → f < 2 ^ 11 →
+    tier_index (tier_of (f % 4)) + 4 * bit (nat_eq (f / 4 % 2) 1) + 8 * bit (nat_eq (f / 8 % 2) 1) + 16 * (f / 16 % 64) + 1024 * bit (nat_eq (f / 1024) 1) ≡ f
 flags-read f h =
     let t = tier-back (f % 4) (omega arith) in
     let d = bit-back (f / 4 % 2) (omega arith) in
@@ -28,7 +29,8 @@ flags-read f h =
     rw (t, d, m, a) (omega arith)
 
 -- the words of a header are those that it was read from
-pub flags-back : (h : Inside) → h.flags < 2 ^ 11 → record { activity = h.activity; flags = flags_of (header_of_words h.activity h.flags h.len); len = h.len } ≡ h
+pub flags-back : (h : Inside) → h.flags < 2 ^ 11 →
+    record { activity = h.activity; flags = flags_of (header_of_words h.activity h.flags h.len); len = h.len } ≡ h
 flags-back h small = rw (flags-read h.flags small) refl
 
 -- the tier that is set is read back
@@ -38,6 +40,7 @@ tier-set Core f = let e : (f - f % 4 + 1) % 4 ≡ 1 = omega arith in ap tier_of 
 tier-set Mid f = let e : (f - f % 4 + 2) % 4 ≡ 2 = omega arith in ap tier_of e
 tier-set Local f = let e : (f - f % 4 + 3) % 4 ≡ 3 = omega arith in ap tier_of e
 
+-- a tier fits two bits
 pub tier-small : (t : Tier) → tier_index t < 4
 tier-small Irred = omega arith
 tier-small Core = omega arith

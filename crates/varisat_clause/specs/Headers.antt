@@ -14,6 +14,7 @@ pub record Header : Type 0 where
   pub active : Bool
   pub len : ℕ
 
+-- the header of a new clause without literals
 abbrev pub no_header : Header
 no_header = record { activity = 0; tier = Irred; deleted = false; mark = false; glue = 0; active = false; len = 0 }
 
@@ -30,6 +31,7 @@ header_of_words activity flags len = record {
   len = len;
 }
 
+-- a bit as a number
 abbrev pub bit : Bool → ℕ
 bit b = cond b 1 0
 

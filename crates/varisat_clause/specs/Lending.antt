@@ -7,5 +7,6 @@ use Rattle.varisat_clause.specs.contracts.alloc.ClauseAlloc.{the_row}
 use Rattle.varisat_clause.specs.Stores.{Store, put_words}
 
 module _ (A : RattleType) (alloc : Ghosts A.Denot) (s : MutBor Store) where
+  -- The store ends with what was written to the literals that were lent, which stand behind the three words of the header.
   abbrev pub lends_literals : ℕ → MutBor (List ℕ) → Fml
   lends_literals p r = Lends (the_row A alloc) (Array lit_row 0) s r (put_words s.now (p + 3))

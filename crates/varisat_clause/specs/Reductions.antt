@@ -87,8 +87,11 @@ pub record ReducesLocals (old new : Store) : Type 0 where
 
 -- A Mid clause that is active loses the flag, and one that is not becomes Local. Others stay.
 abbrev pub mid_reduced : StoredClause → StoredClause
-mid_reduced k = if is_live_in Mid k then (if k.header.active then record k { header = record k.header { active = false } } else record k { header = record k.header { tier = Local } }) else k
+mid_reduced k =
+    if is_live_in Mid k then (
+    if k.header.active then record k { header = record k.header { active = false } } else record k { header = record k.header { tier = Local } }) else k
 
+-- the clauses once the tier Mid is reduced
 abbrev pub mids_reduced : List StoredClause → List StoredClause
 mids_reduced ks = map mid_reduced ks
 

@@ -10,9 +10,11 @@ pub record ClauseShape : Type 0 where
   pub header : Header
   pub count : ℕ
 
+-- what is left of a clause without its literals
 abbrev pub shape_of : StoredClause → ClauseShape
 shape_of k = record { place = k.place; header = k.header; count = length k.literals }
 
+-- so it is with several
 abbrev pub shapes_of : List StoredClause → List ClauseShape
 shapes_of ks = map shape_of ks
 

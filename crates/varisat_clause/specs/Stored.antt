@@ -18,6 +18,7 @@ literals_of ks = map (λ k. k.literals) ks
 abbrev pub IsPlace : List StoredClause → ℕ → Type 0
 IsPlace ks p = (k : StoredClause) × (k ∈ ks) × (k.place ≡ p)
 
+-- what stands where there is no clause
 abbrev pub no_clause : StoredClause
 no_clause = record { place = 0; header = no_header; literals = [] }
 

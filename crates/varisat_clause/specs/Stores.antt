@@ -8,6 +8,7 @@ pub record Store : Type 0 where
   pub words : List ℕ
   pub places : List ℕ
 
+-- before the first clause
 abbrev pub no_store : Store
 no_store = record { words = []; places = [] }
 
@@ -48,10 +49,12 @@ pub record IsSound (s : Store) : Type 0 where
 abbrev pub lies : List ℕ → ℕ → ℕ → ℕ → Bool
 lies ws low high p = nat_le low p && nat_le 3 (len_at ws p) && nat_le (p + 3 + len_at ws p) high && nat_lt (slice_index ws (p + 1)) (2 ^ 11)
 
+-- the same as a test: clauses of these places stand one after another between two words
 abbrev pub fit : List ℕ → ℕ → ℕ → List ℕ → Bool
 fit ws low high [] = nat_le low high
 fit ws low high (p ∷ ps) = lies ws low high p && fit ws (p + 3 + len_at ws p) high ps
 
+-- the same as a test: all words are clauses or gaps, and fewer than 2^32
 abbrev pub is_sound : Store → Bool
 is_sound s = fit s.words 0 (length s.words) s.places && nat_lt (length s.words) (2 ^ 32)
 

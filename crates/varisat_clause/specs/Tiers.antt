@@ -17,5 +17,6 @@ tier_of (suc zero) = Core
 tier_of (suc (suc zero)) = Mid
 tier_of (suc (suc (suc n))) = Local
 
+-- whether two tiers are the same
 abbrev pub is_tier : Tier → Tier → Bool
 is_tier t u = nat_eq (tier_index t) (tier_index u)

@@ -136,9 +136,15 @@ pub fn bump_clause_activity<A: Allocator + Copy>(
 )
     requires sound { IsSound alloc.old }
     requires place { IsPlace (stored_clauses alloc.old) cref }
-    ensures raised { reaches_clause_limit ((header_at (stored_clauses alloc.old) cref).activity + activity.old.increment) ≡ false → HoldsClauses alloc.new (length alloc.old.words) (with_activity (stored_clauses alloc.old) cref ((header_at (stored_clauses alloc.old) cref).activity + activity.old.increment)) }
-    ensures shifted { reaches_clause_limit ((header_at (stored_clauses alloc.old) cref).activity + activity.old.increment) ≡ true → HoldsClauses alloc.new (length alloc.old.words) (with_activity (clauses_shifted (stored_clauses alloc.old)) cref (((header_at (stored_clauses alloc.old) cref).activity + activity.old.increment) / 2 ^ 16)) }
-    ensures scale { activity.new ≡ scale_rescaled (reaches_clause_limit ((header_at (stored_clauses alloc.old) cref).activity + activity.old.increment)) activity.old }
+    ensures raised { reaches_clause_limit ((header_at (stored_clauses alloc.old) cref).activity + activity.old.increment) ≡ false →
+        HoldsClauses alloc.new (length alloc.old.words)
+        (with_activity (stored_clauses alloc.old) cref ((header_at (stored_clauses alloc.old) cref).activity + activity.old.increment)) }
+    ensures shifted { reaches_clause_limit ((header_at (stored_clauses alloc.old) cref).activity + activity.old.increment) ≡ true →
+        HoldsClauses alloc.new (length alloc.old.words)
+        (with_activity (clauses_shifted (stored_clauses alloc.old)) cref
+        (((header_at (stored_clauses alloc.old) cref).activity + activity.old.increment) / 2 ^ 16)) }
+    ensures scale { activity.new ≡ scale_rescaled
+        (reaches_clause_limit ((header_at (stored_clauses alloc.old) cref).activity + activity.old.increment)) activity.old }
 {
     let increment = activity.increment();
     let value = alloc.header(cref).activity() as u64 + increment as u64;
@@ -158,8 +164,10 @@ pub fn decay_clause_activities<A: Allocator + Copy>(
     activity: &mut ClauseActivity,
 )
     requires { IsSound alloc.old }
-    ensures clauses { HoldsClauses alloc.new (length alloc.old.words) (clauses_rescaled (reaches_clause_limit (activity.old.increment * 1000 / activity.old.decay)) (stored_clauses alloc.old)) }
-    ensures scale { activity.new ≡ scale_rescaled (reaches_clause_limit (activity.old.increment * 1000 / activity.old.decay)) (record activity.old { increment = activity.old.increment * 1000 / activity.old.decay }) }
+    ensures clauses { HoldsClauses alloc.new (length alloc.old.words)
+        (clauses_rescaled (reaches_clause_limit (activity.old.increment * 1000 / activity.old.decay)) (stored_clauses alloc.old)) }
+    ensures scale { activity.new ≡ scale_rescaled (reaches_clause_limit (activity.old.increment * 1000 / activity.old.decay))
+        (record activity.old { increment = activity.old.increment * 1000 / activity.old.decay }) }
 {
     let increment = activity.decayed();
     if increment < ACTIVITY_LIMIT {

@@ -118,7 +118,8 @@ fn write_header(words: &mut [Lit], place: usize, header: ClauseHeader)
 /// Appends the header and the literals. Says whether there was memory for it; where not, nothing is changed.
 fn append<A: Allocator + Copy>(buffer: &mut Vec<Lit, A>, header: ClauseHeader, lits: &[Lit]) -> bool
     requires { length lits.now < 2 ^ 32 }
-    ensures items { buffer.new.items ≡ (if result then buffer.old.items ++ (header.activity ∷ flags_of header ∷ length lits.now ∷ lits.now) else buffer.old.items) }
+    ensures items { buffer.new.items ≡ (if result then buffer.old.items
+        ++ (header.activity ∷ flags_of header ∷ length lits.now ∷ lits.now) else buffer.old.items) }
     ensures flags { flags_of header < 2 ^ 11 }
     ensures back { header_of_words header.activity (flags_of header) header.len ≡ header }
 {
@@ -211,7 +212,8 @@ impl<A: Allocator + Copy> ClauseAlloc<A> {
     ) -> Result<ClauseRef, StoreError>
         requires long { 3 ≤ length lits.now }
         requires sound { IsSound self.old }
-        ensures added { IfOk result (λ cref. AddsStored self.old self.new (record { place = cref; header = record header { len = length lits.now }; literals = lits.now })) }
+        ensures added { IfOk result (λ cref. AddsStored self.old self.new
+            (record { place = cref; header = record header { len = length lits.now }; literals = lits.now })) }
         ensures room { IfOk result (λ cref. length self.old.words + 3 + length lits.now < 2 ^ 32) }
         ensures full { IfErr result (λ error. (error ≡ StoreError.Full) ↔ (2 ^ 32 ≤ length self.old.words + 3 + length lits.now)) }
         ensures refused { OnErr result (self.new ≡ self.old) }
@@ -270,7 +272,8 @@ impl<A: Allocator + Copy> ClauseAlloc<A> {
         requires place { IsPlace (stored_clauses self.old) cref }
         ensures* lends { sem 𝓛 (lends_literals A.row A.Allocator self.entry cref result) }
         ensures value { result.now ≡ literals_at (stored_clauses self.old) cref }
-        ensures alone { (ws : List ℕ) → length ws ≡ length result.now → HoldsClauses (put_words self.old (cref + 3) ws) (length self.old.words) (with_literals (stored_clauses self.old) cref ws) }
+        ensures alone { (ws : List ℕ) → length ws ≡ length result.now →
+            HoldsClauses (put_words self.old (cref + 3) ws) (length self.old.words) (with_literals (stored_clauses self.old) cref ws) }
     {
         let begin = cref.offset as usize + HEADER_LEN;
         let len = word(&self.buffer, cref.offset as usize + 2) as usize;
@@ -283,7 +286,8 @@ impl<A: Allocator + Copy> ClauseAlloc<A> {
         requires place { IsPlace (stored_clauses self.old) cref }
         requires first { first < length (literals_at (stored_clauses self.old) cref) }
         requires second { second < length (literals_at (stored_clauses self.old) cref) }
-        ensures { HoldsClauses self.new (length self.old.words) (with_literals (stored_clauses self.old) cref (swap (literals_at (stored_clauses self.old) cref) first second)) }
+        ensures { HoldsClauses self.new (length self.old.words)
+            (with_literals (stored_clauses self.old) cref (swap (literals_at (stored_clauses self.old) cref) first second)) }
     {
         let lits = self.lits_mut(cref);
         lits.swap(first, second);

@@ -119,7 +119,9 @@ impl<'a, A: Allocator + Copy> ClauseMut<'a, A> {
         requires place { IsPlace (stored_clauses self.old.alloc.now) self.old.cref }
         ensures* lends { sem 𝓛 (lends_of_clause A.row A.Allocator self.entry result) }
         ensures value { result.now ≡ literals_at (stored_clauses self.old.alloc.now) self.old.cref }
-        ensures alone { (ws : List ℕ) → length ws ≡ length result.now → HoldsClauses (put_words self.old.alloc.now (self.old.cref + 3) ws) (length self.old.alloc.now.words) (with_literals (stored_clauses self.old.alloc.now) self.old.cref ws) }
+        ensures alone { (ws : List ℕ) → length ws ≡ length result.now →
+            HoldsClauses (put_words self.old.alloc.now (self.old.cref + 3) ws) (length self.old.alloc.now.words)
+            (with_literals (stored_clauses self.old.alloc.now) self.old.cref ws) }
     {
         let cref = self.cref;
         let alloc = &mut *self.alloc;
@@ -144,7 +146,8 @@ impl<'a, A: Allocator + Copy> ClauseHeaderMut<'a, A> {
         requires length { header.len ≡ (header_at (stored_clauses self.old.alloc.now) self.old.cref).len }
         ensures same_reference { self.new.alloc.ghost_name ≡ self.old.alloc.ghost_name }
         ensures same_place { self.new.cref ≡ self.old.cref }
-        ensures changed { HoldsClauses self.new.alloc.now (length self.old.alloc.now.words) (with_header (stored_clauses self.old.alloc.now) self.old.cref header) }
+        ensures changed { HoldsClauses self.new.alloc.now (length self.old.alloc.now.words)
+            (with_header (stored_clauses self.old.alloc.now) self.old.cref header) }
     {
         let cref = self.cref;
         let alloc = &mut *self.alloc;
@@ -159,7 +162,8 @@ impl<'a, A: Allocator + Copy> ClauseHeaderMut<'a, A> {
         requires most { count ≤ (header_at (stored_clauses self.old.alloc.now) self.old.cref).len }
         ensures same_reference { self.new.alloc.ghost_name ≡ self.old.alloc.ghost_name }
         ensures same_place { self.new.cref ≡ self.old.cref }
-        ensures changed { HoldsClauses self.new.alloc.now (length self.old.alloc.now.words) (shortened (stored_clauses self.old.alloc.now) self.old.cref count) }
+        ensures changed { HoldsClauses self.new.alloc.now (length self.old.alloc.now.words)
+            (shortened (stored_clauses self.old.alloc.now) self.old.cref count) }
     {
         let cref = self.cref;
         let alloc = &mut *self.alloc;
@@ -172,7 +176,9 @@ impl<'a, A: Allocator + Copy> ClauseHeaderMut<'a, A> {
         requires place { IsPlace (stored_clauses self.old.alloc.now) self.old.cref }
         ensures same_reference { self.new.alloc.ghost_name ≡ self.old.alloc.ghost_name }
         ensures same_place { self.new.cref ≡ self.old.cref }
-        ensures changed { HoldsClauses self.new.alloc.now (length self.old.alloc.now.words) (with_header (stored_clauses self.old.alloc.now) self.old.cref (record (header_at (stored_clauses self.old.alloc.now) self.old.cref) { deleted = deleted })) }
+        ensures changed { HoldsClauses self.new.alloc.now (length self.old.alloc.now.words)
+            (with_header (stored_clauses self.old.alloc.now) self.old.cref
+            (record (header_at (stored_clauses self.old.alloc.now) self.old.cref) { deleted = deleted })) }
     {
         let mut header = self.header();
         header.set_deleted(deleted);
@@ -185,7 +191,9 @@ impl<'a, A: Allocator + Copy> ClauseHeaderMut<'a, A> {
         requires place { IsPlace (stored_clauses self.old.alloc.now) self.old.cref }
         ensures same_reference { self.new.alloc.ghost_name ≡ self.old.alloc.ghost_name }
         ensures same_place { self.new.cref ≡ self.old.cref }
-        ensures changed { HoldsClauses self.new.alloc.now (length self.old.alloc.now.words) (with_header (stored_clauses self.old.alloc.now) self.old.cref (record (header_at (stored_clauses self.old.alloc.now) self.old.cref) { tier = tier })) }
+        ensures changed { HoldsClauses self.new.alloc.now (length self.old.alloc.now.words)
+            (with_header (stored_clauses self.old.alloc.now) self.old.cref
+            (record (header_at (stored_clauses self.old.alloc.now) self.old.cref) { tier = tier })) }
     {
         let mut header = self.header();
         header.set_tier(tier);
@@ -198,7 +206,9 @@ impl<'a, A: Allocator + Copy> ClauseHeaderMut<'a, A> {
         requires place { IsPlace (stored_clauses self.old.alloc.now) self.old.cref }
         ensures same_reference { self.new.alloc.ghost_name ≡ self.old.alloc.ghost_name }
         ensures same_place { self.new.cref ≡ self.old.cref }
-        ensures changed { HoldsClauses self.new.alloc.now (length self.old.alloc.now.words) (with_header (stored_clauses self.old.alloc.now) self.old.cref (record (header_at (stored_clauses self.old.alloc.now) self.old.cref) { mark = mark })) }
+        ensures changed { HoldsClauses self.new.alloc.now (length self.old.alloc.now.words)
+            (with_header (stored_clauses self.old.alloc.now) self.old.cref
+            (record (header_at (stored_clauses self.old.alloc.now) self.old.cref) { mark = mark })) }
     {
         let mut header = self.header();
         header.set_mark(mark);
@@ -211,7 +221,9 @@ impl<'a, A: Allocator + Copy> ClauseHeaderMut<'a, A> {
         requires place { IsPlace (stored_clauses self.old.alloc.now) self.old.cref }
         ensures same_reference { self.new.alloc.ghost_name ≡ self.old.alloc.ghost_name }
         ensures same_place { self.new.cref ≡ self.old.cref }
-        ensures changed { HoldsClauses self.new.alloc.now (length self.old.alloc.now.words) (with_header (stored_clauses self.old.alloc.now) self.old.cref (record (header_at (stored_clauses self.old.alloc.now) self.old.cref) { active = active })) }
+        ensures changed { HoldsClauses self.new.alloc.now (length self.old.alloc.now.words)
+            (with_header (stored_clauses self.old.alloc.now) self.old.cref
+            (record (header_at (stored_clauses self.old.alloc.now) self.old.cref) { active = active })) }
     {
         let mut header = self.header();
         header.set_active(active);
@@ -224,7 +236,9 @@ impl<'a, A: Allocator + Copy> ClauseHeaderMut<'a, A> {
         requires place { IsPlace (stored_clauses self.old.alloc.now) self.old.cref }
         ensures same_reference { self.new.alloc.ghost_name ≡ self.old.alloc.ghost_name }
         ensures same_place { self.new.cref ≡ self.old.cref }
-        ensures changed { HoldsClauses self.new.alloc.now (length self.old.alloc.now.words) (with_header (stored_clauses self.old.alloc.now) self.old.cref (record (header_at (stored_clauses self.old.alloc.now) self.old.cref) { glue = min glue 63 })) }
+        ensures changed { HoldsClauses self.new.alloc.now (length self.old.alloc.now.words)
+            (with_header (stored_clauses self.old.alloc.now) self.old.cref
+            (record (header_at (stored_clauses self.old.alloc.now) self.old.cref) { glue = min glue 63 })) }
     {
         let mut header = self.header();
         header.set_glue(glue);
@@ -237,7 +251,9 @@ impl<'a, A: Allocator + Copy> ClauseHeaderMut<'a, A> {
         requires place { IsPlace (stored_clauses self.old.alloc.now) self.old.cref }
         ensures same_reference { self.new.alloc.ghost_name ≡ self.old.alloc.ghost_name }
         ensures same_place { self.new.cref ≡ self.old.cref }
-        ensures changed { HoldsClauses self.new.alloc.now (length self.old.alloc.now.words) (with_header (stored_clauses self.old.alloc.now) self.old.cref (record (header_at (stored_clauses self.old.alloc.now) self.old.cref) { activity = activity })) }
+        ensures changed { HoldsClauses self.new.alloc.now (length self.old.alloc.now.words)
+            (with_header (stored_clauses self.old.alloc.now) self.old.cref
+            (record (header_at (stored_clauses self.old.alloc.now) self.old.cref) { activity = activity })) }
     {
         let mut header = self.header();
         header.set_activity(activity);

@@ -26,7 +26,12 @@ fn copy_clause<A: Allocator + Copy>(
     requires sound { IsSound alloc.now }
     requires place { IsPlace (stored_clauses alloc.now) cref }
     requires tracks { Tracks new_db.old new_alloc.old }
-    ensures copied { OnOk result ((header_at (stored_clauses alloc.now) cref).deleted ≡ false → AddsStored new_alloc.old new_alloc.new (record { place = length new_alloc.old.words; header = record (header_at (stored_clauses alloc.now) cref) { mark = false }; literals = literals_at (stored_clauses alloc.now) cref })) }
+    ensures copied { OnOk result ((header_at (stored_clauses alloc.now) cref).deleted ≡ false →
+        AddsStored new_alloc.old new_alloc.new (record {
+          place = length new_alloc.old.words;
+          header = record (header_at (stored_clauses alloc.now) cref) { mark = false };
+          literals = literals_at (stored_clauses alloc.now) cref;
+        })) }
     ensures passed_over { (header_at (stored_clauses alloc.now) cref).deleted ≡ true → new_alloc.new ≡ new_alloc.old }
     ensures tracks { Tracks new_db.new new_alloc.new }
 {

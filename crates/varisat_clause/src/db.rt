@@ -247,7 +247,8 @@ pub fn add_clause<A: Allocator + Copy>(
     requires long { 3 ≤ length lits.now }
     requires live { header.deleted ≡ false }
     requires tracks { Tracks db.old alloc.old }
-    ensures added { IfOk result (λ cref. AddsStored alloc.old alloc.new (record { place = cref; header = record header { len = length lits.now }; literals = lits.now })) }
+    ensures added { IfOk result (λ cref. AddsStored alloc.old alloc.new
+        (record { place = cref; header = record header { len = length lits.now }; literals = lits.now })) }
     ensures noted { IfOk result (λ cref. db.new ≡ with_added header.tier cref db.old) }
     ensures room { IfOk result (λ cref. length alloc.old.words + 3 + length lits.now < 2 ^ 32) }
     ensures full { IfErr result (λ error. (error ≡ StoreError.Full) ↔ (2 ^ 32 ≤ length alloc.old.words + 3 + length lits.now)) }
@@ -270,7 +271,8 @@ pub fn set_clause_tier<A: Allocator + Copy>(
     requires place { IsPlace (stored_clauses alloc.old) cref }
     requires live { (header_at (stored_clauses alloc.old) cref).deleted ≡ false }
     requires tracks { Tracks db.old alloc.old }
-    ensures moved { OnOk result (HoldsClauses alloc.new (length alloc.old.words) (with_header (stored_clauses alloc.old) cref (record (header_at (stored_clauses alloc.old) cref) { tier = tier }))) }
+    ensures moved { OnOk result (HoldsClauses alloc.new (length alloc.old.words) (with_header (stored_clauses alloc.old) cref
+        (record (header_at (stored_clauses alloc.old) cref) { tier = tier }))) }
     ensures refused { OnErr result (alloc.new ≡ alloc.old) }
     ensures refused_too { OnErr result (db.new ≡ db.old) }
     ensures tracks { Tracks db.new alloc.new }
@@ -294,7 +296,8 @@ pub fn delete_clause<A: Allocator + Copy>(
     requires place { IsPlace (stored_clauses alloc.old) cref }
     requires live { (header_at (stored_clauses alloc.old) cref).deleted ≡ false }
     requires tracks { Tracks db.old alloc.old }
-    ensures deleted { HoldsClauses alloc.new (length alloc.old.words) (with_header (stored_clauses alloc.old) cref (record (header_at (stored_clauses alloc.old) cref) { deleted = true })) }
+    ensures deleted { HoldsClauses alloc.new (length alloc.old.words) (with_header (stored_clauses alloc.old) cref
+        (record (header_at (stored_clauses alloc.old) cref) { deleted = true })) }
     ensures noted { db.new ≡ with_deleted (header_at (stored_clauses alloc.old) cref).tier (length (literals_at (stored_clauses alloc.old) cref)) db.old }
     ensures tracks { Tracks db.new alloc.new }
 {
@@ -316,7 +319,8 @@ pub fn try_delete_clause<A: Allocator + Copy>(
     requires live { (header_at (stored_clauses alloc.old) cref).deleted ≡ false }
     requires tracks { Tracks db.old alloc.old }
     ensures deletes { result ≡ not is_reason }
-    ensures deleted { is_reason ≡ false → HoldsClauses alloc.new (length alloc.old.words) (with_header (stored_clauses alloc.old) cref (record (header_at (stored_clauses alloc.old) cref) { deleted = true })) }
+    ensures deleted { is_reason ≡ false → HoldsClauses alloc.new (length alloc.old.words) (with_header (stored_clauses alloc.old) cref
+        (record (header_at (stored_clauses alloc.old) cref) { deleted = true })) }
     ensures kept { is_reason ≡ true → alloc.new ≡ alloc.old }
     ensures kept_too { is_reason ≡ true → db.new ≡ db.old }
     ensures tracks { Tracks db.new alloc.new }

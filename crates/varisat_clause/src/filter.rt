@@ -29,7 +29,8 @@ pub trait ClauseFilter<A: Allocator + Copy> {
         requires live { (header_at (stored_clauses alloc.old) cref).deleted ≡ false }
         requires accepted { accepts self.old (stored_at (stored_clauses alloc.old) cref) }
         ensures altered { OnOk result (Alters alloc.old alloc.new cref) }
-        ensures left { IfOk result (λ stays. leaves self.old (stored_at (stored_clauses alloc.old) cref) (left_if stays (stored_at (stored_clauses alloc.new) cref)) self.new) }
+        ensures left { IfOk result (λ stays. leaves self.old (stored_at (stored_clauses alloc.old) cref)
+            (left_if stays (stored_at (stored_clauses alloc.new) cref)) self.new) }
         ensures accepts_more { OnOk result ((k : StoredClause) → accepts self.old k → accepts self.new k) }
         ensures refused { OnErr result (alloc.new ≡ alloc.old) };
 }

@@ -153,7 +153,8 @@ pub fn delete_unmarked<A: Allocator + Copy>(
 )
     requires tracks { Tracks db.old alloc.old }
     requires listed { ListsTier Tier.Local (stored_clauses alloc.old) list.now }
-    ensures deleted { HoldsClauses alloc.new (length alloc.old.words) (all_deleted (unmarked_places (stored_clauses alloc.old) count list.now) (stored_clauses alloc.old)) }
+    ensures deleted { HoldsClauses alloc.new (length alloc.old.words)
+        (all_deleted (unmarked_places (stored_clauses alloc.old) count list.now) (stored_clauses alloc.old)) }
     ensures tracks { Tracks db.new alloc.new }
 {
     let mut left = count;
@@ -194,7 +195,8 @@ fn reduce_mid<A: Allocator + Copy>(
 ) -> Result<(), AllocError>
     requires tracks { Tracks db.old alloc.old }
     requires place { IsPlace (stored_clauses alloc.old) cref }
-    ensures reduced { OnOk result (HoldsClauses alloc.new (length alloc.old.words) (with_stored (stored_clauses alloc.old) cref (mid_reduced (stored_at (stored_clauses alloc.old) cref)))) }
+    ensures reduced { OnOk result (HoldsClauses alloc.new (length alloc.old.words)
+        (with_stored (stored_clauses alloc.old) cref (mid_reduced (stored_at (stored_clauses alloc.old) cref)))) }
     ensures refused { OnErr result (alloc.new ≡ alloc.old) }
     ensures refused_too { OnErr result (db.new ≡ db.old) }
     ensures tracks { Tracks db.new alloc.new }

@@ -17,15 +17,18 @@ put true b pieces = [] ∷ pieces
 put false b [] = (b ∷ []) ∷ []
 put false b (piece ∷ pieces) = (b ∷ piece) ∷ pieces
 
+-- the bytes cut at each picked one, which is left out; no byte gives one empty piece
 abbrev pub split : (ℕ → Bool) → List ℕ → List (List ℕ)
 split picked [] = [] ∷ []
 split picked (b ∷ bs) = put (picked b) b (split picked bs)
 
+-- the pieces that have a byte
 abbrev pub nonempty : List (List ℕ) → List (List ℕ)
 nonempty [] = []
 nonempty ([] ∷ pieces) = nonempty pieces
 nonempty ((b ∷ bs) ∷ pieces) = (b ∷ bs) ∷ nonempty pieces
 
+-- all pieces but the last
 abbrev pub but_last : List (List ℕ) → List (List ℕ)
 but_last [] = []
 but_last (piece ∷ []) = []
@@ -35,6 +38,7 @@ but_last (piece ∷ next ∷ pieces) = piece ∷ but_last (next ∷ pieces)
 abbrev pub is_line_feed : ℕ → Bool
 is_line_feed b = b == 10
 
+-- a space, a tab, a carriage return or a line feed
 abbrev pub is_blank : ℕ → Bool
 is_blank b = (b == 32) || (b == 9) || (b == 13) || (b == 10)
 
@@ -51,10 +55,12 @@ tokens ended line = nonempty (ended_pieces ended (split is_blank line))
 abbrev pub is_digit : ℕ → Bool
 is_digit b = nat_le 48 b && nat_le b 57
 
+-- the number with further decimal digits, if all are digits
 abbrev pub digits_after : ℕ → List ℕ → Option ℕ
 digits_after n [] = Some n
 digits_after n (d ∷ ds) = if is_digit d then digits_after (10 * n + (d - 48)) ds else None
 
+-- a number in decimal: `0`, or digits of which the first is not 0
 abbrev pub number : List ℕ → Option ℕ
 number [] = None
 number (d ∷ []) = digits_after 0 (d ∷ [])
@@ -64,16 +70,19 @@ number (d ∷ e ∷ ds) = if d == 48 then None else digits_after 0 (d ∷ e ∷ 
 abbrev pub in_range : Bool → ℕ → Meaning
 in_range polarity n = if nat_lt variable_limit n then TooLarge else Literal (literal_of (n - 1) polarity)
 
+-- what a token without a minus means, by its number: `0` ends a clause
 abbrev pub positive : Option ℕ → Meaning
 positive None = Wrong
 positive (Some zero) = End
 positive (Some (suc n)) = in_range true (suc n)
 
+-- what a token with a minus means, by the number behind it: there is no `-0`
 abbrev pub negative : Option ℕ → Meaning
 negative None = Wrong
 negative (Some zero) = Wrong
 negative (Some (suc n)) = in_range false (suc n)
 
+-- what a token means
 abbrev pub meaning : List ℕ → Meaning
 meaning [] = Wrong
 meaning (b ∷ bs) = if b == 45 then negative (number bs) else positive (number (b ∷ bs))
@@ -82,11 +91,13 @@ meaning (b ∷ bs) = if b == 45 then negative (number bs) else positive (number 
 abbrev pub sized : ℕ → ℕ → Heading
 sized v c = if nat_lt variable_limit v then Oversized else Sized (record { vars = v; clauses = c })
 
+-- the header of these two numbers, if they are any: the count of clauses is below 2^64
 abbrev pub sizes : Option ℕ → Option ℕ → Heading
 sizes None c = Malformed
 sizes (Some v) None = Malformed
 sizes (Some v) (Some c) = if nat_lt c (2 ^ 64) then sized v c else Malformed
 
+-- what the tokens of a header line say: `p`, `cnf`, two numbers and nothing else
 abbrev pub header_of : List (List ℕ) → Heading
 header_of [] = Malformed
 header_of (p ∷ []) = Malformed
@@ -106,13 +117,16 @@ pub data Item : Type 0 where
   Header : ℕ → Heading → Item
   Token : ℕ → Meaning → Item
 
+-- a header counts once its line has ended
 abbrev pub header_items : Bool → ℕ → Heading → List Item
 header_items true n heading = Header n heading ∷ []
 header_items false n heading = []
 
+-- the tokens of a line with what they mean
 abbrev pub token_items : ℕ → List (List ℕ) → List Item
 token_items n ts = map (λ t. Token n (meaning t)) ts
 
+-- a line that begins with `c` is a comment, one that begins with `p` a header; any other has tokens of clauses
 abbrev pub line_items : Bool → ℕ → List ℕ → List Item
 line_items ended n [] = []
 line_items ended n (b ∷ bs) =
@@ -140,12 +154,15 @@ pub record Reading : Type 0 where
   pub highest : ℕ
   pub fault : Option DimacsError
 
+-- before the first item
 abbrev pub nothing : Reading
 nothing = record { clauses = []; begun = []; count = 0; header = None; highest = 0; fault = None }
 
+-- the same with a fault in the line
 abbrev pub failed : Reading → ℕ → DimacsErrorKind → Reading
 failed r n k = record r { fault = Some (record { line = n; kind = k }) }
 
+-- no clause is open
 abbrev pub is_none_open : List ℕ → Bool
 is_none_open [] = true
 is_none_open (l ∷ ls) = false
@@ -155,19 +172,26 @@ abbrev pub is_one_too_many : Option Sizes → List ℕ → ℕ → Bool
 is_one_too_many None begun count = false
 is_one_too_many (Some s) begun count = is_none_open begun && nat_le s.clauses count
 
+-- the number is above the count of variables that the header says
 abbrev pub is_above : Option Sizes → ℕ → Bool
 is_above None n = false
 is_above (Some s) n = nat_lt s.vars n
 
+-- what a token makes of the reading; of several faults the first here is told
 abbrev pub after_token : Reading → ℕ → Meaning → Reading
 after_token r n Wrong = failed r n UnexpectedInput
 after_token r n TooLarge = failed r n LiteralTooLarge
 after_token r n End =
-    if is_one_too_many r.header r.begun r.count then failed r n ClauseCount else record r { clauses = r.clauses ++ r.begun ∷ []; begun = []; count = next r.count }
+    if is_one_too_many r.header r.begun r.count then failed r n ClauseCount else record r {
+      clauses = r.clauses ++ r.begun ∷ [];
+      begun = [];
+      count = next r.count;
+    }
 after_token r n (Literal l) =
     if is_one_too_many r.header r.begun r.count then failed r n ClauseCount else (
     if is_above r.header (l / 2 + 1) then failed r n VarCount else record r { begun = r.begun ++ l ∷ []; highest = max r.highest (l / 2 + 1) })
 
+-- a header or a token of a clause came before
 abbrev pub is_started : Option Sizes → ℕ → List ℕ → Bool
 is_started header count begun = is_some header || nat_lt 0 count || not (is_none_open begun)
 
@@ -175,8 +199,10 @@ is_started header count begun = is_some header || nat_lt 0 count || not (is_none
 abbrev pub after_header : Reading → ℕ → Heading → Reading
 after_header r n Malformed = failed r n InvalidHeader
 after_header r n Oversized = if is_started r.header r.count r.begun then failed r n InvalidHeader else failed r n LiteralTooLarge
-after_header r n (Sized s) = if is_started r.header r.count r.begun then failed r n InvalidHeader else record r { header = Some s; highest = max r.highest s.vars }
+after_header r n (Sized s) =
+    if is_started r.header r.count r.begun then failed r n InvalidHeader else record r { header = Some s; highest = max r.highest s.vars }
 
+-- what an item makes of the reading
 abbrev pub after : Reading → Item → Reading
 after r (Header n heading) = after_header r n heading
 after r (Token n meaning) = after_token r n meaning
@@ -186,9 +212,11 @@ abbrev pub step_by : Option DimacsError → Reading → Item → Reading
 step_by None r item = after r item
 step_by (Some e) r item = r
 
+-- the same, but that nothing counts behind a fault
 abbrev pub step : Reading → Item → Reading
 step r item = step_by r.fault r item
 
+-- what items in turn make of the reading
 abbrev pub read : Reading → List Item → Reading
 read r [] = r
 read r (item ∷ rest) = read (step r item) rest
@@ -198,6 +226,7 @@ abbrev pub is_short : Option Sizes → ℕ → Bool
 is_short None count = false
 is_short (Some s) count = nat_lt count s.clauses
 
+-- what the end makes of it: an open clause is a fault, and then too few clauses
 abbrev pub at_end : Reading → ℕ → Reading
 at_end r n =
     if not (is_none_open r.begun) then failed r n UnterminatedClause else (
@@ -209,20 +238,24 @@ pub data Ending : Type 0 where
   GoesOn : Ending
   BreaksOff : DimacsErrorKind → Ending
 
+-- the text ends here
 abbrev pub is_whole : Ending → Bool
 is_whole Ends = true
 is_whole GoesOn = false
 is_whole (BreaksOff k) = false
 
+-- what the ending makes of it, where there is no fault yet
 abbrev pub close_by : Option DimacsError → Ending → Reading → ℕ → Reading
 close_by (Some e) ending r n = r
 close_by None Ends r n = at_end r n
 close_by None GoesOn r n = r
 close_by None (BreaksOff k) r n = failed r n k
 
+-- what the ending makes of it
 abbrev pub close : Ending → Reading → ℕ → Reading
 close ending r n = close_by r.fault ending r n
 
+-- the lines of a text
 abbrev pub lines : List ℕ → List (List ℕ)
 lines text = split is_line_feed text
 

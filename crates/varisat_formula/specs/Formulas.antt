@@ -7,6 +7,7 @@ pub record Formula : Type 0 where
   pub var_count : ℕ
   pub clauses : List Clause
 
+-- the empty formula
 abbrev pub no_clauses : Formula
 no_clauses = record { var_count = 0; clauses = [] }
 

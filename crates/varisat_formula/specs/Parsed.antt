@@ -50,7 +50,8 @@ pub data IsFaultOf (text : List ℕ) (e : DimacsError) (s t : Stand) : Type 0 wh
 pub record Parses (s : Stand) (r : Result Formula DimacsError) (t : Stand) : Type 0 where
   pub text : List ℕ
   pub reads : Reads s text t
-  pub formula : (f : Formula) → r ≡ Ok f → (f ≡ record { var_count = (dimacs text).highest; clauses = (dimacs text).clauses }) × ((dimacs text).fault ≡ None) × HasEnded t × (t.faults ≡ s.faults)
+  pub formula : (f : Formula) → r ≡ Ok f → (f ≡ record { var_count = (dimacs text).highest; clauses = (dimacs text).clauses })
+      × ((dimacs text).fault ≡ None) × HasEnded t × (t.faults ≡ s.faults)
   pub fault : (e : DimacsError) → r ≡ Err e → IsFaultOf text e s t
 
 -- how a source, a reader and a caller's function stand

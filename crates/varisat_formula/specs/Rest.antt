@@ -41,6 +41,7 @@ line_rest ended n Comment line = []
 line_rest ended n (Header h) line = header_items ended n (header_says (header_from h line))
 line_rest ended n (Plain w) line = plain_rest ended n w line
 
+-- the items of the rest of a text, the first line of it from a place on
 abbrev pub rest_items : Bool → ℕ → Place → List (List ℕ) → List Item
 rest_items ended n place [] = []
 rest_items ended n place (line ∷ []) = line_rest ended n place line
@@ -51,9 +52,11 @@ abbrev pub gives_from : Ending → Progress → List ℕ → Reading
 gives_from ending p rest =
     if p.over then p.reading else close ending (read p.reading (rest_items (is_whole ending) p.line p.place (lines rest))) (last_line p.line (lines rest))
 
+-- what a whole text gives whose rest this is
 abbrev pub dimacs_from : Progress → List ℕ → Reading
 dimacs_from p rest = gives_from Ends p rest
 
+-- what a text gives that may go on, whose rest so far this is
 abbrev pub so_far_from : Progress → List ℕ → Reading
 so_far_from p rest = gives_from GoesOn p rest
 
@@ -62,6 +65,7 @@ abbrev pub failing_by : Option DimacsError → ℕ → DimacsError
 failing_by None n = record { line = n; kind = Io }
 failing_by (Some e) n = e
 
+-- what is returned where the source fails: the first fault, or that, in the line that was reached
 abbrev pub failing : Progress → DimacsError
 failing p = failing_by p.reading.fault p.line
 

@@ -42,5 +42,6 @@ number_text n = signed_decimal n
 abbrev pub variable_text : ℕ → List ℕ
 variable_text v = number_text (variable_number v)
 
+-- a literal as its DIMACS number
 abbrev pub literal_text : Literal → List ℕ
 literal_text l = number_text (literal_number l)

@@ -34,7 +34,8 @@ module _ (A : RattleType) (alloc : Ghosts A.Denot) where
 
   -- the map between solver variables and global variables
   abbrev pub lends_solvers : MutBor VariableParts → VarBiMapMut A.Denot → Fml
-  lends_solvers s r = follows (the_row A alloc) (map_row A alloc) s.ghost_name r.map.ghost_name (λ w. record s.now { tables = record s.now.tables { solvers = turned w } })
+  lends_solvers s r =
+      follows (the_row A alloc) (map_row A alloc) s.ghost_name r.map.ghost_name (λ w. record s.now { tables = record s.now.tables { solvers = turned w } })
 
   -- what is kept of the global variable x
   abbrev pub lends_data : MutBor VariableParts → ℕ → MutBor VarData → Fml

@@ -10,6 +10,7 @@ pub record IsInverse (f g : ℕ → Option ℕ) : Type 0 where
   pub there : (x y : ℕ) → f x ≡ Some y → g y ≡ Some x
   pub back : (x y : ℕ) → g y ≡ Some x → f x ≡ Some y
 
+-- where the map leads on, if it came here
 abbrev pub onward : {X : Type 0} → Option ℕ → (ℕ → Option X) → Option X
 onward None g = None
 onward (Some y) g = g y

@@ -34,6 +34,7 @@ least_value ReduceMidsInterval = 1
 least_value LubyRestartIntervalScale = 1
 least_value MaxSteps = 0
 
+-- the greatest value of each setting
 abbrev pub greatest_value : ConfigField → ℕ
 greatest_value VsidsDecay = 999
 greatest_value ClauseActivityDecay = 999
@@ -62,8 +63,16 @@ field_text MaxSteps = codes "max_steps"
 -- an update that changes nothing, and one that changes one setting
 abbrev pub no_update : SolverConfigUpdate
 no_update =
-    record { vsids_decay = None; clause_activity_decay = None; reduce_locals_interval = None; reduce_mids_interval = None; luby_restart_interval_scale = None; max_steps = None }
+    record {
+      vsids_decay = None;
+      clause_activity_decay = None;
+      reduce_locals_interval = None;
+      reduce_mids_interval = None;
+      luby_restart_interval_scale = None;
+      max_steps = None;
+    }
 
+-- the update that sets this one alone
 abbrev pub update_of : ConfigField → ℕ → SolverConfigUpdate
 update_of VsidsDecay x = record no_update { vsids_decay = Some x }
 update_of ClauseActivityDecay x = record no_update { clause_activity_decay = Some x }
@@ -86,7 +95,10 @@ first_refused ((f, false) ∷ tests) = Some f
 -- The first setting that the update would put out of its range, in the order of the settings. The last one takes any value.
 abbrev pub first_bad : SolverConfigUpdate → Option ConfigField
 first_bad u =
-    first_refused ((VsidsDecay, may_take VsidsDecay u.vsids_decay) ∷ (ClauseActivityDecay, may_take ClauseActivityDecay u.clause_activity_decay) ∷ (ReduceLocalsInterval, may_take ReduceLocalsInterval u.reduce_locals_interval) ∷ (ReduceMidsInterval, may_take ReduceMidsInterval u.reduce_mids_interval) ∷ (LubyRestartIntervalScale, may_take LubyRestartIntervalScale u.luby_restart_interval_scale) ∷ [])
+    first_refused ((VsidsDecay, may_take VsidsDecay u.vsids_decay) ∷ (ClauseActivityDecay, may_take ClauseActivityDecay u.clause_activity_decay) ∷
+    (ReduceLocalsInterval, may_take ReduceLocalsInterval u.reduce_locals_interval) ∷
+    (ReduceMidsInterval, may_take ReduceMidsInterval u.reduce_mids_interval) ∷
+    (LubyRestartIntervalScale, may_take LubyRestartIntervalScale u.luby_restart_interval_scale) ∷ [])
 
 -- the settings that the update gives, and else the old ones
 abbrev pub updated_settings : Settings → SolverConfigUpdate → Settings

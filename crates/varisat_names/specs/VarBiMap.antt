@@ -9,6 +9,7 @@ pub record BiMap : Type 0 where
   pub forward : List (Option ℕ)
   pub backward : List (Option ℕ)
 
+-- nothing is mapped
 abbrev pub no_pairs : BiMap
 no_pairs = record { forward = []; backward = [] }
 

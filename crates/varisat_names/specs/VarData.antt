@@ -10,6 +10,7 @@ use Rattle.varisat_names.specs.declared.variables.data.SamplingMode.TheVariants 
 abbrev pub fresh : VarData
 fresh = record { sampling_mode = sampling.Sample; unit = None; isolated = true; assumed = false; deleted = false }
 
+-- what is kept of a variable that is not live and may be used again
 abbrev pub dead : VarData
 dead = record { sampling_mode = sampling.Hide; unit = None; isolated = true; assumed = false; deleted = true }
 

@@ -16,6 +16,7 @@ pub record Tables : Type 0 where
   pub solvers : BiMap
   pub kept : List VarData
 
+-- before the first name comes into use
 abbrev pub no_variables : Tables
 no_variables = record { users = no_pairs; solvers = no_pairs; kept = [] }
 
@@ -71,7 +72,8 @@ pub record IsHidden (old new : Tables) (u x : ℕ) : Type 0 where
   pub solvers : new.solvers ≡ old.solvers
   pub kept : IsKeptAs old.kept x (without_name (at old.solvers.forward x) (kept_at old.kept x)) new.kept
 
--- Nothing was hidden yet: the names below the watermark are in use, each with the global variable of the same number, all of these are live, and no solver variable below the watermark is free.
+-- Nothing was hidden yet: the names below the watermark are in use, each with the global variable of the same number, all of
+-- these are live, and no solver variable below the watermark is free.
 pub record IsNothingHidden (t : Tables) : Type 0 where
   pub users : (u : ℕ) → u < length t.users.forward → at t.users.forward u ≡ Some u
   pub count : length t.kept ≡ length t.users.forward

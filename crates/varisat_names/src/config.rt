@@ -31,11 +31,33 @@ impl Model for SolverConfig {
 
     ghost Value = { Settings };
 
-    ghost view = { λ c. record { vsids_decay = c.vsids_decay; clause_activity_decay = c.clause_activity_decay; reduce_locals_interval = c.reduce_locals_interval; reduce_mids_interval = c.reduce_mids_interval; luby_restart_interval_scale = c.luby_restart_interval_scale; max_steps = c.max_steps } };
+    ghost view = { λ c. record {
+      vsids_decay = c.vsids_decay;
+      clause_activity_decay = c.clause_activity_decay;
+      reduce_locals_interval = c.reduce_locals_interval;
+      reduce_mids_interval = c.reduce_mids_interval;
+      luby_restart_interval_scale = c.luby_restart_interval_scale;
+      max_steps = c.max_steps;
+    } };
 
-    ghost inverse = { λ s. record { vsids_decay = s.vsids_decay; clause_activity_decay = s.clause_activity_decay; reduce_locals_interval = s.reduce_locals_interval; reduce_mids_interval = s.reduce_mids_interval; luby_restart_interval_scale = s.luby_restart_interval_scale; max_steps = s.max_steps } };
+    ghost inverse = { λ s. record {
+      vsids_decay = s.vsids_decay;
+      clause_activity_decay = s.clause_activity_decay;
+      reduce_locals_interval = s.reduce_locals_interval;
+      reduce_mids_interval = s.reduce_mids_interval;
+      luby_restart_interval_scale = s.luby_restart_interval_scale;
+      max_steps = s.max_steps;
+    } };
 
-    ghost invariant = { λ c. AreSettingsInRange (record { vsids_decay = c.vsids_decay; clause_activity_decay = c.clause_activity_decay; reduce_locals_interval = c.reduce_locals_interval; reduce_mids_interval = c.reduce_mids_interval; luby_restart_interval_scale = c.luby_restart_interval_scale; max_steps = c.max_steps }) };
+    ghost invariant = { λ c. AreSettingsInRange
+        (record {
+          vsids_decay = c.vsids_decay;
+          clause_activity_decay = c.clause_activity_decay;
+          reduce_locals_interval = c.reduce_locals_interval;
+          reduce_mids_interval = c.reduce_mids_interval;
+          luby_restart_interval_scale = c.luby_restart_interval_scale;
+          max_steps = c.max_steps;
+        }) };
 }
 
 /// Which settings to change, and to what. The settings for which there is no value stay.

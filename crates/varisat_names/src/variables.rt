@@ -42,7 +42,10 @@ impl<A: Allocator + Copy> Model for Variables<A> {
 
     ghost Value = { VariableParts };
 
-    ghost view = { λ v. record { tables = record { users = v.users.pairs; solvers = turned v.solvers.pairs; kept = v.globals.kept }; free = record { users = v.users.free; solvers = v.solvers.free; globals = v.globals.free } } };
+    ghost view = { λ v. record {
+      tables = record { users = v.users.pairs; solvers = turned v.solvers.pairs; kept = v.globals.kept };
+      free = record { users = v.users.free; solvers = v.solvers.free; globals = v.globals.free };
+    } };
 }
 
 impl<A: Allocator + Copy> Variables<A> {

@@ -45,7 +45,8 @@ abbrev pub IsWrong : List Clause → Line → Type 0
 IsWrong Q (Add c) = Follows Q c → ⊥
 IsWrong Q (Delete c) = IsAbsent Q c
 
--- Line number `number`, counted from 1, is the first wrong one: the lines before it are a derivation that does not refute, and where they leave off it is wrong.
+-- Line number `number`, counted from 1, is the first wrong one: the lines before it are a derivation that does not refute, and
+-- where they leave off it is wrong.
 pub record IsFirstWrong (P : List Clause) (lines : List Line) (number : ℕ) (line : Line) : Type 0 where
   pub front : List Line
   pub back : List Line

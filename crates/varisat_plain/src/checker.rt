@@ -61,7 +61,8 @@ fn is_same_set(one: &[u32], other: &[u32]) -> bool
 
 /// The place of a present clause that is equal as a set.
 fn place_of(present: &[Vec<u32>], clause: &[u32]) -> Option<usize>
-    ensures { MatchOption result (IsAbsent (clause_lists present.now) clause.now) (λ i. (i < length present.now) × SameSet (slice_index_or (clause_lists present.now) i []) clause.now) }
+    ensures { MatchOption result (IsAbsent (clause_lists present.now) clause.now) (λ i. (i < length present.now)
+        × SameSet (slice_index_or (clause_lists present.now) i []) clause.now) }
 {
     for (i, held) in present.iter().enumerate() {
         if is_same_set(held, clause) {

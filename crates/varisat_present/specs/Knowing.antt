@@ -74,4 +74,5 @@ pub record Passes (P : List Clause) (old : List Literal) (found : Bool) (new : L
 -- The clause may leave P without a change to what is implied: two different literals of it are not false, or it leaves one that is a clause of P.
 abbrev pub IsSpare : List Clause → List Literal → Clause → Type 0
 IsSpare P known c =
-    ((l m : Literal) × (l ∈ c) × (m ∈ c) × (l ≢ m) × (opposite l ∈ known → ⊥) × (opposite m ∈ known → ⊥)) ⊎ ((l : Literal) × (d : Clause) × (l ∈ c) × (opposite l ∈ known → ⊥) × (d ∈ P) × IsUnit l d)
+    ((l m : Literal) × (l ∈ c) × (m ∈ c) × (l ≢ m) × (opposite l ∈ known → ⊥) × (opposite m ∈ known → ⊥))
+    ⊎ ((l : Literal) × (d : Clause) × (l ∈ c) × (opposite l ∈ known → ⊥) × (d ∈ P) × IsUnit l d)

@@ -102,6 +102,7 @@ pub record CheckerStanding : Type 0 where
   pub checker : CheckerState
   pub source : Stand
 
+-- both together
 abbrev pub standing_of : CheckerState → Stand → CheckerStanding
 standing_of checker source = record { checker = checker; source = source }
 

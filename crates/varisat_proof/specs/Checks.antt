@@ -39,6 +39,7 @@ abbrev pub StandsBy : Bool → ProofState → List ProofLine → ProofState → 
 StandsBy true s lines t steps = HasRefuted s lines t
 StandsBy false s lines t steps = Goes s lines t × (Conflicts t.present [] → ⊥) × (steps ≡ step_number (length lines))
 
+-- The lines were taken, or, once propagation conflicted, only read; and they were counted.
 abbrev pub StandsAfterLines : ProofState → List ProofLine → ProofState → Count → Type 0
 StandsAfterLines s lines t count = StandsBy count.refuted s lines t count.steps
 
@@ -52,6 +53,7 @@ pub record LastIsWrong (s : ProofState) (lines : List ProofLine) (status : LineS
   pub wrong : IsWrongBy t line status
   pub numbered : step ≡ step_number (suc (length front))
 
+-- The error tells what is wrong with the last line; where memory ran out nothing is told of it.
 abbrev pub IsWrongLast : ProofState → List ProofLine → CheckerError → ProofState → Type 0
 IsWrongLast s lines (CheckFailed step) t = LastIsWrong s lines Unproved step t
 IsWrongLast s lines (NoSuchClause step) t = LastIsWrong s lines Absent step t
@@ -106,12 +108,14 @@ ChecksLine old line number (Err (NoSuchClause step)) new = ((c : Clause) × (lin
 ChecksLine old line number (Err OutOfMemory) new = new.spent ≡ true
 ChecksLine old line number (Err error) new = ⊥
 
+-- What checking unit clauses one after another returns: they follow, or the first that does not is told.
 abbrev pub ChecksUnits : CheckerState → List Literal → Result (Unit {0}) CheckerError → CheckerState → Type 0
 ChecksUnits old units (Ok u) new = Derives old.clauses (unit_lines units) new.clauses × (new.spent ≡ false)
 ChecksUnits old units (Err (CheckFailed step)) new = ((c : Clause) × FailsAt old.clauses (unit_lines units) step (Add c) new.clauses) × (new.spent ≡ false)
 ChecksUnits old units (Err OutOfMemory) new = new.spent ≡ true
 ChecksUnits old units (Err error) new = ⊥
 
+-- What checking a core returns: whether propagation from it conflicts. It is not kept.
 abbrev pub ChecksCore : CheckerState → List Literal → Result (Unit {0}) CheckerError → CheckerState → Type 0
 ChecksCore old core (Ok u) new = Conflicts old.clauses core × (new ≡ old)
 ChecksCore old core (Err (CheckFailed step)) new = (Conflicts old.clauses core → ⊥) × (step ≡ 1) × (new ≡ old)

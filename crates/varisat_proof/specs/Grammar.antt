@@ -17,6 +17,7 @@ abbrev pub is_kind : Option LineKind → Bool
 is_kind None = false
 is_kind (Some kind) = true
 
+-- a token of a text as the number that its binary line would have: 0 ends the line, a literal is its code and 2
 abbrev pub meant : Meaning → Symbol
 meant End = Number 0
 meant (Literal l) = Number (l + 2)
@@ -34,6 +35,7 @@ abbrev pub value_of : List ℕ → ℕ
 value_of [] = 0
 value_of (b ∷ bs) = b % 128 + 128 * value_of bs
 
+-- no byte
 abbrev pub is_none : List ℕ → Bool
 is_none [] = true
 is_none (b ∷ bs) = false
@@ -48,6 +50,7 @@ pub record Token : Type 0 where
   pub at : ℕ
   pub symbol : Symbol
 
+-- the token of these bytes, if there are any
 abbrev pub text_token : Bool → ℕ → List ℕ → List Token
 text_token marked start [] = []
 text_token marked start (b ∷ bs) = record { at = start; symbol = text_symbol marked (b ∷ bs) } ∷ []
@@ -58,6 +61,7 @@ text_tokens marked at start word [] = text_token marked start word
 text_tokens marked at start word (b ∷ bs) =
     if is_blank b then text_token marked start word ++ text_tokens marked (next at) (next at) [] bs else text_tokens marked (next at) start (word ++ b ∷ []) bs
 
+-- a token of these bytes that the end cut off, if there are any
 abbrev pub cut_token : ℕ → List ℕ → List Token
 cut_token start [] = []
 cut_token start (b ∷ bs) = record { at = start; symbol = Cut } ∷ []
@@ -66,16 +70,19 @@ cut_token start (b ∷ bs) = record { at = start; symbol = Cut } ∷ []
 abbrev pub ends_number : List ℕ → ℕ → Bool
 ends_number front b = nat_lt b 128 || length front == 4
 
+-- the tokens of binary bytes, behind those of an open number
 abbrev pub binary_tokens : ℕ → ℕ → List ℕ → List ℕ → List Token
 binary_tokens at start front [] = cut_token start front
 binary_tokens at start front (b ∷ bs) =
     if ends_number front b then record { at = start; symbol = binary_symbol front b } ∷ binary_tokens (next at) (next at) [] bs else binary_tokens
     (next at) start (front ++ b ∷ []) bs
 
+-- the tokens of a proof
 abbrev pub tokens : Encoding → List ℕ → List Token
 tokens (Text marked) bytes = text_tokens marked 0 0 [] bytes
 tokens Binary bytes = binary_tokens 0 0 [] bytes
 
+-- what the tokens say, without where they stand
 abbrev pub symbols : List Token → List Symbol
 symbols us = map (λ u. u.symbol) us
 
@@ -98,6 +105,7 @@ mark_symbols Binary kind = Number (letter kind) ∷ []
 abbrev pub begun_symbols : Encoding → ProofLine → List Symbol
 begun_symbols encoding line = mark_symbols encoding line.kind ++ literal_symbols line.clause
 
+-- what a whole line says, with its end
 abbrev pub line_symbols : Encoding → ProofLine → List Symbol
 line_symbols encoding line = begun_symbols encoding line ++ Number 0 ∷ []
 

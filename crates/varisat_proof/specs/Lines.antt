@@ -14,6 +14,7 @@ pub record ProofLine : Type 0 where
   pub kind : LineKind
   pub clause : Clause
 
+-- a line of the kind
 abbrev pub line_of_kind : LineKind → Clause → ProofLine
 line_of_kind kind c = record { kind = kind; clause = c }
 
@@ -22,6 +23,7 @@ abbrev pub plain_line : Line → ProofLine
 plain_line (Add c) = line_of_kind Adds c
 plain_line (Delete c) = line_of_kind Deletes c
 
+-- the lines of a derivation as lines of a proof
 abbrev pub plain_lines : List Line → List ProofLine
 plain_lines lines = map plain_line lines
 
@@ -44,6 +46,7 @@ has_kind e Deletes = true
 has_kind (Text marked) kind = marked
 has_kind Binary kind = false
 
+-- there are lines of all these kinds in the format
 abbrev pub HasKinds : Encoding → List ProofLine → Type 0
 HasKinds e [] = Unit {0}
 HasKinds e (line ∷ lines) = (has_kind e line.kind ≡ true) × HasKinds e lines

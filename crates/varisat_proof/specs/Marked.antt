@@ -25,6 +25,7 @@ pub record MarkedTold : Type 0 where
   pub inputs : Formula
   pub cores : List (ℕ × List Literal)
 
+-- before the first line
 abbrev pub nothing_told : MarkedTold
 nothing_told = record { assumed = []; inputs = no_clauses; cores = [] }
 
@@ -33,6 +34,7 @@ pub record ProofState : Type 0 where
   pub present : List Clause
   pub told : MarkedTold
 
+-- both together
 abbrev pub state_of : List Clause → MarkedTold → ProofState
 state_of present told = record { present = present; told = told }
 
@@ -47,6 +49,7 @@ TakesKind s Fails ls t =
     (ls ⊆ s.told.assumed) × Conflicts s.present ls
     × (t ≡ state_of s.present (record s.told { cores = s.told.cores ++ (length s.told.inputs.clauses, ls) ∷ [] }))
 
+-- the line is right, and leads from one state to the other
 abbrev pub Takes : ProofState → ProofLine → ProofState → Type 0
 Takes s line t = TakesKind s line.kind line.clause t
 
@@ -58,6 +61,7 @@ IsWrongKind s Fails ls Unassumed = ls ⊆ s.told.assumed → ⊥
 IsWrongKind s Fails ls Unproved = (ls ⊆ s.told.assumed) × (Conflicts s.present ls → ⊥)
 IsWrongKind s kind c status = ⊥
 
+-- the line is wrong, and in this way
 abbrev pub IsWrongBy : ProofState → ProofLine → LineStatus → Type 0
 IsWrongBy s line status = IsWrongKind s line.kind line.clause status
 

@@ -10,5 +10,6 @@ abbrev pub BytesMean : Encoding → List ℕ → List ProofLine → Option ℕ �
 BytesMean encoding bytes lines None = Accepted encoding lines bytes
 BytesMean encoding bytes lines (Some offset) = Faulty encoding lines bytes offset
 
+-- the same, with the lines and the fault together
 abbrev pub Means : Encoding → List ℕ → Parsed → Type 0
 Means encoding bytes parsed = BytesMean encoding bytes parsed.lines parsed.fault

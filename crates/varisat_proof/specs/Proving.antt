@@ -25,6 +25,7 @@ pub record ProofParts : Type 0 where
   pub opened : Option OpenState
   pub checker : Option CheckerState
 
+-- whether there is one
 abbrev pub is_there : {X : Type 0} → Option X → Bool
 is_there None = false
 is_there (Some x) = true
@@ -53,6 +54,7 @@ IsWrittenIf None lines new = new ≡ None
 IsWrittenIf (Some old) lines None = ⊥
 IsWrittenIf (Some old) lines (Some new) = IsWritten old (lines (encoding_of old.format)) new
 
+-- so it is where a proof is open; else nothing is written
 abbrev pub IsBegunIf : Option OpenState → (Encoding → List ProofLine) → ℕ → Option OpenState → Type 0
 IsBegunIf None lines more new = (new ≡ None) × (more ≡ 0)
 IsBegunIf (Some old) lines more None = ⊥

@@ -19,6 +19,7 @@ step_lines (DeleteClause c) = Delete c.now ∷ []
 step_lines (DeleteVar v) = []
 step_lines (FailedAssumptions core) = []
 
+-- the bytes of lines
 abbrev pub lines_written : Encoding → List ProofLine → List ℕ
 lines_written encoding lines = flat_map (line_written encoding) lines
 

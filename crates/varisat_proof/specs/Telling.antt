@@ -26,5 +26,6 @@ entry_lines e (Leaves v) = []
 abbrev pub lines_told : Encoding → List Entry → List ProofLine
 lines_told e entries = flat_map (entry_lines e) entries
 
+-- the bytes of the lines that the format has for the entries
 abbrev pub bytes_told : ProofFormat → List Entry → List ℕ
 bytes_told format entries = lines_written (encoding_of format) (lines_told (encoding_of format) entries)

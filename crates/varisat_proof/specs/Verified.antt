@@ -42,6 +42,7 @@ pub record Sources : Type 0 where
   pub cnf : Stand
   pub proof : Stand
 
+-- both together
 abbrev pub sources_of : Stand → Stand → Sources
 sources_of cnf proof = record { cnf = cnf; proof = proof }
 
@@ -95,6 +96,7 @@ abbrev pub verdict_text : Bool → List ℕ
 verdict_text true = codes "s VERIFIED\n"
 verdict_text false = codes "s NOT VERIFIED\n"
 
+-- the status of the program for a verdict: 0 where the proof refutes
 abbrev pub verdict_status : Bool → ℕ
 verdict_status true = 0
 verdict_status false = 1

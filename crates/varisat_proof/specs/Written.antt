@@ -14,6 +14,7 @@ abbrev pub mark_text : LineKind → List ℕ
 mark_text Adds = []
 mark_text kind = letter kind ∷ 32 ∷ []
 
+-- a line as text: its mark, each number with a space behind it, `0` and a line feed
 abbrev pub line_text : ProofLine → List ℕ
 line_text line = mark_text line.kind ++ (spaced_literals line.clause ++ 48 ∷ 10 ∷ [])
 
@@ -26,6 +27,7 @@ leb128_by (suc k) n = if nat_lt n 128 then n ∷ [] else (128 + n % 128) ∷ leb
 unfoldable pub leb128 : ℕ → List ℕ
 leb128 n = leb128_by 4 n
 
+-- each literal as the number that is its code and 2
 abbrev pub codes_bytes : Clause → List ℕ
 codes_bytes [] = []
 codes_bytes (l ∷ ls) = leb128 (l + 2) ++ codes_bytes ls
@@ -34,6 +36,7 @@ codes_bytes (l ∷ ls) = leb128 (l + 2) ++ codes_bytes ls
 abbrev pub line_bytes : ProofLine → List ℕ
 line_bytes line = letter line.kind ∷ (codes_bytes line.clause ++ 0 ∷ [])
 
+-- what is written for a line
 abbrev pub line_written : Encoding → ProofLine → List ℕ
 line_written (Text marked) line = line_text line
 line_written Binary line = line_bytes line

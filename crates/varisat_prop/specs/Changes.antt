@@ -55,7 +55,11 @@ IsAssignable values nodes l = (variable_of l < length values) × (variable_of l 
 -- the literal is true, at the current level and for the reason
 abbrev pub enqueued : View → Literal → Reason → View
 enqueued s l r =
-    record s { values = slice_set s.values (variable_of l) (Some (polarity_of l)); trail = s.trail ++ l ∷ []; nodes = slice_set s.nodes (variable_of l) (record { reason = r; level = length s.decisions; depth = suc (length s.trail) }) }
+    record s {
+      values = slice_set s.values (variable_of l) (Some (polarity_of l));
+      trail = s.trail ++ l ∷ [];
+      nodes = slice_set s.nodes (variable_of l) (record { reason = r; level = length s.decisions; depth = suc (length s.trail) });
+    }
 
 -- the literal is decided, and is still to be propagated
 abbrev pub decided_on : View → Literal → View

@@ -13,9 +13,11 @@ use Rattle.varisat_prop.specs.declared.prop.watch.Watch.{Watch}
 use Rattle.varisat_prop.specs.Watches.{Watches, with_watches}
 
 module _ (A : RattleType) (alloc : Ghosts A.Denot) (s : MutBor Watches) where
+  -- The lists of watches end with what was made of the one that was lent.
   abbrev pub lends_list : Literal → MutBor (Vec Watch A.Denot) → Fml
   lends_list x r = Lends (watchlists_row A alloc) (vec.the_row watch_row A alloc) s r (λ v. with_watches s.now x v.items)
 
 module _ (A : RattleType) (alloc : Ghosts A.Denot) (s : MutBor (List (List Literal))) where
+  -- The lists of implied literals end with what was made of the one that was lent.
   abbrev pub lends_implied : Literal → MutBor (Vec Literal A.Denot) → Fml
   lends_implied x r = Lends (binary_row A alloc) (vec.the_row lit_row A alloc) s r (λ v. slice_set s.now x v.items)

@@ -5,7 +5,8 @@ use Rattle.varisat_theory.specs.Literals.{Literal, Clause, opposite, variable_of
 use Rattle.varisat_prop.specs.Parts.{IsMadeTrue}
 use Rattle.varisat_prop.specs.View.{View, WellFormed, GrowsTrail}
 
--- The search went on without a decision. Each literal that was added has its reason, since the view is well formed; the queue's head does not fall, since the view grows.
+-- The search went on without a decision. Each literal that was added has its reason, since the view is well formed; the queue's
+-- head does not fall, since the view grows.
 pub record Propagates (s t : View) : Type 0 where
   pub well : WellFormed t
   pub grows : GrowsTrail s t

@@ -10,6 +10,7 @@ pub record Values : Type 0 where
   pub current : List (Option Bool)
   pub last : List Bool
 
+-- no variable
 abbrev pub no_values : Values
 no_values = record { current = []; last = [] }
 
@@ -25,6 +26,7 @@ value_in values l = option_map (λ b. beq b (polarity_of l)) (slice_index_or val
 abbrev pub TellsFalse : List (Option Bool) → List Bool → Type 0
 TellsFalse values flags = (l : Literal) → slice_index_or flags l false ≡ option_eq beq (value_in values l) (Some false)
 
+-- the variable has a value, and is true
 abbrev pub is_true_value : Option Bool → Bool
 is_true_value None = false
 is_true_value (Some b) = b
@@ -36,6 +38,7 @@ pub record TrailParts : Type 0 where
   pub decisions : List ℕ
   pub units_removed : ℕ
 
+-- before the first literal
 abbrev pub empty_trail : TrailParts
 empty_trail = record { literals = []; queue_head = 0; decisions = []; units_removed = 0 }
 

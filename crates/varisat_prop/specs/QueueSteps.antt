@@ -28,12 +28,23 @@ pub record SearchParts : Type 0 where
   pub trail : TrailParts
   pub nodes : List ImplNode
 
+-- all of them together
 abbrev pub parts_of : {A : Type 0} → Store → List (List Literal) → Values → TrailParts → ImplGraph A → SearchParts
 parts_of store binary values trail graph = record { store = store; binary = binary; values = values; trail = trail; nodes = graph.nodes.items }
 
 -- the view of the parts
 abbrev pub view_of_parts : SearchParts → View
-view_of_parts p = record { sound = is_sound p.store; clauses = live_clauses p.store; binary = p.binary; values = p.values.current; trail = p.trail.literals; queue_head = p.trail.queue_head; decisions = p.trail.decisions; nodes = p.nodes }
+view_of_parts p =
+    record {
+      sound = is_sound p.store;
+      clauses = live_clauses p.store;
+      binary = p.binary;
+      values = p.values.current;
+      trail = p.trail.literals;
+      queue_head = p.trail.queue_head;
+      decisions = p.trail.decisions;
+      nodes = p.nodes;
+    }
 
 -- The queue's head stays, and so does what the view doesn't show: the values that were remembered, how many units were
 -- taken off, and of the stored clauses all but the order of literals.
@@ -80,6 +91,7 @@ pub record PartsWithLists : Type 0 where
   pub parts : SearchParts
   pub lists : Watches
 
+-- both together
 abbrev pub with_lists : SearchParts → Watches → PartsWithLists
 with_lists p W = record { parts = p; lists = W }
 

@@ -14,6 +14,7 @@ use Rattle.varisat_prop.specs.declared.prop.graph.ImplNode.{ImplNode}
 use Rattle.varisat_prop.specs.declared.prop.graph.ImplGraph.{ImplGraph}
 use Rattle.varisat_literals.specs.Numbers.{variable_limit}
 
+-- What a search holds, without how it is found again.
 pub record View : Type 0 where
   -- whether the store of clauses is sound
   pub sound : Bool
@@ -34,7 +35,17 @@ pub record View : Type 0 where
 
 -- the view of these parts
 abbrev pub view_of : {A : Type 0} → Store → List (List Literal) → Values → TrailParts → ImplGraph A → View
-view_of store binary values trail graph = record { sound = is_sound store; clauses = live_clauses store; binary = binary; values = values.current; trail = trail.literals; queue_head = trail.queue_head; decisions = trail.decisions; nodes = graph.nodes.items }
+view_of store binary values trail graph =
+    record {
+      sound = is_sound store;
+      clauses = live_clauses store;
+      binary = binary;
+      values = values.current;
+      trail = trail.literals;
+      queue_head = trail.queue_head;
+      decisions = trail.decisions;
+      nodes = graph.nodes.items;
+    }
 
 -- the literal is true
 abbrev pub IsTrueIn : View → Literal → Type 0
@@ -62,6 +73,7 @@ implied_by s l = slice_index_or s.binary l []
 abbrev pub clause_at : View → ℕ → Clause
 clause_at s p = literals_at s.clauses p
 
+-- the literal at the place of the trail
 abbrev pub literal_at : View → ℕ → Literal
 literal_at s k = slice_index_or s.trail k 0
 
@@ -144,10 +156,12 @@ pub record ViewFits (held : List Clause) (s : View) : Type 0 where
   -- each kept clause is held
   pub stored : (c : Clause) → c ∈ kept s → (d : Clause) × (d ∈ held) × SameSet d c
   -- a literal of level 0 without a clause as its reason is held as a unit clause
-  pub units : (k : ℕ) → k < length s.trail → (node_at s k).level ≡ 0 → (node_at s k).reason ≡ reason.Unit → (d : Clause) × (d ∈ held) × IsUnit (literal_at s k) d
+  pub units : (k : ℕ) → k < length s.trail → (node_at s k).level ≡ 0 → (node_at s k).reason ≡ reason.Unit → (d : Clause) × (d ∈ held)
+      × IsUnit (literal_at s k) d
   -- a held clause that isn't kept, nor a part of it, says nothing more: it is a tautology, or a literal of it is true at level 0
   pub covered : (c : Clause) → c ∈ held → ((d : Clause) × (d ∈ kept s) × (d ⊆ c)) ⊎ (IsTautology c ⊎ ((l : Literal) × (l ∈ c) × IsFixed s l))
 
+-- the reason is a clause
 abbrev pub is_clause : Reason → Bool
 is_clause reason.Unit = false
 is_clause (reason.Binary ms) = true

@@ -20,10 +20,16 @@ IsPair c l f = ((literal_in c 0 ≡ l) × (literal_in c 1 ≡ f)) ⊎ ((literal_
 -- what the clause c, reordered as d, comes to where its watched literal f is false
 abbrev pub IsFound : List (Option Bool) → Clause → Clause → Literal → Found → Type 0
 IsFound values c d f found.Stale = (d ≡ c) × (literal_in c 0 ≢ f) × (literal_in c 1 ≢ f)
-IsFound values c d f (found.True l) = IsRearranged c d × IsPair c l f × (literal_in d 0 ≡ l) × (literal_in d 1 ≡ f) × IsMadeTrue values l × (literal_in c 0 ≡ l → d ≡ c)
-IsFound values c d f (found.Other l m) = IsRearranged c d × IsPair c l f × (literal_in d 0 ≡ l) × (literal_in d 1 ≡ m) × (IsMadeTrue values l → ⊥) × (IsMadeTrue values (opposite m) → ⊥)
-IsFound values c d f (found.False l) = IsRearranged c d × IsPair c l f × (literal_in d 0 ≡ l) × (literal_in d 1 ≡ f) × (IsMadeTrue values l → ⊥) × ((k : ℕ) → k < length d → IsFalseAt values d k)
-IsFound values c d f (found.Implied l) = IsRearranged c d × IsPair c l f × (literal_in d 0 ≡ l) × (literal_in d 1 ≡ f) × (IsMadeTrue values l → ⊥) × (IsMadeTrue values (opposite l) → ⊥) × ((k : ℕ) → 1 ≤ k → k < length d → IsFalseAt values d k)
+IsFound values c d f (found.True l) =
+    IsRearranged c d × IsPair c l f × (literal_in d 0 ≡ l) × (literal_in d 1 ≡ f) × IsMadeTrue values l × (literal_in c 0 ≡ l → d ≡ c)
+IsFound values c d f (found.Other l m) =
+    IsRearranged c d × IsPair c l f × (literal_in d 0 ≡ l) × (literal_in d 1 ≡ m) × (IsMadeTrue values l → ⊥) × (IsMadeTrue values (opposite m) → ⊥)
+IsFound values c d f (found.False l) =
+    IsRearranged c d × IsPair c l f × (literal_in d 0 ≡ l) × (literal_in d 1 ≡ f) × (IsMadeTrue values l → ⊥)
+    × ((k : ℕ) → k < length d → IsFalseAt values d k)
+IsFound values c d f (found.Implied l) =
+    IsRearranged c d × IsPair c l f × (literal_in d 0 ≡ l) × (literal_in d 1 ≡ f) × (IsMadeTrue values l → ⊥) × (IsMadeTrue values (opposite l) → ⊥)
+    × ((k : ℕ) → 1 ≤ k → k < length d → IsFalseAt values d k)
 
 -- Watches of the clause d at place i may have been added.
 pub record AddsWatches (W V : Watches) (i : ℕ) (d : Clause) : Type 0 where
@@ -45,7 +51,8 @@ pub record IsVisited (s t : View) (W V : Watches) (i : ℕ) : Type 0 where
   pub settled : (q : ℕ) → q ≤ length s.trail → IsSettledTo s q → IsSettledTo t q
   pub adds : AddsWatches W V i (clause_at t i)
   -- the first two literals were so before, or have a new watch
-  pub pair : (j : ℕ) → j < 2 → ((h : ℕ) × (h < 2) × (literal_in (clause_at t i) j ≡ literal_in (clause_at s i) h)) ⊎ HasWatch (watches_of V (opposite (literal_in (clause_at t i) j))) i
+  pub pair : (j : ℕ) → j < 2 → ((h : ℕ) × (h < 2) × (literal_in (clause_at t i) j ≡ literal_in (clause_at s i) h))
+      ⊎ HasWatch (watches_of V (opposite (literal_in (clause_at t i) j))) i
 
 -- Whether the watch stays, and what of it: the clause is true, or false; or it isn't watched here any more.
 abbrev pub IsVisit : View → Literal → ℕ → Visit → Type 0

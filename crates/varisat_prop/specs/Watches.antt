@@ -11,6 +11,7 @@ pub record Watches : Type 0 where
   pub lists : List (List Watch)
   pub enabled : Bool
 
+-- no literal, and the lists are kept up to date
 abbrev pub no_watches : Watches
 no_watches = record { lists = []; enabled = true }
 
@@ -30,7 +31,8 @@ literal_in c j = slice_index_or c j 0
 abbrev pub HasWatch : List Watch → ℕ → Type 0
 HasWatch ws i = (w : Watch) × (w ∈ ws) × (w.cref ≡ i)
 
--- The lists watch the clauses: each watch names a clause and a literal of it, and each clause has a watch in the lists of the opposites of its first two literals.
+-- The lists watch the clauses: each watch names a clause and a literal of it, and each clause has a watch in the lists of the
+-- opposites of its first two literals.
 pub record IsWatching (W : Watches) (ks : List StoredClause) : Type 0 where
   pub known : (x : Literal) (w : Watch) → w ∈ watches_of W x → IsPlace ks w.cref × (w.blocking ∈ literals_at ks w.cref)
   pub watched : (i j : ℕ) → IsPlace ks i → j < 2 → HasWatch (watches_of W (opposite (literal_in (literals_at ks i) j))) i
@@ -62,7 +64,8 @@ pub record IsWatched (W : Watches) (s : View) (q : ℕ) : Type 0 where
   pub within : q ≤ length s.trail
   pub queue : (j : ℕ) → j < length s.decisions → decision_at s j ≤ q
 
--- Propagation has come to its end up to the queue's head, and no decision stands behind that. The lists watch the clauses, or are empty as long as they are off.
+-- Propagation has come to its end up to the queue's head, and no decision stands behind that. The lists watch the clauses, or are
+-- empty as long as they are off.
 pub record IsPropagated (W : Watches) (s : View) : Type 0 where
   pub lists : length W.lists ≡ 2 * length s.values
   pub watching : W.enabled ≡ true → IsWatching W s.clauses

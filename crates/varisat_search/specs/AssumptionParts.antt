@@ -14,6 +14,7 @@ use Rattle.varisat_search.specs.declared.assumptions.EnqueueAssumption.TheVarian
 use Rattle.varisat_analysis.specs.FailedCores.{ListsFailedCore}
 use Rattle.varisat_search.specs.Steps.{IsFree, IsTotal}
 
+-- What a search keeps of assumptions.
 pub record AssumptionParts : Type 0 where
   -- the assumptions that are still to be decided or stand decided, without those that were found to be implied
   pub working : List Literal
@@ -25,6 +26,7 @@ pub record AssumptionParts : Type 0 where
   pub user : List Literal
   pub user_core : List Literal
 
+-- before the first list
 abbrev pub no_assumptions : AssumptionParts
 no_assumptions = record { working = []; levels = 0; failed_core = []; user = []; user_core = [] }
 
@@ -51,7 +53,8 @@ assumed_state verdict.Sat = verdict.Unknown
 assumed_state verdict.Unsat = verdict.Unsat
 assumed_state verdict.UnsatUnderAssumptions = verdict.Unknown
 
--- Of the assumptions some may have been taken out, which are true wherever the clauses and the others are satisfied. An assignment that was found makes the others true, and a core is one of assumptions.
+-- Of the assumptions some may have been taken out, which are true wherever the clauses and the others are satisfied. An
+-- assignment that was found makes the others true, and a core is one of assumptions.
 pub record KeepsAssumptions (s : Search) (v : Outcome) (x y : AssumptionParts) : Type 0 where
   pub user : y.user ≡ x.user
   pub user_core : y.user_core ≡ x.user_core

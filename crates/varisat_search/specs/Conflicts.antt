@@ -36,7 +36,9 @@ abbrev pub IsKeptAsReason : Keeping → Keeping → Clause → Reason → Type 0
 IsKeptAsReason old new [] r = (new ≡ old) × (r ≡ reason.Unit)
 IsKeptAsReason old new (l ∷ []) r = (new ≡ old) × (r ≡ reason.Unit)
 IsKeptAsReason old new (l ∷ m ∷ []) r = (new ≡ record old { binary = with_pair old.binary l m }) × (r ≡ reason.Binary (m ∷ []))
-IsKeptAsReason old new (l ∷ m ∷ n ∷ c) r = (new.binary ≡ old.binary) × ((p : ℕ) × (h : Header) × (is_tier h.tier tier.Irred ≡ false) × AppendsClause old.clauses new.clauses (learned_at p h (l ∷ m ∷ n ∷ c)) × (r ≡ reason.Long p))
+IsKeptAsReason old new (l ∷ m ∷ n ∷ c) r =
+    (new.binary ≡ old.binary) × ((p : ℕ) × (h : Header) × (is_tier h.tier tier.Irred ≡ false)
+    × AppendsClause old.clauses new.clauses (learned_at p h (l ∷ m ∷ n ∷ c)) × (r ≡ reason.Long p))
 
 -- the clause is added to the store with the header where the reason names it there
 abbrev pub IsStoredAsReason : Store → Store → Header → Clause → Reason → Type 0

@@ -8,7 +8,8 @@ use Rattle.varisat_search.specs.Seen.{search_of}
 use Rattle.varisat_search.specs.Steps.{IsCut, Saves}
 use Rattle.varisat_search.specs.Decisions.{HasActivities, SameDecidable, MakesAvailable}
 
--- The levels above the given one are undone, the values that variables lose are remembered, and these variables become available. Nothing happens where the level isn't below the current one.
+-- The levels above the given one are undone, the values that variables lose are remembered, and these variables become available.
+-- Nothing happens where the level isn't below the current one.
 pub record BacktracksTo {A : Type 0} (level : ℕ) (old new : Context A) : Type 0 where
   pub same : length old.trail.decisions ≤ level → new ≡ old
   pub cut : level < length old.trail.decisions → IsCut (view old) (view new) level

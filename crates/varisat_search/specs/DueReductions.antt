@@ -38,7 +38,8 @@ pub record ReducesLocalsIfDue {A : Type 0} (lines : List Line) (x y : Context A)
 -- At each step whose number is a multiple of the interval Mid clauses become Local or lose their flag, and at others
 -- nothing changes.
 pub record ReducesMidsIfDue {A : Type 0} (x y : Context A) : Type 0 where
-  pub reduced : x.schedule.steps % x.solver_config.reduce_mids_interval ≡ 0 → HoldsClauses y.clause_alloc (length x.clause_alloc.words) (mids_reduced (stored_clauses x.clause_alloc))
+  pub reduced : x.schedule.steps % x.solver_config.reduce_mids_interval ≡ 0 →
+      HoldsClauses y.clause_alloc (length x.clause_alloc.words) (mids_reduced (stored_clauses x.clause_alloc))
   pub headers : x.schedule.steps % x.solver_config.reduce_mids_interval ≡ 0 → ChangesHeaders (view x) (view y)
   pub stays : x.schedule.steps % x.solver_config.reduce_mids_interval ≢ 0 → y ≡ x
 

@@ -31,16 +31,23 @@ loaded_outcome verdict.UnsatUnderAssumptions = Unknown
 abbrev pub HasFalseLiteral : List (Option Bool) → Clause → Type 0
 HasFalseLiteral values c = (l : Literal) × (l ∈ c) × IsMadeTrue values (opposite l)
 
--- Where the queue's head stands after a clause is kept: at the trail's first literal where a literal of the clause is false, so that propagation sees the clause under each literal of the trail, and else where it stood.
+-- Where the queue's head stands after a clause is kept: at the trail's first literal where a literal of the clause is false, so
+-- that propagation sees the clause under each literal of the trail, and else where it stood.
 abbrev pub IsHeadAfter : List (Option Bool) → Clause → ℕ → ℕ → Type 0
 IsHeadAfter values c before after = (HasFalseLiteral values c × (after ≡ 0)) ⊎ ((HasFalseLiteral values c → ⊥) × (after ≡ before))
 
--- The empty clause, and a single literal that is false, give verdict Unsat. Another single literal is made true. A longer clause is kept, and the queue begins anew where a literal of it is false.
+-- The empty clause, and a single literal that is false, give verdict Unsat. Another single literal is made true. A longer clause
+-- is kept, and the queue begins anew where a literal of it is false.
 abbrev pub IsAdded : View → View → Clause → SatState → SatState → Type 0
 IsAdded s t [] before after = (t ≡ s) × (after ≡ verdict.Unsat)
-IsAdded s t (l ∷ []) before after = (IsTrueIn s (opposite l) × (t ≡ s) × (after ≡ verdict.Unsat)) ⊎ (IsFree s l × (t ≡ enqueued s l reason.Unit) × (after ≡ before))
-IsAdded s t (l ∷ m ∷ []) before after = IsHeadAfter s.values (l ∷ m ∷ []) s.queue_head t.queue_head × (t ≡ record s { binary = with_pair s.binary l m; queue_head = t.queue_head }) × (after ≡ before)
-IsAdded s t (l ∷ m ∷ n ∷ c) before after = (p : ℕ) × AppendsClause s.clauses t.clauses (loaded_at p (l ∷ m ∷ n ∷ c)) × IsHeadAfter s.values (l ∷ m ∷ n ∷ c) s.queue_head t.queue_head × (t ≡ record s { clauses = t.clauses; queue_head = t.queue_head }) × (after ≡ before)
+IsAdded s t (l ∷ []) before after =
+    (IsTrueIn s (opposite l) × (t ≡ s) × (after ≡ verdict.Unsat)) ⊎ (IsFree s l × (t ≡ enqueued s l reason.Unit) × (after ≡ before))
+IsAdded s t (l ∷ m ∷ []) before after =
+    IsHeadAfter s.values (l ∷ m ∷ []) s.queue_head t.queue_head × (t ≡ record s { binary = with_pair s.binary l m; queue_head = t.queue_head })
+    × (after ≡ before)
+IsAdded s t (l ∷ m ∷ n ∷ c) before after =
+    (p : ℕ) × AppendsClause s.clauses t.clauses (loaded_at p (l ∷ m ∷ n ∷ c)) × IsHeadAfter s.values (l ∷ m ∷ n ∷ c) s.queue_head t.queue_head
+    × (t ≡ record s { clauses = t.clauses; queue_head = t.queue_head }) × (after ≡ before)
 
 -- A single literal is loaded: the kept clauses stay, and where nothing was decided the trail has at most this literal more, and the queue's head stays.
 pub record LoadsUnit (s t : View) (l : Literal) : Type 0 where

@@ -16,14 +16,22 @@ use Rattle.varisat_search.specs.Steps.{assignment_of}
 abbrev pub kept_pair : Clause → KeptClause
 kept_pair c = record { clause = c; learned = false }
 
+-- the literal is of level 0
 abbrev pub is_fixed : View → Literal → Bool
 is_fixed s l = nat_eq (level_of s l) 0
 
+-- and no clause is its reason: it is a unit clause by itself
 abbrev pub is_proved : View → Literal → Bool
 is_proved s l = nat_eq (level_of s l) 0 && not (is_clause (node_of s l).reason)
 
+-- the search as a proof sees it: kept clauses, which of them are learned, and the literals of level 0
 abbrev pub search_of : View → Search
-search_of s = record { kept = map kept_clause s.clauses ++ map kept_pair (pairs_from 0 s.binary); fixed = filter (is_fixed s) s.trail; proved = filter (is_proved s) s.trail }
+search_of s =
+    record {
+      kept = map kept_clause s.clauses ++ map kept_pair (pairs_from 0 s.binary);
+      fixed = filter (is_fixed s) s.trail;
+      proved = filter (is_proved s) s.trail;
+    }
 
 -- a search without clauses
 abbrev pub first_search : Search

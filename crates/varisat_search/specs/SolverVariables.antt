@@ -22,7 +22,8 @@ HasRoom t = (length t.users.forward ≤ variable_limit) × (length t.kept ≤ va
 abbrev pub HasRoomFor : List Literal → Tables → Type 0
 HasRoomFor [] t = Unit {0}
 HasRoomFor (l ∷ ls) t =
-    (variable_of l < variable_limit) × ((mid new : Tables) → IsNamed (variable_of l) t mid → new.users ≡ mid.users → new.kept ≡ mid.kept → HasRoom mid × HasRoomFor ls new)
+    (variable_of l < variable_limit) × ((mid new : Tables) → IsNamed (variable_of l) t mid → new.users ≡ mid.users → new.kept ≡ mid.kept →
+    HasRoom mid × HasRoomFor ls new)
 
 -- Tables of variables and the search that has their solver variables.
 pub record Searched (A : Type 0) : Type 0 where
@@ -47,14 +48,17 @@ pub record KeepsSeen {A : Type 0} (old new : Context A) : Type 0 where
 pub record HasUnitAgain {A : Type 0} (l : Literal) (old new : Context A) : Type 0 where
   pub unsat : old.solver_state.sat_state ≡ verdict.Unsat → KeepsSeen old new
   pub lines : old.solver_state.sat_state ≢ verdict.Unsat → Loads (search_of (view old)) (search_of (view new)) (l ∷ []) outcome.Unknown []
-  pub state : old.solver_state.sat_state ≢ verdict.Unsat → new.solver_state ≡ record old.solver_state { sat_state = reopened_state old.solver_state.sat_state; formula_is_empty = false }
+  pub state : old.solver_state.sat_state ≢ verdict.Unsat →
+      new.solver_state ≡ record old.solver_state { sat_state = reopened_state old.solver_state.sat_state; formula_is_empty = false }
   pub assumptions : old.solver_state.sat_state ≢ verdict.Unsat → new.assumptions ≡ record old.assumptions { levels = 0 }
 
 -- The global variable x has the solver variable v: it had it, it took it and has no unit, or it came back with its unit.
 pub data HasSolverVariable {A : Type 0} (x : ℕ) (old new : Searched A) (v : ℕ) : Type 0 where
   HadOne : at old.tables.solvers.forward x ≡ Some v → new ≡ old → HasSolverVariable x old new v
-  TookOne : at old.tables.solvers.forward x ≡ None → IsTaken old.tables new.tables x v → (kept_at old.tables.kept x).unit ≡ None → KeepsSeen old.context new.context → HasSolverVariable x old new v
-  CameBack : (b : Bool) → at old.tables.solvers.forward x ≡ None → IsTaken old.tables new.tables x v → (kept_at old.tables.kept x).unit ≡ Some b → HasUnitAgain (literal_of v b) old.context new.context → HasSolverVariable x old new v
+  TookOne : at old.tables.solvers.forward x ≡ None → IsTaken old.tables new.tables x v → (kept_at old.tables.kept x).unit ≡ None →
+      KeepsSeen old.context new.context → HasSolverVariable x old new v
+  CameBack : (b : Bool) → at old.tables.solvers.forward x ≡ None → IsTaken old.tables new.tables x v → (kept_at old.tables.kept x).unit ≡ Some b →
+      HasUnitAgain (literal_of v b) old.context new.context → HasSolverVariable x old new v
 
 -- The name u was named, and its variable has the solver variable v.
 pub record NameHasSolver {A : Type 0} (u : ℕ) (old new : Searched A) (v : ℕ) : Type 0 where

@@ -11,9 +11,15 @@ use Rattle.varisat_search.specs.declared.state.SatState.TheVariants as verdict
 abbrev pub LeavesFrom : View → ℕ → ℕ → Type 0
 LeavesFrom s p v = (k : ℕ) × (p ≤ k) × (k < length s.trail) × (variable_of (literal_at s k) ≡ v)
 
--- Backtracking: the trail and the decisions become their beginnings up to the level, all that is left counts as propagated, and exactly the variables that leave the trail lose their values.
+-- Backtracking: the trail and the decisions become their beginnings up to the level, all that is left counts as propagated, and
+-- exactly the variables that leave the trail lose their values.
 pub record IsCut (s t : View) (level : ℕ) : Type 0 where
-  pub rest : t ≡ record s { values = t.values; trail = take (decision_at s level) s.trail; queue_head = decision_at s level; decisions = take level s.decisions }
+  pub rest : t ≡ record s {
+    values = t.values;
+    trail = take (decision_at s level) s.trail;
+    queue_head = decision_at s level;
+    decisions = take level s.decisions;
+  }
   pub count : length t.values ≡ length s.values
   pub gone : (v : ℕ) → LeavesFrom s (decision_at s level) v → slice_index_or t.values v None ≡ None
   pub stays : (v : ℕ) → (LeavesFrom s (decision_at s level) v → ⊥) → slice_index_or t.values v None ≡ slice_index_or s.values v None

@@ -28,11 +28,18 @@ pub fn bump_involved_clauses<A: Allocator + Copy>(ctx: &mut Context<A>) -> Resul
     requires named { (f : Conflict) → f ∈ ctx.old.analyze_conflict.involved → NamesPlace (live_clauses ctx.old.clause_alloc) f }
     requires assigned { (l : Literal) → l ∈ literals_among (live_clauses ctx.old.clause_alloc) ctx.old.analyze_conflict.involved → IsAssigned (view ctx.old) l }
     ensures undecided { ctx.old.trail.decisions ≡ [] → ctx.new ≡ ctx.old }
-    ensures bumped { OnOk result (0 < length ctx.old.trail.decisions → BumpsClauses ctx.old.impl_graph.nodes.items ctx.old.analyze_conflict.involved ctx.old.clause_alloc ctx.new.clause_alloc ctx.old.clause_activity ctx.new.clause_activity) }
+    ensures bumped { OnOk result (0 < length ctx.old.trail.decisions →
+        BumpsClauses ctx.old.impl_graph.nodes.items ctx.old.analyze_conflict.involved
+        ctx.old.clause_alloc ctx.new.clause_alloc ctx.old.clause_activity ctx.new.clause_activity) }
     ensures headers { SameButHeaders (live_clauses ctx.old.clause_alloc) (live_clauses ctx.new.clause_alloc) }
     ensures tracks { Tracks ctx.new.clause_db ctx.new.clause_alloc }
     ensures flags { ctx.new.tmp_flags.flags.items ≡ ctx.old.tmp_flags.flags.items }
-    ensures kept { ctx.new ≡ record ctx.old { clause_activity = ctx.new.clause_activity; clause_alloc = ctx.new.clause_alloc; clause_db = ctx.new.clause_db; tmp_flags = ctx.new.tmp_flags } }
+    ensures kept { ctx.new ≡ record ctx.old {
+      clause_activity = ctx.new.clause_activity;
+      clause_alloc = ctx.new.clause_alloc;
+      clause_db = ctx.new.clause_db;
+      tmp_flags = ctx.new.tmp_flags;
+    } }
 {
     if ctx.trail.current_level() == 0 {
         return Ok(());

@@ -43,7 +43,13 @@ impl<A: Allocator + Copy> Model for Assumptions<A> {
 
     ghost Value = { AssumptionParts };
 
-    ghost view = { λ a. record { working = a.working.items; levels = a.levels; failed_core = a.failed_core.items; user = a.user.items; user_core = a.user_core.items } };
+    ghost view = { λ a. record {
+      working = a.working.items;
+      levels = a.levels;
+      failed_core = a.failed_core.items;
+      user = a.user.items;
+      user_core = a.user_core.items;
+    } };
 }
 
 impl<A: Allocator + Copy> Assumptions<A> {
@@ -259,7 +265,10 @@ fn find_failed_core<A: Allocator + Copy>(
     requires ready { IsReady ctx.old }
     requires false_now { IsMadeTrue ctx.old.assignment.current (opposite failed) }
     requires seen { s ≡ view ctx.old }
-    ensures kept { ctx.new ≡ record ctx.old { assumptions = record ctx.old.assumptions { failed_core = ctx.new.assumptions.failed_core }; tmp_flags = ctx.new.tmp_flags } }
+    ensures kept { ctx.new ≡ record ctx.old {
+      assumptions = record ctx.old.assumptions { failed_core = ctx.new.assumptions.failed_core };
+      tmp_flags = ctx.new.tmp_flags;
+    } }
     ensures flags { ctx.new.tmp_flags.flags.items ≡ ctx.old.tmp_flags.flags.items }
     ensures core { OnOk result (ListsFailedCore (view ctx.old) failed ctx.new.assumptions.failed_core) }
 {
@@ -287,7 +296,13 @@ pub fn enqueue_assumption<A: Allocator + Copy>(
     ensures same { OnOk result (SameDecidable (view ctx.old) ctx.old.vsids (view ctx.new) ctx.new.vsids) }
     ensures last { OnOk result (ctx.new.assignment.last ≡ ctx.old.assignment.last) }
     ensures units { OnOk result (ctx.new.trail.units_removed ≡ ctx.old.trail.units_removed) }
-    ensures kept { ctx.new ≡ record ctx.old { assignment = ctx.new.assignment; assumptions = ctx.new.assumptions; impl_graph = ctx.new.impl_graph; tmp_flags = ctx.new.tmp_flags; trail = ctx.new.trail } }
+    ensures kept { ctx.new ≡ record ctx.old {
+      assignment = ctx.new.assignment;
+      assumptions = ctx.new.assumptions;
+      impl_graph = ctx.new.impl_graph;
+      tmp_flags = ctx.new.tmp_flags;
+      trail = ctx.new.trail;
+    } }
 {
     let level = ctx.trail.current_level();
     let Some(lit) = next_assumption(&mut ctx.assumptions, &ctx.assignment, level) else {

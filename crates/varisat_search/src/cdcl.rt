@@ -65,7 +65,8 @@ fn decide<A: Allocator + Copy>(
     ensures grows { OnOk result (GrowsTrail (view ctx.old) (view ctx.new)) }
     ensures taken { OnOk result (TakesOutImplied (view ctx.old) ctx.old.assumptions ctx.new.assumptions) }
     ensures decided { IfOk result (λ decided. MatchResult decided
-        (λ made. MatchBool made (length ctx.old.trail.literals < length ctx.new.trail.literals) ((view ctx.new ≡ view ctx.old) × EndsAssumed (view ctx.new) ctx.new.assumptions))
+        (λ made. MatchBool made (length ctx.old.trail.literals < length ctx.new.trail.literals)
+        ((view ctx.new ≡ view ctx.old) × EndsAssumed (view ctx.new) ctx.new.assumptions))
         (λ found. (found ≡ FoundConflict.Assumption) × HasFailed (view ctx.new) ctx.new.assumptions)) }
     ensures decidable { OnOk result (SameDecidable (view ctx.old) ctx.old.vsids (view ctx.new) ctx.new.vsids) }
     ensures activities { OnOk result (ctx.new.vsids ≡ record ctx.old.vsids { available = ctx.new.vsids.available }) }
@@ -140,8 +141,14 @@ fn keep_learned<A: Allocator + Copy>(
     requires paired { (l : Literal) → l ∈ ctx.old.analyze_conflict.clause → opposite l < length ctx.old.binary_clauses }
     requires tracks { Tracks ctx.old.clause_db ctx.old.clause_alloc }
     ensures tracks { OnOk result (Tracks ctx.new.clause_db ctx.new.clause_alloc) }
-    ensures kept { ctx.new ≡ record ctx.old { binary_clauses = ctx.new.binary_clauses; clause_alloc = ctx.new.clause_alloc; clause_db = ctx.new.clause_db; watchlists = ctx.new.watchlists } }
-    ensures reason { IfOk result (λ reason. IsKeptAsReason (record { clauses = live_clauses ctx.old.clause_alloc; binary = ctx.old.binary_clauses }) (record { clauses = live_clauses ctx.new.clause_alloc; binary = ctx.new.binary_clauses }) ctx.old.analyze_conflict.clause reason) }
+    ensures kept { ctx.new ≡ record ctx.old {
+      binary_clauses = ctx.new.binary_clauses;
+      clause_alloc = ctx.new.clause_alloc;
+      clause_db = ctx.new.clause_db;
+      watchlists = ctx.new.watchlists;
+    } }
+    ensures reason { IfOk result (λ reason. IsKeptAsReason (record { clauses = live_clauses ctx.old.clause_alloc; binary = ctx.old.binary_clauses })
+        (record { clauses = live_clauses ctx.new.clause_alloc; binary = ctx.new.binary_clauses }) ctx.old.analyze_conflict.clause reason) }
     ensures stored { IfOk result (λ reason. IsStoredAsReason ctx.old.clause_alloc ctx.new.clause_alloc header ctx.old.analyze_conflict.clause reason) }
     ensures watched { IfOk result (λ reason. IsWatchedAsReason ctx.old.watchlists ctx.new.watchlists ctx.old.analyze_conflict.clause reason) }
     ensures full { IfErr result (λ error. error ≡ StoreError.Full → 2 ^ 32 ≤ length ctx.new.clause_alloc.words + 3 + length ctx.old.analyze_conflict.clause) }
@@ -215,9 +222,15 @@ fn learn<A: Allocator + Copy, P: ProofTracer>(
     requires holds { HoldsFor (P.holds proof.old) (search_of (view ctx.old)) }
     ensures further { OnOk result (IsStepFurther (λ lines. TakesLines P.takes proof.old lines proof.new) ctx.old ctx.new) }
     // Above level 0 the variables of the clauses that the learned one came from are bumped, and activities decay.
-    ensures bumps { OnOk result (0 < length ctx.old.trail.decisions → (b : Activities) × BumpsInvolved (view ctx.old) ctx.new.analyze_conflict.involved ctx.old.vsids b × (ctx.new.vsids ≡ record b { available = ctx.new.vsids.available })) }
+    ensures bumps { OnOk result (0 < length ctx.old.trail.decisions → (b : Activities)
+        × BumpsInvolved (view ctx.old) ctx.new.analyze_conflict.involved ctx.old.vsids b
+        × (ctx.new.vsids ≡ record b { available = ctx.new.vsids.available })) }
     // So are the clauses of the store among them, and the learned one gets the glue of the conflict, and its tier.
-    ensures stored { OnOk result (0 < length ctx.old.trail.decisions → (s : Store) × BumpsClauses ctx.old.impl_graph.nodes.items ctx.new.analyze_conflict.involved ctx.old.clause_alloc s ctx.old.clause_activity ctx.new.clause_activity × ((r : Reason) × IsStoredAsReason s ctx.new.clause_alloc (assessed (glue_of ctx.old.impl_graph.nodes.items ctx.new.analyze_conflict.clause)) ctx.new.analyze_conflict.clause r)) }
+    ensures stored { OnOk result (0 < length ctx.old.trail.decisions → (s : Store)
+        × BumpsClauses ctx.old.impl_graph.nodes.items ctx.new.analyze_conflict.involved ctx.old.clause_alloc s
+        ctx.old.clause_activity ctx.new.clause_activity
+        × ((r : Reason) × IsStoredAsReason s ctx.new.clause_alloc
+        (assessed (glue_of ctx.old.impl_graph.nodes.items ctx.new.analyze_conflict.clause)) ctx.new.analyze_conflict.clause r)) }
     ensures involved { OnOk result (AreInvolved (view ctx.old) conflict ctx.new.analyze_conflict.involved) }
     ensures last { OnOk result (SavesSome (view ctx.old) ctx.old.assignment.last ctx.new.assignment.last) }
     ensures schedule { KeepsSchedule ctx.old ctx.new }
@@ -263,7 +276,15 @@ pub fn settle<A: Allocator + Copy, P: ProofTracer>(
         ctx.old ctx.new) }
     ensures settled { IfOk result (λ end. MatchResult end (λ _. IsSettledDown (view ctx.new)) (λ _. Unit {0})) }
     ensures conflict { IfOk result (λ end. MatchResult end (λ _. Unit {0}) (λ conflict. IsConflicting (view ctx.new) conflict)) }
-    ensures kept { ctx.new ≡ record ctx.old { assignment = ctx.new.assignment; binary_clauses = ctx.new.binary_clauses; clause_alloc = ctx.new.clause_alloc; clause_db = ctx.new.clause_db; impl_graph = ctx.new.impl_graph; trail = ctx.new.trail; watchlists = ctx.new.watchlists } }
+    ensures kept { ctx.new ≡ record ctx.old {
+      assignment = ctx.new.assignment;
+      binary_clauses = ctx.new.binary_clauses;
+      clause_alloc = ctx.new.clause_alloc;
+      clause_db = ctx.new.clause_db;
+      impl_graph = ctx.new.impl_graph;
+      trail = ctx.new.trail;
+      watchlists = ctx.new.watchlists;
+    } }
     ensures broken { IfErr result (λ error. BreaksOff P.breaks_off proof.old (faults_of error) proof.new) }
 {
     let propagated = propagate(
@@ -295,7 +316,15 @@ fn settle_units<A: Allocator + Copy, P: ProofTracer>(
         ctx.old ctx.new) }
     ensures stays { IfOk result (λ end. (IsUnsettled (view ctx.old) → ⊥) → (ctx.new ≡ ctx.old) × (end ≡ Ok tt)) }
     ensures conflict { IfOk result (λ end. MatchResult end (λ _. Unit {0}) (λ conflict. IsConflicting (view ctx.new) conflict)) }
-    ensures kept { ctx.new ≡ record ctx.old { assignment = ctx.new.assignment; binary_clauses = ctx.new.binary_clauses; clause_alloc = ctx.new.clause_alloc; clause_db = ctx.new.clause_db; impl_graph = ctx.new.impl_graph; trail = ctx.new.trail; watchlists = ctx.new.watchlists } }
+    ensures kept { ctx.new ≡ record ctx.old {
+      assignment = ctx.new.assignment;
+      binary_clauses = ctx.new.binary_clauses;
+      clause_alloc = ctx.new.clause_alloc;
+      clause_db = ctx.new.clause_db;
+      impl_graph = ctx.new.impl_graph;
+      trail = ctx.new.trail;
+      watchlists = ctx.new.watchlists;
+    } }
     ensures broken { IfErr result (λ error. BreaksOff P.breaks_off proof.old (faults_of error) proof.new) }
 {
     if ctx.trail.current_level() > 0 || ctx.trail.fully_propagated() {

@@ -18,7 +18,12 @@ fn collect<A: Allocator + Copy>(ctx: &mut Context<A>) -> Result<(), AllocError>
     ensures repacks { OnOk result (Repacks (view ctx.old) (view ctx.new)) }
     ensures off { OnOk result (ctx.new.watchlists.enabled ≡ false) }
     ensures ready { OnOk result (IsReady ctx.new) }
-    ensures kept { ctx.new ≡ record ctx.old { clause_alloc = ctx.new.clause_alloc; clause_db = ctx.new.clause_db; impl_graph = ctx.new.impl_graph; watchlists = ctx.new.watchlists } }
+    ensures kept { ctx.new ≡ record ctx.old {
+      clause_alloc = ctx.new.clause_alloc;
+      clause_db = ctx.new.clause_db;
+      impl_graph = ctx.new.impl_graph;
+      watchlists = ctx.new.watchlists;
+    } }
     ensures refused { OnErr result (ctx.new ≡ ctx.old) }
 {
     let (new_alloc, new_db) = collected(&ctx.clause_alloc, &ctx.clause_db)?;
@@ -38,12 +43,18 @@ fn collect<A: Allocator + Copy>(ctx: &mut Context<A>) -> Result<(), AllocError>
 /// changes nothing, as where a growth was refused.
 pub fn collect_garbage<A: Allocator + Copy>(ctx: &mut Context<A>) -> Result<(), AllocError>
     requires { IsReady ctx.old }
-    ensures collected { OnOk result (length ctx.old.clause_alloc.words < 2 * ctx.old.clause_db.garbage → IsCollected ctx.new.clause_alloc ctx.new.clause_db (stored_clauses ctx.old.clause_alloc)) }
+    ensures collected { OnOk result (length ctx.old.clause_alloc.words < 2 * ctx.old.clause_db.garbage →
+        IsCollected ctx.new.clause_alloc ctx.new.clause_db (stored_clauses ctx.old.clause_alloc)) }
     ensures repacks { OnOk result (length ctx.old.clause_alloc.words < 2 * ctx.old.clause_db.garbage → Repacks (view ctx.old) (view ctx.new)) }
     ensures off { OnOk result (length ctx.old.clause_alloc.words < 2 * ctx.old.clause_db.garbage → ctx.new.watchlists.enabled ≡ false) }
     ensures stays { OnOk result (2 * ctx.old.clause_db.garbage ≤ length ctx.old.clause_alloc.words → ctx.new ≡ ctx.old) }
     ensures ready { OnOk result (IsReady ctx.new) }
-    ensures kept { ctx.new ≡ record ctx.old { clause_alloc = ctx.new.clause_alloc; clause_db = ctx.new.clause_db; impl_graph = ctx.new.impl_graph; watchlists = ctx.new.watchlists } }
+    ensures kept { ctx.new ≡ record ctx.old {
+      clause_alloc = ctx.new.clause_alloc;
+      clause_db = ctx.new.clause_db;
+      impl_graph = ctx.new.impl_graph;
+      watchlists = ctx.new.watchlists;
+    } }
     ensures refused { OnErr result (ctx.new ≡ ctx.old) }
 {
     if !is_collection_due(&ctx.clause_alloc, &ctx.clause_db) {

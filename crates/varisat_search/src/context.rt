@@ -85,7 +85,11 @@ impl<A: Allocator + Copy> Context<A> {
     /// activities of variables and of clauses from the next conflict.
     pub fn config_changed(&mut self, update: &SolverConfigUpdate) -> Result<(), ConfigError>
         ensures changed { MatchResult result
-            (λ _. (first_bad update.now ≡ None) × (self.new ≡ record self.old { clause_activity = record self.old.clause_activity { decay = unwrap_or update.now.clause_activity_decay self.old.clause_activity.decay }; solver_config = updated_settings self.old.solver_config update.now; vsids = record self.old.vsids { decay = unwrap_or update.now.vsids_decay self.old.vsids.decay } }))
+            (λ _. (first_bad update.now ≡ None) × (self.new ≡ record self.old {
+              clause_activity = record self.old.clause_activity { decay = unwrap_or update.now.clause_activity_decay self.old.clause_activity.decay };
+              solver_config = updated_settings self.old.solver_config update.now;
+              vsids = record self.old.vsids { decay = unwrap_or update.now.vsids_decay self.old.vsids.decay };
+            }))
             (λ error. (first_bad update.now ≡ Some error.field) × (self.new ≡ self.old)) }
         ensures ready { IsReady self.old → IsReady self.new }
         ensures decidable { SameDecidable (view self.old) self.old.vsids (view self.new) self.new.vsids }
@@ -114,7 +118,15 @@ pub fn set_var_count<A: Allocator + Copy>(
     ensures last { OnOk result (ctx.new.assignment.last ≡ ctx.old.assignment.last ++ replicate (count - length ctx.old.assignment.current) false) }
     ensures activities { OnOk result (ctx.new.vsids ≡ raised_to count ctx.old.vsids) }
     ensures decidable { OnOk result (SameDecidable (view ctx.old) ctx.old.vsids (view ctx.new) ctx.new.vsids) }
-    ensures kept { ctx.new ≡ record ctx.old { analyze_conflict = ctx.new.analyze_conflict; assignment = ctx.new.assignment; binary_clauses = ctx.new.binary_clauses; impl_graph = ctx.new.impl_graph; tmp_flags = ctx.new.tmp_flags; vsids = ctx.new.vsids; watchlists = ctx.new.watchlists } }
+    ensures kept { ctx.new ≡ record ctx.old {
+      analyze_conflict = ctx.new.analyze_conflict;
+      assignment = ctx.new.assignment;
+      binary_clauses = ctx.new.binary_clauses;
+      impl_graph = ctx.new.impl_graph;
+      tmp_flags = ctx.new.tmp_flags;
+      vsids = ctx.new.vsids;
+      watchlists = ctx.new.watchlists;
+    } }
 {
     ctx.analyze_conflict.set_var_count(count)?;
     ctx.assignment.set_var_count(count)?;

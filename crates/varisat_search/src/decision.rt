@@ -60,7 +60,9 @@ pub fn make_decision<A: Allocator + Copy>(ctx: &mut Context<A>) -> Result<bool, 
     requires well { WellFormed (view ctx.old) }
     requires decidable { CanDecide (view ctx.old) ctx.old.vsids }
     ensures decided { IfOk result (λ made. MatchBool made
-        ((l : Literal) × IsFree (view ctx.old) l × (view ctx.new ≡ decided_on (view ctx.old) l) × (polarity_of l ≡ slice_index_or ctx.old.assignment.last (variable_of l) false) × IsNextDecision ctx.old.assignment.current ctx.old.vsids (variable_of l))
+        ((l : Literal) × IsFree (view ctx.old) l × (view ctx.new ≡ decided_on (view ctx.old) l)
+        × (polarity_of l ≡ slice_index_or ctx.old.assignment.last (variable_of l) false)
+        × IsNextDecision ctx.old.assignment.current ctx.old.vsids (variable_of l))
         ((ctx.new ≡ record ctx.old { vsids = ctx.new.vsids }) × IsTotal (view ctx.old))) }
     ensures same { OnOk result (SameDecidable (view ctx.old) ctx.old.vsids (view ctx.new) ctx.new.vsids) }
     ensures decidable { OnOk result (CanDecide (view ctx.new) ctx.new.vsids) }
@@ -115,7 +117,15 @@ pub fn add_variables<A: Allocator + Copy>(
     ensures raised { OnOk result (IsRaisedTo count ctx.old ctx.new) }
     ensures decidable { OnOk result (AddsDecidable (length ctx.old.assignment.current) count (view ctx.old) ctx.old.vsids (view ctx.new) ctx.new.vsids) }
     ensures remembered { (v : ℕ) → slice_index_or ctx.new.assignment.last v false ≡ slice_index_or ctx.old.assignment.last v false }
-    ensures kept { ctx.new ≡ record ctx.old { analyze_conflict = ctx.new.analyze_conflict; assignment = ctx.new.assignment; binary_clauses = ctx.new.binary_clauses; impl_graph = ctx.new.impl_graph; tmp_flags = ctx.new.tmp_flags; vsids = ctx.new.vsids; watchlists = ctx.new.watchlists } }
+    ensures kept { ctx.new ≡ record ctx.old {
+      analyze_conflict = ctx.new.analyze_conflict;
+      assignment = ctx.new.assignment;
+      binary_clauses = ctx.new.binary_clauses;
+      impl_graph = ctx.new.impl_graph;
+      tmp_flags = ctx.new.tmp_flags;
+      vsids = ctx.new.vsids;
+      watchlists = ctx.new.watchlists;
+    } }
 {
     let first = ctx.assignment.assignment().len();
     set_var_count(ctx, count)?;
@@ -133,7 +143,8 @@ pub fn remove_var<A: Allocator + Copy>(ctx: &mut Context<A>, var: Var)
     ensures removed { ctx.new ≡ record ctx.old { vsids = with_available var false ctx.old.vsids } }
     ensures not_decidable { slice_index_or ctx.old.assignment.current var None ≡ None → IsDecidable (view ctx.new) ctx.new.vsids var → ⊥ }
     ensures others { SameDecidableBut var (view ctx.old) ctx.old.vsids (view ctx.new) ctx.new.vsids }
-    ensures ready { ((c : Clause) → c ∈ kept (view ctx.old) → (l : Literal) → l ∈ c → variable_of l ≢ var) → ((l : Literal) → l ∈ ctx.old.assumptions.working → variable_of l ≢ var) → IsReady ctx.new }
+    ensures ready { ((c : Clause) → c ∈ kept (view ctx.old) → (l : Literal) → l ∈ c → variable_of l ≢ var) →
+        ((l : Literal) → l ∈ ctx.old.assumptions.working → variable_of l ≢ var) → IsReady ctx.new }
 {
     ctx.vsids.make_unavailable(var);
 }

@@ -82,7 +82,8 @@ pub fn drop_variables<A: Allocator + Copy>(ctx: &mut Context<A>, gone: &[bool])
     ensures decidable { (v : ℕ) → IsDecidable (view ctx.new) ctx.new.vsids v ↔ (IsDecidable (view ctx.old) ctx.old.vsids v × (leaves gone.now v ≡ false)) }
     ensures last { ctx.new.assignment.last ≡ cleared gone.now false ctx.old.assignment.last }
     ensures activities { ctx.new.vsids ≡ forgotten_activities gone.now ctx.old.vsids }
-    ensures units { ctx.new.trail.units_removed ≡ min (ctx.old.trail.units_removed + (length ctx.old.trail.literals - length ctx.new.trail.literals)) (2 ^ 64 - 1) }
+    ensures units { ctx.new.trail.units_removed ≡ min (ctx.old.trail.units_removed + (length ctx.old.trail.literals - length ctx.new.trail.literals))
+        (2 ^ 64 - 1) }
     // What a proof holds still fits where the clauses that name the variables are left out of it.
     ensures seen { search_of (view ctx.new) ≡ search_without gone.now (search_of (view ctx.old)) }
     ensures fits { (held : List Clause) → Fits held (search_of (view ctx.old)) → Fits (clauses_without gone.now held) (search_of (view ctx.new)) }

@@ -88,13 +88,23 @@ fn add_distinct<A: Allocator + Copy>(ctx: &mut Context<A>) -> Result<(), StoreEr
     requires distinct { IsDistinct ctx.old.tmp_data.lits.items }
     requires in_range { IsInRange ctx.old.assignment.current ctx.old.tmp_data.lits.items }
     requires untrue { (l : Literal) → l ∈ ctx.old.tmp_data.lits.items → IsMadeTrue ctx.old.assignment.current l → ⊥ }
-    ensures kept { ctx.new ≡ record ctx.old { assignment = ctx.new.assignment; binary_clauses = ctx.new.binary_clauses; clause_alloc = ctx.new.clause_alloc; clause_db = ctx.new.clause_db; impl_graph = ctx.new.impl_graph; solver_state = ctx.new.solver_state; trail = ctx.new.trail; watchlists = ctx.new.watchlists } }
+    ensures kept { ctx.new ≡ record ctx.old {
+      assignment = ctx.new.assignment;
+      binary_clauses = ctx.new.binary_clauses;
+      clause_alloc = ctx.new.clause_alloc;
+      clause_db = ctx.new.clause_db;
+      impl_graph = ctx.new.impl_graph;
+      solver_state = ctx.new.solver_state;
+      trail = ctx.new.trail;
+      watchlists = ctx.new.watchlists;
+    } }
     ensures propagated { OnOk result (IsPropagated ctx.new.watchlists (view ctx.new)) }
     ensures tracks { OnOk result (Tracks ctx.new.clause_db ctx.new.clause_alloc) }
     ensures state { OnOk result (ctx.new.solver_state ≡ record ctx.old.solver_state { sat_state = ctx.new.solver_state.sat_state }) }
     ensures units { OnOk result (ctx.new.trail.units_removed ≡ ctx.old.trail.units_removed) }
     ensures last { OnOk result (ctx.new.assignment.last ≡ ctx.old.assignment.last) }
-    ensures added { OnOk result (IsAdded (view ctx.old) (view ctx.new) ctx.old.tmp_data.lits.items ctx.old.solver_state.sat_state ctx.new.solver_state.sat_state) }
+    ensures added { OnOk result (IsAdded (view ctx.old)
+        (view ctx.new) ctx.old.tmp_data.lits.items ctx.old.solver_state.sat_state ctx.new.solver_state.sat_state) }
     ensures full { IfErr result (λ error. error ≡ StoreError.Full →
         (2 ^ 32 ≤ length ctx.new.clause_alloc.words + 3 + length ctx.old.tmp_data.lits.items) × (ctx.new.assignment.current ≡ ctx.old.assignment.current)) }
 {
@@ -169,12 +179,14 @@ pub fn load_clause<A: Allocator + Copy, P: ProofTracer>(
     ensures lines { OnOk result (ctx.old.solver_state.sat_state ≢ SatState.Unsat → LoadsClause
         (P.in_order proof.old) (λ lines. TakesLines P.takes proof.old lines proof.new)
         (search_of (view ctx.old)) (search_of (view ctx.new)) lits.now (loaded_outcome ctx.new.solver_state.sat_state)) }
-    ensures verdict { OnOk result ((ctx.new.solver_state.sat_state ≡ reopened_state ctx.old.solver_state.sat_state) ⊎ (ctx.new.solver_state.sat_state ≡ SatState.Unsat)) }
+    ensures verdict { OnOk result ((ctx.new.solver_state.sat_state ≡ reopened_state ctx.old.solver_state.sat_state)
+        ⊎ (ctx.new.solver_state.sat_state ≡ SatState.Unsat)) }
     ensures assumptions { OnOk result (ctx.old.solver_state.sat_state ≢ SatState.Unsat → ctx.new.assumptions ≡ record ctx.old.assumptions { levels = 0 }) }
     ensures decidable { OnOk result (SameDecidable (view ctx.old) ctx.old.vsids (view ctx.new) ctx.new.vsids) }
     ensures decay { OnOk result (ctx.new.vsids.decay ≡ ctx.old.vsids.decay) }
     ensures last { OnOk result (ctx.old.solver_state.sat_state ≢ SatState.Unsat → SavesAll (view ctx.old) ctx.old.assignment.last ctx.new.assignment.last) }
-    ensures state { OnOk result (ctx.old.solver_state.sat_state ≢ SatState.Unsat → ctx.new.solver_state ≡ record ctx.old.solver_state { sat_state = ctx.new.solver_state.sat_state; formula_is_empty = false }) }
+    ensures state { OnOk result (ctx.old.solver_state.sat_state ≢ SatState.Unsat →
+        ctx.new.solver_state ≡ record ctx.old.solver_state { sat_state = ctx.new.solver_state.sat_state; formula_is_empty = false }) }
     ensures count { OnOk result (length ctx.new.assignment.current ≡ length ctx.old.assignment.current) }
     ensures units { OnOk result (ctx.new.trail.units_removed ≡ ctx.old.trail.units_removed) }
     ensures undecided { OnOk result (ctx.old.solver_state.sat_state ≢ SatState.Unsat → ctx.new.trail.decisions ≡ []) }
@@ -223,13 +235,16 @@ pub fn resurrect_unit<A: Allocator + Copy>(ctx: &mut Context<A>, lit: Lit) -> Re
     ensures ready { OnOk result (IsReady ctx.new) }
     ensures unsat { ctx.old.solver_state.sat_state ≡ SatState.Unsat → ctx.new ≡ ctx.old }
     // Its unit clause is held again, and the verdict is not Unsat.
-    ensures lines { OnOk result (ctx.old.solver_state.sat_state ≢ SatState.Unsat → Loads (search_of (view ctx.old)) (search_of (view ctx.new)) (lit ∷ []) outcome.Unknown []) }
-    ensures state { OnOk result (ctx.old.solver_state.sat_state ≢ SatState.Unsat → ctx.new.solver_state ≡ record ctx.old.solver_state { sat_state = reopened_state ctx.old.solver_state.sat_state; formula_is_empty = false }) }
+    ensures lines { OnOk result (ctx.old.solver_state.sat_state ≢ SatState.Unsat →
+        Loads (search_of (view ctx.old)) (search_of (view ctx.new)) (lit ∷ []) outcome.Unknown []) }
+    ensures state { OnOk result (ctx.old.solver_state.sat_state ≢ SatState.Unsat →
+        ctx.new.solver_state ≡ record ctx.old.solver_state { sat_state = reopened_state ctx.old.solver_state.sat_state; formula_is_empty = false }) }
     ensures assumptions { OnOk result (ctx.old.solver_state.sat_state ≢ SatState.Unsat → ctx.new.assumptions ≡ record ctx.old.assumptions { levels = 0 }) }
     ensures decidable { OnOk result (SameDecidable (view ctx.old) ctx.old.vsids (view ctx.new) ctx.new.vsids) }
     ensures count { OnOk result (length ctx.new.assignment.current ≡ length ctx.old.assignment.current) }
     // Where all was propagated at level 0, all is.
-    ensures quiet { OnOk result (ctx.old.solver_state.sat_state ≢ SatState.Unsat → ctx.old.trail.decisions ≡ [] → ctx.old.trail.queue_head ≡ length ctx.old.trail.literals → ctx.new.trail.queue_head ≡ length ctx.new.trail.literals) }
+    ensures quiet { OnOk result (ctx.old.solver_state.sat_state ≢ SatState.Unsat → ctx.old.trail.decisions ≡ [] →
+        ctx.old.trail.queue_head ≡ length ctx.old.trail.literals → ctx.new.trail.queue_head ≡ length ctx.new.trail.literals) }
     ensures schedule { KeepsSchedule ctx.old ctx.new }
 {
     if let SatState::Unsat = ctx.solver_state.sat_state {

@@ -36,7 +36,12 @@ fn restart_if_due<A: Allocator + Copy>(ctx: &mut Context<A>)
     ensures units { ctx.new.trail.units_removed ≡ ctx.old.trail.units_removed }
     ensures later { ctx.new.schedule.steps < ctx.new.schedule.next_restart }
     ensures decay { ctx.new.vsids.decay ≡ ctx.old.vsids.decay }
-    ensures kept { ctx.new ≡ record ctx.old { assignment = ctx.new.assignment; trail = ctx.new.trail; vsids = ctx.new.vsids; schedule = step_begun ctx.old.solver_config.luby_restart_interval_scale ctx.old.schedule } }
+    ensures kept { ctx.new ≡ record ctx.old {
+      assignment = ctx.new.assignment;
+      trail = ctx.new.trail;
+      vsids = ctx.new.vsids;
+      schedule = step_begun ctx.old.solver_config.luby_restart_interval_scale ctx.old.schedule;
+    } }
 {
     let scale = ctx.solver_config.luby_restart_interval_scale();
     if !ctx.schedule.begin_step(scale) {
@@ -87,7 +92,12 @@ fn reduce_if_due<A: Allocator + Copy, P: ProofTracer>(
     ensures keeps { OnOk result (KeepsSearch
         (λ lines. ReducesIfDue lines ctx.old ctx.new × TakesLines P.takes proof.old lines proof.new)
         ctx.old ctx.new) }
-    ensures kept { ctx.new ≡ record ctx.old { clause_alloc = ctx.new.clause_alloc; clause_db = ctx.new.clause_db; impl_graph = ctx.new.impl_graph; watchlists = ctx.new.watchlists } }
+    ensures kept { ctx.new ≡ record ctx.old {
+      clause_alloc = ctx.new.clause_alloc;
+      clause_db = ctx.new.clause_db;
+      impl_graph = ctx.new.impl_graph;
+      watchlists = ctx.new.watchlists;
+    } }
     ensures broken { IfErr result (λ error. BreaksOff P.breaks_off proof.old (faults_of error) proof.new) }
 {
     reduce_locals_if_due(ctx, proof)?;
@@ -113,10 +123,12 @@ pub fn schedule_step<A: Allocator + Copy, P: ProofTracer>(
         (λ lines. GoesBySchedule lines ctx.old ctx.new × TakesStep P.takes proof.old lines (outcome_at ctx.new) proof.new)
         ctx.old ctx.new) }
     ensures assumes { OnOk result (KeepsAssumptions (search_of (view ctx.old)) (outcome_at ctx.new) ctx.old.assumptions ctx.new.assumptions) }
-    ensures rises { OnOk result (ctx.new.solver_state.sat_state ≡ SatState.Unknown → IsPlannedStep ctx.old.schedule (kinds (view ctx.old)) (kinds (view ctx.new))) }
+    ensures rises { OnOk result (ctx.new.solver_state.sat_state ≡ SatState.Unknown →
+        IsPlannedStep ctx.old.schedule (kinds (view ctx.old)) (kinds (view ctx.new))) }
     ensures decidable { OnOk result (SameDecidable (view ctx.old) ctx.old.vsids (view ctx.new) ctx.new.vsids) }
     ensures decay { OnOk result (ctx.new.vsids.decay ≡ ctx.old.vsids.decay) }
-    ensures last { OnOk result (RestartsAndRemembers ctx.old.schedule ctx.old.assumptions.levels (view ctx.old) ctx.old.assignment.last ctx.new.assignment.last) }
+    ensures last { OnOk result (RestartsAndRemembers ctx.old.schedule ctx.old.assumptions.levels
+        (view ctx.old) ctx.old.assignment.last ctx.new.assignment.last) }
     ensures count { OnOk result (length ctx.new.assignment.current ≡ length ctx.old.assignment.current) }
     ensures units { OnOk result (ctx.new.trail.units_removed ≡ ctx.old.trail.units_removed) }
     ensures state { OnOk result (ctx.new.solver_state ≡ record ctx.old.solver_state { sat_state = ctx.new.solver_state.sat_state }) }

@@ -58,7 +58,8 @@ pub fn solver_from_global<A: Allocator + Copy>(
     requires variables { HasVariables (record { tables = variables.old; context = ctx.old }) }
     requires live { (kept_at variables.old.kept global).deleted ≡ false }
     ensures variables { OnOk result (HasVariables (record { tables = variables.new; context = ctx.new })) }
-    ensures solver { IfOk result (HasSolverVariable global (record { tables = variables.old; context = ctx.old }) (record { tables = variables.new; context = ctx.new })) }
+    ensures solver { IfOk result (HasSolverVariable global (record { tables = variables.old; context = ctx.old })
+        (record { tables = variables.new; context = ctx.new })) }
     ensures schedule { KeepsSchedule ctx.old ctx.new }
 {
     if let Some(solver) = variables.solver_from_global().get(global) {
@@ -81,7 +82,8 @@ pub fn solver_from_user<A: Allocator + Copy>(
     requires variables { HasVariables (record { tables = variables.old; context = ctx.old }) }
     requires in_range { user < variable_limit }
     requires room { (mid : Tables) → IsNamed user variables.old mid → HasRoom mid }
-    ensures solver { IfOk result (NameHasSolver user (record { tables = variables.old; context = ctx.old }) (record { tables = variables.new; context = ctx.new })) }
+    ensures solver { IfOk result (NameHasSolver user (record { tables = variables.old; context = ctx.old })
+        (record { tables = variables.new; context = ctx.new })) }
     ensures schedule { KeepsSchedule ctx.old ctx.new }
 {
     let global = global_from_user(variables, user)?;
@@ -101,7 +103,8 @@ pub fn solver_from_user_lits<A: Allocator + Copy>(
     requires variables { HasVariables (record { tables = variables.old; context = ctx.old }) }
     requires room { HasRoomFor user_lits.now variables.old }
     ensures variables { OnOk result (HasVariables (record { tables = variables.new; context = ctx.new })) }
-    ensures in_turn { OnOk result (HaveSolversInTurn user_lits.now (record { tables = variables.old; context = ctx.old }) (record { tables = variables.new; context = ctx.new })) }
+    ensures in_turn { OnOk result (HaveSolversInTurn user_lits.now (record { tables = variables.old; context = ctx.old })
+        (record { tables = variables.new; context = ctx.new })) }
     ensures literals { OnOk result (AreOver (chain (at variables.new.users.forward) (at variables.new.solvers.forward)) user_lits.now solver_lits.new.items) }
     ensures schedule { KeepsSchedule ctx.old ctx.new }
 {
@@ -128,7 +131,8 @@ pub fn remove_solver_var<A: Allocator + Copy>(
     ensures removed { OnOk result (ctx.new ≡ record ctx.old { vsids = with_available solver false ctx.old.vsids }) }
     ensures not_decidable { OnOk result (slice_index_or ctx.old.assignment.current solver None ≡ None → IsDecidable (view ctx.new) ctx.new.vsids solver → ⊥) }
     ensures others { OnOk result (SameDecidableBut solver (view ctx.old) ctx.old.vsids (view ctx.new) ctx.new.vsids) }
-    ensures ready { OnOk result (((c : Clause) → c ∈ kept (view ctx.old) → (l : Literal) → l ∈ c → variable_of l ≢ solver) → ((l : Literal) → l ∈ ctx.old.assumptions.working → variable_of l ≢ solver) → IsReady ctx.new) }
+    ensures ready { OnOk result (((c : Clause) → c ∈ kept (view ctx.old) → (l : Literal) → l ∈ c → variable_of l ≢ solver) →
+        ((l : Literal) → l ∈ ctx.old.assumptions.working → variable_of l ≢ solver) → IsReady ctx.new) }
     ensures refused { OnErr result ((variables.new ≡ variables.old) × (ctx.new ≡ ctx.old)) }
 {
     let global = variables.drop_solver_var(solver)?;

@@ -79,7 +79,8 @@ fn shrink<A: Allocator + Copy>(alloc: &mut ClauseAlloc<A>, cref: ClauseRef, left
     requires place { IsPlace (stored_clauses alloc.old) cref }
     requires least { 3 ≤ length left.now }
     requires most { length left.now ≤ length (literals_at (stored_clauses alloc.old) cref) }
-    ensures { HoldsClauses alloc.new (length alloc.old.words) (with_stored (stored_clauses alloc.old) cref (shortened_to left.now (stored_at (stored_clauses alloc.old) cref))) }
+    ensures { HoldsClauses alloc.new (length alloc.old.words)
+        (with_stored (stored_clauses alloc.old) cref (shortened_to left.now (stored_at (stored_clauses alloc.old) cref))) }
 {
     write_front(alloc.lits_mut(cref), left);
     alloc.shorten(cref, left.len());
@@ -98,7 +99,8 @@ impl<'a, A: Allocator + Copy> ClauseFilter<A> for UnitFilter<'a, A> {
 
     ghost accepts = { λ filter k. IsLeftOpen filter.assignment.now.current k.literals };
 
-    ghost leaves = { λ filter k j after. (after.assignment ≡ filter.assignment) × LeavesOpen filter.assignment.now.current k j filter.pairs.items after.pairs.items };
+    ghost leaves = { λ filter k j after. (after.assignment ≡ filter.assignment)
+        × LeavesOpen filter.assignment.now.current k j filter.pairs.items after.pairs.items };
 
     fn filter(&mut self, alloc: &mut ClauseAlloc<A>, cref: ClauseRef) -> Result<bool, AllocError> {
         let lits = alloc.lits(cref);
@@ -169,7 +171,12 @@ fn simplify_stored<A: Allocator + Copy, P: ProofTracer>(
     ensures takes { OnOk result (TakesLines P.takes proof.old (clause_lines (view ctx.old)) proof.new) }
     ensures ready { OnOk result (IsReady ctx.new) }
     ensures decidable { OnOk result (SameDecidable (view ctx.old) ctx.old.vsids (view ctx.new) ctx.new.vsids) }
-    ensures kept { ctx.new ≡ record ctx.old { binary_clauses = ctx.new.binary_clauses; clause_alloc = ctx.new.clause_alloc; clause_db = ctx.new.clause_db; watchlists = ctx.new.watchlists } }
+    ensures kept { ctx.new ≡ record ctx.old {
+      binary_clauses = ctx.new.binary_clauses;
+      clause_alloc = ctx.new.clause_alloc;
+      clause_db = ctx.new.clause_db;
+      watchlists = ctx.new.watchlists;
+    } }
     ensures broken { IfErr result (λ error. BreaksOff P.breaks_off proof.old (faults_of error) proof.new) }
 {
     let alloc = *ctx.tmp_data.lits.allocator();
@@ -202,7 +209,12 @@ pub fn unit_simplify<A: Allocator + Copy, P: ProofTracer>(
     ensures takes { OnOk result (TakesLines P.takes proof.old (pair_lines (view ctx.old) ++ clause_lines (view ctx.old)) proof.new) }
     ensures ready { OnOk result (IsReady ctx.new) }
     ensures decidable { OnOk result (SameDecidable (view ctx.old) ctx.old.vsids (view ctx.new) ctx.new.vsids) }
-    ensures kept { ctx.new ≡ record ctx.old { binary_clauses = ctx.new.binary_clauses; clause_alloc = ctx.new.clause_alloc; clause_db = ctx.new.clause_db; watchlists = ctx.new.watchlists } }
+    ensures kept { ctx.new ≡ record ctx.old {
+      binary_clauses = ctx.new.binary_clauses;
+      clause_alloc = ctx.new.clause_alloc;
+      clause_db = ctx.new.clause_db;
+      watchlists = ctx.new.watchlists;
+    } }
     ensures broken { IfErr result (λ error. BreaksOff P.breaks_off proof.old (faults_of error) proof.new) }
 {
     simplify_binary(ctx, proof)?;

@@ -14,10 +14,12 @@ abbrev pub IsTrail : List Clause → List Literal → List Literal → Type 0
 IsTrail P base trail =
     (k : ℕ) → k < length trail → (get_or trail k 0 ∈ base) ⊎ ((c : Clause) × (c ∈ P) × (get_or trail k 0 ∈ c) × LeavesOnly (take k trail) c (get_or trail k 0))
 
--- A literal is reached where its opposite is in the clause that analysis starts from, or is another literal of the reason of a reached literal that is resolved.
+-- A literal is reached where its opposite is in the clause that analysis starts from, or is another literal of the reason of a
+-- reached literal that is resolved.
 pub data Reached (start : Clause) (reason : Literal → Clause) (Resolved : Literal → Type 0) : Literal → Type 0 where
   AtStart : {l : Literal} → opposite l ∈ start → Reached start reason Resolved l
-  InReason : {l : Literal} (k : Literal) → Reached start reason Resolved k → Resolved k → opposite l ∈ reason k → opposite l ≢ k → Reached start reason Resolved l
+  InReason : {l : Literal} (k : Literal) → Reached start reason Resolved k → Resolved k → opposite l ∈ reason k → opposite l ≢ k →
+      Reached start reason Resolved l
 
 -- the reason of a resolved literal is a clause of P that holds it, and whose other literals are false by earlier places on the trail
 abbrev pub HasEarlierReasons : List Clause → (Literal → Clause) → (Literal → Type 0) → (Literal → ℕ) → Type 0
@@ -32,4 +34,5 @@ EndsIn P start reason Resolved base =
 -- what minimization marks: the literal's opposite is kept, it is implied by P alone, or it has a reason whose other literals are false by earlier marked ones
 abbrev pub MarksAreReasoned : List Clause → Clause → (Literal → Type 0) → (Literal → Clause) → (Literal → ℕ) → Type 0
 MarksAreReasoned P kept Marked reason place =
-    (x : Literal) → Marked x → (opposite x ∈ kept) ⊎ (Implied P [] x ⊎ ((reason x ∈ P) × (x ∈ reason x) × ((m : Literal) → m ∈ reason x → m ≢ x → (place (opposite m) < place x) × Marked (opposite m))))
+    (x : Literal) → Marked x → (opposite x ∈ kept)
+    ⊎ (Implied P [] x ⊎ ((reason x ∈ P) × (x ∈ reason x) × ((m : Literal) → m ∈ reason x → m ≢ x → (place (opposite m) < place x) × Marked (opposite m))))

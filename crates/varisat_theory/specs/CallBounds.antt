@@ -3,7 +3,8 @@ use Rattle.std.specs.Prelude.{◌≡◌, ℕ, suc, ◌+◌, ◌*◌, ◌^◌, �
 use Rattle.varisat_theory.specs.Rank.{rank}
 use Rattle.varisat_theory.specs.Luby.{luby, sum_from, saturated}
 
--- A call over that many variables, whose first step has the number `start`. Its first restart point is whatever was computed before it, and each further one is later by the scale times the next term, from `term` + 1 on.
+-- A call over that many variables, whose first step has the number `start`. Its first restart point is whatever was computed
+-- before it, and each further one is later by the scale times the next term, from `term` + 1 on.
 pub record CallSetting : Type 0 where
   pub variables : ℕ
   pub scale : ℕ
@@ -27,7 +28,8 @@ pub record IsCall (c : CallSetting) (steps : ℕ) (trail : ℕ → List Bool) : 
   pub fits : (t : ℕ) → t ≤ steps → length (trail t) ≤ c.variables
   pub step : (t : ℕ) → suc t < steps → IsCallStep c (c.start + t) (trail t) (trail (suc t))
 
--- Of t steps `before` were made up to the first restart, at point `begun`, then those of `whole` intervals between restarts, and `since` after the last one; the trail has rank `top` now.
+-- Of t steps `before` were made up to the first restart, at point `begun`, then those of `whole` intervals between restarts, and
+-- `since` after the last one; the trail has rank `top` now.
 pub record HasRestarted (c : CallSetting) (t top : ℕ) : Type 0 where
   pub begun : ℕ
   pub whole : ℕ

@@ -14,7 +14,8 @@ abbrev pub TakesOut : List Clause → Clause → List Clause → Type 0
 TakesOut before c after =
     (front : List Clause) × (d : Clause) × (back : List Clause) × (before ≡ front ++ (d ∷ back)) × SameSet d c × (after ≡ front ++ back)
 
--- Where P is present before the lines, Q is present after them: an added clause joins at the end, and a deletion takes out one clause that is equal as a set, and must find one.
+-- Where P is present before the lines, Q is present after them: an added clause joins at the end, and a deletion takes out one
+-- clause that is equal as a set, and must find one.
 abbrev pub IsPresentAfter : List Clause → List Line → List Clause → Type 0
 IsPresentAfter P [] Q = P ≡ Q
 IsPresentAfter P (Add c ∷ lines) Q = IsPresentAfter (P ++ (c ∷ [])) lines Q

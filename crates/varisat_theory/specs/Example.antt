@@ -6,6 +6,7 @@ use Rattle.varisat_theory.specs.Literals.{Literal, Clause}
 abbrev pub small_clauses : List Clause
 small_clauses = (1 ∷ 2 ∷ []) ∷ (5 ∷ 6 ∷ []) ∷ (3 ∷ 7 ∷ 8 ∷ []) ∷ (1 ∷ 7 ∷ 9 ∷ []) ∷ []
 
+-- the clause that is false at the conflict
 abbrev pub small_conflict : Clause
 small_conflict = 1 ∷ 7 ∷ 9 ∷ []
 

@@ -16,6 +16,7 @@ pub record TracerState : Type 0 where
   pub tables : Tables
   pub proof : ProofParts
 
+-- both together
 abbrev pub parts_of : {W A : Type 0} → SolverTracer W A → TracerState
 parts_of t = record { tables = t.variables; proof = t.proof }
 

@@ -18,12 +18,15 @@ least_increment = 2 ^ 20
 abbrev pub activity_limit : ℕ
 activity_limit = 2 ^ 60
 
+-- before the first variable
 abbrev pub no_activities : Activities
 no_activities = record { activity = []; available = []; increment = least_increment; decay = 950 }
 
+-- the activity of the variable
 abbrev pub activity_of : Activities → ℕ → ℕ
 activity_of a v = slice_index a.activity v
 
+-- whether the variable may be decided
 abbrev pub is_available : Activities → ℕ → Bool
 is_available a v = slice_index_or a.available v false
 
@@ -35,12 +38,17 @@ reaches_limit xs = list_any (λ x. nat_le activity_limit x) xs
 abbrev pub shifted : Bool → List ℕ → List ℕ
 shifted full xs = if full then map (λ x. x / 2 ^ 40) xs else xs
 
+-- the increment is divided too, but never below where it began
 abbrev pub shifted_increment : Bool → ℕ → ℕ
 shifted_increment full i = if full then max least_increment (i / 2 ^ 40) else i
 
 -- where an activity or the increment has reached the limit, all are shifted right by 40, and the increment is at least what it was first
 abbrev pub rescaled : Activities → Activities
-rescaled a = record a { activity = shifted (reaches_limit (a.increment ∷ a.activity)) a.activity; increment = shifted_increment (reaches_limit (a.increment ∷ a.activity)) a.increment }
+rescaled a =
+    record a {
+      activity = shifted (reaches_limit (a.increment ∷ a.activity)) a.activity;
+      increment = shifted_increment (reaches_limit (a.increment ∷ a.activity)) a.increment;
+    }
 
 -- the variable's activity is raised by the increment
 abbrev pub bumped : ℕ → Activities → Activities
@@ -56,7 +64,8 @@ with_available v b a = record a { available = slice_set a.available v b }
 
 -- the same with more variables, of activity 0 and not available
 abbrev pub raised_to : ℕ → Activities → Activities
-raised_to count a = record a { activity = a.activity ++ replicate (count - length a.activity) 0; available = a.available ++ replicate (count - length a.activity) false }
+raised_to count a =
+    record a { activity = a.activity ++ replicate (count - length a.activity) 0; available = a.available ++ replicate (count - length a.activity) false }
 
 -- an available variable, and none has a greater activity
 pub record IsGreatest (a : Activities) (v : ℕ) : Type 0 where

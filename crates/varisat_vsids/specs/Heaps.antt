@@ -15,6 +15,7 @@ pub record IsLinked (heap position : List ℕ) : Type 0 where
 abbrev pub availability : ℕ → List ℕ → List Bool
 availability n position = map (λ p. nat_lt p n) position
 
+-- the place above another one
 abbrev pub parent : ℕ → ℕ
 parent k = (k - 1) / 2
 

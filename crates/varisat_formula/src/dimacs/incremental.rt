@@ -48,8 +48,10 @@ pub trait PieceReader<A: Allocator + Copy>: Drop {
         F: Drop,
         requires few { (S.stand source.old).faults < 2 ^ 64 - 1 }
         requires callable { (state : F) (x : _) → F.pre state x }
-        ensures ok { IfOk result (Finishes (record { progress = progress; calls = CalledAtMut F.FnMut; made = E.from_gives }) (S.stand source.old) f (S.stand source.new)) }
-        ensures err { IfErr result (Refuses (record { progress = progress; calls = CalledAtMut F.FnMut; made = E.from_gives }) (S.stand source.old) f (S.stand source.new)) }
+        ensures ok { IfOk result (Finishes (record { progress = progress; calls = CalledAtMut F.FnMut; made = E.from_gives }) (S.stand source.old) f
+            (S.stand source.new)) }
+        ensures err { IfErr result (Refuses (record { progress = progress; calls = CalledAtMut F.FnMut; made = E.from_gives }) (S.stand source.old) f
+            (S.stand source.new)) }
     {
         let mut parser = Self::begin_in(alloc);
         let mut buffer = [0; PIECE];

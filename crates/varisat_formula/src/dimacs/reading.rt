@@ -32,7 +32,14 @@ impl<A: Allocator + Copy> Model for Reader<A> {
 
     ghost Value = { Reading };
 
-    ghost view = { λ r. record { clauses = r.formula.clauses; begun = r.begun.items; count = r.count; header = r.header; highest = r.formula.var_count; fault = r.fault } };
+    ghost view = { λ r. record {
+      clauses = r.formula.clauses;
+      begun = r.begun.items;
+      count = r.count;
+      header = r.header;
+      highest = r.formula.var_count;
+      fault = r.fault;
+    } };
 
     ghost invariant = { λ r. variables_of r.begun.items ≤ r.formula.var_count };
 }

@@ -63,7 +63,8 @@ pub trait ExtendFormula {
 /// variables that were made before stay.
 pub fn new_vars<F: ExtendFormula, const N: usize>(formula: &mut F) -> Result<[Var; N], F::Error>
     ensures ok { IfOk result (λ vs. FoldsTo (λ s v t. F.makes_var s (Ok v) t) formula.old vs formula.new) }
-    ensures err { IfErr result (λ e. (vs : List ℕ) × (s : F) × FoldsTo (λ s v t. F.makes_var s (Ok v) t) formula.old vs s × (length vs < N) × F.makes_var s (Err e) formula.new) }
+    ensures err { IfErr result (λ e. (vs : List ℕ) × (s : F) × FoldsTo (λ s v t. F.makes_var s (Ok v) t) formula.old vs s × (length vs < N)
+        × F.makes_var s (Err e) formula.new) }
 {
     let mut vars = [Var::from_index(0); N];
     for i in 0..N {
@@ -77,8 +78,10 @@ pub fn new_vars<F: ExtendFormula, const N: usize>(formula: &mut F) -> Result<[Va
 
 /// Makes variables as `new_vars` does, and returns their positive literals.
 pub fn new_lits<F: ExtendFormula, const N: usize>(formula: &mut F) -> Result<[Lit; N], F::Error>
-    ensures ok { IfOk result (λ ls. (vs : List ℕ) × FoldsTo (λ s v t. F.makes_var s (Ok v) t) formula.old vs formula.new × (ls ≡ map (λ v. literal_of v true) vs)) }
-    ensures err { IfErr result (λ e. (vs : List ℕ) × (s : F) × FoldsTo (λ s v t. F.makes_var s (Ok v) t) formula.old vs s × (length vs < N) × F.makes_var s (Err e) formula.new) }
+    ensures ok { IfOk result (λ ls. (vs : List ℕ) × FoldsTo (λ s v t. F.makes_var s (Ok v) t) formula.old vs formula.new
+        × (ls ≡ map (λ v. literal_of v true) vs)) }
+    ensures err { IfErr result (λ e. (vs : List ℕ) × (s : F) × FoldsTo (λ s v t. F.makes_var s (Ok v) t) formula.old vs s × (length vs < N)
+        × F.makes_var s (Err e) formula.new) }
 {
     let vars = match new_vars::<F, N>(formula) {
         Ok(vars) => vars,

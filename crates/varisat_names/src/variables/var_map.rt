@@ -218,7 +218,8 @@ impl<A: Allocator + Copy> VarBiMap<A> {
 
     /// Takes the pair of the variable out, if it is mapped.
     pub fn remove(&mut self, from: Var) -> Option<Var>
-        ensures { MatchOption result ((at self.old.forward from ≡ None) × (self.new ≡ self.old)) (λ into. (at self.old.forward from ≡ Some into) × IsParted self.old self.new from into) }
+        ensures { MatchOption result ((at self.old.forward from ≡ None) × (self.new ≡ self.old)) (λ into. (at self.old.forward from ≡ Some into)
+            × IsParted self.old self.new from into) }
     {
         let into = self.fwd.get(from)?;
         self.fwd.remove(from);
@@ -228,7 +229,8 @@ impl<A: Allocator + Copy> VarBiMap<A> {
 
     /// Takes the pair out that leads to the variable, if there is one.
     fn remove_into(&mut self, target: Var) -> Option<Var>
-        ensures { MatchOption result ((at self.old.backward target ≡ None) × (self.new ≡ self.old)) (λ source. (at self.old.backward target ≡ Some source) × IsParted self.old self.new source target) }
+        ensures { MatchOption result ((at self.old.backward target ≡ None) × (self.new ≡ self.old))
+            (λ source. (at self.old.backward target ≡ Some source) × IsParted self.old self.new source target) }
     {
         let source = self.bwd.get(target)?;
         self.bwd.remove(target);
@@ -274,7 +276,9 @@ impl<'a, A: Allocator + Copy> VarBiMapMut<'a, A> {
     pub fn remove(&mut self, from: Var) -> Option<Var>
         ensures same_reference { self.new.map.ghost_name ≡ self.old.map.ghost_name }
         ensures direction { self.new.direction ≡ self.old.direction }
-        ensures parted { MatchOption result ((at (directed self.old.direction self.old.map.now).forward from ≡ None) × (self.new.map.now ≡ self.old.map.now)) (λ into. (at (directed self.old.direction self.old.map.now).forward from ≡ Some into) × IsParted (directed self.old.direction self.old.map.now) (directed self.old.direction self.new.map.now) from into) }
+        ensures parted { MatchOption result ((at (directed self.old.direction self.old.map.now).forward from ≡ None)
+            × (self.new.map.now ≡ self.old.map.now)) (λ into. (at (directed self.old.direction self.old.map.now).forward from ≡ Some into)
+            × IsParted (directed self.old.direction self.old.map.now) (directed self.old.direction self.new.map.now) from into) }
     {
         let direction = self.direction;
         let map = &mut *self.map;

@@ -44,7 +44,13 @@ impl<A: Allocator + Copy> Model for ProofReader<A> {
 
     ghost Value = { ReaderState };
 
-    ghost view = { λ r. record { encoding = r.encoding; at = r.at; start = r.start; part = r.part; place = record { inside = r.inside; kind = r.kind; clause = r.clause.items } } };
+    ghost view = { λ r. record {
+      encoding = r.encoding;
+      at = r.at;
+      start = r.start;
+      part = r.part;
+      place = record { inside = r.inside; kind = r.kind; clause = r.clause.items };
+    } };
 
     ghost invariant = { λ r. (r.part.count ≤ 4) × (r.part.value ≤ r.part.count * 2 ^ 35) };
 }

@@ -29,7 +29,8 @@ impl<A: Allocator + Copy> Model for Assignment<A> {
 
     ghost view = { λ a. record { current = a.assignment.items; last = a.last_value.items } };
 
-    ghost invariant = { λ a. (length a.last_value.items ≡ length a.assignment.items) × (length a.false_lits.items ≡ 2 * length a.assignment.items) × TellsFalse a.assignment.items a.false_lits.items };
+    ghost invariant = { λ a. (length a.last_value.items ≡ length a.assignment.items) × (length a.false_lits.items ≡ 2 * length a.assignment.items)
+        × TellsFalse a.assignment.items a.false_lits.items };
 }
 
 impl<A: Allocator + Copy> Assignment<A> {
@@ -81,7 +82,10 @@ impl<A: Allocator + Copy> Assignment<A> {
     pub fn release_var(&mut self, var: Var)
         requires { var < length self.old.current }
         ensures count { length self.old.last ≡ length self.old.current }
-        ensures released { self.new ≡ record { current = slice_set self.old.current var None; last = slice_set self.old.last var (is_true_value (slice_index_or self.old.current var None)) } }
+        ensures released { self.new ≡ record {
+          current = slice_set self.old.current var None;
+          last = slice_set self.old.last var (is_true_value (slice_index_or self.old.current var None));
+        } }
     {
         self.last_value[var.index()] = self.assignment[var.index()] == Some(true);
         self.unassign_var(var);

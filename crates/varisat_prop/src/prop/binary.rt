@@ -28,9 +28,12 @@ pub fn propagate_binary<A: Allocator + Copy>(
     requires well { WellFormed (view_of clause_alloc.now binary_clauses.now assignment.old trail.old impl_graph.old) }
     requires is_true { IsMadeTrue assignment.old.current lit }
     requires listed { lit < length binary_clauses.now }
-    ensures propagates { OnOk result (Propagates (view_of clause_alloc.now binary_clauses.now assignment.old trail.old impl_graph.old) (view_of clause_alloc.now binary_clauses.now assignment.new trail.new impl_graph.new)) }
-    ensures keeps { OnOk result (KeepsParts (parts_of clause_alloc.now binary_clauses.now assignment.old trail.old impl_graph.old) (parts_of clause_alloc.now binary_clauses.now assignment.new trail.new impl_graph.new)) }
-    ensures ends { IfOk result (λ end. EndsPropagation (λ t. (m : Literal) → m ∈ slice_index_or binary_clauses.now lit [] → m ∈ t.trail) (view_of clause_alloc.now binary_clauses.now assignment.new trail.new impl_graph.new) end) }
+    ensures propagates { OnOk result (Propagates (view_of clause_alloc.now binary_clauses.now assignment.old trail.old impl_graph.old)
+        (view_of clause_alloc.now binary_clauses.now assignment.new trail.new impl_graph.new)) }
+    ensures keeps { OnOk result (KeepsParts (parts_of clause_alloc.now binary_clauses.now assignment.old trail.old impl_graph.old)
+        (parts_of clause_alloc.now binary_clauses.now assignment.new trail.new impl_graph.new)) }
+    ensures ends { IfOk result (λ end. EndsPropagation (λ t. (m : Literal) → m ∈ slice_index_or binary_clauses.now lit [] →
+        m ∈ t.trail) (view_of clause_alloc.now binary_clauses.now assignment.new trail.new impl_graph.new) end) }
 {
     for entry in binary_clauses.implied(lit) {
         let implied = *entry;

@@ -20,7 +20,9 @@ pub fn enqueue_assignment<A: Allocator + Copy>(
     reason: Reason,
 ) -> Result<(), AllocError>
     requires { IsAssignable assignment.old.current impl_graph.old.nodes.items lit }
-    ensures view { OnOk result ((clauses : Store) (binary : List (List Literal)) → view_of clauses binary assignment.new trail.new impl_graph.new ≡ enqueued (view_of clauses binary assignment.old trail.old impl_graph.old) lit reason) }
+    ensures view { OnOk result ((clauses : Store) (binary : List (List Literal)) →
+        view_of clauses binary assignment.new trail.new impl_graph.new ≡ enqueued
+        (view_of clauses binary assignment.old trail.old impl_graph.old) lit reason) }
     ensures last { OnOk result (assignment.new.last ≡ assignment.old.last) }
     ensures units { OnOk result (trail.new.units_removed ≡ trail.old.units_removed) }
 {

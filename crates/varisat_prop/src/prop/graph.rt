@@ -150,7 +150,8 @@ impl<A: Allocator + Copy> ImplGraph<A> {
     /// Notes that the variable is a unit that was taken off the trail.
     pub fn update_removed_unit(&mut self, var: Var)
         requires { var < length self.old.nodes.items }
-        ensures { self.new.nodes.items ≡ slice_set self.old.nodes.items var (record (slice_index_or self.old.nodes.items var no_node) { reason = Reason.Unit; depth = 2 ^ 64 - 1 }) }
+        ensures { self.new.nodes.items ≡ slice_set self.old.nodes.items var
+            (record (slice_index_or self.old.nodes.items var no_node) { reason = Reason.Unit; depth = 2 ^ 64 - 1 }) }
     {
         let node = &mut self.nodes[var.index()];
         node.reason = Reason::Unit;

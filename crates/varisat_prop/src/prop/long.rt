@@ -147,7 +147,9 @@ fn visit_watch<A: Allocator + Copy>(
     watch: Watch,
 ) -> Result<Visit, AllocError>
     requires { IsWatchOf watchlists.old (view_of clause_alloc.old binary_clauses.now assignment.old trail.old impl_graph.old) lit watch }
-    ensures { IfOk result (λ visit. IsVisitedAs (with_lists (parts_of clause_alloc.old binary_clauses.now assignment.old trail.old impl_graph.old) watchlists.old) (with_lists (parts_of clause_alloc.new binary_clauses.now assignment.new trail.new impl_graph.new) watchlists.new) lit watch.cref visit) }
+    ensures { IfOk result (λ visit. IsVisitedAs
+        (with_lists (parts_of clause_alloc.old binary_clauses.now assignment.old trail.old impl_graph.old) watchlists.old)
+        (with_lists (parts_of clause_alloc.new binary_clauses.now assignment.new trail.new impl_graph.new) watchlists.new) lit watch.cref visit) }
 {
     if assignment.lit_is_true(watch.blocking) {
         return Ok(Visit::Keep(watch.blocking));
@@ -199,9 +201,12 @@ fn visit_watches<A: Allocator + Copy>(
     lit: Lit,
 ) -> Result<Result<(), Conflict>, AllocError>
     requires inside { lit < length watchlists.old.lists }
-    requires next { IsNext (with_watches watchlists.old lit list.old.items) (view_of clause_alloc.old binary_clauses.now assignment.old trail.old impl_graph.old) lit }
-    ensures goes { OnOk result (GoesOnWith (parts_of clause_alloc.old binary_clauses.now assignment.old trail.old impl_graph.old) (parts_of clause_alloc.new binary_clauses.now assignment.new trail.new impl_graph.new) (with_watches watchlists.new lit list.new.items)) }
-    ensures ends { IfOk result (λ end. EndsPropagation (λ s. IsSettledTo s (suc s.queue_head)) (view_of clause_alloc.new binary_clauses.now assignment.new trail.new impl_graph.new) end) }
+    requires next { IsNext (with_watches watchlists.old lit list.old.items)
+        (view_of clause_alloc.old binary_clauses.now assignment.old trail.old impl_graph.old) lit }
+    ensures goes { OnOk result (GoesOnWith (parts_of clause_alloc.old binary_clauses.now assignment.old trail.old impl_graph.old)
+        (parts_of clause_alloc.new binary_clauses.now assignment.new trail.new impl_graph.new) (with_watches watchlists.new lit list.new.items)) }
+    ensures ends { IfOk result (λ end. EndsPropagation
+        (λ s. IsSettledTo s (suc s.queue_head)) (view_of clause_alloc.new binary_clauses.now assignment.new trail.new impl_graph.new) end) }
     ensures lists { OnOk result (length watchlists.new.lists ≡ length watchlists.old.lists) }
 {
     let mut write = 0;
@@ -247,8 +252,10 @@ pub fn propagate_long<A: Allocator + Copy>(
     lit: Lit,
 ) -> Result<Result<(), Conflict>, AllocError>
     requires { IsNext watchlists.old (view_of clause_alloc.old binary_clauses.now assignment.old trail.old impl_graph.old) lit }
-    ensures goes { OnOk result (GoesOnWith (parts_of clause_alloc.old binary_clauses.now assignment.old trail.old impl_graph.old) (parts_of clause_alloc.new binary_clauses.now assignment.new trail.new impl_graph.new) watchlists.new) }
-    ensures ends { IfOk result (λ end. EndsPropagation (λ s. IsSettledTo s (suc s.queue_head)) (view_of clause_alloc.new binary_clauses.now assignment.new trail.new impl_graph.new) end) }
+    ensures goes { OnOk result (GoesOnWith (parts_of clause_alloc.old binary_clauses.now assignment.old trail.old impl_graph.old)
+        (parts_of clause_alloc.new binary_clauses.now assignment.new trail.new impl_graph.new) watchlists.new) }
+    ensures ends { IfOk result (λ end. EndsPropagation
+        (λ s. IsSettledTo s (suc s.queue_head)) (view_of clause_alloc.new binary_clauses.now assignment.new trail.new impl_graph.new) end) }
 {
     let mut list = watchlists.take_list(lit);
     let end = visit_watches(

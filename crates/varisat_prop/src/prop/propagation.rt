@@ -59,8 +59,10 @@ fn propagate_lit<A: Allocator + Copy>(
     lit: Lit,
 ) -> Result<Result<(), Conflict>, AllocError>
     requires { IsNext watchlists.old (view_of clause_alloc.old binary_clauses.now assignment.old trail.old impl_graph.old) lit }
-    ensures goes { OnOk result (GoesOnWith (parts_of clause_alloc.old binary_clauses.now assignment.old trail.old impl_graph.old) (parts_of clause_alloc.new binary_clauses.now assignment.new trail.new impl_graph.new) watchlists.new) }
-    ensures ends { IfOk result (λ end. EndsPropagation (λ s. IsSettledTo s (suc s.queue_head) × IsImpliedTo s (suc s.queue_head)) (view_of clause_alloc.new binary_clauses.now assignment.new trail.new impl_graph.new) end) }
+    ensures goes { OnOk result (GoesOnWith (parts_of clause_alloc.old binary_clauses.now assignment.old trail.old impl_graph.old)
+        (parts_of clause_alloc.new binary_clauses.now assignment.new trail.new impl_graph.new) watchlists.new) }
+    ensures ends { IfOk result (λ end. EndsPropagation (λ s. IsSettledTo s (suc s.queue_head)
+        × IsImpliedTo s (suc s.queue_head)) (view_of clause_alloc.new binary_clauses.now assignment.new trail.new impl_graph.new) end) }
 {
     match propagate_binary(
         assignment,
@@ -99,12 +101,14 @@ pub fn propagate<A: Allocator + Copy>(
     requires well { WellFormed (view_of clause_alloc.old binary_clauses.now assignment.old trail.old impl_graph.old) }
     requires propagated { IsPropagated watchlists.old (view_of clause_alloc.old binary_clauses.now assignment.old trail.old impl_graph.old) }
     // Each literal that was added has a clause as its reason, whose other literals are false and stand before it.
-    ensures propagates { OnOk result (Propagates (view_of clause_alloc.old binary_clauses.now assignment.old trail.old impl_graph.old) (view_of clause_alloc.new binary_clauses.now assignment.new trail.new impl_graph.new)) }
+    ensures propagates { OnOk result (Propagates (view_of clause_alloc.old binary_clauses.now assignment.old trail.old impl_graph.old)
+        (view_of clause_alloc.new binary_clauses.now assignment.new trail.new impl_graph.new)) }
     ensures propagated { OnOk result (IsPropagated watchlists.new (view_of clause_alloc.new binary_clauses.now assignment.new trail.new impl_graph.new)) }
     // At a conflict all literals of the named clause are false. Else no clause is false, none leaves a literal that
     // isn't true, and each literal was propagated.
     ensures ends { IfOk result (λ end. MatchResult end
-        (λ _. IsComplete (kept (view_of clause_alloc.new binary_clauses.now assignment.new trail.new impl_graph.new)) trail.new.literals × (trail.new.queue_head ≡ length trail.new.literals))
+        (λ _. IsComplete (kept (view_of clause_alloc.new binary_clauses.now assignment.new trail.new impl_graph.new)) trail.new.literals
+        × (trail.new.queue_head ≡ length trail.new.literals))
         (λ conflict. IsConflicting (view_of clause_alloc.new binary_clauses.now assignment.new trail.new impl_graph.new) conflict)) }
     ensures last { OnOk result (assignment.new.last ≡ assignment.old.last) }
     ensures units { OnOk result (trail.new.units_removed ≡ trail.old.units_removed) }

@@ -1,4 +1,4 @@
-use Rattle.std.proofs.Common.{inl}
+use Rattle.std.proofs.Common.{inl, rules}
 use Rattle.varisat_present.specs.Places.{present}
 use Rattle.varisat_present.proofs.KeptLiterals.{spare_left}
 use Rattle.varisat_present.proofs.present.is_spare.Goals as goal
@@ -9,3 +9,6 @@ returns-in-Leaves g c =
 
 pub returns-in-Open : goal.returns-in-Open
 returns-in-Open g c = λ e. (c.if-not-is_settled.false, inl c.in-Open.ensures)
+
+pub returns-in-False : goal.returns-in-False
+returns-in-False g c = search rules

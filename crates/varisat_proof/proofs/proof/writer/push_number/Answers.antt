@@ -1,3 +1,4 @@
+use Rattle.std.proofs.lemmas.Grind.{common_steps}
 use Rattle.std.proofs.Common.{refl, arith}
 use Rattle.varisat_proof.proofs.LineBytes.{leb128_start}
 use Rattle.varisat_proof.proofs.proof.writer.push_number.Goals as goal
@@ -8,3 +9,6 @@ bytes-init g c = record {
   small = omega arith;
   bytes = leb128_start c.args.buffer.now.items c.args.buffer.now.items c.args.number refl;
 }
+
+pub bytes-preserved : goal.bytes-preserved
+bytes-preserved g c = grind (arith, common_steps)

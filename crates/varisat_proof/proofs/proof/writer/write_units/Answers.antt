@@ -1,4 +1,5 @@
-use Rattle.std.proofs.Common.{◌∙◌}
+use Rattle.std.proofs.lemmas.Grind.{common_steps}
+use Rattle.std.proofs.Common.{◌∙◌, arith}
 use Rattle.varisat_proof.proofs.LineBytes.{units_err, units_more}
 use Rattle.varisat_proof.proofs.proof.writer.write_units.Goals as goal
 
@@ -15,3 +16,6 @@ loop-unit-preserved g c = record {
       c.loop-unit.invariant.put c.in-Ok.ensures.0;
   quiet = c.in-Ok.ensures.1 ∙ c.loop-unit.invariant.quiet;
 }
+
+pub returns : goal.returns
+returns g c = grind (arith, common_steps)

@@ -1,4 +1,5 @@
-use Rattle.std.proofs.Common.{refl, ◌∙◌}
+use Rattle.std.proofs.lemmas.Grind.{common_steps}
+use Rattle.std.proofs.Common.{refl, ◌∙◌, arith}
 use Rattle.std.proofs.lemmas.List.{get_or_read}
 use Rattle.varisat_proof.proofs.CheckedSteps.{units_more, units_fail}
 use Rattle.varisat_proof.proofs.checker.check.Checker.check_units.Goals as goal
@@ -16,3 +17,6 @@ loop-i-preserved g c = record {
       c.loop-i.invariant.derives c.in-Ok.ensures.0;
   usable = c.in-Ok.ensures.1 ∙ c.loop-i.invariant.usable;
 }
+
+pub returns : goal.returns
+returns g c = grind (arith, common_steps)

@@ -1,4 +1,5 @@
-use Rattle.std.proofs.Common.{◌≡◌, List, [], ◌∷◌, ◌++◌, sym, ap, subst, ◌∙◌}
+use Rattle.std.proofs.lemmas.Grind.{common_steps}
+use Rattle.std.proofs.Common.{◌≡◌, List, [], ◌∷◌, ◌++◌, sym, ap, subst, ◌∙◌, arith}
 use Rattle.varisat_theory.specs.Literals.{Clause}
 use Rattle.varisat_proof.specs.declared.checker.line.LineStatus.TheVariants.{Taken}
 use Rattle.varisat_proof.specs.declared.checker.error.CheckerError.TheVariants.{CheckFailed, NoSuchClause, CoreNotAssumed}
@@ -40,3 +41,6 @@ returns-clause-takes g c =
     (state_of c.take_line.new.self.clauses c.take_line.new.builder) c.args.count.now.steps c.saturating_add-step.result
     (line_of_kind c.args.kind c.args.clause.now) c.if-count.false h c.saturating_add-step.ensures c.in-Ok.status c.in-Ok-is_refuted.refuted
     c.in-Taken.is c.in-Ok.ensures.status c.in-Ok-is_refuted.ensures.found)
+
+pub returns-then-count-clause-takes : goal.returns-then-count-clause-takes
+returns-then-count-clause-takes g c = grind (arith, common_steps)

@@ -1,5 +1,6 @@
+use Rattle.std.proofs.lemmas.Grind.{common_steps}
 use Rattle.varisat_proof.specs.Marked.{state_of}
-use Rattle.std.proofs.Common.{sym, ap, ◌∙◌}
+use Rattle.std.proofs.Common.{sym, ap, ◌∙◌, arith}
 use Rattle.varisat_proof.proofs.CheckedLines.{state_is, stands_along, so_far_more, so_far_line, piece_fault, piece_wrong}
 use Rattle.varisat_proof.proofs.checker.check.Checker.read_piece.Goals as goal
 use Rattle.varisat_proof.proofs.checker.check.Checker.read_piece.Goals.{in-More, in-Ended+in-Ok-next_line}
@@ -37,3 +38,6 @@ loop-b-preserved g c = record {
     | in-Ended+in-Ok-next_line w ↦ ap (λ h. h.spent) w.self-is ∙ w.next_line.ensures.spent ∙ c.loop-b.invariant.spent
   ];
 }
+
+pub returns-clause-reads : goal.returns-clause-reads
+returns-clause-reads g c = grind (arith, common_steps)

@@ -1,4 +1,5 @@
-use Rattle.std.proofs.Common.{List, ◌∙◌, subst}
+use Rattle.std.proofs.lemmas.Grind.{common_steps}
+use Rattle.std.proofs.Common.{List, ◌∙◌, subst, arith}
 use Rattle.varisat_theory.specs.Membership.{◌∈◌}
 use Rattle.varisat_clause.specs.Collected.{live_clauses}
 use Rattle.varisat_prop.specs.declared.prop.graph.Conflict.{Conflict}
@@ -29,3 +30,9 @@ returns-clause-headers g c =
 
 pub returns-clause-tracks : goal.returns-clause-tracks
 returns-clause-tracks g c = decay-tracks c.bump_named.new.db c.bump_named.new.alloc c.decay_clause_activities.new.alloc _ c.bump_named.ensures.tracks c.decay_clause_activities.ensures.clauses
+
+pub returns-in_err-bump_named-clause-flags : goal.returns-in_err-bump_named-clause-flags
+returns-in_err-bump_named-clause-flags g c = grind (arith, common_steps)
+
+pub returns-clause-flags : goal.returns-clause-flags
+returns-clause-flags g c = grind (arith, common_steps)

@@ -1,4 +1,5 @@
-use Rattle.std.proofs.Common.{sym, ◌∙◌, subst, get_or}
+use Rattle.std.proofs.lemmas.Grind.{common_steps}
+use Rattle.std.proofs.Common.{sym, ◌∙◌, subst, get_or, arith}
 use Rattle.varisat_theory.specs.Membership.{◌∈◌}
 use Rattle.varisat_theory.proofs.Places.{∈-get_or}
 use Rattle.varisat_prop.specs.Parts.{IsMadeTrue}
@@ -30,3 +31,6 @@ implied-preserved g c =
 
 pub returns-clause-next : goal.returns-clause-next
 returns-clause-next g c = read-none c.implied.assumptions.working c.args.level (sym c.assumption.ensures ∙ c.in_default.is)
+
+pub implied-smaller : goal.implied-smaller
+implied-smaller g c = grind (arith, common_steps)

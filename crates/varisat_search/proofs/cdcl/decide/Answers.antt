@@ -1,4 +1,5 @@
-use Rattle.std.proofs.Common.{◌≡◌, length, sym, ap, ◌∙◌, subst}
+use Rattle.std.proofs.lemmas.Grind.{common_steps}
+use Rattle.std.proofs.Common.{◌≡◌, length, sym, ap, ◌∙◌, subst, arith}
 use Rattle.varisat_theory.specs.Propagation.{IsComplete}
 use Rattle.varisat_prop.specs.View.{View, kept, GrowsTrail}
 use Rattle.varisat_prop.proofs.ViewGrowth.{grows-refl}
@@ -42,3 +43,6 @@ returns-clause-grows g c =
     made-or-not c.in_ok-made.made _ _ _ c.in_ok-made.ensures.decided
     (λ p. subst (λ (t : View). GrowsTrail t (view z)) n.0 (literal-grows (view x) (view z) c.in_ok-enqueue_assumption.ensures.ready.well p.0 p.1 p.2))
     (λ p. subst (GrowsTrail (view c.args.ctx.now)) (sym (ap (λ (y : Context g.row.A.Denot). view y) p.0 ∙ n.0)) (grows-refl (view c.args.ctx.now)))
+
+pub returns-clause-decided : goal.returns-clause-decided
+returns-clause-decided g c = grind (arith, common_steps)

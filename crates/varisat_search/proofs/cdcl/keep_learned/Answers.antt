@@ -1,4 +1,5 @@
-use Rattle.std.proofs.Common.{rules, ℕ, ◌≤◌, List, length, subst}
+use Rattle.std.proofs.lemmas.Grind.{common_steps}
+use Rattle.std.proofs.Common.{rules, ℕ, ◌≤◌, List, length, subst, arith}
 use Rattle.varisat_clause.specs.Stores.{AddsStored}
 use Rattle.varisat_search.specs.Conflicts.{learned_at}
 use Rattle.varisat_search.proofs.LearnClause.{stored-learned}
@@ -15,3 +16,9 @@ returns-clause-reason g c =
 pub returns-clause-stored : goal.returns-clause-stored
 returns-clause-stored g c =
     subst (λ (d : List ℕ). AddsStored c.args.ctx.now.clause_alloc c.add_clause.new.alloc (learned_at c.in_ok-cref.cref c.args.header d)) c.clause-2.ensures c.in_ok-cref.ensures.added
+
+pub add_binary_clause-requires-clause-first : goal.add_binary_clause-requires-clause-first
+add_binary_clause-requires-clause-first g c = grind (arith, common_steps)
+
+pub add_binary_clause-requires-clause-second : goal.add_binary_clause-requires-clause-second
+add_binary_clause-requires-clause-second g c = grind (arith, common_steps)

@@ -1,4 +1,5 @@
 use Rattle.varisat_trace.proofs.Broken.{error-broken}
+use Rattle.std.proofs.lemmas.Grind.{common_steps}
 use Rattle.std.proofs.Common.{length, ap, arith}
 use Rattle.varisat_search.specs.Contexts.{view}
 use Rattle.varisat_search.specs.SettledUnits.{IsUnsettled}
@@ -19,3 +20,9 @@ pub returns-in_err-end-clause-broken : goal.returns-in_err-end-clause-broken
 returns-in_err-end-clause-broken g c =
     error-broken g.P.ProofTracer.breaks_off c.args.proof.now c.settle.new.proof c.from_residual.result c.in_err-end.field-0.0 c.from_residual.ensures
     c.in_err-end.ensures.broken
+
+pub settle-requires-clause-undecided : goal.settle-requires-clause-undecided
+settle-requires-clause-undecided g c = grind (arith, common_steps)
+
+pub returns-clause-stays : goal.returns-clause-stays
+returns-clause-stays g c = grind (arith, common_steps)

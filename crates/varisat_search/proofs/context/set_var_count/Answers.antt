@@ -1,3 +1,4 @@
+use Rattle.std.proofs.lemmas.Grind.{common_steps}
 use Rattle.std.proofs.Common.{◌*◌, false, [], length, replicate, refl, sym, ap, ◌∙◌, arith}
 use Rattle.varisat_prop.specs.View.{View}
 use Rattle.varisat_search.specs.Contexts.{view}
@@ -43,3 +44,24 @@ pub returns-clause-decidable : goal.returns-clause-decidable
 returns-clause-decidable g c =
     let x = c.args.ctx.now in
     raised-same (view x) (after g (goal.at.returns-clause-decidable g c).In_ok-set_var_count-4) x.vsids c.args.count c.in_ok-set_var_count-2.ensures.current c.in_ok-set_var_count-6.ensures.raised
+
+pub returns-in_err-set_var_count-3-clause-remembered : goal.returns-in_err-set_var_count-3-clause-remembered
+returns-in_err-set_var_count-3-clause-remembered g c = grind (arith, common_steps)
+
+pub returns-in_err-set_var_count-4-clause-remembered : goal.returns-in_err-set_var_count-4-clause-remembered
+returns-in_err-set_var_count-4-clause-remembered g c = grind (arith, common_steps)
+
+pub set_var_count-requires-5-clause-raised : goal.set_var_count-requires-5-clause-raised
+set_var_count-requires-5-clause-raised g c = grind (arith, common_steps)
+
+pub returns-in_err-set_var_count-5-clause-remembered : goal.returns-in_err-set_var_count-5-clause-remembered
+returns-in_err-set_var_count-5-clause-remembered g c = grind (arith, common_steps)
+
+pub returns-in_err-set_var_count-6-clause-remembered : goal.returns-in_err-set_var_count-6-clause-remembered
+returns-in_err-set_var_count-6-clause-remembered g c = grind (arith, common_steps)
+
+pub returns-in_err-set_var_count-7-clause-remembered : goal.returns-in_err-set_var_count-7-clause-remembered
+returns-in_err-set_var_count-7-clause-remembered g c = grind (arith, common_steps)
+
+pub returns-clause-remembered : goal.returns-clause-remembered
+returns-clause-remembered g c = grind (arith, common_steps)

@@ -61,3 +61,6 @@ loop-place-preserved g c =
       making = subst (λ a. Making s c.args.ctx.now.vsids a c.level_end-end.result (k + 1)) (sym c.make_available.ensures) (making-step s c.args.ctx.now.vsids c.loop-place.ctx.vsids c.level_end-end.result k c.var-var.result c.requires.well c.requires.entries.available c.loop-place.auto.place r.below r.var c.loop-place.invariant.making);
       kept = ap (λ (x : Context g.row.A.Denot). record x { assignment = c.release_var.new.self; vsids = c.make_available.new.self }) c.loop-place.invariant.kept;
     }
+
+pub returns : goal.returns
+returns g c = grind arith

@@ -1,3 +1,4 @@
+use Rattle.std.proofs.lemmas.Grind.{common_steps}
 use Rattle.std.proofs.Common.{◌≡◌, ◌*◌, false, length, drop, sym, ap, ◌∙◌, arith}
 use Rattle.std.proofs.lemmas.List.{length-replicate}
 use Rattle.varisat_analysis.proofs.BumpedVariables.{clear-given-back}
@@ -26,3 +27,6 @@ returns-clause-flags g c =
     let count = x.tmp_flags.flags.ok.0 in
     let f : length x.tmp_flags.flags.items ≡ 2 * n = ap (λ xs. length xs) c.requires.flags ∙ length-replicate (2 * n) false in
     clear-given-back news (drop (length news) x.tmp_flags.flags.items) x.tmp_flags.flags.len (2 * n) (omega (arith, long, value, count)) (omega (arith, f, count)) c.collect_flagged.ensures.clear ∙ sym c.requires.flags
+
+pub collect_flagged-requires-clause-clear : goal.collect_flagged-requires-clause-clear
+collect_flagged-requires-clause-clear g c = grind (arith, common_steps)

@@ -1,4 +1,5 @@
-use Rattle.std.proofs.Common.{refl}
+use Rattle.std.proofs.lemmas.Grind.{common_steps}
+use Rattle.std.proofs.Common.{refl, arith}
 use Rattle.varisat_theory.specs.Literals.{opposite}
 use Rattle.varisat_prop.specs.Parts.{IsMadeTrue}
 use Rattle.varisat_prop.proofs.ReadElements.{item-∈}
@@ -13,3 +14,6 @@ returns-then-lit_is_false g c = one-found (λ l. IsMadeTrue c.args.assignment.no
 
 pub loop-lit-preserved : goal.loop-lit-preserved
 loop-lit-preserved g c = none-so-far (λ l. IsMadeTrue c.args.assignment.now.current (opposite l)) c.args.lits.now c.loop-lit-test.true c.lit-item.is c.loop-lit.invariant (λ t. let b = c.if-lit_is_false.ensures.1 t in cc)
+
+pub returns : goal.returns
+returns g c = grind (arith, common_steps)

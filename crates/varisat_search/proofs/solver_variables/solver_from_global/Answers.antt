@@ -1,3 +1,4 @@
+use Rattle.std.proofs.lemmas.Grind.{common_steps}
 -- The variable took a solver variable, which the search has.
 use Rattle.std.proofs.Common.{◌≡◌, Some, None, List, length, sym, ap, ◌∙◌, subst, arith}
 use Rattle.varisat_theory.specs.Searches.{IsLiteralOf}
@@ -64,3 +65,6 @@ returns-clause-solver g c =
       assumptions = ap (λ (y : Context g.row.A.Denot). y.assumptions) c.add_variables.ensures.kept;
     })
     (c.in_ok-initialize_solver_var.ensures {u = tt}).unit
+
+pub var_data_global-requires : goal.var_data_global-requires
+var_data_global-requires g c = grind (arith, common_steps)

@@ -1,5 +1,6 @@
+use Rattle.std.proofs.lemmas.Grind.{common_steps}
 -- One more literal's name has a solver variable.
-use Rattle.std.proofs.Common.{◌≡◌, ◌++◌, ◌∷◌, [], ◌+◌, sym, ap, ◌∙◌, subst, take, drop, refl}
+use Rattle.std.proofs.Common.{◌≡◌, ◌++◌, ◌∷◌, [], ◌+◌, sym, ap, ◌∙◌, subst, take, drop, refl, arith}
 use Rattle.std.proofs.lemmas.List.{take_more}
 use Rattle.varisat_theory.specs.Literals.{variable_of, literal_of}
 use Rattle.varisat_names.specs.Maps.{chain}
@@ -44,3 +45,12 @@ loop-lit-preserved g c =
         solver_config = c.solver_from_user.ensures.schedule.solver_config ∙ k.schedule.solver_config;
       };
     }
+
+pub solver_from_user-requires-clause-in_range : goal.solver_from_user-requires-clause-in_range
+solver_from_user-requires-clause-in_range g c = grind (arith, common_steps)
+
+pub returns-clause-in_turn : goal.returns-clause-in_turn
+returns-clause-in_turn g c = grind (arith, common_steps)
+
+pub returns-clause-literals : goal.returns-clause-literals
+returns-clause-literals g c = grind (arith, common_steps)

@@ -1,5 +1,6 @@
+use Rattle.std.proofs.lemmas.Grind.{common_steps}
 use Rattle.varisat_trace.proofs.Broken.{lines-broken, breaks-on, breaks-in}
-use Rattle.std.proofs.Common.{◌≡◌, ◌+◌, ◌-◌, List, [], ◌∷◌, ◌++◌, drop, true, false, sym, ap, ◌∙◌}
+use Rattle.std.proofs.Common.{◌≡◌, ◌+◌, ◌-◌, List, [], ◌∷◌, ◌++◌, drop, true, false, sym, ap, ◌∙◌, arith}
 use Rattle.varisat_theory.specs.Literals.{Clause}
 use Rattle.varisat_theory.specs.Derivations.{Line, Delete}
 use Rattle.varisat_clause.specs.Headers.{Header}
@@ -66,3 +67,6 @@ pub returns-in_err-add_step : goal.returns-in_err-add_step
 returns-in_err-add_step g c =
     lines-broken g.P.ProofTracer.takes g.P.ProofTracer.breaks_off c.args.proof.now c.add_step.new.self (unmarked_deletions (stored_clauses c.args.clause_alloc.now) c.args.count c.args.list.now) c.from_residual.result c.in_err-add_step.field-0.0 c.from_residual.ensures
     (breaks-on g.P.ProofTracer.takes g.P.ProofTracer.breaks_off g.met.P.ProofTracer.breaks_behind c.clauses.invariant.taken (breaks-in g.P.ProofTracer.breaks_off (c.in_err-add_step.ensures {u = tt})))
+
+pub returns : goal.returns
+returns g c = grind (arith, common_steps)

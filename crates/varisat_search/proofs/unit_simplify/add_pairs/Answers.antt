@@ -1,3 +1,4 @@
+use Rattle.std.proofs.lemmas.Grind.{common_steps}
 use Rattle.std.proofs.Common.{ℕ, List, take, length, ap, ◌∙◌, arith}
 use Rattle.varisat_prop.proofs.ReadElements.{item-∈}
 use Rattle.varisat_search.specs.Simplifications.{with_pairs}
@@ -27,3 +28,6 @@ loop-pair-preserved g c =
       joined = e ∙ joined-on B C (take i c.args.pairs.now) v c.loop-pair.invariant.joined ∙ ap (with_pairs B) (next-taken c.args.pairs.now i v c.loop-pair-test.true c.pair-item.is);
       count = ap (λ (D : List (List ℕ)). length D) e ∙ joined-count C v q ∙ n;
     }
+
+pub returns : goal.returns
+returns g c = grind (arith, common_steps)

@@ -1,4 +1,5 @@
 use Rattle.varisat_trace.proofs.Broken.{error-broken}
+use Rattle.std.proofs.lemmas.Grind.{common_steps}
 use Rattle.std.proofs.Common.{◌<◌, List, length, refl, sym, subst, arith}
 use Rattle.varisat_theory.specs.Membership.{◌∈◌}
 use Rattle.varisat_theory.specs.Literals.{Literal, variable_of}
@@ -57,3 +58,6 @@ pub returns-in_err-trace_units-clause-broken : goal.returns-in_err-trace_units-c
 returns-in_err-trace_units-clause-broken g c =
     error-broken g.P.ProofTracer.breaks_off c.args.proof.now c.trace_units.new.proof c.from_residual.result c.in_err-trace_units.field-0.0 c.from_residual.ensures
     (c.in_err-trace_units.ensures {u = tt})
+
+pub returns-clause-found : goal.returns-clause-found
+returns-clause-found g c = grind (arith, common_steps)

@@ -1,4 +1,5 @@
-use Rattle.std.proofs.Common.{subst}
+use Rattle.std.proofs.lemmas.Grind.{common_steps}
+use Rattle.std.proofs.Common.{subst, arith}
 use Rattle.varisat_search.specs.NamesAndModes.{ShowsOne}
 use Rattle.varisat_search.proofs.NamedVariables.{one-more-below, shown-refused}
 use Rattle.varisat_search.proofs.variables.observe_internal_vars.Goals as goal
@@ -14,3 +15,6 @@ loop-index-preserved g c =
     let mid = c.loop-index.variables in
     let new = c.show_if_hidden.new.variables in
     one-more-below c.loop-index.index us vs c.args.variables.now mid new c.loop-index.invariant (subst (λ x. ShowsOne x us vs mid new) c.from_index.ensures (c.in_ok-show_if_hidden.ensures {u = tt}).shows)
+
+pub returns-clause-shown : goal.returns-clause-shown
+returns-clause-shown g c = grind (arith, common_steps)

@@ -7,7 +7,7 @@ use Rattle.varisat_theory.specs.Renaming.{rename_line}
 use Rattle.varisat_theory.specs.Journals.{Entry, Accepts, Assumes, GoesOn, written}
 use Rattle.varisat.specs.Journals.{retold, TellsMore}
 use Rattle.varisat_theory.specs.Searches.{Search, Covers, CoversBy, IsLiteralOf, IsCoveredBySearch, Tautology, KnownTrue, FixedTrue, Kept}
-use Rattle.varisat_theory.specs.Outcomes.{Outcome, Loads}
+use Rattle.varisat_theory.specs.Outcomes.{Outcome, Loads, IsLiteralOfEither}
 use Rattle.varisat_theory.specs.Outcomes as outcome
 use Rattle.varisat_theory.proofs.Members.{∈-or_not, ∈-append_cases, ∈-append_left, ∈-append_right}
 use Rattle.varisat_theory.proofs.Renaming.{∈-map, map-∈}
@@ -15,6 +15,7 @@ use Rattle.varisat_theory.proofs.Assigned.{satisfies_more, satisfies_fewer}
 use Rattle.varisat_theory.proofs.Sound.{derives_sound}
 use Rattle.varisat_theory.proofs.StepCounts.{by_derives}
 use Rattle.varisat_theory.proofs.StepCovers.{names_are_loaded}
+use Rattle.varisat_theory.proofs.Spoken.{spoken_wider}
 use Rattle.varisat_literals.specs.Numbers.{polarity_of}
 use Rattle.varisat_prop.proofs.LiteralValues.{own-opposite, same-literal, variable-opposite}
 use Rattle.varisat_names.specs.Maps.{chain}
@@ -30,7 +31,7 @@ use Rattle.varisat.proofs.SearchLinks.{relinked-marks}
 use Rattle.varisat.proofs.SpacesAgree.{holds-same, isolation-same, marks-same}
 use Rattle.varisat.proofs.Carried.{carry-at, carry-sign, carry-opposite, satisfied-carried, forced-value, wide-back}
 use Rattle.varisat.proofs.AcceptSolverVariables.{one-solver}
-use Rattle.varisat.proofs.ReachedHeld.{told_lines, with_told, lines-lead, shares-after, shares-joined, told-quiet}
+use Rattle.varisat.proofs.ReachedHeld.{told_lines, with_told, IsInUse, lines-lead, shares-after, shares-joined, told-quiet}
 use Rattle.varisat.proofs.ToldEntries.{told-written, told-accepted, told-assumed}
 use Rattle.varisat_tracer.specs.Carried.{told_as}
 use Rattle.varisat_tracer.specs.Carried as global
@@ -184,17 +185,16 @@ module _ (w : Carrying) (p : Spaces) (s : State) (d : Clause) (k : Links w p s) 
     holds-more =
         let (last, g, o) = loads.holds h.held h.holds in
         let all = by_derives 0 (h.held ++ e ∷ []) lines last g in
-        let z = shares-after (with_told (r.told ++ Accepts c ∷ []) r) (h.held ++ e ∷ []) 0 lines last joins g t within-more v plain o in
         record {
-          held = z.share;
-          holds = z.holds;
+          held = last;
+          holds = o;
           within = within-more;
-          implied = λ a b m g y i. derives_sound (h.held ++ e ∷ []) lines last b all (satisfies_more b h.held e (h.implied a b (satisfies_fewer a s.clauses (c ∷ []) m) g)
-              (satisfied-carried r.identity a b e of-clause g (subst (λ y. Satisfies a y) (sym same-clause) (m c (∈-append_right c s.clauses (c ∷ []) (inl refl)))))) y (z.part y i);
+          implied = λ a b m g. derives_sound (h.held ++ e ∷ []) lines last b all (satisfies_more b h.held e (h.implied a b (satisfies_fewer a s.clauses (c ∷ []) m) g)
+              (satisfied-carried r.identity a b e of-clause g (subst (λ y. Satisfies a y) (sym same-clause) (m c (∈-append_right c s.clauses (c ∷ []) (inl refl))))));
           known = λ a m. h.known a (satisfies_fewer a s.clauses (c ∷ []) m);
           fixed = λ n l i a b. fixed-on s.clauses r p.search t v h long in-covers n l (h.fixed (λ q. let z : outcome.Unknown ≡ outcome.Unsat = q in cc) l i a b);
           covered = covers-more;
-          told = z.fits;
+          told = shares-after (with_told (r.told ++ Accepts c ∷ []) r) (h.held ++ e ∷ []) 0 lines last joins g t v (spoken_wider (IsLiteralOfEither p.search e) (IsInUse r) lines (λ l. elim [ inl a ↦ h.within l a | inr a ↦ of-clause l a ]) loads.speaks) plain o;
         }
 
   -- the identities of the literals were made

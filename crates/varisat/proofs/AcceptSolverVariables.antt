@@ -18,7 +18,7 @@ use Rattle.varisat.proofs.SpacesMoves.{take_solver}
 use Rattle.varisat_search.proofs.TakenSolvers.{few, below, below-count, ∈-below}
 use Rattle.varisat_names.proofs.Maps.{updated-at, updated-other, updated-all, joined, chain-some, chain-none, chain-through, is-some}
 use Rattle.varisat.proofs.SpacesAgree.{carry-same, working-same}
-use Rattle.varisat.proofs.ReachedHeld.{only, fits-without, same-apart, inside-apart}
+use Rattle.varisat.proofs.ReachedHeld.{only, fits-without, same-apart, inside-apart, live-apart, in-use-lives}
 use Rattle.varisat.proofs.SearchHeld.{with-model, without-model}
 use Rattle.varisat.proofs.NewNames.{linked}
 use Rattle.varisat.proofs.SearchLinks.{relinked}
@@ -134,6 +134,7 @@ module _ (w : Carrying) (p : Spaces) (s : State) (x i v : ℕ) (k : Links w p s)
           same = same-apart (translation w p s.told) (translation w (take_solver x v p) s.told) v h.held to-other q;
           inside = inside-apart (translation w p s.told) (translation w (take_solver x v p) s.told) v h.held to-other q;
           units = λ j b y e g n. let (c, a, u) = q.units j b y e g (λ u z. n u (stays u j z)) in (c, ∈-append_left c q.forgotten old a, u);
+          live = live-apart (translation w p s.told) v h.held (in-use-lives w p s k) q;
         };
   }
 

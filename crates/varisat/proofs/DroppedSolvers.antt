@@ -23,7 +23,7 @@ use Rattle.varisat.proofs.Carried.{carry-at, carry-sign, literal-parts, forced-v
 use Rattle.varisat.proofs.SpacesAgree.{identities-same, modes-same, marks-same, working-same, carry-same, value-same}
 use Rattle.varisat.proofs.VariableMoves.{leave_search}
 use Rattle.varisat.proofs.HiddenStates.{field-same, identity-named}
-use Rattle.varisat.proofs.ReachedHeld.{left-apart, only, same-apart, inside-apart}
+use Rattle.varisat.proofs.ReachedHeld.{left-apart, only, same-apart, inside-apart, live-apart, in-use-lives}
 use Rattle.varisat.proofs.ForgottenWith.{not-over, unit-forgotten}
 
 -- The search t is s without the variable, which no kept clause mentions. `known` is the value that it has at level 0, which is held as a unit clause.
@@ -183,6 +183,7 @@ module _ (w : Carrying) (p : Spaces) (s : State) (v x i : ℕ) (known : Option B
             (c, ∈-append_right c before.forgotten gone a, subst (λ n. IsUnit (literal_of n b) c) (sym q) u))
             (λ n. let (c, a, u) = before.units j b y (sym (updated-other w.forced i known j n) ∙ e) g (none-before j n none) in (c, ∈-append_left c before.forgotten gone a, u))
             (equal_or_not j i);
+        live = live-apart (translation w p s.told) v h.held (in-use-lives w p s k) before;
       }
 
   -- All assignments agree on the value, and what is kept of the global variable tells it.

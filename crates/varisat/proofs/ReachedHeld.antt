@@ -1,10 +1,10 @@
 -- What was told leads to what the search holds, over identities, and to what it forgot.
-use Rattle.std.proofs.Common.{◌≡◌, ℕ, ◌/◌, Bool, true, false, not, ◌||◌, nat_eq, Option, Some, None, List, [], ◌∷◌, ◌++◌, ◌⊎◌, inl, inr, ⊎_elim, sym, ap, ◌∙◌, subst, refl, map, append_assoc, eq-eqb, ne_eqb}
+use Rattle.std.proofs.Common.{◌≡◌, ◌≢◌, ℕ, ◌/◌, Bool, true, false, not, ◌||◌, nat_eq, Option, Some, None, List, [], ◌∷◌, ◌++◌, ◌⊎◌, inl, inr, ⊎_elim, sym, ap, ◌∙◌, subst, refl, map, append_assoc, eq-eqb, ne_eqb}
 use Rattle.std.proofs.lemmas.List.{map-append, append-nil}
 use Rattle.varisat_theory.specs.Membership.{◌∈◌, ◌⊆◌, SameSet}
 use Rattle.varisat_theory.specs.Literals.{Literal, Clause, variable_of, opposite}
 use Rattle.varisat_theory.specs.Propagation.{Conflicts}
-use Rattle.varisat_theory.specs.Derivations.{Line, TakesOut}
+use Rattle.varisat_theory.specs.Derivations.{Line, Add, Delete, TakesOut, SpeakOf}
 use Rattle.varisat_theory.specs.Held.{SameClauses, mentions, unless, without}
 use Rattle.varisat_theory.specs.Renaming.{rename, rename_line}
 use Rattle.varisat_theory.specs.Counted.{DerivesBy}
@@ -14,15 +14,17 @@ use Rattle.varisat_theory.specs.Outcomes.{Outcome, Holds}
 use Rattle.varisat_theory.specs.Outcomes as outcome
 use Rattle.varisat_theory.proofs.Members.{∈-append_left, ∈-append_right, ∈-append_cases}
 use Rattle.varisat_theory.proofs.Growth.{conflicts_more, covered_by_more}
-use Rattle.varisat_theory.proofs.Held.{same_set-self, same_add, same_clauses-self, same_clauses-back, same_clauses-through, conflicts_same}
+use Rattle.varisat_theory.proofs.Held.{same_set-self, same_add, same_clauses-self, same_clauses-back, same_clauses-through, same_clauses_find, conflicts_same}
 use Rattle.varisat_theory.proofs.HeldDrops.{without_less, without_append, same_without}
 use Rattle.varisat_theory.proofs.Renaming.{map-∈, conflicts_renamed, same_clauses_renamed}
 use Rattle.varisat_theory.proofs.StepDrops.{variable_is_dropped}
 use Rattle.varisat_theory.proofs.Journals.{leads_append, by_leads, by_leads_same, written_by, goes_on, by_renamed, by_beside}
 use Rattle.varisat_prop.proofs.LiteralValues.{own-opposite}
-use Rattle.varisat_names.proofs.Maps.{is-some}
+use Rattle.varisat_names.specs.Maps.{chain}
+use Rattle.varisat_names.proofs.Maps.{chain-through}
 use Rattle.varisat.specs.Carried.{carry}
-use Rattle.varisat.specs.Spaces.{Translation, SharesHeld, HeldFits}
+use Rattle.varisat.specs.States.{State}
+use Rattle.varisat.specs.Spaces.{Carrying, Spaces, Translation, AreLive, SharesHeld, HeldFits, without_core, translation, Links}
 use Rattle.varisat.specs.Journals.{ToldConflict}
 use Rattle.varisat_search.proofs.StepOutcome.{variable-literal}
 use Rattle.varisat.proofs.Carried.{carry-at, carry-opposite}
@@ -100,17 +102,12 @@ left-in P d Q c (front, x, back, e, s, f) h =
     i)
     (∈-append_cases c front (x ∷ back) (subst (λ y. c ∈ y) e h))
 
--- 4. Clauses over solver variables that are not in use are forgotten.
+-- what is left stood there before
+pub taken-less : (P : List Clause) (d : Clause) (R : List Clause) → TakesOut P d R → R ⊆ P
+taken-less P d R (front, x, back, e, s, f) c h =
+    subst (λ y. c ∈ y) (sym e) (⊎_elim (λ a. ∈-append_left c front (x ∷ back) a) (λ b. ∈-append_right c front (x ∷ back) (inr b)) (∈-append_cases c front back (subst (λ y. c ∈ y) f h)))
 
--- The search is over variables in use. What it shares of the clauses H, without clauses over the variables that are not.
-pub record Cleaned (to : ℕ → Option ℕ) (s : Search) (H share F : List Clause) (vs : List ℕ) : Type 0 where
-  pub clean : List Clause
-  pub forgotten : List Clause
-  pub same : SameClauses H (forgotten ++ rename (carry to) clean)
-  pub fits : Fits clean s
-  pub part : clean ⊆ share
-  pub more : F ⊆ forgotten
-  pub apart : (v : ℕ) → v ∈ vs → to v ≡ None → (c : Clause) (l : Literal) → c ∈ clean → l ∈ c → variable_of l ≡ v → ⊥
+-- 4. A search that is not over a variable.
 
 -- the proved literals are fixed
 pub proved-fixed : (held : List Clause) (t : Search) → Fits held t → (l : Literal) → l ∈ t.proved → l ∈ t.fixed
@@ -125,61 +122,6 @@ proved-fixed held t f l h =
 pub fits-without : (v : ℕ) (share : List Clause) (s : Search) → ((l : Literal) → IsLiteralOf s l → variable_of l ≡ v → ⊥) → Fits share s → Fits (without v share) s
 fits-without v share s other f =
     variable_is_dropped s s v share refl (λ c a. unmentioned v c.clause (λ l b. other l (inr (c, a, b)))) (λ l a n. a) (λ l a. (a, other l (inl (proved-fixed share s f l a)))) f
-
-module _ (to : ℕ → Option ℕ) (s : Search) (within : (l : Literal) → IsLiteralOf s l → (i : ℕ) × (to (variable_of l) ≡ Some i)) where
-  not-in : (v : ℕ) → to v ≡ None → (l : Literal) → IsLiteralOf s l → variable_of l ≡ v → ⊥
-  not-in v e l a q = let (i, f) = within l a in let z : None ≡ Some i = sym e ∙ ap to (sym q) ∙ f in cc
-
-  -- one more variable that is in use
-  with-it : (v x : ℕ) (vs : List ℕ) (H share F : List Clause) → to v ≡ Some x → Cleaned to s H share F vs → Cleaned to s H share F (v ∷ vs)
-  with-it v x vs H share F e rest = record {
-    clean = rest.clean;
-    forgotten = rest.forgotten;
-    same = rest.same;
-    fits = rest.fits;
-    part = rest.part;
-    more = rest.more;
-    apart = λ u. elim [ inl q ↦ λ n. absurd (let z : None ≡ Some x = sym n ∙ ap to q ∙ e in cc) | inr h ↦ rest.apart u h ];
-  }
-
-  -- one more that is not, and that the clauses do not mention any more
-  without-it : (v : ℕ) (vs : List ℕ) (H share F : List Clause) → Cleaned to s H (without v share) (F ++ rename (carry to) (only v share)) vs → Cleaned to s H share F (v ∷ vs)
-  without-it v vs H share F rest = record {
-    clean = rest.clean;
-    forgotten = rest.forgotten;
-    same = rest.same;
-    fits = rest.fits;
-    part = λ c h. without_less v share c (rest.part c h);
-    more = λ c h. rest.more c (∈-append_left c F (rename (carry to) (only v share)) h);
-    apart = λ u. elim [ inl q ↦ λ n c l h i o. left-apart v share c l (rest.part c h) i (o ∙ q) | inr h ↦ rest.apart u h ];
-  }
-
-  pub cleaned : (vs : List ℕ) (H share F : List Clause) → SameClauses H (F ++ rename (carry to) share) → Fits share s → Cleaned to s H share F vs
-  cleaned [] H share F same fits = record { clean = share; forgotten = F; same = same; fits = fits; part = λ c h. h; more = λ c h. h; apart = λ v h. absurd h }
-  cleaned (v ∷ vs) H share F same fits =
-      let gone = rename (carry to) (only v share) in
-      ⊎_elim
-      (λ e. without-it v vs H share F (cleaned vs H (without v share) (F ++ gone) (same_clauses-through H (F ++ rename (carry to) share) ((F ++ gone) ++ rename (carry to) (without v share)) same (renamed-apart v (carry to) (carry to) share F (λ c l h i. refl))) (fits-without v share s (not-in v e) fits)))
-      (λ (x, e). with-it v x vs H share F e (cleaned vs H share F same fits))
-      (is-some (to v))
-
--- the variables of the clauses
-abbrev variables_in : Clause → List ℕ
-variables_in c = map variable_of c
-
-abbrev all_variables : List Clause → List ℕ
-all_variables [] = []
-all_variables (c ∷ P) = variables_in c ++ all_variables P
-
-in-variables : (c : Clause) (l : Literal) → l ∈ c → variable_of l ∈ variables_in c
-in-variables [] l h = absurd h
-in-variables (m ∷ c) l (inl e) = inl (ap variable_of e)
-in-variables (m ∷ c) l (inr h) = inr (in-variables c l h)
-
-in-all : (P : List Clause) (c : Clause) (l : Literal) → c ∈ P → l ∈ c → variable_of l ∈ all_variables P
-in-all [] c l h i = absurd h
-in-all (d ∷ P) c l (inl e) i = ∈-append_left (variable_of l) (variables_in d) (all_variables P) (in-variables d l (subst (λ x. l ∈ x) e i))
-in-all (d ∷ P) c l (inr h) i = ∈-append_right (variable_of l) (variables_in d) (all_variables P) (in-all P c l h i)
 
 -- 5. What a search shares of what is held.
 
@@ -211,30 +153,26 @@ lines-lead n r share lines after q d =
 abbrev pub with_told : List Entry → Translation → Translation
 with_told told r = record r { told = told }
 
--- What a search shares after lines, by its verdict: the clauses over variables in use.
-pub record SharesAfter (r : Translation) (t : Search) (v : Outcome) (lines : List Line) (after : List Clause) : Type 0 where
-  pub share : List Clause
-  pub part : share ⊆ after
-  pub holds : Holds share t v
-  pub fits : HeldFits (with_told (r.told ++ told_lines r lines) r) share v
+-- a literal of a solver variable in use
+abbrev pub IsInUse : Translation → Literal → Type 0
+IsInUse r l = (i : ℕ) × (r.identity (variable_of l) ≡ Some i)
 
-module _ (r : Translation) (share : List Clause) (n : ℕ) (lines : List Line) (after : List Clause) (q : SharesHeld r share) (d : DerivesBy n share lines after) (t : Search) (within : (l : Literal) → IsLiteralOf t l → (i : ℕ) × (r.identity (variable_of l) ≡ Some i)) where
-  shares-fits : Fits after t → (clean : List Clause) × (clean ⊆ after) × Fits clean t × SharesHeld (with_told (r.told ++ told_lines r lines) r) clean
-  shares-fits fits =
+-- The clauses after lines have literals of those before and of the lines alone.
+inside-after : (n : ℕ) (are : Literal → Type 0) (P : List Clause) (lines : List Line) (Q : List Clause) → DerivesBy n P lines Q → ((c : Clause) (l : Literal) → c ∈ P → l ∈ c → are l) → SpeakOf are lines → (c : Clause) (l : Literal) → c ∈ Q → l ∈ c → are l
+inside-after n are P [] Q e f w = subst (λ (X : List Clause). (c : Clause) (l : Literal) → c ∈ X → l ∈ c → are l) e f
+inside-after n are P (Add c ∷ lines) Q (g, d) f (a, w) =
+    let more : (x : Clause) (l : Literal) → x ∈ (P ++ c ∷ []) → l ∈ x → are l = λ x l h i. ⊎_elim (λ z. f x l z i) (λ z. ⊎_elim (λ q. a l (subst (λ y. l ∈ y) q i)) (λ o. absurd o) z) (∈-append_cases x P (c ∷ []) h) in
+    ⊎_elim
+    (λ (m, y). inside-after n are (P ++ c ∷ []) lines Q y more w)
+    (λ (m, o, y). inside-after m are (P ++ c ∷ []) lines Q y more w)
+    d
+inside-after n are P (Delete c ∷ lines) Q (R, out, d) f (a, w) = inside-after n are R lines Q d (λ x l h i. f x l (taken-less P c R out x h) i) w
+
+module _ (r : Translation) (share : List Clause) (n : ℕ) (lines : List Line) (after : List Clause) (q : SharesHeld r share) (d : DerivesBy n share lines after) where
+  shares-fits : SpeakOf (IsInUse r) lines → SharesHeld (with_told (r.told ++ told_lines r lines) r) after
+  shares-fits speaks =
       let on = lines-lead n r share lines after q d in
-      let z = cleaned r.identity t within (all_variables after) on.held after q.forgotten on.same fits in (
-        z.clean,
-        z.part,
-        z.fits,
-        record {
-          held = on.held;
-          led = on.led;
-          forgotten = z.forgotten;
-          same = z.same;
-          inside = λ c l h i. ⊎_elim (λ e. absurd (z.apart (variable_of l) (in-all after c l (z.part c h) i) e c l h i refl)) (λ e. e) (is-some (r.identity (variable_of l)));
-          units = λ i b x e g none. let (c, h, u) = q.units i b x e g none in (c, z.more c h, u);
-        },
-      )
+      record { held = on.held; led = on.led; forgotten = q.forgotten; same = on.same; inside = inside-after n (IsInUse r) share lines after d q.inside speaks; units = q.units; live = q.live }
 
   told-conflict : Conflicts after [] → ToldConflict (r.told ++ told_lines r lines)
   told-conflict k =
@@ -243,11 +181,12 @@ module _ (r : Translation) (share : List Clause) (n : ℕ) (lines : List Line) (
       let all = q.forgotten ++ rename f after in
       (on.held, on.led, conflicts_same all on.held [] (same_clauses-back on.held all on.same) (conflicts_more (rename f after) all [] [] (covered_by_more (rename f after) all (λ c h. ∈-append_right c q.forgotten (rename f after) h)) (λ l h. h) (conflicts_renamed f (carry-opposite r.identity) after [] k)))
 
-  pub shares-after : (v : Outcome) → ((core : List Literal) → v ≡ outcome.UnsatUnder core → ⊥) → Holds after t v → SharesAfter r t v lines after
-  shares-after outcome.Unknown plain h = let (c, p, f, q) = shares-fits h in record { share = c; part = p; holds = f; fits = q }
-  shares-after (outcome.Sat found) plain h = let (c, p, f, q) = shares-fits h in record { share = c; part = p; holds = f; fits = q }
-  shares-after outcome.Unsat plain h = record { share = after; part = λ c i. i; holds = h; fits = told-conflict h }
-  shares-after (outcome.UnsatUnder core) plain h = absurd (plain core refl)
+  -- what a search shares after lines over variables in use
+  pub shares-after : (t : Search) (v : Outcome) → SpeakOf (IsInUse r) lines → ((core : List Literal) → v ≡ outcome.UnsatUnder core → ⊥) → Holds after t v → HeldFits (with_told (r.told ++ told_lines r lines) r) after v
+  shares-after t outcome.Unknown speaks plain h = shares-fits speaks
+  shares-after t (outcome.Sat found) speaks plain h = shares-fits speaks
+  shares-after t outcome.Unsat speaks plain h = told-conflict h
+  shares-after t (outcome.UnsatUnder core) speaks plain h = absurd (plain core refl)
 
 -- an accepted clause joins what is held
 pub shares-joined : (r : Translation) (share : List Clause) (c d : Clause) → map (carry r.identity) d ≡ c → ((l : Literal) → l ∈ d → (i : ℕ) × (r.identity (variable_of l) ≡ Some i)) → SharesHeld r share → SharesHeld (with_told (r.told ++ Accepts c ∷ []) r) (share ++ d ∷ [])
@@ -261,6 +200,7 @@ shares-joined r share c d e in-use q =
       same = subst (SameClauses (q.held ++ c ∷ [])) names (same_add q.held (q.forgotten ++ rename f share) c c q.same (same_set-self c));
       inside = λ x l h i. ⊎_elim (λ a. q.inside x l a i) (λ a. ⊎_elim (λ z. in-use l (subst (λ y. l ∈ y) z i)) (λ z. absurd z) a) (∈-append_cases x share (d ∷ []) h);
       units = q.units;
+      live = q.live;
     }
 
 -- A variable gets an identity, or loses it. What is held and mentions it is forgotten, over the names before.
@@ -275,6 +215,59 @@ same-apart r r' v share other q =
 pub inside-apart : (r r' : Translation) (v : ℕ) (share : List Clause) → ((u : ℕ) → (u ≡ v → ⊥) → r'.identity u ≡ r.identity u) → SharesHeld r share → (c : Clause) (l : Literal) → c ∈ without v share → l ∈ c → (i : ℕ) × (r'.identity (variable_of l) ≡ Some i)
 inside-apart r r' v share other q c l h i = let (j, e) = q.inside c l (without_less v share c h) i in (j, other (variable_of l) (left-apart v share c l h i) ∙ e)
 
+-- Each variable in use leads to a live identity. So the clauses over such variables are over live identities.
+pub carried-live : (r : Translation) (P : List Clause) → ((v i : ℕ) → r.identity v ≡ Some i → (x : ℕ) × (r.global i ≡ Some x)) → ((c : Clause) (l : Literal) → c ∈ P → l ∈ c → IsInUse r l) → AreLive r (rename (carry r.identity) P)
+carried-live r P lives inside c l h i =
+    let f = carry r.identity in
+    let (d, b, o) = map-∈ (map f) c P h in
+    let (m, n, y) = map-∈ f l d (subst (λ x. l ∈ x) o i) in
+    let (j, g) = inside d m b n in
+    let (x, e) = lives (variable_of m) j g in
+    (x, ap r.global (ap variable_of y ∙ carry-at r.identity m j g) ∙ e)
+
+only-less : (v : ℕ) (P : List Clause) → only v P ⊆ P
+only-less v [] c h = h
+only-less v (d ∷ P) c h = go (mentions v d) h (only-less v P c)
+  where
+    go : (b : Bool) → c ∈ unless (not b) d (only v P) → (c ∈ only v P → c ∈ P) → c ∈ (d ∷ P)
+    go true (inl e) f = inl e
+    go true (inr i) f = inr (f i)
+    go false i f = inr (f i)
+
+-- what is forgotten then is over live identities
+pub live-apart : (r : Translation) (v : ℕ) (share : List Clause) → ((u i : ℕ) → r.identity u ≡ Some i → (x : ℕ) × (r.global i ≡ Some x)) → (q : SharesHeld r share) → AreLive r (q.forgotten ++ rename (carry r.identity) (only v share))
+live-apart r v share lives q c l h i =
+    ⊎_elim
+    (λ a. q.live c l a i)
+    (λ a. carried-live r (only v share) lives (λ d m b n. q.inside d m (only-less v share d b) n) c l a i)
+    (∈-append_cases c q.forgotten (rename (carry r.identity) (only v share)) h)
+
+-- and so is all that is held
+pub held-live : (r : Translation) (share : List Clause) → ((v i : ℕ) → r.identity v ≡ Some i → (x : ℕ) × (r.global i ≡ Some x)) → (q : SharesHeld r share) → AreLive r q.held
+held-live r share lives q c l h i =
+    let (d, j, t) = same_clauses_find q.held (q.forgotten ++ rename (carry r.identity) share) q.same c h in
+    let m = t.1 l i in
+    ⊎_elim
+    (λ a. q.live d l a m)
+    (λ a. carried-live r share lives q.inside d l a m)
+    (∈-append_cases d q.forgotten (rename (carry r.identity) share) j)
+
+pub in-use-lives : (w : Carrying) (p : Spaces) (s : State) → Links w p s → (v i : ℕ) → chain p.global_from_solver w.identity v ≡ Some i → (x : ℕ) × (w.global i ≡ Some x)
+in-use-lives w p s k v i e = let (x, f, g) = chain-through p.global_from_solver w.identity v i e in (x, k.identities.one_to_one.there x i g)
+
+-- What a solver's journal leads to is over live identities, unless it is known to be unsatisfiable.
+pub told-live : (w : Carrying) (p : Spaces) (s : State) → Links w p s → without_core p.outcome ≢ outcome.Unsat → (held : List Clause) × Leads [] s.told held × AreLive (translation w p s.told) held
+told-live w p s k n = go (without_core p.outcome) n k.holds.told
+  where
+    shares : SharesHeld (translation w p s.told) k.holds.held → (held : List Clause) × Leads [] s.told held × AreLive (translation w p s.told) held
+    shares q = (q.held, q.led, held-live (translation w p s.told) k.holds.held (in-use-lives w p s k) q)
+
+    go : (v : Outcome) → v ≢ outcome.Unsat → HeldFits (translation w p s.told) k.holds.held v → (held : List Clause) × Leads [] s.told held × AreLive (translation w p s.told) held
+    go outcome.Unknown n q = shares q
+    go (outcome.Sat found) n q = shares q
+    go outcome.Unsat n q = absurd (n refl)
+    go (outcome.UnsatUnder core) n q = shares q
+
 -- a clause that was forgotten comes back, behind all others
 pub taken-behind : (F A R : List Clause) (d : Clause) → TakesOut F d R → SameClauses (F ++ A) (R ++ (A ++ d ∷ []))
 taken-behind F A R d out =
@@ -288,7 +281,7 @@ module _ (r : Translation) (e : Entry) (quiet : (held : List Clause) → Leads [
   led-on held d = leads_append [] r.told held (e ∷ []) held d (held, quiet held d, refl)
 
   shares-quiet : (share : List Clause) → SharesHeld r share → SharesHeld (with_told (r.told ++ e ∷ []) r) share
-  shares-quiet share q = record { held = q.held; led = led-on q.held q.led; forgotten = q.forgotten; same = q.same; inside = q.inside; units = q.units }
+  shares-quiet share q = record { held = q.held; led = led-on q.held q.led; forgotten = q.forgotten; same = q.same; inside = q.inside; units = q.units; live = q.live }
 
   pub told-quiet : (share : List Clause) (v : Outcome) → HeldFits r share v → HeldFits (with_told (r.told ++ e ∷ []) r) share v
   told-quiet share outcome.Unknown q = shares-quiet share q
@@ -317,7 +310,7 @@ leaving outcome.Unsat i = []
 leaving _ i = Leaves i ∷ []
 
 -- No solver variable stands for the identity i, which is live no longer; solver variables stand for what they stood for.
-module _ (r r' : Translation) (i : ℕ) (none : (v : ℕ) → r.identity v ≡ Some i → ⊥) (same : (v : ℕ) → r'.identity v ≡ r.identity v) (forced : (j : ℕ) → r'.forced j ≡ r.forced j) (live : (j x : ℕ) → r'.global j ≡ Some x → (j ≡ i → ⊥) × (r.global j ≡ Some x)) where
+module _ (r r' : Translation) (i : ℕ) (none : (v : ℕ) → r.identity v ≡ Some i → ⊥) (same : (v : ℕ) → r'.identity v ≡ r.identity v) (forced : (j : ℕ) → r'.forced j ≡ r.forced j) (live : (j x : ℕ) → r'.global j ≡ Some x → (j ≡ i → ⊥) × (r.global j ≡ Some x)) (still : (j x : ℕ) → (j ≡ i → ⊥) → r.global j ≡ Some x → r'.global j ≡ Some x) where
   shares-gone : (share : List Clause) → r'.told ≡ r.told ++ Leaves i ∷ [] → SharesHeld r share → SharesHeld r' share
   shares-gone share e q =
       let f = carry r.identity in
@@ -338,6 +331,7 @@ module _ (r r' : Translation) (i : ℕ) (none : (v : ℕ) → r.identity v ≡ S
             let (other, was) = live j x l in
             let (c, h, u) = q.units j b x (sym (forced j) ∙ o) was (λ v g. n v (same v ∙ g)) in
             (c, still-there i q.forgotten c h (unmentioned i c (λ m a z. other (sym (variable-literal j b) ∙ ap variable_of (sym (u.1 m a)) ∙ z))), u);
+        live = λ c l h a. let (x, g) = q.live c l (without_less i q.forgotten c h) a in (x, still (variable_of l) x (left-apart i q.forgotten c l h a) g);
       }
 
   pub told-gone : (share : List Clause) (v : Outcome) → r'.told ≡ r.told ++ leaving v i → HeldFits r share v → HeldFits r' share v

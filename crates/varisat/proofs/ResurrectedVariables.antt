@@ -25,7 +25,7 @@ use Rattle.varisat.proofs.SpacesMoves.{AreLong, take_solver}
 use Rattle.varisat.proofs.Carried.{carry-at, carry-sign, carry-opposite, value-true}
 use Rattle.varisat.proofs.SearchHeld.{answers-covers, fixed-alone, fixed-on}
 use Rattle.varisat.proofs.AcceptSolverVariables.{to-new, to-other, stays, fits-apart, in-both, taken-with}
-use Rattle.varisat.proofs.ReachedHeld.{only, left-in, same-apart, inside-apart, taken-behind}
+use Rattle.varisat.proofs.ReachedHeld.{only, left-in, taken-less, same-apart, inside-apart, live-apart, in-use-lives, taken-behind}
 
 -- A unit clause that is the literal alone, as a set, is of the literal's variable.
 unit-of : (j i : ℕ) (b : Bool) (c : Clause) (m : Literal) → IsUnit (literal_of j b) c → SameSet c (m ∷ []) → variable_of m ≡ i → j ≡ i
@@ -88,6 +88,7 @@ module _ (w : Carrying) (p : Spaces) (s : State) (x i v : ℕ) (b : Bool) (t : S
             let (c', m', u') = q.units j y z e l (λ z a. n z (stays w p s x i v k is spoken unsolved free z j a)) in
             let stays-there = left-in (q.forgotten ++ old) d R c' out (∈-append_left c' q.forgotten old m') in
             (c', ⊎_elim (λ a. a) (λ a. let same = unit-of j i y c' (g (literal_of v b)) u' a (ap variable_of carried ∙ variable-literal i b) in absurd (n v (to-new w p s x i v k is spoken unsolved free ∙ ap Some (sym same)))) stays-there, u');
+        live = λ y l a j. live-apart (translation w p s.told) v h.held (in-use-lives w p s k) q y l (taken-less (q.forgotten ++ old) d R out y a) j;
       }
 
   -- the search after the lines, if it needs any

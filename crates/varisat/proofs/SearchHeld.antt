@@ -2,7 +2,7 @@
 use Rattle.std.proofs.Common.{◌≡◌, ◌≢◌, ℕ, false, Option, Some, List, [], ◌∷◌, ◌++◌, ◌⊎◌, inl, inr, ⊎_elim, sym, ap, ◌∙◌, subst, refl}
 use Rattle.varisat_theory.specs.Membership.{◌∈◌, ◌⊆◌}
 use Rattle.varisat_theory.specs.Literals.{Literal, Clause, Assignment, variable_of, opposite, IsSatisfiable}
-use Rattle.varisat_theory.specs.Derivations.{Line}
+use Rattle.varisat_theory.specs.Derivations.{Line, SpeakOf}
 use Rattle.varisat_theory.specs.Counted.{DerivesBy}
 use Rattle.varisat_theory.specs.Journals.{GoesOn}
 use Rattle.varisat_theory.specs.Searches.{Search, KeptClause, IsSettled, Covers, CoversBy, IsLiteralOf}
@@ -11,13 +11,14 @@ use Rattle.varisat_theory.specs.Outcomes as outcome
 use Rattle.varisat_theory.proofs.Sound.{conflicts_sound, derives_sound}
 use Rattle.varisat_theory.proofs.StepCounts.{by_derives}
 use Rattle.varisat_theory.proofs.StepCovers.{still_covered}
+use Rattle.varisat_theory.proofs.Spoken.{spoken_wider}
 use Rattle.varisat_prop.proofs.LiteralValues.{own-opposite}
 use Rattle.varisat.specs.Names.{identity_of}
 use Rattle.varisat.specs.Carried.{carry, AgreesAlong, is_forced}
 use Rattle.varisat.specs.Spaces.{Translation, SearchHolds}
 use Rattle.varisat.proofs.SpacesMoves.{AreLong}
 use Rattle.varisat.proofs.Carried.{carry-opposite}
-use Rattle.varisat.proofs.ReachedHeld.{told_lines, with_told, lines-lead, shares-after}
+use Rattle.varisat.proofs.ReachedHeld.{told_lines, with_told, IsInUse, lines-lead, shares-after}
 
 -- a literal that is covered alone is fixed
 pub fixed-alone : (t : Search) (l : Literal) → AreLong t → IsSettled t (l ∷ []) ⊎ ((k : KeptClause) × (k ∈ t.kept) × (k.learned ≡ false) × (k.clause ⊆ (l ∷ []))) → l ∈ t.fixed
@@ -55,18 +56,17 @@ module _ (P : List Clause) (r : Translation) (s t : Search) (v : Outcome) (h : S
       c (h.covered (λ e. let q : outcome.Unknown ≡ outcome.Unsat = e in cc) c i)
 
   -- the clauses that a proof holds after some lines, which it was told
-  pub held-on : (n : ℕ) (lines : List Line) (after : List Clause) → DerivesBy n h.held lines after → Holds after t v → ((core : List Literal) → v ≡ outcome.UnsatUnder core → ⊥) → ((l : Literal) → IsLiteralOf t l → (i : ℕ) × (r.identity (variable_of l) ≡ Some i)) → SearchHolds P (with_told (r.told ++ told_lines r lines) r) t v
-  held-on n lines after d holds plain within =
-      let z = shares-after r h.held n lines after h.told d t within v plain holds in
+  pub held-on : (n : ℕ) (lines : List Line) (after : List Clause) → DerivesBy n h.held lines after → Holds after t v → SpeakOf (IsLiteralOf s) lines → ((core : List Literal) → v ≡ outcome.UnsatUnder core → ⊥) → ((l : Literal) → IsLiteralOf t l → (i : ℕ) × (r.identity (variable_of l) ≡ Some i)) → SearchHolds P (with_told (r.told ++ told_lines r lines) r) t v
+  held-on n lines after d holds speaks plain within =
       record {
-        held = z.share;
-        holds = z.holds;
+        held = after;
+        holds = holds;
         within = within;
-        implied = λ a b m g c i. derives_sound h.held lines after b (by_derives n h.held lines after d) (h.implied a b m g) c (z.part c i);
+        implied = λ a b m g. derives_sound h.held lines after b (by_derives n h.held lines after d) (h.implied a b m g);
         known = h.known;
         fixed = λ n l i e f. fixed-on n l (h.fixed (λ e. let q : outcome.Unknown ≡ outcome.Unsat = e in cc) l i e f);
         covered = covered-on;
-        told = z.fits;
+        told = shares-after r h.held n lines after h.told d t v (spoken_wider (IsLiteralOf s) (IsInUse r) lines h.within speaks) plain holds;
       }
 
   pub held-goes : (n : ℕ) (lines : List Line) (after : List Clause) → DerivesBy n h.held lines after → GoesOn n r.told (told_lines r lines)

@@ -131,7 +131,7 @@ module _ (w : Carrying) (p : Spaces) (s : State) (k : Links w p s) (unknown : p.
       let (after, d, o) = made.holds before.held before.holds in
       held-on s.clauses (translation w p s.told) p.search t (without_core v) before long
       (λ e Q g. answers-covers Q t v (λ q. e (ap without_core q)) (made.answers Q g))
-      n lines after d (holds-without after t v o) (plain-without v)
+      n lines after d (holds-without after t v o) made.speaks (plain-without v)
       (λ l a. let (x, b) = in-use l a in let q = k.solvers.live (variable_of l) x b in (q.0, chain-some p.global_from_solver w.identity (variable_of l) x b ∙ q.1))
 
   pub steps-tell : TellsMore n s.told (told-with w p s lines)
@@ -317,7 +317,7 @@ spaces-same p q s e (w, k) = (
     solvers = solvers-same w.identity p.solver_from_global p.global_from_solver q.solver_from_global q.global_from_solver s.counted e.maps.solver_from_global e.maps.global_from_solver k.solvers;
     holds = subst (λ t. SearchHolds s.clauses (translation w q s.told) t (without_core q.outcome)) (sym e.search) (subst (λ o. SearchHolds s.clauses (translation w q s.told) p.search (without_core o)) (sym e.outcome)
         (holds-same s.clauses (translation w p s.told) (translation w q s.told) p.search (without_core p.outcome) (λ v. ap (λ y. onward y w.identity) (e.maps.global_from_solver v)) (λ i. refl)
-        (λ share z. told-same (translation w p s.told) (translation w q s.told) share (without_core p.outcome) (λ v. ap (λ y. onward y w.identity) (e.maps.global_from_solver v)) (λ i. refl) (λ i y b o g. (y, g)) refl z) k.holds));
+        (λ share z. told-same (translation w p s.told) (translation w q s.told) share (without_core p.outcome) (λ v. ap (λ y. onward y w.identity) (e.maps.global_from_solver v)) (λ i. refl) (λ i y b o g. (y, g)) (λ i y g. (y, g)) refl z) k.holds));
     assumptions = subst (λ y. AssumptionsFit q.global_from_user q.solver_from_global s.naming.names y s.assumptions) (sym e.assumptions) (assumptions-same p.global_from_user p.solver_from_global q.global_from_user q.solver_from_global s.naming.names p.assumptions s.assumptions e.maps.global_from_user e.maps.solver_from_global k.assumptions);
     marks = subst (MarksFit q.global_from_user q.kept) (sym e.assumptions) (marks-same p.global_from_user q.global_from_user p.kept q.kept p.assumptions e.maps.global_from_user (λ x. ap (λ y. y.assumed) (e.maps.kept x)) k.marks);
     working = subst (WorkingFits s.clauses (translation w q s.told).identity s.assumptions) (sym e.working) (working-same s.clauses (translation w p s.told).identity (translation w q s.told).identity s.assumptions p.working (λ l h. ap (λ y. onward y w.identity) (e.maps.global_from_solver (variable_of l))) k.working);

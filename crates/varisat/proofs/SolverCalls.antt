@@ -112,7 +112,7 @@ first-spaces s e n =
           known = λ a m i b e. absurd (let z : None ≡ Some b = e in cc);
           fixed = λ o l i e. absurd (let z : None ≡ Some i = e in cc);
           covered = λ o c h. absurd h;
-          told = record { held = []; led = refl; forgotten = []; same = refl; inside = λ c l h. absurd h; units = λ i b x e. absurd (let z : None ≡ Some b = e in cc) };
+          told = record { held = []; led = refl; forgotten = []; same = refl; inside = λ c l h. absurd h; units = λ i b x e. absurd (let z : None ≡ Some b = e in cc); live = λ c l h. absurd h };
         };
         assumptions = record { agree = refl; taken = λ l h. absurd h };
         marks = record { marked = λ l x h. absurd h; only = λ x e. absurd (let z : false ≡ true = e in cc) };

@@ -132,21 +132,22 @@ covered-same s f g known more c a b m (KnownTrue l i e) = KnownTrue l i (m l e)
 covered-same s f g known more c a b m (FixedTrue l i j) = FixedTrue l i (subst (λ x. x ∈ c) (a l i) j)
 covered-same s f g known more c a b m (Kept k i e w) = Kept k i e (λ l j. subst (λ x. x ∈ c) (b k.clause l j w) (w l j))
 
-pub shares-same : (r r' : Translation) (share : List Clause) → ((x : ℕ) → r'.identity x ≡ r.identity x) → ((i : ℕ) → r'.forced i ≡ r.forced i) → ((i x : ℕ) (b : Bool) → r.forced i ≡ Some b → r'.global i ≡ Some x → (y : ℕ) × (r.global i ≡ Some y)) → r'.told ≡ r.told → SharesHeld r share → SharesHeld r' share
-shares-same r r' share a f g n q = record {
+pub shares-same : (r r' : Translation) (share : List Clause) → ((x : ℕ) → r'.identity x ≡ r.identity x) → ((i : ℕ) → r'.forced i ≡ r.forced i) → ((i x : ℕ) (b : Bool) → r.forced i ≡ Some b → r'.global i ≡ Some x → (y : ℕ) × (r.global i ≡ Some y)) → ((i x : ℕ) → r.global i ≡ Some x → (y : ℕ) × (r'.global i ≡ Some y)) → r'.told ≡ r.told → SharesHeld r share → SharesHeld r' share
+shares-same r r' share a f g still n q = record {
   held = q.held;
   led = subst (λ es. Leads [] es q.held) (sym n) q.led;
   forgotten = q.forgotten;
   same = subst (λ x. SameClauses q.held (q.forgotten ++ x)) (rename-same (carry r.identity) (carry r'.identity) share (λ c l i j. sym (carry-same r'.identity r.identity l (a (variable_of l))))) q.same;
   inside = λ c l h i. let (j, e) = q.inside c l h i in (j, a (variable_of l) ∙ e);
   units = λ i b x e l none. let (y, z) = g i x b (sym (f i) ∙ e) l in q.units i b y (sym (f i) ∙ e) z (λ v o. none v (a v ∙ o));
+  live = λ c l h i. let (x, e) = q.live c l h i in still (variable_of l) x e;
 }
 
-pub told-same : (r r' : Translation) (share : List Clause) (v : Outcome) → ((x : ℕ) → r'.identity x ≡ r.identity x) → ((i : ℕ) → r'.forced i ≡ r.forced i) → ((i x : ℕ) (b : Bool) → r.forced i ≡ Some b → r'.global i ≡ Some x → (y : ℕ) × (r.global i ≡ Some y)) → r'.told ≡ r.told → HeldFits r share v → HeldFits r' share v
-told-same r r' share outcome.Unknown a f g n q = shares-same r r' share a f g n q
-told-same r r' share (outcome.Sat found) a f g n q = shares-same r r' share a f g n q
-told-same r r' share outcome.Unsat a f g n q = subst ToldConflict (sym n) q
-told-same r r' share (outcome.UnsatUnder core) a f g n q = shares-same r r' share a f g n q
+pub told-same : (r r' : Translation) (share : List Clause) (v : Outcome) → ((x : ℕ) → r'.identity x ≡ r.identity x) → ((i : ℕ) → r'.forced i ≡ r.forced i) → ((i x : ℕ) (b : Bool) → r.forced i ≡ Some b → r'.global i ≡ Some x → (y : ℕ) × (r.global i ≡ Some y)) → ((i x : ℕ) → r.global i ≡ Some x → (y : ℕ) × (r'.global i ≡ Some y)) → r'.told ≡ r.told → HeldFits r share v → HeldFits r' share v
+told-same r r' share outcome.Unknown a f g still n q = shares-same r r' share a f g still n q
+told-same r r' share (outcome.Sat found) a f g still n q = shares-same r r' share a f g still n q
+told-same r r' share outcome.Unsat a f g still n q = subst ToldConflict (sym n) q
+told-same r r' share (outcome.UnsatUnder core) a f g still n q = shares-same r r' share a f g still n q
 
 pub holds-same : (P : List Clause) (r r' : Translation) (s : Search) (v : Outcome) → ((x : ℕ) → r'.identity x ≡ r.identity x) → ((i : ℕ) → r'.forced i ≡ r.forced i) → ((share : List Clause) → HeldFits r share v → HeldFits r' share v) → SearchHolds P r s v → SearchHolds P r' s v
 holds-same P r r' s v a f n h =

@@ -110,9 +110,13 @@ pub record Translation : Type 0 where
   pub forced : ℕ → Option Bool
   pub told : List Entry
 
+-- each literal of the clauses is of a live identity
+abbrev pub AreLive : Translation → List Clause → Type 0
+AreLive r P = (c : Clause) (l : Literal) → c ∈ P → l ∈ c → (x : ℕ) × (r.global (variable_of l) ≡ Some x)
+
 -- What was told leads to some clauses over identities: those of the search, which are over solver variables in use, and others
--- that it forgot with variables that left. Among these is a unit clause for each forced value of a live identity without a solver
--- variable.
+-- that it forgot with variables that left, over live identities. Among these is a unit clause for each forced value of a live
+-- identity without a solver variable.
 pub record SharesHeld (r : Translation) (share : List Clause) : Type 0 where
   pub held : List Clause
   pub led : Leads [] r.told held
@@ -121,6 +125,7 @@ pub record SharesHeld (r : Translation) (share : List Clause) : Type 0 where
   pub inside : (c : Clause) (l : Literal) → c ∈ share → l ∈ c → (i : ℕ) × (r.identity (variable_of l) ≡ Some i)
   pub units : (i : ℕ) (b : Bool) (x : ℕ) → r.forced i ≡ Some b → r.global i ≡ Some x → ((v : ℕ) → r.identity v ≢ Some i) →
       (c : Clause) × (c ∈ forgotten) × IsUnit (literal_of i b) c
+  pub live : AreLive r forgotten
 
 -- What was told of the clauses that the search holds. Under Unsat it leads to a conflict, and nothing more is told of clauses.
 abbrev pub HeldFits : Translation → List Clause → Outcome → Type 0

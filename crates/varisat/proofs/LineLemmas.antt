@@ -1,5 +1,5 @@
 -- How lines part into words, and that a word stands for one literal.
-use Rattle.std.proofs.Common.{◌≡◌, ◌≢◌, ℕ, zero, suc, ◌+◌, ◌*◌, ◌/◌, ◌%◌, ◌^◌, ◌<◌, ◌≤◌, ◌==◌, ◌⊎◌, inl, inr, Bool, true, false, nat_eq, if◌then◌else◌, List, [], ◌∷◌, ◌++◌, map, length, get_or, fold, ℤ, pos, negsuc, refl, sym, ap, subst, Ok, take, drop, Option, None, Some, IfNone, IfSome, Bor, append_assoc, append-nil, ◌∙◌, arith, rules, tests, codes, decimal}
+use Rattle.std.proofs.Common.{◌≡◌, ◌≢◌, ℕ, zero, suc, ◌+◌, ◌-◌, ◌*◌, ◌/◌, ◌%◌, ◌^◌, ◌<◌, ◌≤◌, ◌==◌, ◌⊎◌, inl, inr, Bool, true, false, nat_eq, if◌then◌else◌, List, [], ◌∷◌, ◌++◌, map, length, get_or, fold, ℤ, pos, negsuc, refl, sym, ap, subst, Ok, take, drop, Option, None, Some, IfNone, IfSome, Bor, append_assoc, append-nil, ◌∙◌, arith, rules, tests, codes, decimal}
 use lib.Signed.{mag}
 use Rattle.std.specs.List.{All, AllByRecursion, AllWithin, HoldsAt, join_with_byte}
 use Rattle.std.specs.Fmt.{signed_decimal}
@@ -15,10 +15,15 @@ use Rattle.std.proofs.lemmas.List.Elements.{All-from_recursion, recursion_from_A
 use Rattle.std.proofs.lemmas.List.Splits.{slice_split_none, slice_split_at, join_with_byte-slice_split, length-slice_split}
 use Rattle.varisat_literals.specs.Numbers.{literal_number}
 use Rattle.varisat_literals.specs.Numbers.{literal_text, variable_text}
+use Rattle.varisat_formula.specs.Streams.{Stand, Taken}
+use Rattle.varisat.specs.OpenProofs.{IsDrat}
+use Rattle.varisat.specs.Runs.{IsReady}
+use Rattle.varisat.specs.declared.session.Call.{Call}
+use Rattle.varisat.specs.declared.session.Call.TheVariants as call
 use Rattle.varisat_names.specs.declared.config.ConfigField.{ConfigField}
 use Rattle.varisat_names.specs.declared.config.ConfigField.TheVariants.{VsidsDecay, ClauseActivityDecay, ReduceLocalsInterval, ReduceMidsInterval, LubyRestartIntervalScale, MaxSteps}
 use Rattle.varisat_names.specs.Settings.{field_text}
-use Rattle.varisat.specs.Lines.{Command, Add, Assume, New, Sample, Witness, Hide, Observe, Solve, Model, Core, Config, Steps, Since, Close, MeansCommand, MeansOneCommand, HasNumbersInRange, words, words_of, spelling}
+use Rattle.varisat.specs.Lines.{Command, Add, Assume, New, Sample, Witness, Hide, Observe, Solve, Model, Core, Config, Steps, Since, ProofText, ProofBinary, Close, MeansCommand, MeansOneCommand, HasNumbersInRange, AsksFor, words, words_of, spelling}
 
 abbrev pub NoSpace : List ℕ → Type 0
 NoSpace word = All (λ b. (b == 32) ≡ false) word
@@ -132,6 +137,8 @@ words_have_no_space Core h = (no_space (codes "core") (from_spaceless (codes "co
 words_have_no_space (Config field value) h = (no_space (codes "config") (from_spaceless (codes "config") refl), (name_has_no_space field, (number_has_no_space value h, tt)))
 words_have_no_space Steps h = (no_space (codes "steps") (from_spaceless (codes "steps") refl), tt)
 words_have_no_space Since h = (no_space (codes "since") (from_spaceless (codes "since") refl), tt)
+words_have_no_space ProofText h = (no_space (codes "proof") (from_spaceless (codes "proof") refl), (no_space (codes "text") (from_spaceless (codes "text") refl), tt))
+words_have_no_space ProofBinary h = (no_space (codes "proof") (from_spaceless (codes "proof") refl), (no_space (codes "binary") (from_spaceless (codes "binary") refl), tt))
 words_have_no_space Close h = (no_space (codes "close") (refl, (refl, (refl, (refl, (refl, tt))))), tt)
 
 -- words that are joined are parted again
@@ -153,6 +160,8 @@ words_of_spelled Core h = words_of_joined (codes "core") [] (words_have_no_space
 words_of_spelled (Config field value) h = words_of_joined (codes "config") (field_text field ∷ decimal value ∷ []) (words_have_no_space (Config field value) h)
 words_of_spelled Steps h = words_of_joined (codes "steps") [] (words_have_no_space Steps h)
 words_of_spelled Since h = words_of_joined (codes "since") [] (words_have_no_space Since h)
+words_of_spelled ProofText h = words_of_joined (codes "proof") (codes "text" ∷ []) (words_have_no_space ProofText h)
+words_of_spelled ProofBinary h = words_of_joined (codes "proof") (codes "binary" ∷ []) (words_have_no_space ProofBinary h)
 words_of_spelled Close h = words_of_joined (codes "close") [] (words_have_no_space Close h)
 
 pub words_of_meant : (text : List ℕ) (command : Command) → MeansCommand text command → words_of text ≡ words command
@@ -211,6 +220,10 @@ words_apart Core Core h k e = refl
 words_apart (Config f m) (Config g n) h k e = settings_apart f g m n h k e
 words_apart Steps Steps h k e = refl
 words_apart Since Since h k e = refl
+words_apart ProofText ProofText h k e = refl
+words_apart ProofText ProofBinary h k e = let n = ap (λ (word : List ℕ). length word) (second_same _ _ _ _ e) in absurd (omega (arith, n))
+words_apart ProofBinary ProofText h k e = let n = ap (λ (word : List ℕ). length word) (second_same _ _ _ _ e) in absurd (omega (arith, n))
+words_apart ProofBinary ProofBinary h k e = refl
 words_apart Close Close h k e = refl
 words_apart a b h k e = let n : first_word_number (words a) ≡ first_word_number (words b) = ap first_word_number e in absurd (omega arith)
 
@@ -411,3 +424,11 @@ witness_read text number v t d e h = record { spelled = ap (λ xs. codes "witnes
 
 pub hide_read : (text number : List ℕ) (v : ℕ) → pointwise nat_eq (take 5 text) (codes "hide ") ≡ true → number ≡ drop 5 text → variable_text v ≡ number → v < 2 ^ 31 → MeansCommand text (Hide v)
 hide_read text number v t d e h = record { spelled = ap (λ xs. codes "hide " ++ xs) e ∙ behind_name text (codes "hide ") number 5 t d; in_range = h }
+
+-- what a command asks for reads no source, and opens a proof in memory
+pub asked-ready : {S A : Type 0} (seen : S → Stand) (c : Call Taken S A) (command : Command) → AsksFor c command → IsReady seen (λ t. t) c
+asked-ready seen (call.WriteProof target format) ProofText (e, f) = (subst IsDrat (sym f) tt, subst (λ (t : Taken). t.faults < 2 ^ 64 - 1) (sym e) (omega arith))
+asked-ready seen (call.WriteProof target format) ProofBinary (e, f) = (subst IsDrat (sym f) tt, subst (λ (t : Taken). t.faults < 2 ^ 64 - 1) (sym e) (omega arith))
+asked-ready seen (call.WriteProof target format) command h = absurd h
+asked-ready seen (call.AddDimacsCnf source) command h = absurd h
+asked-ready seen c command h = tt

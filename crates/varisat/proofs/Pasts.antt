@@ -8,9 +8,10 @@ use Rattle.varisat_theory.specs.Literals.{Literal, Clause, Assignment, variable_
 use Rattle.varisat_formula.specs.declared.dimacs.error.DimacsError.{DimacsError}
 use Rattle.varisat_formula.specs.Dimacs.{Reading}
 use Rattle.varisat_formula.specs.Streams.{Stand, Taken}
+use Rattle.varisat_proof.specs.declared.proof.format.ProofFormat.{ProofFormat}
 use Rattle.varisat_proof.specs.Proving.{IsClosed}
-use Rattle.varisat.specs.OpenProofs.{OpenProof, opened_state, IsOpen, IsSearched, searched_in, searched_under}
-use Rattle.varisat.specs.ProofCalls.{with_proof, ClosesProof}
+use Rattle.varisat.specs.OpenProofs.{OpenProof, opened_state, IsOpen, IsSearched, searched_in, searched_under, first_proof}
+use Rattle.varisat.specs.ProofCalls.{with_proof, OpensProof, ClosesProof}
 use Rattle.varisat.proofs.OpenProofs.{same-search}
 use Rattle.varisat_names.specs.declared.config.SolverConfigUpdate.{SolverConfigUpdate}
 use Rattle.varisat_names.specs.Settings.{Settings, updated_settings}
@@ -94,6 +95,7 @@ pub record Knows (p : Past) (s : State) : Type 0 where
 -- the state is one that the past leads to
 pub record Agrees (p : Past) (s : State) : Type 0 where
   pub valid : state.is_valid s ≡ p.valid
+  pub started : s.ledger.started ≡ p.started
   pub steps : s.ledger.steps ≡ p.steps
   pub since : s.ledger.since ≡ p.since
   pub settings : s.ledger.settings ≡ p.settings
@@ -117,16 +119,18 @@ stays p s t e g = subst (Agrees p) (sym e) g
 anew : (p : Past) (s t : State) → t ≡ state.count_anew s → Agrees p s → Agrees (past.count_anew p) t
 anew p s t e g = subst (Agrees (past.count_anew p)) (sym e) (record {
   valid = g.valid;
+  started = g.started;
   steps = g.steps;
   since = refl;
   settings = g.settings;
   knows = λ v. let k = g.knows v in record { naming = k.naming; capped = k.capped; clauses = k.clauses; assumed = k.assumed; counted = k.counted; model = k.model; found = k.found; failed = k.failed; core = k.core; proof = k.proof; right = k.right };
 })
 
--- the past keeps its flags, and the state too, but that it is in use now
-agrees-still : (p q : Past) (s t : State) → Agrees p s → t.ledger ≡ (start s).ledger → (q.valid ≡ p.valid) × (q.steps ≡ p.steps) × (q.since ≡ 0) × (q.settings ≡ p.settings) → Knows q t → Agrees q t
-agrees-still p q s t g e (v, c, n, u) k = record {
+-- the past keeps its flags, and the state too, but that something was accepted now
+agrees-still : (p q : Past) (s t : State) → Agrees p s → t.ledger ≡ (start s).ledger → (q.valid ≡ p.valid) × (q.started ≡ true) × (q.steps ≡ p.steps) × (q.since ≡ 0) × (q.settings ≡ p.settings) → Knows q t → Agrees q t
+agrees-still p q s t g e (v, b, c, n, u) k = record {
   valid = ap (λ x. x.valid) e ∙ g.valid ∙ sym v;
+  started = ap (λ x. x.started) e ∙ sym b;
   steps = ap (λ x. x.steps) e ∙ g.steps ∙ sym c;
   since = ap (λ x. x.since) e ∙ sym n;
   settings = ap (λ x. x.settings) e ∙ g.settings ∙ sym u;
@@ -138,7 +142,7 @@ breaks : (p : Past) (s t : State) → Agrees p s → state.Invalidates s t → L
 breaks p s t g b = (
   record p { valid = false },
   (sym g.valid ∙ b.valid, refl),
-  record { valid = ap (λ x. x.valid) b.ledger; steps = ap (λ x. x.steps) b.ledger ∙ g.steps; since = ap (λ x. x.since) b.ledger ∙ g.since; settings = ap (λ x. x.settings) b.ledger ∙ g.settings; knows = λ e. absurd cc },
+  record { valid = ap (λ x. x.valid) b.ledger; started = ap (λ x. x.started) b.ledger ∙ g.started; steps = ap (λ x. x.steps) b.ledger ∙ g.steps; since = ap (λ x. x.since) b.ledger ∙ g.since; settings = ap (λ x. x.settings) b.ledger ∙ g.settings; knows = λ e. absurd cc },
 )
 
 right-like : (t : State) (P : List Clause) (A : List Literal) (C : List ℕ) (v : Verdict) → t.clauses ≡ P → t.assumptions ≡ A → t.counted ≡ C → t.verdict ≡ v → IsRight P A C v → HasRightVerdict t
@@ -159,7 +163,7 @@ accepted p s t d n (w, after, e) g v =
     let k = g.knows v in
     let c = map (through_names (name_all d s.naming)) d in
     let cases = after-cases s.clauses c s.verdict w after in
-    agrees-still p (accept d p) s t g e.ledger (refl, refl, refl, refl)
+    agrees-still p (accept d p) s t g e.ledger (refl, refl, refl, refl, refl)
     (record {
       naming = e.naming ∙ ap (name_all d) k.naming;
       capped = subst IsCapped (sym e.naming) (capped-all d s.naming k.capped);
@@ -275,8 +279,8 @@ add-text p s t old new r g (Unread e (v, k) n) = (p, Unread e (sym g.valid ∙ v
 -- 5. A new variable.
 
 -- The state has the names m now, and the past may have other flags. All else that is known stays.
-knows-like : (p : Past) (s t : State) (m : Naming) (b : Bool) (l : Ledger) (told : List Entry) (n i : ℕ) (c : Settings) → IsLike (record s { naming = m; ever_hidden = b; ledger = l; told = told }) t → IsCapped m → Knows p s → Knows (record p { naming = m; steps = n; since = i; settings = c }) t
-knows-like p s t m b l told n i c e h k = record {
+knows-like : (p : Past) (s t : State) (m : Naming) (b d : Bool) (l : Ledger) (told : List Entry) (n i : ℕ) (c : Settings) → IsLike (record s { naming = m; ever_hidden = b; ledger = l; told = told }) t → IsCapped m → Knows p s → Knows (record p { started = d; naming = m; steps = n; since = i; settings = c }) t
+knows-like p s t m b d l told n i c e h k = record {
   naming = e.naming;
   capped = subst IsCapped (sym e.naming) h;
   clauses = e.clauses ∙ k.clauses;
@@ -290,17 +294,17 @@ knows-like p s t m b l told n i c e h k = record {
   right = right-like t s.clauses s.assumptions s.counted s.verdict e.clauses e.assumptions e.counted e.verdict k.right;
 }
 
-named : (p : Past) (s t : State) (u : ℕ) → IsLike (start (with_naming (name_one u s.naming) s)) t → Knows p s → Knows (record p { naming = name_one u p.naming; since = 0 }) t
+named : (p : Past) (s t : State) (u : ℕ) → IsLike (start (with_naming (name_one u s.naming) s)) t → Knows p s → Knows (record p { started = true; naming = name_one u p.naming; since = 0 }) t
 named p s t u e k =
-    subst (λ (m : Naming). Knows (record p { naming = m; since = 0 }) t) (ap (name_one u) k.naming)
-    (knows-like p s t (name_one u s.naming) s.ever_hidden (start s).ledger s.told p.steps 0 p.settings e (capped-one u s.naming k.capped) k)
+    subst (λ (m : Naming). Knows (record p { started = true; naming = m; since = 0 }) t) (ap (name_one u) k.naming)
+    (knows-like p s t (name_one u s.naming) s.ever_hidden true (start s).ledger s.told p.steps 0 p.settings e (capped-one u s.naming k.capped) k)
 
 pub make-var : (p : Past) (s t : State) (r : Result ℕ SolverError) → Agrees p s → state.MakesVar s r t → Leads (past.MakesVar p r) t
 make-var p s t (Ok u) g (v, free, small, e) =
     let w = sym g.valid ∙ v in
     let k = g.knows w in
-    let q : Past = record p { naming = name_one u p.naming; since = 0 } in
-    (q, (w, subst (λ (m : Naming). IsLeastFree m u) k.naming free, small, refl), agrees-still p q s t g e.ledger (refl, refl, refl, refl) (named p s t u e k))
+    let q : Past = record p { started = true; naming = name_one u p.naming; since = 0 } in
+    (q, (w, subst (λ (m : Naming). IsLeastFree m u) k.naming free, small, refl), agrees-still p q s t g e.ledger (refl, refl, refl, refl, refl) (named p s t u e k))
 make-var p s t (Err OutOfMemory) g a = breaks p s t g a.1
 make-var p s t (Err Invalid) g a = (p, (sym g.valid ∙ a.0, refl), stays p s t a.1 g)
 make-var p s t (Err VariableLimit) g (v, full, same) =
@@ -314,10 +318,11 @@ make-var p s t (Err e) g a = absurd a
 renamed : (p : Past) (s t : State) (m : Naming) (b : Bool) → IsLike (record s { naming = m; ever_hidden = b; ledger = record s.ledger { since = 0 } }) t → IsCapped m → Agrees p s → p.valid ≡ true → Agrees (record p { naming = m; since = 0 }) t
 renamed p s t m b e c g v = record {
   valid = ap (λ x. x.valid) e.ledger ∙ g.valid;
+  started = ap (λ x. x.started) e.ledger ∙ g.started;
   steps = ap (λ x. x.steps) e.ledger ∙ g.steps;
   since = ap (λ x. x.since) e.ledger;
   settings = ap (λ x. x.settings) e.ledger ∙ g.settings;
-  knows = λ _. knows-like p s t m b (record s.ledger { since = 0 }) s.told p.steps 0 p.settings e c (g.knows v);
+  knows = λ _. knows-like p s t m b p.started (record s.ledger { since = 0 }) s.told p.steps 0 p.settings e c (g.knows v);
 }
 
 -- a name is assumed in both or in none
@@ -383,7 +388,7 @@ assumed-list : (p : Past) (s t : State) (list : List Literal) → state.TakesAss
 assumed-list p s t list e g v =
     let k = g.knows v in
     let c = map (through_names (name_all list s.naming)) list in
-    agrees-still p (assume list p) s t g e.ledger (refl, refl, refl, refl)
+    agrees-still p (assume list p) s t g e.ledger (refl, refl, refl, refl, refl)
     (record {
       naming = e.naming ∙ ap (name_all list) k.naming;
       capped = subst IsCapped (sym e.naming) (capped-all list s.naming k.capped);
@@ -425,6 +430,7 @@ solved p s t b g k r =
     let e = r.rest in
     record {
       valid = ap (λ x. x.valid) e.ledger ∙ g.valid;
+      started = ap (λ x. x.started) e.ledger ∙ g.started;
       steps = refl;
       since = since-told p s t g (ap (λ x. x.since) e.ledger);
       settings = ap (λ x. x.settings) e.ledger ∙ g.settings;
@@ -489,7 +495,7 @@ counted-if p q s t r g k e known unknown =
 told-on : (p : Past) (s t : State) (n i : ℕ) (c : Settings) → IsLike (record s { ledger = t.ledger; told = t.told }) t → Knows p s → Knows (record p { steps = n; since = i; settings = c }) t
 told-on p s t n i c e k =
     subst (λ (m : Naming). Knows (record p { naming = m; steps = n; since = i; settings = c }) t) k.naming
-    (knows-like p s t s.naming s.ever_hidden t.ledger t.told n i c e k.capped k)
+    (knows-like p s t s.naming s.ever_hidden p.started t.ledger t.told n i c e k.capped k)
 
 like-told : (s t : State) (n : ℕ) → IsLike (retold t.told (with_steps n s)) t → IsLike (record s { ledger = t.ledger; told = t.told }) t
 like-told s t n e = record { naming = e.naming; ever_hidden = e.ever_hidden; clauses = e.clauses; assumptions = e.assumptions; counted = e.counted; verdict = e.verdict; ledger = refl; told = e.told; proof = e.proof }
@@ -515,6 +521,7 @@ searched-same (Some p) = refl
 searched : (p : Past) (s : State) → Agrees p s → Agrees (past.once_searched p) (state.once_searched s)
 searched p s g = record {
   valid = g.valid;
+  started = g.started;
   steps = g.steps;
   since = g.since;
   settings = g.settings;
@@ -525,7 +532,7 @@ searched p s g = record {
 breaks-after : (p : Past) (s t : State) → Agrees p s → state.Invalidates (with_steps t.ledger.steps s) t → past.Invalidates (past.with_steps t.ledger.steps p) (record (past.with_steps t.ledger.steps p) { valid = false }) × Agrees (record (past.with_steps t.ledger.steps p) { valid = false }) t
 breaks-after p s t g b = (
   (sym g.valid ∙ b.valid, refl),
-  record { valid = ap (λ x. x.valid) b.ledger; steps = refl; since = since-told p s t g (ap (λ x. x.since) b.ledger); settings = ap (λ x. x.settings) b.ledger ∙ g.settings; knows = λ e. absurd cc },
+  record { valid = ap (λ x. x.valid) b.ledger; started = ap (λ x. x.started) b.ledger ∙ g.started; steps = refl; since = since-told p s t g (ap (λ x. x.since) b.ledger); settings = ap (λ x. x.settings) b.ledger ∙ g.settings; knows = λ e. absurd cc },
 )
 
 solved-as : (p : Past) (s t : State) (b : Bool) → Agrees p s → state.TellsVerdict (state.once_searched s) b t → (v : p.valid ≡ true) → Knows p s → past.CountsIfUnknown p (Ok b) (record (past.with_steps t.ledger.steps (past.once_searched p)) { has_model = b; has_core = not b }) × Agrees (record (past.with_steps t.ledger.steps (past.once_searched p)) { has_model = b; has_core = not b }) t
@@ -566,6 +573,7 @@ solve p s t (Err Interrupted) g r =
       (sym g.valid ∙ r.valid, undecided p s k r.unknown, counts p s t (Err Interrupted) g k r.steps, refl),
       record {
         valid = ap (λ x. x.valid) r.rest.ledger ∙ g.valid;
+        started = ap (λ x. x.started) r.rest.ledger ∙ g.started;
         steps = refl;
         since = since-told p s t g (ap (λ x. x.since) r.rest.ledger);
         settings = ap (λ x. x.settings) r.rest.ledger ∙ g.settings;
@@ -590,6 +598,7 @@ config p s t u (Ok x) g (v, n, e) = (
   (sym g.valid ∙ v, n, refl),
   stays (past.with_update u p) (state.with_update u s) t e (record {
     valid = g.valid;
+    started = g.started;
     steps = g.steps;
     since = refl;
     settings = ap (λ c. updated_settings c u) g.settings;
@@ -618,10 +627,31 @@ tell-since p s t n g (e, few, same) = (
   stays p s t same g,
 )
 
+-- A proof opens.
+opens : (p : Past) (s t : State) (o : OpenProof) → Agrees p s → o.searched ≡ false → t ≡ state.count_anew (with_proof (Some o) s) → Agrees (past.opened p) t
+opens p s t o g n e = subst (Agrees (past.opened p)) (sym e) (record {
+  valid = g.valid;
+  started = g.started;
+  steps = g.steps;
+  since = refl;
+  settings = g.settings;
+  knows = λ v. let k = g.knows v in record { naming = k.naming; capped = k.capped; clauses = k.clauses; assumed = k.assumed; counted = k.counted; model = k.model; found = k.found; failed = k.failed; core = k.core; proof = ap (λ (b : Bool). Some b) n; right = k.right };
+})
+
+pub open-proof : {W : Type 0} (taken : W → Taken) (target : W) (format : ProofFormat) (p : Past) (s t : State) (r : Result (Unit {0}) (SolverError × W)) → Agrees p s → OpensProof taken target format s r t → Leads (past.ProofOpens taken target format p r) t
+open-proof taken target format p s t (Ok x) g (v, n, b, e) =
+    let w = sym g.valid ∙ v in (past.opened p, (w, none-open p s (g.knows w) n, sym g.started ∙ b, refl), opens p s t (first_proof format (taken target) s.told) g refl e)
+open-proof taken target format p s t (Err (Invalid, back)) g (h, (v, e)) = (p, (h, sym g.valid ∙ v, refl), stays p s t e g)
+open-proof taken target format p s t (Err (ProofOpen, back)) g (h, v, o, e) = (p, (h, sym g.valid ∙ v, has-open p s (knows-of p s g v) o, refl), stays p s t e g)
+open-proof taken target format p s t (Err (ProofTooLate, back)) g (h, v, n, b, e) =
+    (p, (h, sym g.valid ∙ v, none-open p s (knows-of p s g v) n, sym g.started ∙ b, refl), stays p s t e g)
+open-proof taken target format p s t (Err e) g a = absurd a
+
 -- A proof closes.
 closes : (p : Past) (s t : State) → Agrees p s → t ≡ state.count_anew (with_proof None s) → Agrees (past.closed p) t
 closes p s t g e = subst (Agrees (past.closed p)) (sym e) (record {
   valid = g.valid;
+  started = g.started;
   steps = g.steps;
   since = refl;
   settings = g.settings;
@@ -713,6 +743,7 @@ tell-core p s t (Err e) g (v, x, same) =
 pub empty-agrees : Agrees empty_past empty_state
 empty-agrees = record {
   valid = refl;
+  started = refl;
   steps = refl;
   since = refl;
   settings = refl;

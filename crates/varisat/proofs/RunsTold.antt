@@ -20,10 +20,11 @@ use Rattle.varisat.specs.declared.session.Answer.TheVariants as answer
 use Rattle.varisat_names.specs.declared.config.SolverConfigUpdate.{SolverConfigUpdate}
 use Rattle.varisat_formula.specs.declared.dimacs.error.DimacsError.{DimacsError}
 use Rattle.varisat.specs.VariableCalls as variables
-use Rattle.varisat.specs.ProofCalls.{ClosesProof}
+use Rattle.varisat_proof.specs.declared.proof.format.ProofFormat.{ProofFormat}
+use Rattle.varisat.specs.ProofCalls.{OpensProof, ClosesProof}
 use Rattle.varisat.specs.Journals.{TellsMore}
 use Rattle.varisat.specs.declared.solver.SolverError.{SolverError}
-use Rattle.varisat.specs.declared.solver.SolverError.TheVariants.{OutOfMemory, Invalid, ProofIoError, ClauseStoreFull, WitnessVar, AssumedVar, VariableLimit, ClauseAfterSolve, ProofOpen, Interrupted, ConfigOutOfRange}
+use Rattle.varisat.specs.declared.solver.SolverError.TheVariants.{OutOfMemory, Invalid, ProofIoError, ClauseStoreFull, WitnessVar, AssumedVar, VariableLimit, ClauseAfterSolve, ProofOpen, ProofTooLate, Interrupted, ConfigOutOfRange}
 use Rattle.varisat.proofs.VerdictAnswers.{is-unknown-or-not}
 use Rattle.varisat.proofs.ToldEntries.{tells-nothing, tells-through, tells, accepts-goes, assumes-goes}
 
@@ -182,6 +183,14 @@ config s t u (Err Invalid) a w = tells-same s t a.1 w
 config s t u (Err (ConfigOutOfRange field)) a w = tells-same s t a.2 w
 config s t u (Err e) a w = absurd a
 
+-- a proof opens, and nothing is told
+open-proof : {W : Type 0} (taken : W → Taken) (target : W) (format : ProofFormat) (s t : State) (r : Result (Unit {0}) (SolverError × W)) → OpensProof taken target format s r t → state.IsValid t → TellsOn s t
+open-proof taken target format s t (Ok x) (v, n, b, e) w = tells-plainly s t v (ap (λ (x : State). x.ledger.steps) e) (subst (λ (x : State). TellsMore 0 s.told x.told) (sym e) (tells-nothing s.told))
+open-proof taken target format s t (Err (Invalid, back)) (h, (v, e)) w = tells-same s t e w
+open-proof taken target format s t (Err (ProofOpen, back)) a w = tells-same s t a.3 w
+open-proof taken target format s t (Err (ProofTooLate, back)) a w = tells-same s t a.4 w
+open-proof taken target format s t (Err e) a w = absurd a
+
 -- a proof closes, and nothing is told
 close : {W : Type 0} (taken : W → Taken) (s t : State) (r : Result (Option W) (SolverError × W)) → ClosesProof taken s r t → state.IsValid t → TellsOn s t
 close taken s t (Ok back) (h, e) w = tells-plainly s t (subst state.IsValid e w) (ap (λ (x : State). x.ledger.steps) e) (subst (λ (x : State). TellsMore 0 s.told x.told) (sym e) (tells-nothing s.told))
@@ -190,7 +199,7 @@ close taken s t (Err e) a w = absurd a
 
 -- 4. Runs.
 
-call-tells : {W S A : Type 0} (seen : S → Stand) (taken : W → Taken) (c : Call S A) (a : Answer W S A) (s t : State) → MakesCall seen taken s c a t → state.IsValid t → TellsOn s t
+call-tells : {W S A : Type 0} (seen : S → Stand) (taken : W → Taken) (c : Call W S A) (a : Answer W S A) (s t : State) → MakesCall seen taken s c a t → state.IsValid t → TellsOn s t
 call-tells seen taken (call.AddClause d) (answer.AddClause r) s t m w = add-clause s t d.items r m w
 call-tells seen taken (call.AddFormula f) (answer.AddFormula r) s t m w = add-formula s t f.clauses r m w
 call-tells seen taken (call.AddDimacsCnf source) (answer.AddDimacsCnf r back) s t m w = add-text s t (seen source) (seen back) r m w
@@ -207,10 +216,11 @@ call-tells seen taken (call.Config u) (answer.Config r) s t m w = config s t u r
 call-tells seen taken call.Steps (answer.Steps n) s t m w = tells-same s t m.1 w
 call-tells seen taken call.StepsSinceChange (answer.StepsSinceChange n) s t m w = tells-same s t m.2 w
 call-tells seen taken call.IsValid (answer.IsValid b) s t m w = tells-same s t m.1 w
+call-tells seen taken (call.WriteProof target format) (answer.WriteProof r) s t m w = open-proof taken target format s t r m w
 call-tells seen taken call.CloseProof (answer.CloseProof r) s t m w = close taken s t r m w
 call-tells seen taken _ _ s t m w = absurd m
 
-pub run-tells : {W S A : Type 0} (seen : S → Stand) (taken : W → Taken) (calls : List (Call S A)) (answers : List (Answer W S A)) (s t : State) → Run seen taken s calls answers t → state.IsValid t → TellsOn s t
+pub run-tells : {W S A : Type 0} (seen : S → Stand) (taken : W → Taken) (calls : List (Call W S A)) (answers : List (Answer W S A)) (s t : State) → Run seen taken s calls answers t → state.IsValid t → TellsOn s t
 run-tells seen taken [] [] s t r w = tells-same s t r w
 run-tells seen taken [] (a ∷ answers) s t r w = absurd r
 run-tells seen taken (c ∷ calls) [] s t r w = absurd r
@@ -219,7 +229,7 @@ run-tells seen taken (c ∷ calls) (a ∷ answers) s t (mid, m, r) w =
     through s mid t (call-tells seen taken c a s mid m second.valid) second
 
 -- from the beginning: as many count at most as steps were made in all
-pub run-counts : {W S A : Type 0} (seen : S → Stand) (taken : W → Taken) (calls : List (Call S A)) (answers : List (Answer W S A)) (t : State) → Run seen taken empty_state calls answers t → state.IsValid t → (held : List Clause) × LeadsBy t.ledger.steps [] t.told held
+pub run-counts : {W S A : Type 0} (seen : S → Stand) (taken : W → Taken) (calls : List (Call W S A)) (answers : List (Answer W S A)) (t : State) → Run seen taken empty_state calls answers t → state.IsValid t → (held : List Clause) × LeadsBy t.ledger.steps [] t.told held
 run-counts seen taken calls answers t r w =
     let all = run-tells seen taken calls answers empty_state t r w in
     let (held, led) = all.told.goes [] refl in

@@ -1,7 +1,7 @@
 -- What the answers of a new solver say, with no state in between.
 use Rattle.std.specs.Prelude.{List}
 use Rattle.varisat_formula.specs.Streams.{Stand, Taken}
-use Rattle.varisat.specs.Pasts.{Past, adding, named, MakesVar, Assumes, Solves, TellsModel, TellsCore, with_update, ProofCloses}
+use Rattle.varisat.specs.Pasts.{Past, adding, named, MakesVar, Assumes, Solves, TellsModel, TellsCore, with_update, ProofOpens, ProofCloses}
 use Rattle.varisat.specs.Turns.{CallRules, Makes, MakesInTurn}
 use Rattle.varisat.specs.declared.session.Call.{Call}
 use Rattle.varisat.specs.declared.session.Answer.{Answer}
@@ -20,13 +20,14 @@ telling = record {
   steps = λ p. p.steps;
   since = λ p. p.since;
   counted = λ p. p.counted;
+  opens = ProofOpens;
   closes = ProofCloses;
 }
 
 -- Where the past was p, the call may get the answer, and then the past is q. `seen` tells how a source stands, and `taken` what a target took.
-abbrev pub IsTrue : {W S A : Type 0} → (S → Stand) → (W → Taken) → Past → Call S A → Answer W S A → Past → Type 0
+abbrev pub IsTrue : {W S A : Type 0} → (S → Stand) → (W → Taken) → Past → Call W S A → Answer W S A → Past → Type 0
 IsTrue seen taken p c a q = Makes telling seen taken p c a q
 
 -- Where the past was p, the calls in turn may get the answers in turn, one each.
-abbrev pub AreTrue : {W S A : Type 0} → (S → Stand) → (W → Taken) → Past → List (Call S A) → List (Answer W S A) → Type 0
+abbrev pub AreTrue : {W S A : Type 0} → (S → Stand) → (W → Taken) → Past → List (Call W S A) → List (Answer W S A) → Type 0
 AreTrue seen taken p calls answers = (q : Past) × MakesInTurn telling seen taken p calls answers q

@@ -1,9 +1,11 @@
 -- The commands of a session: what each one calls, how it is spelled on its line, and the texts of answers.
-use Rattle.std.specs.Prelude.{◌≡◌, ◌==◌, ◌<◌, ◌^◌, ℕ, Bool, true, false, Option, Some, None, Result, Ok, Err, List, [], ◌∷◌, ◌++◌, map, flat_map, codes, decimal}
+use Rattle.std.specs.Prelude.{◌≡◌, ◌==◌, ◌<◌, ◌^◌, ◌+◌, ◌/◌, ◌%◌, nat_lt, if◌then◌else◌, ℕ, Bool, true, false, Option, Some, None, Result, Ok, Err, List, [], ◌∷◌, ◌++◌, map, flat_map, codes, decimal}
 use Rattle.std.specs.List.{All, join_with_byte, slice_split}
 use Rattle.std.specs.declared.alloc.AllocError.{AllocError}
 use Rattle.varisat_theory.specs.Literals.{Literal}
 use Rattle.varisat_literals.specs.Numbers.{variable_text, literal_text}
+use Rattle.varisat_formula.specs.Streams.{Taken}
+use Rattle.varisat_proof.specs.declared.proof.format.ProofFormat.TheVariants.{Drat, BinaryDrat}
 use Rattle.varisat_names.specs.declared.config.ConfigField.{ConfigField}
 use Rattle.varisat_names.specs.Settings.{field_text, update_of}
 use Rattle.varisat.specs.Refusals.{refusal_number}
@@ -30,6 +32,8 @@ pub data Command : Type 0 where
   Config : ConfigField → ℕ → Command
   Steps : Command
   Since : Command
+  ProofText : Command
+  ProofBinary : Command
   Close : Command
 
 -- the words of a command, in order
@@ -47,6 +51,8 @@ words Core = codes "core" ∷ []
 words (Config field value) = codes "config" ∷ field_text field ∷ decimal value ∷ []
 words Steps = codes "steps" ∷ []
 words Since = codes "since" ∷ []
+words ProofText = codes "proof" ∷ codes "text" ∷ []
+words ProofBinary = codes "proof" ∷ codes "binary" ∷ []
 words Close = codes "close" ∷ []
 
 -- its words, with one space between each two
@@ -68,6 +74,8 @@ HasNumbersInRange Core = Unit {0}
 HasNumbersInRange (Config field value) = value < 2 ^ 64
 HasNumbersInRange Steps = Unit {0}
 HasNumbersInRange Since = Unit {0}
+HasNumbersInRange ProofText = Unit {0}
+HasNumbersInRange ProofBinary = Unit {0}
 HasNumbersInRange Close = Unit {0}
 
 -- the text means the command
@@ -79,8 +87,12 @@ pub record MeansCommand (text : List ℕ) (command : Command) : Type 0 where
 abbrev pub MeansOneCommand : Type 0
 MeansOneCommand = (text : List ℕ) (a b : Command) → MeansCommand text a → MeansCommand text b → a ≡ b
 
--- the command asks for the call
-abbrev pub AsksFor : {S A : Type 0} → Call S A → Command → Type 0
+-- a target in memory to which nothing was written
+abbrev pub no_bytes : Taken
+no_bytes = record { bytes = []; faults = 0 }
+
+-- the command asks for the call: a proof is written to memory
+abbrev pub AsksFor : {S A : Type 0} → Call Taken S A → Command → Type 0
 AsksFor (call.AddClause literals) (Add numbers) = literals.items ≡ numbers
 AsksFor (call.Assume literals) (Assume numbers) = literals.items ≡ numbers
 AsksFor call.NewVar New = Unit {0}
@@ -94,6 +106,8 @@ AsksFor call.FailedCore Core = Unit {0}
 AsksFor (call.Config update) (Config field value) = update ≡ update_of field value
 AsksFor call.Steps Steps = Unit {0}
 AsksFor call.StepsSinceChange Since = Unit {0}
+AsksFor (call.WriteProof target format) ProofText = (target ≡ no_bytes) × (format ≡ Drat)
+AsksFor (call.WriteProof target format) ProofBinary = (target ≡ no_bytes) × (format ≡ BinaryDrat)
 AsksFor call.CloseProof Close = Unit {0}
 AsksFor _ _ = ⊥
 
@@ -103,6 +117,12 @@ SetsUsage (Sample variable) = Unit {0}
 SetsUsage (Witness variable) = Unit {0}
 SetsUsage (Hide variable) = Unit {0}
 SetsUsage _ = ⊥
+
+-- the command opens a proof
+abbrev pub Opens : Command → Type 0
+Opens ProofText = Unit {0}
+Opens ProofBinary = Unit {0}
+Opens _ = ⊥
 
 -- the words that a text is cut into at its spaces
 abbrev pub words_of : List ℕ → List (List ℕ)
@@ -141,26 +161,60 @@ abbrev pub names_text : Result (List ℕ) SolverError → List ℕ
 names_text (Ok names) = codes "ok" ++ variables_text names
 names_text (Err error) = refusal_text error
 
--- the text of an answer
-abbrev pub answer_text : {W S A : Type 0} → Answer W S A → List ℕ
+-- the text of a variable that was made, or of the refusal
+abbrev pub made_text : Result ℕ SolverError → List ℕ
+made_text (Ok variable) = codes "ok " ++ variable_text variable
+made_text (Err error) = refusal_text error
+
+-- the text of what `solve` returned
+abbrev pub solved_text : Result Bool SolverError → List ℕ
+solved_text (Ok b) = truth_text b
+solved_text (Err error) = refusal_text error
+
+abbrev pub count_text : ℕ → List ℕ
+count_text n = codes "ok " ++ decimal n
+
+-- a digit of hexadecimal in lower case
+abbrev pub hex_digit : ℕ → ℕ
+hex_digit digit = if nat_lt digit 10 then 48 + digit else 87 + digit
+
+-- each byte in two digits
+abbrev pub hex_text : List ℕ → List ℕ
+hex_text bytes = flat_map (λ b. hex_digit (b / 16) ∷ hex_digit (b % 16) ∷ []) bytes
+
+-- the text of the bytes of a proof
+abbrev pub bytes_text : List ℕ → List ℕ
+bytes_text [] = codes "ok"
+bytes_text (b ∷ bytes) = codes "ok " ++ hex_text (b ∷ bytes)
+
+-- the text of a proof that was opened, or of the refusal
+abbrev pub opened_text : Result (Unit {0}) (SolverError × Taken) → List ℕ
+opened_text (Ok _) = codes "ok"
+opened_text (Err failure) = refusal_text failure.0
+
+-- the text of a proof that was closed, if one was open, or of the refusal
+abbrev pub closed_text : Result (Option Taken) (SolverError × Taken) → List ℕ
+closed_text (Ok None) = codes "ok none"
+closed_text (Ok (Some target)) = bytes_text target.bytes
+closed_text (Err failure) = refusal_text failure.0
+
+-- the text of an answer, where proofs are written to memory
+abbrev pub answer_text : {S A : Type 0} → Answer Taken S A → List ℕ
 answer_text (answer.AddClause done) = done_text done
 answer_text (answer.AddFormula done) = done_text done
 answer_text (answer.AddDimacsCnf done source) = done_text done
 answer_text (answer.Assume done) = done_text done
-answer_text (answer.NewVar (Ok variable)) = codes "ok " ++ variable_text variable
-answer_text (answer.NewVar (Err error)) = refusal_text error
+answer_text (answer.NewVar made) = made_text made
 answer_text (answer.SampleVar done) = done_text done
 answer_text (answer.WitnessVar done) = done_text done
 answer_text (answer.HideVar done) = done_text done
 answer_text (answer.ObserveInternalVars names) = names_text (told_vars names)
-answer_text (answer.Solve (Ok b)) = truth_text b
-answer_text (answer.Solve (Err error)) = refusal_text error
+answer_text (answer.Solve solved) = solved_text solved
 answer_text (answer.Model list) = list_text (told_list list)
 answer_text (answer.FailedCore list) = list_text (told_list list)
 answer_text (answer.Config done) = done_text done
-answer_text (answer.Steps steps) = codes "ok " ++ decimal steps
-answer_text (answer.StepsSinceChange steps) = codes "ok " ++ decimal steps
+answer_text (answer.Steps steps) = count_text steps
+answer_text (answer.StepsSinceChange steps) = count_text steps
 answer_text (answer.IsValid b) = truth_text b
-answer_text (answer.CloseProof (Ok None)) = codes "ok none"
-answer_text (answer.CloseProof (Ok (Some target))) = codes "ok"
-answer_text (answer.CloseProof (Err failure)) = refusal_text failure.0
+answer_text (answer.WriteProof opened) = opened_text opened
+answer_text (answer.CloseProof closed) = closed_text closed

@@ -3,6 +3,7 @@ use Rattle.std.specs.Prelude.{◌≡◌, ℕ, ◌+◌, ◌-◌, ◌<◌, ◌≤�
 use Rattle.std.specs.declared.alloc.AllocError.{AllocError}
 use Rattle.varisat_theory.specs.Literals.{Literal, Clause, variable_of, IsSatisfiable, IsSatisfiableWith, IsFailedCore}
 use Rattle.varisat_formula.specs.Streams.{Stand, Taken}
+use Rattle.varisat_proof.specs.declared.proof.format.ProofFormat.{ProofFormat}
 use Rattle.varisat_names.specs.declared.config.SolverConfigUpdate.{SolverConfigUpdate}
 use Rattle.varisat_names.specs.Settings.{Settings, default_settings, updated_settings}
 use Rattle.varisat.specs.Names.{Naming, no_names, name_one, name_all, through_names, IsLeastFree, IsFirstWitness}
@@ -13,20 +14,21 @@ use Rattle.varisat.specs.Calls.{IsPastLimit, MayConstrain, IsCrowded}
 use Rattle.varisat.specs.Additions as additions
 use Rattle.varisat.specs.Usage as usage
 use Rattle.varisat.specs.declared.solver.SolverError.{SolverError}
-use Rattle.varisat.specs.declared.solver.SolverError.TheVariants.{Interrupted, ProofIoError, OutOfMemory, Invalid, ClauseStoreFull, WitnessVar, VariableLimit, ClauseAfterSolve, ProofOpen}
+use Rattle.varisat.specs.declared.solver.SolverError.TheVariants.{Interrupted, ProofIoError, OutOfMemory, Invalid, ClauseStoreFull, WitnessVar, VariableLimit, ClauseAfterSolve, ProofOpen, ProofTooLate}
 use Rattle.varisat_literals.specs.Numbers.{variable_limit}
 
 -- Clauses and assumptions are kept over identities, as the names that were in use carried them when they were given: a name that
 -- becomes free may come back for another variable, and what was said before still speaks of the first.
 --
--- `valid`: no call failed from which there is no way back. `naming`: which identity each name has. `clauses` were accepted, and
--- `assumptions` given last. `counted`: the different identities that these clauses and all lists of assumptions so far name.
--- `has_model`: `solve` returned true, and no clause was accepted and nothing assumed since. `has_core`: it returned false, and
--- nothing was assumed since. `steps`: how many steps were made in all. `since`: how many of them since the last call that was not
--- refused and did more than to solve or to tell something. `settings`: those by which further steps are made. `proof`: of an open
--- proof, whether `solve` was called under it.
+-- `valid`: no call failed from which there is no way back. `started`: a clause, a variable or a list of assumptions was accepted.
+-- `naming`: which identity each name has. `clauses` were accepted, and `assumptions` given last. `counted`: the different
+-- identities that these clauses and all lists of assumptions so far name. `has_model`: `solve` returned true, and no clause was
+-- accepted and nothing assumed since. `has_core`: it returned false, and nothing was assumed since. `steps`: how many steps were
+-- made in all. `since`: how many of them since the last call that was not refused and did more than to solve or to tell something.
+-- `settings`: those by which further steps are made. `proof`: of an open proof, whether `solve` was called under it.
 pub record Past : Type 0 where
   pub valid : Bool
+  pub started : Bool
   pub naming : Naming
   pub clauses : List Clause
   pub assumptions : List Literal
@@ -42,6 +44,7 @@ pub record Past : Type 0 where
 abbrev pub empty_past : Past
 empty_past = record {
   valid = true;
+  started = false;
   naming = no_names;
   clauses = [];
   assumptions = [];
@@ -76,6 +79,7 @@ accept c p =
     let named : Naming = name_all c p.naming in
     let carried : Clause = map (through_names named) c in
     record p {
+      started = true;
       naming = named;
       clauses = p.clauses ++ carried ∷ [];
       counted = join_counted p.counted (map variable_of carried);
@@ -118,7 +122,7 @@ AddsDimacs p old r new q = additions.AddsText adding p old r new q
 
 -- the least free name comes into use
 abbrev pub MakesVar : Past → Result ℕ SolverError → Past → Type 0
-MakesVar p (Ok u) q = (p.valid ≡ true) × IsLeastFree p.naming u × (u < variable_limit) × (q ≡ record p { naming = name_one u p.naming; since = 0 })
+MakesVar p (Ok u) q = (p.valid ≡ true) × IsLeastFree p.naming u × (u < variable_limit) × (q ≡ record p { started = true; naming = name_one u p.naming; since = 0 })
 MakesVar p (Err Invalid) q = (p.valid ≡ false) × (q ≡ p)
 MakesVar p (Err VariableLimit) q = (p.valid ≡ true) × ((u : ℕ) × IsLeastFree p.naming u × ((variable_limit ≤ u) ⊎ IsCrowded (name_one u p.naming))) × (q ≡ p)
 MakesVar p (Err OutOfMemory) q = Invalidates p q
@@ -143,6 +147,7 @@ assume list p =
     let named : Naming = name_all list p.naming in
     let carried : List Literal = map (through_names named) list in
     record p {
+      started = true;
       naming = named;
       assumptions = carried;
       counted = join_counted p.counted (map variable_of carried);
@@ -225,6 +230,18 @@ TellsCore p (Err _) q = (p.valid ≡ true) × (p.has_model ≡ false) × (q ≡ 
 -- the settings are replaced for which the update has values, and steps are counted anew
 abbrev pub with_update : SolverConfigUpdate → Past → Past
 with_update u p = record p { since = 0; settings = updated_settings p.settings u }
+
+-- a proof is open, under which no search came to its end
+abbrev pub opened : Past → Past
+opened p = record p { proof = Some false; since = 0 }
+
+-- A proof opens before anything is accepted. Each refusal hands the target back, and changes nothing.
+abbrev pub ProofOpens : {W : Type 0} → (W → Taken) → W → ProofFormat → Past → Result (Unit {0}) (SolverError × W) → Past → Type 0
+ProofOpens taken target format p (Ok _) q = (p.valid ≡ true) × (p.proof ≡ None) × (p.started ≡ false) × (q ≡ opened p)
+ProofOpens taken target format p (Err (Invalid, back)) q = (back ≡ target) × (p.valid ≡ false) × (q ≡ p)
+ProofOpens taken target format p (Err (ProofOpen, back)) q = (back ≡ target) × (p.valid ≡ true) × HasOpenProof p × (q ≡ p)
+ProofOpens taken target format p (Err (ProofTooLate, back)) q = (back ≡ target) × (p.valid ≡ true) × (p.proof ≡ None) × (p.started ≡ true) × (q ≡ p)
+ProofOpens taken target format p (Err _) q = ⊥
 
 -- no proof is open any more
 abbrev pub closed : Past → Past

@@ -3,7 +3,8 @@ use Rattle.std.specs.Prelude.{◌-◌, ◌^◌, ◌<◌, List, [], ◌∷◌}
 use Rattle.varisat_formula.specs.Streams.{Stand, Taken}
 use Rattle.varisat.specs.States.{State}
 use Rattle.varisat.specs.Calls.{adding, MakesVar, Assumes, Solves, TellsModel, TellsCore, with_update}
-use Rattle.varisat.specs.ProofCalls.{ClosesProof}
+use Rattle.varisat.specs.OpenProofs.{IsDrat}
+use Rattle.varisat.specs.ProofCalls.{OpensProof, ClosesProof}
 use Rattle.varisat.specs.VariableCalls.{named}
 use Rattle.varisat.specs.Turns.{CallRules, Makes, MakesInTurn}
 use Rattle.varisat.specs.declared.session.Call.{Call}
@@ -24,23 +25,26 @@ calling = record {
   steps = λ s. s.ledger.steps;
   since = λ s. s.ledger.since;
   counted = λ s. s.counted;
+  opens = OpensProof;
   closes = ClosesProof;
 }
 
 -- The call may get the answer, and leads from one state to the other.
-abbrev pub MakesCall : {W S A : Type 0} → (S → Stand) → (W → Taken) → State → Call S A → Answer W S A → State → Type 0
+abbrev pub MakesCall : {W S A : Type 0} → (S → Stand) → (W → Taken) → State → Call W S A → Answer W S A → State → Type 0
 MakesCall seen taken s c a t = Makes calling seen taken s c a t
 
 -- The calls in turn may get the answers in turn, one each, and lead from one state to the other.
-abbrev pub Run : {W S A : Type 0} → (S → Stand) → (W → Taken) → State → List (Call S A) → List (Answer W S A) → State → Type 0
+abbrev pub Run : {W S A : Type 0} → (S → Stand) → (W → Taken) → State → List (Call W S A) → List (Answer W S A) → State → Type 0
 Run seen taken s calls answers t = MakesInTurn calling seen taken s calls answers t
 
--- a source that is read has counted fewer than 2^64-1 faults
-abbrev pub IsReadable : {S A : Type 0} → (S → Stand) → Call S A → Type 0
-IsReadable seen (call.AddDimacsCnf source) = (seen source).faults < 2 ^ 64 - 1
-IsReadable seen _ = Unit {0}
+-- What a call is given has counted fewer than 2^64-1 faults: a source that is read, and a target to which a proof is written, in
+-- one of DRAT's formats.
+abbrev pub IsReady : {W S A : Type 0} → (S → Stand) → (W → Taken) → Call W S A → Type 0
+IsReady seen taken (call.AddDimacsCnf source) = (seen source).faults < 2 ^ 64 - 1
+IsReady seen taken (call.WriteProof target format) = IsDrat format × ((taken target).faults < 2 ^ 64 - 1)
+IsReady seen taken _ = Unit {0}
 
--- so is each source that the calls are given
-abbrev pub AreReadable : {S A : Type 0} → (S → Stand) → List (Call S A) → Type 0
-AreReadable seen [] = Unit {0}
-AreReadable seen (c ∷ cs) = IsReadable seen c × AreReadable seen cs
+-- so is what each of the calls is given
+abbrev pub AreReady : {W S A : Type 0} → (S → Stand) → (W → Taken) → List (Call W S A) → Type 0
+AreReady seen taken [] = Unit {0}
+AreReady seen taken (c ∷ cs) = IsReady seen taken c × AreReady seen taken cs

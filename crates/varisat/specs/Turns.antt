@@ -3,6 +3,7 @@ use Rattle.std.specs.Prelude.{◌≡◌, ℕ, Bool, Option, List, [], ◌∷◌,
 use Rattle.std.specs.declared.alloc.AllocError.{AllocError}
 use Rattle.varisat_theory.specs.Literals.{Literal}
 use Rattle.varisat_formula.specs.Streams.{Stand, Taken}
+use Rattle.varisat_proof.specs.declared.proof.format.ProofFormat.{ProofFormat}
 use Rattle.varisat_names.specs.declared.config.SolverConfigUpdate.{SolverConfigUpdate}
 use Rattle.varisat.specs.Updates.{Configures}
 use Rattle.varisat.specs.Budgets.{TellsSince}
@@ -18,7 +19,7 @@ use Rattle.varisat.specs.declared.session.Answer.TheVariants as answer
 
 -- How calls move something, and with which answers: how clauses are added to it, how its names are used, and each further call
 -- that can be refused; what an update of the settings makes of it, how many steps were made, how many of them since the last
--- change, and which variables are counted; and how a proof closes, where it is known what each target took.
+-- change, and which variables are counted; and how a proof opens and closes, where it is known what each target took.
 pub record CallRules (X : Type 0) : Type 1 where
   pub adding : additions.Adding X
   pub named : usage.Named X
@@ -31,12 +32,13 @@ pub record CallRules (X : Type 0) : Type 1 where
   pub steps : X → ℕ
   pub since : X → ℕ
   pub counted : X → List ℕ
+  pub opens : {W : Type 0} → (W → Taken) → W → ProofFormat → X → Result (Unit {0}) (SolverError × W) → X → Type 0
   pub closes : {W : Type 0} → (W → Taken) → X → Result (Option W) (SolverError × W) → X → Type 0
 
 module _ {X : Type 0} (by : CallRules X) where
   -- From s the call may get the answer and lead to t. `seen` tells how a source stands, as it was given and as it is given back,
   -- and `taken` what a target took.
-  abbrev pub Makes : {W S A : Type 0} → (S → Stand) → (W → Taken) → X → Call S A → Answer W S A → X → Type 0
+  abbrev pub Makes : {W S A : Type 0} → (S → Stand) → (W → Taken) → X → Call W S A → Answer W S A → X → Type 0
   Makes seen taken s (call.AddClause c) (answer.AddClause r) t = by.adding.adds s c.items r t
   Makes seen taken s (call.AddFormula f) (answer.AddFormula r) t = additions.AddsList by.adding s f.clauses r t
   Makes seen taken s (call.AddDimacsCnf source) (answer.AddDimacsCnf r back) t = additions.AddsText by.adding s (seen source) r (seen back) t
@@ -53,11 +55,12 @@ module _ {X : Type 0} (by : CallRules X) where
   Makes seen taken s call.Steps (answer.Steps n) t = (n ≡ by.steps s) × (t ≡ s)
   Makes seen taken s call.StepsSinceChange (answer.StepsSinceChange n) t = TellsSince by.adding.valid by.since by.counted s n t
   Makes seen taken s call.IsValid (answer.IsValid b) t = (b ≡ by.adding.valid s) × (t ≡ s)
+  Makes seen taken s (call.WriteProof target format) (answer.WriteProof r) t = by.opens taken target format s r t
   Makes seen taken s call.CloseProof (answer.CloseProof r) t = by.closes taken s r t
   Makes seen taken s _ _ t = ⊥
 
   -- the calls in turn get the answers in turn, one each, and lead to t
-  abbrev pub MakesInTurn : {W S A : Type 0} → (S → Stand) → (W → Taken) → X → List (Call S A) → List (Answer W S A) → X → Type 0
+  abbrev pub MakesInTurn : {W S A : Type 0} → (S → Stand) → (W → Taken) → X → List (Call W S A) → List (Answer W S A) → X → Type 0
   MakesInTurn seen taken s [] [] t = t ≡ s
   MakesInTurn seen taken s (c ∷ cs) (a ∷ answers) t = (mid : X) × Makes seen taken s c a mid × MakesInTurn seen taken mid cs answers t
   MakesInTurn seen taken s _ _ t = ⊥

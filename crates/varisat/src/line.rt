@@ -5,7 +5,7 @@ ghost use Rattle.std.specs.Io.KnownBytes.{Appends};
 ghost use Rattle.varisat_theory.specs.Literals.{Literal};
 ghost use Rattle.varisat_literals.specs.Numbers.{literal_text, variable_text};
 ghost use Rattle.varisat_names.specs.Settings.{update_of};
-ghost use Rattle.varisat.specs.Lines.{Command, Add, Assume, Config, words, MeansCommand, MeansOneCommand, AsksFor, SetsUsage, words_of, literals_text, variables_text, names_text, refusal_text, done_text, list_text, answer_text};
+ghost use Rattle.varisat.specs.Lines.{Command, Add, Assume, Config, words, MeansCommand, MeansOneCommand, AsksFor, SetsUsage, Opens, words_of, literals_text, variables_text, names_text, refusal_text, done_text, list_text, made_text, solved_text, truth_text, count_text, hex_digit, hex_text, bytes_text, opened_text, closed_text, answer_text};
 ghost use Rattle.varisat.specs.Told.{told_list, told_vars};
 
 use crate::session::{Answer, Call};
@@ -14,9 +14,10 @@ use itoa::Buffer;
 use std::alloc::{AllocError, Allocator};
 use std::io::{self, Write};
 use std::str;
-use varisat_formula::io::{ByteSource, ProofTarget};
+use varisat_formula::io::{ByteSource, MemoryTarget};
 use varisat_literals::{Lit, Var};
 use varisat_names::config::{ConfigField, SolverConfigUpdate};
+use varisat_proof::proof::ProofFormat;
 
 // The highest number of a variable.
 const MAX_NUMBER: u64 = 0x8000_0000;
@@ -26,7 +27,7 @@ const MAX_NUMBER: u64 = 0x8000_0000;
 pub fn parse_line<S: ByteSource, A: Allocator + Copy>(
     alloc: A,
     text: &[u8],
-) -> Result<Option<Call<S, A>>, AllocError>
+) -> Result<Option<Call<MemoryTarget<A>, S, A>>, AllocError>
     ensures command { IfOk result (λ found. IfSome found (λ call. (command : Command) × AsksFor call command × MeansCommand text.now command)) }
     ensures no_command { IfOk result (λ found. IfNone found ((command : Command) → MeansCommand text.now command → ⊥)) }
 {
@@ -46,7 +47,10 @@ pub fn parse_line<S: ByteSource, A: Allocator + Copy>(
 }
 
 // The call of a command that does not begin with `add` or `assume` and a space.
-fn parse_short<S: ByteSource, A: Allocator + Copy>(alloc: A, text: &[u8]) -> Option<Call<S, A>>
+fn parse_short<S: ByteSource, A: Allocator + Copy>(
+    alloc: A,
+    text: &[u8],
+) -> Option<Call<MemoryTarget<A>, S, A>>
     ensures command { IfSome result (λ call. (command : Command) × AsksFor call command × MeansCommand text.now command) }
     ensures no_command { IfNone result ((command : Command) → MeansCommand text.now command → (take 4 text.now ≡ codes "add ")
         ⊎ (take 7 text.now ≡ codes "assume ")) }
@@ -55,13 +59,18 @@ fn parse_short<S: ByteSource, A: Allocator + Copy>(alloc: A, text: &[u8]) -> Opt
         Some(setting) => Some(Call::Config(parse_setting(setting)?)),
         None => match parse_usage(text) {
             Some(call) => Some(call),
-            None => parse_word(alloc, text),
+            None => match parse_proof(alloc, text) {
+                Some(call) => Some(call),
+                None => parse_word(alloc, text),
+            },
         },
     }
 }
 
 // The call of a command that sets how a variable is used.
-fn parse_usage<S: ByteSource, A: Allocator + Copy>(text: &[u8]) -> Option<Call<S, A>>
+fn parse_usage<S: ByteSource, A: Allocator + Copy>(
+    text: &[u8],
+) -> Option<Call<MemoryTarget<A>, S, A>>
     ensures command { IfSome result (λ call. (command : Command) × AsksFor call command × MeansCommand text.now command) }
     ensures no_command { IfNone result ((command : Command) → MeansCommand text.now command → SetsUsage command → ⊥) }
 {
@@ -77,8 +86,28 @@ fn parse_usage<S: ByteSource, A: Allocator + Copy>(text: &[u8]) -> Option<Call<S
     }
 }
 
+// The call of a command that opens a proof, which is written to memory.
+fn parse_proof<S: ByteSource, A: Allocator + Copy>(
+    alloc: A,
+    text: &[u8],
+) -> Option<Call<MemoryTarget<A>, S, A>>
+    ensures command { IfSome result (λ call. (command : Command) × AsksFor call command × MeansCommand text.now command) }
+    ensures no_command { IfNone result ((command : Command) → MeansCommand text.now command → Opens command → ⊥) }
+{
+    if text == b"proof text".as_slice() {
+        Some(Call::WriteProof(MemoryTarget::new_in(alloc), ProofFormat::Drat))
+    } else if text == b"proof binary".as_slice() {
+        Some(Call::WriteProof(MemoryTarget::new_in(alloc), ProofFormat::BinaryDrat))
+    } else {
+        None
+    }
+}
+
 // The call of a command that is one word.
-fn parse_word<S: ByteSource, A: Allocator + Copy>(alloc: A, word: &[u8]) -> Option<Call<S, A>>
+fn parse_word<S: ByteSource, A: Allocator + Copy>(
+    alloc: A,
+    word: &[u8],
+) -> Option<Call<MemoryTarget<A>, S, A>>
     ensures command { IfSome result (λ call. (command : Command) × AsksFor call command × MeansCommand word.now command) }
     ensures no_command { IfNone result ((command : Command) → MeansCommand word.now command → 1 < length (words command)) }
 {
@@ -203,11 +232,11 @@ pub fn means_one_command()
     ensures { MeansOneCommand }
 {}
 
-/// Writes the answer of a call, without a line feed. An error is the writer's, and a beginning of the answer may be
-/// written.
-pub fn write_answer<O: Write, W: ProofTarget, S: ByteSource, A: Allocator + Copy>(
+/// Writes the answer of a call, without a line feed: of a proof that was closed its bytes in hexadecimal. An error is the
+/// writer's, and a beginning of the answer may be written.
+pub fn write_answer<O: Write, S: ByteSource, A: Allocator + Copy>(
     out: &mut O,
-    answer: &Answer<W, S, A>,
+    answer: &Answer<MemoryTarget<A>, S, A>,
 ) -> io::Result<()>
     ensures { OnOk result (Appends (O.contents out.old) (O.contents out.new) (answer_text answer.now)) }
 {
@@ -220,23 +249,117 @@ pub fn write_answer<O: Write, W: ProofTarget, S: ByteSource, A: Allocator + Copy
         | Answer::HideVar(done)
         | Answer::Assume(done)
         | Answer::Config(done) => write_done(out, done),
-        Answer::NewVar(Ok(var)) => {
+        Answer::NewVar(made) => write_made(out, made),
+        Answer::ObserveInternalVars(names) => write_names(out, names),
+        Answer::Steps(steps) | Answer::StepsSinceChange(steps) => write_count(out, *steps),
+        Answer::Solve(solved) => write_solved(out, solved),
+        Answer::IsValid(truth) => write_truth(out, *truth),
+        Answer::Model(list) | Answer::FailedCore(list) => write_list(out, list),
+        Answer::WriteProof(opened) => write_opened(out, opened),
+        Answer::CloseProof(closed) => write_closed(out, closed),
+    }
+}
+
+/// Writes a variable that was made, or the refusal. Of errors the same holds as of `write_answer`.
+fn write_made<W: Write>(out: &mut W, made: &Result<Var, SolverError>) -> io::Result<()>
+    ensures { OnOk result (Appends (W.contents out.old) (W.contents out.new) (made_text made.now)) }
+{
+    match made {
+        Ok(var) => {
             out.write_all(b"ok ")?;
             out.write_all(Buffer::new().format(var.to_dimacs()).as_bytes())
         }
-        Answer::ObserveInternalVars(names) => write_names(out, names),
-        Answer::Steps(steps) | Answer::StepsSinceChange(steps) => {
-            out.write_all(b"ok ")?;
-            out.write_all(Buffer::new().format(*steps).as_bytes())
-        }
-        Answer::Solve(Ok(true)) | Answer::IsValid(true) => out.write_all(b"ok true"),
-        Answer::Solve(Ok(false)) | Answer::IsValid(false) => out.write_all(b"ok false"),
-        Answer::Model(list) | Answer::FailedCore(list) => write_list(out, list),
-        Answer::CloseProof(Ok(None)) => out.write_all(b"ok none"),
-        Answer::CloseProof(Ok(Some(_))) => out.write_all(b"ok"),
-        Answer::CloseProof(Err((error, _))) => write_refusal(out, error),
-        Answer::NewVar(Err(error)) => write_refusal(out, error),
-        Answer::Solve(Err(error)) => write_refusal(out, error),
+        Err(error) => write_refusal(out, error),
+    }
+}
+
+/// Writes a number. Of errors the same holds as of `write_answer`.
+fn write_count<W: Write>(out: &mut W, count: u64) -> io::Result<()>
+    ensures { OnOk result (Appends (W.contents out.old) (W.contents out.new) (count_text count)) }
+{
+    out.write_all(b"ok ")?;
+    out.write_all(Buffer::new().format(count).as_bytes())
+}
+
+/// Writes what `solve` returned. Of errors the same holds as of `write_answer`.
+fn write_solved<W: Write>(out: &mut W, solved: &Result<bool, SolverError>) -> io::Result<()>
+    ensures { OnOk result (Appends (W.contents out.old) (W.contents out.new) (solved_text solved.now)) }
+{
+    match solved {
+        Ok(truth) => write_truth(out, *truth),
+        Err(error) => write_refusal(out, error),
+    }
+}
+
+/// Writes a truth value. Of errors the same holds as of `write_answer`.
+fn write_truth<W: Write>(out: &mut W, truth: bool) -> io::Result<()>
+    ensures { OnOk result (Appends (W.contents out.old) (W.contents out.new) (truth_text truth)) }
+{
+    if truth {
+        out.write_all(b"ok true")
+    } else {
+        out.write_all(b"ok false")
+    }
+}
+
+/// Writes that a proof is open, or the refusal. Of errors the same holds as of `write_answer`.
+fn write_opened<W: Write, A: Allocator + Copy>(
+    out: &mut W,
+    opened: &Result<(), (SolverError, MemoryTarget<A>)>,
+) -> io::Result<()>
+    ensures { OnOk result (Appends (W.contents out.old) (W.contents out.new) (opened_text opened.now)) }
+{
+    match opened {
+        Ok(()) => out.write_all(b"ok"),
+        Err((error, _)) => write_refusal(out, error),
+    }
+}
+
+/// Writes the bytes of a proof that was closed, if one was open, or the refusal. Of errors the same holds as of
+/// `write_answer`.
+fn write_closed<W: Write, A: Allocator + Copy>(
+    out: &mut W,
+    closed: &Result<Option<MemoryTarget<A>>, (SolverError, MemoryTarget<A>)>,
+) -> io::Result<()>
+    ensures { OnOk result (Appends (W.contents out.old) (W.contents out.new) (closed_text closed.now)) }
+{
+    match closed {
+        Ok(Some(target)) => write_bytes(out, target.bytes()),
+        Ok(None) => out.write_all(b"ok none"),
+        Err((error, _)) => write_refusal(out, error),
+    }
+}
+
+/// Writes the bytes of a proof. Of errors the same holds as of `write_answer`.
+fn write_bytes<W: Write>(out: &mut W, bytes: &[u8]) -> io::Result<()>
+    ensures { OnOk result (Appends (W.contents out.old) (W.contents out.new) (bytes_text bytes.now)) }
+{
+    if bytes.is_empty() {
+        return out.write_all(b"ok");
+    }
+    out.write_all(b"ok ")?;
+    write_hex(out, bytes)
+}
+
+/// Writes each byte in two digits. Of errors the same holds as of `write_answer`.
+fn write_hex<W: Write>(out: &mut W, bytes: &[u8]) -> io::Result<()>
+    ensures { OnOk result (Appends (W.contents out.old) (W.contents out.new) (hex_text bytes.now)) }
+{
+    for byte in bytes {
+        out.write_all(&[hex_digit(*byte / 16), hex_digit(*byte % 16)])?;
+    }
+    Ok(())
+}
+
+// A digit of hexadecimal in lower case.
+fn hex_digit(digit: u8) -> u8
+    requires { digit < 16 }
+    ensures { result ≡ hex_digit digit }
+{
+    if digit < 10 {
+        b'0' + digit
+    } else {
+        b'a' + (digit - 10)
     }
 }
 

@@ -4,7 +4,7 @@ ghost use Rattle.varisat.specs.States.{State, empty_state};
 ghost use Rattle.varisat.specs.Calls.{IsValid};
 ghost use Rattle.varisat.specs.Journals.{IsJournal, IsToldWithin};
 ghost use Rattle.varisat.specs.Summaries.{StandsFor};
-ghost use Rattle.varisat.specs.Runs.{MakesCall, Run, IsReadable, AreReadable};
+ghost use Rattle.varisat.specs.Runs.{MakesCall, Run, IsReady, AreReady};
 ghost use Rattle.varisat.specs.Pasts.{empty_past};
 ghost use Rattle.varisat.specs.Histories.{AreTrue};
 
@@ -14,11 +14,11 @@ use varisat_formula::formula::CnfFormula;
 use varisat_formula::io::{ByteSource, ProofTarget};
 use varisat_literals::{Lit, Var};
 use varisat_names::config::SolverConfigUpdate;
+use varisat_proof::proof::ProofFormat;
 
-/// A call of a solver, with what it is given. A text is given by its source. No call takes a proof's target yet, so a
-/// proof is closed here only where it was opened before.
+/// A call of a solver, with what it is given: a text by its source, and a proof by its target.
 #[derive(Drop)]
-pub enum Call<S: ByteSource, A: Allocator + Copy> {
+pub enum Call<W: ProofTarget, S: ByteSource, A: Allocator + Copy> {
     AddClause(Vec<Lit, A>),
     AddFormula(CnfFormula<A>),
     AddDimacsCnf(S),
@@ -35,11 +35,12 @@ pub enum Call<S: ByteSource, A: Allocator + Copy> {
     Steps,
     StepsSinceChange,
     IsValid,
+    WriteProof(W, ProofFormat),
     CloseProof,
 }
 
-/// What a call returned. A source is given back with the answer, and a proof's target where its proof is closed. A core
-/// is a copy.
+/// What a call returned. A source is given back with the answer, and a proof's target where its proof is not opened, or
+/// closed. A core is a copy.
 #[derive(Drop)]
 pub enum Answer<W: ProofTarget, S: ByteSource, A: Allocator + Copy> {
     AddClause(Result<(), SolverError>),
@@ -58,15 +59,16 @@ pub enum Answer<W: ProofTarget, S: ByteSource, A: Allocator + Copy> {
     Steps(u64),
     StepsSinceChange(u64),
     IsValid(bool),
+    WriteProof(Result<(), (SolverError, W)>),
     CloseProof(Result<Option<W>, (SolverError, W)>),
 }
 
-/// Makes one call. A source has to have counted fewer than 2^64-1 faults.
+/// Makes one call. A source or a target has to have counted fewer than 2^64-1 faults, and a proof's format is one of DRAT.
 pub fn make_call<W: ProofTarget, S: ByteSource, A: Allocator + Copy>(
     solver: &mut Solver<W, A>,
-    call: Call<S, A>,
+    call: Call<W, S, A>,
 ) -> Answer<W, S, A>
-    requires { IsReadable S.stand call }
+    requires { IsReady S.stand W.taken call }
     ensures { (s : State) → StandsFor solver.old s → (t : State) × MakesCall S.stand W.taken s call result t × StandsFor solver.new t }
 {
     match call {
@@ -89,17 +91,20 @@ pub fn make_call<W: ProofTarget, S: ByteSource, A: Allocator + Copy>(
         Call::Steps => Answer::Steps(solver.steps()),
         Call::StepsSinceChange => Answer::StepsSinceChange(solver.steps_since_change()),
         Call::IsValid => Answer::IsValid(solver.is_valid()),
+        Call::WriteProof(target, format) => {
+            Answer::WriteProof(solver.write_proof(target, format))
+        }
         Call::CloseProof => Answer::CloseProof(solver.close_proof()),
     }
 }
 
 /// Makes the calls in turn, and returns their answers in this order. Err comes only before the first call, where the
-/// list of answers was refused. Each source has to have counted fewer than 2^64-1 faults.
+/// list of answers was refused. Of what the calls are given the same is asked as by `make_call`.
 pub fn run<W: ProofTarget, S: ByteSource, A: Allocator + Copy>(
     solver: &mut Solver<W, A>,
-    calls: Vec<Call<S, A>, A>,
+    calls: Vec<Call<W, S, A>, A>,
 ) -> Result<Vec<Answer<W, S, A>, A>, AllocError>
-    requires { AreReadable S.stand calls.items }
+    requires { AreReady S.stand W.taken calls.items }
     ensures run { IfOk result (λ answers. (s : State) → StandsFor solver.old s →
         (t : State) × Run S.stand W.taken s calls.items answers.items t × StandsFor solver.new t) }
     ensures err { OnErr result (solver.new ≡ solver.old) }
@@ -113,11 +118,11 @@ pub fn run<W: ProofTarget, S: ByteSource, A: Allocator + Copy>(
 
 /// The answers of a new solver to the calls. Each is true of what the calls and answers before it say: of the clauses
 /// that were accepted until then, those of formulas and texts among them, of the names in use, and of the steps since
-/// the last change. Of sources the same is asked as by `run`.
+/// the last change. Of what the calls are given the same is asked as by `run`.
 pub fn answers_of<W: ProofTarget, S: ByteSource, A: Allocator + Copy>(
-    calls: Vec<Call<S, A>, A>,
+    calls: Vec<Call<W, S, A>, A>,
 ) -> Result<Vec<Answer<W, S, A>, A>, AllocError>
-    requires { AreReadable S.stand calls.items }
+    requires { AreReady S.stand W.taken calls.items }
     ensures run { IfOk result (λ answers. (t : State) × Run S.stand W.taken empty_state calls.items answers.items t
         × (IsValid t → IsJournal t × IsToldWithin t.ledger.steps t.told)) }
     ensures truth { IfOk result (λ answers. AreTrue S.stand W.taken empty_past calls.items answers.items) }

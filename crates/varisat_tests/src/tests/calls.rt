@@ -1,6 +1,6 @@
 //! Lists of calls with their answers, and the texts of refusals.
 ghost use Rattle.std.specs.Prelude.{IfSome};
-ghost use Rattle.varisat.specs.Runs.{AreReadable};
+ghost use Rattle.varisat.specs.Runs.{AreReady};
 
 use super::readers::{Pieces, in_pieces};
 use super::settings::rare_and_frequent;
@@ -17,7 +17,7 @@ use varisat_literals::lits;
 use varisat_names::config::{ConfigField, SolverConfigUpdate};
 
 // A call on a text.
-type TextCall = Call<ReadSource<Pieces>, Global>;
+type TextCall = Call<MemoryTarget<Global>, ReadSource<Pieces>, Global>;
 
 // An answer of such a call.
 type TextAnswer = Answer<MemoryTarget<Global>, ReadSource<Pieces>, Global>;
@@ -41,7 +41,7 @@ fn are_lines(alloc: Global, answers: &[TextAnswer], wanted: &[u8]) -> bool {
 // A small session: settings, a clause, a formula, a text that breaks off, a variable, a setting, the question, the steps,
 // the model, the flag, and the end of a proof that is not open.
 fn calls(alloc: Global, settings: SolverConfigUpdate) -> Option<Vec<TextCall>>
-    ensures { IfSome result (λ calls. AreReadable (λ s. s) calls.items) }
+    ensures { IfSome result (λ calls. AreReady (λ s. s) (λ t. t) calls.items) }
 {
     let clause = Vec::from_slice(alloc, &lits![3, -1]).ok()?;
     let formula = cnf_formula!(in alloc; 4, -1; -5;).ok()?;
@@ -75,7 +75,7 @@ fn bad_update() -> SolverConfigUpdate {
 // limit and settings out of range. What stands before a fault stays, and refused settings change nothing, so the budget is
 // not spent.
 fn refused_calls(alloc: Global, settings: SolverConfigUpdate) -> Option<Vec<TextCall>>
-    ensures { IfSome result (λ calls. AreReadable (λ s. s) calls.items) }
+    ensures { IfSome result (λ calls. AreReady (λ s. s) (λ t. t) calls.items) }
 {
     let formula = cnf_formula!(in alloc; 2; 268435457; -2;).ok()?;
     let fault = in_pieces(b"1 0 x 2 0", 3, false);

@@ -8,7 +8,7 @@ use varisat_formula::formula::Lit;
 use varisat_formula::io::{MemoryTarget, ReadSource};
 
 // The call of a line. No line has a source.
-type LineCall = Call<ReadSource<Empty>, Global>;
+type LineCall = Call<MemoryTarget<Global>, ReadSource<Empty>, Global>;
 
 // An answer of a session, which has no source.
 type LineAnswer = Answer<MemoryTarget<Global>, ReadSource<Empty>, Global>;
@@ -141,6 +141,14 @@ const OTHER_TEXTS: &[&[u8]] = &[
     b"config  max_steps 1",
     b"config max_steps 18446744073709551616",
     b"config speed 1",
+    b"proof",
+    b"proof ",
+    b"proof marked",
+    b"proof  text",
+    b"proof text ",
+    b"proof texts",
+    b"Proof binary",
+    b"close 1",
     b"quit",
     b"\xc3\xa4",
 ];

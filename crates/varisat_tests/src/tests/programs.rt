@@ -125,7 +125,7 @@ const SESSIONS: [Exchange; 15] = [
 
 // Sessions with ample memory alone: they ask for the steps, which an invalid solver tells too, have settings, or take
 // much memory.
-const AMPLE_SESSIONS: [Exchange; 9] = [
+const AMPLE_SESSIONS: [Exchange; 17] = [
     (
         "steps\nsolve\nsteps\nsolve\nsteps\n",
         "ok 0\nok true\nok 1\nok true\nok 1\n",
@@ -152,7 +152,44 @@ const AMPLE_SESSIONS: [Exchange; 9] = [
         "config max_steps 0\nconfig max_steps 18446744073709551615\n",
         "ok\nok\n",
     ),
-    ("close\n", "ok none\n"),
+    // Proofs: what is closed is printed in hexadecimal.
+    ("close\nproof binary\nclose\n", "ok none\nok\nok\n"),
+    (
+        "proof text\nadd 1\nadd 2 1 2\nadd 1 -1\nclose\n",
+        "ok\nok\nok\nok\nok 642031203220300a\n",
+    ),
+    (
+        "proof text\nadd 1\nadd -1\nsolve\nadd 5\nclose\n",
+        "ok\nok\nok\nok false\nok\nok\n",
+    ),
+    // Units that clauses imply, and the empty clause.
+    (
+        "proof text\nadd 1\nadd -1 2\nadd -2 3\nadd -2 -3\nsolve\nclose\n",
+        "ok\nok\nok\nok\nok\nok false\nok 3220300a3320300a300a\n",
+    ),
+    // A unit, and then the clauses that it and another one satisfy: `3 0`, `d -1 3 0`, `d 1 2 0`.
+    (
+        "proof text\nadd 1 2\nadd -1 3\nadd 1\nsolve\nclose\n",
+        "ok\nok\nok\nok\nok true\nok 3320300a64202d31203320300a642031203220300a\n",
+    ),
+    // A satisfied clause of the literals 63 and -64 is deleted as it is loaded.
+    (
+        "proof binary\nadd 63\nadd 63 -64\nclose\nclose\n",
+        "ok\nok\nok\nok 647e810100\nok none\n",
+    ),
+    // A proof begins before all else, and is the only one.
+    (
+        "proof text\nproof binary\nclose\nproof binary\nclose\nnew\nproof text\n",
+        "ok\nerr 10\nok\nok\nok\nok 1\nerr 11\n",
+    ),
+    (
+        "solve\nproof text\nadd\nproof text\nclose\nproof text\n",
+        "ok true\nok\nok\nerr 10\nok\nerr 11\n",
+    ),
+    (
+        "assume\nproof text\nproof\nproof marked\nproof  text\nproof text \nPROOF text\n",
+        "ok\nerr 11\nbad line\nbad line\nbad line\nbad line\nbad line\n",
+    ),
     // Names that no clause names have no variable in the search.
     (
         "add 1000000 2\nadd -1000000 5\nsolve\nadd -2\nadd -5\nsolve\n",

@@ -54,6 +54,15 @@ returns-in-Steps g c s st = rw c.in-Steps.is (c.steps.ensures s st)
 pub returns-in-IsValid : goal.returns-in-IsValid
 returns-in-IsValid g c s st = rw c.in-IsValid.is (c.is_valid.ensures s st)
 
+pub write_proof-requires-clause-format : goal.write_proof-requires-clause-format
+write_proof-requires-clause-format g c = let ready = rw c.in-WriteProof.is at c.requires in ready.0
+
+pub write_proof-requires-clause-room : goal.write_proof-requires-clause-room
+write_proof-requires-clause-room g c = let ready = rw c.in-WriteProof.is at c.requires in ready.1
+
+pub returns-in-WriteProof : goal.returns-in-WriteProof
+returns-in-WriteProof g c s st = rw c.in-WriteProof.is (c.write_proof.ensures s st)
+
 pub returns-in-CloseProof : goal.returns-in-CloseProof
 returns-in-CloseProof g c s st = rw c.in-CloseProof.is (c.close_proof.ensures.call s st)
 

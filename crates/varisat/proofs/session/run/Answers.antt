@@ -1,8 +1,8 @@
 use Rattle.std.proofs.Common.{◌≡◌, refl, ◌++◌, ◌∷◌, [], sym, ◌∙◌, ap, subst, arith, length, append_assoc, rules}
 use Rattle.std.proofs.lemmas.List.{nil_from_length, append-nil}
 use Rattle.std.specs.Vec.Iter.{into_iter_items}
-use Rattle.varisat.specs.Runs.{Run, AreReadable}
-use Rattle.varisat.proofs.Runs.{run-push, readable-next}
+use Rattle.varisat.specs.Runs.{Run, AreReady}
+use Rattle.varisat.proofs.Runs.{run-push, ready-next}
 use Rattle.varisat.proofs.session.run.Goals as goal
 
 pub loop-call-init : goal.loop-call-init
@@ -15,8 +15,8 @@ loop-call-init g c = record {
 
 pub make_call-requires : goal.make_call-requires
 make_call-requires g c =
-    readable-next g.S.ByteSource.stand c.loop-call.yielded _ c.in-Some.call
-    (subst (λ cs. AreReadable g.S.ByteSource.stand cs) (sym (ap (λ xs. c.loop-call.yielded ++ xs) (sym c.in-Some.ensures.steps.0) ∙ c.loop-call.invariant.whole)) c.requires)
+    ready-next g.S.ByteSource.stand g.W.ProofTarget.taken c.loop-call.yielded _ c.in-Some.call
+    (subst (λ cs. AreReady g.S.ByteSource.stand g.W.ProofTarget.taken cs) (sym (ap (λ xs. c.loop-call.yielded ++ xs) (sym c.in-Some.ensures.steps.0) ∙ c.loop-call.invariant.whole)) c.requires)
 
 pub loop-call-preserved : goal.loop-call-preserved
 loop-call-preserved g c = record {

@@ -56,6 +56,7 @@ pub mod SolverCalls
 pub mod SinceSteps
 pub mod ToldJournals
 pub mod RunsTold
+pub mod FewSteps
 pub mod SpacesAgree
 pub mod SpacesMoves
 pub mod TableMarks

@@ -12,6 +12,7 @@ pub mod Calls
 pub mod Pasts
 pub mod Told
 pub mod Turns
+pub mod Moments
 pub mod Runs
 pub mod Histories
 pub mod Laws

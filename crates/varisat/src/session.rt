@@ -4,9 +4,10 @@ ghost use Rattle.varisat.specs.States.{State, empty_state};
 ghost use Rattle.varisat.specs.Calls.{IsValid};
 ghost use Rattle.varisat.specs.Journals.{IsJournal, IsToldWithin};
 ghost use Rattle.varisat.specs.Summaries.{StandsFor};
-ghost use Rattle.varisat.specs.Runs.{MakesCall, Run, IsReady, AreReady};
+ghost use Rattle.varisat.specs.Runs.{calling, MakesCall, Run, IsReady, AreReady};
 ghost use Rattle.varisat.specs.Pasts.{empty_past};
-ghost use Rattle.varisat.specs.Histories.{AreTrue};
+ghost use Rattle.varisat.specs.Histories.{telling, AreTrue};
+ghost use Rattle.varisat.specs.Moments.{HasFewSteps, HasFewStepsAlong};
 
 use crate::solver::{Solver, SolverError};
 use std::alloc::{AllocError, Allocator};
@@ -98,8 +99,9 @@ pub fn make_call<W: ProofTarget, S: ByteSource, A: Allocator + Copy>(
     }
 }
 
-/// Makes the calls in turn, and returns their answers in this order. Err comes only before the first call, where the
-/// list of answers was refused. Of what the calls are given the same is asked as by `make_call`.
+/// Makes the calls in turn, and returns their answers in this order. At each moment fewer than 2^(2n+3) steps were made
+/// since the last change, where n variables are counted, if it was so before the first call. Err comes only before that
+/// call, where the list of answers was refused. Of what the calls are given the same is asked as by `make_call`.
 pub fn run<W: ProofTarget, S: ByteSource, A: Allocator + Copy>(
     solver: &mut Solver<W, A>,
     calls: Vec<Call<W, S, A>, A>,
@@ -107,6 +109,8 @@ pub fn run<W: ProofTarget, S: ByteSource, A: Allocator + Copy>(
     requires { AreReady S.stand W.taken calls.items }
     ensures run { IfOk result (λ answers. (s : State) → StandsFor solver.old s →
         (t : State) × Run S.stand W.taken s calls.items answers.items t × StandsFor solver.new t) }
+    ensures few { IfOk result (λ answers. (s : State) → HasFewSteps calling s →
+        HasFewStepsAlong calling S.stand W.taken s calls.items answers.items) }
     ensures err { OnErr result (solver.new ≡ solver.old) }
 {
     let mut answers = Vec::with_capacity(*calls.allocator(), calls.len())?;
@@ -118,7 +122,7 @@ pub fn run<W: ProofTarget, S: ByteSource, A: Allocator + Copy>(
 
 /// The answers of a new solver to the calls. Each is true of what the calls and answers before it say: of the clauses
 /// that were accepted until then, those of formulas and texts among them, of the names in use, and of the steps since
-/// the last change. Of what the calls are given the same is asked as by `run`.
+/// the last change, of which few were made at each moment. Of what the calls are given the same is asked as by `run`.
 pub fn answers_of<W: ProofTarget, S: ByteSource, A: Allocator + Copy>(
     calls: Vec<Call<W, S, A>, A>,
 ) -> Result<Vec<Answer<W, S, A>, A>, AllocError>
@@ -126,6 +130,7 @@ pub fn answers_of<W: ProofTarget, S: ByteSource, A: Allocator + Copy>(
     ensures run { IfOk result (λ answers. (t : State) × Run S.stand W.taken empty_state calls.items answers.items t
         × (IsValid t → IsJournal t × IsToldWithin t.ledger.steps t.told)) }
     ensures truth { IfOk result (λ answers. AreTrue S.stand W.taken empty_past calls.items answers.items) }
+    ensures few { IfOk result (λ answers. HasFewStepsAlong telling S.stand W.taken empty_past calls.items answers.items) }
 {
     let mut solver: Solver<W, A> = Solver::new_in(*calls.allocator());
     let answers = run(&mut solver, calls);

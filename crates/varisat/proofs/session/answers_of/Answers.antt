@@ -3,6 +3,7 @@ use Rattle.varisat.specs.States.{Ledger, empty_state}
 use Rattle.varisat.proofs.ToldJournals.{journal-of}
 use Rattle.varisat.proofs.RunsTold.{run-counts}
 use Rattle.varisat.proofs.Histories.{of-ok, run-is-true}
+use Rattle.varisat.proofs.FewSteps.{answers-stay-few}
 use Rattle.varisat.proofs.session.answers_of.Goals as goal
 
 pub returns-clause-run : goal.returns-clause-run
@@ -10,3 +11,6 @@ returns-clause-run g c = of-ok c.run-answers.result _ _ (λ answers h. let (t, r
 
 pub returns-clause-truth : goal.returns-clause-truth
 returns-clause-truth g c = of-ok c.run-answers.result _ _ (λ answers h. let (t, r, q) = h empty_state c.new_in-solver.ensures in run-is-true _ _ c.args.calls.items answers.items t r) c.run-answers.ensures.run
+
+pub returns-clause-few : goal.returns-clause-few
+returns-clause-few g c = of-ok c.run-answers.result _ _ (λ answers h. answers-stay-few g.S.ByteSource.stand g.W.ProofTarget.taken c.args.calls.items answers.items) c.run-answers.ensures.run

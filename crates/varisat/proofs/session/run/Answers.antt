@@ -3,6 +3,7 @@ use Rattle.std.proofs.lemmas.List.{nil_from_length, append-nil}
 use Rattle.std.specs.Vec.Iter.{into_iter_items}
 use Rattle.varisat.specs.Runs.{Run, AreReady}
 use Rattle.varisat.proofs.Runs.{run-push, ready-next}
+use Rattle.varisat.proofs.FewSteps.{run-stays-few}
 use Rattle.varisat.proofs.session.run.Goals as goal
 
 pub loop-call-init : goal.loop-call-init
@@ -35,3 +36,6 @@ returns-clause-run g c s st =
     let e = sym (append-nil c.loop-call.yielded) ∙ ap (λ xs. c.loop-call.yielded ++ xs) (sym none) ∙ c.loop-call.invariant.whole in
     let (t, r, q) = c.loop-call.invariant.so_far s st in
     (t, subst (λ cs. Run g.S.ByteSource.stand g.W.ProofTarget.taken s cs c.loop-call.answers.items t) e r, q)
+
+pub returns-clause-few : goal.returns-clause-few
+returns-clause-few g c s h = run-stays-few g.S.ByteSource.stand g.W.ProofTarget.taken c.args.calls.items c.loop-call.answers.items s h

@@ -35,6 +35,7 @@ pub mod CollectedContext
 pub mod DueReductions
 pub mod LearnedHeaders
 pub mod AssumedTruths
+pub mod TakenOut
 pub mod AssumptionLevels
 pub mod AssumptionSteps
 pub mod AssumptionContexts

@@ -1,5 +1,5 @@
 -- A step is made over what comes before it: units that are settled, or propagation and decisions up to a conflict or to an end.
-use Rattle.std.proofs.Common.{◌≡◌, List, [], ◌++◌, ◌⊎◌, ⊎_elim, inl, refl, ap, ◌∙◌, subst}
+use Rattle.std.proofs.Common.{◌≡◌, List, [], ◌++◌, ◌⊎◌, ⊎_elim, inl, inr, refl, ap, ◌∙◌, subst}
 use Rattle.varisat_theory.specs.Literals.{Literal}
 use Rattle.varisat_trace.specs.Traces.{verdict_entries}
 use Rattle.varisat_theory.specs.Derivations.{Line}
@@ -60,6 +60,10 @@ made-with x y P m = record {
 -- a step that learned has no core
 pub no-core-entry : (s : View) (core : List Literal) (b : SatState) → (b ≡ verdict.Unknown) ⊎ (b ≡ verdict.Unsat) → verdict_entries (outcome_of s core b) ≡ []
 no-core-entry s core b o = ⊎_elim (λ e. ap (λ c. verdict_entries (outcome_of s core c)) e) (λ e. ap (λ c. verdict_entries (outcome_of s core c)) e) o
+
+pub learned-no-core : (b : SatState) → (b ≡ verdict.Unknown) ⊎ (b ≡ verdict.Unsat) → b ≡ verdict.UnsatUnderAssumptions → ⊥
+learned-no-core b (inl e) u = cc
+learned-no-core b (inr e) u = cc
 
 -- 1. Propagation and decisions, from x to y.
 

@@ -4,12 +4,14 @@ pub mod Conflicts
 pub mod Loading
 pub mod Seen
 pub mod Progress
+pub mod FoundCores
 pub mod Restarts
 pub mod Decisions
 pub mod Forgotten
 pub mod ContextChanges
 pub mod DueReductions
 pub mod AssumptionParts
+pub mod TakenOut
 pub mod ProvedUnits
 pub mod Simplifications
 pub mod Deletions

@@ -14,6 +14,7 @@ ghost use Rattle.varisat_search.specs.Steps.{SavesAll};
 ghost use Rattle.varisat_search.specs.Decisions.{AreDecidable, SameDecidable};
 ghost use Rattle.varisat_search.specs.Seen.{search_of};
 ghost use Rattle.varisat_search.specs.AssumptionParts.{no_assumptions, newly_assumed, with_levels_to, assumed_state, TakesOutImplied, TakesOutTrue, IsNextAssumption, ComesToNext};
+ghost use Rattle.varisat_search.specs.TakenOut.{AreImpliedBefore};
 
 use crate::context::Context;
 use crate::decision::decide_lit;
@@ -292,6 +293,8 @@ pub fn enqueue_assumption<A: Allocator + Copy>(
     requires propagated { ctx.old.trail.queue_head ≡ length ctx.old.trail.literals }
     ensures ready { OnOk result (IsReady ctx.new) }
     ensures taken { OnOk result (TakesOutImplied (view ctx.old) ctx.old.assumptions ctx.new.assumptions) }
+    // What was taken out is implied by the assumptions before its place alone.
+    ensures before { OnOk result (AreImpliedBefore (view ctx.old) ctx.old.assumptions ctx.new.assumptions) }
     ensures next { IfOk result (λ next. ComesToNext (view ctx.old) (view ctx.new) ctx.new.assumptions next) }
     ensures same { OnOk result (SameDecidable (view ctx.old) ctx.old.vsids (view ctx.new) ctx.new.vsids) }
     ensures last { OnOk result (ctx.new.assignment.last ≡ ctx.old.assignment.last) }

@@ -25,6 +25,7 @@ ghost use Rattle.varisat_search.specs.Conflicts.{Stops, Keeping, IsKeptAsReason,
 ghost use Rattle.varisat_search.specs.SettledUnits.{IsUnsettled, SettlesUnits, GoesOnByLines, IsSettledDown, SettlesFirst};
 ghost use Rattle.varisat_search.specs.StepErrors.{HasNoRoom, step_faults};
 ghost use Rattle.varisat_search.specs.Progress.{outcome_at, IsStepFurther, MakesStep};
+ghost use Rattle.varisat_search.specs.FoundCores.{HasCoreIfFailed};
 ghost use Rattle.varisat_vsids.specs.Activities.{Activities};
 
 use crate::assess::{assess_learned, bump_involved_clauses};
@@ -357,6 +358,7 @@ fn find_and_learn<A: Allocator + Copy, P: ProofTracer>(
     requires unknown { ctx.old.solver_state.sat_state ≡ SatState.Unknown }
     requires holds { HoldsFor (P.holds proof.old) (search_of (view ctx.old)) }
     ensures made { OnOk result (MakesStep (λ lines. TakesStep P.takes proof.old lines (outcome_at ctx.new) proof.new) ctx.old ctx.new) }
+    ensures core { OnOk result (HasCoreIfFailed ctx.new) }
     ensures schedule { KeepsSchedule ctx.old ctx.new }
     ensures full { IfErr result (λ error. error ≡ StepError.Full → HasNoRoom ctx.new) }
     ensures broken { IfErr result (λ error. BreaksOff P.breaks_off proof.old (step_faults error) proof.new) }
@@ -387,6 +389,7 @@ pub fn conflict_step<A: Allocator + Copy, P: ProofTracer>(
     ensures made { OnOk result (MakesStep
         (λ lines. SettlesFirst lines ctx.old ctx.new × TakesStep P.takes proof.old lines (outcome_at ctx.new) proof.new)
         ctx.old ctx.new) }
+    ensures core { OnOk result (HasCoreIfFailed ctx.new) }
     ensures schedule { KeepsSchedule ctx.old ctx.new }
     // The store is full only where it has no room for a clause of all variables.
     ensures full { IfErr result (λ error. error ≡ StepError.Full → HasNoRoom ctx.new) }

@@ -7,6 +7,7 @@ ghost use Rattle.varisat_search.specs.AssumptionParts.{KeepsAssumptions};
 ghost use Rattle.varisat_search.specs.Contexts.{view, IsReady};
 ghost use Rattle.varisat_search.specs.Decisions.{SameDecidable};
 ghost use Rattle.varisat_search.specs.Progress.{outcome_at, StepsTo};
+ghost use Rattle.varisat_search.specs.FoundCores.{HasCoreIfFailed};
 ghost use Rattle.varisat_search.specs.Restarts.{RestartsIfDue, SavesIfDue, RestartsAndRemembers};
 ghost use Rattle.varisat_search.specs.DueReductions.{ReducesLocalsIfDue, ReducesMidsIfDue, ReducesIfDue, KeepsSearch, GoesBySchedule};
 ghost use Rattle.varisat_search.specs.StepErrors.{HasNoRoom, step_faults};
@@ -123,6 +124,7 @@ pub fn schedule_step<A: Allocator + Copy, P: ProofTracer>(
         (λ lines. GoesBySchedule lines ctx.old ctx.new × TakesStep P.takes proof.old lines (outcome_at ctx.new) proof.new)
         ctx.old ctx.new) }
     ensures assumes { OnOk result (KeepsAssumptions (search_of (view ctx.old)) (outcome_at ctx.new) ctx.old.assumptions ctx.new.assumptions) }
+    ensures core { OnOk result (HasCoreIfFailed ctx.new) }
     ensures rises { OnOk result (ctx.new.solver_state.sat_state ≡ SatState.Unknown →
         IsPlannedStep ctx.old.schedule (kinds (view ctx.old)) (kinds (view ctx.new))) }
     ensures decidable { OnOk result (SameDecidable (view ctx.old) ctx.old.vsids (view ctx.new) ctx.new.vsids) }

@@ -5,6 +5,8 @@ use Rattle.varisat_search.specs.AssumptionParts.{AssumptionParts, HasFailed, Tak
 use Rattle.varisat_search.specs.Contexts.{view, IsReady}
 use Rattle.varisat_search.specs.Steps.{IsFree}
 use Rattle.varisat_search.specs.Decisions.{SameDecidable}
+use Rattle.varisat_search.specs.TakenOut.{AreImpliedBefore}
+use Rattle.varisat_search.proofs.TakenOut.{implied-before, implied-before-with}
 use Rattle.varisat_search.proofs.NextAssumption.{left-implied, left-implied-with, none-ready, next-inside, failed-ready, has-failed, next-free, next-same, next-ready}
 use Rattle.varisat_search.proofs.assumptions.enqueue_assumption.Given.{Over}
 use Rattle.varisat_search.proofs.assumptions.enqueue_assumption.Goals.{After-next_assumption, In-Some, In_ok-decide_lit}
@@ -12,6 +14,9 @@ use Rattle.varisat_search.proofs.assumptions.enqueue_assumption.Goals as goal
 
 taken : (g : Over) (c : After-next_assumption g) → TakesOutTrue c.args.ctx.now.assignment.current (length c.args.ctx.now.trail.decisions) c.args.ctx.now.assumptions c.next_assumption.new.assumptions
 taken g c = subst (λ n. TakesOutTrue c.args.ctx.now.assignment.current n c.args.ctx.now.assumptions c.next_assumption.new.assumptions) c.current_level-level.ensures c.next_assumption.ensures.taken
+
+before : (g : Over) (c : After-next_assumption g) → AreImpliedBefore (view c.args.ctx.now) c.args.ctx.now.assumptions c.next_assumption.new.assumptions
+before g c = implied-before (view c.args.ctx.now) c.args.ctx.now.assumptions c.next_assumption.new.assumptions c.requires.ready.well c.requires.ready.assumed (taken g c)
 
 next : (g : Over) (c : In-Some g) → IsNextAssumption c.args.ctx.now.assignment.current (length c.args.ctx.now.trail.decisions) c.next_assumption.new.assumptions.working (Some c.in-Some.lit)
 next g c = subst (λ n. IsNextAssumption c.args.ctx.now.assignment.current n c.next_assumption.new.assumptions.working (Some c.in-Some.lit)) c.current_level-level.ensures c.in-Some.ensures.next
@@ -21,6 +26,9 @@ returns-in_default-clause-ready g c = none-ready c.args.ctx.now c.next_assumptio
 
 pub returns-in_default-clause-taken : goal.returns-in_default-clause-taken
 returns-in_default-clause-taken g c = left-implied c.args.ctx.now c.next_assumption.new.assumptions c.requires.ready (taken g (goal.at.returns-in_default-clause-taken g c).After-next_assumption)
+
+pub returns-in_default-clause-before : goal.returns-in_default-clause-before
+returns-in_default-clause-before g c = before g (goal.at.returns-in_default-clause-before g c).After-next_assumption
 
 pub lit_is_false-requires : goal.lit_is_false-requires
 lit_is_false-requires g c =
@@ -45,6 +53,12 @@ returns-then-lit_is_false-clause-taken g c =
     let z = c.find_failed_core.new.ctx in
     let e = ap (λ (x : Context g.row.A.Denot). x.assumptions) c.find_failed_core.ensures.kept in
     left-implied-with c.args.ctx.now c.next_assumption.new.assumptions c.requires.ready (taken g here.After-next_assumption) z.assumptions (ap (λ (a : AssumptionParts). a.user) e) (ap (λ (a : AssumptionParts). a.user_core) e) (ap (λ (a : AssumptionParts). a.working) e)
+
+pub returns-then-lit_is_false-clause-before : goal.returns-then-lit_is_false-clause-before
+returns-then-lit_is_false-clause-before g c =
+    let e = ap (λ (x : Context g.row.A.Denot). x.assumptions.working) c.find_failed_core.ensures.kept in
+    implied-before-with (view c.args.ctx.now) c.args.ctx.now.assumptions c.next_assumption.new.assumptions c.find_failed_core.new.ctx.assumptions e
+    (before g (goal.at.returns-then-lit_is_false-clause-before g c).After-next_assumption)
 
 pub returns-then-lit_is_false-clause-next : goal.returns-then-lit_is_false-clause-next
 returns-then-lit_is_false-clause-next g c =
@@ -97,6 +111,12 @@ pub returns-clause-taken : goal.returns-clause-taken
 returns-clause-taken g c =
     let e = c.set_levels.ensures ∙ ap (λ (x : Context g.row.A.Denot). record x.assumptions { levels = c.current_level.result }) c.decide_lit.ensures.kept in
     left-implied-with c.args.ctx.now c.next_assumption.new.assumptions c.requires.ready (taken g (goal.at.returns-clause-taken g c).After-next_assumption) c.set_levels.new.self (ap (λ (a : AssumptionParts). a.user) e) (ap (λ (a : AssumptionParts). a.user_core) e) (ap (λ (a : AssumptionParts). a.working) e)
+
+pub returns-clause-before : goal.returns-clause-before
+returns-clause-before g c =
+    let e = c.set_levels.ensures ∙ ap (λ (x : Context g.row.A.Denot). record x.assumptions { levels = c.current_level.result }) c.decide_lit.ensures.kept in
+    implied-before-with (view c.args.ctx.now) c.args.ctx.now.assumptions c.next_assumption.new.assumptions c.set_levels.new.self (ap (λ (a : AssumptionParts). a.working) e)
+    (before g (goal.at.returns-clause-before g c).After-next_assumption)
 
 pub returns-clause-next : goal.returns-clause-next
 returns-clause-next g c =

@@ -7,7 +7,7 @@ use Rattle.varisat_search.specs.Progress.{outcome_at, MakesStep}
 use Rattle.varisat_search.specs.SettledUnits.{IsUnsettled, SettlesUnits, SettlesFirst}
 use Rattle.varisat_search.specs.Contexts.{view}
 use Rattle.varisat_search.specs.Seen.{search_of}
-use Rattle.varisat_search.proofs.MadeSteps.{made-are, made-with, no-core-entry, made-settled, made-at-once}
+use Rattle.varisat_search.proofs.MadeSteps.{made-are, made-with, no-core-entry, learned-no-core, made-settled, made-at-once}
 use Rattle.varisat_trace.specs.Traces.{TakesLines, TakesStep, HoldsFor}
 use Rattle.varisat_trace.proofs.Traced.{step-lines, step-more, holds_on}
 use Rattle.varisat_search.proofs.cdcl.conflict_step.Given.{Over}
@@ -60,6 +60,12 @@ returns-in_ok-learn-in-Err-clause-made g c =
     (made-are y z (λ lines. TakesLines takes p1 lines p2) (λ lines. TakesStep takes p1 lines v p2)
     (λ lines h. step-lines takes p1 p2 lines v (no-core-entry (view z) z.assumptions.failed_core z.solver_state.sat_state e.further.known) h)
     (made-at-once y z (λ lines. TakesLines takes p1 lines p2) c.in_ok-settle_units.ensures.goes_on.ready e.further e.last))
+
+pub returns-in_ok-find_and_learn-in-Ok-clause-core : goal.returns-in_ok-find_and_learn-in-Ok-clause-core
+returns-in_ok-find_and_learn-in-Ok-clause-core g c = c.in_ok-find_and_learn-in-Ok.ensures.core
+
+pub returns-in_ok-learn-in-Err-clause-core : goal.returns-in_ok-learn-in-Err-clause-core
+returns-in_ok-learn-in-Err-clause-core g c u = absurd (learned-no-core c.learn.new.ctx.solver_state.sat_state c.in_ok-learn-in-Err.ensures.further.known u)
 
 pub returns-in_err-settle_units-clause-broken : goal.returns-in_err-settle_units-clause-broken
 returns-in_err-settle_units-clause-broken g c =

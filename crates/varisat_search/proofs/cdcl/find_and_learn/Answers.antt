@@ -9,7 +9,7 @@ use Rattle.varisat_search.specs.AssumptionParts.{EndsAssumed}
 use Rattle.varisat_search.specs.Contexts.{view}
 use Rattle.varisat_search.specs.Conflicts.{Stops}
 use Rattle.varisat_search.proofs.AssumptionOutcomes.{error-is, core-steps, keeps-model, keeps-core}
-use Rattle.varisat_search.proofs.MadeSteps.{Finds, made-are, no-core-entry, made-ended, made-learned}
+use Rattle.varisat_search.proofs.MadeSteps.{Finds, made-are, no-core-entry, learned-no-core, made-ended, made-learned}
 use Rattle.varisat_search.specs.Seen.{search_of, outcome_of}
 use Rattle.varisat_trace.proofs.Traced.{step-lines, holds_still}
 use Rattle.varisat_search.proofs.StepWithoutLines.{grows_prove}
@@ -53,6 +53,15 @@ returns-in_ok-learn-in-Err-Conflict-clause-made g c =
     made-are c.args.ctx.now z (λ lines. TakesLines g.P.ProofTracer.takes c.args.proof.now lines c.learn.new.proof) (λ lines. TakesStep g.P.ProofTracer.takes c.args.proof.now lines v c.learn.new.proof)
     (λ lines h. step-lines g.P.ProofTracer.takes c.args.proof.now c.learn.new.proof lines v (no-core-entry (view z) z.assumptions.failed_core z.solver_state.sat_state e.further.known) h)
     (made-learned c.args.ctx.now c.find_conflict.new.ctx c.requires.ready (finds g here) z (λ lines. TakesLines g.P.ProofTracer.takes c.args.proof.now lines c.learn.new.proof) e.further e.last)
+
+pub returns-in_ok-trace_core-in-Err-Assumption-clause-core : goal.returns-in_ok-trace_core-in-Err-Assumption-clause-core
+returns-in_ok-trace_core-in-Err-Assumption-clause-core g c u =
+    let y = c.find_conflict.new.ctx in
+    error-is (IsComplete (kept (view y)) y.trail.literals × EndsAssumed (view y) y.assumptions) (Stops (view y) y.assumptions) c.in-Err-Assumption.is c.in-Err-Assumption.field-0-is
+    c.in_ok-find_conflict.ensures.found
+
+pub returns-in_ok-learn-in-Err-Conflict-clause-core : goal.returns-in_ok-learn-in-Err-Conflict-clause-core
+returns-in_ok-learn-in-Err-Conflict-clause-core g c u = absurd (learned-no-core c.learn.new.ctx.solver_state.sat_state c.in_ok-learn-in-Err-Conflict.ensures.further.known u)
 
 -- what the tracer may hold fits the search after propagation and decisions
 holds : (g : Over) (c : In_ok-find_conflict g) → HoldsFor (g.P.ProofTracer.holds c.args.proof.now) (search_of (view c.find_conflict.new.ctx))

@@ -77,6 +77,9 @@ returns-clause-last g c =
     let same = ap (λ (y : Context g.row.A.Denot). y.assignment.last) c.reduce_if_due.ensures.kept in
     scheduled-last c.args.ctx.now c.restart_if_due.new.ctx c.reduce_if_due.new.ctx c.requires.ready c.restart_if_due.ensures.restarted c.in_ok-reduce_if_due.ensures.keeps c.conflict_step.new.ctx.assignment.last c.restart_if_due.ensures.saved same c.in_ok-conflict_step.ensures.made.last
 
+pub returns-clause-core : goal.returns-clause-core
+returns-clause-core g c = c.in_ok-conflict_step.ensures.core
+
 pub returns-clause-assumes : goal.returns-clause-assumes
 returns-clause-assumes g c =
     let z = c.conflict_step.new.ctx in

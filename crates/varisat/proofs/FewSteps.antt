@@ -106,7 +106,6 @@ module _ {X : Type 0} (by : CallRules X) (keeps : KeepsFew by) where
   observe : (s t : X) (r : Result (List ℕ) SolverError) → usage.Observes by.named s r t → HasFewSteps by s → HasFewSteps by t
   observe s t (Ok us) (v, (m, shown, e)) h = keeps.named m s t e
   observe s t (Err Invalid) a h = same s t a.1 h
-  observe s t (Err VariableLimit) a h = same s t a.2 h
   observe s t (Err OutOfMemory) a h = keeps.lost s t a
   observe s t (Err e) a h = absurd a
 

@@ -29,7 +29,7 @@ use Rattle.varisat.specs.Budgets.{CountsSteps, TellsSince}
 use Rattle.varisat.specs.Updates as updates
 use Rattle.varisat.specs.Pasts as past
 use Rattle.varisat.specs.Usage as usage
-use Rattle.varisat.specs.Usage.{AreAllShown, NeedsNamePastLimit}
+use Rattle.varisat.specs.Usage.{AreAllShown}
 use Rattle.varisat.specs.VariableCalls as variables
 use Rattle.varisat.specs.Pasts.{Past, empty_past, accept, assume, IsUndecided}
 use Rattle.varisat.specs.declared.solver.SolverError.{SolverError}
@@ -377,8 +377,6 @@ observe p s t (Ok us) g (v, (m, shown, e)) =
       renamed p s t m s.ever_hidden e (capped-shown us s.naming m shown.in_turn k.capped) g w,
     )
 observe p s t (Err Invalid) g a = (p, (sym g.valid ∙ a.0, refl), stays p s t a.1 g)
-observe p s t (Err VariableLimit) g (v, needs, same) =
-    (p, (sym g.valid ∙ v, subst NeedsNamePastLimit (knows-of p s g v).naming needs, refl), stays p s t same g)
 observe p s t (Err OutOfMemory) g a = breaks p s t g a
 observe p s t (Err e) g a = absurd a
 

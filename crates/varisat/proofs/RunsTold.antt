@@ -133,7 +133,6 @@ changes-var f b s t u (Err e) a w = absurd a
 observe : (s t : State) (r : Result (List ℕ) SolverError) → usage.Observes variables.named s r t → state.IsValid t → TellsOn s t
 observe s t (Ok us) (v, (m, shown, e)) w = tells-plainly s t v (ap (λ (x : Ledger). x.steps) e.ledger) e.told
 observe s t (Err Invalid) a w = tells-same s t a.1 w
-observe s t (Err VariableLimit) a w = tells-same s t a.2 w
 observe s t (Err OutOfMemory) a w = absurd (no-way s t a w)
 observe s t (Err e) a w = absurd a
 

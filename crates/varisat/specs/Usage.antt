@@ -22,10 +22,6 @@ pub record AreAllShown (us : List ℕ) (P : List Clause) (old new : Naming) : Ty
   pub in_range : (u : ℕ) → u ∈ us → u < variable_limit
   pub rest : (i : ℕ) → i < new.made → IsUnnamed new i → LetStayHidden P i
 
--- a hidden variable would need a name past the limit
-abbrev pub NeedsNamePastLimit : Naming → Type 0
-NeedsNamePastLimit old = (us : List ℕ) × (new : Naming) × (u : ℕ) × AreShown us old new × (u ∈ us) × (variable_limit ≤ u)
-
 -- What has names, and clauses and assumptions over identities: whether it is valid, the same with other names, the same once a
 -- name was hidden, what is like it for a user, and what is left of it once memory ran out.
 pub record Named (X : Type 0) : Type 1 where
@@ -72,10 +68,9 @@ module _ {X : Type 0} (by : Named X) where
   abbrev pub Hides : X → ℕ → Result (Unit {0}) SolverError → X → Type 0
   Hides s u r t = ChangesVar (hide_name u) s u r t
 
-  -- The call `observe_internal_vars`.
+  -- The call `observe_internal_vars`. Names of hidden variables are always found below the limit, as there are no more variables.
   abbrev pub Observes : X → Result (List ℕ) SolverError → X → Type 0
   Observes s (Ok us) t = (by.valid s ≡ true) × ((m : Naming) × AreAllShown us (by.clauses s) (by.naming s) m × by.like (by.with_naming m s) t)
   Observes s (Err Invalid) t = (by.valid s ≡ false) × (t ≡ s)
-  Observes s (Err VariableLimit) t = (by.valid s ≡ true) × NeedsNamePastLimit (by.naming s) × (t ≡ s)
   Observes s (Err OutOfMemory) t = by.invalidates s t
   Observes s (Err _) t = ⊥

@@ -717,8 +717,8 @@ impl<W: ProofTarget, A: Allocator + Copy> Solver<W, A> {
 
     /// Brings hidden variables back as witnesses, each under the least free name, and returns these names in increasing
     /// order. One stays hidden only if no accepted clause of two or more different literals, which is no tautology,
-    /// names it, or if the clauses force its value. Refused in an invalid solver, where a name past the limit would be
-    /// needed, and then nothing changes; and where memory runs out.
+    /// names it, or if the clauses force its value. Refused in an invalid solver, and then nothing changes, and where
+    /// memory runs out. There are no more variables than names below the limit.
     pub fn observe_internal_vars(&mut self) -> Result<Vec<Var, A>, SolverError>
         ensures { (s : State) → StandsFor self.old s → (t : State) × Observes s (told_vars result) t × StandsFor self.new t }
     {

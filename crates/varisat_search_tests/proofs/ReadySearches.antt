@@ -1,15 +1,24 @@
--- A search stays ready where activities and remembered values change, and where its clauses are watched anew.
-use Rattle.std.proofs.Common.{◌≡◌, ◌*◌, true, false, length, get_or, replicate, ⊎_elim, inl, inr, refl, sym, ap, ◌∙◌, subst}
+-- A search stays ready where activities, remembered values and headers change, and where its clauses are watched anew.
+use Rattle.std.proofs.Common.{◌≡◌, ℕ, ◌*◌, true, false, length, get_or, replicate, ⊎_elim, inl, inr, refl, sym, ap, ◌∙◌, subst}
 use Rattle.varisat_theory.specs.Literals.{variable_of}
-use Rattle.varisat_clause.specs.Collected.{live_clauses}
+use Rattle.varisat_clause.specs.declared.header.Tier.TheVariants as tier
+use Rattle.varisat_clause.specs.Tiers.{is_tier}
+use Rattle.varisat_clause.specs.Headers.{Header}
+use Rattle.varisat_clause.specs.Stored.{IsPlace, header_at, with_header}
+use Rattle.varisat_clause.specs.Stores.{Store, stored_clauses, HoldsClauses}
+use Rattle.varisat_clause.specs.Collected.{live_of, live_clauses}
+use Rattle.varisat_clause.proofs.DatabaseTracks.{tracks-header}
 use Rattle.varisat_prop.specs.Parts.{Values}
 use Rattle.varisat_prop.specs.View.{View, WellFormed, LevelsSettled}
 use Rattle.varisat_prop.specs.Watches.{Watches, IsPropagated, IsWatching}
+use Rattle.varisat_analysis.specs.HeaderChanges.{SameButHeaders}
+use Rattle.varisat_analysis.proofs.SameButHeaders.{live-header}
 use Rattle.varisat_vsids.specs.Activities.{Activities}
 use Rattle.varisat_search.specs.declared.context.Context.{Context}
 use Rattle.varisat_search.specs.Contexts.{view, IsReady}
 use Rattle.varisat_search.specs.AssumptionParts.{HasAssumptions}
 use Rattle.varisat_search.specs.Decisions.{AreDecidable, CanDecide}
+use Rattle.varisat_search.proofs.HeaderContexts.{store-view, headers-ready}
 use Rattle.varisat_search.proofs.ReadyAfter.{ready-with}
 
 pub activities-ready : {A : Type 0} {x : Context A} (a : Activities) → length a.activity ≡ length x.vsids.activity → a.available ≡ x.vsids.available → IsReady x → IsReady (record x { vsids = a })
@@ -49,3 +58,15 @@ rebuilt-ready {A} {x} W n on w r =
       queue = r.propagated.queue;
     })
     r.decidable r.assumed r.assumable
+
+-- the header of a stored clause changes but for its tier and whether it is deleted
+pub header-ready : {A : Type 0} (x : Context A) (n : Store) (p : ℕ) (h : Header) → IsReady x → IsPlace (stored_clauses x.clause_alloc) p → h.tier ≡ (header_at (stored_clauses x.clause_alloc) p).tier → h.deleted ≡ (header_at (stored_clauses x.clause_alloc) p).deleted → HoldsClauses n (length x.clause_alloc.words) (with_header (stored_clauses x.clause_alloc) p h) → IsReady (record x { clause_alloc = n })
+header-ready {A} x n p h r known t d o =
+    let ks = stored_clauses x.clause_alloc in
+    let tracks = tracks-header x.clause_db x.clause_alloc n p h r.tracks known t d o in
+    headers-ready x (record x { clause_alloc = n }) r
+    (record {
+      clauses = subst (λ js. SameButHeaders (live_clauses x.clause_alloc) (live_of js)) (sym o.clauses) (live-header ks p h d (ap (λ k. is_tier k tier.Irred) t));
+      rest = store-view x (record x { clause_alloc = n }) r.tracks.sound tracks.sound refl;
+    })
+    tracks refl refl

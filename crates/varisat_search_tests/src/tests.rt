@@ -1,10 +1,12 @@
 //! The tests, a file for each subject.
 
 mod assuming;
+mod collecting;
 mod decisions;
 mod forgetting;
 mod levels;
 mod loading;
+mod memory;
 mod naming;
 mod reductions;
 mod searches;

@@ -2,10 +2,10 @@
 ghost use Rattle.std.specs.Prelude.{◌≡◌, OnOk, IfOk};
 ghost use Rattle.varisat_search.specs.Contexts.{IsReady};
 
-use super::searches::{are, assume, loaded, note, prefer_lower_true, step, unless_refused};
+use super::searches::{are, assume, loaded, prefer_lower_true, step, unless_refused};
 use linked_list_allocator::LocalHeap;
 use std::alloc::{Allocator, Global};
-use varisat_literals::{Lit, lit};
+use varisat_literals::Lit;
 use varisat_search::context::Context;
 use varisat_search::error::StepError;
 use varisat_search::levels::restart;
@@ -44,15 +44,42 @@ fn take_steps<A: Allocator + Copy>(
 }
 
 /// Clauses over five variables, assumptions, and what one step under them comes to.
-#[derive(Drop)]
-struct Row<'a> {
-    clauses: &'a [&'a [i8]],
-    assumptions: &'a [i8],
+#[derive(Clone, Copy)]
+struct Row {
+    clauses: &'static [&'static [i8]],
+    assumptions: &'static [i8],
     verdict: SatState,
     /// The assumptions that are not taken out.
-    left: &'a [i8],
-    trail: &'a [i8],
+    left: &'static [i8],
+    trail: &'static [i8],
 }
+
+const ROWS: &[Row] = &[
+    // Repeated ones are taken out.
+    Row {
+        clauses: &[&[1, 2]],
+        assumptions: &[-2, -2, -2],
+        verdict: SatState::Sat,
+        left: &[-2],
+        trail: &[-2, 1],
+    },
+    // 2 is implied by 1 when its turn comes, and 3 takes its place.
+    Row {
+        clauses: &[&[-1, 2]],
+        assumptions: &[1, 2, -3],
+        verdict: SatState::Sat,
+        left: &[1, -3],
+        trail: &[1, 2, -3],
+    },
+    // A unit is assumed.
+    Row {
+        clauses: &[&[1]],
+        assumptions: &[1],
+        verdict: SatState::Sat,
+        left: &[],
+        trail: &[1],
+    },
+];
 
 /// Whether the step comes to what the row says.
 fn comes_to<A: Allocator + Copy>(ctx: &Context<A>, row: &Row) -> bool {
@@ -68,101 +95,60 @@ fn holds(alloc: Global, row: &Row) -> Result<bool, StepError> {
     Ok(is_right)
 }
 
-/// Whether the core has just these two literals.
-fn is_core<A: Allocator + Copy>(ctx: &Context<A>, first: i8, second: i8) -> bool {
-    let core = ctx.assumptions.failed_core();
-    let has_both = are(core, &[first, second]) | are(core, &[second, first]);
-    (ctx.solver_state.sat_state == SatState::UnsatUnderAssumptions) & has_both
+/// Clauses over five variables, assumptions, how many steps find that they fail, and the core, in either order.
+type FailingRow = (
+    &'static [&'static [i8]],
+    &'static [i8],
+    u8,
+    &'static [&'static [i8]],
+);
+
+const FAILING: &[FailingRow] = &[
+    (&[&[1, 2]], &[3, 1, -1], 2, &[&[1, -1], &[-1, 1]]),
+    // 1 implies 2 and that -4, so that 3, which is decided between them, takes no part.
+    (
+        &[&[-1, 2], &[-2, -4, 5], &[-2, -4, -5]],
+        &[1, 3, 4],
+        2,
+        &[&[1, 4], &[4, 1]],
+    ),
+    // A false one fails alone.
+    (&[&[1]], &[2, -1], 1, &[&[-1]]),
+];
+
+/// Whether the core is one of these.
+fn is_one_of(core: &[Lit], cores: &[&[i8]]) -> bool {
+    for wanted in cores {
+        if are(core, wanted) {
+            return true;
+        }
+    }
+    false
 }
 
-/// Whether after two steps the core has just these two literals, and the assumptions stand as they were given.
-fn fails_with(
-    alloc: Global,
-    clauses: &[&[i8]],
-    assumptions: &[i8],
-    core: [i8; 2],
-) -> Result<bool, StepError> {
-    let ctx = searched(alloc, clauses, assumptions, 2)?;
-    let [first, second] = core;
+/// Whether the assumptions fail with one of the cores, and stand as they were given.
+fn fails<A: Allocator + Copy>(ctx: &Context<A>, assumptions: &[i8], cores: &[&[i8]]) -> bool {
     let is_given = are(ctx.assumptions.user_assumptions(), assumptions);
-    let fails = is_given & is_core(&ctx, first, second);
+    let is_failed = ctx.solver_state.sat_state == SatState::UnsatUnderAssumptions;
+    is_given & is_failed & is_one_of(ctx.assumptions.failed_core(), cores)
+}
+
+fn fails_as_told(alloc: Global, row: &FailingRow) -> Result<bool, StepError> {
+    let (clauses, assumptions, steps, cores) = *row;
+    let ctx = searched(alloc, clauses, assumptions, usize::from(steps))?;
+    let is_right = fails(&ctx, assumptions, cores);
     drop(ctx);
-    Ok(fails)
+    Ok(is_right)
 }
 
 #[test]
-fn opposites_fail(rt: HostRuntime) -> Result<(), StepError> {
-    assert!(rt; fails_with(rt.alloc(), &[&[1, 2]], &[3, 1, -1], [1, -1])?);
-    Ok(())
-}
-
-// 1 implies 2 and that -4, so that 3, which is decided between them, takes no part.
-#[test]
-fn the_core_has_what_implies(rt: HostRuntime) -> Result<(), StepError> {
-    let clauses: &[&[i8]] = &[&[-1, 2], &[-2, -4, 5], &[-2, -4, -5]];
-    assert!(rt; fails_with(rt.alloc(), clauses, &[1, 3, 4], [1, 4])?);
-    Ok(())
-}
-
-#[test]
-fn repeated_ones_are_taken_out(rt: HostRuntime) -> Result<(), StepError> {
-    let row = Row {
-        clauses: &[&[1, 2]],
-        assumptions: &[-2, -2, -2],
-        verdict: SatState::Sat,
-        left: &[-2],
-        trail: &[-2, 1],
-    };
-    assert!(rt; holds(rt.alloc(), &row)?);
-    Ok(())
-}
-
-// 2 is implied by 1 when its turn comes, and 3 takes its place.
-#[test]
-fn implied_ones_are_taken_out(rt: HostRuntime) -> Result<(), StepError> {
-    let row = Row {
-        clauses: &[&[-1, 2]],
-        assumptions: &[1, 2, -3],
-        verdict: SatState::Sat,
-        left: &[1, -3],
-        trail: &[1, 2, -3],
-    };
-    assert!(rt; holds(rt.alloc(), &row)?);
-    Ok(())
-}
-
-#[test]
-fn units_are_assumed(rt: HostRuntime) -> Result<(), StepError> {
-    let row = Row {
-        clauses: &[&[1]],
-        assumptions: &[1],
-        verdict: SatState::Sat,
-        left: &[],
-        trail: &[1],
-    };
-    assert!(rt; holds(rt.alloc(), &row)?);
-    Ok(())
-}
-
-/// The core after one step, if it has one literal.
-fn lone_core(
-    alloc: Global,
-    clauses: &[&[i8]],
-    assumptions: &[i8],
-) -> Result<Option<Lit>, StepError> {
-    let ctx = searched(alloc, clauses, assumptions, 1)?;
-    let core = match ctx.assumptions.failed_core() {
-        [lit] => Some(*lit),
-        _ => None,
-    };
-    drop(ctx);
-    Ok(core)
-}
-
-#[test]
-fn a_false_one_fails_alone(rt: HostRuntime) -> Result<(), StepError> {
-    let core = lone_core(rt.alloc(), &[&[1]], &[2, -1])?;
-    assert!(rt; core == Some(lit!(-1)));
+fn assumptions_hold_or_fail(rt: HostRuntime) -> Result<(), StepError> {
+    for (place, row) in ROWS.iter().enumerate() {
+        assert!(rt; holds(rt.alloc(), row)?, "row {place}");
+    }
+    for (place, row) in FAILING.iter().enumerate() {
+        assert!(rt; fails_as_told(rt.alloc(), row)?, "failing row {place}");
+    }
     Ok(())
 }
 
@@ -184,12 +170,6 @@ fn keeps_assumptions(alloc: Global) -> Result<bool, StepError> {
     Ok(kept)
 }
 
-#[test]
-fn a_restart_keeps_assumptions(rt: HostRuntime) -> Result<(), StepError> {
-    assert!(rt; keeps_assumptions(rt.alloc())?);
-    Ok(())
-}
-
 /// Whether the search is at a unit alone, goes on to a model with a decision, and a restart undoes that.
 fn undoes_decision<A: Allocator + Copy>(
     ctx: &mut Context<A>,
@@ -205,6 +185,7 @@ fn undoes_decision<A: Allocator + Copy>(
     Ok(is_learned & is_found & are(ctx.trail.trail(), kept))
 }
 
+// -1 is learned at level 0 and implies 5, so that no assumption is left, and 2 is decided at the level that 5 had.
 fn keeps_no_decision(alloc: Global) -> Result<bool, StepError> {
     let clauses: &[&[i8]] = &[&[-1, 2, 3], &[-1, -2], &[-1, -3], &[1, 5]];
     let mut ctx = searched(alloc, clauses, &[5], 1)?;
@@ -213,10 +194,13 @@ fn keeps_no_decision(alloc: Global) -> Result<bool, StepError> {
     undone
 }
 
-// -1 is learned at level 0 and implies 5, so that no assumption is left, and 2 is decided at the level that 5 had.
 #[test]
-fn a_restart_keeps_no_decision(rt: HostRuntime) -> Result<(), StepError> {
-    assert!(rt; keeps_no_decision(rt.alloc())?);
+fn a_restart_keeps_assumptions_alone(rt: HostRuntime) -> Result<(), StepError> {
+    let are_kept = [
+        keeps_assumptions(rt.alloc())?,
+        keeps_no_decision(rt.alloc())?,
+    ];
+    assert!(rt; are_kept == [true; 2]);
     Ok(())
 }
 
@@ -230,17 +214,7 @@ fn fail<A: Allocator + Copy>(alloc: A) -> Result<SatState, StepError> {
 }
 
 /// Whether the assumptions fail on a heap of that many bytes.
-fn is_failed_with(alloc: Global, size: usize) -> Result<bool, StepError> {
+pub fn is_failed_with(alloc: Global, size: usize) -> Result<bool, StepError> {
     let heap = LocalHeap::new(alloc, size)?;
     Ok(fail(&heap)? == SatState::UnsatUnderAssumptions)
-}
-
-#[test]
-fn each_growth_may_be_refused(rt: HostRuntime) {
-    let mut seen = [false; 2];
-    for room in 0..200 {
-        let is_right = note(&mut seen, is_failed_with(rt.alloc(), 16 * room));
-        assert!(rt; is_right, "with {room}");
-    }
-    assert!(rt; seen == [true, true]);
 }

@@ -48,18 +48,13 @@ fn bumps<A: Allocator + Copy>(ctx: &mut Context<A>) -> Result<bool, StepError>
     Ok(is_learned & is_third_last(&mut ctx.vsids))
 }
 
+// 1 is decided and implies 2, 3 is decided and implies 4 and 5, and -1 -4 -5 is false: with it and the reason of 5 the
+// variables 1, 2, 4 and 5 are bumped, and 3 is not.
 fn bumps_loaded(alloc: Global) -> Result<bool, StepError> {
     let mut ctx = loaded_conflict(alloc)?;
     let is_bumped = bumps(&mut ctx);
     drop(ctx);
     is_bumped
-}
-
-// 1 is decided and implies 2, 3 is decided and implies 4 and 5, and -1 -4 -5 is false: with it and the reason of 5 the
-// variables 1, 2, 4 and 5 are bumped, and 3 is not.
-#[test]
-fn bumped_come_first(rt: HostRuntime) {
-    assert!(rt; matches!(bumps_loaded(rt.alloc()), Ok(true)));
 }
 
 /// Gives a search with no variable two, of which the second is available.
@@ -91,6 +86,7 @@ fn decides_of_two<A: Allocator + Copy>(ctx: &mut Context<A>) -> Result<bool, Ste
     decides_second(ctx)
 }
 
+// 1 is not available, and 2 is decided as false, since it had no value before.
 fn decides_in_new(alloc: Global) -> Result<bool, StepError> {
     let mut ctx = Context::new_in(alloc);
     let is_decided = decides_of_two(&mut ctx);
@@ -98,8 +94,9 @@ fn decides_in_new(alloc: Global) -> Result<bool, StepError> {
     is_decided
 }
 
-// 1 is not available, and 2 is decided as false, since it had no value before.
 #[test]
-fn available_is_decided(rt: HostRuntime) {
-    assert!(rt; matches!(decides_in_new(rt.alloc()), Ok(true)));
+fn decisions_are_as_they_should_be(rt: HostRuntime) -> Result<(), StepError> {
+    let are_right = [bumps_loaded(rt.alloc())?, decides_in_new(rt.alloc())?];
+    assert!(rt; are_right == [true; 2]);
+    Ok(())
 }

@@ -5,6 +5,7 @@ ghost use Rattle.varisat_literals.specs.Numbers.{variable_limit};
 
 use super::searches::{implies, load_numbers, loaded};
 use std::alloc::{Allocator, Global};
+use varisat_prop::clause::Tier;
 use varisat_search::context::Context;
 use varisat_search::error::StepError;
 use varisat_search::state::SatState;
@@ -49,22 +50,22 @@ fn verdicts_on_units(alloc: Global) -> Result<([usize; 4], SatState, usize, SatS
     verdicts
 }
 
-#[test]
-fn units(rt: HostRuntime) -> Result<(), StepError> {
-    let wanted = ([1, 1, 2, 2], SatState::Unknown, 2, SatState::Unsat);
-    assert!(rt; verdicts_on_units(rt.alloc())? == wanted);
-    Ok(())
-}
-
-/// How many of the clauses are stored.
-fn count_stored(alloc: Global, count: usize, clauses: &[&[i8]]) -> Result<usize, StepError>
+/// How many of the clauses have two literals, and how many longer ones are of the tier Irred.
+fn counts(alloc: Global, count: usize, clauses: &[&[i8]]) -> Result<(usize, usize), StepError>
     requires { count ≤ variable_limit }
 {
     let ctx = loaded(alloc, count, clauses)?;
-    let stored = ctx.clause_alloc.len();
+    let counts = (
+        ctx.binary_clauses.count(),
+        ctx.clause_db.count_by_tier(Tier::Irred),
+    );
     drop(ctx);
-    Ok(stored)
+    Ok(counts)
 }
+
+const PAIRS: &[&[i8]] = &[&[1, 2], &[-1, 3, 3], &[4, -4]];
+
+const LONGER: &[&[i8]] = &[&[1, 2, 3], &[-2, 3, 3, 4], &[4, -5, 5, 2]];
 
 /// Whether two clauses of two literals are listed by these, and stored nowhere else.
 fn are_listed<A: Allocator + Copy>(ctx: &Context<A>) -> bool {
@@ -77,22 +78,18 @@ fn are_listed<A: Allocator + Copy>(ctx: &Context<A>) -> bool {
 }
 
 fn are_loaded_ones_listed(alloc: Global) -> Result<bool, StepError> {
-    let clauses: &[&[i8]] = &[&[1, 2], &[-1, 3, 3], &[4, -4]];
-    let ctx = loaded(alloc, 4, clauses)?;
+    let ctx = loaded(alloc, 4, PAIRS)?;
     let are_listed = are_listed(&ctx);
     drop(ctx);
     Ok(are_listed)
 }
 
 #[test]
-fn clauses_of_two_literals(rt: HostRuntime) -> Result<(), StepError> {
-    assert!(rt; are_loaded_ones_listed(rt.alloc())?);
-    Ok(())
-}
-
-#[test]
-fn clauses_of_three_literals(rt: HostRuntime) -> Result<(), StepError> {
-    let clauses: &[&[i8]] = &[&[1, 2, 3], &[-2, 3, 3, 4], &[4, -5, 5, 2]];
-    assert!(rt; count_stored(rt.alloc(), 5, clauses)? == 2);
+fn clauses_are_loaded(rt: HostRuntime) -> Result<(), StepError> {
+    let alloc = rt.alloc();
+    let on_units = verdicts_on_units(alloc)?;
+    assert!(rt; on_units == ([1, 1, 2, 2], SatState::Unknown, 2, SatState::Unsat));
+    let all = [counts(alloc, 4, PAIRS)?, counts(alloc, 5, LONGER)?];
+    assert!(rt; all == [(2, 0), (0, 2)] && are_loaded_ones_listed(alloc)?);
     Ok(())
 }

@@ -4,7 +4,7 @@ ghost use Rattle.std.specs.Prelude.{◌≡◌, ◌≤◌, ◌<◌, false, length
 ghost use Rattle.varisat_names.specs.VarData.{kept_at};
 ghost use Rattle.varisat_search.specs.Contexts.{IsReady};
 
-use super::searches::{loaded, note};
+use super::searches::loaded;
 use linked_list_allocator::LocalHeap;
 use std::alloc::{AllocError, Allocator, Global};
 use varisat_literals::{Lit, Var, lit, var};
@@ -117,11 +117,6 @@ fn is_new_one_named_anew<A: Allocator + Copy>(alloc: A) -> Result<bool, AllocErr
     is_right
 }
 
-#[test]
-fn a_hidden_variable_gets_the_least_free_name(rt: HostRuntime) {
-    assert!(rt; matches!(is_new_one_named_anew(rt.alloc()), Ok(true)));
-}
-
 /// Takes a solver variable for the variable, if it is live and has none.
 fn take<A: Allocator + Copy>(
     variables: &mut LinkedVariables<A>,
@@ -194,11 +189,6 @@ fn is_new_one_modelled<A: Allocator + Copy>(alloc: A) -> Result<bool, AllocError
     is_right
 }
 
-#[test]
-fn a_model_has_each_live_variable(rt: HostRuntime) {
-    assert!(rt; matches!(is_new_one_modelled(rt.alloc()), Ok(true)));
-}
-
 /// Takes the first solver variable away, if there is one. Says whether it was that of 1.
 fn remove<A: Allocator + Copy>(
     ctx: &mut Context<A>,
@@ -244,30 +234,21 @@ fn is_removed_in<A: Allocator + Copy>(alloc: A) -> Result<bool, StepError> {
     Ok(is_right?)
 }
 
-#[test]
-fn a_solver_variable_is_removed(rt: HostRuntime) {
-    assert!(rt; matches!(is_removed_in(rt.alloc()), Ok(true)));
-}
-
-/// Whether all three are right.
-fn are_right<A: Allocator + Copy>(alloc: A) -> Result<bool, StepError> {
+/// Whether a hidden variable gets the least free name, a model has each live variable, and a solver variable is removed.
+fn are_right<A: Allocator + Copy>(alloc: A) -> Result<[bool; 3], StepError> {
     let is_named = is_new_one_named_anew(alloc)?;
     let is_modelled = is_new_one_modelled(alloc)?;
-    Ok(is_named & is_modelled & is_removed_in(alloc)?)
+    Ok([is_named, is_modelled, is_removed_in(alloc)?])
+}
+
+#[test]
+fn names_and_variables_change(rt: HostRuntime) -> Result<(), StepError> {
+    assert!(rt; are_right(rt.alloc())? == [true; 3]);
+    Ok(())
 }
 
 /// Whether all three are right on a heap of that many bytes.
-fn are_right_with(alloc: Global, size: usize) -> Result<bool, StepError> {
+pub fn are_right_with(alloc: Global, size: usize) -> Result<bool, StepError> {
     let heap = LocalHeap::new(alloc, size)?;
-    are_right(&heap)
-}
-
-#[test]
-fn each_growth_of_names_may_be_refused(rt: HostRuntime) {
-    let mut seen = [false; 2];
-    for room in 0..160 {
-        let is_right = note(&mut seen, are_right_with(rt.alloc(), 16 * room));
-        assert!(rt; is_right, "with {room}");
-    }
-    assert!(rt; seen == [true, true]);
+    Ok(are_right(&heap)? == [true; 3])
 }

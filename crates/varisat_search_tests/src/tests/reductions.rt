@@ -2,7 +2,7 @@
 ghost use Rattle.std.specs.Prelude.{◌<◌, OnOk};
 ghost use Rattle.varisat_search.specs.Contexts.{IsReady};
 
-use super::searches::{load, loaded, note};
+use super::searches::{load, loaded};
 use linked_list_allocator::LocalHeap;
 use std::alloc::{Allocator, Global};
 use std::test::Fail;
@@ -104,17 +104,7 @@ fn refuted_with_reductions(rt: HostRuntime) -> Result<(), Fail> {
 }
 
 /// Whether they are refuted on a heap of that many bytes.
-fn is_refuted_with(alloc: Global, size: usize) -> Result<bool, StepError> {
+pub fn is_refuted_with(alloc: Global, size: usize) -> Result<bool, StepError> {
     let heap = LocalHeap::new(alloc, size)?;
     Ok(refute_pigeons(&heap)? == SatState::Unsat)
-}
-
-#[test]
-fn each_growth_of_a_reduction_may_be_refused(rt: HostRuntime) {
-    let mut seen = [false; 2];
-    for room in 0..160 {
-        let is_right = note(&mut seen, is_refuted_with(rt.alloc(), 128 * room));
-        assert!(rt; is_right, "with {room}");
-    }
-    assert!(rt; seen == [true, true]);
 }

@@ -171,15 +171,15 @@ pub fn step<A: Allocator + Copy>(ctx: &mut Context<A>) -> Result<(), StepError>
     Ok(())
 }
 
-/// Makes true the value that each variable without one had last.
-fn prefer_true<A: Allocator + Copy>(assignment: &mut Assignment<A>)
+/// Makes this the value that each variable without one had last.
+fn prefer_value<A: Allocator + Copy>(assignment: &mut Assignment<A>, value: bool)
     requires { length assignment.old.current ≤ variable_limit }
     ensures { assignment.new.current ≡ assignment.old.current }
 {
     for index in 0..assignment.assignment().len() {
         let var = Var::from_index(index);
         if assignment.var_value(var).is_none() {
-            assignment.set_var(var, Some(true));
+            assignment.set_var(var, Some(value));
             assignment.release_var(var);
         }
     }
@@ -208,20 +208,13 @@ pub fn prefer_lower_true<A: Allocator + Copy>(ctx: &mut Context<A>)
     ensures { IsReady ctx.new }
 {
     prefer_lower(&mut ctx.vsids);
-    prefer_true(&mut ctx.assignment);
+    prefer_value(&mut ctx.assignment, true);
 }
 
-/// Notes in the first flag that a room sufficed, and in the second that memory was refused. Says whether what came of
-/// the room is right, where it sufficed.
-pub fn note(seen: &mut [bool; 2], outcome: Result<bool, StepError>) -> bool {
-    match outcome {
-        Ok(right) => {
-            seen[0] = true;
-            right
-        }
-        Err(_) => {
-            seen[1] = true;
-            true
-        }
-    }
+/// Lets the next decisions make variables false.
+pub fn prefer_false<A: Allocator + Copy>(ctx: &mut Context<A>)
+    requires { IsReady ctx.old }
+    ensures { IsReady ctx.new }
+{
+    prefer_value(&mut ctx.assignment, false);
 }

@@ -1,7 +1,7 @@
 //! Searches whose clauses are simplified by literals of level 0.
 ghost use Rattle.varisat_search.specs.Contexts.{IsReady};
 
-use super::searches::{implies, loaded, note, step};
+use super::searches::{implies, loaded, step};
 use linked_list_allocator::LocalHeap;
 use std::alloc::{Allocator, Global};
 use std::test::Fail;
@@ -94,17 +94,7 @@ fn clauses_are_simplified(rt: HostRuntime) -> Result<(), Fail> {
 }
 
 /// Whether the clauses are simplified on a heap of that many bytes.
-fn is_simplified_with(alloc: Global, size: usize) -> Result<bool, StepError> {
+pub fn is_simplified_with(alloc: Global, size: usize) -> Result<bool, StepError> {
     let heap = LocalHeap::new(alloc, size)?;
     Ok(loaded_and_simplified(&heap)? == SIMPLIFIED)
-}
-
-#[test]
-fn each_growth_of_simplification_may_be_refused(rt: HostRuntime) {
-    let mut seen = [false; 2];
-    for room in 0..200 {
-        let is_right = note(&mut seen, is_simplified_with(rt.alloc(), 16 * room));
-        assert!(rt; is_right, "with {room}");
-    }
-    assert!(rt; seen == [true, true]);
 }

@@ -3,7 +3,7 @@ ghost use Rattle.std.specs.Prelude.{◌≤◌};
 ghost use Rattle.varisat_search.specs.Contexts.{IsReady};
 ghost use Rattle.varisat_literals.specs.Numbers.{variable_limit};
 
-use super::searches::{are, loaded, loaded_conflict, note, prefer_lower_true, step};
+use super::searches::{are, loaded, loaded_conflict, prefer_lower_true, step};
 use linked_list_allocator::LocalHeap;
 use std::alloc::{Allocator, Global};
 use varisat_literals::lit;
@@ -63,12 +63,6 @@ fn verdicts_on_units(alloc: Global) -> Result<[SatState; 2], StepError> {
     verdicts
 }
 
-#[test]
-fn refuted_at_once(rt: HostRuntime) -> Result<(), StepError> {
-    assert!(rt; verdicts_on_units(rt.alloc())? == [SatState::Unknown, SatState::Unsat]);
-    Ok(())
-}
-
 /// The verdict after at most two steps.
 fn verdict_after_two<A: Allocator + Copy>(ctx: &mut Context<A>) -> Result<SatState, StepError>
     requires { IsReady ctx.old }
@@ -88,19 +82,9 @@ fn refute<A: Allocator + Copy>(alloc: A) -> Result<SatState, StepError> {
 }
 
 /// Whether they are refuted on a heap of that many bytes.
-fn is_refuted_with(alloc: Global, size: usize) -> Result<bool, StepError> {
+pub fn is_refuted_with(alloc: Global, size: usize) -> Result<bool, StepError> {
     let heap = LocalHeap::new(alloc, size)?;
     Ok(refute(&heap)? == SatState::Unsat)
-}
-
-#[test]
-fn each_growth_may_be_refused(rt: HostRuntime) {
-    let mut seen = [false; 2];
-    for room in 0..120 {
-        let is_right = note(&mut seen, is_refuted_with(rt.alloc(), 16 * room));
-        assert!(rt; is_right, "with {room}");
-    }
-    assert!(rt; seen == [true, true]);
 }
 
 /// Whether two steps find a model, and the first variable is true in it.
@@ -120,8 +104,10 @@ fn finds_model(alloc: Global) -> Result<bool, StepError> {
 }
 
 #[test]
-fn model(rt: HostRuntime) -> Result<(), StepError> {
-    assert!(rt; finds_model(rt.alloc())?);
+fn verdicts_are_found(rt: HostRuntime) -> Result<(), StepError> {
+    let verdicts = verdicts_on_units(rt.alloc())?;
+    let is_found = finds_model(rt.alloc())?;
+    assert!(rt; (verdicts, is_found) == ([SatState::Unknown, SatState::Unsat], true));
     Ok(())
 }
 
@@ -153,12 +139,6 @@ fn learns_from_long(alloc: Global) -> Result<bool, StepError> {
     is_right
 }
 
-#[test]
-fn learned(rt: HostRuntime) -> Result<(), StepError> {
-    assert!(rt; learns_from_long(rt.alloc())?);
-    Ok(())
-}
-
 // 1 is decided and implies 2 and -2: the conflict is over a clause of two literals, and so is the reason of 2.
 fn learns_from_pairs(alloc: Global) -> Result<bool, StepError> {
     let mut ctx = loaded(alloc, 2, &[&[-1, 2], &[-1, -2]])?;
@@ -171,57 +151,7 @@ fn learns_from_pairs(alloc: Global) -> Result<bool, StepError> {
     is_right
 }
 
-#[test]
-fn learned_from_two_literals(rt: HostRuntime) -> Result<(), StepError> {
-    assert!(rt; learns_from_pairs(rt.alloc())?);
-    Ok(())
-}
-
-// 3 is implied by 2 and that by 1, so that -3 is left out over two reasons.
-#[test]
-fn chain_is_left_out(rt: HostRuntime) -> Result<(), StepError> {
-    let clauses: &[&[i8]] = &[&[-1, 2], &[-2, 3], &[-4, 5], &[-3, -5, 6], &[-1, -5, -6]];
-    assert!(rt; learns(rt.alloc(), 6, clauses, &[-5, -1], 1)?);
-    Ok(())
-}
-
-// As before, but 2 implies 3 together with 7, which is true at level 0.
-#[test]
-fn chain_with_level_zero_is_left_out(rt: HostRuntime) -> Result<(), StepError> {
-    let clauses: &[&[i8]] = &[
-        &[-1, 2],
-        &[-2, -7, 3],
-        &[-4, 5],
-        &[-3, -5, 6],
-        &[-1, -5, -6],
-        &[7],
-    ];
-    assert!(rt; learns(rt.alloc(), 7, clauses, &[-5, -1], 1)?);
-    Ok(())
-}
-
-// 2 is of level 1 and 4 of level 2, and each has a decision behind it that is not in the clause.
-#[test]
-fn highest_level_stands_second(rt: HostRuntime) -> Result<(), StepError> {
-    let clauses: &[&[i8]] = &[
-        &[-1, 2],
-        &[-2, -3, 4],
-        &[-5, 6],
-        &[-4, -6, 7],
-        &[-2, -6, -7],
-    ];
-    assert!(rt; learns(rt.alloc(), 7, clauses, &[-6, -4, -2], 2)?);
-    Ok(())
-}
-
-// 9 is true at level 0, and is left out.
-#[test]
-fn level_zero_is_left_out(rt: HostRuntime) -> Result<(), StepError> {
-    let clauses: &[&[i8]] = &[&[-1, -9, 2], &[-1, -2, -9], &[9]];
-    assert!(rt; learns(rt.alloc(), 9, clauses, &[-1], 0)?);
-    Ok(())
-}
-
+// At level 0 nothing is learned.
 fn learns_nothing(alloc: Global) -> Result<bool, StepError> {
     let mut ctx = loaded(alloc, 2, &[&[-1, 2], &[-1, -2], &[1]])?;
     let is_right = teaches_from(&mut ctx, &[], 0, &[], &[1, 2]);
@@ -229,8 +159,69 @@ fn learns_nothing(alloc: Global) -> Result<bool, StepError> {
     is_right
 }
 
+/// How many variables there are, clauses over them, the clause that the first step learns, and the level to which it
+/// backtracks.
+type Row = (u8, &'static [&'static [i8]], &'static [i8], u8);
+
+const ROWS: &[Row] = &[
+    // 3 is implied by 2 and that by 1, so that -3 is left out over two reasons.
+    (
+        6,
+        &[&[-1, 2], &[-2, 3], &[-4, 5], &[-3, -5, 6], &[-1, -5, -6]],
+        &[-5, -1],
+        1,
+    ),
+    // As before, but 2 implies 3 together with 7, which is true at level 0.
+    (
+        7,
+        &[
+            &[-1, 2],
+            &[-2, -7, 3],
+            &[-4, 5],
+            &[-3, -5, 6],
+            &[-1, -5, -6],
+            &[7],
+        ],
+        &[-5, -1],
+        1,
+    ),
+    // 2 is of level 1 and 4 of level 2, and each has a decision behind it that is not in the clause: the highest level
+    // stands second.
+    (
+        7,
+        &[
+            &[-1, 2],
+            &[-2, -3, 4],
+            &[-5, 6],
+            &[-4, -6, 7],
+            &[-2, -6, -7],
+        ],
+        &[-6, -4, -2],
+        2,
+    ),
+    // 9 is true at level 0, and is left out.
+    (9, &[&[-1, -9, 2], &[-1, -2, -9], &[9]], &[-1], 0),
+];
+
 #[test]
-fn conflict_at_level_zero(rt: HostRuntime) -> Result<(), StepError> {
-    assert!(rt; learns_nothing(rt.alloc())?);
+fn conflicts_teach(rt: HostRuntime) -> Result<(), StepError> {
+    let alloc = rt.alloc();
+    let are_right = [
+        learns_from_long(alloc)?,
+        learns_from_pairs(alloc)?,
+        learns_nothing(alloc)?,
+    ];
+    assert!(rt; are_right == [true; 3]);
+    for (place, row) in ROWS.iter().enumerate() {
+        let (count, clauses, learned, level) = *row;
+        let is_right = learns(
+            alloc,
+            usize::from(count),
+            clauses,
+            learned,
+            usize::from(level),
+        )?;
+        assert!(rt; is_right, "row {place}");
+    }
     Ok(())
 }

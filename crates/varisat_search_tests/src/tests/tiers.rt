@@ -3,7 +3,7 @@ ghost use Rattle.std.specs.Prelude.{◌≤◌, OnOk, IfOk};
 ghost use Rattle.varisat_search.specs.Contexts.{IsReady};
 ghost use Rattle.varisat_literals.specs.Numbers.{variable_limit};
 
-use super::searches::{loaded, note, prefer_lower_true, step, unless_refused};
+use super::searches::{loaded, prefer_lower_true, step, unless_refused};
 use linked_list_allocator::LocalHeap;
 use std::alloc::{Allocator, Global};
 use varisat_prop::clause::{ClauseHeader, Tier};
@@ -62,33 +62,31 @@ fn learned_notes<A: Allocator + Copy>(
     notes
 }
 
-// 1 implies 2 and 3, so that the clause of 2, 3 and 4 has two levels.
-#[test]
-fn two_levels(rt: HostRuntime) -> Result<(), StepError> {
-    let clauses: &[&[i8]] = &[&[-1, 2], &[-1, 3], &[-2, -3, -4, 5], &[-2, -3, -4, -5]];
-    let notes = learned_notes(rt.alloc(), 5, clauses)?;
-    assert!(rt; notes == Some((Tier::Core, 1, false)));
-    Ok(())
-}
+/// How many variables there are, clauses of which two are stored, and what is noted of the clause that is learned from
+/// them.
+type Row = (u8, &'static [&'static [i8]], Option<(Tier, usize, bool)>);
 
-/// How many variables two clauses have, the clauses, and what is noted of the clause learned from all variables but the
-/// last, which imply that and its opposite. Each is decided at a level of its own.
-type Row = (u8, [&'static [i8]; 2], Option<(Tier, usize, bool)>);
-
-const LEVELS: &[Row] = &[
+const ROWS: &[Row] = &[
+    // 1 implies 2 and 3, so that the clause of 2, 3 and 4 has two levels.
+    (
+        5,
+        &[&[-1, 2], &[-1, 3], &[-2, -3, -4, 5], &[-2, -3, -4, -5]],
+        Some((Tier::Core, 1, false)),
+    ),
+    // All variables but the last imply that and its opposite, and each is decided at a level of its own.
     (
         4,
-        [&[-1, -2, -3, 4], &[-1, -2, -3, -4]],
+        &[&[-1, -2, -3, 4], &[-1, -2, -3, -4]],
         Some((Tier::Core, 2, false)),
     ),
     (
         5,
-        [&[-1, -2, -3, -4, 5], &[-1, -2, -3, -4, -5]],
+        &[&[-1, -2, -3, -4, 5], &[-1, -2, -3, -4, -5]],
         Some((Tier::Mid, 3, false)),
     ),
     (
         8,
-        [
+        &[
             &[-1, -2, -3, -4, -5, -6, -7, 8],
             &[-1, -2, -3, -4, -5, -6, -7, -8],
         ],
@@ -96,7 +94,7 @@ const LEVELS: &[Row] = &[
     ),
     (
         9,
-        [
+        &[
             &[-1, -2, -3, -4, -5, -6, -7, -8, 9],
             &[-1, -2, -3, -4, -5, -6, -7, -8, -9],
         ],
@@ -105,11 +103,11 @@ const LEVELS: &[Row] = &[
 ];
 
 #[test]
-fn more_levels(rt: HostRuntime) -> Result<(), StepError> {
-    for row in LEVELS {
+fn learned_clauses_have_their_tiers(rt: HostRuntime) -> Result<(), StepError> {
+    for (place, row) in ROWS.iter().enumerate() {
         let (count, clauses, wanted) = *row;
-        let notes = learned_notes(rt.alloc(), usize::from(count), &clauses)?;
-        assert!(rt; notes == wanted, "with {count}");
+        let notes = learned_notes(rt.alloc(), usize::from(count), clauses)?;
+        assert!(rt; notes == wanted, "row {place}");
     }
     Ok(())
 }
@@ -163,18 +161,12 @@ fn are_counted<A: Allocator + Copy>(ctx: &Context<A>) -> bool {
     counts == [4, 2, 0]
 }
 
+// The learned clause had four levels and has three now. Clauses of the user took part too.
 fn lowers_glue<A: Allocator + Copy>(alloc: A) -> Result<bool, StepError> {
     let ctx = two_conflicts(alloc)?;
     let is_lowered = are_noted(&ctx) & are_counted(&ctx);
     drop(ctx);
     Ok(is_lowered)
-}
-
-// The learned clause had four levels and has three now. Clauses of the user took part too.
-#[test]
-fn lower_glue(rt: HostRuntime) -> Result<(), StepError> {
-    assert!(rt; lowers_glue(rt.alloc())?);
-    Ok(())
 }
 
 /// Whether these are the activities of the clauses.
@@ -190,6 +182,7 @@ fn have_activities<A: Allocator + Copy>(ctx: &Context<A>, wanted: &[u32]) -> boo
     true
 }
 
+// A bump adds 1024 at the first conflict, and 1024000 / 999 at the second.
 fn raises_activities(alloc: Global) -> Result<bool, StepError> {
     let ctx = two_conflicts(alloc)?;
     let is_raised = have_activities(&ctx, &[1024, 1024, 1025, 1025, 1025, 0])
@@ -198,25 +191,15 @@ fn raises_activities(alloc: Global) -> Result<bool, StepError> {
     Ok(is_raised)
 }
 
-// A bump adds 1024 at the first conflict, and 1024000 / 999 at the second.
 #[test]
-fn activities(rt: HostRuntime) -> Result<(), StepError> {
-    assert!(rt; raises_activities(rt.alloc())?);
+fn conflicts_change_what_is_noted(rt: HostRuntime) -> Result<(), StepError> {
+    let are_right = [lowers_glue(rt.alloc())?, raises_activities(rt.alloc())?];
+    assert!(rt; are_right == [true; 2]);
     Ok(())
 }
 
 /// Whether the glue is lower on a heap of that many bytes.
-fn lowers_glue_with(alloc: Global, size: usize) -> Result<bool, StepError> {
+pub fn lowers_glue_with(alloc: Global, size: usize) -> Result<bool, StepError> {
     let heap = LocalHeap::new(alloc, size)?;
     lowers_glue(&heap)
-}
-
-#[test]
-fn each_growth_may_be_refused(rt: HostRuntime) {
-    let mut seen = [false; 2];
-    for room in 0..200 {
-        let is_right = note(&mut seen, lowers_glue_with(rt.alloc(), 16 * room));
-        assert!(rt; is_right, "with {room}");
-    }
-    assert!(rt; seen == [true, true]);
 }

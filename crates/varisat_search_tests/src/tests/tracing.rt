@@ -65,6 +65,7 @@ fn is_line<A: Allocator + Copy>(
         && are(recorder.lits(index), numbers)
 }
 
+// A satisfied clause is deleted as it is loaded.
 fn record_deletion<A: Allocator + Copy>(
     ctx: &mut Context<A>,
     recorder: &mut LineRecorder<A>,
@@ -85,12 +86,7 @@ fn is_deletion_recorded(alloc: Global) -> Result<bool, StepError> {
     right
 }
 
-#[test]
-fn a_satisfied_clause_is_deleted_as_it_is_loaded(rt: HostRuntime) -> Result<(), StepError> {
-    assert!(rt; is_deletion_recorded(rt.alloc())?);
-    Ok(())
-}
-
+// Units come before what they satisfy.
 fn record_simplification<A: Allocator + Copy>(
     ctx: &mut Context<A>,
     recorder: &mut LineRecorder<A>,
@@ -119,7 +115,11 @@ fn is_simplification_recorded(alloc: Global) -> Result<bool, StepError> {
 }
 
 #[test]
-fn units_come_before_what_they_satisfy(rt: HostRuntime) -> Result<(), StepError> {
-    assert!(rt; is_simplification_recorded(rt.alloc())?);
+fn lines_are_handed_on(rt: HostRuntime) -> Result<(), StepError> {
+    let are_recorded = [
+        is_deletion_recorded(rt.alloc())?,
+        is_simplification_recorded(rt.alloc())?,
+    ];
+    assert!(rt; are_recorded == [true; 2]);
     Ok(())
 }

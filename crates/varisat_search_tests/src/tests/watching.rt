@@ -2,7 +2,7 @@
 ghost use Rattle.std.specs.Prelude.{OnOk};
 ghost use Rattle.varisat_search.specs.Contexts.{IsReady};
 
-use super::searches::{are, literal, loaded, note};
+use super::searches::{are, literal, loaded};
 use linked_list_allocator::LocalHeap;
 use std::alloc::{Allocator, Global};
 use varisat_literals::{Lit, lit};
@@ -14,12 +14,12 @@ use varisat_search::error::StepError;
 /// Clauses over four variables, how propagation over them ends, which literals are true then, why the last of them is,
 /// and at which places the clauses stand that literals watch.
 #[derive(Drop)]
-struct Row<'a> {
-    clauses: &'a [&'a [i8]],
+struct Row {
+    clauses: &'static [&'static [i8]],
     end: Result<(), Conflict>,
-    trail: &'a [i8],
+    trail: &'static [i8],
     reason: Reason,
-    watched: &'a [(i8, &'a [usize])],
+    watched: &'static [(i8, &'static [usize])],
 }
 
 /// Takes out all watches, and watches the clauses by their first two literals anew.
@@ -112,51 +112,10 @@ fn holds_always(alloc: Global, row: &Row) -> Result<bool, StepError> {
     Ok(holds(alloc, row, false)? & holds(alloc, row, true)?)
 }
 
-// 1 is false, so that 3 takes its place beside 2.
-#[test]
-fn a_watch_moves(rt: HostRuntime) -> Result<(), StepError> {
-    let row = Row {
-        clauses: &[&[1, 2, 3], &[-1]],
-        end: Ok(()),
-        trail: &[-1],
-        reason: Reason::Unit,
-        watched: &[(-1, &[]), (-2, &[0]), (-3, &[0])],
-    };
-    assert!(rt; holds_always(rt.alloc(), &row)?);
-    Ok(())
-}
-
-// 2 is true as 1 becomes false, so that the clause stays as it is.
-#[test]
-fn a_true_clause_stays(rt: HostRuntime) -> Result<(), StepError> {
-    let row = Row {
-        clauses: &[&[1, 2, 3], &[2], &[-1]],
-        end: Ok(()),
-        trail: &[2, -1],
-        reason: Reason::Unit,
-        watched: &[(-1, &[0]), (-2, &[0]), (-3, &[])],
-    };
-    assert!(rt; holds_always(rt.alloc(), &row)?);
-    Ok(())
-}
-
-#[test]
-fn the_last_literal_is_implied(rt: HostRuntime) -> Result<(), StepError> {
-    let row = Row {
-        clauses: &[&[1, 2, 3], &[-1], &[-2]],
-        end: Ok(()),
-        trail: &[-1, -2, 3],
-        reason: Reason::Long(ClauseRef::from_offset(0)),
-        watched: &[(-1, &[]), (-2, &[0]), (-3, &[0])],
-    };
-    assert!(rt; holds_always(rt.alloc(), &row)?);
-    Ok(())
-}
-
-/// Whether a clause is found false that comes behind one that implied a literal. Both watch 2, which was not propagated
-/// to its end, and go on watching it.
-fn is_conflict_found<A: Allocator + Copy>(alloc: A, is_rebuilt: bool) -> Result<bool, StepError> {
-    let row = Row {
+/// A clause is found false that comes behind one that implied a literal. Both watch 2, which was not propagated to its
+/// end, and go on watching it.
+fn false_clause() -> Row {
+    Row {
         clauses: &[&[1, 2, 4], &[-2, 3, 4], &[-2, -3, 4], &[-4], &[-1]],
         end: Err(Conflict::Long(ClauseRef::from_offset(12))),
         trail: &[-4, -1, 2, 3],
@@ -168,43 +127,58 @@ fn is_conflict_found<A: Allocator + Copy>(alloc: A, is_rebuilt: bool) -> Result<
             (-3, &[6]),
             (3, &[12]),
         ],
-    };
-    holds(alloc, &row, is_rebuilt)
-}
-
-#[test]
-fn the_false_clause_is_told(rt: HostRuntime) -> Result<(), StepError> {
-    let is_found = is_conflict_found(rt.alloc(), false)?;
-    assert!(rt; is_found & is_conflict_found(rt.alloc(), true)?);
-    Ok(())
-}
-
-// Clauses of two literals are not watched. 2 implies 3 and -3, in the order of adding.
-#[test]
-fn a_false_clause_of_two_is_told(rt: HostRuntime) -> Result<(), StepError> {
-    let row = Row {
-        clauses: &[&[1, 2], &[-2, 3], &[-2, -3], &[-1]],
-        end: Err(Conflict::Binary([lit!(-3), lit!(-2)])),
-        trail: &[-1, 2, 3],
-        reason: Reason::Binary([lit!(-2)]),
-        watched: &[(-1, &[]), (-2, &[]), (2, &[])],
-    };
-    assert!(rt; holds_always(rt.alloc(), &row)?);
-    Ok(())
-}
-
-/// Whether that clause is found on a heap of that many bytes.
-fn is_conflict_found_with(alloc: Global, size: usize) -> Result<bool, StepError> {
-    let heap = LocalHeap::new(alloc, size)?;
-    is_conflict_found(&heap, true)
-}
-
-#[test]
-fn each_growth_of_lists_may_be_refused(rt: HostRuntime) {
-    let mut seen = [false; 2];
-    for room in 0..220 {
-        let is_right = note(&mut seen, is_conflict_found_with(rt.alloc(), 16 * room));
-        assert!(rt; is_right, "with {room}");
     }
-    assert!(rt; seen == [true, true]);
+}
+
+fn rows() -> [Row; 5] {
+    [
+        // 1 is false, so that 3 takes its place beside 2.
+        Row {
+            clauses: &[&[1, 2, 3], &[-1]],
+            end: Ok(()),
+            trail: &[-1],
+            reason: Reason::Unit,
+            watched: &[(-1, &[]), (-2, &[0]), (-3, &[0])],
+        },
+        // 2 is true as 1 becomes false, so that the clause stays as it is.
+        Row {
+            clauses: &[&[1, 2, 3], &[2], &[-1]],
+            end: Ok(()),
+            trail: &[2, -1],
+            reason: Reason::Unit,
+            watched: &[(-1, &[0]), (-2, &[0]), (-3, &[])],
+        },
+        // The last literal is implied.
+        Row {
+            clauses: &[&[1, 2, 3], &[-1], &[-2]],
+            end: Ok(()),
+            trail: &[-1, -2, 3],
+            reason: Reason::Long(ClauseRef::from_offset(0)),
+            watched: &[(-1, &[]), (-2, &[0]), (-3, &[0])],
+        },
+        false_clause(),
+        // Clauses of two literals are not watched. 2 implies 3 and -3, in the order of adding.
+        Row {
+            clauses: &[&[1, 2], &[-2, 3], &[-2, -3], &[-1]],
+            end: Err(Conflict::Binary([lit!(-3), lit!(-2)])),
+            trail: &[-1, 2, 3],
+            reason: Reason::Binary([lit!(-2)]),
+            watched: &[(-1, &[]), (-2, &[]), (2, &[])],
+        },
+    ]
+}
+
+#[test]
+fn watches_are_right_after_propagation(rt: HostRuntime) -> Result<(), StepError> {
+    for (place, row) in rows().iter().enumerate() {
+        let is_right = holds_always(rt.alloc(), row)?;
+        assert!(rt; is_right, "row {place}");
+    }
+    Ok(())
+}
+
+/// Whether the false clause is found on a heap of that many bytes.
+pub fn is_conflict_found_with(alloc: Global, size: usize) -> Result<bool, StepError> {
+    let heap = LocalHeap::new(alloc, size)?;
+    holds(&heap, &false_clause(), true)
 }

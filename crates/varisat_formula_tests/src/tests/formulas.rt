@@ -62,15 +62,6 @@ fn pair(alloc: Global) -> Result<bool, FormulaError> {
     pairs(alloc, &formula)
 }
 
-#[test]
-fn formulas(rt: HostRuntime) -> Result<(), FormulaError> {
-    assert!(rt; pair(rt.alloc())?);
-    let two = cnf_formula!(in rt.alloc(); ; 1;)?.len();
-    let none = cnf_formula!(in rt.alloc();)?.len();
-    assert!(rt; (two, none) == (2, 0));
-    Ok(())
-}
-
 /// Whether the first six variables and literals that are made are those of 1 to 6.
 fn makes_six(formula: &mut CnfFormula<Global>) -> Result<bool, FormulaError> {
     let [a, b] = new_vars::<_, 2>(formula)?;
@@ -99,8 +90,12 @@ fn makes_variables(alloc: Global) -> Result<bool, FormulaError> {
 }
 
 #[test]
-fn new_variables(rt: HostRuntime) {
-    assert!(rt; matches!(makes_variables(rt.alloc()), Ok(true)));
+fn formulas_and_new_variables(rt: HostRuntime) -> Result<(), FormulaError> {
+    let are_right = [pair(rt.alloc())?, makes_variables(rt.alloc())?];
+    let two = cnf_formula!(in rt.alloc(); ; 1;)?.len();
+    let none = cnf_formula!(in rt.alloc();)?.len();
+    assert!(rt; (are_right, two, none) == ([true; 2], 2, 0));
+    Ok(())
 }
 
 /// Whether the formula is that many times the clause `1, -2, 3`.

@@ -17,15 +17,6 @@ fn told_var(variable: Var) -> (usize, isize, [isize; 3]) {
     (variable.index(), variable.to_dimacs(), literals)
 }
 
-#[test]
-fn variables(rt: HostRuntime) {
-    let third = Var::from_dimacs(3);
-    assert!(rt; third == Var::from_index(2));
-    assert!(rt; told_var(third) == (2, 3, [3, -3, -3]));
-    assert!(rt; (Var::max_var().index(), Var::max_count()) == (268435455, 268435456));
-    assert!(rt; var!(2147483648).index() == 2147483647);
-}
-
 /// A literal's number, its code, its index and that of its variable, and whether it is negative and positive.
 fn told_lit(literal: Lit) -> (isize, [usize; 3], [bool; 2]) {
     let indices = [literal.code(), literal.index(), literal.var().index()];
@@ -76,13 +67,6 @@ fn made() -> [isize; 6] {
     ]
 }
 
-#[test]
-fn literals(rt: HostRuntime) {
-    assert!(rt; made() == [-2, 2, -2, -2, -2147483648, -5]);
-    let [a, b, c] = lits![1, -2, 3];
-    assert!(rt; [a.code(), b.code(), c.code()] == [0, 3, 4]);
-}
-
 /// What the hashes of a variable and of the literal of its index are.
 fn hashes(variable: Var, literal: Lit) -> (u64, u64) {
     let mut state = DefaultHasher::new();
@@ -103,18 +87,39 @@ fn numbers() -> ([isize; 3], [isize; 2]) {
     (of_lits, of_vars)
 }
 
-#[test]
-fn laws(rt: HostRuntime) {
-    assert!(rt; numbers() == ([-2, -2, -2], [2, 2]));
-    assert!(rt; compared_vars(var!(1), var!(2)) == (false, Ordering::Less));
-    assert!(rt; compared_lits(lit!(-1), lit!(2)) == (false, Ordering::Less));
-    assert!(rt; compared_lits(lit!(-1), lit!(1)) == (false, Ordering::Greater));
+/// Whether variables, literals and the laws on them are told as they should be, and of equal numbers equal hashes.
+fn are_right() -> [bool; 9] {
+    let third = Var::from_dimacs(3);
+    let [a, b, c] = lits![1, -2, 3];
     let (of_var, of_lit) = hashes(var!(3), lit!(2));
-    assert!(rt; of_var == of_lit);
+    [
+        third == Var::from_index(2),
+        told_var(third) == (2, 3, [3, -3, -3]),
+        (Var::max_var().index(), Var::max_count()) == (268435455, 268435456),
+        var!(2147483648).index() == 2147483647,
+        made() == [-2, 2, -2, -2, -2147483648, -5],
+        [a.code(), b.code(), c.code()] == [0, 3, 4],
+        numbers() == ([-2, -2, -2], [2, 2]),
+        [
+            compared_vars(var!(1), var!(2)),
+            compared_lits(lit!(-1), lit!(2)),
+            compared_lits(lit!(-1), lit!(1)),
+        ] == COMPARED,
+        of_var == of_lit,
+    ]
 }
 
+/// Whether two variables are equal, two literals and two others, and how they compare.
+const COMPARED: [(bool, Ordering); 3] = [
+    (false, Ordering::Less),
+    (false, Ordering::Less),
+    (false, Ordering::Greater),
+];
+
 #[test]
-fn printed(rt: HostRuntime) -> Result<(), AllocError> {
+fn variables_and_literals(rt: HostRuntime) -> Result<(), AllocError> {
+    let are_right = are_right();
+    assert!(rt; are_right == [true; 9], "{are_right:?}");
     let literal = lit!(-2);
     let last = Lit::from_code(4294967295);
     let variable = var!(2147483648);

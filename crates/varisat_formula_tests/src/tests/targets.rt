@@ -21,11 +21,6 @@ fn keeps_in(alloc: Global) -> io::Result<bool> {
     keeps(&mut target)
 }
 
-#[test]
-fn target_in_memory(rt: HostRuntime) {
-    assert!(rt; matches!(keeps_in(rt.alloc()), Ok(true)));
-}
-
 /// How many bytes a source gives, and whether it has ended then.
 fn fill(source: &mut ReadSource<&'static [u8]>, buffer: &mut [u8]) -> io::Result<(usize, bool)>
     requires { source.old.faults ≡ 0 }
@@ -47,12 +42,6 @@ fn fills(source: &mut ReadSource<&'static [u8]>) -> io::Result<bool>
             && fill(source, &mut buffer)? == (0, true)
             && source.faults() == 0,
     )
-}
-
-#[test]
-fn source_of_a_reader(rt: HostRuntime) {
-    let mut source = ReadSource::new(b"1 0".as_slice());
-    assert!(rt; matches!(fills(&mut source), Ok(true)));
 }
 
 /// A writer that takes all bytes, and counts how often it was flushed.
@@ -82,8 +71,14 @@ fn put_line(target: &mut IoTarget<FlushedWriter>) -> io::Result<u64>
 }
 
 #[test]
-fn writers_are_flushed(rt: HostRuntime) {
+fn sources_and_targets(rt: HostRuntime) {
+    let mut source = ReadSource::new(b"1 0".as_slice());
     let mut target = IoTarget::new(FlushedWriter { flushes: 0 });
-    assert!(rt; matches!(put_line(&mut target), Ok(0)));
-    assert!(rt; target.into_inner().flushes == 1);
+    let are_right = [
+        matches!(keeps_in(rt.alloc()), Ok(true)),
+        matches!(fills(&mut source), Ok(true)),
+        matches!(put_line(&mut target), Ok(0)),
+        target.into_inner().flushes == 1,
+    ];
+    assert!(rt; are_right == [true; 4], "{are_right:?}");
 }

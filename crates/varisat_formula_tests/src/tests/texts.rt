@@ -191,23 +191,15 @@ fn parses_in_pieces<R: Read + Drop>(alloc: Global, reader: R, outcome: &Outcome)
     }
 }
 
-#[test]
-fn texts_in_pieces(rt: HostRuntime) {
-    for row in &TEXTS {
-        assert!(rt; reads(rt.alloc(), row.0, &outcome_of(row)));
-    }
-}
-
-#[test]
-fn texts_of_sources(rt: HostRuntime) {
-    let alloc = rt.alloc();
-    for row in &TEXTS {
-        let (text, outcome) = (row.0, outcome_of(row));
-        assert!(rt; parses(alloc, text, &outcome));
-        assert!(rt; parses(alloc, CutReader { text, fails: false }, &outcome));
-        assert!(rt; parses_in_pieces(alloc, text, &outcome));
-        assert!(rt; parses_in_pieces(alloc, CutReader { text, fails: false }, &outcome));
-    }
+/// Whether the text gives this in pieces, whole from a source, and from a source with a function that takes nothing.
+fn gives(alloc: Global, text: &'static [u8], outcome: &Outcome) -> [bool; 5] {
+    [
+        reads(alloc, text, outcome),
+        parses(alloc, text, outcome),
+        parses(alloc, CutReader { text, fails: false }, outcome),
+        parses_in_pieces(alloc, text, outcome),
+        parses_in_pieces(alloc, CutReader { text, fails: false }, outcome),
+    ]
 }
 
 /// What the first bytes of `p cnf 3 2`, `1 -2 0` and `0` on three lines give.
@@ -235,7 +227,11 @@ fn of_beginning(length: usize) -> Outcome {
 }
 
 #[test]
-fn beginnings(rt: HostRuntime) {
+fn texts_and_beginnings(rt: HostRuntime) {
+    for (place, row) in TEXTS.iter().enumerate() {
+        let given = gives(rt.alloc(), row.0, &outcome_of(row));
+        assert!(rt; given == [true; 5], "text {place}: {given:?}");
+    }
     let text = b"p cnf 3 2\n1 -2 0\n0\n".as_slice();
     for length in 0..text.len() + 1 {
         let right = reads(rt.alloc(), &text[..length], &of_beginning(length));
@@ -290,36 +286,29 @@ fn is_over(parser: &mut DimacsParser<Global>) -> bool {
     has_ended && is_told && parser.finish().is_ok()
 }
 
-#[test]
-fn after_the_end(rt: HostRuntime) {
-    let mut parser = DimacsParser::new_in(rt.alloc());
-    let is_right = reads_on(&mut parser);
-    drop(parser);
-    assert!(rt; is_right);
+/// Whether parsers are right after the end, after a fault, and where the source fails before the end and after it.
+fn are_right(alloc: Global) -> [bool; 4] {
+    let mut ended = DimacsParser::new_in(alloc);
+    let mut faulty = DimacsParser::new_in(alloc);
+    let mut broken = DimacsParser::new_in(alloc);
+    let mut over = DimacsParser::new_in(alloc);
+    let are_right = [
+        reads_on(&mut ended),
+        stays_faulty(&mut faulty),
+        breaks_off(&mut broken),
+        is_over(&mut over),
+    ];
+    drop(ended);
+    drop(faulty);
+    drop(broken);
+    drop(over);
+    are_right
 }
 
 #[test]
-fn after_a_fault(rt: HostRuntime) {
-    let mut parser = DimacsParser::new_in(rt.alloc());
-    let is_right = stays_faulty(&mut parser);
-    drop(parser);
-    assert!(rt; is_right);
-}
-
-#[test]
-fn broken_off(rt: HostRuntime) {
-    let mut parser = DimacsParser::new_in(rt.alloc());
-    let is_right = breaks_off(&mut parser);
-    drop(parser);
-    assert!(rt; is_right);
-}
-
-#[test]
-fn broken_off_after_the_end(rt: HostRuntime) {
-    let mut parser = DimacsParser::new_in(rt.alloc());
-    let is_right = is_over(&mut parser);
-    drop(parser);
-    assert!(rt; is_right);
+fn parsers_that_ended(rt: HostRuntime) {
+    let are_right = are_right(rt.alloc());
+    assert!(rt; are_right == [true; 4], "{are_right:?}");
 }
 
 /// A source that gives the text and then fails.
@@ -334,14 +323,6 @@ fn told_of(alloc: Global, text: &'static [u8]) -> (Option<DimacsError>, u64, boo
     let mut source = failing(text);
     let fault = DimacsParser::parse(alloc, &mut source).err();
     (fault, source.faults(), source.has_ended())
-}
-
-#[test]
-fn source_that_fails(rt: HostRuntime) {
-    let alloc = rt.alloc();
-    assert!(rt; told_of(alloc, b"1 0\n2") == (at(2, DimacsErrorKind::Io), 1, false));
-    // A fault of the text before the source's.
-    assert!(rt; told_of(alloc, b"01 0") == (at(1, UnexpectedInput), 0, false));
 }
 
 /// Whether a source that fails gives two pieces and then the fault, which stays.
@@ -367,11 +348,6 @@ fn fails_after_pieces(alloc: Global) -> Result<bool, FormulaError> {
     let is_taken = is_one_clause(alloc, &parser.take_formula());
     drop(parser);
     if fails { is_taken } else { Ok(false) }
-}
-
-#[test]
-fn pieces_of_a_source_that_fails(rt: HostRuntime) {
-    assert!(rt; matches!(fails_after_pieces(rt.alloc()), Ok(true)));
 }
 
 /// How often the function of `parse_incremental` is called, and how many clauses there are then; none where it fails.
@@ -405,15 +381,24 @@ fn refused_by(alloc: Global, refusal: DimacsError) -> Option<DimacsError> {
     parsed.err()
 }
 
+const REFUSAL: DimacsError = DimacsError {
+    line: 9,
+    kind: DimacsErrorKind::Io,
+};
+
 #[test]
-fn pieces_of_a_function(rt: HostRuntime) {
-    // Four pieces and the end.
-    assert!(rt; pieces_given(rt.alloc(), b"1 0 2 0 3 0") == Some((5, 3)));
-    let refusal = DimacsError {
-        line: 9,
-        kind: DimacsErrorKind::Io,
-    };
-    assert!(rt; refused_by(rt.alloc(), refusal) == Some(refusal));
+fn sources_and_functions_that_fail(rt: HostRuntime) {
+    let alloc = rt.alloc();
+    let are_right = [
+        told_of(alloc, b"1 0\n2") == (at(2, DimacsErrorKind::Io), 1, false),
+        // A fault of the text before the source's.
+        told_of(alloc, b"01 0") == (at(1, UnexpectedInput), 0, false),
+        matches!(fails_after_pieces(alloc), Ok(true)),
+        // Four pieces and the end.
+        pieces_given(alloc, b"1 0 2 0 3 0") == Some((5, 3)),
+        refused_by(alloc, REFUSAL) == Some(REFUSAL),
+    ];
+    assert!(rt; are_right == [true; 5], "{are_right:?}");
 }
 
 const WRITTEN: &[u8] = b"p cnf 3 2\n1 -2 0\n0\n";
@@ -464,18 +449,14 @@ fn writes(alloc: Global) -> io::Result<bool> {
 }
 
 #[test]
-fn written(rt: HostRuntime) {
-    assert!(rt; matches!(writes(rt.alloc()), Ok(true)));
-}
-
-#[test]
-fn error_text(rt: HostRuntime) -> Result<(), AllocError> {
+fn formulas_and_faults_are_written(rt: HostRuntime) -> Result<(), AllocError> {
     let error = DimacsError {
         line: 3,
         kind: UnterminatedClause,
     };
     let text = format!(in rt.alloc(); "{error}")?;
-    assert_eq!(rt; text.as_str(), "line 3: UnterminatedClause");
+    let is_told = text.as_str() == "line 3: UnterminatedClause";
+    assert!(rt; matches!(writes(rt.alloc()), Ok(true)) && is_told);
     Ok(())
 }
 

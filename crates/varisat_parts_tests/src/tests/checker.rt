@@ -158,19 +158,6 @@ fn follows_from_held(
     follows(alloc, held, &named)
 }
 
-// A learned clause follows without one of the clauses, and the opposites of the decisions do not.
-#[test]
-fn learned_follows(rt: HostRuntime) -> Result<(), AllocError> {
-    for (index, row) in FOLLOWING.iter().enumerate() {
-        let (lists, numbers, wanted) = *row;
-        assert!(rt;
-            follows_from(rt.alloc(), lists, numbers)? == wanted,
-            "row {index}"
-        );
-    }
-    Ok(())
-}
-
 fn conflicts_with(alloc: Global, held: &[Vec<u32>], numbers: &[i32]) -> Result<bool, AllocError> {
     let base = clause(alloc, numbers)?;
     conflicts(alloc, held, &base)
@@ -187,7 +174,16 @@ fn conflict(alloc: Global) -> Result<(bool, bool), AllocError> {
     conflicts_in(alloc, &held)
 }
 
+// A learned clause follows without one of the clauses, and the opposites of the decisions do not.
 #[test]
-fn literals_conflict(rt: HostRuntime) {
-    assert!(rt; matches!(conflict(rt.alloc()), Ok((true, false))));
+fn clauses_follow_and_literals_conflict(rt: HostRuntime) -> Result<(), AllocError> {
+    for (index, row) in FOLLOWING.iter().enumerate() {
+        let (lists, numbers, wanted) = *row;
+        assert!(rt;
+            follows_from(rt.alloc(), lists, numbers)? == wanted,
+            "row {index}"
+        );
+    }
+    assert!(rt; conflict(rt.alloc())? == (true, false));
+    Ok(())
 }

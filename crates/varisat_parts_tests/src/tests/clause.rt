@@ -24,15 +24,6 @@ fn local_flags() -> (u32, usize) {
     (flags, header.glue())
 }
 
-#[test]
-fn flags_stand_in_bits(rt: HostRuntime) {
-    assert!(rt; local_flags() == (2035, 63));
-    assert!(rt;
-        (Tier::count() == 4)
-            & ([Tier::from_index(3), Tier::from_index(4)] == [Some(Tier::Local), None])
-    );
-}
-
 /// A header of a clause that is not deleted.
 fn header(tier: Tier, activity: u32) -> ClauseHeader
     ensures { result.deleted ≡ false }
@@ -187,11 +178,6 @@ fn tier_counts(rt_alloc: Global) -> (bool, [[usize; 4]; 2]) {
     counts
 }
 
-#[test]
-fn tiers_are_counted(rt: HostRuntime) {
-    assert!(rt; tier_counts(rt.alloc()) == (true, [[1, 1, 0, 2], [0, 1, 0, 1]]));
-}
-
 /// Drops the last literals of the clause of the index, if it is not deleted and has so many.
 fn shorten<A: Allocator + Copy>(
     alloc: &mut ClauseAlloc<A>,
@@ -280,13 +266,6 @@ fn layouts(rt_alloc: Global) -> (bool, [Option<Layout>; 2]) {
     layouts
 }
 
-#[test]
-fn garbage_is_collected(rt: HostRuntime) {
-    let first = ([Some(0), Some(6), Some(14)], 21, false);
-    let second = ([Some(0), None, None], 7, true);
-    assert!(rt; layouts(rt.alloc()) == (true, [Some(first), Some(second)]));
-}
-
 /// Whether the clause of the index is deleted.
 pub(crate) fn is_deleted<A: Allocator + Copy>(alloc: &ClauseAlloc<A>, index: usize) -> bool
     requires { IsSound alloc.now }
@@ -352,14 +331,6 @@ fn reduced(rt_alloc: Global, marked: bool) -> (bool, [bool; 5]) {
     reduced
 }
 
-#[test]
-fn half_of_the_locals_are_deleted(rt: HostRuntime) {
-    let outcomes = [reduced(rt.alloc(), false), reduced(rt.alloc(), true)];
-    let unmarked = [false, true, true, false, false];
-    let marked = [false, false, true, false, true];
-    assert!(rt; outcomes == [(true, unmarked), (true, marked)]);
-}
-
 /// The tier of the clause of the index, and whether it is active.
 fn tier_of<A: Allocator + Copy>(alloc: &ClauseAlloc<A>, index: usize) -> Option<(Tier, bool)>
     requires { IsSound alloc.now }
@@ -405,12 +376,6 @@ fn mids(rt_alloc: Global) -> (bool, [Option<(Tier, bool)>; 2]) {
     drop(alloc);
     drop(db);
     mids
-}
-
-#[test]
-fn mids_that_are_not_active_become_local(rt: HostRuntime) {
-    let wanted = [Some((Tier::Mid, false)), Some((Tier::Local, false))];
-    assert!(rt; mids(rt.alloc()) == (true, wanted));
 }
 
 /// Adds a clause of three literals. Says whether that was done.
@@ -482,9 +447,39 @@ fn activities(rt_alloc: Global) -> (bool, ([Option<u32>; 2], u32)) {
     (is_added, activities)
 }
 
+/// How three clauses lie before and after a collection.
+const LAYOUTS: [Option<Layout>; 2] = [
+    Some(([Some(0), Some(6), Some(14)], 21, false)),
+    Some(([Some(0), None, None], 7, true)),
+];
+
+/// Which of five Local clauses are deleted, the second being marked or not.
+const REDUCED: [(bool, [bool; 5]); 2] = [
+    (true, [false, true, true, false, false]),
+    (true, [false, false, true, false, true]),
+];
+
+/// The tiers of an active Mid clause and another one once they are reduced.
+const MIDS: [Option<(Tier, bool)>; 2] = [Some((Tier::Mid, false)), Some((Tier::Local, false))];
+
+/// What is right of flags, tiers, counts of tiers, layouts, reductions of both kinds and activities, in this order.
+fn are_right(alloc: Global) -> [bool; 7] {
+    let tiers = [Tier::from_index(3), Tier::from_index(4)];
+    [
+        local_flags() == (2035, 63),
+        (Tier::count() == 4) & (tiers == [Some(Tier::Local), None]),
+        tier_counts(alloc) == (true, [[1, 1, 0, 2], [0, 1, 0, 1]]),
+        layouts(alloc) == (true, LAYOUTS),
+        [reduced(alloc, false), reduced(alloc, true)] == REDUCED,
+        mids(alloc) == (true, MIDS),
+        activities(alloc) == (true, ([Some(1024), Some(4096)], 1025)),
+    ]
+}
+
 #[test]
-fn clause_activities_are_shifted(rt: HostRuntime) {
-    assert!(rt; activities(rt.alloc()) == (true, ([Some(1024), Some(4096)], 1025)));
+fn the_store_keeps_what_it_should(rt: HostRuntime) {
+    let are_right = are_right(rt.alloc());
+    assert!(rt; are_right == [true; 7], "{are_right:?}");
 }
 
 /// How many clauses are not deleted.

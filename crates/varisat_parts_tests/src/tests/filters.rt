@@ -102,11 +102,6 @@ const FILTERED: Left = Left {
     is_done: true,
 };
 
-#[test]
-fn a_filter_shortens_and_deletes(rt: HostRuntime) {
-    assert!(rt; left_of(rt.alloc(), rt.alloc()) == (FILTERED, true));
-}
-
 /// Whether the filter stopped as it should where memory for its notes was refused: the third clause stays as it is
 /// where its literals are not noted, and the second where those of the first are not.
 fn is_stopped(left: &Left) -> bool {
@@ -196,7 +191,8 @@ fn marks(rt_alloc: Global) -> (bool, [[bool; 4]; 2]) {
 }
 
 #[test]
-fn clauses_of_a_tier_are_marked(rt: HostRuntime) {
+fn clauses_are_filtered_and_marked(rt: HostRuntime) {
+    assert!(rt; left_of(rt.alloc(), rt.alloc()) == (FILTERED, true));
     let local = [true, false, false, true];
     let core = [false, true, false, false];
     assert!(rt; marks(rt.alloc()) == (true, [local, core]));

@@ -56,12 +56,12 @@ fn come<A: Allocator + Copy>(vsids: &mut Vsids<A>, indices: &[usize]) -> bool
     true
 }
 
-#[test]
-fn the_most_active_come_first(rt: HostRuntime) -> Result<(), AllocError> {
-    let vsids = eight(rt.alloc(), 950)?;
-    let order: Vec<usize> = vsids.map(|var| var.index()).collect(rt.alloc())?;
-    assert!(rt; order.as_slice() == [7, 6, 5, 4, 3, 2, 1, 0].as_slice());
-    Ok(())
+/// Whether the most active come first.
+fn is_in_order(alloc: Global) -> Result<bool, AllocError> {
+    let vsids = eight(alloc, 950)?;
+    let order: Vec<usize> = vsids.map(|var| var.index()).collect(alloc)?;
+    let is_right = order.as_slice() == [7, 6, 5, 4, 3, 2, 1, 0].as_slice();
+    Ok(is_right)
 }
 
 /// Whether three bumps after a decay by a quarter stay below four before it. The increment is 2^20 at first and then 4/3 of it,
@@ -77,15 +77,6 @@ fn is_rounded_down(vsids: &mut Vsids<Global>) -> bool
     come(vsids, &[4, 0, 3])
 }
 
-#[test]
-fn an_increment_is_rounded_down(rt: HostRuntime) -> Result<(), AllocError> {
-    let mut vsids = eight(rt.alloc(), 750)?;
-    let is_right = is_rounded_down(&mut vsids);
-    drop(vsids);
-    assert!(rt; is_right);
-    Ok(())
-}
-
 /// Whether variables are available only once that is said.
 fn is_told(vsids: &mut Vsids<Global>) -> Result<bool, AllocError>
     requires { length vsids.old.activity ≡ 0 }
@@ -97,13 +88,11 @@ fn is_told(vsids: &mut Vsids<Global>) -> Result<bool, AllocError>
     Ok(none & one & vsids.next().is_none())
 }
 
-#[test]
-fn new_variables_are_not_available(rt: HostRuntime) -> Result<(), AllocError> {
-    let mut vsids = Vsids::new_in(rt.alloc());
+fn is_told_in_new(alloc: Global) -> Result<bool, AllocError> {
+    let mut vsids = Vsids::new_in(alloc);
     let told = is_told(&mut vsids);
     drop(vsids);
-    assert!(rt; matches!(told, Ok(true)));
-    Ok(())
+    told
 }
 
 /// Whether the variables that are bumped later overtake those that were bumped more often.
@@ -120,15 +109,6 @@ fn later_bumps_count(vsids: &mut Vsids<Global>) -> bool
     first & second & next_index(vsids).is_none()
 }
 
-#[test]
-fn later_bumps_add_more(rt: HostRuntime) -> Result<(), AllocError> {
-    let mut vsids = eight(rt.alloc(), 500)?;
-    let is_right = later_bumps_count(&mut vsids);
-    drop(vsids);
-    assert!(rt; is_right);
-    Ok(())
-}
-
 /// Whether variables that are not available, that are reset and that are bumped come when they should.
 fn calls_count(vsids: &mut Vsids<Global>) -> bool
     requires count { length vsids.old.activity ≡ 8 }
@@ -143,15 +123,6 @@ fn calls_count(vsids: &mut Vsids<Global>) -> bool
     vsids.make_available(Var::from_index(7));
     let others = come(vsids, &[7, 5, 4, 2, 1]);
     (count == 8) & (third == Some(3)) & others
-}
-
-#[test]
-fn each_call_of_the_heap(rt: HostRuntime) -> Result<(), AllocError> {
-    let mut vsids = eight(rt.alloc(), 999)?;
-    let is_right = calls_count(&mut vsids);
-    drop(vsids);
-    assert!(rt; is_right);
-    Ok(())
 }
 
 /// Decays so many times.
@@ -175,12 +146,33 @@ fn shifts_keep_order(vsids: &mut Vsids<Global>) -> bool
     come(vsids, &[1, 2])
 }
 
+/// Whether each of these is right of eight variables, whose increments grow by that decay.
+fn are_right(alloc: Global) -> Result<[bool; 4], AllocError> {
+    let mut first = eight(alloc, 750)?;
+    let mut second = eight(alloc, 500)?;
+    let mut third = eight(alloc, 999)?;
+    let mut fourth = eight(alloc, 500)?;
+    let are_right = [
+        is_rounded_down(&mut first),
+        later_bumps_count(&mut second),
+        calls_count(&mut third),
+        shifts_keep_order(&mut fourth),
+    ];
+    drop(first);
+    drop(second);
+    drop(third);
+    drop(fourth);
+    Ok(are_right)
+}
+
 #[test]
-fn activities_are_shifted(rt: HostRuntime) -> Result<(), AllocError> {
-    let mut vsids = eight(rt.alloc(), 500)?;
-    let is_kept = shifts_keep_order(&mut vsids);
-    drop(vsids);
-    assert!(rt; is_kept);
+fn variables_come_as_they_should(rt: HostRuntime) -> Result<(), AllocError> {
+    let first = [is_in_order(rt.alloc())?, is_told_in_new(rt.alloc())?];
+    let others = are_right(rt.alloc())?;
+    assert!(rt;
+        (first, others) == ([true; 2], [true; 4]),
+        "{first:?} {others:?}"
+    );
     Ok(())
 }
 

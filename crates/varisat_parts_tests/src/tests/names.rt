@@ -178,14 +178,6 @@ fn lead(variables: &mut LinkedVariables<Global>) -> Result<bool, AllocError> {
     Ok(is_new & named & hidden & are_in_use)
 }
 
-#[test]
-fn names_lead_to_variables(rt: HostRuntime) {
-    let mut variables = LinkedVariables::new_in(rt.alloc());
-    let is_right = matches!(lead(&mut variables), Ok(true));
-    drop(variables);
-    assert!(rt; is_right);
-}
-
 /// Whether the names are right on a heap of that many times 16 bytes.
 fn is_named_with(alloc: Global, room: u8) -> Result<bool, AllocError> {
     let heap = LocalHeap::new(alloc, 16 * usize::from(room))?;
@@ -246,14 +238,6 @@ fn changes(variables: &mut LinkedVariables<Global>) -> Result<bool, AllocError> 
     Ok((variables.global_watermark() == 2) & (are_kept == [Some(first), Some(second)]))
 }
 
-#[test]
-fn what_is_kept_changes(rt: HostRuntime) {
-    let mut variables = LinkedVariables::new_in(rt.alloc());
-    let is_right = matches!(changes(&mut variables), Ok(true));
-    drop(variables);
-    assert!(rt; is_right);
-}
-
 /// Whether a pair can be found from both sides, and neither once it is taken out.
 fn goes_both_ways(map: &mut VarBiMap<Global>) -> Result<bool, AllocError>
     requires { map.old ≡ no_pairs }
@@ -275,14 +259,6 @@ fn goes_both_ways(map: &mut VarBiMap<Global>) -> Result<bool, AllocError>
     Ok((watermarks == (2, 7)) & are_found & (removed.map(number) == [7, 0, 0]))
 }
 
-#[test]
-fn maps_go_both_ways(rt: HostRuntime) {
-    let mut map = VarBiMap::new_in(rt.alloc());
-    let is_right = matches!(goes_both_ways(&mut map), Ok(true));
-    drop(map);
-    assert!(rt; is_right);
-}
-
 /// Whether a high name brings as many names and global variables, and no solver variable.
 fn is_high(variables: &mut LinkedVariables<Global>) -> Result<bool, AllocError>
     requires { variables.old ≡ no_variables }
@@ -291,15 +267,31 @@ fn is_high(variables: &mut LinkedVariables<Global>) -> Result<bool, AllocError>
     Ok(watermarks(variables.variables()) == [100_000, 100_000, 0])
 }
 
-#[test]
-fn many_names_are_cheap(rt: HostRuntime) {
-    let mut variables = LinkedVariables::new_in(rt.alloc());
-    let is_right = matches!(is_high(&mut variables), Ok(true));
-    drop(variables);
-    assert!(rt; is_right);
+/// Whether names lead to variables, what is kept changes, many names are cheap, and maps go both ways.
+fn are_right(alloc: Global) -> [bool; 4] {
+    let mut first = LinkedVariables::new_in(alloc);
+    let mut second = LinkedVariables::new_in(alloc);
+    let mut third = LinkedVariables::new_in(alloc);
+    let mut map = VarBiMap::new_in(alloc);
+    let are_right = [
+        matches!(lead(&mut first), Ok(true)),
+        matches!(changes(&mut second), Ok(true)),
+        matches!(is_high(&mut third), Ok(true)),
+        matches!(goes_both_ways(&mut map), Ok(true)),
+    ];
+    drop(first);
+    drop(second);
+    drop(third);
+    drop(map);
+    are_right
 }
 
 #[test]
-fn what_is_kept_is_small(rt: HostRuntime) {
-    assert!(rt; size_of::<VarData>() <= 8, "{} bytes", size_of::<VarData>());
+fn names_lead_to_variables(rt: HostRuntime) {
+    let are_right = are_right(rt.alloc());
+    let size = size_of::<VarData>();
+    assert!(rt;
+        are_right == [true; 4] && size <= 8,
+        "{are_right:?}, {size} bytes"
+    );
 }

@@ -61,14 +61,6 @@ fn are_listed<A: Allocator + Copy>(lists: &BinaryClauses<A>) -> bool {
         & implies(lists, lit!(-4), &[])
 }
 
-#[test]
-fn pairs_are_kept(rt: HostRuntime) {
-    let mut lists = BinaryClauses::new_in(rt.alloc());
-    let is_right = matches!(keeps_pairs(&mut lists), Ok(true));
-    drop(lists);
-    assert!(rt; is_right);
-}
-
 /// Keeps three clauses, and gives the first variable a value.
 fn add_and_assign<A: Allocator + Copy>(
     lists: &mut BinaryClauses<A>,
@@ -104,14 +96,24 @@ fn drops_pairs<A: Allocator + Copy>(
     )
 }
 
-#[test]
-fn pairs_with_a_value_are_dropped(rt: HostRuntime) {
-    let mut lists = BinaryClauses::new_in(rt.alloc());
-    let mut assignment = Assignment::new_in(rt.alloc());
-    let is_right = matches!(drops_pairs(&mut lists, &mut assignment), Ok(true));
-    drop(lists);
+/// Whether clauses of two literals are kept, and those with a value dropped.
+fn are_right(alloc: Global) -> [bool; 2] {
+    let mut first = BinaryClauses::new_in(alloc);
+    let mut second = BinaryClauses::new_in(alloc);
+    let mut assignment = Assignment::new_in(alloc);
+    let are_right = [
+        matches!(keeps_pairs(&mut first), Ok(true)),
+        matches!(drops_pairs(&mut second, &mut assignment), Ok(true)),
+    ];
+    drop(first);
+    drop(second);
     drop(assignment);
-    assert!(rt; is_right);
+    are_right
+}
+
+#[test]
+fn pairs_are_kept_and_dropped(rt: HostRuntime) {
+    assert!(rt; are_right(rt.alloc()) == [true; 2]);
 }
 
 /// Whether the lists are right on a heap of that many times 16 bytes.

@@ -69,14 +69,6 @@ fn keeps_values(assignment: &mut Assignment<Global>) -> Result<bool, AllocError>
     Ok(is_assigned(assignment) & is_taken_away(assignment))
 }
 
-#[test]
-fn values(rt: HostRuntime) {
-    let mut assignment = Assignment::new_in(rt.alloc());
-    let is_right = matches!(keeps_values(&mut assignment), Ok(true));
-    drop(assignment);
-    assert!(rt; is_right);
-}
-
 /// The number of the literal, and 0 where there is none.
 fn number(literal: Option<Lit>) -> isize {
     match literal {
@@ -140,14 +132,6 @@ fn keeps_trail(trail: &mut Trail<Global>) -> Result<bool, AllocError>
     Ok(pushed & queued & taken_off)
 }
 
-#[test]
-fn trails(rt: HostRuntime) {
-    let mut trail = Trail::new_in(rt.alloc());
-    let is_right = matches!(keeps_trail(&mut trail), Ok(true));
-    drop(trail);
-    assert!(rt; is_right);
-}
-
 /// Whether reasons and units that were taken off are kept.
 fn keeps_nodes(graph: &mut ImplGraph<Global>) -> Result<bool, AllocError>
     requires { graph.old.nodes.items ≡ [] }
@@ -166,14 +150,6 @@ fn keeps_nodes(graph: &mut ImplGraph<Global>) -> Result<bool, AllocError>
     ];
     let is_long = reason == Reason::Long(ClauseRef::from_offset(4));
     Ok(is_unit & (began == (0, 0)) & is_long & (removed == [false, false, true]))
-}
-
-#[test]
-fn nodes(rt: HostRuntime) {
-    let mut graph = ImplGraph::new_in(rt.alloc());
-    let is_right = matches!(keeps_nodes(&mut graph), Ok(true));
-    drop(graph);
-    assert!(rt; is_right);
 }
 
 /// Whether the order of the literals of a clause of three can be changed.
@@ -214,12 +190,29 @@ fn names_clauses(clauses: &mut ClauseAlloc<Global>) -> Result<bool, StoreError>
     Ok(is_named & is_turned)
 }
 
-#[test]
-fn clauses(rt: HostRuntime) {
-    let mut clauses = ClauseAlloc::new_in(rt.alloc());
-    let is_right = matches!(names_clauses(&mut clauses), Ok(true));
+/// Whether values, trails, nodes and clauses are kept as they should be.
+fn are_right(alloc: Global) -> [bool; 4] {
+    let mut assignment = Assignment::new_in(alloc);
+    let mut trail = Trail::new_in(alloc);
+    let mut graph = ImplGraph::new_in(alloc);
+    let mut clauses = ClauseAlloc::new_in(alloc);
+    let are_right = [
+        matches!(keeps_values(&mut assignment), Ok(true)),
+        matches!(keeps_trail(&mut trail), Ok(true)),
+        matches!(keeps_nodes(&mut graph), Ok(true)),
+        matches!(names_clauses(&mut clauses), Ok(true)),
+    ];
+    drop(assignment);
+    drop(trail);
+    drop(graph);
     drop(clauses);
-    assert!(rt; is_right);
+    are_right
+}
+
+#[test]
+fn parts_are_kept(rt: HostRuntime) {
+    let are_right = are_right(rt.alloc());
+    assert!(rt; are_right == [true; 4], "{are_right:?}");
 }
 
 /// Whether the second variable is noted as a decision at the first level.

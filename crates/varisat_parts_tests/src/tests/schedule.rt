@@ -22,13 +22,6 @@ fn are_terms(terms: &[u64]) -> bool {
     terms.starts_with(first) & (later == [Some(&16), Some(&32), Some(&1)])
 }
 
-#[test]
-fn terms_are_given(rt: HostRuntime) -> Result<(), AllocError> {
-    let terms = terms(rt.alloc(), 64)?;
-    assert!(rt; are_terms(&terms));
-    Ok(())
-}
-
 // The steps that begin with a restart, of so many steps. The first is made at another scale than the others.
 fn restarts(alloc: Global, first: u64, later: u64, steps: u64) -> Result<Vec<u64>, AllocError>
     requires first { 0 < first }
@@ -73,7 +66,9 @@ fn is_right(alloc: Global, row: &Row) -> Result<bool, AllocError> {
 }
 
 #[test]
-fn restarts_are_at_the_points(rt: HostRuntime) -> Result<(), AllocError> {
+fn terms_and_restarts_are_as_they_should_be(rt: HostRuntime) -> Result<(), AllocError> {
+    let terms = terms(rt.alloc(), 64)?;
+    assert!(rt; are_terms(&terms));
     for row in RESTARTS {
         let is_right = is_right(rt.alloc(), row)?;
         assert!(rt; is_right, "with {} and {}", row.0, row.1);

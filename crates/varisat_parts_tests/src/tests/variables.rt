@@ -14,14 +14,6 @@ fn told(data: VarData) -> (Option<bool>, [bool; 3], SamplingMode) {
     (data.unit, flags, data.sampling_mode)
 }
 
-#[test]
-fn data_begins_as_it_should(rt: HostRuntime) {
-    let unused = (None, [true, false, true], SamplingMode::Hide);
-    let named = (None, [true, false, false], SamplingMode::Sample);
-    assert!(rt; told(VarData::default()) == unused);
-    assert!(rt; told(VarData::user_default()) == named);
-}
-
 /// Drops the solver variable, if a global variable has it. The number of that, or 0.
 fn drop_var<A: Allocator + Copy>(
     variables: &mut LinkedVariables<A>,
@@ -96,11 +88,6 @@ fn is_used_again<A: Allocator + Copy>(
     Ok(hidden & is_left & named & is_back)
 }
 
-#[test]
-fn what_is_used_again_starts_fresh(rt: HostRuntime) {
-    assert!(rt; matches!(is_new_one_used_again(rt.alloc()), Ok(true)));
-}
-
 /// Names three names, and hides the third, whose variable clauses hold, and the second. Says whether that was done.
 fn hide_two<A: Allocator + Copy>(variables: &mut LinkedVariables<A>) -> Result<bool, AllocError> {
     let named = name(variables, var!(3))?;
@@ -134,11 +121,6 @@ fn is_shown<A: Allocator + Copy>(variables: &mut LinkedVariables<A>) -> Result<b
     let names = show_two(variables)?;
     let is_listed = listed(variables.variables()) == ([1, 2, 0], [1, 3, 0]);
     Ok(hidden & (names == [2, 0, 0]) & is_listed & is_witness(variables, var!(3)))
-}
-
-#[test]
-fn a_hidden_variable_is_shown(rt: HostRuntime) {
-    assert!(rt; matches!(is_new_one_shown(rt.alloc()), Ok(true)));
 }
 
 /// Whether names are hidden and used again.
@@ -263,12 +245,11 @@ fn is_lent(variables: &mut Variables<Global>) -> Result<bool, AllocError> {
     Ok(were_listed & were_removed & are_listed & (watermarks(variables) == [2, 4, 1]))
 }
 
-#[test]
-fn parts_are_lent(rt: HostRuntime) {
-    let mut variables = Variables::new_in(rt.alloc());
-    let is_right = matches!(is_lent(&mut variables), Ok(true));
+fn is_new_one_lent(alloc: Global) -> Result<bool, AllocError> {
+    let mut variables = Variables::new_in(alloc);
+    let is_right = is_lent(&mut variables);
     drop(variables);
-    assert!(rt; is_right);
+    is_right
 }
 
 /// What comes of the names of a map with none.
@@ -277,10 +258,26 @@ fn no_names(map: &VarBiMap<Global>) -> [Option<Var>; 2] {
     [names.next(), names.next()]
 }
 
-#[test]
-fn an_iterator_stays_at_its_end(rt: HostRuntime) {
-    let map = VarBiMap::new_in(rt.alloc());
+/// An iterator stays at its end.
+fn names_of_none(alloc: Global) -> [Option<Var>; 2] {
+    let map = VarBiMap::new_in(alloc);
     let names = no_names(&map);
     drop(map);
-    assert!(rt; names == [None, None]);
+    names
+}
+
+#[test]
+fn names_are_used_again_and_lent(rt: HostRuntime) -> Result<(), AllocError> {
+    let alloc = rt.alloc();
+    let unused = (None, [true, false, true], SamplingMode::Hide);
+    let named = (None, [true, false, false], SamplingMode::Sample);
+    let data = [told(VarData::default()), told(VarData::user_default())];
+    assert!(rt; data == [unused, named] && names_of_none(alloc) == [None, None]);
+    let are_right = [
+        is_new_one_used_again(alloc)?,
+        is_new_one_shown(alloc)?,
+        is_new_one_lent(alloc)?,
+    ];
+    assert!(rt; are_right == [true; 3], "{are_right:?}");
+    Ok(())
 }

@@ -228,11 +228,6 @@ fn are_formula_outcomes(alloc: Global) -> Result<bool, FormulaError> {
     Ok(are_right)
 }
 
-#[test]
-fn proofs_from_formulas(rt: HostRuntime) {
-    assert!(rt; matches!(are_formula_outcomes(rt.alloc()), Ok(true)));
-}
-
 const CUT_PROOF: &[u8] = b"2 0\nd 1 2 0\n";
 
 /// What the first bytes of a proof of two lines give.
@@ -245,7 +240,8 @@ fn of_beginning(length: usize) -> Outcome {
 }
 
 #[test]
-fn beginnings(rt: HostRuntime) {
+fn beginnings_and_proofs_from_formulas(rt: HostRuntime) {
+    assert!(rt; matches!(are_formula_outcomes(rt.alloc()), Ok(true)));
     for length in 0..CUT_PROOF.len() + 1 {
         let row = (SQUARE, Drat, &CUT_PROOF[..length], of_beginning(length));
         assert!(rt; checks(rt.alloc(), &row), "the first {length} bytes");

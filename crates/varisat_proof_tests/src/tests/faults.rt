@@ -48,16 +48,15 @@ fn fails_behind(alloc: Global, bytes: &'static [u8]) -> (Outcome, bool) {
     (outcome, spent)
 }
 
-#[test]
-fn sources_that_fail(rt: HostRuntime) {
-    let alloc = rt.alloc();
-    assert!(rt; fails_behind(alloc, b"") == (Outcome::Io, true));
-    assert!(rt; fails_behind(alloc, b"1 2 0\n1") == (Outcome::Io, true));
-    assert!(rt; fails_behind(alloc, b"1 2 0\n") == (Outcome::Io, true));
+/// What a source gives before it fails, what its check returns, and whether the checker is spent then.
+const FAILING: [(&[u8], Outcome, bool); 5] = [
+    (b"", Outcome::Io, true),
+    (b"1 2 0\n1", Outcome::Io, true),
+    (b"1 2 0\n", Outcome::Io, true),
     // What stands before the fault is returned first.
-    assert!(rt; fails_behind(alloc, b"1 0\n1 2 0") == (Outcome::CheckFailed(1), false));
-    assert!(rt; fails_behind(alloc, b"1 2 0 x 1 2") == (Outcome::Parse(6), true));
-}
+    (b"1 0\n1 2 0", Outcome::CheckFailed(1), false),
+    (b"1 2 0 x 1 2", Outcome::Parse(6), true),
+];
 
 /// Whether lines that fail leave the clauses that the lines before left.
 fn keeps_clauses(checker: &mut Checker<Global>) -> bool {
@@ -73,14 +72,6 @@ fn keeps_clauses(checker: &mut Checker<Global>) -> bool {
         ProofFormat::Drat,
     );
     left && outcome_of(&again) == Outcome::NoSuchClause(1) && checker.len() == 1
-}
-
-#[test]
-fn lines_that_fail(rt: HostRuntime) {
-    let mut checker = Checker::new_in(rt.alloc());
-    let are_kept = keeps_clauses(&mut checker);
-    drop(checker);
-    assert!(rt; are_kept);
 }
 
 /// Whether a text's fault leaves the clauses before it, and is no end of the checker.
@@ -103,20 +94,39 @@ fn keeps_marked_clauses(checker: &mut Checker<Global>) -> bool {
     failed && checker.len() == 1 && checker.clause(0) == lits![3].as_slice()
 }
 
-#[test]
-fn cores_that_are_not_assumed(rt: HostRuntime) {
-    let mut checker = Checker::new_in(rt.alloc());
-    let are_kept = keeps_marked_clauses(&mut checker);
-    drop(checker);
-    assert!(rt; are_kept);
+/// Whether clauses are kept where lines fail, where a text has a fault, and where a core is not assumed.
+fn are_kept(alloc: Global) -> [bool; 3] {
+    let mut first = Checker::new_in(alloc);
+    let mut second = Checker::new_in(alloc);
+    let mut third = Checker::new_in(alloc);
+    let are_kept = [
+        keeps_clauses(&mut first),
+        keeps_text(&mut second),
+        keeps_marked_clauses(&mut third),
+    ];
+    drop(first);
+    drop(second);
+    drop(third);
+    are_kept
 }
 
 #[test]
-fn texts_with_faults(rt: HostRuntime) {
-    let mut checker = Checker::new_in(rt.alloc());
-    let is_kept = keeps_text(&mut checker);
-    drop(checker);
-    assert!(rt; is_kept);
+fn faults_are_returned(rt: HostRuntime) {
+    for (place, (bytes, outcome, is_spent)) in FAILING.iter().enumerate() {
+        let found = fails_behind(rt.alloc(), *bytes);
+        assert!(rt; found == (*outcome, *is_spent), "row {place}");
+    }
+    assert!(rt; are_kept(rt.alloc()) == [true; 3]);
+}
+
+/// Whether the cause of a source's fault is printed.
+fn prints_cause(alloc: Global) -> bool {
+    let cause = io::Error::from(ErrorKind::Other);
+    let Ok(wanted) = format!(in alloc; "Error reading the proof: {cause}") else {
+        return false;
+    };
+    let error = CheckerError::Io { cause };
+    matches!(format!(in alloc; "{error}"), Ok(printed) if printed == wanted)
 }
 
 #[test]
@@ -155,21 +165,7 @@ fn printed_errors(rt: HostRuntime) {
             matches!(format!(in alloc; "{error}"), Ok(printed) if printed.as_str() == *text)
         );
     }
-}
-
-/// Whether the cause of a source's fault is printed.
-fn prints_cause(alloc: Global) -> bool {
-    let cause = io::Error::from(ErrorKind::Other);
-    let Ok(wanted) = format!(in alloc; "Error reading the proof: {cause}") else {
-        return false;
-    };
-    let error = CheckerError::Io { cause };
-    matches!(format!(in alloc; "{error}"), Ok(printed) if printed == wanted)
-}
-
-#[test]
-fn printed_cause(rt: HostRuntime) {
-    assert!(rt; prints_cause(rt.alloc()));
+    assert!(rt; prints_cause(alloc));
 }
 
 /// What a text and a proof gave, and whether the checker is spent then.

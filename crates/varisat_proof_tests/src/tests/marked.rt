@@ -167,14 +167,7 @@ fn check(alloc: Global, row: &Row, size: usize) -> bool {
     }
 }
 
-#[test]
-fn marked_proofs(rt: HostRuntime) {
-    for i in 0..ROWS.len() {
-        assert!(rt; check(rt.alloc(), &ROWS[i], 1000), "row {i}");
-        assert!(rt; check(rt.alloc(), &ROWS[i], 1), "row {i} in single bytes");
-    }
-}
-
+/// For `check_proof` a mark is no line.
 fn check_plainly(alloc: Global, format: ProofFormat) -> Outcome {
     let mut checker = Checker::new_in(alloc);
     let text: &[u8] = b"1 -1 0 i 1 0";
@@ -183,9 +176,15 @@ fn check_plainly(alloc: Global, format: ProofFormat) -> Outcome {
     outcome
 }
 
-/// For `check_proof` a mark is no line.
 #[test]
-fn marks_are_no_drat(rt: HostRuntime) {
-    assert!(rt; check_plainly(rt.alloc(), ProofFormat::Drat) == Parse(7));
-    assert!(rt; check_plainly(rt.alloc(), ProofFormat::Marked) == Parse(7));
+fn marked_proofs(rt: HostRuntime) {
+    for i in 0..ROWS.len() {
+        assert!(rt; check(rt.alloc(), &ROWS[i], 1000), "row {i}");
+        assert!(rt; check(rt.alloc(), &ROWS[i], 1), "row {i} in single bytes");
+    }
+    let plainly = [
+        check_plainly(rt.alloc(), ProofFormat::Drat),
+        check_plainly(rt.alloc(), ProofFormat::Marked),
+    ];
+    assert!(rt; plainly == [Parse(7), Parse(7)]);
 }

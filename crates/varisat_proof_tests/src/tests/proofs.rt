@@ -91,15 +91,14 @@ fn writes_units(alloc: Global, failing_put: u64, bytes: &[u8], puts: u64) -> boo
     is_right && target.bytes.as_slice() == bytes && target.puts == puts
 }
 
-// Each line is one `put`, and none follows one that failed.
-#[test]
-fn puts_of_units(rt: HostRuntime) {
-    let alloc = rt.alloc();
-    assert!(rt; writes_units(alloc, 0, b"1 0\n-2 0\n3 0\n", 3));
-    assert!(rt; writes_units(alloc, 1, b"", 1));
-    assert!(rt; writes_units(alloc, 2, b"1 0\n", 2));
-    assert!(rt; writes_units(alloc, 3, b"1 0\n-2 0\n", 3));
-}
+/// The number of the `put` that fails, the bytes of the lines of three units that are taken, and the calls of `put`. Each
+/// line is one `put`, and none follows one that failed.
+const UNITS: [(u64, &[u8], u64); 4] = [
+    (0, b"1 0\n-2 0\n3 0\n", 3),
+    (1, b"", 1),
+    (2, b"1 0\n", 2),
+    (3, b"1 0\n-2 0\n", 3),
+];
 
 /// Whether the proof's target took these bytes, and was flushed so many times.
 fn took(proof: &mut Proof<CountingTarget, Global>, bytes: &[u8], flushes: u64) -> bool {
@@ -125,18 +124,13 @@ fn writes_assumptions(alloc: Global, format: ProofFormat, bytes: &[u8]) -> bool 
     is_told && took(&mut proof, bytes, 0)
 }
 
-// Only marked text has lines of what a solver accepts. The literals keep their order, and each stands as often as it was
-// given.
-#[test]
-fn written_inputs(rt: HostRuntime) {
-    let alloc = rt.alloc();
-    assert!(rt; writes_clause(alloc, Marked, b"i 1 -2 1 0\n"));
-    assert!(rt; writes_clause(alloc, Drat, b""));
-    assert!(rt; writes_clause(alloc, BinaryDrat, b""));
-    assert!(rt; writes_assumptions(alloc, Marked, b"q -2 2 0\n"));
-    assert!(rt; writes_assumptions(alloc, Drat, b""));
-    assert!(rt; writes_assumptions(alloc, BinaryDrat, b""));
-}
+/// A format, and what is written of a clause and of assumptions that a solver accepts. Only marked text has lines of these.
+/// The literals keep their order, and each stands as often as it was given.
+const INPUTS: [(ProofFormat, &[u8], &[u8]); 3] = [
+    (Marked, b"i 1 -2 1 0\n", b"q -2 2 0\n"),
+    (Drat, b"", b""),
+    (BinaryDrat, b"", b""),
+];
 
 /// How often a target is flushed at the end of a search, or else by `flush_proof`, and whether the call returns Ok.
 fn flushes(alloc: Global, is_search_end: bool, fails: bool) -> (u64, bool) {
@@ -164,13 +158,30 @@ fn flushes_of_close(alloc: Global, fails: bool) -> (u64, bool) {
     }
 }
 
+/// How often a target is flushed, and whether that returns Ok: by `flush_proof`, at the end of a search, and as the proof
+/// is closed.
+fn all_flushes(alloc: Global, fails: bool) -> [(u64, bool); 3] {
+    [
+        flushes(alloc, false, fails),
+        flushes(alloc, true, fails),
+        flushes_of_close(alloc, fails),
+    ]
+}
+
 #[test]
-fn flushed_targets(rt: HostRuntime) {
+fn targets_take_lines_and_are_flushed(rt: HostRuntime) {
     let alloc = rt.alloc();
-    for is_search_end in [false, true] {
-        assert!(rt; flushes(alloc, is_search_end, false) == (1, true));
-        assert!(rt; flushes(alloc, is_search_end, true) == (1, false));
+    for (failing_put, bytes, puts) in UNITS {
+        assert!(rt;
+            writes_units(alloc, failing_put, bytes, puts),
+            "{failing_put}"
+        );
     }
-    assert!(rt; flushes_of_close(alloc, false) == (1, true));
-    assert!(rt; flushes_of_close(alloc, true) == (1, false));
+    for (format, clause, list) in INPUTS {
+        let is_right = writes_clause(alloc, format, clause)
+            & writes_assumptions(alloc, format, list);
+        assert!(rt; is_right, "{format:?}");
+    }
+    let flushes = [all_flushes(alloc, false), all_flushes(alloc, true)];
+    assert!(rt; flushes == [[(1, true); 3], [(1, false); 3]]);
 }

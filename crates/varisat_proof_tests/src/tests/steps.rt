@@ -18,37 +18,6 @@ fn writes(alloc: Global, step: &ProofStep<'_>, text: &[u8], binary: &[u8]) -> bo
         && binary_target.bytes() == binary
 }
 
-#[test]
-fn written_steps(rt: HostRuntime) {
-    let alloc = rt.alloc();
-    let clause = lits![1, -2];
-    let wide = lits![63, -64];
-    let highest = lits![268435456];
-    let add = ProofStep::AtClause { clause: &clause };
-    let delete = ProofStep::DeleteClause { clause: &wide };
-    let last = ProofStep::AtClause { clause: &highest };
-    let units = ProofStep::UnitClauses { units: &clause };
-    let core = ProofStep::FailedAssumptions {
-        failed_core: &clause,
-    };
-    let dropped = ProofStep::DeleteVar {
-        var: Var::from_index(0),
-    };
-    assert!(rt; writes(alloc, &add, b"1 -2 0\n", b"\x61\x02\x05\x00"));
-    assert!(rt; writes(alloc, &delete, b"d 63 -64 0\n", b"\x64\x7e\x81\x01\x00"));
-    assert!(rt;
-        writes(
-            alloc,
-            &last,
-            b"268435456 0\n",
-            b"\x61\x80\x80\x80\x80\x02\x00"
-        )
-    );
-    assert!(rt; writes(alloc, &units, b"1 0\n-2 0\n", b"\x61\x02\x00\x61\x05\x00"));
-    assert!(rt; writes(alloc, &core, b"", b""));
-    assert!(rt; writes(alloc, &dropped, b"", b""));
-}
-
 /// The variable that is ten further.
 fn ten_further(var: Var) -> Var {
     Var::from_index((var.index() + 10) % 0x1000_0000)
@@ -73,24 +42,41 @@ fn writes_text(alloc: Global, step: &ProofStep<'_>, text: &[u8]) -> bool {
     write_step(&mut target, &mut line, step).is_ok() && target.bytes() == text
 }
 
-#[test]
-fn mapped_steps(rt: HostRuntime) {
-    let alloc = rt.alloc();
+/// Whether steps are written and mapped as they should be.
+fn are_written(alloc: Global) -> [bool; 11] {
     let clause = lits![1, -2];
+    let wide = lits![63, -64];
+    let highest = lits![268435456];
     let add = ProofStep::AtClause { clause: &clause };
-    let units = ProofStep::UnitClauses { units: &clause };
     let delete = ProofStep::DeleteClause { clause: &clause };
+    let delete_wide = ProofStep::DeleteClause { clause: &wide };
+    let last = ProofStep::AtClause { clause: &highest };
+    let units = ProofStep::UnitClauses { units: &clause };
     let core = ProofStep::FailedAssumptions {
         failed_core: &clause,
     };
     let dropped = ProofStep::DeleteVar {
         var: Var::from_index(0),
     };
-    assert!(rt; maps(alloc, &add, b"11 -12 0\n"));
-    assert!(rt; maps(alloc, &units, b"11 0\n-12 0\n"));
-    assert!(rt; maps(alloc, &delete, b"d 11 -12 0\n"));
-    assert!(rt; maps(alloc, &core, b""));
-    assert!(rt; maps(alloc, &dropped, b""));
+    let last_bytes = b"\x61\x80\x80\x80\x80\x02\x00";
+    [
+        writes(alloc, &add, b"1 -2 0\n", b"\x61\x02\x05\x00"),
+        writes(
+            alloc,
+            &delete_wide,
+            b"d 63 -64 0\n",
+            b"\x64\x7e\x81\x01\x00",
+        ),
+        writes(alloc, &last, b"268435456 0\n", last_bytes),
+        writes(alloc, &units, b"1 0\n-2 0\n", b"\x61\x02\x00\x61\x05\x00"),
+        writes(alloc, &core, b"", b""),
+        writes(alloc, &dropped, b"", b""),
+        maps(alloc, &add, b"11 -12 0\n"),
+        maps(alloc, &units, b"11 0\n-12 0\n"),
+        maps(alloc, &delete, b"d 11 -12 0\n"),
+        maps(alloc, &core, b""),
+        maps(alloc, &dropped, b""),
+    ]
 }
 
 /// What a checker of these clauses returns for a step, and how many clauses are present then.
@@ -106,31 +92,44 @@ fn check(alloc: Global, cnf: &'static [u8], step: &ProofStep<'_>) -> (Option<Out
     (outcome, count)
 }
 
-#[test]
-fn checked_steps(rt: HostRuntime) {
-    let alloc = rt.alloc();
-    let (pair, one, core) = (lits![2, 1], lits![2], lits![1, -2]);
+/// What checkers of some clauses return for steps, and how many clauses are present then.
+fn checked(alloc: Global) -> [(Option<Outcome>, usize); 10] {
+    let (pair, one, core, units) = (lits![2, 1], lits![2], lits![1, -2], lits![1, 2, 3, 4]);
     let chain = b"1 0 -1 2 0 -2 3 0".as_slice();
     let add = ProofStep::AtClause { clause: &one };
-    assert!(rt; check(alloc, chain, &add) == (None, 4));
-    assert!(rt; check(alloc, b"1 2 0", &add) == (Some(Outcome::CheckFailed(1)), 1));
     let delete = ProofStep::DeleteClause { clause: &pair };
-    assert!(rt; check(alloc, b"1 2 0 3 0", &delete) == (None, 1));
-    assert!(rt; check(alloc, chain, &delete) == (Some(Outcome::NoSuchClause(1)), 3));
-    let units = lits![1, 2, 3, 4];
     let units = ProofStep::UnitClauses { units: &units };
-    assert!(rt; check(alloc, chain, &units) == (Some(Outcome::CheckFailed(4)), 6));
+    let core = ProofStep::FailedAssumptions { failed_core: &core };
     let dropped = ProofStep::DeleteVar {
         var: Var::from_index(1),
     };
-    assert!(rt; check(alloc, chain, &dropped) == (None, 1));
-    let core = ProofStep::FailedAssumptions { failed_core: &core };
-    assert!(rt; check(alloc, chain, &core) == (None, 3));
-    assert!(rt; check(alloc, b"1 2 0", &core) == (Some(Outcome::CheckFailed(1)), 1));
-    // A step is checked also where the clauses conflict already.
-    assert!(rt; check(alloc, b"1 0 -1 0", &delete) == (Some(Outcome::NoSuchClause(1)), 2));
-    assert!(rt; check(alloc, b"1 0 -1 0", &add) == (None, 3));
+    [
+        check(alloc, chain, &add),
+        check(alloc, b"1 2 0", &add),
+        check(alloc, b"1 2 0 3 0", &delete),
+        check(alloc, chain, &delete),
+        check(alloc, chain, &units),
+        check(alloc, chain, &dropped),
+        check(alloc, chain, &core),
+        check(alloc, b"1 2 0", &core),
+        // A step is checked also where the clauses conflict already.
+        check(alloc, b"1 0 -1 0", &delete),
+        check(alloc, b"1 0 -1 0", &add),
+    ]
 }
+
+const CHECKED: [(Option<Outcome>, usize); 10] = [
+    (None, 4),
+    (Some(Outcome::CheckFailed(1)), 1),
+    (None, 1),
+    (Some(Outcome::NoSuchClause(1)), 3),
+    (Some(Outcome::CheckFailed(4)), 6),
+    (None, 1),
+    (None, 3),
+    (Some(Outcome::CheckFailed(1)), 1),
+    (Some(Outcome::NoSuchClause(1)), 2),
+    (None, 3),
+];
 
 /// Whether what is written of a refutation is checked as one.
 fn writes_refutation(alloc: Global, literal: Lit) -> Option<CheckVerdict> {
@@ -153,7 +152,10 @@ fn writes_refutation(alloc: Global, literal: Lit) -> Option<CheckVerdict> {
 }
 
 #[test]
-fn written_refutation(rt: HostRuntime) {
+fn steps_are_written_and_checked(rt: HostRuntime) {
+    let are_written = are_written(rt.alloc());
+    assert!(rt; are_written == [true; 11], "{are_written:?}");
+    assert!(rt; checked(rt.alloc()) == CHECKED);
     let [literal] = lits![-2];
     assert!(rt; writes_refutation(rt.alloc(), literal) == Some(CheckVerdict::Refutation));
 }

@@ -1,37 +1,21 @@
 -- The steps of a search for a verdict.
-use Rattle.std.proofs.Common.{◌≡◌, ◌≢◌, ℕ, suc, ◌+◌, ◌-◌, ◌*◌, ◌^◌, ◌<◌, ◌≤◌, Bool, true, false, List, [], ◌++◌, length, ◌⊎◌, ⊎_elim, Option, Result, Ok, Err, refl, ap, ◌∙◌, subst, sym, arith}
+use Rattle.std.proofs.Common.{◌≡◌, ◌≢◌, ℕ, suc, ◌+◌, ◌-◌, ◌*◌, ◌^◌, ◌<◌, ◌≤◌, Bool, true, false, length, ◌⊎◌, ⊎_elim, Option, Result, Ok, Err, refl, ap, ◌∙◌, sym, arith}
 use Rattle.std.specs.Result.{IsErr}
 use Rattle.varisat_search.specs.declared.error.StepError.{StepError}
 use Rattle.varisat_search.specs.declared.error.StepError.TheVariants as step
 use Rattle.std.proofs.lemmas.Bool.{cases_lt}
-use Rattle.std.proofs.lemmas.List.{append-nil}
-use Rattle.varisat_theory.specs.Literals.{Clause}
-use Rattle.varisat_theory.specs.Derivations.{Line}
-use Rattle.varisat_theory.specs.Journals.{Entry, Leads, written}
-use Rattle.varisat_theory.proofs.StepCounts.{by_derives}
-use Rattle.varisat_trace.specs.Traces.{TakesStep, HoldsFor, verdict_entries}
-use Rattle.varisat_trace.proofs.Traced.{step-more, holds_lines}
-use Rattle.varisat.specs.Searches.{MakesTold}
-use Rattle.varisat_theory.specs.Searches.{Search}
-use Rattle.varisat_theory.specs.Outcomes.{Outcome, Unknown, Holds, Steps, MakesSteps}
-use Rattle.varisat_theory.proofs.StepsMade.{none_made, one_more_made}
 use Rattle.varisat_names.specs.Settings.{Settings}
 use Rattle.varisat_search.specs.declared.context.Context.{Context}
 use Rattle.varisat_search.specs.declared.state.SatState.TheVariants as verdict
-use Rattle.varisat_search.specs.AssumptionParts.{KeepsAssumptions}
-use Rattle.varisat_search.specs.Contexts.{view, IsReady}
-use Rattle.varisat_search.specs.Decisions.{SameDecidable}
-use Rattle.varisat_search.specs.Seen.{search_of}
-use Rattle.varisat_search.proofs.AssumptionSteps.{keeps-after-steps}
-use Rattle.varisat_prop.specs.View.{kinds}
+use Rattle.varisat_search.specs.Contexts.{IsReady}
 use Rattle.varisat_schedule.specs.Plans.{Plan, IsPlan, next_plan}
-use Rattle.varisat_schedule.specs.CallSteps.{steps_since, IsPlannedStep}
+use Rattle.varisat_schedule.specs.CallSteps.{steps_since}
 use Rattle.varisat.specs.Budgets.{told_verdict, CountsSteps}
 use Rattle.varisat.specs.SinceChange.{call_from, HasComeSince, GoesOnSince, CountsSince}
 use Rattle.varisat.specs.declared.solver.SolverError.{SolverError}
 use Rattle.varisat.specs.declared.solver.SolverError.TheVariants.{Interrupted}
 use Rattle.varisat.specs.Refusals.{step_refusal}
-use Rattle.varisat.proofs.SinceSteps.{come-now, come-step, few-since}
+use Rattle.varisat.proofs.SinceSteps.{come-now, few-since}
 
 -- The search came on within its budget, since whatever moment it came to the first context.
 pub record HasMade {A : Type 0} (x y : Context A) (max_steps : ℕ) : Type 0 where
@@ -60,17 +44,9 @@ refused-counts n max_steps since before after made b e count budget bounded = re
   spent = λ f. absurd (no-interrupt e b (Err (step_refusal b e)) refl f);
 }
 
--- no step was made before
-pub none-counted : (n max_steps since before after : ℕ) (b : Bool) (e : StepError) → since < 2 ^ (2 * n + 3) → after ≡ before → CountsSteps n max_steps since before after (Err (step_refusal b e))
-none-counted n max_steps since before after b e h q = refused-counts n max_steps since before after 0 b e (omega (arith, q)) (omega arith) (omega (arith, h))
-
 -- whether a proof is open is nothing to the count
 pub refused-as : (n max_steps since before after : ℕ) (a b : Bool) (e : StepError) → CountsSteps n max_steps since before after (Err (step_refusal a e)) → CountsSteps n max_steps since before after (Err (step_refusal b e))
 refused-as n max_steps since before after a b e k = refused-counts n max_steps since before after k.made b e k.count k.budget k.bounded
-
--- a core that was found could not be kept
-pub counts-unnamed : (n max_steps since before after : ℕ) (b : Bool) (e : StepError) → CountsSteps n max_steps since before after (Ok b) → CountsSteps n max_steps since before after (Err (step_refusal true e))
-counts-unnamed n max_steps since before after b e k = refused-counts n max_steps since before after k.made true e k.count k.budget k.bounded
 
 -- What is known as the search came from the first context to the second.
 pub record Searching {A : Type 0} (x y : Context A) (max_steps : ℕ) : Type 0 where
@@ -134,26 +110,6 @@ module _ {A : Type 0} {x y : Context A} {max_steps : ℕ} (d : Searching x y max
     pub counts-refused : (error : StepError) (steps : ℕ) → steps ≡ y.schedule.steps → (n : ℕ) → length x.assignment.current ≤ n → CountsSteps n max_steps (x.schedule.steps - changed_at) x.schedule.steps steps (Err (step_refusal true error))
     counts-refused error steps e n h = refused-counts n max_steps (x.schedule.steps - changed_at) x.schedule.steps steps (steps_since x.schedule y.schedule) true error (e ∙ so-far) d.made.budget (let b = few-both n h in omega (arith, b))
 
--- Lines of steps that a tracer takes, by the laws of a trait.
-module _ {Q : Type 0} (holds : Q → List Clause → Type 0) (takes : Q → List Entry → Q → Type 0) where
-  -- the lines of the steps, where no verdict is known
-  pub no-lines : ((x : Q) → takes x [] x) → (a : Q) (p : Plan) (s : Search) → MakesTold takes a a (steps_since p p) s s Unknown
-  no-lines takes_none a p s = let z : 0 ≡ steps_since p p = omega arith in ([], subst (λ k. MakesSteps k s s Unknown []) z (none_made s), takes_none a)
-
-  more-lines : ((x y z : Q) (first second : List Entry) → takes x first y → takes y second z → takes x (first ++ second) z) → (a b d : Q) (made : ℕ) (p r : Plan) (s t u : Search) (v : Outcome) → suc made ≡ steps_since p r → MakesTold takes a b made s t Unknown → ((lines : List Line) × Steps t u v lines × TakesStep takes b lines v d) → MakesTold takes a d (steps_since p r) s u v
-  more-lines takes_more a b d made p r s t u v e (first, q, i) (second, k, j) =
-      (first ++ second, subst (λ m. MakesSteps m s u v (first ++ second)) e (one_more_made made s t u v first second q k), step-more takes takes_more a b d first second v (plain-step first i) j)
-    where
-      plain-step : (first : List Line) → takes a (written first ++ []) b → takes a (written first) b
-      plain-step first i = subst (λ es. takes a es b) (append-nil (written first)) i
-
-  -- after a step without a verdict it may hold what fits the search then
-  pub holds-step : ((x y : Q) (entries : List Entry) (held after : List Clause) → takes x entries y → holds x held → Leads held entries after → holds y after) → (a b : Q) (s t : Search) (v : Outcome) → v ≡ Unknown → HoldsFor (holds a) s → ((lines : List Line) × Steps s t v lines × TakesStep takes a lines v b) → HoldsFor (holds b) t
-  holds-step holds_after a b s t v e (held, h, f) (lines, k, j) =
-      let (after, d, o, n) = k.holds held f in
-      let i = subst (λ es. takes a es b) (ap (λ w. written lines ++ verdict_entries w) e ∙ append-nil (written lines)) j in
-      (after, holds_lines holds takes holds_after a b lines held after i h (by_derives 1 held lines after d), subst (Holds after t) e o)
-
 pub told-refused : (r : Result (Option Bool) StepError) → IsErr r → (e : StepError) × (told_verdict r ≡ Err (step_refusal true e))
 told-refused (Ok x) h = absurd (let z : false ≡ true = h in cc)
 told-refused (Err e) h = (e, refl)
@@ -169,39 +125,32 @@ room q steps e l n =
 -- The contexts of a step of the call that began with x: before it and after it.
 pub record Stepping {A : Type 0} (x y z : Context A) (max_steps : ℕ) : Type 0 where
   pub searching : Searching x y max_steps
-  pub assumes : KeepsAssumptions (search_of (view x)) Unknown x.assumptions y.assumptions
   pub left : steps_since x.schedule y.schedule ≢ max_steps
-  pub countable : y.schedule.steps < 2 ^ 64 - 1
   pub next : z.schedule ≡ next_plan y.solver_config.luby_restart_interval_scale y.schedule
-  pub ready : IsReady z
-  pub same_config : z.solver_config ≡ y.solver_config
   pub same_count : length z.assignment.current ≡ length y.assignment.current
-  pub decidable : SameDecidable (view y) y.vsids (view z) z.vsids
 
 module _ {A : Type 0} {x y z : Context A} {max_steps : ℕ} (d : Stepping x y z max_steps) where
   counted : z.schedule.steps ≡ suc y.schedule.steps
   counted = ap (λ (p : Plan). p.steps) d.next
 
-  one-more : suc (steps_since x.schedule y.schedule) ≡ steps_since x.schedule z.schedule
+  pub one-more : steps_since x.schedule y.schedule + 1 ≡ steps_since x.schedule z.schedule
   one-more = let k = not-less d.searching in let e = counted in omega (arith, k, e)
+
+  -- a step was made
+  pub stepping-moved : z.schedule.steps ≡ x.schedule.steps → ⊥
+  stepping-moved e = let k = not-less d.searching in let f = counted in omega (arith, k, e, f)
 
   within : suc (steps_since x.schedule y.schedule) ≤ max_steps
   within =
       let k = d.searching.made.budget in
       ⊎_elim (λ (a : steps_since x.schedule y.schedule < max_steps). omega (arith, a)) (λ (a : max_steps ≤ steps_since x.schedule y.schedule). absurd (d.left (omega (arith, k, a)))) (cases_lt (steps_since x.schedule y.schedule) max_steps)
 
-  pub stepping-goes-on : IsPlannedStep y.schedule (kinds (view y)) (kinds (view z)) → HasMade x z max_steps
+  pub stepping-goes-on : GoesOnSince y z → HasMade x z max_steps
   stepping-goes-on s = record {
     plan = d.searching.made.plan;
-    since = λ c k. come-step y z d.ready (scaled-here d.searching) d.countable s d.next d.same_config d.same_count d.decidable c (d.searching.made.since c k);
+    since = λ c k. s c (d.searching.made.since c k);
     budget = let a = within in let k = one-more in omega (arith, a, k);
   }
-
-  pub stepping-lines : {Q : Type 0} (holds : Q → List Clause → Type 0) (takes : Q → List Entry → Q → Type 0) → ((x y z : Q) (first second : List Entry) → takes x first y → takes y second z → takes x (first ++ second) z) → (a b e : Q) (v : Outcome) → MakesTold takes a b (steps_since x.schedule y.schedule) (search_of (view x)) (search_of (view y)) Unknown → ((lines : List Line) × Steps (search_of (view y)) (search_of (view z)) v lines × TakesStep takes b lines v e) → MakesTold takes a e (steps_since x.schedule z.schedule) (search_of (view x)) (search_of (view z)) v
-  stepping-lines holds takes takes_more a b e v made k = more-lines holds takes takes_more a b e (steps_since x.schedule y.schedule) x.schedule z.schedule (search_of (view x)) (search_of (view y)) (search_of (view z)) v one-more made k
-
-  pub stepping-keeps : (lines : List Line) → MakesSteps (steps_since x.schedule y.schedule) (search_of (view x)) (search_of (view y)) Unknown lines → (v : Outcome) → KeepsAssumptions (search_of (view y)) v y.assumptions z.assumptions → KeepsAssumptions (search_of (view x)) v x.assumptions z.assumptions
-  stepping-keeps lines made v k = keeps-after-steps (steps_since x.schedule y.schedule) (search_of (view x)) (search_of (view y)) lines v x.assumptions y.assumptions z.assumptions made d.assumes k
 
   -- it finds a verdict
   pub stepping-counts : (b : Bool) (n changed_at : ℕ) → length x.assignment.current ≤ n → CountsSince changed_at x → CountsSteps n max_steps (x.schedule.steps - changed_at) x.schedule.steps z.schedule.steps (Ok b)

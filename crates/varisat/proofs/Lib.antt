@@ -53,6 +53,7 @@ pub mod ShownStates
 pub mod ShownInTurn
 pub mod SolveVerdict
 pub mod SolverCalls
+pub mod SolverSteps
 pub mod SinceSteps
 pub mod ToldJournals
 pub mod RunsTold

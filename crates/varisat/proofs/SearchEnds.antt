@@ -50,6 +50,7 @@ ends-well s t (Err Interrupted) h v = record {
   rest = like-searched _ t h.rest;
   told = h.told;
   adds = h.adds;
+  still = λ e. ap once_searched (h.still e);
 }
 ends-well s t (Err Invalid) h v = let z : false ≡ true = sym h.0 ∙ ap (λ (x : State). is_valid x) (sym h.1) ∙ v in absurd cc
 ends-well s t (Err OutOfMemory) h v = absurd (invalid-valid _ t h.2 v)

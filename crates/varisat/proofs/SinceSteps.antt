@@ -1,18 +1,22 @@
 -- A search comes on: by steps, by propagation between them, and as variables leave it.
-use Rattle.std.proofs.Common.{◌≡◌, ◌≢◌, ℕ, zero, suc, ◌+◌, ◌-◌, ◌*◌, ◌^◌, ◌<◌, ◌≤◌, ◌↔◌, Bool, true, false, not, ◌||◌, nat_eq, eq-eqb, Some, None, List, [], ◌∷◌, ◌++◌, length, map, get_or, replicate, inl, inr, ⊎_elim, refl, sym, ap, ◌∙◌, subst, arith, pow_pos}
+use Rattle.std.proofs.Common.{◌≡◌, ◌≢◌, ℕ, zero, suc, pred, ◌+◌, ◌-◌, ◌*◌, ◌^◌, ◌<◌, ◌≤◌, ◌↔◌, Bool, true, false, not, ◌||◌, nat_eq, eq-eqb, if◌then◌else◌, Some, None, List, [], ◌∷◌, ◌++◌, length, map, get_or, replicate, inl, inr, ⊎_elim, refl, sym, ap, ◌∙◌, subst, arith, pow_pos, append_assoc}
 use Rattle.std.specs.Prelude.{cond}
 use Rattle.std.specs.List.{filter}
-use Rattle.std.proofs.lemmas.List.{length-map, length-append}
+use Rattle.std.proofs.lemmas.List.{length-map, length-append, length-replicate, replicate-append-replicate}
 use Rattle.varisat_theory.specs.Membership.{◌∈◌, IsDistinct}
 use Rattle.varisat_theory.specs.Literals.{Literal, variable_of}
 use Rattle.varisat_theory.specs.Derivations.{Line}
 use Rattle.varisat_theory.proofs.Members.{∈-append_cases}
+use Rattle.varisat_theory.specs.Rank.{rank, with_units}
 use Rattle.varisat_theory.proofs.Places.{place_in}
+use Rattle.varisat_theory.proofs.Ranks.{rank_grows, rank_steady}
 use Rattle.varisat_theory.proofs.Renaming.{map-∈}
 use Rattle.varisat_literals.specs.Numbers.{polarity_of}
-use Rattle.varisat_schedule.specs.Plans.{Plan, IsPlan, first_plan, next_plan, PlannedCall}
-use Rattle.varisat_schedule.specs.CallSteps.{steps_since, IsPlannedStep, HasComeWithout}
-use Rattle.varisat_schedule.proofs.StepsWithout.{begins-anywhere, goes-on-without, trail-may-grow, units-may-leave, is-short-without}
+use Rattle.varisat_theory.specs.Luby.{luby, saturated}
+use Rattle.varisat_schedule.specs.Plans.{Plan, IsPlan, IsDue, first_plan, step_begun, next_plan, PlannedCall}
+use Rattle.varisat_schedule.specs.CallSteps.{steps_since, HasComeTo, HasComeWithout}
+use Rattle.varisat_schedule.proofs.CallSteps.{goes-on}
+use Rattle.varisat_schedule.proofs.StepsWithout.{begins-anywhere, length-with-units, is-short-without}
 use Rattle.varisat_prop.specs.Leaving.{leaves, staying}
 use Rattle.varisat_prop.specs.View.{View, WellFormed, node_of, is_clause, is_implied, level_of, kinds}
 use Rattle.varisat_prop.proofs.DistinctPlaces.{distinct-below}
@@ -21,13 +25,15 @@ use Rattle.varisat_prop.proofs.SimplifiedPairs.{∈-filter}
 use Rattle.varisat_vsids.specs.Activities.{Activities}
 use Rattle.varisat_names.specs.Settings.{Settings}
 use Rattle.varisat_search.specs.declared.context.Context.{Context}
-use Rattle.varisat_search.specs.declared.state.SolverState.{SolverState}
 use Rattle.varisat_search.specs.Contexts.{view, IsReady}
 use Rattle.varisat_search.specs.Decisions.{HasActivities, IsDecidable, SameDecidable}
+use Rattle.varisat_search.specs.DueReductions.{BeginsStep}
 use Rattle.varisat_search.specs.Forgotten.{IsWithout}
+use Rattle.varisat_search.specs.Progress.{RaisesRank}
 use Rattle.varisat_search.specs.SettledUnits.{GoesOnByLines, IsSettledDown}
+use Rattle.varisat_search.proofs.DecidableVariables.{same-trans}
 use Rattle.varisat_search.proofs.ForgottenViews.{trail-distinct, distinct-left}
-use Rattle.varisat.specs.SinceChange.{call_from, HasComeSince, GoesOnSince, CountsSince}
+use Rattle.varisat.specs.SinceChange.{call_from, HasComeSince, HasBegunWithout, HasBegunSince, GoesOnWithin, BeginsWithin, CountsSince}
 
 -- 1. Variables that may be decided.
 
@@ -84,30 +90,85 @@ come-now x r p =
 room-same : {A : Type 0} (x y : Context A) (n m : ℕ) → SameDecidable (view x) x.vsids (view y) y.vsids → ((vs : List ℕ) → IsDistinct vs → ((v : ℕ) → v ∈ vs → IsDecidable (view x) x.vsids v) → n + length vs ≤ m) → (vs : List ℕ) → IsDistinct vs → ((v : ℕ) → v ∈ vs → IsDecidable (view y) y.vsids v) → n + length vs ≤ m
 room-same x y n m g room vs d h = room vs d (λ v i. (g v).1 (h v i))
 
--- by a step
-pub come-step : {A : Type 0} (x y : Context A) → IsReady y → 0 < x.solver_config.luby_restart_interval_scale → x.schedule.steps < 2 ^ 64 - 1 → IsPlannedStep x.schedule (kinds (view x)) (kinds (view y)) → y.schedule ≡ next_plan x.solver_config.luby_restart_interval_scale x.schedule → y.solver_config ≡ x.solver_config → length y.assignment.current ≡ length x.assignment.current → SameDecidable (view x) x.vsids (view y) y.vsids → GoesOnSince x y
-come-step x y r h l s e f n g c k =
-    let room = room-same x y k.units c.variables g k.room in
-    let positive : 0 < c.scale = let z = k.scale in omega (arith, h, z) in
+-- as a step begins
+begun-without : (c : PlannedCall) (q : Plan) (units : ℕ) (before trail : List Bool) → 0 < c.scale → q.steps < 2 ^ 64 - 1 → ((IsDue q → ⊥) → trail ≡ before) → HasComeWithout c q units before → HasBegunWithout c q units trail
+begun-without c q units before trail h l same r after rises short =
+    let m = c.variables in
+    let first = with_units units before in
+    let last = with_units units after in
+    let a : length first ≤ m = (let n = length-with-units units before in let k = r.short in omega (arith, n, k)) in
+    let b : length last ≤ m = (let n = length-with-units units after in omega (arith, n, short)) in
+    let up = rises m (omega arith) in
     record {
-      units = k.units;
-      come = subst (λ p. HasComeWithout c p k.units (kinds (view y))) (sym (e ∙ ap (λ z. next_plan z x.schedule) (sym k.scale))) (goes-on-without c x.schedule k.units (kinds (view x)) (kinds (view y)) positive l s (trail-room c k.units y r room) k.come);
-      scale = k.scale ∙ sym (ap (λ (z : Settings). z.luby_restart_interval_scale) f);
-      variables = k.variables ∙ sym n;
-      room = room;
+      come = goes-on c q first last h l a (record {
+        rises = λ d n k. rank_steady m n first last a b k (subst (λ ks. rank m (with_units units ks) < rank m last) (same d) up);
+        restarts = λ d n k. rank_steady m n [] last (omega arith) b (omega arith) (omega (arith, up));
+      }) r.come;
+      short = short;
     }
 
--- as units are settled before one
-pub come-settled : {A : Type 0} (are : List Line → Type 0) (x y : Context A) → GoesOnByLines are x y → y.schedule ≡ x.schedule → y.solver_config ≡ x.solver_config → GoesOnSince x y
-come-settled are x y g e f c k =
-    let room = room-same x y k.units c.variables g.decidable k.room in
-    let (more, q) = g.kinds_more in
-    let b : k.units + length (kinds (view x) ++ more) ≤ c.variables = subst (λ ks. k.units + length ks ≤ c.variables) q (trail-room c k.units y g.ready room) in
+pub come-begun : {A : Type 0} (are : List Line → Type 0) (x z : Context A) → IsReady x → 0 < x.solver_config.luby_restart_interval_scale → x.schedule.steps < 2 ^ 64 - 1 → BeginsStep are x z → z.solver_config ≡ x.solver_config → length z.assignment.current ≡ length x.assignment.current → BeginsWithin x z
+come-begun are x z r h l b f n c k =
+    let t = b.begun in
+    let decidable = same-trans (view x) x.vsids (view t) t.vsids (view z) z.vsids b.decidable b.reduces.decidable in
+    let positive : 0 < c.scale = let e = k.scale in omega (arith, h, e) in
     record {
       units = k.units;
-      come = subst (λ p. HasComeWithout c p k.units (kinds (view y))) (sym e) (subst (HasComeWithout c x.schedule k.units) (sym q) (trail-may-grow c x.schedule k.units (kinds (view x)) more b k.come));
+      begun = begun-without c x.schedule k.units (kinds (view x)) (kinds (view z)) positive l (λ d. b.reduces.assigned.kinds_stay ∙ ap kinds (b.restarts.stays d)) k.come;
+      scale = k.scale ∙ sym (ap (λ (s : Settings). s.luby_restart_interval_scale) f);
+      variables = k.variables ∙ sym n;
+      room = room-same x z k.units c.variables decidable k.room;
+    }
+
+-- as units are settled inside of it
+pub come-settled : {A : Type 0} (are : List Line → Type 0) (x y : Context A) → GoesOnByLines are x y → y.solver_config ≡ x.solver_config → GoesOnWithin x y
+come-settled are x y g f c q k =
+    let (more, e) = g.kinds_more in
+    let first = with_units k.units (kinds (view x)) in
+    record {
+      units = k.units;
+      begun = λ after rises short.
+          k.begun after
+          (λ n v.
+          let a = rises n v in
+          let b = rank_grows n first more in
+          let same : rank n (with_units k.units (kinds (view y))) ≡ rank n (first ++ more) = ap (rank n) (ap (with_units k.units) e ∙ sym (append_assoc (replicate k.units true) (kinds (view x)) more)) in
+          omega (arith, a, b, same))
+          short;
       scale = k.scale ∙ sym (ap (λ (z : Settings). z.luby_restart_interval_scale) f);
       variables = k.variables ∙ sym g.extends.count;
+      room = room-same x y k.units c.variables g.decidable k.room;
+    }
+
+-- and as it ends
+
+-- no step is counted as it begins
+pub steps-begun : (scale : ℕ) (p : Plan) → (step_begun scale p).steps ≡ p.steps
+steps-begun scale p = go (nat_eq p.steps p.next_restart) (record { steps = p.steps; next_restart = saturated (p.next_restart + saturated (scale * luby p.next_term)); next_term = suc p.next_term }) refl
+  where
+    go : (b : Bool) (q : Plan) → q.steps ≡ p.steps → (if b then q else p).steps ≡ p.steps
+    go true q e = e
+    go false q e = refl
+
+pub step-ended : (scale : ℕ) (p q r : Plan) → q ≡ step_begun scale p → r ≡ record q { steps = suc q.steps } → r ≡ next_plan scale p
+step-ended scale p q r e f =
+    f ∙ ap (λ (z : Plan). record z { steps = suc z.steps }) e ∙ ap (λ n. record (step_begun scale p) { steps = suc n }) (steps-begun scale p)
+
+units-raise : (u n : ℕ) (a b : List Bool) → ((m : ℕ) → length a ≤ m → rank m a < rank m b) → u + length a ≤ n → rank n (with_units u a) < rank n (with_units u b)
+units-raise zero n a b r h = r n (omega (arith, h))
+units-raise (suc u) n a b r h = let i = units-raise u (pred n) a b r (omega (arith, h)) in omega (arith, i)
+
+pub come-ended : {A : Type 0} (c : PlannedCall) (q : Plan) (y z : Context A) → IsReady y → IsReady z → RaisesRank y z → z.schedule ≡ next_plan y.solver_config.luby_restart_interval_scale q → z.solver_config ≡ y.solver_config → length z.assignment.current ≡ length y.assignment.current → SameDecidable (view y) y.vsids (view z) z.vsids → HasBegunSince c q y → HasComeSince c z
+come-ended c q y z ry rz up e f n g k =
+    let room = room-same y z k.units c.variables g k.room in
+    let here = trail-room c k.units y ry k.room in
+    let flags = kinds-length (view y) in
+    record {
+      units = k.units;
+      come = subst (λ p. HasComeWithout c p k.units (kinds (view z))) (sym (e ∙ ap (λ s. next_plan s q) (sym k.scale)))
+          (k.begun (kinds (view z)) (λ m v. units-raise k.units m (kinds (view y)) (kinds (view z)) (λ j b. up j (omega (arith, b, flags))) (omega (arith, here, v))) (trail-room c k.units z rz room));
+      scale = k.scale ∙ sym (ap (λ (s : Settings). s.luby_restart_interval_scale) f);
+      variables = k.variables ∙ sym n;
       room = room;
     }
 
@@ -153,8 +214,26 @@ distinct-append [] ys d e n = e
 distinct-append (x ∷ xs) ys d e n =
     ((λ h. ⊎_elim (λ i. d.0 i) (λ i. n x (inl refl) i) (∈-append_cases x xs ys h)), distinct-append xs ys d.1 e (λ v i j. n v (inr i) j))
 
-pub come-dropped : {A : Type 0} (gone : List Bool) (x y : Context A) → IsReady x → IsSettledDown (view x) → IsReady y → IsWithout gone (view x) (view y) → ((v : ℕ) → IsDecidable (view y) y.vsids v ↔ (IsDecidable (view x) x.vsids v × (leaves gone v ≡ false))) → y.schedule ≡ x.schedule → y.solver_config ≡ x.solver_config → GoesOnSince x y
-come-dropped gone x y r d q w dec e f c k =
+-- units that leave stand in front of the trail
+in-front : (units left : ℕ) (trail : List Bool) → with_units units (replicate left true ++ trail) ≡ with_units (units + left) trail
+in-front units left trail = sym (append_assoc (replicate units true) (replicate left true) trail) ∙ ap (λ ks. ks ++ trail) (replicate-append-replicate units left true)
+
+units-left : (c : PlannedCall) (q : Plan) (units left : ℕ) (trail : List Bool) → HasBegunWithout c q units (replicate left true ++ trail) → HasBegunWithout c q (units + left) trail
+units-left c q units left trail begun after rises short =
+    let front = replicate left true in
+    let long = length-append front after in
+    let many = length-replicate left true in
+    let r = begun (front ++ after)
+    (λ n v.
+    let up = rises n v in
+    let a = ap (rank n) (in-front units left trail) in
+    let b = ap (rank n) (in-front units left after) in
+    omega (arith, up, a, b))
+    (omega (arith, short, long, many)) in
+    record { come = subst (HasComeTo c (next_plan c.scale q)) (in-front units left after) r.come; short = short }
+
+pub come-dropped : {A : Type 0} (gone : List Bool) (x y : Context A) → IsReady x → IsSettledDown (view x) → IsReady y → IsWithout gone (view x) (view y) → ((v : ℕ) → IsDecidable (view y) y.vsids v ↔ (IsDecidable (view x) x.vsids v × (leaves gone v ≡ false))) → y.solver_config ≡ x.solver_config → GoesOnWithin x y
+come-dropped gone x y r d q w dec f c p k =
     let s = view x in
     let t = view y in
     let going = leaving gone s.trail in
@@ -166,9 +245,7 @@ come-dropped gone x y r d q w dec e f c k =
     let is : kinds t ≡ replicate stay true = all-implied t q.well decisions ∙ ap (λ (ls : List Literal). replicate (length ls) true) trail in
     record {
       units = k.units + left;
-      come = subst (λ p. HasComeWithout c p (k.units + left) (kinds t)) (sym e)
-          (subst (HasComeWithout c x.schedule (k.units + left)) (sym is)
-          (units-may-leave c x.schedule k.units left stay (subst (HasComeWithout c x.schedule k.units) was k.come)));
+      begun = units-left c p k.units left (kinds t) (subst (HasBegunWithout c p k.units) (was ∙ sym (replicate-append-replicate left stay true) ∙ ap (λ ks. replicate left true ++ ks) (sym is)) k.begun);
       scale = k.scale ∙ sym (ap (λ (z : Settings). z.luby_restart_interval_scale) f);
       variables = k.variables ∙ sym (ap (λ (u : View). length u.values) w.rest ∙ cleared-length gone None s.values);
       room = λ vs dv h.
@@ -196,16 +273,6 @@ pub few-since : {A : Type 0} (c : PlannedCall) (x : Context A) (n : ℕ) → 0 <
 few-since c x n h v k =
     is-short-without c x.schedule k.units (kinds (view x)) n (let z = k.scale in omega (arith, h, z)) (let z = k.variables in omega (arith, v, z)) k.come
 
--- a core over names makes no difference
-pub since-named : {A : Type 0} (changed_at : ℕ) (x : Context A) (core : List Literal) → CountsSince changed_at x → CountsSince changed_at (record x { assumptions = record x.assumptions { user_core = core } })
-since-named changed_at x core r = record {
-  low = r.low;
-  few = r.few;
-  come = λ u.
-      let (c, e, k) = r.come u in
-      (c, e, record { units = k.units; come = k.come; scale = k.scale; variables = k.variables; room = k.room });
-}
-
 -- 7. What a solver keeps of the steps since its last change.
 
 -- none was made yet
@@ -215,16 +282,6 @@ since-now changed_at x e r p = record {
   few = λ n h. let b = pow_pos (2 * n + 3) in omega (arith, b, e);
   come = λ u. (call_from x, sym e, come-now x r p);
 }
-
--- no step was made as it went on
-pub since-on : {A : Type 0} (changed_at : ℕ) (x y : Context A) → GoesOnSince x y → y.schedule ≡ x.schedule → length y.assignment.current ≡ length x.assignment.current → y.solver_state ≡ x.solver_state → CountsSince changed_at x → CountsSince changed_at y
-since-on changed_at x y g e n f r =
-    let steps = ap (λ (p : Plan). p.steps) e in
-    record {
-      low = let l = r.low in omega (arith, l, steps);
-      few = λ m h. let b = r.few m (omega (arith, h, n)) in omega (arith, b, steps);
-      come = λ u. let (c, q, k) = r.come (sym (ap (λ (s : SolverState). s.sat_state) f) ∙ u) in (c, q, g c k);
-    }
 
 pub first-plan-is : IsPlan first_plan
 first-plan-is = record { ahead = omega arith; small = omega arith; positive = omega arith; few = omega arith; fewer = omega arith }

@@ -1,5 +1,5 @@
 -- What the solver's calls do to the states that it stands for.
-use Rattle.std.proofs.Common.{Result, Ok, Err, Vec, ◌≡◌, ◌↔◌, if◌then◌else◌, ℕ, zero, suc, ◌+◌, ◌-◌, ◌*◌, ◌^◌, ◌<◌, ◌≤◌, Bool, true, false, not, Option, Some, None, List, [], ◌∷◌, ◌++◌, ◌⊎◌, inl, inr, ⊎_elim, length, map, get_or, sym, ap, ◌∙◌, subst, refl, arith, append_assoc}
+use Rattle.std.proofs.Common.{Result, Ok, Err, Vec, ◌≡◌, ◌↔◌, if◌then◌else◌, ℕ, zero, suc, ◌+◌, ◌-◌, ◌*◌, ◌^◌, ◌<◌, ◌≤◌, Bool, true, false, Option, Some, None, List, [], ◌∷◌, ◌++◌, ◌⊎◌, inl, inr, ⊎_elim, length, map, get_or, sym, ap, ◌∙◌, subst, refl, arith, append_assoc}
 use Rattle.varisat_theory.specs.Membership.{◌∈◌}
 use Rattle.varisat_theory.specs.Literals.{Literal, Clause, Assignment, variable_of, literal_of, IsSatisfiableWith, IsFailedCore}
 use Rattle.varisat_literals.specs.Numbers.{polarity_of}
@@ -10,24 +10,18 @@ use Rattle.varisat_theory.specs.Outcomes as outcome
 use Rattle.varisat_theory.proofs.Renaming.{map-∈}
 use Rattle.varisat_prop.proofs.LiteralValues.{same-literal}
 use Rattle.varisat_theory.proofs.StepStands.{first_stands}
-use Rattle.varisat_theory.proofs.StepsMade.{none_made, part_after_made}
 use Rattle.varisat_prop.specs.Parts.{IsMadeTrue, is_true_value}
 use Rattle.varisat_prop.specs.View.{View, WellFormed}
 use Rattle.varisat_search.specs.declared.state.SatState.{SatState}
 use Rattle.varisat_search.specs.declared.state.SatState.TheVariants as verdict
 use Rattle.varisat_search.specs.declared.context.Context.{Context}
 use Rattle.varisat_search.specs.AssumptionParts.{AssumptionParts, no_assumptions, KeepsAssumptions}
-use Rattle.varisat_search.specs.declared.state.SolverState.{SolverState}
-use Rattle.varisat_search.specs.Contexts.{view, IsReady, KeepsSchedule}
-use Rattle.varisat_schedule.specs.Plans.{Plan}
-use Rattle.varisat_names.specs.Settings.{Settings}
+use Rattle.varisat_search.specs.Contexts.{view, IsReady}
 use Rattle.varisat_search.specs.Decisions.{IsDecidable}
 use Rattle.varisat_search.specs.Seen.{search_of, outcome_of, first_search}
-use Rattle.varisat_search.specs.SettledUnits.{GoesOnByLines}
 use Rattle.varisat_search.specs.Steps.{assignment_of}
 use Rattle.varisat_search.specs.GlobalModels.{value_or_unit, IsGlobalModel}
 use Rattle.varisat_search.proofs.StepOutcome.{variable-literal, polarity-literal}
-use Rattle.varisat_search.proofs.AssumptionSteps.{keeps-refl}
 use Rattle.varisat_names.specs.Maps.{chain}
 use Rattle.varisat_names.specs.VarMap.{at, IsLeastUnmapped}
 use Rattle.varisat_names.specs.VarData.{kept_at}
@@ -35,48 +29,40 @@ use Rattle.varisat_names.specs.Variables.{Tables, no_variables, IsGiven}
 use Rattle.varisat_names.proofs.Maps.{chain-none, chain-some, chain-through, is-some}
 use Rattle.varisat.specs.Budgets.{CountsSteps}
 use Rattle.varisat.specs.declared.solver.SolverError.{SolverError}
-use Rattle.varisat.specs.declared.solver.SolverError.TheVariants.{Interrupted}
-use Rattle.varisat.specs.States.{State, Ledger, Verdict, Unknown, Sat, Unsat, UnsatUnderAssumptions, HasRightVerdict, IsRight, empty_state}
+use Rattle.varisat.specs.States.{State, Ledger, Verdict, Unknown, Sat, Unsat, UnsatUnderAssumptions, IsRight, empty_state}
 use Rattle.varisat.specs.Names.{Naming, bring, bring_next, bring_if_free, name_one, IsLeastFree, through_names}
 use Rattle.varisat.specs.Models.{put_name, model_of, IsCompletable, core_of, IsCoreToTell}
-use Rattle.varisat.specs.Calls.{with_naming, IsValid, TellsModel, TellsCore, TellsVerdict, IsInterrupted, answer_of, with_verdict}
+use Rattle.varisat.specs.Calls.{with_naming, IsValid, TellsModel, TellsCore, TellsVerdict, answer_of, with_verdict}
 use Rattle.varisat.specs.Told.{told_list}
 use Rattle.std.specs.Option.{IsSome}
 use Rattle.std.specs.Result.{IsErr}
 use Rattle.std.specs.declared.alloc.AllocError.{AllocError}
 use Rattle.varisat.specs.Carried.{carry, value_or}
 use Rattle.varisat.specs.Accepting.{HasUser}
-use Rattle.varisat_tracer.specs.Tracing.{TracerState, global_literal}
-use Rattle.varisat.specs.Searches.{answer_at, FindsVerdict}
+use Rattle.varisat_tracer.specs.Tracing.{TracerState, TakesGlobally}
+use Rattle.varisat.specs.Searches.{answer_at, ComesTo}
 use Rattle.std.proofs.lemmas.List.{append-nil}
-use Rattle.varisat_theory.specs.Journals.{Entry, Fails, lines_of, written}
-use Rattle.varisat_trace.specs.Traces.{verdict_entries}
-use Rattle.varisat_proof.specs.Proving.{ProofParts}
+use Rattle.varisat_theory.specs.Journals.{Fails, written}
+use Rattle.varisat_trace.specs.Traces.{TakesStep}
 use Rattle.varisat_tracer.specs.Carried.{told_as}
 use Rattle.varisat_tracer.specs.Carried as global
 use Rattle.varisat_tracer.specs.Told.{told_as-append}
 use Rattle.varisat.proofs.ReachedHeld.{told_lines}
-use Rattle.varisat.proofs.PlainTold.{plain-literals, plain-lines}
-use Rattle.varisat_theory.specs.Counted.{added}
-use Rattle.varisat.specs.OpenProofs.{OpenProof, GoesOnWriting}
-use Rattle.varisat.specs.Journals.{retold, TellsMore, TellsProof, ToldConflict}
-use Rattle.varisat.proofs.OpenProofs.{goes-on-none, goes-on-through, proof-goes-on}
-use Rattle.varisat.proofs.ToldEntries.{tells-nothing, steps-follow, steps-follow-adding}
+use Rattle.varisat.proofs.PlainTold.{plain-literals, plain-lines, proof-told}
+use Rattle.varisat.specs.Journals.{retold, TellsMore, ToldConflict}
+use Rattle.varisat.proofs.OpenProofs.{goes-on-none}
+use Rattle.varisat.proofs.ToldEntries.{tells-nothing}
 use Rattle.varisat.specs.Spaces.{Spaces, Carrying, Translation, HeldFits, translation, without_core, CoreFits, VerdictFits, Links, SpacesFit, list_globals}
 use Rattle.varisat.specs.Summaries.{Summary, IsKept, StandsFor, spaces, spaces_of, list_tables}
 use Rattle.varisat.proofs.AcceptLoad.{map-map}
-use Rattle.varisat.proofs.CallStates.{ledger_of, ledger-is, none-more, like-grown}
+use Rattle.varisat.proofs.CallStates.{ledger-is, none-more}
 use Rattle.varisat.proofs.VerdictAnswers.{right-false, right-core, core-answer}
 use Rattle.varisat.proofs.Carried.{carry-at, carry-sign}
-use Rattle.varisat.proofs.SettingsCalls.{summary_of}
 use Rattle.varisat.proofs.SolveVerdict.{told-with, steps-tell, steps-add, core-tells, maps-alike, recount, spaces-same, sat-found, unsat-found, core-found, found, went-on}
 use Rattle.varisat.proofs.ModelsFit.{told, is-sat, is-unsat, is-core, is-unknown}
-use Rattle.varisat.proofs.PlainTables.{assumed-named}
-use Rattle.varisat.proofs.AcceptClause.{ledger-free, proof-free, with_tables, name-below, name-above, given-spaces}
+use Rattle.varisat.proofs.AcceptClause.{with_tables, name-below, name-above, given-spaces}
 use Rattle.varisat.proofs.SearchViews.{view-long}
 use Rattle.varisat.proofs.SpacesMoves.{AreInUse}
-use Rattle.varisat.proofs.VariablesInUse.{same-in-use}
-use Rattle.varisat_search.proofs.SolverVariables.{in-use-all}
 
 -- 1. A new solver.
 
@@ -165,20 +151,21 @@ new-named g s new u x f least b t =
 abbrev pub after_steps : Summary → View → AssumptionParts → SatState → Summary
 after_steps g t z after = record g { search = t; assumed = z; sat_state = after }
 
--- Steps of the search found a verdict or none, left the view and some of the assumptions, and a core was told over names.
-pub record StepsMade (g : Summary) (t : View) (y z : AssumptionParts) (after : SatState) : Type 0 where
+-- So many steps of the search with the lines found a verdict or none, left the view and some of the assumptions, and a core was
+-- told over names.
+pub record StepsMade (g : Summary) (t : View) (y z : AssumptionParts) (after : SatState) (k : ℕ) (lines : List Line) : Type 0 where
   pub unknown : g.sat_state ≡ verdict.Unknown
   pub working : (l : Literal) → l ∈ g.assumed.working → HasUser g.tables (variable_of l)
   pub same_count : length t.values ≡ length g.search.values
   pub well : WellFormed t
   pub in_use : AreInUse (spaces g) (search_of t)
-  pub steps : (k : ℕ) × (lines : List Line) × MakesSteps k (search_of g.search) (search_of t) (outcome_of t y.failed_core after) lines
+  pub steps : MakesSteps k (search_of g.search) (search_of t) (outcome_of t y.failed_core after) lines
   pub assumes : KeepsAssumptions (search_of g.search) (outcome_of t y.failed_core after) g.assumed y
   pub rest : z ≡ record y { user_core = z.user_core }
   pub named : after ≡ verdict.UnsatUnderAssumptions → z.user_core ≡ map (carry (chain (at g.tables.solvers.backward) (at g.tables.users.backward))) y.failed_core
 
 -- the spaces that steps leave are those of the solver afterwards
-left-spaces : (g : Summary) (s : State) (t : View) (y z : AssumptionParts) (after : SatState) (v : StepsMade g t y z after) → SpacesFit (record (spaces g) { search = search_of t; outcome = outcome_of t y.failed_core after; model = (spaces (after_steps g t z after)).model; working = y.working; core = z.user_core }) s → SpacesFit (spaces (after_steps g t z after)) s
+left-spaces : (g : Summary) (s : State) (t : View) (y z : AssumptionParts) (after : SatState) {n : ℕ} {lines : List Line} (v : StepsMade g t y z after n lines) → SpacesFit (record (spaces g) { search = search_of t; outcome = outcome_of t y.failed_core after; model = (spaces (after_steps g t z after)).model; working = y.working; core = z.user_core }) s → SpacesFit (spaces (after_steps g t z after)) s
 left-spaces g s t y z after v f =
     let (w, k) = f in
     let p = record (spaces g) { search = search_of t; outcome = outcome_of t y.failed_core after; model = (spaces (after_steps g t z after)).model; working = y.working; core = z.user_core } in
@@ -220,21 +207,6 @@ module _ (g : Summary) (s : State) (w : Carrying) (k : Links w (spaces g) s) (na
         same-literal (carry s.naming.names (carry f m)) (carry to m) (carry-at s.naming.names (carry f m) i (ap s.naming.names (carry-at f m u r) ∙ n) ∙ sym (carry-at to m i t)) (carry-sign s.naming.names (carry f m) ∙ carry-sign f m ∙ sym (carry-sign to m))),
   )
 
--- what the state is then, after so many steps
-pub record Decided (g : Summary) (s : State) (b : Bool) (n : ℕ) (given : List Entry) : Type 0 where
-  pub verdict : Verdict
-  pub answer : answer_of verdict ≡ Some b
-  pub right : HasRightVerdict (with_verdict verdict s)
-  pub told : List Entry
-  pub more : TellsMore n s.told told
-  pub plain : s.ever_hidden ≡ false → told ≡ s.told ++ given
-  pub refuted : verdict ≡ Unsat → ToldConflict told
-  pub fits : SpacesFit (spaces g) (retold told (with_verdict verdict s))
-
--- what the proof was given of the steps, over global variables
-abbrev pub given_of : {g : Summary} {t : View} {y z : AssumptionParts} {after : SatState} → StepsMade g t y z after → List Entry
-given_of {g} {t} {y} {z} {after} v = told_as (global_literal g.tables) (written v.steps.1 ++ verdict_entries (outcome_of t y.failed_core after))
-
 -- where nothing was ever hidden that is what the journal is told
 plain-with : (w : Carrying) (p : Spaces) (s : State) → Links w p s → s.ever_hidden ≡ false → (lines : List Line) → told-with w p s lines ≡ s.told ++ told_as (global.carry p.global_from_solver) (written lines ++ [])
 plain-with w p s k shown lines = ap (λ es. s.told ++ es) (plain-lines w p s k shown lines ∙ ap (told_as (global.carry p.global_from_solver)) (sym (append-nil (written lines))))
@@ -246,33 +218,67 @@ plain-core w p s k shown lines found told e =
     ∙ ap (λ es. s.told ++ (es ++ Fails (map (global.carry p.global_from_solver) found) ∷ [])) (plain-lines w p s k shown lines)
     ∙ ap (λ es. s.told ++ es) (sym (told_as-append (global.carry p.global_from_solver) (written lines) (Fails found ∷ [])))
 
-decided-fits : (g : Summary) (s : State) (t : View) (y z : AssumptionParts) (after : SatState) (b : Bool) → answer_at after ≡ Some b → SpacesFit (spaces g) s → (v : StepsMade g t y z after) → Decided (after_steps g t z after) s b v.steps.0 (given_of v)
-decided-fits g s t y z verdict.Unknown b e (w, k) v = absurd cc
-decided-fits g s t y z verdict.Sat b e (w, k) v =
-    let (j, lines, made) = v.steps in
-    let unknown = ap (outcome_of g.search g.assumed.failed_core) v.unknown in
-    let long = view-long t v.well in
-    let a = found w (spaces g) s k unknown (search_of t) (assignment_of t) j lines made long v.in_use in
-    let links = sat-found w (spaces g) s k unknown (search_of t) (assignment_of t) j lines made long v.in_use g.assumed y refl v.assumes z.user_core in
-    let more = steps-tell w (spaces g) s k unknown (search_of t) (outcome.Sat (assignment_of t)) j lines made long v.in_use in
-    record { verdict = Sat a; answer = e; right = links.right; told = told-with w (spaces g) s lines; more = more; plain = λ shown. plain-with w (spaces g) s k shown lines; refuted = λ q. let z : Sat a ≡ Unsat = q in absurd cc; fits = left-spaces g (retold (told-with w (spaces g) s lines) (with_verdict (Sat a) s)) t y z verdict.Sat v (w, links) }
-decided-fits g s t y z verdict.Unsat b e (w, k) v =
-    let (j, lines, made) = v.steps in
-    let links = unsat-found w (spaces g) s k (ap (outcome_of g.search g.assumed.failed_core) v.unknown) (search_of t) outcome.Unsat j lines made (view-long t v.well) v.in_use g.assumed y refl v.assumes (spaces (after_steps g t z verdict.Unsat)).model z.user_core refl in
-    let more = steps-tell w (spaces g) s k (ap (outcome_of g.search g.assumed.failed_core) v.unknown) (search_of t) outcome.Unsat j lines made (view-long t v.well) v.in_use in
-    record { verdict = Unsat; answer = e; right = links.right; told = told-with w (spaces g) s lines; more = more; plain = λ shown. plain-with w (spaces g) s k shown lines; refuted = λ _. links.holds.told; fits = left-spaces g (retold (told-with w (spaces g) s lines) (with_verdict Unsat s)) t y z verdict.Unsat v (w, links) }
-decided-fits g s t y z verdict.UnsatUnderAssumptions b e (w, k) v =
-    let (j, lines, made) = v.steps in
-    let told = z.user_core in
-    let (named, same) = names-carried g s w k v.working y.failed_core told (v.assumes.core y.failed_core refl) (v.named refl) in
-    let links = core-found w (spaces g) s k (ap (outcome_of g.search g.assumed.failed_core) v.unknown) (search_of t) (outcome.UnsatUnder y.failed_core) j lines made (view-long t v.well) v.in_use g.assumed y refl v.assumes (spaces (after_steps g t z verdict.UnsatUnderAssumptions)).model y.failed_core told refl named same in
-    let core = UnsatUnderAssumptions (map (carry s.naming.names) told) in
-    let more = core-tells w (spaces g) s k (ap (outcome_of g.search g.assumed.failed_core) v.unknown) (search_of t) (outcome.UnsatUnder y.failed_core) j lines made (view-long t v.well) v.in_use g.assumed y refl v.assumes y.failed_core told refl same in
-    let all = told-with w (spaces g) s lines ++ Fails (map (carry s.naming.names) told) ∷ [] in
-    record { verdict = core; answer = e; right = links.right; told = all; more = more; plain = λ shown. plain-core w (spaces g) s k shown lines y.failed_core (map (carry s.naming.names) told) same; refuted = λ q. let z : core ≡ Unsat = q in absurd cc; fits = left-spaces g (retold all (with_verdict core s)) t y z verdict.UnsatUnderAssumptions v (w, links) }
+-- what the search is as steps begin
+abbrev searching : TracerState → View → AssumptionParts → State → Summary
+searching p search assumed s = record { tables = p.tables; opened = None; search = search; assumed = assumed; sat_state = verdict.Unknown; ledger = s.ledger }
 
-pub decided : (g : Summary) (s : State) (t : View) (y z : AssumptionParts) (after : SatState) (b : Bool) → answer_at after ≡ Some b → StandsFor g s → g.ledger.valid ≡ true → (f : StepsMade g t y z after) → Decided (after_steps g t z after) s b f.steps.0 (given_of f)
-decided g s t y z after b e st v f = decided-fits g s t y z after b e (st.fits v) f
+-- what the state is then
+pub comes-made : (p q : TracerState) (search : View) (assumed : AssumptionParts) (s : State) (t : View) (y z : AssumptionParts) (after : SatState) (n : ℕ) (lines : List Line) → SpacesFit (spaces_of p.tables search assumed verdict.Unknown) s → StepsMade (searching p search assumed s) t y z after n lines → TakesStep TakesGlobally p lines (outcome_of t y.failed_core after) q → ComesTo n s p.proof q.proof (spaces_of p.tables t z after)
+comes-made p q search assumed s t y z verdict.Unknown n lines (w, k) v takes =
+    let g = searching p search assumed s in
+    let long = view-long t v.well in
+    let told = told-with w (spaces g) s lines in
+    let links = went-on w (spaces g) s k refl (search_of t) outcome.Unknown n lines v.steps long v.in_use assumed y refl v.assumes (spaces (after_steps g t z verdict.Unknown)).model z.user_core refl in
+    record {
+      verdict = Unknown;
+      told = told;
+      more = steps-tell w (spaces g) s k refl (search_of t) outcome.Unknown n lines v.steps long v.in_use;
+      adds = λ e. steps-add w (spaces g) s k refl (search_of t) outcome.Unknown n lines v.steps long v.in_use refl;
+      proof = proof-told p q (written lines ++ []) s.ever_hidden s.told told takes (λ shown. plain-with w (spaces g) s k shown lines);
+      fits = left-spaces g (retold told (with_verdict Unknown s)) t y z verdict.Unknown v (w, links);
+    }
+comes-made p q search assumed s t y z verdict.Sat n lines (w, k) v takes =
+    let g = searching p search assumed s in
+    let long = view-long t v.well in
+    let told = told-with w (spaces g) s lines in
+    let a = found w (spaces g) s k refl (search_of t) (assignment_of t) n lines v.steps long v.in_use in
+    let links = sat-found w (spaces g) s k refl (search_of t) (assignment_of t) n lines v.steps long v.in_use assumed y refl v.assumes z.user_core in
+    record {
+      verdict = Sat a;
+      told = told;
+      more = steps-tell w (spaces g) s k refl (search_of t) (outcome.Sat (assignment_of t)) n lines v.steps long v.in_use;
+      adds = λ e. absurd (let z : Sat a ≡ Unknown = e in cc);
+      proof = proof-told p q (written lines ++ []) s.ever_hidden s.told told takes (λ shown. plain-with w (spaces g) s k shown lines);
+      fits = left-spaces g (retold told (with_verdict (Sat a) s)) t y z verdict.Sat v (w, links);
+    }
+comes-made p q search assumed s t y z verdict.Unsat n lines (w, k) v takes =
+    let g = searching p search assumed s in
+    let long = view-long t v.well in
+    let told = told-with w (spaces g) s lines in
+    let links = unsat-found w (spaces g) s k refl (search_of t) outcome.Unsat n lines v.steps long v.in_use assumed y refl v.assumes (spaces (after_steps g t z verdict.Unsat)).model z.user_core refl in
+    record {
+      verdict = Unsat;
+      told = told;
+      more = steps-tell w (spaces g) s k refl (search_of t) outcome.Unsat n lines v.steps long v.in_use;
+      adds = λ e. absurd (let z : Unsat ≡ Unknown = e in cc);
+      proof = proof-told p q (written lines ++ []) s.ever_hidden s.told told takes (λ shown. plain-with w (spaces g) s k shown lines);
+      fits = left-spaces g (retold told (with_verdict Unsat s)) t y z verdict.Unsat v (w, links);
+    }
+comes-made p q search assumed s t y z verdict.UnsatUnderAssumptions n lines (w, k) v takes =
+    let g = searching p search assumed s in
+    let long = view-long t v.well in
+    let (named, same) = names-carried g s w k v.working y.failed_core z.user_core (v.assumes.core y.failed_core refl) (v.named refl) in
+    let core = map (carry s.naming.names) z.user_core in
+    let told = told-with w (spaces g) s lines ++ Fails core ∷ [] in
+    let links = core-found w (spaces g) s k refl (search_of t) (outcome.UnsatUnder y.failed_core) n lines v.steps long v.in_use assumed y refl v.assumes (spaces (after_steps g t z verdict.UnsatUnderAssumptions)).model y.failed_core z.user_core refl named same in
+    record {
+      verdict = UnsatUnderAssumptions core;
+      told = told;
+      more = core-tells w (spaces g) s k refl (search_of t) (outcome.UnsatUnder y.failed_core) n lines v.steps long v.in_use assumed y refl v.assumes y.failed_core z.user_core refl same;
+      adds = λ e. absurd (let z : UnsatUnderAssumptions core ≡ Unknown = e in cc);
+      proof = proof-told p q (written lines ++ Fails y.failed_core ∷ []) s.ever_hidden s.told told takes (λ shown. plain-core w (spaces g) s k shown lines y.failed_core core same);
+      fits = left-spaces g (retold told (with_verdict (UnsatUnderAssumptions core) s)) t y z verdict.UnsatUnderAssumptions v (w, links);
+    }
 
 -- few steps were made since the last change
 pub counted-few : (g : Summary) (s : State) → StandsFor g s → g.ledger.valid ≡ true → ((n : ℕ) → length g.search.values ≤ n → g.ledger.since < 2 ^ (2 * n + 3)) → s.ledger.since < 2 ^ (2 * length s.counted + 3)
@@ -287,27 +293,6 @@ counted-call g s max_steps after a r st v m e c =
     (subst (λ x. CountsSteps (length s.counted) s.ledger.settings.max_steps g.ledger.since x after r) (sym (ap (λ (l : Ledger). l.steps) st.ledger))
     (subst (λ x. CountsSteps (length s.counted) x g.ledger.since g.ledger.steps after r) (m ∙ o)
     (subst (CountsSteps (length s.counted) max_steps g.ledger.since g.ledger.steps after) e k)))
-
--- the search can go on from where it was interrupted
-pub interrupted : (g : Summary) (s : State) (t : View) (y z : AssumptionParts) → StandsFor g s → g.ledger.valid ≡ true → (v : StepsMade g t y z verdict.Unknown) → (told : List Entry) × (more : TellsMore v.steps.0 s.told told) × (s.ever_hidden ≡ false → told ≡ s.told ++ given_of v) × (v.steps.0 ≤ added (lines_of more.entries)) × SpacesFit (spaces (after_steps g t z verdict.Unknown)) (retold told (with_verdict Unknown s))
-interrupted g s t y z st valid v =
-    let (w, k) = st.fits valid in
-    let (j, lines, made) = v.steps in
-    let unknown = ap (outcome_of g.search g.assumed.failed_core) v.unknown in
-    let long = view-long t v.well in (
-      told-with w (spaces g) s lines,
-      steps-tell w (spaces g) s k unknown (search_of t) outcome.Unknown j lines made long v.in_use,
-      λ shown. plain-with w (spaces g) s k shown lines,
-      steps-add w (spaces g) s k unknown (search_of t) outcome.Unknown j lines made long v.in_use refl,
-      left-spaces g (retold (told-with w (spaces g) s lines) (with_verdict Unknown s)) t y z verdict.Unknown v
-          (w, went-on w (spaces g) s k unknown (search_of t) outcome.Unknown j lines made long v.in_use g.assumed y refl v.assumes (spaces (after_steps g t z verdict.Unknown)).model z.user_core refl),
-    )
-
-pub interrupted-at : (g : Summary) (s : State) (t : View) (y z : AssumptionParts) (after : SatState) → after ≡ verdict.Unknown → StandsFor g s → g.ledger.valid ≡ true → (v : StepsMade g t y z after) → (told : List Entry) × (more : TellsMore v.steps.0 s.told told) × (s.ever_hidden ≡ false → told ≡ s.told ++ given_of v) × (v.steps.0 ≤ added (lines_of more.entries)) × SpacesFit (spaces (after_steps g t z verdict.Unknown)) (retold told (with_verdict Unknown s))
-interrupted-at g s t y z verdict.Unknown e st valid v = interrupted g s t y z st valid v
-interrupted-at g s t y z verdict.Sat e st valid v = absurd cc
-interrupted-at g s t y z verdict.Unsat e st valid v = absurd cc
-interrupted-at g s t y z verdict.UnsatUnderAssumptions e st valid v = absurd cc
 
 -- before that the verdict was unknown
 pub was-unknown : (g : Summary) (s : State) → StandsFor g s → g.ledger.valid ≡ true → g.sat_state ≡ verdict.Unknown → s.verdict ≡ Unknown
@@ -369,25 +354,6 @@ sat-right g s st valid e =
     let r = subst (IsRight s.clauses s.assumptions s.counted) v k.right in
     (a, r.0, r.1)
 
--- the verdict that a search came to says so of the state
-pub found-true : (g : Summary) (s : State) (n : ℕ) (given : List Entry) → Decided g s true n given → IsSatisfiableWith s.clauses s.assumptions
-found-true g s n given d = go d.verdict d.answer d.right
-  where
-    go : (v : Verdict) → answer_of v ≡ Some true → IsRight s.clauses s.assumptions s.counted v → IsSatisfiableWith s.clauses s.assumptions
-    go Unknown q r = absurd cc
-    go (Sat a) q r = (a, r.0, r.1)
-    go Unsat q r = absurd cc
-    go (UnsatUnderAssumptions core) q r = absurd cc
-
-pub found-false : (g : Summary) (s : State) (n : ℕ) (given : List Entry) → Decided g s false n given → IsSatisfiableWith s.clauses s.assumptions → ⊥
-found-false g s n given d = right-false s.clauses s.assumptions s.counted d.verdict d.answer d.right
-
-pub found-true-at : (g : Summary) (s : State) (n : ℕ) (given : List Entry) (b : Bool) → b ≡ true → Decided g s b n given → IsSatisfiableWith s.clauses s.assumptions
-found-true-at g s n given b e d = found-true g s n given (subst (λ x. Decided g s x n given) e d)
-
-pub found-false-at : (g : Summary) (s : State) (n : ℕ) (given : List Entry) (b : Bool) → b ≡ false → Decided g s b n given → IsSatisfiableWith s.clauses s.assumptions → ⊥
-found-false-at g s n given b e d = found-false g s n given (subst (λ x. Decided g s x n given) e d)
-
 pub sat-answer : (g : Summary) (s : State) → StandsFor g s → g.ledger.valid ≡ true → g.sat_state ≡ verdict.Sat → answer_of s.verdict ≡ Some true
 sat-answer g s st v e = let (w, k) = st.fits v in ap answer_of (is-sat w.identity (spaces g).model (assignment_of g.search) s.verdict (subst (λ y. VerdictFits w.identity (spaces g).model y s.verdict) (ap (outcome_of g.search g.assumed.failed_core) e) k.verdict)).1
 
@@ -398,15 +364,15 @@ tells-error s (Err e) h v a = (v, a, refl)
 -- 6. The core.
 
 -- what the solver's verdict answers is what the state's does
+pub answers-fit : (id : ℕ → Option ℕ) (m : ℕ → Bool) (t : View) (failed : List Literal) (sat : SatState) (v : Verdict) → VerdictFits id m (outcome_of t failed sat) v → answer_of v ≡ answer_at sat
+answers-fit id m t failed verdict.Unknown Unknown f = refl
+answers-fit id m t failed verdict.Sat (Sat a) f = refl
+answers-fit id m t failed verdict.Unsat Unsat f = refl
+answers-fit id m t failed verdict.UnsatUnderAssumptions (UnsatUnderAssumptions core) f = refl
+answers-fit id m t failed sat v f = absurd f
+
 pub answers-alike : (g : Summary) (s : State) → StandsFor g s → g.ledger.valid ≡ true → answer_of s.verdict ≡ answer_at g.sat_state
-answers-alike g s st v = let (w, k) = st.fits v in go w.identity (spaces g).model g.sat_state s.verdict k.verdict
-  where
-    go : (id : ℕ → Option ℕ) (m : ℕ → Bool) (sat : SatState) (v : Verdict) → VerdictFits id m (outcome_of g.search g.assumed.failed_core sat) v → answer_of v ≡ answer_at sat
-    go id m verdict.Unknown Unknown f = refl
-    go id m verdict.Sat (Sat a) f = refl
-    go id m verdict.Unsat Unsat f = refl
-    go id m verdict.UnsatUnderAssumptions (UnsatUnderAssumptions core) f = refl
-    go id m sat v f = absurd f
+answers-alike g s st v = let (w, k) = st.fits v in answers-fit w.identity (spaces g).model g.search g.assumed.failed_core g.sat_state s.verdict k.verdict
 
 -- under assumptions that failed the core is told that is kept over names
 pub core-to-tell : (g : Summary) (s : State) → StandsFor g s → g.ledger.valid ≡ true → g.sat_state ≡ verdict.UnsatUnderAssumptions → IsCoreToTell s (Some g.assumed.user_core)
@@ -439,9 +405,8 @@ none-to-tell s n = go s.verdict n
 
 -- 7. What is told where the verdict is known.
 
--- it stays, and no step is made
 -- under Unsat what was told leads to a conflict
-unsat-told : (id : ℕ → Option ℕ) (m : ℕ → Bool) (r : Translation) (share : List Clause) (o : Outcome) (x : Verdict) → x ≡ Unsat → VerdictFits id m o x → HeldFits r share (without_core o) → ToldConflict r.told
+pub unsat-told : (id : ℕ → Option ℕ) (m : ℕ → Bool) (r : Translation) (share : List Clause) (o : Outcome) (x : Verdict) → x ≡ Unsat → VerdictFits id m o x → HeldFits r share (without_core o) → ToldConflict r.told
 unsat-told id m r share outcome.Unsat x e f h = h
 unsat-told id m r share outcome.Unknown x e f h = absurd (subst (VerdictFits id m outcome.Unknown) e f)
 unsat-told id m r share (outcome.Sat found) x e f h = absurd (subst (VerdictFits id m (outcome.Sat found)) e f)
@@ -486,30 +451,6 @@ pub answered-false : (x : SatState) → (x ≡ verdict.Unsat) ⊎ (x ≡ verdict
 answered-false x (inl e) = ap answer_at e
 answered-false x (inr e) = ap answer_at e
 
--- what a search that came to a verdict did
-pub finds-made : {A : Type 0} (p q : TracerState) (started : Bool) (changed_at : ℕ) (x y : Context A) (answer : Option Bool) (f : FindsVerdict p q x y answer) → IsKept p.tables x → x.solver_state.sat_state ≡ verdict.Unknown → StepsMade (summary_of p started changed_at x) (view y) f.parts y.assumptions y.solver_state.sat_state
-finds-made p q started changed_at x y answer f k unknown = record {
-  unknown = unknown;
-  working = λ l h. assumed-named p.tables (variable_of l) (k.working l h);
-  same_count = f.count;
-  well = f.ready.well;
-  in_use = in-use-all p.tables (view y) y.vsids (same-in-use p.tables (view x) x.vsids (view y) y.vsids k.decidable f.decidable) f.ready.decidable f.ready.well;
-  steps = (_, f.steps.0, f.steps.1);
-  assumes = f.assumes;
-  rest = f.rest;
-  named = f.core;
-}
-
-pub finds-count : {A : Type 0} (p q : TracerState) (started : Bool) (changed_at : ℕ) (x y : Context A) (answer : Option Bool) (f : FindsVerdict p q x y answer) (k : IsKept p.tables x) (unknown : x.solver_state.sat_state ≡ verdict.Unknown) → (finds-made p q started changed_at x y answer f k unknown).steps.0 ≡ y.schedule.steps - x.schedule.steps
-unfolding finds-made
-finds-count p q started changed_at x y answer f k unknown = refl
-
--- and what the proof was given of them
-pub finds-given : {A : Type 0} (p q : TracerState) (started : Bool) (changed_at : ℕ) (x y : Context A) (answer : Option Bool) (f : FindsVerdict p q x y answer) (k : IsKept p.tables x) (unknown : x.solver_state.sat_state ≡ verdict.Unknown) →
-    given_of (finds-made p q started changed_at x y answer f k unknown) ≡ told_as (global_literal p.tables) (written f.steps.0 ++ verdict_entries (outcome_of (view y) f.parts.failed_core y.solver_state.sat_state))
-unfolding finds-made
-finds-given p q started changed_at x y answer f k unknown = refl
-
 -- a copy of the core that is refused
 core-refused : (s t : State) (core : List Literal) (e : AllocError) → TellsCore s (Ok (Some core)) t → TellsCore s (Err e) s
 core-refused s t core e (inl (v, x), same) = (v, core-answer s.verdict (map (through_names s.naming) core) x.1, refl)
@@ -518,102 +459,3 @@ core-refused s t core e (inr (v, x), same) = absurd cc
 pub told-refused-core : {A : Type 0} (s t : State) (core : List Literal) (r : Result (Option (Vec Literal A)) AllocError) → IsErr r → TellsCore s (Ok (Some core)) t → TellsCore s (told_list r) s
 told-refused-core s t core (Ok m) h a = absurd (let z : false ≡ true = h in cc)
 told-refused-core s t core (Err e) h a = core-refused s t core e a
-
--- 8. Units are settled before a step.
-
--- The search went on by lines, without a step: what is held stands for the same state.
-pub settled-stands : {A : Type 0} (m : Tables) (are : List Line → Type 0) (x y : Context A) → IsKept m x → (goes : GoesOnByLines are x y) → y.assumptions ≡ x.assumptions → (s : State) → SpacesFit (spaces_of m (view x) x.assumptions verdict.Unknown) s → (told : List Entry) × TellsMore 0 s.told told × (s.ever_hidden ≡ false → told ≡ s.told ++ told_as (global_literal m) (written goes.proves.0)) × SpacesFit (spaces_of m (view y) y.assumptions verdict.Unknown) (retold told s)
-settled-stands m are x y kept goes same s (w, k) =
-    let g : Summary = record { tables = m; opened = None; search = view x; assumed = x.assumptions; sat_state = verdict.Unknown; ledger = s.ledger } in
-    let (lines, p, i) = goes.proves in
-    let made = part_after_made 0 (search_of (view x)) (search_of (view x)) (search_of (view y)) [] lines (none_made (search_of (view x))) p in
-    let used = in-use-all m (view y) y.vsids (same-in-use m (view x) x.vsids (view y) y.vsids kept.decidable goes.decidable) goes.ready.decidable goes.ready.well in
-    let v : StepsMade g (view y) x.assumptions x.assumptions verdict.Unknown = record {
-      unknown = refl;
-      working = λ l h. assumed-named m (variable_of l) (kept.working l h);
-      same_count = goes.extends.count;
-      well = goes.ready.well;
-      in_use = used;
-      steps = (0, lines, made);
-      assumes = keeps-refl (search_of (view x)) x.assumptions;
-      rest = refl;
-      named = λ e. absurd (let z : verdict.Unknown ≡ verdict.UnsatUnderAssumptions = e in cc);
-    } in
-    let links = went-on w (spaces g) s k refl (search_of (view y)) outcome.Unknown 0 lines made (view-long (view y) goes.ready.well) used x.assumptions x.assumptions refl (keeps-refl (search_of (view x)) x.assumptions) (spaces (after_steps g (view y) x.assumptions verdict.Unknown)).model x.assumptions.user_core refl in
-    let unknown : s.verdict ≡ Unknown = is-unknown w.identity (spaces g).model s.verdict k.verdict in
-    let told = told-with w (spaces g) s lines in
-    let fits = left-spaces g (retold told (with_verdict Unknown s)) (view y) x.assumptions x.assumptions verdict.Unknown v (w, links) in (
-      told,
-      steps-tell w (spaces g) s k refl (search_of (view y)) outcome.Unknown 0 lines made (view-long (view y) goes.ready.well) used,
-      λ shown. ap (λ es. s.told ++ es) (plain-lines w (spaces g) s k shown lines),
-      subst (λ (a : AssumptionParts). SpacesFit (spaces_of m (view y) a verdict.Unknown) (retold told s)) (sym same)
-          (subst (λ (b : Verdict). SpacesFit (spaces_of m (view y) x.assumptions verdict.Unknown) (retold told (with_verdict b s))) (sym unknown) fits),
-    )
-
--- the state as the search begins
-abbrev pub begun : List Entry → Option OpenProof → State → State
-begun told proof s = record s { told = told; proof = proof }
-
--- Variables left the search.
-pub dropped-stands : {A : Type 0} (m n : Tables) (p q : ProofParts) (started : Bool) (changed_at : ℕ) (x y : Context A) (s : State) → y.solver_state ≡ x.solver_state → KeepsSchedule x y → x.solver_state.sat_state ≡ verdict.Unknown → not x.solver_state.state_is_invalid ≡ true → ((s : State) → SpacesFit (spaces_of m (view x) x.assumptions verdict.Unknown) s → (told : List Entry) × TellsMore 0 s.told told × TellsProof s.ever_hidden s.told told p q × SpacesFit (spaces_of n (view y) y.assumptions verdict.Unknown) (retold told s)) → StandsFor (summary_of (record { tables = m; proof = p }) started changed_at x) s →
-    (told : List Entry) × (now : Option OpenProof) × TellsMore 0 s.told told × GoesOnWriting s.proof now × StandsFor (summary_of (record { tables = n; proof = q }) started changed_at y) (begun told now s)
-dropped-stands m n p q started changed_at x y s e k u ok f st =
-    let (told, more, proof, (w, k')) = f s (subst (λ b. SpacesFit (spaces_of m (view x) x.assumptions b) s) u (st.fits ok)) in
-    let (now, grows, goes) = proof-goes-on p q s.ever_hidden s.told told s.proof (st.proof ok) proof in
-    let fits : SpacesFit (spaces_of n (view y) y.assumptions verdict.Unknown) (begun told now s) = (w, proof-free w _ (retold told s) now k') in (
-      told,
-      now,
-      more,
-      grows,
-      record {
-        ledger = st.ledger ∙ (
-            ap (λ (b : SolverState). ledger_of (not b.state_is_invalid) started x.schedule.steps (x.schedule.steps - changed_at) x.solver_config) (sym e)
-            ∙ ap (λ (p : Plan). ledger_of (not y.solver_state.state_is_invalid) started p.steps (p.steps - changed_at) x.solver_config) (sym k.schedule)
-            ∙ ap (λ (c : Settings). ledger_of (not y.solver_state.state_is_invalid) started y.schedule.steps (y.schedule.steps - changed_at) c) (sym k.solver_config));
-        fits = λ v. subst (λ b. SpacesFit (spaces_of n (view y) y.assumptions b) (begun told now s)) (sym (ap (λ (b : SolverState). b.sat_state) e ∙ u)) fits;
-        proof = λ _. goes;
-      },
-    )
-
--- 9. What `solve` leads to.
-
--- the state once a verdict was found or none, more was told and an open proof has more bytes
-abbrev pub after-solve : List Entry → Verdict → ℕ → Option OpenProof → State → State
-after-solve told v n proof s = record s { verdict = v; ledger = record s.ledger { steps = n; since = s.ledger.since + (n - s.ledger.steps) }; told = told; proof = proof }
-
-pub verdict-told : (g : Summary) (s : State) (first given : List Entry) (early now : Option OpenProof) (n k : ℕ) (b : Bool) (d : Decided g (begun first early s) b k given) → IsValid s → s.verdict ≡ Unknown → CountsSteps (length s.counted) s.ledger.settings.max_steps s.ledger.since s.ledger.steps n (Ok b) → TellsMore 0 s.told first → GoesOnWriting s.proof early → GoesOnWriting early now → k ≡ n - s.ledger.steps →
-    TellsVerdict s b (after-solve d.told d.verdict n now s)
-verdict-told g s first given early now n k b d valid was counts more grows further made = record {
-  valid = valid;
-  known = λ z. absurd (z was);
-  steps = λ _. counts;
-  answer = d.answer;
-  right = d.right;
-  rest = like-grown (after-solve d.told d.verdict n s.proof s) now (goes-on-through s.proof early now grows further);
-  told = steps-follow k (n - s.ledger.steps) s.told first d.told more d.more made;
-  refuted = d.refuted;
-}
-
-pub verdict-fits : (g : Summary) (s : State) (first given : List Entry) (early now : Option OpenProof) (n k : ℕ) (b : Bool) (d : Decided g (begun first early s) b k given) → SpacesFit (spaces g) (after-solve d.told d.verdict n now s)
-verdict-fits g s first given early now n k b d =
-    let (w, l) = d.fits in
-    let u = after-solve d.told d.verdict n now s in
-    (w, ledger-free w (spaces g) (record s { verdict = d.verdict; told = d.told; proof = now }) u.ledger (proof-free w (spaces g) (retold d.told (with_verdict d.verdict (begun first early s))) now l))
-
-pub interrupted-told : (s : State) (first last : List Entry) (early now : Option OpenProof) (n k : ℕ) → IsValid s → s.verdict ≡ Unknown → CountsSteps (length s.counted) s.ledger.settings.max_steps s.ledger.since s.ledger.steps n (Err Interrupted) → TellsMore 0 s.told first → (further : TellsMore k first last) → k ≡ n - s.ledger.steps → k ≤ added (lines_of further.entries) → GoesOnWriting s.proof early → GoesOnWriting early now →
-    IsInterrupted s (after-solve last Unknown n now s)
-interrupted-told s first last early now n k valid was counts more further made adds grows bytes =
-    let (all, added) = steps-follow-adding k (n - s.ledger.steps) s.told first last more further made adds in
-    record {
-      valid = valid;
-      unknown = was;
-      steps = counts;
-      rest = record { naming = refl; ever_hidden = refl; clauses = refl; assumptions = refl; counted = refl; verdict = sym was; ledger = refl; told = tells-nothing last; proof = goes-on-through s.proof early now grows bytes };
-      told = all;
-      adds = added;
-    }
-
-pub interrupted-fits : (g : Summary) (s : State) (first last : List Entry) (early now : Option OpenProof) (n : ℕ) → SpacesFit (spaces g) (retold last (with_verdict Unknown (begun first early s))) → SpacesFit (spaces g) (after-solve last Unknown n now s)
-interrupted-fits g s first last early now n (w, l) =
-    let u = after-solve last Unknown n now s in
-    (w, ledger-free w (spaces g) (record s { verdict = Unknown; told = last; proof = now }) u.ledger (proof-free w (spaces g) (retold last (with_verdict Unknown (begun first early s))) now l))

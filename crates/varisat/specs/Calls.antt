@@ -252,6 +252,8 @@ pub record IsInterrupted (s t : State) : Type 0 where
   -- of the clauses that it told to be added as many count as steps were made, and as many were added at least
   pub told : TellsMore (t.ledger.steps - s.ledger.steps) s.told t.told
   pub adds : t.ledger.steps - s.ledger.steps ≤ added (lines_of told.entries)
+  -- where no step was made nothing changed
+  pub still : t.ledger.steps ≡ s.ledger.steps → t ≡ s
 
 -- What the steps of a call come to.
 abbrev pub Searches : State → Result Bool SolverError → State → Type 0

@@ -17,7 +17,7 @@ use Rattle.varisat_theory.specs.Journals.{Entry}
 use Rattle.varisat_search.specs.declared.context.Context.{Context}
 use Rattle.varisat.specs.Accepting.{HasUser}
 use Rattle.varisat.specs.Journals.{retold, TellsLeaving}
-use Rattle.varisat.specs.SinceChange.{GoesOnSince}
+use Rattle.varisat.specs.SinceChange.{GoesOnWithin}
 use Rattle.varisat.specs.Spaces.{SpacesFit}
 use Rattle.varisat.specs.States.{State}
 use Rattle.varisat.specs.Summaries.{undecided_spaces, IsKept}
@@ -90,7 +90,7 @@ pub record LeavesTables (ls : List Literal) (old new : Tables) : Type 0 where
 -- the solver stands for the same states, to which it was told what left.
 pub record LetsLeave {A : Type 0} (t : Tables) (x : Context A) (u : Tables) (y : Context A) : Type 0 where
   pub kept : IsKept u y
-  pub since : GoesOnSince x y
+  pub within : GoesOnWithin x y
   pub count : length y.assignment.current ≡ length x.assignment.current
   pub stands : (s : State) → SpacesFit (undecided_spaces t x) s →
       (told : List Entry) × TellsLeaving s.ever_hidden s.told told × SpacesFit (undecided_spaces u y) (retold told s)

@@ -1,22 +1,34 @@
--- The verdicts of a search, and what it comes to.
-use Rattle.std.specs.Prelude.{◌≡◌, ℕ, Bool, true, false, Option, Some, None, List, length, map}
+-- The steps of a solver, and what they come to.
+use Rattle.std.specs.Prelude.{◌≡◌, ◌≢◌, ℕ, ◌≤◌, ◌⊎◌, Bool, true, false, Option, Some, None, List, [], length, map}
 use Rattle.varisat_theory.specs.Derivations.{Line}
-use Rattle.varisat_theory.specs.Searches.{Search}
-use Rattle.varisat_theory.specs.Outcomes.{Outcome, MakesSteps}
-use Rattle.varisat_theory.specs.Journals.{Entry}
+use Rattle.varisat_theory.specs.Outcomes.{Steps}
+use Rattle.varisat_theory.specs.Counted.{added}
+use Rattle.varisat_theory.specs.Journals.{Entry, lines_of}
 use Rattle.varisat_trace.specs.Traces.{TakesStep}
-use Rattle.varisat_tracer.specs.Tracing.{TracerState, TakesGlobally}
+use Rattle.varisat_proof.specs.Proving.{ProofParts, IsTold}
+use Rattle.varisat_tracer.specs.Tracing.{TracerState, TakesGlobally, CanTell}
 use Rattle.varisat_schedule.specs.CallSteps.{steps_since}
 use Rattle.varisat_names.specs.Maps.{chain}
 use Rattle.varisat_names.specs.VarMap.{at}
+use Rattle.varisat_prop.specs.declared.prop.graph.Conflict.{Conflict}
+use Rattle.varisat_prop.specs.Changes.{IsConflicting}
 use Rattle.varisat_search.specs.declared.context.Context.{Context}
 use Rattle.varisat_search.specs.declared.state.SatState.{SatState}
 use Rattle.varisat_search.specs.declared.state.SatState.TheVariants as verdict
 use Rattle.varisat_search.specs.AssumptionParts.{AssumptionParts, KeepsAssumptions}
 use Rattle.varisat_search.specs.Contexts.{view, IsReady}
 use Rattle.varisat_search.specs.Decisions.{SameDecidable}
+use Rattle.varisat_search.specs.DueReductions.{BeginsStep}
+use Rattle.varisat_search.specs.Progress.{RaisesRank}
 use Rattle.varisat_search.specs.Seen.{search_of, outcome_of}
+use Rattle.varisat.specs.Calls.{with_verdict}
 use Rattle.varisat.specs.Carried.{carry}
+use Rattle.varisat.specs.Dropping.{LeavesNeeded}
+use Rattle.varisat.specs.Journals.{retold, TellsMore, TellsProof}
+use Rattle.varisat.specs.SinceChange.{GoesOnSince, BeginsWithin}
+use Rattle.varisat.specs.Spaces.{Spaces, SpacesFit}
+use Rattle.varisat.specs.States.{State, Verdict, Unknown}
+use Rattle.varisat.specs.Summaries.{undecided_spaces, spaces_with, IsKept}
 
 -- what is returned at the verdict, if it is known
 abbrev pub answer_at : SatState → Option Bool
@@ -25,25 +37,79 @@ answer_at verdict.Sat = Some true
 answer_at verdict.Unsat = Some false
 answer_at verdict.UnsatUnderAssumptions = Some false
 
--- Steps were made with lines that were taken, in order, and behind them the core that was found.
-abbrev pub MakesTold : {Q : Type 0} → (Q → List Entry → Q → Type 0) → Q → Q → ℕ → Search → Search → Outcome → Type 0
-MakesTold takes p q n s t v = (lines : List Line) × MakesSteps n s t v lines × TakesStep takes p lines v q
+-- some entries were told to an open proof
+abbrev pub TellsSome : ProofParts → ProofParts → Type 0
+TellsSome p q = (given : List Entry) × IsTold p given q
 
--- Steps lead from one context to the other, which has a verdict or none, as a tracer that was p takes their lines and the core;
+-- What a search comes to from a state without a verdict: a verdict or none, and what it told further, to the proof too. Of the
+-- clauses that were added n or fewer count, and where there is no verdict as many were added at least.
+pub record ComesTo (n : ℕ) (s : State) (p q : ProofParts) (after : Spaces) : Type 0 where
+  pub verdict : Verdict
+  pub told : List Entry
+  pub more : TellsMore n s.told told
+  pub adds : verdict ≡ Unknown → n ≤ added (lines_of more.entries)
+  pub proof : TellsProof s.ever_hidden s.told told p q
+  pub fits : SpacesFit after (retold told (with_verdict verdict s))
+
+-- so it does from each state for which the spaces before stand
+abbrev pub ComesOn : ℕ → Spaces → Spaces → ProofParts → ProofParts → Type 0
+ComesOn n before after p q = (s : State) → SpacesFit before s → ComesTo n s p q after
+
+-- Where the step begins at level 0 with literals still to be propagated, variables leave that may: those that have a value then
+-- and are not assumed, and hidden ones that no kept clause names; unless a clause is false.
+pub record LeavesIfNews {A : Type 0} (q : TracerState) (x y : Context A) : Type 0 where
+  pub reduced : Context A
+  pub begins : BeginsStep (λ lines. Unit {0}) x reduced
+  pub left : reduced.trail.decisions ≡ [] → reduced.trail.queue_head ≢ length reduced.trail.literals →
+      ((conflict : Conflict) × IsConflicting (view y) conflict) ⊎ LeavesNeeded q.tables (view y)
+
+-- A step has begun, and variables left. The solver keeps what it did, and stands for the same states, to which more was told.
+pub record BeginsSolverStep {A : Type 0} (p q : TracerState) (x y : Context A) : Type 0 where
+  pub kept : IsKept q.tables y
+  pub tells : CanTell q.proof
+  pub told : TellsSome p.proof q.proof
+  pub within : BeginsWithin x y
+  pub state : y.solver_state ≡ x.solver_state
+  pub count : length y.assignment.current ≡ length x.assignment.current
+  pub left : LeavesIfNews q x y
+  pub stands : ComesOn 0 (undecided_spaces p.tables x) (undecided_spaces q.tables y) p.proof q.proof
+
+-- A step leads from one context to the other, which has a verdict or none, as a tracer that was p takes its lines and the core;
 -- and a core that was found is kept over names too.
-pub record FindsVerdict {A : Type 0} (p q : TracerState) (x y : Context A) (found : Option Bool) : Type 0 where
+pub record MakesNamedStep {A : Type 0} (p q : TracerState) (x y : Context A) : Type 0 where
   pub ready : IsReady y
   pub count : length y.assignment.current ≡ length x.assignment.current
   pub decidable : SameDecidable (view x) x.vsids (view y) y.vsids
   pub state : y.solver_state ≡ record x.solver_state { sat_state = y.solver_state.sat_state }
-  pub answer : found ≡ answer_at y.solver_state.sat_state
+  pub rises : y.solver_state.sat_state ≡ verdict.Unknown → RaisesRank x y
   -- names and variables stay
   pub tables : q.tables ≡ p.tables
   -- the assumptions that are left, and the core over solver variables
   pub parts : AssumptionParts
-  pub steps : MakesTold TakesGlobally p q (steps_since x.schedule y.schedule) (search_of (view x)) (search_of (view y))
-      (outcome_of (view y) parts.failed_core y.solver_state.sat_state)
+  pub steps : (lines : List Line) × Steps (search_of (view x)) (search_of (view y)) (outcome_of (view y) parts.failed_core y.solver_state.sat_state) lines
+      × TakesStep TakesGlobally p lines (outcome_of (view y) parts.failed_core y.solver_state.sat_state) q
   pub assumes : KeepsAssumptions (search_of (view x)) (outcome_of (view y) parts.failed_core y.solver_state.sat_state) x.assumptions parts
   pub rest : y.assumptions ≡ record parts { user_core = y.assumptions.user_core }
   pub core : y.solver_state.sat_state ≡ verdict.UnsatUnderAssumptions →
       y.assumptions.user_core ≡ map (carry (chain (at p.tables.solvers.backward) (at p.tables.users.backward))) parts.failed_core
+
+-- A step of the solver was made, from one context to the other, which has a verdict or none.
+pub record MakesSolverStep {A : Type 0} (p q : TracerState) (x y : Context A) : Type 0 where
+  pub kept : IsKept q.tables y
+  pub tells : CanTell q.proof
+  pub told : TellsSome p.proof q.proof
+  pub since : y.solver_state.sat_state ≡ verdict.Unknown → GoesOnSince x y
+  pub state : y.solver_state ≡ record x.solver_state { sat_state = y.solver_state.sat_state }
+  pub count : length y.assignment.current ≡ length x.assignment.current
+  -- as it began variables left
+  pub begun : (t : TracerState) × (m : Context A) × LeavesIfNews t x m
+  pub stands : ComesOn 1 (undecided_spaces p.tables x) (spaces_with q.tables y) p.proof q.proof
+
+-- Steps were made, from one context to the other, until there was a verdict or they were spent. Where none was made nothing changed.
+pub record FindsVerdict {A : Type 0} (p q : TracerState) (x y : Context A) (found : Option Bool) : Type 0 where
+  pub kept : IsKept q.tables y
+  pub tells : CanTell q.proof
+  pub state : y.solver_state ≡ record x.solver_state { sat_state = y.solver_state.sat_state }
+  pub answer : found ≡ answer_at y.solver_state.sat_state
+  pub stands : ComesOn (steps_since x.schedule y.schedule) (undecided_spaces p.tables x) (spaces_with q.tables y) p.proof q.proof
+  pub still : y.schedule.steps ≡ x.schedule.steps → (y ≡ x) × (q ≡ p)

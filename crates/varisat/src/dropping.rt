@@ -1,4 +1,4 @@
-//! Which variables leave the search as a call of `solve` begins: those whose values are fixed, unless they are assumed,
+//! Which variables leave the search as a step begins: those whose values are fixed, unless they are assumed,
 //! and hidden ones that no kept clause names. Fixed values are kept for the model and for clauses to come, and what
 //! stands for hidden variables may be used again.
 ghost use Rattle.std.specs.Prelude.{◌≡◌, ◌≢◌, ◌<◌, ◌≤◌, ◌⊎◌, List, [], length, map, IsSome, OnOk, IfOk, IfErr};
@@ -10,11 +10,8 @@ ghost use Rattle.varisat_prop.specs.Changes.{IsConflicting};
 ghost use Rattle.varisat_names.specs.VarMap.{at};
 ghost use Rattle.varisat_search.specs.Contexts.{view, KeepsSchedule};
 ghost use Rattle.varisat_search.specs.SettledUnits.{IsSettledDown};
-ghost use Rattle.varisat.specs.States.{State};
-ghost use Rattle.varisat.specs.Spaces.{SpacesFit};
-ghost use Rattle.varisat.specs.SinceChange.{GoesOnSince};
-ghost use Rattle.varisat.specs.Journals.{retold, TellsMore, TellsProof};
-ghost use Rattle.varisat_theory.specs.Journals.{Entry};
+ghost use Rattle.varisat.specs.SinceChange.{GoesOnWithin};
+ghost use Rattle.varisat.specs.Searches.{TellsSome, ComesOn};
 ghost use Rattle.varisat_tracer.specs.Tracing.{BreaksProof, CanTell};
 ghost use Rattle.varisat_search.specs.StepErrors.{step_faults};
 ghost use Rattle.varisat.specs.Summaries.{undecided_spaces, IsKept};
@@ -200,8 +197,8 @@ fn drop_unneeded<A: Allocator + Copy>(
 
 /// At level 0, where literals are still to be propagated, settles the units and lets the variables leave the search
 /// that have a value and are not assumed, and the hidden ones that no kept clause names. The tracer takes the lines of
-/// settling. Does nothing at another level or where there is no such news, so that a call of `solve` passes over all
-/// clauses no more often than its first step would. Lets none leave where a clause is false. `literals` is overwritten.
+/// settling. Does nothing at another level or where there is no such news, so that a step passes over all clauses no more
+/// often than its conflict step would. Lets none leave where a clause is false. `literals` is overwritten.
 pub fn drop_fixed<W: ProofTarget, A: Allocator + Copy>(
     tracer: &mut SolverTracer<W, A>,
     ctx: &mut Context<A>,
@@ -213,16 +210,17 @@ pub fn drop_fixed<W: ProofTarget, A: Allocator + Copy>(
     ensures kept { OnOk result (IsKept tracer.new.variables ctx.new) }
     ensures tells { OnOk result (CanTell tracer.new.proof) }
     ensures schedule { KeepsSchedule ctx.old ctx.new }
-    ensures since { OnOk result (GoesOnSince ctx.old ctx.new) }
+    ensures within { OnOk result (GoesOnWithin ctx.old ctx.new) }
+    ensures told { OnOk result (TellsSome tracer.old.proof tracer.new.proof) }
     ensures state { ctx.new.solver_state ≡ ctx.old.solver_state }
     ensures count { OnOk result (length ctx.new.assignment.current ≡ length ctx.old.assignment.current) }
     ensures left { OnOk result (ctx.old.trail.decisions ≡ [] → ctx.old.trail.queue_head ≢ length ctx.old.trail.literals →
         ((conflict : Conflict) × IsConflicting (view ctx.new) conflict) ⊎ LeavesNeeded tracer.new.variables (view ctx.new)) }
-    ensures stands { OnOk result ((s : State) → SpacesFit (undecided_spaces tracer.old.variables ctx.old) s →
-        (told : List Entry) × TellsMore 0 s.told told × TellsProof s.ever_hidden s.told told tracer.old.proof tracer.new.proof
-        × SpacesFit (undecided_spaces tracer.new.variables ctx.new) (retold told s)) }
-    // What the target of an open proof has after an error.
+    ensures stands { OnOk result (ComesOn 0 (undecided_spaces tracer.old.variables ctx.old) (undecided_spaces tracer.new.variables ctx.new)
+        tracer.old.proof tracer.new.proof) }
+    // What the target of an open proof has after an error, which is never that the store is full.
     ensures broken { IfErr result (λ error. BreaksProof tracer.old.proof (step_faults error) tracer.new.proof) }
+    ensures full { IfErr result (λ error. error ≢ StepError.Full) }
 {
     if ctx.trail.current_level() > 0 || ctx.trail.fully_propagated() {
         return Ok(());

@@ -5,9 +5,8 @@ ghost use Rattle.varisat.specs.Refusals.{step_refusal};
 ghost use Rattle.varisat.specs.Summaries.{list_tables};
 
 use crate::accept::{accept_clause, assume_list};
-use crate::dropping::drop_fixed;
 use crate::naming::check_names;
-use crate::solving::find_named_verdict;
+use crate::solving::find_verdict;
 use crate::usage::{check_change, set_named_mode};
 use std::alloc::{AllocError, Allocator};
 use std::io;
@@ -566,17 +565,8 @@ impl<W: ProofTarget, A: Allocator + Copy> Solver<W, A> {
             SatState::Unsat | SatState::UnsatUnderAssumptions => Ok(false),
             SatState::Unknown => {
                 let is_open = self.tracer.proof.is_open();
-                // What is fixed need not be searched any more.
-                if let Err(error) = drop_fixed(
-                    &mut self.tracer,
-                    &mut self.ctx,
-                    &mut self.literals,
-                ) {
-                    self.ctx.solver_state.state_is_invalid = true;
-                    return Err(refused(error, is_open));
-                }
                 let max_steps = self.ctx.solver_config.max_steps();
-                match find_named_verdict(
+                match find_verdict(
                     &mut self.tracer,
                     &mut self.ctx,
                     &mut self.literals,

@@ -1,7 +1,7 @@
 -- Which error a step tells.
 use Rattle.std.specs.Prelude.{Result, Ok, Err}
 use Rattle.std.specs.Result.{IsErr, IfErr, IsErrAnd}
-use Rattle.std.proofs.Common.{◌≡◌, ℕ, List, refl, sym, ◌∙◌, subst}
+use Rattle.std.proofs.Common.{◌≡◌, ◌≢◌, ℕ, List, refl, sym, ◌∙◌, subst}
 use Rattle.varisat_clause.specs.declared.alloc.StoreError.{StoreError}
 use Rattle.varisat_clause.specs.declared.alloc.StoreError.TheVariants as store
 use Rattle.varisat_theory.specs.Journals.{Entry}
@@ -30,6 +30,11 @@ full-told r s z h f = told-by r (λ e. e ≡ step_error_of_store s) (λ e. e ≡
 pub trace-faults : (e : TraceError) → faults_of e ≡ step_faults (step_error_of_trace e)
 trace-faults trace.Memory = refl
 trace-faults (trace.Target cause) = refl
+
+-- and none tells that the store is full
+pub trace-unfilled : (e : TraceError) → step_error_of_trace e ≢ step.Full
+trace-unfilled trace.Memory q = let z : step.Memory ≡ step.Full = q in cc
+trace-unfilled (trace.Target cause) q = let z : step.Target cause ≡ step.Full = q in cc
 
 store-faults : (s : StoreError) → 0 ≡ step_faults (step_error_of_store s)
 store-faults store.Full = refl

@@ -13,7 +13,7 @@ use Rattle.varisat_analysis.specs.HeaderChanges.{ChangesHeaders}
 use Rattle.varisat_analysis.specs.Reductions.{reasons_marked, Discards}
 use Rattle.varisat_analysis.specs.Collections.{Repacks}
 use Rattle.varisat_search.specs.Progress.{StepsTo}
-use Rattle.varisat_search.specs.Restarts.{KeepsAssignment, RestartsIfDue}
+use Rattle.varisat_search.specs.Restarts.{KeepsAssignment, RestartsIfDue, SavesIfDue}
 use Rattle.varisat_search.specs.SettledUnits.{SettlesFirst}
 use Rattle.varisat_search.specs.Deletions.{unmarked_deletions}
 
@@ -63,6 +63,19 @@ pub record KeepsSearch {A : Type 0} (are : List Line → Type 0) (x y : Context 
   pub assigned : KeepsAssignment (view x) (view y)
   pub proves : (lines : List Line) × Proves 0 (search_of (view x)) (search_of (view y)) lines × are lines
   pub decidable : SameDecidable (view x) x.vsids (view y) y.vsids
+
+-- A step begins: a restart down to the last assumption, where that is due, and then the reductions and the collection, by
+-- lines for which `are` holds.
+pub record BeginsStep {A : Type 0} (are : List Line → Type 0) (x z : Context A) : Type 0 where
+  pub begun : Context A
+  pub restarts : RestartsIfDue x.schedule x.assumptions.levels (view x) (view begun)
+  pub saves : SavesIfDue x.schedule x.assumptions.levels (view x) x.assignment.last begun.assignment.last
+  pub begins : begun ≡ record x { assignment = begun.assignment; trail = begun.trail; vsids = begun.vsids; schedule = begun.schedule }
+  pub decidable : SameDecidable (view x) x.vsids (view begun) begun.vsids
+  pub units : begun.trail.units_removed ≡ x.trail.units_removed
+  pub decay : begun.vsids.decay ≡ x.vsids.decay
+  pub reduces : KeepsSearch (λ lines. ReducesIfDue lines begun z × are lines) begun z
+  pub rest : z ≡ record begun { clause_alloc = z.clause_alloc; clause_db = z.clause_db; impl_graph = z.impl_graph; watchlists = z.watchlists }
 
 -- A step begins with a restart down to the last assumption, where that is due; then come the reductions, which delete
 -- clauses, and the collection; then, at level 0, units are settled; then lines lead from what is left to the search after

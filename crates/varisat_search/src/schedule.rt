@@ -9,7 +9,7 @@ ghost use Rattle.varisat_search.specs.Decisions.{SameDecidable};
 ghost use Rattle.varisat_search.specs.Progress.{outcome_at, StepsTo};
 ghost use Rattle.varisat_search.specs.FoundCores.{HasCoreIfFailed};
 ghost use Rattle.varisat_search.specs.Restarts.{RestartsIfDue, SavesIfDue, RestartsAndRemembers};
-ghost use Rattle.varisat_search.specs.DueReductions.{ReducesLocalsIfDue, ReducesMidsIfDue, ReducesIfDue, KeepsSearch, GoesBySchedule};
+ghost use Rattle.varisat_search.specs.DueReductions.{ReducesLocalsIfDue, ReducesMidsIfDue, ReducesIfDue, KeepsSearch, BeginsStep, GoesBySchedule};
 ghost use Rattle.varisat_search.specs.StepErrors.{HasNoRoom, step_faults};
 ghost use Rattle.varisat_search.specs.Seen.{search_of};
 ghost use Rattle.varisat_trace.specs.Traces.{TakesLines, TakesStep, BreaksOff, faults_of, HoldsFor};
@@ -107,6 +107,36 @@ fn reduce_if_due<A: Allocator + Copy, P: ProofTracer>(
     Ok(())
 }
 
+/// Begins a step of the schedule: a restart, reductions of the learned clauses and a collection of garbage, each where
+/// it is due. Fails where it is out of memory or the tracer fails.
+pub fn begin_step<A: Allocator + Copy, P: ProofTracer>(
+    ctx: &mut Context<A>,
+    proof: &mut P,
+) -> Result<(), TraceError>
+    requires ready { IsReady ctx.old }
+    requires holds { HoldsFor (P.holds proof.old) (search_of (view ctx.old)) }
+    requires counted { ctx.old.schedule.steps < 2 ^ 64 - 1 }
+    // The tracer took the lines of the reductions, and may hold what fits the search then.
+    ensures begins { OnOk result (BeginsStep (λ lines. TakesLines P.takes proof.old lines proof.new) ctx.old ctx.new) }
+    ensures holds { OnOk result (HoldsFor (P.holds proof.new) (search_of (view ctx.new))) }
+    ensures later { ctx.new.schedule.steps < ctx.new.schedule.next_restart }
+    ensures kept { ctx.new ≡ record ctx.old {
+      assignment = ctx.new.assignment;
+      clause_alloc = ctx.new.clause_alloc;
+      clause_db = ctx.new.clause_db;
+      impl_graph = ctx.new.impl_graph;
+      schedule = step_begun ctx.old.solver_config.luby_restart_interval_scale ctx.old.schedule;
+      trail = ctx.new.trail;
+      vsids = ctx.new.vsids;
+      watchlists = ctx.new.watchlists;
+    } }
+    ensures broken { IfErr result (λ error. BreaksOff P.breaks_off proof.old (faults_of error) proof.new) }
+{
+    restart_if_due(ctx);
+    reduce_if_due(ctx, proof)?;
+    Ok(())
+}
+
 /// Makes one step of the schedule: a restart, reductions of the learned clauses and a collection of garbage, each where
 /// it is due, then a conflict step. The step is counted, unless it fails. Fails where it is out of memory, the clause store
 /// is full or the tracer fails.
@@ -141,8 +171,7 @@ pub fn schedule_step<A: Allocator + Copy, P: ProofTracer>(
     ensures full { IfErr result (λ error. error ≡ StepError.Full → HasNoRoom ctx.new) }
     ensures broken { IfErr result (λ error. BreaksOff P.breaks_off proof.old (step_faults error) proof.new) }
 {
-    restart_if_due(ctx);
-    reduce_if_due(ctx, proof)?;
+    begin_step(ctx, proof)?;
     conflict_step(ctx, proof)?;
     ctx.schedule.end_step();
     Ok(())

@@ -1,47 +1,38 @@
 use Rattle.varisat_search.specs.declared.error.StepError.TheVariants as step
-use Rattle.varisat_search.proofs.StepErrors.{trace-faults}
+use Rattle.varisat_search.proofs.StepErrors.{trace-faults, trace-unfilled}
 use Rattle.varisat_search.specs.StepErrors.{step_faults}
 use Rattle.varisat_trace.proofs.Broken.{passed-on}
 use Rattle.varisat_trace.specs.Traces.{faults_of}
-use Rattle.std.proofs.Common.{List, ap, ◌∙◌, sym, subst}
-use Rattle.varisat_theory.specs.Journals.{Entry, written}
+use Rattle.std.proofs.Common.{◌≢◌, ap, ◌∙◌, sym, subst, refl}
 use Rattle.varisat_names.specs.Variables.{Tables}
 use Rattle.varisat_tracer.specs.Tracing.{parts_of, Relies, BreaksProof}
 use Rattle.varisat_tracer.proofs.Telling.{relies-any, breaks-proof, proof-unbroken, proof-breaks-on}
-use Rattle.varisat_search.specs.declared.state.SatState.TheVariants as verdict
-use Rattle.varisat.specs.States.{State}
-use Rattle.varisat.specs.Spaces.{SpacesFit}
-use Rattle.varisat.specs.Summaries.{spaces_of, IsKept}
+use Rattle.varisat.specs.Searches.{TellsSome, ComesOn}
+use Rattle.varisat.specs.Summaries.{undecided_spaces, IsKept}
 use Rattle.varisat.proofs.SearchVerdicts.{kept-on}
-use Rattle.varisat.proofs.PlainTold.{proof-told, proof-quiet, proof-through}
 use Rattle.varisat.proofs.dropping.drop_fixed.Given.{Over}
 use Rattle.varisat.proofs.dropping.drop_fixed.Goals.{In-Ok}
 use Rattle.varisat_search.specs.declared.context.Context.{Context}
 use Rattle.varisat_search.specs.Contexts.{view}
 use Rattle.varisat_search.proofs.LeastHeld.{anything-for}
 use Rattle.varisat.proofs.SinceSteps.{come-settled}
-use Rattle.varisat.specs.Journals.{retold, TellsMore, TellsProof}
-use Rattle.varisat.proofs.ToldEntries.{tells-through}
-use Rattle.varisat.proofs.SolverCalls.{settled-stands}
+use Rattle.varisat.proofs.SolverSteps.{comes-nowhere, comes-through, leaving-comes, unknown-undecided, part-comes, some-none}
 use Rattle.varisat.proofs.dropping.drop_fixed.Goals as goal
 
 pub settle-requires-clause-holds : goal.settle-requires-clause-holds
 settle-requires-clause-holds g c = let x = parts_of c.args.tracer.now in anything-for (Relies x) (relies-any x c.requires.tells) (view c.args.ctx.now)
 
--- what settling told, and what stands for the state then
-begun : (g : Over) (c : In-Ok g) (s : State) → SpacesFit (spaces_of c.args.tracer.now.variables (view c.args.ctx.now) c.args.ctx.now.assumptions verdict.Unknown) s → (told : List Entry) × TellsMore 0 s.told told × TellsProof s.ever_hidden s.told told c.args.tracer.now.proof c.settle.new.proof.proof × SpacesFit (spaces_of c.settle.new.proof.variables (view c.settle.new.ctx) c.settle.new.ctx.assumptions verdict.Unknown) (retold told s)
-begun g c s fit =
-    let x = c.args.ctx.now in
-    let y = c.settle.new.ctx in
-    let e = c.settle.ensures.kept in
+-- what settling comes to
+begun : (g : Over) (c : In-Ok g) → ComesOn 0 (undecided_spaces c.args.tracer.now.variables c.args.ctx.now) (undecided_spaces c.settle.new.proof.variables c.settle.new.ctx) c.args.tracer.now.proof c.settle.new.proof.proof
+begun g c =
     let goes = (c.in-Ok.ensures {u = tt}).goes_on in
-    let taken = goes.proves.2.1 in
-    let (first, a, plain, fits) = settled-stands c.args.tracer.now.variables _ x y c.requires.kept goes (ap (λ (z : Context g.row.A.Denot). z.assumptions) e) s fit in (
-      first,
-      a,
-      proof-told (parts_of c.args.tracer.now) (parts_of c.settle.new.proof) (written goes.proves.0) s.ever_hidden s.told first taken plain,
-      subst (λ (t : Tables). SpacesFit (spaces_of t (view y) y.assumptions verdict.Unknown) (retold first s)) (sym taken.tables) fits,
-    )
+    let (lines, proves, (settles, takes)) = goes.proves in
+    part-comes (parts_of c.args.tracer.now) (parts_of c.settle.new.proof) c.args.ctx.now c.settle.new.ctx lines c.requires.kept proves takes goes.ready goes.extends.count goes.decidable
+    (ap (λ (z : Context g.row.A.Denot). z.assumptions) c.settle.ensures.kept)
+
+-- and what the proof was told
+settled-told : (g : Over) (c : In-Ok g) → TellsSome c.args.tracer.now.proof c.settle.new.proof.proof
+settled-told g c = (_, (c.in-Ok.ensures {u = tt}).goes_on.proves.2.1.told)
 
 -- the solver keeps what it did
 kept : (g : Over) (c : In-Ok g) → IsKept c.settle.new.proof.variables c.settle.new.ctx
@@ -67,32 +58,46 @@ pub returns-clause-count : goal.returns-clause-count
 returns-clause-count g c =
     (c.in_ok-drop_unneeded.ensures {u = tt}).leave.count ∙ (c.in_ok-drop_listed.ensures {u = tt}).leave.count ∙ (c.in-Ok.ensures {u = tt}).goes_on.extends.count
 
+pub returns-then-current_level-gt0-clause-told : goal.returns-then-current_level-gt0-clause-told
+returns-then-current_level-gt0-clause-told g c = some-none c.args.tracer.now.proof
+
+pub returns-then-is_err-clause-told : goal.returns-then-is_err-clause-told
+returns-then-is_err-clause-told g c = settled-told g (goal.at.returns-then-is_err-clause-told g c).In-Ok
+
+pub returns-clause-told : goal.returns-clause-told
+returns-clause-told g c = settled-told g (goal.at.returns-clause-told g c).In-Ok
+
+pub returns-then-current_level-gt0-clause-stands : goal.returns-then-current_level-gt0-clause-stands
+returns-then-current_level-gt0-clause-stands g c s fit = comes-nowhere 0 s c.args.tracer.now.proof _ refl fit
+
 pub returns-then-is_err-clause-stands : goal.returns-then-is_err-clause-stands
-returns-then-is_err-clause-stands g c s fit = begun g (goal.at.returns-then-is_err-clause-stands g c).In-Ok s fit
+returns-then-is_err-clause-stands g c = begun g (goal.at.returns-then-is_err-clause-stands g c).In-Ok
 
 pub returns-clause-stands : goal.returns-clause-stands
-returns-clause-stands g c s fit =
-    let q = c.settle.new.proof.proof in
-    let (first, a, proof, fits) = begun g (goal.at.returns-clause-stands g c).In-Ok s fit in
-    let (second, b, mid) = (c.in_ok-drop_listed.ensures {u = tt}).leave.stands (retold first s) fits in
-    let (third, d, last) = (c.in_ok-drop_unneeded.ensures {u = tt}).leave.stands (retold second s) mid in (
-      third,
-      tells-through 0 0 s.told second third (tells-through 0 0 s.told first second a b.more) d.more,
-      proof-through s.ever_hidden s.told first third c.args.tracer.now.proof q q proof (proof-quiet s.ever_hidden first third q (λ e. d.quiet e ∙ b.quiet e)),
-      last,
-    )
+returns-clause-stands g c =
+    let p = c.args.tracer.now in
+    let q = c.settle.new.proof in
+    let x = c.args.ctx.now in
+    let y = c.settle.new.ctx in
+    let u = c.drop_listed.new.ctx in
+    let z = c.drop_unneeded.new.ctx in
+    let t = c.drop_listed.new.variables in
+    let last = c.drop_unneeded.new.variables in
+    comes-through 0 0 0 p.proof q.proof q.proof (undecided_spaces p.variables x) (undecided_spaces q.variables y) (undecided_spaces last z) refl (unknown-undecided q.variables y)
+    (begun g (goal.at.returns-clause-stands g c).In-Ok)
+    (comes-through 0 0 0 q.proof q.proof q.proof (undecided_spaces q.variables y) (undecided_spaces t u) (undecided_spaces last z) refl (unknown-undecided t u)
+    (leaving-comes q.proof (undecided_spaces q.variables y) (undecided_spaces t u) (c.in_ok-drop_listed.ensures {u = tt}).leave.stands)
+    (leaving-comes q.proof (undecided_spaces t u) (undecided_spaces last z) (c.in_ok-drop_unneeded.ensures {u = tt}).leave.stands))
 
-pub returns-then-is_err-clause-since : goal.returns-then-is_err-clause-since
-returns-then-is_err-clause-since g c =
-    let e = c.settle.ensures.kept in
-    come-settled _ c.args.ctx.now c.settle.new.ctx (c.in-Ok.ensures {u = tt}).goes_on (ap (λ (z : Context g.row.A.Denot). z.schedule) e) (ap (λ (z : Context g.row.A.Denot). z.solver_config) e)
+pub returns-then-is_err-clause-within : goal.returns-then-is_err-clause-within
+returns-then-is_err-clause-within g c =
+    come-settled _ c.args.ctx.now c.settle.new.ctx (c.in-Ok.ensures {u = tt}).goes_on (ap (λ (z : Context g.row.A.Denot). z.solver_config) c.settle.ensures.kept)
 
-pub returns-clause-since : goal.returns-clause-since
-returns-clause-since g c i k =
-    let e = c.settle.ensures.kept in
-    (c.in_ok-drop_unneeded.ensures {u = tt}).leave.since i
-    ((c.in_ok-drop_listed.ensures {u = tt}).leave.since i
-    (come-settled _ c.args.ctx.now c.settle.new.ctx (c.in-Ok.ensures {u = tt}).goes_on (ap (λ (z : Context g.row.A.Denot). z.schedule) e) (ap (λ (z : Context g.row.A.Denot). z.solver_config) e) i k))
+pub returns-clause-within : goal.returns-clause-within
+returns-clause-within g c i q k =
+    (c.in_ok-drop_unneeded.ensures {u = tt}).leave.within i q
+    ((c.in_ok-drop_listed.ensures {u = tt}).leave.within i q
+    (come-settled _ c.args.ctx.now c.settle.new.ctx (c.in-Ok.ensures {u = tt}).goes_on (ap (λ (z : Context g.row.A.Denot). z.solver_config) c.settle.ensures.kept) i q k))
 
 pub returns-in-Err-clause-broken : goal.returns-in-Err-clause-broken
 returns-in-Err-clause-broken g c =
@@ -101,6 +106,9 @@ returns-in-Err-clause-broken g c =
     let q = c.settle.new.proof in
     subst (λ z. BreaksProof p.proof (step_faults z) q.proof) (sym c.from.ensures)
     (subst (λ n. BreaksProof p.proof n q.proof) (trace-faults e) (breaks-proof (parts_of p) (parts_of q) (faults_of e) (c.in-Err.ensures {u = tt}).broken))
+
+pub returns-in-Err-clause-full : goal.returns-in-Err-clause-full
+returns-in-Err-clause-full g c = subst (λ z. z ≢ step.Full) (sym c.from.ensures) (trace-unfilled c.in-Err.error)
 
 pub returns-in_err-drop_listed-clause-broken : goal.returns-in_err-drop_listed-clause-broken
 returns-in_err-drop_listed-clause-broken g c =
@@ -115,3 +123,9 @@ returns-in_err-drop_unneeded-clause-broken g c =
     let q = c.settle.new.proof.proof in
     passed-on c.from_residual-in_err-drop_unneeded.result step.Memory (λ z. BreaksProof p (step_faults z) q) c.from_residual-in_err-drop_unneeded.ensures
     (proof-breaks-on p q q _ 0 (c.in-Ok.ensures {u = tt}).goes_on.proves.2.1.told (proof-unbroken q))
+
+pub returns-in_err-drop_listed-clause-full : goal.returns-in_err-drop_listed-clause-full
+returns-in_err-drop_listed-clause-full g c = passed-on c.from_residual.result step.Memory (λ z. z ≢ step.Full) c.from_residual.ensures (λ e. cc)
+
+pub returns-in_err-drop_unneeded-clause-full : goal.returns-in_err-drop_unneeded-clause-full
+returns-in_err-drop_unneeded-clause-full g c = passed-on c.from_residual-in_err-drop_unneeded.result step.Memory (λ z. z ≢ step.Full) c.from_residual-in_err-drop_unneeded.ensures (λ e. cc)

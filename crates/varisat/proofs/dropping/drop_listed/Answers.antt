@@ -86,8 +86,8 @@ returns-clause-leave g c =
     let gone = left g here.In_ok-drop_solver_vars (flags g here.In_ok-gone) in
     record {
       kept = kept-dropped gone;
-      since = come-dropped c.deref-2.result.now x y c.requires.kept.ready c.requires.settled e.ready e.dropped e.decidable
-          (ap (λ (z : Context g.row.A.Denot). z.schedule) e.kept) (ap (λ (z : Context g.row.A.Denot). z.solver_config) e.kept);
+      within = come-dropped c.deref-2.result.now x y c.requires.kept.ready c.requires.settled e.ready e.dropped e.decidable
+          (ap (λ (z : Context g.row.A.Denot). z.solver_config) e.kept);
       count = values-left gone;
       stands = λ s fit.
           stands-dropped gone c.requires.settled (dropped g here.In_ok-drop_solver_vars)

@@ -1,138 +1,135 @@
-use Rattle.varisat_search.proofs.StepErrors.{step-passed}
-use Rattle.varisat_trace.proofs.Broken.{breaks-on}
-use Rattle.std.proofs.Common.{◌≡◌, ◌-◌, List, ◌∙◌, ⊎_elim, inl, inr, ap, sym, subst, refl, true, false, arith}
-use Rattle.varisat_theory.specs.Derivations.{Line}
-use Rattle.varisat_theory.specs.Outcomes.{Outcome, Unknown, Steps}
-use Rattle.varisat_trace.specs.Traces.{TakesStep}
+use Rattle.std.proofs.Common.{◌≡◌, ◌-◌, ◌∙◌, ⊎_elim, inl, inr, ap, sym, subst, refl, Bool, true, false, Option, arith}
+use Rattle.varisat_trace.proofs.Broken.{passed-on}
+use Rattle.varisat_search.specs.StepErrors.{step_faults}
 use Rattle.varisat_search.specs.declared.state.SolverState.{SolverState}
 use Rattle.varisat_search.specs.declared.state.SatState.TheVariants as verdict
 use Rattle.varisat_schedule.specs.CallSteps.{steps_since}
-use Rattle.varisat_search.specs.AssumptionParts.{KeepsAssumptions}
-use Rattle.varisat_search.specs.Contexts.{view}
-use Rattle.varisat_search.specs.Decisions.{SameDecidable}
-use Rattle.varisat_search.specs.Seen.{search_of, outcome_of}
-use Rattle.varisat_search.proofs.AssumptionSteps.{keeps-refl}
-use Rattle.varisat_search.proofs.DecidableVariables.{same-refl, same-trans}
+use Rattle.varisat_tracer.specs.Tracing.{parts_of, BreaksProof}
+use Rattle.varisat_tracer.proofs.Telling.{proof-breaks-on}
 use Rattle.varisat.specs.Budgets.{CountsSteps}
-use Rattle.varisat.specs.Searches.{answer_at, MakesTold}
-use Rattle.varisat.proofs.FindVerdictSteps.{searching-at, not-less, Stepping, stepping-goes-on, stepping-lines, stepping-keeps, stepping-counts, stepping-since, stepping-shortens, none-made, counts-spent, counts-refused, since-stopped, no-lines, holds-step, told-refused, not-spent, room}
+use Rattle.varisat.specs.Searches.{answer_at, ComesOn, MakesSolverStep, FindsVerdict}
+use Rattle.varisat.specs.Summaries.{undecided_spaces, spaces_with}
+use Rattle.varisat.proofs.FindVerdictSteps.{searching-at, not-less, Stepping, one-more, stepping-moved, stepping-goes-on, stepping-counts, stepping-since, stepping-shortens, none-made, counts-spent, counts-refused, since-stopped, told-refused, not-spent, room}
+use Rattle.varisat.proofs.SolverSteps.{comes-nowhere, comes-through, comes-undecided, comes-decided, unknown-undecided, some-none, some-through}
 use Rattle.varisat.proofs.solving.find_verdict.Given.{Over}
-use Rattle.varisat.proofs.solving.find_verdict.Goals.{In_ok-schedule_step}
+use Rattle.varisat.proofs.solving.find_verdict.Goals.{In_ok-make_step}
 use Rattle.varisat.proofs.solving.find_verdict.Goals as goal
 use Rattle.varisat.proofs.solving.find_verdict.Goals.{then-steps-first-via-then-steps-first, then-steps-first-via-else-steps-first+then-steps}
 
-stepping : (g : Over) (c : In_ok-schedule_step g) → Stepping c.args.ctx.now c.steps.ctx c.schedule_step.new.ctx c.args.max_steps
+-- the step that was made
+made : (g : Over) (c : In_ok-make_step g) → MakesSolverStep (parts_of c.steps.tracer) (parts_of c.make_step.new.tracer) c.steps.ctx c.make_step.new.ctx
+made g c = (c.in_ok-make_step.ensures {u = tt}).made
+
+stepping : (g : Over) (c : In_ok-make_step g) → Stepping c.args.ctx.now c.steps.ctx c.make_step.new.ctx c.args.max_steps
 stepping g c =
     let r = c.steps.invariant in
-    let e = c.in_ok-schedule_step.ensures in
     record {
-      searching = searching-at c.args.ctx.now c.steps.ctx c.args.max_steps c.prove_in_range.ensures.luby_restart_interval_scale c.requires.ready c.requires.unknown r.count r.config r.made;
-      assumes = r.assumes;
+      searching = searching-at c.args.ctx.now c.steps.ctx c.args.max_steps c.prove_in_range.ensures.luby_restart_interval_scale c.requires.kept.ready c.requires.unknown r.count r.config r.made;
       left = not-spent c.args.ctx.now.schedule c.steps.ctx.schedule c.args.max_steps c.steps-first.result c.steps-steps.result c.steps-first.ensures.steps c.steps-steps.ensures.steps c.if-steps-first.false;
-      countable = room c.steps.ctx.schedule c.steps-steps.result c.steps-steps.ensures.steps c.steps-steps.type_inv c.if-steps.false;
-      next = e.schedule;
-      ready = e.ready;
-      same_config = e.config;
-      same_count = e.count;
-      decidable = e.decidable;
+      next = (c.in_ok-make_step.ensures {u = tt}).schedule;
+      same_count = (made g c).count;
     }
 
-decidable-still : (g : Over) (c : In_ok-schedule_step g) → SameDecidable (view c.args.ctx.now) c.args.ctx.now.vsids (view c.schedule_step.new.ctx) c.schedule_step.new.ctx.vsids
-decidable-still g c =
+-- what the steps come to with it
+stepped : (g : Over) (c : In_ok-make_step g) → ComesOn (steps_since c.args.ctx.now.schedule c.make_step.new.ctx.schedule) (undecided_spaces c.args.tracer.now.variables c.args.ctx.now) (spaces_with c.make_step.new.tracer.variables c.make_step.new.ctx) c.args.tracer.now.proof c.make_step.new.tracer.proof
+stepped g c =
+    let p = c.args.tracer.now in
+    let q = c.steps.tracer in
+    let r = c.make_step.new.tracer in
     let x = c.args.ctx.now in
     let y = c.steps.ctx in
-    let z = c.schedule_step.new.ctx in
-    same-trans (view x) x.vsids (view y) y.vsids (view z) z.vsids c.steps.invariant.decidable c.in_ok-schedule_step.ensures.decidable
+    let z = c.make_step.new.ctx in
+    comes-through (steps_since x.schedule y.schedule) 1 (steps_since x.schedule z.schedule) p.proof q.proof r.proof (undecided_spaces p.variables x) (undecided_spaces q.variables y) (spaces_with r.variables z)
+    (one-more (stepping g c)) (unknown-undecided q.variables y) c.steps.invariant.stands (made g c).stands
 
--- the outcome of a step, the lines up to it, and the assumptions after it
-abbrev told : (g : Over) (c : In_ok-schedule_step g) → Outcome
-told g c = outcome_of (view c.schedule_step.new.ctx) c.schedule_step.new.ctx.assumptions.failed_core c.schedule_step.new.ctx.solver_state.sat_state
+-- the solver's state but for the verdict
+same-state : (g : Over) (c : In_ok-make_step g) → c.make_step.new.ctx.solver_state ≡ record c.args.ctx.now.solver_state { sat_state = c.make_step.new.ctx.solver_state.sat_state }
+same-state g c = (made g c).state ∙ ap (λ (s : SolverState). record s { sat_state = c.make_step.new.ctx.solver_state.sat_state }) c.steps.invariant.state
 
--- the lines of the step, which the tracer took
-taken : (g : Over) (c : In_ok-schedule_step g) → (lines : List Line) × Steps (search_of (view c.steps.ctx)) (search_of (view c.schedule_step.new.ctx)) (told g c) lines × TakesStep g.P.ProofTracer.takes c.steps.proof lines (told g c) c.schedule_step.new.proof
-taken g c = let (lines, p, i) = c.in_ok-schedule_step.ensures.steps in (lines, p, i.1)
+-- a verdict that it comes to
+found : (g : Over) (c : In_ok-make_step g) (answer : Option Bool) → answer ≡ answer_at c.make_step.new.ctx.solver_state.sat_state → FindsVerdict (parts_of c.args.tracer.now) (parts_of c.make_step.new.tracer) c.args.ctx.now c.make_step.new.ctx answer
+found g c answer e = record {
+  kept = (made g c).kept;
+  tells = (made g c).tells;
+  state = same-state g c;
+  answer = e;
+  stands = stepped g c;
+  still = λ s. absurd (stepping-moved (stepping g c) s);
+}
 
-lines-told : (g : Over) (c : In_ok-schedule_step g) → MakesTold g.P.ProofTracer.takes c.args.proof.now c.schedule_step.new.proof (steps_since c.args.ctx.now.schedule c.schedule_step.new.ctx.schedule) (search_of (view c.args.ctx.now)) (search_of (view c.schedule_step.new.ctx)) (told g c)
-lines-told g c = stepping-lines (stepping g c) g.P.ProofTracer.holds g.P.ProofTracer.takes g.met.P.ProofTracer.takes_more c.args.proof.now c.steps.proof c.schedule_step.new.proof (told g c) c.steps.invariant.lines (taken g c)
+pub make_step-requires-clause-unknown : goal.make_step-requires-clause-unknown
+make_step-requires-clause-unknown g c = ap (λ (s : SolverState). s.sat_state) c.steps.invariant.state ∙ c.requires.unknown
 
-keeps-told : (g : Over) (c : In_ok-schedule_step g) → KeepsAssumptions (search_of (view c.args.ctx.now)) (told g c) c.args.ctx.now.assumptions c.schedule_step.new.ctx.assumptions
-keeps-told g c = let made = c.steps.invariant.lines in stepping-keeps (stepping g c) made.0 made.1 (told g c) c.in_ok-schedule_step.ensures.assumes
-
-pub schedule_step-requires-clause-holds : goal.schedule_step-requires-clause-holds
-schedule_step-requires-clause-holds g c = c.steps.invariant.holds
+pub make_step-requires-clause-counted : goal.make_step-requires-clause-counted
+make_step-requires-clause-counted g c = room c.steps.ctx.schedule c.steps-steps.result c.steps-steps.ensures.steps c.steps-steps.type_inv c.if-steps.false
 
 pub steps-init : goal.steps-init
 steps-init g c =
     let x = c.args.ctx.now in
+    let p = c.args.tracer.now in
     record {
-      ready = c.requires.ready;
+      kept = c.requires.kept;
+      tells = c.requires.tells;
+      told = some-none p.proof;
       count = refl;
-      decidable = same-refl (view x) x.vsids;
       state = refl;
       config = refl;
       made = none-made x c.args.max_steps c.steps-first.ensures.plan;
-      holds = c.requires.holds;
-      lines = no-lines g.P.ProofTracer.holds g.P.ProofTracer.takes g.met.P.ProofTracer.takes_none c.args.proof.now x.schedule (search_of (view x));
-      assumes = keeps-refl (search_of (view x)) x.assumptions;
+      stands = λ s fit. comes-nowhere (steps_since x.schedule x.schedule) s p.proof (undecided_spaces p.variables x) (omega arith) fit;
+      still = λ e. (refl, refl);
     }
 
 pub overflow_sub-steps : goal.overflow_sub-steps
 overflow_sub-steps g c =
     let r = c.steps.invariant in
-    let k = not-less (searching-at c.args.ctx.now c.steps.ctx c.args.max_steps c.prove_in_range.ensures.luby_restart_interval_scale c.requires.ready c.requires.unknown r.count r.config r.made) in
+    let k = not-less (searching-at c.args.ctx.now c.steps.ctx c.args.max_steps c.prove_in_range.ensures.luby_restart_interval_scale c.requires.kept.ready c.requires.unknown r.count r.config r.made) in
     let a = c.steps-first.ensures.steps in
     let b = c.steps-steps.ensures.steps in
     omega (arith, k, a, b)
 
 pub steps-smaller : goal.steps-smaller
-steps-smaller g c = stepping-shortens (stepping g (goal.at.steps-smaller g c).In_ok-schedule_step)
+steps-smaller g c = stepping-shortens (stepping g (goal.at.steps-smaller g c).In_ok-make_step)
 
 pub steps-preserved : goal.steps-preserved
 steps-preserved g c =
-    let y = c.steps.ctx in
-    let z = c.schedule_step.new.ctx in
-    let r = c.steps.invariant in
-    let e = c.in_ok-schedule_step.ensures in
-    let h = (goal.at.steps-preserved g c).In_ok-schedule_step in
+    let p = c.args.tracer.now in
+    let r = c.make_step.new.tracer in
+    let z = c.make_step.new.ctx in
+    let h = (goal.at.steps-preserved g c).In_ok-make_step in
+    let m = made g h in
     let d = stepping g h in
+    let i = c.steps.invariant in
     record {
-      ready = e.ready;
-      count = e.count ∙ r.count;
-      decidable = decidable-still g (goal.at.steps-preserved g c).In_ok-schedule_step;
-      state = e.state ∙ ap (λ v. record y.solver_state { sat_state = v }) (c.in-Unknown.is ∙ sym (ap (λ (s : SolverState). s.sat_state) r.state ∙ c.requires.unknown)) ∙ r.state;
-      config = e.config ∙ r.config;
-      made = stepping-goes-on d (e.rises c.in-Unknown.is);
-      holds = holds-step g.P.ProofTracer.holds g.P.ProofTracer.takes g.met.P.ProofTracer.holds_after c.steps.proof c.schedule_step.new.proof (search_of (view y)) (search_of (view z)) (told g h) (ap (outcome_of (view z) z.assumptions.failed_core) c.in-Unknown.is) r.holds (taken g h);
-      lines = subst (λ b. MakesTold g.P.ProofTracer.takes c.args.proof.now c.schedule_step.new.proof (steps_since c.args.ctx.now.schedule z.schedule) (search_of (view c.args.ctx.now)) (search_of (view z)) (outcome_of (view z) z.assumptions.failed_core b)) c.in-Unknown.is (lines-told g h);
-      assumes = stepping-keeps d r.lines.0 r.lines.1 Unknown (subst (λ b. KeepsAssumptions (search_of (view y)) (outcome_of (view z) z.assumptions.failed_core b) y.assumptions z.assumptions) c.in-Unknown.is e.assumes);
+      kept = m.kept;
+      tells = m.tells;
+      told = some-through p.proof c.steps.tracer.proof r.proof i.told m.told;
+      count = m.count ∙ i.count;
+      state = same-state g h ∙ ap (λ v. record c.args.ctx.now.solver_state { sat_state = v }) (c.in-Unknown.is ∙ sym c.requires.unknown);
+      config = c.make_step.ensures.config ∙ i.config;
+      made = stepping-goes-on d (m.since c.in-Unknown.is);
+      stands = comes-undecided _ (undecided_spaces p.variables c.args.ctx.now) r.variables z p.proof r.proof c.in-Unknown.is (stepped g h);
+      still = λ e. absurd (stepping-moved d e);
     }
 
-pub returns-then-steps-first-clause-state : goal.returns-then-steps-first-clause-state
-returns-then-steps-first-clause-state g c = ap (λ (s : SolverState). record s { sat_state = c.steps.ctx.solver_state.sat_state }) c.steps.invariant.state
-
 pub returns-then-steps-first-clause-found : goal.returns-then-steps-first-clause-found
-returns-then-steps-first-clause-found g c = sym (ap (λ (s : SolverState). answer_at s.sat_state) c.steps.invariant.state ∙ ap answer_at c.requires.unknown)
-
-pub returns-then-steps-first-clause-steps : goal.returns-then-steps-first-clause-steps
-returns-then-steps-first-clause-steps g c =
-    let x = c.args.ctx.now in
-    let y = c.steps.ctx in
-    let unknown = ap (λ (s : SolverState). s.sat_state) c.steps.invariant.state ∙ c.requires.unknown in
-    subst (λ b. MakesTold g.P.ProofTracer.takes c.args.proof.now c.steps.proof (steps_since x.schedule y.schedule) (search_of (view x)) (search_of (view y)) (outcome_of (view y) y.assumptions.failed_core b)) (sym unknown) c.steps.invariant.lines
-
-pub returns-then-steps-first-clause-assumptions : goal.returns-then-steps-first-clause-assumptions
-returns-then-steps-first-clause-assumptions g c =
-    let x = c.args.ctx.now in
-    let y = c.steps.ctx in
-    let unknown = ap (λ (s : SolverState). s.sat_state) c.steps.invariant.state ∙ c.requires.unknown in
-    subst (λ b. KeepsAssumptions (search_of (view x)) (outcome_of (view y) y.assumptions.failed_core b) x.assumptions y.assumptions) (sym unknown) c.steps.invariant.assumes
+returns-then-steps-first-clause-found g c =
+    let i = c.steps.invariant in
+    let unknown = ap (λ (s : SolverState). s.sat_state) i.state ∙ c.requires.unknown in
+    record {
+      kept = i.kept;
+      tells = i.tells;
+      state = ap (λ (s : SolverState). record s { sat_state = c.steps.ctx.solver_state.sat_state }) i.state;
+      answer = sym (ap answer_at unknown);
+      stands = comes-decided _ (undecided_spaces c.args.tracer.now.variables c.args.ctx.now) c.steps.tracer.variables c.steps.ctx c.args.tracer.now.proof c.steps.tracer.proof unknown i.stands;
+      still = i.still;
+    }
 
 pub returns-then-steps-first-clause-counted : goal.returns-then-steps-first-clause-counted
 returns-then-steps-first-clause-counted g c n changed_at h k =
     let x = c.args.ctx.now in
     let y = c.steps.ctx in
     let r = c.steps.invariant in
-    counts-spent (searching-at x y c.args.max_steps c.prove_in_range.ensures.luby_restart_interval_scale c.requires.ready c.requires.unknown r.count r.config r.made) changed_at k
+    counts-spent (searching-at x y c.args.max_steps c.prove_in_range.ensures.luby_restart_interval_scale c.requires.kept.ready c.requires.unknown r.count r.config r.made) changed_at k
     (elim c.then-steps-first.branch [
       | then-steps-first-via-then-steps-first w ↦ inl (let a = c.steps-first.ensures.steps in let b = c.steps-steps.ensures.steps in let d = w.if-steps-first.true in omega (arith, a, b, d))
       | then-steps-first-via-else-steps-first+then-steps w ↦ inr (sym c.steps-steps.ensures.steps ∙ w.if-steps.true)
@@ -142,63 +139,43 @@ returns-then-steps-first-clause-counted g c n changed_at h k =
 pub returns-then-steps-first-clause-since : goal.returns-then-steps-first-clause-since
 returns-then-steps-first-clause-since g c changed_at k =
     let r = c.steps.invariant in
-    since-stopped (searching-at c.args.ctx.now c.steps.ctx c.args.max_steps c.prove_in_range.ensures.luby_restart_interval_scale c.requires.ready c.requires.unknown r.count r.config r.made) changed_at k
-
-pub returns-in-Sat-clause-counted : goal.returns-in-Sat-clause-counted
-returns-in-Sat-clause-counted g c n changed_at h k = stepping-counts (stepping g (goal.at.returns-in-Sat-clause-counted g c).In_ok-schedule_step) true n changed_at h k
-
-pub returns-in-Sat-clause-since : goal.returns-in-Sat-clause-since
-returns-in-Sat-clause-since g c changed_at k = stepping-since (stepping g (goal.at.returns-in-Sat-clause-since g c).In_ok-schedule_step) (λ u. let z : verdict.Sat ≡ verdict.Unknown = sym c.in-Sat.is ∙ u in cc) changed_at k
-
-pub returns-in-Sat-clause-decidable : goal.returns-in-Sat-clause-decidable
-returns-in-Sat-clause-decidable g c = decidable-still g (goal.at.returns-in-Sat-clause-decidable g c).In_ok-schedule_step
-
-pub returns-in-Sat-clause-state : goal.returns-in-Sat-clause-state
-returns-in-Sat-clause-state g c = c.in_ok-schedule_step.ensures.state ∙ ap (λ (s : SolverState). record s { sat_state = c.schedule_step.new.ctx.solver_state.sat_state }) c.steps.invariant.state
+    since-stopped (searching-at c.args.ctx.now c.steps.ctx c.args.max_steps c.prove_in_range.ensures.luby_restart_interval_scale c.requires.kept.ready c.requires.unknown r.count r.config r.made) changed_at k
 
 pub returns-in-Sat-clause-found : goal.returns-in-Sat-clause-found
-returns-in-Sat-clause-found g c = sym (ap answer_at c.in-Sat.is)
+returns-in-Sat-clause-found g c = found g (goal.at.returns-in-Sat-clause-found g c).In_ok-make_step _ (sym (ap answer_at c.in-Sat.is))
 
-pub returns-in-Sat-clause-steps : goal.returns-in-Sat-clause-steps
-returns-in-Sat-clause-steps g c = lines-told g (goal.at.returns-in-Sat-clause-steps g c).In_ok-schedule_step
+pub returns-in-Sat-clause-counted : goal.returns-in-Sat-clause-counted
+returns-in-Sat-clause-counted g c n changed_at h k = stepping-counts (stepping g (goal.at.returns-in-Sat-clause-counted g c).In_ok-make_step) true n changed_at h k
 
-pub returns-in-Sat-clause-assumptions : goal.returns-in-Sat-clause-assumptions
-returns-in-Sat-clause-assumptions g c = keeps-told g (goal.at.returns-in-Sat-clause-assumptions g c).In_ok-schedule_step
-
-pub returns-in-Unsat-clause-state : goal.returns-in-Unsat-clause-state
-returns-in-Unsat-clause-state g c = c.in_ok-schedule_step.ensures.state ∙ ap (λ (s : SolverState). record s { sat_state = c.schedule_step.new.ctx.solver_state.sat_state }) c.steps.invariant.state
+pub returns-in-Sat-clause-since : goal.returns-in-Sat-clause-since
+returns-in-Sat-clause-since g c changed_at k = stepping-since (stepping g (goal.at.returns-in-Sat-clause-since g c).In_ok-make_step) (λ u. let z : verdict.Sat ≡ verdict.Unknown = sym c.in-Sat.is ∙ u in cc) changed_at k
 
 pub returns-in-Unsat-clause-found : goal.returns-in-Unsat-clause-found
-returns-in-Unsat-clause-found g c = ⊎_elim (λ q. sym (ap answer_at q)) (λ q. sym (ap answer_at q)) c.in-Unsat.is
-
-pub returns-in-Unsat-clause-steps : goal.returns-in-Unsat-clause-steps
-returns-in-Unsat-clause-steps g c = lines-told g (goal.at.returns-in-Unsat-clause-steps g c).In_ok-schedule_step
-
-pub returns-in-Unsat-clause-assumptions : goal.returns-in-Unsat-clause-assumptions
-returns-in-Unsat-clause-assumptions g c = keeps-told g (goal.at.returns-in-Unsat-clause-assumptions g c).In_ok-schedule_step
-
-pub returns-in-Unsat-clause-decidable : goal.returns-in-Unsat-clause-decidable
-returns-in-Unsat-clause-decidable g c = decidable-still g (goal.at.returns-in-Unsat-clause-decidable g c).In_ok-schedule_step
+returns-in-Unsat-clause-found g c = found g (goal.at.returns-in-Unsat-clause-found g c).In_ok-make_step _ (⊎_elim (λ q. sym (ap answer_at q)) (λ q. sym (ap answer_at q)) c.in-Unsat.is)
 
 pub returns-in-Unsat-clause-counted : goal.returns-in-Unsat-clause-counted
-returns-in-Unsat-clause-counted g c n changed_at h k = stepping-counts (stepping g (goal.at.returns-in-Unsat-clause-counted g c).In_ok-schedule_step) false n changed_at h k
+returns-in-Unsat-clause-counted g c n changed_at h k = stepping-counts (stepping g (goal.at.returns-in-Unsat-clause-counted g c).In_ok-make_step) false n changed_at h k
 
 pub returns-in-Unsat-clause-since : goal.returns-in-Unsat-clause-since
 returns-in-Unsat-clause-since g c changed_at k =
-    stepping-since (stepping g (goal.at.returns-in-Unsat-clause-since g c).In_ok-schedule_step)
+    stepping-since (stepping g (goal.at.returns-in-Unsat-clause-since g c).In_ok-make_step)
     (λ u. ⊎_elim (λ e. let z : verdict.Unsat ≡ verdict.Unknown = sym e ∙ u in absurd cc) (λ e. let z : verdict.UnsatUnderAssumptions ≡ verdict.Unknown = sym e ∙ u in absurd cc) c.in-Unsat.is)
     changed_at k
 
-pub returns-in_err-schedule_step-clause-counted : goal.returns-in_err-schedule_step-clause-counted
-returns-in_err-schedule_step-clause-counted g c n changed_at h k =
+pub returns-in_err-make_step-clause-counted : goal.returns-in_err-make_step-clause-counted
+returns-in_err-make_step-clause-counted g c n changed_at h k =
     let x = c.args.ctx.now in
     let y = c.steps.ctx in
     let r = c.steps.invariant in
     let (e, told) = told-refused c.from_residual.result c.from_residual.ensures.0 in
-    subst (λ a. CountsSteps n c.args.max_steps (x.schedule.steps - changed_at) x.schedule.steps c.schedule_step.new.ctx.schedule.steps a) (sym told)
-    (counts-refused (searching-at x y c.args.max_steps c.prove_in_range.ensures.luby_restart_interval_scale c.requires.ready c.requires.unknown r.count r.config r.made) changed_at k e c.schedule_step.new.ctx.schedule.steps (c.in_err-schedule_step.ensures {u = tt}).uncounted n h)
+    subst (λ a. CountsSteps n c.args.max_steps (x.schedule.steps - changed_at) x.schedule.steps c.make_step.new.ctx.schedule.steps a) (sym told)
+    (counts-refused (searching-at x y c.args.max_steps c.prove_in_range.ensures.luby_restart_interval_scale c.requires.kept.ready c.requires.unknown r.count r.config r.made) changed_at k e c.make_step.new.ctx.schedule.steps (c.in_err-make_step.ensures {u = tt}).uncounted n h)
 
-pub returns-in_err-schedule_step-clause-broken : goal.returns-in_err-schedule_step-clause-broken
-returns-in_err-schedule_step-clause-broken g c =
-    step-passed g.P.ProofTracer.breaks_off c.args.proof.now c.schedule_step.new.proof c.from_residual.result c.in_err-schedule_step.field-0.0 c.from_residual.ensures
-    (breaks-on g.P.ProofTracer.takes g.P.ProofTracer.breaks_off g.met.P.ProofTracer.breaks_behind c.steps.invariant.lines.2 (c.in_err-schedule_step.ensures {u = tt}).broken)
+pub returns-in_err-make_step-clause-broken : goal.returns-in_err-make_step-clause-broken
+returns-in_err-make_step-clause-broken g c =
+    let e = c.in_err-make_step.field-0.0 in
+    let p = c.args.tracer.now in
+    let r = c.make_step.new.tracer in
+    let (given, told) = c.steps.invariant.told in
+    passed-on c.from_residual.result e (λ z. BreaksProof p.proof (step_faults z) r.proof) c.from_residual.ensures
+    (proof-breaks-on p.proof c.steps.tracer.proof r.proof given (step_faults e) told (c.in_err-make_step.ensures {u = tt}).broken)

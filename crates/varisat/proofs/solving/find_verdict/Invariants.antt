@@ -1,26 +1,22 @@
 use Rattle.std.proofs.Common.{◌≡◌, ◌+◌, ◌-◌, ◌*◌, ◌^◌, length}
-use Rattle.varisat_theory.specs.Outcomes.{Unknown}
-use Rattle.varisat_trace.specs.Traces.{HoldsFor}
 use Rattle.varisat_schedule.specs.CallSteps.{steps_since}
-use Rattle.varisat_search.specs.AssumptionParts.{KeepsAssumptions}
-use Rattle.varisat_search.specs.Contexts.{view, IsReady}
-use Rattle.varisat_search.specs.Decisions.{SameDecidable}
-use Rattle.varisat_search.specs.Seen.{search_of}
-use Rattle.varisat.specs.Searches.{MakesTold}
+use Rattle.varisat_tracer.specs.Tracing.{parts_of, CanTell}
+use Rattle.varisat.specs.Searches.{TellsSome, ComesOn}
+use Rattle.varisat.specs.Summaries.{undecided_spaces, IsKept}
 use Rattle.varisat.proofs.FindVerdictSteps.{HasMade}
 use Rattle.varisat.proofs.solving.find_verdict.Given as goal
 
 abbrev pub invariant-steps : goal.invariant-steps
 invariant-steps g l = record {
-  ready : IsReady l.ctx;
+  kept : IsKept l.tracer.variables l.ctx;
+  tells : CanTell l.tracer.proof;
+  told : TellsSome l.fn.tracer.proof l.tracer.proof;
   count : length l.ctx.assignment.current ≡ length l.fn.ctx.assignment.current;
-  decidable : SameDecidable (view l.fn.ctx) l.fn.ctx.vsids (view l.ctx) l.ctx.vsids;
   state : l.ctx.solver_state ≡ l.fn.ctx.solver_state;
   config : l.ctx.solver_config ≡ l.fn.ctx.solver_config;
   made : HasMade l.fn.ctx l.ctx l.max_steps;
-  holds : HoldsFor (g.P.ProofTracer.holds l.proof) (search_of (view l.ctx));
-  lines : MakesTold g.P.ProofTracer.takes l.fn.proof l.proof (steps_since l.fn.ctx.schedule l.ctx.schedule) (search_of (view l.fn.ctx)) (search_of (view l.ctx)) Unknown;
-  assumes : KeepsAssumptions (search_of (view l.fn.ctx)) Unknown l.fn.ctx.assumptions l.ctx.assumptions;
+  stands : ComesOn (steps_since l.fn.ctx.schedule l.ctx.schedule) (undecided_spaces l.fn.tracer.variables l.fn.ctx) (undecided_spaces l.tracer.variables l.ctx) l.fn.tracer.proof l.tracer.proof;
+  still : l.ctx.schedule.steps ≡ l.fn.ctx.schedule.steps → (l.ctx ≡ l.fn.ctx) × (parts_of l.tracer ≡ parts_of l.fn.tracer);
 }
 
 abbrev pub decreases-steps : goal.decreases-steps

@@ -1,0 +1,276 @@
+-- What parts of a step and steps in turn come to, from the states for which a solver stands.
+use Rattle.std.proofs.Common.{◌≡◌, ℕ, ◌+◌, ◌-◌, Bool, false, Option, Some, List, [], ◌++◌, Ok, Err, length, sym, ap, ◌∙◌, subst, refl, arith, append_assoc}
+use Rattle.varisat_theory.specs.Literals.{variable_of, IsSatisfiableWith}
+use Rattle.varisat_theory.specs.Derivations.{Line}
+use Rattle.varisat_theory.specs.Outcomes.{Proves}
+use Rattle.varisat_theory.specs.Counted.{added}
+use Rattle.varisat_theory.specs.Journals.{Entry, lines_of, GoesOn}
+use Rattle.varisat_theory.proofs.Journals.{goes_on_further, lines_append}
+use Rattle.varisat_theory.proofs.StepsMade.{none_made, one_more_made, part_after_made}
+use Rattle.varisat_theory.proofs.StepStands.{added_append}
+use Rattle.varisat_theory.proofs.StepParts.{parts_join}
+use Rattle.varisat_trace.specs.Traces.{TakesLines}
+use Rattle.varisat_trace.proofs.Traced.{step-lines}
+use Rattle.varisat_proof.specs.Proving.{ProofParts}
+use Rattle.varisat_tracer.specs.Told.{told-none, told-more}
+use Rattle.varisat_tracer.specs.Tracing.{TracerState, TakesGlobally, CanTell}
+use Rattle.varisat_tracer.proofs.Telling.{tells-on}
+use Rattle.varisat_names.specs.Variables.{Tables}
+use Rattle.varisat_search.specs.declared.context.Context.{Context}
+use Rattle.varisat_search.specs.declared.state.SatState.TheVariants as verdict
+use Rattle.varisat_search.specs.AssumptionParts.{AssumptionParts}
+use Rattle.varisat_search.specs.Contexts.{view, IsReady}
+use Rattle.varisat_search.specs.Decisions.{SameDecidable}
+use Rattle.varisat_search.specs.DueReductions.{BeginsStep}
+use Rattle.varisat_search.specs.Seen.{search_of, outcome_of}
+use Rattle.varisat_search.specs.Steps.{assignment_of}
+use Rattle.varisat_search.proofs.AssumptionSteps.{keeps-refl}
+use Rattle.varisat_search.proofs.DecidableVariables.{same-trans}
+use Rattle.varisat_search.proofs.DueReductions.{keeps-are}
+use Rattle.varisat_search.proofs.RestartSteps.{Begun, begun-view}
+use Rattle.varisat_search.proofs.SolverVariables.{in-use-all}
+use Rattle.varisat.specs.Budgets.{CountsSteps}
+use Rattle.varisat.specs.Calls.{IsValid, TellsVerdict, IsInterrupted, CountsCall, answer_of, with_verdict}
+use Rattle.varisat.specs.declared.solver.SolverError.TheVariants.{Interrupted}
+use Rattle.varisat.specs.Journals.{retold, TellsMore, TellsLeaving, ToldConflict}
+use Rattle.varisat.specs.OpenProofs.{OpenProof, GoesOnWriting}
+use Rattle.varisat.specs.Searches.{answer_at, TellsSome, ComesTo, ComesOn, MakesNamedStep}
+use Rattle.varisat.specs.Spaces.{Spaces, translation, VerdictFits, SpacesFit}
+use Rattle.varisat.specs.States.{State, Verdict, Unknown, Unsat, HasRightVerdict, IsRight}
+use Rattle.varisat.specs.Summaries.{IsKept, spaces_of, spaces_with, undecided_spaces}
+use Rattle.varisat.proofs.AcceptClause.{ledger-free, proof-free}
+use Rattle.varisat.proofs.CallStates.{ledger-is, none-more, like-grown}
+use Rattle.varisat.proofs.ModelsFit.{is-sat, is-unknown}
+use Rattle.varisat.proofs.OpenProofs.{goes-on-none}
+use Rattle.varisat.proofs.PlainTables.{assumed-named}
+use Rattle.varisat.proofs.PlainTold.{proof-quiet, proof-through}
+use Rattle.varisat.proofs.SearchVerdicts.{kept-on}
+use Rattle.varisat.proofs.SolverCalls.{comes-made, answers-fit, unsat-told}
+use Rattle.varisat.proofs.ToldEntries.{tells-nothing}
+use Rattle.varisat.proofs.VariablesInUse.{same-in-use}
+use Rattle.varisat.proofs.VerdictAnswers.{right-false}
+
+-- 1. In turn.
+
+-- as long as no verdict is known the state has none
+pub unknown-undecided : {A : Type 0} (m : Tables) (x : Context A) (t : State) → SpacesFit (undecided_spaces m x) t → t.verdict ≡ Unknown
+unknown-undecided m x t (w, k) = is-unknown w.identity (undecided_spaces m x).model t.verdict k.verdict
+
+-- nothing happened
+pub comes-nowhere : (n : ℕ) (s : State) (p : ProofParts) (after : Spaces) → n ≡ 0 → SpacesFit after s → ComesTo n s p p after
+comes-nowhere n s p after e f = record {
+  verdict = s.verdict;
+  told = s.told;
+  more = subst (λ m. TellsMore m s.told s.told) (sym e) (tells-nothing s.told);
+  adds = λ u. omega (arith, e);
+  proof = proof-quiet s.ever_hidden s.told s.told p (λ h. refl);
+  fits = f;
+}
+
+-- more is told, and then what comes of that
+pub comes-through : (n m k : ℕ) (p q r : ProofParts) (before mid last : Spaces) → n + m ≡ k → ((t : State) → SpacesFit mid t → t.verdict ≡ Unknown) → ComesOn n before mid p q → ComesOn m mid last q r → ComesOn k before last p r
+comes-through n m k p q r before mid last sum unknown first second s fit =
+    let a = first s fit in
+    let t = retold a.told (with_verdict a.verdict s) in
+    let b = second t a.fits in
+    let es = a.more.entries in
+    let more = b.more.entries in
+    record {
+      verdict = b.verdict;
+      told = b.told;
+      more = record {
+        entries = es ++ more;
+        joined = b.more.joined ∙ ap (λ xs. xs ++ more) a.more.joined ∙ append_assoc s.told es more;
+        goes = subst (λ j. GoesOn j s.told (es ++ more)) sum (goes_on_further n m s.told es more a.more.goes (subst (λ xs. GoesOn m xs more) a.more.joined b.more.goes));
+      };
+      adds = λ e.
+          let i = a.adds (unknown t a.fits) in
+          let j = b.adds e in
+          let all = ap added (lines_append es more) in
+          let both = added_append (lines_of es) (lines_of more) in
+          omega (arith, i, j, all, both, sum);
+      proof = proof-through s.ever_hidden s.told a.told b.told p q r a.proof b.proof;
+      fits = b.fits;
+    }
+
+-- variables leave, of which the proof is told nothing
+pub leaving-comes : (p : ProofParts) (before after : Spaces) → ((s : State) → SpacesFit before s → (told : List Entry) × TellsLeaving s.ever_hidden s.told told × SpacesFit after (retold told s)) → ComesOn 0 before after p p
+leaving-comes p before after leave s fit =
+    let (told, t, f) = leave s fit in
+    record { verdict = s.verdict; told = told; more = t.more; adds = λ e. omega arith; proof = proof-quiet s.ever_hidden s.told told p t.quiet; fits = f }
+
+-- the same of the proof alone
+pub some-none : (p : ProofParts) → TellsSome p p
+some-none p = ([], told-none p)
+
+pub some-through : (p q r : ProofParts) → TellsSome p q → TellsSome q r → TellsSome p r
+some-through p q r (first, h) (second, k) = (first ++ second, told-more p q r first second h k)
+
+-- 2. Parts of a step.
+
+-- a part of a step by lines
+pub part-comes : {A : Type 0} (p q : TracerState) (x y : Context A) (lines : List Line) → IsKept p.tables x → Proves 0 (search_of (view x)) (search_of (view y)) lines → TakesLines TakesGlobally p lines q → IsReady y → length y.assignment.current ≡ length x.assignment.current → SameDecidable (view x) x.vsids (view y) y.vsids → y.assumptions ≡ x.assumptions → ComesOn 0 (undecided_spaces p.tables x) (undecided_spaces q.tables y) p.proof q.proof
+part-comes p q x y lines kept proves takes ready count decidable same s fit =
+    let used = in-use-all p.tables (view y) y.vsids (same-in-use p.tables (view x) x.vsids (view y) y.vsids kept.decidable decidable) ready.decidable ready.well in
+    subst (λ (m : Tables). ComesTo 0 s p.proof q.proof (undecided_spaces m y)) (sym takes.tables)
+    (subst (λ (a : AssumptionParts). ComesTo 0 s p.proof q.proof (spaces_of p.tables (view y) a verdict.Unknown)) (sym same)
+    (comes-made p q (view x) x.assumptions s (view y) x.assumptions x.assumptions verdict.Unknown 0 lines fit
+    (record {
+      unknown = refl;
+      working = λ l h. assumed-named p.tables (variable_of l) (kept.working l h);
+      same_count = count;
+      well = ready.well;
+      in_use = used;
+      steps = part_after_made 0 (search_of (view x)) (search_of (view x)) (search_of (view y)) [] lines (none_made (search_of (view x))) proves;
+      assumes = keeps-refl (search_of (view x)) x.assumptions;
+      rest = refl;
+      named = λ e. absurd (let z : verdict.Unknown ≡ verdict.UnsatUnderAssumptions = e in cc);
+    })
+    (step-lines TakesGlobally p q lines (outcome_of (view y) x.assumptions.failed_core verdict.Unknown) refl takes)))
+
+-- A step begins.
+module _ {A : Type 0} {are : List Line → Type 0} (x z : Context A) (b : BeginsStep are x z) where
+  begin-same : z.assumptions ≡ x.assumptions
+  begin-same = ap (λ (y : Context A). y.assumptions) b.rest ∙ ap (λ (y : Context A). y.assumptions) b.begins
+
+  begin-decidable : SameDecidable (view x) x.vsids (view z) z.vsids
+  begin-decidable = same-trans (view x) x.vsids (view b.begun) b.begun.vsids (view z) z.vsids b.decidable b.reduces.decidable
+
+  module _ (ready : IsReady x) where
+    begin-view : Begun (view x) (view b.begun)
+    begin-view = begun-view x.schedule x.assumptions.levels (view x) (view b.begun) ready.well ready.settled b.restarts
+
+    pub begin-count : length z.assignment.current ≡ length x.assignment.current
+    begin-count = ap (λ (y : Context A). length y.assignment.current) b.rest ∙ begin-view.count
+
+    pub begin-kept : (t : Tables) → IsKept t x → IsKept t z
+    begin-kept t k = kept-on t x z k b.reduces.ready begin-count begin-decidable begin-same
+
+    begin-proves : (lines : List Line) × Proves 0 (search_of (view x)) (search_of (view z)) lines × are lines
+    begin-proves = let (lines, p, (r, i)) = b.reduces.proves in (lines, parts_join 0 0 (search_of (view x)) (search_of (view b.begun)) (search_of (view z)) [] lines begin-view.proves p, i)
+
+-- whatever its lines are
+pub begins-any : {A : Type 0} {are : List Line → Type 0} (x z : Context A) → BeginsStep are x z → BeginsStep (λ lines. Unit {0}) x z
+begins-any x z b = record {
+  begun = b.begun;
+  restarts = b.restarts;
+  saves = b.saves;
+  begins = b.begins;
+  decidable = b.decidable;
+  units = b.units;
+  decay = b.decay;
+  reduces = keeps-are _ (λ lines p (r, i). (r, tt)) b.reduces;
+  rest = b.rest;
+}
+
+pub begin-told : {A : Type 0} (p q : TracerState) (x z : Context A) → BeginsStep (λ lines. TakesLines TakesGlobally p lines q) x z → TellsSome p.proof q.proof
+begin-told p q x z b = let (lines, k, (r, takes)) = b.reduces.proves in (_, takes.told)
+
+pub begin-tables : {A : Type 0} (p q : TracerState) (x z : Context A) → BeginsStep (λ lines. TakesLines TakesGlobally p lines q) x z → q.tables ≡ p.tables
+begin-tables p q x z b = let (lines, k, (r, takes)) = b.reduces.proves in takes.tables
+
+pub begin-tells : {A : Type 0} (p q : TracerState) (x z : Context A) → BeginsStep (λ lines. TakesLines TakesGlobally p lines q) x z → CanTell p.proof → CanTell q.proof
+begin-tells p q x z b t = let (lines, k, (r, takes)) = b.reduces.proves in tells-on p q _ takes t
+
+pub begin-comes : {A : Type 0} (p q : TracerState) (x z : Context A) → IsKept p.tables x → BeginsStep (λ lines. TakesLines TakesGlobally p lines q) x z → ComesOn 0 (undecided_spaces p.tables x) (undecided_spaces q.tables z) p.proof q.proof
+begin-comes p q x z kept b =
+    let (lines, proves, takes) = begin-proves x z b kept.ready in
+    part-comes p q x z lines kept proves takes b.reduces.ready (begin-count x z b kept.ready) (begin-decidable x z b) (begin-same x z b)
+
+-- a conflict step, whose core is kept over names
+pub named-comes : {A : Type 0} (p q : TracerState) (x y : Context A) → IsKept p.tables x → MakesNamedStep p q x y → ComesOn 1 (undecided_spaces p.tables x) (spaces_with q.tables y) p.proof q.proof
+named-comes p q x y kept f s fit =
+    let (lines, steps, takes) = f.steps in
+    let v = outcome_of (view y) f.parts.failed_core y.solver_state.sat_state in
+    subst (λ (m : Tables). ComesTo 1 s p.proof q.proof (spaces_with m y)) (sym f.tables)
+    (comes-made p q (view x) x.assumptions s (view y) f.parts y.assumptions y.solver_state.sat_state 1 lines fit
+    (record {
+      unknown = refl;
+      working = λ l h. assumed-named p.tables (variable_of l) (kept.working l h);
+      same_count = f.count;
+      well = f.ready.well;
+      in_use = in-use-all p.tables (view y) y.vsids (same-in-use p.tables (view x) x.vsids (view y) y.vsids kept.decidable f.decidable) f.ready.decidable f.ready.well;
+      steps = one_more_made 0 (search_of (view x)) (search_of (view x)) (search_of (view y)) v [] lines (none_made (search_of (view x))) steps;
+      assumes = f.assumes;
+      rest = f.rest;
+      named = f.core;
+    })
+    takes)
+
+-- without a verdict it goes on from there
+pub comes-undecided : {A : Type 0} (n : ℕ) (before : Spaces) (m : Tables) (y : Context A) (p q : ProofParts) → y.solver_state.sat_state ≡ verdict.Unknown → ComesOn n before (spaces_with m y) p q → ComesOn n before (undecided_spaces m y) p q
+comes-undecided n before m y p q e on s fit = subst (λ b. ComesTo n s p q (spaces_of m (view y) y.assumptions b)) e (on s fit)
+
+pub comes-decided : {A : Type 0} (n : ℕ) (before : Spaces) (m : Tables) (y : Context A) (p q : ProofParts) → y.solver_state.sat_state ≡ verdict.Unknown → ComesOn n before (undecided_spaces m y) p q → ComesOn n before (spaces_with m y) p q
+comes-decided n before m y p q e on s fit = subst (λ b. ComesTo n s p q (spaces_of m (view y) y.assumptions b)) (sym e) (on s fit)
+
+-- 3. What `solve` leads to.
+
+module _ {A : Type 0} {n : ℕ} {s : State} {p q : ProofParts} (m : Tables) (y : Context A) (c : ComesTo n s p q (spaces_with m y)) where
+  pub comes-answer : answer_of c.verdict ≡ answer_at y.solver_state.sat_state
+  comes-answer = let (w, k) = c.fits in answers-fit w.identity (spaces_with m y).model (view y) y.assumptions.failed_core y.solver_state.sat_state c.verdict k.verdict
+
+  comes-right : HasRightVerdict (with_verdict c.verdict s)
+  comes-right = let (w, k) = c.fits in k.right
+
+  comes-refuted : c.verdict ≡ Unsat → ToldConflict c.told
+  comes-refuted e = let (w, k) = c.fits in unsat-told w.identity (spaces_with m y).model (translation w (spaces_with m y) c.told) k.holds.held (spaces_with m y).outcome c.verdict e k.verdict k.holds.told
+
+  pub comes-satisfiable : y.solver_state.sat_state ≡ verdict.Sat → IsSatisfiableWith s.clauses s.assumptions
+  comes-satisfiable e =
+      let (w, k) = c.fits in
+      let (a, v, f) = is-sat w.identity (spaces_with m y).model (assignment_of (view y)) c.verdict (subst (λ o. VerdictFits w.identity (spaces_with m y).model (outcome_of (view y) y.assumptions.failed_core o) c.verdict) e k.verdict) in
+      let r = subst (IsRight s.clauses s.assumptions s.counted) v k.right in
+      (a, r.0, r.1)
+
+  pub comes-unsatisfiable : answer_at y.solver_state.sat_state ≡ Some false → IsSatisfiableWith s.clauses s.assumptions → ⊥
+  comes-unsatisfiable e = right-false s.clauses s.assumptions s.counted c.verdict (comes-answer ∙ e) comes-right
+
+-- the state once a verdict was found or none, more was told and an open proof has more bytes
+abbrev pub after-solve : List Entry → Verdict → ℕ → Option OpenProof → State → State
+after-solve told v n proof s = record s { verdict = v; ledger = record s.ledger { steps = n; since = s.ledger.since + (n - s.ledger.steps) }; told = told; proof = proof }
+
+module _ {A : Type 0} {k : ℕ} {s : State} {p q : ProofParts} (m : Tables) (y : Context A) (c : ComesTo k s p q (spaces_with m y)) (n : ℕ) (now : Option OpenProof) where
+  pub comes-fits : SpacesFit (spaces_with m y) (after-solve c.told c.verdict n now s)
+  comes-fits =
+      let (w, l) = c.fits in
+      let u = after-solve c.told c.verdict n now s in
+      (w, ledger-free w (spaces_with m y) (record s { verdict = c.verdict; told = c.told; proof = now }) u.ledger (proof-free w (spaces_with m y) (retold c.told (with_verdict c.verdict s)) now l))
+
+  pub comes-verdict : (b : Bool) → IsValid s → s.verdict ≡ Unknown → CountsSteps (length s.counted) s.ledger.settings.max_steps s.ledger.since s.ledger.steps n (Ok b) → answer_at y.solver_state.sat_state ≡ Some b → k ≡ n - s.ledger.steps → GoesOnWriting s.proof now → TellsVerdict s b (after-solve c.told c.verdict n now s)
+  comes-verdict b valid was counts answer made grows = record {
+    valid = valid;
+    known = λ z. absurd (z was);
+    steps = λ _. counts;
+    answer = comes-answer m y c ∙ answer;
+    right = comes-right m y c;
+    rest = like-grown (after-solve c.told c.verdict n s.proof s) now grows;
+    told = subst (λ j. TellsMore j s.told c.told) made c.more;
+    refuted = comes-refuted m y c;
+  }
+
+  pub comes-interrupted : IsValid s → s.verdict ≡ Unknown → CountsSteps (length s.counted) s.ledger.settings.max_steps s.ledger.since s.ledger.steps n (Err Interrupted) → c.verdict ≡ Unknown → k ≡ n - s.ledger.steps → (n ≡ s.ledger.steps → ⊥) → GoesOnWriting s.proof now → IsInterrupted s (after-solve c.told c.verdict n now s)
+  comes-interrupted valid was counts unknown made moved grows = record {
+    valid = valid;
+    unknown = was;
+    steps = counts;
+    rest = record { naming = refl; ever_hidden = refl; clauses = refl; assumptions = refl; counted = refl; verdict = unknown ∙ sym was; ledger = refl; told = tells-nothing c.told; proof = grows };
+    told = record { entries = c.more.entries; joined = c.more.joined; goes = subst (λ j. GoesOn j s.told c.more.entries) made c.more.goes };
+    adds = let a = c.adds unknown in omega (arith, a, made);
+    still = λ e. absurd (moved e);
+  }
+
+-- no step could be made
+pub interrupted-still : (s : State) → IsValid s → s.verdict ≡ Unknown → CountsCall s (Err Interrupted) s → IsInterrupted s s
+interrupted-still s valid was counts =
+    let none : 0 ≡ s.ledger.steps - s.ledger.steps = omega arith in
+    let nothing = tells-nothing s.told in
+    record {
+      valid = valid;
+      unknown = was;
+      steps = counts;
+      rest = record { naming = refl; ever_hidden = refl; clauses = refl; assumptions = refl; counted = refl; verdict = refl; ledger = ledger-is s.ledger s.ledger.valid s.ledger.started s.ledger.steps (s.ledger.since + (s.ledger.steps - s.ledger.steps)) s.ledger.settings refl refl refl (none-more s.ledger.since s.ledger.steps) refl; told = nothing; proof = goes-on-none s.proof };
+      told = record { entries = nothing.entries; joined = nothing.joined; goes = subst (λ j. GoesOn j s.told nothing.entries) none nothing.goes };
+      adds = omega (arith, none);
+      still = λ e. refl;
+    }

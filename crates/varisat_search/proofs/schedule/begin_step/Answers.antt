@@ -1,0 +1,50 @@
+use Rattle.varisat_trace.proofs.Broken.{error-broken}
+use Rattle.std.proofs.Common.{List, ◌∙◌, ap, sym}
+use Rattle.varisat_theory.specs.Derivations.{Line}
+use Rattle.varisat_schedule.specs.Plans.{Plan}
+use Rattle.varisat_search.specs.declared.context.Context.{Context}
+use Rattle.varisat_search.specs.Contexts.{view}
+use Rattle.varisat_search.specs.Seen.{search_of}
+use Rattle.varisat_search.proofs.RestartSteps.{begun-view}
+use Rattle.varisat_trace.specs.Traces.{HoldsFor}
+use Rattle.varisat_trace.proofs.Traced.{holds_on, holds_still}
+use Rattle.varisat_search.proofs.schedule.begin_step.Given.{Over}
+use Rattle.varisat_search.proofs.schedule.begin_step.Goals.{After-restart_if_due}
+use Rattle.varisat_search.proofs.schedule.begin_step.Goals as goal
+
+-- what the tracer may hold fits the search after the restart
+begun : (g : Over) (c : After-restart_if_due g) → HoldsFor (g.P.ProofTracer.holds c.args.proof.now) (search_of (view c.restart_if_due.new.ctx))
+begun g c =
+    let x = c.args.ctx.now in
+    holds_still (g.P.ProofTracer.holds c.args.proof.now) 0 (search_of (view x)) (search_of (view c.restart_if_due.new.ctx)) c.requires.holds
+    (begun-view x.schedule x.assumptions.levels (view x) (view c.restart_if_due.new.ctx) c.requires.ready.well c.requires.ready.settled c.restart_if_due.ensures.restarted).proves
+
+pub reduce_if_due-requires-clause-holds : goal.reduce_if_due-requires-clause-holds
+reduce_if_due-requires-clause-holds g c = begun g (goal.at.reduce_if_due-requires-clause-holds g c).After-restart_if_due
+
+pub returns-clause-begins : goal.returns-clause-begins
+returns-clause-begins g c =
+    let x = c.args.ctx.now in
+    let t = c.restart_if_due.new.ctx in
+    let e = c.restart_if_due.ensures.kept in
+    record {
+      begun = t;
+      restarts = c.restart_if_due.ensures.restarted;
+      saves = c.restart_if_due.ensures.saved;
+      begins = e ∙ ap (λ (p : Plan). record x { assignment = t.assignment; trail = t.trail; vsids = t.vsids; schedule = p }) (sym (ap (λ (y : Context g.row.A.Denot). y.schedule) e));
+      decidable = c.restart_if_due.ensures.decidable;
+      units = c.restart_if_due.ensures.units;
+      decay = c.restart_if_due.ensures.decay;
+      reduces = c.in_ok-reduce_if_due.ensures.keeps;
+      rest = c.reduce_if_due.ensures.kept;
+    }
+
+pub returns-clause-holds : goal.returns-clause-holds
+returns-clause-holds g c =
+    let (lines, p, (r, t)) = c.in_ok-reduce_if_due.ensures.keeps.proves in
+    holds_on g.P.ProofTracer.holds g.P.ProofTracer.takes g.met.P.ProofTracer.holds_after c.args.proof.now c.reduce_if_due.new.proof 0 (search_of (view c.restart_if_due.new.ctx)) (search_of (view c.reduce_if_due.new.ctx)) lines (begun g (goal.at.returns-clause-holds g c).After-restart_if_due) p t
+
+pub returns-in_err-reduce_if_due-clause-broken : goal.returns-in_err-reduce_if_due-clause-broken
+returns-in_err-reduce_if_due-clause-broken g c =
+    error-broken g.P.ProofTracer.breaks_off c.args.proof.now c.reduce_if_due.new.proof c.from_residual.result c.in_err-reduce_if_due.field-0.0 c.from_residual.ensures
+    c.in_err-reduce_if_due.ensures.broken

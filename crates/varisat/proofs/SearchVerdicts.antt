@@ -73,6 +73,22 @@ module _ {A : Type 0} (p q : TracerState) (x y : Context A) {are : List Line →
         core = λ _. named ∙ ap (λ (t : Tables). map (carry (chain (at t.solvers.backward) (at t.users.backward))) y.assumptions.failed_core) takes.tables;
       }
 
+-- and where the schedule is another
+pub named-counted : {A : Type 0} (p q : TracerState) (x y : Context A) (plan : Plan) → MakesNamedStep p q x y → MakesNamedStep p q x (record y { schedule = plan })
+named-counted p q x y plan f = record {
+  ready = ready-counted y plan f.ready;
+  count = f.count;
+  decidable = f.decidable;
+  state = f.state;
+  rises = f.rises;
+  tables = f.tables;
+  parts = f.parts;
+  steps = f.steps;
+  assumes = f.assumes;
+  rest = f.rest;
+  core = f.core;
+}
+
 -- the solver keeps what it did
 kept-still : {A : Type 0} (p q : TracerState) (x y : Context A) → IsKept p.tables x → MakesNamedStep p q x y → IsKept p.tables y
 kept-still p q x y k f = record {

@@ -93,16 +93,20 @@ pub record MakesNamedStep {A : Type 0} (p q : TracerState) (x y : Context A) : T
   pub core : y.solver_state.sat_state ≡ verdict.UnsatUnderAssumptions →
       y.assumptions.user_core ≡ map (carry (chain (at p.tables.solvers.backward) (at p.tables.users.backward))) parts.failed_core
 
--- A step of the solver was made, from one context to the other, which has a verdict or none.
+-- A step of the solver was made, from one context to the other, which has a verdict or none: it began, and variables left; then
+-- came the conflict step, and the step was counted.
 pub record MakesSolverStep {A : Type 0} (p q : TracerState) (x y : Context A) : Type 0 where
+  pub mid : TracerState
+  pub middle : Context A
+  pub begins : BeginsSolverStep p mid x middle
+  pub ends : MakesNamedStep mid q middle (record y { schedule = middle.schedule })
+  -- what of this the steps of a call need
   pub kept : IsKept q.tables y
   pub tells : CanTell q.proof
   pub told : TellsSome p.proof q.proof
   pub since : y.solver_state.sat_state ≡ verdict.Unknown → GoesOnSince x y
   pub state : y.solver_state ≡ record x.solver_state { sat_state = y.solver_state.sat_state }
   pub count : length y.assignment.current ≡ length x.assignment.current
-  -- as it began variables left
-  pub begun : (t : TracerState) × (m : Context A) × LeavesIfNews t x m
   pub stands : ComesOn 1 (undecided_spaces p.tables x) (spaces_with q.tables y) p.proof q.proof
 
 -- Steps were made, from one context to the other, until there was a verdict or they were spent. Where none was made nothing changed.

@@ -9,7 +9,7 @@ use Rattle.varisat_tracer.specs.Tracing.{parts_of, BreaksProof}
 use Rattle.varisat_tracer.proofs.Telling.{proof-breaks-on, tells-on}
 use Rattle.varisat.specs.Searches.{BeginsSolverStep, MakesNamedStep}
 use Rattle.varisat.specs.Summaries.{undecided_spaces, spaces_with}
-use Rattle.varisat.proofs.SearchVerdicts.{ready-counted, kept-named, kept-counted}
+use Rattle.varisat.proofs.SearchVerdicts.{ready-counted, named-counted, kept-named, kept-counted}
 use Rattle.varisat.proofs.SinceSteps.{come-ended, steps-begun, step-ended}
 use Rattle.varisat.proofs.SolverSteps.{comes-through, unknown-undecided, some-through, named-comes}
 use Rattle.varisat.proofs.solving.make_step.Given.{Over}
@@ -47,6 +47,10 @@ returns-clause-made g c =
     let (lines, steps, takes) = m.steps in
     let same = c.named_conflict_step.ensures.schedule in
     record {
+      mid = parts_of q;
+      middle = y;
+      begins = b;
+      ends = named-counted (parts_of q) (parts_of r) y z y.schedule m;
       kept = kept-counted r.variables z plan (kept-named (parts_of q) (parts_of r) y z b.kept m);
       tells = tells-on (parts_of q) (parts_of r) _ takes b.tells;
       told = some-through p.proof q.proof r.proof b.told (_, takes.told);
@@ -56,7 +60,6 @@ returns-clause-made g c =
           same.solver_config m.count m.decidable (b.within i k);
       state = m.state ∙ ap (λ (s : SolverState). record s { sat_state = z.solver_state.sat_state }) b.state;
       count = m.count ∙ b.count;
-      begun = (parts_of q, y, b.left);
       stands = comes-through 0 1 1 p.proof q.proof r.proof (undecided_spaces p.variables x) (undecided_spaces q.variables y) (spaces_with r.variables (record z { schedule = plan })) refl (unknown-undecided q.variables y)
           b.stands (named-comes (parts_of q) (parts_of r) y z b.kept m);
     }

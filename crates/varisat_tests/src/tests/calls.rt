@@ -94,6 +94,20 @@ fn refused_calls(alloc: Global, settings: SolverConfigUpdate) -> Option<Vec<Text
     Vec::from_array(alloc, calls).ok()
 }
 
+// A formula by the macro, and the question, behind settings.
+fn formula_calls(alloc: Global, settings: SolverConfigUpdate) -> Option<Vec<TextCall>>
+    ensures { IfSome result (λ calls. AreReady (λ s. s) (λ t. t) calls.items) }
+{
+    let formula = cnf_formula!(in alloc; 1, -2; 3;).ok()?;
+    let calls = [
+        Call::Config(settings),
+        Call::AddFormula(formula),
+        Call::Solve,
+        Call::Model,
+    ];
+    Vec::from_array(alloc, calls).ok()
+}
+
 // Whether the solver gives the calls these answers.
 fn runs(
     solver: &mut Solver<MemoryTarget<Global>, Global>,
@@ -123,19 +137,32 @@ fn answers_refused_calls(
     Some(are_lines(alloc, &answers, wanted))
 }
 
+// Whether a new solver gives the calls on the formula these answers.
+fn answers_formula_calls(
+    alloc: Global,
+    settings: SolverConfigUpdate,
+    wanted: &[u8],
+) -> Option<bool> {
+    let calls = formula_calls(alloc, settings)?;
+    let answers = answers_of::<MemoryTarget<Global>, ReadSource<Pieces>, Global>(calls).ok()?;
+    Some(are_lines(alloc, &answers, wanted))
+}
+
 #[test]
 fn calls_are_answered(rt: HostRuntime) {
     let answers =
         b"ok\nok\nok\nerr 13\nok 7\nok\nok true\nok 1\nok -1 -2 -3 -4 -5 6 -7 0\nok true\nok none\n";
     let refused = b"ok\nerr 13\nok\nok true\nok 1 -2 3 0\nerr 7\nerr 12\nok true\nok 1 2 3 0\n";
+    let of_formula = b"ok\nok\nok true\nok -1 -2 3 0\n";
     for settings in rare_and_frequent() {
+        assert!(rt; answers_formula_calls(rt.alloc(), settings, of_formula) == Some(true));
         assert!(rt; runs_in_new(rt.alloc(), settings, answers) == Some(true));
         assert!(rt; answers_refused_calls(rt.alloc(), settings, refused) == Some(true));
     }
 }
 
 // Refusals with their texts.
-fn refusals() -> [(SolverError, &'static str); 9] {
+fn refusals() -> [(SolverError, &'static str); 12] {
     let var = Var::from_index(1);
     [
         (SolverError::Interrupted, "The solver was interrupted"),
@@ -153,6 +180,15 @@ fn refusals() -> [(SolverError, &'static str); 9] {
         (
             SolverError::AssumedVar { var },
             "Variable 2 is assumed and its mode cannot change",
+        ),
+        (
+            SolverError::ClauseAfterSolve,
+            "A clause cannot be added after solve under an open proof",
+        ),
+        (SolverError::ProofOpen, "A proof is open"),
+        (
+            SolverError::ProofTooLate,
+            "A proof must begin before any clause, variable or assumption",
         ),
         (
             SolverError::ConfigOutOfRange {

@@ -1,6 +1,7 @@
 //! A solver with little memory.
 use linked_list_allocator::LocalHeap;
 use std::alloc::{AllocError, Allocator, Global};
+use varisat::ProofFormat;
 use varisat::solver::{Solver, SolverError};
 use varisat_formula::io::{MemoryTarget, ReadSource};
 use varisat_literals::lits;
@@ -64,6 +65,70 @@ fn place_with(alloc: Global, room: u16, text: &str) -> Result<Option<usize>, All
     Ok(OUTCOMES.iter().position(|row| *row == outcome))
 }
 
+// A text of which the third clause is deleted as it is loaded. By its unit the clause before it loses a literal.
+const TEXT_UNDER_PROOF: &str = "1 -2 0\n3 0\n4 3 0\n";
+
+// What can happen under a proof in memory: a line that its target has no room for is the target's failure.
+const OUTCOMES_UNDER_PROOF: [Outcome; 6] = [
+    ([3, 4, 4, 4], false, Some(false)),
+    ([0, 3, 4, 4], false, Some(false)),
+    ([0, 2, 4, 4], false, Some(false)),
+    ([0, 0, 3, 4], false, Some(false)),
+    ([0, 0, 2, 4], false, Some(false)),
+    ([0, 0, 0, 0], true, Some(true)),
+];
+
+// What happens under a proof, and its target, if it comes back.
+fn outcome_under_proof<A: Allocator + Copy>(
+    alloc: A,
+    solver: &mut Solver<MemoryTarget<A>, A>,
+) -> (Outcome, Option<MemoryTarget<A>>) {
+    let opened = solver.write_proof(MemoryTarget::new_in(alloc), ProofFormat::Drat);
+    drop(opened);
+    let outcome = outcome(solver, TEXT_UNDER_PROOF);
+    match solver.close_proof() {
+        Ok(target) => (outcome, target),
+        Err((_, target)) => {
+            drop(target);
+            (outcome, None)
+        }
+    }
+}
+
+// The same in a new solver.
+fn outcome_under_proof_in<A: Allocator + Copy>(alloc: A) -> (Outcome, Option<MemoryTarget<A>>) {
+    let mut solver = Solver::new_in(alloc);
+    let outcome = outcome_under_proof(alloc, &mut solver);
+    drop(solver);
+    outcome
+}
+
+// The bytes of the whole proof: a deletion, a clause that lost a literal and the deletion of the longer one, a unit that a
+// conflict teaches, and the deletions of both clauses that it satisfies.
+fn whole_proof(alloc: Global) -> Option<Vec<u8>> {
+    let (_, target) = outcome_under_proof_in(alloc);
+    let bytes = Vec::from_slice(alloc, target?.bytes()).ok()?;
+    let is_right = bytes.starts_with(b"d 3 4 0\n") & (bytes.len() == 46);
+    is_right.then_some(bytes)
+}
+
+// The place in the table of what happens on a heap of that many times 16 bytes, where the target has a beginning of the
+// whole proof then.
+fn place_under_proof_with(
+    alloc: Global,
+    room: u16,
+    whole: &[u8],
+) -> Result<Option<usize>, AllocError> {
+    let heap = LocalHeap::new(alloc, 16 * usize::from(room))?;
+    let (outcome, target) = outcome_under_proof_in(&heap);
+    let is_beginning = match &target {
+        Some(target) => whole.starts_with(target.bytes()),
+        None => false,
+    };
+    let place = OUTCOMES_UNDER_PROOF.iter().position(|row| *row == outcome);
+    Ok(if is_beginning { place } else { None })
+}
+
 #[test]
 fn each_growth_may_be_refused(rt: HostRuntime) {
     let mut reached = [false; 4];
@@ -75,7 +140,22 @@ fn each_growth_may_be_refused(rt: HostRuntime) {
             }
         }
     }
-    assert!(rt; reached == [true; 4]);
+    assert!(rt; reached == [true; 4], "{reached:?}");
+}
+
+#[test]
+fn each_growth_under_a_proof_may_be_refused(rt: HostRuntime) {
+    let Some(whole) = whole_proof(rt.alloc()) else {
+        panic!(rt; "the whole proof");
+    };
+    let mut reached = [false; 6];
+    for room in 0..400 {
+        match place_under_proof_with(rt.alloc(), room, &whole) {
+            Ok(Some(place)) if place < 6 => reached[place] = true,
+            _ => panic!(rt; "with {room}"),
+        }
+    }
+    assert!(rt; reached == [true; 6], "{reached:?}");
 }
 
 // Blocks of a heap, until it has none left.

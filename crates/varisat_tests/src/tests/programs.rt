@@ -1,6 +1,7 @@
 //! Sessions with their answers, with little memory, and over readers and writers that fail.
 ghost use Rattle.std.specs.Prelude.{◌<◌, ◌-◌, ◌^◌};
 
+use super::modes::{Exchange, MODE_SESSIONS, OBSERVING_SESSIONS};
 use super::readers::in_pieces;
 use super::settings::reducing_every;
 use linked_list_allocator::LocalHeap;
@@ -14,24 +15,21 @@ use varisat::solver::{Solver, SolverError};
 use varisat_formula::io::{ByteSource, MemoryTarget, ReadSource};
 use varisat_names::config::SolverConfigUpdate;
 
-/// What a command prints, what it tells of a fault, and its status.
-pub type Printed = (&'static str, &'static str, u8);
+// What a command prints, what it tells of a fault, and its status.
+type Printed = (&'static str, &'static str, u8);
 
 fn are_printed(out: &[u8], err: &[u8], status: u8, wanted: Printed) -> bool {
     let (printed, told, wanted_status) = wanted;
     (out == printed.as_bytes()) & (err == told.as_bytes()) & (status == wanted_status)
 }
 
-/// Whether the session of the input prints this.
-pub fn session_prints<R: Read + Drop>(alloc: Global, input: R, wanted: Printed) -> bool {
+// Whether the session of the input prints this.
+fn session_prints<R: Read + Drop>(alloc: Global, input: R, wanted: Printed) -> bool {
     let mut out = Vec::new(alloc);
     let mut err = Vec::new(alloc);
     let status = session_lines(alloc, input, &mut out, &mut err);
     are_printed(&out, &err, status, wanted)
 }
-
-// Lines of a session, and what they are answered.
-type Exchange = (&'static str, &'static str);
 
 // What each session stands behind in turn: nothing, and settings by which learned clauses are reduced at each step.
 const SETTINGS: [Exchange; 2] = [
@@ -75,7 +73,7 @@ fn solve_prints<S: ByteSource>(
 }
 
 // Sessions that take little memory.
-const SESSIONS: [Exchange; 15] = [
+const SESSIONS: [Exchange; 16] = [
     ("add 3\nsolve\nmodel\n", "ok\nok true\nok -1 -2 3 0\n"),
     ("solve\nmodel\n", "ok true\nok 0\n"),
     (
@@ -90,6 +88,11 @@ const SESSIONS: [Exchange; 15] = [
     (
         "add 1 2\nadd -1 2\nadd 1 -2\nadd -1 -2\nsolve\n",
         "ok\nok\nok\nok\nok false\n",
+    ),
+    // Clauses of two literals, of which a unit satisfies one.
+    (
+        "add 1 2\nadd -1 3\nadd 1\nsolve\nmodel\n",
+        "ok\nok\nok\nok true\nok 1 -2 3 0\n",
     ),
     ("add 268435457\nadd 0\nnew\n", "err 7\nbad line\nok 1\n"),
     // A tautology, and duplicated literals.
@@ -125,7 +128,7 @@ const SESSIONS: [Exchange; 15] = [
 
 // Sessions with ample memory alone: they ask for the steps, which an invalid solver tells too, have settings, or take
 // much memory.
-const AMPLE_SESSIONS: [Exchange; 17] = [
+const AMPLE_SESSIONS: [Exchange; 25] = [
     (
         "steps\nsolve\nsteps\nsolve\nsteps\n",
         "ok 0\nok true\nok 1\nok true\nok 1\n",
@@ -134,6 +137,25 @@ const AMPLE_SESSIONS: [Exchange; 17] = [
     (
         "config max_steps 1\nadd 1 2\nadd -1 2\nadd 1 -2\nadd -1 -2\nsolve\nsteps\nmodel\nsolve\nsteps\n",
         "ok\nok\nok\nok\nok\nerr 1\nok 1\nok none\nok false\nok 2\n",
+    ),
+    // So are its steps since the last change, which other calls set to 0, also one that changes nothing else.
+    (
+        "config max_steps 1\nadd 1 2\nadd -1 2\nadd 1 -2\nadd -1 -2\nsolve\nsince\nmodel\nsolve\nsince\nsteps\nadd 5\nsince\n",
+        "ok\nok\nok\nok\nok\nerr 1\nok 1\nok none\nok false\nok 2\nok 2\nok\nok 0\n",
+    ),
+    (
+        "config max_steps 1\nadd 1 2\nadd -1 2\nadd 1 -2\nadd -1 -2\nsolve\nconfig max_steps 1\nsince\nsolve\nsince\nsteps\n",
+        "ok\nok\nok\nok\nok\nerr 1\nok\nok 0\nok false\nok 1\nok 2\n",
+    ),
+    // Refused calls, lines that are none, and calls that only tell something leave them.
+    (
+        "since\nsolve\nsince\nmodel\ncore\nsteps\nsolve\nadd 268435457\nassume 268435457\nhide 268435457\nconfig vsids_decay 1\nbad\nsince\n",
+        "ok 0\nok true\nok 1\nok 0\nok none\nok 1\nok true\nerr 7\nerr 7\nerr 7\nerr 12\nbad line\nok 1\n",
+    ),
+    // Each other call sets them to 0.
+    (
+        "solve\nassume\nsince\nsolve\nnew\nsince\nassume\nsolve\nwitness 1\nsince\nassume\nsolve\nsample 1\nsince\nassume\nsolve\nhide 1\nsince\nassume\nsolve\nobserve\nsince\nassume\nsolve\nclose\nsince\nsolve\nadd 1\nsince\nsteps\n",
+        "ok true\nok\nok 0\nok true\nok 1\nok 0\nok\nok true\nok\nok 0\nok\nok true\nok\nok 0\nok\nok true\nok\nok 0\nok\nok true\nok 0\nok 0\nok\nok true\nok none\nok 0\nok true\nok\nok 0\nok 7\n",
     ),
     ("add\nsolve\nsteps\n", "ok\nok false\nok 0\n"),
     (
@@ -186,9 +208,28 @@ const AMPLE_SESSIONS: [Exchange; 17] = [
         "solve\nproof text\nadd\nproof text\nclose\nproof text\n",
         "ok true\nok\nok\nerr 10\nok\nerr 11\n",
     ),
+    // Once `solve` was called under it no clause is accepted, and no assumption under it.
+    (
+        "solve\nproof text\nadd 1\nsolve\nadd 2\nclose\nadd 2\nproof text\n",
+        "ok true\nok\nok\nok true\nerr 9\nok\nok\nerr 11\n",
+    ),
+    (
+        "proof text\nadd 1 2\nassume 1\nsolve\nadd 3\nadd 3\nassume 1\nassume 1\nproof text\nproof text\nclose\nadd 3\nassume 1\nproof binary\nproof binary\n",
+        "ok\nok\nerr 10\nok true\nerr 9\nerr 9\nerr 10\nerr 10\nerr 10\nerr 10\nok\nok\nok\nerr 11\nerr 11\n",
+    ),
+    // A proof that is opened or closed sets the steps since the last change to 0, a refused one leaves them.
+    (
+        "solve\nproof text\nsince\nadd 1 2\nsolve\nsince\nassume 1\nadd 3\nproof text\nsince\nclose\nsince\n",
+        "ok true\nok\nok 0\nok\nok true\nok 1\nerr 10\nerr 9\nerr 10\nok 1\nok\nok 0\n",
+    ),
     (
         "assume\nproof text\nproof\nproof marked\nproof  text\nproof text \nPROOF text\n",
         "ok\nerr 11\nbad line\nbad line\nbad line\nbad line\nbad line\n",
+    ),
+    // Calls in an odd order.
+    (
+        "solve\nmodel\nhide 2\nmodel\nnew\nassume 1\nsample 1\nwitness 2\nassume 2\nsolve\nmodel\nsteps\nadd 2 1\nproof text\nadd\ncore\nnew\nadd 9\nassume 1\nconfig max_steps 0\nsolve\nsteps\nmodel\nclose\nadd 01\nadd  1\n",
+        "ok true\nok 0\nok\nok -1 0\nok 2\nok\nerr 8\nok\nerr 6\nok true\nok 1 -2 0\nok 2\nerr 6\nerr 11\nok\nok 0\nok 3\nok\nok\nok\nok false\nok 2\nok none\nok none\nbad line\nbad line\n",
     ),
     // Names that no clause names have no variable in the search.
     (
@@ -255,24 +296,6 @@ const ASSUMING_SESSIONS: [Exchange; 13] = [
         "ok\nok\nok\nerr 1\nok none\nok\nok true\nok 1 2 0\n",
     ),
 ];
-
-#[test]
-fn sessions_are_answered(rt: HostRuntime) {
-    for settings in SETTINGS {
-        for session in SESSIONS
-            .iter()
-            .chain(&AMPLE_SESSIONS)
-            .chain(&ASSUMING_SESSIONS)
-        {
-            assert!(rt;
-                is_answered(rt.alloc(), settings, *session),
-                "{}{}",
-                settings.0,
-                session.0
-            );
-        }
-    }
-}
 
 // DIMACS texts with the limits of steps, and what is printed for them.
 const TEXTS: [(&str, Option<u64>, Printed); 10] = [
@@ -372,21 +395,6 @@ fn cut_file_prints(alloc: Global, wanted: Printed) -> bool {
     solve_prints(alloc, &mut source, None, wanted)
 }
 
-#[test]
-fn a_reader_that_fails_is_told(rt: HostRuntime) {
-    let input = in_pieces(b"new\nadd 1", 100, true);
-    let session = session_prints(
-        rt.alloc(),
-        input,
-        ("ok 1\n", "error: the reader failed\n", 2),
-    );
-    let file = cut_file_prints(
-        rt.alloc(),
-        ("", "error: Error in DIMACS input: line 2: Io\n", 2),
-    );
-    assert!(rt; session & file);
-}
-
 fn is_fault(err: &[u8], status: u8) -> bool {
     (status == 2) & err.starts_with(b"error: ")
 }
@@ -401,10 +409,13 @@ fn is_told_with(alloc: Global, room: usize) -> bool {
 }
 
 #[test]
-fn a_writer_that_fails_is_told(rt: HostRuntime) {
-    for room in 0..5 {
-        assert!(rt; is_told_with(rt.alloc(), room), "at {room}");
-    }
+fn streams_that_fail_are_told(rt: HostRuntime) {
+    let alloc = rt.alloc();
+    let input = in_pieces(b"new\nadd 1", 100, true);
+    let session = session_prints(alloc, input, ("ok 1\n", "error: the reader failed\n", 2));
+    let file = cut_file_prints(alloc, ("", "error: Error in DIMACS input: line 2: Io\n", 2));
+    let writers = (0..5).all(|room| is_told_with(alloc, room));
+    assert!(rt; [session, file, writers] == [true; 3]);
 }
 
 // Whether the answers are the wanted ones up to a line `err 3`, and those of an invalid solver from then on.
@@ -455,8 +466,8 @@ fn is_complete_with(
     Ok(is_complete_in(alloc, &heap, lines, wanted))
 }
 
-/// Whether each growth of the session may be refused, and at last none is.
-pub fn ends(alloc: Global, lines: &str, wanted: &str) -> bool {
+// Whether each growth of the session may be refused, and at last none is.
+fn ends(alloc: Global, lines: &str, wanted: &str) -> bool {
     let mut ended = false;
     for room in 0..160 {
         match is_complete_with(alloc, room, lines, wanted) {
@@ -469,20 +480,32 @@ pub fn ends(alloc: Global, lines: &str, wanted: &str) -> bool {
 
 #[test]
 fn each_growth_may_be_refused(rt: HostRuntime) {
-    for (lines, wanted) in &SESSIONS {
+    for (lines, wanted) in SESSIONS.iter().chain(&MODE_SESSIONS) {
         assert!(rt; ends(rt.alloc(), lines, wanted), "{lines}");
     }
 }
 
-// What is printed of a clause of 40 literals behind the settings: one step, and a model of which one literal is
-// positive.
+// How many bytes are this one.
+fn count_byte(text: &[u8], wanted: u8) -> usize {
+    text.iter().filter(|byte| **byte == wanted).count()
+}
+
+// Whether the line is a model of 40 literals, just one of them positive. Before each literal and the 0 is a space.
+fn is_long_model(line: &[u8]) -> bool {
+    let is_model = line.starts_with(b"ok ") & line.ends_with(b" 0\n");
+    is_model & (count_byte(line, b' ') == 41) & (count_byte(line, b'-') == 39)
+}
+
+// What is printed of a clause of 40 literals behind the settings: one step, and such a model.
 fn are_long_answers(out: &[u8], status: u8, settings: Exchange) -> bool {
-    let negative = out.iter().filter(|byte| **byte == b'-').count();
-    let is_begun = match out.strip_prefix(settings.1.as_bytes()) {
-        Some(rest) => rest.starts_with(b"ok\nok true\nok 1\nok "),
+    let is_told = match out.strip_prefix(settings.1.as_bytes()) {
+        Some(rest) => match rest.strip_prefix(b"ok\nok true\nok 1\n".as_slice()) {
+            Some(line) => is_long_model(line),
+            None => false,
+        },
         None => false,
     };
-    (status == 0) & is_begun & (negative == 39)
+    (status == 0) & is_told
 }
 
 fn decides_long_clause(alloc: Global, settings: Exchange) -> bool {
@@ -496,8 +519,22 @@ fn decides_long_clause(alloc: Global, settings: Exchange) -> bool {
 }
 
 #[test]
-fn a_long_clause_takes_a_step(rt: HostRuntime) {
+fn sessions_are_answered(rt: HostRuntime) {
     for settings in SETTINGS {
+        for session in SESSIONS
+            .iter()
+            .chain(&AMPLE_SESSIONS)
+            .chain(&ASSUMING_SESSIONS)
+            .chain(&MODE_SESSIONS)
+            .chain(&OBSERVING_SESSIONS)
+        {
+            assert!(rt;
+                is_answered(rt.alloc(), settings, *session),
+                "{}{}",
+                settings.0,
+                session.0
+            );
+        }
         assert!(rt; decides_long_clause(rt.alloc(), settings), "{}", settings.0);
     }
 }

@@ -1,9 +1,10 @@
 //! Sessions in which variables are witnesses, hidden, and brought back.
-use super::programs::{ends, session_prints};
-use std::io::Cursor;
 
-// Lines of a session, and what they are answered.
-const SESSIONS: [(&str, &str); 12] = [
+/// Lines of a session, and what they are answered.
+pub type Exchange = (&'static str, &'static str);
+
+/// Sessions that take little memory and bring back no variable.
+pub const MODE_SESSIONS: [Exchange; 12] = [
     // An assumed variable keeps its mode and its name, as long as it is assumed.
     (
         "add -1 2\nassume 1 2\nsolve\nmodel\nhide 2\nwitness 1\nsample 1\nassume -1\nhide 2\nsolve\nmodel\n",
@@ -66,8 +67,8 @@ const SESSIONS: [(&str, &str); 12] = [
     ),
 ];
 
-// Sessions that bring hidden variables back.
-const OBSERVING_SESSIONS: [(&str, &str); 5] = [
+/// Sessions that bring hidden variables back.
+pub const OBSERVING_SESSIONS: [Exchange; 5] = [
     ("observe\nhide 1\nobserve\n", "ok 0\nok\nok 0\n"),
     // A variable that comes back is a witness.
     (
@@ -90,20 +91,3 @@ const OBSERVING_SESSIONS: [(&str, &str); 5] = [
         "ok\nok\nok\nok 1\nok\nok 3 4 0\nok 0\nok\nok\nok true\nok\nok 0\n",
     ),
 ];
-
-#[test]
-fn sessions_of_modes_are_answered(rt: HostRuntime) {
-    for (lines, answers) in SESSIONS.iter().chain(&OBSERVING_SESSIONS) {
-        assert!(rt;
-            session_prints(rt.alloc(), Cursor::new(*lines), (*answers, "", 0)),
-            "{lines}"
-        );
-    }
-}
-
-#[test]
-fn each_growth_may_be_refused_with_modes(rt: HostRuntime) {
-    for (lines, wanted) in &SESSIONS {
-        assert!(rt; ends(rt.alloc(), lines, wanted), "{lines}");
-    }
-}

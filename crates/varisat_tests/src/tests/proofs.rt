@@ -1,0 +1,505 @@
+//! Calls under an open proof: which of them are refused, and when the target is flushed.
+ghost use Rattle.std.specs.Prelude.{◌≡◌, ℕ, ◌+◌, ◌-◌, ◌<◌, ◌^◌, ◌++◌, take};
+
+use std::alloc::Global;
+use std::io;
+use std::io::ErrorKind;
+use varisat::ProofFormat;
+use varisat::solver::{Solver, SolverError};
+use varisat_formula::formula::{Lit, Var};
+use varisat_formula::io::ProofTarget;
+use varisat_names::config::{ConfigField, SolverConfigUpdate};
+
+/// A target that counts its flushes. The `put` and the `flush` of the given number, from 1 on, fail (0: none does); such a
+/// `put` takes the first byte, if that is set.
+#[derive(Drop)]
+struct CuttingTarget {
+    bytes: Vec<u8, Global>,
+    faults: u64,
+    puts: u64,
+    flushes: u64,
+    failing_put: u64,
+    takes_one: bool,
+    failing_flush: u64,
+}
+
+impl CuttingTarget {
+    fn new(alloc: Global, cuts: Cuts) -> CuttingTarget
+        ensures { result.faults ≡ 0 }
+    {
+        let (failing_put, takes_one, failing_flush) = cuts;
+        CuttingTarget {
+            bytes: Vec::new(alloc),
+            faults: 0,
+            puts: 0,
+            flushes: 0,
+            failing_put,
+            takes_one,
+            failing_flush,
+        }
+    }
+
+    /// Counts a fault.
+    fn fault(&mut self) -> io::Error
+        requires { self.old.faults < 2 ^ 64 - 1 }
+        ensures faults { self.new.faults ≡ self.old.faults + 1 }
+        ensures bytes { self.new.bytes ≡ self.old.bytes }
+    {
+        self.faults += 1;
+        io::Error::from(ErrorKind::Other)
+    }
+
+    /// Takes the first byte, if that is set, and fails.
+    fn cut(&mut self, bytes: &[u8]) -> io::Error
+        requires { self.old.faults < 2 ^ 64 - 1 }
+        ensures faults { self.new.faults ≡ self.old.faults + 1 }
+        ensures bytes { (n : ℕ) × (self.new.bytes.items ≡ self.old.bytes.items ++ take n bytes.now) }
+    {
+        if self.takes_one
+            && !bytes.is_empty()
+            && self.bytes.extend_from_slice(&bytes[..1]).is_ok()
+        {
+            return self.fault();
+        }
+        self.fault()
+    }
+}
+
+impl ProofTarget for CuttingTarget {
+    ghost taken = { λ t. record { bytes = t.bytes.items; faults = t.faults } };
+
+    fn put(&mut self, bytes: &[u8]) -> io::Result<()> {
+        self.puts = self.puts.saturating_add(1);
+        if self.puts == self.failing_put {
+            return Err(self.cut(bytes));
+        }
+        match self.bytes.extend_from_slice(bytes) {
+            Ok(()) => Ok(()),
+            Err(_) => Err(self.fault()),
+        }
+    }
+
+    fn flush(&mut self) -> io::Result<()> {
+        self.flushes = self.flushes.saturating_add(1);
+        if self.flushes == self.failing_flush {
+            return Err(self.fault());
+        }
+        Ok(())
+    }
+
+    fn faults(&self) -> u64 {
+        self.faults
+    }
+}
+
+// A solver whose proof has such a target.
+type CutSolver = Solver<CuttingTarget, Global>;
+
+/// The number of the `put` that fails, whether it takes a byte, and the number of the `flush` that fails.
+type Cuts = (u64, bool, u64);
+
+/// For each line all its spellings.
+type Lines = &'static [&'static [&'static [u8]]];
+
+/// A call of a solver. `Close` also looks at what the target took, and how often it was flushed; `CloseLines` looks at
+/// the lines.
+#[derive(Clone, Copy, Debug)]
+enum TestCall {
+    MaxSteps(u64),
+    Open,
+    Add(&'static [i32]),
+    Assume(&'static [i32]),
+    Witness(u32),
+    Solve,
+    IsInvalid,
+    Close(&'static [u8], u64),
+    CloseLines(Lines),
+    CloseNone,
+}
+
+use TestCall::{
+    Add, Assume, Close, CloseLines, CloseNone, IsInvalid, MaxSteps, Open, Solve, Witness,
+};
+
+/// What a call comes to.
+#[derive(Clone, Copy, Debug, PartialEq, Eq)]
+enum Outcome {
+    Done,
+    Refused(u8),
+    Satisfiable,
+    Unsatisfiable,
+    /// What should not be: another target or none, or a valid solver.
+    Wrong,
+}
+
+use Outcome::{Done, Refused, Satisfiable, Unsatisfiable};
+
+/// How the target fails, and calls in turn with what each comes to.
+type Row = (Cuts, &'static [(TestCall, Outcome)]);
+
+// A target that does not fail.
+const WHOLE: Cuts = (0, false, 0);
+
+const ROWS: [Row; 14] = [
+    // Once `solve` was called under the proof each clause is refused, and each list of assumptions from its beginning on.
+    (
+        WHOLE,
+        &[
+            (Open, Done),
+            (Assume(&[1]), Refused(10)),
+            (Assume(&[1, 268435457]), Refused(10)),
+            (Assume(&[]), Refused(10)),
+            (Add(&[1, 2]), Done),
+            (Add(&[1, 268435457]), Refused(7)),
+            (Solve, Satisfiable),
+            (Add(&[3]), Refused(9)),
+            (Add(&[3]), Refused(9)),
+            (Add(&[1, 268435457]), Refused(9)),
+            (Add(&[]), Refused(9)),
+            (Assume(&[1]), Refused(10)),
+            (Assume(&[1]), Refused(10)),
+            (Open, Refused(10)),
+            (Open, Refused(10)),
+            (Solve, Satisfiable),
+            (Close(b"", 3), Done),
+            (Add(&[3]), Done),
+            (Assume(&[1]), Done),
+            (Open, Refused(11)),
+            (Open, Refused(11)),
+            (Solve, Satisfiable),
+            (CloseNone, Done),
+        ],
+    ),
+    // These refusals are looked for before those for a name: behind 9 or 10 a witness and the limit are not told.
+    (
+        WHOLE,
+        &[
+            (Witness(1), Done),
+            (Open, Done),
+            (Assume(&[1]), Refused(10)),
+            (Add(&[1]), Refused(6)),
+            (Add(&[2, 3]), Done),
+            (Solve, Satisfiable),
+            (Add(&[1]), Refused(9)),
+            (Assume(&[1]), Refused(10)),
+            (Close(b"", 2), Done),
+            (Assume(&[1]), Refused(6)),
+        ],
+    ),
+    // A call of `solve` before the proof does not count; any under it does, also where the verdict is known.
+    (
+        WHOLE,
+        &[
+            (Solve, Satisfiable),
+            (Open, Done),
+            (Add(&[1]), Done),
+            (Solve, Satisfiable),
+            (Add(&[2]), Refused(9)),
+            (Close(b"", 2), Done),
+        ],
+    ),
+    (
+        WHOLE,
+        &[
+            (Solve, Satisfiable),
+            (Open, Done),
+            (Solve, Satisfiable),
+            (Add(&[1]), Refused(9)),
+            (Close(b"", 2), Done),
+            (Open, Done),
+        ],
+    ),
+    // An interrupted call counts, and flushes.
+    (
+        WHOLE,
+        &[
+            (MaxSteps(0), Done),
+            (Open, Done),
+            (Add(&[1, 2]), Done),
+            (Solve, Refused(1)),
+            (Add(&[3]), Refused(9)),
+            (Close(b"", 2), Done),
+        ],
+    ),
+    // Once the clauses are known to be unsatisfiable a clause is accepted all the same, and the proof is flushed.
+    (
+        WHOLE,
+        &[
+            (Open, Done),
+            (Add(&[1]), Done),
+            (Add(&[-1]), Done),
+            (Solve, Unsatisfiable),
+            (Add(&[5]), Done),
+            (Solve, Unsatisfiable),
+            (Close(b"", 3), Done),
+        ],
+    ),
+    // A flush that fails is told before an interruption, and the target comes back without another.
+    (
+        (0, false, 1),
+        &[
+            (Open, Done),
+            (Add(&[1]), Done),
+            (Solve, Refused(2)),
+            (Solve, Refused(4)),
+            (Close(b"", 1), Done),
+            (CloseNone, Done),
+        ],
+    ),
+    (
+        (0, false, 1),
+        &[
+            (MaxSteps(0), Done),
+            (Open, Done),
+            (Add(&[1]), Done),
+            (Solve, Refused(2)),
+            (Solve, Refused(4)),
+            (Close(b"", 1), Done),
+            (CloseNone, Done),
+        ],
+    ),
+    // So it is where the verdict is known.
+    (
+        (0, false, 1),
+        &[
+            (Solve, Satisfiable),
+            (Open, Done),
+            (Solve, Refused(2)),
+            (Solve, Refused(4)),
+            (Close(b"", 1), Done),
+        ],
+    ),
+    // A proof that can't be flushed as it closes is told with the target, and leaves the solver invalid.
+    (
+        (0, false, 1),
+        &[
+            (Open, Done),
+            (Close(b"", 1), Refused(2)),
+            (IsInvalid, Done),
+            (CloseNone, Done),
+            (Solve, Refused(4)),
+        ],
+    ),
+    // The second line fails, of which the target takes one byte or none.
+    (
+        (2, true, 0),
+        &[
+            (Open, Done),
+            (Add(&[1]), Done),
+            (Add(&[-1, 2]), Done),
+            (Add(&[-2, 3]), Done),
+            (Add(&[-2, -3]), Done),
+            (Solve, Refused(2)),
+            (Solve, Refused(4)),
+            (Close(b"2 0\n3", 0), Done),
+        ],
+    ),
+    (
+        (2, false, 0),
+        &[
+            (Open, Done),
+            (Add(&[1]), Done),
+            (Add(&[-1, 2]), Done),
+            (Add(&[-2, 3]), Done),
+            (Add(&[-2, -3]), Done),
+            (Solve, Refused(2)),
+            (Solve, Refused(4)),
+            (Close(b"2 0\n", 0), Done),
+        ],
+    ),
+    // Where nothing fails the lines are flushed once, and once more as the proof closes.
+    (
+        WHOLE,
+        &[
+            (Open, Done),
+            (Add(&[1]), Done),
+            (Add(&[-1, 2]), Done),
+            (Add(&[-2, 3]), Done),
+            (Add(&[-2, -3]), Done),
+            (Solve, Unsatisfiable),
+            (Close(b"2 0\n3 0\n0\n", 2), Done),
+        ],
+    ),
+    // A clause loses a false literal. The order of literals is open.
+    (
+        WHOLE,
+        &[
+            (Open, Done),
+            (Add(&[1, 2, 3]), Done),
+            (Add(&[-1]), Done),
+            (Solve, Satisfiable),
+            (
+                CloseLines(&[
+                    &[b"2 3 0\n", b"3 2 0\n"],
+                    &[
+                        b"d 1 2 3 0\n",
+                        b"d 1 3 2 0\n",
+                        b"d 2 1 3 0\n",
+                        b"d 2 3 1 0\n",
+                        b"d 3 1 2 0\n",
+                        b"d 3 2 1 0\n",
+                    ],
+                ]),
+                Done,
+            ),
+        ],
+    ),
+];
+
+// The literals with these numbers, of which there are at most three.
+fn literals(numbers: &[i32]) -> [Lit; 3] {
+    let mut literals = [Lit::from_code(0); 3];
+    for index in 0..3 {
+        if index < numbers.len() {
+            let number = numbers[index];
+            let variable = number.unsigned_abs() as usize;
+            literals[index] = Lit::from_index(variable.saturating_sub(1), number > 0);
+        }
+    }
+    literals
+}
+
+fn outcome_of<T>(answer: &Result<T, SolverError>) -> Outcome {
+    match answer {
+        Ok(_) => Done,
+        Err(error) => Refused(error.number()),
+    }
+}
+
+fn add_numbers(solver: &mut CutSolver, numbers: &[i32]) -> Outcome {
+    outcome_of(&solver.add_clause(&literals(numbers)[..numbers.len().min(3)]))
+}
+
+fn assume_numbers(solver: &mut CutSolver, numbers: &[i32]) -> Outcome {
+    outcome_of(&solver.assume(&literals(numbers)[..numbers.len().min(3)]))
+}
+
+fn make_witness(solver: &mut CutSolver, number: u32) -> Outcome {
+    outcome_of(&solver.witness_var(Var::from_index((number as usize).saturating_sub(1) % 100)))
+}
+
+fn limit(solver: &mut CutSolver, max_steps: u64) -> Outcome {
+    let update = SolverConfigUpdate::one(ConfigField::MaxSteps, max_steps);
+    outcome_of(&solver.config(&update))
+}
+
+fn open_proof(solver: &mut CutSolver, target: CuttingTarget) -> Outcome
+    requires { target.faults < 2 ^ 64 - 1 }
+{
+    match solver.write_proof(target, ProofFormat::Drat) {
+        Ok(()) => Done,
+        Err((error, target)) => {
+            drop(target);
+            Refused(error.number())
+        }
+    }
+}
+
+fn call_solve(solver: &mut CutSolver) -> Outcome {
+    match solver.solve() {
+        Ok(true) => Satisfiable,
+        Ok(false) => Unsatisfiable,
+        Err(error) => Refused(error.number()),
+    }
+}
+
+// What came of closing the proof, where its target should have taken these bytes and been flushed so often.
+fn close_over(solver: &mut CutSolver, bytes: &[u8], flushes: u64) -> Outcome {
+    let (outcome, target) = match solver.close_proof() {
+        Ok(None) => return Outcome::Wrong,
+        Ok(Some(target)) => (Done, target),
+        Err((error, target)) => (Refused(error.number()), target),
+    };
+    if target.bytes.as_slice() == bytes && target.flushes == flushes {
+        outcome
+    } else {
+        Outcome::Wrong
+    }
+}
+
+// What is behind the line, if the bytes begin with one of its spellings.
+fn behind_line<'a>(bytes: &'a [u8], spellings: &'static [&'static [u8]]) -> Option<&'a [u8]> {
+    for spelling in spellings {
+        if let Some(rest) = bytes.strip_prefix(*spelling) {
+            return Some(rest);
+        }
+    }
+    None
+}
+
+fn are_lines(bytes: &[u8], lines: Lines) -> bool {
+    let mut rest = bytes;
+    for spellings in lines {
+        match behind_line(rest, spellings) {
+            Some(behind) => rest = behind,
+            None => return false,
+        }
+    }
+    rest.is_empty()
+}
+
+// What came of closing the proof, where its target should have taken these lines.
+fn close_over_lines(solver: &mut CutSolver, lines: Lines) -> Outcome {
+    let Ok(Some(target)) = solver.close_proof() else {
+        return Outcome::Wrong;
+    };
+    if are_lines(&target.bytes, lines) {
+        Done
+    } else {
+        Outcome::Wrong
+    }
+}
+
+// The same where none should be open.
+fn close_without(solver: &mut CutSolver) -> Outcome {
+    match solver.close_proof() {
+        Ok(None) => Done,
+        _ => Outcome::Wrong,
+    }
+}
+
+fn make_call(alloc: Global, solver: &mut CutSolver, cuts: Cuts, call: TestCall) -> Outcome {
+    match call {
+        MaxSteps(count) => limit(solver, count),
+        Open => open_proof(solver, CuttingTarget::new(alloc, cuts)),
+        Add(numbers) => add_numbers(solver, numbers),
+        Assume(numbers) => assume_numbers(solver, numbers),
+        Witness(number) => make_witness(solver, number),
+        Solve => call_solve(solver),
+        IsInvalid => if solver.is_valid() {
+            Outcome::Wrong
+        } else {
+            Done
+        },
+        Close(bytes, flushes) => close_over(solver, bytes, flushes),
+        CloseLines(lines) => close_over_lines(solver, lines),
+        CloseNone => close_without(solver),
+    }
+}
+
+// The place of the first call of the row that comes to something else than it should, if any does.
+fn first_wrong(alloc: Global, solver: &mut CutSolver, row: &Row) -> Option<usize> {
+    let (cuts, calls) = *row;
+    for (place, (call, wanted)) in calls.iter().enumerate() {
+        if make_call(alloc, solver, cuts, *call) != *wanted {
+            return Some(place);
+        }
+    }
+    None
+}
+
+// The same of a new solver.
+fn first_wrong_in_new(alloc: Global, row: &Row) -> Option<usize> {
+    let mut solver = Solver::new_in(alloc);
+    let place = first_wrong(alloc, &mut solver, row);
+    drop(solver);
+    place
+}
+
+#[test]
+fn calls_under_a_proof(rt: HostRuntime) {
+    for (place, row) in ROWS.iter().enumerate() {
+        let wrong = first_wrong_in_new(rt.alloc(), row);
+        assert!(rt; wrong.is_none(), "row {place}: {wrong:?}");
+    }
+}

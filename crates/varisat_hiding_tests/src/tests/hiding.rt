@@ -1,6 +1,7 @@
 //! Variables that are hidden and brought back, by calls of a solver: the names that come back, the variable that a
 //! refusal tells, and many rounds. What sessions show stands with them.
 use std::alloc::Global;
+use varisat::config::SolverConfigUpdate;
 use varisat::solver::{Solver, SolverError};
 use varisat_formula::formula::{Lit, Var};
 use varisat_formula::io::MemoryTarget;
@@ -57,14 +58,29 @@ fn comes_back_as_witness(alloc: Global, solver: &mut TestSolver) -> Checked {
     Ok(is_shown & is_refused & is_satisfiable & is_told)
 }
 
+// Whether the model makes just one of the first two variables true, and lists no other.
+fn tells_either(solver: &TestSolver) -> bool {
+    tells(solver, &lits![1, -2]) | tells(solver, &lits![-1, 2])
+}
+
 // A model tells the value of a variable that came back once it was found.
 fn tells_shown(solver: &mut TestSolver) -> Checked {
     solver.add_clause(&lits![1, 2])?;
     solver.hide_var(var!(2))?;
     let is_satisfiable = solver.solve()?;
     let is_shown = shows(solver, &[var!(2)])?;
-    let is_told = tells(solver, &lits![1, -2]) | tells(solver, &lits![-1, 2]);
-    Ok(is_satisfiable & is_shown & is_told)
+    Ok(is_satisfiable & is_shown & tells_either(solver))
+}
+
+// A variable that comes back is told by the refusal of a clause, which names nothing, and by the model.
+fn comes_back_before_search(alloc: Global, solver: &mut TestSolver) -> Checked {
+    solver.add_clause(&lits![1, 2])?;
+    solver.hide_var(var!(2))?;
+    let is_shown = shows(solver, &[var!(2)])?;
+    let refusal = "Variable 2 is a witness variable and cannot be constrained";
+    let is_refused = refuses(alloc, solver, &lits![2, 3], refusal);
+    let is_satisfiable = solver.solve()?;
+    Ok(is_shown & is_refused & is_satisfiable & tells_either(solver))
 }
 
 // The first witness of a clause is told, and a name past the limit before it. Neither clause names anything.
@@ -125,29 +141,39 @@ fn comes_back(solver: &mut TestSolver) -> Checked {
     Ok(is_shown & is_satisfiable & tells(solver, &lits![-1, 2]))
 }
 
+// A new solver with the settings.
+fn new_solver(alloc: Global, settings: &SolverConfigUpdate) -> TestSolver {
+    let mut solver = Solver::new_in(alloc);
+    let _ = solver.config(settings);
+    solver
+}
+
 // Each row has a solver of its own.
-fn rows(alloc: Global) -> [bool; 4] {
-    let mut first = Solver::new_in(alloc);
-    let mut second = Solver::new_in(alloc);
-    let mut third = Solver::new_in(alloc);
-    let mut fourth = Solver::new_in(alloc);
+fn rows(alloc: Global, settings: &SolverConfigUpdate) -> [bool; 5] {
+    let mut first = new_solver(alloc, settings);
+    let mut second = new_solver(alloc, settings);
+    let mut third = new_solver(alloc, settings);
+    let mut fourth = new_solver(alloc, settings);
+    let mut fifth = new_solver(alloc, settings);
     let are_right = [
         matches!(comes_back_as_witness(alloc, &mut first), Ok(true)),
         matches!(tells_shown(&mut second), Ok(true)),
         matches!(tells_first_witness(alloc, &mut third), Ok(true)),
         matches!(hides_often(&mut fourth), Ok(true)),
+        matches!(comes_back_before_search(alloc, &mut fifth), Ok(true)),
     ];
     drop(first);
     drop(second);
     drop(third);
     drop(fourth);
+    drop(fifth);
     are_right
 }
 
 // One solver of many rounds, and one whose variable leaves and comes back.
-fn rows_of_leaving(alloc: Global) -> [bool; 3] {
-    let mut first = Solver::new_in(alloc);
-    let mut second = Solver::new_in(alloc);
+fn rows_of_leaving(alloc: Global, settings: &SolverConfigUpdate) -> [bool; 3] {
+    let mut first = new_solver(alloc, settings);
+    let mut second = new_solver(alloc, settings);
     let are_right = [
         matches!(hides_satisfied_clauses(&mut first), Ok(true)),
         matches!(leaves(&mut second), Ok(true)),
@@ -158,12 +184,22 @@ fn rows_of_leaving(alloc: Global) -> [bool; 3] {
     are_right
 }
 
-#[test]
-fn variables_are_hidden(rt: HostRuntime) {
-    assert!(rt; rows(rt.alloc()) == [true; 4]);
+// The settings that a solver has at first, and those by which learned clauses are reduced at each step.
+fn rare_and_frequent() -> [SolverConfigUpdate; 2] {
+    let mut frequent = SolverConfigUpdate::new();
+    frequent.reduce_locals_interval = Some(1);
+    frequent.reduce_mids_interval = Some(1);
+    [SolverConfigUpdate::new(), frequent]
 }
 
 #[test]
-fn hidden_variables_leave(rt: HostRuntime) {
-    assert!(rt; rows_of_leaving(rt.alloc()) == [true; 3]);
+fn variables_are_hidden(rt: HostRuntime) {
+    for settings in rare_and_frequent() {
+        let rows = rows(rt.alloc(), &settings);
+        let leaving = rows_of_leaving(rt.alloc(), &settings);
+        assert!(rt;
+            (rows, leaving) == ([true; 5], [true; 3]),
+            "{rows:?} {leaving:?}"
+        );
+    }
 }

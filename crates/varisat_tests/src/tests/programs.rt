@@ -126,6 +126,22 @@ const SESSIONS: [Exchange; 16] = [
     ),
 ];
 
+// Sessions under a proof. A line for which memory is refused is the target's failure.
+const PROOF_SESSIONS: [Exchange; 3] = [
+    (
+        "proof text\nadd 1\nadd -1 2\nadd -2 3\nadd -2 -3\nsolve\nadd 4\n",
+        "ok\nok\nok\nok\nok\nok false\nok\n",
+    ),
+    (
+        "proof text\nadd 1\nadd 2 1\nadd 1 3 2\nadd -3 1\nnew\n",
+        "ok\nok\nok\nok\nok\nok 4\n",
+    ),
+    (
+        "proof binary\nadd 1 2\nadd -1 3\nadd 1\nsolve\nmodel\nadd 4\n",
+        "ok\nok\nok\nok\nok true\nok 1 -2 3 0\nerr 9\n",
+    ),
+];
+
 // Sessions with ample memory alone: they ask for the steps, which an invalid solver tells too, have settings, or take
 // much memory.
 const AMPLE_SESSIONS: [Exchange; 25] = [
@@ -418,14 +434,17 @@ fn streams_that_fail_are_told(rt: HostRuntime) {
     assert!(rt; [session, file, writers] == [true; 3]);
 }
 
-// Whether the answers are the wanted ones up to a line `err 3`, and those of an invalid solver from then on.
-fn is_cut_by_memory(answers: &str, wanted: &str) -> bool {
+// Whether the answers are the wanted ones up to a line `err 3`, or `err 2` under a proof, and those of an invalid solver
+// from then on.
+fn is_cut_by_memory(answers: &str, wanted: &str, is_under_proof: bool) -> bool {
     let mut invalid = false;
     for (answer, line) in answers.lines().zip(wanted.lines()) {
         if invalid {
             if answer != "err 4" && answer != "ok none" && answer != "bad line" {
                 return false;
             }
+        } else if answer == "err 2" && is_under_proof {
+            invalid = true;
         } else if answer == "err 3" {
             // A list that was refused to `model` leaves the solver as it was.
             invalid = !line.ends_with(" 0");
@@ -437,10 +456,16 @@ fn is_cut_by_memory(answers: &str, wanted: &str) -> bool {
 }
 
 // Whether the answers are complete, or none where they are not what is left of the wanted ones with little memory.
-fn is_complete(out: &[u8], err: &[u8], status: u8, wanted: &str) -> Option<bool> {
+fn is_complete(
+    out: &[u8],
+    err: &[u8],
+    status: u8,
+    wanted: &str,
+    is_under_proof: bool,
+) -> Option<bool> {
     let answers = str::from_utf8(out).ok()?;
     let is_ended = (status == 0) | ((status == 2) & !err.is_empty());
-    if is_ended & is_cut_by_memory(answers, wanted) {
+    if is_ended & is_cut_by_memory(answers, wanted, is_under_proof) {
         Some(answers == wanted)
     } else {
         None
@@ -452,7 +477,7 @@ fn is_complete_in(alloc: Global, heap: &LocalHeap, lines: &str, wanted: &str) ->
     let mut out = Vec::new(alloc);
     let mut err = Vec::new(alloc);
     let status = session_lines(heap, Cursor::new(lines), &mut out, &mut err);
-    is_complete(&out, &err, status, wanted)
+    is_complete(&out, &err, status, wanted, lines.starts_with("proof"))
 }
 
 // The same with that many times 16 bytes beside the reader's buffer.
@@ -480,7 +505,7 @@ fn ends(alloc: Global, lines: &str, wanted: &str) -> bool {
 
 #[test]
 fn each_growth_may_be_refused(rt: HostRuntime) {
-    for (lines, wanted) in SESSIONS.iter().chain(&MODE_SESSIONS) {
+    for (lines, wanted) in SESSIONS.iter().chain(&MODE_SESSIONS).chain(&PROOF_SESSIONS) {
         assert!(rt; ends(rt.alloc(), lines, wanted), "{lines}");
     }
 }
@@ -523,6 +548,7 @@ fn sessions_are_answered(rt: HostRuntime) {
     for settings in SETTINGS {
         for session in SESSIONS
             .iter()
+            .chain(&PROOF_SESSIONS)
             .chain(&AMPLE_SESSIONS)
             .chain(&ASSUMING_SESSIONS)
             .chain(&MODE_SESSIONS)

@@ -23,6 +23,7 @@ pub mod Histories
 pub mod KeptCounts
 pub mod LineLemmas
 pub mod ModelsFit
+pub mod MoreClauses
 pub mod ModeStates
 pub mod NameLaws
 pub mod NamesAlike
@@ -33,6 +34,7 @@ pub mod NewNames
 pub mod Pasts
 pub mod PlainTables
 pub mod ProgramDecides
+pub mod ProgramProves
 pub mod ToldEntries
 pub mod PlainTold
 pub mod OpenProofs

@@ -108,6 +108,9 @@ Leads to t = (q : Past) × to q × Agrees q t
 knows-of : (p : Past) (s : State) → Agrees p s → state.IsValid s → Knows p s
 knows-of p s g v = g.knows (sym g.valid ∙ v)
 
+pub clauses-known : (p : Past) (s : State) → Agrees p s → p.valid ≡ true → s.clauses ≡ p.clauses
+clauses-known p s g v = (g.knows v).clauses
+
 false-true : (b : Bool) → b ≡ false → b ≡ true → ⊥
 false-true b e f = let z : true ≡ false = sym f ∙ e in cc
 
@@ -626,7 +629,7 @@ tell-since p s t n g (e, few, same) = (
 )
 
 -- A proof opens.
-opens : (p : Past) (s t : State) (o : OpenProof) → Agrees p s → o.searched ≡ false → t ≡ state.count_anew (with_proof (Some o) s) → Agrees (past.opened p) t
+pub opens : (p : Past) (s t : State) (o : OpenProof) → Agrees p s → o.searched ≡ false → t ≡ state.count_anew (with_proof (Some o) s) → Agrees (past.opened p) t
 opens p s t o g n e = subst (Agrees (past.opened p)) (sym e) (record {
   valid = g.valid;
   started = g.started;

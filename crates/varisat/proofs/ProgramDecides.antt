@@ -1,8 +1,7 @@
 -- A text that a new solver takes in, and what is found then.
-use Rattle.std.proofs.Common.{◌≡◌, ℕ, ◌+◌, ◌-◌, ◌*◌, ◌^◌, ◌<◌, ◌≤◌, max, min, length, ⊎_elim, Err, Bool, true, false, List, [], ◌∷◌, ◌++◌, ◌⊎◌, inl, inr, sym, ap, ◌∙◌, subst, refl, Option, Some, None, Result, Ok, Vec, map, append_assoc, append-nil, arith}
+use Rattle.std.proofs.Common.{◌≡◌, ℕ, ◌+◌, ◌-◌, ◌*◌, ◌^◌, ◌<◌, ◌≤◌, max, min, length, ⊎_elim, Err, Bool, true, false, List, [], ◌∷◌, ◌++◌, ◌⊎◌, inl, inr, sym, ap, ◌∙◌, subst, refl, Option, Some, None, Result, Ok, map, append_assoc, append-nil, arith}
 use Rattle.std.proofs.lemmas.List.{append_cancel_left}
 use Rattle.std.proofs.Math.Pow.{pow_mono}
-use Rattle.std.specs.declared.alloc.AllocError.{AllocError}
 use Rattle.varisat_theory.specs.Membership.{◌∈◌, ◌⊆◌, IsDistinct}
 use Rattle.varisat_theory.specs.Literals.{Literal, Clause, Assignment, variable_of, MakesTrue, SatisfiesAll, IsSatisfiable}
 use Rattle.varisat_theory.proofs.Members.{∈-append_cases}
@@ -11,9 +10,13 @@ use Rattle.varisat_theory.proofs.Assigned.{satisfies_fewer}
 use Rattle.varisat_formula.specs.declared.dimacs.error.DimacsErrorKind.{DimacsErrorKind}
 use Rattle.varisat_formula.specs.declared.dimacs.error.DimacsError.{DimacsError}
 use Rattle.varisat_formula.specs.Dimacs.{Reading, nothing, items, read, lines, last_line, BreaksOff, close_by, dimacs, broken}
-use Rattle.varisat_formula.specs.Streams.{Stand, HasEnded}
+use Rattle.varisat_formula.specs.Streams.{Stand, Taken, HasEnded}
 use Rattle.varisat_names.specs.declared.config.SolverConfigUpdate.{SolverConfigUpdate}
-use Rattle.varisat_names.specs.Settings.{Settings, default_settings, updated_settings}
+use Rattle.varisat_names.specs.Settings.{Settings, no_update}
+use Rattle.varisat_proof.specs.declared.proof.format.ProofFormat.{ProofFormat}
+use Rattle.varisat.specs.OpenProofs.{first_proof}
+use Rattle.varisat.specs.ProofCalls.{OpensProof}
+use Rattle.varisat.specs.Proven.{limited, prepared, Finds}
 use Rattle.varisat.specs.States.{State, join_counted, empty_state}
 use Rattle.varisat.specs.Names.{Naming, AreInOrder}
 use Rattle.varisat.specs.Models.{IsCompletable}
@@ -23,17 +26,17 @@ use Rattle.varisat.specs.Additions as additions
 use Rattle.varisat.specs.Additions.{Gave, NoFault, MemoryFault, Fault, ClauseRefused, ClausesAdded, RefusedEarly, FaultInText, Whole, MemoryRanOut, SourceFailed, Read, Unread}
 use Rattle.varisat.specs.Pasts as past
 use Rattle.varisat.specs.Pasts.{Past, empty_past, accept}
-use Rattle.varisat.specs.Told.{told_list}
 use Rattle.varisat.specs.Budgets.{CountsSteps}
-use Rattle.varisat.specs.Decided.{IsUpToHighest, IsModel, listed, named_variables, Conclusion, Decided, Unknown, IsConclusion, Decides, StatusIsTrue, conclusion_status}
+use Rattle.varisat.specs.Decided.{IsUpToHighest, IsModel, named_variables, allowed_steps, Conclusion, Decided, Unknown, IsConclusion, Decides, StatusIsTrue, conclusion_status}
 use Rattle.varisat.specs.declared.solver.SolverError.{SolverError}
-use Rattle.varisat.specs.declared.solver.SolverError.TheVariants.{Interrupted}
+use Rattle.varisat.specs.declared.solver.SolverError.TheVariants.{Interrupted, Invalid, ConfigOutOfRange, ProofOpen, ProofTooLate}
 use Rattle.varisat.proofs.NamesInOrder.{stay-in-order, count-above, count-within, through-all}
 use Rattle.varisat.proofs.NameLaws.{none-in-order, in-use-below}
 use Rattle.varisat.proofs.Counted.{join-more, join-has, join-only, join-once}
-use Rattle.varisat.proofs.Pasts.{Agrees, add-text, solve, config, tell-model, empty-agrees}
+use Rattle.varisat.proofs.Pasts.{Agrees, clauses-known, add-text, solve, config, opens, tell-model, empty-agrees}
+use Rattle.varisat.proofs.MoreClauses.{Carries, carries-all, carries-through, carries-one-more}
 
-abbrev done : Result (Unit {0}) SolverError
+abbrev pub done : Result (Unit {0}) SolverError
 done = Ok tt
 
 -- a text that breaks off has a fault
@@ -50,11 +53,12 @@ abbrev count-all : ℕ → List Clause → ℕ
 count-all n [] = n
 count-all n (c ∷ P) = count-all (count_with n c) P
 
--- What becomes of a past whose names are those below n, in order, as it takes clauses in. `more`: the clauses before stay. `part`: each one that joined is one of those taken in. `whole`: all of them joined, and their names are in order; or no assignment satisfies those that did. `counted`, `once`: no more variables are counted than the clauses name, and none twice.
+-- What becomes of a past whose names are those below n, in order, as it takes clauses in. `more`: the clauses before stay. `part`: each one that joined is one of those taken in. `whole`: all of them joined, and their names are in order; or no assignment satisfies those that did. `carries`: what is a proof from the clauses that joined is one from all that were taken in. `counted`, `once`: no more variables are counted than the clauses name, and none twice.
 record Took (n : ℕ) (P : List Clause) (p q : Past) : Type 0 where
   more : (a : Assignment) → SatisfiesAll a q.clauses → SatisfiesAll a p.clauses
   part : (a : Assignment) → SatisfiesAll a p.clauses → SatisfiesAll a P → SatisfiesAll a q.clauses
   whole : (IsSatisfiable q.clauses → ⊥) ⊎ ((q.clauses ≡ p.clauses ++ P) × AreInOrder (count-all n P) q.naming)
+  carries : Carries q.clauses (p.clauses ++ P)
   counted : (known : List ℕ) → p.counted ⊆ known → q.counted ⊆ named_variables known P
   once : IsDistinct p.counted → IsDistinct q.counted
   steps : q.steps ≡ p.steps
@@ -73,6 +77,7 @@ took n p q [] o (u, e) =
       more = λ a h. h;
       part = λ a h _. h;
       whole = inr (sym (append-nil p.clauses), o);
+      carries = subst (Carries p.clauses) (sym (append-nil p.clauses)) (carries-all p.clauses);
       counted = λ known h. h;
       once = λ h. h;
       steps = refl;
@@ -89,6 +94,7 @@ took n p q (c ∷ P) o (inl (mid, (v, past.Accepted u l e), rest)) =
       more = λ a h. satisfies_fewer a p.clauses (c ∷ []) (subst (SatisfiesAll a) clauses (r.more a h));
       part = λ a x y. r.part a (subst (SatisfiesAll a) (sym clauses) (satisfies-one-more a p.clauses P c x y)) (λ d h. y d (inr h));
       whole = ⊎_elim inl (λ w. inr (w.0 ∙ ap (λ Q. Q ++ P) clauses ∙ append_assoc p.clauses (c ∷ []) P, w.1)) r.whole;
+      carries = subst (Carries q.clauses) (ap (λ Q. Q ++ P) clauses ∙ append_assoc p.clauses (c ∷ []) P) r.carries;
       counted = λ known h. r.counted (join_counted known (map variable_of c)) (subst (λ xs. xs ⊆ join_counted known (map variable_of c)) (sym counted) (join-part p.counted known (map variable_of c) h));
       once = λ h. r.once (subst IsDistinct (sym counted) (join-once (map variable_of c) p.counted h));
       steps = r.steps;
@@ -101,6 +107,7 @@ took n p q (c ∷ P) o (inl (mid, (v, past.Ignored u e), rest)) =
       more = r.more;
       part = λ a x y. r.part a x (λ d h. y d (inr h));
       whole = inl (λ w. u (w.0, r.more w.0 w.1));
+      carries = carries-through q.clauses (p.clauses ++ P) (p.clauses ++ c ∷ P) r.carries (carries-one-more p.clauses c P);
       counted = λ known h. r.counted (join_counted known (map variable_of c)) (λ i m. join-more (map variable_of c) known i (h i m));
       once = r.once;
       steps = r.steps;
@@ -110,7 +117,7 @@ took n p q (c ∷ P) o (inl (mid, (v, past.Ignored u e), rest)) =
 
 -- the same where steps are counted anew then
 took-anew : (n : ℕ) (P : List Clause) (p q : Past) → Took n P p q → Took n P p (past.count_anew q)
-took-anew n P p q r = record { more = r.more; part = r.part; whole = r.whole; counted = r.counted; once = r.once; steps = r.steps; settings = r.settings; assumptions = r.assumptions }
+took-anew n P p q r = record { more = r.more; part = r.part; whole = r.whole; carries = r.carries; counted = r.counted; once = r.once; steps = r.steps; settings = r.settings; assumptions = r.assumptions }
 
 none-true : (a : Assignment) (A : List Literal) → A ≡ [] → MakesTrue a A
 none-true a A e l h = let z : l ∈ [] = subst (λ x. l ∈ x) e h in absurd z
@@ -187,52 +194,88 @@ takes : (old new : Stand) (p q : Past) → past.AddsDimacs p old done new q → 
 takes old new p q (Read v g a) = takes-given old new p q g a
 takes old new p q (Unread e k n) = absurd cc
 
--- A new solver with other settings took the text in, and then was asked.
-pub record Asked (c : SolverConfigUpdate) (old new : Stand) (t u : State) (found : Result Bool SolverError) : Type 0 where
-  pub mid : State
-  pub settings : Result (Unit {0}) SolverError
-  pub configured : state.Configures empty_state c settings mid
-  pub taken : settings ≡ done
-  pub added : Result (Unit {0}) SolverError
-  pub adds : state.AddsDimacs mid old added new t
-  pub accepted : added ≡ done
-  pub solves : state.Solves t found u
+-- the past of a new solver with a limit of steps, and a proof that is open, or none
+abbrev begun : Option Bool → Option ℕ → Past
+begun proof limit = record (past.with_update (record no_update { max_steps = limit }) empty_past) { proof = proof }
 
--- the past of a new solver with other settings
-abbrev begun : SolverConfigUpdate → Past
-begun c = past.with_update c empty_past
+begun-took : (proof : Option Bool) (limit : Option ℕ) (q : Past) (P : List Clause) → AddsWhole (begun proof limit) P q → Took 0 P (begun proof limit) q
+begun-took proof limit q P (m, a, e) = subst (Took 0 P (begun proof limit)) (sym e) (took-anew 0 P (begun proof limit) m (took 0 (begun proof limit) m P none-in-order a))
 
-begun-took : (c : SolverConfigUpdate) (q : Past) (P : List Clause) → AddsWhole (begun c) P q → Took 0 P (begun c) q
-begun-took c q P (m, a, e) = subst (Took 0 P (begun c)) (sym e) (took-anew 0 P (begun c) m (took 0 (begun c) m P none-in-order a))
+-- How a new solver is prepared.
 
-module _ (c : SolverConfigUpdate) (old new : Stand) (t u : State) (found : Result Bool SolverError) (k : Asked c old new t u found) where
-  configured : Agrees (begun c) k.mid
-  configured =
-      let (p, (v, n, e), g) = config empty_past empty_state k.mid c done empty-agrees (subst (λ r. state.Configures empty_state c r k.mid) k.taken k.configured) in
-      subst (λ p. Agrees p k.mid) e g
+limited-agrees : (limit : Option ℕ) → Agrees (begun None limit) (limited limit)
+limited-agrees limit =
+    let (p, (v, n, e), g) = config empty_past empty_state (limited limit) (record no_update { max_steps = limit }) done empty-agrees (refl, refl, refl) in
+    subst (λ p. Agrees p (limited limit)) e g
 
-  text-taken : (q : Past) × past.AddsDimacs (begun c) old done new q × Agrees q t
-  text-taken = add-text (begun c) k.mid t old new done configured (subst (λ r. state.AddsDimacs k.mid old r new t) k.accepted k.adds)
+-- of a proof that was just opened, that no search ran under it
+abbrev pub unsearched : {W : Type 0} → Option W → Option Bool
+unsearched None = None
+unsearched (Some target) = Some false
 
-  pub decided-none : (max_steps : ℕ) → found ≡ Ok false → Decides max_steps old new (Decided None)
-  decided-none max_steps f =
+pub prepared-agrees : {W : Type 0} (taken : W → Taken) (format : ProofFormat) (limit : Option ℕ) (target : Option W) → Agrees (begun (unsearched target) limit) (prepared taken format limit target)
+prepared-agrees taken format limit None = limited-agrees limit
+prepared-agrees taken format limit (Some target) =
+    opens (begun None limit) (limited limit) (prepared taken format limit (Some target)) (first_proof format (taken target) []) (limited-agrees limit) refl refl
+
+pub limits : (limit : Option ℕ) (u : SolverConfigUpdate) (r : Result (Unit {0}) SolverError) (s : State) → u ≡ no_update → state.Configures empty_state (record u { max_steps = limit }) r s → s ≡ limited limit
+limits limit u r s e h = go r (subst (λ (x : SolverConfigUpdate). state.Configures empty_state (record x { max_steps = limit }) r s) e h)
+  where
+    go : (r : Result (Unit {0}) SolverError) → state.Configures empty_state (record no_update { max_steps = limit }) r s → s ≡ limited limit
+    go (Ok x) (v, n, k) = k
+    go (Err Invalid) (v, k) = let z : true ≡ false = v in absurd cc
+    go (Err (ConfigOutOfRange field)) (v, n, k) = let z : None ≡ Some field = n in absurd cc
+    go (Err e) h = absurd h
+
+pub opens-limited : {W : Type 0} (taken : W → Taken) (target : W) (format : ProofFormat) (limit : Option ℕ) (s t : State) (r : Result (Unit {0}) (SolverError × W)) → s ≡ limited limit → OpensProof taken target format s r t → t ≡ prepared taken format limit (Some target)
+opens-limited {W = W} taken target format limit s t r e h = go r (subst (λ x. OpensProof taken target format x r t) e h)
+  where
+    go : (r : Result (Unit {0}) (SolverError × W)) → OpensProof taken target format (limited limit) r t → t ≡ prepared taken format limit (Some target)
+    go (Ok x) (v, n, b, k) = k
+    go (Err (Invalid, back)) (h, (v, k)) = let z : true ≡ false = v in absurd cc
+    go (Err (ProofOpen, back)) (h, v, (o, n), k) = let z : None ≡ Some o = n in absurd cc
+    go (Err (ProofTooLate, back)) (h, v, n, b, k) = let z : false ≡ true = b in absurd cc
+    go (Err (e, back)) h = absurd h
+
+pub no-target : {W : Type 0} (o : Option W) → ((target : W) → o ≡ Some target → ⊥) → o ≡ None
+no-target None h = refl
+no-target (Some target) h = absurd (h target refl)
+
+-- A new solver took a text in, and then is asked.
+module _ (proof : Option Bool) (limit : Option ℕ) (old new : Stand) (s t : State) (begins : Agrees (begun proof limit) s) (adds : state.AddsDimacs s old done new t) where
+  text-taken : (q : Past) × past.AddsDimacs (begun proof limit) old done new q × Agrees q t
+  text-taken = add-text (begun proof limit) s t old new done begins adds
+
+  -- what was found, and that the text's clauses are those of the solver and others
+  abbrev pub Found : Conclusion → Type 0
+  Found c = (d : Decides (allowed_steps limit) old new c) × Carries t.clauses (dimacs d.read.text).clauses
+
+  carried : (q : Past) (P : List Clause) → Agrees q t → q.valid ≡ true → Took 0 P (begun proof limit) q → Carries t.clauses P
+  carried q P g v r = subst (λ Q. Carries Q P) (sym (clauses-known q t g v)) r.carries
+
+  found-none : (u : State) → state.Solves t (Ok false) u → Found (Decided None)
+  found-none u f =
       let (q, x, g) = text-taken in
-      let (z, (v, n, few, e), h) = solve q t u (Ok false) g (subst (λ r. state.Solves t r u) f k.solves) in
-      let w = takes old new (begun c) q x in
-      let r = begun-took c q (dimacs w.read.text).clauses w.all in
-      record { read = w.read; ended = w.ended; fine = w.fine; found = λ s. n (s.0, r.part s.0 (λ d h. absurd h) s.1, none-true s.0 q.assumptions r.assumptions) }
+      let (z, (v, n, few, e), h) = solve q t u (Ok false) g f in
+      let w = takes old new (begun proof limit) q x in
+      let r = begun-took proof limit q (dimacs w.read.text).clauses w.all in (
+        record { read = w.read; ended = w.ended; fine = w.fine; found = λ s. n (s.0, r.part s.0 (λ d h. absurd h) s.1, none-true s.0 q.assumptions r.assumptions) },
+        carried q (dimacs w.read.text).clauses g v r,
+      )
 
-  pub decided-unknown : (max_steps : ℕ) → (updated_settings default_settings c).max_steps ≡ max_steps → found ≡ Err Interrupted → Decides max_steps old new Unknown
-  decided-unknown max_steps m f =
+  found-unknown : (u : State) → state.Solves t (Err Interrupted) u → Found Unknown
+  found-unknown u f =
       let (q, x, g) = text-taken in
-      let (z, (v, o, few, e), h) = solve q t u (Err Interrupted) g (subst (λ r. state.Solves t r u) f k.solves) in
-      let w = takes old new (begun c) q x in
-      let r = begun-took c q (dimacs w.read.text).clauses w.all in
+      let (z, (v, o, few, e), h) = solve q t u (Err Interrupted) g f in
+      let w = takes old new (begun proof limit) q x in
+      let r = begun-took proof limit q (dimacs w.read.text).clauses w.all in
       let names = named_variables [] (dimacs w.read.text).clauses in
       let fewer = length-distinct q.counted names (r.once tt) (r.counted [] (λ i h. h)) in
-      let early = spent-early (length q.counted) max_steps q.settings.max_steps q.since q.steps z.steps few (ap (λ (s : Settings). s.max_steps) r.settings ∙ m) r.steps in
-      let power : 2 ^ (2 * length q.counted + 3) ≤ 2 ^ (2 * length names + 3) = pow_mono (omega (arith, fewer)) in
-      record { read = w.read; ended = w.ended; fine = w.fine; found = omega (arith, early, power) }
+      let early = spent-early (length q.counted) (allowed_steps limit) q.settings.max_steps q.since q.steps z.steps few (ap (λ (s : Settings). s.max_steps) r.settings) r.steps in
+      let power : 2 ^ (2 * length q.counted + 3) ≤ 2 ^ (2 * length names + 3) = pow_mono (omega (arith, fewer)) in (
+        record { read = w.read; ended = w.ended; fine = w.fine; found = omega (arith, early, power) },
+        carried q (dimacs w.read.text).clauses g v r,
+      )
     where
       spent-early : (n max_steps own since before after : ℕ) → CountsSteps n own since before after (Err Interrupted) → own ≡ max_steps → before ≡ 0 → min max_steps (2 ^ 64 - 1) < 2 ^ (2 * n + 3)
       spent-early n max_steps own since before after k e z =
@@ -240,30 +283,27 @@ module _ (c : SolverConfigUpdate) (old new : Stand) (t u : State) (found : Resul
           let d = k.count in
           ⊎_elim (λ (s : k.made ≡ own). omega (arith, s, e, b)) (λ (s : after ≡ 2 ^ 64 - 1). omega (arith, s, d, z, b)) (k.spent refl)
 
-decided-told : {A : Type 0} (max_steps : ℕ) (c : SolverConfigUpdate) (old new : Stand) (t u v : State) (m : Option (Vec Literal A)) → Asked c old new t u (Ok true) → state.TellsModel u (told_list (Ok m)) v → Decides max_steps old new (Decided (listed m))
-decided-told {A = A} max_steps c old new t u v m a d =
-    let (q, x, g) = text-taken c old new t u (Ok true) a in
-    let (z, (w, s, few, e), h) = solve q t u (Ok true) g a.solves in
-    let k = takes old new (begun c) q x in
-    outcome m k (begun-took c q (dimacs k.read.text).clauses k.all).whole (s.0, s.1) z w e h d
-  where
-    outcome : (m : Option (Vec Literal A)) {q : Past} (k : Takes old new (begun c) q) → (IsSatisfiable q.clauses → ⊥) ⊎ ((q.clauses ≡ (dimacs k.read.text).clauses) × AreInOrder (count-all 0 (dimacs k.read.text).clauses) q.naming) → IsSatisfiable q.clauses → (z : Past) → q.valid ≡ true → z ≡ record (past.with_steps z.steps (past.once_searched q)) { has_model = true; has_core = false } → Agrees z u → state.TellsModel u (told_list (Ok m)) v → Decides max_steps old new (Decided (listed m))
-    outcome m k (inl n) s z w e h d = absurd (n s)
-    outcome None k (inr n) s z w e h d =
-        let (y, (x, i), j) = tell-model z u v (Ok None) h d in absurd (let o : false ≡ true = sym (x (ap (λ y. y.valid) e ∙ w)) ∙ ap (λ y. y.has_model) e in cc)
-    outcome (Some l) k (inr (clauses, order)) s z w e h d =
-        let (y, (x, i, o, same_past), j) = tell-model z u v (Ok (Some l.items)) h d in
-        let model = subst (λ P. IsCompletable z.naming P z.assumptions z.counted l.items) (ap (λ (y : Past). y.clauses) e ∙ clauses) o in
-        record {
-          read = k.read;
-          ended = k.ended;
-          fine = k.fine;
-          found = own-model (dimacs k.read.text).clauses z.naming z.assumptions z.counted l.items (subst (AreInOrder (count-all 0 (dimacs k.read.text).clauses)) (sym (ap (λ (y : Past). y.naming) e)) order) model;
-        }
+  found-model : (model : List Literal) (u v : State) → state.Solves t (Ok true) u → state.TellsModel u (Ok (Some model)) v → Found (Decided (Some model))
+  found-model model u v f d =
+      let (q, x, g) = text-taken in
+      let (z, (w, s, few, e), h) = solve q t u (Ok true) g f in
+      let k = takes old new (begun proof limit) q x in
+      let r = begun-took proof limit q (dimacs k.read.text).clauses k.all in (
+        record { read = k.read; ended = k.ended; fine = k.fine; found = outcome q (dimacs k.read.text).clauses r.whole (s.0, s.1) z e h },
+        carried q (dimacs k.read.text).clauses g w r,
+      )
+    where
+      outcome : (q : Past) (P : List Clause) → (IsSatisfiable q.clauses → ⊥) ⊎ ((q.clauses ≡ P) × AreInOrder (count-all 0 P) q.naming) → IsSatisfiable q.clauses → (z : Past) → z ≡ record (past.with_steps z.steps (past.once_searched q)) { has_model = true; has_core = false } → Agrees z u → IsModel P model
+      outcome q P (inl n) s z e h = absurd (n s)
+      outcome q P (inr (clauses, order)) s z e h =
+          let (y, (x, i, o, same_past), j) = tell-model z u v (Ok (Some model)) h d in
+          let told = subst (λ Q. IsCompletable z.naming Q z.assumptions z.counted model) (ap (λ (y : Past). y.clauses) e ∙ clauses) o in
+          own-model P z.naming z.assumptions z.counted model (subst (AreInOrder (count-all 0 P)) (sym (ap (λ (y : Past). y.naming) e)) order) told
 
-pub outcome-told : {A : Type 0} (max_steps : ℕ) (c : SolverConfigUpdate) (old new : Stand) (t u v : State) (found : Result Bool SolverError) (told : Result (Option (Vec Literal A)) AllocError) (m : Option (Vec Literal A)) → Asked c old new t u found → found ≡ Ok true → state.TellsModel u (told_list told) v → told ≡ Ok m → Decides max_steps old new (Decided (listed m))
-outcome-told max_steps c old new t u v found told m a y d z =
-    decided-told max_steps c old new t u v m (subst (Asked c old new t u) y a) (subst (λ r. state.TellsModel u (told_list r) v) z d)
+  pub found : (c : Conclusion) (u : State) → Finds t c u → Found c
+  found Unknown u f = found-unknown u f
+  found (Decided None) u f = found-none u f
+  found (Decided (Some model)) u (f, d) = found-model model u u f d
 
 -- The status.
 

@@ -8,7 +8,7 @@ use Rattle.varisat_theory.specs.Propagation.{Conflicts}
 use Rattle.varisat_theory.specs.Renaming.{rename, rename_line}
 use Rattle.varisat_theory.specs.Journals.{Entry, Fails, Leads, lines_of}
 use Rattle.varisat_theory.specs.Counted.{added}
-use Rattle.varisat_theory.proofs.Journals.{leads_unique, written_lines}
+use Rattle.varisat_theory.proofs.Journals.{leads_append, leads_unique, written_lines}
 use Rattle.varisat_theory.proofs.Members.{∈-append_right}
 use Rattle.varisat_theory.proofs.Growth.{conflicts_more, covered_by_more}
 use Rattle.varisat_theory.proofs.Held.{same_clauses-back, conflicts_same}
@@ -28,8 +28,8 @@ use Rattle.varisat.specs.States.{State, Verdict, Unknown, Sat, Unsat, UnsatUnder
 use Rattle.varisat.specs.Names.{identity_of}
 use Rattle.varisat.specs.Calls.{with_verdict}
 use Rattle.varisat.specs.Carried.{carry, is_forced, value_or}
-use Rattle.varisat.specs.Spaces.{Spaces, Carrying, Translation, translation, IsTold, SearchHolds, AssumptionsFit, MarksFit, WorkingFits, CoreFits, without_core, VerdictFits, Links, SpacesFit}
-use Rattle.varisat.specs.Journals.{retold, TellsMore}
+use Rattle.varisat.specs.Spaces.{Spaces, Carrying, Translation, translation, IsTold, SharesHeld, HeldFits, SearchHolds, AssumptionsFit, MarksFit, WorkingFits, CoreFits, without_core, VerdictFits, Links, SpacesFit}
+use Rattle.varisat.specs.Journals.{retold, TellsMore, ToldConflict}
 use Rattle.varisat.proofs.SpacesMoves.{AreLong, AreInUse}
 use Rattle.varisat.proofs.ReachedHeld.{told_lines, lines-lead, told-quiet}
 use Rattle.varisat.proofs.ToldEntries.{tells-also, told-written, told-failed}
@@ -157,6 +157,13 @@ module _ (w : Carrying) (p : Spaces) (s : State) (k : Links w p s) (unknown : p.
       (conflicts_same all on.held core (same_clauses-back on.held all on.same)
       (conflicts_more (rename f after) all core core (covered_by_more (rename f after) all (λ c h. ∈-append_right c before.told.forgotten (rename f after) h)) (λ l h. h)
       (conflicts_renamed f (carry-opposite (translation w p s.told).identity) after found (subst (Holds after t) e o).1)))
+
+  -- one without literals is a conflict of what is held
+  pub core-refutes : (found told : List Literal) → v ≡ outcome.UnsatUnder found → map (carry s.naming.names) told ≡ map (carry (translation w p s.told).identity) found → map (carry s.naming.names) told ≡ [] → ToldConflict ((told-with w p s lines) ++ Fails (map (carry s.naming.names) told) ∷ [])
+  core-refutes found told e same-core none =
+      let q : SharesHeld (translation w p (told-with w p s lines)) steps-hold.held = subst (λ o. HeldFits (translation w p (told-with w p s lines)) steps-hold.held (without_core o)) e steps-hold.told in
+      let conflict = subst (Conflicts q.held) (sym same-core) (core-conflicts found e q.held q.led) in
+      (q.held, leads_append [] (told-with w p s lines) q.held (Fails (map (carry s.naming.names) told) ∷ []) q.held q.led (q.held, (conflict, refl), refl), subst (Conflicts q.held) none conflict)
 
   module _ (x y : AssumptionParts) (same : p.working ≡ x.working) (keeps : KeepsAssumptions p.search v x y) where
     pub left : WorkingFits s.clauses (translation w p s.told).identity s.assumptions y.working

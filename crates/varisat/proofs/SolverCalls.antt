@@ -58,7 +58,7 @@ use Rattle.varisat.proofs.AcceptLoad.{map-map}
 use Rattle.varisat.proofs.CallStates.{ledger-is, none-more}
 use Rattle.varisat.proofs.VerdictAnswers.{right-false, right-core, core-answer}
 use Rattle.varisat.proofs.Carried.{carry-at, carry-sign}
-use Rattle.varisat.proofs.SolveVerdict.{told-with, steps-tell, steps-add, core-tells, maps-alike, recount, spaces-same, sat-found, unsat-found, core-found, found, went-on}
+use Rattle.varisat.proofs.SolveVerdict.{told-with, steps-tell, steps-add, core-tells, core-refutes, maps-alike, recount, spaces-same, sat-found, unsat-found, core-found, found, went-on}
 use Rattle.varisat.proofs.ModelsFit.{told, is-sat, is-unsat, is-core, is-unknown}
 use Rattle.varisat.proofs.AcceptClause.{with_tables, name-below, name-above, given-spaces}
 use Rattle.varisat.proofs.SearchViews.{view-long}
@@ -222,6 +222,9 @@ plain-core w p s k shown lines found told e =
 abbrev searching : TracerState → View → AssumptionParts → State → Summary
 searching p search assumed s = record { tables = p.tables; opened = None; search = search; assumed = assumed; sat_state = verdict.Unknown; ledger = s.ledger }
 
+no-literal : (core : List Literal) → UnsatUnderAssumptions core ≡ UnsatUnderAssumptions [] → core ≡ []
+no-literal core e = cc
+
 -- what the state is then
 pub comes-made : (p q : TracerState) (search : View) (assumed : AssumptionParts) (s : State) (t : View) (y z : AssumptionParts) (after : SatState) (n : ℕ) (lines : List Line) → SpacesFit (spaces_of p.tables search assumed verdict.Unknown) s → StepsMade (searching p search assumed s) t y z after n lines → TakesStep TakesGlobally p lines (outcome_of t y.failed_core after) q → ComesTo n s p.proof q.proof (spaces_of p.tables t z after)
 comes-made p q search assumed s t y z verdict.Unknown n lines (w, k) v takes =
@@ -234,6 +237,7 @@ comes-made p q search assumed s t y z verdict.Unknown n lines (w, k) v takes =
       told = told;
       more = steps-tell w (spaces g) s k refl (search_of t) outcome.Unknown n lines v.steps long v.in_use;
       adds = λ e. steps-add w (spaces g) s k refl (search_of t) outcome.Unknown n lines v.steps long v.in_use refl;
+      conflict = λ u e. let z : Unknown ≡ UnsatUnderAssumptions [] = e in absurd cc;
       proof = proof-told p q (written lines ++ []) s.ever_hidden s.told told takes (λ shown. plain-with w (spaces g) s k shown lines);
       fits = left-spaces g (retold told (with_verdict Unknown s)) t y z verdict.Unknown v (w, links);
     }
@@ -248,6 +252,7 @@ comes-made p q search assumed s t y z verdict.Sat n lines (w, k) v takes =
       told = told;
       more = steps-tell w (spaces g) s k refl (search_of t) (outcome.Sat (assignment_of t)) n lines v.steps long v.in_use;
       adds = λ e. absurd (let z : Sat a ≡ Unknown = e in cc);
+      conflict = λ u e. let z : Sat a ≡ UnsatUnderAssumptions [] = e in absurd cc;
       proof = proof-told p q (written lines ++ []) s.ever_hidden s.told told takes (λ shown. plain-with w (spaces g) s k shown lines);
       fits = left-spaces g (retold told (with_verdict (Sat a) s)) t y z verdict.Sat v (w, links);
     }
@@ -261,6 +266,7 @@ comes-made p q search assumed s t y z verdict.Unsat n lines (w, k) v takes =
       told = told;
       more = steps-tell w (spaces g) s k refl (search_of t) outcome.Unsat n lines v.steps long v.in_use;
       adds = λ e. absurd (let z : Unsat ≡ Unknown = e in cc);
+      conflict = λ u e. let z : Unsat ≡ UnsatUnderAssumptions [] = e in absurd cc;
       proof = proof-told p q (written lines ++ []) s.ever_hidden s.told told takes (λ shown. plain-with w (spaces g) s k shown lines);
       fits = left-spaces g (retold told (with_verdict Unsat s)) t y z verdict.Unsat v (w, links);
     }
@@ -276,6 +282,7 @@ comes-made p q search assumed s t y z verdict.UnsatUnderAssumptions n lines (w, 
       told = told;
       more = core-tells w (spaces g) s k refl (search_of t) (outcome.UnsatUnder y.failed_core) n lines v.steps long v.in_use assumed y refl v.assumes y.failed_core z.user_core refl same;
       adds = λ e. absurd (let z : UnsatUnderAssumptions core ≡ Unknown = e in cc);
+      conflict = λ u e. core-refutes w (spaces g) s k refl (search_of t) (outcome.UnsatUnder y.failed_core) n lines v.steps long v.in_use y.failed_core z.user_core refl same (no-literal core e);
       proof = proof-told p q (written lines ++ Fails y.failed_core ∷ []) s.ever_hidden s.told told takes (λ shown. plain-core w (spaces g) s k shown lines y.failed_core core same);
       fits = left-spaces g (retold told (with_verdict (UnsatUnderAssumptions core) s)) t y z verdict.UnsatUnderAssumptions v (w, links);
     }
@@ -427,6 +434,7 @@ known-told g s b st v e =
       rest = record { naming = refl; ever_hidden = refl; clauses = refl; assumptions = refl; counted = refl; verdict = refl; ledger = ledger-is s.ledger s.ledger.valid s.ledger.started s.ledger.steps (s.ledger.since + (s.ledger.steps - s.ledger.steps)) s.ledger.settings refl refl refl (none-more s.ledger.since s.ledger.steps) refl; told = tells-nothing s.told; proof = goes-on-none s.proof };
       told = let z : 0 ≡ s.ledger.steps - s.ledger.steps = omega arith in subst (λ n. TellsMore n s.told s.told) z (tells-nothing s.told);
       refuted = told-refuted g s st v;
+      unassumed = λ u. absurd (let z : None ≡ Some b = ap answer_of (sym u) ∙ a in cc);
     }
 
 pub false-right : (g : Summary) (s : State) → StandsFor g s → g.ledger.valid ≡ true → answer_at g.sat_state ≡ Some false → IsSatisfiableWith s.clauses s.assumptions → ⊥

@@ -36,7 +36,7 @@ use Rattle.varisat.specs.Journals.{retold, TellsMore, TellsLeaving, ToldConflict
 use Rattle.varisat.specs.OpenProofs.{OpenProof, GoesOnWriting}
 use Rattle.varisat.specs.Searches.{answer_at, TellsSome, ComesTo, ComesOn, MakesNamedStep}
 use Rattle.varisat.specs.Spaces.{Spaces, translation, VerdictFits, SpacesFit}
-use Rattle.varisat.specs.States.{State, Verdict, Unknown, Unsat, HasRightVerdict, IsRight}
+use Rattle.varisat.specs.States.{State, Verdict, Unknown, Unsat, UnsatUnderAssumptions, HasRightVerdict, IsRight}
 use Rattle.varisat.specs.Summaries.{IsKept, spaces_of, spaces_with, undecided_spaces}
 use Rattle.varisat.proofs.AcceptClause.{ledger-free, proof-free}
 use Rattle.varisat.proofs.CallStates.{ledger-is, none-more, like-grown}
@@ -63,6 +63,7 @@ comes-nowhere n s p after e f = record {
   told = s.told;
   more = subst (λ m. TellsMore m s.told s.told) (sym e) (tells-nothing s.told);
   adds = λ u. omega (arith, e);
+  conflict = λ u k. let z : Unknown ≡ UnsatUnderAssumptions [] = sym u ∙ k in absurd cc;
   proof = proof-quiet s.ever_hidden s.told s.told p (λ h. refl);
   fits = f;
 }
@@ -89,6 +90,7 @@ comes-through n m k p q r before mid last sum unknown first second s fit =
           let all = ap added (lines_append es more) in
           let both = added_append (lines_of es) (lines_of more) in
           omega (arith, i, j, all, both, sum);
+      conflict = λ u e. b.conflict (unknown t a.fits) e;
       proof = proof-through s.ever_hidden s.told a.told b.told p q r a.proof b.proof;
       fits = b.fits;
     }
@@ -97,7 +99,7 @@ comes-through n m k p q r before mid last sum unknown first second s fit =
 pub leaving-comes : (p : ProofParts) (before after : Spaces) → ((s : State) → SpacesFit before s → (told : List Entry) × TellsLeaving s.ever_hidden s.told told × SpacesFit after (retold told s)) → ComesOn 0 before after p p
 leaving-comes p before after leave s fit =
     let (told, t, f) = leave s fit in
-    record { verdict = s.verdict; told = told; more = t.more; adds = λ e. omega arith; proof = proof-quiet s.ever_hidden s.told told p t.quiet; fits = f }
+    record { verdict = s.verdict; told = told; more = t.more; adds = λ e. omega arith; conflict = λ u e. let z : Unknown ≡ UnsatUnderAssumptions [] = sym u ∙ e in absurd cc; proof = proof-quiet s.ever_hidden s.told told p t.quiet; fits = f }
 
 -- the same of the proof alone
 pub some-none : (p : ProofParts) → TellsSome p p
@@ -247,6 +249,7 @@ module _ {A : Type 0} {k : ℕ} {s : State} {p q : ProofParts} (m : Tables) (y :
     rest = like-grown (after-solve c.told c.verdict n s.proof s) now grows;
     told = subst (λ j. TellsMore j s.told c.told) made c.more;
     refuted = comes-refuted m y c;
+    unassumed = c.conflict;
   }
 
   pub comes-interrupted : IsValid s → s.verdict ≡ Unknown → CountsSteps (length s.counted) s.ledger.settings.max_steps s.ledger.since s.ledger.steps n (Err Interrupted) → c.verdict ≡ Unknown → k ≡ n - s.ledger.steps → (n ≡ s.ledger.steps → ⊥) → GoesOnWriting s.proof now → IsInterrupted s (after-solve c.told c.verdict n now s)

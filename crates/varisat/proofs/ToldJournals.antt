@@ -30,6 +30,7 @@ journal-of g s st v =
       led = led;
       accepted = k.told.accepted;
       written = (st.proof v).written;
+      stays = k.told.stays;
       derives = λ e.
           let (last, d, same) = leads_derives [] s.told held (k.told.stays e) led in
           subst (λ P. IsDerivation P (lines_of s.told)) k.told.accepted (derives_derivation _ (lines_of s.told) last d);

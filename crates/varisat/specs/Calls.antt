@@ -240,8 +240,9 @@ pub record TellsVerdict (s : State) (b : Bool) (t : State) : Type 0 where
   pub rest : IsLike (retold t.told (with_verdict t.verdict (with_steps t.ledger.steps s))) t
   -- of the clauses that it told to be added as many count as steps were made
   pub told : TellsMore (t.ledger.steps - s.ledger.steps) s.told t.told
-  -- under Unsat propagation over what is held conflicts
+  -- under Unsat propagation over what is held conflicts, and so it does where an empty core was found
   pub refuted : t.verdict ≡ Unsat → ToldConflict t.told
+  pub unassumed : s.verdict ≡ Unknown → t.verdict ≡ UnsatUnderAssumptions [] → ToldConflict t.told
 
 -- The steps are spent before a verdict is known. The search can go on from there.
 pub record IsInterrupted (s t : State) : Type 0 where

@@ -9,8 +9,8 @@ use Rattle.varisat.specs.Additions.{Gave}
 use Rattle.varisat_proof.specs.Verified.{fault_status}
 use Rattle.varisat.specs.States.{join_counted}
 use Rattle.varisat.specs.Models.{IsRising}
-use Rattle.varisat.specs.declared.program.Report.{Report}
-use Rattle.varisat.specs.declared.program.Report.TheVariants as report
+use Rattle.varisat.specs.declared.deciding.Report.{Report}
+use Rattle.varisat.specs.declared.deciding.Report.TheVariants as report
 use Rattle.varisat.specs.Lines.{literals_text}
 
 -- the literals of a list that was made

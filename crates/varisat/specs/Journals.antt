@@ -2,7 +2,7 @@
 use Rattle.std.specs.Prelude.{◌≡◌, ℕ, Bool, false, List, [], ◌++◌}
 use Rattle.varisat_theory.specs.Literals.{Clause}
 use Rattle.varisat_theory.specs.Propagation.{Conflicts}
-use Rattle.varisat_theory.specs.Journals.{Entry, Leads, LeadsBy, accepted_of, lines_of, GoesOn}
+use Rattle.varisat_theory.specs.Journals.{Entry, Leads, LeadsBy, NoneLeaves, accepted_of, lines_of, GoesOn}
 use Rattle.varisat_theory.specs.Derivations.{IsDerivation, Refutes}
 use Rattle.varisat_proof.specs.Proving.{ProofParts, IsTold}
 use Rattle.varisat.specs.OpenProofs.{IsWrittenIf}
@@ -35,13 +35,14 @@ abbrev pub ToldConflict : List Entry → Type 0
 ToldConflict told = (held : List Clause) × Leads [] told held × Conflicts held []
 
 -- What was told is right, entry by entry, and an open proof has its lines since it was opened, as long as nothing was ever
--- hidden. Its clauses are those accepted, in order. Where nothing was ever hidden its lines are a derivation from these, and
--- under Unsat they refute them.
+-- hidden. Its clauses are those accepted, in order. Where nothing was ever hidden no variable leaves, and its lines are a
+-- derivation from these, and under Unsat they refute them.
 pub record IsJournal (s : State) : Type 0 where
   pub held : List Clause
   pub led : Leads [] s.told held
   pub accepted : accepted_of s.told ≡ s.clauses
   pub written : IsWrittenIf s.ever_hidden s.told s.proof
+  pub stays : s.ever_hidden ≡ false → NoneLeaves s.told
   pub derives : s.ever_hidden ≡ false → IsDerivation s.clauses (lines_of s.told)
   pub refutes : s.ever_hidden ≡ false → s.verdict ≡ Unsat → Refutes s.clauses (lines_of s.told)
 

@@ -30,3 +30,4 @@ pub mod Dropping
 pub mod Counts
 pub mod Lines
 pub mod Decided
+pub mod Proven

@@ -24,10 +24,10 @@ use Rattle.varisat_search.specs.Seen.{search_of, outcome_of}
 use Rattle.varisat.specs.Calls.{with_verdict}
 use Rattle.varisat.specs.Carried.{carry}
 use Rattle.varisat.specs.Dropping.{LeavesNeeded}
-use Rattle.varisat.specs.Journals.{retold, TellsMore, TellsProof}
+use Rattle.varisat.specs.Journals.{retold, TellsMore, TellsProof, ToldConflict}
 use Rattle.varisat.specs.SinceChange.{GoesOnSince, BeginsWithin}
 use Rattle.varisat.specs.Spaces.{Spaces, SpacesFit}
-use Rattle.varisat.specs.States.{State, Verdict, Unknown}
+use Rattle.varisat.specs.States.{State, Verdict, Unknown, UnsatUnderAssumptions}
 use Rattle.varisat.specs.Summaries.{undecided_spaces, spaces_with, IsKept}
 
 -- what is returned at the verdict, if it is known
@@ -48,6 +48,8 @@ pub record ComesTo (n : ℕ) (s : State) (p q : ProofParts) (after : Spaces) : T
   pub told : List Entry
   pub more : TellsMore n s.told told
   pub adds : verdict ≡ Unknown → n ≤ added (lines_of more.entries)
+  -- propagation over what is held conflicts where an empty core was found
+  pub conflict : s.verdict ≡ Unknown → verdict ≡ UnsatUnderAssumptions [] → ToldConflict told
   pub proof : TellsProof s.ever_hidden s.told told p q
   pub fits : SpacesFit after (retold told (with_verdict verdict s))
 

@@ -3,6 +3,7 @@
 
 mod accept;
 mod carrying;
+mod deciding;
 mod dropping;
 pub mod laws;
 pub mod line;

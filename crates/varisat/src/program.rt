@@ -1,20 +1,21 @@
 //! The commands of the program, over readers and writers.
 ghost use Rattle.std.specs.Prelude.{◌≡◌, ◌⊎◌, ◌-◌, ◌^◌, ◌<◌, OnOk, IfOk};
 ghost use Rattle.std.specs.Io.KnownBytes.{Appends};
-ghost use Rattle.varisat.specs.States.{empty_state};
-ghost use Rattle.varisat.specs.Summaries.{StandsFor};
-ghost use Rattle.varisat.specs.Decided.{Conclusion, concluded, allowed_steps, Decides, StatusIsTrue, model_text, conclusion_text, conclusion_status};
+ghost use Rattle.varisat.specs.OpenProofs.{IsDrat};
+ghost use Rattle.varisat.specs.Decided.{Conclusion, concluded, allowed_steps, StatusIsTrue, model_text, conclusion_text, conclusion_status};
+ghost use Rattle.varisat.specs.Proven.{CanCountFault, DecidesProven};
 ghost use Rattle.varisat_proof.specs.Verified.{fault_status};
 
+use crate::deciding::decide;
+pub use crate::deciding::{Report, SolveOptions};
 use crate::line::{parse_line, write_answer, write_literals};
 use crate::session::make_call;
-use crate::solver::{Solver, SolverError};
+use crate::solver::Solver;
 use std::alloc::Allocator;
 use std::fmt::Display;
 use std::io::{self, BufRead, BufReader, Empty, Read, Write};
 use varisat_formula::io::{ByteSource, MemoryTarget, ProofTarget, ReadSource};
 use varisat_literals::Lit;
-use varisat_names::config::SolverConfigUpdate;
 pub use varisat_proof::program::{STATUS_FAULT, check_lines};
 
 /// The status of a command that came to its end.
@@ -41,89 +42,37 @@ pub fn session_lines<A: Allocator + Copy, R: Read + Drop, W: Write, E: Write>(
     }
 }
 
-/// What `solve` keeps to: how many steps it may make, where they are limited.
-#[derive(Clone, Copy, Debug)]
-pub struct SolveOptions {
-    pub max_steps: Option<u64>,
-}
-
-/// What a text was found to be.
-#[derive(Debug, Drop)]
-pub enum Report<A: Allocator + Copy> {
-    /// A model of its clauses, or None where there is none.
-    Decided(Option<Vec<Lit, A>>),
-    /// The steps were spent before that was known.
-    Unknown,
-}
-
 /// Reads a DIMACS CNF text and decides it. Prints `s SATISFIABLE` and a `v` line with the model, status 10, or `s
-/// UNSATISFIABLE`, status 20; or `s UNKNOWN`, status 0, where the steps are spent before that is known. A fault of the
-/// text, its source or the writer, and out of memory, is told on `err`, and the status is 2. Of what was printed
-/// something is said only for a writer whose contents are known. The source has to have counted fewer than 2^64-1
-/// faults.
-pub fn solve_lines<A: Allocator + Copy, S: ByteSource, W: Write, E: Write>(
+/// UNSATISFIABLE`, status 20; or `s UNKNOWN`, status 0, where the steps are spent before that is known. A target takes
+/// the lines of the search as a proof, which is opened before a clause is accepted and closed before anything is
+/// printed; then the target is there again. A fault of the text, its source, the target or the writer, and out of
+/// memory, is told on `err`, and the status is 2. Of what was printed something is said only for a writer whose contents
+/// are known. The source and the target have to have counted fewer than 2^64-1 faults.
+pub fn solve_lines<A: Allocator + Copy, S: ByteSource, T: ProofTarget, W: Write, E: Write>(
     alloc: A,
     cnf: &mut S,
+    proof: &mut Option<T>,
     options: SolveOptions,
     out: &mut W,
     err: &mut E,
 ) -> u8
-    requires { (S.stand cnf.old).faults < 2 ^ 64 - 1 }
-    // Any other status is given only after the source gave a whole text, which was decided if the steps allowed it, and
-    // the outcome printed.
+    requires faults { (S.stand cnf.old).faults < 2 ^ 64 - 1 }
+    requires format { IsDrat options.format }
+    requires room { CanCountFault T.taken proof.old }
+    // Any other status is given only after the source gave a whole text, which was decided if the steps allowed it, with a
+    // proof in the target, and the outcome printed.
     ensures outcome { (result ≡ fault_status)
-        ⊎ ((conclusion : Conclusion) × Decides (allowed_steps options.max_steps) (S.stand cnf.old) (S.stand cnf.new) conclusion
+        ⊎ ((conclusion : Conclusion)
+        × DecidesProven T.taken options.format (allowed_steps options.max_steps) (S.stand cnf.old) (S.stand cnf.new) proof.old proof.new conclusion
         × (result ≡ conclusion_status conclusion) × Appends (W.contents out.old) (W.contents out.new) (conclusion_text conclusion)) }
     ensures truth { StatusIsTrue (S.stand cnf.old) (S.stand cnf.new) result }
 {
-    match decide(alloc, cnf, options) {
+    match decide(alloc, cnf, proof, options) {
         Ok(report) => match write_report(out, &report) {
             Ok(status) => status,
             Err(error) => tell_fault(err, &error),
         },
         Err(error) => tell_fault(err, &error),
-    }
-}
-
-/// Decides a DIMACS CNF text.
-// The new solver has a function of its own: it is dropped in one place and in one step, not at each return of `decide_in`
-// and part by part.
-fn decide<A: Allocator + Copy, S: ByteSource>(
-    alloc: A,
-    cnf: &mut S,
-    options: SolveOptions,
-) -> Result<Report<A>, SolverError>
-    requires { (S.stand cnf.old).faults < 2 ^ 64 - 1 }
-    ensures { IfOk result (λ report. Decides (allowed_steps options.max_steps) (S.stand cnf.old) (S.stand cnf.new) (concluded report)) }
-{
-    let mut solver: Solver<MemoryTarget<A>, A> = Solver::new_in(alloc);
-    let report = decide_in(&mut solver, cnf, options);
-    drop(solver);
-    report
-}
-
-/// The same in a new solver.
-fn decide_in<W: ProofTarget, A: Allocator + Copy, S: ByteSource>(
-    solver: &mut Solver<W, A>,
-    cnf: &mut S,
-    options: SolveOptions,
-) -> Result<Report<A>, SolverError>
-    requires new { StandsFor solver.old empty_state }
-    requires faults { (S.stand cnf.old).faults < 2 ^ 64 - 1 }
-    ensures { IfOk result (λ report. Decides (allowed_steps options.max_steps) (S.stand cnf.old) (S.stand cnf.new) (concluded report)) }
-{
-    let mut update = SolverConfigUpdate::new();
-    update.max_steps = options.max_steps;
-    solver.config(&update)?;
-    solver.add_dimacs_cnf(cnf)?;
-    match solver.solve() {
-        Ok(true) => match solver.model() {
-            Ok(model) => Ok(Report::Decided(model)),
-            Err(_) => Err(SolverError::OutOfMemory),
-        },
-        Ok(false) => Ok(Report::Decided(None)),
-        Err(SolverError::Interrupted) => Ok(Report::Unknown),
-        Err(error) => Err(error),
     }
 }
 

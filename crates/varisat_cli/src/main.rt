@@ -1,16 +1,18 @@
 //! The program: opens what the command line names, and hands it to the command.
 #![tactic(auto)]
 
-ghost use Rattle.std.specs.Prelude.{◌≡◌, ◌↔◌, ◌-◌, ◌^◌, ◌<◌, IsErr};
+ghost use Rattle.std.specs.Prelude.{◌≡◌, ◌↔◌, ◌⊎◌, ◌-◌, ◌^◌, ◌<◌, IsErr, IfOk};
 ghost use Rattle.std.specs.Fs.{file_type, IsDir};
-ghost use Rattle.varisat.specs.Decided.{StatusIsTrue};
+ghost use Rattle.varisat.specs.OpenProofs.{IsDrat};
+ghost use Rattle.varisat.specs.Decided.{Conclusion, StatusIsTrue, allowed_steps, conclusion_status};
+ghost use Rattle.varisat.specs.Proven.{CanCountFault, DecidesProven, taken_by_writer};
 ghost use Rattle.varisat_proof.specs.Verified.{GivesUnsatisfiable, fault_status};
 
 use std::fs::{File, Metadata};
 use std::io::{self, BufWriter, ErrorKind, Write};
 use std::process::ExitCode;
 use std::{env, fs};
-use varisat::io::ReadSource;
+use varisat::io::{IoTarget, ReadSource};
 use varisat::line::parse_number;
 use varisat::program::{
     STATUS_FAULT, SolveOptions, check_lines, session_lines, solve_lines, tell_fault, tell_usage,
@@ -24,62 +26,123 @@ fn main(rt: HostRuntime) -> ExitCode {
 // Runs the command that the arguments name, and gives its status.
 fn run(rt: &HostRuntime) -> u8 {
     let mut err = rt.stderr();
-    let Ok(mut words) = env::args(rt) else {
+    let Ok(words) = read_words(rt) else {
         return tell_usage(&mut err);
     };
-    let _program = words.next();
-    let Some(command) = words.next() else {
-        return tell_usage(&mut err);
-    };
-    let operand = words.next();
-    let option = words.next();
-    let value = words.next();
-    if words.next().is_some() {
-        return tell_usage(&mut err);
+    match run_words(rt, words.as_slice()) {
+        Some(status) => status,
+        None => tell_usage(&mut err),
     }
-    match operand {
-        None if command.as_str() == "session" => session(rt),
-        Some(path) if command.as_str() == "solve" => {
-            let option = option.as_ref().map(|word| word.as_str());
-            let value = value.as_ref().map(|word| word.as_str());
-            match solve_options(option, value) {
-                Some(options) => solve(rt, path.as_str(), options),
-                None => tell_usage(&mut err),
-            }
+}
+
+// The arguments behind the program's name.
+fn read_words(rt: &HostRuntime) -> io::Result<Vec<String>> {
+    let mut words = Vec::new(rt.alloc());
+    for word in env::args(rt)?.skip(1) {
+        words.push(word)?;
+    }
+    Ok(words)
+}
+
+// Runs the command of these words. None is for words that are no command.
+fn run_words(rt: &HostRuntime, words: &[String]) -> Option<u8> {
+    let (command, operands) = words.split_first()?;
+    match command.as_str() {
+        "session" if operands.is_empty() => Some(session(rt)),
+        "solve" => {
+            let (cnf, options) = operands.split_first()?;
+            let found = solve_words(options)?;
+            Some(solve(rt, cnf.as_str(), &found))
         }
-        Some(cnf) if command.as_str() == "check" => {
-            let format = value.as_ref().map(|word| word.as_str());
-            match (option, proof_format(format)) {
-                (Some(proof), Some(format)) => check(rt, cnf.as_str(), proof.as_str(), format),
-                _ => tell_usage(&mut err),
-            }
+        "check" => {
+            let (cnf, others) = operands.split_first()?;
+            let (proof, options) = others.split_first()?;
+            let format = check_format(options)?;
+            Some(check(rt, cnf.as_str(), proof.as_str(), format))
         }
-        _ => tell_usage(&mut err),
+        _ => None,
     }
 }
 
 // The format of the proof that `check` reads: text, binary with `--binary`, or marked text with `--marked`.
-fn proof_format(option: Option<&str>) -> Option<ProofFormat> {
-    match option {
-        None => Some(ProofFormat::Drat),
-        Some("--binary") => Some(ProofFormat::BinaryDrat),
-        Some("--marked") => Some(ProofFormat::Marked),
-        Some(_) => None,
+fn check_format(options: &[String]) -> Option<ProofFormat> {
+    let Some((option, others)) = options.split_first() else {
+        return Some(ProofFormat::Drat);
+    };
+    match option.as_str() {
+        "--binary" if others.is_empty() => Some(ProofFormat::BinaryDrat),
+        "--marked" if others.is_empty() => Some(ProofFormat::Marked),
+        _ => None,
     }
 }
 
-// The options of `solve`: none, or `--max-steps` and a number.
-fn solve_options(option: Option<&str>, value: Option<&str>) -> Option<SolveOptions> {
-    let Some(option) = option else {
-        return Some(SolveOptions { max_steps: None });
+// The options of `solve`: where a proof goes, whether it is binary, and a limit of steps.
+#[derive(Drop)]
+struct SolveWords<'a> {
+    proof: Option<&'a str>,
+    is_binary: bool,
+    max_steps: Option<u64>,
+}
+
+impl<'a> SolveWords<'a> {
+    // Takes an option with its value. None is for one that there is not, one that came before, and a value out of range.
+    fn set(&mut self, option: &str, value: &'a str) -> Option<()> {
+        match option {
+            "--proof" if self.proof.is_none() => self.proof = Some(value),
+            "--max-steps" if self.max_steps.is_none() => {
+                self.max_steps = Some(parse_number(value.as_bytes())?);
+            }
+            _ => return None,
+        }
+        Some(())
+    }
+
+    // What they ask of the command.
+    fn options(&self) -> SolveOptions
+        ensures { IsDrat result.format }
+    {
+        SolveOptions {
+            max_steps: self.max_steps,
+            format: drat_format(self.is_binary),
+        }
+    }
+}
+
+// How a proof is written.
+fn drat_format(is_binary: bool) -> ProofFormat
+    ensures { IsDrat result }
+{
+    if is_binary {
+        ProofFormat::BinaryDrat
+    } else {
+        ProofFormat::Drat
+    }
+}
+
+// Reads the options of `solve`, in any order, each at most once, and `--binary` only with `--proof`.
+fn solve_words(words: &[String]) -> Option<SolveWords<'_>> {
+    let mut found = SolveWords {
+        proof: None,
+        is_binary: false,
+        max_steps: None,
     };
-    if option != "--max-steps" {
+    // The option whose value comes next.
+    let mut option: Option<&str> = None;
+    for word in words {
+        let word = word.as_str();
+        match option {
+            Some(name) => {
+                found.set(name, word)?;
+                option = None;
+            }
+            None if word == "--binary" && !found.is_binary => found.is_binary = true,
+            None => option = Some(word),
+        }
+    }
+    if option.is_some() || (found.is_binary && found.proof.is_none()) {
         return None;
     }
-    let steps = parse_number(value?.as_bytes())?;
-    Some(SolveOptions {
-        max_steps: Some(steps),
-    })
+    Some(found)
 }
 
 // Runs a session on the standard streams.
@@ -91,32 +154,68 @@ fn session(rt: &HostRuntime) -> u8 {
     }
 }
 
-// Decides the formula in a file.
-fn solve(rt: &HostRuntime, path: &str, options: SolveOptions) -> u8 {
+// A proof that is written to a file.
+type FileTarget = IoTarget<BufWriter<File>>;
+
+// Decides the formula in a file. It is opened before the file of a proof.
+fn solve(rt: &HostRuntime, path: &str, words: &SolveWords<'_>) -> u8 {
     let mut err = rt.stderr();
     let cnf = match open_text(rt, path) {
         Ok(cnf) => cnf,
         Err(error) => return tell_file(&mut err, path, &error),
     };
+    let proof_path = words.proof.unwrap_or("");
+    let mut proof = match create_target(rt, words.proof) {
+        Ok(proof) => proof,
+        Err(error) => return tell_file(&mut err, proof_path, &error),
+    };
+    let options = words.options();
     match BufWriter::new(rt.alloc(), io::writer(rt)) {
-        Ok(mut out) => decide_file(rt, &mut ReadSource::new(cnf), options, &mut out, &mut err),
+        Ok(mut out) => decide_file(
+            rt,
+            &mut ReadSource::new(cnf),
+            &mut proof,
+            options,
+            &mut out,
+            &mut err,
+        ),
         Err(error) => tell_fault(&mut err, &error),
     }
 }
 
-// Decides the text that a file gives. Nobody knows its bytes beforehand, but the status is right for those that were
-// read.
+// Makes the file of a proof, or empties the one that is there, if a proof is wanted.
+fn create_target(rt: &HostRuntime, path: Option<&str>) -> io::Result<Option<FileTarget>>
+    ensures { IfOk result (λ proof. CanCountFault taken_by_writer proof) }
+{
+    match path {
+        Some(path) => {
+            let file = BufWriter::new(rt.alloc(), fs::create(rt, path)?)?;
+            Ok(Some(IoTarget::new(file)))
+        }
+        None => Ok(None),
+    }
+}
+
+// Decides the text that a file gives, with a proof if there is a target for it. Nobody knows its bytes beforehand, but
+// the status and the proof are right for those that were read.
 fn decide_file<W: Write, E: Write>(
     rt: &HostRuntime,
     cnf: &mut ReadSource<File>,
+    proof: &mut Option<FileTarget>,
     options: SolveOptions,
     out: &mut W,
     err: &mut E,
 ) -> u8
-    requires { cnf.old.faults < 2 ^ 64 - 1 }
-    ensures { StatusIsTrue cnf.old cnf.new result }
+    requires faults { cnf.old.faults < 2 ^ 64 - 1 }
+    requires format { IsDrat options.format }
+    requires room { CanCountFault taken_by_writer proof.old }
+    ensures truth { StatusIsTrue cnf.old cnf.new result }
+    ensures outcome { (result ≡ fault_status)
+        ⊎ ((conclusion : Conclusion)
+        × DecidesProven taken_by_writer options.format (allowed_steps options.max_steps) cnf.old cnf.new proof.old proof.new conclusion
+        × (result ≡ conclusion_status conclusion)) }
 {
-    solve_lines(rt.alloc(), cnf, options, out, err)
+    solve_lines(rt.alloc(), cnf, proof, options, out, err)
 }
 
 // Checks the proof in a file against the formula in another.

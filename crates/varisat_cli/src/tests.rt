@@ -2,6 +2,8 @@
 use super::*;
 use std::test::Fail;
 
+mod proofs;
+
 #[test]
 fn folders_and_missing_files_are_refused(rt: HostRuntime) {
     let rows = [
@@ -19,27 +21,70 @@ fn folders_and_missing_files_are_refused(rt: HostRuntime) {
     assert!(rt; open_text(&rt, "/dev/null").is_ok());
 }
 
-#[test]
-fn options_are_read(rt: HostRuntime) {
-    let rows = [
-        (None, None, Some(None)),
-        (Some("--max-steps"), Some("0"), Some(Some(0))),
-        (Some("--max-steps"), Some("12"), Some(Some(12))),
-        (Some("--max-steps"), Some("012"), None),
-        (Some("--max-steps"), None, None),
-        (Some("--steps"), Some("1"), None),
-    ];
-    for (option, value, wanted) in rows {
-        let options = solve_options(option, value);
-        assert!(rt; options.map(|options| options.max_steps) == wanted);
+// The words of a line.
+fn words_of(rt: &HostRuntime, line: &str) -> Result<Vec<String>, Fail> {
+    let mut words = Vec::new(rt.alloc());
+    for word in line.split_ascii_whitespace() {
+        words.push(String::from_str(rt.alloc(), word)?)?;
     }
+    Ok(words)
+}
+
+// What options of `solve` are read as: the proof, whether it is binary, and the limit of steps.
+type Options = Option<(Option<&'static str>, bool, Option<u64>)>;
+
+#[test]
+fn options_are_read(rt: HostRuntime) -> Result<(), Fail> {
+    let rows: [(&str, Options); 19] = [
+        ("", Some((None, false, None))),
+        ("--max-steps 0", Some((None, false, Some(0)))),
+        (
+            "--max-steps 18446744073709551615",
+            Some((None, false, Some(u64::MAX))),
+        ),
+        ("--max-steps 18446744073709551616", None),
+        ("--max-steps 012", None),
+        ("--max-steps", None),
+        ("--steps 1", None),
+        ("--max-steps 1 --max-steps 1", None),
+        ("--proof p", Some((Some("p"), false, None))),
+        ("--proof p --binary", Some((Some("p"), true, None))),
+        ("--binary --proof p", Some((Some("p"), true, None))),
+        (
+            "--binary --max-steps 7 --proof p",
+            Some((Some("p"), true, Some(7))),
+        ),
+        ("--max-steps 7 --proof p", Some((Some("p"), false, Some(7)))),
+        ("--proof", None),
+        ("--binary", None),
+        ("--binary --proof", None),
+        ("--proof p --proof q", None),
+        ("--proof p --binary --binary", None),
+        ("p", None),
+    ];
+    for (line, wanted) in rows {
+        let words = words_of(&rt, line)?;
+        let found = solve_words(words.as_slice());
+        let found = found.map(|found| (found.proof, found.is_binary, found.max_steps));
+        assert!(rt; found == wanted, "{line}");
+    }
+    Ok(())
 }
 
 #[test]
-fn formats_are_read(rt: HostRuntime) {
-    assert!(rt; proof_format(None) == Some(ProofFormat::Drat));
-    assert!(rt; proof_format(Some("--binary")) == Some(ProofFormat::BinaryDrat));
-    assert!(rt; proof_format(Some("--text")).is_none());
+fn formats_are_read(rt: HostRuntime) -> Result<(), Fail> {
+    let rows = [
+        ("", Some(ProofFormat::Drat)),
+        ("--binary", Some(ProofFormat::BinaryDrat)),
+        ("--marked", Some(ProofFormat::Marked)),
+        ("--text", None),
+        ("--binary --marked", None),
+    ];
+    for (line, wanted) in rows {
+        let words = words_of(&rt, line)?;
+        assert!(rt; check_format(words.as_slice()) == wanted, "{line}");
+    }
+    Ok(())
 }
 
 #[test]

@@ -11,6 +11,7 @@ use std::alloc::{AllocError, Global};
 use std::io::{Cursor, Read, Write};
 use std::str;
 use varisat::program::{SolveOptions, session_lines, solve_lines};
+use varisat::proof::ProofFormat;
 use varisat::solver::{Solver, SolverError};
 use varisat_formula::io::{ByteSource, MemoryTarget, ReadSource};
 use varisat_names::config::SolverConfigUpdate;
@@ -67,8 +68,12 @@ fn solve_prints<S: ByteSource>(
 {
     let mut out = Vec::new(alloc);
     let mut err = Vec::new(alloc);
-    let options = SolveOptions { max_steps };
-    let status = solve_lines(alloc, cnf, options, &mut out, &mut err);
+    let options = SolveOptions {
+        max_steps,
+        format: ProofFormat::Drat,
+    };
+    let mut no_proof: Option<MemoryTarget<Global>> = None;
+    let status = solve_lines(alloc, cnf, &mut no_proof, options, &mut out, &mut err);
     are_printed(&out, &err, status, wanted)
 }
 

@@ -3,4 +3,4 @@ use Rattle.varisat.proofs.ProgramDecides.{outcome-is-true}
 use Rattle.varisat.proofs.program.solve_lines.Goals as goal
 
 pub returns-in-Ok-write_report-clause-truth : goal.returns-in-Ok-write_report-clause-truth
-returns-in-Ok-write_report-clause-truth g c = outcome-is-true _ _ _ _ _ c.in-Ok.ensures c.in-Ok-write_report.ensures.status
+returns-in-Ok-write_report-clause-truth g c = outcome-is-true _ _ _ _ _ c.in-Ok.ensures.decided.decides c.in-Ok-write_report.ensures.status

@@ -1,0 +1,49 @@
+-- The calls of a new solver, each from the state that the one before leads to.
+use Rattle.std.proofs.Common.{sym, ap, ◌∙◌, subst}
+use Rattle.varisat.specs.States.{Ledger}
+use Rattle.varisat.specs.Summaries.{StandsFor}
+use Rattle.varisat.specs.Decided.{concluded}
+use Rattle.varisat.specs.Proven.{prepared, Fails, AsRead, AsClosed}
+use Rattle.varisat_trace.proofs.Broken.{passed-on}
+use Rattle.varisat.proofs.ProgramProves.{fails-reported, finds-valid, proven}
+use Rattle.varisat.proofs.deciding.decide_in.Goals as goal
+
+pub returns-in_err-add_dimacs_cnf-clause-fails : goal.returns-in_err-add_dimacs_cnf-clause-fails
+returns-in_err-add_dimacs_cnf-clause-fails g c =
+    let taken = g.W.ProofTarget.taken in
+    let s = prepared taken c.args.options.format c.args.options.max_steps c.args.target.now in
+    let x = subst (λ o. StandsFor c.prepare.new.solver (prepared taken c.args.options.format c.args.options.max_steps o)) c.take.ensures.value c.prepare.ensures in
+    let (t, a, y) = c.in_err-add_dimacs_cnf.ensures {u = tt} s x in
+    passed-on c.from_residual.result c.in_err-add_dimacs_cnf.field-0.0 (λ e. Fails taken s _ _ e) c.from_residual.ensures (AsRead t a)
+
+pub returns-in_err-report-clause-fails : goal.returns-in_err-report-clause-fails
+returns-in_err-report-clause-fails g c =
+    let taken = g.W.ProofTarget.taken in
+    let s = prepared taken c.args.options.format c.args.options.max_steps c.args.target.now in
+    let x = subst (λ o. StandsFor c.prepare.new.solver (prepared taken c.args.options.format c.args.options.max_steps o)) c.take.ensures.value c.prepare.ensures in
+    let (t, a, y) = c.in_ok-add_dimacs_cnf.ensures {u = tt} s x in
+    let (u, f, z) = c.in_err-report.ensures {u = tt} t y in
+    passed-on c.from_residual-in_err-report.result c.in_err-report.field-0.0 (λ e. Fails taken s _ _ e) c.from_residual-in_err-report.ensures (fails-reported g.row.A.Denot taken s _ _ t u c.in_err-report.field-0.0 a f)
+
+pub returns-in_err-back-clause-fails : goal.returns-in_err-back-clause-fails
+returns-in_err-back-clause-fails g c =
+    let taken = g.W.ProofTarget.taken in
+    let s = prepared taken c.args.options.format c.args.options.max_steps c.args.target.now in
+    let x = subst (λ o. StandsFor c.prepare.new.solver (prepared taken c.args.options.format c.args.options.max_steps o)) c.take.ensures.value c.prepare.ensures in
+    let (t, a, y) = c.in_ok-add_dimacs_cnf.ensures {u = tt} s x in
+    let (u, f, z) = c.in_ok-report.ensures {u = tt} t y in
+    let (back, v, d) = c.in_err-back.ensures.fails u z in
+    passed-on c.from_residual-in_err-back.result c.in_err-back.field-0.0 (λ e. Fails taken s _ _ e) c.from_residual-in_err-back.ensures (AsClosed t u v (concluded c.in_ok-report.report) back a f d)
+
+pub returns-clause-decided : goal.returns-clause-decided
+returns-clause-decided g c =
+    let taken = g.W.ProofTarget.taken in
+    let format = c.args.options.format in
+    let limit = c.args.options.max_steps in
+    let x = subst (λ o. StandsFor c.prepare.new.solver (prepared taken format limit o)) c.take.ensures.value c.prepare.ensures in
+    let (t, a, y) = c.in_ok-add_dimacs_cnf.ensures {u = tt} (prepared taken format limit c.args.target.now) x in
+    let (u, f, z) = c.in_ok-report.ensures {u = tt} t y in
+    let report = concluded c.in_ok-report.report in
+    let valid = finds-valid t u report f in
+    let held = (z.proof (ap (λ (l : Ledger). l.valid) (sym z.ledger) ∙ valid)).same in
+    proven taken format limit _ _ c.args.target.now c.in_ok-back.back t u report _ a f (c.prove_journal.ensures u z valid) held c.in_ok-back.ensures.handed

@@ -1,0 +1,78 @@
+-- How the program's `solve` asks a new solver, what it leaves in the target of a proof, and when it fails.
+use Rattle.std.specs.Prelude.{◌≡◌, ◌≢◌, ◌⊎◌, ℕ, ◌-◌, ◌^◌, ◌<◌, ◌++◌, true, false, List, [], Option, Some, None, Result, Ok, Err}
+use Rattle.varisat_theory.specs.Literals.{Clause}
+use Rattle.varisat_theory.specs.Derivations.{Line, IsDerivation, Refutes}
+use Rattle.varisat_formula.specs.Dimacs.{dimacs}
+use Rattle.varisat_formula.specs.Streams.{Stand, Taken, Output}
+use Rattle.varisat_names.specs.Settings.{no_update}
+use Rattle.varisat_proof.specs.declared.proof.format.ProofFormat.{ProofFormat}
+use Rattle.varisat_proof.specs.Lines.{encoding_of, plain_lines}
+use Rattle.varisat_proof.specs.Steps.{lines_written}
+use Rattle.varisat.specs.OpenProofs.{first_proof}
+use Rattle.varisat.specs.ProofCalls.{with_proof, ClosesProof}
+use Rattle.varisat.specs.States.{State, empty_state}
+use Rattle.varisat.specs.Calls.{AddsDimacs, Solves, TellsModel, with_update, count_anew}
+use Rattle.varisat.specs.declared.solver.SolverError.{SolverError}
+use Rattle.varisat.specs.declared.solver.SolverError.TheVariants.{Interrupted, OutOfMemory}
+use Rattle.varisat.specs.declared.deciding.Report.{Report}
+use Rattle.varisat.specs.Decided.{Conclusion, Decided, Unknown, concluded, Decides}
+
+-- what a target over a writer took
+abbrev pub taken_by_writer : Output → Taken
+taken_by_writer t = record { bytes = t.bytes; faults = t.faults }
+
+-- the target may still count a fault, if there is one
+abbrev pub CanCountFault : {W : Type 0} → (W → Taken) → Option W → Type 0
+CanCountFault taken None = Unit {0}
+CanCountFault taken (Some target) = (taken target).faults < 2 ^ 64 - 1
+
+-- the state of a new solver with a limit of steps, or none
+abbrev pub limited : Option ℕ → State
+limited limit = with_update (record no_update { max_steps = limit }) empty_state
+
+-- the same where a proof was opened, if there is a target for it
+abbrev pub prepared : {W : Type 0} → (W → Taken) → ProofFormat → Option ℕ → Option W → State
+prepared taken format limit None = limited limit
+prepared taken format limit (Some target) = count_anew (with_proof (Some (first_proof format (taken target) [])) (limited limit))
+
+-- What a solver in the state s comes to as it is asked: a model that it tells, that there is none, or that its steps are spent.
+abbrev pub Finds : State → Conclusion → State → Type 0
+Finds s Unknown t = Solves s (Err Interrupted) t
+Finds s (Decided None) t = Solves s (Ok false) t
+Finds s (Decided (Some model)) t = Solves s (Ok true) t × TellsModel t (Ok (Some model)) t
+
+-- The same with the errors: those of the search, and out of memory also where a model was found that could not be listed.
+abbrev pub Reports : {A : Type 0} → State → Result (Report A) SolverError → State → Type 0
+Reports s (Ok report) t = Finds s (concluded report) t
+Reports s (Err Interrupted) t = ⊥
+Reports s (Err OutOfMemory) t = Solves s (Err OutOfMemory) t ⊎ Solves s (Ok true) t
+Reports s (Err e) t = Solves s (Err e) t
+
+-- The target took just the bytes of some lines, and counted no fault. The lines are a derivation from the clauses, and refute them
+-- where the conclusion is that they have no model.
+pub record IsProven (format : ProofFormat) (clauses : List Clause) (conclusion : Conclusion) (old new : Taken) : Type 0 where
+  pub lines : List Line
+  pub bytes : new.bytes ≡ old.bytes ++ lines_written (encoding_of format) (plain_lines lines)
+  pub faults : new.faults ≡ old.faults
+  pub derives : IsDerivation clauses lines
+  pub refutes : conclusion ≡ Decided None → Refutes clauses lines
+
+-- so it is of the target that comes back, which is none where there was none
+abbrev pub IsProvenIf : {W : Type 0} → (W → Taken) → ProofFormat → List Clause → Conclusion → Option W → Option W → Type 0
+IsProvenIf taken format clauses conclusion None back = back ≡ None
+IsProvenIf taken format clauses conclusion (Some target) None = ⊥
+IsProvenIf taken format clauses conclusion (Some target) (Some back) = IsProven format clauses conclusion (taken target) (taken back)
+
+-- The text that a source gave is decided, and the target has a proof of that, where there is one.
+pub record DecidesProven {W : Type 0} (taken : W → Taken) (format : ProofFormat) (max_steps : ℕ) (old new : Stand) (target back : Option W) (conclusion : Conclusion) : Type 0 where
+  pub decides : Decides max_steps old new conclusion
+  pub proven : IsProvenIf taken format (dimacs decides.read.text).clauses conclusion target back
+
+-- When deciding a text fails with the error, where the solver was in the state s before: as it takes the text in; as it searches, or
+-- lists the model that it found; or as its proof is closed.
+pub data Fails {W : Type 0} (taken : W → Taken) (s : State) (old new : Stand) (e : SolverError) : Type 0 where
+  AsRead : (t : State) → AddsDimacs s old (Err e) new t → Fails taken s old new e
+  AsSearched : (t u : State) → AddsDimacs s old (Ok tt) new t → Solves t (Err e) u → e ≢ Interrupted → Fails taken s old new e
+  AsListed : (t u : State) → AddsDimacs s old (Ok tt) new t → Solves t (Ok true) u → e ≡ OutOfMemory → Fails taken s old new e
+  AsClosed : (t u v : State) (c : Conclusion) (back : W) → AddsDimacs s old (Ok tt) new t → Finds t c u → ClosesProof taken u (Err (e, back)) v →
+      Fails taken s old new e

@@ -1,5 +1,5 @@
 -- At each moment of a run few steps were made since the last change.
-use Rattle.std.proofs.Common.{◌≡◌, ℕ, zero, suc, ◌+◌, ◌-◌, ◌*◌, ◌^◌, ◌<◌, Bool, true, false, List, [], ◌∷◌, length, take, Option, Some, None, inl, inr, ⊎_elim, Result, Ok, Err, sym, ap, ◌∙◌, subst, refl, arith}
+use Rattle.std.proofs.Common.{◌≡◌, ℕ, zero, suc, ◌+◌, ◌-◌, ◌*◌, ◌^◌, ◌<◌, Bool, true, false, List, [], ◌∷◌, length, Option, Some, None, inl, inr, ⊎_elim, Result, Ok, Err, sym, ap, ◌∙◌, subst, refl, arith}
 use Rattle.std.proofs.lemmas.Nat.{pow_pos}
 use Rattle.std.specs.declared.alloc.AllocError.{AllocError}
 use Rattle.varisat_theory.specs.Literals.{Literal, Clause}
@@ -7,8 +7,8 @@ use Rattle.varisat_formula.specs.Dimacs.{Reading}
 use Rattle.varisat_formula.specs.Streams.{Stand, Taken}
 use Rattle.varisat_formula.specs.declared.dimacs.error.DimacsError.{DimacsError}
 use Rattle.varisat_names.specs.declared.config.SolverConfigUpdate.{SolverConfigUpdate}
-use Rattle.varisat.specs.States.{State, Ledger, empty_state}
-use Rattle.varisat.specs.Names.{Naming, Sample, Witness, set_mode, free_name}
+use Rattle.varisat.specs.States.{State, Ledger}
+use Rattle.varisat.specs.Names.{Naming, Sample, Witness}
 use Rattle.varisat.specs.Additions.{Gave, AllAdded, OneRefused, RefusedAtOnce, NoFault, MemoryFault, Fault, ClauseRefused, ClausesAdded, RefusedEarly, FaultInText, Whole, MemoryRanOut, SourceFailed, Read, Unread}
 use Rattle.varisat.specs.Additions as additions
 use Rattle.varisat.specs.Usage as usage
@@ -21,7 +21,7 @@ use Rattle.varisat.specs.Pasts.{Past, empty_past}
 use Rattle.varisat_proof.specs.declared.proof.format.ProofFormat.{ProofFormat}
 use Rattle.varisat.specs.ProofCalls.{OpensProof, ClosesProof}
 use Rattle.varisat.specs.Told.{told_list, told_vars}
-use Rattle.varisat.specs.Turns.{CallRules, Makes, MakesInTurn}
+use Rattle.varisat.specs.Turns.{CallRules, Makes}
 use Rattle.varisat.specs.Runs.{calling}
 use Rattle.varisat.specs.Histories.{telling}
 use Rattle.varisat.specs.Moments.{HasFewSteps, HasFewStepsAlong}

@@ -248,6 +248,7 @@ module _ (w : Carrying) (p : Spaces) (s : State) (c : Clause) (new old : View) (
         UnsatUnderAssumptions d,
         Reopened (sym (ap reopened_verdict z)) b,
         core-known w (record p { outcome = outcome.Unknown }) (accept c Unknown s) found d k refl (subst (CoreFits s.naming.names p.core) z t)
+            (subst (VerdictFits id m (outcome.UnsatUnder core)) z (subst (λ y. VerdictFits id m (outcome_of old core y) v) (keeps-core sat e) f))
             (core_stays s.clauses (s.clauses ++ c ∷ []) s.assumptions d (λ x h. ∈-append_left x s.clauses (c ∷ []) h) (subst (IsRight s.clauses s.assumptions s.counted) z r)),
       )
   settled sat verdict.UnsatUnderAssumptions v Unknown k (Reopened q b) f (inr e) t r = absurd cc

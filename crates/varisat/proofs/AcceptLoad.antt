@@ -24,15 +24,15 @@ use Rattle.varisat.specs.States.{State, Verdict, Unknown, Unsat, IsRight}
 use Rattle.varisat.specs.Names.{through_names}
 use Rattle.varisat.specs.Calls.{ContradictsUnit, VerdictAfter, Refuted, Reopened}
 use Rattle.varisat.specs.Carried.{carry, is_forced}
-use Rattle.varisat.specs.Spaces.{Spaces, Carrying, IsWide, IsApart, IsolationCase, NotIsolated, Apart, Forced, IsolationFits, Translation, translation, SharesHeld, IsTold, SearchHolds, CoreFits, without_core, VerdictFits, Links}
+use Rattle.varisat.specs.Spaces.{Spaces, Carrying, IsWide, IsApart, IsolationCase, NotIsolated, Apart, Forced, IsolationFits, Translation, translation, SharesHeld, IsCounted, IsTold, SearchHolds, CoreFits, without_core, VerdictFits, Links}
 use Rattle.varisat.proofs.SpacesMoves.{AreTaken, solver_literal, IsTouched, IsMarkedFor, accept, AreLong, AreInUse}
 use Rattle.varisat_names.proofs.Maps.{chain-some, chain-through}
 use Rattle.varisat.proofs.SearchLinks.{relinked-marks}
 use Rattle.varisat.proofs.SpacesAgree.{holds-same, isolation-same, marks-same}
-use Rattle.varisat.proofs.Carried.{carry-at, carry-sign, carry-opposite, satisfied-carried, forced-value, wide-back}
+use Rattle.varisat.proofs.Carried.{carry-at, carry-sign, carry-opposite, map-empty, satisfied-carried, forced-value, wide-back}
 use Rattle.varisat.proofs.AcceptSolverVariables.{one-solver}
-use Rattle.varisat.proofs.ReachedHeld.{told_lines, with_told, IsInUse, lines-lead, shares-after, shares-joined, told-quiet}
-use Rattle.varisat.proofs.ToldEntries.{told-written, told-accepted, told-assumed}
+use Rattle.varisat.proofs.ReachedHeld.{told_lines, with_told, IsInUse, lines-lead, shares-after, shares-joined, told-quiet, counted-literal}
+use Rattle.varisat.proofs.ToldEntries.{told-written, told-accepted, told-assumed, spoken-renamed}
 use Rattle.varisat_tracer.specs.Carried.{told_as}
 use Rattle.varisat_tracer.specs.Carried as global
 use Rattle.varisat.proofs.PlainTold.{plain-literals, plain-lines}
@@ -41,10 +41,6 @@ use Rattle.varisat.proofs.SearchHeld.{answers-covers, fixed-on, refuted}
 pub map-map : (f g h : Literal → Literal) (c : Clause) → ((l : Literal) → l ∈ c → f (g l) ≡ h l) → map f (map g c) ≡ map h c
 map-map f g h [] e = refl
 map-map f g h (l ∷ c) e = ap (λ x. x ∷ map f (map g c)) (e l (inl refl)) ∙ ap (λ x. h l ∷ x) (map-map f g h c (λ m i. e m (inr i)))
-
-map-empty : (f : Literal → Literal) (c : Clause) → map f c ≡ [] → c ≡ []
-map-empty f [] e = refl
-map-empty f (l ∷ c) e = absurd cc
 
 module _ (w : Carrying) (p : Spaces) (s : State) (d : Clause) (k : Links w p s) (taken : AreTaken p d) where
   r : Translation
@@ -234,7 +230,7 @@ module _ (w : Carrying) (p : Spaces) (s : State) (d : Clause) (k : Links w p s) 
             (∈-or_not i (map variable_of (map (through_names s.naming) d)))
         go (Forced b e) = Forced b e
 
-    stands : (told : List Entry) → IsTold told (s.clauses ++ c ∷ []) s.ever_hidden → (t : Search) (v : Outcome) (m : ℕ → Bool) (x : Verdict) → SearchHolds (s.clauses ++ c ∷ []) (with_told told r) t (without_core v) → VerdictFits w.identity m v x → CoreFits s.naming.names p.core x → IsRight (s.clauses ++ c ∷ []) s.assumptions s.counted x → Links w (record p { kept = after; search = t; outcome = v; model = m }) (retold told (accept c x s))
+    stands : (told : List Entry) → IsTold told (s.clauses ++ c ∷ []) s.counted s.ever_hidden → (t : Search) (v : Outcome) (m : ℕ → Bool) (x : Verdict) → SearchHolds (s.clauses ++ c ∷ []) (with_told told r) t (without_core v) → VerdictFits w.identity m v x → CoreFits s.naming.names p.core x → IsRight (s.clauses ++ c ∷ []) s.assumptions s.counted x → Links w (record p { kept = after; search = t; outcome = v; model = m }) (retold told (accept c x s))
     unfolding r c
     stands told is-told t v m x holds fits core right =
         relinked-marks w p (record p { kept = after; search = t; outcome = v; model = m }) s (retold told (accept c x s)) k
@@ -282,7 +278,9 @@ module _ (w : Carrying) (p : Spaces) (s : State) (d : Clause) (k : Links w p s) 
         let more = holds-more h t v lines loads long in-use in
         let tells' : TellsMore 0 (s.told ++ Accepts (map (through_names s.naming) d) ∷ []) told = record { entries = ls; joined = refl; goes = goes-more h t v lines loads long in-use } in
         let plainly = plain-told lines in
-        let is-told = told-written (s.told ++ Accepts (map (through_names s.naming) d) ∷ []) (s.clauses ++ map (through_names s.naming) d ∷ []) s.ever_hidden (map (rename_line (carry (translation w p s.told).identity)) lines) (told-accepted s.told s.clauses s.ever_hidden (map (through_names s.naming) d) k.told) in
+        let to = (translation w p s.told).identity in
+        let spoken = spoken-renamed (IsLiteralOfEither p.search (map (solver_literal p) d)) (IsCounted s.counted) (carry to) lines (λ l. elim [ inl a ↦ let (i, b) = h.within l a in counted-literal w p s k l i b | inr a ↦ let (i, b) = of-clause l a in counted-literal w p s k l i b ]) loads.speaks in
+        let is-told = told-written (s.told ++ Accepts (map (through_names s.naming) d) ∷ []) (s.clauses ++ map (through_names s.naming) d ∷ []) s.counted s.ever_hidden (map (rename_line (carry to)) lines) spoken (told-accepted s.told s.clauses s.counted s.ever_hidden (map (through_names s.naming) d) k.told) in
         ⊎_elim
         (λ (q, u). let none = refuted (s.clauses ++ map (through_names s.naming) d ∷ []) after' t (subst (SearchHolds (s.clauses ++ map (through_names s.naming) d ∷ []) after' t) u more) in
         (Unsat, told, Refuted refl none, tells', plainly, stands told is-told t v m Unsat (subst (SearchHolds (s.clauses ++ map (through_names s.naming) d ∷ []) after' t) (u ∙ sym (ap without_core u)) more) (subst (λ y. VerdictFits w.identity m y Unsat) (sym u) tt) tt none))
@@ -323,5 +321,5 @@ module _ (w : Carrying) (p : Spaces) (s : State) (d : Clause) (k : Links w p s) 
               (λ q. subst (IsRight s.clauses (map (through_names s.naming) d) s.counted) (sym q) (subst (IsRight s.clauses s.assumptions s.counted) q k.right))
               cases;
           few = k.few;
-          told = told-assumed s.told s.clauses s.ever_hidden (map (through_names s.naming) d) k.told;
+          told = told-assumed s.told s.clauses s.counted s.ever_hidden (map (through_names s.naming) d) k.told;
         })

@@ -1,16 +1,16 @@
 -- States after a call that changed nothing more, and after one that ran out of memory.
-use Rattle.std.proofs.Common.{◌≡◌, ◌∙◌, ◌+◌, ◌-◌, ◌≤◌, arith, ℕ, Bool, true, false, Option, List, Err, refl, ap}
+use Rattle.std.proofs.Common.{◌≡◌, ◌∙◌, ◌+◌, ◌-◌, ◌≤◌, arith, ℕ, Bool, true, false, Option, Some, None, List, Err, refl, sym, ap}
 use Rattle.varisat_theory.specs.Literals.{Clause}
 use Rattle.varisat_search.specs.declared.error.StepError.{StepError}
 use Rattle.varisat_search.specs.declared.error.StepError.TheVariants as step
 use Rattle.varisat_names.specs.Settings.{Settings}
-use Rattle.varisat.specs.States.{State, Ledger, IsWellFormed, Unknown}
+use Rattle.varisat.specs.States.{State, Ledger, IsWellFormed, FlagsFit, Unknown}
 use Rattle.varisat.specs.Refusals.{step_refusal}
 use Rattle.varisat.specs.Calls.{IsLike, IsValid, Invalidates, MayConstrain, IsExtensible, AddsClause, CountsCall, Searches, with_steps}
 use Rattle.varisat_theory.specs.Journals.{Entry}
 use Rattle.varisat.specs.Journals.{retold, TellsMore}
 use Rattle.varisat.specs.OpenProofs.{OpenProof, IsOpen, GoesOnWriting, ProofFits}
-use Rattle.varisat.proofs.OpenProofs.{goes-on-none}
+use Rattle.varisat.proofs.OpenProofs.{goes-on-none, open-before}
 use Rattle.varisat.proofs.ToldEntries.{tells-nothing}
 use Rattle.varisat.specs.Spaces.{SpacesFit}
 use Rattle.varisat.specs.Summaries.{Summary, spaces, StandsFor}
@@ -63,9 +63,37 @@ pub record Begins (g : Summary) (s : State) : Type 0 where
   pub ledger : s.ledger ≡ g.ledger
   pub fits : SpacesFit (spaces g) s
   pub proof : ProofFits g.opened s.ever_hidden s.told s.proof
+  pub flags : FlagsFit s
 
 pub begins : {g : Summary} {s : State} → StandsFor g s → g.ledger.valid ≡ true → Begins g s
-begins {g} {s} st v = record { valid = stands-valid g s st v; ledger = st.ledger; fits = st.fits v; proof = st.proof v }
+begins {g} {s} st v = record { valid = stands-valid g s st v; ledger = st.ledger; fits = st.fits v; proof = st.proof v; flags = st.flags v }
+
+-- What two flags say of a state, they say of one with the same clauses and assumptions, in which no other proof is open.
+pub flags-alike : (s t : State) → FlagsFit s → t.ledger.started ≡ s.ledger.started → t.clauses ≡ s.clauses → t.assumptions ≡ s.assumptions → t.counted ≡ s.counted → (IsOpen t.proof → IsOpen s.proof) → FlagsFit t
+flags-alike s t f b p a c o = record {
+  clauses = λ e. p ∙ f.clauses (sym b ∙ e);
+  assumptions = λ e. a ∙ f.assumptions (sym b ∙ e);
+  counted = λ e. c ∙ f.counted (sym b ∙ e);
+  unassumed = λ h. a ∙ f.unassumed (o h);
+}
+
+-- something was accepted, and an open proof has further bytes
+pub flags-started : (s t : State) → FlagsFit s → t.ledger.started ≡ true → t.assumptions ≡ s.assumptions → GoesOnWriting s.proof t.proof → FlagsFit t
+flags-started s t f b a g = record {
+  clauses = λ e. absurd (let z : true ≡ false = sym b ∙ e in cc);
+  assumptions = λ e. absurd (let z : true ≡ false = sym b ∙ e in cc);
+  counted = λ e. absurd (let z : true ≡ false = sym b ∙ e in cc);
+  unassumed = λ h. a ∙ f.unassumed (open-before s.proof t.proof g h);
+}
+
+-- a list was assumed, where no proof is open
+pub flags-assumed : (t : State) → t.ledger.started ≡ true → t.proof ≡ None → FlagsFit t
+flags-assumed t b n = record {
+  clauses = λ e. absurd (let z : true ≡ false = sym b ∙ e in cc);
+  assumptions = λ e. absurd (let z : true ≡ false = sym b ∙ e in cc);
+  counted = λ e. absurd (let z : true ≡ false = sym b ∙ e in cc);
+  unassumed = λ (p, e). let z : None ≡ Some p = sym n ∙ e in absurd cc;
+}
 
 -- the state, with the verdict, the flags, what was told and the open proof of another
 abbrev pub told_as : State → State → State

@@ -1,5 +1,5 @@
 -- Literals that are carried, and their values.
-use Rattle.std.proofs.Common.{◌≡◌, ℕ, ◌+◌, ◌-◌, ◌*◌, ◌/◌, ◌%◌, Bool, true, false, not, nat_eq, if◌then◌else◌, Option, Some, None, List, ◌++◌, IsTrue, ◌↔◌, ◌⊎◌, ⊎_elim, sym, ap, ◌∙◌, subst, refl, map, arith}
+use Rattle.std.proofs.Common.{◌≡◌, ℕ, ◌+◌, ◌-◌, ◌*◌, ◌/◌, ◌%◌, Bool, true, false, not, nat_eq, if◌then◌else◌, Option, Some, None, List, [], ◌∷◌, ◌++◌, IsTrue, ◌↔◌, ◌⊎◌, ⊎_elim, sym, ap, ◌∙◌, subst, refl, map, arith}
 use Rattle.varisat_theory.specs.Membership.{◌∈◌}
 use Rattle.varisat_theory.specs.Literals.{Literal, Clause, Assignment, variable_of, literal_of, opposite, value, Satisfies, SatisfiesAll}
 use Rattle.varisat_theory.proofs.Members.{∈-append_cases}
@@ -10,6 +10,10 @@ use Rattle.varisat_search.proofs.StepOutcome.{variable-literal, polarity-literal
 use Rattle.varisat.specs.Names.{identity_of}
 use Rattle.varisat.specs.Carried.{carry, AgreesAlong, is_value, is_forced}
 use Rattle.varisat.specs.Spaces.{IsWide}
+
+pub map-empty : (f : Literal → Literal) (c : Clause) → map f c ≡ [] → c ≡ []
+map-empty f [] e = refl
+map-empty f (l ∷ c) e = absurd cc
 
 -- a literal is true where its variable has its sign as the value
 pub value-true : (a : Assignment) (l : Literal) → a (variable_of l) ≡ polarity_of l → value a l ≡ true

@@ -7,6 +7,7 @@ use Rattle.varisat_theory.proofs.Count.{length-distinct}
 use Rattle.varisat.specs.States.{State, is_member, join_one, join_counted, Verdict, Unknown, Sat, Unsat, UnsatUnderAssumptions, IsRight}
 use Rattle.varisat.specs.Spaces.{Spaces, Carrying, Links}
 use Rattle.varisat.proofs.SpacesMoves.{count}
+use Rattle.varisat.proofs.ToldEntries.{told-counted}
 
 member-is : (i : ℕ) (xs : List ℕ) → is_member i xs ≡ true → i ∈ xs
 member-is i [] e = absurd (let z : false ≡ true = e in cc)
@@ -89,5 +90,5 @@ counted w p s is k m b d = record {
   few = let n = length-distinct s.counted is k.well_formed.once m in let f = k.few in omega (arith, n, f);
   shown = k.shown;
   plain = k.plain;
-  told = k.told;
+  told = told-counted s.told s.clauses s.counted is s.ever_hidden m k.told;
 }

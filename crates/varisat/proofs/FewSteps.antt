@@ -223,7 +223,7 @@ state-opens taken target f s t (Err e) a h = absurd a
 
 state-closes : {W : Type 0} (taken : W → Taken) (s t : State) (r : Result (Option W) (SolverError × W)) → ClosesProof taken s r t → HasFewSteps calling t
 state-closes taken s t (Ok back) (h, e) = begun-few s t _ (ap (λ (x : State). x.ledger) e) refl
-state-closes taken s t (Err (ProofIoError cause, target)) (closed, b) = no-way s t b
+state-closes taken s t (Err (ProofIoError cause, target)) (closed, has, b) = no-way s t b
 state-closes taken s t (Err e) a = absurd a
 
 state-keeps : KeepsFew calling
@@ -265,7 +265,7 @@ past-adds p q c (Ok u) (v, past.Accepted unsearched lim e) h = past-few q (past.
 past-adds p q c (Ok u) (v, past.Ignored n e) h = past-few q (past.count_anew p) e refl
 past-adds p q c (Err OutOfMemory) a h = past-broken p q a.2
 past-adds p q c (Err ClauseStoreFull) a h = past-broken p q a.2
-past-adds p q c (Err (ProofIoError cause)) a h = past-broken p q a.2
+past-adds p q c (Err (ProofIoError cause)) a h = past-broken p q a.3
 past-adds p q c (Err Invalid) a h = past-same p q a.1 h
 past-adds p q c (Err ClauseAfterSolve) a h = past-same p q a.2 h
 past-adds p q c (Err VariableLimit) a h = past-same p q a.3 h
@@ -325,7 +325,7 @@ past-core p q (Ok None) a = a.1
 past-core p q (Err e) a = a.2
 
 past-opens : {W : Type 0} (taken : W → Taken) (target : W) (f : ProofFormat) (p q : Past) (r : Result (Unit {0}) (SolverError × W)) → past.ProofOpens taken target f p r q → HasFewSteps telling p → HasFewSteps telling q
-past-opens taken target f p q (Ok u) (v, closed, fresh, e) h = past-few q (past.opened p) e refl
+past-opens taken target f p q (Ok u) (v, closed, fresh, e) h = past-few q (past.opened f (taken target).bytes p) e refl
 past-opens taken target f p q (Err (Invalid, back)) a h = past-same p q a.2 h
 past-opens taken target f p q (Err (ProofOpen, back)) a h = past-same p q a.3 h
 past-opens taken target f p q (Err (ProofTooLate, back)) a h = past-same p q a.4 h

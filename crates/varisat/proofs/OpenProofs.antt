@@ -15,7 +15,7 @@ use Rattle.varisat_proof.specs.Written.{line_written}
 use Rattle.varisat_proof.specs.Telling.{lines_told}
 use Rattle.varisat_proof.specs.Proving.{OpenState, ProofParts, told, is_searched, marked_searched}
 use Rattle.varisat_proof.specs.Proving as proving
-use Rattle.varisat.specs.OpenProofs.{OpenProof, opened_state, IsOpen, IsDrat, IsWrittenIf, ProofFits, GoesOnWriting, IsSearched, searched_in, searched_under, first_proof, taken_of}
+use Rattle.varisat.specs.OpenProofs.{OpenProof, opened_state, IsOpen, IsDrat, IsWrittenIf, ProofFits, GoesOnWriting, IsSearched, searched_under, first_proof, taken_of}
 use Rattle.varisat.specs.Journals.{TellsProof}
 
 -- 1. Bytes of lines.
@@ -72,7 +72,7 @@ on-told hidden before after given (Some p) (Some o) w e plain =
           drat = w.drat;
           lines = w.lines ++ lines_of given;
           bytes = ap (λ xs. xs ++ more) w.bytes ∙ ap (λ ls. lines_written (encoding_of p.format) (plain_lines w.lines) ++ lines_written (encoding_of p.format) ls) plainer ∙ sym (bytes-more p.format w.lines (lines_of given));
-          told_since = λ h. ap lines_of (plain h) ∙ lines_append before given ∙ ap (λ ls. ls ++ lines_of given) (w.told_since h) ∙ append_assoc (lines_of p.before) w.lines (lines_of given);
+          all = λ h. ap lines_of (plain h) ∙ lines_append before given ∙ ap (λ ls. ls ++ lines_of given) (w.all h);
         };
       },
     )
@@ -83,7 +83,7 @@ proof-goes-on p q hidden before after proof f t = on-told hidden before after t.
 -- no line was told
 other-told : (hidden : Bool) (before after : List Entry) (proof : Option OpenProof) → (hidden ≡ false → lines_of after ≡ lines_of before) → IsWrittenIf hidden before proof → IsWrittenIf hidden after proof
 other-told hidden before after None e w = tt
-other-told hidden before after (Some p) e w = record { drat = w.drat; lines = w.lines; bytes = w.bytes; told_since = λ h. e h ∙ w.told_since h }
+other-told hidden before after (Some p) e w = record { drat = w.drat; lines = w.lines; bytes = w.bytes; all = λ h. e h ∙ w.all h }
 
 pub assumed-fits : (o : Option OpenState) (hidden : Bool) (told : List Entry) (a : List Literal) (proof : Option OpenProof) → ProofFits o hidden told proof → ProofFits o hidden (told ++ Assumes a ∷ []) proof
 assumed-fits o hidden told a proof f = record { same = f.same; written = other-told hidden told (told ++ Assumes a ∷ []) proof (λ h. lines_append told (Assumes a ∷ []) ∙ append-nil (lines_of told)) f.written }
@@ -91,7 +91,7 @@ assumed-fits o hidden told a proof f = record { same = f.same; written = other-t
 -- something was hidden
 once-hidden : (hidden : Bool) (before after : List Entry) (proof : Option OpenProof) → IsWrittenIf hidden before proof → IsWrittenIf true after proof
 once-hidden hidden before after None w = tt
-once-hidden hidden before after (Some p) w = record { drat = w.drat; lines = w.lines; bytes = w.bytes; told_since = λ h. absurd cc }
+once-hidden hidden before after (Some p) w = record { drat = w.drat; lines = w.lines; bytes = w.bytes; all = λ h. absurd cc }
 
 pub hidden-fits : (o : Option OpenState) (hidden : Bool) (before after : List Entry) (proof : Option OpenProof) → ProofFits o hidden before proof → ProofFits o true after proof
 hidden-fits o hidden before after proof f = record { same = f.same; written = once-hidden hidden before after proof f.written }
@@ -103,16 +103,11 @@ open-there o hidden told (Some p) b f e t = (p, refl)
 
 -- 4. How a proof opens and closes.
 
--- more is written under the same searches
-pub same-search : (p q : Option OpenProof) → GoesOnWriting p q → searched_in q ≡ searched_in p
-same-search None q e = ap searched_in e
-same-search (Some p) q (more, e) = ap searched_in e
+pub first-same : (f : ProofFormat) (t : Taken) → (let o : OpenState = record { format = f; taken = t; searched = false } in Some o) ≡ opened_state (Some (first_proof f t))
+first-same f t = ap (λ (xs : List ℕ). let o : OpenState = record { format = f; taken = record { bytes = xs; faults = t.faults }; searched = false } in Some o) (sym (append-nil t.bytes))
 
-pub first-same : (f : ProofFormat) (t : Taken) (told : List Entry) → (let o : OpenState = record { format = f; taken = t; searched = false } in Some o) ≡ opened_state (Some (first_proof f t told))
-first-same f t told = ap (λ (xs : List ℕ). let o : OpenState = record { format = f; taken = record { bytes = xs; faults = t.faults }; searched = false } in Some o) (sym (append-nil t.bytes))
-
-pub first-written : (hidden : Bool) (f : ProofFormat) (t : Taken) (told : List Entry) → IsDrat f → IsWrittenIf hidden told (Some (first_proof f t told))
-first-written hidden f t told d = record { drat = d; lines = []; bytes = refl; told_since = λ h. sym (append-nil (lines_of told)) }
+pub first-written : (hidden : Bool) (f : ProofFormat) (t : Taken) (told : List Entry) → IsDrat f → lines_of told ≡ [] → IsWrittenIf hidden told (Some (first_proof f t))
+first-written hidden f t told d none = record { drat = d; lines = []; bytes = refl; all = λ h. none }
 
 -- what comes back as a proof closes, whatever errors may be
 pub closed-back : {W : Type 0} (D E : Type 0) (taken : W → Taken) (opened : Option OpenState) (back : Option W) → proving.IsClosed {E = D} taken opened (Ok back) → proving.IsClosed {E = E} taken opened (Ok back)
@@ -142,7 +137,7 @@ searched-state (Some p) = refl
 
 searched-written : (hidden : Bool) (told : List Entry) (o : Option OpenProof) → IsWrittenIf hidden told o → IsWrittenIf hidden told (searched_under o)
 searched-written hidden told None w = tt
-searched-written hidden told (Some p) w = record { drat = w.drat; lines = w.lines; bytes = w.bytes; told_since = w.told_since }
+searched-written hidden told (Some p) w = record { drat = w.drat; lines = w.lines; bytes = w.bytes; all = w.all }
 
 pub searched-fits : (o : Option OpenState) (hidden : Bool) (told : List Entry) (proof : Option OpenProof) → ProofFits o hidden told proof → ProofFits (marked_searched o) hidden told (searched_under proof)
 searched-fits o hidden told proof f = record { same = ap marked_searched f.same ∙ searched-state proof; written = searched-written hidden told proof f.written }
@@ -163,7 +158,7 @@ fitted-before o hidden told proof f = go o proof f.same f.written
           Some q,
           record {
             same = ap (λ (x : OpenState). let y : OpenState = record x { searched = a.searched } in Some y) same;
-            written = record { drat = w.drat; lines = w.lines; bytes = w.bytes; told_since = w.told_since };
+            written = record { drat = w.drat; lines = w.lines; bytes = w.bytes; all = w.all };
           },
         )
 
@@ -174,6 +169,16 @@ goes-on-searched (Some p) q (more, e) = (more, ap searched_under e)
 pub open-before : (p q : Option OpenProof) → GoesOnWriting p q → IsOpen q → IsOpen p
 open-before None q e (o, is) = let z : None ≡ Some o = sym e ∙ is in absurd cc
 open-before (Some p) q e o = (p, refl)
+
+pub open-marked : (p : Option OpenProof) → IsOpen (searched_under p) → IsOpen p
+open-marked None (o, e) = absurd cc
+open-marked (Some p) o = (p, refl)
+
+-- an open proof that was not marked yet is one that was
+pub open-fitted : (o : Option OpenState) (hidden : Bool) (told : List Entry) (before proof : Option OpenProof) → ProofFits o hidden told before → ProofFits (marked_searched o) hidden told proof → IsOpen before → IsOpen proof
+open-fitted o hidden told before None f g (p, e) =
+    let z : None ≡ marked_searched (opened_state (Some p)) = sym (g.same) ∙ ap marked_searched (f.same ∙ ap opened_state e) in absurd cc
+open-fitted o hidden told before (Some p) f g h = (p, refl)
 
 -- whether `solve` was called under the open proof
 searched-same : (o : Option OpenProof) → IsSearched o → is_searched (opened_state o) ≡ true

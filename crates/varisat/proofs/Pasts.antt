@@ -1,18 +1,17 @@
 -- What the calls and answers so far say of the state that a solver is in: each call moves both alike.
 use Rattle.std.proofs.Common.{◌≡◌, ◌≢◌, ℕ, zero, suc, ◌<◌, ◌≤◌, ◌+◌, ◌-◌, ◌*◌, ◌^◌, ap₂, nat_lt, if◌then◌else◌, Bool, true, false, not, List, [], ◌∷◌, ◌++◌, ◌⊎◌, inl, inr, ⊎_elim, sym, ap, ◌∙◌, subst, refl, Option, Some, None, Result, Ok, Err, map, arith, length}
-use Rattle.std.specs.Prelude.{is_some}
 use Rattle.std.proofs.lemmas.Bool.{not-true, false_from_ne_true}
 use Rattle.std.specs.declared.alloc.AllocError.{AllocError}
 use Rattle.varisat_theory.specs.Membership.{◌∈◌}
 use Rattle.varisat_theory.specs.Literals.{Literal, Clause, Assignment, variable_of, SatisfiesAll, MakesTrue, IsSatisfiable, IsSatisfiableWith, IsFailedCore}
+use Rattle.varisat_theory.specs.Derivations.{IsDerivation, Refutes}
 use Rattle.varisat_formula.specs.declared.dimacs.error.DimacsError.{DimacsError}
 use Rattle.varisat_formula.specs.Dimacs.{Reading}
 use Rattle.varisat_formula.specs.Streams.{Stand, Taken}
 use Rattle.varisat_proof.specs.declared.proof.format.ProofFormat.{ProofFormat}
 use Rattle.varisat_proof.specs.Proving.{IsClosed}
-use Rattle.varisat.specs.OpenProofs.{OpenProof, opened_state, IsOpen, IsSearched, searched_in, searched_under, first_proof}
-use Rattle.varisat.specs.ProofCalls.{with_proof, OpensProof, ClosesProof}
-use Rattle.varisat.proofs.OpenProofs.{same-search}
+use Rattle.varisat.specs.OpenProofs.{OpenProof, opened_state, IsOpen, IsSearched, GoesOnWriting, searched_under, first_proof}
+use Rattle.varisat.specs.ProofCalls.{with_proof, HasProof, OpensProof, ClosesProof}
 use Rattle.varisat_names.specs.declared.config.SolverConfigUpdate.{SolverConfigUpdate}
 use Rattle.varisat_names.specs.Settings.{Settings, updated_settings}
 use Rattle.varisat_names.proofs.Maps.{updated-other, updated-all}
@@ -31,7 +30,7 @@ use Rattle.varisat.specs.Pasts as past
 use Rattle.varisat.specs.Usage as usage
 use Rattle.varisat.specs.Usage.{AreAllShown}
 use Rattle.varisat.specs.VariableCalls as variables
-use Rattle.varisat.specs.Pasts.{Past, empty_past, accept, assume, IsUndecided}
+use Rattle.varisat.specs.Pasts.{Past, PastProof, empty_past, accept, assume, IsUndecided}
 use Rattle.varisat.specs.declared.solver.SolverError.{SolverError}
 use Rattle.varisat.specs.declared.solver.SolverError.TheVariants.{Interrupted, ProofIoError, OutOfMemory, Invalid, ClauseStoreFull, WitnessVar, VariableLimit, AssumedVar, ClauseAfterSolve, ProofOpen, ProofTooLate, ConfigOutOfRange, Dimacs}
 use Rattle.varisat_literals.specs.Numbers.{variable_limit}
@@ -78,9 +77,32 @@ capped-shown (u ∷ us) old new (least, (i, made, unnamed, rest)) f = capped-sho
 
 -- 2. The state and the past.
 
+-- what it says of an open proof
+abbrev past_proof : Option OpenProof → Option PastProof
+past_proof None = None
+past_proof (Some o) = Some (record { format = o.format; first = o.first; searched = o.searched })
+
+-- the same of one with more bytes
+same-proof : (p q : Option OpenProof) → GoesOnWriting p q → past_proof q ≡ past_proof p
+same-proof None q e = ap past_proof e
+same-proof (Some p) q (more, e) = ap past_proof e
+
+searched-past : (proof : Option OpenProof) (p : Option PastProof) → past_proof proof ≡ p → IsSearched proof → (o : PastProof) × (p ≡ Some o) × (o.searched ≡ true)
+searched-past None p e h = absurd cc
+searched-past (Some q) p e h = let z : Some q.searched ≡ Some true = h in (record { format = q.format; first = q.first; searched = q.searched }, sym e, cc)
+
+searched-state : (proof : Option OpenProof) (o : PastProof) → past_proof proof ≡ Some o → o.searched ≡ true → IsSearched proof
+searched-state None o e b = absurd cc
+searched-state (Some q) o e b =
+    let is : PastProof = record { format = q.format; first = q.first; searched = q.searched } in
+    let some : Some is ≡ Some o = e in
+    let same : is ≡ o = cc in
+    ap (λ (x : PastProof). Some x.searched) same ∙ ap Some b
+
 -- what the past says of the state as long as it is valid
 pub record Knows (p : Past) (s : State) : Type 0 where
   naming : s.naming ≡ p.naming
+  hidden : s.ever_hidden ≡ p.ever_hidden
   capped : IsCapped s.naming
   clauses : s.clauses ≡ p.clauses
   assumed : s.assumptions ≡ p.assumptions
@@ -89,7 +111,7 @@ pub record Knows (p : Past) (s : State) : Type 0 where
   found : answer_of s.verdict ≡ Some true → p.has_model ≡ true
   failed : p.has_core ≡ true → answer_of s.verdict ≡ Some false
   core : (l : List Literal) → s.verdict ≡ UnsatUnderAssumptions l → p.has_core ≡ true
-  proof : searched_in s.proof ≡ p.proof
+  proof : past_proof s.proof ≡ p.proof
   right : HasRightVerdict s
 
 -- the state is one that the past leads to
@@ -126,7 +148,7 @@ anew p s t e g = subst (Agrees (past.count_anew p)) (sym e) (record {
   steps = g.steps;
   since = refl;
   settings = g.settings;
-  knows = λ v. let k = g.knows v in record { naming = k.naming; capped = k.capped; clauses = k.clauses; assumed = k.assumed; counted = k.counted; model = k.model; found = k.found; failed = k.failed; core = k.core; proof = k.proof; right = k.right };
+  knows = λ v. let k = g.knows v in record { naming = k.naming; hidden = k.hidden; capped = k.capped; clauses = k.clauses; assumed = k.assumed; counted = k.counted; model = k.model; found = k.found; failed = k.failed; core = k.core; proof = k.proof; right = k.right };
 })
 
 -- the past keeps its flags, and the state too, but that something was accepted now
@@ -169,6 +191,7 @@ accepted p s t d n (w, after, e) g v =
     agrees-still p (accept d p) s t g e.ledger (refl, refl, refl, refl, refl)
     (record {
       naming = e.naming ∙ ap (name_all d) k.naming;
+      hidden = e.ever_hidden ∙ k.hidden;
       capped = subst IsCapped (sym e.naming) (capped-all d s.naming k.capped);
       clauses = e.clauses ∙ ap (λ P. P ++ c ∷ []) k.clauses ∙ ap (λ (m : Naming). p.clauses ++ map (through_names (name_all d m)) d ∷ []) k.naming;
       assumed = e.assumptions ∙ k.assumed;
@@ -177,7 +200,7 @@ accepted p s t d n (w, after, e) g v =
       found = λ h. absurd (⊎_elim
           (λ r. let z : Some false ≡ Some true = ap answer_of (sym (e.verdict ∙ r.0)) ∙ h in let y : false ≡ true = cc in cc)
           (λ r. reopened-not-true s.verdict (ap answer_of (sym (e.verdict ∙ r)) ∙ h)) cases);
-      proof = same-search s.proof t.proof e.proof ∙ k.proof;
+      proof = same-proof s.proof t.proof e.proof ∙ k.proof;
       failed = λ h. ⊎_elim (λ r. ap answer_of (e.verdict ∙ r.0)) (λ r. ap answer_of (e.verdict ∙ r) ∙ reopened-false s.verdict (k.failed h)) cases;
       core = λ l h. ⊎_elim
           (λ r. let z : Unsat ≡ UnsatUnderAssumptions l = sym (e.verdict ∙ r.0) ∙ h in absurd cc)
@@ -204,19 +227,15 @@ crowded p s d k h = subst (λ (m : Naming). IsPastLimit d ⊎ IsCrowded (name_al
 
 -- a proof that is open
 has-open : (p : Past) (s : State) → Knows p s → IsOpen s.proof → past.HasOpenProof p
-has-open p s k (o, is) = (o.searched, sym k.proof ∙ ap searched_in is)
+has-open p s k (o, is) = (_, sym k.proof ∙ ap past_proof is)
 
 -- none under which `solve` was called
 unsearched : (p : Past) (s : State) → Knows p s → (IsSearched s.proof → ⊥) → past.IsSearched p → ⊥
-unsearched p s k n is = n (k.proof ∙ is)
-
-open-unsearched : (p : Past) (s : State) → Knows p s → IsOpen s.proof → (IsSearched s.proof → ⊥) → p.proof ≡ Some false
-open-unsearched p s k (o, is) n =
-    sym k.proof ∙ ap searched_in is ∙ ap Some (false_from_ne_true o.searched (λ b. n (ap searched_in is ∙ ap Some b)))
+unsearched p s k n (o, e, b) = n (searched-state s.proof o (k.proof ∙ e) b)
 
 -- and none at all
 none-open : (p : Past) (s : State) → Knows p s → s.proof ≡ None → p.proof ≡ None
-none-open p s k n = sym k.proof ∙ ap searched_in n
+none-open p s k n = sym k.proof ∙ ap past_proof n
 
 pub add-clause : (p : Past) (s t : State) (d : Clause) (r : Result (Unit {0}) SolverError) → Agrees p s → state.AddsClause s d r t → Leads (past.AddsClause p d r) t
 add-clause p s t d (Ok u) g (v, state.Ignored n e) =
@@ -231,8 +250,8 @@ add-clause p s t d (Err ClauseStoreFull) g (n, lim, b) =
     let (q, c, h) = breaks p s t g b in (q, (unsearched p s k n.unsearched, may-constrain p s d k lim, c), h)
 add-clause p s t d (Err (ProofIoError cause)) g (o, n, lim, b) =
     let k = knows-of p s g b.valid in
-    let (q, c, h) = breaks p s t g b in (q, (open-unsearched p s k o n.unsearched, may-constrain p s d k lim, c), h)
-add-clause p s t d (Err ClauseAfterSolve) g (v, n, is, e) = (p, (sym g.valid ∙ v, sym (knows-of p s g v).proof ∙ is, refl), stays p s t e g)
+    let (q, c, h) = breaks p s t g b in (q, (has-open p s k o, unsearched p s k n.unsearched, may-constrain p s d k lim, c), h)
+add-clause p s t d (Err ClauseAfterSolve) g (v, n, is, e) = (p, (sym g.valid ∙ v, searched-past s.proof p.proof (knows-of p s g v).proof is, refl), stays p s t e g)
 add-clause p s t d (Err Invalid) g a = (p, (sym g.valid ∙ a.0, refl), stays p s t a.1 g)
 add-clause p s t d (Err VariableLimit) g (v, n, over, e) =
     let k = knows-of p s g v in (p, (sym g.valid ∙ v, unsearched p s k n.unsearched, crowded p s d k over, refl), stays p s t e g)
@@ -282,9 +301,10 @@ add-text p s t old new r g (Unread e (v, k) n) = (p, Unread e (sym g.valid ∙ v
 -- 5. A new variable.
 
 -- The state has the names m now, and the past may have other flags. All else that is known stays.
-knows-like : (p : Past) (s t : State) (m : Naming) (b d : Bool) (l : Ledger) (told : List Entry) (n i : ℕ) (c : Settings) → IsLike (record s { naming = m; ever_hidden = b; ledger = l; told = told }) t → IsCapped m → Knows p s → Knows (record p { started = d; naming = m; steps = n; since = i; settings = c }) t
-knows-like p s t m b d l told n i c e h k = record {
+knows-like : (p : Past) (s t : State) (m : Naming) (b x d : Bool) (l : Ledger) (told : List Entry) (n i : ℕ) (c : Settings) → IsLike (record s { naming = m; ever_hidden = b; ledger = l; told = told }) t → IsCapped m → b ≡ x → Knows p s → Knows (record p { started = d; naming = m; ever_hidden = x; steps = n; since = i; settings = c }) t
+knows-like p s t m b x d l told n i c e h f k = record {
   naming = e.naming;
+  hidden = e.ever_hidden ∙ f;
   capped = subst IsCapped (sym e.naming) h;
   clauses = e.clauses ∙ k.clauses;
   assumed = e.assumptions ∙ k.assumed;
@@ -293,14 +313,14 @@ knows-like p s t m b d l told n i c e h k = record {
   found = λ x. k.found (sym (ap answer_of e.verdict) ∙ x);
   failed = λ x. ap answer_of e.verdict ∙ k.failed x;
   core = λ l h. k.core l (sym e.verdict ∙ h);
-  proof = same-search s.proof t.proof e.proof ∙ k.proof;
+  proof = same-proof s.proof t.proof e.proof ∙ k.proof;
   right = right-like t s.clauses s.assumptions s.counted s.verdict e.clauses e.assumptions e.counted e.verdict k.right;
 }
 
 named : (p : Past) (s t : State) (u : ℕ) → IsLike (start (with_naming (name_one u s.naming) s)) t → Knows p s → Knows (record p { started = true; naming = name_one u p.naming; since = 0 }) t
 named p s t u e k =
     subst (λ (m : Naming). Knows (record p { started = true; naming = m; since = 0 }) t) (ap (name_one u) k.naming)
-    (knows-like p s t (name_one u s.naming) s.ever_hidden true (start s).ledger s.told p.steps 0 p.settings e (capped-one u s.naming k.capped) k)
+    (knows-like p s t (name_one u s.naming) s.ever_hidden p.ever_hidden true (start s).ledger s.told p.steps 0 p.settings e (capped-one u s.naming k.capped) k.hidden k)
 
 pub make-var : (p : Past) (s t : State) (r : Result ℕ SolverError) → Agrees p s → state.MakesVar s r t → Leads (past.MakesVar p r) t
 make-var p s t (Ok u) g (v, free, small, e) =
@@ -318,14 +338,14 @@ make-var p s t (Err e) g a = absurd a
 -- 6. Modes of variables, and hidden ones.
 
 -- the state and the past have other names
-renamed : (p : Past) (s t : State) (m : Naming) (b : Bool) → IsLike (record s { naming = m; ever_hidden = b; ledger = record s.ledger { since = 0 } }) t → IsCapped m → Agrees p s → p.valid ≡ true → Agrees (record p { naming = m; since = 0 }) t
-renamed p s t m b e c g v = record {
+renamed : (p : Past) (s t : State) (m : Naming) (b x : Bool) → IsLike (record s { naming = m; ever_hidden = b; ledger = record s.ledger { since = 0 } }) t → IsCapped m → b ≡ x → Agrees p s → p.valid ≡ true → Agrees (record p { naming = m; ever_hidden = x; since = 0 }) t
+renamed p s t m b x e c f g v = record {
   valid = ap (λ x. x.valid) e.ledger ∙ g.valid;
   started = ap (λ x. x.started) e.ledger ∙ g.started;
   steps = ap (λ x. x.steps) e.ledger ∙ g.steps;
   since = ap (λ x. x.since) e.ledger;
   settings = ap (λ x. x.settings) e.ledger ∙ g.settings;
-  knows = λ _. knows-like p s t m b p.started (record s.ledger { since = 0 }) s.told p.steps 0 p.settings e c (g.knows v);
+  knows = λ _. knows-like p s t m b x p.started (record s.ledger { since = 0 }) s.told p.steps 0 p.settings e c f (g.knows v);
 }
 
 -- a name is assumed in both or in none
@@ -338,14 +358,14 @@ assumed-state p s u k (l, h, e) = (l, subst (λ A. l ∈ A) (sym k.assumed) h, s
 -- A name is named and then names change by f.
 changes-var : (f : Naming → Naming) (b : Bool → Bool) → ((m : Naming) → IsCapped m → IsCapped (f m)) → (p : Past) (s t : State) (u : ℕ) (r : Result (Unit {0}) SolverError) → Agrees p s →
     usage.ChangesVar variables.named (λ x. record x { naming = f x.naming; ever_hidden = b x.ever_hidden; ledger = record x.ledger { since = 0 } }) s u r t →
-    Leads (usage.ChangesVar past.named (λ x. record x { naming = f x.naming; since = 0 }) p u r) t
+    Leads (usage.ChangesVar past.named (λ x. record x { naming = f x.naming; ever_hidden = b x.ever_hidden; since = 0 }) p u r) t
 changes-var f b keeps p s t u (Ok x) g (v, small, free, e) =
     let w = sym g.valid ∙ v in
     let k = g.knows w in
     let m = f (name_one u s.naming) in (
-      record p { naming = m; since = 0 },
-      (w, small, (λ h. free (assumed-state p s u k h)), ap (λ (n : Naming). record p { naming = f (name_one u n); since = 0 }) k.naming),
-      renamed p s t m (b s.ever_hidden) e (keeps (name_one u s.naming) (capped-one u s.naming k.capped)) g w,
+      record p { naming = m; ever_hidden = b p.ever_hidden; since = 0 },
+      (w, small, (λ h. free (assumed-state p s u k h)), ap (λ (n : Naming). record p { naming = f (name_one u n); ever_hidden = b p.ever_hidden; since = 0 }) k.naming),
+      renamed p s t m (b s.ever_hidden) (b p.ever_hidden) e (keeps (name_one u s.naming) (capped-one u s.naming k.capped)) (ap b k.hidden) g w,
     )
 changes-var f b keeps p s t u (Err Invalid) g a = (p, (sym g.valid ∙ a.0, refl), stays p s t a.1 g)
 changes-var f b keeps p s t u (Err VariableLimit) g (v, full, same) =
@@ -377,7 +397,7 @@ observe p s t (Ok us) g (v, (m, shown, e)) =
     let k = g.knows w in (
       record p { naming = m; since = 0 },
       (w, (m, subst (λ P. AreAllShown us P p.naming m) k.clauses (subst (λ (n : Naming). AreAllShown us s.clauses n m) k.naming shown), refl)),
-      renamed p s t m s.ever_hidden e (capped-shown us s.naming m shown.in_turn k.capped) g w,
+      renamed p s t m s.ever_hidden p.ever_hidden e (capped-shown us s.naming m shown.in_turn k.capped) k.hidden g w,
     )
 observe p s t (Err Invalid) g a = (p, (sym g.valid ∙ a.0, refl), stays p s t a.1 g)
 observe p s t (Err OutOfMemory) g a = breaks p s t g a
@@ -392,6 +412,7 @@ assumed-list p s t list e g v =
     agrees-still p (assume list p) s t g e.ledger (refl, refl, refl, refl, refl)
     (record {
       naming = e.naming ∙ ap (name_all list) k.naming;
+      hidden = e.ever_hidden ∙ k.hidden;
       capped = subst IsCapped (sym e.naming) (capped-all list s.naming k.capped);
       clauses = e.clauses ∙ k.clauses;
       assumed = e.assumptions ∙ ap (λ (m : Naming). map (through_names (name_all list m)) list) k.naming;
@@ -400,7 +421,7 @@ assumed-list p s t list e g v =
       found = λ x. absurd (assumed-not-true s.verdict (sym (ap answer_of e.verdict) ∙ x));
       failed = λ x. absurd cc;
       core = λ l h. absurd (assumed-no-core s.verdict l (sym e.verdict ∙ h));
-      proof = same-search s.proof t.proof e.proof ∙ k.proof;
+      proof = same-proof s.proof t.proof e.proof ∙ k.proof;
       right = right-like t s.clauses t.assumptions t.counted (assumed_verdict s.verdict) e.clauses refl refl e.verdict (right-assumed s.clauses s.assumptions t.assumptions s.counted t.counted s.verdict k.right);
     })
 
@@ -437,6 +458,7 @@ solved p s t b g k r =
       settings = ap (λ x. x.settings) e.ledger ∙ g.settings;
       knows = λ _. record {
         naming = e.naming ∙ k.naming;
+        hidden = e.ever_hidden ∙ k.hidden;
         capped = subst IsCapped (sym e.naming) k.capped;
         clauses = e.clauses ∙ k.clauses;
         assumed = e.assumptions ∙ k.assumed;
@@ -445,7 +467,7 @@ solved p s t b g k r =
         found = λ x. told b (sym r.answer ∙ x);
         failed = λ x. r.answer ∙ ap Some (not-true b x);
         core = λ l h. told-false b (sym r.answer ∙ ap answer_of h);
-        proof = same-search s.proof t.proof e.proof ∙ k.proof;
+        proof = same-proof s.proof t.proof e.proof ∙ k.proof;
         right = r.right;
       };
     }
@@ -496,7 +518,7 @@ counted-if p q s t r g k e known unknown =
 told-on : (p : Past) (s t : State) (n i : ℕ) (c : Settings) → IsLike (record s { ledger = t.ledger; told = t.told }) t → Knows p s → Knows (record p { steps = n; since = i; settings = c }) t
 told-on p s t n i c e k =
     subst (λ (m : Naming). Knows (record p { naming = m; steps = n; since = i; settings = c }) t) k.naming
-    (knows-like p s t s.naming s.ever_hidden p.started t.ledger t.told n i c e k.capped k)
+    (knows-like p s t s.naming s.ever_hidden p.ever_hidden p.started t.ledger t.told n i c e k.capped k.hidden k)
 
 like-told : (s t : State) (n : ℕ) → IsLike (retold t.told (with_steps n s)) t → IsLike (record s { ledger = t.ledger; told = t.told }) t
 like-told s t n e = record { naming = e.naming; ever_hidden = e.ever_hidden; clauses = e.clauses; assumptions = e.assumptions; counted = e.counted; verdict = e.verdict; ledger = refl; told = e.told; proof = e.proof }
@@ -515,7 +537,7 @@ none-with p s t k r =
     (subst (λ A. IsSatisfiableWith t.clauses A → ⊥) (r.rest.assumptions ∙ k.assumed) (right-false t.clauses t.assumptions t.counted t.verdict r.answer r.right))
 
 -- `solve` was called under an open proof
-searched-same : (o : Option OpenProof) → searched_in (searched_under o) ≡ past.searched_under (searched_in o)
+searched-same : (o : Option OpenProof) → past_proof (searched_under o) ≡ past.searched_under (past_proof o)
 searched-same None = refl
 searched-same (Some p) = refl
 
@@ -526,7 +548,7 @@ searched p s g = record {
   steps = g.steps;
   since = g.since;
   settings = g.settings;
-  knows = λ v. let k = g.knows v in record { naming = k.naming; capped = k.capped; clauses = k.clauses; assumed = k.assumed; counted = k.counted; model = k.model; found = k.found; failed = k.failed; core = k.core; proof = searched-same s.proof ∙ ap past.searched_under k.proof; right = k.right };
+  knows = λ v. let k = g.knows v in record { naming = k.naming; hidden = k.hidden; capped = k.capped; clauses = k.clauses; assumed = k.assumed; counted = k.counted; model = k.model; found = k.found; failed = k.failed; core = k.core; proof = searched-same s.proof ∙ ap past.searched_under k.proof; right = k.right };
 }
 
 -- no way leads back, and steps were counted
@@ -629,19 +651,19 @@ tell-since p s t n g (e, few, same) = (
 )
 
 -- A proof opens.
-pub opens : (p : Past) (s t : State) (o : OpenProof) → Agrees p s → o.searched ≡ false → t ≡ state.count_anew (with_proof (Some o) s) → Agrees (past.opened p) t
-opens p s t o g n e = subst (Agrees (past.opened p)) (sym e) (record {
+pub opens : (p : Past) (s t : State) (f : ProofFormat) (taken : Taken) → Agrees p s → t ≡ state.count_anew (with_proof (Some (first_proof f taken)) s) → Agrees (past.opened f taken.bytes p) t
+opens p s t f taken g e = subst (Agrees (past.opened f taken.bytes p)) (sym e) (record {
   valid = g.valid;
   started = g.started;
   steps = g.steps;
   since = refl;
   settings = g.settings;
-  knows = λ v. let k = g.knows v in record { naming = k.naming; capped = k.capped; clauses = k.clauses; assumed = k.assumed; counted = k.counted; model = k.model; found = k.found; failed = k.failed; core = k.core; proof = ap (λ (b : Bool). Some b) n; right = k.right };
+  knows = λ v. let k = g.knows v in record { naming = k.naming; hidden = k.hidden; capped = k.capped; clauses = k.clauses; assumed = k.assumed; counted = k.counted; model = k.model; found = k.found; failed = k.failed; core = k.core; proof = refl; right = k.right };
 })
 
 pub open-proof : {W : Type 0} (taken : W → Taken) (target : W) (format : ProofFormat) (p : Past) (s t : State) (r : Result (Unit {0}) (SolverError × W)) → Agrees p s → OpensProof taken target format s r t → Leads (past.ProofOpens taken target format p r) t
 open-proof taken target format p s t (Ok x) g (v, n, b, e) =
-    let w = sym g.valid ∙ v in (past.opened p, (w, none-open p s (g.knows w) n, sym g.started ∙ b, refl), opens p s t (first_proof format (taken target) s.told) g refl e)
+    let w = sym g.valid ∙ v in (past.opened format (taken target).bytes p, (w, none-open p s (g.knows w) n, sym g.started ∙ b, refl), opens p s t format (taken target) g e)
 open-proof taken target format p s t (Err (Invalid, back)) g (h, (v, e)) = (p, (h, sym g.valid ∙ v, refl), stays p s t e g)
 open-proof taken target format p s t (Err (ProofOpen, back)) g (h, v, o, e) = (p, (h, sym g.valid ∙ v, has-open p s (knows-of p s g v) o, refl), stays p s t e g)
 open-proof taken target format p s t (Err (ProofTooLate, back)) g (h, v, n, b, e) =
@@ -656,25 +678,41 @@ closes p s t g e = subst (Agrees (past.closed p)) (sym e) (record {
   steps = g.steps;
   since = refl;
   settings = g.settings;
-  knows = λ v. let k = g.knows v in record { naming = k.naming; capped = k.capped; clauses = k.clauses; assumed = k.assumed; counted = k.counted; model = k.model; found = k.found; failed = k.failed; core = k.core; proof = refl; right = k.right };
+  knows = λ v. let k = g.knows v in record { naming = k.naming; hidden = k.hidden; capped = k.capped; clauses = k.clauses; assumed = k.assumed; counted = k.counted; model = k.model; found = k.found; failed = k.failed; core = k.core; proof = refl; right = k.right };
 })
 
-hands-back : {W : Type 0} (taken : W → Taken) (proof : Option OpenProof) (back : Option W) → IsClosed {E = SolverError} taken (opened_state proof) (Ok back) → is_some back ≡ is_some (searched_in proof)
-hands-back taken None None h = refl
-hands-back taken None (Some w) h = absurd h
-hands-back taken (Some p) None h = absurd h
-hands-back taken (Some p) (Some w) h = refl
+-- what the target of an open proof took
+handed : (p : Past) (s : State) (o : OpenProof) (taken : List ℕ) → Knows p s → s.proof ≡ Some o → taken ≡ o.first ++ o.bytes → HasProof s → past.HandsBack p taken
+handed p s o taken k e h has =
+    let a = has o e in
+    record {
+      opened = record { format = o.format; first = o.first; searched = o.searched };
+      is_open = sym k.proof ∙ ap past_proof e;
+      bytes = o.bytes;
+      behind = h;
+      proof = record {
+        lines = a.lines;
+        written = a.written;
+        derives = λ n. subst (λ P. IsDerivation P a.lines) k.clauses (a.derives (k.hidden ∙ n));
+        refutes = λ n c. subst (λ P. Refutes P a.lines) k.clauses (a.refutes (k.hidden ∙ n) (k.failed c));
+      };
+    }
 
-failed-open : {W : Type 0} (taken : W → Taken) (proof : Option OpenProof) (e : SolverError) (w : W) → IsClosed taken (opened_state proof) (Err (e, w)) → IsOpen proof
-failed-open taken None e w h = absurd h
-failed-open taken (Some p) e w h = (p, refl)
+hands-back : {W : Type 0} (taken : W → Taken) (p : Past) (s : State) (proof : Option OpenProof) (back : Option W) → s.proof ≡ proof → Knows p s → IsClosed {E = SolverError} taken (opened_state proof) (Ok back) → HasProof s → past.HandsBackIf taken p back
+hands-back taken p s None None e k h has = none-open p s k e
+hands-back taken p s None (Some w) e k h has = absurd h
+hands-back taken p s (Some o) None e k h has = absurd h
+hands-back taken p s (Some o) (Some w) e k h has = handed p s o (taken w).bytes k e (ap (λ (x : Taken). x.bytes) h) has
+
+hands-back-failed : {W : Type 0} (taken : W → Taken) (p : Past) (s : State) (proof : Option OpenProof) (x : SolverError) (w : W) → s.proof ≡ proof → Knows p s → IsClosed taken (opened_state proof) (Err (x, w)) → HasProof s → past.HandsBack p (taken w).bytes
+hands-back-failed taken p s None x w e k h has = absurd h
+hands-back-failed taken p s (Some o) x w e k h has = handed p s o (taken w).bytes k e (ap (λ (y : Taken). y.bytes) h) has
 
 pub close : {W : Type 0} (taken : W → Taken) (p : Past) (s t : State) (r : Result (Option W) (SolverError × W)) → Agrees p s → ClosesProof taken s r t → Leads (past.ProofCloses taken p r) t
 close taken p s t (Ok back) g (h, e) =
-    (past.closed p, ((λ w. hands-back taken s.proof back (h (g.valid ∙ w)) ∙ ap (λ (x : Option Bool). is_some x) (g.knows w).proof), refl), closes p s t g e)
-close taken p s t (Err (ProofIoError cause, target)) g (closed, b) =
-    let (q, c, h) = breaks p s t g b in
-    (q, (has-open p s (knows-of p s g b.valid) (failed-open taken s.proof (ProofIoError cause) target closed), c), h)
+    (past.closed p, ((λ w. let (closed, has) = h (g.valid ∙ w) in hands-back taken p s s.proof back refl (g.knows w) closed has), refl), closes p s t g e)
+close taken p s t (Err (ProofIoError cause, target)) g (closed, has, b) =
+    let (q, c, h) = breaks p s t g b in (q, (hands-back-failed taken p s s.proof (ProofIoError cause) target refl (knows-of p s g b.valid) closed has, c), h)
 close taken p s t (Err e) g a = absurd a
 
 -- 10. A model.
@@ -750,6 +788,7 @@ empty-agrees = record {
   settings = refl;
   knows = λ _. record {
     naming = refl;
+    hidden = refl;
     capped = λ u h. refl;
     clauses = refl;
     assumed = refl;

@@ -24,7 +24,7 @@ use Rattle.varisat_names.specs.Maps.{chain}
 use Rattle.varisat_names.proofs.Maps.{chain-through}
 use Rattle.varisat.specs.Carried.{carry}
 use Rattle.varisat.specs.States.{State}
-use Rattle.varisat.specs.Spaces.{Carrying, Spaces, Translation, AreLive, SharesHeld, HeldFits, without_core, translation, Links}
+use Rattle.varisat.specs.Spaces.{Carrying, Spaces, Translation, IsCounted, AreLive, SharesHeld, HeldFits, without_core, translation, Links}
 use Rattle.varisat.specs.Journals.{ToldConflict}
 use Rattle.varisat_search.proofs.StepOutcome.{variable-literal}
 use Rattle.varisat.proofs.Carried.{carry-at, carry-opposite}
@@ -254,6 +254,15 @@ held-live r share lives q c l h i =
 
 pub in-use-lives : (w : Carrying) (p : Spaces) (s : State) → Links w p s → (v i : ℕ) → chain p.global_from_solver w.identity v ≡ Some i → (x : ℕ) × (w.global i ≡ Some x)
 in-use-lives w p s k v i e = let (x, f, g) = chain-through p.global_from_solver w.identity v i e in (x, k.identities.one_to_one.there x i g)
+
+-- a literal over a solver variable is of a counted identity
+pub counted-literal : (w : Carrying) (p : Spaces) (s : State) (k : Links w p s) (l : Literal) (i : ℕ) → (translation w p s.told).identity (variable_of l) ≡ Some i → IsCounted s.counted (carry (translation w p s.told).identity l)
+counted-literal w p s k l i e =
+    let (x, f, g) = chain-through p.global_from_solver w.identity (variable_of l) i e in
+    let (j, h, m) = k.solvers.live (variable_of l) x f in
+    let q : Some j ≡ Some i = sym h ∙ g in
+    let same : j ≡ i = cc in
+    subst (λ v. v ∈ s.counted) (same ∙ sym (carry-at (translation w p s.told).identity l i e)) m
 
 -- What a solver's journal leads to is over live identities, unless it is known to be unsatisfiable.
 pub told-live : (w : Carrying) (p : Spaces) (s : State) → Links w p s → without_core p.outcome ≢ outcome.Unsat → (held : List Clause) × Leads [] s.told held × AreLive (translation w p s.told) held

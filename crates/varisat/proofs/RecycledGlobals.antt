@@ -134,7 +134,7 @@ module _ (w : Carrying) (p : Spaces) (s : State) (x i : ℕ) (k : Links w p s) (
             few = k.few;
             shown = λ e y. updated-all (λ y d. p.user_from_global y ≡ None → d.deleted ≡ true) p.kept x dead (λ _. refl) y (λ n h. k.shown e y h);
             plain = λ e. absurd (was-hidden e);
-            told = leaving-told s.told s.clauses s.ever_hidden (without_core p.outcome) i was-hidden k.told;
+            told = leaving-told s.told s.clauses s.counted s.ever_hidden (without_core p.outcome) i was-hidden k.told;
           },
         ),
       )

@@ -193,7 +193,7 @@ open-proof taken target format s t (Err e) a w = absurd a
 -- a proof closes, and nothing is told
 close : {W : Type 0} (taken : W → Taken) (s t : State) (r : Result (Option W) (SolverError × W)) → ClosesProof taken s r t → state.IsValid t → TellsOn s t
 close taken s t (Ok back) (h, e) w = tells-plainly s t (subst state.IsValid e w) (ap (λ (x : State). x.ledger.steps) e) (subst (λ (x : State). TellsMore 0 s.told x.told) (sym e) (tells-nothing s.told))
-close taken s t (Err (ProofIoError cause, target)) (closed, b) w = absurd (no-way s t b w)
+close taken s t (Err (ProofIoError cause, target)) (closed, has, b) w = absurd (no-way s t b w)
 close taken s t (Err e) a w = absurd a
 
 -- 4. Runs.

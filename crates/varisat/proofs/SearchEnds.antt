@@ -10,8 +10,8 @@ use Rattle.varisat.specs.Calls.{IsLike, IsValid, is_valid, Invalidates, CountsCa
 use Rattle.varisat.specs.declared.solver.SolverError.{SolverError}
 use Rattle.varisat.specs.declared.solver.SolverError.TheVariants.{Interrupted, ProofIoError, OutOfMemory, Invalid, ClauseStoreFull}
 use Rattle.varisat.proofs.AcceptClause.{proof-free}
-use Rattle.varisat.proofs.CallStates.{stands-valid, told-well, broken}
-use Rattle.varisat.proofs.OpenProofs.{goes-on-searched, open-before, open-there, searched-fits, fitted-before}
+use Rattle.varisat.proofs.CallStates.{stands-valid, flags-alike, told-well, broken}
+use Rattle.varisat.proofs.OpenProofs.{goes-on-searched, open-before, open-there, open-marked, open-fitted, searched-fits, fitted-before}
 
 -- 1. States.
 
@@ -111,6 +111,7 @@ stands-searched g s st = record {
   ledger = st.ledger;
   fits = λ v. let (w, k) = st.fits v in (w, proof-free w (spaces g) s (searched_under s.proof) k);
   proof = λ v. searched-fits g.opened s.ever_hidden s.told s.proof (st.proof v);
+  flags = λ v. flags-alike s (once_searched s) (st.flags v) refl refl refl refl (open-marked s.proof);
 }
 
 -- before that it stood for such a state too
@@ -123,6 +124,7 @@ stood-before g s v st =
         ledger = st.ledger;
         fits = λ v. let (w, k) = st.fits v in (w, proof-free w (spaces g) s before k);
         proof = λ _. f;
+        flags = λ v. flags-alike s (with_proof before s) (st.flags v) refl refl refl refl (λ o. open-fitted g.opened s.ever_hidden s.told before s.proof f (st.proof v) o);
       },
     )
 
@@ -136,6 +138,7 @@ stands-broken g h s e st =
       ledger = ap (λ (l : Ledger). record l { valid = false }) st.ledger ∙ sym same;
       fits = λ v. absurd (let z : false ≡ true = sym bad ∙ v in cc);
       proof = λ v. absurd (let z : false ≡ true = sym bad ∙ v in cc);
+      flags = λ v. absurd (let z : false ≡ true = sym bad ∙ v in cc);
     }
 
 pub solve-ends : (g h : Summary) (s t : State) (r : Result Bool SolverError) → Searches s r t → StandsFor g t → g.ledger.valid ≡ true →

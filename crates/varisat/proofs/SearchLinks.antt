@@ -29,7 +29,7 @@ pub record SearchLinks (w : Carrying) (p : Spaces) (s : State) : Type 0 where
   pub core : CoreFits s.naming.names p.core s.verdict
   pub right : HasRightVerdict s
   pub few : p.var_count ≤ length s.counted
-  pub told : IsTold s.told s.clauses s.ever_hidden
+  pub told : IsTold s.told s.clauses s.counted s.ever_hidden
 
 pub relinked : (w : Carrying) (p q : Spaces) (s t : State) → Links w p s → SearchLinks w (with_search_side q p) (told_as t s) → Links w (with_search_side q p) (told_as t s)
 relinked w p q s t k l = record {

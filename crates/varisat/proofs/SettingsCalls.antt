@@ -1,5 +1,5 @@
 -- A solver whose settings changed.
-use Rattle.std.proofs.Common.{◌≡◌, ◌∙◌, ◌-◌, ℕ, Bool, Option, not, length, sym, ap, subst}
+use Rattle.std.proofs.Common.{◌≡◌, ◌∙◌, ◌-◌, ℕ, Bool, Option, [], not, length, sym, ap, subst}
 use Rattle.varisat_theory.specs.Membership.{◌∈◌}
 use Rattle.varisat_names.specs.Settings.{updated_settings}
 use Rattle.varisat_names.specs.Variables.{Tables}
@@ -15,7 +15,7 @@ use Rattle.varisat.specs.States.{State, Ledger}
 use Rattle.varisat.specs.Calls.{with_update, count_anew}
 use Rattle.varisat.specs.Summaries.{Summary, IsKept, StandsFor, spaces_of}
 use Rattle.varisat_proof.specs.Proving.{ProofParts}
-use Rattle.varisat.specs.OpenProofs.{OpenProof, opened_state, IsWrittenIf}
+use Rattle.varisat.specs.OpenProofs.{OpenProof, opened_state, IsOpen, IsWrittenIf}
 use Rattle.varisat.specs.ProofCalls.{with_proof}
 use Rattle.varisat.proofs.AcceptClause.{ledger-free, proof-free}
 use Rattle.varisat.proofs.CallStates.{ledger_of, none-since}
@@ -32,6 +32,7 @@ stands-updated {A = A} parts started changed_at anew x y u b a s e n st =
       ledger = ap (λ (l : Ledger). record l { since = 0; settings = updated_settings l.settings u }) st.ledger ∙ ap (λ k. ledger_of (not x.solver_state.state_is_invalid) started x.schedule.steps k (updated_settings x.solver_config u)) (none-since anew x.schedule.steps same);
       fits = λ v. let (w, k) = st.fits v in (w, ledger-free w (spaces_of parts.tables (view x) x.assumptions x.solver_state.sat_state) s (record s.ledger { since = 0; settings = updated_settings s.ledger.settings u }) k);
       proof = st.proof;
+      flags = λ v. let f = st.flags v in record { clauses = f.clauses; assumptions = f.assumptions; counted = f.counted; unassumed = f.unassumed };
     })
 
 pub stands-same : {A : Type 0} (parts : TracerState) (started : Bool) (changed_at : ℕ) (x y : Context A) (s : State) → y ≡ x → StandsFor (summary_of parts started changed_at x) s → StandsFor (summary_of parts started changed_at y) s
@@ -43,14 +44,16 @@ stands-anew parts started changed_at anew x s n st = record {
   ledger = ap (λ (l : Ledger). record l { since = 0 }) st.ledger ∙ ap (λ k. ledger_of (not x.solver_state.state_is_invalid) started x.schedule.steps k x.solver_config) (none-since anew x.schedule.steps n);
   fits = λ v. let (w, k) = st.fits v in (w, ledger-free w (spaces_of parts.tables (view x) x.assumptions x.solver_state.sat_state) s (record s.ledger { since = 0 }) k);
   proof = st.proof;
+  flags = λ v. let f = st.flags v in record { clauses = f.clauses; assumptions = f.assumptions; counted = f.counted; unassumed = f.unassumed };
 }
 
 -- the same solver with another proof, or none, where steps are counted anew
-pub stands-with-proof : {A : Type 0} (tables : Tables) (p q : ProofParts) (started : Bool) (changed_at anew : ℕ) (x : Context A) (s : State) (proof : Option OpenProof) → anew ≡ x.schedule.steps → q.opened ≡ opened_state proof → IsWrittenIf s.ever_hidden s.told proof → StandsFor (summary_of (record { tables = tables; proof = p }) started changed_at x) s → StandsFor (summary_of (record { tables = tables; proof = q }) started anew x) (count_anew (with_proof proof s))
-stands-with-proof tables p q started changed_at anew x s proof n e f st = record {
+pub stands-with-proof : {A : Type 0} (tables : Tables) (p q : ProofParts) (started : Bool) (changed_at anew : ℕ) (x : Context A) (s : State) (proof : Option OpenProof) → anew ≡ x.schedule.steps → q.opened ≡ opened_state proof → IsWrittenIf s.ever_hidden s.told proof → (IsOpen proof → s.assumptions ≡ []) → StandsFor (summary_of (record { tables = tables; proof = p }) started changed_at x) s → StandsFor (summary_of (record { tables = tables; proof = q }) started anew x) (count_anew (with_proof proof s))
+stands-with-proof tables p q started changed_at anew x s proof n e f unassumed st = record {
   ledger = ap (λ (l : Ledger). record l { since = 0 }) st.ledger ∙ ap (λ k. ledger_of (not x.solver_state.state_is_invalid) started x.schedule.steps k x.solver_config) (none-since anew x.schedule.steps n);
   fits = λ v. let (w, k) = st.fits v in (w, ledger-free w (spaces_of tables (view x) x.assumptions x.solver_state.sat_state) (with_proof proof s) (record s.ledger { since = 0 }) (proof-free w (spaces_of tables (view x) x.assumptions x.solver_state.sat_state) s proof k));
   proof = λ v. record { same = e; written = f };
+  flags = λ v. let f = st.flags v in record { clauses = f.clauses; assumptions = f.assumptions; counted = f.counted; unassumed = unassumed };
 }
 
 -- what a solver keeps with other settings

@@ -28,14 +28,14 @@ use Rattle.varisat.specs.States.{State, Verdict, Unknown, Sat, Unsat, UnsatUnder
 use Rattle.varisat.specs.Names.{identity_of}
 use Rattle.varisat.specs.Calls.{with_verdict}
 use Rattle.varisat.specs.Carried.{carry, is_forced, value_or}
-use Rattle.varisat.specs.Spaces.{Spaces, Carrying, Translation, translation, IsTold, SharesHeld, HeldFits, SearchHolds, AssumptionsFit, MarksFit, WorkingFits, CoreFits, without_core, VerdictFits, Links, SpacesFit}
+use Rattle.varisat.specs.Spaces.{Spaces, Carrying, Translation, translation, IsCounted, IsTold, SharesHeld, HeldFits, SearchHolds, AssumptionsFit, MarksFit, WorkingFits, CoreFits, without_core, VerdictFits, Links, SpacesFit}
 use Rattle.varisat.specs.Journals.{retold, TellsMore, ToldConflict}
 use Rattle.varisat.proofs.SpacesMoves.{AreLong, AreInUse}
-use Rattle.varisat.proofs.ReachedHeld.{told_lines, lines-lead, told-quiet}
-use Rattle.varisat.proofs.ToldEntries.{tells-also, told-written, told-failed}
+use Rattle.varisat.proofs.ReachedHeld.{told_lines, lines-lead, told-quiet, counted-literal}
+use Rattle.varisat.proofs.ToldEntries.{tells-also, told-written, told-failed, spoken-renamed}
 use Rattle.varisat_names.proofs.Maps.{chain-some, chain-through, is-some}
 use Rattle.varisat.proofs.SpacesAgree.{identities-same, names-same, modes-same, units-same, isolation-same, solvers-same, assumptions-same, marks-same, working-same, holds-same, told-same, value-same}
-use Rattle.varisat.proofs.Carried.{carry-opposite, value-true, true-value, value-carry, forced-value}
+use Rattle.varisat.proofs.Carried.{carry-opposite, map-empty, value-true, true-value, value-carry, forced-value}
 use Rattle.varisat.proofs.SearchLinks.{relinked}
 use Rattle.varisat.proofs.SearchHeld.{answers-covers, agrees-through, held-on, without-model, refuted}
 
@@ -62,7 +62,7 @@ abbrev pub decide : Search → Outcome → (ℕ → Bool) → List Literal → L
 decide t v m working core p = record p { search = t; outcome = v; model = m; working = working; core = core }
 
 -- another verdict of the state, which is right
-decided : (w : Carrying) (p : Spaces) (s : State) (told : List Entry) → IsTold told s.clauses s.ever_hidden → (t : Search) (v : Outcome) (m : ℕ → Bool) (ws core : List Literal) (x : Verdict) → Links w p s → SearchHolds s.clauses (translation w p told) t (without_core v) → WorkingFits s.clauses (translation w p s.told).identity s.assumptions ws → VerdictFits w.identity m v x → CoreFits s.naming.names core x → IsRight s.clauses s.assumptions s.counted x → Links w (decide t v m ws core p) (retold told (with_verdict x s))
+decided : (w : Carrying) (p : Spaces) (s : State) (told : List Entry) → IsTold told s.clauses s.counted s.ever_hidden → (t : Search) (v : Outcome) (m : ℕ → Bool) (ws core : List Literal) (x : Verdict) → Links w p s → SearchHolds s.clauses (translation w p told) t (without_core v) → WorkingFits s.clauses (translation w p s.told).identity s.assumptions ws → VerdictFits w.identity m v x → CoreFits s.naming.names core x → IsRight s.clauses s.assumptions s.counted x → Links w (decide t v m ws core p) (retold told (with_verdict x s))
 decided w p s told is-told t v m ws core x k holds working fits names right =
     relinked w p (decide t v m ws core p) s (retold told (with_verdict x s)) k (record { solvers = k.solvers; holds = holds; assumptions = k.assumptions; working = working; verdict = fits; core = names; right = right; few = k.few; told = is-told })
 
@@ -80,9 +80,9 @@ forgotten w p s k n = decided w p s s.told k.told p.search outcome.Unknown p.mod
     go (outcome.UnsatUnder core) x h f n = h
 
 -- and where the state has a core, it may come back
-pub core-known : (w : Carrying) (p : Spaces) (s : State) (found core : List Literal) → Links w p s → p.outcome ≡ outcome.Unknown → CoreFits s.naming.names p.core (UnsatUnderAssumptions core) → IsFailedCore s.clauses s.assumptions core → Links w (record p { outcome = outcome.UnsatUnder found }) (with_verdict (UnsatUnderAssumptions core) s)
-core-known w p s found core k unknown told right =
-    decided w p s s.told k.told p.search (outcome.UnsatUnder found) p.model p.working p.core (UnsatUnderAssumptions core) k (subst (SearchHolds s.clauses (translation w p s.told) p.search) (ap without_core unknown) k.holds) k.working tt told right
+pub core-known : (w : Carrying) (p : Spaces) (s : State) (found core : List Literal) → Links w p s → p.outcome ≡ outcome.Unknown → CoreFits s.naming.names p.core (UnsatUnderAssumptions core) → core ≢ [] → IsFailedCore s.clauses s.assumptions core → Links w (record p { outcome = outcome.UnsatUnder found }) (with_verdict (UnsatUnderAssumptions core) s)
+core-known w p s found core k unknown told some right =
+    decided w p s s.told k.told p.search (outcome.UnsatUnder found) p.model p.working p.core (UnsatUnderAssumptions core) k (subst (SearchHolds s.clauses (translation w p s.told) p.search) (ap without_core unknown) k.holds) k.working some told right
 
 added-renamed : (f : Literal → Literal) (lines : List Line) → added (map (rename_line f) lines) ≡ added lines
 added-renamed f [] = refl
@@ -142,8 +142,11 @@ module _ (w : Carrying) (p : Spaces) (s : State) (k : Links w p s) (unknown : p.
   unfolding steps-tell
   steps-add e = subst (λ m. n ≤ m) (sym (ap added (written_lines (map (rename_line (carry (translation w p s.told).identity)) lines)) ∙ added-renamed (carry (translation w p s.told).identity) lines)) (new_are_added n before.held lines (made.adds before.held before.holds e))
 
-  pub steps-are-told : IsTold (told-with w p s lines) s.clauses s.ever_hidden
-  steps-are-told = told-written s.told s.clauses s.ever_hidden (map (rename_line (carry (translation w p s.told).identity)) lines) k.told
+  pub steps-are-told : IsTold (told-with w p s lines) s.clauses s.counted s.ever_hidden
+  steps-are-told =
+      let to = (translation w p s.told).identity in
+      told-written s.told s.clauses s.counted s.ever_hidden (map (rename_line (carry to)) lines)
+      (spoken-renamed (IsLiteralOf p.search) (IsCounted s.counted) (carry to) lines (λ l h. let (i, e) = k.holds.within l h in counted-literal w p s k l i e) made.speaks) k.told
 
   -- the core that is found, over identities, conflicts with what is held
   core-conflicts : (found : List Literal) → v ≡ outcome.UnsatUnder found → (held : List Clause) → Leads [] (told-with w p s lines) held → Conflicts held (map (carry (translation w p s.told).identity) found)
@@ -188,17 +191,18 @@ module _ (w : Carrying) (p : Spaces) (s : State) (k : Links w p s) (unknown : p.
         let as' = s.assumptions in
         let part : map (carry s.naming.names) told ⊆ as' = (λ l i.
         let (z, j, q) = map-∈ (carry to) l found (subst (λ xs. l ∈ xs) same-core i) in
-        subst (λ y. y ∈ as') (sym q) (k.working.part (carry to z) (∈-map (carry to) z p.working (subst (λ xs. z ∈ xs) (sym same) (keeps.core found e z j))))) in
+        subst (λ y. y ∈ as') (sym q) (k.working.part (carry to z) (∈-map (carry to) z p.working (subst (λ xs. z ∈ xs) (sym same) ((keeps.core found e).0 z j))))) in
         let none : IsSatisfiableWith s.clauses (map (carry s.naming.names) told) → ⊥ = (λ (a, sat, true-core).
         let b : Assignment = λ v. a (identity_of (to v)) in
         let (after, d, o) = made.holds before.held before.holds in
         let all = derives_sound before.held lines after b (by_derives n before.held lines after d) (before.implied a b sat (agrees-through to a)) in
         conflicts_sound after found b all (carried-true to a found (subst (MakesTrue a) same-core true-core)) (subst (Holds after t) e o).1) in
         let last = Fails (map (carry s.naming.names) told) in
-        decided w p s ((told-with w p s lines) ++ last ∷ []) (told-failed (told-with w p s lines) s.clauses s.ever_hidden (map (carry s.naming.names) told) steps-are-told) t v m y.working told (UnsatUnderAssumptions (map (carry s.naming.names) told)) k
+        let some : map (carry s.naming.names) told ≢ [] = (λ q. (keeps.core found e).1 (map-empty (carry to) found (sym same-core ∙ q))) in
+        decided w p s ((told-with w p s lines) ++ last ∷ []) (told-failed (told-with w p s lines) s.clauses s.counted s.ever_hidden (map (carry s.naming.names) told) steps-are-told) t v m y.working told (UnsatUnderAssumptions (map (carry s.naming.names) told)) k
         (holds-same s.clauses (translation w p (told-with w p s lines)) (translation w p ((told-with w p s lines) ++ last ∷ [])) t (without_core v) (λ u. refl) (λ i. refl)
         (λ share q. told-quiet (translation w p (told-with w p s lines)) last (λ held d. (subst (Conflicts held) (sym same-core) (core-conflicts found e held d), refl)) share (without_core v) q) steps-hold)
-        left (subst (λ y. VerdictFits w.identity m y (UnsatUnderAssumptions (map (carry s.naming.names) told))) (sym e) tt) (named, refl) (part, none)
+        left (subst (λ y. VerdictFits w.identity m y (UnsatUnderAssumptions (map (carry s.naming.names) told))) (sym e) some) (named, refl) (part, none)
 
 module _ (w : Carrying) (p : Spaces) (s : State) (k : Links w p s) (unknown : p.outcome ≡ outcome.Unknown) (t : Search) (f : Assignment) (n : ℕ) (lines : List Line) (made : MakesSteps n p.search t (outcome.Sat f) lines) (long : AreLong t) (in-use : AreInUse p t) where
   pub found : Assignment
@@ -274,7 +278,7 @@ model-same id m m' outcome.Unsat (UnsatUnderAssumptions core) h f = f
 model-same id m m' (outcome.UnsatUnder core0) Unknown h f = f
 model-same id m m' (outcome.UnsatUnder core0) (Sat a) h f = f
 model-same id m m' (outcome.UnsatUnder core0) Unsat h f = f
-model-same id m m' (outcome.UnsatUnder core0) (UnsatUnderAssumptions core) h f = tt
+model-same id m m' (outcome.UnsatUnder core0) (UnsatUnderAssumptions core) h f = f
 
 -- The maps and what is kept agree at each place, and the model where one was found. No more global variables were made.
 pub record HaveSameMaps (p q : Spaces) : Type 0 where

@@ -110,7 +110,7 @@ first-spaces s e n =
         few = omega (arith, n);
         shown = λ o x h. refl;
         plain = λ o. record { all = λ i h. absurd (omega (arith, h)); only = λ x i e. absurd (let z : None ≡ Some i = e in cc) };
-        told = record { accepted = refl; stays = λ e. tt };
+        told = record { accepted = refl; spoken = tt; stays = λ e. tt };
       },
     )
   where
@@ -273,7 +273,7 @@ comes-made p q search assumed s t y z verdict.Unsat n lines (w, k) v takes =
 comes-made p q search assumed s t y z verdict.UnsatUnderAssumptions n lines (w, k) v takes =
     let g = searching p search assumed s in
     let long = view-long t v.well in
-    let (named, same) = names-carried g s w k v.working y.failed_core z.user_core (v.assumes.core y.failed_core refl) (v.named refl) in
+    let (named, same) = names-carried g s w k v.working y.failed_core z.user_core (v.assumes.core y.failed_core refl).0 (v.named refl) in
     let core = map (carry s.naming.names) z.user_core in
     let told = told-with w (spaces g) s lines ++ Fails core ∷ [] in
     let links = core-found w (spaces g) s k refl (search_of t) (outcome.UnsatUnder y.failed_core) n lines v.steps long v.in_use assumed y refl v.assumes (spaces (after_steps g t z verdict.UnsatUnderAssumptions)).model y.failed_core z.user_core refl named same in

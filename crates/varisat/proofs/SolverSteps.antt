@@ -36,12 +36,12 @@ use Rattle.varisat.specs.Journals.{retold, TellsMore, TellsLeaving, ToldConflict
 use Rattle.varisat.specs.OpenProofs.{OpenProof, GoesOnWriting}
 use Rattle.varisat.specs.Searches.{answer_at, TellsSome, ComesTo, ComesOn, MakesNamedStep}
 use Rattle.varisat.specs.Spaces.{Spaces, translation, VerdictFits, SpacesFit}
-use Rattle.varisat.specs.States.{State, Verdict, Unknown, Unsat, UnsatUnderAssumptions, HasRightVerdict, IsRight}
+use Rattle.varisat.specs.States.{State, Verdict, Unknown, Unsat, UnsatUnderAssumptions, HasRightVerdict, IsRight, FlagsFit}
 use Rattle.varisat.specs.Summaries.{IsKept, spaces_of, spaces_with, undecided_spaces}
 use Rattle.varisat.proofs.AcceptClause.{ledger-free, proof-free}
 use Rattle.varisat.proofs.CallStates.{ledger-is, none-more, like-grown}
 use Rattle.varisat.proofs.ModelsFit.{is-sat, is-unknown}
-use Rattle.varisat.proofs.OpenProofs.{goes-on-none}
+use Rattle.varisat.proofs.OpenProofs.{goes-on-none, open-before}
 use Rattle.varisat.proofs.PlainTables.{assumed-named}
 use Rattle.varisat.proofs.PlainTold.{proof-quiet, proof-through}
 use Rattle.varisat.proofs.SearchVerdicts.{kept-on}
@@ -231,6 +231,10 @@ module _ {A : Type 0} {n : ℕ} {s : State} {p q : ProofParts} (m : Tables) (y :
 -- the state once a verdict was found or none, more was told and an open proof has more bytes
 abbrev pub after-solve : List Entry → Verdict → ℕ → Option OpenProof → State → State
 after-solve told v n proof s = record s { verdict = v; ledger = record s.ledger { steps = n; since = s.ledger.since + (n - s.ledger.steps) }; told = told; proof = proof }
+
+-- what two flags say of it
+pub flags-after : (s : State) (told : List Entry) (v : Verdict) (n : ℕ) (now : Option OpenProof) → FlagsFit s → GoesOnWriting s.proof now → FlagsFit (after-solve told v n now s)
+flags-after s told v n now f g = record { clauses = f.clauses; assumptions = f.assumptions; counted = f.counted; unassumed = λ o. f.unassumed (open-before s.proof now g o) }
 
 module _ {A : Type 0} {k : ℕ} {s : State} {p q : ProofParts} (m : Tables) (y : Context A) (c : ComesTo k s p q (spaces_with m y)) (n : ℕ) (now : Option OpenProof) where
   pub comes-fits : SpacesFit (spaces_with m y) (after-solve c.told c.verdict n now s)

@@ -113,7 +113,7 @@ verdict-moved id id' m m' outcome.Unsat (UnsatUnderAssumptions core) h f = f
 verdict-moved id id' m m' (outcome.UnsatUnder found) Unknown h f = f
 verdict-moved id id' m m' (outcome.UnsatUnder found) (Sat a) h f = f
 verdict-moved id id' m m' (outcome.UnsatUnder found) Unsat h f = f
-verdict-moved id id' m m' (outcome.UnsatUnder found) (UnsatUnderAssumptions core) h f = tt
+verdict-moved id id' m m' (outcome.UnsatUnder found) (UnsatUnderAssumptions core) h f = f
 
 -- what the search says
 

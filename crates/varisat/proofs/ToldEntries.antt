@@ -1,16 +1,23 @@
 -- What is told further, and what it makes of what was told.
-use Rattle.std.proofs.Common.{◌≡◌, ℕ, ◌+◌, ◌≤◌, Bool, false, List, [], ◌∷◌, ◌++◌, inl, sym, ap, ◌∙◌, subst, refl, append_assoc, arith}
+use Rattle.std.proofs.Common.{◌≡◌, ℕ, ◌+◌, ◌≤◌, Bool, false, List, [], ◌∷◌, ◌++◌, inl, sym, ap, ◌∙◌, subst, refl, map, append_assoc, arith}
 use Rattle.std.proofs.lemmas.List.{append-nil}
-use Rattle.varisat_theory.specs.Literals.{Literal, Clause}
-use Rattle.varisat_theory.specs.Derivations.{Line}
+use Rattle.varisat_theory.specs.Membership.{◌∈◌, ◌⊆◌}
+use Rattle.varisat_theory.specs.Literals.{Literal, Clause, Assignment, variable_of, SatisfiesAll}
+use Rattle.varisat_theory.specs.Derivations.{Line, Add, Delete, SpeakOf}
+use Rattle.varisat_theory.specs.Renaming.{rename_line}
 use Rattle.varisat_theory.specs.Counted.{added}
 use Rattle.varisat_theory.specs.Held.{without}
-use Rattle.varisat_theory.specs.Journals.{Entry, Accepts, Assumes, Leaves, Fails, accepted_of, lines_of, written, GoesOn}
-use Rattle.varisat_theory.proofs.Journals.{goes_on_further, accepted_append, lines_append, stays_append, written_accepts, written_stays}
+use Rattle.varisat_theory.specs.Journals.{Entry, Accepts, Writes, Assumes, Leaves, Fails, Leads, accepted_of, lines_of, written, GoesOn}
+use Rattle.varisat_theory.proofs.Journals.{goes_on_further, accepted_append, lines_append, stays_append, written_accepts, written_lines, written_stays}
 use Rattle.varisat_theory.specs.Outcomes.{Outcome}
 use Rattle.varisat_theory.specs.Outcomes as outcome
+use Rattle.varisat_theory.proofs.Members.{∈-append_right}
+use Rattle.varisat_theory.proofs.HeldDrops.{without_less}
+use Rattle.varisat_theory.proofs.Renaming.{map-∈}
+use Rattle.varisat_theory.proofs.Sound.{conflicts_sound}
+use Rattle.varisat_theory.proofs.Spoken.{spoken_join, spoken_wider}
 use Rattle.varisat_theory.proofs.StepStands.{added_append}
-use Rattle.varisat.specs.Spaces.{IsTold}
+use Rattle.varisat.specs.Spaces.{IsCounted, IsTold}
 use Rattle.varisat.proofs.ReachedHeld.{leaving}
 use Rattle.varisat.specs.Journals.{TellsMore, TellsLeaving}
 
@@ -64,37 +71,51 @@ leaves-goes told v held d = (without v held, (without v held, refl, inl (tt, ref
 pub assumes-goes : (told : List Entry) (a : List Literal) → GoesOn 0 told (Assumes a ∷ [])
 assumes-goes told a held d = (held, (held, refl, inl (tt, refl)))
 
--- of the accepted clauses, and of whether variables left
+-- of the accepted clauses, of what lines are over, and of whether variables left
 
-pub told-written : (told : List Entry) (P : List Clause) (hidden : Bool) (lines : List Line) → IsTold told P hidden → IsTold (told ++ written lines) P hidden
-told-written told P hidden lines t = record {
+-- no line is told
+quietly : (told : List Entry) (C : List ℕ) (e : Entry) → lines_of (e ∷ []) ≡ [] → SpeakOf (IsCounted C) (lines_of told) → SpeakOf (IsCounted C) (lines_of (told ++ e ∷ []))
+quietly told C e none spoken = subst (SpeakOf (IsCounted C)) (sym (lines_append told (e ∷ []) ∙ ap (λ ls. lines_of told ++ ls) none ∙ append-nil (lines_of told))) spoken
+
+pub told-written : (told : List Entry) (P : List Clause) (C : List ℕ) (hidden : Bool) (lines : List Line) → SpeakOf (IsCounted C) lines → IsTold told P C hidden → IsTold (told ++ written lines) P C hidden
+told-written told P C hidden lines s t = record {
   accepted = accepted_append told (written lines) ∙ ap (λ x. accepted_of told ++ x) (written_accepts lines) ∙ append-nil (accepted_of told) ∙ t.accepted;
+  spoken = subst (SpeakOf (IsCounted C)) (sym (lines_append told (written lines) ∙ ap (λ ls. lines_of told ++ ls) (written_lines lines))) (spoken_join (IsCounted C) (lines_of told) lines t.spoken s);
   stays = λ e. stays_append told (written lines) (t.stays e) (written_stays lines);
 }
 
-pub told-accepted : (told : List Entry) (P : List Clause) (hidden : Bool) (c : Clause) → IsTold told P hidden → IsTold (told ++ Accepts c ∷ []) (P ++ c ∷ []) hidden
-told-accepted told P hidden c t = record {
+pub told-accepted : (told : List Entry) (P : List Clause) (C : List ℕ) (hidden : Bool) (c : Clause) → IsTold told P C hidden → IsTold (told ++ Accepts c ∷ []) (P ++ c ∷ []) C hidden
+told-accepted told P C hidden c t = record {
   accepted = accepted_append told (Accepts c ∷ []) ∙ ap (λ x. x ++ c ∷ []) t.accepted;
+  spoken = quietly told C (Accepts c) refl t.spoken;
   stays = λ e. stays_append told (Accepts c ∷ []) (t.stays e) tt;
 }
 
-pub told-assumed : (told : List Entry) (P : List Clause) (hidden : Bool) (a : List Literal) → IsTold told P hidden → IsTold (told ++ Assumes a ∷ []) P hidden
-told-assumed told P hidden a t = record {
+pub told-assumed : (told : List Entry) (P : List Clause) (C : List ℕ) (hidden : Bool) (a : List Literal) → IsTold told P C hidden → IsTold (told ++ Assumes a ∷ []) P C hidden
+told-assumed told P C hidden a t = record {
   accepted = accepted_append told (Assumes a ∷ []) ∙ append-nil (accepted_of told) ∙ t.accepted;
+  spoken = quietly told C (Assumes a) refl t.spoken;
   stays = λ e. stays_append told (Assumes a ∷ []) (t.stays e) tt;
 }
 
-pub told-failed : (told : List Entry) (P : List Clause) (hidden : Bool) (core : List Literal) → IsTold told P hidden → IsTold (told ++ Fails core ∷ []) P hidden
-told-failed told P hidden core t = record {
+pub told-failed : (told : List Entry) (P : List Clause) (C : List ℕ) (hidden : Bool) (core : List Literal) → IsTold told P C hidden → IsTold (told ++ Fails core ∷ []) P C hidden
+told-failed told P C hidden core t = record {
   accepted = accepted_append told (Fails core ∷ []) ∙ append-nil (accepted_of told) ∙ t.accepted;
+  spoken = quietly told C (Fails core) refl t.spoken;
   stays = λ e. stays_append told (Fails core ∷ []) (t.stays e) tt;
 }
 
-pub told-left : (told : List Entry) (P : List Clause) (hidden : Bool) (v : ℕ) → (hidden ≡ false → ⊥) → IsTold told P hidden → IsTold (told ++ Leaves v ∷ []) P hidden
-told-left told P hidden v n t = record {
+pub told-left : (told : List Entry) (P : List Clause) (C : List ℕ) (hidden : Bool) (v : ℕ) → (hidden ≡ false → ⊥) → IsTold told P C hidden → IsTold (told ++ Leaves v ∷ []) P C hidden
+told-left told P C hidden v n t = record {
   accepted = accepted_append told (Leaves v ∷ []) ∙ append-nil (accepted_of told) ∙ t.accepted;
+  spoken = quietly told C (Leaves v) refl t.spoken;
   stays = λ e. absurd (n e);
 }
+
+-- more identities are counted
+pub told-counted : (told : List Entry) (P : List Clause) (C D : List ℕ) (hidden : Bool) → C ⊆ D → IsTold told P C hidden → IsTold told P D hidden
+told-counted told P C D hidden m t =
+    record { accepted = t.accepted; spoken = spoken_wider (IsCounted C) (IsCounted D) (lines_of told) (λ l h. m (variable_of l) h) t.spoken; stays = t.stays }
 
 pub leaving-goes : (told : List Entry) (v : Outcome) (i : ℕ) → GoesOn 0 told (leaving v i)
 leaving-goes told outcome.Unknown i = leaves-goes told i
@@ -102,8 +123,31 @@ leaving-goes told (outcome.Sat found) i = leaves-goes told i
 leaving-goes told outcome.Unsat i = λ held d. (held, refl)
 leaving-goes told (outcome.UnsatUnder core) i = leaves-goes told i
 
-pub leaving-told : (told : List Entry) (P : List Clause) (hidden : Bool) (v : Outcome) (i : ℕ) → (hidden ≡ false → ⊥) → IsTold told P hidden → IsTold (told ++ leaving v i) P hidden
-leaving-told told P hidden outcome.Unknown i n t = told-left told P hidden i n t
-leaving-told told P hidden (outcome.Sat found) i n t = told-left told P hidden i n t
-leaving-told told P hidden outcome.Unsat i n t = subst (λ x. IsTold x P hidden) (sym (append-nil told)) t
-leaving-told told P hidden (outcome.UnsatUnder core) i n t = told-left told P hidden i n t
+pub leaving-told : (told : List Entry) (P : List Clause) (C : List ℕ) (hidden : Bool) (v : Outcome) (i : ℕ) → (hidden ≡ false → ⊥) → IsTold told P C hidden → IsTold (told ++ leaving v i) P C hidden
+leaving-told told P C hidden outcome.Unknown i n t = told-left told P C hidden i n t
+leaving-told told P C hidden (outcome.Sat found) i n t = told-left told P C hidden i n t
+leaving-told told P C hidden outcome.Unsat i n t = subst (λ x. IsTold x P C hidden) (sym (append-nil told)) t
+leaving-told told P C hidden (outcome.UnsatUnder core) i n t = told-left told P C hidden i n t
+
+-- Lines under other names are over the identities that these lead to.
+pub spoken-renamed : (are may : Literal → Type 0) (f : Literal → Literal) (lines : List Line) → ((l : Literal) → are l → may (f l)) → SpeakOf are lines → SpeakOf may (map (rename_line f) lines)
+spoken-renamed are may f [] w p = tt
+spoken-renamed are may f (Add c ∷ lines) w (s, p) =
+    ((λ l h. let (m, i, e) = map-∈ f l c h in subst may (sym e) (w m (s m i))), spoken-renamed are may f lines w p)
+spoken-renamed are may f (Delete c ∷ lines) w (s, p) =
+    ((λ l h. let (m, i, e) = map-∈ f l c h in subst may (sym e) (w m (s m i))), spoken-renamed are may f lines w p)
+
+-- Where nothing was accepted no line is told that is over no variable: from nothing no contradiction follows, and none is there to be
+-- deleted.
+pub unspoken : (P : List Clause) (es : List Entry) (Q : List Clause) (a : Assignment) → SatisfiesAll a P → Leads P es Q → accepted_of es ≡ [] → SpeakOf (λ l. ⊥) (lines_of es) → lines_of es ≡ []
+unspoken P [] Q a m d e s = refl
+unspoken P (Accepts c ∷ es) Q a m d e s = absurd cc
+unspoken P (Writes (Add []) ∷ es) Q a m (R, (f, q), d) e s = absurd (conflicts_sound P [] a m (λ l h. absurd h) f)
+unspoken P (Writes (Add (l ∷ c)) ∷ es) Q a m d e (s, p) = absurd (s l (inl refl))
+unspoken P (Writes (Delete []) ∷ es) Q a m (R, (front, x, back, i, o, f), d) e s =
+    let (l, h, t) = m x (subst (λ y. x ∈ y) (sym i) (∈-append_right x front (x ∷ back) (inl refl))) in
+    absurd (o.0 l h)
+unspoken P (Writes (Delete (l ∷ c)) ∷ es) Q a m d e (s, p) = absurd (s l (inl refl))
+unspoken P (Assumes b ∷ es) Q a m (R, q, d) e s = unspoken R es Q a (subst (SatisfiesAll a) (sym q) m) d e s
+unspoken P (Fails core ∷ es) Q a m (R, (k, q), d) e s = unspoken R es Q a (subst (SatisfiesAll a) (sym q) m) d e s
+unspoken P (Leaves v ∷ es) Q a m (R, q, d) e s = unspoken R es Q a (subst (SatisfiesAll a) (sym q) (λ c h. m c (without_less v P c h))) d e s

@@ -1,18 +1,22 @@
 -- What was told as a whole.
-use Rattle.std.proofs.Common.{◌≡◌, true, Some, List, [], subst}
-use Rattle.varisat_theory.specs.Literals.{Clause}
-use Rattle.varisat_theory.specs.Derivations.{IsDerivation, Refutes}
+use Rattle.std.proofs.Common.{◌≡◌, ◌∙◌, ℕ, Bool, true, false, Option, Some, List, [], ◌∷◌, inl, refl, subst}
+use Rattle.varisat_theory.specs.Membership.{◌∈◌, ◌⊆◌}
+use Rattle.varisat_theory.specs.Literals.{Literal, Clause, variable_of}
+use Rattle.varisat_theory.specs.Derivations.{IsDerivation, Refutes, SpeakOf}
 use Rattle.varisat_theory.specs.Journals.{Leads, lines_of}
 use Rattle.varisat_theory.specs.Outcomes.{Outcome}
 use Rattle.varisat_theory.specs.Outcomes as outcome
 use Rattle.varisat_theory.proofs.Lines.{derives_derivation}
 use Rattle.varisat_theory.proofs.Journals.{leads_derives, leads_refutes}
-use Rattle.varisat.specs.States.{State}
+use Rattle.varisat.specs.States.{State, Verdict, Unknown, Sat, Unsat, UnsatUnderAssumptions, IsRight}
+use Rattle.varisat.specs.Calls.{answer_of}
 use Rattle.varisat.specs.Journals.{IsJournal}
-use Rattle.varisat.specs.OpenProofs.{OpenProof, IsWrittenAs, IsWrittenIf}
-use Rattle.varisat.specs.ProofCalls.{IsProofOf}
-use Rattle.varisat.specs.Spaces.{Translation, HeldFits, without_core}
+use Rattle.varisat.specs.OpenProofs.{OpenProof, IsOpen, IsWrittenAs, IsWrittenIf}
+use Rattle.varisat.specs.ProofCalls.{HasProof}
+use Rattle.varisat.specs.Spaces.{Translation, IsCounted, HeldFits, VerdictFits, without_core}
 use Rattle.varisat.specs.Summaries.{Summary, spaces, StandsFor}
+use Rattle.varisat_theory.proofs.Spoken.{spoken_wider}
+use Rattle.varisat.proofs.ToldEntries.{unspoken}
 use Rattle.varisat.proofs.SolverCalls.{told-refuted}
 
 led-of : (r : Translation) (share : List Clause) (o : Outcome) → HeldFits r share (without_core o) → (held : List Clause) × Leads [] r.told held
@@ -39,13 +43,41 @@ journal-of g s st v =
           subst (λ P. Refutes P (lines_of s.told)) k.told.accepted (leads_refutes [] s.told all (k.told.stays e) on conflict);
     }
 
+-- Before anything was accepted no line was told.
+pub no-lines : (g : Summary) (s : State) → StandsFor g s → g.ledger.valid ≡ true → s.ledger.started ≡ false → lines_of s.told ≡ []
+no-lines g s st v fresh =
+    let (w, k) = st.fits v in
+    let (held, led) = led-of _ k.holds.held (spaces g).outcome k.holds.told in
+    let none : SpeakOf (λ l. ⊥) (lines_of s.told) = spoken_wider (IsCounted s.counted) (λ l. ⊥) (lines_of s.told) (λ l h. subst (λ is. variable_of l ∈ is) ((st.flags v).counted fresh) h) k.told.spoken in
+    unspoken [] s.told held (λ i. false) (λ c h. absurd h) led (k.told.accepted ∙ (st.flags v).clauses fresh) none
+
+-- Where a proof is open no assumption is one of a core, so that the answer false comes from the clauses alone.
+pub open-refuted : (g : Summary) (s : State) → StandsFor g s → g.ledger.valid ≡ true → IsOpen s.proof → answer_of s.verdict ≡ Some false → s.verdict ≡ Unsat
+open-refuted g s st v o e =
+    let (w, k) = st.fits v in
+    go (spaces g).outcome s.verdict e w.identity (spaces g).model k.verdict (subst (λ (as' : List Literal). IsRight s.clauses as' s.counted s.verdict) ((st.flags v).unassumed o) k.right)
+  where
+    none : (core : List Literal) → core ⊆ [] → core ≡ []
+    none [] h = refl
+    none (l ∷ core) h = absurd (h l (inl refl))
+
+    go : (x : Outcome) (y : Verdict) → answer_of y ≡ Some false → (id : ℕ → Option ℕ) (m : ℕ → Bool) → VerdictFits id m x y → IsRight s.clauses [] s.counted y → y ≡ Unsat
+    go x Unknown e id m f r = absurd cc
+    go x (Sat a) e id m f r = absurd (let z : true ≡ false = cc in cc)
+    go x Unsat e id m f r = refl
+    go outcome.Unknown (UnsatUnderAssumptions core) e id m f r = absurd f
+    go (outcome.Sat found) (UnsatUnderAssumptions core) e id m f r = absurd f
+    go outcome.Unsat (UnsatUnderAssumptions core) e id m f r = absurd f
+    go (outcome.UnsatUnder found) (UnsatUnderAssumptions core) e id m f r = absurd (f (none core r.0))
+
 -- the bytes of a proof
-pub proof-of : (s : State) (p : OpenProof) → IsJournal s → s.proof ≡ Some p → IsProofOf s p
-proof-of s p j e =
+pub proof-of : (g : Summary) (s : State) → StandsFor g s → g.ledger.valid ≡ true → HasProof s
+proof-of g s st v p e =
+    let j = journal-of g s st v in
     let w : IsWrittenAs s.ever_hidden s.told p = subst (IsWrittenIf s.ever_hidden s.told) e j.written in
     record {
       lines = w.lines;
-      bytes = w.bytes;
-      derives = λ h. subst (IsDerivation s.clauses) (w.told_since h) (j.derives h);
-      refutes = λ h u. subst (Refutes s.clauses) (w.told_since h) (j.refutes h u);
+      written = w.bytes;
+      derives = λ h. subst (IsDerivation s.clauses) (w.all h) (j.derives h);
+      refutes = λ h a. subst (Refutes s.clauses) (w.all h) (j.refutes h (open-refuted g s st v (p, e) a));
     }

@@ -1,5 +1,6 @@
 pub mod Names
 pub mod OpenProofs
+pub mod ProofBytes
 pub mod ProofCalls
 pub mod States
 pub mod Models

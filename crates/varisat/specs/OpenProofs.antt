@@ -10,15 +10,13 @@ use Rattle.varisat_proof.specs.Steps.{lines_written}
 use Rattle.varisat_proof.specs.Proving.{OpenState}
 
 -- `format`: how its lines are written. `faults`: how often the target failed in all. `first`: the bytes that the target had when
--- the proof was opened, and `bytes`: those since then. `searched`: whether `solve` was called since it was opened. `before`: what
--- was told before it was opened.
+-- the proof was opened, and `bytes`: those since then. `searched`: whether `solve` was called since it was opened.
 pub record OpenProof : Type 0 where
   pub format : ProofFormat
   pub faults : ℕ
   pub first : List ℕ
   pub bytes : List ℕ
   pub searched : Bool
-  pub before : List Entry
 
 -- what the target of an open proof took: what it had before, and the bytes of the proof
 abbrev pub taken_of : OpenProof → Taken
@@ -39,12 +37,12 @@ IsDrat Drat = Unit {0}
 IsDrat BinaryDrat = Unit {0}
 IsDrat Marked = ⊥
 
--- The bytes are those of lines. As long as nothing was ever hidden these are the lines that were told since the proof was opened.
+-- The bytes are those of lines. As long as nothing was ever hidden these are all lines that were told: before a proof opens none is.
 pub record IsWrittenAs (hidden : Bool) (told : List Entry) (p : OpenProof) : Type 0 where
   pub drat : IsDrat p.format
   pub lines : List Line
   pub bytes : p.bytes ≡ lines_written (encoding_of p.format) (plain_lines lines)
-  pub told_since : hidden ≡ false → lines_of told ≡ lines_of p.before ++ lines
+  pub all : hidden ≡ false → lines_of told ≡ lines
 
 -- so it is where a proof is open
 abbrev pub IsWrittenIf : Bool → List Entry → Option OpenProof → Type 0
@@ -75,7 +73,6 @@ abbrev pub searched_under : Option OpenProof → Option OpenProof
 searched_under None = None
 searched_under (Some p) = Some (record p { searched = true })
 
--- a proof that was just opened: its target has what it had, and this was told before
-abbrev pub first_proof : ProofFormat → Taken → List Entry → OpenProof
-first_proof format taken told =
-    record { format = format; faults = taken.faults; first = taken.bytes; bytes = []; searched = false; before = told }
+-- a proof that was just opened: its target has what it had
+abbrev pub first_proof : ProofFormat → Taken → OpenProof
+first_proof format taken = record { format = format; faults = taken.faults; first = taken.bytes; bytes = []; searched = false }

@@ -1,5 +1,5 @@
 -- What the calls of a new solver and their answers say so far, and how a call moves it: no state of the solver is spoken of.
-use Rattle.std.specs.Prelude.{◌≡◌, ℕ, ◌+◌, ◌-◌, ◌<◌, ◌≤◌, Bool, true, false, Option, Some, None, List, [], ◌∷◌, ◌++◌, Result, Ok, Err, map, length, ◌⊎◌, is_some}
+use Rattle.std.specs.Prelude.{◌≡◌, ℕ, ◌+◌, ◌-◌, ◌<◌, ◌≤◌, Bool, true, false, Option, Some, None, List, [], ◌∷◌, ◌++◌, Result, Ok, Err, map, length, ◌⊎◌}
 use Rattle.std.specs.declared.alloc.AllocError.{AllocError}
 use Rattle.varisat_theory.specs.Literals.{Literal, Clause, variable_of, IsSatisfiable, IsSatisfiableWith, IsFailedCore}
 use Rattle.varisat_formula.specs.Streams.{Stand, Taken}
@@ -8,6 +8,7 @@ use Rattle.varisat_names.specs.declared.config.SolverConfigUpdate.{SolverConfigU
 use Rattle.varisat_names.specs.Settings.{Settings, default_settings, updated_settings}
 use Rattle.varisat.specs.Names.{Naming, no_names, name_one, name_all, through_names, IsLeastFree, IsFirstWitness}
 use Rattle.varisat.specs.States.{join_counted}
+use Rattle.varisat.specs.ProofBytes.{AreBytesOfProof}
 use Rattle.varisat.specs.Budgets.{CountsSteps}
 use Rattle.varisat.specs.Models.{IsCompletable, AreNamesInUse}
 use Rattle.varisat.specs.Calls.{IsPastLimit, MayConstrain, IsCrowded}
@@ -17,19 +18,26 @@ use Rattle.varisat.specs.declared.solver.SolverError.{SolverError}
 use Rattle.varisat.specs.declared.solver.SolverError.TheVariants.{Interrupted, ProofIoError, OutOfMemory, Invalid, ClauseStoreFull, WitnessVar, VariableLimit, ClauseAfterSolve, ProofOpen, ProofTooLate}
 use Rattle.varisat_literals.specs.Numbers.{variable_limit}
 
+-- An open proof: its format, the bytes that its target had when it was opened, and whether `solve` was called under it.
+pub record PastProof : Type 0 where
+  pub format : ProofFormat
+  pub first : List ℕ
+  pub searched : Bool
+
 -- Clauses and assumptions are kept over identities, as the names that were in use carried them when they were given: a name that
 -- becomes free may come back for another variable, and what was said before still speaks of the first.
 --
 -- `valid`: no call failed from which there is no way back. `started`: a clause, a variable or a list of assumptions was accepted.
--- `naming`: which identity each name has. `clauses` were accepted, and `assumptions` given last. `counted`: the different
--- identities that these clauses and all lists of assumptions so far name. `has_model`: `solve` returned true, and no clause was
--- accepted and nothing assumed since. `has_core`: it returned false, and nothing was assumed since. `steps`: how many steps were
--- made in all. `since`: how many of them since the last call that was not refused and did more than to solve or to tell something.
--- `settings`: those by which further steps are made. `proof`: of an open proof, whether `solve` was called under it.
+-- `naming`: which identity each name has. `ever_hidden`: a variable was hidden. `clauses` were accepted, and `assumptions` given
+-- last. `counted`: the different identities that these clauses and all lists of assumptions so far name. `has_model`: `solve`
+-- returned true, and no clause was accepted and nothing assumed since. `has_core`: it returned false, and nothing was assumed
+-- since. `steps`: how many steps were made in all. `since`: how many of them since the last call that was not refused and did more
+-- than to solve or to tell something. `settings`: those by which further steps are made. `proof`: the proof that is open.
 pub record Past : Type 0 where
   pub valid : Bool
   pub started : Bool
   pub naming : Naming
+  pub ever_hidden : Bool
   pub clauses : List Clause
   pub assumptions : List Literal
   pub counted : List ℕ
@@ -38,7 +46,7 @@ pub record Past : Type 0 where
   pub steps : ℕ
   pub since : ℕ
   pub settings : Settings
-  pub proof : Option Bool
+  pub proof : Option PastProof
 
 -- before the first call
 abbrev pub empty_past : Past
@@ -46,6 +54,7 @@ empty_past = record {
   valid = true;
   started = false;
   naming = no_names;
+  ever_hidden = false;
   clauses = [];
   assumptions = [];
   counted = [];
@@ -67,7 +76,7 @@ Invalidates p q = (p.valid ≡ true) × (q ≡ record p { valid = false })
 
 -- a proof is open
 abbrev pub HasOpenProof : Past → Type 0
-HasOpenProof p = (searched : Bool) × (p.proof ≡ Some searched)
+HasOpenProof p = (o : PastProof) × (p.proof ≡ Some o)
 
 -- steps are counted anew
 abbrev pub count_anew : Past → Past
@@ -89,7 +98,7 @@ accept c p =
 
 -- `solve` was called under an open proof
 abbrev pub IsSearched : Past → Type 0
-IsSearched p = p.proof ≡ Some true
+IsSearched p = (o : PastProof) × (p.proof ≡ Some o) × (o.searched ≡ true)
 
 -- A clause is taken: it is accepted; or nothing changes, but that steps are counted anew; this happens only once no assignment satisfies those before it.
 pub data TakesClause (p : Past) (c : Clause) (q : Past) : Type 0 where
@@ -105,7 +114,7 @@ AddsClause p c (Err VariableLimit) q = (p.valid ≡ true) × (IsSearched p → �
 AddsClause p c (Err (WitnessVar u)) q = (p.valid ≡ true) × (IsSearched p → ⊥) × (IsPastLimit c → ⊥) × IsFirstWitness p.naming c u × (q ≡ p)
 AddsClause p c (Err OutOfMemory) q = (IsSearched p → ⊥) × MayConstrain p.naming c × Invalidates p q
 AddsClause p c (Err ClauseStoreFull) q = (IsSearched p → ⊥) × MayConstrain p.naming c × Invalidates p q
-AddsClause p c (Err (ProofIoError cause)) q = (p.proof ≡ Some false) × MayConstrain p.naming c × Invalidates p q
+AddsClause p c (Err (ProofIoError cause)) q = HasOpenProof p × (IsSearched p → ⊥) × MayConstrain p.naming c × Invalidates p q
 AddsClause p c (Err _) q = ⊥
 
 -- how clauses are added one by one, for lists and texts of them
@@ -128,7 +137,7 @@ MakesVar p (Err VariableLimit) q = (p.valid ≡ true) × ((u : ℕ) × IsLeastFr
 MakesVar p (Err OutOfMemory) q = Invalidates p q
 MakesVar p (Err _) q = ⊥
 
--- how calls move names and modes: a past doesn't tell whether a name was ever hidden
+-- how calls move names and modes
 abbrev pub named : usage.Named Past
 named = record {
   valid = is_valid;
@@ -136,7 +145,7 @@ named = record {
   clauses = λ p. p.clauses;
   assumptions = λ p. p.assumptions;
   with_naming = λ m p. record p { naming = m; since = 0 };
-  once_hidden = λ p. p;
+  once_hidden = λ p. record p { ever_hidden = true };
   like = λ p q. q ≡ p;
   invalidates = Invalidates;
 }
@@ -171,10 +180,10 @@ pub record IsUndecided (p : Past) : Type 0 where
   pub no_model : p.has_model ≡ false
   pub no_core : p.has_core ≡ false
 
--- of an open proof, that `solve` was called under it
-abbrev pub searched_under : Option Bool → Option Bool
+-- the open proof, if any, as one under which `solve` was called
+abbrev pub searched_under : Option PastProof → Option PastProof
 searched_under None = None
-searched_under (Some searched) = Some true
+searched_under (Some o) = Some (record o { searched = true })
 
 -- how the steps are counted that a call makes before the verdict is known, by its answer
 abbrev pub CountsCall : Past → Result Bool SolverError → Past → Type 0
@@ -231,13 +240,13 @@ TellsCore p (Err _) q = (p.valid ≡ true) × (p.has_model ≡ false) × (q ≡ 
 abbrev pub with_update : SolverConfigUpdate → Past → Past
 with_update u p = record p { since = 0; settings = updated_settings p.settings u }
 
--- a proof is open, under which no search came to its end
-abbrev pub opened : Past → Past
-opened p = record p { proof = Some false; since = 0 }
+-- a proof is open now, whose target has these bytes
+abbrev pub opened : ProofFormat → List ℕ → Past → Past
+opened format first p = record p { proof = Some (record { format = format; first = first; searched = false }); since = 0 }
 
 -- A proof opens before anything is accepted. Each refusal hands the target back, and changes nothing.
 abbrev pub ProofOpens : {W : Type 0} → (W → Taken) → W → ProofFormat → Past → Result (Unit {0}) (SolverError × W) → Past → Type 0
-ProofOpens taken target format p (Ok _) q = (p.valid ≡ true) × (p.proof ≡ None) × (p.started ≡ false) × (q ≡ opened p)
+ProofOpens taken target format p (Ok _) q = (p.valid ≡ true) × (p.proof ≡ None) × (p.started ≡ false) × (q ≡ opened format (taken target).bytes p)
 ProofOpens taken target format p (Err (Invalid, back)) q = (back ≡ target) × (p.valid ≡ false) × (q ≡ p)
 ProofOpens taken target format p (Err (ProofOpen, back)) q = (back ≡ target) × (p.valid ≡ true) × HasOpenProof p × (q ≡ p)
 ProofOpens taken target format p (Err (ProofTooLate, back)) q = (back ≡ target) × (p.valid ≡ true) × (p.proof ≡ None) × (p.started ≡ true) × (q ≡ p)
@@ -247,8 +256,22 @@ ProofOpens taken target format p (Err _) q = ⊥
 abbrev pub closed : Past → Past
 closed p = record p { proof = None; since = 0 }
 
--- A target comes back just where a proof is open, also where it can't be flushed. Nothing is told of what an invalid solver hands back.
+-- What a target took is what it had when the open proof was opened, and behind it the bytes of lines. As long as nothing was ever
+-- hidden these lines are a derivation from the accepted clauses, and where `solve` returned false last they refute them.
+pub record HandsBack (p : Past) (taken : List ℕ) : Type 0 where
+  pub opened : PastProof
+  pub is_open : p.proof ≡ Some opened
+  pub bytes : List ℕ
+  pub behind : taken ≡ opened.first ++ bytes
+  pub proof : AreBytesOfProof opened.format bytes p.ever_hidden p.clauses (p.has_core ≡ true)
+
+-- where a proof is open its target comes back, and else none
+abbrev pub HandsBackIf : {W : Type 0} → (W → Taken) → Past → Option W → Type 0
+HandsBackIf taken p None = p.proof ≡ None
+HandsBackIf taken p (Some target) = HandsBack p (taken target).bytes
+
+-- The target of the open proof comes back, also where it can't be flushed. Nothing is told of what an invalid solver hands back.
 abbrev pub ProofCloses : {W : Type 0} → (W → Taken) → Past → Result (Option W) (SolverError × W) → Past → Type 0
-ProofCloses taken p (Ok back) q = (p.valid ≡ true → is_some back ≡ is_some p.proof) × (q ≡ closed p)
-ProofCloses taken p (Err (ProofIoError cause, target)) q = HasOpenProof p × Invalidates p q
+ProofCloses taken p (Ok back) q = (p.valid ≡ true → HandsBackIf taken p back) × (q ≡ closed p)
+ProofCloses taken p (Err (ProofIoError cause, target)) q = HandsBack p (taken target).bytes × Invalidates p q
 ProofCloses taken p (Err _) q = ⊥

@@ -1,15 +1,12 @@
 -- Which answer and which new state the calls give that open and close a proof.
-use Rattle.std.specs.Prelude.{◌≡◌, true, false, Option, Some, None, List, ◌++◌, Result, Ok, Err}
-use Rattle.varisat_theory.specs.Derivations.{Line, IsDerivation, Refutes}
-use Rattle.varisat_theory.specs.Journals.{lines_of}
+use Rattle.std.specs.Prelude.{◌≡◌, true, false, Option, Some, None, Result, Ok, Err}
 use Rattle.varisat_formula.specs.Streams.{Taken}
 use Rattle.varisat_proof.specs.declared.proof.format.ProofFormat.{ProofFormat}
-use Rattle.varisat_proof.specs.Lines.{encoding_of, plain_lines}
-use Rattle.varisat_proof.specs.Steps.{lines_written}
 use Rattle.varisat_proof.specs.Proving.{IsClosed}
 use Rattle.varisat.specs.OpenProofs.{OpenProof, opened_state, IsOpen, first_proof}
-use Rattle.varisat.specs.States.{State, Unsat}
-use Rattle.varisat.specs.Calls.{IsValid, Invalidates, IsRefusedInvalid, count_anew}
+use Rattle.varisat.specs.ProofBytes.{AreBytesOfProof}
+use Rattle.varisat.specs.States.{State}
+use Rattle.varisat.specs.Calls.{IsValid, Invalidates, IsRefusedInvalid, count_anew, answer_of}
 use Rattle.varisat.specs.declared.solver.SolverError.{SolverError}
 use Rattle.varisat.specs.declared.solver.SolverError.TheVariants.{ProofIoError, Invalid, ProofOpen, ProofTooLate}
 
@@ -20,26 +17,24 @@ with_proof proof s = record s { proof = proof }
 -- A proof opens before anything is accepted, and has no bytes then. Each refusal hands the target back, and changes nothing.
 abbrev pub OpensProof : {W : Type 0} → (W → Taken) → W → ProofFormat → State → Result (Unit {0}) (SolverError × W) → State → Type 0
 OpensProof taken target format s (Ok _) t =
-    IsValid s × (s.proof ≡ None) × (s.ledger.started ≡ false) × (t ≡ count_anew (with_proof (Some (first_proof format (taken target) s.told)) s))
+    IsValid s × (s.proof ≡ None) × (s.ledger.started ≡ false) × (t ≡ count_anew (with_proof (Some (first_proof format (taken target))) s))
 OpensProof taken target format s (Err (Invalid, back)) t = (back ≡ target) × IsRefusedInvalid s t
 OpensProof taken target format s (Err (ProofOpen, back)) t = (back ≡ target) × IsValid s × IsOpen s.proof × (t ≡ s)
 OpensProof taken target format s (Err (ProofTooLate, back)) t = (back ≡ target) × IsValid s × (s.proof ≡ None) × (s.ledger.started ≡ true) × (t ≡ s)
 OpensProof taken target format s (Err _) t = ⊥
+
+-- The bytes of an open proof are those of lines. As long as nothing was ever hidden these are a derivation from the accepted
+-- clauses, and they refute them where the answer of `solve` is false.
+abbrev pub HasProof : State → Type 0
+HasProof s =
+    (p : OpenProof) → s.proof ≡ Some p → AreBytesOfProof p.format p.bytes s.ever_hidden s.clauses (answer_of s.verdict ≡ Some false)
 
 -- The target of the open proof comes back, with the bytes of the proof behind those that it had before, and nothing where none is
 -- open. It comes back too where it can't be flushed, which makes the solver invalid. What an invalid state says of its proof need
 -- not be true any more, so nothing is told of what comes back from it.
 abbrev pub ClosesProof : {W : Type 0} → (W → Taken) → State → Result (Option W) (SolverError × W) → State → Type 0
 ClosesProof taken s (Ok back) t =
-    (IsValid s → IsClosed {E = SolverError} taken (opened_state s.proof) (Ok back)) × (t ≡ count_anew (with_proof None s))
+    (IsValid s → IsClosed {E = SolverError} taken (opened_state s.proof) (Ok back) × HasProof s) × (t ≡ count_anew (with_proof None s))
 ClosesProof taken s (Err (ProofIoError cause, target)) t =
-    IsClosed taken (opened_state s.proof) (Err (ProofIoError cause, target)) × Invalidates s t
+    IsClosed taken (opened_state s.proof) (Err (ProofIoError cause, target)) × HasProof s × Invalidates s t
 ClosesProof taken s (Err _) t = ⊥
-
--- The bytes of an open proof are those of lines. As long as nothing was ever hidden these are, behind the lines that were told
--- before it was opened, a derivation from the accepted clauses, which refutes them under Unsat.
-pub record IsProofOf (s : State) (p : OpenProof) : Type 0 where
-  pub lines : List Line
-  pub bytes : p.bytes ≡ lines_written (encoding_of p.format) (plain_lines lines)
-  pub derives : s.ever_hidden ≡ false → IsDerivation s.clauses (lines_of p.before ++ lines)
-  pub refutes : s.ever_hidden ≡ false → s.verdict ≡ Unsat → Refutes s.clauses (lines_of p.before ++ lines)

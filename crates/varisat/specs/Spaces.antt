@@ -7,7 +7,8 @@ use Rattle.varisat_theory.specs.Membership.{◌∈◌, ◌⊆◌}
 use Rattle.varisat_theory.specs.Literals.{Literal, Clause, Assignment, variable_of, literal_of, IsUnit, SatisfiesAll, MakesTrue}
 use Rattle.varisat_theory.specs.Renaming.{rename}
 use Rattle.varisat_theory.specs.Held.{SameClauses}
-use Rattle.varisat_theory.specs.Journals.{Entry, Leads, accepted_of, NoneLeaves}
+use Rattle.varisat_theory.specs.Derivations.{SpeakOf}
+use Rattle.varisat_theory.specs.Journals.{Entry, Leads, accepted_of, lines_of, NoneLeaves}
 use Rattle.varisat_theory.specs.Searches.{Search, IsTautology, CoversBy, IsLiteralOf}
 use Rattle.varisat_theory.specs.Outcomes.{Outcome, Holds}
 use Rattle.varisat_theory.specs.Outcomes as outcome
@@ -179,21 +180,27 @@ without_core (outcome.Sat found) = outcome.Sat found
 without_core outcome.Unsat = outcome.Unsat
 without_core (outcome.UnsatUnder core) = outcome.Unknown
 
--- the verdict, and the model that was found with it
+-- the verdict, and the model that was found with it; a core is not empty
 abbrev pub VerdictFits : (ℕ → Option ℕ) → (ℕ → Bool) → Outcome → Verdict → Type 0
 VerdictFits identity model outcome.Unknown Unknown = Unit {0}
 VerdictFits identity model (outcome.Sat found) (Sat a) = (x i : ℕ) → identity x ≡ Some i → a i ≡ model x
 VerdictFits identity model outcome.Unsat Unsat = Unit {0}
-VerdictFits identity model (outcome.UnsatUnder found) (UnsatUnderAssumptions core) = Unit {0}
+VerdictFits identity model (outcome.UnsatUnder found) (UnsatUnderAssumptions core) = core ≢ []
 VerdictFits identity model _ _ = ⊥
 
 -- by way of global variables
 abbrev pub translation : Carrying → Spaces → List Entry → Translation
 translation w p told = record { identity = chain p.global_from_solver w.identity; global = w.global; forced = w.forced; told = told }
 
--- The accepted clauses are those that were told, in order; and no variable left as long as nothing was hidden.
-pub record IsTold (told : List Entry) (clauses : List Clause) (ever_hidden : Bool) : Type 0 where
+-- the literal is of a counted identity
+abbrev pub IsCounted : List ℕ → Literal → Type 0
+IsCounted counted l = variable_of l ∈ counted
+
+-- The accepted clauses are those that were told, in order; lines are over counted identities; and no variable left as long as
+-- nothing was hidden.
+pub record IsTold (told : List Entry) (clauses : List Clause) (counted : List ℕ) (ever_hidden : Bool) : Type 0 where
   pub accepted : accepted_of told ≡ clauses
+  pub spoken : SpeakOf (IsCounted counted) (lines_of told)
   pub stays : ever_hidden ≡ false → NoneLeaves told
 
 -- Each identity that was made is that of the global variable of its number, as long as none leaves.
@@ -226,7 +233,7 @@ pub record Links (w : Carrying) (p : Spaces) (s : State) : Type 0 where
   pub shown : s.ever_hidden ≡ false → (x : ℕ) → p.user_from_global x ≡ None → (p.kept x).deleted ≡ true
   -- and stands for the identity of its number
   pub plain : s.ever_hidden ≡ false → IsPlain w.identity s.naming.made
-  pub told : IsTold s.told s.clauses s.ever_hidden
+  pub told : IsTold s.told s.clauses s.counted s.ever_hidden
 
 -- the spaces stand for the state
 abbrev pub SpacesFit : Spaces → State → Type 0

@@ -5,7 +5,7 @@ use Rattle.varisat_theory.specs.Literals.{Literal, Clause, Assignment, variable_
 use Rattle.varisat_theory.specs.Journals.{Entry}
 use Rattle.varisat_names.specs.Settings.{Settings, default_settings}
 use Rattle.varisat.specs.Names.{Naming, no_names}
-use Rattle.varisat.specs.OpenProofs.{OpenProof}
+use Rattle.varisat.specs.OpenProofs.{OpenProof, IsOpen}
 
 -- What is known of the accepted clauses and the assumptions. Under `Sat` an assignment of the identities was found, under
 -- `UnsatUnderAssumptions` a failed core over identities.
@@ -79,6 +79,14 @@ pub record IsWellFormed (s : State) : Type 0 where
   pub assumed : (l : Literal) → l ∈ s.assumptions → variable_of l < s.naming.made
   pub counted : (i : ℕ) → i ∈ s.counted → i < s.naming.made
   pub once : IsDistinct s.counted
+
+-- What two flags say of the state: before anything was accepted there are no clauses and no assumptions, and nothing is counted;
+-- and while a proof is open nothing is assumed.
+pub record FlagsFit (s : State) : Type 0 where
+  pub clauses : s.ledger.started ≡ false → s.clauses ≡ []
+  pub assumptions : s.ledger.started ≡ false → s.assumptions ≡ []
+  pub counted : s.ledger.started ≡ false → s.counted ≡ []
+  pub unassumed : IsOpen s.proof → s.assumptions ≡ []
 
 -- What a verdict claims: an assignment that was found satisfies the clauses and the assumptions, and is false on each identity
 -- that is not counted; Unsat stands only where no assignment satisfies the clauses; and a core is one of the assumptions, which

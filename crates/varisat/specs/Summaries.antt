@@ -17,7 +17,7 @@ use Rattle.varisat_names.specs.Variables.{Tables}
 use Rattle.varisat_proof.specs.Proving.{OpenState, ProofParts, marked_searched}
 use Rattle.varisat.specs.OpenProofs.{ProofFits}
 use Rattle.varisat_tracer.specs.Tracing.{CanTell}
-use Rattle.varisat.specs.States.{State, Ledger}
+use Rattle.varisat.specs.States.{State, Ledger, FlagsFit}
 use Rattle.varisat.specs.Accepting.{AreBounded, DecidesInUse, IsAssumedSolver}
 use Rattle.varisat.specs.Models.{put_name}
 use Rattle.varisat.specs.Carried.{value_or}
@@ -99,6 +99,7 @@ pub record StandsFor (g : Summary) (s : State) : Type 0 where
   pub ledger : s.ledger ≡ g.ledger
   pub fits : g.ledger.valid ≡ true → SpacesFit (spaces g) s
   pub proof : g.ledger.valid ≡ true → ProofFits g.opened s.ever_hidden s.told s.proof
+  pub flags : g.ledger.valid ≡ true → FlagsFit s
 
 -- A search ends in a valid solver: an open proof is one under which `solve` was called. Where it can't be flushed the solver is invalid.
 abbrev pub EndsSearch : Summary → Result (Unit {0}) SolverError → Summary → Type 0

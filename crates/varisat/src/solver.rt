@@ -203,9 +203,9 @@ impl<W: ProofTarget, A: Allocator + Copy> Solver<W, A> {
     ghost use Rattle.varisat.specs.Told.{told_list, lent_list};
     ghost use Rattle.varisat.specs.Summaries.{StandsFor, EndsSearch};
     ghost use Rattle.varisat.specs.Journals.{IsJournal};
-    ghost use Rattle.varisat.specs.OpenProofs.{OpenProof, IsDrat};
+    ghost use Rattle.varisat.specs.OpenProofs.{IsDrat};
     ghost use Rattle.varisat_proof.specs.Proving.{IsClosed};
-    ghost use Rattle.varisat.specs.ProofCalls.{OpensProof, ClosesProof, IsProofOf};
+    ghost use Rattle.varisat.specs.ProofCalls.{OpensProof, ClosesProof};
 
     /// A solver with no clause. It takes no memory.
     pub fn new_in(alloc: A) -> Self
@@ -459,7 +459,6 @@ impl<W: ProofTarget, A: Allocator + Copy> Solver<W, A> {
         ensures call { (s : State) → StandsFor self.old s → (t : State) × ClosesProof W.taken s result t × StandsFor self.new t }
         // Also an invalid solver hands back just the target that it has, with what this took.
         ensures handed { IsClosed W.taken self.old.opened result }
-        ensures written { (s : State) → StandsFor self.old s → IsValid s → (p : OpenProof) → s.proof ≡ Some p → IsProofOf s p }
     {
         if self.ctx.solver_state.state_is_invalid {
             self.changed_at = self.ctx.schedule.steps();

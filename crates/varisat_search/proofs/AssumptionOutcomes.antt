@@ -47,7 +47,10 @@ pub keeps-core : (s t : View) (x y : AssumptionParts) → WellFormed s → Takes
 keeps-core s t x y w k (l, f, part) =
     keeps-taken s (UnsatUnder y.failed_core) x y w k
     (λ found g. absurd cc)
-    (λ c g m i. k.part m (part m (subst (λ d. m ∈ d) (sym (ap core-in g)) i)))
+    (λ c g. (
+      (λ m i. k.part m (part m (subst (λ d. m ∈ d) (sym (ap core-in g)) i))),
+      (λ e. subst (λ d. l ∈ d) (ap core-in g ∙ e) f.failed_in),
+    ))
 
 -- a clause was learned
 pub keeps-learned : (s t : View) (x y z : AssumptionParts) (core : List Literal) (b : SatState) → WellFormed s → TakesOutImplied s x y → IsSameList y z → (b ≡ verdict.Unknown) ⊎ (b ≡ verdict.Unsat) → KeepsAssumptions (search_of s) (outcome_of t core b) x z

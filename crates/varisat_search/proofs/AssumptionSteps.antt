@@ -1,5 +1,5 @@
 -- What steps keep of assumptions together.
-use Rattle.std.proofs.Common.{◌≡◌, ℕ, List, refl, sym, ◌∙◌, subst}
+use Rattle.std.proofs.Common.{◌≡◌, ◌≢◌, ℕ, List, [], refl, sym, ◌∙◌, subst}
 use Rattle.varisat_theory.specs.Membership.{◌∈◌, ◌⊆◌}
 use Rattle.varisat_theory.specs.Literals.{Literal, Clause, Assignment, SatisfiesAll, MakesTrue}
 use Rattle.varisat_theory.specs.Derivations.{Line}
@@ -49,7 +49,7 @@ keeps-joined s t v w x y z l p q = record {
   part = λ m i. p.part m (q.part m i);
   implied = λ held f a sat made. let (after, g, h) = l held f in p.implied held f a sat (q.implied after g a (h a sat) made);
   model = q.model;
-  core = λ c e m i. p.part m (q.core c e m i);
+  core = λ c e. let (part, some) = q.core c e in ((λ m i. p.part m (part m i)), some);
 }
 
 -- Steps that went on keep the assumptions together with what comes after them.
@@ -72,7 +72,7 @@ keeps-other-levels s v x y z e u c p = record {
 }
 
 -- What was taken out of the view's assumptions is implied over the search that a proof sees.
-pub keeps-taken : (s : View) (v : Outcome) (x y : AssumptionParts) → WellFormed s → TakesOutImplied s x y → ((found : Assignment) → v ≡ Sat found → MakesTrue found y.working) → ((c : List Literal) → v ≡ UnsatUnder c → c ⊆ x.working) → KeepsAssumptions (search_of s) v x y
+pub keeps-taken : (s : View) (v : Outcome) (x y : AssumptionParts) → WellFormed s → TakesOutImplied s x y → ((found : Assignment) → v ≡ Sat found → MakesTrue found y.working) → ((c : List Literal) → v ≡ UnsatUnder c → (c ⊆ x.working) × (c ≢ [])) → KeepsAssumptions (search_of s) v x y
 keeps-taken s v x y w t m c = record {
   user = t.user;
   user_core = t.user_core;

@@ -1,5 +1,5 @@
 -- Assumptions: what a search keeps of them, and what its steps make of the list.
-use Rattle.std.specs.Prelude.{◌≡◌, ℕ, ◌<◌, ◌≤◌, ◌⊎◌, nat_lt, if◌then◌else◌, Bool, Option, List, [], length, slice_index_or, MatchOption}
+use Rattle.std.specs.Prelude.{◌≡◌, ◌≢◌, ℕ, ◌<◌, ◌≤◌, ◌⊎◌, nat_lt, if◌then◌else◌, Bool, Option, List, [], length, slice_index_or, MatchOption}
 use Rattle.varisat_theory.specs.Membership.{◌∈◌, ◌⊆◌}
 use Rattle.varisat_theory.specs.Literals.{Literal, Clause, Assignment, variable_of, SatisfiesAll, MakesTrue}
 use Rattle.varisat_theory.specs.Searches.{Search, Fits}
@@ -54,14 +54,14 @@ assumed_state verdict.Unsat = verdict.Unsat
 assumed_state verdict.UnsatUnderAssumptions = verdict.Unknown
 
 -- Of the assumptions some may have been taken out, which are true wherever the clauses and the others are satisfied. An
--- assignment that was found makes the others true, and a core is one of assumptions.
+-- assignment that was found makes the others true, and a core is one of assumptions, and not empty.
 pub record KeepsAssumptions (s : Search) (v : Outcome) (x y : AssumptionParts) : Type 0 where
   pub user : y.user ≡ x.user
   pub user_core : y.user_core ≡ x.user_core
   pub part : y.working ⊆ x.working
   pub implied : (held : List Clause) → Fits held s → (a : Assignment) → SatisfiesAll a held → MakesTrue a y.working → MakesTrue a x.working
   pub model : (found : Assignment) → v ≡ Sat found → MakesTrue found y.working
-  pub core : (c : List Literal) → v ≡ UnsatUnder c → c ⊆ x.working
+  pub core : (c : List Literal) → v ≡ UnsatUnder c → (c ⊆ x.working) × (c ≢ [])
 
 -- Of the assumptions some were taken out, which are true wherever the clauses that a proof holds and the others are satisfied.
 pub record TakesOutImplied (s : View) (x y : AssumptionParts) : Type 0 where

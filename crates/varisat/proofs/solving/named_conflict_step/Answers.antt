@@ -23,7 +23,7 @@ name_core-requires g c l h =
     let m = (c.in_ok-conflict_step.ensures {u = tt}).made in
     let (lines, steps, (settles, takes)) = m.steps in
     let under = ap (outcome_of (view mid) mid.assumptions.failed_core) c.in-UnsatUnderAssumptions.is in
-    subst (λ (t : Tables). HasUser t (variable_of l)) (sym takes.tables) (assumed-named c.args.tracer.now.variables (variable_of l) (c.requires.kept.working l (m.assumes.core mid.assumptions.failed_core under l h)))
+    subst (λ (t : Tables). HasUser t (variable_of l)) (sym takes.tables) (assumed-named c.args.tracer.now.variables (variable_of l) (c.requires.kept.working l ((m.assumes.core mid.assumptions.failed_core under).0 l h)))
 
 pub returns-clause-made : goal.returns-clause-made
 returns-clause-made g c =

@@ -7,7 +7,7 @@ use Rattle.varisat.specs.States.{Ledger}
 use Rattle.varisat.specs.Names.{name_all, through_names}
 use Rattle.varisat.specs.Journals.{retold}
 use Rattle.varisat.specs.Calls.{with_naming, start, append_clause, count_anew, IsExtensible, Ignored, Accepted, AddsClause}
-use Rattle.varisat.proofs.CallStates.{ledger-is, none-since, stands-valid, like-told, broken, broken-invalid, adds-broken}
+use Rattle.varisat.proofs.CallStates.{ledger-is, none-since, stands-valid, flags-started, like-told, broken, broken-invalid, adds-broken}
 use Rattle.varisat.proofs.AcceptClause.{ledger-free, proof-free, not-refuted}
 use Rattle.varisat.proofs.OpenProofs.{proof-goes-on, open-there, searched-there, unsearched-there}
 use Rattle.varisat.proofs.Additions.{told-error}
@@ -56,6 +56,7 @@ returns-in-Ok g c s st =
         ledger = ledger-is _ _ _ _ _ _ (ap (λ (x : Ledger). x.valid) q.ledger ∙ ap (λ (x : SolverState). not x.state_is_invalid) (sym e.state)) refl (ap (λ (x : Ledger). x.steps) q.ledger ∙ sym (ap (λ (x : Plan). x.steps) k'.schedule)) (none-since c.steps-self-inside.result c.accept_clause.new.ctx.schedule.steps c.steps-self-inside.ensures.steps) (ap (λ (x : Ledger). x.settings) q.ledger ∙ sym k'.solver_config);
         fits = λ _. (w, ledger-free w (spaces_of c.accept_clause.new.tracer.variables (view c.accept_clause.new.ctx) c.accept_clause.new.ctx.assumptions c.accept_clause.new.ctx.solver_state.sat_state) t (record t.ledger { started = true; since = 0 }) (proof-free w _ (retold told u) now k));
         proof = λ _. goes;
+        flags = λ _. flags-started s (start t) (q.flags ok) refl refl grows;
       },
     )
 
@@ -75,6 +76,7 @@ returns-in-Err g c s st =
         ledger = ledger-is _ _ _ _ _ _ refl (ap (λ (x : Ledger). x.started) q.ledger) (ap (λ (x : Ledger). x.steps) q.ledger ∙ sym (ap (λ (x : Plan). x.steps) k.schedule)) (ap (λ (x : Ledger). x.since) q.ledger ∙ sym (ap (λ (x : Plan). x.steps - c.self.inside.changed_at) k.schedule)) (ap (λ (x : Ledger). x.settings) q.ledger ∙ sym k.solver_config);
         fits = λ e. absurd cc;
         proof = λ e. absurd cc;
+        flags = λ e. absurd cc;
       },
     )
 

@@ -9,7 +9,7 @@ use Rattle.varisat.specs.Journals.{retold}
 use Rattle.varisat_theory.specs.Journals.{Assumes as Assumed}
 use Rattle.varisat.specs.Calls.{with_naming, start, with_assumptions, Assumes}
 use Rattle.varisat.proofs.OpenProofs.{assumed-fits, none-there, open-there}
-use Rattle.varisat.proofs.CallStates.{ledger-is, none-since, stands-valid, like-refl, broken, broken-invalid}
+use Rattle.varisat.proofs.CallStates.{ledger-is, none-since, stands-valid, flags-assumed, like-refl, broken, broken-invalid}
 use Rattle.varisat.proofs.AcceptClause.{ledger-free}
 use Rattle.varisat.proofs.Additions.{told-error}
 use Rattle.varisat.proofs.SinceSteps.{since-now}
@@ -45,6 +45,7 @@ returns-in-Ok g c s st =
         ledger = ledger-is _ _ _ _ _ _ (ap (λ (x : Ledger). x.valid) q.ledger ∙ ap (λ (x : SolverState). not x.state_is_invalid) (sym e.state)) refl (ap (λ (x : Ledger). x.steps) q.ledger ∙ sym (ap (λ (x : Plan). x.steps) plan.schedule)) (none-since c.steps-self-inside.result c.assume_list.new.ctx.schedule.steps c.steps-self-inside.ensures.steps) (ap (λ (x : Ledger). x.settings) q.ledger ∙ sym plan.solver_config);
         fits = λ _. (w, ledger-free w (spaces_of c.assume_list.new.variables (view new) new.assumptions new.solver_state.sat_state) t (record t.ledger { started = true; since = 0 }) k);
         proof = λ v. assumed-fits _ s.ever_hidden s.told (map (through_names n) c.args.lits.now) s.proof (q.proof (ap not c.if-self.false));
+        flags = λ _. flags-assumed (start t) refl (none-there _ s.proof (q.proof (ap not c.if-self.false)).same (sym c.is_open.ensures ∙ c.if-is_open.false));
       },
     )
 
@@ -58,6 +59,7 @@ returns-in-Err g c s st =
         ledger = ledger-is _ _ _ _ _ _ refl (ap (λ (x : Ledger). x.started) q.ledger) (ap (λ (x : Ledger). x.steps) q.ledger ∙ sym (ap (λ (x : Plan). x.steps) plan.schedule)) (ap (λ (x : Ledger). x.since) q.ledger ∙ sym (ap (λ (x : Plan). x.steps - c.self.inside.changed_at) plan.schedule)) (ap (λ (x : Ledger). x.settings) q.ledger ∙ sym plan.solver_config);
         fits = λ e. absurd cc;
         proof = λ e. absurd cc;
+        flags = λ e. absurd cc;
       },
     )
 

@@ -34,7 +34,7 @@ returns-in-Ok g c s st =
     let may = c.in_ok-check_change.ensures in (
       t,
       (k.valid, may.in_range, unassumed-state c.args.var k may.unassumed, like-retold u told more),
-      record { ledger = ledger-is _ _ _ _ _ _ (ap (λ (x : Ledger). x.valid) k.ledger) (ap (λ (x : Ledger). x.started) k.ledger) (ap (λ (x : Ledger). x.steps) k.ledger) (none-since c.steps-self-inside.result c.self.inside.ctx.schedule.steps c.steps-self-inside.ensures.steps) (ap (λ (x : Ledger). x.settings) k.ledger); fits = λ _. fits; proof = λ _. hidden-fits _ s.ever_hidden s.told told s.proof k.proof },
+      record { ledger = ledger-is _ _ _ _ _ _ (ap (λ (x : Ledger). x.valid) k.ledger) (ap (λ (x : Ledger). x.started) k.ledger) (ap (λ (x : Ledger). x.steps) k.ledger) (none-since c.steps-self-inside.result c.self.inside.ctx.schedule.steps c.steps-self-inside.ensures.steps) (ap (λ (x : Ledger). x.settings) k.ledger); fits = λ _. fits; proof = λ _. hidden-fits _ s.ever_hidden s.told told s.proof k.proof; flags = λ _. let f = k.flags in record { clauses = f.clauses; assumptions = f.assumptions; counted = f.counted; unassumed = f.unassumed } },
     )
 
 pub returns-in-Err : goal.returns-in-Err
@@ -43,5 +43,5 @@ returns-in-Err g c s st =
     let may = c.in_ok-check_change.ensures in (
       broken s,
       (may.in_range, unassumed-state c.args.var k may.unassumed, broken-invalid s k.valid k.fits.1.well_formed),
-      record { ledger = ap (λ (x : Ledger). record x { valid = false }) k.ledger; fits = λ e. absurd cc; proof = λ e. absurd cc },
+      record { ledger = ap (λ (x : Ledger). record x { valid = false }) k.ledger; fits = λ e. absurd cc; proof = λ e. absurd cc; flags = λ e. absurd cc },
     )

@@ -23,6 +23,7 @@ returns g c =
           (subst (λ a. SpacesFit (spaces_of no_variables (view c.new_in.result) a c.new_in.result.solver_state.sat_state) empty_state) (sym c.new_in.ensures.assumptions)
           (subst (λ b. SpacesFit (spaces_of no_variables (view c.new_in.result) no_assumptions b) empty_state) (sym (ap (λ (x : SolverState). x.sat_state) s)) (first-spaces (view c.new_in.result) c.new_in.ensures.seen c.new_in.ensures.empty)));
       proof = λ _. record { same = ap (λ (p : ProofParts). p.opened) c.new_in-2.ensures.proof; written = tt };
+      flags = λ _. record { clauses = λ e. refl; assumptions = λ e. refl; counted = λ e. refl; unassumed = λ (p, e). absurd cc };
     }
 
 pub invariant_of-result : goal.invariant_of-result

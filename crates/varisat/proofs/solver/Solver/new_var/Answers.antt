@@ -12,7 +12,8 @@ use Rattle.varisat.proofs.AcceptClause.{with_tables, ledger-free}
 use Rattle.varisat_search.proofs.KeptNames.{given-keeps}
 use Rattle.varisat.proofs.PlainTables.{is-there, there-is, assumed-keeps, marked-keeps}
 use Rattle.varisat.proofs.KeptCounts.{given-most}
-use Rattle.varisat.proofs.CallStates.{ledger-is, none-since, stands-valid, like-refl, broken, broken-invalid}
+use Rattle.varisat.proofs.CallStates.{ledger-is, none-since, stands-valid, flags-started, like-refl, broken, broken-invalid}
+use Rattle.varisat.proofs.OpenProofs.{goes-on-none}
 use Rattle.varisat.proofs.SettingsCalls.{summary_of}
 use Rattle.varisat.proofs.SolverCalls.{least-free, new-named}
 use Rattle.varisat.proofs.SinceSteps.{since-now}
@@ -66,6 +67,7 @@ returns-in-Ok g c s st =
         ledger = ledger-is _ _ _ _ _ _ (ap (λ (x : Ledger). x.valid) q.ledger) refl (ap (λ (x : Ledger). x.steps) q.ledger) (none-since c.steps-self-inside.result c.self.inside.ctx.schedule.steps c.steps-self-inside.ensures.steps) (ap (λ (x : Ledger). x.settings) q.ledger);
         fits = λ _. (w, ledger-free w (spaces (with_tables new old)) (with_naming (name_one u s.naming) s) (record (with_naming (name_one u s.naming) s).ledger { started = true; since = 0 }) n);
         proof = q.proof;
+        flags = λ v. flags-started s (start (with_naming (name_one u s.naming) s)) (q.flags v) refl refl (goes-on-none s.proof);
       },
     )
 
@@ -76,5 +78,5 @@ returns-in-Err g c s st =
     let least = least-free (summary_of (parts_of c.self.inside.tracer) c.self.inside.started c.self.inside.changed_at c.self.inside.ctx) s c.next_unmapped_user-next.result f c.next_unmapped_user-next.ensures.least in (
       broken s,
       ((c.next_unmapped_user-next.result, least, omega (arith, c.index.ensures.index, c.max_count.ensures, c.if-index-max_count.false)), broken-invalid s (stands-valid _ s q (ap not c.if-self.false)) f.1.well_formed),
-      record { ledger = ap (λ (x : Ledger). record x { valid = false }) q.ledger; fits = λ e. absurd cc; proof = λ e. absurd cc },
+      record { ledger = ap (λ (x : Ledger). record x { valid = false }) q.ledger; fits = λ e. absurd cc; proof = λ e. absurd cc; flags = λ e. absurd cc },
     )

@@ -27,7 +27,7 @@ returns-in-Ok g c s st =
     let (m, shown, fits) = show-state c.in-Ok.shown.items c.observe_internal_vars.new.variables k c.prove_linked.ensures (c.self.invariant c.if-self.false).kept.bounded (c.in-Ok.ensures {u = tt}).shown in (
       count_anew (with_naming m s),
       (k.valid, (m, shown, like-refl (count_anew (with_naming m s)))),
-      record { ledger = ledger-is _ _ _ _ _ _ (ap (λ (x : Ledger). x.valid) k.ledger) (ap (λ (x : Ledger). x.started) k.ledger) (ap (λ (x : Ledger). x.steps) k.ledger) (none-since c.steps-self-inside.result c.self.inside.ctx.schedule.steps c.steps-self-inside.ensures.steps) (ap (λ (x : Ledger). x.settings) k.ledger); fits = λ _. (fits.0, ledger-free fits.0 _ (with_naming m s) (record s.ledger { since = 0 }) fits.1); proof = q.proof },
+      record { ledger = ledger-is _ _ _ _ _ _ (ap (λ (x : Ledger). x.valid) k.ledger) (ap (λ (x : Ledger). x.started) k.ledger) (ap (λ (x : Ledger). x.steps) k.ledger) (none-since c.steps-self-inside.result c.self.inside.ctx.schedule.steps c.steps-self-inside.ensures.steps) (ap (λ (x : Ledger). x.settings) k.ledger); fits = λ _. (fits.0, ledger-free fits.0 _ (with_naming m s) (record s.ledger { since = 0 }) fits.1); proof = q.proof; flags = λ _. let f = k.flags in record { clauses = f.clauses; assumptions = f.assumptions; counted = f.counted; unassumed = f.unassumed } },
     )
 
 pub returns-in-Err : goal.returns-in-Err
@@ -36,5 +36,5 @@ returns-in-Err g c s st =
     let k = begins q (ap not c.if-self.false) in (
       broken s,
       broken-invalid s k.valid k.fits.1.well_formed,
-      record { ledger = ap (λ (x : Ledger). record x { valid = false }) k.ledger; fits = λ e. absurd cc; proof = λ e. absurd cc },
+      record { ledger = ap (λ (x : Ledger). record x { valid = false }) k.ledger; fits = λ e. absurd cc; proof = λ e. absurd cc; flags = λ e. absurd cc },
     )

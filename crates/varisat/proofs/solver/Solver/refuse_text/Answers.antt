@@ -11,7 +11,7 @@ returns-in-OutOfMemory g c s st v =
     let f = q.fits (sym (ap (λ x. x.valid) q.ledger) ∙ v) in (
       broken s,
       MemoryFault c.args.fault refl c.in-OutOfMemory.is refl (broken-invalid s v f.1.well_formed),
-      record { ledger = ap (λ (x : Ledger). record x { valid = false }) q.ledger; fits = λ e. absurd cc; proof = λ e. absurd cc },
+      record { ledger = ap (λ (x : Ledger). record x { valid = false }) q.ledger; fits = λ e. absurd cc; proof = λ e. absurd cc; flags = λ e. absurd cc },
     )
 
 pub returns : goal.returns

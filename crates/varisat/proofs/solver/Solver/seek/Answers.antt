@@ -20,7 +20,7 @@ use Rattle.varisat.specs.Refusals.{step_refusal}
 use Rattle.varisat.proofs.CallStates.{ledger-is, more-since, stands-valid, told-well, broken, broken-invalid, searches-broken}
 use Rattle.varisat.proofs.SettingsCalls.{summary_of}
 use Rattle.varisat.proofs.SolverCalls.{counted-call, was-unknown, sat-model, sat-right, known-told, false-right, false-core, answered-true, answered-false, answered-none}
-use Rattle.varisat.proofs.SolverSteps.{unknown-undecided, after-solve, comes-satisfiable, comes-unsatisfiable, comes-fits, comes-verdict, comes-interrupted, interrupted-still}
+use Rattle.varisat.proofs.SolverSteps.{unknown-undecided, after-solve, flags-after, comes-satisfiable, comes-unsatisfiable, comes-fits, comes-verdict, comes-interrupted, interrupted-still}
 use Rattle.varisat.proofs.FindVerdictSteps.{refused-as}
 use Rattle.varisat.proofs.solver.Solver.seek.Given.{Over}
 use Rattle.varisat.proofs.solver.Solver.seek.Goals.{In-Ok-Some, In-Ok-None}
@@ -67,6 +67,7 @@ module _ {A : Type 0} {p q : TracerState} {started : Bool} {changed_at : ℕ} {x
     ledger = ledger-is _ _ _ _ _ _ (ap (λ (l : Ledger). l.valid) d.stood.ledger ∙ ap (λ (b : SolverState). not b.state_is_invalid) (sym d.finds.state)) (ap (λ (l : Ledger). l.started) d.stood.ledger) refl (since-after k) (ap (λ (l : Ledger). l.settings) d.stood.ledger ∙ sym d.config);
     fits = λ _. comes-fits q.tables y comes y.schedule.steps goes-on.0;
     proof = λ _. goes-on.2;
+    flags = λ _. flags-after s comes.told comes.verdict y.schedule.steps goes-on.0 (d.stood.flags d.valid) goes-on.1;
   }
 
 -- a verdict was found
@@ -203,5 +204,6 @@ returns-in-Err-clause-call g c s st =
         ledger = ledger-is _ _ _ _ _ _ refl (ap (λ (x : Ledger). x.started) q.ledger) refl (more-since c.self.inside.changed_at s.ledger.steps n s.ledger.since (omega (arith, low, steps)) (omega (arith, count)) (omega (arith, before, steps))) (ap (λ (x : Ledger). x.settings) q.ledger ∙ sym c.find_verdict.ensures.config);
         fits = λ e. absurd cc;
         proof = λ e. absurd cc;
+        flags = λ e. absurd cc;
       },
     )

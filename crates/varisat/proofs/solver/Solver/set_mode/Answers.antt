@@ -34,7 +34,7 @@ returns-in-Ok g c s st =
     let t = with_mode u (mode_of m) (name_var named u s) in (
       t,
       ((k.valid, may.in_range, unassumed-state u k may.unassumed, like-refl t), λ e. absurd cc),
-      record { ledger = ledger-is _ _ _ _ _ _ (ap (λ (x : Ledger). x.valid) k.ledger) (ap (λ (x : Ledger). x.started) k.ledger) (ap (λ (x : Ledger). x.steps) k.ledger) (none-since c.steps-self-inside.result c.self.inside.ctx.schedule.steps c.steps-self-inside.ensures.steps) (ap (λ (x : Ledger). x.settings) k.ledger); fits = λ _. mode-state c.set_named_mode.new.variables u m (mode_of m) k c.requires ((c.in-Ok.ensures {u = tt}).set); proof = λ _. k.proof },
+      record { ledger = ledger-is _ _ _ _ _ _ (ap (λ (x : Ledger). x.valid) k.ledger) (ap (λ (x : Ledger). x.started) k.ledger) (ap (λ (x : Ledger). x.steps) k.ledger) (none-since c.steps-self-inside.result c.self.inside.ctx.schedule.steps c.steps-self-inside.ensures.steps) (ap (λ (x : Ledger). x.settings) k.ledger); fits = λ _. mode-state c.set_named_mode.new.variables u m (mode_of m) k c.requires ((c.in-Ok.ensures {u = tt}).set); proof = λ _. k.proof; flags = λ _. let f = k.flags in record { clauses = f.clauses; assumptions = f.assumptions; counted = f.counted; unassumed = f.unassumed } },
     )
 
 pub returns-in-Err : goal.returns-in-Err
@@ -44,5 +44,5 @@ returns-in-Err g c s st =
     let may = c.in_ok-check_change.ensures in (
       broken s,
       ((may.in_range, unassumed-state u k may.unassumed, broken-invalid s k.valid k.fits.1.well_formed), λ e. free-state u k ((c.in-Err.ensures {u = tt}).free (not-hide c.args.mode (mode_of c.args.mode) c.requires))),
-      record { ledger = ap (λ (x : Ledger). record x { valid = false }) k.ledger; fits = λ e. absurd cc; proof = λ e. absurd cc },
+      record { ledger = ap (λ (x : Ledger). record x { valid = false }) k.ledger; fits = λ e. absurd cc; proof = λ e. absurd cc; flags = λ e. absurd cc },
     )

@@ -8,6 +8,7 @@ use Rattle.varisat.specs.ProofCalls.{with_proof}
 use Rattle.varisat.proofs.CallStates.{stands-valid}
 use Rattle.varisat.proofs.OpenProofs.{first-same, first-written, none-there}
 use Rattle.varisat.proofs.SettingsCalls.{stands-with-proof}
+use Rattle.varisat.proofs.ToldJournals.{no-lines}
 use Rattle.varisat.proofs.SinceSteps.{since-now}
 use Rattle.varisat.proofs.solver.Solver.write_proof.Goals as goal
 
@@ -25,10 +26,12 @@ returns g c s st =
     let q = rw (← c.self.view_is) at st in
     let ok = ap not c.if-self.false in
     let closed = sym c.is_open.ensures ∙ c.if-is_open.false in
-    let first = first_proof c.args.format (g.W.ProofTarget.taken c.args.target) s.told in (
+    let first = first_proof c.args.format (g.W.ProofTarget.taken c.args.target) in
+    let fresh = ap (λ (l : Ledger). l.started) q.ledger ∙ c.if-self-2.false in (
       count_anew (with_proof (Some first) s),
-      (stands-valid _ s q ok, none-there _ s.proof (q.proof ok).same closed, ap (λ (l : Ledger). l.started) q.ledger ∙ c.if-self-2.false, refl),
+      (stands-valid _ s q ok, none-there _ s.proof (q.proof ok).same closed, fresh, refl),
       stands-with-proof c.self.inside.tracer.variables c.self.inside.tracer.proof c.write_proof.new.self c.self.inside.started c.self.inside.changed_at c.steps-self-inside.result c.self.inside.ctx s (Some first) c.steps-self-inside.ensures.steps
-          (ap (λ (p : ProofParts). p.opened) c.write_proof.ensures ∙ first-same c.args.format (g.W.ProofTarget.taken c.args.target) s.told)
-          (first-written s.ever_hidden c.args.format (g.W.ProofTarget.taken c.args.target) s.told c.requires.format) q,
+          (ap (λ (p : ProofParts). p.opened) c.write_proof.ensures ∙ first-same c.args.format (g.W.ProofTarget.taken c.args.target))
+          (first-written s.ever_hidden c.args.format (g.W.ProofTarget.taken c.args.target) s.told c.requires.format (no-lines _ s q ok fresh))
+          (λ _. (q.flags ok).assumptions fresh) q,
     )

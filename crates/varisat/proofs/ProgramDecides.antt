@@ -14,7 +14,6 @@ use Rattle.varisat_formula.specs.Streams.{Stand, Taken, HasEnded}
 use Rattle.varisat_names.specs.declared.config.SolverConfigUpdate.{SolverConfigUpdate}
 use Rattle.varisat_names.specs.Settings.{Settings, no_update}
 use Rattle.varisat_proof.specs.declared.proof.format.ProofFormat.{ProofFormat}
-use Rattle.varisat.specs.OpenProofs.{first_proof}
 use Rattle.varisat.specs.ProofCalls.{OpensProof}
 use Rattle.varisat.specs.Proven.{limited, prepared, Finds}
 use Rattle.varisat.specs.States.{State, join_counted, empty_state}
@@ -25,7 +24,7 @@ use Rattle.varisat.specs.Calls as state
 use Rattle.varisat.specs.Additions as additions
 use Rattle.varisat.specs.Additions.{Gave, NoFault, MemoryFault, Fault, ClauseRefused, ClausesAdded, RefusedEarly, FaultInText, Whole, MemoryRanOut, SourceFailed, Read, Unread}
 use Rattle.varisat.specs.Pasts as past
-use Rattle.varisat.specs.Pasts.{Past, empty_past, accept}
+use Rattle.varisat.specs.Pasts.{Past, PastProof, empty_past, accept}
 use Rattle.varisat.specs.Budgets.{CountsSteps}
 use Rattle.varisat.specs.Decided.{IsUpToHighest, IsModel, named_variables, allowed_steps, Conclusion, Decided, Unknown, IsConclusion, Decides, StatusIsTrue, conclusion_status}
 use Rattle.varisat.specs.declared.solver.SolverError.{SolverError}
@@ -195,10 +194,10 @@ takes old new p q (Read v g a) = takes-given old new p q g a
 takes old new p q (Unread e k n) = absurd cc
 
 -- the past of a new solver with a limit of steps, and a proof that is open, or none
-abbrev begun : Option Bool → Option ℕ → Past
+abbrev begun : Option PastProof → Option ℕ → Past
 begun proof limit = record (past.with_update (record no_update { max_steps = limit }) empty_past) { proof = proof }
 
-begun-took : (proof : Option Bool) (limit : Option ℕ) (q : Past) (P : List Clause) → AddsWhole (begun proof limit) P q → Took 0 P (begun proof limit) q
+begun-took : (proof : Option PastProof) (limit : Option ℕ) (q : Past) (P : List Clause) → AddsWhole (begun proof limit) P q → Took 0 P (begun proof limit) q
 begun-took proof limit q P (m, a, e) = subst (Took 0 P (begun proof limit)) (sym e) (took-anew 0 P (begun proof limit) m (took 0 (begun proof limit) m P none-in-order a))
 
 -- How a new solver is prepared.
@@ -209,14 +208,14 @@ limited-agrees limit =
     subst (λ p. Agrees p (limited limit)) e g
 
 -- of a proof that was just opened, that no search ran under it
-abbrev pub unsearched : {W : Type 0} → Option W → Option Bool
-unsearched None = None
-unsearched (Some target) = Some false
+abbrev pub unsearched : {W : Type 0} → (W → Taken) → ProofFormat → Option W → Option PastProof
+unsearched taken format None = None
+unsearched taken format (Some target) = Some (record { format = format; first = (taken target).bytes; searched = false })
 
-pub prepared-agrees : {W : Type 0} (taken : W → Taken) (format : ProofFormat) (limit : Option ℕ) (target : Option W) → Agrees (begun (unsearched target) limit) (prepared taken format limit target)
+pub prepared-agrees : {W : Type 0} (taken : W → Taken) (format : ProofFormat) (limit : Option ℕ) (target : Option W) → Agrees (begun (unsearched taken format target) limit) (prepared taken format limit target)
 prepared-agrees taken format limit None = limited-agrees limit
 prepared-agrees taken format limit (Some target) =
-    opens (begun None limit) (limited limit) (prepared taken format limit (Some target)) (first_proof format (taken target) []) (limited-agrees limit) refl refl
+    opens (begun None limit) (limited limit) (prepared taken format limit (Some target)) format (taken target) (limited-agrees limit) refl
 
 pub limits : (limit : Option ℕ) (u : SolverConfigUpdate) (r : Result (Unit {0}) SolverError) (s : State) → u ≡ no_update → state.Configures empty_state (record u { max_steps = limit }) r s → s ≡ limited limit
 limits limit u r s e h = go r (subst (λ (x : SolverConfigUpdate). state.Configures empty_state (record x { max_steps = limit }) r s) e h)
@@ -242,7 +241,7 @@ no-target None h = refl
 no-target (Some target) h = absurd (h target refl)
 
 -- A new solver took a text in, and then is asked.
-module _ (proof : Option Bool) (limit : Option ℕ) (old new : Stand) (s t : State) (begins : Agrees (begun proof limit) s) (adds : state.AddsDimacs s old done new t) where
+module _ (proof : Option PastProof) (limit : Option ℕ) (old new : Stand) (s t : State) (begins : Agrees (begun proof limit) s) (adds : state.AddsDimacs s old done new t) where
   text-taken : (q : Past) × past.AddsDimacs (begun proof limit) old done new q × Agrees q t
   text-taken = add-text (begun proof limit) s t old new done begins adds
 

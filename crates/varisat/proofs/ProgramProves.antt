@@ -173,23 +173,23 @@ closed-none taken None h = refl
 closed-none taken (Some w) h = absurd h
 
 proven-bytes : {W : Type 0} (taken : W → Taken) (format : ProofFormat) (target back : W) (u : State) (bytes : List ℕ) (P : List Clause) (c : Conclusion) →
-    u.proof ≡ Some (record (first_proof format (taken target) []) { bytes = bytes; searched = true }) → u.ever_hidden ≡ false → IsJournal u → Carries u.clauses P → (c ≡ conclusion.Decided None → Refutes u.clauses (lines_of u.told)) →
+    u.proof ≡ Some (record (first_proof format (taken target)) { bytes = bytes; searched = true }) → u.ever_hidden ≡ false → IsJournal u → Carries u.clauses P → (c ≡ conclusion.Decided None → Refutes u.clauses (lines_of u.told)) →
     taken back ≡ record { bytes = (taken target).bytes ++ bytes; faults = (taken target).faults } → IsProven format P c (taken target) (taken back)
 proven-bytes taken format target back u bytes P c e h j carries refuted same =
-    let w : IsWrittenAs u.ever_hidden u.told (record (first_proof format (taken target) []) { bytes = bytes; searched = true }) = subst (IsWrittenIf u.ever_hidden u.told) e j.written in
+    let w : IsWrittenAs u.ever_hidden u.told (record (first_proof format (taken target)) { bytes = bytes; searched = true }) = subst (IsWrittenIf u.ever_hidden u.told) e j.written in
     record {
       lines = w.lines;
       bytes = ap (λ (x : Taken). x.bytes) same ∙ ap (λ xs. (taken target).bytes ++ xs) w.bytes;
       faults = ap (λ (x : Taken). x.faults) same;
-      derives = carries.derives w.lines (subst (IsDerivation u.clauses) (w.told_since h) (j.derives h));
-      refutes = λ n. carries.refutes w.lines (subst (Refutes u.clauses) (w.told_since h) (refuted n));
+      derives = carries.derives w.lines (subst (IsDerivation u.clauses) (w.all h) (j.derives h));
+      refutes = λ n. carries.refutes w.lines (subst (Refutes u.clauses) (w.all h) (refuted n));
     }
 
 pub proven : {W : Type 0} (taken : W → Taken) (format : ProofFormat) (limit : Option ℕ) (old new : Stand) (target back : Option W) (t u : State) (c : Conclusion) (opened : Option OpenState) → state.AddsDimacs (prepared taken format limit target) old done new t → Finds t c u → IsJournal u → opened ≡ opened_state u.proof → IsClosed {E = SolverError} taken opened (Ok back) →
     DecidesProven taken format (allowed_steps limit) old new target back c
 proven {W = W} taken format limit old new target back t u c opened adds finds j is closed =
     let s = prepared taken format limit target in
-    let (d, carries) = found (unsearched target) limit old new s t (prepared-agrees taken format limit target) adds c u finds in
+    let (d, carries) = found (unsearched taken format target) limit old new s t (prepared-agrees taken format limit target) adds c u finds in
     record { decides = d; proven = go target back adds (dimacs d.read.text).clauses carries (subst (λ o. IsClosed {E = SolverError} taken o (Ok back)) is closed) }
   where
     go : (target back : Option W) → state.AddsDimacs (prepared taken format limit target) old done new t → (P : List Clause) → Carries t.clauses P → IsClosed {E = SolverError} taken (opened_state u.proof) (Ok back) → IsProvenIf taken format P c target back
@@ -200,13 +200,13 @@ proven {W = W} taken format limit old new target back t u c opened adds finds j 
     go (Some target) back adds P carries closed =
         let k = keeps-text (prepared taken format limit (Some target)) t old new adds in
         let a = asks t u c finds in
-        let (bytes, e) = open-at-end (first_proof format (taken target) []) (Some (first_proof format (taken target) [])) t.proof u.proof refl k.proof a.proof in
+        let (bytes, e) = open-at-end (first_proof format (taken target)) (Some (first_proof format (taken target))) t.proof u.proof refl k.proof a.proof in
         let h = a.hidden ∙ k.hidden in
         let refuted = finds-refuted t u c (k.fresh (inl refl)) (a.assumptions ∙ k.assumptions) h finds j in
         there target back bytes P e h (subst (λ Q. Carries Q P) (sym a.clauses) carries) refuted (subst (λ o. IsClosed {E = SolverError} taken (opened_state o) (Ok back)) e closed)
       where
-        there : (target : W) (back : Option W) (bytes : List ℕ) (P : List Clause) → u.proof ≡ Some (record (first_proof format (taken target) []) { bytes = bytes; searched = true }) → u.ever_hidden ≡ false → Carries u.clauses P → (c ≡ conclusion.Decided None → Refutes u.clauses (lines_of u.told)) →
-            IsClosed {E = SolverError} taken (opened_state (Some (record (first_proof format (taken target) []) { bytes = bytes; searched = true }))) (Ok back) → IsProvenIf taken format P c (Some target) back
+        there : (target : W) (back : Option W) (bytes : List ℕ) (P : List Clause) → u.proof ≡ Some (record (first_proof format (taken target)) { bytes = bytes; searched = true }) → u.ever_hidden ≡ false → Carries u.clauses P → (c ≡ conclusion.Decided None → Refutes u.clauses (lines_of u.told)) →
+            IsClosed {E = SolverError} taken (opened_state (Some (record (first_proof format (taken target)) { bytes = bytes; searched = true }))) (Ok back) → IsProvenIf taken format P c (Some target) back
         there target None bytes P e h carries refuted closed = absurd closed
         there target (Some back) bytes P e h carries refuted closed = proven-bytes taken format target back u bytes P c e h j carries refuted closed
 

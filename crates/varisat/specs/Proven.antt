@@ -33,7 +33,7 @@ limited limit = with_update (record no_update { max_steps = limit }) empty_state
 -- the same where a proof was opened, if there is a target for it
 abbrev pub prepared : {W : Type 0} → (W → Taken) → ProofFormat → Option ℕ → Option W → State
 prepared taken format limit None = limited limit
-prepared taken format limit (Some target) = count_anew (with_proof (Some (first_proof format (taken target) [])) (limited limit))
+prepared taken format limit (Some target) = count_anew (with_proof (Some (first_proof format (taken target))) (limited limit))
 
 -- What a solver in the state s comes to as it is asked: a model that it tells, that there is none, or that its steps are spent.
 abbrev pub Finds : State → Conclusion → State → Type 0

@@ -23,31 +23,6 @@ pub record HasComeTo (c : PlannedCall) (q : Plan) (trail : List Bool) : Type 0 w
   pub progress : (n : ℕ) → c.variables ≤ n →
       CallProgress (setting_of (record c { variables = n })) (steps_since c.begins q) (rank n trail)
 
--- it is so as the call begins
-abbrev pub CallBegins : Type 0
-CallBegins = (c : PlannedCall) (trail : List Bool) → IsPlan c.begins → HasComeTo c c.begins trail
-
--- and stays so with each step
-abbrev pub CallGoesOn : Type 0
-CallGoesOn =
-    (c : PlannedCall) (q : Plan) (before after : List Bool) →
-    0 < c.scale →
-    q.steps < 2 ^ 64 - 1 →
-    length before ≤ c.variables →
-    IsPlannedStep q before after →
-    HasComeTo c q before →
-    HasComeTo c (next_plan c.scale q) after
-
--- so fewer than 2^(2n+3) steps are made, even with one step more
-abbrev pub CallIsShort : Type 0
-CallIsShort =
-    (c : PlannedCall) (q : Plan) (trail : List Bool) (n : ℕ) →
-    0 < c.scale →
-    length trail ≤ c.variables →
-    c.variables ≤ n →
-    HasComeTo c q trail →
-    suc (steps_since c.begins q) < 2 ^ (2 * n + 3)
-
 -- The same where units may leave the trail: the steps of several calls in turn are counted as those of one, and the units that
 -- left stand in front of the trail as implied literals. The trail that is left has these flags, and with the units it is no
 -- longer than there are variables.

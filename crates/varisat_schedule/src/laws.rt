@@ -1,6 +1,6 @@
 //! When a search restarts by its schedule, and how many steps a call makes.
 ghost use Rattle.varisat_schedule.specs.Plans.{RestartsAreAtPoints, FirstRestartsAreAtSums};
-ghost use Rattle.varisat_schedule.specs.CallSteps.{CallBegins, CallGoesOn, CallIsShort, BeginsAnywhere, GoesOnWithout, TrailMayGrow, UnitsMayLeave, IsShortWithout, LargeBudgetIsNotSpent};
+ghost use Rattle.varisat_schedule.specs.CallSteps.{BeginsAnywhere, GoesOnWithout, TrailMayGrow, UnitsMayLeave, IsShortWithout, LargeBudgetIsNotSpent};
 
 /// At one scale the restarts are at the restart points of a call, also where the scale was another before.
 pub fn restarts_are_at_points()
@@ -10,21 +10,6 @@ pub fn restarts_are_at_points()
 /// From the first step on they are at 0 and the partial sums of the scale times the terms.
 pub fn first_restarts_are_at_sums()
     ensures { FirstRestartsAreAtSums }
-{}
-
-/// As a call begins no step is counted.
-pub fn call_begins()
-    ensures { CallBegins }
-{}
-
-/// Each step of the schedule is counted.
-pub fn call_goes_on()
-    ensures { CallGoesOn }
-{}
-
-/// So a call makes fewer than 2^(2n+3) steps.
-pub fn call_is_short()
-    ensures { CallIsShort }
 {}
 
 /// A budget of so many steps is never spent.

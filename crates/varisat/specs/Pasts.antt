@@ -131,7 +131,9 @@ AddsDimacs p old r new q = additions.AddsText adding p old r new q
 
 -- the least free name comes into use
 abbrev pub MakesVar : Past → Result ℕ SolverError → Past → Type 0
-MakesVar p (Ok u) q = (p.valid ≡ true) × IsLeastFree p.naming u × (u < variable_limit) × (q ≡ record p { started = true; naming = name_one u p.naming; since = 0 })
+MakesVar p (Ok u) q =
+    (p.valid ≡ true) × IsLeastFree p.naming u × (u < variable_limit)
+    × (q ≡ record p { started = true; naming = name_one u p.naming; since = 0 })
 MakesVar p (Err Invalid) q = (p.valid ≡ false) × (q ≡ p)
 MakesVar p (Err VariableLimit) q = (p.valid ≡ true) × ((u : ℕ) × IsLeastFree p.naming u × ((variable_limit ≤ u) ⊎ IsCrowded (name_one u p.naming))) × (q ≡ p)
 MakesVar p (Err OutOfMemory) q = Invalidates p q

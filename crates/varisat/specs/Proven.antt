@@ -64,7 +64,8 @@ IsProvenIf taken format clauses conclusion (Some target) None = ⊥
 IsProvenIf taken format clauses conclusion (Some target) (Some back) = IsProven format clauses conclusion (taken target) (taken back)
 
 -- The text that a source gave is decided, and the target has a proof of that, where there is one.
-pub record DecidesProven {W : Type 0} (taken : W → Taken) (format : ProofFormat) (max_steps : ℕ) (old new : Stand) (target back : Option W) (conclusion : Conclusion) : Type 0 where
+pub record DecidesProven {W : Type 0} (taken : W → Taken) (format : ProofFormat) (max_steps : ℕ) (old new : Stand)
+    (target back : Option W) (conclusion : Conclusion) : Type 0 where
   pub decides : Decides max_steps old new conclusion
   pub proven : IsProvenIf taken format (dimacs decides.read.text).clauses conclusion target back
 

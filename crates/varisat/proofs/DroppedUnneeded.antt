@@ -31,12 +31,13 @@ use Rattle.varisat.specs.Journals.{retold, TellsLeaving}
 use Rattle.varisat.specs.Spaces.{SpacesFit}
 use Rattle.varisat.specs.Accepting.{HasUser, IsAssumedSolver}
 use Rattle.varisat.specs.Summaries.{spaces_of, IsKept}
-use Rattle.varisat.specs.Dropping.{leads_to_unassumed, AreOverAssumed, FlagsVariables, leads_to_hidden, ListsUnneeded, AreReleased, LeavesNeeded}
+use Rattle.varisat.specs.Dropping.{leads_to_unassumed, AreOverAssumed, FlagsVariables, leads_to_hidden, ListsUnneeded, AreReleased, LeavesNeeded, LetsLeave}
 use Rattle.varisat.proofs.DroppedListed.{unmentioned-by}
 use Rattle.varisat.proofs.DroppedKept.{true-or-not, HaveLeft, values-left, kept-left, over-left}
 use Rattle.varisat.proofs.DroppedTables.{AreLeft, AreWithout, variables-left}
 use Rattle.varisat.proofs.PlainTables.{there-is}
 use Rattle.varisat.proofs.SearchViews.{of-kept}
+use Rattle.varisat.proofs.ToldEntries.{tells-nothing}
 
 -- a variable without a name stands there
 pub hidden-global : (m : Tables) (o : Option ℕ) → leads_to_hidden m o ≡ true → (x : ℕ) × (o ≡ Some x) × (at m.users.backward x ≡ None)
@@ -51,6 +52,20 @@ hidden-global m (Some x) e = (x, refl, go (at m.users.backward x) e)
 named-there : (o : Option ℕ) → is_none o ≡ false → (u : ℕ) × (o ≡ Some u)
 named-there None h = absurd (let z : true ≡ false = h in cc)
 named-there (Some u) h = (u, refl)
+
+-- Where no variable of the search is hidden none has to leave,
+pub needed-shown : (m : Tables) (s : View) → AreOverAssumed m s.trail → ((v : ℕ) → leads_to_hidden m (at m.solvers.backward v) ≡ false) → LeavesNeeded m s
+needed-shown m s over shown = record {
+  assumed = over;
+  needed = λ v i.
+      let (x, e) = there-is (at m.solvers.backward v) i in
+      let (u, o) = named-there (at m.users.backward x) (sym (ap (leads_to_hidden m) e) ∙ shown v) in
+      inl (u, chain-some (at m.solvers.backward) (at m.users.backward) v x e ∙ o);
+}
+
+-- and none does.
+pub none-leaves : {A : Type 0} (m : Tables) (x : Context A) → IsKept m x → LetsLeave m x m x
+none-leaves m x k = record { kept = k; within = λ c q b. b; count = refl; stands = λ s fit. (s.told, record { more = tells-nothing s.told; quiet = λ h. refl }, fit) }
 
 -- several were dropped in turn, and then one more
 pub released-push : (ls : List Literal) (l : Literal) (old mid new : Tables) → AreReleased ls old mid → (x : ℕ) × IsDropped mid new x (variable_of l) → AreReleased (ls ++ l ∷ []) old new

@@ -1,7 +1,7 @@
 //! Which variables leave the search as a step begins: those whose values are fixed, unless they are assumed,
 //! and hidden ones that no kept clause names. Fixed values are kept for the model and for clauses to come, and what
 //! stands for hidden variables may be used again.
-ghost use Rattle.std.specs.Prelude.{◌≡◌, ◌≢◌, ◌<◌, ◌≤◌, ◌⊎◌, List, [], length, map, IsSome, OnOk, IfOk, IfErr};
+ghost use Rattle.std.specs.Prelude.{◌≡◌, ◌≢◌, ℕ, ◌<◌, ◌≤◌, ◌⊎◌, false, List, [], length, map, IsSome, OnOk, IfOk, IfErr};
 ghost use Rattle.varisat_theory.specs.Membership.{◌∈◌, IsDistinct};
 ghost use Rattle.varisat_theory.specs.Literals.{Literal, variable_of};
 ghost use Rattle.varisat_literals.specs.Numbers.{variable_limit};
@@ -11,6 +11,7 @@ ghost use Rattle.varisat_names.specs.VarMap.{at};
 ghost use Rattle.varisat_search.specs.Contexts.{view, KeepsSchedule};
 ghost use Rattle.varisat_search.specs.SettledUnits.{IsSettledDown};
 ghost use Rattle.varisat.specs.SinceChange.{GoesOnWithin};
+ghost use Rattle.varisat.specs.Accepting.{AreBounded};
 ghost use Rattle.varisat.specs.Searches.{TellsSome, ComesOn};
 ghost use Rattle.varisat_tracer.specs.Tracing.{BreaksProof, CanTell};
 ghost use Rattle.varisat_search.specs.StepErrors.{step_faults};
@@ -105,6 +106,19 @@ fn is_hidden<A: Allocator + Copy>(variables: &LinkedVariables<A>, solver: Var) -
     }
 }
 
+/// Whether some solver variable is that of a global variable without a name.
+fn has_hidden<A: Allocator + Copy>(variables: &LinkedVariables<A>) -> bool
+    requires { AreBounded variables.now }
+    ensures { result ≡ false → (v : ℕ) → leads_to_hidden variables.now (at variables.now.solvers.backward v) ≡ false }
+{
+    for index in 0..variables.solver_watermark() {
+        if is_hidden(variables, Var::from_index(index)) {
+            return true;
+        }
+    }
+    false
+}
+
 /// Lists a literal of each hidden variable that no kept clause names.
 fn list_unneeded<A: Allocator + Copy>(
     variables: &LinkedVariables<A>,
@@ -170,8 +184,8 @@ fn drop_listed<A: Allocator + Copy>(
     Ok(())
 }
 
-/// Lets the hidden variables leave that no kept clause names, where those with a value left that are not assumed.
-/// `literals` is overwritten.
+/// Lets the hidden variables leave that no kept clause names, where those with a value left that are not assumed. Where
+/// the search has no hidden variable it passes over no clause. `literals` is overwritten.
 fn drop_unneeded<A: Allocator + Copy>(
     variables: &mut LinkedVariables<A>,
     ctx: &mut Context<A>,
@@ -185,6 +199,9 @@ fn drop_unneeded<A: Allocator + Copy>(
     ensures state { ctx.new.solver_state ≡ ctx.old.solver_state }
     ensures left { OnOk result (LeavesNeeded variables.new (view ctx.new)) }
 {
+    if !has_hidden(variables) {
+        return Ok(());
+    }
     variables.prove_linked();
     let mentioned = flag_mentioned(ctx)?;
     list_unneeded(variables, &mentioned, literals)?;

@@ -9,10 +9,20 @@ use Rattle.varisat_search.specs.Contexts.{view}
 use Rattle.varisat.specs.Dropping.{FlagsVariables, ListsUnneeded, AreReleased, LeavesTables}
 use Rattle.varisat.proofs.DroppedKept.{HaveLeft, have-left, values-left}
 use Rattle.varisat.proofs.SinceSteps.{come-dropped}
-use Rattle.varisat.proofs.DroppedUnneeded.{unneeded-inside, unneeded-taken, unneeded-unmentioned, named-stay, kept-released, needed-left, stands-released}
+use Rattle.varisat.proofs.DroppedUnneeded.{needed-shown, none-leaves, unneeded-inside, unneeded-taken, unneeded-unmentioned, named-stay, kept-released, needed-left, stands-released}
 use Rattle.varisat.proofs.dropping.drop_unneeded.Given.{Over}
 use Rattle.varisat.proofs.dropping.drop_unneeded.Goals.{In_ok-gone, In_ok-list_unneeded, In_ok-release_solver_vars}
 use Rattle.varisat.proofs.dropping.drop_unneeded.Goals as goal
+
+pub has_hidden-requires : goal.has_hidden-requires
+has_hidden-requires g c = c.requires.kept.bounded
+
+pub returns-then-not-has_hidden-clause-leave : goal.returns-then-not-has_hidden-clause-leave
+returns-then-not-has_hidden-clause-leave g c = none-leaves c.args.variables.now c.args.ctx.now c.requires.kept
+
+pub returns-then-not-has_hidden-clause-left : goal.returns-then-not-has_hidden-clause-left
+returns-then-not-has_hidden-clause-left g c =
+    needed-shown c.args.variables.now (view c.args.ctx.now) c.requires.left (c.has_hidden.ensures c.if-not-has_hidden.true)
 
 -- the literals are of just the hidden variables that no kept clause names
 listed : (g : Over) (c : In_ok-list_unneeded g) → ListsUnneeded c.args.variables.now c.in_ok-mentioned.mentioned.items c.list_unneeded.new.unneeded.items

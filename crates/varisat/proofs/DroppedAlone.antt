@@ -10,11 +10,15 @@ use Rattle.varisat_names.specs.Maps.{updated}
 use Rattle.varisat_names.specs.VarMap.{at}
 use Rattle.varisat_names.specs.VarBiMap.{BiMap}
 use Rattle.varisat_names.specs.VarData.{kept_at}
-use Rattle.varisat_names.specs.Variables.{Tables, AreLinked, IsChangedTo, IsDropped, without_solver}
+use Rattle.varisat_names.specs.Variables.{Tables, AreLinked, IsChangedTo, IsDropped, unless_unused}
 use Rattle.varisat_names.specs.declared.variables.data.VarData.{VarData}
 use Rattle.varisat_names.proofs.Maps.{updated-at, updated-other, updated-all}
 use Rattle.varisat_names.proofs.VarMap.{at-inside}
 use Rattle.varisat_names.proofs.Tables.{live-inside}
+use Rattle.varisat_theory.specs.Journals.{Entry}
+use Rattle.varisat_proof.specs.Proving.{IsTold}
+use Rattle.varisat_tracer.specs.Told.{told-none, told-more}
+use Rattle.varisat_tracer.specs.Tracing.{TracerState, leaves_if_deleted}
 use Rattle.varisat.specs.Dropping.{fixed_to, IsDroppedAlone, FlagsVariables, AreDroppedAlone, LeavesTables}
 use Rattle.varisat.proofs.DroppedTables.{IsLeft, AreLeft, kept-twice}
 
@@ -40,22 +44,24 @@ leaves-dropped l old new x live n =
       gone = λ u m h q. ⊎_elim (λ e. n.solvers.backward.at_each u ∙ ap (updated (at old.solvers.backward) v None) (sym q ∙ ap variable_of e) ∙ updated-at (at old.solvers.backward) v None) (λ z. absurd z) h;
       stays = λ u o. n.solvers.backward.at_each u ∙ updated-other (at old.solvers.backward) v None u (λ q. o l (inl refl) (sym q));
       fewer = λ u y e. updated-all (λ u o. o ≡ Some y → at old.solvers.backward u ≡ Some y) (at old.solvers.backward) v None (λ q. absurd cc) u (λ _ q. q) (sym (n.solvers.backward.at_each u) ∙ e);
-      others = λ y o. n.kept.at_each y ∙ updated-other (kept_at old.kept) x (without_solver (at old.users.backward x) (kept_at old.kept x)) y (λ q. o l (inl refl) (n.taken ∙ ap Some (sym q)));
+      others = λ y o. n.kept.at_each y ∙ updated-other (kept_at old.kept) x (unless_unused (at old.users.backward x) (kept_at old.kept x)) y (λ q. o l (inl refl) (n.taken ∙ ap Some (sym q)));
     }
 
 -- the global variable of a solver variable is one of those that are kept
 pub taken-live : (t : Tables) (v x : ℕ) → AreLinked t → at t.solvers.backward v ≡ Some x → x < length t.kept
 taken-live t v x k e = live-inside t.kept x (k.taken x v (k.solvers.back x v e))
 
-pub leaves-one : (l : Literal) (old new : Tables) → AreLinked old → IsDroppedAlone l old new → LeavesTables (l ∷ []) old new
-leaves-one l old new k (x, mid, c, n) =
+pub leaves-one : (l : Literal) (p q : TracerState) → AreLinked p.tables → IsDroppedAlone l p q → LeavesTables (l ∷ []) p.tables q.tables
+leaves-one l p q k (x, mid, c, loses) =
+    let old = p.tables in
+    let n = loses.dropped in
     let users = ap (λ (t : Tables). t.users) c.rest in
     let same = ap (λ (t : Tables). t.solvers) c.rest in
     let pair : at old.solvers.backward (variable_of l) ≡ Some x = ap (λ (m : BiMap). at m.backward (variable_of l)) (sym same) ∙ n.taken in
     let live = taken-live old (variable_of l) x k pair in
     let first = c.kept.count in
     let more : x < length mid.kept = omega (arith, first, live) in
-    let a = leaves-dropped l mid new x more n in
+    let a = leaves-dropped l mid q.tables x more n in
     let count = a.count in
     record {
       users = a.users ∙ users;
@@ -91,14 +97,22 @@ leaves-then ls l old mid new a b = record {
         go None e = refl
         go (Some x) e = absurd (n x e)
 
-pub dropped-push : (ls : List Literal) (l : Literal) (old mid new : Tables) → AreDroppedAlone ls old mid → IsDroppedAlone l mid new → AreDroppedAlone (ls ++ l ∷ []) old new
-dropped-push [] l old mid new e d = (new, subst (λ t. IsDroppedAlone l t new) e d, refl)
-dropped-push (m ∷ ls) l old mid new (t, a, rest) d = (t, a, dropped-push ls l t mid new rest d)
+pub dropped-push : (ls : List Literal) (l : Literal) (p mid q : TracerState) → AreDroppedAlone ls p mid → IsDroppedAlone l mid q → AreDroppedAlone (ls ++ l ∷ []) p q
+dropped-push [] l p mid q e d = (q, subst (λ t. IsDroppedAlone l t q) e d, refl)
+dropped-push (m ∷ ls) l p mid q (t, a, rest) d = (t, a, dropped-push ls l t mid q rest d)
 
 -- as the laws of dropping say it, where the values are fixed
-pub left-alone : (known : ℕ → Option Bool) (ls : List Literal) (old new : Tables) → ((l : Literal) → l ∈ ls → known (variable_of l) ≡ Some (polarity_of l)) → AreDroppedAlone ls old new → AreLeft known (map variable_of ls) old new
-left-alone known [] old new k e = e
-left-alone known (l ∷ ls) old new k (mid, a, rest) = (mid, subst (λ o. IsLeft o old mid (variable_of l)) (sym (k l (inl refl))) a, left-alone known ls mid new (λ m h. k m (inr h)) rest)
+pub left-alone : (known : ℕ → Option Bool) (ls : List Literal) (p q : TracerState) → ((l : Literal) → l ∈ ls → known (variable_of l) ≡ Some (polarity_of l)) → AreDroppedAlone ls p q → AreLeft known (map variable_of ls) p q
+left-alone known [] p q k e = e
+left-alone known (l ∷ ls) p q k (mid, a, rest) = (mid, subst (λ o. IsLeft o p mid (variable_of l)) (sym (k l (inl refl))) a, left-alone known ls mid q (λ m h. k m (inr h)) rest)
+
+-- what the proof was told meanwhile
+pub dropped-told : (ls : List Literal) (p q : TracerState) → AreDroppedAlone ls p q → (given : List Entry) × IsTold p.proof given q.proof
+dropped-told [] p q e = ([], subst (λ (t : TracerState). IsTold p.proof [] t.proof) (sym e) (told-none p.proof))
+dropped-told (l ∷ ls) p q (mid, (x, t, c, loses), rest) =
+    let (given, told) = dropped-told ls mid q rest in
+    let first = leaves_if_deleted mid.tables x in
+    (first ++ given, told-more p.proof mid.proof q.proof first given loses.told told)
 
 -- none of the first ones is over the variable of a later one
 pub distinct-after : (front : List Literal) (l : Literal) (rest : List Literal) → IsDistinct (map variable_of (front ++ (l ∷ rest))) → (m : Literal) → m ∈ front → variable_of m ≢ variable_of l

@@ -1,5 +1,5 @@
 -- A variable without a value that no kept clause mentions leaves the search. Where it has no name and is isolated, its global variable may be used again.
-use Rattle.std.proofs.Common.{◌≡◌, ℕ, Bool, true, false, Option, Some, None, List, inl, ⊎_elim, sym, ap, ◌∙◌, refl}
+use Rattle.std.proofs.Common.{◌≡◌, ℕ, Bool, true, false, Option, Some, None, inl, ⊎_elim, sym, ap, ◌∙◌, refl}
 use Rattle.varisat_theory.specs.Membership.{◌∈◌}
 use Rattle.varisat_theory.specs.Searches.{Search}
 use Rattle.varisat_theory.specs.Outcomes as outcome
@@ -7,11 +7,9 @@ use Rattle.varisat_names.specs.Maps.{updated}
 use Rattle.varisat_names.proofs.Maps.{is-some}
 use Rattle.varisat.specs.States.{State}
 use Rattle.varisat.specs.Spaces.{Spaces, Carrying, Links, SpacesFit}
-use Rattle.varisat_theory.specs.Journals.{Entry}
-use Rattle.varisat.specs.Journals.{retold, TellsLeaving}
 use Rattle.varisat.proofs.VariableMoves.{leave_search, leave_all}
 use Rattle.varisat.proofs.DroppedSolvers.{IsWithout, still-forced, left}
-use Rattle.varisat.proofs.DroppedFixed.{left-recycled}
+use Rattle.varisat.proofs.DroppedFixed.{IsGone, left-recycled}
 
 module _ (w : Carrying) (p : Spaces) (s : State) (v x i : ℕ) (t : Search) (k : Links w p s) (unknown : p.outcome ≡ outcome.Unknown) (pair : p.global_from_solver v ≡ Some x) (at : w.identity x ≡ Some i) (c : i ∈ s.counted) (unassumed : (p.kept x).assumed ≡ false) (f : IsWithout v None p.search t) where
   no-unit : (p.kept x).unit ≡ None
@@ -25,7 +23,7 @@ pub apart-left : (w : Carrying) (p : Spaces) (s : State) (v x : ℕ) (t : Search
 apart-left w p s v x t k unknown pair unassumed f = let (i, at, c) = k.solvers.live v x pair in (record w { forced = updated w.forced i None }, links-left w p s v x i t k unknown pair at c unassumed f)
 
 -- it may be used again
-pub apart-recycled : (w : Carrying) (p : Spaces) (s : State) (v x : ℕ) (t : Search) → Links w p s → p.outcome ≡ outcome.Unknown → p.global_from_solver v ≡ Some x → (p.kept x).assumed ≡ false → p.user_from_global x ≡ None → (p.kept x).isolated ≡ true → IsWithout v None p.search t → (told : List Entry) × TellsLeaving s.ever_hidden s.told told × SpacesFit (leave_all v x t p) (retold told s)
+pub apart-recycled : (w : Carrying) (p : Spaces) (s : State) (v x : ℕ) (t : Search) → Links w p s → p.outcome ≡ outcome.Unknown → p.global_from_solver v ≡ Some x → (p.kept x).assumed ≡ false → p.user_from_global x ≡ None → (p.kept x).isolated ≡ true → IsWithout v None p.search t → IsGone (leave_all v x t p) s
 apart-recycled w p s v x t k unknown pair unassumed unnamed alone f =
     let (i, at, c) = k.solvers.live v x pair in
-    left-recycled (record w { forced = updated w.forced i None }) p s v x i t (p.kept x) (links-left w p s v x i t k unknown pair at c unassumed f) at unnamed alone
+    left-recycled (record w { forced = updated w.forced i None }) p s v x i t (p.kept x) (links-left w p s v x i t k unknown pair at c unassumed f) unknown at unnamed alone

@@ -1,5 +1,5 @@
 -- A variable whose value is fixed leaves the search, and its value is kept. Where it has no name, its global variable may be used again.
-use Rattle.std.proofs.Common.{◌≡◌, ℕ, Bool, true, false, Some, None, List, inr, sym, ap, ◌∙◌, subst, refl}
+use Rattle.std.proofs.Common.{◌≡◌, ℕ, Bool, true, false, Some, None, [], ◌∷◌, ◌++◌, inr, sym, ap, ◌∙◌, subst, refl}
 use Rattle.varisat_theory.specs.Membership.{◌∈◌}
 use Rattle.varisat_theory.specs.Literals.{Literal, Assignment, variable_of, literal_of, SatisfiesAll}
 use Rattle.varisat_theory.specs.Searches.{Search, clauses_of}
@@ -19,10 +19,10 @@ use Rattle.varisat.specs.Dropping.{fixed_to}
 use Rattle.varisat.proofs.Carried.{true-value}
 use Rattle.varisat.proofs.SearchHeld.{agrees-through}
 use Rattle.varisat.proofs.SolveVerdict.{maps-alike, maps-same}
-use Rattle.varisat_theory.specs.Journals.{Entry}
-use Rattle.varisat.specs.Journals.{retold, TellsLeaving}
+use Rattle.varisat_theory.specs.Journals.{Leaves}
+use Rattle.varisat.specs.Journals.{retold}
 use Rattle.varisat.proofs.VariableMoves.{leave_search, leave_all, recycle}
-use Rattle.varisat.proofs.RecycledGlobals.{recycled}
+use Rattle.varisat.proofs.RecycledGlobals.{was-hidden, recycled}
 use Rattle.varisat.proofs.DroppedSolvers.{IsWithout, left}
 
 -- A literal that is held as a unit clause is true under each assignment that satisfies the accepted clauses.
@@ -37,16 +37,27 @@ proved-value w p s v x i l k unknown pair at over proved a m =
     let same = unit.1 n y in
     sym (ap (λ o. a (identity_of o)) (ap to over ∙ chain-some p.global_from_solver w.identity v x pair ∙ at)) ∙ ap (λ m. read (variable_of m)) (sym same) ∙ true-value read n z ∙ ap polarity_of same
 
+-- An identity is gone from the state, in which something was hidden before, and the spaces stand for what is left.
+pub record IsGone (p : Spaces) (s : State) : Type 0 where
+  pub identity : ℕ
+  pub was_hidden : s.ever_hidden ≡ false → ⊥
+  pub fits : SpacesFit p (retold (s.told ++ Leaves identity ∷ []) s)
+
 -- whatever is kept in between of the isolated global variable
-pub left-recycled : (w : Carrying) (p : Spaces) (s : State) (v x i : ℕ) (t : Search) (d : VarData) → Links w (leave_search v x t d p) s → w.identity x ≡ Some i → p.user_from_global x ≡ None → d.isolated ≡ true → (told : List Entry) × TellsLeaving s.ever_hidden s.told told × SpacesFit (leave_all v x t p) (retold told s)
-left-recycled w p s v x i t d k at unnamed alone =
-    let (told, more, fits) = recycled w (leave_search v x t d p) s x i k at unnamed (updated-at p.solver_from_global x None) (ap (λ (a : VarData). a.isolated) (updated-at p.kept x d) ∙ alone) in (
-      told,
-      more,
-      maps-same (recycle x (leave_search v x t d p)) (leave_all v x t p) (retold told s) (maps-alike (recycle x (leave_search v x t d p)) (leave_all v x t p) refl
+pub left-recycled : (w : Carrying) (p : Spaces) (s : State) (v x i : ℕ) (t : Search) (d : VarData) → Links w (leave_search v x t d p) s → p.outcome ≡ outcome.Unknown → w.identity x ≡ Some i → p.user_from_global x ≡ None → d.isolated ≡ true → IsGone (leave_all v x t p) s
+left-recycled w p s v x i t d k unknown at unnamed alone =
+    let mid = leave_search v x t d p in
+    let unsolved = updated-at p.solver_from_global x None in
+    let isolated = ap (λ (a : VarData). a.isolated) (updated-at p.kept x d) ∙ alone in
+    record {
+      identity = i;
+      was_hidden = was-hidden w mid s x i k at unnamed unsolved isolated;
+      fits =
+          maps-same (recycle x mid) (leave_all v x t p) (retold (s.told ++ Leaves i ∷ []) s) (maps-alike (recycle x mid) (leave_all v x t p) refl
           (λ y. updated-all (λ y a. a ≡ updated (updated p.kept x d) x dead y) p.kept x dead (sym (updated-at (updated p.kept x d) x dead)) y (λ n. sym (updated-other (updated p.kept x d) x dead y n ∙ updated-other p.kept x d y n)))
-          (λ a e y. refl)) refl fits,
-    )
+          (λ a e y. refl)) refl
+          (recycled w mid s x i k at unnamed unsolved isolated (λ e. let z : outcome.Unknown ≡ outcome.Unsat = sym (ap without_core unknown) ∙ e in cc));
+    }
 
 -- The variable is not assumed, and its value is fixed at level 0.
 module _ (w : Carrying) (p : Spaces) (s : State) (v x : ℕ) (b : Bool) (t : Search) (k : Links w p s) (unknown : p.outcome ≡ outcome.Unknown) (pair : p.global_from_solver v ≡ Some x) (unassumed : (p.kept x).assumed ≡ false) (f : IsWithout v (Some b) p.search t) where
@@ -61,7 +72,7 @@ module _ (w : Carrying) (p : Spaces) (s : State) (v x : ℕ) (b : Bool) (t : Sea
   fixed-stays = let (i, at, c) = k.solvers.live v x pair in (record w { forced = updated w.forced i (Some b) }, links-left i at c)
 
   -- a hidden one may be used again
-  pub fixed-left : p.user_from_global x ≡ None → (told : List Entry) × TellsLeaving s.ever_hidden s.told told × SpacesFit (leave_all v x t p) (retold told s)
+  pub fixed-left : p.user_from_global x ≡ None → IsGone (leave_all v x t p) s
   fixed-left unnamed =
       let (i, at, c) = k.solvers.live v x pair in
-      left-recycled (record w { forced = updated w.forced i (Some b) }) p s v x i t (fixed_to b (p.kept x)) (links-left i at c) at unnamed refl
+      left-recycled (record w { forced = updated w.forced i (Some b) }) p s v x i t (fixed_to b (p.kept x)) (links-left i at c) unknown at unnamed refl

@@ -19,35 +19,37 @@ use Rattle.varisat_names.specs.Maps.{updated}
 use Rattle.varisat_names.specs.VarMap.{at}
 use Rattle.varisat_names.specs.VarBiMap.{BiMap, IsParted}
 use Rattle.varisat_names.specs.VarData.{dead, kept_at, IsKeptAs}
-use Rattle.varisat_names.specs.Variables.{Tables, IsChangedTo, unused, without_solver, IsDropped}
+use Rattle.varisat_names.specs.Variables.{Tables, IsChangedTo, unused, unless_unused}
+use Rattle.varisat_proof.specs.Proving.{ProofParts, IsTold}
+use Rattle.varisat_tracer.specs.Tracing.{TracerState, leaves_if_deleted}
 use Rattle.varisat_names.specs.declared.variables.data.VarData.{VarData}
 use Rattle.varisat_names.proofs.Maps.{updated-at, updated-other, updated-all}
 use Rattle.varisat.specs.States.{State}
 use Rattle.varisat.specs.Carried.{carry, is_forced}
-use Rattle.varisat_theory.specs.Journals.{Entry}
+use Rattle.varisat_theory.specs.Journals.{Entry, Leaves}
 use Rattle.varisat.specs.Journals.{retold, TellsLeaving}
-use Rattle.varisat.proofs.ToldEntries.{leaving-nothing, leaving-through}
+use Rattle.varisat.proofs.PlainTold.{leaving-none, leaving-nothing, leaving-one, leaving-through}
 use Rattle.varisat.specs.Spaces.{Spaces, Carrying, Translation, SearchHolds, translation, Links, SpacesFit}
 use Rattle.varisat.specs.Summaries.{spaces_of}
-use Rattle.varisat.specs.Dropping.{fixed_to}
+use Rattle.varisat.specs.Dropping.{fixed_to, LosesSolverVar}
 use Rattle.varisat.proofs.SpacesMoves.{with_search}
 use Rattle.varisat.proofs.SolveVerdict.{maps-alike, maps-same, recount}
 use Rattle.varisat.proofs.KeptCounts.{kept-most}
 use Rattle.varisat.proofs.SearchLinks.{relinked}
 use Rattle.varisat.proofs.VariableMoves.{leave_search, leave_all}
 use Rattle.varisat.proofs.DroppedSolvers.{IsWithout}
-use Rattle.varisat.proofs.DroppedFixed.{fixed-stays, fixed-left}
+use Rattle.varisat.proofs.DroppedFixed.{IsGone, fixed-stays, fixed-left}
 use Rattle.varisat.proofs.DroppedApart.{apart-left, apart-recycled}
 
 -- The solver variable was dropped. Before that its global variable was kept with its value and as isolated, where the value is fixed.
-abbrev pub IsLeft : Option Bool → Tables → Tables → ℕ → Type 0
-IsLeft (Some b) old new v = (x : ℕ) × (mid : Tables) × IsChangedTo old mid x (fixed_to b (kept_at old.kept x)) × IsDropped mid new x v
-IsLeft None old new v = (x : ℕ) × IsDropped old new x v
+abbrev pub IsLeft : Option Bool → TracerState → TracerState → ℕ → Type 0
+IsLeft (Some b) p q v = (x : ℕ) × (mid : Tables) × IsChangedTo p.tables mid x (fixed_to b (kept_at p.tables.kept x)) × LosesSolverVar x v (record p { tables = mid }) q
+IsLeft None p q v = (x : ℕ) × LosesSolverVar x v p q
 
 -- The solver variables were dropped in turn. `known` tells which values are fixed.
-abbrev pub AreLeft : (ℕ → Option Bool) → List ℕ → Tables → Tables → Type 0
-AreLeft known [] old new = new ≡ old
-AreLeft known (v ∷ vs) old new = (mid : Tables) × IsLeft (known v) old mid v × AreLeft known vs mid new
+abbrev pub AreLeft : (ℕ → Option Bool) → List ℕ → TracerState → TracerState → Type 0
+AreLeft known [] p q = q ≡ p
+AreLeft known (v ∷ vs) p q = (mid : TracerState) × IsLeft (known v) p mid v × AreLeft known vs mid q
 
 -- The search t is s without the variables, which no kept clause mentions. What is true at level 0 of them is known, and held as unit clauses.
 pub record AreWithout (known : ℕ → Option Bool) (vs : List ℕ) (s t : Search) : Type 0 where
@@ -87,20 +89,25 @@ kept-twice old mid new x d e a b =
     }
 
 -- what dropping a solver variable does to the tables, whether its value is fixed or not
-loses : (known : Option Bool) (old new : Tables) (v : ℕ) → IsLeft known old new v → (x : ℕ) × LosesSolver old new x v (without_solver (at old.users.backward x) (with_known known (kept_at old.kept x)))
-loses None old new v (x, n) = (x, record { taken = n.taken; users = n.users; solvers = n.solvers; kept = n.kept })
-loses (Some b) old new v (x, mid, c, n) =
+loses : (known : Option Bool) (p q : TracerState) (v : ℕ) → IsLeft known p q v → (x : ℕ) × LosesSolver p.tables q.tables x v (unless_unused (at p.tables.users.backward x) (with_known known (kept_at p.tables.kept x)))
+    × IsTold p.proof (leaves_if_deleted q.tables x) q.proof
+loses None p q v (x, l) = let n = l.dropped in (x, record { taken = n.taken; users = n.users; solvers = n.solvers; kept = n.kept }, l.told)
+loses (Some b) p q v (x, mid, c, l) =
+    let old = p.tables in
+    let new = q.tables in
+    let n = l.dropped in
     let d = fixed_to b (kept_at old.kept x) in
     let users = ap (λ (t : Tables). t.users) c.rest in
     let solvers = ap (λ (t : Tables). t.solvers) c.rest in
-    let after = ap₂ without_solver (ap (λ (m : BiMap). at m.backward x) users) (c.kept.at_each x ∙ updated-at (kept_at old.kept) x d) in (
+    let after = ap₂ unless_unused (ap (λ (m : BiMap). at m.backward x) users) (c.kept.at_each x ∙ updated-at (kept_at old.kept) x d) in (
       x,
       record {
         taken = ap (λ (m : BiMap). at m.backward v) (sym solvers) ∙ n.taken;
         users = n.users ∙ users;
         solvers = subst (λ m. IsParted m new.solvers x v) solvers n.solvers;
-        kept = kept-twice old.kept mid.kept new.kept x d (without_solver (at old.users.backward x) d) c.kept (subst (λ d. IsKeptAs mid.kept x d new.kept) after n.kept);
+        kept = kept-twice old.kept mid.kept new.kept x d (unless_unused (at old.users.backward x) d) c.kept (subst (λ d. IsKeptAs mid.kept x d new.kept) after n.kept);
       },
+      l.told,
     )
 
 module _ (old new : Tables) (search : View) (assumed : AssumptionParts) (s : State) (u t : Search) (x v : ℕ) (d : VarData) (w : Carrying) (k : Links w (between old search assumed u) s) where
@@ -119,24 +126,40 @@ module _ (old new : Tables) (search : View) (assumed : AssumptionParts) (s : Sta
         model = λ a e y. absurd (let z : outcome.Unknown ≡ outcome.Sat a = e in cc);
       }) refl f
 
-  -- Where it has no name and is isolated it may be used again, and else it stays.
-  gone : LosesSolver old new x v (without_solver (at old.users.backward x) d) → SpacesFit (leave_search v x t d (between old search assumed u)) s → (at old.users.backward x ≡ None → d.isolated ≡ true → (told : List Entry) × TellsLeaving s.ever_hidden s.told told × SpacesFit (leave_all v x t (between old search assumed u)) (retold told s)) → (told : List Entry) × TellsLeaving s.ever_hidden s.told told × SpacesFit (between new search assumed t) (retold told s)
-  gone n stays recycled = go (at old.users.backward x) d.isolated refl refl
-    where
-      go : (o : Option ℕ) (b : Bool) → at old.users.backward x ≡ o → d.isolated ≡ b → (told : List Entry) × TellsLeaving s.ever_hidden s.told told × SpacesFit (between new search assumed t) (retold told s)
-      go (Some y) b e q = (s.told, leaving-nothing s.ever_hidden s.told, moved s.told d (between old search assumed u).model (subst (λ o. LosesSolver old new x v (without_solver o d)) e n) stays)
-      go None true e q = let (told, more, fits) = recycled e q in (told, more, moved told dead (leave_all v x t (between old search assumed u)).model (subst (λ c. LosesSolver old new x v (if c then dead else d)) q (subst (λ o. LosesSolver old new x v (without_solver o d)) e n)) fits)
-      go None false e q = (s.told, leaving-nothing s.ever_hidden s.told, moved s.told d (between old search assumed u).model (subst (λ c. LosesSolver old new x v (if c then dead else d)) q (subst (λ o. LosesSolver old new x v (without_solver o d)) e n)) stays)
+  -- where it is live still, the proof is told nothing
+  none-told : LosesSolver old new x v d → d.deleted ≡ false → leaves_if_deleted new x ≡ []
+  none-told n live = ap (λ (b : Bool). if b then Leaves x ∷ [] else []) (ap (λ (e : VarData). e.deleted) (n.kept.at_each x ∙ updated-at (kept_at old.kept) x d) ∙ live)
 
-one-left : (known : Option Bool) (v : ℕ) (old new : Tables) (search : View) (assumed : AssumptionParts) (s : State) (u t : Search) → IsLeft known old new v → IsWithout v known u t → ((x : ℕ) → at old.solvers.backward v ≡ Some x → (kept_at old.kept x).assumed ≡ false) → SpacesFit (between old search assumed u) s → (told : List Entry) × TellsLeaving s.ever_hidden s.told told × SpacesFit (between new search assumed t) (retold told s)
-one-left (Some b) v old new search assumed s u t a f free (w, k) =
-    let (x, n) = loses (Some b) old new v a in
-    let p = between old search assumed u in
-    gone old new search assumed s u t x v (fixed_to b (kept_at old.kept x)) w k n (fixed-stays w p s v x b t k refl n.taken (free x n.taken) f) (λ e q. fixed-left w p s v x b t k refl n.taken (free x n.taken) f e)
-one-left None v old new search assumed s u t a f free (w, k) =
-    let (x, n) = loses None old new v a in
-    let p = between old search assumed u in
-    gone old new search assumed s u t x v (kept_at old.kept x) w k n (apart-left w p s v x t k refl n.taken (free x n.taken) f) (λ e q. apart-recycled w p s v x t k refl n.taken (free x n.taken) e q f)
+  -- Where it has no name and is isolated it is gone, and else it stays.
+  gone : (p q : ProofParts) → LosesSolver old new x v (unless_unused (at old.users.backward x) d) → IsTold p (leaves_if_deleted new x) q → d.deleted ≡ false → SpacesFit (leave_search v x t d (between old search assumed u)) s → (at old.users.backward x ≡ None → d.isolated ≡ true → IsGone (leave_all v x t (between old search assumed u)) s) →
+      (told : List Entry) × TellsLeaving s.ever_hidden s.told told p q × SpacesFit (between new search assumed t) (retold told s)
+  gone p q n h live stays recycled = go (at old.users.backward x) d.isolated refl refl
+    where
+      stay : LosesSolver old new x v d → (told : List Entry) × TellsLeaving s.ever_hidden s.told told p q × SpacesFit (between new search assumed t) (retold told s)
+      stay l = (s.told, leaving-none s.ever_hidden s.told p q (leaves_if_deleted new x) (none-told l live) h, moved s.told d (between old search assumed u).model l stays)
+
+      go : (o : Option ℕ) (b : Bool) → at old.users.backward x ≡ o → d.isolated ≡ b → (told : List Entry) × TellsLeaving s.ever_hidden s.told told p q × SpacesFit (between new search assumed t) (retold told s)
+      go (Some y) b e i = stay (subst (λ o. LosesSolver old new x v (unless_unused o d)) e n)
+      go None true e i =
+          let r = recycled e i in (
+            s.told ++ Leaves r.identity ∷ [],
+            leaving-one s.ever_hidden s.told r.identity p q (leaves_if_deleted new x) r.was_hidden h,
+            moved (s.told ++ Leaves r.identity ∷ []) dead (leave_all v x t (between old search assumed u)).model (subst (λ c. LosesSolver old new x v (if c then dead else d)) i (subst (λ o. LosesSolver old new x v (unless_unused o d)) e n)) r.fits,
+          )
+      go None false e i = stay (subst (λ c. LosesSolver old new x v (if c then dead else d)) i (subst (λ o. LosesSolver old new x v (unless_unused o d)) e n))
+
+one-left : (known : Option Bool) (v : ℕ) (a b : TracerState) (search : View) (assumed : AssumptionParts) (s : State) (u t : Search) → IsLeft known a b v → IsWithout v known u t → ((x : ℕ) → at a.tables.solvers.backward v ≡ Some x → (kept_at a.tables.kept x).assumed ≡ false) → SpacesFit (between a.tables search assumed u) s →
+    (told : List Entry) × TellsLeaving s.ever_hidden s.told told a.proof b.proof × SpacesFit (between b.tables search assumed t) (retold told s)
+one-left (Some b) v p q search assumed s u t a f free (w, k) =
+    let (x, n, h) = loses (Some b) p q v a in
+    let old = between p.tables search assumed u in
+    let (i, is, c) = k.solvers.live v x n.taken in
+    gone p.tables q.tables search assumed s u t x v (fixed_to b (kept_at p.tables.kept x)) w k p.proof q.proof n h (k.identities.live x i is) (fixed-stays w old s v x b t k refl n.taken (free x n.taken) f) (λ e i. fixed-left w old s v x b t k refl n.taken (free x n.taken) f e)
+one-left None v p q search assumed s u t a f free (w, k) =
+    let (x, n, h) = loses None p q v a in
+    let old = between p.tables search assumed u in
+    let (i, is, c) = k.solvers.live v x n.taken in
+    gone p.tables q.tables search assumed s u t x v (kept_at p.tables.kept x) w k p.proof q.proof n h (k.identities.live x i is) (apart-left w old s v x t k refl n.taken (free x n.taken) f) (λ e i. apart-recycled w old s v x t k refl n.taken (free x n.taken) e i f)
 
 -- 2. Several in turn.
 
@@ -187,19 +210,19 @@ pair-before : (old new : Tables) (v u x y : ℕ) (d : VarData) → LosesSolver o
 pair-before old new v u x y d p e =
     updated-all (λ u o. o ≡ Some x → (at old.solvers.backward u ≡ Some x) × (u ≡ v → ⊥)) (at old.solvers.backward) v None (λ q. absurd cc) u (λ n q. (q, n)) (sym (p.solvers.backward.at_each u) ∙ e)
 
-taken-before : (known : ℕ → Option Bool) (vs : List ℕ) (old new : Tables) → AreLeft known vs old new → (v : ℕ) → v ∈ vs → (x : ℕ) × (at old.solvers.backward v ≡ Some x)
-taken-before known [] old new e v h = absurd h
-taken-before known (u ∷ vs) old new (mid, a, rest) v (inl q) = let (x, p) = loses (known u) old mid u a in (x, ap (at old.solvers.backward) q ∙ p.taken)
-taken-before known (u ∷ vs) old new (mid, a, rest) v (inr h) =
-    let (y, p) = loses (known u) old mid u a in
-    let (x, e) = taken-before known vs mid new rest v h in
-    (x, (pair-before old mid u v x y (without_solver (at old.users.backward y) (with_known (known u) (kept_at old.kept y))) p e).0)
+taken-before : (known : ℕ → Option Bool) (vs : List ℕ) (p q : TracerState) → AreLeft known vs p q → (v : ℕ) → v ∈ vs → (x : ℕ) × (at p.tables.solvers.backward v ≡ Some x)
+taken-before known [] p q e v h = absurd h
+taken-before known (u ∷ vs) p q (mid, a, rest) v (inl e) = let (x, n, told) = loses (known u) p mid u a in (x, ap (at p.tables.solvers.backward) e ∙ n.taken)
+taken-before known (u ∷ vs) p q (mid, a, rest) v (inr h) =
+    let (y, n, told) = loses (known u) p mid u a in
+    let (x, e) = taken-before known vs mid q rest v h in
+    (x, (pair-before p.tables mid.tables u v x y (unless_unused (at p.tables.users.backward y) (with_known (known u) (kept_at p.tables.kept y))) n e).0)
 
 -- a variable that is not assumed stays so
-still-free : (known : Option Bool) (old new : Tables) (v x : ℕ) → LosesSolver old new x v (without_solver (at old.users.backward x) (with_known known (kept_at old.kept x))) → (y : ℕ) → (kept_at old.kept y).assumed ≡ false → (kept_at new.kept y).assumed ≡ false
+still-free : (known : Option Bool) (old new : Tables) (v x : ℕ) → LosesSolver old new x v (unless_unused (at old.users.backward x) (with_known known (kept_at old.kept x))) → (y : ℕ) → (kept_at old.kept y).assumed ≡ false → (kept_at new.kept y).assumed ≡ false
 still-free known old new v x n y e =
     let d = with_known known (kept_at old.kept x) in
-    ap (λ (a : VarData). a.assumed) (n.kept.at_each y) ∙ updated-all (λ y (a : VarData). (kept_at old.kept y).assumed ≡ false → a.assumed ≡ false) (kept_at old.kept) x (without_solver (at old.users.backward x) d) (λ q. by-name (unused (at old.users.backward x) d) (by-value known q)) y (λ _ q. q) e
+    ap (λ (a : VarData). a.assumed) (n.kept.at_each y) ∙ updated-all (λ y (a : VarData). (kept_at old.kept y).assumed ≡ false → a.assumed ≡ false) (kept_at old.kept) x (unless_unused (at old.users.backward x) d) (λ q. by-name (unused (at old.users.backward x) d) (by-value known q)) y (λ _ q. q) e
   where
     by-value : (o : Option Bool) → (kept_at old.kept x).assumed ≡ false → (with_known o (kept_at old.kept x)).assumed ≡ false
     by-value None q = q
@@ -234,17 +257,18 @@ same-holds P r s t f h = record {
     before l (inl a) = inl (f.fixed l a).0
     before l (inr (k, a, b)) = inr (k, subst (λ ks. k ∈ ks) f.kept a, b)
 
-all-left : (known : ℕ → Option Bool) (vs : List ℕ) (old new : Tables) (search : View) (assumed : AssumptionParts) (s : State) (u t : Search) → AreLeft known vs old new → AreWithout known vs u t → ((v x : ℕ) → v ∈ vs → at old.solvers.backward v ≡ Some x → (kept_at old.kept x).assumed ≡ false) → SpacesFit (between old search assumed u) s → (told : List Entry) × TellsLeaving s.ever_hidden s.told told × SpacesFit (between new search assumed t) (retold told s)
-all-left known [] old new search assumed s u t e f free (w, k) =
-    let p = between old search assumed u in
+all-left : (known : ℕ → Option Bool) (vs : List ℕ) (p q : TracerState) (search : View) (assumed : AssumptionParts) (s : State) (u t : Search) → AreLeft known vs p q → AreWithout known vs u t → ((v x : ℕ) → v ∈ vs → at p.tables.solvers.backward v ≡ Some x → (kept_at p.tables.kept x).assumed ≡ false) → SpacesFit (between p.tables search assumed u) s →
+    (told : List Entry) × TellsLeaving s.ever_hidden s.told told p.proof q.proof × SpacesFit (between q.tables search assumed t) (retold told s)
+all-left known [] p q search assumed s u t e f free (w, k) =
+    let old = between p.tables search assumed u in
     let same : AreWithout (λ v. None) [] u t = record { kept = f.kept; unmentioned = f.unmentioned; stays = λ l a. ⊎_elim inl (λ (i, q). absurd i) (f.stays l a); fixed = f.fixed; proved = f.proved; units = λ v b i. absurd i } in (
       s.told,
-      leaving-nothing s.ever_hidden s.told,
-      subst (λ (a : Tables). SpacesFit (between a search assumed t) s) (sym e) (
+      subst (λ (a : TracerState). TellsLeaving s.ever_hidden s.told s.told p.proof a.proof) (sym e) (leaving-nothing s.ever_hidden s.told p.proof),
+      subst (λ (a : TracerState). SpacesFit (between a.tables search assumed t) s) (sym e) (
         w,
-        relinked w p (between old search assumed t) s s k (record {
+        relinked w old (between p.tables search assumed t) s s k (record {
           solvers = k.solvers;
-          holds = same-holds s.clauses (translation w p s.told) u t same k.holds;
+          holds = same-holds s.clauses (translation w old s.told) u t same k.holds;
           assumptions = k.assumptions;
           working = k.working;
           verdict = k.verdict;
@@ -255,25 +279,28 @@ all-left known [] old new search assumed s u t e f free (w, k) =
         }),
       ),
     )
-all-left known (v ∷ vs) old new search assumed s u t (mid, a, rest) f free fit =
-    let (g, p) = loses (known v) old mid v a in
-    let d = without_solver (at old.users.backward g) (with_known (known v) (kept_at old.kept g)) in
-    let once = λ (i : v ∈ vs). let (x, e) = taken-before known vs mid new rest v i in (pair-before old mid v v x g d p e).1 refl in
-    let (first, more, mid-fits) = one-left (known v) v old mid search assumed s u (forget_variable v u) a (without-first known v vs u t f) (λ x e. free v x (inl refl) e) fit in
-    let (last, further, fits) = all-left known vs mid new search assumed (retold first s) (forget_variable v u) t rest (without-others known v vs u t once f)
-    (λ y x i e. still-free (known v) old mid v g p x (free y x (inr i) (pair-before old mid v y x g d p e).0))
+all-left known (v ∷ vs) p q search assumed s u t (mid, a, rest) f free fit =
+    let old = p.tables in
+    let (g, n, h) = loses (known v) p mid v a in
+    let d = unless_unused (at old.users.backward g) (with_known (known v) (kept_at old.kept g)) in
+    let once = λ (i : v ∈ vs). let (x, e) = taken-before known vs mid q rest v i in (pair-before old mid.tables v v x g d n e).1 refl in
+    let (first, more, mid-fits) = one-left (known v) v p mid search assumed s u (forget_variable v u) a (without-first known v vs u t f) (λ x e. free v x (inl refl) e) fit in
+    let (last, further, fits) = all-left known vs mid q search assumed (retold first s) (forget_variable v u) t rest (without-others known v vs u t once f)
+    (λ y x i e. still-free (known v) old mid.tables v g n x (free y x (inr i) (pair-before old mid.tables v y x g d n e).0))
     mid-fits in
-    (last, leaving-through s.ever_hidden s.told first last more further, fits)
+    (last, leaving-through s.ever_hidden s.told first last p.proof mid.proof q.proof more further, fits)
 
 -- Variables that are not assumed left the search, and their solver variables the tables: what is held stands for the same state as before.
-pub variables-left : (known : ℕ → Option Bool) (vs : List ℕ) (old new : Tables) (search after : View) (assumed : AssumptionParts) (s : State) → AreLeft known vs old new → AreWithout known vs (search_of search) (search_of after) → length after.values ≡ length search.values → ((v x : ℕ) → v ∈ vs → at old.solvers.backward v ≡ Some x → (kept_at old.kept x).assumed ≡ false) → SpacesFit (spaces_of old search assumed verdict.Unknown) s → (told : List Entry) × TellsLeaving s.ever_hidden s.told told × SpacesFit (spaces_of new after assumed verdict.Unknown) (retold told s)
-variables-left known vs old new search after assumed s a f count free fit =
-    let p = between new search assumed (search_of after) in
-    let (told, more, fits) = all-left known vs old new search assumed s (search_of search) (search_of after) a f free fit in
+pub variables-left : (known : ℕ → Option Bool) (vs : List ℕ) (p q : TracerState) (search after : View) (assumed : AssumptionParts) (s : State) → AreLeft known vs p q → AreWithout known vs (search_of search) (search_of after) → length after.values ≡ length search.values → ((v x : ℕ) → v ∈ vs → at p.tables.solvers.backward v ≡ Some x → (kept_at p.tables.kept x).assumed ≡ false) → SpacesFit (spaces_of p.tables search assumed verdict.Unknown) s →
+    (told : List Entry) × TellsLeaving s.ever_hidden s.told told p.proof q.proof × SpacesFit (spaces_of q.tables after assumed verdict.Unknown) (retold told s)
+variables-left known vs p q search after assumed s a f count free fit =
+    let new = q.tables in
+    let last = between new search assumed (search_of after) in
+    let (told, more, fits) = all-left known vs p q search assumed s (search_of search) (search_of after) a f free fit in
     let (w, k) = fits in (
       told,
       more,
-      maps-same (record p { var_count = length after.values }) (spaces_of new after assumed verdict.Unknown) (retold told s)
-          (maps-alike (record p { var_count = length after.values }) (spaces_of new after assumed verdict.Unknown) refl (λ x. refl) (λ b e y. absurd (let z : outcome.Unknown ≡ outcome.Sat b = e in cc)))
-          refl (w, recount w p (length search.values) (length after.values) (retold told s) count k),
+      maps-same (record last { var_count = length after.values }) (spaces_of new after assumed verdict.Unknown) (retold told s)
+          (maps-alike (record last { var_count = length after.values }) (spaces_of new after assumed verdict.Unknown) refl (λ x. refl) (λ b e y. absurd (let z : outcome.Unknown ≡ outcome.Sat b = e in cc)))
+          refl (w, recount w last (length search.values) (length after.values) (retold told s) count k),
     )

@@ -18,7 +18,10 @@ use Rattle.varisat_search.specs.Seen.{search_of, is_fixed}
 use Rattle.varisat_names.specs.VarMap.{at}
 use Rattle.varisat_names.specs.VarBiMap.{BiMap}
 use Rattle.varisat_names.specs.VarData.{kept_at}
-use Rattle.varisat_names.specs.Variables.{Tables, IsDropped}
+use Rattle.varisat_names.specs.Variables.{Tables}
+use Rattle.varisat_proof.specs.Proving.{IsTold}
+use Rattle.varisat_tracer.specs.Told.{told-none, told-more}
+use Rattle.varisat_tracer.specs.Tracing.{TracerState, leaves_if_deleted}
 use Rattle.varisat_names.proofs.Maps.{chain-some}
 use Rattle.varisat_names.proofs.VarMap.{at-inside}
 use Rattle.varisat_search.specs.declared.context.Context.{Context}
@@ -31,13 +34,13 @@ use Rattle.varisat.specs.Journals.{retold, TellsLeaving}
 use Rattle.varisat.specs.Spaces.{SpacesFit}
 use Rattle.varisat.specs.Accepting.{HasUser, IsAssumedSolver}
 use Rattle.varisat.specs.Summaries.{spaces_of, IsKept}
-use Rattle.varisat.specs.Dropping.{leads_to_unassumed, AreOverAssumed, FlagsVariables, leads_to_hidden, ListsUnneeded, AreReleased, LeavesNeeded, LetsLeave}
+use Rattle.varisat.specs.Dropping.{leads_to_unassumed, AreOverAssumed, FlagsVariables, leads_to_hidden, ListsUnneeded, LosesSolverVar, AreReleased, LeavesNeeded, LetsLeave}
 use Rattle.varisat.proofs.DroppedListed.{unmentioned-by}
 use Rattle.varisat.proofs.DroppedKept.{true-or-not, HaveLeft, values-left, kept-left, over-left}
 use Rattle.varisat.proofs.DroppedTables.{AreLeft, AreWithout, variables-left}
 use Rattle.varisat.proofs.PlainTables.{there-is}
 use Rattle.varisat.proofs.SearchViews.{of-kept}
-use Rattle.varisat.proofs.ToldEntries.{tells-nothing}
+use Rattle.varisat.proofs.PlainTold.{leaving-nothing}
 
 -- a variable without a name stands there
 pub hidden-global : (m : Tables) (o : Option ℕ) → leads_to_hidden m o ≡ true → (x : ℕ) × (o ≡ Some x) × (at m.users.backward x ≡ None)
@@ -64,18 +67,26 @@ needed-shown m s over shown = record {
 }
 
 -- and none does.
-pub none-leaves : {A : Type 0} (m : Tables) (x : Context A) → IsKept m x → LetsLeave m x m x
-none-leaves m x k = record { kept = k; within = λ c q b. b; count = refl; stands = λ s fit. (s.told, record { more = tells-nothing s.told; quiet = λ h. refl }, fit) }
+pub none-leaves : {A : Type 0} (p : TracerState) (x : Context A) → IsKept p.tables x → LetsLeave p x p x
+none-leaves p x k = record { kept = k; within = λ c q b. b; count = refl; given = ([], told-none p.proof); stands = λ s fit. (s.told, leaving-nothing s.ever_hidden s.told p.proof, fit) }
 
 -- several were dropped in turn, and then one more
-pub released-push : (ls : List Literal) (l : Literal) (old mid new : Tables) → AreReleased ls old mid → (x : ℕ) × IsDropped mid new x (variable_of l) → AreReleased (ls ++ l ∷ []) old new
-released-push [] l old mid new e d = (new, subst (λ t. (x : ℕ) × IsDropped t new x (variable_of l)) e d, refl)
-released-push (m ∷ ls) l old mid new (t, a, rest) d = (t, a, released-push ls l t mid new rest d)
+pub released-push : (ls : List Literal) (l : Literal) (p mid q : TracerState) → AreReleased ls p mid → (x : ℕ) × LosesSolverVar x (variable_of l) mid q → AreReleased (ls ++ l ∷ []) p q
+released-push [] l p mid q e d = (q, subst (λ t. (x : ℕ) × LosesSolverVar x (variable_of l) t q) e d, refl)
+released-push (m ∷ ls) l p mid q (t, a, rest) d = (t, a, released-push ls l t mid q rest d)
+
+-- what the proof was told meanwhile
+pub released-told : (ls : List Literal) (p q : TracerState) → AreReleased ls p q → (given : List Entry) × IsTold p.proof given q.proof
+released-told [] p q e = ([], subst (λ (t : TracerState). IsTold p.proof [] t.proof) (sym e) (told-none p.proof))
+released-told (l ∷ ls) p q (mid, (x, loses), rest) =
+    let (given, told) = released-told ls mid q rest in
+    let first = leaves_if_deleted mid.tables x in
+    (first ++ given, told-more p.proof mid.proof q.proof first given loses.told told)
 
 -- as the laws of dropping say it, where no value is fixed
-released-left : (ls : List Literal) (old new : Tables) → AreReleased ls old new → AreLeft (λ v. None) (map variable_of ls) old new
-released-left [] old new e = e
-released-left (l ∷ ls) old new (mid, a, rest) = (mid, a, released-left ls mid new rest)
+released-left : (ls : List Literal) (p q : TracerState) → AreReleased ls p q → AreLeft (λ v. None) (map variable_of ls) p q
+released-left [] p q e = e
+released-left (l ∷ ls) p q (mid, a, rest) = (mid, a, released-left ls mid q rest)
 
 module _ (m : Tables) (mentioned : List Bool) (ls : List Literal) (u : ListsUnneeded m mentioned ls) where
   listed-is : (l : Literal) → l ∈ ls → (variable_of l < length mentioned) × (slice_index_or mentioned (variable_of l) false ≡ false) × (leads_to_hidden m (at m.solvers.backward (variable_of l)) ≡ true)
@@ -165,14 +176,18 @@ module _ {A : Type 0} {m n : Tables} {x y : Context A} {mentioned gone : List Bo
   pub needed-left : LeavesNeeded n (view y)
   needed-left = record { assumed = over-left h (λ l on e. over l on); needed = needed }
 
-  pub stands-released : AreReleased ls m n → search_of (view y) ≡ search_without gone (search_of (view x)) → (s : State) → SpacesFit (spaces_of m (view x) x.assumptions verdict.Unknown) s → (told : List Entry) × TellsLeaving s.ever_hidden s.told told × SpacesFit (spaces_of n (view y) y.assumptions verdict.Unknown) (retold told s)
+-- What it stands for, which is told to the proof too.
+module _ {A : Type 0} {p q : TracerState} {x y : Context A} {mentioned gone : List Bool} {ls : List Literal} (over : AreOverAssumed p.tables x.trail.literals) (f : FlagsMentioned (view x) mentioned) (u : ListsUnneeded p.tables mentioned ls) (h : HaveLeft p.tables q.tables x y gone ls (length mentioned)) where
+  pub stands-released : AreReleased ls p q → search_of (view y) ≡ search_without gone (search_of (view x)) → (s : State) → SpacesFit (spaces_of p.tables (view x) x.assumptions verdict.Unknown) s →
+      (told : List Entry) × TellsLeaving s.ever_hidden s.told told p.proof q.proof × SpacesFit (spaces_of q.tables (view y) y.assumptions verdict.Unknown) (retold told s)
   stands-released a seen s (c, links) =
+      let m = p.tables in
       let free : (v z : ℕ) → v ∈ map variable_of ls → at m.solvers.backward v ≡ Some z → (kept_at m.kept z).assumed ≡ false = (λ v z i e. true-or-not (kept_at m.kept z).assumed (λ t.
-      let (l, g, q) = links.marks.only z t in
-      let (j, f, o) = map-∈ variable_of v ls i in
-      not-named m mentioned ls u j z (variable_of l) f (ap (at m.solvers.backward) (sym o) ∙ e) (h.linked.users.there (variable_of l) z q))) in
-      subst (λ (as' : AssumptionParts). (told : List Entry) × TellsLeaving s.ever_hidden s.told told × SpacesFit (spaces_of n (view y) as' verdict.Unknown) (retold told s)) (sym h.assumptions)
-      (variables-left (λ v. None) (map variable_of ls) m n (view x) (view y) x.assumptions s (released-left ls m n a) (without-unneeded m mentioned ls u (view x) gone p h.flags (view y) over free seen) (values-left h) free (c, links))
+      let (l, g, r) = links.marks.only z t in
+      let (j, k, o) = map-∈ variable_of v ls i in
+      not-named m mentioned ls u j z (variable_of l) k (ap (at m.solvers.backward) (sym o) ∙ e) (h.linked.users.there (variable_of l) z r))) in
+      subst (λ (as' : AssumptionParts). (told : List Entry) × TellsLeaving s.ever_hidden s.told told p.proof q.proof × SpacesFit (spaces_of q.tables (view y) as' verdict.Unknown) (retold told s)) (sym h.assumptions)
+      (variables-left (λ v. None) (map variable_of ls) p q (view x) (view y) x.assumptions s (released-left ls p q a) (without-unneeded m mentioned ls u (view x) gone f h.flags (view y) over free seen) (values-left h) free (c, links))
 
 -- Of each hidden variable below n whose flag is not set there is one literal.
 pub record ListsBelow (n : ℕ) (t : Tables) (flags : List Bool) (ls : List Literal) : Type 0 where

@@ -1,5 +1,5 @@
 -- What the calls that hide, show and change a variable do to the tables, said of the states.
-use Rattle.std.proofs.Common.{◌≡◌, ◌≢◌, ℕ, ◌<◌, ◌≤◌, Bool, true, false, if◌then◌else◌, Option, Some, None, ◌⊎◌, ⊎_elim, length, sym, ap, ◌∙◌, subst, refl, arith, List}
+use Rattle.std.proofs.Common.{◌≡◌, ◌≢◌, ℕ, ◌<◌, ◌≤◌, Bool, true, false, if◌then◌else◌, Option, Some, None, ◌⊎◌, ⊎_elim, length, sym, ap, ◌∙◌, subst, refl, arith, List, [], ◌∷◌, ◌++◌}
 use Rattle.varisat_theory.specs.Membership.{◌∈◌}
 use Rattle.varisat_theory.specs.Literals.{variable_of}
 use Rattle.varisat_theory.proofs.Renaming.{∈-map, map-∈}
@@ -8,7 +8,7 @@ use Rattle.varisat_names.specs.Maps.{updated}
 use Rattle.varisat_names.specs.VarMap.{at}
 use Rattle.varisat_names.specs.VarBiMap.{BiMap}
 use Rattle.varisat_names.specs.VarData.{dead, kept_at, IsKeptAs}
-use Rattle.varisat_names.specs.Variables.{Tables, IsChangedTo, unused, IsHidden, IsShown}
+use Rattle.varisat_names.specs.Variables.{Tables, IsChangedTo, unused, IsHidden, IsDeletedIfUnused, IsShown}
 use Rattle.varisat_names.specs.declared.variables.data.VarData.{VarData}
 use Rattle.varisat_names.specs.declared.variables.data.SamplingMode.{SamplingMode}
 use Rattle.varisat_names.specs.declared.variables.data.SamplingMode.TheVariants as sampling
@@ -18,10 +18,18 @@ use Rattle.varisat.specs.Names.{Mode, give_name, IsLeastFree, IsUnnamed}
 use Rattle.varisat.specs.Calls.{with_naming}
 use Rattle.varisat.specs.VariableCalls.{IsAssumed, with_mode, hide_name}
 use Rattle.varisat.specs.Carried.{carry, value_or}
-use Rattle.varisat_theory.specs.Journals.{Entry}
-use Rattle.varisat.specs.Journals.{retold, TellsMore}
-use Rattle.varisat.proofs.ToldEntries.{tells-nothing}
-use Rattle.varisat.specs.Spaces.{Spaces, Carrying, ModeFits, Links, SpacesFit}
+use Rattle.varisat_theory.specs.Journals.{Entry, Leaves}
+use Rattle.varisat_theory.specs.Literals.{Literal}
+use Rattle.varisat_theory.specs.Outcomes as outcome
+use Rattle.varisat_prop.specs.View.{View}
+use Rattle.varisat_proof.specs.Proving.{ProofParts, IsTold}
+use Rattle.varisat_tracer.specs.Tracing.{leaves_if_deleted}
+use Rattle.varisat_search.specs.Seen.{outcome_of}
+use Rattle.varisat_search.specs.declared.state.SatState.{SatState}
+use Rattle.varisat_search.specs.declared.state.SatState.TheVariants as verdict
+use Rattle.varisat.specs.Journals.{retold, TellsLeaving}
+use Rattle.varisat.proofs.PlainTold.{leaving-none, leaving-one}
+use Rattle.varisat.specs.Spaces.{Spaces, Carrying, ModeFits, without_core, Links, SpacesFit}
 use Rattle.varisat.specs.Summaries.{Summary, spaces}
 use Rattle.varisat.proofs.Carried.{carry-at}
 use Rattle.varisat.proofs.SolveVerdict.{maps-same}
@@ -30,7 +38,7 @@ use Rattle.varisat.proofs.KeptCounts.{kept-most}
 use Rattle.varisat.proofs.NewNames.{linked}
 use Rattle.varisat.proofs.VariableMoves.{in_mode, set_mode, hide, show, recycle}
 use Rattle.varisat.proofs.HiddenStates.{field-same, one-name, identity-named, hidden}
-use Rattle.varisat.proofs.RecycledGlobals.{recycled}
+use Rattle.varisat.proofs.RecycledGlobals.{was-hidden, recycled}
 use Rattle.varisat.proofs.ModeStates.{mode-set}
 use Rattle.varisat.proofs.ShownStates.{no-name, shown}
 
@@ -113,77 +121,102 @@ shown-spaces g s new x u (w, k) live unnamed n =
       ),
     )
 
+-- 3. A name is freed.
+pub hidden-spaces : (g : Summary) (s : State) (new : Tables) (u x : ℕ) → SpacesFit (spaces g) s → at g.tables.users.forward u ≡ Some x → (kept_at g.tables.kept x).assumed ≡ false → IsHidden g.tables new u x → SpacesFit (spaces (with_tables new g)) (hide_name u s)
+hidden-spaces g s new u x (w, k) named unassumed n =
+    let d = in_mode sampling.Hide (kept_at g.tables.kept x) in
+    maps-same (hide u x (spaces g)) (spaces (with_tables new g)) (hide_name u s) (record {
+      global_from_user = n.users.forward.at_each;
+      user_from_global = n.users.backward.at_each;
+      watermark = same-watermark;
+      globals = kept-most g.tables.kept new.kept x d (named-live w (spaces g) s u x k named) n.kept;
+      solver_from_global = λ y. ap (λ (b : BiMap). at b.forward y) n.solvers;
+      global_from_solver = λ v. ap (λ (b : BiMap). at b.backward v) n.solvers;
+      kept = n.kept.at_each;
+      model = λ a e y. model-kept g new x d n.kept refl n.solvers y;
+    }) refl (w, hidden w (spaces g) s u x k named unassumed)
+  where
+    over-or : (a b : ℕ) → (a ≤ b) ⊎ (b < a)
+    over-or a b = grind arith
+
+    same-watermark : length new.users.forward ≡ length g.tables.users.forward
+    same-watermark =
+        let a = n.users.forward.watermark in
+        let b = k.watermark in
+        ⊎_elim
+        (λ h. let z : None ≡ Some x = sym (k.names.free u (omega (arith, h, b))) ∙ named in absurd cc)
+        (λ h. omega (arith, a, h))
+        (over-or (length g.tables.users.forward) u)
+
+-- 4. A hidden variable may be used again where it is unused.
+
 is-unused : (o : Option ℕ) (d : VarData) → unused o d ≡ true → (o ≡ None) × (d.isolated ≡ true)
 is-unused None d e = (refl, e)
 is-unused (Some y) d e = absurd (let z : false ≡ true = e in cc)
 
-module _ (g : Summary) (s : State) (new : Tables) (u x : ℕ) (w : Carrying) (k : Links w (spaces g) s) (named : at g.tables.users.forward u ≡ Some x) (unassumed : (kept_at g.tables.kept x).assumed ≡ false) (n : IsHidden g.tables new u x) where
-  away : VarData
-  away = in_mode sampling.Hide (kept_at g.tables.kept x)
+-- a verdict but Unsat
+undecided : (search : View) (core : List Literal) (v : SatState) → v ≢ verdict.Unsat → without_core (outcome_of search core v) ≢ outcome.Unsat
+undecided search core verdict.Unknown n e = let z : outcome.Unknown ≡ outcome.Unsat = e in cc
+undecided search core verdict.Sat n e = let z : outcome.Sat (assignment_of search) ≡ outcome.Unsat = e in cc
+undecided search core verdict.Unsat n e = n refl
+undecided search core verdict.UnsatUnderAssumptions n e = let z : outcome.Unknown ≡ outcome.Unsat = e in cc
 
-  over-or : (a b : ℕ) → (a ≤ b) ⊎ (b < a)
-  over-or a b = grind arith
+module _ (g : Summary) (s : State) (new : Tables) (x : ℕ) (w : Carrying) (k : Links w (spaces g) s) (live : (kept_at g.tables.kept x).deleted ≡ false) (unnamed : at g.tables.users.backward x ≡ None) (unsettled : g.sat_state ≢ verdict.Unsat) (n : IsDeletedIfUnused g.tables new x) (p q : ProofParts) (told : IsTold p (leaves_if_deleted new x) q) where
+  same-users : new.users ≡ g.tables.users
+  same-users = ap (λ (t : Tables). t.users) n.rest
 
-  same-watermark : length new.users.forward ≡ length g.tables.users.forward
-  same-watermark =
-      let a = n.users.forward.watermark in
-      let b = k.watermark in
-      ⊎_elim
-      (λ h. let z : None ≡ Some x = sym (k.names.free u (omega (arith, h, b))) ∙ named in absurd cc)
-      (λ h. omega (arith, a, h))
-      (over-or (length g.tables.users.forward) u)
+  same-solvers : new.solvers ≡ g.tables.solvers
+  same-solvers = ap (λ (t : Tables). t.solvers) n.rest
 
-  same-solver : (y : ℕ) → at new.solvers.forward y ≡ at g.tables.solvers.forward y
-  same-solver y = ap (λ (b : BiMap). at b.forward y) n.solvers
+  -- what is kept, by whether the variable is unused
+  kept-as : (b : Bool) → unused (at g.tables.solvers.forward x) (kept_at g.tables.kept x) ≡ b → IsKeptAs g.tables.kept x (if b then dead else kept_at g.tables.kept x) new.kept
+  kept-as b e = subst (λ c. IsKeptAs g.tables.kept x (if c then dead else kept_at g.tables.kept x) new.kept) e n.kept
 
-  -- what is kept, by whether the variable may be used again
-  kept-as : (b : Bool) → unused (at g.tables.solvers.forward x) (kept_at g.tables.kept x) ≡ b → IsKeptAs g.tables.kept x (if b then dead else away) new.kept
-  unfolding away
-  kept-as b e = subst (λ c. IsKeptAs g.tables.kept x (if c then dead else in_mode sampling.Hide (kept_at g.tables.kept x)) new.kept) e n.kept
+  stays-live : IsKeptAs g.tables.kept x (kept_at g.tables.kept x) new.kept → SpacesFit (spaces (with_tables new g)) s
+  stays-live q = maps-same (spaces g) (spaces (with_tables new g)) s (record {
+    global_from_user = λ v. ap (λ (b : BiMap). at b.forward v) same-users;
+    user_from_global = λ y. ap (λ (b : BiMap). at b.backward y) same-users;
+    watermark = ap (λ (b : BiMap). length b.forward) same-users;
+    globals = kept-most g.tables.kept new.kept x (kept_at g.tables.kept x) live q;
+    solver_from_global = λ y. ap (λ (b : BiMap). at b.forward y) same-solvers;
+    global_from_solver = λ v. ap (λ (b : BiMap). at b.backward v) same-solvers;
+    kept = λ y. q.at_each y ∙ updated-all (λ y a. a ≡ kept_at g.tables.kept y) (kept_at g.tables.kept) x (kept_at g.tables.kept x) refl y (λ m. refl);
+    model = λ a e y. model-kept g new x (kept_at g.tables.kept x) q refl same-solvers y;
+  }) refl (w, k)
 
-  hidden-only : IsKeptAs g.tables.kept x away new.kept → SpacesFit (spaces (with_tables new g)) (hide_name u s)
-  unfolding away
-  hidden-only q = maps-same (hide u x (spaces g)) (spaces (with_tables new g)) (hide_name u s) (record {
-    global_from_user = n.users.forward.at_each;
-    user_from_global = n.users.backward.at_each;
-    watermark = same-watermark;
-    globals = kept-most g.tables.kept new.kept x (in_mode sampling.Hide (kept_at g.tables.kept x)) (named-live w (spaces g) s u x k named) q;
-    solver_from_global = same-solver;
-    global_from_solver = λ v. ap (λ (b : BiMap). at b.backward v) n.solvers;
-    kept = q.at_each;
-    model = λ a e y. model-kept g new x (in_mode sampling.Hide (kept_at g.tables.kept x)) q refl n.solvers y;
-  }) refl (w, hidden w (spaces g) s u x k named unassumed)
-
-  also-recycled : IsKeptAs g.tables.kept x dead new.kept → at g.tables.solvers.forward x ≡ None → (kept_at g.tables.kept x).isolated ≡ true → (told : List Entry) × TellsMore 0 s.told told × SpacesFit (spaces (with_tables new g)) (retold told (hide_name u s))
-  unfolding away
-  also-recycled q unsolved alone =
-      let p = spaces g in
+  goes : IsKeptAs g.tables.kept x dead new.kept → at g.tables.solvers.forward x ≡ None → (kept_at g.tables.kept x).isolated ≡ true → (i : ℕ) → w.identity x ≡ Some i → SpacesFit (spaces (with_tables new g)) (retold (s.told ++ Leaves i ∷ []) s)
+  goes q unsolved alone i is =
       let f = assignment_of g.search in
-      let (i, is) = k.names.live u x named in
-      let (told, more, fits) = recycled w (hide u x p) (hide_name u s) x i (hidden w p s u x k named unassumed) is (updated-at p.user_from_global x None) unsolved (ap (λ (d : VarData). d.isolated) (updated-at p.kept x away) ∙ alone) in (
-        told,
-        more.more,
-        maps-same (recycle x (hide u x p)) (spaces (with_tables new g)) (retold told (hide_name u s)) (record {
-          global_from_user = n.users.forward.at_each;
-          user_from_global = n.users.backward.at_each;
-          watermark = same-watermark;
-          globals = kept-most g.tables.kept new.kept x dead (named-live w p s u x k named) q;
-          solver_from_global = same-solver;
-          global_from_solver = λ v. ap (λ (b : BiMap). at b.backward v) n.solvers;
-          kept = λ y. q.at_each y ∙ updated-all (λ y a. a ≡ updated (updated p.kept x away) x dead y) p.kept x dead (sym (updated-at (updated p.kept x away) x dead)) y (λ m. sym (updated-other (updated p.kept x away) x dead y m ∙ updated-other p.kept x away y m));
-          model = λ a e y. updated-all (λ y b. value_or (kept_at new.kept y).unit f (at new.solvers.forward y) ≡ b) p.model x false
-              (ap (λ (d : VarData). value_or d.unit f (at new.solvers.forward x)) (q.at_each x ∙ updated-at (kept_at g.tables.kept) x dead) ∙ ap (value_or None f) (same-solver x ∙ unsolved))
-              y
-              (λ m. ap (λ (d : VarData). value_or d.unit f (at new.solvers.forward y)) (q.at_each y ∙ updated-other (kept_at g.tables.kept) x dead y m) ∙ ap (value_or (kept_at g.tables.kept y).unit f) (same-solver y));
-        }) refl fits,
+      maps-same (recycle x (spaces g)) (spaces (with_tables new g)) (retold (s.told ++ Leaves i ∷ []) s) (record {
+        global_from_user = λ v. ap (λ (b : BiMap). at b.forward v) same-users;
+        user_from_global = λ y. ap (λ (b : BiMap). at b.backward y) same-users;
+        watermark = ap (λ (b : BiMap). length b.forward) same-users;
+        globals = kept-most g.tables.kept new.kept x dead live q;
+        solver_from_global = λ y. ap (λ (b : BiMap). at b.forward y) same-solvers;
+        global_from_solver = λ v. ap (λ (b : BiMap). at b.backward v) same-solvers;
+        kept = q.at_each;
+        model = λ a e y. updated-all (λ y b. value_or (kept_at new.kept y).unit f (at new.solvers.forward y) ≡ b) (spaces g).model x false
+            (ap (λ (d : VarData). value_or d.unit f (at new.solvers.forward x)) (q.at_each x ∙ updated-at (kept_at g.tables.kept) x dead) ∙ ap (value_or None f) (ap (λ (b : BiMap). at b.forward x) same-solvers ∙ unsolved))
+            y
+            (λ m. ap (λ (d : VarData). value_or d.unit f (at new.solvers.forward y)) (q.at_each y ∙ updated-other (kept_at g.tables.kept) x dead y m) ∙ ap (λ (b : BiMap). value_or (kept_at g.tables.kept y).unit f (at b.forward y)) same-solvers);
+      }) refl (recycled w (spaces g) s x i k is unnamed unsolved alone (undecided g.search g.assumed.failed_core g.sat_state unsettled))
+
+  by-use : (b : Bool) → unused (at g.tables.solvers.forward x) (kept_at g.tables.kept x) ≡ b → (after : List Entry) × TellsLeaving s.ever_hidden s.told after p q × SpacesFit (spaces (with_tables new g)) (retold after s)
+  by-use true e =
+      let (unsolved, alone) = is-unused (at g.tables.solvers.forward x) (kept_at g.tables.kept x) e in
+      let (i, is) = linked w (spaces g) s x k live in (
+        s.told ++ Leaves i ∷ [],
+        leaving-one s.ever_hidden s.told i p q (leaves_if_deleted new x) (was-hidden w (spaces g) s x i k is unnamed unsolved alone) told,
+        goes (kept-as true e) unsolved alone i is,
       )
+  by-use false e =
+      let kept = kept-as false e in
+      let same = ap (λ (d : VarData). d.deleted) (kept.at_each x ∙ updated-at (kept_at g.tables.kept) x (kept_at g.tables.kept x)) ∙ live in
+      (s.told, leaving-none s.ever_hidden s.told p q (leaves_if_deleted new x) (ap (λ (b : Bool). if b then Leaves x ∷ [] else []) same) told, stays-live kept)
 
-  by-use : (b : Bool) → unused (at g.tables.solvers.forward x) (kept_at g.tables.kept x) ≡ b → (told : List Entry) × TellsMore 0 s.told told × SpacesFit (spaces (with_tables new g)) (retold told (hide_name u s))
-  by-use true e = let (unsolved, alone) = is-unused (at g.tables.solvers.forward x) (kept_at g.tables.kept x) e in also-recycled (kept-as true e) unsolved alone
-  by-use false e = (s.told, tells-nothing s.told, hidden-only (kept-as false e))
+  links-left : (after : List Entry) × TellsLeaving s.ever_hidden s.told after p q × SpacesFit (spaces (with_tables new g)) (retold after s)
+  links-left = by-use (unused (at g.tables.solvers.forward x) (kept_at g.tables.kept x)) refl
 
-  links-hidden : (told : List Entry) × TellsMore 0 s.told told × SpacesFit (spaces (with_tables new g)) (retold told (hide_name u s))
-  links-hidden = by-use (unused (at g.tables.solvers.forward x) (kept_at g.tables.kept x)) refl
-
-pub hidden-spaces : (g : Summary) (s : State) (new : Tables) (u x : ℕ) → SpacesFit (spaces g) s → at g.tables.users.forward u ≡ Some x → (kept_at g.tables.kept x).assumed ≡ false → IsHidden g.tables new u x → (told : List Entry) × TellsMore 0 s.told told × SpacesFit (spaces (with_tables new g)) (retold told (hide_name u s))
-hidden-spaces g s new u x (w, k) named unassumed n = links-hidden g s new u x w k named unassumed n
+pub left-spaces : (g : Summary) (s : State) (new : Tables) (x : ℕ) (p q : ProofParts) → SpacesFit (spaces g) s → (kept_at g.tables.kept x).deleted ≡ false → at g.tables.users.backward x ≡ None → g.sat_state ≢ verdict.Unsat → IsDeletedIfUnused g.tables new x → IsTold p (leaves_if_deleted new x) q →
+    (after : List Entry) × TellsLeaving s.ever_hidden s.told after p q × SpacesFit (spaces (with_tables new g)) (retold after s)
+left-spaces g s new x p q (w, k) live unnamed unsettled n told = links-left g s new x w k live unnamed unsettled n p q told

@@ -4,10 +4,10 @@ use Rattle.std.proofs.lemmas.List.{append-nil}
 use Rattle.varisat_theory.specs.Literals.{Literal, variable_of}
 use Rattle.varisat_theory.specs.Derivations.{Line, Add, Delete}
 use Rattle.varisat_theory.specs.Renaming.{rename_line}
-use Rattle.varisat_theory.specs.Journals.{Entry, Writes, written}
+use Rattle.varisat_theory.specs.Journals.{Entry, Writes, Leaves, written}
 use Rattle.varisat_names.specs.Maps.{chain}
 use Rattle.varisat_names.proofs.Maps.{chain-some, chain-none, is-some}
-use Rattle.varisat_proof.specs.Proving.{ProofParts}
+use Rattle.varisat_proof.specs.Proving.{ProofParts, IsTold}
 use Rattle.varisat_tracer.specs.Carried.{variable_or_first, told_as}
 use Rattle.varisat_tracer.specs.Carried as global
 use Rattle.varisat_tracer.specs.Told.{told-none, told-more}
@@ -16,9 +16,10 @@ use Rattle.varisat.specs.States.{State}
 use Rattle.varisat.specs.Names.{identity_of}
 use Rattle.varisat.specs.Carried.{carry}
 use Rattle.varisat.specs.Spaces.{Spaces, Carrying, translation, Links}
-use Rattle.varisat.specs.Journals.{TellsProof}
+use Rattle.varisat.specs.Journals.{TellsProof, TellsLeaving}
 use Rattle.varisat.proofs.SpacesAgree.{carry-same, map-same}
 use Rattle.varisat.proofs.ReachedHeld.{told_lines}
+use Rattle.varisat.proofs.ToldEntries.{tells-nothing, tells, tells-through, leaves-goes}
 
 -- 1. Literals and lines.
 same-number : (o : Option ℕ) → identity_of o ≡ variable_or_first o
@@ -63,3 +64,19 @@ proof-through hidden a b c p q r s t = record {
   told = told-more p q r s.given t.given s.told t.told;
   plain = λ h. t.plain h ∙ ap (λ xs. xs ++ t.given) (s.plain h) ∙ append_assoc a s.given t.given;
 }
+
+-- 3. Variables leave.
+
+-- None did, and the proof was told of none.
+pub leaving-none : (hidden : Bool) (told : List Entry) (p q : ProofParts) (given : List Entry) → given ≡ [] → IsTold p given q → TellsLeaving hidden told told p q
+leaving-none hidden told p q given e h = record { more = tells-nothing told; proof = record { given = given; told = h; plain = λ _. sym (ap (λ xs. told ++ xs) e ∙ append-nil told) } }
+
+pub leaving-nothing : (hidden : Bool) (told : List Entry) (p : ProofParts) → TellsLeaving hidden told told p p
+leaving-nothing hidden told p = leaving-none hidden told p p [] refl (told-none p)
+
+-- one did, which a proof was told of as a global variable, and where something was hidden before
+pub leaving-one : (hidden : Bool) (told : List Entry) (i : ℕ) (p q : ProofParts) (given : List Entry) → (hidden ≡ false → ⊥) → IsTold p given q → TellsLeaving hidden told (told ++ Leaves i ∷ []) p q
+leaving-one hidden told i p q given n h = record { more = tells 0 told (Leaves i ∷ []) (leaves-goes told i); proof = record { given = given; told = h; plain = λ e. absurd (n e) } }
+
+pub leaving-through : (hidden : Bool) (a b c : List Entry) (p q r : ProofParts) → TellsLeaving hidden a b p q → TellsLeaving hidden b c q r → TellsLeaving hidden a c p r
+leaving-through hidden a b c p q r s t = record { more = tells-through 0 0 a b c s.more t.more; proof = proof-through hidden a b c p q r s.proof t.proof }

@@ -313,11 +313,6 @@ still-there v (d ∷ P) c (inr h) e = go (mentions v d) (still-there v P c h e)
     go true i = i
     go false i = inr i
 
--- what is told as an identity is gone: under Unsat nothing
-abbrev pub leaving : Outcome → ℕ → List Entry
-leaving outcome.Unsat i = []
-leaving _ i = Leaves i ∷ []
-
 -- No solver variable stands for the identity i, which is live no longer; solver variables stand for what they stood for.
 module _ (r r' : Translation) (i : ℕ) (none : (v : ℕ) → r.identity v ≡ Some i → ⊥) (same : (v : ℕ) → r'.identity v ≡ r.identity v) (forced : (j : ℕ) → r'.forced j ≡ r.forced j) (live : (j x : ℕ) → r'.global j ≡ Some x → (j ≡ i → ⊥) × (r.global j ≡ Some x)) (still : (j x : ℕ) → (j ≡ i → ⊥) → r.global j ≡ Some x → r'.global j ≡ Some x) where
   shares-gone : (share : List Clause) → r'.told ≡ r.told ++ Leaves i ∷ [] → SharesHeld r share → SharesHeld r' share
@@ -343,8 +338,8 @@ module _ (r r' : Translation) (i : ℕ) (none : (v : ℕ) → r.identity v ≡ S
         live = λ c l h a. let (x, g) = q.live c l (without_less i q.forgotten c h) a in (x, still (variable_of l) x (left-apart i q.forgotten c l h a) g);
       }
 
-  pub told-gone : (share : List Clause) (v : Outcome) → r'.told ≡ r.told ++ leaving v i → HeldFits r share v → HeldFits r' share v
-  told-gone share outcome.Unknown e q = shares-gone share e q
-  told-gone share (outcome.Sat found) e q = shares-gone share e q
-  told-gone share outcome.Unsat e q = subst ToldConflict (sym (e ∙ append-nil r.told)) q
-  told-gone share (outcome.UnsatUnder core) e q = shares-gone share e q
+  pub told-gone : (share : List Clause) (v : Outcome) → v ≢ outcome.Unsat → r'.told ≡ r.told ++ Leaves i ∷ [] → HeldFits r share v → HeldFits r' share v
+  told-gone share outcome.Unknown n e q = shares-gone share e q
+  told-gone share (outcome.Sat found) n e q = shares-gone share e q
+  told-gone share outcome.Unsat n e q = absurd (n refl)
+  told-gone share (outcome.UnsatUnder core) n e q = shares-gone share e q

@@ -1,5 +1,5 @@
 -- A global variable without a name may be used again.
-use Rattle.std.proofs.Common.{◌≡◌, ℕ, ◌<◌, true, false, Option, Some, None, List, ◌++◌, sym, ap, ◌∙◌, subst, refl}
+use Rattle.std.proofs.Common.{◌≡◌, ◌≢◌, ℕ, ◌<◌, true, false, Option, Some, None, [], ◌∷◌, ◌++◌, sym, ap, ◌∙◌, subst, refl}
 use Rattle.varisat_theory.specs.Membership.{◌∈◌}
 use Rattle.varisat_theory.specs.Literals.{Literal, variable_of}
 use Rattle.varisat_names.specs.Maps.{updated, chain}
@@ -10,12 +10,13 @@ use Rattle.varisat_names.proofs.Maps.{updated-at, updated-other, updated-all, pa
 use Rattle.varisat.specs.States.{State}
 use Rattle.varisat.specs.Spaces.{Spaces, Carrying, ModeFits, IdentitiesFit, NamesFit, ModesFit, UnitsFit, IsolationCase, NotIsolated, Apart, Forced, IsolationFits, MarksFit, without_core, Translation, translation, Links, SpacesFit}
 use Rattle.varisat.proofs.SpacesAgree.{working-same, holds-same, verdict-moved}
-use Rattle.varisat_theory.specs.Journals.{Entry}
-use Rattle.varisat.specs.Journals.{retold, TellsLeaving}
+use Rattle.varisat_theory.specs.Journals.{Leaves}
+use Rattle.varisat_theory.specs.Outcomes as outcome
+use Rattle.varisat.specs.Journals.{retold}
 use Rattle.varisat.proofs.VariableMoves.{recycle}
 use Rattle.varisat.proofs.CallStates.{told-well}
-use Rattle.varisat.proofs.ReachedHeld.{leaving, told-gone}
-use Rattle.varisat.proofs.ToldEntries.{tells, leaving-goes, leaving-told}
+use Rattle.varisat.proofs.ReachedHeld.{told-gone}
+use Rattle.varisat.proofs.ToldEntries.{told-left}
 
 module _ (w : Carrying) (p : Spaces) (s : State) (x i : ℕ) (k : Links w p s) (at : w.identity x ≡ Some i) (unnamed : p.user_from_global x ≡ None) (unsolved : p.solver_from_global x ≡ None) (alone : (p.kept x).isolated ≡ true) where
   id' : ℕ → Option ℕ
@@ -97,44 +98,40 @@ module _ (w : Carrying) (p : Spaces) (s : State) (x i : ℕ) (k : Links w p s) (
       solver-other v y f (let q : y ≡ x = cc in q)
 
   -- a variable that had no name was hidden
-  was-hidden : s.ever_hidden ≡ false → ⊥
+  pub was-hidden : s.ever_hidden ≡ false → ⊥
   was-hidden e = let z : true ≡ false = sym (k.shown e x unnamed) ∙ k.identities.live x i at in cc
 
-  pub recycled : (told : List Entry) × TellsLeaving s.ever_hidden s.told told × SpacesFit (recycle x p) (retold told s)
+  -- It is gone from each state, under no verdict that lets nothing more be told.
+  pub recycled : without_core p.outcome ≢ outcome.Unsat → SpacesFit (recycle x p) (retold (s.told ++ Leaves i ∷ []) s)
   unfolding id' kept'
-  recycled =
-      let gone = leaving (without_core p.outcome) i in
+  recycled undecided =
       let before = translation w p s.told in
-      let after : Translation = record { identity = chain p.global_from_solver id'; global = updated w.global i None; forced = w.forced; told = s.told ++ gone } in (
-        s.told ++ gone,
-        record { more = tells 0 s.told gone (leaving-goes s.told (without_core p.outcome) i); quiet = λ e. absurd (was-hidden e) },
-        (
-          record { identity = id'; global = updated w.global i None; forced = w.forced },
-          record {
-            identities = left-identities;
-            names = left-names;
-            modes = left-modes;
-            watermark = k.watermark;
-            globals = k.globals;
-            units = left-units;
-            isolation = left-isolation;
-            solvers = record { one_to_one = k.solvers.one_to_one; live = λ v y h. let (j, e, c) = k.solvers.live v y h in (j, left y j e (solver-other v y h), c) };
-            holds = holds-same s.clauses before after p.search (without_core p.outcome) identity-same (λ j. refl)
-                (λ share q. told-gone before after i none-for identity-same (λ j. refl) (λ j y. updated-all (λ j o. o ≡ Some y → (j ≡ i → ⊥) × (w.global j ≡ Some y)) w.global i None (λ e. absurd cc) j (λ n e. (n, e))) (λ j y n e. updated-other w.global i None j n ∙ e) share (without_core p.outcome) refl q)
-                k.holds;
-            assumptions = k.assumptions;
-            marks = left-marks;
-            working = working-same s.clauses (chain p.global_from_solver w.identity) (chain p.global_from_solver id') s.assumptions p.working (λ l h. identity-same (variable_of l)) k.working;
-            verdict = verdict-moved w.identity id' p.model (updated p.model x false) p.outcome s.verdict
-                (λ a e f y j. updated-all (λ y o. o ≡ Some j → a j ≡ updated p.model x false y) w.identity x None (λ q. absurd cc) y (λ n h. f y j h ∙ sym (updated-other p.model x false y n)))
-                k.verdict;
-            core = k.core;
-            right = k.right;
-            well_formed = told-well s (retold (s.told ++ gone) s) k.well_formed;
-            few = k.few;
-            shown = λ e y. updated-all (λ y d. p.user_from_global y ≡ None → d.deleted ≡ true) p.kept x dead (λ _. refl) y (λ n h. k.shown e y h);
-            plain = λ e. absurd (was-hidden e);
-            told = leaving-told s.told s.clauses s.counted s.ever_hidden (without_core p.outcome) i was-hidden k.told;
-          },
-        ),
+      let after : Translation = record { identity = chain p.global_from_solver id'; global = updated w.global i None; forced = w.forced; told = s.told ++ Leaves i ∷ [] } in (
+        record { identity = id'; global = updated w.global i None; forced = w.forced },
+        record {
+          identities = left-identities;
+          names = left-names;
+          modes = left-modes;
+          watermark = k.watermark;
+          globals = k.globals;
+          units = left-units;
+          isolation = left-isolation;
+          solvers = record { one_to_one = k.solvers.one_to_one; live = λ v y h. let (j, e, c) = k.solvers.live v y h in (j, left y j e (solver-other v y h), c) };
+          holds = holds-same s.clauses before after p.search (without_core p.outcome) identity-same (λ j. refl)
+              (λ share q. told-gone before after i none-for identity-same (λ j. refl) (λ j y. updated-all (λ j o. o ≡ Some y → (j ≡ i → ⊥) × (w.global j ≡ Some y)) w.global i None (λ e. absurd cc) j (λ n e. (n, e))) (λ j y n e. updated-other w.global i None j n ∙ e) share (without_core p.outcome) undecided refl q)
+              k.holds;
+          assumptions = k.assumptions;
+          marks = left-marks;
+          working = working-same s.clauses (chain p.global_from_solver w.identity) (chain p.global_from_solver id') s.assumptions p.working (λ l h. identity-same (variable_of l)) k.working;
+          verdict = verdict-moved w.identity id' p.model (updated p.model x false) p.outcome s.verdict
+              (λ a e f y j. updated-all (λ y o. o ≡ Some j → a j ≡ updated p.model x false y) w.identity x None (λ q. absurd cc) y (λ n h. f y j h ∙ sym (updated-other p.model x false y n)))
+              k.verdict;
+          core = k.core;
+          right = k.right;
+          well_formed = told-well s (retold (s.told ++ Leaves i ∷ []) s) k.well_formed;
+          few = k.few;
+          shown = λ e y. updated-all (λ y d. p.user_from_global y ≡ None → d.deleted ≡ true) p.kept x dead (λ _. refl) y (λ n h. k.shown e y h);
+          plain = λ e. absurd (was-hidden e);
+          told = told-left s.told s.clauses s.counted s.ever_hidden i was-hidden k.told;
+        },
       )

@@ -95,11 +95,11 @@ comes-through n m k p q r before mid last sum unknown first second s fit =
       fits = b.fits;
     }
 
--- variables leave, of which the proof is told nothing
-pub leaving-comes : (p : ProofParts) (before after : Spaces) → ((s : State) → SpacesFit before s → (told : List Entry) × TellsLeaving s.ever_hidden s.told told × SpacesFit after (retold told s)) → ComesOn 0 before after p p
-leaving-comes p before after leave s fit =
+-- variables leave, and what is gone is told
+pub leaving-comes : (p q : ProofParts) (before after : Spaces) → ((s : State) → SpacesFit before s → (told : List Entry) × TellsLeaving s.ever_hidden s.told told p q × SpacesFit after (retold told s)) → ComesOn 0 before after p q
+leaving-comes p q before after leave s fit =
     let (told, t, f) = leave s fit in
-    record { verdict = s.verdict; told = told; more = t.more; adds = λ e. omega arith; conflict = λ u e. let z : Unknown ≡ UnsatUnderAssumptions [] = sym u ∙ e in absurd cc; proof = proof-quiet s.ever_hidden s.told told p t.quiet; fits = f }
+    record { verdict = s.verdict; told = told; more = t.more; adds = λ e. omega arith; conflict = λ u e. let z : Unknown ≡ UnsatUnderAssumptions [] = sym u ∙ e in absurd cc; proof = t.proof; fits = f }
 
 -- the same of the proof alone
 pub some-none : (p : ProofParts) → TellsSome p p

@@ -9,8 +9,6 @@ use Rattle.varisat_theory.specs.Counted.{added}
 use Rattle.varisat_theory.specs.Held.{without}
 use Rattle.varisat_theory.specs.Journals.{Entry, Accepts, Writes, Assumes, Leaves, Fails, Leads, accepted_of, lines_of, written, GoesOn}
 use Rattle.varisat_theory.proofs.Journals.{goes_on_further, accepted_append, lines_append, stays_append, written_accepts, written_lines, written_stays}
-use Rattle.varisat_theory.specs.Outcomes.{Outcome}
-use Rattle.varisat_theory.specs.Outcomes as outcome
 use Rattle.varisat_theory.proofs.Members.{∈-append_right}
 use Rattle.varisat_theory.proofs.HeldDrops.{without_less}
 use Rattle.varisat_theory.proofs.Renaming.{map-∈}
@@ -18,8 +16,7 @@ use Rattle.varisat_theory.proofs.Sound.{conflicts_sound}
 use Rattle.varisat_theory.proofs.Spoken.{spoken_join, spoken_wider}
 use Rattle.varisat_theory.proofs.StepStands.{added_append}
 use Rattle.varisat.specs.Spaces.{IsCounted, IsTold}
-use Rattle.varisat.proofs.ReachedHeld.{leaving}
-use Rattle.varisat.specs.Journals.{TellsMore, TellsLeaving}
+use Rattle.varisat.specs.Journals.{TellsMore}
 
 pub tells-nothing : (told : List Entry) → TellsMore 0 told told
 tells-nothing told = record { entries = []; joined = sym (append-nil told); goes = λ held d. (held, refl) }
@@ -33,13 +30,6 @@ tells-through n m a b c s t = record {
 
 pub tells : (n : ℕ) (told es : List Entry) → GoesOn n told es → TellsMore n told (told ++ es)
 tells n told es g = record { entries = es; joined = refl; goes = g }
-
--- as variables leave
-pub leaving-nothing : (hidden : Bool) (told : List Entry) → TellsLeaving hidden told told
-leaving-nothing hidden told = record { more = tells-nothing told; quiet = λ e. refl }
-
-pub leaving-through : (hidden : Bool) (a b c : List Entry) → TellsLeaving hidden a b → TellsLeaving hidden b c → TellsLeaving hidden a c
-leaving-through hidden a b c s t = record { more = tells-through 0 0 a b c s.more t.more; quiet = λ e. t.quiet e ∙ s.quiet e }
 
 -- and then others of which nothing counts
 pub tells-also : (n : ℕ) (a b : List Entry) (es : List Entry) → TellsMore n a b → GoesOn 0 b es → TellsMore n a (b ++ es)
@@ -116,18 +106,6 @@ told-left told P C hidden v n t = record {
 pub told-counted : (told : List Entry) (P : List Clause) (C D : List ℕ) (hidden : Bool) → C ⊆ D → IsTold told P C hidden → IsTold told P D hidden
 told-counted told P C D hidden m t =
     record { accepted = t.accepted; spoken = spoken_wider (IsCounted C) (IsCounted D) (lines_of told) (λ l h. m (variable_of l) h) t.spoken; stays = t.stays }
-
-pub leaving-goes : (told : List Entry) (v : Outcome) (i : ℕ) → GoesOn 0 told (leaving v i)
-leaving-goes told outcome.Unknown i = leaves-goes told i
-leaving-goes told (outcome.Sat found) i = leaves-goes told i
-leaving-goes told outcome.Unsat i = λ held d. (held, refl)
-leaving-goes told (outcome.UnsatUnder core) i = leaves-goes told i
-
-pub leaving-told : (told : List Entry) (P : List Clause) (C : List ℕ) (hidden : Bool) (v : Outcome) (i : ℕ) → (hidden ≡ false → ⊥) → IsTold told P C hidden → IsTold (told ++ leaving v i) P C hidden
-leaving-told told P C hidden outcome.Unknown i n t = told-left told P C hidden i n t
-leaving-told told P C hidden (outcome.Sat found) i n t = told-left told P C hidden i n t
-leaving-told told P C hidden outcome.Unsat i n t = subst (λ x. IsTold x P C hidden) (sym (append-nil told)) t
-leaving-told told P C hidden (outcome.UnsatUnder core) i n t = told-left told P C hidden i n t
 
 -- Lines under other names are over the identities that these lead to.
 pub spoken-renamed : (are may : Literal → Type 0) (f : Literal → Literal) (lines : List Line) → ((l : Literal) → are l → may (f l)) → SpeakOf are lines → SpeakOf may (map (rename_line f) lines)

@@ -1,5 +1,5 @@
 -- What the calls keep of the tables that set the mode of a variable, hide it, and bring hidden ones back.
-use Rattle.std.proofs.Common.{◌≡◌, ℕ, zero, suc, ◌+◌, ◌-◌, ◌<◌, ◌≤◌, nat_lt, if◌then◌else◌, Bool, true, false, Option, Some, None, List, [], ◌∷◌, ⊎_elim, length, sym, ap, ◌∙◌, subst, refl, arith, rules}
+use Rattle.std.proofs.Common.{◌≡◌, ◌≢◌, ◌⊎◌, inl, inr, ℕ, zero, suc, ◌+◌, ◌-◌, ◌<◌, ◌≤◌, nat_lt, if◌then◌else◌, Bool, true, false, Option, Some, None, List, [], ◌∷◌, ⊎_elim, length, sym, ap, ◌∙◌, subst, refl, arith, rules}
 use Rattle.std.proofs.lemmas.Bool.{lt-ltb, cases_lt}
 use Rattle.varisat_theory.specs.Membership.{◌∈◌}
 use Rattle.varisat_theory.proofs.Members.{equal_or_not}
@@ -7,7 +7,7 @@ use Rattle.varisat_literals.specs.Numbers.{variable_limit}
 use Rattle.varisat_names.specs.Maps.{updated}
 use Rattle.varisat_names.specs.VarMap.{at, IsLeastUnmapped}
 use Rattle.varisat_names.specs.VarData.{fresh, kept_at}
-use Rattle.varisat_names.specs.Variables.{Tables, AreLinked, IsGiven, AreNextGiven, IsNamed, InUse, Free, Above, IsChangedTo, IsHidden, IsShown, without_name}
+use Rattle.varisat_names.specs.Variables.{Tables, AreLinked, IsGiven, AreNextGiven, IsNamed, InUse, Free, Above, IsChangedTo, IsHidden, unless_unused, IsDeletedIfUnused, IsShown}
 use Rattle.varisat_names.specs.declared.variables.data.VarData.{VarData}
 use Rattle.varisat_names.specs.declared.variables.data.SamplingMode.{SamplingMode}
 use Rattle.varisat_names.specs.declared.variables.data.SamplingMode.TheVariants as sampling
@@ -15,10 +15,16 @@ use Rattle.varisat_names.proofs.Maps.{updated-at, updated-other, updated-all, jo
 use Rattle.varisat_names.proofs.VarMap.{at-inside}
 use Rattle.varisat_names.proofs.Tables.{live-inside, named-inside}
 use Rattle.varisat_names.proofs.Linked.{join-users, keep-live, same-tables}
+use Rattle.varisat_theory.specs.Journals.{Entry}
+use Rattle.varisat_proof.specs.Proving.{IsTold}
+use Rattle.varisat_tracer.specs.Told.{told-none}
+use Rattle.varisat_tracer.specs.Tracing.{TracerState, leaves_if_deleted}
+use Rattle.varisat_search.specs.declared.state.SatState.{SatState}
+use Rattle.varisat_search.specs.declared.state.SatState.TheVariants as verdict
 use Rattle.varisat.specs.Names.{Naming, bring, bring_next, bring_if_free, name_one}
 use Rattle.varisat.specs.Accepting.{AreBounded, naming_of}
 use Rattle.varisat_search.specs.NamesAndModes.{MovesName, SetsModeOf, LosesName, GetsName, OtherwiseSet, AreShownInTurn}
-use Rattle.varisat.specs.VariableChanges.{IsMarkedAssumed, CanBeChanged, StaysKept, IsNamedAs, SetsNamedMode}
+use Rattle.varisat.specs.VariableChanges.{IsMarkedAssumed, CanBeChanged, StaysKept, IsNamedAs, SetsNamedMode, LeavesIfUnused, HidesNamed}
 use Rattle.varisat_search.proofs.TakenSolvers.{few, below, below-count, ∈-below}
 use Rattle.varisat.proofs.KeptCounts.{given-most}
 use Rattle.varisat_search.proofs.KeptNames.{KeepsNames, given-keeps, next-keeps}
@@ -172,7 +178,7 @@ mode-stays mid new x mode b live c =
 -- the name of a variable that is not marked as assumed is free
 pub hidden-stays : (mid new : Tables) (u x : ℕ) → AreLinked mid → AreBounded mid → at mid.users.forward u ≡ Some x → (kept_at mid.kept x).assumed ≡ false → IsHidden mid new u x → StaysKept mid new
 hidden-stays mid new u x l b e unmarked n =
-    let d = without_name (at mid.solvers.forward x) (kept_at mid.kept x) in
+    let d : VarData = record (kept_at mid.kept x) { sampling_mode = sampling.Hide } in
     let live = l.named x u (l.users.there u x e) in
     let h = live-inside mid.kept x live in
     let i = at-inside mid.users.forward u x e in
@@ -190,14 +196,13 @@ hidden-stays mid new u x l b e unmarked n =
     }
 
 -- The mode of the variable of a name was set.
-pub set-named : (u x : ℕ) (mode : SamplingMode) (old mid new : Tables) (returned : Option ℕ) → IsNamedAs u old mid x → AreLinked mid → SetsModeOf x mode mid new returned → SetsNamedMode u mode old new
+pub set-named : (u x : ℕ) (mode : SamplingMode) (old mid new : Tables) (returned : Option ℕ) → IsNamedAs u old mid x → AreLinked mid → SetsModeOf x mode mid new returned → SetsNamedMode u mode old x new
 set-named u x mode old mid new returned n l (LosesName v hide at-x gone told) =
     let q : Some v ≡ Some u = sym at-x ∙ l.users.there u x n.leads in
     let same : v ≡ u = cc in
     let hidden = subst (λ w. IsHidden mid new w x) same gone in
     record {
       mid = mid;
-      global = x;
       named = n;
       hidden = λ _. hidden;
       changed = λ m. absurd (m hide);
@@ -208,14 +213,71 @@ set-named u x mode old mid new returned n l (GetsName v m at-x shown told) =
     absurd cc
 set-named u x mode old mid new returned n l (OtherwiseSet stays changed told) = record {
   mid = mid;
-  global = x;
   named = n;
   hidden = λ e. absurd (stays (subst (MovesName mode) (sym (l.users.there u x n.leads)) e));
   changed = λ _. changed;
   stays = stays-on old mid new n.stays (mode-stays mid new x mode n.stays.bounded n.live changed);
 }
 
--- 5. Hidden variables come back.
+-- 5. A hidden variable leaves.
+
+-- It has no name, and is as live and as little assumed as before.
+pub hidden-unnamed : (old new : Tables) (u x : ℕ) → IsHidden old new u x → at new.users.backward x ≡ None
+hidden-unnamed old new u x n = n.users.backward.at_each x ∙ updated-at (at old.users.backward) x None
+
+pub hidden-keeps : {X : Type 0} (F : VarData → X) (old new : Tables) (u x : ℕ) → F (record (kept_at old.kept x) { sampling_mode = sampling.Hide }) ≡ F (kept_at old.kept x) → IsHidden old new u x → F (kept_at new.kept x) ≡ F (kept_at old.kept x)
+hidden-keeps F old new u x e n = ap F (n.kept.at_each x ∙ updated-at (kept_at old.kept) x (record (kept_at old.kept x) { sampling_mode = sampling.Hide })) ∙ e
+
+-- where it is not assumed, those that are keep their names and marks
+deleted-stays : (old new : Tables) (x : ℕ) → AreBounded old → (kept_at old.kept x).deleted ≡ false → (kept_at old.kept x).assumed ≡ false → IsDeletedIfUnused old new x → StaysKept old new
+deleted-stays old new x b live unmarked n =
+    let users = ap (λ t. t.users) n.rest in
+    let solvers = ap (λ t. t.solvers) n.rest in
+    let h = live-inside old.kept x live in
+    let c = n.kept.count in
+    let w = ap (λ t. length t.users.forward) n.rest in
+    let v = b.users in
+    let g = b.globals in
+    let other : (y : ℕ) → IsMarkedAssumed old y → y ≡ x → ⊥ = (λ y m q. let z : true ≡ false = sym m ∙ ap (λ y. (kept_at old.kept y).assumed) q ∙ unmarked in cc) in
+    let mark : (y : ℕ) → IsMarkedAssumed old y → IsMarkedAssumed new y = (λ y m. ap (λ d. d.assumed) (n.kept.at_each y ∙ updated-other (kept_at old.kept) x (unless_unused (at old.solvers.forward x) (kept_at old.kept x)) y (other y m)) ∙ m) in
+    record {
+      bounded = record { users = omega (arith, w, v); globals = omega (arith, c, h, g); solvers = subst (λ m. length m.backward ≤ variable_limit) (sym solvers) b.solvers };
+      solvers = solvers;
+      named = λ u y e m. (ap (λ t. at t.users.forward u) n.rest ∙ e, mark y m);
+      names = λ y u e m. (ap (λ t. at t.users.backward y) n.rest ∙ e, mark y m);
+    }
+
+pub unsat-or-not : (v : SatState) → (v ≡ verdict.Unsat) ⊎ (v ≢ verdict.Unsat)
+unsat-or-not verdict.Unknown = inr (λ e. cc)
+unsat-or-not verdict.Sat = inr (λ e. cc)
+unsat-or-not verdict.Unsat = inl refl
+unsat-or-not verdict.UnsatUnderAssumptions = inr (λ e. cc)
+
+-- A name was freed, and its variable left or not.
+module _ (u : ℕ) (v : SatState) (p q : TracerState) (h : HidesNamed u v p q) where
+  hidden-first : IsHidden h.set.mid h.mid u h.global
+  hidden-first = h.set.hidden refl
+
+  left-stays : LeavesIfUnused (record p { tables = h.mid }) h.global q → StaysKept p.tables q.tables
+  left-stays l =
+      let live = hidden-keeps (λ d. d.deleted) h.set.mid h.mid u h.global refl hidden-first ∙ h.set.named.live in
+      let free = hidden-keeps (λ d. d.assumed) h.set.mid h.mid u h.global refl hidden-first ∙ h.set.named.unassumed in
+      stays-on p.tables h.mid q.tables h.set.stays (deleted-stays h.mid q.tables h.global h.set.stays.bounded live free l.deleted)
+
+  pub hides-stay : StaysKept p.tables q.tables
+  hides-stay = ⊎_elim
+      (λ e. subst (λ (t : TracerState). StaysKept p.tables t.tables) (sym (h.stays e)) h.set.stays)
+      (λ n. left-stays (h.left n))
+      (unsat-or-not v)
+
+  -- what the proof was told
+  pub hides-told : (given : List Entry) × IsTold p.proof given q.proof × (q.proof.opened ≡ p.proof.opened)
+  hides-told = ⊎_elim
+      (λ e. subst (λ (t : TracerState). (given : List Entry) × IsTold p.proof given t.proof × (t.proof.opened ≡ p.proof.opened)) (sym (h.stays e)) ([], told-none p.proof, refl))
+      (λ n. let l = h.left n in (leaves_if_deleted q.tables h.global, l.told, l.opened))
+      (unsat-or-not v)
+
+-- 6. Hidden variables come back.
 
 -- a name comes into use for the variable
 to : Tables → ℕ → ℕ → ℕ → Option ℕ

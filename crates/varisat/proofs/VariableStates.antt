@@ -17,10 +17,15 @@ use Rattle.varisat.specs.Calls.{IsCrowded, with_naming}
 use Rattle.varisat.specs.Usage.{AreAllShown, ChangesVar, SetsMode, name_var}
 use Rattle.varisat.specs.VariableCalls.{named, IsAssumed, with_mode, hide_name}
 use Rattle.varisat_search.specs.NamesAndModes.{AreShownInTurn, ShowsAllHidden}
-use Rattle.varisat.specs.VariableChanges.{IsMarkedAssumed, IsMarkedName, ChecksChange, StaysKept, SetsNamedMode}
+use Rattle.varisat.specs.VariableChanges.{IsMarkedAssumed, IsMarkedName, ChecksChange, StaysKept, SetsNamedMode, HidesNamed}
 use Rattle.varisat.specs.Accepting.{AreBounded, naming_of}
 use Rattle.varisat_theory.specs.Journals.{Entry}
-use Rattle.varisat.specs.Journals.{retold, TellsMore}
+use Rattle.varisat_names.specs.declared.variables.data.VarData.{VarData}
+use Rattle.varisat_proof.specs.Proving.{ProofParts}
+use Rattle.varisat_tracer.specs.Tracing.{TracerState}
+use Rattle.varisat_search.specs.declared.state.SatState.TheVariants as verdict
+use Rattle.varisat.specs.Journals.{retold, TellsLeaving}
+use Rattle.varisat.proofs.PlainTold.{leaving-nothing}
 use Rattle.varisat.specs.Spaces.{Carrying, ModeFits, Links, SpacesFit}
 use Rattle.varisat.specs.Summaries.{Summary, IsKept, spaces}
 use Rattle.varisat.specs.declared.solver.SolverError.{SolverError}
@@ -28,9 +33,9 @@ use Rattle.varisat.specs.declared.solver.SolverError.TheVariants.{OutOfMemory, V
 use Rattle.varisat.proofs.AcceptClause.{with_tables, named-one}
 use Rattle.varisat.proofs.CallStates.{Begins}
 use Rattle.varisat.proofs.NamingStates.{crowded-state}
-use Rattle.varisat.proofs.HiddenTables.{marked-assumed, assumed-marked, mode-spaces, hidden-spaces, shown-spaces}
+use Rattle.varisat.proofs.HiddenTables.{marked-assumed, assumed-marked, mode-spaces, hidden-spaces, left-spaces, shown-spaces}
 use Rattle.varisat.proofs.ShownInTurn.{HaveShown, all-shown}
-use Rattle.varisat.proofs.VariableChanges.{turns-stay}
+use Rattle.varisat.proofs.VariableChanges.{hidden-unnamed, hidden-keeps, unsat-or-not, turns-stay}
 use Rattle.varisat.proofs.VariablesInUse.{tables-in-use}
 
 -- 1. What is found out of a name.
@@ -74,13 +79,33 @@ not-hide sampling.Sample n fit e = cc
 not-hide sampling.Witness n fit e = cc
 not-hide sampling.Hide n fit e = absurd fit
 
-pub mode-state : {g : Summary} {s : State} (new : Tables) (u : ℕ) (m : SamplingMode) (n : Mode) → Begins g s → ModeFits m n → SetsNamedMode u m g.tables new → SpacesFit (spaces (with_tables new g)) (with_mode u n (name_var named u s))
-mode-state {g} {s} new u m n b fit c =
-    mode-spaces (with_tables c.mid g) (with_naming (name_one u s.naming) s) new u c.global m n (named-one g s c.mid u b.fits c.named.named) c.named.leads fit (c.changed (not-hide m n fit))
+pub mode-state : {g : Summary} {s : State} (new : Tables) (u x : ℕ) (m : SamplingMode) (n : Mode) → Begins g s → ModeFits m n → SetsNamedMode u m g.tables x new → SpacesFit (spaces (with_tables new g)) (with_mode u n (name_var named u s))
+mode-state {g} {s} new u x m n b fit c =
+    mode-spaces (with_tables c.mid g) (with_naming (name_one u s.naming) s) new u x m n (named-one g s c.mid u b.fits c.named.named) c.named.leads fit (c.changed (not-hide m n fit))
 
-pub hide-state : {g : Summary} {s : State} (new : Tables) (u : ℕ) → Begins g s → SetsNamedMode u sampling.Hide g.tables new → (told : List Entry) × TellsMore 0 s.told told × SpacesFit (spaces (with_tables new g)) (retold told (hide_name u (name_var named u s)))
-hide-state {g} {s} new u b c =
-    hidden-spaces (with_tables c.mid g) (with_naming (name_one u s.naming) s) new u c.global (named-one g s c.mid u b.fits c.named.named) c.named.leads c.named.unassumed (c.hidden refl)
+-- the name is free, and its variable left or not
+module _ {g : Summary} {s : State} (u : ℕ) (p : ProofParts) (q : TracerState) (b : Begins g s) (h : HidesNamed u g.sat_state (record { tables = g.tables; proof = p }) q) where
+  after : State
+  after = hide_name u (name_var named u s)
+
+  freed : SpacesFit (spaces (with_tables h.mid g)) after
+  unfolding after
+  freed = let c = h.set in hidden-spaces (with_tables c.mid g) (with_naming (name_one u s.naming) s) h.mid u h.global (named-one g s c.mid u b.fits c.named.named) c.named.leads c.named.unassumed (c.hidden refl)
+
+  gone : g.sat_state ≢ verdict.Unsat → (told : List Entry) × TellsLeaving true s.told told p q.proof × SpacesFit (spaces (with_tables q.tables g)) (retold told after)
+  unfolding after
+  gone n =
+      let l = h.left n in
+      let hides = h.set.hidden refl in
+      left-spaces (with_tables h.mid g) after q.tables h.global p q.proof freed (hidden-keeps (λ (d : VarData). d.deleted) h.set.mid h.mid u h.global refl hides ∙ h.set.named.live) (hidden-unnamed h.set.mid h.mid u h.global hides) n l.deleted l.told
+
+  pub hide-state : (told : List Entry) × TellsLeaving true s.told told p q.proof × SpacesFit (spaces (with_tables q.tables g)) (retold told (hide_name u (name_var named u s)))
+  unfolding after
+  hide-state = ⊎_elim
+      (λ e. subst (λ (t : TracerState). (told : List Entry) × TellsLeaving true s.told told p t.proof × SpacesFit (spaces (with_tables t.tables g)) (retold told after)) (sym (h.stays e))
+      (s.told, leaving-nothing true s.told p, freed))
+      (λ n. gone n)
+      (unsat-or-not g.sat_state)
 
 turns-state : (us : List ℕ) (g : Summary) (s : State) (new : Tables) → SpacesFit (spaces g) s → AreShownInTurn us g.tables new → HaveShown us (with_tables new g) s
 turns-state [] g s new f e = (s.naming, refl, subst (λ t. SpacesFit (spaces (with_tables t g)) s) (sym e) f)

@@ -15,6 +15,8 @@ use Rattle.varisat_names.specs.Variables.{Tables, IsChangedTo, IsDropped}
 use Rattle.varisat_names.specs.declared.variables.data.VarData.{VarData}
 use Rattle.varisat_theory.specs.Journals.{Entry}
 use Rattle.varisat_search.specs.declared.context.Context.{Context}
+use Rattle.varisat_proof.specs.Proving.{IsTold}
+use Rattle.varisat_tracer.specs.Tracing.{TracerState, leaves_if_deleted}
 use Rattle.varisat.specs.Accepting.{HasUser}
 use Rattle.varisat.specs.Journals.{retold, TellsLeaving}
 use Rattle.varisat.specs.SinceChange.{GoesOnWithin}
@@ -44,15 +46,21 @@ pub record FlagsVariables (size : ℕ) (ls : List Literal) (flags : List Bool) :
 abbrev pub fixed_to : Bool → VarData → VarData
 fixed_to b d = record d { unit = Some b; isolated = true }
 
+-- The global variable x has its solver variable v no longer, and the proof was told that it is gone, where it is.
+pub record LosesSolverVar (x v : ℕ) (p q : TracerState) : Type 0 where
+  pub dropped : IsDropped p.tables q.tables x v
+  pub told : IsTold p.proof (leaves_if_deleted q.tables x) q.proof
+
 -- The solver variable of the literal was dropped, once its global variable was kept as isolated and with the value that makes the literal true.
-abbrev pub IsDroppedAlone : Literal → Tables → Tables → Type 0
-IsDroppedAlone l old new =
-    (x : ℕ) × (mid : Tables) × IsChangedTo old mid x (fixed_to (polarity_of l) (kept_at old.kept x)) × IsDropped mid new x (variable_of l)
+abbrev pub IsDroppedAlone : Literal → TracerState → TracerState → Type 0
+IsDroppedAlone l p q =
+    (x : ℕ) × (mid : Tables) × IsChangedTo p.tables mid x (fixed_to (polarity_of l) (kept_at p.tables.kept x))
+    × LosesSolverVar x (variable_of l) (record p { tables = mid }) q
 
 -- so were those of the literals, in turn
-abbrev pub AreDroppedAlone : List Literal → Tables → Tables → Type 0
-AreDroppedAlone [] old new = new ≡ old
-AreDroppedAlone (l ∷ ls) old new = (mid : Tables) × IsDroppedAlone l old mid × AreDroppedAlone ls mid new
+abbrev pub AreDroppedAlone : List Literal → TracerState → TracerState → Type 0
+AreDroppedAlone [] p q = q ≡ p
+AreDroppedAlone (l ∷ ls) p q = (mid : TracerState) × IsDroppedAlone l p mid × AreDroppedAlone ls mid q
 
 -- a global variable without a name stands there
 abbrev pub leads_to_hidden : Tables → Option ℕ → Bool
@@ -66,9 +74,9 @@ pub record ListsUnneeded (t : Tables) (flags : List Bool) (ls : List Literal) : 
       × (leads_to_hidden t (at t.solvers.backward v) ≡ true))
 
 -- The solver variables of the literals were dropped in turn.
-abbrev pub AreReleased : List Literal → Tables → Tables → Type 0
-AreReleased [] old new = new ≡ old
-AreReleased (l ∷ ls) old new = (mid : Tables) × ((x : ℕ) × IsDropped old mid x (variable_of l)) × AreReleased ls mid new
+abbrev pub AreReleased : List Literal → TracerState → TracerState → Type 0
+AreReleased [] p q = q ≡ p
+AreReleased (l ∷ ls) p q = (mid : TracerState) × ((x : ℕ) × LosesSolverVar x (variable_of l) p mid) × AreReleased ls mid q
 
 -- Whose variables the search still has: those with a value are assumed, and those in use have a name or are named by a kept clause.
 pub record LeavesNeeded (t : Tables) (s : View) : Type 0 where
@@ -87,10 +95,11 @@ pub record LeavesTables (ls : List Literal) (old new : Tables) : Type 0 where
   pub others : (x : ℕ) → ((l : Literal) → l ∈ ls → at old.solvers.backward (variable_of l) ≢ Some x) → kept_at new.kept x ≡ kept_at old.kept x
 
 -- Variables left the search and the tables. What a valid solver keeps stays true, the search goes on with as many variables, and
--- the solver stands for the same states, to which it was told what left.
-pub record LetsLeave {A : Type 0} (t : Tables) (x : Context A) (u : Tables) (y : Context A) : Type 0 where
-  pub kept : IsKept u y
+-- the solver stands for the same states, to which it was told what left, as it was to the proof.
+pub record LetsLeave {A : Type 0} (p : TracerState) (x : Context A) (q : TracerState) (y : Context A) : Type 0 where
+  pub kept : IsKept q.tables y
   pub within : GoesOnWithin x y
   pub count : length y.assignment.current ≡ length x.assignment.current
-  pub stands : (s : State) → SpacesFit (undecided_spaces t x) s →
-      (told : List Entry) × TellsLeaving s.ever_hidden s.told told × SpacesFit (undecided_spaces u y) (retold told s)
+  pub given : (entries : List Entry) × IsTold p.proof entries q.proof
+  pub stands : (s : State) → SpacesFit (undecided_spaces p.tables x) s →
+      (told : List Entry) × TellsLeaving s.ever_hidden s.told told p.proof q.proof × SpacesFit (undecided_spaces q.tables y) (retold told s)

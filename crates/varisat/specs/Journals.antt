@@ -19,16 +19,16 @@ pub record TellsMore (n : ℕ) (before after : List Entry) : Type 0 where
   pub joined : after ≡ before ++ entries
   pub goes : GoesOn n before entries
 
--- Entries are told as variables leave: nothing as long as none was ever hidden.
-pub record TellsLeaving (hidden : Bool) (before after : List Entry) : Type 0 where
-  pub more : TellsMore 0 before after
-  pub quiet : hidden ≡ false → after ≡ before
-
 -- An open proof, and a checker, were told entries over global variables. As long as nothing was ever hidden these are the further entries themselves.
 pub record TellsProof (hidden : Bool) (before after : List Entry) (old new : ProofParts) : Type 0 where
   pub given : List Entry
   pub told : IsTold old given new
   pub plain : hidden ≡ false → after ≡ before ++ given
+
+-- Entries are told as variables leave, and to the proof which global variables are gone.
+pub record TellsLeaving (hidden : Bool) (before after : List Entry) (old new : ProofParts) : Type 0 where
+  pub more : TellsMore 0 before after
+  pub proof : TellsProof hidden before after old new
 
 -- what was told leads to clauses over which propagation conflicts
 abbrev pub ToldConflict : List Entry → Type 0

@@ -3,7 +3,11 @@ use Rattle.std.specs.Prelude.{◌≡◌, ◌≢◌, ◌⊎◌, ℕ, ◌<◌, ◌
 use Rattle.varisat_literals.specs.Numbers.{variable_limit}
 use Rattle.varisat_names.specs.VarMap.{at}
 use Rattle.varisat_names.specs.VarData.{kept_at}
-use Rattle.varisat_names.specs.Variables.{Tables, IsNamed, IsChangedTo, IsHidden}
+use Rattle.varisat_names.specs.Variables.{Tables, IsNamed, IsChangedTo, IsHidden, IsDeletedIfUnused}
+use Rattle.varisat_proof.specs.Proving.{IsTold}
+use Rattle.varisat_search.specs.declared.state.SatState.{SatState}
+use Rattle.varisat_search.specs.declared.state.SatState.TheVariants as verdict
+use Rattle.varisat_tracer.specs.Tracing.{TracerState, leaves_if_deleted}
 use Rattle.varisat_names.specs.declared.variables.data.SamplingMode.{SamplingMode}
 use Rattle.varisat_names.specs.declared.variables.data.SamplingMode.TheVariants as sampling
 use Rattle.varisat.specs.Names.{name_one}
@@ -49,11 +53,24 @@ pub record IsNamedAs (u : ℕ) (old new : Tables) (x : ℕ) : Type 0 where
   pub unassumed : (kept_at new.kept x).assumed ≡ false
   pub stays : StaysKept old new
 
--- The name was named, and its variable has the mode: as `Hide` the name is free.
-pub record SetsNamedMode (u : ℕ) (mode : SamplingMode) (old new : Tables) : Type 0 where
+-- The name was named, and its variable x has the mode: as `Hide` the name is free.
+pub record SetsNamedMode (u : ℕ) (mode : SamplingMode) (old : Tables) (x : ℕ) (new : Tables) : Type 0 where
+  pub mid : Tables
+  pub named : IsNamedAs u old mid x
+  pub hidden : mode ≡ sampling.Hide → IsHidden mid new u x
+  pub changed : mode ≢ sampling.Hide → IsChangedTo mid new x (record (kept_at mid.kept x) { sampling_mode = mode })
+  pub stays : StaysKept old new
+
+-- The hidden variable x is not live any more where it is unused, and the proof was told so.
+pub record LeavesIfUnused (p : TracerState) (x : ℕ) (q : TracerState) : Type 0 where
+  pub deleted : IsDeletedIfUnused p.tables q.tables x
+  pub told : IsTold p.proof (leaves_if_deleted q.tables x) q.proof
+  pub opened : q.proof.opened ≡ p.proof.opened
+
+-- The name was named and is free, and its variable hidden. Unless the verdict is Unsat, it left where it is unused.
+pub record HidesNamed (u : ℕ) (v : SatState) (p q : TracerState) : Type 0 where
   pub mid : Tables
   pub global : ℕ
-  pub named : IsNamedAs u old mid global
-  pub hidden : mode ≡ sampling.Hide → IsHidden mid new u global
-  pub changed : mode ≢ sampling.Hide → IsChangedTo mid new global (record (kept_at mid.kept global) { sampling_mode = mode })
-  pub stays : StaysKept old new
+  pub set : SetsNamedMode u sampling.Hide p.tables global mid
+  pub left : v ≢ verdict.Unsat → LeavesIfUnused (record p { tables = mid }) global q
+  pub stays : v ≡ verdict.Unsat → q ≡ record p { tables = mid }

@@ -13,10 +13,10 @@ ghost use Rattle.varisat_search.specs.SettledUnits.{IsSettledDown};
 ghost use Rattle.varisat.specs.SinceChange.{GoesOnWithin};
 ghost use Rattle.varisat.specs.Accepting.{AreBounded};
 ghost use Rattle.varisat.specs.Searches.{TellsSome, ComesOn};
-ghost use Rattle.varisat_tracer.specs.Tracing.{BreaksProof, CanTell};
+ghost use Rattle.varisat_tracer.specs.Tracing.{parts_of, BreaksProof, CanTell};
 ghost use Rattle.varisat_search.specs.StepErrors.{step_faults};
 ghost use Rattle.varisat.specs.Summaries.{undecided_spaces, IsKept};
-ghost use Rattle.varisat.specs.Dropping.{leads_to_unassumed, unassumed_among, AreOverAssumed, FlagsVariables, AreDroppedAlone, leads_to_hidden, ListsUnneeded, AreReleased, LeavesNeeded, LeavesTables, LetsLeave};
+ghost use Rattle.varisat.specs.Dropping.{leads_to_unassumed, unassumed_among, AreOverAssumed, FlagsVariables, LosesSolverVar, AreDroppedAlone, leads_to_hidden, ListsUnneeded, AreReleased, LeavesNeeded, LeavesTables, LetsLeave};
 
 use std::alloc::{AllocError, Allocator};
 use varisat_formula::io::ProofTarget;
@@ -74,24 +74,41 @@ fn flag_variables<A: Allocator + Copy>(
     Ok(flags)
 }
 
+/// Drops the solver variable. Its global variable is gone for good where it has no name and is isolated, and the proof is
+/// told so.
+fn drop_solver_var<W: ProofTarget, A: Allocator + Copy>(
+    tracer: &mut SolverTracer<W, A>,
+    solver: Var,
+) -> Result<(), AllocError>
+    requires { IsSome (at tracer.old.variables.solvers.backward solver) }
+    ensures dropped { OnOk result ((x : ℕ) × LosesSolverVar x solver (parts_of tracer.old) (parts_of tracer.new)) }
+    ensures opened { tracer.new.proof.opened ≡ tracer.old.proof.opened }
+{
+    tracer.variables.prove_linked();
+    let global = tracer.variables.drop_solver_var(solver)?;
+    tracer.delete_var_if_gone(global);
+    Ok(())
+}
+
 /// Drops the solver variables of the literals, which are true for good. What is kept of their global variables tells
 /// the values from then on, and that they are isolated, so that those without a name may be used again.
-fn drop_solver_vars<A: Allocator + Copy>(
-    variables: &mut LinkedVariables<A>,
+fn drop_solver_vars<W: ProofTarget, A: Allocator + Copy>(
+    tracer: &mut SolverTracer<W, A>,
     lits: &[Lit],
 ) -> Result<(), AllocError>
-    requires taken { (l : Literal) → l ∈ lits.now → IsSome (at variables.old.solvers.backward (variable_of l)) }
+    requires taken { (l : Literal) → l ∈ lits.now → IsSome (at tracer.old.variables.solvers.backward (variable_of l)) }
     requires distinct { IsDistinct (map variable_of lits.now) }
-    ensures dropped { OnOk result (AreDroppedAlone lits.now variables.old variables.new) }
-    ensures rest { OnOk result (LeavesTables lits.now variables.old variables.new) }
+    ensures dropped { OnOk result (AreDroppedAlone lits.now (parts_of tracer.old) (parts_of tracer.new)) }
+    ensures rest { OnOk result (LeavesTables lits.now tracer.old.variables tracer.new.variables) }
+    ensures opened { tracer.new.proof.opened ≡ tracer.old.proof.opened }
 {
     for lit in lits {
-        variables.prove_linked();
+        tracer.variables.prove_linked();
         let solver = lit.var();
-        let global = variables.global_from_solver().get(solver).unwrap();
-        variables.set_unit(global, lit.is_positive());
-        variables.set_isolated(global, true);
-        variables.drop_solver_var(solver)?;
+        let global = tracer.variables.global_from_solver().get(solver).unwrap();
+        tracer.variables.set_unit(global, lit.is_positive());
+        tracer.variables.set_isolated(global, true);
+        drop_solver_var(tracer, solver)?;
     }
     Ok(())
 }
@@ -144,77 +161,81 @@ fn list_unneeded<A: Allocator + Copy>(
 }
 
 /// Drops the solver variables of the literals, which have no values.
-fn release_solver_vars<A: Allocator + Copy>(
-    variables: &mut LinkedVariables<A>,
+fn release_solver_vars<W: ProofTarget, A: Allocator + Copy>(
+    tracer: &mut SolverTracer<W, A>,
     lits: &[Lit],
 ) -> Result<(), AllocError>
-    requires taken { (l : Literal) → l ∈ lits.now → IsSome (at variables.old.solvers.backward (variable_of l)) }
+    requires taken { (l : Literal) → l ∈ lits.now → IsSome (at tracer.old.variables.solvers.backward (variable_of l)) }
     requires distinct { IsDistinct (map variable_of lits.now) }
-    ensures released { OnOk result (AreReleased lits.now variables.old variables.new) }
-    ensures rest { OnOk result (LeavesTables lits.now variables.old variables.new) }
+    ensures released { OnOk result (AreReleased lits.now (parts_of tracer.old) (parts_of tracer.new)) }
+    ensures rest { OnOk result (LeavesTables lits.now tracer.old.variables tracer.new.variables) }
+    ensures opened { tracer.new.proof.opened ≡ tracer.old.proof.opened }
 {
     for lit in lits {
-        variables.prove_linked();
-        variables.drop_solver_var(lit.var())?;
+        tracer.variables.prove_linked();
+        drop_solver_var(tracer, lit.var())?;
     }
     Ok(())
 }
 
 /// Lets the variables leave that have a value and are not assumed, where the search is at level 0 and all of it is
-/// settled. `literals` is overwritten.
-fn drop_listed<A: Allocator + Copy>(
-    variables: &mut LinkedVariables<A>,
+/// settled. The proof is told which are gone for good. `literals` is overwritten.
+fn drop_listed<W: ProofTarget, A: Allocator + Copy>(
+    tracer: &mut SolverTracer<W, A>,
     ctx: &mut Context<A>,
     literals: &mut Vec<Lit, A>,
 ) -> Result<(), AllocError>
-    requires kept { IsKept variables.old ctx.old }
+    requires kept { IsKept tracer.old.variables ctx.old }
     requires settled { IsSettledDown (view ctx.old) }
-    ensures leave { OnOk result (LetsLeave variables.old ctx.old variables.new ctx.new) }
+    ensures leave { OnOk result (LetsLeave (parts_of tracer.old) ctx.old (parts_of tracer.new) ctx.new) }
     ensures schedule { KeepsSchedule ctx.old ctx.new }
     ensures state { ctx.new.solver_state ≡ ctx.old.solver_state }
     ensures settled { OnOk result (IsSettledDown (view ctx.new)) }
-    ensures left { OnOk result (AreOverAssumed variables.new ctx.new.trail.literals) }
+    ensures left { OnOk result (AreOverAssumed tracer.new.variables ctx.new.trail.literals) }
+    ensures opened { tracer.new.proof.opened ≡ tracer.old.proof.opened }
 {
-    variables.prove_linked();
-    list_unassumed(variables, ctx.trail.trail(), literals)?;
+    tracer.variables.prove_linked();
+    list_unassumed(&tracer.variables, ctx.trail.trail(), literals)?;
     let alloc = *literals.allocator();
     let gone = flag_variables(alloc, ctx.assignment.assignment().len(), literals)?;
     drop_variables(ctx, &gone);
-    drop_solver_vars(variables, literals)?;
+    drop_solver_vars(tracer, literals)?;
     Ok(())
 }
 
-/// Lets the hidden variables leave that no kept clause names, where those with a value left that are not assumed. Where
-/// the search has no hidden variable it passes over no clause. `literals` is overwritten.
-fn drop_unneeded<A: Allocator + Copy>(
-    variables: &mut LinkedVariables<A>,
+/// Lets the hidden variables leave that no kept clause names, where those with a value left that are not assumed. The
+/// proof is told which are gone for good. Where the search has no hidden variable it passes over no clause. `literals` is
+/// overwritten.
+fn drop_unneeded<W: ProofTarget, A: Allocator + Copy>(
+    tracer: &mut SolverTracer<W, A>,
     ctx: &mut Context<A>,
     literals: &mut Vec<Lit, A>,
 ) -> Result<(), AllocError>
-    requires kept { IsKept variables.old ctx.old }
+    requires kept { IsKept tracer.old.variables ctx.old }
     requires settled { IsSettledDown (view ctx.old) }
-    requires left { AreOverAssumed variables.old ctx.old.trail.literals }
-    ensures leave { OnOk result (LetsLeave variables.old ctx.old variables.new ctx.new) }
+    requires left { AreOverAssumed tracer.old.variables ctx.old.trail.literals }
+    ensures leave { OnOk result (LetsLeave (parts_of tracer.old) ctx.old (parts_of tracer.new) ctx.new) }
     ensures schedule { KeepsSchedule ctx.old ctx.new }
     ensures state { ctx.new.solver_state ≡ ctx.old.solver_state }
-    ensures left { OnOk result (LeavesNeeded variables.new (view ctx.new)) }
+    ensures left { OnOk result (LeavesNeeded tracer.new.variables (view ctx.new)) }
+    ensures opened { tracer.new.proof.opened ≡ tracer.old.proof.opened }
 {
-    if !has_hidden(variables) {
+    if !has_hidden(&tracer.variables) {
         return Ok(());
     }
-    variables.prove_linked();
+    tracer.variables.prove_linked();
     let mentioned = flag_mentioned(ctx)?;
-    list_unneeded(variables, &mentioned, literals)?;
+    list_unneeded(&tracer.variables, &mentioned, literals)?;
     let alloc = *literals.allocator();
     let gone = flag_variables(alloc, ctx.assignment.assignment().len(), literals)?;
     drop_variables(ctx, &gone);
-    release_solver_vars(variables, literals)?;
+    release_solver_vars(tracer, literals)?;
     Ok(())
 }
 
 /// At level 0, where literals are still to be propagated, settles the units and lets the variables leave the search
 /// that have a value and are not assumed, and the hidden ones that no kept clause names. The tracer takes the lines of
-/// settling. Does nothing at another level or where there is no such news, so that a step passes over all clauses no more
+/// settling, and the proof is told which variables are gone for good. Does nothing at another level or where there is no such news, so that a step passes over all clauses no more
 /// often than its conflict step would. Lets none leave where a clause is false. `literals` is overwritten.
 pub fn drop_fixed<W: ProofTarget, A: Allocator + Copy>(
     tracer: &mut SolverTracer<W, A>,
@@ -249,7 +270,7 @@ pub fn drop_fixed<W: ProofTarget, A: Allocator + Copy>(
     if settled.is_err() {
         return Ok(());
     }
-    drop_listed(&mut tracer.variables, ctx, literals)?;
-    drop_unneeded(&mut tracer.variables, ctx, literals)?;
+    drop_listed(tracer, ctx, literals)?;
+    drop_unneeded(tracer, ctx, literals)?;
     Ok(())
 }

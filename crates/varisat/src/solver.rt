@@ -7,7 +7,7 @@ ghost use Rattle.varisat.specs.Summaries.{list_tables};
 use crate::accept::{accept_clause, assume_list};
 use crate::naming::check_names;
 use crate::solving::find_verdict;
-use crate::usage::{check_change, set_named_mode};
+use crate::usage::{check_change, hide_named, set_named_mode};
 use std::alloc::{AllocError, Allocator};
 use std::io;
 use std::marker::Model;
@@ -656,7 +656,7 @@ impl<W: ProofTarget, A: Allocator + Copy> Solver<W, A> {
         }
         check_change(&self.tracer.variables, var)?;
         match set_named_mode(&mut self.tracer.variables, var, mode) {
-            Ok(()) => {
+            Ok(_) => {
                 self.changed_at = self.ctx.schedule.steps();
                 Ok(())
             }
@@ -684,7 +684,8 @@ impl<W: ProofTarget, A: Allocator + Copy> Solver<W, A> {
     }
 
     /// Frees the name of the variable, which lives on in the clauses, hidden. The name may come back for another
-    /// variable. A free name comes into use first. Refused as `sample_var` is.
+    /// variable. A free name comes into use first. A variable that no clause holds is gone for good, unless the clauses
+    /// are known to be unsatisfiable. Refused as `sample_var` is.
     pub fn hide_var(&mut self, var: Var) -> Result<(), SolverError>
         ensures { (s : State) → StandsFor self.old s → (t : State) × HidesVar s var result t × StandsFor self.new t }
     {
@@ -692,7 +693,7 @@ impl<W: ProofTarget, A: Allocator + Copy> Solver<W, A> {
             return Err(SolverError::Invalid);
         }
         check_change(&self.tracer.variables, var)?;
-        match set_named_mode(&mut self.tracer.variables, var, SamplingMode::Hide) {
+        match hide_named(&mut self.tracer, var, self.ctx.solver_state.sat_state) {
             Ok(()) => {
                 self.changed_at = self.ctx.schedule.steps();
                 Ok(())

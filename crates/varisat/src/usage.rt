@@ -1,17 +1,22 @@
 //! What the calls that set the mode of a variable and hide it change.
-ghost use Rattle.std.specs.Prelude.{◌≡◌, ◌≢◌, None, MatchBool, OnOk, OnErr};
+ghost use Rattle.std.specs.Prelude.{◌≡◌, ◌≢◌, false, None, MatchBool, IfOk, OnOk, OnErr};
+ghost use Rattle.varisat_names.specs.VarData.{kept_at};
 ghost use Rattle.varisat_names.specs.VarMap.{at};
+ghost use Rattle.varisat_tracer.specs.Tracing.{parts_of};
 ghost use Rattle.varisat.specs.Accepting.{AreBounded};
 ghost use Rattle.varisat_names.specs.declared.variables.data.SamplingMode.TheVariants as sampling;
-ghost use Rattle.varisat.specs.VariableChanges.{CanBeChanged, ChecksChange, IsMarkedName, SetsNamedMode};
+ghost use Rattle.varisat.specs.VariableChanges.{CanBeChanged, ChecksChange, IsMarkedName, SetsNamedMode, LeavesIfUnused, HidesNamed};
 
 use crate::naming::{is_crowded, is_past_limit};
 use crate::solver::SolverError;
 use std::alloc::{AllocError, Allocator};
+use varisat_formula::io::ProofTarget;
 use varisat_literals::Var;
 use varisat_names::variables::LinkedVariables;
 use varisat_names::variables::data::SamplingMode;
+use varisat_search::state::SatState;
 use varisat_search::variables::{global_from_user, set_sampling_mode};
+use varisat_tracer::SolverTracer;
 
 /// Whether the variable of the name, if it is in use, is assumed.
 fn is_assumed<A: Allocator + Copy>(variables: &LinkedVariables<A>, var: Var) -> bool
@@ -43,19 +48,52 @@ pub fn check_change<A: Allocator + Copy>(
     Ok(())
 }
 
-/// Names the name, and sets how its variable may be used: `Hide` frees the name.
+/// Names the name, and sets how its variable, which is returned, may be used: `Hide` frees the name.
 pub fn set_named_mode<A: Allocator + Copy>(
     variables: &mut LinkedVariables<A>,
     var: Var,
     mode: SamplingMode,
-) -> Result<(), AllocError>
+) -> Result<Var, AllocError>
     requires { CanBeChanged var variables.old }
-    ensures set { OnOk result (SetsNamedMode var mode variables.old variables.new) }
+    ensures set { IfOk result (λ global. SetsNamedMode var mode variables.old global variables.new) }
     ensures free { OnErr result (mode ≢ sampling.Hide → at variables.old.users.forward var ≡ None) }
 {
     variables.prove_linked();
     let global = global_from_user(variables, var)?;
     variables.prove_linked();
     set_sampling_mode(variables, global, mode)?;
+    Ok(global)
+}
+
+/// Lets the hidden variable leave for good where it is unused: it has no solver variable, and clauses do not hold it. The
+/// proof is told so.
+fn leave_if_unused<W: ProofTarget, A: Allocator + Copy>(
+    tracer: &mut SolverTracer<W, A>,
+    global: Var,
+) -> Result<(), AllocError>
+    requires live { (kept_at tracer.old.variables.kept global).deleted ≡ false }
+    requires unnamed { at tracer.old.variables.users.backward global ≡ None }
+    ensures leaves { OnOk result (LeavesIfUnused (parts_of tracer.old) global (parts_of tracer.new)) }
+{
+    tracer.variables.delete_global_if_unused(global)?;
+    tracer.delete_var_if_gone(global);
+    Ok(())
+}
+
+/// Names the name, frees it, and hides its variable, which leaves for good where it is unused. Once the clauses are known
+/// to be unsatisfiable none leaves: nothing more is told to the proof then, and what it was told stays a refutation.
+pub fn hide_named<W: ProofTarget, A: Allocator + Copy>(
+    tracer: &mut SolverTracer<W, A>,
+    var: Var,
+    verdict: SatState,
+) -> Result<(), AllocError>
+    requires { CanBeChanged var tracer.old.variables }
+    ensures { OnOk result (HidesNamed var verdict (parts_of tracer.old) (parts_of tracer.new)) }
+{
+    let global = set_named_mode(&mut tracer.variables, var, SamplingMode::Hide)?;
+    if let SatState::Unsat = verdict {
+        return Ok(());
+    }
+    leave_if_unused(tracer, global)?;
     Ok(())
 }

@@ -83,10 +83,6 @@ give-users t users kept u x d l e c a j k =
 pub hide-users : (t : Tables) (users : BiMap) (kept : List VarData) (u x : ℕ) (d : VarData) → AreLinked t → d.deleted ≡ false → at t.users.forward u ≡ Some x → IsParted t.users users u x → IsKeptAs t.kept x d kept → AreLinked (record t { users = users; kept = kept })
 hide-users t users kept u x d l e a p k = keep-live (record t { users = users }) kept x d (part-users t users u x l a p) e k
 
--- a name is free again, and its variable with it
-pub free-users : (t : Tables) (users : BiMap) (kept : List VarData) (u x : ℕ) → AreLinked t → at t.users.forward u ≡ Some x → at t.solvers.forward x ≡ None → IsParted t.users users u x → IsKeptAs t.kept x dead kept → AreLinked (record t { users = users; kept = kept })
-free-users t users kept u x l a b p k = keep-dead (record t { users = users }) kept x dead (part-users t users u x l a p) (p.backward.at_each x ∙ updated-at (at t.users.backward) x None) b k
-
 -- a solver variable is free again, and the variable that had it
 pub free-solvers : (t : Tables) (solvers : BiMap) (kept : List VarData) (x v : ℕ) → AreLinked t → at t.solvers.forward x ≡ Some v → at t.users.backward x ≡ None → IsParted t.solvers solvers x v → IsKeptAs t.kept x dead kept → AreLinked (record t { solvers = solvers; kept = kept })
 free-solvers t solvers kept x v l a b p k = keep-dead (record t { solvers = solvers }) kept x dead (part-solvers t solvers x v l a p) b (p.forward.at_each x ∙ updated-at (at t.solvers.forward) x None) k

@@ -57,20 +57,25 @@ pub record IsChangedTo (old new : Tables) (x : ℕ) (d : VarData) : Type 0 where
   pub kept : IsKeptAs old.kept x d new.kept
   pub rest : new ≡ record old { kept = new.kept }
 
--- whether a variable may be used again as it loses its name or its solver variable: it has not the other one, and is isolated
+-- The name u of x is free, and x is hidden.
+pub record IsHidden (old new : Tables) (u x : ℕ) : Type 0 where
+  pub users : IsParted old.users new.users u x
+  pub solvers : new.solvers ≡ old.solvers
+  pub kept : IsKeptAs old.kept x (record (kept_at old.kept x) { sampling_mode = sampling.Hide }) new.kept
+
+-- whether a variable may be used again that lost its name or its solver variable: it has not the other one, and is isolated
 abbrev pub unused : Option ℕ → VarData → Bool
 unused None d = d.isolated
 unused (Some y) d = false
 
--- what is kept of a variable that lost its name, by its solver variable: it is hidden, or not live where it is unused
-abbrev pub without_name : Option ℕ → VarData → VarData
-without_name solver d = if unused solver d then dead else record d { sampling_mode = sampling.Hide }
+-- what is kept of such a variable, by the other one: as before, or not live where it is unused
+abbrev pub unless_unused : Option ℕ → VarData → VarData
+unless_unused other d = if unused other d then dead else d
 
--- The name u of x is free, and x is hidden or may be used again.
-pub record IsHidden (old new : Tables) (u x : ℕ) : Type 0 where
-  pub users : IsParted old.users new.users u x
-  pub solvers : new.solvers ≡ old.solvers
-  pub kept : IsKeptAs old.kept x (without_name (at old.solvers.forward x) (kept_at old.kept x)) new.kept
+-- The variable x, which has no name, may be used again where it is unused. Else nothing changed.
+pub record IsDeletedIfUnused (old new : Tables) (x : ℕ) : Type 0 where
+  pub kept : IsKeptAs old.kept x (unless_unused (at old.solvers.forward x) (kept_at old.kept x)) new.kept
+  pub rest : new ≡ record old { kept = new.kept }
 
 -- Nothing was hidden yet: the names below the watermark are in use, each with the global variable of the same number, all of
 -- these are live, and no solver variable below the watermark is free.
@@ -80,16 +85,12 @@ pub record IsNothingHidden (t : Tables) : Type 0 where
   pub live : (x : ℕ) → x < length t.kept → (kept_at t.kept x).deleted ≡ false
   pub solvers : IsFull t.solvers.backward
 
--- what is kept of a variable that lost its solver variable, by its name: as before, or not live where it is unused
-abbrev pub without_solver : Option ℕ → VarData → VarData
-without_solver name d = if unused name d then dead else d
-
 -- The global variable x has its solver variable v no longer, and may be used again where it is unused.
 pub record IsDropped (old new : Tables) (x v : ℕ) : Type 0 where
   pub taken : at old.solvers.backward v ≡ Some x
   pub users : new.users ≡ old.users
   pub solvers : IsParted old.solvers new.solvers x v
-  pub kept : IsKeptAs old.kept x (without_solver (at old.users.backward x) (kept_at old.kept x)) new.kept
+  pub kept : IsKeptAs old.kept x (unless_unused (at old.users.backward x) (kept_at old.kept x)) new.kept
 
 -- The global variable x has the least free name u, and may be used as the mode says.
 pub record IsShown (old new : Tables) (x : ℕ) (mode : SamplingMode) (u : ℕ) : Type 0 where

@@ -7,8 +7,8 @@ pub mod writer;
 
 pub use format::{LineKind, ProofFormat};
 pub use proving::{
-    Proof, add_assumptions, add_clause, add_step, close_proof, flush_proof, solve_finished,
-    take_target,
+    Proof, add_assumptions, add_clause, add_step, close_proof, delete_var, flush_proof,
+    solve_finished, take_target,
 };
 pub use step::{MapStep, ProofStep};
 pub use writer::{WriteError, write_binary_step, write_step};

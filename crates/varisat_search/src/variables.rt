@@ -48,7 +48,7 @@ pub fn new_user_var<A: Allocator + Copy>(
     Ok(user)
 }
 
-/// Sets how the live variable may be used. `Hide` frees its name, if it has one, and the variable with it where it is
+/// Sets how the live variable may be used. `Hide` frees its name, if it has one; the variable stays, also where it is
 /// unused. As another mode a variable without a name gets the least free one, which is returned. Where memory is
 /// refused, which it is only for these two, nothing changes.
 pub fn set_sampling_mode<A: Allocator + Copy>(

@@ -25,11 +25,14 @@ relies-any x t held = record {
 none-stays : (o p : Option CheckerState) (entries : List Entry) → IsCheckedIf o entries p → o ≡ None → p ≡ None
 none-stays o p entries k e = subst (λ x. IsCheckedIf x entries p) e k
 
-pub tells-on : (x y : TracerState) (entries : List Entry) → TakesGlobally x entries y → CanTell x.proof → CanTell y.proof
-tells-on x y entries h t = record {
-  room = room-stays x.proof.opened y.proof.opened (told_as (global_literal x.tables) entries) h.told.written t.room;
-  unchecked = none-stays x.proof.checker y.proof.checker (told_as (global_literal x.tables) entries) h.told.checked t.unchecked;
+pub tells-told : (p q : ProofParts) (entries : List Entry) → IsTold p entries q → CanTell p → CanTell q
+tells-told p q entries h t = record {
+  room = room-stays p.opened q.opened entries h.written t.room;
+  unchecked = none-stays p.checker q.checker entries h.checked t.unchecked;
 }
+
+pub tells-on : (x y : TracerState) (entries : List Entry) → TakesGlobally x entries y → CanTell x.proof → CanTell y.proof
+tells-on x y entries h t = tells-told x.proof y.proof (told_as (global_literal x.tables) entries) h.told t
 
 -- What stands in the target of an open proof after an error.
 pub breaks-proof : (x y : TracerState) (faults : ℕ) → BreaksOff BreaksGlobally x faults y → BreaksProof x.proof faults y.proof

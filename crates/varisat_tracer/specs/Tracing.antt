@@ -1,11 +1,12 @@
 -- What a solver's tracer holds and takes.
-use Rattle.std.specs.Prelude.{◌≡◌, ℕ, None, List, ◌++◌, Result, Ok, Err}
+use Rattle.std.specs.Prelude.{◌≡◌, ℕ, if◌then◌else◌, None, List, [], ◌∷◌, ◌++◌, Result, Ok, Err}
 use Rattle.std.specs.List.Sorted.{IsNonDecreasingBy}
 use Rattle.varisat_theory.specs.Literals.{Literal, Clause}
 use Rattle.varisat_theory.specs.Renaming.{rename}
-use Rattle.varisat_theory.specs.Journals.{Entry}
+use Rattle.varisat_theory.specs.Journals.{Entry, Leaves}
 use Rattle.varisat_trace.specs.declared.tracer.TraceError.{TraceError}
 use Rattle.varisat_names.specs.VarMap.{at}
+use Rattle.varisat_names.specs.VarData.{kept_at}
 use Rattle.varisat_names.specs.Variables.{Tables}
 use Rattle.varisat_proof.specs.Proving.{ProofParts, IsTold, IsBegunIf, Tells, told, HasRoom, IsUsable, MayHold}
 use Rattle.varisat_tracer.specs.declared.tracer.SolverTracer.{SolverTracer}
@@ -56,6 +57,10 @@ BreaksProof p faults q = (entries : List Entry) × IsBegunIf p.opened (told entr
 abbrev pub TellsGlobally : TracerState → List Entry → Result (Unit {0}) TraceError → TracerState → Type 0
 TellsGlobally x entries (Ok u) y = TakesGlobally x entries y
 TellsGlobally x entries (Err e) y = (y.tables ≡ x.tables) × Tells x.proof (told_as (global_literal x.tables) entries) (Err e) y.proof
+
+-- what the proof is told of a global variable that has lost its name or its solver variable: that it is gone, where it is not live any more
+abbrev pub leaves_if_deleted : Tables → ℕ → List Entry
+leaves_if_deleted t x = if (kept_at t.kept x).deleted then Leaves x ∷ [] else []
 
 -- A target that may still count a fault, if a proof is open, and no checker, so that any clauses may be relied on.
 pub record CanTell (p : ProofParts) : Type 0 where

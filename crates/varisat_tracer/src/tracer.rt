@@ -1,18 +1,18 @@
 //! The tracer of a solver: it hands the steps of a search on to the proof that the solver writes and to the checker
 //! inside it, over global variables.
-ghost use Rattle.std.specs.Prelude.{◌≡◌, map, OnOk, None, [], ◌∷◌};
+ghost use Rattle.std.specs.Prelude.{◌≡◌, ◌<◌, length, map, OnOk, None, [], ◌∷◌};
 ghost use Rattle.varisat_names.specs.VarMap.{at};
 ghost use Rattle.varisat_names.specs.Variables.{no_variables};
 ghost use Rattle.varisat_tracer.specs.Carried.{carry, variable_or_first};
 ghost use Rattle.varisat_theory.specs.Journals.{Accepts, Assumes};
-ghost use Rattle.varisat_proof.specs.Proving.{HasRoom, IsUsable};
-ghost use Rattle.varisat_tracer.specs.Tracing.{global_literal, parts_of, TellsGlobally};
+ghost use Rattle.varisat_proof.specs.Proving.{HasRoom, IsUsable, IsTold};
+ghost use Rattle.varisat_tracer.specs.Tracing.{global_literal, parts_of, TellsGlobally, leaves_if_deleted};
 
 use std::alloc::{AllocError, Allocator};
 use varisat_formula::io::ProofTarget;
 use varisat_literals::{Lit, Var};
 use varisat_names::variables::LinkedVariables;
-use varisat_proof::proof::{Proof, add_assumptions, add_clause, add_step};
+use varisat_proof::proof::{Proof, add_assumptions, add_clause, add_step, delete_var};
 use varisat_trace::{ProofStep, ProofTracer, TraceError};
 
 /// The global variable of a solver variable. Each that a search uses has one; for any other it is the first, which spares
@@ -105,6 +105,19 @@ impl<W: ProofTarget, A: Allocator + Copy> SolverTracer<W, A> {
         let assumptions = self.literals.as_slice();
         add_assumptions(&mut self.proof, assumptions)
     }
+
+    /// Tells the proof that the global variable is gone for good, where it is not live any more. It takes no memory, and
+    /// writes nothing.
+    pub fn delete_var_if_gone(&mut self, global: Var)
+        requires { global < length self.old.variables.kept }
+        ensures variables { self.new.variables ≡ self.old.variables }
+        ensures told { IsTold self.old.proof (leaves_if_deleted self.old.variables global) self.new.proof }
+        ensures opened { self.new.proof.opened ≡ self.old.proof.opened }
+    {
+        if self.variables.var_data_global(global).deleted {
+            delete_var(&mut self.proof, global);
+        }
+    }
 }
 
 impl<W: ProofTarget, A: Allocator + Copy> ProofTracer for SolverTracer<W, A> {
@@ -132,6 +145,7 @@ impl<W: ProofTarget, A: Allocator + Copy> ProofTracer for SolverTracer<W, A> {
     }
 
     // `DeleteVar` is not handed on: it says that a solver variable leaves the search, and its global variable may live on.
+    // Where that is gone too, `delete_var_if_gone` tells so.
     fn add_step(&mut self, step: &ProofStep<'_>) -> Result<(), TraceError> {
         if !self.proof.is_active() {
             return Ok(());

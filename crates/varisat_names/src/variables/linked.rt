@@ -4,7 +4,7 @@ ghost use Rattle.varisat_names.specs.Maps.{chain};
 ghost use Rattle.varisat_names.specs.VarMap.{at, IsLeastUnmapped, IsFull};
 ghost use Rattle.varisat_names.specs.VarBiMap.{IsParted};
 ghost use Rattle.varisat_names.specs.VarData.{dead, kept_at, IsKeptAs, IsLeastDeleted, AreDeleted};
-ghost use Rattle.varisat_names.specs.Variables.{no_variables, unused, AreFree, AreListed, AreLinked, IsGiven, AreNextGiven, IsNamed, IsTaken, IsChangedTo, IsHidden, IsDropped, IsShown};
+ghost use Rattle.varisat_names.specs.Variables.{no_variables, unused, AreFree, AreListed, AreLinked, IsGiven, AreNextGiven, IsNamed, IsTaken, IsChangedTo, IsHidden, IsDeletedIfUnused, IsDropped, IsShown};
 
 use super::Variables;
 use super::data::{SamplingMode, VarData};
@@ -261,27 +261,32 @@ impl<A: Allocator + Copy> LinkedVariables<A> {
         self.variables.globals.set_data(global, kept);
     }
 
-    /// Frees the name, for `hide_var`. Its variable is hidden, or may be used again where it is isolated and has no
-    /// solver variable. Where memory is refused nothing changes.
+    /// Frees the name, for `hide_var`: its variable is hidden. Where memory is refused nothing changes.
     pub fn hide(&mut self, user: Var, global: Var) -> Result<(), AllocError>
         requires { at self.old.users.forward user ≡ Some global }
         ensures hidden { OnOk result (IsHidden self.old self.new user global) }
         ensures refused { OnErr result (self.new ≡ self.old) }
     {
-        let solver = self.variables.solver_from_global().get(global);
         let mut kept = *self.variables.globals.data(global);
-        if is_unused(solver, kept) {
-            release_and_delete(
-                &mut self.variables.users,
-                &mut self.variables.globals,
-                global,
-                user,
-            )?;
-            return Ok(());
-        }
         self.variables.users.release(global, user)?;
         kept.sampling_mode = SamplingMode::Hide;
         self.variables.globals.set_data(global, kept);
+        Ok(())
+    }
+
+    /// Lets the live variable, which has no name, be used again where it has no solver variable and is isolated. Where
+    /// memory is refused nothing changes.
+    pub fn delete_global_if_unused(&mut self, global: Var) -> Result<(), AllocError>
+        requires live { (kept_at self.old.kept global).deleted ≡ false }
+        requires unnamed { at self.old.users.backward global ≡ None }
+        ensures deleted { OnOk result (IsDeletedIfUnused self.old self.new global) }
+        ensures refused { OnErr result (self.new ≡ self.old) }
+    {
+        let solver = self.variables.solver_from_global().get(global);
+        let kept = *self.variables.globals.data(global);
+        if is_unused(solver, kept) {
+            self.variables.globals.delete(global)?;
+        }
         Ok(())
     }
 
@@ -303,7 +308,7 @@ impl<A: Allocator + Copy> LinkedVariables<A> {
     }
 }
 
-/// Whether a variable that loses its name or its solver variable may be used again: it has not the other one, and is
+/// Whether a variable that lost its name or its solver variable may be used again: it has not the other one, and is
 /// isolated.
 fn is_unused(other: Option<Var>, kept: VarData) -> bool
     ensures { result ≡ unused other kept }

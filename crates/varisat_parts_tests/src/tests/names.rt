@@ -52,7 +52,7 @@ pub fn name<A: Allocator + Copy>(
     Ok(true)
 }
 
-/// Frees the name, if it is in use.
+/// Frees the name, if it is in use, and lets its variable be used again where it is unused.
 pub fn hide<A: Allocator + Copy>(
     variables: &mut LinkedVariables<A>,
     user: Var,
@@ -60,6 +60,10 @@ pub fn hide<A: Allocator + Copy>(
     match variables.global_from_user().get(user) {
         Some(global) => {
             variables.hide(user, global)?;
+            let is_named = variables.user_from_global().get(global).is_some();
+            if !is_named && is_live(variables, global) {
+                variables.delete_global_if_unused(global)?;
+            }
             Ok(true)
         }
         None => Ok(false),

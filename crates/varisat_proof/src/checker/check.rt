@@ -224,8 +224,15 @@ impl<A: Allocator + Copy> Checker<A> {
         if self.spent {
             return Err(CheckerError::Spent);
         }
-        self.clauses.drop_mentions(var);
+        self.drop_mentions(var);
         Ok(())
+    }
+
+    /// Takes out the clauses with a literal of the variable, whether or not the checker is spent.
+    pub(crate) fn drop_mentions(&mut self, var: Var)
+        ensures { self.new ≡ record self.old { clauses = without var self.old.clauses } }
+    {
+        self.clauses.drop_mentions(var);
     }
 
     /// Whether propagation over the present clauses conflicts.
@@ -521,7 +528,7 @@ impl<A: Allocator + Copy> Checker<A> {
             ProofStep::UnitClauses { units } => self.check_units(units),
             ProofStep::DeleteClause { clause } => self.check_deleted(clause),
             ProofStep::DeleteVar { var } => {
-                self.clauses.drop_mentions(*var);
+                self.drop_mentions(*var);
                 Ok(())
             }
             ProofStep::FailedAssumptions { failed_core } => self.check_core(failed_core),

@@ -1,7 +1,7 @@
 //! The proof that a solver writes, and the checker that runs inside it. Steps and clauses are over global variables.
 ghost use Rattle.std.specs.Prelude.{◌≡◌, ℕ, List, [], ◌∷◌, ◌-◌, ◌<◌, ◌^◌, Option, None, Some, true, false, IfErr, OnOk, Ok, option_copied, is_some};
 ghost use Rattle.varisat_theory.specs.Held.{SameClauses};
-ghost use Rattle.varisat_theory.specs.Journals.{Accepts, Assumes};
+ghost use Rattle.varisat_theory.specs.Journals.{Accepts, Assumes, Leaves};
 ghost use Rattle.varisat_trace.specs.Traces.{CanTakeStep, entries_of};
 ghost use Rattle.varisat_proof.specs.declared.checker.error.CheckerError.TheVariants.{OutOfMemory};
 ghost use Rattle.varisat_proof.specs.declared.proof.format.LineKind.TheVariants as kinds;
@@ -9,7 +9,7 @@ ghost use Rattle.varisat_proof.specs.Lines.{encoding_of, line_of_kind};
 ghost use Rattle.varisat_proof.specs.Steps.{PutsLines};
 ghost use Rattle.varisat_proof.specs.Telling.{marked_line, lines_told};
 ghost use Rattle.varisat_proof.specs.Present.{IsLeftAfter};
-ghost use Rattle.varisat_proof.specs.Proving.{is_telling, is_searched, marked_searched, WritesLines, told, Tells, Flushes, HasRoom, MayHold, IsUsable, IsCheckedIf, IsSpent, IsClosed};
+ghost use Rattle.varisat_proof.specs.Proving.{is_telling, is_searched, marked_searched, WritesLines, told, Tells, Flushes, HasRoom, MayHold, IsUsable, IsCheckedIf, IsTold, IsSpent, IsClosed};
 
 use crate::checker::{Checker, CheckerError};
 use crate::proof::format::{LineKind, ProofFormat};
@@ -19,7 +19,7 @@ use std::alloc::Allocator;
 use std::io;
 use std::marker::Model;
 use varisat_formula::io::ProofTarget;
-use varisat_literals::Lit;
+use varisat_literals::{Lit, Var};
 use varisat_trace::TraceError;
 
 /// A proof that is being written.
@@ -287,6 +287,17 @@ pub fn add_step<W: ProofTarget, A: Allocator + Copy>(
     match check_step_if(&mut proof.checker, step) {
         Ok(()) => Ok(()),
         Err(_) => Err(TraceError::Memory),
+    }
+}
+
+/// Tells that a variable is gone for good: the checker drops the clauses of it. No format has a line for that, so that it
+/// takes no memory and no target can fail.
+pub fn delete_var<W: ProofTarget, A: Allocator + Copy>(proof: &mut Proof<W, A>, var: Var)
+    ensures told { IsTold proof.old (Leaves var ∷ []) proof.new }
+    ensures opened { proof.new.opened ≡ proof.old.opened }
+{
+    if let Some(checker) = &mut proof.checker {
+        checker.drop_mentions(var);
     }
 }
 

@@ -66,13 +66,26 @@ fn set<A: Allocator + Copy>(
     set_sampling_mode(variables, global, mode)
 }
 
+/// Hides the variable, and lets it be used again where it is unused. Returns what name it got, which is none.
+fn hide<A: Allocator + Copy>(
+    variables: &mut LinkedVariables<A>,
+    global: Var,
+) -> Result<Option<Var>, AllocError> {
+    let name = set(variables, global, SamplingMode::Hide)?;
+    let is_named = variables.user_from_global().get(global).is_some();
+    if !is_named && is_live(variables, global) {
+        variables.delete_global_if_unused(global)?;
+    }
+    Ok(name)
+}
+
 /// Hides the variables of 1 and 3, where clauses hold that of 1. Whether both lose their names, and 1 is the next then.
 fn is_hidden<A: Allocator + Copy>(variables: &mut LinkedVariables<A>) -> Result<bool, AllocError> {
     if is_live(variables, var!(1)) {
         variables.set_isolated(var!(1), false);
     }
-    let first = set(variables, var!(1), SamplingMode::Hide)?;
-    let third = set(variables, var!(3), SamplingMode::Hide)?;
+    let first = hide(variables, var!(1))?;
+    let third = hide(variables, var!(3))?;
     let next = next_name(variables)?;
     Ok([first, third, next] == [None, None, Some(var!(1))])
 }
@@ -136,7 +149,7 @@ fn make_four<A: Allocator + Copy>(variables: &mut LinkedVariables<A>) -> Result<
     if is_live(variables, var!(2)) {
         variables.set_unit(var!(2), true);
     }
-    set(variables, var!(4), SamplingMode::Hide)?;
+    hide(variables, var!(4))?;
     Ok(())
 }
 

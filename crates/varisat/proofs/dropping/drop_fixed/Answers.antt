@@ -3,20 +3,21 @@ use Rattle.varisat_search.proofs.StepErrors.{trace-faults, trace-unfilled}
 use Rattle.varisat_search.specs.StepErrors.{step_faults}
 use Rattle.varisat_trace.proofs.Broken.{passed-on}
 use Rattle.varisat_trace.specs.Traces.{faults_of}
-use Rattle.std.proofs.Common.{◌≢◌, ap, ◌∙◌, sym, subst, refl}
+use Rattle.std.proofs.Common.{◌≡◌, ◌≢◌, Option, ap, ◌∙◌, sym, subst, refl}
 use Rattle.varisat_names.specs.Variables.{Tables}
 use Rattle.varisat_tracer.specs.Tracing.{parts_of, Relies, BreaksProof}
-use Rattle.varisat_tracer.proofs.Telling.{relies-any, breaks-proof, proof-unbroken, proof-breaks-on}
+use Rattle.varisat_proof.specs.Proving.{OpenState, ProofParts}
+use Rattle.varisat_tracer.proofs.Telling.{relies-any, tells-told, breaks-proof, proof-unbroken, proof-breaks-on}
 use Rattle.varisat.specs.Searches.{TellsSome, ComesOn}
 use Rattle.varisat.specs.Summaries.{undecided_spaces, IsKept}
 use Rattle.varisat.proofs.SearchVerdicts.{kept-on}
 use Rattle.varisat.proofs.dropping.drop_fixed.Given.{Over}
-use Rattle.varisat.proofs.dropping.drop_fixed.Goals.{In-Ok}
+use Rattle.varisat.proofs.dropping.drop_fixed.Goals.{In-Ok, In_ok-drop_unneeded}
 use Rattle.varisat_search.specs.declared.context.Context.{Context}
 use Rattle.varisat_search.specs.Contexts.{view}
 use Rattle.varisat_search.proofs.LeastHeld.{anything-for}
 use Rattle.varisat.proofs.SinceSteps.{come-settled}
-use Rattle.varisat.proofs.SolverSteps.{comes-nowhere, comes-through, leaving-comes, unknown-undecided, part-comes, some-none}
+use Rattle.varisat.proofs.SolverSteps.{some-through, comes-nowhere, comes-through, leaving-comes, unknown-undecided, part-comes, some-none}
 use Rattle.varisat.proofs.dropping.drop_fixed.Goals as goal
 
 pub settle-requires-clause-holds : goal.settle-requires-clause-holds
@@ -33,6 +34,10 @@ begun g c =
 -- and what the proof was told
 settled-told : (g : Over) (c : In-Ok g) → TellsSome c.args.tracer.now.proof c.settle.new.proof.proof
 settled-told g c = (_, (c.in-Ok.ensures {u = tt}).goes_on.proves.2.1.told)
+
+-- and of variables that left
+left-told : (g : Over) (c : In_ok-drop_unneeded g) → TellsSome c.settle.new.proof.proof c.drop_unneeded.new.tracer.proof
+left-told g c = some-through c.settle.new.proof.proof c.drop_listed.new.tracer.proof c.drop_unneeded.new.tracer.proof (c.in_ok-drop_listed.ensures {u = tt}).leave.given (c.in_ok-drop_unneeded.ensures {u = tt}).leave.given
 
 -- the solver keeps what it did
 kept : (g : Over) (c : In-Ok g) → IsKept c.settle.new.proof.variables c.settle.new.ctx
@@ -65,7 +70,13 @@ pub returns-then-is_err-clause-told : goal.returns-then-is_err-clause-told
 returns-then-is_err-clause-told g c = settled-told g (goal.at.returns-then-is_err-clause-told g c).In-Ok
 
 pub returns-clause-told : goal.returns-clause-told
-returns-clause-told g c = settled-told g (goal.at.returns-clause-told g c).In-Ok
+returns-clause-told g c =
+    some-through c.args.tracer.now.proof c.settle.new.proof.proof c.drop_unneeded.new.tracer.proof (settled-told g (goal.at.returns-clause-told g c).In-Ok) (left-told g (goal.at.returns-clause-told g c).In_ok-drop_unneeded)
+
+pub returns-clause-tells : goal.returns-clause-tells
+returns-clause-tells g c =
+    let (given, told) = returns-clause-told g c in
+    tells-told c.args.tracer.now.proof c.drop_unneeded.new.tracer.proof given told c.requires.tells
 
 pub returns-then-current_level-gt0-clause-stands : goal.returns-then-current_level-gt0-clause-stands
 returns-then-current_level-gt0-clause-stands g c s fit = comes-nowhere 0 s c.args.tracer.now.proof _ refl fit
@@ -77,17 +88,17 @@ pub returns-clause-stands : goal.returns-clause-stands
 returns-clause-stands g c =
     let p = c.args.tracer.now in
     let q = c.settle.new.proof in
+    let r = c.drop_listed.new.tracer in
+    let last = c.drop_unneeded.new.tracer in
     let x = c.args.ctx.now in
     let y = c.settle.new.ctx in
     let u = c.drop_listed.new.ctx in
     let z = c.drop_unneeded.new.ctx in
-    let t = c.drop_listed.new.variables in
-    let last = c.drop_unneeded.new.variables in
-    comes-through 0 0 0 p.proof q.proof q.proof (undecided_spaces p.variables x) (undecided_spaces q.variables y) (undecided_spaces last z) refl (unknown-undecided q.variables y)
+    comes-through 0 0 0 p.proof q.proof last.proof (undecided_spaces p.variables x) (undecided_spaces q.variables y) (undecided_spaces last.variables z) refl (unknown-undecided q.variables y)
     (begun g (goal.at.returns-clause-stands g c).In-Ok)
-    (comes-through 0 0 0 q.proof q.proof q.proof (undecided_spaces q.variables y) (undecided_spaces t u) (undecided_spaces last z) refl (unknown-undecided t u)
-    (leaving-comes q.proof (undecided_spaces q.variables y) (undecided_spaces t u) (c.in_ok-drop_listed.ensures {u = tt}).leave.stands)
-    (leaving-comes q.proof (undecided_spaces t u) (undecided_spaces last z) (c.in_ok-drop_unneeded.ensures {u = tt}).leave.stands))
+    (comes-through 0 0 0 q.proof r.proof last.proof (undecided_spaces q.variables y) (undecided_spaces r.variables u) (undecided_spaces last.variables z) refl (unknown-undecided r.variables u)
+    (leaving-comes q.proof r.proof (undecided_spaces q.variables y) (undecided_spaces r.variables u) (c.in_ok-drop_listed.ensures {u = tt}).leave.stands)
+    (leaving-comes r.proof last.proof (undecided_spaces r.variables u) (undecided_spaces last.variables z) (c.in_ok-drop_unneeded.ensures {u = tt}).leave.stands))
 
 pub returns-then-is_err-clause-within : goal.returns-then-is_err-clause-within
 returns-then-is_err-clause-within g c =
@@ -110,19 +121,25 @@ returns-in-Err-clause-broken g c =
 pub returns-in-Err-clause-full : goal.returns-in-Err-clause-full
 returns-in-Err-clause-full g c = subst (λ z. z ≢ step.Full) (sym c.from.ensures) (trace-unfilled c.in-Err.error)
 
+-- as variables leave, nothing more is written
+unwritten : (p q r : ProofParts) → TellsSome p q → r.opened ≡ q.opened → BreaksProof p 0 r
+unwritten p q r (given, told) same = proof-breaks-on p q r given 0 told (subst (λ (o : Option OpenState). BreaksProof q 0 (record q { opened = o })) (sym same) (proof-unbroken q))
+
 pub returns-in_err-drop_listed-clause-broken : goal.returns-in_err-drop_listed-clause-broken
 returns-in_err-drop_listed-clause-broken g c =
     let p = c.args.tracer.now.proof in
     let q = c.settle.new.proof.proof in
-    passed-on c.from_residual.result step.Memory (λ z. BreaksProof p (step_faults z) q) c.from_residual.ensures
-    (proof-breaks-on p q q _ 0 (c.in-Ok.ensures {u = tt}).goes_on.proves.2.1.told (proof-unbroken q))
+    let r = c.drop_listed.new.tracer.proof in
+    passed-on c.from_residual.result step.Memory (λ z. BreaksProof p (step_faults z) r) c.from_residual.ensures
+    (unwritten p q r (settled-told g (goal.at.returns-in_err-drop_listed-clause-broken g c).In-Ok) c.drop_listed.ensures.opened)
 
 pub returns-in_err-drop_unneeded-clause-broken : goal.returns-in_err-drop_unneeded-clause-broken
 returns-in_err-drop_unneeded-clause-broken g c =
     let p = c.args.tracer.now.proof in
     let q = c.settle.new.proof.proof in
-    passed-on c.from_residual-in_err-drop_unneeded.result step.Memory (λ z. BreaksProof p (step_faults z) q) c.from_residual-in_err-drop_unneeded.ensures
-    (proof-breaks-on p q q _ 0 (c.in-Ok.ensures {u = tt}).goes_on.proves.2.1.told (proof-unbroken q))
+    let r = c.drop_unneeded.new.tracer.proof in
+    passed-on c.from_residual-in_err-drop_unneeded.result step.Memory (λ z. BreaksProof p (step_faults z) r) c.from_residual-in_err-drop_unneeded.ensures
+    (unwritten p q r (settled-told g (goal.at.returns-in_err-drop_unneeded-clause-broken g c).In-Ok) (c.drop_unneeded.ensures.opened ∙ c.drop_listed.ensures.opened))
 
 pub returns-in_err-drop_listed-clause-full : goal.returns-in_err-drop_listed-clause-full
 returns-in_err-drop_listed-clause-full g c = passed-on c.from_residual.result step.Memory (λ z. z ≢ step.Full) c.from_residual.ensures (λ e. cc)

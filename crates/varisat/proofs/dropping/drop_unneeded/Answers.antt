@@ -6,10 +6,11 @@ use Rattle.varisat_search.specs.declared.context.Context.{Context}
 use Rattle.varisat_search.specs.Forgotten.{search_without}
 use Rattle.varisat_search.specs.Seen.{search_of}
 use Rattle.varisat_search.specs.Contexts.{view}
+use Rattle.varisat_tracer.specs.Tracing.{parts_of}
 use Rattle.varisat.specs.Dropping.{FlagsVariables, ListsUnneeded, AreReleased, LeavesTables}
 use Rattle.varisat.proofs.DroppedKept.{HaveLeft, have-left, values-left}
 use Rattle.varisat.proofs.SinceSteps.{come-dropped}
-use Rattle.varisat.proofs.DroppedUnneeded.{needed-shown, none-leaves, unneeded-inside, unneeded-taken, unneeded-unmentioned, named-stay, kept-released, needed-left, stands-released}
+use Rattle.varisat.proofs.DroppedUnneeded.{needed-shown, none-leaves, released-told, unneeded-inside, unneeded-taken, unneeded-unmentioned, named-stay, kept-released, needed-left, stands-released}
 use Rattle.varisat.proofs.dropping.drop_unneeded.Given.{Over}
 use Rattle.varisat.proofs.dropping.drop_unneeded.Goals.{In_ok-gone, In_ok-list_unneeded, In_ok-release_solver_vars}
 use Rattle.varisat.proofs.dropping.drop_unneeded.Goals as goal
@@ -18,15 +19,15 @@ pub has_hidden-requires : goal.has_hidden-requires
 has_hidden-requires g c = c.requires.kept.bounded
 
 pub returns-then-not-has_hidden-clause-leave : goal.returns-then-not-has_hidden-clause-leave
-returns-then-not-has_hidden-clause-leave g c = none-leaves c.args.variables.now c.args.ctx.now c.requires.kept
+returns-then-not-has_hidden-clause-leave g c = none-leaves (parts_of c.args.tracer.now) c.args.ctx.now c.requires.kept
 
 pub returns-then-not-has_hidden-clause-left : goal.returns-then-not-has_hidden-clause-left
 returns-then-not-has_hidden-clause-left g c =
-    needed-shown c.args.variables.now (view c.args.ctx.now) c.requires.left (c.has_hidden.ensures c.if-not-has_hidden.true)
+    needed-shown c.args.tracer.now.variables (view c.args.ctx.now) c.requires.left (c.has_hidden.ensures c.if-not-has_hidden.true)
 
 -- the literals are of just the hidden variables that no kept clause names
-listed : (g : Over) (c : In_ok-list_unneeded g) → ListsUnneeded c.args.variables.now c.in_ok-mentioned.mentioned.items c.list_unneeded.new.unneeded.items
-listed g c = subst (λ fs. ListsUnneeded c.args.variables.now fs c.list_unneeded.new.unneeded.items) c.deref.ensures.value (c.in_ok-list_unneeded.ensures {u = tt})
+listed : (g : Over) (c : In_ok-list_unneeded g) → ListsUnneeded c.args.tracer.now.variables c.in_ok-mentioned.mentioned.items c.list_unneeded.new.unneeded.items
+listed g c = subst (λ fs. ListsUnneeded c.args.tracer.now.variables fs c.list_unneeded.new.unneeded.items) c.deref.ensures.value (c.in_ok-list_unneeded.ensures {u = tt})
 
 -- and these are flagged
 flags : (g : Over) (c : In_ok-gone g) → FlagsVariables (length c.in_ok-mentioned.mentioned.items) c.list_unneeded.new.unneeded.items c.in_ok-gone.gone.items
@@ -37,7 +38,7 @@ flags g c = subst (λ n. FlagsVariables n c.list_unneeded.new.unneeded.items c.i
 pub flag_variables-requires : goal.flag_variables-requires
 flag_variables-requires g c l h =
     let here = (goal.at.flag_variables-requires g c).In_ok-list_unneeded in
-    let inside = unneeded-inside c.args.variables.now c.in_ok-mentioned.mentioned.items c.list_unneeded.new.unneeded.items (listed g here) l (subst (λ xs. l ∈ xs) c.deref-2.ensures.value h) in
+    let inside = unneeded-inside c.args.tracer.now.variables c.in_ok-mentioned.mentioned.items c.list_unneeded.new.unneeded.items (listed g here) l (subst (λ xs. l ∈ xs) c.deref-2.ensures.value h) in
     subst (λ n. variable_of l < n) (c.in_ok-mentioned.ensures.count ∙ ap (λ (vs : List (Option Bool)). length vs) (sym c.assignment.ensures)) inside
 
 pub drop_variables-requires-clause-unmentioned : goal.drop_variables-requires-clause-unmentioned
@@ -45,19 +46,19 @@ drop_variables-requires-clause-unmentioned g c d h l i =
     let here = (goal.at.drop_variables-requires-clause-unmentioned g c).In_ok-gone in
     let before = (goal.at.drop_variables-requires-clause-unmentioned g c).In_ok-list_unneeded in
     subst (λ fs. leaves fs (variable_of l) ≡ false) (sym c.deref-3.ensures.value)
-    (unneeded-unmentioned c.args.variables.now c.in_ok-mentioned.mentioned.items c.list_unneeded.new.unneeded.items (listed g before) (view c.args.ctx.now) c.in_ok-gone.gone.items c.in_ok-mentioned.ensures (flags g here) d h l i)
+    (unneeded-unmentioned c.args.tracer.now.variables c.in_ok-mentioned.mentioned.items c.list_unneeded.new.unneeded.items (listed g before) (view c.args.ctx.now) c.in_ok-gone.gone.items c.in_ok-mentioned.ensures (flags g here) d h l i)
 
 pub drop_variables-requires-clause-unassumed : goal.drop_variables-requires-clause-unassumed
 drop_variables-requires-clause-unassumed g c l h =
     let here = (goal.at.drop_variables-requires-clause-unassumed g c).In_ok-gone in
     let before = (goal.at.drop_variables-requires-clause-unassumed g c).In_ok-list_unneeded in
     subst (λ fs. leaves fs (variable_of l) ≡ false) (sym c.deref-3.ensures.value)
-    (named-stay c.args.variables.now c.in_ok-mentioned.mentioned.items c.list_unneeded.new.unneeded.items (listed g before) (view c.args.ctx.now) c.in_ok-gone.gone.items c.in_ok-mentioned.ensures (flags g here) c.args.ctx.now.assumptions.working c.requires.kept.working l h)
+    (named-stay c.args.tracer.now.variables c.in_ok-mentioned.mentioned.items c.list_unneeded.new.unneeded.items (listed g before) (view c.args.ctx.now) c.in_ok-gone.gone.items c.in_ok-mentioned.ensures (flags g here) c.args.ctx.now.assumptions.working c.requires.kept.working l h)
 
 pub release_solver_vars-requires-clause-taken : goal.release_solver_vars-requires-clause-taken
 release_solver_vars-requires-clause-taken g c l h =
     let before = (goal.at.release_solver_vars-requires-clause-taken g c).In_ok-list_unneeded in
-    unneeded-taken c.args.variables.now c.in_ok-mentioned.mentioned.items c.list_unneeded.new.unneeded.items (listed g before) l (subst (λ xs. l ∈ xs) c.deref-4.ensures.value h)
+    unneeded-taken c.args.tracer.now.variables c.in_ok-mentioned.mentioned.items c.list_unneeded.new.unneeded.items (listed g before) l (subst (λ xs. l ∈ xs) c.deref-4.ensures.value h)
 
 pub release_solver_vars-requires-clause-distinct : goal.release_solver_vars-requires-clause-distinct
 release_solver_vars-requires-clause-distinct g c =
@@ -65,12 +66,12 @@ release_solver_vars-requires-clause-distinct g c =
     subst (λ xs. IsDistinct (map variable_of xs)) (sym c.deref-4.ensures.value) (listed g before).distinct
 
 -- they left the tables and the search
-left : (g : Over) (c : In_ok-release_solver_vars g) → FlagsVariables (length c.in_ok-mentioned.mentioned.items) c.list_unneeded.new.unneeded.items c.in_ok-gone.gone.items → HaveLeft c.args.variables.now c.release_solver_vars.new.variables c.args.ctx.now c.drop_variables.new.ctx c.in_ok-gone.gone.items c.list_unneeded.new.unneeded.items (length c.in_ok-mentioned.mentioned.items)
+left : (g : Over) (c : In_ok-release_solver_vars g) → FlagsVariables (length c.in_ok-mentioned.mentioned.items) c.list_unneeded.new.unneeded.items c.in_ok-gone.gone.items → HaveLeft c.args.tracer.now.variables c.release_solver_vars.new.tracer.variables c.args.ctx.now c.drop_variables.new.ctx c.in_ok-gone.gone.items c.list_unneeded.new.unneeded.items (length c.in_ok-mentioned.mentioned.items)
 left g c f =
     let x = c.args.ctx.now in
     let e = c.drop_variables.ensures in
-    have-left c.args.variables.now c.release_solver_vars.new.variables x c.drop_variables.new.ctx c.deref-3.result.now c.in_ok-gone.gone.items c.list_unneeded.new.unneeded.items (length c.in_ok-mentioned.mentioned.items) c.deref-3.ensures.value c.prove_linked.ensures c.requires.kept f
-    (subst (λ xs. LeavesTables xs c.args.variables.now c.release_solver_vars.new.variables) c.deref-4.ensures.value (c.in_ok-release_solver_vars.ensures {u = tt}).rest)
+    have-left c.args.tracer.now.variables c.release_solver_vars.new.tracer.variables x c.drop_variables.new.ctx c.deref-3.result.now c.in_ok-gone.gone.items c.list_unneeded.new.unneeded.items (length c.in_ok-mentioned.mentioned.items) c.deref-3.ensures.value c.prove_linked.ensures c.requires.kept f
+    (subst (λ xs. LeavesTables xs c.args.tracer.now.variables c.release_solver_vars.new.tracer.variables) c.deref-4.ensures.value (c.in_ok-release_solver_vars.ensures {u = tt}).rest)
     e.dropped (ap (λ (z : Context g.row.A.Denot). z.assumptions) e.kept) e.ready e.decidable
 
 pub returns-clause-left : goal.returns-clause-left
@@ -86,13 +87,17 @@ returns-clause-leave g c =
     let e = c.drop_variables.ensures in
     let list = listed g here.In_ok-list_unneeded in
     let gone = left g here.In_ok-release_solver_vars (flags g here.In_ok-gone) in
+    let p = parts_of c.args.tracer.now in
+    let q = parts_of c.release_solver_vars.new.tracer in
+    let released = subst (λ xs. AreReleased xs p q) c.deref-4.ensures.value (c.in_ok-release_solver_vars.ensures {u = tt}).released in
     record {
       kept = kept-released c.requires.left c.in_ok-mentioned.ensures list gone;
       within = come-dropped c.deref-3.result.now x y c.requires.kept.ready c.requires.settled e.ready e.dropped e.decidable
           (ap (λ (z : Context g.row.A.Denot). z.solver_config) e.kept);
       count = values-left gone;
+      given = released-told c.list_unneeded.new.unneeded.items p q released;
       stands = λ s fit.
           stands-released c.requires.left c.in_ok-mentioned.ensures list gone
-          (subst (λ xs. AreReleased xs c.args.variables.now c.release_solver_vars.new.variables) c.deref-4.ensures.value (c.in_ok-release_solver_vars.ensures {u = tt}).released)
+          released
           (subst (λ fs. search_of (view y) ≡ search_without fs (search_of (view x))) c.deref-3.ensures.value e.seen) s fit;
     }

@@ -1,10 +1,10 @@
-use Rattle.std.proofs.Common.{sym, ap, ◌∙◌, subst, take, map, refl}
+use Rattle.std.proofs.Common.{◌≡◌, sym, ap, ◌∙◌, subst, take, map, refl}
 use Rattle.varisat_theory.specs.Membership.{IsDistinct}
 use Rattle.varisat_theory.specs.Literals.{variable_of}
 use Rattle.varisat_names.specs.VarMap.{at}
-use Rattle.varisat_names.specs.Variables.{IsDropped}
+use Rattle.varisat_tracer.specs.Tracing.{parts_of}
 use Rattle.varisat_prop.proofs.ReadElements.{item-∈}
-use Rattle.varisat.specs.Dropping.{AreReleased, LeavesTables}
+use Rattle.varisat.specs.Dropping.{LosesSolverVar, AreReleased, LeavesTables}
 use Rattle.varisat.proofs.ReadPlaces.{take-item, split-item}
 use Rattle.varisat.proofs.PlainTables.{is-there, there-is}
 use Rattle.varisat.proofs.DroppedAlone.{leaves-none, leaves-dropped, leaves-then, taken-live, distinct-after}
@@ -12,7 +12,7 @@ use Rattle.varisat.proofs.DroppedUnneeded.{released-push}
 use Rattle.varisat.proofs.dropping.release_solver_vars.Goals as goal
 
 pub loop-lit-init : goal.loop-lit-init
-loop-lit-init g c = (refl, leaves-none c.args.variables.now)
+loop-lit-init g c = (refl, leaves-none c.args.tracer.now.variables, refl)
 
 -- the solver variable was not dropped yet
 pub drop_solver_var-requires : goal.drop_solver_var-requires
@@ -20,22 +20,23 @@ drop_solver_var-requires g c =
     let ls = c.args.lits.now in
     let i = c.loop-lit.lit-index in
     let l = c.lit-item.result in
-    let (x, e) = there-is (at c.args.variables.now.solvers.backward (variable_of l)) (c.requires.taken l (item-∈ ls i l c.loop-lit-test.true c.lit-item.is)) in
+    let (x, e) = there-is (at c.args.tracer.now.variables.solvers.backward (variable_of l)) (c.requires.taken l (item-∈ ls i l c.loop-lit-test.true c.lit-item.is)) in
     let (rest, s) = split-item ls i l c.loop-lit-test.true c.lit-item.is in
     let q = c.loop-lit.invariant.1.stays (variable_of l) (λ m h o. distinct-after (take i ls) l rest (subst (λ ks. IsDistinct (map variable_of ks)) s c.requires.distinct) m h o) in
-    is-there (at c.loop-lit.variables.solvers.backward c.var.result) x (ap (at c.loop-lit.variables.solvers.backward) c.var.ensures ∙ q ∙ e)
+    is-there (at c.loop-lit.tracer.variables.solvers.backward c.var.result) x (ap (at c.loop-lit.tracer.variables.solvers.backward) c.var.ensures ∙ q ∙ e)
 
 pub loop-lit-preserved : goal.loop-lit-preserved
 loop-lit-preserved g c =
     let l = c.lit-item.result in
     let d = take c.loop-lit.lit-index c.args.lits.now in
-    let old = c.args.variables.now in
-    let mid = c.loop-lit.variables in
-    let new = c.drop_solver_var.new.self in
-    let x = c.in_ok-drop_solver_var.field-0 in
-    let one : IsDropped mid new x (variable_of l) = subst (IsDropped mid new x) c.var.ensures c.in_ok-drop_solver_var.ensures.dropped in
-    let (a, b) = c.loop-lit.invariant in
-    subst (λ ks. AreReleased ks old new × LeavesTables ks old new) (sym (take-item c.args.lits.now c.loop-lit.lit-index l c.loop-lit-test.true c.lit-item.is)) (
-      released-push d l old mid new a (x, one),
-      leaves-then d l old mid new b (leaves-dropped l mid new x (taken-live mid (variable_of l) x c.prove_linked.ensures one.taken) one),
+    let first = parts_of c.args.tracer.now in
+    let before = parts_of c.loop-lit.tracer in
+    let last = parts_of c.drop_solver_var.new.tracer in
+    let (x, loses) = c.in_ok-drop_solver_var.ensures.dropped in
+    let one : LosesSolverVar x (variable_of l) before last = subst (λ v. LosesSolverVar x v before last) c.var.ensures loses in
+    let (a, b, same) = c.loop-lit.invariant in
+    subst (λ ks. AreReleased ks first last × LeavesTables ks first.tables last.tables × (last.proof.opened ≡ first.proof.opened)) (sym (take-item c.args.lits.now c.loop-lit.lit-index l c.loop-lit-test.true c.lit-item.is)) (
+      released-push d l first before last a (x, one),
+      leaves-then d l first.tables before.tables last.tables b (leaves-dropped l before.tables last.tables x (taken-live before.tables (variable_of l) x c.prove_linked.ensures one.dropped.taken) one.dropped),
+      c.drop_solver_var.ensures.opened ∙ same,
     )

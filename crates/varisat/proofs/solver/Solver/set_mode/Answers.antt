@@ -13,7 +13,7 @@ pub invariant_of-self : goal.invariant_of-self
 invariant_of-self g c v =
     let k = (c.self.invariant c.if-self.false).kept in
     record {
-      kept = kept-after c.self.inside.ctx c.self.inside.tracer.variables c.set_named_mode.new.variables k ((c.in-Ok.ensures {u = tt}).set.stays);
+      kept = kept-after c.self.inside.ctx c.self.inside.tracer.variables c.set_named_mode.new.variables k (c.in-Ok.ensures {u = tt}).set.stays;
       tells = (c.self.invariant c.if-self.false).tells;
       counts = since-now c.steps-self-inside.result c.self.inside.ctx c.steps-self-inside.ensures.steps k.ready c.steps-self-inside.ensures.plan;
     }
@@ -34,7 +34,7 @@ returns-in-Ok g c s st =
     let t = with_mode u (mode_of m) (name_var named u s) in (
       t,
       ((k.valid, may.in_range, unassumed-state u k may.unassumed, like-refl t), λ e. absurd cc),
-      record { ledger = ledger-is _ _ _ _ _ _ (ap (λ (x : Ledger). x.valid) k.ledger) (ap (λ (x : Ledger). x.started) k.ledger) (ap (λ (x : Ledger). x.steps) k.ledger) (none-since c.steps-self-inside.result c.self.inside.ctx.schedule.steps c.steps-self-inside.ensures.steps) (ap (λ (x : Ledger). x.settings) k.ledger); fits = λ _. mode-state c.set_named_mode.new.variables u m (mode_of m) k c.requires ((c.in-Ok.ensures {u = tt}).set); proof = λ _. k.proof; flags = λ _. let f = k.flags in record { clauses = f.clauses; assumptions = f.assumptions; counted = f.counted; unassumed = f.unassumed } },
+      record { ledger = ledger-is _ _ _ _ _ _ (ap (λ (x : Ledger). x.valid) k.ledger) (ap (λ (x : Ledger). x.started) k.ledger) (ap (λ (x : Ledger). x.steps) k.ledger) (none-since c.steps-self-inside.result c.self.inside.ctx.schedule.steps c.steps-self-inside.ensures.steps) (ap (λ (x : Ledger). x.settings) k.ledger); fits = λ _. mode-state c.set_named_mode.new.variables u c.in-Ok.field-0 m (mode_of m) k c.requires (c.in-Ok.ensures {u = tt}).set; proof = λ _. k.proof; flags = λ _. let f = k.flags in record { clauses = f.clauses; assumptions = f.assumptions; counted = f.counted; unassumed = f.unassumed } },
     )
 
 pub returns-in-Err : goal.returns-in-Err

@@ -30,6 +30,8 @@ use Rattle.varisat.specs.Calls.{with_naming, VerdictAfter, Refuted, Reopened, ap
 use Rattle.varisat.specs.Carried.{carry, value_or}
 use Rattle.varisat.specs.Spaces.{Spaces, Carrying, IsWide, translation, SearchHolds, CoreFits, without_core, VerdictFits, Links, SpacesFit}
 use Rattle.varisat_theory.specs.Journals.{Entry, Accepts, written}
+use Rattle.varisat_proof.specs.Calls.{CheckerState}
+use Rattle.varisat_proof.specs.Proving.{IsCheckedIf}
 use Rattle.varisat_tracer.specs.Carried.{told_as}
 use Rattle.varisat_tracer.specs.Tracing.{global_literal}
 use Rattle.varisat.specs.OpenProofs.{OpenProof}
@@ -157,6 +159,7 @@ raised g s t (w, k) none seen few =
         right = k.right;
         few = few;
         told = k.told;
+        checked = λ n. k.checked (λ e. n (ap without_core o ∙ e));
       }),
     )
 
@@ -165,12 +168,12 @@ raised g s t (w, k) none seen few =
 -- the flags do not matter
 pub ledger-free : (w : Carrying) (p : Spaces) (s : State) (l : Ledger) → Links w p s → Links w p (record s { ledger = l })
 ledger-free w p s l k =
-    relinked w p p s (record s { ledger = l }) k (record { solvers = k.solvers; holds = k.holds; assumptions = k.assumptions; working = k.working; verdict = k.verdict; core = k.core; right = k.right; few = k.few; told = k.told })
+    relinked w p p s (record s { ledger = l }) k (record { solvers = k.solvers; holds = k.holds; assumptions = k.assumptions; working = k.working; verdict = k.verdict; core = k.core; right = k.right; few = k.few; told = k.told; checked = k.checked })
 
 -- nor does the open proof
 pub proof-free : (w : Carrying) (p : Spaces) (s : State) (proof : Option OpenProof) → Links w p s → Links w p (record s { proof = proof })
 proof-free w p s proof k =
-    relinked w p p s (record s { proof = proof }) k (record { solvers = k.solvers; holds = k.holds; assumptions = k.assumptions; working = k.working; verdict = k.verdict; core = k.core; right = k.right; few = k.few; told = k.told })
+    relinked w p p s (record s { proof = proof }) k (record { solvers = k.solvers; holds = k.holds; assumptions = k.assumptions; working = k.working; verdict = k.verdict; core = k.core; right = k.right; few = k.few; told = k.told; checked = k.checked })
 
 -- the names of a clause that are in use are counted with it
 pub counted-spaces : (g : Summary) (s : State) (d : Clause) → SpacesFit (spaces g) s → ((l : Literal) → l ∈ d → (x : ℕ) × (at g.tables.users.forward (variable_of l) ≡ Some x)) → SpacesFit (spaces g) (count (join_counted s.counted (map variable_of (map (through_names s.naming) d))) s)
@@ -281,9 +284,9 @@ pub record Steps (g : Summary) (d : Clause) (joined : Tables) (new : View) (part
   pub parts_stay : parts ≡ record g.assumed { levels = 0 }
 
 -- the identities of the clause are counted before it is loaded
-pub clause-accepted : (g : Summary) (n : State) (d : Clause) (joined : Tables) (new : View) (parts : AssumptionParts) (after : SatState) (t : Steps g d joined new parts after) → SpacesFit (spaces g) (count (join_counted n.counted (map variable_of (map (through_names n.naming) d))) n) →
-    (x : Verdict) × (told : List Entry) × VerdictAfter n.clauses (map (through_names n.naming) d) n.verdict x × TellsMore 0 (n.told ++ Accepts (map (through_names n.naming) d) ∷ []) told × (n.ever_hidden ≡ false → told ≡ n.told ++ told_as (global_literal g.tables) (Accepts (map (carry (chain (at joined.users.forward) (at joined.solvers.forward))) d) ∷ written t.lines)) × SpacesFit (spaces_of joined new parts after) (retold told (append_clause (map (through_names n.naming) d) x n))
-clause-accepted g n d joined new parts after t (w1, k1) =
+pub clause-accepted : (g : Summary) (n : State) (d : Clause) (joined : Tables) (new : View) (parts : AssumptionParts) (after : SatState) (checker : Option CheckerState) (t : Steps g d joined new parts after) → IsCheckedIf g.checker (told_as (global_literal g.tables) (Accepts (map (carry (chain (at joined.users.forward) (at joined.solvers.forward))) d) ∷ written t.lines)) checker → SpacesFit (spaces g) (count (join_counted n.counted (map variable_of (map (through_names n.naming) d))) n) →
+    (x : Verdict) × (told : List Entry) × VerdictAfter n.clauses (map (through_names n.naming) d) n.verdict x × TellsMore 0 (n.told ++ Accepts (map (through_names n.naming) d) ∷ []) told × (n.ever_hidden ≡ false → told ≡ n.told ++ told_as (global_literal g.tables) (Accepts (map (carry (chain (at joined.users.forward) (at joined.solvers.forward))) d) ∷ written t.lines)) × SpacesFit (spaces_of joined checker new parts after) (retold told (append_clause (map (through_names n.naming) d) x n))
+clause-accepted g n d joined new parts after checker t checks (w1, k1) =
     let c = map (through_names n.naming) d in
     let p1 = spaces g in
     let n1 = count (join_counted n.counted (map variable_of c)) n in
@@ -294,12 +297,12 @@ clause-accepted g n d joined new parts after t (w1, k1) =
     let p = spaces g2 in
     let j = t.are_joined in
     let same-literals : map (carry (chain (at joined.users.forward) (at joined.solvers.forward))) d ≡ map (solver_literal p) d = ap₂ (λ (a b : BiMap). map (carry (chain (at a.forward) (at b.forward))) d) j.users j.solvers in
-    let q = spaces_of joined new parts after in
+    let q = spaces_of joined checker new parts after in
     let (x, told, v, more, plain, k6) = loaded w1 p s3 d k5 t.all (kept_at joined.kept)
     (record { rest = j.rest; fallen = j.fallen; wide = λ wide l x h e. j.joined (several d wide) l x h e })
-    (search_of new) (loaded_outcome after) q.model t.lines refl (view-long g.search t.well_before) (view-long new t.well_new) t.in_use
+    (search_of new) (loaded_outcome after) q.model checker t.lines (subst (λ e. IsCheckedIf g.checker (told_as (global_literal g.tables) (Accepts e ∷ written t.lines)) checker) same-literals checks) refl (view-long g.search t.well_before) (view-long new t.well_new) t.in_use
     (subst (λ e. Loads (search_of g.search) (search_of new) e (loaded_outcome after) t.lines) same-literals t.loads) in
-    let p6 = record p { kept = kept_at joined.kept; search = search_of new; model = q.model } in
+    let p6 = record p { kept = kept_at joined.kept; search = search_of new; model = q.model; checker = checker } in
     let (y, u, k7) = settled w1 p6 (retold told s3) c new g.search parts.failed_core g.assumed.failed_core w1.identity p1.model g.sat_state after n.verdict x k6 v k1.verdict t.verdict k1.core k1.right in (
       y,
       told,
@@ -323,6 +326,7 @@ clause-accepted g n d joined new parts after t (w1, k1) =
         search = refl;
         outcome = refl;
         var_count = t.same_count;
+        checker = refl;
       }) (w1, k7),
     )
 

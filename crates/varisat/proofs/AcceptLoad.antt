@@ -1,8 +1,8 @@
 -- A clause is accepted, or a list assumed.
-use Rattle.std.proofs.Common.{◌≡◌, ◌≢◌, ℕ, ◌<◌, Bool, true, false, Some, List, [], ◌∷◌, ◌++◌, ◌⊎◌, inl, inr, ⊎_elim, sym, ap, ◌∙◌, subst, refl, map, append_assoc}
+use Rattle.std.proofs.Common.{◌≡◌, ◌≢◌, ℕ, ◌<◌, Bool, true, false, Option, Some, List, [], ◌∷◌, ◌++◌, ◌⊎◌, inl, inr, ⊎_elim, sym, ap, ◌∙◌, subst, refl, map, append_assoc}
 use Rattle.varisat_theory.specs.Membership.{◌∈◌}
 use Rattle.varisat_theory.specs.Literals.{Literal, Clause, variable_of, opposite, IsUnit, Satisfies, MakesTrue}
-use Rattle.varisat_theory.specs.Derivations.{Line}
+use Rattle.varisat_theory.specs.Derivations.{Line, SpeakOf}
 use Rattle.varisat_theory.specs.Renaming.{rename_line}
 use Rattle.varisat_theory.specs.Journals.{Entry, Accepts, Assumes, GoesOn, written}
 use Rattle.varisat.specs.Journals.{retold, TellsMore}
@@ -24,23 +24,23 @@ use Rattle.varisat.specs.States.{State, Verdict, Unknown, Unsat, IsRight}
 use Rattle.varisat.specs.Names.{through_names}
 use Rattle.varisat.specs.Calls.{ContradictsUnit, VerdictAfter, Refuted, Reopened}
 use Rattle.varisat.specs.Carried.{carry, is_forced}
-use Rattle.varisat.specs.Spaces.{Spaces, Carrying, IsWide, IsApart, IsolationCase, NotIsolated, Apart, Forced, IsolationFits, Translation, translation, SharesHeld, IsCounted, IsTold, SearchHolds, CoreFits, without_core, VerdictFits, Links}
+use Rattle.varisat.specs.Spaces.{Spaces, Carrying, IsWide, IsApart, IsolationCase, NotIsolated, Apart, Forced, IsolationFits, Translation, translation, CheckerFits, SharesHeld, IsCounted, IsTold, SearchHolds, CoreFits, without_core, VerdictFits, Links}
 use Rattle.varisat.proofs.SpacesMoves.{AreTaken, solver_literal, IsTouched, IsMarkedFor, accept, AreLong, AreInUse}
 use Rattle.varisat_names.proofs.Maps.{chain-some, chain-through}
 use Rattle.varisat.proofs.SearchLinks.{relinked-marks}
-use Rattle.varisat.proofs.SpacesAgree.{holds-same, isolation-same, marks-same}
+use Rattle.varisat.proofs.SpacesAgree.{map-map, holds-same, isolation-same, marks-same}
 use Rattle.varisat.proofs.Carried.{carry-at, carry-sign, carry-opposite, map-empty, satisfied-carried, forced-value, wide-back}
 use Rattle.varisat.proofs.AcceptSolverVariables.{one-solver}
 use Rattle.varisat.proofs.ReachedHeld.{told_lines, with_told, IsInUse, lines-lead, shares-after, shares-joined, told-quiet, counted-literal}
 use Rattle.varisat.proofs.ToldEntries.{told-written, told-accepted, told-assumed, spoken-renamed}
+use Rattle.varisat_proof.specs.Calls.{CheckerState}
+use Rattle.varisat_proof.specs.Proving.{IsCheckedIf}
+use Rattle.varisat.proofs.CheckedHeld.{checker-on, checker-still, told-carried, global-carried}
+use Rattle.varisat_theory.proofs.Journals.{written_stays}
 use Rattle.varisat_tracer.specs.Carried.{told_as}
 use Rattle.varisat_tracer.specs.Carried as global
 use Rattle.varisat.proofs.PlainTold.{plain-literals, plain-lines}
 use Rattle.varisat.proofs.SearchHeld.{answers-covers, fixed-on, refuted}
-
-pub map-map : (f g h : Literal → Literal) (c : Clause) → ((l : Literal) → l ∈ c → f (g l) ≡ h l) → map f (map g c) ≡ map h c
-map-map f g h [] e = refl
-map-map f g h (l ∷ c) e = ap (λ x. x ∷ map f (map g c)) (e l (inl refl)) ∙ ap (λ x. h l ∷ x) (map-map f g h c (λ m i. e m (inr i)))
 
 module _ (w : Carrying) (p : Spaces) (s : State) (d : Clause) (k : Links w p s) (taken : AreTaken p d) where
   r : Translation
@@ -230,10 +230,10 @@ module _ (w : Carrying) (p : Spaces) (s : State) (d : Clause) (k : Links w p s) 
             (∈-or_not i (map variable_of (map (through_names s.naming) d)))
         go (Forced b e) = Forced b e
 
-    stands : (told : List Entry) → IsTold told (s.clauses ++ c ∷ []) s.counted s.ever_hidden → (t : Search) (v : Outcome) (m : ℕ → Bool) (x : Verdict) → SearchHolds (s.clauses ++ c ∷ []) (with_told told r) t (without_core v) → VerdictFits w.identity m v x → CoreFits s.naming.names p.core x → IsRight (s.clauses ++ c ∷ []) s.assumptions s.counted x → Links w (record p { kept = after; search = t; outcome = v; model = m }) (retold told (accept c x s))
+    stands : (told : List Entry) → IsTold told (s.clauses ++ c ∷ []) s.counted s.ever_hidden → (t : Search) (v : Outcome) (m : ℕ → Bool) (checker : Option CheckerState) (x : Verdict) → (without_core v ≢ outcome.Unsat → CheckerFits w.global told checker) → SearchHolds (s.clauses ++ c ∷ []) (with_told told r) t (without_core v) → VerdictFits w.identity m v x → CoreFits s.naming.names p.core x → IsRight (s.clauses ++ c ∷ []) s.assumptions s.counted x → Links w (record p { kept = after; search = t; outcome = v; model = m; checker = checker }) (retold told (accept c x s))
     unfolding r c
-    stands told is-told t v m x holds fits core right =
-        relinked-marks w p (record p { kept = after; search = t; outcome = v; model = m }) s (retold told (accept c x s)) k
+    stands told is-told t v m checker x checks holds fits core right =
+        relinked-marks w p (record p { kept = after; search = t; outcome = v; model = m; checker = checker }) s (retold told (accept c x s)) k
         (record { deleted = λ x. ap (λ y. y.deleted) (touched.rest x); sampling_mode = λ x. ap (λ y. y.sampling_mode) (touched.rest x); unit = λ x. ap (λ y. y.unit) (touched.rest x) })
         settled-more
         (marks-same p.global_from_user p.global_from_user p.kept after p.assumptions (λ u. refl) (λ x. ap (λ y. y.assumed) (touched.rest x)) k.marks)
@@ -256,6 +256,7 @@ module _ (w : Carrying) (p : Spaces) (s : State) (d : Clause) (k : Links w p s) 
           right = right;
           few = k.few;
           told = is-told;
+          checked = checks;
         })
 
     -- where nothing was ever hidden the clause and the lines are told as they are over global variables
@@ -267,10 +268,27 @@ module _ (w : Carrying) (p : Spaces) (s : State) (d : Clause) (k : Links w p s) 
         ∙ ap (λ (y : Clause). s.told ++ Accepts y ∷ ls) (sym same-clause ∙ plain-literals w p s k shown (map (solver_literal p) d))
         ∙ ap (λ (es : List Entry). s.told ++ Accepts (map (global.carry p.global_from_solver) (map (solver_literal p) d)) ∷ es) (plain-lines w p s k shown lines)
 
-    pub loaded : (t : Search) (v : Outcome) (m : ℕ → Bool) (lines : List Line) → p.outcome ≡ outcome.Unknown → AreLong p.search → AreLong t → AreInUse p t → Loads p.search t (map (solver_literal p) d) v lines →
-        (x : Verdict) × (told : List Entry) × VerdictAfter s.clauses (map (through_names s.naming) d) Unknown x × TellsMore 0 (s.told ++ Accepts (map (through_names s.naming) d) ∷ []) told × (s.ever_hidden ≡ false → told ≡ s.told ++ told_as (global.carry p.global_from_solver) (Accepts (map (solver_literal p) d) ∷ written lines)) × Links w (record p { kept = after; search = t; outcome = v; model = m }) (retold told (accept (map (through_names s.naming) d) x s))
+    -- the checker took the clause and the lines
+    clause-checked : (checker : Option CheckerState) (lines : List Line) → IsCheckedIf p.checker (told_as (global.carry p.global_from_solver) (Accepts (map (solver_literal p) d) ∷ written lines)) checker → p.outcome ≡ outcome.Unknown → SpeakOf (IsLiteralOfEither p.search (map (solver_literal p) d)) lines → CheckerFits w.global ((s.told ++ Accepts (map (through_names s.naming) d) ∷ []) ++ told_lines (translation w p s.told) lines) checker
     unfolding c e r
-    loaded t v m lines o long-before long in-use loads =
+    clause-checked checker lines checks o speaks =
+        let to = carry (translation w p s.told).identity in
+        let g = carry w.global in
+        let h = global.carry p.global_from_solver in
+        let ls = told_lines (translation w p s.told) lines in
+        let one : map g (map (through_names s.naming) d) ≡ map h (map (solver_literal p) d) = ap (map g) (sym same-clause) ∙ map-map g to h (map (solver_literal p) d) (λ l i. global-carried w p s k l (of-clause l i)) in
+        let all : told_as g (Accepts (map (through_names s.naming) d) ∷ ls) ≡ told_as h (Accepts (map (solver_literal p) d) ∷ written lines) =
+        ap (λ (y : Clause). Accepts y ∷ told_as g ls) one
+        ∙ ap (λ es. Accepts (map h (map (solver_literal p) d)) ∷ es) (told-carried to g h (IsLiteralOfEither p.search (map (solver_literal p) d)) lines (λ l. elim [ inl a ↦ global-carried w p s k l (k.holds.within l a) | inr a ↦ global-carried w p s k l (of-clause l a) ]) speaks) in
+        subst (λ es. CheckerFits w.global es checker) (sym (append_assoc s.told (Accepts (map (through_names s.naming) d) ∷ []) ls))
+        (checker-on w.global s.told (Accepts (map (through_names s.naming) d) ∷ ls) p.checker checker (written_stays (map (rename_line to) lines))
+        (subst (λ es. IsCheckedIf p.checker es checker) (sym all) checks)
+        (k.checked (λ q. let z : outcome.Unknown ≡ outcome.Unsat = sym (ap without_core o) ∙ q in cc)))
+
+    pub loaded : (t : Search) (v : Outcome) (m : ℕ → Bool) (checker : Option CheckerState) (lines : List Line) → IsCheckedIf p.checker (told_as (global.carry p.global_from_solver) (Accepts (map (solver_literal p) d) ∷ written lines)) checker → p.outcome ≡ outcome.Unknown → AreLong p.search → AreLong t → AreInUse p t → Loads p.search t (map (solver_literal p) d) v lines →
+        (x : Verdict) × (told : List Entry) × VerdictAfter s.clauses (map (through_names s.naming) d) Unknown x × TellsMore 0 (s.told ++ Accepts (map (through_names s.naming) d) ∷ []) told × (s.ever_hidden ≡ false → told ≡ s.told ++ told_as (global.carry p.global_from_solver) (Accepts (map (solver_literal p) d) ∷ written lines)) × Links w (record p { kept = after; search = t; outcome = v; model = m; checker = checker }) (retold told (accept (map (through_names s.naming) d) x s))
+    unfolding c e r
+    loaded t v m checker lines checks o long-before long in-use loads =
         let h = subst (SearchHolds s.clauses (translation w p s.told) p.search) (ap without_core o) k.holds in
         let ls = told_lines (translation w p s.told) lines in
         let told = (s.told ++ Accepts (map (through_names s.naming) d) ∷ []) ++ ls in
@@ -281,10 +299,11 @@ module _ (w : Carrying) (p : Spaces) (s : State) (d : Clause) (k : Links w p s) 
         let to = (translation w p s.told).identity in
         let spoken = spoken-renamed (IsLiteralOfEither p.search (map (solver_literal p) d)) (IsCounted s.counted) (carry to) lines (λ l. elim [ inl a ↦ let (i, b) = h.within l a in counted-literal w p s k l i b | inr a ↦ let (i, b) = of-clause l a in counted-literal w p s k l i b ]) loads.speaks in
         let is-told = told-written (s.told ++ Accepts (map (through_names s.naming) d) ∷ []) (s.clauses ++ map (through_names s.naming) d ∷ []) s.counted s.ever_hidden (map (rename_line (carry to)) lines) spoken (told-accepted s.told s.clauses s.counted s.ever_hidden (map (through_names s.naming) d) k.told) in
+        let follows = clause-checked checker lines checks o loads.speaks in
         ⊎_elim
         (λ (q, u). let none = refuted (s.clauses ++ map (through_names s.naming) d ∷ []) after' t (subst (SearchHolds (s.clauses ++ map (through_names s.naming) d ∷ []) after' t) u more) in
-        (Unsat, told, Refuted refl none, tells', plainly, stands told is-told t v m Unsat (subst (SearchHolds (s.clauses ++ map (through_names s.naming) d ∷ []) after' t) (u ∙ sym (ap without_core u)) more) (subst (λ y. VerdictFits w.identity m y Unsat) (sym u) tt) tt none))
-        (λ (q, u). (Unknown, told, Reopened refl (λ z. q (contradicted h long-before z)), tells', plainly, stands told is-told t v m Unknown (subst (SearchHolds (s.clauses ++ map (through_names s.naming) d ∷ []) after' t) (u ∙ sym (ap without_core u)) more) (subst (λ y. VerdictFits w.identity m y Unknown) (sym u) tt) tt tt))
+        (Unsat, told, Refuted refl none, tells', plainly, stands told is-told t v m checker Unsat (λ _. follows) (subst (SearchHolds (s.clauses ++ map (through_names s.naming) d ∷ []) after' t) (u ∙ sym (ap without_core u)) more) (subst (λ y. VerdictFits w.identity m y Unsat) (sym u) tt) tt none))
+        (λ (q, u). (Unknown, told, Reopened refl (λ z. q (contradicted h long-before z)), tells', plainly, stands told is-told t v m checker Unknown (λ _. follows) (subst (SearchHolds (s.clauses ++ map (through_names s.naming) d ∷ []) after' t) (u ∙ sym (ap without_core u)) more) (subst (λ y. VerdictFits w.identity m y Unknown) (sym u) tt) tt tt))
         loads.verdict
 
   -- The list is assumed, of which the search has the literals. No verdict on the assumptions before is left.
@@ -322,4 +341,5 @@ module _ (w : Carrying) (p : Spaces) (s : State) (d : Clause) (k : Links w p s) 
               cases;
           few = k.few;
           told = told-assumed s.told s.clauses s.counted s.ever_hidden (map (through_names s.naming) d) k.told;
+          checked = λ n. checker-still w.global s.told (map (through_names s.naming) d) p.checker (k.checked n);
         })

@@ -106,6 +106,7 @@ module _ (w : Carrying) (p : Spaces) (s : State) (x i v : ℕ) (k : Links w p s)
         right = k.right;
         few = k.few;
         told = k.told;
+        checked = k.checked;
       })
 
   -- What is held and mentions v is forgotten.

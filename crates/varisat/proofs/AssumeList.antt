@@ -91,7 +91,7 @@ pub record Assuming (g : Summary) (list : List Literal) (cleared marked : Tables
 
 -- the identities of the list are counted before it is assumed
 pub list-assumed : (g : Summary) (n : State) (list : List Literal) (cleared marked : Tables) (new : View) (parts : AssumptionParts) (after : SatState) → Assuming g list cleared marked new parts after → SpacesFit (spaces g) (count (join_counted n.counted (map variable_of (map (through_names n.naming) list))) n) →
-    SpacesFit (spaces_of marked new parts after) (retold (n.told ++ Assumes (map (through_names n.naming) list) ∷ []) (with_assumptions (map (through_names n.naming) list) n))
+    SpacesFit (spaces_of marked g.checker new parts after) (retold (n.told ++ Assumes (map (through_names n.naming) list) ∷ []) (with_assumptions (map (through_names n.naming) list) n))
 list-assumed g n list cleared marked new parts after t (w1, k1) =
     let n1 = count (join_counted n.counted (map variable_of (map (through_names n.naming) list))) n in
     let g2 : Summary = record g { sat_state = assumed_state g.sat_state } in
@@ -126,7 +126,8 @@ list-assumed g n list cleared marked new parts after t (w1, k1) =
       search = refl;
       outcome = no-core-left g.search g.assumed.failed_core parts.failed_core g.sat_state;
       var_count = refl;
+      checker = refl;
     }) (w1, k6) in
     let few = f6.1.few in
-    subst (λ x. SpacesFit (spaces_of marked new parts x) s6) (sym t.verdict)
+    subst (λ x. SpacesFit (spaces_of marked g.checker new parts x) s6) (sym t.verdict)
     (raised g6 s6 new f6 (no-model-left g.search parts.failed_core g.sat_state) t.seen (omega (arith, t.same_count, few)))

@@ -91,4 +91,5 @@ counted w p s is k m b d = record {
   shown = k.shown;
   plain = k.plain;
   told = told-counted s.told s.clauses s.counted is s.ever_hidden m k.told;
+  checked = k.checked;
 }

@@ -1,11 +1,14 @@
 -- A variable without a value that no kept clause mentions leaves the search. Where it has no name and is isolated, its global variable may be used again.
-use Rattle.std.proofs.Common.{◌≡◌, ℕ, Bool, true, false, Option, Some, None, inl, ⊎_elim, sym, ap, ◌∙◌, refl}
+use Rattle.std.proofs.Common.{◌≡◌, ℕ, Bool, true, false, Option, Some, None, [], ◌∷◌, inl, ⊎_elim, sym, ap, ◌∙◌, refl}
 use Rattle.varisat_theory.specs.Membership.{◌∈◌}
 use Rattle.varisat_theory.specs.Searches.{Search}
 use Rattle.varisat_theory.specs.Outcomes as outcome
 use Rattle.varisat_names.specs.Maps.{updated}
 use Rattle.varisat_names.proofs.Maps.{is-some}
 use Rattle.varisat.specs.States.{State}
+use Rattle.varisat_theory.specs.Journals.{Leaves}
+use Rattle.varisat_proof.specs.Calls.{CheckerState}
+use Rattle.varisat_proof.specs.Proving.{IsCheckedIf}
 use Rattle.varisat.specs.Spaces.{Spaces, Carrying, Links, SpacesFit}
 use Rattle.varisat.proofs.VariableMoves.{leave_search, leave_all}
 use Rattle.varisat.proofs.DroppedSolvers.{IsWithout, still-forced, left}
@@ -23,7 +26,7 @@ pub apart-left : (w : Carrying) (p : Spaces) (s : State) (v x : ℕ) (t : Search
 apart-left w p s v x t k unknown pair unassumed f = let (i, at, c) = k.solvers.live v x pair in (record w { forced = updated w.forced i None }, links-left w p s v x i t k unknown pair at c unassumed f)
 
 -- it may be used again
-pub apart-recycled : (w : Carrying) (p : Spaces) (s : State) (v x : ℕ) (t : Search) → Links w p s → p.outcome ≡ outcome.Unknown → p.global_from_solver v ≡ Some x → (p.kept x).assumed ≡ false → p.user_from_global x ≡ None → (p.kept x).isolated ≡ true → IsWithout v None p.search t → IsGone (leave_all v x t p) s
-apart-recycled w p s v x t k unknown pair unassumed unnamed alone f =
+pub apart-recycled : (w : Carrying) (p : Spaces) (s : State) (v x : ℕ) (t : Search) → Links w p s → p.outcome ≡ outcome.Unknown → p.global_from_solver v ≡ Some x → (p.kept x).assumed ≡ false → p.user_from_global x ≡ None → (p.kept x).isolated ≡ true → IsWithout v None p.search t → (checker : Option CheckerState) → IsCheckedIf p.checker (Leaves x ∷ []) checker → IsGone (record (leave_all v x t p) { checker = checker }) s
+apart-recycled w p s v x t k unknown pair unassumed unnamed alone f checker told =
     let (i, at, c) = k.solvers.live v x pair in
-    left-recycled (record w { forced = updated w.forced i None }) p s v x i t (p.kept x) (links-left w p s v x i t k unknown pair at c unassumed f) unknown at unnamed alone
+    left-recycled (record w { forced = updated w.forced i None }) p s v x i t (p.kept x) (links-left w p s v x i t k unknown pair at c unassumed f) unknown at unnamed alone checker told

@@ -1,5 +1,5 @@
 -- A variable whose value is fixed leaves the search, and its value is kept. Where it has no name, its global variable may be used again.
-use Rattle.std.proofs.Common.{◌≡◌, ℕ, Bool, true, false, Some, None, [], ◌∷◌, ◌++◌, inr, sym, ap, ◌∙◌, subst, refl}
+use Rattle.std.proofs.Common.{◌≡◌, ℕ, Bool, true, false, Option, Some, None, [], ◌∷◌, ◌++◌, inr, sym, ap, ◌∙◌, subst, refl}
 use Rattle.varisat_theory.specs.Membership.{◌∈◌}
 use Rattle.varisat_theory.specs.Literals.{Literal, Assignment, variable_of, literal_of, SatisfiesAll}
 use Rattle.varisat_theory.specs.Searches.{Search, clauses_of}
@@ -19,6 +19,8 @@ use Rattle.varisat.specs.Dropping.{fixed_to}
 use Rattle.varisat.proofs.Carried.{true-value}
 use Rattle.varisat.proofs.SearchHeld.{agrees-through}
 use Rattle.varisat.proofs.SolveVerdict.{maps-alike, maps-same}
+use Rattle.varisat_proof.specs.Calls.{CheckerState}
+use Rattle.varisat_proof.specs.Proving.{IsCheckedIf}
 use Rattle.varisat_theory.specs.Journals.{Leaves}
 use Rattle.varisat.specs.Journals.{retold}
 use Rattle.varisat.proofs.VariableMoves.{leave_search, leave_all, recycle}
@@ -44,8 +46,8 @@ pub record IsGone (p : Spaces) (s : State) : Type 0 where
   pub fits : SpacesFit p (retold (s.told ++ Leaves identity ∷ []) s)
 
 -- whatever is kept in between of the isolated global variable
-pub left-recycled : (w : Carrying) (p : Spaces) (s : State) (v x i : ℕ) (t : Search) (d : VarData) → Links w (leave_search v x t d p) s → p.outcome ≡ outcome.Unknown → w.identity x ≡ Some i → p.user_from_global x ≡ None → d.isolated ≡ true → IsGone (leave_all v x t p) s
-left-recycled w p s v x i t d k unknown at unnamed alone =
+pub left-recycled : (w : Carrying) (p : Spaces) (s : State) (v x i : ℕ) (t : Search) (d : VarData) → Links w (leave_search v x t d p) s → p.outcome ≡ outcome.Unknown → w.identity x ≡ Some i → p.user_from_global x ≡ None → d.isolated ≡ true → (checker : Option CheckerState) → IsCheckedIf p.checker (Leaves x ∷ []) checker → IsGone (record (leave_all v x t p) { checker = checker }) s
+left-recycled w p s v x i t d k unknown at unnamed alone checker told =
     let mid = leave_search v x t d p in
     let unsolved = updated-at p.solver_from_global x None in
     let isolated = ap (λ (a : VarData). a.isolated) (updated-at p.kept x d) ∙ alone in
@@ -53,10 +55,10 @@ left-recycled w p s v x i t d k unknown at unnamed alone =
       identity = i;
       was_hidden = was-hidden w mid s x i k at unnamed unsolved isolated;
       fits =
-          maps-same (recycle x mid) (leave_all v x t p) (retold (s.told ++ Leaves i ∷ []) s) (maps-alike (recycle x mid) (leave_all v x t p) refl
+          maps-same (record (recycle x mid) { checker = checker }) (record (leave_all v x t p) { checker = checker }) (retold (s.told ++ Leaves i ∷ []) s) (maps-alike (record (recycle x mid) { checker = checker }) (record (leave_all v x t p) { checker = checker }) refl
           (λ y. updated-all (λ y a. a ≡ updated (updated p.kept x d) x dead y) p.kept x dead (sym (updated-at (updated p.kept x d) x dead)) y (λ n. sym (updated-other (updated p.kept x d) x dead y n ∙ updated-other p.kept x d y n)))
           (λ a e y. refl)) refl
-          (recycled w mid s x i k at unnamed unsolved isolated (λ e. let z : outcome.Unknown ≡ outcome.Unsat = sym (ap without_core unknown) ∙ e in cc));
+          (recycled w mid s x i k at unnamed unsolved isolated (λ e. let z : outcome.Unknown ≡ outcome.Unsat = sym (ap without_core unknown) ∙ e in cc) checker told);
     }
 
 -- The variable is not assumed, and its value is fixed at level 0.
@@ -72,7 +74,7 @@ module _ (w : Carrying) (p : Spaces) (s : State) (v x : ℕ) (b : Bool) (t : Sea
   fixed-stays = let (i, at, c) = k.solvers.live v x pair in (record w { forced = updated w.forced i (Some b) }, links-left i at c)
 
   -- a hidden one may be used again
-  pub fixed-left : p.user_from_global x ≡ None → IsGone (leave_all v x t p) s
-  fixed-left unnamed =
+  pub fixed-left : p.user_from_global x ≡ None → (checker : Option CheckerState) → IsCheckedIf p.checker (Leaves x ∷ []) checker → IsGone (record (leave_all v x t p) { checker = checker }) s
+  fixed-left unnamed checker told =
       let (i, at, c) = k.solvers.live v x pair in
-      left-recycled (record w { forced = updated w.forced i (Some b) }) p s v x i t (fixed_to b (p.kept x)) (links-left i at c) unknown at unnamed refl
+      left-recycled (record w { forced = updated w.forced i (Some b) }) p s v x i t (fixed_to b (p.kept x)) (links-left i at c) unknown at unnamed refl checker told

@@ -163,12 +163,12 @@ module _ {A : Type 0} {m n : Tables} {x y : Context A} {gone : List Bool} (h : H
 
 -- What it stands for, which is told to the proof too.
 module _ {A : Type 0} {p q : TracerState} {x y : Context A} {gone : List Bool} (h : HaveLeft p.tables q.tables x y gone (unassumed_among p.tables x.trail.literals) (length x.assignment.current)) where
-  pub stands-dropped : IsSettledDown (view x) → AreDroppedAlone (unassumed_among p.tables x.trail.literals) p q → search_of (view y) ≡ search_without gone (search_of (view x)) → (s : State) → SpacesFit (spaces_of p.tables (view x) x.assumptions verdict.Unknown) s →
-      (told : List Entry) × TellsLeaving s.ever_hidden s.told told p.proof q.proof × SpacesFit (spaces_of q.tables (view y) y.assumptions verdict.Unknown) (retold told s)
+  pub stands-dropped : IsSettledDown (view x) → AreDroppedAlone (unassumed_among p.tables x.trail.literals) p q → search_of (view y) ≡ search_without gone (search_of (view x)) → (s : State) → SpacesFit (spaces_of p.tables p.proof.checker (view x) x.assumptions verdict.Unknown) s →
+      (told : List Entry) × TellsLeaving s.ever_hidden s.told told p.proof q.proof × SpacesFit (spaces_of q.tables q.proof.checker (view y) y.assumptions verdict.Unknown) (retold told s)
   stands-dropped d a seen s fit =
       let m = p.tables in
       let known : ℕ → Option Bool = (λ v. slice_index_or x.assignment.current v None) in
-      subst (λ (as' : AssumptionParts). (told : List Entry) × TellsLeaving s.ever_hidden s.told told p.proof q.proof × SpacesFit (spaces_of q.tables (view y) as' verdict.Unknown) (retold told s)) (sym h.assumptions)
+      subst (λ (as' : AssumptionParts). (told : List Entry) × TellsLeaving s.ever_hidden s.told told p.proof q.proof × SpacesFit (spaces_of q.tables q.proof.checker (view y) as' verdict.Unknown) (retold told s)) (sym h.assumptions)
       (variables-left known (map variable_of (unassumed_among m x.trail.literals)) p q (view x) (view y) x.assumptions s
       (left-alone known (unassumed_among m x.trail.literals) p q (λ l i. on-value (view x) h.kept.ready.well d l (∈-filter (λ l. leads_to_unassumed m (at m.solvers.backward (variable_of l))) x.trail.literals l i).0) a)
       (without-these (view x) h.kept.ready.well d m gone h.flags (view y) seen)

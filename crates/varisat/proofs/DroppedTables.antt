@@ -20,7 +20,9 @@ use Rattle.varisat_names.specs.VarMap.{at}
 use Rattle.varisat_names.specs.VarBiMap.{BiMap, IsParted}
 use Rattle.varisat_names.specs.VarData.{dead, kept_at, IsKeptAs}
 use Rattle.varisat_names.specs.Variables.{Tables, IsChangedTo, unused, unless_unused}
-use Rattle.varisat_proof.specs.Proving.{ProofParts, IsTold}
+use Rattle.varisat_proof.specs.Calls.{CheckerState}
+use Rattle.varisat_proof.specs.Proving.{ProofParts, IsCheckedIf, IsTold}
+use Rattle.varisat.proofs.CheckedHeld.{checked-nothing}
 use Rattle.varisat_tracer.specs.Tracing.{TracerState, leaves_if_deleted}
 use Rattle.varisat_names.specs.declared.variables.data.VarData.{VarData}
 use Rattle.varisat_names.proofs.Maps.{updated-at, updated-other, updated-all}
@@ -63,8 +65,8 @@ pub record AreWithout (known : ℕ → Option Bool) (vs : List ℕ) (s t : Searc
 -- 1. One variable.
 
 -- the spaces in between, whose search is any
-abbrev pub between : Tables → View → AssumptionParts → Search → Spaces
-between t search assumed u = with_search u outcome.Unknown (spaces_of t search assumed verdict.Unknown)
+abbrev pub between : Tables → Option CheckerState → View → AssumptionParts → Search → Spaces
+between t checker search assumed u = with_search u outcome.Unknown (spaces_of t checker search assumed verdict.Unknown)
 
 -- The global variable x has its solver variable v no longer, and d is kept of it.
 record LosesSolver (old new : Tables) (x v : ℕ) (d : VarData) : Type 0 where
@@ -110,12 +112,12 @@ loses (Some b) p q v (x, mid, c, l) =
       l.told,
     )
 
-module _ (old new : Tables) (search : View) (assumed : AssumptionParts) (s : State) (u t : Search) (x v : ℕ) (d : VarData) (w : Carrying) (k : Links w (between old search assumed u) s) where
+module _ (old new : Tables) (p q : ProofParts) (search : View) (assumed : AssumptionParts) (s : State) (u t : Search) (x v : ℕ) (d : VarData) (w : Carrying) (k : Links w (between old p.checker search assumed u) s) where
   -- whatever is kept of the variable
-  moved : (told : List Entry) (e : VarData) (m : ℕ → Bool) → LosesSolver old new x v e → SpacesFit (record (leave_search v x t e (between old search assumed u)) { model = m }) (retold told s) → SpacesFit (between new search assumed t) (retold told s)
-  moved told e m n f =
+  moved : (told : List Entry) (e : VarData) (m : ℕ → Bool) (checker : Option CheckerState) → LosesSolver old new x v e → SpacesFit (record (leave_search v x t e (between old p.checker search assumed u)) { model = m; checker = checker }) (retold told s) → SpacesFit (between new checker search assumed t) (retold told s)
+  moved told e m checker n f =
       let live : (kept_at old.kept x).deleted ≡ false = (let (i, is, c) = k.solvers.live v x n.taken in k.identities.live x i is) in
-      maps-same (record (leave_search v x t e (between old search assumed u)) { model = m }) (between new search assumed t) (retold told s) (record {
+      maps-same (record (leave_search v x t e (between old p.checker search assumed u)) { model = m; checker = checker }) (between new checker search assumed t) (retold told s) (record {
         global_from_user = λ y. ap (λ (b : BiMap). at b.forward y) n.users;
         user_from_global = λ y. ap (λ (b : BiMap). at b.backward y) n.users;
         watermark = ap (λ (b : BiMap). length b.forward) n.users;
@@ -130,36 +132,41 @@ module _ (old new : Tables) (search : View) (assumed : AssumptionParts) (s : Sta
   none-told : LosesSolver old new x v d → d.deleted ≡ false → leaves_if_deleted new x ≡ []
   none-told n live = ap (λ (b : Bool). if b then Leaves x ∷ [] else []) (ap (λ (e : VarData). e.deleted) (n.kept.at_each x ∙ updated-at (kept_at old.kept) x d) ∙ live)
 
-  -- Where it has no name and is isolated it is gone, and else it stays.
-  gone : (p q : ProofParts) → LosesSolver old new x v (unless_unused (at old.users.backward x) d) → IsTold p (leaves_if_deleted new x) q → d.deleted ≡ false → SpacesFit (leave_search v x t d (between old search assumed u)) s → (at old.users.backward x ≡ None → d.isolated ≡ true → IsGone (leave_all v x t (between old search assumed u)) s) →
-      (told : List Entry) × TellsLeaving s.ever_hidden s.told told p q × SpacesFit (between new search assumed t) (retold told s)
-  gone p q n h live stays recycled = go (at old.users.backward x) d.isolated refl refl
-    where
-      stay : LosesSolver old new x v d → (told : List Entry) × TellsLeaving s.ever_hidden s.told told p q × SpacesFit (between new search assumed t) (retold told s)
-      stay l = (s.told, leaving-none s.ever_hidden s.told p q (leaves_if_deleted new x) (none-told l live) h, moved s.told d (between old search assumed u).model l stays)
+  -- where it is not, the proof is told so
+  one-told : LosesSolver old new x v dead → leaves_if_deleted new x ≡ Leaves x ∷ []
+  one-told n = ap (λ (b : Bool). if b then Leaves x ∷ [] else []) (ap (λ (e : VarData). e.deleted) (n.kept.at_each x ∙ updated-at (kept_at old.kept) x dead))
 
-      go : (o : Option ℕ) (b : Bool) → at old.users.backward x ≡ o → d.isolated ≡ b → (told : List Entry) × TellsLeaving s.ever_hidden s.told told p q × SpacesFit (between new search assumed t) (retold told s)
+  -- Where it has no name and is isolated it is gone, and else it stays.
+  gone : LosesSolver old new x v (unless_unused (at old.users.backward x) d) → IsTold p (leaves_if_deleted new x) q → d.deleted ≡ false → SpacesFit (leave_search v x t d (between old p.checker search assumed u)) s → (at old.users.backward x ≡ None → d.isolated ≡ true → (checker : Option CheckerState) → IsCheckedIf p.checker (Leaves x ∷ []) checker → IsGone (record (leave_all v x t (between old p.checker search assumed u)) { checker = checker }) s) →
+      (told : List Entry) × TellsLeaving s.ever_hidden s.told told p q × SpacesFit (between new q.checker search assumed t) (retold told s)
+  gone n h live stays recycled = go (at old.users.backward x) d.isolated refl refl
+    where
+      stay : LosesSolver old new x v d → (told : List Entry) × TellsLeaving s.ever_hidden s.told told p q × SpacesFit (between new q.checker search assumed t) (retold told s)
+      stay l = (s.told, leaving-none s.ever_hidden s.told p q (leaves_if_deleted new x) (none-told l live) h, moved s.told d (between old p.checker search assumed u).model q.checker l (subst (λ o. SpacesFit (record (leave_search v x t d (between old p.checker search assumed u)) { checker = o }) s) (sym (checked-nothing p.checker q.checker (subst (λ es. IsCheckedIf p.checker es q.checker) (none-told l live) h.checked))) stays))
+
+      go : (o : Option ℕ) (b : Bool) → at old.users.backward x ≡ o → d.isolated ≡ b → (told : List Entry) × TellsLeaving s.ever_hidden s.told told p q × SpacesFit (between new q.checker search assumed t) (retold told s)
       go (Some y) b e i = stay (subst (λ o. LosesSolver old new x v (unless_unused o d)) e n)
       go None true e i =
-          let r = recycled e i in (
+          let lost : LosesSolver old new x v dead = subst (λ c. LosesSolver old new x v (if c then dead else d)) i (subst (λ o. LosesSolver old new x v (unless_unused o d)) e n) in
+          let r = recycled e i q.checker (subst (λ es. IsCheckedIf p.checker es q.checker) (one-told lost) h.checked) in (
             s.told ++ Leaves r.identity ∷ [],
             leaving-one s.ever_hidden s.told r.identity p q (leaves_if_deleted new x) r.was_hidden h,
-            moved (s.told ++ Leaves r.identity ∷ []) dead (leave_all v x t (between old search assumed u)).model (subst (λ c. LosesSolver old new x v (if c then dead else d)) i (subst (λ o. LosesSolver old new x v (unless_unused o d)) e n)) r.fits,
+            moved (s.told ++ Leaves r.identity ∷ []) dead (leave_all v x t (between old p.checker search assumed u)).model q.checker lost r.fits,
           )
       go None false e i = stay (subst (λ c. LosesSolver old new x v (if c then dead else d)) i (subst (λ o. LosesSolver old new x v (unless_unused o d)) e n))
 
-one-left : (known : Option Bool) (v : ℕ) (a b : TracerState) (search : View) (assumed : AssumptionParts) (s : State) (u t : Search) → IsLeft known a b v → IsWithout v known u t → ((x : ℕ) → at a.tables.solvers.backward v ≡ Some x → (kept_at a.tables.kept x).assumed ≡ false) → SpacesFit (between a.tables search assumed u) s →
-    (told : List Entry) × TellsLeaving s.ever_hidden s.told told a.proof b.proof × SpacesFit (between b.tables search assumed t) (retold told s)
+one-left : (known : Option Bool) (v : ℕ) (a b : TracerState) (search : View) (assumed : AssumptionParts) (s : State) (u t : Search) → IsLeft known a b v → IsWithout v known u t → ((x : ℕ) → at a.tables.solvers.backward v ≡ Some x → (kept_at a.tables.kept x).assumed ≡ false) → SpacesFit (between a.tables a.proof.checker search assumed u) s →
+    (told : List Entry) × TellsLeaving s.ever_hidden s.told told a.proof b.proof × SpacesFit (between b.tables b.proof.checker search assumed t) (retold told s)
 one-left (Some b) v p q search assumed s u t a f free (w, k) =
     let (x, n, h) = loses (Some b) p q v a in
-    let old = between p.tables search assumed u in
+    let old = between p.tables p.proof.checker search assumed u in
     let (i, is, c) = k.solvers.live v x n.taken in
-    gone p.tables q.tables search assumed s u t x v (fixed_to b (kept_at p.tables.kept x)) w k p.proof q.proof n h (k.identities.live x i is) (fixed-stays w old s v x b t k refl n.taken (free x n.taken) f) (λ e i. fixed-left w old s v x b t k refl n.taken (free x n.taken) f e)
+    gone p.tables q.tables p.proof q.proof search assumed s u t x v (fixed_to b (kept_at p.tables.kept x)) w k n h (k.identities.live x i is) (fixed-stays w old s v x b t k refl n.taken (free x n.taken) f) (λ e i. fixed-left w old s v x b t k refl n.taken (free x n.taken) f e)
 one-left None v p q search assumed s u t a f free (w, k) =
     let (x, n, h) = loses None p q v a in
-    let old = between p.tables search assumed u in
+    let old = between p.tables p.proof.checker search assumed u in
     let (i, is, c) = k.solvers.live v x n.taken in
-    gone p.tables q.tables search assumed s u t x v (kept_at p.tables.kept x) w k p.proof q.proof n h (k.identities.live x i is) (apart-left w old s v x t k refl n.taken (free x n.taken) f) (λ e i. apart-recycled w old s v x t k refl n.taken (free x n.taken) e i f)
+    gone p.tables q.tables p.proof q.proof search assumed s u t x v (kept_at p.tables.kept x) w k n h (k.identities.live x i is) (apart-left w old s v x t k refl n.taken (free x n.taken) f) (λ e i. apart-recycled w old s v x t k refl n.taken (free x n.taken) e i f)
 
 -- 2. Several in turn.
 
@@ -257,16 +264,16 @@ same-holds P r s t f h = record {
     before l (inl a) = inl (f.fixed l a).0
     before l (inr (k, a, b)) = inr (k, subst (λ ks. k ∈ ks) f.kept a, b)
 
-all-left : (known : ℕ → Option Bool) (vs : List ℕ) (p q : TracerState) (search : View) (assumed : AssumptionParts) (s : State) (u t : Search) → AreLeft known vs p q → AreWithout known vs u t → ((v x : ℕ) → v ∈ vs → at p.tables.solvers.backward v ≡ Some x → (kept_at p.tables.kept x).assumed ≡ false) → SpacesFit (between p.tables search assumed u) s →
-    (told : List Entry) × TellsLeaving s.ever_hidden s.told told p.proof q.proof × SpacesFit (between q.tables search assumed t) (retold told s)
+all-left : (known : ℕ → Option Bool) (vs : List ℕ) (p q : TracerState) (search : View) (assumed : AssumptionParts) (s : State) (u t : Search) → AreLeft known vs p q → AreWithout known vs u t → ((v x : ℕ) → v ∈ vs → at p.tables.solvers.backward v ≡ Some x → (kept_at p.tables.kept x).assumed ≡ false) → SpacesFit (between p.tables p.proof.checker search assumed u) s →
+    (told : List Entry) × TellsLeaving s.ever_hidden s.told told p.proof q.proof × SpacesFit (between q.tables q.proof.checker search assumed t) (retold told s)
 all-left known [] p q search assumed s u t e f free (w, k) =
-    let old = between p.tables search assumed u in
+    let old = between p.tables p.proof.checker search assumed u in
     let same : AreWithout (λ v. None) [] u t = record { kept = f.kept; unmentioned = f.unmentioned; stays = λ l a. ⊎_elim inl (λ (i, q). absurd i) (f.stays l a); fixed = f.fixed; proved = f.proved; units = λ v b i. absurd i } in (
       s.told,
       subst (λ (a : TracerState). TellsLeaving s.ever_hidden s.told s.told p.proof a.proof) (sym e) (leaving-nothing s.ever_hidden s.told p.proof),
-      subst (λ (a : TracerState). SpacesFit (between a.tables search assumed t) s) (sym e) (
+      subst (λ (a : TracerState). SpacesFit (between a.tables a.proof.checker search assumed t) s) (sym e) (
         w,
-        relinked w old (between p.tables search assumed t) s s k (record {
+        relinked w old (between p.tables p.proof.checker search assumed t) s s k (record {
           solvers = k.solvers;
           holds = same-holds s.clauses (translation w old s.told) u t same k.holds;
           assumptions = k.assumptions;
@@ -276,6 +283,7 @@ all-left known [] p q search assumed s u t e f free (w, k) =
           right = k.right;
           few = k.few;
           told = k.told;
+          checked = k.checked;
         }),
       ),
     )
@@ -291,16 +299,16 @@ all-left known (v ∷ vs) p q search assumed s u t (mid, a, rest) f free fit =
     (last, leaving-through s.ever_hidden s.told first last p.proof mid.proof q.proof more further, fits)
 
 -- Variables that are not assumed left the search, and their solver variables the tables: what is held stands for the same state as before.
-pub variables-left : (known : ℕ → Option Bool) (vs : List ℕ) (p q : TracerState) (search after : View) (assumed : AssumptionParts) (s : State) → AreLeft known vs p q → AreWithout known vs (search_of search) (search_of after) → length after.values ≡ length search.values → ((v x : ℕ) → v ∈ vs → at p.tables.solvers.backward v ≡ Some x → (kept_at p.tables.kept x).assumed ≡ false) → SpacesFit (spaces_of p.tables search assumed verdict.Unknown) s →
-    (told : List Entry) × TellsLeaving s.ever_hidden s.told told p.proof q.proof × SpacesFit (spaces_of q.tables after assumed verdict.Unknown) (retold told s)
+pub variables-left : (known : ℕ → Option Bool) (vs : List ℕ) (p q : TracerState) (search after : View) (assumed : AssumptionParts) (s : State) → AreLeft known vs p q → AreWithout known vs (search_of search) (search_of after) → length after.values ≡ length search.values → ((v x : ℕ) → v ∈ vs → at p.tables.solvers.backward v ≡ Some x → (kept_at p.tables.kept x).assumed ≡ false) → SpacesFit (spaces_of p.tables p.proof.checker search assumed verdict.Unknown) s →
+    (told : List Entry) × TellsLeaving s.ever_hidden s.told told p.proof q.proof × SpacesFit (spaces_of q.tables q.proof.checker after assumed verdict.Unknown) (retold told s)
 variables-left known vs p q search after assumed s a f count free fit =
     let new = q.tables in
-    let last = between new search assumed (search_of after) in
+    let last = between new q.proof.checker search assumed (search_of after) in
     let (told, more, fits) = all-left known vs p q search assumed s (search_of search) (search_of after) a f free fit in
     let (w, k) = fits in (
       told,
       more,
-      maps-same (record last { var_count = length after.values }) (spaces_of new after assumed verdict.Unknown) (retold told s)
-          (maps-alike (record last { var_count = length after.values }) (spaces_of new after assumed verdict.Unknown) refl (λ x. refl) (λ b e y. absurd (let z : outcome.Unknown ≡ outcome.Sat b = e in cc)))
+      maps-same (record last { var_count = length after.values }) (spaces_of new q.proof.checker after assumed verdict.Unknown) (retold told s)
+          (maps-alike (record last { var_count = length after.values }) (spaces_of new q.proof.checker after assumed verdict.Unknown) refl (λ x. refl) (λ b e y. absurd (let z : outcome.Unknown ≡ outcome.Sat b = e in cc)))
           refl (w, recount w last (length search.values) (length after.values) (retold told s) count k),
     )

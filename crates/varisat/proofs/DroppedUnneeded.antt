@@ -178,15 +178,15 @@ module _ {A : Type 0} {m n : Tables} {x y : Context A} {mentioned gone : List Bo
 
 -- What it stands for, which is told to the proof too.
 module _ {A : Type 0} {p q : TracerState} {x y : Context A} {mentioned gone : List Bool} {ls : List Literal} (over : AreOverAssumed p.tables x.trail.literals) (f : FlagsMentioned (view x) mentioned) (u : ListsUnneeded p.tables mentioned ls) (h : HaveLeft p.tables q.tables x y gone ls (length mentioned)) where
-  pub stands-released : AreReleased ls p q → search_of (view y) ≡ search_without gone (search_of (view x)) → (s : State) → SpacesFit (spaces_of p.tables (view x) x.assumptions verdict.Unknown) s →
-      (told : List Entry) × TellsLeaving s.ever_hidden s.told told p.proof q.proof × SpacesFit (spaces_of q.tables (view y) y.assumptions verdict.Unknown) (retold told s)
+  pub stands-released : AreReleased ls p q → search_of (view y) ≡ search_without gone (search_of (view x)) → (s : State) → SpacesFit (spaces_of p.tables p.proof.checker (view x) x.assumptions verdict.Unknown) s →
+      (told : List Entry) × TellsLeaving s.ever_hidden s.told told p.proof q.proof × SpacesFit (spaces_of q.tables q.proof.checker (view y) y.assumptions verdict.Unknown) (retold told s)
   stands-released a seen s (c, links) =
       let m = p.tables in
       let free : (v z : ℕ) → v ∈ map variable_of ls → at m.solvers.backward v ≡ Some z → (kept_at m.kept z).assumed ≡ false = (λ v z i e. true-or-not (kept_at m.kept z).assumed (λ t.
       let (l, g, r) = links.marks.only z t in
       let (j, k, o) = map-∈ variable_of v ls i in
       not-named m mentioned ls u j z (variable_of l) k (ap (at m.solvers.backward) (sym o) ∙ e) (h.linked.users.there (variable_of l) z r))) in
-      subst (λ (as' : AssumptionParts). (told : List Entry) × TellsLeaving s.ever_hidden s.told told p.proof q.proof × SpacesFit (spaces_of q.tables (view y) as' verdict.Unknown) (retold told s)) (sym h.assumptions)
+      subst (λ (as' : AssumptionParts). (told : List Entry) × TellsLeaving s.ever_hidden s.told told p.proof q.proof × SpacesFit (spaces_of q.tables q.proof.checker (view y) as' verdict.Unknown) (retold told s)) (sym h.assumptions)
       (variables-left (λ v. None) (map variable_of ls) p q (view x) (view y) x.assumptions s (released-left ls p q a) (without-unneeded m mentioned ls u (view x) gone f h.flags (view y) over free seen) (values-left h) free (c, links))
 
 -- Of each hidden variable below n whose flag is not set there is one literal.

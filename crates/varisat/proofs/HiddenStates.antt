@@ -135,4 +135,5 @@ module _ (w : Carrying) (p : Spaces) (s : State) (u x : ℕ) (k : Links w p s) (
     shown = λ e. absurd cc;
     plain = λ e. absurd cc;
     told = record { accepted = k.told.accepted; spoken = k.told.spoken; stays = λ e. absurd cc };
+    checked = k.checked;
   }

@@ -4,7 +4,6 @@ use Rattle.varisat_theory.specs.Membership.{◌∈◌}
 use Rattle.varisat_theory.specs.Literals.{variable_of}
 use Rattle.varisat_theory.proofs.Renaming.{∈-map, map-∈}
 use Rattle.varisat_search.specs.Steps.{assignment_of}
-use Rattle.varisat_names.specs.Maps.{updated}
 use Rattle.varisat_names.specs.VarMap.{at}
 use Rattle.varisat_names.specs.VarBiMap.{BiMap}
 use Rattle.varisat_names.specs.VarData.{dead, kept_at, IsKeptAs}
@@ -22,7 +21,7 @@ use Rattle.varisat_theory.specs.Journals.{Entry, Leaves}
 use Rattle.varisat_theory.specs.Literals.{Literal}
 use Rattle.varisat_theory.specs.Outcomes as outcome
 use Rattle.varisat_prop.specs.View.{View}
-use Rattle.varisat_proof.specs.Proving.{ProofParts, IsTold}
+use Rattle.varisat_proof.specs.Proving.{ProofParts, IsCheckedIf, IsTold}
 use Rattle.varisat_tracer.specs.Tracing.{leaves_if_deleted}
 use Rattle.varisat_search.specs.Seen.{outcome_of}
 use Rattle.varisat_search.specs.declared.state.SatState.{SatState}
@@ -38,6 +37,8 @@ use Rattle.varisat.proofs.KeptCounts.{kept-most}
 use Rattle.varisat.proofs.NewNames.{linked}
 use Rattle.varisat.proofs.VariableMoves.{in_mode, set_mode, hide, show, recycle}
 use Rattle.varisat.proofs.HiddenStates.{field-same, one-name, identity-named, hidden}
+use Rattle.varisat_proof.specs.Calls.{CheckerState}
+use Rattle.varisat.proofs.CheckedHeld.{checked-nothing}
 use Rattle.varisat.proofs.RecycledGlobals.{was-hidden, recycled}
 use Rattle.varisat.proofs.ModeStates.{mode-set}
 use Rattle.varisat.proofs.ShownStates.{no-name, shown}
@@ -150,6 +151,9 @@ hidden-spaces g s new u x (w, k) named unassumed n =
 
 -- 4. A hidden variable may be used again where it is unused.
 
+abbrev pub with_checker : Option CheckerState → Summary → Summary
+with_checker checker g = record g { checker = checker }
+
 is-unused : (o : Option ℕ) (d : VarData) → unused o d ≡ true → (o ≡ None) × (d.isolated ≡ true)
 is-unused None d e = (refl, e)
 is-unused (Some y) d e = absurd (let z : false ≡ true = e in cc)
@@ -161,7 +165,7 @@ undecided search core verdict.Sat n e = let z : outcome.Sat (assignment_of searc
 undecided search core verdict.Unsat n e = n refl
 undecided search core verdict.UnsatUnderAssumptions n e = let z : outcome.Unknown ≡ outcome.Unsat = e in cc
 
-module _ (g : Summary) (s : State) (new : Tables) (x : ℕ) (w : Carrying) (k : Links w (spaces g) s) (live : (kept_at g.tables.kept x).deleted ≡ false) (unnamed : at g.tables.users.backward x ≡ None) (unsettled : g.sat_state ≢ verdict.Unsat) (n : IsDeletedIfUnused g.tables new x) (p q : ProofParts) (told : IsTold p (leaves_if_deleted new x) q) where
+module _ (g : Summary) (s : State) (new : Tables) (x : ℕ) (w : Carrying) (k : Links w (spaces g) s) (live : (kept_at g.tables.kept x).deleted ≡ false) (unnamed : at g.tables.users.backward x ≡ None) (unsettled : g.sat_state ≢ verdict.Unsat) (n : IsDeletedIfUnused g.tables new x) (p q : ProofParts) (same : p.checker ≡ g.checker) (told : IsTold p (leaves_if_deleted new x) q) where
   same-users : new.users ≡ g.tables.users
   same-users = ap (λ (t : Tables). t.users) n.rest
 
@@ -172,51 +176,51 @@ module _ (g : Summary) (s : State) (new : Tables) (x : ℕ) (w : Carrying) (k : 
   kept-as : (b : Bool) → unused (at g.tables.solvers.forward x) (kept_at g.tables.kept x) ≡ b → IsKeptAs g.tables.kept x (if b then dead else kept_at g.tables.kept x) new.kept
   kept-as b e = subst (λ c. IsKeptAs g.tables.kept x (if c then dead else kept_at g.tables.kept x) new.kept) e n.kept
 
-  stays-live : IsKeptAs g.tables.kept x (kept_at g.tables.kept x) new.kept → SpacesFit (spaces (with_tables new g)) s
-  stays-live q = maps-same (spaces g) (spaces (with_tables new g)) s (record {
+  stays-live : IsKeptAs g.tables.kept x (kept_at g.tables.kept x) new.kept → leaves_if_deleted new x ≡ [] → SpacesFit (spaces (with_checker q.checker (with_tables new g))) s
+  stays-live l none = maps-same (record (spaces g) { checker = q.checker }) (spaces (with_checker q.checker (with_tables new g))) s (record {
     global_from_user = λ v. ap (λ (b : BiMap). at b.forward v) same-users;
     user_from_global = λ y. ap (λ (b : BiMap). at b.backward y) same-users;
     watermark = ap (λ (b : BiMap). length b.forward) same-users;
-    globals = kept-most g.tables.kept new.kept x (kept_at g.tables.kept x) live q;
+    globals = kept-most g.tables.kept new.kept x (kept_at g.tables.kept x) live l;
     solver_from_global = λ y. ap (λ (b : BiMap). at b.forward y) same-solvers;
     global_from_solver = λ v. ap (λ (b : BiMap). at b.backward v) same-solvers;
-    kept = λ y. q.at_each y ∙ updated-all (λ y a. a ≡ kept_at g.tables.kept y) (kept_at g.tables.kept) x (kept_at g.tables.kept x) refl y (λ m. refl);
-    model = λ a e y. model-kept g new x (kept_at g.tables.kept x) q refl same-solvers y;
-  }) refl (w, k)
+    kept = λ y. l.at_each y ∙ updated-all (λ y a. a ≡ kept_at g.tables.kept y) (kept_at g.tables.kept) x (kept_at g.tables.kept x) refl y (λ m. refl);
+    model = λ a e y. model-kept g new x (kept_at g.tables.kept x) l refl same-solvers y;
+  }) refl (subst (λ o. SpacesFit (record (spaces g) { checker = o }) s) (sym (checked-nothing p.checker q.checker (subst (λ es. IsCheckedIf p.checker es q.checker) none told.checked) ∙ same)) (w, k))
 
-  goes : IsKeptAs g.tables.kept x dead new.kept → at g.tables.solvers.forward x ≡ None → (kept_at g.tables.kept x).isolated ≡ true → (i : ℕ) → w.identity x ≡ Some i → SpacesFit (spaces (with_tables new g)) (retold (s.told ++ Leaves i ∷ []) s)
-  goes q unsolved alone i is =
+  goes : IsKeptAs g.tables.kept x dead new.kept → leaves_if_deleted new x ≡ Leaves x ∷ [] → at g.tables.solvers.forward x ≡ None → (kept_at g.tables.kept x).isolated ≡ true → (i : ℕ) → w.identity x ≡ Some i → SpacesFit (spaces (with_checker q.checker (with_tables new g))) (retold (s.told ++ Leaves i ∷ []) s)
+  goes l one unsolved alone i is =
       let f = assignment_of g.search in
-      maps-same (recycle x (spaces g)) (spaces (with_tables new g)) (retold (s.told ++ Leaves i ∷ []) s) (record {
+      maps-same (record (recycle x (spaces g)) { checker = q.checker }) (spaces (with_checker q.checker (with_tables new g))) (retold (s.told ++ Leaves i ∷ []) s) (record {
         global_from_user = λ v. ap (λ (b : BiMap). at b.forward v) same-users;
         user_from_global = λ y. ap (λ (b : BiMap). at b.backward y) same-users;
         watermark = ap (λ (b : BiMap). length b.forward) same-users;
-        globals = kept-most g.tables.kept new.kept x dead live q;
+        globals = kept-most g.tables.kept new.kept x dead live l;
         solver_from_global = λ y. ap (λ (b : BiMap). at b.forward y) same-solvers;
         global_from_solver = λ v. ap (λ (b : BiMap). at b.backward v) same-solvers;
-        kept = q.at_each;
+        kept = l.at_each;
         model = λ a e y. updated-all (λ y b. value_or (kept_at new.kept y).unit f (at new.solvers.forward y) ≡ b) (spaces g).model x false
-            (ap (λ (d : VarData). value_or d.unit f (at new.solvers.forward x)) (q.at_each x ∙ updated-at (kept_at g.tables.kept) x dead) ∙ ap (value_or None f) (ap (λ (b : BiMap). at b.forward x) same-solvers ∙ unsolved))
+            (ap (λ (d : VarData). value_or d.unit f (at new.solvers.forward x)) (l.at_each x ∙ updated-at (kept_at g.tables.kept) x dead) ∙ ap (value_or None f) (ap (λ (b : BiMap). at b.forward x) same-solvers ∙ unsolved))
             y
-            (λ m. ap (λ (d : VarData). value_or d.unit f (at new.solvers.forward y)) (q.at_each y ∙ updated-other (kept_at g.tables.kept) x dead y m) ∙ ap (λ (b : BiMap). value_or (kept_at g.tables.kept y).unit f (at b.forward y)) same-solvers);
-      }) refl (recycled w (spaces g) s x i k is unnamed unsolved alone (undecided g.search g.assumed.failed_core g.sat_state unsettled))
+            (λ m. ap (λ (d : VarData). value_or d.unit f (at new.solvers.forward y)) (l.at_each y ∙ updated-other (kept_at g.tables.kept) x dead y m) ∙ ap (λ (b : BiMap). value_or (kept_at g.tables.kept y).unit f (at b.forward y)) same-solvers);
+      }) refl (recycled w (spaces g) s x i k is unnamed unsolved alone (undecided g.search g.assumed.failed_core g.sat_state unsettled) q.checker (subst (λ o. IsCheckedIf o (Leaves x ∷ []) q.checker) same (subst (λ es. IsCheckedIf p.checker es q.checker) one told.checked)))
 
-  by-use : (b : Bool) → unused (at g.tables.solvers.forward x) (kept_at g.tables.kept x) ≡ b → (after : List Entry) × TellsLeaving s.ever_hidden s.told after p q × SpacesFit (spaces (with_tables new g)) (retold after s)
+  by-use : (b : Bool) → unused (at g.tables.solvers.forward x) (kept_at g.tables.kept x) ≡ b → (after : List Entry) × TellsLeaving s.ever_hidden s.told after p q × SpacesFit (spaces (with_checker q.checker (with_tables new g))) (retold after s)
   by-use true e =
       let (unsolved, alone) = is-unused (at g.tables.solvers.forward x) (kept_at g.tables.kept x) e in
       let (i, is) = linked w (spaces g) s x k live in (
         s.told ++ Leaves i ∷ [],
         leaving-one s.ever_hidden s.told i p q (leaves_if_deleted new x) (was-hidden w (spaces g) s x i k is unnamed unsolved alone) told,
-        goes (kept-as true e) unsolved alone i is,
+        goes (kept-as true e) (ap (λ (b : Bool). if b then Leaves x ∷ [] else []) (ap (λ (d : VarData). d.deleted) ((kept-as true e).at_each x ∙ updated-at (kept_at g.tables.kept) x dead))) unsolved alone i is,
       )
   by-use false e =
       let kept = kept-as false e in
-      let same = ap (λ (d : VarData). d.deleted) (kept.at_each x ∙ updated-at (kept_at g.tables.kept) x (kept_at g.tables.kept x)) ∙ live in
-      (s.told, leaving-none s.ever_hidden s.told p q (leaves_if_deleted new x) (ap (λ (b : Bool). if b then Leaves x ∷ [] else []) same) told, stays-live kept)
+      let none = ap (λ (b : Bool). if b then Leaves x ∷ [] else []) (ap (λ (d : VarData). d.deleted) (kept.at_each x ∙ updated-at (kept_at g.tables.kept) x (kept_at g.tables.kept x)) ∙ live) in
+      (s.told, leaving-none s.ever_hidden s.told p q (leaves_if_deleted new x) none told, stays-live kept none)
 
-  links-left : (after : List Entry) × TellsLeaving s.ever_hidden s.told after p q × SpacesFit (spaces (with_tables new g)) (retold after s)
+  links-left : (after : List Entry) × TellsLeaving s.ever_hidden s.told after p q × SpacesFit (spaces (with_checker q.checker (with_tables new g))) (retold after s)
   links-left = by-use (unused (at g.tables.solvers.forward x) (kept_at g.tables.kept x)) refl
 
-pub left-spaces : (g : Summary) (s : State) (new : Tables) (x : ℕ) (p q : ProofParts) → SpacesFit (spaces g) s → (kept_at g.tables.kept x).deleted ≡ false → at g.tables.users.backward x ≡ None → g.sat_state ≢ verdict.Unsat → IsDeletedIfUnused g.tables new x → IsTold p (leaves_if_deleted new x) q →
-    (after : List Entry) × TellsLeaving s.ever_hidden s.told after p q × SpacesFit (spaces (with_tables new g)) (retold after s)
-left-spaces g s new x p q (w, k) live unnamed unsettled n told = links-left g s new x w k live unnamed unsettled n p q told
+pub left-spaces : (g : Summary) (s : State) (new : Tables) (x : ℕ) (p q : ProofParts) → SpacesFit (spaces g) s → (kept_at g.tables.kept x).deleted ≡ false → at g.tables.users.backward x ≡ None → g.sat_state ≢ verdict.Unsat → IsDeletedIfUnused g.tables new x → p.checker ≡ g.checker → IsTold p (leaves_if_deleted new x) q →
+    (after : List Entry) × TellsLeaving s.ever_hidden s.told after p q × SpacesFit (spaces (with_checker q.checker (with_tables new g))) (retold after s)
+left-spaces g s new x p q (w, k) live unnamed unsettled n same told = links-left g s new x w k live unnamed unsettled n p q same told

@@ -6,6 +6,7 @@ pub mod Additions
 pub mod AssumeList
 pub mod CallStates
 pub mod Carried
+pub mod CheckedHeld
 pub mod Counted
 pub mod DroppedAlone
 pub mod DroppedApart

@@ -13,6 +13,7 @@ use Rattle.varisat.specs.Names.{Sample, bring}
 use Rattle.varisat.specs.Calls.{with_naming}
 use Rattle.varisat.specs.Carried.{carry}
 use Rattle.varisat.specs.Spaces.{Spaces, Carrying, ModeFits, IdentitiesFit, NamesFit, ModesFit, UnitsFit, IsolationCase, NotIsolated, Apart, Forced, IsolationFits, AssumptionsFit, MarksFit, without_core, translation, IsPlain, Links, SpacesFit}
+use Rattle.varisat.proofs.CheckedHeld.{all-live, checker-alike}
 use Rattle.varisat.proofs.SpacesMoves.{give}
 use Rattle.varisat_names.proofs.Maps.{updated-at, updated-other, updated-all, joined, chain-same, chain-some, chain-none, chain-through, is-some}
 use Rattle.varisat.proofs.SpacesAgree.{carry-same, map-same, working-same, core-same, holds-same, told-same, verdict-moved}
@@ -237,5 +238,8 @@ module _ (w : Carrying) (p : Spaces) (s : State) (u x : ℕ) (k : Links w p s) (
       shown = λ e y. updated-all (λ y o. o ≡ None → (kept' y).deleted ≡ true) p.user_from_global x (Some u) (λ q. absurd cc) y (λ n h. ap (λ d. d.deleted) (updated-other p.kept x fresh y n) ∙ k.shown e y h);
       plain = λ e. new-plain (k.plain e);
       told = k.told;
+      checked = λ n. checker-alike w.global (updated w.global s.naming.made (Some x)) s.told p.checker
+          (λ held led c l h i. let (y, e) = all-live w p s k n held led c l h i in sym (updated-other w.global s.naming.made (Some x) (variable_of l) (λ q. let z : None ≡ Some y = sym unused ∙ ap w.global (sym q) ∙ e in cc)))
+          (k.checked n);
     },
   )

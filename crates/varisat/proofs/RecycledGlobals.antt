@@ -1,7 +1,12 @@
 -- A global variable without a name may be used again.
-use Rattle.std.proofs.Common.{◌≡◌, ◌≢◌, ℕ, ◌<◌, true, false, Option, Some, None, [], ◌∷◌, ◌++◌, sym, ap, ◌∙◌, subst, refl}
+use Rattle.std.proofs.Common.{◌≡◌, ◌≢◌, ◌↔◌, ℕ, ◌<◌, true, false, Option, Some, None, List, [], ◌∷◌, ◌++◌, sym, ap, ◌∙◌, subst, refl}
 use Rattle.varisat_theory.specs.Membership.{◌∈◌}
-use Rattle.varisat_theory.specs.Literals.{Literal, variable_of}
+use Rattle.varisat_theory.specs.Literals.{Literal, Clause, variable_of}
+use Rattle.varisat_proof.specs.Calls.{CheckerState}
+use Rattle.varisat_proof.specs.Proving.{IsCheckedIf}
+use Rattle.varisat.specs.Carried.{carry}
+use Rattle.varisat.proofs.Carried.{carry-at}
+use Rattle.varisat.proofs.CheckedHeld.{all-live, checker-without}
 use Rattle.varisat_names.specs.Maps.{updated, chain}
 use Rattle.varisat_names.specs.VarData.{dead}
 use Rattle.varisat_names.specs.declared.variables.data.VarData.{VarData}
@@ -10,7 +15,7 @@ use Rattle.varisat_names.proofs.Maps.{updated-at, updated-other, updated-all, pa
 use Rattle.varisat.specs.States.{State}
 use Rattle.varisat.specs.Spaces.{Spaces, Carrying, ModeFits, IdentitiesFit, NamesFit, ModesFit, UnitsFit, IsolationCase, NotIsolated, Apart, Forced, IsolationFits, MarksFit, without_core, Translation, translation, Links, SpacesFit}
 use Rattle.varisat.proofs.SpacesAgree.{working-same, holds-same, verdict-moved}
-use Rattle.varisat_theory.specs.Journals.{Leaves}
+use Rattle.varisat_theory.specs.Journals.{Leaves, Leads}
 use Rattle.varisat_theory.specs.Outcomes as outcome
 use Rattle.varisat.specs.Journals.{retold}
 use Rattle.varisat.proofs.VariableMoves.{recycle}
@@ -101,10 +106,19 @@ module _ (w : Carrying) (p : Spaces) (s : State) (x i : ℕ) (k : Links w p s) (
   pub was-hidden : s.ever_hidden ≡ false → ⊥
   was-hidden e = let z : true ≡ false = sym (k.shown e x unnamed) ∙ k.identities.live x i at in cc
 
+  -- a literal of what is held is of the variable just where it is of the identity
+  same-left : without_core p.outcome ≢ outcome.Unsat → (held : List Clause) → Leads [] s.told held → (c : Clause) (l : Literal) → c ∈ held → l ∈ c → (variable_of (carry w.global l) ≡ x) ↔ (variable_of l ≡ i)
+  same-left n held led c l h j =
+      let (y, e) = all-live w p s k n held led c l h j in
+      let there = carry-at w.global l y e in (
+        λ q. let a : Some i ≡ Some (variable_of l) = sym at ∙ ap w.identity (sym (sym there ∙ q)) ∙ k.identities.one_to_one.back y (variable_of l) e in cc,
+        λ q. let a : Some y ≡ Some x = sym e ∙ ap w.global q ∙ k.identities.one_to_one.there x i at in there ∙ (let z : y ≡ x = cc in z),
+      )
+
   -- It is gone from each state, under no verdict that lets nothing more be told.
-  pub recycled : without_core p.outcome ≢ outcome.Unsat → SpacesFit (recycle x p) (retold (s.told ++ Leaves i ∷ []) s)
+  pub recycled : without_core p.outcome ≢ outcome.Unsat → (checker : Option CheckerState) → IsCheckedIf p.checker (Leaves x ∷ []) checker → SpacesFit (record (recycle x p) { checker = checker }) (retold (s.told ++ Leaves i ∷ []) s)
   unfolding id' kept'
-  recycled undecided =
+  recycled undecided checker gone =
       let before = translation w p s.told in
       let after : Translation = record { identity = chain p.global_from_solver id'; global = updated w.global i None; forced = w.forced; told = s.told ++ Leaves i ∷ [] } in (
         record { identity = id'; global = updated w.global i None; forced = w.forced },
@@ -132,6 +146,7 @@ module _ (w : Carrying) (p : Spaces) (s : State) (x i : ℕ) (k : Links w p s) (
           few = k.few;
           shown = λ e y. updated-all (λ y d. p.user_from_global y ≡ None → d.deleted ≡ true) p.kept x dead (λ _. refl) y (λ n h. k.shown e y h);
           plain = λ e. absurd (was-hidden e);
+          checked = λ n. checker-without w.global (updated w.global i None) s.told i x p.checker checker (same-left n) (λ j o. sym (updated-other w.global i None j o)) gone (k.checked n);
           told = told-left s.told s.clauses s.counted s.ever_hidden i was-hidden k.told;
         },
       )

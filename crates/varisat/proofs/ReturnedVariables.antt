@@ -80,11 +80,12 @@ module _ (g : Summary) (s : State) (new : Tables) (x v : ℕ) (b : Bool) (t : Vi
             (λ full. let n = solvers-few w moved s (length new.solvers.backward) k (λ u h e. full u h (r.is_taken.solvers.backward.at_each u ∙ e)) in omega (arith, n, r.count))
             (taken-full g.tables new x v r.is_taken);
         told = k.told;
+        checked = k.checked;
       })
 
-  told : SpacesFit (record moved { var_count = length t.values }) s → SpacesFit (spaces_of new t parts g.sat_state) s
+  told : SpacesFit (record moved { var_count = length t.values }) s → SpacesFit (spaces_of new g.checker t parts g.sat_state) s
   unfolding moved
-  told = spaces-same (record moved { var_count = length t.values }) (spaces_of new t parts g.sat_state) s (record {
+  told = spaces-same (record moved { var_count = length t.values }) (spaces_of new g.checker t parts g.sat_state) s (record {
     maps = record {
       global_from_user = λ u. ap (λ m. at m.forward u) r.is_taken.users;
       user_from_global = λ y. ap (λ m. at m.backward y) r.is_taken.users;
@@ -99,11 +100,12 @@ module _ (g : Summary) (s : State) (new : Tables) (x v : ℕ) (b : Bool) (t : Vi
     core = ap (λ (a : AssumptionParts). a.user_core) r.parts_stay;
     working = ap (λ (a : AssumptionParts). a.working) r.parts_stay;
     search = refl;
+    checker = refl;
     outcome = ap (λ (a : AssumptionParts). outcome_of t a.failed_core g.sat_state) r.parts_stay ∙ outcome-alike g.search t g.assumed.failed_core g.sat_state (no-model g.search g.assumed.failed_core g.sat_state r.no_model);
     var_count = refl;
   })
 
-  pub returned : SpacesFit (spaces g) s → SpacesFit (spaces_of new t parts g.sat_state) s
+  pub returned : SpacesFit (spaces g) s → SpacesFit (spaces_of new g.checker t parts g.sat_state) s
   unfolding moved
   returned (w, k) =
       let (i, is) = linked w (spaces g) s x k r.live in

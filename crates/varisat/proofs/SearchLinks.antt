@@ -1,12 +1,13 @@
 -- The search goes on, and the verdict of the state with it: what was said of the names stays.
-use Rattle.std.proofs.Common.{◌≡◌, ◌≤◌, ℕ, length, ◌∙◌, refl}
+use Rattle.std.proofs.Common.{◌≡◌, ◌≢◌, ◌≤◌, ℕ, length, ◌∙◌, refl}
 use Rattle.varisat_names.specs.declared.variables.data.VarData.{VarData}
+use Rattle.varisat_theory.specs.Outcomes as outcome
 use Rattle.varisat.specs.States.{State, HasRightVerdict, IsWellFormed}
-use Rattle.varisat.specs.Spaces.{Spaces, Carrying, translation, SolversFit, IsTold, SearchHolds, AssumptionsFit, IsolationFits, MarksFit, WorkingFits, CoreFits, VerdictFits, without_core, Links}
+use Rattle.varisat.specs.Spaces.{Spaces, Carrying, translation, CheckerFits, SolversFit, IsTold, SearchHolds, AssumptionsFit, IsolationFits, MarksFit, WorkingFits, CoreFits, VerdictFits, without_core, Links}
 use Rattle.varisat.proofs.CallStates.{told_as, told-well}
 use Rattle.varisat.proofs.SpacesAgree.{identities-same, modes-same, units-same}
 
--- the spaces, with the solver variables and the search of others
+-- the spaces, with the solver variables, the search and the checker of others
 abbrev pub with_search_side : Spaces → Spaces → Spaces
 with_search_side q p = record p {
   solver_from_global = q.solver_from_global;
@@ -17,6 +18,7 @@ with_search_side q p = record p {
   search = q.search;
   outcome = q.outcome;
   var_count = q.var_count;
+  checker = q.checker;
 }
 
 -- What links the search to the state.
@@ -30,6 +32,7 @@ pub record SearchLinks (w : Carrying) (p : Spaces) (s : State) : Type 0 where
   pub right : HasRightVerdict s
   pub few : p.var_count ≤ length s.counted
   pub told : IsTold s.told s.clauses s.counted s.ever_hidden
+  pub checked : without_core p.outcome ≢ outcome.Unsat → CheckerFits w.global s.told p.checker
 
 pub relinked : (w : Carrying) (p q : Spaces) (s t : State) → Links w p s → SearchLinks w (with_search_side q p) (told_as t s) → Links w (with_search_side q p) (told_as t s)
 relinked w p q s t k l = record {
@@ -53,6 +56,7 @@ relinked w p q s t k l = record {
   shown = k.shown;
   plain = k.plain;
   told = l.told;
+  checked = l.checked;
 }
 
 -- Of what is kept of global variables nothing changed but whether they are isolated and whether they are assumed.
@@ -92,4 +96,5 @@ relinked-marks w p q s t k a isolation marks well l = record {
   shown = λ o y h. a.deleted y ∙ k.shown o y h;
   plain = k.plain;
   told = l.told;
+  checked = l.checked;
 }

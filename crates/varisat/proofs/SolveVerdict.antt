@@ -1,14 +1,14 @@
 -- A search that finds a verdict, and spaces that agree.
-use Rattle.std.proofs.Common.{◌≡◌, ◌≢◌, ℕ, suc, ◌≤◌, Bool, true, Option, Some, List, [], ◌∷◌, ◌++◌, inl, inr, ⊎_elim, sym, ap, ◌∙◌, subst, refl, map, length, arith}
+use Rattle.std.proofs.Common.{◌≡◌, ◌≢◌, ℕ, suc, ◌≤◌, Bool, true, Option, Some, List, [], ◌∷◌, ◌++◌, inl, inr, ⊎_elim, sym, ap, ◌∙◌, subst, refl, map, append_assoc, length, arith}
 use Rattle.varisat_theory.proofs.StepStands.{new_are_added}
 use Rattle.varisat_theory.specs.Membership.{◌∈◌, ◌⊆◌}
 use Rattle.varisat_theory.specs.Literals.{Literal, Clause, Assignment, variable_of, literal_of, value, SatisfiesAll, MakesTrue, IsSatisfiableWith, IsFailedCore}
 use Rattle.varisat_theory.specs.Derivations.{Line, Add, Delete}
 use Rattle.varisat_theory.specs.Propagation.{Conflicts}
 use Rattle.varisat_theory.specs.Renaming.{rename, rename_line}
-use Rattle.varisat_theory.specs.Journals.{Entry, Fails, Leads, lines_of}
+use Rattle.varisat_theory.specs.Journals.{Entry, Fails, Leads, lines_of, written}
 use Rattle.varisat_theory.specs.Counted.{added}
-use Rattle.varisat_theory.proofs.Journals.{leads_append, leads_unique, written_lines}
+use Rattle.varisat_theory.proofs.Journals.{leads_append, leads_unique, written_lines, written_stays, stays_append}
 use Rattle.varisat_theory.proofs.Members.{∈-append_right}
 use Rattle.varisat_theory.proofs.Growth.{conflicts_more, covered_by_more}
 use Rattle.varisat_theory.proofs.Held.{same_clauses-back, conflicts_same}
@@ -28,13 +28,19 @@ use Rattle.varisat.specs.States.{State, Verdict, Unknown, Sat, Unsat, UnsatUnder
 use Rattle.varisat.specs.Names.{identity_of}
 use Rattle.varisat.specs.Calls.{with_verdict}
 use Rattle.varisat.specs.Carried.{carry, is_forced, value_or}
-use Rattle.varisat.specs.Spaces.{Spaces, Carrying, Translation, translation, IsCounted, IsTold, SharesHeld, HeldFits, SearchHolds, AssumptionsFit, MarksFit, WorkingFits, CoreFits, without_core, VerdictFits, Links, SpacesFit}
+use Rattle.varisat.specs.Spaces.{Spaces, Carrying, Translation, translation, CheckerFits, IsCounted, IsTold, SharesHeld, HeldFits, SearchHolds, AssumptionsFit, MarksFit, WorkingFits, CoreFits, without_core, VerdictFits, Links, SpacesFit}
 use Rattle.varisat.specs.Journals.{retold, TellsMore, ToldConflict}
 use Rattle.varisat.proofs.SpacesMoves.{AreLong, AreInUse}
+use Rattle.varisat.proofs.CheckedHeld.{checker-on, told-carried, global-carried}
+use Rattle.varisat_proof.specs.Calls.{CheckerState}
+use Rattle.varisat_proof.specs.Proving.{IsCheckedIf}
+use Rattle.varisat_tracer.specs.Carried.{told_as}
+use Rattle.varisat_tracer.specs.Carried as global
+use Rattle.varisat_tracer.specs.Told.{told_as-append}
 use Rattle.varisat.proofs.ReachedHeld.{told_lines, lines-lead, told-quiet, counted-literal}
 use Rattle.varisat.proofs.ToldEntries.{tells-also, told-written, told-failed, spoken-renamed}
 use Rattle.varisat_names.proofs.Maps.{chain-some, chain-through, is-some}
-use Rattle.varisat.proofs.SpacesAgree.{identities-same, names-same, modes-same, units-same, isolation-same, solvers-same, assumptions-same, marks-same, working-same, holds-same, told-same, value-same}
+use Rattle.varisat.proofs.SpacesAgree.{map-map, identities-same, names-same, modes-same, units-same, isolation-same, solvers-same, assumptions-same, marks-same, working-same, holds-same, told-same, value-same}
 use Rattle.varisat.proofs.Carried.{carry-opposite, map-empty, value-true, true-value, value-carry, forced-value}
 use Rattle.varisat.proofs.SearchLinks.{relinked}
 use Rattle.varisat.proofs.SearchHeld.{answers-covers, agrees-through, held-on, without-model, refuted}
@@ -57,19 +63,32 @@ back-there w p s k v i e =
 abbrev pub told-with : Carrying → Spaces → State → List Line → List Entry
 told-with w p s lines = s.told ++ told_lines (translation w p s.told) lines
 
--- the spaces with a verdict that was found
-abbrev pub decide : Search → Outcome → (ℕ → Bool) → List Literal → List Literal → Spaces → Spaces
-decide t v m working core p = record p { search = t; outcome = v; model = m; working = working; core = core }
+-- the spaces with a verdict that was found, and the checker after that
+abbrev pub decide : Search → Outcome → (ℕ → Bool) → List Literal → List Literal → Option CheckerState → Spaces → Spaces
+decide t v m working core checker p = record p { search = t; outcome = v; model = m; working = working; core = core; checker = checker }
+
+-- where none is known it is not Unsat
+known-unknown : (v : Outcome) → v ≡ outcome.Unknown → without_core v ≢ outcome.Unsat
+known-unknown v e q = let z : outcome.Unknown ≡ outcome.Unsat = sym (ap without_core e) ∙ q in cc
 
 -- another verdict of the state, which is right
-decided : (w : Carrying) (p : Spaces) (s : State) (told : List Entry) → IsTold told s.clauses s.counted s.ever_hidden → (t : Search) (v : Outcome) (m : ℕ → Bool) (ws core : List Literal) (x : Verdict) → Links w p s → SearchHolds s.clauses (translation w p told) t (without_core v) → WorkingFits s.clauses (translation w p s.told).identity s.assumptions ws → VerdictFits w.identity m v x → CoreFits s.naming.names core x → IsRight s.clauses s.assumptions s.counted x → Links w (decide t v m ws core p) (retold told (with_verdict x s))
-decided w p s told is-told t v m ws core x k holds working fits names right =
-    relinked w p (decide t v m ws core p) s (retold told (with_verdict x s)) k (record { solvers = k.solvers; holds = holds; assumptions = k.assumptions; working = working; verdict = fits; core = names; right = right; few = k.few; told = is-told })
+decided : (w : Carrying) (p : Spaces) (s : State) (told : List Entry) → IsTold told s.clauses s.counted s.ever_hidden → (t : Search) (v : Outcome) (m : ℕ → Bool) (ws core : List Literal) (checker : Option CheckerState) (x : Verdict) → Links w p s → (without_core v ≢ outcome.Unsat → CheckerFits w.global told checker) → SearchHolds s.clauses (translation w p told) t (without_core v) → WorkingFits s.clauses (translation w p s.told).identity s.assumptions ws → VerdictFits w.identity m v x → CoreFits s.naming.names core x → IsRight s.clauses s.assumptions s.counted x → Links w (decide t v m ws core checker p) (retold told (with_verdict x s))
+decided w p s told is-told t v m ws core checker x k checks holds working fits names right =
+    relinked w p (decide t v m ws core checker p) s (retold told (with_verdict x s)) k (record { solvers = k.solvers; holds = holds; assumptions = k.assumptions; working = working; verdict = fits; core = names; right = right; few = k.few; told = is-told; checked = checks })
 
 -- where the verdict isn't Unsat, what was found may be forgotten
-pub forgotten : (w : Carrying) (p : Spaces) (s : State) → Links w p s → s.verdict ≢ Unsat → Links w (decide p.search outcome.Unknown p.model p.working p.core p) (with_verdict Unknown s)
-forgotten w p s k n = decided w p s s.told k.told p.search outcome.Unknown p.model p.working p.core Unknown k (go p.outcome s.verdict k.holds k.verdict n) k.working tt tt tt
+pub forgotten : (w : Carrying) (p : Spaces) (s : State) → Links w p s → s.verdict ≢ Unsat → Links w (decide p.search outcome.Unknown p.model p.working p.core p.checker p) (with_verdict Unknown s)
+forgotten w p s k n = decided w p s s.told k.told p.search outcome.Unknown p.model p.working p.core p.checker Unknown k (λ _. k.checked (not-refuted p.outcome s.verdict k.verdict n)) (go p.outcome s.verdict k.holds k.verdict n) k.working tt tt tt
   where
+    not-refuted : (v : Outcome) (x : Verdict) → VerdictFits w.identity p.model v x → x ≢ Unsat → without_core v ≢ outcome.Unsat
+    not-refuted outcome.Unknown x f n e = let z : outcome.Unknown ≡ outcome.Unsat = e in cc
+    not-refuted (outcome.Sat found) x f n e = let z : outcome.Sat found ≡ outcome.Unsat = e in cc
+    not-refuted outcome.Unsat Unknown f n e = f
+    not-refuted outcome.Unsat (Sat a) f n e = f
+    not-refuted outcome.Unsat Unsat f n e = n refl
+    not-refuted outcome.Unsat (UnsatUnderAssumptions core) f n e = f
+    not-refuted (outcome.UnsatUnder core) x f n e = let z : outcome.Unknown ≡ outcome.Unsat = e in cc
+
     go : (v : Outcome) (x : Verdict) → SearchHolds s.clauses (translation w p s.told) p.search (without_core v) → VerdictFits w.identity p.model v x → x ≢ Unsat → SearchHolds s.clauses (translation w p s.told) p.search outcome.Unknown
     go outcome.Unknown x h f n = h
     go (outcome.Sat found) x h f n = without-model s.clauses (translation w p s.told) p.search found h
@@ -82,7 +101,7 @@ forgotten w p s k n = decided w p s s.told k.told p.search outcome.Unknown p.mod
 -- and where the state has a core, it may come back
 pub core-known : (w : Carrying) (p : Spaces) (s : State) (found core : List Literal) → Links w p s → p.outcome ≡ outcome.Unknown → CoreFits s.naming.names p.core (UnsatUnderAssumptions core) → core ≢ [] → IsFailedCore s.clauses s.assumptions core → Links w (record p { outcome = outcome.UnsatUnder found }) (with_verdict (UnsatUnderAssumptions core) s)
 core-known w p s found core k unknown told some right =
-    decided w p s s.told k.told p.search (outcome.UnsatUnder found) p.model p.working p.core (UnsatUnderAssumptions core) k (subst (SearchHolds s.clauses (translation w p s.told) p.search) (ap without_core unknown) k.holds) k.working some told right
+    decided w p s s.told k.told p.search (outcome.UnsatUnder found) p.model p.working p.core p.checker (UnsatUnderAssumptions core) k (λ _. k.checked (known-unknown p.outcome unknown)) (subst (SearchHolds s.clauses (translation w p s.told) p.search) (ap without_core unknown) k.holds) k.working some told right
 
 added-renamed : (f : Literal → Literal) (lines : List Line) → added (map (rename_line f) lines) ≡ added lines
 added-renamed f [] = refl
@@ -168,25 +187,53 @@ module _ (w : Carrying) (p : Spaces) (s : State) (k : Links w p s) (unknown : p.
       let conflict = subst (Conflicts q.held) (sym same-core) (core-conflicts found e q.held q.led) in
       (q.held, leads_append [] (told-with w p s lines) q.held (Fails (map (carry s.naming.names) told) ∷ []) q.held q.led (q.held, (conflict, refl), refl), subst (Conflicts q.held) none conflict)
 
-  module _ (x y : AssumptionParts) (same : p.working ≡ x.working) (keeps : KeepsAssumptions p.search v x y) where
+  -- the checker that took the lines
+  pub steps-checked : (checker : Option CheckerState) → IsCheckedIf p.checker (told_as (global.carry p.global_from_solver) (written lines)) checker → CheckerFits w.global (told-with w p s lines) checker
+  steps-checked checker c =
+      let r = translation w p s.told in
+      checker-on w.global s.told (told_lines r lines) p.checker checker (written_stays (map (rename_line (carry r.identity)) lines))
+      (subst (λ es. IsCheckedIf p.checker es checker) (sym (told-carried (carry r.identity) (carry w.global) (global.carry p.global_from_solver) (IsLiteralOf p.search) lines (λ l h. global-carried w p s k l (k.holds.within l h)) made.speaks)) c)
+      (k.checked (known-unknown p.outcome unknown))
+
+  module _ (x y : AssumptionParts) (same : p.working ≡ x.working) (keeps : KeepsAssumptions p.search v x y) (checker : Option CheckerState) where
     pub left : WorkingFits s.clauses (translation w p s.told).identity s.assumptions y.working
     left = working-on s.clauses (translation w p s.told) p.search v s.assumptions x y before keeps (subst (WorkingFits s.clauses (translation w p s.told).identity s.assumptions) same k.working)
 
     -- without a verdict
-    pub went-on : (m : ℕ → Bool) (core : List Literal) → v ≡ outcome.Unknown → Links w (decide t v m y.working core p) (retold (told-with w p s lines) (with_verdict Unknown s))
-    went-on m core e = decided w p s (told-with w p s lines) steps-are-told t v m y.working core Unknown k steps-hold left (subst (λ y. VerdictFits w.identity m y Unknown) (sym e) tt) tt tt
+    pub went-on : (m : ℕ → Bool) (core : List Literal) → IsCheckedIf p.checker (told_as (global.carry p.global_from_solver) (written lines)) checker → v ≡ outcome.Unknown → Links w (decide t v m y.working core checker p) (retold (told-with w p s lines) (with_verdict Unknown s))
+    went-on m core c e = decided w p s (told-with w p s lines) steps-are-told t v m y.working core checker Unknown k (λ _. steps-checked checker c) steps-hold left (subst (λ y. VerdictFits w.identity m y Unknown) (sym e) tt) tt tt
 
-    pub unsat-found : (m : ℕ → Bool) (core : List Literal) → v ≡ outcome.Unsat → Links w (decide t v m y.working core p) (retold (told-with w p s lines) (with_verdict Unsat s))
+    pub unsat-found : (m : ℕ → Bool) (core : List Literal) → v ≡ outcome.Unsat → Links w (decide t v m y.working core checker p) (retold (told-with w p s lines) (with_verdict Unsat s))
     unsat-found m core e =
         let none = refuted s.clauses (translation w p (told-with w p s lines)) t (subst (SearchHolds s.clauses (translation w p (told-with w p s lines)) t) (ap without_core e) steps-hold) in
-        decided w p s (told-with w p s lines) steps-are-told t v m y.working core Unsat k steps-hold left (subst (λ y. VerdictFits w.identity m y Unsat) (sym e) tt) tt none
+        decided w p s (told-with w p s lines) steps-are-told t v m y.working core checker Unsat k (λ n. absurd (n (ap without_core e))) steps-hold left (subst (λ y. VerdictFits w.identity m y Unsat) (sym e) tt) tt none
 
     -- a core was found, which is told over names in use
     pub core-tells : (found told : List Literal) → v ≡ outcome.UnsatUnder found → map (carry s.naming.names) told ≡ map (carry (translation w p s.told).identity) found → TellsMore n s.told ((told-with w p s lines) ++ Fails (map (carry s.naming.names) told) ∷ [])
     core-tells found told e same-core = tells-also n s.told (told-with w p s lines) (Fails (map (carry s.naming.names) told) ∷ []) steps-tell (λ held d. (held, (held, (subst (Conflicts held) (sym same-core) (core-conflicts found e held d), refl), inl (tt, refl))))
 
-    pub core-found : (m : ℕ → Bool) (found told : List Literal) → v ≡ outcome.UnsatUnder found → ((l : Literal) → l ∈ told → (i : ℕ) × (s.naming.names (variable_of l) ≡ Some i)) → map (carry s.naming.names) told ≡ map (carry (translation w p s.told).identity) found → Links w (decide t v m y.working told p) (retold ((told-with w p s lines) ++ Fails (map (carry s.naming.names) told) ∷ []) (with_verdict (UnsatUnderAssumptions (map (carry s.naming.names) told)) s))
-    core-found m found told e named same-core =
+    core-checked : (found told : List Literal) → IsCheckedIf p.checker (told_as (global.carry p.global_from_solver) (written lines ++ Fails found ∷ [])) checker → v ≡ outcome.UnsatUnder found → map (carry s.naming.names) told ≡ map (carry (translation w p s.told).identity) found → CheckerFits w.global ((told-with w p s lines) ++ Fails (map (carry s.naming.names) told) ∷ []) checker
+    core-checked found told c e same-core =
+        let r = translation w p s.told in
+        let to = carry r.identity in
+        let g = carry w.global in
+        let h = global.carry p.global_from_solver in
+        let ls = told_lines r lines in
+        let used = λ (l : Literal) (i : l ∈ found). k.working.used l (subst (λ ws. l ∈ ws) (sym same) ((keeps.core found e).0 l i)) in
+        let one : map g (map (carry s.naming.names) told) ≡ map h found = ap (map g) same-core ∙ map-map g to h found (λ l i. global-carried w p s k l (used l i)) in
+        let all : told_as g (ls ++ Fails (map (carry s.naming.names) told) ∷ []) ≡ told_as h (written lines ++ Fails found ∷ []) =
+        told_as-append g ls (Fails (map (carry s.naming.names) told) ∷ [])
+        ∙ ap (λ es. es ++ Fails (map g (map (carry s.naming.names) told)) ∷ []) (told-carried to g h (IsLiteralOf p.search) lines (λ l i. global-carried w p s k l (k.holds.within l i)) made.speaks)
+        ∙ ap (λ (ms : List Literal). told_as h (written lines) ++ Fails ms ∷ []) one
+        ∙ sym (told_as-append h (written lines) (Fails found ∷ [])) in
+        subst (λ es. CheckerFits w.global es checker) (sym (append_assoc s.told ls (Fails (map (carry s.naming.names) told) ∷ [])))
+        (checker-on w.global s.told (ls ++ Fails (map (carry s.naming.names) told) ∷ []) p.checker checker
+        (stays_append ls (Fails (map (carry s.naming.names) told) ∷ []) (written_stays (map (rename_line to) lines)) tt)
+        (subst (λ es. IsCheckedIf p.checker es checker) (sym all) c)
+        (k.checked (known-unknown p.outcome unknown)))
+
+    pub core-found : (m : ℕ → Bool) (found told : List Literal) → IsCheckedIf p.checker (told_as (global.carry p.global_from_solver) (written lines ++ Fails found ∷ [])) checker → v ≡ outcome.UnsatUnder found → ((l : Literal) → l ∈ told → (i : ℕ) × (s.naming.names (variable_of l) ≡ Some i)) → map (carry s.naming.names) told ≡ map (carry (translation w p s.told).identity) found → Links w (decide t v m y.working told checker p) (retold ((told-with w p s lines) ++ Fails (map (carry s.naming.names) told) ∷ []) (with_verdict (UnsatUnderAssumptions (map (carry s.naming.names) told)) s))
+    core-found m found told c e named same-core =
         let to = (translation w p s.told).identity in
         let as' = s.assumptions in
         let part : map (carry s.naming.names) told ⊆ as' = (λ l i.
@@ -199,7 +246,8 @@ module _ (w : Carrying) (p : Spaces) (s : State) (k : Links w p s) (unknown : p.
         conflicts_sound after found b all (carried-true to a found (subst (MakesTrue a) same-core true-core)) (subst (Holds after t) e o).1) in
         let last = Fails (map (carry s.naming.names) told) in
         let some : map (carry s.naming.names) told ≢ [] = (λ q. (keeps.core found e).1 (map-empty (carry to) found (sym same-core ∙ q))) in
-        decided w p s ((told-with w p s lines) ++ last ∷ []) (told-failed (told-with w p s lines) s.clauses s.counted s.ever_hidden (map (carry s.naming.names) told) steps-are-told) t v m y.working told (UnsatUnderAssumptions (map (carry s.naming.names) told)) k
+        decided w p s ((told-with w p s lines) ++ last ∷ []) (told-failed (told-with w p s lines) s.clauses s.counted s.ever_hidden (map (carry s.naming.names) told) steps-are-told) t v m y.working told checker (UnsatUnderAssumptions (map (carry s.naming.names) told)) k
+        (λ _. core-checked found told c e same-core)
         (holds-same s.clauses (translation w p (told-with w p s lines)) (translation w p ((told-with w p s lines) ++ last ∷ [])) t (without_core v) (λ u. refl) (λ i. refl)
         (λ share q. told-quiet (translation w p (told-with w p s lines)) last (λ held d. (subst (Conflicts held) (sym same-core) (core-conflicts found e held d), refl)) share (without_core v) q) steps-hold)
         left (subst (λ y. VerdictFits w.identity m y (UnsatUnderAssumptions (map (carry s.naming.names) told))) (sym e) some) (named, refl) (part, none)
@@ -241,12 +289,13 @@ module _ (w : Carrying) (p : Spaces) (s : State) (k : Links w p s) (unknown : p.
       ((before w p s k unknown t (outcome.Sat f) n lines made long in-use).covered (λ q. let z : outcome.Unknown ≡ outcome.Unsat = q in cc))
       found-literal found-forced
 
-  pub sat-found : (x y : AssumptionParts) → p.working ≡ x.working → KeepsAssumptions p.search (outcome.Sat f) x y → (core : List Literal) →
-      Links w (decide t (outcome.Sat f) (λ x. value_or (p.kept x).unit f (p.solver_from_global x)) y.working core p) (retold (told-with w p s lines) (with_verdict (Sat found) s))
+  pub sat-found : (x y : AssumptionParts) → p.working ≡ x.working → KeepsAssumptions p.search (outcome.Sat f) x y → (core : List Literal) (checker : Option CheckerState) → IsCheckedIf p.checker (told_as (global.carry p.global_from_solver) (written lines)) checker →
+      Links w (decide t (outcome.Sat f) (λ x. value_or (p.kept x).unit f (p.solver_from_global x)) y.working core checker p) (retold (told-with w p s lines) (with_verdict (Sat found) s))
   unfolding found
-  sat-found x y same keeps core =
-      let fits = left w p s k unknown t (outcome.Sat f) n lines made long in-use x y same keeps in
-      decided w p s (told-with w p s lines) (steps-are-told w p s k unknown t (outcome.Sat f) n lines made long in-use) t (outcome.Sat f) (λ x. value_or (p.kept x).unit f (p.solver_from_global x)) y.working core (Sat found) k
+  sat-found x y same keeps core checker c =
+      let fits = left w p s k unknown t (outcome.Sat f) n lines made long in-use x y same keeps checker in
+      decided w p s (told-with w p s lines) (steps-are-told w p s k unknown t (outcome.Sat f) n lines made long in-use) t (outcome.Sat f) (λ x. value_or (p.kept x).unit f (p.solver_from_global x)) y.working core checker (Sat found) k
+      (λ _. steps-checked w p s k unknown t (outcome.Sat f) n lines made long in-use checker c)
       (steps-hold w p s k unknown t (outcome.Sat f) n lines made long in-use)
       fits
       (λ x i e. ap (λ o. value_or o f (chain w.global p.solver_from_global i)) (k.units.unit x i e) ∙ ap (value_or (p.kept x).unit f) (chain-some w.global p.solver_from_global i x (k.identities.one_to_one.there x i e)))
@@ -292,7 +341,7 @@ pub record HaveSameMaps (p q : Spaces) : Type 0 where
   pub model : (found : Assignment) → p.outcome ≡ outcome.Sat found → (x : ℕ) → q.model x ≡ p.model x
 
 -- they do where the spaces differ in the search and its parts alone, and what is kept and the model agree
-pub maps-alike : (p q : Spaces) → q ≡ record p { kept = q.kept; model = q.model; assumptions = q.assumptions; core = q.core; working = q.working; search = q.search; outcome = q.outcome; var_count = q.var_count } → ((x : ℕ) → q.kept x ≡ p.kept x) → ((found : Assignment) → p.outcome ≡ outcome.Sat found → (x : ℕ) → q.model x ≡ p.model x) → HaveSameMaps p q
+pub maps-alike : (p q : Spaces) → q ≡ record p { kept = q.kept; model = q.model; assumptions = q.assumptions; core = q.core; working = q.working; search = q.search; outcome = q.outcome; var_count = q.var_count; checker = q.checker } → ((x : ℕ) → q.kept x ≡ p.kept x) → ((found : Assignment) → p.outcome ≡ outcome.Sat found → (x : ℕ) → q.model x ≡ p.model x) → HaveSameMaps p q
 maps-alike p q e kept model = record {
   global_from_user = λ u. ap (λ (y : Spaces). y.global_from_user u) e;
   user_from_global = λ x. ap (λ (y : Spaces). y.user_from_global x) e;
@@ -313,6 +362,7 @@ pub record AreSame (p q : Spaces) : Type 0 where
   pub search : q.search ≡ p.search
   pub outcome : q.outcome ≡ p.outcome
   pub var_count : q.var_count ≡ p.var_count
+  pub checker : q.checker ≡ p.checker
 
 pub spaces-same : (p q : Spaces) (s : State) → AreSame p q → SpacesFit p s → SpacesFit q s
 spaces-same p q s e (w, k) = (
@@ -340,6 +390,7 @@ spaces-same p q s e (w, k) = (
     shown = λ h x n. ap (λ y. y.deleted) (e.maps.kept x) ∙ k.shown h x (sym (e.maps.user_from_global x) ∙ n);
     plain = k.plain;
     told = k.told;
+    checked = λ n. subst (CheckerFits w.global s.told) (sym e.checker) (k.checked (λ z. n (ap without_core e.outcome ∙ z)));
   },
 )
 
@@ -353,6 +404,7 @@ maps-same p q s m e = spaces-same p q s (record {
   search = ap (λ (x : Spaces). x.search) e;
   outcome = ap (λ (x : Spaces). x.outcome) e;
   var_count = ap (λ (x : Spaces). x.var_count) e;
+  checker = ap (λ (x : Spaces). x.checker) e;
 })
 
 -- as many variables as before

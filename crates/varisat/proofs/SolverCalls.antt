@@ -39,10 +39,12 @@ use Rattle.std.specs.Result.{IsErr}
 use Rattle.std.specs.declared.alloc.AllocError.{AllocError}
 use Rattle.varisat.specs.Carried.{carry, value_or}
 use Rattle.varisat.specs.Accepting.{HasUser}
-use Rattle.varisat_tracer.specs.Tracing.{TracerState, TakesGlobally}
+use Rattle.varisat_proof.specs.Calls.{CheckerState}
+use Rattle.varisat_proof.specs.Proving.{IsCheckedIf}
+use Rattle.varisat_tracer.specs.Tracing.{TracerState, global_literal, TakesGlobally}
 use Rattle.varisat.specs.Searches.{answer_at, ComesTo}
 use Rattle.std.proofs.lemmas.List.{append-nil}
-use Rattle.varisat_theory.specs.Journals.{Fails, written}
+use Rattle.varisat_theory.specs.Journals.{Entry, Fails, written}
 use Rattle.varisat_trace.specs.Traces.{TakesStep}
 use Rattle.varisat_tracer.specs.Carried.{told_as}
 use Rattle.varisat_tracer.specs.Carried as global
@@ -54,7 +56,7 @@ use Rattle.varisat.proofs.OpenProofs.{goes-on-none}
 use Rattle.varisat.proofs.ToldEntries.{tells-nothing}
 use Rattle.varisat.specs.Spaces.{Spaces, Carrying, Translation, HeldFits, translation, without_core, CoreFits, VerdictFits, Links, SpacesFit, list_globals}
 use Rattle.varisat.specs.Summaries.{Summary, IsKept, StandsFor, spaces, spaces_of, list_tables}
-use Rattle.varisat.proofs.AcceptLoad.{map-map}
+use Rattle.varisat.proofs.SpacesAgree.{map-map}
 use Rattle.varisat.proofs.CallStates.{ledger-is, none-more}
 use Rattle.varisat.proofs.VerdictAnswers.{right-false, right-core, core-answer}
 use Rattle.varisat.proofs.Carried.{carry-at, carry-sign}
@@ -77,7 +79,7 @@ first-kept t c e r n s d = record {
   working = λ l h. absurd (subst (λ (x : AssumptionParts). l ∈ x.working) s h);
 }
 
-pub first-spaces : (s : View) → search_of s ≡ first_search → length s.values ≡ 0 → SpacesFit (spaces_of no_variables s no_assumptions verdict.Unknown) empty_state
+pub first-spaces : (s : View) → search_of s ≡ first_search → length s.values ≡ 0 → SpacesFit (spaces_of no_variables None s no_assumptions verdict.Unknown) empty_state
 first-spaces s e n =
     let f = first_stands (search_of s) e in (
       record { identity = λ x. None; global = λ i. None; forced = λ i. None },
@@ -111,6 +113,7 @@ first-spaces s e n =
         shown = λ o x h. refl;
         plain = λ o. record { all = λ i h. absurd (omega (arith, h)); only = λ x i e. absurd (let z : None ≡ Some i = e in cc) };
         told = record { accepted = refl; spoken = tt; stays = λ e. tt };
+        checked = λ n held led. tt;
       },
     )
   where
@@ -148,8 +151,8 @@ new-named g s new u x f least b t =
 -- 3. A verdict.
 
 -- the state of a solver once the search found a verdict or none
-abbrev pub after_steps : Summary → View → AssumptionParts → SatState → Summary
-after_steps g t z after = record g { search = t; assumed = z; sat_state = after }
+abbrev pub after_steps : Summary → Option CheckerState → View → AssumptionParts → SatState → Summary
+after_steps g checker t z after = record g { checker = checker; search = t; assumed = z; sat_state = after }
 
 -- So many steps of the search with the lines found a verdict or none, left the view and some of the assumptions, and a core was
 -- told over names.
@@ -165,18 +168,19 @@ pub record StepsMade (g : Summary) (t : View) (y z : AssumptionParts) (after : S
   pub named : after ≡ verdict.UnsatUnderAssumptions → z.user_core ≡ map (carry (chain (at g.tables.solvers.backward) (at g.tables.users.backward))) y.failed_core
 
 -- the spaces that steps leave are those of the solver afterwards
-left-spaces : (g : Summary) (s : State) (t : View) (y z : AssumptionParts) (after : SatState) {n : ℕ} {lines : List Line} (v : StepsMade g t y z after n lines) → SpacesFit (record (spaces g) { search = search_of t; outcome = outcome_of t y.failed_core after; model = (spaces (after_steps g t z after)).model; working = y.working; core = z.user_core }) s → SpacesFit (spaces (after_steps g t z after)) s
-left-spaces g s t y z after v f =
+left-spaces : (g : Summary) (checker : Option CheckerState) (s : State) (t : View) (y z : AssumptionParts) (after : SatState) {n : ℕ} {lines : List Line} (v : StepsMade g t y z after n lines) → SpacesFit (record (spaces g) { search = search_of t; outcome = outcome_of t y.failed_core after; model = (spaces (after_steps g checker t z after)).model; working = y.working; core = z.user_core; checker = checker }) s → SpacesFit (spaces (after_steps g checker t z after)) s
+left-spaces g checker s t y z after v f =
     let (w, k) = f in
-    let p = record (spaces g) { search = search_of t; outcome = outcome_of t y.failed_core after; model = (spaces (after_steps g t z after)).model; working = y.working; core = z.user_core } in
-    spaces-same (record p { var_count = length t.values }) (spaces (after_steps g t z after)) s (record {
-      maps = maps-alike (record p { var_count = length t.values }) (spaces (after_steps g t z after)) refl (λ x. refl) (λ a e x. refl);
+    let p = record (spaces g) { search = search_of t; outcome = outcome_of t y.failed_core after; model = (spaces (after_steps g checker t z after)).model; working = y.working; core = z.user_core; checker = checker } in
+    spaces-same (record p { var_count = length t.values }) (spaces (after_steps g checker t z after)) s (record {
+      maps = maps-alike (record p { var_count = length t.values }) (spaces (after_steps g checker t z after)) refl (λ x. refl) (λ a e x. refl);
       assumptions = ap (λ (x : AssumptionParts). x.user) v.rest ∙ v.assumes.user;
       core = refl;
       working = ap (λ (x : AssumptionParts). x.working) v.rest;
       search = refl;
       outcome = ap (λ (x : AssumptionParts). outcome_of t x.failed_core after) v.rest;
       var_count = refl;
+      checker = refl;
     }) (w, recount w p (length g.search.values) (length t.values) s v.same_count k)
 
 -- the names of the solver variables of a core, carried to identities, are what the core is carried to
@@ -220,18 +224,22 @@ plain-core w p s k shown lines found told e =
 
 -- what the search is as steps begin
 abbrev searching : TracerState → View → AssumptionParts → State → Summary
-searching p search assumed s = record { tables = p.tables; opened = None; search = search; assumed = assumed; sat_state = verdict.Unknown; ledger = s.ledger }
+searching p search assumed s = record { tables = p.tables; opened = None; checker = p.proof.checker; search = search; assumed = assumed; sat_state = verdict.Unknown; ledger = s.ledger }
 
 no-literal : (core : List Literal) → UnsatUnderAssumptions core ≡ UnsatUnderAssumptions [] → core ≡ []
 no-literal core e = cc
 
+-- what the checker took
+checked-lines : (p q : TracerState) (es : List Entry) → IsCheckedIf p.proof.checker (told_as (global_literal p.tables) (es ++ [])) q.proof.checker → IsCheckedIf p.proof.checker (told_as (global_literal p.tables) es) q.proof.checker
+checked-lines p q es c = subst (λ xs. IsCheckedIf p.proof.checker (told_as (global_literal p.tables) xs) q.proof.checker) (append-nil es) c
+
 -- what the state is then
-pub comes-made : (p q : TracerState) (search : View) (assumed : AssumptionParts) (s : State) (t : View) (y z : AssumptionParts) (after : SatState) (n : ℕ) (lines : List Line) → SpacesFit (spaces_of p.tables search assumed verdict.Unknown) s → StepsMade (searching p search assumed s) t y z after n lines → TakesStep TakesGlobally p lines (outcome_of t y.failed_core after) q → ComesTo n s p.proof q.proof (spaces_of p.tables t z after)
+pub comes-made : (p q : TracerState) (search : View) (assumed : AssumptionParts) (s : State) (t : View) (y z : AssumptionParts) (after : SatState) (n : ℕ) (lines : List Line) → SpacesFit (spaces_of p.tables p.proof.checker search assumed verdict.Unknown) s → StepsMade (searching p search assumed s) t y z after n lines → TakesStep TakesGlobally p lines (outcome_of t y.failed_core after) q → ComesTo n s p.proof q.proof (spaces_of p.tables q.proof.checker t z after)
 comes-made p q search assumed s t y z verdict.Unknown n lines (w, k) v takes =
     let g = searching p search assumed s in
     let long = view-long t v.well in
     let told = told-with w (spaces g) s lines in
-    let links = went-on w (spaces g) s k refl (search_of t) outcome.Unknown n lines v.steps long v.in_use assumed y refl v.assumes (spaces (after_steps g t z verdict.Unknown)).model z.user_core refl in
+    let links = went-on w (spaces g) s k refl (search_of t) outcome.Unknown n lines v.steps long v.in_use assumed y refl v.assumes q.proof.checker (spaces (after_steps g q.proof.checker t z verdict.Unknown)).model z.user_core (checked-lines p q (written lines) takes.told.checked) refl in
     record {
       verdict = Unknown;
       told = told;
@@ -239,14 +247,14 @@ comes-made p q search assumed s t y z verdict.Unknown n lines (w, k) v takes =
       adds = λ e. steps-add w (spaces g) s k refl (search_of t) outcome.Unknown n lines v.steps long v.in_use refl;
       conflict = λ u e. let z : Unknown ≡ UnsatUnderAssumptions [] = e in absurd cc;
       proof = proof-told p q (written lines ++ []) s.ever_hidden s.told told takes (λ shown. plain-with w (spaces g) s k shown lines);
-      fits = left-spaces g (retold told (with_verdict Unknown s)) t y z verdict.Unknown v (w, links);
+      fits = left-spaces g q.proof.checker (retold told (with_verdict Unknown s)) t y z verdict.Unknown v (w, links);
     }
 comes-made p q search assumed s t y z verdict.Sat n lines (w, k) v takes =
     let g = searching p search assumed s in
     let long = view-long t v.well in
     let told = told-with w (spaces g) s lines in
     let a = found w (spaces g) s k refl (search_of t) (assignment_of t) n lines v.steps long v.in_use in
-    let links = sat-found w (spaces g) s k refl (search_of t) (assignment_of t) n lines v.steps long v.in_use assumed y refl v.assumes z.user_core in
+    let links = sat-found w (spaces g) s k refl (search_of t) (assignment_of t) n lines v.steps long v.in_use assumed y refl v.assumes z.user_core q.proof.checker (checked-lines p q (written lines) takes.told.checked) in
     record {
       verdict = Sat a;
       told = told;
@@ -254,13 +262,13 @@ comes-made p q search assumed s t y z verdict.Sat n lines (w, k) v takes =
       adds = λ e. absurd (let z : Sat a ≡ Unknown = e in cc);
       conflict = λ u e. let z : Sat a ≡ UnsatUnderAssumptions [] = e in absurd cc;
       proof = proof-told p q (written lines ++ []) s.ever_hidden s.told told takes (λ shown. plain-with w (spaces g) s k shown lines);
-      fits = left-spaces g (retold told (with_verdict (Sat a) s)) t y z verdict.Sat v (w, links);
+      fits = left-spaces g q.proof.checker (retold told (with_verdict (Sat a) s)) t y z verdict.Sat v (w, links);
     }
 comes-made p q search assumed s t y z verdict.Unsat n lines (w, k) v takes =
     let g = searching p search assumed s in
     let long = view-long t v.well in
     let told = told-with w (spaces g) s lines in
-    let links = unsat-found w (spaces g) s k refl (search_of t) outcome.Unsat n lines v.steps long v.in_use assumed y refl v.assumes (spaces (after_steps g t z verdict.Unsat)).model z.user_core refl in
+    let links = unsat-found w (spaces g) s k refl (search_of t) outcome.Unsat n lines v.steps long v.in_use assumed y refl v.assumes q.proof.checker (spaces (after_steps g q.proof.checker t z verdict.Unsat)).model z.user_core refl in
     record {
       verdict = Unsat;
       told = told;
@@ -268,7 +276,7 @@ comes-made p q search assumed s t y z verdict.Unsat n lines (w, k) v takes =
       adds = λ e. absurd (let z : Unsat ≡ Unknown = e in cc);
       conflict = λ u e. let z : Unsat ≡ UnsatUnderAssumptions [] = e in absurd cc;
       proof = proof-told p q (written lines ++ []) s.ever_hidden s.told told takes (λ shown. plain-with w (spaces g) s k shown lines);
-      fits = left-spaces g (retold told (with_verdict Unsat s)) t y z verdict.Unsat v (w, links);
+      fits = left-spaces g q.proof.checker (retold told (with_verdict Unsat s)) t y z verdict.Unsat v (w, links);
     }
 comes-made p q search assumed s t y z verdict.UnsatUnderAssumptions n lines (w, k) v takes =
     let g = searching p search assumed s in
@@ -276,15 +284,15 @@ comes-made p q search assumed s t y z verdict.UnsatUnderAssumptions n lines (w, 
     let (named, same) = names-carried g s w k v.working y.failed_core z.user_core (v.assumes.core y.failed_core refl).0 (v.named refl) in
     let core = map (carry s.naming.names) z.user_core in
     let told = told-with w (spaces g) s lines ++ Fails core ∷ [] in
-    let links = core-found w (spaces g) s k refl (search_of t) (outcome.UnsatUnder y.failed_core) n lines v.steps long v.in_use assumed y refl v.assumes (spaces (after_steps g t z verdict.UnsatUnderAssumptions)).model y.failed_core z.user_core refl named same in
+    let links = core-found w (spaces g) s k refl (search_of t) (outcome.UnsatUnder y.failed_core) n lines v.steps long v.in_use assumed y refl v.assumes q.proof.checker (spaces (after_steps g q.proof.checker t z verdict.UnsatUnderAssumptions)).model y.failed_core z.user_core takes.told.checked refl named same in
     record {
       verdict = UnsatUnderAssumptions core;
       told = told;
-      more = core-tells w (spaces g) s k refl (search_of t) (outcome.UnsatUnder y.failed_core) n lines v.steps long v.in_use assumed y refl v.assumes y.failed_core z.user_core refl same;
+      more = core-tells w (spaces g) s k refl (search_of t) (outcome.UnsatUnder y.failed_core) n lines v.steps long v.in_use assumed y refl v.assumes q.proof.checker y.failed_core z.user_core refl same;
       adds = λ e. absurd (let z : UnsatUnderAssumptions core ≡ Unknown = e in cc);
       conflict = λ u e. core-refutes w (spaces g) s k refl (search_of t) (outcome.UnsatUnder y.failed_core) n lines v.steps long v.in_use y.failed_core z.user_core refl same (no-literal core e);
       proof = proof-told p q (written lines ++ Fails y.failed_core ∷ []) s.ever_hidden s.told told takes (λ shown. plain-core w (spaces g) s k shown lines y.failed_core core same);
-      fits = left-spaces g (retold told (with_verdict (UnsatUnderAssumptions core) s)) t y z verdict.UnsatUnderAssumptions v (w, links);
+      fits = left-spaces g q.proof.checker (retold told (with_verdict (UnsatUnderAssumptions core) s)) t y z verdict.UnsatUnderAssumptions v (w, links);
     }
 
 -- few steps were made since the last change

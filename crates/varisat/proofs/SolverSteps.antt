@@ -11,6 +11,7 @@ use Rattle.varisat_theory.proofs.StepStands.{added_append}
 use Rattle.varisat_theory.proofs.StepParts.{parts_join}
 use Rattle.varisat_trace.specs.Traces.{TakesLines}
 use Rattle.varisat_trace.proofs.Traced.{step-lines}
+use Rattle.varisat_proof.specs.Calls.{CheckerState}
 use Rattle.varisat_proof.specs.Proving.{ProofParts}
 use Rattle.varisat_tracer.specs.Told.{told-none, told-more}
 use Rattle.varisat_tracer.specs.Tracing.{TracerState, TakesGlobally, CanTell}
@@ -53,8 +54,8 @@ use Rattle.varisat.proofs.VerdictAnswers.{right-false}
 -- 1. In turn.
 
 -- as long as no verdict is known the state has none
-pub unknown-undecided : {A : Type 0} (m : Tables) (x : Context A) (t : State) → SpacesFit (undecided_spaces m x) t → t.verdict ≡ Unknown
-unknown-undecided m x t (w, k) = is-unknown w.identity (undecided_spaces m x).model t.verdict k.verdict
+pub unknown-undecided : {A : Type 0} (m : Tables) (checker : Option CheckerState) (x : Context A) (t : State) → SpacesFit (undecided_spaces m checker x) t → t.verdict ≡ Unknown
+unknown-undecided m checker x t (w, k) = is-unknown w.identity (undecided_spaces m checker x).model t.verdict k.verdict
 
 -- nothing happened
 pub comes-nowhere : (n : ℕ) (s : State) (p : ProofParts) (after : Spaces) → n ≡ 0 → SpacesFit after s → ComesTo n s p p after
@@ -111,11 +112,11 @@ some-through p q r (first, h) (second, k) = (first ++ second, told-more p q r fi
 -- 2. Parts of a step.
 
 -- a part of a step by lines
-pub part-comes : {A : Type 0} (p q : TracerState) (x y : Context A) (lines : List Line) → IsKept p.tables x → Proves 0 (search_of (view x)) (search_of (view y)) lines → TakesLines TakesGlobally p lines q → IsReady y → length y.assignment.current ≡ length x.assignment.current → SameDecidable (view x) x.vsids (view y) y.vsids → y.assumptions ≡ x.assumptions → ComesOn 0 (undecided_spaces p.tables x) (undecided_spaces q.tables y) p.proof q.proof
+pub part-comes : {A : Type 0} (p q : TracerState) (x y : Context A) (lines : List Line) → IsKept p.tables x → Proves 0 (search_of (view x)) (search_of (view y)) lines → TakesLines TakesGlobally p lines q → IsReady y → length y.assignment.current ≡ length x.assignment.current → SameDecidable (view x) x.vsids (view y) y.vsids → y.assumptions ≡ x.assumptions → ComesOn 0 (undecided_spaces p.tables p.proof.checker x) (undecided_spaces q.tables q.proof.checker y) p.proof q.proof
 part-comes p q x y lines kept proves takes ready count decidable same s fit =
     let used = in-use-all p.tables (view y) y.vsids (same-in-use p.tables (view x) x.vsids (view y) y.vsids kept.decidable decidable) ready.decidable ready.well in
-    subst (λ (m : Tables). ComesTo 0 s p.proof q.proof (undecided_spaces m y)) (sym takes.tables)
-    (subst (λ (a : AssumptionParts). ComesTo 0 s p.proof q.proof (spaces_of p.tables (view y) a verdict.Unknown)) (sym same)
+    subst (λ (m : Tables). ComesTo 0 s p.proof q.proof (undecided_spaces m q.proof.checker y)) (sym takes.tables)
+    (subst (λ (a : AssumptionParts). ComesTo 0 s p.proof q.proof (spaces_of p.tables q.proof.checker (view y) a verdict.Unknown)) (sym same)
     (comes-made p q (view x) x.assumptions s (view y) x.assumptions x.assumptions verdict.Unknown 0 lines fit
     (record {
       unknown = refl;
@@ -174,17 +175,17 @@ begin-tables p q x z b = let (lines, k, (r, takes)) = b.reduces.proves in takes.
 pub begin-tells : {A : Type 0} (p q : TracerState) (x z : Context A) → BeginsStep (λ lines. TakesLines TakesGlobally p lines q) x z → CanTell p.proof → CanTell q.proof
 begin-tells p q x z b t = let (lines, k, (r, takes)) = b.reduces.proves in tells-on p q _ takes t
 
-pub begin-comes : {A : Type 0} (p q : TracerState) (x z : Context A) → IsKept p.tables x → BeginsStep (λ lines. TakesLines TakesGlobally p lines q) x z → ComesOn 0 (undecided_spaces p.tables x) (undecided_spaces q.tables z) p.proof q.proof
+pub begin-comes : {A : Type 0} (p q : TracerState) (x z : Context A) → IsKept p.tables x → BeginsStep (λ lines. TakesLines TakesGlobally p lines q) x z → ComesOn 0 (undecided_spaces p.tables p.proof.checker x) (undecided_spaces q.tables q.proof.checker z) p.proof q.proof
 begin-comes p q x z kept b =
     let (lines, proves, takes) = begin-proves x z b kept.ready in
     part-comes p q x z lines kept proves takes b.reduces.ready (begin-count x z b kept.ready) (begin-decidable x z b) (begin-same x z b)
 
 -- a conflict step, whose core is kept over names
-pub named-comes : {A : Type 0} (p q : TracerState) (x y : Context A) → IsKept p.tables x → MakesNamedStep p q x y → ComesOn 1 (undecided_spaces p.tables x) (spaces_with q.tables y) p.proof q.proof
+pub named-comes : {A : Type 0} (p q : TracerState) (x y : Context A) → IsKept p.tables x → MakesNamedStep p q x y → ComesOn 1 (undecided_spaces p.tables p.proof.checker x) (spaces_with q.tables q.proof.checker y) p.proof q.proof
 named-comes p q x y kept f s fit =
     let (lines, steps, takes) = f.steps in
     let v = outcome_of (view y) f.parts.failed_core y.solver_state.sat_state in
-    subst (λ (m : Tables). ComesTo 1 s p.proof q.proof (spaces_with m y)) (sym f.tables)
+    subst (λ (m : Tables). ComesTo 1 s p.proof q.proof (spaces_with m q.proof.checker y)) (sym f.tables)
     (comes-made p q (view x) x.assumptions s (view y) f.parts y.assumptions y.solver_state.sat_state 1 lines fit
     (record {
       unknown = refl;
@@ -200,28 +201,28 @@ named-comes p q x y kept f s fit =
     takes)
 
 -- without a verdict it goes on from there
-pub comes-undecided : {A : Type 0} (n : ℕ) (before : Spaces) (m : Tables) (y : Context A) (p q : ProofParts) → y.solver_state.sat_state ≡ verdict.Unknown → ComesOn n before (spaces_with m y) p q → ComesOn n before (undecided_spaces m y) p q
-comes-undecided n before m y p q e on s fit = subst (λ b. ComesTo n s p q (spaces_of m (view y) y.assumptions b)) e (on s fit)
+pub comes-undecided : {A : Type 0} (n : ℕ) (before : Spaces) (m : Tables) (y : Context A) (p q : ProofParts) → y.solver_state.sat_state ≡ verdict.Unknown → ComesOn n before (spaces_with m q.checker y) p q → ComesOn n before (undecided_spaces m q.checker y) p q
+comes-undecided n before m y p q e on s fit = subst (λ b. ComesTo n s p q (spaces_of m q.checker (view y) y.assumptions b)) e (on s fit)
 
-pub comes-decided : {A : Type 0} (n : ℕ) (before : Spaces) (m : Tables) (y : Context A) (p q : ProofParts) → y.solver_state.sat_state ≡ verdict.Unknown → ComesOn n before (undecided_spaces m y) p q → ComesOn n before (spaces_with m y) p q
-comes-decided n before m y p q e on s fit = subst (λ b. ComesTo n s p q (spaces_of m (view y) y.assumptions b)) (sym e) (on s fit)
+pub comes-decided : {A : Type 0} (n : ℕ) (before : Spaces) (m : Tables) (y : Context A) (p q : ProofParts) → y.solver_state.sat_state ≡ verdict.Unknown → ComesOn n before (undecided_spaces m q.checker y) p q → ComesOn n before (spaces_with m q.checker y) p q
+comes-decided n before m y p q e on s fit = subst (λ b. ComesTo n s p q (spaces_of m q.checker (view y) y.assumptions b)) (sym e) (on s fit)
 
 -- 3. What `solve` leads to.
 
-module _ {A : Type 0} {n : ℕ} {s : State} {p q : ProofParts} (m : Tables) (y : Context A) (c : ComesTo n s p q (spaces_with m y)) where
+module _ {A : Type 0} {n : ℕ} {s : State} {p q : ProofParts} (m : Tables) (y : Context A) (c : ComesTo n s p q (spaces_with m q.checker y)) where
   pub comes-answer : answer_of c.verdict ≡ answer_at y.solver_state.sat_state
-  comes-answer = let (w, k) = c.fits in answers-fit w.identity (spaces_with m y).model (view y) y.assumptions.failed_core y.solver_state.sat_state c.verdict k.verdict
+  comes-answer = let (w, k) = c.fits in answers-fit w.identity (spaces_with m q.checker y).model (view y) y.assumptions.failed_core y.solver_state.sat_state c.verdict k.verdict
 
   comes-right : HasRightVerdict (with_verdict c.verdict s)
   comes-right = let (w, k) = c.fits in k.right
 
   comes-refuted : c.verdict ≡ Unsat → ToldConflict c.told
-  comes-refuted e = let (w, k) = c.fits in unsat-told w.identity (spaces_with m y).model (translation w (spaces_with m y) c.told) k.holds.held (spaces_with m y).outcome c.verdict e k.verdict k.holds.told
+  comes-refuted e = let (w, k) = c.fits in unsat-told w.identity (spaces_with m q.checker y).model (translation w (spaces_with m q.checker y) c.told) k.holds.held (spaces_with m q.checker y).outcome c.verdict e k.verdict k.holds.told
 
   pub comes-satisfiable : y.solver_state.sat_state ≡ verdict.Sat → IsSatisfiableWith s.clauses s.assumptions
   comes-satisfiable e =
       let (w, k) = c.fits in
-      let (a, v, f) = is-sat w.identity (spaces_with m y).model (assignment_of (view y)) c.verdict (subst (λ o. VerdictFits w.identity (spaces_with m y).model (outcome_of (view y) y.assumptions.failed_core o) c.verdict) e k.verdict) in
+      let (a, v, f) = is-sat w.identity (spaces_with m q.checker y).model (assignment_of (view y)) c.verdict (subst (λ o. VerdictFits w.identity (spaces_with m q.checker y).model (outcome_of (view y) y.assumptions.failed_core o) c.verdict) e k.verdict) in
       let r = subst (IsRight s.clauses s.assumptions s.counted) v k.right in
       (a, r.0, r.1)
 
@@ -236,12 +237,12 @@ after-solve told v n proof s = record s { verdict = v; ledger = record s.ledger 
 pub flags-after : (s : State) (told : List Entry) (v : Verdict) (n : ℕ) (now : Option OpenProof) → FlagsFit s → GoesOnWriting s.proof now → FlagsFit (after-solve told v n now s)
 flags-after s told v n now f g = record { clauses = f.clauses; assumptions = f.assumptions; counted = f.counted; unassumed = λ o. f.unassumed (open-before s.proof now g o) }
 
-module _ {A : Type 0} {k : ℕ} {s : State} {p q : ProofParts} (m : Tables) (y : Context A) (c : ComesTo k s p q (spaces_with m y)) (n : ℕ) (now : Option OpenProof) where
-  pub comes-fits : SpacesFit (spaces_with m y) (after-solve c.told c.verdict n now s)
+module _ {A : Type 0} {k : ℕ} {s : State} {p q : ProofParts} (m : Tables) (y : Context A) (c : ComesTo k s p q (spaces_with m q.checker y)) (n : ℕ) (now : Option OpenProof) where
+  pub comes-fits : SpacesFit (spaces_with m q.checker y) (after-solve c.told c.verdict n now s)
   comes-fits =
       let (w, l) = c.fits in
       let u = after-solve c.told c.verdict n now s in
-      (w, ledger-free w (spaces_with m y) (record s { verdict = c.verdict; told = c.told; proof = now }) u.ledger (proof-free w (spaces_with m y) (retold c.told (with_verdict c.verdict s)) now l))
+      (w, ledger-free w (spaces_with m q.checker y) (record s { verdict = c.verdict; told = c.told; proof = now }) u.ledger (proof-free w (spaces_with m q.checker y) (retold c.told (with_verdict c.verdict s)) now l))
 
   pub comes-verdict : (b : Bool) → IsValid s → s.verdict ≡ Unknown → CountsSteps (length s.counted) s.ledger.settings.max_steps s.ledger.since s.ledger.steps n (Ok b) → answer_at y.solver_state.sat_state ≡ Some b → k ≡ n - s.ledger.steps → GoesOnWriting s.proof now → TellsVerdict s b (after-solve c.told c.verdict n now s)
   comes-verdict b valid was counts answer made grows = record {

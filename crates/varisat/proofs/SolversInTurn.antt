@@ -27,6 +27,7 @@ use Rattle.varisat_names.specs.declared.variables.data.VarData.{VarData}
 use Rattle.varisat_names.specs.Variables.{Tables, AreLinked}
 use Rattle.varisat_names.proofs.Maps.{updated-other, chain-some, chain-through}
 use Rattle.varisat_names.proofs.VarMap.{at-inside}
+use Rattle.varisat_proof.specs.Calls.{CheckerState}
 use Rattle.varisat.specs.States.{State, join_one, join_counted}
 use Rattle.varisat.specs.Names.{Naming, name_one, name_all, through_names}
 use Rattle.varisat.specs.Calls.{IsPastLimit, with_naming}
@@ -104,8 +105,8 @@ over-carried f (l ∷ ls) ms (v, rest, e, q, r) =
 
 -- 3. One name.
 
-abbrev pub spaces_at : {A : Type 0} → Searched A → SatState → Spaces
-spaces_at x sat = spaces_of x.tables (view x.context) x.context.assumptions sat
+abbrev pub spaces_at : {A : Type 0} → Option CheckerState → Searched A → SatState → Spaces
+spaces_at checker x sat = spaces_of x.tables checker (view x.context) x.context.assumptions sat
 
 -- the state in which the names of the list are in use, and their identities counted
 abbrev pub with_names : List Literal → State → State
@@ -134,9 +135,9 @@ module _ {A : Type 0} (x : ℕ) (old new : Searched A) (v : ℕ) (none : old.con
   case-backward (CameBack b left t n k) w y h = taken-stays old.tables new.tables x v t w y h
 
 -- the solver stands for the state in which the identity is counted
-module _ {A : Type 0} (l : Literal) (x : ℕ) (old new : Searched A) (v : ℕ) (n : State) (none : old.context.solver_state.sat_state ≢ verdict.Sat) (leads : at old.tables.users.forward (variable_of l) ≡ Some x) (live : (kept_at old.tables.kept x).deleted ≡ false) (before : length old.context.assignment.current ≡ length old.tables.solvers.backward) (after : HasVariables new) where
+module _ {A : Type 0} (checker : Option CheckerState) (l : Literal) (x : ℕ) (old new : Searched A) (v : ℕ) (n : State) (none : old.context.solver_state.sat_state ≢ verdict.Sat) (leads : at old.tables.users.forward (variable_of l) ≡ Some x) (live : (kept_at old.tables.kept x).deleted ≡ false) (before : length old.context.assignment.current ≡ length old.tables.solvers.backward) (after : HasVariables new) where
   abbrev summary : Searched A → Summary
-  summary y = record { tables = y.tables; opened = None; search = view y.context; assumed = y.context.assumptions; sat_state = old.context.solver_state.sat_state; ledger = n.ledger }
+  summary y = record { tables = y.tables; opened = None; checker = checker; search = view y.context; assumed = y.context.assumptions; sat_state = old.context.solver_state.sat_state; ledger = n.ledger }
 
   abbrev counting : State
   counting = count (join_counted n.counted (map variable_of (map (through_names n.naming) (l ∷ [])))) n
@@ -147,8 +148,8 @@ module _ {A : Type 0} (l : Literal) (x : ℕ) (old new : Searched A) (v : ℕ) (
   counted-at : (y : Searched A) → at y.tables.users.forward (variable_of l) ≡ Some x → SpacesFit (spaces (summary y)) n → SpacesFit (spaces (summary y)) counting
   counted-at y e f = counted-spaces (summary y) n (l ∷ []) f (λ k. elim [ inl q ↦ (x, ap (λ j. at y.tables.users.forward (variable_of j)) q ∙ e) | inr z ↦ absurd z ])
 
-  case-spaces : HasSolverVariable x old new v → SpacesFit (spaces_at old old.context.solver_state.sat_state) n → SpacesFit (spaces_at new old.context.solver_state.sat_state) counting
-  case-spaces (HadOne e q) f = subst (λ (y : Searched A). SpacesFit (spaces_at y old.context.solver_state.sat_state) counting) (sym q) (counted-at old leads f)
+  case-spaces : HasSolverVariable x old new v → SpacesFit (spaces_at checker old old.context.solver_state.sat_state) n → SpacesFit (spaces_at checker new old.context.solver_state.sat_state) counting
+  case-spaces (HadOne e q) f = subst (λ (y : Searched A). SpacesFit (spaces_at checker y old.context.solver_state.sat_state) counting) (sym q) (counted-at old leads f)
   case-spaces (TookOne left t unit k) f =
       let (w, links) = counted-at old leads f in
       let (i, is) = links.names.live (variable_of l) x leads in
@@ -159,7 +160,7 @@ module _ {A : Type 0} (l : Literal) (x : ℕ) (old new : Searched A) (v : ℕ) (
       (λ same. let j = taken.1.few in omega (arith, j, after.count, same, before))
       (λ full. let j = solvers-few taken.0 (spaces (with_tables new.tables (summary old))) counting (length new.tables.solvers.backward) taken.1 full in omega (arith, j, after.count))
       (taken-full old.tables new.tables x v t) in
-      subst (λ (a : AssumptionParts). SpacesFit (spaces_of new.tables (view new.context) a old.context.solver_state.sat_state) counting) (sym k.assumptions)
+      subst (λ (a : AssumptionParts). SpacesFit (spaces_of new.tables checker (view new.context) a old.context.solver_state.sat_state) counting) (sym k.assumptions)
       (raised (with_tables new.tables (summary old)) counting (view new.context) taken nothing-told k.seen few)
   case-spaces (CameBack b left t unit k) f =
       let back = returned (summary old) n new.tables x v b (view new.context) new.context.assumptions (record {
@@ -185,14 +186,14 @@ module _ {A : Type 0} (l : Literal) (old new : Searched A) (v : ℕ) (none : old
   pub turn-verdict : KeepsVerdict old.context new.context
   turn-verdict = case-verdict h.global (record old { tables = h.mid }) new v none h.solver
 
-  pub turn-spaces : (s : State) → length old.context.assignment.current ≡ length old.tables.solvers.backward → SpacesFit (spaces_at old old.context.solver_state.sat_state) s → SpacesFit (spaces_at new new.context.solver_state.sat_state) (with_names (l ∷ []) s)
-  turn-spaces s before f =
+  pub turn-spaces : (checker : Option CheckerState) (s : State) → length old.context.assignment.current ≡ length old.tables.solvers.backward → SpacesFit (spaces_at checker old old.context.solver_state.sat_state) s → SpacesFit (spaces_at checker new new.context.solver_state.sat_state) (with_names (l ∷ []) s)
+  turn-spaces checker s before f =
       let n = with_naming (name_one (variable_of l) s.naming) s in
-      let first : Summary = record { tables = old.tables; opened = None; search = view old.context; assumed = old.context.assumptions; sat_state = old.context.solver_state.sat_state; ledger = s.ledger } in
+      let first : Summary = record { tables = old.tables; opened = None; checker = checker; search = view old.context; assumed = old.context.assumptions; sat_state = old.context.solver_state.sat_state; ledger = s.ledger } in
       let named = named-one first s h.mid (variable_of l) f h.named in
       let same = ap (λ (b : BiMap). length b.backward) (one-keeps (variable_of l) old.tables h.mid h.named).solvers in
-      subst (λ y. SpacesFit (spaces_at new y) (with_names (l ∷ []) s)) (sym (ap (λ (x : SolverState). x.sat_state) turn-verdict.state))
-      (case-spaces l h.global (record old { tables = h.mid }) new v n none h.leads h.live (before ∙ sym same) h.variables h.solver named)
+      subst (λ y. SpacesFit (spaces_at checker new y) (with_names (l ∷ []) s)) (sym (ap (λ (x : SolverState). x.sat_state) turn-verdict.state))
+      (case-spaces checker l h.global (record old { tables = h.mid }) new v n none h.leads h.live (before ∙ sym same) h.variables h.solver named)
 
   pub turn-kept : AreLinked old.tables → IsKept old.tables old.context → IsKept new.tables new.context
   turn-kept linked k =
@@ -224,11 +225,11 @@ module _ {A : Type 0} (l : Literal) (old new : Searched A) (v : ℕ) (none : old
 pub record HaveSolvers {A : Type 0} (d : List Literal) (old new : Searched A) : Type 0 where
   pub kept : IsKept new.tables new.context
   pub verdict : KeepsVerdict old.context new.context
-  pub stands : (s : State) → SpacesFit (spaces_at old old.context.solver_state.sat_state) s → SpacesFit (spaces_at new new.context.solver_state.sat_state) (with_names d s)
+  pub stands : (checker : Option CheckerState) (s : State) → SpacesFit (spaces_at checker old old.context.solver_state.sat_state) s → SpacesFit (spaces_at checker new new.context.solver_state.sat_state) (with_names d s)
 
 pub have-solvers : {A : Type 0} (d : List Literal) (old new : Searched A) → old.context.solver_state.sat_state ≢ verdict.Sat → AreLinked old.tables → IsKept old.tables old.context → HaveSolversInTurn d old new → HaveSolvers d old new
 have-solvers {A = A} [] old new none linked k e =
-    subst (λ (y : Searched A). HaveSolvers [] old y) (sym e) (record { kept = k; verdict = record { state = refl; assumptions = refl }; stands = λ s f. f })
+    subst (λ (y : Searched A). HaveSolvers [] old y) (sym e) (record { kept = k; verdict = record { state = refl; assumptions = refl }; stands = λ checker s f. f })
 have-solvers (l ∷ d) old new none linked k (mid, v, h, rest) =
     let t = turn-verdict l old mid v none h in
     let sat = ap (λ (x : SolverState). x.sat_state) t.state in
@@ -239,10 +240,10 @@ have-solvers (l ∷ d) old new none linked k (mid, v, h, rest) =
         state = more.verdict.state ∙ ap (λ (x : SolverState). record x { formula_is_empty = new.context.solver_state.formula_is_empty }) t.state;
         assumptions = more.verdict.assumptions ∙ ap (λ (x : AssumptionParts). record x { levels = new.context.assumptions.levels }) t.assumptions;
       };
-      stands = λ s f.
+      stands = λ checker s f.
           let m = name_one (variable_of l) s.naming in
           let all = name_all d m in
-          let first = turn-spaces l old mid v none h s k.count f in
+          let first = turn-spaces l old mid v none h checker s k.count f in
           -- the name keeps its identity as the others come into use
           let users = (case-same h.global (record old { tables = h.mid }) mid v h.solver).0 in
           let here = ap (λ (b : BiMap). at b.forward (variable_of l)) users ∙ h.leads in
@@ -252,8 +253,8 @@ have-solvers (l ∷ d) old new none linked k (mid, v, h, rest) =
           let w = first.1.watermark in
           let stays : all.names (variable_of l) ≡ Some i = all-stay d (variable_of l) i m (omega (arith, inside, w)) named in
           let same : variable_of (through_names m l) ≡ variable_of (through_names all l) = carry-at m.names l i named ∙ sym (carry-at all.names l i stays) in
-          subst (λ j. SpacesFit (spaces_at new new.context.solver_state.sat_state) (count (join_counted (join_one j s.counted) (map variable_of (map (through_names all) d))) (with_naming all s))) same
-          (more.stands (with_names (l ∷ []) s) first);
+          subst (λ j. SpacesFit (spaces_at checker new new.context.solver_state.sat_state) (count (join_counted (join_one j s.counted) (map variable_of (map (through_names all) d))) (with_naming all s))) same
+          (more.stands checker (with_names (l ∷ []) s) first);
     }
 
 -- 5. Before and after.

@@ -59,6 +59,10 @@ pub map-same : (f g : Literal → Literal) (c : Clause) → ((l : Literal) → l
 map-same f g [] e = refl
 map-same f g (l ∷ c) e = ap (λ x. x ∷ map f c) (e l (inl refl)) ∙ ap (λ x. g l ∷ x) (map-same f g c (λ m h. e m (inr h)))
 
+pub map-map : (f g h : Literal → Literal) (c : Clause) → ((l : Literal) → l ∈ c → f (g l) ≡ h l) → map f (map g c) ≡ map h c
+map-map f g h [] e = refl
+map-map f g h (l ∷ c) e = ap (λ x. x ∷ map f (map g c)) (e l (inl refl)) ∙ ap (λ x. h l ∷ x) (map-map f g h c (λ m i. e m (inr i)))
+
 -- where one map leads, and then another, the same two lead
 chain-alike : (f g f' g' : ℕ → Option ℕ) (u : ℕ) → f' u ≡ f u → ((x : ℕ) → g' x ≡ g x) → chain f' g' u ≡ chain f g u
 chain-alike f g f' g' u a b = ap (λ o. onward o g') a ∙ go (f u)

@@ -1,9 +1,11 @@
 -- What was told as a whole.
-use Rattle.std.proofs.Common.{◌≡◌, ◌∙◌, ℕ, Bool, true, false, Option, Some, List, [], ◌∷◌, inl, refl, subst}
+use Rattle.std.proofs.Common.{◌≡◌, ◌∙◌, ℕ, Bool, true, false, Option, Some, List, [], ◌∷◌, inl, refl, sym, subst}
 use Rattle.varisat_theory.specs.Membership.{◌∈◌, ◌⊆◌}
 use Rattle.varisat_theory.specs.Literals.{Literal, Clause, variable_of}
 use Rattle.varisat_theory.specs.Derivations.{IsDerivation, Refutes, SpeakOf}
-use Rattle.varisat_theory.specs.Journals.{Leads, lines_of}
+use Rattle.varisat_theory.specs.Held.{SameClauses}
+use Rattle.varisat_theory.specs.Renaming.{rename}
+use Rattle.varisat_theory.specs.Journals.{Entry, Accepts, Writes, Assumes, Fails, Leaves, Leads, accepted_of, lines_of}
 use Rattle.varisat_theory.specs.Outcomes.{Outcome}
 use Rattle.varisat_theory.specs.Outcomes as outcome
 use Rattle.varisat_theory.proofs.Lines.{derives_derivation}
@@ -13,9 +15,11 @@ use Rattle.varisat.specs.Calls.{answer_of}
 use Rattle.varisat.specs.Journals.{IsJournal}
 use Rattle.varisat.specs.OpenProofs.{IsOpen, IsWrittenAs, IsWrittenIf}
 use Rattle.varisat.specs.ProofCalls.{HasProof}
-use Rattle.varisat.specs.Spaces.{Translation, IsCounted, HeldFits, VerdictFits, without_core}
+use Rattle.varisat.specs.Carried.{carry}
+use Rattle.varisat.specs.Spaces.{Spaces, Carrying, Links, Translation, IsCounted, HeldFits, VerdictFits, without_core}
 use Rattle.varisat.specs.Summaries.{Summary, spaces, StandsFor}
 use Rattle.varisat_theory.proofs.Spoken.{spoken_wider}
+use Rattle.varisat.proofs.SearchLinks.{relinked}
 use Rattle.varisat.proofs.ToldEntries.{unspoken}
 use Rattle.varisat.proofs.SolverCalls.{told-refuted}
 
@@ -44,12 +48,40 @@ journal-of g s st v =
     }
 
 -- Before anything was accepted no line was told.
+lines-none : (w : Carrying) (p : Spaces) (s : State) → Links w p s → s.clauses ≡ [] → s.counted ≡ [] → lines_of s.told ≡ []
+lines-none w p s k clauses counted =
+    let (held, led) = led-of _ k.holds.held p.outcome k.holds.told in
+    let none : SpeakOf (λ l. ⊥) (lines_of s.told) = spoken_wider (IsCounted s.counted) (λ l. ⊥) (lines_of s.told) (λ l h. subst (λ is. variable_of l ∈ is) counted h) k.told.spoken in
+    unspoken [] s.told held (λ i. false) (λ c h. absurd h) led (k.told.accepted ∙ clauses) none
+
 pub no-lines : (g : Summary) (s : State) → StandsFor g s → g.ledger.valid ≡ true → s.ledger.started ≡ false → lines_of s.told ≡ []
-no-lines g s st v fresh =
-    let (w, k) = st.fits v in
-    let (held, led) = led-of _ k.holds.held (spaces g).outcome k.holds.told in
-    let none : SpeakOf (λ l. ⊥) (lines_of s.told) = spoken_wider (IsCounted s.counted) (λ l. ⊥) (lines_of s.told) (λ l h. subst (λ is. variable_of l ∈ is) ((st.flags v).counted fresh) h) k.told.spoken in
-    unspoken [] s.told held (λ i. false) (λ c h. absurd h) led (k.told.accepted ∙ (st.flags v).clauses fresh) none
+no-lines g s st v fresh = let (w, k) = st.fits v in lines-none w (spaces g) s k ((st.flags v).clauses fresh) ((st.flags v).counted fresh)
+
+-- and nothing is held
+held-none : (es : List Entry) (Q : List Clause) → Leads [] es Q → accepted_of es ≡ [] → lines_of es ≡ [] → Q ≡ []
+held-none [] Q d a e = sym d
+held-none (Accepts c ∷ es) Q d a e = absurd (let z : (c ∷ accepted_of es) ≡ [] = a in cc)
+held-none (Writes line ∷ es) Q d a e = absurd (let z : (line ∷ lines_of es) ≡ [] = e in cc)
+held-none (Assumes b ∷ es) Q (R, q, d) a e = held-none es Q (subst (λ (X : List Clause). Leads X es Q) q d) a e
+held-none (Fails core ∷ es) Q (R, (f, q), d) a e = held-none es Q (subst (λ (X : List Clause). Leads X es Q) q d) a e
+held-none (Leaves v ∷ es) Q (R, q, d) a e = held-none es Q (subst (λ (X : List Clause). Leads X es Q) q d) a e
+
+-- So a checker without clauses may begin then.
+pub checking-begins : (w : Carrying) (p : Spaces) (s : State) → Links w p s → s.clauses ≡ [] → s.counted ≡ [] → Links w (record p { checker = Some (record { clauses = []; spent = false }) }) s
+checking-begins w p s k clauses counted =
+    let lines = lines-none w p s k clauses counted in
+    relinked w p (record p { checker = Some (record { clauses = []; spent = false }) }) s s k (record {
+      solvers = k.solvers;
+      holds = k.holds;
+      assumptions = k.assumptions;
+      working = k.working;
+      verdict = k.verdict;
+      core = k.core;
+      right = k.right;
+      few = k.few;
+      told = k.told;
+      checked = λ n held led. (subst (λ (X : List Clause). SameClauses (rename (carry w.global) X) []) (sym (held-none s.told held led (k.told.accepted ∙ clauses) lines)) refl, refl);
+    })
 
 -- Where a proof is open no assumption is one of a core, so that the answer false comes from the clauses alone.
 pub open-refuted : (g : Summary) (s : State) → StandsFor g s → g.ledger.valid ≡ true → IsOpen s.proof → answer_of s.verdict ≡ Some false → s.verdict ≡ Unsat

@@ -33,7 +33,7 @@ use Rattle.varisat.specs.declared.solver.SolverError.TheVariants.{OutOfMemory, V
 use Rattle.varisat.proofs.AcceptClause.{with_tables, named-one}
 use Rattle.varisat.proofs.CallStates.{Begins}
 use Rattle.varisat.proofs.NamingStates.{crowded-state}
-use Rattle.varisat.proofs.HiddenTables.{marked-assumed, assumed-marked, mode-spaces, hidden-spaces, left-spaces, shown-spaces}
+use Rattle.varisat.proofs.HiddenTables.{marked-assumed, assumed-marked, mode-spaces, hidden-spaces, with_checker, left-spaces, shown-spaces}
 use Rattle.varisat.proofs.ShownInTurn.{HaveShown, all-shown}
 use Rattle.varisat.proofs.VariableChanges.{hidden-unnamed, hidden-keeps, unsat-or-not, turns-stay}
 use Rattle.varisat.proofs.VariablesInUse.{tables-in-use}
@@ -79,31 +79,31 @@ not-hide sampling.Sample n fit e = cc
 not-hide sampling.Witness n fit e = cc
 not-hide sampling.Hide n fit e = absurd fit
 
-pub mode-state : {g : Summary} {s : State} (new : Tables) (u x : ℕ) (m : SamplingMode) (n : Mode) → Begins g s → ModeFits m n → SetsNamedMode u m g.tables x new → SpacesFit (spaces (with_tables new g)) (with_mode u n (name_var named u s))
-mode-state {g} {s} new u x m n b fit c =
-    mode-spaces (with_tables c.mid g) (with_naming (name_one u s.naming) s) new u x m n (named-one g s c.mid u b.fits c.named.named) c.named.leads fit (c.changed (not-hide m n fit))
+pub mode-state : (g : Summary) (s : State) (new : Tables) (u x : ℕ) (m : SamplingMode) (n : Mode) → SpacesFit (spaces g) s → ModeFits m n → SetsNamedMode u m g.tables x new → SpacesFit (spaces (with_tables new g)) (with_mode u n (name_var named u s))
+mode-state g s new u x m n b fit c =
+    mode-spaces (with_tables c.mid g) (with_naming (name_one u s.naming) s) new u x m n (named-one g s c.mid u b c.named.named) c.named.leads fit (c.changed (not-hide m n fit))
 
 -- the name is free, and its variable left or not
-module _ {g : Summary} {s : State} (u : ℕ) (p : ProofParts) (q : TracerState) (b : Begins g s) (h : HidesNamed u g.sat_state (record { tables = g.tables; proof = p }) q) where
+module _ (g : Summary) (s : State) (u : ℕ) (p : ProofParts) (q : TracerState) (same : p.checker ≡ g.checker) (b : SpacesFit (spaces g) s) (h : HidesNamed u g.sat_state (record { tables = g.tables; proof = p }) q) where
   after : State
   after = hide_name u (name_var named u s)
 
   freed : SpacesFit (spaces (with_tables h.mid g)) after
   unfolding after
-  freed = let c = h.set in hidden-spaces (with_tables c.mid g) (with_naming (name_one u s.naming) s) h.mid u h.global (named-one g s c.mid u b.fits c.named.named) c.named.leads c.named.unassumed (c.hidden refl)
+  freed = let c = h.set in hidden-spaces (with_tables c.mid g) (with_naming (name_one u s.naming) s) h.mid u h.global (named-one g s c.mid u b c.named.named) c.named.leads c.named.unassumed (c.hidden refl)
 
-  gone : g.sat_state ≢ verdict.Unsat → (told : List Entry) × TellsLeaving true s.told told p q.proof × SpacesFit (spaces (with_tables q.tables g)) (retold told after)
+  gone : g.sat_state ≢ verdict.Unsat → (told : List Entry) × TellsLeaving true s.told told p q.proof × SpacesFit (spaces (with_checker q.proof.checker (with_tables q.tables g))) (retold told after)
   unfolding after
   gone n =
       let l = h.left n in
       let hides = h.set.hidden refl in
-      left-spaces (with_tables h.mid g) after q.tables h.global p q.proof freed (hidden-keeps (λ (d : VarData). d.deleted) h.set.mid h.mid u h.global refl hides ∙ h.set.named.live) (hidden-unnamed h.set.mid h.mid u h.global hides) n l.deleted l.told
+      left-spaces (with_tables h.mid g) after q.tables h.global p q.proof freed (hidden-keeps (λ (d : VarData). d.deleted) h.set.mid h.mid u h.global refl hides ∙ h.set.named.live) (hidden-unnamed h.set.mid h.mid u h.global hides) n l.deleted same l.told
 
-  pub hide-state : (told : List Entry) × TellsLeaving true s.told told p q.proof × SpacesFit (spaces (with_tables q.tables g)) (retold told (hide_name u (name_var named u s)))
+  pub hide-state : (told : List Entry) × TellsLeaving true s.told told p q.proof × SpacesFit (spaces (with_checker q.proof.checker (with_tables q.tables g))) (retold told (hide_name u (name_var named u s)))
   unfolding after
   hide-state = ⊎_elim
-      (λ e. subst (λ (t : TracerState). (told : List Entry) × TellsLeaving true s.told told p t.proof × SpacesFit (spaces (with_tables t.tables g)) (retold told after)) (sym (h.stays e))
-      (s.told, leaving-nothing true s.told p, freed))
+      (λ e. subst (λ (t : TracerState). (told : List Entry) × TellsLeaving true s.told told p t.proof × SpacesFit (spaces (with_checker t.proof.checker (with_tables t.tables g))) (retold told after)) (sym (h.stays e))
+      (s.told, leaving-nothing true s.told p, subst (λ o. SpacesFit (spaces (with_checker o (with_tables h.mid g))) after) (sym same) freed))
       (λ n. gone n)
       (unsat-or-not g.sat_state)
 
@@ -114,9 +114,9 @@ turns-state (u ∷ us) g s new f (mid, x, live, unnamed, n, rest) =
     let (m, turns, k) = turns-state us (with_tables mid g) (with_naming (give_name u i s.naming) s) new fit rest in
     (m, (l, (i, b, o, turns)), k)
 
-pub show-state : (us : List ℕ) {g : Summary} {s : State} (new : Tables) → Begins g s → AreLinked g.tables → AreBounded g.tables → ShowsAllHidden us g.tables new → (m : Naming) × AreAllShown us s.clauses s.naming m × SpacesFit (spaces (with_tables new g)) (with_naming m s)
-show-state us {g} {s} new b l bounded d =
-    all-shown us (with_tables new g) s (turns-state us g s new b.fits d.in_turn) (turns-stay us g.tables new l bounded d.in_turn).1 d.all
+pub show-state : (us : List ℕ) (g : Summary) (s : State) (new : Tables) → SpacesFit (spaces g) s → AreLinked g.tables → AreBounded g.tables → ShowsAllHidden us g.tables new → (m : Naming) × AreAllShown us s.clauses s.naming m × SpacesFit (spaces (with_tables new g)) (with_naming m s)
+show-state us g s new b l bounded d =
+    all-shown us (with_tables new g) s (turns-state us g s new b d.in_turn) (turns-stay us g.tables new l bounded d.in_turn).1 d.all
 
 -- 3. What a valid solver keeps.
 

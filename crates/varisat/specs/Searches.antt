@@ -74,7 +74,7 @@ pub record BeginsSolverStep {A : Type 0} (p q : TracerState) (x y : Context A) :
   pub state : y.solver_state ≡ x.solver_state
   pub count : length y.assignment.current ≡ length x.assignment.current
   pub left : LeavesIfNews q x y
-  pub stands : ComesOn 0 (undecided_spaces p.tables x) (undecided_spaces q.tables y) p.proof q.proof
+  pub stands : ComesOn 0 (undecided_spaces p.tables p.proof.checker x) (undecided_spaces q.tables q.proof.checker y) p.proof q.proof
 
 -- A step leads from one context to the other, which has a verdict or none, as a tracer that was p takes its lines and the core;
 -- and a core that was found is kept over names too.
@@ -109,7 +109,7 @@ pub record MakesSolverStep {A : Type 0} (p q : TracerState) (x y : Context A) : 
   pub since : y.solver_state.sat_state ≡ verdict.Unknown → GoesOnSince x y
   pub state : y.solver_state ≡ record x.solver_state { sat_state = y.solver_state.sat_state }
   pub count : length y.assignment.current ≡ length x.assignment.current
-  pub stands : ComesOn 1 (undecided_spaces p.tables x) (spaces_with q.tables y) p.proof q.proof
+  pub stands : ComesOn 1 (undecided_spaces p.tables p.proof.checker x) (spaces_with q.tables q.proof.checker y) p.proof q.proof
 
 -- Steps were made, from one context to the other, until there was a verdict or they were spent. Where none was made nothing changed.
 pub record FindsVerdict {A : Type 0} (p q : TracerState) (x y : Context A) (found : Option Bool) : Type 0 where
@@ -117,5 +117,5 @@ pub record FindsVerdict {A : Type 0} (p q : TracerState) (x y : Context A) (foun
   pub tells : CanTell q.proof
   pub state : y.solver_state ≡ record x.solver_state { sat_state = y.solver_state.sat_state }
   pub answer : found ≡ answer_at y.solver_state.sat_state
-  pub stands : ComesOn (steps_since x.schedule y.schedule) (undecided_spaces p.tables x) (spaces_with q.tables y) p.proof q.proof
+  pub stands : ComesOn (steps_since x.schedule y.schedule) (undecided_spaces p.tables p.proof.checker x) (spaces_with q.tables q.proof.checker y) p.proof q.proof
   pub still : y.schedule.steps ≡ x.schedule.steps → (y ≡ x) × (q ≡ p)

@@ -14,6 +14,8 @@ use Rattle.varisat_theory.specs.Outcomes.{Outcome, Holds}
 use Rattle.varisat_theory.specs.Outcomes as outcome
 use Rattle.varisat_literals.specs.Numbers.{polarity_of}
 use Rattle.varisat_names.specs.Maps.{IsInverse, chain}
+use Rattle.varisat_proof.specs.Calls.{CheckerState}
+use Rattle.varisat_proof.specs.Proving.{MayHold}
 use Rattle.varisat_names.specs.declared.variables.data.SamplingMode.{SamplingMode}
 use Rattle.varisat_names.specs.declared.variables.data.SamplingMode.TheVariants as sampling
 use Rattle.varisat_names.specs.declared.variables.data.VarData.{VarData}
@@ -25,7 +27,7 @@ use Rattle.varisat.specs.Carried.{carry, AgreesAlong, is_forced}
 
 -- The maps as functions; how many global variables were made, what is kept of each of them, and its value in the model found
 -- last; the assumptions as given and the core found last, over names; those of the assumptions by which the search goes, and the
--- search with its verdict, over solver variables, and how many variables it has.
+-- search with its verdict, over solver variables, and how many variables it has; and the checker that runs inside, if one does.
 pub record Spaces : Type 0 where
   pub global_from_user : ℕ → Option ℕ
   pub user_from_global : ℕ → Option ℕ
@@ -41,6 +43,7 @@ pub record Spaces : Type 0 where
   pub search : Search
   pub outcome : Outcome
   pub var_count : ℕ
+  pub checker : Option CheckerState
 
 -- What no code keeps: the identity of each live global variable and the way back, and of identities, also of those that no global
 -- variable stands for any more, the value that a unit forces.
@@ -208,6 +211,10 @@ pub record IsPlain (identity : ℕ → Option ℕ) (made : ℕ) : Type 0 where
   pub all : (i : ℕ) → i < made → identity i ≡ Some i
   pub only : (x i : ℕ) → identity x ≡ Some i → i ≡ x
 
+-- The checker that runs inside has what was told so far leads to, over global variables: the same clauses, each as often.
+abbrev pub CheckerFits : (ℕ → Option ℕ) → List Entry → Option CheckerState → Type 0
+CheckerFits global told checker = (held : List Clause) → Leads [] told held → MayHold checker (rename (carry global) held)
+
 -- What a solver holds stands for the state.
 pub record Links (w : Carrying) (p : Spaces) (s : State) : Type 0 where
   pub identities : IdentitiesFit w.identity w.global p.kept s.naming.made
@@ -234,10 +241,16 @@ pub record Links (w : Carrying) (p : Spaces) (s : State) : Type 0 where
   -- and stands for the identity of its number
   pub plain : s.ever_hidden ≡ false → IsPlain w.identity s.naming.made
   pub told : IsTold s.told s.clauses s.counted s.ever_hidden
+  -- under Unsat the checker is told nothing more, and nothing is said of it
+  pub checked : without_core p.outcome ≢ outcome.Unsat → CheckerFits w.global s.told p.checker
 
 -- the spaces stand for the state
 abbrev pub SpacesFit : Spaces → State → Type 0
 SpacesFit p s = (w : Carrying) × Links w p s
+
+-- they stand for some state
+abbrev pub FitSome : Spaces → Type 0
+FitSome p = (s : State) × SpacesFit p s
 
 -- the names in use among the k names from u on, in increasing order, with the values that their variables have in the model
 abbrev pub list_globals : Spaces → ℕ → ℕ → List Literal

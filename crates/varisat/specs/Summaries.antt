@@ -14,6 +14,7 @@ use Rattle.varisat_search.specs.Seen.{search_of, outcome_of}
 use Rattle.varisat_names.specs.VarMap.{at}
 use Rattle.varisat_names.specs.VarData.{kept_at}
 use Rattle.varisat_names.specs.Variables.{Tables}
+use Rattle.varisat_proof.specs.Calls.{CheckerState}
 use Rattle.varisat_proof.specs.Proving.{OpenState, ProofParts, marked_searched}
 use Rattle.varisat.specs.OpenProofs.{ProofFits}
 use Rattle.varisat_tracer.specs.Tracing.{CanTell}
@@ -27,18 +28,19 @@ use Rattle.varisat.specs.declared.solver.SolverError.{SolverError}
 use Rattle.varisat.specs.declared.solver.SolverError.TheVariants.{ProofIoError}
 
 -- The maps between names, global variables and solver variables with what is kept of the global variables; the proof that is
--- open; the search with its assumptions and its verdict; what is told of an invalid solver too.
+-- open and the checker that runs inside; the search with its assumptions and its verdict; what is told of an invalid solver too.
 pub record Summary : Type 0 where
   pub tables : Tables
   pub opened : Option OpenState
+  pub checker : Option CheckerState
   pub search : View
   pub assumed : AssumptionParts
   pub sat_state : SatState
   pub ledger : Ledger
 
 -- The model is read from the search.
-abbrev pub spaces_of : Tables → View → AssumptionParts → SatState → Spaces
-spaces_of t search assumed sat_state = record {
+abbrev pub spaces_of : Tables → Option CheckerState → View → AssumptionParts → SatState → Spaces
+spaces_of t checker search assumed sat_state = record {
   global_from_user = at t.users.forward;
   user_from_global = at t.users.backward;
   watermark = length t.users.forward;
@@ -53,19 +55,20 @@ spaces_of t search assumed sat_state = record {
   search = search_of search;
   outcome = outcome_of search assumed.failed_core sat_state;
   var_count = length search.values;
+  checker = checker;
 }
 
 -- so it is where the search is with its verdict
-abbrev pub spaces_with : {A : Type 0} → Tables → Context A → Spaces
-spaces_with t x = spaces_of t (view x) x.assumptions x.solver_state.sat_state
+abbrev pub spaces_with : {A : Type 0} → Tables → Option CheckerState → Context A → Spaces
+spaces_with t checker x = spaces_of t checker (view x) x.assumptions x.solver_state.sat_state
 
 -- and while no verdict is known
-abbrev pub undecided_spaces : {A : Type 0} → Tables → Context A → Spaces
-undecided_spaces t x = spaces_of t (view x) x.assumptions verdict.Unknown
+abbrev pub undecided_spaces : {A : Type 0} → Tables → Option CheckerState → Context A → Spaces
+undecided_spaces t checker x = spaces_of t checker (view x) x.assumptions verdict.Unknown
 
 -- so it is for the whole solver
 abbrev pub spaces : Summary → Spaces
-spaces g = spaces_of g.tables g.search g.assumed g.sat_state
+spaces g = spaces_of g.tables g.checker g.search g.assumed g.sat_state
 
 -- the model as it is listed: the names in use among the k names from u on
 abbrev pub list_tables : Tables → List (Option Bool) → ℕ → ℕ → List Literal
@@ -87,11 +90,18 @@ pub record IsKept {A : Type 0} (tables : Tables) (search : Context A) : Type 0 w
   pub marked : (l : Literal) (x : ℕ) → l ∈ search.assumptions.user → at tables.users.forward (variable_of l) ≡ Some x → (kept_at tables.kept x).assumed ≡ true
   pub working : (l : Literal) → l ∈ search.assumptions.working → IsAssumedSolver tables (variable_of l)
 
--- What it keeps beside that: its proof can be told entries, and it counts the steps since its last change, before which `changed_at` were made.
-pub record IsKeptSince {A : Type 0} (tables : Tables) (proof : ProofParts) (search : Context A) (changed_at : ℕ) : Type 0 where
+-- Some state stands for what is held. Before a clause, a variable or a list of assumptions was accepted it has no clauses, and
+-- counts nothing.
+abbrev pub StandsForSome : Spaces → Bool → Type 0
+StandsForSome p started = (s : State) × SpacesFit p s × (started ≡ false → (s.clauses ≡ []) × (s.counted ≡ []))
+
+-- What it keeps beside that: its proof can be told entries, it counts the steps since its last change, before which `changed_at`
+-- were made, and it stands for some state, so that its checker finds each step right that it is told.
+pub record IsKeptSince {A : Type 0} (tables : Tables) (proof : ProofParts) (search : Context A) (started : Bool) (changed_at : ℕ) : Type 0 where
   pub kept : IsKept tables search
   pub tells : CanTell proof
   pub counts : CountsSince changed_at search
+  pub stands : StandsForSome (spaces_with tables proof.checker search) started
 
 -- The solver stands for the state: both have the same ledger, and where it is valid, what the solver holds stands for it, and an
 -- open proof has the bytes that the state says.

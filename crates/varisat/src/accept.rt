@@ -10,7 +10,8 @@ ghost use Rattle.varisat.specs.Accepted.{StandsOnceAccepted, StandsOnceAssumed};
 ghost use Rattle.varisat_theory.specs.Journals.{Accepts};
 ghost use Rattle.varisat_tracer.specs.Tracing.{parts_of, TakesGlobally, BreaksProof, CanTell};
 ghost use Rattle.varisat_search.specs.StepErrors.{step_faults, HasNoRoom};
-ghost use Rattle.varisat.specs.Summaries.{IsKept};
+ghost use Rattle.varisat.specs.Spaces.{FitSome};
+ghost use Rattle.varisat.specs.Summaries.{spaces_with, IsKept};
 ghost use Rattle.varisat.specs.Accepting.{CanBeNamed, HasNames, AreJoined, AreMarked};
 
 use std::alloc::{AllocError, Allocator};
@@ -87,6 +88,7 @@ pub fn accept_clause<W: ProofTarget, A: Allocator + Copy>(
 ) -> Result<(), StepError>
     requires kept { IsKept tracer.old.variables ctx.old }
     requires tells { CanTell tracer.old.proof }
+    requires stands { FitSome (spaces_with tracer.old.variables tracer.old.proof.checker ctx.old) }
     requires unsettled { ctx.old.solver_state.sat_state ≢ SatState.Unsat }
     requires names { CanBeNamed clause.now tracer.old.variables }
     ensures kept { OnOk result (IsKept tracer.new.variables ctx.new) }

@@ -15,6 +15,7 @@ ghost use Rattle.varisat.specs.Accepting.{AreBounded};
 ghost use Rattle.varisat.specs.Searches.{TellsSome, ComesOn};
 ghost use Rattle.varisat_tracer.specs.Tracing.{parts_of, BreaksProof, CanTell};
 ghost use Rattle.varisat_search.specs.StepErrors.{step_faults};
+ghost use Rattle.varisat.specs.Spaces.{FitSome};
 ghost use Rattle.varisat.specs.Summaries.{undecided_spaces, IsKept};
 ghost use Rattle.varisat.specs.Dropping.{leads_to_unassumed, unassumed_among, AreOverAssumed, FlagsVariables, LosesSolverVar, AreDroppedAlone, leads_to_hidden, ListsUnneeded, AreReleased, LeavesNeeded, LeavesTables, LetsLeave};
 
@@ -244,6 +245,7 @@ pub fn drop_fixed<W: ProofTarget, A: Allocator + Copy>(
 ) -> Result<(), StepError>
     requires kept { IsKept tracer.old.variables ctx.old }
     requires tells { CanTell tracer.old.proof }
+    requires stands { FitSome (undecided_spaces tracer.old.variables tracer.old.proof.checker ctx.old) }
     requires unknown { ctx.old.solver_state.sat_state ≡ SatState.Unknown }
     ensures kept { OnOk result (IsKept tracer.new.variables ctx.new) }
     ensures tells { OnOk result (CanTell tracer.new.proof) }
@@ -254,8 +256,8 @@ pub fn drop_fixed<W: ProofTarget, A: Allocator + Copy>(
     ensures count { OnOk result (length ctx.new.assignment.current ≡ length ctx.old.assignment.current) }
     ensures left { OnOk result (ctx.old.trail.decisions ≡ [] → ctx.old.trail.queue_head ≢ length ctx.old.trail.literals →
         ((conflict : Conflict) × IsConflicting (view ctx.new) conflict) ⊎ LeavesNeeded tracer.new.variables (view ctx.new)) }
-    ensures stands { OnOk result (ComesOn 0 (undecided_spaces tracer.old.variables ctx.old) (undecided_spaces tracer.new.variables ctx.new)
-        tracer.old.proof tracer.new.proof) }
+    ensures stands { OnOk result (ComesOn 0 (undecided_spaces tracer.old.variables tracer.old.proof.checker ctx.old)
+        (undecided_spaces tracer.new.variables tracer.new.proof.checker ctx.new) tracer.old.proof tracer.new.proof) }
     // What the target of an open proof has after an error, which is never that the store is full.
     ensures broken { IfErr result (λ error. BreaksProof tracer.old.proof (step_faults error) tracer.new.proof) }
     ensures full { IfErr result (λ error. error ≢ StepError.Full) }

@@ -176,6 +176,7 @@ impl<W: ProofTarget, A: Allocator + Copy> Model for Solver<W, A> {
     ghost view = { λ c. record {
       tables = c.tracer.variables;
       opened = c.tracer.proof.opened;
+      checker = c.tracer.proof.checker;
       search = contexts.view c.ctx;
       assumed = c.ctx.assumptions;
       sat_state = c.ctx.solver_state.sat_state;
@@ -188,7 +189,7 @@ impl<W: ProofTarget, A: Allocator + Copy> Model for Solver<W, A> {
       };
     } };
 
-    ghost invariant = { λ c. c.ctx.solver_state.state_is_invalid ≡ false → IsKeptSince c.tracer.variables c.tracer.proof c.ctx c.changed_at };
+    ghost invariant = { λ c. c.ctx.solver_state.state_is_invalid ≡ false → IsKeptSince c.tracer.variables c.tracer.proof c.ctx c.started c.changed_at };
 }
 
 impl<W: ProofTarget, A: Allocator + Copy> Solver<W, A> {

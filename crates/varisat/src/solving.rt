@@ -13,7 +13,8 @@ ghost use Rattle.varisat_tracer.specs.Tracing.{parts_of, BreaksProof, CanTell};
 ghost use Rattle.varisat.specs.Searches.{BeginsSolverStep, MakesNamedStep, MakesSolverStep, FindsVerdict};
 ghost use Rattle.varisat.specs.Accepting.{HasUser};
 ghost use Rattle.varisat.specs.Carried.{carry};
-ghost use Rattle.varisat.specs.Summaries.{IsKept};
+ghost use Rattle.varisat.specs.Spaces.{FitSome};
+ghost use Rattle.varisat.specs.Summaries.{undecided_spaces, IsKept};
 
 use crate::carrying::carry_literals;
 use crate::dropping::drop_fixed;
@@ -37,6 +38,7 @@ fn begin<W: ProofTarget, A: Allocator + Copy>(
 ) -> Result<(), StepError>
     requires kept { IsKept tracer.old.variables ctx.old }
     requires tells { CanTell tracer.old.proof }
+    requires stands { FitSome (undecided_spaces tracer.old.variables tracer.old.proof.checker ctx.old) }
     requires unknown { ctx.old.solver_state.sat_state ≡ SatState.Unknown }
     requires counted { ctx.old.schedule.steps < 2 ^ 64 - 1 }
     ensures begins { OnOk result (BeginsSolverStep (parts_of tracer.old) (parts_of tracer.new) ctx.old ctx.new) }
@@ -82,6 +84,7 @@ fn named_conflict_step<W: ProofTarget, A: Allocator + Copy>(
 ) -> Result<(), StepError>
     requires kept { IsKept tracer.old.variables ctx.old }
     requires tells { CanTell tracer.old.proof }
+    requires stands { FitSome (undecided_spaces tracer.old.variables tracer.old.proof.checker ctx.old) }
     requires unknown { ctx.old.solver_state.sat_state ≡ SatState.Unknown }
     ensures made { OnOk result (MakesNamedStep (parts_of tracer.old) (parts_of tracer.new) ctx.old ctx.new) }
     ensures schedule { KeepsSchedule ctx.old ctx.new }
@@ -106,6 +109,7 @@ fn make_step<W: ProofTarget, A: Allocator + Copy>(
 ) -> Result<(), StepError>
     requires kept { IsKept tracer.old.variables ctx.old }
     requires tells { CanTell tracer.old.proof }
+    requires stands { FitSome (undecided_spaces tracer.old.variables tracer.old.proof.checker ctx.old) }
     requires unknown { ctx.old.solver_state.sat_state ≡ SatState.Unknown }
     requires counted { ctx.old.schedule.steps < 2 ^ 64 - 1 }
     ensures made { OnOk result (MakesSolverStep (parts_of tracer.old) (parts_of tracer.new) ctx.old ctx.new) }
@@ -136,6 +140,7 @@ pub fn find_verdict<W: ProofTarget, A: Allocator + Copy>(
 ) -> Result<Option<bool>, StepError>
     requires kept { IsKept tracer.old.variables ctx.old }
     requires tells { CanTell tracer.old.proof }
+    requires stands { FitSome (undecided_spaces tracer.old.variables tracer.old.proof.checker ctx.old) }
     requires unknown { ctx.old.solver_state.sat_state ≡ SatState.Unknown }
     ensures found { IfOk result (λ found. FindsVerdict (parts_of tracer.old) (parts_of tracer.new) ctx.old ctx.new found) }
     ensures counted { CountsStepsFrom max_steps ctx.old ctx.new (told_verdict result) }

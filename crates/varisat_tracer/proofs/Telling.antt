@@ -1,34 +1,22 @@
--- A tracer without a checker can be told of any clauses, and goes on so.
-use Rattle.std.proofs.Common.{◌≡◌, ℕ, List, [], ◌++◌, sym, subst, Option, None}
+-- A tracer that can be told of entries goes on so.
+use Rattle.std.proofs.Common.{◌≡◌, ℕ, List, [], ◌++◌, sym, subst, None}
 use Rattle.varisat_theory.specs.Literals.{Clause}
 use Rattle.varisat_theory.specs.Journals.{Entry}
 use Rattle.varisat_theory.specs.Renaming.{rename}
-use Rattle.varisat_proof.specs.Calls.{CheckerState}
-use Rattle.varisat_proof.specs.Proving.{ProofParts, IsBegunIf, IsTold, IsCheckedIf, IsUsable, MayHold, told}
+use Rattle.varisat_names.specs.VarBiMap.{BiMap}
+use Rattle.varisat_names.specs.VarMap.{at}
+use Rattle.varisat_names.specs.Variables.{Tables}
+use Rattle.varisat_proof.specs.Proving.{ProofParts, IsBegunIf, IsTold, MayHold, told}
 use Rattle.varisat_trace.specs.Traces.{BreaksOff}
 use Rattle.varisat_tracer.specs.Told.{begun-none, begun-behind}
-use Rattle.varisat_tracer.specs.Carried.{told_as}
+use Rattle.varisat_tracer.specs.Carried.{carry, told_as}
 use Rattle.varisat_tracer.specs.Tracing.{TracerState, global_literal, Relies, TakesGlobally, BreaksGlobally, BreaksProof, CanTell}
-use Rattle.varisat_tracer.specs.TracerLaws.{room-stays}
-
-pub tells-usable : (k : Option CheckerState) → k ≡ None → IsUsable k
-tells-usable k e = subst IsUsable (sym e) tt
-
-pub relies-any : (x : TracerState) → CanTell x.proof → (held : List Clause) → Relies x held
-relies-any x t held = record {
-  room = t.room;
-  usable = tells-usable x.proof.checker t.unchecked;
-  others = [];
-  holds = subst (λ k. MayHold k (rename (global_literal x.tables) held)) (sym t.unchecked) tt;
-}
-
-none-stays : (o p : Option CheckerState) (entries : List Entry) → IsCheckedIf o entries p → o ≡ None → p ≡ None
-none-stays o p entries k e = subst (λ x. IsCheckedIf x entries p) e k
+use Rattle.varisat_tracer.specs.TracerLaws.{room-stays, usable-stays}
 
 pub tells-told : (p q : ProofParts) (entries : List Entry) → IsTold p entries q → CanTell p → CanTell q
 tells-told p q entries h t = record {
   room = room-stays p.opened q.opened entries h.written t.room;
-  unchecked = none-stays p.checker q.checker entries h.checked t.unchecked;
+  usable = usable-stays p.checker q.checker entries h.checked t.usable;
 }
 
 pub tells-on : (x y : TracerState) (entries : List Entry) → TakesGlobally x entries y → CanTell x.proof → CanTell y.proof
@@ -47,3 +35,12 @@ proof-breaks-on p q r entries faults t (more, b) = (entries ++ more, begun-behin
 -- where no proof is open the target does not fail
 pub unopened-unbroken : (p q : ProofParts) (faults : ℕ) → p.opened ≡ None → BreaksProof p faults q → faults ≡ 0
 unopened-unbroken p q faults e (entries, b) = (subst (λ o. IsBegunIf o (told entries) faults q.opened) e b).1
+
+-- what may be relied on depends on the solver variables alone
+pub relies-alike : (t u : Tables) (p : ProofParts) (held : List Clause) → u.solvers ≡ t.solvers → Relies (record { tables = t; proof = p }) held → Relies (record { tables = u; proof = p }) held
+relies-alike t u p held e r = record {
+  room = r.room;
+  usable = r.usable;
+  others = r.others;
+  holds = subst (λ (m : BiMap). MayHold p.checker (r.others ++ rename (carry (at m.backward)) held)) (sym e) r.holds;
+}

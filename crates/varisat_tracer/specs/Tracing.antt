@@ -1,5 +1,5 @@
 -- What a solver's tracer holds and takes.
-use Rattle.std.specs.Prelude.{◌≡◌, ℕ, if◌then◌else◌, None, List, [], ◌∷◌, ◌++◌, Result, Ok, Err}
+use Rattle.std.specs.Prelude.{◌≡◌, ℕ, if◌then◌else◌, List, [], ◌∷◌, ◌++◌, Result, Ok, Err}
 use Rattle.std.specs.List.Sorted.{IsNonDecreasingBy}
 use Rattle.varisat_theory.specs.Literals.{Literal, Clause}
 use Rattle.varisat_theory.specs.Renaming.{rename}
@@ -62,7 +62,7 @@ TellsGlobally x entries (Err e) y = (y.tables ≡ x.tables) × Tells x.proof (to
 abbrev pub leaves_if_deleted : Tables → ℕ → List Entry
 leaves_if_deleted t x = if (kept_at t.kept x).deleted then Leaves x ∷ [] else []
 
--- A target that may still count a fault, if a proof is open, and no checker, so that any clauses may be relied on.
+-- A target that may still count a fault, if a proof is open, and a checker that is not spent, if one runs.
 pub record CanTell (p : ProofParts) : Type 0 where
   pub room : HasRoom p.opened
-  pub unchecked : p.checker ≡ None
+  pub usable : IsUsable p.checker

@@ -2,7 +2,7 @@ use Rattle.varisat_search.specs.declared.error.StepError.TheVariants as step
 use Rattle.varisat_search.specs.StepErrors.{step_faults, HasNoRoom}
 use Rattle.varisat_trace.proofs.Broken.{passed-on}
 -- What each part did to the maps and to the search.
-use Rattle.std.proofs.Common.{None, ◌≡◌, ◌≢◌, ◌++◌, ◌∷◌, [], List, false, sym, ap, ap₂, ◌∙◌, subst, length, map}
+use Rattle.std.proofs.Common.{None, ◌≡◌, ◌≢◌, ◌++◌, ◌∷◌, [], List, false, sym, ap, ap₂, ◌∙◌, subst, refl, length, map}
 use Rattle.std.specs.Option.{IsSome}
 use Rattle.varisat_theory.specs.Membership.{◌∈◌}
 use Rattle.varisat_theory.specs.Literals.{variable_of}
@@ -16,10 +16,10 @@ use Rattle.varisat_theory.specs.Literals.{Literal}
 use Rattle.varisat_theory.specs.Journals.{Accepts, written}
 use Rattle.varisat_tracer.specs.Carried.{told_as}
 use Rattle.varisat_tracer.specs.Carried as global
-use Rattle.varisat_tracer.specs.Tracing.{TracerState, parts_of, global_literal, Relies, CanTell, BreaksProof}
-use Rattle.varisat_tracer.specs.TracerLaws.{takes-more}
+use Rattle.varisat_tracer.specs.Tracing.{TracerState, parts_of, global_literal, CanTell, BreaksProof}
+use Rattle.varisat_tracer.specs.TracerLaws.{takes-more, relies-after}
 use Rattle.varisat.proofs.PlainTold.{proof-told}
-use Rattle.varisat_tracer.proofs.Telling.{relies-any, tells-on, breaks-proof, proof-unbroken, proof-breaks-on}
+use Rattle.varisat_tracer.proofs.Telling.{relies-alike, tells-on, breaks-proof, proof-unbroken, proof-breaks-on}
 use Rattle.varisat_search.specs.declared.state.SatState.TheVariants as verdict
 use Rattle.varisat_search.specs.declared.state.SolverState.{SolverState}
 use Rattle.varisat_search.specs.AssumptionParts.{AssumptionParts}
@@ -30,14 +30,16 @@ use Rattle.varisat.specs.Carried.{carry}
 use Rattle.varisat.specs.Names.{name_all, through_names}
 use Rattle.varisat.specs.Calls.{with_naming, append_clause, reopened_verdict, with_verdict}
 use Rattle.varisat.specs.Journals.{retold}
+use Rattle.varisat_proof.specs.Proving.{IsCheckedIf}
+use Rattle.varisat.specs.States.{State}
 use Rattle.varisat.specs.Spaces.{SpacesFit}
-use Rattle.varisat.specs.Summaries.{Summary, spaces_of, IsKept}
+use Rattle.varisat.specs.Summaries.{Summary, spaces_of, spaces_with, IsKept}
 use Rattle.varisat.proofs.ReturnedVariables.{reopened-not, no-model-reopened, reopened-spaces, verdict-after}
-use Rattle.varisat.proofs.SolversInTurn.{HaveSolvers, have-solvers-then, has-variables, can-have-room, over-leads, over-carried, all-named, literals-within, literals-decidable}
+use Rattle.varisat.proofs.SolversInTurn.{with_names, HaveSolvers, have-solvers-then, has-variables, can-have-room, over-leads, over-carried, all-named, literals-within, literals-decidable}
 use Rattle.varisat.proofs.TableMarks.{marks-bounded, joined-same, assumed-joined}
+use Rattle.varisat.proofs.CheckedHeld.{relied-open}
 use Rattle.varisat.proofs.AcceptClause.{clause-accepted}
 use Rattle.varisat.proofs.VariablesInUse.{same-in-use, tables-in-use}
-use Rattle.varisat_search.proofs.LeastHeld.{anything-with}
 use Rattle.varisat_search.proofs.SolverVariables.{in-use-all}
 use Rattle.varisat.proofs.accept.accept_clause.Given.{Over}
 use Rattle.varisat.proofs.accept.accept_clause.Goals.{In_ok-solver_from_user_lits, In_ok-tell_clause, In_ok-load_clause}
@@ -74,14 +76,37 @@ load_clause-requires-clause-decidable g c l h =
 can-tell : (g : Over) (c : In_ok-tell_clause g) → CanTell c.tell_clause.new.tracer.proof
 can-tell g c = tells-on (record { tables = c.mark_joined.new.variables; proof = c.args.tracer.now.proof }) (parts_of c.tell_clause.new.tracer) _ (c.in_ok-tell_clause.ensures {u = tt}).told c.requires.tells
 
-pub load_clause-requires-clause-holds : goal.load_clause-requires-clause-holds
-load_clause-requires-clause-holds g c n = let x = parts_of c.tell_clause.new.tracer in anything-with (Relies x) (relies-any x (can-tell g (goal.at.load_clause-requires-clause-holds g c).In_ok-tell_clause)) (view c.solver_from_user_lits.new.ctx) c.as_slice-lits.result.now
-
 -- the verdict is not Unsat when the clause is loaded
 opened : (g : Over) (c : In_ok-solver_from_user_lits g) → c.solver_from_user_lits.new.ctx.solver_state.sat_state ≢ verdict.Unsat
 opened g c e =
     reopened-not c.args.ctx.now.solver_state.sat_state c.requires.unsettled
     (ap (λ (x : SolverState). x.sat_state) (sym c.reopen.ensures) ∙ ap (λ (x : SolverState). x.sat_state) (sym (have g c).verdict.state) ∙ e)
+
+-- the solver stands for the state once the names have solver variables
+all-named-in : (g : Over) (c : In_ok-solver_from_user_lits g) (s : State) → SpacesFit (spaces_with c.args.tracer.now.variables c.args.tracer.now.proof.checker c.args.ctx.now) s →
+    SpacesFit (spaces_with c.solver_from_user_lits.new.variables c.args.tracer.now.proof.checker c.solver_from_user_lits.new.ctx) (with_names c.args.clause.now (with_verdict (reopened_verdict s.verdict) s))
+all-named-in g c s f =
+    let old = c.args.ctx.now in
+    let checker = c.args.tracer.now.proof.checker in
+    let first : Summary = record { tables = c.args.tracer.now.variables; opened = None; checker = checker; search = view old; assumed = old.assumptions; sat_state = old.solver_state.sat_state; ledger = s.ledger } in
+    let begins = subst (λ y. SpacesFit (spaces_of c.args.tracer.now.variables checker (view old) old.assumptions y) (with_verdict (reopened_verdict s.verdict) s)) (sym (ap (λ (x : SolverState). x.sat_state) c.reopen.ensures)) (reopened-spaces first s f) in
+    (have g c).stands checker (with_verdict (reopened_verdict s.verdict) s) begins
+
+-- what was accepted before and the clause that was told may be held then
+pub load_clause-requires-clause-holds : goal.load_clause-requires-clause-holds
+load_clause-requires-clause-holds g c n =
+    let here = (goal.at.load_clause-requires-clause-holds g c).In_ok-solver_from_user_lits in
+    let mid = c.solver_from_user_lits.new.ctx in
+    let m = c.solver_from_user_lits.new.variables in
+    let p = c.args.tracer.now.proof in
+    let lits = c.as_slice-lits.result.now in
+    let (s, f) = c.requires.stands in
+    let (held, relies, fits) = relied-open m p (view mid) mid.assumptions mid.solver_state.sat_state (opened g here) c.requires.tells (_, all-named-in g here s f) in
+    let before : TracerState = record { tables = c.mark_joined.new.variables; proof = p } in (
+      held,
+      relies-after before (parts_of c.tell_clause.new.tracer) (Accepts lits ∷ []) held (held ++ lits ∷ []) (c.in_ok-tell_clause.ensures {u = tt}).told (relies-alike m c.mark_joined.new.variables p held c.mark_joined.ensures.solvers relies) (held ++ lits ∷ [], refl, refl),
+      fits,
+    )
 
 -- names and variables stay as the clause is told and loaded
 same-tables : (g : Over) (c : In_ok-load_clause g) → c.load_clause.new.proof.variables ≡ c.mark_joined.new.variables
@@ -140,15 +165,13 @@ returns-clause-accepted g c s f =
     let to = chain (at m.users.forward) (at m.solvers.forward) in
     let carried = ap₂ (λ (x y : BiMap). map (carry (chain (at x.forward) (at y.forward))) list) (sym c.mark_joined.ensures.users) (sym c.mark_joined.ensures.solvers) in
     let items = c.as_slice-lits.ensures.value ∙ over-carried to list c.solver_from_user_lits.new.solver_lits.items over ∙ carried in
-    let first : Summary = record { tables = c.args.tracer.now.variables; opened = None; search = view old; assumed = old.assumptions; sat_state = old.solver_state.sat_state; ledger = s.ledger } in
-    let begins = subst (λ y. SpacesFit (spaces_of c.args.tracer.now.variables (view old) old.assumptions y) (with_verdict (reopened_verdict s.verdict) s)) (sym (ap (λ (x : SolverState). x.sat_state) c.reopen.ensures)) (reopened-spaces first s f) in
     let n = with_naming (name_all list s.naming) s in
     let lines = (r.lines (opened g here)).lines in
     let before : TracerState = record { tables = joined; proof = c.args.tracer.now.proof } in
     let after = parts_of c.load_clause.new.proof in
     let taken = takes-more before (parts_of c.tell_clause.new.tracer) after (Accepts c.as_slice-lits.result.now ∷ []) (written lines) (c.in_ok-tell_clause.ensures {u = tt}).told (r.lines (opened g here)).written in
     let n2 = with_verdict (reopened_verdict s.verdict) n in
-    let (x, told, v, more, plain, k) = clause-accepted (record { tables = m; opened = None; search = view mid; assumed = mid.assumptions; sat_state = mid.solver_state.sat_state; ledger = s.ledger }) n2 list joined (view new) new.assumptions new.solver_state.sat_state
+    let (x, told, v, more, plain, k) = clause-accepted (record { tables = m; opened = None; checker = c.args.tracer.now.proof.checker; search = view mid; assumed = mid.assumptions; sat_state = mid.solver_state.sat_state; ledger = s.ledger }) n2 list joined (view new) new.assumptions new.solver_state.sat_state after.proof.checker
     (record {
       not_unsat = opened g here;
       all = over-leads to list c.solver_from_user_lits.new.solver_lits.items over;
@@ -162,8 +185,11 @@ returns-clause-accepted g c s f =
       verdict = r.verdict;
       parts_stay = r.assumptions (opened g here);
     })
-    (all.stands (with_verdict (reopened_verdict s.verdict) s) begins) in
-    (x, told, verdict-after s.clauses (map (through_names n.naming) list) s.verdict x v, more, proof-told before after (Accepts c.as_slice-lits.result.now ∷ written lines) s.ever_hidden s.told told taken (λ e. plain e ∙ ap (λ (ls : List Literal). s.told ++ told_as (global_literal m) (Accepts ls ∷ written lines)) (sym items) ∙ ap (λ (b : BiMap). s.told ++ told_as (global.carry (at b.backward)) (Accepts c.as_slice-lits.result.now ∷ written lines)) (sym c.mark_joined.ensures.solvers)), subst (λ (t : Tables). SpacesFit (spaces_of t (view new) new.assumptions new.solver_state.sat_state) (retold told (append_clause (map (through_names n.naming) list) x n))) (sym (same-tables g c)) k)
+    (subst (λ es. IsCheckedIf before.proof.checker es after.proof.checker)
+    (ap (λ (b : BiMap). told_as (global.carry (at b.backward)) (Accepts c.as_slice-lits.result.now ∷ written lines)) c.mark_joined.ensures.solvers ∙ ap (λ (ls : List Literal). told_as (global_literal m) (Accepts ls ∷ written lines)) items)
+    taken.told.checked)
+    (all-named-in g here s f) in
+    (x, told, verdict-after s.clauses (map (through_names n.naming) list) s.verdict x v, more, proof-told before after (Accepts c.as_slice-lits.result.now ∷ written lines) s.ever_hidden s.told told taken (λ e. plain e ∙ ap (λ (ls : List Literal). s.told ++ told_as (global_literal m) (Accepts ls ∷ written lines)) (sym items) ∙ ap (λ (b : BiMap). s.told ++ told_as (global.carry (at b.backward)) (Accepts c.as_slice-lits.result.now ∷ written lines)) (sym c.mark_joined.ensures.solvers)), subst (λ (t : Tables). SpacesFit (spaces_of t after.proof.checker (view new) new.assumptions new.solver_state.sat_state) (retold told (append_clause (map (through_names n.naming) list) x n))) (sym (same-tables g c)) k)
 
 pub returns-in_err-solver_from_user_lits-clause-broken : goal.returns-in_err-solver_from_user_lits-clause-broken
 returns-in_err-solver_from_user_lits-clause-broken g c =

@@ -5,9 +5,9 @@ use Rattle.varisat_trace.proofs.Broken.{passed-on}
 use Rattle.varisat_trace.specs.Traces.{faults_of}
 use Rattle.std.proofs.Common.{◌≡◌, ◌≢◌, Option, ap, ◌∙◌, sym, subst, refl}
 use Rattle.varisat_names.specs.Variables.{Tables}
-use Rattle.varisat_tracer.specs.Tracing.{parts_of, Relies, BreaksProof}
+use Rattle.varisat_tracer.specs.Tracing.{parts_of, BreaksProof}
 use Rattle.varisat_proof.specs.Proving.{OpenState, ProofParts}
-use Rattle.varisat_tracer.proofs.Telling.{relies-any, tells-told, breaks-proof, proof-unbroken, proof-breaks-on}
+use Rattle.varisat_tracer.proofs.Telling.{tells-told, breaks-proof, proof-unbroken, proof-breaks-on}
 use Rattle.varisat.specs.Searches.{TellsSome, ComesOn}
 use Rattle.varisat.specs.Summaries.{undecided_spaces, IsKept}
 use Rattle.varisat.proofs.SearchVerdicts.{kept-on}
@@ -15,16 +15,16 @@ use Rattle.varisat.proofs.dropping.drop_fixed.Given.{Over}
 use Rattle.varisat.proofs.dropping.drop_fixed.Goals.{In-Ok, In_ok-drop_unneeded}
 use Rattle.varisat_search.specs.declared.context.Context.{Context}
 use Rattle.varisat_search.specs.Contexts.{view}
-use Rattle.varisat_search.proofs.LeastHeld.{anything-for}
+use Rattle.varisat.proofs.CheckedHeld.{relied}
 use Rattle.varisat.proofs.SinceSteps.{come-settled}
 use Rattle.varisat.proofs.SolverSteps.{some-through, comes-nowhere, comes-through, leaving-comes, unknown-undecided, part-comes, some-none}
 use Rattle.varisat.proofs.dropping.drop_fixed.Goals as goal
 
 pub settle-requires-clause-holds : goal.settle-requires-clause-holds
-settle-requires-clause-holds g c = let x = parts_of c.args.tracer.now in anything-for (Relies x) (relies-any x c.requires.tells) (view c.args.ctx.now)
+settle-requires-clause-holds g c = relied c.args.tracer.now.variables c.args.tracer.now.proof (view c.args.ctx.now) c.args.ctx.now.assumptions c.requires.tells c.requires.stands
 
 -- what settling comes to
-begun : (g : Over) (c : In-Ok g) → ComesOn 0 (undecided_spaces c.args.tracer.now.variables c.args.ctx.now) (undecided_spaces c.settle.new.proof.variables c.settle.new.ctx) c.args.tracer.now.proof c.settle.new.proof.proof
+begun : (g : Over) (c : In-Ok g) → ComesOn 0 (undecided_spaces c.args.tracer.now.variables c.args.tracer.now.proof.checker c.args.ctx.now) (undecided_spaces c.settle.new.proof.variables c.settle.new.proof.proof.checker c.settle.new.ctx) c.args.tracer.now.proof c.settle.new.proof.proof
 begun g c =
     let goes = (c.in-Ok.ensures {u = tt}).goes_on in
     let (lines, proves, (settles, takes)) = goes.proves in
@@ -94,11 +94,11 @@ returns-clause-stands g c =
     let y = c.settle.new.ctx in
     let u = c.drop_listed.new.ctx in
     let z = c.drop_unneeded.new.ctx in
-    comes-through 0 0 0 p.proof q.proof last.proof (undecided_spaces p.variables x) (undecided_spaces q.variables y) (undecided_spaces last.variables z) refl (unknown-undecided q.variables y)
+    comes-through 0 0 0 p.proof q.proof last.proof (undecided_spaces p.variables p.proof.checker x) (undecided_spaces q.variables q.proof.checker y) (undecided_spaces last.variables last.proof.checker z) refl (unknown-undecided q.variables q.proof.checker y)
     (begun g (goal.at.returns-clause-stands g c).In-Ok)
-    (comes-through 0 0 0 q.proof r.proof last.proof (undecided_spaces q.variables y) (undecided_spaces r.variables u) (undecided_spaces last.variables z) refl (unknown-undecided r.variables u)
-    (leaving-comes q.proof r.proof (undecided_spaces q.variables y) (undecided_spaces r.variables u) (c.in_ok-drop_listed.ensures {u = tt}).leave.stands)
-    (leaving-comes r.proof last.proof (undecided_spaces r.variables u) (undecided_spaces last.variables z) (c.in_ok-drop_unneeded.ensures {u = tt}).leave.stands))
+    (comes-through 0 0 0 q.proof r.proof last.proof (undecided_spaces q.variables q.proof.checker y) (undecided_spaces r.variables r.proof.checker u) (undecided_spaces last.variables last.proof.checker z) refl (unknown-undecided r.variables r.proof.checker u)
+    (leaving-comes q.proof r.proof (undecided_spaces q.variables q.proof.checker y) (undecided_spaces r.variables r.proof.checker u) (c.in_ok-drop_listed.ensures {u = tt}).leave.stands)
+    (leaving-comes r.proof last.proof (undecided_spaces r.variables r.proof.checker u) (undecided_spaces last.variables last.proof.checker z) (c.in_ok-drop_unneeded.ensures {u = tt}).leave.stands))
 
 pub returns-then-is_err-clause-within : goal.returns-then-is_err-clause-within
 returns-then-is_err-clause-within g c =

@@ -5,13 +5,13 @@ use Rattle.varisat_search.specs.declared.error.StepError.TheVariants as step
 use Rattle.varisat_search.specs.Contexts.{view}
 use Rattle.varisat_search.specs.DueReductions.{BeginsStep}
 use Rattle.varisat_search.specs.StepErrors.{step_error_of_trace, step_faults}
-use Rattle.varisat_search.proofs.LeastHeld.{anything-for}
 use Rattle.varisat_search.proofs.StepErrors.{trace-faults, trace-unfilled}
 use Rattle.varisat_trace.specs.Traces.{TakesLines, faults_of}
 use Rattle.varisat_trace.proofs.Broken.{passed-on}
-use Rattle.varisat_tracer.specs.Tracing.{parts_of, Relies, TakesGlobally, BreaksProof}
-use Rattle.varisat_tracer.proofs.Telling.{relies-any, breaks-proof, proof-breaks-on}
+use Rattle.varisat_tracer.specs.Tracing.{parts_of, TakesGlobally, BreaksProof}
+use Rattle.varisat_tracer.proofs.Telling.{breaks-proof, proof-breaks-on}
 use Rattle.varisat.specs.Summaries.{undecided_spaces, IsKept}
+use Rattle.varisat.proofs.CheckedHeld.{relied, some-on}
 use Rattle.varisat.proofs.SinceSteps.{come-begun}
 use Rattle.varisat.proofs.SolverSteps.{comes-through, unknown-undecided, some-through, begins-any, begin-count, begin-kept, begin-told, begin-tables, begin-tells, begin-comes}
 use Rattle.varisat.proofs.solving.begin.Given.{Over}
@@ -19,7 +19,7 @@ use Rattle.varisat.proofs.solving.begin.Goals.{In_ok-begin_step}
 use Rattle.varisat.proofs.solving.begin.Goals as goal
 
 pub begin_step-requires-clause-holds : goal.begin_step-requires-clause-holds
-begin_step-requires-clause-holds g c = let x = parts_of c.args.tracer.now in anything-for (Relies x) (relies-any x c.requires.tells) (view c.args.ctx.now)
+begin_step-requires-clause-holds g c = relied c.args.tracer.now.variables c.args.tracer.now.proof (view c.args.ctx.now) c.args.ctx.now.assumptions c.requires.tells c.requires.stands
 
 -- how the step began
 begun : (g : Over) (c : In_ok-begin_step g) → BeginsStep (λ lines. TakesLines TakesGlobally (parts_of c.args.tracer.now) lines (parts_of c.begin_step.new.proof)) c.args.ctx.now c.begin_step.new.ctx
@@ -39,6 +39,12 @@ drop_fixed-requires-clause-tells g c = begin-tells (parts_of c.args.tracer.now) 
 
 pub drop_fixed-requires-clause-unknown : goal.drop_fixed-requires-clause-unknown
 drop_fixed-requires-clause-unknown g c = ap (λ (x : Context g.row.A.Denot). x.solver_state.sat_state) c.begin_step.ensures.kept ∙ c.requires.unknown
+
+pub drop_fixed-requires-clause-stands : goal.drop_fixed-requires-clause-stands
+drop_fixed-requires-clause-stands g c =
+    let p = parts_of c.args.tracer.now in
+    let q = parts_of c.begin_step.new.proof in
+    some-on 0 _ _ p.proof q.proof (begin-comes p q c.args.ctx.now c.begin_step.new.ctx c.requires.kept (begun g (goal.at.drop_fixed-requires-clause-stands g c).In_ok-begin_step)) c.requires.stands
 
 pub returns-clause-begins : goal.returns-clause-begins
 returns-clause-begins g c =
@@ -60,7 +66,7 @@ returns-clause-begins g c =
       state = c.drop_fixed.ensures.state ∙ ap (λ (c : Context g.row.A.Denot). c.solver_state) c.begin_step.ensures.kept;
       count = e.count ∙ count;
       left = record { reduced = y; begins = begins-any x y b; left = e.left };
-      stands = comes-through 0 0 0 p.proof q.proof r.proof (undecided_spaces p.variables x) (undecided_spaces q.variables y) (undecided_spaces r.variables z) refl (unknown-undecided q.variables y)
+      stands = comes-through 0 0 0 p.proof q.proof r.proof (undecided_spaces p.variables p.proof.checker x) (undecided_spaces q.variables q.proof.checker y) (undecided_spaces r.variables r.proof.checker z) refl (unknown-undecided q.variables q.proof.checker y)
           (begin-comes (parts_of p) (parts_of q) x y c.requires.kept b) e.stands;
     }
 

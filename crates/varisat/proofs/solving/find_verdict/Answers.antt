@@ -9,6 +9,7 @@ use Rattle.varisat_tracer.proofs.Telling.{proof-breaks-on}
 use Rattle.varisat.specs.Budgets.{CountsSteps}
 use Rattle.varisat.specs.Searches.{answer_at, ComesOn, MakesSolverStep, FindsVerdict}
 use Rattle.varisat.specs.Summaries.{undecided_spaces, spaces_with}
+use Rattle.varisat.proofs.CheckedHeld.{some-on}
 use Rattle.varisat.proofs.FindVerdictSteps.{searching-at, not-less, Stepping, one-more, stepping-moved, stepping-goes-on, stepping-counts, stepping-since, stepping-shortens, none-made, counts-spent, counts-refused, since-stopped, told-refused, not-spent, room}
 use Rattle.varisat.proofs.SolverSteps.{comes-nowhere, comes-through, comes-undecided, comes-decided, unknown-undecided, some-none, some-through}
 use Rattle.varisat.proofs.solving.find_verdict.Given.{Over}
@@ -31,7 +32,7 @@ stepping g c =
     }
 
 -- what the steps come to with it
-stepped : (g : Over) (c : In_ok-make_step g) → ComesOn (steps_since c.args.ctx.now.schedule c.make_step.new.ctx.schedule) (undecided_spaces c.args.tracer.now.variables c.args.ctx.now) (spaces_with c.make_step.new.tracer.variables c.make_step.new.ctx) c.args.tracer.now.proof c.make_step.new.tracer.proof
+stepped : (g : Over) (c : In_ok-make_step g) → ComesOn (steps_since c.args.ctx.now.schedule c.make_step.new.ctx.schedule) (undecided_spaces c.args.tracer.now.variables c.args.tracer.now.proof.checker c.args.ctx.now) (spaces_with c.make_step.new.tracer.variables c.make_step.new.tracer.proof.checker c.make_step.new.ctx) c.args.tracer.now.proof c.make_step.new.tracer.proof
 stepped g c =
     let p = c.args.tracer.now in
     let q = c.steps.tracer in
@@ -39,8 +40,8 @@ stepped g c =
     let x = c.args.ctx.now in
     let y = c.steps.ctx in
     let z = c.make_step.new.ctx in
-    comes-through (steps_since x.schedule y.schedule) 1 (steps_since x.schedule z.schedule) p.proof q.proof r.proof (undecided_spaces p.variables x) (undecided_spaces q.variables y) (spaces_with r.variables z)
-    (one-more (stepping g c)) (unknown-undecided q.variables y) c.steps.invariant.stands (made g c).stands
+    comes-through (steps_since x.schedule y.schedule) 1 (steps_since x.schedule z.schedule) p.proof q.proof r.proof (undecided_spaces p.variables p.proof.checker x) (undecided_spaces q.variables q.proof.checker y) (spaces_with r.variables r.proof.checker z)
+    (one-more (stepping g c)) (unknown-undecided q.variables q.proof.checker y) c.steps.invariant.stands (made g c).stands
 
 -- the solver's state but for the verdict
 same-state : (g : Over) (c : In_ok-make_step g) → c.make_step.new.ctx.solver_state ≡ record c.args.ctx.now.solver_state { sat_state = c.make_step.new.ctx.solver_state.sat_state }
@@ -56,6 +57,9 @@ found g c answer e = record {
   stands = stepped g c;
   still = λ s. absurd (stepping-moved (stepping g c) s);
 }
+
+pub make_step-requires-clause-stands : goal.make_step-requires-clause-stands
+make_step-requires-clause-stands g c = some-on _ _ _ c.args.tracer.now.proof c.steps.tracer.proof c.steps.invariant.stands c.requires.stands
 
 pub make_step-requires-clause-unknown : goal.make_step-requires-clause-unknown
 make_step-requires-clause-unknown g c = ap (λ (s : SolverState). s.sat_state) c.steps.invariant.state ∙ c.requires.unknown
@@ -75,7 +79,7 @@ steps-init g c =
       state = refl;
       config = refl;
       made = none-made x c.args.max_steps c.steps-first.ensures.plan;
-      stands = λ s fit. comes-nowhere (steps_since x.schedule x.schedule) s p.proof (undecided_spaces p.variables x) (omega arith) fit;
+      stands = λ s fit. comes-nowhere (steps_since x.schedule x.schedule) s p.proof (undecided_spaces p.variables p.proof.checker x) (omega arith) fit;
       still = λ e. (refl, refl);
     }
 
@@ -107,7 +111,7 @@ steps-preserved g c =
       state = same-state g h ∙ ap (λ v. record c.args.ctx.now.solver_state { sat_state = v }) (c.in-Unknown.is ∙ sym c.requires.unknown);
       config = c.make_step.ensures.config ∙ i.config;
       made = stepping-goes-on d (m.since c.in-Unknown.is);
-      stands = comes-undecided _ (undecided_spaces p.variables c.args.ctx.now) r.variables z p.proof r.proof c.in-Unknown.is (stepped g h);
+      stands = comes-undecided _ (undecided_spaces p.variables p.proof.checker c.args.ctx.now) r.variables z p.proof r.proof c.in-Unknown.is (stepped g h);
       still = λ e. absurd (stepping-moved d e);
     }
 
@@ -120,7 +124,7 @@ returns-then-steps-first-clause-found g c =
       tells = i.tells;
       state = ap (λ (s : SolverState). record s { sat_state = c.steps.ctx.solver_state.sat_state }) i.state;
       answer = sym (ap answer_at unknown);
-      stands = comes-decided _ (undecided_spaces c.args.tracer.now.variables c.args.ctx.now) c.steps.tracer.variables c.steps.ctx c.args.tracer.now.proof c.steps.tracer.proof unknown i.stands;
+      stands = comes-decided _ (undecided_spaces c.args.tracer.now.variables c.args.tracer.now.proof.checker c.args.ctx.now) c.steps.tracer.variables c.steps.ctx c.args.tracer.now.proof c.steps.tracer.proof unknown i.stands;
       still = i.still;
     }
 

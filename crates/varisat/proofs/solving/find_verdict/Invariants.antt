@@ -15,7 +15,7 @@ invariant-steps g l = record {
   state : l.ctx.solver_state ≡ l.fn.ctx.solver_state;
   config : l.ctx.solver_config ≡ l.fn.ctx.solver_config;
   made : HasMade l.fn.ctx l.ctx l.max_steps;
-  stands : ComesOn (steps_since l.fn.ctx.schedule l.ctx.schedule) (undecided_spaces l.fn.tracer.variables l.fn.ctx) (undecided_spaces l.tracer.variables l.ctx) l.fn.tracer.proof l.tracer.proof;
+  stands : ComesOn (steps_since l.fn.ctx.schedule l.ctx.schedule) (undecided_spaces l.fn.tracer.variables l.fn.tracer.proof.checker l.fn.ctx) (undecided_spaces l.tracer.variables l.tracer.proof.checker l.ctx) l.fn.tracer.proof l.tracer.proof;
   still : l.ctx.schedule.steps ≡ l.fn.ctx.schedule.steps → (l.ctx ≡ l.fn.ctx) × (parts_of l.tracer ≡ parts_of l.fn.tracer);
 }
 

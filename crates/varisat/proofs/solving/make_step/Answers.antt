@@ -9,6 +9,7 @@ use Rattle.varisat_tracer.specs.Tracing.{parts_of, BreaksProof}
 use Rattle.varisat_tracer.proofs.Telling.{proof-breaks-on, tells-on}
 use Rattle.varisat.specs.Searches.{BeginsSolverStep, MakesNamedStep}
 use Rattle.varisat.specs.Summaries.{undecided_spaces, spaces_with}
+use Rattle.varisat.proofs.CheckedHeld.{some-on}
 use Rattle.varisat.proofs.SearchVerdicts.{ready-counted, named-counted, kept-named, kept-counted}
 use Rattle.varisat.proofs.SinceSteps.{come-ended, steps-begun, step-ended}
 use Rattle.varisat.proofs.SolverSteps.{comes-through, unknown-undecided, some-through, named-comes}
@@ -29,6 +30,10 @@ named_conflict_step-requires-clause-kept g c = (begun g (goal.at.named_conflict_
 
 pub named_conflict_step-requires-clause-tells : goal.named_conflict_step-requires-clause-tells
 named_conflict_step-requires-clause-tells g c = (begun g (goal.at.named_conflict_step-requires-clause-tells g c).In_ok-begin).tells
+
+pub named_conflict_step-requires-clause-stands : goal.named_conflict_step-requires-clause-stands
+named_conflict_step-requires-clause-stands g c =
+    some-on 0 _ _ c.args.tracer.now.proof c.begin.new.tracer.proof (begun g (goal.at.named_conflict_step-requires-clause-stands g c).In_ok-begin).stands c.requires.stands
 
 pub named_conflict_step-requires-clause-unknown : goal.named_conflict_step-requires-clause-unknown
 named_conflict_step-requires-clause-unknown g c = ap (λ (s : SolverState). s.sat_state) (begun g (goal.at.named_conflict_step-requires-clause-unknown g c).In_ok-begin).state ∙ c.requires.unknown
@@ -60,7 +65,7 @@ returns-clause-made g c =
           same.solver_config m.count m.decidable (b.within i k);
       state = m.state ∙ ap (λ (s : SolverState). record s { sat_state = z.solver_state.sat_state }) b.state;
       count = m.count ∙ b.count;
-      stands = comes-through 0 1 1 p.proof q.proof r.proof (undecided_spaces p.variables x) (undecided_spaces q.variables y) (spaces_with r.variables (record z { schedule = plan })) refl (unknown-undecided q.variables y)
+      stands = comes-through 0 1 1 p.proof q.proof r.proof (undecided_spaces p.variables p.proof.checker x) (undecided_spaces q.variables q.proof.checker y) (spaces_with r.variables r.proof.checker (record z { schedule = plan })) refl (unknown-undecided q.variables q.proof.checker y)
           b.stands (named-comes (parts_of q) (parts_of r) y z b.kept m);
     }
 

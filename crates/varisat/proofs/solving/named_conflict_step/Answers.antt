@@ -5,17 +5,17 @@ use Rattle.varisat_search.specs.declared.error.StepError.TheVariants as step
 use Rattle.varisat_search.specs.Contexts.{view}
 use Rattle.varisat_search.specs.Seen.{outcome_of}
 use Rattle.varisat_search.specs.StepErrors.{step_faults}
-use Rattle.varisat_search.proofs.LeastHeld.{anything-for}
 use Rattle.varisat_trace.proofs.Broken.{passed-on}
-use Rattle.varisat_tracer.specs.Tracing.{parts_of, Relies, BreaksProof}
-use Rattle.varisat_tracer.proofs.Telling.{relies-any, breaks-proof, proof-unbroken, proof-breaks-on}
+use Rattle.varisat_tracer.specs.Tracing.{parts_of, BreaksProof}
+use Rattle.varisat_tracer.proofs.Telling.{breaks-proof, proof-unbroken, proof-breaks-on}
 use Rattle.varisat.specs.Accepting.{HasUser}
+use Rattle.varisat.proofs.CheckedHeld.{relied}
 use Rattle.varisat.proofs.PlainTables.{assumed-named}
 use Rattle.varisat.proofs.SearchVerdicts.{named-plainly, named-also}
 use Rattle.varisat.proofs.solving.named_conflict_step.Goals as goal
 
 pub conflict_step-requires-clause-holds : goal.conflict_step-requires-clause-holds
-conflict_step-requires-clause-holds g c = let x = parts_of c.args.tracer.now in anything-for (Relies x) (relies-any x c.requires.tells) (view c.args.ctx.now)
+conflict_step-requires-clause-holds g c = relied c.args.tracer.now.variables c.args.tracer.now.proof (view c.args.ctx.now) c.args.ctx.now.assumptions c.requires.tells c.requires.stands
 
 pub name_core-requires : goal.name_core-requires
 name_core-requires g c l h =

@@ -1,4 +1,4 @@
-use Rattle.std.proofs.Common.{ap, ◌∙◌, refl}
+use Rattle.std.proofs.Common.{◌∙◌, refl}
 use Rattle.varisat_names.specs.declared.variables.data.VarData.{VarData}
 use Rattle.varisat.proofs.VariableChanges.{hidden-unnamed, hidden-keeps}
 use Rattle.varisat.proofs.usage.hide_named.Goals as goal

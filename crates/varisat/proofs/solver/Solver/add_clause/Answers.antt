@@ -19,10 +19,15 @@ use Rattle.varisat.proofs.solver.Solver.add_clause.Goals as goal
 pub accept_clause-requires-clause-names : goal.accept_clause-requires-clause-names
 accept_clause-requires-clause-names g c = c.in_ok-check_names.ensures.0
 
+pub accept_clause-requires-clause-stands : goal.accept_clause-requires-clause-stands
+accept_clause-requires-clause-stands g c = let (s, fits, fresh) = (c.self.invariant c.if-self.false).stands in (s, fits)
+
 pub invariant_of-self : goal.invariant_of-self
 invariant_of-self g c _ =
     let e = c.in-Ok.ensures {u = tt} in
-    record { kept = e.kept; tells = e.tells; counts = since-now c.steps-self-inside.result c.accept_clause.new.ctx c.steps-self-inside.ensures.steps e.kept.ready c.steps-self-inside.ensures.plan }
+    let (s, fits, fresh) = (c.self.invariant c.if-self.false).stands in
+    let (x, told, v, more, proof, now) = e.accepted s fits in
+    record { stands = (_, now, λ e. absurd cc); kept = e.kept; tells = e.tells; counts = since-now c.steps-self-inside.result c.accept_clause.new.ctx c.steps-self-inside.ensures.steps e.kept.ready c.steps-self-inside.ensures.plan }
 
 pub returns-in_err-check_names : goal.returns-in_err-check_names
 returns-in_err-check_names g c s st =
@@ -54,7 +59,7 @@ returns-in-Ok g c s st =
       (stands-valid _ s q (ap not c.if-self.false), Accepted bad (may-constrain _ s q (ap not c.if-self.false) c.args.clause.now c.in_ok-check_names.ensures.0 c.in_ok-check_names.ensures.1) (x, v, like-told (start u) told now more grows)),
       record {
         ledger = ledger-is _ _ _ _ _ _ (ap (λ (x : Ledger). x.valid) q.ledger ∙ ap (λ (x : SolverState). not x.state_is_invalid) (sym e.state)) refl (ap (λ (x : Ledger). x.steps) q.ledger ∙ sym (ap (λ (x : Plan). x.steps) k'.schedule)) (none-since c.steps-self-inside.result c.accept_clause.new.ctx.schedule.steps c.steps-self-inside.ensures.steps) (ap (λ (x : Ledger). x.settings) q.ledger ∙ sym k'.solver_config);
-        fits = λ _. (w, ledger-free w (spaces_of c.accept_clause.new.tracer.variables (view c.accept_clause.new.ctx) c.accept_clause.new.ctx.assumptions c.accept_clause.new.ctx.solver_state.sat_state) t (record t.ledger { started = true; since = 0 }) (proof-free w _ (retold told u) now k));
+        fits = λ _. (w, ledger-free w (spaces_of c.accept_clause.new.tracer.variables c.accept_clause.new.tracer.proof.checker (view c.accept_clause.new.ctx) c.accept_clause.new.ctx.assumptions c.accept_clause.new.ctx.solver_state.sat_state) t (record t.ledger { started = true; since = 0 }) (proof-free w _ (retold told u) now k));
         proof = λ _. goes;
         flags = λ _. flags-started s (start t) (q.flags ok) refl refl grows;
       },

@@ -6,7 +6,7 @@ use Rattle.varisat.proofs.solver.Solver.begin_count.Goals as goal
 pub invariant_of-self : goal.invariant_of-self
 invariant_of-self g c v =
     let k = (c.self.invariant v).kept in
-    record { kept = k; tells = (c.self.invariant v).tells; counts = since-now c.steps-self-inside.result c.self.inside.ctx c.steps-self-inside.ensures.steps k.ready c.steps-self-inside.ensures.plan }
+    record { kept = k; tells = (c.self.invariant v).tells; stands = (c.self.invariant v).stands; counts = since-now c.steps-self-inside.result c.self.inside.ctx c.steps-self-inside.ensures.steps k.ready c.steps-self-inside.ensures.plan }
 
 pub returns : goal.returns
 returns g c s st = stands-anew (parts_of c.self.inside.tracer) c.self.inside.started c.self.inside.changed_at c.steps-self-inside.result c.self.inside.ctx s c.steps-self-inside.ensures.steps (rw (← c.self.view_is) at st)

@@ -6,6 +6,7 @@ use Rattle.varisat.specs.OpenProofs.{opened_state}
 use Rattle.varisat.specs.declared.solver.SolverError.{SolverError}
 use Rattle.varisat.specs.declared.solver.SolverError.TheVariants.{ProofIoError}
 use Rattle.varisat.specs.States.{Ledger}
+use Rattle.varisat.specs.Summaries.{spaces_with, StandsForSome}
 use Rattle.varisat.specs.Calls.{count_anew}
 use Rattle.varisat.specs.ProofCalls.{with_proof}
 use Rattle.varisat.proofs.CallStates.{stands-valid, broken, broken-invalid}
@@ -23,7 +24,8 @@ invariant_of-self-in-Ok g c v =
     let k = c.self.invariant v in
     record {
       kept = k.kept;
-      tells = subst CanTell (sym c.close_proof.ensures.closed) (record { room = tt; unchecked = k.tells.unchecked });
+      tells = subst CanTell (sym c.close_proof.ensures.closed) (record { room = tt; usable = k.tells.usable });
+      stands = subst (λ (p : ProofParts). StandsForSome (spaces_with c.self.inside.tracer.variables p.checker c.self.inside.ctx) c.self.inside.started) (sym c.close_proof.ensures.closed) k.stands;
       counts = since-now c.steps-self-inside-in-Ok.result c.self.inside.ctx c.steps-self-inside-in-Ok.ensures.steps k.kept.ready c.steps-self-inside-in-Ok.ensures.plan;
     }
 
@@ -40,7 +42,7 @@ returns-in-Ok-clause-call g c s st =
         )),
         refl,
       ),
-      stands-with-proof c.self.inside.tracer.variables c.self.inside.tracer.proof c.close_proof.new.proof c.self.inside.started c.self.inside.changed_at c.steps-self-inside-in-Ok.result c.self.inside.ctx s None c.steps-self-inside-in-Ok.ensures.steps
+      stands-with-proof c.self.inside.tracer.variables c.self.inside.tracer.proof c.close_proof.new.proof c.self.inside.started c.self.inside.changed_at c.steps-self-inside-in-Ok.result c.self.inside.ctx s None c.steps-self-inside-in-Ok.ensures.steps (ap (λ (p : ProofParts). p.checker) c.close_proof.ensures.closed)
           (ap (λ (p : ProofParts). p.opened) c.close_proof.ensures.closed) tt (λ (p, e). absurd cc) q,
     )
 

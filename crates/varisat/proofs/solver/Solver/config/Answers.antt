@@ -1,4 +1,6 @@
-use Rattle.std.proofs.Common.{not, refl, ap}
+use Rattle.std.proofs.Common.{not, refl, ap, sym, subst}
+use Rattle.varisat_search.specs.declared.context.Context.{Context}
+use Rattle.varisat.specs.Summaries.{spaces_with, StandsForSome}
 use Rattle.varisat_tracer.specs.Tracing.{parts_of}
 use Rattle.varisat.specs.Calls.{with_update}
 use Rattle.varisat.proofs.CallStates.{stands-valid}
@@ -27,6 +29,7 @@ invariant_of-self-2 g c v =
     let ready = c.config_changed.ensures.ready k.ready in
     record {
       kept = kept-updated c.self.inside.tracer.variables x y c.args.update.now _ _ e.1 ready c.config_changed.ensures.decidable k;
+      stands = subst (λ (z : Context g.row.A.Denot). StandsForSome (spaces_with c.self.inside.tracer.variables c.self.inside.tracer.proof.checker z) c.self.inside.started) (sym e.1) (c.self.invariant c.if-self.false).stands;
       tells = (c.self.invariant c.if-self.false).tells;
       counts = since-now c.steps-self-inside.result y c.steps-self-inside.ensures.steps ready c.steps-self-inside.ensures.plan;
     }

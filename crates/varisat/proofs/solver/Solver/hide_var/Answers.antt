@@ -1,4 +1,4 @@
-use Rattle.std.proofs.Common.{not, subst, sym, ap, true, false, Option}
+use Rattle.std.proofs.Common.{not, subst, sym, ap, refl, true, false, Option}
 use Rattle.varisat_proof.specs.Proving.{OpenState}
 use Rattle.varisat_tracer.specs.Tracing.{parts_of}
 use Rattle.varisat_tracer.proofs.Telling.{tells-told}
@@ -11,6 +11,7 @@ use Rattle.varisat.specs.VariableCalls.{named, hide_name, HidesVar}
 use Rattle.varisat.proofs.OpenProofs.{hidden-fits}
 use Rattle.varisat.proofs.CallStates.{ledger-is, none-since, begins, like-retold, broken, broken-invalid}
 use Rattle.varisat.proofs.Additions.{told-error}
+use Rattle.varisat.proofs.SettingsCalls.{summary_of}
 use Rattle.varisat.proofs.SinceSteps.{since-now}
 use Rattle.varisat.proofs.VariableStates.{unassumed-state, change-refused, hide-state, kept-after}
 use Rattle.varisat.proofs.solver.Solver.hide_var.Goals as goal
@@ -21,6 +22,7 @@ invariant_of-self g c v =
     record {
       kept = kept-after c.self.inside.ctx c.self.inside.tracer.variables c.hide_named.new.tracer.variables k (hides-stay c.args.var c.self.inside.ctx.solver_state.sat_state (parts_of c.self.inside.tracer) (parts_of c.hide_named.new.tracer) (c.in-Ok.ensures {u = tt}));
       tells = let (given, told, opened) = hides-told c.args.var c.self.inside.ctx.solver_state.sat_state (parts_of c.self.inside.tracer) (parts_of c.hide_named.new.tracer) (c.in-Ok.ensures {u = tt}) in tells-told c.self.inside.tracer.proof c.hide_named.new.tracer.proof given told (c.self.invariant c.if-self.false).tells;
+      stands = let (s, f, fresh) = (c.self.invariant c.if-self.false).stands in let (told, more, fits) = hide-state (summary_of (parts_of c.self.inside.tracer) c.self.inside.started c.self.inside.changed_at c.self.inside.ctx) s c.args.var c.self.inside.tracer.proof (parts_of c.hide_named.new.tracer) refl f (c.in-Ok.ensures {u = tt}) in (_, fits, fresh);
       counts = since-now c.steps-self-inside.result c.self.inside.ctx c.steps-self-inside.ensures.steps k.ready c.steps-self-inside.ensures.plan;
     }
 
@@ -37,7 +39,7 @@ returns-in-Ok g c s st =
     let q = parts_of c.hide_named.new.tracer in
     let v = c.self.inside.ctx.solver_state.sat_state in
     let hides = c.in-Ok.ensures {u = tt} in
-    let (told, more, fits) = hide-state c.args.var p q k hides in
+    let (told, more, fits) = hide-state (summary_of (parts_of c.self.inside.tracer) c.self.inside.started c.self.inside.changed_at c.self.inside.ctx) s c.args.var p q refl k.fits hides in
     let (given, was_told, same) = hides-told c.args.var v (parts_of c.self.inside.tracer) q hides in
     let u = hide_name c.args.var (name_var named c.args.var s) in
     let t = retold told u in

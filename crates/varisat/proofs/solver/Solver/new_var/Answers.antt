@@ -1,4 +1,4 @@
-use Rattle.std.proofs.Common.{◌∙◌, refl, not, sym, ap, arith, true, false, length}
+use Rattle.std.proofs.Common.{◌∙◌, inl, inr, refl, not, sym, ap, arith, true, false, length}
 use Rattle.varisat_theory.specs.Literals.{variable_of}
 use Rattle.varisat_names.specs.VarMap.{at}
 use Rattle.varisat_search.specs.Contexts.{view}
@@ -6,7 +6,7 @@ use Rattle.varisat_search.proofs.NamedVariables.{unmapped-near, unmapped-same}
 use Rattle.varisat_tracer.specs.Tracing.{parts_of}
 use Rattle.varisat.specs.Summaries.{spaces}
 use Rattle.varisat.specs.States.{Ledger}
-use Rattle.varisat.specs.Names.{name_one}
+use Rattle.varisat.specs.Names.{Naming, name_one}
 use Rattle.varisat.specs.Calls.{with_naming, start}
 use Rattle.varisat.proofs.AcceptClause.{with_tables, ledger-free}
 use Rattle.varisat_search.proofs.KeptNames.{given-keeps}
@@ -15,9 +15,10 @@ use Rattle.varisat.proofs.KeptCounts.{given-most}
 use Rattle.varisat.proofs.CallStates.{ledger-is, none-since, stands-valid, flags-started, like-refl, broken, broken-invalid}
 use Rattle.varisat.proofs.OpenProofs.{goes-on-none}
 use Rattle.varisat.proofs.SettingsCalls.{summary_of}
-use Rattle.varisat.proofs.SolverCalls.{least-free, new-named}
+use Rattle.varisat.proofs.SolverCalls.{least-free, named-alone, new-named}
 use Rattle.varisat.proofs.SinceSteps.{since-now}
 use Rattle.varisat.proofs.VariablesInUse.{tables-in-use}
+use Rattle.varisat.proofs.solver.Solver.new_var.Goals.{then-index-max_count-via-then-index-max_count, then-index-max_count-via-else-index-max_count+then-global_watermark-max_count}
 use Rattle.varisat.proofs.solver.Solver.new_var.Goals as goal
 
 pub invariant_of-self : goal.invariant_of-self
@@ -47,6 +48,7 @@ invariant_of-self g c v =
         marked = λ l y h f. let (z, e) = there-is (at old.users.forward (variable_of l)) (k.assumed l h) in marked-keeps old new (variable_of l) y z c.prove_linked.ensures keeps e (k.marked l z h e) f;
         working = λ l h. assumed-keeps old new (variable_of l) c.prove_linked.ensures keeps (k.working l h);
       };
+      stands = let (s, f, fresh) = (c.self.invariant c.if-self.false).stands in (_, new-named (summary_of (parts_of c.self.inside.tracer) c.self.inside.started c.self.inside.changed_at c.self.inside.ctx) s new u x f least.least (unmapped-near old.users.forward u least.least) t, λ e. absurd cc);
       tells = (c.self.invariant c.if-self.false).tells;
       counts = since-now c.steps-self-inside.result c.self.inside.ctx c.steps-self-inside.ensures.steps k.ready c.steps-self-inside.ensures.plan;
     }
@@ -79,4 +81,32 @@ returns-in-Err g c s st =
       broken s,
       ((c.next_unmapped_user-next.result, least, omega (arith, c.index.ensures.index, c.max_count.ensures, c.if-index-max_count.false)), broken-invalid s (stands-valid _ s q (ap not c.if-self.false)) f.1.well_formed),
       record { ledger = ap (λ (x : Ledger). record x { valid = false }) q.ledger; fits = λ e. absurd cc; proof = λ e. absurd cc; flags = λ e. absurd cc },
+    )
+
+pub returns-then-index-max_count : goal.returns-then-index-max_count
+returns-then-index-max_count g c s st =
+    let q = rw (← c.self.view_is) at st in
+    let ok = ap not c.if-self.false in
+    let old = summary_of (parts_of c.self.inside.tracer) c.self.inside.started c.self.inside.changed_at c.self.inside.ctx in
+    let f = q.fits ok in
+    let u = c.next_unmapped_user-next.result in
+    let least = least-free old s u f c.next_unmapped_user-next.ensures.least in
+    let near = unmapped-near old.tables.users.forward u c.next_unmapped_user-next.ensures.least in
+    let watermark = f.1.watermark in
+    let alone = named-alone u s.naming least.0 (omega (arith, near, watermark)) in (
+      s,
+      (
+        stands-valid _ s q ok,
+        (
+          u,
+          least,
+          elim c.then-index-max_count.branch [
+            | then-index-max_count-via-then-index-max_count w ↦ inl (let a = c.index.ensures.index in let b = c.max_count.ensures in let d = w.if-index-max_count.true in omega (arith, a, b, d))
+            | then-index-max_count-via-else-index-max_count+then-global_watermark-max_count w ↦
+                inr (let a = w.global_watermark.ensures in let b = w.max_count-else-index-max_count.ensures in let d = w.if-global_watermark-max_count.true in let made = f.1.globals in let one = ap (λ (m : Naming). m.made) alone in omega (arith, a, b, d, made, one))
+          ],
+        ),
+        refl,
+      ),
+      st,
     )

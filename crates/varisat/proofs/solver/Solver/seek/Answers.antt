@@ -10,9 +10,12 @@ use Rattle.varisat.specs.States.{State, Ledger}
 use Rattle.varisat_tracer.specs.Tracing.{TracerState, parts_of}
 use Rattle.varisat.specs.OpenProofs.{OpenProof, ProofFits, GoesOnWriting}
 use Rattle.varisat.proofs.OpenProofs.{proof-goes-on, open-there}
-use Rattle.varisat.specs.Searches.{ComesTo, FindsVerdict}
-use Rattle.varisat.specs.Spaces.{SpacesFit}
-use Rattle.varisat.specs.Summaries.{StandsFor, spaces_of, spaces_with}
+use Rattle.varisat.specs.Searches.{ComesTo, ComesOn, FindsVerdict}
+use Rattle.varisat_names.specs.Variables.{Tables}
+use Rattle.varisat_proof.specs.Calls.{CheckerState}
+use Rattle.varisat_proof.specs.Proving.{ProofParts}
+use Rattle.varisat.specs.Spaces.{Spaces, SpacesFit}
+use Rattle.varisat.specs.Summaries.{StandsFor, StandsForSome, spaces_of, spaces_with, undecided_spaces}
 use Rattle.varisat.specs.Calls.{with_steps, Searches, IsInterrupted, TellsVerdict}
 use Rattle.varisat.specs.declared.solver.SolverError.{SolverError}
 use Rattle.varisat.specs.declared.solver.SolverError.TheVariants.{Interrupted}
@@ -41,8 +44,8 @@ module _ {A : Type 0} {p q : TracerState} {started : Bool} {changed_at : ℕ} {x
   n : ℕ
   n = y.schedule.steps
 
-  comes : ComesTo (steps_since x.schedule y.schedule) s p.proof q.proof (spaces_with q.tables y)
-  comes = d.finds.stands s (subst (λ b. SpacesFit (spaces_of p.tables (view x) x.assumptions b) s) d.unknown (d.stood.fits d.valid))
+  comes : ComesTo (steps_since x.schedule y.schedule) s p.proof q.proof (spaces_with q.tables q.proof.checker y)
+  comes = d.finds.stands s (subst (λ b. SpacesFit (spaces_of p.tables p.proof.checker (view x) x.assumptions b) s) d.unknown (d.stood.fits d.valid))
 
   made : steps_since x.schedule y.schedule ≡ y.schedule.steps - s.ledger.steps
   made = ap (λ (l : Ledger). y.schedule.steps - l.steps) (sym d.stood.ledger)
@@ -82,7 +85,7 @@ found-call {p = p} {q = q} {started = started} {changed_at = changed_at} {x = x}
 moved-call : {A : Type 0} {p q : TracerState} {started : Bool} {changed_at : ℕ} {x y : Context A} {s : State} (d : Sought p q started changed_at x y None s) → CountsSteps (length s.counted) s.ledger.settings.max_steps s.ledger.since s.ledger.steps y.schedule.steps (Err Interrupted) → s.ledger.steps < y.schedule.steps → (t : State) × IsInterrupted s t × StandsFor (summary_of q started changed_at y) t
 moved-call {p = p} {q = q} {started = started} {changed_at = changed_at} {x = x} {y = y} {s = s} d k h =
     let last = answered-none y.solver_state.sat_state (sym d.finds.answer) in
-    let unknown = unknown-undecided q.tables y (after-solve (comes d).told (comes d).verdict y.schedule.steps (goes-on d).0 s) (subst (λ b. SpacesFit (spaces_of q.tables (view y) y.assumptions b) (after-solve (comes d).told (comes d).verdict y.schedule.steps (goes-on d).0 s)) last (comes-fits q.tables y (comes d) y.schedule.steps (goes-on d).0)) in (
+    let unknown = unknown-undecided q.tables q.proof.checker y (after-solve (comes d).told (comes d).verdict y.schedule.steps (goes-on d).0 s) (subst (λ b. SpacesFit (spaces_of q.tables q.proof.checker (view y) y.assumptions b) (after-solve (comes d).told (comes d).verdict y.schedule.steps (goes-on d).0 s)) last (comes-fits q.tables y (comes d) y.schedule.steps (goes-on d).0)) in (
       after-solve (comes d).told (comes d).verdict y.schedule.steps (goes-on d).0 s,
       comes-interrupted q.tables y (comes d) y.schedule.steps (goes-on d).0 (stands-valid (summary_of p started changed_at x) s d.stood d.valid) (was-unknown (summary_of p started changed_at x) s d.stood d.valid d.unknown) k unknown (made d) (λ e. omega (arith, h, e)) (goes-on d).1,
       stands-after d k,
@@ -123,15 +126,26 @@ sought-none g c s st = record {
   low = (c.self.invariant c.if-self.false).counts.low;
 }
 
+-- some state stands before the search
+begins : {A : Type 0} (t : Tables) (checker : Option CheckerState) (started : Bool) (x : Context A) → x.solver_state.sat_state ≡ verdict.Unknown → StandsForSome (spaces_with t checker x) started → StandsForSome (undecided_spaces t checker x) started
+begins t checker started x e f = subst (λ b. StandsForSome (spaces_of t checker (view x) x.assumptions b) started) e f
+
+-- and after what it came to
+on : {n : ℕ} {before after : Spaces} {p q : ProofParts} {started : Bool} → ComesOn n before after p q → StandsForSome before started → StandsForSome after started
+on comes (s, fits, fresh) = let c = comes s fits in (_, c.fits, fresh)
+
+pub find_verdict-requires-clause-stands : goal.find_verdict-requires-clause-stands
+find_verdict-requires-clause-stands g c = let (s, fits, fresh) = begins c.self.inside.tracer.variables c.self.inside.tracer.proof.checker c.self.inside.started c.self.inside.ctx c.in-Unknown.is (c.self.invariant c.if-self.false).stands in (s, fits)
+
 pub invariant_of-self : goal.invariant_of-self
 invariant_of-self g c _ =
     let f = c.in-Ok-Some.ensures.found in
-    record { kept = f.kept; tells = f.tells; counts = c.in-Ok-Some.ensures.since c.self.inside.changed_at (c.self.invariant c.if-self.false).counts }
+    record { stands = on f.stands (begins c.self.inside.tracer.variables c.self.inside.tracer.proof.checker c.self.inside.started c.self.inside.ctx c.in-Unknown.is (c.self.invariant c.if-self.false).stands); kept = f.kept; tells = f.tells; counts = c.in-Ok-Some.ensures.since c.self.inside.changed_at (c.self.invariant c.if-self.false).counts }
 
 pub invariant_of-self-in-Ok-None : goal.invariant_of-self-in-Ok-None
 invariant_of-self-in-Ok-None g c _ =
     let f = c.in-Ok-None.ensures.found in
-    record { kept = f.kept; tells = f.tells; counts = c.in-Ok-None.ensures.since c.self.inside.changed_at (c.self.invariant c.if-self.false).counts }
+    record { stands = on f.stands (begins c.self.inside.tracer.variables c.self.inside.tracer.proof.checker c.self.inside.started c.self.inside.ctx c.in-Unknown.is (c.self.invariant c.if-self.false).stands); kept = f.kept; tells = f.tells; counts = c.in-Ok-None.ensures.since c.self.inside.changed_at (c.self.invariant c.if-self.false).counts }
 
 pub returns-in-Sat-clause-satisfiable : goal.returns-in-Sat-clause-satisfiable
 returns-in-Sat-clause-satisfiable g c e s st = let q = rw (← c.self.view_is) at st in sat-right _ s q (ap not c.if-self.false) c.in-Sat.is

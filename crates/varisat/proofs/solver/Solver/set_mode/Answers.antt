@@ -5,6 +5,8 @@ use Rattle.varisat.specs.Usage.{name_var, SetsMode}
 use Rattle.varisat.specs.VariableCalls.{named, with_mode}
 use Rattle.varisat.proofs.CallStates.{ledger-is, none-since, begins, like-refl, broken, broken-invalid}
 use Rattle.varisat.proofs.Additions.{told-error}
+use Rattle.varisat.proofs.SettingsCalls.{summary_of}
+use Rattle.varisat_tracer.specs.Tracing.{parts_of}
 use Rattle.varisat.proofs.SinceSteps.{since-now}
 use Rattle.varisat.proofs.VariableStates.{unassumed-state, free-state, mode-refused, not-hide, mode-state, kept-after}
 use Rattle.varisat.proofs.solver.Solver.set_mode.Goals as goal
@@ -14,6 +16,7 @@ invariant_of-self g c v =
     let k = (c.self.invariant c.if-self.false).kept in
     record {
       kept = kept-after c.self.inside.ctx c.self.inside.tracer.variables c.set_named_mode.new.variables k (c.in-Ok.ensures {u = tt}).set.stays;
+      stands = let (s, f, fresh) = (c.self.invariant c.if-self.false).stands in (_, mode-state (summary_of (parts_of c.self.inside.tracer) c.self.inside.started c.self.inside.changed_at c.self.inside.ctx) s c.set_named_mode.new.variables c.args.var c.in-Ok.field-0 c.args.mode (mode_of c.args.mode) f c.requires (c.in-Ok.ensures {u = tt}).set, fresh);
       tells = (c.self.invariant c.if-self.false).tells;
       counts = since-now c.steps-self-inside.result c.self.inside.ctx c.steps-self-inside.ensures.steps k.ready c.steps-self-inside.ensures.plan;
     }
@@ -34,7 +37,7 @@ returns-in-Ok g c s st =
     let t = with_mode u (mode_of m) (name_var named u s) in (
       t,
       ((k.valid, may.in_range, unassumed-state u k may.unassumed, like-refl t), λ e. absurd cc),
-      record { ledger = ledger-is _ _ _ _ _ _ (ap (λ (x : Ledger). x.valid) k.ledger) (ap (λ (x : Ledger). x.started) k.ledger) (ap (λ (x : Ledger). x.steps) k.ledger) (none-since c.steps-self-inside.result c.self.inside.ctx.schedule.steps c.steps-self-inside.ensures.steps) (ap (λ (x : Ledger). x.settings) k.ledger); fits = λ _. mode-state c.set_named_mode.new.variables u c.in-Ok.field-0 m (mode_of m) k c.requires (c.in-Ok.ensures {u = tt}).set; proof = λ _. k.proof; flags = λ _. let f = k.flags in record { clauses = f.clauses; assumptions = f.assumptions; counted = f.counted; unassumed = f.unassumed } },
+      record { ledger = ledger-is _ _ _ _ _ _ (ap (λ (x : Ledger). x.valid) k.ledger) (ap (λ (x : Ledger). x.started) k.ledger) (ap (λ (x : Ledger). x.steps) k.ledger) (none-since c.steps-self-inside.result c.self.inside.ctx.schedule.steps c.steps-self-inside.ensures.steps) (ap (λ (x : Ledger). x.settings) k.ledger); fits = λ _. mode-state (summary_of (parts_of c.self.inside.tracer) c.self.inside.started c.self.inside.changed_at c.self.inside.ctx) s c.set_named_mode.new.variables u c.in-Ok.field-0 m (mode_of m) k.fits c.requires (c.in-Ok.ensures {u = tt}).set; proof = λ _. k.proof; flags = λ _. let f = k.flags in record { clauses = f.clauses; assumptions = f.assumptions; counted = f.counted; unassumed = f.unassumed } },
     )
 
 pub returns-in-Err : goal.returns-in-Err

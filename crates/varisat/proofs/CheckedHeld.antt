@@ -8,6 +8,7 @@ use Rattle.varisat_theory.specs.Held.{SameClauses, mentions, unless, without}
 use Rattle.varisat_theory.specs.Renaming.{rename, rename_line}
 use Rattle.varisat_theory.specs.Journals.{Entry, Accepts, Writes, Assumes, Fails, Leaves, Leads, NoneLeaves, written}
 use Rattle.varisat_theory.specs.Outcomes as outcome
+use Rattle.varisat_theory.specs.Searches.{Fits}
 use Rattle.varisat_theory.proofs.Held.{same_set-self, same_add, same_clauses-back, same_clauses-through, same_clauses_find, takes_out_unique}
 use Rattle.varisat_theory.proofs.HeldDrops.{same_without}
 use Rattle.varisat_theory.proofs.Members.{equal_or_not}
@@ -172,22 +173,23 @@ all-live w p s k n held led c l h i =
     let (d, j, same) = same_clauses_find held all (leads_unique [] [] s.told held all refl led first) c h in
     live d l j (same.1 l i)
 
--- As long as no verdict is known a search may rely on clauses that fit it.
-pub relied : (t : Tables) (p : ProofParts) (seen : View) (assumed : AssumptionParts) → CanTell p → FitSome (spaces_of t p.checker seen assumed verdict.Unknown) → HoldsFor (Relies (record { tables = t; proof = p })) (search_of seen)
-relied t p seen assumed can (s, (w, k)) =
-    let (others, h) = shared-held w (spaces_of t p.checker seen assumed verdict.Unknown) s k k.holds.held k.holds.told (k.checked (λ e. let z : outcome.Unknown ≡ outcome.Unsat = e in cc)) in
-    (k.holds.held, record { room = can.room; usable = can.usable; others = others; holds = h }, k.holds.holds)
+-- A search may rely on clauses that fit it and that it shares of what the checker has.
+relied-by : (t : Tables) (p : ProofParts) (seen : View) (assumed : AssumptionParts) (sat : SatState) (w : Carrying) (s : State) (k : Links w (spaces_of t p.checker seen assumed sat) s) → CanTell p → Fits k.holds.held (search_of seen) → SharesHeld (translation w (spaces_of t p.checker seen assumed sat) s.told) k.holds.held → CheckerFits w.global s.told p.checker → HoldsFor (Relies (record { tables = t; proof = p })) (search_of seen)
+relied-by t p seen assumed sat w s k can fits shares checked =
+    let (others, h) = shared-held w (spaces_of t p.checker seen assumed sat) s k k.holds.held shares checked in
+    (k.holds.held, record { room = can.room; usable = can.usable; others = others; holds = h }, fits)
 
--- So it is where the last verdict was one under assumptions, or a model.
+-- Unless the clauses are known to be unsatisfiable there are such.
 pub relied-open : (t : Tables) (p : ProofParts) (seen : View) (assumed : AssumptionParts) (sat : SatState) → sat ≢ verdict.Unsat → CanTell p → FitSome (spaces_of t p.checker seen assumed sat) → HoldsFor (Relies (record { tables = t; proof = p })) (search_of seen)
-relied-open t p seen assumed verdict.Unknown n can f = relied t p seen assumed can f
-relied-open t p seen assumed verdict.Sat n can (s, (w, k)) =
-    let (others, h) = shared-held w (spaces_of t p.checker seen assumed verdict.Sat) s k k.holds.held k.holds.told (k.checked (λ e. let z : outcome.Sat (assignment_of seen) ≡ outcome.Unsat = e in cc)) in
-    (k.holds.held, record { room = can.room; usable = can.usable; others = others; holds = h }, k.holds.holds)
+relied-open t p seen assumed verdict.Unknown n can (s, (w, k)) = relied-by t p seen assumed verdict.Unknown w s k can k.holds.holds k.holds.told (k.checked (λ e. let z : outcome.Unknown ≡ outcome.Unsat = e in cc))
+relied-open t p seen assumed verdict.Sat n can (s, (w, k)) = relied-by t p seen assumed verdict.Sat w s k can k.holds.holds k.holds.told (k.checked (λ e. let z : outcome.Sat (assignment_of seen) ≡ outcome.Unsat = e in cc))
 relied-open t p seen assumed verdict.Unsat n can f = absurd (n refl)
 relied-open t p seen assumed verdict.UnsatUnderAssumptions n can (s, (w, k)) =
-    let (others, h) = shared-held w (spaces_of t p.checker seen assumed verdict.UnsatUnderAssumptions) s k k.holds.held k.holds.told (k.checked (λ e. let z : outcome.Unknown ≡ outcome.Unsat = e in cc)) in
-    (k.holds.held, record { room = can.room; usable = can.usable; others = others; holds = h }, k.holds.holds)
+    relied-by t p seen assumed verdict.UnsatUnderAssumptions w s k can k.holds.holds k.holds.told (k.checked (λ e. let z : outcome.Unknown ≡ outcome.Unsat = e in cc))
+
+-- so it is as long as no verdict is known
+pub relied : (t : Tables) (p : ProofParts) (seen : View) (assumed : AssumptionParts) → CanTell p → FitSome (spaces_of t p.checker seen assumed verdict.Unknown) → HoldsFor (Relies (record { tables = t; proof = p })) (search_of seen)
+relied t p seen assumed can f = relied-open t p seen assumed verdict.Unknown (λ e. let z : verdict.Unknown ≡ verdict.Unsat = e in cc) can f
 
 -- What was some state's is some state's after what came of it.
 pub some-on : (n : ℕ) (before after : Spaces) (p q : ProofParts) → ComesOn n before after p q → FitSome before → FitSome after

@@ -45,7 +45,7 @@ by_leads_append n m P (x ∷ es) Q fs R (S, f, inr (j, q, d)) e = (S, f, inr (j 
 
 -- 2. The same clauses.
 
-follow_same : (P P' : List Clause) (e : Entry) (Q : List Clause) → SameClauses P P' → Follow P e Q → (Q' : List Clause) × Follow P' e Q' × SameClauses Q Q'
+pub follow_same : (P P' : List Clause) (e : Entry) (Q : List Clause) → SameClauses P P' → Follow P e Q → (Q' : List Clause) × Follow P' e Q' × SameClauses Q Q'
 follow_same P P' (Accepts c) Q s q = (P' ++ c ∷ [], refl, subst (λ x. SameClauses x (P' ++ c ∷ [])) (sym q) (same_add P P' c c s (same_set-self c)))
 follow_same P P' (Writes (Add c)) Q s (f, q) = (P' ++ c ∷ [], (follows_same P P' c c s (same_set-self c) f, refl), subst (λ x. SameClauses x (P' ++ c ∷ [])) (sym q) (same_add P P' c c s (same_set-self c)))
 follow_same P P' (Writes (Delete c)) Q s t = same_delete P P' c Q s t

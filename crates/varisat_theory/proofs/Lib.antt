@@ -33,3 +33,4 @@ pub mod StepCovers
 pub mod StepsMade
 pub mod Journals
 pub mod RenamedJournals
+pub mod NewClauses

@@ -15,4 +15,5 @@ pub mod Searches
 pub mod Outcomes
 pub mod StepLaws
 pub mod Journals
+pub mod NewClauses
 pub mod JournalLaws

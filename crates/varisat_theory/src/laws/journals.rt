@@ -1,6 +1,6 @@
 //! What a proof is told, entry by entry.
 
-ghost use Rattle.varisat_theory.specs.JournalLaws.{JournalDerives, JournalIsDetermined, JournalIsRenamed, JournalIsSound, JournalsJoin};
+ghost use Rattle.varisat_theory.specs.JournalLaws.{JournalAddsNew, JournalDerives, JournalIsDetermined, JournalIsRenamed, JournalIsSound, JournalsJoin};
 
 /// Journals join and are cut, and what counts adds up.
 pub fn journals_join()
@@ -10,6 +10,11 @@ pub fn journals_join()
 /// What is held is determined, but for order and spelling.
 pub fn journal_is_determined()
     ensures { JournalIsDetermined }
+{}
+
+/// New clauses add up.
+pub fn journal_adds_new()
+    ensures { JournalAddsNew }
 {}
 
 /// Where no variable leaves, the lines are a derivation from all clauses that are accepted.

@@ -30,7 +30,7 @@ use Rattle.varisat_names.proofs.Maps.{chain-some, chain-through}
 use Rattle.varisat.proofs.SearchLinks.{relinked-marks}
 use Rattle.varisat.proofs.SpacesAgree.{map-map, holds-same, isolation-same, marks-same}
 use Rattle.varisat.proofs.Carried.{carry-at, carry-sign, carry-opposite, map-empty, satisfied-carried, forced-value, wide-back}
-use Rattle.varisat.proofs.AcceptSolverVariables.{one-solver}
+use Rattle.varisat.proofs.AcceptSolverVariables.{one-literal}
 use Rattle.varisat.proofs.ReachedHeld.{told_lines, with_told, IsInUse, lines-lead, shares-after, shares-joined, told-quiet, counted-literal}
 use Rattle.varisat.proofs.ToldEntries.{told-written, told-accepted, told-assumed, spoken-renamed}
 use Rattle.varisat_proof.specs.Calls.{CheckerState}
@@ -100,12 +100,9 @@ module _ (w : Carrying) (p : Spaces) (s : State) (d : Clause) (k : Links w p s) 
   of-clause m h = let (l, a, q) = map-∈ (solver_literal p) m d h in let z = where-to l a in (z.i, ap (λ y. r.identity (variable_of y)) q ∙ ap r.identity z.solver ∙ z.there)
 
   -- what is carried to one literal is one literal
-  one-literal : (m n : Literal) (i : ℕ) → r.identity (variable_of m) ≡ Some i → (j : ℕ) → r.identity (variable_of n) ≡ Some j → carry r.identity n ≡ carry r.identity m → n ≡ m
+  one-carried : (m n : Literal) (i : ℕ) → r.identity (variable_of m) ≡ Some i → (j : ℕ) → r.identity (variable_of n) ≡ Some j → carry r.identity n ≡ carry r.identity m → n ≡ m
   unfolding r
-  one-literal m n i a j b q =
-      let to = (translation w p s.told).identity in
-      let z : j ≡ i = sym (carry-at to n j b) ∙ ap variable_of q ∙ carry-at to m i a in
-      same-literal n m (one-solver w p s k (variable_of m) (variable_of n) i a (b ∙ ap Some z)) (sym (carry-sign to n) ∙ ap polarity_of q ∙ carry-sign to m)
+  one-carried m n i a j b q = one-literal w p s k n m (j, b) (i, a) q
 
   -- what contradicts the accepted clauses contradicts the search
   module _ (h : SearchHolds s.clauses r p.search outcome.Unknown) (long : AreLong p.search) where
@@ -119,10 +116,10 @@ module _ (w : Carrying) (p : Spaces) (s : State) (d : Clause) (k : Links w p s) 
         h.fixed open-verdict m i a (ap r.forced (sym (ap variable_of z ∙ carry-at r.identity m i a)) ∙ forced-value r.forced l g ∙ ap Some (ap polarity_of z ∙ carry-sign r.identity m))
     by-cover m i a D u (FixedTrue l f g) =
         let (j, b) = h.within l (inl f) in
-        subst (λ y. y ∈ p.search.fixed) (one-literal m l i a j b (u.1 (carry r.identity l) g)) f
+        subst (λ y. y ∈ p.search.fixed) (one-carried m l i a j b (u.1 (carry r.identity l) g)) f
     by-cover m i a D u (Kept kc f g q) =
         let (x, y, b, o, n) = long kc f in
-        let one : (z : Literal) → z ∈ kc.clause → z ≡ m = (λ z j. let t = h.within z (inr (kc, f, j)) in one-literal m z i a t.0 t.1 (u.1 (carry r.identity z) (q z j))) in
+        let one : (z : Literal) → z ∈ kc.clause → z ≡ m = (λ z j. let t = h.within z (inr (kc, f, j)) in one-carried m z i a t.0 t.1 (u.1 (carry r.identity z) (q z j))) in
         absurd (n (one x b ∙ sym (one y o)))
 
     contradicted : ContradictsUnit s.clauses c → outcome.IsContradicted p.search e
@@ -143,7 +140,7 @@ module _ (w : Carrying) (p : Spaces) (s : State) (d : Clause) (k : Links w p s) 
             in-e,
             λ n j. let (n0, g, y) = map-∈ (solver_literal p) n d j in
                 let t = of-clause n j in
-                one-literal m n i f t.0 t.1 (ap (carry r.identity) y ∙ through n0 g ∙ u.1 (through_names s.naming n0) (∈-map (through_names s.naming) n0 d g) ∙ sym lm),
+                one-carried m n i f t.0 t.1 (ap (carry r.identity) y ∙ through n0 g ∙ u.1 (through_names s.naming n0) (∈-map (through_names s.naming) n0 d g) ∙ sym lm),
           ),
           by-cover (opposite m) i f' D (subst (λ y. IsUnit y D) (sym (carry-opposite r.identity m ∙ ap opposite lm)) o) (h.covered open-verdict D b),
         ))
@@ -171,7 +168,7 @@ module _ (w : Carrying) (p : Spaces) (s : State) (d : Clause) (k : Links w p s) 
         loads.verdict
 
     -- the clause joins, and then come the lines
-    joins : SharesHeld (with_told (r.told ++ Accepts c ∷ []) r) (h.held ++ e ∷ [])
+    joins : SharesHeld (with_told (r.told ++ Accepts c ∷ []) r) p.search.fixed (h.held ++ e ∷ [])
     joins = shares-joined r h.held c e same-clause of-clause h.told
 
     goes-more : GoesOn 0 (r.told ++ Accepts c ∷ []) (told_lines r lines)
@@ -190,7 +187,7 @@ module _ (w : Carrying) (p : Spaces) (s : State) (d : Clause) (k : Links w p s) 
           known = λ a m. h.known a (satisfies_fewer a s.clauses (c ∷ []) m);
           fixed = λ n l i a b. fixed-on s.clauses r p.search t v h long in-covers n l (h.fixed (λ q. let z : outcome.Unknown ≡ outcome.Unsat = q in cc) l i a b);
           covered = covers-more;
-          told = shares-after (with_told (r.told ++ Accepts c ∷ []) r) (h.held ++ e ∷ []) 0 lines last joins g t v (spoken_wider (IsLiteralOfEither p.search e) (IsInUse r) lines (λ l. elim [ inl a ↦ h.within l a | inr a ↦ of-clause l a ]) loads.speaks) plain o;
+          told = shares-after (with_told (r.told ++ Accepts c ∷ []) r) (h.held ++ e ∷ []) 0 lines last joins g t v (fixed-on s.clauses r p.search t v h long in-covers) (spoken_wider (IsLiteralOfEither p.search e) (IsInUse r) lines (λ l. elim [ inl a ↦ h.within l a | inr a ↦ of-clause l a ]) loads.speaks) plain o;
         }
 
   -- the identities of the literals were made
@@ -326,7 +323,7 @@ module _ (w : Carrying) (p : Spaces) (s : State) (d : Clause) (k : Links w p s) 
         })
         (record {
           solvers = k.solvers;
-          holds = holds-same s.clauses (translation w p s.told) (translation w p (s.told ++ Assumes (map (through_names s.naming) d) ∷ [])) p.search (without_core p.outcome) (λ v. refl) (λ i. refl) (λ share q. told-quiet (translation w p s.told) (Assumes (map (through_names s.naming) d)) (λ held _. refl) share (without_core p.outcome) q) k.holds;
+          holds = holds-same s.clauses (translation w p s.told) (translation w p (s.told ++ Assumes (map (through_names s.naming) d) ∷ [])) p.search (without_core p.outcome) (λ v. refl) (λ i. refl) (λ share q. told-quiet (translation w p s.told) (Assumes (map (through_names s.naming) d)) (λ held _. refl) p.search.fixed share (without_core p.outcome) q) k.holds;
           assumptions = record { agree = refl; taken = taken };
           working = record {
             used = of-clause;

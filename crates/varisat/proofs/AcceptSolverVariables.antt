@@ -7,18 +7,21 @@ use Rattle.varisat_theory.specs.Renaming.{rename}
 use Rattle.varisat_theory.specs.Searches.{Search, Fits, IsLiteralOf, IsCoveredBySearch, Tautology, KnownTrue, FixedTrue, Kept}
 use Rattle.varisat_theory.specs.Outcomes.{Outcome}
 use Rattle.varisat_theory.specs.Outcomes as outcome
-use Rattle.varisat_theory.proofs.Members.{equal_or_not, ∈-append_left}
+use Rattle.varisat_theory.proofs.Members.{equal_or_not, ∈-append_left, ∈-append_cases}
 use Rattle.varisat_theory.proofs.HeldDrops.{without_less}
 use Rattle.varisat_literals.specs.Numbers.{polarity_of}
+use Rattle.varisat_prop.proofs.LiteralValues.{same-literal}
 use Rattle.varisat_names.specs.Maps.{updated, onward, chain}
 use Rattle.varisat.specs.States.{State}
 use Rattle.varisat.specs.Carried.{carry, is_forced}
-use Rattle.varisat.specs.Spaces.{Spaces, Carrying, Translation, translation, SearchHolds, AssumptionsFit, without_core, Links}
+use Rattle.varisat.specs.Spaces.{Spaces, Carrying, Translation, translation, IsSettledBy, SearchHolds, AssumptionsFit, without_core, Links}
 use Rattle.varisat.proofs.SpacesMoves.{take_solver}
 use Rattle.varisat_search.proofs.TakenSolvers.{few, below, below-count, ∈-below}
 use Rattle.varisat_names.proofs.Maps.{updated-at, updated-other, updated-all, joined, chain-some, chain-none, chain-through, is-some}
-use Rattle.varisat.proofs.SpacesAgree.{carry-same, working-same}
-use Rattle.varisat.proofs.ReachedHeld.{only, fits-without, same-apart, inside-apart, live-apart, in-use-lives}
+use Rattle.varisat.proofs.SpacesAgree.{carry-same, working-same, settled-through}
+use Rattle.varisat.proofs.ForgottenWith.{settled-with}
+use Rattle.varisat.proofs.Carried.{carry-at, carry-sign}
+use Rattle.varisat.proofs.ReachedHeld.{IsInUse, only, unmentioned, fits-without, same-apart, inside-apart, live-apart, in-use-lives}
 use Rattle.varisat.proofs.SearchHeld.{with-model, without-model}
 use Rattle.varisat.proofs.NewNames.{linked}
 use Rattle.varisat.proofs.SearchLinks.{relinked}
@@ -31,6 +34,13 @@ one-solver w p s k v v' i a b =
     let q : Some y ≡ Some x = sym (k.identities.one_to_one.there y i h) ∙ k.identities.one_to_one.there x i f in
     let r : Some v' ≡ Some v = sym (k.solvers.one_to_one.back y v' g) ∙ ap p.solver_from_global (let z : y ≡ x = cc in z) ∙ k.solvers.one_to_one.back x v e in
     cc
+
+-- and no two of their literals for one literal
+pub one-literal : (w : Carrying) (p : Spaces) (s : State) (k : Links w p s) (l m : Literal) → IsInUse (translation w p s.told) l → IsInUse (translation w p s.told) m → carry (translation w p s.told).identity l ≡ carry (translation w p s.told).identity m → l ≡ m
+one-literal w p s k l m (i, a) (j, b) q =
+    let to = (translation w p s.told).identity in
+    let z : j ≡ i = sym (carry-at to m j b) ∙ ap variable_of (sym q) ∙ carry-at to l i a in
+    same-literal l m (sym (one-solver w p s k (variable_of l) (variable_of m) i a (b ∙ ap Some z))) (sym (carry-sign to l) ∙ ap polarity_of q ∙ carry-sign to m)
 
 -- 1. A solver variable is taken.
 module _ (w : Carrying) (p : Spaces) (s : State) (x i v : ℕ) (k : Links w p s) (is : w.identity x ≡ Some i) (spoken : i ∈ s.counted) (unsolved : p.solver_from_global x ≡ None) (free : p.global_from_solver v ≡ None) where
@@ -70,6 +80,15 @@ module _ (w : Carrying) (p : Spaces) (s : State) (x i v : ℕ) (k : Links w p s)
   same : (l : Literal) → IsLiteralOf p.search l → carry to l ≡ carry to' l
   unfolding to to'
   same l a = carry-same (chain p.global_from_solver w.identity) (chain (updated p.global_from_solver v (Some x)) w.identity) l (sym (to-other (variable_of l) (other l a)))
+
+  -- what says nothing more says nothing more after that, and so does what is held and mentions v
+  pub settled-on : (held : List Clause) → Fits held p.search → (F : List Clause) → ((c : Clause) → c ∈ F → IsSettledBy (translation w p s.told) p.search.fixed c) → (c : Clause) → c ∈ (F ++ rename (carry (chain p.global_from_solver w.identity)) (only v held)) → IsSettledBy (translation w (take_solver x v p) s.told) p.search.fixed c
+  unfolding to to'
+  settled-on held f F settled c h =
+      settled-through (translation w p s.told) (translation w (take_solver x v p) s.told) p.search.fixed p.search.fixed
+      (λ l k. ⊎_elim (λ e. inl e) (λ (m, a, e). inr (m, a, sym (same m (inl a)) ∙ e)) k)
+      c
+      (⊎_elim (settled c) (settled-with (translation w p s.told) v held p.search f (λ d a. unmentioned v d.clause (λ l b. other l (inr (d, a, b)))) c) (∈-append_cases c F (rename (carry (chain p.global_from_solver w.identity)) (only v held)) h))
 
   pub in-both : (c : Clause) → IsCoveredBySearch (carry (chain p.global_from_solver w.identity)) (is_forced w.forced) p.search c → IsCoveredBySearch (carry (chain (updated p.global_from_solver v (Some x)) w.identity)) (is_forced w.forced) p.search c
   unfolding to to'
@@ -136,6 +155,7 @@ module _ (w : Carrying) (p : Spaces) (s : State) (x i v : ℕ) (k : Links w p s)
           inside = inside-apart (translation w p s.told) (translation w (take_solver x v p) s.told) v h.held to-other q;
           units = λ j b y e g n. let (c, a, u) = q.units j b y e g (λ u z. n u (stays u j z)) in (c, ∈-append_left c q.forgotten old a, u);
           live = live-apart (translation w p s.told) v h.held (in-use-lives w p s k) q;
+          settled = settled-on h.held h.holds q.forgotten q.settled;
         };
   }
 

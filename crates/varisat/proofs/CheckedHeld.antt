@@ -147,7 +147,7 @@ module _ (w : Carrying) (p : Spaces) (s : State) (k : Links w p s) where
   -- 3. What a search may rely on.
 
   -- Clauses that it shares are, with those that were forgotten, what the checker has.
-  pub shared-held : (share : List Clause) → SharesHeld (translation w p s.told) share → CheckerFits w.global s.told p.checker → (others : List Clause) × MayHold p.checker (others ++ rename (global.carry p.global_from_solver) share)
+  pub shared-held : {fixed : List Literal} (share : List Clause) → SharesHeld (translation w p s.told) fixed share → CheckerFits w.global s.told p.checker → (others : List Clause) × MayHold p.checker (others ++ rename (global.carry p.global_from_solver) share)
   shared-held share q fits =
       let f = carry (translation w p s.told).identity in
       let g = carry w.global in
@@ -174,7 +174,7 @@ all-live w p s k n held led c l h i =
     live d l j (same.1 l i)
 
 -- A search may rely on clauses that fit it and that it shares of what the checker has.
-relied-by : (t : Tables) (p : ProofParts) (seen : View) (assumed : AssumptionParts) (sat : SatState) (w : Carrying) (s : State) (k : Links w (spaces_of t p.checker seen assumed sat) s) → CanTell p → Fits k.holds.held (search_of seen) → SharesHeld (translation w (spaces_of t p.checker seen assumed sat) s.told) k.holds.held → CheckerFits w.global s.told p.checker → HoldsFor (Relies (record { tables = t; proof = p })) (search_of seen)
+relied-by : {fixed : List Literal} (t : Tables) (p : ProofParts) (seen : View) (assumed : AssumptionParts) (sat : SatState) (w : Carrying) (s : State) (k : Links w (spaces_of t p.checker seen assumed sat) s) → CanTell p → Fits k.holds.held (search_of seen) → SharesHeld (translation w (spaces_of t p.checker seen assumed sat) s.told) fixed k.holds.held → CheckerFits w.global s.told p.checker → HoldsFor (Relies (record { tables = t; proof = p })) (search_of seen)
 relied-by t p seen assumed sat w s k can fits shares checked =
     let (others, h) = shared-held w (spaces_of t p.checker seen assumed sat) s k k.holds.held shares checked in
     (k.holds.held, record { room = can.room; usable = can.usable; others = others; holds = h }, fits)

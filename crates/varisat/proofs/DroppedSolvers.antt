@@ -6,7 +6,7 @@ use Rattle.varisat_theory.specs.Renaming.{rename}
 use Rattle.varisat_theory.specs.Held.{mentions, without}
 use Rattle.varisat_theory.specs.Searches.{KeptClause, Search, clauses_of, IsCoveredBySearch, Tautology, KnownTrue, FixedTrue, Kept, IsLiteralOf}
 use Rattle.varisat_theory.specs.Outcomes as outcome
-use Rattle.varisat_theory.proofs.Members.{equal_or_not, ∈-append_left, ∈-append_right}
+use Rattle.varisat_theory.proofs.Members.{equal_or_not, ∈-append_left, ∈-append_right, ∈-append_cases}
 use Rattle.varisat_theory.proofs.Renaming.{∈-map, map-∈}
 use Rattle.varisat_theory.proofs.HeldDrops.{without_less}
 use Rattle.varisat_theory.proofs.StepDrops.{variable_is_dropped}
@@ -18,13 +18,13 @@ use Rattle.varisat_names.specs.declared.variables.data.VarData.{VarData}
 use Rattle.varisat_names.proofs.Maps.{updated-at, updated-other, updated-all, parted, chain-some, chain-none, chain-through}
 use Rattle.varisat.specs.States.{State}
 use Rattle.varisat.specs.Carried.{carry, AgreesAlong, is_value, is_forced}
-use Rattle.varisat.specs.Spaces.{Spaces, Carrying, UnitsFit, IsolationCase, NotIsolated, Apart, Forced, IsolationFits, AssumptionsFit, Translation, SharesHeld, SearchHolds, without_core, translation, Links}
+use Rattle.varisat.specs.Spaces.{Spaces, Carrying, UnitsFit, IsolationCase, NotIsolated, Apart, Forced, IsolationFits, AssumptionsFit, Translation, IsKnownTrue, SharesHeld, SearchHolds, without_core, translation, Links}
 use Rattle.varisat.proofs.Carried.{carry-at, carry-sign, literal-parts, forced-value}
-use Rattle.varisat.proofs.SpacesAgree.{identities-same, modes-same, marks-same, working-same, carry-same, value-same}
+use Rattle.varisat.proofs.SpacesAgree.{identities-same, modes-same, marks-same, working-same, carry-same, value-same, settled-through}
 use Rattle.varisat.proofs.VariableMoves.{leave_search}
 use Rattle.varisat.proofs.HiddenStates.{field-same, identity-named}
 use Rattle.varisat.proofs.ReachedHeld.{left-apart, only, same-apart, inside-apart, live-apart, in-use-lives}
-use Rattle.varisat.proofs.ForgottenWith.{not-over, unit-forgotten}
+use Rattle.varisat.proofs.ForgottenWith.{not-over, unit-forgotten, settled-with}
 
 -- The search t is s without the variable, which no kept clause mentions. `known` is the value that it has at level 0, which is held as a unit clause.
 pub record IsWithout (v : ℕ) (known : Option Bool) (s t : Search) : Type 0 where
@@ -165,8 +165,18 @@ module _ (w : Carrying) (p : Spaces) (s : State) (v x i : ℕ) (known : Option B
       let (c, y, z) = unit-forgotten (carry to) l h.held (clauses_of p.search.kept ++ h.holds.others) d h.holds.same (∈-append_right d (clauses_of p.search.kept) h.holds.others a) u in
       (c, subst (λ n. c ∈ rename (carry to) (only n h.held)) (variable-literal v b) y, subst (λ m. IsUnit m c) (unit-literal b) z)
 
+  -- what was true for good stays so
+  known-on : (l : Literal) → IsKnownTrue (translation w p s.told) p.search.fixed l → IsKnownTrue r' t.fixed l
+  unfolding to to' forced' r'
+  known-on l (inl e) = inl (forced-true forced' l (forced-on (variable_of l) (polarity_of l) (forced-value w.forced l e)))
+  known-on l (inr (m, a, e)) =
+      ⊎_elim
+      (λ y. inr (m, y, sym (same-carried m (inl y)) ∙ e))
+      (λ (q, z). inl (subst (λ y. is_forced forced' y ≡ true) e (fixed-forced m q z)))
+      (f.stays m a)
+
   -- the clauses that mention the variable join those that were forgotten
-  forgotten-on : SharesHeld r' (without v h.held)
+  forgotten-on : SharesHeld r' t.fixed (without v h.held)
   unfolding to to' forced' r'
   forgotten-on =
       let before = h.told in
@@ -184,6 +194,9 @@ module _ (w : Carrying) (p : Spaces) (s : State) (v x i : ℕ) (known : Option B
             (λ n. let (c, a, u) = before.units j b y (sym (updated-other w.forced i known j n) ∙ e) g (none-before j n none) in (c, ∈-append_left c before.forgotten gone a, u))
             (equal_or_not j i);
         live = live-apart (translation w p s.told) v h.held (in-use-lives w p s k) before;
+        settled = λ c e.
+            settled-through (translation w p s.told) r' p.search.fixed t.fixed known-on c
+            (⊎_elim (before.settled c) (settled-with (translation w p s.told) v h.held p.search h.holds f.unmentioned c) (∈-append_cases c before.forgotten gone e));
       }
 
   -- All assignments agree on the value, and what is kept of the global variable tells it.

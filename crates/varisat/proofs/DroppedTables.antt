@@ -35,6 +35,7 @@ use Rattle.varisat.specs.Spaces.{Spaces, Carrying, Translation, SearchHolds, tra
 use Rattle.varisat.specs.Summaries.{spaces_of}
 use Rattle.varisat.specs.Dropping.{fixed_to, LosesSolverVar}
 use Rattle.varisat.proofs.SpacesMoves.{with_search}
+use Rattle.varisat.proofs.ReachedHeld.{shares-more}
 use Rattle.varisat.proofs.SolveVerdict.{maps-alike, maps-same, recount}
 use Rattle.varisat.proofs.KeptCounts.{kept-most}
 use Rattle.varisat.proofs.SearchLinks.{relinked}
@@ -254,7 +255,7 @@ same-holds P r s t f h = record {
   known = h.known;
   fixed = λ n l i e z. on l (h.fixed n l i e z);
   covered = λ n. dropped_are_covered s t (carry r.identity) (is_forced r.forced) (is_forced r.forced) P f.kept (λ l a. inl (on l a)) (λ l e. e) (h.covered n);
-  told = h.told;
+  told = shares-more on h.told;
 }
   where
     on : (l : Literal) → l ∈ s.fixed → l ∈ t.fixed

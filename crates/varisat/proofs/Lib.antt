@@ -17,6 +17,7 @@ pub mod DroppedSolvers
 pub mod DroppedTables
 pub mod DroppedUnneeded
 pub mod FindVerdictSteps
+pub mod ForgottenCopies
 pub mod ForgottenWith
 pub mod HiddenTables
 pub mod HiddenStates

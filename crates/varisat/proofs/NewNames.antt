@@ -218,7 +218,7 @@ module _ (w : Carrying) (p : Spaces) (s : State) (u x : ℕ) (k : Links w p s) (
       solvers = record { one_to_one = k.solvers.one_to_one; live = λ v y h. let r = k.solvers.live v y h in (r.0, stays y r.0 r.1, r.2) };
       holds = holds-same s.clauses (translation w p s.told) (record { identity = chain p.global_from_solver id'; global = updated w.global s.naming.made (Some x); forced = w.forced; told = s.told }) p.search (without_core p.outcome)
           identity-same (λ i. refl)
-          (λ share q. told-same (translation w p s.told) (record { identity = chain p.global_from_solver id'; global = updated w.global s.naming.made (Some x); forced = w.forced; told = s.told }) share (without_core p.outcome) identity-same (λ i. refl)
+          (λ share q. told-same (translation w p s.told) (record { identity = chain p.global_from_solver id'; global = updated w.global s.naming.made (Some x); forced = w.forced; told = s.told }) p.search.fixed share (without_core p.outcome) identity-same (λ i. refl)
           (λ i y b e g. (y, sym (updated-other w.global s.naming.made (Some x) i (λ o. let z : None ≡ Some b = sym unforced ∙ ap w.forced (sym o) ∙ e in absurd cc)) ∙ g))
           (λ i y. updated-all (λ i o. w.global i ≡ Some y → (z : ℕ) × (o ≡ Some z)) w.global s.naming.made (Some x) (λ e. (x, refl)) i (λ n e. (y, e))) refl q)
           k.holds;

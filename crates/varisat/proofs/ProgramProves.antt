@@ -1,71 +1,48 @@
 -- What deciding a text leaves in the target of a proof, and how it fails.
-use Rattle.std.proofs.Common.{◌≡◌, ℕ, Bool, true, false, List, [], ◌∷◌, ◌++◌, ◌⊎◌, inl, inr, ⊎_elim, sym, ap, ◌∙◌, subst, refl, Option, Some, None, Ok, Err, append_assoc}
-use Rattle.varisat_theory.specs.Membership.{◌⊆◌}
-use Rattle.varisat_theory.specs.Literals.{Literal, Clause}
-use Rattle.varisat_theory.specs.Derivations.{IsDerivation, Refutes}
-use Rattle.varisat_theory.specs.Journals.{lines_of}
-use Rattle.varisat_theory.proofs.Journals.{leads_refutes}
+use Rattle.std.proofs.Common.{◌≡◌, ℕ, Bool, true, false, List, [], ◌∷◌, ◌++◌, inl, inr, sym, ap, ◌∙◌, subst, refl, Option, Some, None, Ok, Err, append_assoc}
+use Rattle.varisat_theory.specs.Literals.{Clause}
 use Rattle.varisat_formula.specs.Dimacs.{Reading, dimacs}
 use Rattle.varisat_formula.specs.Streams.{Stand, Taken}
 use Rattle.varisat_proof.specs.declared.proof.format.ProofFormat.{ProofFormat}
 use Rattle.varisat_proof.specs.Proving.{OpenState, IsClosed}
-use Rattle.varisat.specs.OpenProofs.{OpenProof, opened_state, GoesOnWriting, searched_under, first_proof, IsWrittenAs, IsWrittenIf}
-use Rattle.varisat.specs.States.{State, Ledger, Verdict, Unknown, Sat, Unsat, UnsatUnderAssumptions, IsRight}
+use Rattle.varisat.specs.OpenProofs.{OpenProof, opened_state, GoesOnWriting, searched_under, first_proof}
+use Rattle.varisat.specs.States.{State, Ledger, Unknown}
+use Rattle.varisat.specs.ProofCalls.{HasProof}
 use Rattle.varisat.specs.Calls as state
 use Rattle.varisat.specs.Calls.{IsValid, TellsVerdict}
 use Rattle.varisat.specs.Additions as additions
 use Rattle.varisat.specs.Additions.{Gave, NoFault, MemoryFault, Fault, ClauseRefused, ClausesAdded, RefusedEarly, FaultInText, Whole, MemoryRanOut, SourceFailed, Read, Unread}
-use Rattle.varisat.specs.Journals.{IsJournal, ToldConflict}
 use Rattle.varisat.specs.Decided as conclusion
-use Rattle.varisat.specs.Decided.{Conclusion, Decides, allowed_steps}
+use Rattle.varisat.specs.Decided.{Conclusion, allowed_steps}
 use Rattle.varisat.specs.Proven.{prepared, Finds, Reports, IsProven, IsProvenIf, DecidesProven, Fails, AsSearched, AsListed}
 use Rattle.varisat.specs.declared.solver.SolverError.{SolverError}
 use Rattle.varisat.specs.declared.solver.SolverError.TheVariants.{Interrupted, ProofIoError, OutOfMemory, Invalid, ClauseStoreFull, WitnessVar, VariableLimit, AssumedVar, ClauseAfterSolve, ProofOpen, ProofTooLate, ConfigOutOfRange, Dimacs}
 use Rattle.varisat.proofs.OpenProofs.{goes-on-none, goes-on-through}
-use Rattle.varisat.proofs.VerdictAnswers.{is-unknown-or-not}
 use Rattle.varisat.proofs.MoreClauses.{Carries}
 use Rattle.varisat.proofs.ProgramDecides.{prepared-agrees, unsearched, done, found}
 
 -- 1. What adding a text keeps.
 
--- no core was found, and no model
-abbrev IsFresh : Verdict → Type 0
-IsFresh v = (v ≡ Unknown) ⊎ (v ≡ Unsat)
-
--- An open proof has more bytes; nothing is hidden or assumed, and no verdict is found but Unsat.
+-- An open proof has more bytes, and nothing is hidden.
 record Keeps (s t : State) : Type 0 where
   proof : GoesOnWriting s.proof t.proof
   hidden : t.ever_hidden ≡ s.ever_hidden
-  assumptions : t.assumptions ≡ s.assumptions
-  fresh : IsFresh s.verdict → IsFresh t.verdict
 
 keeps-all-of : (s : State) → Keeps s s
-keeps-all-of s = record { proof = goes-on-none s.proof; hidden = refl; assumptions = refl; fresh = λ h. h }
+keeps-all-of s = record { proof = goes-on-none s.proof; hidden = refl }
 
 keeps-anew : (s t : State) → t ≡ state.count_anew s → Keeps s t
-keeps-anew s t e = subst (Keeps s) (sym e) (record { proof = goes-on-none s.proof; hidden = refl; assumptions = refl; fresh = λ h. h })
+keeps-anew s t e = subst (Keeps s) (sym e) (record { proof = goes-on-none s.proof; hidden = refl })
 
 keeps-through : (s m t : State) → Keeps s m → Keeps m t → Keeps s t
 keeps-through s m t a b = record {
   proof = goes-on-through s.proof m.proof t.proof a.proof b.proof;
   hidden = b.hidden ∙ a.hidden;
-  assumptions = b.assumptions ∙ a.assumptions;
-  fresh = λ h. b.fresh (a.fresh h);
 }
-
-after-fresh : (P : List Clause) (c : Clause) (v w : Verdict) → state.VerdictAfter P c v w → IsFresh v → IsFresh w
-after-fresh P c v w (state.Refuted e u) h = inr e
-after-fresh P c v w (state.Reopened e u) (inl h) = inl (e ∙ ap state.reopened_verdict h)
-after-fresh P c v w (state.Reopened e u) (inr h) = inr (e ∙ ap state.reopened_verdict h)
 
 keeps-clause : (s t : State) (d : Clause) → state.AddsClause s d done t → Keeps s t
 keeps-clause s t d (v, state.Ignored n e) = keeps-anew s t e
-keeps-clause s t d (v, state.Accepted n lim (w, after, e)) = record {
-  proof = e.proof;
-  hidden = e.ever_hidden;
-  assumptions = e.assumptions;
-  fresh = λ h. subst IsFresh (sym e.verdict) (after-fresh _ _ s.verdict w after h);
-}
+keeps-clause s t d (v, state.Accepted n lim (w, after, e)) = record { proof = e.proof; hidden = e.ever_hidden }
 
 keeps-clauses : (s t : State) (P : List Clause) → state.AddsAll s P done t → Keeps s t
 keeps-clauses s t [] (u, e) = subst (Keeps s) (sym e) (keeps-all-of s)
@@ -96,7 +73,6 @@ record Asks (t u : State) : Type 0 where
   proof : GoesOnWriting (searched_under t.proof) u.proof
   hidden : u.ever_hidden ≡ t.ever_hidden
   clauses : u.clauses ≡ t.clauses
-  assumptions : u.assumptions ≡ t.assumptions
 
 asks-told : (t u : State) (b : Bool) → TellsVerdict (state.once_searched t) b u → Asks t u
 asks-told t u b r = record {
@@ -104,7 +80,6 @@ asks-told t u b r = record {
   proof = r.rest.proof;
   hidden = r.rest.ever_hidden;
   clauses = r.rest.clauses;
-  assumptions = r.rest.assumptions;
 }
 
 asks : (t u : State) (c : Conclusion) → Finds t c u → Asks t u
@@ -113,7 +88,6 @@ asks t u conclusion.Unknown r = record {
   proof = r.rest.proof;
   hidden = r.rest.ever_hidden;
   clauses = r.rest.clauses;
-  assumptions = r.rest.assumptions;
 }
 asks t u (conclusion.Decided None) r = asks-told t u false r
 asks t u (conclusion.Decided (Some model)) (r, m) = asks-told t u true r
@@ -121,40 +95,13 @@ asks t u (conclusion.Decided (Some model)) (r, m) = asks-told t u true r
 pub finds-valid : (t u : State) (c : Conclusion) → Finds t c u → IsValid u
 finds-valid t u c f = (asks t u c f).valid
 
--- 3. What was told refutes where none was found.
+-- where none was found the answer was false
+finds-none : (t u : State) (c : Conclusion) → Finds t c u → c ≡ conclusion.Decided None → state.answer_of u.verdict ≡ Some false
+finds-none t u conclusion.Unknown f e = absurd cc
+finds-none t u (conclusion.Decided None) f e = f.answer
+finds-none t u (conclusion.Decided (Some model)) f e = let z : Some model ≡ None = cc in absurd cc
 
-none-of-none : (core : List Literal) → core ⊆ [] → core ≡ []
-none-of-none [] h = refl
-none-of-none (l ∷ core) h = absurd (h l (inl refl))
-
-conflict-refutes : (u : State) → IsJournal u → u.ever_hidden ≡ false → ToldConflict u.told → Refutes u.clauses (lines_of u.told)
-conflict-refutes u j h (held, led, conflict) = subst (λ P. Refutes P (lines_of u.told)) j.accepted (leads_refutes [] u.told held (j.stays h) led conflict)
-
-none-refuted : (t u : State) → IsFresh t.verdict → u.assumptions ≡ [] → u.ever_hidden ≡ false → TellsVerdict (state.once_searched t) false u → IsJournal u → Refutes u.clauses (lines_of u.told)
-none-refuted t u fresh none h r j = go u.verdict refl
-  where
-    core-refuted : (core : List Literal) → u.verdict ≡ UnsatUnderAssumptions core → Refutes u.clauses (lines_of u.told)
-    core-refuted core e =
-        let (part, fails) = subst (IsRight u.clauses u.assumptions u.counted) e r.right in
-        let empty = none-of-none core (subst (λ A. core ⊆ A) none part) in
-        ⊎_elim
-        (λ unknown. conflict-refutes u j h (r.unassumed unknown (e ∙ ap UnsatUnderAssumptions empty)))
-        (λ known. let same = (r.known known).0 in
-        absurd (⊎_elim (λ f. known f) (λ f. let z : UnsatUnderAssumptions core ≡ Unsat = sym e ∙ same ∙ f in cc) fresh))
-        (is-unknown-or-not t.verdict)
-
-    go : (v : Verdict) → u.verdict ≡ v → Refutes u.clauses (lines_of u.told)
-    go Unknown e = let z : None ≡ Some false = ap state.answer_of (sym e) ∙ r.answer in absurd cc
-    go (Sat a) e = let z : Some true ≡ Some false = ap state.answer_of (sym e) ∙ r.answer in let y : true ≡ false = cc in absurd cc
-    go Unsat e = j.refutes h e
-    go (UnsatUnderAssumptions core) e = core-refuted core e
-
-finds-refuted : (t u : State) (c : Conclusion) → IsFresh t.verdict → u.assumptions ≡ [] → u.ever_hidden ≡ false → Finds t c u → IsJournal u → c ≡ conclusion.Decided None → Refutes u.clauses (lines_of u.told)
-finds-refuted t u conclusion.Unknown fresh none h f j e = absurd cc
-finds-refuted t u (conclusion.Decided None) fresh none h f j e = none-refuted t u fresh none h f j
-finds-refuted t u (conclusion.Decided (Some model)) fresh none h f j e = let z : Some model ≡ None = cc in absurd cc
-
--- 4. The target of the proof.
+-- 3. The target of the proof.
 
 -- what a proof that was open from the beginning is at the end
 open-at-end : (p : OpenProof) (first middle last : Option OpenProof) → first ≡ Some p → GoesOnWriting first middle → GoesOnWriting (searched_under middle) last → (bytes : List ℕ) × (last ≡ Some (record p { bytes = p.bytes ++ bytes; searched = true }))
@@ -173,21 +120,21 @@ closed-none taken None h = refl
 closed-none taken (Some w) h = absurd h
 
 proven-bytes : {W : Type 0} (taken : W → Taken) (format : ProofFormat) (target back : W) (u : State) (bytes : List ℕ) (P : List Clause) (c : Conclusion) →
-    u.proof ≡ Some (record (first_proof format (taken target)) { bytes = bytes; searched = true }) → u.ever_hidden ≡ false → IsJournal u → Carries u.clauses P → (c ≡ conclusion.Decided None → Refutes u.clauses (lines_of u.told)) →
+    u.proof ≡ Some (record (first_proof format (taken target)) { bytes = bytes; searched = true }) → u.ever_hidden ≡ false → HasProof u → Carries u.clauses P → (c ≡ conclusion.Decided None → state.answer_of u.verdict ≡ Some false) →
     taken back ≡ record { bytes = (taken target).bytes ++ bytes; faults = (taken target).faults } → IsProven format P c (taken target) (taken back)
-proven-bytes taken format target back u bytes P c e h j carries refuted same =
-    let w : IsWrittenAs u.ever_hidden u.told (record (first_proof format (taken target)) { bytes = bytes; searched = true }) = subst (IsWrittenIf u.ever_hidden u.told) e j.written in
+proven-bytes taken format target back u bytes P c e h has carries none same =
+    let b = has (record (first_proof format (taken target)) { bytes = bytes; searched = true }) e in
     record {
-      lines = w.lines;
-      bytes = ap (λ (x : Taken). x.bytes) same ∙ ap (λ xs. (taken target).bytes ++ xs) w.bytes;
+      lines = b.lines;
+      bytes = ap (λ (x : Taken). x.bytes) same ∙ ap (λ xs. (taken target).bytes ++ xs) b.written;
       faults = ap (λ (x : Taken). x.faults) same;
-      derives = carries.derives w.lines (subst (IsDerivation u.clauses) (w.all h) (j.derives h));
-      refutes = λ n. carries.refutes w.lines (subst (Refutes u.clauses) (w.all h) (refuted n));
+      derives = carries.derives b.lines (b.derives h);
+      refutes = λ n. carries.refutes b.lines (b.refutes h (none n));
     }
 
-pub proven : {W : Type 0} (taken : W → Taken) (format : ProofFormat) (limit : Option ℕ) (old new : Stand) (target back : Option W) (t u : State) (c : Conclusion) (opened : Option OpenState) → state.AddsDimacs (prepared taken format limit target) old done new t → Finds t c u → IsJournal u → opened ≡ opened_state u.proof → IsClosed {E = SolverError} taken opened (Ok back) →
+pub proven : {W : Type 0} (taken : W → Taken) (format : ProofFormat) (limit : Option ℕ) (old new : Stand) (target back : Option W) (t u : State) (c : Conclusion) (opened : Option OpenState) → state.AddsDimacs (prepared taken format limit target) old done new t → Finds t c u → HasProof u → opened ≡ opened_state u.proof → IsClosed {E = SolverError} taken opened (Ok back) →
     DecidesProven taken format (allowed_steps limit) old new target back c
-proven {W = W} taken format limit old new target back t u c opened adds finds j is closed =
+proven {W = W} taken format limit old new target back t u c opened adds finds has is closed =
     let s = prepared taken format limit target in
     let (d, carries) = found (unsearched taken format target) limit old new s t (prepared-agrees taken format limit target) adds c u finds in
     record { decides = d; proven = go target back adds (dimacs d.read.text).clauses carries (subst (λ o. IsClosed {E = SolverError} taken o (Ok back)) is closed) }
@@ -202,15 +149,14 @@ proven {W = W} taken format limit old new target back t u c opened adds finds j 
         let a = asks t u c finds in
         let (bytes, e) = open-at-end (first_proof format (taken target)) (Some (first_proof format (taken target))) t.proof u.proof refl k.proof a.proof in
         let h = a.hidden ∙ k.hidden in
-        let refuted = finds-refuted t u c (k.fresh (inl refl)) (a.assumptions ∙ k.assumptions) h finds j in
-        there target back bytes P e h (subst (λ Q. Carries Q P) (sym a.clauses) carries) refuted (subst (λ o. IsClosed {E = SolverError} taken (opened_state o) (Ok back)) e closed)
+        there target back bytes P e h (subst (λ Q. Carries Q P) (sym a.clauses) carries) (subst (λ o. IsClosed {E = SolverError} taken (opened_state o) (Ok back)) e closed)
       where
-        there : (target : W) (back : Option W) (bytes : List ℕ) (P : List Clause) → u.proof ≡ Some (record (first_proof format (taken target)) { bytes = bytes; searched = true }) → u.ever_hidden ≡ false → Carries u.clauses P → (c ≡ conclusion.Decided None → Refutes u.clauses (lines_of u.told)) →
+        there : (target : W) (back : Option W) (bytes : List ℕ) (P : List Clause) → u.proof ≡ Some (record (first_proof format (taken target)) { bytes = bytes; searched = true }) → u.ever_hidden ≡ false → Carries u.clauses P →
             IsClosed {E = SolverError} taken (opened_state (Some (record (first_proof format (taken target)) { bytes = bytes; searched = true }))) (Ok back) → IsProvenIf taken format P c (Some target) back
-        there target None bytes P e h carries refuted closed = absurd closed
-        there target (Some back) bytes P e h carries refuted closed = proven-bytes taken format target back u bytes P c e h j carries refuted closed
+        there target None bytes P e h carries closed = absurd closed
+        there target (Some back) bytes P e h carries closed = proven-bytes taken format target back u bytes P c e h has carries (finds-none t u c finds) closed
 
--- 5. Errors.
+-- 4. Errors.
 
 pub fails-reported : (A : Type 0) {W : Type 0} (taken : W → Taken) (s : State) (old new : Stand) (t u : State) (e : SolverError) → state.AddsDimacs s old done new t → Reports {A = A} t (Err e) u → Fails taken s old new e
 fails-reported A taken s old new t u OutOfMemory a (inl f) = AsSearched t u a f (λ e. cc)

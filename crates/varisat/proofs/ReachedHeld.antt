@@ -4,7 +4,7 @@ use Rattle.std.proofs.lemmas.List.{map-append, append-nil}
 use Rattle.varisat_theory.specs.Membership.{◌∈◌, ◌⊆◌, SameSet}
 use Rattle.varisat_theory.specs.Literals.{Literal, Clause, variable_of, opposite}
 use Rattle.varisat_theory.specs.Propagation.{Conflicts}
-use Rattle.varisat_theory.specs.Derivations.{Line, Add, Delete, TakesOut, SpeakOf}
+use Rattle.varisat_theory.specs.Derivations.{Line, TakesOut, SpeakOf}
 use Rattle.varisat_theory.specs.Held.{SameClauses, mentions, unless, without}
 use Rattle.varisat_theory.specs.Renaming.{rename, rename_line}
 use Rattle.varisat_theory.specs.Counted.{DerivesBy}
@@ -18,6 +18,7 @@ use Rattle.varisat_theory.proofs.Held.{same_set-self, same_add, same_clauses-sel
 use Rattle.varisat_theory.proofs.HeldDrops.{without_less, without_append, same_without}
 use Rattle.varisat_theory.proofs.Renaming.{map-∈, conflicts_renamed, same_clauses_renamed}
 use Rattle.varisat_theory.proofs.StepDrops.{variable_is_dropped}
+use Rattle.varisat_theory.proofs.NewClauses.{over_after}
 use Rattle.varisat_theory.proofs.Journals.{leads_append, by_leads, by_leads_same, written_by, goes_on, by_renamed, by_beside}
 use Rattle.varisat_prop.proofs.LiteralValues.{own-opposite}
 use Rattle.varisat_names.specs.Maps.{chain}
@@ -28,7 +29,7 @@ use Rattle.varisat.specs.Spaces.{Carrying, Spaces, Translation, IsCounted, AreLi
 use Rattle.varisat.specs.Journals.{ToldConflict}
 use Rattle.varisat_search.proofs.StepOutcome.{variable-literal}
 use Rattle.varisat.proofs.Carried.{carry-at, carry-opposite}
-use Rattle.varisat.proofs.SpacesAgree.{carry-same, rename-same}
+use Rattle.varisat.proofs.SpacesAgree.{carry-same, rename-same, settled-more, settled-alike}
 
 -- 1. Lists that hold the same clauses.
 
@@ -102,11 +103,6 @@ left-in P d Q c (front, x, back, e, s, f) h =
     i)
     (∈-append_cases c front (x ∷ back) (subst (λ y. c ∈ y) e h))
 
--- what is left stood there before
-pub taken-less : (P : List Clause) (d : Clause) (R : List Clause) → TakesOut P d R → R ⊆ P
-taken-less P d R (front, x, back, e, s, f) c h =
-    subst (λ y. c ∈ y) (sym e) (⊎_elim (λ a. ∈-append_left c front (x ∷ back) a) (λ b. ∈-append_right c front (x ∷ back) (inr b)) (∈-append_cases c front back (subst (λ y. c ∈ y) f h)))
-
 -- 4. A search that is not over a variable.
 
 -- the proved literals are fixed
@@ -125,6 +121,10 @@ fits-without v share s other f =
 
 -- 5. What a search shares of what is held.
 
+-- more is fixed
+pub shares-more : {r : Translation} {fixed more : List Literal} {share : List Clause} → fixed ⊆ more → SharesHeld r fixed share → SharesHeld r more share
+shares-more {r} {fixed} {more} stay q = record { held = q.held; led = q.led; forgotten = q.forgotten; same = q.same; inside = q.inside; units = q.units; live = q.live; settled = λ c h. settled-more r fixed more stay c (q.settled c h) }
+
 -- the lines over identities, as entries
 abbrev pub told_lines : Translation → List Line → List Entry
 told_lines r lines = written (map (rename_line (carry r.identity)) lines)
@@ -136,7 +136,7 @@ pub record LinesLead (n : ℕ) (r : Translation) (F share : List Clause) (lines 
   pub same : SameClauses held (F ++ rename (carry r.identity) after)
   pub goes : GoesOn n r.told (told_lines r lines)
 
-pub lines-lead : (n : ℕ) (r : Translation) (share : List Clause) (lines : List Line) (after : List Clause) (q : SharesHeld r share) → DerivesBy n share lines after → LinesLead n r q.forgotten share lines after
+pub lines-lead : {fixed : List Literal} (n : ℕ) (r : Translation) (share : List Clause) (lines : List Line) (after : List Clause) (q : SharesHeld r fixed share) → DerivesBy n share lines after → LinesLead n r q.forgotten share lines after
 lines-lead n r share lines after q d =
     let f = carry r.identity in
     let ls = map (rename_line f) lines in
@@ -157,22 +157,11 @@ with_told told r = record r { told = told }
 abbrev pub IsInUse : Translation → Literal → Type 0
 IsInUse r l = (i : ℕ) × (r.identity (variable_of l) ≡ Some i)
 
--- The clauses after lines have literals of those before and of the lines alone.
-inside-after : (n : ℕ) (are : Literal → Type 0) (P : List Clause) (lines : List Line) (Q : List Clause) → DerivesBy n P lines Q → ((c : Clause) (l : Literal) → c ∈ P → l ∈ c → are l) → SpeakOf are lines → (c : Clause) (l : Literal) → c ∈ Q → l ∈ c → are l
-inside-after n are P [] Q e f w = subst (λ (X : List Clause). (c : Clause) (l : Literal) → c ∈ X → l ∈ c → are l) e f
-inside-after n are P (Add c ∷ lines) Q (g, d) f (a, w) =
-    let more : (x : Clause) (l : Literal) → x ∈ (P ++ c ∷ []) → l ∈ x → are l = λ x l h i. ⊎_elim (λ z. f x l z i) (λ z. ⊎_elim (λ q. a l (subst (λ y. l ∈ y) q i)) (λ o. absurd o) z) (∈-append_cases x P (c ∷ []) h) in
-    ⊎_elim
-    (λ (m, y). inside-after n are (P ++ c ∷ []) lines Q y more w)
-    (λ (m, o, y). inside-after m are (P ++ c ∷ []) lines Q y more w)
-    d
-inside-after n are P (Delete c ∷ lines) Q (R, out, d) f (a, w) = inside-after n are R lines Q d (λ x l h i. f x l (taken-less P c R out x h) i) w
-
-module _ (r : Translation) (share : List Clause) (n : ℕ) (lines : List Line) (after : List Clause) (q : SharesHeld r share) (d : DerivesBy n share lines after) where
-  shares-fits : SpeakOf (IsInUse r) lines → SharesHeld (with_told (r.told ++ told_lines r lines) r) after
-  shares-fits speaks =
+module _ {fixed : List Literal} (r : Translation) (share : List Clause) (n : ℕ) (lines : List Line) (after : List Clause) (q : SharesHeld r fixed share) (d : DerivesBy n share lines after) where
+  shares-fits : (more : List Literal) → fixed ⊆ more → SpeakOf (IsInUse r) lines → SharesHeld (with_told (r.told ++ told_lines r lines) r) more after
+  shares-fits more stay speaks =
       let on = lines-lead n r share lines after q d in
-      record { held = on.held; led = on.led; forgotten = q.forgotten; same = on.same; inside = inside-after n (IsInUse r) share lines after d q.inside speaks; units = q.units; live = q.live }
+      shares-more stay (record { held = on.held; led = on.led; forgotten = q.forgotten; same = on.same; inside = over_after n (IsInUse r) share lines after d q.inside speaks; units = q.units; live = q.live; settled = q.settled })
 
   told-conflict : Conflicts after [] → ToldConflict (r.told ++ told_lines r lines)
   told-conflict k =
@@ -182,14 +171,14 @@ module _ (r : Translation) (share : List Clause) (n : ℕ) (lines : List Line) (
       (on.held, on.led, conflicts_same all on.held [] (same_clauses-back on.held all on.same) (conflicts_more (rename f after) all [] [] (covered_by_more (rename f after) all (λ c h. ∈-append_right c q.forgotten (rename f after) h)) (λ l h. h) (conflicts_renamed f (carry-opposite r.identity) after [] k)))
 
   -- what a search shares after lines over variables in use
-  pub shares-after : (t : Search) (v : Outcome) → SpeakOf (IsInUse r) lines → ((core : List Literal) → v ≡ outcome.UnsatUnder core → ⊥) → Holds after t v → HeldFits (with_told (r.told ++ told_lines r lines) r) after v
-  shares-after t outcome.Unknown speaks plain h = shares-fits speaks
-  shares-after t (outcome.Sat found) speaks plain h = shares-fits speaks
-  shares-after t outcome.Unsat speaks plain h = told-conflict h
-  shares-after t (outcome.UnsatUnder core) speaks plain h = absurd (plain core refl)
+  pub shares-after : (t : Search) (v : Outcome) → (v ≢ outcome.Unsat → fixed ⊆ t.fixed) → SpeakOf (IsInUse r) lines → ((core : List Literal) → v ≡ outcome.UnsatUnder core → ⊥) → Holds after t v → HeldFits (with_told (r.told ++ told_lines r lines) r) t.fixed after v
+  shares-after t outcome.Unknown stay speaks plain h = shares-fits t.fixed (stay (λ e. let z : outcome.Unknown ≡ outcome.Unsat = e in cc)) speaks
+  shares-after t (outcome.Sat found) stay speaks plain h = shares-fits t.fixed (stay (λ e. let z : outcome.Sat found ≡ outcome.Unsat = e in cc)) speaks
+  shares-after t outcome.Unsat stay speaks plain h = told-conflict h
+  shares-after t (outcome.UnsatUnder core) stay speaks plain h = absurd (plain core refl)
 
 -- an accepted clause joins what is held
-pub shares-joined : (r : Translation) (share : List Clause) (c d : Clause) → map (carry r.identity) d ≡ c → ((l : Literal) → l ∈ d → (i : ℕ) × (r.identity (variable_of l) ≡ Some i)) → SharesHeld r share → SharesHeld (with_told (r.told ++ Accepts c ∷ []) r) (share ++ d ∷ [])
+pub shares-joined : {fixed : List Literal} (r : Translation) (share : List Clause) (c d : Clause) → map (carry r.identity) d ≡ c → ((l : Literal) → l ∈ d → (i : ℕ) × (r.identity (variable_of l) ≡ Some i)) → SharesHeld r fixed share → SharesHeld (with_told (r.told ++ Accepts c ∷ []) r) fixed (share ++ d ∷ [])
 shares-joined r share c d e in-use q =
     let f = carry r.identity in
     let names : (q.forgotten ++ rename f share) ++ c ∷ [] ≡ q.forgotten ++ rename f (share ++ d ∷ []) = append_assoc q.forgotten (rename f share) (c ∷ []) ∙ ap (λ x. q.forgotten ++ (rename f share ++ x ∷ [])) (sym e) ∙ ap (λ x. q.forgotten ++ x) (sym (map-append (map f) share (d ∷ []))) in
@@ -201,10 +190,11 @@ shares-joined r share c d e in-use q =
       inside = λ x l h i. ⊎_elim (λ a. q.inside x l a i) (λ a. ⊎_elim (λ z. in-use l (subst (λ y. l ∈ y) z i)) (λ z. absurd z) a) (∈-append_cases x share (d ∷ []) h);
       units = q.units;
       live = q.live;
+      settled = q.settled;
     }
 
 -- A variable gets an identity, or loses it. What is held and mentions it is forgotten, over the names before.
-pub same-apart : (r r' : Translation) (v : ℕ) (share : List Clause) → ((u : ℕ) → (u ≡ v → ⊥) → r'.identity u ≡ r.identity u) → (q : SharesHeld r share) → SameClauses q.held ((q.forgotten ++ rename (carry r.identity) (only v share)) ++ rename (carry r'.identity) (without v share))
+pub same-apart : {fixed : List Literal} (r r' : Translation) (v : ℕ) (share : List Clause) → ((u : ℕ) → (u ≡ v → ⊥) → r'.identity u ≡ r.identity u) → (q : SharesHeld r fixed share) → SameClauses q.held ((q.forgotten ++ rename (carry r.identity) (only v share)) ++ rename (carry r'.identity) (without v share))
 same-apart r r' v share other q =
     let f = carry r.identity in
     let g = carry r'.identity in
@@ -212,7 +202,7 @@ same-apart r r' v share other q =
     (renamed-apart v f g share q.forgotten (λ c l h i. carry-same r.identity r'.identity l (sym (other (variable_of l) (left-apart v share c l h i)))))
 
 -- what is left is over variables that are in use still
-pub inside-apart : (r r' : Translation) (v : ℕ) (share : List Clause) → ((u : ℕ) → (u ≡ v → ⊥) → r'.identity u ≡ r.identity u) → SharesHeld r share → (c : Clause) (l : Literal) → c ∈ without v share → l ∈ c → (i : ℕ) × (r'.identity (variable_of l) ≡ Some i)
+pub inside-apart : {fixed : List Literal} (r r' : Translation) (v : ℕ) (share : List Clause) → ((u : ℕ) → (u ≡ v → ⊥) → r'.identity u ≡ r.identity u) → SharesHeld r fixed share → (c : Clause) (l : Literal) → c ∈ without v share → l ∈ c → (i : ℕ) × (r'.identity (variable_of l) ≡ Some i)
 inside-apart r r' v share other q c l h i = let (j, e) = q.inside c l (without_less v share c h) i in (j, other (variable_of l) (left-apart v share c l h i) ∙ e)
 
 -- Each variable in use leads to a live identity. So the clauses over such variables are over live identities.
@@ -225,25 +215,25 @@ carried-live r P lives inside c l h i =
     let (x, e) = lives (variable_of m) j g in
     (x, ap r.global (ap variable_of y ∙ carry-at r.identity m j g) ∙ e)
 
-only-less : (v : ℕ) (P : List Clause) → only v P ⊆ P
-only-less v [] c h = h
-only-less v (d ∷ P) c h = go (mentions v d) h (only-less v P c)
+pub only-is : (v : ℕ) (P : List Clause) (c : Clause) → c ∈ only v P → (c ∈ P) × (mentions v c ≡ true)
+only-is v [] c h = absurd h
+only-is v (d ∷ P) c h = go (mentions v d) refl h (only-is v P c)
   where
-    go : (b : Bool) → c ∈ unless (not b) d (only v P) → (c ∈ only v P → c ∈ P) → c ∈ (d ∷ P)
-    go true (inl e) f = inl e
-    go true (inr i) f = inr (f i)
-    go false i f = inr (f i)
+    go : (b : Bool) → mentions v d ≡ b → c ∈ unless (not b) d (only v P) → (c ∈ only v P → (c ∈ P) × (mentions v c ≡ true)) → (c ∈ (d ∷ P)) × (mentions v c ≡ true)
+    go true q (inl e) f = (inl e, ap (mentions v) e ∙ q)
+    go true q (inr i) f = let (a, b) = f i in (inr a, b)
+    go false q i f = let (a, b) = f i in (inr a, b)
 
 -- what is forgotten then is over live identities
-pub live-apart : (r : Translation) (v : ℕ) (share : List Clause) → ((u i : ℕ) → r.identity u ≡ Some i → (x : ℕ) × (r.global i ≡ Some x)) → (q : SharesHeld r share) → AreLive r (q.forgotten ++ rename (carry r.identity) (only v share))
+pub live-apart : {fixed : List Literal} (r : Translation) (v : ℕ) (share : List Clause) → ((u i : ℕ) → r.identity u ≡ Some i → (x : ℕ) × (r.global i ≡ Some x)) → (q : SharesHeld r fixed share) → AreLive r (q.forgotten ++ rename (carry r.identity) (only v share))
 live-apart r v share lives q c l h i =
     ⊎_elim
     (λ a. q.live c l a i)
-    (λ a. carried-live r (only v share) lives (λ d m b n. q.inside d m (only-less v share d b) n) c l a i)
+    (λ a. carried-live r (only v share) lives (λ d m b n. q.inside d m (only-is v share d b).0 n) c l a i)
     (∈-append_cases c q.forgotten (rename (carry r.identity) (only v share)) h)
 
 -- and so is all that is held
-pub held-live : (r : Translation) (share : List Clause) → ((v i : ℕ) → r.identity v ≡ Some i → (x : ℕ) × (r.global i ≡ Some x)) → (q : SharesHeld r share) → AreLive r q.held
+pub held-live : {fixed : List Literal} (r : Translation) (share : List Clause) → ((v i : ℕ) → r.identity v ≡ Some i → (x : ℕ) × (r.global i ≡ Some x)) → (q : SharesHeld r fixed share) → AreLive r q.held
 held-live r share lives q c l h i =
     let (d, j, t) = same_clauses_find q.held (q.forgotten ++ rename (carry r.identity) share) q.same c h in
     let m = t.1 l i in
@@ -268,10 +258,10 @@ counted-literal w p s k l i e =
 pub told-live : (w : Carrying) (p : Spaces) (s : State) → Links w p s → without_core p.outcome ≢ outcome.Unsat → (held : List Clause) × Leads [] s.told held × AreLive (translation w p s.told) held
 told-live w p s k n = go (without_core p.outcome) n k.holds.told
   where
-    shares : SharesHeld (translation w p s.told) k.holds.held → (held : List Clause) × Leads [] s.told held × AreLive (translation w p s.told) held
+    shares : SharesHeld (translation w p s.told) p.search.fixed k.holds.held → (held : List Clause) × Leads [] s.told held × AreLive (translation w p s.told) held
     shares q = (q.held, q.led, held-live (translation w p s.told) k.holds.held (in-use-lives w p s k) q)
 
-    go : (v : Outcome) → v ≢ outcome.Unsat → HeldFits (translation w p s.told) k.holds.held v → (held : List Clause) × Leads [] s.told held × AreLive (translation w p s.told) held
+    go : (v : Outcome) → v ≢ outcome.Unsat → HeldFits (translation w p s.told) p.search.fixed k.holds.held v → (held : List Clause) × Leads [] s.told held × AreLive (translation w p s.told) held
     go outcome.Unknown n q = shares q
     go (outcome.Sat found) n q = shares q
     go outcome.Unsat n q = absurd (n refl)
@@ -289,14 +279,14 @@ module _ (r : Translation) (e : Entry) (quiet : (held : List Clause) → Leads [
   led-on : (held : List Clause) → Leads [] r.told held → Leads [] (r.told ++ e ∷ []) held
   led-on held d = leads_append [] r.told held (e ∷ []) held d (held, quiet held d, refl)
 
-  shares-quiet : (share : List Clause) → SharesHeld r share → SharesHeld (with_told (r.told ++ e ∷ []) r) share
-  shares-quiet share q = record { held = q.held; led = led-on q.held q.led; forgotten = q.forgotten; same = q.same; inside = q.inside; units = q.units; live = q.live }
+  shares-quiet : {fixed : List Literal} (share : List Clause) → SharesHeld r fixed share → SharesHeld (with_told (r.told ++ e ∷ []) r) fixed share
+  shares-quiet share q = record { held = q.held; led = led-on q.held q.led; forgotten = q.forgotten; same = q.same; inside = q.inside; units = q.units; live = q.live; settled = q.settled }
 
-  pub told-quiet : (share : List Clause) (v : Outcome) → HeldFits r share v → HeldFits (with_told (r.told ++ e ∷ []) r) share v
-  told-quiet share outcome.Unknown q = shares-quiet share q
-  told-quiet share (outcome.Sat found) q = shares-quiet share q
-  told-quiet share outcome.Unsat (held, d, c) = (held, led-on held d, c)
-  told-quiet share (outcome.UnsatUnder core) q = shares-quiet share q
+  pub told-quiet : (fixed : List Literal) (share : List Clause) (v : Outcome) → HeldFits r fixed share v → HeldFits (with_told (r.told ++ e ∷ []) r) fixed share v
+  told-quiet fixed share outcome.Unknown q = shares-quiet share q
+  told-quiet fixed share (outcome.Sat found) q = shares-quiet share q
+  told-quiet fixed share outcome.Unsat (held, d, c) = (held, led-on held d, c)
+  told-quiet fixed share (outcome.UnsatUnder core) q = shares-quiet share q
 
 -- 6. An identity is gone for good.
 
@@ -315,7 +305,7 @@ still-there v (d ∷ P) c (inr h) e = go (mentions v d) (still-there v P c h e)
 
 -- No solver variable stands for the identity i, which is live no longer; solver variables stand for what they stood for.
 module _ (r r' : Translation) (i : ℕ) (none : (v : ℕ) → r.identity v ≡ Some i → ⊥) (same : (v : ℕ) → r'.identity v ≡ r.identity v) (forced : (j : ℕ) → r'.forced j ≡ r.forced j) (live : (j x : ℕ) → r'.global j ≡ Some x → (j ≡ i → ⊥) × (r.global j ≡ Some x)) (still : (j x : ℕ) → (j ≡ i → ⊥) → r.global j ≡ Some x → r'.global j ≡ Some x) where
-  shares-gone : (share : List Clause) → r'.told ≡ r.told ++ Leaves i ∷ [] → SharesHeld r share → SharesHeld r' share
+  shares-gone : {fixed : List Literal} (share : List Clause) → r'.told ≡ r.told ++ Leaves i ∷ [] → SharesHeld r fixed share → SharesHeld r' fixed share
   shares-gone share e q =
       let f = carry r.identity in
       let R = rename f share in
@@ -336,10 +326,11 @@ module _ (r r' : Translation) (i : ℕ) (none : (v : ℕ) → r.identity v ≡ S
             let (c, h, u) = q.units j b x (sym (forced j) ∙ o) was (λ v g. n v (same v ∙ g)) in
             (c, still-there i q.forgotten c h (unmentioned i c (λ m a z. other (sym (variable-literal j b) ∙ ap variable_of (sym (u.1 m a)) ∙ z))), u);
         live = λ c l h a. let (x, g) = q.live c l (without_less i q.forgotten c h) a in (x, still (variable_of l) x (left-apart i q.forgotten c l h a) g);
+        settled = λ c h. settled-alike r r' _ same forced c (q.settled c (without_less i q.forgotten c h));
       }
 
-  pub told-gone : (share : List Clause) (v : Outcome) → v ≢ outcome.Unsat → r'.told ≡ r.told ++ Leaves i ∷ [] → HeldFits r share v → HeldFits r' share v
-  told-gone share outcome.Unknown n e q = shares-gone share e q
-  told-gone share (outcome.Sat found) n e q = shares-gone share e q
-  told-gone share outcome.Unsat n e q = absurd (n refl)
-  told-gone share (outcome.UnsatUnder core) n e q = shares-gone share e q
+  pub told-gone : (fixed : List Literal) (share : List Clause) (v : Outcome) → v ≢ outcome.Unsat → r'.told ≡ r.told ++ Leaves i ∷ [] → HeldFits r fixed share v → HeldFits r' fixed share v
+  told-gone fixed share outcome.Unknown n e q = shares-gone share e q
+  told-gone fixed share (outcome.Sat found) n e q = shares-gone share e q
+  told-gone fixed share outcome.Unsat n e q = absurd (n refl)
+  told-gone fixed share (outcome.UnsatUnder core) n e q = shares-gone share e q

@@ -132,7 +132,7 @@ module _ (w : Carrying) (p : Spaces) (s : State) (x i : ℕ) (k : Links w p s) (
           isolation = left-isolation;
           solvers = record { one_to_one = k.solvers.one_to_one; live = λ v y h. let (j, e, c) = k.solvers.live v y h in (j, left y j e (solver-other v y h), c) };
           holds = holds-same s.clauses before after p.search (without_core p.outcome) identity-same (λ j. refl)
-              (λ share q. told-gone before after i none-for identity-same (λ j. refl) (λ j y. updated-all (λ j o. o ≡ Some y → (j ≡ i → ⊥) × (w.global j ≡ Some y)) w.global i None (λ e. absurd cc) j (λ n e. (n, e))) (λ j y n e. updated-other w.global i None j n ∙ e) share (without_core p.outcome) undecided refl q)
+              (λ share q. told-gone before after i none-for identity-same (λ j. refl) (λ j y. updated-all (λ j o. o ≡ Some y → (j ≡ i → ⊥) × (w.global j ≡ Some y)) w.global i None (λ e. absurd cc) j (λ n e. (n, e))) (λ j y n e. updated-other w.global i None j n ∙ e) p.search.fixed share (without_core p.outcome) undecided refl q)
               k.holds;
           assumptions = k.assumptions;
           marks = left-marks;

@@ -12,6 +12,7 @@ use Rattle.varisat_theory.proofs.Members.{equal_or_not, ∈-append_left, ∈-app
 use Rattle.varisat_theory.proofs.Assigned.{satisfies_more}
 use Rattle.varisat_theory.proofs.Held.{takes_out_member, same_clauses-through}
 use Rattle.varisat_theory.proofs.HeldDrops.{without_less}
+use Rattle.varisat_theory.proofs.NewClauses.{taken_less}
 use Rattle.varisat_theory.proofs.StepCovers.{still_covered}
 use Rattle.varisat_literals.specs.Numbers.{polarity_of}
 use Rattle.varisat_prop.proofs.LiteralValues.{same-literal}
@@ -23,9 +24,10 @@ use Rattle.varisat.specs.Carried.{carry, is_forced}
 use Rattle.varisat.specs.Spaces.{Spaces, Carrying, translation, SharesHeld, SearchHolds, without_core, Links}
 use Rattle.varisat.proofs.SpacesMoves.{AreLong, take_solver}
 use Rattle.varisat.proofs.Carried.{carry-at, carry-sign, carry-opposite, value-true}
+use Rattle.varisat.proofs.SpacesAgree.{settled-more}
 use Rattle.varisat.proofs.SearchHeld.{answers-covers, fixed-alone, fixed-on}
-use Rattle.varisat.proofs.AcceptSolverVariables.{to-new, to-other, stays, fits-apart, in-both, taken-with}
-use Rattle.varisat.proofs.ReachedHeld.{only, left-in, taken-less, same-apart, inside-apart, live-apart, in-use-lives, taken-behind}
+use Rattle.varisat.proofs.AcceptSolverVariables.{to-new, to-other, stays, fits-apart, settled-on, in-both, taken-with}
+use Rattle.varisat.proofs.ReachedHeld.{only, left-in, same-apart, inside-apart, live-apart, in-use-lives, taken-behind}
 
 -- A unit clause that is the literal alone, as a set, is of the literal's variable.
 unit-of : (j i : ℕ) (b : Bool) (c : Clause) (m : Literal) → IsUnit (literal_of j b) c → SameSet c (m ∷ []) → variable_of m ≡ i → j ≡ i
@@ -64,7 +66,7 @@ module _ (w : Carrying) (p : Spaces) (s : State) (x i v : ℕ) (b : Bool) (t : S
       cc
 
   -- The unit clause comes back from what was forgotten.
-  back : SharesHeld (translation w p s.told) h.held → SharesHeld (translation w (take_solver x v p) s.told) (without v h.held ++ (literal_of v b ∷ []) ∷ [])
+  back : SharesHeld (translation w p s.told) p.search.fixed h.held → SharesHeld (translation w (take_solver x v p) s.told) t.fixed (without v h.held ++ (literal_of v b ∷ []) ∷ [])
   back q =
       let f = carry (chain p.global_from_solver w.identity) in
       let g = carry (chain (updated p.global_from_solver v (Some x)) w.identity) in
@@ -88,7 +90,10 @@ module _ (w : Carrying) (p : Spaces) (s : State) (x i v : ℕ) (b : Bool) (t : S
             let (c', m', u') = q.units j y z e l (λ z a. n z (stays w p s x i v k is spoken unsolved free z j a)) in
             let stays-there = left-in (q.forgotten ++ old) d R c' out (∈-append_left c' q.forgotten old m') in
             (c', ⊎_elim (λ a. a) (λ a. let same = unit-of j i y c' (g (literal_of v b)) u' a (ap variable_of carried ∙ variable-literal i b) in absurd (n v (to-new w p s x i v k is spoken unsolved free ∙ ap Some (sym same)))) stays-there, u');
-        live = λ y l a j. live-apart (translation w p s.told) v h.held (in-use-lives w p s k) q y l (taken-less (q.forgotten ++ old) d R out y a) j;
+        live = λ y l a j. live-apart (translation w p s.told) v h.held (in-use-lives w p s k) q y l (taken_less (q.forgotten ++ old) d R out y a) j;
+        settled = λ y a. settled-more (translation w (take_solver x v p) s.told) p.search.fixed t.fixed (fixed-on s.clauses (translation w p s.told) p.search t outcome.Unknown h long covers (λ e. let z : outcome.Unknown ≡ outcome.Unsat = e in cc))
+            y
+            (settled-on w p s x i v k is spoken unsolved free h.held h.holds q.forgotten q.settled y (taken_less (q.forgotten ++ old) d R out y a));
       }
 
   -- the search after the lines, if it needs any
@@ -126,7 +131,7 @@ module _ (w : Carrying) (p : Spaces) (s : State) (x i v : ℕ) (b : Bool) (t : S
             still_covered t (carry (chain (updated p.global_from_solver v (Some x)) w.identity)) (is_forced w.forced) (carry-opposite (chain (updated p.global_from_solver v (Some x)) w.identity)) p.search
             (λ d g. covers n (d ∷ []) (λ x. elim [ inl e ↦ subst (λ y. IsSettled p.search y ⊎ ((k : KeptClause) × (k ∈ p.search.kept) × (k.learned ≡ false) × (k.clause ⊆ y))) (sym e) g | inr z ↦ absurd z ]) d (inl refl))
             c (in-both w p s x i v k is spoken unsolved free c (h.covered n c a));
-        told = subst (SharesHeld (translation w (take_solver x v p) s.told)) d (back h.told);
+        told = subst (SharesHeld (translation w (take_solver x v p) s.told) t.fixed) d (back h.told);
       }
 
   pub resurrected : Links w (record (take_solver x v p) { search = t }) s

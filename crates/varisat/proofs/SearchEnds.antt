@@ -42,7 +42,6 @@ ends-well s t (Ok b) h v = record {
   rest = like-searched _ t h.rest;
   told = h.told;
   refuted = h.refuted;
-  unassumed = h.unassumed;
 }
 ends-well s t (Err Interrupted) h v = record {
   valid = h.valid;

@@ -66,7 +66,7 @@ module _ (P : List Clause) (r : Translation) (s t : Search) (v : Outcome) (h : S
         known = h.known;
         fixed = λ n l i e f. fixed-on n l (h.fixed (λ e. let q : outcome.Unknown ≡ outcome.Unsat = e in cc) l i e f);
         covered = covered-on;
-        told = shares-after r h.held n lines after h.told d t v (spoken_wider (IsLiteralOf s) (IsInUse r) lines h.within speaks) plain holds;
+        told = shares-after r h.held n lines after h.told d t v fixed-on (spoken_wider (IsLiteralOf s) (IsInUse r) lines h.within speaks) plain holds;
       }
 
   pub held-goes : (n : ℕ) (lines : List Line) (after : List Clause) → DerivesBy n h.held lines after → GoesOn n r.told (told_lines r lines)

@@ -1,14 +1,15 @@
 -- A search that finds a verdict, and spaces that agree.
-use Rattle.std.proofs.Common.{◌≡◌, ◌≢◌, ℕ, suc, ◌≤◌, Bool, true, Option, Some, List, [], ◌∷◌, ◌++◌, inl, inr, ⊎_elim, sym, ap, ◌∙◌, subst, refl, map, append_assoc, length, arith}
-use Rattle.varisat_theory.proofs.StepStands.{new_are_added}
+use Rattle.std.proofs.Common.{◌≡◌, ◌≢◌, ℕ, ◌≤◌, Bool, true, Option, Some, List, [], ◌∷◌, ◌++◌, inl, inr, ⊎_elim, sym, ap, ◌∙◌, subst, refl, map, append_assoc, length, arith}
 use Rattle.varisat_theory.specs.Membership.{◌∈◌, ◌⊆◌}
 use Rattle.varisat_theory.specs.Literals.{Literal, Clause, Assignment, variable_of, literal_of, value, SatisfiesAll, MakesTrue, IsSatisfiableWith, IsFailedCore}
-use Rattle.varisat_theory.specs.Derivations.{Line, Add, Delete}
+use Rattle.varisat_theory.specs.Derivations.{Line}
 use Rattle.varisat_theory.specs.Propagation.{Conflicts}
 use Rattle.varisat_theory.specs.Renaming.{rename, rename_line}
-use Rattle.varisat_theory.specs.Journals.{Entry, Fails, Leads, lines_of, written}
-use Rattle.varisat_theory.specs.Counted.{added}
-use Rattle.varisat_theory.proofs.Journals.{leads_append, leads_unique, written_lines, written_stays, stays_append}
+use Rattle.varisat_theory.specs.Journals.{Entry, Fails, Leads, written}
+use Rattle.varisat_theory.specs.NewClauses.{GoesOnAdding}
+use Rattle.varisat_theory.proofs.Journals.{leads_unique, written_stays, stays_append}
+use Rattle.varisat_theory.proofs.NewClauses.{adding_same, goes_adding, fits_more, lines_add_new}
+use Rattle.varisat_theory.proofs.Spoken.{spoken_wider}
 use Rattle.varisat_theory.proofs.Members.{∈-append_right}
 use Rattle.varisat_theory.proofs.Growth.{conflicts_more, covered_by_more}
 use Rattle.varisat_theory.proofs.Held.{same_clauses-back, conflicts_same}
@@ -28,8 +29,8 @@ use Rattle.varisat.specs.States.{State, Verdict, Unknown, Sat, Unsat, UnsatUnder
 use Rattle.varisat.specs.Names.{identity_of}
 use Rattle.varisat.specs.Calls.{with_verdict}
 use Rattle.varisat.specs.Carried.{carry, is_forced, value_or}
-use Rattle.varisat.specs.Spaces.{Spaces, Carrying, Translation, translation, CheckerFits, IsCounted, IsTold, SharesHeld, HeldFits, SearchHolds, AssumptionsFit, MarksFit, WorkingFits, CoreFits, without_core, VerdictFits, Links, SpacesFit}
-use Rattle.varisat.specs.Journals.{retold, TellsMore, ToldConflict}
+use Rattle.varisat.specs.Spaces.{Spaces, Carrying, Translation, translation, CheckerFits, IsCounted, IsTold, SearchHolds, AssumptionsFit, MarksFit, WorkingFits, CoreFits, without_core, VerdictFits, Links, SpacesFit}
+use Rattle.varisat.specs.Journals.{retold, TellsMore}
 use Rattle.varisat.proofs.SpacesMoves.{AreLong, AreInUse}
 use Rattle.varisat.proofs.CheckedHeld.{checker-on, told-carried, global-carried}
 use Rattle.varisat_proof.specs.Calls.{CheckerState}
@@ -37,27 +38,15 @@ use Rattle.varisat_proof.specs.Proving.{IsCheckedIf}
 use Rattle.varisat_tracer.specs.Carried.{told_as}
 use Rattle.varisat_tracer.specs.Carried as global
 use Rattle.varisat_tracer.specs.Told.{told_as-append}
-use Rattle.varisat.proofs.ReachedHeld.{told_lines, lines-lead, told-quiet, counted-literal}
+use Rattle.varisat.proofs.AcceptSolverVariables.{one-literal}
+use Rattle.varisat.proofs.ForgottenCopies.{there-back, back-there, copies}
+use Rattle.varisat.proofs.ReachedHeld.{told_lines, IsInUse, lines-lead, told-quiet, counted-literal}
 use Rattle.varisat.proofs.ToldEntries.{tells-also, told-written, told-failed, spoken-renamed}
-use Rattle.varisat_names.proofs.Maps.{chain-some, chain-through, is-some}
+use Rattle.varisat_names.proofs.Maps.{chain-some, is-some}
 use Rattle.varisat.proofs.SpacesAgree.{map-map, identities-same, names-same, modes-same, units-same, isolation-same, solvers-same, assumptions-same, marks-same, working-same, holds-same, told-same, value-same}
 use Rattle.varisat.proofs.Carried.{carry-opposite, map-empty, value-true, true-value, value-carry, forced-value}
 use Rattle.varisat.proofs.SearchLinks.{relinked}
 use Rattle.varisat.proofs.SearchHeld.{answers-covers, agrees-through, held-on, without-model, refuted}
-
--- the identity of the solver variable leads back to it
-there-back : (w : Carrying) (p : Spaces) (s : State) (k : Links w p s) (v i : ℕ) → (translation w p s.told).identity v ≡ Some i → chain w.global p.solver_from_global i ≡ Some v
-there-back w p s k v i e =
-    let (x, f, g) = chain-through p.global_from_solver w.identity v i e in
-    chain-some w.global p.solver_from_global i x (k.identities.one_to_one.there x i g) ∙ k.solvers.one_to_one.back x v f
-
-back-there : (w : Carrying) (p : Spaces) (s : State) (k : Links w p s) (v i : ℕ) → chain w.global p.solver_from_global i ≡ Some v → ((translation w p s.told).identity v ≡ Some i) × (i ∈ s.counted)
-back-there w p s k v i e =
-    let (x, f, g) = chain-through w.global p.solver_from_global i v e in
-    let h = k.solvers.one_to_one.there x v g in
-    let r = k.solvers.live v x h in
-    let q : Some r.0 ≡ Some i = sym r.1 ∙ k.identities.one_to_one.back x i f in
-    (chain-some p.global_from_solver w.identity v x h ∙ k.identities.one_to_one.back x i f, subst (λ j. j ∈ s.counted) (let z : r.0 ≡ i = cc in z) r.2)
 
 -- what is told once steps were made with the lines
 abbrev pub told-with : Carrying → Spaces → State → List Line → List Entry
@@ -102,11 +91,6 @@ forgotten w p s k n = decided w p s s.told k.told p.search outcome.Unknown p.mod
 pub core-known : (w : Carrying) (p : Spaces) (s : State) (found core : List Literal) → Links w p s → p.outcome ≡ outcome.Unknown → CoreFits s.naming.names p.core (UnsatUnderAssumptions core) → core ≢ [] → IsFailedCore s.clauses s.assumptions core → Links w (record p { outcome = outcome.UnsatUnder found }) (with_verdict (UnsatUnderAssumptions core) s)
 core-known w p s found core k unknown told some right =
     decided w p s s.told k.told p.search (outcome.UnsatUnder found) p.model p.working p.core p.checker (UnsatUnderAssumptions core) k (λ _. k.checked (known-unknown p.outcome unknown)) (subst (SearchHolds s.clauses (translation w p s.told) p.search) (ap without_core unknown) k.holds) k.working some told right
-
-added-renamed : (f : Literal → Literal) (lines : List Line) → added (map (rename_line f) lines) ≡ added lines
-added-renamed f [] = refl
-added-renamed f (Add c ∷ lines) = ap (λ n. suc n) (added-renamed f lines)
-added-renamed f (Delete c ∷ lines) = added-renamed f lines
 
 -- without its core a verdict has none
 plain-without : (v : Outcome) (core : List Literal) → without_core v ≡ outcome.UnsatUnder core → ⊥
@@ -156,10 +140,20 @@ module _ (w : Carrying) (p : Spaces) (s : State) (k : Links w p s) (unknown : p.
   pub steps-tell : TellsMore n s.told (told-with w p s lines)
   steps-tell = let (after, d, o) = made.holds before.held before.holds in record { entries = told_lines (translation w p s.told) lines; joined = refl; goes = (lines-lead n (translation w p s.told) before.held lines after before.told d).goes }
 
-  -- where the search goes on, each step added a clause at least
-  pub steps-add : v ≡ outcome.Unknown → n ≤ added (lines_of steps-tell.entries)
+  -- where the search goes on, each step added a new clause: no clause that was held is a part of it, a forgotten one neither
+  pub steps-add : v ≡ outcome.Unknown → GoesOnAdding n s.told steps-tell.entries
   unfolding steps-tell
-  steps-add e = subst (λ m. n ≤ m) (sym (ap added (written_lines (map (rename_line (carry (translation w p s.told).identity)) lines)) ∙ added-renamed (carry (translation w p s.told).identity) lines)) (new_are_added n before.held lines (made.adds before.held before.holds e))
+  steps-add e =
+      let r = translation w p s.told in
+      let f = carry r.identity in
+      let q = before.told in
+      let (after, d, o) = made.holds before.held before.holds in
+      let c = copies w p s k before q.forgotten q.settled in
+      let many = made.adds (c.list ++ before.held) (fits_more p.search before.held c.list c.settled before.holds) e in
+      let speaks = spoken_wider (IsLiteralOf p.search) (IsInUse r) lines before.within made.speaks in
+      let adding = lines_add_new f (carry-opposite r.identity) (IsInUse r) (one-literal w p s k) q.forgotten c.list c.copied n n before.held lines after q.inside speaks d many in
+      let (last, a, same) = adding_same n (q.forgotten ++ rename f before.held) q.held (told_lines r lines) (q.forgotten ++ rename f after) (same_clauses-back q.held (q.forgotten ++ rename f before.held) q.same) adding in
+      goes_adding n s.told (told_lines r lines) q.held last q.led a
 
   pub steps-are-told : IsTold (told-with w p s lines) s.clauses s.counted s.ever_hidden
   steps-are-told =
@@ -179,13 +173,6 @@ module _ (w : Carrying) (p : Spaces) (s : State) (k : Links w p s) (unknown : p.
       (conflicts_same all on.held core (same_clauses-back on.held all on.same)
       (conflicts_more (rename f after) all core core (covered_by_more (rename f after) all (λ c h. ∈-append_right c before.told.forgotten (rename f after) h)) (λ l h. h)
       (conflicts_renamed f (carry-opposite (translation w p s.told).identity) after found (subst (Holds after t) e o).1)))
-
-  -- one without literals is a conflict of what is held
-  pub core-refutes : (found told : List Literal) → v ≡ outcome.UnsatUnder found → map (carry s.naming.names) told ≡ map (carry (translation w p s.told).identity) found → map (carry s.naming.names) told ≡ [] → ToldConflict ((told-with w p s lines) ++ Fails (map (carry s.naming.names) told) ∷ [])
-  core-refutes found told e same-core none =
-      let q : SharesHeld (translation w p (told-with w p s lines)) steps-hold.held = subst (λ o. HeldFits (translation w p (told-with w p s lines)) steps-hold.held (without_core o)) e steps-hold.told in
-      let conflict = subst (Conflicts q.held) (sym same-core) (core-conflicts found e q.held q.led) in
-      (q.held, leads_append [] (told-with w p s lines) q.held (Fails (map (carry s.naming.names) told) ∷ []) q.held q.led (q.held, (conflict, refl), refl), subst (Conflicts q.held) none conflict)
 
   -- the checker that took the lines
   pub steps-checked : (checker : Option CheckerState) → IsCheckedIf p.checker (told_as (global.carry p.global_from_solver) (written lines)) checker → CheckerFits w.global (told-with w p s lines) checker
@@ -249,7 +236,7 @@ module _ (w : Carrying) (p : Spaces) (s : State) (k : Links w p s) (unknown : p.
         decided w p s ((told-with w p s lines) ++ last ∷ []) (told-failed (told-with w p s lines) s.clauses s.counted s.ever_hidden (map (carry s.naming.names) told) steps-are-told) t v m y.working told checker (UnsatUnderAssumptions (map (carry s.naming.names) told)) k
         (λ _. core-checked found told c e same-core)
         (holds-same s.clauses (translation w p (told-with w p s lines)) (translation w p ((told-with w p s lines) ++ last ∷ [])) t (without_core v) (λ u. refl) (λ i. refl)
-        (λ share q. told-quiet (translation w p (told-with w p s lines)) last (λ held d. (subst (Conflicts held) (sym same-core) (core-conflicts found e held d), refl)) share (without_core v) q) steps-hold)
+        (λ share q. told-quiet (translation w p (told-with w p s lines)) last (λ held d. (subst (Conflicts held) (sym same-core) (core-conflicts found e held d), refl)) t.fixed share (without_core v) q) steps-hold)
         left (subst (λ y. VerdictFits w.identity m y (UnsatUnderAssumptions (map (carry s.naming.names) told))) (sym e) some) (named, refl) (part, none)
 
 module _ (w : Carrying) (p : Spaces) (s : State) (k : Links w p s) (unknown : p.outcome ≡ outcome.Unknown) (t : Search) (f : Assignment) (n : ℕ) (lines : List Line) (made : MakesSteps n p.search t (outcome.Sat f) lines) (long : AreLong t) (in-use : AreInUse p t) where
@@ -378,7 +365,7 @@ spaces-same p q s e (w, k) = (
     solvers = solvers-same w.identity p.solver_from_global p.global_from_solver q.solver_from_global q.global_from_solver s.counted e.maps.solver_from_global e.maps.global_from_solver k.solvers;
     holds = subst (λ t. SearchHolds s.clauses (translation w q s.told) t (without_core q.outcome)) (sym e.search) (subst (λ o. SearchHolds s.clauses (translation w q s.told) p.search (without_core o)) (sym e.outcome)
         (holds-same s.clauses (translation w p s.told) (translation w q s.told) p.search (without_core p.outcome) (λ v. ap (λ y. onward y w.identity) (e.maps.global_from_solver v)) (λ i. refl)
-        (λ share z. told-same (translation w p s.told) (translation w q s.told) share (without_core p.outcome) (λ v. ap (λ y. onward y w.identity) (e.maps.global_from_solver v)) (λ i. refl) (λ i y b o g. (y, g)) (λ i y g. (y, g)) refl z) k.holds));
+        (λ share z. told-same (translation w p s.told) (translation w q s.told) p.search.fixed share (without_core p.outcome) (λ v. ap (λ y. onward y w.identity) (e.maps.global_from_solver v)) (λ i. refl) (λ i y b o g. (y, g)) (λ i y g. (y, g)) refl z) k.holds));
     assumptions = subst (λ y. AssumptionsFit q.global_from_user q.solver_from_global s.naming.names y s.assumptions) (sym e.assumptions) (assumptions-same p.global_from_user p.solver_from_global q.global_from_user q.solver_from_global s.naming.names p.assumptions s.assumptions e.maps.global_from_user e.maps.solver_from_global k.assumptions);
     marks = subst (MarksFit q.global_from_user q.kept) (sym e.assumptions) (marks-same p.global_from_user q.global_from_user p.kept q.kept p.assumptions e.maps.global_from_user (λ x. ap (λ y. y.assumed) (e.maps.kept x)) k.marks);
     working = subst (WorkingFits s.clauses (translation w q s.told).identity s.assumptions) (sym e.working) (working-same s.clauses (translation w p s.told).identity (translation w q s.told).identity s.assumptions p.working (λ l h. ap (λ y. onward y w.identity) (e.maps.global_from_solver (variable_of l))) k.working);

@@ -60,7 +60,7 @@ use Rattle.varisat.proofs.SpacesAgree.{map-map}
 use Rattle.varisat.proofs.CallStates.{ledger-is, none-more}
 use Rattle.varisat.proofs.VerdictAnswers.{right-false, right-core, core-answer}
 use Rattle.varisat.proofs.Carried.{carry-at, carry-sign}
-use Rattle.varisat.proofs.SolveVerdict.{told-with, steps-tell, steps-add, core-tells, core-refutes, maps-alike, recount, spaces-same, sat-found, unsat-found, core-found, found, went-on}
+use Rattle.varisat.proofs.SolveVerdict.{told-with, steps-tell, steps-add, core-tells, maps-alike, recount, spaces-same, sat-found, unsat-found, core-found, found, went-on}
 use Rattle.varisat.proofs.ModelsFit.{told, is-sat, is-unsat, is-core, is-unknown}
 use Rattle.varisat.proofs.AcceptClause.{with_tables, name-below, name-above, given-spaces}
 use Rattle.varisat.proofs.SearchViews.{view-long}
@@ -100,7 +100,7 @@ first-spaces s e n =
           known = λ a m i b e. absurd (let z : None ≡ Some b = e in cc);
           fixed = λ o l i e. absurd (let z : None ≡ Some i = e in cc);
           covered = λ o c h. absurd h;
-          told = record { held = []; led = refl; forgotten = []; same = refl; inside = λ c l h. absurd h; units = λ i b x e. absurd (let z : None ≡ Some b = e in cc); live = λ c l h. absurd h };
+          told = record { held = []; led = refl; forgotten = []; same = refl; inside = λ c l h. absurd h; units = λ i b x e. absurd (let z : None ≡ Some b = e in cc); live = λ c l h. absurd h; settled = λ c h. absurd h };
         };
         assumptions = record { agree = refl; taken = λ l h. absurd h };
         marks = record { marked = λ l x h. absurd h; only = λ x e. absurd (let z : false ≡ true = e in cc) };
@@ -226,9 +226,6 @@ plain-core w p s k shown lines found told e =
 abbrev searching : TracerState → View → AssumptionParts → State → Summary
 searching p search assumed s = record { tables = p.tables; opened = None; checker = p.proof.checker; search = search; assumed = assumed; sat_state = verdict.Unknown; ledger = s.ledger }
 
-no-literal : (core : List Literal) → UnsatUnderAssumptions core ≡ UnsatUnderAssumptions [] → core ≡ []
-no-literal core e = cc
-
 -- what the checker took
 checked-lines : (p q : TracerState) (es : List Entry) → IsCheckedIf p.proof.checker (told_as (global_literal p.tables) (es ++ [])) q.proof.checker → IsCheckedIf p.proof.checker (told_as (global_literal p.tables) es) q.proof.checker
 checked-lines p q es c = subst (λ xs. IsCheckedIf p.proof.checker (told_as (global_literal p.tables) xs) q.proof.checker) (append-nil es) c
@@ -245,7 +242,6 @@ comes-made p q search assumed s t y z verdict.Unknown n lines (w, k) v takes =
       told = told;
       more = steps-tell w (spaces g) s k refl (search_of t) outcome.Unknown n lines v.steps long v.in_use;
       adds = λ e. steps-add w (spaces g) s k refl (search_of t) outcome.Unknown n lines v.steps long v.in_use refl;
-      conflict = λ u e. let z : Unknown ≡ UnsatUnderAssumptions [] = e in absurd cc;
       proof = proof-told p q (written lines ++ []) s.ever_hidden s.told told takes (λ shown. plain-with w (spaces g) s k shown lines);
       fits = left-spaces g q.proof.checker (retold told (with_verdict Unknown s)) t y z verdict.Unknown v (w, links);
     }
@@ -260,7 +256,6 @@ comes-made p q search assumed s t y z verdict.Sat n lines (w, k) v takes =
       told = told;
       more = steps-tell w (spaces g) s k refl (search_of t) (outcome.Sat (assignment_of t)) n lines v.steps long v.in_use;
       adds = λ e. absurd (let z : Sat a ≡ Unknown = e in cc);
-      conflict = λ u e. let z : Sat a ≡ UnsatUnderAssumptions [] = e in absurd cc;
       proof = proof-told p q (written lines ++ []) s.ever_hidden s.told told takes (λ shown. plain-with w (spaces g) s k shown lines);
       fits = left-spaces g q.proof.checker (retold told (with_verdict (Sat a) s)) t y z verdict.Sat v (w, links);
     }
@@ -274,7 +269,6 @@ comes-made p q search assumed s t y z verdict.Unsat n lines (w, k) v takes =
       told = told;
       more = steps-tell w (spaces g) s k refl (search_of t) outcome.Unsat n lines v.steps long v.in_use;
       adds = λ e. absurd (let z : Unsat ≡ Unknown = e in cc);
-      conflict = λ u e. let z : Unsat ≡ UnsatUnderAssumptions [] = e in absurd cc;
       proof = proof-told p q (written lines ++ []) s.ever_hidden s.told told takes (λ shown. plain-with w (spaces g) s k shown lines);
       fits = left-spaces g q.proof.checker (retold told (with_verdict Unsat s)) t y z verdict.Unsat v (w, links);
     }
@@ -290,7 +284,6 @@ comes-made p q search assumed s t y z verdict.UnsatUnderAssumptions n lines (w, 
       told = told;
       more = core-tells w (spaces g) s k refl (search_of t) (outcome.UnsatUnder y.failed_core) n lines v.steps long v.in_use assumed y refl v.assumes q.proof.checker y.failed_core z.user_core refl same;
       adds = λ e. absurd (let z : UnsatUnderAssumptions core ≡ Unknown = e in cc);
-      conflict = λ u e. core-refutes w (spaces g) s k refl (search_of t) (outcome.UnsatUnder y.failed_core) n lines v.steps long v.in_use y.failed_core z.user_core refl same (no-literal core e);
       proof = proof-told p q (written lines ++ Fails y.failed_core ∷ []) s.ever_hidden s.told told takes (λ shown. plain-core w (spaces g) s k shown lines y.failed_core core same);
       fits = left-spaces g q.proof.checker (retold told (with_verdict (UnsatUnderAssumptions core) s)) t y z verdict.UnsatUnderAssumptions v (w, links);
     }
@@ -421,14 +414,14 @@ none-to-tell s n = go s.verdict n
 -- 7. What is told where the verdict is known.
 
 -- under Unsat what was told leads to a conflict
-pub unsat-told : (id : ℕ → Option ℕ) (m : ℕ → Bool) (r : Translation) (share : List Clause) (o : Outcome) (x : Verdict) → x ≡ Unsat → VerdictFits id m o x → HeldFits r share (without_core o) → ToldConflict r.told
-unsat-told id m r share outcome.Unsat x e f h = h
-unsat-told id m r share outcome.Unknown x e f h = absurd (subst (VerdictFits id m outcome.Unknown) e f)
-unsat-told id m r share (outcome.Sat found) x e f h = absurd (subst (VerdictFits id m (outcome.Sat found)) e f)
-unsat-told id m r share (outcome.UnsatUnder core) x e f h = absurd (subst (VerdictFits id m (outcome.UnsatUnder core)) e f)
+pub unsat-told : (id : ℕ → Option ℕ) (m : ℕ → Bool) (r : Translation) (fixed : List Literal) (share : List Clause) (o : Outcome) (x : Verdict) → x ≡ Unsat → VerdictFits id m o x → HeldFits r fixed share (without_core o) → ToldConflict r.told
+unsat-told id m r fixed share outcome.Unsat x e f h = h
+unsat-told id m r fixed share outcome.Unknown x e f h = absurd (subst (VerdictFits id m outcome.Unknown) e f)
+unsat-told id m r fixed share (outcome.Sat found) x e f h = absurd (subst (VerdictFits id m (outcome.Sat found)) e f)
+unsat-told id m r fixed share (outcome.UnsatUnder core) x e f h = absurd (subst (VerdictFits id m (outcome.UnsatUnder core)) e f)
 
 pub told-refuted : (g : Summary) (s : State) → StandsFor g s → g.ledger.valid ≡ true → s.verdict ≡ Unsat → ToldConflict s.told
-told-refuted g s st v e = let (w, k) = st.fits v in unsat-told w.identity (spaces g).model (translation w (spaces g) s.told) k.holds.held (spaces g).outcome s.verdict e k.verdict k.holds.told
+told-refuted g s st v e = let (w, k) = st.fits v in unsat-told w.identity (spaces g).model (translation w (spaces g) s.told) (spaces g).search.fixed k.holds.held (spaces g).outcome s.verdict e k.verdict k.holds.told
 
 pub known-told : (g : Summary) (s : State) (b : Bool) → StandsFor g s → g.ledger.valid ≡ true → answer_at g.sat_state ≡ Some b → TellsVerdict s b s
 known-told g s b st v e =
@@ -442,7 +435,6 @@ known-told g s b st v e =
       rest = record { naming = refl; ever_hidden = refl; clauses = refl; assumptions = refl; counted = refl; verdict = refl; ledger = ledger-is s.ledger s.ledger.valid s.ledger.started s.ledger.steps (s.ledger.since + (s.ledger.steps - s.ledger.steps)) s.ledger.settings refl refl refl (none-more s.ledger.since s.ledger.steps) refl; told = tells-nothing s.told; proof = goes-on-none s.proof };
       told = let z : 0 ≡ s.ledger.steps - s.ledger.steps = omega arith in subst (λ n. TellsMore n s.told s.told) z (tells-nothing s.told);
       refuted = told-refuted g s st v;
-      unassumed = λ u. absurd (let z : None ≡ Some b = ap answer_of (sym u) ∙ a in cc);
     }
 
 pub false-right : (g : Summary) (s : State) → StandsFor g s → g.ledger.valid ≡ true → answer_at g.sat_state ≡ Some false → IsSatisfiableWith s.clauses s.assumptions → ⊥

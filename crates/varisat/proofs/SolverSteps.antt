@@ -3,11 +3,11 @@ use Rattle.std.proofs.Common.{◌≡◌, ℕ, ◌+◌, ◌-◌, Bool, false, Opt
 use Rattle.varisat_theory.specs.Literals.{variable_of, IsSatisfiableWith}
 use Rattle.varisat_theory.specs.Derivations.{Line}
 use Rattle.varisat_theory.specs.Outcomes.{Proves}
-use Rattle.varisat_theory.specs.Counted.{added}
-use Rattle.varisat_theory.specs.Journals.{Entry, lines_of, GoesOn}
-use Rattle.varisat_theory.proofs.Journals.{goes_on_further, lines_append}
+use Rattle.varisat_theory.specs.Journals.{Entry, GoesOn}
+use Rattle.varisat_theory.specs.NewClauses.{GoesOnAdding}
+use Rattle.varisat_theory.proofs.Journals.{goes_on_further}
+use Rattle.varisat_theory.proofs.NewClauses.{goes_adding_none, goes_adding_further}
 use Rattle.varisat_theory.proofs.StepsMade.{none_made, one_more_made, part_after_made}
-use Rattle.varisat_theory.proofs.StepStands.{added_append}
 use Rattle.varisat_theory.proofs.StepParts.{parts_join}
 use Rattle.varisat_trace.specs.Traces.{TakesLines}
 use Rattle.varisat_trace.proofs.Traced.{step-lines}
@@ -59,15 +59,16 @@ unknown-undecided m checker x t (w, k) = is-unknown w.identity (undecided_spaces
 
 -- nothing happened
 pub comes-nowhere : (n : ℕ) (s : State) (p : ProofParts) (after : Spaces) → n ≡ 0 → SpacesFit after s → ComesTo n s p p after
-comes-nowhere n s p after e f = record {
-  verdict = s.verdict;
-  told = s.told;
-  more = subst (λ m. TellsMore m s.told s.told) (sym e) (tells-nothing s.told);
-  adds = λ u. omega (arith, e);
-  conflict = λ u k. let z : Unknown ≡ UnsatUnderAssumptions [] = sym u ∙ k in absurd cc;
-  proof = proof-quiet s.ever_hidden s.told s.told p (λ h. refl);
-  fits = f;
-}
+comes-nowhere n s p after e f =
+    let more : TellsMore n s.told s.told = subst (λ m. TellsMore m s.told s.told) (sym e) (tells-nothing s.told) in
+    record {
+      verdict = s.verdict;
+      told = s.told;
+      more = more;
+      adds = λ u. subst (λ m. GoesOnAdding m s.told more.entries) (sym e) (goes_adding_none n s.told more.entries more.goes);
+      proof = proof-quiet s.ever_hidden s.told s.told p (λ h. refl);
+      fits = f;
+    }
 
 -- more is told, and then what comes of that
 pub comes-through : (n m k : ℕ) (p q r : ProofParts) (before mid last : Spaces) → n + m ≡ k → ((t : State) → SpacesFit mid t → t.verdict ≡ Unknown) → ComesOn n before mid p q → ComesOn m mid last q r → ComesOn k before last p r
@@ -85,13 +86,7 @@ comes-through n m k p q r before mid last sum unknown first second s fit =
         joined = b.more.joined ∙ ap (λ xs. xs ++ more) a.more.joined ∙ append_assoc s.told es more;
         goes = subst (λ j. GoesOn j s.told (es ++ more)) sum (goes_on_further n m s.told es more a.more.goes (subst (λ xs. GoesOn m xs more) a.more.joined b.more.goes));
       };
-      adds = λ e.
-          let i = a.adds (unknown t a.fits) in
-          let j = b.adds e in
-          let all = ap added (lines_append es more) in
-          let both = added_append (lines_of es) (lines_of more) in
-          omega (arith, i, j, all, both, sum);
-      conflict = λ u e. b.conflict (unknown t a.fits) e;
+      adds = λ e. subst (λ j. GoesOnAdding j s.told (es ++ more)) sum (goes_adding_further n m s.told es more (a.adds (unknown t a.fits)) (subst (λ xs. GoesOnAdding m xs more) a.more.joined (b.adds e)));
       proof = proof-through s.ever_hidden s.told a.told b.told p q r a.proof b.proof;
       fits = b.fits;
     }
@@ -100,7 +95,7 @@ comes-through n m k p q r before mid last sum unknown first second s fit =
 pub leaving-comes : (p q : ProofParts) (before after : Spaces) → ((s : State) → SpacesFit before s → (told : List Entry) × TellsLeaving s.ever_hidden s.told told p q × SpacesFit after (retold told s)) → ComesOn 0 before after p q
 leaving-comes p q before after leave s fit =
     let (told, t, f) = leave s fit in
-    record { verdict = s.verdict; told = told; more = t.more; adds = λ e. omega arith; conflict = λ u e. let z : Unknown ≡ UnsatUnderAssumptions [] = sym u ∙ e in absurd cc; proof = t.proof; fits = f }
+    record { verdict = s.verdict; told = told; more = t.more; adds = λ e. goes_adding_none 0 s.told t.more.entries t.more.goes; proof = t.proof; fits = f }
 
 -- the same of the proof alone
 pub some-none : (p : ProofParts) → TellsSome p p
@@ -217,7 +212,7 @@ module _ {A : Type 0} {n : ℕ} {s : State} {p q : ProofParts} (m : Tables) (y :
   comes-right = let (w, k) = c.fits in k.right
 
   comes-refuted : c.verdict ≡ Unsat → ToldConflict c.told
-  comes-refuted e = let (w, k) = c.fits in unsat-told w.identity (spaces_with m q.checker y).model (translation w (spaces_with m q.checker y) c.told) k.holds.held (spaces_with m q.checker y).outcome c.verdict e k.verdict k.holds.told
+  comes-refuted e = let (w, k) = c.fits in unsat-told w.identity (spaces_with m q.checker y).model (translation w (spaces_with m q.checker y) c.told) (spaces_with m q.checker y).search.fixed k.holds.held (spaces_with m q.checker y).outcome c.verdict e k.verdict k.holds.told
 
   pub comes-satisfiable : y.solver_state.sat_state ≡ verdict.Sat → IsSatisfiableWith s.clauses s.assumptions
   comes-satisfiable e =
@@ -254,7 +249,6 @@ module _ {A : Type 0} {k : ℕ} {s : State} {p q : ProofParts} (m : Tables) (y :
     rest = like-grown (after-solve c.told c.verdict n s.proof s) now grows;
     told = subst (λ j. TellsMore j s.told c.told) made c.more;
     refuted = comes-refuted m y c;
-    unassumed = c.conflict;
   }
 
   pub comes-interrupted : IsValid s → s.verdict ≡ Unknown → CountsSteps (length s.counted) s.ledger.settings.max_steps s.ledger.since s.ledger.steps n (Err Interrupted) → c.verdict ≡ Unknown → k ≡ n - s.ledger.steps → (n ≡ s.ledger.steps → ⊥) → GoesOnWriting s.proof now → IsInterrupted s (after-solve c.told c.verdict n now s)
@@ -264,7 +258,7 @@ module _ {A : Type 0} {k : ℕ} {s : State} {p q : ProofParts} (m : Tables) (y :
     steps = counts;
     rest = record { naming = refl; ever_hidden = refl; clauses = refl; assumptions = refl; counted = refl; verdict = unknown ∙ sym was; ledger = refl; told = tells-nothing c.told; proof = grows };
     told = record { entries = c.more.entries; joined = c.more.joined; goes = subst (λ j. GoesOn j s.told c.more.entries) made c.more.goes };
-    adds = let a = c.adds unknown in omega (arith, a, made);
+    adds = subst (λ j. GoesOnAdding j s.told c.more.entries) made (c.adds unknown);
     still = λ e. absurd (moved e);
   }
 
@@ -279,6 +273,6 @@ interrupted-still s valid was counts =
       steps = counts;
       rest = record { naming = refl; ever_hidden = refl; clauses = refl; assumptions = refl; counted = refl; verdict = refl; ledger = ledger-is s.ledger s.ledger.valid s.ledger.started s.ledger.steps (s.ledger.since + (s.ledger.steps - s.ledger.steps)) s.ledger.settings refl refl refl (none-more s.ledger.since s.ledger.steps) refl; told = nothing; proof = goes-on-none s.proof };
       told = record { entries = nothing.entries; joined = nothing.joined; goes = subst (λ j. GoesOn j s.told nothing.entries) none nothing.goes };
-      adds = omega (arith, none);
+      adds = subst (λ j. GoesOnAdding j s.told nothing.entries) none (goes_adding_none 0 s.told nothing.entries nothing.goes);
       still = λ e. refl;
     }

@@ -1,5 +1,5 @@
 -- What stays where the maps and what is kept agree at each place.
-use Rattle.std.proofs.Common.{◌≡◌, ℕ, ◌+◌, ◌*◌, ◌%◌, Bool, true, Option, Some, None, List, [], ◌∷◌, ◌++◌, inl, inr, sym, ap, ◌∙◌, subst, refl, map}
+use Rattle.std.proofs.Common.{◌≡◌, ℕ, ◌+◌, ◌*◌, ◌%◌, Bool, true, Option, Some, None, List, [], ◌∷◌, ◌++◌, inl, inr, ⊎_elim, sym, ap, ◌∙◌, subst, refl, map}
 use Rattle.varisat_theory.specs.Membership.{◌∈◌, ◌⊆◌}
 use Rattle.varisat_theory.specs.Literals.{Literal, Clause, Assignment, variable_of, value, MakesTrue}
 use Rattle.varisat_theory.specs.Renaming.{rename}
@@ -17,7 +17,7 @@ use Rattle.varisat.specs.States.{Verdict, Unknown, Sat, Unsat, UnsatUnderAssumpt
 use Rattle.varisat.specs.Names.{identity_of}
 use Rattle.varisat.specs.Carried.{carry, is_value, is_forced}
 use Rattle.varisat.specs.Journals.{ToldConflict}
-use Rattle.varisat.specs.Spaces.{ModeFits, IdentitiesFit, NamesFit, ModesFit, UnitsFit, IsolationCase, NotIsolated, Apart, Forced, IsolationFits, SolversFit, Translation, SharesHeld, HeldFits, SearchHolds, AssumptionsFit, MarksFit, WorkingFits, CoreFits, VerdictFits}
+use Rattle.varisat.specs.Spaces.{ModeFits, IdentitiesFit, NamesFit, ModesFit, UnitsFit, IsolationCase, NotIsolated, Apart, Forced, IsolationFits, SolversFit, Translation, IsKnownTrue, IsSettledBy, SharesHeld, HeldFits, SearchHolds, AssumptionsFit, MarksFit, WorkingFits, CoreFits, VerdictFits}
 
 pub identities-same : (id gl : ℕ → Option ℕ) (k k' : ℕ → VarData) (top : ℕ) → ((x : ℕ) → (k' x).deleted ≡ (k x).deleted) → IdentitiesFit id gl k top → IdentitiesFit id gl k' top
 identities-same id gl k k' top e f = record { one_to_one = f.one_to_one; live = λ x i h. e x ∙ f.live x i h; deleted = λ x h. e x ∙ f.deleted x h; below = f.below }
@@ -136,7 +136,21 @@ covered-same s f g known more c a b m (KnownTrue l i e) = KnownTrue l i (m l e)
 covered-same s f g known more c a b m (FixedTrue l i j) = FixedTrue l i (subst (λ x. x ∈ c) (a l i) j)
 covered-same s f g known more c a b m (Kept k i e w) = Kept k i e (λ l j. subst (λ x. x ∈ c) (b k.clause l j w) (w l j))
 
-pub shares-same : (r r' : Translation) (share : List Clause) → ((x : ℕ) → r'.identity x ≡ r.identity x) → ((i : ℕ) → r'.forced i ≡ r.forced i) → ((i x : ℕ) (b : Bool) → r.forced i ≡ Some b → r'.global i ≡ Some x → (y : ℕ) × (r.global i ≡ Some y)) → ((i x : ℕ) → r.global i ≡ Some x → (y : ℕ) × (r'.global i ≡ Some y)) → r'.told ≡ r.told → SharesHeld r share → SharesHeld r' share
+-- What says nothing more.
+
+-- where literals are true for good as they were, a clause says nothing more as it did
+pub settled-through : (r r' : Translation) (fixed fixed' : List Literal) → ((l : Literal) → IsKnownTrue r fixed l → IsKnownTrue r' fixed' l) → (c : Clause) → IsSettledBy r fixed c → IsSettledBy r' fixed' c
+settled-through r r' fixed fixed' on c (inl t) = inl t
+settled-through r r' fixed fixed' on c (inr (l, h, k)) = inr (l, h, on l k)
+
+pub settled-more : (r : Translation) (fixed more : List Literal) → fixed ⊆ more → (c : Clause) → IsSettledBy r fixed c → IsSettledBy r more c
+settled-more r fixed more stay = settled-through r r fixed more (λ l k. ⊎_elim (λ e. inl e) (λ (m, h, e). inr (m, stay m h, e)) k)
+
+-- the same variables, and the same values that are forced
+pub settled-alike : (r r' : Translation) (fixed : List Literal) → ((v : ℕ) → r'.identity v ≡ r.identity v) → ((i : ℕ) → r'.forced i ≡ r.forced i) → (c : Clause) → IsSettledBy r fixed c → IsSettledBy r' fixed c
+settled-alike r r' fixed same forced = settled-through r r' fixed fixed (λ l k. ⊎_elim (λ e. inl (ap (λ o. is_value o (polarity_of l)) (forced (variable_of l)) ∙ e)) (λ (m, h, e). inr (m, h, carry-same r'.identity r.identity m (same (variable_of m)) ∙ e)) k)
+
+pub shares-same : {fixed : List Literal} (r r' : Translation) (share : List Clause) → ((x : ℕ) → r'.identity x ≡ r.identity x) → ((i : ℕ) → r'.forced i ≡ r.forced i) → ((i x : ℕ) (b : Bool) → r.forced i ≡ Some b → r'.global i ≡ Some x → (y : ℕ) × (r.global i ≡ Some y)) → ((i x : ℕ) → r.global i ≡ Some x → (y : ℕ) × (r'.global i ≡ Some y)) → r'.told ≡ r.told → SharesHeld r fixed share → SharesHeld r' fixed share
 shares-same r r' share a f g still n q = record {
   held = q.held;
   led = subst (λ es. Leads [] es q.held) (sym n) q.led;
@@ -145,15 +159,16 @@ shares-same r r' share a f g still n q = record {
   inside = λ c l h i. let (j, e) = q.inside c l h i in (j, a (variable_of l) ∙ e);
   units = λ i b x e l none. let (y, z) = g i x b (sym (f i) ∙ e) l in q.units i b y (sym (f i) ∙ e) z (λ v o. none v (a v ∙ o));
   live = λ c l h i. let (x, e) = q.live c l h i in still (variable_of l) x e;
+  settled = λ c h. settled-alike r r' _ a f c (q.settled c h);
 }
 
-pub told-same : (r r' : Translation) (share : List Clause) (v : Outcome) → ((x : ℕ) → r'.identity x ≡ r.identity x) → ((i : ℕ) → r'.forced i ≡ r.forced i) → ((i x : ℕ) (b : Bool) → r.forced i ≡ Some b → r'.global i ≡ Some x → (y : ℕ) × (r.global i ≡ Some y)) → ((i x : ℕ) → r.global i ≡ Some x → (y : ℕ) × (r'.global i ≡ Some y)) → r'.told ≡ r.told → HeldFits r share v → HeldFits r' share v
-told-same r r' share outcome.Unknown a f g still n q = shares-same r r' share a f g still n q
-told-same r r' share (outcome.Sat found) a f g still n q = shares-same r r' share a f g still n q
-told-same r r' share outcome.Unsat a f g still n q = subst ToldConflict (sym n) q
-told-same r r' share (outcome.UnsatUnder core) a f g still n q = shares-same r r' share a f g still n q
+pub told-same : (r r' : Translation) (fixed : List Literal) (share : List Clause) (v : Outcome) → ((x : ℕ) → r'.identity x ≡ r.identity x) → ((i : ℕ) → r'.forced i ≡ r.forced i) → ((i x : ℕ) (b : Bool) → r.forced i ≡ Some b → r'.global i ≡ Some x → (y : ℕ) × (r.global i ≡ Some y)) → ((i x : ℕ) → r.global i ≡ Some x → (y : ℕ) × (r'.global i ≡ Some y)) → r'.told ≡ r.told → HeldFits r fixed share v → HeldFits r' fixed share v
+told-same r r' fixed share outcome.Unknown a f g still n q = shares-same r r' share a f g still n q
+told-same r r' fixed share (outcome.Sat found) a f g still n q = shares-same r r' share a f g still n q
+told-same r r' fixed share outcome.Unsat a f g still n q = subst ToldConflict (sym n) q
+told-same r r' fixed share (outcome.UnsatUnder core) a f g still n q = shares-same r r' share a f g still n q
 
-pub holds-same : (P : List Clause) (r r' : Translation) (s : Search) (v : Outcome) → ((x : ℕ) → r'.identity x ≡ r.identity x) → ((i : ℕ) → r'.forced i ≡ r.forced i) → ((share : List Clause) → HeldFits r share v → HeldFits r' share v) → SearchHolds P r s v → SearchHolds P r' s v
+pub holds-same : (P : List Clause) (r r' : Translation) (s : Search) (v : Outcome) → ((x : ℕ) → r'.identity x ≡ r.identity x) → ((i : ℕ) → r'.forced i ≡ r.forced i) → ((share : List Clause) → HeldFits r s.fixed share v → HeldFits r' s.fixed share v) → SearchHolds P r s v → SearchHolds P r' s v
 holds-same P r r' s v a f n h =
     let to = λ (l : Literal). sym (carry-same r'.identity r.identity l (a (variable_of l))) in
     record {

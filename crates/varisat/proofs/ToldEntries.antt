@@ -1,11 +1,10 @@
 -- What is told further, and what it makes of what was told.
-use Rattle.std.proofs.Common.{◌≡◌, ℕ, ◌+◌, ◌≤◌, Bool, false, List, [], ◌∷◌, ◌++◌, inl, sym, ap, ◌∙◌, subst, refl, map, append_assoc, arith}
+use Rattle.std.proofs.Common.{◌≡◌, ℕ, ◌+◌, Bool, false, List, [], ◌∷◌, ◌++◌, inl, sym, ap, ◌∙◌, subst, refl, map, append_assoc, arith}
 use Rattle.std.proofs.lemmas.List.{append-nil}
 use Rattle.varisat_theory.specs.Membership.{◌∈◌, ◌⊆◌}
 use Rattle.varisat_theory.specs.Literals.{Literal, Clause, Assignment, variable_of, SatisfiesAll}
 use Rattle.varisat_theory.specs.Derivations.{Line, Add, Delete, SpeakOf}
 use Rattle.varisat_theory.specs.Renaming.{rename_line}
-use Rattle.varisat_theory.specs.Counted.{added}
 use Rattle.varisat_theory.specs.Held.{without}
 use Rattle.varisat_theory.specs.Journals.{Entry, Accepts, Writes, Assumes, Leaves, Fails, Leads, accepted_of, lines_of, written, GoesOn}
 use Rattle.varisat_theory.proofs.Journals.{goes_on_further, accepted_append, lines_append, stays_append, written_accepts, written_lines, written_stays}
@@ -14,7 +13,6 @@ use Rattle.varisat_theory.proofs.HeldDrops.{without_less}
 use Rattle.varisat_theory.proofs.Renaming.{map-∈}
 use Rattle.varisat_theory.proofs.Sound.{conflicts_sound}
 use Rattle.varisat_theory.proofs.Spoken.{spoken_join, spoken_wider}
-use Rattle.varisat_theory.proofs.StepStands.{added_append}
 use Rattle.varisat.specs.Spaces.{IsCounted, IsTold}
 use Rattle.varisat.specs.Journals.{TellsMore}
 
@@ -38,19 +36,6 @@ tells-also n a b es s g = subst (λ m. TellsMore m a (b ++ es)) (let z : n + 0 �
 -- steps follow entries of which nothing counts; n is how many were made
 pub steps-follow : (k n : ℕ) (a b c : List Entry) → TellsMore 0 a b → (t : TellsMore k b c) → k ≡ n → TellsMore n a c
 steps-follow k n a b c s t e = subst (λ m. TellsMore m a c) (let z : 0 + k ≡ n = omega (arith, e) in z) (tells-through 0 k a b c s t)
-
-pub steps-follow-adding : (k n : ℕ) (a b c : List Entry) → TellsMore 0 a b → (t : TellsMore k b c) → k ≡ n → k ≤ added (lines_of t.entries) → (u : TellsMore n a c) × (n ≤ added (lines_of u.entries))
-steps-follow-adding k n a b c s t e l =
-    let all = lines_append s.entries t.entries in
-    let sum = added_append (lines_of s.entries) (lines_of t.entries) in
-    let same = ap added all in (
-      record {
-        entries = s.entries ++ t.entries;
-        joined = t.joined ∙ ap (λ x. x ++ t.entries) s.joined ∙ append_assoc a s.entries t.entries;
-        goes = subst (λ m. GoesOn m a (s.entries ++ t.entries)) (let z : 0 + k ≡ n = omega (arith, e) in z) (goes_on_further 0 k a s.entries t.entries s.goes (subst (λ x. GoesOn k x t.entries) s.joined t.goes));
-      },
-      omega (arith, same, sum, l, e),
-    )
 
 pub accepts-goes : (told : List Entry) (c : Clause) → GoesOn 0 told (Accepts c ∷ [])
 accepts-goes told c held d = (held ++ c ∷ [], (held ++ c ∷ [], refl, inl (tt, refl)))

@@ -23,16 +23,16 @@ use Rattle.varisat.proofs.SearchLinks.{relinked}
 use Rattle.varisat.proofs.ToldEntries.{unspoken}
 use Rattle.varisat.proofs.SolverCalls.{told-refuted}
 
-led-of : (r : Translation) (share : List Clause) (o : Outcome) → HeldFits r share (without_core o) → (held : List Clause) × Leads [] r.told held
-led-of r share outcome.Unknown q = (q.held, q.led)
-led-of r share (outcome.Sat found) q = (q.held, q.led)
-led-of r share outcome.Unsat (held, led, conflict) = (held, led)
-led-of r share (outcome.UnsatUnder core) q = (q.held, q.led)
+led-of : (r : Translation) (fixed : List Literal) (share : List Clause) (o : Outcome) → HeldFits r fixed share (without_core o) → (held : List Clause) × Leads [] r.told held
+led-of r fixed share outcome.Unknown q = (q.held, q.led)
+led-of r fixed share (outcome.Sat found) q = (q.held, q.led)
+led-of r fixed share outcome.Unsat (held, led, conflict) = (held, led)
+led-of r fixed share (outcome.UnsatUnder core) q = (q.held, q.led)
 
 pub journal-of : (g : Summary) (s : State) → StandsFor g s → g.ledger.valid ≡ true → IsJournal s
 journal-of g s st v =
     let (w, k) = st.fits v in
-    let (held, led) = led-of _ k.holds.held (spaces g).outcome k.holds.told in
+    let (held, led) = led-of _ (spaces g).search.fixed k.holds.held (spaces g).outcome k.holds.told in
     record {
       held = held;
       led = led;
@@ -50,7 +50,7 @@ journal-of g s st v =
 -- Before anything was accepted no line was told.
 lines-none : (w : Carrying) (p : Spaces) (s : State) → Links w p s → s.clauses ≡ [] → s.counted ≡ [] → lines_of s.told ≡ []
 lines-none w p s k clauses counted =
-    let (held, led) = led-of _ k.holds.held p.outcome k.holds.told in
+    let (held, led) = led-of _ p.search.fixed k.holds.held p.outcome k.holds.told in
     let none : SpeakOf (λ l. ⊥) (lines_of s.told) = spoken_wider (IsCounted s.counted) (λ l. ⊥) (lines_of s.told) (λ l h. subst (λ is. variable_of l ∈ is) counted h) k.told.spoken in
     unspoken [] s.told held (λ i. false) (λ c h. absurd h) led (k.told.accepted ∙ clauses) none
 

@@ -8,8 +8,7 @@ use Rattle.std.specs.Prelude.{◌≡◌, ◌≢◌, ℕ, ◌+◌, ◌-◌, ◌<�
 use Rattle.std.specs.declared.alloc.AllocError.{AllocError}
 use Rattle.varisat_theory.specs.Membership.{◌∈◌}
 use Rattle.varisat_theory.specs.Literals.{Literal, Clause, variable_of, opposite, IsUnit, IsSatisfiable}
-use Rattle.varisat_theory.specs.Counted.{added}
-use Rattle.varisat_theory.specs.Journals.{lines_of}
+use Rattle.varisat_theory.specs.NewClauses.{GoesOnAdding}
 use Rattle.varisat_theory.specs.Journals as entry
 use Rattle.varisat.specs.Journals.{retold, TellsMore, ToldConflict}
 use Rattle.varisat.specs.OpenProofs.{IsOpen, IsSearched, searched_under, GoesOnWriting}
@@ -240,9 +239,8 @@ pub record TellsVerdict (s : State) (b : Bool) (t : State) : Type 0 where
   pub rest : IsLike (retold t.told (with_verdict t.verdict (with_steps t.ledger.steps s))) t
   -- of the clauses that it told to be added as many count as steps were made
   pub told : TellsMore (t.ledger.steps - s.ledger.steps) s.told t.told
-  -- under Unsat propagation over what is held conflicts, and so it does where an empty core was found
+  -- under Unsat propagation over what is held conflicts
   pub refuted : t.verdict ≡ Unsat → ToldConflict t.told
-  pub unassumed : s.verdict ≡ Unknown → t.verdict ≡ UnsatUnderAssumptions [] → ToldConflict t.told
 
 -- The steps are spent before a verdict is known. The search can go on from there.
 pub record IsInterrupted (s t : State) : Type 0 where
@@ -250,9 +248,10 @@ pub record IsInterrupted (s t : State) : Type 0 where
   pub unknown : s.verdict ≡ Unknown
   pub steps : CountsCall s (Err Interrupted) t
   pub rest : IsLike (retold t.told (with_steps t.ledger.steps s)) t
-  -- of the clauses that it told to be added as many count as steps were made, and as many were added at least
+  -- of the clauses that it told to be added as many count as steps were made, and as many at least are new: no clause that was held
+  -- just before is a part of them
   pub told : TellsMore (t.ledger.steps - s.ledger.steps) s.told t.told
-  pub adds : t.ledger.steps - s.ledger.steps ≤ added (lines_of told.entries)
+  pub adds : GoesOnAdding (t.ledger.steps - s.ledger.steps) s.told told.entries
   -- where no step was made nothing changed
   pub still : t.ledger.steps ≡ s.ledger.steps → t ≡ s
 

@@ -1,9 +1,9 @@
 -- The steps of a solver, and what they come to.
-use Rattle.std.specs.Prelude.{◌≡◌, ◌≢◌, ℕ, ◌≤◌, ◌⊎◌, Bool, true, false, Option, Some, None, List, [], length, map}
+use Rattle.std.specs.Prelude.{◌≡◌, ◌≢◌, ℕ, ◌⊎◌, Bool, true, false, Option, Some, None, List, [], length, map}
 use Rattle.varisat_theory.specs.Derivations.{Line}
 use Rattle.varisat_theory.specs.Outcomes.{Steps}
-use Rattle.varisat_theory.specs.Counted.{added}
-use Rattle.varisat_theory.specs.Journals.{Entry, lines_of}
+use Rattle.varisat_theory.specs.Journals.{Entry}
+use Rattle.varisat_theory.specs.NewClauses.{GoesOnAdding}
 use Rattle.varisat_trace.specs.Traces.{TakesStep}
 use Rattle.varisat_proof.specs.Proving.{ProofParts, IsTold}
 use Rattle.varisat_tracer.specs.Tracing.{TracerState, TakesGlobally, CanTell}
@@ -24,7 +24,7 @@ use Rattle.varisat_search.specs.Seen.{search_of, outcome_of}
 use Rattle.varisat.specs.Calls.{with_verdict}
 use Rattle.varisat.specs.Carried.{carry}
 use Rattle.varisat.specs.Dropping.{LeavesNeeded}
-use Rattle.varisat.specs.Journals.{retold, TellsMore, TellsProof, ToldConflict}
+use Rattle.varisat.specs.Journals.{retold, TellsMore, TellsProof}
 use Rattle.varisat.specs.SinceChange.{GoesOnSince, BeginsWithin}
 use Rattle.varisat.specs.Spaces.{Spaces, SpacesFit}
 use Rattle.varisat.specs.States.{State, Verdict, Unknown, UnsatUnderAssumptions}
@@ -42,14 +42,12 @@ abbrev pub TellsSome : ProofParts → ProofParts → Type 0
 TellsSome p q = (given : List Entry) × IsTold p given q
 
 -- What a search comes to from a state without a verdict: a verdict or none, and what it told further, to the proof too. Of the
--- clauses that were added n or fewer count, and where there is no verdict as many were added at least.
+-- clauses that were added n or fewer count, and where there is no verdict n or more are new.
 pub record ComesTo (n : ℕ) (s : State) (p q : ProofParts) (after : Spaces) : Type 0 where
   pub verdict : Verdict
   pub told : List Entry
   pub more : TellsMore n s.told told
-  pub adds : verdict ≡ Unknown → n ≤ added (lines_of more.entries)
-  -- propagation over what is held conflicts where an empty core was found
-  pub conflict : s.verdict ≡ Unknown → verdict ≡ UnsatUnderAssumptions [] → ToldConflict told
+  pub adds : verdict ≡ Unknown → GoesOnAdding n s.told more.entries
   pub proof : TellsProof s.ever_hidden s.told told p q
   pub fits : SpacesFit after (retold told (with_verdict verdict s))
 

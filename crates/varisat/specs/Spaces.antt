@@ -2,7 +2,7 @@
 --
 -- A name of the user leads to a global variable, which lasts as long as its identity may be spoken of, and a global variable to a
 -- solver variable while the search speaks of it. Identities are never used again, global and solver variables are.
-use Rattle.std.specs.Prelude.{◌≡◌, ◌≢◌, ℕ, zero, suc, ◌<◌, ◌≤◌, Bool, true, false, Option, Some, None, List, [], ◌++◌, length, map}
+use Rattle.std.specs.Prelude.{◌≡◌, ◌≢◌, ℕ, zero, suc, ◌<◌, ◌≤◌, ◌⊎◌, Bool, true, false, Option, Some, None, List, [], ◌++◌, length, map}
 use Rattle.varisat_theory.specs.Membership.{◌∈◌, ◌⊆◌}
 use Rattle.varisat_theory.specs.Literals.{Literal, Clause, Assignment, variable_of, literal_of, IsUnit, SatisfiesAll, MakesTrue}
 use Rattle.varisat_theory.specs.Renaming.{rename}
@@ -118,10 +118,18 @@ pub record Translation : Type 0 where
 abbrev pub AreLive : Translation → List Clause → Type 0
 AreLive r P = (c : Clause) (l : Literal) → c ∈ P → l ∈ c → (x : ℕ) × (r.global (variable_of l) ≡ Some x)
 
+-- The literal is true for good: its value is forced, or it is what a literal stands for that is true at level 0.
+abbrev pub IsKnownTrue : Translation → List Literal → Literal → Type 0
+IsKnownTrue r fixed l = (is_forced r.forced l ≡ true) ⊎ ((m : Literal) × (m ∈ fixed) × (carry r.identity m ≡ l))
+
+-- The clause over identities says nothing more: it is a tautology, or a literal of it is true for good.
+abbrev pub IsSettledBy : Translation → List Literal → Clause → Type 0
+IsSettledBy r fixed c = IsTautology c ⊎ ((l : Literal) × (l ∈ c) × IsKnownTrue r fixed l)
+
 -- What was told leads to some clauses over identities: those of the search, which are over solver variables in use, and others
--- that it forgot with variables that left, over live identities. Among these is a unit clause for each forced value of a live
--- identity without a solver variable.
-pub record SharesHeld (r : Translation) (share : List Clause) : Type 0 where
+-- that it forgot with variables that left, over live identities. These say nothing more, and among them is a unit clause for each
+-- forced value of a live identity without a solver variable.
+pub record SharesHeld (r : Translation) (fixed : List Literal) (share : List Clause) : Type 0 where
   pub held : List Clause
   pub led : Leads [] r.told held
   pub forgotten : List Clause
@@ -130,11 +138,12 @@ pub record SharesHeld (r : Translation) (share : List Clause) : Type 0 where
   pub units : (i : ℕ) (b : Bool) (x : ℕ) → r.forced i ≡ Some b → r.global i ≡ Some x → ((v : ℕ) → r.identity v ≢ Some i) →
       (c : Clause) × (c ∈ forgotten) × IsUnit (literal_of i b) c
   pub live : AreLive r forgotten
+  pub settled : (c : Clause) → c ∈ forgotten → IsSettledBy r fixed c
 
 -- What was told of the clauses that the search holds. Under Unsat it leads to a conflict, and nothing more is told of clauses.
-abbrev pub HeldFits : Translation → List Clause → Outcome → Type 0
-HeldFits r share outcome.Unsat = ToldConflict r.told
-HeldFits r share _ = SharesHeld r share
+abbrev pub HeldFits : Translation → List Literal → List Clause → Outcome → Type 0
+HeldFits r fixed share outcome.Unsat = ToldConflict r.told
+HeldFits r fixed share _ = SharesHeld r fixed share
 
 -- What the search with its verdict says of the accepted clauses: it holds some clauses, as a proof would.
 pub record SearchHolds (P : List Clause) (r : Translation) (s : Search) (v : Outcome) : Type 0 where
@@ -150,7 +159,7 @@ pub record SearchHolds (P : List Clause) (r : Translation) (s : Search) (v : Out
   -- each accepted clause is true, or is kept
   pub covered : v ≢ outcome.Unsat → CoversBy (carry r.identity) (is_forced r.forced) P s
   -- what was told leads to these clauses and to what was forgotten
-  pub told : HeldFits r held v
+  pub told : HeldFits r s.fixed held v
 
 -- The list, which is given over names with solver variables, is the state's over identities.
 pub record AssumptionsFit (from_user from_global names : ℕ → Option ℕ) (given assumptions : List Literal) : Type 0 where

@@ -75,7 +75,6 @@ fn decide_in<W: ProofTarget, A: Allocator + Copy, S: ByteSource>(
     prepare(solver, target.take(), options);
     solver.add_dimacs_cnf(cnf)?;
     let report = find_report(solver)?;
-    solver.prove_journal();
     let back = close(solver)?;
     *target = back;
     Ok(report)

@@ -6,6 +6,7 @@ use Rattle.varisat.specs.Decided.{concluded}
 use Rattle.varisat.specs.Proven.{prepared, Fails, AsRead, AsClosed}
 use Rattle.varisat_trace.proofs.Broken.{passed-on}
 use Rattle.varisat.proofs.ProgramProves.{fails-reported, finds-valid, proven}
+use Rattle.varisat.proofs.ToldJournals.{proof-of}
 use Rattle.varisat.proofs.deciding.decide_in.Goals as goal
 
 pub returns-in_err-add_dimacs_cnf-clause-fails : goal.returns-in_err-add_dimacs_cnf-clause-fails
@@ -45,5 +46,5 @@ returns-clause-decided g c =
     let (u, f, z) = c.in_ok-report.ensures {u = tt} t y in
     let report = concluded c.in_ok-report.report in
     let valid = finds-valid t u report f in
-    let held = (z.proof (ap (λ (l : Ledger). l.valid) (sym z.ledger) ∙ valid)).same in
-    proven taken format limit _ _ c.args.target.now c.in_ok-back.back t u report _ a f (c.prove_journal.ensures u z valid) held c.in_ok-back.ensures.handed
+    let ok = ap (λ (l : Ledger). l.valid) (sym z.ledger) ∙ valid in
+    proven taken format limit _ _ c.args.target.now c.in_ok-back.back t u report _ a f (proof-of _ u z ok) (z.proof ok).same c.in_ok-back.ensures.handed
